@@ -1,1 +1,10 @@
+//! A node: state machines, and what a node's calls refuse.
 #![tactic(auto)]
+
+mod adding;
+mod fault;
+mod machine;
+
+pub use adding::AddingMachine;
+pub use fault::{Fault, MembershipFault};
+pub use machine::StateMachine;
