@@ -1,0 +1,5 @@
+pub mod Event
+pub mod Group
+pub mod GroupStep
+pub mod History
+pub mod Node
