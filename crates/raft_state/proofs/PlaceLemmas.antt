@@ -1,5 +1,5 @@
 -- A search from the front finds the place, and what is put there is in order.
-use Rattle.std.proofs.Common.{◌≡◌, ℕ, zero, suc, ◌+◌, ◌<◌, ◌≤◌, List, [], ◌∷◌, ◌++◌, length, take, drop, map, get_or, refl, ap, sym, ◌∙◌, arith, subst}
+use Rattle.std.proofs.Common.{◌≡◌, ℕ, zero, suc, ◌<◌, ◌≤◌, List, [], ◌∷◌, length, map, get_or, refl, ap, sym, ◌∙◌, arith}
 use Rattle.std.specs.Prelude.{Result, Ok, Err}
 use Rattle.std.specs.declared.cmp.Ordering.{Ordering}
 use Rattle.std.specs.declared.cmp.Ordering.TheVariants.{Less, Equal, Greater}
@@ -7,9 +7,10 @@ use Rattle.std.specs.Ordering.{match_ordering, ordering_reverse}
 use Rattle.std.specs.Cmp.{IsTotalOrder}
 use Rattle.std.specs.List.{insert}
 use Rattle.std.specs.BTreeSet.{insert_key}
-use Rattle.std.specs.BTreeMap.{insert_entry}
 use Rattle.raft_state.specs.Place.{place, after_one}
-use Rattle.raft_state.specs.Rising.{IsBelowAll, IsRising}
+use Rattle.raft_state.specs.Rising.{IsBelowAll, IsRising, IsRisingByFirst}
+use Rattle.raft_state.specs.Nodes.{with_node}
+use Rattle.std.proofs.Math.ListN.{set}
 
 -- what is sought lies behind each of the first n
 abbrev pub IsBehindFirst : {X : Type 0} → (X → Ordering) → List X → ℕ → Type 0
@@ -75,6 +76,10 @@ module _ {K : Type 0} {cmp : K → K → Ordering} (order : IsTotalOrder cmp) wh
   below-trans a b [] e h = tt
   below-trans a b (x ∷ xs) e h = (order.trans a b x e h.0, below-trans a b xs e h.1)
 
+  below-equal : (a b : K) (xs : List K) → cmp a b ≡ Equal → IsBelowAll cmp b xs → IsBelowAll cmp a xs
+  below-equal a b [] e h = tt
+  below-equal a b (x ∷ xs) e h = (order.congr a b x e ∙ h.0, below-equal a b xs e h.1)
+
   below-insert_key : (a k : K) (xs : List K) → cmp a k ≡ Less → IsBelowAll cmp a xs → IsBelowAll cmp a (insert_key cmp xs k)
   below-insert_key a k [] e h = (e, tt)
   below-insert_key a k (x ∷ xs) e h =
@@ -92,4 +97,52 @@ module _ {K : Type 0} {cmp : K → K → Ordering} (order : IsTotalOrder cmp) wh
         | Less ↦ λ e. ((e, below-trans k x xs e h.0), h)
         | Equal ↦ λ e. h
         | Greater ↦ λ e. (below-insert_key x k xs (order.antisymm x k ∙ ap ordering_reverse e) h.0, rising-insert_key k xs h.1)
+      ] refl
+
+-- the pairs with one at the place, or in the gap, that was found
+abbrev pub put_node : {K N : Type 0} → List (K × N) → K × N → Result ℕ ℕ → List (K × N)
+put_node xs x (Ok at) = set xs at x
+put_node xs x (Err gap) = insert xs gap x
+
+put_node_behind : {K N : Type 0} (x y : K × N) (xs : List (K × N)) (r : Result ℕ ℕ) → x ∷ put_node xs y r ≡ put_node (x ∷ xs) y (after_one r)
+put_node_behind x y xs (Ok at) = refl
+put_node_behind x y xs (Err gap) = refl
+
+module _ {K N : Type 0} (cmp : K → K → Ordering) where
+  abbrev seek : K → K × N → Ordering
+  seek id x = cmp id x.0
+
+  -- the node goes to the place that a search finds
+  pub with_node-place : (xs : List (K × N)) (id : K) (node : N) → with_node cmp xs id node ≡ put_node xs (id, node) (place (λ (x : K × N). cmp id x.0) xs)
+  with_node-place [] id node = refl
+  with_node-place (x ∷ xs) id node =
+      elim (cmp id x.0) as (λ o. match_ordering o ((id, node) ∷ x ∷ xs) ((id, node) ∷ xs) (x ∷ with_node cmp xs id node)
+      ≡ put_node (x ∷ xs) (id, node) (match_ordering o (Err 0) (Ok 0) (after_one (place (λ (x : K × N). cmp id x.0) xs)))) [
+        | Less ↦ refl
+        | Equal ↦ refl
+        | Greater ↦ ap (λ l. x ∷ l) (with_node-place xs id node) ∙ put_node_behind x (id, node) xs (place (λ (x : K × N). cmp id x.0) xs)
+      ]
+
+  pub with_node-found : (xs ys : List (K × N)) (id : K) (node : N) (r : Result ℕ ℕ) → ys ≡ xs → r ≡ place (λ (x : K × N). cmp id x.0) ys → with_node cmp xs id node ≡ put_node xs (id, node) r
+  with_node-found xs ys id node r same found =
+      with_node-place xs id node ∙ ap (λ l. put_node xs (id, node) (place (λ (x : K × N). cmp id x.0) l)) (sym same) ∙ ap (put_node xs (id, node)) (sym found)
+
+module _ {K N : Type 0} {cmp : K → K → Ordering} (order : IsTotalOrder cmp) where
+  below-with_node : (a id : K) (node : N) (xs : List (K × N)) → cmp a id ≡ Less → IsBelowAll cmp a (map (λ (x : K × N). x.0) xs) → IsBelowAll cmp a (map (λ (x : K × N). x.0) (with_node cmp xs id node))
+  below-with_node a id node [] e h = (e, tt)
+  below-with_node a id node (x ∷ xs) e h =
+      elim (cmp id x.0) as (λ o. IsBelowAll cmp a (map (λ (x : K × N). x.0) (match_ordering o ((id, node) ∷ x ∷ xs) ((id, node) ∷ xs) (x ∷ with_node cmp xs id node)))) [
+        | Less ↦ (e, h)
+        | Equal ↦ (e, h.1)
+        | Greater ↦ (h.0, below-with_node a id node xs e h.1)
+      ]
+
+  -- a node that comes in leaves the nodes in order
+  pub rising-with_node : (id : K) (node : N) (xs : List (K × N)) → IsRisingByFirst cmp xs → IsRisingByFirst cmp (with_node cmp xs id node)
+  rising-with_node id node [] h = (tt, tt)
+  rising-with_node id node (x ∷ xs) h =
+      elim (cmp id x.0) as (λ o. cmp id x.0 ≡ o → IsRisingByFirst cmp (match_ordering o ((id, node) ∷ x ∷ xs) ((id, node) ∷ xs) (x ∷ with_node cmp xs id node))) [
+        | Less ↦ λ e. ((e, below-trans order id x.0 (map (λ (x : K × N). x.0) xs) e h.0), h)
+        | Equal ↦ λ e. (below-equal order id x.0 (map (λ (x : K × N). x.0) xs) e h.0, h.1)
+        | Greater ↦ λ e. (below-with_node x.0 id node xs (order.antisymm x.0 id ∙ ap ordering_reverse e) h.0, rising-with_node id node xs h.1)
       ] refl

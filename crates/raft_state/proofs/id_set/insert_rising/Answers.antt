@@ -1,4 +1,4 @@
-use Rattle.std.proofs.Common.{rules, ◌≡◌, ◌∙◌, sym, ap, subst}
+use Rattle.std.proofs.Common.{◌∙◌, sym, subst}
 use Rattle.raft_state.specs.Rising.{IsRising}
 use Rattle.raft_state.proofs.PlaceLemmas.{insert_key-found, insert_key-gap, rising-insert_key}
 use Rattle.raft_state.proofs.id_set.insert_rising.Goals as goal

@@ -1,4 +1,4 @@
-use Rattle.std.proofs.Common.{rules, ◌≡◌, ◌∙◌, sym, ap, length, get_or, arith}
+use Rattle.std.proofs.Common.{◌∙◌, sym, ap, arith}
 use Rattle.raft_state.proofs.PlaceLemmas.{place-gap, place-found, place-end}
 use Rattle.raft_state.proofs.id_set.place.Goals as goal
 
