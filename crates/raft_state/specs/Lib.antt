@@ -6,3 +6,4 @@ pub mod Nodes
 pub mod Membership
 pub mod Validity
 pub mod Quorum
+pub mod MembershipExample
