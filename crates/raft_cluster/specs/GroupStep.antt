@@ -1,11 +1,12 @@
 -- What an event does to a group's list at the one node, and what is answered.
 -- A group that isn't there has no list.
-use Rattle.std.specs.Prelude.{ℕ, Bool, ◌+◌, ◌==◌, ◌&&◌, not, nat_lt, if◌then◌else◌, List, [], ◌∷◌, ◌++◌, length, Option, Some, None, true, false}
+use Rattle.std.specs.Prelude.{ℕ, Bool, ◌+◌, ◌==◌, ◌&&◌, not, nat_eq, nat_lt, List, [], ◌∷◌, ◌++◌, length, Option, Some, None, true, false}
 use Rattle.std.specs.List.{list_any}
-use Rattle.raft_state.specs.declared.log_id.LogId.{LogId}
 use Rattle.raft_state.specs.declared.entry.EntryPayload.TheVariants.{Blank, Normal, Membership}
 use Rattle.raft_state.specs.declared.command.Command.{Command}
-use Rattle.raft_state.specs.Membership.{MembershipValue, node_ids, is_voter}
+use Rattle.raft_state.specs.declared.membership.Membership.{Membership as RaftMembership}
+use Rattle.raft_state.specs.LogId.{log_id_of}
+use Rattle.raft_state.specs.Membership.{is_voter}
 use Rattle.raft_node.specs.declared.fault.Fault.{Fault}
 use Rattle.raft_node.specs.declared.fault.Fault.TheVariants.{NotLeader, UnknownGroup, GroupExists, NotAllowed, NotVoter, Membership as BadMembership, CommandTooLong}
 use Rattle.raft_node.specs.declared.fault.MembershipFault.{MembershipFault}
@@ -23,10 +24,10 @@ use Rattle.raft_cluster.specs.Event.{node_of, group_of}
 -- an entry of this leader at this place
 abbrev pub entry_at : ℕ → ℕ → ℕ → GroupPayload → GroupEntry
 entry_at term node index payload =
-    record { log_id = record { leader_id = record { term = term; node_id = node }; index = index }; payload = payload }
+    record { log_id = log_id_of term node index; payload = payload }
 
 -- a group's first entries: its membership, then the blank of the node, which leads in term 1
-abbrev pub set_up_list : ℕ → MembershipValue ℕ (List ℕ) → List GroupEntry
+abbrev pub set_up_list : ℕ → RaftMembership ℕ (List ℕ) → List GroupEntry
 set_up_list own membership = entry_at 0 0 0 (Membership membership) ∷ entry_at 1 own 1 Blank ∷ []
 
 -- a command goes to the end
@@ -35,8 +36,8 @@ with_command own entries command =
     entries ++ entry_at 1 own (length entries) (Normal command) ∷ []
 
 -- the membership has a node that isn't this one
-abbrev pub names_other : ℕ → MembershipValue ℕ (List ℕ) → Bool
-names_other own membership = list_any (λ n. not (n == own)) (node_ids membership)
+abbrev pub names_other : ℕ → RaftMembership ℕ (List ℕ) → Bool
+names_other own membership = list_any (λ (n : ℕ × List ℕ). not (n.0 == own)) membership.nodes
 
 -- the first reason counts
 abbrev pub refused_if : Bool → EventOutcome → Option EventOutcome → Option EventOutcome
@@ -53,11 +54,11 @@ add_refusal (Some entries) = Some (Refused_by_node GroupExists)
 add_refusal None = None
 
 -- why a group isn't set up: first the argument, then this node's part, then the group's state
-abbrev pub set_up_refusal : ℕ → MembershipValue ℕ (List ℕ) → Option (List GroupEntry) → Option EventOutcome
+abbrev pub set_up_refusal : ℕ → RaftMembership ℕ (List ℕ) → Option (List GroupEntry) → Option EventOutcome
 set_up_refusal own membership None = Some (Refused_by_node UnknownGroup)
 set_up_refusal own membership (Some entries) =
     refused_for (membership_fault_of membership)
-      (refused_if (not (is_voter membership own)) (Refused_by_node NotVoter)
+      (refused_if (not (is_voter nat_eq membership.configs own)) (Refused_by_node NotVoter)
         (refused_if (not (length entries == 0)) (Refused_by_node NotAllowed)
           (refused_if (names_other own membership) (Refused OtherNode) None)))
 

@@ -1,6 +1,6 @@
 //! What may happen to a cluster, and what comes of it.
-ghost use Rattle.std.specs.Prelude.{◌≡◌, [], ◌∷◌, IfOk};
-ghost use Rattle.raft_cluster.specs.Event.{label_of};
+ghost use Rattle.std.specs.Prelude.{◌≡◌, ◌<◌, [], ◌∷◌, IfOk, vec_capacity};
+ghost use Rattle.raft_cluster.specs.Event.{label_of, node_of};
 
 use raft_node::Fault;
 use raft_state::{BasicNode, Bytes, Command, Membership};
@@ -69,20 +69,37 @@ impl ToldList {
         }
     }
 
-    /// This answer alone.
-    pub fn one(alloc: Global, told: Told) -> Result<ToldList, AllocError>
-        ensures { IfOk result (λ l. l ≡ told ∷ []) }
-    {
-        let mut items = Vec::new(alloc);
-        items.push(told)?;
-        Ok(ToldList { items })
-    }
-
     /// The answers, lent.
     pub fn as_slice(&self) -> &[Told]
         ensures { result.now ≡ self.now }
     {
         self.items.as_slice()
+    }
+}
+
+/// Room for one told answer, found before the event that tells it (own).
+#[derive(Debug, Drop)]
+pub struct ToldRoom {
+    items: Vec<Told>,
+    ghost empty: { items.items ≡ [] },
+    ghost room: { 0 < vec_capacity items },
+}
+
+impl ToldRoom {
+    /// Finds the room.
+    pub fn new(alloc: Global) -> Result<ToldRoom, AllocError> {
+        Ok(ToldRoom {
+            items: Vec::with_capacity(alloc, 1)?,
+        })
+    }
+
+    /// The list of this answer alone.
+    pub fn fill(self, told: Told) -> ToldList
+        ensures { result ≡ told ∷ [] }
+    {
+        let ToldRoom { mut items } = self;
+        items.push(told).unwrap();
+        ToldList { items }
     }
 }
 
@@ -128,6 +145,17 @@ pub struct Recorded {
 }
 
 impl ClusterEvent {
+    /// The node that the event is for.
+    pub fn node(&self) -> u64
+        ensures { result ≡ node_of self.now }
+    {
+        match self {
+            ClusterEvent::AddGroup { node, .. } => *node,
+            ClusterEvent::Initialize { node, .. } => *node,
+            ClusterEvent::Propose { node, .. } => *node,
+        }
+    }
+
     /// The same event again.
     pub fn clone(&self) -> Result<ClusterEvent, AllocError>
         ensures { IfOk result (λ e. e ≡ self.now) }

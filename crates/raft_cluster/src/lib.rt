@@ -4,7 +4,8 @@
 mod event;
 mod group;
 mod node;
+mod refusal;
 
 pub use event::{ClusterEvent, EventOutcome, Recorded, Refusal, Told, ToldList};
 pub use group::{Group, GroupEntry};
-pub use node::{MAX_COMMAND_BYTES, Node};
+pub use node::Node;
