@@ -1,6 +1,7 @@
 //! What may happen to a cluster, and what comes of it.
 ghost use Rattle.std.specs.Prelude.{◌≡◌, ◌<◌, [], ◌∷◌, IfOk, vec_capacity};
 ghost use Rattle.raft_cluster.specs.Event.{label_of, node_of};
+ghost use Rattle.raft_cluster.specs.Cluster.{told_in};
 
 use raft_node::Fault;
 use raft_state::{BasicNode, Bytes, Command, Membership};
@@ -42,6 +43,19 @@ pub struct Told {
     pub place: u64,
     /// What the state machine answered.
     pub answer: Bytes,
+}
+
+/// A frame that a node sent (own). A node alone sends none.
+#[derive(Debug, Drop)]
+pub struct SentFrame {
+    /// The group that it is for.
+    pub group: u64,
+    /// The node that sent it.
+    pub sender: u64,
+    /// The node that it is for.
+    pub peer: u64,
+    /// Its bytes.
+    pub bytes: Bytes,
 }
 
 /// The told answers of one event, in order. Contracts see their list (own).
@@ -135,6 +149,19 @@ pub enum EventOutcome {
     Fault(Fault),
     /// The cluster refused it.
     Refused(Refusal),
+}
+
+impl EventOutcome {
+    /// What was told, lent; nothing where the event was refused.
+    pub fn told(&self) -> &[Told]
+        ensures { result.now ≡ told_in self.now }
+    {
+        match self {
+            EventOutcome::Done(told) => told.as_slice(),
+            EventOutcome::Fault(_) => &[],
+            EventOutcome::Refused(_) => &[],
+        }
+    }
 }
 
 /// An event with its outcome (own).

@@ -43,6 +43,13 @@ impl<M: StateMachine> Node<M> {
         }
     }
 
+    /// The node's id.
+    pub fn id(&self) -> u64
+        ensures { result ≡ self.now.id }
+    {
+        self.id
+    }
+
     // Where the group stands among the node's groups.
     fn position(&self, group: u64) -> Option<usize>
         ensures first { result ≡ position (λ g. g.id == group) self.now.groups }
