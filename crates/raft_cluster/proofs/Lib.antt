@@ -1,2 +1,4 @@
 pub mod HistoryLemmas
+pub mod LawLemmas
 pub mod NodeLemmas
+pub mod StepLemmas
