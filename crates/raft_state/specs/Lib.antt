@@ -7,3 +7,4 @@ pub mod Membership
 pub mod Validity
 pub mod Quorum
 pub mod MembershipExample
+pub mod QuorumLaws
