@@ -8,3 +8,4 @@ pub mod Validity
 pub mod Quorum
 pub mod MembershipExample
 pub mod QuorumLaws
+pub mod MembershipChange
