@@ -1,5 +1,5 @@
 -- Changes of a membership. Those of the nodes alone keep the voter groups.
-use Rattle.std.specs.Prelude.{Bool, true, false, not, ◌||◌, if◌then◌else◌, List, [], ◌∷◌, map}
+use Rattle.std.specs.Prelude.{Bool, true, false, not, ◌||◌, List, [], ◌∷◌, map}
 use Rattle.std.specs.declared.cmp.Ordering.{Ordering}
 use Rattle.std.specs.Cmp.Lexicographic.{pointwise}
 use Rattle.std.specs.List.{filter, fold}
@@ -7,7 +7,7 @@ use Rattle.std.specs.BTreeSet.{insert_key}
 use Rattle.raft_state.specs.declared.membership.Membership.{Membership}
 use Rattle.raft_state.specs.declared.change_members.ChangeMembers.{ChangeMembers}
 use Rattle.raft_state.specs.declared.change_members.ChangeMembers.TheVariants.{AddVoterIds, AddVoters, RemoveVoters, ReplaceAllVoters, AddNodes, SetNodes, RemoveNodes, ReplaceAllNodes}
-use Rattle.raft_state.specs.Nodes.{has_id, has_node, with_node}
+use Rattle.raft_state.specs.Nodes.{has_id, with_node, with_new_nodes}
 use Rattle.raft_state.specs.Membership.{is_voter}
 use Rattle.raft_state.specs.Quorum.{next_configs, last_of}
 
@@ -41,14 +41,6 @@ module _ {K N : Type 0} (eq : K → K → Bool) where
       filter (λ (x : K × N). is_voter eq new x.0 || not (is_voter eq old x.0)) nodes
 
 module _ {K N : Type 0} (eq : K → K → Bool) (cmp : K → K → Ordering) where
-  -- the node comes in, unless one with its id is there
-  abbrev pub with_new_node : List (K × N) → K → N → List (K × N)
-  with_new_node nodes id node = if has_node eq nodes id then nodes else with_node cmp nodes id node
-
-  -- new nodes come in, and those that are there stay
-  abbrev pub with_new_nodes : List (K × N) → List (K × N) → List (K × N)
-  with_new_nodes nodes news = fold (λ xs (new : K × N). with_new_node xs new.0 new.1) nodes news
-
   -- one step towards the goal: alone where it is a voter group already, else beside the last one
   abbrev pub next_coherent : Membership K N → List K → Bool → Membership K N
   next_coherent m goal retain =
@@ -59,11 +51,11 @@ module _ {K N : Type 0} (eq : K → K → Bool) (cmp : K → K → Ordering) whe
   abbrev pub changed : Membership K N → ChangeMembers K N → Bool → Membership K N
   changed m (AddVoterIds ids) retain = next_coherent m (with_ids cmp (last_config m.configs) ids) retain
   changed m (AddVoters nodes) retain =
-      next_coherent (record m { nodes = with_new_nodes m.nodes nodes })
+      next_coherent (record m { nodes = with_new_nodes eq cmp m.nodes nodes })
       (with_ids cmp (last_config m.configs) (map (λ (x : K × N). x.0) nodes)) retain
   changed m (RemoveVoters ids) retain = next_coherent m (without_ids eq (last_config m.configs) ids) retain
   changed m (ReplaceAllVoters ids) retain = next_coherent m ids retain
-  changed m (AddNodes nodes) retain = record m { nodes = with_new_nodes m.nodes nodes }
+  changed m (AddNodes nodes) retain = record m { nodes = with_new_nodes eq cmp m.nodes nodes }
   changed m (SetNodes nodes) retain = record m { nodes = with_nodes cmp m.nodes nodes }
   changed m (RemoveNodes ids) retain = record m { nodes = without_nodes eq m.nodes ids }
   changed m (ReplaceAllNodes nodes) retain = record m { nodes = nodes }
