@@ -1,1 +1,4 @@
+//! A cluster of nodes, and scripts that run it.
 #![tactic(auto)]
+
+mod script;

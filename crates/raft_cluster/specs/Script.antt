@@ -1,0 +1,2 @@
+-- Scripts: their lines, what each line says, and what is answered.
+pub mod Line

@@ -1,0 +1,2 @@
+//! Scripts: lines of text that are events of a cluster, and their answers.
+mod line;
