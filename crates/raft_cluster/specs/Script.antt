@@ -1,2 +1,4 @@
 -- Scripts: their lines, what each line says, and what is answered.
 pub mod Line
+pub mod Lines
+pub mod End

@@ -2,3 +2,5 @@
 #![tactic(auto)]
 
 mod script;
+
+pub use script::ScriptEnd;

@@ -1,2 +1,6 @@
 //! Scripts: lines of text that are events of a cluster, and their answers.
+mod end;
 mod line;
+mod output;
+
+pub use end::ScriptEnd;
