@@ -2,3 +2,6 @@
 pub mod Line
 pub mod Lines
 pub mod End
+pub mod Progress
+pub mod Run
+pub mod Session
