@@ -1,5 +1,6 @@
 -- Lines one after another, and bytes one after another.
-use Rattle.std.proofs.Common.{◌≡◌, ◌≢◌, ℕ, ◌+◌, ◌≤◌, List, [], ◌∷◌, ◌++◌, length, take, Option, Some, None, refl, sym, ap, ◌∙◌, arith, subst, append_assoc, append-nil, cond, eqb, Bool, true, false, length-append, zero-add, suc-add}
+use Rattle.std.proofs.Common.{◌≡◌, ◌≢◌, ℕ, ◌+◌, ◌≤◌, List, [], ◌∷◌, ◌++◌, length, take, Option, Some, None, refl, sym, ap, ◌∙◌, arith, subst, append_assoc, append-nil, cond, eqb, Bool, true, false, length-append}
+use Rattle.std.proofs.Math.Seq.{take-append-add}
 use Rattle.std.specs.List.{onto_first, AllByRecursion}
 use Rattle.std.proofs.lemmas.Bool.Decides.{Decides-eqb}
 use Rattle.raft_cluster.specs.declared.script.end.ScriptEnd.{ScriptEnd}
@@ -30,16 +31,11 @@ Ran_append p [] ys text more q r (none, same) ran =
 Ran_append p (line ∷ xs) ys text more q r (next, first, others, stepped, split, ran) after =
     (next, first, others ++ more, stepped, ap (λ t. t ++ more) split ∙ append_assoc first others more, Ran_append next xs ys others more q r ran after)
 
--- k more lines than these
-take_past : (xs ys : List (List ℕ)) (k : ℕ) → take (length xs + k) (xs ++ ys) ≡ xs ++ take k ys
-take_past [] ys k = ap (λ n. take n ys) (zero-add k)
-take_past (x ∷ xs) ys k = ap (λ n. take n (x ∷ (xs ++ ys))) (suc-add (length xs) k) ∙ ap (λ l. x ∷ l) (take_past xs ys k)
-
 pub Stops_after_Ran : (p : Progress) (ended lines : List (List ℕ)) (text written : List ℕ) (q : Progress) (stop : Stop) → Ran p ended text q → Stops q lines written stop → Stops p (ended ++ lines) (text ++ written) stop
 Stops_after_Ran p ended lines text written q (stops.NoEvent number) ran (ends, wrote) =
     (end_after_Ran p ended lines text q ran ∙ ends, text_after_Ran p ended lines text q ran ∙ ap (λ t. text ++ t) wrote)
 Stops_after_Ran p ended lines text written q stops.Memory ran (k, wrote) =
-    (length ended + k, ap (text_from p) (take_past ended lines k) ∙ (text_after_Ran p ended (take k lines) text q ran ∙ ap (λ t. text ++ t) wrote))
+    (length ended + k, ap (text_from p) (take-append-add ended lines k) ∙ (text_after_Ran p ended (take k lines) text q ran ∙ ap (λ t. text ++ t) wrote))
 Stops_after_Ran p ended lines text written q stops.Fault ran (rest, wrote) =
     (rest, text_after_Ran p ended lines text q ran ∙ (ap (λ t. text ++ t) wrote ∙ sym (append_assoc text written rest)))
 

@@ -5,3 +5,4 @@ pub mod End
 pub mod Progress
 pub mod Run
 pub mod Session
+pub mod Output

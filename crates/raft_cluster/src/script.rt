@@ -2,5 +2,7 @@
 mod end;
 mod line;
 mod output;
+mod reading;
+mod state;
 
 pub use end::ScriptEnd;
