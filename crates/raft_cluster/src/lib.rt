@@ -3,4 +3,4 @@
 
 mod script;
 
-pub use script::ScriptEnd;
+pub use script::{ScriptEnd, run_script};

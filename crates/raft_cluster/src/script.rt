@@ -3,6 +3,8 @@ mod end;
 mod line;
 mod output;
 mod reading;
+mod run;
 mod state;
 
 pub use end::ScriptEnd;
+pub use run::run_script;

@@ -59,3 +59,11 @@ abbrev pub Stops : Progress → List (List ℕ) → List ℕ → Stop → Type 0
 Stops p lines written (stops.NoEvent number) = (end_from p lines ≡ ends.NoEvent number) × (text_from p lines ≡ written)
 Stops p lines written stops.Memory = (k : ℕ) × (text_from p (take k lines) ≡ written)
 Stops p lines written stops.Fault = (rest : List ℕ) × (text_from p lines ≡ written ++ rest)
+
+-- the input was read to its end, and each line was an event
+abbrev pub WritesText : List ℕ → Option (List ℕ) → Option (List ℕ) → Type 0
+WritesText input before after = (script_end input ≡ ends.Done) × Appends before after (script_text input)
+
+-- the script stopped within the input
+abbrev pub StopsIn : List ℕ → Option (List ℕ) → Option (List ℕ) → Stop → Type 0
+StopsIn input before after stop = (written : List ℕ) × Appends before after written × Stops start (lines_of input) written stop

@@ -1,15 +1,20 @@
 -- A script that reads: how far it has come, and the bytes of the line that has not ended.
-use Rattle.std.specs.Prelude.{◌≡◌, ◌≢◌, ℕ, ◌+◌, ◌≤◌, List, ◌++◌, length, Option}
+use Rattle.std.specs.Prelude.{◌≡◌, ◌≢◌, ℕ, ◌+◌, ◌≤◌, List, [], ◌++◌, length, Option}
 use Rattle.std.specs.List.{AllByRecursion}
 use Rattle.std.specs.Io.KnownBytes.{Appends}
+use Rattle.raft_cluster.specs.declared.script.end.ScriptEnd.TheVariants.{Done}
 use Rattle.raft_cluster.specs.declared.script.end.Stop.{Stop}
 use Rattle.raft_cluster.specs.Script.Lines.{lines_of}
-use Rattle.raft_cluster.specs.Script.Progress.{Progress}
-use Rattle.raft_cluster.specs.Script.Run.{Ran, Stops}
+use Rattle.raft_cluster.specs.Script.Progress.{Progress, start}
+use Rattle.raft_cluster.specs.Script.Run.{Ran, Stops, text_from, end_from}
 
 pub record Session : Type 0 where
   pub progress : Progress
   pub pending : List ℕ
+
+-- before the first byte
+abbrev pub first : Session
+first = record { progress = start; pending = [] }
 
 -- no newline is among the bytes
 abbrev pub IsOpen : List ℕ → Type 0
@@ -33,3 +38,12 @@ WritesAndStops before after old bytes stop = (written : List ℕ) × Appends bef
 
 abbrev pub WritesAndTakes : Option (List ℕ) → Option (List ℕ) → Session → List ℕ → Session → Type 0
 WritesAndTakes before after old bytes new = (written : List ℕ) × Appends before after written × Takes old bytes new written
+
+-- where nothing follows, what is open was answered as a line, and was an event
+abbrev pub WritesAll : Option (List ℕ) → Option (List ℕ) → Session → Type 0
+WritesAll before after old =
+    Appends before after (text_from old.progress (lines_of old.pending)) × (end_from old.progress (lines_of old.pending) ≡ Done)
+
+-- or the script stopped there
+abbrev pub StopsAtEnd : Option (List ℕ) → Option (List ℕ) → Session → Stop → Type 0
+StopsAtEnd before after old stop = (written : List ℕ) × Appends before after written × Stops old.progress (lines_of old.pending) written stop

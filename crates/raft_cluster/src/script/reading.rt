@@ -1,7 +1,6 @@
 //! A script that is read in pieces: bytes become lines, and lines are run and answered.
-ghost use Rattle.std.specs.Prelude.{◌≡◌, ◌∷◌, [], ◌+◌, ◌^◌, ◌<◌, ◌≤◌, length, IfErr, OnOk};
-ghost use Rattle.raft_cluster.specs.Script.Progress.{start};
-ghost use Rattle.raft_cluster.specs.Script.Session.{IsOpen, WritesAndTakes, WritesAndStops};
+ghost use Rattle.std.specs.Prelude.{◌≡◌, ◌∷◌, [], ◌+◌, ◌^◌, ◌<◌, ◌≤◌, ◌≢◌, length, IfErr, OnOk};
+ghost use Rattle.raft_cluster.specs.Script.Session.{first, IsOpen, WritesAndTakes, WritesAndStops, WritesAll, StopsAtEnd};
 ghost use Rattle.raft_cluster.specs.Script.Output.{RefusesLine, EndsLine, AnswersLine, StopsAt};
 
 use crate::script::end::Stop;
@@ -33,7 +32,7 @@ impl Model for Reading {
 impl Reading {
     /// A script before its first byte.
     pub fn new(alloc: Global) -> Reading
-        ensures { result ≡ record { progress = start; pending = [] } }
+        ensures { result ≡ first }
     {
         Reading {
             alloc,
@@ -51,6 +50,64 @@ impl Reading {
         answer_line(self.alloc, &mut self.script, self.pending.as_slice(), writer)?;
         self.pending.clear();
         Ok(())
+    }
+
+    /// Takes in a byte that is no newline.
+    fn keep<W: Write>(&mut self, byte: u8, writer: &mut W) -> Result<(), Stop>
+        requires other { byte ≢ NEWLINE }
+        requires open_line { IsOpen self.old.pending }
+        requires room { self.old.progress.lines < 2 ^ 63 }
+        ensures ok { OnOk result (WritesAndTakes (W.contents writer.old) (W.contents writer.new) self.old (byte ∷ []) self.new) }
+        ensures err { IfErr result (WritesAndStops (W.contents writer.old) (W.contents writer.new) self.old (byte ∷ [])) }
+    {
+        if self.pending.push(byte).is_err() {
+            return Err(Stop::Memory);
+        }
+        if self.pending.len() > LONGEST_LINE {
+            let number = self.script.lines() + 1;
+            return Err(refuse_line(self.alloc, number, writer));
+        }
+        Ok(())
+    }
+
+    /// Takes in a byte, and answers the line that it ends.
+    fn take<W: Write>(&mut self, byte: u8, writer: &mut W) -> Result<(), Stop>
+        requires open_line { IsOpen self.old.pending }
+        requires room { self.old.progress.lines < 2 ^ 63 }
+        ensures ok { OnOk result (WritesAndTakes (W.contents writer.old) (W.contents writer.new) self.old (byte ∷ []) self.new) }
+        ensures err { IfErr result (WritesAndStops (W.contents writer.old) (W.contents writer.new) self.old (byte ∷ [])) }
+    {
+        if byte == NEWLINE {
+            self.end_line(writer)
+        } else {
+            self.keep(byte, writer)
+        }
+    }
+
+    /// Takes in bytes, and answers each line that they end.
+    pub fn feed<W: Write>(&mut self, piece: &[u8], writer: &mut W) -> Result<(), Stop>
+        requires open_line { IsOpen self.old.pending }
+        requires room { self.old.progress.lines + length piece.now < 2 ^ 63 }
+        ensures ok { OnOk result (WritesAndTakes (W.contents writer.old) (W.contents writer.new) self.old piece.now self.new) }
+        ensures err { IfErr result (WritesAndStops (W.contents writer.old) (W.contents writer.new) self.old piece.now) }
+    {
+        for byte in piece {
+            self.take(*byte, writer)?;
+        }
+        Ok(())
+    }
+
+    /// The input is at its end: what is open is a line, if it isn't empty.
+    pub fn finish<W: Write>(&mut self, writer: &mut W) -> Result<(), Stop>
+        requires open_line { IsOpen self.old.pending }
+        requires room { self.old.progress.lines < 2 ^ 63 }
+        ensures ok { OnOk result (WritesAll (W.contents writer.old) (W.contents writer.new) self.old) }
+        ensures err { IfErr result (StopsAtEnd (W.contents writer.old) (W.contents writer.new) self.old) }
+    {
+        if self.pending.is_empty() {
+            return Ok(());
+        }
+        self.end_line(writer)
     }
 }
 
