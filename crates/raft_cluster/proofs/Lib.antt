@@ -4,3 +4,4 @@ pub mod SessionLemmas
 pub mod OutputLemmas
 pub mod StepLemmas
 pub mod ReadingLemmas
+pub mod RunLemmas

@@ -1,5 +1,6 @@
 //! Runs a script from a reader to a writer.
 ghost use Rattle.std.specs.Prelude.{◌≡◌, ◌<◌, ◌≤◌, length, IfSome, IfErr, OnOk};
+ghost use Rattle.raft_cluster.specs.Script.End.{end_of};
 ghost use Rattle.raft_cluster.specs.Script.Session.{first};
 ghost use Rattle.raft_cluster.specs.Script.Run.{Answers, WritesText, StopsIn};
 
@@ -22,16 +23,36 @@ pub fn run_script<R: Read, W: Write>(alloc: Global, reader: &mut R, writer: &mut
     ensures { IfSome (R.remaining reader.old) (λ input.
         Answers input (W.contents writer.old) (W.contents writer.new) result) }
 {
-    let Ok(mut buffer) = vec![in alloc; 0u8; READ_BYTES] else {
-        return ScriptEnd::Memory;
-    };
-    let mut reading = Reading::new(alloc);
-    match read_all(&mut reading, &mut buffer, reader, writer) {
+    end_of(run_lines(alloc, reader, writer))
+}
+
+fn end_of(run: Result<(), Stop>) -> ScriptEnd
+    ensures { result ≡ end_of run }
+{
+    match run {
         Ok(()) => ScriptEnd::Done,
         Err(Stop::NoEvent(number)) => ScriptEnd::NoEvent(number),
         Err(Stop::Memory) => ScriptEnd::Memory,
         Err(Stop::Fault) => ScriptEnd::Fault,
     }
+}
+
+/// Makes room for a read, and runs the script.
+fn run_lines<R: Read, W: Write>(
+    alloc: Global,
+    reader: &mut R,
+    writer: &mut W,
+) -> Result<(), Stop>
+    ensures ok { OnOk result (IfSome (R.remaining reader.old) (λ input.
+        WritesText input (W.contents writer.old) (W.contents writer.new))) }
+    ensures err { IfErr result (λ stop. IfSome (R.remaining reader.old) (λ input.
+        StopsIn input (W.contents writer.old) (W.contents writer.new) stop)) }
+{
+    let Ok(mut buffer) = vec![in alloc; 0u8; READ_BYTES] else {
+        return Err(Stop::Memory);
+    };
+    let mut reading = Reading::new(alloc);
+    read_all(&mut reading, &mut buffer, reader, writer)
 }
 
 /// Reads to the end of the input, and runs its lines.
