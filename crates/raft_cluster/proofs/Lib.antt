@@ -5,3 +5,5 @@ pub mod OutputLemmas
 pub mod StepLemmas
 pub mod ReadingLemmas
 pub mod RunLemmas
+pub mod HistoryLemmas
+pub mod NodeLemmas
