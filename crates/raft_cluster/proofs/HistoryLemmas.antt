@@ -1,5 +1,6 @@
 -- A history that got one event more.
-use Rattle.std.proofs.Common.{◌≡◌, ℕ, List, [], ◌∷◌, ◌++◌, append_assoc, append-nil, Option, Some, None, refl, ap, ◌∙◌, sym, subst}
+use Rattle.std.proofs.Common.{◌≡◌, ℕ, List, [], ◌∷◌, ◌++◌, append_assoc, append-nil, ◌+◌, ◌<◌, length, get_or, take, Option, Some, None, refl, ap, ◌∙◌, sym, subst}
+use Rattle.std.proofs.lemmas.List.{take_more}
 use Rattle.raft_node.specs.Machine.{MachineRules}
 use Rattle.raft_node.specs.Fold.{GroupEntry}
 use Rattle.raft_cluster.specs.declared.event.ClusterEvent.{ClusterEvent}
@@ -54,3 +55,15 @@ pub history_after-append : (rules : MachineRules) (own : ℕ) (history : List Re
 history_after-append rules own history [] e = refl
 history_after-append rules own history (x ∷ xs) e =
     history_after-append rules own (history ++ recorded_after rules own history x ∷ []) xs e
+
+-- a run goes on by the event at place i
+pub run_more : (rules : MachineRules) (own mine : ℕ) (start now next : List Recorded) (events : List ClusterEvent) (i : ℕ) (e : ClusterEvent)
+    → now ≡ history_after rules own start (take i events) → mine ≡ own → i < length events → e ≡ get_or events i e
+    → next ≡ now ++ recorded_after rules mine now e ∷ [] → next ≡ history_after rules own start (take (i + 1) events)
+run_more rules own mine start now next events i e so_far same within here more =
+    let longer : take (i + 1) events ≡ take i events ++ e ∷ [] =
+        take_more events i e within ∙ ap (λ x. take i events ++ x ∷ []) (sym here) in
+    more ∙ ap (λ n. now ++ recorded_after rules n now e ∷ []) same
+      ∙ ap (λ (h : List Recorded). h ++ recorded_after rules own h e ∷ []) so_far
+      ∙ sym (history_after-append rules own start (take i events) e)
+      ∙ ap (λ (es : List ClusterEvent). history_after rules own start es) (sym longer)
