@@ -2,6 +2,7 @@
 pub mod Line
 pub mod Lines
 pub mod End
+pub mod Answer
 pub mod Progress
 pub mod Run
 pub mod Session

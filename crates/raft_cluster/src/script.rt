@@ -1,4 +1,5 @@
 //! Scripts: lines of text that are events of a cluster, and their answers.
+mod answer;
 mod end;
 mod line;
 mod output;
