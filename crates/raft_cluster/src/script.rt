@@ -1,6 +1,7 @@
 //! Scripts: lines of text that are events of a cluster, and their answers.
 mod answer;
 mod end;
+mod events;
 mod line;
 mod output;
 mod reading;

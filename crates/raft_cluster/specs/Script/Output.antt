@@ -3,8 +3,9 @@ use Rattle.std.specs.Prelude.{◌≡◌, ℕ, ◌+◌, List, [], ◌∷◌, Opti
 use Rattle.std.specs.Io.KnownBytes.{Appends}
 use Rattle.raft_cluster.specs.declared.script.end.Stop.{Stop}
 use Rattle.raft_cluster.specs.declared.script.end.Stop.TheVariants as stops
+use Rattle.raft_cluster.specs.declared.script.line.Line.{Line}
 use Rattle.raft_cluster.specs.Script.Lines.{AppendsFront}
-use Rattle.raft_cluster.specs.Script.Progress.{Progress, step}
+use Rattle.raft_cluster.specs.Script.Progress.{Progress, taken, step}
 use Rattle.raft_cluster.specs.Script.Run.{wrong_line, Stops}
 use Rattle.raft_cluster.specs.Script.Session.{Session}
 
@@ -14,9 +15,17 @@ RefusesLine number before after (stops.NoEvent line) = (line ≡ number) × Appe
 RefusesLine number before after stops.Memory = Appends before after []
 RefusesLine number before after stops.Fault = AppendsFront before after (wrong_line number)
 
--- the line is answered by this text, if it is an event
+-- what is given is this text, and this progress with it, or nothing
+abbrev pub IsGiven : Option (Progress × List ℕ) → Progress → Option (List ℕ) → Type 0
+IsGiven given new text = MatchOption text (given ≡ None) (λ t. given ≡ Some (new, t))
+
+-- a line that is counted is answered by this text, if it is an event
+abbrev pub IsTaken : Progress → Line → Progress → Option (List ℕ) → Type 0
+IsTaken old line new text = IsGiven (taken old line) new text
+
+-- the bytes of a line are answered by this text, if they are an event
 abbrev pub IsAnswer : Progress → List ℕ → Progress → Option (List ℕ) → Type 0
-IsAnswer old line new text = MatchOption text (step old line ≡ None) (λ t. step old line ≡ Some (new, t))
+IsAnswer old line new text = IsGiven (step old line) new text
 
 -- the line was answered, and this was written
 abbrev pub AnswersLine : Option (List ℕ) → Option (List ℕ) → Progress → List ℕ → Progress → Type 0

@@ -1,9 +1,10 @@
 -- How far a script has come, and what each line makes of it.
-use Rattle.std.specs.Prelude.{ℕ, ◌+◌, List, [], ◌∷◌, ◌++◌, Option, Some, None, codes}
+use Rattle.std.specs.Prelude.{ℕ, ◌+◌, ◌==◌, if◌then◌else◌, List, [], ◌∷◌, ◌++◌, Option, Some, None, codes}
 use Rattle.std.specs.Int.{w64, to_be_bytes}
 use Rattle.raft_state.specs.declared.command.Command.{Command}
 use Rattle.raft_state.specs.declared.membership.Membership.{Membership}
 use Rattle.raft_node.specs.Adding.{adding}
+use Rattle.raft_node.specs.Fold.{GroupEntry}
 use Rattle.raft_cluster.specs.declared.event.ClusterEvent.{ClusterEvent}
 use Rattle.raft_cluster.specs.declared.event.ClusterEvent.TheVariants as events
 use Rattle.raft_cluster.specs.declared.script.line.Line.{Line}
@@ -46,9 +47,14 @@ happens p event cluster =
     (record p { cluster = Some (cluster_after cluster event) },
       outcome_text (outcome_after adding cluster.id (events_of cluster.history) event))
 
--- the total of a group
-abbrev pub reads_total : Progress → ℕ → ClusterValue → Progress × List ℕ
-reads_total p group cluster = (p, total_text (list_of cluster.id group (events_of cluster.history)))
+-- a group's list at a node; there is none where there is no such node or group
+abbrev pub list_at : ClusterValue → ℕ → ℕ → Option (List GroupEntry)
+list_at cluster node group =
+    if node == cluster.id then list_of cluster.id group (events_of cluster.history) else None
+
+-- the total of a group at a node
+abbrev pub reads_total : Progress → ℕ → ℕ → ClusterValue → Progress × List ℕ
+reads_total p node group cluster = (p, total_text (list_at cluster node group))
 
 -- before `nodes 1` there is no cluster, and no event
 abbrev pub where_begun : Option ClusterValue → (ClusterValue → Progress × List ℕ) → Option (Progress × List ℕ)
@@ -69,7 +75,7 @@ taken p (Init node group) = where_begun p.cluster (happens p (events.Initialize 
 taken p (Propose node group amount) =
     where_begun p.cluster
       (happens (record p { tokens = p.tokens + 1 }) (events.Propose node group (command_of amount) (p.tokens + 1) 0))
-taken p (Total node group) = where_begun p.cluster (reads_total p group)
+taken p (Total node group) = where_begun p.cluster (reads_total p node group)
 
 abbrev pub taken_if : Progress → Option Line → Option (Progress × List ℕ)
 taken_if p None = None

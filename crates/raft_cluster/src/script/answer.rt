@@ -1,14 +1,9 @@
 //! The text of an answer.
-ghost use Rattle.std.specs.Prelude.{◌≡◌, ◌++◌, [], IfOk, OnOk, string_bytes};
-ghost use Rattle.std.specs.List.{flat_map};
-ghost use Rattle.raft_cluster.specs.Script.Answer.{value_of, number_or_dash, told_text, outcome_text, total_text};
-ghost use Rattle.raft_cluster.specs.Script.Progress.{cluster_after};
-ghost use Rattle.raft_cluster.specs.History.{events_of, list_of, outcome_after};
-ghost use Rattle.raft_node.specs.Adding.{adding};
+ghost use Rattle.std.specs.Prelude.{◌≡◌, IfOk, string_bytes};
+ghost use Rattle.raft_cluster.specs.Script.Answer.{value_of, number_or_dash, told_text, outcome_text};
 
-use crate::cluster::Cluster;
-use crate::event::{ClusterEvent, EventOutcome, Told};
-use raft_node::{AddingMachine, Fault};
+use crate::event::{EventOutcome, Told};
+use raft_node::Fault;
 use std::alloc::{AllocError, Global};
 
 /// The total that an answer of 8 bytes is, the greatest byte first.
@@ -22,7 +17,7 @@ fn value_of(answer: &[u8]) -> Option<u64>
 }
 
 /// A number, or `-` where there is none.
-fn number_or_dash(alloc: Global, number: Option<u64>) -> Result<String, AllocError>
+pub fn number_or_dash(alloc: Global, number: Option<u64>) -> Result<String, AllocError>
     ensures { IfOk result (λ text. string_bytes text ≡ number_or_dash number) }
 {
     match number {
@@ -66,7 +61,7 @@ fn fault_text(alloc: Global, why: &Fault) -> Result<String, AllocError>
 }
 
 /// What an event was answered.
-fn outcome_text(alloc: Global, outcome: &EventOutcome) -> Result<String, AllocError>
+pub fn outcome_text(alloc: Global, outcome: &EventOutcome) -> Result<String, AllocError>
     ensures { IfOk result (λ text. string_bytes text ≡ outcome_text outcome.now) }
 {
     match outcome {
