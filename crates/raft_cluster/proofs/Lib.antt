@@ -6,4 +6,6 @@ pub mod StepLemmas
 pub mod ReadingLemmas
 pub mod RunLemmas
 pub mod HistoryLemmas
+pub mod LawLemmas
 pub mod NodeLemmas
+pub mod ScriptStepLemmas

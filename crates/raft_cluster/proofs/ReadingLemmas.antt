@@ -11,7 +11,7 @@ use Rattle.raft_cluster.specs.Script.Run.{text_from, end_from, end_then, wrong_l
 use Rattle.raft_cluster.specs.Script.Session.{Session, IsOpen, Takes, StopsWithin, WritesAndTakes, WritesAndStops, WritesAll, StopsAtEnd}
 use Rattle.raft_cluster.specs.Script.Output.{RefusesLine, EndsLine, StopsAt}
 use Rattle.raft_cluster.proofs.LineLemmas.{line_too_long}
-use Rattle.raft_cluster.proofs.StepLemmas.{step_counts, step_of_no_line}
+use Rattle.raft_cluster.proofs.ScriptStepLemmas.{step_counts, step_of_no_line}
 use Rattle.raft_cluster.proofs.SessionLemmas.{lines_cut, lines_open, lines_last, Takes_append, StopsWithin_after_Takes}
 use Rattle.raft_cluster.proofs.OutputLemmas.{text_of_answered, end_of_answered, text_of_refused}
 

@@ -53,21 +53,31 @@ abbrev pub add_refusal : Option (List GroupEntry) → Option EventOutcome
 add_refusal (Some entries) = Some (Refused_by_node GroupExists)
 add_refusal None = None
 
+-- the reasons against a set-up, in their order
+abbrev pub set_up_reasons : Option MembershipFault → Bool → Bool → Bool → Option EventOutcome
+set_up_reasons why is_no_voter is_set_up is_elsewhere =
+    refused_for why
+      (refused_if is_no_voter (Refused_by_node NotVoter)
+        (refused_if is_set_up (Refused_by_node NotAllowed) (refused_if is_elsewhere (Refused OtherNode) None)))
+
+-- the reasons against a command, in their order
+abbrev pub command_reasons : Bool → Bool → Option EventOutcome
+command_reasons is_too_long is_not_set_up =
+    refused_if is_too_long (Refused_by_node CommandTooLong)
+      (refused_if is_not_set_up (Refused_by_node (NotLeader None)) None)
+
 -- why a group isn't set up: first the argument, then this node's part, then the group's state
 abbrev pub set_up_refusal : ℕ → RaftMembership ℕ (List ℕ) → Option (List GroupEntry) → Option EventOutcome
 set_up_refusal own membership None = Some (Refused_by_node UnknownGroup)
 set_up_refusal own membership (Some entries) =
-    refused_for (membership_fault_of membership)
-      (refused_if (not (is_voter nat_eq membership.configs own)) (Refused_by_node NotVoter)
-        (refused_if (not (length entries == 0)) (Refused_by_node NotAllowed)
-          (refused_if (names_other own membership) (Refused OtherNode) None)))
+    set_up_reasons (membership_fault_of membership) (not (is_voter nat_eq membership.configs own))
+      (not (length entries == 0)) (names_other own membership)
 
 -- why a command isn't taken: it is too long, or the group was not set up, so nobody leads it
 abbrev pub command_refusal : Command → Option (List GroupEntry) → Option EventOutcome
 command_refusal command None = Some (Refused_by_node UnknownGroup)
 command_refusal command (Some entries) =
-    refused_if (nat_lt 65536 (length command.bytes)) (Refused_by_node CommandTooLong)
-      (refused_if (length entries == 0) (Refused_by_node (NotLeader None)) None)
+    command_reasons (nat_lt 65536 (length command.bytes)) (length entries == 0)
 
 abbrev pub call_refusal : ℕ → Option (List GroupEntry) → ClusterEvent → Option EventOutcome
 call_refusal own list (AddGroup node group) = add_refusal list

@@ -13,11 +13,11 @@ state_from-append rules state place (x ∷ xs) e =
     let same : place + 1 + length xs ≡ place + length (x ∷ xs) = omega arith in
     let next : List ℕ = after_payload rules state place x.payload in
     state_from-append rules next (place + 1) xs e
-        ∙ ap (λ (p : ℕ). after_payload rules (state_from rules next (place + 1) xs) p e.payload) same
+    ∙ ap (λ (p : ℕ). after_payload rules (state_from rules next (place + 1) xs) p e.payload) same
 
 pub fold_of-append : (rules : MachineRules) (xs : List GroupEntry) (e : GroupEntry)
     → fold_of rules (xs ++ e ∷ []) ≡ after_payload rules (fold_of rules xs) (length xs) e.payload
 fold_of-append rules xs e =
     let same : 0 + length xs ≡ length xs = omega arith in
     state_from-append rules rules.first 0 xs e
-        ∙ ap (λ (p : ℕ). after_payload rules (fold_of rules xs) p e.payload) same
+    ∙ ap (λ (p : ℕ). after_payload rules (fold_of rules xs) p e.payload) same

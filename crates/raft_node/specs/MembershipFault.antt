@@ -37,4 +37,4 @@ invalid_fault None others = others
 abbrev pub membership_fault_of : Membership ℕ (List ℕ) → Option MembershipFault
 membership_fault_of m =
     invalid_fault (validity_fault nat_eq nat_cmp m.configs m.nodes)
-      (group_fault (length m.configs == 0) (limit_fault (is_within_limits m)))
+    (group_fault (length m.configs == 0) (limit_fault (is_within_limits m)))

@@ -32,7 +32,9 @@ fn are_groups_within(groups: &[IdSet<u64>]) -> bool
 fn are_addresses_within(nodes: &[(u64, BasicNode)]) -> bool
     ensures { result ≡ list_all (λ node. nat_le (length node.1) 255) nodes.now }
 {
-    nodes.iter().all(|node| node.1.addr.len() <= MAX_ADDRESS_BYTES)
+    nodes
+        .iter()
+        .all(|node| node.1.addr.len() <= MAX_ADDRESS_BYTES)
 }
 
 fn are_nodes_within(nodes: &[(u64, BasicNode)]) -> bool

@@ -1,2 +1,5 @@
 pub mod PlaceLemmas
 pub mod MembershipLemmas
+pub mod CoherentLemmas
+pub mod RisingLemmas
+pub mod LawLemmas

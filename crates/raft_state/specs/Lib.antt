@@ -7,3 +7,5 @@ pub mod Membership
 pub mod Validity
 pub mod Quorum
 pub mod MembershipExample
+pub mod QuorumLaws
+pub mod MembershipChange
