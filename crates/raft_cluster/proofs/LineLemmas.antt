@@ -1,5 +1,5 @@
 -- What a line says, by its length and its bytes.
-use Rattle.std.proofs.Common.{◌≡◌, ℕ, ◌<◌, ◌≤◌, List, length, Bool, true, false, not, ◌||◌, Option, Some, None, arith, refl, cond, ltb}
+use Rattle.std.proofs.Common.{◌≡◌, ℕ, ◌<◌, ◌≤◌, List, length, Bool, true, false, not, ◌||◌, Option, None, arith, refl, cond, ltb}
 use Rattle.std.specs.Str.{IsUtf8, is_utf8}
 use Rattle.std.proofs.lemmas.Str.{IsUtf8-from_is_utf8, is_utf8-from_IsUtf8}
 use Rattle.std.proofs.lemmas.Bool.Decides.{Decides-ltb}
@@ -29,11 +29,11 @@ pub line_no_text : (line : List ℕ) → (IsUtf8 line → ⊥) → line_of line 
 unfolding line_of
 line_no_text line h =
     refused (ltb 65536 (length line)) (is_utf8 line) (said_by line)
-      (is_false (is_utf8 line) (λ e. h (IsUtf8-from_is_utf8 line e)))
+    (is_false (is_utf8 line) (λ e. h (IsUtf8-from_is_utf8 line e)))
 
 pub line_text : (line : List ℕ) → length line ≤ 65536 → IsUtf8 line → line_of line ≡ said_by line
 unfolding line_of
 line_text line h text =
     taken (ltb 65536 (length line)) (is_utf8 line) (said_by line)
-      (is_false (ltb 65536 (length line)) (λ e. let long : 65536 < length line = (Decides-ltb 65536 (length line)).0 e in absurd (omega arith)))
-      (is_utf8-from_IsUtf8 line text)
+    (is_false (ltb 65536 (length line)) (λ e. let long : 65536 < length line = (Decides-ltb 65536 (length line)).0 e in absurd (omega arith)))
+    (is_utf8-from_IsUtf8 line text)

@@ -19,18 +19,25 @@ pub text_of_refused : (p : Progress) (line : List ℕ) (lines : List (List ℕ))
 text_of_refused p line lines e = ap (λ s. text_then (p.lines + 1) s (λ q. text_from q lines)) e
 
 pub stops_in_answer : (before after : Option (List ℕ)) (p next : Progress) (line text : List ℕ) → step p line ≡ Some (next, text) → AppendsFront before after text → StopsAt before after p line stops.Fault
-stops_in_answer before after p next line text e (front, rest, split, wrote) =
-    (front, wrote, λ lines.
-      (rest ++ text_from next lines,
-        text_of_answered p next line text lines e ∙ (ap (λ t. t ++ text_from next lines) split ∙ append_assoc front rest (text_from next lines))))
+stops_in_answer before after p next line text e (front, rest, split, wrote) = (
+  front,
+  wrote,
+  λ lines. (
+    rest ++ text_from next lines,
+    text_of_answered p next line text lines e ∙ (ap (λ t. t ++ text_from next lines) split ∙ append_assoc front rest (text_from next lines)),
+  ),
+)
 
 pub stops_for_memory : (known : Option (List ℕ)) (p : Progress) (line : List ℕ) → StopsAt known known p line stops.Memory
 stops_for_memory known p line = ([], Appends-nil known, λ lines. (0, refl))
 
 pub stops_at_refused : (before after : Option (List ℕ)) (p : Progress) (line : List ℕ) (stop : Stop) → step p line ≡ None → RefusesLine (p.lines + 1) before after stop → StopsAt before after p line stop
-stops_at_refused before after p line (stops.NoEvent number) e (same, wrote) =
-    (wrong_line (p.lines + 1), wrote, λ lines.
-      (rw same (ap (λ s. end_then (p.lines + 1) s (λ q. end_from q lines)) e), text_of_refused p line lines e))
+stops_at_refused before after p line (stops.NoEvent number) e (same, wrote) = (
+  wrong_line (p.lines + 1),
+  wrote,
+  λ lines.
+      (rw same (ap (λ s. end_then (p.lines + 1) s (λ q. end_from q lines)) e), text_of_refused p line lines e),
+)
 stops_at_refused before after p line stops.Memory e wrote = ([], wrote, λ lines. (0, refl))
 stops_at_refused before after p line stops.Fault e (front, rest, split, wrote) =
     (front, wrote, λ lines. (rest, text_of_refused p line lines e ∙ split))

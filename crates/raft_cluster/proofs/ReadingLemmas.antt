@@ -1,5 +1,5 @@
 -- What one byte does to a session.
-use Rattle.std.proofs.Common.{◌≡◌, ◌≢◌, ℕ, ◌+◌, ◌<◌, ◌≤◌, List, [], ◌∷◌, ◌++◌, length, Option, Some, None, Result, Ok, Err, IfErr, OnOk, refl, sym, ap, ◌∙◌, arith, append_assoc, append-nil, subst, length-append, get_or, take, drop, suc, take-append-drop, drop-cons}
+use Rattle.std.proofs.Common.{◌≡◌, ◌≢◌, ℕ, ◌+◌, ◌<◌, List, [], ◌∷◌, ◌++◌, length, Option, None, Result, Ok, Err, IfErr, OnOk, refl, sym, ap, ◌∙◌, arith, append_assoc, append-nil, subst, length-append, get_or, take, drop, suc, take-append-drop, drop-cons}
 use Rattle.std.proofs.lemmas.List.{take_more}
 use Rattle.std.proofs.KnownBytes.{Appends-nil, Appends-trans}
 use Rattle.raft_cluster.specs.declared.script.end.Stop.{Stop}
@@ -16,49 +16,64 @@ use Rattle.raft_cluster.proofs.SessionLemmas.{lines_cut, lines_open, lines_last,
 use Rattle.raft_cluster.proofs.OutputLemmas.{text_of_answered, end_of_answered, text_of_refused}
 
 pub newline_taken : (before after : Option (List ℕ)) (old new : Session) → IsOpen old.pending → EndsLine before after old new → WritesAndTakes before after old (10 ∷ []) new
-newline_taken before after old new open_line ((text, wrote, stepped), none) =
-    (text, wrote, record {
-      ended = old.pending ∷ [];
-      cut = λ rest. lines_cut old.pending rest open_line ∙ ap (λ l. old.pending ∷ lines_of (l ++ rest)) (sym none);
-      ran = (new.progress, text, [], stepped, sym (append-nil text), (refl, refl));
-      open_line = let P : List ℕ → Type 0 = λ l. IsOpen l in subst P (sym none) tt;
-      few = let e = step_counts old.progress new.progress old.pending text stepped in omega arith;
-    })
+newline_taken before after old new open_line ((text, wrote, stepped), none) = (
+  text,
+  wrote,
+  record {
+    ended = old.pending ∷ [];
+    cut = λ rest. lines_cut old.pending rest open_line ∙ ap (λ l. old.pending ∷ lines_of (l ++ rest)) (sym none);
+    ran = (new.progress, text, [], stepped, sym (append-nil text), (refl, refl));
+    open_line = let P : List ℕ → Type 0 = λ l. IsOpen l in subst P (sym none) tt;
+    few = let e = step_counts old.progress new.progress old.pending text stepped in omega arith;
+  },
+)
 
 pub newline_stops : (before after : Option (List ℕ)) (old : Session) (stop : Stop) → IsOpen old.pending → StopsAt before after old.progress old.pending stop → WritesAndStops before after old (10 ∷ []) stop
-newline_stops before after old stop open_line (written, wrote, stops) =
-    (written, wrote, λ rest.
+newline_stops before after old stop open_line (written, wrote, stops) = (
+  written,
+  wrote,
+  λ rest.
       let P : List (List ℕ) → Type 0 = λ lines. Stops old.progress lines written stop in
-      subst P (sym (lines_cut old.pending rest open_line)) (stops (lines_of rest)))
+      subst P (sym (lines_cut old.pending rest open_line)) (stops (lines_of rest)),
+)
 
 pub open_more : (line : List ℕ) (byte : ℕ) → IsOpen line → byte ≢ 10 → IsOpen (line ++ byte ∷ [])
 open_more [] byte h other = (other, tt)
 open_more (first ∷ line) byte h other = (h.0, open_more line byte h.1 other)
 
 pub byte_taken : (known : Option (List ℕ)) (old : Session) (byte : ℕ) → IsOpen old.pending → byte ≢ 10 → WritesAndTakes known known old (byte ∷ []) (record { progress = old.progress; pending = old.pending ++ byte ∷ [] })
-byte_taken known old byte open_line other =
-    ([], Appends-nil known, record {
-      ended = [];
-      cut = λ rest. ap lines_of (sym (append_assoc old.pending (byte ∷ []) rest));
-      ran = (refl, refl);
-      open_line = open_more old.pending byte open_line other;
-      few = omega arith;
-    })
+byte_taken known old byte open_line other = (
+  [],
+  Appends-nil known,
+  record {
+    ended = [];
+    cut = λ rest. ap lines_of (sym (append_assoc old.pending (byte ∷ []) rest));
+    ran = (refl, refl);
+    open_line = open_more old.pending byte open_line other;
+    few = omega arith;
+  },
+)
 
 pub memory_stops : (known : Option (List ℕ)) (old : Session) (bytes : List ℕ) → WritesAndStops known known old bytes stops.Memory
 memory_stops known old bytes = ([], Appends-nil known, λ rest. (0, refl))
 
 -- each text that the open line may become is refused
 refused_within : (before after : Option (List ℕ)) (old : Session) (bytes : List ℕ) (stop : Stop) → RefusesLine (old.progress.lines + 1) before after stop → ((rest : List ℕ) → (line : List ℕ) × (others : List (List ℕ)) × (lines_of (old.pending ++ (bytes ++ rest)) ≡ line ∷ others) × (step old.progress line ≡ None)) → WritesAndStops before after old bytes stop
-refused_within before after old bytes (stops.NoEvent number) (same, wrote) refused =
-    (wrong_line (old.progress.lines + 1), wrote, λ rest.
+refused_within before after old bytes (stops.NoEvent number) (same, wrote) refused = (
+  wrong_line (old.progress.lines + 1),
+  wrote,
+  λ rest.
       let (line, others, cut, none) = refused rest in
-      (rw (same, cut) (ap (λ s. end_then (old.progress.lines + 1) s (λ q. end_from q others)) none), rw cut (text_of_refused old.progress line others none)))
+      (rw (same, cut) (ap (λ s. end_then (old.progress.lines + 1) s (λ q. end_from q others)) none), rw cut (text_of_refused old.progress line others none)),
+)
 refused_within before after old bytes stops.Memory wrote refused = ([], wrote, λ rest. (0, refl))
-refused_within before after old bytes stops.Fault (front, left, split, wrote) refused =
-    (front, wrote, λ rest.
+refused_within before after old bytes stops.Fault (front, left, split, wrote) refused = (
+  front,
+  wrote,
+  λ rest.
       let (line, others, cut, none) = refused rest in
-      (left, rw cut (text_of_refused old.progress line others none ∙ split)))
+      (left, rw cut (text_of_refused old.progress line others none ∙ split)),
+)
 
 long_refused : (p : Progress) (pending first : List ℕ) → 65536 < length pending → step p (pending ++ first) ≡ None
 long_refused p pending first long = step_of_no_line p (pending ++ first) (line_too_long (pending ++ first) (omega (arith, length-append pending first)))
@@ -71,9 +86,9 @@ pub long_stops : (before after : Option (List ℕ)) (old : Session) (byte : ℕ)
 long_stops before after old byte stop open_line other long refused =
     let pending = old.pending ++ byte ∷ [] in
     refused_within before after old (byte ∷ []) stop refused
-      (λ rest.
-        let (first, others, cut) = open_first pending rest (open_more old.pending byte open_line other) (omega arith) in
-        (pending ++ first, others, ap lines_of (sym (append_assoc old.pending (byte ∷ []) rest)) ∙ cut, long_refused old.progress pending first long))
+    (λ rest.
+    let (first, others, cut) = open_first pending rest (open_more old.pending byte open_line other) (omega arith) in
+    (pending ++ first, others, ap lines_of (sym (append_assoc old.pending (byte ∷ []) rest)) ∙ cut, long_refused old.progress pending first long))
 
 nothing_open : (p : Progress) (pending : List ℕ) → pending ≡ [] → (text_from p (lines_of pending) ≡ []) × (end_from p (lines_of pending) ≡ Done)
 nothing_open p pending none = (ap (λ l. text_from p (lines_of l)) none, ap (λ l. end_from p (lines_of l)) none)
@@ -109,9 +124,11 @@ if_err (Err e) P Q f h = f e h
 -- a piece up to a place and the byte there
 pub one_more_taken : (before mid after : Option (List ℕ)) (old now new : Session) (piece : List ℕ) (i : ℕ) → i < length piece → WritesAndTakes before mid old (take i piece) now → WritesAndTakes mid after now (get_or piece i 0 ∷ []) new → WritesAndTakes before after old (take (i + 1) piece) new
 one_more_taken before mid after old now new piece i inside (text, wrote, taken) (more, wrote_more, one) =
-    let P : List ℕ → Type 0 = λ bytes. Takes old bytes new (text ++ more) in
-    (text ++ more, Appends-trans before mid after text more wrote wrote_more,
-      subst P (sym (take_more piece i 0 inside)) (Takes_append old (take i piece) now text (get_or piece i 0 ∷ []) new more taken one))
+    let P : List ℕ → Type 0 = λ bytes. Takes old bytes new (text ++ more) in (
+      text ++ more,
+      Appends-trans before mid after text more wrote wrote_more,
+      subst P (sym (take_more piece i 0 inside)) (Takes_append old (take i piece) now text (get_or piece i 0 ∷ []) new more taken one),
+    )
 
 piece_parts : (piece : List ℕ) (i : ℕ) → i < length piece → piece ≡ take i piece ++ (get_or piece i 0 ∷ drop (suc i) piece)
 piece_parts piece i inside = sym (take-append-drop i piece) ∙ ap (λ l. take i piece ++ l) (drop-cons piece i 0 inside)
@@ -120,7 +137,9 @@ piece_parts piece i inside = sym (take-append-drop i piece) ∙ ap (λ l. take i
 pub stops_in_piece : (before mid after : Option (List ℕ)) (old now : Session) (piece : List ℕ) (i : ℕ) (stop : Stop) → i < length piece → WritesAndTakes before mid old (take i piece) now → WritesAndStops mid after now (get_or piece i 0 ∷ []) stop → WritesAndStops before after old piece stop
 stops_in_piece before mid after old now piece i stop inside (text, wrote, taken) (written, wrote_more, stops) =
     let left = drop (suc i) piece in
-    let P : List ℕ → Type 0 = λ bytes. StopsWithin old bytes (text ++ written) stop in
-    (text ++ written, Appends-trans before mid after text written wrote wrote_more,
+    let P : List ℕ → Type 0 = λ bytes. StopsWithin old bytes (text ++ written) stop in (
+      text ++ written,
+      Appends-trans before mid after text written wrote wrote_more,
       subst P (sym (piece_parts piece i inside))
-        (StopsWithin_after_Takes old (take i piece) now text (get_or piece i 0 ∷ left) written stop taken (λ rest. stops (left ++ rest))))
+          (StopsWithin_after_Takes old (take i piece) now text (get_or piece i 0 ∷ left) written stop taken (λ rest. stops (left ++ rest))),
+    )

@@ -1,15 +1,14 @@
 -- What a whole run writes, from what was taken in and what came then.
-use Rattle.std.proofs.Common.{◌≡◌, ℕ, ◌+◌, ◌*◌, ◌<◌, ◌≤◌, take, List, [], ◌∷◌, ◌++◌, length, Option, Some, None, Result, Ok, Err, IfSome, IfErr, OnOk, refl, sym, ap, ◌∙◌, arith, append_assoc, append-nil, subst, length-append}
-use Rattle.std.specs.Io.KnownBytes.{Appends, Consumes, IsAtEnd}
+use Rattle.std.proofs.Common.{◌≡◌, ℕ, ◌<◌, take, List, [], ◌++◌, length, Option, Some, None, Result, Ok, Err, IfSome, IfErr, OnOk, refl, sym, ap, ◌∙◌, arith, append-nil, subst}
+use Rattle.std.specs.Io.KnownBytes.{Consumes, IsAtEnd}
 use Rattle.std.proofs.KnownBytes.{Appends-nil, Appends-trans, Consumes-trans}
 use Rattle.raft_cluster.specs.declared.script.end.Stop.{Stop}
 use Rattle.raft_cluster.specs.declared.script.end.Stop.TheVariants as stops
-use Rattle.raft_cluster.specs.declared.script.end.ScriptEnd.TheVariants as ends
 use Rattle.raft_cluster.specs.Script.Lines.{lines_of}
 use Rattle.raft_cluster.specs.Script.End.{end_of}
-use Rattle.raft_cluster.specs.Script.Progress.{Progress, start}
-use Rattle.raft_cluster.specs.Script.Run.{text_from, end_from, Stops, WritesText, StopsIn, Answers, script_end, script_text}
-use Rattle.raft_cluster.specs.Script.Session.{Session, first, IsOpen, Takes, StopsWithin, WritesAndTakes, WritesAndStops, WritesAll, StopsAtEnd}
+use Rattle.raft_cluster.specs.Script.Progress.{start}
+use Rattle.raft_cluster.specs.Script.Run.{text_from, end_from, Stops, WritesText, StopsIn, Answers, script_text}
+use Rattle.raft_cluster.specs.Script.Session.{Session, first, IsOpen, Takes, WritesAndTakes, WritesAndStops, WritesAll, StopsAtEnd}
 use Rattle.raft_cluster.proofs.SessionLemmas.{text_after_Ran, end_after_Ran, Stops_after_Ran, StopsWithin_after_Takes, Takes_append}
 
 takes_nothing : (s : Session) → IsOpen s.pending → Takes s [] s []
@@ -35,16 +34,19 @@ all_cut taken now text h =
 pub all_written : (before mid after : Option (List ℕ)) (taken : List ℕ) (now : Session) → WritesAndTakes before mid first taken now → WritesAll mid after now → WritesText taken before after
 all_written before mid after taken now (text, wrote, h) (others, ended) =
     let last = lines_of now.pending in
-    let whole : script_text taken ≡ text ++ text_from now.progress last = ap (text_from start) (all_cut taken now text h) ∙ text_after_Ran start h.ended last text now.progress h.ran in
-    (ap (end_from start) (all_cut taken now text h) ∙ (end_after_Ran start h.ended last text now.progress h.ran ∙ ended),
-      rw whole (Appends-trans before mid after text (text_from now.progress last) wrote others))
+    let whole : script_text taken ≡ text ++ text_from now.progress last = ap (text_from start) (all_cut taken now text h) ∙ text_after_Ran start h.ended last text now.progress h.ran in (
+      ap (end_from start) (all_cut taken now text h) ∙ (end_after_Ran start h.ended last text now.progress h.ran ∙ ended),
+      rw whole (Appends-trans before mid after text (text_from now.progress last) wrote others),
+    )
 
 pub stops_at_the_end : (before mid after : Option (List ℕ)) (taken : List ℕ) (now : Session) (stop : Stop) → WritesAndTakes before mid first taken now → StopsAtEnd mid after now stop → StopsIn taken before after stop
 stops_at_the_end before mid after taken now stop (text, wrote, h) (written, others, stopped) =
     let last = lines_of now.pending in
-    let P : List (List ℕ) → Type 0 = λ lines. Stops start lines (text ++ written) stop in
-    (text ++ written, Appends-trans before mid after text written wrote others,
-      subst P (sym (all_cut taken now text h)) (Stops_after_Ran start h.ended last text written now.progress stop h.ran stopped))
+    let P : List (List ℕ) → Type 0 = λ lines. Stops start lines (text ++ written) stop in (
+      text ++ written,
+      Appends-trans before mid after text written wrote others,
+      subst P (sym (all_cut taken now text h)) (Stops_after_Ran start h.ended last text written now.progress stop h.ran stopped),
+    )
 
 consumed_then : (known left : Option (List ℕ)) (bytes : List ℕ) (P : List ℕ → Type 0) → Consumes known left bytes → ((rest : List ℕ) → P (bytes ++ rest)) → IfSome known P
 consumed_then None left bytes P e h = tt
@@ -54,17 +56,24 @@ consumed_then (Some input) (Some rest) bytes P e h = subst P (sym e) (h rest)
 pub stops_in_feed : (known left before mid after : Option (List ℕ)) (taken bytes : List ℕ) (now : Session) (stop : Stop) → Consumes known left (taken ++ bytes) → WritesAndTakes before mid first taken now → WritesAndStops mid after now bytes stop → IfSome known (λ input. StopsIn input before after stop)
 stops_in_feed known left before mid after taken bytes now stop consumed (text, wrote, h) (written, others, stopped) =
     consumed_then known left (taken ++ bytes) (λ input. StopsIn input before after stop) consumed
-      (λ rest.
-        (text ++ written, Appends-trans before mid after text written wrote others,
-          StopsWithin_after_Takes first taken now text bytes written stop h stopped rest))
+    (λ rest. (
+      text ++ written,
+      Appends-trans before mid after text written wrote others,
+      StopsWithin_after_Takes first taken now text bytes written stop h stopped rest,
+    ))
 
 pub stops_by_fault : (known left before after : Option (List ℕ)) (taken : List ℕ) (now : Session) → Consumes known left taken → WritesAndTakes before after first taken now → IfSome known (λ input. StopsIn input before after stops.Fault)
 stops_by_fault known left before after taken now consumed (text, wrote, h) =
     consumed_then known left taken (λ input. StopsIn input before after stops.Fault) consumed
-      (λ rest.
-        let last = lines_of (now.pending ++ rest) in
-        (text, wrote, (text_from now.progress last,
-          ap (text_from start) (h.cut rest) ∙ text_after_Ran start h.ended last text now.progress h.ran)))
+    (λ rest.
+    let last = lines_of (now.pending ++ rest) in (
+      text,
+      wrote,
+      (
+        text_from now.progress last,
+        ap (text_from start) (h.cut rest) ∙ text_after_Ran start h.ended last text now.progress h.ran,
+      ),
+    ))
 
 pub stops_before : (known : Option (List ℕ)) (input : List ℕ) → StopsIn input known known stops.Memory
 stops_before known input = ([], Appends-nil known, (0, refl))

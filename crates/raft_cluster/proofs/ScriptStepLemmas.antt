@@ -4,7 +4,7 @@ use Rattle.raft_cluster.specs.declared.script.line.Line.{Line}
 use Rattle.raft_cluster.specs.declared.script.line.Line.TheVariants.{Skipped, Nodes, Add, Init, Propose, Total}
 use Rattle.raft_cluster.specs.Cluster.{ClusterValue}
 use Rattle.raft_cluster.specs.Script.Line.{line_of}
-use Rattle.raft_cluster.specs.Script.Progress.{Progress, step, taken, taken_if, begins, where_begun, happens, reads_total}
+use Rattle.raft_cluster.specs.Script.Progress.{Progress, step, taken, taken_if, begins, where_begun}
 
 pub step_of_no_line : (p : Progress) (line : List ℕ) → line_of line ≡ None → step p line ≡ None
 unfolding step

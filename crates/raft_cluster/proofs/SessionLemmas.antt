@@ -1,22 +1,20 @@
 -- Lines one after another, and bytes one after another.
-use Rattle.std.proofs.Common.{◌≡◌, ◌≢◌, ℕ, ◌+◌, ◌≤◌, List, [], ◌∷◌, ◌++◌, length, take, Option, Some, None, refl, sym, ap, ◌∙◌, arith, subst, append_assoc, append-nil, cond, eqb, Bool, true, false, length-append}
+use Rattle.std.proofs.Common.{◌≡◌, ◌≢◌, ℕ, ◌+◌, List, [], ◌∷◌, ◌++◌, length, take, refl, sym, ap, ◌∙◌, arith, subst, append_assoc, cond, eqb, Bool, true, false, length-append}
 use Rattle.std.proofs.Math.Seq.{take-append-add}
-use Rattle.std.specs.List.{onto_first, AllByRecursion}
-use Rattle.std.proofs.lemmas.Bool.Decides.{Decides-eqb}
-use Rattle.raft_cluster.specs.declared.script.end.ScriptEnd.{ScriptEnd}
+use Rattle.std.specs.List.{onto_first}
 use Rattle.raft_cluster.specs.declared.script.end.Stop.{Stop}
 use Rattle.raft_cluster.specs.declared.script.end.Stop.TheVariants as stops
 use Rattle.raft_cluster.specs.Script.Lines.{lines_of}
-use Rattle.raft_cluster.specs.Script.Progress.{Progress, start, step}
-use Rattle.raft_cluster.specs.Script.Run.{text_from, text_then, end_from, end_then, Ran, Stops, wrong_line}
+use Rattle.raft_cluster.specs.Script.Progress.{Progress}
+use Rattle.raft_cluster.specs.Script.Run.{text_from, text_then, end_from, end_then, Ran, Stops}
 use Rattle.raft_cluster.specs.Script.Session.{Session, IsOpen, Takes, StopsWithin}
 
 pub text_after_Ran : (p : Progress) (ended lines : List (List ℕ)) (text : List ℕ) (q : Progress) → Ran p ended text q → text_from p (ended ++ lines) ≡ text ++ text_from q lines
 text_after_Ran p [] lines text q (none, same) = rw (none, same) refl
 text_after_Ran p (line ∷ ended) lines text q (next, first, others, stepped, split, ran) =
     ap (λ s. text_then (p.lines + 1) s (λ r. text_from r (ended ++ lines))) stepped
-      ∙ (ap (λ t. first ++ t) (text_after_Ran next ended lines others q ran)
-      ∙ (sym (append_assoc first others (text_from q lines)) ∙ ap (λ t. t ++ text_from q lines) (sym split)))
+    ∙ (ap (λ t. first ++ t) (text_after_Ran next ended lines others q ran)
+    ∙ (sym (append_assoc first others (text_from q lines)) ∙ ap (λ t. t ++ text_from q lines) (sym split)))
 
 pub end_after_Ran : (p : Progress) (ended lines : List (List ℕ)) (text : List ℕ) (q : Progress) → Ran p ended text q → end_from p (ended ++ lines) ≡ end_from q lines
 end_after_Ran p [] lines text q (none, same) = rw same refl
@@ -44,7 +42,7 @@ Takes_append old xs mid text ys new more h k =
     record {
       ended = h.ended ++ k.ended;
       cut = λ rest.
-        ap (λ l. lines_of (old.pending ++ l)) (append_assoc xs ys rest)
+          ap (λ l. lines_of (old.pending ++ l)) (append_assoc xs ys rest)
           ∙ (h.cut (ys ++ rest) ∙ (ap (λ l. h.ended ++ l) (k.cut rest) ∙ sym (append_assoc h.ended k.ended (lines_of (new.pending ++ rest)))));
       ran = Ran_append old.progress h.ended k.ended text more mid.progress new.progress h.ran k.ran;
       open_line = k.open_line;
@@ -70,14 +68,14 @@ pub lines_cut : (line rest : List ℕ) → IsOpen line → lines_of (line ++ 10 
 lines_cut [] rest h = refl
 lines_cut (byte ∷ line) rest h =
     newline_ends (eqb byte 10) ([] ∷ lines_of (line ++ 10 ∷ rest)) (onto_first byte (lines_of (line ++ 10 ∷ rest))) (no_newline byte h.0)
-      ∙ ap (onto_first byte) (lines_cut line rest h.1)
+    ∙ ap (onto_first byte) (lines_cut line rest h.1)
 
 -- what is open at the end of the input is a line, if it isn't empty
 pub lines_last : (byte : ℕ) (line : List ℕ) → IsOpen (byte ∷ line) → lines_of (byte ∷ line) ≡ (byte ∷ line) ∷ []
 lines_last byte [] h = newline_ends (eqb byte 10) ([] ∷ []) ((byte ∷ []) ∷ []) (no_newline byte h.0)
 lines_last byte (next ∷ line) h =
     newline_ends (eqb byte 10) ([] ∷ lines_of (next ∷ line)) (onto_first byte (lines_of (next ∷ line))) (no_newline byte h.0)
-      ∙ ap (onto_first byte) (lines_last next line h.1)
+    ∙ ap (onto_first byte) (lines_last next line h.1)
 
 onto_some : (byte : ℕ) (parts : List (List ℕ)) → (first : List ℕ) × (others : List (List ℕ)) × (onto_first byte parts ≡ (byte ∷ first) ∷ others)
 onto_some byte [] = ([], [], refl)

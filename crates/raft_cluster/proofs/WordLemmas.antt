@@ -1,6 +1,6 @@
 -- The words of a line, one after another, and the number that a word names.
-use Rattle.std.proofs.Common.{◌≡◌, ◌≢◌, ℕ, ◌+◌, ◌<◌, ◌≤◌, ◌^◌, List, [], ◌∷◌, ◌++◌, length, get_or, true, false, MatchOption, Option, Some, None, Result, Ok, Err, Bor, arith, lit<, refl, cond, eqb, Bool, ap, subst}
-use Rattle.std.specs.List.{slice_split, onto_first, All}
+use Rattle.std.proofs.Common.{◌≡◌, ◌≢◌, ℕ, ◌<◌, ◌^◌, List, [], ◌∷◌, ◌++◌, length, get_or, true, false, Option, Some, None, Result, Ok, Err, refl, cond, eqb, Bool, ap}
+use Rattle.std.specs.List.{onto_first, All}
 use Rattle.std.specs.Str.{all_ascii_digits}
 use Rattle.std.specs.Str.Parse.{digits_value, ParsesUnsigned}
 use Rattle.std.specs.Bool.{Decides}
@@ -8,7 +8,6 @@ use Rattle.std.specs.Result.{result_ok, OkIff}
 use Rattle.std.proofs.lemmas.List.{get_or_default}
 use Rattle.std.proofs.lemmas.Bool.Decides.{Decides-eqb, Decides-and, Decides-ltb, Decides-like}
 use Rattle.std.proofs.lemmas.List.Splits.{slice_split_none, slice_split_at}
-use Rattle.std.proofs.lemmas.Str.Pattern.{IsSplitOnceResult, split_parts}
 use Rattle.std.proofs.lemmas.Str.Parse.{IsNumeralModel, numerals_by_value, tells_all_ascii_digits, parse_plain}
 use Rattle.raft_cluster.specs.Script.Line.{words_of, number_of, is_numeral, both, numbers_of}
 
@@ -39,7 +38,7 @@ some_if (Err e) false P v d h = refl
 numeral_tells : (word : List ℕ) → Decides (is_numeral word) ((all_ascii_digits word ≡ true) × (0 < length word) × (digits_value 10 word < 2 ^ 64))
 numeral_tells word =
     Decides-like _ (λ h. (h.0, h.1.0, h.1.1)) (λ h. (h.0, (h.1, h.2)))
-      (Decides-and _ _ (λ e. e, λ e. e) (Decides-and _ _ (Decides-ltb 0 (length word)) (Decides-ltb (digits_value 10 word) (2 ^ 64))))
+    (Decides-and _ _ (λ e. e, λ e. e) (Decides-and _ _ (Decides-ltb 0 (length word)) (Decides-ltb (digits_value 10 word) (2 ^ 64))))
 
 pub number_parsed : {E : Type 0} (word : List ℕ) (r : Result ℕ E) → ParsesUnsigned 64 10 word r → get_or word 0 0 ≢ 43 → result_ok r ≡ number_of word
 number_parsed word r h plain = some_if r (is_numeral word) _ (digits_value 10 word) (numeral_tells word) (parse_plain own 64 word r h plain)

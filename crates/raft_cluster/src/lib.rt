@@ -9,7 +9,9 @@ mod refusal;
 mod script;
 
 pub use cluster::Cluster;
-pub use event::{ClusterEvent, EventOutcome, Recorded, Refusal, SentFrame, Told, ToldList, ToldRoom};
+pub use event::{
+    ClusterEvent, EventOutcome, Recorded, Refusal, SentFrame, Told, ToldList, ToldRoom,
+};
 pub use group::{Group, GroupEntry};
 pub use node::Node;
 pub use script::{ScriptEnd, run_script};

@@ -13,8 +13,14 @@ const FIRST_ANSWERS: &str = "ok\nok\nok\nok told 1@2=5\nok told 2@3=12\ntotal 12
 const RUNS: [(&str, &str); 12] = [
     (FIRST_RUN, FIRST_ANSWERS),
     ("", ""),
-    ("nodes 1\nadd 1 7\nadd 1 7\n", "ok\nok\nrefused 3 GroupExists\n"),
-    ("nodes 1\nadd 1 7\npropose 1 7 5\n", "ok\nok\nrefused 1 NotLeader -\n"),
+    (
+        "nodes 1\nadd 1 7\nadd 1 7\n",
+        "ok\nok\nrefused 3 GroupExists\n",
+    ),
+    (
+        "nodes 1\nadd 1 7\npropose 1 7 5\n",
+        "ok\nok\nrefused 1 NotLeader -\n",
+    ),
     (
         "nodes 1\nadd 1 7\ninit 1 7 1\ninit 1 7 1\n",
         "ok\nok\nok\nrefused 4 NotAllowed\n",
@@ -117,7 +123,14 @@ fn a_wrong_line_is_named(rt: HostRuntime) -> Result<(), Fail> {
 
 #[test]
 fn nothing_comes_before_the_nodes(rt: HostRuntime) {
-    for script in ["add 1 7\n", "nodes 2\n", "total 1 7", "nodes 1 1\n", "nodes\n", "\r\n"] {
+    for script in [
+        "add 1 7\n",
+        "nodes 2\n",
+        "total 1 7",
+        "nodes 1 1\n",
+        "nodes\n",
+        "\r\n",
+    ] {
         let (end, text) = run(&rt, script.as_bytes());
         assert_eq!(rt; text.as_slice(), b"line 1\n".as_slice(), "of {script:?}");
         assert_eq!(rt; end, ScriptEnd::NoEvent(1), "of {script:?}");
@@ -139,7 +152,11 @@ fn a_line_has_65_536_bytes_at_most(rt: HostRuntime) -> Result<(), Fail> {
         script.push(b'\n')?;
         let (ended, text) = run(&rt, script.as_slice());
         assert_eq!(rt; ended, end, "at {length} and a newline");
-        assert_eq!(rt; text.as_slice(), answer.as_bytes(), "at {length} and a newline");
+        assert_eq!(rt;
+            text.as_slice(),
+            answer.as_bytes(),
+            "at {length} and a newline"
+        );
     }
     Ok(())
 }
@@ -188,7 +205,11 @@ fn a_writer_that_fails_ends_the_script(rt: HostRuntime) {
         let mut writer = Stubborn::new(rt.alloc(), 3, room);
         let end = run_script(rt.alloc(), &mut reader, &mut writer);
         assert_eq!(rt; end, ScriptEnd::Fault, "with room for {room}");
-        assert_eq!(rt; writer.written(), &FIRST_ANSWERS.as_bytes()[..room], "with room for {room}");
+        assert_eq!(rt;
+            writer.written(),
+            &FIRST_ANSWERS.as_bytes()[..room],
+            "with room for {room}"
+        );
     }
 }
 

@@ -29,7 +29,7 @@ value_of answer = if length answer == 8 then Some (total_of answer) else None
 abbrev pub told_text : Told → List ℕ
 told_text told =
     codes " told "
-      ++ (decimal told.token ++ (codes "@" ++ (decimal told.place ++ (codes "=" ++ number_or_dash (value_of told.answer)))))
+    ++ (decimal told.token ++ (codes "@" ++ (decimal told.place ++ (codes "=" ++ number_or_dash (value_of told.answer)))))
 
 -- who leads, where a refusal says so, and the end of the line
 abbrev pub leader_text : Fault → List ℕ
@@ -48,4 +48,4 @@ abbrev pub total_text : Option (List GroupEntry) → List ℕ
 total_text None = codes "none" ++ newline
 total_text (Some entries) =
     codes "total "
-      ++ (decimal (total_of (fold_of adding entries)) ++ (codes " at " ++ (number_or_dash (last_place (Some entries)) ++ newline)))
+    ++ (decimal (total_of (fold_of adding entries)) ++ (codes " at " ++ (number_or_dash (last_place (Some entries)) ++ newline)))

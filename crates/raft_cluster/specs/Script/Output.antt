@@ -1,5 +1,5 @@
 -- What is written of one line's answer.
-use Rattle.std.specs.Prelude.{◌≡◌, ℕ, ◌+◌, List, [], ◌∷◌, Option, Some, None, MatchOption}
+use Rattle.std.specs.Prelude.{◌≡◌, ℕ, List, [], ◌∷◌, Option, Some, None, MatchOption}
 use Rattle.std.specs.Io.KnownBytes.{Appends}
 use Rattle.raft_cluster.specs.declared.script.end.Stop.{Stop}
 use Rattle.raft_cluster.specs.declared.script.end.Stop.TheVariants as stops

@@ -43,9 +43,10 @@ cluster_after cluster event =
 
 -- what an event is answered, and what it leaves
 abbrev pub happens : Progress → ClusterEvent → ClusterValue → Progress × List ℕ
-happens p event cluster =
-    (record p { cluster = Some (cluster_after cluster event) },
-      outcome_text (outcome_after adding cluster.id (events_of cluster.history) event))
+happens p event cluster = (
+  record p { cluster = Some (cluster_after cluster event) },
+  outcome_text (outcome_after adding cluster.id (events_of cluster.history) event),
+)
 
 -- a group's list at a node; there is none where there is no such node or group
 abbrev pub list_at : ClusterValue → ℕ → ℕ → Option (List GroupEntry)
@@ -74,7 +75,7 @@ taken p (Add node group) = where_begun p.cluster (happens p (events.AddGroup nod
 taken p (Init node group) = where_begun p.cluster (happens p (events.Initialize node group one_voter 0))
 taken p (Propose node group amount) =
     where_begun p.cluster
-      (happens (record p { tokens = p.tokens + 1 }) (events.Propose node group (command_of amount) (p.tokens + 1) 0))
+    (happens (record p { tokens = p.tokens + 1 }) (events.Propose node group (command_of amount) (p.tokens + 1) 0))
 taken p (Total node group) = where_begun p.cluster (reads_total p node group)
 
 abbrev pub taken_if : Progress → Option Line → Option (Progress × List ℕ)

@@ -25,7 +25,8 @@ pub fn happen(
     event: &ClusterEvent,
 ) -> Result<String, AllocError>
     ensures cluster { IfOk result (λ _. cluster.new ≡ cluster_after cluster.old event.now) }
-    ensures text { IfOk result (λ text. string_bytes text ≡ outcome_text (outcome_after adding cluster.old.id (events_of cluster.old.history) event.now)) }
+    ensures text { IfOk result (λ text. string_bytes text ≡ outcome_text
+        (outcome_after adding cluster.old.id (events_of cluster.old.history) event.now)) }
 {
     cluster.step(event)?;
     let recorded = cluster.history().last().unwrap();
@@ -39,7 +40,8 @@ pub fn total(
     node: u64,
     group: u64,
 ) -> Result<String, AllocError>
-    ensures { IfOk result (λ text. string_bytes text ≡ total_text (list_at cluster.now node group)) }
+    ensures { IfOk result (λ text. string_bytes text ≡ total_text
+        (list_at cluster.now node group)) }
 {
     let Some(node) = cluster.node(node) else {
         return String::from_str(alloc, "none\n");

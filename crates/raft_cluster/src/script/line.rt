@@ -54,7 +54,8 @@ pub enum Verb {
 
 /// The first word, and the text after the space that ends it.
 fn first_word(text: &str) -> (&str, Option<&str>)
-    ensures { words_of text.now ≡ result.0.now ∷ words_after (option_map (λ rest. rest.now) result.1) }
+    ensures { words_of text.now ≡ result.0.now ∷ words_after (option_map
+        (λ rest. rest.now) result.1) }
 {
     match text.split_once(' ') {
         Some((word, rest)) => (word, Some(rest)),
@@ -110,8 +111,10 @@ fn two_numbers(text: &str) -> Option<(u64, u64)>
 
 /// The three numbers that the text is.
 fn three_numbers(text: &str) -> Option<(u64, u64, u64)>
-    ensures none { IfNone result ((a b c : ℕ) → numbers_of (words_of text.now) ≢ Some (a ∷ b ∷ c ∷ [])) }
-    ensures some { IfSome result (λ r. numbers_of (words_of text.now) ≡ Some (r.0 ∷ r.1 ∷ r.2 ∷ [])) }
+    ensures none { IfNone result ((a b c : ℕ) → numbers_of (words_of text.now) ≢ Some
+        (a ∷ b ∷ c ∷ [])) }
+    ensures some { IfSome result (λ r. numbers_of (words_of text.now) ≡ Some
+        (r.0 ∷ r.1 ∷ r.2 ∷ [])) }
 {
     let (word, rest) = first_word(text);
     let first = number_in(word)?;

@@ -11,7 +11,8 @@ use std::io::{ErrorKind, Write};
 pub fn write_out<W: Write>(writer: &mut W, text: &[u8]) -> Result<(), Stop>
     ensures ok { OnOk result (Appends (W.contents writer.old) (W.contents writer.new) text.now) }
     ensures fault { IfErr result (λ stop. stop ≡ Stop.Fault) }
-    ensures err { IfErr result (λ _. AppendsFront (W.contents writer.old) (W.contents writer.new) text.now) }
+    ensures err { IfErr result (λ _. AppendsFront (W.contents writer.old)
+        (W.contents writer.new) text.now) }
 {
     write_bytes(writer, text)?;
     match writer.flush() {
@@ -24,7 +25,8 @@ pub fn write_out<W: Write>(writer: &mut W, text: &[u8]) -> Result<(), Stop>
 fn write_bytes<W: Write>(writer: &mut W, text: &[u8]) -> Result<(), Stop>
     ensures ok { OnOk result (Appends (W.contents writer.old) (W.contents writer.new) text.now) }
     ensures fault { IfErr result (λ stop. stop ≡ Stop.Fault) }
-    ensures err { IfErr result (λ _. AppendsFront (W.contents writer.old) (W.contents writer.new) text.now) }
+    ensures err { IfErr result (λ _. AppendsFront (W.contents writer.old)
+        (W.contents writer.new) text.now) }
 {
     let mut rest = text;
     for _ in 0..u64::MAX {

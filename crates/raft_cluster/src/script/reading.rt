@@ -44,10 +44,17 @@ impl Reading {
     /// Runs the open line and writes its answer.
     fn end_line<W: Write>(&mut self, writer: &mut W) -> Result<(), Stop>
         requires { self.old.progress.lines < 2 ^ 63 }
-        ensures ok { OnOk result (EndsLine (W.contents writer.old) (W.contents writer.new) self.old self.new) }
-        ensures err { IfErr result (StopsAt (W.contents writer.old) (W.contents writer.new) self.old.progress self.old.pending) }
+        ensures ok { OnOk result (EndsLine (W.contents writer.old)
+            (W.contents writer.new) self.old self.new) }
+        ensures err { IfErr result (StopsAt (W.contents writer.old)
+            (W.contents writer.new) self.old.progress self.old.pending) }
     {
-        answer_line(self.alloc, &mut self.script, self.pending.as_slice(), writer)?;
+        answer_line(
+            self.alloc,
+            &mut self.script,
+            self.pending.as_slice(),
+            writer,
+        )?;
         self.pending.clear();
         Ok(())
     }
@@ -57,8 +64,10 @@ impl Reading {
         requires other { byte ≢ NEWLINE }
         requires open_line { IsOpen self.old.pending }
         requires room { self.old.progress.lines < 2 ^ 63 }
-        ensures ok { OnOk result (WritesAndTakes (W.contents writer.old) (W.contents writer.new) self.old (byte ∷ []) self.new) }
-        ensures err { IfErr result (WritesAndStops (W.contents writer.old) (W.contents writer.new) self.old (byte ∷ [])) }
+        ensures ok { OnOk result (WritesAndTakes (W.contents writer.old)
+            (W.contents writer.new) self.old (byte ∷ []) self.new) }
+        ensures err { IfErr result (WritesAndStops (W.contents writer.old)
+            (W.contents writer.new) self.old (byte ∷ [])) }
     {
         if self.pending.push(byte).is_err() {
             return Err(Stop::Memory);
@@ -74,8 +83,10 @@ impl Reading {
     fn take<W: Write>(&mut self, byte: u8, writer: &mut W) -> Result<(), Stop>
         requires open_line { IsOpen self.old.pending }
         requires room { self.old.progress.lines < 2 ^ 63 }
-        ensures ok { OnOk result (WritesAndTakes (W.contents writer.old) (W.contents writer.new) self.old (byte ∷ []) self.new) }
-        ensures err { IfErr result (WritesAndStops (W.contents writer.old) (W.contents writer.new) self.old (byte ∷ [])) }
+        ensures ok { OnOk result (WritesAndTakes (W.contents writer.old)
+            (W.contents writer.new) self.old (byte ∷ []) self.new) }
+        ensures err { IfErr result (WritesAndStops (W.contents writer.old)
+            (W.contents writer.new) self.old (byte ∷ [])) }
     {
         if byte == NEWLINE {
             self.end_line(writer)
@@ -88,8 +99,10 @@ impl Reading {
     pub fn feed<W: Write>(&mut self, piece: &[u8], writer: &mut W) -> Result<(), Stop>
         requires open_line { IsOpen self.old.pending }
         requires room { self.old.progress.lines + length piece.now < 2 ^ 63 }
-        ensures ok { OnOk result (WritesAndTakes (W.contents writer.old) (W.contents writer.new) self.old piece.now self.new) }
-        ensures err { IfErr result (WritesAndStops (W.contents writer.old) (W.contents writer.new) self.old piece.now) }
+        ensures ok { OnOk result (WritesAndTakes (W.contents writer.old)
+            (W.contents writer.new) self.old piece.now self.new) }
+        ensures err { IfErr result (WritesAndStops (W.contents writer.old)
+            (W.contents writer.new) self.old piece.now) }
     {
         for byte in piece {
             self.take(*byte, writer)?;
@@ -101,8 +114,10 @@ impl Reading {
     pub fn finish<W: Write>(&mut self, writer: &mut W) -> Result<(), Stop>
         requires open_line { IsOpen self.old.pending }
         requires room { self.old.progress.lines < 2 ^ 63 }
-        ensures ok { OnOk result (WritesAll (W.contents writer.old) (W.contents writer.new) self.old) }
-        ensures err { IfErr result (StopsAtEnd (W.contents writer.old) (W.contents writer.new) self.old) }
+        ensures ok { OnOk result (WritesAll (W.contents writer.old)
+            (W.contents writer.new) self.old) }
+        ensures err { IfErr result (StopsAtEnd (W.contents writer.old)
+            (W.contents writer.new) self.old) }
     {
         if self.pending.is_empty() {
             return Ok(());
@@ -119,8 +134,10 @@ fn answer_line<W: Write>(
     writer: &mut W,
 ) -> Result<(), Stop>
     requires { script.old.lines < 2 ^ 63 }
-    ensures ok { OnOk result (AnswersLine (W.contents writer.old) (W.contents writer.new) script.old line.now script.new) }
-    ensures err { IfErr result (StopsAt (W.contents writer.old) (W.contents writer.new) script.old line.now) }
+    ensures ok { OnOk result (AnswersLine (W.contents writer.old)
+        (W.contents writer.new) script.old line.now script.new) }
+    ensures err { IfErr result (StopsAt (W.contents writer.old)
+        (W.contents writer.new) script.old line.now) }
 {
     let number = script.lines() + 1;
     match script.run_line(line) {

@@ -38,11 +38,7 @@ fn end_of(run: Result<(), Stop>) -> ScriptEnd
 }
 
 /// Makes room for a read, and runs the script.
-fn run_lines<R: Read, W: Write>(
-    alloc: Global,
-    reader: &mut R,
-    writer: &mut W,
-) -> Result<(), Stop>
+fn run_lines<R: Read, W: Write>(alloc: Global, reader: &mut R, writer: &mut W) -> Result<(), Stop>
     ensures ok { OnOk result (IfSome (R.remaining reader.old) (λ input.
         WritesText input (W.contents writer.old) (W.contents writer.new))) }
     ensures err { IfErr result (λ stop. IfSome (R.remaining reader.old) (λ input.

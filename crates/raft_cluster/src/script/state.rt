@@ -55,7 +55,8 @@ impl Script {
     /// Runs a line, and answers with the text of its answer; none where it is no event.
     pub fn run_line(&mut self, line: &[u8]) -> Result<Option<String>, AllocError>
         requires { self.old.lines < 2 ^ 63 }
-        ensures { IfOk result (λ text. IsAnswer self.old line.now self.new (option_map string_bytes text)) }
+        ensures { IfOk result (λ text. IsAnswer self.old line.now self.new
+            (option_map string_bytes text)) }
     {
         let Some(line) = Line::read(line) else {
             return Ok(None);
@@ -68,7 +69,8 @@ impl Script {
     fn take(&mut self, line: Line) -> Result<Option<String>, AllocError>
         requires counted { self.old.tokens < self.old.lines }
         requires room { self.old.lines ≤ 2 ^ 63 }
-        ensures { IfOk result (λ text. IsTaken self.old line self.new (option_map string_bytes text)) }
+        ensures { IfOk result (λ text. IsTaken self.old line self.new
+            (option_map string_bytes text)) }
     {
         match line {
             Line::Skipped => Ok(Some(String::new(self.alloc))),
@@ -96,7 +98,8 @@ impl Script {
 impl Script {
     // The line `nodes 1`.
     fn begin(&mut self) -> Result<Option<String>, AllocError>
-        ensures { IfOk result (λ text. IsGiven (begins self.old self.old.cluster) self.new (option_map string_bytes text)) }
+        ensures { IfOk result (λ text. IsGiven (begins self.old self.old.cluster) self.new
+            (option_map string_bytes text)) }
     {
         if self.cluster.is_some() {
             return Ok(None);
@@ -107,7 +110,8 @@ impl Script {
 
     // An event of the cluster, if there is one.
     fn happen(&mut self, event: ClusterEvent) -> Result<Option<String>, AllocError>
-        ensures { IfOk result (λ text. IsGiven (where_begun self.old.cluster (happens self.old event)) self.new (option_map string_bytes text)) }
+        ensures { IfOk result (λ text. IsGiven (where_begun self.old.cluster
+            (happens self.old event)) self.new (option_map string_bytes text)) }
     {
         match &mut self.cluster {
             None => Ok(None),
@@ -118,7 +122,8 @@ impl Script {
     // A proposal gets the next token.
     fn propose(&mut self, node: u64, group: u64, amount: u64) -> Result<Option<String>, AllocError>
         requires counted { self.old.tokens < self.old.lines }
-        ensures { IfOk result (λ text. IsTaken self.old (Line.Propose node group amount) self.new (option_map string_bytes text)) }
+        ensures { IfOk result (λ text. IsTaken self.old (Line.Propose node group amount) self.new
+            (option_map string_bytes text)) }
     {
         self.tokens += 1;
         let command = command_of(self.alloc, amount)?;
@@ -133,7 +138,8 @@ impl Script {
 
     // The total of a group, if there is a cluster.
     fn total(&mut self, node: u64, group: u64) -> Result<Option<String>, AllocError>
-        ensures { IfOk result (λ text. IsGiven (where_begun self.old.cluster (reads_total self.old node group)) self.new (option_map string_bytes text)) }
+        ensures { IfOk result (λ text. IsGiven (where_begun self.old.cluster
+            (reads_total self.old node group)) self.new (option_map string_bytes text)) }
     {
         match &self.cluster {
             None => Ok(None),

@@ -31,7 +31,11 @@ impl Read for Piecewise<'_> {
         if self.left == 0 {
             return Err(Error::from(ErrorKind::ConnectionReset));
         }
-        let count = self.piece.min(self.left).min(buf.len()).min(self.bytes.len());
+        let count = self
+            .piece
+            .min(self.left)
+            .min(buf.len())
+            .min(self.bytes.len());
         buf[..count].copy_from_slice(&self.bytes[..count]);
         self.bytes = &self.bytes[count..];
         self.left -= count;

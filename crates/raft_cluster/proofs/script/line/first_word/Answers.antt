@@ -1,4 +1,4 @@
-use Rattle.std.proofs.Common.{rules, lit<, ◌∙◌, ap, Some, None}
+use Rattle.std.proofs.Common.{lit<, ◌∙◌, ap, Some, None}
 use Rattle.std.proofs.lemmas.Str.Pattern.{split_parts}
 use Rattle.raft_cluster.specs.Script.Line.{words_of}
 use Rattle.raft_cluster.proofs.WordLemmas.{words_one, words_more}

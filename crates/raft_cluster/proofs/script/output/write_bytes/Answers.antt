@@ -16,6 +16,6 @@ loop-preserved g c =
     let (front, split, written) = c.loop.invariant in
     let rest = c.loop.rest.now in
     elim c.match-write.branch [
-      in-Ok w ↦ (front ++ take w.in-Ok.n rest, moves_on _ front rest c.match-write.rest.now w.in-Ok.n split (ap (λ (r : Bor (List ℕ)). r.now) w.rest-is), Appends-trans _ _ _ _ _ written w.in-Ok.ensures.bytes)
-    | in-Err+else-ne w ↦ (front, split ∙ ap (λ (r : Bor (List ℕ)). front ++ r.now) (sym w.rest-is), Appends-kept _ _ _ _ written w.in-Err.ensures.bytes)
+      | in-Ok w ↦ (front ++ take w.in-Ok.n rest, moves_on _ front rest c.match-write.rest.now w.in-Ok.n split (ap (λ (r : Bor (List ℕ)). r.now) w.rest-is), Appends-trans _ _ _ _ _ written w.in-Ok.ensures.bytes)
+      | in-Err+else-ne w ↦ (front, split ∙ ap (λ (r : Bor (List ℕ)). front ++ r.now) (sym w.rest-is), Appends-kept _ _ _ _ written w.in-Err.ensures.bytes)
     ]

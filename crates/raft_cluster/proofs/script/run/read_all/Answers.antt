@@ -1,8 +1,7 @@
-use Rattle.std.proofs.Common.{◌≡◌, ℕ, ◌≤◌, ◌+◌, ◌*◌, [], ◌++◌, ◌<◌, take, length, arith, length-append, length-take, Bor, List, ap, sym, subst}
+use Rattle.std.proofs.Common.{◌≤◌, ◌+◌, ◌*◌, [], ◌++◌, ◌<◌, take, length, arith, length-append, length-take}
 use Rattle.std.proofs.lemmas.Result.{err_from_is_err_and}
 use Rattle.std.proofs.KnownBytes.{Consumes-nil, Consumes-trans, Consumes-kept, Consumes-whole}
-use Rattle.std.specs.Io.KnownBytes.{Consumes, IsAtEnd}
-use Rattle.raft_cluster.specs.Script.Run.{WritesText, StopsIn}
+use Rattle.raft_cluster.specs.Script.Run.{StopsIn}
 use Rattle.raft_cluster.proofs.ReadingLemmas.{on_ok, if_err}
 use Rattle.raft_cluster.proofs.RunLemmas.{nothing_taken, all_written, stops_at_the_end, stops_in_feed, stops_by_fault, read_nothing, takes_more}
 use Rattle.raft_cluster.proofs.script.run.read_all.Goals as goal
@@ -40,17 +39,20 @@ returns-in_err-feed-in-Ok-clause-err g c =
     let (taken, consumed, few, written) = c.loop.invariant in
     let p = err_from_is_err_and c.from_residual.result c.from_residual.ensures.1 in
     rw (p.1, p.2)
-      (stops_in_feed _ _ _ _ _ taken (take c.in-Ok.n c.read.new.buf) c.loop.reading c.in_err-feed-in-Ok.field-0.0 (Consumes-trans _ _ _ taken (take c.in-Ok.n c.read.new.buf) consumed c.in-Ok.ensures.bytes.0) written c.in_err-feed-in-Ok.ensures.err)
+    (stops_in_feed _ _ _ _ _ taken (take c.in-Ok.n c.read.new.buf) c.loop.reading c.in_err-feed-in-Ok.field-0.0 (Consumes-trans _ _ _ taken (take c.in-Ok.n c.read.new.buf) consumed c.in-Ok.ensures.bytes.0) written c.in_err-feed-in-Ok.ensures.err)
 
 pub loop-preserved : goal.loop-preserved
 loop-preserved g c =
     let (taken, consumed, few, written) = c.loop.invariant in
     elim c.match-read.branch [
-      in-Ok+in_ok-feed-in-Ok w ↦
-        let piece = take w.in-Ok.n c.read.new.buf in
-        let short : length (taken ++ piece) ≤ 65536 * (c.loop.counter + 1) = simp (length-append, length-take) (omega arith) in
-        (taken ++ piece, Consumes-trans _ _ _ taken piece consumed w.in-Ok.ensures.bytes.0, short,
-          rw (w.reading-is, w.writer-is) (takes_more _ _ _ taken piece c.loop.reading w.feed.new.self written w.in_ok-feed-in-Ok.ensures.ok))
-    | in-Err+else-ne w ↦
-        (taken, Consumes-kept _ _ _ taken consumed w.in-Err.ensures.bytes, omega arith, rw (w.reading-is, w.writer-is) written)
+      | in-Ok+in_ok-feed-in-Ok w ↦
+          let piece = take w.in-Ok.n c.read.new.buf in
+          let short : length (taken ++ piece) ≤ 65536 * (c.loop.counter + 1) = simp (length-append, length-take) (omega arith) in (
+            taken ++ piece,
+            Consumes-trans _ _ _ taken piece consumed w.in-Ok.ensures.bytes.0,
+            short,
+            rw (w.reading-is, w.writer-is) (takes_more _ _ _ taken piece c.loop.reading w.feed.new.self written w.in_ok-feed-in-Ok.ensures.ok),
+          )
+      | in-Err+else-ne w ↦
+          (taken, Consumes-kept _ _ _ taken consumed w.in-Err.ensures.bytes, omega arith, rw (w.reading-is, w.writer-is) written)
     ]

@@ -1,4 +1,3 @@
-use Rattle.std.proofs.Common.{rules}
 use Rattle.raft_cluster.proofs.RunLemmas.{answers}
 use Rattle.raft_cluster.proofs.script.run.run_script.Goals as goal
 

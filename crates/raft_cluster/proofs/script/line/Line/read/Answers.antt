@@ -9,7 +9,7 @@ returns-then-bytes-gt-LONGEST_LINE c = sym (line_too_long c.args.bytes.now c.if-
 pub returns-in-Ok : goal.returns-in-Ok
 returns-in-Ok c =
     c.line_in.ensures ∙ (ap said_by c.in-Ok.ensures.cases.0
-      ∙ sym (line_text c.args.bytes.now c.if-bytes-gt-LONGEST_LINE.false c.in-Ok.ensures.cases.1))
+    ∙ sym (line_text c.args.bytes.now c.if-bytes-gt-LONGEST_LINE.false c.in-Ok.ensures.cases.1))
 
 pub returns-in-Err : goal.returns-in-Err
 returns-in-Err c = sym (line_no_text c.args.bytes.now c.in-Err.ensures.cases.0)

@@ -1,4 +1,4 @@
-use Rattle.std.proofs.Common.{rules, ◌≡◌, ◌<◌, ◌+◌, ◌++◌, ◌∷◌, [], length, arith}
+use Rattle.std.proofs.Common.{rules, ◌<◌, ◌+◌, ◌++◌, ◌∷◌, [], length, arith}
 use Rattle.std.proofs.lemmas.Grind.{common_steps}
 use Rattle.raft_cluster.specs.Script.Output.{RefusesLine}
 use Rattle.raft_cluster.proofs.ReadingLemmas.{long_stops}

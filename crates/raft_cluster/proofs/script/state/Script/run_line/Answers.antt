@@ -1,4 +1,4 @@
-use Rattle.std.proofs.Common.{rules, ◌≡◌, None, Some, sym, ◌∙◌}
+use Rattle.std.proofs.Common.{rules, ◌≡◌, None, Some}
 use Rattle.raft_cluster.specs.Script.Line.{line_of}
 use Rattle.raft_cluster.proofs.ScriptStepLemmas.{step_of_line, step_of_no_line}
 use Rattle.raft_cluster.proofs.script.state.Script.run_line.Goals as goal
