@@ -1,13 +1,11 @@
 -- A history that got one event more.
-use Rattle.std.proofs.Common.{◌≡◌, ℕ, List, [], ◌∷◌, ◌++◌, append_assoc, append-nil, ◌+◌, ◌<◌, length, get_or, take, Option, Some, None, refl, ap, ◌∙◌, sym, subst}
+use Rattle.std.proofs.Common.{◌≡◌, ℕ, List, [], ◌∷◌, ◌++◌, append_assoc, append-nil, ◌+◌, ◌<◌, length, get_or, take, Option, None, refl, ap, ◌∙◌, sym, subst}
 use Rattle.std.proofs.lemmas.List.{take_more}
 use Rattle.raft_node.specs.Machine.{MachineRules}
 use Rattle.raft_node.specs.Fold.{GroupEntry}
 use Rattle.raft_cluster.specs.declared.event.ClusterEvent.{ClusterEvent}
-use Rattle.raft_cluster.specs.declared.event.EventOutcome.{EventOutcome}
 use Rattle.raft_cluster.specs.declared.event.Recorded.{Recorded}
 use Rattle.raft_cluster.specs.Event.{group_of}
-use Rattle.raft_cluster.specs.Group.{list_in}
 use Rattle.raft_cluster.specs.GroupStep.{list_after, outcome_of}
 use Rattle.raft_cluster.specs.History.{events_of, list_from, list_of, outcome_after, ReplaysAfter, Replays}
 use Rattle.raft_cluster.specs.Cluster.{IsKept, recorded_after, history_after}
@@ -28,26 +26,27 @@ pub replays_more : (rules : MachineRules) (own : ℕ) (before : List ClusterEven
     → ReplaysAfter rules own before (history ++ r ∷ [])
 replays_more rules own before [] r replayed answered =
     (answered ∙ ap (λ (es : List ClusterEvent). outcome_after rules own es r.event) (append-nil before), tt)
-replays_more rules own before (q ∷ qs) r replayed answered =
-    (replayed.0,
-      replays_more rules own (before ++ q.event ∷ []) qs r replayed.1
-        (answered ∙ ap (λ (es : List ClusterEvent). outcome_after rules own es r.event) (sym (append_assoc before (q.event ∷ []) (events_of qs)))))
+replays_more rules own before (q ∷ qs) r replayed answered = (
+  replayed.0,
+  replays_more rules own (before ++ q.event ∷ []) qs r replayed.1
+      (answered ∙ ap (λ (es : List ClusterEvent). outcome_after rules own es r.event) (sym (append_assoc before (q.event ∷ []) (events_of qs)))),
+)
 
 -- the cluster keeps its history
 pub kept_more : (rules : MachineRules) (old new : NodeValue) (history items : List Recorded) (r : Recorded)
     → IsKept rules old history → IsNodeStep rules r.event old r.outcome new → items ≡ history ++ r ∷ [] → IsKept rules new items
 kept_more rules old new history items r kept step more =
     subst (λ (h : List Recorded). IsKept rules new h) (sym more)
-      (record {
-        lists = λ group.
+    (record {
+      lists = λ group.
           step.lists group ∙ ap (λ l. list_after old.id group l r.event) (kept.lists group)
           ∙ sym (list_from-append old.id group None (events_of history) r.event)
           ∙ ap (λ (es : List ClusterEvent). list_of old.id group es) (sym (events_of-append history r))
           ∙ ap (λ n. list_of n group (events_of (history ++ r ∷ []))) (sym step.same_id);
-        replayed =
+      replayed =
           subst (λ n. Replays rules n (history ++ r ∷ [])) (sym step.same_id)
-            (replays_more rules old.id [] history r kept.replayed (step.answered ∙ ap (λ l. outcome_of rules old.id l r.event) (kept.lists (group_of r.event))));
-      })
+          (replays_more rules old.id [] history r kept.replayed (step.answered ∙ ap (λ l. outcome_of rules old.id l r.event) (kept.lists (group_of r.event))));
+    })
 
 pub history_after-append : (rules : MachineRules) (own : ℕ) (history : List Recorded) (events : List ClusterEvent) (e : ClusterEvent)
     → history_after rules own history (events ++ e ∷ [])
@@ -62,8 +61,8 @@ pub run_more : (rules : MachineRules) (own mine : ℕ) (start now next : List Re
     → next ≡ now ++ recorded_after rules mine now e ∷ [] → next ≡ history_after rules own start (take (i + 1) events)
 run_more rules own mine start now next events i e so_far same within here more =
     let longer : take (i + 1) events ≡ take i events ++ e ∷ [] =
-        take_more events i e within ∙ ap (λ x. take i events ++ x ∷ []) (sym here) in
+    take_more events i e within ∙ ap (λ x. take i events ++ x ∷ []) (sym here) in
     more ∙ ap (λ n. now ++ recorded_after rules n now e ∷ []) same
-      ∙ ap (λ (h : List Recorded). h ++ recorded_after rules own h e ∷ []) so_far
-      ∙ sym (history_after-append rules own start (take i events) e)
-      ∙ ap (λ (es : List ClusterEvent). history_after rules own start es) (sym longer)
+    ∙ ap (λ (h : List Recorded). h ++ recorded_after rules own h e ∷ []) so_far
+    ∙ sym (history_after-append rules own start (take i events) e)
+    ∙ ap (λ (es : List ClusterEvent). history_after rules own start es) (sym longer)

@@ -1,11 +1,11 @@
 -- The laws of histories that replay.
-use Rattle.std.proofs.Common.{◌≡◌, ℕ, zero, suc, ◌+◌, ◌<◌, ◌==◌, ◌⊎◌, Bool, true, false, List, [], ◌∷◌, ◌++◌, length, length-append, take, slice_get, append_assoc, append-nil, Option, Some, None, refl, ap, ◌∙◌, sym, subst, inl, inr, arith}
+use Rattle.std.proofs.Common.{◌≡◌, ℕ, zero, suc, ◌<◌, ◌==◌, ◌⊎◌, Bool, true, false, List, [], ◌∷◌, ◌++◌, length, length-append, take, slice_get, append_assoc, append-nil, Option, Some, None, refl, ap, ◌∙◌, sym, subst, inl, inr, arith}
 use Rattle.std.proofs.lemmas.Bool.{eqb-true, eqb-false, eq-eqb}
 use Rattle.raft_state.specs.declared.membership.Membership.{Membership as RaftMembership}
 use Rattle.raft_state.specs.declared.entry.EntryPayload.TheVariants.{Blank, Normal, Membership}
 use Rattle.raft_state.specs.declared.command.Command.{Command}
 use Rattle.raft_node.specs.Machine.{MachineRules}
-use Rattle.raft_node.specs.Fold.{GroupEntry, GroupPayload, fold_of, answer_at, answer_in}
+use Rattle.raft_node.specs.Fold.{GroupEntry, GroupPayload, fold_of, answer_in}
 use Rattle.raft_cluster.specs.declared.event.ClusterEvent.{ClusterEvent}
 use Rattle.raft_cluster.specs.declared.event.ClusterEvent.TheVariants.{AddGroup, Initialize, Propose}
 use Rattle.raft_cluster.specs.declared.event.EventOutcome.{EventOutcome}
@@ -16,8 +16,8 @@ use Rattle.raft_cluster.specs.Event.{group_of}
 use Rattle.raft_cluster.specs.GroupStep.{entry_at, refusal_of, entries_of, list_taken, list_after, list_where, unless_refused, outcome_of, outcome_unless, told_by, told_for, set_up_list, with_command}
 use Rattle.raft_cluster.specs.History.{events_of, list_from, list_of, outcome_after, ReplaysAfter, Replays}
 use Rattle.raft_cluster.specs.Cluster.{group_list}
-use Rattle.raft_cluster.specs.Laws.{HasPayload, IsTold, AreTold, ToldStand, IsPayloadAt, PlacesRise, commands_with, commands_in, command_if, taken_with, taken_commands, IsRefusal, RefusedChangeNothing}
-use Rattle.raft_cluster.proofs.HistoryLemmas.{events_of-append, list_from-append}
+use Rattle.raft_cluster.specs.Laws.{IsTold, AreTold, ToldStand, IsPayloadAt, PlacesRise, commands_with, commands_in, command_if, taken_with, taken_commands, IsRefusal, RefusedChangeNothing}
+use Rattle.raft_cluster.proofs.HistoryLemmas.{list_from-append}
 use Rattle.raft_cluster.proofs.StepLemmas.{refusal_is, done_is_taken, refusal_has_reason, after_either, added_new, set_up_empty, command_taken}
 
 -- what a group's list has of its own: each entry at its place, and no set-up half done
@@ -64,8 +64,10 @@ at_end (z ∷ zs) x entry (suc place) e = at (at_end zs x entry place e)
 
 shaped_command : (own : ℕ) (entries : List GroupEntry) (command : Command) → IsShaped entries → 1 < length entries → IsShaped (with_command own entries command)
 shaped_command own entries command shaped long =
-    record { places = λ place entry e. at place entry (at_end entries (entry_at 1 own (length entries) (Normal command)) entry place e);
-      whole = inr (omega (arith, length-append entries (entry_at 1 own (length entries) (Normal command) ∷ []))) }
+    record {
+      places = λ place entry e. at place entry (at_end entries (entry_at 1 own (length entries) (Normal command)) entry place e);
+      whole = inr (omega (arith, length-append entries (entry_at 1 own (length entries) (Normal command) ∷ [])));
+    }
   where
     at : (place : ℕ) (entry : GroupEntry)
         → (slice_get entries place ≡ Some entry) ⊎ ((place ≡ length entries) × (entry_at 1 own (length entries) (Normal command) ≡ entry))
@@ -73,7 +75,7 @@ shaped_command own entries command shaped long =
     at place entry (inl old) = shaped.places place entry old
     at place entry (inr new) =
         subst (λ (x : GroupEntry). (x.log_id.index ≡ place) × IsPayloadAt place x.payload) new.1
-          (sym new.0, omega (arith, new.0, long))
+        (sym new.0, omega (arith, new.0, long))
 
 long_if : (entries : List GroupEntry) → IsShaped entries → (length entries == 0) ≡ false → 1 < length entries
 long_if entries shaped some = at shaped.whole
@@ -90,7 +92,7 @@ shaped_taken own list (Propose node group command token now) shaped taken =
     let was = command_taken own node group token now command list taken in
     let whole : IsShaped was.0 = subst (λ l. IsShaped (entries_of l)) was.1 shaped in
     subst (λ l. IsShaped (with_command own (entries_of l) command)) (sym was.1)
-      (shaped_command own was.0 command whole (long_if was.0 whole was.2))
+    (shaped_command own was.0 command whole (long_if was.0 whole was.2))
 
 shaped_after : (own group : ℕ) (list : Option (List GroupEntry)) (event : ClusterEvent) → IsShaped (entries_of list) → IsShaped (entries_of (list_after own group list event))
 shaped_after own group list event shaped =
@@ -118,7 +120,7 @@ grows_taken own list (AddGroup node group) taken =
     subst (λ l. GrowsTo (entries_of l) []) (sym (added_new own node group list taken)) (grows_not [])
 grows_taken own list (Initialize node group m now) taken =
     subst (λ l. GrowsTo (entries_of l) (set_up_list own m)) (sym (set_up_empty own node group now m list taken))
-      (record { more = set_up_list own m; is = refl })
+    (record { more = set_up_list own m; is = refl })
 grows_taken own list (Propose node group command token now) taken =
     record { more = entry_at 1 own (length (entries_of list)) (Normal command) ∷ []; is = refl }
 
@@ -134,7 +136,7 @@ pub grows_from : (own group : ℕ) (list : Option (List GroupEntry)) (events : L
 grows_from own group list [] = grows_not (entries_of list)
 grows_from own group list (e ∷ es) =
     grows_on (entries_of list) (entries_of (list_after own group list e)) (entries_of (list_from own group (list_after own group list e) es))
-      (grows_after own group list e) (grows_from own group (list_after own group list e) es)
+    (grows_after own group list e) (grows_from own group (list_after own group list e) es)
 
 -- a history around the event of a number
 pub record SplitAt (history : List Recorded) (number : ℕ) (r : Recorded) : Type 0 where
@@ -155,7 +157,10 @@ split_at (q ∷ qs) zero r e =
 split_at (q ∷ qs) (suc n) r e =
     let rest = split_at qs n r e in
     record {
-      before = q ∷ rest.before; after = rest.after; whole = ap (λ x. q ∷ x) rest.whole; front = ap (λ x. q ∷ x) rest.front;
+      before = q ∷ rest.before;
+      after = rest.after;
+      whole = ap (λ x. q ∷ x) rest.whole;
+      front = ap (λ x. q ∷ x) rest.front;
       through = ap (λ x. q ∷ x) rest.through;
     }
 
@@ -166,7 +171,7 @@ replayed_at rules own start [] after r replayed =
     replayed.0 ∙ ap (λ (es : List ClusterEvent). outcome_after rules own es r.event) (sym (append-nil start))
 replayed_at rules own start (q ∷ qs) after r replayed =
     replayed_at rules own (start ++ q.event ∷ []) qs after r replayed.1
-      ∙ ap (λ (es : List ClusterEvent). outcome_after rules own es r.event) (append_assoc start (q.event ∷ []) (events_of qs))
+    ∙ ap (λ (es : List ClusterEvent). outcome_after rules own es r.event) (append_assoc start (q.event ∷ []) (events_of qs))
 
 list_from-split : (own group : ℕ) (list : Option (List GroupEntry)) (before after : List Recorded) (r : Recorded)
     → list_from own group list (events_of (before ++ r ∷ after))
@@ -179,21 +184,21 @@ pub refused_change_nothing : (rules : MachineRules) (own : ℕ) (history : List 
 refused_change_nothing rules own history replayed number r here refused group =
     let split = split_at history number r here in
     let answered : r.outcome ≡ outcome_after rules own (events_of split.before) r.event =
-        replayed_at rules own [] split.before split.after r (subst (λ (h : List Recorded). Replays rules own h) split.whole replayed) in
+    replayed_at rules own [] split.before split.after r (subst (λ (h : List Recorded). Replays rules own h) split.whole replayed) in
     let reason = refusal_has_reason rules own (list_of own (group_of r.event) (events_of split.before)) r.event (subst IsRefusal answered refused) in
     let list : Option (List GroupEntry) = list_of own group (events_of split.before) in
     let kept : list_after own group list r.event ≡ list =
-        after_either (λ l. l ≡ list) own group list r.event refl
-          (λ same taken. absurd (both group (eqb-true (group_of r.event) group same) taken reason.0 reason.1)) in
+    after_either (λ l. l ≡ list) own group list r.event refl
+    (λ same taken. absurd (both group (eqb-true (group_of r.event) group same) taken reason.0 reason.1)) in
     ap (λ (h : List Recorded). group_list own group h) split.through
-      ∙ ap entries_of (list_from-split own group None split.before [] r ∙ kept)
-      ∙ ap (λ (h : List Recorded). group_list own group h) (sym split.front)
+    ∙ ap entries_of (list_from-split own group None split.before [] r ∙ kept)
+    ∙ ap (λ (h : List Recorded). group_list own group h) (sym split.front)
   where
     both : (g : ℕ) → group_of r.event ≡ g → refusal_of own (list_of own g (events_of (split_at history number r here).before)) r.event ≡ None
         → (why : EventOutcome) → refusal_of own (list_of own (group_of r.event) (events_of (split_at history number r here).before)) r.event ≡ Some why → ⊥
     both g same taken why refused_too =
         let at_g : refusal_of own (list_of own g (events_of (split_at history number r here).before)) r.event ≡ Some why =
-            subst (λ n. refusal_of own (list_of own n (events_of (split_at history number r here).before)) r.event ≡ Some why) same refused_too in
+        subst (λ n. refusal_of own (list_of own n (events_of (split_at history number r here).before)) r.event ≡ Some why) same refused_too in
         let one : None ≡ Some why = sym taken ∙ at_g in cc
 
 -- the commands of two lists, one behind the other
@@ -248,7 +253,7 @@ commands_taken own group list (Initialize node h m now) told same taken =
     subst (λ l. [] ≡ commands_in (entries_of l) ++ []) (sym (set_up_empty own node h now m list taken)) refl
 commands_taken own group list (Propose node h command token now) told same taken =
     commands_in-append (entries_of list) (entry_at 1 own (length (entries_of list)) (Normal command) ∷ [])
-      ∙ ap (λ b. commands_in (entries_of list) ++ command_if b command []) (sym same)
+    ∙ ap (λ b. commands_in (entries_of list) ++ command_if b command []) (sym same)
 
 commands_after : (rules : MachineRules) (own group : ℕ) (before : List ClusterEvent) (event : ClusterEvent) (outcome : EventOutcome)
     → outcome ≡ outcome_after rules own before event
@@ -264,34 +269,34 @@ commands_after rules own group before event outcome answered = at (group_of even
         → commands_in (entries_of (unless_refused o list (list_taken own list event))) ≡ commands_in (entries_of list) ++ taken_with group event outcome []
     unless None is same out =
         commands_taken own group list event (told_by rules list event) same is
-          ∙ ap (λ (o : EventOutcome). commands_in (entries_of list) ++ taken_with group event o []) (sym out)
+        ∙ ap (λ (o : EventOutcome). commands_in (entries_of list) ++ taken_with group event o []) (sym out)
     unless (Some why) is same out =
         sym (append-nil (commands_in (entries_of list)))
-          ∙ ap (λ (cs : List Command). commands_in (entries_of list) ++ cs)
-            (sym (taken_with-refused group event outcome (subst IsRefusal (sym out) (refusal_is own list event why is))))
+        ∙ ap (λ (cs : List Command). commands_in (entries_of list) ++ cs)
+        (sym (taken_with-refused group event outcome (subst IsRefusal (sym out) (refusal_is own list event why is))))
 
     at : (b : Bool) → (group_of event == group) ≡ b
         → commands_in (entries_of (list_where b own list event)) ≡ commands_in (entries_of list) ++ taken_with group event outcome []
     at true same =
         let here : outcome ≡ outcome_of rules own list event =
-            answered ∙ ap (λ n. outcome_of rules own (list_of own n before) event) (eqb-true (group_of event) group same) in
+        answered ∙ ap (λ n. outcome_of rules own (list_of own n before) event) (eqb-true (group_of event) group same) in
         unless (refusal_of own list event) refl same here
     at false other =
         sym (append-nil (commands_in (entries_of list)))
-          ∙ ap (λ (cs : List Command). commands_in (entries_of list) ++ cs) (sym (taken_with-other group event outcome other))
+        ∙ ap (λ (cs : List Command). commands_in (entries_of list) ++ cs) (sym (taken_with-other group event outcome other))
 
 commands_from : (rules : MachineRules) (own group : ℕ) (before : List ClusterEvent) (history : List Recorded) → ReplaysAfter rules own before history
     → commands_in (entries_of (list_of own group (before ++ events_of history))) ≡ commands_in (entries_of (list_of own group before)) ++ taken_commands group history
 commands_from rules own group before [] replayed =
     ap (λ (es : List ClusterEvent). commands_in (entries_of (list_of own group es))) (append-nil before)
-      ∙ sym (append-nil (commands_in (entries_of (list_of own group before))))
+    ∙ sym (append-nil (commands_in (entries_of (list_of own group before))))
 commands_from rules own group before (r ∷ rs) replayed =
     ap (λ (es : List ClusterEvent). commands_in (entries_of (list_of own group es))) (sym (append_assoc before (r.event ∷ []) (events_of rs)))
-      ∙ commands_from rules own group (before ++ r.event ∷ []) rs replayed.1
-      ∙ ap (λ l. commands_in (entries_of l) ++ taken_commands group rs) (list_from-append own group None before r.event)
-      ∙ ap (λ (cs : List Command). cs ++ taken_commands group rs) (commands_after rules own group before r.event r.outcome replayed.0)
-      ∙ append_assoc (commands_in (entries_of (list_of own group before))) (taken_with group r.event r.outcome []) (taken_commands group rs)
-      ∙ ap (λ (cs : List Command). commands_in (entries_of (list_of own group before)) ++ cs) (sym (taken_with-append group r.event r.outcome (taken_commands group rs)))
+    ∙ commands_from rules own group (before ++ r.event ∷ []) rs replayed.1
+    ∙ ap (λ l. commands_in (entries_of l) ++ taken_commands group rs) (list_from-append own group None before r.event)
+    ∙ ap (λ (cs : List Command). cs ++ taken_commands group rs) (commands_after rules own group before r.event r.outcome replayed.0)
+    ∙ append_assoc (commands_in (entries_of (list_of own group before))) (taken_with group r.event r.outcome []) (taken_commands group rs)
+    ∙ ap (λ (cs : List Command). commands_in (entries_of (list_of own group before)) ++ cs) (sym (taken_with-append group r.event r.outcome (taken_commands group rs)))
 
 -- the commands of each group's list are those that were proposed to it and not refused, in order
 pub commands_are_taken : (rules : MachineRules) (own group : ℕ) (history : List Recorded) → Replays rules own history
@@ -314,14 +319,14 @@ told_stands rules own entries final command token grows =
     let entry : GroupEntry = entry_at 1 own (length entries) (Normal command) in
     let whole : final ≡ entries ++ entry ∷ grows.more = grows.is ∙ append_assoc entries (entry ∷ []) grows.more in
     let here : slice_get final (length entries) ≡ Some entry =
-        ap (λ (xs : List GroupEntry). slice_get xs (length entries)) whole ∙ get_grown entries grows.more entry in
+    ap (λ (xs : List GroupEntry). slice_get xs (length entries)) whole ∙ get_grown entries grows.more entry in
     let front : take (length entries) final ≡ entries =
-        ap (λ (xs : List GroupEntry). take (length entries) xs) whole ∙ take_grown entries (entry ∷ grows.more) in
+    ap (λ (xs : List GroupEntry). take (length entries) xs) whole ∙ take_grown entries (entry ∷ grows.more) in
     record {
       same_token = refl;
       stands = (entry, here, refl);
       answered =
-        sym (ap (λ (xs : List GroupEntry). answer_in rules (fold_of rules xs) (length entries) (slice_get final (length entries))) front
+          sym (ap (λ (xs : List GroupEntry). answer_in rules (fold_of rules xs) (length entries) (slice_get final (length entries))) front
           ∙ ap (λ (o : Option GroupEntry). answer_in rules (fold_of rules entries) (length entries) o) here);
     }
 
@@ -332,12 +337,12 @@ told_there rules own node group command token now told list after done =
     let e : ClusterEvent = Propose node group command token now in
     let taken = done_is_taken rules own list e told done in
     let grown : list_after own group list e ≡ list_taken own list e =
-        rw (eq-eqb group group refl) (ap (λ o. unless_refused o list (list_taken own list e)) taken.0) in
+    rw (eq-eqb group group refl) (ap (λ o. unless_refused o list (list_taken own list e)) taken.0) in
     let grows : GrowsTo (with_command own (entries_of list) command) (entries_of (list_from own group (list_after own group list e) after)) =
-        subst (λ l. GrowsTo (entries_of l) (entries_of (list_from own group (list_after own group list e) after))) grown
-          (grows_from own group (list_after own group list e) after) in
+    subst (λ l. GrowsTo (entries_of l) (entries_of (list_from own group (list_after own group list e) after))) grown
+    (grows_from own group (list_after own group list e) after) in
     subst (λ (ts : List Told). (length ts ≡ 1) × AreTold rules (entries_of (list_from own group (list_after own group list e) after)) command token ts) (sym taken.1)
-      (refl, (told_stands rules own (entries_of list) (entries_of (list_from own group (list_after own group list e) after)) command token grows, tt))
+    (refl, (told_stands rules own (entries_of list) (entries_of (list_from own group (list_after own group list e) after)) command token grows, tt))
 
 -- what is told stands, with the fold's answer
 pub told_stand : (rules : MachineRules) (own : ℕ) (history : List Recorded) → Replays rules own history → ToldStand rules own history
@@ -345,9 +350,9 @@ told_stand rules own history replayed number node group command token now told h
     let r : Recorded = record { event = Propose node group command token now; outcome = Done told } in
     let split = split_at history number r here in
     let answered : Done told ≡ outcome_of rules own (list_of own group (events_of split.before)) (Propose node group command token now) =
-        replayed_at rules own [] split.before split.after r (subst (λ (h : List Recorded). Replays rules own h) split.whole replayed) in
+    replayed_at rules own [] split.before split.after r (subst (λ (h : List Recorded). Replays rules own h) split.whole replayed) in
     let list : entries_of (list_from own group (list_after own group (list_of own group (events_of split.before)) (Propose node group command token now)) (events_of split.after))
-        ≡ group_list own group history =
-        sym (ap (λ (h : List Recorded). group_list own group h) split.whole ∙ ap entries_of (list_from-split own group None split.before split.after r)) in
+    ≡ group_list own group history =
+    sym (ap (λ (h : List Recorded). group_list own group h) split.whole ∙ ap entries_of (list_from-split own group None split.before split.after r)) in
     subst (λ (es : List GroupEntry). (length told ≡ 1) × AreTold rules es command token told) list
-      (told_there rules own node group command token now told (list_of own group (events_of split.before)) (events_of split.after) answered)
+    (told_there rules own node group command token now told (list_of own group (events_of split.before)) (events_of split.after) answered)

@@ -1,5 +1,5 @@
 -- What one event does to the lists of a node.
-use Rattle.std.proofs.Common.{◌≡◌, ℕ, ◌<◌, ◌≤◌, ◌==◌, Bool, true, false, List, [], ◌∷◌, ◌++◌, length, get_or, slice_get, slice_set, position, Option, Some, None, refl, ap, ◌∙◌, sym, subst, arith}
+use Rattle.std.proofs.Common.{◌≡◌, ℕ, ◌≤◌, ◌==◌, Bool, true, false, List, [], ◌∷◌, ◌++◌, length, get_or, slice_get, slice_set, position, Option, Some, None, refl, ap, ◌∙◌, sym, subst, arith}
 use Rattle.std.specs.List.{find, position_or_len}
 use Rattle.std.specs.Option.{option_map, is_some}
 use Rattle.std.proofs.lemmas.Bool.{eqb-true, eq-eqb, ne_eqb, true≢false}
@@ -20,7 +20,7 @@ use Rattle.raft_state.specs.declared.membership.Membership.{Membership}
 use Rattle.raft_state.specs.declared.command.Command.{Command}
 use Rattle.raft_cluster.specs.Event.{node_of, group_of}
 use Rattle.raft_cluster.specs.Group.{GroupValue, list_in}
-use Rattle.raft_cluster.specs.GroupStep.{set_up_refusal, command_refusal, refusal_of, list_taken, list_after, list_where, unless_refused, outcome_unless, told_by, told_for}
+use Rattle.raft_cluster.specs.GroupStep.{set_up_refusal, command_refusal, refusal_of, list_taken, list_where, unless_refused, outcome_unless, told_by, told_for}
 use Rattle.raft_cluster.specs.Node.{NodeValue, IsNodeStep}
 
 -- an event that is refused leaves each list
@@ -37,7 +37,7 @@ refused_step rules e v why refused =
     at k true own =
         let same : group_of e ≡ k = eqb-true (group_of e) k own in
         let for_k : refusal_of v.id (list_in v.groups k) e ≡ Some why =
-            subst (λ n. refusal_of v.id (list_in v.groups n) e ≡ Some why) same refused in
+        subst (λ n. refusal_of v.id (list_in v.groups n) e ≡ Some why) same refused in
         rw own (sym (ap (λ o. unless_refused o (list_in v.groups k) (list_taken v.id (list_in v.groups k) e)) for_k))
     at k false other = rw other refl
 
@@ -58,9 +58,9 @@ taken_step rules e v groups taken here others =
     at k true own =
         let same : group_of e ≡ k = eqb-true (group_of e) k own in
         let for_k : refusal_of v.id (list_in v.groups k) e ≡ None =
-            subst (λ n. refusal_of v.id (list_in v.groups n) e ≡ None) same taken in
+        subst (λ n. refusal_of v.id (list_in v.groups n) e ≡ None) same taken in
         let here_k : list_in groups k ≡ list_taken v.id (list_in v.groups k) e =
-            subst (λ n. list_in groups n ≡ list_taken v.id (list_in v.groups n) e) same here in
+        subst (λ n. list_in groups n ≡ list_taken v.id (list_in v.groups n) e) same here in
         rw own (here_k ∙ sym (ap (λ o. unless_refused o (list_in v.groups k) (list_taken v.id (list_in v.groups k) e)) for_k))
     at k false other = rw other (others k other)
 
@@ -72,7 +72,7 @@ pub list_in-append : (gs : List GroupValue) (g : GroupValue) → find (λ x. x.i
 list_in-append gs g none =
     let is : ℕ → Bool = λ n. n == g.id in
     ap entries_in (find-append (λ x. x.id == g.id) gs (g ∷ []))
-        ∙ (rw (none, eq-eqb g.id g.id refl) refl)
+    ∙ (rw (none, eq-eqb g.id g.id refl) refl)
 
 -- and the others are as before
 pub list_in-append_other : (gs : List GroupValue) (g : GroupValue) (k : ℕ) → (g.id == k) ≡ false → list_in (gs ++ g ∷ []) k ≡ list_in gs k
@@ -90,7 +90,7 @@ pub added_step : (rules : MachineRules) (v : NodeValue) (own group : ℕ) (gs it
 added_step rules v own group gs items g told is new none_v more nothing =
     let none : find (λ x. x.id == group) gs ≡ None = subst (λ (u : NodeValue). find (λ x. x.id == group) u.groups ≡ None) (sym is) none_v in
     subst (λ (u : NodeValue). IsNodeStep rules (AddGroup u.id group) u (Done told) (record { id = own; groups = items })) is
-      (rw (nothing, more, new) (step none))
+    (rw (nothing, more, new) (step none))
   where
     new_group : GroupValue
     new_group = record { id = group; entries = [] }
@@ -98,9 +98,9 @@ added_step rules v own group gs items g told is new none_v more nothing =
     step : find (λ x. x.id == group) gs ≡ None → IsNodeStep rules (AddGroup own group) (record { id = own; groups = gs }) (Done []) (record { id = own; groups = gs ++ new_group ∷ [] })
     step none =
         taken_step rules (AddGroup own group) (record { id = own; groups = gs }) (gs ++ new_group ∷ [])
-          (rw (eq-eqb own own refl, none) refl)
-          (list_in-append gs new_group none)
-          (λ k other. list_in-append_other gs new_group k other)
+        (rw (eq-eqb own own refl, none) refl)
+        (list_in-append gs new_group none)
+        (λ k other. list_in-append_other gs new_group k other)
 
 -- what is not there maps to nothing
 pub absent : {X Y : Type 0} (f : X → Y) (o : Option X) (p : Option Y) (b : Bool) → option_map f o ≡ p → b ≡ is_some o → b ≡ false → p ≡ None
@@ -134,7 +134,7 @@ list_in-set_other group gs i g k found same other =
     let at = position-Some (is_of group) gs i g found in
     let new : (g.id == k) ≡ false = subst (λ n. (n == k) ≡ false) (sym (eqb-true g.id group same)) other in
     let old : ((get_or gs i g).id == k) ≡ false =
-        subst (λ n. (n == k) ≡ false) (sym (eqb-true (get_or gs i g).id group at.1)) other in
+    subst (λ n. (n == k) ≡ false) (sym (eqb-true (get_or gs i g).id group at.1)) other in
     ap entries_in (find_past (is_of k) gs i g g old new)
 
 -- an event that is taken changes the list of the group that stands there
@@ -146,13 +146,13 @@ pub set_step : (rules : MachineRules) (e : ClusterEvent) (v : NodeValue) (i : �
 set_step rules e v i old new groups told found here same taken list set told_is =
     let old_list : list_in v.groups (group_of e) ≡ Some old.entries = list_in-position (group_of e) v.groups i old found here in
     let step : IsNodeStep rules e v (Done (told_by rules (list_in v.groups (group_of e)) e)) (record { id = v.id; groups = slice_set v.groups i new }) =
-        taken_step rules e v (slice_set v.groups i new)
-          (subst (λ l. refusal_of v.id l e ≡ None) (sym old_list) taken)
-          (list_in-set (group_of e) v.groups i new found same ∙ sym list ∙ ap (λ l. list_taken v.id l e) (sym old_list))
-          (λ k other. list_in-set_other (group_of e) v.groups i new k found same other) in
+    taken_step rules e v (slice_set v.groups i new)
+    (subst (λ l. refusal_of v.id l e ≡ None) (sym old_list) taken)
+    (list_in-set (group_of e) v.groups i new found same ∙ sym list ∙ ap (λ l. list_taken v.id l e) (sym old_list))
+    (λ k other. list_in-set_other (group_of e) v.groups i new k found same other) in
     subst (λ (gs : List GroupValue). IsNodeStep rules e v (Done told) (record { id = v.id; groups = gs })) (sym set)
-      (subst (λ (t : List Told). IsNodeStep rules e v (Done t) (record { id = v.id; groups = slice_set v.groups i new }))
-        (ap (λ l. told_by rules l e) old_list ∙ sym told_is) step)
+    (subst (λ (t : List Told). IsNodeStep rules e v (Done t) (record { id = v.id; groups = slice_set v.groups i new }))
+    (ap (λ l. told_by rules l e) old_list ∙ sym told_is) step)
 
 -- a group that isn't found has no list
 pub list_in-absent : (group : ℕ) (gs : List GroupValue) → None ≡ position (is_of group) gs → list_in gs group ≡ None
@@ -165,7 +165,7 @@ pub unknown_step : (rules : MachineRules) (e : ClusterEvent) (v : NodeValue) (wh
     → None ≡ position (is_of (group_of e)) v.groups → refusal_of v.id None e ≡ Some why → IsNodeStep rules e v why v
 unknown_step rules e v why nowhere refused =
     refused_step rules e v why
-      (subst (λ l. refusal_of v.id l e ≡ Some why) (sym (list_in-absent (group_of e) v.groups nowhere)) refused)
+    (subst (λ l. refusal_of v.id l e ≡ Some why) (sym (list_in-absent (group_of e) v.groups nowhere)) refused)
 
 -- the group at a place of the node
 group_at : (v : NodeValue) (own : ℕ) (gs : List GroupValue) (group i : ℕ) (g : GroupValue)
@@ -181,7 +181,7 @@ pub refused_at : (rules : MachineRules) (e : ClusterEvent) (v : NodeValue) (own 
     → refusal_of v.id (Some g.entries) e ≡ Some why → IsNodeStep rules e v why v
 refused_at rules e v own gs i g why is found here refused =
     let list : list_in v.groups (group_of e) ≡ Some g.entries =
-        list_in-position (group_of e) v.groups i g (sym found) (group_at v own gs (group_of e) i g is found here) in
+    list_in-position (group_of e) v.groups i g (sym found) (group_at v own gs (group_of e) i g is found here) in
     refused_step rules e v why (subst (λ l. refusal_of v.id l e ≡ Some why) (sym list) refused)
 
 -- an event that the group at this place takes
@@ -194,19 +194,19 @@ taken_at rules e v own gs i g h new told is found here here_too same taken list 
     let at_h : slice_get v.groups i ≡ Some h = group_at v own gs (group_of e) i h is found here_too in
     let one : Some g ≡ Some h = sym at_g ∙ at_h in
     let taken_h : refusal_of v.id (Some h.entries) e ≡ None =
-        subst (λ (o : Option GroupValue). refusal_of v.id (entries_in o) e ≡ None) one taken in
+    subst (λ (o : Option GroupValue). refusal_of v.id (entries_in o) e ≡ None) one taken in
     let at = position-Some (is_of (group_of e)) v.groups i h (sym found) in
     let own_group : (new.id == group_of e) ≡ true =
-        ap (λ n. n == group_of e) (same ∙ ap (λ (x : GroupValue). x.id) (sym (get_or_from_slice_get v.groups i h h at_h))) ∙ at.1 in
+    ap (λ n. n == group_of e) (same ∙ ap (λ (x : GroupValue). x.id) (sym (get_or_from_slice_get v.groups i h h at_h))) ∙ at.1 in
     subst (λ (u : NodeValue). IsNodeStep rules e v (Done told) (record { id = u.id; groups = slice_set u.groups i new })) (sym is)
-      (set_step rules e v i h new (slice_set v.groups i new) told (sym found) at_h own_group taken_h list refl told_is)
+    (set_step rules e v i h new (slice_set v.groups i new) told (sym found) at_h own_group taken_h list refl told_is)
 
 -- a set-up is refused, or taken, as the group's entries say
 pub set_up_refused : (own other group now : ℕ) (m : Membership ℕ (List ℕ)) (entries lent : List GroupEntry) (r why : Option EventOutcome)
     → own ≡ other → lent ≡ entries → r ≡ set_up_refusal own m (Some lent) → r ≡ why → refusal_of other (Some entries) (Initialize other group m now) ≡ why
 set_up_refused own other group now m entries lent r why same_id same by is =
     rw (eq-eqb other other refl)
-      (ap (λ n. set_up_refusal n m (Some entries)) (sym same_id) ∙ ap (λ (es : List GroupEntry). set_up_refusal own m (Some es)) (sym same) ∙ sym by ∙ is)
+    (ap (λ n. set_up_refusal n m (Some entries)) (sym same_id) ∙ ap (λ (es : List GroupEntry). set_up_refusal own m (Some es)) (sym same) ∙ sym by ∙ is)
 
 -- a command is refused, or taken, as the group's entries say
 pub command_refused : (other group token now : ℕ) (command : Command) (entries lent : List GroupEntry) (r why : Option EventOutcome)

@@ -1,6 +1,5 @@
 -- What one event does to a group's list: it is refused and leaves it, or adds to its end.
-use Rattle.std.proofs.Common.{◌≡◌, ℕ, ◌<◌, ◌==◌, ◌⊎◌, Bool, true, false, not, nat_eq, nat_lt, List, [], ◌∷◌, ◌++◌, length, append-nil, Option, Some, None, refl, ap, ◌∙◌, sym, subst, inl, inr, arith}
-use Rattle.std.specs.List.{list_any}
+use Rattle.std.proofs.Common.{◌≡◌, ℕ, ◌==◌, Bool, true, false, not, nat_eq, nat_lt, List, [], ◌∷◌, length, Option, Some, None, refl, ◌∙◌, sym, subst, arith}
 use Rattle.std.proofs.lemmas.Bool.{ne_eqb, true≢false}
 use Rattle.raft_state.specs.declared.membership.Membership.{Membership}
 use Rattle.raft_state.specs.declared.command.Command.{Command}
@@ -16,7 +15,7 @@ use Rattle.raft_cluster.specs.declared.event.Refusal.TheVariants.{NoNode}
 use Rattle.raft_state.specs.Membership.{is_voter}
 use Rattle.raft_cluster.specs.declared.event.Told.{Told}
 use Rattle.raft_cluster.specs.Event.{node_of, group_of}
-use Rattle.raft_cluster.specs.GroupStep.{names_other, set_up_reasons, command_reasons, refused_if, add_refusal, set_up_refusal, command_refusal, call_refusal, refusal_of, entries_of, list_taken, list_after, list_where, unless_refused, outcome_unless, outcome_of, told_by, set_up_list, with_command}
+use Rattle.raft_cluster.specs.GroupStep.{names_other, set_up_reasons, command_reasons, refused_if, add_refusal, set_up_refusal, command_refusal, call_refusal, refusal_of, list_taken, list_after, list_where, unless_refused, outcome_unless, outcome_of, told_by}
 use Rattle.raft_cluster.specs.Laws.{IsRefusal}
 
 some_is_none : {X : Type 0} (x : X) → Some x ≡ None → ⊥
@@ -122,7 +121,7 @@ set_up_empty own node group now m (Some []) taken = refl
 set_up_empty own node group now m (Some (x ∷ xs)) taken =
     let open_call : set_up_refusal own m (Some (x ∷ xs)) ≡ None = no_reason (not (node == own)) (set_up_refusal own m (Some (x ∷ xs))) taken in
     let none : not (length (x ∷ xs) == 0) ≡ false =
-        set_up_empty_of (membership_fault_of m) (not (is_voter nat_eq m.configs own)) (not (length (x ∷ xs) == 0)) (names_other own m) open_call in
+    set_up_empty_of (membership_fault_of m) (not (is_voter nat_eq m.configs own)) (not (length (x ∷ xs) == 0)) (names_other own m) open_call in
     absurd (true≢false (sym (not_empty x xs) ∙ none))
   where
     not_empty : (y : GroupEntry) (ys : List GroupEntry) → not (length (y ∷ ys) == 0) ≡ true
@@ -139,7 +138,9 @@ pub command_taken : (own node group token now : ℕ) (command : Command) (list :
     → (entries : List GroupEntry) × (list ≡ Some entries) × ((length entries == 0) ≡ false)
 command_taken own node group token now command None taken =
     absurd (some_is_none _ (no_reason (not (node == own)) (command_refusal command None) taken))
-command_taken own node group token now command (Some entries) taken =
-    (entries, refl,
-      command_taken_of (nat_lt 65536 (length command.bytes)) (length entries == 0)
-        (no_reason (not (node == own)) (command_refusal command (Some entries)) taken))
+command_taken own node group token now command (Some entries) taken = (
+  entries,
+  refl,
+  command_taken_of (nat_lt 65536 (length command.bytes)) (length entries == 0)
+      (no_reason (not (node == own)) (command_refusal command (Some entries)) taken),
+)

@@ -1,13 +1,12 @@
 -- What an event does to a group's list at the one node, and what is answered.
 -- A group that isn't there has no list.
-use Rattle.std.specs.Prelude.{ℕ, Bool, ◌+◌, ◌==◌, ◌&&◌, not, nat_eq, nat_lt, List, [], ◌∷◌, ◌++◌, length, Option, Some, None, true, false}
+use Rattle.std.specs.Prelude.{ℕ, Bool, ◌==◌, not, nat_eq, nat_lt, List, [], ◌∷◌, ◌++◌, length, Option, Some, None, true, false}
 use Rattle.std.specs.List.{list_any}
 use Rattle.raft_state.specs.declared.entry.EntryPayload.TheVariants.{Blank, Normal, Membership}
 use Rattle.raft_state.specs.declared.command.Command.{Command}
 use Rattle.raft_state.specs.declared.membership.Membership.{Membership as RaftMembership}
 use Rattle.raft_state.specs.LogId.{log_id_of}
 use Rattle.raft_state.specs.Membership.{is_voter}
-use Rattle.raft_node.specs.declared.fault.Fault.{Fault}
 use Rattle.raft_node.specs.declared.fault.Fault.TheVariants.{NotLeader, UnknownGroup, GroupExists, NotAllowed, NotVoter, Membership as BadMembership, CommandTooLong}
 use Rattle.raft_node.specs.declared.fault.MembershipFault.{MembershipFault}
 use Rattle.raft_node.specs.Machine.{MachineRules}
@@ -57,21 +56,21 @@ add_refusal None = None
 abbrev pub set_up_reasons : Option MembershipFault → Bool → Bool → Bool → Option EventOutcome
 set_up_reasons why is_no_voter is_set_up is_elsewhere =
     refused_for why
-      (refused_if is_no_voter (Refused_by_node NotVoter)
-        (refused_if is_set_up (Refused_by_node NotAllowed) (refused_if is_elsewhere (Refused OtherNode) None)))
+    (refused_if is_no_voter (Refused_by_node NotVoter)
+    (refused_if is_set_up (Refused_by_node NotAllowed) (refused_if is_elsewhere (Refused OtherNode) None)))
 
 -- the reasons against a command, in their order
 abbrev pub command_reasons : Bool → Bool → Option EventOutcome
 command_reasons is_too_long is_not_set_up =
     refused_if is_too_long (Refused_by_node CommandTooLong)
-      (refused_if is_not_set_up (Refused_by_node (NotLeader None)) None)
+    (refused_if is_not_set_up (Refused_by_node (NotLeader None)) None)
 
 -- why a group isn't set up: first the argument, then this node's part, then the group's state
 abbrev pub set_up_refusal : ℕ → RaftMembership ℕ (List ℕ) → Option (List GroupEntry) → Option EventOutcome
 set_up_refusal own membership None = Some (Refused_by_node UnknownGroup)
 set_up_refusal own membership (Some entries) =
     set_up_reasons (membership_fault_of membership) (not (is_voter nat_eq membership.configs own))
-      (not (length entries == 0)) (names_other own membership)
+    (not (length entries == 0)) (names_other own membership)
 
 -- why a command isn't taken: it is too long, or the group was not set up, so nobody leads it
 abbrev pub command_refusal : Command → Option (List GroupEntry) → Option EventOutcome

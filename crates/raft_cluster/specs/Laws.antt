@@ -1,17 +1,15 @@
 -- What a history that replays promises of each group, in the words of a user.
-use Rattle.std.specs.Prelude.{◌≡◌, ℕ, suc, ◌+◌, ◌<◌, ◌==◌, nat_le, Bool, true, false, List, [], ◌∷◌, ◌++◌, length, slice_get, take, Option, Some, None, if◌then◌else◌, map}
+use Rattle.std.specs.Prelude.{◌≡◌, ℕ, suc, ◌<◌, ◌==◌, Bool, true, false, List, [], ◌∷◌, length, slice_get, take, Some}
 use Rattle.raft_state.specs.declared.entry.EntryPayload.TheVariants.{Blank, Normal, Membership}
 use Rattle.raft_state.specs.declared.command.Command.{Command}
 use Rattle.raft_node.specs.Machine.{MachineRules}
-use Rattle.raft_node.specs.Fold.{GroupEntry, GroupPayload, fold_of, answer_at}
+use Rattle.raft_node.specs.Fold.{GroupEntry, GroupPayload, answer_at}
 use Rattle.raft_cluster.specs.declared.event.ClusterEvent.{ClusterEvent}
 use Rattle.raft_cluster.specs.declared.event.ClusterEvent.TheVariants.{AddGroup, Initialize, Propose}
 use Rattle.raft_cluster.specs.declared.event.EventOutcome.{EventOutcome}
 use Rattle.raft_cluster.specs.declared.event.EventOutcome.TheVariants.{Done, Fault, Refused}
 use Rattle.raft_cluster.specs.declared.event.Recorded.{Recorded}
 use Rattle.raft_cluster.specs.declared.event.Told.{Told}
-use Rattle.raft_cluster.specs.Event.{group_of}
-use Rattle.raft_cluster.specs.History.{events_of}
 use Rattle.raft_cluster.specs.Cluster.{group_list}
 
 -- the entry at this place, if there is one, has this payload

@@ -1,3 +1,4 @@
+pub mod Script
 pub mod Cluster
 pub mod Event
 pub mod Group
