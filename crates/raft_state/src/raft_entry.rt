@@ -47,20 +47,20 @@ pub trait RaftLogId<NID: NodeId> {
     ghost given_id: { (x : Self) (i : Id NID) → id (with_id x i) ≡ i };
 }
 
-/// An entry, as far as Raft makes it (openraft; whoever reads it too asks for `RaftPayload` and
-/// `RaftLogId` beside this bound).
-pub trait RaftEntry<NID: NodeId, N: Node>: Sized {
+/// An entry, as far as Raft makes it (openraft; here the parameter is the type of memberships, and
+/// whoever reads the entry too asks for `RaftPayload` and `RaftLogId` beside this bound).
+pub trait RaftEntry<NID: NodeId, M>: Sized {
     // The entry that asks for nothing.
     ghost blank_at: { Id NID → Self };
     // The entry that asks for a membership.
-    ghost membership_at: { Id NID → Members NID N → Self };
+    ghost membership_at: { Id NID → M → Self };
 
     /// The entry at this log id that asks for nothing.
     fn new_blank(log_id: LogId<NID>) -> Self
         ensures { result ≡ blank_at log_id };
 
     /// The entry at this log id that asks for this membership.
-    fn new_membership(log_id: LogId<NID>, membership: Membership<NID, N>) -> Self
+    fn new_membership(log_id: LogId<NID>, membership: M) -> Self
         ensures { result ≡ membership_at log_id membership };
 }
 
@@ -138,7 +138,7 @@ impl<NID: NodeId, N: Node, D> RaftLogId<NID> for Entry<NID, N, D> {
     ghost given_id = { λ x i. refl };
 }
 
-impl<NID: NodeId, N: Node, D> RaftEntry<NID, N> for Entry<NID, N, D> {
+impl<NID: NodeId, N: Node, D> RaftEntry<NID, Membership<NID, N>> for Entry<NID, N, D> {
     ghost blank_at = { λ i. record { log_id = i; payload = Blank } };
 
     ghost membership_at = { λ i m. record { log_id = i; payload = Asks m } };
