@@ -49,3 +49,6 @@ pub use stored_membership::StoredMembership;
 pub use try_as_ref::TryAsRef;
 pub use vote::{CommittedLeaderId, LeaderId, Vote};
 pub use voter_groups::VoterGroups;
+
+#[cfg(test)]
+mod tests;

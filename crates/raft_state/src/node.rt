@@ -108,6 +108,13 @@ impl BasicNode {
     }
 }
 
+impl Display for BasicNode {
+    fn fmt<W: fmt::Write>(&self, f: &mut fmt::Formatter<W>) -> fmt::Result {
+        let addr = &self.addr;
+        write!(f, "{addr}")
+    }
+}
+
 impl Clone for BasicNode {
     ghost is_clone = { λ x y. y ≡ x };
 
