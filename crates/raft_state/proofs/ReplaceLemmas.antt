@@ -1,10 +1,11 @@
 -- Why replacing all voters is done after two changes.
-use Rattle.std.proofs.Common.{◌≡◌, ℕ, ◌<◌, Bool, true, false, List, [], ◌∷◌, length, refl, sym, ap, ◌∙◌, arith, subst}
+use Rattle.std.proofs.Common.{◌≡◌, ◌<◌, Bool, true, false, List, [], ◌∷◌, length, refl, ap, ◌∙◌, arith}
 use Rattle.std.specs.Prelude.{◌&&◌, ◌||◌, not, ◌==◌, cond, if◌then◌else◌, Option, Some, None}
 use Rattle.std.specs.declared.cmp.Ordering.{Ordering}
 use Rattle.std.specs.declared.cmp.Ordering.TheVariants.{Less, Equal, Greater}
 use Rattle.std.specs.Ordering.{match_ordering}
-use Rattle.std.specs.List.{list_any, list_all, find, filter, fold}
+use Rattle.std.proofs.lemmas.Grind.{common_steps}
+use Rattle.std.specs.List.{list_any, list_all, filter, fold}
 use Rattle.std.specs.Cmp.{IsEquivalence}
 use Rattle.raft_state.specs.Nodes.{has_id, has_node}
 use Rattle.raft_state.specs.Membership.{is_voter, has_empty_group, lesser, first_missing, missing_voter}
@@ -91,15 +92,15 @@ module _ {K N : Type 0} (eq : K → K → Bool) (cmp : K → K → Ordering) (no
   present_if_no_missing_voter [] h = refl
   present_if_no_missing_voter (x ∷ xs) h =
       elim (first_missing eq nodes x) as (λ o. first_missing eq nodes x ≡ o → fold next_least o xs ≡ None → list_all (all_present eq nodes) (x ∷ xs) ≡ true) [
-        | None ↦ λ e k. both (all_present eq nodes x) (list_all (all_present eq nodes) eq nodes xs) (present_if_none_missing eq nodes x e) (present_if_no_missing_voter xs k)
+        | None ↦ λ e k. both (all_present eq nodes x) (list_all (all_present eq nodes) xs) (present_if_none_missing eq nodes x e) (present_if_no_missing_voter xs k)
         | Some a ↦ λ e k. let v = some_stays a xs in cc (v.1, k)
       ] refl h
 
   pub no_missing_voter_if_present : (configs : List (List K)) → list_all (all_present eq nodes) configs ≡ true → missing_voter eq cmp configs nodes ≡ None
   no_missing_voter_if_present [] h = refl
   no_missing_voter_if_present (x ∷ xs) h =
-      ap (λ o. fold next_least o xs) (none_missing_if_present eq nodes x (and_left (all_present eq nodes x) (list_all (all_present eq nodes) eq nodes xs) h))
-      ∙ no_missing_voter_if_present xs (and_right (all_present eq nodes x) (list_all (all_present eq nodes) eq nodes xs) h)
+      ap (λ o. fold next_least o xs) (none_missing_if_present eq nodes x (and_left (all_present eq nodes x) (list_all (all_present eq nodes) xs) h))
+      ∙ no_missing_voter_if_present xs (and_right (all_present eq nodes x) (list_all (all_present eq nodes) xs) h)
 
 -- what holds of each config after a step holds of the goal
 goal_of_step : {Q : Type 0} (eq : Q → Q → Bool) (p : Q → Bool) (goal : Q) (configs : List Q) → list_all p (next_configs eq configs goal) ≡ true → p goal ≡ true
@@ -118,9 +119,9 @@ module _ {K N : Type 0} (eq : K → K → Bool) (same : IsEquivalence eq) (ident
         | true ↦ λ e _. ap (λ b. has_node eq (cond b (x ∷ filter (λ (y : K × N). keep y.0) xs) (filter (λ (y : K × N). keep y.0) xs)) id) (ap keep (identical x.0 id e) ∙ k)
             ∙ or_left (eq x.0 id) (has_node eq (filter (λ (y : K × N). keep y.0) xs) id) e
         | false ↦ λ _ l. elim (keep x.0) as (λ b. has_node eq (cond b (x ∷ filter (λ (y : K × N). keep y.0) xs) (filter (λ (y : K × N). keep y.0) xs)) id ≡ true) [
-            | true ↦ or_right (eq x.0 id) (has_node eq (filter (λ (y : K × N). keep y.0) xs) id) (kept_present keep xs id k l)
-            | false ↦ kept_present keep xs id k l
-          ]
+          | true ↦ or_right (eq x.0 id) (has_node eq (filter (λ (y : K × N). keep y.0) xs) id) (kept_present keep xs id k l)
+          | false ↦ kept_present keep xs id k l
+        ]
       ] refl h
 
   group_kept : (keep : K → Bool) (nodes : List (K × N)) (ids : List K) → ((id : K) → has_id eq ids id ≡ true → keep id ≡ true)
@@ -157,11 +158,11 @@ all_have_members [] h = refl
 all_have_members (x ∷ xs) h =
     elim (length x == 0) as (λ b. (not b && list_all has_members xs) ≡ true → (b || has_empty_group xs) ≡ false) [ true ↦ λ k. cc k | false ↦ λ k. all_have_members xs k ] h
 
-module _ {K N : Type 0} (eq : K → K → Bool) (cmp : K → K → Ordering) where
-  no_fault_no_learner : (missing : Option K) → learner_fault missing ≡ None → missing ≡ None
-  no_fault_no_learner None h = refl
-  no_fault_no_learner (Some id) h = cc h
+no_fault_no_learner : {K : Type 0} (missing : Option K) → learner_fault missing ≡ None → missing ≡ None
+no_fault_no_learner None h = refl
+no_fault_no_learner (Some id) h = cc h
 
+module _ {K N : Type 0} (eq : K → K → Bool) (cmp : K → K → Ordering) where
   valid_parts : (configs : List (List K)) (nodes : List (K × N)) → validity_fault eq cmp configs nodes ≡ None → (list_all has_members configs ≡ true) × (list_all (all_present eq nodes) configs ≡ true)
   valid_parts configs nodes h =
       elim (has_empty_group configs) as (λ b. has_empty_group configs ≡ b → (if b then Some (EmptyMembership (record {})) else learner_fault (missing_voter eq cmp configs nodes)) ≡ None → (list_all has_members configs ≡ true) × (list_all (all_present eq nodes) configs ≡ true)) [
@@ -184,9 +185,10 @@ module _ {K N : Type 0} (eq : K → K → Bool) (cmp : K → K → Ordering) (sa
   step_valid m goal retain valid some present =
       let parts = valid_parts eq cmp m.configs m.nodes valid in
       let new : List (List K) = next_configs (pointwise eq) m.configs goal in
-      let stay = retained_present eq same identical retain m.configs new m.nodes (step_keeps (pointwise eq) (all_present eq m.nodes) goal m.configs present parts.1) in
-      (valid_whole eq cmp new (retained_nodes eq retain m.configs new m.nodes) (step_keeps (pointwise eq) has_members goal m.configs some parts.0) stay,
-       goal_of_step (pointwise eq) (all_present eq (retained_nodes eq retain m.configs new m.nodes)) goal m.configs stay)
+      let stay = retained_present eq same identical retain m.configs new m.nodes (step_keeps (pointwise eq) (all_present eq m.nodes) goal m.configs present parts.1) in (
+        valid_whole eq cmp new (retained_nodes eq retain m.configs new m.nodes) (step_keeps (pointwise eq) has_members goal m.configs some parts.0) stay,
+        goal_of_step (pointwise eq) (all_present eq (retained_nodes eq retain m.configs new m.nodes)) goal m.configs stay,
+      )
 
   -- two changes give the goal alone, and are both valid
   pub replaced_in_two : (m : Membership K N) (goal : List K) (retain : Bool) → IsValid eq cmp m → has_members goal ≡ true → first_missing eq m.nodes goal ≡ None
@@ -200,4 +202,4 @@ module _ {K N : Type 0} (eq : K → K → Bool) (cmp : K → K → Ordering) (sa
 
 pub has_some : {K : Type 0} (group : List K) → 0 < length group → has_members group ≡ true
 has_some [] h = absurd (omega arith)
-has_some (x ∷ xs) h = refl
+has_some (x ∷ xs) h = grind (arith, common_steps)
