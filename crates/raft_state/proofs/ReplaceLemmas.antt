@@ -7,13 +7,13 @@ use Rattle.std.specs.Ordering.{match_ordering}
 use Rattle.std.proofs.lemmas.Grind.{common_steps}
 use Rattle.std.specs.List.{list_any, list_all, filter, fold}
 use Rattle.std.specs.Cmp.{IsEquivalence}
+use Rattle.raft_state.specs.Laws.{IsReplacedInTwo, IsValid}
 use Rattle.raft_state.specs.Nodes.{has_id, has_node}
 use Rattle.raft_state.specs.Membership.{is_voter, has_empty_group, lesser, first_missing, missing_voter}
-use Rattle.raft_state.specs.MembershipChange.{changed, next_coherent, retained_nodes}
+use Rattle.raft_state.specs.MembershipChange.{next_coherent, retained_nodes}
 use Rattle.raft_state.specs.Validity.{learner_fault, validity_fault}
 use Rattle.raft_state.specs.declared.membership.Membership.{Membership}
 use Rattle.raft_state.specs.declared.error.ChangeMembershipError.TheVariants.{EmptyMembership}
-use Rattle.raft_state.specs.declared.change_members.ChangeMembers.TheVariants.{ReplaceAllVoters}
 use Rattle.std.specs.Cmp.Lexicographic.{pointwise, lists_equiv}
 use Rattle.raft_state.specs.Quorum.{next_configs, last_of}
 use Rattle.raft_state.specs.QuorumLaws.{or_left, or_right, and_left, and_right}
@@ -175,10 +175,6 @@ module _ {K N : Type 0} (eq : K → K → Bool) (cmp : K → K → Ordering) whe
       ap (λ b. if b then Some (EmptyMembership (record {})) else learner_fault (missing_voter eq cmp configs nodes)) (all_have_members configs h)
       ∙ ap learner_fault (no_missing_voter_if_present eq cmp nodes configs k)
 
--- the membership is valid
-abbrev pub IsValid : {K N : Type 0} → (K → K → Bool) → (K → K → Ordering) → Membership K N → Type 0
-IsValid eq cmp m = validity_fault eq cmp m.configs m.nodes ≡ None
-
 module _ {K N : Type 0} (eq : K → K → Bool) (cmp : K → K → Ordering) (same : IsEquivalence eq) (identical : (x y : K) → eq x y ≡ true → x ≡ y) where
   step_valid : (m : Membership K N) (goal : List K) (retain : Bool) → IsValid eq cmp m → has_members goal ≡ true → all_present eq m.nodes goal ≡ true
       → IsValid eq cmp (next_coherent eq cmp m goal retain) × (all_present eq (next_coherent eq cmp m goal retain).nodes goal ≡ true)
@@ -192,9 +188,7 @@ module _ {K N : Type 0} (eq : K → K → Bool) (cmp : K → K → Ordering) (sa
 
   -- two changes give the goal alone, and are both valid
   pub replaced_in_two : (m : Membership K N) (goal : List K) (retain : Bool) → IsValid eq cmp m → has_members goal ≡ true → first_missing eq m.nodes goal ≡ None
-      → IsValid eq cmp (changed eq cmp m (ReplaceAllVoters goal) retain)
-      × IsValid eq cmp (changed eq cmp (changed eq cmp m (ReplaceAllVoters goal) retain) (ReplaceAllVoters goal) retain)
-      × ((changed eq cmp (changed eq cmp m (ReplaceAllVoters goal) retain) (ReplaceAllVoters goal) retain).configs ≡ goal ∷ [])
+      → IsReplacedInTwo eq cmp m goal retain
   replaced_in_two m goal retain valid some present =
       let one = step_valid m goal retain valid some (present_if_none_missing eq m.nodes goal present) in
       let two = step_valid (next_coherent eq cmp m goal retain) goal retain one.0 some one.1 in

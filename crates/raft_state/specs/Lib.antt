@@ -11,3 +11,4 @@ pub mod QuorumLaws
 pub mod MembershipChange
 pub mod Forward
 pub mod Payload
+pub mod Laws

@@ -1,9 +1,8 @@
 //! Laws of memberships and quorums. Each function does nothing: its contract is the law.
-ghost use Rattle.std.specs.Prelude.{◌≡◌, ◌<◌, ◌∷◌, [], None, Bool, length, true, IsTrue};
+ghost use Rattle.std.specs.Prelude.{◌≡◌, ◌<◌, Bool, None, length, IsTrue};
 ghost use Rattle.std.specs.Cmp.Lexicographic.{pointwise};
-ghost use Rattle.raft_state.specs.Membership.{first_missing, is_voter};
-ghost use Rattle.raft_state.specs.Validity.{validity_fault};
-ghost use Rattle.raft_state.specs.declared.change_members.ChangeMembers.TheVariants.{ReplaceAllVoters};
+ghost use Rattle.raft_state.specs.Laws.{IsReplacedInTwo, IsValid, ShareAVoter};
+ghost use Rattle.raft_state.specs.Membership.{first_missing};
 ghost use Rattle.raft_state.specs.MembershipChange.{changed};
 ghost use Rattle.raft_state.specs.declared.change_members.ChangeMembers.{ChangeMembers as Change};
 ghost use Rattle.raft_state.specs.Quorum.{IsQuorum, share_config};
@@ -23,7 +22,7 @@ pub fn superset_is_quorum<NID: NodeId, N: Node>(membership: &Membership<NID, N>)
 /// Any two quorums of a membership with a voter group share a voter, who is named in both.
 pub fn quorums_share_a_voter<NID: NodeId, N: Node>(membership: &Membership<NID, N>)
     requires { 0 < length membership.now.configs }
-    ensures { (p r : NID → Bool) → IsQuorum membership.now.configs p → IsQuorum membership.now.configs r → (id : NID) × IsTrue (is_voter NID.eq membership.now.configs id) × IsTrue (p id) × IsTrue (r id) }
+    ensures { (p r : NID → Bool) → IsQuorum membership.now.configs p → IsQuorum membership.now.configs r → ShareAVoter NID.eq membership.now.configs p r }
 {
     let _ = membership;
 }
@@ -43,10 +42,10 @@ pub fn voters_are_replaced_in_two_changes<NID: NodeId, N: Node>(
     membership: &Membership<NID, N>,
     goal: &IdSet<NID>,
 )
-    requires valid { validity_fault NID.eq NID.cmp membership.now.configs membership.now.nodes ≡ None }
+    requires valid { IsValid NID.eq NID.cmp membership.now }
     requires some { 0 < length goal.now }
     requires present { first_missing NID.eq membership.now.nodes goal.now ≡ None }
-    ensures { (retain : Bool) → let once = changed NID.eq NID.cmp membership.now (ReplaceAllVoters goal.now) retain in let twice = changed NID.eq NID.cmp once (ReplaceAllVoters goal.now) retain in (validity_fault NID.eq NID.cmp once.configs once.nodes ≡ None) × (validity_fault NID.eq NID.cmp twice.configs twice.nodes ≡ None) × (twice.configs ≡ goal.now ∷ []) }
+    ensures { (retain : Bool) → IsReplacedInTwo NID.eq NID.cmp membership.now goal.now retain }
 {
     let _ = membership;
     let _ = goal;
