@@ -9,3 +9,6 @@ pub mod Quorum
 pub mod MembershipExample
 pub mod QuorumLaws
 pub mod MembershipChange
+pub mod Forward
+pub mod Payload
+pub mod Laws
