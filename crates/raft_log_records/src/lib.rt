@@ -1,1 +1,6 @@
+//! Batches of the log engine, their bytes as records, their checksum, and the memtables that they fill.
 #![tactic(auto)]
+
+mod checksum;
+
+pub use checksum::crc32;
