@@ -1,5 +1,5 @@
 -- CRC-32 by its polynomial, one bit at a time: reflected, 0xEDB88320, complemented at both ends.
-use Rattle.std.specs.Prelude.{ℕ, List, fold, bit_xor, ◌/◌, ◌%◌, ◌==◌, if◌then◌else◌}
+use Rattle.std.specs.Prelude.{ℕ, zero, suc, List, fold, bit_xor, ◌/◌, ◌%◌, ◌==◌, if◌then◌else◌}
 
 -- the register after one bit: the lowest bit goes out, and where it was 1 the polynomial goes in
 unfoldable pub shifted : ℕ → ℕ
@@ -8,6 +8,11 @@ shifted register = if register % 2 == 0 then register / 2 else bit_xor (register
 -- the register after one byte, its lowest bit first
 unfoldable pub after_byte : ℕ → ℕ → ℕ
 after_byte register byte = shifted (shifted (shifted (shifted (shifted (shifted (shifted (shifted (bit_xor register byte))))))))
+
+-- the register after a number of zero bytes
+unfoldable pub after_zeros : ℕ → ℕ → ℕ
+after_zeros zero register = register
+after_zeros (suc n) register = after_zeros n (after_byte register 0)
 
 -- the checksum of some bytes
 unfoldable pub crc32_of : List ℕ → ℕ
