@@ -77,6 +77,15 @@ pub fn crc32(bytes: &[u8]) -> u32
     take_bytes(take_blocks(u32::MAX, blocks), rest) ^ u32::MAX
 }
 
+/// The same checksum with one table and a byte at a time: the plain program of the definition, which
+/// is shorter to read and slower to run than [`crc32`].
+#[tactic(auto, unfolding(crate::specs::Checksum::crc32_of))]
+pub fn crc32_by_bytes(bytes: &[u8]) -> u32
+    ensures { result ≡ crc32_of bytes.now }
+{
+    take_bytes(u32::MAX, bytes) ^ u32::MAX
+}
+
 #[cfg(test)]
 mod tests {
     use super::*;

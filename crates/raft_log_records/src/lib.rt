@@ -3,4 +3,4 @@
 
 mod checksum;
 
-pub use checksum::crc32;
+pub use checksum::{crc32, crc32_by_bytes};
