@@ -6,6 +6,7 @@ use Rattle.std.specs.Simd.{first_chunks}
 use Rattle.std.proofs.Math.ListN.{drop_of_length-le}
 use Rattle.std.proofs.Math.Nat.{suc-mul, zero-mul}
 use Rattle.std.proofs.Math.Seq.{take-add}
+use Rattle.std.proofs.lemmas.List.{take-append-drop}
 use Rattle.std.proofs.lemmas.List.Sums.{fold-append}
 use Rattle.std.specs.Int.Bits.{xor_assoc, xor_zero_r, xor_zero_l, xor_self}
 use Rattle.std.proofs.lemmas.Nat.{xor_comm, xor_shr, xor_mod, xor_block, xor_of_32}
@@ -36,6 +37,13 @@ xor_pairs a b c d =
 
 abbrev polynomial : ℕ
 polynomial = 0xEDB8_8320
+
+xor_twice : (a mask : ℕ) → bit_xor (bit_xor a mask) mask ≡ a
+xor_twice a mask = xor_assoc a mask mask ∙ ap (bit_xor a) (xor_self mask) ∙ xor_zero_r a
+
+-- what is complemented alike is alike
+pub same_from_xor : (a b mask : ℕ) → bit_xor a mask ≡ bit_xor b mask → a ≡ b
+same_from_xor a b mask e = sym (xor_twice a mask) ∙ ap (λ x. bit_xor x mask) e ∙ xor_twice b mask
 
 pub shifted-xor : (a b : ℕ) → shifted (bit_xor a b) ≡ bit_xor (shifted a) (shifted b)
 shifted-xor a b = elim (cases_eq (a % 2) 0) [
@@ -154,7 +162,7 @@ fold-apart a (b ∷ bytes) =
     ∙ xor_assoc (after_zeros (length bytes) (after_byte a 0)) (after_zeros (length bytes) (after_byte b 0)) (fold after_byte 0 bytes)
     ∙ ap (bit_xor (after_zeros (length bytes) (after_byte a 0))) (sym (fold-apart (after_byte b 0) bytes) ∙ ap (λ x. fold after_byte x bytes) (sym alone))
 
-after_zeros-none : (a : ℕ) → after_zeros 0 a ≡ a
+pub after_zeros-none : (a : ℕ) → after_zeros 0 a ≡ a
 unfolding after_zeros
 after_zeros-none a = refl
 
@@ -279,3 +287,9 @@ fold_blocks n (suc k) a bytes =
     ∙ sym (fold-append after_byte a (take n bytes) (take (k * n) (drop n bytes)))
     ∙ ap (fold after_byte a) (sym (take-add n (k * n) bytes))
     ∙ ap (λ m. fold after_byte a (take m bytes)) (omega (arith, suc-mul k n))
+
+-- the blocks, and then the bytes after the last whole one
+pub fold_chunks : (n k a : ℕ) (bytes : List ℕ) → fold after_byte (fold (fold after_byte) a (first_chunks n k bytes)) (drop (k * n) bytes) ≡ fold after_byte a bytes
+fold_chunks n k a bytes =
+    ap (λ x. fold after_byte x (drop (k * n) bytes)) (fold_blocks n k a bytes)
+    ∙ sym (fold-append after_byte a (take (k * n) bytes) (drop (k * n) bytes)) ∙ ap (fold after_byte a) (take-append-drop (k * n) bytes)
