@@ -1,7 +1,7 @@
 -- The register of CRC-32 is linear over `xor`, so what a byte leaves can be looked up apart from the others.
 use Rattle.std.proofs.Common.{◌≡◌, ℕ, zero, suc, ◌+◌, ◌*◌, ◌/◌, ◌%◌, ◌^◌, ◌<◌, ◌≤◌, ◌⊎◌, inl, inr, List, [], ◌∷◌, ◌++◌, length, refl, sym, ap, subst, ◌∙◌, arith, zero-add, add-zero, add-one, add-suc, get_or, take, drop, drop-cons}
 use Rattle.std.specs.Prelude.{bit_xor, fold, map}
-use Rattle.std.specs.List.{range_with_len}
+use Rattle.std.specs.List.{range_with_len, AllByRecursion}
 use Rattle.std.specs.Simd.{first_chunks}
 use Rattle.std.proofs.Math.ListN.{drop_of_length-le}
 use Rattle.std.proofs.Math.Nat.{suc-mul, zero-mul}
@@ -15,11 +15,11 @@ use Rattle.raft_log_records.specs.Checksum.{shifted, after_byte, after_zeros}
 
 -- ---- one bit
 
-shifted-even : (a : ℕ) → a % 2 ≡ 0 → shifted a ≡ a / 2
+pub shifted-even : (a : ℕ) → a % 2 ≡ 0 → shifted a ≡ a / 2
 unfolding shifted
 shifted-even a even = rw (eq-eqb _ _ even) refl
 
-shifted-odd : (a : ℕ) → a % 2 ≡ 1 → shifted a ≡ bit_xor (a / 2) 0xEDB8_8320
+pub shifted-odd : (a : ℕ) → a % 2 ≡ 1 → shifted a ≡ bit_xor (a / 2) 0xEDB8_8320
 unfolding shifted
 shifted-odd a odd = rw (ne_eqb (a % 2) 0 (λ even. absurd (omega arith))) refl
 
@@ -35,7 +35,7 @@ xor_pairs a b c d =
     xor_assoc a b (bit_xor c d) ∙ ap (bit_xor a) (sym (xor_assoc b c d) ∙ ap (λ x. bit_xor x d) (xor_comm b c) ∙ xor_assoc c b d)
     ∙ sym (xor_assoc a c (bit_xor b d))
 
-abbrev polynomial : ℕ
+abbrev pub polynomial : ℕ
 polynomial = 0xEDB8_8320
 
 xor_twice : (a mask : ℕ) → bit_xor (bit_xor a mask) mask ≡ a
@@ -138,17 +138,18 @@ unfolding after_zeros
 after_zeros-add m zero a = ap (λ x. after_zeros x a) (add-zero m)
 after_zeros-add m (suc n) a = ap (λ x. after_zeros x a) (add-suc m n) ∙ after_zeros-add m n (after_byte a 0)
 
--- four bytes as one number, the first the lowest, enter at once
-pub enter_four : (a p q r s : ℕ) → p < 256 → q < 256 → r < 256 → s < 256
-    → fold after_byte a (p ∷ q ∷ r ∷ s ∷ []) ≡ after_zeros 4 (bit_xor a (p + (q + (r + s * 256) * 256) * 256))
+-- some bytes as one number, the first the lowest
+abbrev pub low_first : List ℕ → ℕ
+low_first [] = 0
+low_first (b ∷ bytes) = b + low_first bytes * 256
+
+-- some bytes enter at once, as one number
+pub enter_all : (a : ℕ) (bytes : List ℕ) → AllByRecursion (λ b. b < 256) bytes
+    → fold after_byte a bytes ≡ after_zeros (length bytes) (bit_xor a (low_first bytes))
 unfolding after_zeros
-enter_four a p q r s hp hq hr hs =
-    let b = after_byte a p in
-    let c = after_byte b q in
-    let d = after_byte c r in
-    let last : after_byte (bit_xor d s) 0 ≡ after_byte d s = sym (after_byte-xor d s) in
-    sym (ap (after_zeros 3) (enter a p (q + (r + s * 256) * 256) hp) ∙ ap (after_zeros 2) (enter b q (r + s * 256) hq)
-    ∙ ap (after_zeros 1) (enter c r s hr) ∙ last)
+enter_all a [] h = sym (xor_zero_r a)
+enter_all a (b ∷ bytes) h =
+    enter_all (after_byte a b) bytes h.1 ∙ ap (after_zeros (length bytes)) (sym (enter a b (low_first bytes) h.0))
 
 -- the register and some bytes, apart
 pub fold-apart : (a : ℕ) (bytes : List ℕ) → fold after_byte a bytes ≡ bit_xor (after_zeros (length bytes) a) (fold after_byte 0 bytes)
@@ -226,11 +227,11 @@ enter_four_bytes a word bytes four fits ha hw is left is_left =
     let r = get_or bytes 2 0 in
     let s = get_or bytes 3 0 in
     let small : left < 2 ^ 32 = rw is_left (xor_of_32 a word ha hw) in
-    let whole : left % 256 + (left / 256 % 256 + (left / 65536 % 256 + left / 16777216 % 256 * 256) * 256) * 256 ≡ left = omega arith in
-    let same : p + (q + (r + s * 256) * 256) * 256 ≡ word = omega arith in
-    enter_four 0 (left % 256) (left / 256 % 256) (left / 65536 % 256) (left / 16777216 % 256) (omega arith) (omega arith) (omega arith) (omega arith)
+    let whole : left % 256 + (left / 256 % 256 + (left / 65536 % 256 + (left / 16777216 % 256 + 0 * 256) * 256) * 256) * 256 ≡ left = omega arith in
+    let same : p + (q + (r + (s + 0 * 256) * 256) * 256) * 256 ≡ word = omega arith in
+    enter_all 0 (left % 256 ∷ left / 256 % 256 ∷ left / 65536 % 256 ∷ left / 16777216 % 256 ∷ []) (omega arith, (omega arith, (omega arith, (omega arith, tt))))
     ∙ ap (after_zeros 4) (whole ∙ is_left ∙ ap (bit_xor a) (sym same))
-    ∙ sym (enter_four a p q r s (fits 0 (omega arith)) (fits 1 (omega arith)) (fits 2 (omega arith)) (fits 3 (omega arith)))
+    ∙ sym (enter_all a (p ∷ q ∷ r ∷ s ∷ []) (fits 0 (omega arith), (fits 1 (omega arith), (fits 2 (omega arith), (fits 3 (omega arith), tt)))))
     ∙ ap (fold after_byte a) (sym (spelled_out 4 bytes four))
 
 -- ---- sixteen bytes

@@ -2,8 +2,8 @@
 
 mod tables;
 
-ghost use Rattle.std.specs.Prelude.{◌≡◌, ◌<◌, ◌*◌, ◌++◌, ℕ, List, [], bit_xor, fold};
-ghost use Rattle.raft_log_records.specs.Checksum.{after_byte, after_zeros, crc32_of};
+ghost use Rattle.std.specs.Prelude.{◌≡◌, ◌<◌, ◌*◌, ◌++◌, ◌↔◌, ℕ, List, [], All, IsTrue, bit_xor, fold};
+ghost use Rattle.raft_log_records.specs.Checksum.{after_byte, after_zeros, crc32_of, IsChangedRun};
 
 use std::marker::Model;
 use tables::entry;
@@ -141,6 +141,18 @@ pub fn crc32_by_bytes(bytes: &[u8]) -> u32
     take_bytes(u32::MAX, bytes) ^ u32::MAX
 }
 
+/// Whether `bytes` have this checksum. Bytes that were changed in up to four neighbouring places
+/// since it was made never do.
+pub fn is_intact(bytes: &[u8], checksum: u32) -> bool
+    ensures exact { IsTrue result ↔ (crc32_of bytes.now ≡ checksum) }
+    ensures changed_run {
+        (sent : List ℕ) → All (λ byte. byte < 256) sent → crc32_of sent ≡ checksum
+            → IsChangedRun sent bytes.now → ¬ IsTrue result
+    }
+{
+    crc32(bytes) == checksum
+}
+
 #[cfg(test)]
 mod tests {
     use super::*;
@@ -191,6 +203,13 @@ mod tests {
                 assert_eq!(rt; crc32_by_bytes(&bytes[..len]), expected);
             }
         }
+    }
+
+    #[test]
+    fn a_changed_byte_is_noticed(rt: HostRuntime) {
+        assert!(rt; is_intact(b"123456789", 0xCBF4_3926));
+        assert!(rt; !is_intact(b"123456780", 0xCBF4_3926));
+        assert!(rt; !is_intact(b"143256789", 0xCBF4_3926));
     }
 
     #[test]

@@ -3,4 +3,4 @@
 
 mod checksum;
 
-pub use checksum::{Checksum, crc32, crc32_by_bytes};
+pub use checksum::{Checksum, crc32, crc32_by_bytes, is_intact};
