@@ -1,5 +1,5 @@
 -- Bytes that differ in a run of up to four have different checksums.
-use Rattle.std.proofs.Common.{◌≡◌, ◌≢◌, ℕ, zero, suc, ◌+◌, ◌*◌, ◌/◌, ◌%◌, ◌^◌, ◌<◌, ◌≤◌, ◌⊎◌, inl, inr, List, [], ◌∷◌, ◌++◌, length, get_or, refl, sym, ap, subst, ◌∙◌, arith}
+use Rattle.std.proofs.Common.{◌≡◌, ◌≢◌, ℕ, zero, suc, ◌/◌, ◌%◌, ◌^◌, ◌<◌, ◌≤◌, inl, inr, List, [], ◌∷◌, ◌++◌, length, get_or, refl, sym, ap, subst, ◌∙◌, arith}
 use Rattle.std.specs.Prelude.{bit_xor, fold}
 use Rattle.std.specs.List.{AllByRecursion}
 use Rattle.std.proofs.lemmas.Nat.{xor_comm, xor_shr, xor_of_32}
@@ -30,15 +30,15 @@ same_from_shifted : (a b : ℕ) → a < 2 ^ 32 → b < 2 ^ 32 → shifted a ≡ 
 same_from_shifted a b ha hb e = elim (cases_eq (a % 2) 0) [
   | inl even_a ↦ elim (cases_eq (b % 2) 0) [
     | inl even_b ↦
-      let halves : a / 2 ≡ b / 2 = sym (shifted-even a even_a) ∙ e ∙ shifted-even b even_b in
-      omega arith
+        let halves : a / 2 ≡ b / 2 = sym (shifted-even a even_a) ∙ e ∙ shifted-even b even_b in
+        omega arith
     | inr odd_b ↦ absurd (highest_set a b ha hb (sym (shifted-even a even_a) ∙ e ∙ shifted-odd b (omega arith)))
   ]
   | inr odd_a ↦ elim (cases_eq (b % 2) 0) [
     | inl even_b ↦ absurd (highest_set b a hb ha (sym (shifted-even b even_b) ∙ sym e ∙ shifted-odd a (omega arith)))
     | inr odd_b ↦
-      let halves : a / 2 ≡ b / 2 = same_from_xor (a / 2) (b / 2) polynomial (sym (shifted-odd a (omega arith)) ∙ e ∙ shifted-odd b (omega arith)) in
-      omega arith
+        let halves : a / 2 ≡ b / 2 = same_from_xor (a / 2) (b / 2) polynomial (sym (shifted-odd a (omega arith)) ∙ e ∙ shifted-odd b (omega arith)) in
+        omega arith
   ]
 ]
 
@@ -72,7 +72,7 @@ module _ (a b : ℕ) (ha : a < 2 ^ 32) (hb : b < 2 ^ 32) where
   unfolding after_byte
   same_from_eight e =
       same_from_four a b ha hb
-        (same_from_four (shifted (shifted (shifted (shifted a)))) (shifted (shifted (shifted (shifted b)))) (two_fit _ (two_fit a ha)) (two_fit _ (two_fit b hb)) e)
+      (same_from_four (shifted (shifted (shifted (shifted a)))) (shifted (shifted (shifted (shifted b)))) (two_fit _ (two_fit a ha)) (two_fit _ (two_fit b hb)) e)
 
   same_from_after_zero : after_byte a 0 ≡ after_byte b 0 → a ≡ b
   same_from_after_zero e = same_from_eight (after_byte-xor 0 a ∙ e ∙ sym (after_byte-xor 0 b))
@@ -82,13 +82,13 @@ unfolding after_zeros
 same_from_after_zeros zero a b ha hb e = e
 same_from_after_zeros (suc n) a b ha hb e =
     same_from_after_zero a b ha hb
-      (same_from_after_zeros n (after_byte a 0) (after_byte b 0) (after_byte_fits a 0 ha (omega arith)) (after_byte_fits b 0 hb (omega arith)) e)
+    (same_from_after_zeros n (after_byte a 0) (after_byte b 0) (after_byte_fits a 0 ha (omega arith)) (after_byte_fits b 0 hb (omega arith)) e)
 
 -- the same bytes after two registers
 same_from_rest : (rest : List ℕ) (a b : ℕ) → a < 2 ^ 32 → b < 2 ^ 32 → fold after_byte a rest ≡ fold after_byte b rest → a ≡ b
 same_from_rest rest a b ha hb e =
     same_from_after_zeros (length rest) a b ha hb
-      (same_from_xor (after_zeros (length rest) a) (after_zeros (length rest) b) (fold after_byte 0 rest) (sym (fold-apart a rest) ∙ e ∙ fold-apart b rest))
+    (same_from_xor (after_zeros (length rest) a) (after_zeros (length rest) b) (fold after_byte 0 rest) (sym (fold-apart a rest) ∙ e ∙ fold-apart b rest))
 
 -- ---- four bytes and fewer
 
@@ -126,7 +126,7 @@ same_run a run other ha hr ho same short e =
     let x_fits = low_first_fits run hr short in
     let y_fits = low_first_fits other ho (omega arith) in
     let entered : after_zeros (length run) (bit_xor a x) ≡ after_zeros (length run) (bit_xor a y) =
-      sym (enter_all a run hr) ∙ e ∙ enter_all a other ho ∙ ap (λ n. after_zeros n (bit_xor a y)) same in
+    sym (enter_all a run hr) ∙ e ∙ enter_all a other ho ∙ ap (λ n. after_zeros n (bit_xor a y)) same in
     let sums = same_from_after_zeros (length run) (bit_xor a x) (bit_xor a y) (xor_of_32 a x ha x_fits) (xor_of_32 a y ha y_fits) entered in
     same_from_low_first run other hr ho same (same_from_xor x y a (xor_comm x a ∙ sums ∙ xor_comm a y))
 
@@ -150,12 +150,12 @@ same_from_crc32_of front run other back hr ho same short e =
     let other_bytes = all_left (front ++ other) back ho in
     let fits = fold_fits front start (omega arith) (all_left front run run_bytes) in
     let split : (xs : List ℕ) → fold after_byte start (front ++ xs ++ back) ≡ fold after_byte (fold after_byte middle xs) back = λ (xs : List ℕ).
-      fold-append after_byte start (front ++ xs) back ∙ ap (λ x. fold after_byte x back) (fold-append after_byte start front xs) in
+    fold-append after_byte start (front ++ xs) back ∙ ap (λ x. fold after_byte x back) (fold-append after_byte start front xs) in
     let registers = same_from_xor (fold after_byte start (front ++ run ++ back)) (fold after_byte start (front ++ other ++ back)) start e in
     same_run middle run other fits (all_right front run run_bytes) (all_right front other other_bytes) same short
-      (same_from_rest back (fold after_byte middle run) (fold after_byte middle other)
-        (fold_fits run middle fits (all_right front run run_bytes)) (fold_fits other middle fits (all_right front other other_bytes))
-        (sym (split run) ∙ registers ∙ split other))
+    (same_from_rest back (fold after_byte middle run) (fold after_byte middle other)
+    (fold_fits run middle fits (all_right front run run_bytes)) (fold_fits other middle fits (all_right front other other_bytes))
+    (sym (split run) ∙ registers ∙ split other))
 
 all_from_places : (xs : List ℕ) → ((i : ℕ) → i < length xs → get_or xs i 0 < 256) → AllByRecursion (λ b. b < 256) xs
 all_from_places [] h = tt
@@ -168,8 +168,8 @@ crc32_of-IsChangedRun sent received hs hr change e =
     let sent_bytes = all_from_places sent hs in
     let received_bytes = all_from_places received hr in
     change.changed
-      (sym (same_from_crc32_of change.front change.run change.other change.back
-        (subst (λ xs. AllByRecursion (λ b. b < 256) xs) change.sent_is sent_bytes)
-        (subst (λ xs. AllByRecursion (λ b. b < 256) xs) change.received_is received_bytes)
-        change.as_many change.up_to_four
-        (ap crc32_of (sym change.sent_is) ∙ sym e ∙ ap crc32_of change.received_is)))
+    (sym (same_from_crc32_of change.front change.run change.other change.back
+    (subst (λ xs. AllByRecursion (λ b. b < 256) xs) change.sent_is sent_bytes)
+    (subst (λ xs. AllByRecursion (λ b. b < 256) xs) change.received_is received_bytes)
+    change.as_many change.up_to_four
+    (ap crc32_of (sym change.sent_is) ∙ sym e ∙ ap crc32_of change.received_is)))

@@ -1,5 +1,5 @@
 -- The register of CRC-32 is linear over `xor`, so what a byte leaves can be looked up apart from the others.
-use Rattle.std.proofs.Common.{◌≡◌, ℕ, zero, suc, ◌+◌, ◌*◌, ◌/◌, ◌%◌, ◌^◌, ◌<◌, ◌≤◌, ◌⊎◌, inl, inr, List, [], ◌∷◌, ◌++◌, length, refl, sym, ap, subst, ◌∙◌, arith, zero-add, add-zero, add-one, add-suc, get_or, take, drop, drop-cons}
+use Rattle.std.proofs.Common.{◌≡◌, ℕ, zero, suc, ◌+◌, ◌*◌, ◌/◌, ◌%◌, ◌^◌, ◌<◌, inl, inr, List, [], ◌∷◌, length, refl, sym, ap, ◌∙◌, arith, zero-add, add-zero, add-one, add-suc, get_or, take, drop, drop-cons}
 use Rattle.std.specs.Prelude.{bit_xor, fold, map}
 use Rattle.std.specs.List.{range_with_len, AllByRecursion}
 use Rattle.std.specs.Simd.{first_chunks}
@@ -8,7 +8,7 @@ use Rattle.std.proofs.Math.Nat.{suc-mul, zero-mul}
 use Rattle.std.proofs.Math.Seq.{take-add}
 use Rattle.std.proofs.lemmas.List.{take-append-drop}
 use Rattle.std.proofs.lemmas.List.Sums.{fold-append}
-use Rattle.std.specs.Int.Bits.{xor_assoc, xor_zero_r, xor_zero_l, xor_self}
+use Rattle.std.specs.Int.Bits.{xor_assoc, xor_zero_r, xor_self}
 use Rattle.std.proofs.lemmas.Nat.{xor_comm, xor_shr, xor_mod, xor_block, xor_of_32}
 use Rattle.std.proofs.lemmas.Bool.{cases_eq, eq-eqb, ne_eqb}
 use Rattle.raft_log_records.specs.Checksum.{shifted, after_byte, after_zeros}

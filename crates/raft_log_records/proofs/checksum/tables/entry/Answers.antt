@@ -1,4 +1,4 @@
-use Rattle.std.proofs.Common.{ap, ◌∙◌, sym, add-one}
+use Rattle.std.proofs.Common.{add-one}
 use Rattle.raft_log_records.proofs.TableLemmas.{entry_of_table}
 use Rattle.raft_log_records.proofs.checksum.tables.entry.Goals as goal
 

@@ -3,7 +3,7 @@ use Rattle.std.specs.Prelude.{bit_xor}
 use Rattle.std.proofs.lemmas.Nat.{and_mask}
 use Rattle.raft_log_records.specs.Checksum.{after_byte, after_zeros}
 use Rattle.raft_log_records.proofs.RegisterLemmas.{after_byte-split}
-use Rattle.raft_log_records.proofs.checksum.take_byte.Goals as goal
+use Rattle.raft_log_records.proofs.checksum.register.take_byte.Goals as goal
 
 pub returns : goal.returns
 unfolding after_zeros

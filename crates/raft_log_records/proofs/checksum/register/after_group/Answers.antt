@@ -1,6 +1,6 @@
 use Rattle.std.proofs.Common.{◌≡◌, ◌*◌, rules, length, get_or}
 use Rattle.raft_log_records.proofs.RegisterLemmas.{after_four, spelled_out}
-use Rattle.raft_log_records.proofs.checksum.after_group.Goals as goal
+use Rattle.raft_log_records.proofs.checksum.register.after_group.Goals as goal
 
 pub returns : goal.returns
 returns c =

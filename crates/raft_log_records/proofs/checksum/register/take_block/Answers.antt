@@ -1,5 +1,5 @@
 use Rattle.raft_log_records.proofs.RegisterLemmas.{by_fours}
-use Rattle.raft_log_records.proofs.checksum.take_block.Goals as goal
+use Rattle.raft_log_records.proofs.checksum.register.take_block.Goals as goal
 
 pub returns : goal.returns
 returns c =

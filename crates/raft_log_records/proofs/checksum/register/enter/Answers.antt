@@ -2,7 +2,7 @@ use Rattle.std.proofs.Common.{◌≡◌, ◌<◌, ℕ, ap, ◌∙◌, rules, len
 use Rattle.std.specs.Prelude.{fold, bit_xor}
 use Rattle.raft_log_records.specs.Checksum.{after_byte}
 use Rattle.raft_log_records.proofs.RegisterLemmas.{enter_four_bytes}
-use Rattle.raft_log_records.proofs.checksum.enter.Goals as goal
+use Rattle.raft_log_records.proofs.checksum.register.enter.Goals as goal
 
 pub returns : goal.returns
 returns c =

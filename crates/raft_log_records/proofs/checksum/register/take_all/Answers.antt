@@ -1,6 +1,6 @@
 use Rattle.std.proofs.Common.{◌/◌, length}
 use Rattle.raft_log_records.proofs.RegisterLemmas.{fold_chunks}
-use Rattle.raft_log_records.proofs.checksum.take_all.Goals as goal
+use Rattle.raft_log_records.proofs.checksum.register.take_all.Goals as goal
 
 pub returns : goal.returns
 returns c =
