@@ -140,7 +140,8 @@ all_right : (xs ys : List ℕ) → AllByRecursion (λ b. b < 256) (xs ++ ys) →
 all_right [] ys h = h
 all_right (x ∷ xs) ys h = all_right xs ys h.1
 
-pub same_from_crc32_of : (front run other back : List ℕ) → AllByRecursion (λ b. b < 256) (front ++ run ++ back) → AllByRecursion (λ b. b < 256) (front ++ other ++ back)
+pub same_from_crc32_of : (front run other back : List ℕ)
+    → AllByRecursion (λ b. b < 256) (front ++ run ++ back) → AllByRecursion (λ b. b < 256) (front ++ other ++ back)
     → length other ≡ length run → length run ≤ 4 → crc32_of (front ++ run ++ back) ≡ crc32_of (front ++ other ++ back) → run ≡ other
 unfolding crc32_of
 same_from_crc32_of front run other back hr ho same short e =
@@ -162,7 +163,8 @@ all_from_places [] h = tt
 all_from_places (x ∷ xs) h = (h 0 (omega arith), all_from_places xs (λ i l. h (suc i) (omega arith)))
 
 -- a change in a run of up to four neighbouring bytes changes the checksum
-pub crc32_of-IsChangedRun : (sent received : List ℕ) → ((i : ℕ) → i < length sent → get_or sent i 0 < 256) → ((i : ℕ) → i < length received → get_or received i 0 < 256)
+pub crc32_of-IsChangedRun : (sent received : List ℕ)
+    → ((i : ℕ) → i < length sent → get_or sent i 0 < 256) → ((i : ℕ) → i < length received → get_or received i 0 < 256)
     → IsChangedRun sent received → crc32_of received ≢ crc32_of sent
 crc32_of-IsChangedRun sent received hs hr change e =
     let sent_bytes = all_from_places sent hs in

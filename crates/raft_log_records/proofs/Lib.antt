@@ -1,3 +1,4 @@
 pub mod RegisterLemmas
+pub mod BlockLemmas
 pub mod TableLemmas
 pub mod ChangeLemmas

@@ -1,5 +1,5 @@
 use Rattle.std.proofs.Common.{◌≡◌, ◌*◌, rules, length, get_or}
-use Rattle.raft_log_records.proofs.RegisterLemmas.{after_four, spelled_out}
+use Rattle.raft_log_records.proofs.BlockLemmas.{after_four, spelled_out}
 use Rattle.raft_log_records.proofs.checksum.register.after_group.Goals as goal
 
 pub returns : goal.returns

@@ -1,5 +1,5 @@
 use Rattle.std.proofs.Common.{◌/◌, length}
-use Rattle.raft_log_records.proofs.RegisterLemmas.{fold_chunks}
+use Rattle.raft_log_records.proofs.BlockLemmas.{fold_chunks}
 use Rattle.raft_log_records.proofs.checksum.register.take_all.Goals as goal
 
 pub returns : goal.returns

@@ -1,4 +1,4 @@
-use Rattle.raft_log_records.proofs.RegisterLemmas.{by_fours}
+use Rattle.raft_log_records.proofs.BlockLemmas.{by_fours}
 use Rattle.raft_log_records.proofs.checksum.register.take_block.Goals as goal
 
 pub returns : goal.returns
