@@ -2,5 +2,15 @@
 #![tactic(auto)]
 
 mod checksum;
+mod command;
+mod error;
+mod file_id;
+mod size;
+mod version;
 
 pub use checksum::crc32;
+pub use command::Command;
+pub use error::{RecordError, RecordFault};
+pub use file_id::{FileBlockHandle, FileId, FileSeq, LogQueue};
+pub use size::ReadableSize;
+pub use version::{LogFileContext, Version};
