@@ -1,2 +1,5 @@
 pub mod Checksum
 pub mod Signature
+pub mod Item
+pub mod Spelling
+pub mod Reading

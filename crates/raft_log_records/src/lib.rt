@@ -5,6 +5,8 @@ mod checksum;
 mod command;
 mod error;
 mod file_id;
+mod item;
+mod reading;
 mod size;
 mod version;
 
@@ -12,5 +14,6 @@ pub use checksum::crc32;
 pub use command::Command;
 pub use error::{RecordError, RecordFault};
 pub use file_id::{FileBlockHandle, FileId, FileSeq, LogQueue};
+pub use item::{AtomicGroupStatus, EntryIndex, LogItem, LogItemContent};
 pub use size::ReadableSize;
 pub use version::{LogFileContext, Version};
