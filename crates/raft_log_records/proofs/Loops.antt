@@ -30,7 +30,7 @@ entries_go_on front count i first limit at bytes e after total lt h so_far =
     let k : count - i ≡ suc (count - (i + 1)) = omega arith in
     let next : first + i + 1 ≡ first + (i + 1) = omega arith in
     let one : with_front front (entries_at (count - i) (first + i) limit at bytes) ≡ with_front (front ++ e ∷ []) (entries_at (count - (i + 1)) (first + i + 1) limit (at + e.entry_len) after) =
-      rw (k, h) (regroup front e (entries_at (count - (i + 1)) (first + i + 1) limit (at + e.entry_len) after)) in
+    rw (k, h) (regroup front e (entries_at (count - (i + 1)) (first + i + 1) limit (at + e.entry_len) after)) in
     ap (λ (n : ℕ). with_front (front ++ e ∷ []) (entries_at (count - (i + 1)) n limit (at + e.entry_len) after)) (sym next) ∙ sym one ∙ so_far
 
 pub entries_fail : (e : RecordError) (front : List EntryIndex) (count i first limit at : ℕ) (bytes : List ℕ) (total : Read EntryIndex) → i < count → Fails e (entry_at (first + i) limit at bytes)
@@ -62,7 +62,7 @@ unfolding items_at
 items_go_on front count i limit at bytes item at' after total lt h so_far =
     let k : count - i ≡ suc (count - (i + 1)) = omega arith in
     let one : with_front front (items_at (count - i) limit at bytes) ≡ with_front (front ++ item ∷ []) (items_at (count - (i + 1)) limit at' after) =
-      rw (k, h) (regroup front item (items_at (count - (i + 1)) limit at' after)) in
+    rw (k, h) (regroup front item (items_at (count - (i + 1)) limit at' after)) in
     sym one ∙ so_far
 
 pub items_fail : (e : RecordError) (front : List (Item EntryIndex)) (count i limit at : ℕ) (bytes : List ℕ) (total : LogRead) → i < count → Fails e (item_at limit at bytes)

@@ -62,8 +62,8 @@ entry_at next limit at bytes = do
   index ← number_at w64 bytes
   len ← number_at w32 index.1
   if not (index.0 == next) then Err fault.NotConsecutive
-    else if nat_lt (limit - at) len.0 then Err fault.EntriesLength
-    else Ok (place index.0 at len.0, len.1)
+      else if nat_lt (limit - at) len.0 then Err fault.EntriesLength
+      else Ok (place index.0 at len.0, len.1)
 
 -- so many entries with indexes from next on: the entries, the bytes of the block up to their end, and the rest
 unfoldable pub entries_at : ℕ → ℕ → ℕ → ℕ → List ℕ → Result (List EntryIndex × ℕ × List ℕ) RecordFault
@@ -88,25 +88,25 @@ indexed es = map (λ e. (e.index, e)) es
 
 unfoldable pub change_behind : ℕ → ℕ → ℕ → List ℕ → Result (Change EntryIndex × ℕ × List ℕ) RecordFault
 change_behind tag limit at bytes =
-  if tag == 1 then (do
-    es ← run_at limit at bytes
-    Ok (entries (indexed es.0), es.1, es.2))
-  else if tag == 2 then Ok (clean, at, bytes)
-  else if tag == 3 then (do
-    index ← number_at w64 bytes
-    Ok (compact index.0, at, index.1))
-  else if tag == 4 then (do
-    key ← key_at bytes
-    value ← string_at key.1
-    Ok (put key.0 value.0, at, value.1))
-  else if tag == 5 then (do
-    key ← key_at bytes
-    Ok (delete key.0, at, key.1))
-  else if tag == 6 then (do
-    id ← number_at w64 bytes
-    status ← status_at id.1
-    Ok (mark id.0 status.0, at, status.1))
-  else Err fault.BadTag
+    if tag == 1 then (do
+      es ← run_at limit at bytes
+      Ok (entries (indexed es.0), es.1, es.2))
+    else if tag == 2 then Ok (clean, at, bytes)
+    else if tag == 3 then (do
+      index ← number_at w64 bytes
+      Ok (compact index.0, at, index.1))
+    else if tag == 4 then (do
+      key ← key_at bytes
+      value ← string_at key.1
+      Ok (put key.0 value.0, at, value.1))
+    else if tag == 5 then (do
+      key ← key_at bytes
+      Ok (delete key.0, at, key.1))
+    else if tag == 6 then (do
+      id ← number_at w64 bytes
+      status ← status_at id.1
+      Ok (mark id.0 status.0, at, status.1))
+    else Err fault.BadTag
 
 unfoldable pub change_at : ℕ → ℕ → List ℕ → Result (Change EntryIndex × ℕ × List ℕ) RecordFault
 change_at limit at [] = Err fault.CutShort
@@ -131,8 +131,8 @@ body_at limit bytes = do
   count ← number_at w32 bytes
   items ← items_at count.0 limit 0 count.1
   if not (length items.2 == 0) then Err fault.TrailingBytes
-    else if not (items.1 == limit) then Err fault.EntriesLength
-    else Ok items.0
+      else if not (items.1 == limit) then Err fault.EntriesLength
+      else Ok items.0
 
 -- ---- records
 
@@ -148,13 +148,17 @@ header_at bytes = do
   len ← number_at w32 bytes
   offset ← number_at w32 len.1
   if nat_lt len.0 16 || nat_lt 33554432 len.0 then Err fault.BadLength
-    else if nat_lt (length bytes) len.0 then Err fault.CutShort
-    else if nat_lt len.0 (offset.0 + 8) || not (offset.0 == 8 || not (nat_lt offset.0 12)) then Err fault.BadOffset
-    else Ok (len.0, offset.0)
+      else if nat_lt (length bytes) len.0 then Err fault.CutShort
+      else if nat_lt len.0 (offset.0 + 8) || not (offset.0 == 8 || not (nat_lt offset.0 12)) then Err fault.BadOffset
+      else Ok (len.0, offset.0)
 
 -- the entries' bytes in the block before the items
 unfoldable pub block_at : ℕ → List ℕ → Result (List ℕ) RecordFault
 block_at offset bytes = if offset == 8 then Ok [] else unsealed fault.EntriesChecksum None (take (offset - 8) (drop 8 bytes))
+
+-- there is a block of entries exactly where an item holds entries
+unfoldable pub agrees : ℕ → List (Item EntryIndex) → Bool
+agrees offset items = if offset == 8 then not (list_any holds_entries items) else list_any holds_entries items
 
 -- the record at the front: its items, its entries' bytes, and its length
 unfoldable pub record_at : Option ℕ → List ℕ → Result (List (Item EntryIndex) × List ℕ × ℕ) RecordFault
@@ -162,6 +166,6 @@ record_at signature bytes = do
   header ← header_at bytes
   body ← unsealed fault.ItemsChecksum signature (take (header.0 - header.1) (drop header.1 bytes))
   items ← body_at (header.1 - 12) body
-  if (if header.1 == 8 then list_any holds_entries items else not (list_any holds_entries items)) then Err fault.EntriesLength else do
+  if not (agrees header.1 items) then Err fault.EntriesLength else do
     block ← block_at header.1 bytes
     Ok (items, block, header.0)

@@ -31,19 +31,11 @@ pub enum LogItemContent {
     EntryIndexes(Vec<EntryIndex>),
     Command(Command),
     /// Sets a key, which is not empty.
-    Put {
-        key: Vec<u8>,
-        value: Vec<u8>,
-    },
+    Put { key: Vec<u8>, value: Vec<u8> },
     /// Removes a key, which is not empty.
-    Delete {
-        key: Vec<u8>,
-    },
+    Delete { key: Vec<u8> },
     /// Says that the record belongs to an atomic group, and where in it.
-    AtomicGroup {
-        id: u64,
-        status: AtomicGroupStatus,
-    },
+    AtomicGroup { id: u64, status: AtomicGroupStatus },
 }
 
 /// One change of one group (raft-engine's `LogItem`).

@@ -7,6 +7,7 @@ mod error;
 mod file_id;
 mod item;
 mod reading;
+mod record;
 mod size;
 mod version;
 

@@ -10,7 +10,6 @@ use crate::error::{RecordError, RecordFault};
 use crate::item::{AtomicGroupStatus, EntryIndex, LogItem, LogItemContent};
 use std::alloc::Global;
 
-
 pub fn u32_at(bytes: &[u8]) -> Result<(u32, &[u8]), RecordError>
     ensures { Gives (λ x. (x.0, x.1.now)) result (number_at w32 bytes.now) }
 {
@@ -166,7 +165,11 @@ fn content_behind(
         2 => Ok((LogItemContent::Command(Command::Clean), at, bytes)),
         3 => {
             let (index, rest) = u64_at(bytes)?;
-            Ok((LogItemContent::Command(Command::Compact { index }), at, rest))
+            Ok((
+                LogItemContent::Command(Command::Compact { index }),
+                at,
+                rest,
+            ))
         }
         4 => {
             let (key, rest) = key_of(alloc, bytes)?;
