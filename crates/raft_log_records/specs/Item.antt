@@ -57,3 +57,7 @@ entry_bytes block e = take e.entry_len (drop e.entry_offset block)
 -- the items with their entries' bytes
 abbrev pub with_bytes : List ℕ → List (Item EntryIndex) → List (Item (List ℕ))
 with_bytes block items = map (item_map (entry_bytes block)) items
+
+-- the items with the lengths of their entries
+abbrev pub with_lengths : List (Item EntryIndex) → List (Item ℕ)
+with_lengths items = map (item_map (λ e. e.entry_len)) items

@@ -5,6 +5,7 @@ use Rattle.std.specs.Int.{w32, w64, to_be_bytes}
 use Rattle.raft_log_records.specs.Checksum.{crc32_of}
 use Rattle.raft_log_records.specs.Item.{Change, Item, change_map, item_map}
 use Rattle.raft_log_records.specs.Item.Change.{entries, clean, compact, put, delete, mark}
+use Rattle.raft_log_records.specs.declared.item.EntryIndex.{EntryIndex}
 use Rattle.raft_log_records.specs.declared.item.AtomicGroupStatus.{AtomicGroupStatus}
 use Rattle.raft_log_records.specs.declared.item.AtomicGroupStatus.TheVariants.{Begin, Middle, End}
 
@@ -31,6 +32,10 @@ spell_change (compact index) = 3 ∷ to_be_bytes w64 index
 spell_change (put key value) = 4 ∷ (spell_string key ++ spell_string value)
 spell_change (delete key) = 5 ∷ spell_string key
 spell_change (mark id status) = 6 ∷ (to_be_bytes w64 id ++ status_byte status ∷ [])
+
+-- the program's entries as an item has them
+abbrev pub spell_run : List EntryIndex → List ℕ
+spell_run es = 1 ∷ (to_be_bytes w32 (length es) ++ flat_map spell_entry (map (λ e. (e.index, e.entry_len)) es))
 
 abbrev pub spell_item : Item ℕ → List ℕ
 spell_item item = to_be_bytes w64 item.group ++ spell_change item.change
@@ -60,6 +65,13 @@ IsChange (compact index) = index < 2 ^ 64
 IsChange (put key value) = IsKey key × (length value < 2 ^ 32)
 IsChange (delete key) = IsKey key
 IsChange (mark id status) = id < 2 ^ 64
+
+-- its counts and lengths have four bytes
+abbrev pub FitsBytes : {E : Type 0} → Change E → Type 0
+FitsBytes (entries es) = length es < 2 ^ 32
+FitsBytes (put key value) = (length key < 2 ^ 32) × (length value < 2 ^ 32)
+FitsBytes (delete key) = length key < 2 ^ 32
+FitsBytes _ = Unit {0}
 
 pub record IsItem (item : Item ℕ) : Type 0 where
   pub group : item.group < 2 ^ 64
@@ -101,13 +113,17 @@ abbrev pub sealed : Option ℕ → List ℕ → List ℕ
 sealed signature bytes = bytes ++ to_be_bytes w32 (signed signature (crc32_of bytes))
 
 -- the whole length, where the items begin, the block of entries, and the items
+abbrev pub spell_parts : Option ℕ → List ℕ → List ℕ → List ℕ
+spell_parts signature block body = to_be_bytes w32 (12 + length block + length body) ++ (to_be_bytes w32 (8 + length block) ++ (block ++ sealed signature body))
+
 unfoldable pub spell_record : Option ℕ → List (Item (List ℕ)) → List ℕ
-spell_record signature items =
-    let block = spell_block items in
-    let body = spell_items (lengths items) in
-    to_be_bytes w32 (12 + length block + length body) ++ (to_be_bytes w32 (8 + length block) ++ (block ++ sealed signature body))
+spell_record signature items = spell_parts signature (spell_block items) (spell_items (lengths items))
+
+-- how many bytes the record has
+unfoldable pub record_len : List (Item (List ℕ)) → ℕ
+record_len items = 12 + length (spell_block items) + length (spell_items (lengths items))
 
 -- what has a record
 pub record AreItems (items : List (Item (List ℕ))) : Type 0 where
   pub each : AllByRecursion IsItem (lengths items)
-  pub short : 12 + length (spell_block items) + length (spell_items (lengths items)) ≤ 33554432
+  pub short : record_len items ≤ 33554432

@@ -10,6 +10,7 @@ mod reading;
 mod record;
 mod size;
 mod version;
+mod writing;
 
 pub use checksum::crc32;
 pub use command::Command;
