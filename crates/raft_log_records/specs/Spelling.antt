@@ -99,10 +99,6 @@ lengths items = map (item_map length) items
 abbrev pub block_of : List (Item (List ℕ)) → List ℕ
 block_of items = flat_map (λ item. flat_map (λ bytes. bytes) (entries_of item.change)) items
 
--- the block of entries with its checksum. It is absent where no item holds entries
-abbrev pub spell_block : List (Item (List ℕ)) → List ℕ
-spell_block items = if list_any holds_entries items then block_of items ++ to_be_bytes w32 (crc32_of (block_of items)) else []
-
 -- a checksum, signed for a file
 abbrev pub signed : Option ℕ → ℕ → ℕ
 signed None sum = sum
@@ -111,6 +107,13 @@ signed (Some signature) sum = bit_xor sum signature
 -- bytes with their signed checksum
 abbrev pub sealed : Option ℕ → List ℕ → List ℕ
 sealed signature bytes = bytes ++ to_be_bytes w32 (signed signature (crc32_of bytes))
+
+-- the block of entries with its checksum. It is absent where no item holds entries
+abbrev pub block_part : Bool → List ℕ → List ℕ
+block_part holds block = if holds then sealed None block else []
+
+abbrev pub spell_block : List (Item (List ℕ)) → List ℕ
+spell_block items = block_part (list_any holds_entries items) (block_of items)
 
 -- the whole length, where the items begin, the block of entries, and the items
 abbrev pub spell_parts : Option ℕ → List ℕ → List ℕ → List ℕ

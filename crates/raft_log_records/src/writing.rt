@@ -4,7 +4,7 @@ ghost use Rattle.std.specs.Prelude.{◌≡◌, ◌≤◌, ◌<◌, ◌+◌, ◌^
 ghost use Rattle.std.specs.List.{flat_map};
 ghost use Rattle.std.specs.Int.{w32, to_be_bytes};
 ghost use Rattle.raft_log_records.specs.Item.{change_of, item_of, items_of, change_map, item_map, with_lengths};
-ghost use Rattle.raft_log_records.specs.Spelling.{spell_string, spell_entry, spell_change, spell_item, spell_items, status_byte, spell_parts, spell_run, sealed, FitsBytes};
+ghost use Rattle.raft_log_records.specs.Spelling.{spell_string, spell_entry, spell_change, spell_item, spell_items, status_byte, spell_parts, spell_run, sealed, block_part, FitsBytes};
 ghost use Rattle.raft_log_records.specs.Checksum.{crc32_of};
 
 use crate::checksum::crc32;
@@ -117,4 +117,56 @@ fn put_block(out: &mut Vec<u8>, entries: &[u8]) -> Result<(), AllocError>
 {
     out.extend_from_slice(entries)?;
     out.extend_from_slice(&crc32(entries).to_be_bytes())
+}
+
+/// The items from their count on, and their checksum, which is not signed yet.
+fn put_sealed(out: &mut Vec<u8>, items: &[LogItem]) -> Result<(), AllocError>
+    requires count { length items.now < 2 ^ 32 }
+    requires each { All (λ item. FitsBytes (item_of item).change) items.now }
+    ensures { OnOk result (out.new.items ≡ out.old.items ++ sealed None (spell_items (with_lengths (items_of items.now)))) }
+{
+    let start = out.len();
+    put_body(out, items)?;
+    let checksum = crc32(&out[start..]);
+    out.extend_from_slice(&checksum.to_be_bytes())
+}
+
+fn put_header(out: &mut Vec<u8>, len: u32, offset: u32) -> Result<(), AllocError>
+    ensures { OnOk result (out.new.items ≡ out.old.items ++ to_be_bytes w32 len ++ to_be_bytes w32 offset) }
+{
+    out.extend_from_slice(&len.to_be_bytes())?;
+    out.extend_from_slice(&offset.to_be_bytes())
+}
+
+/// What stands before the items of a record of `len` bytes.
+fn put_front(out: &mut Vec<u8>, len: u32, holds_entries: bool, entries: &[u8]) -> Result<(), AllocError>
+    requires { 12 + length entries.now < 2 ^ 32 }
+    ensures { let block = block_part holds_entries entries.now in
+        OnOk result (out.new.items ≡ out.old.items ++ (to_be_bytes w32 len ++ (to_be_bytes w32 (8 + length block) ++ block))) }
+{
+    if !holds_entries {
+        return put_header(out, len, 8);
+    }
+    put_header(out, len, 12 + entries.len() as u32)?;
+    put_block(out, entries)
+}
+
+/// The record of `len` bytes, not signed: room for it is made once, and each byte is copied once.
+pub fn write_record(
+    alloc: Global,
+    items: &[LogItem],
+    holds_entries: bool,
+    entries: &[u8],
+    len: u32,
+) -> Result<Vec<u8>, AllocError>
+    requires count { length items.now < 2 ^ 32 }
+    requires each { All (λ item. FitsBytes (item_of item).change) items.now }
+    requires room { 12 + length entries.now < 2 ^ 32 }
+    requires len { len ≡ 12 + length (block_part holds_entries entries.now) + length (spell_items (with_lengths (items_of items.now))) }
+    ensures { IfOk result (λ v. v.items ≡ spell_parts None (block_part holds_entries entries.now) (spell_items (with_lengths (items_of items.now)))) }
+{
+    let mut out = Vec::with_capacity(alloc, len as usize)?;
+    put_front(&mut out, len, holds_entries, entries)?;
+    put_sealed(&mut out, items)?;
+    Ok(out)
 }
