@@ -3,3 +3,5 @@ pub mod Signature
 pub mod Item
 pub mod Spelling
 pub mod Reading
+pub mod Batch
+pub mod BatchView

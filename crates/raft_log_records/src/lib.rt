@@ -1,6 +1,7 @@
 //! Batches of the log engine, their bytes as records, their checksum, and the memtables that they fill.
 #![tactic(auto)]
 
+mod batch;
 mod checksum;
 mod command;
 mod error;
