@@ -139,7 +139,12 @@ fn put_header(out: &mut Vec<u8>, len: u32, offset: u32) -> Result<(), AllocError
 }
 
 /// What stands before the items of a record of `len` bytes.
-fn put_front(out: &mut Vec<u8>, len: u32, holds_entries: bool, entries: &[u8]) -> Result<(), AllocError>
+fn put_front(
+    out: &mut Vec<u8>,
+    len: u32,
+    holds_entries: bool,
+    entries: &[u8],
+) -> Result<(), AllocError>
     requires { 12 + length entries.now < 2 ^ 32 }
     ensures { let block = block_part holds_entries entries.now in
         OnOk result (out.new.items ≡ out.old.items ++ (to_be_bytes w32 len ++ (to_be_bytes w32 (8 + length block) ++ block))) }
