@@ -107,7 +107,7 @@ laid_lengths block at (item ∷ items) end h k =
 
 -- ---- which items hold entries
 
-holds_map : {E F : Type 0} (f : E → F) (c : Change E) → is_entries (change_map f c) ≡ is_entries c
+pub holds_map : {E F : Type 0} (f : E → F) (c : Change E) → is_entries (change_map f c) ≡ is_entries c
 holds_map f (entries es) = refl
 holds_map f clean = refl
 holds_map f (compact index) = refl

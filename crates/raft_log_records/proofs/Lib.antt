@@ -2,3 +2,4 @@ pub mod Loops
 pub mod Lists
 pub mod Spelled
 pub mod Laid
+pub mod Sound

@@ -1,10 +1,12 @@
 -- A batch, as its callers see it.
-use Rattle.std.specs.Prelude.{◌≡◌, ◌<◌, ◌≤◌, ◌+◌, ◌^◌, ℕ, Bool, true, false, List, [], ◌∷◌, ◌++◌, length, map, Option, Some, None, All, if◌then◌else◌}
+use Rattle.std.specs.Prelude.{◌≡◌, ◌<◌, ◌≤◌, ◌+◌, ◌^◌, ℕ, Bool, true, false, List, [], ◌∷◌, ◌++◌, length, map, Option, Some, None, Result, Ok, Err, All, if◌then◌else◌}
 use Rattle.std.specs.List.{flat_map, AllByRecursion, list_any}
+use Rattle.raft_log_records.specs.declared.error.RecordError.{RecordError}
+use Rattle.raft_log_records.specs.declared.error.RecordError.TheVariants as error
 use Rattle.raft_log_records.specs.declared.item.EntryIndex.{EntryIndex}
 use Rattle.raft_log_records.specs.declared.item.LogItem.{LogItem}
 use Rattle.raft_log_records.specs.Item.{Change, Item, item_of, items_of, with_bytes, with_lengths}
-use Rattle.raft_log_records.specs.Spelling.{IsItem, FitsBytes, entries_of, holds_entries, block_part, spell_item, spell_record}
+use Rattle.raft_log_records.specs.Spelling.{IsItem, FitsBytes, entries_of, holds_entries, block_part, spell_item, spell_record, record_len}
 
 -- whether it is open, or written as a record that is signed so
 pub data Writing : Type 0 where
@@ -32,6 +34,14 @@ nothing_logged = record { items = []; writing = open_still }
 abbrev pub logged : Batch → Item (List ℕ) → Batch
 logged batch item = record { items = batch.items ++ item ∷ []; writing = open_still }
 
+-- What adding an item does. It is refused where the record would be too long, and for want of memory, and the batch is
+-- then as before.
+abbrev pub Logs : Batch → Item (List ℕ) → Batch → Result Unit RecordError → Type 0
+Logs old item new (Ok _) = (new ≡ logged old item) × (record_len (old.items ++ item ∷ []) ≤ 33554432)
+Logs old item new (Err error.Memory) = (new ≡ old) × (record_len (old.items ++ item ∷ []) ≤ 33554432)
+Logs old item new (Err error.TooLong) = (new ≡ old) × (33554432 < record_len (old.items ++ item ∷ []))
+Logs old item new (Err (error.Corruption fault)) = ⊥
+
 -- ---- how the entries of the program's items lie in the block, one after the other
 
 abbrev pub IsRunLaid : ℕ → List EntryIndex → ℕ → Type 0
@@ -46,7 +56,7 @@ IsLaid at (item ∷ items) end = (mid : ℕ) × IsRunLaid at (entries_of item.ch
 pub record IsSound (items : List LogItem) (block : List ℕ) (holds : Bool) (items_len : ℕ) : Type 0 where
   pub laid : IsLaid 0 (items_of items) (length block)
   pub each : AllByRecursion IsItem (with_lengths (items_of items))
-  pub fits : All (λ item. FitsBytes (item_of item).change) items
+  pub fits : AllByRecursion (λ item. FitsBytes (item_of item).change) items
   pub sum : items_len ≡ length (flat_map spell_item (with_lengths (items_of items)))
   pub count : length items ≤ items_len
   pub entries_held : holds ≡ list_any holds_entries (items_of items)
