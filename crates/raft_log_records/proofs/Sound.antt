@@ -11,7 +11,7 @@ use Rattle.raft_log_records.specs.declared.item.LogItem.{LogItem}
 use Rattle.raft_log_records.specs.Checksum.{crc32_of}
 use Rattle.raft_log_records.specs.Item.{Change, Item, item_of, items_of, change_map, item_map, entry_bytes, with_bytes, with_lengths}
 use Rattle.raft_log_records.specs.Item.Change.{entries, clean, compact, put, delete, mark}
-use Rattle.raft_log_records.specs.Spelling.{IsItem, FitsBytes, is_entries, holds_entries, entries_of, lengths, block_of, block_part, spell_block, spell_item, spell_items, spell_change, spell_parts, spell_record, record_len, AreItems}
+use Rattle.raft_log_records.specs.Spelling.{IsItem, FitsBytes, is_entries, holds_entries, entries_of, lengths, block_of, block_part, spell_block, spell_item, spell_items, spell_string, spell_change, spell_parts, spell_record, record_len, AreItems}
 use Rattle.raft_log_records.specs.Batch.{IsRunLaid, IsLaid, IsSound}
 use Rattle.raft_log_records.proofs.Laid.{block_is, laid_lengths, any_held, laid_push, holds_map as holds_kept}
 
@@ -156,4 +156,23 @@ record_len_push items item plain =
     let c = length-spell_items (lengths items ++ item_map (λ e. e.entry_len) item ∷ []) in
     let d = length-spell_items (lengths items) in
     let e = spelled_push (lengths items) (item_map (λ e. e.entry_len) item) in
+    omega arith
+
+-- strings make the record at least as long as they are
+pub put_longer : (items : List (Item (List ℕ))) (group : ℕ) (key value : List ℕ) → 33554432 < length key + length value → 33554432 < record_len (items ++ record { group = group; change = put key value } ∷ [])
+put_longer items group key value h =
+    let added : Item EntryIndex = record { group = group; change = put key value } in
+    let a = record_len_push items added refl in
+    let b = length-append (to_be_bytes w64 group) (4 ∷ (spell_string key ++ spell_string value)) in
+    let c = length-append (spell_string key) (spell_string value) in
+    let d = length-append (to_be_bytes w32 (length key)) key in
+    let e = length-append (to_be_bytes w32 (length value)) value in
+    omega arith
+
+pub delete_longer : (items : List (Item (List ℕ))) (group : ℕ) (key : List ℕ) → 33554432 < length key + 0 → 33554432 < record_len (items ++ record { group = group; change = delete key } ∷ [])
+delete_longer items group key h =
+    let added : Item EntryIndex = record { group = group; change = delete key } in
+    let a = record_len_push items added refl in
+    let b = length-append (to_be_bytes w64 group) (5 ∷ spell_string key) in
+    let d = length-append (to_be_bytes w32 (length key)) key in
     omega arith
