@@ -1,9 +1,9 @@
 -- The length and the bytes of a batch's record, from the program's parts of it.
-use Rattle.std.proofs.Common.{◌≡◌, ◌≢◌, ℕ, suc, ◌+◌, ◌-◌, ◌≤◌, ◌<◌, ◌^◌, Bool, true, false, List, [], ◌∷◌, ◌++◌, length, map, Option, None, All, refl, sym, ap, subst, ◌∙◌, arith, length-append}
+use Rattle.std.proofs.Common.{◌≡◌, ◌≢◌, ℕ, suc, ◌+◌, ◌-◌, ◌≤◌, ◌<◌, ◌^◌, Bool, true, false, List, [], ◌∷◌, ◌++◌, length, map, take, append_assoc, Option, None, All, refl, sym, ap, subst, ◌∙◌, arith, length-append}
 use Rattle.std.specs.Prelude.{◌||◌}
 use Rattle.std.specs.List.{flat_map, list_any, AllByRecursion}
 use Rattle.std.specs.Int.{w32, w64, to_be_bytes}
-use Rattle.std.proofs.lemmas.List.{map_push, append-nil}
+use Rattle.std.proofs.lemmas.List.{map_push, append-nil, take_at}
 use Rattle.std.proofs.lemmas.List.Folds.{list_any-append}
 use Rattle.std.proofs.lemmas.Grind.{flat_map-append}
 use Rattle.raft_log_records.specs.declared.item.EntryIndex.{EntryIndex}
@@ -11,8 +11,11 @@ use Rattle.raft_log_records.specs.declared.item.LogItem.{LogItem}
 use Rattle.raft_log_records.specs.Checksum.{crc32_of}
 use Rattle.raft_log_records.specs.Item.{Change, Item, item_of, items_of, change_map, item_map, entry_bytes, with_bytes, with_lengths}
 use Rattle.raft_log_records.specs.Item.Change.{entries, clean, compact, put, delete, mark}
-use Rattle.raft_log_records.specs.Spelling.{IsItem, FitsBytes, is_entries, holds_entries, entries_of, lengths, block_of, block_part, spell_block, spell_item, spell_items, spell_string, spell_change, spell_parts, spell_record, record_len, AreItems}
-use Rattle.raft_log_records.specs.Batch.{IsRunLaid, IsLaid, IsSound}
+use Rattle.raft_log_records.specs.Spelling.{IsItem, FitsBytes, is_entries, holds_entries, entries_of, lengths, block_of, block_part, spell_block, spell_item, spell_items, spell_string, spell_change, spell_parts, spell_record, record_len, signed, AreItems}
+use Rattle.raft_log_records.specs.Batch.{IsRunLaid, IsLaid, IsSound, record_of}
+use Rattle.raft_log_records.specs.BatchView.{writing_of, KeepsChecksum}
+use Rattle.raft_log_records.specs.declared.batch.BufState.{BufState}
+use Rattle.raft_log_records.specs.declared.batch.BufState.TheVariants as buf
 use Rattle.raft_log_records.proofs.Laid.{block_is, laid_lengths, any_held, laid_push, holds_map as holds_kept}
 
 pub sound_lengths : (items : List LogItem) (block : List ℕ) (holds : Bool) (n : ℕ) → IsSound items block holds n → lengths (with_bytes block (items_of items)) ≡ with_lengths (items_of items)
@@ -133,6 +136,7 @@ sound_push items block holds n item m s plain is_item fits len room =
       fits = each_push (λ i. FitsBytes (item_of i).change) items item s.fits fits;
       sum = omega (arith, s.sum);
       count = omega (arith, s.count, length-append items (item ∷ []));
+      bytes = s.bytes;
       entries_held = s.entries_held ∙ sym (ap (λ (l : List (Item EntryIndex)). list_any holds_entries l) (map_push item_of items item) ∙ held_push (items_of items) (item_of item) plain);
       short = omega (arith, s.short);
     }
@@ -176,3 +180,42 @@ delete_longer items group key h =
     let b = length-append (to_be_bytes w64 group) (5 ∷ spell_string key) in
     let d = length-append (to_be_bytes w32 (length key)) key in
     omega arith
+
+-- ---- a record that is signed again
+
+last_four : (front : List ℕ) (sum new : ℕ) → take (length (front ++ to_be_bytes w32 sum) - 4) (front ++ to_be_bytes w32 sum) ++ to_be_bytes w32 new ≡ front ++ to_be_bytes w32 new
+last_four front sum new = with_tail front (to_be_bytes w32 sum) refl
+  where
+    with_tail : (front tail : List ℕ) → length tail ≡ 4 → take (length (front ++ tail) - 4) (front ++ tail) ++ to_be_bytes w32 new ≡ front ++ to_be_bytes w32 new
+    with_tail front tail four =
+        let k : length (front ++ tail) - 4 ≡ length front = omega (arith, length-append front tail) in
+        ap (λ (n : ℕ). take n (front ++ tail) ++ to_be_bytes w32 new) k ∙ ap (λ (l : List ℕ). l ++ to_be_bytes w32 new) (take_at front tail (length front) refl)
+
+front_of : List ℕ → List ℕ → List ℕ
+front_of block body = to_be_bytes w32 (12 + length block + length body) ++ (to_be_bytes w32 (8 + length block) ++ (block ++ body))
+
+four_parts : (a b c d e : List ℕ) → a ++ (b ++ (c ++ (d ++ e))) ≡ (a ++ (b ++ (c ++ d))) ++ e
+four_parts a b c d e = simp append_assoc
+
+parts_grouped : (signature : Option ℕ) (block body : List ℕ) → spell_parts signature block body ≡ front_of block body ++ to_be_bytes w32 (signed signature (crc32_of body))
+unfolding front_of
+parts_grouped signature block body = four_parts (to_be_bytes w32 (12 + length block + length body)) (to_be_bytes w32 (8 + length block)) block body (to_be_bytes w32 (signed signature (crc32_of body)))
+
+pub parts_signed_again : (old new : Option ℕ) (block body whole : List ℕ) (sum : ℕ) → whole ≡ spell_parts old block body → sum ≡ signed new (crc32_of body) → take (length whole - 4) whole ++ to_be_bytes w32 sum ≡ spell_parts new block body
+parts_signed_again old new block body bytes sum is sums =
+    let whole = is ∙ parts_grouped old block body in
+    ap (λ (l : List ℕ). take (length l - 4) l ++ to_be_bytes w32 sum) whole
+    ∙ last_four (front_of block body) (signed old (crc32_of body)) sum
+    ∙ ap (λ (n : ℕ). front_of block body ++ to_be_bytes w32 n) sums
+    ∙ sym (parts_grouped new block body)
+
+pub parts_long : (signature : Option ℕ) (block body whole : List ℕ) → whole ≡ spell_parts signature block body → 4 ≤ length whole
+parts_long signature block body bytes is =
+    let a = ap length (is ∙ parts_grouped signature block body) in
+    omega (arith, length-append (front_of block body) (to_be_bytes w32 (signed signature (crc32_of body))))
+
+pub encoded_is : (items : List (Item (List ℕ))) (encoded : List ℕ) (state : BufState) (checksum : ℕ) (signature : Option ℕ) → encoded ≡ record_of items (writing_of state) → state ≡ buf.Encoded checksum signature → encoded ≡ spell_record signature items
+encoded_is items encoded state checksum signature e is = e ∙ ap (λ (st : BufState). record_of items (writing_of st)) is
+
+pub checksum_is : (body : List ℕ) (state : BufState) (checksum : ℕ) (signature : Option ℕ) → KeepsChecksum state body → state ≡ buf.Encoded checksum signature → checksum ≡ crc32_of body
+checksum_is body state checksum signature k is = subst (λ (st : BufState). KeepsChecksum st body) is k

@@ -18,17 +18,26 @@ pub record Batch : Type 0 where
   pub items : List (Item (List ℕ))
   pub writing : Writing
 
--- the bytes that it is written as: none while it is open. No item, no record
+-- the bytes that it is written as: none while it is open
 abbrev pub record_of : List (Item (List ℕ)) → Writing → List ℕ
 record_of items open_still = []
-record_of [] (written signature) = []
-record_of (item ∷ items) (written signature) = spell_record signature (item ∷ items)
+record_of items (written signature) = spell_record signature items
 
 abbrev pub encoded_of : Batch → List ℕ
 encoded_of batch = record_of batch.items batch.writing
 
 abbrev pub nothing_logged : Batch
 nothing_logged = record { items = []; writing = open_still }
+
+-- the batch written as a record. Without items it is none
+abbrev pub populated : List (Item (List ℕ)) → Batch
+populated [] = nothing_logged
+populated (item ∷ items) = record { items = item ∷ items; writing = written None }
+
+-- the same record, signed for another file
+abbrev pub signed_again : Option ℕ → Writing → Writing
+signed_again signature open_still = open_still
+signed_again signature (written other) = written signature
 
 -- the batch with one more item
 abbrev pub logged : Batch → Item (List ℕ) → Batch
@@ -59,5 +68,6 @@ pub record IsSound (items : List LogItem) (block : List ℕ) (holds : Bool) (ite
   pub fits : AllByRecursion (λ item. FitsBytes (item_of item).change) items
   pub sum : items_len ≡ length (flat_map spell_item (with_lengths (items_of items)))
   pub count : length items ≤ items_len
+  pub bytes : length block ≤ 33554432
   pub entries_held : holds ≡ list_any holds_entries (items_of items)
   pub short : 16 + items_len + length (block_part holds block) ≤ 33554432

@@ -1,17 +1,21 @@
 //! Batches of changes, which become one record each.
 
-ghost use Rattle.std.specs.Prelude.{◌≡◌, ◌<◌, ◌≤◌, ◌+◌, ◌^◌, ◌++◌, ◌∷◌, ◌↔◌, [], length, IsTrue, OnOk, OnErr, IfOk, IfSome, IfNone, false};
-ghost use Rattle.raft_log_records.specs.Item.{Item, command_change, item_of, item_map, entry_bytes};
-ghost use Rattle.raft_log_records.specs.Spelling.{holds_entries, IsItem, FitsBytes, spell_item, record_len};
+ghost use Rattle.std.specs.Prelude.{◌≡◌, ◌<◌, ◌≤◌, ◌+◌, ◌^◌, ◌++◌, ◌∷◌, ◌↔◌, [], length, IsTrue, OnOk, OnErr, IfOk, IfErr, IfSome, IfNone, false};
+ghost use Rattle.raft_log_records.specs.Item.{Item, command_change, with_bytes, items_of, item_of, item_map, entry_bytes};
+ghost use Rattle.raft_log_records.specs.Spelling.{holds_entries, IsItem, FitsBytes, spell_item, block_of, record_len};
 ghost use Rattle.raft_log_records.specs.Item.Change.{put, delete, mark};
-ghost use Rattle.raft_log_records.specs.Batch.{nothing_logged, logged, encoded_of, Logs};
+ghost use Rattle.raft_log_records.specs.Batch.{nothing_logged, logged, encoded_of, populated, signed_again, Logs};
+ghost use Rattle.raft_log_records.specs.Signature.{signature_of};
 
 use crate::command::Command;
 use crate::error::RecordError;
 use crate::item::{AtomicGroupStatus, LogItem, LogItemContent};
-use crate::record::MAX_RECORD_LEN;
+use crate::record::{LogItemBatch, MAX_RECORD_LEN, sign};
+use crate::version::LogFileContext;
+use crate::writing::{sign_again, write_record};
 use std::alloc::Global;
 use std::marker::Model;
+use std::mem;
 
 /// Changes of groups that are written and count together (raft-engine's `LogBatch`).
 #[derive(Debug, Drop)]
@@ -204,5 +208,66 @@ impl LogBatch {
             content,
         };
         self.push(item, 18)
+    }
+
+    /// Writes the batch as a record, not signed yet, and answers how many bytes it has (raft-engine's
+    /// `finish_populate`). A batch without items is written as none.
+    pub fn finish_populate(&mut self) -> Result<usize, RecordError>
+        ensures ok { OnOk result (self.new ≡ populated self.old.items) }
+        ensures len { IfOk result (λ n. n ≡ length (encoded_of self.new)) }
+        ensures err { IfErr result (λ e. (e ≡ RecordError.Memory) × (self.new ≡ self.old)) }
+    {
+        if self.items.is_empty() {
+            self.encoded.clear();
+            self.buf_state = BufState::Open;
+            return Ok(0);
+        }
+        let len = self.record_len();
+        let alloc = *self.items.allocator();
+        let (encoded, checksum) = write_record(
+            alloc,
+            &self.items,
+            self.holds_entries,
+            &self.entries,
+            len,
+        )?;
+        self.encoded = encoded;
+        self.buf_state = BufState::Encoded {
+            checksum,
+            signature: None,
+        };
+        Ok(self.encoded.len())
+    }
+
+    /// Signs the record for the file that it is to stand in (raft-engine's `prepare_write`). A
+    /// record may be signed again, for another file.
+    pub fn prepare_write(&mut self, context: &LogFileContext)
+        ensures { let signature = signature_of context.now.version context.now.id.seq in
+            self.new ≡ record { items = self.old.items; writing = signed_again signature self.old.writing } }
+    {
+        if let BufState::Encoded { checksum, .. } = self.buf_state {
+            let signature = context.get_signature();
+            sign_again(&mut self.encoded, sign(signature, checksum));
+            self.buf_state = BufState::Encoded {
+                checksum,
+                signature,
+            };
+        }
+    }
+
+    /// Takes the items out, with the places of their entries in the record's block, and leaves an
+    /// empty batch (raft-engine's `drain`).
+    pub fn drain(&mut self) -> LogItemBatch
+        ensures items { with_bytes (block_of self.old.items) (items_of result.items.items) ≡ self.old.items }
+        ensures empty { self.new ≡ nothing_logged }
+    {
+        let alloc = *self.items.allocator();
+        let items = mem::replace(&mut self.items, Vec::new(alloc));
+        self.entries.clear();
+        self.holds_entries = false;
+        self.items_len = 0;
+        self.buf_state = BufState::Open;
+        self.encoded.clear();
+        LogItemBatch { items }
     }
 }

@@ -56,7 +56,8 @@ fn header_of(bytes: &[u8]) -> Result<(u32, u32), RecordError>
     Ok((len, offset))
 }
 
-fn sign(signature: Option<u32>, checksum: u32) -> u32
+/// A checksum, signed for a file.
+pub fn sign(signature: Option<u32>, checksum: u32) -> u32
     ensures { result ≡ signed signature checksum }
 {
     match signature {
