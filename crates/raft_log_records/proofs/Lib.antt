@@ -1,0 +1,9 @@
+pub mod RegisterLemmas
+pub mod BlockLemmas
+pub mod TableLemmas
+pub mod ChangeLemmas
+pub mod Loops
+pub mod Lists
+pub mod Spelled
+pub mod Laid
+pub mod Sound

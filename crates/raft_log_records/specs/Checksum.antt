@@ -1,0 +1,31 @@
+-- CRC-32 by its polynomial, one bit at a time: reflected, 0xEDB88320, complemented at both ends.
+use Rattle.std.specs.Prelude.{◌≡◌, ◌≢◌, ◌≤◌, ◌++◌, ℕ, zero, suc, List, length, fold, bit_xor, ◌/◌, ◌%◌, ◌==◌, if◌then◌else◌}
+
+-- the register after one bit: the lowest bit goes out, and where it was 1 the polynomial goes in
+unfoldable pub shifted : ℕ → ℕ
+shifted register = if register % 2 == 0 then register / 2 else bit_xor (register / 2) 0xEDB8_8320
+
+-- the register after one byte, its lowest bit first
+unfoldable pub after_byte : ℕ → ℕ → ℕ
+after_byte register byte = shifted (shifted (shifted (shifted (shifted (shifted (shifted (shifted (bit_xor register byte))))))))
+
+-- the register after a number of zero bytes
+unfoldable pub after_zeros : ℕ → ℕ → ℕ
+after_zeros zero register = register
+after_zeros (suc n) register = after_zeros n (after_byte register 0)
+
+-- the checksum of some bytes
+unfoldable pub crc32_of : List ℕ → ℕ
+crc32_of bytes = bit_xor (fold after_byte 0xFFFF_FFFF bytes) 0xFFFF_FFFF
+
+-- what was received is what was sent, but for a run of up to four neighbouring bytes
+pub record IsChangedRun (sent received : List ℕ) : Type 0 where
+  pub front : List ℕ
+  pub run : List ℕ
+  pub other : List ℕ
+  pub back : List ℕ
+  pub sent_is : sent ≡ front ++ run ++ back
+  pub received_is : received ≡ front ++ other ++ back
+  pub as_many : length other ≡ length run
+  pub up_to_four : length run ≤ 4
+  pub changed : other ≢ run
