@@ -3,3 +3,5 @@ pub mod Lists
 pub mod Spelled
 pub mod Laid
 pub mod Sound
+pub mod Fields
+pub mod Taken

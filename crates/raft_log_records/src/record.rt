@@ -140,3 +140,16 @@ fn record_of(alloc: Global, bytes: &[u8], signature: Option<u32>) -> Result<Reco
         len,
     })
 }
+
+/// Reads the record at the front of some bytes, in a file with this signature. Bytes may follow it.
+/// Refused are only want of memory and, as `Corruption`, bytes that do not begin with a record, by
+/// the first fault that is met.
+pub fn read_record(
+    alloc: Global,
+    bytes: &[u8],
+    signature: Option<u32>,
+) -> Result<Record<'_>, RecordError>
+    ensures exact { Gives (λ r. (items_of r.batch.items.items, r.entries.now, r.len)) result (record_at signature bytes.now) }
+{
+    record_of(alloc, bytes, signature)
+}
