@@ -5,3 +5,4 @@ pub mod Laid
 pub mod Sound
 pub mod Fields
 pub mod Taken
+pub mod RecordTaken

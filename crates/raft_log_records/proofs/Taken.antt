@@ -18,7 +18,7 @@ use Rattle.raft_log_records.specs.Reading.{◌>>=◌, number_at, string_at, key_
 use Rattle.raft_log_records.proofs.Spelled.{heads, heads_of, count, run_spelled}
 use Rattle.raft_log_records.proofs.Fields.{IsBytes, bind_ok, guard_ok, guard_then, ok_is, Takes, Takes-then, wide32, wide64, number_takes, string_takes, key_takes}
 
-not_true : (b : Bool) → not b ≡ false → b ≡ true
+pub not_true : (b : Bool) → not b ≡ false → b ≡ true
 not_true true h = refl
 not_true false h = absurd cc
 

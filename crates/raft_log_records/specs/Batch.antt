@@ -1,12 +1,12 @@
 -- A batch, as its callers see it.
-use Rattle.std.specs.Prelude.{◌≡◌, ◌<◌, ◌≤◌, ◌+◌, ◌^◌, ℕ, Bool, true, false, List, [], ◌∷◌, ◌++◌, length, map, Option, Some, None, Result, Ok, Err, All, if◌then◌else◌}
+use Rattle.std.specs.Prelude.{◌≡◌, ◌<◌, ◌≤◌, ◌+◌, ◌^◌, ℕ, Bool, true, false, List, [], ◌∷◌, ◌++◌, length, map, take, Option, Some, None, Result, Ok, Err, All, if◌then◌else◌}
 use Rattle.std.specs.List.{flat_map, AllByRecursion, list_any}
 use Rattle.raft_log_records.specs.declared.error.RecordError.{RecordError}
 use Rattle.raft_log_records.specs.declared.error.RecordError.TheVariants as error
 use Rattle.raft_log_records.specs.declared.item.EntryIndex.{EntryIndex}
 use Rattle.raft_log_records.specs.declared.item.LogItem.{LogItem}
 use Rattle.raft_log_records.specs.Item.{Change, Item, item_of, items_of, with_bytes, with_lengths}
-use Rattle.raft_log_records.specs.Spelling.{IsItem, FitsBytes, entries_of, holds_entries, block_part, spell_item, spell_record, record_len}
+use Rattle.raft_log_records.specs.Spelling.{IsItem, FitsBytes, entries_of, holds_entries, block_part, spell_item, spell_record, record_len, AreItems}
 
 -- whether it is open, or written as a record that is signed so
 pub data Writing : Type 0 where
@@ -71,3 +71,10 @@ pub record IsSound (items : List LogItem) (block : List ℕ) (holds : Bool) (ite
   pub bytes : length block ≤ 33554432
   pub entries_held : holds ≡ list_any holds_entries (items_of items)
   pub short : 16 + items_len + length (block_part holds block) ≤ 33554432
+
+-- the record at the front of some bytes has these items and this length
+pub record IsRecordAt (signature : Option ℕ) (bytes : List ℕ) (items : List (Item (List ℕ))) (len : ℕ) : Type 0 where
+  pub each : AreItems items
+  pub spelled : take len bytes ≡ spell_record signature items
+  pub whole : len ≡ record_len items
+  pub within : len ≤ length bytes
