@@ -6,3 +6,4 @@ pub mod Sound
 pub mod Fields
 pub mod Taken
 pub mod RecordTaken
+pub mod Again

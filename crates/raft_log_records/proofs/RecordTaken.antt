@@ -1,6 +1,6 @@
 -- A record that is read was spelled so.
 use Rattle.std.proofs.Common.{◌≡◌, ◌≢◌, ◌⊎◌, inl, inr, ⊎_elim, ℕ, zero, suc, ◌+◌, ◌-◌, ◌^◌, ◌<◌, ◌≤◌, Bool, true, false, not, cond, ltb, eqb, List, [], ◌∷◌, ◌++◌, length, get_or, take, drop, Option, Some, None, Result, Ok, Err, refl, sym, ap, subst, ◌∙◌, append_assoc, arith, length-append, length-take, length-drop}
-use Rattle.std.specs.Prelude.{◌||◌}
+use Rattle.std.specs.Prelude.{◌||◌, IfOk}
 use Rattle.std.specs.List.{list_any, AllByRecursion}
 use Rattle.std.specs.Int.{w32, from_be_bytes, to_be_bytes}
 use Rattle.std.proofs.lemmas.Bool.{ltb-false, eqb-true, eq-eqb, ne_eqb}
@@ -9,10 +9,12 @@ use Rattle.raft_log_records.specs.declared.error.RecordFault.{RecordFault}
 use Rattle.raft_log_records.specs.declared.error.RecordFault.TheVariants as fault
 use Rattle.raft_log_records.specs.declared.item.EntryIndex.{EntryIndex}
 use Rattle.raft_log_records.specs.Checksum.{crc32_of}
-use Rattle.raft_log_records.specs.Item.{Item, entry_bytes, with_bytes, with_lengths}
+use Rattle.raft_log_records.specs.declared.record.Record.{Record}
+use Rattle.raft_log_records.specs.declared.error.RecordError.{RecordError}
+use Rattle.raft_log_records.specs.Item.{Item, items_of, entry_bytes, with_bytes, with_lengths}
 use Rattle.raft_log_records.specs.Spelling.{holds_entries, block_part, signed, sealed, lengths, spell_block, spell_items, spell_parts, spell_record, record_len, IsItem, AreItems}
 use Rattle.raft_log_records.specs.Batch.{IsLaid, IsRecordAt}
-use Rattle.raft_log_records.specs.Reading.{◌>>=◌, number_at, unsealed, header_at, block_at, body_at, agrees, record_at}
+use Rattle.raft_log_records.specs.Reading.{◌>>=◌, Gives, number_at, unsealed, header_at, block_at, body_at, agrees, record_at}
 use Rattle.raft_log_records.proofs.Fields.{IsBytes, IsBytes-take, IsBytes-drop, bind_ok, guard_ok, guard_then, Takes, Takes-then, wide32, number_takes}
 use Rattle.raft_log_records.proofs.Laid.{fronts, block_is, laid_lengths, any_held}
 use Rattle.raft_log_records.proofs.Taken.{not_true, BodyTaken, body_takes}
@@ -230,3 +232,8 @@ record_takes signature bytes x fits e =
 
     done_is : (x y : Read) → answered x ≡ answered y → x ≡ y
     done_is x y e = cc
+
+pub is_found : (signature : Option ℕ) (bytes : List ℕ) (r : Result Record RecordError) → IsBytes bytes → Gives (λ r. (items_of r.batch.items.items, r.entries.now, r.len)) r (record_at signature bytes)
+    → IfOk r (λ r. IsRecordAt signature bytes (with_bytes r.entries.now (items_of r.batch.items.items)) r.len)
+is_found signature bytes (Ok r) fits given = record_takes signature bytes (items_of r.batch.items.items, r.entries.now, r.len) fits given
+is_found signature bytes (Err e) fits given = tt

@@ -2,7 +2,8 @@
 
 ghost use Rattle.std.specs.Prelude.{◌≡◌, ◌≤◌, ◌+◌, ◌⊎◌, length, IfOk};
 ghost use Rattle.std.specs.List.{list_any};
-ghost use Rattle.raft_log_records.specs.Item.{item_of, items_of};
+ghost use Rattle.raft_log_records.specs.Item.{item_of, items_of, with_bytes};
+ghost use Rattle.raft_log_records.specs.Batch.{IsRecordAt};
 ghost use Rattle.raft_log_records.specs.Spelling.{signed, holds_entries};
 ghost use Rattle.raft_log_records.specs.Reading.{Gives, header_at, unsealed, block_at, agrees, record_at};
 
@@ -149,6 +150,9 @@ pub fn read_record(
     bytes: &[u8],
     signature: Option<u32>,
 ) -> Result<Record<'_>, RecordError>
+    // What is read is spelled so, each byte of it, with both checksums.
+    ensures found { IfOk result (λ r. IsRecordAt signature bytes.now (with_bytes r.entries.now (items_of r.batch.items.items)) r.len) }
+    // Which fault it is.
     ensures exact { Gives (λ r. (items_of r.batch.items.items, r.entries.now, r.len)) result (record_at signature bytes.now) }
 {
     record_of(alloc, bytes, signature)
