@@ -93,3 +93,86 @@ entries_again (e ∷ es) next limit at rest h k =
     let others = entries_again es (next + 1) limit (at + length e.1) rest h.3 k in
     let one : place next at (length e.1) ≡ place e.0 at (length e.1) = ap (λ (n : ℕ). place n at (length e.1)) (sym h.0) in
     ap (entries_at (suc (length es)) next limit at) regrouped ∙ rw (first, others, one) refl
+
+number_twice : (first : ℕ) (es : List (ℕ × ℕ)) (rest : List ℕ) → 0 < length es → IsConsecutive first es → (r : List ℕ) × (number_at w64 (flat_map spell_entry es ++ rest) ≡ Ok (first, r))
+number_twice first [] rest some h = absurd (omega arith)
+number_twice first (e ∷ es) rest some h =
+    let behind = to_be_bytes w32 e.1 ++ (flat_map spell_entry es ++ rest) in
+    let regrouped : flat_map spell_entry (e ∷ es) ++ rest ≡ to_be_bytes w64 e.0 ++ behind =
+      ap (λ (l : List ℕ). l ++ rest) (flat_map-cons spell_entry e es) ∙ append_assoc (spell_entry e) (flat_map spell_entry es) rest ∙ append_assoc (to_be_bytes w64 e.0) (to_be_bytes w32 e.1) (flat_map spell_entry es ++ rest) in
+    (behind, ap (λ (l : List ℕ). number_at w64 l) regrouped ∙ number_again w64 (2 ^ 64) wide64 e.0 behind h.1 ∙ ap (λ (n : ℕ). first_read n behind) h.0)
+  where
+    first_read : ℕ → List ℕ → Result (ℕ × List ℕ) RecordFault
+    first_read n r = Ok (n, r)
+
+run_again : (es : List (ℕ × List ℕ)) (limit at : ℕ) (rest : List ℕ) → IsChange (entries (heads es)) → run_end at es ≤ limit
+    → run_at limit at ((to_be_bytes w32 (length (heads es)) ++ flat_map spell_entry (heads es)) ++ rest) ≡ Ok (runs at es, run_end at es, rest)
+unfolding run_at
+run_again es limit at rest h k =
+    let behind = flat_map spell_entry (heads es) ++ rest in
+    let len = heads_len es in
+    let some : eqb (length (heads es)) 0 ≡ false = ne_eqb _ _ (λ e. omega (arith, h.0)) in
+    let twice = number_twice (first_index (heads es)) (heads es) rest h.0 h.2 in
+    let again = entries_again es (first_index (heads es)) limit at rest h.2 k in
+    let counted : entries_at (length (heads es)) (first_index (heads es)) limit at behind ≡ Ok (runs at es, run_end at es, rest) = ap (λ (n : ℕ). entries_at n (first_index (heads es)) limit at behind) len ∙ again in
+    ap (run_at limit at) (append_assoc (to_be_bytes w32 (length (heads es))) (flat_map spell_entry (heads es)) rest)
+    ∙ rw (number_again w32 (2 ^ 32) wide32 (length (heads es)) behind h.1, some, twice.1, counted) refl
+  where
+    heads_len : (es : List (ℕ × List ℕ)) → length (heads es) ≡ length es
+    heads_len [] = refl
+    heads_len (e ∷ es) = ap suc (heads_len es)
+
+status_again : (status : AtomicGroupStatus) (rest : List ℕ) → status_at (status_byte status ∷ rest) ≡ Ok (status, rest)
+unfolding status_at
+status_again Begin rest = refl
+status_again Middle rest = refl
+status_again End rest = refl
+
+-- ---- items
+
+lens_change : Change (List ℕ) → Change ℕ
+lens_change c = change_map length c
+
+change_again : (c : Change (List ℕ)) (limit at : ℕ) (rest : List ℕ) → IsChange (change_map length c) → change_end at c ≤ limit
+    → change_at limit at (spell_change (change_map length c) ++ rest) ≡ Ok (placed_change at c, change_end at c, rest)
+unfolding change_at change_behind
+change_again (entries es) limit at rest h k = rw (run_again es limit at rest h k) refl
+change_again clean limit at rest h k = refl
+change_again (compact index) limit at rest h k = rw (number_again w64 (2 ^ 64) wide64 index rest h) refl
+change_again (put key value) limit at rest h k =
+    let regrouped = append_assoc (spell_string key) (spell_string value) rest in
+    rw (regrouped, key_again key (spell_string value ++ rest) h.0, string_again value rest h.1) refl
+change_again (delete key) limit at rest h k = rw (key_again key rest h) refl
+change_again (mark id status) limit at rest h k =
+    let regrouped = append_assoc (to_be_bytes w64 id) (status_byte status ∷ []) rest in
+    ap (λ (l : List ℕ). change_behind 6 limit at l) regrouped ∙ rw (number_again w64 (2 ^ 64) wide64 id (status_byte status ∷ rest) h, status_again status rest) refl
+
+item_again : (item : Item (List ℕ)) (limit at : ℕ) (rest : List ℕ) → IsItem (item_map length item) → change_end at item.change ≤ limit
+    → item_at limit at (spell_item (item_map length item) ++ rest) ≡ Ok (record { group = item.group; change = placed_change at item.change }, change_end at item.change, rest)
+unfolding item_at
+item_again item limit at rest h k =
+    let behind = spell_change (change_map length item.change) ++ rest in
+    ap (item_at limit at) (append_assoc (to_be_bytes w64 item.group) (spell_change (change_map length item.change)) rest)
+    ∙ rw (number_again w64 (2 ^ 64) wide64 item.group behind h.group, change_again item.change limit at rest h.change k) refl
+
+items_again : (items : List (Item (List ℕ))) (limit at : ℕ) (rest : List ℕ) → AllByRecursion IsItem (lengths items) → placed_end at items ≤ limit
+    → items_at (length (lengths items)) limit at (flat_map spell_item (lengths items) ++ rest) ≡ Ok (placed at items, placed_end at items, rest)
+unfolding items_at
+items_again [] limit at rest h k = refl
+items_again (item ∷ items) limit at rest h k =
+    let mid = change_end at item.change in
+    let behind = flat_map spell_item (lengths items) ++ rest in
+    let regrouped : flat_map spell_item (lengths (item ∷ items)) ++ rest ≡ spell_item (item_map length item) ++ behind =
+      ap (λ (l : List ℕ). l ++ rest) (flat_map-cons spell_item (item_map length item) (lengths items)) ∙ append_assoc (spell_item (item_map length item)) (flat_map spell_item (lengths items)) rest in
+    let first = item_again item limit at behind h.0 (omega (arith, placed_end_rises mid items)) in
+    let others = items_again items limit mid rest h.1 k in
+    ap (items_at (suc (length (lengths items))) limit at) regrouped ∙ rw (first, others) refl
+
+pub body_again : (items : List (Item (List ℕ))) (limit : ℕ) → AllByRecursion IsItem (lengths items) → length (lengths items) < 2 ^ 32 → placed_end 0 items ≡ limit → body_at limit (spell_items (lengths items)) ≡ Ok (placed 0 items)
+unfolding body_at
+body_again items limit h fits end =
+    let all = items_again items limit 0 [] h (omega arith) in
+    let whole : items_at (length (lengths items)) limit 0 (flat_map spell_item (lengths items)) ≡ Ok (placed 0 items, placed_end 0 items, []) =
+      ap (items_at (length (lengths items)) limit 0) (sym (append-nil (flat_map spell_item (lengths items)))) ∙ all in
+    let same : eqb (placed_end 0 items) limit ≡ true = eq-eqb _ _ end in
+    rw (number_again w32 (2 ^ 32) wide32 (length (lengths items)) (flat_map spell_item (lengths items)) fits, whole, same) refl
