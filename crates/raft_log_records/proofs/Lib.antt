@@ -7,3 +7,4 @@ pub mod Fields
 pub mod Taken
 pub mod RecordTaken
 pub mod Again
+pub mod Placed
