@@ -8,3 +8,4 @@ pub mod Taken
 pub mod RecordTaken
 pub mod Again
 pub mod Placed
+pub mod RecordAgain
