@@ -9,11 +9,12 @@ use Rattle.std.proofs.lemmas.List.{take_at, drop_at, append-nil}
 use Rattle.std.proofs.lemmas.List.Concat.{flat_map-cons}
 use Rattle.raft_log_records.specs.declared.error.RecordFault.{RecordFault}
 use Rattle.raft_log_records.specs.declared.error.RecordFault.TheVariants as fault
+use Rattle.raft_log_records.specs.declared.item.EntryIndex.{EntryIndex}
 use Rattle.raft_log_records.specs.Checksum.{shifted, after_byte, crc32_of}
 use Rattle.raft_log_records.specs.Item.{Item, item_map, with_bytes}
 use Rattle.raft_log_records.specs.Spelling.{holds_entries, block_of, block_part, signed, sealed, lengths, spell_block, spell_item, spell_items, spell_change, spell_parts, spell_record, record_len, IsItem, AreItems}
 use Rattle.raft_log_records.specs.Reading.{◌>>=◌, number_at, unsealed, header_at, block_at, body_at, agrees, record_at}
-use Rattle.raft_log_records.proofs.Fields.{IsBytes, wide32, number_again}
+use Rattle.raft_log_records.proofs.Fields.{IsBytes, IsBytes-take, IsBytes-drop, wide32, number_again}
 use Rattle.raft_log_records.proofs.Again.{placed, placed_end, body_again}
 use Rattle.raft_log_records.proofs.Placed.{placed_end_is, placed_held, none_block}
 
@@ -164,3 +165,66 @@ limit_is items = placed_end_is 0 items ∙ by_test (list_any holds_entries items
         let len = ap (λ (b : Bool). length (block_part b (block_of items))) h in
         let none = ap length (none_block items h) in
         omega arith
+
+-- ---- bytes of parts
+
+front_bytes : (a b : List ℕ) → IsBytes (a ++ b) → IsBytes a
+front_bytes a b h = subst IsBytes (take_at a b (length a) refl) (IsBytes-take (length a) (a ++ b) h)
+
+back_bytes : (a b : List ℕ) → IsBytes (a ++ b) → IsBytes b
+back_bytes a b h = subst IsBytes (drop_at a b (length a) refl) (IsBytes-drop (length a) (a ++ b) h)
+
+block_bytes : (items : List (Item (List ℕ))) → IsBytes (spell_block items) → IsBytes (block_of items)
+block_bytes items h = by_test (list_any holds_entries items) refl
+  where
+    by_test : (b : Bool) → list_any holds_entries items ≡ b → IsBytes (block_of items)
+    by_test true k = front_bytes (block_of items) (to_be_bytes w32 (crc32_of (block_of items))) (subst IsBytes (ap (λ (b : Bool). block_part b (block_of items)) k) h)
+    by_test false k = subst IsBytes (sym (none_block items k)) (λ i. omega arith)
+
+item_long : (item : Item ℕ) → 8 ≤ length (spell_item item)
+item_long item = omega (arith, length-append (to_be_bytes w64 item.group) (spell_change item.change))
+
+count_small : (items : List (Item ℕ)) → length items ≤ length (flat_map spell_item items)
+count_small [] = omega arith
+count_small (item ∷ items) = omega (arith, count_small items, item_long item, ap length (flat_map-cons spell_item item items), length-append (spell_item item) (flat_map spell_item items))
+
+block_place : (items : List (Item (List ℕ))) → (length (spell_block items) ≡ 0) ⊎ (4 ≤ length (spell_block items))
+block_place items = by_test (list_any holds_entries items) refl
+  where
+    by_test : (b : Bool) → list_any holds_entries items ≡ b → (length (spell_block items) ≡ 0) ⊎ (4 ≤ length (spell_block items))
+    by_test true k = inr (omega (arith, ap (λ (b : Bool). length (block_part b (block_of items))) k, length-append (block_of items) (to_be_bytes w32 (crc32_of (block_of items)))))
+    by_test false k = inl (ap (λ (b : Bool). length (block_part b (block_of items))) k)
+
+-- ---- records
+
+abbrev Read : Type 0
+Read = List (Item EntryIndex) × List ℕ × ℕ
+
+pub record_again : (signature : Option ℕ) (items : List (Item (List ℕ))) (rest bytes : List ℕ) → IfSome signature (λ s. s < 2 ^ 32) → IsBytes bytes → AreItems items → bytes ≡ spell_record signature items ++ rest
+    → record_at signature bytes ≡ Ok (placed 0 items, block_of items, record_len items)
+unfolding record_at record_len spell_record
+record_again signature items rest bytes h fits are e =
+    let block = spell_block items in
+    let body = spell_items (lengths items) in
+    let sealed_body = sealed signature body in
+    let len = 12 + length block + length body in
+    let offset = 8 + length block in
+    let p : Parts len offset block sealed_body rest bytes = record {
+      whole = e ∙ five (to_be_bytes w32 len) (to_be_bytes w32 offset) block sealed_body rest;
+      offset_is = refl;
+      len_is = omega (arith, length-append body (to_be_bytes w32 (signed signature (crc32_of body))));
+      short = are.short;
+      four = omega (arith, length-append body (to_be_bytes w32 (signed signature (crc32_of body))), length-append (to_be_bytes w32 (length (lengths items))) (flat_map spell_item (lengths items)));
+      place = block_place items;
+    } in
+    let behind = back_bytes (head_of len offset) (block ++ (sealed_body ++ rest)) (subst IsBytes p.whole fits) in
+    let block_fits = block_bytes items (front_bytes block (sealed_body ++ rest) behind) in
+    let body_fits = front_bytes body (to_be_bytes w32 (signed signature (crc32_of body))) (front_bytes sealed_body rest (back_bytes block (sealed_body ++ rest) behind)) in
+    let counted : length (lengths items) < 2 ^ 32 = omega (arith, count_small (lengths items), are.short, length-append (to_be_bytes w32 (length (lengths items))) (flat_map spell_item (lengths items))) in
+    let r1 = header_again len offset block sealed_body rest bytes p in
+    let r2 = unsealed_again fault.ItemsChecksum signature body h body_fits in
+    let r3 = body_again items (offset - 12) are.each counted (limit_is items) in
+    let r4 = agreed_again offset items refl in
+    let r5 = block_again offset items bytes block_fits refl (block_lies len offset block sealed_body rest bytes p) in
+    let lies = body_lies len offset block sealed_body rest bytes p in
+    rw (r1, lies, r2, r3, r4, r5) refl
