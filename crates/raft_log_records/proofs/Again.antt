@@ -87,8 +87,8 @@ entries_again (e ∷ es) next limit at rest h k =
     let up = run_end_rises (at + length e.1) es in
     let behind = flat_map spell_entry (heads es) ++ rest in
     let regrouped : flat_map spell_entry (heads (e ∷ es)) ++ rest ≡ spell_entry (next, length e.1) ++ behind =
-      ap (λ (l : List ℕ). l ++ rest) (flat_map-cons spell_entry (e.0, length e.1) (heads es)) ∙ append_assoc (spell_entry (e.0, length e.1)) (flat_map spell_entry (heads es)) rest
-      ∙ ap (λ (n : ℕ). spell_entry (n, length e.1) ++ behind) h.0 in
+    ap (λ (l : List ℕ). l ++ rest) (flat_map-cons spell_entry (e.0, length e.1) (heads es)) ∙ append_assoc (spell_entry (e.0, length e.1)) (flat_map spell_entry (heads es)) rest
+    ∙ ap (λ (n : ℕ). spell_entry (n, length e.1) ++ behind) h.0 in
     let first = entry_again next limit at (length e.1) behind (omega (arith, h.0, h.1)) h.2 (omega arith) in
     let others = entries_again es (next + 1) limit (at + length e.1) rest h.3 k in
     let one : place next at (length e.1) ≡ place e.0 at (length e.1) = ap (λ (n : ℕ). place n at (length e.1)) (sym h.0) in
@@ -99,7 +99,7 @@ number_twice first [] rest some h = absurd (omega arith)
 number_twice first (e ∷ es) rest some h =
     let behind = to_be_bytes w32 e.1 ++ (flat_map spell_entry es ++ rest) in
     let regrouped : flat_map spell_entry (e ∷ es) ++ rest ≡ to_be_bytes w64 e.0 ++ behind =
-      ap (λ (l : List ℕ). l ++ rest) (flat_map-cons spell_entry e es) ∙ append_assoc (spell_entry e) (flat_map spell_entry es) rest ∙ append_assoc (to_be_bytes w64 e.0) (to_be_bytes w32 e.1) (flat_map spell_entry es ++ rest) in
+    ap (λ (l : List ℕ). l ++ rest) (flat_map-cons spell_entry e es) ∙ append_assoc (spell_entry e) (flat_map spell_entry es) rest ∙ append_assoc (to_be_bytes w64 e.0) (to_be_bytes w32 e.1) (flat_map spell_entry es ++ rest) in
     (behind, ap (λ (l : List ℕ). number_at w64 l) regrouped ∙ number_again w64 (2 ^ 64) wide64 e.0 behind h.1 ∙ ap (λ (n : ℕ). first_read n behind) h.0)
   where
     first_read : ℕ → List ℕ → Result (ℕ × List ℕ) RecordFault
@@ -163,7 +163,7 @@ items_again (item ∷ items) limit at rest h k =
     let mid = change_end at item.change in
     let behind = flat_map spell_item (lengths items) ++ rest in
     let regrouped : flat_map spell_item (lengths (item ∷ items)) ++ rest ≡ spell_item (item_map length item) ++ behind =
-      ap (λ (l : List ℕ). l ++ rest) (flat_map-cons spell_item (item_map length item) (lengths items)) ∙ append_assoc (spell_item (item_map length item)) (flat_map spell_item (lengths items)) rest in
+    ap (λ (l : List ℕ). l ++ rest) (flat_map-cons spell_item (item_map length item) (lengths items)) ∙ append_assoc (spell_item (item_map length item)) (flat_map spell_item (lengths items)) rest in
     let first = item_again item limit at behind h.0 (omega (arith, placed_end_rises mid items)) in
     let others = items_again items limit mid rest h.1 k in
     ap (items_at (suc (length (lengths items))) limit at) regrouped ∙ rw (first, others) refl
@@ -173,6 +173,6 @@ unfolding body_at
 body_again items limit h fits end =
     let all = items_again items limit 0 [] h (omega arith) in
     let whole : items_at (length (lengths items)) limit 0 (flat_map spell_item (lengths items)) ≡ Ok (placed 0 items, placed_end 0 items, []) =
-      ap (items_at (length (lengths items)) limit 0) (sym (append-nil (flat_map spell_item (lengths items)))) ∙ all in
+    ap (items_at (length (lengths items)) limit 0) (sym (append-nil (flat_map spell_item (lengths items)))) ∙ all in
     let same : eqb (placed_end 0 items) limit ≡ true = eq-eqb _ _ end in
     rw (number_again w32 (2 ^ 32) wide32 (length (lengths items)) (flat_map spell_item (lengths items)) fits, whole, same) refl

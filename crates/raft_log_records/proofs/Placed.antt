@@ -101,8 +101,8 @@ run_placed pre (e ∷ es) post =
     let one = ap (λ (b : List ℕ). entry_bytes b (place e.0 (length pre) (length e.1))) first ∙ one_entry pre e.1 (more ++ post) e.0 in
     let rest = run_placed (pre ++ e.1) es post in
     let others : seen block (indexed (runs (length pre + length e.1) es)) ≡ es =
-      ap (λ (b : List ℕ). seen b (indexed (runs (length pre + length e.1) es))) second
-      ∙ ap (λ (n : ℕ). seen ((pre ++ e.1) ++ (more ++ post)) (indexed (runs n es))) (sym len) ∙ rest in
+    ap (λ (b : List ℕ). seen b (indexed (runs (length pre + length e.1) es))) second
+    ∙ ap (λ (n : ℕ). seen ((pre ++ e.1) ++ (more ++ post)) (indexed (runs n es))) (sym len) ∙ rest in
     ap (λ (b : List ℕ). (e.0, b) ∷ seen block (indexed (runs (length pre + length e.1) es))) one ∙ ap (λ (l : Placed). e ∷ l) others
 
 change_placed : (pre : List ℕ) (c : Change (List ℕ)) (post : List ℕ) → change_map (entry_bytes (pre ++ (change_block c ++ post))) (placed_change (length pre) c) ≡ c
@@ -124,11 +124,11 @@ items_placed pre (item ∷ items) post =
     let second : block ≡ (pre ++ mine) ++ (more ++ post) = first ∙ sym (append_assoc pre mine (more ++ post)) in
     let len : length (pre ++ mine) ≡ change_end (length pre) item.change = length-append pre mine ∙ sym (change_end_is (length pre) item.change) in
     let one : change_map (entry_bytes block) (placed_change (length pre) item.change) ≡ item.change =
-      ap (λ (b : List ℕ). change_map (entry_bytes b) (placed_change (length pre) item.change)) first ∙ change_placed pre item.change (more ++ post) in
+    ap (λ (b : List ℕ). change_map (entry_bytes b) (placed_change (length pre) item.change)) first ∙ change_placed pre item.change (more ++ post) in
     let rest = items_placed (pre ++ mine) items post in
     let others : with_bytes block (placed (change_end (length pre) item.change) items) ≡ items =
-      ap (λ (b : List ℕ). with_bytes b (placed (change_end (length pre) item.change) items)) second
-      ∙ ap (λ (n : ℕ). with_bytes ((pre ++ mine) ++ (more ++ post)) (placed n items)) (sym len) ∙ rest in
+    ap (λ (b : List ℕ). with_bytes b (placed (change_end (length pre) item.change) items)) second
+    ∙ ap (λ (n : ℕ). with_bytes ((pre ++ mine) ++ (more ++ post)) (placed n items)) (sym len) ∙ rest in
     ap (λ (c : Change (List ℕ)). record { group = item.group; change = c } ∷ with_bytes block (placed (change_end (length pre) item.change) items)) one
     ∙ ap (λ (l : List (Item (List ℕ))). item ∷ l) others
 

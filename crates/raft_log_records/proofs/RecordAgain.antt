@@ -9,14 +9,17 @@ use Rattle.std.proofs.lemmas.List.{take_at, drop_at, append-nil}
 use Rattle.std.proofs.lemmas.List.Concat.{flat_map-cons}
 use Rattle.raft_log_records.specs.declared.error.RecordFault.{RecordFault}
 use Rattle.raft_log_records.specs.declared.error.RecordFault.TheVariants as fault
+use Rattle.raft_log_records.specs.declared.error.RecordError.{RecordError}
+use Rattle.raft_log_records.specs.declared.error.RecordError.TheVariants as error
+use Rattle.raft_log_records.specs.declared.record.Record.{Record}
 use Rattle.raft_log_records.specs.declared.item.EntryIndex.{EntryIndex}
 use Rattle.raft_log_records.specs.Checksum.{shifted, after_byte, crc32_of}
-use Rattle.raft_log_records.specs.Item.{Item, item_map, with_bytes}
+use Rattle.raft_log_records.specs.Item.{Item, items_of, item_map, with_bytes}
 use Rattle.raft_log_records.specs.Spelling.{holds_entries, block_of, block_part, signed, sealed, lengths, spell_block, spell_item, spell_items, spell_change, spell_parts, spell_record, record_len, IsItem, AreItems}
-use Rattle.raft_log_records.specs.Reading.{◌>>=◌, number_at, unsealed, header_at, block_at, body_at, agrees, record_at}
+use Rattle.raft_log_records.specs.Reading.{◌>>=◌, Gives, Finds, number_at, unsealed, header_at, block_at, body_at, agrees, record_at}
 use Rattle.raft_log_records.proofs.Fields.{IsBytes, IsBytes-take, IsBytes-drop, wide32, number_again}
 use Rattle.raft_log_records.proofs.Again.{placed, placed_end, body_again}
-use Rattle.raft_log_records.proofs.Placed.{placed_end_is, placed_held, none_block}
+use Rattle.raft_log_records.proofs.Placed.{placed_end_is, placed_held, none_block, placed_bytes}
 
 -- ---- a checksum fits four bytes
 
@@ -52,6 +55,7 @@ unsealed_again wrong signature body h fits = with_sum (to_be_bytes w32 sum) refl
   where
     sum : ℕ
     sum = signed signature (crc32_of body)
+
     with_sum : (tail : List ℕ) → length tail ≡ 4 → from_be_bytes w32 tail ≡ signed signature (crc32_of body)
         → cond (eqb (from_be_bytes w32 (drop (length (body ++ tail) - 4) (body ++ tail))) (signed signature (crc32_of (take (length (body ++ tail) - 4) (body ++ tail))))) (Ok (take (length (body ++ tail) - 4) (body ++ tail))) (Err wrong) ≡ Ok body
     with_sum tail four back =
@@ -85,7 +89,7 @@ header_again len offset block body rest bytes p =
     let fits_len : len < 2 ^ 32 = omega (arith, p.short) in
     let fits_offset : offset < 2 ^ 32 = omega (arith, p.short, p.len_is) in
     let long : length bytes ≡ 8 + (length block + (length body + length rest)) =
-      ap length regrouped ∙ omega (arith, length-append (to_be_bytes w32 len) (to_be_bytes w32 offset ++ more), length-append (to_be_bytes w32 offset) more, length-append block (body ++ rest), length-append body rest) in
+    ap length regrouped ∙ omega (arith, length-append (to_be_bytes w32 len) (to_be_bytes w32 offset ++ more), length-append (to_be_bytes w32 offset) more, length-append block (body ++ rest), length-append body rest) in
     let t1 : ltb len 16 ≡ false = le-ltb _ _ (omega (arith, p.len_is, p.offset_is, p.four)) in
     let t2 : ltb 33554432 len ≡ false = le-ltb _ _ p.short in
     let t3 : ltb (length bytes) len ≡ false = le-ltb _ _ (omega (arith, p.len_is, p.offset_is)) in
@@ -228,3 +232,29 @@ record_again signature items rest bytes h fits are e =
     let r5 = block_again offset items bytes block_fits refl (block_lies len offset block sealed_body rest bytes p) in
     let lies = body_lies len offset block sealed_body rest bytes p in
     rw (r1, lies, r2, r3, r4, r5) refl
+
+pub is_only : (signature : Option ℕ) (bytes : List ℕ) (r : Result Record RecordError) (items : List (Item (List ℕ))) (rest : List ℕ) → IfSome signature (λ s. s < 2 ^ 32) → IsBytes bytes
+    → Gives (λ r. (items_of r.batch.items.items, r.entries.now, r.len)) r (record_at signature bytes) → AreItems items → bytes ≡ spell_record signature items ++ rest
+    → Finds r items (record_len items)
+is_only signature bytes (Ok r) items rest h fits given are e =
+    let same : read (placed 0 items, block_of items, record_len items) ≡ read (items_of r.batch.items.items, r.entries.now, r.len) = sym (record_again signature items rest bytes h fits are e) ∙ given in
+    let is = read_is _ _ same in
+    (ap (λ (x : Read). with_bytes x.1 x.0) (sym is) ∙ placed_bytes items, ap (λ (x : Read). x.2) (sym is))
+  where
+    read : Read → Result Read RecordFault
+    read x = Ok x
+
+    read_is : (x y : Read) → read x ≡ read y → x ≡ y
+    read_is x y e = cc
+is_only signature bytes (Err error.Memory) items rest h fits given are e = tt
+is_only signature bytes (Err error.TooLong) items rest h fits given are e = given
+is_only signature bytes (Err (error.Corruption f)) items rest h fits given are e = absurd (never (sym (record_again signature items rest bytes h fits are e) ∙ given))
+  where
+    answered : Read → Result Read RecordFault
+    answered x = Ok x
+
+    failed : Result Read RecordFault
+    failed = Err f
+
+    never : answered (placed 0 items, block_of items, record_len items) ≡ failed → ⊥
+    never q = cc
