@@ -5,3 +5,4 @@ pub mod Spelling
 pub mod Reading
 pub mod Batch
 pub mod BatchView
+pub mod Content
