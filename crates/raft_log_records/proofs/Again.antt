@@ -10,20 +10,17 @@ use Rattle.raft_log_records.specs.declared.error.RecordFault.TheVariants as faul
 use Rattle.raft_log_records.specs.declared.item.EntryIndex.{EntryIndex}
 use Rattle.raft_log_records.specs.declared.item.AtomicGroupStatus.{AtomicGroupStatus}
 use Rattle.raft_log_records.specs.declared.item.AtomicGroupStatus.TheVariants.{Begin, Middle, End}
-use Rattle.raft_log_records.specs.Item.{Change, Item, change_map, item_map}
+use Rattle.raft_log_records.specs.Item.{Change, Item, place, change_map, item_map}
 use Rattle.raft_log_records.specs.Item.Change.{entries, clean, compact, put, delete, mark}
 use Rattle.raft_log_records.specs.Spelling.{spell_string, spell_entry, spell_change, spell_item, spell_items, status_byte, IsConsecutive, IsKey, IsChange, IsItem, first_index, lengths}
-use Rattle.raft_log_records.specs.Reading.{◌>>=◌, number_at, string_at, key_at, status_at, place, entry_at, entries_at, run_at, indexed, change_behind, change_at, item_at, items_at, body_at}
+use Rattle.raft_log_records.specs.Reading.{◌>>=◌, number_at, string_at, key_at, status_at, entry_at, entries_at, run_at, indexed, change_behind, change_at, item_at, items_at, body_at}
+use Rattle.raft_log_records.specs.Batch.{runs}
 use Rattle.raft_log_records.proofs.Fields.{wide32, wide64, number_again, string_again, key_again}
 
 abbrev Bytes : Type 0
 Bytes = List ℕ
 
 -- ---- where the entries lie
-
-abbrev pub runs : ℕ → List (ℕ × List ℕ) → List EntryIndex
-runs at [] = []
-runs at (e ∷ es) = place e.0 at (length e.1) ∷ runs (at + length e.1) es
 
 abbrev pub run_end : ℕ → List (ℕ × List ℕ) → ℕ
 run_end at [] = at

@@ -9,3 +9,4 @@ pub mod RecordTaken
 pub mod Again
 pub mod Placed
 pub mod RecordAgain
+pub mod Joined

@@ -5,11 +5,12 @@ use Rattle.std.specs.List.{flat_map, list_any}
 use Rattle.std.proofs.lemmas.List.{append-nil, take_at, drop_at}
 use Rattle.std.proofs.lemmas.List.Concat.{flat_map-cons}
 use Rattle.raft_log_records.specs.declared.item.EntryIndex.{EntryIndex}
-use Rattle.raft_log_records.specs.Item.{Change, Item, change_map, item_map, entry_bytes, with_bytes}
+use Rattle.raft_log_records.specs.Item.{Change, Item, place, change_map, item_map, entry_bytes, with_bytes}
 use Rattle.raft_log_records.specs.Item.Change.{entries, clean, compact, put, delete, mark}
 use Rattle.raft_log_records.specs.Spelling.{entries_of, holds_entries, is_entries, block_of}
-use Rattle.raft_log_records.specs.Reading.{indexed, place}
-use Rattle.raft_log_records.proofs.Again.{runs, run_end, placed_change, change_end, placed, placed_end}
+use Rattle.raft_log_records.specs.Reading.{indexed}
+use Rattle.raft_log_records.specs.Batch.{runs}
+use Rattle.raft_log_records.proofs.Again.{run_end, placed_change, change_end, placed, placed_end}
 
 -- the bytes of an item's entries
 abbrev pub change_block : Change (List ℕ) → List ℕ

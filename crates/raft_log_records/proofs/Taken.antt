@@ -10,11 +10,11 @@ use Rattle.raft_log_records.specs.declared.error.RecordFault.TheVariants as faul
 use Rattle.raft_log_records.specs.declared.item.EntryIndex.{EntryIndex}
 use Rattle.raft_log_records.specs.declared.item.AtomicGroupStatus.{AtomicGroupStatus}
 use Rattle.raft_log_records.specs.declared.item.AtomicGroupStatus.TheVariants.{Begin, Middle, End}
-use Rattle.raft_log_records.specs.Item.{Change, Item, change_map, item_map, with_lengths}
+use Rattle.raft_log_records.specs.Item.{Change, Item, place, change_map, item_map, with_lengths}
 use Rattle.raft_log_records.specs.Item.Change.{entries, clean, compact, put, delete, mark}
 use Rattle.raft_log_records.specs.Spelling.{spell_string, spell_entry, spell_run, spell_change, spell_item, spell_items, status_byte, IsConsecutive, IsKey, IsChange, IsItem, entries_of, first_index}
 use Rattle.raft_log_records.specs.Batch.{IsRunLaid, IsLaid}
-use Rattle.raft_log_records.specs.Reading.{◌>>=◌, number_at, string_at, key_at, status_at, place, entry_at, entries_at, run_at, indexed, change_behind, change_at, item_at, items_at, body_at}
+use Rattle.raft_log_records.specs.Reading.{◌>>=◌, number_at, string_at, key_at, status_at, entry_at, entries_at, run_at, indexed, change_behind, change_at, item_at, items_at, body_at}
 use Rattle.raft_log_records.proofs.Spelled.{heads, heads_of, count, run_spelled}
 use Rattle.raft_log_records.proofs.Fields.{IsBytes, bind_ok, guard_ok, guard_then, ok_is, Takes, Takes-then, wide32, wide64, number_takes, string_takes, key_takes}
 

@@ -3,7 +3,7 @@ use Rattle.std.specs.Prelude.{◌≡◌, ◌+◌, ◌-◌, ℕ, zero, suc, Bool,
 use Rattle.std.specs.List.{list_any}
 use Rattle.std.specs.Int.{Width, w32, w64, byte_len, from_be_bytes}
 use Rattle.raft_log_records.specs.Checksum.{crc32_of}
-use Rattle.raft_log_records.specs.Item.{Change, Item, items_of, with_bytes}
+use Rattle.raft_log_records.specs.Item.{Change, Item, place, items_of, with_bytes}
 use Rattle.raft_log_records.specs.Item.Change.{entries, clean, compact, put, delete, mark}
 use Rattle.raft_log_records.specs.Spelling.{signed, holds_entries}
 use Rattle.raft_log_records.specs.declared.record.Record.{Record}
@@ -53,9 +53,6 @@ status_at (suc (suc zero) ∷ rest) = Ok (End, rest)
 status_at (suc (suc (suc b)) ∷ rest) = Err fault.BadTag
 
 -- ---- entries: their bytes lie one after the other in the block, of limit bytes, from at on
-
-abbrev pub place : ℕ → ℕ → ℕ → EntryIndex
-place index at len = record { index = index; entries = None; entry_offset = at; entry_len = len }
 
 -- an entry with this index, which lies within the block
 unfoldable pub entry_at : ℕ → ℕ → ℕ → List ℕ → Result (EntryIndex × List ℕ) RecordFault

@@ -4,6 +4,7 @@
 mod batch;
 mod checksum;
 mod command;
+mod entries;
 mod error;
 mod file_id;
 mod item;
