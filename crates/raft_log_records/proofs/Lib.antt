@@ -10,3 +10,4 @@ pub mod Again
 pub mod Placed
 pub mod RecordAgain
 pub mod Joined
+pub mod Runs

@@ -16,13 +16,13 @@ use Rattle.raft_log_records.proofs.Again.{run_end, placed_change, change_end, pl
 abbrev pub change_block : Change (List ℕ) → List ℕ
 change_block c = flat_map (λ bytes. bytes) (entries_of c)
 
-abbrev bytes_in : List (ℕ × List ℕ) → List (List ℕ)
+abbrev pub bytes_in : List (ℕ × List ℕ) → List (List ℕ)
 bytes_in es = map {A = ℕ × List ℕ} {B = List ℕ} (λ e. e.1) es
 
 block_cons : (item : Item (List ℕ)) (items : List (Item (List ℕ))) → block_of (item ∷ items) ≡ change_block item.change ++ block_of items
 block_cons item items = flat_map-cons (λ (i : Item (List ℕ)). flat_map (λ bytes. bytes) (entries_of i.change)) item items
 
-run_end_is : (at : ℕ) (es : List (ℕ × List ℕ)) → run_end at es ≡ at + length (flat_map (λ bytes. bytes) (bytes_in es))
+pub run_end_is : (at : ℕ) (es : List (ℕ × List ℕ)) → run_end at es ≡ at + length (flat_map (λ bytes. bytes) (bytes_in es))
 run_end_is at [] = omega arith
 run_end_is at (e ∷ es) =
     let rest = run_end_is (at + length e.1) es in
@@ -106,7 +106,7 @@ run_placed pre (e ∷ es) post =
     ∙ ap (λ (n : ℕ). seen ((pre ++ e.1) ++ (more ++ post)) (indexed (runs n es))) (sym len) ∙ rest in
     ap (λ (b : List ℕ). (e.0, b) ∷ seen block (indexed (runs (length pre + length e.1) es))) one ∙ ap (λ (l : Placed). e ∷ l) others
 
-change_placed : (pre : List ℕ) (c : Change (List ℕ)) (post : List ℕ) → change_map (entry_bytes (pre ++ (change_block c ++ post))) (placed_change (length pre) c) ≡ c
+pub change_placed : (pre : List ℕ) (c : Change (List ℕ)) (post : List ℕ) → change_map (entry_bytes (pre ++ (change_block c ++ post))) (placed_change (length pre) c) ≡ c
 unfolding seen
 change_placed pre (entries es) post = ap (λ (l : Placed). entries l) (run_placed pre es post)
 change_placed pre clean post = refl
