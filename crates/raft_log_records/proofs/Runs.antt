@@ -114,3 +114,83 @@ run_longer items group first parts holds h =
         → length (spell_block items) ≡ length (block_part holds (block_of items)) → length (spell_items (lengths items)) ≡ 4 + length (flat_map spell_item (lengths items))
         → record_len (items ++ run_of group first parts ∷ []) ≡ 12 + length (spell_block items) + length (spell_items (lengths items)) + (length (block_part true []) - length (block_part holds [])) + (13 + 12 * length parts + length (joined parts))
     long a b c d = omega (arith, a, b, c, d)
+
+-- ---- the program's parts with a run of entries
+
+-- the item as the program has it
+abbrev pub laid_run : ℕ → ℕ → List ℕ → List (List ℕ) → Item EntryIndex
+laid_run group first block parts = record { group = group; change = entries (indexed (runs (length block) (numbered first parts))) }
+
+run_lens_is : (group first : ℕ) (block : List ℕ) (parts : List (List ℕ)) → item_map (λ e. e.entry_len) (laid_run group first block parts) ≡ run_lens group first parts
+run_lens_is group first block parts =
+    let rs = runs (length block) (numbered first parts) in
+    ap (λ (hs : List (ℕ × ℕ)). record { group = group; change = entries hs }) (heads rs ∙ run_heads (length block) (numbered first parts))
+
+pub view_run : (items : List LogItem) (block : List ℕ) (item : LogItem) (group first : ℕ) (parts : List (List ℕ)) → IsLaid 0 (items_of items) (length block) → item_of item ≡ laid_run group first block parts
+    → with_bytes (block ++ joined parts) (items_of (items ++ item ∷ [])) ≡ with_bytes block (items_of items) ++ run_of group first parts ∷ []
+view_run items block item group first parts laid is =
+    let es = numbered first parts in
+    let whole : block ++ joined parts ≡ block ++ (joined (bytes_in es) ++ []) = ap (λ (l : List ℕ). block ++ l) (sym (append-nil (joined parts)) ∙ ap (λ (l : List (List ℕ)). joined l ++ []) (sym (numbered_bytes first parts))) in
+    let one : change_map (entry_bytes (block ++ joined parts)) (entries (indexed (runs (length block) es))) ≡ entries es =
+      ap (λ (b : List ℕ). change_map (entry_bytes b) (entries (indexed (runs (length block) es)))) whole ∙ change_placed block (entries es) [] in
+    ap (λ (l : List (Item EntryIndex)). with_bytes (block ++ joined parts) l) (map_push item_of items item)
+    ∙ map_push (item_map (entry_bytes (block ++ joined parts))) (items_of items) (item_of item)
+    ∙ ap (λ (l : List (Item (List ℕ))). l ++ item_map (entry_bytes (block ++ joined parts)) (item_of item) ∷ []) (laid_stays block (joined parts) 0 (items_of items) (length block) laid (omega arith))
+    ∙ ap (λ (i : Item EntryIndex). with_bytes block (items_of items) ++ item_map (entry_bytes (block ++ joined parts)) i ∷ []) is
+    ∙ ap (λ (c : Change (List ℕ)). with_bytes block (items_of items) ++ record { group = group; change = c } ∷ []) one
+
+pub record RunRoom (items : List LogItem) (block : List ℕ) (holds : Bool) (m group first : ℕ) (parts : List (List ℕ)) : Type 0 where
+  pub sound : IsSound items block holds m
+  pub some : 0 < length parts
+  pub group_fits : group < 2 ^ 64
+  pub indexes : first + length parts < 2 ^ 64
+  pub room : record_len (with_bytes block (items_of items) ++ run_of group first parts ∷ []) ≤ 33554432
+
+pub room_is : (items : List LogItem) (block : List ℕ) (holds : Bool) (m group first : ℕ) (parts : List (List ℕ)) → RunRoom items block holds m group first parts
+    → 16 + (length block + length (joined parts) + 4) + (m + (13 + 12 * length parts)) ≤ 33554432
+room_is items block holds m group first parts r =
+    let s = r.sound in
+    let view = with_bytes block (items_of items) in
+    let a = record_len_run view group first parts in
+    let b = ap length (block_is block (items_of items) s.laid) in
+    let c = ap (λ (l : List (Item ℕ)). length (flat_map spell_item l)) (laid_lengths block 0 (items_of items) (length block) s.laid (omega arith)) in
+    omega (arith, r.room, s.sum)
+
+pub sound_run : (items : List LogItem) (block : List ℕ) (holds : Bool) (m : ℕ) (item : LogItem) (group first : ℕ) (parts : List (List ℕ)) → RunRoom items block holds m group first parts
+    → item_of item ≡ laid_run group first block parts → IsSound (items ++ item ∷ []) (block ++ joined parts) true (m + (13 + 12 * length parts))
+sound_run items block holds m item group first parts r is =
+    let s = r.sound in
+    let fits = room_is items block holds m group first parts r in
+    let es = numbered first parts in
+    let whole = length-append block (joined parts) in
+    let part = length-append (block ++ joined parts) (to_be_bytes w32 (crc32_of (block ++ joined parts))) in
+    let end : run_end (length block) es ≡ length (block ++ joined parts) = run_end_is (length block) es ∙ ap (λ (l : List (List ℕ)). length block + length (joined l)) (numbered_bytes first parts) ∙ sym whole in
+    let run : IsRunLaid (length block) (entries_of (laid_run group first block parts).change) (length (block ++ joined parts)) =
+      subst (λ (l : List EntryIndex). IsRunLaid (length block) l (length (block ++ joined parts))) (sym (unindexed (runs (length block) es))) (subst (λ (n : ℕ). IsRunLaid (length block) (runs (length block) es) n) end (run_laid (length block) es)) in
+    let laid : IsLaid 0 (items_of items ++ laid_run group first block parts ∷ []) (length (block ++ joined parts)) = laid_push 0 (items_of items) (length block) (laid_run group first block parts) (length (block ++ joined parts)) s.laid run in
+    let all : items_of (items ++ item ∷ []) ≡ items_of items ++ laid_run group first block parts ∷ [] = map_push item_of items item ∙ ap (λ (i : Item EntryIndex). items_of items ++ i ∷ []) is in
+    let lens : with_lengths (items_of (items ++ item ∷ [])) ≡ with_lengths (items_of items) ++ run_lens group first parts ∷ [] =
+      lengths_push items item ∙ ap (λ (i : Item EntryIndex). with_lengths (items_of items) ++ item_map (λ e. e.entry_len) i ∷ []) is ∙ ap (λ (i : Item ℕ). with_lengths (items_of items) ++ i ∷ []) (run_lens_is group first block parts) in
+    let hs = heads_in es in
+    let count : length hs ≡ length parts = length-map es (λ e. (e.0, length e.1)) ∙ numbered_len first parts in
+    let in_turn : IsConsecutive (first_index hs) hs = subst (λ (n : ℕ). IsConsecutive n hs) (sym (first_of_numbered first parts r.some)) (consecutive first parts r.indexes (omega (arith, fits))) in
+    let is_change : IsChange (entries hs) = (omega (arith, r.some), omega (arith, fits), in_turn) in
+    let is_item : IsItem (run_lens group first parts) = record { group = r.group_fits; change = is_change } in
+    let spelled = spelled_push (with_lengths (items_of items)) (run_lens group first parts) in
+    let same = ap (λ (l : List (Item ℕ)). length (flat_map spell_item l)) lens in
+    let counted : length (indexed (runs (length block) es)) ≡ length parts = length-map (runs (length block) es) (λ e. (e.index, e)) ∙ runs_len (length block) es ∙ numbered_len first parts in
+    let short_run : FitsBytes (laid_run group first block parts).change = omega (arith, fits) in
+    record {
+      laid = subst (λ (l : List (Item EntryIndex)). IsLaid 0 l (length (block ++ joined parts))) (sym all) laid;
+      each = subst (λ (l : List (Item ℕ)). AllByRecursion IsItem l) (sym lens) (each_push IsItem (with_lengths (items_of items)) (run_lens group first parts) s.each is_item);
+      fits = each_push (λ i. FitsBytes (item_of i).change) items item s.fits (subst (λ (i : Item EntryIndex). FitsBytes i.change) (sym is) short_run);
+      sum = omega (arith, s.sum, run_spelled group first parts);
+      count = omega (arith, s.count, length-append items (item ∷ []));
+      bytes = omega (arith, fits);
+      entries_held = sym (ap (λ (l : List (Item EntryIndex)). list_any holds_entries l) all ∙ held_last (items_of items) (laid_run group first block parts) refl);
+      short = omega (arith, fits);
+    }
+  where
+    runs_len : (at : ℕ) (es : List (ℕ × List ℕ)) → length (runs at es) ≡ length es
+    runs_len at [] = refl
+    runs_len at (e ∷ es) = ap suc (runs_len (at + length e.1) es)
