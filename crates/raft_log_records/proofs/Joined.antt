@@ -11,5 +11,10 @@ part_within [] i d h = absurd (omega arith)
 part_within (x ∷ xs) zero d h = omega (arith, ap length (flat_map-cons (λ (bytes : List ℕ). bytes) x.items (payloads xs)), length-append x.items (joined (payloads xs)))
 part_within (x ∷ xs) (suc i) d h =
     let rest = part_within xs i d (omega arith) in
-    omega (arith, ap length (flat_map-cons (λ (bytes : List ℕ). bytes) x.items (payloads xs)), length-append x.items (joined (payloads xs)),
-      ap length (flat_map-cons (λ (bytes : List ℕ). bytes) x.items (payloads (take i xs))), length-append x.items (joined (payloads (take i xs))))
+    omega (
+      arith,
+      ap length (flat_map-cons (λ (bytes : List ℕ). bytes) x.items (payloads xs)),
+      length-append x.items (joined (payloads xs)),
+      ap length (flat_map-cons (λ (bytes : List ℕ). bytes) x.items (payloads (take i xs))),
+      length-append x.items (joined (payloads (take i xs))),
+    )

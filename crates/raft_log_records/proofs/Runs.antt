@@ -1,5 +1,5 @@
 -- A run of entries that a batch takes.
-use Rattle.std.proofs.Common.{◌≡◌, ◌≢◌, ℕ, suc, ◌+◌, ◌*◌, ◌-◌, ◌^◌, ◌<◌, ◌≤◌, Bool, true, false, List, [], ◌∷◌, ◌++◌, length, map, Option, None, refl, sym, ap, subst, ◌∙◌, append_assoc, arith, length-append}
+use Rattle.std.proofs.Common.{◌≡◌, ◌≢◌, ℕ, suc, ◌+◌, ◌*◌, ◌-◌, ◌^◌, ◌<◌, ◌≤◌, Bool, true, false, List, [], ◌∷◌, ◌++◌, length, map, Option, None, Err, refl, sym, ap, subst, ◌∙◌, append_assoc, arith, length-append}
 use Rattle.std.specs.Prelude.{◌||◌}
 use Rattle.std.specs.List.{flat_map, list_any, AllByRecursion}
 use Rattle.std.specs.Int.{w32, w64, to_be_bytes}
@@ -10,11 +10,12 @@ use Rattle.std.proofs.lemmas.Grind.{flat_map-append}
 use Rattle.raft_log_records.specs.Checksum.{crc32_of}
 use Rattle.raft_log_records.specs.declared.item.EntryIndex.{EntryIndex}
 use Rattle.raft_log_records.specs.declared.item.LogItem.{LogItem}
+use Rattle.raft_log_records.specs.declared.error.RecordError.TheVariants as error
 use Rattle.raft_log_records.specs.Item.{Change, Item, item_of, items_of, change_map, item_map, entry_bytes, with_bytes, with_lengths}
 use Rattle.raft_log_records.specs.Item.Change.{entries}
 use Rattle.raft_log_records.specs.Reading.{indexed}
 use Rattle.raft_log_records.specs.Spelling.{IsItem, IsChange, IsConsecutive, FitsBytes, first_index, is_entries, holds_entries, entries_of, lengths, block_of, block_part, spell_block, spell_entry, spell_item, spell_items, spell_change, record_len}
-use Rattle.raft_log_records.specs.Batch.{IsRunLaid, IsLaid, IsSound, joined, numbered, runs, run_of}
+use Rattle.raft_log_records.specs.Batch.{Batch, LogsEntries, IsRunLaid, IsLaid, IsSound, joined, numbered, runs, run_of}
 use Rattle.raft_log_records.proofs.Spelled.{heads, heads_of}
 use Rattle.raft_log_records.proofs.Taken.{unindexed}
 use Rattle.raft_log_records.proofs.Again.{run_end}
@@ -83,7 +84,7 @@ record_len_run items group first parts =
     let held = held_last items run refl in
     let last : flat_map (λ bytes. bytes) (entries_of run.change) ≡ joined parts = ap (λ (l : List (List ℕ)). flat_map (λ bytes. bytes) l) (numbered_bytes first parts) in
     let block : block_of (items ++ run ∷ []) ≡ block_of items ++ joined parts =
-      flat_map-append (λ (i : Item (List ℕ)). flat_map (λ bytes. bytes) (entries_of i.change)) items (run ∷ []) ∙ ap (λ (l : List ℕ). block_of items ++ (l ++ [])) last ∙ ap (λ (l : List ℕ). block_of items ++ l) (append-nil (joined parts)) in
+    flat_map-append (λ (i : Item (List ℕ)). flat_map (λ bytes. bytes) (entries_of i.change)) items (run ∷ []) ∙ ap (λ (l : List ℕ). block_of items ++ (l ++ [])) last ∙ ap (λ (l : List ℕ). block_of items ++ l) (append-nil (joined parts)) in
     let part : spell_block (items ++ run ∷ []) ≡ block_part true (block_of items ++ joined parts) = ap (λ (b : Bool). block_part b (block_of (items ++ run ∷ []))) held ∙ ap (λ (l : List ℕ). block_part true l) block in
     let all = block_of items ++ joined parts in
     let part_len : length (block_part true all) ≡ length all + 4 = length-append all (to_be_bytes w32 (crc32_of all)) in
@@ -132,7 +133,7 @@ view_run items block item group first parts laid is =
     let es = numbered first parts in
     let whole : block ++ joined parts ≡ block ++ (joined (bytes_in es) ++ []) = ap (λ (l : List ℕ). block ++ l) (sym (append-nil (joined parts)) ∙ ap (λ (l : List (List ℕ)). joined l ++ []) (sym (numbered_bytes first parts))) in
     let one : change_map (entry_bytes (block ++ joined parts)) (entries (indexed (runs (length block) es))) ≡ entries es =
-      ap (λ (b : List ℕ). change_map (entry_bytes b) (entries (indexed (runs (length block) es)))) whole ∙ change_placed block (entries es) [] in
+    ap (λ (b : List ℕ). change_map (entry_bytes b) (entries (indexed (runs (length block) es)))) whole ∙ change_placed block (entries es) [] in
     ap (λ (l : List (Item EntryIndex)). with_bytes (block ++ joined parts) l) (map_push item_of items item)
     ∙ map_push (item_map (entry_bytes (block ++ joined parts))) (items_of items) (item_of item)
     ∙ ap (λ (l : List (Item (List ℕ))). l ++ item_map (entry_bytes (block ++ joined parts)) (item_of item) ∷ []) (laid_stays block (joined parts) 0 (items_of items) (length block) laid (omega arith))
@@ -166,11 +167,11 @@ sound_run items block holds m item group first parts r is =
     let part = length-append (block ++ joined parts) (to_be_bytes w32 (crc32_of (block ++ joined parts))) in
     let end : run_end (length block) es ≡ length (block ++ joined parts) = run_end_is (length block) es ∙ ap (λ (l : List (List ℕ)). length block + length (joined l)) (numbered_bytes first parts) ∙ sym whole in
     let run : IsRunLaid (length block) (entries_of (laid_run group first block parts).change) (length (block ++ joined parts)) =
-      subst (λ (l : List EntryIndex). IsRunLaid (length block) l (length (block ++ joined parts))) (sym (unindexed (runs (length block) es))) (subst (λ (n : ℕ). IsRunLaid (length block) (runs (length block) es) n) end (run_laid (length block) es)) in
+    subst (λ (l : List EntryIndex). IsRunLaid (length block) l (length (block ++ joined parts))) (sym (unindexed (runs (length block) es))) (subst (λ (n : ℕ). IsRunLaid (length block) (runs (length block) es) n) end (run_laid (length block) es)) in
     let laid : IsLaid 0 (items_of items ++ laid_run group first block parts ∷ []) (length (block ++ joined parts)) = laid_push 0 (items_of items) (length block) (laid_run group first block parts) (length (block ++ joined parts)) s.laid run in
     let all : items_of (items ++ item ∷ []) ≡ items_of items ++ laid_run group first block parts ∷ [] = map_push item_of items item ∙ ap (λ (i : Item EntryIndex). items_of items ++ i ∷ []) is in
     let lens : with_lengths (items_of (items ++ item ∷ [])) ≡ with_lengths (items_of items) ++ run_lens group first parts ∷ [] =
-      lengths_push items item ∙ ap (λ (i : Item EntryIndex). with_lengths (items_of items) ++ item_map (λ e. e.entry_len) i ∷ []) is ∙ ap (λ (i : Item ℕ). with_lengths (items_of items) ++ i ∷ []) (run_lens_is group first block parts) in
+    lengths_push items item ∙ ap (λ (i : Item EntryIndex). with_lengths (items_of items) ++ item_map (λ e. e.entry_len) i ∷ []) is ∙ ap (λ (i : Item ℕ). with_lengths (items_of items) ++ i ∷ []) (run_lens_is group first block parts) in
     let hs = heads_in es in
     let count : length hs ≡ length parts = length-map es (λ e. (e.0, length e.1)) ∙ numbered_len first parts in
     let in_turn : IsConsecutive (first_index hs) hs = subst (λ (n : ℕ). IsConsecutive n hs) (sym (first_of_numbered first parts r.some)) (consecutive first parts r.indexes (omega (arith, fits))) in
@@ -194,3 +195,27 @@ sound_run items block holds m item group first parts r is =
     runs_len : (at : ℕ) (es : List (ℕ × List ℕ)) → length (runs at es) ≡ length es
     runs_len at [] = refl
     runs_len at (e ∷ es) = ap suc (runs_len (at + length e.1) es)
+
+pub run_pushed : (items after : List LogItem) (block bytes : List ℕ) (holds : Bool) (m : ℕ) (item : LogItem) (group first : ℕ) (parts : List (List ℕ)) (n : ℕ) → RunRoom items block holds m group first parts
+    → item_of item ≡ laid_run group first block parts → after ≡ items ++ item ∷ [] → bytes ≡ block ++ joined parts → n ≡ length parts → IsSound after bytes true (m + (13 + 12 * n))
+run_pushed items after block bytes holds m item group first parts n r is a b e =
+    subst (λ (k : ℕ). IsSound after bytes true (m + (13 + 12 * k))) (sym e)
+    (subst (λ (l : List ℕ). IsSound after l true (m + (13 + 12 * length parts))) (sym b) (subst (λ (l : List LogItem). IsSound l (block ++ joined parts) true (m + (13 + 12 * length parts))) (sym a) (sound_run items block holds m item group first parts r is)))
+
+pub run_viewed : (items after : List LogItem) (block bytes : List ℕ) (item : LogItem) (group first : ℕ) (parts : List (List ℕ)) → IsLaid 0 (items_of items) (length block) → item_of item ≡ laid_run group first block parts
+    → after ≡ items ++ item ∷ [] → bytes ≡ block ++ joined parts → with_bytes bytes (items_of after) ≡ with_bytes block (items_of items) ++ run_of group first parts ∷ []
+run_viewed items after block bytes item group first parts laid is a b =
+    ap (λ (l : List ℕ). with_bytes l (items_of after)) b ∙ ap (λ (l : List LogItem). with_bytes (block ++ joined parts) (items_of l)) a ∙ view_run items block item group first parts laid is
+
+-- a group's entries as the program has them
+abbrev pub laid_as : ℕ → List EntryIndex → Item EntryIndex
+laid_as group rs = record { group = group; change = entries (indexed rs) }
+
+pub indexes_are : (group first at : ℕ) (block : List ℕ) (parts : List (List ℕ)) (rs : List EntryIndex) → rs ≡ runs at (numbered first parts) → at ≡ length block
+    → laid_as group rs ≡ laid_run group first block parts
+indexes_are group first at block parts rs e k = ap (λ (l : List EntryIndex). laid_as group l) (e ∙ ap (λ (n : ℕ). runs n (numbered first parts)) k)
+
+-- what a refused run leaves
+pub refused_long : (batch : Batch) (group first : ℕ) (parts : List (List ℕ)) → 0 < length parts → 33554432 < record_len (batch.items ++ run_of group first parts ∷ []) → LogsEntries batch group first parts batch (Err error.TooLong)
+refused_long batch group first [] some h = absurd (omega arith)
+refused_long batch group first (b ∷ parts) some h = (refl, h)

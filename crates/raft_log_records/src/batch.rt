@@ -1,8 +1,9 @@
 //! Batches of changes, which become one record each.
 
-ghost use Rattle.std.specs.Prelude.{◌≡◌, ◌<◌, ◌≤◌, ◌+◌, ◌*◌, ◌^◌, ◌++◌, ◌∷◌, ◌↔◌, [], length, IsTrue, OnOk, OnErr, IfOk, IfErr, IfSome, IfNone, false};
+ghost use Rattle.std.specs.Prelude.{◌≡◌, ◌<◌, ◌≤◌, ◌+◌, ◌-◌, ◌*◌, ◌^◌, ◌++◌, ◌∷◌, ◌↔◌, [], length, IsTrue, OnOk, OnErr, IfOk, IfErr, IfSome, IfNone, false, true};
 ghost use Rattle.raft_log_records.specs.Item.{Item, command_change, with_bytes, items_of, item_of, item_map, entry_bytes};
-ghost use Rattle.raft_log_records.specs.Spelling.{holds_entries, IsItem, FitsBytes, spell_item, block_of, record_len};
+ghost use Rattle.raft_log_records.specs.Spelling.{holds_entries, IsItem, FitsBytes, spell_item, block_of, block_part, record_len};
+ghost use Rattle.std.specs.List.{list_any};
 ghost use Rattle.raft_log_records.specs.Item.Change.{put, delete, mark};
 ghost use Rattle.raft_log_records.specs.Batch.{nothing_logged, logged, encoded_of, populated, signed_again, Logs, LogsEntries, run_of, payloads, joined};
 ghost use Rattle.raft_log_records.specs.Signature.{signature_of};
@@ -305,16 +306,27 @@ impl LogBatch {
         let Some(len) = run_len(entries) else {
             return Err(RecordError::TooLong);
         };
-        // The first entries bring the checksum of their block.
-        let checksum_len = if self.holds_entries { 0 } else { 4 };
-        if MAX_RECORD_LEN - self.record_len() < len + checksum_len {
+        if MAX_RECORD_LEN - self.record_len() < len + self.block_checksum_len() {
             return Err(RecordError::TooLong);
         }
         self.push_run(raft_group_id, first, entries)
     }
 
+    /// The first entries bring the checksum of their block.
+    fn block_checksum_len(&self) -> u32
+        ensures len { result ≡ length (block_part true []) - length (block_part (list_any holds_entries self.now.items) []) }
+        ensures short { result ≤ 4 }
+    {
+        if self.holds_entries { 0 } else { 4 }
+    }
+
     /// Adds entries for which there is room.
-    fn push_run(&mut self, raft_group_id: u64, first: u64, entries: &[Vec<u8>]) -> Result<(), RecordError>
+    fn push_run(
+        &mut self,
+        raft_group_id: u64,
+        first: u64,
+        entries: &[Vec<u8>],
+    ) -> Result<(), RecordError>
         requires some { 0 < length entries.now }
         requires indexes { first + length entries.now < 2 ^ 64 }
         requires room { record_len (self.old.items ++ run_of raft_group_id first (payloads entries.now) ∷ []) ≤ 33554432 }
@@ -325,7 +337,10 @@ impl LogBatch {
         let indexes = index_entries(alloc, first, at as u32, entries)?;
         append_all(&mut self.entries, entries)?;
         let content = LogItemContent::EntryIndexes(indexes);
-        let item = LogItem { raft_group_id, content };
+        let item = LogItem {
+            raft_group_id,
+            content,
+        };
         let Ok(()) = self.items.push(item) else {
             self.entries.truncate(at);
             return Err(RecordError::Memory);

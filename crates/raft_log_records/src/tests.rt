@@ -129,3 +129,22 @@ fn signatures(rt: HostRuntime) {
     assert_eq!(rt; ReadableSize::mb(1).0 + ReadableSize::kb(1).0, 1_049_600);
     assert_eq!(rt; ReadableSize::gb(1), ReadableSize(1 << 30));
 }
+
+#[test]
+fn an_entry_and_a_put_are_a_record_of_110_bytes(rt: HostRuntime) -> Result<(), Fail> {
+    let alloc = rt.alloc();
+    let mut batch = LogBatch::new(alloc);
+    let entry = vec![in alloc; 9u8; 37]?;
+    batch.add_raw_entries(7, 2, vec![in alloc; entry]?.as_slice())?;
+    batch.put(7, Vec::from_slice(alloc, b"end")?, vec![in alloc; 0u8; 8]?)?;
+    assert_eq!(rt; batch.finish_populate()?, 110);
+    let front = [0, 0, 0, 0x6e, 0, 0, 0, 0x31].as_slice();
+    assert_eq!(rt; &batch.encoded_bytes()[..8], front);
+    let record = read_record(alloc, batch.encoded_bytes(), None)?;
+    assert_eq!(rt; record.entries, vec![in alloc; 9u8; 37]?.as_slice());
+    assert_eq!(rt; record.batch.items.len(), 2);
+    let items = batch.drain();
+    assert_eq!(rt; items.items.len(), 2);
+    assert!(rt; batch.is_empty());
+    Ok(())
+}
