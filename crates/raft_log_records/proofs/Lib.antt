@@ -11,3 +11,4 @@ pub mod Placed
 pub mod RecordAgain
 pub mod Joined
 pub mod Runs
+pub mod Tables

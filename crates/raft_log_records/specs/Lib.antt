@@ -6,3 +6,4 @@ pub mod Reading
 pub mod Batch
 pub mod BatchView
 pub mod Content
+pub mod MemTable

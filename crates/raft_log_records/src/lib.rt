@@ -8,6 +8,7 @@ mod entries;
 mod error;
 mod file_id;
 mod item;
+mod memtable;
 mod reading;
 mod record;
 mod size;
