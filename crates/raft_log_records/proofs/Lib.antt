@@ -12,3 +12,5 @@ pub mod RecordAgain
 pub mod Joined
 pub mod Runs
 pub mod Tables
+pub mod Changes
+pub mod Applied

@@ -1,15 +1,19 @@
 -- What the steps on a memtable's lists do to its cells.
-use Rattle.std.proofs.Common.{◌≡◌, ◌≢◌, ℕ, suc, ◌+◌, ◌<◌, ◌≤◌, Bool, true, false, cond, List, [], ◌∷◌, ◌++◌, length, map, take, drop, Option, Some, None, refl, sym, ap, subst, ◌∙◌, arith, rules, inl, inr}
-use Rattle.std.specs.Prelude.{not, filter, nat_eq, nat_lt, nat_le, bytes_eq}
+use Rattle.std.proofs.Common.{◌≡◌, ◌≢◌, ℕ, suc, ◌+◌, ◌<◌, ◌≤◌, Bool, true, false, cond, List, [], ◌∷◌, ◌++◌, length, get_or, map, take, drop, Option, Some, None, Result, Ok, Err, zero, refl, sym, ap, subst, ◌∙◌, arith, rules, inl, inr}
+use Rattle.std.specs.Prelude.{OnOk, not, filter, nat_eq, nat_lt, nat_le, bytes_eq}
+use Rattle.std.specs.Prelude.{Vec}
+use Rattle.std.specs.declared.alloc.Global.{Global}
+use Rattle.std.proofs.Math.Seq.{drop-cons}
+use Rattle.std.proofs.lemmas.List.{take-append-drop, nil_from_length, length-drop}
 use Rattle.std.proofs.lemmas.Bool.Decides.{nat_tests}
-use Rattle.std.proofs.lemmas.Bool.{eqb-true, eqb-false, ltb-true, ltb-false, le-ltb, lt-ltb, cases_lt}
+use Rattle.std.proofs.lemmas.Bool.{eqb-true, eqb-false, eq-eqb, ltb-true, ltb-false, le-ltb, lt-ltb, cases_lt}
 use Rattle.raft_log_records.specs.declared.file_id.FileBlockHandle.{FileBlockHandle}
 use Rattle.raft_log_records.specs.declared.item.EntryIndex.{EntryIndex}
 use Rattle.raft_log_records.specs.declared.memtable.KeyValue.{KeyValue}
 use Rattle.raft_log_records.specs.declared.memtable.MemTable.{MemTable}
-use Rattle.raft_log_records.specs.Content.{entry_at}
+use Rattle.raft_log_records.specs.Content.{GroupContent, no_group, entry_at}
 use Rattle.raft_log_records.specs.Reading.{indexed}
-use Rattle.raft_log_records.specs.MemTable.{value_at, table_content, tables_content, placed_in}
+use Rattle.raft_log_records.specs.MemTable.{value_at, table_content, tables_content, placed_in, present, Taken}
 
 abbrev no_entry : Option EntryIndex
 no_entry = None
@@ -26,7 +30,7 @@ entry_filter_step p e es i kept false true rest h k =
     rest ∙ ap (λ (b : Bool). cond b (entry_at (indexed es) i) None) same ∙ sym (ap (λ (b : Bool). cond b (Some e) None) same)
 entry_filter_step p e es i kept false false rest h k = rest
 
-entry_at-filter : (p : ℕ → Bool) (es : List EntryIndex) (i : ℕ) → entry_at (indexed (filter (λ e. p e.index) es)) i ≡ cond (p i) (entry_at (indexed es) i) None
+pub entry_at-filter : (p : ℕ → Bool) (es : List EntryIndex) (i : ℕ) → entry_at (indexed (filter (λ e. p e.index) es)) i ≡ cond (p i) (entry_at (indexed es) i) None
 entry_at-filter p [] i = by_answer (p i)
   where
     by_answer : (b : Bool) → no_entry ≡ cond b no_entry None
@@ -96,3 +100,48 @@ entries_after first handle es more i =
     a ∙ ap (λ (o : Option EntryIndex). or_else o (entry_at (indexed added) i)) b ∙ ap (λ (o : Option EntryIndex). or_else (cond (nat_lt i first) (entry_at (indexed es) i) None) o) c
     ∙ ap (λ (o : Option EntryIndex). or_else (cond (nat_lt i first) (entry_at (indexed es) i) None) (cond (nat_le first i) o None)) (entry_at-placed handle more i)
     ∙ sides first i (entry_at (indexed es) i) (entry_at (map {A = ℕ × EntryIndex} {B = ℕ × EntryIndex} (λ e. (e.0, placed_in handle e.1)) (indexed more)) i)
+
+-- ---- taking a memtable out
+
+at_front : (t : MemTable) (ts : List MemTable) (g : ℕ) → t.raft_group_id ≡ g → tables_content (t ∷ ts) g ≡ table_content t
+at_front t ts g h = let e : nat_eq t.raft_group_id g ≡ true = eq-eqb _ _ h in rw e refl
+
+passed_by : (t : MemTable) (a b : List MemTable) (g : ℕ) → nat_eq t.raft_group_id g ≡ false → tables_content (a ++ t ∷ b) g ≡ tables_content (a ++ b) g
+passed_by t [] b g h = rw h refl
+passed_by t (s ∷ a) b g h = step (nat_eq s.raft_group_id g) (passed_by t a b g h)
+  where
+    step : (x : Bool) → tables_content (a ++ t ∷ b) g ≡ tables_content (a ++ b) g → cond x (table_content s) (tables_content (a ++ t ∷ b) g) ≡ cond x (table_content s) (tables_content (a ++ b) g)
+    step true rest = refl
+    step false rest = rest
+
+pub taken_at : (ts : List MemTable) (i g : ℕ) (t : MemTable) → i < length ts → t ≡ get_or ts i t → t.raft_group_id ≡ g → tables_content (drop i ts) g ≡ tables_content ts g → Taken ts g t (take i ts ++ drop (suc i) ts)
+taken_at ts i g t lt is mine rest =
+    let cut : drop i ts ≡ t ∷ drop (suc i) ts = drop-cons ts i t lt ∙ ap (λ (x : MemTable). x ∷ drop (suc i) ts) (sym is) in
+    let whole : ts ≡ take i ts ++ t ∷ drop (suc i) ts = sym (take-append-drop i ts) ∙ ap (λ (l : List MemTable). take i ts ++ l) cut in
+    let found : tables_content ts g ≡ table_content t = sym rest ∙ ap (λ (l : List MemTable). tables_content l g) cut ∙ at_front t (drop (suc i) ts) g mine in
+    record {
+      content = ap present (sym found);
+      others = λ other h.
+          let away : nat_eq t.raft_group_id other ≡ false = ap (λ (n : ℕ). nat_eq n other) mine ∙ h in
+          sym (passed_by t (take i ts) (drop (suc i) ts) other away) ∙ ap (λ (l : List MemTable). tables_content l other) (sym whole);
+    }
+
+pub made_new : (ts : List MemTable) (i g : ℕ) (entries : Vec EntryIndex Global) (keys : Vec KeyValue Global) → length ts ≤ i → tables_content (drop i ts) g ≡ tables_content ts g → entries.items ≡ [] → keys.items ≡ []
+    → Taken ts g (record { raft_group_id = g; entries = entries; keys = keys }) ts
+made_new ts i g entries keys le rest a b =
+    let past : drop i ts ≡ [] = nil_from_length (drop i ts) (omega (arith, length-drop i ts)) in
+    let none : no_group ≡ tables_content ts g = ap (λ (l : List MemTable). tables_content l g) (sym past) ∙ rest in
+    record {
+      content = ap (λ (es : List EntryIndex). present (record { there = true; entry = entry_at (indexed es); value = value_at keys.items })) a
+          ∙ ap (λ (ks : List KeyValue). present (record { there = true; entry = entry_at []; value = value_at ks })) b ∙ ap present none;
+      others = λ other h. refl;
+    }
+
+pub same_item : (ts : List MemTable) (i : ℕ) (a b : MemTable) → i < length ts → a ≡ get_or ts i a → b ≡ get_or ts i b → a ≡ b
+same_item [] i a b lt p q = absurd (omega arith)
+same_item (t ∷ ts) zero a b lt p q = p ∙ sym q
+same_item (t ∷ ts) (suc i) a b lt p q = same_item ts i a b (omega arith) p q
+
+pub on_ok : {A E : Type 0} {P Q : Type 0} (r : Result A E) → OnOk r P → (P → Q) → OnOk r Q
+on_ok (Ok x) p f = f p
+on_ok (Err e) p f = tt

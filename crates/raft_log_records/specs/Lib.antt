@@ -7,3 +7,4 @@ pub mod Batch
 pub mod BatchView
 pub mod Content
 pub mod MemTable
+pub mod MemTables

@@ -4,7 +4,9 @@ use Rattle.raft_log_records.specs.declared.file_id.FileBlockHandle.{FileBlockHan
 use Rattle.raft_log_records.specs.declared.item.EntryIndex.{EntryIndex}
 use Rattle.raft_log_records.specs.declared.memtable.KeyValue.{KeyValue}
 use Rattle.raft_log_records.specs.declared.memtable.MemTable.{MemTable}
-use Rattle.raft_log_records.specs.Item.{Change, Item, item_map}
+use Rattle.raft_log_records.specs.Item.Change.{clean, mark}
+use Rattle.raft_log_records.specs.declared.command.Command.{Command}
+use Rattle.raft_log_records.specs.Item.{Change, Item, item_map, command_change}
 use Rattle.raft_log_records.specs.Content.{GroupContent, Content, no_group, entry_at}
 use Rattle.raft_log_records.specs.Reading.{indexed}
 
@@ -27,3 +29,23 @@ placed_in handle e = record { index = e.index; entries = Some handle; entry_offs
 
 abbrev pub items_in : FileBlockHandle → List (Item EntryIndex) → List (Item EntryIndex)
 items_in handle items = map (item_map (placed_in handle)) items
+
+-- as a group that an item sets something of
+abbrev pub present : GroupContent EntryIndex → GroupContent EntryIndex
+present g = record { there = true; entry = g.entry; value = g.value }
+
+-- the memtable of a group is taken out, or made without entries and keys, and other groups stay
+pub record Taken (old : List MemTable) (group : ℕ) (taken : MemTable) (rest : List MemTable) : Type 0 where
+  pub content : table_content taken ≡ present (tables_content old group)
+  pub others : (other : ℕ) → nat_eq group other ≡ false → tables_content rest other ≡ tables_content old other
+
+abbrev pub is_clean_of : {E : Type 0} → Change E → Bool
+is_clean_of clean = true
+is_clean_of _ = false
+
+abbrev pub is_mark_of : {E : Type 0} → Change E → Bool
+is_mark_of (mark id status) = true
+is_mark_of _ = false
+
+abbrev pub command_in : Command → Change EntryIndex
+command_in command = command_change command
