@@ -1,6 +1,7 @@
 -- A record that is read was spelled so.
 use Rattle.std.proofs.Common.{◌≡◌, ◌≢◌, ◌⊎◌, inl, inr, ⊎_elim, ℕ, zero, suc, ◌+◌, ◌-◌, ◌^◌, ◌<◌, ◌≤◌, Bool, true, false, not, cond, ltb, eqb, List, [], ◌∷◌, ◌++◌, length, get_or, take, drop, Option, Some, None, Result, Ok, Err, refl, sym, ap, subst, ◌∙◌, append_assoc, arith, length-append, length-take, length-drop}
 use Rattle.std.specs.Prelude.{◌||◌, IfOk}
+use Rattle.std.proofs.Common.{Bor}
 use Rattle.std.specs.List.{list_any, AllByRecursion}
 use Rattle.std.specs.Int.{w32, from_be_bytes, to_be_bytes}
 use Rattle.std.proofs.lemmas.Bool.{ltb-false, eqb-true, eq-eqb, ne_eqb}
@@ -14,7 +15,7 @@ use Rattle.raft_log_records.specs.declared.error.RecordError.{RecordError}
 use Rattle.raft_log_records.specs.Item.{Item, items_of, entry_bytes, with_bytes, with_lengths}
 use Rattle.raft_log_records.specs.Spelling.{holds_entries, block_part, signed, sealed, lengths, spell_block, spell_items, spell_parts, spell_record, record_len, IsItem, AreItems}
 use Rattle.raft_log_records.specs.Batch.{IsLaid, IsRecordAt}
-use Rattle.raft_log_records.specs.Reading.{◌>>=◌, Gives, number_at, unsealed, header_at, block_at, body_at, agrees, record_at}
+use Rattle.raft_log_records.specs.Reading.{◌>>=◌, Gives, number_at, unsealed, header_at, block_at, body_at, agrees, record_at, entries_block_at}
 use Rattle.raft_log_records.proofs.Fields.{IsBytes, IsBytes-take, IsBytes-drop, bind_ok, guard_ok, guard_then, Takes, Takes-then, wide32, number_takes}
 use Rattle.raft_log_records.proofs.Laid.{fronts, block_is, laid_lengths, any_held}
 use Rattle.raft_log_records.proofs.Taken.{not_true, BodyTaken, body_takes}
@@ -237,3 +238,10 @@ pub is_found : (signature : Option ℕ) (bytes : List ℕ) (r : Result Record Re
     → IfOk r (λ r. IsRecordAt signature bytes (with_bytes r.entries.now (items_of r.batch.items.items)) r.len)
 is_found signature bytes (Ok r) fits given = record_takes signature bytes (items_of r.batch.items.items, r.entries.now, r.len) fits given
 is_found signature bytes (Err e) fits given = tt
+
+pub block_found : (bytes : List ℕ) (r : Result (Bor (List ℕ)) RecordError) → IsBytes bytes → Gives (λ x. x.now) r (entries_block_at bytes) → IfOk r (λ entries. bytes ≡ sealed None entries.now)
+unfolding entries_block_at
+block_found bytes (Ok x) fits given =
+    let g = guard_then (ltb (length bytes) 4) fault.CutShort (unsealed fault.EntriesChecksum None bytes) x.now given in
+    (unsealed_takes fault.EntriesChecksum None bytes x.now fits (ltb-false _ _ g.0) g.1).0
+block_found bytes (Err e) fits given = tt

@@ -174,3 +174,7 @@ Finds (Ok r) items len = (with_bytes r.entries.now (items_of r.batch.items.items
 Finds (Err errors.Memory) items len = Unit {0}
 Finds (Err errors.TooLong) items len = ⊥
 Finds (Err (errors.Corruption f)) items len = ⊥
+
+-- a block of entries that is read alone
+unfoldable pub entries_block_at : List ℕ → Result (List ℕ) RecordFault
+entries_block_at bytes = if nat_lt (length bytes) 4 then Err fault.CutShort else unsealed fault.EntriesChecksum None bytes

@@ -196,7 +196,7 @@ impl LogBatch {
     }
 
     /// Says that the batch's record belongs to an atomic group.
-    fn add_mark(
+    pub(crate) fn add_mark(
         &mut self,
         raft_group_id: u64,
         id: u64,

@@ -4,8 +4,8 @@ ghost use Rattle.std.specs.Prelude.{◌≡◌, ◌≤◌, ◌+◌, ◌⊎◌, �
 ghost use Rattle.std.specs.List.{list_any};
 ghost use Rattle.raft_log_records.specs.Item.{Item, item_of, items_of, with_bytes};
 ghost use Rattle.raft_log_records.specs.Batch.{IsRecordAt};
-ghost use Rattle.raft_log_records.specs.Spelling.{signed, IsSignature, holds_entries, AreItems, spell_record, record_len};
-ghost use Rattle.raft_log_records.specs.Reading.{Gives, Finds, header_at, unsealed, block_at, agrees, record_at};
+ghost use Rattle.raft_log_records.specs.Spelling.{sealed, signed, IsSignature, holds_entries, AreItems, spell_record, record_len};
+ghost use Rattle.raft_log_records.specs.Reading.{Gives, Finds, header_at, unsealed, block_at, agrees, record_at, entries_block_at};
 
 use crate::checksum::crc32;
 use crate::error::{RecordError, RecordFault};
@@ -158,4 +158,23 @@ pub fn read_record(
     ensures exact { Gives (λ r. (items_of r.batch.items.items, r.entries.now, r.len)) result (record_at signature bytes.now) }
 {
     record_of(alloc, bytes, signature)
+}
+
+/// The entries' bytes of a block of entries with its checksum, as a handle names it (raft-engine's
+/// `decode_entries_block`). Refused is only a block that is none.
+pub fn read_entries_block(block: &[u8]) -> Result<&[u8], RecordError>
+    ensures found { IfOk result (λ entries. block.now ≡ sealed None entries.now) }
+    ensures exact { Gives (λ x. x.now) result (entries_block_at block.now) }
+{
+    block_entries(block)
+}
+
+#[tactic(auto, unfolding(crate::specs::Reading::entries_block_at))]
+fn block_entries(block: &[u8]) -> Result<&[u8], RecordError>
+    ensures { Gives (λ x. x.now) result (entries_block_at block.now) }
+{
+    if block.len() < 4 {
+        return Err(RecordError::Corruption(RecordFault::CutShort));
+    }
+    unseal(RecordFault::EntriesChecksum, None, block)
 }
