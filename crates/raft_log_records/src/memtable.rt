@@ -1,8 +1,8 @@
 //! Memtables: what the log engine has of each group, with the places of its entries.
 
-ghost use Rattle.std.specs.Prelude.{◌≡◌, ◌++◌, ◌∷◌, [], map, filter, not, nat_eq, nat_lt, nat_le, bytes_eq, OnOk, OnErr, false};
-ghost use Rattle.raft_log_records.specs.MemTable.{placed_in, table_content, tables_content, items_in, is_clean_of, is_mark_of, command_in, Taken};
-ghost use Rattle.raft_log_records.specs.Content.{nothing, after_change, after_item, after_batch};
+ghost use Rattle.std.specs.Prelude.{◌≡◌, ◌++◌, ◌∷◌, [], map, filter, not, nat_eq, nat_lt, nat_le, bytes_eq, OnOk, OnErr, MatchOption, Some, None, false};
+ghost use Rattle.raft_log_records.specs.MemTable.{placed_in, value_at, table_content, tables_content, items_in, is_clean_of, is_mark_of, command_in, Taken};
+ghost use Rattle.raft_log_records.specs.Content.{nothing, no_group, entry_at, after_change, after_item, after_batch};
 ghost use Rattle.raft_log_records.specs.Item.{change_of, change_map, item_of, items_of, item_map};
 ghost use Rattle.raft_log_records.specs.MemTables.{content_in};
 ghost use Rattle.raft_log_records.specs.Item.Change.{entries, compact, put, delete};
@@ -243,5 +243,83 @@ impl MemTables {
             apply_item(alloc, &mut self.tables, item, handle)?;
         }
         Ok(())
+    }
+}
+
+/// The memtable of a group.
+fn find_table(tables: &[MemTable], raft_group_id: u64) -> Option<&MemTable>
+    ensures { MatchOption result (tables_content tables.now raft_group_id ≡ no_group) (λ t. tables_content tables.now raft_group_id ≡ table_content t.now) }
+{
+    match tables {
+        [] => None,
+        [table, rest @ ..] => {
+            if table.raft_group_id == raft_group_id {
+                Some(table)
+            } else {
+                find_table(rest, raft_group_id)
+            }
+        }
+    }
+}
+
+fn find_entry(entries: &[EntryIndex], index: u64) -> Option<EntryIndex>
+    ensures { result ≡ entry_at (indexed entries.now) index }
+{
+    match entries {
+        [] => None,
+        [entry, rest @ ..] => {
+            if entry.index == index {
+                Some(*entry)
+            } else {
+                find_entry(rest, index)
+            }
+        }
+    }
+}
+
+fn find_value<'a>(keys: &'a [KeyValue], key: &[u8]) -> Option<&'a [u8]>
+    ensures { MatchOption result (value_at keys.now key.now ≡ None) (λ v. value_at keys.now key.now ≡ Some v.now) }
+{
+    match keys {
+        [] => None,
+        [first, rest @ ..] => {
+            if first.key.as_slice() == key {
+                Some(first.value.as_slice())
+            } else {
+                find_value(rest, key)
+            }
+        }
+    }
+}
+
+impl MemTables {
+    /// Whether a group is there, with or without entries and keys.
+    #[tactic(auto, unfolding(crate::specs::MemTables::content_in))]
+    pub fn has_group(&self, raft_group_id: u64) -> bool
+        ensures { result ≡ (content_in self.now raft_group_id).there }
+    {
+        find_table(&self.tables, raft_group_id).is_some()
+    }
+
+    /// Where the entry of a group with this index lies, if it is there.
+    #[tactic(auto, unfolding(crate::specs::MemTables::content_in))]
+    pub fn get_entry(&self, raft_group_id: u64, index: u64) -> Option<EntryIndex>
+        ensures { result ≡ (content_in self.now raft_group_id).entry index }
+    {
+        match find_table(&self.tables, raft_group_id) {
+            None => None,
+            Some(table) => find_entry(&table.entries, index),
+        }
+    }
+
+    /// The value of a key of a group, if it is there.
+    #[tactic(auto, unfolding(crate::specs::MemTables::content_in))]
+    pub fn get(&self, raft_group_id: u64, key: &[u8]) -> Option<&[u8]>
+        ensures { MatchOption result ((content_in self.now raft_group_id).value key.now ≡ None) (λ v. (content_in self.now raft_group_id).value key.now ≡ Some v.now) }
+    {
+        match find_table(&self.tables, raft_group_id) {
+            None => None,
+            Some(table) => find_value(&table.keys, key),
+        }
     }
 }
