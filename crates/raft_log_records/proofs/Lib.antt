@@ -7,3 +7,14 @@ pub mod Lists
 pub mod Spelled
 pub mod Laid
 pub mod Sound
+pub mod Fields
+pub mod Taken
+pub mod RecordTaken
+pub mod Again
+pub mod Placed
+pub mod RecordAgain
+pub mod Joined
+pub mod Runs
+pub mod Tables
+pub mod Changes
+pub mod Applied

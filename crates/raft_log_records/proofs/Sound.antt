@@ -96,16 +96,16 @@ view_push items block item h =
     ∙ map_push (item_map (entry_bytes block)) (items_of items) (item_of item)
     ∙ ap (λ (i : Item (List ℕ)). with_bytes block (items_of items) ++ i ∷ []) (plain_item (entry_bytes block) (item_of item) h)
 
-lengths_push : (items : List LogItem) (item : LogItem) → with_lengths (items_of (items ++ item ∷ [])) ≡ with_lengths (items_of items) ++ item_map (λ e. e.entry_len) (item_of item) ∷ []
+pub lengths_push : (items : List LogItem) (item : LogItem) → with_lengths (items_of (items ++ item ∷ [])) ≡ with_lengths (items_of items) ++ item_map (λ e. e.entry_len) (item_of item) ∷ []
 lengths_push items item =
     ap (λ (l : List (Item EntryIndex)). with_lengths l) (map_push item_of items item)
     ∙ map_push (item_map (λ e. e.entry_len)) (items_of items) (item_of item)
 
-each_push : {X : Type 0} (P : X → Type 0) (xs : List X) (x : X) → AllByRecursion P xs → P x → AllByRecursion P (xs ++ x ∷ [])
+pub each_push : {X : Type 0} (P : X → Type 0) (xs : List X) (x : X) → AllByRecursion P xs → P x → AllByRecursion P (xs ++ x ∷ [])
 each_push P [] x h k = (k, tt)
 each_push P (y ∷ xs) x h k = (h.0, each_push P xs x h.1 k)
 
-spelled_push : (items : List (Item ℕ)) (item : Item ℕ) → length (flat_map spell_item (items ++ item ∷ [])) ≡ length (flat_map spell_item items) + length (spell_item item)
+pub spelled_push : (items : List (Item ℕ)) (item : Item ℕ) → length (flat_map spell_item (items ++ item ∷ [])) ≡ length (flat_map spell_item items) + length (spell_item item)
 spelled_push items item =
     let a = ap length (flat_map-append spell_item items (item ∷ [])) in
     let b = length-append (flat_map spell_item items) (flat_map spell_item (item ∷ [])) in

@@ -1,12 +1,15 @@
 -- A batch, as its callers see it.
-use Rattle.std.specs.Prelude.{◌≡◌, ◌<◌, ◌≤◌, ◌+◌, ◌^◌, ℕ, Bool, true, false, List, [], ◌∷◌, ◌++◌, length, map, Option, Some, None, Result, Ok, Err, All, if◌then◌else◌}
+use Rattle.std.specs.Prelude.{◌≡◌, ◌<◌, ◌≤◌, ◌+◌, ◌^◌, ℕ, Bool, true, false, List, [], ◌∷◌, ◌++◌, length, map, take, Option, Some, None, Result, Ok, Err, All, if◌then◌else◌}
+use Rattle.std.specs.Prelude.{Vec}
+use Rattle.std.specs.declared.alloc.Global.{Global}
 use Rattle.std.specs.List.{flat_map, AllByRecursion, list_any}
 use Rattle.raft_log_records.specs.declared.error.RecordError.{RecordError}
 use Rattle.raft_log_records.specs.declared.error.RecordError.TheVariants as error
 use Rattle.raft_log_records.specs.declared.item.EntryIndex.{EntryIndex}
 use Rattle.raft_log_records.specs.declared.item.LogItem.{LogItem}
-use Rattle.raft_log_records.specs.Item.{Change, Item, item_of, items_of, with_bytes, with_lengths}
-use Rattle.raft_log_records.specs.Spelling.{IsItem, FitsBytes, entries_of, holds_entries, block_part, spell_item, spell_record, record_len}
+use Rattle.raft_log_records.specs.Item.Change.{entries}
+use Rattle.raft_log_records.specs.Item.{Change, Item, place, item_of, items_of, with_bytes, with_lengths}
+use Rattle.raft_log_records.specs.Spelling.{IsItem, FitsBytes, entries_of, holds_entries, block_part, spell_item, spell_record, record_len, AreItems}
 
 -- whether it is open, or written as a record that is signed so
 pub data Writing : Type 0 where
@@ -51,6 +54,33 @@ Logs old item new (Err error.Memory) = (new ≡ old) × (record_len (old.items +
 Logs old item new (Err error.TooLong) = (new ≡ old) × (33554432 < record_len (old.items ++ item ∷ []))
 Logs old item new (Err (error.Corruption fault)) = ⊥
 
+-- entries' bytes without where they lie in memory
+abbrev pub payloads : List (Vec ℕ Global) → List (List ℕ)
+payloads vs = map (λ v. v.items) vs
+
+-- all bytes, one after the other
+abbrev pub joined : List (List ℕ) → List ℕ
+joined parts = flat_map (λ bytes. bytes) parts
+
+-- entries with their indexes, from a first one on
+abbrev pub numbered : {E : Type 0} → ℕ → List E → List (ℕ × E)
+numbered index [] = []
+numbered index (e ∷ es) = (index, e) ∷ numbered (index + 1) es
+
+-- the item of a group's entries
+abbrev pub run_of : ℕ → ℕ → List (List ℕ) → Item (List ℕ)
+run_of group first parts = record { group = group; change = entries (numbered first parts) }
+
+-- What adding entries of a group does. None change nothing.
+abbrev pub LogsEntries : Batch → ℕ → ℕ → List (List ℕ) → Batch → Result Unit RecordError → Type 0
+LogsEntries old group first [] new result = (new ≡ old) × (result ≡ Ok tt)
+LogsEntries old group first (e ∷ es) new result = Logs old (run_of group first (e ∷ es)) new result
+
+-- where entries lie, of which the first begins at this byte of the block
+abbrev pub runs : ℕ → List (ℕ × List ℕ) → List EntryIndex
+runs at [] = []
+runs at (e ∷ es) = place e.0 at (length e.1) ∷ runs (at + length e.1) es
+
 -- ---- how the entries of the program's items lie in the block, one after the other
 
 abbrev pub IsRunLaid : ℕ → List EntryIndex → ℕ → Type 0
@@ -71,3 +101,10 @@ pub record IsSound (items : List LogItem) (block : List ℕ) (holds : Bool) (ite
   pub bytes : length block ≤ 33554432
   pub entries_held : holds ≡ list_any holds_entries (items_of items)
   pub short : 16 + items_len + length (block_part holds block) ≤ 33554432
+
+-- the record at the front of some bytes has these items and this length
+pub record IsRecordAt (signature : Option ℕ) (bytes : List ℕ) (items : List (Item (List ℕ))) (len : ℕ) : Type 0 where
+  pub each : AreItems items
+  pub spelled : take len bytes ≡ spell_record signature items
+  pub whole : len ≡ record_len items
+  pub within : len ≤ length bytes

@@ -1,5 +1,5 @@
 -- The items of a batch, without where they lie in memory. E stands for an entry: its bytes, its length, or its place.
-use Rattle.std.specs.Prelude.{ℕ, List, map, length, take, drop, Bool, true, false, ◌||◌}
+use Rattle.std.specs.Prelude.{ℕ, List, map, length, take, drop, Option, None, Bool, true, false, ◌||◌}
 use Rattle.std.specs.List.{list_any}
 use Rattle.raft_log_records.specs.declared.command.Command.{Command}
 use Rattle.raft_log_records.specs.declared.command.Command.TheVariants as command
@@ -53,6 +53,10 @@ item_of item = record { group = item.raft_group_id; change = change_of item.cont
 
 abbrev pub items_of : List LogItem → List (Item EntryIndex)
 items_of items = map item_of items
+
+-- an entry at this byte of a block
+abbrev pub place : ℕ → ℕ → ℕ → EntryIndex
+place index at len = record { index = index; entries = None; entry_offset = at; entry_len = len }
 
 -- the bytes of an entry in its block
 abbrev pub entry_bytes : List ℕ → EntryIndex → List ℕ

@@ -1,13 +1,15 @@
 //! Batches of changes, which become one record each.
 
-ghost use Rattle.std.specs.Prelude.{◌≡◌, ◌<◌, ◌≤◌, ◌+◌, ◌^◌, ◌++◌, ◌∷◌, ◌↔◌, [], length, IsTrue, OnOk, OnErr, IfOk, IfErr, IfSome, IfNone, false};
+ghost use Rattle.std.specs.Prelude.{◌≡◌, ◌<◌, ◌≤◌, ◌+◌, ◌-◌, ◌*◌, ◌^◌, ◌++◌, ◌∷◌, ◌↔◌, [], length, IsTrue, OnOk, OnErr, IfOk, IfErr, IfSome, IfNone, false, true};
 ghost use Rattle.raft_log_records.specs.Item.{Item, command_change, with_bytes, items_of, item_of, item_map, entry_bytes};
-ghost use Rattle.raft_log_records.specs.Spelling.{holds_entries, IsItem, FitsBytes, spell_item, block_of, record_len};
+ghost use Rattle.raft_log_records.specs.Spelling.{holds_entries, IsItem, FitsBytes, spell_item, block_of, block_part, record_len};
+ghost use Rattle.std.specs.List.{list_any};
 ghost use Rattle.raft_log_records.specs.Item.Change.{put, delete, mark};
-ghost use Rattle.raft_log_records.specs.Batch.{nothing_logged, logged, encoded_of, populated, signed_again, Logs};
+ghost use Rattle.raft_log_records.specs.Batch.{nothing_logged, logged, encoded_of, populated, signed_again, Logs, LogsEntries, run_of, payloads, joined};
 ghost use Rattle.raft_log_records.specs.Signature.{signature_of};
 
 use crate::command::Command;
+use crate::entries::{append_all, index_entries, total_len};
 use crate::error::RecordError;
 use crate::item::{AtomicGroupStatus, LogItem, LogItemContent};
 use crate::record::{LogItemBatch, MAX_RECORD_LEN, sign};
@@ -194,7 +196,7 @@ impl LogBatch {
     }
 
     /// Says that the batch's record belongs to an atomic group.
-    fn add_mark(
+    pub(crate) fn add_mark(
         &mut self,
         raft_group_id: u64,
         id: u64,
@@ -269,5 +271,84 @@ impl LogBatch {
         self.buf_state = BufState::Open;
         self.encoded.clear();
         LogItemBatch { items }
+    }
+}
+
+/// The length of an item with these entries and of their bytes, or none where it passes any
+/// record's.
+fn run_len(entries: &[Vec<u8>]) -> Option<u32>
+    ensures fits { IfSome result (λ n. (n ≡ 13 + 12 * length entries.now + length (joined (payloads entries.now))) × (n ≤ 33554432)) }
+    ensures long { IfNone result (33554432 < 13 + 12 * length entries.now + length (joined (payloads entries.now))) }
+{
+    let total = total_len(entries)?;
+    let room = (MAX_RECORD_LEN - total) as usize;
+    if room < 13 || (room - 13) / 12 < entries.len() {
+        return None;
+    }
+    Some(13 + 12 * entries.len() as u32 + total)
+}
+
+impl LogBatch {
+    /// Adds entries of a group by their bytes, with indexes from `first` on (raft-engine's
+    /// `add_raw_entries`, whose entries all have consecutive indexes). None change nothing.
+    pub fn add_raw_entries(
+        &mut self,
+        raft_group_id: u64,
+        first: u64,
+        entries: &[Vec<u8>],
+    ) -> Result<(), RecordError>
+        requires { first + length entries.now < 2 ^ 64 }
+        ensures { LogsEntries self.old raft_group_id first (payloads entries.now) self.new result }
+    {
+        if entries.is_empty() {
+            return Ok(());
+        }
+        let Some(len) = run_len(entries) else {
+            return Err(RecordError::TooLong);
+        };
+        if MAX_RECORD_LEN - self.record_len() < len + self.block_checksum_len() {
+            return Err(RecordError::TooLong);
+        }
+        self.push_run(raft_group_id, first, entries)
+    }
+
+    /// The first entries bring the checksum of their block.
+    fn block_checksum_len(&self) -> u32
+        ensures len { result ≡ length (block_part true []) - length (block_part (list_any holds_entries self.now.items) []) }
+        ensures short { result ≤ 4 }
+    {
+        if self.holds_entries { 0 } else { 4 }
+    }
+
+    /// Adds entries for which there is room.
+    fn push_run(
+        &mut self,
+        raft_group_id: u64,
+        first: u64,
+        entries: &[Vec<u8>],
+    ) -> Result<(), RecordError>
+        requires some { 0 < length entries.now }
+        requires indexes { first + length entries.now < 2 ^ 64 }
+        requires room { record_len (self.old.items ++ run_of raft_group_id first (payloads entries.now) ∷ []) ≤ 33554432 }
+        ensures { Logs self.old (run_of raft_group_id first (payloads entries.now)) self.new result }
+    {
+        let at = self.entries.len();
+        let alloc = *self.items.allocator();
+        let indexes = index_entries(alloc, first, at as u32, entries)?;
+        append_all(&mut self.entries, entries)?;
+        let content = LogItemContent::EntryIndexes(indexes);
+        let item = LogItem {
+            raft_group_id,
+            content,
+        };
+        let Ok(()) = self.items.push(item) else {
+            self.entries.truncate(at);
+            return Err(RecordError::Memory);
+        };
+        self.items_len += 13 + 12 * entries.len() as u32;
+        self.holds_entries = true;
+        self.buf_state = BufState::Open;
+        self.encoded.clear();
+        Ok(())
     }
 }

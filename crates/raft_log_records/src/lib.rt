@@ -1,22 +1,34 @@
 //! Batches of the log engine, their bytes as records, their checksum, and the memtables that they fill.
 #![tactic(auto)]
 
+mod atomic;
 mod batch;
 mod checksum;
 mod command;
+mod entries;
 mod error;
 mod file_id;
 mod item;
+mod memtable;
 mod reading;
 mod record;
 mod size;
+mod stats;
 mod version;
 mod writing;
 
+pub use atomic::AtomicGroupBuilder;
+pub use batch::LogBatch;
 pub use checksum::{Checksum, crc32, crc32_by_bytes, is_intact};
 pub use command::Command;
 pub use error::{RecordError, RecordFault};
 pub use file_id::{FileBlockHandle, FileId, FileSeq, LogQueue};
 pub use item::{AtomicGroupStatus, EntryIndex, LogItem, LogItemContent};
+pub use memtable::MemTables;
+pub use record::{LogItemBatch, MAX_RECORD_LEN, Record, read_entries_block, read_record};
 pub use size::ReadableSize;
+pub use stats::GlobalStats;
 pub use version::{LogFileContext, Version};
+
+#[cfg(test)]
+mod tests;

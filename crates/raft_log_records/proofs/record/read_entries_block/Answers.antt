@@ -1,0 +1,6 @@
+use Rattle.std.proofs.Common.{arith}
+use Rattle.raft_log_records.proofs.RecordTaken.{block_found}
+use Rattle.raft_log_records.proofs.record.read_entries_block.Goals as goal
+
+pub returns-clause-found : goal.returns-clause-found
+returns-clause-found c = block_found c.args.block.now c.block_entries.result (λ i. omega (arith, c.type_inv.block i)) c.block_entries.ensures

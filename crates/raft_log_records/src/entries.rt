@@ -1,0 +1,65 @@
+//! Entries on their way into a batch.
+
+ghost use Rattle.std.specs.Prelude.{◌≡◌, ◌≤◌, ◌<◌, ◌+◌, ◌^◌, ◌++◌, length, IfSome, IfNone, IfOk, OnOk, OnErr};
+ghost use Rattle.raft_log_records.specs.Batch.{payloads, joined, numbered, runs};
+
+use crate::item::EntryIndex;
+use crate::record::MAX_RECORD_LEN;
+use std::alloc::{AllocError, Global};
+
+/// The length of all entries together, or none where it passes any record's.
+pub fn total_len(entries: &[Vec<u8>]) -> Option<u32>
+    ensures fits { IfSome result (λ n. (n ≡ length (joined (payloads entries.now))) × (n ≤ 33554432)) }
+    ensures long { IfNone result (33554432 < length (joined (payloads entries.now))) }
+{
+    let mut total: u32 = 0;
+    for entry in entries {
+        if entry.len() > (MAX_RECORD_LEN - total) as usize {
+            return None;
+        }
+        total += entry.len() as u32;
+    }
+    Some(total)
+}
+
+/// Where the entries lie, of which the first begins at byte `at` of the block.
+pub fn index_entries(
+    alloc: Global,
+    first: u64,
+    mut at: u32,
+    entries: &[Vec<u8>],
+) -> Result<Vec<EntryIndex>, AllocError>
+    requires indexes { first + length entries.now < 2 ^ 64 }
+    requires room { at + length (joined (payloads entries.now)) < 2 ^ 32 }
+    ensures { IfOk result (λ v. v.items ≡ runs at (numbered first (payloads entries.now))) }
+{
+    let mut indexes = Vec::new(alloc);
+    let mut index = first;
+    for entry in entries {
+        let entry_len = entry.len() as u32;
+        indexes.push(EntryIndex {
+            index,
+            entries: None,
+            entry_offset: at,
+            entry_len,
+        })?;
+        at += entry_len;
+        index += 1;
+    }
+    Ok(indexes)
+}
+
+/// Puts all entries behind what is there, or leaves it as it is.
+pub fn append_all(out: &mut Vec<u8>, entries: &[Vec<u8>]) -> Result<(), AllocError>
+    ensures ok { OnOk result (out.new.items ≡ out.old.items ++ joined (payloads entries.now)) }
+    ensures err { OnErr result (out.new.items ≡ out.old.items) }
+{
+    let len = out.len();
+    for entry in entries {
+        let Ok(()) = out.extend_from_slice(entry) else {
+            out.truncate(len);
+            return Err(AllocError);
+        };
+    }
+    Ok(())
+}

@@ -1,0 +1,206 @@
+use super::*;
+use std::alloc::{AllocError, Global};
+use std::test::Fail;
+
+/// One put of key `end` with eight bytes in group 7.
+fn end_put(alloc: Global) -> Result<LogBatch, RecordError> {
+    let mut batch = LogBatch::new(alloc);
+    batch.put(
+        7,
+        Vec::from_slice(alloc, b"end")?,
+        Vec::from_slice(alloc, &[0, 0, 0, 0, 0, 0, 0, 3])?,
+    )?;
+    batch.finish_populate()?;
+    Ok(batch)
+}
+
+#[test]
+fn a_put_is_a_record_of_44_bytes(rt: HostRuntime) -> Result<(), Fail> {
+    let batch = end_put(rt.alloc())?;
+    let bytes = batch.encoded_bytes();
+    assert_eq!(rt; bytes.len(), 44);
+    assert_eq!(rt; &bytes[..8], [0, 0, 0, 0x2c, 0, 0, 0, 8].as_slice());
+    assert_eq!(rt; batch.approximate_size(), 44);
+    Ok(())
+}
+
+#[test]
+fn small_items_have_known_lengths(rt: HostRuntime) -> Result<(), Fail> {
+    let alloc = rt.alloc();
+    let mut batch = LogBatch::new(alloc);
+    assert_eq!(rt; batch.finish_populate()?, 0);
+    batch.delete(7, Vec::from_slice(alloc, b"end")?)?;
+    assert_eq!(rt; batch.finish_populate()?, 32);
+    let mut batch = LogBatch::new(alloc);
+    batch.add_command(7, Command::Clean)?;
+    assert_eq!(rt; batch.finish_populate()?, 25);
+    let mut batch = LogBatch::new(alloc);
+    batch.add_command(7, Command::Compact { index: 9 })?;
+    assert_eq!(rt; batch.finish_populate()?, 33);
+    Ok(())
+}
+
+#[test]
+fn what_was_written_is_read(rt: HostRuntime) -> Result<(), Fail> {
+    let mut batch = end_put(rt.alloc())?;
+    let context = LogFileContext::new(FileId::new(LogQueue::Append, 10), Version::V2);
+    batch.prepare_write(&context);
+    let record = read_record(rt.alloc(), batch.encoded_bytes(), Some(10))?;
+    assert_eq!(rt; record.len, 44);
+    assert_eq!(rt; record.entries.len(), 0);
+    assert_eq!(rt; record.batch.items.len(), 1);
+    for item in &record.batch.items {
+        assert_eq!(rt; item.raft_group_id, 7);
+        assert!(rt;
+            matches!(&item.content, LogItemContent::Put { key, .. } if key.as_slice() == b"end".as_slice())
+        );
+    }
+    let other = read_record(rt.alloc(), batch.encoded_bytes(), Some(11));
+    assert!(rt;
+        matches!(
+            other,
+            Err(RecordError::Corruption(RecordFault::ItemsChecksum))
+        )
+    );
+    Ok(())
+}
+
+#[test]
+fn each_changed_byte_is_refused(rt: HostRuntime) -> Result<(), Fail> {
+    let batch = end_put(rt.alloc())?;
+    for changed in 8..44 {
+        let mut bytes = Vec::from_slice(rt.alloc(), batch.encoded_bytes())?;
+        for (i, byte) in bytes.iter_mut().enumerate() {
+            if i == changed {
+                *byte ^= 0x10;
+            }
+        }
+        let read = read_record(rt.alloc(), &bytes, None);
+        assert!(rt;
+            matches!(
+                read,
+                Err(RecordError::Corruption(RecordFault::ItemsChecksum))
+            )
+        );
+    }
+    Ok(())
+}
+
+#[test]
+fn each_front_is_cut_short(rt: HostRuntime) -> Result<(), Fail> {
+    let batch = end_put(rt.alloc())?;
+    let bytes = batch.encoded_bytes();
+    for len in 0..bytes.len() {
+        let read = read_record(rt.alloc(), &bytes[..len], None);
+        assert!(rt; matches!(read, Err(RecordError::Corruption(RecordFault::CutShort))));
+    }
+    let zeros = read_record(rt.alloc(), &[0; 16], None);
+    assert!(rt; matches!(zeros, Err(RecordError::Corruption(RecordFault::BadLength))));
+    Ok(())
+}
+
+#[test]
+fn a_batch_is_too_long_from_the_first_byte_on(rt: HostRuntime) -> Result<(), Fail> {
+    let alloc = rt.alloc();
+    let mut batch = LogBatch::new(alloc);
+    let most = vec![in alloc; 0u8; 33_554_432 - 33 - 3]?;
+    let key = Vec::from_slice(alloc, b"end")?;
+    batch.put(7, key, most)?;
+    assert_eq!(rt; batch.approximate_size(), 33_554_432);
+    let more = batch.add_command(7, Command::Clean);
+    assert!(rt; matches!(more, Err(RecordError::TooLong)));
+    Ok(())
+}
+
+#[test]
+fn signatures(rt: HostRuntime) {
+    let ten = FileId::new(LogQueue::Append, 10);
+    assert_eq!(rt; LogFileContext::new(ten, Version::V1).get_signature(), None);
+    assert_eq!(rt;
+        LogFileContext::new(ten, Version::V2).get_signature(),
+        Some(10)
+    );
+    let far = FileId::new(LogQueue::Append, (10 << 32) + 100);
+    assert_eq!(rt;
+        LogFileContext::new(far, Version::V2).get_signature(),
+        Some(100)
+    );
+    assert!(rt; FileId::new(LogQueue::Rewrite, 9) < FileId::new(LogQueue::Append, 1));
+    assert_eq!(rt; ReadableSize::mb(1).0 + ReadableSize::kb(1).0, 1_049_600);
+    assert_eq!(rt; ReadableSize::gb(1), ReadableSize(1 << 30));
+}
+
+#[test]
+fn an_entry_and_a_put_are_a_record_of_110_bytes(rt: HostRuntime) -> Result<(), Fail> {
+    let alloc = rt.alloc();
+    let mut batch = LogBatch::new(alloc);
+    let entry = vec![in alloc; 9u8; 37]?;
+    batch.add_raw_entries(7, 2, vec![in alloc; entry]?.as_slice())?;
+    batch.put(7, Vec::from_slice(alloc, b"end")?, vec![in alloc; 0u8; 8]?)?;
+    assert_eq!(rt; batch.finish_populate()?, 110);
+    let front = [0, 0, 0, 0x6e, 0, 0, 0, 0x31].as_slice();
+    assert_eq!(rt; &batch.encoded_bytes()[..8], front);
+    let record = read_record(alloc, batch.encoded_bytes(), None)?;
+    assert_eq!(rt; record.entries.len(), 37);
+    assert_eq!(rt; record.batch.items.len(), 2);
+    let items = batch.drain();
+    assert_eq!(rt; items.items.len(), 2);
+    assert!(rt; batch.is_empty());
+    Ok(())
+}
+
+#[test]
+fn memtables_are_the_fold_of_their_batches(rt: HostRuntime) -> Result<(), Fail> {
+    let alloc = rt.alloc();
+    let handle = FileBlockHandle {
+        id: FileId::new(LogQueue::Append, 3),
+        offset: 8,
+        len: 40,
+    };
+    let mut tables = MemTables::new(alloc);
+    let mut batch = LogBatch::new(alloc);
+    let entry = vec![in alloc; 9u8; 4]?;
+    let other = vec![in alloc; 8u8; 5]?;
+    batch.add_raw_entries(7, 5, vec![in alloc; entry, other]?.as_slice())?;
+    batch.put(
+        7,
+        Vec::from_slice(alloc, b"end")?,
+        Vec::from_slice(alloc, b"old")?,
+    )?;
+    batch.put(
+        7,
+        Vec::from_slice(alloc, b"end")?,
+        Vec::from_slice(alloc, b"new")?,
+    )?;
+    tables.apply(batch.drain(), handle)?;
+    assert_eq!(rt; tables.get(7, b"end"), Some(b"new".as_slice()));
+    let six = tables.get_entry(7, 6).ok_or("entry 6")?;
+    assert_eq!(rt; six.entry_offset, 4);
+    assert_eq!(rt; six.entry_len, 5);
+    assert_eq!(rt; six.entries, Some(handle));
+    batch.add_command(7, Command::Compact { index: 6 })?;
+    batch.delete(7, Vec::from_slice(alloc, b"end")?)?;
+    tables.apply(batch.drain(), handle)?;
+    assert!(rt; tables.get_entry(7, 5).is_none());
+    assert!(rt; tables.get(7, b"end").is_none());
+    assert!(rt; tables.has_group(7));
+    batch.add_command(7, Command::Clean)?;
+    tables.apply(batch.drain(), handle)?;
+    assert!(rt; !tables.has_group(7));
+    Ok(())
+}
+
+#[test]
+fn a_mark_is_a_record_of_34_bytes(rt: HostRuntime) -> Result<(), Fail> {
+    let mut batch = LogBatch::new(rt.alloc());
+    AtomicGroupBuilder::with_id(1).begin(&mut batch)?;
+    assert_eq!(rt; batch.finish_populate()?, 34);
+    let mut stats = GlobalStats::new();
+    stats.add(LogQueue::Rewrite, 5);
+    stats.delete(LogQueue::Rewrite, 2);
+    assert_eq!(rt; stats.live_entries(LogQueue::Rewrite), 3);
+    assert_eq!(rt; stats.deleted_rewrite_entries(), 2);
+    stats.reset_rewrite_counters();
+    assert_eq!(rt; stats.rewrite_entries(), 0);
+    Ok(())
+}
