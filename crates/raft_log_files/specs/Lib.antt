@@ -1,0 +1,4 @@
+pub mod Text
+pub mod Disk
+pub mod Cause
+pub mod Memory

@@ -1,1 +1,10 @@
+//! Files for a log that survives crashes: what a file system is, what a crash may leave of it,
+//! and a file system in memory that can be made to refuse calls and to crash.
 #![tactic(auto)]
+
+mod fault;
+mod memory_file;
+mod system;
+
+pub use fault::{Fd, IoFault, Permission};
+pub use system::FileSystem;
