@@ -1,2 +1,4 @@
+pub mod ByteLemmas
 pub mod CauseLemmas
+pub mod MemoryLemmas
 pub mod NameLemmas

@@ -35,3 +35,13 @@ state_of s = record {
   later = spans_of s.later.items;
   brought = s.brought.items;
 }
+
+-- nothing but the notes of changes and writes is another
+pub record IsNoted (old new : MemoryFile) : Type 0 where
+  pub path : new.path ≡ old.path
+  pub number : new.number ≡ old.number
+  pub bytes : new.bytes ≡ old.bytes
+  pub least : new.least ≡ old.least
+  pub greatest : new.greatest ≡ old.greatest
+  pub earlier : new.earlier ≡ old.earlier
+  pub brought : new.brought ≡ old.brought
