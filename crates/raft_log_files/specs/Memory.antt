@@ -45,3 +45,28 @@ pub record IsNoted (old new : MemoryFile) : Type 0 where
   pub greatest : new.greatest ≡ old.greatest
   pub earlier : new.earlier ≡ old.earlier
   pub brought : new.brought ≡ old.brought
+
+-- ---- many files
+
+abbrev pub texts_of : List (String Global) → List Text
+texts_of texts = map string_bytes texts
+
+abbrev pub names_of : List MemoryFile → List (Text × ℕ)
+names_of files = map (λ f. (string_bytes f.path, f.number)) files
+
+-- the file of a number
+abbrev pub file_of : List MemoryFile → ℕ → FileState
+file_of [] n = no_bytes
+file_of (f ∷ fs) n = if n == f.number then state_of f else file_of fs n
+
+abbrev pub disk_of : List (String Global) → List MemoryFile → ℕ → Disk
+disk_of directories files next = record { directories = texts_of directories; names = names_of files; file = file_of files; next = next }
+
+-- the places of a number and of a path, where the first place is at
+abbrev pub place_of : List MemoryFile → ℕ → ℕ → Option ℕ
+place_of [] number at = None
+place_of (f ∷ fs) number at = if f.number == number then Some at else place_of fs number (at + 1)
+
+abbrev pub place_of_path : List MemoryFile → Text → ℕ → Option ℕ
+place_of_path [] path at = None
+place_of_path (f ∷ fs) path at = if same_text (string_bytes f.path) path then Some at else place_of_path fs path (at + 1)

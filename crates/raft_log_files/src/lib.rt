@@ -3,6 +3,7 @@
 #![tactic(auto)]
 
 mod fault;
+mod lookup;
 mod memory_file;
 mod system;
 

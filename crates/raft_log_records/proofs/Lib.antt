@@ -1,0 +1,4 @@
+pub mod Loops
+pub mod Lists
+pub mod Spelled
+pub mod Laid

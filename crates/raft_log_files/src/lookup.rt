@@ -1,0 +1,65 @@
+//! Looking up files, paths and directories.
+
+ghost use Rattle.std.specs.Prelude.{◌≡◌, ◌+◌, ◌-◌, length, take, drop, map, option_map, Option, IsTrue};
+ghost use Rattle.raft_log_files.specs.Text.{name_in};
+ghost use Rattle.raft_log_files.specs.Disk.{IsIn, HasDirectory};
+ghost use Rattle.raft_log_files.specs.Memory.{texts_of, place_of, place_of_path};
+
+use crate::memory_file::MemoryFile;
+
+/// The place of the file of a number.
+pub fn find_number(files: &[MemoryFile], number: u64) -> Option<usize>
+    ensures { result ≡ place_of files.now number 0 }
+{
+    for (i, file) in files.iter().enumerate() {
+        if file.number == number {
+            return Some(i);
+        }
+    }
+    None
+}
+
+/// The place of the file of a path.
+pub fn find_path(files: &[MemoryFile], path: &str) -> Option<usize>
+    ensures { result ≡ place_of_path files.now path.now 0 }
+{
+    for (i, file) in files.iter().enumerate() {
+        if file.path.as_str() == path {
+            return Some(i);
+        }
+    }
+    None
+}
+
+/// Whether a text is among these.
+pub fn has_text(texts: &[String], text: &str) -> bool
+    ensures yes { IsTrue result → IsIn text.now (texts_of texts.now) }
+    ensures no { IsIn text.now (texts_of texts.now) → IsTrue result }
+{
+    match texts {
+        [] => false,
+        [first, rest @ ..] => first.as_str() == text || has_text(rest, text),
+    }
+}
+
+/// The name that a path has directly in a directory.
+pub fn name_of<'a>(directory: &str, path: &'a str) -> Option<&'a str>
+    ensures { option_map (λ name. name.now) result ≡ name_in directory.now path.now }
+{
+    let rest = path.strip_prefix(directory)?;
+    let name = rest.strip_prefix('/')?;
+    if name.contains('/') { None } else { Some(name) }
+}
+
+/// Whether a directory that was made holds this path.
+pub fn has_directory(directories: &[String], path: &str) -> bool
+    ensures yes { IsTrue result → HasDirectory (texts_of directories.now) path.now }
+    ensures no { HasDirectory (texts_of directories.now) path.now → IsTrue result }
+{
+    match directories {
+        [] => false,
+        [first, rest @ ..] => {
+            name_of(first.as_str(), path).is_some() || has_directory(rest, path)
+        }
+    }
+}

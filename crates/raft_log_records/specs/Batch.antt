@@ -1,0 +1,53 @@
+-- A batch, as its callers see it.
+use Rattle.std.specs.Prelude.{◌≡◌, ◌<◌, ◌≤◌, ◌+◌, ◌^◌, ℕ, Bool, true, false, List, [], ◌∷◌, ◌++◌, length, map, Option, Some, None, All, if◌then◌else◌}
+use Rattle.std.specs.List.{flat_map, AllByRecursion, list_any}
+use Rattle.raft_log_records.specs.declared.item.EntryIndex.{EntryIndex}
+use Rattle.raft_log_records.specs.declared.item.LogItem.{LogItem}
+use Rattle.raft_log_records.specs.Item.{Change, Item, item_of, items_of, with_bytes, with_lengths}
+use Rattle.raft_log_records.specs.Spelling.{IsItem, FitsBytes, entries_of, holds_entries, block_part, spell_item, spell_record}
+
+-- whether it is open, or written as a record that is signed so
+pub data Writing : Type 0 where
+  open_still : Writing
+  written : Option ℕ → Writing
+
+-- its items with their entries' bytes, and how it is written
+pub record Batch : Type 0 where
+  pub items : List (Item (List ℕ))
+  pub writing : Writing
+
+-- the bytes that it is written as: none while it is open. No item, no record
+abbrev pub record_of : List (Item (List ℕ)) → Writing → List ℕ
+record_of items open_still = []
+record_of [] (written signature) = []
+record_of (item ∷ items) (written signature) = spell_record signature (item ∷ items)
+
+abbrev pub encoded_of : Batch → List ℕ
+encoded_of batch = record_of batch.items batch.writing
+
+abbrev pub nothing_logged : Batch
+nothing_logged = record { items = []; writing = open_still }
+
+-- the batch with one more item
+abbrev pub logged : Batch → Item (List ℕ) → Batch
+logged batch item = record { items = batch.items ++ item ∷ []; writing = open_still }
+
+-- ---- how the entries of the program's items lie in the block, one after the other
+
+abbrev pub IsRunLaid : ℕ → List EntryIndex → ℕ → Type 0
+IsRunLaid at [] end = at ≡ end
+IsRunLaid at (e ∷ es) end = (e.entry_offset ≡ at) × IsRunLaid (at + e.entry_len) es end
+
+abbrev pub IsLaid : ℕ → List (Item EntryIndex) → ℕ → Type 0
+IsLaid at [] end = at ≡ end
+IsLaid at (item ∷ items) end = (mid : ℕ) × IsRunLaid at (entries_of item.change) mid × IsLaid mid items end
+
+-- what holds of the program's parts of a batch
+pub record IsSound (items : List LogItem) (block : List ℕ) (holds : Bool) (items_len : ℕ) : Type 0 where
+  pub laid : IsLaid 0 (items_of items) (length block)
+  pub each : AllByRecursion IsItem (with_lengths (items_of items))
+  pub fits : All (λ item. FitsBytes (item_of item).change) items
+  pub sum : items_len ≡ length (flat_map spell_item (with_lengths (items_of items)))
+  pub count : length items ≤ items_len
+  pub entries_held : holds ≡ list_any holds_entries (items_of items)
+  pub short : 16 + items_len + length (block_part holds block) ≤ 33554432

@@ -1,0 +1,60 @@
+//! Why a batch or its bytes are refused.
+
+ghost use Rattle.std.specs.Prelude.{◌≡◌};
+ghost use Rattle.raft_log_records.specs.declared.error.RecordError.TheVariants.{Memory};
+
+use std::alloc::{AllocError, AllocFailed};
+use thiserror::Error;
+
+/// What is wrong with the bytes of a record: the first fault that is met.
+#[derive(Clone, Copy, Debug, PartialEq, Eq)]
+pub enum RecordFault {
+    /// The bytes end before the record, or its items before a field that they must have.
+    CutShort,
+    /// The length is one that no record has.
+    BadLength,
+    /// The items cannot begin where the header says.
+    BadOffset,
+    /// The checksum of the items is another one, or is signed for another file.
+    ItemsChecksum,
+    /// A kind of item or of atomic mark that is none.
+    BadTag,
+    /// Entries of an item whose indexes do not follow one another, or none at all.
+    NotConsecutive,
+    /// A key of no bytes.
+    EmptyKey,
+    /// Bytes stand between the last item and the checksum.
+    TrailingBytes,
+    /// The block of entries does not have the length that its entries have together.
+    EntriesLength,
+    /// The checksum of the entries is another one.
+    EntriesChecksum,
+}
+
+/// Why a batch is not changed, or its bytes are not read.
+#[derive(Clone, Copy, Debug, PartialEq, Eq, Error)]
+pub enum RecordError {
+    #[error("out of memory")]
+    Memory,
+    /// The batch would have a record of more than 33,554,432 bytes.
+    #[error("batch is longer than a record may be")]
+    TooLong,
+    #[error("corrupt record: {0:?}")]
+    Corruption(RecordFault),
+}
+
+impl From<AllocError> for RecordError {
+    ghost from_gives = { λ _ e. e ≡ Memory };
+
+    fn from(_e: AllocError) -> RecordError {
+        RecordError::Memory
+    }
+}
+
+impl<T: Drop> From<AllocFailed<T>> for RecordError {
+    ghost from_gives = { λ _ e. e ≡ Memory };
+
+    fn from(_e: AllocFailed<T>) -> RecordError {
+        RecordError::Memory
+    }
+}

@@ -1,0 +1,141 @@
+//! Reading a record: its header, its items and its block of entries, with both checksums.
+
+ghost use Rattle.std.specs.Prelude.{◌≡◌, ◌≤◌, ◌+◌, ◌⊎◌, length, IfOk};
+ghost use Rattle.std.specs.List.{list_any};
+ghost use Rattle.raft_log_records.specs.Item.{item_of, items_of};
+ghost use Rattle.raft_log_records.specs.Spelling.{signed, holds_entries};
+ghost use Rattle.raft_log_records.specs.Reading.{Gives, header_at, unsealed, block_at, agrees, record_at};
+
+use crate::checksum::crc32;
+use crate::error::{RecordError, RecordFault};
+use crate::item::{LogItem, LogItemContent};
+use crate::reading::{body_of, u32_at};
+use std::alloc::Global;
+
+/// A record has at most so many bytes.
+pub const MAX_RECORD_LEN: u32 = 33_554_432;
+
+/// The length of a record, and where in it the items begin.
+const HEADER_LEN: usize = 8;
+
+/// The items of one record, in their order (raft-engine's `LogItemBatch`).
+#[derive(Debug, Drop)]
+pub struct LogItemBatch {
+    pub items: Vec<LogItem>,
+}
+
+/// What stands in a record.
+#[derive(Debug, Drop)]
+pub struct Record<'a> {
+    pub batch: LogItemBatch,
+    /// The bytes of all entries, one after the other.
+    pub entries: &'a [u8],
+    /// The record's whole length in bytes.
+    pub len: u32,
+}
+
+#[tactic(auto, unfolding(crate::specs::Reading::header_at))]
+fn header_of(bytes: &[u8]) -> Result<(u32, u32), RecordError>
+    ensures within { IfOk result (λ x. x.0 ≤ length bytes.now) }
+    ensures room { IfOk result (λ x. x.1 + 8 ≤ x.0) }
+    ensures header { IfOk result (λ x. 8 ≤ x.1) }
+    ensures block { IfOk result (λ x. (x.1 ≡ 8) ⊎ (12 ≤ x.1)) }
+    ensures read { Gives (λ x. x) result (header_at bytes.now) }
+{
+    let (len, rest) = u32_at(bytes)?;
+    let (offset, _) = u32_at(rest)?;
+    if len < 16 || MAX_RECORD_LEN < len {
+        return Err(RecordError::Corruption(RecordFault::BadLength));
+    }
+    if bytes.len() < len as usize {
+        return Err(RecordError::Corruption(RecordFault::CutShort));
+    }
+    if len - 8 < offset || !(offset == 8 || 12 <= offset) {
+        return Err(RecordError::Corruption(RecordFault::BadOffset));
+    }
+    Ok((len, offset))
+}
+
+fn sign(signature: Option<u32>, checksum: u32) -> u32
+    ensures { result ≡ signed signature checksum }
+{
+    match signature {
+        None => checksum,
+        Some(signature) => checksum ^ signature,
+    }
+}
+
+/// The bytes before a checksum of them, which is signed for a file.
+#[tactic(auto, unfolding(crate::specs::Reading::unsealed))]
+fn unseal(wrong: RecordFault, signature: Option<u32>, bytes: &[u8]) -> Result<&[u8], RecordError>
+    requires { 4 ≤ length bytes.now }
+    ensures { Gives (λ x. x.now) result (unsealed wrong signature bytes.now) }
+{
+    let (body, sum) = bytes.split_at(bytes.len() - 4);
+    let sum = u32::from_be_bytes([sum[0], sum[1], sum[2], sum[3]]);
+    if sum != sign(signature, crc32(body)) {
+        return Err(RecordError::Corruption(wrong));
+    }
+    Ok(body)
+}
+
+#[tactic(auto, unfolding(crate::specs::Reading::block_at))]
+fn block_of(offset: u32, bytes: &[u8]) -> Result<&[u8], RecordError>
+    requires room { offset ≤ length bytes.now }
+    requires block { (offset ≡ 8) ⊎ (12 ≤ offset) }
+    ensures { Gives (λ x. x.now) result (block_at offset bytes.now) }
+{
+    let offset = offset as usize;
+    if offset == HEADER_LEN {
+        return Ok(&[]);
+    }
+    unseal(
+        RecordFault::EntriesChecksum,
+        None,
+        &bytes[HEADER_LEN..offset],
+    )
+}
+
+fn is_entries(item: &LogItem) -> bool
+    ensures { result ≡ holds_entries (item_of item.now) }
+{
+    matches!(item.content, LogItemContent::EntryIndexes(_))
+}
+
+fn any_entries(items: &[LogItem]) -> bool
+    ensures { result ≡ list_any (λ item. holds_entries (item_of item)) items.now }
+{
+    items.iter().any(|item| is_entries(item))
+}
+
+/// There is a block of entries exactly where an item holds entries.
+#[tactic(auto, unfolding(crate::specs::Reading::agrees), using(crate::proofs::Lists::any_of_map))]
+fn is_agreed(offset: u32, items: &[LogItem]) -> bool
+    ensures { result ≡ agrees offset (items_of items.now) }
+{
+    if offset == 8 {
+        !any_entries(items)
+    } else {
+        any_entries(items)
+    }
+}
+
+#[tactic(auto, unfolding(crate::specs::Reading::record_at))]
+fn record_of(alloc: Global, bytes: &[u8], signature: Option<u32>) -> Result<Record<'_>, RecordError>
+    ensures { Gives (λ r. (items_of r.batch.items.items, r.entries.now, r.len)) result (record_at signature bytes.now) }
+{
+    let (len, offset) = header_of(bytes)?;
+    let sealed = &bytes[offset as usize..len as usize];
+    let body = unseal(RecordFault::ItemsChecksum, signature, sealed)?;
+    let items = body_of(alloc, offset.saturating_sub(12), body)?;
+    if !is_agreed(offset, &items) {
+        return Err(RecordError::Corruption(RecordFault::EntriesLength));
+    }
+    let entries = block_of(offset, bytes)?;
+    let batch = LogItemBatch { items };
+    Ok(Record {
+        batch,
+        entries,
+        len,
+    })
+}
