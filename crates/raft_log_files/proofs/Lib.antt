@@ -2,3 +2,4 @@ pub mod ByteLemmas
 pub mod CauseLemmas
 pub mod MemoryLemmas
 pub mod NameLemmas
+pub mod TextLemmas

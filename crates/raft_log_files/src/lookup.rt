@@ -1,7 +1,7 @@
 //! Looking up files, paths and directories.
 
 ghost use Rattle.std.specs.Prelude.{◌≡◌, ◌+◌, ◌-◌, length, take, drop, map, option_map, Option, IsTrue};
-ghost use Rattle.raft_log_files.specs.Text.{name_in};
+ghost use Rattle.raft_log_files.specs.Text.{has_slash, name_in};
 ghost use Rattle.raft_log_files.specs.Disk.{IsIn, HasDirectory};
 ghost use Rattle.raft_log_files.specs.Memory.{texts_of, place_of, place_of_path};
 
@@ -31,6 +31,13 @@ pub fn find_path(files: &[MemoryFile], path: &str) -> Option<usize>
     None
 }
 
+fn is_same(a: &str, b: &str) -> bool
+    ensures yes { IsTrue result → a.now ≡ b.now }
+    ensures no { a.now ≡ b.now → IsTrue result }
+{
+    a == b
+}
+
 /// Whether a text is among these.
 pub fn has_text(texts: &[String], text: &str) -> bool
     ensures yes { IsTrue result → IsIn text.now (texts_of texts.now) }
@@ -38,17 +45,27 @@ pub fn has_text(texts: &[String], text: &str) -> bool
 {
     match texts {
         [] => false,
-        [first, rest @ ..] => first.as_str() == text || has_text(rest, text),
+        [first, rest @ ..] => is_same(first.as_str(), text) || has_text(rest, text),
     }
+}
+
+fn is_in_subdirectory(name: &str) -> bool
+    ensures { result ≡ has_slash name.now }
+{
+    name.as_bytes().contains(&b'/')
 }
 
 /// The name that a path has directly in a directory.
 pub fn name_of<'a>(directory: &str, path: &'a str) -> Option<&'a str>
     ensures { option_map (λ name. name.now) result ≡ name_in directory.now path.now }
 {
-    let rest = path.strip_prefix(directory)?;
-    let name = rest.strip_prefix('/')?;
-    if name.contains('/') { None } else { Some(name) }
+    let Some(rest) = path.strip_prefix(directory) else {
+        return None;
+    };
+    let Some(name) = rest.strip_prefix('/') else {
+        return None;
+    };
+    if is_in_subdirectory(name) { None } else { Some(name) }
 }
 
 /// Whether a directory that was made holds this path.
