@@ -1,5 +1,7 @@
 pub mod ByteLemmas
 pub mod CauseLemmas
+pub mod FilesLemmas
 pub mod MemoryLemmas
 pub mod NameLemmas
+pub mod NamedLemmas
 pub mod TextLemmas
