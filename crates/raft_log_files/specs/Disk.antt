@@ -213,10 +213,6 @@ pub record RefusedTruncate (old new : Disk) (fd len : ℕ) : Type 0 where
 
 -- ---- room
 
--- the bytes that the files of a directory have together
-abbrev pub used_in : Disk → Text → ℕ
-used_in d directory = sum_by (λ e. if is_some (name_in directory e.0) then length (d.file e.1).bytes else 0) d.names
-
 -- the file is in a directory that has less room than this
 pub record LacksRoom (room : Text → ℕ) (d : Disk) (fd bytes : ℕ) : Type 0 where
   pub path : List ℕ

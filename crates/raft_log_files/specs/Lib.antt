@@ -2,3 +2,4 @@ pub mod Text
 pub mod Disk
 pub mod Cause
 pub mod Memory
+pub mod MemorySystem

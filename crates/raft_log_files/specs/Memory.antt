@@ -1,12 +1,15 @@
 -- What a file system in memory stands for.
-use Rattle.std.specs.Prelude.{◌≡◌, ℕ, ◌+◌, ◌-◌, ◌^◌, List, [], ◌∷◌, ◌++◌, map, take, drop, length, Vec, String, Option, Some, None, is_some, ◌==◌, if◌then◌else◌}
+use Rattle.std.specs.Prelude.{◌≡◌, ℕ, ◌+◌, ◌-◌, ◌^◌, List, [], ◌∷◌, ◌++◌, map, take, drop, length, sum_by, Vec, String, Option, Some, None, is_some, ◌==◌, if◌then◌else◌}
 use Rattle.std.specs.String.{string_bytes}
 use Rattle.std.specs.declared.alloc.Global.{Global}
 use Rattle.raft_log_files.specs.declared.memory_file.MemoryFile.{MemoryFile}
 use Rattle.raft_log_files.specs.declared.memory_file.Change.{Change}
 use Rattle.raft_log_files.specs.declared.memory_file.Written.{Written}
 use Rattle.raft_log_files.specs.Text.{Text, same_text, name_in}
-use Rattle.raft_log_files.specs.Disk.{FileState, Disk, no_bytes, put, used_in}
+use Rattle.raft_log_files.specs.Disk.{FileState, Disk, no_bytes, put}
+use Rattle.raft_log_files.specs.declared.fuse.Fuse.{Fuse}
+use Rattle.raft_log_files.specs.declared.space.Space.{Space}
+use Rattle.raft_log_files.specs.Cause.{Meter}
 
 -- the places and bytes of writes
 abbrev pub spans_of : List Written → List (ℕ × List ℕ)
@@ -70,3 +73,15 @@ place_of (f ∷ fs) number at = if f.number == number then Some at else place_of
 abbrev pub place_of_path : List MemoryFile → Text → ℕ → Option ℕ
 place_of_path [] path at = None
 place_of_path (f ∷ fs) path at = if same_text (string_bytes f.path) path then Some at else place_of_path fs path (at + 1)
+
+-- the bytes that the files of a directory have together
+abbrev pub used_of : List MemoryFile → Text → ℕ
+used_of files directory = sum_by (λ f. if is_some (name_in directory (string_bytes f.path)) then length f.bytes.items else 0) files
+
+-- the free bytes of a directory, by the newest bound on it
+abbrev pub room_of : List Space → List MemoryFile → Text → ℕ
+room_of [] files directory = 2 ^ 64 - 1
+room_of (s ∷ ss) files directory = if same_text (string_bytes s.directory) directory then s.bytes - used_of files directory else room_of ss files directory
+
+abbrev pub meter_of : Fuse → Meter
+meter_of f = record { refusals = f.refusals; calls_left = f.calls_left; unreadable = texts_of f.unreadable.items }

@@ -3,9 +3,13 @@
 #![tactic(auto)]
 
 mod fault;
+mod fuse;
 mod lookup;
+mod memory;
 mod memory_file;
+mod space;
 mod system;
 
 pub use fault::{Fd, IoFault, Permission};
+pub use memory::MemoryFileSystem;
 pub use system::FileSystem;
