@@ -35,7 +35,7 @@ pub put_by_parts : (old new bytes : List ℕ) (at covered : ℕ) → at ≤ leng
 put_by_parts old new bytes at covered le is front back =
     sym (take-append-drop (at + covered) bytes) ∙ (λ i. front i ++ back i)
     ∙ elim (least_of (length new) (length old - at) covered is) [
-        inl w ↦ ap (λ n. (take at (old ++ drop n new) ++ take n new) ++ drop (at + n) (old ++ drop n new)) w.0 ∙ within old new at
+      | inl w ↦ ap (λ n. (take at (old ++ drop n new) ++ take n new) ++ drop (at + n) (old ++ drop n new)) w.0 ∙ within old new at
       | inr w ↦ beyond old new at covered (omega arith) (omega arith)
     ]
 
@@ -65,17 +65,17 @@ back_within old new replaced at fits is =
     let le : at ≤ length old = omega arith in
     let long : length replaced ≡ length new = ap length is ∙ length-take-le (length new) (drop at old) (omega (arith, length-drop at old)) in
     let whole : put (put old at new) at replaced ≡ old =
-        (λ i. (front_put old new at le i ++ is i) ++ back_put old new at (at + length replaced) le (ap (λ n. at + n) long) i)
-        ∙ ap (λ (l : List ℕ). (take at old ++ take (length new) (drop at old)) ++ l) (ap (λ n. drop (at + n) old) long ∙ sym (drop-drop (length new) at old))
-        ∙ append_assoc (take at old) (take (length new) (drop at old)) (drop (length new) (drop at old))
-        ∙ ap (λ (l : List ℕ). take at old ++ l) (take-append-drop (length new) (drop at old))
-        ∙ take-append-drop at old in
+    (λ i. (front_put old new at le i ++ is i) ++ back_put old new at (at + length replaced) le (ap (λ n. at + n) long) i)
+    ∙ ap (λ (l : List ℕ). (take at old ++ take (length new) (drop at old)) ++ l) (ap (λ n. drop (at + n) old) long ∙ sym (drop-drop (length new) at old))
+    ∙ append_assoc (take at old) (take (length new) (drop at old)) (drop (length new) (drop at old))
+    ∙ ap (λ (l : List ℕ). take at old ++ l) (take-append-drop (length new) (drop at old))
+    ∙ take-append-drop at old in
     ap (λ (l : List ℕ). take (length old) l) whole ∙ take-length old
 
 back_beyond : (old new replaced : List ℕ) (at : ℕ) → at ≤ length old → replaced ≡ drop at old → take (length old) (put (put old at new) at replaced) ≡ old
 back_beyond old new replaced at le is =
     ap (λ (l : List ℕ). take (length old) (l ++ drop (at + length replaced) (put old at new)))
-        ((λ i. front_put old new at le i ++ is i) ∙ take-append-drop at old)
+    ((λ i. front_put old new at le i ++ is i) ∙ take-append-drop at old)
     ∙ take-append_seam old (drop (at + length replaced) (put old at new))
 
 -- the bytes before a write, by what it replaced
@@ -83,7 +83,7 @@ pub put_back : (old new replaced : List ℕ) (at to len : ℕ) → at ≤ length
 put_back old new replaced at to len le is end was =
     ap (λ n. take n (put (put old at new) at replaced)) is
     ∙ elim (least_of to len (min to len) refl) [
-        inl w ↦ back_within old new replaced at (omega arith) (was ∙ ap (λ n. take n (drop at old)) (omega arith))
+      | inl w ↦ back_within old new replaced at (omega arith) (was ∙ ap (λ n. take n (drop at old)) (omega arith))
       | inr w ↦ back_beyond old new replaced at le (was ∙ take_all (min to len - at) (drop at old) (omega (arith, length-drop at old)))
     ]
 
@@ -106,12 +106,12 @@ cut_put : (old rest replaced : List ℕ) (from len : ℕ) → from ≤ length ol
 cut_put old rest replaced from len le is long =
     ap (λ n. take n (put (take from old ++ rest) from replaced)) long
     ∙ ap (λ (l : List ℕ). take (length old) (l ++ drop (from + length replaced) (take from old ++ rest)))
-        ((λ i. take_at (take from old) rest from (length-take-le from old le) i ++ is i) ∙ take-append-drop from old)
+    ((λ i. take_at (take from old) rest from (length-take-le from old le) i ++ is i) ∙ take-append-drop from old)
     ∙ take-append_seam old (drop (from + length replaced) (take from old ++ rest))
 
 pub take_least : (n : ℕ) (old : List ℕ) → take n old ≡ take (min n (length old)) old
 take_least n old = elim (least_of n (length old) (min n (length old)) refl) [
-    inl w ↦ ap (λ n. take n old) (sym w.0)
+  | inl w ↦ ap (λ n. take n old) (sym w.0)
   | inr w ↦ take_all n old w.1 ∙ sym (take_all (min n (length old)) old (omega (arith, w.0)))
 ]
 

@@ -15,3 +15,17 @@ second_cause absent gone before between after first second a b there = record {
   no_space = b.no_space;
   reads = b.reads ∙ a.reads;
 }
+
+-- room was missing
+pub cramped_cause : {T : Type 0} (absent cramped : Type 0) (old new : Meter) → old.refusals ≤ new.refusals → new.unreadable ≡ old.unreadable → cramped → HasCause {T = T} absent cramped old new (Err NoSpace)
+cramped_cause absent cramped old new later reads lacks = record {
+  later = later;
+  refused = λ e. absurd cc;
+  not_found = λ e. absurd cc;
+  no_space = λ e. lacks;
+  reads = reads;
+}
+
+-- a path's reads are refused
+pub unreadable_cause : {T : Type 0} (absent unreadable : Type 0) → unreadable → HasReadCause {T = T} absent unreadable (Err Refused)
+unreadable_cause absent unreadable there = record { refused = λ e. there; not_found = λ e. absurd cc; no_space = λ e. absurd cc }

@@ -4,4 +4,5 @@ pub mod FilesLemmas
 pub mod MemoryLemmas
 pub mod NameLemmas
 pub mod NamedLemmas
+pub mod RoomLemmas
 pub mod TextLemmas

@@ -26,7 +26,7 @@ pub write_noted : (old mid : MemoryFile) (c : Change) (w : Written) (at greatest
     → mid.changes.items ≡ old.changes.items ++ c ∷ [] → mid.later.items ≡ old.later.items ++ w ∷ [] → c.from ≡ at → c.to ≡ at + length bytes → undo c target ≡ old.bytes.items
     → w.at ≡ at → w.bytes.items ≡ bytes → greatest ≡ max old.greatest (at + length bytes) → seen ≡ target
     → record { bytes = seen; kept = undone mid.changes.items seen; changed = ranges_of mid.changes.items; least = mid.least; greatest = greatest; earlier = spans_of mid.earlier.items; later = spans_of mid.later.items; brought = mid.brought.items }
-      ≡ after_write (state_of old) at bytes target
+    ≡ after_write (state_of old) at bytes target
 write_noted old mid c w at greatest seen target bytes noted cs ws from to back place written grew is =
     let kept : undone mid.changes.items seen ≡ undone old.changes.items old.bytes.items = ap (undone mid.changes.items) is ∙ kept_by old.changes.items mid.changes.items c target old.bytes.items cs back in
     let changed = ranges_more old.changes.items mid.changes.items c at (at + length bytes) cs from to in
@@ -47,7 +47,7 @@ pub truncate_noted : (old : MemoryFile) (ds : List Change) (c : Change) (len lea
     → ds ≡ old.changes.items ++ c ∷ [] → c.from ≡ min len (length old.bytes.items) → c.to ≡ max len (length old.bytes.items) → undo c target ≡ old.bytes.items
     → least ≡ min old.least len → greatest ≡ max old.greatest len → seen ≡ target
     → record { bytes = seen; kept = undone ds seen; changed = ranges_of ds; least = least; greatest = greatest; earlier = spans_of old.earlier.items; later = spans_of old.later.items; brought = old.brought.items }
-      ≡ after_truncate (state_of old) len target
+    ≡ after_truncate (state_of old) len target
 truncate_noted old ds c len least greatest seen target cs from to back fell grew is =
     let kept : undone ds seen ≡ undone old.changes.items old.bytes.items = ap (undone ds) is ∙ kept_by old.changes.items ds c target old.bytes.items cs back in
     let changed = ranges_more old.changes.items ds c (min len (length old.bytes.items)) (max len (length old.bytes.items)) cs from to in
@@ -66,7 +66,7 @@ truncate_noted old ds c len least greatest seen target cs from to back fell grew
 pub allocate_noted : (old : MemoryFile) (ds : List Change) (c : Change) (at len greatest : ℕ) (seen target : List ℕ)
     → ds ≡ old.changes.items ++ c ∷ [] → c.from ≡ at → c.to ≡ at + len → undo c target ≡ old.bytes.items → greatest ≡ max old.greatest (at + len) → seen ≡ target
     → record { bytes = seen; kept = undone ds seen; changed = ranges_of ds; least = old.least; greatest = greatest; earlier = spans_of old.earlier.items; later = spans_of old.later.items; brought = old.brought.items }
-      ≡ after_allocate (state_of old) at len target
+    ≡ after_allocate (state_of old) at len target
 allocate_noted old ds c at len greatest seen target cs from to back grew is =
     let kept : undone ds seen ≡ undone old.changes.items old.bytes.items = ap (undone ds) is ∙ kept_by old.changes.items ds c target old.bytes.items cs back in
     let changed = ranges_more old.changes.items ds c at (at + len) cs from to in
@@ -84,7 +84,7 @@ allocate_noted old ds c at len greatest seen target cs from to back grew is =
 -- a file under another name
 pub renamed_state : (old : MemoryFile) (earlier later : List Written) (brought : List ℕ) → earlier ≡ [] → later ≡ [] → brought ≡ take 69 old.bytes.items
     → record { bytes = old.bytes.items; kept = undone old.changes.items old.bytes.items; changed = ranges_of old.changes.items; least = old.least; greatest = old.greatest; earlier = spans_of earlier; later = spans_of later; brought = brought }
-      ≡ renamed (state_of old)
+    ≡ renamed (state_of old)
 renamed_state old earlier later brought none nothing front = λ i. record {
   bytes = old.bytes.items;
   kept = undone old.changes.items old.bytes.items;

@@ -164,10 +164,19 @@ named_moved (e ∷ es) from to next h none =
     let p = named_first e es next h in
     let f = first_other e es to none in
     moved_step (same_text e.0 from) e es (moved es from to) to next
-      (named_join (to, e.1) es next (record { below = p.below; number = p.number; path = f.1; others = p.others }))
-      (named_join e (moved es from to) next (record {
-        below = p.below;
-        number = moved_number es from to e.1 p.number;
-        path = moved_none es from to e.0 p.path (same_text-sym e.0 to f.0);
-        others = named_moved es from to next p.others f.1;
-      }))
+    (named_join (to, e.1) es next (record { below = p.below; number = p.number; path = f.1; others = p.others }))
+    (named_join e (moved es from to) next (record {
+      below = p.below;
+      number = moved_number es from to e.1 p.number;
+      path = moved_none es from to e.0 p.path (same_text-sym e.0 to f.0);
+      others = named_moved es from to next p.others f.1;
+    }))
+
+-- ---- the next number
+
+pub next_free : (es : Names) (next : ℕ) → are_named es next ≡ true → has_number es next ≡ false
+next_free [] next h = refl
+next_free (e ∷ es) next h =
+    let p = named_first e es next h in
+    let lt = ltb-true e.1 next p.below in
+    ap (λ t. t || has_number es next) (ne_eqb e.1 next (omega arith)) ∙ next_free es next p.others

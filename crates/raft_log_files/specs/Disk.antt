@@ -1,6 +1,6 @@
 -- The disk as a value: directories, names and files, and what each call makes of them.
 use Rattle.std.specs.Prelude.{◌≡◌, ◌⊎◌, ℕ, ◌+◌, ◌-◌, ◌<◌, ◌≤◌, min, max, true, List, [], ◌∷◌, ◌++◌, length, take, drop, map, sum_by, Option, Some, None, ◌==◌, if◌then◌else◌}
-use Rattle.std.specs.Prelude.{is_some, replicate, Bool, not, nat_lt, ◌&&◌, IsTrue}
+use Rattle.std.specs.Prelude.{is_some, option_to_list, replicate, Bool, not, nat_lt, ◌&&◌, IsTrue}
 use Rattle.std.specs.List.{AllByRecursion, list_any}
 use Rattle.raft_log_files.specs.Text.{Text, same_text, name_in}
 
@@ -61,7 +61,7 @@ HasDirectory (d ∷ ds) path = (is_some (name_in d path) ≡ true) ⊎ HasDirect
 -- the names in a directory
 abbrev pub listed : List (List ℕ × ℕ) → Text → List Text
 listed [] directory = []
-listed (e ∷ es) directory = elim (name_in directory e.0) [ None ↦ listed es directory | Some name ↦ name ∷ listed es directory ]
+listed (e ∷ es) directory = option_to_list (name_in directory e.0) ++ listed es directory
 
 -- ---- what a call makes of one file
 

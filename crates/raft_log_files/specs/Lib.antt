@@ -3,3 +3,4 @@ pub mod Disk
 pub mod Cause
 pub mod Memory
 pub mod MemorySystem
+pub mod Place

@@ -6,6 +6,7 @@ mod fault;
 mod fuse;
 mod lookup;
 mod memory;
+mod memory_calls;
 mod memory_file;
 mod space;
 mod system;

@@ -1,11 +1,12 @@
 //! Looking up files, paths and directories.
 
-ghost use Rattle.std.specs.Prelude.{◌≡◌, ◌+◌, ◌-◌, length, take, drop, map, option_map, Option, IsTrue};
+ghost use Rattle.std.specs.Prelude.{◌≡◌, ◌++◌, OnOk, option_to_list, ◌+◌, ◌-◌, length, take, drop, map, option_map, Option, IfOk, IsTrue};
 ghost use Rattle.raft_log_files.specs.Text.{has_slash, name_in};
 ghost use Rattle.raft_log_files.specs.Disk.{IsIn, HasDirectory};
 ghost use Rattle.raft_log_files.specs.Memory.{texts_of, place_of, place_of_path};
 
 use crate::memory_file::MemoryFile;
+use std::alloc::{AllocError, Global};
 
 /// The place of the file of a number.
 pub fn find_number(files: &[MemoryFile], number: u64) -> Option<usize>
@@ -65,7 +66,28 @@ pub fn name_of<'a>(directory: &str, path: &'a str) -> Option<&'a str>
     let Some(name) = rest.strip_prefix('/') else {
         return None;
     };
-    if is_in_subdirectory(name) { None } else { Some(name) }
+    if is_in_subdirectory(name) {
+        None
+    } else {
+        Some(name)
+    }
+}
+
+/// Adds the name that a path has directly in a directory, if it has one.
+pub fn push_name(
+    names: &mut Vec<String>,
+    alloc: Global,
+    directory: &str,
+    path: &str,
+) -> Result<(), AllocError>
+    ensures { OnOk result (texts_of names.new.items ≡ texts_of names.old.items ++ option_to_list (name_in directory.now path.now)) }
+{
+    let Some(name) = name_of(directory, path) else {
+        return Ok(());
+    };
+    let name = String::from_str(alloc, name)?;
+    names.push(name)?;
+    Ok(())
 }
 
 /// Whether a directory that was made holds this path.
@@ -79,4 +101,15 @@ pub fn has_directory(directories: &[String], path: &str) -> bool
             name_of(first.as_str(), path).is_some() || has_directory(rest, path)
         }
     }
+}
+
+/// Up to `len` bytes from a place on.
+pub fn slice_of(alloc: Global, bytes: &[u8], at: usize, len: usize) -> Result<Vec<u8>, AllocError>
+    ensures { IfOk result (λ v. v.items ≡ take len (drop at bytes.now)) }
+{
+    if at > bytes.len() {
+        return Ok(Vec::new(alloc));
+    }
+    let rest = &bytes[at..];
+    Vec::from_slice(alloc, &rest[..len.min(rest.len())])
 }

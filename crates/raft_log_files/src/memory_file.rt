@@ -98,7 +98,15 @@ impl MemoryFile {
         let to = at + bytes.len();
         let replaced = Vec::from_slice(alloc, &self.bytes[at..to.min(len)])?;
         let written = Vec::from_slice(alloc, bytes)?;
-        let Ok(()) = self.note(Change { from: at, to, replaced, len }, Written { at, bytes: written }) else {
+        let Ok(()) = self.note(
+            Change {
+                from: at,
+                to,
+                replaced,
+                len,
+            },
+            Written { at, bytes: written },
+        ) else {
             return Err(AllocError);
         };
         let Ok(()) = overwrite(&mut self.bytes, at, bytes) else {
@@ -122,7 +130,15 @@ impl MemoryFile {
         let to = at + bytes.len();
         let replaced = Vec::new(alloc);
         let written = Vec::from_slice(alloc, bytes)?;
-        let Ok(()) = self.note(Change { from: at, to, replaced, len }, Written { at, bytes: written }) else {
+        let Ok(()) = self.note(
+            Change {
+                from: at,
+                to,
+                replaced,
+                len,
+            },
+            Written { at, bytes: written },
+        ) else {
             return Err(AllocError);
         };
         self.greatest = self.greatest.max(to);
@@ -139,7 +155,12 @@ impl MemoryFile {
         let old = self.bytes.len();
         let from = len.min(old);
         let replaced = Vec::from_slice(alloc, &self.bytes[from..])?;
-        self.changes.push(Change { from, to: len.max(old), replaced, len: old })?;
+        self.changes.push(Change {
+            from,
+            to: len.max(old),
+            replaced,
+            len: old,
+        })?;
         let Ok(()) = self.bytes.resize(len, 0) else {
             let _ = self.changes.pop();
             return Err(AllocError);
@@ -158,7 +179,12 @@ impl MemoryFile {
     {
         let old = self.bytes.len();
         let replaced = Vec::new(alloc);
-        self.changes.push(Change { from: len.min(old), to: len.max(old), replaced, len: old })?;
+        self.changes.push(Change {
+            from: len.min(old),
+            to: len.max(old),
+            replaced,
+            len: old,
+        })?;
         self.least = self.least.min(len);
         self.greatest = self.greatest.max(len);
         Ok(())
@@ -175,7 +201,12 @@ impl MemoryFile {
         let to = at + len;
         let old = self.bytes.len();
         let replaced = Vec::new(alloc);
-        self.changes.push(Change { from: at, to, replaced, len: old })?;
+        self.changes.push(Change {
+            from: at,
+            to,
+            replaced,
+            len: old,
+        })?;
         let Ok(()) = self.bytes.resize(to.max(old), 0) else {
             let _ = self.changes.pop();
             return Err(AllocError);
@@ -185,7 +216,12 @@ impl MemoryFile {
     }
 
     /// Notes a refused `allocate`.
-    pub fn refuse_allocate(&mut self, alloc: Global, at: usize, len: usize) -> Result<(), AllocError>
+    pub fn refuse_allocate(
+        &mut self,
+        alloc: Global,
+        at: usize,
+        len: usize,
+    ) -> Result<(), AllocError>
         requires { at + len < 2 ^ 64 }
         ensures path { self.new.path ≡ self.old.path }
         ensures number { self.new.number ≡ self.old.number }
@@ -195,7 +231,12 @@ impl MemoryFile {
         let to = at + len;
         let old = self.bytes.len();
         let replaced = Vec::new(alloc);
-        self.changes.push(Change { from: at, to, replaced, len: old })?;
+        self.changes.push(Change {
+            from: at,
+            to,
+            replaced,
+            len: old,
+        })?;
         self.greatest = self.greatest.max(to);
         Ok(())
     }
@@ -214,19 +255,27 @@ impl MemoryFile {
         Ok(())
     }
 
-    /// Gives the file another path: what was written under the old one counts no more.
-    pub fn rename(&mut self, alloc: Global, path: String) -> Result<(), AllocError>
-        ensures path { IfOk result (λ _. self.new.path ≡ path) }
-        ensures number { self.new.number ≡ self.old.number }
-        ensures ok { OnOk result (state_of self.new ≡ renamed (state_of self.old)) }
-        ensures err { OnErr result ((state_of self.new ≡ state_of self.old) × (self.new.path ≡ self.old.path)) }
+    /// The file's front, as long as the longest header.
+    pub fn front(&self, alloc: Global) -> Result<Vec<u8>, AllocError>
+        ensures { IfOk result (λ v. v.items ≡ take 69 self.now.bytes.items) }
     {
-        let front = self.bytes.len().min(LONGEST_HEADER);
-        self.brought = Vec::from_slice(alloc, &self.bytes[..front])?;
+        let len = self.bytes.len().min(LONGEST_HEADER);
+        let front = Vec::from_slice(alloc, &self.bytes[..len])?;
+        Ok(front)
+    }
+
+    /// Gives the file another path: what was written under the old one counts no more, and what
+    /// stands at its front was brought.
+    pub fn rename(&mut self, path: String, front: Vec<u8>)
+        requires { front.items ≡ take 69 self.old.bytes.items }
+        ensures path { self.new.path ≡ path }
+        ensures number { self.new.number ≡ self.old.number }
+        ensures state { state_of self.new ≡ renamed (state_of self.old) }
+    {
+        self.brought = front;
         self.earlier.clear();
         self.later.clear();
         self.path = path;
-        Ok(())
     }
 
     // Notes a change and its write, both or neither.

@@ -16,11 +16,11 @@ returns-then-is_in_subdirectory c =
     let found = c.in-Some.ensures.cases in
     let slash = strip_prefix_char 47 c.in-Some.rest.now (Some c.in-Some-strip_prefix.name) c.in-Some-strip_prefix.ensures.cases (lit< tt) in
     sym (in_directory c.args.directory.now c.args.path.now c.in-Some.rest.now c.in-Some-strip_prefix.name.now (found.1.1 ∙ ap (λ l. c.args.directory.now ++ l) (sym found.2)) slash
-        ∙ ap (λ t. cond t None (Some c.in-Some-strip_prefix.name.now)) (sym c.if-is_in_subdirectory.ensures))
+    ∙ ap (λ t. cond t None (Some c.in-Some-strip_prefix.name.now)) (sym c.if-is_in_subdirectory.ensures))
 
 pub returns-else-is_in_subdirectory : goal.returns-else-is_in_subdirectory
 returns-else-is_in_subdirectory c =
     let found = c.in-Some.ensures.cases in
     let slash = strip_prefix_char 47 c.in-Some.rest.now (Some c.in-Some-strip_prefix.name) c.in-Some-strip_prefix.ensures.cases (lit< tt) in
     sym (in_directory c.args.directory.now c.args.path.now c.in-Some.rest.now c.in-Some-strip_prefix.name.now (found.1.1 ∙ ap (λ l. c.args.directory.now ++ l) (sym found.2)) slash
-        ∙ ap (λ t. cond t None (Some c.in-Some-strip_prefix.name.now)) (sym c.if-is_in_subdirectory.ensures))
+    ∙ ap (λ t. cond t None (Some c.in-Some-strip_prefix.name.now)) (sym c.if-is_in_subdirectory.ensures))

@@ -11,5 +11,5 @@ returns-clause-ok c =
     let capacity : vec_len c.args.self.now.bytes ≡ length c.args.self.now.bytes.items = omega arith in
     let longest : c.max.result ≡ max (c.args.at + c.args.len) (length c.args.self.now.bytes.items) = omega (arith, c.max.ensures) in
     allocate_noted c.args.self.now _ _ _ _ _ _ _ c.in_ok-push.ensures.items refl refl
-        (filled_back old c.new-replaced.result.items c.args.at (c.args.at + c.args.len) c.len-old.result c.new-replaced.ensures.items long)
-        c.max-self.ensures (c.in-Ok.ensures.items ∙ ap (λ n. take c.max.result old ++ replicate (c.max.result - n) 0) capacity ∙ filled_by old (c.args.at + c.args.len) c.max.result longest)
+    (filled_back old c.new-replaced.result.items c.args.at (c.args.at + c.args.len) c.len-old.result c.new-replaced.ensures.items long)
+    c.max-self.ensures (c.in-Ok.ensures.items ∙ ap (λ n. take c.max.result old ++ replicate (c.max.result - n) 0) capacity ∙ filled_by old (c.args.at + c.args.len) c.max.result longest)

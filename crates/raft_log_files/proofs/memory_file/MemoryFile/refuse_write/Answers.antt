@@ -9,5 +9,5 @@ returns-clause-ok c =
     let long : c.len-len.result ≡ length c.args.self.now.bytes.items = omega (arith, c.len-len.ensures) in
     let grew : c.max-self.result ≡ max c.args.self.now.greatest (c.args.at + length c.args.bytes.now) = omega (arith, kept.greatest, c.max-self.ensures) in
     write_noted _ _ _ _ _ _ _ _ _ kept c.in-Ok.ensures.changes c.in-Ok.ensures.later refl refl
-        (nothing_put _ _ _ _ c.new-replaced.ensures.items long)
-        refl c.in_ok-written.ensures.items grew (ap (λ v. v.items) kept.bytes)
+    (nothing_put _ _ _ _ c.new-replaced.ensures.items long)
+    refl c.in_ok-written.ensures.items grew (ap (λ v. v.items) kept.bytes)

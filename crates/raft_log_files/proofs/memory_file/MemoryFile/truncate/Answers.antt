@@ -14,7 +14,7 @@ returns-clause-ok c =
     let to : c.max.result ≡ max c.args.len (length c.args.self.now.bytes.items) = omega (arith, c.max.ensures) in
     let whole : c.deref.result.now ≡ c.args.self.now.bytes.items = c.deref.ensures.value in
     let cut : c.in_ok-replaced.replaced.items ≡ drop c.min-from.result c.args.self.now.bytes.items =
-        c.in_ok-replaced.ensures.items ∙ take_all _ _ (omega (arith, length-drop c.min-from.result c.deref.result.now)) ∙ ap (drop c.min-from.result) whole in
+    c.in_ok-replaced.ensures.items ∙ take_all _ _ (omega (arith, length-drop c.min-from.result c.deref.result.now)) ∙ ap (drop c.min-from.result) whole in
     truncate_noted c.args.self.now _ _ _ _ _ _ _ c.in_ok-push.ensures.items from to
-        (cut_back old c.in_ok-replaced.replaced.items c.args.len c.min-from.result c.len-old.result from cut long)
-        c.min-self.ensures c.max-self.ensures (c.in-Ok.ensures.items ∙ ap (λ n. take c.args.len old ++ replicate (c.args.len - n) 0) capacity)
+    (cut_back old c.in_ok-replaced.replaced.items c.args.len c.min-from.result c.len-old.result from cut long)
+    c.min-self.ensures c.max-self.ensures (c.in-Ok.ensures.items ∙ ap (λ n. take c.args.len old ++ replicate (c.args.len - n) 0) capacity)

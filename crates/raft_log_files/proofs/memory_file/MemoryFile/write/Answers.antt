@@ -13,5 +13,5 @@ returns-clause-ok c =
     let replaced = c.in_ok-replaced.ensures.items ∙ ap (λ l. slice_range l c.args.at c.min.result) c.deref.ensures.value in
     let short : c.min.result ≡ min (c.args.at + length c.args.bytes.now) c.len-len.result = omega (arith, c.min.ensures) in
     write_noted _ _ _ _ _ _ _ _ _ kept c.in-Ok.ensures.changes c.in-Ok.ensures.later refl refl
-        (put_back c.args.self.now.bytes.items c.args.bytes.now c.in_ok-replaced.replaced.items c.args.at (c.args.at + length c.args.bytes.now) c.len-len.result c.requires.at long refl (replaced ∙ ap (λ n. slice_range c.args.self.now.bytes.items c.args.at n) short))
-        refl c.in_ok-written.ensures.items grew (c.in-Ok-overwrite.ensures ∙ ap (λ v. put v.items c.args.at c.args.bytes.now) kept.bytes)
+    (put_back c.args.self.now.bytes.items c.args.bytes.now c.in_ok-replaced.replaced.items c.args.at (c.args.at + length c.args.bytes.now) c.len-len.result c.requires.at long refl (replaced ∙ ap (λ n. slice_range c.args.self.now.bytes.items c.args.at n) short))
+    refl c.in_ok-written.ensures.items grew (c.in-Ok-overwrite.ensures ∙ ap (λ v. put v.items c.args.at c.args.bytes.now) kept.bytes)
