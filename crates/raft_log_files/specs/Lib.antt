@@ -4,3 +4,5 @@ pub mod Cause
 pub mod Memory
 pub mod MemorySystem
 pub mod Place
+pub mod Name
+pub mod Format

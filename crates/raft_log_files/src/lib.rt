@@ -3,14 +3,17 @@
 #![tactic(auto)]
 
 mod fault;
+mod format;
 mod fuse;
 mod lookup;
 mod memory;
 mod memory_calls;
 mod memory_file;
+mod name;
 mod space;
 mod system;
 
 pub use fault::{Fd, IoFault, Permission};
+pub use format::{HeaderFault, LogFileFormat};
 pub use memory::MemoryFileSystem;
 pub use system::FileSystem;
