@@ -18,7 +18,7 @@ pub laid_rises : (at : ℕ) (items : List (Item EntryIndex)) (end : ℕ) → IsL
 laid_rises at [] end h = omega arith
 laid_rises at (item ∷ items) end h = omega (arith, run_rises at (entries_of item.change) h.0 h.1, laid_rises h.0 items end h.2)
 
-fronts : (n m : ℕ) (xs : List ℕ) → take n xs ++ take m (drop n xs) ≡ take (n + m) xs
+pub fronts : (n m : ℕ) (xs : List ℕ) → take n xs ++ take m (drop n xs) ≡ take (n + m) xs
 fronts n m xs =
     let whole = take-append-drop n (take (n + m) xs) in
     let back = drop-take n m xs in
@@ -107,7 +107,7 @@ laid_lengths block at (item ∷ items) end h k =
 
 -- ---- which items hold entries
 
-holds_map : {E F : Type 0} (f : E → F) (c : Change E) → is_entries (change_map f c) ≡ is_entries c
+pub holds_map : {E F : Type 0} (f : E → F) (c : Change E) → is_entries (change_map f c) ≡ is_entries c
 holds_map f (entries es) = refl
 holds_map f clean = refl
 holds_map f (compact index) = refl

@@ -8,11 +8,15 @@ use Rattle.raft_log_records.specs.Item.Change.{entries}
 use Rattle.raft_log_records.specs.Reading.{indexed}
 use Rattle.raft_log_records.specs.Spelling.{spell_entry, spell_run, spell_change}
 
-heads : (es : List EntryIndex) → map {A = ℕ × EntryIndex} {B = ℕ × ℕ} (λ e. (e.0, e.1.entry_len)) (indexed es) ≡ map (λ e. (e.index, e.entry_len)) es
+-- the indexes and lengths of entries
+abbrev pub heads_of : List EntryIndex → List (ℕ × ℕ)
+heads_of es = map (λ e. (e.index, e.entry_len)) es
+
+pub heads : (es : List EntryIndex) → map {A = ℕ × EntryIndex} {B = ℕ × ℕ} (λ e. (e.0, e.1.entry_len)) (indexed es) ≡ heads_of es
 heads [] = refl
 heads (e ∷ es) = ap (λ (hs : List (ℕ × ℕ)). (e.index, e.entry_len) ∷ hs) (heads es)
 
-count : (es : List EntryIndex) → length (map {A = EntryIndex} {B = ℕ × ℕ} (λ e. (e.index, e.entry_len)) es) ≡ length es
+pub count : (es : List EntryIndex) → length (map {A = EntryIndex} {B = ℕ × ℕ} (λ e. (e.index, e.entry_len)) es) ≡ length es
 count [] = refl
 count (e ∷ es) = ap suc (count es)
 

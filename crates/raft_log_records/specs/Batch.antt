@@ -1,10 +1,12 @@
 -- A batch, as its callers see it.
-use Rattle.std.specs.Prelude.{◌≡◌, ◌<◌, ◌≤◌, ◌+◌, ◌^◌, ℕ, Bool, true, false, List, [], ◌∷◌, ◌++◌, length, map, Option, Some, None, All, if◌then◌else◌}
+use Rattle.std.specs.Prelude.{◌≡◌, ◌<◌, ◌≤◌, ◌+◌, ◌^◌, ℕ, Bool, true, false, List, [], ◌∷◌, ◌++◌, length, map, take, Option, Some, None, Result, Ok, Err, All, if◌then◌else◌}
 use Rattle.std.specs.List.{flat_map, AllByRecursion, list_any}
+use Rattle.raft_log_records.specs.declared.error.RecordError.{RecordError}
+use Rattle.raft_log_records.specs.declared.error.RecordError.TheVariants as error
 use Rattle.raft_log_records.specs.declared.item.EntryIndex.{EntryIndex}
 use Rattle.raft_log_records.specs.declared.item.LogItem.{LogItem}
 use Rattle.raft_log_records.specs.Item.{Change, Item, item_of, items_of, with_bytes, with_lengths}
-use Rattle.raft_log_records.specs.Spelling.{IsItem, FitsBytes, entries_of, holds_entries, block_part, spell_item, spell_record}
+use Rattle.raft_log_records.specs.Spelling.{IsItem, FitsBytes, entries_of, holds_entries, block_part, spell_item, spell_record, record_len, AreItems}
 
 -- whether it is open, or written as a record that is signed so
 pub data Writing : Type 0 where
@@ -16,11 +18,10 @@ pub record Batch : Type 0 where
   pub items : List (Item (List ℕ))
   pub writing : Writing
 
--- the bytes that it is written as: none while it is open. No item, no record
+-- the bytes that it is written as: none while it is open
 abbrev pub record_of : List (Item (List ℕ)) → Writing → List ℕ
 record_of items open_still = []
-record_of [] (written signature) = []
-record_of (item ∷ items) (written signature) = spell_record signature (item ∷ items)
+record_of items (written signature) = spell_record signature items
 
 abbrev pub encoded_of : Batch → List ℕ
 encoded_of batch = record_of batch.items batch.writing
@@ -28,9 +29,27 @@ encoded_of batch = record_of batch.items batch.writing
 abbrev pub nothing_logged : Batch
 nothing_logged = record { items = []; writing = open_still }
 
+-- the batch written as a record. Without items it is none
+abbrev pub populated : List (Item (List ℕ)) → Batch
+populated [] = nothing_logged
+populated (item ∷ items) = record { items = item ∷ items; writing = written None }
+
+-- the same record, signed for another file
+abbrev pub signed_again : Option ℕ → Writing → Writing
+signed_again signature open_still = open_still
+signed_again signature (written other) = written signature
+
 -- the batch with one more item
 abbrev pub logged : Batch → Item (List ℕ) → Batch
 logged batch item = record { items = batch.items ++ item ∷ []; writing = open_still }
+
+-- What adding an item does. It is refused where the record would be too long, and for want of memory, and the batch is
+-- then as before.
+abbrev pub Logs : Batch → Item (List ℕ) → Batch → Result Unit RecordError → Type 0
+Logs old item new (Ok _) = (new ≡ logged old item) × (record_len (old.items ++ item ∷ []) ≤ 33554432)
+Logs old item new (Err error.Memory) = (new ≡ old) × (record_len (old.items ++ item ∷ []) ≤ 33554432)
+Logs old item new (Err error.TooLong) = (new ≡ old) × (33554432 < record_len (old.items ++ item ∷ []))
+Logs old item new (Err (error.Corruption fault)) = ⊥
 
 -- ---- how the entries of the program's items lie in the block, one after the other
 
@@ -46,8 +65,16 @@ IsLaid at (item ∷ items) end = (mid : ℕ) × IsRunLaid at (entries_of item.ch
 pub record IsSound (items : List LogItem) (block : List ℕ) (holds : Bool) (items_len : ℕ) : Type 0 where
   pub laid : IsLaid 0 (items_of items) (length block)
   pub each : AllByRecursion IsItem (with_lengths (items_of items))
-  pub fits : All (λ item. FitsBytes (item_of item).change) items
+  pub fits : AllByRecursion (λ item. FitsBytes (item_of item).change) items
   pub sum : items_len ≡ length (flat_map spell_item (with_lengths (items_of items)))
   pub count : length items ≤ items_len
+  pub bytes : length block ≤ 33554432
   pub entries_held : holds ≡ list_any holds_entries (items_of items)
   pub short : 16 + items_len + length (block_part holds block) ≤ 33554432
+
+-- the record at the front of some bytes has these items and this length
+pub record IsRecordAt (signature : Option ℕ) (bytes : List ℕ) (items : List (Item (List ℕ))) (len : ℕ) : Type 0 where
+  pub each : AreItems items
+  pub spelled : take len bytes ≡ spell_record signature items
+  pub whole : len ≡ record_len items
+  pub within : len ≤ length bytes

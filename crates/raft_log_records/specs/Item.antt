@@ -1,6 +1,7 @@
 -- The items of a batch, without where they lie in memory. E stands for an entry: its bytes, its length, or its place.
 use Rattle.std.specs.Prelude.{ℕ, List, map, length, take, drop, Bool, true, false, ◌||◌}
 use Rattle.std.specs.List.{list_any}
+use Rattle.raft_log_records.specs.declared.command.Command.{Command}
 use Rattle.raft_log_records.specs.declared.command.Command.TheVariants as command
 use Rattle.raft_log_records.specs.declared.item.EntryIndex.{EntryIndex}
 use Rattle.raft_log_records.specs.declared.item.AtomicGroupStatus.{AtomicGroupStatus}
@@ -36,10 +37,13 @@ item_map f item = record { group = item.group; change = change_map f item.change
 
 -- ---- the program's items
 
+abbrev pub command_change : {E : Type 0} → Command → Change E
+command_change command.Clean = clean
+command_change (command.Compact index) = compact index
+
 abbrev pub change_of : LogItemContent → Change EntryIndex
 change_of (content.EntryIndexes es) = entries (map (λ e. (e.index, e)) es.items)
-change_of (content.Command command.Clean) = clean
-change_of (content.Command (command.Compact index)) = compact index
+change_of (content.Command c) = command_change c
 change_of (content.Put key value) = put key.items value.items
 change_of (content.Delete key) = delete key.items
 change_of (content.AtomicGroup id status) = mark id status

@@ -3,9 +3,10 @@ use Rattle.std.specs.Prelude.{◌≡◌, ◌+◌, ◌-◌, ℕ, zero, suc, Bool,
 use Rattle.std.specs.List.{list_any}
 use Rattle.std.specs.Int.{Width, w32, w64, byte_len, from_be_bytes}
 use Rattle.raft_log_records.specs.Checksum.{crc32_of}
-use Rattle.raft_log_records.specs.Item.{Change, Item}
+use Rattle.raft_log_records.specs.Item.{Change, Item, items_of, with_bytes}
 use Rattle.raft_log_records.specs.Item.Change.{entries, clean, compact, put, delete, mark}
 use Rattle.raft_log_records.specs.Spelling.{signed, holds_entries}
+use Rattle.raft_log_records.specs.declared.record.Record.{Record}
 use Rattle.raft_log_records.specs.declared.item.EntryIndex.{EntryIndex}
 use Rattle.raft_log_records.specs.declared.item.AtomicGroupStatus.{AtomicGroupStatus}
 use Rattle.raft_log_records.specs.declared.item.AtomicGroupStatus.TheVariants.{Begin, Middle, End}
@@ -169,3 +170,10 @@ record_at signature bytes = do
   if not (agrees header.1 items) then Err fault.EntriesLength else do
     block ← block_at header.1 bytes
     Ok (items, block, header.0)
+
+-- what reading answers where the record of these items stands at the front, unless memory runs out
+abbrev pub Finds : Result Record RecordError → List (Item (List ℕ)) → ℕ → Type 0
+Finds (Ok r) items len = (with_bytes r.entries.now (items_of r.batch.items.items) ≡ items) × (r.len ≡ len)
+Finds (Err errors.Memory) items len = Unit {0}
+Finds (Err errors.TooLong) items len = ⊥
+Finds (Err (errors.Corruption f)) items len = ⊥

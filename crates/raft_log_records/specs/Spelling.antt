@@ -1,5 +1,5 @@
 -- The bytes of a record: the one spelling of a batch's items. All numbers are big-endian.
-use Rattle.std.specs.Prelude.{◌≡◌, ◌<◌, ◌≤◌, ◌+◌, ◌^◌, ℕ, Bool, true, false, List, [], ◌∷◌, ◌++◌, length, map, bit_xor, Option, Some, None, if◌then◌else◌}
+use Rattle.std.specs.Prelude.{◌≡◌, ◌<◌, ◌≤◌, ◌+◌, ◌^◌, ℕ, Bool, true, false, List, [], ◌∷◌, ◌++◌, length, map, bit_xor, Option, Some, None, IfSome, if◌then◌else◌}
 use Rattle.std.specs.List.{flat_map, AllByRecursion, list_any}
 use Rattle.std.specs.Int.{w32, w64, to_be_bytes}
 use Rattle.raft_log_records.specs.Checksum.{crc32_of}
@@ -103,6 +103,10 @@ block_of items = flat_map (λ item. flat_map (λ bytes. bytes) (entries_of item.
 abbrev pub signed : Option ℕ → ℕ → ℕ
 signed None sum = sum
 signed (Some signature) sum = bit_xor sum signature
+
+-- a signature has four bytes
+abbrev pub IsSignature : Option ℕ → Type 0
+IsSignature signature = IfSome signature (λ s. s < 2 ^ 32)
 
 -- bytes with their signed checksum
 abbrev pub sealed : Option ℕ → List ℕ → List ℕ

@@ -1,15 +1,21 @@
 //! Batches of changes, which become one record each.
 
-ghost use Rattle.std.specs.Prelude.{◌≡◌, ◌<◌, ◌≤◌, ◌+◌, ◌^◌, ◌++◌, ◌∷◌, ◌↔◌, [], length, IsTrue, OnOk, OnErr, IfOk};
-ghost use Rattle.raft_log_records.specs.Item.{Item};
-ghost use Rattle.raft_log_records.specs.Item.Change.{put, delete, clean, compact};
-ghost use Rattle.raft_log_records.specs.Batch.{nothing_logged, logged, encoded_of};
+ghost use Rattle.std.specs.Prelude.{◌≡◌, ◌<◌, ◌≤◌, ◌+◌, ◌^◌, ◌++◌, ◌∷◌, ◌↔◌, [], length, IsTrue, OnOk, OnErr, IfOk, IfErr, IfSome, IfNone, false};
+ghost use Rattle.raft_log_records.specs.Item.{Item, command_change, with_bytes, items_of, item_of, item_map, entry_bytes};
+ghost use Rattle.raft_log_records.specs.Spelling.{holds_entries, IsItem, FitsBytes, spell_item, block_of, record_len};
+ghost use Rattle.raft_log_records.specs.Item.Change.{put, delete, mark};
+ghost use Rattle.raft_log_records.specs.Batch.{nothing_logged, logged, encoded_of, populated, signed_again, Logs};
+ghost use Rattle.raft_log_records.specs.Signature.{signature_of};
 
+use crate::command::Command;
 use crate::error::RecordError;
-use crate::item::LogItem;
-use crate::record::MAX_RECORD_LEN;
+use crate::item::{AtomicGroupStatus, LogItem, LogItemContent};
+use crate::record::{LogItemBatch, MAX_RECORD_LEN, sign};
+use crate::version::LogFileContext;
+use crate::writing::{sign_again, write_record};
 use std::alloc::Global;
 use std::marker::Model;
+use std::mem;
 
 /// Changes of groups that are written and count together (raft-engine's `LogBatch`).
 #[derive(Debug, Drop)]
@@ -74,5 +80,194 @@ impl LogBatch {
         ensures { result.now ≡ encoded_of self.now }
     {
         &self.encoded
+    }
+
+    /// The length of the record that the batch has, or would have with an item.
+    fn record_len(&self) -> u32
+        ensures len { result ≡ record_len self.now.items }
+        ensures short { result ≤ 33554432 }
+    {
+        if self.holds_entries {
+            20 + self.items_len + self.entries.len() as u32
+        } else {
+            16 + self.items_len
+        }
+    }
+
+    /// How many bytes the batch takes as a record (raft-engine's `approximate_size`; here it is
+    /// exact). An empty one takes none.
+    pub fn approximate_size(&self) -> usize
+        ensures empty { self.now.items ≡ [] → result ≡ 0 }
+        ensures len { (self.now.items ≡ [] → ⊥) → result ≡ record_len self.now.items }
+    {
+        if self.is_empty() {
+            0
+        } else {
+            self.record_len() as usize
+        }
+    }
+
+    /// Adds an item that holds no entries and takes `item_len` bytes.
+    fn push(&mut self, item: LogItem, item_len: u32) -> Result<(), RecordError>
+        requires plain { holds_entries (item_of item) ≡ false }
+        requires is_item { IsItem (item_map (λ e. e.entry_len) (item_of item)) }
+        requires fits { FitsBytes (item_of item).change }
+        requires len { item_len ≡ length (spell_item (item_map (λ e. e.entry_len) (item_of item))) }
+        ensures { Logs self.old (item_map (entry_bytes []) (item_of item)) self.new result }
+    {
+        if MAX_RECORD_LEN - self.record_len() < item_len {
+            return Err(RecordError::TooLong);
+        }
+        self.items.push(item)?;
+        self.items_len += item_len;
+        self.buf_state = BufState::Open;
+        self.encoded.clear();
+        Ok(())
+    }
+}
+
+/// The length of an item with these two strings, or none where it passes any record's.
+fn item_len(fixed: u32, first: usize, second: usize) -> Option<u32>
+    requires { fixed < 64 }
+    ensures fits { IfSome result (λ n. n ≡ fixed + first + second) }
+    ensures long { IfNone result (33554432 < first + second) }
+{
+    let most = MAX_RECORD_LEN as usize;
+    if first > most || second > most {
+        return None;
+    }
+    Some(fixed + first as u32 + second as u32)
+}
+
+impl LogBatch {
+    /// Sets a key of a group. The key may not be empty.
+    pub fn put(
+        &mut self,
+        raft_group_id: u64,
+        key: Vec<u8>,
+        value: Vec<u8>,
+    ) -> Result<(), RecordError>
+        requires { 0 < length key.items }
+        ensures { Logs self.old (record { group = raft_group_id; change = put key.items value.items }) self.new result }
+    {
+        let Some(len) = item_len(17, key.len(), value.len()) else {
+            return Err(RecordError::TooLong);
+        };
+        let content = LogItemContent::Put { key, value };
+        let item = LogItem {
+            raft_group_id,
+            content,
+        };
+        self.push(item, len)
+    }
+
+    /// Removes a key of a group. The key may not be empty.
+    pub fn delete(&mut self, raft_group_id: u64, key: Vec<u8>) -> Result<(), RecordError>
+        requires { 0 < length key.items }
+        ensures { Logs self.old (record { group = raft_group_id; change = delete key.items }) self.new result }
+    {
+        let Some(len) = item_len(13, key.len(), 0) else {
+            return Err(RecordError::TooLong);
+        };
+        let content = LogItemContent::Delete { key };
+        let item = LogItem {
+            raft_group_id,
+            content,
+        };
+        self.push(item, len)
+    }
+
+    /// Adds a command on a whole group.
+    pub fn add_command(&mut self, raft_group_id: u64, command: Command) -> Result<(), RecordError>
+        ensures { Logs self.old (record { group = raft_group_id; change = command_change command }) self.new result }
+    {
+        let len = match command {
+            Command::Clean => 9,
+            Command::Compact { .. } => 17,
+        };
+        let content = LogItemContent::Command(command);
+        let item = LogItem {
+            raft_group_id,
+            content,
+        };
+        self.push(item, len)
+    }
+
+    /// Says that the batch's record belongs to an atomic group.
+    fn add_mark(
+        &mut self,
+        raft_group_id: u64,
+        id: u64,
+        status: AtomicGroupStatus,
+    ) -> Result<(), RecordError>
+        ensures { Logs self.old (record { group = raft_group_id; change = mark id status }) self.new result }
+    {
+        let content = LogItemContent::AtomicGroup { id, status };
+        let item = LogItem {
+            raft_group_id,
+            content,
+        };
+        self.push(item, 18)
+    }
+
+    /// Writes the batch as a record, not signed yet, and answers how many bytes it has (raft-engine's
+    /// `finish_populate`). A batch without items is written as none.
+    pub fn finish_populate(&mut self) -> Result<usize, RecordError>
+        ensures ok { OnOk result (self.new ≡ populated self.old.items) }
+        ensures len { IfOk result (λ n. n ≡ length (encoded_of self.new)) }
+        ensures err { IfErr result (λ e. (e ≡ RecordError.Memory) × (self.new ≡ self.old)) }
+    {
+        if self.items.is_empty() {
+            self.encoded.clear();
+            self.buf_state = BufState::Open;
+            return Ok(0);
+        }
+        let len = self.record_len();
+        let alloc = *self.items.allocator();
+        let (encoded, checksum) = write_record(
+            alloc,
+            &self.items,
+            self.holds_entries,
+            &self.entries,
+            len,
+        )?;
+        self.encoded = encoded;
+        self.buf_state = BufState::Encoded {
+            checksum,
+            signature: None,
+        };
+        Ok(self.encoded.len())
+    }
+
+    /// Signs the record for the file that it is to stand in (raft-engine's `prepare_write`). A
+    /// record may be signed again, for another file.
+    pub fn prepare_write(&mut self, context: &LogFileContext)
+        ensures { let signature = signature_of context.now.version context.now.id.seq in
+            self.new ≡ record { items = self.old.items; writing = signed_again signature self.old.writing } }
+    {
+        if let BufState::Encoded { checksum, .. } = self.buf_state {
+            let signature = context.get_signature();
+            sign_again(&mut self.encoded, sign(signature, checksum));
+            self.buf_state = BufState::Encoded {
+                checksum,
+                signature,
+            };
+        }
+    }
+
+    /// Takes the items out, with the places of their entries in the record's block, and leaves an
+    /// empty batch (raft-engine's `drain`).
+    pub fn drain(&mut self) -> LogItemBatch
+        ensures items { with_bytes (block_of self.old.items) (items_of result.items.items) ≡ self.old.items }
+        ensures empty { self.new ≡ nothing_logged }
+    {
+        let alloc = *self.items.allocator();
+        let items = mem::replace(&mut self.items, Vec::new(alloc));
+        self.entries.clear();
+        self.holds_entries = false;
+        self.items_len = 0;
+        self.buf_state = BufState::Open;
+        self.encoded.clear();
+        LogItemBatch { items }
     }
 }

@@ -13,10 +13,15 @@ mod size;
 mod version;
 mod writing;
 
+pub use batch::LogBatch;
 pub use checksum::crc32;
 pub use command::Command;
 pub use error::{RecordError, RecordFault};
 pub use file_id::{FileBlockHandle, FileId, FileSeq, LogQueue};
 pub use item::{AtomicGroupStatus, EntryIndex, LogItem, LogItemContent};
+pub use record::{LogItemBatch, MAX_RECORD_LEN, Record, read_record};
 pub use size::ReadableSize;
 pub use version::{LogFileContext, Version};
+
+#[cfg(test)]
+mod tests;

@@ -1,10 +1,11 @@
 //! Reading a record: its header, its items and its block of entries, with both checksums.
 
-ghost use Rattle.std.specs.Prelude.{◌≡◌, ◌≤◌, ◌+◌, ◌⊎◌, length, IfOk};
+ghost use Rattle.std.specs.Prelude.{◌≡◌, ◌≤◌, ◌+◌, ◌⊎◌, ◌++◌, ℕ, List, length, IfOk};
 ghost use Rattle.std.specs.List.{list_any};
-ghost use Rattle.raft_log_records.specs.Item.{item_of, items_of};
-ghost use Rattle.raft_log_records.specs.Spelling.{signed, holds_entries};
-ghost use Rattle.raft_log_records.specs.Reading.{Gives, header_at, unsealed, block_at, agrees, record_at};
+ghost use Rattle.raft_log_records.specs.Item.{Item, item_of, items_of, with_bytes};
+ghost use Rattle.raft_log_records.specs.Batch.{IsRecordAt};
+ghost use Rattle.raft_log_records.specs.Spelling.{signed, IsSignature, holds_entries, AreItems, spell_record, record_len};
+ghost use Rattle.raft_log_records.specs.Reading.{Gives, Finds, header_at, unsealed, block_at, agrees, record_at};
 
 use crate::checksum::crc32;
 use crate::error::{RecordError, RecordFault};
@@ -56,7 +57,8 @@ fn header_of(bytes: &[u8]) -> Result<(u32, u32), RecordError>
     Ok((len, offset))
 }
 
-fn sign(signature: Option<u32>, checksum: u32) -> u32
+/// A checksum, signed for a file.
+pub fn sign(signature: Option<u32>, checksum: u32) -> u32
     ensures { result ≡ signed signature checksum }
 {
     match signature {
@@ -138,4 +140,22 @@ fn record_of(alloc: Global, bytes: &[u8], signature: Option<u32>) -> Result<Reco
         entries,
         len,
     })
+}
+
+/// Reads the record at the front of some bytes, in a file with this signature. Bytes may follow it.
+/// Refused are only want of memory and, as `Corruption`, bytes that do not begin with a record, by
+/// the first fault that is met.
+pub fn read_record(
+    alloc: Global,
+    bytes: &[u8],
+    signature: Option<u32>,
+) -> Result<Record<'_>, RecordError>
+    // What is read is spelled so, each byte of it, with both checksums.
+    ensures found { IfOk result (λ r. IsRecordAt signature bytes.now (with_bytes r.entries.now (items_of r.batch.items.items)) r.len) }
+    // What is spelled so is read, whatever follows it, unless memory runs out.
+    ensures only { (items : List (Item (List ℕ))) (rest : List ℕ) → IsSignature signature → AreItems items → bytes.now ≡ spell_record signature items ++ rest → Finds result items (record_len items) }
+    // Which fault it is.
+    ensures exact { Gives (λ r. (items_of r.batch.items.items, r.entries.now, r.len)) result (record_at signature bytes.now) }
+{
+    record_of(alloc, bytes, signature)
 }

@@ -1,6 +1,6 @@
 //! Writing the items of a record, and the record.
 
-ghost use Rattle.std.specs.Prelude.{◌≡◌, ◌≤◌, ◌<◌, ◌+◌, ◌^◌, ◌++◌, ◌∷◌, [], length, map, All, OnOk, IfOk, None, if◌then◌else◌};
+ghost use Rattle.std.specs.Prelude.{◌≡◌, ◌≤◌, ◌<◌, ◌+◌, ◌^◌, ◌-◌, ◌++◌, ◌∷◌, [], take, length, map, All, OnOk, IfOk, None, if◌then◌else◌};
 ghost use Rattle.std.specs.List.{flat_map};
 ghost use Rattle.std.specs.Int.{w32, to_be_bytes};
 ghost use Rattle.raft_log_records.specs.Item.{change_of, item_of, items_of, change_map, item_map, with_lengths};
@@ -119,16 +119,18 @@ fn put_block(out: &mut Vec<u8>, entries: &[u8]) -> Result<(), AllocError>
     out.extend_from_slice(&crc32(entries).to_be_bytes())
 }
 
-/// The items from their count on, and their checksum, which is not signed yet.
-fn put_sealed(out: &mut Vec<u8>, items: &[LogItem]) -> Result<(), AllocError>
+/// The items from their count on, and their checksum, which is not signed yet. Answers the checksum.
+fn put_sealed(out: &mut Vec<u8>, items: &[LogItem]) -> Result<u32, AllocError>
     requires count { length items.now < 2 ^ 32 }
     requires each { All (λ item. FitsBytes (item_of item).change) items.now }
-    ensures { OnOk result (out.new.items ≡ out.old.items ++ sealed None (spell_items (with_lengths (items_of items.now)))) }
+    ensures sum { IfOk result (λ sum. sum ≡ crc32_of (spell_items (with_lengths (items_of items.now)))) }
+    ensures bytes { OnOk result (out.new.items ≡ out.old.items ++ sealed None (spell_items (with_lengths (items_of items.now)))) }
 {
     let start = out.len();
     put_body(out, items)?;
     let checksum = crc32(&out[start..]);
-    out.extend_from_slice(&checksum.to_be_bytes())
+    out.extend_from_slice(&checksum.to_be_bytes())?;
+    Ok(checksum)
 }
 
 fn put_header(out: &mut Vec<u8>, len: u32, offset: u32) -> Result<(), AllocError>
@@ -156,22 +158,33 @@ fn put_front(
     put_block(out, entries)
 }
 
-/// The record of `len` bytes, not signed: room for it is made once, and each byte is copied once.
+/// The record of `len` bytes, not signed, and the checksum of its items. Room for it is made once,
+/// and each byte is copied once.
 pub fn write_record(
     alloc: Global,
     items: &[LogItem],
     holds_entries: bool,
     entries: &[u8],
     len: u32,
-) -> Result<Vec<u8>, AllocError>
+) -> Result<(Vec<u8>, u32), AllocError>
     requires count { length items.now < 2 ^ 32 }
     requires each { All (λ item. FitsBytes (item_of item).change) items.now }
     requires room { 12 + length entries.now < 2 ^ 32 }
     requires len { len ≡ 12 + length (block_part holds_entries entries.now) + length (spell_items (with_lengths (items_of items.now))) }
-    ensures { IfOk result (λ v. v.items ≡ spell_parts None (block_part holds_entries entries.now) (spell_items (with_lengths (items_of items.now)))) }
+    ensures bytes { IfOk result (λ x. x.0.items ≡ spell_parts None (block_part holds_entries entries.now) (spell_items (with_lengths (items_of items.now)))) }
+    ensures sum { IfOk result (λ x. x.1 ≡ crc32_of (spell_items (with_lengths (items_of items.now)))) }
 {
     let mut out = Vec::with_capacity(alloc, len as usize)?;
     put_front(&mut out, len, holds_entries, entries)?;
-    put_sealed(&mut out, items)?;
-    Ok(out)
+    let checksum = put_sealed(&mut out, items)?;
+    Ok((out, checksum))
+}
+
+/// Puts another checksum at the end of a record.
+pub fn sign_again(bytes: &mut [u8], sum: u32)
+    requires { 4 ≤ length bytes.old }
+    ensures { bytes.new ≡ take (length bytes.old - 4) bytes.old ++ to_be_bytes w32 sum }
+{
+    let body = bytes.len() - 4;
+    bytes[body..].copy_from_slice(&sum.to_be_bytes());
 }

@@ -1,0 +1,131 @@
+use super::*;
+use std::alloc::{AllocError, Global};
+use std::test::Fail;
+
+/// One put of key `end` with eight bytes in group 7.
+fn end_put(alloc: Global) -> Result<LogBatch, RecordError> {
+    let mut batch = LogBatch::new(alloc);
+    batch.put(
+        7,
+        Vec::from_slice(alloc, b"end")?,
+        Vec::from_slice(alloc, &[0, 0, 0, 0, 0, 0, 0, 3])?,
+    )?;
+    batch.finish_populate()?;
+    Ok(batch)
+}
+
+#[test]
+fn a_put_is_a_record_of_44_bytes(rt: HostRuntime) -> Result<(), Fail> {
+    let batch = end_put(rt.alloc())?;
+    let bytes = batch.encoded_bytes();
+    assert_eq!(rt; bytes.len(), 44);
+    assert_eq!(rt; &bytes[..8], [0, 0, 0, 0x2c, 0, 0, 0, 8].as_slice());
+    assert_eq!(rt; batch.approximate_size(), 44);
+    Ok(())
+}
+
+#[test]
+fn small_items_have_known_lengths(rt: HostRuntime) -> Result<(), Fail> {
+    let alloc = rt.alloc();
+    let mut batch = LogBatch::new(alloc);
+    assert_eq!(rt; batch.finish_populate()?, 0);
+    batch.delete(7, Vec::from_slice(alloc, b"end")?)?;
+    assert_eq!(rt; batch.finish_populate()?, 32);
+    let mut batch = LogBatch::new(alloc);
+    batch.add_command(7, Command::Clean)?;
+    assert_eq!(rt; batch.finish_populate()?, 25);
+    let mut batch = LogBatch::new(alloc);
+    batch.add_command(7, Command::Compact { index: 9 })?;
+    assert_eq!(rt; batch.finish_populate()?, 33);
+    Ok(())
+}
+
+#[test]
+fn what_was_written_is_read(rt: HostRuntime) -> Result<(), Fail> {
+    let mut batch = end_put(rt.alloc())?;
+    let context = LogFileContext::new(FileId::new(LogQueue::Append, 10), Version::V2);
+    batch.prepare_write(&context);
+    let record = read_record(rt.alloc(), batch.encoded_bytes(), Some(10))?;
+    assert_eq!(rt; record.len, 44);
+    assert_eq!(rt; record.entries.len(), 0);
+    assert_eq!(rt; record.batch.items.len(), 1);
+    for item in &record.batch.items {
+        assert_eq!(rt; item.raft_group_id, 7);
+        assert!(rt;
+            matches!(&item.content, LogItemContent::Put { key, .. } if key.as_slice() == b"end".as_slice())
+        );
+    }
+    let other = read_record(rt.alloc(), batch.encoded_bytes(), Some(11));
+    assert!(rt;
+        matches!(
+            other,
+            Err(RecordError::Corruption(RecordFault::ItemsChecksum))
+        )
+    );
+    Ok(())
+}
+
+#[test]
+fn each_changed_byte_is_refused(rt: HostRuntime) -> Result<(), Fail> {
+    let batch = end_put(rt.alloc())?;
+    for changed in 8..44 {
+        let mut bytes = Vec::from_slice(rt.alloc(), batch.encoded_bytes())?;
+        for (i, byte) in bytes.iter_mut().enumerate() {
+            if i == changed {
+                *byte ^= 0x10;
+            }
+        }
+        let read = read_record(rt.alloc(), &bytes, None);
+        assert!(rt;
+            matches!(
+                read,
+                Err(RecordError::Corruption(RecordFault::ItemsChecksum))
+            )
+        );
+    }
+    Ok(())
+}
+
+#[test]
+fn each_front_is_cut_short(rt: HostRuntime) -> Result<(), Fail> {
+    let batch = end_put(rt.alloc())?;
+    let bytes = batch.encoded_bytes();
+    for len in 0..bytes.len() {
+        let read = read_record(rt.alloc(), &bytes[..len], None);
+        assert!(rt; matches!(read, Err(RecordError::Corruption(RecordFault::CutShort))));
+    }
+    let zeros = read_record(rt.alloc(), &[0; 16], None);
+    assert!(rt; matches!(zeros, Err(RecordError::Corruption(RecordFault::BadLength))));
+    Ok(())
+}
+
+#[test]
+fn a_batch_is_too_long_from_the_first_byte_on(rt: HostRuntime) -> Result<(), Fail> {
+    let alloc = rt.alloc();
+    let mut batch = LogBatch::new(alloc);
+    let most = vec![in alloc; 0u8; 33_554_432 - 33 - 3]?;
+    let key = Vec::from_slice(alloc, b"end")?;
+    batch.put(7, key, most)?;
+    assert_eq!(rt; batch.approximate_size(), 33_554_432);
+    let more = batch.add_command(7, Command::Clean);
+    assert!(rt; matches!(more, Err(RecordError::TooLong)));
+    Ok(())
+}
+
+#[test]
+fn signatures(rt: HostRuntime) {
+    let ten = FileId::new(LogQueue::Append, 10);
+    assert_eq!(rt; LogFileContext::new(ten, Version::V1).get_signature(), None);
+    assert_eq!(rt;
+        LogFileContext::new(ten, Version::V2).get_signature(),
+        Some(10)
+    );
+    let far = FileId::new(LogQueue::Append, (10 << 32) + 100);
+    assert_eq!(rt;
+        LogFileContext::new(far, Version::V2).get_signature(),
+        Some(100)
+    );
+    assert!(rt; FileId::new(LogQueue::Rewrite, 9) < FileId::new(LogQueue::Append, 1));
+    assert_eq!(rt; ReadableSize::mb(1).0 + ReadableSize::kb(1).0, 1_049_600);
+    assert_eq!(rt; ReadableSize::gb(1), ReadableSize(1 << 30));
+}
