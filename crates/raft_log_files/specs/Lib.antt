@@ -6,3 +6,5 @@ pub mod MemorySystem
 pub mod Place
 pub mod Name
 pub mod Format
+pub mod Image
+pub mod Chance

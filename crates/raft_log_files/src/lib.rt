@@ -2,6 +2,7 @@
 //! and a file system in memory that can be made to refuse calls and to crash.
 #![tactic(auto)]
 
+mod crash;
 mod fault;
 mod format;
 mod fuse;
@@ -13,6 +14,7 @@ mod name;
 mod space;
 mod system;
 
+pub use crash::{CrashChoice, CrashFiles, CrashRefusal, FileBytes};
 pub use fault::{Fd, IoFault, Permission};
 pub use format::{HeaderFault, LogFileFormat};
 pub use memory::MemoryFileSystem;
