@@ -1,5 +1,6 @@
 pub mod ByteLemmas
 pub mod CauseLemmas
+pub mod ChanceLemmas
 pub mod FilesLemmas
 pub mod MemoryLemmas
 pub mod NameLemmas

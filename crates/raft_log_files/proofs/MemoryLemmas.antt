@@ -1,7 +1,7 @@
 -- What the changes of a file in memory stand for.
 use Rattle.std.proofs.Common.{◌≡◌, ◌⊎◌, inl, inr, ℕ, ◌+◌, ◌-◌, ◌<◌, ◌≤◌, min, max, Bool, true, false, cond, eqb, List, [], ◌∷◌, ◌++◌, length, get_or, take, drop, Option, Some, None, refl, sym, ap, subst, ◌∙◌, arith}
 use Rattle.std.specs.Prelude.{map}
-use Rattle.std.proofs.lemmas.List.{map-append}
+use Rattle.std.proofs.lemmas.List.{map-append, take_more}
 use Rattle.raft_log_files.specs.declared.memory_file.MemoryFile.{MemoryFile}
 use Rattle.raft_log_files.specs.declared.memory_file.Change.{Change}
 use Rattle.raft_log_files.specs.declared.memory_file.Written.{Written}
@@ -95,3 +95,13 @@ renamed_state old earlier later brought none nothing front = λ i. record {
   later = spans_of (nothing i);
   brought = front i;
 }
+
+-- one change fewer
+pub undone_less : (cs : List Change) (left : ℕ) (c : Change) (bytes new was : List ℕ) → 0 < left → left ≤ length cs → c ≡ get_or cs (left - 1) c → new ≡ undo c bytes → undone (take left cs) bytes ≡ was → undone (take (left - 1) cs) new ≡ was
+undone_less cs left c bytes new was some le is undid back =
+    let lt : left - 1 < length cs = omega arith in
+    let more : left - 1 + 1 ≡ left = omega arith in
+    ap (undone (take (left - 1) cs)) (undid ∙ ap (λ d. undo d bytes) is)
+    ∙ sym (undone_more (take (left - 1) cs) (get_or cs (left - 1) c) bytes)
+    ∙ ap (λ l. undone l bytes) (sym (take_more cs (left - 1) c lt) ∙ ap (λ n. take n cs) more)
+    ∙ back

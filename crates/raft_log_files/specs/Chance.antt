@@ -29,9 +29,16 @@ AreWritten f signature (suc k) at bytes = MatchResult (record_at signature bytes
 -- what a log file's bytes show from their front was written there
 abbrev pub IsGenuine : FileId → FileState → List ℕ → Type 0
 IsGenuine id f bytes = MatchResult (header_at bytes)
-  (λ h. IsHeaderWritten f (take (header_len h.version) bytes) × AreWritten f (signature_of h.version id.seq) (length bytes) (header_len h.version) (drop (header_len h.version) bytes))
-  (λ _. Unit {0})
+    (λ h. IsHeaderWritten f (take (header_len h.version) bytes) × AreWritten f (signature_of h.version id.seq) (length bytes) (header_len h.version) (drop (header_len h.version) bytes))
+    (λ _. Unit {0})
 
 -- nothing passes by chance in these bytes of the files
 abbrev pub IsGenuineImage : Disk → Image → Type 0
 IsGenuineImage d image = AllByRecursion (λ e. MatchOption (log_file_of e.0) (Unit {0}) (λ id. IsGenuine id (d.file e.1) (image e.1))) d.names
+
+-- the length of a record that was read
+abbrev pub LengthIs : {X Y E : Type 0} → Result (X × Y × ℕ) E → Option ℕ → Type 0
+LengthIs (Ok r) None = ⊥
+LengthIs (Ok r) (Some len) = r.2 ≡ len
+LengthIs (Err e) None = Unit {0}
+LengthIs (Err e) (Some len) = ⊥

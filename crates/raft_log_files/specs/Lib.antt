@@ -8,3 +8,4 @@ pub mod Name
 pub mod Format
 pub mod Image
 pub mod Chance
+pub mod Crashed

@@ -1,9 +1,9 @@
 //! The header of a log file.
 
-ghost use Rattle.std.specs.Prelude.{◌≡◌, ◌≤◌, length, take, drop};
+ghost use Rattle.std.specs.Prelude.{◌≡◌, ◌≤◌, ◌+◌, IfOk, length, take, drop};
 ghost use Rattle.std.specs.Int.{w64, from_be_bytes};
 ghost use Rattle.raft_log_files.specs.Text.{same_text};
-ghost use Rattle.raft_log_files.specs.Format.{magic, versioned};
+ghost use Rattle.raft_log_files.specs.Format.{magic, versioned, header_len};
 
 use raft_log_records::Version;
 
@@ -46,7 +46,8 @@ fn is_magic(text: &[u8]) -> bool
 }
 
 fn of_version(version: u64, rest: &[u8]) -> Result<LogFileFormat, HeaderFault>
-    ensures { result ≡ versioned version rest.now }
+    ensures read { result ≡ versioned version rest.now }
+    ensures within { IfOk result (λ f. header_len f.version ≤ 61 + length rest.now) }
 {
     if version == 1 {
         Ok(LogFileFormat::new(Version::V1, 0))
@@ -60,7 +61,7 @@ fn of_version(version: u64, rest: &[u8]) -> Result<LogFileFormat, HeaderFault>
 }
 
 impl LogFileFormat {
-    ghost use Rattle.raft_log_files.specs.Format.{header_at, header_len};
+    ghost use Rattle.raft_log_files.specs.Format.{header_at};
 
     /// A format with records at multiples of `alignment` bytes.
     pub fn new(version: Version, alignment: u64) -> LogFileFormat
@@ -89,7 +90,8 @@ impl LogFileFormat {
 
     /// Reads the header at the front of some bytes.
     pub fn decode(bytes: &[u8]) -> Result<LogFileFormat, HeaderFault>
-        ensures { result ≡ header_at bytes.now }
+        ensures read { result ≡ header_at bytes.now }
+        ensures within { IfOk result (λ f. header_len f.version ≤ length bytes.now) }
     {
         if bytes.len() < 61 {
             return Err(HeaderFault::CutShort);

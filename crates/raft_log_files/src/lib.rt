@@ -3,9 +3,11 @@
 #![tactic(auto)]
 
 mod crash;
+mod crashing;
 mod fault;
 mod format;
 mod fuse;
+mod image;
 mod lookup;
 mod memory;
 mod memory_calls;

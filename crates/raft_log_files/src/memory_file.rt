@@ -49,7 +49,7 @@ pub struct MemoryFile {
 }
 
 /// Writes over what is there, and past the end. The growth comes first.
-fn overwrite(bytes: &mut Vec<u8>, at: usize, new: &[u8]) -> Result<(), AllocError>
+pub fn overwrite(bytes: &mut Vec<u8>, at: usize, new: &[u8]) -> Result<(), AllocError>
     requires { at ≤ length bytes.old.items }
     ensures { bytes.new.items ≡ (if is_ok result then put bytes.old.items at new.now else bytes.old.items) }
 {
