@@ -1,6 +1,7 @@
 pub mod ByteLemmas
 pub mod CauseLemmas
 pub mod ChanceLemmas
+pub mod CrashLemmas
 pub mod FilesLemmas
 pub mod MemoryLemmas
 pub mod NameLemmas

@@ -1,5 +1,5 @@
 -- Files in memory that crash.
-use Rattle.std.specs.Prelude.{◌≡◌, ℕ, List, [], ◌∷◌, MatchOption}
+use Rattle.std.specs.Prelude.{◌≡◌, ℕ, List, [], ◌∷◌, map, MatchOption}
 use Rattle.std.specs.List.{AllByRecursion}
 use Rattle.std.specs.String.{string_bytes}
 use Rattle.raft_log_files.specs.declared.memory_file.MemoryFile.{MemoryFile}
@@ -8,7 +8,8 @@ use Rattle.raft_log_files.specs.Disk.{settled}
 use Rattle.raft_log_files.specs.Name.{log_file_of}
 use Rattle.raft_log_files.specs.Image.{IsFileImage, chosen_of}
 use Rattle.raft_log_files.specs.Chance.{IsGenuine}
-use Rattle.raft_log_files.specs.Memory.{state_of}
+use Rattle.raft_log_files.specs.Memory.{state_of, names_of}
+use Rattle.raft_log_files.specs.declared.crash.FileBytes.{FileBytes}
 
 -- what is chosen of a file
 abbrev pub chosen_in : CrashChoice → MemoryFile → List ℕ
@@ -31,3 +32,9 @@ AreCrashed choice [] [] = Unit {0}
 AreCrashed choice (f ∷ fs) (g ∷ gs) = (string_bytes g.path ≡ string_bytes f.path) × (g.number ≡ f.number) × (state_of g ≡ settled (state_of f) (chosen_in choice f)) × AreCrashed choice fs gs
 AreCrashed choice [] (g ∷ gs) = ⊥
 AreCrashed choice (f ∷ fs) [] = ⊥
+
+abbrev pub paths_of : List MemoryFile → List (List ℕ)
+paths_of fs = map (λ e. e.0) (names_of fs)
+
+abbrev pub said_paths : List FileBytes → List (List ℕ)
+said_paths bs = map (λ b. string_bytes b.path) bs

@@ -11,6 +11,7 @@ mod image;
 mod lookup;
 mod memory;
 mod memory_calls;
+mod memory_crash;
 mod memory_file;
 mod name;
 mod space;

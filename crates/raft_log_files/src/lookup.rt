@@ -32,7 +32,7 @@ pub fn find_path(files: &[MemoryFile], path: &str) -> Option<usize>
     None
 }
 
-fn is_same(a: &str, b: &str) -> bool
+pub fn is_same(a: &str, b: &str) -> bool
     ensures yes { IsTrue result → a.now ≡ b.now }
     ensures no { a.now ≡ b.now → IsTrue result }
 {
