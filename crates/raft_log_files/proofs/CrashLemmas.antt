@@ -1,6 +1,6 @@
 -- Files that crash, one by one and by their numbers.
 use Rattle.std.proofs.Common.{◌≡◌, ◌≢◌, ◌⊎◌, inl, inr, ℕ, ◌+◌, ◌<◌, Bool, true, false, cond, eqb, List, [], ◌∷◌, ◌++◌, length, get_or, take, Option, Some, None, refl, sym, ap, subst, ◌∙◌}
-use Rattle.std.specs.Prelude.{String, map, MatchOption, ◌||◌, ◌==◌}
+use Rattle.std.specs.Prelude.{Result, Ok, Err, OnOk, String, map, MatchOption, ◌||◌, ◌==◌}
 use Rattle.std.specs.List.{AllByRecursion}
 use Rattle.std.specs.String.{string_bytes}
 use Rattle.std.specs.declared.alloc.Global.{Global}
@@ -11,7 +11,7 @@ use Rattle.raft_log_files.specs.declared.crash.CrashChoice.{CrashChoice}
 use Rattle.raft_log_files.specs.Text.{Text}
 use Rattle.raft_log_files.specs.Name.{log_file_of}
 use Rattle.raft_log_files.specs.Disk.{FileState, Disk, IsIn, are_named, settled, no_bytes}
-use Rattle.raft_log_files.specs.Image.{Image, IsFileImage, IsImage, image_of, chosen_of, after_crash}
+use Rattle.raft_log_files.specs.Image.{Image, IsFileImage, IsImage, IsImageOf, NamesFiles, image_of, chosen_of, after_crash}
 use Rattle.raft_log_files.specs.Chance.{IsGenuine, IsGenuineImage}
 use Rattle.raft_log_files.specs.Memory.{state_of, names_of, texts_of, file_of, disk_of}
 use Rattle.raft_log_files.specs.Crashed.{AreImages, AreGenuine, AreCrashed, IsFileGenuine, chosen_in}
@@ -84,22 +84,22 @@ chosen_among choice f fs next h there = image_among choice (file_of fs) f fs nex
 
 pub images_over : (choice : CrashChoice) (directories : List (String Global)) (fs : List MemoryFile) (next : ℕ) → are_named (names_of fs) next ≡ true → IsImage (disk_of directories fs next) (image_in choice fs) → AreImages choice fs
 images_over choice directories fs next h = all_over (λ e. IsFileImage (file_of fs e.1) (image_in choice fs e.1)) (λ f. IsFileImage (state_of f) (chosen_in choice f)) fs
-  (λ f there p. subst (IsFileImage (state_of f)) (chosen_among choice f fs next h there) (subst (λ s. IsFileImage s (image_in choice fs f.number)) (file_among f fs next h there) p))
+    (λ f there p. subst (IsFileImage (state_of f)) (chosen_among choice f fs next h there) (subst (λ s. IsFileImage s (image_in choice fs f.number)) (file_among f fs next h there) p))
 
 pub images_back : (choice : CrashChoice) (directories : List (String Global)) (fs : List MemoryFile) (next : ℕ) → are_named (names_of fs) next ≡ true → AreImages choice fs → IsImage (disk_of directories fs next) (image_in choice fs)
 images_back choice directories fs next h = all_back (λ e. IsFileImage (file_of fs e.1) (image_in choice fs e.1)) (λ f. IsFileImage (state_of f) (chosen_in choice f)) fs
-  (λ f there p. subst (λ s. IsFileImage s (image_in choice fs f.number)) (sym (file_among f fs next h there)) (subst (IsFileImage (state_of f)) (sym (chosen_among choice f fs next h there)) p))
+    (λ f there p. subst (λ s. IsFileImage s (image_in choice fs f.number)) (sym (file_among f fs next h there)) (subst (IsFileImage (state_of f)) (sym (chosen_among choice f fs next h there)) p))
 
 abbrev IsGenuineAt : Text → FileState → List ℕ → Type 0
 IsGenuineAt path f bytes = MatchOption (log_file_of path) (Unit {0}) (λ id. IsGenuine id f bytes)
 
 pub genuine_over : (choice : CrashChoice) (directories : List (String Global)) (fs : List MemoryFile) (next : ℕ) → are_named (names_of fs) next ≡ true → IsGenuineImage (disk_of directories fs next) (image_in choice fs) → AreGenuine choice fs
 genuine_over choice directories fs next h = all_over (λ e. IsGenuineAt e.0 (file_of fs e.1) (image_in choice fs e.1)) (λ f. IsFileGenuine choice f) fs
-  (λ f there p. subst (IsGenuineAt (string_bytes f.path) (state_of f)) (chosen_among choice f fs next h there) (subst (λ s. IsGenuineAt (string_bytes f.path) s (image_in choice fs f.number)) (file_among f fs next h there) p))
+    (λ f there p. subst (IsGenuineAt (string_bytes f.path) (state_of f)) (chosen_among choice f fs next h there) (subst (λ s. IsGenuineAt (string_bytes f.path) s (image_in choice fs f.number)) (file_among f fs next h there) p))
 
 pub genuine_back : (choice : CrashChoice) (directories : List (String Global)) (fs : List MemoryFile) (next : ℕ) → are_named (names_of fs) next ≡ true → AreGenuine choice fs → IsGenuineImage (disk_of directories fs next) (image_in choice fs)
 genuine_back choice directories fs next h = all_back (λ e. IsGenuineAt e.0 (file_of fs e.1) (image_in choice fs e.1)) (λ f. IsFileGenuine choice f) fs
-  (λ f there p. subst (λ s. IsGenuineAt (string_bytes f.path) s (image_in choice fs f.number)) (sym (file_among f fs next h there)) (subst (IsGenuineAt (string_bytes f.path) (state_of f)) (sym (chosen_among choice f fs next h there)) p))
+    (λ f there p. subst (λ s. IsGenuineAt (string_bytes f.path) s (image_in choice fs f.number)) (sym (file_among f fs next h there)) (subst (IsGenuineAt (string_bytes f.path) (state_of f)) (sym (chosen_among choice f fs next h there)) p))
 
 -- ---- the disk after a crash
 
@@ -126,3 +126,22 @@ crashed_disk choice directories fs gs next h c = λ i. record {
 
 pub crashed_named : (choice : CrashChoice) (fs gs : List MemoryFile) (next : ℕ) → are_named (names_of fs) next ≡ true → AreCrashed choice fs gs → are_named (names_of gs) next ≡ true
 crashed_named choice fs gs next h c = ap (λ (es : List (Text × ℕ)). are_named es next) (crashed_names choice fs gs c) ∙ h
+
+-- ---- the exits of a crash
+
+pub not_images : (choice : CrashChoice) (directories : List (String Global)) (fs ts : List MemoryFile) (next : ℕ) → are_named (names_of fs) next ≡ true → ts ≡ fs → (AreImages choice ts → ⊥) → IsImageOf choice (disk_of directories fs next) → ⊥
+not_images choice directories fs ts next h same none image = none (subst (AreImages choice) (sym same) (images_over choice directories fs next h image.1))
+
+pub are_image : (choice : CrashChoice) (directories : List (String Global)) (fs ts us : List MemoryFile) (next : ℕ) → are_named (names_of fs) next ≡ true → us ≡ fs → ts ≡ fs → NamesFiles choice (names_of us) → AreImages choice ts → IsImageOf choice (disk_of directories fs next)
+are_image choice directories fs ts us next h named same names images =
+    (subst (λ l. NamesFiles choice (names_of l)) named names, images_back choice directories fs next h (subst (AreImages choice) same images))
+
+pub are_genuine : (choice : CrashChoice) (directories : List (String Global)) (fs ts : List MemoryFile) (next : ℕ) → are_named (names_of fs) next ≡ true → ts ≡ fs → AreGenuine choice ts → IsGenuineImage (disk_of directories fs next) (image_in choice fs)
+are_genuine choice directories fs ts next h same genuine = genuine_back choice directories fs next h (subst (AreGenuine choice) same genuine)
+
+pub not_genuine : (choice : CrashChoice) (directories : List (String Global)) (fs ts : List MemoryFile) (next : ℕ) → are_named (names_of fs) next ≡ true → ts ≡ fs → (AreGenuine choice ts → ⊥) → IsGenuineImage (disk_of directories fs next) (image_in choice fs) → ⊥
+not_genuine choice directories fs ts next h same none genuine = none (subst (AreGenuine choice) (sym same) (genuine_over choice directories fs next h genuine))
+
+pub on_ok : {T E : Type 0} (r : Result T E) (P Q : Type 0) → (P → Q) → OnOk r P → OnOk r Q
+on_ok (Ok x) P Q f p = f p
+on_ok (Err e) P Q f p = tt

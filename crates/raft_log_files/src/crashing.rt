@@ -206,7 +206,11 @@ fn crashed(alloc: Global, file: &MemoryFile, choice: &CrashChoice) -> Result<Mem
 }
 
 /// The files as the choice leaves them.
-pub fn crash_all(alloc: Global, files: &[MemoryFile], choice: &CrashChoice) -> Result<Vec<MemoryFile>, AllocError>
+pub fn crash_all(
+    alloc: Global,
+    files: &[MemoryFile],
+    choice: &CrashChoice,
+) -> Result<Vec<MemoryFile>, AllocError>
     ensures { IfOk result (λ v. AreCrashed choice.now files.now v.items) }
 {
     let mut all = Vec::new(alloc);

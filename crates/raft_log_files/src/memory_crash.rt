@@ -29,7 +29,9 @@ impl CrashFiles for MemoryFileSystem {
         if !names_files(choice, &self.files) {
             return Err(CrashRefusal::NotAnImage);
         }
-        check_images(self.alloc, &self.files, choice)?;
-        check_chance(self.alloc, &self.files, choice)
+        match check_images(self.alloc, &self.files, choice) {
+            Err(refusal) => Err(refusal),
+            Ok(()) => check_chance(self.alloc, &self.files, choice),
+        }
     }
 }
