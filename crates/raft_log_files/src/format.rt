@@ -6,6 +6,7 @@ ghost use Rattle.raft_log_files.specs.Text.{same_text};
 ghost use Rattle.raft_log_files.specs.Format.{magic, versioned, header_len};
 
 use raft_log_records::Version;
+use std::alloc::{AllocError, Global};
 
 /// The text at the front of each log file.
 const MAGIC: &[u8; 53] = b"RAFT-LOG-FILE-HEADER-9986AB3E47F320B394C8E84916EB0ED5";
@@ -61,7 +62,7 @@ fn of_version(version: u64, rest: &[u8]) -> Result<LogFileFormat, HeaderFault>
 }
 
 impl LogFileFormat {
-    ghost use Rattle.raft_log_files.specs.Format.{header_at};
+    ghost use Rattle.raft_log_files.specs.Format.{header_at, spelled_header};
 
     /// A format with records at multiples of `alignment` bytes.
     pub fn new(version: Version, alignment: u64) -> LogFileFormat
@@ -86,6 +87,21 @@ impl LogFileFormat {
             Version::V1 => 61,
             Version::V2 => 69,
         }
+    }
+
+    /// The header's bytes.
+    pub fn encode(&self, alloc: Global) -> Result<Vec<u8>, AllocError>
+        ensures { IfOk result (λ v. v.items ≡ spelled_header self.now) }
+    {
+        let mut bytes = Vec::from_slice(alloc, MAGIC.as_slice())?;
+        match self.version {
+            Version::V1 => bytes.extend_from_slice(&1u64.to_be_bytes())?,
+            Version::V2 => {
+                bytes.extend_from_slice(&2u64.to_be_bytes())?;
+                bytes.extend_from_slice(&self.alignment.to_be_bytes())?;
+            }
+        }
+        Ok(bytes)
     }
 
     /// Reads the header at the front of some bytes.

@@ -22,3 +22,6 @@ pub use fault::{Fd, IoFault, Permission};
 pub use format::{HeaderFault, LogFileFormat};
 pub use memory::MemoryFileSystem;
 pub use system::FileSystem;
+
+#[cfg(test)]
+mod tests;
