@@ -1,0 +1,10 @@
+pub mod ByteLemmas
+pub mod CauseLemmas
+pub mod ChanceLemmas
+pub mod CrashLemmas
+pub mod FilesLemmas
+pub mod MemoryLemmas
+pub mod NameLemmas
+pub mod NamedLemmas
+pub mod RoomLemmas
+pub mod TextLemmas
