@@ -33,11 +33,10 @@ scene-tells-stop w stopped (At n e) = node-tells-stop n e stopped (w.nodes n)
 -- the history of a run replays to its end
 pub run-replays : (es : List (WorldEvent × Option ℕ)) (w : GroupWorld) → Replays w (history_of es w) (group_run es w)
 run-replays [] w = refl
-run-replays (e ∷ es) w =
-    (
-      scene-tells-stop w (is_some e.1) (scene_of w e.0),
-      (unwrap_or e.1 0, run-replays es (ran w e.0 e.1))
-    )
+run-replays (e ∷ es) w = (
+  scene-tells-stop w (is_some e.1) (scene_of w e.0),
+  (unwrap_or e.1 0, run-replays es (ran w e.0 e.1)),
+)
 
 same-outcome : (w : GroupWorld) (e : WorldEvent) (o : Outcome) (k : ℕ) → o ≡ outcome_of w e (is_stop o) → outcome_of w e (is_some (stop_at (is_stop o) k)) ≡ o
 same-outcome w e (Done sent _ unknown) k h = sym h

@@ -1,8 +1,7 @@
 -- Words for worked examples: short events and outcomes, and what a run leaves.
 use Rattle.std.specs.Prelude.{ℕ, List, [], ◌∷◌, ◌++◌, map, drop, slice_get, Option, Some, None, option_map}
-use Rattle.raft_state.specs.Membership.{Member, Membership}
 use Rattle.raft_state.specs.declared.log_id.LogId.{LogId}
-use Rattle.raft_state.specs.Entry.{Entry}
+use Rattle.raft_engine.specs.Values.{Entry, Membership}
 use Rattle.raft_state.specs.declared.vote.Vote.{Vote}
 use Rattle.raft_engine.specs.StoredGroup.{StoredGroup, StoringCommand, held}
 use Rattle.raft_engine.specs.Message.{Message, MessageBody, VoteRequest, VoteReply, AppendRequest, AppendReply, SnapshotRequest, SnapshotReply, RequestId, HeartBeat, Numbered}
@@ -52,8 +51,8 @@ abbrev pub ok_unknown : List ℕ → ℕ → Brief
 ok_unknown sent token = Answered sent [] (token ∷ [])
 
 -- a node whose address is the letter n and its id
-abbrev pub member : ℕ → Member
-member n = record { id = n; address = 110 ∷ n ∷ [] }
+abbrev pub member : ℕ → ℕ × List ℕ
+member n = (n, 110 ∷ n ∷ [])
 
 -- one voter group, and learners
 abbrev pub membership_of : List ℕ → List ℕ → Membership

@@ -1,8 +1,7 @@
 -- All nodes of one group, what they sent, what may happen to them, and what came of it.
 use Rattle.std.specs.Prelude.{ℕ, ◌==◌, Bool, true, false, List, [], Option, None}
 use Rattle.raft_state.specs.declared.vote.Vote.{Vote}
-use Rattle.raft_state.specs.Membership.{Membership, has_id}
-use Rattle.raft_state.specs.Entry.{Entry}
+use Rattle.raft_engine.specs.Values.{Entry, has_id, Membership}
 use Rattle.raft_engine.specs.StoredGroup.{StoredGroup}
 use Rattle.raft_engine.specs.Message.{Message}
 use Rattle.raft_engine.specs.GroupState.{GroupState, Untold, no_group, state_of}
