@@ -4,6 +4,7 @@ ghost use Rattle.std.specs.List.{list_any};
 ghost use Rattle.std.specs.BTreeSet.{insert_key};
 ghost use Rattle.raft_state.specs.Rising.{IsRising};
 ghost use Rattle.raft_state.specs.Place.{place};
+ghost use Rattle.std.specs.Cmp.Lexicographic.{pointwise, lists_per, lists_equiv};
 
 use crate::node::NodeId;
 use std::alloc::{AllocError, Global};
@@ -96,4 +97,28 @@ impl<NID: NodeId> IdSet<NID> {
     {
         insert_rising(&mut self.ids, id)
     }
+}
+
+impl<NID: NodeId> Clone for IdSet<NID> {
+    ghost is_clone = { λ x y. y ≡ x };
+
+    fn clone(&self) -> Result<IdSet<NID>, AllocError> {
+        let mut ids = Vec::new(*self.ids.allocator());
+        ids.extend_from_slice(self.ids.as_slice())?;
+        Ok(IdSet { ids })
+    }
+}
+
+impl<NID: NodeId> PartialEq for IdSet<NID> {
+    ghost eq = { pointwise NID.eq };
+
+    ghost laws = { lists_per NID.PartialEq.laws };
+
+    fn eq(&self, other: &IdSet<NID>) -> bool {
+        self.ids == other.ids
+    }
+}
+
+impl<NID: NodeId> Eq for IdSet<NID> {
+    ghost laws = { lists_equiv NID.Eq.laws };
 }

@@ -8,11 +8,12 @@ use crate::id_set::IdSet;
 use crate::node::{Node, NodeId};
 use crate::node_map::NodeMap;
 use crate::voter_groups::VoterGroups;
+use std::alloc::AllocError;
 use std::cmp::Ordering;
 
 /// The voter groups, and the nodes by their ids (openraft).
 /// A node in no voter group is a learner; more than one voter group is a joint config.
-#[derive(Debug, Drop)]
+#[derive(Debug, Drop, PartialEq, Eq)]
 pub struct Membership<NID: NodeId, N: Node> {
     pub(crate) configs: VoterGroups<NID>,
     pub(crate) nodes: NodeMap<NID, N>,
@@ -102,5 +103,16 @@ impl<NID: NodeId, N: Node> Membership<NID, N> {
                 node_id,
             })),
         }
+    }
+}
+
+impl<NID: NodeId, N: Node> Clone for Membership<NID, N> {
+    ghost is_clone = { λ x y. y ≡ x };
+
+    fn clone(&self) -> Result<Membership<NID, N>, AllocError> {
+        Ok(Membership {
+            configs: self.configs.clone()?,
+            nodes: self.nodes.clone()?,
+        })
     }
 }

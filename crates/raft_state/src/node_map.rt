@@ -1,8 +1,10 @@
 //! Nodes by their ids.
-ghost use Rattle.std.specs.Prelude.{◌≡◌, ◌+◌, ◌<◌, ◌≤◌, [], length, IfOk, OnOk, OnErr, MatchResult, MatchOption};
+ghost use Rattle.std.specs.Prelude.{◌≡◌, ◌+◌, ◌<◌, ◌≤◌, ◌&&◌, [], length, IfOk, OnOk, OnErr, MatchResult, MatchOption};
 ghost use Rattle.raft_state.specs.Nodes.{has_node, with_node};
 ghost use Rattle.raft_state.specs.Rising.{IsRisingByFirst};
 ghost use Rattle.raft_state.specs.Place.{place};
+ghost use Rattle.std.specs.Cmp.Lexicographic.{pointwise, lists_per, lists_equiv};
+ghost use Rattle.std.specs.Cmp.{and_per, on_per, and_equiv, on_equiv};
 
 use crate::node::{Node, NodeId};
 use std::alloc::{AllocError, Global};
@@ -101,4 +103,42 @@ impl<NID: NodeId, N: Node> NodeMap<NID, N> {
     {
         insert_rising(&mut self.nodes, id, node)
     }
+}
+
+// A second list of the same nodes.
+fn copy_nodes<NID: NodeId, N: Node>(
+    alloc: Global,
+    nodes: &[(NID, N)],
+) -> Result<Vec<(NID, N)>, AllocError>
+    ensures { IfOk result (λ copies. copies.items ≡ nodes.now) }
+{
+    let mut copies = Vec::new(alloc);
+    for (id, node) in nodes {
+        copies.push((*id, node.clone()?))?;
+    }
+    Ok(copies)
+}
+
+impl<NID: NodeId, N: Node> Clone for NodeMap<NID, N> {
+    ghost is_clone = { λ x y. y ≡ x };
+
+    fn clone(&self) -> Result<NodeMap<NID, N>, AllocError> {
+        Ok(NodeMap {
+            nodes: copy_nodes(*self.nodes.allocator(), self.nodes.as_slice())?,
+        })
+    }
+}
+
+impl<NID: NodeId, N: Node> PartialEq for NodeMap<NID, N> {
+    ghost eq = { pointwise (λ x y. NID.eq x.0 y.0 && N.eq x.1 y.1) };
+
+    ghost laws = { lists_per (and_per (on_per (λ (t : NID × N). t.0) NID.PartialEq.laws) (on_per (λ (t : NID × N). t.1) N.PartialEq.laws)) };
+
+    fn eq(&self, other: &NodeMap<NID, N>) -> bool {
+        self.nodes == other.nodes
+    }
+}
+
+impl<NID: NodeId, N: Node> Eq for NodeMap<NID, N> {
+    ghost laws = { lists_equiv (and_equiv (on_equiv (λ (t : NID × N). t.0) NID.Eq.laws) (on_equiv (λ (t : NID × N). t.1) N.Eq.laws)) };
 }

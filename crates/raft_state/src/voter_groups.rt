@@ -1,9 +1,10 @@
 //! Voter groups.
-ghost use Rattle.std.specs.Prelude.{◌≡◌, ◌++◌, ◌∷◌, [], length, OnOk, OnErr, IfErr};
+ghost use Rattle.std.specs.Prelude.{◌≡◌, ◌++◌, ◌∷◌, [], length, OnOk, OnErr, IfErr, IfOk};
+ghost use Rattle.std.specs.Cmp.Lexicographic.{pointwise, lists_per, lists_equiv};
 
 use crate::id_set::IdSet;
 use crate::node::NodeId;
-use std::alloc::{AllocFailed, Global};
+use std::alloc::{AllocError, AllocFailed, Global};
 use std::marker::Model;
 
 /// The voter groups of a membership. Contracts see a list of groups, each the list of its ids.
@@ -52,4 +53,42 @@ impl<NID: NodeId> VoterGroups<NID> {
     {
         self.groups.push(group)
     }
+}
+
+#[tactic(auto, using(std::proofs::lemmas::Grind::common_steps))]
+fn copy_groups<NID: NodeId>(
+    alloc: Global,
+    groups: &[IdSet<NID>],
+) -> Result<Vec<IdSet<NID>>, AllocError>
+    ensures { IfOk result (λ copies. copies.items ≡ groups.now) }
+{
+    let mut copies = Vec::new(alloc);
+    for group in groups {
+        copies.push(group.clone()?)?;
+    }
+    Ok(copies)
+}
+
+impl<NID: NodeId> Clone for VoterGroups<NID> {
+    ghost is_clone = { λ x y. y ≡ x };
+
+    fn clone(&self) -> Result<VoterGroups<NID>, AllocError> {
+        Ok(VoterGroups {
+            groups: copy_groups(*self.groups.allocator(), self.groups.as_slice())?,
+        })
+    }
+}
+
+impl<NID: NodeId> PartialEq for VoterGroups<NID> {
+    ghost eq = { pointwise (pointwise NID.eq) };
+
+    ghost laws = { lists_per (lists_per NID.PartialEq.laws) };
+
+    fn eq(&self, other: &VoterGroups<NID>) -> bool {
+        self.groups == other.groups
+    }
+}
+
+impl<NID: NodeId> Eq for VoterGroups<NID> {
+    ghost laws = { lists_equiv (lists_equiv NID.Eq.laws) };
 }
