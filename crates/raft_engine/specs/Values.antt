@@ -10,6 +10,7 @@ use Rattle.raft_state.specs.declared.membership.Membership.{Membership as Member
 use Rattle.raft_state.specs.declared.entry.Entry.{Entry as EntryOf}
 use Rattle.raft_state.specs.declared.entry.EntryPayload.{EntryPayload as EntryPayloadOf}
 use Rattle.raft_state.specs.declared.entry.EntryPayload.TheVariants.{Blank, Normal, Membership as Members}
+use Rattle.raft_engine.specs.declared.snapshot_message.LoggedMembership.{LoggedMembership as LoggedMembershipOf}
 use Rattle.raft_state.specs.Vote.{leader_cmp, vote_cmp}
 use Rattle.raft_state.specs.LogId.{log_id_cmp}
 
@@ -112,9 +113,8 @@ abbrev pub entry_of : LogId ℕ → EntryPayload → Entry
 entry_of id payload = record { log_id = id; payload = payload }
 
 -- a membership, with the log id of the entry that has it
-pub record LoggedMembership : Type 0 where
-  pub log_id : LogId ℕ
-  pub membership : Membership
+abbrev pub LoggedMembership : Type 0
+LoggedMembership = LoggedMembershipOf ℕ (List ℕ)
 
 -- the membership of this entry, or else the one before
 abbrev pub membership_after : Option LoggedMembership → LogId ℕ → EntryPayload → Option LoggedMembership
