@@ -1,2 +1,3 @@
 pub mod PlaceLemmas
 pub mod MembershipLemmas
+pub mod CoherentLemmas
