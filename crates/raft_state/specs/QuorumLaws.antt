@@ -1,8 +1,10 @@
 -- Laws of quorums.
 use Rattle.std.specs.Prelude.{◌≡◌, ℕ, suc, ◌+◌, ◌<◌, ◌≤◌, Bool, true, false, ◌&&◌, ◌||◌, List, [], ◌∷◌, length, count_by, refl, cond}
 use Rattle.std.specs.List.{list_all, list_any}
-use Rattle.std.proofs.Common.{arith}
+use Rattle.std.proofs.Common.{arith, sym}
 use Rattle.std.proofs.lemmas.Grind.{common_steps}
+use Rattle.std.proofs.Math.Bool.{true≢false}
+use Rattle.raft_state.specs.Nodes.{has_id}
 use borrow.Author.Tests.{ltb-true, lt-ltb}
 use Rattle.raft_state.specs.Quorum.{is_majority, is_quorum}
 
@@ -34,6 +36,22 @@ both_hold true true c d f g h = cc (f refl, g refl)
 both_hold true false c d f g h = cc h
 both_hold false b c d f g h = cc h
 
+or_right : (a b : Bool) → b ≡ true → (a || b) ≡ true
+or_right true b h = refl
+or_right false b h = h
+
+or_left : (a b : Bool) → a ≡ true → (a || b) ≡ true
+or_left true b h = refl
+or_left false b h = absurd (true≢false (sym h))
+
+and_left : (a b : Bool) → (a && b) ≡ true → a ≡ true
+and_left true b h = refl
+and_left false b h = absurd (true≢false (sym h))
+
+and_right : (a b : Bool) → (a && b) ≡ true → b ≡ true
+and_right true b h = h
+and_right false b h = absurd (true≢false (sym h))
+
 module _ {K : Type 0} (p r : K → Bool) where
   pub count_within : IsWithin p r → (group : List K) → count_by p group ≤ count_by r group
   count_within wider [] = omega arith
@@ -64,3 +82,16 @@ pub wider_joint : {K Q : Type 0} (accepts : Q → (K → Bool) → Bool) (p r : 
 wider_joint accepts p r wider [] h = refl
 wider_joint accepts p r wider (x ∷ xs) h =
     both_hold (accepts x p) (list_all (λ q. accepts q p) xs) (accepts x r) (list_all (λ q. accepts q r) xs) (wider x) (wider_joint accepts p r wider xs) h
+
+module _ {K : Type 0} (eq : K → K → Bool) (same : (x : K) → eq x x ≡ true) (p r : K → Bool) where
+  has_more : (x y : K) (ys : List K) → has_id eq ys x ≡ true → has_id eq (y ∷ ys) x ≡ true
+  has_more x y ys h = or_right (eq y x) (has_id eq ys x) h
+
+  -- who passes both tests, and is of the group
+  pub one_of_both : (group : List K) → share_a_member p r group ≡ true → (x : K) × (has_id eq group x ≡ true) × (p x ≡ true) × (r x ≡ true)
+  one_of_both [] h = absurd (true≢false (sym h))
+  one_of_both (x ∷ xs) h =
+      elim (p x && r x) as (λ b. (p x && r x) ≡ b → (b || share_a_member p r xs) ≡ true → (y : K) × (has_id eq (x ∷ xs) y ≡ true) × (p y ≡ true) × (r y ≡ true)) [
+        | true ↦ λ e _. (x, or_left (eq x x) (has_id eq xs x) (same x), and_left (p x) (r x) e, and_right (p x) (r x) e)
+        | false ↦ λ _ k. let w = one_of_both xs k in (w.0, has_more w.0 x xs w.1, w.2, w.3)
+      ] refl h

@@ -5,9 +5,10 @@ ghost use Rattle.std.specs.BTreeSet.{insert_key};
 ghost use Rattle.raft_state.specs.Quorum.{joint_ids, next_configs};
 ghost use Rattle.raft_state.specs.QuorumLaws.{IsWithin, wider_joint};
 
+use crate::has_id::HasId;
 use crate::id_set::IdSet;
 use crate::node::NodeId;
-use crate::quorum_set::{HasId, QuorumSet};
+use crate::quorum_set::QuorumSet;
 use std::alloc::{AllocError, Global};
 use std::marker::PhantomData;
 

@@ -2,47 +2,13 @@
 ghost use Rattle.std.specs.Prelude.{◌≡◌, Bool, List, true, IfOk};
 ghost use Rattle.std.specs.List.{fold};
 ghost use Rattle.std.specs.BTreeSet.{insert_key};
-ghost use Rattle.raft_state.specs.Nodes.{has_id};
 ghost use Rattle.raft_state.specs.Quorum.{is_majority, rising_ids};
 ghost use Rattle.raft_state.specs.QuorumLaws.{IsWithin, wider_majority};
 
+use crate::has_id::HasId;
 use crate::id_set::IdSet;
 use crate::node::NodeId;
 use std::alloc::{AllocError, Global};
-
-/// A set of ids, asked id by id (own).
-pub trait HasId<ID> {
-    // Whether the set has the id.
-    ghost has: { Self → ID → Bool };
-
-    /// Whether the set has the id.
-    fn has_id(&self, id: &ID) -> bool
-        ensures { result ≡ has self.now id.now };
-}
-
-impl<ID: NodeId> HasId<ID> for IdSet<ID> {
-    ghost has = { has_id ID.eq };
-
-    fn has_id(&self, id: &ID) -> bool {
-        self.contains(id)
-    }
-}
-
-impl<ID: NodeId> HasId<ID> for Vec<ID> {
-    ghost has = { λ ids. has_id ID.eq ids.items };
-
-    fn has_id(&self, id: &ID) -> bool {
-        self.contains(id)
-    }
-}
-
-impl<ID: NodeId> HasId<ID> for &[ID] {
-    ghost has = { λ ids. has_id ID.eq ids.now };
-
-    fn has_id(&self, id: &ID) -> bool {
-        self.contains(id)
-    }
-}
 
 /// Which sets of nodes are quorums (openraft; here a set is whatever answers for each id).
 pub trait QuorumSet<ID: NodeId> {
@@ -76,17 +42,6 @@ fn is_majority<ID: NodeId, S: HasId<ID>>(group: &[ID], nodes: &S) -> bool
     group.len() - count < count
 }
 
-// The ids as a set.
-fn collect<ID: NodeId>(alloc: Global, ids: &[ID]) -> Result<IdSet<ID>, AllocError>
-    ensures { IfOk result (λ set. set ≡ rising_ids ID.cmp ids.now) }
-{
-    let mut set = IdSet::new(alloc);
-    for id in ids {
-        set.insert(*id)?;
-    }
-    Ok(set)
-}
-
 impl<ID: NodeId> QuorumSet<ID> for IdSet<ID> {
     ghost accepts = { λ ids p. is_majority p ids };
 
@@ -113,7 +68,7 @@ impl<ID: NodeId> QuorumSet<ID> for Vec<ID> {
     }
 
     fn ids(&self, alloc: Global) -> Result<IdSet<ID>, AllocError> {
-        collect(alloc, self.as_slice())
+        IdSet::from_slice(alloc, self.as_slice())
     }
 
     ghost superset = { λ q p r wider h. wider_majority p r wider q.items h };
@@ -129,7 +84,7 @@ impl<ID: NodeId> QuorumSet<ID> for &[ID] {
     }
 
     fn ids(&self, alloc: Global) -> Result<IdSet<ID>, AllocError> {
-        collect(alloc, *self)
+        IdSet::from_slice(alloc, *self)
     }
 
     ghost superset = { λ q p r wider h. wider_majority p r wider q.now h };
