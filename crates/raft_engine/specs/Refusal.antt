@@ -4,13 +4,13 @@ use Rattle.std.specs.List.{list_all}
 use Rattle.raft_state.specs.declared.vote.Vote.{Vote}
 use Rattle.raft_state.specs.declared.log_id.LogId.{LogId}
 use Rattle.raft_state.specs.declared.entry.EntryPayload.TheVariants.{Blank, Normal, Membership as Members}
-use Rattle.raft_engine.specs.Values.{configs_eq, Entry, EntryPayload, is_valid, is_voter, is_within_limits, leader_lt, LoggedMembership, Membership, membership_after, vote_lt}
-use Rattle.raft_engine.specs.MembershipChange.{ChangeMembers, changed}
+use Rattle.raft_engine.specs.Values.{after_change, ChangeMembers, configs_eq, Entry, EntryPayload, is_valid, is_voter, is_within_limits, leader_lt, LoggedMembership, Membership, membership_after, vote_lt}
 use Rattle.raft_engine.specs.StoredGroup.{StoredGroup, end_place, membership_in_force}
 use Rattle.raft_engine.specs.Message.{Message, MessageBody, VoteRequest, VoteReply, AppendRequest, AppendReply, SnapshotRequest, SnapshotReply, ReplyFields, ReplyResult, RequestId, Success, Conflict, HigherVote, HeartBeat, Numbered}
 use Rattle.raft_engine.specs.Peer.{PeerState}
 use Rattle.raft_engine.specs.GroupState.{GroupState, Role, Follower, Candidate, Leader, is_leader, is_candidate}
-use Rattle.raft_engine.specs.GroupEvent.{GroupCall, Initialize, Elect, Propose, ChangeMembership, Heartbeat, Lost, TriggerSnapshot, TriggerPurge, GroupEvent, AddGroup, Call, Receive, Open}
+use Rattle.raft_engine.specs.declared.group_call.GroupCall.TheVariants.{Initialize, Elect, Propose, ChangeMembership, Heartbeat, Lost, TriggerSnapshot, TriggerPurge}
+use Rattle.raft_engine.specs.GroupEvent.{GroupCall, GroupEvent, AddGroup, Call, Receive, Open}
 use Rattle.raft_engine.specs.StepResult.{RefusalReason, NotLeader, UnknownGroup, GroupExists, NotAllowed, NotVoter, MembershipRefused, VoterChange, InProgress, CommandTooLong, NumberAtEnd, WrongParty, BreaksCondition, is_within}
 use Rattle.raft_engine.specs.Initialize.{is_new}
 
@@ -79,7 +79,7 @@ change_reasons old new =
 abbrev pub reasons_of_change : Option LoggedMembership → ChangeMembers → List (Option RefusalReason)
 reasons_of_change None change = []
 reasons_of_change (Some m) change =
-    change_reasons m.membership (changed m.membership change true)
+    change_reasons m.membership (after_change m.membership change)
 
 -- ---- messages
 

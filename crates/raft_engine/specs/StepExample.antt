@@ -11,7 +11,8 @@ use Rattle.raft_engine.specs.Message.{Message, MessageBody, VoteRequest, VoteRep
 use Rattle.raft_engine.specs.StoredGroup.{StoredGroup, StoringCommand}
 use Rattle.raft_engine.specs.Peer.{new_peer}
 use Rattle.raft_engine.specs.GroupState.{GroupState, Leader, no_group, state_of}
-use Rattle.raft_engine.specs.GroupEvent.{Call, Heartbeat, Receive}
+use Rattle.raft_engine.specs.declared.group_call.GroupCall.TheVariants.{Heartbeat}
+use Rattle.raft_engine.specs.GroupEvent.{Call, Receive}
 use Rattle.raft_engine.specs.StepResult.{RefusalReason, append, unchanged}
 use Rattle.raft_engine.specs.Frames.{request_start}
 use Rattle.raft_engine.specs.GroupStep.{group_step}
