@@ -120,3 +120,20 @@ fn snapshots_are_sent_and_answered(rt: HostRuntime) -> Result<(), Fail> {
     assert_eq!(rt; installed.vote, Vote::new(12, 3));
     Ok(())
 }
+
+#[test]
+fn entries_are_copied(rt: HostRuntime) -> Result<(), Fail> {
+    let mut entries: Entries<u64, BasicNode, u64> = Entries::new(rt.alloc());
+    for (index, amount) in [(1, 5), (2, 7)] {
+        entries.push(Entry {
+            log_id: id(11, 1, index),
+            payload: EntryPayload::Normal(amount),
+        })?;
+    }
+    let copies = entries.clone()?;
+    assert_eq!(rt; copies.len(), 2);
+    let last = copies.as_slice().last().ok_or("no entry")?;
+    assert_eq!(rt; last.log_id, id(11, 1, 2));
+    assert!(rt; matches!(&last.payload, EntryPayload::Normal(amount) if *amount == 7));
+    Ok(())
+}
