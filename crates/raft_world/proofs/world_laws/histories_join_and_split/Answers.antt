@@ -1,5 +1,5 @@
 use Rattle.raft_world.proofs.Histories.{histories-join, histories-split}
-use Rattle.raft_world.proofs.histories_join_and_split.Goals as goal
+use Rattle.raft_world.proofs.world_laws.histories_join_and_split.Goals as goal
 
 pub returns-clause-join : goal.returns-clause-join
 returns-clause-join c = histories-join
