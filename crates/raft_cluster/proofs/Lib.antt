@@ -1,0 +1,11 @@
+pub mod WordLemmas
+pub mod LineLemmas
+pub mod SessionLemmas
+pub mod OutputLemmas
+pub mod StepLemmas
+pub mod ReadingLemmas
+pub mod RunLemmas
+pub mod HistoryLemmas
+pub mod LawLemmas
+pub mod NodeLemmas
+pub mod ScriptStepLemmas

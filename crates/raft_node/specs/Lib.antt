@@ -1,3 +1,5 @@
-pub mod Machine
 pub mod Adding
 pub mod Fault
+pub mod Fold
+pub mod Machine
+pub mod MembershipFault

@@ -2,17 +2,15 @@
 ghost use Rattle.std.specs.Prelude.{◌≡◌};
 ghost use Rattle.raft_node.specs.Fault.{number_of, name_of};
 
+use raft_state::ChangeMembershipError;
 use thiserror::Error;
 
 /// Why a membership is refused (own).
 #[derive(Clone, Copy, Debug, PartialEq, Eq, Error)]
 pub enum MembershipFault {
-    /// A voter group has no voter.
-    #[error("a voter group is empty")]
-    EmptyGroup,
-    /// The voter with this id isn't among the nodes.
-    #[error("voter {0} isn't among the nodes")]
-    VoterWithoutNode(u64),
+    /// A voter group is empty, or a voter isn't among the nodes.
+    #[error(transparent)]
+    Invalid(ChangeMembershipError<u64>),
     /// There is no voter group.
     #[error("there is no voter group")]
     NoGroup,

@@ -2,3 +2,4 @@ pub mod PlaceLemmas
 pub mod MembershipLemmas
 pub mod CoherentLemmas
 pub mod RisingLemmas
+pub mod LawLemmas

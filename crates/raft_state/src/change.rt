@@ -12,7 +12,7 @@ use crate::change_members::ChangeMembers;
 use crate::error::ChangeMembershipError;
 use crate::has_id::HasId;
 use crate::id_set::IdSet;
-use crate::membership::Membership;
+use crate::membership::{Membership, is_voter};
 use crate::node::{Node, NodeId};
 use crate::node_map::NodeMap;
 use crate::voter_groups::VoterGroups;
@@ -37,13 +37,6 @@ impl<'a, NID: NodeId> HasId<NID> for Others<'a, NID> {
 struct Retained<'a, NID: NodeId> {
     old: &'a VoterGroups<NID>,
     new: &'a VoterGroups<NID>,
-}
-
-// Whether the id is in a voter group.
-fn is_voter<NID: NodeId>(groups: &VoterGroups<NID>, id: &NID) -> bool
-    ensures { result ≡ is_voter NID.eq groups.now id.now }
-{
-    groups.as_slice().iter().any(|group| group.contains(id))
 }
 
 impl<'a, NID: NodeId> HasId<NID> for Retained<'a, NID> {

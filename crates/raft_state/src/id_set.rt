@@ -116,6 +116,14 @@ impl<NID: NodeId> IdSet<NID> {
         Ok(set)
     }
 
+    // The set of ids that are in order already.
+    pub(crate) fn from_rising(ids: Vec<NID>) -> IdSet<NID>
+        requires { IsRising NID.cmp ids.items }
+        ensures { result ≡ ids.items }
+    {
+        IdSet { ids }
+    }
+
     /// Whether the set has no ids.
     pub fn is_empty(&self) -> bool
         ensures { result ≡ (length self.now == 0) }

@@ -64,7 +64,7 @@ fn insert_all<ID: NodeId>(set: &mut IdSet<ID>, ids: &[ID]) -> Result<(), AllocEr
 }
 
 // The ids of all children.
-fn all_ids<ID: NodeId, QS: QuorumSet<ID>>(
+pub(crate) fn all_ids<ID: NodeId, QS: QuorumSet<ID>>(
     alloc: Global,
     children: &[QS],
 ) -> Result<IdSet<ID>, AllocError>

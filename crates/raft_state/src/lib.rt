@@ -1,7 +1,8 @@
 //! The plain values of Raft: votes, log ids, entries, memberships and quorums.
 #![tactic(auto)]
 
-mod byte_string;
+pub mod byte_string;
+pub mod command;
 pub mod change;
 pub mod change_members;
 pub mod coherent;
@@ -9,7 +10,9 @@ pub mod entry;
 pub mod error;
 pub mod has_id;
 pub mod id_set;
+pub mod into_nodes;
 pub mod joint;
+pub mod laws;
 pub mod log_id;
 pub mod membership;
 pub mod node;
@@ -19,12 +22,14 @@ pub mod vote;
 pub mod voter_groups;
 
 pub use byte_string::Bytes;
+pub use command::Command;
 pub use change_members::ChangeMembers;
 pub use coherent::{Coherent, FindCoherent};
 pub use entry::{Entry, EntryPayload};
 pub use error::{ChangeMembershipError, EmptyMembership, InProgress, LearnerNotFound};
 pub use has_id::HasId;
 pub use id_set::IdSet;
+pub use into_nodes::IntoNodes;
 pub use joint::{AsJoint, Joint};
 pub use log_id::LogId;
 pub use membership::Membership;

@@ -1,14 +1,20 @@
 //! Memberships: voter groups, and nodes.
-ghost use Rattle.std.specs.Prelude.{◌≡◌, OnOk, IfErr};
+ghost use Rattle.std.specs.Option.{option_copied};
+ghost use Rattle.raft_state.specs.Nodes.{node_at};
+ghost use Rattle.raft_state.specs.Membership.{is_voter, voter_ids, learner_ids, filled_nodes};
+ghost use Rattle.std.specs.Prelude.{◌≡◌, ◌↔◌, ◌<◌, IsTrue, IfOk, length, not, OnOk, IfErr};
 ghost use Rattle.raft_state.specs.Membership.{first_missing, missing_voter, has_empty_group, lesser};
 ghost use Rattle.raft_state.specs.Validity.{validity_fault};
 
 use crate::error::{ChangeMembershipError, EmptyMembership, LearnerNotFound};
+use crate::has_id::HasId;
 use crate::id_set::IdSet;
+use crate::into_nodes::IntoNodes;
+use crate::joint::all_ids;
 use crate::node::{Node, NodeId};
 use crate::node_map::NodeMap;
 use crate::voter_groups::VoterGroups;
-use std::alloc::AllocError;
+use std::alloc::{AllocError, Global};
 use std::cmp::Ordering;
 
 /// The voter groups, and the nodes by their ids (openraft).
@@ -59,6 +65,27 @@ fn missing_voter<NID: NodeId, N: Node>(
     least
 }
 
+// Whether the id is in a voter group.
+pub(crate) fn is_voter<NID: NodeId>(groups: &VoterGroups<NID>, id: &NID) -> bool
+    ensures { result ≡ is_voter NID.eq groups.now id.now }
+{
+    groups.as_slice().iter().any(|group| group.contains(id))
+}
+
+// The ids that are in no voter group.
+#[derive(Drop)]
+struct Learners<'a, NID: NodeId> {
+    configs: &'a VoterGroups<NID>,
+}
+
+impl<'a, NID: NodeId> HasId<NID> for Learners<'a, NID> {
+    ghost has = { λ s id. not (is_voter NID.eq s.configs.now id) };
+
+    fn has_id(&self, id: &NID) -> bool {
+        !is_voter(self.configs, id)
+    }
+}
+
 impl<NID: NodeId, N: Node> Membership<NID, N> {
     /// The membership with just these voter groups and nodes (own).
     pub fn from_parts(configs: VoterGroups<NID>, nodes: NodeMap<NID, N>) -> Membership<NID, N>
@@ -79,6 +106,56 @@ impl<NID: NodeId, N: Node> Membership<NID, N> {
         ensures { result.now ≡ self.now.nodes }
     {
         self.nodes.as_slice()
+    }
+
+    /// The membership with these voter groups and nodes (openraft). A voter that isn't among the
+    /// nodes comes in as a node of which nothing is known.
+    pub fn new<T: IntoNodes<NID, N>>(
+        alloc: Global,
+        configs: Vec<IdSet<NID>>,
+        nodes: T,
+    ) -> Result<Membership<NID, N>, AllocError>
+        ensures { IfOk result (λ m. m ≡ record { configs = configs.items; nodes = filled_nodes NID.eq NID.cmp N.default_node configs.items (T.nodes nodes) }) }
+    {
+        let voters = all_ids(alloc, configs.as_slice())?;
+        let defaults: NodeMap<NID, N> = voters.into_nodes(alloc)?;
+        let nodes = nodes
+            .into_nodes(alloc)?
+            .with_new_nodes(defaults.as_slice())?;
+        Ok(Membership {
+            configs: VoterGroups::from(configs),
+            nodes,
+        })
+    }
+
+    /// Whether there is more than one voter group.
+    pub fn is_in_joint_consensus(&self) -> bool
+        ensures { IsTrue result ↔ (1 < length self.now.configs) }
+    {
+        self.configs.len() > 1
+    }
+
+    /// The ids of all voters.
+    pub fn voter_ids(&self) -> Result<IdSet<NID>, AllocError>
+        ensures { IfOk result (λ ids. ids ≡ voter_ids NID.cmp self.now.configs) }
+    {
+        all_ids(self.configs.allocator(), self.configs.as_slice())
+    }
+
+    /// The ids of the nodes that are no voters.
+    pub fn learner_ids(&self) -> Result<IdSet<NID>, AllocError>
+        ensures { IfOk result (λ ids. ids ≡ learner_ids NID.eq self.now.configs self.now.nodes) }
+    {
+        self.nodes.ids()?.filtered(&Learners {
+            configs: &self.configs,
+        })
+    }
+
+    /// The node with the id.
+    pub fn get_node(&self, node_id: &NID) -> Option<&N>
+        ensures { option_copied result ≡ node_at NID.eq self.now.nodes node_id.now }
+    {
+        self.nodes.get(node_id)
     }
 
     // Whether a voter group has nobody.

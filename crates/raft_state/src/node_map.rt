@@ -2,14 +2,15 @@
 ghost use Rattle.std.specs.Prelude.{◌≡◌, ◌+◌, ◌<◌, ◌≤◌, ◌&&◌, [], map, length, IfOk, OnOk, OnErr, MatchResult, MatchOption};
 ghost use Rattle.std.specs.List.{filter};
 ghost use Rattle.std.specs.Option.{option_copied};
-ghost use Rattle.raft_state.specs.Nodes.{has_node, node_at, with_node};
-ghost use Rattle.raft_state.specs.MembershipChange.{with_nodes, with_new_node, with_new_nodes};
+ghost use Rattle.raft_state.specs.Nodes.{has_node, node_at, with_node, with_new_node, with_new_nodes};
+ghost use Rattle.raft_state.specs.MembershipChange.{with_nodes};
 ghost use Rattle.raft_state.specs.Rising.{IsRisingByFirst};
 ghost use Rattle.raft_state.specs.Place.{place};
 ghost use Rattle.std.specs.Cmp.Lexicographic.{pointwise, lists_per, lists_equiv};
 ghost use Rattle.std.specs.Cmp.{and_per, on_per, and_equiv, on_equiv};
 
 use crate::has_id::HasId;
+use crate::id_set::IdSet;
 use crate::node::{Node, NodeId};
 use std::alloc::{AllocError, Global};
 use std::cmp::Ordering;
@@ -87,6 +88,20 @@ fn filter_nodes<NID: NodeId, N: Node, S: HasId<NID>>(
     Ok(kept)
 }
 
+// The ids of the nodes.
+fn first_ids<NID: NodeId, N: Node>(
+    alloc: Global,
+    nodes: &[(NID, N)],
+) -> Result<Vec<NID>, AllocError>
+    ensures { IfOk result (λ ids. ids.items ≡ map (λ (x : NID × N). x.0) nodes.now) }
+{
+    let mut ids = Vec::new(alloc);
+    for (id, _) in nodes {
+        ids.push(*id)?;
+    }
+    Ok(ids)
+}
+
 impl<NID: NodeId, N: Node> NodeMap<NID, N> {
     /// No nodes.
     pub fn new(alloc: Global) -> NodeMap<NID, N>
@@ -131,15 +146,20 @@ impl<NID: NodeId, N: Node> NodeMap<NID, N> {
         None
     }
 
-    /// The ids, rising.
-    pub fn ids(&self) -> Result<Vec<NID>, AllocError>
-        ensures { IfOk result (λ ids. ids.items ≡ map (λ (x : NID × N). x.0) self.now) }
+    /// The ids.
+    pub fn ids(&self) -> Result<IdSet<NID>, AllocError>
+        ensures { IfOk result (λ ids. ids ≡ map (λ (x : NID × N). x.0) self.now) }
     {
-        let mut ids = Vec::new(self.allocator());
-        for (id, _) in self.as_slice() {
-            ids.push(*id)?;
-        }
-        Ok(ids)
+        let ids = first_ids(self.allocator(), self.as_slice())?;
+        Ok(IdSet::from_rising(ids))
+    }
+
+    // The map of nodes that are in order already.
+    pub(crate) fn from_rising(nodes: Vec<(NID, N)>) -> NodeMap<NID, N>
+        requires { IsRisingByFirst NID.cmp nodes.items }
+        ensures { result ≡ nodes.items }
+    {
+        NodeMap { nodes }
     }
 
     // What the map takes its memory from.

@@ -118,3 +118,11 @@ impl<NID: NodeId> PartialEq for VoterGroups<NID> {
 impl<NID: NodeId> Eq for VoterGroups<NID> {
     ghost laws = { lists_equiv (lists_equiv NID.Eq.laws) };
 }
+
+impl<NID: NodeId> From<Vec<IdSet<NID>>> for VoterGroups<NID> {
+    ghost from_gives = { λ groups made. made ≡ groups.items };
+
+    fn from(groups: Vec<IdSet<NID>>) -> VoterGroups<NID> {
+        VoterGroups { groups }
+    }
+}

@@ -1,0 +1,79 @@
+-- What a line of a script says: a word, and numbers after it.
+use Rattle.std.specs.Prelude.{ℕ, Bool, ◌^◌, ◌==◌, ◌||◌, ◌&&◌, not, nat_lt, if◌then◌else◌, List, [], ◌∷◌, length, Option, Some, None, codes}
+use Rattle.std.specs.List.{slice_split}
+use Rattle.std.specs.Str.{all_ascii_digits, bytes_eq, is_utf8}
+use Rattle.std.specs.Str.Parse.{digits_value}
+use Rattle.raft_cluster.specs.declared.script.line.Line.{Line}
+use Rattle.raft_cluster.specs.declared.script.line.Line.TheVariants.{Skipped, Nodes, Add, Init, Propose, Total}
+use Rattle.raft_cluster.specs.declared.script.line.Verb.{Verb}
+use Rattle.raft_cluster.specs.declared.script.line.Verb.TheVariants as verbs
+
+-- the words of a line: each space parts two words, which may be empty
+abbrev pub words_of : List ℕ → List (List ℕ)
+words_of line = slice_split (λ byte. byte == 32) line
+
+-- a word names a number if it is decimal digits, at least one, and the number is below 2^64
+abbrev pub is_numeral : List ℕ → Bool
+is_numeral word = all_ascii_digits word && (nat_lt 0 (length word) && nat_lt (digits_value 10 word) (2 ^ 64))
+
+abbrev pub number_of : List ℕ → Option ℕ
+number_of word = if is_numeral word then Some (digits_value 10 word) else None
+
+abbrev pub both : Option ℕ → Option (List ℕ) → Option (List ℕ)
+both (Some number) (Some numbers) = Some (number ∷ numbers)
+both (Some number) None = None
+both None others = None
+
+-- the numbers that these words name, where each of them names one
+abbrev pub numbers_of : List (List ℕ) → Option (List ℕ)
+numbers_of [] = Some []
+numbers_of (word ∷ words) = both (number_of word) (numbers_of words)
+
+abbrev pub verb_of : List ℕ → Option Verb
+verb_of word =
+    if bytes_eq word (codes "nodes") then Some verbs.Nodes
+    else (if bytes_eq word (codes "add") then Some verbs.Add
+    else (if bytes_eq word (codes "init") then Some verbs.Init
+    else (if bytes_eq word (codes "propose") then Some verbs.Propose
+    else (if bytes_eq word (codes "total") then Some verbs.Total else None))))
+
+-- a line is for the one node, 1
+abbrev pub where_one : ℕ → Line → Option Line
+where_one number line = if number == 1 then Some line else None
+
+-- the line with this verb and these numbers
+abbrev pub line_with : Verb → List ℕ → Option Line
+line_with verbs.Nodes (count ∷ []) = where_one count Nodes
+line_with verbs.Nodes numbers = None
+line_with verbs.Add (node ∷ group ∷ []) = where_one node (Add node group)
+line_with verbs.Add numbers = None
+line_with verbs.Init (node ∷ group ∷ voter ∷ []) = if voter == 1 then where_one node (Init node group) else None
+line_with verbs.Init numbers = None
+line_with verbs.Propose (node ∷ group ∷ amount ∷ []) = where_one node (Propose node group amount)
+line_with verbs.Propose numbers = None
+line_with verbs.Total (node ∷ group ∷ []) = where_one node (Total node group)
+line_with verbs.Total numbers = None
+
+abbrev pub line_from : Option Verb → Option (List ℕ) → Option Line
+line_from (Some verb) (Some numbers) = line_with verb numbers
+line_from (Some verb) None = None
+line_from None numbers = None
+
+-- a verb, and numbers
+abbrev pub said_by_words : List (List ℕ) → Option Line
+said_by_words [] = None
+said_by_words (word ∷ words) = line_from (verb_of word) (numbers_of words)
+
+-- an empty line and a comment are skipped
+abbrev pub said_by : List ℕ → Option Line
+said_by [] = Some Skipped
+said_by (byte ∷ bytes) = if byte == 35 then Some Skipped else said_by_words (words_of (byte ∷ bytes))
+
+-- what a line says: nothing if it is longer than 65,536 bytes or no text
+unfoldable pub line_of : List ℕ → Option Line
+line_of line = if nat_lt 65536 (length line) || not (is_utf8 line) then None else said_by line
+
+-- the words after the one that a space ends
+abbrev pub words_after : Option (List ℕ) → List (List ℕ)
+words_after None = []
+words_after (Some text) = words_of text
