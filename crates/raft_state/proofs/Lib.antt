@@ -3,3 +3,4 @@ pub mod MembershipLemmas
 pub mod CoherentLemmas
 pub mod RisingLemmas
 pub mod LawLemmas
+pub mod ReplaceLemmas

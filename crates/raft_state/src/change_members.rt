@@ -1,4 +1,6 @@
 //! What a change of a membership asks for.
+ghost use Rattle.std.specs.Prelude.{◌≡◌};
+ghost use Rattle.raft_state.specs.declared.change_members.ChangeMembers.TheVariants.{ReplaceAllVoters};
 
 use crate::id_set::IdSet;
 use crate::node::{Node, NodeId};
@@ -23,4 +25,13 @@ pub enum ChangeMembers<NID: NodeId, N: Node> {
     RemoveNodes(IdSet<NID>),
     /// The nodes are just these.
     ReplaceAllNodes(NodeMap<NID, N>),
+}
+
+// The ids alone stand for a change to just these voters.
+impl<NID: NodeId, N: Node> From<IdSet<NID>> for ChangeMembers<NID, N> {
+    ghost from_gives = { λ ids change. change ≡ ReplaceAllVoters ids };
+
+    fn from(ids: IdSet<NID>) -> ChangeMembers<NID, N> {
+        ChangeMembers::ReplaceAllVoters(ids)
+    }
 }

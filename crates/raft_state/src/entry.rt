@@ -5,6 +5,7 @@ use crate::log_id::LogId;
 use crate::membership::Membership;
 use crate::node::{Node, NodeId};
 use std::alloc::AllocError;
+use std::fmt::{self, Debug, Display};
 
 /// What an entry asks for (openraft).
 #[derive(Debug, Drop, PartialEq, Eq)]
@@ -46,5 +47,23 @@ impl<NID: NodeId, N: Node, D: Clone> Clone for Entry<NID, N, D> {
             log_id: self.log_id,
             payload: self.payload.clone()?,
         })
+    }
+}
+
+impl<NID: NodeId, N: Node, D: Debug> Display for EntryPayload<NID, N, D> {
+    fn fmt<W: fmt::Write>(&self, f: &mut fmt::Formatter<W>) -> fmt::Result {
+        match self {
+            EntryPayload::Blank => write!(f, "blank"),
+            EntryPayload::Normal(command) => write!(f, "normal: {command:?}"),
+            EntryPayload::Membership(membership) => write!(f, "membership: {membership}"),
+        }
+    }
+}
+
+impl<NID: NodeId, N: Node, D: Debug> Display for Entry<NID, N, D> {
+    fn fmt<W: fmt::Write>(&self, f: &mut fmt::Formatter<W>) -> fmt::Result {
+        let log_id = &self.log_id;
+        let payload = &self.payload;
+        write!(f, "{log_id}:{payload}")
     }
 }

@@ -47,7 +47,10 @@ impl<ID, QS> From<Vec<QS>> for Joint<ID, QS, Vec<QS>> {
 }
 
 // Whether the set is a quorum of each child.
-fn all_accept<ID: NodeId, QS: QuorumSet<ID>, S: HasId<ID>>(children: &[QS], nodes: &S) -> bool
+pub(crate) fn all_accept<ID: NodeId, QS: QuorumSet<ID>, S: HasId<ID>>(
+    children: &[QS],
+    nodes: &S,
+) -> bool
     ensures { result ≡ list_all (λ q. QS.accepts q (S.has nodes.now)) children.now }
 {
     children.iter().all(|child| child.is_quorum(nodes))

@@ -1,12 +1,15 @@
 //! Laws of memberships and quorums. Each function does nothing: its contract is the law.
-ghost use Rattle.std.specs.Prelude.{◌≡◌, ◌<◌, Bool, length, true, IsTrue};
+ghost use Rattle.std.specs.Prelude.{◌≡◌, ◌<◌, ◌∷◌, [], None, Bool, length, true, IsTrue};
 ghost use Rattle.std.specs.Cmp.Lexicographic.{pointwise};
-ghost use Rattle.raft_state.specs.Membership.{is_voter};
+ghost use Rattle.raft_state.specs.Membership.{first_missing, is_voter};
+ghost use Rattle.raft_state.specs.Validity.{validity_fault};
+ghost use Rattle.raft_state.specs.declared.change_members.ChangeMembers.TheVariants.{ReplaceAllVoters};
 ghost use Rattle.raft_state.specs.MembershipChange.{changed};
 ghost use Rattle.raft_state.specs.declared.change_members.ChangeMembers.{ChangeMembers as Change};
 ghost use Rattle.raft_state.specs.Quorum.{IsQuorum, share_config};
 ghost use Rattle.raft_state.specs.QuorumLaws.{IsWithin};
 
+use crate::id_set::IdSet;
 use crate::membership::Membership;
 use crate::node::{Node, NodeId};
 
@@ -32,4 +35,19 @@ pub fn changes_are_coherent<NID: NodeId, N: Node>(membership: &Membership<NID, N
     ensures { (change : Change NID N) (retain : Bool) → IsTrue (share_config (pointwise NID.eq) membership.now.configs (changed NID.eq NID.cmp membership.now change retain).configs) }
 {
     let _ = membership;
+}
+
+/// From a valid membership, replacing all voters by a group of its nodes is done after at most two
+/// changes, and both are accepted (memory aside).
+pub fn voters_are_replaced_in_two_changes<NID: NodeId, N: Node>(
+    membership: &Membership<NID, N>,
+    goal: &IdSet<NID>,
+)
+    requires valid { validity_fault NID.eq NID.cmp membership.now.configs membership.now.nodes ≡ None }
+    requires some { 0 < length goal.now }
+    requires present { first_missing NID.eq membership.now.nodes goal.now ≡ None }
+    ensures { (retain : Bool) → let once = changed NID.eq NID.cmp membership.now (ReplaceAllVoters goal.now) retain in let twice = changed NID.eq NID.cmp once (ReplaceAllVoters goal.now) retain in (validity_fault NID.eq NID.cmp once.configs once.nodes ≡ None) × (validity_fault NID.eq NID.cmp twice.configs twice.nodes ≡ None) × (twice.configs ≡ goal.now ∷ []) }
+{
+    let _ = membership;
+    let _ = goal;
 }

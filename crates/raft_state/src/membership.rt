@@ -4,18 +4,22 @@ ghost use Rattle.raft_state.specs.Nodes.{node_at};
 ghost use Rattle.raft_state.specs.Membership.{is_voter, voter_ids, learner_ids, filled_nodes};
 ghost use Rattle.std.specs.Prelude.{◌≡◌, ◌↔◌, ◌<◌, IsTrue, IfOk, length, not, OnOk, IfErr};
 ghost use Rattle.raft_state.specs.Membership.{first_missing, missing_voter, has_empty_group, lesser};
+ghost use Rattle.raft_state.specs.Quorum.{is_quorum};
+ghost use Rattle.raft_state.specs.QuorumLaws.{wider_quorum};
 ghost use Rattle.raft_state.specs.Validity.{validity_fault};
 
 use crate::error::{ChangeMembershipError, EmptyMembership, LearnerNotFound};
 use crate::has_id::HasId;
 use crate::id_set::IdSet;
 use crate::into_nodes::IntoNodes;
-use crate::joint::all_ids;
+use crate::joint::{all_accept, all_ids};
 use crate::node::{Node, NodeId};
 use crate::node_map::NodeMap;
+use crate::quorum_set::QuorumSet;
 use crate::voter_groups::VoterGroups;
 use std::alloc::{AllocError, Global};
 use std::cmp::Ordering;
+use std::fmt::{self, Display};
 
 /// The voter groups, and the nodes by their ids (openraft).
 /// A node in no voter group is a learner; more than one voter group is a joint config.
@@ -151,6 +155,13 @@ impl<NID: NodeId, N: Node> Membership<NID, N> {
         })
     }
 
+    /// Whether the node is in a voter group.
+    pub fn is_voter(&self, node_id: &NID) -> bool
+        ensures { result ≡ is_voter NID.eq self.now.configs node_id.now }
+    {
+        is_voter(&self.configs, node_id)
+    }
+
     /// The node with the id.
     pub fn get_node(&self, node_id: &NID) -> Option<&N>
         ensures { option_copied result ≡ node_at NID.eq self.now.nodes node_id.now }
@@ -191,5 +202,30 @@ impl<NID: NodeId, N: Node> Clone for Membership<NID, N> {
             configs: self.configs.clone()?,
             nodes: self.nodes.clone()?,
         })
+    }
+}
+
+// A quorum has more than half of each voter group.
+impl<NID: NodeId, N: Node> QuorumSet<NID> for Membership<NID, N> {
+    ghost accepts = { λ m p. is_quorum m.configs p };
+
+    ghost members = { λ m. voter_ids NID.cmp m.configs };
+
+    fn is_quorum<S: HasId<NID>>(&self, nodes: &S) -> bool {
+        all_accept(self.configs.as_slice(), nodes)
+    }
+
+    fn ids(&self, _alloc: Global) -> Result<IdSet<NID>, AllocError> {
+        self.voter_ids()
+    }
+
+    ghost superset = { λ m p r wider h. wider_quorum p r wider m.configs h };
+}
+
+impl<NID: NodeId, N: Node> Display for Membership<NID, N> {
+    fn fmt<W: fmt::Write>(&self, f: &mut fmt::Formatter<W>) -> fmt::Result {
+        let configs = self.configs.as_slice();
+        let nodes = self.nodes.as_slice();
+        write!(f, "{{voters:{configs:?}, nodes:{nodes:?}}}")
     }
 }
