@@ -1,9 +1,10 @@
 -- Logs, the order of their last entries, and what an append request does to one.
+use Rattle.raft_state.specs.Entry.{EntryPayload}
 use Rattle.std.specs.Prelude.{ℕ, zero, suc, ◌==◌, ◌&&◌, ◌||◌, nat_lt, nat_le, if◌then◌else◌, Bool, true, false, List, [], ◌∷◌, length, slice_get, Option, Some, None}
 
 -- what an entry says; ballots never look at it
 abbrev pub Payload : Type 0
-Payload = ℕ
+Payload = EntryPayload
 
 -- an entry: the ballot of the leader that wrote it, and what it says. Its index is its place in the log
 pub record BallotEntry : Type 0 where

@@ -154,7 +154,7 @@ won w n =
       lead = with_value w.lead (w.node n).ballot (w.node n).log;
     }
 
-abbrev pub written : BallotWorld → ℕ → ℕ → BallotWorld
+abbrev pub written : BallotWorld → ℕ → Payload → BallotWorld
 written w n payload =
     let b = (w.node n).ballot in
     let log = (w.node n).log ++ record { ballot = b; payload = payload } ∷ [] in

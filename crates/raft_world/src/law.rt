@@ -1,0 +1,13 @@
+//! The law of the one list, over every history that replays.
+
+ghost use Rattle.std.specs.Prelude.{◌≡◌, ℕ};
+ghost use Rattle.raft_engine.specs.GroupState.{GroupState};
+ghost use Rattle.raft_engine.specs.GroupEvent.{GroupEvent};
+ghost use Rattle.raft_engine.specs.GroupStep.{group_step};
+ghost use Rattle.raft_world.specs.StoringOrder.{StoresInOrder};
+
+/// What a step has stored is what its storing commands make of the group, one after the other. None of them puts a
+/// lesser vote in place of a greater, and none cuts the log at or below the committed place.
+pub fn step_stores_its_commands()
+    ensures { (own : ℕ) (s : GroupState) (e : GroupEvent) → StoresInOrder s.committed s.stored (group_step own s e) }
+{}
