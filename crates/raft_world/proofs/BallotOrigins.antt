@@ -4,7 +4,7 @@ use Rattle.std.specs.Prelude.{slice_get, ◌⊎◌}
 use Rattle.std.proofs.lemmas.Bool.{or_left, and_from, cond-true, cond_both, and_parts, not-true}
 use Rattle.raft_world.specs.BallotLogs.{Payload, BallotEntry, holds_before}
 use Rattle.raft_world.specs.BallotQuorum.{is_quorum}
-use Rattle.raft_world.specs.BallotWorld.{BallotGroup, BallotRequest, BallotAppend, BallotWorld, BallotEvent, FoundGroup, StandForElection, TakeRequest, RaiseVote, WinElection, WriteEntry, CommitPlace, SendEntries, TakeEntries, CutForEntries, CutForSnapshot, ForgetCommitted, ballot_start, has_granted, ballot_accepted, is_ballot_leader, is_ballot_candidate, can_raise, founded, elected, granted, won, written, committed_to, sent, taken, cut, dropped, raised, request_comes, append_comes, cut_comes, drop_comes, ballot_step, ballot_run}
+use Rattle.raft_world.specs.BallotWorld.{BallotGroup, BallotRequest, BallotAppend, BallotWorld, BallotEvent, FoundGroup, StandForElection, TakeRequest, RaiseVote, WinElection, WriteEntry, CommitPlace, SendEntries, TakeEntries, CutForEntries, CutForSnapshot, CutForConflict, ForgetCommitted, ballot_start, has_granted, ballot_accepted, is_ballot_leader, is_ballot_candidate, can_raise, founded, elected, granted, won, written, committed_to, sent, taken, cut, dropped, cut_before, raised, request_comes, append_comes, cut_comes, drop_comes, conflict_comes, ballot_step, ballot_run}
 use Rattle.raft_world.specs.BallotOrigin.{IsBallotWritten}
 use Rattle.raft_world.proofs.BallotAgreement.{with_value_cases}
 use Rattle.raft_world.proofs.BallotSafe.{Safe}
@@ -48,6 +48,10 @@ module _ (g : BallotGroup) (some : 0 < length g.voters) where
     from_drop e None n = record { by = λ h. inl h }
     from_drop e (Some a) n = if_from e _ (dropped w n a) (λ t. record { by = λ h. inl h })
 
+    from_conflict : (e : BallotEvent) (o : Option BallotAppend) (n : ℕ) → From e (conflict_comes g w o n)
+    from_conflict e None n = record { by = λ h. inl h }
+    from_conflict e (Some a) n = if_from e _ (cut_before w n a) (λ t. record { by = λ h. inl h })
+
     from_won : (n : ℕ) → is_ballot_candidate g n (w.node n) ≡ true → From (WinElection n) (won w n)
     from_won n t =
         let mine = and_parts (not (w.node n).committed) (eqb (g.owner (w.node n).ballot) n) t in
@@ -86,6 +90,7 @@ module _ (g : BallotGroup) (some : 0 < length g.voters) where
     step_from (TakeEntries k n) = from_append _ (slice_get w.appends k) n
     step_from (CutForEntries k n) = from_cut _ (slice_get w.appends k) n
     step_from (CutForSnapshot k n) = from_drop _ (slice_get w.appends k) n
+    step_from (CutForConflict k n) = from_conflict _ (slice_get w.appends k) n
     step_from (ForgetCommitted n commit) = record { by = λ h. inl h }
 
   run_from : (es : List BallotEvent) (w : BallotWorld) → Safe g w → (i : ℕ) (x : BallotEntry) → 0 < x.ballot → slice_get ((ballot_run g es w).lead x.ballot) i ≡ Some x → (slice_get (w.lead x.ballot) i ≡ Some x) ⊎ IsBallotWritten g es w i x

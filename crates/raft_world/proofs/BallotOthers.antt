@@ -3,7 +3,7 @@ use Rattle.std.proofs.Common.{◌≡◌, ℕ, List, [], ◌∷◌, Option, Some,
 use Rattle.std.specs.Prelude.{slice_get}
 use Rattle.std.proofs.lemmas.Bool.{cond_both}
 use Rattle.raft_world.specs.BallotLogs.{holds_before}
-use Rattle.raft_world.specs.BallotWorld.{BallotGroup, BallotNode, BallotRequest, BallotGrant, BallotAppend, BallotReply, BallotWorld, BallotEvent, FoundGroup, StandForElection, TakeRequest, RaiseVote, WinElection, WriteEntry, CommitPlace, SendEntries, TakeEntries, CutForEntries, CutForSnapshot, ForgetCommitted, moved, can_raise, founded, elected, granted, raised, won, written, committed_to, sent, taken, cut, dropped, request_comes, append_comes, cut_comes, drop_comes, ballot_step, ballot_run}
+use Rattle.raft_world.specs.BallotWorld.{BallotGroup, BallotNode, BallotRequest, BallotGrant, BallotAppend, BallotReply, BallotWorld, BallotEvent, FoundGroup, StandForElection, TakeRequest, RaiseVote, WinElection, WriteEntry, CommitPlace, SendEntries, TakeEntries, CutForEntries, CutForSnapshot, CutForConflict, ForgetCommitted, moved, can_raise, founded, elected, granted, raised, won, written, committed_to, sent, taken, cut, dropped, cut_before, request_comes, append_comes, cut_comes, drop_comes, conflict_comes, ballot_step, ballot_run}
 use Rattle.raft_world.specs.BallotOrigin.{actor}
 use Rattle.raft_world.proofs.BallotAgreement.{with_value_other}
 use Rattle.raft_world.proofs.BallotSafe.{Among}
@@ -58,6 +58,10 @@ module _ (g : BallotGroup) (w : BallotWorld) (n : ℕ) where
   drop_extends None = extends_refl n w
   drop_extends (Some a) = if_extends _ (dropped w n a) (extends_moved w n _)
 
+  conflict_extends : (o : Option BallotAppend) → Extends n w (conflict_comes g w o n)
+  conflict_extends None = extends_refl n w
+  conflict_extends (Some a) = if_extends _ (cut_before w n a) (extends_moved w n _)
+
 pub happens_extends : (g : BallotGroup) (w : BallotWorld) (e : BallotEvent) → Extends (actor e) w (ballot_step g w e)
 happens_extends g w (FoundGroup n) = if_extends g w n _ (founded g w n) (extends_moved w n _)
 happens_extends g w (StandForElection n b) =
@@ -74,6 +78,7 @@ happens_extends g w (SendEntries n start count commit) =
 happens_extends g w (TakeEntries k n) = append_extends g w n (slice_get w.appends k)
 happens_extends g w (CutForEntries k n) = cut_extends g w n (slice_get w.appends k)
 happens_extends g w (CutForSnapshot k n) = drop_extends g w n (slice_get w.appends k)
+happens_extends g w (CutForConflict k n) = conflict_extends g w n (slice_get w.appends k)
 happens_extends g w (ForgetCommitted n commit) = extends_moved w n _
 
 -- all events are of this node

@@ -5,7 +5,7 @@ use Rattle.std.proofs.lemmas.Bool.{or_cases, and_parts, cond_both, eqb-false, no
 use Rattle.raft_world.specs.BallotLists.{AgreeBelow}
 use Rattle.raft_world.specs.BallotLogs.{BallotEntry, log_end, is_at_least, holds_before, ballot_before}
 use Rattle.raft_world.specs.BallotQuorum.{is_quorum}
-use Rattle.raft_world.specs.BallotWorld.{BallotGroup, BallotNode, BallotRequest, BallotAppend, BallotWorld, BallotEvent, FoundGroup, StandForElection, TakeRequest, RaiseVote, WinElection, WriteEntry, CommitPlace, SendEntries, TakeEntries, CutForEntries, CutForSnapshot, ForgetCommitted, ballot_start, first_entry, has_granted, is_ballot_settled, is_ballot_leader, is_ballot_candidate, is_empty, can_grant, can_raise, drops, founded, raised, elected, granted, won, written, committed_to, sent, taken, cut, dropped, request_comes, append_comes, cut_comes, drop_comes, ballot_step, ballot_run}
+use Rattle.raft_world.specs.BallotWorld.{BallotGroup, BallotNode, BallotRequest, BallotAppend, BallotWorld, BallotEvent, FoundGroup, StandForElection, TakeRequest, RaiseVote, WinElection, WriteEntry, CommitPlace, SendEntries, TakeEntries, CutForEntries, CutForSnapshot, CutForConflict, ForgetCommitted, ballot_start, first_entry, has_granted, is_ballot_settled, is_ballot_leader, is_ballot_candidate, is_empty, can_grant, can_raise, drops, conflicts, founded, raised, elected, granted, won, written, committed_to, sent, taken, cut, dropped, cut_before, request_comes, append_comes, cut_comes, drop_comes, conflict_comes, ballot_step, ballot_run}
 use Rattle.raft_world.proofs.BallotAgreement.{agree_refl, same_some, with_value_cases, with_value_other}
 use Rattle.raft_world.proofs.BallotSafe.{Among, among_at, GoodLog, Safe}
 use Rattle.raft_world.proofs.BallotStep.{Next, next, later_refl, later_trans}
@@ -129,6 +129,18 @@ module _ (g : BallotGroup) (some : 0 < length g.voters) where
       let last = and_parts (nat_le (length a.entries) a.commit) (not held) more.1 in
       next ok (BallotShorten.shows_dropped g w n a (among a refl) other.0 other.1 ok (eqb-true a.start 0 more.0) (leb-true (length a.entries) a.commit last.0) (not-true held last.1)))
 
+  conflict_next : (w : BallotWorld) (o : Option BallotAppend) (n : ℕ) → ((a : BallotAppend) → o ≡ Some a → Among a w.appends) → Safe g w → Next g w (conflict_comes g w o n)
+  conflict_next w None n among ok = stay w ok
+  conflict_next w (Some a) n among ok =
+      may_stay _ w (cut_before w n a) ok
+      (λ t.
+      let parts = and_parts (can_raise g n (w.node n) a.ballot) (conflicts (w.node n) a) t in
+      let other = raise_parts (w.node n) n a.ballot parts.0 in
+      let held = holds_before (w.node n).log a.start a.previous in
+      let more = and_parts (nat_lt (w.node n).commit a.start) (nat_le a.start (length (w.node n).log) && not held) parts.1 in
+      let last = and_parts (nat_le a.start (length (w.node n).log)) (not held) more.1 in
+      next ok (BallotShorten.shows_cut_before g w n a (among a refl) other.0 other.1 ok (ltb-true (w.node n).commit a.start more.0) (leb-true a.start (length (w.node n).log) last.0) (not-true held last.1)))
+
   pub leader_parts : (s : BallotNode) (n : ℕ) → is_ballot_leader g n s ≡ true → (s.committed ≡ true) × (0 < s.ballot) × (g.owner s.ballot ≡ n)
   leader_parts s n t =
       let parts = and_parts s.committed (nat_lt 0 s.ballot && eqb (g.owner s.ballot) n) t in
@@ -179,6 +191,7 @@ module _ (g : BallotGroup) (some : 0 < length g.voters) where
   happens_next w (TakeEntries k n) ok = append_next w (slice_get w.appends k) n (λ a e. among_at w.appends k a e) ok
   happens_next w (CutForEntries k n) ok = cut_next w (slice_get w.appends k) n (λ a e. among_at w.appends k a e) ok
   happens_next w (CutForSnapshot k n) ok = drop_next w (slice_get w.appends k) n (λ a e. among_at w.appends k a e) ok
+  happens_next w (CutForConflict k n) ok = conflict_next w (slice_get w.appends k) n (λ a e. among_at w.appends k a e) ok
   happens_next w (ForgetCommitted n commit) ok = next ok (BallotSmall.shows_forgotten g w n ok commit)
 
   pub run_next : (w : BallotWorld) (es : List BallotEvent) → Safe g w → Next g w (ballot_run g es w)

@@ -1,11 +1,11 @@
 -- A node cuts its log, and stops there.
-use Rattle.std.proofs.Common.{◌≡◌, ℕ, suc, ◌<◌, ◌≤◌, length, take, drop, true, false, refl, sym, ◌∙◌, subst, arith, inl, inr, ⊎_elim}
+use Rattle.std.proofs.Common.{◌≡◌, ℕ, suc, ◌-◌, ◌<◌, ◌≤◌, length, take, drop, true, false, refl, sym, ◌∙◌, subst, arith, inl, inr, ⊎_elim}
 use Rattle.std.specs.Prelude.{◌⊎◌}
 use Rattle.std.proofs.lemmas.Bool.{cases_lt}
 use Rattle.std.proofs.lemmas.List.{length-take-le}
 use Rattle.raft_world.specs.BallotLists.{AgreeBelow}
 use Rattle.raft_world.specs.BallotLogs.{holds_before, ballot_before, cut_from}
-use Rattle.raft_world.specs.BallotWorld.{BallotGroup, BallotAppend, BallotWorld, cut, dropped}
+use Rattle.raft_world.specs.BallotWorld.{BallotGroup, BallotAppend, BallotWorld, cut, dropped, cut_before, conflicts}
 use Rattle.raft_world.proofs.BallotAgreement.{agree_sym, agree_trans, agree_less, agree_take, with_value_cases}
 use Rattle.raft_world.proofs.BallotMerging.{CutAt, cut_from_at, holds_front}
 use Rattle.raft_world.proofs.BallotSafe.{Among, IsOpen, Covered, SureBy, Sure, Safe}
@@ -126,3 +126,56 @@ module _ (g : BallotGroup) (w : BallotWorld) (n : ℕ) (a : BallotAppend) (was :
     shows_dropped =
         BallotQuiet.shows g w n _ le ok keeps'
         (BallotQuiet.stranger ok refl o le (good_front _ (w.node n).log front (good_on grows' a.ballot le (ok.node n).log)) sure')
+
+  -- another entry stands before the append's place
+  module _ (above : (w.node n).commit < a.start) (within : a.start ≤ length (w.node n).log) (other : holds_before (w.node n).log a.start a.previous ≡ false) where
+    short : (k : ℕ) → k ≤ a.start - 1 → AgreeBelow k (take (a.start - 1) (w.node n).log) (w.node n).log
+    short k l =
+        let size = length-take-le (a.start - 1) (w.node n).log (omega arith) in
+        agree_less k (omega arith) (agree_take (a.start - 1) (w.node n).log)
+
+    grows'' : Grows g n w (cut_before w n a)
+    grows'' = BallotQuiet.grows g w n _ le ok
+
+    -- what may be settled and is held lies below that entry, since the leader holds it too
+    before : (v i : ℕ) → i < length (w.lead v) → v ≤ (w.node n).ballot → IsOpen g w v i → AgreeBelow (suc i) (w.node n).log (w.lead v) → suc i ≤ a.start - 1
+    before v i l low open' h =
+        ⊎_elim
+        (λ e. omega arith)
+        (λ e.
+        let both = agree_trans h (agree_sym (leader_holds g w n a was o le ok v i (omega arith) open' l)) in
+        let front = holds_front a.start (w.node n).log (w.lead a.ballot) (agree_less a.start (omega arith) both) in
+        let holds = subst (λ p. holds_before (w.node n).log a.start p ≡ true) (sym (ok.appends a was).previous) front in
+        absurd (let e : true ≡ false = sym holds ∙ other in cc))
+        (cases_lt (suc i) a.start)
+
+    keeps'' : Keeps g w (cut_before w n a)
+    keeps'' =
+        record {
+          keeps = λ m v i l led open' h.
+              with_value_cases w.node n _ m (λ x. AgreeBelow (suc i) x.log (w.lead v) ⊎ Covered g w x.ballot i)
+              (λ e.
+              let here = subst (λ k. AgreeBelow (suc i) (w.node k).log (w.lead v)) e h in
+              let low = before v i h.right (subst (λ k. v ≤ (w.node k).ballot) e l) open' here in
+              inl (agree_trans (short (suc i) low) here))
+              (λ ne. inl h);
+        }
+
+    sure'' : Sure g (cut_before w n a) a.ballot (w.node n).commit (take (a.start - 1) (w.node n).log)
+    sure'' =
+        ⊎_elim
+        (λ none. inl none)
+        (λ c. inr (record {
+          ballot = c.ballot;
+          place = c.place;
+          below = omega (arith, c.below);
+          upto = c.upto;
+          fixed = fixed_on grows'' c.fixed;
+          agrees = agree_trans (short (w.node n).commit (omega arith)) c.agrees;
+        }))
+        (ok.node n).sure
+
+    pub shows_cut_before : Shows g n w (cut_before w n a)
+    shows_cut_before =
+        BallotQuiet.shows g w n _ le ok keeps''
+        (BallotQuiet.stranger ok refl o le (good_front _ (w.node n).log (agree_take (a.start - 1) (w.node n).log) (good_on grows'' a.ballot le (ok.node n).log)) sure'')

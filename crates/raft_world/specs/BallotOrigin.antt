@@ -1,7 +1,7 @@
 -- Where an entry comes from, and what the events of one node leave alone.
 use Rattle.std.specs.Prelude.{◌≡◌, ℕ, List, ◌∷◌, ◌++◌, length, IsTrue}
 use Rattle.raft_world.specs.BallotLogs.{BallotEntry}
-use Rattle.raft_world.specs.BallotWorld.{BallotGroup, BallotWorld, BallotEvent, FoundGroup, StandForElection, TakeRequest, RaiseVote, WinElection, WriteEntry, CommitPlace, SendEntries, TakeEntries, CutForEntries, CutForSnapshot, ForgetCommitted, is_ballot_leader, ballot_run}
+use Rattle.raft_world.specs.BallotWorld.{BallotGroup, BallotWorld, BallotEvent, FoundGroup, StandForElection, TakeRequest, RaiseVote, WinElection, WriteEntry, CommitPlace, SendEntries, TakeEntries, CutForEntries, CutForSnapshot, CutForConflict, ForgetCommitted, is_ballot_leader, ballot_run}
 
 -- one of the events wrote the entry at this place, at the leader of its ballot
 pub record IsBallotWritten (g : BallotGroup) (events : List BallotEvent) (w : BallotWorld) (place : ℕ) (x : BallotEntry) : Type 0 where
@@ -26,4 +26,5 @@ actor (SendEntries n start count commit) = n
 actor (TakeEntries k n) = n
 actor (CutForEntries k n) = n
 actor (CutForSnapshot k n) = n
+actor (CutForConflict k n) = n
 actor (ForgetCommitted n commit) = n

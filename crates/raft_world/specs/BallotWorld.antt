@@ -1,5 +1,5 @@
 -- The nodes of one group, what they sent, and what may happen next.
-use Rattle.std.specs.Prelude.{ℕ, suc, ◌+◌, ◌==◌, ◌&&◌, ◌||◌, not, nat_lt, nat_le, if◌then◌else◌, Bool, true, false, List, [], ◌∷◌, ◌++◌, length, slice_get, Option, Some, None, take, drop, min, max}
+use Rattle.std.specs.Prelude.{ℕ, suc, ◌+◌, ◌-◌, ◌==◌, ◌&&◌, ◌||◌, not, nat_lt, nat_le, if◌then◌else◌, Bool, true, false, List, [], ◌∷◌, ◌++◌, length, slice_get, Option, Some, None, take, drop, min, max}
 use Rattle.std.specs.List.{list_any}
 use Rattle.raft_world.specs.BallotLists.{with_value}
 use Rattle.raft_world.specs.BallotLogs.{Payload, BallotEntry, LogEnd, ballot_before, log_end, is_at_least, holds_before, put_from, cut_from}
@@ -72,6 +72,8 @@ pub data BallotEvent : Type 0 where
   CutForEntries : (which node : ℕ) → BallotEvent
   -- a snapshot with another last entry cuts the log down to what is known to be committed
   CutForSnapshot : (which node : ℕ) → BallotEvent
+  -- an append whose entry before isn't the log's cuts the log before that entry
+  CutForConflict : (which node : ℕ) → BallotEvent
   -- a reopening knows less to be committed
   ForgetCommitted : (node commit : ℕ) → BallotEvent
 
@@ -238,6 +240,21 @@ drop_comes g w None n = w
 drop_comes g w (Some a) n =
     if can_raise g n (w.node n) a.ballot && drops (w.node n).log a then dropped w n a else w
 
+-- the log has another entry before the append's place, above what is known to be committed
+abbrev pub conflicts : BallotNode → BallotAppend → Bool
+conflicts s a =
+    nat_lt s.commit a.start && (nat_le a.start (length s.log) && not (holds_before s.log a.start a.previous))
+
+abbrev pub cut_before : BallotWorld → ℕ → BallotAppend → BallotWorld
+cut_before w n a =
+    moved w n
+    (record (w.node n) { ballot = a.ballot; committed = true; log = take (a.start - 1) (w.node n).log })
+
+abbrev pub conflict_comes : BallotGroup → BallotWorld → Option BallotAppend → ℕ → BallotWorld
+conflict_comes g w None n = w
+conflict_comes g w (Some a) n =
+    if can_raise g n (w.node n) a.ballot && conflicts (w.node n) a then cut_before w n a else w
+
 abbrev pub forgotten : BallotWorld → ℕ → ℕ → BallotWorld
 forgotten w n commit = moved w n (record (w.node n) { commit = min commit (w.node n).commit })
 
@@ -258,6 +275,7 @@ ballot_step g w (SendEntries n start count commit) =
 ballot_step g w (TakeEntries k n) = append_comes g w (slice_get w.appends k) n
 ballot_step g w (CutForEntries k n) = cut_comes g w (slice_get w.appends k) n
 ballot_step g w (CutForSnapshot k n) = drop_comes g w (slice_get w.appends k) n
+ballot_step g w (CutForConflict k n) = conflict_comes g w (slice_get w.appends k) n
 ballot_step g w (ForgetCommitted n commit) = forgotten w n commit
 
 -- a whole schedule
