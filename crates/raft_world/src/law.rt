@@ -11,3 +11,7 @@ ghost use Rattle.raft_world.specs.StoringOrder.{StoresInOrder};
 pub fn step_stores_its_commands()
     ensures { (own : ℕ) (s : GroupState) (e : GroupEvent) → StoresInOrder s.committed s.stored (group_step own s e) }
 {}
+
+pub fn scratch()
+    ensures { (n : ℕ) → n ≡ n }
+{}
