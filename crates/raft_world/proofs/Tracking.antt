@@ -49,42 +49,20 @@ up_same {m} {x} s s' e f g u =
       applied = g ∙ u.applied ∙ sym f;
     }
 
+pub step_extends : (m : Membership) (own : ℕ) (w : BallotWorld) (e : BallotEvent) → actor e ≡ own → (w' : BallotWorld) → ballot_step (ballot_group m) w e ≡ w' → Extends own w w'
+step_extends m own w e by w' is =
+    subst (Extends own w) is
+    (subst (λ n. Extends n w (ballot_step (ballot_group m) w e)) by (happens_extends (ballot_group m) w e))
+
+pub stored_next : (base : StoredGroup) (r : StepResult) (c : StoringCommand) → r.state.stored ≡ after_storing_all r.commands base → after_storing c r.state.stored ≡ after_storing_all (r.commands ++ c ∷ []) base
+stored_next base r c stored = ap (after_storing c) stored ∙ sym (all-append r.commands c base)
+
 module _ (m : Membership) (some : 0 < length m.configs) (own : ℕ) (before : List BallotEvent) (base : StoredGroup) where
-  abbrev pub group : BallotGroup
-  group = ballot_group m
-
-  abbrev pub first : BallotWorld
-  first = ballot_run (ballot_group m) before (ballot_start (ballot_group m))
-
   -- the ballot machine may be so, after events of this node
   pub record Reached (w : BallotWorld) : Type 0 where
     pub events : List BallotEvent
     pub by : AllBy own events
     pub is : ballot_run (ballot_group m) events (ballot_run (ballot_group m) before (ballot_start (ballot_group m))) ≡ w
-
-  pub whole_run : {w : BallotWorld} (r : Reached w) → w ≡ ballot_run (ballot_group m) (before ++ r.events) (ballot_start (ballot_group m))
-  whole_run r = sym r.is ∙ sym (run_append (ballot_group m) some before r.events (ballot_start (ballot_group m)))
-
-  pub reached_safe : {w : BallotWorld} → Reached w → Safe (ballot_group m) w
-  reached_safe r =
-      subst (Safe (ballot_group m)) (sym (whole_run r))
-      (run_next (ballot_group m) some (ballot_start (ballot_group m)) (before ++ r.events) (start_safe (ballot_group m))).safe
-
-  pub reached_next : {w : BallotWorld} (e : BallotEvent) → actor e ≡ own → (w' : BallotWorld) → ballot_step (ballot_group m) w e ≡ w' → Reached w → Reached w'
-  reached_next {w} e by w' is r =
-      record {
-        events = r.events ++ e ∷ [];
-        by = all_by own r.events e r.by by;
-        is =
-            run_append (ballot_group m) some r.events (e ∷ []) first
-            ∙ ap (λ v. ballot_step (ballot_group m) v e) r.is
-            ∙ is;
-      }
-
-  pub step_extends : (w : BallotWorld) (e : BallotEvent) → actor e ≡ own → (w' : BallotWorld) → ballot_step (ballot_group m) w e ≡ w' → Extends own w w'
-  step_extends w e by w' is =
-      subst (Extends own w) is
-      (subst (λ n. Extends n w (ballot_step (ballot_group m) w e)) by (happens_extends (ballot_group m) w e))
 
   -- a stop with this stored
   pub record MayStop (st : StoredGroup) : Type 0 where
@@ -99,56 +77,73 @@ module _ (m : Membership) (some : 0 < length m.configs) (own : ℕ) (before : Li
     pub up : UpFits m (w.node own) r.state
     pub messages : (x : Message) → Among x r.messages → MessageFits m w x
 
+module _ {m : Membership} {some : 0 < length m.configs} {own : ℕ} {before : List BallotEvent} {base : StoredGroup} where
+  pub whole_run : {w : BallotWorld} (r : Reached m some own before base w) → w ≡ ballot_run (ballot_group m) (before ++ r.events) (ballot_start (ballot_group m))
+  whole_run r = sym r.is ∙ sym (run_append (ballot_group m) some before r.events (ballot_start (ballot_group m)))
+
+  pub reached_safe : {w : BallotWorld} → Reached m some own before base w → Safe (ballot_group m) w
+  reached_safe r =
+      subst (Safe (ballot_group m)) (sym (whole_run r))
+      (run_next (ballot_group m) some (ballot_start (ballot_group m)) (before ++ r.events) (start_safe (ballot_group m))).safe
+
+  pub reached_next : {w : BallotWorld} (e : BallotEvent) → actor e ≡ own → (w' : BallotWorld) → ballot_step (ballot_group m) w e ≡ w' → Reached m some own before base w → Reached m some own before base w'
+  reached_next {w} e by w' is r =
+      record {
+        events = r.events ++ e ∷ [];
+        by = all_by own r.events e r.by by;
+        is =
+            run_append (ballot_group m) some r.events (e ∷ []) (ballot_run (ballot_group m) before (ballot_start (ballot_group m)))
+            ∙ ap (λ v. ballot_step (ballot_group m) v e) r.is
+            ∙ is;
+      }
+
   -- one more command, at which the node may stop
-  pub stops_store : (r : StepResult) (c : StoringCommand) → r.state.stored ≡ after_storing_all r.commands base → ((k : ℕ) → MayStop (after_storing_all (take k r.commands) base)) → MayStop (after_storing c r.state.stored) → (k : ℕ) → MayStop (after_storing_all (take k (r.commands ++ c ∷ [])) base)
+  pub stops_store : (r : StepResult) (c : StoringCommand) → r.state.stored ≡ after_storing_all r.commands base → ((k : ℕ) → MayStop m some own before base (after_storing_all (take k r.commands) base)) → MayStop m some own before base (after_storing c r.state.stored) → (k : ℕ) → MayStop m some own before base (after_storing_all (take k (r.commands ++ c ∷ [])) base)
   stops_store r c stored stops last k =
       ⊎_elim
-      (λ e. subst (λ cs. MayStop (after_storing_all cs base)) (sym e) (stops k))
+      (λ e. subst (λ cs. MayStop m some own before base (after_storing_all cs base)) (sym e) (stops k))
       (λ e.
-      subst MayStop
+      subst (MayStop m some own before base)
       (ap (after_storing c) stored ∙ sym (all-append r.commands c base) ∙ ap (λ cs. after_storing_all cs base) (sym e))
       last)
       (take_last k r.commands c)
 
-  pub stored_next : (r : StepResult) (c : StoringCommand) → r.state.stored ≡ after_storing_all r.commands base → after_storing c r.state.stored ≡ after_storing_all (r.commands ++ c ∷ []) base
-  stored_next r c stored = ap (after_storing c) stored ∙ sym (all-append r.commands c base)
-
   -- nothing is stored; the machine may have gone on
-  pub track_on : {w w' : BallotWorld} {r : StepResult} (r' : StepResult) → Tracks w r → r'.commands ≡ r.commands → r'.state.stored ≡ r.state.stored → Reached w' → UpFits m (w'.node own) r'.state → ((x : Message) → Among x r'.messages → MessageFits m w' x) → Tracks w' r'
+  pub track_on : {w w' : BallotWorld} {r : StepResult} (r' : StepResult) → Tracks m some own before base w r → r'.commands ≡ r.commands → r'.state.stored ≡ r.state.stored → Reached m some own before base w' → UpFits m (w'.node own) r'.state → ((x : Message) → Among x r'.messages → MessageFits m w' x) → Tracks m some own before base w' r'
   track_on r' t e f reached up messages =
       record {
         reached = reached;
-        stops = λ k. subst (λ cs. MayStop (after_storing_all (take k cs) base)) (sym e) (t.stops k);
+        stops = λ k. subst (λ cs. MayStop m some own before base (after_storing_all (take k cs) base)) (sym e) (t.stops k);
         stored = f ∙ t.stored ∙ ap (λ cs. after_storing_all cs base) (sym e);
         up = up;
         messages = messages;
       }
 
   -- neither stored nor sent
-  pub track_same : {w : BallotWorld} {r : StepResult} (r' : StepResult) → Tracks w r → r'.commands ≡ r.commands → r'.messages ≡ r.messages → r'.state.stored ≡ r.state.stored → r'.state.committed ≡ r.state.committed → r'.state.applied ≡ r.state.applied → Tracks w r'
+  pub track_same : {w : BallotWorld} {r : StepResult} (r' : StepResult) → Tracks m some own before base w r → r'.commands ≡ r.commands → r'.messages ≡ r.messages → r'.state.stored ≡ r.state.stored → r'.state.committed ≡ r.state.committed → r'.state.applied ≡ r.state.applied → Tracks m some own before base w r'
   track_same {w} {r} r' t e f g h i =
       track_on r' t e g t.reached (up_same r.state r'.state g h i t.up)
       (λ x a. t.messages x (subst (Among x) f a))
 
   -- a command is stored, and the machine goes on
-  pub track_store : {w w' : BallotWorld} {r : StepResult} (c : StoringCommand) → Tracks w r → Reached w' → UpFits m (w'.node own) (with_stored r.state (after_storing c r.state.stored)) → ((x : Message) → Among x r.messages → MessageFits m w' x) → Tracks w' (store c r)
+  pub track_store : {w w' : BallotWorld} {r : StepResult} (c : StoringCommand) → Tracks m some own before base w r → Reached m some own before base w' → UpFits m (w'.node own) (with_stored r.state (after_storing c r.state.stored)) → ((x : Message) → Among x r.messages → MessageFits m w' x) → Tracks m some own before base w' (store c r)
   track_store {w} {w'} {r} c t reached up messages =
       record {
         reached = reached;
         stops = stops_store r c t.stored t.stops (record { world = w'; reached = reached; fits = up_down up });
-        stored = stored_next r c t.stored;
+        stored = stored_next base r c t.stored;
         up = up;
         messages = messages;
       }
 
   -- the same by one event
-  pub track_event : {w : BallotWorld} {r : StepResult} (c : StoringCommand) → Tracks w r → (e : BallotEvent) → actor e ≡ own → (w' : BallotWorld) → ballot_step (ballot_group m) w e ≡ w' → UpFits m (w'.node own) (with_stored r.state (after_storing c r.state.stored)) → Tracks w' (store c r)
+  pub track_event : {w : BallotWorld} {r : StepResult} (c : StoringCommand) → Tracks m some own before base w r → (e : BallotEvent) → actor e ≡ own → (w' : BallotWorld) → ballot_step (ballot_group m) w e ≡ w' → UpFits m (w'.node own) (with_stored r.state (after_storing c r.state.stored)) → Tracks m some own before base w' (store c r)
   track_event {w} {r} c t e by w' is up =
       track_store c t (reached_next e by w' is t.reached) up
-      (λ x a. message_on (step_extends w e by w' is) m x (t.messages x a))
+      (λ x a. message_on (step_extends m own w e by w' is) m x (t.messages x a))
 
   -- a message is sent that fits
-  pub track_send : {w : BallotWorld} {r : StepResult} (peer : ℕ) (body : MessageBody) → Tracks w r → MessageFits m w (record { sender = own; addressee = peer; body = body }) → Tracks w (send own peer body r)
+  pub track_send : {w : BallotWorld} {r : StepResult} (peer : ℕ) (body : MessageBody) → Tracks m some own before base w r → MessageFits m w (record { sender = own; addressee = peer; body = body }) → Tracks m some own before base w (send own peer body r)
   track_send {w} {r} peer body t fits =
       track_on (send own peer body r) t refl refl t.reached (up_same r.state (send own peer body r).state refl refl refl t.up)
       (λ x a. ⊎_elim (λ b. t.messages x b) (λ e. subst (MessageFits m w) (sym e) fits) (among_last x _ r.messages a))
