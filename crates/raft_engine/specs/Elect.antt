@@ -1,15 +1,14 @@
 -- A node stands for election.
 use Rattle.std.specs.Prelude.{ℕ, ◌+◌, ◌==◌, false, true, if◌then◌else◌, List, [], ◌∷◌, filter, Option, Some, None}
 use Rattle.raft_state.specs.Vote.{vote_of}
-use Rattle.raft_state.specs.Membership.{voter_ids}
-use Rattle.raft_state.specs.Entry.{StoredMembership}
+use Rattle.raft_engine.specs.Values.{LoggedMembership, voter_ids}
 use Rattle.raft_engine.specs.StoredGroup.{StoredGroup, last_id, membership_in_force}
 use Rattle.raft_engine.specs.Message.{VoteRequest}
 use Rattle.raft_engine.specs.GroupState.{Candidate}
 use Rattle.raft_engine.specs.StepResult.{StepResult, store_vote, step_down, in_role, send}
 use Rattle.raft_engine.specs.Lead.{with_grant}
 
-abbrev pub voters_of : Option StoredMembership → List ℕ
+abbrev pub voters_of : Option LoggedMembership → List ℕ
 voters_of None = []
 voters_of (Some m) = voter_ids m.membership
 

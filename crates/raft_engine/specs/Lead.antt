@@ -4,19 +4,19 @@ use Rattle.std.specs.List.{list_any, last_or}
 use Rattle.raft_state.specs.declared.vote.Vote.{Vote}
 use Rattle.raft_state.specs.declared.log_id.LogId.{LogId}
 use Rattle.raft_state.specs.LogId.{place_of}
-use Rattle.raft_state.specs.Membership.{has_id, member_ids}
-use Rattle.raft_state.specs.Entry.{Entry, Blank, StoredMembership, is_written_by}
+use Rattle.raft_state.specs.declared.entry.EntryPayload.TheVariants.{Blank}
 use Rattle.raft_state.specs.Quorum.{is_quorum}
+use Rattle.raft_engine.specs.Values.{Entry, has_id, is_written_by, LoggedMembership, member_ids}
 use Rattle.raft_engine.specs.StoredGroup.{StoredGroup, RemoveUpTo, end_place, entry_at, id_of, membership_in_force}
 use Rattle.raft_engine.specs.Peer.{PeerState, new_peer, peer_or, is_kept_for_peers}
 use Rattle.raft_engine.specs.GroupState.{Lead, Role, Follower, Candidate, Leader}
 use Rattle.raft_engine.specs.StepResult.{StepResult, store, store_vote, in_role, append, apply_up_to, is_within}
 
-abbrev pub configs_of : Option StoredMembership → List (List ℕ)
+abbrev pub configs_of : Option LoggedMembership → List (List ℕ)
 configs_of None = []
 configs_of (Some m) = m.membership.configs
 
-abbrev pub ids_of : Option StoredMembership → List ℕ
+abbrev pub ids_of : Option LoggedMembership → List ℕ
 ids_of None = []
 ids_of (Some m) = member_ids m.membership
 

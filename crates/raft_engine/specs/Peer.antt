@@ -2,7 +2,7 @@
 use Rattle.std.specs.Prelude.{ℕ, Bool, true, false, ◌==◌, ◌&&◌, nat_lt, if◌then◌else◌, List, [], ◌∷◌, Option, Some, None}
 use Rattle.std.specs.List.{list_any}
 use Rattle.raft_state.specs.declared.log_id.LogId.{LogId}
-use Rattle.raft_state.specs.LogId.{last_id_eq}
+use Rattle.raft_engine.specs.Values.{last_id_eq}
 use Rattle.raft_engine.specs.Message.{ReplyFields, Numbered, request_id_eq}
 
 -- the request that a leader waits for: its number, the log ids before and at its end

@@ -1,6 +1,7 @@
 -- A leader takes a command.
 use Rattle.std.specs.Prelude.{ℕ, List, [], ◌∷◌, ◌++◌}
-use Rattle.raft_state.specs.Entry.{EntryPayload, Normal}
+use Rattle.raft_state.specs.declared.entry.EntryPayload.TheVariants.{Normal}
+use Rattle.raft_engine.specs.Values.{EntryPayload}
 use Rattle.raft_engine.specs.StoredGroup.{end_place}
 use Rattle.raft_engine.specs.StepResult.{StepResult, append}
 

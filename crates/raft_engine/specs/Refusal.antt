@@ -2,11 +2,10 @@
 use Rattle.std.specs.Prelude.{ℕ, ◌+◌, ◌^◌, ◌==◌, ◌&&◌, not, nat_lt, nat_le, if◌then◌else◌, Bool, true, false, List, [], ◌∷◌, ◌++◌, map, length, Option, Some, None}
 use Rattle.std.specs.List.{list_all}
 use Rattle.raft_state.specs.declared.vote.Vote.{Vote}
-use Rattle.raft_state.specs.Vote.{leader_lt, vote_lt}
 use Rattle.raft_state.specs.declared.log_id.LogId.{LogId}
-use Rattle.raft_state.specs.Membership.{Membership, configs_eq, is_valid, is_within_limits, is_voter}
-use Rattle.raft_state.specs.MembershipChange.{ChangeMembers, changed}
-use Rattle.raft_state.specs.Entry.{Entry, EntryPayload, Blank, Normal, Members, StoredMembership, membership_after}
+use Rattle.raft_state.specs.declared.entry.EntryPayload.TheVariants.{Blank, Normal, Membership as Members}
+use Rattle.raft_engine.specs.Values.{configs_eq, Entry, EntryPayload, is_valid, is_voter, is_within_limits, leader_lt, LoggedMembership, Membership, membership_after, vote_lt}
+use Rattle.raft_engine.specs.MembershipChange.{ChangeMembers, changed}
 use Rattle.raft_engine.specs.StoredGroup.{StoredGroup, end_place, membership_in_force}
 use Rattle.raft_engine.specs.Message.{Message, MessageBody, VoteRequest, VoteReply, AppendRequest, AppendReply, SnapshotRequest, SnapshotReply, ReplyFields, ReplyResult, RequestId, Success, Conflict, HigherVote, HeartBeat, Numbered}
 use Rattle.raft_engine.specs.Peer.{PeerState}
@@ -44,7 +43,7 @@ known_leader vote = if vote.committed then Some vote.leader_id.node_id else None
 abbrev pub lead_reason : GroupState → Option RefusalReason
 lead_reason s = unless (is_leader s.role) (NotLeader (known_leader s.stored.vote))
 
-abbrev pub is_voter_in : Option StoredMembership → ℕ → Bool
+abbrev pub is_voter_in : Option LoggedMembership → ℕ → Bool
 is_voter_in None own = false
 is_voter_in (Some m) own = is_voter m.membership own
 
@@ -68,7 +67,7 @@ is_first_membership m =
 -- ---- changes of the membership
 
 -- the last membership is committed
-abbrev pub is_settled_membership : GroupState → Option StoredMembership → Bool
+abbrev pub is_settled_membership : GroupState → Option LoggedMembership → Bool
 is_settled_membership s None = false
 is_settled_membership s (Some m) = is_within m.log_id.index s.committed
 
@@ -77,7 +76,7 @@ change_reasons old new =
     unless (is_valid new && is_within_limits new) MembershipRefused
     ∷ unless (configs_eq old.configs new.configs) VoterChange ∷ []
 
-abbrev pub reasons_of_change : Option StoredMembership → ChangeMembers → List (Option RefusalReason)
+abbrev pub reasons_of_change : Option LoggedMembership → ChangeMembers → List (Option RefusalReason)
 reasons_of_change None change = []
 reasons_of_change (Some m) change =
     change_reasons m.membership (changed m.membership change true)
@@ -106,7 +105,7 @@ numbers_of_reply m =
     m.vote.leader_id.term ∷ numbers_of_request m.id ++ numbers_of_id m.previous
     ++ numbers_of_id m.last ++ numbers_of_result m.outcome
 
-abbrev pub numbers_of_membership : Option StoredMembership → List ℕ
+abbrev pub numbers_of_membership : Option LoggedMembership → List ℕ
 numbers_of_membership None = []
 numbers_of_membership (Some m) = numbers_of_id (Some m.log_id)
 
@@ -142,22 +141,22 @@ do_follow vote (Some id) (e ∷ es) =
     && not (leader_lt vote.leader_id e.log_id.leader_id) && do_follow vote (Some e.log_id) es
 
 -- the voter groups are the known ones, where some are known
-abbrev pub has_known_configs : Option StoredMembership → Membership → Bool
+abbrev pub has_known_configs : Option LoggedMembership → Membership → Bool
 has_known_configs None m = true
 has_known_configs (Some known) m = configs_eq known.membership.configs m.configs
 
-abbrev pub has_known_voters : Option StoredMembership → EntryPayload → Bool
+abbrev pub has_known_voters : Option LoggedMembership → EntryPayload → Bool
 has_known_voters known Blank = true
 has_known_voters known (Normal command) = true
 has_known_voters known (Members m) = has_known_configs known m
 
 -- all memberships among the entries have the known voter groups, or else those of the first one
-abbrev pub keep_voters : Option StoredMembership → List Entry → Bool
+abbrev pub keep_voters : Option LoggedMembership → List Entry → Bool
 keep_voters known [] = true
 keep_voters known (e ∷ es) =
     has_known_voters known e.payload && keep_voters (membership_after known e.log_id e.payload) es
 
-abbrev pub has_known_snapshot : Option StoredMembership → Option StoredMembership → Bool
+abbrev pub has_known_snapshot : Option LoggedMembership → Option LoggedMembership → Bool
 has_known_snapshot known None = true
 has_known_snapshot known (Some m) = has_known_configs known m.membership
 

@@ -4,7 +4,8 @@ use Rattle.raft_state.specs.declared.vote.Vote.{Vote}
 use Rattle.raft_state.specs.Vote.{vote_of}
 use Rattle.raft_state.specs.declared.log_id.LogId.{LogId}
 use Rattle.raft_state.specs.LogId.{log_id_of}
-use Rattle.raft_state.specs.Entry.{Entry, Blank, entry_of}
+use Rattle.raft_state.specs.declared.entry.EntryPayload.TheVariants.{Blank}
+use Rattle.raft_engine.specs.Values.{Entry, entry_of}
 use Rattle.raft_engine.specs.Message.{MessageBody, VoteRequest, AppendRequest, AppendReply, HigherVote, Numbered, HeartBeat}
 use Rattle.raft_engine.specs.StoredGroup.{StoredGroup}
 use Rattle.raft_engine.specs.GroupState.{GroupState, no_group, state_of}

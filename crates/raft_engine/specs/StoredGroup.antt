@@ -2,13 +2,13 @@
 use Rattle.std.specs.Prelude.{◌≡◌, ◌<◌, ◌≤◌, ℕ, ◌+◌, ◌-◌, ◌==◌, nat_lt, if◌then◌else◌, Bool, true, false, List, [], ◌∷◌, ◌++◌, take, drop, length, slice_get, Option, Some, None, option_map, option_and_then}
 use Rattle.raft_state.specs.declared.vote.Vote.{Vote}
 use Rattle.raft_state.specs.declared.log_id.LogId.{LogId}
-use Rattle.raft_state.specs.LogId.{log_id_eq, next_place}
-use Rattle.raft_state.specs.Entry.{Entry, StoredMembership, last_membership}
+use Rattle.raft_state.specs.LogId.{next_place}
+use Rattle.raft_engine.specs.Values.{Entry, last_membership, log_id_eq, LoggedMembership}
 
 -- a snapshot: the list up to and with the entry of a log id, and the last membership in it
 pub record Snapshot : Type 0 where
   pub last : LogId ℕ
-  pub membership : Option StoredMembership
+  pub membership : Option LoggedMembership
   pub «prefix» : List Entry
 
 -- the stored part of a group. The log is what lies above the purge point
@@ -73,7 +73,7 @@ pub record Holds (s : StoredGroup) (xs : List Entry) (place : ℕ) : Type 0 wher
   pub same : (i : ℕ) → i ≤ place → slice_get (held s) i ≡ slice_get xs i
 
 -- the membership in force: the log's last one, or else the snapshot's
-abbrev pub membership_in_force : StoredGroup → Option StoredMembership
+abbrev pub membership_in_force : StoredGroup → Option LoggedMembership
 membership_in_force s =
     last_membership (option_and_then (λ (x : Snapshot). x.membership) s.snapshot) s.log
 

@@ -1,8 +1,10 @@
 //! Log ids: the leader that wrote an entry, and the entry's place.
 ghost use Rattle.std.specs.Prelude.{◌≡◌};
+ghost use Rattle.raft_state.specs.LogId.{log_id_cmp};
 
 use crate::node::NodeId;
 use crate::vote::CommittedLeaderId;
+use std::cmp::Ordering;
 use std::fmt::{self, Display};
 
 /// The leader that wrote an entry, and the entry's place in the log (openraft).
@@ -35,4 +37,12 @@ impl<NID: NodeId> Display for LogId<NID> {
         let index = self.index;
         write!(f, "{leader_id}-{index}")
     }
+}
+
+/// Log ids are ordered by their leaders, then by index.
+pub fn log_ids_by_leader_and_index<NID: NodeId>(a: &LogId<NID>, b: &LogId<NID>) -> Ordering
+    ensures order { ⟦<LogId<NID> as Ord>⟧.cmp a.now b.now ≡ log_id_cmp NID.cmp a.now b.now }
+    ensures value { result ≡ log_id_cmp NID.cmp a.now b.now }
+{
+    a.cmp(b)
 }

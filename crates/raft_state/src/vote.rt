@@ -1,7 +1,9 @@
 //! Votes, and the leaders that they are for.
 ghost use Rattle.std.specs.Prelude.{◌≡◌, true, false};
+ghost use Rattle.raft_state.specs.Vote.{leader_cmp, vote_cmp};
 
 use crate::node::NodeId;
+use std::cmp::Ordering;
 use std::fmt::{self, Display};
 
 /// Who leads: a term, and the node that was voted for in it (openraft).
@@ -107,4 +109,20 @@ impl<NID: NodeId> Display for Vote<NID> {
         };
         write!(f, "<{leader_id}:{state}>")
     }
+}
+
+/// Leader ids are ordered by term, then by node.
+pub fn leader_ids_by_term_and_node<NID: NodeId>(a: &LeaderId<NID>, b: &LeaderId<NID>) -> Ordering
+    ensures order { ⟦<LeaderId<NID> as Ord>⟧.cmp a.now b.now ≡ leader_cmp NID.cmp a.now b.now }
+    ensures value { result ≡ leader_cmp NID.cmp a.now b.now }
+{
+    a.cmp(b)
+}
+
+/// Votes are ordered by term, then by node, then committed last.
+pub fn votes_by_term_node_committed<NID: NodeId>(a: &Vote<NID>, b: &Vote<NID>) -> Ordering
+    ensures order { ⟦<Vote<NID> as Ord>⟧.cmp a.now b.now ≡ vote_cmp NID.cmp a.now b.now }
+    ensures value { result ≡ vote_cmp NID.cmp a.now b.now }
+{
+    a.cmp(b)
 }

@@ -6,8 +6,8 @@ use Rattle.std.proofs.lemmas.Option.{slice_get-map, slice_get_within}
 use Rattle.std.proofs.lemmas.Bool.{cond-true, cond-false, cases_eq}
 use Rattle.raft_state.specs.declared.log_id.LogId.{LogId}
 use Rattle.raft_state.specs.LogId.{next_place}
-use Rattle.raft_state.specs.Membership.{Membership}
-use Rattle.raft_state.specs.Entry.{Entry}
+use Rattle.raft_engine.specs.Values.{Membership}
+use Rattle.raft_engine.specs.Values.{Entry}
 use Rattle.raft_engine.specs.StoredGroup.{StoredGroup, first_place, end_place, id_of, id_at, id_before, last_id}
 use Rattle.raft_world.specs.BallotLogs.{BallotEntry, LogEnd, ballot_of, ballot_before, last_ballot, log_end}
 use Rattle.raft_world.specs.BallotWorld.{BallotNode}

@@ -6,8 +6,9 @@ use Rattle.std.proofs.lemmas.Bool.{cases_lt, cond-true, cond-false}
 use Rattle.std.proofs.lemmas.Option.{slice_get_within}
 use Rattle.raft_state.specs.declared.log_id.LogId.{LogId}
 use Rattle.raft_state.specs.LogId.{next_place}
-use Rattle.raft_state.specs.Membership.{Membership}
-use Rattle.raft_state.specs.Entry.{Entry, Members}
+use Rattle.raft_engine.specs.Values.{Membership}
+use Rattle.raft_engine.specs.Values.{Entry}
+use Rattle.raft_state.specs.declared.entry.EntryPayload.TheVariants.{Membership as Members}
 use Rattle.raft_engine.specs.StoredGroup.{StoredGroup, Snapshot, SetVote, PutEntries, CutFrom, RemoveUpTo, SetSnapshot, after_storing, first_place, end_place, entry_at, prefix_of, held}
 
 pub slice_take : {A : Type 0} (k : ℕ) (xs : List A) (i : ℕ) → i < k → slice_get (take k xs) i ≡ slice_get xs i

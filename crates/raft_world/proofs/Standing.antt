@@ -4,8 +4,8 @@ use Rattle.std.proofs.Common.{inl, inr, sym, ap, ◌∙◌, subst, arith, ⊎_el
 use Rattle.raft_state.specs.declared.log_id.LogId.{LogId}
 use Rattle.raft_state.specs.declared.vote.Vote.{Vote}
 use Rattle.raft_state.specs.LogId.{next_place}
-use Rattle.raft_state.specs.Membership.{Membership}
-use Rattle.raft_state.specs.Entry.{Entry, last_membership}
+use Rattle.raft_engine.specs.Values.{Membership}
+use Rattle.raft_engine.specs.Values.{Entry, last_membership}
 use Rattle.raft_engine.specs.StoredGroup.{StoredGroup, Snapshot, prefix_of, held}
 use Rattle.raft_engine.specs.Message.{Message, MessageBody, VoteRequest, VoteReply, AppendRequest, AppendReply, SnapshotRequest, SnapshotReply, AppendFields, ReplyFields, ReplyResult, Success, Conflict, HigherVote}
 use Rattle.raft_engine.specs.Peer.{PeerState, Outstanding}

@@ -1,11 +1,13 @@
 -- Each kind of event keeps what is stored in line with the commands.
 use Rattle.std.specs.Prelude.{◌≡◌, ℕ, ◌+◌, nat_le, not, cond, Bool, true, false, List, [], ◌∷◌, Option, Some, None, refl}
 use Rattle.raft_state.specs.declared.vote.Vote.{Vote}
-use Rattle.raft_state.specs.Vote.{vote_lt, vote_of}
+use Rattle.raft_engine.specs.Values.{vote_lt}
+use Rattle.raft_state.specs.Vote.{vote_of}
 use Rattle.raft_state.specs.declared.log_id.LogId.{LogId}
 use Rattle.raft_state.specs.LogId.{log_id_of}
-use Rattle.raft_state.specs.Entry.{Entry, EntryPayload, Members, entry_of, StoredMembership}
-use Rattle.raft_state.specs.MembershipChange.{ChangeMembers}
+use Rattle.raft_engine.specs.Values.{Entry, EntryPayload, entry_of, LoggedMembership}
+use Rattle.raft_state.specs.declared.entry.EntryPayload.TheVariants.{Membership as Members}
+use Rattle.raft_engine.specs.MembershipChange.{ChangeMembers}
 use Rattle.raft_engine.specs.StoredGroup.{has_id_in_log, StoredGroup, Snapshot, MakeGroup, PutEntries, CutFrom, RemoveUpTo, SetSnapshot}
 use Rattle.raft_engine.specs.Message.{AppendFields, ReplyFields, ReplyResult, Success, Conflict, HigherVote, MessageBody, VoteRequest, VoteReply, AppendRequest, AppendReply, SnapshotRequest, SnapshotReply}
 use Rattle.raft_engine.specs.GroupState.{GroupState, Lead, Role, Follower, Candidate, Leader, state_of}
@@ -168,7 +170,7 @@ module _ (committed : Option ℕ) (s : StoredGroup) where
   token-keeps : (p : EntryPayload) (token : ℕ) (r : StepResult) → StoresInOrder committed s r → StoresInOrder committed s (append_with_token p token r)
   token-keeps p token r h = append-keeps committed s p _ (same committed s r _ refl refl h)
 
-  changed-keeps : (m : Option StoredMembership) (c : ChangeMembers) (token : ℕ) (r : StepResult) → StoresInOrder committed s r → StoresInOrder committed s (append_changed m c token r)
+  changed-keeps : (m : Option LoggedMembership) (c : ChangeMembers) (token : ℕ) (r : StepResult) → StoresInOrder committed s r → StoresInOrder committed s (append_changed m c token r)
   changed-keeps None c token r h = h
   changed-keeps (Some m) c token r h = token-keeps _ token r h
 

@@ -5,9 +5,10 @@ use Rattle.raft_engine.specs.StoredGroup.{StoredGroup, Snapshot, StoringCommand,
 use Rattle.raft_engine.specs.GroupState.{Lead, Role, Follower, Candidate, Leader}
 use Rattle.raft_engine.specs.StepResult.{StepResult, store, renew, store_vote, step_down, take_over, append}
 use Rattle.raft_state.specs.declared.vote.Vote.{Vote}
-use Rattle.raft_state.specs.Vote.{vote_lt}
+use Rattle.raft_engine.specs.Values.{vote_lt}
 use Rattle.raft_state.specs.declared.log_id.LogId.{LogId}
-use Rattle.raft_state.specs.Entry.{EntryPayload, Blank}
+use Rattle.raft_engine.specs.Values.{EntryPayload}
+use Rattle.raft_state.specs.declared.entry.EntryPayload.TheVariants.{Blank}
 use Rattle.raft_engine.specs.Peer.{PeerState}
 use Rattle.raft_engine.specs.GroupStep.{finished}
 use Rattle.raft_engine.specs.Lead.{other_ids, remove_up_to, with_wish, append_blank, committed_vote, begin_lead, lead_if, with_grant, commit_as_leader, purge_as_wished}

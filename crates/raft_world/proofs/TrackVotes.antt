@@ -7,10 +7,12 @@ use Rattle.std.specs.declared.cmp.Ordering.TheVariants.{Less, Equal, Greater}
 use Rattle.std.specs.Ordering.{nat_cmp, ordering_then, is_lt}
 use Rattle.raft_state.specs.declared.log_id.LogId.{LogId}
 use Rattle.raft_state.specs.declared.vote.Vote.{Vote}
-use Rattle.raft_state.specs.Vote.{leader_cmp, vote_lt}
-use Rattle.raft_state.specs.LogId.{log_id_cmp, last_id_lt, next_place}
-use Rattle.raft_state.specs.Membership.{Membership}
-use Rattle.raft_state.specs.Entry.{Entry}
+use Rattle.raft_state.specs.Vote.{leader_cmp}
+use Rattle.raft_engine.specs.Values.{vote_lt}
+use Rattle.raft_state.specs.LogId.{log_id_cmp, next_place}
+use Rattle.raft_engine.specs.Values.{last_id_lt}
+use Rattle.raft_engine.specs.Values.{Membership}
+use Rattle.raft_engine.specs.Values.{Entry}
 use Rattle.raft_engine.specs.StoredGroup.{StoredGroup, SetVote, after_storing, last_id, end_place}
 use Rattle.raft_engine.specs.GroupState.{GroupState, Role, Follower, Candidate, Leader}
 use Rattle.raft_engine.specs.StepResult.{StepResult, store, renew, store_vote, step_down, take_over, with_stored}

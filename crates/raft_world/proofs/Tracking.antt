@@ -2,8 +2,8 @@
 -- for the machine's node after some of them.
 use Rattle.std.specs.Prelude.{◌≡◌, ◌⊎◌, ℕ, zero, suc, ◌<◌, ◌≤◌, ◌^◌, Bool, true, false, List, [], ◌∷◌, ◌++◌, length, take, slice_get, Option, Some, None, refl}
 use Rattle.std.proofs.Common.{inl, inr, sym, ap, ◌∙◌, subst, arith, ⊎_elim}
-use Rattle.raft_state.specs.Membership.{Membership}
-use Rattle.raft_state.specs.Entry.{Entry}
+use Rattle.raft_engine.specs.Values.{Membership}
+use Rattle.raft_engine.specs.Values.{Entry}
 use Rattle.raft_engine.specs.StoredGroup.{StoredGroup, StoringCommand, after_storing, after_storing_all}
 use Rattle.raft_engine.specs.Message.{Message, MessageBody}
 use Rattle.raft_engine.specs.GroupState.{GroupState}

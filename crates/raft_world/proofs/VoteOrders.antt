@@ -7,7 +7,8 @@ use Rattle.std.specs.declared.cmp.Ordering.TheVariants.{Less, Equal, Greater}
 use Rattle.std.specs.Ordering.{nat_cmp, bool_cmp, ordering_then, is_lt}
 use Rattle.raft_state.specs.declared.vote.LeaderId.{LeaderId}
 use Rattle.raft_state.specs.declared.vote.Vote.{Vote}
-use Rattle.raft_state.specs.Vote.{leader_cmp, leader_lt, vote_cmp, vote_lt}
+use Rattle.raft_state.specs.Vote.{leader_cmp, vote_cmp}
+use Rattle.raft_engine.specs.Values.{leader_lt, vote_lt}
 
 pub less_is : (x y : ℕ) → x < y → nat_cmp x y ≡ Less
 less_is x y l = cond-true (nat_lt x y) _ _ (lt-ltb x y l)
@@ -25,9 +26,9 @@ pub data LeaderBelow (a b : LeaderId ℕ) : Type 0 where
 
 -- they are in this order
 pub data LeaderOrder (a b : LeaderId ℕ) : Type 0 where
-  below : LeaderBelow a b → leader_cmp a b ≡ Less → LeaderOrder a b
-  equal : a.term ≡ b.term → a.node_id ≡ b.node_id → leader_cmp a b ≡ Equal → LeaderOrder a b
-  above : LeaderBelow b a → leader_cmp a b ≡ Greater → LeaderOrder a b
+  below : LeaderBelow a b → leader_cmp nat_cmp a b ≡ Less → LeaderOrder a b
+  equal : a.term ≡ b.term → a.node_id ≡ b.node_id → leader_cmp nat_cmp a b ≡ Equal → LeaderOrder a b
+  above : LeaderBelow b a → leader_cmp nat_cmp a b ≡ Greater → LeaderOrder a b
 
 pub leader_order : (a b : LeaderId ℕ) → LeaderOrder a b
 leader_order a b =
@@ -64,7 +65,7 @@ pub data VoteOrder (a b : Vote ℕ) : Type 0 where
 abbrev then_flags : Ordering → Bool → Bool → Bool
 then_flags o c d = is_lt (ordering_then o (bool_cmp c d))
 
-by_flags : (a b : Vote ℕ) → a.leader_id.term ≡ b.leader_id.term → a.leader_id.node_id ≡ b.leader_id.node_id → leader_cmp a.leader_id b.leader_id ≡ Equal → (c d : Bool) → a.committed ≡ c → b.committed ≡ d → VoteOrder a b
+by_flags : (a b : Vote ℕ) → a.leader_id.term ≡ b.leader_id.term → a.leader_id.node_id ≡ b.leader_id.node_id → leader_cmp nat_cmp a.leader_id b.leader_id ≡ Equal → (c d : Bool) → a.committed ≡ c → b.committed ≡ d → VoteOrder a b
 by_flags a b e f o false false p q = level e f (p ∙ sym q) (ap (λ x. then_flags x a.committed b.committed) o ∙ ap₂ (then_flags Equal) p q)
 by_flags a b e f o false true p q = earlier e f p q (ap (λ x. then_flags x a.committed b.committed) o ∙ ap₂ (then_flags Equal) p q)
 by_flags a b e f o true false p q = later e f p q (ap (λ x. then_flags x a.committed b.committed) o ∙ ap₂ (then_flags Equal) p q)

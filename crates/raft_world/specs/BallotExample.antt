@@ -1,6 +1,6 @@
 -- One schedule, in which an entry is settled.
 use Rattle.std.specs.Prelude.{◌%◌, List, [], ◌∷◌}
-use Rattle.raft_state.specs.Entry.{Normal}
+use Rattle.raft_state.specs.declared.entry.EntryPayload.TheVariants.{Normal}
 use Rattle.raft_world.specs.BallotLogs.{BallotEntry}
 use Rattle.raft_world.specs.BallotWorld.{BallotGroup, BallotEvent, FoundGroup, StandForElection, TakeRequest, WinElection, WriteEntry, SendEntries, TakeEntries, CommitPlace, CutForSnapshot}
 

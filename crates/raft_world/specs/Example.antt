@@ -1,16 +1,16 @@
 -- Words for worked examples: short events and outcomes, and what a run leaves.
 use Rattle.std.specs.Prelude.{ℕ, List, [], ◌∷◌, ◌++◌, map, drop, slice_get, Option, Some, None, option_map}
-use Rattle.raft_state.specs.Membership.{Member, Membership}
 use Rattle.raft_state.specs.declared.log_id.LogId.{LogId}
-use Rattle.raft_state.specs.Entry.{Entry}
+use Rattle.raft_engine.specs.Values.{Entry, Membership}
 use Rattle.raft_state.specs.declared.vote.Vote.{Vote}
 use Rattle.raft_engine.specs.StoredGroup.{StoredGroup, StoringCommand, held}
 use Rattle.raft_engine.specs.Message.{Message, MessageBody, VoteRequest, VoteReply, AppendRequest, AppendReply, SnapshotRequest, SnapshotReply, RequestId, HeartBeat, Numbered}
-use Rattle.raft_engine.specs.GroupState.{Role, Follower, Candidate, Leader}
+use Rattle.raft_engine.specs.GroupState.{Untold, Role, Follower, Candidate, Leader}
 use Rattle.raft_engine.specs.GroupEvent.{GroupEvent, Receive}
+use Rattle.raft_engine.specs.StepResult.{RefusalReason}
 use Rattle.raft_engine.specs.GroupStep.{group_step}
-use Rattle.raft_world.specs.GroupWorld.{GroupWorld, WorldEvent, Outcome, Done, new_world, NodeState, Up, Down, node_in}
-use Rattle.raft_world.specs.GroupRun.{group_run}
+use Rattle.raft_world.specs.GroupWorld.{GroupWorld, WorldEvent, Outcome, Done, Refused, Stopped, Skipped, Recorded, new_world, NodeState, Absent, Up, Down}
+use Rattle.raft_world.specs.GroupRun.{group_run, history_of}
 
 -- the events without a stop
 abbrev pub to_their_end : List WorldEvent → List (WorldEvent × Option ℕ)
@@ -19,19 +19,40 @@ to_their_end es = map (λ e. (e, None)) es
 abbrev pub run_of : List ℕ → List WorldEvent → GroupWorld
 run_of ids es = group_run (to_their_end es) (new_world ids)
 
+-- what became of an event, with the addressees of the messages in their place
+pub data Brief : Type 0 where
+  Answered : (addressees : List ℕ) (told : List Untold) (unknown : List ℕ) → Brief
+  Declined : (why : RefusalReason) → Brief
+  Halted : (unknown : List ℕ) → Brief
+  PassedOver : Brief
+
+abbrev pub addressees_of : List Message → List ℕ
+addressees_of ms = map (λ (m : Message). m.addressee) ms
+
+abbrev pub brief : Outcome → Brief
+brief (Done sent told unknown) = Answered (addressees_of sent) told unknown
+brief (Refused why) = Declined why
+brief (Stopped unknown) = Halted unknown
+brief Skipped = PassedOver
+
+-- what became of the events after the first n, from nodes with these ids on
+abbrev pub outcomes_after : ℕ → List ℕ → List (WorldEvent × Option ℕ) → List Brief
+outcomes_after n ids es =
+    map (λ (r : Recorded). brief r.outcome) (drop n (history_of es (new_world ids)))
+
 -- messages to these nodes, and nothing else
-abbrev pub ok : List ℕ → Outcome
-ok sent = Done sent [] []
+abbrev pub ok : List ℕ → Brief
+ok sent = Answered sent [] []
 
-abbrev pub ok_told : List ℕ → ℕ → ℕ → Outcome
-ok_told sent token place = Done sent (record { token = token; place = place } ∷ []) []
+abbrev pub ok_told : List ℕ → ℕ → ℕ → Brief
+ok_told sent token place = Answered sent (record { token = token; place = place } ∷ []) []
 
-abbrev pub ok_unknown : List ℕ → ℕ → Outcome
-ok_unknown sent token = Done sent [] (token ∷ [])
+abbrev pub ok_unknown : List ℕ → ℕ → Brief
+ok_unknown sent token = Answered sent [] (token ∷ [])
 
 -- a node whose address is the letter n and its id
-abbrev pub member : ℕ → Member
-member n = record { id = n; address = 110 ∷ n ∷ [] }
+abbrev pub member : ℕ → ℕ × List ℕ
+member n = (n, 110 ∷ n ∷ [])
 
 -- one voter group, and learners
 abbrev pub membership_of : List ℕ → List ℕ → Membership
@@ -48,13 +69,14 @@ add amount = 0 ∷ 0 ∷ 0 ∷ 0 ∷ 0 ∷ 0 ∷ 0 ∷ amount ∷ []
 abbrev pub ids_of_log : List Entry → List (LogId ℕ)
 ids_of_log es = map (λ (e : Entry). e.log_id) es
 
-abbrev pub stored_in : NodeState → StoredGroup
-stored_in (Up s) = s.stored
-stored_in (Down s) = s
+abbrev pub stored_in : NodeState → Option StoredGroup
+stored_in Absent = None
+stored_in (Up s) = Some s.stored
+stored_in (Down s) = Some s
 
 -- what a node has stored
 abbrev pub stored_at : GroupWorld → ℕ → Option StoredGroup
-stored_at w n = option_map stored_in (node_in w.nodes n)
+stored_at w n = stored_in (w.nodes n)
 
 abbrev pub log_ids_at : GroupWorld → ℕ → Option (List (LogId ℕ))
 log_ids_at w n = option_map (λ (s : StoredGroup). ids_of_log s.log) (stored_at w n)
@@ -63,20 +85,13 @@ abbrev pub vote_at : GroupWorld → ℕ → Option (Vote ℕ)
 vote_at w n = option_map (λ (s : StoredGroup). s.vote) (stored_at w n)
 
 abbrev pub applied_in : NodeState → Option ℕ
+applied_in Absent = None
 applied_in (Up s) = s.applied
 applied_in (Down s) = None
 
-abbrev pub applied_of_node : Option NodeState → Option ℕ
-applied_of_node None = None
-applied_of_node (Some s) = applied_in s
-
 -- up to where a node has applied the list
 abbrev pub applied_at : GroupWorld → ℕ → Option ℕ
-applied_at w n = applied_of_node (node_in w.nodes n)
-
--- the outcomes after those of the first n events
-abbrev pub outcomes_after : ℕ → GroupWorld → List Outcome
-outcomes_after n w = drop n w.outcomes
+applied_at w n = applied_in (w.nodes n)
 
 pub data Kind : Type 0 where
   AVoteRequest : Kind
@@ -115,28 +130,28 @@ part_of_role Follower = Follows
 part_of_role (Candidate granters) = Stands
 part_of_role (Leader lead) = Leads
 
-abbrev pub part_of : Option NodeState → Part
-part_of None = IsDown
-part_of (Some (Down s)) = IsDown
-part_of (Some (Up s)) = part_of_role s.role
+abbrev pub part_of : NodeState → Part
+part_of Absent = IsDown
+part_of (Up s) = part_of_role s.role
+part_of (Down s) = IsDown
 
 abbrev pub part_at : GroupWorld → ℕ → Part
-part_at w n = part_of (node_in w.nodes n)
+part_at w n = part_of (w.nodes n)
 
 -- the node's list after a run, by its log ids
 abbrev pub held_ids_at : GroupWorld → ℕ → Option (List (LogId ℕ))
 held_ids_at w n = option_map (λ (s : StoredGroup). ids_of_log (held s)) (stored_at w n)
 
 -- the storing commands that an event at a node that is up would bring
-abbrev pub commands_in : ℕ → GroupEvent → Option NodeState → List StoringCommand
-commands_in n e None = []
-commands_in n e (Some (Down s)) = []
-commands_in n e (Some (Up s)) = (group_step n s e).commands
+abbrev pub commands_in : ℕ → GroupEvent → NodeState → List StoringCommand
+commands_in n e Absent = []
+commands_in n e (Up s) = (group_step n s e).commands
+commands_in n e (Down s) = []
 
 abbrev pub commands_of_delivery : GroupWorld → Option Message → ℕ → List StoringCommand
 commands_of_delivery w None now = []
 commands_of_delivery w (Some m) now =
-    commands_in m.addressee (Receive m.sender m now) (node_in w.nodes m.addressee)
+    commands_in m.addressee (Receive m.sender m now) (w.nodes m.addressee)
 
 -- the storing commands of the delivery of a message
 abbrev pub commands_at_delivery : GroupWorld → ℕ → ℕ → List StoringCommand

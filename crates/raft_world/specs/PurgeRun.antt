@@ -3,9 +3,9 @@ use Rattle.std.specs.Prelude.{ℕ, List, [], ◌∷◌, ◌++◌, Option, Some, 
 use Rattle.raft_state.specs.declared.log_id.LogId.{LogId}
 use Rattle.raft_engine.specs.StoredGroup.{StoredGroup}
 use Rattle.raft_engine.specs.GroupEvent.{Lost, TriggerSnapshot, TriggerPurge}
-use Rattle.raft_world.specs.GroupWorld.{GroupWorld, WorldEvent, Ask, Deliver, Restart, Outcome, Stopped, new_world}
+use Rattle.raft_world.specs.GroupWorld.{GroupWorld, WorldEvent, Ask, Deliver, Restart, new_world}
 use Rattle.raft_world.specs.GroupRun.{group_run}
-use Rattle.raft_world.specs.Example.{three, ok, to_their_end, stored_at}
+use Rattle.raft_world.specs.Example.{Brief, Halted, three, ok, to_their_end, stored_at}
 use Rattle.raft_world.specs.ThreeNodes.{until_told}
 
 -- node 3 still waits for entries from the front on
@@ -16,7 +16,7 @@ wished = until_told ++ Ask 1 TriggerSnapshot 0 ∷ Ask 1 (TriggerPurge 9) 0 ∷ 
 abbrev pub fulfilled : List WorldEvent
 fulfilled = wished ++ Ask 1 (Lost 3) 0 ∷ []
 
-abbrev pub outcomes_of_wish : List Outcome
+abbrev pub outcomes_of_wish : List Brief
 outcomes_of_wish = ok [] ∷ ok [] ∷ ok (3 ∷ []) ∷ []
 
 -- node 3 stores its vote and the snapshot, and stops before it has purged its log. Its next opening
@@ -30,8 +30,8 @@ snapshot_comes_first =
 abbrev pub after_stops : GroupWorld
 after_stops = group_run snapshot_comes_first (new_world three)
 
-abbrev pub outcomes_of_stops : List Outcome
-outcomes_of_stops = Stopped [] ∷ Stopped [] ∷ Stopped [] ∷ ok [] ∷ []
+abbrev pub outcomes_of_stops : List Brief
+outcomes_of_stops = Halted [] ∷ Halted [] ∷ Halted [] ∷ ok [] ∷ []
 
 abbrev pub purged_in : Option StoredGroup → Option (LogId ℕ)
 purged_in None = None

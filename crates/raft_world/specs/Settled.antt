@@ -3,12 +3,9 @@ use Rattle.std.specs.Prelude.{◌≡◌, ℕ, ◌+◌, ◌==◌, ◌&&◌, ◌||
 use Rattle.std.specs.List.{list_any}
 use Rattle.raft_state.specs.declared.vote.LeaderId.{LeaderId}
 use Rattle.raft_state.specs.declared.vote.Vote.{Vote}
-use Rattle.raft_state.specs.Vote.{leader_eq, vote_eq}
 use Rattle.raft_state.specs.declared.log_id.LogId.{LogId}
-use Rattle.raft_state.specs.LogId.{log_id_eq}
-use Rattle.raft_state.specs.Membership.{Membership}
-use Rattle.raft_state.specs.Entry.{Entry, is_written_by}
 use Rattle.raft_state.specs.Quorum.{is_quorum}
+use Rattle.raft_engine.specs.Values.{Entry, is_written_by, leader_eq, log_id_eq, Membership, vote_eq}
 use Rattle.raft_engine.specs.Message.{Message, MessageBody, VoteRequest, VoteReply, AppendRequest, AppendReply, SnapshotRequest, SnapshotReply, ReplyFields, ReplyResult, Success, Conflict, HigherVote}
 use Rattle.raft_world.specs.GroupWorld.{GroupWorld, Led}
 

@@ -1,0 +1,122 @@
+//! What requests and responses print, and each public call once.
+
+use crate::{
+    AppendEntriesRequest, AppendEntriesResponse, Entries, InstallSnapshotRequest,
+    InstallSnapshotResponse, LoggedMembership, RequestId, SnapshotMeta, SnapshotResponse,
+    VoteRequest, VoteResponse,
+};
+use raft_state::{
+    BasicNode, Bytes, Entry, EntryPayload, LeaderId, LogId, Membership, NodeMap, Vote, VoterGroups,
+};
+use std::test::Fail;
+
+fn id(term: u64, node: u64, index: u64) -> LogId<u64> {
+    LogId::new(LeaderId::new(term, node), index)
+}
+
+#[test]
+fn request_ids_print(rt: HostRuntime) -> Result<(), Fail> {
+    let alloc = rt.alloc();
+    let beat = RequestId::HeartBeat;
+    let append = RequestId::AppendEntries { id: 3 };
+    let snapshot = RequestId::Snapshot { id: 4 };
+    assert_eq!(rt; format!(in alloc; "{beat}")?.as_str(), "HeartBeat");
+    assert_eq!(rt; format!(in alloc; "{append}")?.as_str(), "AppendEntries(3)");
+    assert_eq!(rt; format!(in alloc; "{snapshot}")?.as_str(), "Snapshot(4)");
+    Ok(())
+}
+
+#[test]
+fn votes_are_asked_for_and_granted(rt: HostRuntime) -> Result<(), Fail> {
+    let alloc = rt.alloc();
+    let asked = Vote::new(2, 1);
+    let request = VoteRequest::new(asked, Some(id(1, 3, 5)));
+    assert_eq!(rt;
+        format!(in alloc; "{request}")?.as_str(),
+        "{vote:<T2-N1:uncommitted>, last_log:T1-N3-5}"
+    );
+    let granted = VoteResponse::new(&asked, None, true);
+    assert_eq!(rt;
+        format!(in alloc; "{granted}")?.as_str(),
+        "{<T2-N1:uncommitted>, granted:true, last_log:None}"
+    );
+    assert!(rt; granted.is_granted_to(&asked));
+    assert!(rt; !granted.is_granted_to(&Vote::new_committed(2, 1)));
+    assert!(rt; !VoteResponse::new(&asked, None, false).is_granted_to(&asked));
+    Ok(())
+}
+
+#[test]
+fn entries_are_sent_and_answered(rt: HostRuntime) -> Result<(), Fail> {
+    let alloc = rt.alloc();
+    let mut entries: Entries<u64, BasicNode, Bytes> = Entries::new(alloc);
+    assert!(rt; entries.is_empty());
+    entries.push(Entry {
+        log_id: id(1, 1, 1),
+        payload: EntryPayload::Blank,
+    })?;
+    assert_eq!(rt; entries.len(), 1);
+    let first = entries.as_slice().first().ok_or("no entry")?;
+    assert_eq!(rt; first.log_id, id(1, 1, 1));
+    let request = AppendEntriesRequest {
+        vote: Vote::new_committed(1, 1),
+        prev_log_id: Some(id(0, 0, 0)),
+        entries,
+        leader_commit: None,
+    };
+    assert_eq!(rt;
+        format!(in alloc; "{request}")?.as_str(),
+        "vote=<T1-N1:committed>, prev_log_id=T0-N0-0, leader_commit=None, entries=1"
+    );
+    Ok(())
+}
+
+#[test]
+fn answers_print(rt: HostRuntime) -> Result<(), Fail> {
+    let alloc = rt.alloc();
+    let success: AppendEntriesResponse<u64> = AppendEntriesResponse::Success;
+    let partial = AppendEntriesResponse::PartialSuccess(Some(id(1, 1, 2)));
+    let conflict: AppendEntriesResponse<u64> = AppendEntriesResponse::Conflict;
+    let higher = AppendEntriesResponse::HigherVote(Vote::new(3, 2));
+    assert!(rt; success.is_success());
+    assert!(rt; !success.is_conflict());
+    assert!(rt; conflict.is_conflict());
+    assert!(rt; !partial.is_success());
+    assert_eq!(rt; format!(in alloc; "{success}")?.as_str(), "Success");
+    assert_eq!(rt;
+        format!(in alloc; "{partial}")?.as_str(),
+        "PartialSuccess(T1-N1-2)"
+    );
+    assert_eq!(rt; format!(in alloc; "{conflict}")?.as_str(), "Conflict");
+    assert_eq!(rt;
+        format!(in alloc; "{higher}")?.as_str(),
+        "Higher vote, <T3-N2:uncommitted>"
+    );
+    Ok(())
+}
+
+#[test]
+fn snapshots_are_sent_and_answered(rt: HostRuntime) -> Result<(), Fail> {
+    let alloc = rt.alloc();
+    let membership = Membership::from_parts(VoterGroups::new(alloc), NodeMap::new(alloc));
+    let meta: SnapshotMeta<u64, BasicNode> = SnapshotMeta {
+        last_log_id: id(1, 1, 7),
+        last_membership: Some(LoggedMembership {
+            log_id: id(0, 0, 0),
+            membership,
+        }),
+    };
+    let request = InstallSnapshotRequest {
+        vote: Vote::new_committed(1, 1),
+        meta,
+        bytes: Bytes::from_slice(alloc, [1, 2, 3].as_slice())?,
+    };
+    assert_eq!(rt;
+        format!(in alloc; "{request}")?.as_str(),
+        "vote:<T1-N1:committed>, meta:{last_log:T1-N1-7}, len:3"
+    );
+    let answer = SnapshotResponse::new(Vote::new(2, 3));
+    let installed = InstallSnapshotResponse::from(answer);
+    assert_eq!(rt; installed.vote, Vote::new(2, 3));
+    Ok(())
+}

@@ -1,0 +1,19 @@
+-- Nodes by their ids: a list of pairs, by rising id.
+use Rattle.std.specs.Prelude.{Bool, List, [], ◌∷◌}
+use Rattle.std.specs.declared.cmp.Ordering.{Ordering}
+use Rattle.std.specs.Ordering.{match_ordering}
+use Rattle.std.specs.List.{list_any}
+
+-- the list has this id
+abbrev pub has_id : {K : Type 0} → (K → K → Bool) → List K → K → Bool
+has_id eq ids id = list_any (λ x. eq x id) ids
+
+-- one of the nodes has this id
+abbrev pub has_node : {K N : Type 0} → (K → K → Bool) → List (K × N) → K → Bool
+has_node {K} {N} eq nodes id = list_any (λ (x : K × N). eq x.0 id) nodes
+
+-- the node among nodes by rising id, in place of the one with its id
+abbrev pub with_node : {K N : Type 0} → (K → K → Ordering) → List (K × N) → K → N → List (K × N)
+with_node cmp [] id node = (id, node) ∷ []
+with_node cmp (x ∷ xs) id node =
+    match_ordering (cmp id x.0) ((id, node) ∷ x ∷ xs) ((id, node) ∷ xs) (x ∷ with_node cmp xs id node)

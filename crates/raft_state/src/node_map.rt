@@ -1,0 +1,144 @@
+//! Nodes by their ids.
+ghost use Rattle.std.specs.Prelude.{◌≡◌, ◌+◌, ◌<◌, ◌≤◌, ◌&&◌, [], length, IfOk, OnOk, OnErr, MatchResult, MatchOption};
+ghost use Rattle.raft_state.specs.Nodes.{has_node, with_node};
+ghost use Rattle.raft_state.specs.Rising.{IsRisingByFirst};
+ghost use Rattle.raft_state.specs.Place.{place};
+ghost use Rattle.std.specs.Cmp.Lexicographic.{pointwise, lists_per, lists_equiv};
+ghost use Rattle.std.specs.Cmp.{and_per, on_per, and_equiv, on_equiv};
+
+use crate::node::{Node, NodeId};
+use std::alloc::{AllocError, Global};
+use std::cmp::Ordering;
+use std::marker::Model;
+
+/// Nodes by their ids. Contracts see a list of pairs, an id and its node, by rising id.
+#[derive(Debug, Drop)]
+pub struct NodeMap<NID: NodeId, N: Node> {
+    nodes: Vec<(NID, N)>,
+}
+
+impl<NID: NodeId, N: Node> Model for NodeMap<NID, N> {
+    ghost use Rattle.std.specs.Prelude.{List};
+    ghost use Rattle.raft_state.specs.Rising.{IsRisingByFirst};
+
+    ghost Value = { List (NID × N) };
+
+    ghost view = { λ s. s.nodes.items };
+
+    ghost invariant = { λ s. IsRisingByFirst NID.cmp s.nodes.items };
+}
+
+// The place of the id's node, or the gap where it belongs.
+fn place<NID: NodeId, N: Node>(nodes: &[(NID, N)], id: &NID) -> Result<usize, usize>
+    ensures place { result ≡ place (λ (x : NID × N). NID.cmp id.now x.0) nodes.now }
+    ensures within { MatchResult result (λ at. at < length nodes.now) (λ gap. gap ≤ length nodes.now) }
+{
+    for (at, other) in nodes.iter().enumerate() {
+        match id.cmp(&other.0) {
+            Ordering::Less => return Err(at),
+            Ordering::Equal => return Ok(at),
+            Ordering::Greater => {}
+        }
+    }
+    Err(nodes.len())
+}
+
+fn insert_rising<NID: NodeId, N: Node>(
+    nodes: &mut Vec<(NID, N)>,
+    id: NID,
+    node: N,
+) -> Result<(), AllocError>
+    requires { IsRisingByFirst NID.cmp nodes.old.items }
+    ensures ok { OnOk result (nodes.new.items ≡ with_node NID.cmp nodes.old.items id node) }
+    ensures err { OnErr result (nodes.new.items ≡ nodes.old.items) }
+    ensures rising { IsRisingByFirst NID.cmp nodes.new.items }
+{
+    match place(nodes.as_slice(), &id) {
+        Ok(at) => {
+            nodes[at] = (id, node);
+        }
+        Err(gap) => {
+            nodes.insert(gap, (id, node))?;
+        }
+    }
+    Ok(())
+}
+
+impl<NID: NodeId, N: Node> NodeMap<NID, N> {
+    /// No nodes.
+    pub fn new(alloc: Global) -> NodeMap<NID, N>
+        ensures { result ≡ [] }
+    {
+        NodeMap {
+            nodes: Vec::new(alloc),
+        }
+    }
+
+    /// How many nodes there are.
+    pub fn len(&self) -> usize
+        ensures { result ≡ length self.now }
+    {
+        self.nodes.len()
+    }
+
+    /// The ids with their nodes, by rising id.
+    pub fn as_slice(&self) -> &[(NID, N)]
+        ensures nodes { result.now ≡ self.now }
+        ensures rising { IsRisingByFirst NID.cmp self.now }
+    {
+        self.nodes.as_slice()
+    }
+
+    /// Whether one of the nodes has the id.
+    pub fn contains(&self, id: &NID) -> bool
+        ensures { result ≡ has_node NID.eq self.now id.now }
+    {
+        self.nodes.iter().any(|x| x.0 == *id)
+    }
+
+    /// Takes the node in, in place of the one with its id. Without memory the nodes stay.
+    pub fn insert(&mut self, id: NID, node: N) -> Result<(), AllocError>
+        ensures ok { OnOk result (self.new ≡ with_node NID.cmp self.old id node) }
+        ensures err { OnErr result (self.new ≡ self.old) }
+    {
+        insert_rising(&mut self.nodes, id, node)
+    }
+}
+
+// A second list of the same nodes.
+fn copy_nodes<NID: NodeId, N: Node>(
+    alloc: Global,
+    nodes: &[(NID, N)],
+) -> Result<Vec<(NID, N)>, AllocError>
+    ensures { IfOk result (λ copies. copies.items ≡ nodes.now) }
+{
+    let mut copies = Vec::new(alloc);
+    for (id, node) in nodes {
+        copies.push((*id, node.clone()?))?;
+    }
+    Ok(copies)
+}
+
+impl<NID: NodeId, N: Node> Clone for NodeMap<NID, N> {
+    ghost is_clone = { λ x y. y ≡ x };
+
+    fn clone(&self) -> Result<NodeMap<NID, N>, AllocError> {
+        Ok(NodeMap {
+            nodes: copy_nodes(*self.nodes.allocator(), self.nodes.as_slice())?,
+        })
+    }
+}
+
+impl<NID: NodeId, N: Node> PartialEq for NodeMap<NID, N> {
+    ghost eq = { pointwise (λ x y. NID.eq x.0 y.0 && N.eq x.1 y.1) };
+
+    ghost laws = { lists_per (and_per (on_per (λ (t : NID × N). t.0) NID.PartialEq.laws) (on_per (λ (t : NID × N). t.1) N.PartialEq.laws)) };
+
+    fn eq(&self, other: &NodeMap<NID, N>) -> bool {
+        self.nodes == other.nodes
+    }
+}
+
+impl<NID: NodeId, N: Node> Eq for NodeMap<NID, N> {
+    ghost laws = { lists_equiv (and_equiv (on_equiv (λ (t : NID × N). t.0) NID.Eq.laws) (on_equiv (λ (t : NID × N). t.1) N.Eq.laws)) };
+}
