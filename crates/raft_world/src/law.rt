@@ -5,6 +5,7 @@ ghost use Rattle.raft_engine.specs.GroupState.{GroupState};
 ghost use Rattle.raft_engine.specs.GroupEvent.{GroupEvent};
 ghost use Rattle.raft_engine.specs.GroupStep.{group_step};
 ghost use Rattle.raft_world.specs.StoringOrder.{StoresInOrder};
+ghost use Rattle.raft_world.specs.VotesRise.{VotesNeverDecrease};
 
 /// What a step has stored is what its storing commands make of the group, one after the other. None of them puts a
 /// lesser vote in place of a greater, and none cuts the log at or below the committed place.
@@ -12,6 +13,8 @@ pub fn step_stores_its_commands()
     ensures { (own : ℕ) (s : GroupState) (e : GroupEvent) → StoresInOrder s.committed s.stored (group_step own s e) }
 {}
 
-pub fn scratch()
-    ensures { (n : ℕ) → n ≡ n }
+/// A node's vote never decreases, over every history that replays, with a stop after any number of an event's storing
+/// commands, crashes and restarts: what it has stored later has a vote that isn't below the one before.
+pub fn votes_never_decrease()
+    ensures { VotesNeverDecrease }
 {}
