@@ -27,7 +27,7 @@ use Rattle.raft_world.proofs.VoteOrders.{LeaderBelow, LeaderOrder, below, equal,
 use Rattle.raft_world.proofs.VoteRanks.{rank_below, rank_same, owner_other, rank_rises, rank_rises_strictly, same_vote}
 use Rattle.raft_world.proofs.Shapes.{Good, Joined}
 use Rattle.raft_world.proofs.Ids.{log_end_is, before, end_is}
-use Rattle.raft_world.proofs.Standing.{HasId, StoredFits, UpFits, RoleFits, request-of, grant-of, id_rank}
+use Rattle.raft_world.proofs.Standing.{message_on, HasId, StoredFits, UpFits, RoleFits, request-of, grant-of, id_rank}
 use Rattle.raft_world.proofs.StepWords.{either_by}
 use Rattle.raft_world.proofs.Tracking.{Tracks, Reached, track_event, track_on, track_same, reached_next, step_extends, index_of, up_same}
 
@@ -134,6 +134,11 @@ module _ (m : Membership) (some : 0 < length m.configs) (own : ℕ) (small : own
       )
 
 
+  -- and its grant was sent
+  pub record Granted (w : BallotWorld) (v : Vote ℕ) (committed : Option ℕ) (q : StepResult) : Type 0 where
+    pub took : TookOver w v committed q
+    pub grant : Among (grant-of (rank_of v.leader_id) own) (took.world).grants
+
   module _ (w : BallotWorld) (r : StepResult) (t : Tracks m some own before' base w r) where
     -- the own last log id is of a node
     last_bound : (id : LogId ℕ) → last_id r.state.stored ≡ Some id → id.leader_id.node_id < 2 ^ 64
@@ -174,5 +179,65 @@ module _ (m : Membership) (some : 0 < length m.configs) (own : ℕ) (small : own
 
       -- a request of a candidate is granted
       module _ (last : Option (LogId ℕ)) (asked : Among (request-of (rank_of v.leader_id) (id_rank last) (next_place last)) w.requests) (young : v.committed ≡ false) (low : vote_lt v r.state.stored.vote ≡ false) (behind : last_id_lt last (last_id r.state.stored) ≡ false) where
-        asking : BallotRequest
+        abbrev pub asking : BallotRequest
         asking = request-of (rank_of v.leader_id) (id_rank last) (next_place last)
+
+        at : (k : ℕ) × (slice_get w.requests k ≡ Some (request-of (rank_of v.leader_id) (id_rank last) (next_place last)))
+        at = index_of (request-of (rank_of v.leader_id) (id_rank last) (next_place last)) w.requests asked
+
+        may : (r.state.stored.vote ≡ v) ⊎ (rank_of r.state.stored.vote.leader_id < rank_of v.leader_id) → can_grant (ballot_group m) own (w.node own) asking ≡ true
+        may h =
+            and_from (not (owner_of (rank_of v.leader_id) == own)) _ (not_from_false _ (ne_eqb (owner_of (rank_of v.leader_id)) own owner_differs))
+            (and_from (nat_lt (w.node own).ballot (rank_of v.leader_id) || (((w.node own).ballot == rank_of v.leader_id) && not (w.node own).committed)) _
+            (⊎_elim
+            (λ e.
+            or_right (nat_lt (w.node own).ballot (rank_of v.leader_id)) _
+            (and_from ((w.node own).ballot == rank_of v.leader_id) _
+            (eq-eqb (w.node own).ballot (rank_of v.leader_id) (t.up.fits.ballot ∙ ap (λ x. rank_of x.leader_id) e))
+            (not_from_false (w.node own).committed (t.up.fits.committed ∙ ap (λ x. x.committed) e ∙ young))))
+            (λ l. or_left (nat_lt (w.node own).ballot (rank_of v.leader_id)) _ (lt-ltb (w.node own).ballot (rank_of v.leader_id) (omega (arith, t.up.fits.ballot))))
+            h)
+            (subst (λ x. is_at_least (record { ballot = id_rank last; count = next_place last }) x ≡ true)
+            (sym (log_end_is m (w.node own) r.state.stored t.up.list t.up.fits t.up.joined))
+            (at_least last (last_id r.state.stored) last_bound behind)))
+
+        is : can_grant (ballot_group m) own (w.node own) asking ≡ true → ballot_step (ballot_group m) w (TakeRequest at.0 own) ≡ granted w own asking
+        is h = ap (λ o. request_comes (ballot_group m) w o own) at.1 ∙ cond-true _ _ _ h
+
+        -- the node has the vote now, and its grant counts
+        pub grant_tracks : RoleFits own w r.state.stored.vote t.up.list r.state.role → Granted w v r.state.committed (take_over v r)
+        grant_tracks role =
+            either_by (Granted w v r.state.committed) (vote_lt r.state.stored.vote v) _ _
+            (λ l.
+            let down = track_same (step_down r) t refl refl refl refl refl in
+            let step = is (may (inr (rank_rises_strictly r.state.stored.vote v t.up.fits.bound young l))) in
+            record { grant = inl refl; took = record {
+              world = granted w own asking;
+              extends = step_extends m own w (TakeRequest at.0 own) refl (granted w own asking) step;
+              tracks =
+                  track_same (store_vote v (step_down r))
+                  (track_event (SetVote v) down (TakeRequest at.0 own) refl (granted w own asking) step
+                  (subst (λ y. UpFits m y (with_stored (step_down r).state (after_storing (SetVote v) r.state.stored))) (sym (with_value_same w.node own _))
+                  (up_node _ refl (sym young) refl refl (voted v bound down.up))))
+                  refl refl refl refl refl;
+              role = refl;
+              vote = refl;
+              place = refl;
+            } })
+            (λ l.
+            let same = same_vote v r.state.stored.vote low l in
+            let step = is (may (inl (sym same))) in
+            let stranger : r.state.stored.vote.leader_id.node_id ≡ own → ⊥ = λ e. other (ap (λ x. x.leader_id.node_id) same ∙ e) in
+            record { grant = inl refl; took = record {
+              world = granted w own asking;
+              extends = step_extends m own w (TakeRequest at.0 own) refl (granted w own asking) step;
+              tracks =
+                  track_on (renew r) t refl refl (reached_next (TakeRequest at.0 own) refl (granted w own asking) step t.reached)
+                  (subst (λ y. UpFits m y (renew r).state) (sym (with_value_same w.node own _))
+                  (up_node _ (ap (λ x. rank_of x.leader_id) same ∙ sym t.up.fits.ballot) (sym young ∙ ap (λ x. x.committed) same ∙ sym t.up.fits.committed) refl refl
+                  (up_same r.state (renew r).state refl refl refl t.up)))
+                  (λ x a. message_on (step_extends m own w (TakeRequest at.0 own) refl (granted w own asking) step) m x (t.messages x a));
+              role = stranger_follows own w r.state.stored.vote t.up.list r.state.role role stranger;
+              vote = sym same;
+              place = refl;
+            } })
