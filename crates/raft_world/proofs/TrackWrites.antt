@@ -9,7 +9,7 @@ use Rattle.raft_state.specs.declared.vote.Vote.{Vote}
 use Rattle.raft_state.specs.declared.entry.EntryPayload.TheVariants.{Blank, Normal, Membership as Members}
 use Rattle.raft_state.specs.LogId.{next_place}
 use Rattle.raft_engine.specs.Values.{Membership, Entry, EntryPayload, entry_of}
-use Rattle.raft_engine.specs.StoredGroup.{StoredGroup, PutEntries, CutFrom, after_storing, first_place, end_place, prefix_of}
+use Rattle.raft_engine.specs.StoredGroup.{StoredGroup, PutEntries, CutFrom, after_storing, first_place, end_place, prefix_of, held}
 use Rattle.raft_engine.specs.GroupState.{GroupState, Role}
 use Rattle.raft_engine.specs.StepResult.{StepResult, append, with_stored}
 use Rattle.raft_world.specs.BallotLogs.{BallotEntry}
@@ -18,7 +18,7 @@ use Rattle.raft_world.specs.BallotRanks.{rank_of, owner_of, ballot_entry, ballot
 use Rattle.raft_world.proofs.BallotAgreement.{with_value_same, same_some}
 use Rattle.raft_world.proofs.BallotOthers.{Extends}
 use Rattle.raft_world.proofs.VoteRanks.{owner_is}
-use Rattle.raft_world.proofs.Shapes.{Good, Joined, good_none, good_take, good_append, joined_cut, joined_put, joined_end, slice_take, slice_before}
+use Rattle.raft_world.proofs.Shapes.{Good, Joined, good_none, good_take, good_append, joined_cut, joined_put, joined_end, joined_held, slice_take, slice_before}
 use Rattle.raft_world.proofs.Memberships.{HasMembership, has_more}
 use Rattle.raft_world.proofs.Standing.{HasId, StoredFits, UpFits, RoleFits, OwnVote, has_id_on, role_on}
 use Rattle.raft_world.proofs.Tracking.{Tracks, track_event, step_extends}
@@ -136,3 +136,14 @@ module _ {m : Membership} {some : 0 < length m.configs} {own : ℕ} {before : Li
       (λ i e q. below_stays t.up.list (new_entry ∷ []) (end_place r.state.stored) i e (omega (arith, ends)) (let l = slice_get_within t.up.list i e q in omega (arith, ends)) q)
       (λ has. has_more (take (end_place r.state.stored) t.up.list) (new_entry ∷ []) (subst HasMembership (sym (take_all (end_place r.state.stored) t.up.list (omega (arith, ends)))) has))
       h
+
+  pub write_held : held (append payload r).state.stored ≡ take (end_place r.state.stored) t.up.list ++ new_entry ∷ []
+  write_held =
+      let p = end_place r.state.stored in
+      joined_held (after_storing (PutEntries p (new_entry ∷ [])) r.state.stored) (take p t.up.list ++ new_entry ∷ [])
+      (joined_put r.state.stored t.up.list t.up.joined p (omega (arith, ends, (t.up.joined).high)) (omega (arith, ends)) (new_entry ∷ []))
+
+  pub write_fits : (role : Role) → RoleFits own w r.state.stored.vote (held r.state.stored) role → RoleFits own (written w own payload) r.state.stored.vote (held (append payload r).state.stored) role
+  write_fits role h =
+      subst (λ l. RoleFits own (written w own payload) r.state.stored.vote l role) (sym write_held)
+      (write_role role (subst (λ l. RoleFits own w r.state.stored.vote l role) (joined_held r.state.stored t.up.list t.up.joined) h))
