@@ -1,35 +1,38 @@
 -- Elections, followed by the ballot machine.
-use Rattle.std.specs.Prelude.{◌≡◌, ◌⊎◌, ℕ, zero, suc, ◌+◌, ◌-◌, ◌*◌, ◌<◌, ◌≤◌, ◌^◌, ◌==◌, ◌&&◌, not, nat_lt, Bool, true, false, List, [], ◌∷◌, ◌++◌, length, count_by, take, Option, Some, None, refl, cond}
+use Rattle.std.specs.Prelude.{◌≡◌, ◌⊎◌, ℕ, zero, suc, ◌+◌, ◌-◌, ◌*◌, ◌<◌, ◌≤◌, ◌^◌, ◌==◌, ◌&&◌, not, nat_lt, Bool, true, false, List, [], ◌∷◌, ◌++◌, length, count_by, take, Option, Some, None, is_none, refl, cond}
 use Rattle.std.proofs.Common.{inl, inr, sym, ap, ap₂, ◌∙◌, subst, arith, ⊎_elim, eq-eqb, eqb-true, lt-ltb}
 use Rattle.std.proofs.lemmas.Bool.{and_from, and_parts, cond-true, cond_both, not_from_false, or_cases, or_left, or_right}
 use Rattle.raft_state.specs.declared.vote.Vote.{Vote}
-use Rattle.raft_state.specs.declared.entry.EntryPayload.TheVariants.{Blank, Membership as Members}
+use Rattle.raft_state.specs.declared.entry.EntryPayload.TheVariants.{Blank, Normal, Membership as Members}
 use Rattle.raft_state.specs.Vote.{vote_of}
-use Rattle.raft_state.specs.LogId.{next_place}
+use Rattle.raft_state.specs.LogId.{next_place, log_id_of}
 use Rattle.raft_state.specs.Quorum.{is_quorum as is_quorum_of}
-use Rattle.raft_engine.specs.Values.{Membership, Entry, EntryPayload, LoggedMembership, has_id, is_written_by, last_membership}
-use Rattle.raft_engine.specs.StoredGroup.{StoredGroup, SetVote, after_storing, last_id, held, membership_in_force}
+use Rattle.raft_engine.specs.Values.{Membership, Entry, EntryPayload, entry_of, vote_eq, LoggedMembership, has_id, is_written_by, last_membership}
+use Rattle.raft_engine.specs.StoredGroup.{StoredGroup, PutEntries, end_place, prefix_of, SetVote, after_storing, last_id, held, membership_in_force}
 use Rattle.raft_engine.specs.Message.{VoteRequest}
 use Rattle.raft_engine.specs.GroupState.{GroupState, Role, Follower, Candidate, Leader}
-use Rattle.raft_engine.specs.StepResult.{StepResult, store_vote, step_down, in_role, send, with_stored, append}
+use Rattle.raft_engine.specs.StepResult.{StepResult, store, store_vote, step_down, in_role, send, with_stored, append}
 use Rattle.raft_engine.specs.Lead.{configs_of, configs_in_force, committed_vote, new_lead, append_blank, begin_lead, lead_if, with_grant}
 use Rattle.raft_engine.specs.Elect.{other_voters, ask, stand, elect_step}
+use Rattle.raft_engine.specs.Initialize.{is_new, initialize_step}
+use Rattle.raft_world.specs.BallotLogs.{LogEnd}
 use Rattle.raft_world.specs.BallotQuorum.{is_quorum}
-use Rattle.raft_world.specs.BallotWorld.{BallotGrant, BallotWorld, BallotEvent, StandForElection, WinElection, has_granted, is_ballot_candidate, elected, won, written, ballot_step}
-use Rattle.raft_world.specs.BallotRanks.{rank_of, owner_of, ballot_group}
+use Rattle.raft_world.specs.BallotWorld.{FoundGroup, founded, is_empty, BallotRequest, BallotGrant, BallotWorld, BallotEvent, StandForElection, WinElection, has_granted, is_ballot_candidate, elected, won, written, ballot_step}
+use Rattle.raft_world.specs.BallotRanks.{rank_of, owner_of, ballot_log, ballot_group}
 use Rattle.raft_world.proofs.BallotAgreement.{with_value_same}
 use Rattle.raft_world.proofs.BallotQuorums.{quorum_more}
 use Rattle.raft_world.proofs.BallotSafe.{Among}
 use Rattle.raft_world.proofs.BallotOthers.{Extends, extends_refl, extends_trans}
-use Rattle.raft_world.proofs.VoteRanks.{owner_is}
-use Rattle.raft_world.proofs.Shapes.{joined_held}
+use Rattle.raft_world.proofs.VoteRanks.{owner_is, rank_below, vote_eq_same}
+use Rattle.raft_world.proofs.VoteOrders.{by_term}
+use Rattle.raft_world.proofs.Shapes.{Good, Joined, joined_held, joined_end, joined_put}
 use Rattle.raft_world.proofs.Memberships.{HasMembership, in_force, last_voters}
 use Rattle.raft_world.proofs.Standing.{MessageFits, UpFits, RoleFits, OwnVote, request-of, grant-of, id_rank}
 use Rattle.raft_world.proofs.Ids.{log_end_is}
 use Rattle.raft_world.proofs.StepWords.{either_by}
 use Rattle.raft_world.proofs.Tracking.{Tracks, among_last, track_event, track_same, track_send, step_extends}
 use Rattle.raft_world.proofs.TrackVotes.{voted, up_node}
-use Rattle.raft_world.proofs.TrackWrites.{write_tracks, write_extends, write_fits}
+use Rattle.raft_world.proofs.TrackWrites.{put_fits, good_one, write_tracks, write_extends, write_fits}
 
 -- the two ways to say a quorum
 pub quorum_link : (groups : List (List ℕ)) (p : ℕ → Bool) → is_quorum_of groups p ≡ true → is_quorum groups p ≡ true
@@ -62,6 +65,19 @@ pub record Ends (m : Membership) (some : 0 < length m.configs) (own : ℕ) (befo
   pub extends : Extends own w world
   pub tracks : Tracks m some own before base world q
   pub role : RoleFits own world q.state.stored.vote (held q.state.stored) q.state.role
+
+pub ask_state : (own : ℕ) (ns : List ℕ) (r : StepResult) → (ask own ns r).state ≡ r.state
+ask_state own [] r = refl
+ask_state own (n ∷ ns) r = ask_state own ns _
+
+-- the voter groups of a membership's entry
+abbrev configs-in : EntryPayload → List (List ℕ)
+configs-in Blank = []
+configs-in (Normal command) = []
+configs-in (Members x) = x.configs
+
+abbrev request-at : ℕ → LogEnd → BallotRequest
+request-at b last = record { ballot = b; last = last }
 
 module _ {m : Membership} {some : 0 < length m.configs} {own : ℕ} {before : List BallotEvent} {base : StoredGroup} where
   -- the voter groups in force are the group's
@@ -154,10 +170,114 @@ module _ {m : Membership} {some : 0 < length m.configs} {own : ℕ} {before : Li
 
   -- ---- standing
 
-  pub ask_state : (ns : List ℕ) (r : StepResult) → (ask own ns r).state ≡ r.state
-  ask_state [] r = refl
-  ask_state (n ∷ ns) r = ask_state ns _
-
   ask_tracks : (ns : List ℕ) (w : BallotWorld) (r : StepResult) → Tracks m some own before base w r → r.state.stored.vote.leader_id.node_id < 2 ^ 64 → Among (request-of (rank_of r.state.stored.vote.leader_id) (id_rank (last_id r.state.stored)) (next_place (last_id r.state.stored))) w.requests → Tracks m some own before base w (ask own ns r)
   ask_tracks [] w r t bound asked = t
   ask_tracks (n ∷ ns) w r t bound asked = ask_tracks ns w _ (track_send n (VoteRequest r.state.stored.vote (last_id r.state.stored)) t (bound, asked)) bound asked
+
+  pub ends_from : {w w' : BallotWorld} {q : StepResult} → Extends own w w' → Ends m some own before base w' q → Ends m some own before base w q
+  ends_from e n = record { world = n.world; extends = extends_trans e n.extends; tracks = n.tracks; role = n.role }
+
+  module _ (small : own < 2 ^ 64) (w : BallotWorld) (r : StepResult) (t : Tracks m some own before base w r) (has : HasMembership (held r.state.stored)) where
+    abbrev next_vote : Vote ℕ
+    next_vote = vote_of (r.state.stored.vote.leader_id.term + 1) own false
+
+    abbrev next_ballot : ℕ
+    next_ballot = rank_of next_vote.leader_id
+
+    stand_is : ballot_step (ballot_group m) w (StandForElection own next_ballot) ≡ elected w own next_ballot
+    stand_is =
+        let owned = owner_is next_vote.leader_id (omega arith) small in
+        let less = rank_below r.state.stored.vote.leader_id next_vote.leader_id t.up.fits.bound (by_term (omega arith)) in
+        cond-true _ _ _
+        (and_from (owner_of next_ballot == own) (nat_lt (w.node own).ballot next_ballot) (eq-eqb (owner_of next_ballot) own owned)
+        (lt-ltb (w.node own).ballot next_ballot (omega (arith, t.up.fits.ballot))))
+
+    stand_extends : Extends own w (elected w own next_ballot)
+    stand_extends = step_extends m own w (StandForElection own next_ballot) refl (elected w own next_ballot) stand_is
+
+    abbrev candidate_state : StepResult
+    candidate_state = in_role (Candidate []) (store_vote next_vote (step_down r))
+
+    candidate_tracks : Tracks m some own before base (elected w own next_ballot) candidate_state
+    candidate_tracks =
+        let down = track_same (step_down r) t refl refl refl refl refl in
+        track_same candidate_state
+        (track_event (SetVote next_vote) down (StandForElection own next_ballot) refl (elected w own next_ballot) stand_is
+        (subst (λ y. UpFits m y (with_stored (step_down r).state (after_storing (SetVote next_vote) r.state.stored))) (sym (with_value_same w.node own _))
+        (voted next_vote small down.up)))
+        refl refl refl refl refl
+
+    asked : Among (request-of next_ballot (id_rank (last_id candidate_state.state.stored)) (next_place (last_id candidate_state.state.stored))) (elected w own next_ballot).requests
+    asked = inl (ap (request-at next_ballot) (sym (log_end_is m (w.node own) r.state.stored t.up.list t.up.fits t.up.joined)))
+
+    stood_tracks : Tracks m some own before base (elected w own next_ballot) (stand own r)
+    stood_tracks = ask_tracks (other_voters own r.state.stored) (elected w own next_ballot) candidate_state candidate_tracks small asked
+
+    mine : OwnVote own next_vote false
+    mine = record { flag = refl; node = refl; term = omega arith }
+
+    -- a node stands, and leads where its own grant is a quorum
+    pub elect_ends : Ends m some own before base w (elect_step own r)
+    elect_ends =
+        let same = ask_state own (other_voters own r.state.stored) candidate_state in
+        ends_from stand_extends
+        (grant_ends own (elected w own next_ballot) (stand own r) stood_tracks
+        (subst (λ s. Among (grant-of (rank_of s.stored.vote.leader_id) own) (elected w own next_ballot).grants) (sym same) (inl refl))
+        (stand own r).state.role refl
+        (subst (λ s. RoleFits own (elected w own next_ballot) s.stored.vote (held s.stored) s.role) (sym same) (mine, has, λ k a. absurd a)))
+
+  -- ---- the first set-up
+
+  module _ (small : own < 2 ^ 64) (w : BallotWorld) (r : StepResult) (t : Tracks m some own before base w r) (new : is_new r.state.stored ≡ true) where
+    abbrev first_put : List Entry
+    first_put = entry_of (log_id_of 0 0 0) (Members m) ∷ []
+
+    none_stored : (t.up.list ≡ []) × (length (prefix_of r.state.stored.snapshot) ≡ 0) × (r.state.stored.vote ≡ vote_of 0 0 false)
+    none_stored =
+        let one = and_parts _ (is_none r.state.stored.snapshot) new in
+        let two = and_parts (vote_eq r.state.stored.vote (vote_of 0 0 false)) (end_place r.state.stored == 0) one.0 in
+        let size = joined_end r.state.stored t.up.list t.up.joined in
+        let zero' = eqb-true (end_place r.state.stored) 0 two.1 in (
+          no_entries t.up.list (omega (arith, size, zero')),
+          (let h = (t.up.joined).high in omega (arith, h, size, zero')),
+          vote_eq_same r.state.stored.vote (vote_of 0 0 false) two.0,
+        )
+      where
+        no_entries : (xs : List Entry) → length xs ≡ 0 → xs ≡ []
+        no_entries [] e = refl
+        no_entries (x ∷ xs) e = absurd (omega arith)
+
+    found_is : ballot_step (ballot_group m) w (FoundGroup own) ≡ founded (ballot_group m) w own
+    found_is =
+        let n = none_stored in
+        let rank : (w.node own).ballot ≡ 0 = t.up.fits.ballot ∙ ap (λ v. rank_of v.leader_id) n.2 in
+        let log : (w.node own).log ≡ [] = t.up.fits.log ∙ ap ballot_log n.0 in
+        cond-true _ _ _
+        (and_from ((w.node own).ballot == 0) (is_empty (w.node own).log) (eq-eqb (w.node own).ballot 0 rank) (ap is_empty log))
+
+    first_good : Good m 0 first_put
+    first_good = good_one m 0 (entry_of (log_id_of 0 0 0) (Members m)) refl (omega arith) (λ x e. ap configs-in (sym e))
+
+    found_joined : Joined (after_storing (PutEntries 0 first_put) r.state.stored) (take 0 t.up.list ++ first_put)
+    found_joined = joined_put r.state.stored t.up.list t.up.joined 0 (let n = none_stored.1 in omega arith) (omega arith) first_put
+
+    found_tracks : Tracks m some own before base (founded (ballot_group m) w own) (store (PutEntries 0 first_put) r)
+    found_tracks =
+        track_event (PutEntries 0 first_put) t (FoundGroup own) refl (founded (ballot_group m) w own) found_is
+        (subst (λ y. UpFits m y (with_stored r.state (after_storing (PutEntries 0 first_put) r.state.stored))) (sym (with_value_same w.node own _))
+        (record {
+          list = take 0 t.up.list ++ first_put;
+          fits =
+              put_fits t.up.fits t.up.joined 0 (let n = none_stored.1 in omega arith) (omega arith) first_put first_good
+              _ refl refl refl t.up.fits.reaches;
+          joined = found_joined;
+          commit = t.up.commit;
+          applied = t.up.applied;
+        }))
+
+    pub initialize_ends : Ends m some own before base w (initialize_step own m r)
+    initialize_ends =
+        let held-is = joined_held (after_storing (PutEntries 0 first_put) r.state.stored) (take 0 t.up.list ++ first_put) found_joined in
+        ends_from (step_extends m own w (FoundGroup own) refl (founded (ballot_group m) w own) found_is)
+        (elect_ends small (founded (ballot_group m) w own) (store (PutEntries 0 first_put) r) found_tracks
+        (record { log_id = log_id_of 0 0 0; membership = m }, ap (last_membership None) held-is))

@@ -73,7 +73,7 @@ abbrev entry-at : ℕ → EntryPayload → BallotEntry
 entry-at b payload = record { ballot = b; payload = payload }
 
 -- one entry of the group's
-good_one : (m : Membership) (p : ℕ) (e : Entry) → e.log_id.index ≡ p → e.log_id.leader_id.node_id < 2 ^ 64 → ((x : Membership) → e.payload ≡ Members x → x.configs ≡ m.configs) → Good m p (e ∷ [])
+pub good_one : (m : Membership) (p : ℕ) (e : Entry) → e.log_id.index ≡ p → e.log_id.leader_id.node_id < 2 ^ 64 → ((x : Membership) → e.payload ≡ Members x → x.configs ≡ m.configs) → Good m p (e ∷ [])
 good_one m p e a b c =
     record {
       placed = λ i x h. let q = only i x h in omega (arith, q.1, a, ap (λ v. v.log_id.index) q.0);
