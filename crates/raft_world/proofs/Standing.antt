@@ -106,6 +106,7 @@ RepliesFit w sender r (HigherVote vote) = vote.leader_id.node_id < 2 ^ 64
 pub record AppendFits (m : Membership) (w : BallotWorld) (a : AppendFields) : Type 0 where
   pub bound : a.vote.leader_id.node_id < 2 ^ 64
   pub good : Good m (next_place a.previous) a.entries
+  pub previous : (id : LogId ℕ) → a.previous ≡ Some id → id.leader_id.node_id < 2 ^ 64
   pub sent : Among (append-of (rank_of a.vote.leader_id) (next_place a.previous) (id_rank a.previous) (ballot_log a.entries) (next_place a.committed)) w.appends
 
 pub record InstallFits (m : Membership) (w : BallotWorld) (vote : Vote ℕ) (x : Snapshot) : Type 0 where
@@ -141,7 +142,7 @@ module _ {n : ℕ} {w w' : BallotWorld} (e : Extends n w w') where
   body_on : (m : Membership) (sender : ℕ) (b : MessageBody) → BodyFits m w sender b → BodyFits m w' sender b
   body_on m sender (VoteRequest vote last) h = (h.0, e.requests _ h.1)
   body_on m sender (VoteReply vote granted last) h = (h.0, λ t. e.grants _ (h.1 t))
-  body_on m sender (AppendRequest a) h = record { bound = h.bound; good = h.good; sent = e.appends _ h.sent }
+  body_on m sender (AppendRequest a) h = record { bound = h.bound; good = h.good; previous = h.previous; sent = e.appends _ h.sent }
   body_on m sender (AppendReply r) h = (h.0, replies_on sender r r.outcome h.1)
   body_on m sender (SnapshotRequest vote id x) h =
       record { bound = h.bound; good = h.good; snapshot = h.snapshot; sent = e.appends _ h.sent }
