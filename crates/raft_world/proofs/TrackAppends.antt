@@ -139,3 +139,86 @@ module _ {m : Membership} {some : 0 < length m.configs} {own : ℕ} {before : Li
             })),
         step_extends m own w (CutForConflict at.0 own) refl (cut_before w own asked) conflict_is,
     )
+
+  -- ---- the entry before is the list's
+
+  module _ (kept : is_held r.state.stored r.state.committed a.previous ≡ true) where
+    holding : (nat_le (next_place a.previous) (w.node own).commit || holds_before (w.node own).log (next_place a.previous) (id_rank a.previous)) ≡ true
+    holding = go a.previous fits.previous kept
+      where
+        go : (o : Option (LogId ℕ)) → ((id : LogId ℕ) → o ≡ Some id → id.leader_id.node_id < 2 ^ 64) → is_held r.state.stored r.state.committed o ≡ true → (nat_le (next_place o) (w.node own).commit || holds_before (w.node own).log (next_place o) (id_rank o)) ≡ true
+        go None h k = or_left (nat_le 0 (w.node own).commit) _ (le-leb 0 (w.node own).commit (omega arith))
+        go (Some id) h k =
+            ⊎_elim
+            (λ q.
+            let l = within_is r.state.committed id.index q in
+            or_left (nat_le (id.index + 1) (w.node own).commit) _ (le-leb (id.index + 1) (w.node own).commit (omega (arith, t.up.commit))))
+            (λ q.
+            let y = has_id_place m r.state.stored list t.up.joined t.up.fits.good id q (h id refl) in
+            or_right (nat_le (id.index + 1) (w.node own).commit) _
+            (ap₂ (λ l k. holds_before l k (rank_of id.leader_id)) t.up.fits.log (let e : id.index + 1 ≡ suc id.index = omega arith in e)
+            ∙ holds_at (ballot_log list) id.index (rank_of id.leader_id) (ballot_entry y.0) (ballot_at list id.index y.0 y.1)
+            ∙ eq-eqb (rank_of (y.0).log_id.leader_id) (rank_of id.leader_id) y.2))
+            (or_cases (is_within id.index r.state.committed) (has_id_in_log r.state.stored id) k)
+
+    safe : Safe (ballot_group m) w
+    safe = reached_safe t.reached
+
+    holds_start' : holds_before (w.node own).log (next_place a.previous) (id_rank a.previous) ≡ true
+    holds_start' = holds (ballot_group m) w own asked fits.sent owner_differs low safe holding
+
+    take_is : ballot_step (ballot_group m) w (TakeEntries at.0 own) ≡ taken w own asked
+    take_is = ap (λ o. append_comes (ballot_group m) w o own) at.1 ∙ cond-true _ _ _ can ∙ cond-true _ _ _ holds_start'
+
+    pub take_extends : Extends own w (taken w own asked)
+    take_extends = step_extends m own w (TakeEntries at.0 own) refl (taken w own asked) take_is
+
+    take_reached : Reached m some own before base (taken w own asked)
+    take_reached = reached_next (TakeEntries at.0 own) refl (taken w own asked) take_is t.reached
+
+    -- so many entries agree with the list
+    abbrev agreed : ℕ
+    agreed = agreeing (drop (next_place a.previous) (w.node own).log) (ballot_log a.entries)
+
+    abbrev fresh : List Entry
+    fresh = missing_entries r.state.stored (above_committed r.state.committed a.entries)
+
+    abbrev skip : ℕ
+    skip = place_above r.state.committed - next_place a.previous
+
+    entry_count : length (ballot_log a.entries) ≡ length a.entries
+    entry_count = size_same a.entries
+
+    -- what is committed agrees
+    skip_agrees : (skip ≤ agreed) ⊎ (agreed ≡ length a.entries)
+    skip_agrees =
+        ⊎_elim
+        (λ l.
+        let first = agreeing_skip skip (drop (next_place a.previous) (w.node own).log) (ballot_log a.entries) (skipped (ballot_group m) w own asked fits.sent owner_differs low safe holding skip (omega (arith, t.up.commit)) (omega (arith, entry_count))) in
+        inl (omega (arith, first)))
+        (λ l.
+        let all = agreeing_skip (length (ballot_log a.entries)) (drop (next_place a.previous) (w.node own).log) (ballot_log a.entries) (skipped (ballot_group m) w own asked fits.sent owner_differs low safe holding (length (ballot_log a.entries)) (omega (arith, t.up.commit, entry_count)) (omega arith)) in
+        let most = agreeing_le (drop (next_place a.previous) (w.node own).log) (ballot_log a.entries) in
+        inr (omega (arith, all, most, entry_count)))
+        (cases_lt skip (suc (length a.entries)))
+
+    fresh_is : fresh ≡ drop agreed a.entries
+    fresh_is =
+        let start = next_place a.previous in
+        let es1 = drop skip a.entries in
+        let above = above_is m r.state.committed start a.entries fits.good in
+        let q : first_place r.state.stored ≤ start + skip = omega (arith, front_low, (t.up.joined).low) in
+        let missing = missing_is m r.state.stored list t.up.joined t.up.fits.good (start + skip) es1 q (good_drop skip fits.good) in
+        let k2 = agreeing (drop (start + skip) (ballot_log list)) (ballot_log es1) in
+        ap (missing_entries r.state.stored) above ∙ missing ∙ drop-drop k2 skip a.entries
+        ∙ ⊎_elim
+        (λ l.
+        let first = agreeing_skip skip (drop start (w.node own).log) (ballot_log a.entries) (skipped (ballot_group m) w own asked fits.sent owner_differs low safe holding skip (omega (arith, t.up.commit)) (omega (arith, entry_count))) in
+        let same : agreeing (drop skip (drop start (w.node own).log)) (drop skip (ballot_log a.entries)) ≡ k2 =
+        ap₂ agreeing (drop-drop skip start (w.node own).log ∙ ap (drop (start + skip)) t.up.fits.log) (drop-map ballot_entry skip a.entries)
+        in
+        ap (λ k. drop k a.entries) (let e : skip + k2 ≡ agreed = omega (arith, first, same) in e))
+        (λ l.
+        let all : agreed ≡ length a.entries = ⊎_elim (λ s. absurd (let most = agreeing_le (drop start (w.node own).log) (ballot_log a.entries) in omega (arith, s, l, most, entry_count))) (λ s. s) skip_agrees in
+        drop_past (skip + k2) a.entries (omega (arith, l)) ∙ sym (drop_past agreed a.entries (omega (arith, all))))
+        (cases_lt skip (suc (length a.entries)))
