@@ -1,7 +1,7 @@
 -- Append requests, followed by the ballot machine.
 use Rattle.std.specs.Prelude.{◌≡◌, ◌⊎◌, ℕ, zero, suc, ◌+◌, ◌-◌, ◌<◌, ◌≤◌, ◌^◌, ◌==◌, ◌&&◌, ◌||◌, not, min, max, nat_lt, nat_le, Bool, true, false, List, [], ◌∷◌, ◌++◌, length, take, drop, map, slice_get, Option, Some, None, is_some, refl}
 use Rattle.std.proofs.Common.{inl, inr, sym, ap, ap₂, ◌∙◌, subst, arith, ⊎_elim, eq-eqb, eqb-true, ne_eqb, le-leb, lt-ltb, length-drop, take-take, take_all, length-take-le}
-use Rattle.std.proofs.lemmas.Bool.{and_from, and_parts, or_cases, or_parts, or_left, or_right, not_from_false, cond-true, cond-false, cases_lt, cases_Bool, false_from_ne_true}
+use Rattle.std.proofs.lemmas.Bool.{and_from, and_parts, or_cases, or_parts, or_left, or_right, not_from_false, cond-true, cond-false, cond_both, cases_lt, cases_Bool, false_from_ne_true}
 use Rattle.std.proofs.lemmas.List.{drop-drop, drop-map, take-map, map-append, length-map}
 use Rattle.std.proofs.lemmas.Option.{slice_get_within, slice_get_past}
 use Rattle.raft_state.specs.declared.log_id.LogId.{LogId}
@@ -21,12 +21,12 @@ use Rattle.raft_world.specs.BallotRanks.{rank_of, owner_of, ballot_entry, ballot
 use Rattle.raft_world.proofs.BallotAgreement.{with_value_same, some_at}
 use Rattle.raft_world.proofs.BallotSafe.{Among, Safe}
 use Rattle.raft_world.proofs.BallotOthers.{Extends, extends_refl}
-use Rattle.raft_world.proofs.BallotAppends.{agreeing, agreeing_le, agreeing_skip, drop_past, all_held, holds, place, skipped}
+use Rattle.raft_world.proofs.BallotAppends.{agreeing, agreeing_le, agreeing_skip, drop_past, all_held, holds, place, skipped, start_front}
 use Rattle.raft_world.proofs.VoteRanks.{owner_other}
 use Rattle.raft_world.proofs.Shapes.{Good, Joined, good_drop, joined_at, joined_below, joined_end, joined_cut, joined_put}
 use Rattle.raft_world.proofs.FreshEntries.{within_is, without_is, above_is, has_id_is, has_id_place, missing_is, holds_at}
 use Rattle.raft_world.proofs.Ids.{size_same, ballot_at}
-use Rattle.raft_world.proofs.Standing.{StoredFits, UpFits, DownFits, MessageFits, AppendFits, append-of, reply-of, id_rank, message_on}
+use Rattle.raft_world.proofs.Standing.{up_down, StoredFits, UpFits, DownFits, MessageFits, AppendFits, append-of, reply-of, id_rank, message_on}
 use Rattle.raft_world.proofs.StepWords.{either_by}
 use Rattle.raft_world.proofs.Tracking.{Tracks, Reached, MayStop, index_of, reached_next, reached_safe, step_extends, stored_next, stops_store, track_on, track_same, track_event}
 use Rattle.raft_world.proofs.TrackWrites.{put_fits, cut_fits}
@@ -48,6 +48,13 @@ last_sent_next m previous (e ∷ es) g =
     let n : next_place previous + 1 ≡ next_place (Some e.log_id) = omega arith in
     let rest = last_sent_next m (Some e.log_id) es (subst (λ k. Good m k es) n (good_drop 1 g)) in
     omega (arith, rest, n)
+
+agreeing_short : (xs es : List BallotEntry) → agreeing xs es ≤ length xs
+agreeing_short [] es = omega arith
+agreeing_short (x ∷ xs) [] = omega arith
+agreeing_short (x ∷ xs) (e ∷ es) =
+    let l = agreeing_short xs es in
+    cond_both (x.ballot == e.ballot) (suc (agreeing xs es)) 0 (λ n. n ≤ suc (length xs)) (λ t. omega arith) (λ t. omega arith)
 
 module _ {m : Membership} {some : 0 < length m.configs} {own : ℕ} {before : List BallotEvent} {base : StoredGroup} (small : own < 2 ^ 64) (w : BallotWorld) (r : StepResult) (t : Tracks m some own before base w r) (a : AppendFields) (fits : AppendFits m w a) (other : a.vote.leader_id.node_id ≡ own → ⊥) (under : r.state.stored.vote ≡ a.vote) (led : a.vote.committed ≡ true) where
   abbrev asked : BallotAppend
@@ -222,3 +229,213 @@ module _ {m : Membership} {some : 0 < length m.configs} {own : ℕ} {before : Li
         let all : agreed ≡ length a.entries = ⊎_elim (λ s. absurd (let most = agreeing_le (drop start (w.node own).log) (ballot_log a.entries) in omega (arith, s, l, most, entry_count))) (λ s. s) skip_agrees in
         drop_past (skip + k2) a.entries (omega (arith, l)) ∙ sym (drop_past agreed a.entries (omega (arith, all))))
         (cases_lt skip (suc (length a.entries)))
+
+    abbrev upto : Option ℕ
+    upto = lesser_place (place_of a.committed) (place_of (last_sent a.previous a.entries))
+
+    abbrev after : BallotNode
+    after =
+        record {
+          ballot = rank_of a.vote.leader_id;
+          committed = true;
+          log = put_from (w.node own).log (next_place a.previous) (ballot_log a.entries);
+          commit = max (w.node own).commit (min (next_place a.committed) (next_place a.previous + length (ballot_log a.entries)));
+        }
+
+    after_is : (taken w own asked).node own ≡ after
+    after_is = with_value_same w.node own _
+
+    commit_is : (c : Option ℕ) → c ≡ r.state.committed → max (w.node own).commit (min (next_place a.committed) (next_place a.previous + length (ballot_log a.entries))) ≡ place_above (later_place c upto)
+    commit_is c e =
+        let place = later_is c a.committed (last_sent a.previous a.entries) in
+        let last = last_sent_next m a.previous a.entries fits.good in
+        let same = ap place_above e in
+        let high : max (w.node own).commit (min (next_place a.committed) (next_place a.previous + length (ballot_log a.entries))) ≡ max (place_above c) (min (next_place a.committed) (next_place (last_sent a.previous a.entries))) =
+        omega (arith, t.up.commit, entry_count, last, same)
+        in
+        high ∙ sym place
+
+    messages_on : (x : Message) → Among x r.messages → MessageFits m (taken w own asked) x
+    messages_on x h = message_on take_extends m x (t.messages x h)
+
+    -- all is there already
+    none_new : fresh ≡ [] → Tracks m some own before base (taken w own asked) (apply_up_to upto r)
+    none_new e =
+        let size = length-drop agreed a.entries in
+        let none = ap length (sym fresh_is ∙ e) in
+        let most = agreeing_le (drop (next_place a.previous) (w.node own).log) (ballot_log a.entries) in
+        let all : agreed ≡ length (ballot_log a.entries) = omega (arith, size, none, most, entry_count) in
+        let log = all_held (ballot_group m) w own asked fits.sent owner_differs low safe holding all in
+        track_on (apply_up_to upto r) t refl refl take_reached
+        (subst (λ y. UpFits m y (apply_up_to upto r).state) (sym after_is)
+        (record {
+          list = list;
+          fits = record {
+            ballot = ap (λ v. rank_of v.leader_id) (sym under);
+            committed = sym (ap (λ v. v.committed) under ∙ led);
+            bound = t.up.fits.bound;
+            log = log ∙ t.up.fits.log;
+            good = t.up.fits.good;
+            snapshot = t.up.fits.snapshot;
+            purged = t.up.fits.purged;
+            reaches = omega (arith, t.up.fits.reaches);
+          };
+          joined = t.up.joined;
+          commit = commit_is r.state.committed refl;
+          applied = refl;
+        }))
+        messages_on
+
+    -- the rest is put
+    module _ (e : Entry) (es : List Entry) (some-new : fresh ≡ e ∷ es) where
+      abbrev p : ℕ
+      p = next_place a.previous + agreed
+
+      rest_is : drop agreed a.entries ≡ e ∷ es
+      rest_is = sym fresh_is ∙ some-new
+
+      less : agreed < length (ballot_log a.entries)
+      less = let size = length-drop agreed a.entries in let more = ap length rest_is in omega (arith, size, more, entry_count)
+
+      rest_good : Good m p (e ∷ es)
+      rest_good = subst (Good m p) rest_is (good_drop agreed fits.good)
+
+      index : e.log_id.index ≡ p
+      index = let q = rest_good.placed 0 e refl in omega arith
+
+      above_commit : place_above r.state.committed ≤ p
+      above_commit = ⊎_elim (λ s. omega (arith, s)) (λ s. absurd (omega (arith, s, less, entry_count))) skip_agrees
+
+      from : length (prefix_of r.state.stored.snapshot) ≤ p
+      from = omega (arith, front_low, above_commit)
+
+      to : p ≤ length list
+      to =
+          let start = (start_front (ballot_group m) w own asked fits.sent owner_differs low safe holding).left in
+          let short = agreeing_short (drop (next_place a.previous) (w.node own).log) (ballot_log a.entries) in
+          let size = length-drop (next_place a.previous) (w.node own).log in
+          omega (arith, start, short, size, ap length t.up.fits.log, size_same list)
+
+      planned : (cut_log_from (w.node own).log (next_place a.previous) (ballot_log a.entries) ≡ take p (w.node own).log) × (put_from (w.node own).log (next_place a.previous) (ballot_log a.entries) ≡ take p (w.node own).log ++ drop agreed (ballot_log a.entries))
+      planned = place (ballot_group m) w own asked fits.sent owner_differs low safe holding agreed refl less
+
+      cut_list : cut_log_from (w.node own).log (next_place a.previous) (ballot_log a.entries) ≡ ballot_log (take p list)
+      cut_list = planned.0 ∙ ap (take p) t.up.fits.log ∙ take-map ballot_entry p list
+
+      put_list : put_from (w.node own).log (next_place a.previous) (ballot_log a.entries) ≡ ballot_log (take p list ++ e ∷ es)
+      put_list =
+          planned.1
+          ∙ ap₂ (λ x y. x ++ y) (ap (take p) t.up.fits.log ∙ take-map ballot_entry p list) (drop-map ballot_entry agreed a.entries ∙ ap ballot_log rest_is)
+          ∙ sym (map-append ballot_entry (take p list) (e ∷ es))
+
+      -- before the entries are put, after the cut where there is one
+      record Shortened (q : StepResult) : Type 0 where
+        stops : (k : ℕ) → MayStop m some own before base (after_storing_all (take k q.commands) base)
+        stored : q.state.stored ≡ after_storing_all q.commands base
+        joined : Joined (after_storing (PutEntries p (e ∷ es)) q.state.stored) (take p list ++ e ∷ es)
+        fits' : StoredFits m after (after_storing (PutEntries p (e ∷ es)) q.state.stored) (take p list ++ e ∷ es)
+        messages : q.messages ≡ r.messages
+        committed : q.state.committed ≡ r.state.committed
+        role : q.state.role ≡ r.state.role
+
+      put_high : length (prefix_of r.state.stored.snapshot) ≤ max (w.node own).commit (min (next_place a.committed) (next_place a.previous + length (ballot_log a.entries)))
+      put_high = omega (arith, t.up.fits.reaches)
+
+      uncut : Shortened r
+      uncut =
+          record {
+            stops = t.stops;
+            stored = t.stored;
+            joined = joined_put r.state.stored list t.up.joined p from to (e ∷ es);
+            fits' = put_fits t.up.fits t.up.joined p from to (e ∷ es) rest_good after (sym same_ballot) (sym same_flag) put_list put_high;
+            messages = refl;
+            committed = refl;
+            role = refl;
+          }
+
+      cut_is : ballot_step (ballot_group m) w (CutForEntries at.0 own) ≡ cut w own asked
+      cut_is = ap (λ o. cut_comes (ballot_group m) w o own) at.1 ∙ cond-true _ _ _ (and_from _ _ can holds_start')
+
+      abbrev cut_node : BallotNode
+      cut_node =
+          record (w.node own) {
+            ballot = rank_of a.vote.leader_id;
+            committed = true;
+            log = cut_log_from (w.node own).log (next_place a.previous) (ballot_log a.entries);
+          }
+
+      cut_stored : StoredFits m cut_node (after_storing (CutFrom p) r.state.stored) (take p list)
+      cut_stored = cut_fits t.up.fits t.up.joined p from to cut_node (sym same_ballot) (sym same_flag) cut_list t.up.fits.reaches
+
+      cut_joined : Joined (after_storing (CutFrom p) r.state.stored) (take p list)
+      cut_joined = joined_cut r.state.stored list t.up.joined p from to
+
+      twice : take p (take p list) ≡ take p list
+      twice = take-take p p list (omega arith)
+
+      size' : length (take p list) ≡ p
+      size' = length-take-le p list to
+
+      shortened : Shortened (store (CutFrom p) r)
+      shortened =
+          record {
+            stops =
+                stops_store r (CutFrom p) t.stored t.stops
+                (record {
+                  world = cut w own asked;
+                  reached = reached_next (CutForEntries at.0 own) refl (cut w own asked) cut_is t.reached;
+                  fits =
+                      subst (λ y. DownFits m y (after_storing (CutFrom p) r.state.stored)) (sym (with_value_same w.node own _))
+                      (record { list = take p list; fits = cut_stored; shape = inl cut_joined });
+                });
+            stored = stored_next base r (CutFrom p) t.stored;
+            joined =
+                subst (λ l. Joined (after_storing (PutEntries p (e ∷ es)) (after_storing (CutFrom p) r.state.stored)) (l ++ e ∷ es)) twice
+                (joined_put (after_storing (CutFrom p) r.state.stored) (take p list) cut_joined p from (omega (arith, size')) (e ∷ es));
+            fits' =
+                subst (λ l. StoredFits m after (after_storing (PutEntries p (e ∷ es)) (after_storing (CutFrom p) r.state.stored)) (l ++ e ∷ es)) twice
+                (put_fits cut_stored cut_joined p from (omega (arith, size')) (e ∷ es) rest_good after refl refl
+                (put_list ∙ ap (λ l. ballot_log (l ++ e ∷ es)) (sym twice)) put_high);
+            messages = refl;
+            committed = refl;
+            role = refl;
+          }
+
+      cut_or_not : Shortened (cut_from p r)
+      cut_or_not = either_by Shortened (is_some (entry_at r.state.stored p)) _ _ (λ x. shortened) (λ x. uncut)
+
+      finished : (q : StepResult) → Shortened q → Tracks m some own before base (taken w own asked) (apply_up_to upto (store (PutEntries p (e ∷ es)) q))
+      finished q h =
+          let q' = store (PutEntries p (e ∷ es)) q in
+          let up : UpFits m after (apply_up_to upto q').state =
+          record { list = take p list ++ e ∷ es; fits = h.fits'; joined = h.joined; commit = commit_is q.state.committed h.committed; applied = refl }
+          in
+          record {
+            reached = take_reached;
+            stops =
+                stops_store q (PutEntries p (e ∷ es)) h.stored h.stops
+                (record {
+                  world = taken w own asked;
+                  reached = take_reached;
+                  fits = subst (λ y. DownFits m y (after_storing (PutEntries p (e ∷ es)) q.state.stored)) (sym after_is) (up_down up);
+                });
+            stored = stored_next base q (PutEntries p (e ∷ es)) h.stored;
+            up = subst (λ y. UpFits m y (apply_up_to upto q').state) (sym after_is) up;
+            messages = λ x b. messages_on x (subst (Among x) h.messages b);
+          }
+
+      some_tracks : Tracks m some own before base (taken w own asked) (apply_up_to upto (put_entries (e ∷ es) r))
+      some_tracks =
+          subst (λ k. Tracks m some own before base (taken w own asked) (apply_up_to upto (store (PutEntries k (e ∷ es)) (cut_from k r)))) (sym index)
+          (finished (cut_from p r) cut_or_not)
+
+      some_role : (put_entries (e ∷ es) r).state.role ≡ r.state.role
+      some_role = subst (λ k. (store (PutEntries k (e ∷ es)) (cut_from k r)).state.role ≡ r.state.role) (sym index) cut_or_not.role
+
+    -- the request is taken
+    pub take_tracks : (Tracks m some own before base (taken w own asked) (apply_up_to upto (put_entries fresh r))) × ((put_entries fresh r).state.role ≡ r.state.role)
+    take_tracks = go fresh refl
+      where
+        go : (f : List Entry) → fresh ≡ f → (Tracks m some own before base (taken w own asked) (apply_up_to upto (put_entries f r))) × ((put_entries f r).state.role ≡ r.state.role)
+        go [] q = (none_new q, refl)
+        go (e ∷ es) q = (some_tracks e es q, some_role e es q)
