@@ -29,7 +29,7 @@ below_stays xs ys p i e l k h =
     let size = length-take-le p xs l in
     slice_before (take p xs) ys i (omega arith) ∙ slice_take p xs i k ∙ h
 
-purge_index : (o : Option (LogId ℕ)) (id : LogId ℕ) → o ≡ Some id → id.index + 1 ≡ next_place o
+pub purge_index : (o : Option (LogId ℕ)) (id : LogId ℕ) → o ≡ Some id → id.index + 1 ≡ next_place o
 purge_index o id e = sym (ap next_place e)
 
 module _ {m : Membership} {x : BallotNode} {st : StoredGroup} {xs : List Entry} (fits : StoredFits m x st xs) (j : Joined st xs) (p : ℕ) (from : length (prefix_of st.snapshot) ≤ p) (to : p ≤ length xs) where
