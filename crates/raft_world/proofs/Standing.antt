@@ -134,7 +134,7 @@ MessageFits m w x = BodyFits m w x.sender x.body
 -- ---- what stays as the ballot machine goes on
 
 module _ {n : ℕ} {w w' : BallotWorld} (e : Extends n w w') where
-  replies_on : (sender : ℕ) (r : ReplyFields) (o : ReplyResult) → RepliesFit w sender r o → RepliesFit w' sender r o
+  pub replies_on : (sender : ℕ) (r : ReplyFields) (o : ReplyResult) → RepliesFit w sender r o → RepliesFit w' sender r o
   replies_on sender r Success h = λ id q. e.replies _ (h id q)
   replies_on sender r Conflict h = tt
   replies_on sender r (HigherVote vote) h = h

@@ -24,7 +24,7 @@ use Rattle.raft_world.proofs.BallotSafe.{Among}
 use Rattle.raft_world.proofs.BallotOthers.{Extends, extends_refl}
 use Rattle.raft_world.proofs.VoteRanks.{vote_eq_same, leader_eq_same, rank_rises}
 use Rattle.raft_world.proofs.Shapes.{joined_held}
-use Rattle.raft_world.proofs.Standing.{HasId, PeerFits, RoleFits, RepliesFit, request-of, grant-of, reply-of, id_rank}
+use Rattle.raft_world.proofs.Standing.{replies_on, HasId, PeerFits, RoleFits, RepliesFit, request-of, grant-of, reply-of, id_rank}
 use Rattle.raft_world.proofs.StepWords.{either_by}
 use Rattle.raft_world.proofs.Tracking.{Tracks, track_same, track_send}
 use Rattle.raft_world.proofs.TrackVotes.{Granted, TookOver, grant_tracks, raise_tracks'}
@@ -192,3 +192,15 @@ module _ {m : Membership} {some : 0 < length m.configs} {own : ℕ} {before : Li
               (with_peer_is (after_answer (peer_of lead peer) reply reply.outcome) lead.peers p a));
         })
         (λ q. stays)
+
+  higher_ends : (peer : ℕ) (reply : ReplyFields) (o : ReplyResult) → RepliesFit w peer reply o → is_foreign_result own r.state.stored.vote o ≡ true → Ends m some own before base w (with_higher_vote o r)
+  higher_ends peer reply Success fits foreign = stays
+  higher_ends peer reply Conflict fits foreign = stays
+  higher_ends peer reply (HigherVote v) fits foreign = greater_ends v fits foreign
+
+pub reply_ends : {m : Membership} {some : 0 < length m.configs} {own : ℕ} {before : List BallotEvent} {base : StoredGroup} (small : own < 2 ^ 64) (w : BallotWorld) (r : StepResult) (t : Tracks m some own before base w r) (role : RoleFits own w r.state.stored.vote (held r.state.stored) r.state.role) (peer : ℕ) (reply : ReplyFields) → RepliesFit w peer reply reply.outcome → is_foreign_result own r.state.stored.vote reply.outcome ≡ true → Ends m some own before base w (reply_step peer reply r)
+reply_ends small w r t role peer reply fits foreign =
+    let h = higher_ends small w r t role peer reply reply.outcome fits foreign in
+    ends_from h.extends
+    (answered_ends small h.world (with_higher_vote reply.outcome r) h.tracks h.role peer reply (with_higher_vote reply.outcome r).state.role refl
+    (replies_on h.extends peer reply reply.outcome fits))

@@ -85,20 +85,20 @@ good_one m p e a b c =
     only zero x h = (same_some h, refl)
     only (suc i) x h = absurd (let f : None ≡ Some x = h in cc)
 
+pub leads : {m : Membership} {some : 0 < length m.configs} {own : ℕ} {before : List BallotEvent} {base : StoredGroup} (w : BallotWorld) (r : StepResult) (t : Tracks m some own before base w r) (mine : OwnVote own r.state.stored.vote true) → is_ballot_leader (ballot_group m) own (w.node own) ≡ true
+leads {m} {some} {own} w r t mine =
+    let owned : owner_of (rank_of r.state.stored.vote.leader_id) ≡ own = owner_is r.state.stored.vote.leader_id mine.term t.up.fits.bound ∙ mine.node in
+    let pos : 0 < rank_of r.state.stored.vote.leader_id = omega (arith, mine.term) in
+    and_from (w.node own).committed _ (t.up.fits.committed ∙ mine.flag)
+    (and_from (nat_lt 0 (w.node own).ballot) _ (lt-ltb 0 (w.node own).ballot (omega (arith, t.up.fits.ballot)))
+    (eq-eqb (owner_of (w.node own).ballot) own (ap owner_of t.up.fits.ballot ∙ owned)))
+
 module _ {m : Membership} {some : 0 < length m.configs} {own : ℕ} {before : List BallotEvent} {base : StoredGroup} (w : BallotWorld) (r : StepResult) (t : Tracks m some own before base w r) (mine : OwnVote own r.state.stored.vote true) (payload : EntryPayload) (keeps : (x : Membership) → payload ≡ Members x → x.configs ≡ m.configs) where
   abbrev pub new_entry : Entry
   new_entry = entry_of (record { leader_id = r.state.stored.vote.leader_id; index = end_place r.state.stored }) payload
 
-  leads : is_ballot_leader (ballot_group m) own (w.node own) ≡ true
-  leads =
-      let owned : owner_of (rank_of r.state.stored.vote.leader_id) ≡ own = owner_is r.state.stored.vote.leader_id mine.term t.up.fits.bound ∙ mine.node in
-      let pos : 0 < rank_of r.state.stored.vote.leader_id = omega (arith, mine.term) in
-      and_from (w.node own).committed _ (t.up.fits.committed ∙ mine.flag)
-      (and_from (nat_lt 0 (w.node own).ballot) _ (lt-ltb 0 (w.node own).ballot (omega (arith, t.up.fits.ballot)))
-      (eq-eqb (owner_of (w.node own).ballot) own (ap owner_of t.up.fits.ballot ∙ owned)))
-
   pub write_is : ballot_step (ballot_group m) w (WriteEntry own payload) ≡ written w own payload
-  write_is = cond-true _ _ _ leads
+  write_is = cond-true _ _ _ (leads w r t mine)
 
   pub write_extends : Extends own w (written w own payload)
   write_extends = step_extends m own w (WriteEntry own payload) refl (written w own payload) write_is
