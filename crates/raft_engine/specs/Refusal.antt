@@ -1,17 +1,21 @@
 -- When an event is refused. The reasons are tried in a fixed order.
-use Rattle.std.specs.Prelude.{ℕ, ◌+◌, ◌^◌, ◌==◌, ◌&&◌, not, nat_lt, nat_le, if◌then◌else◌, Bool, true, false, List, [], ◌∷◌, ◌++◌, map, length, Option, Some, None}
+use Rattle.std.specs.Prelude.{ℕ, ◌+◌, ◌^◌, ◌==◌, ◌&&◌, not, nat_lt, nat_le, if◌then◌else◌, Bool, true}
+use Rattle.std.specs.Prelude.{false, List, [], ◌∷◌, ◌++◌, map, length, Option, Some, None}
 use Rattle.std.specs.List.{list_all}
 use Rattle.raft_state.specs.declared.vote.Vote.{Vote}
 use Rattle.raft_state.specs.declared.log_id.LogId.{LogId}
 use Rattle.raft_state.specs.declared.entry.EntryPayload.TheVariants.{Blank, Normal, Membership as Members}
-use Rattle.raft_engine.specs.Values.{configs_eq, Entry, EntryPayload, is_valid, is_voter, is_within_limits, leader_lt, LoggedMembership, Membership, membership_after, vote_lt}
-use Rattle.raft_engine.specs.MembershipChange.{ChangeMembers, changed}
+use Rattle.raft_engine.specs.Values.{after_change, ChangeMembers, configs_eq, Entry, EntryPayload, is_valid, is_voter}
+use Rattle.raft_engine.specs.Values.{is_within_limits, leader_lt, LoggedMembership, Membership, membership_after, vote_lt}
 use Rattle.raft_engine.specs.StoredGroup.{StoredGroup, end_place, membership_in_force}
-use Rattle.raft_engine.specs.Message.{Message, MessageBody, VoteRequest, VoteReply, AppendRequest, AppendReply, SnapshotRequest, SnapshotReply, ReplyFields, ReplyResult, RequestId, Success, Conflict, HigherVote, HeartBeat, Numbered}
+use Rattle.raft_engine.specs.Message.{Message, MessageBody, VoteRequest, VoteReply, AppendRequest, AppendReply, SnapshotRequest, SnapshotReply}
+use Rattle.raft_engine.specs.Message.{ReplyFields, ReplyResult, RequestId, Success, Conflict, HigherVote, HeartBeat, Numbered}
 use Rattle.raft_engine.specs.Peer.{PeerState}
 use Rattle.raft_engine.specs.GroupState.{GroupState, Role, Follower, Candidate, Leader, is_leader, is_candidate}
-use Rattle.raft_engine.specs.GroupEvent.{GroupCall, Initialize, Elect, Propose, ChangeMembership, Heartbeat, Lost, TriggerSnapshot, TriggerPurge, GroupEvent, AddGroup, Call, Receive, Open}
-use Rattle.raft_engine.specs.StepResult.{RefusalReason, NotLeader, UnknownGroup, GroupExists, NotAllowed, NotVoter, MembershipRefused, VoterChange, InProgress, CommandTooLong, NumberAtEnd, WrongParty, BreaksCondition, is_within}
+use Rattle.raft_engine.specs.declared.group_call.GroupCall.TheVariants.{Initialize, Elect, Propose, ChangeMembership, Heartbeat, Lost, TriggerSnapshot, TriggerPurge}
+use Rattle.raft_engine.specs.GroupEvent.{GroupCall, GroupEvent, AddGroup, Call, Receive, Open}
+use Rattle.raft_engine.specs.StepResult.{RefusalReason, NotLeader, UnknownGroup, GroupExists, NotAllowed, NotVoter, MembershipRefused}
+use Rattle.raft_engine.specs.StepResult.{VoterChange, InProgress, CommandTooLong, NumberAtEnd, WrongParty, BreaksCondition, is_within}
 use Rattle.raft_engine.specs.Initialize.{is_new}
 
 -- the reason, where the test fails
@@ -79,7 +83,7 @@ change_reasons old new =
 abbrev pub reasons_of_change : Option LoggedMembership → ChangeMembers → List (Option RefusalReason)
 reasons_of_change None change = []
 reasons_of_change (Some m) change =
-    change_reasons m.membership (changed m.membership change true)
+    change_reasons m.membership (after_change m.membership change)
 
 -- ---- messages
 

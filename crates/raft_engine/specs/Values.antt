@@ -1,21 +1,30 @@
 -- The values of a group: node ids are numbers, addresses and commands are bytes.
-use Rattle.std.specs.Prelude.{ℕ, Bool, true, false, ◌==◌, ◌&&◌, not, nat_le, List, [], ◌∷◌, map, filter, length, Option, Some, None}
+use Rattle.std.specs.Prelude.{ℕ, Bool, true, false, ◌==◌, ◌&&◌, nat_eq, nat_le, List, [], ◌∷◌, map, filter, length, Option, Some, None, is_none}
 use Rattle.std.specs.Bool.{beq}
-use Rattle.std.specs.List.{list_any, list_all}
+use Rattle.std.specs.List.{list_all}
 use Rattle.std.specs.Ordering.{nat_cmp, is_lt}
+use Rattle.std.specs.Cmp.Lexicographic.{pointwise}
 use Rattle.raft_state.specs.declared.vote.LeaderId.{LeaderId}
 use Rattle.raft_state.specs.declared.vote.Vote.{Vote}
 use Rattle.raft_state.specs.declared.log_id.LogId.{LogId}
 use Rattle.raft_state.specs.declared.membership.Membership.{Membership as MembershipOf}
+use Rattle.raft_state.specs.declared.change_members.ChangeMembers.{ChangeMembers as ChangeMembersOf}
 use Rattle.raft_state.specs.declared.entry.Entry.{Entry as EntryOf}
 use Rattle.raft_state.specs.declared.entry.EntryPayload.{EntryPayload as EntryPayloadOf}
 use Rattle.raft_state.specs.declared.entry.EntryPayload.TheVariants.{Blank, Normal, Membership as Members}
 use Rattle.raft_engine.specs.declared.snapshot_message.LoggedMembership.{LoggedMembership as LoggedMembershipOf}
 use Rattle.raft_state.specs.Vote.{leader_cmp, vote_cmp}
 use Rattle.raft_state.specs.LogId.{log_id_cmp}
+use Rattle.raft_state.specs.Nodes.{has_id as is_among}
+use Rattle.raft_state.specs.Membership.{is_voter as is_voter_of}
+use Rattle.raft_state.specs.Validity.{validity_fault}
+use Rattle.raft_state.specs.MembershipChange.{changed}
 
 abbrev pub Membership : Type 0
 Membership = MembershipOf ℕ (List ℕ)
+
+abbrev pub ChangeMembers : Type 0
+ChangeMembers = ChangeMembersOf ℕ (List ℕ)
 
 abbrev pub EntryPayload : Type 0
 EntryPayload = EntryPayloadOf ℕ (List ℕ) (List ℕ)
@@ -57,28 +66,16 @@ last_id_eq (Some a) (Some b) = log_id_eq a b
 
 -- the list has this id
 abbrev pub has_id : List ℕ → ℕ → Bool
-has_id ids n = list_any (λ m. m == n) ids
-
--- the same numbers in the same order
-abbrev pub ids_eq : List ℕ → List ℕ → Bool
-ids_eq [] [] = true
-ids_eq [] (y ∷ ys) = false
-ids_eq (x ∷ xs) [] = false
-ids_eq (x ∷ xs) (y ∷ ys) = x == y && ids_eq xs ys
+has_id ids n = is_among nat_eq ids n
 
 -- the same voter groups in the same order
 abbrev pub configs_eq : List (List ℕ) → List (List ℕ) → Bool
-configs_eq [] [] = true
-configs_eq [] (y ∷ ys) = false
-configs_eq (x ∷ xs) [] = false
-configs_eq (x ∷ xs) (y ∷ ys) = ids_eq x y && configs_eq xs ys
+configs_eq a b = pointwise (pointwise nat_eq) a b
 
 -- the same nodes with the same addresses
 abbrev pub nodes_eq : List (ℕ × List ℕ) → List (ℕ × List ℕ) → Bool
-nodes_eq [] [] = true
-nodes_eq [] (y ∷ ys) = false
-nodes_eq (x ∷ xs) [] = false
-nodes_eq (x ∷ xs) (y ∷ ys) = x.0 == y.0 && ids_eq x.1 y.1 && nodes_eq xs ys
+nodes_eq a b =
+    pointwise (λ (x y : ℕ × List ℕ). nat_eq x.0 y.0 && pointwise nat_eq x.1 y.1) a b
 
 abbrev pub membership_eq : Membership → Membership → Bool
 membership_eq a b = configs_eq a.configs b.configs && nodes_eq a.nodes b.nodes
@@ -89,7 +86,7 @@ member_ids m = map (λ (x : ℕ × List ℕ). x.0) m.nodes
 
 -- the node is in a voter group
 abbrev pub is_voter : Membership → ℕ → Bool
-is_voter m n = list_any (λ group. has_id group n) m.configs
+is_voter m n = is_voter_of nat_eq m.configs n
 
 -- the voters, each once, by rising id
 abbrev pub voter_ids : Membership → List ℕ
@@ -97,8 +94,11 @@ voter_ids m = filter (is_voter m) (member_ids m)
 
 -- no voter group is empty, and each voter is a node
 abbrev pub is_valid : Membership → Bool
-is_valid m =
-    list_all (λ group. not (length group == 0) && list_all (has_id (member_ids m)) group) m.configs
+is_valid m = is_none (validity_fault nat_eq nat_cmp m.configs m.nodes)
+
+-- the membership that a change makes; former voters stay nodes
+abbrev pub after_change : Membership → ChangeMembers → Membership
+after_change m change = changed nat_eq nat_cmp m change true
 
 -- at most 8 voter groups of at most 64 voters, 128 nodes, and addresses of 255 bytes
 abbrev pub is_within_limits : Membership → Bool

@@ -60,3 +60,29 @@ impl<NID: NodeId, N: Node, D> Entries<NID, N, D> {
         self.items.push(entry)
     }
 }
+
+// The same entries in the same order.
+#[tactic(auto, using(std::proofs::lemmas::Grind::common_steps))]
+fn copy_entries<NID: NodeId, N: Node, D: Clone>(
+    alloc: Global,
+    entries: &[Entry<NID, N, D>],
+) -> Result<Vec<Entry<NID, N, D>>, AllocError>
+    ensures { ((a b : D) → D.is_clone a b → b ≡ a) → IfOk result (λ copies. copies.items ≡ entries.now) }
+{
+    let mut copies = Vec::new(alloc);
+    for entry in entries {
+        copies.push(entry.clone()?)?;
+    }
+    Ok(copies)
+}
+
+impl<NID: NodeId, N: Node, D: Clone> Clone for Entries<NID, N, D> {
+    // Where clones of commands equal them, so do clones of entries.
+    ghost is_clone = { λ x y. ((a b : D) → D.is_clone a b → b ≡ a) → y ≡ x };
+
+    fn clone(&self) -> Result<Entries<NID, N, D>, AllocError> {
+        Ok(Entries {
+            items: copy_entries(*self.items.allocator(), self.items.as_slice())?,
+        })
+    }
+}

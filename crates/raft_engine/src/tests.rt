@@ -29,19 +29,19 @@ fn request_ids_print(rt: HostRuntime) -> Result<(), Fail> {
 #[test]
 fn votes_are_asked_for_and_granted(rt: HostRuntime) -> Result<(), Fail> {
     let alloc = rt.alloc();
-    let asked = Vote::new(2, 1);
-    let request = VoteRequest::new(asked, Some(id(1, 3, 5)));
+    let asked = Vote::new(12, 1);
+    let request = VoteRequest::new(asked, Some(id(11, 3, 5)));
     assert_eq!(rt;
         format!(in alloc; "{request}")?.as_str(),
-        "{vote:<T2-N1:uncommitted>, last_log:T1-N3-5}"
+        "{vote:<T12-N1:uncommitted>, last_log:T11-N3-5}"
     );
     let granted = VoteResponse::new(&asked, None, true);
     assert_eq!(rt;
         format!(in alloc; "{granted}")?.as_str(),
-        "{<T2-N1:uncommitted>, granted:true, last_log:None}"
+        "{<T12-N1:uncommitted>, granted:true, last_log:None}"
     );
     assert!(rt; granted.is_granted_to(&asked));
-    assert!(rt; !granted.is_granted_to(&Vote::new_committed(2, 1)));
+    assert!(rt; !granted.is_granted_to(&Vote::new_committed(12, 1)));
     assert!(rt; !VoteResponse::new(&asked, None, false).is_granted_to(&asked));
     Ok(())
 }
@@ -52,21 +52,21 @@ fn entries_are_sent_and_answered(rt: HostRuntime) -> Result<(), Fail> {
     let mut entries: Entries<u64, BasicNode, Bytes> = Entries::new(alloc);
     assert!(rt; entries.is_empty());
     entries.push(Entry {
-        log_id: id(1, 1, 1),
+        log_id: id(11, 1, 1),
         payload: EntryPayload::Blank,
     })?;
     assert_eq!(rt; entries.len(), 1);
     let first = entries.as_slice().first().ok_or("no entry")?;
-    assert_eq!(rt; first.log_id, id(1, 1, 1));
+    assert_eq!(rt; first.log_id, id(11, 1, 1));
     let request = AppendEntriesRequest {
-        vote: Vote::new_committed(1, 1),
-        prev_log_id: Some(id(0, 0, 0)),
+        vote: Vote::new_committed(11, 1),
+        prev_log_id: Some(id(10, 0, 0)),
         entries,
         leader_commit: None,
     };
     assert_eq!(rt;
         format!(in alloc; "{request}")?.as_str(),
-        "vote=<T1-N1:committed>, prev_log_id=T0-N0-0, leader_commit=None, entries=1"
+        "vote=<T11-N1:committed>, prev_log_id=T10-N0-0, leader_commit=None, entries=1"
     );
     Ok(())
 }
@@ -75,9 +75,9 @@ fn entries_are_sent_and_answered(rt: HostRuntime) -> Result<(), Fail> {
 fn answers_print(rt: HostRuntime) -> Result<(), Fail> {
     let alloc = rt.alloc();
     let success: AppendEntriesResponse<u64> = AppendEntriesResponse::Success;
-    let partial = AppendEntriesResponse::PartialSuccess(Some(id(1, 1, 2)));
+    let partial = AppendEntriesResponse::PartialSuccess(Some(id(11, 1, 2)));
     let conflict: AppendEntriesResponse<u64> = AppendEntriesResponse::Conflict;
-    let higher = AppendEntriesResponse::HigherVote(Vote::new(3, 2));
+    let higher = AppendEntriesResponse::HigherVote(Vote::new(13, 2));
     assert!(rt; success.is_success());
     assert!(rt; !success.is_conflict());
     assert!(rt; conflict.is_conflict());
@@ -85,12 +85,12 @@ fn answers_print(rt: HostRuntime) -> Result<(), Fail> {
     assert_eq!(rt; format!(in alloc; "{success}")?.as_str(), "Success");
     assert_eq!(rt;
         format!(in alloc; "{partial}")?.as_str(),
-        "PartialSuccess(T1-N1-2)"
+        "PartialSuccess(T11-N1-2)"
     );
     assert_eq!(rt; format!(in alloc; "{conflict}")?.as_str(), "Conflict");
     assert_eq!(rt;
         format!(in alloc; "{higher}")?.as_str(),
-        "Higher vote, <T3-N2:uncommitted>"
+        "Higher vote, <T13-N2:uncommitted>"
     );
     Ok(())
 }
@@ -100,23 +100,40 @@ fn snapshots_are_sent_and_answered(rt: HostRuntime) -> Result<(), Fail> {
     let alloc = rt.alloc();
     let membership = Membership::from_parts(VoterGroups::new(alloc), NodeMap::new(alloc));
     let meta: SnapshotMeta<u64, BasicNode> = SnapshotMeta {
-        last_log_id: id(1, 1, 7),
+        last_log_id: id(11, 1, 7),
         last_membership: Some(LoggedMembership {
-            log_id: id(0, 0, 0),
+            log_id: id(10, 0, 0),
             membership,
         }),
     };
     let request = InstallSnapshotRequest {
-        vote: Vote::new_committed(1, 1),
+        vote: Vote::new_committed(11, 1),
         meta,
         bytes: Bytes::from_slice(alloc, [1, 2, 3].as_slice())?,
     };
     assert_eq!(rt;
         format!(in alloc; "{request}")?.as_str(),
-        "vote:<T1-N1:committed>, meta:{last_log:T1-N1-7}, len:3"
+        "vote:<T11-N1:committed>, meta:{last_log:T11-N1-7}, len:3"
     );
-    let answer = SnapshotResponse::new(Vote::new(2, 3));
+    let answer = SnapshotResponse::new(Vote::new(12, 3));
     let installed = InstallSnapshotResponse::from(answer);
-    assert_eq!(rt; installed.vote, Vote::new(2, 3));
+    assert_eq!(rt; installed.vote, Vote::new(12, 3));
+    Ok(())
+}
+
+#[test]
+fn entries_are_copied(rt: HostRuntime) -> Result<(), Fail> {
+    let mut entries: Entries<u64, BasicNode, u64> = Entries::new(rt.alloc());
+    for (index, amount) in [(1, 5), (2, 7)] {
+        entries.push(Entry {
+            log_id: id(11, 1, index),
+            payload: EntryPayload::Normal(amount),
+        })?;
+    }
+    let copies = entries.clone()?;
+    assert_eq!(rt; copies.len(), 2);
+    let last = copies.as_slice().last().ok_or("no entry")?;
+    assert_eq!(rt; last.log_id, id(11, 1, 2));
+    assert!(rt; matches!(&last.payload, EntryPayload::Normal(amount) if *amount == 7));
     Ok(())
 }

@@ -1,2 +1,4 @@
 pub mod PlaceLemmas
 pub mod MembershipLemmas
+pub mod CoherentLemmas
+pub mod RisingLemmas

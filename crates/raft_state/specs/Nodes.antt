@@ -1,5 +1,5 @@
 -- Nodes by their ids: a list of pairs, by rising id.
-use Rattle.std.specs.Prelude.{Bool, List, [], ◌∷◌}
+use Rattle.std.specs.Prelude.{Bool, cond, Option, Some, None, List, [], ◌∷◌}
 use Rattle.std.specs.declared.cmp.Ordering.{Ordering}
 use Rattle.std.specs.Ordering.{match_ordering}
 use Rattle.std.specs.List.{list_any}
@@ -17,3 +17,8 @@ abbrev pub with_node : {K N : Type 0} → (K → K → Ordering) → List (K × 
 with_node cmp [] id node = (id, node) ∷ []
 with_node cmp (x ∷ xs) id node =
     match_ordering (cmp id x.0) ((id, node) ∷ x ∷ xs) ((id, node) ∷ xs) (x ∷ with_node cmp xs id node)
+
+-- the node with the id
+abbrev pub node_at : {K N : Type 0} → (K → K → Bool) → List (K × N) → K → Option N
+node_at eq [] id = None
+node_at eq (x ∷ xs) id = cond (eq x.0 id) (Some x.1) (node_at eq xs id)

@@ -2,6 +2,7 @@
 
 use crate::log_id::LogId;
 use crate::node::NodeId;
+use std::alloc::AllocError;
 use thiserror::Error;
 
 /// A voter group would have nobody (openraft).
@@ -36,4 +37,7 @@ pub enum ChangeMembershipError<NID> {
     EmptyMembership(EmptyMembership),
     #[error(transparent)]
     LearnerNotFound(LearnerNotFound<NID>),
+    /// A growth was refused (own).
+    #[error("out of memory")]
+    Memory(AllocError),
 }

@@ -1,7 +1,10 @@
 //! Voter groups.
-ghost use Rattle.std.specs.Prelude.{◌≡◌, ◌++◌, ◌∷◌, [], length, OnOk, OnErr, IfErr, IfOk};
+ghost use Rattle.std.specs.Prelude.{◌≡◌, ◌++◌, ◌∷◌, ◌<◌, [], length, OnOk, OnErr, IfErr, IfOk};
+ghost use Rattle.raft_state.specs.Quorum.{next_configs};
+ghost use Rattle.raft_state.specs.MembershipChange.{last_config};
 ghost use Rattle.std.specs.Cmp.Lexicographic.{pointwise, lists_per, lists_equiv};
 
+use crate::coherent::next_children;
 use crate::id_set::IdSet;
 use crate::node::NodeId;
 use std::alloc::{AllocError, AllocFailed, Global};
@@ -43,6 +46,29 @@ impl<NID: NodeId> VoterGroups<NID> {
         ensures { result.now ≡ self.now }
     {
         self.groups.as_slice()
+    }
+
+    // What the groups take their memory from.
+    pub(crate) fn allocator(&self) -> Global {
+        *self.groups.allocator()
+    }
+
+    // The last group.
+    pub(crate) fn last(&self) -> &IdSet<NID>
+        requires { 0 < length self.now }
+        ensures { result.now ≡ last_config self.now }
+    {
+        let groups = self.as_slice();
+        &groups[groups.len() - 1]
+    }
+
+    // The groups one coherent step nearer to the goal.
+    pub(crate) fn next_towards(&self, goal: IdSet<NID>) -> Result<VoterGroups<NID>, AllocError>
+        requires { 0 < length self.now }
+        ensures { IfOk result (λ next. next ≡ next_configs (pointwise NID.eq) self.now goal) }
+    {
+        let groups = next_children(self.allocator(), self.as_slice(), goal)?;
+        Ok(VoterGroups { groups })
     }
 
     /// Adds a group behind the others. Without memory the groups stay, and it comes back.

@@ -4,7 +4,8 @@ use Rattle.std.proofs.Common.{ap, sym, ◌∙◌}
 use Rattle.raft_engine.specs.GroupState.{GroupState}
 use Rattle.raft_engine.specs.GroupEvent.{GroupEvent}
 use Rattle.raft_engine.specs.StepResult.{StepResult, RefusalReason}
-use Rattle.raft_world.specs.GroupWorld.{GroupWorld, NodeState, Absent, Up, Down, WorldEvent, Outcome, Done, Refused, Stopped, Skipped, Recorded, is_stop}
+use Rattle.raft_world.specs.declared.world_event.WorldEvent.{WorldEvent}
+use Rattle.raft_world.specs.GroupWorld.{GroupWorld, NodeState, Absent, Up, Down, Outcome, Done, Refused, Stopped, Skipped, Recorded, is_stop}
 use Rattle.raft_world.specs.NodeEvent.{NodeEvent, Comes, Crashes, Restarts, outcome_at, outcome_of_end, outcome_of_step}
 use Rattle.raft_world.specs.GroupRun.{Scene, Nowhere, At, Replays, IsReplayed, group_run, happens, history_of, outcome_in, outcome_of, ran, scene_of, stop_at}
 

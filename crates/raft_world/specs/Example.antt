@@ -9,7 +9,8 @@ use Rattle.raft_engine.specs.GroupState.{Untold, Role, Follower, Candidate, Lead
 use Rattle.raft_engine.specs.GroupEvent.{GroupEvent, Receive}
 use Rattle.raft_engine.specs.StepResult.{RefusalReason}
 use Rattle.raft_engine.specs.GroupStep.{group_step}
-use Rattle.raft_world.specs.GroupWorld.{GroupWorld, WorldEvent, Outcome, Done, Refused, Stopped, Skipped, Recorded, new_world, NodeState, Absent, Up, Down}
+use Rattle.raft_world.specs.declared.world_event.WorldEvent.{WorldEvent}
+use Rattle.raft_world.specs.GroupWorld.{GroupWorld, Outcome, Done, Refused, Stopped, Skipped, Recorded, new_world, NodeState, Absent, Up, Down}
 use Rattle.raft_world.specs.GroupRun.{group_run, history_of}
 
 -- the events without a stop

@@ -5,7 +5,7 @@ use Rattle.raft_engine.specs.Values.{Entry, has_id, Membership}
 use Rattle.raft_engine.specs.StoredGroup.{StoredGroup}
 use Rattle.raft_engine.specs.Message.{Message}
 use Rattle.raft_engine.specs.GroupState.{GroupState, Untold, no_group, state_of}
-use Rattle.raft_engine.specs.GroupEvent.{GroupCall}
+use Rattle.raft_world.specs.declared.world_event.WorldEvent.{WorldEvent}
 use Rattle.raft_engine.specs.StepResult.{RefusalReason}
 
 -- there is no such node, or it is up, or it is down with what it has stored
@@ -27,15 +27,6 @@ pub record GroupWorld : Type 0 where
   -- the membership that the group was set up with
   pub setup : Option Membership
   pub led : List Led
-
--- a group is added at a node, a node is asked for something, a message is delivered, a node crashes
--- or is restarted
-pub data WorldEvent : Type 0 where
-  Add : (node : ℕ) → WorldEvent
-  Ask : (node : ℕ) (call : GroupCall) (now : ℕ) → WorldEvent
-  Deliver : (number now : ℕ) → WorldEvent
-  Crash : (node : ℕ) → WorldEvent
-  Restart : (node : ℕ) → WorldEvent
 
 -- what became of an event
 pub data Outcome : Type 0 where

@@ -2,8 +2,10 @@
 use Rattle.std.specs.Prelude.{ℕ, List, [], ◌∷◌, ◌++◌, Option, Some, None}
 use Rattle.raft_state.specs.declared.log_id.LogId.{LogId}
 use Rattle.raft_engine.specs.StoredGroup.{StoredGroup}
-use Rattle.raft_engine.specs.GroupEvent.{Lost, TriggerSnapshot, TriggerPurge}
-use Rattle.raft_world.specs.GroupWorld.{GroupWorld, WorldEvent, Ask, Deliver, Restart, new_world}
+use Rattle.raft_engine.specs.declared.group_call.GroupCall.TheVariants.{Lost, TriggerSnapshot, TriggerPurge}
+use Rattle.raft_world.specs.declared.world_event.WorldEvent.{WorldEvent}
+use Rattle.raft_world.specs.declared.world_event.WorldEvent.TheVariants.{Ask, Deliver, Restart}
+use Rattle.raft_world.specs.GroupWorld.{GroupWorld, new_world}
 use Rattle.raft_world.specs.GroupRun.{group_run}
 use Rattle.raft_world.specs.Example.{Brief, Halted, three, ok, to_their_end, stored_at}
 use Rattle.raft_world.specs.ThreeNodes.{until_told}

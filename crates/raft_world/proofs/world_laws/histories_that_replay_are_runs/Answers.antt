@@ -1,5 +1,5 @@
 use Rattle.raft_world.proofs.Runs.{run-replays, replays-run}
-use Rattle.raft_world.proofs.histories_that_replay_are_runs.Goals as goal
+use Rattle.raft_world.proofs.world_laws.histories_that_replay_are_runs.Goals as goal
 
 pub returns-clause-replays : goal.returns-clause-replays
 returns-clause-replays c = run-replays
