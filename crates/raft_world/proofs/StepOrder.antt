@@ -7,11 +7,12 @@ use Rattle.raft_state.specs.declared.log_id.LogId.{LogId}
 use Rattle.raft_state.specs.LogId.{log_id_of}
 use Rattle.raft_engine.specs.Values.{Entry, EntryPayload, entry_of, LoggedMembership}
 use Rattle.raft_state.specs.declared.entry.EntryPayload.TheVariants.{Membership as Members}
-use Rattle.raft_engine.specs.MembershipChange.{ChangeMembers}
+use Rattle.raft_engine.specs.Values.{ChangeMembers}
 use Rattle.raft_engine.specs.StoredGroup.{has_id_in_log, StoredGroup, Snapshot, MakeGroup, PutEntries, CutFrom, RemoveUpTo, SetSnapshot}
 use Rattle.raft_engine.specs.Message.{AppendFields, ReplyFields, ReplyResult, Success, Conflict, HigherVote, MessageBody, VoteRequest, VoteReply, AppendRequest, AppendReply, SnapshotRequest, SnapshotReply}
 use Rattle.raft_engine.specs.GroupState.{GroupState, Lead, Role, Follower, Candidate, Leader, state_of}
-use Rattle.raft_engine.specs.GroupEvent.{GroupCall, Initialize, Elect, Propose, ChangeMembership, Heartbeat, Lost, TriggerSnapshot, TriggerPurge, GroupEvent, AddGroup, Call, Receive, Open}
+use Rattle.raft_engine.specs.declared.group_call.GroupCall.TheVariants.{Initialize, Elect, Propose, ChangeMembership, Heartbeat, Lost, TriggerSnapshot, TriggerPurge}
+use Rattle.raft_engine.specs.GroupEvent.{GroupCall, GroupEvent, AddGroup, Call, Receive, Open}
 use Rattle.raft_engine.specs.StepResult.{is_within, StepResult, RefusalReason, unchanged, store, store_vote, step_down, take_over}
 use Rattle.raft_engine.specs.Elect.{ask, stand, elect_step, other_voters}
 use Rattle.raft_engine.specs.VoteRequest.{judged, may_grant}

@@ -6,7 +6,7 @@ use Rattle.std.proofs.lemmas.Option.{slice_get_past}
 use Rattle.raft_state.specs.declared.log_id.LogId.{LogId}
 use Rattle.raft_state.specs.declared.entry.EntryPayload.TheVariants.{Blank, Normal, Membership as Members}
 use Rattle.raft_state.specs.LogId.{next_place}
-use Rattle.raft_engine.specs.Values.{Membership, Entry, EntryPayload, LoggedMembership, ids_eq, configs_eq, last_membership}
+use Rattle.raft_engine.specs.Values.{Membership, Entry, EntryPayload, configs_eq}
 use Rattle.raft_engine.specs.StoredGroup.{StoredGroup, Snapshot, SetSnapshot, after_storing, entry_at, id_of, first_place, snapshot_last, prefix_of, held}
 use Rattle.raft_engine.specs.Peer.{PeerState, Outstanding}
 use Rattle.raft_engine.specs.GroupState.{GroupState, Lead, Role, Follower, Candidate, Leader}
@@ -32,21 +32,16 @@ use Rattle.raft_world.proofs.TrackElections.{Ends}
 use Rattle.raft_world.proofs.TrackReplies.{peer_of_fits, with_peer_is}
 
 -- equal voter groups are the same
-pub ids_same : (xs ys : List ℕ) → ids_eq xs ys ≡ true → xs ≡ ys
-ids_same [] [] h = refl
-ids_same [] (y ∷ ys) h = absurd (let f : false ≡ true = h in cc)
-ids_same (x ∷ xs) [] h = absurd (let f : false ≡ true = h in cc)
-ids_same (x ∷ xs) (y ∷ ys) h =
-    let p = and_parts (x == y) (ids_eq xs ys) h in
-    ap₂ (λ z zs. z ∷ zs) (eqb-true x y p.0) (ids_same xs ys p.1)
+same_points : {A : Type 0} (eq : A → A → Bool) → ((x y : A) → eq x y ≡ true → x ≡ y) → (xs ys : List A) → pointwise eq xs ys ≡ true → xs ≡ ys
+same_points eq h [] [] t = refl
+same_points eq h [] (y ∷ ys) t = absurd (let f : false ≡ true = t in cc)
+same_points eq h (x ∷ xs) [] t = absurd (let f : false ≡ true = t in cc)
+same_points eq h (x ∷ xs) (y ∷ ys) t =
+    let p = and_parts (eq x y) (pointwise eq xs ys) t in
+    ap₂ (λ z zs. z ∷ zs) (h x y p.0) (same_points eq h xs ys p.1)
 
 pub configs_same : (xs ys : List (List ℕ)) → configs_eq xs ys ≡ true → xs ≡ ys
-configs_same [] [] h = refl
-configs_same [] (y ∷ ys) h = absurd (let f : false ≡ true = h in cc)
-configs_same (x ∷ xs) [] h = absurd (let f : false ≡ true = h in cc)
-configs_same (x ∷ xs) (y ∷ ys) h =
-    let p = and_parts (ids_eq x y) (configs_eq xs ys) h in
-    ap₂ (λ z zs. z ∷ zs) (ids_same x y p.0) (configs_same xs ys p.1)
+configs_same xs ys t = same_points (pointwise nat_eq) (same_points nat_eq eqb-true) xs ys t
 
 module _ {m : Membership} {some : 0 < length m.configs} {own : ℕ} {before : List BallotEvent} {base : StoredGroup} (w : BallotWorld) (r : StepResult) (t : Tracks m some own before base w r) where
   -- a leader writes an entry whose token is to be told

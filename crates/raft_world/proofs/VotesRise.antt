@@ -9,7 +9,8 @@ use Rattle.raft_engine.specs.GroupState.{GroupState, state_of}
 use Rattle.raft_engine.specs.GroupEvent.{GroupEvent, Open}
 use Rattle.raft_engine.specs.StepResult.{StepResult}
 use Rattle.raft_engine.specs.GroupStep.{group_step}
-use Rattle.raft_world.specs.GroupWorld.{GroupWorld, NodeState, Absent, Up, Down, Recorded, Outcome, WorldEvent, is_stop, state_or}
+use Rattle.raft_world.specs.GroupWorld.{GroupWorld, NodeState, Absent, Up, Down, Recorded, Outcome, is_stop, state_or}
+use Rattle.raft_world.specs.declared.world_event.WorldEvent.{WorldEvent}
 use Rattle.raft_world.specs.NodeEvent.{NodeEvent, Comes, Crashes, Restarts, after_step, state_after}
 use Rattle.raft_world.specs.GroupRun.{Scene, Nowhere, At, Replays, happens, after_scene, scene_of, stop_at}
 use Rattle.raft_world.specs.StoringOrder.{KeepsVoteAndCommitted, AllKeep}
