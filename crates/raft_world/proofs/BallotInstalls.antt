@@ -51,4 +51,3 @@ module _ (log lead p : List BallotEntry) (m : Matching log lead) (a : AgreeBelow
       let both = agree_trans merged.holds (agree_sym a) in
       agree_all (put_over log p) p (subst (λ k. AgreeBelow k (put_over log p) p) (sym size) both) size)
       merged.kept
-

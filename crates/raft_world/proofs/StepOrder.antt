@@ -32,7 +32,6 @@ use Rattle.raft_engine.specs.GroupStep.{begun, message_step, call_step, event_st
 use Rattle.raft_engine.specs.Refusal.{refusal_of}
 use Rattle.raft_world.specs.StoringOrder.{StoresInOrder, KeepsVoteAndCommitted, AllKeep}
 use Rattle.raft_world.proofs.StepWords.{either, either_by, same, store-keeps, store_vote-keeps, step_down-keeps, take_over-keeps, append-keeps, with_grant-keeps, remove-keeps, finished-keeps}
-
 use Rattle.std.proofs.Common.{sym, ◌∙◌, ap, subst, arith, leb-true}
 use Rattle.std.proofs.lemmas.Bool.{or_parts, false_from_ne_true}
 use Rattle.raft_world.proofs.VoteOrders.{not_below, later_term_not_below}

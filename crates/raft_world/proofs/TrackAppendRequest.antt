@@ -50,11 +50,12 @@ module _ {m : Membership} {some : 0 < length m.configs} {own : ℕ} {before : Li
         follows_ends (joined own peer a true r)
         (taken w own (append-of (rank_of a.vote.leader_id) (next_place a.previous) (id_rank a.previous) (ballot_log a.entries) (next_place a.committed)))
         (take_extends small w r t a fits other under led kept)
-        (track_send peer _ take.0
-              (fits.bound,
-              λ id e.
+        (track_send peer _ take.0 (
+          fits.bound,
+          λ id e.
               let place : id.index + 1 ≡ next_place a.previous + length (ballot_log a.entries) = sym (ap next_place e) ∙ last ∙ ap (λ k. next_place a.previous + k) (sym (size_same a.entries)) in
-              inl (ap (reply-of (rank_of a.vote.leader_id) own) place)))
+              inl (ap (reply-of (rank_of a.vote.leader_id) own) place),
+        ))
         (take.1 ∙ follows)
 
     differs_ends : is_held r.state.stored r.state.committed a.previous ≡ false → Ends m some own before base w (joined own peer a false r)

@@ -133,18 +133,18 @@ module _ {m : Membership} {some : 0 < length m.configs} {own : ℕ} {before : Li
 
     pub conflict_tracks : Tracks m some own before base (cut_before w own asked) (store (CutFrom id.index) r) × Extends own w (cut_before w own asked)
     conflict_tracks = (
-        track_event (CutFrom id.index) t (CutForConflict at.0 own) refl (cut_before w own asked) conflict_is
-            (subst (λ y. UpFits m y (with_stored r.state (after_storing (CutFrom id.index) r.state.stored))) (sym (with_value_same w.node own _))
-            (record {
-              list = take id.index list;
-              fits =
-                  cut_fits t.up.fits t.up.joined id.index (omega (arith, front_low, above)) (omega (arith, inside)) _
-                  (sym same_ballot) (sym same_flag) cut_log t.up.fits.reaches;
-              joined = joined_cut r.state.stored list t.up.joined id.index (omega (arith, front_low, above)) (omega (arith, inside));
-              commit = t.up.commit;
-              applied = t.up.applied;
-            })),
-        step_extends m own w (CutForConflict at.0 own) refl (cut_before w own asked) conflict_is,
+      track_event (CutFrom id.index) t (CutForConflict at.0 own) refl (cut_before w own asked) conflict_is
+          (subst (λ y. UpFits m y (with_stored r.state (after_storing (CutFrom id.index) r.state.stored))) (sym (with_value_same w.node own _))
+          (record {
+            list = take id.index list;
+            fits =
+                cut_fits t.up.fits t.up.joined id.index (omega (arith, front_low, above)) (omega (arith, inside)) _
+                (sym same_ballot) (sym same_flag) cut_log t.up.fits.reaches;
+            joined = joined_cut r.state.stored list t.up.joined id.index (omega (arith, front_low, above)) (omega (arith, inside));
+            commit = t.up.commit;
+            applied = t.up.applied;
+          })),
+      step_extends m own w (CutForConflict at.0 own) refl (cut_before w own asked) conflict_is,
     )
 
   -- ---- the entry before is the list's

@@ -1,6 +1,8 @@
 -- Commands, changes of the membership, lost requests and snapshots, followed by the ballot machine.
 use Rattle.std.specs.Prelude.{◌≡◌, ◌⊎◌, ℕ, zero, suc, ◌+◌, ◌-◌, ◌<◌, ◌≤◌, ◌^◌, ◌==◌, ◌&&◌, nat_lt, Bool, true, false, List, [], ◌∷◌, ◌++◌, length, take, slice_get, Option, Some, None, is_some, option_map, refl}
 use Rattle.std.proofs.Common.{inl, inr, sym, ap, ap₂, ◌∙◌, subst, arith, ⊎_elim, eqb-true, length-take-le}
+use Rattle.std.specs.Cmp.Lexicographic.{pointwise}
+use Rattle.std.specs.Prelude.{nat_eq}
 use Rattle.std.proofs.lemmas.Bool.{and_parts, ltb-false, cases_lt}
 use Rattle.std.proofs.lemmas.Option.{slice_get_past}
 use Rattle.raft_state.specs.declared.log_id.LogId.{LogId}
@@ -71,12 +73,16 @@ module _ {m : Membership} {some : 0 < length m.configs} {own : ℕ} {before : Li
         world = w;
         extends = extends_refl own w;
         tracks = track_same (with_peer_state (ended (peer_of lead peer)) lead r) t refl refl refl refl refl;
-        role = (h.0, h.1, λ x a.
-            ⊎_elim
-            (λ s. subst (PeerFits w.replies (rank_of r.state.stored.vote.leader_id) (held r.state.stored)) (sym s)
-            (record { matched = λ id z. p.matched id z; outstanding = λ o id z q. absurd (let f : None ≡ Some o = z in cc) }))
-            (λ c. h.2 x c)
-            (with_peer_is (ended (peer_of lead peer)) lead.peers x a));
+        role = (
+          h.0,
+          h.1,
+          λ x a.
+              ⊎_elim
+              (λ s. subst (PeerFits w.replies (rank_of r.state.stored.vote.leader_id) (held r.state.stored)) (sym s)
+              (record { matched = λ id z. p.matched id z; outstanding = λ o id z q. absurd (let f : None ≡ Some o = z in cc) }))
+              (λ c. h.2 x c)
+              (with_peer_is (ended (peer_of lead peer)) lead.peers x a),
+        );
       })
       (λ b. record { world = w; extends = extends_refl own w; tracks = t; role = subst (RoleFits own w r.state.stored.vote (held r.state.stored)) (sym e) h })
 

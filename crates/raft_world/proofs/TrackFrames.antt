@@ -156,14 +156,14 @@ module _ {m : Membership} {some : 0 < length m.configs} {own : ℕ} {before' : L
   -- a leader that waits for one more answer
   waiting_role : {w' : BallotWorld} (lead : Lead) → LeadFits own w r.state lead → {p : PeerState} → PeerFits w.replies (rank_of r.state.stored.vote.leader_id) (held r.state.stored) p → Extends own w w' → (q : PeerState) → ((id : LogId ℕ) → q.matched ≡ Some id → Among (reply-of (rank_of r.state.stored.vote.leader_id) q.peer (id.index + 1)) w.replies) → ((id : LogId ℕ) → q.matched ≡ Some id → HasId (held r.state.stored) id) → ((o : Outstanding) (id : LogId ℕ) → q.outstanding ≡ Some o → o.last ≡ Some id → HasId (held r.state.stored) id) → LeadFits own w' r.state (record lead { peers = with_peer q lead.peers })
   waiting_role {w'} lead h fits e q f g k = (
-      h.0,
-      h.1,
-      λ x a.
-          ⊎_elim
-          (λ s. subst (PeerFits w'.replies (rank_of r.state.stored.vote.leader_id) (held r.state.stored)) (sym s)
-          (record { matched = λ id z. (e.replies _ (f id z), g id z); outstanding = k }))
-          (λ b. peer_on (λ y c. e.replies y c) (λ i y z. z) (h.2 x b))
-          (with_peer_is q lead.peers x a),
+    h.0,
+    h.1,
+    λ x a.
+        ⊎_elim
+        (λ s. subst (PeerFits w'.replies (rank_of r.state.stored.vote.leader_id) (held r.state.stored)) (sym s)
+        (record { matched = λ id z. (e.replies _ (f id z), g id z); outstanding = k }))
+        (λ b. peer_on (λ y c. e.replies y c) (λ i y z. z) (h.2 x b))
+        (with_peer_is q lead.peers x a),
   )
 
   -- ---- a request with entries

@@ -148,20 +148,20 @@ module _ {m : Membership} {some : 0 < length m.configs} {own : ℕ} {before : Li
 
     pub drop_tracks : Tracks m some own before base (dropped w own asked) (store (CutFrom (place_above r.state.committed)) r) × Extends own w (dropped w own asked)
     drop_tracks = (
-        track_event (CutFrom (place_above r.state.committed)) t (CutForSnapshot at.0 own) refl (dropped w own asked) drops_is
-            (subst (λ y. UpFits m y (with_stored r.state (after_storing (CutFrom (place_above r.state.committed)) r.state.stored))) (sym (with_value_same w.node own _))
-            (record {
-              list = take (place_above r.state.committed) list;
-              fits =
-                  cut_fits t.up.fits t.up.joined (place_above r.state.committed) front_low (omega (arith, past, inside)) _
-                  (sym same_ballot) (sym same_flag)
-                  (ap₂ take t.up.commit t.up.fits.log ∙ take-map ballot_entry (place_above r.state.committed) list)
-                  t.up.fits.reaches;
-              joined = joined_cut r.state.stored list t.up.joined (place_above r.state.committed) front_low (omega (arith, past, inside));
-              commit = t.up.commit;
-              applied = t.up.applied;
-            })),
-        step_extends m own w (CutForSnapshot at.0 own) refl (dropped w own asked) drops_is,
+      track_event (CutFrom (place_above r.state.committed)) t (CutForSnapshot at.0 own) refl (dropped w own asked) drops_is
+          (subst (λ y. UpFits m y (with_stored r.state (after_storing (CutFrom (place_above r.state.committed)) r.state.stored))) (sym (with_value_same w.node own _))
+          (record {
+            list = take (place_above r.state.committed) list;
+            fits =
+                cut_fits t.up.fits t.up.joined (place_above r.state.committed) front_low (omega (arith, past, inside)) _
+                (sym same_ballot) (sym same_flag)
+                (ap₂ take t.up.commit t.up.fits.log ∙ take-map ballot_entry (place_above r.state.committed) list)
+                t.up.fits.reaches;
+            joined = joined_cut r.state.stored list t.up.joined (place_above r.state.committed) front_low (omega (arith, past, inside));
+            commit = t.up.commit;
+            applied = t.up.applied;
+          })),
+      step_extends m own w (CutForSnapshot at.0 own) refl (dropped w own asked) drops_is,
     )
 
   -- ---- the snapshot is stored, and the log that it covers goes

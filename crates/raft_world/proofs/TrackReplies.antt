@@ -161,9 +161,9 @@ module _ {m : Membership} {some : 0 < length m.configs} {own : ℕ} {before : Li
         let last = answered_last reply (peer_of lead peer).outstanding parts.1 in
         record {
           matched = λ id e. (
-              subst (λ n. Among (reply-of (rank_of r.state.stored.vote.leader_id) n (id.index + 1)) w.replies) (sym (peer_of_is lead peer))
-              (subst (λ v. Among (reply-of (rank_of v.leader_id) peer (id.index + 1)) w.replies) vote (fits id e)),
-              p.outstanding last.0 id last.1 (last_same reply.last (last.0).last id last.2 e),
+            subst (λ n. Among (reply-of (rank_of r.state.stored.vote.leader_id) n (id.index + 1)) w.replies) (sym (peer_of_is lead peer))
+                (subst (λ v. Among (reply-of (rank_of v.leader_id) peer (id.index + 1)) w.replies) vote (fits id e)),
+            p.outstanding last.0 id last.1 (last_same reply.last (last.0).last id last.2 e),
           );
           outstanding = λ o id e q. absurd (let f : None ≡ Some o = e in cc);
         }
@@ -185,11 +185,15 @@ module _ {m : Membership} {some : 0 < length m.configs} {own : ℕ} {before : Li
           world = w;
           extends = extends_refl own w;
           tracks = track_same (with_peer_state (after_answer (peer_of lead peer) reply reply.outcome) lead r) t refl refl refl refl refl;
-          role = (h.0, h.1, λ p a.
-              ⊎_elim
-              (λ s. subst (PeerFits w.replies (rank_of r.state.stored.vote.leader_id) (held r.state.stored)) (sym s) (after_fits lead h.2 reply.outcome fits q))
-              (λ b. h.2 p b)
-              (with_peer_is (after_answer (peer_of lead peer) reply reply.outcome) lead.peers p a));
+          role = (
+            h.0,
+            h.1,
+            λ p a.
+                ⊎_elim
+                (λ s. subst (PeerFits w.replies (rank_of r.state.stored.vote.leader_id) (held r.state.stored)) (sym s) (after_fits lead h.2 reply.outcome fits q))
+                (λ b. h.2 p b)
+                (with_peer_is (after_answer (peer_of lead peer) reply reply.outcome) lead.peers p a),
+          );
         })
         (λ q. stays)
 

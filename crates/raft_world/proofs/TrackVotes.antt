@@ -127,12 +127,11 @@ module _ (m : Membership) (some : 0 < length m.configs) (own : ℕ) (small : own
       (le-leb (w.node own).ballot b (omega (arith, t.up.fits.ballot))))
       in (
         track_same (store_vote v r)
-        (track_event (SetVote v) t (RaiseVote own b v.committed) refl (raised w own b v.committed) is
-        (subst (λ y. UpFits m y (with_stored r.state (after_storing (SetVote v) r.state.stored))) (sym (with_value_same w.node own _)) (voted v bound t.up)))
-        refl refl refl refl refl,
+            (track_event (SetVote v) t (RaiseVote own b v.committed) refl (raised w own b v.committed) is
+            (subst (λ y. UpFits m y (with_stored r.state (after_storing (SetVote v) r.state.stored))) (sym (with_value_same w.node own _)) (voted v bound t.up)))
+            refl refl refl refl refl,
         step_extends m own w (RaiseVote own b v.committed) refl (raised w own b v.committed) is,
       )
-
 
   -- and its grant was sent
   pub record Granted (w : BallotWorld) (v : Vote ℕ) (committed : Option ℕ) (q : StepResult) : Type 0 where
@@ -211,33 +210,39 @@ module _ (m : Membership) (some : 0 < length m.configs) (own : ℕ) (small : own
             (λ l.
             let down = track_same (step_down r) t refl refl refl refl refl in
             let step = is (may (inr (rank_rises_strictly r.state.stored.vote v t.up.fits.bound young l))) in
-            record { grant = inl refl; took = record {
-              world = granted w own asking;
-              extends = step_extends m own w (TakeRequest at.0 own) refl (granted w own asking) step;
-              tracks =
-                  track_same (store_vote v (step_down r))
-                  (track_event (SetVote v) down (TakeRequest at.0 own) refl (granted w own asking) step
-                  (subst (λ y. UpFits m y (with_stored (step_down r).state (after_storing (SetVote v) r.state.stored))) (sym (with_value_same w.node own _))
-                  (up_node _ refl (sym young) refl refl (voted v bound down.up))))
-                  refl refl refl refl refl;
-              role = refl;
-              vote = refl;
-              place = refl;
-            } })
+            record {
+              grant = inl refl;
+              took = record {
+                world = granted w own asking;
+                extends = step_extends m own w (TakeRequest at.0 own) refl (granted w own asking) step;
+                tracks =
+                    track_same (store_vote v (step_down r))
+                    (track_event (SetVote v) down (TakeRequest at.0 own) refl (granted w own asking) step
+                    (subst (λ y. UpFits m y (with_stored (step_down r).state (after_storing (SetVote v) r.state.stored))) (sym (with_value_same w.node own _))
+                    (up_node _ refl (sym young) refl refl (voted v bound down.up))))
+                    refl refl refl refl refl;
+                role = refl;
+                vote = refl;
+                place = refl;
+              };
+            })
             (λ l.
             let same = same_vote v r.state.stored.vote low l in
             let step = is (may (inl (sym same))) in
             let stranger : r.state.stored.vote.leader_id.node_id ≡ own → ⊥ = λ e. other (ap (λ x. x.leader_id.node_id) same ∙ e) in
-            record { grant = inl refl; took = record {
-              world = granted w own asking;
-              extends = step_extends m own w (TakeRequest at.0 own) refl (granted w own asking) step;
-              tracks =
-                  track_on (renew r) t refl refl (reached_next (TakeRequest at.0 own) refl (granted w own asking) step t.reached)
-                  (subst (λ y. UpFits m y (renew r).state) (sym (with_value_same w.node own _))
-                  (up_node _ (ap (λ x. rank_of x.leader_id) same ∙ sym t.up.fits.ballot) (sym young ∙ ap (λ x. x.committed) same ∙ sym t.up.fits.committed) refl refl
-                  (up_same r.state (renew r).state refl refl refl t.up)))
-                  (λ x a. message_on (step_extends m own w (TakeRequest at.0 own) refl (granted w own asking) step) m x (t.messages x a));
-              role = stranger_follows own w r.state.stored.vote t.up.list r.state.role role stranger;
-              vote = sym same;
-              place = refl;
-            } })
+            record {
+              grant = inl refl;
+              took = record {
+                world = granted w own asking;
+                extends = step_extends m own w (TakeRequest at.0 own) refl (granted w own asking) step;
+                tracks =
+                    track_on (renew r) t refl refl (reached_next (TakeRequest at.0 own) refl (granted w own asking) step t.reached)
+                    (subst (λ y. UpFits m y (renew r).state) (sym (with_value_same w.node own _))
+                    (up_node _ (ap (λ x. rank_of x.leader_id) same ∙ sym t.up.fits.ballot) (sym young ∙ ap (λ x. x.committed) same ∙ sym t.up.fits.committed) refl refl
+                    (up_same r.state (renew r).state refl refl refl t.up)))
+                    (λ x a. message_on (step_extends m own w (TakeRequest at.0 own) refl (granted w own asking) step) m x (t.messages x a));
+                role = stranger_follows own w r.state.stored.vote t.up.list r.state.role role stranger;
+                vote = sym same;
+                place = refl;
+              };
+            })
