@@ -1,4 +1,4 @@
-//! The law of the one list, over every history that replays.
+//! Laws of the group step, and of histories that replay.
 
 ghost use Rattle.std.specs.Prelude.{◌≡◌, ℕ};
 ghost use Rattle.raft_engine.specs.GroupState.{GroupState};
