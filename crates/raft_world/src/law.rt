@@ -1,0 +1,27 @@
+//! Laws of the group step, and of histories that replay.
+
+ghost use Rattle.std.specs.Prelude.{◌≡◌, ℕ};
+ghost use Rattle.raft_engine.specs.GroupState.{GroupState};
+ghost use Rattle.raft_engine.specs.GroupEvent.{GroupEvent};
+ghost use Rattle.raft_engine.specs.GroupStep.{group_step};
+ghost use Rattle.raft_world.specs.StoringOrder.{StoresInOrder};
+ghost use Rattle.raft_world.specs.VotesRise.{VotesNeverDecrease};
+ghost use Rattle.raft_world.specs.CommitsOwn.{CommitsOwn};
+
+/// What a step has stored is what its storing commands make of the group, one after the other. None of them puts a
+/// lesser vote in place of a greater, and none cuts the log at or below the committed place.
+pub fn step_stores_its_commands()
+    ensures { (own : ℕ) (s : GroupState) (e : GroupEvent) → StoresInOrder s.committed s.stored (group_step own s e) }
+{}
+
+/// A node's vote never decreases, over every history that replays, with a stop after any number of an event's storing
+/// commands, crashes and restarts: what it has stored later has a vote that isn't below the one before.
+pub fn votes_never_decrease()
+    ensures { VotesNeverDecrease }
+{}
+
+/// A leader commits only log ids of its own leader id: where the leader's commit moves the committed place, an entry of
+/// its log with the leader id of its vote stands there.
+pub fn leaders_commit_their_own()
+    ensures { CommitsOwn }
+{}
