@@ -135,7 +135,8 @@ fn an_entry_and_a_put_are_a_record_of_110_bytes(rt: HostRuntime) -> Result<(), F
     let alloc = rt.alloc();
     let mut batch = LogBatch::new(alloc);
     let entry = vec![in alloc; 9u8; 37]?;
-    batch.add_raw_entries(7, 2, vec![in alloc; entry]?.as_slice())?;
+    let entries = vec![in alloc; entry]?;
+    batch.add_raw_entries(7, 2, &entries)?;
     batch.put(7, Vec::from_slice(alloc, b"end")?, vec![in alloc; 0u8; 8]?)?;
     assert_eq!(rt; batch.finish_populate()?, 110);
     let front = [0, 0, 0, 0x6e, 0, 0, 0, 0x31].as_slice();
@@ -161,7 +162,8 @@ fn memtables_are_the_fold_of_their_batches(rt: HostRuntime) -> Result<(), Fail> 
     let mut batch = LogBatch::new(alloc);
     let entry = vec![in alloc; 9u8; 4]?;
     let other = vec![in alloc; 8u8; 5]?;
-    batch.add_raw_entries(7, 5, vec![in alloc; entry, other]?.as_slice())?;
+    let entries = vec![in alloc; entry, other]?;
+    batch.add_raw_entries(7, 5, &entries)?;
     batch.put(
         7,
         Vec::from_slice(alloc, b"end")?,
