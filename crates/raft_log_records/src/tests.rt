@@ -137,7 +137,9 @@ fn an_entry_and_a_put_are_a_record_of_110_bytes(rt: HostRuntime) -> Result<(), F
     let entry = vec![in alloc; 9u8; 37]?;
     let entries = vec![in alloc; entry]?;
     batch.add_raw_entries(7, 2, &entries)?;
-    batch.put(7, Vec::from_slice(alloc, b"end")?, vec![in alloc; 0u8; 8]?)?;
+    let key = Vec::from_slice(alloc, b"end")?;
+    let value = Vec::from_slice(alloc, &[0; 8])?;
+    batch.put(7, key, value)?;
     assert_eq!(rt; batch.finish_populate()?, 110);
     let front = [0, 0, 0, 0x6e, 0, 0, 0, 0x31].as_slice();
     assert_eq!(rt; &batch.encoded_bytes()[..8], front);
