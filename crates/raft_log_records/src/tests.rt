@@ -135,17 +135,17 @@ fn an_entry_and_a_put_are_a_record_of_110_bytes(rt: HostRuntime) -> Result<(), F
     let alloc = rt.alloc();
     let mut batch = LogBatch::new(alloc);
     let entry = vec![in alloc; 9u8; 37]?;
-    batch.add_raw_entries(7, 2, vec![in alloc; entry]?.as_slice())?;
-    batch.put(7, Vec::from_slice(alloc, b"end")?, vec![in alloc; 0u8; 8]?)?;
+    let entries = vec![in alloc; entry]?;
+    batch.add_raw_entries(7, 2, &entries)?;
+    let key = Vec::from_slice(alloc, b"end")?;
+    let value = Vec::from_slice(alloc, &[0; 8])?;
+    batch.put(7, key, value)?;
     assert_eq!(rt; batch.finish_populate()?, 110);
     let front = [0, 0, 0, 0x6e, 0, 0, 0, 0x31].as_slice();
     assert_eq!(rt; &batch.encoded_bytes()[..8], front);
     let record = read_record(alloc, batch.encoded_bytes(), None)?;
     assert_eq!(rt; record.entries.len(), 37);
     assert_eq!(rt; record.batch.items.len(), 2);
-    let items = batch.drain();
-    assert_eq!(rt; items.items.len(), 2);
-    assert!(rt; batch.is_empty());
     Ok(())
 }
 
@@ -161,7 +161,8 @@ fn memtables_are_the_fold_of_their_batches(rt: HostRuntime) -> Result<(), Fail> 
     let mut batch = LogBatch::new(alloc);
     let entry = vec![in alloc; 9u8; 4]?;
     let other = vec![in alloc; 8u8; 5]?;
-    batch.add_raw_entries(7, 5, vec![in alloc; entry, other]?.as_slice())?;
+    let entries = vec![in alloc; entry, other]?;
+    batch.add_raw_entries(7, 5, &entries)?;
     batch.put(
         7,
         Vec::from_slice(alloc, b"end")?,
