@@ -1,2 +1,5 @@
 pub mod PlaceLemmas
 pub mod MembershipLemmas
+pub mod LogIdLemmas
+pub mod LogIdListLemmas
+pub mod KeyOrderLemmas

@@ -1,0 +1,107 @@
+//! The ids of a log, kept by few of them.
+ghost use Rattle.std.specs.Prelude.{◌≡◌, ◌+◌, ◌-◌, ◌<◌, ◌≤◌, [], ℕ, length, OnOk, OnErr, IfOk, slice_index_or};
+ghost use Rattle.std.specs.List.{slice_get};
+ghost use Rattle.std.specs.Option.{option_copied};
+ghost use Rattle.raft_state.specs.LogIdList.{ids_of, last_id, id_at, appended, truncated, purged, PlacesRise, AreKeys, GoesOn, ends_in_pair};
+
+use crate::log_id::LogId;
+use crate::node::NodeId;
+use std::alloc::{AllocError, Global};
+use std::cmp::Ordering;
+use std::marker::Model;
+
+/// The ids of a log (openraft). It keeps the first log id of each leader and the last one of all.
+/// Contracts see the full list, by rising index without a gap.
+#[derive(Debug, Drop)]
+pub struct LogIdList<NID: NodeId> {
+    alloc: Global,
+    key_log_ids: Vec<LogId<NID>>,
+}
+
+impl<NID: NodeId> Model for LogIdList<NID> {
+    ghost use Rattle.std.specs.Prelude.{List};
+    ghost use Rattle.raft_state.specs.declared.log_id.LogId.{LogId};
+    ghost use Rattle.raft_state.specs.LogIdList.{ids_of, AreKeys};
+
+    ghost Value = { List (LogId NID) };
+
+    ghost view = { λ s. ids_of s.key_log_ids.items };
+
+    ghost invariant = { λ s. AreKeys NID.cmp s.key_log_ids.items };
+}
+
+// How many of the keys stand at the place or below it.
+fn count_up_to<NID: NodeId>(keys: &[LogId<NID>], index: u64) -> usize
+    ensures within { result ≤ length keys.now }
+    ensures below { (k : ℕ) (d : _) → k < result → (slice_index_or keys.now k d).index ≤ index }
+    ensures above { (d : _) → result < length keys.now → index < (slice_index_or keys.now result d).index }
+{
+    for (at, key) in keys.iter().enumerate() {
+        if key.index > index {
+            return at;
+        }
+    }
+    keys.len()
+}
+
+// Whether the last two keys have one leader: then the last one begins no leader.
+fn ends_in_pair<NID: NodeId>(keys: &[LogId<NID>]) -> bool
+    ensures { result ≡ ends_in_pair NID.cmp keys.now }
+{
+    match keys {
+        [.., before, last] => before.leader_id.cmp(&last.leader_id).is_eq(),
+        _ => false,
+    }
+}
+
+fn append_key<NID: NodeId>(keys: &mut Vec<LogId<NID>>, id: LogId<NID>) -> Result<(), AllocError>
+    requires keys { AreKeys NID.cmp keys.old.items }
+    requires goes_on { GoesOn NID.cmp (last_id keys.old.items) id }
+    ensures ok { OnOk result (ids_of keys.new.items ≡ appended (ids_of keys.old.items) id) }
+    ensures err { OnErr result (keys.new.items ≡ keys.old.items) }
+    ensures keys { AreKeys NID.cmp keys.new.items }
+{
+    if ends_in_pair(keys.as_slice()) {
+        let last = keys.len() - 1;
+        keys[last] = id;
+        return Ok(());
+    }
+    keys.push(id)?;
+    Ok(())
+}
+
+impl<NID: NodeId> LogIdList<NID> {
+    /// No log ids. Takes no memory.
+    pub fn empty(alloc: Global) -> LogIdList<NID>
+        ensures { result ≡ [] }
+    {
+        LogIdList {
+            alloc,
+            key_log_ids: Vec::new(alloc),
+        }
+    }
+
+    /// Puts the log id behind the others; places between get the leader of the last one.
+    /// Without memory the list stays.
+    pub fn append(&mut self, new_log_id: LogId<NID>) -> Result<(), AllocError>
+        requires { GoesOn NID.cmp (last_id self.old) new_log_id }
+        ensures ok { OnOk result (self.new ≡ appended self.old new_log_id) }
+        ensures err { OnErr result (self.new ≡ self.old) }
+    {
+        append_key(&mut self.key_log_ids, new_log_id)
+    }
+
+    /// The first log id.
+    pub fn first(&self) -> Option<&LogId<NID>>
+        ensures { option_copied result ≡ slice_get self.now 0 }
+    {
+        self.key_log_ids.first()
+    }
+
+    /// The last log id.
+    pub fn last(&self) -> Option<&LogId<NID>>
+        ensures { option_copied result ≡ last_id self.now }
+    {
+        self.key_log_ids.last()
+    }
+}
