@@ -3,3 +3,5 @@ pub mod MembershipLemmas
 pub mod LogIdLemmas
 pub mod LogIdListLemmas
 pub mod KeyOrderLemmas
+pub mod KeyCutLemmas
+pub mod KeyCountLemmas

@@ -70,7 +70,30 @@ fn append_key<NID: NodeId>(keys: &mut Vec<LogId<NID>>, id: LogId<NID>) -> Result
     Ok(())
 }
 
+// The log id that the keys tell at a place.
+fn id_by_keys<NID: NodeId>(keys: &[LogId<NID>], index: u64) -> Option<LogId<NID>>
+    requires { PlacesRise keys.now }
+    ensures { result ≡ id_at (ids_of keys.now) index }
+{
+    let count = count_up_to(keys, index);
+    if count == 0 {
+        return None;
+    }
+    let key = keys[count - 1];
+    if count < keys.len() {
+        return Some(LogId::new(key.leader_id, index));
+    }
+    if key.index == index { Some(key) } else { None }
+}
+
 impl<NID: NodeId> LogIdList<NID> {
+    /// The log id at the index, if there is one.
+    pub fn get(&self, index: u64) -> Option<LogId<NID>>
+        ensures { result ≡ id_at self.now index }
+    {
+        id_by_keys(self.key_log_ids.as_slice(), index)
+    }
+
     /// No log ids. Takes no memory.
     pub fn empty(alloc: Global) -> LogIdList<NID>
         ensures { result ≡ [] }
