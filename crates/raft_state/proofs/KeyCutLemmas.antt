@@ -8,7 +8,7 @@ use Rattle.std.proofs.lemmas.List.Elements.{filter-append}
 use Rattle.std.proofs.lemmas.List.Folds.{find-append}
 use Rattle.raft_state.specs.declared.vote.LeaderId.{LeaderId}
 use Rattle.raft_state.specs.declared.log_id.LogId.{LogId}
-use Rattle.raft_state.specs.LogIdList.{leader_ids, end_of_key, ids_of, last_id, id_at, truncated, or_alone, purged, IsBelowNext, PlacesRise}
+use Rattle.raft_state.specs.LogIdList.{leader_ids, end_of_key, ids_of, last_id, id_at, truncated, from_place, IsBelowNext, PlacesRise}
 use Rattle.raft_state.proofs.LogIdLemmas.{leader_ids-join, leader_ids-none, leader_ids-one, leader_ids-first, filter-all, filter-no, find-no}
 use Rattle.raft_state.proofs.LogIdListLemmas.{final, ids_of-first, ids_behind}
 
@@ -159,9 +159,6 @@ module _ {K : Type 0} where
       let low = first-below next keys i key h.1 (omega arith) e in
       rw (filter-append, filter-all first.leader_id (λ id. nat_lt id.index at) first.index next.index (λ k o p. below-yes k at (omega (arith, low))))
       (ap (λ ids. leader_ids first.leader_id first.index next.index ++ ids) (truncated-front (next ∷ keys) i key at h.1 e l (omega arith) n))
-
-  abbrev pub from_place : ℕ → List (LogId K) → List (LogId K)
-  from_place at ids = filter (λ id. nat_le at id.index) ids
 
   -- all stand at or behind a place that isn't behind the first key
   pub from_place-before : (keys : List (LogId K)) (at : ℕ) → PlacesRise keys → ((d : LogId K) → 0 < length keys → at ≤ (get_or keys 0 d).index) → from_place at (ids_of keys) ≡ ids_of keys

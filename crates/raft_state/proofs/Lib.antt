@@ -5,3 +5,4 @@ pub mod LogIdListLemmas
 pub mod KeyOrderLemmas
 pub mod KeyCutLemmas
 pub mod KeyCountLemmas
+pub mod KeyRestLemmas

@@ -1,5 +1,5 @@
 -- A log's ids as a full list, and the keys from which it is made.
-use Rattle.std.specs.Prelude.{◌≡◌, ◌≢◌, ℕ, ◌+◌, ◌-◌, ◌<◌, ◌==◌, Bool, false, nat_lt, nat_le, List, [], ◌∷◌, ◌++◌, map, length, Option, Some, None}
+use Rattle.std.specs.Prelude.{◌≡◌, ◌≢◌, ℕ, ◌+◌, ◌-◌, ◌<◌, ◌≤◌, ◌==◌, Bool, false, nat_lt, nat_le, List, [], ◌∷◌, ◌++◌, map, length, Option, Some, None}
 use Rattle.std.specs.List.{range_with_len, slice_get, filter, find, fold}
 use Rattle.std.specs.declared.cmp.Ordering.{Ordering}
 use Rattle.std.specs.declared.cmp.Ordering.TheVariants.{Less, Greater}
@@ -49,14 +49,23 @@ module _ {K : Type 0} where
   abbrev pub truncated : List (LogId K) → ℕ → List (LogId K)
   truncated ids at = filter (λ id. nat_lt id.index at) ids
 
+  -- the log ids from a place on
+  abbrev pub from_place : ℕ → List (LogId K) → List (LogId K)
+  from_place index ids = filter (λ id. nat_le index id.index) ids
+
   -- the log ids, or where there are none this one alone
   abbrev pub or_alone : List (LogId K) → LogId K → List (LogId K)
   or_alone [] upto = upto ∷ []
   or_alone (id ∷ ids) upto = id ∷ ids
 
-  -- the log ids from a place on; past the last one its log id alone
+  -- the log ids from the place of `upto` on; past the last one `upto` alone
   abbrev pub purged : List (LogId K) → LogId K → List (LogId K)
-  purged ids upto = or_alone (filter (λ id. nat_le upto.index id.index) ids) upto
+  purged ids upto = or_alone (from_place upto.index ids) upto
+
+  -- the place isn't past the last one, where there is one
+  abbrev pub Reaches : Option (LogId K) → ℕ → Type 0
+  Reaches None index = ⊥
+  Reaches (Some last) index = index ≤ last.index
 
   -- the key stands below the next one
   abbrev pub IsBelowNext : LogId K → List (LogId K) → Type 0

@@ -2,7 +2,7 @@
 ghost use Rattle.std.specs.Prelude.{◌≡◌, ◌+◌, ◌-◌, ◌<◌, ◌≤◌, [], ℕ, length, OnOk, OnErr, IfOk, slice_index_or};
 ghost use Rattle.std.specs.List.{slice_get};
 ghost use Rattle.std.specs.Option.{option_copied};
-ghost use Rattle.raft_state.specs.LogIdList.{ids_of, last_id, id_at, appended, truncated, purged, PlacesRise, AreKeys, GoesOn, ends_in_pair};
+ghost use Rattle.raft_state.specs.LogIdList.{ids_of, last_id, id_at, appended, truncated, purged, PlacesRise, AreKeys, GoesOn, Reaches, ends_in_pair};
 
 use crate::log_id::LogId;
 use crate::node::NodeId;
@@ -86,7 +86,89 @@ fn id_by_keys<NID: NodeId>(keys: &[LogId<NID>], index: u64) -> Option<LogId<NID>
     if key.index == index { Some(key) } else { None }
 }
 
+// Leaves the log ids below the place. The leader of the last key left goes on up to there.
+fn truncate_keys<NID: NodeId>(keys: &mut Vec<LogId<NID>>, at: u64)
+    requires { AreKeys NID.cmp keys.old.items }
+    ensures ids { ids_of keys.new.items ≡ truncated (ids_of keys.old.items) at }
+    ensures keys { AreKeys NID.cmp keys.new.items }
+{
+    if at == 0 {
+        keys.clear();
+        return;
+    }
+    let count = count_up_to(keys.as_slice(), at - 1);
+    if count == 0 {
+        keys.clear();
+        return;
+    }
+    if count == keys.len() {
+        return;
+    }
+    let key = keys[count - 1];
+    if key.index < at - 1 {
+        keys[count] = LogId::new(key.leader_id, at - 1);
+        keys.truncate(count + 1);
+        return;
+    }
+    keys.truncate(count);
+}
+
+// Leaves the log ids from the place of `upto` on, which isn't past the last one.
+fn drop_keys<NID: NodeId>(keys: &mut Vec<LogId<NID>>, upto: &LogId<NID>)
+    requires keys { AreKeys NID.cmp keys.old.items }
+    requires reaches { Reaches (last_id keys.old.items) upto.now.index }
+    ensures ids { ids_of keys.new.items ≡ purged (ids_of keys.old.items) upto.now }
+    ensures keys { AreKeys NID.cmp keys.new.items }
+{
+    let count = count_up_to(keys.as_slice(), upto.index);
+    if count == 0 {
+        return;
+    }
+    let first = count - 1;
+    let left = keys.len() - first;
+    let key = keys[first];
+    keys[first] = LogId::new(key.leader_id, upto.index);
+    keys.rotate_left(first);
+    keys.truncate(left);
+}
+
+fn purge_keys<NID: NodeId>(keys: &mut Vec<LogId<NID>>, upto: &LogId<NID>) -> Result<(), AllocError>
+    requires { AreKeys NID.cmp keys.old.items }
+    ensures ok { OnOk result (ids_of keys.new.items ≡ purged (ids_of keys.old.items) upto.now) }
+    ensures err { OnErr result (keys.new.items ≡ keys.old.items) }
+    ensures keys { AreKeys NID.cmp keys.new.items }
+{
+    let Some(last) = keys.last().copied() else {
+        keys.push(*upto)?;
+        return Ok(());
+    };
+    if upto.index <= last.index {
+        drop_keys(keys, upto);
+        return Ok(());
+    }
+    keys[0] = *upto;
+    keys.truncate(1);
+    Ok(())
+}
+
 impl<NID: NodeId> LogIdList<NID> {
+    /// Leaves the log ids below the index.
+    pub fn truncate(&mut self, at: u64)
+        ensures { self.new ≡ truncated self.old at }
+    {
+        truncate_keys(&mut self.key_log_ids, at);
+    }
+
+    /// Leaves the log ids from the index of `upto` on, so that `upto` is first.
+    /// Past the last one it leaves `upto` alone; below the first one it changes nothing.
+    /// Only an empty list grows by this; without memory it stays.
+    pub fn purge(&mut self, upto: &LogId<NID>) -> Result<(), AllocError>
+        ensures ok { OnOk result (self.new ≡ purged self.old upto.now) }
+        ensures err { OnErr result (self.new ≡ self.old) }
+    {
+        purge_keys(&mut self.key_log_ids, upto)
+    }
+
     /// The log id at the index, if there is one.
     pub fn get(&self, index: u64) -> Option<LogId<NID>>
         ensures { result ≡ id_at self.now index }
