@@ -6,3 +6,6 @@ pub mod KeyOrderLemmas
 pub mod KeyCutLemmas
 pub mod KeyCountLemmas
 pub mod KeyRestLemmas
+pub mod CoherentLemmas
+pub mod RisingLemmas
+pub mod LawLemmas

@@ -1,11 +1,20 @@
 -- The least missing voter, group by group.
-use Rattle.std.proofs.Common.{◌≡◌, ℕ, ◌+◌, ◌<◌, Bool, List, length, take, get_or, Option, None}
+use Rattle.std.proofs.Common.{◌≡◌, ℕ, ◌+◌, ◌<◌, Bool, List, [], ◌∷◌, length, take, map, get_or, Option, None, refl, ap, sym, subst}
+use Rattle.raft_state.specs.Rising.{IsRising, IsRisingByFirst}
 use Rattle.std.specs.declared.cmp.Ordering.{Ordering}
 use Rattle.std.proofs.lemmas.List.Sums.{fold_more}
-use Rattle.raft_state.specs.Membership.{missing_voter, lesser, first_missing}
+use Rattle.raft_state.specs.Membership.{missing_voter, lesser, first_missing, default_nodes}
 
 pub one_group_more : {K N : Type 0} (eq : K → K → Bool) (cmp : K → K → Ordering) (configs : List (List K)) (nodes : List (K × N)) (i : ℕ) (d : List K) → i < length configs
     → missing_voter eq cmp (take (i + 1) configs) nodes
     ≡ lesser cmp (missing_voter eq cmp (take i configs) nodes) (first_missing eq nodes (get_or configs i d))
 one_group_more {K} {N} eq cmp configs nodes i d h =
     fold_more (λ (least : Option K) group. lesser cmp least (first_missing eq nodes group)) None configs i d h
+
+-- ids with nodes keep their ids
+pub ids_of_default_nodes : {K N : Type 0} (unknown : N) (ids : List K) → map (λ (x : K × N). x.0) (default_nodes unknown ids) ≡ ids
+ids_of_default_nodes unknown [] = refl
+ids_of_default_nodes unknown (x ∷ xs) = ap (λ l. x ∷ l) (ids_of_default_nodes unknown xs)
+
+pub rising_default_nodes : {K N : Type 0} (cmp : K → K → Ordering) (unknown : N) (ids : List K) → IsRising cmp ids → IsRisingByFirst cmp (default_nodes unknown ids)
+rising_default_nodes cmp unknown ids h = subst (IsRising cmp) (sym (ids_of_default_nodes unknown ids)) h

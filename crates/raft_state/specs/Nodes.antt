@@ -1,8 +1,8 @@
 -- Nodes by their ids: a list of pairs, by rising id.
-use Rattle.std.specs.Prelude.{Bool, List, [], ◌∷◌}
+use Rattle.std.specs.Prelude.{Bool, if◌then◌else◌, cond, Option, Some, None, List, [], ◌∷◌}
 use Rattle.std.specs.declared.cmp.Ordering.{Ordering}
 use Rattle.std.specs.Ordering.{match_ordering}
-use Rattle.std.specs.List.{list_any}
+use Rattle.std.specs.List.{fold, list_any}
 
 -- the list has this id
 abbrev pub has_id : {K : Type 0} → (K → K → Bool) → List K → K → Bool
@@ -17,3 +17,17 @@ abbrev pub with_node : {K N : Type 0} → (K → K → Ordering) → List (K × 
 with_node cmp [] id node = (id, node) ∷ []
 with_node cmp (x ∷ xs) id node =
     match_ordering (cmp id x.0) ((id, node) ∷ x ∷ xs) ((id, node) ∷ xs) (x ∷ with_node cmp xs id node)
+
+-- the node with the id
+abbrev pub node_at : {K N : Type 0} → (K → K → Bool) → List (K × N) → K → Option N
+node_at eq [] id = None
+node_at eq (x ∷ xs) id = cond (eq x.0 id) (Some x.1) (node_at eq xs id)
+
+module _ {K N : Type 0} (eq : K → K → Bool) (cmp : K → K → Ordering) where
+  -- the node comes in, unless one with its id is there
+  abbrev pub with_new_node : List (K × N) → K → N → List (K × N)
+  with_new_node nodes id node = if has_node eq nodes id then nodes else with_node cmp nodes id node
+
+  -- new nodes come in, and those that are there stay
+  abbrev pub with_new_nodes : List (K × N) → List (K × N) → List (K × N)
+  with_new_nodes nodes news = fold (λ xs (new : K × N). with_new_node xs new.0 new.1) nodes news

@@ -4,9 +4,10 @@ ghost use Rattle.std.specs.Prelude.{◌≡◌};
 use crate::log_id::LogId;
 use crate::membership::Membership;
 use crate::node::{Node, NodeId};
+use std::alloc::AllocError;
 
 /// What an entry asks for (openraft).
-#[derive(Debug, Drop)]
+#[derive(Debug, Drop, PartialEq, Eq)]
 pub enum EntryPayload<NID: NodeId, N: Node, D> {
     /// Nothing.
     Blank,
@@ -17,8 +18,33 @@ pub enum EntryPayload<NID: NodeId, N: Node, D> {
 }
 
 /// What stands at one place of a log (openraft).
-#[derive(Debug, Drop)]
+#[derive(Debug, Drop, PartialEq, Eq)]
 pub struct Entry<NID: NodeId, N: Node, D> {
     pub log_id: LogId<NID>,
     pub payload: EntryPayload<NID, N, D>,
+}
+
+impl<NID: NodeId, N: Node, D: Clone> Clone for EntryPayload<NID, N, D> {
+    // Where clones of commands equal them, so do clones of payloads.
+    ghost is_clone = { λ x y. ((a b : D) → D.is_clone a b → b ≡ a) → y ≡ x };
+
+    fn clone(&self) -> Result<EntryPayload<NID, N, D>, AllocError> {
+        Ok(match self {
+            EntryPayload::Blank => EntryPayload::Blank,
+            EntryPayload::Normal(command) => EntryPayload::Normal(command.clone()?),
+            EntryPayload::Membership(membership) => EntryPayload::Membership(membership.clone()?),
+        })
+    }
+}
+
+impl<NID: NodeId, N: Node, D: Clone> Clone for Entry<NID, N, D> {
+    // Where clones of commands equal them, so do clones of entries.
+    ghost is_clone = { λ x y. ((a b : D) → D.is_clone a b → b ≡ a) → y ≡ x };
+
+    fn clone(&self) -> Result<Entry<NID, N, D>, AllocError> {
+        Ok(Entry {
+            log_id: self.log_id,
+            payload: self.payload.clone()?,
+        })
+    }
 }

@@ -1,10 +1,14 @@
 //! Sets of node ids.
-ghost use Rattle.std.specs.Prelude.{◌≡◌, ◌+◌, ◌<◌, [], length, IfOk, OnOk, OnErr, MatchResult, ◌≤◌};
-ghost use Rattle.std.specs.List.{list_any};
+ghost use Rattle.std.specs.Prelude.{◌≡◌, ◌+◌, ◌<◌, [], length, IfOk, OnOk, OnErr, MatchResult, ◌≤◌, ◌==◌};
+ghost use Rattle.std.specs.List.{filter, list_any};
+ghost use Rattle.raft_state.specs.Quorum.{rising_ids};
+ghost use Rattle.raft_state.specs.MembershipChange.{with_ids};
 ghost use Rattle.std.specs.BTreeSet.{insert_key};
 ghost use Rattle.raft_state.specs.Rising.{IsRising};
 ghost use Rattle.raft_state.specs.Place.{place};
+ghost use Rattle.std.specs.Cmp.Lexicographic.{pointwise, lists_per, lists_equiv};
 
+use crate::has_id::HasId;
 use crate::node::NodeId;
 use std::alloc::{AllocError, Global};
 use std::cmp::Ordering;
@@ -57,6 +61,25 @@ fn insert_rising<NID: NodeId>(ids: &mut Vec<NID>, id: NID) -> Result<bool, Alloc
     }
 }
 
+// The ids that are to be kept.
+fn filter_ids<NID: NodeId, S: HasId<NID>>(
+    alloc: Global,
+    ids: &[NID],
+    keep: &S,
+) -> Result<Vec<NID>, AllocError>
+    requires { IsRising NID.cmp ids.now }
+    ensures items { IfOk result (λ kept. kept.items ≡ filter (S.has keep.now) ids.now) }
+    ensures rising { IfOk result (λ kept. IsRising NID.cmp kept.items) }
+{
+    let mut kept = Vec::new(alloc);
+    for id in ids {
+        if keep.has_id(id) {
+            kept.push(*id)?;
+        }
+    }
+    Ok(kept)
+}
+
 impl<NID: NodeId> IdSet<NID> {
     /// The set with no ids.
     pub fn new(alloc: Global) -> IdSet<NID>
@@ -82,6 +105,56 @@ impl<NID: NodeId> IdSet<NID> {
         self.ids.as_slice()
     }
 
+    /// The set of these ids.
+    pub fn from_slice(alloc: Global, ids: &[NID]) -> Result<IdSet<NID>, AllocError>
+        ensures { IfOk result (λ set. set ≡ rising_ids NID.cmp ids.now) }
+    {
+        let mut set = IdSet::new(alloc);
+        for id in ids {
+            set.insert(*id)?;
+        }
+        Ok(set)
+    }
+
+    // The set of ids that are in order already.
+    pub(crate) fn from_rising(ids: Vec<NID>) -> IdSet<NID>
+        requires { IsRising NID.cmp ids.items }
+        ensures { result ≡ ids.items }
+    {
+        IdSet { ids }
+    }
+
+    /// Whether the set has no ids.
+    pub fn is_empty(&self) -> bool
+        ensures { result ≡ (length self.now == 0) }
+    {
+        self.ids.len() == 0
+    }
+
+    // What the set takes its memory from.
+    pub(crate) fn allocator(&self) -> Global {
+        *self.ids.allocator()
+    }
+
+    /// The set with these ids too.
+    pub fn with(&self, ids: &[NID]) -> Result<IdSet<NID>, AllocError>
+        ensures { IfOk result (λ set. set ≡ with_ids NID.cmp self.now ids.now) }
+    {
+        let mut set = self.clone()?;
+        for id in ids {
+            set.insert(*id)?;
+        }
+        Ok(set)
+    }
+
+    /// The ids of the set that are in the other one too.
+    pub fn filtered<S: HasId<NID>>(&self, keep: &S) -> Result<IdSet<NID>, AllocError>
+        ensures { IfOk result (λ set. set ≡ filter (S.has keep.now) self.now) }
+    {
+        let ids = filter_ids(self.allocator(), self.as_slice(), keep)?;
+        Ok(IdSet { ids })
+    }
+
     /// Whether the set has the id.
     pub fn contains(&self, id: &NID) -> bool
         ensures { result ≡ list_any (λ x. NID.eq x id.now) self.now }
@@ -96,4 +169,28 @@ impl<NID: NodeId> IdSet<NID> {
     {
         insert_rising(&mut self.ids, id)
     }
+}
+
+impl<NID: NodeId> Clone for IdSet<NID> {
+    ghost is_clone = { λ x y. y ≡ x };
+
+    fn clone(&self) -> Result<IdSet<NID>, AllocError> {
+        let mut ids = Vec::new(*self.ids.allocator());
+        ids.extend_from_slice(self.ids.as_slice())?;
+        Ok(IdSet { ids })
+    }
+}
+
+impl<NID: NodeId> PartialEq for IdSet<NID> {
+    ghost eq = { pointwise NID.eq };
+
+    ghost laws = { lists_per NID.PartialEq.laws };
+
+    fn eq(&self, other: &IdSet<NID>) -> bool {
+        self.ids == other.ids
+    }
+}
+
+impl<NID: NodeId> Eq for IdSet<NID> {
+    ghost laws = { lists_equiv NID.Eq.laws };
 }

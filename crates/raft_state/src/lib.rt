@@ -3,26 +3,55 @@
 
 pub mod byte_string;
 pub mod command;
+pub mod change;
+pub mod change_members;
+pub mod coherent;
+pub mod effective_membership;
 pub mod entry;
 pub mod error;
+pub mod has_id;
 pub mod id_set;
+pub mod into_nodes;
+pub mod joint;
+pub mod laws;
 pub mod log_id;
 pub mod log_id_list;
 pub mod membership;
+pub mod message_summary;
 pub mod node;
 pub mod node_map;
+pub mod quorum_set;
+pub mod raft_entry;
+pub mod server_state;
+pub mod stored_membership;
+pub mod try_as_ref;
 pub mod vote;
 pub mod voter_groups;
 
 pub use byte_string::Bytes;
 pub use command::Command;
+pub use change_members::ChangeMembers;
+pub use coherent::{Coherent, FindCoherent};
+pub use effective_membership::EffectiveMembership;
 pub use entry::{Entry, EntryPayload};
-pub use error::{ChangeMembershipError, EmptyMembership, InProgress, LearnerNotFound};
+pub use error::{
+    ChangeMembershipError, ClientWriteError, EmptyMembership, ForwardToLeader, InProgress,
+    InitializeError, LackEntry, LearnerNotFound, NotAllowed, NotInMembers,
+};
+pub use has_id::HasId;
 pub use id_set::IdSet;
+pub use into_nodes::IntoNodes;
+pub use joint::{AsJoint, Joint};
 pub use log_id::LogId;
 pub use log_id_list::LogIdList;
 pub use membership::Membership;
+pub use message_summary::MessageSummary;
 pub use node::{BasicNode, EmptyNode, Node, NodeEssential, NodeId, NodeIdEssential};
 pub use node_map::NodeMap;
+pub use quorum_set::QuorumSet;
+pub use raft_entry::{FromAppData, RaftEntry, RaftLogId, RaftPayload};
+pub use server_state::ServerState;
+pub use stored_membership::StoredMembership;
+pub use try_as_ref::TryAsRef;
 pub use vote::{CommittedLeaderId, LeaderId, Vote};
 pub use voter_groups::VoterGroups;

@@ -1,18 +1,29 @@
 //! Memberships: voter groups, and nodes.
-ghost use Rattle.std.specs.Prelude.{◌≡◌, OnOk, IfErr};
+ghost use Rattle.std.specs.Option.{option_copied};
+ghost use Rattle.raft_state.specs.Nodes.{node_at};
+ghost use Rattle.raft_state.specs.Membership.{is_voter, voter_ids, learner_ids, filled_nodes};
+ghost use Rattle.std.specs.Prelude.{◌≡◌, ◌↔◌, ◌<◌, IsTrue, IfOk, length, not, OnOk, IfErr};
 ghost use Rattle.raft_state.specs.Membership.{first_missing, missing_voter, has_empty_group, lesser};
+ghost use Rattle.raft_state.specs.Quorum.{is_quorum};
+ghost use Rattle.raft_state.specs.QuorumLaws.{wider_quorum};
 ghost use Rattle.raft_state.specs.Validity.{validity_fault};
 
 use crate::error::{ChangeMembershipError, EmptyMembership, LearnerNotFound};
+use crate::has_id::HasId;
 use crate::id_set::IdSet;
+use crate::into_nodes::IntoNodes;
+use crate::joint::{all_accept, all_ids};
 use crate::node::{Node, NodeId};
 use crate::node_map::NodeMap;
+use crate::quorum_set::QuorumSet;
 use crate::voter_groups::VoterGroups;
+use std::alloc::{AllocError, Global};
 use std::cmp::Ordering;
+use std::fmt::{self, Display};
 
 /// The voter groups, and the nodes by their ids (openraft).
 /// A node in no voter group is a learner; more than one voter group is a joint config.
-#[derive(Debug, Drop)]
+#[derive(Debug, Drop, PartialEq, Eq)]
 pub struct Membership<NID: NodeId, N: Node> {
     pub(crate) configs: VoterGroups<NID>,
     pub(crate) nodes: NodeMap<NID, N>,
@@ -58,6 +69,27 @@ fn missing_voter<NID: NodeId, N: Node>(
     least
 }
 
+// Whether the id is in a voter group.
+pub(crate) fn is_voter<NID: NodeId>(groups: &VoterGroups<NID>, id: &NID) -> bool
+    ensures { result ≡ is_voter NID.eq groups.now id.now }
+{
+    groups.as_slice().iter().any(|group| group.contains(id))
+}
+
+// The ids that are in no voter group.
+#[derive(Drop)]
+struct Learners<'a, NID: NodeId> {
+    configs: &'a VoterGroups<NID>,
+}
+
+impl<'a, NID: NodeId> HasId<NID> for Learners<'a, NID> {
+    ghost has = { λ s id. not (is_voter NID.eq s.configs.now id) };
+
+    fn has_id(&self, id: &NID) -> bool {
+        !is_voter(self.configs, id)
+    }
+}
+
 impl<NID: NodeId, N: Node> Membership<NID, N> {
     /// The membership with just these voter groups and nodes (own).
     pub fn from_parts(configs: VoterGroups<NID>, nodes: NodeMap<NID, N>) -> Membership<NID, N>
@@ -78,6 +110,63 @@ impl<NID: NodeId, N: Node> Membership<NID, N> {
         ensures { result.now ≡ self.now.nodes }
     {
         self.nodes.as_slice()
+    }
+
+    /// The membership with these voter groups and nodes (openraft). A voter that isn't among the
+    /// nodes comes in as a node of which nothing is known.
+    pub fn new<T: IntoNodes<NID, N>>(
+        alloc: Global,
+        configs: Vec<IdSet<NID>>,
+        nodes: T,
+    ) -> Result<Membership<NID, N>, AllocError>
+        ensures { IfOk result (λ m. m ≡ record { configs = configs.items; nodes = filled_nodes NID.eq NID.cmp N.default_node configs.items (T.nodes nodes) }) }
+    {
+        let voters = all_ids(alloc, configs.as_slice())?;
+        let defaults: NodeMap<NID, N> = voters.into_nodes(alloc)?;
+        let nodes = nodes
+            .into_nodes(alloc)?
+            .with_new_nodes(defaults.as_slice())?;
+        Ok(Membership {
+            configs: VoterGroups::from(configs),
+            nodes,
+        })
+    }
+
+    /// Whether there is more than one voter group.
+    pub fn is_in_joint_consensus(&self) -> bool
+        ensures { IsTrue result ↔ (1 < length self.now.configs) }
+    {
+        self.configs.len() > 1
+    }
+
+    /// The ids of all voters.
+    pub fn voter_ids(&self) -> Result<IdSet<NID>, AllocError>
+        ensures { IfOk result (λ ids. ids ≡ voter_ids NID.cmp self.now.configs) }
+    {
+        all_ids(self.configs.allocator(), self.configs.as_slice())
+    }
+
+    /// The ids of the nodes that are no voters.
+    pub fn learner_ids(&self) -> Result<IdSet<NID>, AllocError>
+        ensures { IfOk result (λ ids. ids ≡ learner_ids NID.eq self.now.configs self.now.nodes) }
+    {
+        self.nodes.ids()?.filtered(&Learners {
+            configs: &self.configs,
+        })
+    }
+
+    /// Whether the node is in a voter group.
+    pub fn is_voter(&self, node_id: &NID) -> bool
+        ensures { result ≡ is_voter NID.eq self.now.configs node_id.now }
+    {
+        is_voter(&self.configs, node_id)
+    }
+
+    /// The node with the id.
+    pub fn get_node(&self, node_id: &NID) -> Option<&N>
+        ensures { option_copied result ≡ node_at NID.eq self.now.nodes node_id.now }
+    {
+        self.nodes.get(node_id)
     }
 
     // Whether a voter group has nobody.
@@ -102,5 +191,41 @@ impl<NID: NodeId, N: Node> Membership<NID, N> {
                 node_id,
             })),
         }
+    }
+}
+
+impl<NID: NodeId, N: Node> Clone for Membership<NID, N> {
+    ghost is_clone = { λ x y. y ≡ x };
+
+    fn clone(&self) -> Result<Membership<NID, N>, AllocError> {
+        Ok(Membership {
+            configs: self.configs.clone()?,
+            nodes: self.nodes.clone()?,
+        })
+    }
+}
+
+// A quorum has more than half of each voter group.
+impl<NID: NodeId, N: Node> QuorumSet<NID> for Membership<NID, N> {
+    ghost accepts = { λ m p. is_quorum m.configs p };
+
+    ghost members = { λ m. voter_ids NID.cmp m.configs };
+
+    fn is_quorum<S: HasId<NID>>(&self, nodes: &S) -> bool {
+        all_accept(self.configs.as_slice(), nodes)
+    }
+
+    fn ids(&self, _alloc: Global) -> Result<IdSet<NID>, AllocError> {
+        self.voter_ids()
+    }
+
+    ghost superset = { λ m p r wider h. wider_quorum p r wider m.configs h };
+}
+
+impl<NID: NodeId, N: Node> Display for Membership<NID, N> {
+    fn fmt<W: fmt::Write>(&self, f: &mut fmt::Formatter<W>) -> fmt::Result {
+        let configs = self.configs.as_slice();
+        let nodes = self.nodes.as_slice();
+        write!(f, "{{voters:{configs:?}, nodes:{nodes:?}}}")
     }
 }

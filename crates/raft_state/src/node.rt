@@ -11,6 +11,10 @@ use std::marker::Model;
 
 /// What the id of a node can do (openraft; here ids are `Copy`).
 pub trait NodeIdEssential: Copy + Ord + Debug + Display + Default + Drop {
+    // The default id.
+    ghost default_id: { Self };
+    // Whatever `default` gives is that id.
+    ghost default_is_one: { (x : Self) → Self.is_default x → x ≡ default_id };
     // Ids that compare equal are one id.
     ghost equal_is_same: { (x y : Self) → Self.eq x y ≡ true → x ≡ y };
 }
@@ -19,10 +23,21 @@ pub trait NodeIdEssential: Copy + Ord + Debug + Display + Default + Drop {
 pub trait NodeId: NodeIdEssential {}
 
 impl NodeIdEssential for u64 {
+    ghost default_id = { 0 };
+
+    ghost default_is_one = { λ x h. h };
+
     ghost equal_is_same = { λ x y h. Prim.search rules };
 }
 
 impl NodeId for u64 {}
+
+/// The default id.
+pub fn default_id<NID: NodeId>() -> NID
+    ensures { result ≡ NID.default_id }
+{
+    NID::default()
+}
 
 /// What the description of a node can do (openraft).
 pub trait NodeEssential: Clone + Eq + Debug + Drop {
