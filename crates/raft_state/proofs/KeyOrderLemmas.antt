@@ -17,7 +17,8 @@ less_only Less h e = refl
 less_only Equal h e = cc
 less_only Greater h e = absurd (h refl)
 
-same_by_order : (a b : ℕ) → nat_cmp a b ≡ Equal → a ≡ b
+-- numbers that compare equal are equal
+pub same_by_order : (a b : ℕ) → nat_cmp a b ≡ Equal → a ≡ b
 same_by_order a b e = grind (arith, nat_tests, e)
 
 module _ {K : Type 0} (cmp : K → K → Ordering) (told_apart : (x y : K) → is_eq (cmp x y) ≡ true → x ≡ y) where

@@ -47,11 +47,15 @@ module _ {K : Type 0} where
   places-rest (first ∷ keys) (suc i) leader at h l m = places-rest keys i leader at h.1 (omega arith) (λ d n. m d (omega arith))
 
 module _ {K : Type 0} (cmp : K → K → Ordering) (order : IsTotalOrder cmp) where
-  same_term : (a : LeaderId K) (o : Ordering) → o ≡ Equal → ordering_then o (cmp a.node_id a.node_id) ≢ Greater
-  same_term a o e h = let equal = itself cmp order a.node_id in cc
+  same_term : (a : LeaderId K) (o : Ordering) → o ≡ Equal → ordering_then o (cmp a.node_id a.node_id) ≡ Equal
+  same_term a o e = rw e (itself cmp order a.node_id)
+
+  -- a leader compares equal to itself
+  pub same_leader-equal : (a : LeaderId K) → leader_cmp cmp a a ≡ Equal
+  same_leader-equal a = same_term a (nat_cmp a.term a.term) (itself nat_cmp nat_cmp_total a.term)
 
   no-later : (a : LeaderId K) → leader_cmp cmp a a ≢ Greater
-  no-later a = same_term a (nat_cmp a.term a.term) (itself nat_cmp nat_cmp_total a.term)
+  no-later a e = let equal = same_leader-equal a in cc
 
   led-take : (key : LogId K) (n : ℕ) (keys : List (LogId K)) → IsLedOn cmp key keys → IsLedOn cmp key (take n keys)
   led-take key zero keys h = tt

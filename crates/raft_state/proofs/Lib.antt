@@ -9,3 +9,7 @@ pub mod KeyRestLemmas
 pub mod CoherentLemmas
 pub mod RisingLemmas
 pub mod LawLemmas
+pub mod KeysOfLemmas
+pub mod KeyLeaderLemmas
+pub mod ExtendLemmas
+pub mod KeyTestLemmas

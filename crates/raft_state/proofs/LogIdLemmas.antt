@@ -7,10 +7,12 @@ use Rattle.raft_state.specs.declared.log_id.LogId.{LogId}
 use Rattle.raft_state.specs.LogIdList.{leader_ids}
 
 module _ {K : Type 0} (leader : LeaderId K) where
-  abbrev id_of : ℕ → LogId K
+  -- the log id at a place
+  abbrev pub id_of : ℕ → LogId K
   id_of index = record { leader_id = leader; index = index }
 
-  abbrev run : ℕ → ℕ → List (LogId K)
+  -- so many log ids from a place on
+  abbrev pub run : ℕ → ℕ → List (LogId K)
   run from n = map id_of (range_with_len from n)
 
   run_parts : (a b p q n : ℕ) → b ≡ a + p → n ≡ p + q → run a n ≡ run a p ++ run b q

@@ -1,5 +1,5 @@
 -- A log's ids as a full list, and the keys from which it is made.
-use Rattle.std.specs.Prelude.{◌≡◌, ◌≢◌, ℕ, ◌+◌, ◌-◌, ◌<◌, ◌≤◌, ◌==◌, Bool, false, nat_lt, nat_le, List, [], ◌∷◌, ◌++◌, map, length, Option, Some, None}
+use Rattle.std.specs.Prelude.{◌≡◌, ◌≢◌, ℕ, ◌+◌, ◌-◌, ◌<◌, ◌≤◌, ◌==◌, Bool, true, false, not, if◌then◌else◌, nat_lt, nat_le, List, [], ◌∷◌, ◌++◌, map, length, Option, Some, None}
 use Rattle.std.specs.List.{range_with_len, slice_get, filter, find, fold}
 use Rattle.std.specs.declared.cmp.Ordering.{Ordering}
 use Rattle.std.specs.declared.cmp.Ordering.TheVariants.{Less, Greater}
@@ -110,3 +110,36 @@ module _ {K : Type 0} (cmp : K → K → Ordering) where
   abbrev pub AllGoOn : Option (LogId K) → List (LogId K) → Type 0
   AllGoOn last [] = Unit {0}
   AllGoOn last (id ∷ ids) = GoesOn last id × AllGoOn (Some id) ids
+
+  -- the log id begins a leader: the one before it, if any, has another
+  abbrev pub begins_leader : Option (LeaderId K) → LogId K → Bool
+  begins_leader None id = true
+  begins_leader (Some before) id = not (is_eq (leader_cmp cmp before id.leader_id))
+
+  -- the keys among the log ids behind a leader: those that begin a leader, and the last one
+  abbrev pub keys_behind : Option (LeaderId K) → List (LogId K) → List (LogId K)
+  keys_behind before [] = []
+  keys_behind before (id ∷ []) = id ∷ []
+  keys_behind before (id ∷ next ∷ ids) =
+      if begins_leader before id then id ∷ keys_behind (Some id.leader_id) (next ∷ ids)
+      else keys_behind (Some id.leader_id) (next ∷ ids)
+
+  -- the keys among log ids: the first one of each leader, and the last one of all
+  abbrev pub keys_of : List (LogId K) → List (LogId K)
+  keys_of ids = keys_behind None ids
+
+  -- those that have the leader of the last log id
+  abbrev pub of_leader : Option (LogId K) → List (LogId K) → List (LogId K)
+  of_leader None ids = []
+  of_leader (Some last) ids = filter (λ id. is_eq (leader_cmp cmp id.leader_id last.leader_id)) ids
+
+module _ {K : Type 0} where
+  -- all have this leader
+  abbrev pub AreOfLeader : LeaderId K → List (LogId K) → Type 0
+  AreOfLeader leader [] = Unit {0}
+  AreOfLeader leader (id ∷ ids) = (id.leader_id ≡ leader) × AreOfLeader leader ids
+
+  -- all have one leader
+  abbrev pub HaveOneLeader : List (LogId K) → Type 0
+  HaveOneLeader [] = Unit {0}
+  HaveOneLeader (id ∷ ids) = AreOfLeader id.leader_id ids

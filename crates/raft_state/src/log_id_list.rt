@@ -1,11 +1,12 @@
 //! The ids of a log, kept by few of them.
-ghost use Rattle.std.specs.Prelude.{◌≡◌, ◌+◌, ◌-◌, ◌<◌, ◌≤◌, [], ℕ, length, OnOk, OnErr, IfOk, slice_index_or};
+ghost use Rattle.std.specs.Prelude.{map, IsTrue, ◌↔◌, ◌≡◌, ◌+◌, ◌-◌, ◌<◌, ◌≤◌, [], ℕ, length, OnOk, OnErr, IfOk, slice_index_or};
 ghost use Rattle.std.specs.List.{slice_get};
 ghost use Rattle.std.specs.Option.{option_copied};
-ghost use Rattle.raft_state.specs.LogIdList.{ids_of, last_id, id_at, appended, truncated, purged, PlacesRise, AreKeys, GoesOn, Reaches, ends_in_pair};
+ghost use Rattle.raft_state.specs.LogIdList.{ids_of, last_id, id_at, appended, truncated, purged, PlacesRise, AreKeys, GoesOn, Reaches, ends_in_pair, keys_of, of_leader, extended, AllGoOn, IsBelowNext, IsLedOn};
 
 use crate::log_id::LogId;
 use crate::node::NodeId;
+use crate::raft_entry::RaftLogId;
 use std::alloc::{AllocError, Global};
 use std::cmp::Ordering;
 use std::marker::Model;
@@ -151,7 +152,87 @@ fn purge_keys<NID: NodeId>(keys: &mut Vec<LogId<NID>>, upto: &LogId<NID>) -> Res
     Ok(())
 }
 
+// Whether the key may stand before these.
+fn leads_on<NID: NodeId>(key: &LogId<NID>, keys: &[LogId<NID>]) -> bool
+    ensures { IsTrue result ↔ (IsBelowNext key.now keys.now × IsLedOn NID.cmp key.now keys.now) }
+{
+    match keys {
+        [] => true,
+        [last] => key.index < last.index && key.leader_id.cmp(&last.leader_id).is_le(),
+        [next, ..] => key.index < next.index && key.leader_id.cmp(&next.leader_id).is_lt(),
+    }
+}
+
+/// Whether the log ids are keys in order: their indexes rise, and their leaders too, where only
+/// the last two may be of one leader (own). `LogIdList::new` takes just such keys.
+pub fn are_keys<NID: NodeId>(keys: &[LogId<NID>]) -> bool
+    ensures { IsTrue result ↔ AreKeys NID.cmp keys.now }
+{
+    for at in 0..keys.len() {
+        if !leads_on(&keys[at], &keys[at + 1..]) {
+            return false;
+        }
+    }
+    true
+}
+
+// The keys that the leader of the last one has.
+fn keys_of_last_leader<NID: NodeId>(keys: &[LogId<NID>]) -> &[LogId<NID>]
+    requires { AreKeys NID.cmp keys.now }
+    ensures { result.now ≡ of_leader NID.cmp (last_id keys.now) keys.now }
+{
+    if ends_in_pair(keys) {
+        return &keys[keys.len() - 2..];
+    }
+    if keys.is_empty() {
+        return keys;
+    }
+    &keys[keys.len() - 1..]
+}
+
 impl<NID: NodeId> LogIdList<NID> {
+    /// The list that these keys stand for; `are_keys` tells whether they are in order.
+    pub fn new(alloc: Global, key_log_ids: &[LogId<NID>]) -> Result<LogIdList<NID>, AllocError>
+        requires { AreKeys NID.cmp key_log_ids.now }
+        ensures { IfOk result (λ list. list ≡ ids_of key_log_ids.now) }
+    {
+        let key_log_ids = Vec::from_slice(alloc, key_log_ids)?;
+        Ok(LogIdList { alloc, key_log_ids })
+    }
+
+    /// The same list again, with the allocator that this one keeps.
+    pub fn clone(&self) -> Result<LogIdList<NID>, AllocError>
+        ensures { IfOk result (λ list. list ≡ self.now) }
+    {
+        let key_log_ids = Vec::from_slice(self.alloc, self.key_log_ids.as_slice())?;
+        Ok(LogIdList {
+            alloc: self.alloc,
+            key_log_ids,
+        })
+    }
+
+    /// Puts the log ids behind the others, one after the other; places between get the leader
+    /// before. Without memory the list stays.
+    pub fn extend<LID: RaftLogId<NID>>(&mut self, new_ids: &[LID]) -> Result<(), AllocError>
+        requires { AllGoOn NID.cmp (last_id self.old) (map LID.id new_ids.now) }
+        ensures ok { OnOk result (self.new ≡ extended self.old (map LID.id new_ids.now)) }
+        ensures err { OnErr result (self.new ≡ self.old) }
+    {
+        let mut longer = self.clone()?;
+        for new_id in new_ids {
+            longer.append(*new_id.get_log_id())?;
+        }
+        *self = longer;
+        Ok(())
+    }
+
+    /// The keys that the last leader has: its first log id, and the last one of all.
+    pub fn by_last_leader(&self) -> &[LogId<NID>]
+        ensures { result.now ≡ of_leader NID.cmp (last_id self.now) (keys_of NID.cmp self.now) }
+    {
+        keys_of_last_leader(self.key_log_ids.as_slice())
+    }
+
     /// Leaves the log ids below the index.
     pub fn truncate(&mut self, at: u64)
         ensures { self.new ≡ truncated self.old at }
@@ -194,6 +275,15 @@ impl<NID: NodeId> LogIdList<NID> {
         ensures err { OnErr result (self.new ≡ self.old) }
     {
         append_key(&mut self.key_log_ids, new_log_id)
+    }
+
+    /// The keys: the first log id of each leader, and the last one of all.
+    pub fn key_log_ids(&self) -> &[LogId<NID>]
+        ensures keys { result.now ≡ keys_of NID.cmp self.now }
+        ensures ids { ids_of result.now ≡ self.now }
+        ensures order { AreKeys NID.cmp result.now }
+    {
+        self.key_log_ids.as_slice()
     }
 
     /// The first log id.
