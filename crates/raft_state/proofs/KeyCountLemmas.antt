@@ -96,7 +96,7 @@ module _ {K : Type 0} where
       let back : suc i - 1 ≡ i = omega arith in
       let here : key ≡ get_or (first ∷ keys) i key = e ∙ ap (λ n. get_or (first ∷ keys) n key) back in
       let far : upto.index ≤ (final key (drop (suc i) (first ∷ keys))).index =
-            subst (λ (x : LogId K). upto.index ≤ x.index) (sym (final-drop first keys i key (omega arith) here)) (reached first keys upto.index r) in
+      subst (λ (x : LogId K). upto.index ≤ x.index) (sym (final-drop first keys i key (omega arith) here)) (reached first keys upto.index r) in
       ap (λ ids. or_alone ids upto) (from_place-inside (first ∷ keys) i key upto.index h here n (omega arith) o far)
       ∙ or_alone-some (ids_of (id_by key.leader_id upto.index ∷ drop (suc i) (first ∷ keys))) (id_by key.leader_id upto.index) _ upto (ids_of-first _ _ p)
 

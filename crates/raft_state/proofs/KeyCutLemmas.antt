@@ -53,21 +53,35 @@ module _ {K : Type 0} where
   -- a leader's log ids: the one at a place, those below, those from there on
   find-there : (leader : LeaderId K) (a b index : ℕ) → a ≤ index → index < b → find (λ id. id.index == index) (leader_ids leader a b) ≡ Some (id_by leader index)
   find-there leader a b index h l =
-      rw (← leader_ids-join leader a index b h (omega arith), find-append, find-no leader (λ id. id.index == index) a index (λ k m n. same-no k index (omega arith)),
-      leader_ids-first leader index b l, same-yes index) refl
+      rw (
+        ← leader_ids-join leader a index b h (omega arith),
+        find-append,
+        find-no leader (λ id. id.index == index) a index (λ k m n. same-no k index (omega arith)),
+        leader_ids-first leader index b l,
+        same-yes index,
+      ) refl
 
   find-nowhere : (leader : LeaderId K) (a b index : ℕ) → ((k : ℕ) → a ≤ k → k < b → k ≢ index) → find (λ id. id.index == index) (leader_ids leader a b) ≡ None
   find-nowhere leader a b index h = find-no leader (λ id. id.index == index) a b (λ k m n. same-no k index (h k m n))
 
   below-here : (leader : LeaderId K) (a b at : ℕ) → a ≤ at → at ≤ b → truncated (leader_ids leader a b) at ≡ leader_ids leader a at
   below-here leader a b at h l =
-      rw (← leader_ids-join leader a at b h l, filter-append, filter-all leader (λ id. nat_lt id.index at) a at (λ k m n. below-yes k at n),
-      filter-no leader (λ id. nat_lt id.index at) at b (λ k m n. below-no k at m), append-nil) refl
+      rw (
+        ← leader_ids-join leader a at b h l,
+        filter-append,
+        filter-all leader (λ id. nat_lt id.index at) a at (λ k m n. below-yes k at n),
+        filter-no leader (λ id. nat_lt id.index at) at b (λ k m n. below-no k at m),
+        append-nil,
+      ) refl
 
   from-here : (leader : LeaderId K) (a b at : ℕ) → a ≤ at → at ≤ b → filter (λ id. nat_le at id.index) (leader_ids leader a b) ≡ leader_ids leader at b
   from-here leader a b at h l =
-      rw (← leader_ids-join leader a at b h l, filter-append, filter-no leader (λ id. nat_le at id.index) a at (λ k m n. upto-no at k n),
-      filter-all leader (λ id. nat_le at id.index) at b (λ k m n. upto-yes at k m)) refl
+      rw (
+        ← leader_ids-join leader a at b h l,
+        filter-append,
+        filter-no leader (λ id. nat_le at id.index) a at (λ k m n. upto-no at k n),
+        filter-all leader (λ id. nat_le at id.index) at b (λ k m n. upto-yes at k m),
+      ) refl
 
   -- the log id at a place before the first key
   pub id_at-before : (keys : List (LogId K)) (index : ℕ) → PlacesRise keys → IsBelowKeys index keys → id_at (ids_of keys) index ≡ None
@@ -124,8 +138,11 @@ module _ {K : Type 0} where
       rw (append-nil, filter-all key.leader_id (λ id. nat_lt id.index at) key.index (key.index + 1) (λ k m n. below-yes k at (omega arith))) refl
   truncated-behind key (next ∷ keys) at h l =
       let low = first-below-final next keys h.1 in
-      rw (filter-append, filter-all key.leader_id (λ id. nat_lt id.index at) key.index next.index (λ k m n. below-yes k at (omega (arith, low))),
-      truncated-behind next keys at h.1 l) refl
+      rw (
+        filter-append,
+        filter-all key.leader_id (λ id. nat_lt id.index at) key.index next.index (λ k m n. below-yes k at (omega (arith, low))),
+        truncated-behind next keys at h.1 l,
+      ) refl
 
   -- what is left below a place from a key on, not behind the next one: the key's leader goes on up to there
   pub truncated-pair : (keys : List (LogId K)) (i : ℕ) (key : LogId K) (at : ℕ) → PlacesRise keys → key ≡ get_or keys i key → key.index + 1 < at
@@ -137,8 +154,13 @@ module _ {K : Type 0} where
       let one_leader : key.leader_id ≡ first.leader_id = ap (λ (x : LogId K). x.leader_id) e in
       let low : first.index + 1 < at = subst (λ (x : LogId K). x.index + 1 < at) e l in
       let back : at - 1 + 1 ≡ at = omega arith in
-      rw (filter-append, below-here first.leader_id first.index next.index at (omega arith) (n key),
-      truncated-before (next ∷ keys) at h.1 (λ d o. n d), one_leader, back)
+      rw (
+        filter-append,
+        below-here first.leader_id first.index next.index at (omega arith) (n key),
+        truncated-before (next ∷ keys) at h.1 (λ d o. n d),
+        one_leader,
+        back,
+      )
       (rw (← append_assoc, leader_ids-join first.leader_id first.index (at - 1) at (omega arith) (omega arith)) refl)
   truncated-pair (first ∷ next ∷ keys) (suc i) key at h e l m n =
       let low = first-below next keys i key h.1 (omega arith) e in
@@ -153,8 +175,12 @@ module _ {K : Type 0} where
   truncated-front (first ∷ []) i key at h e l m n = absurd (omega arith)
   truncated-front (first ∷ next ∷ keys) zero key at h e l m n =
       let low : first.index + 1 ≡ at = ap (λ (x : LogId K). x.index + 1) (sym e) ∙ l in
-      rw (filter-append, below-here first.leader_id first.index next.index at (omega arith) (n key),
-      truncated-before (next ∷ keys) at h.1 (λ d o. n d), low) refl
+      rw (
+        filter-append,
+        below-here first.leader_id first.index next.index at (omega arith) (n key),
+        truncated-before (next ∷ keys) at h.1 (λ d o. n d),
+        low,
+      ) refl
   truncated-front (first ∷ next ∷ keys) (suc i) key at h e l m n =
       let low = first-below next keys i key h.1 (omega arith) e in
       rw (filter-append, filter-all first.leader_id (λ id. nat_lt id.index at) first.index next.index (λ k o p. below-yes k at (omega (arith, low))))
@@ -166,8 +192,11 @@ module _ {K : Type 0} where
   from_place-before (key ∷ []) at h l =
       rw (append-nil, filter-all key.leader_id (λ id. nat_le at id.index) key.index (key.index + 1) (λ k m n. upto-yes at k (omega (arith, l key (omega arith))))) refl
   from_place-before (key ∷ next ∷ keys) at h l =
-      rw (filter-append, filter-all key.leader_id (λ id. nat_le at id.index) key.index next.index (λ k m n. upto-yes at k (omega (arith, l key (omega arith)))),
-      from_place-before (next ∷ keys) at h.1 (λ d m. omega (arith, l key (omega arith)))) refl
+      rw (
+        filter-append,
+        filter-all key.leader_id (λ id. nat_le at id.index) key.index next.index (λ k m n. upto-yes at k (omega (arith, l key (omega arith)))),
+        from_place-before (next ∷ keys) at h.1 (λ d m. omega (arith, l key (omega arith))),
+      ) refl
 
   -- none does behind the last key
   pub from_place-behind : (key : LogId K) (keys : List (LogId K)) (at : ℕ) → PlacesRise (key ∷ keys) → (final key keys).index < at → from_place at (ids_of (key ∷ keys)) ≡ []
@@ -193,8 +222,12 @@ module _ {K : Type 0} where
       let one_leader : key.leader_id ≡ first.leader_id = ap (λ (x : LogId K). x.leader_id) e in
       let one_place : key.index ≡ first.index = ap (λ (x : LogId K). x.index) e in
       let below : at < next.index = n key (omega arith) in
-      rw (filter-append, from-here first.leader_id first.index next.index at (omega arith) (omega arith), one_leader,
-      from_place-before (next ∷ keys) at h.1 (λ d p. omega arith)) refl
+      rw (
+        filter-append,
+        from-here first.leader_id first.index next.index at (omega arith) (omega arith),
+        one_leader,
+        from_place-before (next ∷ keys) at h.1 (λ d p. omega arith),
+      ) refl
   from_place-inside (first ∷ next ∷ keys) (suc i) key at h e l m n o =
       let low = first-below next keys i key h.1 (omega arith) e in
       rw (filter-append, filter-no first.leader_id (λ id. nat_le at id.index) first.index next.index (λ k p q. upto-no at k (omega (arith, low))))

@@ -41,9 +41,12 @@ module _ {K : Type 0} (cmp : K → K → Ordering) (told_apart : (x y : K) → i
       ≡ ids_of (key ∷ next ∷ keys) ++ (leader_ids (final next keys).leader_id ((final next keys).index + 1) id.index ++ id ∷ [])
   replaced key next [] id h pair l =
       let one_leader : next.leader_id ≡ key.leader_id = sym (same_leader key.leader_id next.leader_id pair) in
-      rw (one_leader, leader_ids-one id.leader_id id.index (id.index + 1) refl,
-      ← leader_ids-join key.leader_id key.index next.index id.index (omega arith) (omega arith),
-      ← leader_ids-join key.leader_id next.index (next.index + 1) id.index (omega arith) (omega arith))
+      rw (
+        one_leader,
+        leader_ids-one id.leader_id id.index (id.index + 1) refl,
+        ← leader_ids-join key.leader_id key.index next.index id.index (omega arith) (omega arith),
+        ← leader_ids-join key.leader_id next.index (next.index + 1) id.index (omega arith) (omega arith),
+      )
       (simp (append_assoc, append-nil))
   replaced key next (later ∷ keys) id h pair l =
       ap (λ ids. leader_ids key.leader_id key.index next.index ++ ids) (replaced next later keys id h.1 pair l)

@@ -2,20 +2,20 @@
 #![tactic(auto)]
 
 pub mod byte_string;
-pub mod command;
 pub mod change;
 pub mod change_members;
 pub mod coherent;
+pub mod command;
 pub mod effective_membership;
 pub mod entry;
 pub mod error;
 pub mod has_id;
 pub mod id_set;
+pub mod instant;
 pub mod into_nodes;
+pub mod io_state;
 pub mod joint;
 pub mod laws;
-pub mod instant;
-pub mod io_state;
 pub mod log_id;
 pub mod log_id_list;
 pub mod log_id_option_ext;
@@ -37,9 +37,9 @@ pub mod vote;
 pub mod voter_groups;
 
 pub use byte_string::Bytes;
-pub use command::Command;
 pub use change_members::ChangeMembers;
 pub use coherent::{Coherent, FindCoherent};
+pub use command::Command;
 pub use effective_membership::EffectiveMembership;
 pub use entry::{Entry, EntryPayload};
 pub use error::{
@@ -48,10 +48,10 @@ pub use error::{
 };
 pub use has_id::HasId;
 pub use id_set::IdSet;
-pub use into_nodes::IntoNodes;
-pub use joint::{AsJoint, Joint};
 pub use instant::Instant;
+pub use into_nodes::IntoNodes;
 pub use io_state::{IOState, LogIOId};
+pub use joint::{AsJoint, Joint};
 pub use log_id::LogId;
 pub use log_id_list::{LogIdList, are_keys};
 pub use log_id_option_ext::LogIdOptionExt;

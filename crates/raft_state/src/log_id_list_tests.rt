@@ -17,7 +17,10 @@ fn rows(rt: HostRuntime) -> Result<(), Fail> {
     assert_eq!(rt; list.get(3), Some(id(1, 1, 3)));
     assert_eq!(rt; list.get(0), None);
     assert_eq!(rt; list.get(6), None);
-    assert_eq!(rt; list.by_last_leader(), [id(2, 1, 4), id(2, 1, 5)].as_slice());
+    assert_eq!(rt;
+        list.by_last_leader(),
+        [id(2, 1, 4), id(2, 1, 5)].as_slice()
+    );
     list.truncate(3);
     assert_eq!(rt; list.key_log_ids(), [id(1, 1, 1), id(1, 1, 2)].as_slice());
 
@@ -28,10 +31,16 @@ fn rows(rt: HostRuntime) -> Result<(), Fail> {
 
     let mut list = LogIdList::new(rt.alloc(), &keys)?;
     list.purge(&id(1, 1, 2))?;
-    assert_eq!(rt; list.key_log_ids(), [id(1, 1, 2), id(2, 1, 4), id(2, 1, 5)].as_slice());
+    assert_eq!(rt;
+        list.key_log_ids(),
+        [id(1, 1, 2), id(2, 1, 4), id(2, 1, 5)].as_slice()
+    );
     assert_eq!(rt; list.first().copied(), Some(id(1, 1, 2)));
     list.purge(&id(1, 1, 1))?;
-    assert_eq!(rt; list.key_log_ids(), [id(1, 1, 2), id(2, 1, 4), id(2, 1, 5)].as_slice());
+    assert_eq!(rt;
+        list.key_log_ids(),
+        [id(1, 1, 2), id(2, 1, 4), id(2, 1, 5)].as_slice()
+    );
     list.purge(&id(3, 2, 9))?;
     assert_eq!(rt; list.key_log_ids(), [id(3, 2, 9)].as_slice());
     Ok(())
@@ -53,8 +62,17 @@ fn log_ids_go_on(rt: HostRuntime) -> Result<(), Fail> {
     assert_eq!(rt; list.key_log_ids(), [id(1, 1, 1)].as_slice());
 
     let mut list = LogIdList::empty(rt.alloc());
-    list.extend(&[id(1, 1, 1), id(1, 1, 2), id(1, 1, 3), id(2, 1, 4), id(2, 1, 5)])?;
-    assert_eq!(rt; list.key_log_ids(), [id(1, 1, 1), id(2, 1, 4), id(2, 1, 5)].as_slice());
+    list.extend(&[
+        id(1, 1, 1),
+        id(1, 1, 2),
+        id(1, 1, 3),
+        id(2, 1, 4),
+        id(2, 1, 5),
+    ])?;
+    assert_eq!(rt;
+        list.key_log_ids(),
+        [id(1, 1, 1), id(2, 1, 4), id(2, 1, 5)].as_slice()
+    );
     let copy = list.clone()?;
     assert_eq!(rt; copy.key_log_ids(), list.key_log_ids());
     Ok(())

@@ -28,7 +28,7 @@ left : (g : given.Over) (c : goal.After-truncate g)
 left g c =
     let said = rw c.as_slice.ensures.value at c.count_up_to-count.ensures in
     let long : length c.args.keys.now.items ≡ c.len.result =
-          ap length (sym c.as_slice.ensures.value) ∙ c.as_slice.ensures.len ∙ sym c.len.ensures in
+    ap length (sym c.as_slice.ensures.value) ∙ c.as_slice.ensures.len ∙ sym c.len.ensures in
     c.truncate.ensures.items ∙ ap (take (c.len.result - (c.count_up_to-count.result - 1))) c.rotate_left.ensures.items
     ∙ rest_set c.args.keys.now.items c.count_up_to-count.result (c.len.result - (c.count_up_to-count.result - 1)) c.new.result (omega arith) said.within (omega arith)
     ∙ ap (λ x. x ∷ drop c.count_up_to-count.result c.args.keys.now.items) c.new.ensures
@@ -44,7 +44,7 @@ pub returns-clause-ids : goal.returns-clause-ids
 returns-clause-ids g c =
     let said = rw c.as_slice.ensures.value at c.count_up_to-count.ensures in
     let low : c.index-key.result.now.index ≤ c.args.upto.now.index =
-          subst (λ (x : LogId _). x.index ≤ c.args.upto.now.index) (sym c.index-key.ensures) (said.below (c.count_up_to-count.result - 1) c.index-key.result.now (omega arith)) in
+    subst (λ (x : LogId _). x.index ≤ c.args.upto.now.index) (sym c.index-key.ensures) (said.below (c.count_up_to-count.result - 1) c.index-key.result.now (omega arith)) in
     ap ids_of (left g c)
     ∙ sym (purged-inside_counted c.args.keys.now.items c.count_up_to-count.result c.index-key.result.now c.args.upto.now c.requires.keys.0 c.requires.reaches
     (omega arith) said.within c.index-key.ensures low said.above (kept g c).0)

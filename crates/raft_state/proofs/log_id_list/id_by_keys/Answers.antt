@@ -31,6 +31,6 @@ pub returns-else-key-index : goal.returns-else-key-index
 returns-else-key-index g c =
     let all : c.count_up_to-count.result ≡ length c.args.keys.now = omega arith in
     let at_most : c.index-keys-count.result.index ≤ c.args.index =
-          low c.args.keys.now c.count_up_to-count.result c.index-keys-count.result c.args.index c.count_up_to-count.ensures.below (omega arith) c.index-keys-count.is in
+    low c.args.keys.now c.count_up_to-count.result c.index-keys-count.result c.args.index c.count_up_to-count.ensures.below (omega arith) c.index-keys-count.is in
     sym (id_at-past_counted c.args.keys.now c.index-keys-count.result c.args.index c.requires (omega arith)
     (c.index-keys-count.is ∙ ap (λ n. get_or c.args.keys.now (n - 1) c.index-keys-count.result) all) (omega arith))

@@ -26,7 +26,7 @@ pub returns-then-count-len-clause-ids : goal.returns-then-count-len-clause-ids
 returns-then-count-len-clause-ids g c =
     let said = rw c.as_slice.ensures.value at c.count_up_to-count.ensures in
     let long : length c.args.keys.now.items ≡ c.count_up_to-count.result =
-          ap length (sym c.as_slice.ensures.value) ∙ c.as_slice.ensures.len ∙ sym c.len.ensures ∙ sym c.if-count-len.true in
+    ap length (sym c.as_slice.ensures.value) ∙ c.as_slice.ensures.len ∙ sym c.len.ensures ∙ sym c.if-count-len.true in
     sym (truncated-all_counted c.args.keys.now.items c.args.at c.requires.0 (omega arith)
     (λ k d h. let low = said.below k d (omega arith) in omega (arith, low)))
 
@@ -39,7 +39,7 @@ pub returns-then-key-at-clause-ids : goal.returns-then-key-at-clause-ids
 returns-then-key-at-clause-ids g c =
     let said = rw c.as_slice.ensures.value at c.count_up_to-count.ensures in
     let long : length c.args.keys.now.items ≡ c.len.result =
-          ap length (sym c.as_slice.ensures.value) ∙ c.as_slice.ensures.len ∙ sym c.len.ensures in
+    ap length (sym c.as_slice.ensures.value) ∙ c.as_slice.ensures.len ∙ sym c.len.ensures in
     let within : c.count_up_to-count.result ≤ length c.args.keys.now.items = said.within in
     let inside : c.count_up_to-count.result < length c.args.keys.now.items = omega arith in
     rw (c.truncate.ensures.items, c.new.ensures)
@@ -50,7 +50,7 @@ pub returns-then-key-at-clause-keys : goal.returns-then-key-at-clause-keys
 returns-then-key-at-clause-keys g c =
     let said = rw c.as_slice.ensures.value at c.count_up_to-count.ensures in
     let long : length c.args.keys.now.items ≡ c.len.result =
-          ap length (sym c.as_slice.ensures.value) ∙ c.as_slice.ensures.len ∙ sym c.len.ensures in
+    ap length (sym c.as_slice.ensures.value) ∙ c.as_slice.ensures.len ∙ sym c.len.ensures in
     let within : c.count_up_to-count.result ≤ length c.args.keys.now.items = said.within in
     let inside : c.count_up_to-count.result < length c.args.keys.now.items = omega arith in
     rw (c.truncate.ensures.items, c.new.ensures)
@@ -61,11 +61,11 @@ pub returns-clause-ids : goal.returns-clause-ids
 returns-clause-ids g c =
     let said = rw c.as_slice.ensures.value at c.count_up_to-count.ensures in
     let long : length c.args.keys.now.items ≡ c.len.result =
-          ap length (sym c.as_slice.ensures.value) ∙ c.as_slice.ensures.len ∙ sym c.len.ensures in
+    ap length (sym c.as_slice.ensures.value) ∙ c.as_slice.ensures.len ∙ sym c.len.ensures in
     let within : c.count_up_to-count.result ≤ length c.args.keys.now.items = said.within in
     let inside : c.count_up_to-count.result < length c.args.keys.now.items = omega arith in
     let at_most : c.index-key.result.now.index ≤ c.args.at - 1 =
-          low c.args.keys.now.items c.count_up_to-count.result c.index-key.result.now (c.args.at - 1) said.below (omega arith) c.index-key.ensures in
+    low c.args.keys.now.items c.count_up_to-count.result c.index-key.result.now (c.args.at - 1) said.below (omega arith) c.index-key.ensures in
     rw c.truncate-2.ensures.items
     (truncated-front_counted c.args.keys.now.items c.count_up_to-count.result c.index-key.result.now c.args.at c.requires.0 (omega arith) inside
     c.index-key.ensures (omega arith) (above-place c.args.keys.now.items c.count_up_to-count.result c.args.at said.above inside))
