@@ -1,6 +1,16 @@
 pub mod PlaceLemmas
 pub mod MembershipLemmas
+pub mod LogIdLemmas
+pub mod LogIdListLemmas
+pub mod KeyOrderLemmas
+pub mod KeyCutLemmas
+pub mod KeyCountLemmas
+pub mod KeyRestLemmas
 pub mod CoherentLemmas
 pub mod RisingLemmas
 pub mod LawLemmas
 pub mod ReplaceLemmas
+pub mod KeysOfLemmas
+pub mod KeyLeaderLemmas
+pub mod ExtendLemmas
+pub mod KeyTestLemmas

@@ -1,0 +1,37 @@
+use Rattle.std.proofs.Common.{◌≡◌, sym, ◌∙◌, ap, rules, arith, true, false, Bool, length, ◌-◌}
+use Rattle.std.specs.Ordering.{is_eq}
+use Rattle.raft_state.specs.LogIdList.{ends_in_pair, last_id}
+use Rattle.raft_state.proofs.KeyOrderLemmas.{ids_of-replace, AreKeys-push, AreKeys-replace, after}
+use Rattle.raft_state.proofs.LogIdListLemmas.{ids_of-push}
+use Rattle.raft_state.proofs.log_id_list.append_key.Given as given
+use Rattle.raft_state.proofs.log_id_list.append_key.Goals as goal
+
+told_apart : (g : given.Over) (x y : _) → is_eq (g.NID.Ord.cmp x y) ≡ true → x ≡ y
+told_apart g x y e = g.met.NID.NodeIdEssential.equal_is_same x y (g.met.NID.Ord.matches_eq x y ∙ e)
+
+count : (g : given.Over) (c : goal.After-keys-1 g) → c.len-last.result ≡ length c.args.keys.now.items
+count g c = c.len-last.ensures ∙ sym c.as_slice.ensures.len ∙ ap length c.as_slice.ensures.value
+
+paired : (g : given.Over) (c : goal.After-keys-1 g) → ends_in_pair g.NID.Ord.cmp c.args.keys.now.items ≡ true
+paired g c = ap (ends_in_pair g.NID.Ord.cmp) (sym c.as_slice.ensures.value) ∙ sym c.ends_in_pair.ensures ∙ c.if-ends_in_pair.true
+
+unpaired : (g : given.Over) (c : goal.In_ok-push g) → ends_in_pair g.NID.Ord.cmp c.args.keys.now.items ≡ false
+unpaired g c = ap (ends_in_pair g.NID.Ord.cmp) (sym c.as_slice.ensures.value) ∙ sym c.ends_in_pair.ensures ∙ c.if-ends_in_pair.false
+
+pub returns-then-ends_in_pair-clause-ok : goal.returns-then-ends_in_pair-clause-ok
+returns-then-ends_in_pair-clause-ok g c =
+    rw (count g c) (ids_of-replace g.NID.Ord.cmp (told_apart g) c.args.keys.now.items c.args.id c.requires.keys.0 (paired g c)
+    (after g.NID.Ord.cmp (told_apart g) (last_id c.args.keys.now.items) c.args.id c.requires.goes_on))
+
+pub returns-then-ends_in_pair-clause-keys : goal.returns-then-ends_in_pair-clause-keys
+returns-then-ends_in_pair-clause-keys g c =
+    rw (count g c) (AreKeys-replace g.NID.Ord.cmp (told_apart g) c.args.keys.now.items c.args.id c.requires.keys (paired g c) c.requires.goes_on)
+
+pub returns-clause-ok : goal.returns-clause-ok
+returns-clause-ok g c =
+    rw c.in_ok-push.ensures.items (ids_of-push c.args.keys.now.items c.args.id c.requires.keys.0
+    (after g.NID.Ord.cmp (told_apart g) (last_id c.args.keys.now.items) c.args.id c.requires.goes_on))
+
+pub returns-clause-keys : goal.returns-clause-keys
+returns-clause-keys g c =
+    rw c.in_ok-push.ensures.items (AreKeys-push g.NID.Ord.cmp (told_apart g) c.args.keys.now.items c.args.id c.requires.keys (unpaired g c) c.requires.goes_on)

@@ -1,0 +1,302 @@
+//! The ids of a log, kept by few of them.
+ghost use Rattle.std.specs.Prelude.{map, IsTrue, ◌↔◌, ◌≡◌, ◌+◌, ◌-◌, ◌<◌, ◌≤◌, [], ℕ, length, OnOk, OnErr, IfOk, slice_index_or};
+ghost use Rattle.std.specs.List.{slice_get};
+ghost use Rattle.std.specs.Option.{option_copied};
+ghost use Rattle.raft_state.specs.LogIdList.{ids_of, last_id, id_at, appended, truncated, purged, PlacesRise, AreKeys, GoesOn, Reaches, ends_in_pair, keys_of, of_leader, extended, AllGoOn, IsBelowNext, IsLedOn};
+
+use crate::log_id::LogId;
+use crate::node::NodeId;
+use crate::raft_entry::RaftLogId;
+use std::alloc::{AllocError, Global};
+use std::cmp::Ordering;
+use std::marker::Model;
+
+/// The ids of a log (openraft). It keeps the first log id of each leader and the last one of all.
+/// Contracts see the full list, by rising index without a gap.
+#[derive(Debug, Drop)]
+pub struct LogIdList<NID: NodeId> {
+    alloc: Global,
+    key_log_ids: Vec<LogId<NID>>,
+}
+
+impl<NID: NodeId> Model for LogIdList<NID> {
+    ghost use Rattle.std.specs.Prelude.{List};
+    ghost use Rattle.raft_state.specs.declared.log_id.LogId.{LogId};
+    ghost use Rattle.raft_state.specs.LogIdList.{ids_of, AreKeys};
+
+    ghost Value = { List (LogId NID) };
+
+    ghost view = { λ s. ids_of s.key_log_ids.items };
+
+    ghost invariant = { λ s. AreKeys NID.cmp s.key_log_ids.items };
+}
+
+// How many of the keys stand at the place or below it.
+fn count_up_to<NID: NodeId>(keys: &[LogId<NID>], index: u64) -> usize
+    ensures within { result ≤ length keys.now }
+    ensures below { (k : ℕ) (d : _) → k < result → (slice_index_or keys.now k d).index ≤ index }
+    ensures above { (d : _) → result < length keys.now → index < (slice_index_or keys.now result d).index }
+{
+    for (at, key) in keys.iter().enumerate() {
+        if key.index > index {
+            return at;
+        }
+    }
+    keys.len()
+}
+
+// Whether the last two keys have one leader: then the last one begins no leader.
+fn ends_in_pair<NID: NodeId>(keys: &[LogId<NID>]) -> bool
+    ensures { result ≡ ends_in_pair NID.cmp keys.now }
+{
+    match keys {
+        [.., before, last] => before.leader_id.cmp(&last.leader_id).is_eq(),
+        _ => false,
+    }
+}
+
+fn append_key<NID: NodeId>(keys: &mut Vec<LogId<NID>>, id: LogId<NID>) -> Result<(), AllocError>
+    requires keys { AreKeys NID.cmp keys.old.items }
+    requires goes_on { GoesOn NID.cmp (last_id keys.old.items) id }
+    ensures ok { OnOk result (ids_of keys.new.items ≡ appended (ids_of keys.old.items) id) }
+    ensures err { OnErr result (keys.new.items ≡ keys.old.items) }
+    ensures keys { AreKeys NID.cmp keys.new.items }
+{
+    if ends_in_pair(keys.as_slice()) {
+        let last = keys.len() - 1;
+        keys[last] = id;
+        return Ok(());
+    }
+    keys.push(id)?;
+    Ok(())
+}
+
+// The log id that the keys tell at a place.
+fn id_by_keys<NID: NodeId>(keys: &[LogId<NID>], index: u64) -> Option<LogId<NID>>
+    requires { PlacesRise keys.now }
+    ensures { result ≡ id_at (ids_of keys.now) index }
+{
+    let count = count_up_to(keys, index);
+    if count == 0 {
+        return None;
+    }
+    let key = keys[count - 1];
+    if count < keys.len() {
+        return Some(LogId::new(key.leader_id, index));
+    }
+    if key.index == index { Some(key) } else { None }
+}
+
+// Leaves the log ids below the place. The leader of the last key left goes on up to there.
+fn truncate_keys<NID: NodeId>(keys: &mut Vec<LogId<NID>>, at: u64)
+    requires { AreKeys NID.cmp keys.old.items }
+    ensures ids { ids_of keys.new.items ≡ truncated (ids_of keys.old.items) at }
+    ensures keys { AreKeys NID.cmp keys.new.items }
+{
+    if at == 0 {
+        keys.clear();
+        return;
+    }
+    let count = count_up_to(keys.as_slice(), at - 1);
+    if count == 0 {
+        keys.clear();
+        return;
+    }
+    if count == keys.len() {
+        return;
+    }
+    let key = keys[count - 1];
+    if key.index < at - 1 {
+        keys[count] = LogId::new(key.leader_id, at - 1);
+        keys.truncate(count + 1);
+        return;
+    }
+    keys.truncate(count);
+}
+
+// Leaves the log ids from the place of `upto` on, which isn't past the last one.
+fn drop_keys<NID: NodeId>(keys: &mut Vec<LogId<NID>>, upto: &LogId<NID>)
+    requires keys { AreKeys NID.cmp keys.old.items }
+    requires reaches { Reaches (last_id keys.old.items) upto.now.index }
+    ensures ids { ids_of keys.new.items ≡ purged (ids_of keys.old.items) upto.now }
+    ensures keys { AreKeys NID.cmp keys.new.items }
+{
+    let count = count_up_to(keys.as_slice(), upto.index);
+    if count == 0 {
+        return;
+    }
+    let first = count - 1;
+    let left = keys.len() - first;
+    let key = keys[first];
+    keys[first] = LogId::new(key.leader_id, upto.index);
+    keys.rotate_left(first);
+    keys.truncate(left);
+}
+
+fn purge_keys<NID: NodeId>(keys: &mut Vec<LogId<NID>>, upto: &LogId<NID>) -> Result<(), AllocError>
+    requires { AreKeys NID.cmp keys.old.items }
+    ensures ok { OnOk result (ids_of keys.new.items ≡ purged (ids_of keys.old.items) upto.now) }
+    ensures err { OnErr result (keys.new.items ≡ keys.old.items) }
+    ensures keys { AreKeys NID.cmp keys.new.items }
+{
+    let Some(last) = keys.last().copied() else {
+        keys.push(*upto)?;
+        return Ok(());
+    };
+    if upto.index <= last.index {
+        drop_keys(keys, upto);
+        return Ok(());
+    }
+    keys[0] = *upto;
+    keys.truncate(1);
+    Ok(())
+}
+
+// Whether the key may stand before these.
+fn leads_on<NID: NodeId>(key: &LogId<NID>, keys: &[LogId<NID>]) -> bool
+    ensures { IsTrue result ↔ (IsBelowNext key.now keys.now × IsLedOn NID.cmp key.now keys.now) }
+{
+    match keys {
+        [] => true,
+        [last] => key.index < last.index && key.leader_id.cmp(&last.leader_id).is_le(),
+        [next, ..] => key.index < next.index && key.leader_id.cmp(&next.leader_id).is_lt(),
+    }
+}
+
+/// Whether the log ids are keys in order: their indexes rise, and their leaders too, where only
+/// the last two may be of one leader (own). `LogIdList::new` takes just such keys.
+pub fn are_keys<NID: NodeId>(keys: &[LogId<NID>]) -> bool
+    ensures { IsTrue result ↔ AreKeys NID.cmp keys.now }
+{
+    for at in 0..keys.len() {
+        if !leads_on(&keys[at], &keys[at + 1..]) {
+            return false;
+        }
+    }
+    true
+}
+
+// The keys that the leader of the last one has.
+fn keys_of_last_leader<NID: NodeId>(keys: &[LogId<NID>]) -> &[LogId<NID>]
+    requires { AreKeys NID.cmp keys.now }
+    ensures { result.now ≡ of_leader NID.cmp (last_id keys.now) keys.now }
+{
+    if ends_in_pair(keys) {
+        return &keys[keys.len() - 2..];
+    }
+    if keys.is_empty() {
+        return keys;
+    }
+    &keys[keys.len() - 1..]
+}
+
+impl<NID: NodeId> LogIdList<NID> {
+    /// The list that these keys stand for; `are_keys` tells whether they are in order.
+    pub fn new(alloc: Global, key_log_ids: &[LogId<NID>]) -> Result<LogIdList<NID>, AllocError>
+        requires { AreKeys NID.cmp key_log_ids.now }
+        ensures { IfOk result (λ list. list ≡ ids_of key_log_ids.now) }
+    {
+        let key_log_ids = Vec::from_slice(alloc, key_log_ids)?;
+        Ok(LogIdList { alloc, key_log_ids })
+    }
+
+    /// The same list again, with the allocator that this one keeps.
+    pub fn clone(&self) -> Result<LogIdList<NID>, AllocError>
+        ensures { IfOk result (λ list. list ≡ self.now) }
+    {
+        let key_log_ids = Vec::from_slice(self.alloc, self.key_log_ids.as_slice())?;
+        Ok(LogIdList {
+            alloc: self.alloc,
+            key_log_ids,
+        })
+    }
+
+    /// Puts the log ids behind the others, one after the other; places between get the leader
+    /// before. Without memory the list stays.
+    pub fn extend<LID: RaftLogId<NID>>(&mut self, new_ids: &[LID]) -> Result<(), AllocError>
+        requires { AllGoOn NID.cmp (last_id self.old) (map LID.id new_ids.now) }
+        ensures ok { OnOk result (self.new ≡ extended self.old (map LID.id new_ids.now)) }
+        ensures err { OnErr result (self.new ≡ self.old) }
+    {
+        let mut longer = self.clone()?;
+        for new_id in new_ids {
+            longer.append(*new_id.get_log_id())?;
+        }
+        *self = longer;
+        Ok(())
+    }
+
+    /// The keys that the last leader has: its first log id, and the last one of all.
+    pub fn by_last_leader(&self) -> &[LogId<NID>]
+        ensures { result.now ≡ of_leader NID.cmp (last_id self.now) (keys_of NID.cmp self.now) }
+    {
+        keys_of_last_leader(self.key_log_ids.as_slice())
+    }
+
+    /// Leaves the log ids below the index.
+    pub fn truncate(&mut self, at: u64)
+        ensures { self.new ≡ truncated self.old at }
+    {
+        truncate_keys(&mut self.key_log_ids, at);
+    }
+
+    /// Leaves the log ids from the index of `upto` on, so that `upto` is first.
+    /// Past the last one it leaves `upto` alone; below the first one it changes nothing.
+    /// Only an empty list grows by this; without memory it stays.
+    pub fn purge(&mut self, upto: &LogId<NID>) -> Result<(), AllocError>
+        ensures ok { OnOk result (self.new ≡ purged self.old upto.now) }
+        ensures err { OnErr result (self.new ≡ self.old) }
+    {
+        purge_keys(&mut self.key_log_ids, upto)
+    }
+
+    /// The log id at the index, if there is one.
+    pub fn get(&self, index: u64) -> Option<LogId<NID>>
+        ensures { result ≡ id_at self.now index }
+    {
+        id_by_keys(self.key_log_ids.as_slice(), index)
+    }
+
+    /// No log ids. Takes no memory.
+    pub fn empty(alloc: Global) -> LogIdList<NID>
+        ensures { result ≡ [] }
+    {
+        LogIdList {
+            alloc,
+            key_log_ids: Vec::new(alloc),
+        }
+    }
+
+    /// Puts the log id behind the others; places between get the leader of the last one.
+    /// Without memory the list stays.
+    pub fn append(&mut self, new_log_id: LogId<NID>) -> Result<(), AllocError>
+        requires { GoesOn NID.cmp (last_id self.old) new_log_id }
+        ensures ok { OnOk result (self.new ≡ appended self.old new_log_id) }
+        ensures err { OnErr result (self.new ≡ self.old) }
+    {
+        append_key(&mut self.key_log_ids, new_log_id)
+    }
+
+    /// The keys: the first log id of each leader, and the last one of all.
+    pub fn key_log_ids(&self) -> &[LogId<NID>]
+        ensures keys { result.now ≡ keys_of NID.cmp self.now }
+        ensures ids { ids_of result.now ≡ self.now }
+        ensures order { AreKeys NID.cmp result.now }
+    {
+        self.key_log_ids.as_slice()
+    }
+
+    /// The first log id.
+    pub fn first(&self) -> Option<&LogId<NID>>
+        ensures { option_copied result ≡ slice_get self.now 0 }
+    {
+        self.key_log_ids.first()
+    }
+
+    /// The last log id.
+    pub fn last(&self) -> Option<&LogId<NID>>
+        ensures { option_copied result ≡ last_id self.now }
+    {
+        self.key_log_ids.last()
+    }
+}
