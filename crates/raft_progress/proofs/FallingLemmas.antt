@@ -49,6 +49,12 @@ module _ {X : Type 0} where
   at-swap xs i j d e h =
       ap (λ l. get_or l i d) (swap-next xs i j e h) ∙ at-swap_next i xs d (omega arith) ∙ ap (λ k. get_or xs k d) (sym e)
 
+  -- within the list no default is read
+  pub at_any : (xs : List X) (i : ℕ) (d e : X) → i < length xs → get_or xs i d ≡ get_or xs i e
+  at_any [] i d e h = absurd (omega arith)
+  at_any (x ∷ xs) zero d e h = refl
+  at_any (x ∷ xs) (suc i) d e h = at_any xs i d e (omega arith)
+
 module _ {K V P : Type 0} {cmp : P → P → Ordering} (o : IsTotalOrder cmp) (compared : V → P) where
   abbrev at_most : K × V → K × V → Type 0
   at_most y x = is_le (cmp (compared y.1) (compared x.1)) ≡ true
