@@ -427,3 +427,25 @@ module _ {K V P : Type 0} (eq : K → K → Bool) {cmp : P → P → Ordering} (
           start_quiet g xs ys n e (granted_quiet d g xs grant) f h
           (subst (λ (z : K × V). is_lt (cmp g (val z)) ≡ true) (sym (entry e ∙ get_or-set_same xs i y e within)) l)
           (front ∙ take-set-le n xs i y at)
+
+-- where all have the value that it was built with, that is granted
+module _ {K V P : Type 0} (eq : K → K → Bool) {cmp : P → P → Ordering} (o : IsTotalOrder cmp) (compared : V → P) (v : V) where
+  abbrev beside : K → K × V
+  beside id = (id, v)
+
+  every_beside : (Q : K × V → Type 0) → ((id : K) → Q (id, v)) → (ids : List K) → Every Q (map beside ids)
+  every_beside Q q [] = tt
+  every_beside Q q (id ∷ ids) = (q id, every_beside Q q ids)
+
+  pub built_falling : (ids : List K) → IsFalling cmp compared (map beside ids)
+  built_falling [] = tt
+  built_falling (id ∷ ids) =
+      (every_beside (λ y. is_le (cmp (compared y.1) (compared v)) ≡ true) (λ _. le_self o (compared v)) ids, built_falling ids)
+
+  pub built_granted : (accepts : (K → Bool) → Bool) (ids : List K) → IsGranted eq cmp compared accepts (compared v) (compared v) (map beside ids)
+  built_granted accepts ids =
+      let xs = map beside ids in
+      (or_left (is_eq (cmp (compared v) (compared v))) (list_any (λ p. is_eq (cmp p (compared v))) (reached_values eq cmp compared accepts xs)) (eq_self o (compared v)),
+      and_both (is_le (cmp (compared v) (compared v))) (list_all (λ p. is_le (cmp p (compared v))) (reached_values eq cmp compared accepts xs)) (le_self o (compared v))
+      (all_filtered (λ p. accepts (has_reached eq cmp compared xs p)) (λ p. is_le (cmp p (compared v))) (value_of compared) xs
+      (every_beside (λ x. accepts (has_reached eq cmp compared xs (compared x.1)) ≡ true → is_le (cmp (compared x.1) (compared v)) ≡ true) (λ _ _. le_self o (compared v)) ids)))

@@ -86,7 +86,7 @@ fn find_quorum<ID: NodeId, V: Borrow<P>, P: Ord, QS: QuorumSet<ID>>(
 
 // Sets the value at the index, which is no less than the one there, and answers what is granted
 // from then on.
-fn raise<ID: NodeId, V: Copy + Borrow<P>, P: Copy + Ord, QS: QuorumSet<ID>>(
+pub(crate) fn raise<ID: NodeId, V: Copy + Borrow<P>, P: Copy + Ord, QS: QuorumSet<ID>>(
     quorum_set: &QS,
     granted: P,
     voters: &mut [(ID, V)],

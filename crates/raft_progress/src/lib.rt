@@ -2,6 +2,9 @@
 #![tactic(auto)]
 
 pub mod borrow;
+pub mod entries;
 pub mod front;
+pub mod vec_progress;
 
 pub use borrow::Borrow;
+pub use vec_progress::VecProgress;

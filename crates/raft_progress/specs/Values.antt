@@ -1,0 +1,13 @@
+-- The values beside ids.
+use Rattle.std.specs.Prelude.{Bool, cond, Option, Some, None, List, [], ◌∷◌}
+
+module _ {K V : Type 0} (eq : K → K → Bool) where
+  -- the value beside the id
+  abbrev pub value_at : List (K × V) → K → Option V
+  value_at [] id = None
+  value_at (x ∷ xs) id = cond (eq x.0 id) (Some x.1) (value_at xs id)
+
+  -- the list with this value beside the id
+  abbrev pub with_value : List (K × V) → K → V → List (K × V)
+  with_value [] id v = []
+  with_value (x ∷ xs) id v = cond (eq x.0 id) ((x.0, v) ∷ xs) (x ∷ with_value xs id v)

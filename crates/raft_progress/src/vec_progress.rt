@@ -1,0 +1,124 @@
+//! The progress of all peers, and what a quorum of the voters has reached.
+ghost use Rattle.std.specs.Prelude.{◌≡◌, ◌||◌, true, false, length, Ok, Err, IfSome, Some, None, map, IfOk, OnErr, IsPermutation, if◌then◌else◌};
+ghost use Rattle.std.specs.Ordering.{is_le};
+ghost use Rattle.std.specs.List.{list_any, IsDistinct};
+ghost use Rattle.raft_state.specs.Nodes.{has_id, has_node};
+ghost use Rattle.raft_progress.specs.Counted.{IsCounted};
+ghost use Rattle.raft_progress.specs.Values.{value_at, with_value};
+ghost use Rattle.raft_progress.specs.Granted.{IsFalling, IsGranted};
+
+use crate::borrow::Borrow;
+use crate::entries::{beside, place};
+use crate::front::raise;
+use raft_state::{NodeId, QuorumSet};
+use std::alloc::{AllocError, Global};
+
+/// The progress of all peers (openraft). The voters stand in falling order of their values.
+#[derive(Debug, Drop)]
+pub struct VecProgress<ID, V, P, QS> {
+    quorum_set: QS,
+    built_with: P,
+    granted: P,
+    voters: Vec<(ID, V)>,
+    learners: Vec<(ID, V)>,
+}
+
+impl<ID: NodeId, V: Copy + Borrow<P>, P: Copy + Ord, QS: QuorumSet<ID> + Drop> VecProgress<ID, V, P, QS> {
+    /// The progress of the quorum set's voters and of these learners, who are distinct and no
+    /// voters, each at the default (openraft).
+    pub fn new(
+        alloc: Global,
+        quorum_set: QS,
+        learner_ids: &[ID],
+        default_value: V,
+    ) -> Result<VecProgress<ID, V, P, QS>, AllocError>
+        requires distinct { IsDistinct ID.eq learner_ids.now }
+        requires no_voters { list_any (has_id ID.eq (QS.members quorum_set)) learner_ids.now ≡ false }
+        ensures quorum_set { IfOk result (λ p. p.quorum_set ≡ quorum_set) }
+        ensures built_with { IfOk result (λ p. p.built_with ≡ V.borrowed default_value) }
+        ensures voters { IfOk result (λ p. p.voters.items ≡ map (λ id. (id, default_value)) (QS.members quorum_set)) }
+        ensures learners { IfOk result (λ p. p.learners.items ≡ map (λ id. (id, default_value)) learner_ids.now) }
+        ensures counted { IfOk result (λ p. IsCounted ID.eq P.cmp V.borrowed QS.accepts p) }
+    {
+        let ids = quorum_set.ids(alloc)?;
+        let voters = beside(alloc, ids.as_slice(), default_value)?;
+        let learners = beside(alloc, learner_ids, default_value)?;
+        let granted = *default_value.borrow();
+        Ok(VecProgress {
+            quorum_set,
+            built_with: granted,
+            granted,
+            voters,
+            learners,
+        })
+    }
+
+    /// Sets the value of the id, which is no less than before, and answers what is granted: as an
+    /// error where nobody has the id, and then nothing is changed (openraft).
+    pub fn update(&mut self, id: &ID, value: V) -> Result<P, P>
+        requires rises_voter { IfSome (value_at ID.eq self.old.voters.items id.now) (λ v. is_le (P.cmp (V.borrowed v) (V.borrowed value)) ≡ true) }
+        ensures voters { IsPermutation (with_value ID.eq self.old.voters.items id.now value) self.new.voters.items }
+        ensures learners { has_node ID.eq self.old.voters.items id.now ≡ false → self.new.learners.items ≡ with_value ID.eq self.old.learners.items id.now value }
+        ensures learners_of_voter { has_node ID.eq self.old.voters.items id.now ≡ true → self.new.learners.items ≡ self.old.learners.items }
+        ensures counted { IsCounted ID.eq P.cmp V.borrowed QS.accepts self.old → IsCounted ID.eq P.cmp V.borrowed QS.accepts self.new }
+        ensures learner_grants_nothing { has_node ID.eq self.old.voters.items id.now ≡ false → self.new.granted ≡ self.old.granted }
+        ensures quorum_set { self.new.quorum_set ≡ self.old.quorum_set }
+        ensures built_with { self.new.built_with ≡ self.old.built_with }
+        ensures answer { result ≡ (if has_node ID.eq self.old.voters.items id.now || has_node ID.eq self.old.learners.items id.now then Ok self.new.granted else Err self.new.granted) }
+        ensures unknown { OnErr result (self.new ≡ self.old) }
+    {
+        match place(self.voters.as_slice(), id) {
+            Some(at) => {
+                let voters = self.voters.as_mut_slice();
+                self.granted = raise(&self.quorum_set, self.granted, voters, at, value);
+                Ok(self.granted)
+            }
+            None => self.update_learner(id, value),
+        }
+    }
+
+    // Sets the value of a learner.
+    fn update_learner(&mut self, id: &ID, value: V) -> Result<P, P>
+        ensures others { self.new ≡ record self.old { learners = self.new.learners } }
+        ensures learners { self.new.learners.items ≡ with_value ID.eq self.old.learners.items id.now value }
+        ensures answer { result ≡ (if has_node ID.eq self.old.learners.items id.now then Ok self.old.granted else Err self.old.granted) }
+        ensures unknown { OnErr result (self.new ≡ self.old) }
+    {
+        match place(self.learners.as_slice(), id) {
+            Some(at) => {
+                let (learner, _) = self.learners[at];
+                self.learners[at] = (learner, value);
+                Ok(self.granted)
+            }
+            None => Err(self.granted),
+        }
+    }
+
+    /// Whether the id is a voter's, or None where nobody has it (openraft).
+    pub fn is_voter(&self, id: &ID) -> Option<bool>
+        ensures { result ≡ (if has_node ID.eq self.now.voters.items id.now then Some true else (if has_node ID.eq self.now.learners.items id.now then Some false else None)) }
+    {
+        if place(self.voters.as_slice(), id).is_some() {
+            return Some(true);
+        }
+        if place(self.learners.as_slice(), id).is_some() {
+            return Some(false);
+        }
+        None
+    }
+
+    /// What is granted: the greatest of the value that it was built with and those that a quorum
+    /// of the voters has reached (openraft).
+    pub fn granted(&self) -> &P
+        ensures { result.now ≡ self.now.granted }
+    {
+        &self.granted
+    }
+
+    /// The quorum set that counts (openraft).
+    pub fn quorum_set(&self) -> &QS
+        ensures { result.now ≡ self.now.quorum_set }
+    {
+        &self.quorum_set
+    }
+}
