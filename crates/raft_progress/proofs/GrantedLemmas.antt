@@ -276,11 +276,13 @@ module _ {K V P : Type 0} (eq : K → K → Bool) {cmp : P → P → Ordering} (
     granted_attained d g xs h =
         or_cases (is_eq (cmp d g)) (list_any (λ p. is_eq (cmp p g)) (reached_values eq cmp compared accepts xs)) h.0 inl
         (λ k. let both : list_any (λ (x : K × V). reached xs (val x) && is_eq (cmp (val x) g)) xs ≡ true = sym (any_filtered (reached xs) (λ p. is_eq (cmp p g)) (value_of compared) xs) ∙ k in
-        inr (any_wider (λ (x : K × V). reached xs (val x) && is_eq (cmp (val x) g)) (λ (x : K × V). is_eq (cmp (val x) g)) xs (λ x. and_right (reached xs (val x)) (is_eq (cmp (val x) g))) both,
-        any_gives (λ (x : K × V). reached xs (val x) && is_eq (cmp (val x) g)) xs both
-        (λ x e. wider (has_reached eq cmp compared xs (val x)) (has_reached eq cmp compared xs g)
-        (reached_lower xs (val x) g (le_if_eq o g (val x) (eq_back o (val x) g (and_right (reached xs (val x)) (is_eq (cmp (val x) g)) e))))
-        (and_left (reached xs (val x)) (is_eq (cmp (val x) g)) e))))
+        inr (
+          any_wider (λ (x : K × V). reached xs (val x) && is_eq (cmp (val x) g)) (λ (x : K × V). is_eq (cmp (val x) g)) xs (λ x. and_right (reached xs (val x)) (is_eq (cmp (val x) g))) both,
+          any_gives (λ (x : K × V). reached xs (val x) && is_eq (cmp (val x) g)) xs both
+              (λ x e. wider (has_reached eq cmp compared xs (val x)) (has_reached eq cmp compared xs g)
+              (reached_lower xs (val x) g (le_if_eq o g (val x) (eq_back o (val x) g (and_right (reached xs (val x)) (is_eq (cmp (val x) g)) e))))
+              (and_left (reached xs (val x)) (is_eq (cmp (val x) g)) e)),
+        ))
 
     pub granted_least : (d g : P) (xs : List (K × V)) → Granted d g xs → is_le (cmp d g) ≡ true
     granted_least d g xs h =
@@ -291,21 +293,22 @@ module _ {K V P : Type 0} (eq : K → K → Bool) {cmp : P → P → Ordering} (
     every_not_lt g (y ∷ ys) xs e = ((λ _. le_if_not_lt o g (val y) e.0), every_not_lt g ys xs e.1)
 
     counted_granted : (d g : P) (xs : List (K × V)) → Quiet g xs → Attained d g xs → is_le (cmp d g) ≡ true → Granted d g xs
-    counted_granted d g xs q a l =
-        (elim a [
-          | inl e ↦ or_left (is_eq (cmp d g)) (list_any (λ p. is_eq (cmp p g)) (reached_values eq cmp compared accepts xs)) e
-          | inr e ↦ or_right (is_eq (cmp d g)) (list_any (λ p. is_eq (cmp p g)) (reached_values eq cmp compared accepts xs))
-              (any_filtered (reached xs) (λ p. is_eq (cmp p g)) (value_of compared) xs
-              ∙ any_wider (λ (x : K × V). is_eq (cmp (val x) g)) (λ (x : K × V). reached xs (val x) && is_eq (cmp (val x) g)) xs
-              (λ x k. and_both (reached xs (val x)) (is_eq (cmp (val x) g)) (wider (has_reached eq cmp compared xs g) (has_reached eq cmp compared xs (val x)) (reached_lower xs g (val x) (le_if_eq o (val x) g k)) e.1) k) e.0)
-        ],
-        and_both (is_le (cmp d g)) (list_all (λ p. is_le (cmp p g)) (reached_values eq cmp compared accepts xs)) l
-        (all_filtered (reached xs) (λ p. is_le (cmp p g)) (value_of compared) xs
-        (bool_cases (accepts (has_above xs g))
-        (λ k. every_not_lt g xs xs (none_at_all (λ (x : K × V). is_lt (cmp g (compared x.1))) xs (q k)))
-        (λ k. every_any (λ (x : K × V). reached xs (val x) ≡ true → is_le (cmp (val x) g) ≡ true)
-        (λ x r. bool_cases (is_le (cmp (val x) g)) (λ u. u)
-        (λ u. not_both (accepts (has_above xs g)) (wider (has_reached eq cmp compared xs (val x)) (has_above xs g) (reached_is_above xs g (val x) (lt_if_not_le o (val x) g u)) r) k)) xs))))
+    counted_granted d g xs q a l = (
+      elim a [
+        | inl e ↦ or_left (is_eq (cmp d g)) (list_any (λ p. is_eq (cmp p g)) (reached_values eq cmp compared accepts xs)) e
+        | inr e ↦ or_right (is_eq (cmp d g)) (list_any (λ p. is_eq (cmp p g)) (reached_values eq cmp compared accepts xs))
+            (any_filtered (reached xs) (λ p. is_eq (cmp p g)) (value_of compared) xs
+            ∙ any_wider (λ (x : K × V). is_eq (cmp (val x) g)) (λ (x : K × V). reached xs (val x) && is_eq (cmp (val x) g)) xs
+            (λ x k. and_both (reached xs (val x)) (is_eq (cmp (val x) g)) (wider (has_reached eq cmp compared xs g) (has_reached eq cmp compared xs (val x)) (reached_lower xs g (val x) (le_if_eq o (val x) g k)) e.1) k) e.0)
+      ],
+      and_both (is_le (cmp d g)) (list_all (λ p. is_le (cmp p g)) (reached_values eq cmp compared accepts xs)) l
+          (all_filtered (reached xs) (λ p. is_le (cmp p g)) (value_of compared) xs
+          (bool_cases (accepts (has_above xs g))
+          (λ k. every_not_lt g xs xs (none_at_all (λ (x : K × V). is_lt (cmp g (compared x.1))) xs (q k)))
+          (λ k. every_any (λ (x : K × V). reached xs (val x) ≡ true → is_le (cmp (val x) g) ≡ true)
+          (λ x r. bool_cases (is_le (cmp (val x) g)) (λ u. u)
+          (λ u. not_both (accepts (has_above xs g)) (wider (has_reached eq cmp compared xs (val x)) (has_above xs g) (reached_is_above xs g (val x) (lt_if_not_le o (val x) g u)) r) k)) xs))),
+    )
 
     quiet_stop : (g : P) (ys : List (K × V)) (n : ℕ) → IsFalling cmp compared ys → RestsAt ys g n → NoQuorum ys n → Quiet g ys
     quiet_stop g ys zero f r nq a = none_where_it_rests ys g f r
@@ -335,8 +338,10 @@ module _ {K V P : Type 0} (eq : K → K → Bool) {cmp : P → P → Ordering} (
     attained_moved d g xs ys m a =
         elim a [
           | inl e ↦ inl e
-          | inr e ↦ inr (sym (list_any-IsPermutation (λ (x : K × V). is_eq (cmp (compared x.1) g)) xs ys m) ∙ e.0,
-              wider (has_reached eq cmp compared xs g) (has_reached eq cmp compared ys g) (λ id k. sym (list_any-IsPermutation (λ (x : K × V). eq x.0 id && is_le (cmp g (compared x.1))) xs ys m) ∙ k) e.1)
+          | inr e ↦ inr (
+            sym (list_any-IsPermutation (λ (x : K × V). is_eq (cmp (compared x.1) g)) xs ys m) ∙ e.0,
+            wider (has_reached eq cmp compared xs g) (has_reached eq cmp compared ys g) (λ id k. sym (list_any-IsPermutation (λ (x : K × V). eq x.0 id && is_le (cmp g (compared x.1))) xs ys m) ∙ k) e.1,
+          )
         ]
 
     -- a quorum in front of a falling list grants the value at its end
@@ -345,8 +350,10 @@ module _ {K V P : Type 0} (eq : K → K → Bool) {cmp : P → P → Ordering} (
         let v = val (get_or ys i e) in
         counted_granted d v ys
         (quiet_stop v ys i f (λ c k. subst (λ (z : K × V). is_lt (cmp v (val z)) ≡ false) (at_any ys i e c h) (not_lt_if_le o v v (le_self o v))) nq)
-        (inr (any_at (λ (x : K × V). is_eq (cmp (compared x.1) v)) ys i e h (eq_self o v),
-        wider (has_node eq (take (suc i) ys)) (has_reached eq cmp compared ys v) (front_has_reached ys i e h f) a))
+        (inr (
+          any_at (λ (x : K × V). is_eq (cmp (compared x.1) v)) ys i e h (eq_self o v),
+          wider (has_node eq (take (suc i) ys)) (has_reached eq cmp compared ys v) (front_has_reached ys i e h f) a,
+        ))
         (le_if_lt o d v (le_lt o d g v least l))
 
     module _ (xs : List (K × V)) (i : ℕ) (y e : K × V) (within : i < length xs) (key : y.0 ≡ (get_or xs i e).0) (rises : is_le (cmp (val (get_or xs i e)) (val y)) ≡ true) where
@@ -371,10 +378,12 @@ module _ {K V P : Type 0} (eq : K → K → Bool) {cmp : P → P → Ordering} (
       attained_set d g s a =
           elim a [
             | inl k ↦ inl k
-            | inr k ↦ inr (any_set_more (λ (x : K × V). is_eq (cmp (compared x.1) g)) xs i y e
-                (λ q. eq_if_both o (val y) g (le_if_not_lt o g (val y) (s ∙ not_lt_if_le o old g (le_if_eq o old g q)))
-                (le_le o g old (val y) (le_if_eq o g old (eq_back o old g q)) rises)) k.0,
-                wider (has_reached eq cmp compared xs g) (has_reached eq cmp compared (set xs i y) g) (reached_set g) k.1)
+            | inr k ↦ inr (
+              any_set_more (λ (x : K × V). is_eq (cmp (compared x.1) g)) xs i y e
+                  (λ q. eq_if_both o (val y) g (le_if_not_lt o g (val y) (s ∙ not_lt_if_le o old g (le_if_eq o old g q)))
+                  (le_le o g old (val y) (le_if_eq o g old (eq_back o old g q)) rises)) k.0,
+              wider (has_reached eq cmp compared xs g) (has_reached eq cmp compared (set xs i y) g) (reached_set g) k.1,
+            )
           ]
 
       pub granted_same : (d g : P) (ys : List (K × V)) → is_lt (cmp g (val y)) ≡ is_lt (cmp g old) → IsPermutation (set xs i y) ys → Granted d g xs → Granted d g ys
@@ -406,11 +415,12 @@ module _ {K V P : Type 0} (eq : K → K → Bool) {cmp : P → P → Ordering} (
           elim a [
             | inl k ↦ inl k
             | inr k ↦ inr (
-                let more = wider (has_reached eq cmp compared xs g) (has_reached eq cmp compared (set xs i y) g) (reached_set g) k.1 in
-                (bool_cases (some_equal (set xs i y) g) (λ u. u)
-                (λ u. not_both (some_above (set xs i y) g) (some_above_set g xs i within l)
-                (q (wider (has_reached eq cmp compared (set xs i y) g) (has_above (set xs i y) g) (reached_above g (set xs i y) (every_step_up g (set xs i y) (none_at_all (λ (x : K × V). is_eq (cmp (compared x.1) g)) (set xs i y) u))) more))),
-                more))
+                let more = wider (has_reached eq cmp compared xs g) (has_reached eq cmp compared (set xs i y) g) (reached_set g) k.1 in (
+                  bool_cases (some_equal (set xs i y) g) (λ u. u)
+                      (λ u. not_both (some_above (set xs i y) g) (some_above_set g xs i within l)
+                      (q (wider (has_reached eq cmp compared (set xs i y) g) (has_above (set xs i y) g) (reached_above g (set xs i y) (every_step_up g (set xs i y) (none_at_all (λ (x : K × V). is_eq (cmp (compared x.1) g)) (set xs i y) u))) more))),
+                  more,
+                ))
           ]
 
       -- an update past what is granted that finds no quorum
@@ -444,8 +454,9 @@ module _ {K V P : Type 0} (eq : K → K → Bool) {cmp : P → P → Ordering} (
 
   pub built_granted : (accepts : (K → Bool) → Bool) (ids : List K) → IsGranted eq cmp compared accepts (compared v) (compared v) (map beside ids)
   built_granted accepts ids =
-      let xs = map beside ids in
-      (or_left (is_eq (cmp (compared v) (compared v))) (list_any (λ p. is_eq (cmp p (compared v))) (reached_values eq cmp compared accepts xs)) (eq_self o (compared v)),
-      and_both (is_le (cmp (compared v) (compared v))) (list_all (λ p. is_le (cmp p (compared v))) (reached_values eq cmp compared accepts xs)) (le_self o (compared v))
-      (all_filtered (λ p. accepts (has_reached eq cmp compared xs p)) (λ p. is_le (cmp p (compared v))) (value_of compared) xs
-      (every_beside (λ x. accepts (has_reached eq cmp compared xs (compared x.1)) ≡ true → is_le (cmp (compared x.1) (compared v)) ≡ true) (λ _ _. le_self o (compared v)) ids)))
+      let xs = map beside ids in (
+        or_left (is_eq (cmp (compared v) (compared v))) (list_any (λ p. is_eq (cmp p (compared v))) (reached_values eq cmp compared accepts xs)) (eq_self o (compared v)),
+        and_both (is_le (cmp (compared v) (compared v))) (list_all (λ p. is_le (cmp p (compared v))) (reached_values eq cmp compared accepts xs)) (le_self o (compared v))
+            (all_filtered (λ p. accepts (has_reached eq cmp compared xs p)) (λ p. is_le (cmp p (compared v))) (value_of compared) xs
+            (every_beside (λ x. accepts (has_reached eq cmp compared xs (compared x.1)) ≡ true → is_le (cmp (compared x.1) (compared v)) ≡ true) (λ _ _. le_self o (compared v)) ids)),
+      )

@@ -5,8 +5,12 @@ use Rattle.std.specs.List.{position, position_or_len, prefix_len}
 use Rattle.std.proofs.Math.ListN.{set}
 use borrow.Author.Tests.{ltb-true, ltb-false}
 use Rattle.raft_state.specs.Nodes.{has_node}
-use Rattle.raft_progress.specs.Values.{value_at, with_value}
-use Rattle.raft_progress.proofs.OrderLemmas.{bool_cases}
+use Rattle.std.specs.declared.cmp.Ordering.{Ordering}
+use Rattle.std.specs.Ordering.{is_le}
+use Rattle.std.specs.Cmp.{IsTotalOrder}
+use Rattle.std.specs.Option.{option_or, IfSome}
+use Rattle.raft_progress.specs.Values.{value_at, with_value, rises_above}
+use Rattle.raft_progress.proofs.OrderLemmas.{le_if_lt}
 
 is_place : (b : Bool) (n at : ℕ) → Some at ≡ cond b (Some n) None → (b ≡ true) × (at ≡ n)
 is_place true n at e = (refl, cc e)
@@ -29,8 +33,8 @@ module _ {K V : Type 0} (eq : K → K → Bool) (id : K) where
   first_place [] d v h = absurd (omega arith)
   first_place (x ∷ xs) d v h =
       elim (eq x.0 id) as (λ b. cond (not b) (1 + position_or_len is_id xs) 0 < suc (length xs) →
-        (cond b ((x.0, v) ∷ xs) (x ∷ with_value eq xs id v) ≡ set (x ∷ xs) (cond (not b) (1 + position_or_len is_id xs) 0) ((get_or (x ∷ xs) (cond (not b) (1 + position_or_len is_id xs) 0) d).0, v))
-        × (cond b (Some x.1) (value_at eq xs id) ≡ Some (get_or (x ∷ xs) (cond (not b) (1 + position_or_len is_id xs) 0) d).1) × ((b || has_node eq xs id) ≡ true)) [
+      (cond b ((x.0, v) ∷ xs) (x ∷ with_value eq xs id v) ≡ set (x ∷ xs) (cond (not b) (1 + position_or_len is_id xs) 0) ((get_or (x ∷ xs) (cond (not b) (1 + position_or_len is_id xs) 0) d).0, v))
+      × (cond b (Some x.1) (value_at eq xs id) ≡ Some (get_or (x ∷ xs) (cond (not b) (1 + position_or_len is_id xs) 0) d).1) × ((b || has_node eq xs id) ≡ true)) [
         | true ↦ λ k. (refl, refl, refl)
         | false ↦ λ k.
             let w = first_place xs d v (omega arith) in
@@ -43,7 +47,7 @@ module _ {K V : Type 0} (eq : K → K → Bool) (id : K) where
   no_place [] v h = (refl, refl, refl)
   no_place (x ∷ xs) v h =
       elim (eq x.0 id) as (λ b. suc (length xs) ≤ cond (not b) (1 + position_or_len is_id xs) 0 →
-        (cond b ((x.0, v) ∷ xs) (x ∷ with_value eq xs id v) ≡ x ∷ xs) × (cond b (Some x.1) (value_at eq xs id) ≡ None) × ((b || has_node eq xs id) ≡ false)) [
+      (cond b ((x.0, v) ∷ xs) (x ∷ with_value eq xs id v) ≡ x ∷ xs) × (cond b (Some x.1) (value_at eq xs id) ≡ None) × ((b || has_node eq xs id) ≡ false)) [
         | true ↦ λ k. absurd (omega arith)
         | false ↦ λ k. let w = no_place xs v (omega arith) in (ap (λ l. x ∷ l) w.0, w.1, w.2)
       ] h
@@ -90,3 +94,8 @@ module _ {K V : Type 0} (eq : K → K → Bool) (id : K) where
 pub some_of : {X : Type 0} {G : Type 0} (xs : List X) (i : ℕ) → i < length xs → (X → G) → G
 some_of [] i h f = absurd (omega arith)
 some_of (x ∷ xs) i h f = f x
+
+-- a value that rises above the one of a voter or a learner is no less than the voter's
+pub rises_voter : {V P : Type 0} {cmp : P → P → Ordering} (o : IsTotalOrder cmp) (compared : V → P) (voter learner : Option V) (value : V) → rises_above cmp compared (option_or voter learner) value ≡ true → IfSome voter (λ v. is_le (cmp (compared v) (compared value)) ≡ true)
+rises_voter o compared None learner value h = tt
+rises_voter o compared (Some v) learner value h = le_if_lt o (compared v) (compared value) h

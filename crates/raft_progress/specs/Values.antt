@@ -1,5 +1,7 @@
 -- The values beside ids.
-use Rattle.std.specs.Prelude.{Bool, cond, Option, Some, None, List, [], ◌∷◌}
+use Rattle.std.specs.declared.cmp.Ordering.{Ordering}
+use Rattle.std.specs.Ordering.{is_lt}
+use Rattle.std.specs.Prelude.{Bool, false, cond, Option, Some, None, List, [], ◌∷◌}
 
 module _ {K V : Type 0} (eq : K → K → Bool) where
   -- the value beside the id
@@ -11,3 +13,8 @@ module _ {K V : Type 0} (eq : K → K → Bool) where
   abbrev pub with_value : List (K × V) → K → V → List (K × V)
   with_value [] id v = []
   with_value (x ∷ xs) id v = cond (eq x.0 id) ((x.0, v) ∷ xs) (x ∷ with_value xs id v)
+
+-- there is a value, and the new one is above it
+abbrev pub rises_above : {V P : Type 0} → (P → P → Ordering) → (V → P) → Option V → V → Bool
+rises_above cmp compared None value = false
+rises_above cmp compared (Some before) value = is_lt (cmp (compared before) (compared value))

@@ -1,6 +1,7 @@
 //! Values beside ids, in a list.
 ghost use Rattle.std.specs.Prelude.{◌≡◌, ◌<◌, true, false, length, Some, None, IfSome, IfNone, IfOk, map, is_some, slice_set, slice_index_or};
 ghost use Rattle.std.specs.List.{position};
+ghost use Rattle.std.specs.Option.{option_copied};
 ghost use Rattle.raft_state.specs.Nodes.{has_node};
 ghost use Rattle.raft_progress.specs.Values.{value_at, with_value};
 
@@ -40,4 +41,16 @@ pub(crate) fn beside<ID: NodeId, V: Copy>(
         entries.push((*id, value))?;
     }
     Ok(entries)
+}
+
+// The value of the id.
+pub(crate) fn value_in<'a, ID: NodeId, V>(entries: &'a [(ID, V)], id: &ID) -> Option<&'a V>
+    ensures { option_copied result ≡ value_at ID.eq entries.now id.now }
+{
+    for entry in entries {
+        if entry.0 == *id {
+            return Some(&entry.1);
+        }
+    }
+    None
 }

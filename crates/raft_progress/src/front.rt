@@ -23,7 +23,7 @@ impl<'a, ID: NodeId, V> HasId<ID> for Front<'a, ID, V> {
 }
 
 // Whether a is below b.
-fn is_below<P: Ord>(a: &P, b: &P) -> bool
+pub(crate) fn is_below<P: Ord>(a: &P, b: &P) -> bool
     ensures { result ≡ is_lt (P.cmp a.now b.now) }
 {
     a < b

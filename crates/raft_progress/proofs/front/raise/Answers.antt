@@ -27,7 +27,7 @@ pub returns-then-was_above-clause-granted : goal.returns-then-was_above-clause-g
 returns-then-was_above-clause-granted g c default f h =
     let d = c.index-voters-index.result in
     let is_old : c.is_below-was_above.result ≡ is_lt (g.P.Ord.cmp c.args.granted (g.V.Borrow.borrowed (get_or c.args.voters.now c.args.index d).1)) =
-      c.is_below-was_above.ensures ∙ ap (λ p. is_lt (g.P.Ord.cmp c.args.granted p)) (c.borrow.ensures ∙ ap (λ (z : g.row.ID.Denot × g.row.V.Denot). g.V.Borrow.borrowed z.1) (at_any c.args.voters.now c.args.index c.index-voters-index-2.result d c.requires.within)) in
+    c.is_below-was_above.ensures ∙ ap (λ p. is_lt (g.P.Ord.cmp c.args.granted p)) (c.borrow.ensures ∙ ap (λ (z : g.row.ID.Denot × g.row.V.Denot). g.V.Borrow.borrowed z.1) (at_any c.args.voters.now c.args.index c.index-voters-index-2.result d c.requires.within)) in
     granted_same g.ID.PartialEq.eq g.met.P.Ord.total g.V.Borrow.borrowed (g.QS.QuorumSet.accepts c.args.quorum_set.now) (λ p r w k. g.met.QS.QuorumSet.superset c.args.quorum_set.now p r w k)
     c.args.voters.now c.args.index ((get_or c.args.voters.now c.args.index d).0, c.args.value) d c.requires.within refl (c.requires.rises d)
     default c.args.granted c.move_up-at.new.voters
@@ -44,7 +44,7 @@ pub returns-in-Some-clause-granted : goal.returns-in-Some-clause-granted
 returns-in-Some-clause-granted g c default f h =
     let d = c.index-voters-index.result in
     let new_above : is_lt (g.P.Ord.cmp c.args.granted (g.V.Borrow.borrowed c.args.value)) ≡ true =
-      ap (λ p. is_lt (g.P.Ord.cmp c.args.granted p)) (sym c.borrow-else-was_above.ensures) ∙ sym c.is_below.ensures ∙ c.if-not-is_below.false in
+    ap (λ p. is_lt (g.P.Ord.cmp c.args.granted p)) (sym c.borrow-else-was_above.ensures) ∙ sym c.is_below.ensures ∙ c.if-not-is_below.false in
     let falls = returns-in-Some-clause-falling g c f in
     let e = c.index-voters-end.result in
     subst (λ p. IsGranted g.ID.PartialEq.eq g.P.Ord.cmp g.V.Borrow.borrowed (g.QS.QuorumSet.accepts c.args.quorum_set.now) default p c.move_up-at.new.voters) (sym c.borrow-in-Some.ensures)
@@ -61,7 +61,7 @@ pub returns-in-None-clause-granted : goal.returns-in-None-clause-granted
 returns-in-None-clause-granted g c default f h =
     let d = c.index-voters-index.result in
     let new_above : is_lt (g.P.Ord.cmp c.args.granted (g.V.Borrow.borrowed c.args.value)) ≡ true =
-      ap (λ p. is_lt (g.P.Ord.cmp c.args.granted p)) (sym c.borrow-else-was_above.ensures) ∙ sym c.is_below.ensures ∙ c.if-not-is_below.false in
+    ap (λ p. is_lt (g.P.Ord.cmp c.args.granted p)) (sym c.borrow-else-was_above.ensures) ∙ sym c.is_below.ensures ∙ c.if-not-is_below.false in
     let falls = returns-in-None-clause-falling g c f in
     granted_stopped g.ID.PartialEq.eq g.met.P.Ord.total g.V.Borrow.borrowed (g.QS.QuorumSet.accepts c.args.quorum_set.now) (λ p r w k. g.met.QS.QuorumSet.superset c.args.quorum_set.now p r w k)
     c.args.voters.now c.args.index ((get_or c.args.voters.now c.args.index d).0, c.args.value) d c.requires.within refl (c.requires.rises d)

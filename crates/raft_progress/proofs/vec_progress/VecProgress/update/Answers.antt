@@ -18,10 +18,10 @@ raise-self-requires-clause-rises g c =
 pub returns-in-Some-clause-voters : goal.returns-in-Some-clause-voters
 returns-in-Some-clause-voters g c =
     let moved : IsPermutation (with_value g.ID.PartialEq.eq c.args.self.now.voters.items c.args.id.now c.args.value) c.raise-self.new.voters =
-      some_of c.as_slice.result.now c.in-Some.at c.in-Some.ensures.within
-      (λ x. subst (λ l. IsPermutation l c.raise-self.new.voters)
-      (ap (λ l. set l c.in-Some.at ((get_or l c.in-Some.at x).0, c.args.value)) (c.as_mut_slice-voters.ensures.value ∙ sym c.as_slice.ensures.value)
-      ∙ sym (c.in-Some.ensures.with_value x c.args.value)
-      ∙ ap (λ l. with_value g.ID.PartialEq.eq l c.args.id.now c.args.value) c.as_slice.ensures.value)
-      (c.raise-self.ensures.values x)) in
+    some_of c.as_slice.result.now c.in-Some.at c.in-Some.ensures.within
+    (λ x. subst (λ l. IsPermutation l c.raise-self.new.voters)
+    (ap (λ l. set l c.in-Some.at ((get_or l c.in-Some.at x).0, c.args.value)) (c.as_mut_slice-voters.ensures.value ∙ sym c.as_slice.ensures.value)
+    ∙ sym (c.in-Some.ensures.with_value x c.args.value)
+    ∙ ap (λ l. with_value g.ID.PartialEq.eq l c.args.id.now c.args.value) c.as_slice.ensures.value)
+    (c.raise-self.ensures.values x)) in
     first_of (search rules, search (rules, common_steps), grind (arith, common_steps))
