@@ -1,7 +1,8 @@
 -- The values beside ids.
 use Rattle.std.specs.declared.cmp.Ordering.{Ordering}
 use Rattle.std.specs.Ordering.{is_lt}
-use Rattle.std.specs.Prelude.{Bool, false, cond, Option, Some, None, List, [], ◌∷◌}
+use Rattle.raft_state.specs.Nodes.{has_id}
+use Rattle.std.specs.Prelude.{Bool, true, false, not, ◌&&◌, cond, Option, Some, None, List, [], ◌∷◌}
 
 module _ {K V : Type 0} (eq : K → K → Bool) where
   -- the value beside the id
@@ -18,3 +19,8 @@ module _ {K V : Type 0} (eq : K → K → Bool) where
 abbrev pub rises_above : {V P : Type 0} → (P → P → Ordering) → (V → P) → Option V → V → Bool
 rises_above cmp compared None value = false
 rises_above cmp compared (Some before) value = is_lt (cmp (compared before) (compared value))
+
+-- no id is there twice
+abbrev pub are_distinct : {K : Type 0} → (K → K → Bool) → List K → Bool
+are_distinct eq [] = true
+are_distinct eq (x ∷ xs) = not (has_id eq xs x) && are_distinct eq xs

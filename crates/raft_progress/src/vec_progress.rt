@@ -1,11 +1,11 @@
 //! The progress of all peers, and what a quorum of the voters has reached.
 ghost use Rattle.std.specs.Prelude.{◌≡◌, ◌||◌, true, false, length, Ok, Err, IfSome, IsSome, Some, None, map, IfOk, OnErr, IsPermutation, if◌then◌else◌};
 ghost use Rattle.std.specs.Ordering.{is_le};
-ghost use Rattle.std.specs.List.{list_any, IsDistinct};
+ghost use Rattle.std.specs.List.{list_any};
 ghost use Rattle.std.specs.Option.{option_copied, option_or};
 ghost use Rattle.raft_state.specs.Nodes.{has_id, has_node};
 ghost use Rattle.raft_progress.specs.Counted.{IsCounted};
-ghost use Rattle.raft_progress.specs.Values.{rises_above, value_at, with_value};
+ghost use Rattle.raft_progress.specs.Values.{are_distinct, rises_above, value_at, with_value};
 ghost use Rattle.raft_progress.specs.Granted.{IsFalling, IsGranted};
 
 use crate::borrow::Borrow;
@@ -38,7 +38,7 @@ impl<ID: NodeId, V: Copy + Borrow<P>, P: Copy + Ord, QS: QuorumSet<ID> + Drop> V
         learner_ids: &[ID],
         default_value: V,
     ) -> Result<VecProgress<ID, V, P, QS>, AllocError>
-        requires distinct { IsDistinct ID.eq learner_ids.now }
+        requires distinct { are_distinct ID.eq learner_ids.now ≡ true }
         requires no_voters { list_any (has_id ID.eq (QS.members quorum_set)) learner_ids.now ≡ false }
         ensures quorum_set { IfOk result (λ p. p.quorum_set ≡ quorum_set) }
         ensures built_with { IfOk result (λ p. p.built_with ≡ V.borrowed default_value) }
