@@ -1,0 +1,4 @@
+pub mod OrderLemmas
+pub mod FallingLemmas
+pub mod GrantedLemmas
+pub mod ValuesLemmas

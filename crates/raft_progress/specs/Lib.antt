@@ -1,0 +1,4 @@
+pub mod Granted
+pub mod Search
+pub mod Values
+pub mod Counted

@@ -1,0 +1,26 @@
+-- The values beside ids.
+use Rattle.std.specs.declared.cmp.Ordering.{Ordering}
+use Rattle.std.specs.Ordering.{is_lt}
+use Rattle.raft_state.specs.Nodes.{has_id}
+use Rattle.std.specs.Prelude.{Bool, true, false, not, ◌&&◌, cond, Option, Some, None, List, [], ◌∷◌}
+
+module _ {K V : Type 0} (eq : K → K → Bool) where
+  -- the value beside the id
+  abbrev pub value_at : List (K × V) → K → Option V
+  value_at [] id = None
+  value_at (x ∷ xs) id = cond (eq x.0 id) (Some x.1) (value_at xs id)
+
+  -- the list with this value beside the id
+  abbrev pub with_value : List (K × V) → K → V → List (K × V)
+  with_value [] id v = []
+  with_value (x ∷ xs) id v = cond (eq x.0 id) ((x.0, v) ∷ xs) (x ∷ with_value xs id v)
+
+-- there is a value, and the new one is above it
+abbrev pub rises_above : {V P : Type 0} → (P → P → Ordering) → (V → P) → Option V → V → Bool
+rises_above cmp compared None value = false
+rises_above cmp compared (Some before) value = is_lt (cmp (compared before) (compared value))
+
+-- no id is there twice
+abbrev pub are_distinct : {K : Type 0} → (K → K → Bool) → List K → Bool
+are_distinct eq [] = true
+are_distinct eq (x ∷ xs) = not (has_id eq xs x) && are_distinct eq xs

@@ -1,0 +1,20 @@
+//! What of a value is compared.
+ghost use Rattle.std.specs.Prelude.{◌≡◌};
+
+/// What of a value is compared (openraft takes std's `Borrow`).
+pub trait Borrow<P> {
+    // The part that is compared.
+    ghost borrowed: { Self → P };
+
+    /// The part of the value that is compared.
+    fn borrow(&self) -> &P
+        ensures { result.now ≡ borrowed self.now };
+}
+
+impl Borrow<u64> for u64 {
+    ghost borrowed = { λ x. x };
+
+    fn borrow(&self) -> &u64 {
+        self
+    }
+}

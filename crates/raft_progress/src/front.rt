@@ -1,0 +1,113 @@
+//! The voters in falling order of their values, and the search for a quorum in front of them.
+ghost use Rattle.std.specs.Prelude.{◌≡◌, ◌<◌, ◌≤◌, ◌&&◌, ◌-◌, length, slice_set, slice_index_or, take, true, IfSome, IfNone, IsPermutation};
+ghost use Rattle.std.specs.Ordering.{is_le, is_lt};
+ghost use Rattle.raft_state.specs.Nodes.{has_node};
+ghost use Rattle.raft_progress.specs.Granted.{IsFalling, IsGranted, IsFallingBut};
+ghost use Rattle.raft_progress.specs.Search.{EndsQuorum, HasNoQuorum};
+
+use crate::borrow::Borrow;
+use raft_state::{HasId, NodeId, QuorumSet};
+
+// The ids of these entries, as a set.
+#[derive(Drop)]
+struct Front<'a, ID, V> {
+    entries: &'a [(ID, V)],
+}
+
+impl<'a, ID: NodeId, V> HasId<ID> for Front<'a, ID, V> {
+    ghost has = { λ f. has_node ID.eq f.entries.now };
+
+    fn has_id(&self, id: &ID) -> bool {
+        self.entries.iter().any(|entry| entry.0 == *id)
+    }
+}
+
+// Whether a is below b.
+pub(crate) fn is_below<P: Ord>(a: &P, b: &P) -> bool
+    ensures { result ≡ is_lt (P.cmp a.now b.now) }
+{
+    a < b
+}
+
+// Whether the entry at the index is above the one before it.
+fn rises_at<ID: NodeId, V: Borrow<P>, P: Ord>(voters: &[(ID, V)], at: usize) -> bool
+    requires after_one { 0 < at }
+    requires within { at < length voters.now }
+    ensures { (d : ID × V) → result ≡ is_lt (P.cmp (V.borrowed (slice_index_or voters.now (at - 1) d).1) (V.borrowed (slice_index_or voters.now at d).1)) }
+{
+    is_below(voters[at - 1].1.borrow(), voters[at].1.borrow())
+}
+
+// Moves the entry at the index up past the lesser ones, and answers its new index.
+fn move_up<ID: NodeId, V: Copy + Borrow<P>, P: Copy + Ord>(
+    voters: &mut [(ID, V)],
+    index: usize,
+) -> usize
+    requires { index < length voters.old }
+    ensures permutation { IsPermutation voters.old voters.new }
+    ensures place { result ≤ index }
+    ensures front { take result voters.new ≡ take result voters.old }
+    ensures entry { (d : ID × V) → slice_index_or voters.new result d ≡ slice_index_or voters.old index d }
+    ensures falling { IsFallingBut P.cmp V.borrowed index voters.old → IsFalling P.cmp V.borrowed voters.new }
+{
+    let mut at = index;
+    while at > 0 && rises_at(voters, at) {
+        voters.swap(at - 1, at);
+        at -= 1;
+    }
+    at
+}
+
+// The first index from `from` on where those in front of it and the entry itself are a quorum,
+// among the entries above what is granted.
+fn find_quorum<ID: NodeId, V: Borrow<P>, P: Ord, QS: QuorumSet<ID>>(
+    quorum_set: &QS,
+    voters: &[(ID, V)],
+    from: usize,
+    granted: &P,
+) -> Option<usize>
+    requires { from ≤ length voters.now }
+    ensures found { IfSome result (EndsQuorum ID.eq P.cmp V.borrowed (QS.accepts quorum_set.now) voters.now from granted.now) }
+    ensures none { IfNone result (HasNoQuorum ID.eq P.cmp V.borrowed (QS.accepts quorum_set.now) voters.now from granted.now) }
+{
+    for at in from..voters.len() {
+        if !is_below(granted, voters[at].1.borrow()) {
+            return None;
+        }
+        let front = Front {
+            entries: &voters[..at + 1],
+        };
+        if quorum_set.is_quorum(&front) {
+            return Some(at);
+        }
+    }
+    None
+}
+
+// Sets the value at the index, which is no less than the one there, and answers what is granted
+// from then on.
+pub(crate) fn raise<ID: NodeId, V: Copy + Borrow<P>, P: Copy + Ord, QS: QuorumSet<ID>>(
+    quorum_set: &QS,
+    granted: P,
+    voters: &mut [(ID, V)],
+    index: usize,
+    value: V,
+) -> P
+    requires within { index < length voters.old }
+    requires rises { (x : ID × V) → is_le (P.cmp (V.borrowed (slice_index_or voters.old index x).1) (V.borrowed value)) ≡ true }
+    ensures values { (x : ID × V) → IsPermutation (slice_set voters.old index ((slice_index_or voters.old index x).0, value)) voters.new }
+    ensures falling { IsFalling P.cmp V.borrowed voters.old → IsFalling P.cmp V.borrowed voters.new }
+    ensures granted { (default : P) → IsFalling P.cmp V.borrowed voters.old → IsGranted ID.eq P.cmp V.borrowed (QS.accepts quorum_set.now) default granted voters.old → IsGranted ID.eq P.cmp V.borrowed (QS.accepts quorum_set.now) default result voters.new }
+{
+    let (id, before) = voters[index];
+    voters[index] = (id, value);
+    let at = move_up(voters, index);
+    let was_above = is_below(&granted, before.borrow());
+    if was_above || !is_below(&granted, value.borrow()) {
+        return granted;
+    }
+    match find_quorum(quorum_set, voters, at, &granted) {
+        Some(end) => *voters[end].1.borrow(),
+        None => granted,
+    }
+}
