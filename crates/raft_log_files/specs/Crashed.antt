@@ -29,7 +29,8 @@ AreGenuine choice fs = AllByRecursion (λ f. IsFileGenuine choice f) fs
 -- each file as the choice leaves it
 abbrev pub AreCrashed : CrashChoice → List MemoryFile → List MemoryFile → Type 0
 AreCrashed choice [] [] = Unit {0}
-AreCrashed choice (f ∷ fs) (g ∷ gs) = (string_bytes g.path ≡ string_bytes f.path) × (g.number ≡ f.number) × (state_of g ≡ settled (state_of f) (chosen_in choice f)) × AreCrashed choice fs gs
+AreCrashed choice (f ∷ fs) (g ∷ gs) = (string_bytes g.path ≡ string_bytes f.path) × (g.number ≡ f.number)
+    × (state_of g ≡ settled (state_of f) (chosen_in choice f)) × AreCrashed choice fs gs
 AreCrashed choice [] (g ∷ gs) = ⊥
 AreCrashed choice (f ∷ fs) [] = ⊥
 

@@ -57,7 +57,9 @@ AreAmong ps qs = AllByRecursion (λ p. IsIn p qs) ps
 abbrev pub NamesFiles : CrashChoice → List (List ℕ × ℕ) → Type 0
 NamesFiles Least names = Unit {0}
 NamesFiles Most names = Unit {0}
-NamesFiles (Bytes bs) names = (length bs.items ≡ length names) × AreAmong (map (λ b. string_bytes b.path) bs.items) (map (λ e. e.0) names) × AreAmong (map (λ e. e.0) names) (map (λ b. string_bytes b.path) bs.items)
+NamesFiles (Bytes bs) names = (length bs.items ≡ length names)
+    × AreAmong (map (λ b. string_bytes b.path) bs.items) (map (λ e. e.0) names)
+    × AreAmong (map (λ e. e.0) names) (map (λ b. string_bytes b.path) bs.items)
 
 -- the choice is an image
 abbrev pub IsImageOf : CrashChoice → Disk → Type 0

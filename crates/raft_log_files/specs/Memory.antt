@@ -1,5 +1,6 @@
 -- What a file system in memory stands for.
-use Rattle.std.specs.Prelude.{◌≡◌, ℕ, ◌+◌, ◌-◌, ◌^◌, List, [], ◌∷◌, ◌++◌, map, take, drop, length, sum_by, Vec, String, Option, Some, None, is_some, ◌==◌, if◌then◌else◌}
+use Rattle.std.specs.Prelude.{◌≡◌, ℕ, ◌+◌, ◌-◌, ◌^◌, List, [], ◌∷◌, ◌++◌, map, take, drop, length, sum_by, Vec, String, Option}
+use Rattle.std.specs.Prelude.{Some, None, is_some, ◌==◌, if◌then◌else◌}
 use Rattle.std.specs.String.{string_bytes}
 use Rattle.std.specs.declared.alloc.Global.{Global}
 use Rattle.raft_log_files.specs.declared.memory_file.MemoryFile.{MemoryFile}

@@ -60,10 +60,12 @@ pub trait CrashFiles: FileSystem {
     fn crash(&mut self, choice: &CrashChoice) -> Result<(), CrashRefusal>
         ensures image { OnOk result (IsImageOf choice.now (Self.FileSystem.disk self.old)) }
         ensures genuine { OnOk result (IsGenuineImage (Self.FileSystem.disk self.old) (image_of choice.now (Self.FileSystem.disk self.old).names (Self.FileSystem.disk self.old).file)) }
-        ensures crashed { OnOk result (Self.FileSystem.disk self.new ≡ after_crash (Self.FileSystem.disk self.old) (image_of choice.now (Self.FileSystem.disk self.old).names (Self.FileSystem.disk self.old).file)) }
+        ensures crashed { OnOk result (Self.FileSystem.disk self.new ≡ after_crash (Self.FileSystem.disk self.old)
+            (image_of choice.now (Self.FileSystem.disk self.old).names (Self.FileSystem.disk self.old).file)) }
         ensures not_an_image { result ≡ Err NotAnImage → IsImageOf choice.now (Self.FileSystem.disk self.old) → ⊥ }
         ensures is_an_image { result ≡ Err ByChance → IsImageOf choice.now (Self.FileSystem.disk self.old) }
-        ensures by_chance { result ≡ Err ByChance → IsGenuineImage (Self.FileSystem.disk self.old) (image_of choice.now (Self.FileSystem.disk self.old).names (Self.FileSystem.disk self.old).file) → ⊥ }
+        ensures by_chance { result ≡ Err ByChance → IsGenuineImage (Self.FileSystem.disk self.old) (image_of choice.now (Self.FileSystem.disk self.old).names (Self.FileSystem.disk self.old).file)
+            → ⊥ }
         ensures err { OnErr result (Self.FileSystem.disk self.new ≡ Self.FileSystem.disk self.old) }
         ensures meter { Self.FileSystem.meter self.new ≡ Self.FileSystem.meter self.old };
 
@@ -73,5 +75,6 @@ pub trait CrashFiles: FileSystem {
         ensures genuine { OnOk result (IsGenuineImage (Self.FileSystem.disk self.now) (image_of choice.now (Self.FileSystem.disk self.now).names (Self.FileSystem.disk self.now).file)) }
         ensures not_an_image { result ≡ Err NotAnImage → IsImageOf choice.now (Self.FileSystem.disk self.now) → ⊥ }
         ensures is_an_image { result ≡ Err ByChance → IsImageOf choice.now (Self.FileSystem.disk self.now) }
-        ensures by_chance { result ≡ Err ByChance → IsGenuineImage (Self.FileSystem.disk self.now) (image_of choice.now (Self.FileSystem.disk self.now).names (Self.FileSystem.disk self.now).file) → ⊥ };
+        ensures by_chance { result ≡ Err ByChance → IsGenuineImage (Self.FileSystem.disk self.now) (image_of choice.now (Self.FileSystem.disk self.now).names (Self.FileSystem.disk self.now).file)
+            → ⊥ };
 }

@@ -1,6 +1,7 @@
 //! What a log asks of a file system.
 
-ghost use Rattle.std.specs.Prelude.{◌≡◌, ◌⊎◌, ◌≤◌, ◌+◌, ◌-◌, List, ℕ, Option, Some, None, Bool, false, length, take, drop, map, is_some, IsTrue, IfOk, IfErr, OnOk, OnErr, IsErr, IsErrOf};
+ghost use Rattle.std.specs.Prelude.{◌≡◌, ◌⊎◌, ◌≤◌, ◌+◌, ◌-◌, List, ℕ, Option, Some, None, Bool, false, length, take, drop, map};
+ghost use Rattle.std.specs.Prelude.{is_some, IsTrue, IfOk, IfErr, OnOk, OnErr, IsErr, IsErrOf};
 ghost use Rattle.std.specs.Prelude.{◌↔◌, ◌++◌, replicate, min, ◌^◌, IsPermutation, IsSorted};
 ghost use Rattle.std.specs.String.{string_bytes, string_cmp};
 ghost use Rattle.raft_log_files.specs.declared.fault.IoFault.TheVariants.{Memory, NotFound, Refused};
@@ -108,7 +109,8 @@ pub trait FileSystem: Send + Sync {
             (put ((disk self.old).file fd.0).bytes at bytes.now))) }
         ensures err { OnErr result ((disk self.new ≡ disk self.old) ⊎ RefusedWrite (disk self.old) (disk self.new) fd.0 at bytes.now) }
         ensures unchanged { UnlessRefused result (disk self.new ≡ disk self.old) }
-        ensures cause { HasCause (IsNoFile (disk self.old) fd.0) (LacksRoom (room self.old) (disk self.old) fd.0 (at + length bytes.now - length ((disk self.old).file fd.0).bytes)) (meter self.old) (meter self.new) result }
+        ensures cause { HasCause (IsNoFile (disk self.old) fd.0) (LacksRoom (room self.old) (disk self.old) fd.0
+            (at + length bytes.now - length ((disk self.old).file fd.0).bytes)) (meter self.old) (meter self.new) result }
         ensures call { IsOneCall (meter self.old) (meter self.new) result };
 
     /// Cuts a file to a length in bytes, or fills it up to it with zeros.
@@ -117,7 +119,8 @@ pub trait FileSystem: Send + Sync {
             (resized ((disk self.old).file fd.0).bytes len))) }
         ensures err { OnErr result ((disk self.new ≡ disk self.old) ⊎ RefusedTruncate (disk self.old) (disk self.new) fd.0 len) }
         ensures unchanged { UnlessRefused result (disk self.new ≡ disk self.old) }
-        ensures cause { HasCause (IsNoFile (disk self.old) fd.0) (LacksRoom (room self.old) (disk self.old) fd.0 (len - length ((disk self.old).file fd.0).bytes)) (meter self.old) (meter self.new) result }
+        ensures cause { HasCause (IsNoFile (disk self.old) fd.0) (LacksRoom (room self.old) (disk self.old) fd.0 (len - length
+            ((disk self.old).file fd.0).bytes)) (meter self.old) (meter self.new) result }
         ensures call { IsOneCall (meter self.old) (meter self.new) result };
 
     /// Makes room for bytes from a place on: where the file ends before, zeros stand there.
@@ -127,7 +130,8 @@ pub trait FileSystem: Send + Sync {
             (filled ((disk self.old).file fd.0).bytes (at + len)))) }
         ensures err { OnErr result ((disk self.new ≡ disk self.old) ⊎ RefusedAllocate (disk self.old) (disk self.new) fd.0 at len) }
         ensures unchanged { UnlessRefused result (disk self.new ≡ disk self.old) }
-        ensures cause { HasCause (IsNoFile (disk self.old) fd.0) (LacksRoom (room self.old) (disk self.old) fd.0 (at + len - length ((disk self.old).file fd.0).bytes)) (meter self.old) (meter self.new) result }
+        ensures cause { HasCause (IsNoFile (disk self.old) fd.0) (LacksRoom (room self.old) (disk self.old) fd.0
+            (at + len - length ((disk self.old).file fd.0).bytes)) (meter self.old) (meter self.new) result }
         ensures call { IsOneCall (meter self.old) (meter self.new) result };
 
     /// After it, a crash leaves of the file what a read gives.

@@ -153,7 +153,8 @@ pub fn read_record(
     // What is read is spelled so, each byte of it, with both checksums.
     ensures found { IfOk result (λ r. IsRecordAt signature bytes.now (with_bytes r.entries.now (items_of r.batch.items.items)) r.len) }
     // What is spelled so is read, whatever follows it, unless memory runs out.
-    ensures only { (items : List (Item (List ℕ))) (rest : List ℕ) → IsSignature signature → AreItems items → bytes.now ≡ spell_record signature items ++ rest → Finds result items (record_len items) }
+    ensures only { (items : List (Item (List ℕ))) (rest : List ℕ) → IsSignature signature → AreItems items
+        → bytes.now ≡ spell_record signature items ++ rest → Finds result items (record_len items) }
     // Which fault it is.
     ensures exact { Gives (λ r. (items_of r.batch.items.items, r.entries.now, r.len)) result (record_at signature bytes.now) }
 {

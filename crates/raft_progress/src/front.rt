@@ -97,7 +97,9 @@ pub(crate) fn raise<ID: NodeId, V: Copy + Borrow<P>, P: Copy + Ord, QS: QuorumSe
     requires rises { (x : ID × V) → is_le (P.cmp (V.borrowed (slice_index_or voters.old index x).1) (V.borrowed value)) ≡ true }
     ensures values { (x : ID × V) → IsPermutation (slice_set voters.old index ((slice_index_or voters.old index x).0, value)) voters.new }
     ensures falling { IsFalling P.cmp V.borrowed voters.old → IsFalling P.cmp V.borrowed voters.new }
-    ensures granted { (default : P) → IsFalling P.cmp V.borrowed voters.old → IsGranted ID.eq P.cmp V.borrowed (QS.accepts quorum_set.now) default granted voters.old → IsGranted ID.eq P.cmp V.borrowed (QS.accepts quorum_set.now) default result voters.new }
+    ensures granted { (default : P) → IsFalling P.cmp V.borrowed voters.old
+        → IsGranted ID.eq P.cmp V.borrowed (QS.accepts quorum_set.now) default granted voters.old
+        → IsGranted ID.eq P.cmp V.borrowed (QS.accepts quorum_set.now) default result voters.new }
 {
     let (id, before) = voters[index];
     voters[index] = (id, value);

@@ -131,10 +131,13 @@ impl<ID: NodeId, V: Copy + Borrow<P>, P: Copy + Ord, QS: QuorumSet<ID> + Drop> V
     /// Sets the value of the id if that raises it, and answers what is granted: as an error where
     /// nobody has the id, and then nothing is changed (openraft).
     pub fn increase_to(&mut self, id: &ID, value: V) -> Result<P, P>
-        ensures voters { rises_above P.cmp V.borrowed (option_or (value_at ID.eq self.old.voters.items id.now) (value_at ID.eq self.old.learners.items id.now)) value ≡ true → IsPermutation (with_value ID.eq self.old.voters.items id.now value) self.new.voters.items }
-        ensures learners { rises_above P.cmp V.borrowed (option_or (value_at ID.eq self.old.voters.items id.now) (value_at ID.eq self.old.learners.items id.now)) value ≡ true → has_node ID.eq self.old.voters.items id.now ≡ false → self.new.learners.items ≡ with_value ID.eq self.old.learners.items id.now value }
+        ensures voters { rises_above P.cmp V.borrowed (option_or (value_at ID.eq self.old.voters.items id.now) (value_at ID.eq self.old.learners.items id.now)) value ≡ true
+            → IsPermutation (with_value ID.eq self.old.voters.items id.now value) self.new.voters.items }
+        ensures learners { rises_above P.cmp V.borrowed (option_or (value_at ID.eq self.old.voters.items id.now) (value_at ID.eq self.old.learners.items id.now)) value ≡ true
+            → has_node ID.eq self.old.voters.items id.now ≡ false → self.new.learners.items ≡ with_value ID.eq self.old.learners.items id.now value }
         ensures learners_of_voter { has_node ID.eq self.old.voters.items id.now ≡ true → self.new.learners.items ≡ self.old.learners.items }
-        ensures unless_it_rises { rises_above P.cmp V.borrowed (option_or (value_at ID.eq self.old.voters.items id.now) (value_at ID.eq self.old.learners.items id.now)) value ≡ false → self.new ≡ self.old }
+        ensures unless_it_rises { rises_above P.cmp V.borrowed (option_or (value_at ID.eq self.old.voters.items id.now) (value_at ID.eq self.old.learners.items id.now)) value ≡ false
+            → self.new ≡ self.old }
         ensures counted { IsCounted ID.eq P.cmp V.borrowed QS.accepts self.old → IsCounted ID.eq P.cmp V.borrowed QS.accepts self.new }
         ensures learner_grants_nothing { has_node ID.eq self.old.voters.items id.now ≡ false → self.new.granted ≡ self.old.granted }
         ensures quorum_set { self.new.quorum_set ≡ self.old.quorum_set }

@@ -78,7 +78,8 @@ module _ {K : Type 0} (p r : K → Bool) where
       both_hold (is_majority p x) (is_quorum xs p) (is_majority r x) (is_quorum xs r) (wider_majority wider x) (wider_quorum wider xs) h
 
 -- a joint of sets whose wider sets are quorums is one too
-pub wider_joint : {K Q : Type 0} (accepts : Q → (K → Bool) → Bool) (p r : K → Bool) → ((q : Q) → accepts q p ≡ true → accepts q r ≡ true) → (sets : List Q) → list_all (λ q. accepts q p) sets ≡ true → list_all (λ q. accepts q r) sets ≡ true
+pub wider_joint : {K Q : Type 0} (accepts : Q → (K → Bool) → Bool) (p r : K → Bool) → ((q : Q) → accepts q p ≡ true
+    → accepts q r ≡ true) → (sets : List Q) → list_all (λ q. accepts q p) sets ≡ true → list_all (λ q. accepts q r) sets ≡ true
 wider_joint accepts p r wider [] h = refl
 wider_joint accepts p r wider (x ∷ xs) h =
     both_hold (accepts x p) (list_all (λ q. accepts q p) xs) (accepts x r) (list_all (λ q. accepts q r) xs) (wider x) (wider_joint accepts p r wider xs) h

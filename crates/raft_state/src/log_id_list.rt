@@ -2,7 +2,8 @@
 ghost use Rattle.std.specs.Prelude.{map, IsTrue, ◌↔◌, ◌≡◌, ◌+◌, ◌-◌, ◌<◌, ◌≤◌, [], ℕ, length, OnOk, OnErr, IfOk, slice_index_or};
 ghost use Rattle.std.specs.List.{slice_get};
 ghost use Rattle.std.specs.Option.{option_copied};
-ghost use Rattle.raft_state.specs.LogIdList.{ids_of, last_id, id_at, appended, truncated, purged, PlacesRise, AreKeys, GoesOn, Reaches, ends_in_pair, keys_of, of_leader, extended, AllGoOn, IsBelowNext, IsLedOn};
+ghost use Rattle.raft_state.specs.LogIdList.{ids_of, last_id, id_at, appended, truncated, purged, PlacesRise, AreKeys, GoesOn};
+ghost use Rattle.raft_state.specs.LogIdList.{Reaches, ends_in_pair, keys_of, of_leader, extended, AllGoOn, IsBelowNext, IsLedOn};
 
 use crate::log_id::LogId;
 use crate::node::NodeId;

@@ -10,7 +10,8 @@ three_ballot_nodes = record { voters = (1 ∷ 2 ∷ 3 ∷ []) ∷ []; owner = λ
 -- node 1 stands, node 2 grants and takes what node 1 wrote
 abbrev pub one_round : List BallotEvent
 one_round =
-    FoundGroup 1 ∷ FoundGroup 2 ∷ StandForElection 1 1 ∷ TakeRequest 0 2 ∷ WinElection 1 ∷ WriteEntry 1 (Normal (5 ∷ [])) ∷ SendEntries 1 0 2 0 ∷ TakeEntries 0 2 ∷ CommitPlace 1 1 ∷ []
+    FoundGroup 1 ∷ FoundGroup 2 ∷ StandForElection 1 1 ∷ TakeRequest 0 2 ∷ WinElection 1 ∷ WriteEntry 1 (Normal (5
+    ∷ [])) ∷ SendEntries 1 0 2 0 ∷ TakeEntries 0 2 ∷ CommitPlace 1 1 ∷ []
 
 abbrev pub both_entries : List BallotEntry
 both_entries = record { ballot = 0; payload = Normal (7 ∷ []) } ∷ record { ballot = 1; payload = Normal (5 ∷ []) } ∷ []

@@ -1,7 +1,9 @@
 -- Where an entry comes from, and what the events of one node leave alone.
 use Rattle.std.specs.Prelude.{◌≡◌, ℕ, List, ◌∷◌, ◌++◌, length, IsTrue}
 use Rattle.raft_world.specs.BallotLogs.{BallotEntry}
-use Rattle.raft_world.specs.BallotWorld.{BallotGroup, BallotWorld, BallotEvent, FoundGroup, StandForElection, TakeRequest, RaiseVote, WinElection, WriteEntry, CommitPlace, SendEntries, TakeEntries, CutForEntries, CutForSnapshot, CutForConflict, ForgetCommitted, is_ballot_leader, ballot_run}
+use Rattle.raft_world.specs.BallotWorld.{BallotGroup, BallotWorld, BallotEvent, FoundGroup, StandForElection, TakeRequest}
+use Rattle.raft_world.specs.BallotWorld.{RaiseVote, WinElection, WriteEntry, CommitPlace, SendEntries, TakeEntries, CutForEntries}
+use Rattle.raft_world.specs.BallotWorld.{CutForSnapshot, CutForConflict, ForgetCommitted, is_ballot_leader, ballot_run}
 
 -- one of the events wrote the entry at this place, at the leader of its ballot
 pub record IsBallotWritten (g : BallotGroup) (events : List BallotEvent) (w : BallotWorld) (place : ℕ) (x : BallotEntry) : Type 0 where

@@ -1,5 +1,6 @@
 -- The nodes of one group, what they sent, and what may happen next.
-use Rattle.std.specs.Prelude.{ℕ, suc, ◌+◌, ◌-◌, ◌==◌, ◌&&◌, ◌||◌, not, nat_lt, nat_le, if◌then◌else◌, Bool, true, false, List, [], ◌∷◌, ◌++◌, length, slice_get, Option, Some, None, take, drop, min, max}
+use Rattle.std.specs.Prelude.{ℕ, suc, ◌+◌, ◌-◌, ◌==◌, ◌&&◌, ◌||◌, not, nat_lt, nat_le, if◌then◌else◌, Bool, true, false, List, []}
+use Rattle.std.specs.Prelude.{◌∷◌, ◌++◌, length, slice_get, Option, Some, None, take, drop, min, max}
 use Rattle.std.specs.List.{list_any}
 use Rattle.raft_world.specs.BallotLists.{with_value}
 use Rattle.raft_world.specs.BallotLogs.{Payload, BallotEntry, LogEnd, ballot_before, log_end, is_at_least, holds_before, put_from, cut_from}

@@ -23,4 +23,6 @@ HistoriesSplit =
 -- an event leads to these nodes, if the acting node is as the event leaves it, and the others stay
 abbrev pub EventsLeadToNodes : Type 0
 EventsLeadToNodes =
-    (w : GroupWorld) (e : WorldEvent) (o : Outcome) (k n : ℕ) (at_node : NodeEvent) (after : ℕ → NodeState) → scene_of w e ≡ At n at_node → after n ≡ state_after n at_node (stop_at (is_stop o) k) (w.nodes n) → ((m : ℕ) → (m ≡ n → ⊥) → after m ≡ w.nodes m) → (happens w e o k).nodes ≡ after
+    (w : GroupWorld) (e : WorldEvent) (o : Outcome) (k n : ℕ) (at_node : NodeEvent) (after : ℕ → NodeState)
+    → scene_of w e ≡ At n at_node → after n ≡ state_after n at_node (stop_at (is_stop o) k) (w.nodes n) → ((m : ℕ) → (m ≡ n
+    → ⊥) → after m ≡ w.nodes m) → (happens w e o k).nodes ≡ after

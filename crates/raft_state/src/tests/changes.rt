@@ -172,6 +172,12 @@ fn voters_come_and_go(rt: HostRuntime) -> Result<(), Fail> {
     let wanted = [(1, "1"), (2, "2"), (3, "3"), (4, "4"), (5, "5"), (6, "6")];
     let configs = [[1, 2].as_slice(), [1, 2, 6].as_slice()];
     assert!(rt; with_nodes == membership(rt.alloc(), configs.as_slice(), wanted.as_slice())?);
+    Ok(())
+}
+
+#[test]
+fn a_step_to_the_present_voters_changes_nothing(rt: HostRuntime) -> Result<(), Fail> {
+    let m = five(rt.alloc(), [[1, 2].as_slice()].as_slice())?;
     let step = stepped(&rt, &m, ids(rt.alloc(), [2, 1].as_slice())?)?;
     assert!(rt; step == m);
     Ok(())

@@ -33,13 +33,13 @@ fn votes_are_ordered_by_term_node_committed(rt: HostRuntime) {
 
 #[test]
 fn a_vote_is_committed_once(rt: HostRuntime) -> Result<(), Fail> {
-    let mut vote = Vote::new(3, 7u64);
+    let mut vote = Vote::new(6, 7u64);
     assert!(rt; !vote.is_committed());
     vote.commit();
-    assert!(rt; vote == Vote::new_committed(3, 7));
-    assert_eq!(rt; vote.leader_id().get_term(), 3);
+    assert!(rt; vote == Vote::new_committed(6, 7));
+    assert_eq!(rt; vote.leader_id().get_term(), 6);
     assert_eq!(rt; vote.leader_id().voted_for(), Some(7));
-    assert_eq!(rt; vote.summary(rt.alloc())?.as_str(), "<T3-N7:committed>");
+    assert_eq!(rt; vote.summary(rt.alloc())?.as_str(), "<T6-N7:committed>");
     assert_eq!(rt;
         leader_ids_by_term_and_node(&LeaderId::new(1, 5u64), vote.leader_id()),
         Ordering::Less
@@ -50,11 +50,11 @@ fn a_vote_is_committed_once(rt: HostRuntime) -> Result<(), Fail> {
 #[test]
 fn log_ids_are_ordered_by_leader_and_place(rt: HostRuntime) -> Result<(), Fail> {
     let low = LogId::new(LeaderId::new(1, 2u64), 9);
-    let high = LogId::new(LeaderId::new(2, 1u64), 3);
+    let high = LogId::new(LeaderId::new(7, 1u64), 3);
     assert!(rt; low < high);
     assert_eq!(rt; log_ids_by_leader_and_index(&high, &low), Ordering::Greater);
-    assert_eq!(rt; high.committed_leader_id().get_term(), 2);
-    assert_eq!(rt; high.to_string(rt.alloc())?.as_str(), "T2-N1-3");
+    assert_eq!(rt; high.committed_leader_id().get_term(), 7);
+    assert_eq!(rt; high.to_string(rt.alloc())?.as_str(), "T7-N1-3");
     Ok(())
 }
 
@@ -76,7 +76,7 @@ fn nodes_without_a_description(rt: HostRuntime) -> Result<(), Fail> {
 }
 
 fn blank<E: RaftEntry<u64, Membership<u64, EmptyNode>>>(index: u64) -> E {
-    E::new_blank(LogId::new(LeaderId::new(1, 1), index))
+    E::new_blank(LogId::new(LeaderId::new(8, 1), index))
 }
 
 fn asks<E: RaftPayload<u64, EmptyNode>>(entry: &E) -> (bool, bool) {
@@ -98,7 +98,7 @@ fn entries_by_their_traits(rt: HostRuntime) -> Result<(), Fail> {
     let mut entry: Entry<u64, EmptyNode, u64> = blank(4);
     assert_eq!(rt; asks(&entry), (true, false));
     assert_eq!(rt; moved(&mut entry, 6), 6);
-    assert_eq!(rt; entry.to_string(rt.alloc())?.as_str(), "T1-N1-6:blank");
+    assert_eq!(rt; entry.to_string(rt.alloc())?.as_str(), "T8-N1-6:blank");
     let group = IdSet::from_slice(rt.alloc(), [1].as_slice())?;
     let groups = vec![in rt.alloc(); group]?;
     let membership: Membership<u64, EmptyNode> = Membership::new(rt.alloc(), groups, ())?;
