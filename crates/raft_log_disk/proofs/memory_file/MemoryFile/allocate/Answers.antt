@@ -1,0 +1,15 @@
+use Rattle.std.proofs.Common.{◌≡◌, ◌+◌, ◌-◌, ◌++◌, min, max, length, take, drop, arith, refl, ap, ◌∙◌, vec_len}
+use Rattle.std.specs.Prelude.{replicate}
+use Rattle.raft_log_disk.proofs.ByteLemmas.{filled_back, filled_by}
+use Rattle.raft_log_disk.proofs.MemoryLemmas.{allocate_noted}
+use Rattle.raft_log_disk.proofs.memory_file.MemoryFile.allocate.Goals as goal
+
+pub returns-clause-ok : goal.returns-clause-ok
+returns-clause-ok c =
+    let old = c.args.self.now.bytes.items in
+    let long : c.len-old.result ≡ length c.args.self.now.bytes.items = omega (arith, c.len-old.ensures) in
+    let capacity : vec_len c.args.self.now.bytes ≡ length c.args.self.now.bytes.items = omega arith in
+    let longest : c.max.result ≡ max (c.args.at + c.args.len) (length c.args.self.now.bytes.items) = omega (arith, c.max.ensures) in
+    allocate_noted c.args.self.now _ _ _ _ _ _ _ c.in_ok-push.ensures.items refl refl
+    (filled_back old c.new-replaced.result.items c.args.at (c.args.at + c.args.len) c.len-old.result c.new-replaced.ensures.items long)
+    c.max-self.ensures (c.in-Ok.ensures.items ∙ ap (λ n. take c.max.result old ++ replicate (c.max.result - n) 0) capacity ∙ filled_by old (c.args.at + c.args.len) c.max.result longest)

@@ -1,0 +1,20 @@
+use Rattle.std.proofs.Common.{◌≡◌, ◌-◌, ◌++◌, min, max, length, take, drop, arith, refl, ap, ◌∙◌, vec_len}
+use Rattle.std.specs.Prelude.{replicate}
+use Rattle.std.proofs.lemmas.List.{take_all, length-drop}
+use Rattle.raft_log_disk.proofs.ByteLemmas.{cut_back}
+use Rattle.raft_log_disk.proofs.MemoryLemmas.{truncate_noted}
+use Rattle.raft_log_disk.proofs.memory_file.MemoryFile.truncate.Goals as goal
+
+pub returns-clause-ok : goal.returns-clause-ok
+returns-clause-ok c =
+    let old = c.args.self.now.bytes.items in
+    let long : c.len-old.result ≡ length c.args.self.now.bytes.items = omega (arith, c.len-old.ensures) in
+    let capacity : vec_len c.args.self.now.bytes ≡ length c.args.self.now.bytes.items = omega arith in
+    let from : c.min-from.result ≡ min c.args.len (length c.args.self.now.bytes.items) = omega (arith, c.min-from.ensures) in
+    let to : c.max.result ≡ max c.args.len (length c.args.self.now.bytes.items) = omega (arith, c.max.ensures) in
+    let whole : c.deref.result.now ≡ c.args.self.now.bytes.items = c.deref.ensures.value in
+    let cut : c.in_ok-replaced.replaced.items ≡ drop c.min-from.result c.args.self.now.bytes.items =
+    c.in_ok-replaced.ensures.items ∙ take_all _ _ (omega (arith, length-drop c.min-from.result c.deref.result.now)) ∙ ap (drop c.min-from.result) whole in
+    truncate_noted c.args.self.now _ _ _ _ _ _ _ c.in_ok-push.ensures.items from to
+    (cut_back old c.in_ok-replaced.replaced.items c.args.len c.min-from.result c.len-old.result from cut long)
+    c.min-self.ensures c.max-self.ensures (c.in-Ok.ensures.items ∙ ap (λ n. take c.args.len old ++ replicate (c.args.len - n) 0) capacity)

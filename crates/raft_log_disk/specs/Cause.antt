@@ -1,0 +1,47 @@
+-- Why a call is refused.
+use Rattle.std.specs.Prelude.{◌≡◌, ℕ, ◌+◌, ◌-◌, ◌^◌, ◌≤◌, min, List, Option, Some, None, Result, Ok, Err, IsErr, IsErrOf}
+use Rattle.raft_log_disk.specs.declared.fault.IoFault.{IoFault}
+use Rattle.raft_log_disk.specs.declared.fault.IoFault.TheVariants.{NotFound, NoSpace, Refused, Memory}
+use Rattle.raft_log_disk.specs.Disk.{Disk, IsIn}
+
+-- what a file system tells of its refusals
+pub record Meter : Type 0 where
+  -- how many changing calls were refused; it stays at 2^64 - 1
+  pub refusals : ℕ
+  -- how many changing calls are taken before each is refused, if that is known
+  pub calls_left : Option ℕ
+  -- the paths whose reads are refused
+  pub unreadable : List (List ℕ)
+
+-- one changing call fewer
+abbrev pub spent : Option ℕ → Option ℕ
+spent None = None
+spent (Some n) = Some (n - 1)
+
+-- why a changing call was refused: `absent` says that what it names is not there, and `cramped`
+-- that room was missing
+pub record HasCause {T : Type 0} (absent cramped : Type 0) (old new : Meter) (result : Result T IoFault) : Type 0 where
+  pub later : old.refusals ≤ new.refusals
+  pub refused : IsErrOf result Refused → min (old.refusals + 1) (2 ^ 64 - 1) ≤ new.refusals
+  pub not_found : IsErrOf result NotFound → absent
+  pub no_space : IsErrOf result NoSpace → cramped
+  pub reads : new.unreadable ≡ old.unreadable
+
+-- it is one changing call, refused where no more are taken
+pub record IsOneCall {T : Type 0} (old new : Meter) (result : Result T IoFault) : Type 0 where
+  pub counted : new.calls_left ≡ spent old.calls_left
+  pub blown : old.calls_left ≡ Some 0 → IsErr result
+
+-- of a reading call: why it was refused
+pub record HasReadCause {T : Type 0} (absent unreadable : Type 0) (result : Result T IoFault) : Type 0 where
+  pub refused : IsErrOf result Refused → unreadable
+  pub not_found : IsErrOf result NotFound → absent
+  pub no_space : IsErrOf result NoSpace → ⊥
+
+-- nothing changes in a call that was not taken for another reason than a refusal
+abbrev pub UnlessRefused : {T : Type 0} → Result T IoFault → Type 0 → Type 0
+UnlessRefused (Ok x) P = Unit {0}
+UnlessRefused (Err Refused) P = Unit {0}
+UnlessRefused (Err NotFound) P = P
+UnlessRefused (Err NoSpace) P = P
+UnlessRefused (Err Memory) P = P

@@ -1,0 +1,178 @@
+//! What a log asks of a file system.
+
+ghost use Rattle.std.specs.Prelude.{◌≡◌, ◌⊎◌, ◌≤◌, ◌+◌, ◌-◌, List, ℕ, Option, Some, None, Bool, false, length, take, drop, map};
+ghost use Rattle.std.specs.Prelude.{is_some, IsTrue, IfOk, IfErr, OnOk, OnErr, IsErr, IsErrOf};
+ghost use Rattle.std.specs.Prelude.{◌↔◌, ◌++◌, replicate, min, ◌^◌, IsPermutation, IsSorted};
+ghost use Rattle.std.specs.String.{string_bytes, string_cmp};
+ghost use Rattle.raft_log_disk.specs.declared.fault.IoFault.TheVariants.{Memory, NotFound, Refused};
+ghost use Rattle.raft_log_disk.specs.Disk.{Disk, IsIn, HasDirectory, LacksRoom, RefusedWrite, RefusedAllocate, RefusedTruncate, IsNoFile, HasOneOf, Deletes, Renames, IsNamed};
+ghost use Rattle.raft_log_disk.specs.Disk.{fd_of, listed, with_file, after_create, after_make_dir, after_write, after_truncate, after_allocate, after_sync, put, resized, filled};
+ghost use Rattle.raft_log_disk.specs.Cause.{Meter, HasCause, HasReadCause, IsOneCall, UnlessRefused};
+
+use crate::{Fd, IoFault, Permission};
+use std::alloc::Global;
+
+/// Files in directories, named by paths (raft-engine's `FileSystem`). Names change at once. What
+/// was written, allocated or cut is safe from a crash only after the file's next `sync`.
+///
+/// A call that is `Refused` may have taken effect in any part. After `Memory`, `NoSpace` and
+/// `NotFound` the files are as before.
+pub trait FileSystem: Send + Sync {
+    /// What reads see, and what a crash may leave.
+    ghost disk: { Self → Disk };
+
+    /// The refusals so far, and those that are to come.
+    ghost meter: { Self → Meter };
+
+    /// The free bytes of a directory.
+    ghost room: { Self → List ℕ → ℕ };
+
+    /// Makes an empty file, and opens it for writing. `NotFound`: its directory was not made.
+    fn create(&mut self, path: &str) -> Result<Fd, IoFault>
+        requires { fd_of (disk self.old).names path.now ≡ None }
+        ensures ok { IfOk result (λ fd. (fd.0 ≡ (disk self.old).next) × (disk self.new ≡ after_create (disk self.old) path.now)) }
+        ensures err { OnErr result ((disk self.new ≡ disk self.old) ⊎ (disk self.new ≡ after_create (disk self.old) path.now)) }
+        ensures unchanged { UnlessRefused result (disk self.new ≡ disk self.old) }
+        ensures cause { HasCause (HasDirectory (disk self.old).directories path.now → ⊥) ⊥ (meter self.old) (meter self.new) result }
+        ensures call { IsOneCall (meter self.old) (meter self.new) result };
+
+    /// The file of a path. `NotFound`: there is none.
+    fn open(&mut self, path: &str, permission: Permission) -> Result<Fd, IoFault>
+        ensures ok { IfOk result (λ fd. fd_of (disk self.old).names path.now ≡ Some fd.0) }
+        ensures kept { disk self.new ≡ disk self.old }
+        ensures cause { HasCause (fd_of (disk self.old).names path.now ≡ None) ⊥ (meter self.old) (meter self.new) result }
+        ensures call { IsOneCall (meter self.old) (meter self.new) result };
+
+    /// Removes a file. `NotFound`: there is none.
+    fn delete(&mut self, path: &str) -> Result<(), IoFault>
+        ensures ok { OnOk result (Deletes (disk self.old) (disk self.new) path.now) }
+        ensures err { OnErr result ((disk self.new ≡ disk self.old) ⊎ Deletes (disk self.old) (disk self.new) path.now) }
+        ensures unchanged { UnlessRefused result (disk self.new ≡ disk self.old) }
+        ensures cause { HasCause (fd_of (disk self.old).names path.now ≡ None) ⊥ (meter self.old) (meter self.new) result }
+        ensures call { IsOneCall (meter self.old) (meter self.new) result };
+
+    /// Gives a file another path. `NotFound`: there is no such file.
+    fn rename(&mut self, from: &str, to: &str) -> Result<(), IoFault>
+        requires { fd_of (disk self.old).names to.now ≡ None }
+        ensures ok { OnOk result (Renames (disk self.old) (disk self.new) from.now to.now) }
+        ensures err { OnErr result ((disk self.new ≡ disk self.old) ⊎ Renames (disk self.old) (disk self.new) from.now to.now) }
+        ensures unchanged { UnlessRefused result (disk self.new ≡ disk self.old) }
+        ensures cause { HasCause (fd_of (disk self.old).names from.now ≡ None) ⊥ (meter self.old) (meter self.new) result }
+        ensures call { IsOneCall (meter self.old) (meter self.new) result };
+
+    /// Gives an old file the path of a new one (raft-engine's `reuse`): by default a `rename`.
+    fn reuse(&mut self, from: &str, to: &str) -> Result<(), IoFault>
+        requires { fd_of (disk self.old).names to.now ≡ None }
+        ensures ok { OnOk result (Renames (disk self.old) (disk self.new) from.now to.now) }
+        ensures err { OnErr result ((disk self.new ≡ disk self.old) ⊎ Renames (disk self.old) (disk self.new) from.now to.now) }
+        ensures unchanged { UnlessRefused result (disk self.new ≡ disk self.old) }
+        ensures cause { HasCause (fd_of (disk self.old).names from.now ≡ None) ⊥ (meter self.old) (meter self.new) result }
+        ensures call { IsOneCall (meter self.old) (meter self.new) result }
+    {
+        self.rename(from, to)
+    }
+
+    /// `reuse`, and then `open` for writing: two changing calls.
+    fn reuse_and_open(&mut self, from: &str, to: &str) -> Result<Fd, IoFault>
+        requires { fd_of (disk self.old).names to.now ≡ None }
+        ensures ok { IfOk result (λ fd. Renames (disk self.old) (disk self.new) from.now to.now × (fd_of (disk self.new).names to.now ≡ Some fd.0)) }
+        ensures err { OnErr result ((disk self.new ≡ disk self.old) ⊎ Renames (disk self.old) (disk self.new) from.now to.now) }
+        ensures cause { HasCause (fd_of (disk self.old).names from.now ≡ None) ⊥ (meter self.old) (meter self.new) result }
+        ensures blown { (meter self.old).calls_left ≡ Some 0 → IsErr result }
+    {
+        self.reuse(from, to)?;
+        self.open(to, Permission::ReadWrite)
+    }
+
+    /// Removes what a file system keeps beside the file of a path (raft-engine's metadata): by
+    /// default there is nothing.
+    fn delete_metadata(&mut self, path: &str) -> Result<(), IoFault>
+        ensures kept { disk self.new ≡ disk self.old }
+        ensures cause { HasCause ⊥ ⊥ (meter self.old) (meter self.new) result }
+    {
+        let _ = path;
+        Ok(())
+    }
+
+    /// Makes a directory, if it is not there.
+    fn make_dir(&mut self, path: &str) -> Result<(), IoFault>
+        ensures ok { OnOk result (IsIn path.now (disk self.new).directories) }
+        ensures dirs { (disk self.new ≡ disk self.old) ⊎ ((IsIn path.now (disk self.old).directories → ⊥) × (disk self.new ≡ after_make_dir (disk self.old) path.now)) }
+        ensures unchanged { UnlessRefused result (OnErr result (disk self.new ≡ disk self.old)) }
+        ensures cause { HasCause ⊥ ⊥ (meter self.old) (meter self.new) result }
+        ensures call { IsOneCall (meter self.old) (meter self.new) result };
+
+    /// Writes over what is there, and past the end. `NotFound`: no file has this number.
+    fn write_at(&mut self, fd: Fd, at: u64, bytes: &[u8]) -> Result<(), IoFault>
+        requires { at ≤ length ((disk self.old).file fd.0).bytes }
+        ensures ok { OnOk result (disk self.new ≡ with_file (disk self.old) fd.0 (after_write ((disk self.old).file fd.0) at bytes.now
+            (put ((disk self.old).file fd.0).bytes at bytes.now))) }
+        ensures err { OnErr result ((disk self.new ≡ disk self.old) ⊎ RefusedWrite (disk self.old) (disk self.new) fd.0 at bytes.now) }
+        ensures unchanged { UnlessRefused result (disk self.new ≡ disk self.old) }
+        ensures cause { HasCause (IsNoFile (disk self.old) fd.0) (LacksRoom (room self.old) (disk self.old) fd.0
+            (at + length bytes.now - length ((disk self.old).file fd.0).bytes)) (meter self.old) (meter self.new) result }
+        ensures call { IsOneCall (meter self.old) (meter self.new) result };
+
+    /// Cuts a file to a length in bytes, or fills it up to it with zeros.
+    fn truncate(&mut self, fd: Fd, len: u64) -> Result<(), IoFault>
+        ensures ok { OnOk result (disk self.new ≡ with_file (disk self.old) fd.0 (after_truncate ((disk self.old).file fd.0) len
+            (resized ((disk self.old).file fd.0).bytes len))) }
+        ensures err { OnErr result ((disk self.new ≡ disk self.old) ⊎ RefusedTruncate (disk self.old) (disk self.new) fd.0 len) }
+        ensures unchanged { UnlessRefused result (disk self.new ≡ disk self.old) }
+        ensures cause { HasCause (IsNoFile (disk self.old) fd.0) (LacksRoom (room self.old) (disk self.old) fd.0 (len - length
+            ((disk self.old).file fd.0).bytes)) (meter self.old) (meter self.new) result }
+        ensures call { IsOneCall (meter self.old) (meter self.new) result };
+
+    /// Makes room for bytes from a place on: where the file ends before, zeros stand there.
+    fn allocate(&mut self, fd: Fd, at: u64, len: u64) -> Result<(), IoFault>
+        requires { at ≤ length ((disk self.old).file fd.0).bytes }
+        ensures ok { OnOk result (disk self.new ≡ with_file (disk self.old) fd.0 (after_allocate ((disk self.old).file fd.0) at len
+            (filled ((disk self.old).file fd.0).bytes (at + len)))) }
+        ensures err { OnErr result ((disk self.new ≡ disk self.old) ⊎ RefusedAllocate (disk self.old) (disk self.new) fd.0 at len) }
+        ensures unchanged { UnlessRefused result (disk self.new ≡ disk self.old) }
+        ensures cause { HasCause (IsNoFile (disk self.old) fd.0) (LacksRoom (room self.old) (disk self.old) fd.0
+            (at + len - length ((disk self.old).file fd.0).bytes)) (meter self.old) (meter self.new) result }
+        ensures call { IsOneCall (meter self.old) (meter self.new) result };
+
+    /// After it, a crash leaves of the file what a read gives.
+    fn sync(&mut self, fd: Fd) -> Result<(), IoFault>
+        ensures ok { OnOk result (disk self.new ≡ with_file (disk self.old) fd.0 (after_sync ((disk self.old).file fd.0))) }
+        ensures err { OnErr result (disk self.new ≡ disk self.old) }
+        ensures cause { HasCause (IsNoFile (disk self.old) fd.0) ⊥ (meter self.old) (meter self.new) result }
+        ensures call { IsOneCall (meter self.old) (meter self.new) result };
+
+    /// Whether something is kept beside the file of a path: the file system's own word, by
+    /// default no.
+    fn exists_metadata(&self, path: &str) -> bool {
+        let _ = path;
+        false
+    }
+
+    /// The names of the files in a directory, rising.
+    fn list(&self, alloc: Global, directory: &str) -> Result<Vec<String>, IoFault>
+        ensures names { IfOk result (λ v. IsPermutation (listed (disk self.now).names directory.now) (map string_bytes v.items)) }
+        ensures rising { IfOk result (λ v. IsSorted string_cmp v.items) }
+        ensures cause { IfErr result (λ e. e ≡ Memory) };
+
+    /// Whether this is a directory that was made.
+    fn is_dir(&self, path: &str) -> bool
+        ensures yes { IsTrue result → IsIn path.now (disk self.now).directories }
+        ensures no { IsIn path.now (disk self.now).directories → IsTrue result };
+
+    /// The free bytes of a directory.
+    fn available(&self, directory: &str) -> u64
+        ensures { result ≡ room self.now directory.now };
+
+    /// Up to `len` bytes of a file from a place on. `NotFound`: no file has this number.
+    fn read_at(&self, alloc: Global, fd: Fd, at: u64, len: u64) -> Result<Vec<u8>, IoFault>
+        ensures bytes { IfOk result (λ v. v.items ≡ take len (drop at ((disk self.now).file fd.0).bytes)) }
+        ensures cause { HasReadCause (IsNoFile (disk self.now) fd.0) (HasOneOf (disk self.now) fd.0 (meter self.now).unreadable) result };
+
+    /// The length of a file in bytes. `NotFound`: no file has this number.
+    fn file_size(&self, fd: Fd) -> Result<u64, IoFault>
+        ensures bytes { IfOk result (λ len. len ≡ length ((disk self.now).file fd.0).bytes) }
+        ensures cause { HasReadCause (IsNoFile (disk self.now) fd.0) ⊥ result };
+
+    /// Each file has a path and a number of its own.
+    ghost is_named: { (files : Self) → IsNamed (disk files) };
+}

@@ -1,5 +1,0 @@
-use Rattle.std.proofs.Common.{length}
-use Rattle.raft_log_files.proofs.crashing.+bytes_beside.Given as goal
-
-abbrev pub decreases-bytes_beside : goal.decreases-bytes_beside
-decreases-bytes_beside l = length l.all.now
