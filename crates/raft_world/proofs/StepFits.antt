@@ -1,5 +1,5 @@
 -- A node and an event that fit the ballot machine, and what a step keeps: wherever it stops, and at its end.
-use Rattle.std.specs.Prelude.{◌≡◌, ℕ, ◌<◌, ◌^◌, Bool, true, false, List, length, take, Option, Some, None}
+use Rattle.std.specs.Prelude.{◌≡◌, ℕ, ◌<◌, ◌^◌, List, length, take, Option, Some, None}
 use Rattle.raft_engine.specs.Values.{Membership}
 use Rattle.raft_engine.specs.StoredGroup.{StoredGroup, after_storing_all, prefix_of, held}
 use Rattle.raft_engine.specs.Message.{Message}
@@ -12,17 +12,11 @@ use Rattle.raft_world.specs.BallotWorld.{BallotWorld, BallotEvent, ballot_start,
 use Rattle.raft_world.specs.BallotRanks.{ballot_group}
 use Rattle.raft_world.proofs.BallotSafe.{Among}
 use Rattle.raft_world.proofs.BallotOthers.{AllBy}
-use Rattle.raft_world.proofs.Memberships.{HasMembership}
-use Rattle.raft_world.proofs.Standing.{DownFits, UpFits, RoleFits, MessageFits}
+use Rattle.raft_world.proofs.Standing.{DownFits, UpFits, LeadKept, RoleFits, MessageFits}
 
 -- the ballot machine's world after these events
 abbrev pub world_after : Membership → List BallotEvent → BallotWorld
 world_after m before = ballot_run (ballot_group m) before (ballot_start (ballot_group m))
-
--- an opening lets the node lead on, so a committed vote of its own is kept together with a membership
-pub record LeadKept (own : ℕ) (st : StoredGroup) : Type 0 where
-  pub term : st.vote.committed ≡ true → st.vote.leader_id.node_id ≡ own → 0 < st.vote.leader_id.term
-  pub has : st.vote.committed ≡ true → st.vote.leader_id.node_id ≡ own → HasMembership (held st)
 
 -- what is still to be purged lies within the snapshot
 abbrev pub WishFits : GroupState → Type 0
