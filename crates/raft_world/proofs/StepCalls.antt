@@ -50,7 +50,7 @@ pub unless_none : (b : Bool) (why : RefusalReason) → unless b why ≡ None →
 unless_none true why e = refl
 unless_none false why e = absurd (let f : None ≡ Some why = sym e in cc)
 
-leads_on : (role : Role) → is_leader role ≡ true → (lead : Lead) × (role ≡ Leader lead)
+pub leads_on : (role : Role) → is_leader role ≡ true → (lead : Lead) × (role ≡ Leader lead)
 leads_on Follower e = absurd (let f : false ≡ true = e in cc)
 leads_on (Candidate granters) e = absurd (let f : false ≡ true = e in cc)
 leads_on (Leader lead) e = (lead, refl)
@@ -59,7 +59,10 @@ known_voter : (o : Option LoggedMembership) (own : ℕ) → is_voter_in o own �
 known_voter None own e = absurd (let f : false ≡ true = e in cc)
 known_voter (Some x) own e = (x, refl)
 
-normal_differs : (command : List ℕ) (x : Membership) → Normal command ≡ Members x → ⊥
+abbrev pub changed_to : LoggedMembership → ChangeMembers → EntryPayload
+changed_to x change = Members (after_change x.membership change)
+
+pub normal_differs : (command : List ℕ) (x : Membership) → Normal command ≡ Members x → ⊥
 normal_differs command x e = cc
 
 module _ {m : Membership} {some : 0 < length m.configs} {own : ℕ} {before : List BallotEvent} {base : StoredGroup} (w : BallotWorld) (r : StepResult) (t : Tracks m some own before base w r) (role : RoleFits own w r.state.stored.vote (held r.state.stored) r.state.role) where
@@ -79,20 +82,21 @@ module _ {m : Membership} {some : 0 < length m.configs} {own : ℕ} {before : Li
         last_voters m 0 u.list None (λ y q. absurd (let f : None ≡ Some y = q in cc)) u.fits.good x last,
       )
 
-  leading : (lead : Lead) → r.state.role ≡ Leader lead → RoleFits own w r.state.stored.vote (held r.state.stored) (Leader lead)
+  pub leading : (lead : Lead) → r.state.role ≡ Leader lead → RoleFits own w r.state.stored.vote (held r.state.stored) (Leader lead)
   leading lead e = subst (RoleFits own w r.state.stored.vote (held r.state.stored)) e role
 
   -- ---- changes of the membership
 
+  pub change_keeps : (x : LoggedMembership) → membership_in_force r.state.stored ≡ Some x → (change : ChangeMembers) → NoReason (reasons_of_change (Some x) change) → (y : Membership) → changed_to x change ≡ Members y → y.configs ≡ m.configs
+  change_keeps x e change passed y q =
+      let new = after_change x.membership change in
+      let same = configs_same x.membership.configs new.configs (unless_none (configs_eq x.membership.configs new.configs) VoterChange passed.1.0) in
+      ap configs-in (sym q) ∙ sym same ∙ (in_force_is x e).1
+
   changed_goes : Wished r → (lead : Lead) → r.state.role ≡ Leader lead → (o : Option LoggedMembership) → membership_in_force r.state.stored ≡ o → (change : ChangeMembers) (token : ℕ) → NoReason (reasons_of_change o change) → Goes (append_changed o change token r)
   changed_goes h lead leads None e change token passed = (stays, h)
   changed_goes h lead leads (Some x) e change token passed =
-      let new = after_change x.membership change in
-      let same = configs_same x.membership.configs new.configs (unless_none (configs_eq x.membership.configs new.configs) VoterChange passed.1.0) in
-      let voters : new.configs ≡ m.configs = sym same ∙ (in_force_is x e).1 in (
-        token_ends w r t lead (Members new) token (λ y q. ap configs-in (sym q) ∙ voters) leads (leading lead leads),
-        h,
-      )
+      (token_ends w r t lead (Members (after_change x.membership change)) token (change_keeps x e change passed) leads (leading lead leads), h)
 
   -- ---- snapshots
 

@@ -149,7 +149,7 @@ module _ {m : Membership} {some : 0 < length m.configs} {own : ℕ} {before : Li
           applied = u.applied;
         }
 
-    same_held : held r.state.stored ≡ held (after_storing (SetSnapshot shot) r.state.stored)
+    pub same_held : held r.state.stored ≡ held (after_storing (SetSnapshot shot) r.state.stored)
     same_held = held_is ∙ sym (joined_held (after_storing (SetSnapshot shot) r.state.stored) list new_joined)
 
     shot_ends : RoleFits own w r.state.stored.vote (held r.state.stored) r.state.role → Ends m some own before base w (store (SetSnapshot shot) r)

@@ -46,7 +46,7 @@ module _ {m : Membership} {some : 0 < length m.configs} {own : ℕ} {before : Li
           applied = u.applied;
         }
 
-    same_held : held r.state.stored ≡ held (after_storing (RemoveUpTo e.log_id) r.state.stored)
+    pub same_held : held r.state.stored ≡ held (after_storing (RemoveUpTo e.log_id) r.state.stored)
     same_held = joined_held r.state.stored list t.up.joined ∙ sym (joined_held (after_storing (RemoveUpTo e.log_id) r.state.stored) list removed)
 
     removed_ends : Ends m some own before base w (store (RemoveUpTo e.log_id) r)
