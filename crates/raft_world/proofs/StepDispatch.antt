@@ -77,7 +77,7 @@ module _ {m : Membership} {some : 0 < length m.configs} {own : ℕ} {before : Li
 
 module _ (m : Membership) (some : 0 < length m.configs) (own : ℕ) (before : List BallotEvent) where
   -- a node that is up, before anything happens
-  begins : (s s' : GroupState) → NodeFits m (world_after m before) own s → s'.stored ≡ s.stored → s'.committed ≡ s.committed → s'.applied ≡ s.applied → Tracks m some own before s.stored (world_after m before) (unchanged s')
+  pub begins : (s s' : GroupState) → NodeFits m (world_after m before) own s → s'.stored ≡ s.stored → s'.committed ≡ s.committed → s'.applied ≡ s.applied → Tracks m some own before s.stored (world_after m before) (unchanged s')
   begins s s' n a b c =
       record {
         reached = nothing_yet;
@@ -119,7 +119,7 @@ module _ (m : Membership) (some : 0 < length m.configs) (own : ℕ) (before : Li
         role = n.role;
       }
 
-  event_ends : (small : own < 2 ^ 64) (s : GroupState) (e : GroupEvent) → NodeFits m (world_after m before) own s → EventFits m (world_after m before) e → refusal_of own s e ≡ None → Ends m some own before s.stored (world_after m before) (event_step own s e) × Wished (event_step own s e)
+  pub event_ends : (small : own < 2 ^ 64) (s : GroupState) (e : GroupEvent) → NodeFits m (world_after m before) own s → EventFits m (world_after m before) e → refusal_of own s e ≡ None → Ends m some own before s.stored (world_after m before) (event_step own s e) × Wished (event_step own s e)
   event_ends small s AddGroup n fits passed = (made_ends s n, n.wish)
   event_ends small s (Call call now) n fits passed =
       call_goes small (world_after m before) s now (begins s (begun now s).state n refl refl refl) n.role n.wish call fits passed

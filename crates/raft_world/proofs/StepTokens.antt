@@ -53,7 +53,7 @@ pub record SameTokens (r q : StepResult) : Type 0 where
 pub same_refl : (r : StepResult) → SameTokens r r
 same_refl r = record { listed = refl; untold = refl; leads = refl; told = refl; committed = refl }
 
-same_trans : {p q r : StepResult} → SameTokens p q → SameTokens q r → SameTokens p r
+pub same_trans : {p q r : StepResult} → SameTokens p q → SameTokens q r → SameTokens p r
 same_trans h k =
     record {
       listed = k.listed ∙ h.listed;
@@ -183,10 +183,10 @@ pub record Quiet (r : StepResult) : Type 0 where
   pub untold : r.state.untold ≡ []
   pub told : r.told ≡ []
 
-same_quiet : (r q : StepResult) → q.state.untold ≡ r.state.untold → q.told ≡ r.told → Quiet r → Quiet q
+pub same_quiet : (r q : StepResult) → q.state.untold ≡ r.state.untold → q.told ≡ r.told → Quiet r → Quiet q
 same_quiet r q e f h = record { untold = e ∙ h.untold; told = f ∙ h.told }
 
-apply_quiet : (place : Option ℕ) (r : StepResult) → Quiet r → Quiet (apply_up_to place r)
+pub apply_quiet : (place : Option ℕ) (r : StepResult) → Quiet r → Quiet (apply_up_to place r)
 apply_quiet place r h =
     let due : Untold → Bool = λ x. is_within x.place (later_place r.state.committed place) in
     record {
