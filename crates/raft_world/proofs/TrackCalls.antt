@@ -26,7 +26,7 @@ use Rattle.raft_world.proofs.BallotAgreement.{same_some, some_at}
 use Rattle.raft_world.proofs.BallotSafe.{Among}
 use Rattle.raft_world.proofs.BallotOthers.{Extends, extends_refl}
 use Rattle.raft_world.proofs.Shapes.{Joined, joined_held, joined_at, joined_below, joined_snapshot, slice_take}
-use Rattle.raft_world.proofs.Standing.{HasId, SnapshotFits, StoredFits, UpFits, PeerFits, RoleFits, OwnVote}
+use Rattle.raft_world.proofs.Standing.{HasId, SnapshotFits, StoredFits, UpFits, LeadKept, lead_same, PeerFits, RoleFits, OwnVote}
 use Rattle.raft_world.proofs.StepWords.{either_by}
 use Rattle.raft_world.proofs.Tracking.{Tracks, track_same, track_store}
 use Rattle.raft_world.proofs.TrackWrites.{write_tracks, write_extends, write_fits}
@@ -94,7 +94,7 @@ module _ {m : Membership} {some : 0 < length m.configs} {own : ℕ} {before : Li
   stays : RoleFits own w r.state.stored.vote (held r.state.stored) r.state.role → Ends m some own before base w r
   stays h = record { world = w; extends = extends_refl own w; tracks = t; role = h }
 
-  snapshot_next : (o : Option Snapshot) → r.state.stored.snapshot ≡ o → next_place (option_map (λ (x : Snapshot). x.last) o) ≡ length (prefix_of o)
+  pub snapshot_next : (o : Option Snapshot) → r.state.stored.snapshot ≡ o → next_place (option_map (λ (x : Snapshot). x.last) o) ≡ length (prefix_of o)
   snapshot_next None e = refl
   snapshot_next (Some x) e = sym (t.up.fits.snapshot x e).size
 
@@ -111,7 +111,7 @@ module _ {m : Membership} {some : 0 < length m.configs} {own : ℕ} {before : Li
     front : shot.«prefix» ≡ take (a + 1) list
     front = ap₂ take (let q : e.log_id.index + 1 ≡ a + 1 = omega (arith, index) in q) held_is
 
-    size : length shot.«prefix» ≡ a + 1
+    pub size : length shot.«prefix» ≡ a + 1
     size = ap length front ∙ length-take-le (a + 1) list (omega arith)
 
     shot_fits : SnapshotFits shot
@@ -149,15 +149,16 @@ module _ {m : Membership} {some : 0 < length m.configs} {own : ℕ} {before : Li
           applied = u.applied;
         }
 
+    same_held : held r.state.stored ≡ held (after_storing (SetSnapshot shot) r.state.stored)
+    same_held = held_is ∙ sym (joined_held (after_storing (SetSnapshot shot) r.state.stored) list new_joined)
+
     shot_ends : RoleFits own w r.state.stored.vote (held r.state.stored) r.state.role → Ends m some own before base w (store (SetSnapshot shot) r)
     shot_ends h =
         record {
           world = w;
           extends = extends_refl own w;
-          tracks = track_store (SetSnapshot shot) t t.reached new_up t.messages;
-          role =
-              subst (λ l. RoleFits own w r.state.stored.vote l r.state.role)
-              (held_is ∙ sym (joined_held (after_storing (SetSnapshot shot) r.state.stored) list new_joined)) h;
+          tracks = track_store (SetSnapshot shot) t t.reached new_up t.messages (lead_same refl (sym same_held) t.lead);
+          role = subst (λ l. RoleFits own w r.state.stored.vote l r.state.role) same_held h;
         }
 
   pub snapshot_ends : RoleFits own w r.state.stored.vote (held r.state.stored) r.state.role → (o : Option ℕ) → r.state.applied ≡ o → Ends m some own before base w (snapshot_of_applied o r)
