@@ -1,14 +1,14 @@
 -- Every history that replays keeps a world that fits the ballot machine.
-use Rattle.std.specs.Prelude.{◌≡◌, ◌⊎◌, ℕ, zero, suc, ◌<◌, ◌^◌, ◌==◌, max, Bool, true, false, List, [], ◌∷◌, ◌++◌, length, slice_get, Option, Some, None, refl}
+use Rattle.std.specs.Prelude.{◌≡◌, ◌⊎◌, ℕ, zero, suc, ◌<◌, ◌^◌, ◌==◌, ◌&&◌, not, Bool, true, false, List, [], ◌∷◌, ◌++◌, length, slice_get, Option, Some, None, refl}
 use Rattle.std.proofs.Common.{inl, inr, sym, ap, ◌∙◌, subst, ⊎_elim, eqb-true}
 use Rattle.std.proofs.lemmas.Bool.{eqb-false}
-use Rattle.raft_engine.specs.Values.{Membership, membership_eq}
+use Rattle.raft_engine.specs.Values.{Membership, is_valid, is_within_limits}
 use Rattle.raft_engine.specs.Message.{Message}
 use Rattle.raft_engine.specs.GroupState.{GroupState}
 use Rattle.raft_engine.specs.declared.group_call.GroupCall.TheVariants.{Initialize, Elect, Propose, ChangeMembership, Heartbeat, Lost, TriggerSnapshot, TriggerPurge}
 use Rattle.raft_engine.specs.GroupEvent.{GroupCall, GroupEvent, AddGroup, Call, Receive, Open}
-use Rattle.raft_engine.specs.StepResult.{StepResult, RefusalReason}
-use Rattle.raft_engine.specs.Refusal.{refusal_of}
+use Rattle.raft_engine.specs.StepResult.{StepResult, RefusalReason, MembershipRefused, UnknownGroup}
+use Rattle.raft_engine.specs.Refusal.{first_of_reasons, is_first_membership, refusal_of, unless}
 use Rattle.raft_engine.specs.Initialize.{initialize_step}
 use Rattle.raft_engine.specs.GroupStep.{begun, finished, group_step, step_unless}
 use Rattle.raft_world.specs.BallotWorld.{BallotWorld, BallotEvent}
@@ -18,7 +18,7 @@ use Rattle.raft_world.specs.GroupWorld.{GroupWorld, NodeState, Absent, Up, Down,
 use Rattle.raft_world.specs.NodeEvent.{NodeEvent, Comes, Crashes, Restarts, outcome_at, outcome_of_end, outcome_of_step, state_after}
 use Rattle.raft_world.specs.GroupRun.{Scene, Nowhere, At, Replays, after_scene, ended, happens, is_same_setup, led_after, outcome_in, outcome_of, scene_of, scene_of_call, scene_of_delivery, sent_in, setup_after, setup_in, setup_in_call, stop_at}
 use Rattle.raft_world.proofs.BallotSafe.{Among, among_at}
-use Rattle.raft_world.proofs.StepFits.{EventFits, CallFits, StepFits, OpeningFits, world_after}
+use Rattle.raft_world.proofs.StepFits.{EventFits, CallFits, world_after}
 use Rattle.raft_world.proofs.Standing.{MessageFits, message_on}
 use Rattle.raft_world.proofs.WorldFits.{NodeStateFits, WorldFits, led_on, node_on}
 use Rattle.raft_world.proofs.WorldSteps.{NodeEnd, MayCome, MayHappen, node_event}
@@ -29,9 +29,27 @@ among_either x [] ys h = inr h
 among_either x (z ∷ xs) ys h =
     ⊎_elim (λ e. inl (inl e)) (λ t. ⊎_elim (λ a. inl (inr a)) (λ b. inr b) (among_either x xs ys t)) h
 
--- the group is set up with this membership, or not yet
+-- a group is set up with this membership, or with one that each node refuses, since it has no voters
+abbrev pub IsSetUp : Membership → Membership → Type 0
+IsSetUp m x = (x ≡ m) ⊎ (x.configs ≡ [])
+
 abbrev pub SetUpWith : Membership → GroupWorld → Type 0
-SetUpWith m w = (x : Membership) → w.setup ≡ Some x → x ≡ m
+SetUpWith m w = (x : Membership) → w.setup ≡ Some x → IsSetUp m x
+
+no_and : (a b c : Bool) → c ≡ false → (a && b && c) ≡ false
+no_and false b c e = refl
+no_and true false c e = refl
+no_and true true c e = e
+
+first_refusal : (present first : Bool) (rest : List (Option RefusalReason)) → first ≡ false → (why : RefusalReason) × (first_of_reasons (unless present UnknownGroup ∷ unless first MembershipRefused ∷ rest) ≡ Some why)
+first_refusal false first rest e = (UnknownGroup, refl)
+first_refusal true first rest e = (MembershipRefused, ap (λ b. first_of_reasons (unless b MembershipRefused ∷ rest)) e)
+
+-- a set-up without voters is refused
+no_voters : (n : ℕ) (s : GroupState) (x : Membership) (now : ℕ) → x.configs ≡ [] → (why : RefusalReason) × (refusal_of n s (Call (Initialize x) now) ≡ Some why)
+no_voters n s x now e =
+    first_refusal s.stored.present (is_first_membership x) _
+    (no_and (is_valid x) (is_within_limits x) (not (length x.configs == 0)) (ap (λ (cs : List (List ℕ)). not (length cs == 0)) e))
 
 -- ---- the set-up stays
 
@@ -53,8 +71,11 @@ setup_stays (r ∷ rs) w end h x s =
 
 module _ (m : Membership) (b : BallotWorld) where
   -- a set-up is that of the group, or refused
-  set_up_comes : (n : ℕ) (s : GroupState) (x : Membership) (now : ℕ) (stopped : Bool) → ((y : Membership) → setup_after None (Ask n (Initialize x) now) (outcome_of_step stopped s (Call (Initialize x) now) (group_step n s (Call (Initialize x) now))) ≡ Some y → y ≡ m) → MayCome m b n s (Call (Initialize x) now)
-  set_up_comes n s x now true noted = inl (noted x refl)
+  named : (n : ℕ) (s : GroupState) (x : Membership) (now : ℕ) → IsSetUp m x → MayCome m b n s (Call (Initialize x) now)
+  named n s x now h = ⊎_elim (λ e. inl e) (λ none. inr (no_voters n s x now none)) h
+
+  set_up_comes : (n : ℕ) (s : GroupState) (x : Membership) (now : ℕ) (stopped : Bool) → ((y : Membership) → setup_after None (Ask n (Initialize x) now) (outcome_of_step stopped s (Call (Initialize x) now) (group_step n s (Call (Initialize x) now))) ≡ Some y → IsSetUp m y) → MayCome m b n s (Call (Initialize x) now)
+  set_up_comes n s x now true noted = named n s x now (noted x refl)
   set_up_comes n s x now false noted = go (refusal_of n s (Call (Initialize x) now)) refl
     where
       go : (o : Option RefusalReason) → refusal_of n s (Call (Initialize x) now) ≡ o → MayCome m b n s (Call (Initialize x) now)
@@ -63,11 +84,11 @@ module _ (m : Membership) (b : BallotWorld) where
           let r : StepResult = finished n s.committed (initialize_step n x (begun now s)) in
           let same : group_step n s (Call (Initialize x) now) ≡ r = ap (λ o. step_unless o n s (Call (Initialize x) now)) is in
           let done : outcome_of_end r r.refused ≡ Done r.messages r.told r.unknown = ap (outcome_of_end r) (set_up_done n x s.committed (begun now s) refl) in
-          inl (noted x (ap (λ (q : StepResult). setup_after None (Ask n (Initialize x) now) (outcome_of_end q q.refused)) same ∙ ap (setup_after None (Ask n (Initialize x) now)) done))
+          named n s x now (noted x (ap (λ (q : StepResult). setup_after None (Ask n (Initialize x) now) (outcome_of_end q q.refused)) same ∙ ap (setup_after None (Ask n (Initialize x) now)) done))
 
-  call_comes : (first : Option Membership) → ((y : Membership) → first ≡ Some y → y ≡ m) → (n : ℕ) (s : GroupState) (call : GroupCall) (now : ℕ) (stopped : Bool) → is_same_setup first (setup_in_call call) ≡ true → ((y : Membership) → setup_after first (Ask n call now) (outcome_of_step stopped s (Call call now) (group_step n s (Call call now))) ≡ Some y → y ≡ m) → MayCome m b n s (Call call now)
+  call_comes : (first : Option Membership) → ((y : Membership) → first ≡ Some y → IsSetUp m y) → (n : ℕ) (s : GroupState) (call : GroupCall) (now : ℕ) (stopped : Bool) → is_same_setup first (setup_in_call call) ≡ true → ((y : Membership) → setup_after first (Ask n call now) (outcome_of_step stopped s (Call call now) (group_step n s (Call call now))) ≡ Some y → IsSetUp m y) → MayCome m b n s (Call call now)
   call_comes None known n s (Initialize x) now stopped t noted = set_up_comes n s x now stopped noted
-  call_comes (Some first) known n s (Initialize x) now stopped t noted = inl (sym (same_membership first x t) ∙ known first refl)
+  call_comes (Some first) known n s (Initialize x) now stopped t noted = named n s x now (subst (IsSetUp m) (same_membership first x t) (known first refl))
   call_comes first known n s Elect now stopped t noted = inl tt
   call_comes first known n s (Propose command token) now stopped t noted = inl tt
   call_comes first known n s (ChangeMembership change token) now stopped t noted = inl tt
@@ -76,7 +97,7 @@ module _ (m : Membership) (b : BallotWorld) where
   call_comes first known n s TriggerSnapshot now stopped t noted = inl tt
   call_comes first known n s (TriggerPurge place) now stopped t noted = inl tt
 
-  call_happens : (first : Option Membership) → ((y : Membership) → first ≡ Some y → y ≡ m) → (n : ℕ) (x : NodeState) (call : GroupCall) (now : ℕ) (stopped : Bool) → is_same_setup first (setup_in_call call) ≡ true → ((y : Membership) → setup_after first (Ask n call now) (outcome_at n (Comes (Call call now)) stopped x) ≡ Some y → y ≡ m) → MayHappen m b n (Comes (Call call now)) x
+  call_happens : (first : Option Membership) → ((y : Membership) → first ≡ Some y → IsSetUp m y) → (n : ℕ) (x : NodeState) (call : GroupCall) (now : ℕ) (stopped : Bool) → is_same_setup first (setup_in_call call) ≡ true → ((y : Membership) → setup_after first (Ask n call now) (outcome_at n (Comes (Call call now)) stopped x) ≡ Some y → IsSetUp m y) → MayHappen m b n (Comes (Call call now)) x
   call_happens first known n Absent call now stopped t noted = tt
   call_happens first known n (Up s) call now stopped t noted = call_comes first known n s call now stopped t noted
   call_happens first known n (Down stored) call now stopped t noted = tt
@@ -93,7 +114,7 @@ module _ (m : Membership) (b : BallotWorld) where
 
 -- ---- each event of the world
 
-module _ (step : StepFits) (open_fits : OpeningFits) (m : Membership) (some : 0 < length m.configs) where
+module _ (m : Membership) (some : 0 < length m.configs) where
   -- a world that fits the ballot machine after some events
   pub record Matches (w : GroupWorld) : Type 0 where
     pub before : List BallotEvent
@@ -111,7 +132,7 @@ module _ (step : StepFits) (open_fits : OpeningFits) (m : Membership) (some : 0 
     at_matches e n at_node stopped k may =
         let o = outcome_at n at_node stopped (w.nodes n) in
         let state = state_after n at_node (stop_at stopped k) (w.nodes n) in
-        let end : NodeEnd m before n state (sent_in o) (led_after o n state) = node_event step open_fits m some before n at_node stopped k (w.nodes n) (fits.nodes n) may in
+        let end : NodeEnd m before n state (sent_in o) (led_after o n state) = node_event m some before n at_node stopped k (w.nodes n) (fits.nodes n) may in
         record {
           before = end.after;
           fits =

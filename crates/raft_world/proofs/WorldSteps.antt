@@ -20,7 +20,8 @@ use Rattle.raft_world.proofs.BallotRuns.{run_next}
 use Rattle.raft_world.proofs.BallotSettling.{run_append}
 use Rattle.raft_world.proofs.BallotOthers.{Extends, extends_refl, run_extends}
 use Rattle.raft_world.proofs.Standing.{MessageFits, up_down}
-use Rattle.raft_world.proofs.StepFits.{NodeFits, StopFits, EventFits, StepEnd, StepFits, OpeningFits, world_after, world_later}
+use Rattle.raft_world.proofs.StepFits.{NodeFits, StopFits, EventFits, StepEnd, world_after, world_later}
+use Rattle.raft_world.proofs.StepDispatch.{step_fits, opening_fits}
 use Rattle.raft_world.proofs.WorldFits.{LedFits, NodeStateFits, after_safe, led_in}
 
 store_none : (k : ℕ) (st : StoredGroup) → after_storing_all (take k (let cs : List StoringCommand = [] in cs)) st ≡ st
@@ -48,7 +49,7 @@ MayHappen m b n (Comes e) (Down stored) = Unit {0}
 MayHappen m b n Crashes x = Unit {0}
 MayHappen m b n Restarts x = Unit {0}
 
-module _ (step : StepFits) (open_fits : OpeningFits) (m : Membership) (some : 0 < length m.configs) (before : List BallotEvent) (n : ℕ) where
+module _ (m : Membership) (some : 0 < length m.configs) (before : List BallotEvent) (n : ℕ) where
   -- nothing happens
   pub stays_end : (x : NodeState) → NodeStateFits m (world_after m before) n x → NodeEnd m before n x [] []
   stays_end x h =
@@ -80,7 +81,7 @@ module _ (step : StepFits) (open_fits : OpeningFits) (m : Membership) (some : 0 
   pub comes_end : n < 2 ^ 64 → (s : GroupState) (e : GroupEvent) → NodeFits m (world_after m before) n s → MayCome m (world_after m before) n s e → StepEnd m n before s.stored (group_step n s e)
   comes_end small s e h may =
       ⊎_elim
-      (λ fits. step m some n small before s e h fits)
+      (λ fits. step_fits m some n small before s e h fits)
       (λ no. subst (λ o. StepEnd m n before s.stored (step_unless o n s e)) (sym no.1) (refused_end s no.0 h))
       may
 
@@ -143,4 +144,4 @@ module _ (step : StepFits) (open_fits : OpeningFits) (m : Membership) (some : 0 
   node_event (Comes e) stopped k (Down stored) h may = stays_end (Down stored) h
   node_event Crashes stopped k (Down stored) h may = stays_end (Down stored) h
   node_event Restarts stopped k (Down stored) h may =
-      step_end h.0 (state_of stored) (group_step n (state_of stored) Open) (open_fits m some n h.0 before stored h.1) stopped k Open
+      step_end h.0 (state_of stored) (group_step n (state_of stored) Open) (opening_fits m some n h.0 before stored h.1) stopped k Open
