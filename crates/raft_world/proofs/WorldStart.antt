@@ -7,6 +7,7 @@ use Rattle.raft_engine.specs.GroupState.{GroupState, no_group, state_of}
 use Rattle.raft_world.specs.BallotWorld.{BallotWorld}
 use Rattle.raft_world.specs.GroupWorld.{GroupWorld, NodeState, Absent, Up, Down, Led, Recorded, new_world, state_or}
 use Rattle.raft_world.specs.GroupRun.{Replays}
+use Rattle.raft_world.specs.OneList.{AreNodeIds}
 use Rattle.raft_world.proofs.BallotAgreement.{same_some}
 use Rattle.raft_world.proofs.BallotSafe.{Among}
 use Rattle.raft_world.proofs.Shapes.{good_none}
@@ -48,10 +49,6 @@ new_node m n =
 new_state : (m : Membership) (n : ℕ) (b : Bool) → (b ≡ true → n < 2 ^ 64) → NodeStateFits m (world_after m []) n (state_or b (Up (state_of no_group)) Absent)
 new_state m n true small = (small refl, new_node m n)
 new_state m n false small = tt
-
--- ids as nodes have them
-abbrev pub AreNodeIds : List ℕ → Type 0
-AreNodeIds ids = (n : ℕ) → has_id ids n ≡ true → n < 2 ^ 64
 
 pub new_fits : (m : Membership) (ids : List ℕ) → AreNodeIds ids → WorldFits m (world_after m []) (new_world ids)
 new_fits m ids small =
