@@ -57,7 +57,7 @@ each_passed P p (x ∷ xs) h = go (p x) refl (each_passed P p xs h.1)
 abbrev next_id : StoredGroup → LogId ℕ
 next_id st = record { leader_id = st.vote.leader_id; index = end_place st }
 
-abbrev token_at : StoredGroup → ℕ → Untold
+abbrev pub token_at : StoredGroup → ℕ → Untold
 token_at st token = record { token = token; place = end_place st }
 
 abbrev with_token : ℕ → StepResult → StepResult

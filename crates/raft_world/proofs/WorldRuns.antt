@@ -97,17 +97,17 @@ module _ (m : Membership) (b : BallotWorld) where
   call_comes first known n s TriggerSnapshot now stopped t noted = inl tt
   call_comes first known n s (TriggerPurge place) now stopped t noted = inl tt
 
-  call_happens : (first : Option Membership) → ((y : Membership) → first ≡ Some y → IsSetUp m y) → (n : ℕ) (x : NodeState) (call : GroupCall) (now : ℕ) (stopped : Bool) → is_same_setup first (setup_in_call call) ≡ true → ((y : Membership) → setup_after first (Ask n call now) (outcome_at n (Comes (Call call now)) stopped x) ≡ Some y → IsSetUp m y) → MayHappen m b n (Comes (Call call now)) x
+  pub call_happens : (first : Option Membership) → ((y : Membership) → first ≡ Some y → IsSetUp m y) → (n : ℕ) (x : NodeState) (call : GroupCall) (now : ℕ) (stopped : Bool) → is_same_setup first (setup_in_call call) ≡ true → ((y : Membership) → setup_after first (Ask n call now) (outcome_at n (Comes (Call call now)) stopped x) ≡ Some y → IsSetUp m y) → MayHappen m b n (Comes (Call call now)) x
   call_happens first known n Absent call now stopped t noted = tt
   call_happens first known n (Up s) call now stopped t noted = call_comes first known n s call now stopped t noted
   call_happens first known n (Down stored) call now stopped t noted = tt
 
-  message_happens : (n : ℕ) (x : NodeState) (y : Message) (now : ℕ) → MessageFits m b y → MayHappen m b n (Comes (Receive y.sender y now)) x
+  pub message_happens : (n : ℕ) (x : NodeState) (y : Message) (now : ℕ) → MessageFits m b y → MayHappen m b n (Comes (Receive y.sender y now)) x
   message_happens n Absent y now h = tt
   message_happens n (Up s) y now h = inl h
   message_happens n (Down stored) y now h = tt
 
-  group_happens : (n : ℕ) (x : NodeState) → MayHappen m b n (Comes AddGroup) x
+  pub group_happens : (n : ℕ) (x : NodeState) → MayHappen m b n (Comes AddGroup) x
   group_happens n Absent = tt
   group_happens n (Up s) = inl tt
   group_happens n (Down stored) = tt
