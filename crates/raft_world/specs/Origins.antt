@@ -76,14 +76,24 @@ OnePlaceForAnEvent =
     → IsAskedAt es (new_world ids) number call x → IsAskedAt es (new_world ids) number other y
     → i ≡ j
 
--- the token was brought by an event of the run, whose entry the told place has; at the node that tells it, it is committed
-pub record IsTold (es : Events) (w : GroupWorld) (node : ℕ) (x : Untold) : Type 0 where
+-- the token was brought by an event of the run, and the told place has the entry that this event wrote; at the node that
+-- tells it, the place is committed
+pub record IsTold (es : Events) (w : GroupWorld) (x : Untold) : Type 0 where
   pub number : ℕ
   pub call : GroupCall
   pub entry : Entry
   pub asked : IsAskedAt es w number call entry
   pub token : token_of_call call ≡ x.token ∷ []
+  pub node : ℕ
   pub state : GroupState
   pub is_up : (group_run es w).nodes node ≡ Up state
   pub place : slice_get (held state.stored) x.place ≡ Some entry
   pub committed : is_within x.place state.committed ≡ true
+
+-- each token that the last event of a run tells stands for its entry
+abbrev pub ToldTokensStand : Type 0
+ToldTokensStand =
+    (ids : List ℕ) → AreNodeIds ids → (es : Events) (last : WorldEvent × Option ℕ)
+    → (sent : List Message) (told : List Untold) (unknown : List ℕ)
+    → outcome_of (group_run es (new_world ids)) last.0 (is_some last.1) ≡ Done sent told unknown
+    → (x : Untold) → Contains told x → IsTold (es ++ last ∷ []) (new_world ids) x

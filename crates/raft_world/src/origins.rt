@@ -3,7 +3,7 @@
 //! A run is a list of events, each with the number of storing commands after which it stops, if it does. Each history
 //! that replays is that of a run.
 
-ghost use Rattle.raft_world.specs.Origins.{EntriesWereAskedFor, OnePlaceForAnEvent};
+ghost use Rattle.raft_world.specs.Origins.{EntriesWereAskedFor, OnePlaceForAnEvent, ToldTokensStand};
 
 /// Each entry of the list that isn't blank was asked for by an event of the run: it is what a call writes that came to
 /// a node that was up, wasn't refused, and didn't stop before its first storing command. So a command that was refused,
@@ -11,4 +11,10 @@ ghost use Rattle.raft_world.specs.Origins.{EntriesWereAskedFor, OnePlaceForAnEve
 pub fn entries_were_asked_for()
     ensures origin { EntriesWereAskedFor }
     ensures one_place { OnePlaceForAnEvent }
+{}
+
+/// Each token that an event tells was brought by an event of the run at or before it, and the told place has the entry
+/// that this event wrote: the node that tells it holds the entry there, and knows the place to be committed.
+pub fn told_tokens_stand()
+    ensures { ToldTokensStand }
 {}
