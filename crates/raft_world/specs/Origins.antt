@@ -1,5 +1,5 @@
 -- Where the entries of a group's list come from, and what a told token stands for.
-use Rattle.std.specs.Prelude.{◌≡◌, ℕ, suc, ◌<◌, true, List, [], ◌∷◌, ◌++◌, take, slice_get, Option, Some, None, is_some, Contains}
+use Rattle.std.specs.Prelude.{◌≡◌, ℕ, ◌<◌, Bool, true, false, List, [], ◌∷◌, ◌++◌, take, slice_get, Option, Some, None, is_some, Contains}
 use Rattle.raft_state.specs.LogId.{log_id_of}
 use Rattle.raft_state.specs.declared.entry.EntryPayload.TheVariants.{Blank, Normal, Membership as Members}
 use Rattle.raft_engine.specs.Values.{after_change, ChangeMembers, Entry, EntryPayload, entry_of, LoggedMembership}
@@ -13,8 +13,8 @@ use Rattle.raft_engine.specs.Refusal.{refusal_of}
 use Rattle.raft_world.specs.declared.world_event.WorldEvent.{WorldEvent}
 use Rattle.raft_world.specs.declared.world_event.WorldEvent.TheVariants.{Ask}
 use Rattle.raft_world.specs.Stop.{token_of_call}
-use Rattle.raft_world.specs.GroupWorld.{GroupWorld, Up, Done, new_world}
-use Rattle.raft_world.specs.GroupRun.{group_run, is_same_setup, outcome_of, setup_in_call}
+use Rattle.raft_world.specs.GroupWorld.{GroupWorld, Up, Outcome, Done, Refused, Stopped, Skipped, Recorded, new_world}
+use Rattle.raft_world.specs.GroupRun.{group_run, history_of, is_same_setup, outcome_of, setup_in_call}
 use Rattle.raft_world.specs.OneList.{AreNodeIds}
 use Rattle.raft_world.specs.Settled.{group_list}
 
@@ -58,6 +58,27 @@ pub record IsAskedAt (es : Events) (w : GroupWorld) (number : ℕ) (call : Group
   pub taken : refusal_of node state (Call call now) ≡ None
   pub stored : (k : ℕ) → stop ≡ Some k → 0 < k
   pub writes : entry_of_call state.stored call ≡ Some e
+
+-- the outcome of an event that was neither refused nor skipped
+abbrev pub is_taken : Outcome → Bool
+is_taken (Done sent told unknown) = true
+is_taken (Refused why) = false
+is_taken (Stopped unknown) = true
+is_taken Skipped = false
+
+-- the history has, at this number, an event that asked a node for the call, and was neither refused nor skipped
+pub record IsRecordedAt (rs : List Recorded) (number : ℕ) (call : GroupCall) : Type 0 where
+  pub node : ℕ
+  pub now : ℕ
+  pub outcome : Outcome
+  pub recorded : slice_get rs number ≡ Some (record { event = Ask node call now; outcome = outcome })
+  pub taken : is_taken outcome ≡ true
+
+-- what was asked for stands in the run's history
+abbrev pub AskedIsRecorded : Type 0
+AskedIsRecorded =
+    (es : Events) (w : GroupWorld) (number : ℕ) (call : GroupCall) (e : Entry)
+    → IsAskedAt es w number call e → IsRecordedAt (history_of es w) number call
 
 -- each entry of the list that isn't blank was asked for
 abbrev pub EntriesWereAskedFor : Type 0

@@ -3,13 +3,15 @@
 //! A run is a list of events, each with the number of storing commands after which it stops, if it does. Each history
 //! that replays is that of a run.
 
-ghost use Rattle.raft_world.specs.Origins.{EntriesWereAskedFor, OnePlaceForAnEvent, ToldTokensStand};
+ghost use Rattle.raft_world.specs.Origins.{AskedIsRecorded, EntriesWereAskedFor, OnePlaceForAnEvent, ToldTokensStand};
 
 /// Each entry of the list that isn't blank was asked for by an event of the run: it is what a call writes that came to
 /// a node that was up, wasn't refused, and didn't stop before its first storing command. So a command that was refused,
-/// or that wasn't stored, is never on the list; and no two places of the list come from one event.
+/// or that wasn't stored, is never on the list. The run's history has that event, neither refused nor skipped; and no
+/// two places of the list come from one event.
 pub fn entries_were_asked_for()
     ensures origin { EntriesWereAskedFor }
+    ensures recorded { AskedIsRecorded }
     ensures one_place { OnePlaceForAnEvent }
 {}
 
