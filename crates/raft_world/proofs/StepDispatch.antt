@@ -32,7 +32,7 @@ use Rattle.raft_world.proofs.TrackPurges.{purge_ends}
 module _ {m : Membership} {some : 0 < length m.configs} {own : ℕ} {before : List BallotEvent} {base : StoredGroup} where
   -- ---- the end of an event
 
-  wished_ends : (w : BallotWorld) (r : StepResult) → Tracks m some own before base w r → (role : Role) → r.state.role ≡ role → RoleFits own w r.state.stored.vote (held r.state.stored) r.state.role → (wish : Option ℕ) → r.state.wish ≡ wish → Wished r → Ends m some own before base w (purge_as_wished role wish r)
+  pub wished_ends : (w : BallotWorld) (r : StepResult) → Tracks m some own before base w r → (role : Role) → r.state.role ≡ role → RoleFits own w r.state.stored.vote (held r.state.stored) r.state.role → (wish : Option ℕ) → r.state.wish ≡ wish → Wished r → Ends m some own before base w (purge_as_wished role wish r)
   wished_ends w r t Follower e fits wish f h = record { world = w; extends = extends_refl own w; tracks = t; role = fits }
   wished_ends w r t (Candidate granters) e fits wish f h = record { world = w; extends = extends_refl own w; tracks = t; role = fits }
   wished_ends w r t (Leader lead) e fits None f h = record { world = w; extends = extends_refl own w; tracks = t; role = fits }
@@ -119,7 +119,7 @@ module _ (m : Membership) (some : 0 < length m.configs) (own : ℕ) (before : Li
         role = n.role;
       }
 
-  event_ends : (small : own < 2 ^ 64) (s : GroupState) (e : GroupEvent) → NodeFits m (world_after m before) own s → EventFits m (world_after m before) e → refusal_of own s e ≡ None → Ends m some own before s.stored (world_after m before) (event_step own s e) × Wished (event_step own s e)
+  pub event_ends : (small : own < 2 ^ 64) (s : GroupState) (e : GroupEvent) → NodeFits m (world_after m before) own s → EventFits m (world_after m before) e → refusal_of own s e ≡ None → Ends m some own before s.stored (world_after m before) (event_step own s e) × Wished (event_step own s e)
   event_ends small s AddGroup n fits passed = (made_ends s n, n.wish)
   event_ends small s (Call call now) n fits passed =
       call_goes small (world_after m before) s now (begins s (begun now s).state n refl refl refl) n.role n.wish call fits passed
