@@ -61,7 +61,7 @@ pub record WorldLimits (w : GroupWorld) : Type 0 where
 id-of : LeaderId ℕ → ℕ → LogId ℕ
 id-of leader index = record { leader_id = leader; index = index }
 
-same_log_id : (a b : LogId ℕ) → log_id_eq a b ≡ true → (a.leader_id ≡ b.leader_id) × (a.index ≡ b.index)
+pub same_log_id : (a b : LogId ℕ) → log_id_eq a b ≡ true → (a.leader_id ≡ b.leader_id) × (a.index ≡ b.index)
 same_log_id a b t =
     let p = and_parts (leader_eq a.leader_id b.leader_id) (a.index == b.index) t in
     (leader_eq_same a.leader_id b.leader_id p.0, eqb-true a.index b.index p.1)
@@ -69,7 +69,7 @@ same_log_id a b t =
 itself : (a : LogId ℕ) → log_id_eq a a ≡ true
 itself a = and_from (leader_eq a.leader_id a.leader_id) (a.index == a.index) (leader_eq_from a.leader_id a.leader_id refl) (eq-eqb a.index a.index refl)
 
-vote_itself : (v : Vote ℕ) → vote_eq v v ≡ true
+pub vote_itself : (v : Vote ℕ) → vote_eq v v ≡ true
 vote_itself v = and_from (leader_eq v.leader_id v.leader_id) (beq v.committed v.committed) (leader_eq_from v.leader_id v.leader_id refl) (beq_itself v.committed)
   where
     beq_itself : (b : Bool) → beq b b ≡ true
@@ -93,19 +93,19 @@ module _ (vote : Vote ℕ) (p q : LogId ℕ → Bool) (wider : (id : LogId ℕ) 
   body_wider (SnapshotRequest v id x) t = t
   body_wider (SnapshotReply r) t = reply_wider r t
 
-  replied_wider : (w : GroupWorld) (n : ℕ) → has_replied w vote p n ≡ true → has_replied w vote q n ≡ true
+  pub replied_wider : (w : GroupWorld) (n : ℕ) → has_replied w vote p n ≡ true → has_replied w vote q n ≡ true
   replied_wider w n h =
       let x = any_among _ w.messages h in
       let a = and_parts (x.0.sender == n) (body_accepts vote p x.0.body) x.2 in
       among_any (λ (y : Message). (y.sender == n) && body_accepts vote q y.body) w.messages x.0 x.1
       (and_from (x.0.sender == n) (body_accepts vote q x.0.body) a.0 (body_wider x.0.body a.1))
 
-replied_still : (w w' : GroupWorld) → Goes w w' → (vote : Vote ℕ) (n : ℕ) (id : LogId ℕ) → replied w vote n id → replied w' vote n id
+pub replied_still : (w w' : GroupWorld) → Goes w w' → (vote : Vote ℕ) (n : ℕ) (id : LogId ℕ) → replied w vote n id → replied w' vote n id
 replied_still w w' goes vote n id h =
     let x = any_among _ w.messages h in
     among_any (λ (y : Message). (y.sender == n) && body_accepts vote (λ other. log_id_eq other id) y.body) w'.messages x.0 (goes.messages x.0 x.1) x.2
 
-known_still : (w w' : GroupWorld) → Goes w w' → (vote : Vote ℕ) (role : Role) → Known (replied w) vote role → Known (replied w') vote role
+pub known_still : (w w' : GroupWorld) → Goes w w' → (vote : Vote ℕ) (role : Role) → Known (replied w) vote role → Known (replied w') vote role
 known_still w w' goes vote Follower h = tt
 known_still w w' goes vote (Candidate granters) h = tt
 known_still w w' goes vote (Leader lead) h = λ p a id e. replied_still w w' goes vote p.peer id (h p a id e)
@@ -153,7 +153,7 @@ module _ (w : GroupWorld) (limits : WorldLimits w) where
   delivery_known number now (Some x) e =
       let a = among_at w.messages number x e in (limits.messages x a, body_known x a x.body refl)
 
-  scene_known : (e : WorldEvent) → SceneKnown (scene_of w e)
+  pub scene_known : (e : WorldEvent) → SceneKnown (scene_of w e)
   scene_known (Add n) = tt
   scene_known (Ask n call now) = call_known (is_same_setup w.setup (setup_in_call call)) n call now
   scene_known (Deliver number now) = delivery_known number now (slice_get w.messages number) refl
