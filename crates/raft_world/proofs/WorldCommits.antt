@@ -209,6 +209,70 @@ module _ (m : Membership) (w w' : GroupWorld) (goes : Goes w w') (setup : w'.set
       let size : length (take c s.note.list) ≡ c = length-take-le c s.note.list inside in
       omega arith
 
+-- how far a world claims after an event
+pub record SceneAfter (m : Membership) (w v : GroupWorld) : Type 0 where
+  pub top : ℕ
+  pub low : length (group_list w) ≤ top
+  pub nodes : (j : ℕ) → NodeLimits top (replied w) (v.nodes j)
+  pub messages : (x : Message) → Among x v.messages → ClaimWithin top x.body
+  pub led : List Led
+  pub noted : (l : Led) → Among l led → Among l v.led
+  pub reached : (top ≡ length (group_list w)) ⊎ Settles m w top led
+
+more_claimed : (low top : ℕ) → low ≤ top → (Replied : Vote ℕ → ℕ → LogId ℕ → Type 0) (s : GroupState) → StateClaims low Replied s → StateClaims top Replied s
+more_claimed low top le Replied s h = record { committed = omega (arith, h.committed); snapshot = omega (arith, h.snapshot); matched = h.matched }
+
+node_more : (low top : ℕ) → low ≤ top → (Replied : Vote ℕ → ℕ → LogId ℕ → Type 0) (x : NodeState) → NodeLimits low Replied x → NodeLimits top Replied x
+node_more low top le Replied Absent h = tt
+node_more low top le Replied (Up s) h = more_claimed low top le Replied s h
+node_more low top le Replied (Down stored) h = omega arith
+
+node_still : (w w' : GroupWorld) → Goes w w' → (most : ℕ) (x : NodeState) → NodeLimits most (replied w) x → NodeLimits most (replied w') x
+node_still w w' goes most Absent h = tt
+node_still w w' goes most (Up s) h = record { committed = h.committed; snapshot = h.snapshot; matched = known_still w w' goes s.stored.vote s.role h.matched }
+node_still w w' goes most (Down stored) h = h
+
+later_among : {A : Type 0} (x : A) (xs ys : List A) → Among x ys → Among x (xs ++ ys)
+later_among x [] ys a = a
+later_among x (z ∷ xs) ys a = inr (later_among x xs ys a)
+
+module _ (m : Membership) (some : 0 < length m.configs) (w : GroupWorld) (limits : WorldLimits w) (before : List BallotEvent) (fits : WorldFits m (world_after m before) w) (e : WorldEvent) (k : ℕ) where
+  at_after : (stopped : Bool) (n : ℕ) (at_node : NodeEvent) → MayHappen m (world_after m before) n at_node (w.nodes n) → ComesKnown w limits at_node → SceneAfter m w (ended w e (outcome_at n at_node stopped (w.nodes n)) n (state_after n at_node (stop_at stopped k) (w.nodes n)))
+  at_after stopped n at_node may known =
+      let o = outcome_at n at_node stopped (w.nodes n) in
+      let x = state_after n at_node (stop_at stopped k) (w.nodes n) in
+      let a : NodeAfter m w x (sent_in o) (led_after o n x) = node_after m some w limits before n at_node stopped k (w.nodes n) (fits.nodes n) may known (limits.nodes n) in
+      record {
+        top = a.top;
+        low = a.low;
+        nodes = λ j. one j x a.top a.low a.state (j == n) refl;
+        messages = λ y b.
+            ⊎_elim
+            (λ old. claim_more (length (group_list w)) a.top a.low y.body (limits.messages y old))
+            (λ new. a.messages y new)
+            (among_either y w.messages (sent_in o) b);
+        led = led_after o n x;
+        noted = λ l b. later_among l w.led (led_after o n x) b;
+        reached = a.reached;
+      }
+    where
+      one : (j : ℕ) (x : NodeState) (top : ℕ) → length (group_list w) ≤ top → NodeLimits top (replied w) x → (b : Bool) → (j == n) ≡ b → NodeLimits top (replied w) (state_or b x (w.nodes j))
+      one j x most low h true q = h
+      one j x most low h false q = node_more (length (group_list w)) most low (replied w) (w.nodes j) (limits.nodes j)
+
+  scene_after : (stopped : Bool) (scene : Scene) → MayTakePlace m some w before fits scene → SceneKnown w limits scene → SceneAfter m w (after_scene w e (outcome_in w stopped scene) (stop_at stopped k) scene)
+  scene_after stopped Nowhere may known =
+      record {
+        top = length (group_list w);
+        low = omega arith;
+        nodes = limits.nodes;
+        messages = limits.messages;
+        led = [];
+        noted = λ l b. absurd b;
+        reached = inl refl;
+      }
+  scene_after stopped (At n at_node) may known = at_after stopped n at_node may known
+
 -- ---- each event, and each history
 
 module _ (ids : List ℕ) (small : AreNodeIds ids) where
@@ -256,5 +320,48 @@ module _ (ids : List ℕ) (small : AreNodeIds ids) where
         f.is.setup)
         reached
 
-pub placeholder : ℕ
-placeholder = 0
+    before_fits : Matches f.membership f.some w
+    before_fits =
+        let r : Recorded = record { event = e; outcome = o } in
+        history_matches f.membership f.some ids small h.history w h.replays
+        (λ x q. f.known x (setup_stays (r ∷ []) w next (is, (k, refl)) x q))
+
+    known_before : SetUpWith f.membership w
+    known_before = let r : Recorded = record { event = e; outcome = o } in λ x q. f.known x (setup_stays (r ∷ []) w next (is, (k, refl)) x q)
+
+    after : SceneAfter f.membership w next
+    after =
+        let b = before_fits.before in
+        let fits = before_fits.fits in
+        subst (λ v. SceneAfter f.membership w (after_scene w e v (stop_at (is_stop o) k) (scene_of w e))) (sym is)
+        (scene_after f.membership f.some w limits b fits e k (is_stop o) (scene_of w e)
+        (may_take_place f.membership f.some w b fits known_before e o k is f.known)
+        (scene_known w limits e))
+
+    event_limits : WorldLimits next
+    event_limits =
+        let top = after.top in
+        let le = top_within top after.led after.noted after.reached in
+        record {
+          nodes = λ j. node_still w next goes (length (group_list next)) (next.nodes j) (node_more top (length (group_list next)) le (replied w) (next.nodes j) (after.nodes j));
+          messages = λ x a. claim_more top (length (group_list next)) le x.body (after.messages x a);
+        }
+
+  new_state : (limit : ℕ) (b : Bool) → NodeLimits limit (replied (new_world ids)) (state_or b (Up (state_of no_group)) Absent)
+  new_state limit true = record { committed = omega arith; snapshot = omega arith; matched = tt }
+  new_state limit false = tt
+
+  start_limits : WorldLimits (new_world ids)
+  start_limits = record { nodes = λ n. new_state (length (group_list (new_world ids))) (has_id ids n); messages = λ x a. absurd a }
+
+  run_limits : (rs : List Recorded) (w end : GroupWorld) → WorldLimits w → Led' w → Replays w rs end → WorldLimits end
+  run_limits [] w end limits h run = subst WorldLimits (sym run) limits
+  run_limits (r ∷ rs) w end limits h run =
+      run_limits rs (happens w r.event r.outcome run.1.0) end
+      (event_limits w limits h r.event r.outcome run.1.0 run.0)
+      (next_led w limits h r.event r.outcome run.1.0 run.0)
+      run.1.1
+
+  -- wherever a history leads, nothing is said to be committed that is not on the list
+  pub history_limits : (rs : List Recorded) (end : GroupWorld) → Replays (new_world ids) rs end → WorldLimits end
+  history_limits rs end run = run_limits rs (new_world ids) end start_limits (record { history = []; replays = refl }) run
