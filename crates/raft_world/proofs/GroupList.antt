@@ -122,7 +122,7 @@ goes_on (r ∷ rs) w end h =
     (goes_scene w r.event r.outcome (stop_at (is_stop r.outcome) h.1.0) (scene_of w r.event) (λ x e. setup_stays (r ∷ []) w next (h.0, (h.1.0, refl)) x e))
     (goes_on rs next end h.1.1)
 
-quorum_back : (groups : List (List ℕ)) (p : ℕ → Bool) → is_quorum groups p ≡ true → is_quorum_of groups p ≡ true
+pub quorum_back : (groups : List (List ℕ)) (p : ℕ → Bool) → is_quorum groups p ≡ true → is_quorum_of groups p ≡ true
 quorum_back [] p h = refl
 quorum_back (group ∷ groups) p h =
     let parts = and_parts (nat_lt (length group) (2 * count_by p group)) (is_quorum groups p) h in

@@ -82,6 +82,9 @@ module _ (limit : ℕ) (Replied : Vote ℕ → ℕ → LogId ℕ → Type 0) whe
   sent_claims own peer b r l h =
       (h.0, h.1, more_messages r.messages (record { sender = own; addressee = peer; body = b }) l h.2, h.3, h.4)
 
+  pub stored_claims : (c : StoringCommand) (r : StepResult) → CommandWithin limit c → length (prefix_of (after_storing c r.state.stored).snapshot) ≤ limit → Known Replied (after_storing c r.state.stored).vote r.state.role → Claims r → Claims (store c r)
+  stored_claims c r l n k h = (h.0, n, h.2, more_commands r.commands c l h.3, k)
+
   -- ---- votes
 
   voted_claims : (v : Vote ℕ) (r : StepResult) → Claims r → Claims (store_vote v (step_down r))
@@ -126,17 +129,17 @@ module _ (limit : ℕ) (Replied : Vote ℕ → ℕ → LogId ℕ → Type 0) whe
       grant_claims own stood.state.role stood
       (ask_claims own (other_voters own r.state.stored) (in_role (Candidate []) (store_vote vote (step_down r))) (voted_claims vote r h))
 
-  judged_claims : (own peer : ℕ) (v : Vote ℕ) (b : Bool) (r : StepResult) → Claims r → Claims (judged own peer v b r)
+  pub judged_claims : (own peer : ℕ) (v : Vote ℕ) (b : Bool) (r : StepResult) → Claims r → Claims (judged own peer v b r)
   judged_claims own peer v true r h = sent_claims own peer _ (take_over v r) tt (taken_claims v r h)
   judged_claims own peer v false r h = sent_claims own peer _ r tt h
 
-  counted_claims : (peer : ℕ) (b : Bool) (v : Vote ℕ) (r : StepResult) → Claims r → Claims (counted peer b v r)
+  pub counted_claims : (peer : ℕ) (b : Bool) (v : Vote ℕ) (r : StepResult) → Claims r → Claims (counted peer b v r)
   counted_claims peer true v r h = grant_claims peer r.state.role r h
   counted_claims peer false v r h = greater_claims v r h
 
   -- ---- entries
 
-  applied_claims : (place : Option ℕ) (r : StepResult) → place_above place ≤ limit → Claims r → Claims (apply_up_to place r)
+  pub applied_claims : (place : Option ℕ) (r : StepResult) → place_above place ≤ limit → Claims r → Claims (apply_up_to place r)
   applied_claims place r l h = (later r.state.committed place h.0 l, h.1, h.2, h.3, h.4)
     where
       later : (a b : Option ℕ) → place_above a ≤ limit → place_above b ≤ limit → place_above (later_place a b) ≤ limit
@@ -173,7 +176,7 @@ module _ (limit : ℕ) (Replied : Vote ℕ → ℕ → LogId ℕ → Type 0) whe
       lesser (Some id) (Some b) l = omega arith
   joined_claims own peer a false r l h = sent_claims own peer _ (cut_at a.previous r) tt (cut_at_claims a.previous r h)
 
-  heard_claims : (own peer : ℕ) (a : AppendFields) (b : Bool) (r : StepResult) → next_place a.committed ≤ limit → Claims r → Claims (heard own peer a b r)
+  pub heard_claims : (own peer : ℕ) (a : AppendFields) (b : Bool) (r : StepResult) → next_place a.committed ≤ limit → Claims r → Claims (heard own peer a b r)
   heard_claims own peer a true r l h = sent_claims own peer _ r tt h
   heard_claims own peer a false r l h = joined_claims own peer a _ (take_over a.vote r) l (taken_claims a.vote r h)
 
@@ -198,7 +201,7 @@ module _ (limit : ℕ) (Replied : Vote ℕ → ℕ → LogId ℕ → Type 0) whe
   unless_claims true x r l m h = h
   unless_claims false x r l m h = install_claims x r l m h
 
-  offered_claims : (own peer : ℕ) (v : Vote ℕ) (id : ℕ) (x : Snapshot) (b : Bool) (r : StepResult) → length x.«prefix» ≤ limit → x.last.index + 1 ≤ limit → Claims r → Claims (offered own peer v id x b r)
+  pub offered_claims : (own peer : ℕ) (v : Vote ℕ) (id : ℕ) (x : Snapshot) (b : Bool) (r : StepResult) → length x.«prefix» ≤ limit → x.last.index + 1 ≤ limit → Claims r → Claims (offered own peer v id x b r)
   offered_claims own peer v id x true r l m h = sent_claims own peer _ r tt h
   offered_claims own peer v id x false r l m h =
       let taken = take_over v r in
@@ -231,7 +234,7 @@ module _ (limit : ℕ) (Replied : Vote ℕ → ℕ → LogId ℕ → Type 0) whe
       (λ old. h q old id e)
       (with_peer_is p lead.peers q a)
 
-  known_peer : (vote : Vote ℕ) (lead : Lead) (n : ℕ) → Known Replied vote (Leader lead) → (id : LogId ℕ) → (peer_of lead n).matched ≡ Some id → Replied vote (peer_of lead n).peer id
+  pub known_peer : (vote : Vote ℕ) (lead : Lead) (n : ℕ) → Known Replied vote (Leader lead) → (id : LogId ℕ) → (peer_of lead n).matched ≡ Some id → Replied vote (peer_of lead n).peer id
   known_peer vote lead n h id e =
       ⊎_elim
       (λ new. absurd (let no : None ≡ Some id = sym (ap (λ (p : PeerState). p.matched) new) ∙ e in cc))
@@ -243,7 +246,7 @@ module _ (limit : ℕ) (Replied : Vote ℕ → ℕ → LogId ℕ → Type 0) whe
   peer_claims p lead r is k h =
       (h.0, h.1, h.2, h.3, with_known r.state.stored.vote lead p (subst (Known Replied r.state.stored.vote) is h.4) k)
 
-  lost_claims : (peer : ℕ) (role : Role) (r : StepResult) → r.state.role ≡ role → Claims r → Claims (lost_as peer role r)
+  pub lost_claims : (peer : ℕ) (role : Role) (r : StepResult) → r.state.role ≡ role → Claims r → Claims (lost_as peer role r)
   lost_claims peer Follower r is h = h
   lost_claims peer (Candidate granters) r is h = h
   lost_claims peer (Leader lead) r is h =
@@ -281,19 +284,19 @@ module _ (limit : ℕ) (Replied : Vote ℕ → ℕ → LogId ℕ → Type 0) whe
       h)
       (λ t. h)
 
-  reply_claims : (peer : ℕ) (reply : ReplyFields) (r : StepResult) → ReplyKnown peer reply → Claims r → Claims (reply_step peer reply r)
+  pub reply_claims : (peer : ℕ) (reply : ReplyFields) (r : StepResult) → ReplyKnown peer reply → Claims r → Claims (reply_step peer reply r)
   reply_claims peer reply r k h =
       let judged = with_higher_vote reply.outcome r in
       answered_claims peer reply k judged.state.role judged refl (higher_claims reply.outcome r h)
 
   -- ---- calls
 
-  token_claims : (p : EntryPayload) (token : ℕ) (r : StepResult) → Claims r → Claims (append_with_token p token r)
+  pub token_claims : (p : EntryPayload) (token : ℕ) (r : StepResult) → Claims r → Claims (append_with_token p token r)
   token_claims p token r h =
       let place = end_place r.state.stored in
       append_claims p (record r { state = record r.state { untold = r.state.untold ++ record { token = token; place = place } ∷ [] } }) h
 
-  changed_claims : (o : Option LoggedMembership) (change : ChangeMembers) (token : ℕ) (r : StepResult) → Claims r → Claims (append_changed o change token r)
+  pub changed_claims : (o : Option LoggedMembership) (change : ChangeMembers) (token : ℕ) (r : StepResult) → Claims r → Claims (append_changed o change token r)
   changed_claims None change token r h = h
   changed_claims (Some x) change token r h = token_claims (Members (after_change x.membership change)) token r h
 
@@ -301,7 +304,7 @@ module _ (limit : ℕ) (Replied : Vote ℕ → ℕ → LogId ℕ → Type 0) whe
   notices_claims own lead [] r l h = h
   notices_claims own lead (n ∷ ns) r l h = notices_claims own lead ns _ l (sent_claims own n (notice r.state (peer_of lead n)) r l h)
 
-  beat_claims : (own : ℕ) (role : Role) (r : StepResult) → next_place (committed_id r.state) ≤ limit → Claims r → Claims (beat_as own role r)
+  pub beat_claims : (own : ℕ) (role : Role) (r : StepResult) → next_place (committed_id r.state) ≤ limit → Claims r → Claims (beat_as own role r)
   beat_claims own Follower r l h = h
   beat_claims own (Candidate granters) r l h = h
   beat_claims own (Leader lead) r l h = notices_claims own lead (other_ids own r.state.stored) r l h
@@ -316,19 +319,19 @@ module _ (limit : ℕ) (Replied : Vote ℕ → ℕ → LogId ℕ → Type 0) whe
   purge_as_claims place (Leader lead) r h =
       either Claims (nat_lt place (first_place r.state.stored)) r (with_wish (later_place r.state.wish (Some place)) r) h h
 
-  purge_within_claims : (place : ℕ) (o : Option (LogId ℕ)) (r : StepResult) → Claims r → Claims (purge_within place o r)
+  pub purge_within_claims : (place : ℕ) (o : Option (LogId ℕ)) (r : StepResult) → Claims r → Claims (purge_within place o r)
   purge_within_claims place None r h = h
   purge_within_claims place (Some last) r h = purge_as_claims (min place last.index) r.state.role r h
 
   -- ---- the opening
 
-  stale_claims : (o : Option (LogId ℕ)) (r : StepResult) → Claims r → Claims (drop_stale_log o r)
+  pub stale_claims : (o : Option (LogId ℕ)) (r : StepResult) → Claims r → Claims (drop_stale_log o r)
   stale_claims None r h = h
   stale_claims (Some last) r h =
       either Claims (is_joined_to r.state.stored last) r (store (StartAfter last) r) h
       (h.0, h.1, h.2, more_commands r.commands (StartAfter last) tt h.3, h.4)
 
-  resumed_claims : (own : ℕ) (r : StepResult) → Claims r → Claims (resume_lead own r)
+  pub resumed_claims : (own : ℕ) (r : StepResult) → Claims r → Claims (resume_lead own r)
   resumed_claims own r h =
       either Claims (r.state.stored.vote.committed && (r.state.stored.vote.leader_id.node_id == own)) (in_role (Leader (new_lead r.state.stored)) r) r
       (h.0, h.1, h.2, h.3, λ p a. absurd a)
@@ -396,3 +399,26 @@ module _ (limit : ℕ) (Replied : Vote ℕ → ℕ → LogId ℕ → Type 0) whe
 
   pub purged_claims : (r : StepResult) → Claims r → Claims (purge_as_wished r.state.role r.state.wish r)
   purged_claims r h = wished_claims r.state.role r.state.wish r h
+
+-- ---- a greater limit
+
+pub claim_more : (n k : ℕ) → n ≤ k → (b : MessageBody) → ClaimWithin n b → ClaimWithin k b
+claim_more n k le (VoteRequest vote last) h = tt
+claim_more n k le (VoteReply vote granted last) h = tt
+claim_more n k le (AppendRequest a) h = omega arith
+claim_more n k le (AppendReply r) h = tt
+claim_more n k le (SnapshotRequest vote id x) h = omega arith
+claim_more n k le (SnapshotReply r) h = tt
+
+command_more : (n k : ℕ) → n ≤ k → (c : StoringCommand) → CommandWithin n c → CommandWithin k c
+command_more n k le MakeGroup h = tt
+command_more n k le (SetVote vote) h = tt
+command_more n k le (PutEntries place entries) h = tt
+command_more n k le (CutFrom place) h = tt
+command_more n k le (RemoveUpTo id) h = tt
+command_more n k le (SetSnapshot x) h = omega arith
+command_more n k le (StartAfter id) h = tt
+
+pub more_claims : (n : ℕ) (Replied : Vote ℕ → ℕ → LogId ℕ → Type 0) (r : StepResult) (k : ℕ) → n ≤ k → Claims n Replied r → Claims k Replied r
+more_claims n Replied r k le h =
+    (omega (arith, h.0), omega (arith, h.1), λ x a. claim_more n k le x.body (h.2 x a), λ c a. command_more n k le c (h.3 c a), h.4)

@@ -32,7 +32,7 @@ use Rattle.raft_world.proofs.TrackPurges.{purge_ends}
 module _ {m : Membership} {some : 0 < length m.configs} {own : ℕ} {before : List BallotEvent} {base : StoredGroup} where
   -- ---- the end of an event
 
-  wished_ends : (w : BallotWorld) (r : StepResult) → Tracks m some own before base w r → (role : Role) → r.state.role ≡ role → RoleFits own w r.state.stored.vote (held r.state.stored) r.state.role → (wish : Option ℕ) → r.state.wish ≡ wish → Wished r → Ends m some own before base w (purge_as_wished role wish r)
+  pub wished_ends : (w : BallotWorld) (r : StepResult) → Tracks m some own before base w r → (role : Role) → r.state.role ≡ role → RoleFits own w r.state.stored.vote (held r.state.stored) r.state.role → (wish : Option ℕ) → r.state.wish ≡ wish → Wished r → Ends m some own before base w (purge_as_wished role wish r)
   wished_ends w r t Follower e fits wish f h = record { world = w; extends = extends_refl own w; tracks = t; role = fits }
   wished_ends w r t (Candidate granters) e fits wish f h = record { world = w; extends = extends_refl own w; tracks = t; role = fits }
   wished_ends w r t (Leader lead) e fits None f h = record { world = w; extends = extends_refl own w; tracks = t; role = fits }

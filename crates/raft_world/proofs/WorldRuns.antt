@@ -154,38 +154,49 @@ module _ (m : Membership) (some : 0 < length m.configs) where
               };
         }
 
-    abbrev Noted : WorldEvent → Bool → Scene → Type 0
+    abbrev pub Noted : WorldEvent → Bool → Scene → Type 0
     Noted e stopped scene = SetUpWith m (after_scene w e (outcome_in w stopped scene) (stop_at stopped 0) scene)
 
     same_noted : (e : WorldEvent) (stopped : Bool) (k : ℕ) (scene : Scene) → SetUpWith m (after_scene w e (outcome_in w stopped scene) (stop_at stopped k) scene) → SetUpWith m (after_scene w e (outcome_in w stopped scene) (stop_at stopped 0) scene)
     same_noted e stopped k Nowhere h = h
     same_noted e stopped k (At n at_node) h = h
 
-    call_matches : (known : SetUpWith m w) (n : ℕ) (call : GroupCall) (now : ℕ) (stopped : Bool) (k : ℕ) (t : Bool) → is_same_setup w.setup (setup_in_call call) ≡ t → Noted (Ask n call now) stopped (scene_of_call t n call now) → Matches (after_scene w (Ask n call now) (outcome_in w stopped (scene_of_call t n call now)) (stop_at stopped k) (scene_of_call t n call now))
-    call_matches known n call now stopped k true is noted =
-        at_matches (Ask n call now) n (Comes (Call call now)) stopped k
-        (call_happens m (world_after m before) w.setup known n (w.nodes n) call now stopped is noted)
-    call_matches known n call now stopped k false is noted = record { before = before; fits = fits }
+    -- what happens at a node may happen there
+    abbrev pub MayTakePlace : Scene → Type 0
+    MayTakePlace Nowhere = Unit {0}
+    MayTakePlace (At n at_node) = MayHappen m (world_after m before) n at_node (w.nodes n)
 
-    delivery_matches : (number now : ℕ) (stopped : Bool) (k : ℕ) (o : Option Message) → slice_get w.messages number ≡ o → Matches (after_scene w (Deliver number now) (outcome_in w stopped (scene_of_delivery o now)) (stop_at stopped k) (scene_of_delivery o now))
-    delivery_matches number now stopped k None is = record { before = before; fits = fits }
-    delivery_matches number now stopped k (Some x) is =
-        at_matches (Deliver number now) x.addressee (Comes (Receive x.sender x now)) stopped k
-        (message_happens m (world_after m before) x.addressee (w.nodes x.addressee) x now (fits.messages x (among_at w.messages number x is)))
+    call_takes_place : (known : SetUpWith m w) (n : ℕ) (call : GroupCall) (now : ℕ) (stopped : Bool) (t : Bool) → is_same_setup w.setup (setup_in_call call) ≡ t → Noted (Ask n call now) stopped (scene_of_call t n call now) → MayTakePlace (scene_of_call t n call now)
+    call_takes_place known n call now stopped true is noted =
+        call_happens m (world_after m before) w.setup known n (w.nodes n) call now stopped is noted
+    call_takes_place known n call now stopped false is noted = tt
 
-    event_matches : (known : SetUpWith m w) (e : WorldEvent) (stopped : Bool) (k : ℕ) → Noted e stopped (scene_of w e) → Matches (after_scene w e (outcome_in w stopped (scene_of w e)) (stop_at stopped k) (scene_of w e))
-    event_matches known (Add n) stopped k noted = at_matches (Add n) n (Comes AddGroup) stopped k (group_happens m (world_after m before) n (w.nodes n))
-    event_matches known (Ask n call now) stopped k noted = call_matches known n call now stopped k (is_same_setup w.setup (setup_in_call call)) refl noted
-    event_matches known (Deliver number now) stopped k noted = delivery_matches number now stopped k (slice_get w.messages number) refl
-    event_matches known (Crash n) stopped k noted = at_matches (Crash n) n Crashes stopped k tt
-    event_matches known (Restart n) stopped k noted = at_matches (Restart n) n Restarts stopped k tt
+    delivery_takes_place : (number now : ℕ) (o : Option Message) → slice_get w.messages number ≡ o → MayTakePlace (scene_of_delivery o now)
+    delivery_takes_place number now None is = tt
+    delivery_takes_place number now (Some x) is =
+        message_happens m (world_after m before) x.addressee (w.nodes x.addressee) x now (fits.messages x (among_at w.messages number x is))
+
+    event_takes_place : (known : SetUpWith m w) (e : WorldEvent) (stopped : Bool) → Noted e stopped (scene_of w e) → MayTakePlace (scene_of w e)
+    event_takes_place known (Add n) stopped noted = group_happens m (world_after m before) n (w.nodes n)
+    event_takes_place known (Ask n call now) stopped noted = call_takes_place known n call now stopped (is_same_setup w.setup (setup_in_call call)) refl noted
+    event_takes_place known (Deliver number now) stopped noted = delivery_takes_place number now (slice_get w.messages number) refl
+    event_takes_place known (Crash n) stopped noted = tt
+    event_takes_place known (Restart n) stopped noted = tt
+
+    -- each event that has this outcome may take place
+    pub may_take_place : (known : SetUpWith m w) (e : WorldEvent) (o : Outcome) (k : ℕ) → o ≡ outcome_of w e (is_stop o) → SetUpWith m (happens w e o k) → MayTakePlace (scene_of w e)
+    may_take_place known e o k is noted =
+        event_takes_place known e (is_stop o)
+        (same_noted e (is_stop o) k (scene_of w e) (subst (λ v. SetUpWith m (after_scene w e v (stop_at (is_stop o) k) (scene_of w e))) is noted))
+
+    scene_matches : (e : WorldEvent) (stopped : Bool) (k : ℕ) (scene : Scene) → MayTakePlace scene → Matches (after_scene w e (outcome_in w stopped scene) (stop_at stopped k) scene)
+    scene_matches e stopped k Nowhere may = record { before = before; fits = fits }
+    scene_matches e stopped k (At n at_node) may = at_matches e n at_node stopped k may
 
     pub happens_matches : (known : SetUpWith m w) (e : WorldEvent) (o : Outcome) (k : ℕ) → o ≡ outcome_of w e (is_stop o) → SetUpWith m (happens w e o k) → Matches (happens w e o k)
     happens_matches known e o k is noted =
-        let same = λ (v : Outcome). after_scene w e v (stop_at (is_stop o) k) (scene_of w e) in
         subst (λ v. Matches (after_scene w e v (stop_at (is_stop o) k) (scene_of w e))) (sym is)
-        (event_matches known e (is_stop o) k
-        (same_noted e (is_stop o) k (scene_of w e) (subst (λ v. SetUpWith m (after_scene w e v (stop_at (is_stop o) k) (scene_of w e))) is noted)))
+        (scene_matches e (is_stop o) k (scene_of w e) (may_take_place known e o k is noted))
 
   pub run_matches : (rs : List Recorded) (w end : GroupWorld) → Matches w → Replays w rs end → SetUpWith m end → Matches end
   run_matches [] w end h run known = subst Matches (sym run) h

@@ -80,6 +80,7 @@ pub record Founded (w : GroupWorld) : Type 0 where
   pub membership : Membership
   pub some : 0 < length membership.configs
   pub is : IsFounded membership some w
+  pub known : SetUpWith membership w
 
 one_two : (one_voter 0).configs ≡ (one_voter 1).configs → ⊥
 one_two e = cc
@@ -103,6 +104,7 @@ module _ (ids : List ℕ) (small : AreNodeIds ids) (rs : List Recorded) (end : G
                   let same : f.has.0 ≡ g.has.0 = same_some (sym f.has.1 ∙ g.has.1) in
                   one_two (sym (voters_of (one_voter 0) (world_after (one_voter 0) a.before) l f) ∙ ap (λ (x : LoggedMembership). x.membership.configs) same ∙ voters_of (one_voter 1) (world_after (one_voter 1) b.before) l g));
             };
+        known = known (one_voter 0);
       }
 
   set_up : (m : Membership) (configs : List (List ℕ)) → m.configs ≡ configs → end.setup ≡ Some m → Founded end
@@ -117,6 +119,7 @@ module _ (ids : List ℕ) (small : AreNodeIds ids) (rs : List Recorded) (end : G
               matches = history_matches m some ids small rs end run (λ x e. inl (same_some (sym e ∙ is)));
               setup = inl is;
             };
+        known = λ x e. inl (same_some (sym e ∙ is));
       }
 
   founded_by : (o : Option Membership) → end.setup ≡ o → Founded end

@@ -1,9 +1,10 @@
 -- The one list of a group, over every history that replays.
-use Rattle.std.specs.Prelude.{◌≡◌, ℕ, suc, ◌<◌, ◌^◌, false, List, length, slice_get, Option, Some, IsTrue, Contains}
+use Rattle.std.specs.Prelude.{◌≡◌, ℕ, suc, ◌<◌, ◌^◌, false, List, length, slice_get, take, Option, Some, IsTrue, Contains}
 use Rattle.raft_state.specs.declared.vote.Vote.{Vote}
 use Rattle.raft_engine.specs.Values.{Entry, has_id, vote_lt}
-use Rattle.raft_engine.specs.StoredGroup.{StoredGroup, Holds, held}
+use Rattle.raft_engine.specs.StoredGroup.{StoredGroup, Holds, held, prefix_of}
 use Rattle.raft_engine.specs.GroupState.{GroupState, is_leader}
+use Rattle.raft_engine.specs.SnapshotRequest.{place_above}
 use Rattle.raft_world.specs.BallotLists.{AgreeBelow}
 use Rattle.raft_world.specs.GroupWorld.{GroupWorld, Up, Led, Recorded, new_world}
 use Rattle.raft_world.specs.GroupRun.{Replays}
@@ -56,3 +57,35 @@ OneEntryForALogId =
     → (one other : ℕ) (a b : StoredGroup) → stored_of (end.nodes one) ≡ Some a → stored_of (end.nodes other) ≡ Some b
     → (i j : ℕ) (x y : Entry) → slice_get (held a) i ≡ Some x → slice_get (held b) j ≡ Some y → x.log_id ≡ y.log_id
     → (x ≡ y) × AgreeBelow (suc i) (held a) (held b)
+
+-- what a node knows to be committed is on the list, and it holds the list up to there; so too for what is applied
+abbrev pub CommittedIsOnTheList : Type 0
+CommittedIsOnTheList =
+    (ids : List ℕ) (rs : List Recorded) (end : GroupWorld) → IsGroupHistory ids rs end
+    → (n : ℕ) (s : GroupState) → end.nodes n ≡ Up s
+    → (place : ℕ) → s.committed ≡ Some place → Holds s.stored (group_list end) place
+
+abbrev pub AppliedIsOnTheList : Type 0
+AppliedIsOnTheList =
+    (ids : List ℕ) (rs : List Recorded) (end : GroupWorld) → IsGroupHistory ids rs end
+    → (n : ℕ) (s : GroupState) → end.nodes n ≡ Up s
+    → (place : ℕ) → s.applied ≡ Some place → Holds s.stored (group_list end) place
+
+-- a stored snapshot's list is a front of the list, of a node that is up or down
+abbrev pub SnapshotsAreFronts : Type 0
+SnapshotsAreFronts =
+    (ids : List ℕ) (rs : List Recorded) (end : GroupWorld) → IsGroupHistory ids rs end
+    → (n : ℕ) (st : StoredGroup) → stored_of (end.nodes n) ≡ Some st
+    → AgreeBelow (length (prefix_of st.snapshot)) (prefix_of st.snapshot) (group_list end)
+
+-- all that the node has applied
+abbrev pub applied_list : GroupState → List Entry
+applied_list s = take (place_above s.applied) (held s.stored)
+
+-- two nodes that have applied up to the same place have applied the same list, one maybe later
+abbrev pub EqualPlacesEqualLists : Type 0
+EqualPlacesEqualLists =
+    (ids : List ℕ) (rs more : List Recorded) (middle end : GroupWorld)
+    → IsGroupHistory ids rs middle → Replays middle more end
+    → (one other : ℕ) (s t : GroupState) → middle.nodes one ≡ Up s → end.nodes other ≡ Up t
+    → s.applied ≡ t.applied → applied_list s ≡ applied_list t
