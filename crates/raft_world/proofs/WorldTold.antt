@@ -1,6 +1,6 @@
 -- Each token that an event of a run tells stands for the entry that its own event wrote.
 use Rattle.std.specs.Prelude.{◌≡◌, ◌⊎◌, ℕ, zero, suc, ◌<◌, ◌^◌, Bool, true, false, List, [], ◌∷◌, ◌++◌, length, slice_get, Option, Some, None, is_some, unwrap_or, refl, Contains}
-use Rattle.std.proofs.Common.{inl, inr, sym, ap, ◌∙◌, subst, arith, append_assoc, append-nil}
+use Rattle.std.proofs.Common.{inl, inr, sym, ap, ◌∙◌, subst, arith, leb-true, append_assoc, append-nil}
 use Rattle.raft_engine.specs.Values.{Entry, has_id, Membership}
 use Rattle.raft_engine.specs.GroupState.{GroupState, Untold, no_group, state_of}
 use Rattle.raft_engine.specs.GroupEvent.{GroupCall, Call}
@@ -8,10 +8,14 @@ use Rattle.raft_world.specs.declared.world_event.WorldEvent.{WorldEvent}
 use Rattle.raft_world.specs.GroupWorld.{GroupWorld, Absent, NodeState, Up, new_world, state_or}
 use Rattle.raft_world.specs.GroupRun.{group_run, history_of, outcome_of, ran}
 use Rattle.raft_world.specs.Stop.{token_of_call}
-use Rattle.raft_world.specs.OneList.{AreNodeIds}
+use Rattle.raft_world.specs.OneList.{AreNodeIds, IsGroupHistory}
 use Rattle.raft_world.specs.Origins.{Events, IsAskedAt, IsTold, ToldTokensStand}
 use Rattle.raft_world.proofs.BallotAgreement.{same_some}
 use Rattle.raft_world.proofs.Counts.{contains_at}
+use Rattle.raft_engine.specs.StoredGroup.{held}
+use Rattle.raft_engine.specs.StepResult.{is_within}
+use Rattle.raft_world.specs.Settled.{group_list}
+use Rattle.raft_world.proofs.Committed.{committed_holds}
 use Rattle.raft_world.proofs.Runs.{run-replays}
 use Rattle.raft_world.proofs.StepEntries.{each_at}
 use Rattle.raft_world.proofs.WorldOrigins.{asked_at, run_more}
@@ -110,6 +114,16 @@ module _ (ids : List ℕ) (small : AreNodeIds ids) (es : Events) where
         (tokens_from (pre ++ x ∷ []) more post (split ∙ sym (append_assoc pre (x ∷ []) (more ++ post)))
         (subst (TokensWorld Q) (sym (run_more pre x first)) one.tokens))
 
+-- what a node knows to be committed is on the list
+listed : (ids : List ℕ) → AreNodeIds ids → (es : Events) (n : ℕ) (s : GroupState) → (group_run es (new_world ids)).nodes n ≡ Up s → (o : Option ℕ) → s.committed ≡ o → (place : ℕ) → is_within place o ≡ true → slice_get (held s.stored) place ≡ slice_get (group_list (group_run es (new_world ids))) place
+listed ids small es n s up None is place within = absurd (let f : false ≡ true = within in cc)
+listed ids small es n s up (Some c) is place within =
+    let history : IsGroupHistory ids (history_of es (new_world ids)) (group_run es (new_world ids)) =
+    record { node_ids = small; replays = run-replays es (new_world ids) }
+    in
+    let holds = committed_holds ids (history_of es (new_world ids)) (group_run es (new_world ids)) history n s up c is in
+    holds.same place (leb-true place c within)
+
 pub told_tokens_stand : ToldTokensStand
 told_tokens_stand ids small es last sent told unknown is x among =
     let all = es ++ last ∷ [] in
@@ -121,6 +135,8 @@ told_tokens_stand ids small es last sent told unknown is x among =
     let at = contains_at told x among in
     let teller = each_at (Teller (Brought all w) (ran (group_run es w) last.0 last.1)) told at.0 x (after.tells sent told unknown is) at.1 in
     let f = teller.fits in
+    let up = ap (λ (v : GroupWorld). v.nodes teller.node) (run_more es last w) ∙ teller.is_up in
+    let same = listed ids small all teller.node teller.state up teller.state.committed refl x.place f.1 in
     record {
       number = f.0.2.0;
       call = f.0.2.1;
@@ -129,7 +145,8 @@ told_tokens_stand ids small es last sent told unknown is x among =
       token = f.0.2.3;
       node = teller.node;
       state = teller.state;
-      is_up = ap (λ (v : GroupWorld). v.nodes teller.node) (run_more es last w) ∙ teller.is_up;
+      is_up = up;
       place = f.0.1;
       committed = f.1;
+      on_list = sym same ∙ f.0.1;
     }

@@ -97,8 +97,8 @@ OnePlaceForAnEvent =
     → IsAskedAt es (new_world ids) number call x → IsAskedAt es (new_world ids) number other y
     → i ≡ j
 
--- the token was brought by an event of the run, and the told place has the entry that this event wrote; at the node that
--- tells it, the place is committed
+-- the token was brought by an event of the run, and the told place has the entry that this event wrote, on the list and at
+-- the node that tells it, which knows the place to be committed
 pub record IsTold (es : Events) (w : GroupWorld) (x : Untold) : Type 0 where
   pub number : ℕ
   pub call : GroupCall
@@ -110,6 +110,7 @@ pub record IsTold (es : Events) (w : GroupWorld) (x : Untold) : Type 0 where
   pub is_up : (group_run es w).nodes node ≡ Up state
   pub place : slice_get (held state.stored) x.place ≡ Some entry
   pub committed : is_within x.place state.committed ≡ true
+  pub on_list : slice_get (group_list (group_run es w)) x.place ≡ Some entry
 
 -- each token that the last event of a run tells stands for its entry
 abbrev pub ToldTokensStand : Type 0

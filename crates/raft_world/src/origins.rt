@@ -16,7 +16,7 @@ pub fn entries_were_asked_for()
 {}
 
 /// Each token that an event tells was brought by an event of the run at or before it, and the told place has the entry
-/// that this event wrote: the node that tells it holds the entry there, and knows the place to be committed.
+/// that this event wrote, on the list and at the node that tells it, which knows the place to be committed.
 pub fn told_tokens_stand()
     ensures { ToldTokensStand }
 {}
