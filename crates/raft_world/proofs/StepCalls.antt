@@ -1,18 +1,17 @@
 -- What is asked of a node that is up, followed by the ballot machine to the call's own end.
-use Rattle.std.specs.Prelude.{◌≡◌, ◌⊎◌, ℕ, zero, suc, ◌+◌, ◌<◌, ◌≤◌, ◌^◌, ◌==◌, not, min, nat_lt, nat_le, Bool, true, false, List, [], ◌∷◌, ◌++◌, length, take, slice_get, Option, Some, None, option_map, refl}
-use Rattle.std.proofs.Common.{inl, inr, sym, ap, ◌∙◌, subst, arith, ⊎_elim}
-use Rattle.std.proofs.lemmas.Bool.{cases_lt, and_parts, ltb-false}
+use Rattle.std.specs.Prelude.{◌≡◌, ℕ, ◌<◌, ◌≤◌, ◌^◌, min, nat_lt, Bool, true, false, List, [], ◌∷◌, length, slice_get, Option, Some, None, option_map, refl}
+use Rattle.std.proofs.Common.{sym, ap, ◌∙◌, subst, arith}
+use Rattle.std.proofs.lemmas.Bool.{ltb-false}
 use Rattle.std.proofs.lemmas.Option.{slice_get_within}
-use Rattle.raft_state.specs.declared.log_id.LogId.{LogId}
 use Rattle.raft_state.specs.LogId.{log_id_of, next_place}
 use Rattle.raft_state.specs.declared.entry.EntryPayload.TheVariants.{Normal, Membership as Members}
-use Rattle.raft_engine.specs.Values.{after_change, ChangeMembers, configs_eq, Entry, entry_of, EntryPayload, is_valid, is_voter, is_within_limits, LoggedMembership, Membership}
+use Rattle.raft_engine.specs.Values.{after_change, ChangeMembers, configs_eq, Entry, entry_of, EntryPayload, LoggedMembership, Membership}
 use Rattle.raft_engine.specs.StoredGroup.{StoredGroup, Snapshot, PutEntries, entry_at, id_of, membership_in_force, prefix_of, snapshot_last, held}
 use Rattle.raft_engine.specs.GroupState.{GroupState, Lead, Role, Follower, Candidate, Leader, is_leader}
 use Rattle.raft_engine.specs.declared.group_call.GroupCall.TheVariants.{Initialize, Elect, Propose, ChangeMembership, Heartbeat, Lost, TriggerSnapshot, TriggerPurge}
-use Rattle.raft_engine.specs.GroupEvent.{GroupCall, GroupEvent, Call}
+use Rattle.raft_engine.specs.GroupEvent.{GroupCall, Call}
 use Rattle.raft_engine.specs.StepResult.{RefusalReason, NotLeader, NotVoter, NotAllowed, VoterChange, StepResult, store, later_place}
-use Rattle.raft_engine.specs.Lead.{purge_up_to, with_wish}
+use Rattle.raft_engine.specs.Lead.{with_wish}
 use Rattle.raft_engine.specs.Initialize.{is_new, initialize_step}
 use Rattle.raft_engine.specs.MembershipStep.{append_changed}
 use Rattle.raft_engine.specs.PurgeTrigger.{purge_as, purge_within}
@@ -20,14 +19,13 @@ use Rattle.raft_engine.specs.SnapshotTrigger.{snapshot_at, store_snapshot_at, sn
 use Rattle.raft_engine.specs.GroupStep.{begun, call_step}
 use Rattle.raft_engine.specs.Refusal.{unless, first_of_reasons, known_leader, is_voter_in, reasons_of, reasons_of_call, reasons_of_change, refusal_of}
 use Rattle.raft_world.specs.BallotWorld.{BallotWorld, BallotEvent}
-use Rattle.raft_world.proofs.BallotAgreement.{same_some, some_at}
 use Rattle.raft_world.proofs.BallotOthers.{extends_refl}
-use Rattle.raft_world.proofs.Shapes.{Joined, joined_held, joined_at}
+use Rattle.raft_world.proofs.Shapes.{joined_held, joined_at}
 use Rattle.raft_world.proofs.Memberships.{HasMembership, in_force, last_voters}
-use Rattle.raft_world.proofs.Standing.{SnapshotFits, RoleFits}
+use Rattle.raft_world.proofs.Standing.{RoleFits}
 use Rattle.raft_world.proofs.StepWords.{either_by}
 use Rattle.raft_world.proofs.StepFits.{CallFits, WishFits}
-use Rattle.raft_world.proofs.StepWishes.{Wished, elect_wish, changed_wish, beat_wish, longer_wish, lost_wish, purge_within_wish}
+use Rattle.raft_world.proofs.StepWishes.{Wished, elect_wish, beat_wish, longer_wish, lost_wish, purge_within_wish}
 use Rattle.raft_world.proofs.Tracking.{Tracks, track_same}
 use Rattle.raft_world.proofs.TrackElections.{Ends, configs-in, elect_ends, initialize_ends}
 use Rattle.raft_world.proofs.TrackFrames.{heartbeat_ends}

@@ -1,24 +1,21 @@
 -- Each step of the group keeps what ties a node to the ballot machine.
-use Rattle.std.specs.Prelude.{◌≡◌, ℕ, zero, suc, ◌<◌, ◌^◌, Bool, true, false, List, [], ◌∷◌, length, take, Option, Some, None, refl}
-use Rattle.std.proofs.Common.{sym, ap, ◌∙◌, subst, arith}
+use Rattle.std.specs.Prelude.{◌≡◌, ℕ, ◌<◌, ◌^◌, List, [], length, Option, Some, None, refl}
+use Rattle.std.proofs.Common.{sym, subst}
 use Rattle.raft_engine.specs.Values.{Membership}
 use Rattle.raft_engine.specs.Peer.{is_kept_for_peers}
-use Rattle.raft_engine.specs.StoredGroup.{StoredGroup, MakeGroup, after_storing, after_storing_all, prefix_of, held}
-use Rattle.raft_engine.specs.Message.{Message}
+use Rattle.raft_engine.specs.StoredGroup.{StoredGroup, MakeGroup, held}
 use Rattle.raft_engine.specs.GroupState.{GroupState, Role, Follower, Candidate, Leader, state_of}
 use Rattle.raft_engine.specs.GroupEvent.{GroupEvent, AddGroup, Call, Receive, Open}
-use Rattle.raft_engine.specs.StepResult.{RefusalReason, StepResult, refused_step, store, unchanged, with_stored}
+use Rattle.raft_engine.specs.StepResult.{RefusalReason, StepResult, refused_step, store, unchanged}
 use Rattle.raft_engine.specs.Lead.{commit_as_leader, other_ids, purge_as_wished, with_wish}
 use Rattle.raft_engine.specs.Frames.{has_grown}
 use Rattle.raft_engine.specs.Refusal.{refusal_of}
-use Rattle.raft_engine.specs.GroupStep.{begun, event_step, finished, step_unless, group_step}
+use Rattle.raft_engine.specs.GroupStep.{begun, event_step, finished, step_unless}
 use Rattle.raft_world.specs.BallotWorld.{BallotWorld, BallotEvent}
-use Rattle.raft_world.proofs.BallotSafe.{Among}
 use Rattle.raft_world.proofs.BallotOthers.{extends_refl}
-use Rattle.raft_world.proofs.Shapes.{Joined}
-use Rattle.raft_world.proofs.Standing.{UpFits, LeadKept, lead_same, MessageFits, RoleFits, up_down}
+use Rattle.raft_world.proofs.Standing.{LeadKept, lead_same, MessageFits, RoleFits, up_down}
 use Rattle.raft_world.proofs.StepWords.{either_by}
-use Rattle.raft_world.proofs.StepFits.{world_after, WishFits, NodeFits, StopFits, EventFits, Later, world_later, StepStop, StepEnd, StepFits, OpeningFits}
+use Rattle.raft_world.proofs.StepFits.{world_after, NodeFits, StopFits, EventFits, Later, StepStop, StepEnd, StepFits, OpeningFits}
 use Rattle.raft_world.proofs.StepWishes.{Wished, committed_wish, purged_wish, frames_wish}
 use Rattle.raft_world.proofs.StepOpening.{nothing_yet, not_yet, opening_ends, opening_wish}
 use Rattle.raft_world.proofs.StepCalls.{call_goes}

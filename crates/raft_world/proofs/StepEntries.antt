@@ -1,22 +1,22 @@
 -- Where the entries of a step come from: what holds of each entry that a node has, that comes in a message and that the
 -- event writes, holds of each entry that the node has then, wherever it stops, and of each that it sends.
-use Rattle.std.specs.Prelude.{◌≡◌, ◌⊎◌, ℕ, zero, suc, ◌+◌, ◌-◌, ◌&&◌, not, cond, nat_lt, Bool, true, false, List, [], ◌∷◌, ◌++◌, length, take, drop, filter, slice_get, Option, Some, None, is_none, is_some, refl}
-use Rattle.std.proofs.Common.{inl, inr, sym, ap, ◌∙◌, subst, ⊎_elim}
+use Rattle.std.specs.Prelude.{◌≡◌, ℕ, zero, suc, ◌+◌, ◌&&◌, cond, nat_lt, Bool, true, false, List, [], ◌∷◌, ◌++◌, take, drop, filter, slice_get, Option, Some, None, is_none, refl}
+use Rattle.std.proofs.Common.{sym, subst}
 use Rattle.raft_state.specs.declared.vote.Vote.{Vote}
 use Rattle.raft_state.specs.declared.log_id.LogId.{LogId}
 use Rattle.raft_state.specs.LogId.{log_id_of}
 use Rattle.raft_state.specs.Quorum.{is_quorum}
 use Rattle.raft_state.specs.declared.entry.EntryPayload.TheVariants.{Blank, Normal, Membership as Members}
-use Rattle.raft_engine.specs.Values.{after_change, ChangeMembers, Entry, EntryPayload, entry_of, has_id, is_written_by, LoggedMembership, Membership, vote_lt}
-use Rattle.raft_engine.specs.StoredGroup.{StoredGroup, Snapshot, StoringCommand, MakeGroup, SetVote, PutEntries, CutFrom, RemoveUpTo, SetSnapshot, StartAfter, after_storing, after_storing_all, end_place, entry_at, first_place, has_id_in_log, held, id_of, membership_in_force, prefix_of, snapshot_last}
+use Rattle.raft_engine.specs.Values.{after_change, ChangeMembers, Entry, EntryPayload, entry_of, has_id, LoggedMembership, vote_lt}
+use Rattle.raft_engine.specs.StoredGroup.{StoredGroup, Snapshot, StoringCommand, MakeGroup, SetVote, PutEntries, CutFrom, RemoveUpTo, SetSnapshot, StartAfter, after_storing, after_storing_all, end_place, first_place, has_id_in_log, held, membership_in_force, prefix_of, snapshot_last}
 use Rattle.raft_engine.specs.Message.{Message, MessageBody, VoteRequest, VoteReply, AppendRequest, AppendReply, SnapshotRequest, SnapshotReply, AppendFields, ReplyFields, ReplyResult, Success, Conflict, HigherVote}
 use Rattle.raft_engine.specs.Peer.{PeerState, is_kept_for_peers}
 use Rattle.raft_engine.specs.GroupState.{GroupState, Lead, Role, Follower, Candidate, Leader, state_of}
 use Rattle.raft_engine.specs.declared.group_call.GroupCall.TheVariants.{Initialize, Elect, Propose, ChangeMembership, Heartbeat, Lost, TriggerSnapshot, TriggerPurge}
 use Rattle.raft_engine.specs.GroupEvent.{GroupCall, GroupEvent, AddGroup, Call, Receive, Open}
-use Rattle.raft_engine.specs.StepResult.{RefusalReason, StepResult, append, in_role, is_within, refused_step, send, step_down, store, store_vote, take_over, unchanged}
-use Rattle.raft_engine.specs.Lead.{append_blank, begin_lead, commit_as_leader, configs_in_force, lead_if, other_ids, purge_as_wished, purge_up_to, remove_up_to, with_grant, with_wish}
-use Rattle.raft_engine.specs.Frames.{entries_in_request, has_grown, lacks_entries, notice, send_entries, send_request, send_snapshot, serve, serve_all, serve_as, with_frames}
+use Rattle.raft_engine.specs.StepResult.{RefusalReason, StepResult, append, in_role, refused_step, send, step_down, store, store_vote, take_over, unchanged}
+use Rattle.raft_engine.specs.Lead.{begin_lead, commit_as_leader, configs_in_force, lead_if, other_ids, purge_as_wished, purge_up_to, remove_up_to, with_grant, with_wish}
+use Rattle.raft_engine.specs.Frames.{entries_in_request, has_grown, lacks_entries, notice, send_entries, send_request, send_snapshot, serve, serve_all, serve_as}
 use Rattle.raft_engine.specs.Elect.{ask, elect_step, other_voters, stand}
 use Rattle.raft_engine.specs.VoteRequest.{judged, may_grant}
 use Rattle.raft_engine.specs.VoteReply.{counted, take_over_greater}

@@ -1,5 +1,5 @@
 -- A node and an event that fit the ballot machine, and what a step keeps: wherever it stops, and at its end.
-use Rattle.std.specs.Prelude.{◌≡◌, ℕ, ◌<◌, ◌^◌, List, length, take, Option, Some, None}
+use Rattle.std.specs.Prelude.{◌≡◌, ℕ, ◌<◌, ◌^◌, List, length, take, Some}
 use Rattle.raft_engine.specs.Values.{Membership}
 use Rattle.raft_engine.specs.StoredGroup.{StoredGroup, after_storing_all, prefix_of, held}
 use Rattle.raft_engine.specs.Message.{Message}

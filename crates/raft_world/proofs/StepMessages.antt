@@ -1,23 +1,22 @@
 -- Messages that come to a node that is up, followed by the ballot machine to the step's own end.
-use Rattle.std.specs.Prelude.{◌≡◌, ◌⊎◌, ℕ, zero, suc, ◌+◌, ◌<◌, ◌≤◌, ◌^◌, ◌==◌, ◌&&◌, not, Bool, true, false, List, [], ◌∷◌, ◌++◌, length, Option, Some, None, refl}
-use Rattle.std.proofs.Common.{sym, ap, ◌∙◌, subst, arith, eqb-true, eq-eqb}
+use Rattle.std.specs.Prelude.{◌≡◌, ℕ, ◌<◌, ◌^◌, ◌==◌, ◌&&◌, not, true, false, List, length, None}
+use Rattle.std.proofs.Common.{sym, ◌∙◌, subst, arith, eqb-true, eq-eqb}
 use Rattle.std.proofs.lemmas.Bool.{and_parts, not-true}
 use Rattle.raft_state.specs.declared.vote.Vote.{Vote}
 use Rattle.raft_engine.specs.Values.{Membership}
-use Rattle.raft_engine.specs.StoredGroup.{StoredGroup, membership_in_force, prefix_of, held}
+use Rattle.raft_engine.specs.StoredGroup.{StoredGroup, membership_in_force, held}
 use Rattle.raft_engine.specs.Message.{Message, MessageBody, VoteRequest, VoteReply, AppendRequest, AppendReply, SnapshotRequest, SnapshotReply}
 use Rattle.raft_engine.specs.GroupState.{GroupState}
-use Rattle.raft_engine.specs.StepResult.{StepResult, WrongParty, BreaksCondition, is_within}
+use Rattle.raft_engine.specs.StepResult.{StepResult, WrongParty, BreaksCondition}
 use Rattle.raft_engine.specs.VoteRequest.{may_grant}
 use Rattle.raft_engine.specs.GroupStep.{begun, message_step}
-use Rattle.raft_engine.specs.GroupEvent.{GroupEvent, Receive}
+use Rattle.raft_engine.specs.GroupEvent.{Receive}
 use Rattle.raft_engine.specs.Refusal.{do_follow, has_known_snapshot, is_foreign, is_foreign_result, is_of_leader, is_right_party, is_sound, keep_voters, reasons_of, refusal_of}
-use Rattle.raft_engine.specs.SnapshotRequest.{place_above}
 use Rattle.raft_world.specs.BallotWorld.{BallotWorld, BallotEvent}
 use Rattle.raft_world.proofs.FreshEntries.{without_is}
 use Rattle.raft_world.proofs.Standing.{BodyFits, MessageFits, RoleFits}
 use Rattle.raft_world.proofs.StepFits.{WishFits}
-use Rattle.raft_world.proofs.StepWishes.{Wished, judged_wish, counted_wish, heard_wish, offered_wish, reply_wish}
+use Rattle.raft_world.proofs.StepWishes.{judged_wish, counted_wish, heard_wish, offered_wish, reply_wish}
 use Rattle.raft_world.proofs.StepCalls.{Goes, no_reason, unless_none}
 use Rattle.raft_world.proofs.Tracking.{Tracks}
 use Rattle.raft_world.proofs.TrackAppendRequest.{append_request_ends}

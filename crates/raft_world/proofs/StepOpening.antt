@@ -1,27 +1,25 @@
 -- An opening, followed by the ballot machine: what the snapshot has is committed, and nothing else.
-use Rattle.std.specs.Prelude.{◌≡◌, ◌⊎◌, ℕ, zero, suc, ◌+◌, ◌-◌, ◌<◌, ◌≤◌, ◌^◌, ◌==◌, ◌&&◌, ◌||◌, nat_lt, min, Bool, true, false, List, [], ◌∷◌, ◌++◌, length, take, drop, slice_get, Option, Some, None, option_map, refl}
-use Rattle.std.proofs.Common.{inl, inr, sym, ap, ap₂, ◌∙◌, subst, arith, ⊎_elim, eq-eqb, eqb-true, lt-ltb, ltb-true, le-ltb, take_all}
+use Rattle.std.specs.Prelude.{◌≡◌, ◌⊎◌, ℕ, zero, suc, ◌+◌, ◌-◌, ◌<◌, ◌≤◌, ◌==◌, ◌&&◌, nat_lt, min, true, false, List, [], ◌∷◌, ◌++◌, length, take, slice_get, Option, Some, None, option_map, refl}
+use Rattle.std.proofs.Common.{inl, sym, ap, ◌∙◌, subst, arith, ⊎_elim, eq-eqb, eqb-true, lt-ltb, ltb-true, le-ltb, take_all}
 use Rattle.std.proofs.lemmas.Bool.{and_from, and_parts, or_cases, or_left, or_right, cases_lt, cond-false}
 use Rattle.std.proofs.lemmas.Option.{slice_get_past}
 use Rattle.raft_state.specs.declared.log_id.LogId.{LogId}
-use Rattle.raft_state.specs.declared.vote.Vote.{Vote}
-use Rattle.raft_state.specs.LogId.{next_place, place_of}
+use Rattle.raft_state.specs.LogId.{place_of}
 use Rattle.raft_engine.specs.Values.{Membership, Entry, log_id_eq, leader_eq}
 use Rattle.raft_engine.specs.StoredGroup.{StoredGroup, Snapshot, StartAfter, after_storing, after_storing_all, entry_at, id_of, first_place, end_place, has_id_in_log, is_id, snapshot_last, prefix_of, held}
-use Rattle.raft_engine.specs.GroupState.{GroupState, Role, Follower, Leader, state_of}
+use Rattle.raft_engine.specs.GroupState.{Follower, Leader, state_of}
 use Rattle.raft_engine.specs.StepResult.{StepResult, unchanged, store, in_role, apply_up_to, later_place}
 use Rattle.raft_engine.specs.SnapshotRequest.{place_above}
 use Rattle.raft_engine.specs.Lead.{new_lead}
 use Rattle.raft_engine.specs.Opening.{is_joined_to, drop_stale_log, resume_lead, opening_step}
 use Rattle.raft_world.specs.BallotWorld.{BallotNode, BallotWorld, BallotEvent, ForgetCommitted, forgotten}
-use Rattle.raft_world.specs.BallotRanks.{ballot_group}
-use Rattle.raft_world.proofs.BallotAgreement.{same_some, some_at, with_value_same}
+use Rattle.raft_world.proofs.BallotAgreement.{same_some, with_value_same}
 use Rattle.raft_world.proofs.BallotAppends.{drop_past}
 use Rattle.raft_world.proofs.BallotSafe.{Among}
 use Rattle.raft_world.proofs.BallotOthers.{Extends}
 use Rattle.raft_world.proofs.VoteRanks.{leader_eq_from}
 use Rattle.raft_world.proofs.Shapes.{Joined, Stale, joined_held, joined_at, slice_take}
-use Rattle.raft_world.proofs.Standing.{HasId, SnapshotFits, StoredFits, DownFits, UpFits, LeadKept, lead_same, RoleFits, OwnVote, up_down}
+use Rattle.raft_world.proofs.Standing.{HasId, SnapshotFits, StoredFits, DownFits, UpFits, LeadKept, lead_same, RoleFits, OwnVote}
 use Rattle.raft_world.proofs.StepWords.{either, either_by}
 use Rattle.raft_world.proofs.Tracking.{Reached, MayStop, Tracks, reached_next, step_extends, stops_store, track_same}
 use Rattle.raft_world.proofs.TrackElections.{Ends}

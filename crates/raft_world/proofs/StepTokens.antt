@@ -1,44 +1,37 @@
 -- Tokens that are told, or still to be told: each stands for an entry at its place, which stays there.
-use Rattle.std.specs.Prelude.{◌≡◌, ◌⊎◌, ℕ, zero, suc, ◌+◌, ◌-◌, ◌<◌, ◌≤◌, ◌^◌, ◌&&◌, not, cond, nat_lt, nat_le, min, Bool, true, false, List, [], ◌∷◌, ◌++◌, length, take, filter, slice_get, Option, Some, None, is_none, is_some, option_map, refl}
-use Rattle.std.proofs.Common.{inl, inr, sym, ap, ap₂, ◌∙◌, subst, arith, ⊎_elim, length-take-le}
+use Rattle.std.specs.Prelude.{◌≡◌, ℕ, ◌<◌, ◌≤◌, ◌&&◌, not, cond, nat_lt, min, Bool, true, false, List, [], ◌∷◌, ◌++◌, length, filter, slice_get, Option, Some, None, is_none, is_some, option_map, refl}
+use Rattle.std.proofs.Common.{sym, ap, ap₂, ◌∙◌, subst, arith, ⊎_elim}
 use Rattle.std.proofs.lemmas.Bool.{cases_lt, ltb-false}
-use Rattle.std.proofs.lemmas.Option.{slice_get_past, slice_get_within}
+use Rattle.std.proofs.lemmas.Option.{slice_get_within}
 use Rattle.raft_state.specs.LogId.{next_place}
-use Rattle.raft_state.specs.declared.vote.Vote.{Vote}
 use Rattle.raft_state.specs.declared.log_id.LogId.{LogId}
 use Rattle.raft_state.specs.declared.entry.EntryPayload.TheVariants.{Blank}
 use Rattle.std.specs.List.{list_any}
 use Rattle.raft_state.specs.Quorum.{is_quorum}
-use Rattle.raft_engine.specs.Values.{Entry, EntryPayload, entry_of, has_id, is_written_by, Membership, vote_eq, vote_lt}
-use Rattle.raft_engine.specs.StoredGroup.{StoredGroup, Snapshot, RemoveUpTo, SetSnapshot, CutFrom, after_storing, end_place, entry_at, first_place, has_id_in_log, held, id_of, prefix_of, snapshot_last}
-use Rattle.raft_engine.specs.Message.{AppendFields, ReplyFields, ReplyResult, Success, Conflict, HigherVote}
-use Rattle.raft_engine.specs.Peer.{PeerState, is_answer_to, is_kept_for_peers, with_peer}
-use Rattle.raft_engine.specs.GroupState.{GroupState, Lead, Role, Follower, Candidate, Leader, Untold, is_leader}
-use Rattle.raft_engine.specs.StepResult.{StepResult, append, apply_up_to, in_role, is_within, later_place, send, step_down, store, store_vote, take_over}
-use Rattle.raft_engine.specs.Lead.{append_blank, begin_lead, committed_vote, commit_as_leader, configs_in_force, lead_if, new_lead, other_ids, peer_of, purge_as_wished, purge_up_to, remove_up_to, with_grant, with_wish}
+use Rattle.raft_engine.specs.Values.{Entry, has_id, is_written_by, Membership, vote_eq}
+use Rattle.raft_engine.specs.StoredGroup.{StoredGroup, Snapshot, RemoveUpTo, SetSnapshot, CutFrom, entry_at, first_place, held, id_of, prefix_of, snapshot_last}
+use Rattle.raft_engine.specs.Message.{AppendFields, ReplyFields}
+use Rattle.raft_engine.specs.Peer.{PeerState, is_answer_to, with_peer}
+use Rattle.raft_engine.specs.GroupState.{Lead, Role, Follower, Candidate, Leader, Untold, is_leader}
+use Rattle.raft_engine.specs.StepResult.{StepResult, append, apply_up_to, in_role, is_within, later_place, send, step_down, store, store_vote}
+use Rattle.raft_engine.specs.Lead.{begin_lead, committed_vote, configs_in_force, lead_if, new_lead, other_ids, peer_of, purge_up_to, remove_up_to, with_grant, with_wish}
 use Rattle.raft_engine.specs.Frames.{has_grown, with_peer_state, lacks_entries, notice, send_entries, send_request, send_snapshot, serve, serve_all, serve_as, with_frames}
 use Rattle.raft_engine.specs.Elect.{ask, elect_step, other_voters, stand}
-use Rattle.raft_engine.specs.VoteRequest.{judged}
-use Rattle.raft_engine.specs.VoteReply.{counted, take_over_greater}
-use Rattle.raft_engine.specs.AppendRequest.{cut_at, cut_from, heard, joined, put_entries}
-use Rattle.raft_engine.specs.SnapshotRequest.{cut_other, install, install_unless, offered, place_above}
-use Rattle.raft_engine.specs.Reply.{after_answer, answered, ended, reply_step, with_higher_vote}
-use Rattle.raft_engine.specs.Propose.{append_with_token}
+use Rattle.raft_engine.specs.AppendRequest.{cut_at, cut_from, joined, put_entries}
+use Rattle.raft_engine.specs.SnapshotRequest.{cut_other, install_unless, place_above}
+use Rattle.raft_engine.specs.Reply.{after_answer, answered, ended}
 use Rattle.raft_engine.specs.Heartbeat.{beat_as, send_notices}
 use Rattle.raft_engine.specs.Lost.{lost_as}
 use Rattle.raft_engine.specs.SnapshotTrigger.{snapshot_of_applied, store_snapshot_at}
 use Rattle.raft_engine.specs.PurgeTrigger.{purge_as, purge_within}
 use Rattle.raft_world.specs.BallotWorld.{BallotWorld, BallotEvent}
 use Rattle.raft_world.proofs.BallotAgreement.{some_at}
-use Rattle.raft_world.proofs.Shapes.{joined_at, joined_below, joined_end, joined_held, slice_after}
-use Rattle.raft_world.proofs.Standing.{OwnVote, RoleFits}
-use Rattle.raft_world.proofs.StepEntries.{Each, each_append, each_filter, each_more}
+use Rattle.raft_world.proofs.Shapes.{joined_at, joined_below}
+use Rattle.raft_world.proofs.Standing.{RoleFits}
 use Rattle.raft_world.proofs.StepWords.{either, either_by}
-use Rattle.raft_world.proofs.Tracking.{Tracks, track_same}
+use Rattle.raft_world.proofs.Tracking.{Tracks}
 use Rattle.raft_world.proofs.TrackCalls.{same_held as shot_held, snapshot_next}
-use Rattle.raft_world.proofs.TrackElections.{ask_state}
 use Rattle.raft_world.proofs.TrackPurges.{same_held as purged_held}
-use Rattle.raft_world.proofs.TrackWrites.{below_stays, write_held}
 
 -- ---- what keeps the tokens
 

@@ -1,21 +1,21 @@
 -- What a step tells: each token that is told or still to be told stands for an entry at its place, and a told place is
 -- committed.
-use Rattle.std.specs.Prelude.{◌≡◌, ◌⊎◌, ℕ, zero, suc, ◌+◌, ◌<◌, ◌≤◌, ◌^◌, ◌==◌, ◌&&◌, not, cond, Bool, true, false, List, [], ◌∷◌, ◌++◌, length, take, filter, slice_get, Option, Some, None, refl}
-use Rattle.std.proofs.Common.{inl, inr, sym, ap, ◌∙◌, subst, arith, ⊎_elim, length-take-le, eqb-true, eq-eqb}
-use Rattle.std.proofs.lemmas.Bool.{and_parts, not-true}
+use Rattle.std.specs.Prelude.{◌≡◌, ℕ, ◌+◌, ◌<◌, ◌^◌, ◌==◌, ◌&&◌, not, cond, Bool, true, false, List, [], ◌∷◌, ◌++◌, length, take, filter, slice_get, Option, Some, None, refl}
+use Rattle.std.proofs.Common.{sym, ap, ◌∙◌, subst, arith, length-take-le}
+use Rattle.std.proofs.lemmas.Bool.{and_parts}
 use Rattle.std.proofs.lemmas.Option.{slice_get_within}
 use Rattle.raft_state.specs.declared.vote.Vote.{Vote}
 use Rattle.raft_state.specs.declared.log_id.LogId.{LogId}
 use Rattle.raft_state.specs.LogId.{log_id_of, place_of}
 use Rattle.raft_state.specs.declared.entry.EntryPayload.TheVariants.{Normal, Membership as Members}
 use Rattle.raft_engine.specs.Values.{after_change, ChangeMembers, Entry, EntryPayload, entry_of, LoggedMembership, Membership, vote_eq, vote_lt}
-use Rattle.raft_engine.specs.StoredGroup.{StoredGroup, Snapshot, PutEntries, MakeGroup, StartAfter, end_place, held, membership_in_force, snapshot_last}
-use Rattle.raft_engine.specs.Message.{Message, MessageBody, VoteRequest, VoteReply, AppendRequest, AppendReply, SnapshotRequest, SnapshotReply, AppendFields, ReplyFields, ReplyResult, Success, Conflict, HigherVote}
+use Rattle.raft_engine.specs.StoredGroup.{StoredGroup, Snapshot, PutEntries, StartAfter, end_place, held, membership_in_force, snapshot_last}
+use Rattle.raft_engine.specs.Message.{MessageBody, VoteRequest, VoteReply, AppendRequest, AppendReply, SnapshotRequest, SnapshotReply, AppendFields, ReplyFields, ReplyResult, Success, Conflict, HigherVote}
 use Rattle.raft_engine.specs.Peer.{is_kept_for_peers}
 use Rattle.raft_engine.specs.GroupState.{GroupState, Lead, Role, Follower, Candidate, Leader, Untold, is_leader, state_of}
 use Rattle.raft_engine.specs.declared.group_call.GroupCall.TheVariants.{Initialize, Elect, Propose, ChangeMembership, Heartbeat, Lost, TriggerSnapshot, TriggerPurge}
 use Rattle.raft_engine.specs.GroupEvent.{GroupCall, GroupEvent, AddGroup, Call, Receive, Open}
-use Rattle.raft_engine.specs.StepResult.{RefusalReason, NotLeader, StepResult, WrongParty, BreaksCondition, append, apply_up_to, in_role, is_within, later_place, refused_step, renew, send, step_down, store, store_vote, take_over, unchanged}
+use Rattle.raft_engine.specs.StepResult.{RefusalReason, NotLeader, StepResult, append, apply_up_to, in_role, is_within, later_place, renew, send, step_down, store, store_vote, take_over, unchanged}
 use Rattle.raft_engine.specs.Lead.{commit_as_leader, new_lead, purge_as_wished, purge_up_to, with_grant, with_wish}
 use Rattle.raft_engine.specs.VoteRequest.{judged, may_grant}
 use Rattle.raft_engine.specs.VoteReply.{counted, take_over_greater}
@@ -41,7 +41,7 @@ use Rattle.raft_world.proofs.StepTokens.{Quiet, SameTokens, apply_quiet, same_qu
 use Rattle.raft_world.proofs.StepFits.{EventFits, NodeFits, StopFits, world_after}
 use Rattle.raft_world.proofs.StepDispatch.{begins, event_ends}
 use Rattle.raft_world.proofs.StepOpening.{opening_ends, opening_wish}
-use Rattle.raft_world.proofs.StepWords.{either, either_by}
+use Rattle.raft_world.proofs.StepWords.{either}
 use Rattle.raft_world.proofs.Tracking.{Tracks, track_same}
 use Rattle.raft_world.proofs.TrackWrites.{below_stays, write_held}
 

@@ -1,19 +1,18 @@
 -- What a leader is still to purge lies within its snapshot, after each kind of event.
-use Rattle.std.specs.Prelude.{◌≡◌, ◌⊎◌, ℕ, ◌+◌, ◌<◌, ◌≤◌, ◌&&◌, min, max, nat_lt, cond, Bool, true, false, List, [], ◌∷◌, ◌++◌, length, Option, Some, None, is_none, is_some, option_map, refl}
+use Rattle.std.specs.Prelude.{◌≡◌, ℕ, ◌+◌, ◌<◌, ◌≤◌, ◌&&◌, min, cond, Bool, true, false, List, [], ◌∷◌, ◌++◌, length, Option, Some, None, is_none, is_some, option_map, refl}
 use Rattle.std.proofs.Common.{sym, ap, ◌∙◌, subst, arith}
 use Rattle.raft_state.specs.declared.vote.Vote.{Vote}
 use Rattle.raft_state.specs.declared.log_id.LogId.{LogId}
 use Rattle.raft_state.specs.Quorum.{is_quorum}
-use Rattle.raft_engine.specs.Values.{ChangeMembers, Entry, has_id, LoggedMembership, Membership}
-use Rattle.raft_engine.specs.StoredGroup.{StoredGroup, Snapshot, CutFrom, SetSnapshot, prefix_of, snapshot_last, entry_at, has_id_in_log, id_of}
+use Rattle.raft_engine.specs.Values.{ChangeMembers, Entry, has_id, LoggedMembership}
+use Rattle.raft_engine.specs.StoredGroup.{Snapshot, CutFrom, prefix_of, entry_at, has_id_in_log}
 use Rattle.raft_engine.specs.Message.{AppendFields, ReplyFields, ReplyResult, Success, Conflict, HigherVote}
 use Rattle.raft_engine.specs.Peer.{PeerState}
-use Rattle.raft_engine.specs.GroupState.{GroupState, Lead, Role, Follower, Candidate, Leader}
+use Rattle.raft_engine.specs.GroupState.{Lead, Role, Follower, Candidate, Leader}
 use Rattle.raft_engine.specs.StepResult.{StepResult, in_role, send, store, step_down, take_over, later_place, is_within}
-use Rattle.raft_engine.specs.Lead.{configs_in_force, other_ids, remove_up_to, purge_up_to, with_wish, append_blank, begin_lead, lead_if, with_grant, commit_as_leader, purge_as_wished}
+use Rattle.raft_engine.specs.Lead.{configs_in_force, other_ids, remove_up_to, with_wish, begin_lead, lead_if, with_grant, commit_as_leader, purge_as_wished}
 use Rattle.raft_engine.specs.Frames.{lacks_entries, notice, send_request, serve, serve_as, serve_all, with_frames, has_grown}
 use Rattle.raft_engine.specs.Elect.{elect_step, stand, other_voters}
-use Rattle.raft_engine.specs.Initialize.{initialize_step}
 use Rattle.raft_engine.specs.VoteRequest.{judged}
 use Rattle.raft_engine.specs.VoteReply.{take_over_greater, counted}
 use Rattle.raft_engine.specs.AppendRequest.{cut_from, cut_at, put_entries, joined, heard}
@@ -23,8 +22,7 @@ use Rattle.raft_engine.specs.MembershipStep.{append_changed}
 use Rattle.raft_engine.specs.Heartbeat.{send_notices, beat_as}
 use Rattle.raft_engine.specs.Lost.{lost_as}
 use Rattle.raft_engine.specs.PurgeTrigger.{purge_as, purge_within}
-use Rattle.raft_engine.specs.SnapshotTrigger.{snapshot_at, store_snapshot_at, snapshot_of_applied}
-use Rattle.raft_world.proofs.StepWords.{either, either_by}
+use Rattle.raft_world.proofs.StepWords.{either}
 use Rattle.raft_world.proofs.StepFits.{WishFits}
 use Rattle.raft_world.proofs.BallotAgreement.{same_some}
 use Rattle.raft_world.proofs.TrackElections.{ask_state}

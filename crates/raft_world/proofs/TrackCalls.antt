@@ -1,17 +1,15 @@
 -- Commands, changes of the membership, lost requests and snapshots, followed by the ballot machine.
-use Rattle.std.specs.Prelude.{◌≡◌, ◌⊎◌, ℕ, zero, suc, ◌+◌, ◌-◌, ◌<◌, ◌≤◌, ◌^◌, ◌==◌, ◌&&◌, nat_lt, Bool, true, false, List, [], ◌∷◌, ◌++◌, length, take, slice_get, Option, Some, None, is_some, option_map, refl}
-use Rattle.std.proofs.Common.{inl, inr, sym, ap, ap₂, ◌∙◌, subst, arith, ⊎_elim, eqb-true, length-take-le}
+use Rattle.std.specs.Prelude.{◌≡◌, ℕ, ◌+◌, ◌<◌, ◌≤◌, nat_lt, Bool, true, false, List, [], ◌∷◌, length, take, slice_get, Option, Some, None, is_some, option_map, refl}
+use Rattle.std.proofs.Common.{sym, ap, ap₂, ◌∙◌, subst, arith, ⊎_elim, eqb-true, length-take-le}
 use Rattle.std.specs.Cmp.Lexicographic.{pointwise}
 use Rattle.std.specs.Prelude.{nat_eq}
 use Rattle.std.proofs.lemmas.Bool.{and_parts, ltb-false, cases_lt}
 use Rattle.std.proofs.lemmas.Option.{slice_get_past}
-use Rattle.raft_state.specs.declared.log_id.LogId.{LogId}
-use Rattle.raft_state.specs.declared.entry.EntryPayload.TheVariants.{Blank, Normal, Membership as Members}
+use Rattle.raft_state.specs.declared.entry.EntryPayload.TheVariants.{Membership as Members}
 use Rattle.raft_state.specs.LogId.{next_place}
 use Rattle.raft_engine.specs.Values.{Membership, Entry, EntryPayload, configs_eq}
-use Rattle.raft_engine.specs.StoredGroup.{StoredGroup, Snapshot, SetSnapshot, after_storing, entry_at, id_of, first_place, snapshot_last, prefix_of, held}
-use Rattle.raft_engine.specs.Peer.{PeerState, Outstanding}
-use Rattle.raft_engine.specs.GroupState.{GroupState, Lead, Role, Follower, Candidate, Leader}
+use Rattle.raft_engine.specs.StoredGroup.{StoredGroup, Snapshot, SetSnapshot, after_storing, id_of, snapshot_last, prefix_of, held}
+use Rattle.raft_engine.specs.GroupState.{Lead, Role, Follower, Candidate, Leader}
 use Rattle.raft_engine.specs.StepResult.{StepResult, store, append, with_stored}
 use Rattle.raft_engine.specs.Lead.{peer_of}
 use Rattle.raft_engine.specs.Frames.{with_peer_state}
@@ -23,10 +21,9 @@ use Rattle.raft_engine.specs.SnapshotRequest.{place_above}
 use Rattle.raft_world.specs.BallotWorld.{BallotWorld, BallotEvent, written}
 use Rattle.raft_world.specs.BallotRanks.{rank_of}
 use Rattle.raft_world.proofs.BallotAgreement.{same_some, some_at}
-use Rattle.raft_world.proofs.BallotSafe.{Among}
-use Rattle.raft_world.proofs.BallotOthers.{Extends, extends_refl}
-use Rattle.raft_world.proofs.Shapes.{Joined, joined_held, joined_at, joined_below, joined_snapshot, slice_take}
-use Rattle.raft_world.proofs.Standing.{HasId, SnapshotFits, StoredFits, UpFits, LeadKept, lead_same, PeerFits, RoleFits, OwnVote}
+use Rattle.raft_world.proofs.BallotOthers.{extends_refl}
+use Rattle.raft_world.proofs.Shapes.{Joined, joined_held, joined_at, joined_snapshot, slice_take}
+use Rattle.raft_world.proofs.Standing.{SnapshotFits, UpFits, lead_same, PeerFits, RoleFits}
 use Rattle.raft_world.proofs.StepWords.{either_by}
 use Rattle.raft_world.proofs.Tracking.{Tracks, track_same, track_store}
 use Rattle.raft_world.proofs.TrackWrites.{write_tracks, write_extends, write_fits}

@@ -1,16 +1,16 @@
 -- A purge within the snapshot: the ballot machine stays.
-use Rattle.std.specs.Prelude.{◌≡◌, ◌⊎◌, ℕ, ◌+◌, ◌<◌, ◌≤◌, Bool, true, false, List, length, slice_get, Option, Some, None, refl}
-use Rattle.std.proofs.Common.{inl, inr, sym, ap, ◌∙◌, subst, arith, ⊎_elim}
+use Rattle.std.specs.Prelude.{◌≡◌, ℕ, ◌<◌, ◌≤◌, List, length, slice_get, Some, refl}
+use Rattle.std.proofs.Common.{sym, ap, ◌∙◌, subst, arith, ⊎_elim}
 use Rattle.std.proofs.lemmas.Bool.{cases_lt}
 use Rattle.raft_engine.specs.Values.{Membership, Entry}
-use Rattle.raft_engine.specs.StoredGroup.{StoredGroup, RemoveUpTo, after_storing, entry_at, id_of, first_place, prefix_of, held}
+use Rattle.raft_engine.specs.StoredGroup.{StoredGroup, RemoveUpTo, after_storing, id_of, first_place, prefix_of, held}
 use Rattle.raft_engine.specs.StepResult.{StepResult, store, with_stored}
 use Rattle.raft_engine.specs.Lead.{remove_up_to, purge_up_to}
 use Rattle.raft_world.specs.BallotWorld.{BallotWorld, BallotEvent}
 use Rattle.raft_world.proofs.BallotAgreement.{some_at, same_some}
 use Rattle.raft_world.proofs.BallotOthers.{extends_refl}
 use Rattle.raft_world.proofs.Shapes.{Joined, joined_held, joined_at, joined_below, joined_removed}
-use Rattle.raft_world.proofs.Standing.{HasId, UpFits, LeadKept, lead_same, RoleFits}
+use Rattle.raft_world.proofs.Standing.{HasId, UpFits, lead_same, RoleFits}
 use Rattle.raft_world.proofs.Tracking.{Tracks, track_store}
 use Rattle.raft_world.proofs.TrackElections.{Ends}
 

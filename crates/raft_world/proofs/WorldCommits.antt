@@ -41,7 +41,6 @@ use Rattle.raft_world.proofs.GroupList.{Goes, goes_on, list_grows, part_short, q
 use Rattle.raft_world.proofs.BallotQuorums.{quorum_more}
 use Rattle.raft_world.proofs.TrackElections.{quorum_link}
 use Rattle.raft_world.proofs.Tracking.{index_of}
-
 use Rattle.raft_world.proofs.WorldLimits.{ComesKnown, NodeLimits, SceneKnown, WorldLimits, known_still, replied, replied_still, replied_wider, same_log_id, scene_known, vote_itself}
 
 -- an entry that a leader committed in an event, with the note that the event leaves

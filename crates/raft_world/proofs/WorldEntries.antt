@@ -1,11 +1,11 @@
 -- Where the entries of a group's world come from: what holds of each entry that a call writes, and of each blank one,
 -- holds of each that a node has, that a message carries, and that a leader had.
-use Rattle.std.specs.Prelude.{◌≡◌, ◌⊎◌, ℕ, zero, suc, ◌<◌, ◌==◌, Bool, true, false, List, [], ◌∷◌, ◌++◌, length, take, slice_get, Option, Some, None, is_some, unwrap_or, refl}
-use Rattle.std.proofs.Common.{inl, inr, sym, ap, ◌∙◌, subst, arith, ⊎_elim}
+use Rattle.std.specs.Prelude.{◌≡◌, ℕ, zero, suc, ◌<◌, ◌==◌, Bool, true, false, [], slice_get, Option, Some, None, is_some, unwrap_or, refl}
+use Rattle.std.proofs.Common.{sym, subst, arith}
 use Rattle.raft_state.specs.declared.log_id.LogId.{LogId}
 use Rattle.raft_state.specs.declared.entry.EntryPayload.TheVariants.{Blank}
-use Rattle.raft_engine.specs.Values.{ChangeMembers, Entry, entry_of, LoggedMembership, Membership}
-use Rattle.raft_engine.specs.StoredGroup.{StoredGroup, after_storing_all, held, membership_in_force}
+use Rattle.raft_engine.specs.Values.{ChangeMembers, Entry, entry_of, LoggedMembership}
+use Rattle.raft_engine.specs.StoredGroup.{StoredGroup, held, membership_in_force}
 use Rattle.raft_engine.specs.Message.{Message}
 use Rattle.raft_engine.specs.GroupState.{GroupState, Role, Follower, Candidate, Leader, state_of}
 use Rattle.raft_engine.specs.declared.group_call.GroupCall.TheVariants.{Initialize, Elect, Propose, ChangeMembership, Heartbeat, Lost, TriggerSnapshot, TriggerPurge}
@@ -15,9 +15,9 @@ use Rattle.raft_engine.specs.Refusal.{refusal_of}
 use Rattle.raft_engine.specs.GroupStep.{group_step}
 use Rattle.raft_world.specs.declared.world_event.WorldEvent.{WorldEvent}
 use Rattle.raft_world.specs.declared.world_event.WorldEvent.TheVariants.{Add, Ask, Deliver, Crash, Restart}
-use Rattle.raft_world.specs.GroupWorld.{GroupWorld, NodeState, Absent, Up, Down, Led, Outcome, Done, Refused, Stopped, Skipped, is_stop, state_or, with_node_state}
+use Rattle.raft_world.specs.GroupWorld.{GroupWorld, NodeState, Absent, Up, Down, Led, Outcome, Done, Skipped, is_stop, state_or}
 use Rattle.raft_world.specs.NodeEvent.{NodeEvent, Comes, Crashes, Restarts, after_step, outcome_at, outcome_of_end, outcome_of_step, state_after}
-use Rattle.raft_world.specs.GroupRun.{Scene, Nowhere, At, after_scene, ended, is_same_setup, led_after, led_as, led_by, outcome_in, outcome_of, ran, scene_of, scene_of_call, scene_of_delivery, sent_in, setup_in_call, stop_at}
+use Rattle.raft_world.specs.GroupRun.{Scene, At, after_scene, is_same_setup, led_after, led_as, outcome_in, ran, scene_of, scene_of_call, scene_of_delivery, sent_in, setup_in_call, stop_at}
 use Rattle.raft_world.specs.Origins.{changed_entry, entry_of_call}
 use Rattle.raft_world.proofs.StepEntries.{Each, each_append, each_at, BodyEach, BroughtEach, CallEach, ChangedEach, EntriesKept, StoredEach, entries_kept}
 

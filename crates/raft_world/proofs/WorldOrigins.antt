@@ -1,5 +1,5 @@
 -- Each entry of a group's list that isn't blank was asked for by an event of the run.
-use Rattle.std.specs.Prelude.{◌≡◌, ◌⊎◌, ℕ, zero, suc, ◌+◌, ◌<◌, nat_lt, cond, Bool, true, false, List, [], ◌∷◌, ◌++◌, fold, length, map, take, slice_get, Option, Some, None, is_some, unwrap_or, refl, Contains}
+use Rattle.std.specs.Prelude.{◌≡◌, ◌⊎◌, ℕ, ◌+◌, ◌<◌, nat_lt, cond, Bool, true, false, List, [], ◌∷◌, ◌++◌, fold, length, map, slice_get, Option, Some, None, is_some, unwrap_or, refl}
 use Rattle.std.proofs.Common.{inl, inr, sym, ap, ap₂, ◌∙◌, subst, arith, ⊎_elim, append_assoc, append-nil}
 use Rattle.std.proofs.Math.Seq.{take-append_seam}
 use Rattle.raft_state.specs.declared.log_id.LogId.{LogId}
@@ -9,10 +9,9 @@ use Rattle.raft_engine.specs.GroupState.{GroupState, no_group, state_of}
 use Rattle.raft_engine.specs.GroupEvent.{GroupCall, Call}
 use Rattle.raft_engine.specs.Refusal.{refusal_of}
 use Rattle.raft_world.specs.declared.world_event.WorldEvent.{WorldEvent}
-use Rattle.raft_world.specs.declared.world_event.WorldEvent.TheVariants.{Add, Ask, Deliver, Crash, Restart}
-use Rattle.raft_world.specs.GroupWorld.{GroupWorld, Absent, Led, NodeState, Up, new_world, state_or}
+use Rattle.raft_world.specs.declared.world_event.WorldEvent.TheVariants.{Ask}
+use Rattle.raft_world.specs.GroupWorld.{GroupWorld, Absent, Led, Up, new_world, state_or}
 use Rattle.raft_world.specs.GroupRun.{group_run, history_of, is_same_setup, ran, setup_in_call}
-use Rattle.raft_world.specs.OneList.{AreNodeIds}
 use Rattle.raft_world.specs.Settled.{group_list, longer, settled_part}
 use Rattle.raft_world.specs.Origins.{Events, EntriesWereAskedFor, IsAskedAt, OnePlaceForAnEvent, entry_of_call, world_before}
 use Rattle.raft_world.proofs.BallotAgreement.{same_some}
@@ -21,7 +20,7 @@ use Rattle.raft_world.proofs.GroupList.{is_list}
 use Rattle.raft_world.proofs.Runs.{run-replays}
 use Rattle.raft_world.proofs.Shapes.{slice_after}
 use Rattle.raft_world.proofs.StepEntries.{Each, each_at, each_take}
-use Rattle.raft_world.proofs.WorldEntries.{CallsWrite, EntriesFit, LedEach, NodeEach, ran_each}
+use Rattle.raft_world.proofs.WorldEntries.{EntriesFit, NodeEach, ran_each}
 use Rattle.raft_world.proofs.WorldStart.{founded}
 
 -- ---- runs, event by event

@@ -1,21 +1,20 @@
 -- What an event of a run asked for stands in its history, neither refused nor skipped.
-use Rattle.std.specs.Prelude.{◌≡◌, ℕ, zero, suc, Bool, true, false, List, [], ◌∷◌, take, slice_get, Option, Some, None, is_some, refl}
-use Rattle.std.proofs.Common.{sym, ap, ap₂, ◌∙◌, subst}
+use Rattle.std.specs.Prelude.{◌≡◌, ℕ, zero, suc, Bool, true, false, [], ◌∷◌, slice_get, Option, Some, None, is_some, refl}
+use Rattle.std.proofs.Common.{sym, ap, ◌∙◌}
 use Rattle.raft_engine.specs.Values.{ChangeMembers, Entry, LoggedMembership}
-use Rattle.raft_engine.specs.StoredGroup.{StoredGroup, membership_in_force}
+use Rattle.raft_engine.specs.StoredGroup.{membership_in_force}
 use Rattle.raft_engine.specs.GroupState.{GroupState}
 use Rattle.raft_engine.specs.declared.group_call.GroupCall.TheVariants.{Initialize, Elect, Propose, ChangeMembership, Heartbeat, Lost, TriggerSnapshot, TriggerPurge}
 use Rattle.raft_engine.specs.GroupEvent.{GroupCall, GroupEvent, Call}
 use Rattle.raft_engine.specs.StepResult.{RefusalReason, StepResult}
 use Rattle.raft_engine.specs.MembershipStep.{append_changed}
-use Rattle.raft_engine.specs.Refusal.{refusal_of}
 use Rattle.raft_engine.specs.GroupStep.{begun, call_step, group_step, step_unless}
 use Rattle.raft_world.specs.declared.world_event.WorldEvent.{WorldEvent}
 use Rattle.raft_world.specs.declared.world_event.WorldEvent.TheVariants.{Ask}
-use Rattle.raft_world.specs.GroupWorld.{GroupWorld, NodeState, Up, Outcome, Recorded}
+use Rattle.raft_world.specs.GroupWorld.{GroupWorld, Up, Outcome, Recorded}
 use Rattle.raft_world.specs.NodeEvent.{Comes, outcome_at, outcome_of_end, outcome_of_step}
 use Rattle.raft_world.specs.GroupRun.{history_of, outcome_in, outcome_of, ran, scene_of_call}
-use Rattle.raft_world.specs.Origins.{AskedIsRecorded, Events, changed_entry, entry_of_call, is_taken, world_before}
+use Rattle.raft_world.specs.Origins.{AskedIsRecorded, Events, entry_of_call, is_taken, world_before}
 use Rattle.raft_world.proofs.BallotAgreement.{same_some}
 use Rattle.raft_world.proofs.SetUps.{Goes, finished_goes, set_up_done}
 

@@ -1,10 +1,10 @@
 -- Tokens in a group's world: each that a node is still to tell, and each that an event tells, stands for its entry.
-use Rattle.std.specs.Prelude.{◌≡◌, ◌⊎◌, ℕ, zero, suc, ◌+◌, ◌<◌, ◌^◌, ◌==◌, Bool, true, false, List, [], ◌∷◌, ◌++◌, length, slice_get, Option, Some, None, is_some, unwrap_or, refl, Contains}
-use Rattle.std.proofs.Common.{inl, inr, sym, ap, ◌∙◌, subst, arith, ⊎_elim, eq-eqb}
-use Rattle.raft_engine.specs.Values.{ChangeMembers, Entry, has_id, LoggedMembership, Membership}
+use Rattle.std.specs.Prelude.{◌≡◌, ℕ, ◌<◌, ◌^◌, ◌==◌, Bool, true, false, List, [], ◌∷◌, length, slice_get, Option, Some, None, is_some, unwrap_or, refl}
+use Rattle.std.proofs.Common.{sym, ap, subst, ⊎_elim, eq-eqb}
+use Rattle.raft_engine.specs.Values.{ChangeMembers, Entry, LoggedMembership, Membership}
 use Rattle.raft_engine.specs.StoredGroup.{StoredGroup, membership_in_force}
 use Rattle.raft_engine.specs.Message.{Message}
-use Rattle.raft_engine.specs.GroupState.{GroupState, Untold, no_group, state_of}
+use Rattle.raft_engine.specs.GroupState.{GroupState, Untold, state_of}
 use Rattle.raft_engine.specs.declared.group_call.GroupCall.TheVariants.{Initialize, Elect, Propose, ChangeMembership, Heartbeat, Lost, TriggerSnapshot, TriggerPurge}
 use Rattle.raft_engine.specs.GroupEvent.{GroupCall, GroupEvent, AddGroup, Call, Receive, Open}
 use Rattle.raft_engine.specs.StepResult.{RefusalReason, StepResult}
@@ -20,7 +20,7 @@ use Rattle.raft_world.specs.GroupRun.{Scene, Nowhere, At, after_scene, is_same_s
 use Rattle.raft_world.specs.Origins.{changed_entry, entry_of_call}
 use Rattle.raft_world.proofs.BallotSafe.{among_at}
 use Rattle.raft_world.proofs.StepEntries.{Each}
-use Rattle.raft_world.proofs.StepFits.{NodeFits, StopFits, world_after}
+use Rattle.raft_world.proofs.StepFits.{NodeFits, world_after}
 use Rattle.raft_world.proofs.StepTold.{CallToken, ChangeToken, EventToken, ToldFits, TokensEnd, TokensFit, opening_tells, step_tells, token_at}
 use Rattle.raft_world.proofs.WorldFits.{NodeStateFits, WorldFits}
 use Rattle.raft_world.proofs.WorldSteps.{MayCome, MayHappen}

@@ -1,15 +1,15 @@
 -- Each token that an event of a run tells stands for the entry that its own event wrote.
-use Rattle.std.specs.Prelude.{◌≡◌, ◌⊎◌, ℕ, zero, suc, ◌<◌, ◌^◌, Bool, true, false, List, [], ◌∷◌, ◌++◌, length, slice_get, Option, Some, None, is_some, unwrap_or, refl, Contains}
+use Rattle.std.specs.Prelude.{◌≡◌, ℕ, ◌<◌, Bool, true, false, List, [], ◌∷◌, ◌++◌, length, slice_get, Option, Some, None, is_some, refl}
 use Rattle.std.proofs.Common.{inl, inr, sym, ap, ◌∙◌, subst, arith, leb-true, append_assoc, append-nil}
 use Rattle.raft_engine.specs.Values.{Entry, has_id, Membership}
 use Rattle.raft_engine.specs.GroupState.{GroupState, Untold, no_group, state_of}
-use Rattle.raft_engine.specs.GroupEvent.{GroupCall, Call}
+use Rattle.raft_engine.specs.GroupEvent.{GroupCall}
 use Rattle.raft_world.specs.declared.world_event.WorldEvent.{WorldEvent}
-use Rattle.raft_world.specs.GroupWorld.{GroupWorld, Absent, NodeState, Up, new_world, state_or}
+use Rattle.raft_world.specs.GroupWorld.{GroupWorld, Absent, Up, new_world, state_or}
 use Rattle.raft_world.specs.GroupRun.{group_run, history_of, outcome_of, ran}
 use Rattle.raft_world.specs.Stop.{token_of_call}
 use Rattle.raft_world.specs.OneList.{AreNodeIds, IsGroupHistory}
-use Rattle.raft_world.specs.Origins.{Events, IsAskedAt, IsTold, ToldTokensStand}
+use Rattle.raft_world.specs.Origins.{Events, IsAskedAt, ToldTokensStand}
 use Rattle.raft_world.proofs.BallotAgreement.{same_some}
 use Rattle.raft_world.proofs.Counts.{contains_at}
 use Rattle.raft_engine.specs.StoredGroup.{held}
@@ -19,7 +19,7 @@ use Rattle.raft_world.proofs.Committed.{committed_holds}
 use Rattle.raft_world.proofs.Runs.{run-replays}
 use Rattle.raft_world.proofs.StepEntries.{each_at}
 use Rattle.raft_world.proofs.WorldOrigins.{asked_at, run_more}
-use Rattle.raft_world.proofs.WorldRuns.{IsSetUp, Matches, SetUpWith, setup_stays}
+use Rattle.raft_world.proofs.WorldRuns.{SetUpWith, setup_stays}
 use Rattle.raft_world.proofs.WorldStart.{history_matches}
 use Rattle.raft_world.proofs.WorldTokens.{CallsToken, NodeTokens, Teller, TokensAfter, TokensWorld, ran_tokens}
 
@@ -80,14 +80,13 @@ module _ (ids : List ℕ) (small : AreNodeIds ids) (es : Events) where
 
   -- what a call's token stands for
   brought : (pre post : Events) (event : WorldEvent) (stop : Option ℕ) → es ≡ pre ++ (event, stop) ∷ post → CallsToken Q (group_run pre first) event (is_some stop)
-  brought pre post event stop split = λ n call now s ask up same taken going e token writes is.
-      (
-        length pre,
-        call,
-        asked_at es pre post event stop first split n call now s ask up same taken
-            (λ t. absurd (let f : true ≡ false = sym t ∙ going in cc)) e writes,
-        is,
-      )
+  brought pre post event stop split = λ n call now s ask up same taken going e token writes is. (
+    length pre,
+    call,
+    asked_at es pre post event stop first split n call now s ask up same taken
+        (λ t. absurd (let f : true ≡ false = sym t ∙ going in cc)) e writes,
+    is,
+  )
 
   module _ (m : Membership) (some : 0 < length m.configs) (known : SetUpWith m (group_run es first)) where
     known_at : (pre post : Events) → es ≡ pre ++ post → SetUpWith m (group_run pre first)
