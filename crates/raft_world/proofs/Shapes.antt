@@ -89,11 +89,10 @@ pub record Joined (st : StoredGroup) (xs : List Entry) : Type 0 where
   pub low : first_place st ≤ length (prefix_of st.snapshot)
   pub high : length (prefix_of st.snapshot) ≤ length xs
 
--- the snapshot is the list, and reaches past the log, which an opening drops
+-- the snapshot is the list, and the log ends below its last entry, so that an opening drops it
 pub record Stale (st : StoredGroup) (xs : List Entry) : Type 0 where
   pub front : prefix_of st.snapshot ≡ xs
-  pub low : first_place st ≤ length xs
-  pub short : end_place st ≤ length xs
+  pub short : end_place st < length xs
 
 module _ (st : StoredGroup) (xs : List Entry) (j : Joined st xs) where
   pub joined_held : held st ≡ xs

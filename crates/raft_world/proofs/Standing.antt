@@ -77,6 +77,31 @@ pub record UpFits (m : Membership) (x : BallotNode) (s : GroupState) : Type 0 wh
 pub up_down : {m : Membership} {x : BallotNode} {s : GroupState} → UpFits m x s → DownFits m x s.stored
 up_down u = record { list = u.list; fits = u.fits; shape = inl u.joined }
 
+-- a committed vote of the node's own, under which an opening leads on, comes with a membership
+pub record LeadKept (own : ℕ) (st : StoredGroup) : Type 0 where
+  pub term : st.vote.committed ≡ true → st.vote.leader_id.node_id ≡ own → 0 < st.vote.leader_id.term
+  pub has : st.vote.committed ≡ true → st.vote.leader_id.node_id ≡ own → HasMembership (held st)
+
+pub lead_other : {own : ℕ} {st : StoredGroup} → (st.vote.leader_id.node_id ≡ own → ⊥) → LeadKept own st
+lead_other ne = record { term = λ c n. absurd (ne n); has = λ c n. absurd (ne n) }
+
+pub lead_young : {own : ℕ} {st : StoredGroup} → st.vote.committed ≡ false → LeadKept own st
+lead_young {own} {st} young = record { term = λ c n. absurd (no c); has = λ c n. absurd (no c) }
+  where
+    no : st.vote.committed ≡ true → ⊥
+    no c = let e : false ≡ true = sym young ∙ c in cc
+
+pub lead_same : {own : ℕ} {st st' : StoredGroup} → st'.vote ≡ st.vote → held st' ≡ held st → LeadKept own st → LeadKept own st'
+lead_same {own} {st} {st'} vote list k =
+    record {
+      term = λ c n.
+          subst (λ v. 0 < v.leader_id.term) (sym vote)
+          (k.term (ap (λ v. v.committed) (sym vote) ∙ c) (ap (λ v. v.leader_id.node_id) (sym vote) ∙ n));
+      has = λ c n.
+          subst HasMembership (sym list)
+          (k.has (ap (λ v. v.committed) (sym vote) ∙ c) (ap (λ v. v.leader_id.node_id) (sym vote) ∙ n));
+    }
+
 -- what a leader knows of a peer was replied, and stands in its list
 pub record PeerFits (replies : List BallotReply) (rank : ℕ) (xs : List Entry) (p : PeerState) : Type 0 where
   pub matched : (id : LogId ℕ) → p.matched ≡ Some id → Among (reply-of rank p.peer (id.index + 1)) replies × HasId xs id

@@ -26,7 +26,7 @@ use Rattle.raft_world.proofs.VoteRanks.{owner_other}
 use Rattle.raft_world.proofs.Shapes.{Good, Joined, good_drop, joined_at, joined_below, joined_end, joined_cut, joined_put}
 use Rattle.raft_world.proofs.FreshEntries.{within_is, without_is, above_is, has_id_is, has_id_place, missing_is, holds_at}
 use Rattle.raft_world.proofs.Ids.{size_same, ballot_at}
-use Rattle.raft_world.proofs.Standing.{up_down, StoredFits, UpFits, DownFits, MessageFits, AppendFits, append-of, reply-of, id_rank, message_on}
+use Rattle.raft_world.proofs.Standing.{up_down, LeadKept, lead_other, StoredFits, UpFits, DownFits, MessageFits, AppendFits, append-of, reply-of, id_rank, message_on}
 use Rattle.raft_world.proofs.StepWords.{either_by}
 use Rattle.raft_world.proofs.Tracking.{Tracks, Reached, MayStop, index_of, reached_next, reached_safe, step_extends, stored_next, stops_store, track_on, track_same, track_event}
 use Rattle.raft_world.proofs.TrackWrites.{put_fits, cut_fits}
@@ -87,6 +87,9 @@ module _ {m : Membership} {some : 0 < length m.configs} {own : ℕ} {before : Li
   front_low : length (prefix_of r.state.stored.snapshot) ≤ place_above r.state.committed
   front_low = omega (arith, t.up.fits.reaches, t.up.commit)
 
+  stranger : r.state.stored.vote.leader_id.node_id ≡ own → ⊥
+  stranger e = other (ap (λ y. y.leader_id.node_id) (sym under) ∙ e)
+
   -- ---- the entry before isn't the list's
 
   module _ (id : LogId ℕ) (previous : a.previous ≡ Some id) (not_held : is_held r.state.stored r.state.committed (Some id) ≡ false) (there : is_some (entry_at r.state.stored id.index) ≡ true) where
@@ -143,7 +146,8 @@ module _ {m : Membership} {some : 0 < length m.configs} {own : ℕ} {before : Li
             joined = joined_cut r.state.stored list t.up.joined id.index (omega (arith, front_low, above)) (omega (arith, inside));
             commit = t.up.commit;
             applied = t.up.applied;
-          })),
+          }))
+          (lead_other stranger),
       step_extends m own w (CutForConflict at.0 own) refl (cut_before w own asked) conflict_is,
     )
 
@@ -337,6 +341,7 @@ module _ {m : Membership} {some : 0 < length m.configs} {own : ℕ} {before : Li
         messages : q.messages ≡ r.messages
         committed : q.state.committed ≡ r.state.committed
         role : q.state.role ≡ r.state.role
+        vote : q.state.stored.vote ≡ r.state.stored.vote
 
       put_high : length (prefix_of r.state.stored.snapshot) ≤ max (w.node own).commit (min (next_place a.committed) (next_place a.previous + length (ballot_log a.entries)))
       put_high = omega (arith, t.up.fits.reaches)
@@ -351,6 +356,7 @@ module _ {m : Membership} {some : 0 < length m.configs} {own : ℕ} {before : Li
             messages = refl;
             committed = refl;
             role = refl;
+            vote = refl;
           }
 
       cut_is : ballot_step (ballot_group m) w (CutForEntries at.0 own) ≡ cut w own asked
@@ -387,6 +393,7 @@ module _ {m : Membership} {some : 0 < length m.configs} {own : ℕ} {before : Li
                   fits =
                       subst (λ y. DownFits m y (after_storing (CutFrom p) r.state.stored)) (sym (with_value_same w.node own _))
                       (record { list = take p list; fits = cut_stored; shape = inl cut_joined });
+                  lead = lead_other stranger;
                 });
             stored = stored_next base r (CutFrom p) t.stored;
             joined =
@@ -399,6 +406,7 @@ module _ {m : Membership} {some : 0 < length m.configs} {own : ℕ} {before : Li
             messages = refl;
             committed = refl;
             role = refl;
+            vote = refl;
           }
 
       cut_or_not : Shortened (cut_from p r)
@@ -410,6 +418,9 @@ module _ {m : Membership} {some : 0 < length m.configs} {own : ℕ} {before : Li
           let up : UpFits m after (apply_up_to upto q').state =
           record { list = take p list ++ e ∷ es; fits = h.fits'; joined = h.joined; commit = commit_is q.state.committed h.committed; applied = refl }
           in
+          let lead : LeadKept own (after_storing (PutEntries p (e ∷ es)) q.state.stored) =
+          lead_other (λ n. stranger (ap (λ y. y.leader_id.node_id) (sym h.vote) ∙ n))
+          in
           record {
             reached = take_reached;
             stops =
@@ -418,9 +429,11 @@ module _ {m : Membership} {some : 0 < length m.configs} {own : ℕ} {before : Li
                   world = taken w own asked;
                   reached = take_reached;
                   fits = subst (λ y. DownFits m y (after_storing (PutEntries p (e ∷ es)) q.state.stored)) (sym after_is) (up_down up);
+                  lead = lead;
                 });
             stored = stored_next base q (PutEntries p (e ∷ es)) h.stored;
             up = subst (λ y. UpFits m y (apply_up_to upto q').state) (sym after_is) up;
+            lead = lead;
             messages = λ x b. messages_on x (subst (Among x) h.messages b);
           }
 

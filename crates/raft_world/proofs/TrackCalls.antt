@@ -1,17 +1,15 @@
 -- Commands, changes of the membership, lost requests and snapshots, followed by the ballot machine.
-use Rattle.std.specs.Prelude.{◌≡◌, ◌⊎◌, ℕ, zero, suc, ◌+◌, ◌-◌, ◌<◌, ◌≤◌, ◌^◌, ◌==◌, ◌&&◌, nat_lt, Bool, true, false, List, [], ◌∷◌, ◌++◌, length, take, slice_get, Option, Some, None, is_some, option_map, refl}
-use Rattle.std.proofs.Common.{inl, inr, sym, ap, ap₂, ◌∙◌, subst, arith, ⊎_elim, eqb-true, length-take-le}
+use Rattle.std.specs.Prelude.{◌≡◌, ℕ, ◌+◌, ◌<◌, ◌≤◌, nat_lt, Bool, true, false, List, [], ◌∷◌, length, take, slice_get, Option, Some, None, is_some, option_map, refl}
+use Rattle.std.proofs.Common.{sym, ap, ap₂, ◌∙◌, subst, arith, ⊎_elim, eqb-true, length-take-le}
 use Rattle.std.specs.Cmp.Lexicographic.{pointwise}
 use Rattle.std.specs.Prelude.{nat_eq}
 use Rattle.std.proofs.lemmas.Bool.{and_parts, ltb-false, cases_lt}
 use Rattle.std.proofs.lemmas.Option.{slice_get_past}
-use Rattle.raft_state.specs.declared.log_id.LogId.{LogId}
-use Rattle.raft_state.specs.declared.entry.EntryPayload.TheVariants.{Blank, Normal, Membership as Members}
+use Rattle.raft_state.specs.declared.entry.EntryPayload.TheVariants.{Membership as Members}
 use Rattle.raft_state.specs.LogId.{next_place}
 use Rattle.raft_engine.specs.Values.{Membership, Entry, EntryPayload, configs_eq}
-use Rattle.raft_engine.specs.StoredGroup.{StoredGroup, Snapshot, SetSnapshot, after_storing, entry_at, id_of, first_place, snapshot_last, prefix_of, held}
-use Rattle.raft_engine.specs.Peer.{PeerState, Outstanding}
-use Rattle.raft_engine.specs.GroupState.{GroupState, Lead, Role, Follower, Candidate, Leader}
+use Rattle.raft_engine.specs.StoredGroup.{StoredGroup, Snapshot, SetSnapshot, after_storing, id_of, snapshot_last, prefix_of, held}
+use Rattle.raft_engine.specs.GroupState.{Lead, Role, Follower, Candidate, Leader}
 use Rattle.raft_engine.specs.StepResult.{StepResult, store, append, with_stored}
 use Rattle.raft_engine.specs.Lead.{peer_of}
 use Rattle.raft_engine.specs.Frames.{with_peer_state}
@@ -23,10 +21,9 @@ use Rattle.raft_engine.specs.SnapshotRequest.{place_above}
 use Rattle.raft_world.specs.BallotWorld.{BallotWorld, BallotEvent, written}
 use Rattle.raft_world.specs.BallotRanks.{rank_of}
 use Rattle.raft_world.proofs.BallotAgreement.{same_some, some_at}
-use Rattle.raft_world.proofs.BallotSafe.{Among}
-use Rattle.raft_world.proofs.BallotOthers.{Extends, extends_refl}
-use Rattle.raft_world.proofs.Shapes.{Joined, joined_held, joined_at, joined_below, joined_snapshot, slice_take}
-use Rattle.raft_world.proofs.Standing.{HasId, SnapshotFits, StoredFits, UpFits, PeerFits, RoleFits, OwnVote}
+use Rattle.raft_world.proofs.BallotOthers.{extends_refl}
+use Rattle.raft_world.proofs.Shapes.{Joined, joined_held, joined_at, joined_snapshot, slice_take}
+use Rattle.raft_world.proofs.Standing.{SnapshotFits, UpFits, lead_same, PeerFits, RoleFits}
 use Rattle.raft_world.proofs.StepWords.{either_by}
 use Rattle.raft_world.proofs.Tracking.{Tracks, track_same, track_store}
 use Rattle.raft_world.proofs.TrackWrites.{write_tracks, write_extends, write_fits}
@@ -94,7 +91,7 @@ module _ {m : Membership} {some : 0 < length m.configs} {own : ℕ} {before : Li
   stays : RoleFits own w r.state.stored.vote (held r.state.stored) r.state.role → Ends m some own before base w r
   stays h = record { world = w; extends = extends_refl own w; tracks = t; role = h }
 
-  snapshot_next : (o : Option Snapshot) → r.state.stored.snapshot ≡ o → next_place (option_map (λ (x : Snapshot). x.last) o) ≡ length (prefix_of o)
+  pub snapshot_next : (o : Option Snapshot) → r.state.stored.snapshot ≡ o → next_place (option_map (λ (x : Snapshot). x.last) o) ≡ length (prefix_of o)
   snapshot_next None e = refl
   snapshot_next (Some x) e = sym (t.up.fits.snapshot x e).size
 
@@ -111,7 +108,7 @@ module _ {m : Membership} {some : 0 < length m.configs} {own : ℕ} {before : Li
     front : shot.«prefix» ≡ take (a + 1) list
     front = ap₂ take (let q : e.log_id.index + 1 ≡ a + 1 = omega (arith, index) in q) held_is
 
-    size : length shot.«prefix» ≡ a + 1
+    pub size : length shot.«prefix» ≡ a + 1
     size = ap length front ∙ length-take-le (a + 1) list (omega arith)
 
     shot_fits : SnapshotFits shot
@@ -149,15 +146,16 @@ module _ {m : Membership} {some : 0 < length m.configs} {own : ℕ} {before : Li
           applied = u.applied;
         }
 
+    pub same_held : held r.state.stored ≡ held (after_storing (SetSnapshot shot) r.state.stored)
+    same_held = held_is ∙ sym (joined_held (after_storing (SetSnapshot shot) r.state.stored) list new_joined)
+
     shot_ends : RoleFits own w r.state.stored.vote (held r.state.stored) r.state.role → Ends m some own before base w (store (SetSnapshot shot) r)
     shot_ends h =
         record {
           world = w;
           extends = extends_refl own w;
-          tracks = track_store (SetSnapshot shot) t t.reached new_up t.messages;
-          role =
-              subst (λ l. RoleFits own w r.state.stored.vote l r.state.role)
-              (held_is ∙ sym (joined_held (after_storing (SetSnapshot shot) r.state.stored) list new_joined)) h;
+          tracks = track_store (SetSnapshot shot) t t.reached new_up t.messages (lead_same refl (sym same_held) t.lead);
+          role = subst (λ l. RoleFits own w r.state.stored.vote l r.state.role) same_held h;
         }
 
   pub snapshot_ends : RoleFits own w r.state.stored.vote (held r.state.stored) r.state.role → (o : Option ℕ) → r.state.applied ≡ o → Ends m some own before base w (snapshot_of_applied o r)

@@ -82,7 +82,7 @@ commits_own own lead r = go (last_place (filter (may_be_committed own r.state.st
         (λ e. inr (x.0, x.1, x.2, leader x.0 x.4, e ∙ ap Some (sym x.3)))
         (later r.state.committed i)
 
-accepted_from : (rs : List BallotReply) (b n upto i : ℕ) → i < upto → Among (reply-of b n upto) rs → ballot_accepted rs b i n ≡ true
+pub accepted_from : (rs : List BallotReply) (b n upto i : ℕ) → i < upto → Among (reply-of b n upto) rs → ballot_accepted rs b i n ≡ true
 accepted_from [] b n upto i l h = absurd h
 accepted_from (x ∷ xs) b n upto i l h =
     ⊎_elim

@@ -27,7 +27,7 @@ use Rattle.raft_world.proofs.VoteRanks.{owner_is, rank_below, vote_eq_same}
 use Rattle.raft_world.proofs.VoteOrders.{by_term}
 use Rattle.raft_world.proofs.Shapes.{Good, Joined, joined_held, joined_end, joined_put}
 use Rattle.raft_world.proofs.Memberships.{HasMembership, in_force, last_voters}
-use Rattle.raft_world.proofs.Standing.{MessageFits, UpFits, RoleFits, OwnVote, request-of, grant-of, id_rank}
+use Rattle.raft_world.proofs.Standing.{MessageFits, UpFits, lead_young, RoleFits, OwnVote, request-of, grant-of, id_rank}
 use Rattle.raft_world.proofs.Ids.{log_end_is}
 use Rattle.raft_world.proofs.StepWords.{either_by}
 use Rattle.raft_world.proofs.Tracking.{Tracks, among_last, track_event, track_same, track_send, step_extends}
@@ -71,7 +71,7 @@ ask_state own [] r = refl
 ask_state own (n ∷ ns) r = ask_state own ns _
 
 -- the voter groups of a membership's entry
-abbrev configs-in : EntryPayload → List (List ℕ)
+abbrev pub configs-in : EntryPayload → List (List ℕ)
 configs-in Blank = []
 configs-in (Normal command) = []
 configs-in (Members x) = x.configs
@@ -120,7 +120,8 @@ module _ {m : Membership} {some : 0 < length m.configs} {own : ℕ} {before : Li
           track_same lead_state
           (track_event (SetVote (committed_vote r.state.stored.vote)) t (WinElection own) refl (won w own) win_is
           (subst (λ y. UpFits m y (with_stored r.state (after_storing (SetVote (committed_vote r.state.stored.vote)) r.state.stored))) (sym (with_value_same w.node own _))
-          (up_node _ t.up.fits.ballot refl refl refl (voted (committed_vote r.state.stored.vote) t.up.fits.bound t.up))))
+          (up_node _ t.up.fits.ballot refl refl refl (voted (committed_vote r.state.stored.vote) t.up.fits.bound t.up)))
+          (record { term = λ c n. mine.term; has = λ c n. has }))
           refl refl refl refl refl
 
       now : OwnVote own lead_state.state.stored.vote true
@@ -204,7 +205,8 @@ module _ {m : Membership} {some : 0 < length m.configs} {own : ℕ} {before : Li
         track_same candidate_state
         (track_event (SetVote next_vote) down (StandForElection own next_ballot) refl (elected w own next_ballot) stand_is
         (subst (λ y. UpFits m y (with_stored (step_down r).state (after_storing (SetVote next_vote) r.state.stored))) (sym (with_value_same w.node own _))
-        (voted next_vote small down.up)))
+        (voted next_vote small down.up))
+        (lead_young refl))
         refl refl refl refl refl
 
     asked : Among (request-of next_ballot (id_rank (last_id candidate_state.state.stored)) (next_place (last_id candidate_state.state.stored))) (elected w own next_ballot).requests
@@ -274,6 +276,7 @@ module _ {m : Membership} {some : 0 < length m.configs} {own : ℕ} {before : Li
           commit = t.up.commit;
           applied = t.up.applied;
         }))
+        (lead_young (let n = none_stored in ap (λ v. v.committed) n.2))
 
     pub initialize_ends : Ends m some own before base w (initialize_step own m r)
     initialize_ends =

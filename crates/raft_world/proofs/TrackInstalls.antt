@@ -28,7 +28,7 @@ use Rattle.raft_world.proofs.VoteRanks.{owner_other, rank_leader}
 use Rattle.raft_world.proofs.Shapes.{Good, Joined, Stale, good_take, good_drop, joined_at, joined_end, joined_cut, joined_snapshot, joined_removed, slice_take, slice_taken}
 use Rattle.raft_world.proofs.FreshEntries.{has_id_is, has_id_place, holds_at, without_is}
 use Rattle.raft_world.proofs.Ids.{size_same, ballot_at, last_before}
-use Rattle.raft_world.proofs.Standing.{HasId, SnapshotFits, StoredFits, UpFits, DownFits, MessageFits, InstallFits, append-of, message_on, up_down}
+use Rattle.raft_world.proofs.Standing.{HasId, SnapshotFits, StoredFits, UpFits, DownFits, MessageFits, InstallFits, append-of, message_on, up_down, lead_other}
 use Rattle.raft_world.proofs.Tracking.{Tracks, Reached, MayStop, index_of, reached_next, reached_safe, step_extends, stored_next, stops_store, track_event}
 use Rattle.raft_world.proofs.TrackWrites.{cut_fits, purge_index}
 
@@ -132,6 +132,9 @@ module _ {m : Membership} {some : 0 < length m.configs} {own : ℕ} {before : Li
       ∙ holds_at (ballot_log list) x.last.index (rank_of x.last.leader_id) (ballot_entry y) (ballot_at list x.last.index y h)
       ∙ sym (has_id_is m r.state.stored list t.up.joined t.up.fits.good x.last y (omega (arith, past, front_low, (t.up.joined).low)) h last_bound)
 
+  stranger : r.state.stored.vote.leader_id.node_id ≡ own → ⊥
+  stranger e = other (ap (λ y. y.leader_id.node_id) (sym under) ∙ e)
+
   -- ---- another entry stands there
 
   module _ (unlike : has_id_in_log r.state.stored x.last ≡ false) (inside : x.last.index < length list) where
@@ -160,7 +163,8 @@ module _ {m : Membership} {some : 0 < length m.configs} {own : ℕ} {before : Li
             joined = joined_cut r.state.stored list t.up.joined (place_above r.state.committed) front_low (omega (arith, past, inside));
             commit = t.up.commit;
             applied = t.up.applied;
-          })),
+          }))
+          (lead_other stranger),
       step_extends m own w (CutForSnapshot at.0 own) refl (dropped w own asked) drops_is,
     )
 
@@ -312,7 +316,6 @@ module _ {m : Membership} {some : 0 < length m.configs} {own : ℕ} {before : Li
             };
             shape = inr (record {
               front = refl;
-              low = omega (arith, past, front_low, size, (t.up.joined).low);
               short = let ends = joined_end r.state.stored list t.up.joined in omega (arith, ends, short, size);
             });
           };
@@ -354,9 +357,10 @@ module _ {m : Membership} {some : 0 < length m.configs} {own : ℕ} {before : Li
             stops =
                 stops_store q1 (RemoveUpTo x.last) (stored_next base r (SetSnapshot x) t.stored)
                 (stops_store r (SetSnapshot x) t.stored t.stops
-                (record { world = taken w own asked; reached = install_reached; fits = subst (λ y. DownFits m y with_snapshot) (sym after_is) i.mid }))
-                (record { world = taken w own asked; reached = install_reached; fits = subst (λ y. DownFits m y without_log) (sym after_is) (up_down up) });
+                (record { world = taken w own asked; reached = install_reached; fits = subst (λ y. DownFits m y with_snapshot) (sym after_is) i.mid; lead = lead_other stranger }))
+                (record { world = taken w own asked; reached = install_reached; fits = subst (λ y. DownFits m y without_log) (sym after_is) (up_down up); lead = lead_other stranger });
             stored = stored_next base q1 (RemoveUpTo x.last) (stored_next base r (SetSnapshot x) t.stored);
             up = subst (λ y. UpFits m y (apply_up_to (Some x.last.index) q2).state) (sym after_is) up;
+            lead = lead_other stranger;
             messages = λ y b. message_on install_extends m y (t.messages y b);
           }

@@ -1,16 +1,16 @@
 -- A purge within the snapshot: the ballot machine stays.
-use Rattle.std.specs.Prelude.{◌≡◌, ◌⊎◌, ℕ, ◌+◌, ◌<◌, ◌≤◌, Bool, true, false, List, length, slice_get, Option, Some, None, refl}
-use Rattle.std.proofs.Common.{inl, inr, sym, ap, ◌∙◌, subst, arith, ⊎_elim}
+use Rattle.std.specs.Prelude.{◌≡◌, ℕ, ◌<◌, ◌≤◌, List, length, slice_get, Some, refl}
+use Rattle.std.proofs.Common.{sym, ap, ◌∙◌, subst, arith, ⊎_elim}
 use Rattle.std.proofs.lemmas.Bool.{cases_lt}
 use Rattle.raft_engine.specs.Values.{Membership, Entry}
-use Rattle.raft_engine.specs.StoredGroup.{StoredGroup, RemoveUpTo, after_storing, entry_at, id_of, first_place, prefix_of, held}
+use Rattle.raft_engine.specs.StoredGroup.{StoredGroup, RemoveUpTo, after_storing, id_of, first_place, prefix_of, held}
 use Rattle.raft_engine.specs.StepResult.{StepResult, store, with_stored}
 use Rattle.raft_engine.specs.Lead.{remove_up_to, purge_up_to}
 use Rattle.raft_world.specs.BallotWorld.{BallotWorld, BallotEvent}
 use Rattle.raft_world.proofs.BallotAgreement.{some_at, same_some}
 use Rattle.raft_world.proofs.BallotOthers.{extends_refl}
 use Rattle.raft_world.proofs.Shapes.{Joined, joined_held, joined_at, joined_below, joined_removed}
-use Rattle.raft_world.proofs.Standing.{HasId, UpFits, RoleFits}
+use Rattle.raft_world.proofs.Standing.{HasId, UpFits, lead_same, RoleFits}
 use Rattle.raft_world.proofs.Tracking.{Tracks, track_store}
 use Rattle.raft_world.proofs.TrackElections.{Ends}
 
@@ -46,16 +46,16 @@ module _ {m : Membership} {some : 0 < length m.configs} {own : ℕ} {before : Li
           applied = u.applied;
         }
 
+    pub same_held : held r.state.stored ≡ held (after_storing (RemoveUpTo e.log_id) r.state.stored)
+    same_held = joined_held r.state.stored list t.up.joined ∙ sym (joined_held (after_storing (RemoveUpTo e.log_id) r.state.stored) list removed)
+
     removed_ends : Ends m some own before base w (store (RemoveUpTo e.log_id) r)
     removed_ends =
         record {
           world = w;
           extends = extends_refl own w;
-          tracks = track_store (RemoveUpTo e.log_id) t t.reached removed_up t.messages;
-          role =
-              subst (λ l. RoleFits own w r.state.stored.vote l r.state.role)
-              (joined_held r.state.stored list t.up.joined ∙ sym (joined_held (after_storing (RemoveUpTo e.log_id) r.state.stored) list removed))
-              role;
+          tracks = track_store (RemoveUpTo e.log_id) t t.reached removed_up t.messages (lead_same refl (sym same_held) t.lead);
+          role = subst (λ l. RoleFits own w r.state.stored.vote l r.state.role) same_held role;
         }
 
   -- a purge up to a place that the snapshot covers

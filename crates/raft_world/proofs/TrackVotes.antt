@@ -27,7 +27,7 @@ use Rattle.raft_world.proofs.VoteOrders.{LeaderBelow, LeaderOrder, below, equal,
 use Rattle.raft_world.proofs.VoteRanks.{rank_below, rank_same, owner_other, rank_rises, rank_rises_strictly, same_vote}
 use Rattle.raft_world.proofs.Shapes.{Good, Joined}
 use Rattle.raft_world.proofs.Ids.{log_end_is, before, end_is}
-use Rattle.raft_world.proofs.Standing.{message_on, HasId, StoredFits, UpFits, RoleFits, request-of, grant-of, id_rank}
+use Rattle.raft_world.proofs.Standing.{message_on, lead_other, HasId, StoredFits, UpFits, RoleFits, request-of, grant-of, id_rank}
 use Rattle.raft_world.proofs.StepWords.{either_by}
 use Rattle.raft_world.proofs.Tracking.{Tracks, Reached, track_event, track_on, track_same, reached_next, step_extends, index_of, up_same}
 
@@ -128,7 +128,8 @@ module _ (m : Membership) (some : 0 < length m.configs) (own : ℕ) (small : own
       in (
         track_same (store_vote v r)
             (track_event (SetVote v) t (RaiseVote own b v.committed) refl (raised w own b v.committed) is
-            (subst (λ y. UpFits m y (with_stored r.state (after_storing (SetVote v) r.state.stored))) (sym (with_value_same w.node own _)) (voted v bound t.up)))
+            (subst (λ y. UpFits m y (with_stored r.state (after_storing (SetVote v) r.state.stored))) (sym (with_value_same w.node own _)) (voted v bound t.up))
+            (lead_other other))
             refl refl refl refl refl,
         step_extends m own w (RaiseVote own b v.committed) refl (raised w own b v.committed) is,
       )
@@ -219,7 +220,8 @@ module _ (m : Membership) (some : 0 < length m.configs) (own : ℕ) (small : own
                     track_same (store_vote v (step_down r))
                     (track_event (SetVote v) down (TakeRequest at.0 own) refl (granted w own asking) step
                     (subst (λ y. UpFits m y (with_stored (step_down r).state (after_storing (SetVote v) r.state.stored))) (sym (with_value_same w.node own _))
-                    (up_node _ refl (sym young) refl refl (voted v bound down.up))))
+                    (up_node _ refl (sym young) refl refl (voted v bound down.up)))
+                    (lead_other other))
                     refl refl refl refl refl;
                 role = refl;
                 vote = refl;

@@ -20,7 +20,7 @@ use Rattle.raft_world.proofs.BallotOthers.{Extends}
 use Rattle.raft_world.proofs.VoteRanks.{owner_is}
 use Rattle.raft_world.proofs.Shapes.{Good, Joined, good_none, good_take, good_append, joined_cut, joined_put, joined_end, joined_held, slice_take, slice_before}
 use Rattle.raft_world.proofs.Memberships.{HasMembership, has_more}
-use Rattle.raft_world.proofs.Standing.{HasId, StoredFits, UpFits, RoleFits, OwnVote, has_id_on, role_on}
+use Rattle.raft_world.proofs.Standing.{HasId, StoredFits, UpFits, LeadKept, RoleFits, OwnVote, has_id_on, role_on}
 use Rattle.raft_world.proofs.Tracking.{Tracks, track_event, step_extends}
 
 -- what stands below a place stays there
@@ -106,6 +106,25 @@ module _ {m : Membership} {some : 0 < length m.configs} {own : ℕ} {before : Li
   ends : end_place r.state.stored ≡ length t.up.list
   ends = joined_end r.state.stored t.up.list t.up.joined
 
+  pub write_held : held (append payload r).state.stored ≡ take (end_place r.state.stored) t.up.list ++ new_entry ∷ []
+  write_held =
+      let p = end_place r.state.stored in
+      joined_held (after_storing (PutEntries p (new_entry ∷ [])) r.state.stored) (take p t.up.list ++ new_entry ∷ [])
+      (joined_put r.state.stored t.up.list t.up.joined p (omega (arith, ends, (t.up.joined).high)) (omega (arith, ends)) (new_entry ∷ []))
+
+  -- the membership that the list had stays
+  write_lead : LeadKept own (append payload r).state.stored
+  write_lead =
+      let p = end_place r.state.stored in
+      record {
+        term = λ c n. mine.term;
+        has = λ c n.
+            subst HasMembership (sym write_held)
+            (has_more (take p t.up.list) (new_entry ∷ [])
+            (subst HasMembership (sym (take_all p t.up.list (omega (arith, ends))))
+            (subst HasMembership (joined_held r.state.stored t.up.list t.up.joined) (t.lead.has mine.flag mine.node))));
+      }
+
   pub write_tracks : Tracks m some own before base (written w own payload) (append payload r)
   write_tracks =
       let u = t.up in
@@ -128,6 +147,7 @@ module _ {m : Membership} {some : 0 < length m.configs} {own : ℕ} {before : Li
         commit = u.commit;
         applied = u.applied;
       }))
+      write_lead
 
   -- the role stays, over the longer list
   pub write_role : (role : Role) → RoleFits own w r.state.stored.vote t.up.list role → RoleFits own (written w own payload) r.state.stored.vote (take (end_place r.state.stored) t.up.list ++ new_entry ∷ []) role
@@ -136,12 +156,6 @@ module _ {m : Membership} {some : 0 < length m.configs} {own : ℕ} {before : Li
       (λ i e q. below_stays t.up.list (new_entry ∷ []) (end_place r.state.stored) i e (omega (arith, ends)) (let l = slice_get_within t.up.list i e q in omega (arith, ends)) q)
       (λ has. has_more (take (end_place r.state.stored) t.up.list) (new_entry ∷ []) (subst HasMembership (sym (take_all (end_place r.state.stored) t.up.list (omega (arith, ends)))) has))
       h
-
-  pub write_held : held (append payload r).state.stored ≡ take (end_place r.state.stored) t.up.list ++ new_entry ∷ []
-  write_held =
-      let p = end_place r.state.stored in
-      joined_held (after_storing (PutEntries p (new_entry ∷ [])) r.state.stored) (take p t.up.list ++ new_entry ∷ [])
-      (joined_put r.state.stored t.up.list t.up.joined p (omega (arith, ends, (t.up.joined).high)) (omega (arith, ends)) (new_entry ∷ []))
 
   pub write_fits : (role : Role) → RoleFits own w r.state.stored.vote (held r.state.stored) role → RoleFits own (written w own payload) r.state.stored.vote (held (append payload r).state.stored) role
   write_fits role h =

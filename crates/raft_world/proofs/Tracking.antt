@@ -15,7 +15,7 @@ use Rattle.raft_world.proofs.BallotSafe.{Among, Safe}
 use Rattle.raft_world.proofs.BallotRuns.{run_next, start_safe}
 use Rattle.raft_world.proofs.BallotSettling.{run_append}
 use Rattle.raft_world.proofs.BallotOthers.{Extends, extends_refl, happens_extends, AllBy, run_extends}
-use Rattle.raft_world.proofs.Standing.{StoredFits, DownFits, UpFits, MessageFits, up_down, message_on}
+use Rattle.raft_world.proofs.Standing.{StoredFits, DownFits, UpFits, LeadKept, MessageFits, up_down, message_on}
 use Rattle.raft_world.proofs.StepWords.{all-append}
 use Rattle.raft_world.proofs.Shapes.{Joined}
 use Rattle.raft_engine.specs.SnapshotRequest.{place_above}
@@ -69,12 +69,14 @@ module _ (m : Membership) (some : 0 < length m.configs) (own : ℕ) (before : Li
     pub world : BallotWorld
     pub reached : Reached world
     pub fits : DownFits m (world.node own) st
+    pub lead : LeadKept own st
 
   pub record Tracks (w : BallotWorld) (r : StepResult) : Type 0 where
     pub reached : Reached w
     pub stops : (k : ℕ) → MayStop (after_storing_all (take k r.commands) base)
     pub stored : r.state.stored ≡ after_storing_all r.commands base
     pub up : UpFits m (w.node own) r.state
+    pub lead : LeadKept own r.state.stored
     pub messages : (x : Message) → Among x r.messages → MessageFits m w x
 
 module _ {m : Membership} {some : 0 < length m.configs} {own : ℕ} {before : List BallotEvent} {base : StoredGroup} where
@@ -116,6 +118,7 @@ module _ {m : Membership} {some : 0 < length m.configs} {own : ℕ} {before : Li
         stops = λ k. subst (λ cs. MayStop m some own before base (after_storing_all (take k cs) base)) (sym e) (t.stops k);
         stored = f ∙ t.stored ∙ ap (λ cs. after_storing_all cs base) (sym e);
         up = up;
+        lead = subst (LeadKept own) (sym f) t.lead;
         messages = messages;
       }
 
@@ -126,21 +129,23 @@ module _ {m : Membership} {some : 0 < length m.configs} {own : ℕ} {before : Li
       (λ x a. t.messages x (subst (Among x) f a))
 
   -- a command is stored, and the machine goes on
-  pub track_store : {w w' : BallotWorld} {r : StepResult} (c : StoringCommand) → Tracks m some own before base w r → Reached m some own before base w' → UpFits m (w'.node own) (with_stored r.state (after_storing c r.state.stored)) → ((x : Message) → Among x r.messages → MessageFits m w' x) → Tracks m some own before base w' (store c r)
-  track_store {w} {w'} {r} c t reached up messages =
+  pub track_store : {w w' : BallotWorld} {r : StepResult} (c : StoringCommand) → Tracks m some own before base w r → Reached m some own before base w' → UpFits m (w'.node own) (with_stored r.state (after_storing c r.state.stored)) → ((x : Message) → Among x r.messages → MessageFits m w' x) → LeadKept own (after_storing c r.state.stored) → Tracks m some own before base w' (store c r)
+  track_store {w} {w'} {r} c t reached up messages lead =
       record {
         reached = reached;
-        stops = stops_store r c t.stored t.stops (record { world = w'; reached = reached; fits = up_down up });
+        stops = stops_store r c t.stored t.stops (record { world = w'; reached = reached; fits = up_down up; lead = lead });
         stored = stored_next base r c t.stored;
         up = up;
+        lead = lead;
         messages = messages;
       }
 
   -- the same by one event
-  pub track_event : {w : BallotWorld} {r : StepResult} (c : StoringCommand) → Tracks m some own before base w r → (e : BallotEvent) → actor e ≡ own → (w' : BallotWorld) → ballot_step (ballot_group m) w e ≡ w' → UpFits m (w'.node own) (with_stored r.state (after_storing c r.state.stored)) → Tracks m some own before base w' (store c r)
-  track_event {w} {r} c t e by w' is up =
+  pub track_event : {w : BallotWorld} {r : StepResult} (c : StoringCommand) → Tracks m some own before base w r → (e : BallotEvent) → actor e ≡ own → (w' : BallotWorld) → ballot_step (ballot_group m) w e ≡ w' → UpFits m (w'.node own) (with_stored r.state (after_storing c r.state.stored)) → LeadKept own (after_storing c r.state.stored) → Tracks m some own before base w' (store c r)
+  track_event {w} {r} c t e by w' is up lead =
       track_store c t (reached_next e by w' is t.reached) up
       (λ x a. message_on (step_extends m own w e by w' is) m x (t.messages x a))
+      lead
 
   -- a message is sent that fits
   pub track_send : {w : BallotWorld} {r : StepResult} (peer : ℕ) (body : MessageBody) → Tracks m some own before base w r → MessageFits m w (record { sender = own; addressee = peer; body = body }) → Tracks m some own before base w (send own peer body r)
