@@ -1,8 +1,7 @@
 -- What an append makes of a log, and the front of it that agrees.
-use Rattle.std.proofs.Common.{min, max, ◌≡◌, ℕ, zero, suc, ◌+◌, ◌-◌, ◌<◌, ◌≤◌, List, [], ◌∷◌, ◌++◌, length, take, drop, Some, Bool, true, false, not, eqb, cond, refl, sym, ap, ◌∙◌, subst, arith, inl, inr, ⊎_elim, eqb-true, eq-eqb, ne_eqb, leb-true, le-leb, length-drop, take-add, take-take, take-append-drop, append_assoc}
-use Rattle.std.specs.Prelude.{slice_get, ◌⊎◌, ◌||◌, ◌==◌, nat_le, nat_lt, if◌then◌else◌}
-use Rattle.std.proofs.lemmas.List.{drop-drop}
-use Rattle.std.proofs.lemmas.Bool.{cond_both, cond-true, or_cases, and_from, not_from_false, eqb-false, cases_lt}
+use Rattle.std.proofs.Common.{◌≡◌, ℕ, zero, suc, ◌+◌, ◌-◌, ◌<◌, ◌≤◌, List, [], ◌∷◌, ◌++◌, length, take, drop, Bool, true, false, eqb, cond, refl, sym, ap, ◌∙◌, subst, arith, ⊎_elim, eq-eqb, leb-true, take-add, take-append-drop, append_assoc}
+use Rattle.std.specs.Prelude.{◌||◌, ◌==◌, nat_le, if◌then◌else◌}
+use Rattle.std.proofs.lemmas.Bool.{cond_both, cond-true, or_cases, cases_lt}
 use Rattle.raft_world.specs.BallotLists.{AgreeBelow}
 use Rattle.raft_world.specs.BallotLogs.{BallotEntry, holds_before, put_over, put_from, cut_over, cut_from}
 use Rattle.raft_world.specs.BallotWorld.{BallotGroup, BallotAppend, BallotWorld}

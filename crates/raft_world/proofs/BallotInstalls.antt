@@ -1,5 +1,5 @@
 -- What a snapshot's list, put over a log, makes of it.
-use Rattle.std.proofs.Common.{◌≡◌, ℕ, zero, suc, ◌<◌, ◌≤◌, List, [], ◌∷◌, ◌++◌, length, take, drop, true, false, refl, sym, ap, ◌∙◌, subst, arith, ⊎_elim, take-append-drop}
+use Rattle.std.proofs.Common.{◌≡◌, ℕ, zero, suc, ◌<◌, List, [], ◌∷◌, ◌++◌, length, take, drop, true, false, refl, sym, ap, ◌∙◌, subst, arith, ⊎_elim, take-append-drop}
 use Rattle.raft_world.specs.BallotLists.{AgreeBelow}
 use Rattle.raft_world.specs.BallotLogs.{BallotEntry, ballot_of, ballot_before, last_ballot, holds_before, put_over}
 use Rattle.raft_world.proofs.BallotAgreement.{agree_sym, agree_trans, agree_head, agree_tail}

@@ -5,7 +5,7 @@ use Rattle.std.proofs.lemmas.Bool.{cases_lt}
 use Rattle.std.proofs.lemmas.List.{length-take-le}
 use Rattle.raft_world.specs.BallotLists.{AgreeBelow}
 use Rattle.raft_world.specs.BallotLogs.{holds_before, ballot_before, cut_from}
-use Rattle.raft_world.specs.BallotWorld.{BallotGroup, BallotAppend, BallotWorld, cut, dropped, cut_before, conflicts}
+use Rattle.raft_world.specs.BallotWorld.{BallotGroup, BallotAppend, BallotWorld, cut, dropped, cut_before}
 use Rattle.raft_world.proofs.BallotAgreement.{agree_sym, agree_trans, agree_less, agree_take, with_value_cases}
 use Rattle.raft_world.proofs.BallotMerging.{CutAt, cut_from_at, holds_front}
 use Rattle.raft_world.proofs.BallotSafe.{Among, IsOpen, Covered, SureBy, Sure, Safe}

@@ -1,26 +1,21 @@
 -- What nodes know to be committed, what they applied, and their snapshots are fronts of the group's list.
-use Rattle.std.specs.Prelude.{◌≡◌, ◌⊎◌, ℕ, zero, suc, ◌+◌, ◌<◌, ◌≤◌, ◌^◌, Bool, true, false, List, [], ◌∷◌, ◌++◌, length, take, slice_get, Option, Some, None, refl}
-use Rattle.std.proofs.Common.{inl, inr, sym, ap, ◌∙◌, subst, arith, ⊎_elim}
-use Rattle.raft_engine.specs.Values.{Membership, Entry}
+use Rattle.std.specs.Prelude.{◌≡◌, ℕ, zero, suc, ◌≤◌, List, [], ◌∷◌, length, take, Some, None, refl}
+use Rattle.std.proofs.Common.{sym, ap, ◌∙◌, subst, arith}
 use Rattle.raft_engine.specs.StoredGroup.{StoredGroup, Holds, held, prefix_of}
 use Rattle.raft_engine.specs.GroupState.{GroupState}
 use Rattle.raft_engine.specs.SnapshotRequest.{place_above}
 use Rattle.raft_world.specs.BallotLists.{AgreeBelow}
 use Rattle.raft_world.specs.BallotWorld.{BallotWorld}
-use Rattle.raft_world.specs.BallotSettled.{ballot_list}
 use Rattle.raft_world.specs.BallotRanks.{ballot_group}
 use Rattle.raft_world.specs.GroupWorld.{GroupWorld, NodeState, Absent, Up, Down, Recorded}
 use Rattle.raft_world.specs.Settled.{group_list}
 use Rattle.raft_world.specs.VotesRise.{stored_of}
-use Rattle.raft_world.specs.OneList.{IsGroupHistory, applied_list}
-use Rattle.raft_world.proofs.BallotAgreement.{agree_append, agree_less, agree_more, agree_sym, agree_tail, agree_head, agree_trans, same_some}
+use Rattle.raft_world.specs.OneList.{IsGroupHistory}
+use Rattle.raft_world.proofs.BallotAgreement.{agree_append, agree_less, agree_tail, agree_head, agree_trans, same_some}
 use Rattle.raft_world.proofs.BallotSettling.{all_commits}
-use Rattle.raft_world.proofs.StepFits.{NodeFits}
-use Rattle.raft_world.proofs.WorldFits.{NodeStateFits}
 use Rattle.raft_world.proofs.WorldStart.{Founded, founded}
 use Rattle.raft_world.proofs.WorldLimits.{NodeLimits, WorldLimits, replied}
 use Rattle.raft_world.proofs.WorldCommits.{history_limits}
-use Rattle.raft_world.proofs.StepLimits.{StateClaims}
 use Rattle.raft_world.proofs.HeldLists.{HoldsLog, as_holds, at_node, events, holds_list, machine, node_holds}
 
 -- lists that agree have equal fronts

@@ -1,19 +1,18 @@
 -- The entries of an append that a node stores are those after the front that agrees with its list.
-use Rattle.std.specs.Prelude.{◌≡◌, ◌⊎◌, ℕ, zero, suc, ◌+◌, ◌-◌, ◌<◌, ◌≤◌, ◌^◌, ◌==◌, ◌&&◌, ◌||◌, not, nat_le, nat_lt, Bool, true, false, cond, List, [], ◌∷◌, ◌++◌, length, drop, map, slice_get, Option, Some, None, refl}
-use Rattle.std.proofs.Common.{inl, inr, sym, ap, ap₂, ◌∙◌, subst, arith, ⊎_elim, eqb-true, eq-eqb, ne_eqb, leb-true, le-leb, leb-false}
-use Rattle.std.proofs.lemmas.Bool.{and_from, and_parts, cond-true, cond-false, cases_Bool, cases_lt, eqb-false, false_from_ne_true}
-use Rattle.std.proofs.lemmas.List.{drop-map}
-use Rattle.std.proofs.lemmas.Option.{slice_get_within, slice_get_past}
+use Rattle.std.specs.Prelude.{◌≡◌, ℕ, zero, suc, ◌+◌, ◌-◌, ◌<◌, ◌≤◌, ◌^◌, ◌==◌, not, Bool, true, false, cond, List, [], ◌∷◌, length, drop, slice_get, Option, Some, None, refl}
+use Rattle.std.proofs.Common.{sym, ap, ◌∙◌, arith, ⊎_elim, eqb-true, eq-eqb, leb-true, leb-false}
+use Rattle.std.proofs.lemmas.Bool.{and_from, and_parts, cond-false, cases_Bool, cases_lt, eqb-false, false_from_ne_true}
+use Rattle.std.proofs.lemmas.Option.{slice_get_past}
 use Rattle.raft_state.specs.declared.log_id.LogId.{LogId}
 use Rattle.raft_engine.specs.Values.{Membership, Entry, log_id_eq, leader_eq}
-use Rattle.raft_engine.specs.StoredGroup.{StoredGroup, first_place, id_of, is_id, entry_at, has_id_in_log}
+use Rattle.raft_engine.specs.StoredGroup.{StoredGroup, first_place, id_of, is_id, has_id_in_log}
 use Rattle.raft_engine.specs.StepResult.{is_within}
 use Rattle.raft_engine.specs.SnapshotRequest.{place_above}
 use Rattle.raft_engine.specs.AppendRequest.{above_committed, missing_entries}
 use Rattle.raft_world.specs.BallotLogs.{BallotEntry, holds_before}
 use Rattle.raft_world.specs.BallotRanks.{rank_of, ballot_entry, ballot_log}
 use Rattle.raft_world.proofs.BallotAgreement.{some_at, same_some}
-use Rattle.raft_world.proofs.BallotAppends.{agreeing, agreeing_none, drop_past}
+use Rattle.raft_world.proofs.BallotAppends.{agreeing, drop_past}
 use Rattle.raft_world.proofs.VoteRanks.{leader_eq_same, leader_eq_from, rank_leader}
 use Rattle.raft_world.proofs.Shapes.{Good, Joined, good_drop, joined_at, joined_below}
 use Rattle.raft_world.proofs.Ids.{size_same, ballot_at}

@@ -1,5 +1,5 @@
 -- The group's list has just the settled entries, and only grows.
-use Rattle.std.specs.Prelude.{◌≡◌, ◌⊎◌, ℕ, zero, suc, ◌<◌, ◌≤◌, ◌*◌, ◌&&◌, ◌||◌, ◌==◌, nat_lt, Bool, true, false, List, [], ◌∷◌, ◌++◌, count_by, length, map, take, slice_get, Option, Some, None, Contains, refl}
+use Rattle.std.specs.Prelude.{◌≡◌, ◌⊎◌, ℕ, zero, suc, ◌<◌, ◌≤◌, ◌*◌, ◌&&◌, ◌==◌, nat_lt, Bool, true, List, [], ◌∷◌, ◌++◌, count_by, length, map, take, slice_get, Option, Some, None, Contains, refl}
 use Rattle.std.specs.List.{list_any}
 use Rattle.std.proofs.Common.{inl, inr, sym, ap, ◌∙◌, subst, arith, ⊎_elim}
 use Rattle.std.proofs.lemmas.Bool.{and_parts, and_from, or_cases, or_left, or_right}
@@ -17,15 +17,15 @@ use Rattle.raft_world.specs.BallotRanks.{ballot_group}
 use Rattle.raft_world.specs.declared.world_event.WorldEvent.{WorldEvent}
 use Rattle.raft_world.specs.GroupWorld.{GroupWorld, Led, Outcome, Recorded, is_stop}
 use Rattle.raft_world.specs.GroupRun.{Scene, Nowhere, At, Replays, after_scene, happens, led_after, scene_of, sent_in, stop_at}
-use Rattle.raft_world.specs.NodeEvent.{NodeEvent, state_after}
-use Rattle.raft_world.specs.Settled.{IsGroupList, IsSettled, body_accepts, count_to_last, group_list, has_accepted_some, has_led_with, has_replied, is_accepted_by_quorum, is_at_or_after, setup_configs, settled_part}
-use Rattle.raft_world.proofs.BallotAgreement.{agree_cons, agree_more, agree_none, agree_refl}
+use Rattle.raft_world.specs.NodeEvent.{state_after}
+use Rattle.raft_world.specs.Settled.{IsGroupList, body_accepts, count_to_last, group_list, has_accepted_some, has_led_with, has_replied, is_accepted_by_quorum, is_at_or_after, setup_configs, settled_part}
+use Rattle.raft_world.proofs.BallotAgreement.{agree_cons, agree_more, agree_none}
 use Rattle.raft_world.proofs.BallotQuorums.{quorum_more}
 use Rattle.raft_world.proofs.BallotSafe.{Among, among_at}
-use Rattle.raft_world.proofs.Shapes.{Good, good_none}
+use Rattle.raft_world.proofs.Shapes.{good_none}
 use Rattle.raft_world.proofs.TrackElections.{quorum_link}
 use Rattle.raft_world.proofs.StepFits.{world_after}
-use Rattle.raft_world.proofs.WorldRuns.{Matches, setup_stays}
+use Rattle.raft_world.proofs.WorldRuns.{setup_stays}
 use Rattle.raft_world.proofs.WorldStart.{IsFounded, Founded}
 use Rattle.raft_world.proofs.Counts.{among_any, among_contains, among_map, any_among, at_contains, contains_at, count_from, longest, map_among}
 use Rattle.raft_world.proofs.SettledFits.{FrontOf, front_none, fronts_agree, part_front}

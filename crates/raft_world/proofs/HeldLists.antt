@@ -1,16 +1,15 @@
 -- What nodes hold, as the ballot machine's logs: leaders hold what is settled, and a log id is of one entry.
-use Rattle.std.specs.Prelude.{◌≡◌, ◌⊎◌, ℕ, zero, suc, ◌+◌, ◌-◌, ◌<◌, ◌≤◌, ◌^◌, Bool, true, false, List, [], ◌∷◌, ◌++◌, length, drop, take, slice_get, Option, Some, None, refl, IsTrue}
-use Rattle.std.proofs.Common.{inl, inr, sym, ap, ◌∙◌, subst, arith, ⊎_elim, append-nil, eq-eqb, lt-ltb, length-take-le}
+use Rattle.std.specs.Prelude.{◌≡◌, ℕ, suc, ◌-◌, ◌<◌, ◌≤◌, ◌^◌, true, false, List, [], ◌++◌, length, drop, take, slice_get, Some, None}
+use Rattle.std.proofs.Common.{sym, ap, ◌∙◌, subst, arith, ⊎_elim, append-nil, eq-eqb, lt-ltb, length-take-le}
 use Rattle.std.proofs.lemmas.Bool.{and_from}
 use Rattle.std.proofs.lemmas.Option.{slice_get_within}
-use Rattle.raft_state.specs.declared.vote.LeaderId.{LeaderId}
 use Rattle.raft_state.specs.declared.vote.Vote.{Vote}
 use Rattle.raft_engine.specs.Values.{Membership, Entry, vote_lt}
 use Rattle.raft_engine.specs.StoredGroup.{StoredGroup, Holds, first_place, held, prefix_of}
 use Rattle.raft_engine.specs.GroupState.{GroupState, Role, Follower, Candidate, Leader, is_leader}
 use Rattle.raft_world.specs.BallotLists.{AgreeBelow}
 use Rattle.raft_world.specs.BallotLogs.{BallotEntry}
-use Rattle.raft_world.specs.BallotWorld.{BallotWorld, BallotEvent, ballot_start, ballot_run, is_ballot_leader, is_ballot_settled}
+use Rattle.raft_world.specs.BallotWorld.{BallotWorld, BallotEvent, is_ballot_leader}
 use Rattle.raft_world.specs.BallotSettled.{ballot_list}
 use Rattle.raft_world.specs.BallotRanks.{rank_of, owner_of, ballot_entry, ballot_log, ballot_group}
 use Rattle.raft_world.specs.GroupWorld.{GroupWorld, NodeState, Absent, Up, Down, Led}
@@ -21,17 +20,16 @@ use Rattle.raft_world.proofs.BallotSafe.{Among}
 use Rattle.raft_world.proofs.BallotSettling.{leaders_have, one_entry}
 use Rattle.raft_world.proofs.VoteOrders.{VoteOrder, lower, earlier, level, later, higher, vote_order, differ_flags}
 use Rattle.raft_world.proofs.VoteRanks.{rank_below, rank_same}
-use Rattle.raft_world.proofs.Shapes.{Good, Joined, Stale, joined_held, good_take}
-use Rattle.raft_world.proofs.FreshEntries.{same_id}
+use Rattle.raft_world.proofs.Shapes.{Good, Stale, joined_held}
 use Rattle.raft_world.proofs.BallotAppends.{drop_past}
-use Rattle.raft_world.proofs.Ids.{ballot_at, size_same}
-use Rattle.raft_world.proofs.Standing.{DownFits, OwnVote, RoleFits, StoredFits, UpFits}
-use Rattle.raft_world.proofs.StepFits.{NodeFits, StopFits, world_after}
+use Rattle.raft_world.proofs.Ids.{ballot_at}
+use Rattle.raft_world.proofs.Standing.{RoleFits, StoredFits}
+use Rattle.raft_world.proofs.StepFits.{NodeFits, world_after}
 use Rattle.raft_world.proofs.WorldFits.{NodeStateFits, WorldFits, owned, positive}
-use Rattle.raft_world.proofs.WorldStart.{IsFounded, Founded}
+use Rattle.raft_world.proofs.WorldStart.{IsFounded}
 use Rattle.raft_world.proofs.Counts.{count_from}
-use Rattle.raft_world.proofs.SettledFits.{FrontOf, same_entry, same_lists, settled_fits}
-use Rattle.raft_world.proofs.GroupList.{list_front, part_of, part_on, part_short}
+use Rattle.raft_world.proofs.SettledFits.{same_lists, settled_fits}
+use Rattle.raft_world.proofs.GroupList.{list_front, part_of, part_short}
 
 -- a vote that isn't below another is of no lesser ballot
 pub rank_not_below : (a b : Vote ℕ) → b.leader_id.node_id < 2 ^ 64 → vote_lt a b ≡ false → rank_of b.leader_id ≤ rank_of a.leader_id

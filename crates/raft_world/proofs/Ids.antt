@@ -1,8 +1,8 @@
 -- The log ids that a node reads in what it has stored, as places of its list.
-use Rattle.std.specs.Prelude.{◌≡◌, ◌⊎◌, ℕ, zero, suc, ◌+◌, ◌-◌, ◌<◌, ◌≤◌, ◌==◌, cond, Bool, true, false, List, [], ◌∷◌, length, map, slice_get, Option, Some, None, option_map, refl}
-use Rattle.std.proofs.Common.{inl, inr, sym, ap, ap₂, ◌∙◌, subst, arith, ⊎_elim, eqb-true, eq-eqb, ne_eqb}
+use Rattle.std.specs.Prelude.{◌≡◌, ℕ, zero, suc, ◌+◌, ◌-◌, ◌≤◌, ◌==◌, List, [], ◌∷◌, length, slice_get, Option, Some, None, option_map, refl}
+use Rattle.std.proofs.Common.{sym, ap, ap₂, ◌∙◌, arith, ⊎_elim, eq-eqb, ne_eqb}
 use Rattle.std.proofs.lemmas.List.{length-map}
-use Rattle.std.proofs.lemmas.Option.{slice_get-map, slice_get_within}
+use Rattle.std.proofs.lemmas.Option.{slice_get-map}
 use Rattle.std.proofs.lemmas.Bool.{cond-true, cond-false, cases_eq}
 use Rattle.raft_state.specs.declared.log_id.LogId.{LogId}
 use Rattle.raft_state.specs.LogId.{next_place}
@@ -11,9 +11,9 @@ use Rattle.raft_engine.specs.Values.{Entry}
 use Rattle.raft_engine.specs.StoredGroup.{StoredGroup, first_place, end_place, id_of, id_at, id_before, last_id}
 use Rattle.raft_world.specs.BallotLogs.{BallotEntry, LogEnd, ballot_of, ballot_before, last_ballot, log_end}
 use Rattle.raft_world.specs.BallotWorld.{BallotNode}
-use Rattle.raft_world.specs.BallotRanks.{rank_of, ballot_entry, ballot_log}
+use Rattle.raft_world.specs.BallotRanks.{ballot_entry, ballot_log}
 use Rattle.raft_world.proofs.BallotAgreement.{some_at}
-use Rattle.raft_world.proofs.Shapes.{Good, Joined, joined_at, joined_end}
+use Rattle.raft_world.proofs.Shapes.{Joined, joined_at, joined_end}
 use Rattle.raft_world.proofs.Standing.{HasId, StoredFits, id_rank}
 
 pub last_before : (es : List BallotEntry) → last_ballot es ≡ ballot_before es (length es)

@@ -1,6 +1,6 @@
 -- The last membership of a list, seen through a snapshot and a log that overlap.
-use Rattle.std.specs.Prelude.{◌≡◌, ◌⊎◌, ℕ, zero, suc, ◌≤◌, List, [], ◌∷◌, ◌++◌, length, take, drop, slice_get, ◌+◌, Option, Some, None, option_and_then, refl}
-use Rattle.std.proofs.Common.{inl, inr, sym, ap, ap₂, ◌∙◌, subst, arith, ⊎_elim, take-append-drop, take-take}
+use Rattle.std.specs.Prelude.{◌≡◌, ℕ, zero, suc, ◌≤◌, List, [], ◌∷◌, ◌++◌, length, take, drop, ◌+◌, Option, Some, None, option_and_then, refl}
+use Rattle.std.proofs.Common.{sym, ap, ◌∙◌, arith, take-append-drop}
 use Rattle.raft_state.specs.declared.log_id.LogId.{LogId}
 use Rattle.raft_engine.specs.Values.{Membership}
 use Rattle.raft_engine.specs.Values.{Entry, EntryPayload, LoggedMembership, membership_after, last_membership}

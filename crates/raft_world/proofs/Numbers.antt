@@ -1,10 +1,9 @@
 -- The number of a stop moves one node alone.
-use Rattle.std.specs.Prelude.{◌≡◌, ℕ, ◌==◌, Bool, true, false, List, ◌++◌, Option, Some, None, refl}
+use Rattle.std.specs.Prelude.{◌≡◌, ℕ, ◌++◌, refl}
 use Rattle.std.proofs.Common.{ap, sym, ◌∙◌}
 use Rattle.std.proofs.lemmas.Bool.{ne_eqb}
 use Rattle.raft_world.specs.declared.world_event.WorldEvent.{WorldEvent}
 use Rattle.raft_world.specs.GroupWorld.{GroupWorld, NodeState, Outcome, Done, Refused, Stopped, Skipped, is_stop, state_or, with_node_state}
-use Rattle.raft_world.specs.NodeEvent.{NodeEvent, state_after}
 use Rattle.raft_world.specs.GroupRun.{Scene, Nowhere, At, after_scene, ended, happens, led_after, scene_of, stop_at}
 use Rattle.raft_world.specs.Moves.{DifferAtOneNode}
 

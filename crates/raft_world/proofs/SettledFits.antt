@@ -1,7 +1,7 @@
 -- What is settled in a group's world is settled in the ballot machine, and so stands on one list.
-use Rattle.std.specs.Prelude.{◌≡◌, ◌⊎◌, ℕ, zero, suc, ◌+◌, ◌<◌, ◌≤◌, ◌^◌, ◌==◌, ◌&&◌, ◌||◌, nat_le, Bool, true, false, List, [], ◌∷◌, length, map, take, slice_get, Option, Some, None, refl}
+use Rattle.std.specs.Prelude.{◌≡◌, ℕ, zero, suc, ◌+◌, ◌<◌, ◌≤◌, ◌==◌, ◌&&◌, nat_le, Bool, true, false, List, [], ◌∷◌, length, take, slice_get, Option, Some, None, refl}
 use Rattle.std.specs.List.{list_any}
-use Rattle.std.proofs.Common.{inl, inr, sym, ap, ap₂, ◌∙◌, subst, arith, ⊎_elim, eqb-true, eq-eqb, leb-true, length-take-le}
+use Rattle.std.proofs.Common.{sym, ap, ap₂, ◌∙◌, subst, arith, ⊎_elim, eqb-true, eq-eqb, leb-true, length-take-le}
 use Rattle.std.proofs.lemmas.Bool.{and_parts, and_from, or_cases}
 use Rattle.std.proofs.lemmas.Option.{slice_get_within}
 use Rattle.raft_state.specs.declared.vote.LeaderId.{LeaderId}
@@ -9,15 +9,14 @@ use Rattle.raft_state.specs.declared.vote.Vote.{Vote}
 use Rattle.raft_state.specs.declared.log_id.LogId.{LogId}
 use Rattle.raft_state.specs.Quorum.{is_quorum as is_quorum_of}
 use Rattle.raft_engine.specs.Values.{Membership, Entry, EntryPayload, is_written_by, leader_eq, vote_eq}
-use Rattle.raft_engine.specs.Message.{Message, MessageBody, VoteRequest, VoteReply, AppendRequest, AppendReply, SnapshotRequest, SnapshotReply, ReplyFields, ReplyResult, Success, Conflict, HigherVote}
+use Rattle.raft_engine.specs.Message.{MessageBody, VoteRequest, VoteReply, AppendRequest, AppendReply, SnapshotRequest, SnapshotReply, ReplyFields, ReplyResult, Success, Conflict, HigherVote}
 use Rattle.raft_world.specs.BallotLists.{AgreeBelow}
 use Rattle.raft_world.specs.BallotLogs.{BallotEntry}
-use Rattle.raft_world.specs.BallotQuorum.{is_quorum}
 use Rattle.raft_world.specs.BallotWorld.{BallotWorld, BallotEvent, ballot_accepted, is_of, is_ballot_settled}
 use Rattle.raft_world.specs.BallotSettled.{ballot_list}
 use Rattle.raft_world.specs.BallotRanks.{rank_of, ballot_entry, ballot_log, ballot_group}
 use Rattle.raft_world.specs.GroupWorld.{GroupWorld, Led}
-use Rattle.raft_world.specs.Settled.{accepts, body_accepts, count_to_last, has_accepted_some, has_led_with, has_replied, is_accepted_by_quorum, is_at_or_after, is_last, is_success, setup_configs, settled_part}
+use Rattle.raft_world.specs.Settled.{body_accepts, count_to_last, has_accepted_some, has_led_with, has_replied, is_accepted_by_quorum, is_at_or_after, is_last, is_success, setup_configs, settled_part}
 use Rattle.raft_world.proofs.BallotAgreement.{agree_cons, agree_less, agree_none, agree_sym, agree_trans, same_some, some_at}
 use Rattle.raft_world.proofs.BallotFacts.{accepts as accepts_by}
 use Rattle.raft_world.proofs.BallotQuorums.{quorum_more}
@@ -25,13 +24,13 @@ use Rattle.raft_world.proofs.BallotSafe.{Among}
 use Rattle.raft_world.proofs.BallotSettling.{settled_on_list}
 use Rattle.raft_world.proofs.VoteRanks.{leader_eq_same, rank_leader, vote_eq_same}
 use Rattle.raft_world.proofs.Shapes.{Good, good_take}
-use Rattle.raft_world.proofs.Standing.{BodyFits, MessageFits, RepliesFit}
+use Rattle.raft_world.proofs.Standing.{BodyFits, RepliesFit}
 use Rattle.raft_world.proofs.Ids.{ballot_at, size_same}
 use Rattle.raft_world.proofs.Tracking.{index_of}
 use Rattle.raft_world.proofs.TrackCommits.{accepted_from}
 use Rattle.raft_world.proofs.TrackElections.{quorum_link}
 use Rattle.raft_world.proofs.StepFits.{world_after}
-use Rattle.raft_world.proofs.WorldFits.{LedFits, WorldFits}
+use Rattle.raft_world.proofs.WorldFits.{WorldFits}
 use Rattle.raft_world.proofs.Counts.{any_among, count_from}
 
 -- who accepted a place accepted those before it

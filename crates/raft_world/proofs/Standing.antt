@@ -1,6 +1,6 @@
 -- What ties the nodes and messages of a group's world to those of the ballot machine.
-use Rattle.std.specs.Prelude.{◌≡◌, ◌⊎◌, ℕ, zero, suc, ◌+◌, ◌<◌, ◌≤◌, ◌^◌, Bool, true, false, List, [], ◌∷◌, ◌++◌, length, take, slice_get, Option, Some, None, refl}
-use Rattle.std.proofs.Common.{inl, inr, sym, ap, ◌∙◌, subst, arith, ⊎_elim}
+use Rattle.std.specs.Prelude.{◌≡◌, ◌⊎◌, ℕ, ◌+◌, ◌<◌, ◌≤◌, ◌^◌, Bool, true, false, List, length, slice_get, Option, Some, None}
+use Rattle.std.proofs.Common.{inl, sym, ap, ◌∙◌, subst}
 use Rattle.raft_state.specs.declared.log_id.LogId.{LogId}
 use Rattle.raft_state.specs.declared.vote.Vote.{Vote}
 use Rattle.raft_state.specs.LogId.{next_place}
@@ -9,10 +9,10 @@ use Rattle.raft_engine.specs.Values.{Entry, last_membership}
 use Rattle.raft_engine.specs.StoredGroup.{StoredGroup, Snapshot, prefix_of, held}
 use Rattle.raft_engine.specs.Message.{Message, MessageBody, VoteRequest, VoteReply, AppendRequest, AppendReply, SnapshotRequest, SnapshotReply, AppendFields, ReplyFields, ReplyResult, Success, Conflict, HigherVote}
 use Rattle.raft_engine.specs.Peer.{PeerState, Outstanding}
-use Rattle.raft_engine.specs.GroupState.{GroupState, Lead, Role, Follower, Candidate, Leader}
+use Rattle.raft_engine.specs.GroupState.{GroupState, Role, Follower, Candidate, Leader}
 use Rattle.raft_engine.specs.SnapshotRequest.{place_above}
 use Rattle.raft_world.specs.BallotLogs.{BallotEntry}
-use Rattle.raft_world.specs.BallotWorld.{BallotGroup, BallotNode, BallotRequest, BallotGrant, BallotAppend, BallotReply, BallotWorld}
+use Rattle.raft_world.specs.BallotWorld.{BallotNode, BallotRequest, BallotGrant, BallotAppend, BallotReply, BallotWorld}
 use Rattle.raft_world.specs.BallotRanks.{rank_of, ballot_log}
 use Rattle.raft_world.proofs.BallotSafe.{Among}
 use Rattle.raft_world.proofs.BallotOthers.{Extends}

@@ -1,8 +1,8 @@
 -- How much each step says to be committed: no more than it knew, was told, or commits itself; and what a leader
 -- knows of its peers was replied.
-use Rattle.std.specs.Prelude.{◌≡◌, ◌⊎◌, ℕ, ◌+◌, ◌<◌, ◌≤◌, ◌&&◌, ◌||◌, ◌==◌, min, max, nat_lt, cond, Bool, true, false, List, [], ◌∷◌, ◌++◌, length, take, Option, Some, None, is_none, is_some, option_map, refl}
+use Rattle.std.specs.Prelude.{◌≡◌, ℕ, ◌+◌, ◌≤◌, ◌&&◌, ◌==◌, min, nat_lt, cond, Bool, true, false, List, [], ◌∷◌, ◌++◌, length, take, Option, Some, None, is_none, is_some, refl}
 use Rattle.std.specs.List.{list_any}
-use Rattle.std.proofs.Common.{inl, inr, sym, ap, ◌∙◌, subst, arith, ⊎_elim, length-take}
+use Rattle.std.proofs.Common.{sym, ap, ◌∙◌, subst, arith, ⊎_elim, length-take}
 use Rattle.std.proofs.lemmas.Bool.{and_parts}
 use Rattle.raft_state.specs.declared.vote.Vote.{Vote}
 use Rattle.raft_state.specs.declared.log_id.LogId.{LogId}
@@ -10,16 +10,15 @@ use Rattle.raft_state.specs.LogId.{next_place, place_of}
 use Rattle.raft_state.specs.Vote.{vote_of}
 use Rattle.raft_state.specs.Quorum.{is_quorum}
 use Rattle.raft_state.specs.declared.entry.EntryPayload.TheVariants.{Blank, Membership as Members}
-use Rattle.raft_engine.specs.Values.{after_change, ChangeMembers, Entry, EntryPayload, has_id, is_written_by, LoggedMembership, Membership, vote_eq, vote_lt}
-use Rattle.raft_engine.specs.StoredGroup.{StoredGroup, StoringCommand, MakeGroup, SetVote, PutEntries, CutFrom, RemoveUpTo, SetSnapshot, StartAfter, Snapshot, after_storing, after_storing_all, prefix_of, snapshot_last, end_place, entry_at, first_place, has_id_in_log, id_of, held}
+use Rattle.raft_engine.specs.Values.{after_change, ChangeMembers, Entry, EntryPayload, has_id, is_written_by, LoggedMembership, vote_eq, vote_lt}
+use Rattle.raft_engine.specs.StoredGroup.{StoringCommand, MakeGroup, SetVote, PutEntries, CutFrom, RemoveUpTo, SetSnapshot, StartAfter, Snapshot, after_storing, prefix_of, snapshot_last, end_place, entry_at, first_place, has_id_in_log, id_of, held}
 use Rattle.raft_engine.specs.Message.{Message, MessageBody, VoteRequest, VoteReply, AppendRequest, AppendReply, SnapshotRequest, SnapshotReply, AppendFields, ReplyFields, ReplyResult, Success, Conflict, HigherVote, last_sent}
 use Rattle.raft_engine.specs.Peer.{PeerState, is_answer_to, is_kept_for_peers, new_peer, with_peer}
-use Rattle.raft_engine.specs.GroupState.{GroupState, Lead, Role, Follower, Candidate, Leader}
+use Rattle.raft_engine.specs.GroupState.{Lead, Role, Follower, Candidate, Leader}
 use Rattle.raft_engine.specs.StepResult.{StepResult, append, apply_up_to, in_role, is_within, later_place, renew, send, step_down, store, store_vote, take_over}
-use Rattle.raft_engine.specs.Lead.{append_blank, begin_lead, commit_as_leader, committed_vote, configs_in_force, lead_if, new_lead, other_ids, peer_of, purge_as_wished, purge_up_to, remove_up_to, with_grant, with_wish}
-use Rattle.raft_engine.specs.Frames.{committed_id, has_grown, lacks_entries, notice, send_entries, send_request, send_snapshot, serve, serve_all, serve_as, with_frames, with_peer_state}
+use Rattle.raft_engine.specs.Lead.{append_blank, committed_vote, configs_in_force, lead_if, new_lead, other_ids, peer_of, purge_as_wished, purge_up_to, remove_up_to, with_grant, with_wish}
+use Rattle.raft_engine.specs.Frames.{committed_id, has_grown, lacks_entries, notice, send_entries, send_request, send_snapshot, serve_all, serve_as, with_frames, with_peer_state}
 use Rattle.raft_engine.specs.Elect.{ask, elect_step, other_voters, stand}
-use Rattle.raft_engine.specs.Initialize.{initialize_step}
 use Rattle.raft_engine.specs.Propose.{append_with_token}
 use Rattle.raft_engine.specs.MembershipStep.{append_changed}
 use Rattle.raft_engine.specs.VoteRequest.{judged}

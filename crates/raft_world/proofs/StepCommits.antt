@@ -1,22 +1,21 @@
 -- What a leader commits is of its own leader id, and a quorum replied; and it claims no more than that.
-use Rattle.std.specs.Prelude.{◌≡◌, ◌⊎◌, ℕ, ◌+◌, ◌-◌, ◌<◌, ◌≤◌, ◌^◌, ◌==◌, max, nat_lt, cond, Bool, true, false, List, [], ◌∷◌, ◌++◌, filter, length, slice_get, Option, Some, None, is_none, is_some, option_map, option_and_then, ◌&&◌, refl}
-use Rattle.std.proofs.Common.{inl, inr, sym, ap, ◌∙◌, subst, arith, ⊎_elim, eqb-true, leb-true, eq-eqb, ne_eqb}
-use Rattle.std.proofs.lemmas.Bool.{and_parts, cond_both, cond-true, cond-false, cases_eq, cases_lt}
+use Rattle.std.specs.Prelude.{◌≡◌, ◌⊎◌, ℕ, ◌+◌, ◌<◌, ◌≤◌, ◌==◌, max, nat_lt, cond, Bool, true, false, List, [], ◌∷◌, filter, length, slice_get, Option, Some, None, is_none, option_and_then, ◌&&◌, refl}
+use Rattle.std.proofs.Common.{inl, inr, sym, ap, ◌∙◌, subst, arith, ⊎_elim, eqb-true, leb-true}
+use Rattle.std.proofs.lemmas.Bool.{and_parts, cond_both, cases_lt}
 use Rattle.raft_state.specs.declared.vote.Vote.{Vote}
 use Rattle.raft_state.specs.declared.log_id.LogId.{LogId}
 use Rattle.raft_state.specs.LogId.{next_place, place_of}
 use Rattle.raft_state.specs.Quorum.{is_quorum as is_quorum_of}
 use Rattle.raft_engine.specs.Values.{Membership, Entry, is_written_by}
-use Rattle.raft_engine.specs.StoredGroup.{StoredGroup, StoringCommand, Snapshot, MakeGroup, PutEntries, RemoveUpTo, after_storing, end_place, entry_at, first_place, held, id_at, id_of, prefix_of, snapshot_last}
-use Rattle.raft_engine.specs.Message.{Message, MessageBody, VoteRequest, VoteReply, AppendRequest, AppendReply, SnapshotRequest, SnapshotReply}
+use Rattle.raft_engine.specs.StoredGroup.{StoredGroup, StoringCommand, Snapshot, RemoveUpTo, after_storing, end_place, entry_at, first_place, held, id_at, id_of, prefix_of}
 use Rattle.raft_engine.specs.Peer.{PeerState, is_kept_for_peers}
-use Rattle.raft_engine.specs.GroupState.{GroupState, Lead, Role, Follower, Candidate, Leader, is_leader, state_of}
-use Rattle.raft_engine.specs.StepResult.{StepResult, apply_up_to, is_within, later_place, send, store, unchanged}
+use Rattle.raft_engine.specs.GroupState.{GroupState, Lead, Role, Follower, Candidate, Leader, is_leader}
+use Rattle.raft_engine.specs.StepResult.{StepResult, apply_up_to, is_within, later_place, send}
 use Rattle.raft_engine.specs.SnapshotRequest.{place_above}
 use Rattle.raft_engine.specs.Lead.{commit_as_leader, configs_in_force, has_accepted, last_place, may_be_committed, other_ids, peer_of, purge_as_wished, purge_up_to, remove_up_to, with_wish}
 use Rattle.raft_engine.specs.Frames.{committed_id, has_grown, lacks_entries, notice, send_entries, send_request, send_snapshot, serve_all, serve_as, with_frames}
 use Rattle.raft_world.specs.BallotWorld.{BallotWorld, BallotEvent}
-use Rattle.raft_world.specs.BallotRanks.{rank_of, ballot_entry, ballot_log}
+use Rattle.raft_world.specs.BallotRanks.{rank_of, ballot_entry}
 use Rattle.raft_world.proofs.BallotAgreement.{same_some}
 use Rattle.raft_world.proofs.BallotSafe.{Among}
 use Rattle.raft_world.proofs.VoteRanks.{leader_eq_same, rank_leader}

@@ -1,14 +1,13 @@
 -- Each step claims no more to be committed than was known or told, but for what a leader commits in it.
-use Rattle.std.specs.Prelude.{◌≡◌, ◌⊎◌, ℕ, ◌+◌, ◌<◌, ◌≤◌, ◌^◌, max, Bool, true, false, List, [], ◌∷◌, length, slice_get, Option, Some, None, option_map, refl}
+use Rattle.std.specs.Prelude.{◌≡◌, ◌⊎◌, ℕ, ◌+◌, ◌<◌, ◌≤◌, ◌^◌, max, List, [], ◌∷◌, length, slice_get, Option, Some, None, option_map, refl}
 use Rattle.std.proofs.Common.{inl, inr, sym, ap, ◌∙◌, subst, arith, ⊎_elim}
 use Rattle.raft_state.specs.declared.vote.Vote.{Vote}
 use Rattle.raft_state.specs.declared.log_id.LogId.{LogId}
 use Rattle.raft_state.specs.LogId.{log_id_of, next_place, place_of}
 use Rattle.raft_state.specs.declared.entry.EntryPayload.TheVariants.{Normal, Membership as Members}
-use Rattle.raft_state.specs.Quorum.{is_quorum as is_quorum_of}
-use Rattle.raft_engine.specs.Values.{Membership, Entry, entry_of, vote_eq, vote_lt}
-use Rattle.raft_engine.specs.StoredGroup.{StoredGroup, StoringCommand, MakeGroup, SetVote, PutEntries, CutFrom, RemoveUpTo, SetSnapshot, StartAfter, Snapshot, after_storing, after_storing_all, entry_at, held, id_of, prefix_of, snapshot_last}
-use Rattle.raft_engine.specs.Message.{Message, MessageBody, VoteRequest, VoteReply, AppendRequest, AppendReply, SnapshotRequest, SnapshotReply}
+use Rattle.raft_engine.specs.Values.{Membership, entry_of}
+use Rattle.raft_engine.specs.StoredGroup.{StoredGroup, StoringCommand, MakeGroup, PutEntries, Snapshot, entry_at, held, id_of, prefix_of, snapshot_last}
+use Rattle.raft_engine.specs.Message.{MessageBody, VoteRequest, VoteReply, AppendRequest, AppendReply, SnapshotRequest, SnapshotReply}
 use Rattle.raft_engine.specs.GroupState.{GroupState, Role, Follower, Candidate, Leader, is_leader, state_of}
 use Rattle.raft_engine.specs.declared.group_call.GroupCall.TheVariants.{Initialize, Elect, Propose, ChangeMembership, Heartbeat, Lost, TriggerSnapshot, TriggerPurge}
 use Rattle.raft_engine.specs.GroupEvent.{GroupCall, GroupEvent, AddGroup, Call, Receive, Open}
@@ -22,10 +21,8 @@ use Rattle.raft_engine.specs.Refusal.{refusal_of}
 use Rattle.raft_engine.specs.GroupStep.{begun, call_step, event_step, finished, group_step, message_step, step_unless}
 use Rattle.raft_world.specs.BallotWorld.{BallotWorld, BallotEvent}
 use Rattle.raft_world.proofs.BallotSafe.{Among}
-use Rattle.raft_world.proofs.Shapes.{Good, Joined}
-use Rattle.raft_world.proofs.Standing.{BodyFits, DownFits, MessageFits, RoleFits, SnapshotFits, UpFits}
+use Rattle.raft_world.proofs.Standing.{BodyFits, SnapshotFits, UpFits}
 use Rattle.raft_world.proofs.StepFits.{EventFits, NodeFits, StopFits, world_after}
-use Rattle.raft_world.proofs.Tracking.{Tracks}
 use Rattle.raft_world.proofs.TrackElections.{Ends}
 use Rattle.raft_world.proofs.TrackCommits.{commit_ends}
 use Rattle.raft_world.proofs.StepOpening.{opening_ends, opening_wish}
@@ -33,7 +30,7 @@ use Rattle.raft_world.proofs.StepWishes.{Wished, committed_wish}
 use Rattle.raft_world.proofs.StepDispatch.{event_ends, wished_ends}
 use Rattle.raft_world.proofs.StepClaims.{ClaimWithin, CommandWithin, Known, Claims, ReplyKnown, applied_claims, beat_claims, changed_claims, counted_claims, elect_claims, frames_claims, heard_claims, judged_claims, lost_claims, more_claims, offered_claims, purge_within_claims, purged_claims, reply_claims, resumed_claims, shot_claims, stale_claims, stored_claims, token_claims}
 use Rattle.raft_world.proofs.WorldSteps.{MayCome}
-use Rattle.raft_world.proofs.StepCommits.{AcceptedBy, Commits, Moved, Moves, Purged, commit_moves, entry_index, frames_same, purged_same, says_within}
+use Rattle.raft_world.proofs.StepCommits.{AcceptedBy, Commits, Purged, commit_moves, entry_index, frames_same, purged_same, says_within}
 
 -- ---- what is known before an event
 

@@ -1,7 +1,6 @@
 -- Each kind of event keeps what is stored in line with the commands.
 use Rattle.std.specs.Prelude.{◌≡◌, ℕ, ◌+◌, nat_le, not, cond, Bool, true, false, List, [], ◌∷◌, Option, Some, None, refl}
 use Rattle.raft_state.specs.declared.vote.Vote.{Vote}
-use Rattle.raft_engine.specs.Values.{vote_lt}
 use Rattle.raft_state.specs.Vote.{vote_of}
 use Rattle.raft_state.specs.declared.log_id.LogId.{LogId}
 use Rattle.raft_state.specs.LogId.{log_id_of}
@@ -30,7 +29,7 @@ use Rattle.raft_engine.specs.PurgeTrigger.{purge_as, purge_within}
 use Rattle.raft_engine.specs.Opening.{drop_stale_log, resume_lead}
 use Rattle.raft_engine.specs.GroupStep.{begun, message_step, call_step, event_step, step_unless, group_step}
 use Rattle.raft_engine.specs.Refusal.{refusal_of}
-use Rattle.raft_world.specs.StoringOrder.{StoresInOrder, KeepsVoteAndCommitted, AllKeep}
+use Rattle.raft_world.specs.StoringOrder.{StoresInOrder}
 use Rattle.raft_world.proofs.StepWords.{either, either_by, same, store-keeps, store_vote-keeps, step_down-keeps, take_over-keeps, append-keeps, with_grant-keeps, remove-keeps, finished-keeps}
 use Rattle.std.proofs.Common.{sym, ◌∙◌, ap, subst, arith, leb-true}
 use Rattle.std.proofs.lemmas.Bool.{or_parts, false_from_ne_true}

@@ -1,26 +1,23 @@
 -- A whole append request, with its reply.
-use Rattle.std.specs.Prelude.{◌≡◌, ◌⊎◌, ℕ, ◌+◌, ◌<◌, ◌≤◌, ◌^◌, Bool, true, false, List, [], ◌∷◌, length, Option, Some, None, is_some, refl}
-use Rattle.std.proofs.Common.{inl, inr, sym, ap, ◌∙◌, subst, arith, ⊎_elim}
-use Rattle.std.proofs.lemmas.Bool.{cases_Bool}
+use Rattle.std.specs.Prelude.{◌≡◌, ℕ, ◌+◌, ◌<◌, ◌^◌, Bool, true, false, List, length, Option, Some, None, is_some, refl}
+use Rattle.std.proofs.Common.{inl, sym, ap, ◌∙◌, subst}
 use Rattle.raft_state.specs.declared.log_id.LogId.{LogId}
-use Rattle.raft_state.specs.declared.vote.Vote.{Vote}
 use Rattle.raft_state.specs.LogId.{next_place, place_of}
-use Rattle.raft_engine.specs.Values.{Membership, Entry, vote_lt}
+use Rattle.raft_engine.specs.Values.{Membership, vote_lt}
 use Rattle.raft_engine.specs.StoredGroup.{StoredGroup, CutFrom, entry_at, held}
-use Rattle.raft_engine.specs.Message.{AppendReply, AppendFields, ReplyResult, Success, Conflict, HigherVote, last_sent}
-use Rattle.raft_engine.specs.GroupState.{Role, Follower}
-use Rattle.raft_engine.specs.StepResult.{StepResult, store, take_over, apply_up_to}
-use Rattle.raft_engine.specs.AppendRequest.{is_held, cut_from, cut_at, above_committed, missing_entries, put_entries, lesser_place, reply_append, joined, heard, append_request_step}
+use Rattle.raft_engine.specs.Message.{AppendFields, Conflict, last_sent}
+use Rattle.raft_engine.specs.GroupState.{Follower}
+use Rattle.raft_engine.specs.StepResult.{StepResult, store, take_over}
+use Rattle.raft_engine.specs.AppendRequest.{is_held, cut_from, cut_at, above_committed, missing_entries, lesser_place, reply_append, joined, heard, append_request_step}
 use Rattle.raft_world.specs.BallotWorld.{BallotWorld, BallotEvent, taken, cut_before}
 use Rattle.raft_world.specs.BallotRanks.{rank_of, ballot_log}
-use Rattle.raft_world.proofs.BallotSafe.{Among}
-use Rattle.raft_world.proofs.BallotOthers.{Extends, extends_refl, extends_trans}
+use Rattle.raft_world.proofs.BallotOthers.{Extends, extends_refl}
 use Rattle.raft_world.proofs.Shapes.{joined_held}
 use Rattle.raft_world.proofs.Ids.{size_same}
 use Rattle.raft_world.proofs.Standing.{RoleFits, AppendFits, append-of, reply-of, id_rank}
 use Rattle.raft_world.proofs.StepWords.{either_by}
 use Rattle.raft_world.proofs.Tracking.{Tracks, track_send}
-use Rattle.raft_world.proofs.TrackVotes.{TookOver, took_over}
+use Rattle.raft_world.proofs.TrackVotes.{took_over}
 use Rattle.raft_world.proofs.TrackElections.{Ends, ends_from}
 use Rattle.raft_world.proofs.TrackAppends.{conflict_tracks, take_tracks, take_extends, last_sent_next}
 

@@ -1,34 +1,32 @@
 -- Append requests, followed by the ballot machine.
-use Rattle.std.specs.Prelude.{◌≡◌, ◌⊎◌, ℕ, zero, suc, ◌+◌, ◌-◌, ◌<◌, ◌≤◌, ◌^◌, ◌==◌, ◌&&◌, ◌||◌, not, min, max, nat_lt, nat_le, Bool, true, false, List, [], ◌∷◌, ◌++◌, length, take, drop, map, slice_get, Option, Some, None, is_some, refl}
-use Rattle.std.proofs.Common.{inl, inr, sym, ap, ap₂, ◌∙◌, subst, arith, ⊎_elim, eq-eqb, eqb-true, ne_eqb, le-leb, lt-ltb, length-drop, take-take, take_all, length-take-le}
-use Rattle.std.proofs.lemmas.Bool.{and_from, and_parts, or_cases, or_parts, or_left, or_right, not_from_false, cond-true, cond-false, cond_both, cases_lt, cases_Bool, false_from_ne_true}
-use Rattle.std.proofs.lemmas.List.{drop-drop, drop-map, take-map, map-append, length-map}
-use Rattle.std.proofs.lemmas.Option.{slice_get_within, slice_get_past}
+use Rattle.std.specs.Prelude.{◌≡◌, ◌⊎◌, ℕ, suc, ◌+◌, ◌-◌, ◌<◌, ◌≤◌, ◌^◌, ◌==◌, ◌||◌, not, min, max, nat_lt, nat_le, true, false, List, [], ◌∷◌, ◌++◌, length, take, drop, slice_get, Option, Some, None, is_some, refl}
+use Rattle.std.proofs.Common.{inl, inr, sym, ap, ap₂, ◌∙◌, subst, arith, ⊎_elim, eq-eqb, ne_eqb, le-leb, lt-ltb, length-drop, take-take, length-take-le}
+use Rattle.std.proofs.lemmas.Bool.{and_from, or_cases, or_parts, or_left, or_right, not_from_false, cond-true, cond_both, cases_lt}
+use Rattle.std.proofs.lemmas.List.{drop-drop, drop-map, take-map, map-append}
+use Rattle.std.proofs.lemmas.Option.{slice_get_past}
 use Rattle.raft_state.specs.declared.log_id.LogId.{LogId}
-use Rattle.raft_state.specs.declared.vote.Vote.{Vote}
 use Rattle.raft_state.specs.LogId.{next_place, place_of}
 use Rattle.raft_engine.specs.Values.{Membership, Entry}
-use Rattle.raft_engine.specs.StoredGroup.{StoredGroup, PutEntries, CutFrom, after_storing, after_storing_all, first_place, end_place, entry_at, prefix_of, has_id_in_log, held}
-use Rattle.raft_engine.specs.Message.{Message, AppendReply, AppendFields, Success, Conflict, HigherVote, last_sent}
-use Rattle.raft_engine.specs.GroupState.{GroupState, Role, Follower}
+use Rattle.raft_engine.specs.StoredGroup.{StoredGroup, PutEntries, CutFrom, after_storing, after_storing_all, first_place, entry_at, prefix_of, has_id_in_log}
+use Rattle.raft_engine.specs.Message.{Message, AppendFields, last_sent}
 use Rattle.raft_engine.specs.StepResult.{StepResult, store, with_stored, apply_up_to, later_place, is_within}
 use Rattle.raft_engine.specs.SnapshotRequest.{place_above}
-use Rattle.raft_engine.specs.AppendRequest.{is_held, cut_from, cut_at, above_committed, missing_entries, put_entries, lesser_place}
+use Rattle.raft_engine.specs.AppendRequest.{is_held, cut_from, above_committed, missing_entries, put_entries, lesser_place}
 use Rattle.raft_world.specs.BallotLogs.{BallotEntry, holds_before, put_from}
 use Rattle.raft_world.specs.BallotLogs.{cut_from as cut_log_from}
-use Rattle.raft_world.specs.BallotWorld.{BallotNode, BallotAppend, BallotWorld, BallotEvent, TakeEntries, CutForEntries, CutForConflict, can_raise, conflicts, taken, cut, cut_before, append_comes, cut_comes, conflict_comes, ballot_step}
+use Rattle.raft_world.specs.BallotWorld.{BallotNode, BallotAppend, BallotWorld, BallotEvent, TakeEntries, CutForEntries, CutForConflict, can_raise, taken, cut, cut_before, append_comes, cut_comes, conflict_comes, ballot_step}
 use Rattle.raft_world.specs.BallotRanks.{rank_of, owner_of, ballot_entry, ballot_log, ballot_group}
 use Rattle.raft_world.proofs.BallotAgreement.{with_value_same, some_at}
 use Rattle.raft_world.proofs.BallotSafe.{Among, Safe}
-use Rattle.raft_world.proofs.BallotOthers.{Extends, extends_refl}
+use Rattle.raft_world.proofs.BallotOthers.{Extends}
 use Rattle.raft_world.proofs.BallotAppends.{agreeing, agreeing_le, agreeing_skip, drop_past, all_held, holds, place, skipped, start_front}
 use Rattle.raft_world.proofs.VoteRanks.{owner_other}
-use Rattle.raft_world.proofs.Shapes.{Good, Joined, good_drop, joined_at, joined_below, joined_end, joined_cut, joined_put}
+use Rattle.raft_world.proofs.Shapes.{Good, Joined, good_drop, joined_at, joined_cut, joined_put}
 use Rattle.raft_world.proofs.FreshEntries.{within_is, without_is, above_is, has_id_is, has_id_place, missing_is, holds_at}
 use Rattle.raft_world.proofs.Ids.{size_same, ballot_at}
-use Rattle.raft_world.proofs.Standing.{up_down, LeadKept, lead_other, StoredFits, UpFits, DownFits, MessageFits, AppendFits, append-of, reply-of, id_rank, message_on}
+use Rattle.raft_world.proofs.Standing.{up_down, LeadKept, lead_other, StoredFits, UpFits, DownFits, MessageFits, AppendFits, append-of, id_rank, message_on}
 use Rattle.raft_world.proofs.StepWords.{either_by}
-use Rattle.raft_world.proofs.Tracking.{Tracks, Reached, MayStop, index_of, reached_next, reached_safe, step_extends, stored_next, stops_store, track_on, track_same, track_event}
+use Rattle.raft_world.proofs.Tracking.{Tracks, Reached, MayStop, index_of, reached_next, reached_safe, step_extends, stored_next, stops_store, track_on, track_event}
 use Rattle.raft_world.proofs.TrackWrites.{put_fits, cut_fits}
 
 -- ---- places

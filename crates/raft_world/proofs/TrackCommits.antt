@@ -1,33 +1,30 @@
 -- What a leader commits, followed by the ballot machine.
-use Rattle.std.specs.Prelude.{◌≡◌, ◌⊎◌, ℕ, zero, suc, ◌+◌, ◌-◌, ◌<◌, ◌≤◌, ◌^◌, ◌==◌, ◌&&◌, max, nat_lt, nat_le, Bool, true, false, cond, List, [], ◌∷◌, ◌++◌, length, filter, take, drop, slice_get, Option, Some, None, option_map, refl}
+use Rattle.std.specs.Prelude.{◌≡◌, ◌⊎◌, ℕ, suc, ◌+◌, ◌<◌, ◌==◌, max, nat_lt, Bool, true, false, List, [], ◌∷◌, ◌++◌, length, filter, slice_get, Option, Some, None, option_map, refl}
 use Rattle.std.specs.List.{last_or}
-use Rattle.std.proofs.Common.{inl, inr, sym, ap, ap₂, ◌∙◌, subst, arith, ⊎_elim, eqb-true, eq-eqb, ltb-true, lt-ltb, leb-true}
-use Rattle.std.proofs.lemmas.Bool.{and_parts, and_from, or_left, or_right, cases_lt, cond-true, cond_both, cases_Bool}
-use Rattle.std.proofs.lemmas.Option.{slice_get_within}
+use Rattle.std.proofs.Common.{inl, inr, sym, ap, ◌∙◌, subst, arith, ⊎_elim, eqb-true, eq-eqb, lt-ltb, leb-true}
+use Rattle.std.proofs.lemmas.Bool.{and_parts, and_from, or_left, or_right, cases_lt, cond-true, cond_both}
 use Rattle.raft_state.specs.declared.log_id.LogId.{LogId}
 use Rattle.raft_state.specs.LogId.{place_of}
 use Rattle.raft_state.specs.Quorum.{is_quorum as is_quorum_of}
 use Rattle.raft_engine.specs.Values.{Membership, Entry, is_written_by}
 use Rattle.raft_engine.specs.StoredGroup.{StoredGroup, first_place, end_place, held}
-use Rattle.raft_engine.specs.GroupState.{GroupState, Lead, Role, Follower, Candidate, Leader}
+use Rattle.raft_engine.specs.GroupState.{Lead, Role, Follower, Candidate, Leader}
 use Rattle.raft_engine.specs.StepResult.{StepResult, apply_up_to, later_place, is_within}
 use Rattle.raft_engine.specs.SnapshotRequest.{place_above}
 use Rattle.raft_engine.specs.Lead.{configs_in_force, peer_of, has_accepted, may_be_committed, last_place, commit_as_leader}
-use Rattle.raft_world.specs.BallotQuorum.{is_quorum}
 use Rattle.raft_world.specs.BallotWorld.{BallotReply, BallotWorld, BallotEvent, CommitPlace, is_of, ballot_accepted, is_ballot_leader, is_ballot_settled, committed_to, ballot_start, ballot_step, ballot_run}
-use Rattle.raft_world.specs.BallotRanks.{rank_of, owner_of, ballot_entry, ballot_log, ballot_group}
+use Rattle.raft_world.specs.BallotRanks.{rank_of, owner_of, ballot_entry, ballot_group}
 use Rattle.raft_world.specs.CommitsOwn.{CommitsOwn}
 use Rattle.raft_world.proofs.BallotAgreement.{with_value_same, same_some}
 use Rattle.raft_world.proofs.BallotQuorums.{quorum_more}
-use Rattle.raft_world.proofs.BallotSafe.{Among, Safe}
+use Rattle.raft_world.proofs.BallotSafe.{Among}
 use Rattle.raft_world.proofs.BallotOthers.{Extends, extends_refl}
 use Rattle.raft_world.proofs.BallotOrigins.{own_accepted}
 use Rattle.raft_world.proofs.VoteRanks.{leader_eq_same, owner_is}
-use Rattle.raft_world.proofs.Shapes.{Joined, joined_held, joined_end, slice_drop}
-use Rattle.raft_world.proofs.FreshEntries.{within_is}
+use Rattle.raft_world.proofs.Shapes.{slice_drop}
 use Rattle.raft_world.proofs.Ids.{ballot_at}
-use Rattle.raft_world.proofs.Standing.{PeerFits, StoredFits, UpFits, RoleFits, OwnVote, reply-of, message_on, role_on}
-use Rattle.raft_world.proofs.Tracking.{Tracks, Reached, track_on, reached_next, reached_safe, whole_run, step_extends}
+use Rattle.raft_world.proofs.Standing.{UpFits, RoleFits, reply-of, message_on, role_on}
+use Rattle.raft_world.proofs.Tracking.{Tracks, track_on, reached_next, reached_safe, whole_run, step_extends}
 use Rattle.raft_world.proofs.TrackWrites.{leads}
 use Rattle.raft_world.proofs.TrackElections.{Ends, quorum_link, configs_are}
 use Rattle.raft_world.proofs.TrackReplies.{peer_of_fits, peer_of_is}

@@ -1,18 +1,18 @@
 -- Elections, followed by the ballot machine.
-use Rattle.std.specs.Prelude.{◌≡◌, ◌⊎◌, ℕ, zero, suc, ◌+◌, ◌-◌, ◌*◌, ◌<◌, ◌≤◌, ◌^◌, ◌==◌, ◌&&◌, not, nat_lt, Bool, true, false, List, [], ◌∷◌, ◌++◌, length, count_by, take, Option, Some, None, is_none, refl, cond}
-use Rattle.std.proofs.Common.{inl, inr, sym, ap, ap₂, ◌∙◌, subst, arith, ⊎_elim, eq-eqb, eqb-true, lt-ltb}
+use Rattle.std.specs.Prelude.{◌≡◌, ℕ, ◌+◌, ◌*◌, ◌<◌, ◌^◌, ◌==◌, ◌&&◌, not, nat_lt, Bool, true, false, List, [], ◌∷◌, ◌++◌, length, count_by, take, Some, None, is_none, refl, cond}
+use Rattle.std.proofs.Common.{inl, inr, sym, ap, ◌∙◌, subst, arith, ⊎_elim, eq-eqb, eqb-true, lt-ltb}
 use Rattle.std.proofs.lemmas.Bool.{and_from, and_parts, cond-true, cond_both, not_from_false, or_cases, or_left, or_right}
 use Rattle.raft_state.specs.declared.vote.Vote.{Vote}
 use Rattle.raft_state.specs.declared.entry.EntryPayload.TheVariants.{Blank, Normal, Membership as Members}
 use Rattle.raft_state.specs.Vote.{vote_of}
 use Rattle.raft_state.specs.LogId.{next_place, log_id_of}
 use Rattle.raft_state.specs.Quorum.{is_quorum as is_quorum_of}
-use Rattle.raft_engine.specs.Values.{Membership, Entry, EntryPayload, entry_of, vote_eq, LoggedMembership, has_id, is_written_by, last_membership}
-use Rattle.raft_engine.specs.StoredGroup.{StoredGroup, PutEntries, end_place, prefix_of, SetVote, after_storing, last_id, held, membership_in_force}
+use Rattle.raft_engine.specs.Values.{Membership, Entry, EntryPayload, entry_of, vote_eq, has_id, last_membership}
+use Rattle.raft_engine.specs.StoredGroup.{StoredGroup, PutEntries, end_place, prefix_of, SetVote, after_storing, last_id, held}
 use Rattle.raft_engine.specs.Message.{VoteRequest}
-use Rattle.raft_engine.specs.GroupState.{GroupState, Role, Follower, Candidate, Leader}
-use Rattle.raft_engine.specs.StepResult.{StepResult, store, store_vote, step_down, in_role, send, with_stored, append}
-use Rattle.raft_engine.specs.Lead.{configs_of, configs_in_force, committed_vote, new_lead, append_blank, begin_lead, lead_if, with_grant}
+use Rattle.raft_engine.specs.GroupState.{Role, Follower, Candidate, Leader}
+use Rattle.raft_engine.specs.StepResult.{StepResult, store, store_vote, step_down, in_role, with_stored, append}
+use Rattle.raft_engine.specs.Lead.{configs_of, configs_in_force, committed_vote, new_lead, begin_lead, lead_if, with_grant}
 use Rattle.raft_engine.specs.Elect.{other_voters, ask, stand, elect_step}
 use Rattle.raft_engine.specs.Initialize.{is_new, initialize_step}
 use Rattle.raft_world.specs.BallotLogs.{LogEnd}
@@ -27,7 +27,7 @@ use Rattle.raft_world.proofs.VoteRanks.{owner_is, rank_below, vote_eq_same}
 use Rattle.raft_world.proofs.VoteOrders.{by_term}
 use Rattle.raft_world.proofs.Shapes.{Good, Joined, joined_held, joined_end, joined_put}
 use Rattle.raft_world.proofs.Memberships.{HasMembership, in_force, last_voters}
-use Rattle.raft_world.proofs.Standing.{MessageFits, UpFits, lead_young, RoleFits, OwnVote, request-of, grant-of, id_rank}
+use Rattle.raft_world.proofs.Standing.{UpFits, lead_young, RoleFits, OwnVote, request-of, grant-of, id_rank}
 use Rattle.raft_world.proofs.Ids.{log_end_is}
 use Rattle.raft_world.proofs.StepWords.{either_by}
 use Rattle.raft_world.proofs.Tracking.{Tracks, among_last, track_event, track_same, track_send, step_extends}

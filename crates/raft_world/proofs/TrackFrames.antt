@@ -1,34 +1,33 @@
 -- What a leader sends, followed by the ballot machine.
-use Rattle.std.specs.Prelude.{◌≡◌, ◌⊎◌, ℕ, zero, suc, ◌+◌, ◌-◌, ◌<◌, ◌≤◌, ◌^◌, ◌==◌, ◌&&◌, nat_lt, nat_le, Bool, true, false, cond, List, [], ◌∷◌, length, take, drop, slice_get, Option, Some, None, is_none, option_and_then, refl}
-use Rattle.std.proofs.Common.{inl, inr, sym, ap, ap₂, ◌∙◌, subst, arith, ⊎_elim, le-leb, lt-ltb, ne_eqb, length-drop, take_all}
+use Rattle.std.specs.Prelude.{◌≡◌, ◌⊎◌, ℕ, suc, ◌+◌, ◌-◌, ◌<◌, ◌≤◌, ◌^◌, ◌==◌, ◌&&◌, nat_lt, nat_le, Bool, true, false, List, [], ◌∷◌, length, take, drop, slice_get, Option, Some, None, is_none, option_and_then, refl}
+use Rattle.std.proofs.Common.{inl, inr, sym, ap, ◌∙◌, subst, arith, ⊎_elim, le-leb, ne_eqb}
 use Rattle.std.proofs.lemmas.Bool.{and_from, cond-true, cond-false, cases_lt}
 use Rattle.std.proofs.lemmas.List.{take-map, drop-map, drop-drop}
 use Rattle.std.proofs.lemmas.Option.{slice_get_within, slice_get_past}
 use Rattle.raft_state.specs.declared.log_id.LogId.{LogId}
-use Rattle.raft_state.specs.declared.vote.Vote.{Vote}
 use Rattle.raft_state.specs.LogId.{next_place}
 use Rattle.raft_engine.specs.Values.{Membership, Entry}
-use Rattle.raft_engine.specs.StoredGroup.{StoredGroup, Snapshot, first_place, end_place, entry_at, id_of, id_at, id_before, prefix_of, held}
-use Rattle.raft_engine.specs.Message.{Message, AppendFields, AppendRequest, SnapshotRequest, Numbered, last_sent}
+use Rattle.raft_engine.specs.StoredGroup.{StoredGroup, Snapshot, first_place, id_of, id_at, id_before, prefix_of, held}
+use Rattle.raft_engine.specs.Message.{AppendFields, AppendRequest, SnapshotRequest, Numbered, last_sent}
 use Rattle.raft_engine.specs.Peer.{PeerState, Outstanding, with_peer}
 use Rattle.raft_engine.specs.GroupState.{GroupState, Lead, Role, Follower, Candidate, Leader}
 use Rattle.raft_engine.specs.StepResult.{StepResult, send}
 use Rattle.raft_engine.specs.Lead.{peer_of, other_ids}
-use Rattle.raft_engine.specs.Frames.{committed_id, notice, request_start, waiting, with_peer_state, send_entries, send_snapshot, send_request, serve, serve_as, serve_all, has_grown, with_frames, lacks_entries, entries_in_request}
-use Rattle.raft_engine.specs.Heartbeat.{send_notices, beat_as, heartbeat_step}
+use Rattle.raft_engine.specs.Frames.{committed_id, notice, request_start, waiting, send_entries, send_snapshot, send_request, serve, serve_as, serve_all, lacks_entries, entries_in_request}
+use Rattle.raft_engine.specs.Heartbeat.{send_notices, beat_as}
 use Rattle.raft_engine.specs.SnapshotRequest.{place_above}
 use Rattle.raft_world.specs.BallotLogs.{BallotEntry, ballot_of, ballot_before}
-use Rattle.raft_world.specs.BallotWorld.{BallotAppend, BallotWorld, BallotEvent, SendEntries, is_ballot_leader, sent, ballot_step}
+use Rattle.raft_world.specs.BallotWorld.{BallotWorld, BallotEvent, SendEntries, is_ballot_leader, sent, ballot_step}
 use Rattle.raft_world.specs.BallotRanks.{rank_of, ballot_entry, ballot_log, ballot_group}
 use Rattle.raft_world.proofs.BallotAgreement.{some_at, same_some}
 use Rattle.raft_world.proofs.BallotSafe.{Among}
-use Rattle.raft_world.proofs.BallotOthers.{Extends, extends_refl, extends_trans}
-use Rattle.raft_world.proofs.Shapes.{Good, Joined, good_none, good_take, good_drop, joined_held, joined_at, joined_end, slice_taken, slice_drop}
-use Rattle.raft_world.proofs.Ids.{Before, before, id_at_is, size_same, ballot_at}
-use Rattle.raft_world.proofs.Standing.{HasId, SnapshotFits, PeerFits, RoleFits, OwnVote, UpFits, AppendFits, InstallFits, append-of, reply-of, id_rank, message_on, peer_on, has_id_on}
+use Rattle.raft_world.proofs.BallotOthers.{Extends, extends_refl}
+use Rattle.raft_world.proofs.Shapes.{Good, good_none, good_take, good_drop, joined_held, joined_at, slice_taken, slice_drop}
+use Rattle.raft_world.proofs.Ids.{before, id_at_is, size_same, ballot_at}
+use Rattle.raft_world.proofs.Standing.{HasId, PeerFits, RoleFits, OwnVote, AppendFits, InstallFits, append-of, reply-of, id_rank, message_on, peer_on}
 use Rattle.raft_world.proofs.BallotAppends.{drop_past}
 use Rattle.raft_world.proofs.StepWords.{either_by}
-use Rattle.raft_world.proofs.Tracking.{Tracks, track_on, track_same, track_send, reached_next, reached_safe, step_extends, up_same}
+use Rattle.raft_world.proofs.Tracking.{Tracks, track_on, track_same, track_send, reached_next, reached_safe, step_extends}
 use Rattle.raft_world.proofs.TrackWrites.{leads}
 use Rattle.raft_world.proofs.TrackElections.{Ends, ends_from}
 use Rattle.raft_world.proofs.TrackReplies.{peer_of_fits, with_peer_is}

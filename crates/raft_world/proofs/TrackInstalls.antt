@@ -1,35 +1,34 @@
 -- A snapshot that is installed, followed by the ballot machine.
-use Rattle.std.specs.Prelude.{◌≡◌, ◌⊎◌, ℕ, zero, suc, ◌+◌, ◌-◌, ◌<◌, ◌≤◌, ◌^◌, ◌==◌, ◌&&◌, ◌||◌, not, min, max, nat_lt, nat_le, Bool, true, false, List, [], ◌∷◌, ◌++◌, length, take, drop, map, slice_get, Option, Some, None, is_some, refl}
-use Rattle.std.proofs.Common.{inl, inr, sym, ap, ap₂, ◌∙◌, subst, arith, ⊎_elim, eq-eqb, eqb-true, ne_eqb, le-leb, lt-ltb, length-drop, take_all, length-take-le}
-use Rattle.std.proofs.lemmas.Bool.{and_from, not_from_false, cond-true, cond-false, cases_lt}
+use Rattle.std.specs.Prelude.{◌≡◌, ◌⊎◌, ℕ, suc, ◌+◌, ◌-◌, ◌<◌, ◌≤◌, ◌^◌, ◌==◌, not, min, max, nat_le, true, false, List, [], ◌∷◌, ◌++◌, length, take, drop, slice_get, Option, Some, None, refl}
+use Rattle.std.proofs.Common.{inl, inr, sym, ap, ap₂, ◌∙◌, subst, arith, ⊎_elim, ne_eqb, le-leb, take_all}
+use Rattle.std.proofs.lemmas.Bool.{and_from, not_from_false, cond-true}
 use Rattle.std.proofs.lemmas.List.{take-map}
 use Rattle.std.proofs.Math.Seq.{take-append_seam}
-use Rattle.std.proofs.lemmas.Option.{slice_get_within, slice_get_past}
+use Rattle.std.proofs.lemmas.Option.{slice_get_within}
 use Rattle.raft_state.specs.declared.log_id.LogId.{LogId}
 use Rattle.raft_state.specs.declared.vote.Vote.{Vote}
 use Rattle.raft_state.specs.declared.vote.LeaderId.{LeaderId}
 use Rattle.raft_engine.specs.Values.{Membership, Entry, EntryPayload}
-use Rattle.raft_engine.specs.StoredGroup.{StoredGroup, Snapshot, CutFrom, SetSnapshot, RemoveUpTo, after_storing, after_storing_all, first_place, end_place, entry_at, prefix_of, has_id_in_log, held}
-use Rattle.raft_engine.specs.Message.{Message}
+use Rattle.raft_engine.specs.StoredGroup.{StoredGroup, Snapshot, CutFrom, SetSnapshot, RemoveUpTo, after_storing, first_place, prefix_of, has_id_in_log}
 use Rattle.raft_engine.specs.StepResult.{StepResult, store, apply_up_to, later_place, with_stored}
 use Rattle.raft_engine.specs.SnapshotRequest.{place_above}
 use Rattle.raft_world.specs.BallotLists.{AgreeBelow}
-use Rattle.raft_world.specs.BallotLogs.{BallotEntry, ballot_of, ballot_before, last_ballot, holds_before, put_over, put_from}
-use Rattle.raft_world.specs.BallotWorld.{BallotNode, BallotAppend, BallotWorld, BallotEvent, TakeEntries, CutForSnapshot, can_raise, drops, taken, dropped, append_comes, drop_comes, ballot_step}
+use Rattle.raft_world.specs.BallotLogs.{BallotEntry, ballot_of, ballot_before, last_ballot, holds_before, put_over}
+use Rattle.raft_world.specs.BallotWorld.{BallotNode, BallotAppend, BallotWorld, BallotEvent, TakeEntries, CutForSnapshot, can_raise, taken, dropped, append_comes, drop_comes, ballot_step}
 use Rattle.raft_world.specs.BallotRanks.{rank_of, owner_of, ballot_entry, ballot_log, ballot_group}
-use Rattle.raft_world.proofs.BallotAgreement.{with_value_same, some_at, same_some, agree_sym, agree_trans, agree_less}
+use Rattle.raft_world.proofs.BallotAgreement.{with_value_same, some_at, same_some}
 use Rattle.raft_world.proofs.BallotMerging.{Matching}
 use Rattle.raft_world.proofs.BallotFacts.{matching}
-use Rattle.raft_world.proofs.BallotSafe.{Among, Safe}
+use Rattle.raft_world.proofs.BallotSafe.{Safe}
 use Rattle.raft_world.proofs.BallotOthers.{Extends}
 use Rattle.raft_world.proofs.BallotAppends.{drop_past, commit_front}
-use Rattle.raft_world.proofs.BallotInstalls.{take_is, short_holds, put_same, put_other}
+use Rattle.raft_world.proofs.BallotInstalls.{short_holds, put_same, put_other}
 use Rattle.raft_world.proofs.VoteRanks.{owner_other, rank_leader}
-use Rattle.raft_world.proofs.Shapes.{Good, Joined, Stale, good_take, good_drop, joined_at, joined_end, joined_cut, joined_snapshot, joined_removed, slice_take, slice_taken}
-use Rattle.raft_world.proofs.FreshEntries.{has_id_is, has_id_place, holds_at, without_is}
+use Rattle.raft_world.proofs.Shapes.{Good, Joined, good_take, good_drop, joined_end, joined_cut, joined_snapshot, joined_removed, slice_taken}
+use Rattle.raft_world.proofs.FreshEntries.{has_id_is, has_id_place, holds_at}
 use Rattle.raft_world.proofs.Ids.{size_same, ballot_at, last_before}
-use Rattle.raft_world.proofs.Standing.{HasId, SnapshotFits, StoredFits, UpFits, DownFits, MessageFits, InstallFits, append-of, message_on, up_down, lead_other}
-use Rattle.raft_world.proofs.Tracking.{Tracks, Reached, MayStop, index_of, reached_next, reached_safe, step_extends, stored_next, stops_store, track_event}
+use Rattle.raft_world.proofs.Standing.{HasId, SnapshotFits, StoredFits, UpFits, DownFits, InstallFits, append-of, message_on, up_down, lead_other}
+use Rattle.raft_world.proofs.Tracking.{Tracks, Reached, index_of, reached_next, reached_safe, step_extends, stored_next, stops_store, track_event}
 use Rattle.raft_world.proofs.TrackWrites.{cut_fits, purge_index}
 
 -- ---- entries that the ballot machine sees alike are the same

@@ -1,33 +1,33 @@
 -- Vote requests, and replies of each kind, followed by the ballot machine.
-use Rattle.std.specs.Prelude.{◌≡◌, ◌⊎◌, ℕ, ◌+◌, ◌<◌, ◌≤◌, ◌^◌, ◌==◌, ◌&&◌, ◌||◌, not, max, nat_lt, Bool, true, false, cond, List, [], ◌∷◌, length, Option, Some, None, refl}
-use Rattle.std.proofs.Common.{inl, inr, sym, ap, ap₂, ◌∙◌, subst, arith, ⊎_elim, eqb-true, eq-eqb}
-use Rattle.std.proofs.lemmas.Bool.{and_parts, and_from, or_parts, cond_both, cases_Bool, not-true}
+use Rattle.std.specs.Prelude.{◌≡◌, ◌⊎◌, ℕ, ◌+◌, ◌<◌, ◌^◌, ◌==◌, ◌&&◌, ◌||◌, nat_lt, Bool, true, false, cond, List, [], ◌∷◌, length, Option, Some, None, refl}
+use Rattle.std.proofs.Common.{inl, inr, sym, ap, ap₂, ◌∙◌, subst, ⊎_elim, eqb-true, eq-eqb}
+use Rattle.std.proofs.lemmas.Bool.{and_parts, and_from, or_parts, cond_both, not-true}
 use Rattle.raft_state.specs.declared.log_id.LogId.{LogId}
 use Rattle.raft_state.specs.declared.vote.Vote.{Vote}
 use Rattle.raft_state.specs.declared.vote.LeaderId.{LeaderId}
 use Rattle.raft_state.specs.LogId.{next_place}
-use Rattle.raft_engine.specs.Values.{Membership, Entry, vote_eq, vote_lt, leader_eq, log_id_eq, last_id_lt, last_id_eq}
+use Rattle.raft_engine.specs.Values.{Membership, Entry, vote_eq, vote_lt, leader_eq, last_id_lt, last_id_eq}
 use Rattle.raft_engine.specs.StoredGroup.{StoredGroup, last_id, held}
-use Rattle.raft_engine.specs.Message.{ReplyFields, ReplyResult, Success, Conflict, HigherVote, Numbered, request_id_eq}
+use Rattle.raft_engine.specs.Message.{ReplyFields, ReplyResult, Success, Conflict, HigherVote}
 use Rattle.raft_engine.specs.Peer.{PeerState, Outstanding, new_peer, peer_or, with_peer, is_answer_to}
-use Rattle.raft_engine.specs.GroupState.{GroupState, Lead, Role, Follower, Candidate, Leader}
-use Rattle.raft_engine.specs.StepResult.{StepResult, store_vote, step_down, take_over, in_role}
-use Rattle.raft_engine.specs.Lead.{peer_of, with_grant}
+use Rattle.raft_engine.specs.GroupState.{Lead, Role, Follower, Candidate, Leader}
+use Rattle.raft_engine.specs.StepResult.{StepResult, store_vote, step_down}
+use Rattle.raft_engine.specs.Lead.{peer_of}
 use Rattle.raft_engine.specs.Frames.{with_peer_state}
 use Rattle.raft_engine.specs.VoteRequest.{may_grant, is_under_lease, judged, vote_request_step}
 use Rattle.raft_engine.specs.VoteReply.{take_over_greater, counted, vote_reply_step}
-use Rattle.raft_engine.specs.Reply.{ended, after_answer, answered, with_higher_vote, reply_step}
+use Rattle.raft_engine.specs.Reply.{after_answer, answered, with_higher_vote, reply_step}
 use Rattle.raft_engine.specs.Refusal.{is_foreign, is_foreign_result}
 use Rattle.raft_world.specs.BallotWorld.{BallotReply, BallotWorld, BallotEvent, raised}
 use Rattle.raft_world.specs.BallotRanks.{rank_of}
 use Rattle.raft_world.proofs.BallotSafe.{Among}
-use Rattle.raft_world.proofs.BallotOthers.{Extends, extends_refl}
+use Rattle.raft_world.proofs.BallotOthers.{extends_refl}
 use Rattle.raft_world.proofs.VoteRanks.{vote_eq_same, leader_eq_same, rank_rises}
 use Rattle.raft_world.proofs.Shapes.{joined_held}
-use Rattle.raft_world.proofs.Standing.{replies_on, HasId, PeerFits, RoleFits, RepliesFit, request-of, grant-of, reply-of, id_rank}
+use Rattle.raft_world.proofs.Standing.{replies_on, PeerFits, RoleFits, RepliesFit, request-of, grant-of, reply-of, id_rank}
 use Rattle.raft_world.proofs.StepWords.{either_by}
 use Rattle.raft_world.proofs.Tracking.{Tracks, track_same, track_send}
-use Rattle.raft_world.proofs.TrackVotes.{Granted, TookOver, grant_tracks, raise_tracks'}
+use Rattle.raft_world.proofs.TrackVotes.{grant_tracks, raise_tracks'}
 use Rattle.raft_world.proofs.TrackElections.{Ends, ends_from, grant_ends}
 use Rattle.raft_world.proofs.TrackAppendRequest.{follows_ends}
 

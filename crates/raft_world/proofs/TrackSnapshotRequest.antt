@@ -1,17 +1,16 @@
 -- A whole snapshot request, with its reply.
-use Rattle.std.specs.Prelude.{◌≡◌, ◌⊎◌, ℕ, ◌+◌, ◌-◌, ◌<◌, ◌≤◌, ◌^◌, min, max, Bool, true, false, List, [], ◌∷◌, length, take, Option, Some, None, is_some, refl}
+use Rattle.std.specs.Prelude.{◌≡◌, ◌⊎◌, ℕ, ◌+◌, ◌-◌, ◌<◌, ◌≤◌, ◌^◌, min, max, Bool, true, false, List, [], length, take, Some, None, is_some, refl}
 use Rattle.std.proofs.Common.{inl, inr, sym, ap, ◌∙◌, subst, arith, ⊎_elim, length-take}
 use Rattle.std.proofs.lemmas.Bool.{cases_lt}
 use Rattle.std.proofs.lemmas.Option.{slice_get_past}
-use Rattle.raft_state.specs.declared.log_id.LogId.{LogId}
 use Rattle.raft_state.specs.declared.vote.Vote.{Vote}
 use Rattle.raft_state.specs.LogId.{next_place, place_of}
-use Rattle.raft_engine.specs.Values.{Membership, Entry, vote_lt}
-use Rattle.raft_engine.specs.StoredGroup.{StoredGroup, Snapshot, CutFrom, SetSnapshot, RemoveUpTo, entry_at, has_id_in_log, held, prefix_of, first_place}
-use Rattle.raft_engine.specs.Message.{AppendFields, HeartBeat, Success, HigherVote, last_sent}
-use Rattle.raft_engine.specs.GroupState.{Role, Follower}
+use Rattle.raft_engine.specs.Values.{Membership, vote_lt}
+use Rattle.raft_engine.specs.StoredGroup.{StoredGroup, Snapshot, CutFrom, entry_at, has_id_in_log, held, first_place}
+use Rattle.raft_engine.specs.Message.{AppendFields, HeartBeat, Success, last_sent}
+use Rattle.raft_engine.specs.GroupState.{Follower}
 use Rattle.raft_engine.specs.StepResult.{StepResult, store, take_over, apply_up_to, is_within}
-use Rattle.raft_engine.specs.AppendRequest.{is_held, cut_from, above_committed, missing_entries, put_entries, lesser_place}
+use Rattle.raft_engine.specs.AppendRequest.{above_committed, missing_entries, put_entries, lesser_place}
 use Rattle.raft_engine.specs.SnapshotRequest.{place_above, cut_other, install, install_unless, reply_snapshot, offered, snapshot_request_step}
 use Rattle.raft_world.specs.BallotWorld.{BallotWorld, BallotEvent, taken, dropped}
 use Rattle.raft_world.specs.BallotRanks.{rank_of, ballot_log}
@@ -19,13 +18,13 @@ use Rattle.raft_world.proofs.BallotAgreement.{same_some, some_at, with_value_sam
 use Rattle.raft_world.proofs.BallotSafe.{Among}
 use Rattle.raft_world.proofs.BallotOthers.{Extends, extends_refl, extends_trans}
 use Rattle.raft_world.proofs.BallotAppends.{drop_past}
-use Rattle.raft_world.proofs.Shapes.{Joined, joined_held, joined_at}
+use Rattle.raft_world.proofs.Shapes.{joined_held, joined_at}
 use Rattle.raft_world.proofs.FreshEntries.{within_is, without_is, above_is}
 use Rattle.raft_world.proofs.Ids.{size_same}
-use Rattle.raft_world.proofs.Standing.{UpFits, RoleFits, AppendFits, InstallFits, append-of, reply-of}
+use Rattle.raft_world.proofs.Standing.{RoleFits, AppendFits, InstallFits, append-of, reply-of}
 use Rattle.raft_world.proofs.StepWords.{either_by}
 use Rattle.raft_world.proofs.Tracking.{Tracks, track_on, track_send}
-use Rattle.raft_world.proofs.TrackVotes.{TookOver, took_over}
+use Rattle.raft_world.proofs.TrackVotes.{took_over}
 use Rattle.raft_world.proofs.TrackElections.{Ends, ends_from}
 use Rattle.raft_world.proofs.TrackAppends.{take_tracks, take_extends, later_is, last_sent_next}
 use Rattle.raft_world.proofs.TrackAppendRequest.{follows_ends}

@@ -1,35 +1,30 @@
 -- Votes that a node takes over, grants and asks for, followed by the ballot machine.
-use Rattle.std.specs.Prelude.{◌≡◌, ◌⊎◌, ℕ, zero, suc, ◌+◌, ◌-◌, ◌<◌, ◌≤◌, ◌^◌, ◌==◌, ◌&&◌, ◌||◌, not, nat_lt, nat_le, Bool, true, false, List, [], ◌∷◌, ◌++◌, length, slice_get, Option, Some, None, refl}
-use Rattle.std.proofs.Common.{inl, inr, sym, ap, ap₂, ◌∙◌, subst, arith, ⊎_elim, eqb-true, eq-eqb, ne_eqb, lt-ltb, ltb-true, le-leb, leb-true}
-use Rattle.std.proofs.lemmas.Bool.{and_from, and_parts, or_left, or_right, not_from_false, cond-true, cond-false, cases_lt, cases_order, cases_eq}
-use Rattle.std.specs.declared.cmp.Ordering.{Ordering}
-use Rattle.std.specs.declared.cmp.Ordering.TheVariants.{Less, Equal, Greater}
+use Rattle.std.specs.Prelude.{◌≡◌, ◌⊎◌, ℕ, ◌+◌, ◌<◌, ◌≤◌, ◌^◌, ◌==◌, ◌&&◌, ◌||◌, not, nat_lt, nat_le, Bool, true, false, List, length, slice_get, Option, Some, None, refl}
+use Rattle.std.proofs.Common.{inl, inr, sym, ap, ◌∙◌, subst, arith, ⊎_elim, eq-eqb, ne_eqb, lt-ltb, le-leb}
+use Rattle.std.proofs.lemmas.Bool.{and_from, or_left, or_right, not_from_false, cond-true, cases_lt}
 use Rattle.std.specs.Ordering.{nat_cmp, ordering_then, is_lt}
 use Rattle.raft_state.specs.declared.log_id.LogId.{LogId}
 use Rattle.raft_state.specs.declared.vote.Vote.{Vote}
-use Rattle.raft_state.specs.Vote.{leader_cmp}
 use Rattle.raft_engine.specs.Values.{vote_lt}
-use Rattle.raft_state.specs.LogId.{log_id_cmp, next_place}
+use Rattle.raft_state.specs.LogId.{next_place}
 use Rattle.raft_engine.specs.Values.{last_id_lt}
 use Rattle.raft_engine.specs.Values.{Membership}
 use Rattle.raft_engine.specs.Values.{Entry}
 use Rattle.raft_engine.specs.StoredGroup.{StoredGroup, SetVote, after_storing, last_id, end_place}
 use Rattle.raft_engine.specs.GroupState.{GroupState, Role, Follower, Candidate, Leader}
-use Rattle.raft_engine.specs.StepResult.{StepResult, store, renew, store_vote, step_down, take_over, with_stored}
-use Rattle.raft_engine.specs.VoteReply.{take_over_greater}
-use Rattle.raft_world.specs.BallotLogs.{LogEnd, log_end, is_at_least}
-use Rattle.raft_world.specs.BallotWorld.{BallotNode, BallotRequest, BallotWorld, BallotEvent, RaiseVote, TakeRequest, can_raise, can_grant, raised, granted, request_comes, ballot_step}
+use Rattle.raft_engine.specs.StepResult.{StepResult, renew, store_vote, step_down, take_over, with_stored}
+use Rattle.raft_world.specs.BallotLogs.{is_at_least}
+use Rattle.raft_world.specs.BallotWorld.{BallotNode, BallotRequest, BallotWorld, BallotEvent, RaiseVote, TakeRequest, can_grant, raised, granted, request_comes, ballot_step}
 use Rattle.raft_world.specs.BallotRanks.{rank_of, owner_of, ballot_group}
-use Rattle.raft_world.proofs.BallotAgreement.{with_value_same, same_some}
+use Rattle.raft_world.proofs.BallotAgreement.{with_value_same}
 use Rattle.raft_world.proofs.BallotSafe.{Among}
 use Rattle.raft_world.proofs.BallotOthers.{Extends, extends_refl}
-use Rattle.raft_world.proofs.VoteOrders.{LeaderBelow, LeaderOrder, below, equal, above, leader_order, less_is, differ_flags}
+use Rattle.raft_world.proofs.VoteOrders.{LeaderOrder, below, equal, above, leader_order, less_is, differ_flags}
 use Rattle.raft_world.proofs.VoteRanks.{rank_below, rank_same, owner_other, rank_rises, rank_rises_strictly, same_vote}
-use Rattle.raft_world.proofs.Shapes.{Good, Joined}
 use Rattle.raft_world.proofs.Ids.{log_end_is, before, end_is}
-use Rattle.raft_world.proofs.Standing.{message_on, lead_other, HasId, StoredFits, UpFits, RoleFits, request-of, grant-of, id_rank}
+use Rattle.raft_world.proofs.Standing.{message_on, lead_other, UpFits, RoleFits, request-of, grant-of, id_rank}
 use Rattle.raft_world.proofs.StepWords.{either_by}
-use Rattle.raft_world.proofs.Tracking.{Tracks, Reached, track_event, track_on, track_same, reached_next, step_extends, index_of, up_same}
+use Rattle.raft_world.proofs.Tracking.{Tracks, track_event, track_on, track_same, reached_next, step_extends, index_of, up_same}
 
 -- the node with another vote
 pub voted : {m : Membership} {x : BallotNode} {s : GroupState} (v : Vote ℕ) → v.leader_id.node_id < 2 ^ 64 → UpFits m x s → UpFits m (record x { ballot = rank_of v.leader_id; committed = v.committed }) (with_stored s (after_storing (SetVote v) s.stored))

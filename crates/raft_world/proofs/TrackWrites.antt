@@ -1,16 +1,15 @@
 -- Entries that are put and cut, and a leader that writes.
-use Rattle.std.specs.Prelude.{◌≡◌, ◌⊎◌, ℕ, zero, suc, ◌+◌, ◌-◌, ◌<◌, ◌≤◌, ◌^◌, ◌==◌, ◌&&◌, nat_lt, Bool, true, false, List, [], ◌∷◌, ◌++◌, length, take, slice_get, Option, Some, None, refl}
-use Rattle.std.proofs.Common.{inl, inr, sym, ap, ap₂, ◌∙◌, subst, arith, ⊎_elim, eq-eqb, lt-ltb, take_all, length-take-le, append-nil}
+use Rattle.std.specs.Prelude.{◌≡◌, ℕ, zero, suc, ◌+◌, ◌<◌, ◌≤◌, ◌^◌, nat_lt, true, List, [], ◌∷◌, ◌++◌, length, take, slice_get, Option, Some, None, refl}
+use Rattle.std.proofs.Common.{sym, ap, ap₂, ◌∙◌, subst, arith, eq-eqb, lt-ltb, take_all, length-take-le}
 use Rattle.std.proofs.lemmas.Bool.{and_from, cond-true}
 use Rattle.std.proofs.lemmas.List.{map-append}
 use Rattle.std.proofs.lemmas.Option.{slice_get_within}
 use Rattle.raft_state.specs.declared.log_id.LogId.{LogId}
-use Rattle.raft_state.specs.declared.vote.Vote.{Vote}
-use Rattle.raft_state.specs.declared.entry.EntryPayload.TheVariants.{Blank, Normal, Membership as Members}
+use Rattle.raft_state.specs.declared.entry.EntryPayload.TheVariants.{Membership as Members}
 use Rattle.raft_state.specs.LogId.{next_place}
 use Rattle.raft_engine.specs.Values.{Membership, Entry, EntryPayload, entry_of}
-use Rattle.raft_engine.specs.StoredGroup.{StoredGroup, PutEntries, CutFrom, after_storing, first_place, end_place, prefix_of, held}
-use Rattle.raft_engine.specs.GroupState.{GroupState, Role}
+use Rattle.raft_engine.specs.StoredGroup.{StoredGroup, PutEntries, CutFrom, after_storing, end_place, prefix_of, held}
+use Rattle.raft_engine.specs.GroupState.{Role}
 use Rattle.raft_engine.specs.StepResult.{StepResult, append, with_stored}
 use Rattle.raft_world.specs.BallotLogs.{BallotEntry}
 use Rattle.raft_world.specs.BallotWorld.{BallotNode, BallotWorld, BallotEvent, WriteEntry, is_ballot_leader, written, ballot_step}
@@ -18,9 +17,9 @@ use Rattle.raft_world.specs.BallotRanks.{rank_of, owner_of, ballot_entry, ballot
 use Rattle.raft_world.proofs.BallotAgreement.{with_value_same, same_some}
 use Rattle.raft_world.proofs.BallotOthers.{Extends}
 use Rattle.raft_world.proofs.VoteRanks.{owner_is}
-use Rattle.raft_world.proofs.Shapes.{Good, Joined, good_none, good_take, good_append, joined_cut, joined_put, joined_end, joined_held, slice_take, slice_before}
+use Rattle.raft_world.proofs.Shapes.{Good, Joined, good_take, good_append, joined_put, joined_end, joined_held, slice_take, slice_before}
 use Rattle.raft_world.proofs.Memberships.{HasMembership, has_more}
-use Rattle.raft_world.proofs.Standing.{HasId, StoredFits, UpFits, LeadKept, RoleFits, OwnVote, has_id_on, role_on}
+use Rattle.raft_world.proofs.Standing.{StoredFits, UpFits, LeadKept, RoleFits, OwnVote, role_on}
 use Rattle.raft_world.proofs.Tracking.{Tracks, track_event, step_extends}
 
 -- what stands below a place stays there

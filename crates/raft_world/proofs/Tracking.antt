@@ -1,20 +1,19 @@
 -- A step as it goes on, and the events of the ballot machine that follow it: wherever it stops, what is stored stands
 -- for the machine's node after some of them.
-use Rattle.std.specs.Prelude.{◌≡◌, ◌⊎◌, ℕ, zero, suc, ◌<◌, ◌≤◌, ◌^◌, Bool, true, false, List, [], ◌∷◌, ◌++◌, length, take, slice_get, Option, Some, None, refl}
-use Rattle.std.proofs.Common.{inl, inr, sym, ap, ◌∙◌, subst, arith, ⊎_elim}
+use Rattle.std.specs.Prelude.{◌≡◌, ◌⊎◌, ℕ, zero, suc, ◌<◌, List, [], ◌∷◌, ◌++◌, length, take, slice_get, Some, refl}
+use Rattle.std.proofs.Common.{inl, inr, sym, ap, ◌∙◌, subst, ⊎_elim}
 use Rattle.raft_engine.specs.Values.{Membership}
-use Rattle.raft_engine.specs.Values.{Entry}
 use Rattle.raft_engine.specs.StoredGroup.{StoredGroup, StoringCommand, after_storing, after_storing_all}
 use Rattle.raft_engine.specs.Message.{Message, MessageBody}
 use Rattle.raft_engine.specs.GroupState.{GroupState}
 use Rattle.raft_engine.specs.StepResult.{StepResult, store, send, with_stored}
-use Rattle.raft_world.specs.BallotWorld.{BallotGroup, BallotNode, BallotWorld, BallotEvent, ballot_start, ballot_step, ballot_run}
+use Rattle.raft_world.specs.BallotWorld.{BallotNode, BallotWorld, BallotEvent, ballot_start, ballot_step, ballot_run}
 use Rattle.raft_world.specs.BallotOrigin.{actor}
 use Rattle.raft_world.specs.BallotRanks.{ballot_group}
 use Rattle.raft_world.proofs.BallotSafe.{Among, Safe}
 use Rattle.raft_world.proofs.BallotRuns.{run_next, start_safe}
 use Rattle.raft_world.proofs.BallotSettling.{run_append}
-use Rattle.raft_world.proofs.BallotOthers.{Extends, extends_refl, happens_extends, AllBy, run_extends}
+use Rattle.raft_world.proofs.BallotOthers.{Extends, happens_extends, AllBy}
 use Rattle.raft_world.proofs.Standing.{StoredFits, DownFits, UpFits, LeadKept, MessageFits, up_down, message_on}
 use Rattle.raft_world.proofs.StepWords.{all-append}
 use Rattle.raft_world.proofs.Shapes.{Joined}

@@ -1,14 +1,14 @@
 -- The order of votes, in the words of numbers.
-use Rattle.std.specs.Prelude.{◌≡◌, ◌⊎◌, ℕ, ◌+◌, ◌<◌, ◌==◌, nat_lt, Bool, true, false, refl}
-use Rattle.std.proofs.Common.{inl, inr, sym, ap, ap₂, ◌∙◌, ⊎_elim, arith, lt-ltb, le-ltb, eq-eqb, ne_eqb}
+use Rattle.std.specs.Prelude.{◌≡◌, ℕ, ◌<◌, ◌==◌, nat_lt, Bool, true, false, refl}
+use Rattle.std.proofs.Common.{sym, ap, ap₂, ◌∙◌, ⊎_elim, arith, lt-ltb, le-ltb, eq-eqb, ne_eqb}
 use Rattle.std.proofs.lemmas.Bool.{cases_order, cond-true, cond-false}
 use Rattle.std.specs.declared.cmp.Ordering.{Ordering}
 use Rattle.std.specs.declared.cmp.Ordering.TheVariants.{Less, Equal, Greater}
 use Rattle.std.specs.Ordering.{nat_cmp, bool_cmp, ordering_then, is_lt}
 use Rattle.raft_state.specs.declared.vote.LeaderId.{LeaderId}
 use Rattle.raft_state.specs.declared.vote.Vote.{Vote}
-use Rattle.raft_state.specs.Vote.{leader_cmp, vote_cmp}
-use Rattle.raft_engine.specs.Values.{leader_lt, vote_lt}
+use Rattle.raft_state.specs.Vote.{leader_cmp}
+use Rattle.raft_engine.specs.Values.{vote_lt}
 
 pub less_is : (x y : ℕ) → x < y → nat_cmp x y ≡ Less
 less_is x y l = cond-true (nat_lt x y) _ _ (lt-ltb x y l)

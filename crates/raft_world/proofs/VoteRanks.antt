@@ -1,7 +1,7 @@
 -- Leaders as numbers stand in the order of leaders.
-use Rattle.std.specs.Prelude.{◌≡◌, ◌⊎◌, ℕ, ◌+◌, ◌*◌, ◌%◌, ◌^◌, ◌<◌, ◌≤◌, ◌==◌, ◌&&◌, nat_lt, Bool, true, false, refl}
+use Rattle.std.specs.Prelude.{◌≡◌, ℕ, ◌+◌, ◌*◌, ◌%◌, ◌^◌, ◌<◌, ◌≤◌, ◌==◌, Bool, true, false, refl}
 use Rattle.std.specs.Bool.{beq}
-use Rattle.std.proofs.Common.{inl, inr, sym, ap, ap₂, ◌∙◌, ⊎_elim, arith, lt-ltb, le-ltb, ltb-true, eq-eqb, eqb-true, ne_eqb}
+use Rattle.std.proofs.Common.{sym, ap, ap₂, ◌∙◌, ⊎_elim, arith, lt-ltb, le-ltb, eq-eqb, eqb-true}
 use Rattle.std.proofs.lemmas.Bool.{and_parts, and_from, cond-true, cond-false, cases_lt}
 use Rattle.raft_state.specs.declared.vote.LeaderId.{LeaderId}
 use Rattle.raft_state.specs.declared.vote.Vote.{Vote}

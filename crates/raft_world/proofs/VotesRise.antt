@@ -7,7 +7,6 @@ use Rattle.raft_engine.specs.Values.{vote_lt}
 use Rattle.raft_engine.specs.StoredGroup.{StoredGroup, StoringCommand, MakeGroup, SetVote, PutEntries, CutFrom, RemoveUpTo, SetSnapshot, StartAfter, after_storing, after_storing_all}
 use Rattle.raft_engine.specs.GroupState.{GroupState, state_of}
 use Rattle.raft_engine.specs.GroupEvent.{GroupEvent, Open}
-use Rattle.raft_engine.specs.StepResult.{StepResult}
 use Rattle.raft_engine.specs.GroupStep.{group_step}
 use Rattle.raft_world.specs.GroupWorld.{GroupWorld, NodeState, Absent, Up, Down, Recorded, Outcome, is_stop, state_or}
 use Rattle.raft_world.specs.declared.world_event.WorldEvent.{WorldEvent}

@@ -1,46 +1,41 @@
 -- What is committed anywhere in a group's world stands on the group's list, over every history.
-use Rattle.std.specs.Prelude.{◌≡◌, ◌⊎◌, ℕ, zero, suc, ◌+◌, ◌<◌, ◌≤◌, ◌^◌, ◌==◌, ◌&&◌, ◌||◌, max, nat_le, Bool, true, false, List, [], ◌∷◌, ◌++◌, length, take, slice_get, Option, Some, None, refl}
-use Rattle.std.specs.Bool.{beq}
+use Rattle.std.specs.Prelude.{◌≡◌, ◌⊎◌, ℕ, zero, suc, ◌+◌, ◌<◌, ◌≤◌, ◌==◌, ◌&&◌, max, nat_le, Bool, true, false, List, [], ◌∷◌, ◌++◌, length, take, slice_get, Option, Some, None, refl}
 use Rattle.std.specs.List.{list_any}
-use Rattle.std.proofs.Common.{inl, inr, sym, ap, ap₂, ◌∙◌, subst, arith, ⊎_elim, eqb-true, eq-eqb, le-leb, length-take-le}
-use Rattle.std.proofs.lemmas.Bool.{and_from, and_parts, cases_lt, eqb-false, or_left, or_right}
-use Rattle.std.proofs.lemmas.Option.{slice_get_within}
-use Rattle.raft_state.specs.declared.vote.LeaderId.{LeaderId}
+use Rattle.std.proofs.Common.{inl, inr, sym, ap, ◌∙◌, subst, arith, ⊎_elim, eq-eqb, le-leb, length-take-le}
+use Rattle.std.proofs.lemmas.Bool.{and_from, cases_lt, or_left, or_right}
 use Rattle.raft_state.specs.declared.vote.Vote.{Vote}
 use Rattle.raft_state.specs.declared.log_id.LogId.{LogId}
 use Rattle.raft_state.specs.Quorum.{is_quorum as is_quorum_of}
 use Rattle.raft_engine.specs.Values.{Membership, Entry, has_id, is_written_by, leader_eq, log_id_eq, vote_eq}
 use Rattle.raft_engine.specs.StoredGroup.{StoredGroup, StoringCommand, MakeGroup, SetVote, PutEntries, CutFrom, RemoveUpTo, SetSnapshot, StartAfter, after_storing, after_storing_all, held, prefix_of}
-use Rattle.raft_engine.specs.Message.{Message, MessageBody, VoteRequest, VoteReply, AppendRequest, AppendReply, SnapshotRequest, SnapshotReply, ReplyFields, ReplyResult, Success}
+use Rattle.raft_engine.specs.Message.{Message}
 use Rattle.raft_engine.specs.GroupState.{GroupState, Role, Follower, Candidate, Leader, is_leader, no_group, state_of}
-use Rattle.raft_engine.specs.GroupEvent.{GroupCall, GroupEvent, AddGroup, Call, Receive, Open}
+use Rattle.raft_engine.specs.GroupEvent.{GroupEvent, Open}
 use Rattle.raft_engine.specs.StepResult.{RefusalReason, StepResult}
 use Rattle.raft_engine.specs.SnapshotRequest.{place_above}
 use Rattle.raft_engine.specs.GroupStep.{group_step}
 use Rattle.raft_world.specs.BallotWorld.{BallotEvent}
 use Rattle.raft_world.specs.declared.world_event.WorldEvent.{WorldEvent}
-use Rattle.raft_world.specs.declared.world_event.WorldEvent.TheVariants.{Add, Ask, Deliver, Crash, Restart}
-use Rattle.raft_world.specs.GroupWorld.{GroupWorld, NodeState, Absent, Up, Down, Led, Outcome, Recorded, is_stop, new_world, state_or, with_node_state}
+use Rattle.raft_world.specs.GroupWorld.{GroupWorld, NodeState, Absent, Up, Down, Led, Outcome, Recorded, is_stop, new_world, state_or}
 use Rattle.raft_world.specs.NodeEvent.{NodeEvent, Comes, Crashes, Restarts, after_step, outcome_at, outcome_of_end, outcome_of_step, state_after}
-use Rattle.raft_world.specs.GroupRun.{Scene, Nowhere, At, Replays, after_scene, ended, happens, is_same_setup, led_after, led_as, led_by, outcome_in, outcome_of, scene_of, scene_of_call, scene_of_delivery, sent_in, setup_in_call, stop_at}
-use Rattle.raft_world.specs.Settled.{accepts, body_accepts, group_list, has_accepted_some, has_led_with, has_replied, is_accepted_by_quorum, is_at_or_after, is_last, is_success, setup_configs, settled_part, count_to_last}
+use Rattle.raft_world.specs.GroupRun.{Scene, Nowhere, At, Replays, after_scene, ended, happens, led_after, led_as, led_by, outcome_in, outcome_of, scene_of, sent_in, stop_at}
+use Rattle.raft_world.specs.Settled.{group_list, has_accepted_some, has_led_with, has_replied, is_accepted_by_quorum, is_at_or_after, setup_configs, settled_part, count_to_last}
 use Rattle.raft_world.specs.OneList.{AreNodeIds}
 use Rattle.raft_world.proofs.BallotSafe.{Among, among_at}
-use Rattle.raft_world.proofs.VoteRanks.{leader_eq_from, leader_eq_same}
+use Rattle.raft_world.proofs.VoteRanks.{leader_eq_from}
 use Rattle.raft_world.proofs.Histories.{histories-join}
 use Rattle.raft_world.proofs.StepFits.{world_after}
-use Rattle.raft_world.proofs.StepClaims.{ClaimWithin, CommandWithin, Known, claim_more}
-use Rattle.raft_world.proofs.StepCommits.{AcceptedBy, Commits}
-use Rattle.raft_world.proofs.StepLimits.{BodyKnown, EventClaims, StateClaims, StepClaims, opening_limits, step_limits}
+use Rattle.raft_world.proofs.StepClaims.{ClaimWithin, CommandWithin, claim_more}
+use Rattle.raft_world.proofs.StepCommits.{AcceptedBy}
+use Rattle.raft_world.proofs.StepLimits.{StateClaims, StepClaims, opening_limits, step_limits}
 use Rattle.raft_world.proofs.WorldFits.{NodeStateFits, WorldFits}
 use Rattle.raft_world.proofs.WorldSteps.{MayHappen}
 use Rattle.raft_world.proofs.WorldRuns.{Matches, MayTakePlace, SetUpWith, among_either, may_take_place, setup_stays}
 use Rattle.raft_world.proofs.WorldStart.{Founded, founded, history_matches}
-use Rattle.raft_world.proofs.Counts.{among_any, any_among, count_from}
+use Rattle.raft_world.proofs.Counts.{among_any, count_from}
 use Rattle.raft_world.proofs.GroupList.{Goes, goes_on, list_grows, part_short, quorum_back}
 use Rattle.raft_world.proofs.BallotQuorums.{quorum_more}
 use Rattle.raft_world.proofs.TrackElections.{quorum_link}
-use Rattle.raft_world.proofs.Tracking.{index_of}
 use Rattle.raft_world.proofs.WorldLimits.{ComesKnown, NodeLimits, SceneKnown, WorldLimits, known_still, replied, replied_still, replied_wider, same_log_id, scene_known, vote_itself}
 
 -- an entry that a leader committed in an event, with the note that the event leaves

@@ -1,18 +1,16 @@
 -- A group's world that fits the ballot machine: its nodes, its messages and its notes of leaders.
-use Rattle.std.specs.Prelude.{◌≡◌, ◌⊎◌, ℕ, ◌+◌, ◌*◌, ◌<◌, ◌≤◌, ◌^◌, ◌==◌, Bool, true, false, List, [], ◌∷◌, ◌++◌, length, slice_get, Option, Some, None, refl}
-use Rattle.std.proofs.Common.{inl, inr, sym, ap, ◌∙◌, subst, arith, ⊎_elim}
-use Rattle.raft_state.specs.declared.vote.LeaderId.{LeaderId}
+use Rattle.std.specs.Prelude.{◌≡◌, ℕ, ◌<◌, ◌^◌, true, List, length, slice_get, Some}
+use Rattle.std.proofs.Common.{sym, ap, ◌∙◌, subst, arith, ⊎_elim}
 use Rattle.raft_engine.specs.Values.{Membership, Entry}
-use Rattle.raft_engine.specs.StoredGroup.{StoredGroup, held}
+use Rattle.raft_engine.specs.StoredGroup.{held}
 use Rattle.raft_engine.specs.Message.{Message}
 use Rattle.raft_engine.specs.GroupState.{GroupState, Role, Follower, Candidate, Leader}
 use Rattle.raft_world.specs.BallotLists.{AgreeBelow}
-use Rattle.raft_world.specs.BallotLogs.{BallotEntry}
-use Rattle.raft_world.specs.BallotWorld.{BallotGroup, BallotWorld, BallotEvent, ballot_start, ballot_run, ballot_accepted}
+use Rattle.raft_world.specs.BallotWorld.{BallotWorld, BallotEvent, ballot_start, ballot_accepted}
 use Rattle.raft_world.specs.BallotRanks.{rank_of, owner_of, ballot_entry, ballot_log, ballot_group}
 use Rattle.raft_world.specs.GroupWorld.{GroupWorld, NodeState, Absent, Up, Down, Led}
 use Rattle.raft_world.specs.GroupRun.{led_as}
-use Rattle.raft_world.proofs.BallotAgreement.{agree_refl, agree_trans, agree_more}
+use Rattle.raft_world.proofs.BallotAgreement.{agree_refl, agree_more}
 use Rattle.raft_world.proofs.BallotSafe.{Among, Safe}
 use Rattle.raft_world.proofs.BallotStep.{Later}
 use Rattle.raft_world.proofs.BallotRuns.{run_next, start_safe}
@@ -21,7 +19,7 @@ use Rattle.raft_world.proofs.BallotOthers.{Extends}
 use Rattle.raft_world.proofs.VoteRanks.{owner_is}
 use Rattle.raft_world.proofs.Shapes.{Good, joined_held}
 use Rattle.raft_world.proofs.Memberships.{HasMembership}
-use Rattle.raft_world.proofs.Standing.{UpFits, DownFits, RoleFits, MessageFits, OwnVote, role_on, message_on}
+use Rattle.raft_world.proofs.Standing.{UpFits, DownFits, RoleFits, MessageFits, OwnVote, role_on}
 use Rattle.raft_world.proofs.Ids.{size_same, ballot_at}
 use Rattle.raft_world.proofs.StepFits.{NodeFits, StopFits, world_after}
 

@@ -1,12 +1,12 @@
 -- Every history that replays keeps a world that fits the ballot machine.
-use Rattle.std.specs.Prelude.{◌≡◌, ◌⊎◌, ℕ, zero, suc, ◌<◌, ◌^◌, ◌==◌, ◌&&◌, not, Bool, true, false, List, [], ◌∷◌, ◌++◌, length, slice_get, Option, Some, None, refl}
+use Rattle.std.specs.Prelude.{◌≡◌, ◌⊎◌, ℕ, ◌<◌, ◌==◌, ◌&&◌, not, Bool, true, false, List, [], ◌∷◌, ◌++◌, length, slice_get, Option, Some, None, refl}
 use Rattle.std.proofs.Common.{inl, inr, sym, ap, ◌∙◌, subst, ⊎_elim, eqb-true}
 use Rattle.std.proofs.lemmas.Bool.{eqb-false}
 use Rattle.raft_engine.specs.Values.{Membership, is_valid, is_within_limits}
 use Rattle.raft_engine.specs.Message.{Message}
 use Rattle.raft_engine.specs.GroupState.{GroupState}
 use Rattle.raft_engine.specs.declared.group_call.GroupCall.TheVariants.{Initialize, Elect, Propose, ChangeMembership, Heartbeat, Lost, TriggerSnapshot, TriggerPurge}
-use Rattle.raft_engine.specs.GroupEvent.{GroupCall, GroupEvent, AddGroup, Call, Receive, Open}
+use Rattle.raft_engine.specs.GroupEvent.{GroupCall, AddGroup, Call, Receive}
 use Rattle.raft_engine.specs.StepResult.{StepResult, RefusalReason, MembershipRefused, UnknownGroup}
 use Rattle.raft_engine.specs.Refusal.{first_of_reasons, is_first_membership, refusal_of, unless}
 use Rattle.raft_engine.specs.Initialize.{initialize_step}
@@ -14,11 +14,11 @@ use Rattle.raft_engine.specs.GroupStep.{begun, finished, group_step, step_unless
 use Rattle.raft_world.specs.BallotWorld.{BallotWorld, BallotEvent}
 use Rattle.raft_world.specs.declared.world_event.WorldEvent.{WorldEvent}
 use Rattle.raft_world.specs.declared.world_event.WorldEvent.TheVariants.{Add, Ask, Deliver, Crash, Restart}
-use Rattle.raft_world.specs.GroupWorld.{GroupWorld, NodeState, Absent, Up, Down, Led, Outcome, Done, Refused, Stopped, Skipped, Recorded, is_stop, state_or, with_node_state}
-use Rattle.raft_world.specs.NodeEvent.{NodeEvent, Comes, Crashes, Restarts, outcome_at, outcome_of_end, outcome_of_step, state_after}
-use Rattle.raft_world.specs.GroupRun.{Scene, Nowhere, At, Replays, after_scene, ended, happens, is_same_setup, led_after, outcome_in, outcome_of, scene_of, scene_of_call, scene_of_delivery, sent_in, setup_after, setup_in, setup_in_call, stop_at}
+use Rattle.raft_world.specs.GroupWorld.{GroupWorld, NodeState, Absent, Up, Down, Outcome, Done, Recorded, is_stop, state_or, with_node_state}
+use Rattle.raft_world.specs.NodeEvent.{NodeEvent, Comes, outcome_at, outcome_of_end, outcome_of_step, state_after}
+use Rattle.raft_world.specs.GroupRun.{Scene, Nowhere, At, Replays, after_scene, ended, happens, is_same_setup, led_after, outcome_in, outcome_of, scene_of, scene_of_call, scene_of_delivery, sent_in, setup_after, setup_in_call, stop_at}
 use Rattle.raft_world.proofs.BallotSafe.{Among, among_at}
-use Rattle.raft_world.proofs.StepFits.{EventFits, CallFits, world_after}
+use Rattle.raft_world.proofs.StepFits.{world_after}
 use Rattle.raft_world.proofs.Standing.{MessageFits, message_on}
 use Rattle.raft_world.proofs.WorldFits.{NodeStateFits, WorldFits, led_on, node_on}
 use Rattle.raft_world.proofs.WorldSteps.{NodeEnd, MayCome, MayHappen, node_event}

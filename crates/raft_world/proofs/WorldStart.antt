@@ -1,21 +1,20 @@
 -- A new world fits the ballot machine at its start, and so does each that a history leads to.
-use Rattle.std.specs.Prelude.{◌≡◌, ◌⊎◌, ℕ, zero, suc, ◌+◌, ◌<◌, ◌≤◌, ◌^◌, Bool, true, false, List, [], ◌∷◌, length, Option, Some, None, refl}
-use Rattle.std.proofs.Common.{inl, inr, sym, ap, ◌∙◌, subst, arith, ⊎_elim}
-use Rattle.raft_engine.specs.Values.{Membership, Entry, LoggedMembership, has_id, last_membership}
-use Rattle.raft_engine.specs.StoredGroup.{StoredGroup}
-use Rattle.raft_engine.specs.GroupState.{GroupState, no_group, state_of}
+use Rattle.std.specs.Prelude.{◌≡◌, ◌⊎◌, ℕ, ◌<◌, ◌^◌, Bool, true, false, List, [], ◌∷◌, length, Option, Some, None, refl}
+use Rattle.std.proofs.Common.{inl, inr, sym, ap, ◌∙◌, arith}
+use Rattle.raft_engine.specs.Values.{Membership, LoggedMembership, has_id}
+use Rattle.raft_engine.specs.GroupState.{no_group, state_of}
 use Rattle.raft_world.specs.BallotWorld.{BallotWorld}
-use Rattle.raft_world.specs.GroupWorld.{GroupWorld, NodeState, Absent, Up, Down, Led, Recorded, new_world, state_or}
+use Rattle.raft_world.specs.GroupWorld.{GroupWorld, Absent, Up, Led, Recorded, new_world, state_or}
 use Rattle.raft_world.specs.GroupRun.{Replays}
 use Rattle.raft_world.specs.OneList.{AreNodeIds}
 use Rattle.raft_world.proofs.BallotAgreement.{same_some}
 use Rattle.raft_world.proofs.BallotSafe.{Among}
 use Rattle.raft_world.proofs.Shapes.{good_none}
-use Rattle.raft_world.proofs.Memberships.{HasMembership, last_voters}
+use Rattle.raft_world.proofs.Memberships.{last_voters}
 use Rattle.raft_world.proofs.Standing.{lead_young}
 use Rattle.raft_world.proofs.StepFits.{NodeFits, world_after}
 use Rattle.raft_world.proofs.WorldFits.{LedFits, NodeStateFits, WorldFits}
-use Rattle.raft_world.proofs.WorldRuns.{IsSetUp, SetUpWith, Matches, run_matches}
+use Rattle.raft_world.proofs.WorldRuns.{SetUpWith, Matches, run_matches}
 
 none_some : {A : Type 0} {P : Type 0} (x : A) → None ≡ Some x → P
 none_some x e = absurd (let f : None ≡ Some x = e in cc)

@@ -1,6 +1,6 @@
 -- What an event does at its node, followed by the ballot machine.
-use Rattle.std.specs.Prelude.{◌≡◌, ◌⊎◌, ℕ, zero, suc, ◌<◌, ◌^◌, Bool, true, false, List, [], ◌∷◌, ◌++◌, length, take, Option, Some, None, refl}
-use Rattle.std.proofs.Common.{inl, inr, sym, ap, ◌∙◌, subst, ⊎_elim}
+use Rattle.std.specs.Prelude.{◌≡◌, ◌⊎◌, ℕ, zero, suc, ◌<◌, ◌^◌, Bool, true, false, List, [], ◌++◌, length, take, Option, Some, None, refl}
+use Rattle.std.proofs.Common.{sym, subst, ⊎_elim}
 use Rattle.raft_engine.specs.Values.{Membership}
 use Rattle.raft_engine.specs.StoredGroup.{StoredGroup, StoringCommand, after_storing_all}
 use Rattle.raft_engine.specs.Message.{Message}
@@ -9,9 +9,9 @@ use Rattle.raft_engine.specs.GroupEvent.{GroupEvent, Open}
 use Rattle.raft_engine.specs.StepResult.{StepResult, RefusalReason, refused_step}
 use Rattle.raft_engine.specs.Refusal.{refusal_of}
 use Rattle.raft_engine.specs.GroupStep.{group_step, step_unless}
-use Rattle.raft_world.specs.BallotWorld.{BallotWorld, BallotEvent, ballot_start, ballot_run}
+use Rattle.raft_world.specs.BallotWorld.{BallotWorld, BallotEvent, ballot_start}
 use Rattle.raft_world.specs.BallotRanks.{ballot_group}
-use Rattle.raft_world.specs.GroupWorld.{NodeState, Absent, Up, Down, Led, Outcome, Done, Refused, Stopped, Skipped}
+use Rattle.raft_world.specs.GroupWorld.{NodeState, Absent, Up, Down, Led, Outcome}
 use Rattle.raft_world.specs.NodeEvent.{NodeEvent, Comes, Crashes, Restarts, after_step, outcome_at, outcome_of_end, outcome_of_step, state_after}
 use Rattle.raft_world.specs.GroupRun.{led_after, led_by, sent_in, stop_at}
 use Rattle.raft_world.proofs.BallotSafe.{Among}

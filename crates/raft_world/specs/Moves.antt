@@ -1,7 +1,7 @@
 -- What an event of the world can change.
 use Rattle.std.specs.Prelude.{◌≡◌, ℕ}
 use Rattle.raft_world.specs.declared.world_event.WorldEvent.{WorldEvent}
-use Rattle.raft_world.specs.GroupWorld.{GroupWorld, NodeState, Outcome, Skipped}
+use Rattle.raft_world.specs.GroupWorld.{GroupWorld, Outcome}
 use Rattle.raft_world.specs.GroupRun.{happens}
 
 -- the worlds are the same but for the state of one node

@@ -1,5 +1,5 @@
 -- What an event does at its node: what becomes of it, and the state that it leaves.
-use Rattle.std.specs.Prelude.{ℕ, Bool, true, false, List, [], Option, Some, None}
+use Rattle.std.specs.Prelude.{ℕ, Bool, true, false, [], Option, Some, None}
 use Rattle.raft_engine.specs.GroupState.{GroupState, state_of}
 use Rattle.raft_engine.specs.GroupEvent.{GroupEvent, Open}
 use Rattle.raft_engine.specs.StepResult.{StepResult, RefusalReason}

@@ -1,5 +1,5 @@
 -- The run of one voter whose proposal stops: where the entries of its list come from.
-use Rattle.std.specs.Prelude.{◌≡◌, ℕ, List, slice_get, Option, Some}
+use Rattle.std.specs.Prelude.{ℕ, List, slice_get, Option}
 use Rattle.raft_state.specs.LogId.{log_id_of}
 use Rattle.raft_state.specs.declared.entry.EntryPayload.TheVariants.{Normal}
 use Rattle.raft_engine.specs.Values.{Entry, entry_of}
@@ -8,7 +8,6 @@ use Rattle.raft_world.specs.GroupWorld.{new_world}
 use Rattle.raft_world.specs.GroupRun.{group_run}
 use Rattle.raft_world.specs.Settled.{group_list}
 use Rattle.raft_world.specs.Origins.{IsAskedAt}
-use Rattle.raft_world.specs.Example.{add}
 use Rattle.raft_world.specs.OneVoter.{one, stopped_proposal}
 
 -- a command of the first leader, at a place

@@ -1,5 +1,5 @@
 -- What a step's storing commands keep, each at the moment when it is stored.
-use Rattle.std.specs.Prelude.{◌≡◌, ℕ, Bool, true, false, List, [], ◌∷◌, Option}
+use Rattle.std.specs.Prelude.{◌≡◌, ℕ, false, List, [], ◌∷◌, Option}
 use Rattle.raft_engine.specs.Values.{vote_lt}
 use Rattle.raft_engine.specs.StoredGroup.{StoredGroup, StoringCommand, MakeGroup, SetVote, PutEntries, CutFrom, RemoveUpTo, SetSnapshot, StartAfter, after_storing, after_storing_all}
 use Rattle.raft_engine.specs.StepResult.{StepResult, is_within}

@@ -1,4 +1,4 @@
-use Rattle.std.proofs.Common.{⊎_elim, subst, sym, ap, ◌∙◌}
+use Rattle.std.proofs.Common.{⊎_elim, ap, ◌∙◌}
 use Rattle.raft_engine.specs.Values.{vote_lt}
 use Rattle.raft_world.proofs.WorldStart.{founded}
 use Rattle.raft_world.proofs.BallotSafe.{among_at}
