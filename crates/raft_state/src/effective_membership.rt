@@ -5,6 +5,7 @@ ghost use Rattle.raft_state.specs.Membership.{is_voter, voter_ids};
 ghost use Rattle.raft_state.specs.Nodes.{node_at};
 ghost use Rattle.raft_state.specs.Quorum.{is_quorum};
 ghost use Rattle.raft_state.specs.QuorumLaws.{wider_quorum};
+ghost use Rattle.raft_state.specs.RisingLaws.{joint_ids_rise};
 
 use crate::has_id::HasId;
 use crate::id_set::IdSet;
@@ -119,4 +120,6 @@ impl<NID: NodeId, N: Node> QuorumSet<NID> for EffectiveMembership<NID, N> {
     }
 
     ghost superset = { λ m p r wider h. wider_quorum p r wider m.membership.configs h };
+
+    ghost members_rise = { λ m. joint_ids_rise NID.total (λ group. group) m.membership.configs };
 }
