@@ -1,5 +1,5 @@
 //! The membership in force.
-ghost use Rattle.std.specs.Prelude.{◌≡◌, IfOk};
+ghost use Rattle.std.specs.Prelude.{◌≡◌, None, [], IfOk};
 ghost use Rattle.std.specs.Option.{option_copied};
 ghost use Rattle.raft_state.specs.Membership.{is_voter, voter_ids};
 ghost use Rattle.raft_state.specs.Nodes.{node_at};
@@ -33,6 +33,16 @@ impl<NID: NodeId, N: Node> EffectiveMembership<NID, N> {
         ensures { result ≡ record { log_id = log_id; membership = membership } }
     {
         EffectiveMembership { log_id, membership }
+    }
+
+    /// No voter groups and no nodes, which no entry has. Takes no memory.
+    pub fn default(alloc: Global) -> EffectiveMembership<NID, N>
+        ensures { result ≡ record { log_id = None; membership = record { configs = []; nodes = [] } } }
+    {
+        EffectiveMembership {
+            log_id: None,
+            membership: Membership::default(alloc),
+        }
     }
 
     /// The log id of the entry that has the membership.

@@ -2,7 +2,7 @@
 ghost use Rattle.std.specs.Option.{option_copied};
 ghost use Rattle.raft_state.specs.Nodes.{node_at};
 ghost use Rattle.raft_state.specs.Membership.{is_voter, voter_ids, learner_ids, filled_nodes};
-ghost use Rattle.std.specs.Prelude.{◌≡◌, ◌↔◌, ◌<◌, IsTrue, IfOk, length, not, OnOk, IfErr};
+ghost use Rattle.std.specs.Prelude.{◌≡◌, ◌↔◌, ◌<◌, IsTrue, IfOk, length, not, OnOk, IfErr, []};
 ghost use Rattle.raft_state.specs.Membership.{first_missing, missing_voter, has_empty_group, lesser};
 ghost use Rattle.raft_state.specs.Quorum.{is_quorum};
 ghost use Rattle.raft_state.specs.QuorumLaws.{wider_quorum};
@@ -111,6 +111,16 @@ impl<NID: NodeId, N: Node> Membership<NID, N> {
         ensures { result ≡ record { configs = configs; nodes = nodes } }
     {
         Membership { configs, nodes }
+    }
+
+    /// No voter groups and no nodes. Takes no memory.
+    pub fn default(alloc: Global) -> Membership<NID, N>
+        ensures { result ≡ record { configs = []; nodes = [] } }
+    {
+        Membership {
+            configs: VoterGroups::new(alloc),
+            nodes: NodeMap::new(alloc),
+        }
     }
 
     /// The voter groups.
