@@ -21,10 +21,11 @@ module _ {K : Type 0} where
       (omega (arith, length-set ids (length ids - 1) id), take-set-le (length ids - 1) ids (length ids - 1) id (omega arith))
 
   pub front-trans : (a b c : List (LogId K)) → KeepsFront a b → KeepsFront b c → KeepsFront a c
-  front-trans a b c h k =
-      (omega arith,
-      sym (take-take (length a - 1) (length b - 1) c (omega arith))
-      ∙ ap (take (length a - 1)) k.1 ∙ take-take (length a - 1) (length b - 1) b (omega arith) ∙ h.1)
+  front-trans a b c h k = (
+    omega arith,
+    sym (take-take (length a - 1) (length b - 1) c (omega arith))
+        ∙ ap (take (length a - 1)) k.1 ∙ take-take (length a - 1) (length b - 1) b (omega arith) ∙ h.1,
+  )
 
   heads : (x y : LogId K) (xs ys : List (LogId K)) → x ∷ xs ≡ y ∷ ys → x ≡ y
   heads x y xs ys e = cc

@@ -58,7 +58,7 @@ pub use instant::Instant;
 pub use into_nodes::IntoNodes;
 pub use io_state::{IOState, LogIOId};
 pub use joint::{AsJoint, Joint};
-pub use log_id::LogId;
+pub use log_id::{LogId, log_ids_by_leader_and_index};
 pub use log_id_list::{LogIdList, are_keys};
 pub use log_id_option_ext::LogIdOptionExt;
 pub use log_id_range::LogIdRange;
@@ -78,11 +78,8 @@ pub use stored_membership::StoredMembership;
 pub use try_as_ref::TryAsRef;
 pub use utime::UTime;
 pub use validate::{Invalid, Validate};
-pub use vote::{CommittedLeaderId, LeaderId, Vote};
+pub use vote::{
+    CommittedLeaderId, LeaderId, Vote, leader_ids_by_term_and_node, votes_by_term_node_committed,
+};
 pub use vote_state_reader::VoteStateReader;
 pub use voter_groups::VoterGroups;
-
-#[cfg(test)]
-mod log_id_list_tests;
-#[cfg(test)]
-mod tests;

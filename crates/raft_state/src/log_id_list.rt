@@ -394,7 +394,7 @@ impl<NID: NodeId> LogIdList<NID> {
         ensures ids { ids_of result.now ≡ self.now }
         ensures order { AreKeys NID.cmp result.now }
     {
-        self.key_log_ids.as_slice()
+        &self.key_log_ids
     }
 
     /// The first log id.

@@ -46,14 +46,14 @@ impl<NID: NodeId> LogIdOptionExt for Option<&LogId<NID>> {
     fn index(&self) -> Option<u64> {
         match self {
             None => None,
-            Some(log_id) => Some(log_id.index),
+            Some(id) => Some(id.index),
         }
     }
 
     fn next_index(&self) -> u64 {
         match self {
             None => 0,
-            Some(log_id) => log_id.index + 1,
+            Some(id) => id.index + 1,
         }
     }
 }
@@ -83,10 +83,7 @@ pub(crate) fn stands_before<NID: NodeId>(
 }
 
 // Whether the first comes after the second; none comes before all.
-pub(crate) fn is_past<NID: NodeId>(
-    first: &Option<LogId<NID>>,
-    second: &Option<LogId<NID>>,
-) -> bool
+pub(crate) fn is_past<NID: NodeId>(first: &Option<LogId<NID>>, second: &Option<LogId<NID>>) -> bool
     ensures { result ≡ is_past NID.cmp first.now second.now }
 {
     match (first, second) {
