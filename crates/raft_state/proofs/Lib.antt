@@ -13,4 +13,6 @@ pub mod ReplaceLemmas
 pub mod KeysOfLemmas
 pub mod KeyLeaderLemmas
 pub mod ExtendLemmas
+pub mod FrontLemmas
 pub mod KeyTestLemmas
+pub mod FaultLemmas

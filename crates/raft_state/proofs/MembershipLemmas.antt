@@ -3,13 +3,13 @@ use Rattle.std.proofs.Common.{◌≡◌, ℕ, ◌+◌, ◌<◌, Bool, List, [], 
 use Rattle.raft_state.specs.Rising.{IsRising, IsRisingByFirst}
 use Rattle.std.specs.declared.cmp.Ordering.{Ordering}
 use Rattle.std.proofs.lemmas.List.Sums.{fold_more}
-use Rattle.raft_state.specs.Membership.{missing_voter, lesser, first_missing, default_nodes}
+use Rattle.raft_state.specs.Membership.{least_outside, lesser, first_outside, default_nodes}
 
-pub one_group_more : {K N : Type 0} (eq : K → K → Bool) (cmp : K → K → Ordering) (configs : List (List K)) (nodes : List (K × N)) (i : ℕ) (d : List K) → i < length configs
-    → missing_voter eq cmp (take (i + 1) configs) nodes
-    ≡ lesser cmp (missing_voter eq cmp (take i configs) nodes) (first_missing eq nodes (get_or configs i d))
-one_group_more {K} {N} eq cmp configs nodes i d h =
-    fold_more (λ (least : Option K) group. lesser cmp least (first_missing eq nodes group)) None configs i d h
+pub one_group_more : {K : Type 0} (cmp : K → K → Ordering) (known : K → Bool) (configs : List (List K)) (i : ℕ) (d : List K) → i < length configs
+    → least_outside cmp known (take (i + 1) configs)
+    ≡ lesser cmp (least_outside cmp known (take i configs)) (first_outside known (get_or configs i d))
+one_group_more {K} cmp known configs i d h =
+    fold_more (λ (least : Option K) group. lesser cmp least (first_outside known group)) None configs i d h
 
 -- ids with nodes keep their ids
 pub ids_of_default_nodes : {K N : Type 0} (unknown : N) (ids : List K) → map (λ (x : K × N). x.0) (default_nodes unknown ids) ≡ ids

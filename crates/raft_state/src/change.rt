@@ -1,18 +1,18 @@
 //! Changes of a membership.
-ghost use Rattle.std.specs.Prelude.{◌≡◌, ◌<◌, not, ◌||◌, length, None, Some, IfOk, OnOk, OnErr, IfErr};
+ghost use Rattle.std.specs.Prelude.{◌≡◌, ◌<◌, not, ◌&&◌, ◌||◌, true, false, Bool, length, None, Some, IfOk, OnOk, OnErr, IfErr};
 ghost use Rattle.std.specs.Cmp.Lexicographic.{pointwise};
-ghost use Rattle.raft_state.specs.Nodes.{has_id};
+ghost use Rattle.raft_state.specs.Nodes.{has_id, has_node};
 ghost use Rattle.raft_state.specs.Membership.{is_voter};
-ghost use Rattle.raft_state.specs.MembershipChange.{changed, last_config, next_coherent, retained_nodes};
+ghost use Rattle.raft_state.specs.MembershipChange.{changed, is_told_first, last_config, next_coherent, retained_nodes};
 ghost use Rattle.raft_state.specs.Quorum.{next_configs};
 ghost use Rattle.raft_state.specs.declared.change_members.ChangeMembers.TheVariants.{AddVoters};
-ghost use Rattle.raft_state.specs.Validity.{validity_fault, IsChangeFault};
+ghost use Rattle.raft_state.specs.Validity.{groups_fault, validity_fault, IsChangeFault};
 
 use crate::change_members::ChangeMembers;
 use crate::error::ChangeMembershipError;
 use crate::has_id::HasId;
 use crate::id_set::IdSet;
-use crate::membership::{Membership, is_voter};
+use crate::membership::{Membership, fault_of, first_missing, is_voter, lesser};
 use crate::node::{Node, NodeId};
 use crate::node_map::NodeMap;
 use crate::voter_groups::VoterGroups;
@@ -29,6 +29,36 @@ impl<'a, NID: NodeId> HasId<NID> for Others<'a, NID> {
 
     fn has_id(&self, id: &NID) -> bool {
         !self.ids.contains(id)
+    }
+}
+
+// The ids of either nodes.
+#[derive(Drop)]
+struct Either<'a, NID: NodeId, N: Node> {
+    nodes: &'a NodeMap<NID, N>,
+    more: &'a NodeMap<NID, N>,
+}
+
+impl<'a, NID: NodeId, N: Node> HasId<NID> for Either<'a, NID, N> {
+    ghost has = { λ s id. has_node NID.eq s.nodes.now id || has_node NID.eq s.more.now id };
+
+    fn has_id(&self, id: &NID) -> bool {
+        self.nodes.contains(id) || self.more.contains(id)
+    }
+}
+
+// The ids of the nodes that aren't in the set.
+#[derive(Drop)]
+struct But<'a, NID: NodeId, N: Node> {
+    nodes: &'a NodeMap<NID, N>,
+    ids: &'a IdSet<NID>,
+}
+
+impl<'a, NID: NodeId, N: Node> HasId<NID> for But<'a, NID, N> {
+    ghost has = { λ s id. has_node NID.eq s.nodes.now id && not (has_id NID.eq s.ids.now id) };
+
+    fn has_id(&self, id: &NID) -> bool {
+        self.nodes.contains(id) && !self.ids.contains(id)
     }
 }
 
@@ -134,8 +164,52 @@ impl<NID: NodeId, N: Node> Membership<NID, N> {
         }
     }
 
+    // The fault of a step to the goal where the nodes are these.
+    fn step_fault<S: HasId<NID>>(
+        &self,
+        goal: &IdSet<NID>,
+        nodes: &S,
+    ) -> Option<ChangeMembershipError<NID>>
+        requires { 0 < length self.now.configs }
+        ensures { result ≡ groups_fault NID.cmp (S.has nodes.now) (next_configs (pointwise NID.eq) self.now.configs goal.now) }
+    {
+        let missing = first_missing(goal, nodes);
+        if self.configs.as_slice().contains(goal) {
+            return fault_of(goal.is_empty(), missing);
+        }
+        let last = self.configs.last();
+        let least = lesser(first_missing(last, nodes), missing);
+        fault_of(last.is_empty() || goal.is_empty(), least)
+    }
+
+    // The fault of what the change asks for, where it is told before anything is made.
+    fn fault_told_first(&self, change: &ChangeMembers<NID, N>) -> Option<ChangeMembershipError<NID>>
+        requires { 0 < length self.now.configs }
+        ensures told { is_told_first change.now ≡ true → (retain : Bool) → (let next = changed NID.eq NID.cmp self.now change.now retain in result ≡ validity_fault NID.eq NID.cmp next.configs next.nodes) }
+        ensures untold { is_told_first change.now ≡ false → result ≡ None }
+    {
+        match change {
+            ChangeMembers::ReplaceAllVoters(ids) => self.step_fault(ids, &self.nodes),
+            ChangeMembers::AddNodes(more) => self.fault_with(&Either {
+                nodes: &self.nodes,
+                more,
+            }),
+            ChangeMembers::SetNodes(more) => self.fault_with(&Either {
+                nodes: &self.nodes,
+                more,
+            }),
+            ChangeMembers::RemoveNodes(ids) => self.fault_with(&But {
+                nodes: &self.nodes,
+                ids,
+            }),
+            ChangeMembers::ReplaceAllNodes(nodes) => self.fault_with(nodes),
+            _ => None,
+        }
+    }
+
     /// The membership that the change asks for (openraft; the membership is borrowed).
-    /// A result that isn't valid is refused as `ensure_valid` does; `Memory` is want of memory.
+    /// A result that isn't valid is refused as `ensure_valid` does; `Memory` is want of memory, and
+    /// comes after that where no new voter group has to be made to tell it.
     pub fn change(
         &self,
         change: ChangeMembers<NID, N>,
@@ -144,8 +218,11 @@ impl<NID: NodeId, N: Node> Membership<NID, N> {
         requires { 0 < length self.now.configs }
         ensures ok { IfOk result (λ next. next ≡ changed NID.eq NID.cmp self.now change retain) }
         ensures valid { OnOk result (let next = changed NID.eq NID.cmp self.now change retain in validity_fault NID.eq NID.cmp next.configs next.nodes ≡ None) }
-        ensures err { IfErr result (λ e. let next = changed NID.eq NID.cmp self.now change retain in IsChangeFault (validity_fault NID.eq NID.cmp next.configs next.nodes) e) }
+        ensures err { IfErr result (λ e. let next = changed NID.eq NID.cmp self.now change retain in IsChangeFault (is_told_first change) (validity_fault NID.eq NID.cmp next.configs next.nodes) e) }
     {
+        if let Some(fault) = self.fault_told_first(&change) {
+            return Err(fault);
+        }
         match self.changed(change, retain) {
             Ok(next) => {
                 next.ensure_valid()?;

@@ -128,7 +128,7 @@ impl<NID: NodeId> IdSet<NID> {
     pub fn is_empty(&self) -> bool
         ensures { result ≡ (length self.now == 0) }
     {
-        self.ids.len() == 0
+        self.ids.is_empty()
     }
 
     // What the set takes its memory from.

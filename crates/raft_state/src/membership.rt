@@ -2,17 +2,18 @@
 ghost use Rattle.std.specs.Option.{option_copied};
 ghost use Rattle.raft_state.specs.Nodes.{node_at};
 ghost use Rattle.raft_state.specs.Membership.{is_voter, voter_ids, learner_ids, filled_nodes};
-ghost use Rattle.std.specs.Prelude.{◌≡◌, ◌↔◌, ◌<◌, IsTrue, IfOk, length, not, OnOk, IfErr};
-ghost use Rattle.raft_state.specs.Membership.{first_missing, missing_voter, has_empty_group, lesser};
+ghost use Rattle.std.specs.Prelude.{◌≡◌, ◌↔◌, ◌<◌, IsTrue, IfOk, length, not, OnOk, IfErr, []};
+ghost use Rattle.raft_state.specs.Membership.{first_outside, least_outside, has_empty_group, lesser};
 ghost use Rattle.raft_state.specs.Quorum.{is_quorum};
 ghost use Rattle.raft_state.specs.QuorumLaws.{wider_quorum};
-ghost use Rattle.raft_state.specs.Validity.{validity_fault};
+ghost use Rattle.raft_state.specs.RisingLaws.{joint_ids_rise};
+ghost use Rattle.raft_state.specs.Validity.{fault_of, groups_fault, validity_fault};
 
 use crate::error::{ChangeMembershipError, EmptyMembership, LearnerNotFound};
 use crate::has_id::HasId;
 use crate::id_set::IdSet;
 use crate::into_nodes::IntoNodes;
-use crate::joint::{all_accept, all_ids};
+use crate::joint::{all_accept, insert_all};
 use crate::node::{Node, NodeId};
 use crate::node_map::NodeMap;
 use crate::quorum_set::QuorumSet;
@@ -30,7 +31,7 @@ pub struct Membership<NID: NodeId, N: Node> {
 }
 
 // The lesser of two ids that may be none.
-fn lesser<NID: NodeId>(a: Option<NID>, b: Option<NID>) -> Option<NID>
+pub(crate) fn lesser<NID: NodeId>(a: Option<NID>, b: Option<NID>) -> Option<NID>
     ensures { result ≡ lesser NID.cmp a b }
 {
     match (a, b) {
@@ -44,29 +45,56 @@ fn lesser<NID: NodeId>(a: Option<NID>, b: Option<NID>) -> Option<NID>
 }
 
 // The first id of the group that is no node.
-fn first_missing<NID: NodeId, N: Node>(group: &IdSet<NID>, nodes: &NodeMap<NID, N>) -> Option<NID>
-    ensures { result ≡ first_missing NID.eq nodes.now group.now }
+pub(crate) fn first_missing<NID: NodeId, S: HasId<NID>>(
+    group: &IdSet<NID>,
+    nodes: &S,
+) -> Option<NID>
+    ensures { result ≡ first_outside (S.has nodes.now) group.now }
 {
     group
         .as_slice()
         .iter()
         .copied()
-        .find(|id| !nodes.contains(id))
+        .find(|id| !nodes.has_id(id))
 }
 
 // The least voter that is no node.
 #[tactic(auto, using(crate::proofs::MembershipLemmas::one_group_more))]
-fn missing_voter<NID: NodeId, N: Node>(
-    groups: &[IdSet<NID>],
-    nodes: &NodeMap<NID, N>,
-) -> Option<NID>
-    ensures { result ≡ missing_voter NID.eq NID.cmp groups.now nodes.now }
+fn missing_voter<NID: NodeId, S: HasId<NID>>(groups: &[IdSet<NID>], nodes: &S) -> Option<NID>
+    ensures { result ≡ least_outside NID.cmp (S.has nodes.now) groups.now }
 {
     let mut least = None;
     for group in groups {
         least = lesser(least, first_missing(group, nodes));
     }
     least
+}
+
+// All voters of these groups.
+fn all_voters<NID: NodeId>(alloc: Global, groups: &[IdSet<NID>]) -> Result<IdSet<NID>, AllocError>
+    ensures { IfOk result (λ ids. ids ≡ voter_ids NID.cmp groups.now) }
+{
+    let mut ids = IdSet::new(alloc);
+    for group in groups {
+        insert_all(&mut ids, group.as_slice())?;
+    }
+    Ok(ids)
+}
+
+// An empty voter group comes first, then a voter that is no node.
+pub(crate) fn fault_of<NID: NodeId>(
+    empty: bool,
+    missing: Option<NID>,
+) -> Option<ChangeMembershipError<NID>>
+    ensures { result ≡ fault_of empty missing }
+{
+    if empty {
+        return Some(ChangeMembershipError::EmptyMembership(EmptyMembership {}));
+    }
+    match missing {
+        None => None,
+        Some(node_id) => Some(ChangeMembershipError::LearnerNotFound(LearnerNotFound { node_id })),
+    }
 }
 
 // Whether the id is in a voter group.
@@ -98,6 +126,16 @@ impl<NID: NodeId, N: Node> Membership<NID, N> {
         Membership { configs, nodes }
     }
 
+    /// No voter groups and no nodes. Takes no memory.
+    pub fn default(alloc: Global) -> Membership<NID, N>
+        ensures { result ≡ record { configs = []; nodes = [] } }
+    {
+        Membership {
+            configs: VoterGroups::new(alloc),
+            nodes: NodeMap::new(alloc),
+        }
+    }
+
     /// The voter groups.
     pub fn get_joint_config(&self) -> &[IdSet<NID>]
         ensures { result.now ≡ self.now.configs }
@@ -121,7 +159,7 @@ impl<NID: NodeId, N: Node> Membership<NID, N> {
     ) -> Result<Membership<NID, N>, AllocError>
         ensures { IfOk result (λ m. m ≡ record { configs = configs.items; nodes = filled_nodes NID.eq NID.cmp N.default_node configs.items (T.nodes nodes) }) }
     {
-        let voters = all_ids(alloc, configs.as_slice())?;
+        let voters = all_voters(alloc, configs.as_slice())?;
         let defaults: NodeMap<NID, N> = voters.into_nodes(alloc)?;
         let nodes = nodes
             .into_nodes(alloc)?
@@ -143,7 +181,7 @@ impl<NID: NodeId, N: Node> Membership<NID, N> {
     pub fn voter_ids(&self) -> Result<IdSet<NID>, AllocError>
         ensures { IfOk result (λ ids. ids ≡ voter_ids NID.cmp self.now.configs) }
     {
-        all_ids(self.configs.allocator(), self.configs.as_slice())
+        all_voters(self.configs.allocator(), self.configs.as_slice())
     }
 
     /// The ids of the nodes that are no voters.
@@ -169,6 +207,14 @@ impl<NID: NodeId, N: Node> Membership<NID, N> {
         self.nodes.get(node_id)
     }
 
+    // Why the voter groups aren't valid where the nodes are these.
+    pub(crate) fn fault_with<S: HasId<NID>>(&self, nodes: &S) -> Option<ChangeMembershipError<NID>>
+        ensures { result ≡ groups_fault NID.cmp (S.has nodes.now) self.now.configs }
+    {
+        let missing = missing_voter(self.configs.as_slice(), nodes);
+        fault_of(self.has_empty_group(), missing)
+    }
+
     // Whether a voter group has nobody.
     fn has_empty_group(&self) -> bool
         ensures { result ≡ has_empty_group self.now.configs }
@@ -182,14 +228,9 @@ impl<NID: NodeId, N: Node> Membership<NID, N> {
         ensures ok { OnOk result (validity_fault NID.eq NID.cmp self.now.configs self.now.nodes ≡ None) }
         ensures err { IfErr result (λ e. validity_fault NID.eq NID.cmp self.now.configs self.now.nodes ≡ Some e) }
     {
-        if self.has_empty_group() {
-            return Err(ChangeMembershipError::EmptyMembership(EmptyMembership {}));
-        }
-        match missing_voter(self.configs.as_slice(), &self.nodes) {
+        match self.fault_with(&self.nodes) {
             None => Ok(()),
-            Some(node_id) => Err(ChangeMembershipError::LearnerNotFound(LearnerNotFound {
-                node_id,
-            })),
+            Some(fault) => Err(fault),
         }
     }
 }
@@ -220,12 +261,14 @@ impl<NID: NodeId, N: Node> QuorumSet<NID> for Membership<NID, N> {
     }
 
     ghost superset = { λ m p r wider h. wider_quorum p r wider m.configs h };
+
+    ghost members_rise = { λ m. joint_ids_rise NID.total (λ group. group) m.configs };
 }
 
 impl<NID: NodeId, N: Node> Display for Membership<NID, N> {
     fn fmt<W: fmt::Write>(&self, f: &mut fmt::Formatter<W>) -> fmt::Result {
         let configs = self.configs.as_slice();
-        let nodes = self.nodes.as_slice();
+        let nodes = self.nodes();
         write!(f, "{{voters:{configs:?}, nodes:{nodes:?}}}")
     }
 }

@@ -217,6 +217,14 @@ impl<NID: NodeId, N: Node> NodeMap<NID, N> {
     }
 }
 
+impl<NID: NodeId, N: Node> HasId<NID> for NodeMap<NID, N> {
+    ghost has = { has_node NID.eq };
+
+    fn has_id(&self, id: &NID) -> bool {
+        self.contains(id)
+    }
+}
+
 // A second list of the same nodes.
 fn copy_nodes<NID: NodeId, N: Node>(
     alloc: Global,

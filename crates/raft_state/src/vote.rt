@@ -42,7 +42,7 @@ impl<NID: NodeId> LeaderId<NID> {
 
 impl<NID: NodeId> Display for LeaderId<NID> {
     fn fmt<W: fmt::Write>(&self, f: &mut fmt::Formatter<W>) -> fmt::Result {
-        let term = self.term;
+        let term = self.get_term();
         let node_id = self.node_id;
         write!(f, "T{term}-N{node_id}")
     }
@@ -120,9 +120,9 @@ pub fn leader_ids_by_term_and_node<NID: NodeId>(a: &LeaderId<NID>, b: &LeaderId<
 }
 
 /// Votes are ordered by term, then by node, then committed last.
-pub fn votes_by_term_node_committed<NID: NodeId>(a: &Vote<NID>, b: &Vote<NID>) -> Ordering
-    ensures order { ⟦<Vote<NID> as Ord>⟧.cmp a.now b.now ≡ vote_cmp NID.cmp a.now b.now }
-    ensures value { result ≡ vote_cmp NID.cmp a.now b.now }
+pub fn votes_by_term_node_committed<NID: NodeId>(vote: &Vote<NID>, other: &Vote<NID>) -> Ordering
+    ensures order { ⟦<Vote<NID> as Ord>⟧.cmp vote.now other.now ≡ vote_cmp NID.cmp vote.now other.now }
+    ensures value { result ≡ vote_cmp NID.cmp vote.now other.now }
 {
-    a.cmp(b)
+    vote.cmp(other)
 }

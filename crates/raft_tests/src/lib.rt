@@ -1,0 +1,26 @@
+//! Tests of the crates below: rows with values from outside, each public call once with ample
+//! memory, and each generic item at a concrete type through its bound.
+//!
+//! They stand here and not beside what they test, so that those crates are proved once.
+#![tactic(auto)]
+
+#[cfg(test)]
+mod changes;
+#[cfg(test)]
+mod errors;
+#[cfg(test)]
+mod indexes;
+#[cfg(test)]
+mod log_id_lists;
+#[cfg(test)]
+mod membership_states;
+#[cfg(test)]
+mod memberships;
+#[cfg(test)]
+mod quorums;
+#[cfg(test)]
+mod raft_states;
+#[cfg(test)]
+mod values;
+#[cfg(test)]
+mod written;
