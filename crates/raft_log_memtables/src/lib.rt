@@ -1,0 +1,12 @@
+//! Memtables: what the log engine has of each group, with the places of its entries, and how the
+//! records of log files are replayed into them.
+#![tactic(auto)]
+
+mod entries;
+mod memtable;
+mod memtables;
+mod replay;
+
+pub use memtable::MemTable;
+pub use memtables::MemTables;
+pub use replay::{MemTableRecoverContext, replay_all};
