@@ -4,6 +4,7 @@ use Rattle.std.specs.BTreeMap.{BTreeMap, get}
 use Rattle.std.specs.Ordering.{nat_cmp}
 use Rattle.raft_log_records.specs.declared.file_id.FileBlockHandle.{FileBlockHandle}
 use Rattle.raft_log_records.specs.declared.item.EntryIndex.{EntryIndex}
+use Rattle.raft_log_records.specs.Reading.{indexed}
 
 -- the entry with this index
 abbrev pub entry_of : BTreeMap ℕ EntryIndex → ℕ → Option EntryIndex
@@ -15,7 +16,7 @@ placed_in handle e = record { index = e.index; entries = Some handle; entry_offs
 
 -- entries with their indexes, once their block stands in a file
 abbrev pub placed_pairs : FileBlockHandle → List EntryIndex → List (ℕ × EntryIndex)
-placed_pairs handle es = map (λ e. (e.index, placed_in handle e)) es
+placed_pairs handle es = map (λ e. (e.0, placed_in handle e.1)) (indexed es)
 
 abbrev pub or_else : {E : Type 0} → Option E → Option E → Option E
 or_else None other = other

@@ -1,5 +1,5 @@
 -- What a memtable means.
-use Rattle.std.specs.Prelude.{ℕ, Bool, true, false, List, Option, None, Vec}
+use Rattle.std.specs.Prelude.{ℕ, Bool, true, false, List, map, Option, None, Vec}
 use Rattle.std.specs.declared.alloc.Global.{Global}
 use Rattle.std.specs.Option.{option_map}
 use Rattle.std.specs.BTreeMap.{BTreeMap, get_by}

@@ -25,38 +25,38 @@ pub record Replay (E S : Type 0) : Type 0 where
   pub state : S
   pub begun : Option (ℕ × List (Item E))
 
-module _ {E S : Type 0} where
-  -- what the atomic group with this id has, if it is the one that has begun
-  abbrev pub begun_with : ℕ → Option (ℕ × List (Item E)) → Option (List (Item E))
-  begun_with id None = None
-  begun_with id (Some g) = if nat_eq g.0 id then Some g.1 else None
+-- what the atomic group with this id has, if it is the one that has begun
+abbrev pub begun_with : {E : Type 0} → ℕ → Option (ℕ × List (Item E)) → Option (List (Item E))
+begun_with id None = None
+begun_with id (Some g) = if nat_eq g.0 id then Some g.1 else None
 
-  abbrev pub after_middle : ℕ → List (Item E) → Replay E S → Option (List (Item E)) → Replay E S
-  after_middle id items r None = r
-  after_middle id items r (Some before) = record { state = r.state; begun = Some (id, before ++ items) }
+-- the atomic group that has begun, with more items if it is the one with this id
+abbrev pub begun_more : {E : Type 0} → ℕ → List (Item E) → Option (ℕ × List (Item E)) → Option (ℕ × List (Item E))
+begun_more id items None = None
+begun_more id items (Some g) = if nat_eq g.0 id then Some (g.0, g.1 ++ items) else Some g
 
-  module _ (step : List (Item E) → S → S) where
-    abbrev pub after_end : List (Item E) → Replay E S → Option (List (Item E)) → Replay E S
-    after_end items r None = r
-    after_end items r (Some before) = record { state = step (before ++ items) r.state; begun = None }
+module _ {E S : Type 0} (step : List (Item E) → S → S) where
+  abbrev pub after_end : List (Item E) → Replay E S → Option (List (Item E)) → Replay E S
+  after_end items r None = r
+  after_end items r (Some before) = record { state = step (before ++ items) r.state; begun = None }
 
-    abbrev pub after_status : ℕ → AtomicGroupStatus → List (Item E) → Replay E S → Replay E S
-    after_status id Begin items r = record { state = r.state; begun = Some (id, items) }
-    after_status id Middle items r = after_middle id items r (begun_with id r.begun)
-    after_status id End items r = after_end items r (begun_with id r.begun)
+  abbrev pub after_status : ℕ → AtomicGroupStatus → List (Item E) → Replay E S → Replay E S
+  after_status id Begin items r = record { state = r.state; begun = Some (id, items) }
+  after_status id Middle items r = record { state = r.state; begun = begun_more id items r.begun }
+  after_status id End items r = after_end items r (begun_with id r.begun)
 
-    -- A record without a mark counts at once. A begin opens its atomic group anew; an end of the open group counts all of
-    -- it; a middle or end of another one counts nothing.
-    abbrev pub after_marked : List (Item E) → Option (ℕ × AtomicGroupStatus) → Replay E S → Replay E S
-    after_marked items None r = record { state = step items r.state; begun = r.begun }
-    after_marked items (Some m) r = after_status m.0 m.1 items r
+  -- A record without a mark counts at once. A begin opens its atomic group anew; an end of the open group counts all of it;
+  -- a middle or end of another one counts nothing.
+  abbrev pub after_marked : List (Item E) → Option (ℕ × AtomicGroupStatus) → Replay E S → Replay E S
+  after_marked items None r = record { state = step items r.state; begun = r.begun }
+  after_marked items (Some m) r = after_status m.0 m.1 items r
 
-    abbrev pub after_record : List (Item E) → Replay E S → Replay E S
-    after_record items r = after_marked items (mark_of items) r
+  abbrev pub after_record : List (Item E) → Replay E S → Replay E S
+  after_record items r = after_marked items (mark_of items) r
 
-    abbrev pub after_records : List (List (Item E)) → Replay E S → Replay E S
-    after_records [] r = r
-    after_records (items ∷ records) r = after_records records (after_record items r)
+  abbrev pub after_records : List (List (Item E)) → Replay E S → Replay E S
+  after_records [] r = r
+  after_records (items ∷ records) r = after_records records (after_record items r)
 
 -- the content of a list of records. An atomic group without its end counts nothing
 abbrev pub content_of : {E : Type 0} → List (List (Item E)) → Content E

@@ -1,6 +1,6 @@
 //! The entries of a group by their indexes.
 
-ghost use Rattle.std.specs.Prelude.{◌≡◌, ◌≤◌, ◌<◌, ℕ, None, nat_le, nat_lt, if◌then◌else◌, OnOk};
+ghost use Rattle.std.specs.Prelude.{◌≡◌, ◌≤◌, ◌<◌, ◌-◌, ◌∷◌, ℕ, length, drop, None, nat_le, nat_lt, if◌then◌else◌, OnOk};
 ghost use Rattle.std.specs.Bool.{OnTrue, OnFalse};
 ghost use Rattle.std.specs.BTreeMap.{btree_map_len};
 ghost use Rattle.raft_log_records.specs.Item.{change_map};
@@ -86,6 +86,15 @@ fn place_in(handle: FileBlockHandle, entry: EntryIndex) -> EntryIndex
     }
 }
 
+/// The entry before a place in a list.
+fn entry_before(entries: &[EntryIndex], at: usize) -> EntryIndex
+    requires some { 0 < at }
+    requires within { at ≤ length entries.now }
+    ensures { drop (at - 1) entries.now ≡ result ∷ drop at entries.now }
+{
+    entries[at - 1]
+}
+
 /// Adds the entries from an index on, which now lie in a block. Where one index comes twice, the
 /// first counts.
 pub fn add_placed(
@@ -99,8 +108,8 @@ pub fn add_placed(
 {
     let mut at = more.len();
     while at > 0 {
+        let entry = entry_before(more, at);
         at -= 1;
-        let entry = more[at];
         if first <= entry.index {
             entries.insert(entry.index, place_in(handle, entry))?;
         }

@@ -9,4 +9,4 @@ mod replay;
 
 pub use memtable::MemTable;
 pub use memtables::MemTables;
-pub use replay::{MemTableRecoverContext, replay_all};
+pub use replay::{MemTableRecoverContext, PlacedBatch, replay_all};

@@ -1,11 +1,14 @@
 //! What the log engine has of one group.
 
-ghost use Rattle.std.specs.Prelude.{◌≡◌, ◌<◌, Option, None, false, ℕ};
+ghost use Rattle.std.specs.Prelude.{◌≡◌, ℕ, Option, None, false, OnOk};
 ghost use Rattle.std.specs.Option.{option_copied};
 ghost use Rattle.raft_log_records.specs.Item.{change_of, change_map};
-ghost use Rattle.raft_log_memtables.specs.Content.{after_change, reach_after, takes_from, nothing_there};
+ghost use Rattle.raft_log_records.specs.Item.Change.{entries, compact, put, delete};
+ghost use Rattle.raft_log_records.specs.Reading.{indexed};
+ghost use Rattle.raft_log_records.specs.Spelling.{first_index};
+ghost use Rattle.raft_log_memtables.specs.Content.{after_change, reach_after, takes_from};
 ghost use Rattle.raft_log_memtables.specs.Entries.{IsFirst, IsLast, placed_in};
-ghost use Rattle.raft_log_memtables.specs.MemTable.{group_in, is_clean_of};
+ghost use Rattle.raft_log_memtables.specs.MemTable.{table_content, group_in, reached_in, only_there, is_clean_of};
 
 use crate::entries::{EntryMap, add_placed, cut_before, cut_from, first_of, last_of, reach};
 use raft_log_records::{Command, EntryIndex, FileBlockHandle, LogItemContent};
@@ -34,6 +37,7 @@ fn first_index_of(entries: &[EntryIndex]) -> u64
 
 impl MemTable {
     /// A group that is there without entries and keys.
+    #[tactic(auto, unfolding(crate::specs::MemTable::group_in, crate::specs::MemTable::reached_in))]
     pub fn new(alloc: Global) -> MemTable
         ensures content { group_in result ≡ only_there }
         ensures reach { reached_in result ≡ None }
@@ -52,7 +56,7 @@ impl MemTable {
         more: &[EntryIndex],
     ) -> Result<(), AllocError>
         ensures content { OnOk result (table_content self.new ≡ after_change (change_map (placed_in handle) (entries (indexed more.now))) (table_content self.old)) }
-        ensures reach { OnOk result (self.new.reached ≡ reach_of (indexed more.now) self.old.reached) }
+        ensures reach { OnOk result (self.new.reached ≡ reach_after (change_map (placed_in handle) (entries (indexed more.now))) self.old.reached) }
     {
         let first = first_index_of(more);
         cut_from(&mut self.entries, first);
@@ -114,6 +118,7 @@ impl MemTable {
 
 impl MemTable {
     /// Where the entry with this index lies, if it is there.
+    #[tactic(auto, unfolding(crate::specs::MemTable::group_in))]
     pub fn get_entry(&self, index: u64) -> Option<EntryIndex>
         ensures { result ≡ (group_in self.now).entry index }
     {
@@ -121,6 +126,7 @@ impl MemTable {
     }
 
     /// The value of a key, if it is there.
+    #[tactic(auto, unfolding(crate::specs::MemTable::group_in))]
     pub fn get(&self, key: &[u8]) -> Option<&[u8]>
         ensures { option_copied result ≡ (group_in self.now).value key.now }
     {
@@ -131,6 +137,7 @@ impl MemTable {
     }
 
     /// The index of the first entry, if there is one.
+    #[tactic(auto, unfolding(crate::specs::MemTable::group_in))]
     pub fn first_index(&self) -> Option<u64>
         ensures { IsFirst (group_in self.now).entry result }
     {
@@ -138,6 +145,7 @@ impl MemTable {
     }
 
     /// The index of the last entry, if there is one.
+    #[tactic(auto, unfolding(crate::specs::MemTable::group_in))]
     pub fn last_index(&self) -> Option<u64>
         ensures { IsLast (group_in self.now).entry result }
     {
@@ -146,6 +154,7 @@ impl MemTable {
 
     /// The greatest index that entries ever had since the group was last cleaned, also where none is
     /// left (own). A mark that lets old files go has to lie past it.
+    #[tactic(auto, unfolding(crate::specs::MemTable::reached_in))]
     pub fn reached(&self) -> Option<u64>
         ensures { result ≡ reached_in self.now }
     {
@@ -154,6 +163,7 @@ impl MemTable {
 
     /// Whether a batch may add entries from an index on (own): they begin inside the list or at its
     /// end, and where there are no entries they begin anywhere.
+    #[tactic(auto, unfolding(crate::specs::MemTable::group_in))]
     pub fn takes(&self, first: u64) -> bool
         ensures { (low high : Option ℕ) → IsFirst (group_in self.now).entry low → IsLast (group_in self.now).entry high
             → result ≡ takes_from low high first }

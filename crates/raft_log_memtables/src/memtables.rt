@@ -12,7 +12,9 @@ ghost use Rattle.raft_log_memtables.specs.Tables.{table_at, reach_at, IsMade, Is
 ghost use Rattle.raft_log_memtables.specs.MemTables.{content_in, reach_in};
 
 use crate::memtable::MemTable;
-use raft_log_records::{Command, EntryIndex, FileBlockHandle, LogItem, LogItemBatch, LogItemContent};
+use raft_log_records::{
+    Command, EntryIndex, FileBlockHandle, LogItem, LogItemBatch, LogItemContent,
+};
 use std::alloc::{AllocError, Global};
 use std::collections::BTreeMap;
 
@@ -32,11 +34,7 @@ fn is_clean(content: &LogItemContent) -> bool
 }
 
 /// Makes a memtable for a group that has none.
-fn make_table(
-    alloc: Global,
-    tables: &mut TableMap,
-    raft_group_id: u64,
-) -> Result<(), AllocError>
+fn make_table(alloc: Global, tables: &mut TableMap, raft_group_id: u64) -> Result<(), AllocError>
     ensures { OnOk result (IsMade tables.old raft_group_id tables.new) }
 {
     if !tables.contains_key(&raft_group_id) {
@@ -121,6 +119,7 @@ impl MemTables {
     }
 
     /// The memtable of a group, if the group is there.
+    #[tactic(auto, unfolding(crate::specs::MemTables::content_in, crate::specs::MemTable::group_in))]
     pub fn get_table(&self, raft_group_id: u64) -> Option<&MemTable>
         ensures { MatchOption result (content_in self.now raft_group_id ≡ no_group)
             (λ t. content_in self.now raft_group_id ≡ group_in t.now) }
@@ -129,6 +128,7 @@ impl MemTables {
     }
 
     /// Whether a group is there, with or without entries and keys.
+    #[tactic(auto, unfolding(crate::specs::MemTables::content_in))]
     pub fn has_group(&self, raft_group_id: u64) -> bool
         ensures { result ≡ (content_in self.now raft_group_id).there }
     {

@@ -5,9 +5,9 @@ ghost use Rattle.raft_log_records.specs.Item.{items_of};
 ghost use Rattle.raft_log_memtables.specs.Content.{after_batch, reach_after_batch};
 ghost use Rattle.raft_log_memtables.specs.MemTable.{items_in};
 ghost use Rattle.raft_log_memtables.specs.MemTables.{content_in, reach_in};
-ghost use Rattle.raft_log_memtables.specs.Replay.{mark_of, after_record, content_of};
+ghost use Rattle.raft_log_memtables.specs.Replay.{mark_of, begun_with, begun_more, after_end, after_status, after_record, content_of};
 ghost use Rattle.raft_log_memtables.specs.Records.{record_items, all_items, items_in_records};
-ghost use Rattle.raft_log_memtables.specs.Recovery.{replay_in, reach_replay_in};
+ghost use Rattle.raft_log_memtables.specs.Recovery.{begun_by, replay_in, reach_replay_in};
 
 use crate::memtables::MemTables;
 use raft_log_records::{AtomicGroupStatus, FileBlockHandle, LogItem, LogItemBatch, LogItemContent};
@@ -55,14 +55,15 @@ fn apply_all(memtables: &mut MemTables, records: Vec<PlacedBatch>) -> Result<(),
     ensures content { OnOk result (content_in memtables.new ≡ after_batch (all_items records.items) (content_in memtables.old)) }
     ensures reach { OnOk result (reach_in memtables.new ≡ reach_after_batch (all_items records.items) (reach_in memtables.old)) }
 {
-    for record in records {
-        memtables.apply(record.batch, record.handle)?;
+    for placed in records {
+        memtables.apply(placed.batch, placed.handle)?;
     }
     Ok(())
 }
 
 impl MemTableRecoverContext {
     /// Replays over what the memtables have.
+    #[tactic(auto, unfolding(crate::specs::Recovery::replay_in, crate::specs::Recovery::reach_replay_in))]
     pub fn new(alloc: Global, memtables: MemTables) -> MemTableRecoverContext
         ensures content { replay_in result ≡ record { state = content_in memtables; begun = None } }
         ensures reach { reach_replay_in result ≡ record { state = reach_in memtables; begun = None } }
@@ -75,20 +76,24 @@ impl MemTableRecoverContext {
     }
 
     /// Opens an atomic group. What another open group has counts nothing.
-    fn begin(&mut self, id: u64, record: PlacedBatch) -> Result<(), AllocError>
+    fn begin(&mut self, id: u64, placed: PlacedBatch) -> Result<(), AllocError>
+        ensures begun { OnOk result (begun_by self.new.pending ≡ Some (id, record_items placed)) }
+        ensures same { OnOk result (self.new.memtables ≡ self.old.memtables) }
     {
         let mut records = Vec::new(self.alloc);
-        records.push(record)?;
+        records.push(placed)?;
         self.pending = Some(PendingAtomicGroup { id, records });
         Ok(())
     }
 
     /// Adds a record to its atomic group, if that is open.
-    fn add(&mut self, id: u64, record: PlacedBatch) -> Result<(), AllocError>
+    fn add(&mut self, id: u64, placed: PlacedBatch) -> Result<(), AllocError>
+        ensures begun { OnOk result (begun_by self.new.pending ≡ begun_more id (record_items placed) (begun_by self.old.pending)) }
+        ensures same { OnOk result (self.new.memtables ≡ self.old.memtables) }
     {
         if let Some(mut group) = self.pending.take() {
             if group.id == id {
-                group.records.push(record)?;
+                group.records.push(placed)?;
             }
             self.pending = Some(group);
         }
@@ -96,11 +101,14 @@ impl MemTableRecoverContext {
     }
 
     /// Lets all records of an atomic group count, if it is open.
-    fn end(&mut self, id: u64, record: PlacedBatch) -> Result<(), AllocError>
+    #[tactic(auto, unfolding(crate::specs::Recovery::replay_in, crate::specs::Recovery::reach_replay_in))]
+    fn end(&mut self, id: u64, placed: PlacedBatch) -> Result<(), AllocError>
+        ensures content { OnOk result (replay_in self.new ≡ after_end after_batch (record_items placed) (replay_in self.old) (begun_with id (begun_by self.old.pending))) }
+        ensures reach { OnOk result (reach_replay_in self.new ≡ after_end reach_after_batch (record_items placed) (reach_replay_in self.old) (begun_with id (begun_by self.old.pending))) }
     {
         match self.pending.take() {
             Some(mut group) if group.id == id => {
-                group.records.push(record)?;
+                group.records.push(placed)?;
                 apply_all(&mut self.memtables, group.records)
             }
             other => {
@@ -110,23 +118,41 @@ impl MemTableRecoverContext {
         }
     }
 
+    /// Replays a record of an atomic group.
+    #[tactic(auto, unfolding(crate::specs::Recovery::replay_in, crate::specs::Recovery::reach_replay_in))]
+    fn replay_marked(
+        &mut self,
+        id: u64,
+        status: AtomicGroupStatus,
+        placed: PlacedBatch,
+    ) -> Result<(), AllocError>
+        ensures content { OnOk result (replay_in self.new ≡ after_status after_batch id status (record_items placed) (replay_in self.old)) }
+        ensures reach { OnOk result (reach_replay_in self.new ≡ after_status reach_after_batch id status (record_items placed) (reach_replay_in self.old)) }
+    {
+        match status {
+            AtomicGroupStatus::Begin => self.begin(id, placed),
+            AtomicGroupStatus::Middle => self.add(id, placed),
+            AtomicGroupStatus::End => self.end(id, placed),
+        }
+    }
+
     /// Replays the next record, whose entries lie in the block of this handle. After an `Err`, for
     /// want of memory, the memtables are given up.
+    #[tactic(auto, unfolding(crate::specs::Recovery::replay_in, crate::specs::Recovery::reach_replay_in))]
     pub fn replay(&mut self, batch: LogItemBatch, handle: FileBlockHandle) -> Result<(), AllocError>
         ensures content { OnOk result (replay_in self.new ≡ after_record after_batch (items_in handle (items_of batch.items.items)) (replay_in self.old)) }
         ensures reach { OnOk result (reach_replay_in self.new ≡ after_record reach_after_batch (items_in handle (items_of batch.items.items)) (reach_replay_in self.old)) }
     {
         let mark = mark_in(&batch.items);
-        let record = PlacedBatch { batch, handle };
+        let placed = PlacedBatch { batch, handle };
         match mark {
-            None => self.memtables.apply(record.batch, record.handle),
-            Some((id, AtomicGroupStatus::Begin)) => self.begin(id, record),
-            Some((id, AtomicGroupStatus::Middle)) => self.add(id, record),
-            Some((id, AtomicGroupStatus::End)) => self.end(id, record),
+            None => self.memtables.apply(placed.batch, placed.handle),
+            Some((id, status)) => self.replay_marked(id, status, placed),
         }
     }
 
     /// The memtables after the last record. An atomic group that is still open counts nothing.
+    #[tactic(auto, unfolding(crate::specs::Recovery::replay_in, crate::specs::Recovery::reach_replay_in))]
     pub fn finish(self) -> MemTables
         ensures content { content_in result ≡ (replay_in self).state }
         ensures reach { reach_in result ≡ (reach_replay_in self).state }
@@ -141,8 +167,8 @@ pub fn replay_all(alloc: Global, records: Vec<PlacedBatch>) -> Result<MemTables,
     ensures { IfOk result (λ tables. content_in tables ≡ content_of (items_in_records records.items)) }
 {
     let mut context = MemTableRecoverContext::new(alloc, MemTables::new(alloc));
-    for record in records {
-        context.replay(record.batch, record.handle)?;
+    for placed in records {
+        context.replay(placed.batch, placed.handle)?;
     }
     Ok(context.finish())
 }
