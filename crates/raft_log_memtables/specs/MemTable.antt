@@ -7,7 +7,8 @@ use Rattle.std.specs.Cmp.Lexicographic.{slice_cmp}
 use Rattle.std.specs.Ordering.{nat_cmp}
 use Rattle.raft_log_records.specs.declared.file_id.FileBlockHandle.{FileBlockHandle}
 use Rattle.raft_log_records.specs.declared.item.EntryIndex.{EntryIndex}
-use Rattle.raft_log_records.specs.Item.{Change, Item, item_map}
+use Rattle.raft_log_records.specs.declared.record.LogItemBatch.{LogItemBatch}
+use Rattle.raft_log_records.specs.Item.{Change, Item, change_map, item_map, items_of}
 use Rattle.raft_log_records.specs.Item.Change.{entries, clean, compact, put, delete, mark}
 use Rattle.raft_log_memtables.specs.declared.memtable.MemTable.{MemTable}
 use Rattle.raft_log_memtables.specs.Content.{GroupContent}
@@ -33,6 +34,14 @@ only_there = record { there = true; entry = λ _. None; value = λ _. None }
 
 abbrev pub items_in : FileBlockHandle → List (Item EntryIndex) → List (Item EntryIndex)
 items_in handle items = map (item_map (placed_in handle)) items
+
+-- the items of a batch, whose entries lie in this block
+abbrev pub batch_items : FileBlockHandle → LogItemBatch → List (Item EntryIndex)
+batch_items handle batch = items_in handle (items_of batch.items.items)
+
+-- what an item does to its group, where its entries lie in this block
+abbrev pub placed_change : FileBlockHandle → Change EntryIndex → Change EntryIndex
+placed_change handle change = change_map (placed_in handle) change
 
 abbrev pub is_clean_of : {E : Type 0} → Change E → Bool
 is_clean_of clean = true

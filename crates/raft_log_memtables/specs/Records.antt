@@ -2,13 +2,13 @@
 use Rattle.std.specs.Prelude.{List, map}
 use Rattle.std.specs.List.{flat_map}
 use Rattle.raft_log_records.specs.declared.item.EntryIndex.{EntryIndex}
-use Rattle.raft_log_records.specs.Item.{Item, items_of}
+use Rattle.raft_log_records.specs.Item.{Item}
 use Rattle.raft_log_memtables.specs.declared.replay.PlacedBatch.{PlacedBatch}
-use Rattle.raft_log_memtables.specs.MemTable.{items_in}
+use Rattle.raft_log_memtables.specs.MemTable.{batch_items}
 
 -- the items of a record, with the places of their entries
 abbrev pub record_items : PlacedBatch → List (Item EntryIndex)
-record_items r = items_in r.handle (items_of r.batch.items.items)
+record_items r = batch_items r.handle r.batch
 
 abbrev pub items_in_records : List PlacedBatch → List (List (Item EntryIndex))
 items_in_records rs = map record_items rs

@@ -1,12 +1,15 @@
 //! The entries of a group by their indexes.
 
-ghost use Rattle.std.specs.Prelude.{◌≡◌, ◌≤◌, ◌<◌, ◌-◌, ◌∷◌, ℕ, length, drop, None, nat_le, nat_lt, if◌then◌else◌, OnOk};
+ghost use Rattle.std.specs.Prelude.{◌≡◌, ◌≤◌, ◌<◌, ◌-◌, ◌∷◌, ℕ, length, drop, None, nat_le};
+ghost use Rattle.std.specs.Prelude.{nat_lt, if◌then◌else◌, OnOk};
 ghost use Rattle.std.specs.Bool.{OnTrue, OnFalse};
 ghost use Rattle.std.specs.BTreeMap.{btree_map_len};
 ghost use Rattle.raft_log_records.specs.Item.{change_map};
 ghost use Rattle.raft_log_records.specs.Reading.{indexed};
 ghost use Rattle.raft_log_memtables.specs.Content.{entry_at, reach_of};
-ghost use Rattle.raft_log_memtables.specs.Entries.{entry_of, placed_in, placed_pairs, IsFirst, IsLast, HasFrom, NoneFrom, HasBefore, NoneBefore, or_else};
+ghost use Rattle.raft_log_memtables.specs.Entries.{entry_of, placed_in, placed_pairs, IsFirst};
+ghost use Rattle.raft_log_memtables.specs.Entries.{IsLast, HasFrom, NoneFrom, HasBefore};
+ghost use Rattle.raft_log_memtables.specs.Entries.{NoneBefore, or_else};
 
 use raft_log_records::{EntryIndex, FileBlockHandle};
 use std::alloc::AllocError;
@@ -59,7 +62,8 @@ fn has_before(entries: &EntryMap, limit: u64) -> bool
 
 /// Removes the entries from an index on.
 pub fn cut_from(entries: &mut EntryMap, first: u64)
-    ensures { (i : ℕ) → entry_of entries.new i ≡ (if nat_le first i then None else entry_of entries.old i) }
+    ensures { (i : ℕ) → entry_of entries.new i
+        ≡ (if nat_le first i then None else entry_of entries.old i) }
 {
     while has_from(entries, first) {
         entries.pop_last();
@@ -68,7 +72,8 @@ pub fn cut_from(entries: &mut EntryMap, first: u64)
 
 /// Removes the entries before an index.
 pub fn cut_before(entries: &mut EntryMap, limit: u64)
-    ensures { (i : ℕ) → entry_of entries.new i ≡ (if nat_lt i limit then None else entry_of entries.old i) }
+    ensures { (i : ℕ) → entry_of entries.new i
+        ≡ (if nat_lt i limit then None else entry_of entries.old i) }
 {
     while has_before(entries, limit) {
         entries.pop_first();

@@ -2,13 +2,14 @@
 
 ghost use Rattle.std.specs.Prelude.{◌≡◌, ℕ, Option, None, false, OnOk};
 ghost use Rattle.std.specs.Option.{option_copied};
-ghost use Rattle.raft_log_records.specs.Item.{change_of, change_map};
+ghost use Rattle.raft_log_records.specs.Item.{change_of};
 ghost use Rattle.raft_log_records.specs.Item.Change.{entries, compact, put, delete};
 ghost use Rattle.raft_log_records.specs.Reading.{indexed};
 ghost use Rattle.raft_log_records.specs.Spelling.{first_index};
 ghost use Rattle.raft_log_memtables.specs.Content.{after_change, reach_after, takes_from};
-ghost use Rattle.raft_log_memtables.specs.Entries.{IsFirst, IsLast, placed_in};
-ghost use Rattle.raft_log_memtables.specs.MemTable.{table_content, group_in, reached_in, only_there, is_clean_of};
+ghost use Rattle.raft_log_memtables.specs.Entries.{IsFirst, IsLast};
+ghost use Rattle.raft_log_memtables.specs.MemTable.{table_content, group_in, reached_in};
+ghost use Rattle.raft_log_memtables.specs.MemTable.{only_there, placed_change, is_clean_of};
 
 use crate::entries::{EntryMap, add_placed, cut_before, cut_from, first_of, last_of, reach};
 use raft_log_records::{Command, EntryIndex, FileBlockHandle, LogItemContent};
@@ -55,8 +56,10 @@ impl MemTable {
         handle: FileBlockHandle,
         more: &[EntryIndex],
     ) -> Result<(), AllocError>
-        ensures content { OnOk result (table_content self.new ≡ after_change (change_map (placed_in handle) (entries (indexed more.now))) (table_content self.old)) }
-        ensures reach { OnOk result (self.new.reached ≡ reach_after (change_map (placed_in handle) (entries (indexed more.now))) self.old.reached) }
+        ensures content { OnOk result (table_content self.new
+            ≡ after_change (placed_change handle (entries (indexed more.now))) (table_content self.old)) }
+        ensures reach { OnOk result (self.new.reached
+            ≡ reach_after (placed_change handle (entries (indexed more.now))) self.old.reached) }
     {
         let first = first_index_of(more);
         cut_from(&mut self.entries, first);
@@ -66,7 +69,8 @@ impl MemTable {
 
     /// Sets a key.
     fn put(&mut self, key: Vec<u8>, value: Vec<u8>) -> Result<(), AllocError>
-        ensures content { OnOk result (table_content self.new ≡ after_change (put key.items value.items) (table_content self.old)) }
+        ensures content { OnOk result (table_content self.new
+            ≡ after_change (put key.items value.items) (table_content self.old)) }
         ensures reach { self.new.reached ≡ self.old.reached }
     {
         self.keys.insert(key, value)?;
@@ -75,7 +79,8 @@ impl MemTable {
 
     /// Removes a key.
     fn delete(&mut self, key: &[u8])
-        ensures content { table_content self.new ≡ after_change (delete key.now) (table_content self.old) }
+        ensures content { table_content self.new
+            ≡ after_change (delete key.now) (table_content self.old) }
         ensures reach { self.new.reached ≡ self.old.reached }
     {
         self.keys.remove(key);
@@ -83,7 +88,8 @@ impl MemTable {
 
     /// Removes the entries before an index.
     fn compact_to(&mut self, index: u64)
-        ensures content { table_content self.new ≡ after_change (compact index) (table_content self.old) }
+        ensures content { table_content self.new
+            ≡ after_change (compact index) (table_content self.old) }
         ensures reach { self.new.reached ≡ self.old.reached }
     {
         cut_before(&mut self.entries, index);
@@ -97,8 +103,10 @@ impl MemTable {
         handle: FileBlockHandle,
     ) -> Result<(), AllocError>
         requires { is_clean_of (change_of content) ≡ false }
-        ensures content { OnOk result (table_content self.new ≡ after_change (change_map (placed_in handle) (change_of content)) (table_content self.old)) }
-        ensures reach { OnOk result (self.new.reached ≡ reach_after (change_map (placed_in handle) (change_of content)) self.old.reached) }
+        ensures content { OnOk result (table_content self.new
+            ≡ after_change (placed_change handle (change_of content)) (table_content self.old)) }
+        ensures reach { OnOk result (self.new.reached
+            ≡ reach_after (placed_change handle (change_of content)) self.old.reached) }
     {
         match content {
             LogItemContent::EntryIndexes(entries) => self.take_entries(handle, &entries),

@@ -1,13 +1,17 @@
 //! What the log engine has of every group.
 
-ghost use Rattle.std.specs.Prelude.{◌≡◌, ℕ, Option, Some, None, IsSome, false, nat_eq, if◌then◌else◌, OnOk, MatchOption};
+ghost use Rattle.std.specs.Prelude.{◌≡◌, ℕ, Option, Some, None, IsSome, false, nat_eq};
+ghost use Rattle.std.specs.Prelude.{if◌then◌else◌, OnOk, MatchOption};
 ghost use Rattle.std.specs.Option.{option_copied};
 ghost use Rattle.std.specs.BTreeMap.{get};
 ghost use Rattle.std.specs.Ordering.{nat_cmp};
-ghost use Rattle.raft_log_records.specs.Item.{change_of, change_map, item_of, items_of, item_map};
-ghost use Rattle.raft_log_memtables.specs.Content.{nothing, no_group, after_change, after_item, after_batch, reach_after, reach_after_item, reach_after_batch, takes_from};
+ghost use Rattle.raft_log_records.specs.Item.{change_of, item_of, item_map};
+ghost use Rattle.raft_log_memtables.specs.Content.{nothing, no_group, after_change, after_item};
+ghost use Rattle.raft_log_memtables.specs.Content.{after_batch, reach_after, reach_after_item};
+ghost use Rattle.raft_log_memtables.specs.Content.{reach_after_batch, takes_from};
 ghost use Rattle.raft_log_memtables.specs.Entries.{IsFirst, IsLast, placed_in};
-ghost use Rattle.raft_log_memtables.specs.MemTable.{group_in, items_in, is_clean_of, is_mark_of, only_there};
+ghost use Rattle.raft_log_memtables.specs.MemTable.{group_in, batch_items, placed_change};
+ghost use Rattle.raft_log_memtables.specs.MemTable.{is_clean_of, is_mark_of};
 ghost use Rattle.raft_log_memtables.specs.Tables.{table_at, reach_at, IsMade, IsChanged};
 ghost use Rattle.raft_log_memtables.specs.MemTables.{content_in, reach_in};
 
@@ -52,7 +56,7 @@ fn change_table(
 ) -> Result<(), AllocError>
     requires not_clean { is_clean_of (change_of content) ≡ false }
     requires there { IsSome (get nat_cmp tables.old raft_group_id) }
-    ensures { OnOk result (IsChanged tables.old raft_group_id (change_map (placed_in handle) (change_of content)) tables.new) }
+    ensures { OnOk result (IsChanged tables.old raft_group_id (placed_change handle (change_of content)) tables.new) }
 {
     if let Some(table) = tables.get_mut(&raft_group_id) {
         table.change(content, handle)?;
@@ -67,8 +71,10 @@ fn apply_item(
     item: LogItem,
     handle: FileBlockHandle,
 ) -> Result<(), AllocError>
-    ensures content { OnOk result (table_at tables.new ≡ after_item (item_map (placed_in handle) (item_of item)) (table_at tables.old)) }
-    ensures reach { OnOk result (reach_at tables.new ≡ reach_after_item (item_map (placed_in handle) (item_of item)) (reach_at tables.old)) }
+    ensures content { OnOk result (table_at tables.new
+        ≡ after_item (item_map (placed_in handle) (item_of item)) (table_at tables.old)) }
+    ensures reach { OnOk result (reach_at tables.new
+        ≡ reach_after_item (item_map (placed_in handle) (item_of item)) (reach_at tables.old)) }
 {
     let LogItem {
         raft_group_id,
@@ -109,8 +115,10 @@ impl MemTables {
     /// After an `Err`, for want of memory, the tables are given up.
     #[tactic(auto, unfolding(crate::specs::MemTables::content_in, crate::specs::MemTables::reach_in))]
     pub fn apply(&mut self, batch: LogItemBatch, handle: FileBlockHandle) -> Result<(), AllocError>
-        ensures content { OnOk result (content_in self.new ≡ after_batch (items_in handle (items_of batch.items.items)) (content_in self.old)) }
-        ensures reach { OnOk result (reach_in self.new ≡ reach_after_batch (items_in handle (items_of batch.items.items)) (reach_in self.old)) }
+        ensures content { OnOk result (content_in self.new
+            ≡ after_batch (batch_items handle batch) (content_in self.old)) }
+        ensures reach { OnOk result (reach_in self.new
+            ≡ reach_after_batch (batch_items handle batch) (reach_in self.old)) }
     {
         for item in batch.items {
             apply_item(self.alloc, &mut self.tables, item, handle)?;

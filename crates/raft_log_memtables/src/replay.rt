@@ -1,11 +1,12 @@
 //! Replaying the records of log files into memtables.
 
-ghost use Rattle.std.specs.Prelude.{◌≡◌, ◌∷◌, ◌++◌, [], Option, Some, None, OnOk, IfOk, map, nat_eq, if◌then◌else◌};
+ghost use Rattle.std.specs.Prelude.{◌≡◌, Some, None, OnOk, IfOk};
 ghost use Rattle.raft_log_records.specs.Item.{items_of};
 ghost use Rattle.raft_log_memtables.specs.Content.{after_batch, reach_after_batch};
-ghost use Rattle.raft_log_memtables.specs.MemTable.{items_in};
+ghost use Rattle.raft_log_memtables.specs.MemTable.{batch_items};
 ghost use Rattle.raft_log_memtables.specs.MemTables.{content_in, reach_in};
-ghost use Rattle.raft_log_memtables.specs.Replay.{mark_of, begun_with, begun_more, after_end, after_status, after_record, content_of};
+ghost use Rattle.raft_log_memtables.specs.Replay.{mark_of, begun_with, begun_more, after_end};
+ghost use Rattle.raft_log_memtables.specs.Replay.{after_status, after_record, content_of};
 ghost use Rattle.raft_log_memtables.specs.Records.{record_items, all_items, items_in_records};
 ghost use Rattle.raft_log_memtables.specs.Recovery.{begun_by, replay_in, reach_replay_in};
 
@@ -52,8 +53,10 @@ fn mark_in(items: &[LogItem]) -> Option<(u64, AtomicGroupStatus)>
 
 /// Applies records in their order.
 fn apply_all(memtables: &mut MemTables, records: Vec<PlacedBatch>) -> Result<(), AllocError>
-    ensures content { OnOk result (content_in memtables.new ≡ after_batch (all_items records.items) (content_in memtables.old)) }
-    ensures reach { OnOk result (reach_in memtables.new ≡ reach_after_batch (all_items records.items) (reach_in memtables.old)) }
+    ensures content { OnOk result (content_in memtables.new
+        ≡ after_batch (all_items records.items) (content_in memtables.old)) }
+    ensures reach { OnOk result (reach_in memtables.new
+        ≡ reach_after_batch (all_items records.items) (reach_in memtables.old)) }
 {
     for placed in records {
         memtables.apply(placed.batch, placed.handle)?;
@@ -66,7 +69,8 @@ impl MemTableRecoverContext {
     #[tactic(auto, unfolding(crate::specs::Recovery::replay_in, crate::specs::Recovery::reach_replay_in))]
     pub fn new(alloc: Global, memtables: MemTables) -> MemTableRecoverContext
         ensures content { replay_in result ≡ record { state = content_in memtables; begun = None } }
-        ensures reach { reach_replay_in result ≡ record { state = reach_in memtables; begun = None } }
+        ensures reach { reach_replay_in result
+            ≡ record { state = reach_in memtables; begun = None } }
     {
         MemTableRecoverContext {
             memtables,
@@ -88,7 +92,8 @@ impl MemTableRecoverContext {
 
     /// Adds a record to its atomic group, if that is open.
     fn add(&mut self, id: u64, placed: PlacedBatch) -> Result<(), AllocError>
-        ensures begun { OnOk result (begun_by self.new.pending ≡ begun_more id (record_items placed) (begun_by self.old.pending)) }
+        ensures begun { OnOk result (begun_by self.new.pending
+            ≡ begun_more id (record_items placed) (begun_by self.old.pending)) }
         ensures same { OnOk result (self.new.memtables ≡ self.old.memtables) }
     {
         if let Some(mut group) = self.pending.take() {
@@ -103,8 +108,10 @@ impl MemTableRecoverContext {
     /// Lets all records of an atomic group count, if it is open.
     #[tactic(auto, unfolding(crate::specs::Recovery::replay_in, crate::specs::Recovery::reach_replay_in))]
     fn end(&mut self, id: u64, placed: PlacedBatch) -> Result<(), AllocError>
-        ensures content { OnOk result (replay_in self.new ≡ after_end after_batch (record_items placed) (replay_in self.old) (begun_with id (begun_by self.old.pending))) }
-        ensures reach { OnOk result (reach_replay_in self.new ≡ after_end reach_after_batch (record_items placed) (reach_replay_in self.old) (begun_with id (begun_by self.old.pending))) }
+        ensures content { OnOk result (replay_in self.new
+            ≡ after_end after_batch (record_items placed) (replay_in self.old) (begun_with id (begun_by self.old.pending))) }
+        ensures reach { OnOk result (reach_replay_in self.new
+            ≡ after_end reach_after_batch (record_items placed) (reach_replay_in self.old) (begun_with id (begun_by self.old.pending))) }
     {
         match self.pending.take() {
             Some(mut group) if group.id == id => {
@@ -126,8 +133,10 @@ impl MemTableRecoverContext {
         status: AtomicGroupStatus,
         placed: PlacedBatch,
     ) -> Result<(), AllocError>
-        ensures content { OnOk result (replay_in self.new ≡ after_status after_batch id status (record_items placed) (replay_in self.old)) }
-        ensures reach { OnOk result (reach_replay_in self.new ≡ after_status reach_after_batch id status (record_items placed) (reach_replay_in self.old)) }
+        ensures content { OnOk result (replay_in self.new
+            ≡ after_status after_batch id status (record_items placed) (replay_in self.old)) }
+        ensures reach { OnOk result (reach_replay_in self.new
+            ≡ after_status reach_after_batch id status (record_items placed) (reach_replay_in self.old)) }
     {
         match status {
             AtomicGroupStatus::Begin => self.begin(id, placed),
@@ -140,8 +149,10 @@ impl MemTableRecoverContext {
     /// want of memory, the memtables are given up.
     #[tactic(auto, unfolding(crate::specs::Recovery::replay_in, crate::specs::Recovery::reach_replay_in))]
     pub fn replay(&mut self, batch: LogItemBatch, handle: FileBlockHandle) -> Result<(), AllocError>
-        ensures content { OnOk result (replay_in self.new ≡ after_record after_batch (items_in handle (items_of batch.items.items)) (replay_in self.old)) }
-        ensures reach { OnOk result (reach_replay_in self.new ≡ after_record reach_after_batch (items_in handle (items_of batch.items.items)) (reach_replay_in self.old)) }
+        ensures content { OnOk result (replay_in self.new
+            ≡ after_record after_batch (batch_items handle batch) (replay_in self.old)) }
+        ensures reach { OnOk result (reach_replay_in self.new
+            ≡ after_record reach_after_batch (batch_items handle batch) (reach_replay_in self.old)) }
     {
         let mark = mark_in(&batch.items);
         let placed = PlacedBatch { batch, handle };
@@ -164,7 +175,8 @@ impl MemTableRecoverContext {
 /// The memtables of a list of records (own): their content is that of the records, where those of an
 /// atomic group count together or not at all.
 pub fn replay_all(alloc: Global, records: Vec<PlacedBatch>) -> Result<MemTables, AllocError>
-    ensures { IfOk result (λ tables. content_in tables ≡ content_of (items_in_records records.items)) }
+    ensures { IfOk result (λ tables. content_in tables
+        ≡ content_of (items_in_records records.items)) }
 {
     let mut context = MemTableRecoverContext::new(alloc, MemTables::new(alloc));
     for placed in records {

@@ -1,12 +1,18 @@
 //! Batches of changes, which become one record each.
 
-ghost use Rattle.std.specs.Prelude.{◌≡◌, ◌<◌, ◌≤◌, ◌+◌, ◌-◌, ◌*◌, ◌^◌, ◌++◌, ◌∷◌, ◌↔◌, [], length, map, IsTrue, OnOk, OnErr, IfOk};
+ghost use Rattle.std.specs.Prelude.{◌≡◌, ◌<◌, ◌≤◌, ◌+◌, ◌-◌, ◌*◌, ◌^◌, ◌++◌, ◌∷◌, ◌↔◌, []};
+ghost use Rattle.std.specs.Prelude.{length, map, IsTrue, OnOk, OnErr, IfOk};
 ghost use Rattle.std.specs.Prelude.{IfErr, IfSome, IfNone, false, true};
-ghost use Rattle.raft_log_records.specs.Item.{Item, command_change, with_bytes, items_of, item_of, item_map, entry_bytes};
-ghost use Rattle.raft_log_records.specs.Spelling.{holds_entries, IsItem, FitsBytes, spell_item, block_of, block_part, record_len};
+ghost use Rattle.raft_log_records.specs.Item.{Item, command_change, with_bytes, items_of};
+ghost use Rattle.raft_log_records.specs.Item.{item_of, item_map, entry_bytes};
+ghost use Rattle.raft_log_records.specs.Spelling.{holds_entries, IsItem, FitsBytes, spell_item};
+ghost use Rattle.raft_log_records.specs.Spelling.{block_of, block_part, record_len};
 ghost use Rattle.std.specs.List.{list_any};
 ghost use Rattle.raft_log_records.specs.Item.Change.{put, delete, mark};
-ghost use Rattle.raft_log_records.specs.Batch.{nothing_logged, logged, encoded_of, populated, signed_again, Logs, LogsEntries, LogsWritten, LogsRun, FollowOn, index_of_first, run_of, payloads, joined};
+ghost use Rattle.raft_log_records.specs.Batch.{nothing_logged, logged, encoded_of, populated};
+ghost use Rattle.raft_log_records.specs.Batch.{signed_again, Logs, LogsEntries, LogsWritten};
+ghost use Rattle.raft_log_records.specs.Batch.{LogsRun, FollowOn, index_of_first, run_of};
+ghost use Rattle.raft_log_records.specs.Batch.{payloads, joined};
 ghost use Rattle.raft_log_records.specs.Signature.{signature_of};
 
 use crate::command::Command;
