@@ -6,3 +6,4 @@ pub mod MemTables
 pub mod Replay
 pub mod Records
 pub mod Recovery
+pub mod Laws

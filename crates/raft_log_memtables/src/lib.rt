@@ -3,10 +3,12 @@
 #![tactic(auto)]
 
 mod entries;
+mod laws;
 mod memtable;
 mod memtables;
 mod replay;
 
+pub use laws::atomic_groups_count_together;
 pub use memtable::MemTable;
 pub use memtables::MemTables;
 pub use replay::{MemTableRecoverContext, PlacedBatch, replay_all};
