@@ -15,6 +15,4 @@ pub mod Placed
 pub mod RecordAgain
 pub mod Joined
 pub mod Runs
-pub mod Tables
-pub mod Changes
-pub mod Applied
+pub mod Messages

@@ -82,6 +82,34 @@ abbrev pub runs : ℕ → List (ℕ × List ℕ) → List EntryIndex
 runs at [] = []
 runs at (e ∷ es) = place e.0 at (length e.1) ∷ runs (at + length e.1) es
 
+-- What adding an item does whose length shows only once its messages are written: want of memory may come first.
+abbrev pub LogsWritten : Batch → Item (List ℕ) → Batch → Result Unit RecordError → Type 0
+LogsWritten old item new (Ok _) = (new ≡ logged old item) × (record_len (old.items ++ item ∷ []) ≤ 33554432)
+LogsWritten old item new (Err error.Memory) = new ≡ old
+LogsWritten old item new (Err error.TooLong) = (new ≡ old) × (33554432 < record_len (old.items ++ item ∷ []))
+LogsWritten old item new (Err (error.Corruption fault)) = ⊥
+
+-- the same for entries of a group. None change nothing.
+abbrev pub LogsRun : Batch → ℕ → ℕ → List (List ℕ) → Batch → Result Unit RecordError → Type 0
+LogsRun old group first [] new result = (new ≡ old) × (result ≡ Ok tt)
+LogsRun old group first (part ∷ parts) new result = LogsWritten old (run_of group first (part ∷ parts)) new result
+
+-- the indexes of entries follow one another
+abbrev pub FollowOn : {E : Type 0} → (E → ℕ) → ℕ → List E → Type 0
+FollowOn index_of next [] = Unit {0}
+FollowOn index_of next (e ∷ es) = (index_of e ≡ next) × FollowOn index_of (next + 1) es
+
+-- the first one's index
+abbrev pub index_of_first : {E : Type 0} → (E → ℕ) → List E → ℕ
+index_of_first index_of [] = 0
+index_of_first index_of (e ∷ es) = index_of e
+
+-- why entries are not written: want of memory, or more bytes than a record has
+abbrev pub IsWriteRefusal : ℕ → RecordError → Type 0
+IsWriteRefusal len error.Memory = Unit {0}
+IsWriteRefusal len error.TooLong = 33554432 < len
+IsWriteRefusal len (error.Corruption fault) = ⊥
+
 -- ---- how the entries of the program's items lie in the block, one after the other
 
 abbrev pub IsRunLaid : ℕ → List EntryIndex → ℕ → Type 0

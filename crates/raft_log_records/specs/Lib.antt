@@ -5,6 +5,3 @@ pub mod Spelling
 pub mod Reading
 pub mod Batch
 pub mod BatchView
-pub mod Content
-pub mod MemTable
-pub mod MemTables

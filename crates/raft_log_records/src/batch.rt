@@ -1,18 +1,25 @@
 //! Batches of changes, which become one record each.
 
-ghost use Rattle.std.specs.Prelude.{◌≡◌, ◌<◌, ◌≤◌, ◌+◌, ◌-◌, ◌*◌, ◌^◌, ◌++◌, ◌∷◌, ◌↔◌, [], length, IsTrue, OnOk, OnErr, IfOk};
+ghost use Rattle.std.specs.Prelude.{◌≡◌, ◌<◌, ◌≤◌, ◌+◌, ◌-◌, ◌*◌, ◌^◌, ◌++◌, ◌∷◌, ◌↔◌, []};
+ghost use Rattle.std.specs.Prelude.{length, map, IsTrue, OnOk, OnErr, IfOk};
 ghost use Rattle.std.specs.Prelude.{IfErr, IfSome, IfNone, false, true};
-ghost use Rattle.raft_log_records.specs.Item.{Item, command_change, with_bytes, items_of, item_of, item_map, entry_bytes};
-ghost use Rattle.raft_log_records.specs.Spelling.{holds_entries, IsItem, FitsBytes, spell_item, block_of, block_part, record_len};
+ghost use Rattle.raft_log_records.specs.Item.{Item, command_change, with_bytes, items_of};
+ghost use Rattle.raft_log_records.specs.Item.{item_of, item_map, entry_bytes};
+ghost use Rattle.raft_log_records.specs.Spelling.{holds_entries, IsItem, FitsBytes, spell_item};
+ghost use Rattle.raft_log_records.specs.Spelling.{block_of, block_part, record_len};
 ghost use Rattle.std.specs.List.{list_any};
 ghost use Rattle.raft_log_records.specs.Item.Change.{put, delete, mark};
-ghost use Rattle.raft_log_records.specs.Batch.{nothing_logged, logged, encoded_of, populated, signed_again, Logs, LogsEntries, run_of, payloads, joined};
+ghost use Rattle.raft_log_records.specs.Batch.{nothing_logged, logged, encoded_of, populated};
+ghost use Rattle.raft_log_records.specs.Batch.{signed_again, Logs, LogsEntries, LogsWritten};
+ghost use Rattle.raft_log_records.specs.Batch.{LogsRun, FollowOn, index_of_first, run_of};
+ghost use Rattle.raft_log_records.specs.Batch.{payloads, joined};
 ghost use Rattle.raft_log_records.specs.Signature.{signature_of};
 
 use crate::command::Command;
-use crate::entries::{append_all, index_entries, total_len};
+use crate::entries::{append_all, index_entries, total_len, write_all};
 use crate::error::RecordError;
 use crate::item::{AtomicGroupStatus, LogItem, LogItemContent};
+use crate::message::{Message, MessageExt};
 use crate::record::{LogItemBatch, MAX_RECORD_LEN, sign};
 use crate::version::LogFileContext;
 use crate::writing::{sign_again, write_record};
@@ -351,5 +358,83 @@ impl LogBatch {
         self.buf_state = BufState::Open;
         self.encoded.clear();
         Ok(())
+    }
+}
+
+impl LogBatch {
+    /// Adds entries of a group (raft-engine's `add_entries`), whose indexes follow one another. None
+    /// change nothing.
+    pub fn add_entries<M: MessageExt>(
+        &mut self,
+        raft_group_id: u64,
+        entries: &[M::Entry],
+    ) -> Result<(), RecordError>
+        requires in_turn { FollowOn M.index_of (index_of_first M.index_of entries.now) entries.now }
+        requires indexes { index_of_first M.index_of entries.now + length entries.now < 2 ^ 64 }
+        ensures { LogsRun self.old raft_group_id (index_of_first M.index_of entries.now) (map M.Entry.bytes entries.now) self.new result }
+    {
+        match entries {
+            [] => Ok(()),
+            [first, ..] => self.add_messages(raft_group_id, M::index(first), entries),
+        }
+    }
+
+    /// Adds entries with indexes from `first` on.
+    fn add_messages<T: Message>(
+        &mut self,
+        raft_group_id: u64,
+        first: u64,
+        entries: &[T],
+    ) -> Result<(), RecordError>
+        requires some { 0 < length entries.now }
+        requires indexes { first + length entries.now < 2 ^ 64 }
+        ensures { LogsWritten self.old (run_of raft_group_id first (map T.bytes entries.now)) self.new result }
+    {
+        let room = MAX_RECORD_LEN - self.record_len();
+        let checksum_len = self.block_checksum_len();
+        let at = self.entries.len();
+        let alloc = *self.items.allocator();
+        let indexes = match write_all(alloc, first, entries, &mut self.entries) {
+            Ok(indexes) => indexes,
+            Err(e) => {
+                self.entries.truncate(at);
+                return Err(e);
+            }
+        };
+        let run_len = 13 + 12 * entries.len() as u32;
+        if room < run_len + (self.entries.len() - at) as u32 + checksum_len {
+            self.entries.truncate(at);
+            return Err(RecordError::TooLong);
+        }
+        let content = LogItemContent::EntryIndexes(indexes);
+        let item = LogItem {
+            raft_group_id,
+            content,
+        };
+        let Ok(()) = self.items.push(item) else {
+            self.entries.truncate(at);
+            return Err(RecordError::Memory);
+        };
+        self.items_len += run_len;
+        self.holds_entries = true;
+        self.buf_state = BufState::Open;
+        self.encoded.clear();
+        Ok(())
+    }
+
+    /// Sets a key of a group to a message's bytes (raft-engine's `put_message`). The key may not be
+    /// empty.
+    pub fn put_message<S: Message>(
+        &mut self,
+        raft_group_id: u64,
+        key: Vec<u8>,
+        message: &S,
+    ) -> Result<(), RecordError>
+        requires { 0 < length key.items }
+        ensures { LogsWritten self.old (record { group = raft_group_id; change = put key.items (S.bytes message.now) }) self.new result }
+    {
+        let mut value = Vec::new(*self.items.allocator());
+        message.write(&mut value)?;
+        self.put(raft_group_id, key, value)
     }
 }

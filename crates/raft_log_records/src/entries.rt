@@ -1,9 +1,11 @@
 //! Entries on their way into a batch.
 
-ghost use Rattle.std.specs.Prelude.{◌≡◌, ◌≤◌, ◌<◌, ◌+◌, ◌^◌, ◌++◌, length, IfSome, IfNone, IfOk, OnOk, OnErr};
-ghost use Rattle.raft_log_records.specs.Batch.{payloads, joined, numbered, runs};
+ghost use Rattle.std.specs.Prelude.{◌≡◌, ◌≤◌, ◌<◌, ◌+◌, ◌*◌, ◌^◌, ◌++◌, ℕ, List, length, map, IfSome, IfNone, IfOk, IfErr, OnOk, OnErr};
+ghost use Rattle.raft_log_records.specs.Batch.{payloads, joined, numbered, runs, IsWriteRefusal};
 
+use crate::error::RecordError;
 use crate::item::EntryIndex;
+use crate::message::Message;
 use crate::record::MAX_RECORD_LEN;
 use std::alloc::{AllocError, Global};
 
@@ -62,4 +64,39 @@ pub fn append_all(out: &mut Vec<u8>, entries: &[Vec<u8>]) -> Result<(), AllocErr
         };
     }
     Ok(())
+}
+
+/// Writes all entries behind what is there, and answers where they lie. The bytes and the lengths of
+/// the entries are bounded as a record's are.
+pub fn write_all<T: Message>(
+    alloc: Global,
+    first: u64,
+    entries: &[T],
+    out: &mut Vec<u8>,
+) -> Result<Vec<EntryIndex>, RecordError>
+    requires indexes { first + length entries.now < 2 ^ 64 }
+    requires room { length out.old.items ≤ 33554432 }
+    ensures bytes { OnOk result (out.new.items ≡ out.old.items ++ joined (map T.bytes entries.now)) }
+    ensures places { IfOk result (λ v. v.items ≡ runs (length out.old.items) (numbered first (map T.bytes entries.now))) }
+    ensures short { OnOk result (length out.new.items + 12 * length entries.now ≤ 33554432) }
+    ensures stays { OnErr result ((more : List ℕ) × (out.new.items ≡ out.old.items ++ more)) }
+    ensures long { IfErr result (IsWriteRefusal (length out.old.items + 12 * length entries.now + length (joined (map T.bytes entries.now)))) }
+{
+    let mut indexes = Vec::new(alloc);
+    let mut index = first;
+    for entry in entries {
+        let at = out.len();
+        entry.write(out)?;
+        if out.len() + 12 * (indexes.len() + 1) > MAX_RECORD_LEN as usize {
+            return Err(RecordError::TooLong);
+        }
+        indexes.push(EntryIndex {
+            index,
+            entries: None,
+            entry_offset: at as u32,
+            entry_len: (out.len() - at) as u32,
+        })?;
+        index += 1;
+    }
+    Ok(indexes)
 }

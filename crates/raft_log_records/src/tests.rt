@@ -150,48 +150,6 @@ fn an_entry_and_a_put_are_a_record_of_110_bytes(rt: HostRuntime) -> Result<(), F
 }
 
 #[test]
-fn memtables_are_the_fold_of_their_batches(rt: HostRuntime) -> Result<(), Fail> {
-    let alloc = rt.alloc();
-    let handle = FileBlockHandle {
-        id: FileId::new(LogQueue::Append, 3),
-        offset: 8,
-        len: 40,
-    };
-    let mut tables = MemTables::new(alloc);
-    let mut batch = LogBatch::new(alloc);
-    let entry = vec![in alloc; 9u8; 4]?;
-    let other = vec![in alloc; 8u8; 5]?;
-    let entries = vec![in alloc; entry, other]?;
-    batch.add_raw_entries(7, 5, &entries)?;
-    batch.put(
-        7,
-        Vec::from_slice(alloc, b"end")?,
-        Vec::from_slice(alloc, b"old")?,
-    )?;
-    batch.put(
-        7,
-        Vec::from_slice(alloc, b"end")?,
-        Vec::from_slice(alloc, b"new")?,
-    )?;
-    tables.apply(batch.drain(), handle)?;
-    assert_eq!(rt; tables.get(7, b"end"), Some(b"new".as_slice()));
-    let six = tables.get_entry(7, 6).ok_or("entry 6")?;
-    assert_eq!(rt; six.entry_offset, 4);
-    assert_eq!(rt; six.entry_len, 5);
-    assert_eq!(rt; six.entries, Some(handle));
-    batch.add_command(7, Command::Compact { index: 6 })?;
-    batch.delete(7, Vec::from_slice(alloc, b"end")?)?;
-    tables.apply(batch.drain(), handle)?;
-    assert!(rt; tables.get_entry(7, 5).is_none());
-    assert!(rt; tables.get(7, b"end").is_none());
-    assert!(rt; tables.has_group(7));
-    batch.add_command(7, Command::Clean)?;
-    tables.apply(batch.drain(), handle)?;
-    assert!(rt; !tables.has_group(7));
-    Ok(())
-}
-
-#[test]
 fn a_mark_is_a_record_of_34_bytes(rt: HostRuntime) -> Result<(), Fail> {
     let mut batch = LogBatch::new(rt.alloc());
     AtomicGroupBuilder::with_id(1).begin(&mut batch)?;

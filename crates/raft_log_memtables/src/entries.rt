@@ -1,0 +1,137 @@
+//! The entries of a group by their indexes.
+
+ghost use Rattle.std.specs.Prelude.{◌≡◌, ◌≤◌, ◌<◌, ◌-◌, ◌∷◌, ℕ, length, drop, None, nat_le};
+ghost use Rattle.std.specs.Prelude.{nat_lt, if◌then◌else◌, OnOk};
+ghost use Rattle.std.specs.Bool.{OnTrue, OnFalse};
+ghost use Rattle.std.specs.BTreeMap.{btree_map_len};
+ghost use Rattle.raft_log_records.specs.Item.{change_map};
+ghost use Rattle.raft_log_records.specs.Reading.{indexed};
+ghost use Rattle.raft_log_memtables.specs.Content.{entry_at, reach_of};
+ghost use Rattle.raft_log_memtables.specs.Entries.{entry_of, placed_in, placed_pairs, IsFirst};
+ghost use Rattle.raft_log_memtables.specs.Entries.{IsLast, HasFrom, NoneFrom, HasBefore};
+ghost use Rattle.raft_log_memtables.specs.Entries.{NoneBefore, or_else};
+
+use raft_log_records::{EntryIndex, FileBlockHandle};
+use std::alloc::AllocError;
+use std::collections::BTreeMap;
+
+/// Entries by their indexes.
+pub type EntryMap = BTreeMap<u64, EntryIndex>;
+
+/// The least index.
+pub fn first_of(entries: &EntryMap) -> Option<u64>
+    ensures { IsFirst (entry_of entries.now) result }
+{
+    match entries.first_key_value() {
+        Some((index, _)) => Some(*index),
+        None => None,
+    }
+}
+
+/// The greatest index.
+pub fn last_of(entries: &EntryMap) -> Option<u64>
+    ensures { IsLast (entry_of entries.now) result }
+{
+    match entries.last_key_value() {
+        Some((index, _)) => Some(*index),
+        None => None,
+    }
+}
+
+/// Whether an entry is there from an index on.
+fn has_from(entries: &EntryMap, first: u64) -> bool
+    ensures yes { OnTrue result (HasFrom (entry_of entries.now) first) }
+    ensures no { OnFalse result (NoneFrom (entry_of entries.now) first) }
+{
+    match last_of(entries) {
+        Some(last) => first <= last,
+        None => false,
+    }
+}
+
+/// Whether an entry is there before an index.
+fn has_before(entries: &EntryMap, limit: u64) -> bool
+    ensures yes { OnTrue result (HasBefore (entry_of entries.now) limit) }
+    ensures no { OnFalse result (NoneBefore (entry_of entries.now) limit) }
+{
+    match first_of(entries) {
+        Some(first) => first < limit,
+        None => false,
+    }
+}
+
+/// Removes the entries from an index on.
+pub fn cut_from(entries: &mut EntryMap, first: u64)
+    ensures { (i : ℕ) → entry_of entries.new i
+        ≡ (if nat_le first i then None else entry_of entries.old i) }
+{
+    while has_from(entries, first) {
+        entries.pop_last();
+    }
+}
+
+/// Removes the entries before an index.
+pub fn cut_before(entries: &mut EntryMap, limit: u64)
+    ensures { (i : ℕ) → entry_of entries.new i
+        ≡ (if nat_lt i limit then None else entry_of entries.old i) }
+{
+    while has_before(entries, limit) {
+        entries.pop_first();
+    }
+}
+
+fn place_in(handle: FileBlockHandle, entry: EntryIndex) -> EntryIndex
+    ensures { result ≡ placed_in handle entry }
+{
+    EntryIndex {
+        index: entry.index,
+        entries: Some(handle),
+        entry_offset: entry.entry_offset,
+        entry_len: entry.entry_len,
+    }
+}
+
+/// The entry before a place in a list.
+fn entry_before(entries: &[EntryIndex], at: usize) -> EntryIndex
+    requires some { 0 < at }
+    requires within { at ≤ length entries.now }
+    ensures { drop (at - 1) entries.now ≡ result ∷ drop at entries.now }
+{
+    entries[at - 1]
+}
+
+/// Adds the entries from an index on, which now lie in a block. Where one index comes twice, the
+/// first counts.
+pub fn add_placed(
+    entries: &mut EntryMap,
+    first: u64,
+    handle: FileBlockHandle,
+    more: &[EntryIndex],
+) -> Result<(), AllocError>
+    ensures { OnOk result ((i : ℕ) → entry_of entries.new i ≡ (if nat_le first i
+        then or_else (entry_at (placed_pairs handle more.now) i) (entry_of entries.old i) else entry_of entries.old i)) }
+{
+    let mut at = more.len();
+    while at > 0 {
+        let entry = entry_before(more, at);
+        at -= 1;
+        if first <= entry.index {
+            entries.insert(entry.index, place_in(handle, entry))?;
+        }
+    }
+    Ok(())
+}
+
+/// The greatest index that entries ever had, with these.
+pub fn reach(before: Option<u64>, more: &[EntryIndex]) -> Option<u64>
+    ensures { result ≡ reach_of (indexed more.now) before }
+{
+    let mut reached = before;
+    for entry in more {
+        reached = match reached {
+            Some(most) if entry.index <= most => Some(most),
+            _ => Some(entry.index),
+        };
+    }
+    reached
+}

@@ -1,0 +1,14 @@
+//! Memtables: what the log engine has of each group, with the places of its entries, and how the
+//! records of log files are replayed into them.
+#![tactic(auto)]
+
+mod entries;
+mod laws;
+mod memtable;
+mod memtables;
+mod replay;
+
+pub use laws::atomic_groups_count_together;
+pub use memtable::MemTable;
+pub use memtables::MemTables;
+pub use replay::{MemTableRecoverContext, PlacedBatch, replay_all};

@@ -1,0 +1,185 @@
+//! What the log engine has of every group.
+
+ghost use Rattle.std.specs.Prelude.{◌≡◌, ℕ, Option, Some, None, IsSome, false, nat_eq};
+ghost use Rattle.std.specs.Prelude.{if◌then◌else◌, OnOk, MatchOption};
+ghost use Rattle.std.specs.Option.{option_copied};
+ghost use Rattle.std.specs.BTreeMap.{get};
+ghost use Rattle.std.specs.Ordering.{nat_cmp};
+ghost use Rattle.raft_log_records.specs.Item.{change_of, item_of, item_map};
+ghost use Rattle.raft_log_memtables.specs.Content.{nothing, no_group, after_change, after_item};
+ghost use Rattle.raft_log_memtables.specs.Content.{after_batch, reach_after, reach_after_item};
+ghost use Rattle.raft_log_memtables.specs.Content.{reach_after_batch, takes_from};
+ghost use Rattle.raft_log_memtables.specs.Entries.{IsFirst, IsLast, placed_in};
+ghost use Rattle.raft_log_memtables.specs.MemTable.{group_in, batch_items, placed_change};
+ghost use Rattle.raft_log_memtables.specs.MemTable.{is_clean_of, is_mark_of};
+ghost use Rattle.raft_log_memtables.specs.Tables.{table_at, reach_at, IsMade, IsChanged};
+ghost use Rattle.raft_log_memtables.specs.MemTables.{content_in, reach_in};
+
+use crate::memtable::MemTable;
+use raft_log_records::{
+    Command, EntryIndex, FileBlockHandle, LogItem, LogItemBatch, LogItemContent,
+};
+use std::alloc::{AllocError, Global};
+use std::collections::BTreeMap;
+
+/// The memtables of all groups.
+type TableMap = BTreeMap<u64, MemTable>;
+
+fn is_mark(content: &LogItemContent) -> bool
+    ensures { result ≡ is_mark_of (change_of content.now) }
+{
+    matches!(content, LogItemContent::AtomicGroup { .. })
+}
+
+fn is_clean(content: &LogItemContent) -> bool
+    ensures { result ≡ is_clean_of (change_of content.now) }
+{
+    matches!(content, LogItemContent::Command(Command::Clean))
+}
+
+/// Makes a memtable for a group that has none.
+fn make_table(alloc: Global, tables: &mut TableMap, raft_group_id: u64) -> Result<(), AllocError>
+    ensures { OnOk result (IsMade tables.old raft_group_id tables.new) }
+{
+    if !tables.contains_key(&raft_group_id) {
+        tables.insert(raft_group_id, MemTable::new(alloc))?;
+    }
+    Ok(())
+}
+
+/// Does what an item says to the memtable of its group.
+fn change_table(
+    tables: &mut TableMap,
+    raft_group_id: u64,
+    content: LogItemContent,
+    handle: FileBlockHandle,
+) -> Result<(), AllocError>
+    requires not_clean { is_clean_of (change_of content) ≡ false }
+    requires there { IsSome (get nat_cmp tables.old raft_group_id) }
+    ensures { OnOk result (IsChanged tables.old raft_group_id (placed_change handle (change_of content)) tables.new) }
+{
+    if let Some(table) = tables.get_mut(&raft_group_id) {
+        table.change(content, handle)?;
+    }
+    Ok(())
+}
+
+/// Does what an item says.
+fn apply_item(
+    alloc: Global,
+    tables: &mut TableMap,
+    item: LogItem,
+    handle: FileBlockHandle,
+) -> Result<(), AllocError>
+    ensures content { OnOk result (table_at tables.new
+        ≡ after_item (item_map (placed_in handle) (item_of item)) (table_at tables.old)) }
+    ensures reach { OnOk result (reach_at tables.new
+        ≡ reach_after_item (item_map (placed_in handle) (item_of item)) (reach_at tables.old)) }
+{
+    let LogItem {
+        raft_group_id,
+        content,
+    } = item;
+    if is_mark(&content) {
+        return Ok(());
+    }
+    if is_clean(&content) {
+        tables.remove(&raft_group_id);
+        return Ok(());
+    }
+    make_table(alloc, tables, raft_group_id)?;
+    change_table(tables, raft_group_id, content, handle)
+}
+
+/// What the log engine has of every group (raft-engine's `MemTables`). A group is there from any
+/// item but a `Clean` or an atomic mark until its next `Clean`.
+#[derive(Drop)]
+pub struct MemTables {
+    tables: TableMap,
+    alloc: Global,
+}
+
+impl MemTables {
+    #[tactic(auto, unfolding(crate::specs::MemTables::content_in, crate::specs::MemTables::reach_in))]
+    pub fn new(alloc: Global) -> MemTables
+        ensures content { content_in result ≡ nothing }
+        ensures reach { (group : ℕ) → reach_in result group ≡ None }
+    {
+        MemTables {
+            tables: BTreeMap::new(alloc),
+            alloc,
+        }
+    }
+
+    /// Does what the items of a batch say, whose entries lie in the block of this handle (own).
+    /// After an `Err`, for want of memory, the tables are given up.
+    #[tactic(auto, unfolding(crate::specs::MemTables::content_in, crate::specs::MemTables::reach_in))]
+    pub fn apply(&mut self, batch: LogItemBatch, handle: FileBlockHandle) -> Result<(), AllocError>
+        ensures content { OnOk result (content_in self.new
+            ≡ after_batch (batch_items handle batch) (content_in self.old)) }
+        ensures reach { OnOk result (reach_in self.new
+            ≡ reach_after_batch (batch_items handle batch) (reach_in self.old)) }
+    {
+        for item in batch.items {
+            apply_item(self.alloc, &mut self.tables, item, handle)?;
+        }
+        Ok(())
+    }
+
+    /// The memtable of a group, if the group is there.
+    #[tactic(auto, unfolding(crate::specs::MemTables::content_in, crate::specs::MemTable::group_in))]
+    pub fn get_table(&self, raft_group_id: u64) -> Option<&MemTable>
+        ensures { MatchOption result (content_in self.now raft_group_id ≡ no_group)
+            (λ t. content_in self.now raft_group_id ≡ group_in t.now) }
+    {
+        self.tables.get(&raft_group_id)
+    }
+
+    /// Whether a group is there, with or without entries and keys.
+    #[tactic(auto, unfolding(crate::specs::MemTables::content_in))]
+    pub fn has_group(&self, raft_group_id: u64) -> bool
+        ensures { result ≡ (content_in self.now raft_group_id).there }
+    {
+        self.tables.contains_key(&raft_group_id)
+    }
+
+    /// Where the entry of a group with this index lies, if it is there.
+    pub fn get_entry(&self, raft_group_id: u64, index: u64) -> Option<EntryIndex>
+        ensures { result ≡ (content_in self.now raft_group_id).entry index }
+    {
+        match self.get_table(raft_group_id) {
+            None => None,
+            Some(table) => table.get_entry(index),
+        }
+    }
+
+    /// The value of a key of a group, if it is there.
+    pub fn get(&self, raft_group_id: u64, key: &[u8]) -> Option<&[u8]>
+        ensures { option_copied result ≡ (content_in self.now raft_group_id).value key.now }
+    {
+        match self.get_table(raft_group_id) {
+            None => None,
+            Some(table) => table.get(key),
+        }
+    }
+
+    /// The index of a group's first entry, if it has one.
+    pub fn first_index(&self, raft_group_id: u64) -> Option<u64>
+        ensures { IsFirst (content_in self.now raft_group_id).entry result }
+    {
+        match self.get_table(raft_group_id) {
+            None => None,
+            Some(table) => table.first_index(),
+        }
+    }
+
+    /// The index of a group's last entry, if it has one.
+    pub fn last_index(&self, raft_group_id: u64) -> Option<u64>
+        ensures { IsLast (content_in self.now raft_group_id).entry result }
+    {
+        match self.get_table(raft_group_id) {
+            None => None,
+            Some(table) => table.last_index(),
+        }
+    }
+}

@@ -1,0 +1,37 @@
+//! Messages: what entries and values are written as.
+
+ghost use Rattle.std.specs.Prelude.{◌≡◌, ◌++◌, ℕ, List, OnOk, OnErr, IfOk, IfSome, IsSome};
+
+use std::alloc::{AllocError, Global};
+
+/// A value that is written as bytes and read back (raft-engine's `Message`). Messages with the same
+/// bytes are the same message.
+pub trait Message {
+    /// The bytes that a message is written as.
+    ghost bytes: { Self → List ℕ };
+
+    /// Puts the message's bytes behind what is there. After an `Err`, for want of memory, other bytes
+    /// may stand behind what was there.
+    fn write(&self, out: &mut Vec<u8>) -> Result<(), AllocError>
+        ensures ok { OnOk result (out.new.items ≡ out.old.items ++ bytes self.now) }
+        ensures err { OnErr result ((more : List ℕ) × (out.new.items ≡ out.old.items ++ more)) };
+
+    /// Reads the message that is written as these bytes, or none where they are no message's.
+    fn parse(alloc: Global, text: &[u8]) -> Result<Option<Self>, AllocError>
+    where
+        Self: Sized,
+        ensures found { IfOk result (λ o. IfSome o (λ m. bytes m ≡ text.now)) }
+        ensures only { (m : Self) → bytes m ≡ text.now → IfOk result IsSome };
+}
+
+/// Entries with indexes (raft-engine's `MessageExt`).
+pub trait MessageExt {
+    type Entry: Message;
+
+    /// An entry's index.
+    ghost index_of: { Self.Entry → ℕ };
+
+    /// An entry's index.
+    fn index(entry: &Self::Entry) -> u64
+        ensures { result ≡ index_of entry.now };
+}
