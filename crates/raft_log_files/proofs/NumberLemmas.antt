@@ -1,5 +1,5 @@
 -- Sizes and the texts that say them.
-use Rattle.std.proofs.Common.{◌≡◌, ℕ, suc, ◌+◌, ◌-◌, ◌*◌, ◌^◌, ◌<◌, ◌≤◌, Bool, true, false, cond, eqb, nat_lt, List, [], ◌∷◌, ◌++◌, length, take, drop, fold, Option, Some, None, get_or, refl, sym, ap, ◌∙◌, rules, arith}
+use Rattle.std.proofs.Common.{◌≡◌, ℕ, suc, ◌+◌, ◌-◌, ◌*◌, ◌^◌, ◌<◌, ◌≤◌, Bool, true, false, cond, eqb, nat_lt, List, [], ◌∷◌, ◌++◌, length, take, drop, fold, Some, None, get_or, refl, sym, ap, ◌∙◌, rules, arith}
 use Rattle.std.proofs.lemmas.Bool.{and_parts, ne_eqb, lt-ltb, le-ltb}
 use Rattle.std.proofs.lemmas.Bool.Decides.{nat_tests}
 use Rattle.std.proofs.lemmas.Fmt.{digits_decimal, digits_value-decimal, decimal_nonempty}
@@ -13,7 +13,7 @@ use Rattle.std.specs.List.{list_all, prefix_len}
 use Rattle.raft_log_records.specs.declared.size.ReadableSize.{ReadableSize}
 use Rattle.raft_log_disk.specs.Name.{is_digit, value_of}
 use Rattle.raft_log_files.proofs.DigitLemmas.{value_of-take-le}
-use Rattle.raft_log_files.specs.Size.{size_below_end, letter_bytes, sized, size_said, size_text, unit_bytes, after_spaces}
+use Rattle.raft_log_files.specs.Size.{size_below_end, sized, size_said, size_text, unit_bytes, after_spaces}
 
 take-one-more : (n x : ℕ) (xs : List ℕ) → take (1 + n) (x ∷ xs) ≡ x ∷ take n xs
 take-one-more n x xs = let e : 1 + n ≡ suc n = omega arith in rw e

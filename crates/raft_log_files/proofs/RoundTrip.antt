@@ -1,5 +1,5 @@
 -- Settings that were written are given.
-use Rattle.std.proofs.Common.{◌≡◌, ℕ, pos, List, [], ◌∷◌, Option, Some, None, option_map, codes, refl, sym, ap, ◌∙◌, subst}
+use Rattle.std.proofs.Common.{◌≡◌, List, [], ◌∷◌, Option, Some, None, option_map, codes, refl, sym, ap, ◌∙◌, subst}
 use Rattle.std.specs.Option.{option_or, option_map_or}
 use Rattle.toml.specs.Data.{Data, Members, string, boolean, get_member, as_str, as_bool, depth, members_depth}
 use Rattle.raft_log_records.specs.declared.size.ReadableSize.{ReadableSize}

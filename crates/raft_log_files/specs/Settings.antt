@@ -1,5 +1,5 @@
 -- Settings of the log engine as plain values, and what the engine computes from them.
-use Rattle.std.specs.Prelude.{ℕ, ◌+◌, ◌*◌, ◌/◌, ◌-◌, ◌^◌, max, min, Bool, true, false, ◌&&◌, ◌||◌, not, nat_lt, List, [], Option, Some, None, option_map, unwrap_or, string_bytes}
+use Rattle.std.specs.Prelude.{ℕ, ◌*◌, ◌/◌, ◌-◌, ◌^◌, max, min, Bool, true, false, ◌&&◌, not, nat_lt, [], Option, Some, None, option_map, unwrap_or, string_bytes}
 use Rattle.std.specs.Prelude.{◌==◌, if◌then◌else◌}
 use Rattle.raft_log_records.specs.declared.size.ReadableSize.{ReadableSize}
 use Rattle.raft_log_records.specs.declared.version.Version.{Version}

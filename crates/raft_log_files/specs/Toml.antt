@@ -1,8 +1,8 @@
 -- Settings as TOML: what each key of a table says.
-use Rattle.std.specs.Prelude.{◌≡◌, ℕ, ◌^◌, ◌<◌, ℤ, pos, negsuc, Bool, ◌||◌, List, [], ◌∷◌, Option, Some, None, option_map, option_and_then, codes}
+use Rattle.std.specs.Prelude.{◌≡◌, ℕ, ◌^◌, ◌<◌, ℤ, pos, negsuc, [], Option, Some, None, option_map, option_and_then, codes}
 use Rattle.std.specs.Prelude.{◌==◌, if◌then◌else◌}
 use Rattle.std.specs.Option.{option_or, option_map_or}
-use Rattle.toml.specs.Data.{Data, string, integer, boolean, Members, get_member, same_key, as_str, as_integer, as_bool, depth, members_depth}
+use Rattle.toml.specs.Data.{Data, string, integer, Members, get_member, same_key, as_str, as_integer, as_bool, depth, members_depth}
 use Rattle.toml.specs.Parse.{parse_document}
 use Rattle.raft_log_records.specs.declared.size.ReadableSize.{ReadableSize}
 use Rattle.raft_log_records.specs.declared.version.Version.{Version}

@@ -1,4 +1,4 @@
-use Rattle.std.proofs.Common.{◌≡◌, ℕ, Bool, true, false, not, List, take, drop, length, Some, refl, sym, ap, ◌∙◌, arith}
+use Rattle.std.proofs.Common.{◌≡◌, Bool, true, false, not, take, drop, length, Some, refl, sym, ap, ◌∙◌, arith}
 use lib.Pointwise.{bytes_decides}
 use Rattle.std.specs.List.{list_all}
 use Rattle.raft_log_disk.specs.Name.{is_digit, value_of}

@@ -1,4 +1,4 @@
-use Rattle.std.proofs.Common.{◌≡◌, ◌<◌, ◌*◌, ◌+◌, ◌^◌, ◌∙◌, arith}
+use Rattle.std.proofs.Common.{◌<◌, ◌*◌, ◌+◌, ◌^◌, ◌∙◌, arith}
 use Rattle.raft_log_files.proofs.NumberLemmas.{too_large, whole_value}
 use Rattle.raft_log_files.proofs.number.digits_value.Goals as goal
 

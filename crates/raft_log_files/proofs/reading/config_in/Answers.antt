@@ -1,4 +1,4 @@
-use Rattle.std.proofs.Common.{◌≡◌, Option, Some, None, Ok, Err, ok_or}
+use Rattle.std.proofs.Common.{◌≡◌, Option, Some, None, Ok, ok_or}
 use Rattle.raft_log_files.specs.declared.error.Error.{Error}
 use Rattle.raft_log_files.proofs.reading.config_in.Goals as goal
 

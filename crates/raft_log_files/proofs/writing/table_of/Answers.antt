@@ -1,5 +1,5 @@
-use Rattle.std.proofs.Common.{ℕ, List, Some, None, refl, ap, ◌∙◌}
-use Rattle.toml.specs.Data.{Data, Members, string, get_member, members_depth}
+use Rattle.std.proofs.Common.{ℕ, List, Some, refl, ap, ◌∙◌}
+use Rattle.toml.specs.Data.{string, get_member, members_depth}
 use Rattle.toml.specs.View.{table_view, members_view}
 use Rattle.raft_log_files.specs.Settings.{settings_of}
 use Rattle.raft_log_files.specs.Toml.{number_data}
