@@ -1,0 +1,4 @@
+pub mod DigitLemmas
+pub mod NumberLemmas
+pub mod TableLemmas
+pub mod RoundTrip

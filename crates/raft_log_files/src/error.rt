@@ -1,0 +1,123 @@
+//! Why a call of the log engine is refused.
+
+ghost use Rattle.std.specs.Prelude.{◌≡◌};
+ghost use Rattle.raft_log_files.specs.Error.{io_error, number_of};
+ghost use Rattle.raft_log_files.specs.declared.error.Error.TheVariants.{Memory};
+
+use raft_log_disk::{HeaderFault, IoFault};
+use raft_log_records::RecordFault;
+use std::alloc::{AllocError, AllocFailed};
+
+/// What is wrong with the bytes of a log file.
+#[derive(Clone, Copy, Debug, PartialEq, Eq, thiserror::Error)]
+pub enum CorruptionFault {
+    #[error("no header of a log file: {0:?}")]
+    Header(HeaderFault),
+    #[error("no record: {0:?}")]
+    Record(RecordFault),
+}
+
+/// What is wrong with an argument.
+#[derive(Clone, Copy, Debug, PartialEq, Eq, thiserror::Error)]
+pub enum ArgumentFault {
+    #[error("the settings are not TOML")]
+    NotToml,
+    #[error("a setting has a value that it cannot have")]
+    BadSetting,
+    #[error("a setting is too large for TOML")]
+    TooLargeForToml,
+}
+
+/// Why settings, or a call under them, are refused.
+#[derive(Clone, Copy, Debug, PartialEq, Eq, thiserror::Error)]
+pub enum OtherFault {
+    #[error("purge-threshold < target-file-size")]
+    PurgeBelowTarget,
+    #[error("format version 1 doesn't support log recycle, use 2 or above")]
+    RecycleUnderVersion1,
+    #[error("prefill is not allowed when log recycle is disabled")]
+    PrefillWithoutRecycle,
+    #[error("target-file-size is 0")]
+    NoTargetSize,
+}
+
+/// Why a call of the log engine is refused (raft-engine's `Error`).
+#[derive(Clone, Copy, Debug, PartialEq, Eq, thiserror::Error)]
+pub enum Error {
+    /// A call on files was refused.
+    #[error("I/O error: {0}")]
+    Io(IoFault),
+    /// Bytes of a log file are none that were written there.
+    #[error("corruption: {0}")]
+    Corruption(CorruptionFault),
+    #[error("invalid argument: {0}")]
+    InvalidArgument(ArgumentFault),
+    /// Two appends of one call found no space.
+    #[error("no space left: try again later")]
+    TryAgain,
+    #[error("out of memory")]
+    Memory,
+    #[error("{0}")]
+    Other(OtherFault),
+    /// The entry was removed by a compaction.
+    #[error("the entry was compacted")]
+    EntryCompacted,
+    #[error("there is no such entry")]
+    EntryNotFound,
+}
+
+impl Error {
+    /// The number that each kind of refusal has in scripts and logs, from 1 to 8.
+    pub fn number(&self) -> u8
+        ensures { result ≡ number_of self.now }
+    {
+        match self {
+            Error::Io(_) => 1,
+            Error::Corruption(_) => 2,
+            Error::InvalidArgument(_) => 3,
+            Error::TryAgain => 4,
+            Error::Memory => 5,
+            Error::Other(_) => 6,
+            Error::EntryCompacted => 7,
+            Error::EntryNotFound => 8,
+        }
+    }
+}
+
+impl From<AllocError> for Error {
+    ghost from_gives = { λ _ e. e ≡ Memory };
+
+    fn from(_e: AllocError) -> Error {
+        Error::Memory
+    }
+}
+
+impl<T: Drop> From<AllocFailed<T>> for Error {
+    ghost from_gives = { λ _ e. e ≡ Memory };
+
+    fn from(_e: AllocFailed<T>) -> Error {
+        Error::Memory
+    }
+}
+
+impl From<IoFault> for Error {
+    ghost from_gives = { λ fault e. e ≡ io_error fault };
+
+    fn from(fault: IoFault) -> Error {
+        match fault {
+            IoFault::Memory => Error::Memory,
+            fault => Error::Io(fault),
+        }
+    }
+}
+
+impl From<HeaderFault> for Error {
+    ghost use Rattle.raft_log_files.specs.declared.error.Error.TheVariants.{Corruption};
+    ghost use Rattle.raft_log_files.specs.declared.error.CorruptionFault.TheVariants.{Header};
+
+    ghost from_gives = { λ fault e. e ≡ Corruption (Header fault) };
+
+    fn from(fault: HeaderFault) -> Error {
+        Error::Corruption(CorruptionFault::Header(fault))
+    }
+}
