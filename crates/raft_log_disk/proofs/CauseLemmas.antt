@@ -1,26 +1,26 @@
 -- Why a call was refused.
-use Rattle.std.proofs.Common.{◌≡◌, ℕ, ◌+◌, ◌-◌, ◌^◌, ◌≤◌, min, Option, Some, None, refl, sym, ap, subst, ◌∙◌, arith}
+use Rattle.std.proofs.Common.{◌≡◌, ℕ, ◌+◌, ◌-◌, ◌^◌, ◌≤◌, min, true, false, Option, Some, None, refl, sym, ap, subst, ◌∙◌, arith}
 use Rattle.std.specs.Prelude.{Result, Ok, Err, OnErr, IsErrOf}
 use Rattle.raft_log_disk.specs.declared.fault.IoFault.{IoFault}
 use Rattle.raft_log_disk.specs.declared.fault.IoFault.TheVariants.{NotFound, NoSpace, Refused, Memory}
-use Rattle.raft_log_disk.specs.Cause.{Meter, HasCause, HasReadCause}
+use Rattle.raft_log_disk.specs.Cause.{Meter, HasCause, HasReadCause, counted}
 
--- two calls, the second of which finds what it names
-pub second_cause : {S T : Type 0} (absent gone : Type 0) (before between after : Meter) (first : Result S IoFault) (second : Result T IoFault)
-    → HasCause absent ⊥ before between first → HasCause gone ⊥ between after second → (gone → ⊥) → HasCause absent ⊥ before after second
+-- two calls, the first one taken; the second finds what it names
+pub second_cause : {S T : Type 0} (absent gone : Type 0) (before between after : Meter) (first : S) (second : Result T IoFault)
+    → HasCause absent ⊥ before between (Ok first) → HasCause gone ⊥ between after second → (gone → ⊥) → HasCause absent ⊥ before after second
 second_cause absent gone before between after first second a b there = record {
-  later = omega (arith, a.later, b.later);
-  refused = λ e. let h : min (between.refusals + 1) (2 ^ 64 - 1) ≤ after.refusals = b.refused e in omega (arith, h, a.later);
+  refused = b.refused ∙ ap (counted second) a.refused;
+  missing = λ e. let h : false ≡ true = a.missing e in absurd cc;
   not_found = λ e. absurd (there (b.not_found e));
   no_space = b.no_space;
   reads = b.reads ∙ a.reads;
 }
 
 -- room was missing
-pub cramped_cause : {T : Type 0} (absent cramped : Type 0) (old new : Meter) → old.refusals ≤ new.refusals → new.unreadable ≡ old.unreadable → cramped → HasCause {T = T} absent cramped old new (Err NoSpace)
-cramped_cause absent cramped old new later reads lacks = record {
-  later = later;
-  refused = λ e. absurd cc;
+pub cramped_cause : {T : Type 0} (absent cramped : Type 0) (old new : Meter) → new.refusals ≡ old.refusals → new.unreadable ≡ old.unreadable → cramped → HasCause {T = T} absent cramped old new (Err NoSpace)
+cramped_cause absent cramped old new same reads lacks = record {
+  refused = same;
+  missing = λ e. refl;
   not_found = λ e. absurd cc;
   no_space = λ e. lacks;
   reads = reads;
@@ -28,4 +28,31 @@ cramped_cause absent cramped old new later reads lacks = record {
 
 -- a path's reads are refused
 pub unreadable_cause : {T : Type 0} (absent unreadable : Type 0) → unreadable → HasReadCause {T = T} absent unreadable (Err Refused)
-unreadable_cause absent unreadable there = record { refused = λ e. there; not_found = λ e. absurd cc; no_space = λ e. absurd cc }
+unreadable_cause absent unreadable there = record { missing = λ e. refl; unread = λ e. refl; refused = λ e. there; not_found = λ e. absurd cc; no_space = λ e. absurd cc }
+
+-- a call that was taken
+pub taken_cause : {T : Type 0} (absent cramped : Type 0) (old new : Meter) (x : T) → new.refusals ≡ old.refusals → new.unreadable ≡ old.unreadable → (absent → ⊥) → HasCause absent cramped old new (Ok x)
+taken_cause absent cramped old new x same reads there = record {
+  refused = same;
+  missing = λ e. absurd (there e);
+  not_found = λ e. absurd cc;
+  no_space = λ e. absurd cc;
+  reads = reads;
+}
+
+-- a read that was answered
+pub read_cause : {T : Type 0} (absent unreadable : Type 0) (x : T) → (absent → ⊥) → (unreadable → ⊥) → HasReadCause absent unreadable (Ok x)
+read_cause absent unreadable x there read = record { missing = λ e. absurd (there e); unread = λ e. absurd (read e); refused = λ e. absurd cc; not_found = λ e. absurd cc; no_space = λ e. absurd cc }
+
+-- of a number that no file has
+pub absent_cause : {T : Type 0} (absent unreadable : Type 0) → absent → (unreadable → ⊥) → HasReadCause {T = T} absent unreadable (Err NotFound)
+absent_cause absent unreadable gone read = record { missing = λ e. refl; unread = λ e. absurd (read e); refused = λ e. absurd cc; not_found = λ e. gone; no_space = λ e. absurd cc }
+
+-- memory was missing
+pub memory_cause : {T : Type 0} (absent unreadable : Type 0) (r : Result T IoFault) → r ≡ Err Memory → (unreadable → ⊥) → HasReadCause absent unreadable r
+memory_cause absent unreadable r is read = subst (HasReadCause absent unreadable) (sym is) (record { missing = λ e. refl; unread = λ e. absurd (read e); refused = λ e. absurd cc; not_found = λ e. absurd cc; no_space = λ e. absurd cc })
+
+-- what holds anyway, of an error
+pub at_err : {S E : Type 0} (r : Result S E) (P : Type 0) → P → OnErr r P
+at_err (Ok x) P p = tt
+at_err (Err e) P p = p

@@ -1,15 +1,15 @@
 -- Many files: where one is found, and what a change of it makes of all.
-use Rattle.std.proofs.Common.{◌≡◌, ◌≢◌, ◌⊎◌, inl, inr, ℕ, zero, suc, ◌+◌, ◌<◌, ◌≤◌, Bool, true, false, cond, eqb, List, [], ◌∷◌, ◌++◌, length, get_or, take, drop, Option, Some, None, refl, sym, ap, subst, ◌∙◌, arith, append_assoc}
+use Rattle.std.proofs.Common.{◌≡◌, ◌≢◌, ◌⊎◌, inl, inr, ℕ, zero, suc, ◌+◌, ◌-◌, ◌<◌, ◌≤◌, Bool, true, false, cond, eqb, List, [], ◌∷◌, ◌++◌, length, get_or, take, drop, Option, Some, None, refl, sym, ap, subst, ◌∙◌, arith, append_assoc}
 use Rattle.std.specs.declared.alloc.Global.{Global}
-use Rattle.std.specs.Prelude.{String, MatchOption, option_to_list, map, slice_set, ◌||◌, ◌==◌, remove}
+use Rattle.std.specs.Prelude.{String, MatchOption, option_to_list, map, slice_set, ◌||◌, ◌==◌, remove, replicate}
 use Rattle.std.specs.String.{string_bytes}
 use Rattle.std.proofs.lemmas.Bool.{eq-eqb, ne_eqb, eqb-true, eqb-false}
 use Rattle.raft_log_disk.specs.declared.memory_file.MemoryFile.{MemoryFile}
 use Rattle.raft_log_disk.specs.Text.{Text, same_text}
-use Rattle.raft_log_disk.specs.Disk.{FileState, Disk, IsIn, after_create, listed, HasOneOf, are_named, fd_of, without, moved, no_bytes, with_file}
+use Rattle.raft_log_disk.specs.Disk.{FileState, Disk, IsIn, IsNoFile, after_create, listed, HasOneOf, are_named, fd_of, without, moved, no_bytes, with_file, after_write, after_allocate, after_truncate, Torn, PartlyTruncated, RefusedWrite, RefusedAllocate, RefusedTruncate}
 use Rattle.raft_log_disk.specs.Memory.{state_of, names_of, texts_of, file_of, disk_of, place_of, place_of_path}
 use Rattle.raft_log_disk.specs.Place.{IsPlace, IsPathPlace}
-use Rattle.raft_log_disk.proofs.NamedLemmas.{IsNamedFirst, named_first, named_push, named_without, named_moved, next_free, has_number}
+use Rattle.raft_log_disk.proofs.NamedLemmas.{IsNamedFirst, named_first, named_push, named_without, named_moved, next_free, has_number, number_in, one_path}
 use Rattle.std.proofs.lemmas.List.{map-append, take_more, take_all, append-nil}
 use Rattle.raft_log_disk.specs.Text.{name_in}
 
@@ -260,3 +260,59 @@ one_of fs directories texts next number i old path unreadable p is named same th
 
 pub length_there : (fs : List MemoryFile) (number i : ℕ) (old : MemoryFile) → IsPlace fs number i → old ≡ get_or fs i old → length old.bytes.items ≡ length (file_of fs number).bytes
 length_there fs number i old p is = ap (λ (f : FileState). length f.bytes) (state_there fs number i old p is)
+
+-- a number that is found is there
+pub number_there : (directories : List (String Global)) (fs : List MemoryFile) (next number i : ℕ) (f : MemoryFile) → IsPlace fs number i → IsNoFile (disk_of directories fs next) number → ⊥
+number_there directories fs next number i f p none = none (number_in (string_bytes (get_or fs i f).path) number (names_of fs) (p.among f))
+
+-- the file has none of these paths
+pub none_of : (directories texts : List (String Global)) (fs : List MemoryFile) (next number i : ℕ) (f : MemoryFile) (path : Text) (test : Bool) → are_named (names_of fs) next ≡ true → IsPlace fs number i → f ≡ get_or fs i f → path ≡ string_bytes f.path
+    → (IsIn path (texts_of texts) → test ≡ true) → test ≡ false → HasOneOf (disk_of directories fs next) number (texts_of texts) → ⊥
+none_of directories texts fs next number i f path test named p is same test_there false_test one =
+    let here : IsIn (path, number) (names_of fs) = subst (λ t. IsIn (t, number) (names_of fs)) (sym same) (subst (λ (g : MemoryFile). IsIn (string_bytes g.path, number) (names_of fs)) (sym is) (p.among f)) in
+    let only : one.0 ≡ path = one_path (names_of fs) next number one.0 path named one.1 here in
+    let true_test = test_there (subst (λ t. IsIn t (texts_of texts)) only one.2) in
+    absurd cc
+
+-- a number that no file has has no path
+pub no_path : (directories : List (String Global)) (fs : List MemoryFile) (next number : ℕ) (paths : List Text) → IsNoFile (disk_of directories fs next) number → HasOneOf (disk_of directories fs next) number paths → ⊥
+no_path directories fs next number paths none one = none (number_in one.0 number (names_of fs) one.1)
+
+-- ---- calls that were refused and noted, of which reads see nothing
+
+unseen : (at end : ℕ) (bytes : List ℕ) → Torn at end bytes bytes
+unseen at end bytes = record { before = refl; after = refl; no_shorter = omega arith; no_longer = omega arith; fits = λ h. h }
+
+uncut : (len : ℕ) (bytes : List ℕ) → PartlyTruncated len bytes bytes
+uncut len bytes = record {
+  no_shorter = omega arith;
+  no_longer = omega arith;
+  front = sym ((λ i. take_all (length bytes) bytes (omega arith) i ++ replicate (none i) 0) ∙ append-nil bytes);
+}
+  where
+    none : length bytes - length bytes ≡ 0
+    none = omega arith
+
+pub refused_write_noted : (directories : List (String Global)) (fs : List MemoryFile) (number i next at : ℕ) (bytes : List ℕ) (old s : MemoryFile) → IsPlace fs number i → old ≡ get_or fs i old → s.number ≡ old.number → s.path ≡ old.path
+    → state_of s ≡ after_write (state_of old) at bytes old.bytes.items → RefusedWrite (disk_of directories fs next) (disk_of directories (slice_set fs i s) next) number at bytes
+refused_write_noted directories fs number i next at bytes old s p is n q made = record {
+  seen = (file_of fs number).bytes;
+  torn = unseen at (at + length bytes) (file_of fs number).bytes;
+  files = file_changed (λ f. after_write f at bytes f.bytes) directories fs number i next old s p is n q made;
+}
+
+pub refused_allocate_noted : (directories : List (String Global)) (fs : List MemoryFile) (number i next at len : ℕ) (old s : MemoryFile) → IsPlace fs number i → old ≡ get_or fs i old → s.number ≡ old.number → s.path ≡ old.path
+    → state_of s ≡ after_allocate (state_of old) at len old.bytes.items → RefusedAllocate (disk_of directories fs next) (disk_of directories (slice_set fs i s) next) number at len
+refused_allocate_noted directories fs number i next at len old s p is n q made = record {
+  seen = (file_of fs number).bytes;
+  torn = unseen at (at + len) (file_of fs number).bytes;
+  files = file_changed (λ f. after_allocate f at len f.bytes) directories fs number i next old s p is n q made;
+}
+
+pub refused_truncate_noted : (directories : List (String Global)) (fs : List MemoryFile) (number i next len : ℕ) (old s : MemoryFile) → IsPlace fs number i → old ≡ get_or fs i old → s.number ≡ old.number → s.path ≡ old.path
+    → state_of s ≡ after_truncate (state_of old) len old.bytes.items → RefusedTruncate (disk_of directories fs next) (disk_of directories (slice_set fs i s) next) number len
+refused_truncate_noted directories fs number i next len old s p is n q made = record {
+  seen = (file_of fs number).bytes;
+  part = uncut len (file_of fs number).bytes;
+  files = file_changed (λ f. after_truncate f len f.bytes) directories fs number i next old s p is n q made;
+}

@@ -3,8 +3,10 @@ pub mod CauseLemmas
 pub mod ChanceLemmas
 pub mod CrashLemmas
 pub mod FilesLemmas
+pub mod LawLemmas
 pub mod MemoryLemmas
 pub mod NameLemmas
 pub mod NamedLemmas
+pub mod RecoverableLemmas
 pub mod RoomLemmas
 pub mod TextLemmas

@@ -6,7 +6,8 @@ use Rattle.raft_log_disk.specs.declared.memory_file.MemoryFile.{MemoryFile}
 use Rattle.raft_log_disk.specs.declared.memory_file.Change.{Change}
 use Rattle.raft_log_disk.specs.declared.memory_file.Written.{Written}
 use Rattle.raft_log_disk.specs.Disk.{FileState, put, after_write, after_truncate, after_allocate, renamed}
-use Rattle.raft_log_disk.specs.Memory.{spans_of, ranges_of, undo, undone, state_of, IsNoted}
+use Rattle.raft_log_disk.specs.Memory.{state_of}
+use Rattle.raft_log_disk.specs.Changes.{spans_of, ranges_of, undo, undone, noted_file}
 
 undone_more : (cs : List Change) (c : Change) (bytes : List ℕ) → undone (cs ++ c ∷ []) bytes ≡ undone cs (undo c bytes)
 undone_more [] c bytes = refl
@@ -22,31 +23,30 @@ pub spans_more : (ws vs : List Written) (w : Written) (at : ℕ) (bytes : List �
 spans_more ws vs w at bytes is a b = ap spans_of is ∙ map-append (λ (w : Written). (w.at, w.bytes.items)) ws (w ∷ []) ∙ (λ i. spans_of ws ++ (a i, b i) ∷ [])
 
 -- a write that was noted
-pub write_noted : (old mid : MemoryFile) (c : Change) (w : Written) (at greatest : ℕ) (seen target bytes : List ℕ) → IsNoted old mid
-    → mid.changes.items ≡ old.changes.items ++ c ∷ [] → mid.later.items ≡ old.later.items ++ w ∷ [] → c.from ≡ at → c.to ≡ at + length bytes → undo c target ≡ old.bytes.items
+pub write_noted : (old : MemoryFile) (ds : List Change) (ws : List Written) (c : Change) (w : Written) (at greatest : ℕ) (seen target bytes : List ℕ)
+    → ds ≡ old.changes.items ++ c ∷ [] → ws ≡ old.later.items ++ w ∷ [] → c.from ≡ at → c.to ≡ at + length bytes → undo c target ≡ old.bytes.items
     → w.at ≡ at → w.bytes.items ≡ bytes → greatest ≡ max old.greatest (at + length bytes) → seen ≡ target
-    → record { bytes = seen; kept = undone mid.changes.items seen; changed = ranges_of mid.changes.items; least = mid.least; greatest = greatest; earlier = spans_of mid.earlier.items; later = spans_of mid.later.items; brought = mid.brought.items }
-    ≡ after_write (state_of old) at bytes target
-write_noted old mid c w at greatest seen target bytes noted cs ws from to back place written grew is =
-    let kept : undone mid.changes.items seen ≡ undone old.changes.items old.bytes.items = ap (undone mid.changes.items) is ∙ kept_by old.changes.items mid.changes.items c target old.bytes.items cs back in
-    let changed = ranges_more old.changes.items mid.changes.items c at (at + length bytes) cs from to in
-    let later = spans_more old.later.items mid.later.items w at bytes ws place written in
+    → noted_file seen ds old.least greatest old.earlier.items ws old.brought.items ≡ after_write (state_of old) at bytes target
+write_noted old ds ws c w at greatest seen target bytes cs written from to back place is_bytes grew is =
+    let kept : undone ds seen ≡ undone old.changes.items old.bytes.items = ap (undone ds) is ∙ kept_by old.changes.items ds c target old.bytes.items cs back in
+    let changed = ranges_more old.changes.items ds c at (at + length bytes) cs from to in
+    let later = spans_more old.later.items ws w at bytes written place is_bytes in
     λ i. record {
       bytes = is i;
       kept = kept i;
       changed = changed i;
-      least = noted.least i;
+      least = old.least;
       greatest = grew i;
-      earlier = spans_of (noted.earlier i).items;
+      earlier = spans_of old.earlier.items;
       later = later i;
-      brought = (noted.brought i).items;
+      brought = old.brought.items;
     }
 
 -- a cut or a lengthening that was noted
 pub truncate_noted : (old : MemoryFile) (ds : List Change) (c : Change) (len least greatest : ℕ) (seen target : List ℕ)
     → ds ≡ old.changes.items ++ c ∷ [] → c.from ≡ min len (length old.bytes.items) → c.to ≡ max len (length old.bytes.items) → undo c target ≡ old.bytes.items
     → least ≡ min old.least len → greatest ≡ max old.greatest len → seen ≡ target
-    → record { bytes = seen; kept = undone ds seen; changed = ranges_of ds; least = least; greatest = greatest; earlier = spans_of old.earlier.items; later = spans_of old.later.items; brought = old.brought.items }
+    → noted_file seen ds least greatest old.earlier.items old.later.items old.brought.items
     ≡ after_truncate (state_of old) len target
 truncate_noted old ds c len least greatest seen target cs from to back fell grew is =
     let kept : undone ds seen ≡ undone old.changes.items old.bytes.items = ap (undone ds) is ∙ kept_by old.changes.items ds c target old.bytes.items cs back in
@@ -65,7 +65,7 @@ truncate_noted old ds c len least greatest seen target cs from to back fell grew
 -- room that was noted
 pub allocate_noted : (old : MemoryFile) (ds : List Change) (c : Change) (at len greatest : ℕ) (seen target : List ℕ)
     → ds ≡ old.changes.items ++ c ∷ [] → c.from ≡ at → c.to ≡ at + len → undo c target ≡ old.bytes.items → greatest ≡ max old.greatest (at + len) → seen ≡ target
-    → record { bytes = seen; kept = undone ds seen; changed = ranges_of ds; least = old.least; greatest = greatest; earlier = spans_of old.earlier.items; later = spans_of old.later.items; brought = old.brought.items }
+    → noted_file seen ds old.least greatest old.earlier.items old.later.items old.brought.items
     ≡ after_allocate (state_of old) at len target
 allocate_noted old ds c at len greatest seen target cs from to back grew is =
     let kept : undone ds seen ≡ undone old.changes.items old.bytes.items = ap (undone ds) is ∙ kept_by old.changes.items ds c target old.bytes.items cs back in
@@ -83,7 +83,7 @@ allocate_noted old ds c at len greatest seen target cs from to back grew is =
 
 -- a file under another name
 pub renamed_state : (old : MemoryFile) (earlier later : List Written) (brought : List ℕ) → earlier ≡ [] → later ≡ [] → brought ≡ take 69 old.bytes.items
-    → record { bytes = old.bytes.items; kept = undone old.changes.items old.bytes.items; changed = ranges_of old.changes.items; least = old.least; greatest = old.greatest; earlier = spans_of earlier; later = spans_of later; brought = brought }
+    → noted_file old.bytes.items old.changes.items old.least old.greatest earlier later brought
     ≡ renamed (state_of old)
 renamed_state old earlier later brought none nothing front = λ i. record {
   bytes = old.bytes.items;

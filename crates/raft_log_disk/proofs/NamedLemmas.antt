@@ -180,3 +180,23 @@ next_free (e ∷ es) next h =
     let p = named_first e es next h in
     let lt = ltb-true e.1 next p.below in
     ap (λ t. t || has_number es next) (ne_eqb e.1 next (omega arith)) ∙ next_free es next p.others
+
+-- ---- numbers
+
+pub in_other : (e : Text × ℕ) (es : Names) (n : ℕ) → has_number es n ≡ false → IsIn e es → e.1 ≢ n
+in_other e [] n none there same = there
+in_other e (x ∷ es) n none (inl is) same = eqb-false x.1 n (neither (x.1 == n) (has_number es n) none).0 (ap (λ (y : Text × ℕ). y.1) (sym is) ∙ same)
+in_other e (x ∷ es) n none (inr there) same = in_other e es n (neither (x.1 == n) (has_number es n) none).1 there same
+
+pub number_in : (path : Text) (n : ℕ) (es : Names) → IsIn (path, n) es → IsIn n (map (λ (e : Text × ℕ). e.1) es)
+number_in path n [] there = there
+number_in path n (e ∷ es) (inl is) = inl (ap (λ (y : Text × ℕ). y.1) is)
+number_in path n (e ∷ es) (inr there) = inr (number_in path n es there)
+
+-- a number has one path
+pub one_path : (es : Names) (next n : ℕ) (path other : Text) → are_named es next ≡ true → IsIn (path, n) es → IsIn (other, n) es → path ≡ other
+one_path [] next n path other h there here = absurd there
+one_path (e ∷ es) next n path other h (inl p) (inl q) = ap (λ (y : Text × ℕ). y.0) (p ∙ sym q)
+one_path (e ∷ es) next n path other h (inl p) (inr q) = absurd (in_other (other, n) es e.1 (named_first e es next h).number q (ap (λ (y : Text × ℕ). y.1) p))
+one_path (e ∷ es) next n path other h (inr p) (inl q) = absurd (in_other (path, n) es e.1 (named_first e es next h).number p (ap (λ (y : Text × ℕ). y.1) q))
+one_path (e ∷ es) next n path other h (inr p) (inr q) = one_path es next n path other (named_first e es next h).others p q

@@ -18,22 +18,32 @@ abbrev pub spent : Option ℕ → Option ℕ
 spent None = None
 spent (Some n) = Some (n - 1)
 
+-- the count after a call: a refusal adds one, and the count stays at 2^64 - 1
+abbrev pub counted : {T : Type 0} → Result T IoFault → ℕ → ℕ
+counted (Ok x) refusals = refusals
+counted (Err Refused) refusals = min (refusals + 1) (2 ^ 64 - 1)
+counted (Err NotFound) refusals = refusals
+counted (Err NoSpace) refusals = refusals
+counted (Err Memory) refusals = refusals
+
 -- why a changing call was refused: `absent` says that what it names is not there, and `cramped`
 -- that room was missing
 pub record HasCause {T : Type 0} (absent cramped : Type 0) (old new : Meter) (result : Result T IoFault) : Type 0 where
-  pub later : old.refusals ≤ new.refusals
-  pub refused : IsErrOf result Refused → min (old.refusals + 1) (2 ^ 64 - 1) ≤ new.refusals
+  pub refused : new.refusals ≡ counted result old.refusals
+  pub missing : absent → IsErr result
   pub not_found : IsErrOf result NotFound → absent
   pub no_space : IsErrOf result NoSpace → cramped
   pub reads : new.unreadable ≡ old.unreadable
 
 -- it is one changing call, refused where no more are taken
 pub record IsOneCall {T : Type 0} (old new : Meter) (result : Result T IoFault) : Type 0 where
-  pub counted : new.calls_left ≡ spent old.calls_left
-  pub blown : old.calls_left ≡ Some 0 → IsErr result
+  pub left : new.calls_left ≡ spent old.calls_left
+  pub blown : old.calls_left ≡ Some 0 → IsErrOf result Refused
 
 -- of a reading call: why it was refused
 pub record HasReadCause {T : Type 0} (absent unreadable : Type 0) (result : Result T IoFault) : Type 0 where
+  pub missing : absent → IsErr result
+  pub unread : unreadable → IsErrOf result Refused
   pub refused : IsErrOf result Refused → unreadable
   pub not_found : IsErrOf result NotFound → absent
   pub no_space : IsErrOf result NoSpace → ⊥

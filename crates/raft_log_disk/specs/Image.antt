@@ -20,6 +20,11 @@ pub record IsFileImage (f : FileState) (bytes : List ℕ) : Type 0 where
   pub fits : AreBytes bytes
   pub same : (i : ℕ) → i < length bytes → IsOutside i f.changed → slice_index bytes i ≡ slice_index f.kept i
 
+-- what a read gives and what was synced, as far as the least length since, may both be left
+pub record IsRecoverable (f : FileState) : Type 0 where
+  pub seen : IsFileImage f f.bytes
+  pub synced : IsFileImage f (take f.least f.kept)
+
 -- an image: for each file's number its bytes
 abbrev pub Image : Type 0
 Image = ℕ → List ℕ
@@ -27,6 +32,19 @@ Image = ℕ → List ℕ
 -- a crash may leave these bytes of each file. Names change at once, so they are as they are
 abbrev pub IsImage : Disk → Image → Type 0
 IsImage d image = AllByRecursion (λ e. IsFileImage (d.file e.1) (image e.1)) d.names
+
+-- what reads see of each file
+abbrev pub seen_image : Disk → Image
+seen_image d n = (d.file n).bytes
+
+-- what was synced of each file, as far as the least length since
+abbrev pub synced_image : Disk → Image
+synced_image d n = take (d.file n).least (d.file n).kept
+
+-- a disk as it reads is one of its images, and so is what was synced of it
+pub record HasImages (d : Disk) : Type 0 where
+  pub seen : IsImage d (seen_image d)
+  pub synced : IsImage d (synced_image d)
 
 -- the disk after a crash that left these bytes
 abbrev pub after_crash : Disk → Image → Disk

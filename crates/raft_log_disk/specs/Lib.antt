@@ -1,6 +1,7 @@
 pub mod Text
 pub mod Disk
 pub mod Cause
+pub mod Changes
 pub mod Memory
 pub mod MemorySystem
 pub mod Place
@@ -9,3 +10,4 @@ pub mod Format
 pub mod Image
 pub mod Chance
 pub mod Crashed
+pub mod MemoryImages

@@ -4,51 +4,15 @@ use Rattle.std.specs.Prelude.{Some, None, is_some, ◌==◌, if◌then◌else◌
 use Rattle.std.specs.String.{string_bytes}
 use Rattle.std.specs.declared.alloc.Global.{Global}
 use Rattle.raft_log_disk.specs.declared.memory_file.MemoryFile.{MemoryFile}
-use Rattle.raft_log_disk.specs.declared.memory_file.Change.{Change}
-use Rattle.raft_log_disk.specs.declared.memory_file.Written.{Written}
 use Rattle.raft_log_disk.specs.Text.{Text, same_text, name_in}
-use Rattle.raft_log_disk.specs.Disk.{FileState, Disk, no_bytes, put}
+use Rattle.raft_log_disk.specs.Disk.{FileState, Disk, no_bytes}
+use Rattle.raft_log_disk.specs.Changes.{noted_file}
 use Rattle.raft_log_disk.specs.declared.fuse.Fuse.{Fuse}
 use Rattle.raft_log_disk.specs.declared.space.Space.{Space}
 use Rattle.raft_log_disk.specs.Cause.{Meter}
 
--- the places and bytes of writes
-abbrev pub spans_of : List Written → List (ℕ × List ℕ)
-spans_of writes = map (λ w. (w.at, w.bytes.items)) writes
-
-abbrev pub ranges_of : List Change → List (ℕ × ℕ)
-ranges_of changes = map (λ c. (c.from, c.to)) changes
-
--- the bytes before the last change
-abbrev pub undo : Change → List ℕ → List ℕ
-undo c bytes = take c.len (put bytes c.from c.replaced.items)
-
--- the bytes before all changes, of which the last one is undone first
-abbrev pub undone : List Change → List ℕ → List ℕ
-undone [] bytes = bytes
-undone (c ∷ cs) bytes = undo c (undone cs bytes)
-
 abbrev pub state_of : MemoryFile → FileState
-state_of s = record {
-  bytes = s.bytes.items;
-  kept = undone s.changes.items s.bytes.items;
-  changed = ranges_of s.changes.items;
-  least = s.least;
-  greatest = s.greatest;
-  earlier = spans_of s.earlier.items;
-  later = spans_of s.later.items;
-  brought = s.brought.items;
-}
-
--- nothing but the notes of changes and writes is another
-pub record IsNoted (old new : MemoryFile) : Type 0 where
-  pub path : new.path ≡ old.path
-  pub number : new.number ≡ old.number
-  pub bytes : new.bytes ≡ old.bytes
-  pub least : new.least ≡ old.least
-  pub greatest : new.greatest ≡ old.greatest
-  pub earlier : new.earlier ≡ old.earlier
-  pub brought : new.brought ≡ old.brought
+state_of s = noted_file s.bytes.items s.changes.items s.least s.greatest s.earlier.items s.later.items s.brought.items
 
 -- ---- many files
 

@@ -3,9 +3,10 @@
 ghost use Rattle.std.specs.Prelude.{◌≡◌, ◌++◌, IsTrue, IfOk, IfErr, OnOk, Err, length, map};
 ghost use Rattle.std.specs.String.{string_bytes};
 ghost use Rattle.raft_log_disk.specs.declared.crash.CrashRefusal.TheVariants.{NotAnImage, ByChance, Memory};
-ghost use Rattle.raft_log_disk.specs.Disk.{IsIn, settled};
+ghost use Rattle.raft_log_disk.specs.Disk.{IsIn, AreBytes, settled};
 ghost use Rattle.raft_log_disk.specs.Image.{chosen_of, bytes_of, NamesFiles, AreAmong};
-ghost use Rattle.raft_log_disk.specs.Memory.{state_of, spans_of, names_of, undone};
+ghost use Rattle.raft_log_disk.specs.Memory.{state_of, names_of};
+ghost use Rattle.raft_log_disk.specs.Changes.{spans_of, undone};
 ghost use Rattle.raft_log_disk.specs.Crashed.{AreImages, AreGenuine, AreCrashed, IsFileGenuine, chosen_in, paths_of, said_paths};
 
 use crate::image::{is_genuine, is_image, kept_of};
@@ -179,13 +180,22 @@ fn copy_writes(alloc: Global, to: &mut Vec<Written>, from: &[Written]) -> Result
     Ok(())
 }
 
+// The bytes, once more.
+fn copied(alloc: Global, bytes: &[u8]) -> Result<Vec<u8>, AllocError>
+    ensures items { IfOk result (λ v. v.items ≡ bytes.now) }
+    ensures fits { IfOk result (λ v. AreBytes v.items) }
+{
+    let copy = Vec::from_slice(alloc, bytes)?;
+    Ok(copy)
+}
+
 fn crashed(alloc: Global, file: &MemoryFile, choice: &CrashChoice) -> Result<MemoryFile, AllocError>
     ensures path { IfOk result (λ f. string_bytes f.path ≡ string_bytes file.now.path) }
     ensures number { IfOk result (λ f. f.number ≡ file.now.number) }
     ensures state { IfOk result (λ f. state_of f ≡ settled (state_of file.now) (chosen_in choice.now file.now)) }
 {
     let kept = kept_of(alloc, file)?;
-    let bytes = Vec::from_slice(alloc, chosen(file, &kept, choice))?;
+    let bytes = copied(alloc, chosen(file, &kept, choice))?;
     let mut earlier = Vec::new(alloc);
     copy_writes(alloc, &mut earlier, &file.earlier)?;
     copy_writes(alloc, &mut earlier, &file.later)?;

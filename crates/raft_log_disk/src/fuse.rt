@@ -1,7 +1,10 @@
 //! When calls are refused.
 
-ghost use Rattle.std.specs.Prelude.{◌≡◌, ◌≤◌, ◌+◌, ◌-◌, ◌^◌, min, Some, IsTrue, true, false};
+ghost use Rattle.std.specs.Prelude.{◌≡◌, ◌+◌, ◌-◌, ◌^◌, min, Some, IsTrue, if◌then◌else◌};
+ghost use Rattle.raft_log_disk.specs.declared.fault.IoFault.TheVariants.{NotFound, Refused};
 ghost use Rattle.raft_log_disk.specs.Cause.{spent};
+
+use crate::IoFault;
 
 /// Counts the changing calls that are still taken, and those that were refused.
 #[derive(Drop)]
@@ -15,20 +18,17 @@ pub struct Fuse {
 }
 
 impl Fuse {
-    /// Counts a changing call. Whether it is refused.
+    /// Takes one changing call. Whether it is to be refused.
     pub fn spend(&mut self) -> bool
         ensures reads { self.new.unreadable ≡ self.old.unreadable }
-        ensures counted { self.new.calls_left ≡ spent self.old.calls_left }
-        ensures blown { self.old.calls_left ≡ Some 0 → result ≡ true }
-        ensures later { self.old.refusals ≤ self.new.refusals }
-        ensures refused { result ≡ true → min (self.old.refusals + 1) (2 ^ 64 - 1) ≤ self.new.refusals }
+        ensures refusals { self.new.refusals ≡ self.old.refusals }
+        ensures left { self.new.calls_left ≡ spent self.old.calls_left }
+        ensures blown { self.old.calls_left ≡ Some 0 → IsTrue result }
+        ensures only { IsTrue result → self.old.calls_left ≡ Some 0 }
     {
         match self.calls_left {
             None => false,
-            Some(0) => {
-                self.refuse();
-                true
-            }
+            Some(0) => true,
             Some(left) => {
                 self.calls_left = Some(left - 1);
                 false
@@ -36,13 +36,27 @@ impl Fuse {
         }
     }
 
-    /// Counts a refusal.
-    pub fn refuse(&mut self)
+    /// Counts a refusal, and answers it.
+    pub fn refuse(&mut self) -> IoFault
+        ensures refused { result ≡ Refused }
         ensures reads { self.new.unreadable ≡ self.old.unreadable }
         ensures left { self.new.calls_left ≡ self.old.calls_left }
-        ensures later { self.old.refusals ≤ self.new.refusals }
         ensures counted { self.new.refusals ≡ min (self.old.refusals + 1) (2 ^ 64 - 1) }
     {
         self.refusals = self.refusals.saturating_add(1);
+        IoFault::Refused
+    }
+    /// The fault of a call on a file that isn't there: a refused call stays refused.
+    pub fn missing(&mut self, is_refused: bool) -> IoFault
+        ensures fault { result ≡ (if is_refused then Refused else NotFound) }
+        ensures reads { self.new.unreadable ≡ self.old.unreadable }
+        ensures left { self.new.calls_left ≡ self.old.calls_left }
+        ensures counted { self.new.refusals ≡ (if is_refused then min (self.old.refusals + 1) (2 ^ 64 - 1) else self.old.refusals) }
+    {
+        if is_refused {
+            self.refuse()
+        } else {
+            IoFault::NotFound
+        }
     }
 }

@@ -5,7 +5,8 @@ ghost use Rattle.raft_log_records.specs.Reading.{record_at};
 ghost use Rattle.raft_log_disk.specs.Disk.{IsIn};
 ghost use Rattle.raft_log_disk.specs.Image.{IsOutside, IsFileImage};
 ghost use Rattle.raft_log_disk.specs.Chance.{Stands, IsWritten, IsHeaderWritten, AreWritten, IsGenuine, LengthIs};
-ghost use Rattle.raft_log_disk.specs.Memory.{state_of, spans_of, ranges_of, undo, undone};
+ghost use Rattle.raft_log_disk.specs.Memory.{state_of};
+ghost use Rattle.raft_log_disk.specs.Changes.{spans_of, ranges_of, undo, undone};
 
 use crate::format::LogFileFormat;
 use crate::memory_file::{Change, MemoryFile, Written, overwrite};

@@ -8,6 +8,7 @@ mod fault;
 mod format;
 mod fuse;
 mod image;
+mod laws;
 mod lookup;
 mod memory;
 mod memory_calls;
@@ -20,6 +21,7 @@ mod system;
 pub use crash::{CrashChoice, CrashFiles, CrashRefusal, FileBytes};
 pub use fault::{Fd, IoFault, Permission};
 pub use format::{HeaderFault, LogFileFormat};
+pub use laws::{least_and_most_are_images, synced_file_is_left_as_read};
 pub use memory::MemoryFileSystem;
 pub use system::FileSystem;
 

@@ -8,6 +8,7 @@ use std::alloc::Global;
 
 impl FileSystem for MemoryFileSystem {
     ghost use Rattle.raft_log_disk.specs.MemorySystem.{disk_in, meter_in, room_in, memory_is_named};
+    ghost use Rattle.raft_log_disk.specs.MemoryImages.{memory_images};
 
     ghost disk = { disk_in };
 
@@ -17,13 +18,14 @@ impl FileSystem for MemoryFileSystem {
 
     ghost is_named = { memory_is_named };
 
+    ghost has_images = { memory_images };
+
     fn create(&mut self, path: &str) -> Result<Fd, IoFault> {
         if self.fuse.spend() {
-            return Err(IoFault::Refused);
+            return Err(self.fuse.refuse());
         }
         if self.next == u64::MAX {
-            self.fuse.refuse();
-            return Err(IoFault::Refused);
+            return Err(self.fuse.refuse());
         }
         if !has_directory(&self.directories, path) {
             return Err(IoFault::NotFound);
@@ -38,7 +40,7 @@ impl FileSystem for MemoryFileSystem {
     fn open(&mut self, path: &str, permission: Permission) -> Result<Fd, IoFault> {
         let _ = permission;
         if self.fuse.spend() {
-            return Err(IoFault::Refused);
+            return Err(self.fuse.refuse());
         }
         match self.find_path(path) {
             Some(i) => Ok(Fd(self.files[i].number)),
@@ -48,7 +50,7 @@ impl FileSystem for MemoryFileSystem {
 
     fn delete(&mut self, path: &str) -> Result<(), IoFault> {
         if self.fuse.spend() {
-            return Err(IoFault::Refused);
+            return Err(self.fuse.refuse());
         }
         let Some(i) = self.find_path(path) else {
             return Err(IoFault::NotFound);
@@ -59,7 +61,7 @@ impl FileSystem for MemoryFileSystem {
 
     fn rename(&mut self, from: &str, to: &str) -> Result<(), IoFault> {
         if self.fuse.spend() {
-            return Err(IoFault::Refused);
+            return Err(self.fuse.refuse());
         }
         let Some(i) = self.find_path(from) else {
             return Err(IoFault::NotFound);
@@ -72,7 +74,7 @@ impl FileSystem for MemoryFileSystem {
 
     fn make_dir(&mut self, path: &str) -> Result<(), IoFault> {
         if self.fuse.spend() {
-            return Err(IoFault::Refused);
+            return Err(self.fuse.refuse());
         }
         if has_text(&self.directories, path) {
             return Ok(());
@@ -85,20 +87,18 @@ impl FileSystem for MemoryFileSystem {
     fn write_at(&mut self, fd: Fd, at: u64, bytes: &[u8]) -> Result<(), IoFault> {
         let is_refused = self.fuse.spend();
         let Some(i) = self.find(fd.0) else {
-            return Err(if is_refused {
-                IoFault::Refused
-            } else {
-                IoFault::NotFound
-            });
+            return Err(self.fuse.missing(is_refused));
         };
         let at = at as usize;
         if bytes.len() > usize::MAX - at {
-            self.fuse.refuse();
-            return Err(IoFault::Refused);
+            return Err(self.fuse.refuse());
         }
         if is_refused {
-            self.files[i].refuse_write(self.alloc, at, bytes)?;
-            return Err(IoFault::Refused);
+            // Without memory for its note the call took no effect.
+            let Ok(()) = self.files[i].refuse_write(self.alloc, at, bytes) else {
+                return Err(self.fuse.refuse());
+            };
+            return Err(self.fuse.refuse());
         }
         let growth = (at + bytes.len()).saturating_sub(self.files[i].bytes.len());
         if self.is_cramped(i, growth as u64) {
@@ -111,16 +111,15 @@ impl FileSystem for MemoryFileSystem {
     fn truncate(&mut self, fd: Fd, len: u64) -> Result<(), IoFault> {
         let is_refused = self.fuse.spend();
         let Some(i) = self.find(fd.0) else {
-            return Err(if is_refused {
-                IoFault::Refused
-            } else {
-                IoFault::NotFound
-            });
+            return Err(self.fuse.missing(is_refused));
         };
         let len = len as usize;
         if is_refused {
-            self.files[i].refuse_truncate(self.alloc, len)?;
-            return Err(IoFault::Refused);
+            // Without memory for its note the call took no effect.
+            let Ok(()) = self.files[i].refuse_truncate(self.alloc, len) else {
+                return Err(self.fuse.refuse());
+            };
+            return Err(self.fuse.refuse());
         }
         let growth = len.saturating_sub(self.files[i].bytes.len());
         if self.is_cramped(i, growth as u64) {
@@ -133,20 +132,18 @@ impl FileSystem for MemoryFileSystem {
     fn allocate(&mut self, fd: Fd, at: u64, len: u64) -> Result<(), IoFault> {
         let is_refused = self.fuse.spend();
         let Some(i) = self.find(fd.0) else {
-            return Err(if is_refused {
-                IoFault::Refused
-            } else {
-                IoFault::NotFound
-            });
+            return Err(self.fuse.missing(is_refused));
         };
         let (at, len) = (at as usize, len as usize);
         if len > usize::MAX - at {
-            self.fuse.refuse();
-            return Err(IoFault::Refused);
+            return Err(self.fuse.refuse());
         }
         if is_refused {
-            self.files[i].refuse_allocate(self.alloc, at, len)?;
-            return Err(IoFault::Refused);
+            // Without memory for its note the call took no effect.
+            let Ok(()) = self.files[i].refuse_allocate(self.alloc, at, len) else {
+                return Err(self.fuse.refuse());
+            };
+            return Err(self.fuse.refuse());
         }
         let growth = (at + len).saturating_sub(self.files[i].bytes.len());
         if self.is_cramped(i, growth as u64) {
@@ -159,14 +156,10 @@ impl FileSystem for MemoryFileSystem {
     fn sync(&mut self, fd: Fd) -> Result<(), IoFault> {
         let is_refused = self.fuse.spend();
         let Some(i) = self.find(fd.0) else {
-            return Err(if is_refused {
-                IoFault::Refused
-            } else {
-                IoFault::NotFound
-            });
+            return Err(self.fuse.missing(is_refused));
         };
         if is_refused {
-            return Err(IoFault::Refused);
+            return Err(self.fuse.refuse());
         }
         self.files[i].sync()?;
         Ok(())
@@ -197,7 +190,10 @@ impl FileSystem for MemoryFileSystem {
         if has_text(&self.fuse.unreadable, file.path.as_str()) {
             return Err(IoFault::Refused);
         }
-        Ok(slice_of(alloc, &file.bytes, at as usize, len as usize)?)
+        match slice_of(alloc, &file.bytes, at as usize, len as usize) {
+            Ok(bytes) => Ok(bytes),
+            Err(_) => Err(IoFault::Memory),
+        }
     }
 
     fn file_size(&self, fd: Fd) -> Result<u64, IoFault> {

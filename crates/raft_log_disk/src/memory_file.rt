@@ -2,7 +2,10 @@
 
 ghost use Rattle.std.specs.Prelude.{◌≡◌, ◌≤◌, ◌<◌, ◌^◌, ◌+◌, ◌-◌, ◌++◌, ◌∷◌, [], min, max, length, take, OnOk, OnErr, ℕ, IfOk, is_ok, if◌then◌else◌};
 ghost use Rattle.std.specs.String.{string_bytes};
+ghost use Rattle.std.proofs.Props.{props};
 ghost use Rattle.raft_log_disk.specs.Disk.{no_bytes, put, resized, filled, after_write, after_truncate, after_allocate, after_sync, renamed};
+ghost use Rattle.raft_log_disk.specs.Image.{IsRecoverable};
+ghost use Rattle.raft_log_disk.specs.Changes.{noted_file};
 
 use std::alloc::{AllocError, Global};
 
@@ -46,6 +49,8 @@ pub struct MemoryFile {
     pub later: Vec<Written>,
     /// The file's front when a rename gave it its name.
     pub brought: Vec<u8>,
+    /// A crash may leave what reads see, and what was synced as far as the least length since.
+    ghost recoverable: { IsRecoverable (noted_file bytes.items changes.items least greatest earlier.items later.items brought.items) } by { Prim.hlevel props },
 }
 
 /// Writes over what is there, and past the end. The growth comes first.
@@ -63,8 +68,35 @@ pub fn overwrite(bytes: &mut Vec<u8>, at: usize, new: &[u8]) -> Result<(), Alloc
     Ok(())
 }
 
+// Notes a change and its write, both or neither.
+fn note(
+    changes: &mut Vec<Change>,
+    writes: &mut Vec<Written>,
+    change: Change,
+    write: Written,
+) -> Result<(), AllocError>
+    ensures changes { changes.new.items ≡ (if is_ok result then changes.old.items ++ change ∷ [] else changes.old.items) }
+    ensures writes { writes.new.items ≡ (if is_ok result then writes.old.items ++ write ∷ [] else writes.old.items) }
+{
+    changes.push(change)?;
+    if writes.push(write).is_err() {
+        let _ = changes.pop();
+        return Err(AllocError);
+    }
+    Ok(())
+}
+
+// Takes back the last change and its write.
+fn forget(changes: &mut Vec<Change>, writes: &mut Vec<Written>)
+    ensures changes { changes.new.items ≡ take (length changes.old.items - 1) changes.old.items }
+    ensures writes { writes.new.items ≡ take (length writes.old.items - 1) writes.old.items }
+{
+    let _ = changes.pop();
+    let _ = writes.pop();
+}
+
 impl MemoryFile {
-    ghost use Rattle.raft_log_disk.specs.Memory.{state_of, IsNoted};
+    ghost use Rattle.raft_log_disk.specs.Memory.{state_of};
 
     /// A file of no bytes.
     pub fn new(alloc: Global, path: String, number: u64) -> MemoryFile
@@ -98,19 +130,18 @@ impl MemoryFile {
         let to = at + bytes.len();
         let replaced = Vec::from_slice(alloc, &self.bytes[at..to.min(len)])?;
         let written = Vec::from_slice(alloc, bytes)?;
-        let Ok(()) = self.note(
-            Change {
-                from: at,
-                to,
-                replaced,
-                len,
-            },
-            Written { at, bytes: written },
-        ) else {
+        let change = Change {
+            from: at,
+            to,
+            replaced,
+            len,
+        };
+        let write = Written { at, bytes: written };
+        let Ok(()) = note(&mut self.changes, &mut self.later, change, write) else {
             return Err(AllocError);
         };
         let Ok(()) = overwrite(&mut self.bytes, at, bytes) else {
-            self.forget();
+            forget(&mut self.changes, &mut self.later);
             return Err(AllocError);
         };
         self.greatest = self.greatest.max(to);
@@ -130,15 +161,14 @@ impl MemoryFile {
         let to = at + bytes.len();
         let replaced = Vec::new(alloc);
         let written = Vec::from_slice(alloc, bytes)?;
-        let Ok(()) = self.note(
-            Change {
-                from: at,
-                to,
-                replaced,
-                len,
-            },
-            Written { at, bytes: written },
-        ) else {
+        let change = Change {
+            from: at,
+            to,
+            replaced,
+            len,
+        };
+        let write = Written { at, bytes: written };
+        let Ok(()) = note(&mut self.changes, &mut self.later, change, write) else {
             return Err(AllocError);
         };
         self.greatest = self.greatest.max(to);
@@ -192,7 +222,8 @@ impl MemoryFile {
 
     /// Makes room: where the file ends before, zeros stand there.
     pub fn allocate(&mut self, alloc: Global, at: usize, len: usize) -> Result<(), AllocError>
-        requires { at + len < 2 ^ 64 }
+        requires at { at ≤ length self.old.bytes.items }
+        requires end { at + len < 2 ^ 64 }
         ensures path { self.new.path ≡ self.old.path }
         ensures number { self.new.number ≡ self.old.number }
         ensures ok { OnOk result (state_of self.new ≡ after_allocate (state_of self.old) at len (filled self.old.bytes.items (at + len))) }
@@ -276,29 +307,5 @@ impl MemoryFile {
         self.earlier.clear();
         self.later.clear();
         self.path = path;
-    }
-
-    // Notes a change and its write, both or neither.
-    fn note(&mut self, change: Change, written: Written) -> Result<(), AllocError>
-        ensures kept { IsNoted self.old self.new }
-        ensures changes { self.new.changes.items ≡ (if is_ok result then self.old.changes.items ++ change ∷ [] else self.old.changes.items) }
-        ensures later { self.new.later.items ≡ (if is_ok result then self.old.later.items ++ written ∷ [] else self.old.later.items) }
-    {
-        self.changes.push(change)?;
-        if self.later.push(written).is_err() {
-            let _ = self.changes.pop();
-            return Err(AllocError);
-        }
-        Ok(())
-    }
-
-    // Takes back the last change and its write.
-    fn forget(&mut self)
-        ensures kept { IsNoted self.old self.new }
-        ensures changes { self.new.changes.items ≡ take (length self.old.changes.items - 1) self.old.changes.items }
-        ensures later { self.new.later.items ≡ take (length self.old.later.items - 1) self.old.later.items }
-    {
-        let _ = self.changes.pop();
-        let _ = self.later.pop();
     }
 }

@@ -7,7 +7,8 @@ ghost use Rattle.std.specs.String.{string_bytes, string_cmp};
 ghost use Rattle.raft_log_disk.specs.declared.fault.IoFault.TheVariants.{Memory, NotFound, Refused};
 ghost use Rattle.raft_log_disk.specs.Disk.{Disk, IsIn, HasDirectory, LacksRoom, RefusedWrite, RefusedAllocate, RefusedTruncate, IsNoFile, HasOneOf, Deletes, Renames, IsNamed};
 ghost use Rattle.raft_log_disk.specs.Disk.{fd_of, listed, with_file, after_create, after_make_dir, after_write, after_truncate, after_allocate, after_sync, put, resized, filled};
-ghost use Rattle.raft_log_disk.specs.Cause.{Meter, HasCause, HasReadCause, IsOneCall, UnlessRefused};
+ghost use Rattle.raft_log_disk.specs.Cause.{Meter, HasCause, HasReadCause, IsOneCall, UnlessRefused, spent};
+ghost use Rattle.raft_log_disk.specs.Image.{HasImages};
 
 use crate::{Fd, IoFault, Permission};
 use std::alloc::Global;
@@ -78,7 +79,10 @@ pub trait FileSystem: Send + Sync {
         ensures ok { IfOk result (λ fd. Renames (disk self.old) (disk self.new) from.now to.now × (fd_of (disk self.new).names to.now ≡ Some fd.0)) }
         ensures err { OnErr result ((disk self.new ≡ disk self.old) ⊎ Renames (disk self.old) (disk self.new) from.now to.now) }
         ensures cause { HasCause (fd_of (disk self.old).names from.now ≡ None) ⊥ (meter self.old) (meter self.new) result }
-        ensures blown { (meter self.old).calls_left ≡ Some 0 → IsErr result }
+        ensures both { OnOk result ((meter self.new).calls_left ≡ spent (spent (meter self.old).calls_left)) }
+        ensures some { OnErr result (((meter self.new).calls_left ≡ spent (meter self.old).calls_left)
+            ⊎ ((meter self.new).calls_left ≡ spent (spent (meter self.old).calls_left))) }
+        ensures blown { (meter self.old).calls_left ≡ Some 0 → IsErrOf result Refused }
     {
         self.reuse(from, to)?;
         self.open(to, Permission::ReadWrite)
@@ -175,4 +179,8 @@ pub trait FileSystem: Send + Sync {
 
     /// Each file has a path and a number of its own.
     ghost is_named: { (files : Self) → IsNamed (disk files) };
+
+    /// A file system as it reads is one of its images. Another is what was synced, as far as the
+    /// least length since.
+    ghost has_images: { (files : Self) → HasImages (disk files) };
 }

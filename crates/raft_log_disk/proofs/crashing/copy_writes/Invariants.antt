@@ -1,5 +1,5 @@
 use Rattle.std.proofs.Common.{◌≡◌, ◌++◌, take}
-use Rattle.raft_log_disk.specs.Memory.{spans_of}
+use Rattle.raft_log_disk.specs.Changes.{spans_of}
 use Rattle.raft_log_disk.proofs.crashing.copy_writes.Given as goal
 
 abbrev pub invariant-loop-write : goal.invariant-loop-write

@@ -1,6 +1,6 @@
 use Rattle.std.proofs.Common.{◌≡◌, ℕ, ◌<◌, get_or}
 use Rattle.raft_log_disk.specs.Image.{IsOutside}
-use Rattle.raft_log_disk.specs.Memory.{ranges_of}
+use Rattle.raft_log_disk.specs.Changes.{ranges_of}
 use Rattle.raft_log_disk.proofs.image.is_image.Given as goal
 
 abbrev pub invariant-loop-i : goal.invariant-loop-i

@@ -1,5 +1,5 @@
 use Rattle.std.proofs.Common.{◌≡◌, ◌≤◌, length, take}
-use Rattle.raft_log_disk.specs.Memory.{undone}
+use Rattle.raft_log_disk.specs.Changes.{undone}
 use Rattle.raft_log_disk.proofs.image.kept_of.Given as goal
 
 abbrev pub invariant-loop-left : goal.invariant-loop-left

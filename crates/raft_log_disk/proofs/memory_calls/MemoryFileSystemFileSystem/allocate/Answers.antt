@@ -1,16 +1,26 @@
-use Rattle.std.proofs.Common.{◌≡◌, ◌+◌, ◌-◌, length, arith, refl, ap, subst}
+use Rattle.std.proofs.Common.{inl, inr, ◌≡◌, ◌+◌, ◌-◌, length, arith, refl, ap, subst}
 use Rattle.std.specs.Prelude.{Vec, String}
 use Rattle.std.specs.declared.alloc.Global.{Global}
 use Rattle.raft_log_disk.specs.Disk.{LacksRoom}
 use Rattle.raft_log_disk.specs.Memory.{file_of, texts_of}
 use Rattle.raft_log_disk.specs.MemorySystem.{disk_in, room_in}
-use Rattle.raft_log_disk.proofs.CauseLemmas.{cramped_cause}
-use Rattle.raft_log_disk.proofs.FilesLemmas.{length_there}
+use Rattle.raft_log_disk.proofs.CauseLemmas.{cramped_cause, taken_cause}
+use Rattle.raft_log_disk.proofs.FilesLemmas.{length_there, number_there, file_kept, refused_allocate_noted}
 use Rattle.raft_log_disk.proofs.memory_calls.MemoryFileSystemFileSystem.allocate.Goals as goal
 
 pub returns-then-is_cramped-clause-cause : goal.returns-then-is_cramped-clause-cause
 returns-then-is_cramped-clause-cause c =
     let there = length_there _ _ _ _ c.in-Some.ensures c.index.ensures in
     let growth : c.saturating_sub-growth.result ≡ c.args.at + c.args.len - length (file_of c.args.self.now.files.items c.args.fd.0).bytes = omega (arith, there, c.saturating_sub-growth.ensures, c.len.ensures) in
-    cramped_cause _ _ _ _ c.spend-is_refused.ensures.later (ap (λ (v : Vec (String Global) Global). texts_of v.items) c.spend-is_refused.ensures.reads)
+    cramped_cause _ _ _ _ c.spend-is_refused.ensures.refusals (ap (λ (v : Vec (String Global) Global). texts_of v.items) c.spend-is_refused.ensures.reads)
     (subst (LacksRoom (room_in c.args.self.now) (disk_in c.args.self.now) c.args.fd.0) growth (c.if-is_cramped.ensures refl c.args.fd.0 c.in-Some.ensures))
+
+pub returns-clause-cause : goal.returns-clause-cause
+returns-clause-cause c = taken_cause _ _ _ _ _ c.spend-is_refused.ensures.refusals (ap (λ (v : Vec (String Global) Global). texts_of v.items) c.spend-is_refused.ensures.reads)
+    (number_there c.args.self.now.directories.items _ c.args.self.now.next _ _ c.index_mut-2.result.now c.in-Some.ensures)
+
+pub returns-in_default-refuse_allocate-clause-err : goal.returns-in_default-refuse_allocate-clause-err
+returns-in_default-refuse_allocate-clause-err c = inl (file_kept c.args.self.now.directories.items c.args.self.now.files.items c.args.fd.0 c.in-Some.i c.args.self.now.next c.index_mut.result.now c.refuse_allocate.new.self c.in-Some.ensures c.index_mut.ensures.value c.in_default-refuse_allocate.ensures.number c.in_default-refuse_allocate.ensures.path c.in_default-refuse_allocate.ensures.err)
+
+pub returns-then-is_refused-clause-err : goal.returns-then-is_refused-clause-err
+returns-then-is_refused-clause-err c = inr (refused_allocate_noted c.args.self.now.directories.items c.args.self.now.files.items c.args.fd.0 c.in-Some.i c.args.self.now.next c.args.at c.args.len c.index_mut.result.now c.refuse_allocate.new.self c.in-Some.ensures c.index_mut.ensures.value c.in-Ok.ensures.number c.in-Ok.ensures.path c.in-Ok.ensures.ok)

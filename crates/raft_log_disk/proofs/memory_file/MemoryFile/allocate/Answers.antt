@@ -1,7 +1,10 @@
-use Rattle.std.proofs.Common.{◌≡◌, ◌+◌, ◌-◌, ◌++◌, min, max, length, take, drop, arith, refl, ap, ◌∙◌, vec_len}
+use Rattle.std.proofs.Common.{◌≡◌, ◌+◌, ◌-◌, ◌++◌, min, max, length, take, drop, arith, refl, ap, ◌∙◌, vec_len, sym, subst}
 use Rattle.std.specs.Prelude.{replicate}
 use Rattle.raft_log_disk.proofs.ByteLemmas.{filled_back, filled_by}
 use Rattle.raft_log_disk.proofs.MemoryLemmas.{allocate_noted}
+use Rattle.raft_log_disk.specs.Image.{IsRecoverable}
+use Rattle.raft_log_disk.specs.Memory.{state_of}
+use Rattle.raft_log_disk.proofs.RecoverableLemmas.{allocated_is_recoverable}
 use Rattle.raft_log_disk.proofs.memory_file.MemoryFile.allocate.Goals as goal
 
 pub returns-clause-ok : goal.returns-clause-ok
@@ -13,3 +16,15 @@ returns-clause-ok c =
     allocate_noted c.args.self.now _ _ _ _ _ _ _ c.in_ok-push.ensures.items refl refl
     (filled_back old c.new-replaced.result.items c.args.at (c.args.at + c.args.len) c.len-old.result c.new-replaced.ensures.items long)
     c.max-self.ensures (c.in-Ok.ensures.items ∙ ap (λ n. take c.max.result old ++ replicate (c.max.result - n) 0) capacity ∙ filled_by old (c.args.at + c.args.len) c.max.result longest)
+
+pub invariant_of-self-2 : goal.invariant_of-self-2
+invariant_of-self-2 c =
+    let old = c.args.self.now.bytes.items in
+    let long : c.len-old.result ≡ length c.args.self.now.bytes.items = omega (arith, c.len-old.ensures) in
+    let capacity : vec_len c.args.self.now.bytes ≡ length c.args.self.now.bytes.items = omega arith in
+    let longest : c.max.result ≡ max (c.args.at + c.args.len) (length c.args.self.now.bytes.items) = omega (arith, c.max.ensures) in
+    let noted =
+    allocate_noted c.args.self.now _ _ _ _ _ _ _ c.in_ok-push.ensures.items refl refl
+    (filled_back old c.new-replaced.result.items c.args.at (c.args.at + c.args.len) c.len-old.result c.new-replaced.ensures.items long)
+    c.max-self.ensures (c.in-Ok.ensures.items ∙ ap (λ n. take c.max.result old ++ replicate (c.max.result - n) 0) capacity ∙ filled_by old (c.args.at + c.args.len) c.max.result longest) in
+    record { recoverable = subst IsRecoverable (sym noted) (allocated_is_recoverable (state_of c.args.self.now) c.args.at c.args.len c.requires.at c.args.self.now.recoverable) }

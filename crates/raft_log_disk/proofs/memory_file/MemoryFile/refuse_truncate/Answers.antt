@@ -1,6 +1,9 @@
-use Rattle.std.proofs.Common.{◌≡◌, min, max, length, arith, refl}
+use Rattle.std.proofs.Common.{◌≡◌, min, max, length, arith, refl, sym, subst}
 use Rattle.raft_log_disk.proofs.ByteLemmas.{nothing_put}
 use Rattle.raft_log_disk.proofs.MemoryLemmas.{truncate_noted}
+use Rattle.raft_log_disk.specs.Image.{IsRecoverable}
+use Rattle.raft_log_disk.specs.Memory.{state_of}
+use Rattle.raft_log_disk.proofs.RecoverableLemmas.{refused_truncate_is_recoverable}
 use Rattle.raft_log_disk.proofs.memory_file.MemoryFile.refuse_truncate.Goals as goal
 
 pub returns-clause-ok : goal.returns-clause-ok
@@ -9,3 +12,12 @@ returns-clause-ok c =
     let from : c.min.result ≡ min c.args.len (length c.args.self.now.bytes.items) = omega (arith, c.min.ensures) in
     let to : c.max.result ≡ max c.args.len (length c.args.self.now.bytes.items) = omega (arith, c.max.ensures) in
     truncate_noted c.args.self.now _ _ _ _ _ _ _ c.in_ok-push.ensures.items from to (nothing_put _ _ _ _ c.new-replaced.ensures.items long) c.min-self.ensures c.max-self.ensures refl
+
+pub invariant_of-self-2 : goal.invariant_of-self-2
+invariant_of-self-2 c =
+    let long : c.len-old.result ≡ length c.args.self.now.bytes.items = omega (arith, c.len-old.ensures) in
+    let from : c.min.result ≡ min c.args.len (length c.args.self.now.bytes.items) = omega (arith, c.min.ensures) in
+    let to : c.max.result ≡ max c.args.len (length c.args.self.now.bytes.items) = omega (arith, c.max.ensures) in
+    let noted =
+    truncate_noted c.args.self.now _ _ _ _ _ _ _ c.in_ok-push.ensures.items from to (nothing_put _ _ _ _ c.new-replaced.ensures.items long) c.min-self.ensures c.max-self.ensures refl in
+    record { recoverable = subst IsRecoverable (sym noted) (refused_truncate_is_recoverable (state_of c.args.self.now) c.args.len c.args.self.now.recoverable) }

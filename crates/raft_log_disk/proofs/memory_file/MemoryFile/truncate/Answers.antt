@@ -1,8 +1,11 @@
-use Rattle.std.proofs.Common.{◌≡◌, ◌-◌, ◌++◌, min, max, length, take, drop, arith, refl, ap, ◌∙◌, vec_len}
+use Rattle.std.proofs.Common.{◌≡◌, ◌-◌, ◌++◌, min, max, length, take, drop, arith, refl, ap, ◌∙◌, vec_len, sym, subst}
 use Rattle.std.specs.Prelude.{replicate}
 use Rattle.std.proofs.lemmas.List.{take_all, length-drop}
 use Rattle.raft_log_disk.proofs.ByteLemmas.{cut_back}
 use Rattle.raft_log_disk.proofs.MemoryLemmas.{truncate_noted}
+use Rattle.raft_log_disk.specs.Image.{IsRecoverable}
+use Rattle.raft_log_disk.specs.Memory.{state_of}
+use Rattle.raft_log_disk.proofs.RecoverableLemmas.{truncated_is_recoverable}
 use Rattle.raft_log_disk.proofs.memory_file.MemoryFile.truncate.Goals as goal
 
 pub returns-clause-ok : goal.returns-clause-ok
@@ -18,3 +21,19 @@ returns-clause-ok c =
     truncate_noted c.args.self.now _ _ _ _ _ _ _ c.in_ok-push.ensures.items from to
     (cut_back old c.in_ok-replaced.replaced.items c.args.len c.min-from.result c.len-old.result from cut long)
     c.min-self.ensures c.max-self.ensures (c.in-Ok.ensures.items ∙ ap (λ n. take c.args.len old ++ replicate (c.args.len - n) 0) capacity)
+
+pub invariant_of-self-2 : goal.invariant_of-self-2
+invariant_of-self-2 c =
+    let old = c.args.self.now.bytes.items in
+    let long : c.len-old.result ≡ length c.args.self.now.bytes.items = omega (arith, c.len-old.ensures) in
+    let capacity : vec_len c.args.self.now.bytes ≡ length c.args.self.now.bytes.items = omega arith in
+    let from : c.min-from.result ≡ min c.args.len (length c.args.self.now.bytes.items) = omega (arith, c.min-from.ensures) in
+    let to : c.max.result ≡ max c.args.len (length c.args.self.now.bytes.items) = omega (arith, c.max.ensures) in
+    let whole : c.deref.result.now ≡ c.args.self.now.bytes.items = c.deref.ensures.value in
+    let cut : c.in_ok-replaced.replaced.items ≡ drop c.min-from.result c.args.self.now.bytes.items =
+    c.in_ok-replaced.ensures.items ∙ take_all _ _ (omega (arith, length-drop c.min-from.result c.deref.result.now)) ∙ ap (drop c.min-from.result) whole in
+    let noted =
+    truncate_noted c.args.self.now _ _ _ _ _ _ _ c.in_ok-push.ensures.items from to
+    (cut_back old c.in_ok-replaced.replaced.items c.args.len c.min-from.result c.len-old.result from cut long)
+    c.min-self.ensures c.max-self.ensures (c.in-Ok.ensures.items ∙ ap (λ n. take c.args.len old ++ replicate (c.args.len - n) 0) capacity) in
+    record { recoverable = subst IsRecoverable (sym noted) (truncated_is_recoverable (state_of c.args.self.now) c.args.len c.args.self.now.recoverable) }
