@@ -15,9 +15,11 @@ use Rattle.raft_wire.specs.declared.frame.SnapshotReplyFrame.{SnapshotReplyFrame
 use Rattle.raft_wire.specs.declared.frame.FrameBody.{FrameBody}
 use Rattle.raft_wire.specs.declared.frame.FrameBody.TheVariants as body
 use Rattle.raft_wire.specs.declared.frame.Frame.{Frame}
+use Rattle.raft_wire.specs.declared.frame.FrameKind.{FrameKind}
+use Rattle.raft_wire.specs.declared.frame.FrameKind.TheVariants as kind
 use Rattle.raft_wire.specs.Values.{Entry}
 use Rattle.raft_wire.specs.Writing.{is_payload_short}
-use Rattle.raft_wire.specs.Reader.{Reader, ◌>>=◌, both, made, tested, number_at, byte_at}
+use Rattle.raft_wire.specs.Reader.{Reader, ◌>>=◌, both, made, number_at}
 use Rattle.raft_wire.specs.Entries.{follows}
 use Rattle.raft_wire.specs.Bodies.{spelled_vote_request, FitsVoteRequest, vote_request_at, spelled_vote_reply}
 use Rattle.raft_wire.specs.Bodies.{FitsVoteReply, vote_reply_at, spelled_append, FitsAppend, append_at}
@@ -25,15 +27,37 @@ use Rattle.raft_wire.specs.Bodies.{spelled_append_reply, FitsAppendReply, append
 use Rattle.raft_wire.specs.Bodies.{spelled_snapshot_frame, FitsSnapshotFrame, snapshot_frame_at}
 use Rattle.raft_wire.specs.Bodies.{spelled_snapshot_reply, FitsSnapshotReply, snapshot_reply_at}
 
+-- ---- kinds
+
+-- the byte that names a kind
+abbrev pub byte_of_kind : FrameKind → ℕ
+byte_of_kind kind.VoteRequest = 1
+byte_of_kind kind.VoteReply = 2
+byte_of_kind kind.Append = 3
+byte_of_kind kind.AppendReply = 4
+byte_of_kind kind.Snapshot = 5
+byte_of_kind kind.SnapshotReply = 6
+
+unfoldable pub kind_at : Reader FrameKind
+kind_at [] = Err fault.CutShort
+kind_at (zero ∷ rest) = Err fault.BadKind
+kind_at (suc zero ∷ rest) = Ok (kind.VoteRequest, rest)
+kind_at (suc (suc zero) ∷ rest) = Ok (kind.VoteReply, rest)
+kind_at (suc (suc (suc zero)) ∷ rest) = Ok (kind.Append, rest)
+kind_at (suc (suc (suc (suc zero))) ∷ rest) = Ok (kind.AppendReply, rest)
+kind_at (suc (suc (suc (suc (suc zero)))) ∷ rest) = Ok (kind.Snapshot, rest)
+kind_at (suc (suc (suc (suc (suc (suc zero))))) ∷ rest) = Ok (kind.SnapshotReply, rest)
+kind_at (suc (suc (suc (suc (suc (suc (suc n)))))) ∷ rest) = Err fault.BadKind
+
 -- ---- what a frame says
 
-abbrev pub kind_of : FrameBody → ℕ
-kind_of (body.VoteRequest r) = 1
-kind_of (body.VoteReply r) = 2
-kind_of (body.Append f) = 3
-kind_of (body.AppendReply f) = 4
-kind_of (body.Snapshot f) = 5
-kind_of (body.SnapshotReply f) = 6
+abbrev pub kind_of : FrameBody → FrameKind
+kind_of (body.VoteRequest r) = kind.VoteRequest
+kind_of (body.VoteReply r) = kind.VoteReply
+kind_of (body.Append f) = kind.Append
+kind_of (body.AppendReply f) = kind.AppendReply
+kind_of (body.Snapshot f) = kind.Snapshot
+kind_of (body.SnapshotReply f) = kind.SnapshotReply
 
 abbrev pub spelled_body : FrameBody → List ℕ
 spelled_body (body.VoteRequest r) = spelled_vote_request r
@@ -70,29 +94,24 @@ abbrev pub answers_snapshot : SnapshotReplyFrame → FrameBody
 answers_snapshot f = body.SnapshotReply f
 
 -- the body of a frame of this kind
-unfoldable pub body_at : ℕ → Reader FrameBody
-body_at zero bytes = Err fault.BadKind
-body_at (suc zero) bytes = made asks vote_request_at bytes
-body_at (suc (suc zero)) bytes = made answers_vote vote_reply_at bytes
-body_at (suc (suc (suc zero))) bytes = made appends append_at bytes
-body_at (suc (suc (suc (suc zero)))) bytes = made answers_append append_reply_at bytes
-body_at (suc (suc (suc (suc (suc zero))))) bytes = made sends_snapshot snapshot_frame_at bytes
-body_at (suc (suc (suc (suc (suc (suc zero)))))) bytes = made answers_snapshot snapshot_reply_at bytes
-body_at (suc (suc (suc (suc (suc (suc (suc n))))))) bytes = Err fault.BadKind
+unfoldable pub body_at : FrameKind → Reader FrameBody
+body_at kind.VoteRequest bytes = made asks vote_request_at bytes
+body_at kind.VoteReply bytes = made answers_vote vote_reply_at bytes
+body_at kind.Append bytes = made appends append_at bytes
+body_at kind.AppendReply bytes = made answers_append append_reply_at bytes
+body_at kind.Snapshot bytes = made sends_snapshot snapshot_frame_at bytes
+body_at kind.SnapshotReply bytes = made answers_snapshot snapshot_reply_at bytes
 
 -- ---- frames without their length: kind, group, sender, addressee, body
 
 abbrev pub spelled_rest : Frame → List ℕ
 spelled_rest f =
-    kind_of f.body ∷ (to_be_bytes w64 f.group ++ to_be_bytes w64 f.sender ++ to_be_bytes w64 f.addressee
-    ++ spelled_body f.body)
-
-abbrev pub is_kind : ℕ → Bool
-is_kind n = nat_lt 0 n && nat_lt n 7
+    byte_of_kind (kind_of f.body) ∷ (to_be_bytes w64 f.group ++ to_be_bytes w64 f.sender
+        ++ to_be_bytes w64 f.addressee ++ spelled_body f.body)
 
 unfoldable pub rest_at : Reader Frame
 rest_at bytes = do
-  kind ← tested fault.BadKind is_kind byte_at bytes
+  kind ← kind_at bytes
   group ← number_at w64 kind.1
   sender ← number_at w64 group.1
   addressee ← number_at w64 sender.1

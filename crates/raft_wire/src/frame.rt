@@ -1,4 +1,7 @@
 //! What nodes send to one another.
+ghost use Rattle.std.specs.Prelude.{◌≡◌};
+ghost use Rattle.raft_wire.specs.Frames.{kind_of};
+
 use raft_engine::{AppendEntriesRequest, InstallSnapshotRequest, VoteRequest, VoteResponse};
 use raft_state::{BasicNode, Command, LogId, Vote};
 
@@ -80,6 +83,23 @@ pub struct SnapshotReplyFrame {
     pub result: SnapshotResult,
 }
 
+/// The kinds of frames. Their numbers are 1 to 6, in this order.
+#[derive(Clone, Copy, Debug, PartialEq, Eq)]
+pub enum FrameKind {
+    /// 1: a candidate asks for a vote.
+    VoteRequest,
+    /// 2: a node answers a candidate.
+    VoteReply,
+    /// 3: a leader sends entries, or says what is committed.
+    Append,
+    /// 4: a node answers an append request.
+    AppendReply,
+    /// 5: a leader sends its snapshot.
+    Snapshot,
+    /// 6: a node answers a snapshot.
+    SnapshotReply,
+}
+
 /// What a frame says: one of six kinds.
 #[derive(Debug, Drop)]
 pub enum FrameBody {
@@ -108,4 +128,20 @@ pub struct Frame {
     pub addressee: u64,
     /// What it says.
     pub body: FrameBody,
+}
+
+impl FrameBody {
+    /// The kind of a frame that says this.
+    pub fn kind(&self) -> FrameKind
+        ensures { result ≡ kind_of self.now }
+    {
+        match self {
+            FrameBody::VoteRequest(_) => FrameKind::VoteRequest,
+            FrameBody::VoteReply(_) => FrameKind::VoteReply,
+            FrameBody::Append(_) => FrameKind::Append,
+            FrameBody::AppendReply(_) => FrameKind::AppendReply,
+            FrameBody::Snapshot(_) => FrameKind::Snapshot,
+            FrameBody::SnapshotReply(_) => FrameKind::SnapshotReply,
+        }
+    }
 }

@@ -6,11 +6,13 @@ mod error;
 mod fields;
 mod frame;
 mod memberships;
+mod reading;
 
 pub use entries::{MAX_COMMAND_LEN, WireEntry, WirePayload, read_entry, write_entry};
 pub use error::{FrameError, FrameFault};
 pub use frame::{
-    AppendFrame, AppendId, AppendReplyFrame, AppendResult, Frame, FrameBody, SnapshotFrame,
-    SnapshotReplyFrame, SnapshotResult,
+    AppendFrame, AppendId, AppendReplyFrame, AppendResult, Frame, FrameBody, FrameKind,
+    SnapshotFrame, SnapshotReplyFrame, SnapshotResult,
 };
 pub use memberships::{MAX_ADDRESS_LEN, MAX_GROUPS, MAX_NODES, MAX_VOTERS, is_within_limits};
+pub use reading::{MAX_ENTRIES, MAX_SNAPSHOT_LEN, WireSnapshot};
