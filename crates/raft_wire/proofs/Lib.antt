@@ -5,3 +5,5 @@ pub mod Values
 pub mod Texts
 pub mod Rising
 pub mod Whole
+pub mod Joins
+pub mod Lengths

@@ -104,10 +104,11 @@ body_at kind.SnapshotReply bytes = made answers_snapshot snapshot_reply_at bytes
 
 -- ---- frames without their length: kind, group, sender, addressee, body
 
+abbrev pub spelled_parties : Frame → List ℕ
+spelled_parties f = to_be_bytes w64 f.group ++ (to_be_bytes w64 f.sender ++ to_be_bytes w64 f.addressee)
+
 abbrev pub spelled_rest : Frame → List ℕ
-spelled_rest f =
-    byte_of_kind (kind_of f.body) ∷ (to_be_bytes w64 f.group ++ to_be_bytes w64 f.sender
-        ++ to_be_bytes w64 f.addressee ++ spelled_body f.body)
+spelled_rest f = byte_of_kind (kind_of f.body) ∷ (spelled_parties f ++ spelled_body f.body)
 
 unfoldable pub rest_at : Reader Frame
 rest_at bytes = do
@@ -150,9 +151,11 @@ fault_of_entries es =
     else if not (are_consecutive None es) then Some fault.NotRising
     else None
 
+abbrev pub is_snapshot_short : Option LoggedMembership → List ℕ → Bool
+is_snapshot_short m bytes = is_logged_short m && nat_le (length bytes) 16777216
+
 abbrev pub fault_of_snapshot : Option LoggedMembership → List ℕ → Option FrameFault
-fault_of_snapshot m bytes =
-    if is_logged_short m && nat_le (length bytes) 16777216 then None else Some fault.TooLong
+fault_of_snapshot m bytes = if is_snapshot_short m bytes then None else Some fault.TooLong
 
 abbrev pub fault_of_frame : FrameBody → Option FrameFault
 fault_of_frame (body.VoteRequest r) = None

@@ -49,7 +49,7 @@ fn payload_of(alloc: Global, bytes: &[u8]) -> Result<(WirePayload, &[u8]), Frame
 }
 
 // Whether the place is the one after the last.
-fn follows(last: Option<u64>, index: u64) -> bool
+pub(crate) fn follows(last: Option<u64>, index: u64) -> bool
     ensures { result ≡ follows last index }
 {
     match last {

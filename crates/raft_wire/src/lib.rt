@@ -7,6 +7,7 @@ mod fields;
 mod frame;
 mod memberships;
 mod reading;
+mod writing;
 
 pub use entries::{MAX_COMMAND_LEN, WireEntry, WirePayload, read_entry, write_entry};
 pub use error::{FrameError, FrameFault};
@@ -16,3 +17,4 @@ pub use frame::{
 };
 pub use memberships::{MAX_ADDRESS_LEN, MAX_GROUPS, MAX_NODES, MAX_VOTERS, is_within_limits};
 pub use reading::{MAX_ENTRIES, MAX_SNAPSHOT_LEN, WireSnapshot};
+pub use writing::write_frame;
