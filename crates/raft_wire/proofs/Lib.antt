@@ -7,3 +7,5 @@ pub mod Rising
 pub mod Whole
 pub mod Joins
 pub mod Lengths
+pub mod Bodies
+pub mod Framed
