@@ -116,12 +116,12 @@ impl<NID: NodeId> IdSet<NID> {
         Ok(set)
     }
 
-    // The set of ids that are in order already.
-    pub(crate) fn from_rising(ids: Vec<NID>) -> IdSet<NID>
-        requires { IsRising NID.cmp ids.items }
-        ensures { result ≡ ids.items }
+    /// The set of ids that are in order already. Takes no memory.
+    pub fn from_rising(rising: Vec<NID>) -> IdSet<NID>
+        requires { IsRising NID.cmp rising.items }
+        ensures { result ≡ rising.items }
     {
-        IdSet { ids }
+        IdSet { ids: rising }
     }
 
     /// Whether the set has no ids.

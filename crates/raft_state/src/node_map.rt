@@ -154,12 +154,12 @@ impl<NID: NodeId, N: Node> NodeMap<NID, N> {
         Ok(IdSet::from_rising(ids))
     }
 
-    // The map of nodes that are in order already.
-    pub(crate) fn from_rising(nodes: Vec<(NID, N)>) -> NodeMap<NID, N>
-        requires { IsRisingByFirst NID.cmp nodes.items }
-        ensures { result ≡ nodes.items }
+    /// The map of nodes whose ids are in order already. Takes no memory.
+    pub fn from_rising(rising: Vec<(NID, N)>) -> NodeMap<NID, N>
+        requires { IsRisingByFirst NID.cmp rising.items }
+        ensures { result ≡ rising.items }
     {
-        NodeMap { nodes }
+        NodeMap { nodes: rising }
     }
 
     // What the map takes its memory from.

@@ -1,0 +1,11 @@
+pub mod Numbers
+pub mod Fitting
+pub mod Lists
+pub mod Values
+pub mod Texts
+pub mod Rising
+pub mod Whole
+pub mod Joins
+pub mod Lengths
+pub mod Bodies
+pub mod Framed

@@ -1,0 +1,166 @@
+-- Frames: their one spelling, and how they are read.
+use Rattle.std.specs.Prelude.{◌≡◌, ℕ, zero, suc, ◌<◌, ◌≤◌, ◌+◌, ◌^◌, nat_lt, nat_le, ◌&&◌, not, Bool, true, List, [], ◌∷◌, ◌++◌}
+use Rattle.std.specs.Prelude.{length, Option, Some, None, Result, Ok, Err, if◌then◌else◌}
+use Rattle.std.specs.List.{list_all}
+use Rattle.std.specs.Int.{w32, w64, to_be_bytes}
+use Rattle.raft_engine.specs.declared.vote_message.VoteRequest.{VoteRequest as VoteAsked}
+use Rattle.raft_engine.specs.declared.vote_message.VoteResponse.{VoteResponse}
+use Rattle.raft_engine.specs.Values.{is_within_limits}
+use Rattle.raft_wire.specs.declared.error.FrameFault.{FrameFault}
+use Rattle.raft_wire.specs.declared.error.FrameFault.TheVariants as fault
+use Rattle.raft_wire.specs.declared.frame.AppendFrame.{AppendFrame}
+use Rattle.raft_wire.specs.declared.frame.AppendReplyFrame.{AppendReplyFrame}
+use Rattle.raft_wire.specs.declared.frame.SnapshotFrame.{SnapshotFrame}
+use Rattle.raft_wire.specs.declared.frame.SnapshotReplyFrame.{SnapshotReplyFrame}
+use Rattle.raft_wire.specs.declared.frame.FrameBody.{FrameBody}
+use Rattle.raft_wire.specs.declared.frame.FrameBody.TheVariants as body
+use Rattle.raft_wire.specs.declared.frame.Frame.{Frame}
+use Rattle.raft_wire.specs.declared.frame.FrameKind.{FrameKind}
+use Rattle.raft_wire.specs.declared.frame.FrameKind.TheVariants as kind
+use Rattle.raft_wire.specs.Values.{Entry}
+use Rattle.raft_wire.specs.Writing.{is_payload_short}
+use Rattle.raft_wire.specs.Reader.{Reader, ◌>>=◌, both, made, number_at}
+use Rattle.raft_wire.specs.Entries.{follows}
+use Rattle.raft_wire.specs.Bodies.{spelled_vote_request, FitsVoteRequest, vote_request_at, spelled_vote_reply}
+use Rattle.raft_wire.specs.Bodies.{FitsVoteReply, vote_reply_at, spelled_append, FitsAppend, append_at}
+use Rattle.raft_wire.specs.Bodies.{spelled_append_reply, FitsAppendReply, append_reply_at, LoggedMembership}
+use Rattle.raft_wire.specs.Bodies.{spelled_snapshot_frame, FitsSnapshotFrame, snapshot_frame_at}
+use Rattle.raft_wire.specs.Bodies.{spelled_snapshot_reply, FitsSnapshotReply, snapshot_reply_at}
+
+-- ---- kinds
+
+-- the byte that names a kind
+abbrev pub byte_of_kind : FrameKind → ℕ
+byte_of_kind kind.VoteRequest = 1
+byte_of_kind kind.VoteReply = 2
+byte_of_kind kind.Append = 3
+byte_of_kind kind.AppendReply = 4
+byte_of_kind kind.Snapshot = 5
+byte_of_kind kind.SnapshotReply = 6
+
+unfoldable pub kind_at : Reader FrameKind
+kind_at [] = Err fault.CutShort
+kind_at (zero ∷ rest) = Err fault.BadKind
+kind_at (suc zero ∷ rest) = Ok (kind.VoteRequest, rest)
+kind_at (suc (suc zero) ∷ rest) = Ok (kind.VoteReply, rest)
+kind_at (suc (suc (suc zero)) ∷ rest) = Ok (kind.Append, rest)
+kind_at (suc (suc (suc (suc zero))) ∷ rest) = Ok (kind.AppendReply, rest)
+kind_at (suc (suc (suc (suc (suc zero)))) ∷ rest) = Ok (kind.Snapshot, rest)
+kind_at (suc (suc (suc (suc (suc (suc zero))))) ∷ rest) = Ok (kind.SnapshotReply, rest)
+kind_at (suc (suc (suc (suc (suc (suc (suc n)))))) ∷ rest) = Err fault.BadKind
+
+-- ---- what a frame says
+
+abbrev pub kind_of : FrameBody → FrameKind
+kind_of (body.VoteRequest r) = kind.VoteRequest
+kind_of (body.VoteReply r) = kind.VoteReply
+kind_of (body.Append f) = kind.Append
+kind_of (body.AppendReply f) = kind.AppendReply
+kind_of (body.Snapshot f) = kind.Snapshot
+kind_of (body.SnapshotReply f) = kind.SnapshotReply
+
+abbrev pub spelled_body : FrameBody → List ℕ
+spelled_body (body.VoteRequest r) = spelled_vote_request r
+spelled_body (body.VoteReply r) = spelled_vote_reply r
+spelled_body (body.Append f) = spelled_append f
+spelled_body (body.AppendReply f) = spelled_append_reply f
+spelled_body (body.Snapshot f) = spelled_snapshot_frame f
+spelled_body (body.SnapshotReply f) = spelled_snapshot_reply f
+
+abbrev pub FitsBody : FrameBody → Type 0
+FitsBody (body.VoteRequest r) = FitsVoteRequest r
+FitsBody (body.VoteReply r) = FitsVoteReply r
+FitsBody (body.Append f) = FitsAppend f
+FitsBody (body.AppendReply f) = FitsAppendReply f
+FitsBody (body.Snapshot f) = FitsSnapshotFrame f
+FitsBody (body.SnapshotReply f) = FitsSnapshotReply f
+
+abbrev pub asks : VoteAsked ℕ → FrameBody
+asks r = body.VoteRequest r
+
+abbrev pub answers_vote : VoteResponse ℕ → FrameBody
+answers_vote r = body.VoteReply r
+
+abbrev pub appends : AppendFrame → FrameBody
+appends f = body.Append f
+
+abbrev pub answers_append : AppendReplyFrame → FrameBody
+answers_append f = body.AppendReply f
+
+abbrev pub sends_snapshot : SnapshotFrame → FrameBody
+sends_snapshot f = body.Snapshot f
+
+abbrev pub answers_snapshot : SnapshotReplyFrame → FrameBody
+answers_snapshot f = body.SnapshotReply f
+
+-- the body of a frame of this kind
+unfoldable pub body_at : FrameKind → Reader FrameBody
+body_at kind.VoteRequest bytes = made asks vote_request_at bytes
+body_at kind.VoteReply bytes = made answers_vote vote_reply_at bytes
+body_at kind.Append bytes = made appends append_at bytes
+body_at kind.AppendReply bytes = made answers_append append_reply_at bytes
+body_at kind.Snapshot bytes = made sends_snapshot snapshot_frame_at bytes
+body_at kind.SnapshotReply bytes = made answers_snapshot snapshot_reply_at bytes
+
+-- ---- frames without their length: kind, group, sender, addressee, body
+
+abbrev pub spelled_parties : Frame → List ℕ
+spelled_parties f = to_be_bytes w64 f.group ++ (to_be_bytes w64 f.sender ++ to_be_bytes w64 f.addressee)
+
+abbrev pub spelled_rest : Frame → List ℕ
+spelled_rest f = byte_of_kind (kind_of f.body) ∷ (spelled_parties f ++ spelled_body f.body)
+
+unfoldable pub rest_at : Reader Frame
+rest_at bytes = do
+  kind ← kind_at bytes
+  group ← number_at w64 kind.1
+  sender ← number_at w64 group.1
+  addressee ← number_at w64 sender.1
+  said ← body_at kind.0 addressee.1
+  Ok (record { group = group.0; sender = sender.0; addressee = addressee.0; body = said.0 }, said.1)
+
+-- ---- frames
+
+abbrev pub spelled_frame : Frame → List ℕ
+spelled_frame f = to_be_bytes w32 (length (spelled_rest f)) ++ spelled_rest f
+
+pub record FitsFrame (f : Frame) : Type 0 where
+  pub group : f.group < 2 ^ 64
+  pub sender : f.sender < 2 ^ 64
+  pub addressee : f.addressee < 2 ^ 64
+  pub body : FitsBody f.body
+
+-- ---- why a frame isn't written
+
+-- each place follows the one before
+abbrev pub are_consecutive : Option ℕ → List Entry → Bool
+are_consecutive last [] = true
+are_consecutive last (e ∷ es) = follows last e.log_id.index && are_consecutive (Some e.log_id.index) es
+
+abbrev pub are_entries_short : List Entry → Bool
+are_entries_short es = nat_le (length es) 64 && list_all (λ e. is_payload_short e.payload) es
+
+abbrev pub is_logged_short : Option LoggedMembership → Bool
+is_logged_short None = true
+is_logged_short (Some m) = is_within_limits m.membership
+
+-- past a limit; then entries whose places don't follow one another
+abbrev pub fault_of_entries : List Entry → Option FrameFault
+fault_of_entries es =
+    if not (are_entries_short es) then Some fault.TooLong
+    else if not (are_consecutive None es) then Some fault.NotRising
+    else None
+
+abbrev pub is_snapshot_short : Option LoggedMembership → List ℕ → Bool
+is_snapshot_short m bytes = is_logged_short m && nat_le (length bytes) 16777216
+
+abbrev pub fault_of_snapshot : Option LoggedMembership → List ℕ → Option FrameFault
+fault_of_snapshot m bytes = if is_snapshot_short m bytes then None else Some fault.TooLong
+
+abbrev pub fault_of_frame : FrameBody → Option FrameFault
+fault_of_frame (body.VoteRequest r) = None
+fault_of_frame (body.VoteReply r) = None
+fault_of_frame (body.Append f) = fault_of_entries f.request.entries
+fault_of_frame (body.AppendReply f) = None
+fault_of_frame (body.Snapshot f) = fault_of_snapshot f.request.meta.last_membership f.request.bytes
+fault_of_frame (body.SnapshotReply f) = None

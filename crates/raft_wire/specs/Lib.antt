@@ -1,0 +1,9 @@
+pub mod Numbers
+pub mod Values
+pub mod Reader
+pub mod Fields
+pub mod Memberships
+pub mod Entries
+pub mod Writing
+pub mod Bodies
+pub mod Frames

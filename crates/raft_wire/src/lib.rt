@@ -1,0 +1,20 @@
+//! The bytes of stored entries and of the frames between nodes.
+#![tactic(auto)]
+
+mod entries;
+mod error;
+mod fields;
+mod frame;
+mod memberships;
+mod reading;
+mod writing;
+
+pub use entries::{MAX_COMMAND_LEN, WireEntry, WirePayload, read_entry, write_entry};
+pub use error::{FrameError, FrameFault};
+pub use frame::{
+    AppendFrame, AppendId, AppendReplyFrame, AppendResult, Frame, FrameBody, FrameKind,
+    SnapshotFrame, SnapshotReplyFrame, SnapshotResult,
+};
+pub use memberships::{MAX_ADDRESS_LEN, MAX_GROUPS, MAX_NODES, MAX_VOTERS, is_within_limits};
+pub use reading::{MAX_ENTRIES, MAX_SNAPSHOT_LEN, WireSnapshot};
+pub use writing::write_frame;

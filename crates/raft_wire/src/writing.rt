@@ -1,0 +1,355 @@
+//! Frames, written field by field.
+ghost use Rattle.std.specs.Prelude.{◌≡◌, ◌≤◌, ◌<◌, ◌-◌, ◌^◌, ◌++◌, ◌&&◌, ◌∷◌, true, nat_le, None, All, drop, length, OnOk, IfOk};
+ghost use Rattle.std.specs.List.{flat_map, list_all};
+ghost use Rattle.std.specs.Int.{w32, w64, to_be_bytes};
+ghost use Rattle.raft_engine.specs.Values.{is_within_limits};
+ghost use Rattle.raft_wire.specs.Memberships.{spelled_list};
+ghost use Rattle.raft_wire.specs.Entries.{spelled_entry};
+ghost use Rattle.raft_wire.specs.Writing.{Writes, is_payload_short};
+ghost use Rattle.raft_wire.specs.Bodies.{spelled_vote_request, spelled_vote_reply, spelled_id, spelled_number};
+ghost use Rattle.raft_wire.specs.Bodies.{spelled_append, spelled_result, spelled_append_reply, spelled_logged};
+ghost use Rattle.raft_wire.specs.Bodies.{spelled_snapshot, spelled_snapshot_frame, spelled_snapshot_result};
+ghost use Rattle.raft_wire.specs.Bodies.{spelled_behind_none, spelled_snapshot_reply};
+ghost use Rattle.raft_wire.specs.Fields.{spelled_option};
+ghost use Rattle.raft_wire.specs.Frames.{byte_of_kind, spelled_parties, spelled_body, spelled_rest, spelled_frame};
+ghost use Rattle.raft_wire.specs.Frames.{are_consecutive, are_entries_short, is_logged_short, is_snapshot_short};
+ghost use Rattle.raft_wire.specs.Frames.{fault_of_entries, fault_of_snapshot, fault_of_frame};
+
+use crate::entries::{WireEntry, follows, is_payload_short, put_entry};
+use crate::error::{FrameError, FrameFault};
+use crate::fields::{put_count, put_flag, put_last, put_log_id, put_text, put_u64, put_vote};
+use crate::frame::{
+    AppendFrame, AppendId, AppendReplyFrame, AppendResult, Frame, FrameBody, FrameKind,
+    SnapshotFrame, SnapshotReplyFrame, SnapshotResult,
+};
+use crate::memberships::{is_within_limits, put_membership};
+use crate::reading::{MAX_ENTRIES, MAX_SNAPSHOT_LEN};
+use raft_engine::{LoggedMembership, SnapshotMeta, VoteRequest, VoteResponse};
+use raft_state::{BasicNode, Bytes, LogId};
+use std::alloc::{AllocError, Global};
+
+fn put_vote_request(out: &mut Vec<u8>, request: &VoteRequest<u64>) -> Result<(), AllocError>
+    ensures { OnOk result (out.new.items ≡ out.old.items ++ spelled_vote_request request.now) }
+{
+    put_vote(out, &request.vote)?;
+    put_last(out, &request.last_log_id)
+}
+
+fn put_vote_reply(out: &mut Vec<u8>, reply: &VoteResponse<u64>) -> Result<(), AllocError>
+    ensures { OnOk result (out.new.items ≡ out.old.items ++ spelled_vote_reply reply.now) }
+{
+    put_vote(out, &reply.vote)?;
+    put_flag(out, reply.vote_granted)?;
+    put_last(out, &reply.last_log_id)
+}
+
+// ---- append requests and their replies
+
+fn put_id(out: &mut Vec<u8>, id: AppendId) -> Result<(), AllocError>
+    ensures { OnOk result (out.new.items ≡ out.old.items ++ spelled_id id) }
+{
+    match id {
+        AppendId::HeartBeat => Ok(out.push(0)?),
+        AppendId::Numbered { id } => {
+            out.push(1)?;
+            put_u64(out, id)
+        }
+    }
+}
+
+// The entries without their count.
+fn put_all(out: &mut Vec<u8>, entries: &[WireEntry]) -> Result<(), AllocError>
+    requires { All (λ e. is_payload_short e.payload ≡ true) entries.now }
+    ensures { OnOk result (out.new.items ≡ out.old.items ++ flat_map spelled_entry entries.now) }
+{
+    for entry in entries {
+        put_entry(out, entry)?;
+    }
+    Ok(())
+}
+
+fn put_entries(out: &mut Vec<u8>, entries: &[WireEntry]) -> Result<(), AllocError>
+    requires { are_entries_short entries.now ≡ true }
+    ensures { OnOk result (out.new.items ≡ out.old.items ++ spelled_list spelled_entry entries.now) }
+{
+    put_count(out, entries.len())?;
+    put_all(out, entries)
+}
+
+fn put_append(out: &mut Vec<u8>, frame: &AppendFrame) -> Result<(), AllocError>
+    requires { are_entries_short frame.now.request.entries ≡ true }
+    ensures { OnOk result (out.new.items ≡ out.old.items ++ spelled_append frame.now) }
+{
+    put_vote(out, &frame.request.vote)?;
+    put_id(out, frame.id)?;
+    put_last(out, &frame.request.prev_log_id)?;
+    put_last(out, &frame.request.leader_commit)?;
+    put_entries(out, frame.request.entries.as_slice())
+}
+
+fn put_result(out: &mut Vec<u8>, outcome: &AppendResult) -> Result<(), AllocError>
+    ensures { OnOk result (out.new.items ≡ out.old.items ++ spelled_result outcome.now) }
+{
+    match outcome {
+        AppendResult::Success => Ok(out.push(0)?),
+        AppendResult::Conflict => Ok(out.push(1)?),
+        AppendResult::HigherVote(vote) => {
+            out.push(2)?;
+            put_vote(out, vote)
+        }
+    }
+}
+
+fn put_append_reply(out: &mut Vec<u8>, reply: &AppendReplyFrame) -> Result<(), AllocError>
+    ensures { OnOk result (out.new.items ≡ out.old.items ++ spelled_append_reply reply.now) }
+{
+    put_vote(out, &reply.vote)?;
+    put_id(out, reply.id)?;
+    put_last(out, &reply.prev_log_id)?;
+    put_last(out, &reply.last_log_id)?;
+    put_result(out, &reply.result)
+}
+
+// ---- snapshots and their replies
+
+fn put_number(out: &mut Vec<u8>, id: u64) -> Result<(), AllocError>
+    ensures { OnOk result (out.new.items ≡ out.old.items ++ spelled_number id) }
+{
+    out.push(1)?;
+    put_u64(out, id)
+}
+
+fn put_logged(
+    out: &mut Vec<u8>,
+    logged: &LoggedMembership<u64, BasicNode>,
+) -> Result<(), AllocError>
+    requires { is_within_limits logged.now.membership ≡ true }
+    ensures { OnOk result (out.new.items ≡ out.old.items ++ spelled_logged logged.now) }
+{
+    put_log_id(out, &logged.log_id)?;
+    put_membership(out, &logged.membership)
+}
+
+fn put_last_membership(
+    out: &mut Vec<u8>,
+    logged: &Option<LoggedMembership<u64, BasicNode>>,
+) -> Result<(), AllocError>
+    requires { is_logged_short logged.now ≡ true }
+    ensures { OnOk result (out.new.items ≡ out.old.items ++ spelled_option spelled_logged logged.now) }
+{
+    match logged {
+        None => Ok(out.push(0)?),
+        Some(logged) => {
+            out.push(1)?;
+            put_logged(out, logged)
+        }
+    }
+}
+
+fn put_snapshot(
+    out: &mut Vec<u8>,
+    meta: &SnapshotMeta<u64, BasicNode>,
+    bytes: &Bytes,
+) -> Result<(), AllocError>
+    requires { is_snapshot_short meta.now.last_membership bytes.now ≡ true }
+    ensures { OnOk result (out.new.items ≡ out.old.items ++ spelled_snapshot (meta.now, bytes.now)) }
+{
+    put_log_id(out, &meta.last_log_id)?;
+    put_last_membership(out, &meta.last_membership)?;
+    put_text(out, bytes.as_slice())
+}
+
+fn put_snapshot_frame(out: &mut Vec<u8>, frame: &SnapshotFrame) -> Result<(), AllocError>
+    requires { is_snapshot_short frame.now.request.meta.last_membership frame.now.request.bytes ≡ true }
+    ensures { OnOk result (out.new.items ≡ out.old.items ++ spelled_snapshot_frame frame.now) }
+{
+    put_vote(out, &frame.request.vote)?;
+    put_number(out, frame.id)?;
+    put_snapshot(out, &frame.request.meta, &frame.request.bytes)
+}
+
+fn put_snapshot_result(out: &mut Vec<u8>, outcome: &SnapshotResult) -> Result<(), AllocError>
+    ensures { OnOk result (out.new.items ≡ out.old.items ++ spelled_snapshot_result outcome.now) }
+{
+    match outcome {
+        SnapshotResult::Success => Ok(out.push(0)?),
+        SnapshotResult::HigherVote(vote) => {
+            out.push(2)?;
+            put_vote(out, vote)
+        }
+    }
+}
+
+fn put_behind_none(
+    out: &mut Vec<u8>,
+    last: &Option<LogId<u64>>,
+    outcome: &SnapshotResult,
+) -> Result<(), AllocError>
+    ensures { OnOk result (out.new.items ≡ out.old.items ++ spelled_behind_none (last.now, outcome.now)) }
+{
+    out.push(0)?;
+    put_last(out, last)?;
+    put_snapshot_result(out, outcome)
+}
+
+fn put_snapshot_reply(out: &mut Vec<u8>, reply: &SnapshotReplyFrame) -> Result<(), AllocError>
+    ensures { OnOk result (out.new.items ≡ out.old.items ++ spelled_snapshot_reply reply.now) }
+{
+    put_vote(out, &reply.vote)?;
+    put_number(out, reply.id)?;
+    put_behind_none(out, &reply.last_log_id, &reply.result)
+}
+
+// ---- why a frame isn't written
+
+// Whether each place follows the one before.
+fn are_consecutive(entries: &[WireEntry]) -> bool
+    ensures { result ≡ are_consecutive None entries.now }
+{
+    let mut last = None;
+    for entry in entries {
+        if !follows(last, entry.log_id.index) {
+            return false;
+        }
+        last = Some(entry.log_id.index);
+    }
+    true
+}
+
+fn are_payloads_short(entries: &[WireEntry]) -> bool
+    ensures { result ≡ list_all (λ e. is_payload_short e.payload) entries.now }
+{
+    entries.iter().all(|entry| is_payload_short(&entry.payload))
+}
+
+fn are_entries_short(entries: &[WireEntry]) -> bool
+    ensures { result ≡ are_entries_short entries.now }
+{
+    entries.len() <= MAX_ENTRIES as usize && are_payloads_short(entries)
+}
+
+fn fault_of_entries(entries: &[WireEntry]) -> Option<FrameFault>
+    ensures { result ≡ fault_of_entries entries.now }
+{
+    if !are_entries_short(entries) {
+        return Some(FrameFault::TooLong);
+    }
+    if !are_consecutive(entries) {
+        return Some(FrameFault::NotRising);
+    }
+    None
+}
+
+fn is_logged_short(logged: &Option<LoggedMembership<u64, BasicNode>>) -> bool
+    ensures { result ≡ is_logged_short logged.now }
+{
+    match logged {
+        None => true,
+        Some(logged) => is_within_limits(&logged.membership),
+    }
+}
+
+fn fault_of_snapshot(meta: &SnapshotMeta<u64, BasicNode>, bytes: &Bytes) -> Option<FrameFault>
+    ensures { result ≡ fault_of_snapshot meta.now.last_membership bytes.now }
+{
+    if is_logged_short(&meta.last_membership) && bytes.len() <= MAX_SNAPSHOT_LEN as usize {
+        None
+    } else {
+        Some(FrameFault::TooLong)
+    }
+}
+
+fn fault_of(body: &FrameBody) -> Option<FrameFault>
+    ensures { result ≡ fault_of_frame body.now }
+{
+    match body {
+        FrameBody::VoteRequest(_) => None,
+        FrameBody::VoteReply(_) => None,
+        FrameBody::Append(frame) => fault_of_entries(frame.request.entries.as_slice()),
+        FrameBody::AppendReply(_) => None,
+        FrameBody::Snapshot(frame) => fault_of_snapshot(&frame.request.meta, &frame.request.bytes),
+        FrameBody::SnapshotReply(_) => None,
+    }
+}
+
+// ---- frames
+
+fn byte_of_kind(kind: FrameKind) -> u8
+    ensures { result ≡ byte_of_kind kind }
+{
+    match kind {
+        FrameKind::VoteRequest => 1,
+        FrameKind::VoteReply => 2,
+        FrameKind::Append => 3,
+        FrameKind::AppendReply => 4,
+        FrameKind::Snapshot => 5,
+        FrameKind::SnapshotReply => 6,
+    }
+}
+
+fn put_body(out: &mut Vec<u8>, body: &FrameBody) -> Result<(), AllocError>
+    requires { fault_of_frame body.now ≡ None }
+    ensures { OnOk result (out.new.items ≡ out.old.items ++ spelled_body body.now) }
+{
+    match body {
+        FrameBody::VoteRequest(request) => put_vote_request(out, request),
+        FrameBody::VoteReply(reply) => put_vote_reply(out, reply),
+        FrameBody::Append(frame) => put_append(out, frame),
+        FrameBody::AppendReply(reply) => put_append_reply(out, reply),
+        FrameBody::Snapshot(frame) => put_snapshot_frame(out, frame),
+        FrameBody::SnapshotReply(reply) => put_snapshot_reply(out, reply),
+    }
+}
+
+// The group, the sender and the addressee.
+fn put_parties(out: &mut Vec<u8>, frame: &Frame) -> Result<(), AllocError>
+    ensures { OnOk result (out.new.items ≡ out.old.items ++ spelled_parties frame.now) }
+{
+    put_u64(out, frame.group)?;
+    put_u64(out, frame.sender)?;
+    put_u64(out, frame.addressee)
+}
+
+// A frame behind its length.
+fn put_rest(out: &mut Vec<u8>, frame: &Frame) -> Result<(), AllocError>
+    requires { fault_of_frame frame.now.body ≡ None }
+    ensures { OnOk result (out.new.items ≡ out.old.items ++ spelled_rest frame.now) }
+{
+    out.push(byte_of_kind(frame.body.kind()))?;
+    put_parties(out, frame)?;
+    put_body(out, &frame.body)
+}
+
+// Puts the length of what follows into the first four bytes.
+fn set_length(bytes: &mut [u8])
+    requires some { 4 ≤ length bytes.old }
+    requires short { length bytes.old < 2 ^ 32 }
+    ensures { bytes.new ≡ to_be_bytes w32 (length bytes.old - 4) ++ drop 4 bytes.old }
+{
+    let len = (bytes.len() - 4) as u32;
+    bytes[..4].copy_from_slice(&len.to_be_bytes());
+}
+
+// The bytes of a frame that has a spelling.
+fn frame_bytes(alloc: Global, frame: &Frame) -> Result<Vec<u8>, AllocError>
+    requires { fault_of_frame frame.now.body ≡ None }
+    ensures { IfOk result (λ v. v.items ≡ spelled_frame frame.now) }
+{
+    let mut out = Vec::new(alloc);
+    out.extend_from_slice(&[0, 0, 0, 0])?;
+    put_rest(&mut out, frame)?;
+    set_length(&mut out);
+    Ok(out)
+}
+
+/// The one spelling of a frame. Refused are entries, commands, memberships and bytes of a machine
+/// past their limits (`TooLong`), then entries whose places don't follow one another (`NotRising`),
+/// and then want of memory (`Memory`).
+pub fn write_frame(alloc: Global, frame: &Frame) -> Result<Vec<u8>, FrameError>
+    ensures { Writes (fault_of_frame frame.now.body) (spelled_frame frame.now) result }
+{
+    if let Some(fault) = fault_of(&frame.body) {
+        return Err(FrameError::Fault(fault));
+    }
+    Ok(frame_bytes(alloc, frame)?)
+}
