@@ -13,4 +13,5 @@ pub mod ReplaceLemmas
 pub mod KeysOfLemmas
 pub mod KeyLeaderLemmas
 pub mod ExtendLemmas
+pub mod FrontLemmas
 pub mod KeyTestLemmas

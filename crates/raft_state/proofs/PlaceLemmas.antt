@@ -8,8 +8,9 @@ use Rattle.std.specs.Cmp.{IsTotalOrder}
 use Rattle.std.specs.List.{insert}
 use Rattle.std.specs.BTreeSet.{insert_key}
 use Rattle.raft_state.specs.Place.{place, after_one}
-use Rattle.raft_state.specs.Rising.{IsBelowAll, IsRising, IsRisingByFirst}
+use Rattle.raft_state.specs.Rising.{IsBelowAll, IsRisingByFirst}
 use Rattle.raft_state.specs.Nodes.{with_node}
+use Rattle.raft_state.specs.RisingLaws.{below_trans}
 use Rattle.std.proofs.Math.ListN.{set}
 
 -- what is sought lies behind each of the first n
@@ -72,32 +73,9 @@ insert_key-gap cmp xs ys k gap same found =
     insert_key-place cmp xs k ∙ ap (λ l. put_in_gap xs k (place (cmp k) l)) (sym same) ∙ ap (put_in_gap xs k) (sym found)
 
 module _ {K : Type 0} {cmp : K → K → Ordering} (order : IsTotalOrder cmp) where
-  below-trans : (a b : K) (xs : List K) → cmp a b ≡ Less → IsBelowAll cmp b xs → IsBelowAll cmp a xs
-  below-trans a b [] e h = tt
-  below-trans a b (x ∷ xs) e h = (order.trans a b x e h.0, below-trans a b xs e h.1)
-
   below-equal : (a b : K) (xs : List K) → cmp a b ≡ Equal → IsBelowAll cmp b xs → IsBelowAll cmp a xs
   below-equal a b [] e h = tt
   below-equal a b (x ∷ xs) e h = (order.congr a b x e ∙ h.0, below-equal a b xs e h.1)
-
-  below-insert_key : (a k : K) (xs : List K) → cmp a k ≡ Less → IsBelowAll cmp a xs → IsBelowAll cmp a (insert_key cmp xs k)
-  below-insert_key a k [] e h = (e, tt)
-  below-insert_key a k (x ∷ xs) e h =
-      elim (cmp k x) as (λ o. IsBelowAll cmp a (match_ordering o (k ∷ x ∷ xs) (x ∷ xs) (x ∷ insert_key cmp xs k))) [
-        | Less ↦ (e, h)
-        | Equal ↦ h
-        | Greater ↦ (h.0, below-insert_key a k xs e h.1)
-      ]
-
-  -- an id that comes in leaves the ids in order
-  pub rising-insert_key : (k : K) (xs : List K) → IsRising cmp xs → IsRising cmp (insert_key cmp xs k)
-  rising-insert_key k [] h = (tt, tt)
-  rising-insert_key k (x ∷ xs) h =
-      elim (cmp k x) as (λ o. cmp k x ≡ o → IsRising cmp (match_ordering o (k ∷ x ∷ xs) (x ∷ xs) (x ∷ insert_key cmp xs k))) [
-        | Less ↦ λ e. ((e, below-trans k x xs e h.0), h)
-        | Equal ↦ λ e. h
-        | Greater ↦ λ e. (below-insert_key x k xs (order.antisymm x k ∙ ap ordering_reverse e) h.0, rising-insert_key k xs h.1)
-      ] refl
 
 -- the pairs with one at the place, or in the gap, that was found
 abbrev pub put_node : {K N : Type 0} → List (K × N) → K × N → Result ℕ ℕ → List (K × N)
@@ -142,7 +120,7 @@ module _ {K N : Type 0} {cmp : K → K → Ordering} (order : IsTotalOrder cmp) 
   rising-with_node id node [] h = (tt, tt)
   rising-with_node id node (x ∷ xs) h =
       elim (cmp id x.0) as (λ o. cmp id x.0 ≡ o → IsRisingByFirst cmp (match_ordering o ((id, node) ∷ x ∷ xs) ((id, node) ∷ xs) (x ∷ with_node cmp xs id node))) [
-        | Less ↦ λ e. ((e, below-trans order id x.0 (map (λ (x : K × N). x.0) xs) e h.0), h)
+        | Less ↦ λ e. ((e, below_trans order id x.0 (map (λ (x : K × N). x.0) xs) e h.0), h)
         | Equal ↦ λ e. (below-equal order id x.0 (map (λ (x : K × N). x.0) xs) e h.0, h.1)
         | Greater ↦ λ e. (below-with_node x.0 id node xs (order.antisymm x.0 id ∙ ap ordering_reverse e) h.0, rising-with_node id node xs h.1)
       ] refl

@@ -1,6 +1,6 @@
 -- A log's ids as a full list, and the keys from which it is made.
 use Rattle.std.specs.Prelude.{◌≡◌, ◌≢◌, ℕ, ◌+◌, ◌-◌, ◌<◌, ◌≤◌, ◌==◌, Bool, true, false, not, if◌then◌else◌, nat_lt, nat_le, List}
-use Rattle.std.specs.Prelude.{[], ◌∷◌, ◌++◌, map, length, Option, Some, None}
+use Rattle.std.specs.Prelude.{[], ◌∷◌, ◌++◌, map, length, take, slice_set, Option, Some, None}
 use Rattle.std.specs.List.{range_with_len, slice_get, filter, find, fold}
 use Rattle.std.specs.declared.cmp.Ordering.{Ordering}
 use Rattle.std.specs.declared.cmp.Ordering.TheVariants.{Less, Greater}
@@ -72,6 +72,16 @@ module _ {K : Type 0} where
   abbrev pub IsBelowNext : LogId K → List (LogId K) → Type 0
   IsBelowNext key [] = Unit {0}
   IsBelowNext key (next ∷ keys) = key.index < next.index
+
+  -- so many of the log ids, of which the last one is this
+  abbrev pub with_end : List (LogId K) → ℕ → Option (LogId K) → List (LogId K)
+  with_end ids n None = take n ids
+  with_end ids n (Some last) = slice_set (take n ids) (n - 1) last
+
+  -- the others begin as these do, but for the last one of these
+  abbrev pub KeepsFront : List (LogId K) → List (LogId K) → Type 0
+  KeepsFront ids others =
+      (length ids ≤ length others) × (take (length ids - 1) others ≡ take (length ids - 1) ids)
 
   -- the places rise
   abbrev pub PlacesRise : List (LogId K) → Type 0

@@ -1,10 +1,11 @@
 //! The membership in force.
-ghost use Rattle.std.specs.Prelude.{◌≡◌, IfOk};
+ghost use Rattle.std.specs.Prelude.{◌≡◌, None, [], IfOk};
 ghost use Rattle.std.specs.Option.{option_copied};
 ghost use Rattle.raft_state.specs.Membership.{is_voter, voter_ids};
 ghost use Rattle.raft_state.specs.Nodes.{node_at};
 ghost use Rattle.raft_state.specs.Quorum.{is_quorum};
 ghost use Rattle.raft_state.specs.QuorumLaws.{wider_quorum};
+ghost use Rattle.raft_state.specs.RisingLaws.{joint_ids_rise};
 
 use crate::has_id::HasId;
 use crate::id_set::IdSet;
@@ -32,6 +33,16 @@ impl<NID: NodeId, N: Node> EffectiveMembership<NID, N> {
         ensures { result ≡ record { log_id = log_id; membership = membership } }
     {
         EffectiveMembership { log_id, membership }
+    }
+
+    /// No voter groups and no nodes, which no entry has. Takes no memory.
+    pub fn default(alloc: Global) -> EffectiveMembership<NID, N>
+        ensures { result ≡ record { log_id = None; membership = record { configs = []; nodes = [] } } }
+    {
+        EffectiveMembership {
+            log_id: None,
+            membership: Membership::default(alloc),
+        }
     }
 
     /// The log id of the entry that has the membership.
@@ -119,4 +130,6 @@ impl<NID: NodeId, N: Node> QuorumSet<NID> for EffectiveMembership<NID, N> {
     }
 
     ghost superset = { λ m p r wider h. wider_quorum p r wider m.membership.configs h };
+
+    ghost members_rise = { λ m. joint_ids_rise NID.total (λ group. group) m.membership.configs };
 }

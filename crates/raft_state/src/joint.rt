@@ -4,6 +4,7 @@ ghost use Rattle.std.specs.List.{list_all, list_any, fold};
 ghost use Rattle.std.specs.BTreeSet.{insert_key};
 ghost use Rattle.raft_state.specs.Quorum.{joint_ids, next_configs};
 ghost use Rattle.raft_state.specs.QuorumLaws.{IsWithin, wider_joint};
+ghost use Rattle.raft_state.specs.RisingLaws.{joint_ids_rise};
 
 use crate::has_id::HasId;
 use crate::id_set::IdSet;
@@ -57,7 +58,7 @@ pub(crate) fn all_accept<ID: NodeId, QS: QuorumSet<ID>, S: HasId<ID>>(
 }
 
 // Takes all these ids in.
-fn insert_all<ID: NodeId>(set: &mut IdSet<ID>, ids: &[ID]) -> Result<(), AllocError>
+pub(crate) fn insert_all<ID: NodeId>(set: &mut IdSet<ID>, ids: &[ID]) -> Result<(), AllocError>
     ensures { OnOk result (set.new ≡ fold (insert_key ID.cmp) set.old ids.now) }
 {
     for id in ids {
@@ -67,7 +68,7 @@ fn insert_all<ID: NodeId>(set: &mut IdSet<ID>, ids: &[ID]) -> Result<(), AllocEr
 }
 
 // The ids of all children.
-pub(crate) fn all_ids<ID: NodeId, QS: QuorumSet<ID>>(
+fn all_ids<ID: NodeId, QS: QuorumSet<ID>>(
     alloc: Global,
     children: &[QS],
 ) -> Result<IdSet<ID>, AllocError>
@@ -95,6 +96,8 @@ impl<ID: NodeId, QS: QuorumSet<ID>> QuorumSet<ID> for Joint<ID, QS, Vec<QS>> {
     }
 
     ghost superset = { λ j p r wider h. wider_joint QS.accepts p r (λ q. QS.superset q p r wider) j.data.items h };
+
+    ghost members_rise = { λ j. joint_ids_rise ID.total QS.members j.data.items };
 }
 
 impl<ID: NodeId, QS: QuorumSet<ID>> QuorumSet<ID> for Joint<ID, QS, &[QS]> {
@@ -111,6 +114,8 @@ impl<ID: NodeId, QS: QuorumSet<ID>> QuorumSet<ID> for Joint<ID, QS, &[QS]> {
     }
 
     ghost superset = { λ j p r wider h. wider_joint QS.accepts p r (λ q. QS.superset q p r wider) j.data.now h };
+
+    ghost members_rise = { λ j. joint_ids_rise ID.total QS.members j.data.now };
 }
 
 /// What stands for a list of quorum sets (openraft).

@@ -4,6 +4,7 @@ ghost use Rattle.std.specs.List.{slice_get};
 ghost use Rattle.std.specs.Option.{option_copied};
 ghost use Rattle.raft_state.specs.LogIdList.{ids_of, last_id, id_at, appended, truncated, purged, PlacesRise, AreKeys, GoesOn};
 ghost use Rattle.raft_state.specs.LogIdList.{Reaches, ends_in_pair, keys_of, of_leader, extended, AllGoOn, IsBelowNext, IsLedOn};
+ghost use Rattle.raft_state.specs.LogIdList.{HaveOneLeader, KeepsFront, with_end};
 
 use crate::log_id::LogId;
 use crate::node::NodeId;
@@ -62,6 +63,7 @@ fn append_key<NID: NodeId>(keys: &mut Vec<LogId<NID>>, id: LogId<NID>) -> Result
     ensures ok { OnOk result (ids_of keys.new.items ≡ appended (ids_of keys.old.items) id) }
     ensures err { OnErr result (keys.new.items ≡ keys.old.items) }
     ensures keys { AreKeys NID.cmp keys.new.items }
+    ensures front { KeepsFront keys.old.items keys.new.items }
 {
     if ends_in_pair(keys.as_slice()) {
         let last = keys.len() - 1;
@@ -70,6 +72,105 @@ fn append_key<NID: NodeId>(keys: &mut Vec<LogId<NID>>, id: LogId<NID>) -> Result
     }
     keys.push(id)?;
     Ok(())
+}
+
+// Puts the log ids behind the others, one after the other. Where memory is refused, some of them
+// are there, and the last key before them may be another one.
+fn append_keys<NID: NodeId, LID: RaftLogId<NID>>(
+    keys: &mut Vec<LogId<NID>>,
+    new_ids: &[LID],
+) -> Result<(), AllocError>
+    requires keys { AreKeys NID.cmp keys.old.items }
+    requires go_on { AllGoOn NID.cmp (last_id keys.old.items) (map LID.id new_ids.now) }
+    ensures ok { OnOk result (ids_of keys.new.items ≡ extended (ids_of keys.old.items) (map LID.id new_ids.now)) }
+    ensures keys { AreKeys NID.cmp keys.new.items }
+    ensures front { KeepsFront keys.old.items keys.new.items }
+{
+    for new_id in new_ids {
+        append_key(keys, *new_id.get_log_id())?;
+    }
+    Ok(())
+}
+
+// The same for log ids of one leader, of which the first and the last one tell all.
+fn append_ends<NID: NodeId, LID: RaftLogId<NID>>(
+    keys: &mut Vec<LogId<NID>>,
+    new_ids: &[LID],
+) -> Result<(), AllocError>
+    requires keys { AreKeys NID.cmp keys.old.items }
+    requires go_on { AllGoOn NID.cmp (last_id keys.old.items) (map LID.id new_ids.now) }
+    requires one_leader { HaveOneLeader (map LID.id new_ids.now) }
+    ensures ok { OnOk result (ids_of keys.new.items ≡ extended (ids_of keys.old.items) (map LID.id new_ids.now)) }
+    ensures keys { AreKeys NID.cmp keys.new.items }
+    ensures front { KeepsFront keys.old.items keys.new.items }
+{
+    if new_ids.is_empty() {
+        return Ok(());
+    }
+    let first = *new_ids[0].get_log_id();
+    let last = *new_ids[new_ids.len() - 1].get_log_id();
+    append_key(keys, first)?;
+    if new_ids.len() == 1 {
+        return Ok(());
+    }
+    append_key(keys, last)?;
+    Ok(())
+}
+
+// Leaves so many keys, of which the last one is this.
+fn put_back<NID: NodeId>(keys: &mut Vec<LogId<NID>>, kept: usize, last: Option<LogId<NID>>)
+    requires { kept ≤ length keys.old.items }
+    ensures { keys.new.items ≡ with_end keys.old.items kept last }
+{
+    keys.truncate(kept);
+    if let Some(last) = last {
+        if kept > 0 {
+            keys[kept - 1] = last;
+        }
+    }
+}
+
+fn extend_keys<NID: NodeId, LID: RaftLogId<NID>>(
+    keys: &mut Vec<LogId<NID>>,
+    new_ids: &[LID],
+) -> Result<(), AllocError>
+    requires keys { AreKeys NID.cmp keys.old.items }
+    requires go_on { AllGoOn NID.cmp (last_id keys.old.items) (map LID.id new_ids.now) }
+    ensures ok { OnOk result (ids_of keys.new.items ≡ extended (ids_of keys.old.items) (map LID.id new_ids.now)) }
+    ensures err { OnErr result (keys.new.items ≡ keys.old.items) }
+    ensures keys { AreKeys NID.cmp keys.new.items }
+{
+    let kept = keys.len();
+    let last = keys.last().copied();
+    match append_keys(keys, new_ids) {
+        Ok(()) => Ok(()),
+        Err(refused) => {
+            put_back(keys, kept, last);
+            Err(refused)
+        }
+    }
+}
+
+fn extend_ends<NID: NodeId, LID: RaftLogId<NID>>(
+    keys: &mut Vec<LogId<NID>>,
+    new_ids: &[LID],
+) -> Result<(), AllocError>
+    requires keys { AreKeys NID.cmp keys.old.items }
+    requires go_on { AllGoOn NID.cmp (last_id keys.old.items) (map LID.id new_ids.now) }
+    requires one_leader { HaveOneLeader (map LID.id new_ids.now) }
+    ensures ok { OnOk result (ids_of keys.new.items ≡ extended (ids_of keys.old.items) (map LID.id new_ids.now)) }
+    ensures err { OnErr result (keys.new.items ≡ keys.old.items) }
+    ensures keys { AreKeys NID.cmp keys.new.items }
+{
+    let kept = keys.len();
+    let last = keys.last().copied();
+    match append_ends(keys, new_ids) {
+        Ok(()) => Ok(()),
+        Err(refused) => {
+            put_back(keys, kept, last);
+            Err(refused)
+        }
+    }
 }
 
 // The log id that the keys tell at a place.
@@ -219,12 +320,21 @@ impl<NID: NodeId> LogIdList<NID> {
         ensures ok { OnOk result (self.new ≡ extended self.old (map LID.id new_ids.now)) }
         ensures err { OnErr result (self.new ≡ self.old) }
     {
-        let mut longer = self.clone()?;
-        for new_id in new_ids {
-            longer.append(*new_id.get_log_id())?;
-        }
-        *self = longer;
-        Ok(())
+        extend_keys(&mut self.key_log_ids, new_ids)
+    }
+
+    /// The same for log ids of one leader, of which only the first and the last one are read.
+    /// Without memory the list stays.
+    pub fn extend_from_same_leader<LID: RaftLogId<NID>>(
+        &mut self,
+        new_ids: &[LID],
+    ) -> Result<(), AllocError>
+        requires go_on { AllGoOn NID.cmp (last_id self.old) (map LID.id new_ids.now) }
+        requires one_leader { HaveOneLeader (map LID.id new_ids.now) }
+        ensures ok { OnOk result (self.new ≡ extended self.old (map LID.id new_ids.now)) }
+        ensures err { OnErr result (self.new ≡ self.old) }
+    {
+        extend_ends(&mut self.key_log_ids, new_ids)
     }
 
     /// The keys that the last leader has: its first log id, and the last one of all.
@@ -259,7 +369,7 @@ impl<NID: NodeId> LogIdList<NID> {
     }
 
     /// No log ids. Takes no memory.
-    pub fn empty(alloc: Global) -> LogIdList<NID>
+    pub fn default(alloc: Global) -> LogIdList<NID>
         ensures { result ≡ [] }
     {
         LogIdList {

@@ -57,11 +57,11 @@ fn keys_out_of_order_are_told(rt: HostRuntime) -> Result<(), Fail> {
 // An empty list takes any log id, and then each that goes on from it.
 #[test]
 fn log_ids_go_on(rt: HostRuntime) -> Result<(), Fail> {
-    let mut list = LogIdList::empty(rt.alloc());
+    let mut list = LogIdList::default(rt.alloc());
     list.append(id(1, 1, 1))?;
     assert_eq!(rt; list.key_log_ids(), [id(1, 1, 1)].as_slice());
 
-    let mut list = LogIdList::empty(rt.alloc());
+    let mut list = LogIdList::default(rt.alloc());
     list.extend(&[id(2, 1, 4)])?;
     assert_eq!(rt; list.key_log_ids(), [id(2, 1, 4)].as_slice());
     let copy = list.clone()?;

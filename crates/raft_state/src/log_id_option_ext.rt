@@ -2,7 +2,7 @@
 ghost use Rattle.std.specs.Prelude.{◌≡◌, ◌<◌, ◌^◌, Option, ℕ};
 ghost use Rattle.std.specs.Option.{option_map};
 ghost use Rattle.raft_state.specs.LogIndex.{next_of};
-ghost use Rattle.raft_state.specs.LogId.{place_of};
+ghost use Rattle.raft_state.specs.LogId.{is_past, place_of, reaches, stands_before};
 
 use crate::log_id::LogId;
 use crate::node::NodeId;
@@ -55,5 +55,43 @@ impl<NID: NodeId> LogIdOptionExt for Option<&LogId<NID>> {
             None => 0,
             Some(log_id) => log_id.index + 1,
         }
+    }
+}
+
+// Whether the place isn't past the log id.
+pub(crate) fn reaches<NID: NodeId>(log_id: &Option<LogId<NID>>, index: u64) -> bool
+    ensures { result ≡ reaches log_id.now index }
+{
+    match log_id {
+        None => false,
+        Some(log_id) => index <= log_id.index,
+    }
+}
+
+// Whether the first stands at a lower index than the second; none stands below all.
+pub(crate) fn stands_before<NID: NodeId>(
+    first: &Option<LogId<NID>>,
+    second: &Option<LogId<NID>>,
+) -> bool
+    ensures { result ≡ stands_before first.now second.now }
+{
+    match (first, second) {
+        (_, None) => false,
+        (None, Some(_)) => true,
+        (Some(a), Some(b)) => a.index < b.index,
+    }
+}
+
+// Whether the first comes after the second; none comes before all.
+pub(crate) fn is_past<NID: NodeId>(
+    first: &Option<LogId<NID>>,
+    second: &Option<LogId<NID>>,
+) -> bool
+    ensures { result ≡ is_past NID.cmp first.now second.now }
+{
+    match (first, second) {
+        (None, _) => false,
+        (Some(_), None) => true,
+        (Some(a), Some(b)) => a.cmp(b).is_gt(),
     }
 }

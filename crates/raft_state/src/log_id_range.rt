@@ -1,10 +1,12 @@
 //! Ranges of log ids.
 ghost use Rattle.std.specs.Prelude.{◌≡◌, ◌+◌, ◌-◌, ◌<◌, ◌≤◌, ◌^◌};
-ghost use Rattle.raft_state.specs.LogId.{next_place};
+ghost use Rattle.raft_state.specs.LogId.{is_past, next_place};
+ghost use Rattle.raft_state.specs.Range.{range_fault};
 
 use crate::log_id::LogId;
-use crate::log_id_option_ext::LogIdOptionExt;
+use crate::log_id_option_ext::{LogIdOptionExt, is_past};
 use crate::node::NodeId;
+use crate::validate::{Invalid, Validate};
 use std::fmt::{self, Display};
 
 /// The log ids behind `prev` up to `last` (openraft).
@@ -29,6 +31,17 @@ impl<NID: NodeId> LogIdRange<NID> {
         ensures { result + next_place self.now.prev ≡ next_place self.now.last }
     {
         self.last.next_index() - self.prev.next_index()
+    }
+}
+
+impl<NID: NodeId> Validate<Invalid> for LogIdRange<NID> {
+    ghost fault = { range_fault NID.cmp };
+
+    fn validate(&self) -> Result<(), Invalid> {
+        if is_past(&self.prev, &self.last) {
+            return Err(Invalid::Range);
+        }
+        Ok(())
     }
 }
 

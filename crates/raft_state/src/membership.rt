@@ -2,17 +2,18 @@
 ghost use Rattle.std.specs.Option.{option_copied};
 ghost use Rattle.raft_state.specs.Nodes.{node_at};
 ghost use Rattle.raft_state.specs.Membership.{is_voter, voter_ids, learner_ids, filled_nodes};
-ghost use Rattle.std.specs.Prelude.{◌≡◌, ◌↔◌, ◌<◌, IsTrue, IfOk, length, not, OnOk, IfErr};
+ghost use Rattle.std.specs.Prelude.{◌≡◌, ◌↔◌, ◌<◌, IsTrue, IfOk, length, not, OnOk, IfErr, []};
 ghost use Rattle.raft_state.specs.Membership.{first_missing, missing_voter, has_empty_group, lesser};
 ghost use Rattle.raft_state.specs.Quorum.{is_quorum};
 ghost use Rattle.raft_state.specs.QuorumLaws.{wider_quorum};
+ghost use Rattle.raft_state.specs.RisingLaws.{joint_ids_rise};
 ghost use Rattle.raft_state.specs.Validity.{validity_fault};
 
 use crate::error::{ChangeMembershipError, EmptyMembership, LearnerNotFound};
 use crate::has_id::HasId;
 use crate::id_set::IdSet;
 use crate::into_nodes::IntoNodes;
-use crate::joint::{all_accept, all_ids};
+use crate::joint::{all_accept, insert_all};
 use crate::node::{Node, NodeId};
 use crate::node_map::NodeMap;
 use crate::quorum_set::QuorumSet;
@@ -69,6 +70,20 @@ fn missing_voter<NID: NodeId, N: Node>(
     least
 }
 
+// All voters of these groups.
+fn all_voters<NID: NodeId>(
+    alloc: Global,
+    groups: &[IdSet<NID>],
+) -> Result<IdSet<NID>, AllocError>
+    ensures { IfOk result (λ ids. ids ≡ voter_ids NID.cmp groups.now) }
+{
+    let mut ids = IdSet::new(alloc);
+    for group in groups {
+        insert_all(&mut ids, group.as_slice())?;
+    }
+    Ok(ids)
+}
+
 // Whether the id is in a voter group.
 pub(crate) fn is_voter<NID: NodeId>(groups: &VoterGroups<NID>, id: &NID) -> bool
     ensures { result ≡ is_voter NID.eq groups.now id.now }
@@ -98,6 +113,16 @@ impl<NID: NodeId, N: Node> Membership<NID, N> {
         Membership { configs, nodes }
     }
 
+    /// No voter groups and no nodes. Takes no memory.
+    pub fn default(alloc: Global) -> Membership<NID, N>
+        ensures { result ≡ record { configs = []; nodes = [] } }
+    {
+        Membership {
+            configs: VoterGroups::new(alloc),
+            nodes: NodeMap::new(alloc),
+        }
+    }
+
     /// The voter groups.
     pub fn get_joint_config(&self) -> &[IdSet<NID>]
         ensures { result.now ≡ self.now.configs }
@@ -121,7 +146,7 @@ impl<NID: NodeId, N: Node> Membership<NID, N> {
     ) -> Result<Membership<NID, N>, AllocError>
         ensures { IfOk result (λ m. m ≡ record { configs = configs.items; nodes = filled_nodes NID.eq NID.cmp N.default_node configs.items (T.nodes nodes) }) }
     {
-        let voters = all_ids(alloc, configs.as_slice())?;
+        let voters = all_voters(alloc, configs.as_slice())?;
         let defaults: NodeMap<NID, N> = voters.into_nodes(alloc)?;
         let nodes = nodes
             .into_nodes(alloc)?
@@ -143,7 +168,7 @@ impl<NID: NodeId, N: Node> Membership<NID, N> {
     pub fn voter_ids(&self) -> Result<IdSet<NID>, AllocError>
         ensures { IfOk result (λ ids. ids ≡ voter_ids NID.cmp self.now.configs) }
     {
-        all_ids(self.configs.allocator(), self.configs.as_slice())
+        all_voters(self.configs.allocator(), self.configs.as_slice())
     }
 
     /// The ids of the nodes that are no voters.
@@ -220,6 +245,8 @@ impl<NID: NodeId, N: Node> QuorumSet<NID> for Membership<NID, N> {
     }
 
     ghost superset = { λ m p r wider h. wider_quorum p r wider m.configs h };
+
+    ghost members_rise = { λ m. joint_ids_rise NID.total (λ group. group) m.configs };
 }
 
 impl<NID: NodeId, N: Node> Display for Membership<NID, N> {

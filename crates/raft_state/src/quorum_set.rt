@@ -4,6 +4,8 @@ ghost use Rattle.std.specs.List.{fold};
 ghost use Rattle.std.specs.BTreeSet.{insert_key};
 ghost use Rattle.raft_state.specs.Quorum.{is_majority, rising_ids};
 ghost use Rattle.raft_state.specs.QuorumLaws.{IsWithin, wider_majority};
+ghost use Rattle.raft_state.specs.Rising.{IsRising};
+ghost use Rattle.raft_state.specs.RisingLaws.{rising_ids_rise};
 
 use crate::has_id::HasId;
 use crate::id_set::IdSet;
@@ -27,6 +29,8 @@ pub trait QuorumSet<ID: NodeId> {
 
     // A superset of a quorum is a quorum.
     ghost superset: { (q : Self) (p r : ID → Bool) → IsWithin p r → accepts q p ≡ true → accepts q r ≡ true };
+    // The ids rise, so each is there once.
+    ghost members_rise: { (q : Self) → IsRising ID.cmp (members q) };
 }
 
 // Whether more than half of the group are in the set.
@@ -42,10 +46,11 @@ fn is_majority<ID: NodeId, S: HasId<ID>>(group: &[ID], nodes: &S) -> bool
     group.len() - count < count
 }
 
+#[tactic(auto, using(crate::specs::RisingLaws::rising_ids_same))]
 impl<ID: NodeId> QuorumSet<ID> for IdSet<ID> {
     ghost accepts = { λ ids p. is_majority p ids };
 
-    ghost members = { λ ids. ids };
+    ghost members = { rising_ids ID.cmp };
 
     fn is_quorum<S: HasId<ID>>(&self, nodes: &S) -> bool {
         is_majority(self.as_slice(), nodes)
@@ -56,6 +61,8 @@ impl<ID: NodeId> QuorumSet<ID> for IdSet<ID> {
     }
 
     ghost superset = { λ q p r wider h. wider_majority p r wider q h };
+
+    ghost members_rise = { rising_ids_rise ID.total };
 }
 
 impl<ID: NodeId> QuorumSet<ID> for Vec<ID> {
@@ -72,6 +79,8 @@ impl<ID: NodeId> QuorumSet<ID> for Vec<ID> {
     }
 
     ghost superset = { λ q p r wider h. wider_majority p r wider q.items h };
+
+    ghost members_rise = { λ q. rising_ids_rise ID.total q.items };
 }
 
 impl<ID: NodeId> QuorumSet<ID> for &[ID] {
@@ -88,4 +97,6 @@ impl<ID: NodeId> QuorumSet<ID> for &[ID] {
     }
 
     ghost superset = { λ q p r wider h. wider_majority p r wider q.now h };
+
+    ghost members_rise = { λ q. rising_ids_rise ID.total q.now };
 }

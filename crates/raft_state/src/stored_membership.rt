@@ -1,12 +1,12 @@
 //! Memberships as a log keeps them.
-ghost use Rattle.std.specs.Prelude.{◌≡◌, IfOk};
+ghost use Rattle.std.specs.Prelude.{◌≡◌, None, [], IfOk};
 ghost use Rattle.raft_state.specs.Membership.{voter_ids};
 
 use crate::id_set::IdSet;
 use crate::log_id::LogId;
 use crate::membership::Membership;
 use crate::node::{Node, NodeId};
-use std::alloc::AllocError;
+use std::alloc::{AllocError, Global};
 use std::fmt::{self, Display};
 
 /// A membership, and the log id of the entry that has it (openraft).
@@ -25,6 +25,16 @@ impl<NID: NodeId, N: Node> StoredMembership<NID, N> {
         ensures { result ≡ record { log_id = log_id; membership = membership } }
     {
         StoredMembership { log_id, membership }
+    }
+
+    /// No voter groups and no nodes, which no entry has. Takes no memory.
+    pub fn default(alloc: Global) -> StoredMembership<NID, N>
+        ensures { result ≡ record { log_id = None; membership = record { configs = []; nodes = [] } } }
+    {
+        StoredMembership {
+            log_id: None,
+            membership: Membership::default(alloc),
+        }
     }
 
     /// The log id of the entry that has the membership.

@@ -1,6 +1,7 @@
 use Rattle.std.proofs.Common.{◌∙◌, sym, subst}
 use Rattle.raft_state.specs.Rising.{IsRising}
-use Rattle.raft_state.proofs.PlaceLemmas.{insert_key-found, insert_key-gap, rising-insert_key}
+use Rattle.raft_state.proofs.PlaceLemmas.{insert_key-found, insert_key-gap}
+use Rattle.raft_state.specs.RisingLaws.{rising_insert_key}
 use Rattle.raft_state.proofs.id_set.insert_rising.Goals as goal
 
 pub returns-in-Ok-clause-ok : goal.returns-in-Ok-clause-ok
@@ -14,4 +15,4 @@ returns-in_ok-insert-in-Err-clause-ok g c =
 
 pub returns-in_ok-insert-in-Err-clause-rising : goal.returns-in_ok-insert-in-Err-clause-rising
 returns-in_ok-insert-in-Err-clause-rising g c =
-    subst (IsRising g.NID.Ord.cmp) (sym (returns-in_ok-insert-in-Err-clause-ok g c)) (rising-insert_key g.met.NID.Ord.total c.args.id c.args.ids.now.items c.requires)
+    subst (IsRising g.NID.Ord.cmp) (sym (returns-in_ok-insert-in-Err-clause-ok g c)) (rising_insert_key g.met.NID.Ord.total c.args.id c.args.ids.now.items c.requires)
