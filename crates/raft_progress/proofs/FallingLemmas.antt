@@ -1,5 +1,5 @@
 -- An entry that moves up past the lesser ones comes to its place.
-use Rattle.std.proofs.Common.{◌≡◌, ℕ, zero, suc, ◌<◌, ◌≤◌, ◌-◌, List, [], ◌∷◌, length, get_or, take, refl, ap, sym, ◌∙◌, subst, arith}
+use Rattle.std.proofs.Common.{◌≡◌, ℕ, zero, suc, ◌<◌, ◌≤◌, ◌-◌, List, [], ◌∷◌, ◌++◌, length, get_or, take, refl, ap, sym, ◌∙◌, subst, arith}
 use Rattle.std.specs.Prelude.{Bool, true, false}
 use Rattle.std.specs.declared.cmp.Ordering.{Ordering}
 use Rattle.std.specs.Ordering.{is_lt, is_le}
@@ -132,3 +132,12 @@ module _ {K V P : Type 0} {cmp : P → P → Ordering} (o : IsTotalOrder cmp) (c
       (every_weaker (λ z. at_most z x) (λ z. at_most z y) (λ z k. le_le o (compared z.1) (compared x.1) (compared y.1) k l) xs f.0, f.1)
   falling_but_set (x ∷ xs) (suc i) y d h l f =
       (every_but_set (λ z. at_most z x) xs i y f.0, falling_but_set xs i y d (omega arith) l f.1)
+
+  but_pushed : (Q : K × V → Type 0) (xs : List (K × V)) (y : K × V) → Every Q xs → AllBut (length xs) Q (xs ++ y ∷ [])
+  but_pushed Q [] y h = tt
+  but_pushed Q (x ∷ xs) y h = (h.0, but_pushed Q xs y h.1)
+
+  -- an entry behind falling ones leaves the others falling
+  pub falling_pushed : (xs : List (K × V)) (y : K × V) → IsFalling cmp compared xs → IsFallingBut cmp compared (length xs) (xs ++ y ∷ [])
+  falling_pushed [] y f = (tt, tt)
+  falling_pushed (x ∷ xs) y f = (but_pushed (λ z. at_most z x) xs y f.0, falling_pushed xs y f.1)

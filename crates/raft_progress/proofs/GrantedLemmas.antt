@@ -356,6 +356,10 @@ module _ {K V P : Type 0} (eq : K → K → Bool) {cmp : P → P → Ordering} (
         ))
         (le_if_lt o d v (le_lt o d g v least l))
 
+    -- where no quorum is found the default is granted
+    pub granted_default : (d : P) (ys : List (K × V)) (n : ℕ) → IsFalling cmp compared ys → RestsAt ys d n → NoQuorum ys n → Granted d d ys
+    granted_default d ys n f r nq = counted_granted d d ys (quiet_stop d ys n f r nq) (inl (eq_self o d)) (le_self o d)
+
     module _ (xs : List (K × V)) (i : ℕ) (y e : K × V) (within : i < length xs) (key : y.0 ≡ (get_or xs i e).0) (rises : is_le (cmp (val (get_or xs i e)) (val y)) ≡ true) where
       abbrev old : P
       old = val (get_or xs i e)

@@ -2,3 +2,5 @@ pub mod OrderLemmas
 pub mod FallingLemmas
 pub mod GrantedLemmas
 pub mod ValuesLemmas
+pub mod PartsLemmas
+pub mod CountedLemmas

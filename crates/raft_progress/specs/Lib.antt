@@ -1,4 +1,6 @@
 pub mod Granted
 pub mod Search
 pub mod Values
+pub mod Parts
 pub mod Counted
+pub mod Inflight

@@ -2,7 +2,13 @@
 use Rattle.std.specs.declared.cmp.Ordering.{Ordering}
 use Rattle.std.specs.Ordering.{is_lt}
 use Rattle.raft_state.specs.Nodes.{has_id}
-use Rattle.std.specs.Prelude.{Bool, true, false, not, ◌&&◌, cond, Option, Some, None, List, [], ◌∷◌}
+use Rattle.std.specs.Prelude.{ℕ, zero, suc, Bool, true, false, not, ◌&&◌, cond, Option, Some, None, List, [], ◌∷◌}
+
+-- the list with this value beside the id at the index
+abbrev pub with_value_at : {K V : Type 0} → List (K × V) → ℕ → V → List (K × V)
+with_value_at [] at v = []
+with_value_at (x ∷ xs) zero v = (x.0, v) ∷ xs
+with_value_at (x ∷ xs) (suc at) v = x ∷ with_value_at xs at v
 
 module _ {K V : Type 0} (eq : K → K → Bool) where
   -- the value beside the id

@@ -54,3 +54,18 @@ pub(crate) fn value_in<'a, ID: NodeId, V>(entries: &'a [(ID, V)], id: &ID) -> Op
     }
     None
 }
+
+// Sets the value of the id, and says whether it is there.
+pub(crate) fn set_value<ID: NodeId, V: Copy>(entries: &mut [(ID, V)], id: &ID, value: V) -> bool
+    ensures there { result ≡ has_node ID.eq entries.old id.now }
+    ensures entries { entries.new ≡ with_value ID.eq entries.old id.now value }
+{
+    match place(entries, id) {
+        Some(at) => {
+            let (same_id, _) = entries[at];
+            entries[at] = (same_id, value);
+            true
+        }
+        None => false,
+    }
+}

@@ -1,5 +1,5 @@
 //! The voters in falling order of their values, and the search for a quorum in front of them.
-ghost use Rattle.std.specs.Prelude.{◌≡◌, ◌<◌, ◌≤◌, ◌&&◌, ◌-◌, length, slice_set, slice_index_or, take, true, IfSome, IfNone, IsPermutation};
+ghost use Rattle.std.specs.Prelude.{◌≡◌, ◌<◌, ◌≤◌, ◌&&◌, ◌-◌, ◌++◌, ◌∷◌, [], length, slice_set, slice_index_or, take, true, IfSome, IfNone, OnOk, IsPermutation};
 ghost use Rattle.std.specs.Ordering.{is_le, is_lt};
 ghost use Rattle.raft_state.specs.Nodes.{has_node};
 ghost use Rattle.raft_progress.specs.Granted.{IsFalling, IsGranted, IsFallingBut};
@@ -7,6 +7,7 @@ ghost use Rattle.raft_progress.specs.Search.{EndsQuorum, HasNoQuorum};
 
 use crate::borrow::Borrow;
 use raft_state::{HasId, NodeId, QuorumSet};
+use std::alloc::AllocError;
 
 // The ids of these entries, as a set.
 #[derive(Drop)]
@@ -97,6 +98,7 @@ pub(crate) fn raise<ID: NodeId, V: Copy + Borrow<P>, P: Copy + Ord, QS: QuorumSe
     requires rises { (x : ID × V) → is_le (P.cmp (V.borrowed (slice_index_or voters.old index x).1) (V.borrowed value)) ≡ true }
     ensures values { (x : ID × V) → IsPermutation (slice_set voters.old index ((slice_index_or voters.old index x).0, value)) voters.new }
     ensures falling { IsFalling P.cmp V.borrowed voters.old → IsFalling P.cmp V.borrowed voters.new }
+    ensures grows { is_le (P.cmp granted result) ≡ true }
     ensures granted { (default : P) → IsFalling P.cmp V.borrowed voters.old
         → IsGranted ID.eq P.cmp V.borrowed (QS.accepts quorum_set.now) default granted voters.old
         → IsGranted ID.eq P.cmp V.borrowed (QS.accepts quorum_set.now) default result voters.new }
@@ -111,5 +113,34 @@ pub(crate) fn raise<ID: NodeId, V: Copy + Borrow<P>, P: Copy + Ord, QS: QuorumSe
     match find_quorum(quorum_set, voters, at, &granted) {
         Some(end) => *voters[end].1.borrow(),
         None => granted,
+    }
+}
+
+// Puts the entry among voters in falling order.
+pub(crate) fn push_falling<ID: NodeId, V: Copy + Borrow<P>, P: Copy + Ord>(
+    voters: &mut Vec<(ID, V)>,
+    entry: (ID, V),
+) -> Result<(), AllocError>
+    ensures entries { OnOk result (IsPermutation (voters.old.items ++ entry ∷ []) voters.new.items) }
+    ensures falling { OnOk result (IsFalling P.cmp V.borrowed voters.old.items → IsFalling P.cmp V.borrowed voters.new.items) }
+{
+    voters.push(entry)?;
+    let last = voters.len() - 1;
+    move_up(voters.as_mut_slice(), last);
+    Ok(())
+}
+
+// What these voters, in falling order, grant over the default.
+pub(crate) fn granted_by<ID: NodeId, V: Copy + Borrow<P>, P: Copy + Ord, QS: QuorumSet<ID>>(
+    quorum_set: &QS,
+    voters: &[(ID, V)],
+    default: P,
+) -> P
+    ensures { IsFalling P.cmp V.borrowed voters.now
+        → IsGranted ID.eq P.cmp V.borrowed (QS.accepts quorum_set.now) default result voters.now }
+{
+    match find_quorum(quorum_set, voters, 0, &default) {
+        Some(end) => *voters[end].1.borrow(),
+        None => default,
     }
 }

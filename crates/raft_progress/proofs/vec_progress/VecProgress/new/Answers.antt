@@ -1,7 +1,17 @@
 use Rattle.std.proofs.Common.{sym, subst}
 use Rattle.raft_progress.specs.Granted.{IsFalling, IsGranted}
+use Rattle.std.specs.List.{IsDistinct}
+use Rattle.raft_state.specs.Rising.{IsRising}
+use Rattle.raft_progress.specs.Parts.{ids_of}
+use Rattle.raft_progress.proofs.PartsLemmas.{ids-beside, rising_distinct}
 use Rattle.raft_progress.proofs.GrantedLemmas.{built_falling, built_granted}
 use Rattle.raft_progress.proofs.vec_progress.VecProgress.new.Goals as goal
+
+pub invariant_of-result : goal.invariant_of-result
+invariant_of-result g c =
+    subst (λ l. IsDistinct g.ID.PartialEq.eq (ids_of l)) (sym c.in_ok-voters.ensures)
+    (subst (IsDistinct g.ID.PartialEq.eq) (sym (ids-beside (λ _. c.args.default_value) c.as_slice.result.now))
+    (rising_distinct g.ID.Ord.cmp g.met.ID.Ord.matches_eq c.as_slice.result.now (subst (IsRising g.ID.Ord.cmp) (sym c.as_slice.ensures.ids) c.as_slice.ensures.rising)))
 
 pub returns-clause-counted : goal.returns-clause-counted
 returns-clause-counted g c =
