@@ -7,7 +7,7 @@ use Rattle.std.specs.Ordering.{match_ordering}
 use Rattle.std.specs.List.{list_any, filter, find, fold}
 use Rattle.raft_state.specs.Nodes.{has_id, has_node, with_node, with_new_node, with_new_nodes}
 use Rattle.raft_state.specs.Membership.{has_empty_group, is_voter, lesser, first_outside, least_outside}
-use Rattle.raft_state.specs.Validity.{fault_of, groups_fault, validity_fault, IsChangeFault}
+use Rattle.raft_state.specs.Validity.{fault_of, groups_fault, IsChangeFault}
 use Rattle.raft_state.specs.Quorum.{next_configs}
 use Rattle.std.specs.Cmp.Lexicographic.{pointwise}
 use Rattle.raft_state.specs.declared.membership.Membership.{Membership}
@@ -15,7 +15,7 @@ use Rattle.raft_state.specs.declared.change_members.ChangeMembers.{ChangeMembers
 use Rattle.raft_state.specs.declared.change_members.ChangeMembers.TheVariants.{ReplaceAllVoters, AddNodes, SetNodes, RemoveNodes}
 use Rattle.raft_state.specs.declared.error.ChangeMembershipError.{ChangeMembershipError}
 use Rattle.raft_state.specs.declared.error.ChangeMembershipError.TheVariants.{EmptyMembership, LearnerNotFound}
-use Rattle.raft_state.specs.MembershipChange.{changed, with_nodes, without_nodes, retained_nodes}
+use Rattle.raft_state.specs.MembershipChange.{fault_after, with_nodes, without_nodes, retained_nodes}
 use Rattle.raft_state.specs.QuorumLaws.{or_left, or_right}
 
 or_same : (a b : Bool) → (a || b) ≡ (a || (a || b))
@@ -145,28 +145,24 @@ module _ {K : Type 0} (cmp : K → K → Ordering) (known : K → Bool) where
 
 module _ {K N : Type 0} (eq : K → K → Bool) (cmp : K → K → Ordering) (itself : (x : K) → eq x x ≡ true) (identical : (x y : K) → eq x y ≡ true → x ≡ y)
     (same : (x y : K) → cmp x y ≡ Equal → x ≡ y) (m : Membership K N) (retain : Bool) where
-  -- the fault of what a change asks for
-  abbrev pub fault_after : ChangeMembers K N → Option (ChangeMembershipError K)
-  fault_after change = let next = changed eq cmp m change retain in validity_fault eq cmp next.configs next.nodes
-
-  pub told-replace : (ids : List K) → groups_fault cmp (has_node eq m.nodes) (next_configs (pointwise eq) m.configs ids) ≡ fault_after (ReplaceAllVoters ids)
+  pub told-replace : (ids : List K) → groups_fault cmp (has_node eq m.nodes) (next_configs (pointwise eq) m.configs ids) ≡ fault_after eq cmp m (ReplaceAllVoters ids) retain
   told-replace ids =
       let new : List (List K) = next_configs (pointwise eq) m.configs ids in
       ap (fault_of (has_empty_group new)) (sym (retained-alike eq cmp itself identical retain m.configs new m.nodes))
 
-  pub told-add : (nodes : List (K × N)) → groups_fault cmp (λ id. has_node eq m.nodes id || has_node eq nodes id) m.configs ≡ fault_after (AddNodes nodes)
+  pub told-add : (nodes : List (K × N)) → groups_fault cmp (λ id. has_node eq m.nodes id || has_node eq nodes id) m.configs ≡ fault_after eq cmp m (AddNodes nodes) retain
   told-add nodes =
       ap (fault_of (has_empty_group m.configs))
       (least_outside-same cmp (λ id. has_node eq m.nodes id || has_node eq nodes id) (has_node eq (with_new_nodes eq cmp m.nodes nodes)) m.configs
       (λ k. sym (has_with_new_nodes eq cmp same identical m.nodes nodes k)))
 
-  pub told-set : (nodes : List (K × N)) → groups_fault cmp (λ id. has_node eq m.nodes id || has_node eq nodes id) m.configs ≡ fault_after (SetNodes nodes)
+  pub told-set : (nodes : List (K × N)) → groups_fault cmp (λ id. has_node eq m.nodes id || has_node eq nodes id) m.configs ≡ fault_after eq cmp m (SetNodes nodes) retain
   told-set nodes =
       ap (fault_of (has_empty_group m.configs))
       (least_outside-same cmp (λ id. has_node eq m.nodes id || has_node eq nodes id) (has_node eq (with_nodes cmp m.nodes nodes)) m.configs
       (λ k. sym (has_with_nodes eq cmp same m.nodes nodes k)))
 
-  pub told-remove : (ids : List K) → groups_fault cmp (λ id. has_node eq m.nodes id && not (has_id eq ids id)) m.configs ≡ fault_after (RemoveNodes ids)
+  pub told-remove : (ids : List K) → groups_fault cmp (λ id. has_node eq m.nodes id && not (has_id eq ids id)) m.configs ≡ fault_after eq cmp m (RemoveNodes ids) retain
   told-remove ids =
       ap (fault_of (has_empty_group m.configs))
       (least_outside-same cmp (λ id. has_node eq m.nodes id && not (has_id eq ids id)) (has_node eq (without_nodes eq m.nodes ids)) m.configs

@@ -15,6 +15,11 @@ module _ {K N : Type 0} where
   truncated_from s since =
       if reaches s.effective.log_id since then record s { effective = s.committed } else s
 
+  -- other voter groups or nodes are in force once this membership is known to be committed
+  abbrev pub changes_force : (Membership K N → Membership K N → Bool) → MembershipState K N → EffectiveMembership K N → Bool
+  changes_force eq s m =
+      not (stands_before m.log_id s.effective.log_id) && not (eq m.membership s.effective.membership)
+
 module _ {K N : Type 0} (cmp : K → K → Ordering) where
   -- the log is committed up to a log id: so is the membership in force, if it isn't later
   abbrev pub committed_upto : MembershipState K N → Option (LogId K) → MembershipState K N

@@ -3,10 +3,10 @@ ghost use Rattle.std.specs.Prelude.{◌≡◌, ◌<◌, not, ◌&&◌, ◌||◌,
 ghost use Rattle.std.specs.Cmp.Lexicographic.{pointwise};
 ghost use Rattle.raft_state.specs.Nodes.{has_id, has_node};
 ghost use Rattle.raft_state.specs.Membership.{is_voter};
-ghost use Rattle.raft_state.specs.MembershipChange.{changed, is_told_first, last_config, next_coherent, retained_nodes};
+ghost use Rattle.raft_state.specs.MembershipChange.{changed, fault_after, is_told_first, last_config, next_coherent, retained_nodes};
 ghost use Rattle.raft_state.specs.Quorum.{next_configs};
 ghost use Rattle.raft_state.specs.declared.change_members.ChangeMembers.TheVariants.{AddVoters};
-ghost use Rattle.raft_state.specs.Validity.{groups_fault, validity_fault, IsChangeFault};
+ghost use Rattle.raft_state.specs.Validity.{groups_fault, IsChangeFault};
 
 use crate::change_members::ChangeMembers;
 use crate::error::ChangeMembershipError;
@@ -185,7 +185,7 @@ impl<NID: NodeId, N: Node> Membership<NID, N> {
     // The fault of what the change asks for, where it is told before anything is made.
     fn fault_told_first(&self, change: &ChangeMembers<NID, N>) -> Option<ChangeMembershipError<NID>>
         requires { 0 < length self.now.configs }
-        ensures told { is_told_first change.now ≡ true → (retain : Bool) → (let next = changed NID.eq NID.cmp self.now change.now retain in result ≡ validity_fault NID.eq NID.cmp next.configs next.nodes) }
+        ensures told { is_told_first change.now ≡ true → (retain : Bool) → result ≡ fault_after NID.eq NID.cmp self.now change.now retain }
         ensures untold { is_told_first change.now ≡ false → result ≡ None }
     {
         match change {
@@ -217,8 +217,8 @@ impl<NID: NodeId, N: Node> Membership<NID, N> {
     ) -> Result<Membership<NID, N>, ChangeMembershipError<NID>>
         requires { 0 < length self.now.configs }
         ensures ok { IfOk result (λ next. next ≡ changed NID.eq NID.cmp self.now change retain) }
-        ensures valid { OnOk result (let next = changed NID.eq NID.cmp self.now change retain in validity_fault NID.eq NID.cmp next.configs next.nodes ≡ None) }
-        ensures err { IfErr result (λ e. let next = changed NID.eq NID.cmp self.now change retain in IsChangeFault (is_told_first change) (validity_fault NID.eq NID.cmp next.configs next.nodes) e) }
+        ensures valid { OnOk result (fault_after NID.eq NID.cmp self.now change retain ≡ None) }
+        ensures err { IfErr result (IsChangeFault (is_told_first change) (fault_after NID.eq NID.cmp self.now change retain)) }
     {
         if let Some(fault) = self.fault_told_first(&change) {
             return Err(fault);

@@ -1,8 +1,8 @@
 //! The two memberships that a node knows.
-ghost use Rattle.std.specs.Prelude.{◌≡◌, ◌≢◌, ◌&&◌, not, None, [], IfOk, OnOk, OnErr, IfErr};
+ghost use Rattle.std.specs.Prelude.{◌≡◌, ◌≢◌, None, [], IfOk, OnOk, OnErr, IfErr};
 ghost use Rattle.raft_state.specs.Membership.{is_voter};
-ghost use Rattle.raft_state.specs.LogId.{reaches, stands_before};
-ghost use Rattle.raft_state.specs.MembershipState.{committed_upto, membership_fault, taken_over, truncated_from};
+ghost use Rattle.raft_state.specs.LogId.{reaches};
+ghost use Rattle.raft_state.specs.MembershipState.{changes_force, committed_upto, membership_fault, taken_over, truncated_from};
 
 use crate::effective_membership::EffectiveMembership;
 use crate::error::InProgress;
@@ -128,7 +128,7 @@ impl<NID: NodeId, N: Node> MembershipState<NID, N> {
         committed: EffectiveMembership<NID, N>,
     ) -> Result<bool, AllocError>
         ensures ok { OnOk result (self.new ≡ taken_over NID.cmp self.old committed) }
-        ensures changed { IfOk result (λ changed. changed ≡ (not (stands_before committed.log_id self.old.effective.log_id) && not (⟦<Membership<NID, N> as PartialEq>⟧.eq committed.membership self.old.effective.membership))) }
+        ensures changed { IfOk result (λ changed. changed ≡ changes_force ⟦<Membership<NID, N> as PartialEq>⟧.eq self.old committed) }
         ensures err { OnErr result (self.new ≡ self.old) }
     {
         let in_force = !stands_before(committed.log_id(), self.effective.log_id());

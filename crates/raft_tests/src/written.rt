@@ -28,10 +28,10 @@ fn values_know_when_they_changed(rt: HostRuntime) -> Result<(), Fail> {
 
 #[test]
 fn what_is_written_is_noted(rt: HostRuntime) -> Result<(), Fail> {
-    let flushed = LogIOId::new(LeaderId::new(1, 2), Some(id(1, 2, 4)));
+    let flushed = LogIOId::new(LeaderId::new(7, 2), Some(id(7, 2, 4)));
     assert_eq!(rt;
         flushed.to_string(rt.alloc())?.as_str(),
-        "by:T1-N2, T1-N2-4"
+        "by:T7-N2, T7-N2-4"
     );
     let mut state = IOState::new(Vote::new(1, 2), flushed, None, None, None);
     assert!(rt; !state.building_snapshot());
