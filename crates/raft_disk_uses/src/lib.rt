@@ -11,4 +11,12 @@ pub use restarting::{RestartFault, restart};
 pub use storing::{load, store};
 
 #[cfg(test)]
-mod tests;
+mod call_tests;
+#[cfg(test)]
+mod chance_tests;
+#[cfg(test)]
+mod image_tests;
+#[cfg(test)]
+mod stop_tests;
+#[cfg(test)]
+mod test_files;

@@ -28,12 +28,18 @@ all_among P Q [] h a = tt
 all_among P Q (e ∷ es) h a = (h e (inl refl) a.0, all_among P Q es (λ x there. h x (inr there)) a.1)
 
 pub most_is_an_image : (d : Disk) → IsNamed d → HasImages d → IsImageOf Most d
-most_is_an_image d named images = (tt, all_among (λ e. IsFileImage (d.file e.1) (seen_image d e.1)) (λ e. IsFileImage (d.file e.1) (image_of Most d.names d.file e.1)) d.names
-    (λ e there i. subst (IsFileImage (d.file e.1)) (sym (chosen_at Most d.file d.names d.next e named there)) i) images.seen)
+most_is_an_image d named images = (
+  tt,
+  all_among (λ e. IsFileImage (d.file e.1) (seen_image d e.1)) (λ e. IsFileImage (d.file e.1) (image_of Most d.names d.file e.1)) d.names
+      (λ e there i. subst (IsFileImage (d.file e.1)) (sym (chosen_at Most d.file d.names d.next e named there)) i) images.seen,
+)
 
 pub least_is_an_image : (d : Disk) → IsNamed d → HasImages d → IsImageOf Least d
-least_is_an_image d named images = (tt, all_among (λ e. IsFileImage (d.file e.1) (synced_image d e.1)) (λ e. IsFileImage (d.file e.1) (image_of Least d.names d.file e.1)) d.names
-    (λ e there i. subst (IsFileImage (d.file e.1)) (sym (chosen_at Least d.file d.names d.next e named there)) i) images.synced)
+least_is_an_image d named images = (
+  tt,
+  all_among (λ e. IsFileImage (d.file e.1) (synced_image d e.1)) (λ e. IsFileImage (d.file e.1) (image_of Least d.names d.file e.1)) d.names
+      (λ e there i. subst (IsFileImage (d.file e.1)) (sym (chosen_at Least d.file d.names d.next e named there)) i) images.synced,
+)
 
 -- ---- a file with nothing unsynced has one image
 

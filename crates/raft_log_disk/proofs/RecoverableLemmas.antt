@@ -74,19 +74,19 @@ changed_is_recoverable f g from to r kept changed fell no_shorter no_longer fits
         no_longer = no_longer;
         fits = fits;
         same = λ i lt out.
-        let split = subst (IsOutside i) changed out in
-        around.same i lt (last_outside i f.changed (from, to) split)
-        ∙ r.seen.same i (around.within i lt (last_outside i f.changed (from, to) split)) (front_outside i f.changed (from, to) split)
-        ∙ ap (λ l. get_or l i 0) (sym kept);
+            let split = subst (IsOutside i) changed out in
+            around.same i lt (last_outside i f.changed (from, to) split)
+            ∙ r.seen.same i (around.within i lt (last_outside i f.changed (from, to) split)) (front_outside i f.changed (from, to) split)
+            ∙ ap (λ l. get_or l i 0) (sym kept);
       };
       synced = subst (IsFileImage g) (sym taken) (record {
         no_shorter = omega (arith, long);
         no_longer = omega (arith, long, no_shorter, no_longer);
         fits = bytes_taken g.least (take f.least f.kept) r.synced.fits;
         same = λ i lt out.
-        get_or-take g.least (take f.least f.kept) i 0 (omega (arith, lt, long))
-        ∙ get_or-take f.least f.kept i 0 (omega (arith, lt, long, fell))
-        ∙ ap (λ l. get_or l i 0) (sym kept);
+            get_or-take g.least (take f.least f.kept) i 0 (omega (arith, lt, long))
+            ∙ get_or-take f.least f.kept i 0 (omega (arith, lt, long, fell))
+            ∙ ap (λ l. get_or l i 0) (sym kept);
       });
     }
 

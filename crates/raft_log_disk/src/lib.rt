@@ -24,6 +24,3 @@ pub use format::{HeaderFault, LogFileFormat};
 pub use laws::{least_and_most_are_images, synced_file_is_left_as_read};
 pub use memory::MemoryFileSystem;
 pub use system::FileSystem;
-
-#[cfg(test)]
-mod tests;
