@@ -1,5 +1,5 @@
 -- Settings as TOML: what each key of a table says.
-use Rattle.std.specs.Prelude.{◌≡◌, ℕ, ◌^◌, ◌<◌, ℤ, pos, negsuc, [], Option, Some, None, option_map, option_and_then, codes}
+use Rattle.std.specs.Prelude.{◌≡◌, ◌⊎◌, ℕ, ◌^◌, ◌<◌, ℤ, pos, negsuc, [], Option, Some, None, option_map, option_and_then, codes}
 use Rattle.std.specs.Prelude.{◌==◌, if◌then◌else◌}
 use Rattle.std.specs.Option.{option_or, option_map_or}
 use Rattle.toml.specs.Data.{Data, string, integer, Members, get_member, same_key, as_str, as_integer, as_bool, depth, members_depth}
@@ -11,8 +11,8 @@ use Rattle.raft_log_disk.specs.Text.{Text, same_text}
 use Rattle.raft_log_files.specs.declared.recovery.RecoveryMode.{RecoveryMode}
 use Rattle.raft_log_files.specs.declared.recovery.RecoveryMode.TheVariants.{AbsoluteConsistency, TolerateTailCorruption, TolerateAnyCorruption}
 use Rattle.raft_log_files.specs.declared.error.Error.{Error}
-use Rattle.raft_log_files.specs.declared.error.Error.TheVariants.{InvalidArgument}
-use Rattle.raft_log_files.specs.declared.error.ArgumentFault.TheVariants.{BadSetting}
+use Rattle.raft_log_files.specs.declared.error.Error.TheVariants.{InvalidArgument, Memory}
+use Rattle.raft_log_files.specs.declared.error.ArgumentFault.TheVariants.{BadSetting, NotToml}
 use Rattle.raft_log_files.specs.Size.{size_of, size_said, size_text}
 use Rattle.raft_log_files.specs.Settings.{Settings, default_settings}
 
@@ -86,12 +86,16 @@ GivesNone ms = (s : Settings) → ¬ (AreSettings ms s)
 abbrev pub GivesSettings : Text → Settings → Type 0
 GivesSettings text s = (ms : Members) × (parse_document text ≡ Some ms) × AreSettings ms s
 
-abbrev pub GivesNoSettings : Text → Type 0
-GivesNoSettings text = (s : Settings) → ¬ (GivesSettings text s)
-
 -- the refusal of a value of no use
 abbrev pub bad_setting : Error
 bad_setting = InvalidArgument BadSetting
+
+-- why a text is refused: it is no TOML, or some key has a value of no use; or memory was refused
+abbrev pub IsRefusal : Text → Error → Type 0
+IsRefusal text e =
+    (e ≡ Memory)
+    ⊎ (((e ≡ InvalidArgument NotToml) × (parse_document text ≡ None))
+    ⊎ ((e ≡ bad_setting) × (ms : Members) × (parse_document text ≡ Some ms) × GivesNone ms))
 
 -- ---- what is written
 

@@ -96,8 +96,7 @@ fn clone_text(text: &Option<String>) -> Result<Option<String>, AllocError>
 
 impl Config {
     ghost use Rattle.raft_log_files.specs.Settings.{settings_of, default_settings, sanitized, settings_fault, recycles, recycle_capacity_of, prefill_capacity_of};
-    ghost use Rattle.raft_log_files.specs.Toml.{GivesSettings, GivesNoSettings, FitToml};
-    ghost use Rattle.raft_log_files.specs.Error.{number_of};
+    ghost use Rattle.raft_log_files.specs.Toml.{GivesSettings, IsRefusal, FitToml};
     ghost use Rattle.raft_log_files.specs.declared.error.Error.TheVariants.{Other, InvalidArgument, Memory};
     ghost use Rattle.raft_log_files.specs.declared.error.ArgumentFault.TheVariants.{TooLargeForToml};
 
@@ -229,7 +228,7 @@ impl Config {
     /// have, and `Memory`.
     pub fn from_toml(alloc: Global, text: &str) -> Result<Config, Error>
         ensures ok { IfOk result (λ c. GivesSettings text.now (settings_of c)) }
-        ensures refused { IfErr result (λ e. (e ≡ Memory) ⊎ ((number_of e ≡ 3) × GivesNoSettings text.now)) }
+        ensures refused { IfErr result (IsRefusal text.now) }
     {
         match toml::table_from_str(alloc, text) {
             Ok(table) => reading::config_in(alloc, &table),

@@ -1,28 +1,20 @@
-use Rattle.std.proofs.Common.{◌≡◌, ◌⊎◌, inl, inr, Some, Result, Ok, Err, IfErr, sym, ap, ◌∙◌, subst}
-use Rattle.std.proofs.lemmas.Option.{same_Some}
+use Rattle.std.proofs.Common.{◌≡◌, ◌⊎◌, inl, inr, Some, Result, Ok, Err, IfErr}
 use Rattle.toml.specs.Data.{Members}
 use Rattle.toml.specs.Parse.{parse_document}
 use Rattle.toml.specs.View.{table_view}
 use Rattle.raft_log_disk.specs.Text.{Text}
 use Rattle.raft_log_files.specs.declared.error.Error.{Error}
 use Rattle.raft_log_files.specs.declared.error.Error.TheVariants.{Memory}
-use Rattle.raft_log_files.specs.Error.{number_of}
-use Rattle.raft_log_files.specs.Toml.{AreSettings, GivesNone, GivesNoSettings, bad_setting}
+use Rattle.raft_log_files.specs.Toml.{GivesNone, IsRefusal, bad_setting}
 use Rattle.raft_log_files.proofs.config.Config.from_toml.Goals as goal
 
 err_more : {A E : Type 0} (r : Result A E) (P Q : E → Type 0) → ((e : E) → P e → Q e) → IfErr r P → IfErr r Q
 err_more (Ok v) P Q more h = tt
 err_more (Err e) P Q more h = more e h
 
--- a text whose table gives nothing gives nothing
-none_given : (text : Text) (ms : Members) → parse_document text ≡ Some ms → GivesNone ms → GivesNoSettings text
-none_given text ms read none s gives =
-    none s (subst (λ (t : Members). AreSettings t s) (same_Some _ _ (sym gives.1 ∙ read)) gives.2)
-
-refusal : (text : Text) (ms : Members) → parse_document text ≡ Some ms → (e : Error) → (e ≡ Memory) ⊎ ((e ≡ bad_setting) × GivesNone ms)
-    → (e ≡ Memory) ⊎ ((number_of e ≡ 3) × GivesNoSettings text)
+refusal : (text : Text) (ms : Members) → parse_document text ≡ Some ms → (e : Error) → (e ≡ Memory) ⊎ ((e ≡ bad_setting) × GivesNone ms) → IsRefusal text e
 refusal text ms read e (inl memory) = inl memory
-refusal text ms read e (inr h) = inr (ap number_of h.0, none_given text ms read h.1)
+refusal text ms read e (inr h) = inr (inr (h.0, ms, read, h.1))
 
 pub returns-in-Ok-clause-refused : goal.returns-in-Ok-clause-refused
 returns-in-Ok-clause-refused c =
