@@ -9,3 +9,4 @@ pub mod Joins
 pub mod Lengths
 pub mod Bodies
 pub mod Framed
+pub mod Streams

@@ -7,3 +7,5 @@ pub mod Entries
 pub mod Writing
 pub mod Bodies
 pub mod Frames
+pub mod Stream
+pub mod Wanted

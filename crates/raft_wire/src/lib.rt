@@ -3,6 +3,7 @@
 
 mod entries;
 mod error;
+mod feeder;
 mod fields;
 mod frame;
 mod memberships;
@@ -11,6 +12,7 @@ mod writing;
 
 pub use entries::{MAX_COMMAND_LEN, WireEntry, WirePayload, read_entry, write_entry};
 pub use error::{FrameError, FrameFault};
+pub use feeder::{Fed, Feeder, MAX_FRAME_LEN, MIN_FRAME_LEN};
 pub use frame::{
     AppendFrame, AppendId, AppendReplyFrame, AppendResult, Frame, FrameBody, FrameKind,
     SnapshotFrame, SnapshotReplyFrame, SnapshotResult,
