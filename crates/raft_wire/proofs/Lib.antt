@@ -10,3 +10,5 @@ pub mod Lengths
 pub mod Bodies
 pub mod Framed
 pub mod Streams
+pub mod Fronts
+pub mod StreamProofs

@@ -9,3 +9,4 @@ pub mod Bodies
 pub mod Frames
 pub mod Stream
 pub mod Wanted
+pub mod StreamLaws
