@@ -67,9 +67,9 @@ Answers old piece used (Ok None) new =
     (old.failed ≡ false) × (front (old.held ++ piece) ≡ None) × (used ≡ length piece) × (new ≡ holding (old.held ++ piece))
 Answers old piece used (Ok (Some frame)) new =
     (old.failed ≡ false) × (front (old.held ++ piece) ≡ Some (Ok frame, length old.held + used)) × (used ≤ length piece)
-        × (new ≡ fresh)
+    × (new ≡ fresh)
 Answers old piece used (Err (errors.Fault why)) new =
     (old.failed ≡ false) × (front (old.held ++ piece) ≡ Some (Err why, length old.held + used)) × (used ≤ length piece)
-        × (new ≡ stopped)
+    × (new ≡ stopped)
 Answers old piece used (Err errors.StreamFailed) new = (old.failed ≡ true) × (used ≡ 0) × (new ≡ old)
 Answers old piece used (Err errors.Memory) new = (old.failed ≡ false) × (used ≡ 0) × (new ≡ old)

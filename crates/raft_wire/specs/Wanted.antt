@@ -16,7 +16,7 @@ IsWanted held piece (wanted.Fault why used) =
     (front (held ++ piece) ≡ Some (Err why, length held + used)) × (used ≤ length piece)
 IsWanted held piece (wanted.Frame used) =
     (front (held ++ piece) ≡ Some (all_of rest_at (drop 4 (held ++ take used piece)), length held + used))
-        × (used ≤ length piece) × (4 ≤ length (held ++ take used piece))
+    × (used ≤ length piece) × (4 ≤ length (held ++ take used piece))
 
 -- what is held after a frame was read: as before without memory, else nothing
 abbrev pub HeldAfter : List ℕ → Result Frame FrameError → List ℕ → Type 0

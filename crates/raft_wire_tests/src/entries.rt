@@ -1,6 +1,8 @@
 //! Worked entries.
 use crate::worked::id;
-use raft_state::{BasicNode, Command, Entry, EntryPayload, IdSet, Membership, NodeMap, VoterGroups};
+use raft_state::{
+    BasicNode, Command, Entry, EntryPayload, IdSet, Membership, NodeMap, VoterGroups,
+};
 use raft_wire::{FrameError, FrameFault, is_within_limits, read_entry, write_entry};
 use std::test::Fail;
 

@@ -42,7 +42,10 @@ fn bytes_one_by_one_give_each_frame(rt: HostRuntime) -> Result<(), Fail> {
     let frames = [append_frame(alloc)?, append_reply(), notice(alloc, None)];
     for frame in &frames {
         let bytes = write_frame(alloc, frame).ok().ok_or("not written")?;
-        let read = last_answer(alloc, &bytes)?.ok().flatten().ok_or("no frame")?;
+        let read = last_answer(alloc, &bytes)?
+            .ok()
+            .flatten()
+            .ok_or("no frame")?;
         let again = write_frame(alloc, &read).ok().ok_or("not written")?;
         assert_eq!(rt; again.as_slice(), bytes.as_slice());
     }
@@ -70,9 +73,15 @@ fn kinds_are_judged_at_the_last_byte(rt: HostRuntime) -> Result<(), Fail> {
     let mut bytes = [0; 29];
     bytes[3] = 25;
     bytes[4] = 7;
-    assert_eq!(rt; fault_of(last_answer(rt.alloc(), &bytes)?), Some(FrameFault::BadKind));
+    assert_eq!(rt;
+        fault_of(last_answer(rt.alloc(), &bytes)?),
+        Some(FrameFault::BadKind)
+    );
     bytes[4] = 1;
-    assert_eq!(rt; fault_of(last_answer(rt.alloc(), &bytes)?), Some(FrameFault::CutShort));
+    assert_eq!(rt;
+        fault_of(last_answer(rt.alloc(), &bytes)?),
+        Some(FrameFault::CutShort)
+    );
     Ok(())
 }
 
@@ -81,12 +90,23 @@ fn a_stream_fails_until_it_is_reset(rt: HostRuntime) -> Result<(), Fail> {
     let mut bytes = VOTE_FRAME;
     bytes[46] = 2;
     let mut feeder = Feeder::new(rt.alloc());
-    assert_eq!(rt; fault_of(feeder.feed(&bytes).frame), Some(FrameFault::BadTag));
+    assert_eq!(rt;
+        fault_of(feeder.feed(&bytes).frame),
+        Some(FrameFault::BadTag)
+    );
     assert!(rt; feeder.failed());
-    assert!(rt; matches!(feeder.feed(&VOTE_FRAME).frame, Err(FrameError::StreamFailed)));
+    assert!(rt;
+        matches!(
+            feeder.feed(&VOTE_FRAME).frame,
+            Err(FrameError::StreamFailed)
+        )
+    );
     feeder.reset();
     bytes[46] = 0;
-    assert_eq!(rt; fault_of(feeder.feed(&bytes).frame), Some(FrameFault::TrailingBytes));
+    assert_eq!(rt;
+        fault_of(feeder.feed(&bytes).frame),
+        Some(FrameFault::TrailingBytes)
+    );
     feeder.reset();
     assert!(rt; feeder.feed(&VOTE_FRAME).frame.ok().flatten().is_some());
     assert!(rt; !feeder.failed());

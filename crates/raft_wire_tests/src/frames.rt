@@ -15,15 +15,23 @@ fn vote_frame_is_written(rt: HostRuntime) -> Result<(), Fail> {
 #[test]
 fn append_frames_begin_so(rt: HostRuntime) -> Result<(), Fail> {
     let alloc = rt.alloc();
-    let bytes = write_frame(alloc, &append_frame(alloc)?).ok().ok_or("not written")?;
+    let bytes = write_frame(alloc, &append_frame(alloc)?)
+        .ok()
+        .ok_or("not written")?;
     assert_eq!(rt; bytes.len(), 146);
     assert_eq!(rt; &bytes[..5], [0, 0, 0, 0x8e, 3].as_slice());
-    let reply = write_frame(alloc, &append_reply()).ok().ok_or("not written")?;
+    let reply = write_frame(alloc, &append_reply())
+        .ok()
+        .ok_or("not written")?;
     assert_eq!(rt; reply.len(), 106);
-    let long = write_frame(alloc, &notice(alloc, Some(id(1, 1, 2)))).ok().ok_or("not written")?;
+    let long = write_frame(alloc, &notice(alloc, Some(id(1, 1, 2))))
+        .ok()
+        .ok_or("not written")?;
     assert_eq!(rt; long.len(), 101);
     assert_eq!(rt; &long[..5], [0, 0, 0, 0x61, 3].as_slice());
-    let short = write_frame(alloc, &notice(alloc, None)).ok().ok_or("not written")?;
+    let short = write_frame(alloc, &notice(alloc, None))
+        .ok()
+        .ok_or("not written")?;
     assert_eq!(rt; short.len(), 53);
     Ok(())
 }
