@@ -34,7 +34,6 @@ use Rattle.raft_wire.proofs.Fitting.{Reads, fits_as, both_reads, made_reads, u64
 use Rattle.raft_wire.proofs.Lists.{counted_reads}
 use Rattle.raft_wire.proofs.Values.{vote_reads, log_id_reads, last_reads, membership_reads, entry_reads}
 
-
 -- the same reader, with another word for the spelling
 spelled_as : {A : Type 0} (reader : Reader A) (s t : A → List ℕ) (F : A → Type 0) → Reads reader s F → ((a : A) → s a ≡ t a) → Reads reader t F
 spelled_as reader s t F r st = record {
@@ -131,8 +130,8 @@ unfolding append_at
 append_reads =
     let fields = five_reads vote_at spelled_vote FitsVote id_at spelled_id FitsId last_at spelled_last FitsLast last_at spelled_last FitsLast entries_at (spelled_list spelled_entry) (λ es. (length es ≤ 64) × Chained FitsBehind that_place None es) vote_reads id_reads last_reads last_reads entries_reads in
     let whole = made_reads append_of (λ (f : AppendFrame). (f.request.vote, (f.id, (f.request.prev_log_id, (f.request.leader_commit, f.request.entries))))) (both vote_at (both id_at (both last_at (both last_at entries_at))))
-        (λ p. spelled_vote p.0 ++ spelled_id p.1.0 ++ spelled_last p.1.1.0 ++ spelled_last p.1.1.1.0 ++ spelled_list spelled_entry p.1.1.1.1)
-        (λ p. FitsVote p.0 × (FitsId p.1.0 × (FitsLast p.1.1.0 × (FitsLast p.1.1.1.0 × ((length p.1.1.1.1 ≤ 64) × Chained FitsBehind that_place None p.1.1.1.1))))) (λ f. refl) (λ p. refl) fields in
+    (λ p. spelled_vote p.0 ++ spelled_id p.1.0 ++ spelled_last p.1.1.0 ++ spelled_last p.1.1.1.0 ++ spelled_list spelled_entry p.1.1.1.1)
+    (λ p. FitsVote p.0 × (FitsId p.1.0 × (FitsLast p.1.1.0 × (FitsLast p.1.1.1.0 × ((length p.1.1.1.1 ≤ 64) × Chained FitsBehind that_place None p.1.1.1.1))))) (λ f. refl) (λ p. refl) fields in
     fits_as (made append_of (both vote_at (both id_at (both last_at (both last_at entries_at))))) spelled_append
     (λ (f : AppendFrame). FitsVote f.request.vote × (FitsId f.id × (FitsLast f.request.prev_log_id × (FitsLast f.request.leader_commit × ((length f.request.entries ≤ 64) × Chained FitsBehind that_place None f.request.entries))))) FitsAppend whole
     (λ f h. record { vote = h.0; id = h.1.0; previous = h.1.1.0; committed = h.1.1.1.0; count = h.1.1.1.1.0; entries = h.1.1.1.1.1 }) (λ f h. (h.vote, (h.id, (h.previous, (h.committed, (h.count, h.entries))))))
@@ -165,8 +164,8 @@ unfolding append_reply_at
 append_reply_reads =
     let fields = five_reads vote_at spelled_vote FitsVote id_at spelled_id FitsId last_at spelled_last FitsLast last_at spelled_last FitsLast result_at spelled_result FitsResult vote_reads id_reads last_reads last_reads result_reads in
     let whole = made_reads append_reply_of (λ (f : AppendReplyFrame). (f.vote, (f.id, (f.prev_log_id, (f.last_log_id, f.result))))) (both vote_at (both id_at (both last_at (both last_at result_at))))
-        (λ p. spelled_vote p.0 ++ spelled_id p.1.0 ++ spelled_last p.1.1.0 ++ spelled_last p.1.1.1.0 ++ spelled_result p.1.1.1.1)
-        (λ p. FitsVote p.0 × (FitsId p.1.0 × (FitsLast p.1.1.0 × (FitsLast p.1.1.1.0 × FitsResult p.1.1.1.1)))) (λ f. refl) (λ p. refl) fields in
+    (λ p. spelled_vote p.0 ++ spelled_id p.1.0 ++ spelled_last p.1.1.0 ++ spelled_last p.1.1.1.0 ++ spelled_result p.1.1.1.1)
+    (λ p. FitsVote p.0 × (FitsId p.1.0 × (FitsLast p.1.1.0 × (FitsLast p.1.1.1.0 × FitsResult p.1.1.1.1)))) (λ f. refl) (λ p. refl) fields in
     fits_as (made append_reply_of (both vote_at (both id_at (both last_at (both last_at result_at))))) spelled_append_reply
     (λ (f : AppendReplyFrame). FitsVote f.vote × (FitsId f.id × (FitsLast f.prev_log_id × (FitsLast f.last_log_id × FitsResult f.result)))) FitsAppendReply whole
     (λ f h. record { vote = h.0; id = h.1.0; previous = h.1.1.0; last = h.1.1.1.0; outcome = h.1.1.1.1 }) (λ f h. (h.vote, (h.id, (h.previous, (h.last, h.outcome)))))
@@ -194,7 +193,7 @@ unfolding snapshot_at
 snapshot_reads =
     let fields = three_reads log_id_at spelled_log_id FitsLogId (option_at logged_at) (spelled_option spelled_logged) (λ o. IfSome o FitsLogged) (text_at 16777216) spelled_text (λ t. length t ≤ 16777216) log_id_reads (option_reads logged_at spelled_logged FitsLogged logged_reads) (text_reads 16777216 (omega arith)) in
     let whole = made_reads snapshot_of (λ (s : Snapshot). (s.0.last_log_id, (s.0.last_membership, s.1))) (both log_id_at (both (option_at logged_at) (text_at 16777216))) (λ p. spelled_log_id p.0 ++ spelled_option spelled_logged p.1.0 ++ spelled_text p.1.1)
-        (λ p. FitsLogId p.0 × (IfSome p.1.0 FitsLogged × (length p.1.1 ≤ 16777216))) (λ s. refl) (λ p. refl) fields in
+    (λ p. FitsLogId p.0 × (IfSome p.1.0 FitsLogged × (length p.1.1 ≤ 16777216))) (λ s. refl) (λ p. refl) fields in
     fits_as (made snapshot_of (both log_id_at (both (option_at logged_at) (text_at 16777216)))) spelled_snapshot (λ (s : Snapshot). FitsLogId s.0.last_log_id × (IfSome s.0.last_membership FitsLogged × (length s.1 ≤ 16777216))) FitsSnapshot whole
     (λ s h. record { last = h.0; membership = h.1.0; bytes = h.1.1 }) (λ s h. (h.last, (h.membership, h.bytes)))
 
@@ -203,7 +202,7 @@ unfolding snapshot_frame_at
 snapshot_frame_reads =
     let fields = three_reads vote_at spelled_vote FitsVote numbered_at spelled_number (λ n. n < 2 ^ 64) snapshot_at spelled_snapshot FitsSnapshot vote_reads numbered_reads snapshot_reads in
     let whole = made_reads snapshot_frame_of (λ (f : SnapshotFrame). (f.request.vote, (f.id, snapshot_in f))) (both vote_at (both numbered_at snapshot_at)) (λ p. spelled_vote p.0 ++ spelled_number p.1.0 ++ spelled_snapshot p.1.1)
-        (λ p. FitsVote p.0 × ((p.1.0 < 2 ^ 64) × FitsSnapshot p.1.1)) (λ f. refl) (λ p. refl) fields in
+    (λ p. FitsVote p.0 × ((p.1.0 < 2 ^ 64) × FitsSnapshot p.1.1)) (λ f. refl) (λ p. refl) fields in
     fits_as (made snapshot_frame_of (both vote_at (both numbered_at snapshot_at))) spelled_snapshot_frame (λ (f : SnapshotFrame). FitsVote f.request.vote × ((f.id < 2 ^ 64) × FitsSnapshot (snapshot_in f))) FitsSnapshotFrame whole
     (λ f h. record { vote = h.0; id = h.1.0; snapshot = h.1.1 }) (λ f h. (h.vote, (h.id, h.snapshot)))
 
@@ -238,6 +237,6 @@ unfolding snapshot_reply_at
 snapshot_reply_reads =
     let fields = three_reads vote_at spelled_vote FitsVote numbered_at spelled_number (λ n. n < 2 ^ 64) behind_none_at spelled_behind_none (λ x. FitsLast x.0 × FitsSnapshotResult x.1) vote_reads numbered_reads behind_none_reads in
     let whole = made_reads snapshot_reply_of (λ (f : SnapshotReplyFrame). (f.vote, (f.id, (f.last_log_id, f.result)))) (both vote_at (both numbered_at behind_none_at)) (λ p. spelled_vote p.0 ++ spelled_number p.1.0 ++ spelled_behind_none p.1.1)
-        (λ p. FitsVote p.0 × ((p.1.0 < 2 ^ 64) × (FitsLast p.1.1.0 × FitsSnapshotResult p.1.1.1))) (λ f. refl) (λ p. refl) fields in
+    (λ p. FitsVote p.0 × ((p.1.0 < 2 ^ 64) × (FitsLast p.1.1.0 × FitsSnapshotResult p.1.1.1))) (λ f. refl) (λ p. refl) fields in
     fits_as (made snapshot_reply_of (both vote_at (both numbered_at behind_none_at))) spelled_snapshot_reply (λ (f : SnapshotReplyFrame). FitsVote f.vote × ((f.id < 2 ^ 64) × (FitsLast f.last_log_id × FitsSnapshotResult f.result))) FitsSnapshotReply whole
     (λ f h. record { vote = h.0; id = h.1.0; last = h.1.1.0; outcome = h.1.1.1 }) (λ f h. (h.vote, (h.id, (h.last, h.outcome))))

@@ -9,3 +9,6 @@ pub mod Joins
 pub mod Lengths
 pub mod Bodies
 pub mod Framed
+pub mod Streams
+pub mod Fronts
+pub mod StreamProofs

@@ -7,3 +7,6 @@ pub mod Entries
 pub mod Writing
 pub mod Bodies
 pub mod Frames
+pub mod Stream
+pub mod Wanted
+pub mod StreamLaws

@@ -3,17 +3,24 @@
 
 mod entries;
 mod error;
+mod feeder;
 mod fields;
 mod frame;
+mod laws;
 mod memberships;
 mod reading;
 mod writing;
 
 pub use entries::{MAX_COMMAND_LEN, WireEntry, WirePayload, read_entry, write_entry};
 pub use error::{FrameError, FrameFault};
+pub use feeder::{Fed, Feeder, MAX_FRAME_LEN, MIN_FRAME_LEN};
 pub use frame::{
     AppendFrame, AppendId, AppendReplyFrame, AppendResult, Frame, FrameBody, FrameKind,
     SnapshotFrame, SnapshotReplyFrame, SnapshotResult,
+};
+pub use laws::{
+    feeders_wait_only_so_long, found_frames_are_spelled_so, found_stays, frames_are_short,
+    no_spelling_begins_another, refused_streams_begin_no_frame, spelled_frames_are_found,
 };
 pub use memberships::{MAX_ADDRESS_LEN, MAX_GROUPS, MAX_NODES, MAX_VOTERS, is_within_limits};
 pub use reading::{MAX_ENTRIES, MAX_SNAPSHOT_LEN, WireSnapshot};

@@ -201,10 +201,7 @@ fn last_membership_of(
 pub type WireSnapshot = (SnapshotMeta<u64, BasicNode>, Bytes);
 
 #[tactic(auto, unfolding(crate::specs::Bodies::snapshot_at))]
-pub(crate) fn snapshot_of(
-    alloc: Global,
-    bytes: &[u8],
-) -> Result<(WireSnapshot, &[u8]), FrameError>
+pub(crate) fn snapshot_of(alloc: Global, bytes: &[u8]) -> Result<(WireSnapshot, &[u8]), FrameError>
     ensures { Gives (λ x. (x.0, x.1.now)) result (snapshot_at bytes.now) }
 {
     let (last_log_id, rest) = log_id_of(bytes)?;
@@ -246,9 +243,7 @@ fn snapshot_result_of(bytes: &[u8]) -> Result<(SnapshotResult, &[u8]), FrameErro
 
 // The tag of no previous log id, the last log id and what came of the snapshot.
 #[tactic(auto, unfolding(crate::specs::Bodies::behind_none_at, crate::specs::Bodies::marked_at))]
-fn behind_none_of(
-    bytes: &[u8],
-) -> Result<(Option<LogId<u64>>, SnapshotResult, &[u8]), FrameError>
+fn behind_none_of(bytes: &[u8]) -> Result<(Option<LogId<u64>>, SnapshotResult, &[u8]), FrameError>
     ensures { Gives (λ x. ((x.0, x.1), x.2.now)) result (behind_none_at bytes.now) }
 {
     match bytes {
@@ -297,11 +292,7 @@ fn kind_of(bytes: &[u8]) -> Result<(FrameKind, &[u8]), FrameError>
 }
 
 #[tactic(auto, unfolding(crate::specs::Frames::body_at))]
-fn body_of(
-    alloc: Global,
-    kind: FrameKind,
-    bytes: &[u8],
-) -> Result<(FrameBody, &[u8]), FrameError>
+fn body_of(alloc: Global, kind: FrameKind, bytes: &[u8]) -> Result<(FrameBody, &[u8]), FrameError>
     ensures { Gives (λ x. (x.0, x.1.now)) result (body_at kind bytes.now) }
 {
     match kind {

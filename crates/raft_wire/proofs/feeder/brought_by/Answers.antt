@@ -1,0 +1,24 @@
+use Rattle.std.proofs.Common.{◌≡◌, ◌≤◌, ◌<◌, ◌+◌, ◌-◌, ◌++◌, Some, None, Err, length, sym, ap, subst, ◌∙◌, arith, length-append, ℕ}
+use Rattle.raft_wire.specs.Stream.{Judged, length_in, fault_of_length, front}
+use Rattle.raft_wire.proofs.Streams.{held_short, front_none, front_fault, has_length}
+use Rattle.raft_wire.proofs.feeder.brought_by.Goals as goal
+
+pub returns-in-None : goal.returns-in-None
+returns-in-None c = front_none (c.args.held.now ++ c.args.piece.now) (cc)
+
+pub overflow_sub-result : goal.overflow_sub-result
+overflow_sub-result c =
+    let l : length_in (c.args.held.now ++ c.args.piece.now) ≡ Some c.in-Some.len = cc in
+    let f : fault_of_length c.in-Some.len ≡ Some c.in-Some-fault_of_length.fault = cc in
+    let few = held_short c.args.held.now c.args.piece.now c.requires c.in-Some.len c.in-Some-fault_of_length.fault l f in
+    omega arith
+
+pub returns-in-Some-fault_of_length : goal.returns-in-Some-fault_of_length
+returns-in-Some-fault_of_length c =
+    let s = c.args.held.now ++ c.args.piece.now in
+    let l : length_in s ≡ Some c.in-Some.len = cc in
+    let f : fault_of_length c.in-Some.len ≡ Some c.in-Some-fault_of_length.fault = cc in
+    let few = held_short c.args.held.now c.args.piece.now c.requires c.in-Some.len c.in-Some-fault_of_length.fault l f in
+    let four : 4 ≡ length c.args.held.now + (4 - length c.args.held.now) = omega arith in
+    let some = has_length s c.in-Some.len l in
+    (subst (λ (k : ℕ). front s ≡ Some (Err c.in-Some-fault_of_length.fault, k)) four (front_fault s c.in-Some.len c.in-Some-fault_of_length.fault l f), omega (arith, length-append c.args.held.now c.args.piece.now))
