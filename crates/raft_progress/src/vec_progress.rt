@@ -6,7 +6,7 @@ ghost use Rattle.std.specs.Fn.{FnOnceReturnsAtMut};
 ghost use Rattle.std.specs.List.{list_any};
 ghost use Rattle.std.specs.Option.{option_copied, option_copied_mut};
 ghost use Rattle.raft_state.specs.Nodes.{has_id, has_node};
-ghost use Rattle.raft_progress.specs.Counted.{IsCounted, IsNoLess, IsSamePart};
+ghost use Rattle.raft_progress.specs.Counted.{IsCounted, IsNoLess, IsSamePart, lowers_value};
 ghost use Rattle.raft_progress.specs.Granted.{IsFalling};
 ghost use Rattle.raft_progress.specs.Parts.{IsUpgraded, SetsValue, carried, has_value, value_of, with_learner, with_voter, written};
 ghost use Rattle.raft_progress.specs.Values.{are_distinct, rises_above, value_at};
@@ -188,6 +188,16 @@ impl<ID: NodeId, V: Copy + Borrow<P>, P: Copy + Ord, QS: QuorumSet<ID> + Drop> V
         }
     }
 
+    // Whether the value is below that of the id, if a voter has it.
+    pub(crate) fn lowers(&self, id: &ID, value: &V) -> bool
+        ensures { result ≡ lowers_value P.cmp V.borrowed (value_at ID.eq self.now.voters id.now) value.now }
+    {
+        match value_in(self.voters.as_slice(), id) {
+            Some(before) => is_below(value.borrow(), before.borrow()),
+            None => false,
+        }
+    }
+
     // Whether the value is above that of the id.
     fn rises(&self, id: &ID, value: &V) -> bool
         ensures { result ≡ rises_above P.cmp V.borrowed (value_of ID.eq self.now id.now) value.now }
@@ -289,8 +299,8 @@ impl<ID: NodeId, V: Copy + Borrow<P>, P: Copy + Ord, QS: QuorumSet<ID> + Drop> V
         Ok(entries)
     }
 
-    /// The progress of another quorum set's voters and of these learners, who are distinct and no
-    /// voters: who has a value here keeps it, the others begin at the default. What is granted is
+    /// The progress of another quorum set's voters and of these learners: who has a value here keeps
+    /// it, the others begin at the default. What is granted is
     /// counted afresh from the default on (openraft, where the old progress is used up).
     pub fn upgrade_quorum_set(
         &self,
@@ -299,8 +309,6 @@ impl<ID: NodeId, V: Copy + Borrow<P>, P: Copy + Ord, QS: QuorumSet<ID> + Drop> V
         learner_ids: &[ID],
         default_value: V,
     ) -> Result<VecProgress<ID, V, P, QS>, AllocError>
-        requires distinct { are_distinct ID.eq learner_ids.now ≡ true }
-        requires no_voters { list_any (has_id ID.eq (QS.members quorum_set)) learner_ids.now ≡ false }
         ensures upgraded { IfOk result (λ p. IsUpgraded ID.eq self.now p quorum_set (QS.members quorum_set) learner_ids.now default_value) }
         ensures built_with { IfOk result (λ p. p.built_with ≡ V.borrowed default_value) }
         ensures counted { IfOk result (λ p. IsCounted ID.eq P.cmp V.borrowed QS.accepts p) }
