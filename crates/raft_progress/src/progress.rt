@@ -27,7 +27,8 @@ pub trait Progress<ID: NodeId, V: Copy + Borrow<P>, P: Copy + Ord, QS: QuorumSet
         requires callable { F.IsAlwaysCallable f }
         requires rises { (before value : V) → value_at ID.eq (parts self.old).voters id.now ≡ Some before → FnOnceReturnsAtMut F.FnOnce f before tt value
             → is_le (P.cmp (V.borrowed before) (V.borrowed value)) ≡ true }
-        ensures sets { OnOk result ((before value : V) × (value_of ID.eq (parts self.old) id.now ≡ Some before) × FnOnceReturnsAtMut F.FnOnce f before tt value × SetsValue ID.eq (parts self.old) (parts self.new) id.now value) }
+        ensures sets { OnOk result ((before value : V) × (value_of ID.eq (parts self.old) id.now ≡ Some before)
+            × FnOnceReturnsAtMut F.FnOnce f before tt value × SetsValue ID.eq (parts self.old) (parts self.new) id.now value) }
         ensures unknown { OnErr result (parts self.new ≡ parts self.old) }
         ensures counted { IsCounted ID.eq P.cmp V.borrowed QS.accepts (parts self.old) → IsCounted ID.eq P.cmp V.borrowed QS.accepts (parts self.new) }
         ensures answer { result ≡ (if has_value ID.eq (parts self.old) id.now then Ok (parts self.new).granted else Err (parts self.new).granted) };
@@ -53,7 +54,8 @@ pub trait Progress<ID: NodeId, V: Copy + Borrow<P>, P: Copy + Ord, QS: QuorumSet
 
     /// The value of the id to be written, or None where nobody has it.
     fn get_mut(&mut self, id: &ID) -> Option<&mut V>
-        ensures* writes_back { sem 𝓛 (LendsSo Self.row V.row self.entry result (λ after value. parts after ≡ written ID.eq (parts self.old) id.now value) (λ after. parts after ≡ parts self.old)) }
+        ensures* writes_back { sem 𝓛 (LendsSo Self.row V.row self.entry result
+            (λ after value. parts after ≡ written ID.eq (parts self.old) id.now value) (λ after. parts after ≡ parts self.old)) }
         ensures value { option_copied_mut result ≡ value_of ID.eq (parts self.old) id.now };
 
     /// The value of the id, which somebody has.

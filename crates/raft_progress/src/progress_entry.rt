@@ -65,7 +65,11 @@ impl<NID: NodeId> ProgressEntry<NID> {
     pub fn update_matching(&mut self, request_id: u64, matching: Option<LogId<NID>>)
         requires { next_place matching < 2 ^ 64 }
         ensures mine { has_request_id self.old.inflight request_id ≡ true
-            → self.new ≡ record self.old { matching = matching; inflight = rest_behind ⟦<LogId<NID> as Ord>⟧.cmp self.old.inflight matching; searching_end = max self.old.searching_end (next_place matching) } }
+            → self.new ≡ record self.old {
+              matching = matching;
+              inflight = rest_behind ⟦<LogId<NID> as Ord>⟧.cmp self.old.inflight matching;
+              searching_end = max self.old.searching_end (next_place matching);
+            } }
         ensures other { has_request_id self.old.inflight request_id ≡ false → self.new ≡ self.old }
     {
         if !self.inflight.is_my_id(request_id) {
@@ -98,7 +102,8 @@ impl<NID: NodeId> ProgressEntry<NID> {
         requires matching_fits { next_place self.now.matching < 2 ^ 64 }
         requires last_fits { next_place (last_id (L.ids log_state.now)) < 2 ^ 64 }
         requires purged_fits { next_place (L.purged_id log_state.now) < 2 ^ 64 }
-        ensures { result ≡ next_request ⟦<LogId<NID> as Ord>⟧.cmp (L.ids log_state.now) (L.purged_id log_state.now) (L.snapshot_id log_state.now) max_entries (next_place self.now.matching) self.now.searching_end }
+        ensures { result ≡ next_request ⟦<LogId<NID> as Ord>⟧.cmp (L.ids log_state.now) (L.purged_id log_state.now) (L.snapshot_id log_state.now)
+            max_entries (next_place self.now.matching) self.now.searching_end }
     {
         let first = log_state.last_purged_log_id().copied().next_index();
         if self.searching_end < first {
@@ -124,11 +129,14 @@ impl<NID: NodeId> ProgressEntry<NID> {
         requires purged_fits { next_place (L.purged_id log_state.now) < 2 ^ 64 }
         requires id_fits { self.old.curr_inflight_id + 1 < 2 ^ 64 }
         ensures busy { is_some (request_id self.old.inflight) ≡ true → result ≡ Err self.old.inflight }
-        ensures sent { let next = next_request ⟦<LogId<NID> as Ord>⟧.cmp (L.ids log_state.now) (L.purged_id log_state.now) (L.snapshot_id log_state.now) max_entries (next_place self.old.matching) self.old.searching_end
+        ensures sent { let next = next_request ⟦<LogId<NID> as Ord>⟧.cmp (L.ids log_state.now) (L.purged_id log_state.now) (L.snapshot_id log_state.now)
+            max_entries (next_place self.old.matching) self.old.searching_end
             in is_some (request_id self.old.inflight) ≡ false → is_some (request_id next) ≡ true
-            → (result ≡ Ok (under_id next (self.old.curr_inflight_id + 1))) × (self.new ≡ record self.old { curr_inflight_id = self.old.curr_inflight_id + 1; inflight = under_id next (self.old.curr_inflight_id + 1) }) }
+            → (result ≡ Ok (under_id next (self.old.curr_inflight_id + 1)))
+            × (self.new ≡ record self.old { curr_inflight_id = self.old.curr_inflight_id + 1; inflight = under_id next (self.old.curr_inflight_id + 1) }) }
         ensures nothing { is_some (request_id self.old.inflight) ≡ false
-            → is_some (request_id (next_request ⟦<LogId<NID> as Ord>⟧.cmp (L.ids log_state.now) (L.purged_id log_state.now) (L.snapshot_id log_state.now) max_entries (next_place self.old.matching) self.old.searching_end)) ≡ false
+            → is_some (request_id (next_request ⟦<LogId<NID> as Ord>⟧.cmp (L.ids log_state.now) (L.purged_id log_state.now) (L.snapshot_id log_state.now)
+            max_entries (next_place self.old.matching) self.old.searching_end)) ≡ false
             → result ≡ Err Inflight.None }
         ensures err { OnErr result (self.new ≡ self.old) }
     {

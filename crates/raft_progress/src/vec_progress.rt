@@ -1,5 +1,6 @@
 //! The progress of all peers, and what a quorum of the voters has reached.
-ghost use Rattle.std.specs.Prelude.{◌≡◌, ◌<◌, ◌||◌, ◌++◌, OnOk, length, slice_index_or, Bool, true, false, Ok, Err, IfSome, IsSome, Some, None, map, IfOk, OnErr, IsPermutation, if◌then◌else◌};
+ghost use Rattle.std.specs.Prelude.{◌≡◌, ◌<◌, ◌||◌, ◌++◌, OnOk, length, slice_index_or, Bool, true, false};
+ghost use Rattle.std.specs.Prelude.{Ok, Err, IfSome, IsSome, Some, None, map, IfOk, OnErr, IsPermutation, if◌then◌else◌};
 ghost use Rattle.std.specs.Ordering.{is_le};
 ghost use Rattle.std.specs.Borrow.{Lends, LendsIf, sem};
 ghost use Rattle.std.specs.Fn.{FnOnceReturnsAtMut};
@@ -117,7 +118,8 @@ impl<ID: NodeId, V: Copy + Borrow<P>, P: Copy + Ord, QS: QuorumSet<ID> + Drop> V
         requires callable { F.IsAlwaysCallable f }
         requires rises { (before value : V) → value_at ID.eq self.old.voters id.now ≡ Some before → FnOnceReturnsAtMut F.FnOnce f before tt value
             → is_le (P.cmp (V.borrowed before) (V.borrowed value)) ≡ true }
-        ensures sets { OnOk result ((before value : V) × (value_of ID.eq self.old id.now ≡ Some before) × FnOnceReturnsAtMut F.FnOnce f before tt value × SetsValue ID.eq self.old self.new id.now value) }
+        ensures sets { OnOk result ((before value : V) × (value_of ID.eq self.old id.now ≡ Some before)
+            × FnOnceReturnsAtMut F.FnOnce f before tt value × SetsValue ID.eq self.old self.new id.now value) }
         ensures unknown { OnErr result (self.new ≡ self.old) }
         ensures counted { IsCounted ID.eq P.cmp V.borrowed QS.accepts self.old → IsCounted ID.eq P.cmp V.borrowed QS.accepts self.new }
         ensures grows { is_le (P.cmp self.old.granted self.new.granted) ≡ true }
