@@ -4,3 +4,4 @@ pub mod GrantedLemmas
 pub mod ValuesLemmas
 pub mod PartsLemmas
 pub mod CountedLemmas
+pub mod ReplayLemmas

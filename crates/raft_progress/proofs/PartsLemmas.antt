@@ -11,7 +11,9 @@ use Rattle.std.proofs.Math.ListN.{set}
 use Rattle.std.proofs.Math.Bool.{true≢false}
 use Rattle.std.specs.declared.cmp.Ordering.{Ordering}
 use Rattle.std.specs.Ordering.{is_eq, is_le}
-use Rattle.raft_progress.specs.Counted.{IsNoLess}
+use Rattle.raft_progress.specs.Counted.{IsNoLess, lowers_value}
+use Rattle.std.specs.Cmp.{IsTotalOrder}
+use Rattle.raft_progress.proofs.OrderLemmas.{le_if_not_lt}
 use Rattle.raft_state.specs.Rising.{IsBelowAll, IsRising}
 use Rattle.raft_state.specs.Nodes.{has_id, has_node}
 use Rattle.raft_progress.proofs.ValuesLemmas.{some_of}
@@ -150,6 +152,10 @@ pub no_less : {V P : Type 0} (cmp : P → P → Ordering) (compared : V → P) (
 no_less cmp compared None learner before value e h = tt
 no_less cmp compared (Some v) learner before value e h =
     let same : before ≡ v = cc e in subst (λ x. is_le (cmp (compared x) (compared value)) ≡ true) same (h e)
+
+pub no_less_unless : {V P : Type 0} {cmp : P → P → Ordering} (o : IsTotalOrder cmp) (compared : V → P) (voter : Option V) (value : V) → lowers_value cmp compared voter value ≡ false → IsNoLess cmp compared voter value
+no_less_unless o compared None value h = tt
+no_less_unless o compared (Some before) value h = le_if_not_lt o (compared value) (compared before) h
 
 -- nobody has an id that has no value
 pub nobody_has : {K V P Q : Type 0} (eq : K → K → Bool) (p : Parts K V P Q) (id : K) → value_of eq p id ≡ None → has_value eq p id ≡ false

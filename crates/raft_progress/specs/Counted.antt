@@ -1,5 +1,5 @@
 -- A progress whose granted value is counted.
-use Rattle.std.specs.Prelude.{◌≡◌, Bool, true, Option, Some, None}
+use Rattle.std.specs.Prelude.{◌≡◌, Bool, true, false, Option, Some, None}
 use Rattle.std.specs.declared.cmp.Ordering.{Ordering}
 use Rattle.std.specs.Ordering.{is_le, is_lt}
 use Rattle.raft_progress.specs.Granted.{IsFalling, IsGranted}
@@ -16,6 +16,11 @@ module _ {V P : Type 0} (cmp : P → P → Ordering) (compared : V → P) where
   abbrev pub IsNoLess : Option V → V → Type 0
   IsNoLess None value = Unit {0}
   IsNoLess (Some before) value = is_le (cmp (compared before) (compared value)) ≡ true
+
+  -- there is a value, and the new one is below it
+  abbrev pub lowers_value : Option V → V → Bool
+  lowers_value None value = false
+  lowers_value (Some before) value = is_lt (cmp (compared value) (compared before))
 
 module _ {V P : Type 0} (compared : V → P) where
   -- there is no value, or the new one has the same part that is compared

@@ -4,3 +4,5 @@ pub mod Values
 pub mod Parts
 pub mod Counted
 pub mod Inflight
+pub mod Entry
+pub mod Replay

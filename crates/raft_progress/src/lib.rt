@@ -6,12 +6,18 @@ pub mod entries;
 pub mod front;
 pub mod inflight;
 pub mod iter;
+pub mod progress;
+pub mod progress_entry;
+pub mod replaying;
 pub mod vec_progress;
 
 pub use borrow::Borrow;
 pub use inflight::Inflight;
 pub use iter::Iter;
+pub use progress::Progress;
+pub use progress_entry::ProgressEntry;
 pub use raft_state::Joint;
+pub use replaying::{ReplayError, ReplayItem, replay};
 pub use vec_progress::VecProgress;
 
 #[cfg(test)]

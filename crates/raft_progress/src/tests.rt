@@ -1,8 +1,13 @@
-use super::{Inflight, VecProgress};
-use raft_state::{IdSet, Joint, LeaderId, LogId, LogIdRange};
+ghost use Rattle.std.specs.Prelude.{◌≡◌};
+ghost use Rattle.raft_state.specs.LogId.{log_id_of};
+
+use super::{Inflight, Progress, ProgressEntry, ReplayError, ReplayItem, VecProgress, replay};
+use raft_state::{EmptyNode, IdSet, Joint, LeaderId, LogId, LogIdRange, RaftState};
 use std::test::Fail;
 
-fn log_id(index: u64) -> LogId<u64> {
+fn log_id(index: u64) -> LogId<u64>
+    ensures { result ≡ log_id_of 1 1 index }
+{
     LogId::new(LeaderId::new(1, 1), index)
 }
 
@@ -113,6 +118,131 @@ fn what_is_in_flight_is_answered_once(rt: HostRuntime) -> Result<(), Fail> {
     assert_eq!(rt;
         Inflight::logs(Some(log_id(5)), Some(log_id(5))),
         Inflight::None
+    );
+    Ok(())
+}
+
+// Any progress by the bound alone.
+fn granted_after<PR: Progress<u64, u64, u64, Vec<u64>>>(
+    progress: &mut PR,
+    id: u64,
+    value: u64,
+) -> u64 {
+    let _ = progress.increase_to(&id, value);
+    let _ = progress.update_with(&id, |kept| *kept = (*kept).max(value));
+    match progress.try_get(&id) {
+        Some(_) => *progress.granted(),
+        None => 0,
+    }
+}
+
+#[test]
+fn values_change_by_closure_and_by_reference(rt: HostRuntime) -> Result<(), Fail> {
+    let voters = vec![in rt.alloc(); 1u64, 2]?;
+    let mut progress: VecProgress<u64, u64, u64, Vec<u64>> = VecProgress::new(
+        rt.alloc(),
+        voters,
+        &[3],
+        0,
+    )?;
+    assert_eq!(rt;
+        progress.update_with(&1, |value| *value = (*value).max(4)),
+        Ok(0)
+    );
+    assert_eq!(rt;
+        progress.update_with(&9, |value| *value = (*value).max(4)),
+        Err(0)
+    );
+    if let Some(value) = progress.get_mut(&3) {
+        *value = 7;
+    }
+    assert_eq!(rt; progress.try_get(&3), Some(&7));
+    assert_eq!(rt; progress.granted(), &0);
+    assert_eq!(rt; granted_after(&mut progress, 2, 3), 3);
+    Ok(())
+}
+
+#[test]
+fn a_replay_stops_before_a_lower_value(rt: HostRuntime) -> Result<(), Fail> {
+    let alloc = rt.alloc();
+    let voters = vec![in alloc; 0u64, 1, 2, 3, 4]?;
+    let mut progress: VecProgress<u64, u64, u64, Vec<u64>> = VecProgress::new(
+        alloc,
+        voters,
+        &[],
+        0,
+    )?;
+    let mut items = Vec::new(alloc);
+    items.push(ReplayItem::Update {
+        id: 0u64,
+        value: 5u64,
+    })?;
+    items.push(ReplayItem::Update { id: 1, value: 3 })?;
+    items.push(ReplayItem::IncreaseTo { id: 2, value: 4 })?;
+    items.push(ReplayItem::IncreaseTo { id: 2, value: 10 })?;
+    items.push(ReplayItem::Update { id: 3, value: 6 })?;
+    assert_eq!(rt; replay(&mut progress, alloc, items), Ok(()));
+    assert_eq!(rt; progress.granted(), &5);
+    let mut more = Vec::new(alloc);
+    more.push(ReplayItem::UpgradeQuorumSet {
+        quorum_set: vec![in alloc; 1u64, 2]?,
+        learner_ids: vec![in alloc; 7u64]?,
+        default_value: 1u64,
+    })?;
+    more.push(ReplayItem::Update { id: 2, value: 9 })?;
+    more.push(ReplayItem::IncreaseTo { id: 1, value: 8 })?;
+    assert_eq!(rt;
+        replay(&mut progress, alloc, more),
+        Err(ReplayError::Lowers)
+    );
+    assert_eq!(rt; progress.granted(), &3);
+    assert_eq!(rt; progress.try_get(&7), Some(&1));
+    Ok(())
+}
+
+#[test]
+fn a_peer_is_sent_what_it_lacks(rt: HostRuntime) -> Result<(), Fail> {
+    let mut state: RaftState<u64, EmptyNode, u64> = RaftState::default(rt.alloc());
+    state.log_ids.append(log_id(0))?;
+    let mut entry: ProgressEntry<u64> = ProgressEntry::empty(1);
+    let sent = Inflight::Logs {
+        id: 1,
+        log_id_range: LogIdRange::new(None, Some(log_id(0))),
+    };
+    assert_eq!(rt; entry.next_send(&state, 64), Ok(sent));
+    assert!(rt; entry.is_log_range_inflight(&log_id(0)));
+    entry.update_matching(1, Some(log_id(0)));
+    assert_eq!(rt;
+        entry,
+        ProgressEntry {
+            matching: Some(log_id(0)),
+            curr_inflight_id: 1,
+            inflight: Inflight::None,
+            searching_end: 1,
+        }
+    );
+    assert_eq!(rt; ProgressEntry::new(Some(log_id(3))).searching_end, 4);
+    Ok(())
+}
+
+#[test]
+fn a_conflict_takes_the_search_back(rt: HostRuntime) -> Result<(), Fail> {
+    let mut entry: ProgressEntry<u64> = ProgressEntry::empty(20);
+    entry.inflight = Inflight::logs(Some(log_id(7)), Some(log_id(9))).with_id(1);
+    entry.update_conflicting(2, 7);
+    assert_eq!(rt; entry.searching_end, 20);
+    Ok(())
+}
+
+#[test]
+fn a_conflict_of_the_request_in_flight_counts(rt: HostRuntime) -> Result<(), Fail> {
+    let mut entry: ProgressEntry<u64> = ProgressEntry::empty(20);
+    entry.inflight = Inflight::logs(Some(log_id(7)), Some(log_id(9))).with_id(1);
+    entry.update_conflicting(1, 7);
+    assert_eq!(rt; entry.searching_end, 7);
+    assert_eq!(rt;
+        entry.to_string(rt.alloc())?.as_str(),
+        "{[None, 7), inflight:None}"
     );
     Ok(())
 }

@@ -1,12 +1,13 @@
 //! The progress of all peers, and what a quorum of the voters has reached.
-ghost use Rattle.std.specs.Prelude.{◌≡◌, ◌<◌, ◌||◌, ◌++◌, OnOk, length, slice_index_or, Bool, true, false, Ok, Err, IfSome, IsSome, Some, None, map, IfOk, OnErr, IsPermutation, if◌then◌else◌};
+ghost use Rattle.std.specs.Prelude.{◌≡◌, ◌<◌, ◌||◌, ◌++◌, OnOk, length, slice_index_or, Bool, true, false};
+ghost use Rattle.std.specs.Prelude.{Ok, Err, IfSome, IsSome, Some, None, map, IfOk, OnErr, IsPermutation, if◌then◌else◌};
 ghost use Rattle.std.specs.Ordering.{is_le};
 ghost use Rattle.std.specs.Borrow.{Lends, LendsIf, sem};
 ghost use Rattle.std.specs.Fn.{FnOnceReturnsAtMut};
 ghost use Rattle.std.specs.List.{list_any};
 ghost use Rattle.std.specs.Option.{option_copied, option_copied_mut};
 ghost use Rattle.raft_state.specs.Nodes.{has_id, has_node};
-ghost use Rattle.raft_progress.specs.Counted.{IsCounted, IsNoLess, IsSamePart};
+ghost use Rattle.raft_progress.specs.Counted.{IsCounted, IsNoLess, IsSamePart, lowers_value};
 ghost use Rattle.raft_progress.specs.Granted.{IsFalling};
 ghost use Rattle.raft_progress.specs.Parts.{IsUpgraded, SetsValue, carried, has_value, value_of, with_learner, with_voter, written};
 ghost use Rattle.raft_progress.specs.Values.{are_distinct, rises_above, value_at};
@@ -117,7 +118,8 @@ impl<ID: NodeId, V: Copy + Borrow<P>, P: Copy + Ord, QS: QuorumSet<ID> + Drop> V
         requires callable { F.IsAlwaysCallable f }
         requires rises { (before value : V) → value_at ID.eq self.old.voters id.now ≡ Some before → FnOnceReturnsAtMut F.FnOnce f before tt value
             → is_le (P.cmp (V.borrowed before) (V.borrowed value)) ≡ true }
-        ensures sets { OnOk result ((before value : V) × (value_of ID.eq self.old id.now ≡ Some before) × FnOnceReturnsAtMut F.FnOnce f before tt value × SetsValue ID.eq self.old self.new id.now value) }
+        ensures sets { OnOk result ((before value : V) × (value_of ID.eq self.old id.now ≡ Some before)
+            × FnOnceReturnsAtMut F.FnOnce f before tt value × SetsValue ID.eq self.old self.new id.now value) }
         ensures unknown { OnErr result (self.new ≡ self.old) }
         ensures counted { IsCounted ID.eq P.cmp V.borrowed QS.accepts self.old → IsCounted ID.eq P.cmp V.borrowed QS.accepts self.new }
         ensures grows { is_le (P.cmp self.old.granted self.new.granted) ≡ true }
@@ -185,6 +187,16 @@ impl<ID: NodeId, V: Copy + Borrow<P>, P: Copy + Ord, QS: QuorumSet<ID> + Drop> V
                 Some(at) => Some(self.learner_mut(at)),
                 None => None,
             },
+        }
+    }
+
+    // Whether the value is below that of the id, if a voter has it.
+    pub(crate) fn lowers(&self, id: &ID, value: &V) -> bool
+        ensures { result ≡ lowers_value P.cmp V.borrowed (value_at ID.eq self.now.voters id.now) value.now }
+    {
+        match value_in(self.voters.as_slice(), id) {
+            Some(before) => is_below(value.borrow(), before.borrow()),
+            None => false,
         }
     }
 
@@ -289,8 +301,8 @@ impl<ID: NodeId, V: Copy + Borrow<P>, P: Copy + Ord, QS: QuorumSet<ID> + Drop> V
         Ok(entries)
     }
 
-    /// The progress of another quorum set's voters and of these learners, who are distinct and no
-    /// voters: who has a value here keeps it, the others begin at the default. What is granted is
+    /// The progress of another quorum set's voters and of these learners: who has a value here keeps
+    /// it, the others begin at the default. What is granted is
     /// counted afresh from the default on (openraft, where the old progress is used up).
     pub fn upgrade_quorum_set(
         &self,
@@ -299,8 +311,6 @@ impl<ID: NodeId, V: Copy + Borrow<P>, P: Copy + Ord, QS: QuorumSet<ID> + Drop> V
         learner_ids: &[ID],
         default_value: V,
     ) -> Result<VecProgress<ID, V, P, QS>, AllocError>
-        requires distinct { are_distinct ID.eq learner_ids.now ≡ true }
-        requires no_voters { list_any (has_id ID.eq (QS.members quorum_set)) learner_ids.now ≡ false }
         ensures upgraded { IfOk result (λ p. IsUpgraded ID.eq self.now p quorum_set (QS.members quorum_set) learner_ids.now default_value) }
         ensures built_with { IfOk result (λ p. p.built_with ≡ V.borrowed default_value) }
         ensures counted { IfOk result (λ p. IsCounted ID.eq P.cmp V.borrowed QS.accepts p) }
