@@ -27,4 +27,5 @@ module _ {K : Type 0} (cmp : LogId K → LogId K → Ordering) where
   next_request ids purged snapshot max_entries next search =
       if nat_lt search (next_place purged) then Snapshot 0 snapshot
       else let start = request_start (next_place purged) next search
-      in logs_between (id_before ids start) (id_before ids (min (start + max_entries) (next_place (last_id ids))))
+      in let stop = min (start + max_entries) (next_place (last_id ids))
+      in if nat_lt start stop then logs_between (id_before ids start) (id_before ids stop) else Nothing

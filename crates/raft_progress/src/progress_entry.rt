@@ -112,6 +112,9 @@ impl<NID: NodeId> ProgressEntry<NID> {
         let end = log_state.last_log_id().copied().next_index();
         let start = request_start(first, self.matching.next_index(), self.searching_end);
         let stop = request_end(start, max_entries, end);
+        if stop <= start {
+            return Inflight::None;
+        }
         Inflight::logs(log_state.prev_log_id(start), log_state.prev_log_id(stop))
     }
 

@@ -5,6 +5,7 @@ use Rattle.std.specs.List.{slice_get}
 use Rattle.std.specs.Option.{option_or}
 use Rattle.std.specs.declared.cmp.Ordering.{Ordering}
 use Rattle.raft_state.specs.declared.accepted.Accepted.{Accepted}
+use Rattle.raft_state.specs.declared.io_state.IOState.{IOState}
 use Rattle.raft_state.specs.declared.vote.LeaderId.{LeaderId}
 use Rattle.raft_state.specs.declared.vote.Vote.{Vote}
 use Rattle.raft_state.specs.declared.log_id.LogId.{LogId}
@@ -48,6 +49,22 @@ module _ {K : Type 0} where
   -- the vote of a node that never voted
   abbrev pub first_vote : K → Vote K
   first_vote id = record { leader_id = record { term = 0; node_id = id }; committed = false }
+
+  -- the leader id of a node that never voted
+  abbrev pub first_leader : K → LeaderId K
+  first_leader id = record { term = 0; node_id = id }
+
+  -- nothing was written or applied yet
+  abbrev pub no_io : K → IOState K
+  no_io id =
+      record {
+        building_snapshot = false;
+        vote = first_vote id;
+        flushed = record { committed_leader_id = first_leader id; log_id = None };
+        applied = None;
+        snapshot = None;
+        purged = None;
+      }
 
 -- the part that a node plays: whether it is a voter, whether its vote is for itself, and whether
 -- a quorum has granted that

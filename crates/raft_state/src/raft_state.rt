@@ -6,6 +6,8 @@ ghost use Rattle.raft_state.specs.LogId.{is_past};
 ghost use Rattle.raft_state.specs.LogIdList.{AllGoOn, HaveOneLeader, extended, id_at, last_id, purged};
 ghost use Rattle.raft_state.specs.Membership.{is_voter};
 ghost use Rattle.raft_state.specs.MembershipState.{committed_upto};
+ghost use Rattle.raft_state.specs.declared.server_state.ServerState.TheVariants.{Learner};
+ghost use Rattle.raft_state.specs.State.{first_leader, no_io};
 ghost use Rattle.raft_state.specs.State.{accepted_under, begins_at, first_vote, last_purged, part_of, purge_fault, state_fault};
 
 use crate::accepted::Accepted;
@@ -70,6 +72,12 @@ impl<NID: NodeId, N: Node, I: Instant> RaftState<NID, N, I> {
         ensures vote { result.vote ≡ record { value = first_vote NID.default_id; utime = None } }
         ensures log { (result.log_ids ≡ []) × (result.purged_next ≡ 0) }
         ensures none { (result.committed ≡ None) × (result.purge_upto ≡ None) × (result.snapshot_meta.last_log_id ≡ None) }
+        ensures role { result.server_state ≡ Learner }
+        ensures snapshot { result.snapshot_meta ≡ record { last_log_id = None; last_membership = record { log_id = None; membership = record { configs = []; nodes = [] } } } }
+        ensures committed { result.membership_state.committed ≡ record { log_id = None; membership = record { configs = []; nodes = [] } } }
+        ensures effective { result.membership_state.effective ≡ record { log_id = None; membership = record { configs = []; nodes = [] } } }
+        ensures accepted { result.accepted ≡ record { leader_id = first_leader NID.default_id; log_id = None } }
+        ensures io { result.io_state ≡ no_io NID.default_id }
         ensures valid { state_fault NID.cmp result ≡ None }
     {
         let vote = Vote::new(0, default_id());
