@@ -64,7 +64,7 @@ module _ {X : Type 0} (f : X → List ℕ) where
       record {
         bytes = e ∙ bytes_more old now xs k x h is w.bytes;
         places = subst (λ (r : List EntryIndex). r ++ runs (length after) (numbered (index + 1) (map f (drop (k + 1) xs))) ≡ runs (length old) (numbered first (map f xs))) (sym m)
-        (subst (λ (b : List ℕ). (rs ++ place index at len ∷ []) ++ runs (length b) (numbered (index + 1) (map f (drop (k + 1) xs))) ≡ runs (length old) (numbered first (map f xs))) (sym e) places);
+            (subst (λ (b : List ℕ). (rs ++ place index at len ∷ []) ++ runs (length b) (numbered (index + 1) (map f (drop (k + 1) xs))) ≡ runs (length old) (numbered first (map f xs))) (sym e) places);
         index_is = omega (arith, w.index_is);
         short = short;
         count = ap length m ∙ length-append rs (place index at len ∷ []) ∙ ap (λ (n : ℕ). n + 1) w.count;

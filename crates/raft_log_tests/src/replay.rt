@@ -1,7 +1,9 @@
 ghost use Rattle.std.specs.Prelude.{◌<◌, length};
 
 use raft_log_memtables::{MemTableRecoverContext, MemTables, PlacedBatch, replay_all};
-use raft_log_records::{AtomicGroupBuilder, FileBlockHandle, FileId, LogBatch, LogQueue, RecordError};
+use raft_log_records::{
+    AtomicGroupBuilder, FileBlockHandle, FileId, LogBatch, LogQueue, RecordError,
+};
 use std::alloc::Global;
 use std::test::Fail;
 

@@ -70,8 +70,7 @@ returns g c =
     let sum = length-append a.entries.items (joined parts) in
     let short : record_len (c.args.self.now.items ++ run_of c.args.raft_group_id c.args.first parts ∷ []) ≤ 33554432 = omega (arith, longer, count, grown, sum, c.record_len-room.ensures.len, c.record_len-room.ensures.short, c.block_checksum_len-checksum_len.ensures.len, c.len-at.ensures, c.len.ensures, c.if-room-run_len.false) in
     let item : LogItem = record { raft_group_id = c.args.raft_group_id; content = content.EntryIndexes c.in-Ok.indexes } in
-    let is = indexes_are c.args.raft_group_id c.args.first (length a.entries.items) a.entries.items parts c.in-Ok.indexes.items c.in-Ok.ensures.places refl in
-    (
+    let is = indexes_are c.args.raft_group_id c.args.first (length a.entries.items) a.entries.items parts c.in-Ok.indexes.items c.in-Ok.ensures.places refl in (
       ap (λ (l : List (Item (List ℕ))). record { items = l; writing = open_still }) (run_viewed a.items.items c.push.new.self.items a.entries.items c.write_all.new.out.items item c.args.raft_group_id c.args.first parts c.self.invariant.sound.laid is c.in-Ok-push.ensures.items c.in-Ok.ensures.bytes)
           ∙ ap (λ (b : Batch). record { items = b.items ++ run_of c.args.raft_group_id c.args.first parts ∷ []; writing = open_still }) c.self.view_is,
       short,
