@@ -12,3 +12,4 @@ pub mod Framed
 pub mod Streams
 pub mod Fronts
 pub mod StreamProofs
+pub mod AnyCutting

@@ -35,13 +35,13 @@ no_judged = None
 abbrev no_length : Option ℕ
 no_length = None
 
-some_none : (j : Judged) → no_judged ≡ Some j → ⊥
+pub some_none : (j : Judged) → no_judged ≡ Some j → ⊥
 some_none j e = absurd cc
 
 no_number : (n : ℕ) → no_length ≡ Some n → ⊥
 no_number n e = absurd cc
 
-frame_waits : (s : List ℕ) (n : ℕ) → length s < n + 4 → judged_frame s n ≡ None
+pub frame_waits : (s : List ℕ) (n : ℕ) → length s < n + 4 → judged_frame s n ≡ None
 frame_waits s n lt = let t : ltb (length s) (n + 4) ≡ true = lt-ltb _ _ lt in rw t refl
 
 frame_there : (s more : List ℕ) (n : ℕ) → n + 4 ≤ length s → judged_frame (s ++ more) n ≡ judged_frame s n
@@ -51,7 +51,7 @@ frame_there s more n le =
     let c : take n (drop 4 (s ++ more)) ≡ take n (drop 4 s) = ap (take n) (drop-append-le 4 s more (omega arith)) ∙ take-append-le n (drop 4 s) more (omega (arith, length-drop 4 s)) in
     rw (a, b, c) refl
 
-long_enough : (s : List ℕ) → 4 ≤ length s → length_in s ≡ Some (from_be_bytes w32 (take 4 s))
+pub long_enough : (s : List ℕ) → 4 ≤ length s → length_in s ≡ Some (from_be_bytes w32 (take 4 s))
 long_enough s le = let t : ltb (length s) 4 ≡ false = le-ltb _ _ le in rw t refl
 
 same_rest : (s x y : List ℕ) → s ++ x ≡ s ++ y → x ≡ y
@@ -67,7 +67,7 @@ length_stays : (s more : List ℕ) (n : ℕ) (why : Option FrameFault) (j : Judg
 length_stays s more n (Some why) j h = h
 length_stays s more n None j h = frame_stays s more n j h
 
-stays : (s more : List ℕ) (j : Judged) → front s ≡ Some j → front (s ++ more) ≡ Some j
+pub stays : (s more : List ℕ) (j : Judged) → front s ≡ Some j → front (s ++ more) ≡ Some j
 unfolding front
 stays s more j h =
     let l = length_found s (length_in s) j refl h in

@@ -10,3 +10,4 @@ pub mod Frames
 pub mod Stream
 pub mod Wanted
 pub mod StreamLaws
+pub mod Cuts

@@ -2,6 +2,7 @@
 ghost use Rattle.raft_wire.specs.StreamLaws.{FoundIsSpelled, SpelledIsFound, RefusedIsNoFrame, FoundStays};
 ghost use Rattle.raft_wire.specs.StreamLaws.{WaitsOnlySoLong, NoFrameBeginsAnother, NoEntryBeginsAnother};
 ghost use Rattle.raft_wire.specs.StreamLaws.{FramesAreShort};
+ghost use Rattle.raft_wire.specs.Cuts.{CallsSayTheStream, StreamsSayOneThing, CutsDontMatter};
 
 /// A frame that stands at the front of a stream is spelled so.
 pub fn found_frames_are_spelled_so()
@@ -37,4 +38,12 @@ pub fn no_spelling_begins_another()
 /// A frame within the limits of its parts is within the limit of frames.
 pub fn frames_are_short()
     ensures { FramesAreShort }
+{}
+
+/// What calls of a feeder answer is what the bytes say that they took, and a stream says one thing.
+/// So calls that took the same bytes in other pieces answered the same frames and faults.
+pub fn cuts_do_not_matter()
+    ensures calls { CallsSayTheStream }
+    ensures one_thing { StreamsSayOneThing }
+    ensures cuts { CutsDontMatter }
 {}

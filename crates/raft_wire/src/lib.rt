@@ -19,8 +19,9 @@ pub use frame::{
     SnapshotFrame, SnapshotReplyFrame, SnapshotResult,
 };
 pub use laws::{
-    feeders_wait_only_so_long, found_frames_are_spelled_so, found_stays, frames_are_short,
-    no_spelling_begins_another, refused_streams_begin_no_frame, spelled_frames_are_found,
+    cuts_do_not_matter, feeders_wait_only_so_long, found_frames_are_spelled_so, found_stays,
+    frames_are_short, no_spelling_begins_another, refused_streams_begin_no_frame,
+    spelled_frames_are_found,
 };
 pub use memberships::{MAX_ADDRESS_LEN, MAX_GROUPS, MAX_NODES, MAX_VOTERS, is_within_limits};
 pub use reading::{MAX_ENTRIES, MAX_SNAPSHOT_LEN, WireSnapshot};
