@@ -2,8 +2,7 @@
 use Rattle.std.proofs.Common.{◌≡◌, ◌-◌, ◌<◌, Bool, true, false, List, [], ◌∷◌, length, get_or, refl, ap, ◌∙◌, arith}
 use Rattle.std.specs.Prelude.{if◌then◌else◌}
 use Rattle.std.specs.List.{list_any}
-use Rattle.raft_state.specs.MembershipChange.{last_config}
-use Rattle.raft_state.specs.Quorum.{last_of, next_configs}
+use Rattle.raft_state.specs.Quorum.{last_config, last_of, next_configs}
 
 pub get_or-last : {Q : Type 0} (x : Q) (xs : List Q) (d : Q) → get_or (x ∷ xs) (length xs) d ≡ last_of x xs
 get_or-last x [] d = refl

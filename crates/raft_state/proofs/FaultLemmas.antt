@@ -5,7 +5,7 @@ use Rattle.std.specs.declared.cmp.Ordering.{Ordering}
 use Rattle.std.specs.declared.cmp.Ordering.TheVariants.{Less, Equal, Greater}
 use Rattle.std.specs.Ordering.{match_ordering}
 use Rattle.std.specs.List.{list_any, filter, find, fold}
-use Rattle.raft_state.specs.Nodes.{has_id, has_node, with_node, with_new_node, with_new_nodes}
+use Rattle.raft_state.specs.Nodes.{has_id, has_node, with_node, with_nodes, with_new_node, with_new_nodes}
 use Rattle.raft_state.specs.Membership.{has_empty_group, is_voter, lesser, first_outside, least_outside}
 use Rattle.raft_state.specs.Validity.{fault_of, groups_fault, IsChangeFault}
 use Rattle.raft_state.specs.Quorum.{next_configs}
@@ -15,7 +15,7 @@ use Rattle.raft_state.specs.declared.change_members.ChangeMembers.{ChangeMembers
 use Rattle.raft_state.specs.declared.change_members.ChangeMembers.TheVariants.{ReplaceAllVoters, AddNodes, SetNodes, RemoveNodes}
 use Rattle.raft_state.specs.declared.error.ChangeMembershipError.{ChangeMembershipError}
 use Rattle.raft_state.specs.declared.error.ChangeMembershipError.TheVariants.{EmptyMembership, LearnerNotFound}
-use Rattle.raft_state.specs.MembershipChange.{fault_after, with_nodes, without_nodes, retained_nodes}
+use Rattle.raft_state.specs.MembershipChange.{fault_after, without_nodes, retained_nodes}
 use Rattle.raft_state.specs.QuorumLaws.{or_left, or_right}
 
 or_same : (a b : Bool) → (a || b) ≡ (a || (a || b))

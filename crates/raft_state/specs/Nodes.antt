@@ -3,6 +3,7 @@ use Rattle.std.specs.Prelude.{Bool, if◌then◌else◌, cond, Option, Some, Non
 use Rattle.std.specs.declared.cmp.Ordering.{Ordering}
 use Rattle.std.specs.Ordering.{match_ordering}
 use Rattle.std.specs.List.{fold, list_any}
+use Rattle.std.specs.BTreeSet.{insert_key}
 
 -- the list has this id
 abbrev pub has_id : {K : Type 0} → (K → K → Bool) → List K → K → Bool
@@ -17,6 +18,14 @@ abbrev pub with_node : {K N : Type 0} → (K → K → Ordering) → List (K × 
 with_node cmp [] id node = (id, node) ∷ []
 with_node cmp (x ∷ xs) id node =
     match_ordering (cmp id x.0) ((id, node) ∷ x ∷ xs) ((id, node) ∷ xs) (x ∷ with_node cmp xs id node)
+
+-- both lists' ids, each once, rising
+abbrev pub with_ids : {K : Type 0} → (K → K → Ordering) → List K → List K → List K
+with_ids cmp xs ids = fold (insert_key cmp) xs ids
+
+-- these nodes come in, in place of those with their ids
+abbrev pub with_nodes : {K N : Type 0} → (K → K → Ordering) → List (K × N) → List (K × N) → List (K × N)
+with_nodes {K} {N} cmp nodes news = fold (λ xs (new : K × N). with_node cmp xs new.0 new.1) nodes news
 
 -- the node with the id
 abbrev pub node_at : {K N : Type 0} → (K → K → Bool) → List (K × N) → K → Option N

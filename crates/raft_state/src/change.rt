@@ -3,8 +3,8 @@ ghost use Rattle.std.specs.Prelude.{◌≡◌, ◌<◌, not, ◌&&◌, ◌||◌,
 ghost use Rattle.std.specs.Cmp.Lexicographic.{pointwise};
 ghost use Rattle.raft_state.specs.Nodes.{has_id, has_node};
 ghost use Rattle.raft_state.specs.Membership.{is_voter};
-ghost use Rattle.raft_state.specs.MembershipChange.{changed, fault_after, is_told_first, last_config, next_coherent, retained_nodes};
-ghost use Rattle.raft_state.specs.Quorum.{next_configs};
+ghost use Rattle.raft_state.specs.MembershipChange.{changed, fault_after, is_told_first, next_coherent, retained_nodes};
+ghost use Rattle.raft_state.specs.Quorum.{last_config, next_configs};
 ghost use Rattle.raft_state.specs.declared.change_members.ChangeMembers.TheVariants.{AddVoters};
 ghost use Rattle.raft_state.specs.Validity.{groups_fault, IsChangeFault};
 

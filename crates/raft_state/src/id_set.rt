@@ -2,7 +2,7 @@
 ghost use Rattle.std.specs.Prelude.{◌≡◌, ◌+◌, ◌<◌, [], length, IfOk, OnOk, OnErr, MatchResult, ◌≤◌, ◌==◌};
 ghost use Rattle.std.specs.List.{filter, list_any};
 ghost use Rattle.raft_state.specs.Quorum.{rising_ids};
-ghost use Rattle.raft_state.specs.MembershipChange.{with_ids};
+ghost use Rattle.raft_state.specs.Nodes.{with_ids};
 ghost use Rattle.std.specs.BTreeSet.{insert_key};
 ghost use Rattle.raft_state.specs.Rising.{IsRising};
 ghost use Rattle.raft_state.specs.Place.{place};
@@ -132,7 +132,7 @@ impl<NID: NodeId> IdSet<NID> {
     }
 
     // What the set takes its memory from.
-    pub(crate) fn allocator(&self) -> Global {
+    pub fn allocator(&self) -> Global {
         *self.ids.allocator()
     }
 

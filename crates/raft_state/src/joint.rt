@@ -48,7 +48,7 @@ impl<ID, QS> From<Vec<QS>> for Joint<ID, QS, Vec<QS>> {
 }
 
 // Whether the set is a quorum of each child.
-pub(crate) fn all_accept<ID: NodeId, QS: QuorumSet<ID>, S: HasId<ID>>(
+pub fn all_accept<ID: NodeId, QS: QuorumSet<ID>, S: HasId<ID>>(
     children: &[QS],
     nodes: &S,
 ) -> bool
@@ -58,7 +58,7 @@ pub(crate) fn all_accept<ID: NodeId, QS: QuorumSet<ID>, S: HasId<ID>>(
 }
 
 // Takes all these ids in.
-pub(crate) fn insert_all<ID: NodeId>(set: &mut IdSet<ID>, ids: &[ID]) -> Result<(), AllocError>
+pub fn insert_all<ID: NodeId>(set: &mut IdSet<ID>, ids: &[ID]) -> Result<(), AllocError>
     ensures { OnOk result (set.new ≡ fold (insert_key ID.cmp) set.old ids.now) }
 {
     for id in ids {

@@ -59,7 +59,7 @@ impl<NID: NodeId> LogIdOptionExt for Option<&LogId<NID>> {
 }
 
 // Whether the place isn't past the log id.
-pub(crate) fn reaches<NID: NodeId>(log_id: &Option<LogId<NID>>, index: u64) -> bool
+pub fn reaches<NID: NodeId>(log_id: &Option<LogId<NID>>, index: u64) -> bool
     ensures { result ≡ reaches log_id.now index }
 {
     match log_id {
@@ -69,7 +69,7 @@ pub(crate) fn reaches<NID: NodeId>(log_id: &Option<LogId<NID>>, index: u64) -> b
 }
 
 // Whether the first stands at a lower index than the second; none stands below all.
-pub(crate) fn stands_before<NID: NodeId>(
+pub fn stands_before<NID: NodeId>(
     first: &Option<LogId<NID>>,
     second: &Option<LogId<NID>>,
 ) -> bool
@@ -83,7 +83,7 @@ pub(crate) fn stands_before<NID: NodeId>(
 }
 
 // Whether the first comes after the second; none comes before all.
-pub(crate) fn is_past<NID: NodeId>(first: &Option<LogId<NID>>, second: &Option<LogId<NID>>) -> bool
+pub fn is_past<NID: NodeId>(first: &Option<LogId<NID>>, second: &Option<LogId<NID>>) -> bool
     ensures { result ≡ is_past NID.cmp first.now second.now }
 {
     match (first, second) {

@@ -2,8 +2,7 @@
 ghost use Rattle.std.specs.Prelude.{◌≡◌, ◌+◌, ◌<◌, ◌≤◌, ◌&&◌, [], map, length, IfOk, OnOk, OnErr, MatchResult, MatchOption};
 ghost use Rattle.std.specs.List.{filter};
 ghost use Rattle.std.specs.Option.{option_copied};
-ghost use Rattle.raft_state.specs.Nodes.{has_node, node_at, with_node, with_new_node, with_new_nodes};
-ghost use Rattle.raft_state.specs.MembershipChange.{with_nodes};
+ghost use Rattle.raft_state.specs.Nodes.{has_node, node_at, with_node, with_nodes, with_new_node, with_new_nodes};
 ghost use Rattle.raft_state.specs.Rising.{IsRisingByFirst};
 ghost use Rattle.raft_state.specs.Place.{place};
 ghost use Rattle.std.specs.Cmp.Lexicographic.{pointwise, lists_per, lists_equiv};
@@ -163,7 +162,7 @@ impl<NID: NodeId, N: Node> NodeMap<NID, N> {
     }
 
     // What the map takes its memory from.
-    pub(crate) fn allocator(&self) -> Global {
+    pub fn allocator(&self) -> Global {
         *self.nodes.allocator()
     }
 

@@ -1,7 +1,6 @@
 //! Voter groups.
 ghost use Rattle.std.specs.Prelude.{◌≡◌, ◌++◌, ◌∷◌, ◌<◌, [], length, OnOk, OnErr, IfErr, IfOk};
-ghost use Rattle.raft_state.specs.Quorum.{next_configs};
-ghost use Rattle.raft_state.specs.MembershipChange.{last_config};
+ghost use Rattle.raft_state.specs.Quorum.{last_config, next_configs};
 ghost use Rattle.std.specs.Cmp.Lexicographic.{pointwise, lists_per, lists_equiv};
 
 use crate::coherent::next_children;
@@ -49,12 +48,12 @@ impl<NID: NodeId> VoterGroups<NID> {
     }
 
     // What the groups take their memory from.
-    pub(crate) fn allocator(&self) -> Global {
+    pub fn allocator(&self) -> Global {
         *self.groups.allocator()
     }
 
     // The last group.
-    pub(crate) fn last(&self) -> &IdSet<NID>
+    pub fn last(&self) -> &IdSet<NID>
         requires { 0 < length self.now }
         ensures { result.now ≡ last_config self.now }
     {
@@ -63,7 +62,7 @@ impl<NID: NodeId> VoterGroups<NID> {
     }
 
     // The groups one coherent step nearer to the goal.
-    pub(crate) fn next_towards(&self, goal: IdSet<NID>) -> Result<VoterGroups<NID>, AllocError>
+    pub fn next_towards(&self, goal: IdSet<NID>) -> Result<VoterGroups<NID>, AllocError>
         requires { 0 < length self.now }
         ensures { IfOk result (λ next. next ≡ next_configs (pointwise NID.eq) self.now goal) }
     {

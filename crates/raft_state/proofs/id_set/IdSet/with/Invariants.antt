@@ -1,5 +1,5 @@
 use Rattle.std.proofs.Common.{◌≡◌, take}
-use Rattle.raft_state.specs.MembershipChange.{with_ids}
+use Rattle.raft_state.specs.Nodes.{with_ids}
 use Rattle.raft_state.proofs.id_set.IdSet.with.Given as goal
 
 abbrev pub invariant-loop-id : goal.invariant-loop-id

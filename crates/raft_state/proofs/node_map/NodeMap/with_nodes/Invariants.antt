@@ -1,5 +1,5 @@
 use Rattle.std.proofs.Common.{◌≡◌, take}
-use Rattle.raft_state.specs.MembershipChange.{with_nodes}
+use Rattle.raft_state.specs.Nodes.{with_nodes}
 use Rattle.raft_state.proofs.node_map.NodeMap.with_nodes.Given as goal
 
 abbrev pub invariant-loop-id : goal.invariant-loop-id
