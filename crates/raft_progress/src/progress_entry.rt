@@ -1,6 +1,6 @@
 //! What a leader knows of one peer.
 ghost use Rattle.std.specs.Prelude.{◌≡◌, ◌+◌, ◌-◌, ◌*◌, ◌/◌, ◌^◌, ◌<◌, true, false, max, min, None, is_some, Ok, Err, OnErr};
-ghost use Rattle.raft_state.specs.LogId.{next_place};
+ghost use Rattle.raft_values.specs.LogId.{next_place};
 ghost use Rattle.raft_state.specs.LogIdList.{last_id};
 ghost use Rattle.raft_progress.specs.Entry.{next_request, request_start, search_behind};
 ghost use Rattle.raft_progress.specs.Inflight.{has_request_id, is_past_start, request_id, rest_behind, under_id};

@@ -1,5 +1,5 @@
 ghost use Rattle.std.specs.Prelude.{◌≡◌};
-ghost use Rattle.raft_state.specs.LogId.{log_id_of};
+ghost use Rattle.raft_values.specs.LogId.{log_id_of};
 
 use super::{Inflight, Progress, ProgressEntry, ReplayError, ReplayItem, VecProgress, replay};
 use raft_state::{EmptyNode, IdSet, Joint, LeaderId, LogId, LogIdRange, RaftState};
