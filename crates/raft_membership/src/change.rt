@@ -10,12 +10,12 @@ ghost use Rattle.raft_membership.specs.Validity.{groups_fault, IsChangeFault};
 
 use crate::change_members::ChangeMembers;
 use crate::error::ChangeMembershipError;
+use crate::membership::{Membership, fault_of, first_missing, is_voter, lesser};
 use raft_quorums::has_id::HasId;
 use raft_quorums::id_set::IdSet;
-use crate::membership::{Membership, fault_of, first_missing, is_voter, lesser};
-use raft_values::node::{Node, NodeId};
 use raft_quorums::node_map::NodeMap;
 use raft_quorums::voter_groups::VoterGroups;
+use raft_values::node::{Node, NodeId};
 use std::alloc::AllocError;
 
 // The ids that aren't in the set.

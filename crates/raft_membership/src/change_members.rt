@@ -3,8 +3,8 @@ ghost use Rattle.std.specs.Prelude.{◌≡◌};
 ghost use Rattle.raft_membership.specs.declared.change_members.ChangeMembers.TheVariants.{ReplaceAllVoters};
 
 use raft_quorums::id_set::IdSet;
-use raft_values::node::{Node, NodeId};
 use raft_quorums::node_map::NodeMap;
+use raft_values::node::{Node, NodeId};
 
 /// A change of a membership (openraft).
 #[derive(Debug, Drop, PartialEq, Eq)]

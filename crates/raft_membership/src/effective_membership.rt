@@ -7,12 +7,12 @@ ghost use Rattle.raft_quorums.specs.Quorum.{is_quorum};
 ghost use Rattle.raft_quorums.specs.QuorumLaws.{wider_quorum};
 ghost use Rattle.raft_quorums.specs.RisingLaws.{joint_ids_rise};
 
+use crate::membership::Membership;
 use raft_quorums::has_id::HasId;
 use raft_quorums::id_set::IdSet;
-use raft_values::log_id::LogId;
-use crate::membership::Membership;
-use raft_values::node::{Node, NodeId};
 use raft_quorums::quorum_set::QuorumSet;
+use raft_values::log_id::LogId;
+use raft_values::node::{Node, NodeId};
 use std::alloc::{AllocError, Global};
 use std::fmt::{self, Display};
 

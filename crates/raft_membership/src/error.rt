@@ -3,8 +3,8 @@
 ghost use Rattle.std.specs.Prelude.{◌≡◌, None, Some, Option};
 ghost use Rattle.raft_membership.specs.Forward.{forward_part};
 
-use raft_values::log_id::LogId;
 use crate::membership::Membership;
+use raft_values::log_id::LogId;
 use raft_values::node::{Node, NodeId};
 use raft_values::try_as_ref::TryAsRef;
 use raft_values::vote::Vote;

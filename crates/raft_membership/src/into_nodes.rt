@@ -3,8 +3,8 @@ ghost use Rattle.std.specs.Prelude.{◌≡◌, Bool, List, [], true, false, map,
 ghost use Rattle.raft_membership.specs.Membership.{default_nodes, optional_nodes};
 
 use raft_quorums::id_set::IdSet;
-use raft_values::node::{Node, NodeId};
 use raft_quorums::node_map::NodeMap;
+use raft_values::node::{Node, NodeId};
 use std::alloc::{AllocError, Global};
 
 /// What nodes may be given as (openraft): nothing, ids alone, or ids with their nodes.

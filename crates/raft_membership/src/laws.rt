@@ -8,8 +8,8 @@ ghost use Rattle.raft_membership.specs.declared.change_members.ChangeMembers.{Ch
 ghost use Rattle.raft_quorums.specs.Quorum.{IsQuorum, share_config};
 ghost use Rattle.raft_quorums.specs.QuorumLaws.{IsWithin};
 
-use raft_quorums::id_set::IdSet;
 use crate::membership::Membership;
+use raft_quorums::id_set::IdSet;
 use raft_values::node::{Node, NodeId};
 
 /// A superset of a quorum of the membership is a quorum.

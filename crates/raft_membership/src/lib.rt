@@ -14,7 +14,10 @@ pub mod stored_membership;
 
 pub use change_members::ChangeMembers;
 pub use effective_membership::EffectiveMembership;
-pub use error::{ChangeMembershipError, ClientWriteError, EmptyMembership, ForwardToLeader, InProgress, InitializeError, LackEntry, LearnerNotFound, NotAllowed, NotInMembers};
+pub use error::{
+    ChangeMembershipError, ClientWriteError, EmptyMembership, ForwardToLeader, InProgress,
+    InitializeError, LackEntry, LearnerNotFound, NotAllowed, NotInMembers,
+};
 pub use into_nodes::IntoNodes;
 pub use membership::Membership;
 pub use membership_state::MembershipState;

@@ -10,14 +10,14 @@ ghost use Rattle.raft_quorums.specs.RisingLaws.{joint_ids_rise};
 ghost use Rattle.raft_membership.specs.Validity.{fault_of, groups_fault, validity_fault};
 
 use crate::error::{ChangeMembershipError, EmptyMembership, LearnerNotFound};
+use crate::into_nodes::IntoNodes;
 use raft_quorums::has_id::HasId;
 use raft_quorums::id_set::IdSet;
-use crate::into_nodes::IntoNodes;
 use raft_quorums::joint::{all_accept, insert_all};
-use raft_values::node::{Node, NodeId};
 use raft_quorums::node_map::NodeMap;
 use raft_quorums::quorum_set::QuorumSet;
 use raft_quorums::voter_groups::VoterGroups;
+use raft_values::node::{Node, NodeId};
 use std::alloc::{AllocError, Global};
 use std::cmp::Ordering;
 use std::fmt::{self, Display};

@@ -6,9 +6,9 @@ ghost use Rattle.raft_membership.specs.MembershipState.{changes_force, committed
 
 use crate::effective_membership::EffectiveMembership;
 use crate::error::InProgress;
+use crate::membership::Membership;
 use raft_values::log_id::LogId;
 use raft_values::log_id_option_ext::{is_past, reaches, stands_before};
-use crate::membership::Membership;
 use raft_values::node::{Node, NodeId};
 use raft_values::validate::{Invalid, Validate};
 use std::alloc::{AllocError, Global};

@@ -1,9 +1,9 @@
 //! What a snapshot holds.
 ghost use Rattle.std.specs.Prelude.{◌≡◌, None, [], IfOk};
 
+use crate::stored_membership::StoredMembership;
 use raft_values::log_id::LogId;
 use raft_values::node::{Node, NodeId};
-use crate::stored_membership::StoredMembership;
 use std::alloc::{AllocError, Global};
 
 /// What a snapshot holds (openraft; here a group has one snapshot at a node, so its last log id

@@ -2,9 +2,9 @@
 ghost use Rattle.std.specs.Prelude.{◌≡◌, None, [], IfOk};
 ghost use Rattle.raft_membership.specs.Membership.{voter_ids};
 
+use crate::membership::Membership;
 use raft_quorums::id_set::IdSet;
 use raft_values::log_id::LogId;
-use crate::membership::Membership;
 use raft_values::node::{Node, NodeId};
 use std::alloc::{AllocError, Global};
 use std::fmt::{self, Display};

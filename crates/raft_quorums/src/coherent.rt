@@ -4,8 +4,8 @@ ghost use Rattle.std.specs.List.{list_any};
 ghost use Rattle.raft_quorums.specs.Quorum.{next_configs, share_config};
 
 use crate::joint::Joint;
-use raft_values::node::NodeId;
 use crate::quorum_set::QuorumSet;
+use raft_values::node::NodeId;
 use std::alloc::{AllocError, Global};
 
 /// Quorum sets whose quorums share a node with those of another one (openraft).

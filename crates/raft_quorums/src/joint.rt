@@ -8,8 +8,8 @@ ghost use Rattle.raft_quorums.specs.RisingLaws.{joint_ids_rise};
 
 use crate::has_id::HasId;
 use crate::id_set::IdSet;
-use raft_values::node::NodeId;
 use crate::quorum_set::QuorumSet;
+use raft_values::node::NodeId;
 use std::alloc::{AllocError, Global};
 use std::marker::PhantomData;
 
@@ -48,10 +48,7 @@ impl<ID, QS> From<Vec<QS>> for Joint<ID, QS, Vec<QS>> {
 }
 
 // Whether the set is a quorum of each child.
-pub fn all_accept<ID: NodeId, QS: QuorumSet<ID>, S: HasId<ID>>(
-    children: &[QS],
-    nodes: &S,
-) -> bool
+pub fn all_accept<ID: NodeId, QS: QuorumSet<ID>, S: HasId<ID>>(children: &[QS], nodes: &S) -> bool
     ensures { result ≡ list_all (λ q. QS.accepts q (S.has nodes.now)) children.now }
 {
     children.iter().all(|child| child.is_quorum(nodes))

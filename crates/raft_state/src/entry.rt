@@ -1,8 +1,8 @@
 //! Entries of a log.
 ghost use Rattle.std.specs.Prelude.{◌≡◌};
 
-use raft_values::log_id::LogId;
 use raft_membership::membership::Membership;
+use raft_values::log_id::LogId;
 use raft_values::node::{Node, NodeId};
 use std::alloc::AllocError;
 use std::fmt::{self, Debug, Display};

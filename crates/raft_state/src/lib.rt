@@ -14,7 +14,19 @@ pub use entry::{Entry, EntryPayload};
 pub use log_id_list::{LogIdList, are_keys};
 pub use log_state_reader::LogStateReader;
 pub use raft_entry::{FromAppData, RaftEntry, RaftLogId, RaftPayload};
+pub use raft_membership::{
+    ChangeMembers, ChangeMembershipError, ClientWriteError, EffectiveMembership, EmptyMembership,
+    ForwardToLeader, InProgress, InitializeError, IntoNodes, LackEntry, LearnerNotFound,
+    Membership, MembershipState, NotAllowed, NotInMembers, SnapshotMeta, StoredMembership,
+};
+pub use raft_quorums::{
+    AsJoint, Coherent, FindCoherent, HasId, IdSet, Joint, NodeMap, QuorumSet, VoterGroups,
+};
 pub use raft_state::RaftState;
-pub use raft_membership::{ChangeMembers, ChangeMembershipError, ClientWriteError, EffectiveMembership, EmptyMembership, ForwardToLeader, InProgress, InitializeError, IntoNodes, LackEntry, LearnerNotFound, Membership, MembershipState, NotAllowed, NotInMembers, SnapshotMeta, StoredMembership};
-pub use raft_quorums::{AsJoint, Coherent, FindCoherent, HasId, IdSet, Joint, NodeMap, QuorumSet, VoterGroups};
-pub use raft_values::{BasicNode, Bytes, Command, CommittedLeaderId, EmptyNode, IOState, Instant, Invalid, LeaderId, LogIOId, LogId, LogIdOptionExt, LogIdRange, LogIndexOptionExt, MessageSummary, Node, NodeEssential, NodeId, NodeIdEssential, ServerState, TryAsRef, UTime, Validate, Vote, VoteStateReader, leader_ids_by_term_and_node, log_ids_by_leader_and_index, votes_by_term_node_committed};
+pub use raft_values::{
+    BasicNode, Bytes, Command, CommittedLeaderId, EmptyNode, IOState, Instant, Invalid, LeaderId,
+    LogIOId, LogId, LogIdOptionExt, LogIdRange, LogIndexOptionExt, MessageSummary, Node,
+    NodeEssential, NodeId, NodeIdEssential, ServerState, TryAsRef, UTime, Validate, Vote,
+    VoteStateReader, leader_ids_by_term_and_node, log_ids_by_leader_and_index,
+    votes_by_term_node_committed,
+};

@@ -6,9 +6,9 @@ ghost use Rattle.raft_state.specs.LogIdList.{ids_of, last_id, id_at, appended, t
 ghost use Rattle.raft_state.specs.LogIdList.{Reaches, ends_in_pair, keys_of, of_leader, extended, AllGoOn, IsBelowNext, IsLedOn};
 ghost use Rattle.raft_state.specs.LogIdList.{HaveOneLeader, KeepsFront, with_end};
 
+use crate::raft_entry::RaftLogId;
 use raft_values::log_id::LogId;
 use raft_values::node::NodeId;
-use crate::raft_entry::RaftLogId;
 use std::alloc::{AllocError, Global};
 use std::cmp::Ordering;
 use std::marker::Model;

@@ -7,8 +7,8 @@ ghost use Rattle.raft_membership.specs.declared.membership.Membership.{Membershi
 ghost use Rattle.raft_state.specs.declared.entry.EntryPayload.TheVariants.{Blank, Normal, Membership as Asks};
 
 use crate::entry::{Entry, EntryPayload};
-use raft_values::log_id::LogId;
 use raft_membership::membership::Membership;
+use raft_values::log_id::LogId;
 use raft_values::node::{Node, NodeId, default_id};
 use raft_values::vote::LeaderId;
 

@@ -32,5 +32,7 @@ pub use server_state::ServerState;
 pub use try_as_ref::TryAsRef;
 pub use utime::UTime;
 pub use validate::{Invalid, Validate};
-pub use vote::{CommittedLeaderId, LeaderId, Vote, leader_ids_by_term_and_node, votes_by_term_node_committed};
+pub use vote::{
+    CommittedLeaderId, LeaderId, Vote, leader_ids_by_term_and_node, votes_by_term_node_committed,
+};
 pub use vote_state_reader::VoteStateReader;

@@ -69,10 +69,7 @@ pub fn reaches<NID: NodeId>(log_id: &Option<LogId<NID>>, index: u64) -> bool
 }
 
 // Whether the first stands at a lower index than the second; none stands below all.
-pub fn stands_before<NID: NodeId>(
-    first: &Option<LogId<NID>>,
-    second: &Option<LogId<NID>>,
-) -> bool
+pub fn stands_before<NID: NodeId>(first: &Option<LogId<NID>>, second: &Option<LogId<NID>>) -> bool
     ensures { result ≡ stands_before first.now second.now }
 {
     match (first, second) {
