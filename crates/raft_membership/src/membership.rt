@@ -13,7 +13,7 @@ use crate::error::{ChangeMembershipError, EmptyMembership, LearnerNotFound};
 use crate::into_nodes::IntoNodes;
 use raft_quorums::has_id::HasId;
 use raft_quorums::id_set::IdSet;
-use raft_quorums::joint::{all_accept, insert_all};
+use raft_quorums::joint::all_accept;
 use raft_quorums::node_map::NodeMap;
 use raft_quorums::quorum_set::QuorumSet;
 use raft_quorums::voter_groups::VoterGroups;
@@ -68,17 +68,6 @@ fn missing_voter<NID: NodeId, S: HasId<NID>>(groups: &[IdSet<NID>], nodes: &S) -
         least = lesser(least, first_missing(group, nodes));
     }
     least
-}
-
-// All voters of these groups.
-fn all_voters<NID: NodeId>(alloc: Global, groups: &[IdSet<NID>]) -> Result<IdSet<NID>, AllocError>
-    ensures { IfOk result (λ ids. ids ≡ voter_ids NID.cmp groups.now) }
-{
-    let mut ids = IdSet::new(alloc);
-    for group in groups {
-        insert_all(&mut ids, group.as_slice())?;
-    }
-    Ok(ids)
 }
 
 // An empty voter group comes first, then a voter that is no node.
@@ -159,15 +148,13 @@ impl<NID: NodeId, N: Node> Membership<NID, N> {
     ) -> Result<Membership<NID, N>, AllocError>
         ensures { IfOk result (λ m. m ≡ record { configs = configs.items; nodes = filled_nodes NID.eq NID.cmp N.default_node configs.items (T.nodes nodes) }) }
     {
-        let voters = all_voters(alloc, configs.as_slice())?;
+        let configs = VoterGroups::from(configs);
+        let voters = configs.ids()?;
         let defaults: NodeMap<NID, N> = voters.into_nodes(alloc)?;
         let nodes = nodes
             .into_nodes(alloc)?
             .with_new_nodes(defaults.as_slice())?;
-        Ok(Membership {
-            configs: VoterGroups::from(configs),
-            nodes,
-        })
+        Ok(Membership::from_parts(configs, nodes))
     }
 
     /// Whether there is more than one voter group.
@@ -181,7 +168,7 @@ impl<NID: NodeId, N: Node> Membership<NID, N> {
     pub fn voter_ids(&self) -> Result<IdSet<NID>, AllocError>
         ensures { IfOk result (λ ids. ids ≡ voter_ids NID.cmp self.now.configs) }
     {
-        all_voters(self.configs.allocator(), self.configs.as_slice())
+        self.configs.ids()
     }
 
     /// The ids of the nodes that are no voters.

@@ -52,7 +52,7 @@ impl<ID: NodeId, QS: QuorumSet<ID> + PartialEq> Coherent<ID, QS> for Joint<ID, Q
 }
 
 // The children of the next quorum set on the way to the goal.
-pub fn next_children<QS: PartialEq + Clone>(
+pub(crate) fn next_children<QS: PartialEq + Clone>(
     alloc: Global,
     children: &[QS],
     goal: QS,

@@ -132,7 +132,7 @@ impl<NID: NodeId> IdSet<NID> {
     }
 
     // What the set takes its memory from.
-    pub fn allocator(&self) -> Global {
+    fn allocator(&self) -> Global {
         *self.ids.allocator()
     }
 

@@ -47,7 +47,7 @@ impl<ID, QS> From<Vec<QS>> for Joint<ID, QS, Vec<QS>> {
     }
 }
 
-// Whether the set is a quorum of each child.
+/// Whether the set is a quorum of each child (own).
 pub fn all_accept<ID: NodeId, QS: QuorumSet<ID>, S: HasId<ID>>(children: &[QS], nodes: &S) -> bool
     ensures { result ≡ list_all (λ q. QS.accepts q (S.has nodes.now)) children.now }
 {
@@ -55,7 +55,7 @@ pub fn all_accept<ID: NodeId, QS: QuorumSet<ID>, S: HasId<ID>>(children: &[QS], 
 }
 
 // Takes all these ids in.
-pub fn insert_all<ID: NodeId>(set: &mut IdSet<ID>, ids: &[ID]) -> Result<(), AllocError>
+pub(crate) fn insert_all<ID: NodeId>(set: &mut IdSet<ID>, ids: &[ID]) -> Result<(), AllocError>
     ensures { OnOk result (set.new ≡ fold (insert_key ID.cmp) set.old ids.now) }
 {
     for id in ids {

@@ -162,7 +162,7 @@ impl<NID: NodeId, N: Node> NodeMap<NID, N> {
     }
 
     // What the map takes its memory from.
-    pub fn allocator(&self) -> Global {
+    fn allocator(&self) -> Global {
         *self.nodes.allocator()
     }
 

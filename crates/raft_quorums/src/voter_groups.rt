@@ -1,10 +1,11 @@
 //! Voter groups.
 ghost use Rattle.std.specs.Prelude.{◌≡◌, ◌++◌, ◌∷◌, ◌<◌, [], length, OnOk, OnErr, IfErr, IfOk};
-ghost use Rattle.raft_quorums.specs.Quorum.{last_config, next_configs};
+ghost use Rattle.raft_quorums.specs.Quorum.{joint_ids, last_config, next_configs};
 ghost use Rattle.std.specs.Cmp.Lexicographic.{pointwise, lists_per, lists_equiv};
 
 use crate::coherent::next_children;
 use crate::id_set::IdSet;
+use crate::joint::insert_all;
 use raft_values::node::NodeId;
 use std::alloc::{AllocError, AllocFailed, Global};
 use std::marker::Model;
@@ -21,6 +22,17 @@ impl<NID: NodeId> Model for VoterGroups<NID> {
     ghost Value = { List (List NID) };
 
     ghost view = { λ s. s.groups.items };
+}
+
+// The ids of all these groups.
+fn all_ids<NID: NodeId>(alloc: Global, groups: &[IdSet<NID>]) -> Result<IdSet<NID>, AllocError>
+    ensures { IfOk result (λ ids. ids ≡ joint_ids NID.cmp (λ group. group) groups.now) }
+{
+    let mut ids = IdSet::new(alloc);
+    for group in groups {
+        insert_all(&mut ids, group.as_slice())?;
+    }
+    Ok(ids)
 }
 
 impl<NID: NodeId> VoterGroups<NID> {
@@ -48,11 +60,11 @@ impl<NID: NodeId> VoterGroups<NID> {
     }
 
     // What the groups take their memory from.
-    pub fn allocator(&self) -> Global {
+    fn allocator(&self) -> Global {
         *self.groups.allocator()
     }
 
-    // The last group.
+    /// The last group (own).
     pub fn last(&self) -> &IdSet<NID>
         requires { 0 < length self.now }
         ensures { result.now ≡ last_config self.now }
@@ -61,7 +73,15 @@ impl<NID: NodeId> VoterGroups<NID> {
         &groups[groups.len() - 1]
     }
 
-    // The groups one coherent step nearer to the goal.
+    /// The ids of all groups, each once, rising (own).
+    pub fn ids(&self) -> Result<IdSet<NID>, AllocError>
+        ensures { IfOk result (λ ids. ids ≡ joint_ids NID.cmp (λ group. group) self.now) }
+    {
+        all_ids(self.allocator(), self.as_slice())
+    }
+
+    /// The groups one coherent step nearer to the goal: the goal alone where it is a group already, else beside the
+    /// last one (own).
     pub fn next_towards(&self, goal: IdSet<NID>) -> Result<VoterGroups<NID>, AllocError>
         requires { 0 < length self.now }
         ensures { IfOk result (λ next. next ≡ next_configs (pointwise NID.eq) self.now goal) }

@@ -58,7 +58,7 @@ impl<NID: NodeId> LogIdOptionExt for Option<&LogId<NID>> {
     }
 }
 
-// Whether the place isn't past the log id.
+/// Whether the place isn't past the log id; none reaches no place (own).
 pub fn reaches<NID: NodeId>(log_id: &Option<LogId<NID>>, index: u64) -> bool
     ensures { result ≡ reaches log_id.now index }
 {
@@ -68,7 +68,7 @@ pub fn reaches<NID: NodeId>(log_id: &Option<LogId<NID>>, index: u64) -> bool
     }
 }
 
-// Whether the first stands at a lower index than the second; none stands below all.
+/// Whether the first stands at a lower index than the second; none stands below all.
 pub fn stands_before<NID: NodeId>(first: &Option<LogId<NID>>, second: &Option<LogId<NID>>) -> bool
     ensures { result ≡ stands_before first.now second.now }
 {
@@ -79,7 +79,7 @@ pub fn stands_before<NID: NodeId>(first: &Option<LogId<NID>>, second: &Option<Lo
     }
 }
 
-// Whether the first comes after the second; none comes before all.
+/// Whether the first comes after the second; none comes before all (own).
 pub fn is_past<NID: NodeId>(first: &Option<LogId<NID>>, second: &Option<LogId<NID>>) -> bool
     ensures { result ≡ is_past NID.cmp first.now second.now }
 {
