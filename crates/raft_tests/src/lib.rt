@@ -9,10 +9,20 @@ mod changes;
 #[cfg(test)]
 mod errors;
 #[cfg(test)]
+mod ids;
+#[cfg(test)]
+mod indexes;
+#[cfg(test)]
 mod log_id_lists;
+#[cfg(test)]
+mod membership_states;
 #[cfg(test)]
 mod memberships;
 #[cfg(test)]
 mod quorums;
 #[cfg(test)]
+mod raft_states;
+#[cfg(test)]
 mod values;
+#[cfg(test)]
+mod written;

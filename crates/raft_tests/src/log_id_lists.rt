@@ -1,14 +1,8 @@
 //! Log id lists by rows.
-ghost use Rattle.std.specs.Prelude.{◌≡◌};
 
-use raft_state::{LeaderId, LogId, LogIdList, are_keys};
+use crate::ids::id;
+use raft_state::{LogId, LogIdList, are_keys};
 use std::test::Fail;
-
-fn id(term: u64, node: u64, index: u64) -> LogId<u64>
-    ensures { result.index ≡ index }
-{
-    LogId::new(LeaderId::new(term, node), index)
-}
 
 // Truncations, purges and a look-up of the log ids by the keys (1,1,1), (2,1,4), (2,1,5).
 #[test]
@@ -73,3 +67,27 @@ fn log_ids_go_on(rt: HostRuntime) -> Result<(), Fail> {
 }
 
 // Ids of one leader are put behind the others by the first and the last of them.
+#[test]
+fn ids_of_one_leader_go_on(rt: HostRuntime) -> Result<(), Fail> {
+    let mut list = LogIdList::default(rt.alloc());
+    list.extend_from_same_leader(&[id(2, 1, 4), id(2, 1, 5), id(2, 1, 6)])?;
+    assert_eq!(rt; list.key_log_ids(), [id(2, 1, 4), id(2, 1, 6)].as_slice());
+    assert_eq!(rt; list.get(5), Some(id(2, 1, 5)));
+
+    let mut list = LogIdList::default(rt.alloc());
+    list.extend_from_same_leader(&[id(3, 2, 0)])?;
+    assert_eq!(rt; list.key_log_ids(), [id(3, 2, 0)].as_slice());
+    let none: [LogId<u64>; 0] = [];
+    let mut list = LogIdList::default(rt.alloc());
+    list.extend_from_same_leader(&none)?;
+    assert!(rt; list.first().is_none());
+    assert!(rt; list.last().is_none());
+
+    let mut list = LogIdList::default(rt.alloc());
+    list.extend(&[id(1, 1, 0), id(1, 1, 1), id(2, 3, 2), id(2, 3, 3)])?;
+    assert_eq!(rt;
+        list.key_log_ids(),
+        [id(1, 1, 0), id(2, 3, 2), id(2, 3, 3)].as_slice()
+    );
+    Ok(())
+}

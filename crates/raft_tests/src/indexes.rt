@@ -1,0 +1,45 @@
+//! Indexes, ranges and log ids that may be none.
+
+use crate::ids::id;
+use raft_state::{Invalid, LogId, LogIdOptionExt, LogIdRange, LogIndexOptionExt, Validate};
+use std::test::Fail;
+
+fn index_of<L: LogIdOptionExt>(log_id: &L) -> Option<u64> {
+    log_id.index()
+}
+
+#[test]
+fn log_ids_that_may_be_none(rt: HostRuntime) {
+    let some = id(1, 2, 7);
+    let none: Option<LogId<u64>> = None;
+    assert_eq!(rt; index_of(&Some(some)), Some(7));
+    assert_eq!(rt; index_of(&Some(&some)), Some(7));
+    assert_eq!(rt; index_of(&none), None);
+    assert_eq!(rt; Some(some).next_index(), 8);
+    assert_eq!(rt; Some(&some).next_index(), 8);
+    assert_eq!(rt; none.next_index(), 0);
+}
+
+#[test]
+fn indexes_that_may_be_none(rt: HostRuntime) {
+    let none: Option<u64> = None;
+    assert_eq!(rt; none.next_index(), 0);
+    assert_eq!(rt; Some(4u64).next_index(), 5);
+    assert_eq!(rt; Some(4u64).prev_index(), Some(3));
+    assert_eq!(rt; Some(0u64).prev_index(), None);
+    assert_eq!(rt; Some(4u64).add(3), Some(7));
+}
+
+#[test]
+fn ranges_have_a_length(rt: HostRuntime) -> Result<(), Fail> {
+    let range = LogIdRange::new(Some(id(8, 1, 3)), Some(id(8, 1, 8)));
+    assert_eq!(rt; range.len(), 5);
+    assert_eq!(rt; range.to_string(rt.alloc())?.as_str(), "(T8-N1-3, T8-N1-8]");
+    assert!(rt; range.validate().is_ok());
+    let whole = LogIdRange::new(None, Some(id(8, 1, 8)));
+    assert_eq!(rt; whole.len(), 9);
+    assert_eq!(rt; whole.to_string(rt.alloc())?.as_str(), "(None, T8-N1-8]");
+    let turned = LogIdRange::new(Some(id(2, 1, 3)), Some(id(1, 1, 8)));
+    assert!(rt; turned.validate() == Err(Invalid::Range));
+    Ok(())
+}
