@@ -4,11 +4,13 @@ use Rattle.raft_state.specs.declared.log_id.LogId.{LogId}
 use Rattle.raft_state.specs.LogId.{log_id_of}
 use Rattle.raft_state.specs.Vote.{vote_of}
 use Rattle.raft_engine.specs.StoredGroup.{StoredGroup}
-use Rattle.raft_engine.specs.GroupState.{no_group}
+use Rattle.raft_state.specs.declared.entry.EntryPayload.TheVariants.{Blank}
+use Rattle.raft_engine.specs.Values.{Entry, entry_of}
+use Rattle.raft_engine.specs.GroupState.{GroupState, no_group, state_of}
 use Rattle.raft_engine.specs.declared.group_call.GroupCall.TheVariants.{Initialize, Elect, Propose, TriggerSnapshot}
 use Rattle.raft_world.specs.declared.world_event.WorldEvent.{WorldEvent}
 use Rattle.raft_world.specs.declared.world_event.WorldEvent.TheVariants.{Add, Ask, Deliver, Restart}
-use Rattle.raft_world.specs.GroupWorld.{GroupWorld, new_world}
+use Rattle.raft_world.specs.GroupWorld.{GroupWorld, NodeState, Absent, Up, Down, new_world}
 use Rattle.raft_world.specs.GroupRun.{group_run}
 use Rattle.raft_world.specs.Settled.{group_list}
 use Rattle.raft_world.specs.CommitsOwn.{known_committed}
@@ -65,12 +67,15 @@ outcomes_with_own = ok [] ∷ ok (3 ∷ []) ∷ ok (2 ∷ []) ∷ ok_told (1 ∷
 abbrev pub settled_aside : Steps
 settled_aside = to_their_end another_leads ++ (Deliver 13 1000, None) ∷ []
 
--- node 2 has a snapshot of what node 1 committed, and leads after a restart without an entry of its own
-abbrev pub leads_on_a_snapshot : Steps
-leads_on_a_snapshot =
+-- node 2 has a snapshot of what node 1 committed, and stops once it has stored its vote as granted, before an entry of its own
+abbrev pub stops_with_a_snapshot : Steps
+stops_with_a_snapshot =
     to_their_end until_told
     ++ (Deliver 10 0, None) ∷ (Ask 2 TriggerSnapshot 0, None) ∷ (Ask 2 Elect 1000, None)
     ∷ (Deliver 14 1000, None) ∷ (Deliver 15 1000, Some 1) ∷ []
+
+abbrev pub leads_on_a_snapshot : Steps
+leads_on_a_snapshot = stops_with_a_snapshot ++ (Restart 2, None) ∷ []
 
 -- a second set-up, with other voters
 abbrev pub another_set_up : Steps
@@ -85,3 +90,20 @@ stopped_set_up =
 -- a node that stored the vote of a term for itself
 abbrev pub voted : ℕ → StoredGroup
 voted term = record no_group { vote = vote_of term 1 false }
+
+-- the state of a node that is up
+abbrev pub state_in : NodeState → GroupState
+state_in Absent = state_of no_group
+state_in (Up s) = s
+state_in (Down stored) = state_of no_group
+
+abbrev pub state_after : Steps → ℕ → GroupState
+state_after es n = state_in ((after es).nodes n)
+
+-- node 2 knows what another leader committed
+abbrev pub told_of_anothers : Steps
+told_of_anothers = to_their_end until_told ++ (Deliver 10 0, None) ∷ []
+
+-- a blank of the first leader, at a place
+abbrev pub blank_at : ℕ → Entry
+blank_at place = entry_of (log_id_of 1 1 place) Blank

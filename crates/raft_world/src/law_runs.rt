@@ -1,20 +1,24 @@
 //! What the laws' words take in and what they leave out, on worked runs and small values: each a contract of a function
 //! without a body.
-ghost use Rattle.std.specs.Prelude.{◌≡◌, true, false, [], ◌∷◌, ◌++◌, Some, None};
+ghost use Rattle.std.specs.Prelude.{◌≡◌, true, false, [], ◌∷◌, ◌++◌, Some, None, ℕ, Contains};
 ghost use Rattle.raft_state.specs.LogId.{log_id_of};
 ghost use Rattle.raft_state.specs.Vote.{vote_of};
 ghost use Rattle.raft_engine.specs.GroupState.{state_of};
 ghost use Rattle.raft_engine.specs.StoredGroup.{CutFrom, SetVote};
-ghost use Rattle.raft_world.specs.declared.world_event.WorldEvent.TheVariants.{Restart};
-ghost use Rattle.raft_world.specs.GroupWorld.{Absent, Up, Down};
+ghost use Rattle.raft_world.specs.declared.world_event.WorldEvent.TheVariants.{Add};
+ghost use Rattle.raft_world.specs.GroupWorld.{GroupWorld, Absent, Up, Down, Skipped, new_world};
 ghost use Rattle.raft_world.specs.Example.{Halted, Leads, PassedOver, add, applied_at, held_ids_at, log_ids_at, ok, outcomes_after, part_at, three, to_their_end};
 ghost use Rattle.raft_world.specs.ThreeNodes.{set_up, until_accepted, until_proposed, until_told};
 ghost use Rattle.raft_world.specs.OriginRun.{command_at};
-ghost use Rattle.raft_world.specs.Settled.{Accepted};
+ghost use Rattle.raft_world.specs.Settled.{Accepted, IsGroupList, IsSettled, group_list};
+ghost use Rattle.raft_world.specs.BallotLists.{AgreeBelow};
+ghost use Rattle.raft_world.specs.CommitsOwn.{CommittedOwn};
+ghost use Rattle.raft_world.specs.GroupRun.{Replays};
+ghost use Rattle.raft_world.specs.OneVoter.{one};
 ghost use Rattle.raft_world.specs.StoringOrder.{AllKeep, KeepsVoteAndCommitted};
 ghost use Rattle.raft_world.specs.VotesRise.{VoteKept};
 ghost use Rattle.raft_world.specs.LawRuns.{accepted_for_another, accepted_with_own, after, another_set_up, first_three, first_two, known_after, leads_on_a_snapshot};
-ghost use Rattle.raft_world.specs.LawRuns.{list_after, outcomes_with_own, settled_aside, stopped_set_up, stored_unsaid, voted};
+ghost use Rattle.raft_world.specs.LawRuns.{blank_at, list_after, outcomes_with_own, settled_aside, state_after, stopped_set_up, stops_with_a_snapshot, stored_unsaid, told_of_anothers, voted};
 
 /// An entry is settled once a quorum accepted it under its leader's vote: not while a minority has it, not where a node
 /// stored it and stopped before it replied, and not by what is accepted under another leader's vote, until that leader has
@@ -53,14 +57,42 @@ pub fn commits_of_a_leader_without_an_entry()
     ensures behind { known_after accepted_with_own 2 ≡ Some 3 }
 {}
 
+/// A leader that committed an entry of its own has it at its committed place. Not so a leader that was opened on a
+/// snapshot, nor a follower.
+pub fn committed_entries_of_runs()
+    ensures own { CommittedOwn 2 (state_after accepted_with_own 2) }
+    ensures snapshots { CommittedOwn 2 (state_after leads_on_a_snapshot 2) → ⊥ }
+    ensures followers { CommittedOwn 2 (state_after told_of_anothers 2) → ⊥ }
+{}
+
 /// A node that is opened knows its snapshot's list to be committed, also where it leads on and has no entry of its own.
 pub fn places_known_at_an_opening()
     ensures told { known_after (to_their_end until_told) 1 ≡ Some 2 }
     ensures lagging { known_after (to_their_end until_told) 3 ≡ None }
-    ensures down { known_after leads_on_a_snapshot 2 ≡ Some 2 }
-    ensures leads { part_at (after (leads_on_a_snapshot ++ (Restart 2, None) ∷ [])) 2 ≡ Leads }
-    ensures log { log_ids_at (after (leads_on_a_snapshot ++ (Restart 2, None) ∷ [])) 2 ≡ Some first_three }
-    ensures applied { applied_at (after (leads_on_a_snapshot ++ (Restart 2, None) ∷ [])) 2 ≡ Some 2 }
+    ensures down { known_after stops_with_a_snapshot 2 ≡ Some 2 }
+    ensures leads { part_at (after leads_on_a_snapshot) 2 ≡ Leads }
+    ensures log { log_ids_at (after leads_on_a_snapshot) 2 ≡ Some first_three }
+    ensures applied { applied_at (after leads_on_a_snapshot) 2 ≡ Some 2 }
+{}
+
+/// The group's list has each settled entry, none else, and each at its place.
+pub fn lists_of_a_group()
+    ensures settled { IsSettled (after (to_their_end until_told)) (command_at 2 (add 5)) }
+    ensures lacks { IsGroupList (after (to_their_end until_told)) [] → ⊥ }
+    ensures unsettled { IsGroupList (new_world three) (blank_at 0 ∷ []) → ⊥ }
+    ensures misplaced { (w : GroupWorld) → IsGroupList w (blank_at 1 ∷ blank_at 0 ∷ []) → ⊥ }
+{}
+
+/// Lists agree below a place where both have it all, and the same.
+pub fn lists_that_agree()
+    ensures agree { AgreeBelow 2 (blank_at 0 ∷ blank_at 1 ∷ blank_at 2 ∷ []) (blank_at 0 ∷ blank_at 1 ∷ blank_at 3 ∷ []) }
+    ensures differ { AgreeBelow 3 (blank_at 0 ∷ blank_at 1 ∷ blank_at 2 ∷ []) (blank_at 0 ∷ blank_at 1 ∷ blank_at 3 ∷ []) → ⊥ }
+    ensures short { AgreeBelow 1 (blank_at 0 ∷ []) [] → ⊥ }
+{}
+
+/// A history that says of an event what doesn't become of it doesn't replay.
+pub fn histories_that_do_not_replay()
+    ensures { (end : GroupWorld) → Replays (new_world one) (record { event = Add 1; outcome = Skipped } ∷ []) end → ⊥ }
 {}
 
 /// A group is set up once: another set-up is passed over, also where the first one stopped.
