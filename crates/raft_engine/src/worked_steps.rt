@@ -2,10 +2,11 @@
 ghost use Rattle.std.specs.Prelude.{◌≡◌, ◌^◌, true, false, [], ◌∷◌, Some, None};
 ghost use Rattle.raft_state.specs.Vote.{vote_of};
 ghost use Rattle.raft_state.specs.LogId.{log_id_of};
-ghost use Rattle.raft_engine.specs.StoredGroup.{SetVote};
+ghost use Rattle.raft_engine.specs.StoredGroup.{Holds, SetVote, entry_at, held};
 ghost use Rattle.raft_engine.specs.GroupState.{no_group, state_of};
 ghost use Rattle.raft_engine.specs.StepResult.{BreaksCondition, NumberAtEnd, UnknownGroup, WrongParty};
 ghost use Rattle.raft_engine.specs.StepExample.{answer_to, empty_group, first_request_start, higher_vote, is_granted_at};
+ghost use Rattle.raft_engine.specs.StepExample.{blank_at, committed_by, other_blank_at, with_log, with_snapshot};
 ghost use Rattle.raft_engine.specs.StepExample.{request, sent_at_heartbeat, stored_at_notice, three_blanks, vote_request};
 
 /// A message that breaks a condition is refused, by the first reason that holds.
@@ -55,4 +56,31 @@ pub fn sizes_of_requests()
     ensures longer { first_request_start 47 ≡ 16 }
     ensures few { sent_at_heartbeat 9 ≡ 0 ∷ 10 ∷ [] }
     ensures many { sent_at_heartbeat 99 ≡ 0 ∷ 64 ∷ [] }
+{}
+
+/// A node has its snapshot's list and what its log has above it, also where the log begins later.
+pub fn lists_that_a_node_has()
+    ensures whole { held (with_snapshot None (blank_at 0 ∷ blank_at 1 ∷ blank_at 2 ∷ [])) ≡ blank_at 0 ∷ blank_at 1 ∷ blank_at 2 ∷ [] }
+    ensures purged { held (with_snapshot (Some (log_id_of 1 1 1)) (blank_at 2 ∷ [])) ≡ blank_at 0 ∷ blank_at 1 ∷ blank_at 2 ∷ [] }
+    ensures partly { held (with_snapshot (Some (log_id_of 1 1 0)) (blank_at 1 ∷ blank_at 2 ∷ [])) ≡ blank_at 0 ∷ blank_at 1 ∷ blank_at 2 ∷ [] }
+    ensures at { entry_at (with_snapshot (Some (log_id_of 1 1 1)) (blank_at 2 ∷ [])) 2 ≡ Some (blank_at 2) }
+    ensures below { entry_at (with_snapshot (Some (log_id_of 1 1 1)) (blank_at 2 ∷ [])) 1 ≡ None }
+{}
+
+/// A node holds a list up to a place where it has the same entries up to and with that place: not with another one there,
+/// and not where it has fewer.
+pub fn lists_that_a_node_holds()
+    ensures same { Holds (with_log (blank_at 0 ∷ blank_at 1 ∷ [])) (blank_at 0 ∷ other_blank_at 1 ∷ []) 0 }
+    ensures differs { Holds (with_log (blank_at 0 ∷ blank_at 1 ∷ [])) (blank_at 0 ∷ other_blank_at 1 ∷ []) 1 → ⊥ }
+    ensures short { Holds (with_log (blank_at 0 ∷ [])) (blank_at 0 ∷ blank_at 1 ∷ []) 1 → ⊥ }
+    ensures unlisted { Holds (with_log (blank_at 0 ∷ blank_at 1 ∷ [])) (blank_at 0 ∷ []) 1 → ⊥ }
+{}
+
+/// A leader commits the greatest place of an entry of its own that a quorum has accepted, and none of another leader's
+/// alone.
+pub fn places_that_a_leader_commits()
+    ensures none { committed_by None ≡ None }
+    ensures anothers { committed_by (Some (log_id_of 1 1 1)) ≡ None }
+    ensures own { committed_by (Some (log_id_of 2 2 2)) ≡ Some 2 }
+    ensures later { committed_by (Some (log_id_of 2 2 3)) ≡ Some 3 }
 {}
