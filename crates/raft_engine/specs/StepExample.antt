@@ -16,6 +16,7 @@ use Rattle.raft_engine.specs.GroupEvent.{Call, Receive}
 use Rattle.raft_engine.specs.StepResult.{RefusalReason, append, unchanged}
 use Rattle.raft_engine.specs.Lead.{commit_as_leader}
 use Rattle.raft_engine.specs.Frames.{request_start}
+use Rattle.raft_engine.specs.Opening.{opening_step}
 use Rattle.raft_engine.specs.GroupStep.{group_step}
 
 -- a node that has the group, and nothing in it
@@ -204,3 +205,7 @@ leads_three matched =
 abbrev pub committed_by : Option (LogId ℕ) → Option ℕ
 committed_by matched =
     let s = leads_three matched in (commit_as_leader 2 s.role (unchanged s)).state.committed
+
+-- node 2 as it is after an opening, with this vote
+abbrev pub opened : Vote ℕ → StoredGroup → GroupState
+opened vote s = (opening_step 2 (record s { vote = vote })).state

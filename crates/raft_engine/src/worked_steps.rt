@@ -3,10 +3,10 @@ ghost use Rattle.std.specs.Prelude.{◌≡◌, ◌^◌, true, false, [], ◌∷�
 ghost use Rattle.raft_state.specs.Vote.{vote_of};
 ghost use Rattle.raft_state.specs.LogId.{log_id_of};
 ghost use Rattle.raft_engine.specs.StoredGroup.{Holds, SetVote, entry_at, held};
-ghost use Rattle.raft_engine.specs.GroupState.{no_group, state_of};
+ghost use Rattle.raft_engine.specs.GroupState.{is_leader, no_group, state_of};
 ghost use Rattle.raft_engine.specs.StepResult.{BreaksCondition, NumberAtEnd, UnknownGroup, WrongParty};
 ghost use Rattle.raft_engine.specs.StepExample.{answer_to, empty_group, first_request_start, higher_vote, is_granted_at};
-ghost use Rattle.raft_engine.specs.StepExample.{blank_at, committed_by, other_blank_at, with_log, with_snapshot};
+ghost use Rattle.raft_engine.specs.StepExample.{blank_at, committed_by, opened, other_blank_at, with_log, with_snapshot};
 ghost use Rattle.raft_engine.specs.StepExample.{request, sent_at_heartbeat, stored_at_notice, three_blanks, vote_request};
 
 /// A message that breaks a condition is refused, by the first reason that holds.
@@ -83,4 +83,23 @@ pub fn places_that_a_leader_commits()
     ensures anothers { committed_by (Some (log_id_of 1 1 1)) ≡ None }
     ensures own { committed_by (Some (log_id_of 2 2 2)) ≡ Some 2 }
     ensures later { committed_by (Some (log_id_of 2 2 3)) ≡ Some 3 }
+{}
+
+/// A node that is opened knows its snapshot's list to be committed, and nothing else. It leads on where its vote is granted
+/// and its own.
+pub fn openings()
+    ensures own { is_leader (opened (vote_of 2 2 true) (with_snapshot None (blank_at 0 ∷ blank_at 1 ∷ []))).role ≡ true }
+    ensures ungranted { is_leader (opened (vote_of 2 2 false) (with_snapshot None (blank_at 0 ∷ blank_at 1 ∷ []))).role ≡ false }
+    ensures anothers { is_leader (opened (vote_of 2 1 true) (with_snapshot None (blank_at 0 ∷ blank_at 1 ∷ []))).role ≡ false }
+    ensures committed { (opened (vote_of 2 2 true) (with_snapshot None (blank_at 0 ∷ blank_at 1 ∷ blank_at 2 ∷ []))).committed ≡ Some 1 }
+    ensures applied { (opened (vote_of 2 2 true) (with_snapshot None (blank_at 0 ∷ blank_at 1 ∷ blank_at 2 ∷ []))).applied ≡ Some 1 }
+    ensures without { (opened (vote_of 2 2 true) (with_log (blank_at 0 ∷ blank_at 1 ∷ []))).committed ≡ None }
+{}
+
+/// A log that has the snapshot's last entry, or has purged it, stays at an opening. Another one is dropped.
+pub fn logs_at_openings()
+    ensures joined { (opened (vote_of 2 1 true) (with_snapshot None (blank_at 0 ∷ blank_at 1 ∷ blank_at 2 ∷ []))).stored.log ≡ blank_at 0 ∷ blank_at 1 ∷ blank_at 2 ∷ [] }
+    ensures purged { (opened (vote_of 2 1 true) (with_snapshot (Some (log_id_of 1 1 1)) (blank_at 2 ∷ []))).stored.log ≡ blank_at 2 ∷ [] }
+    ensures other { (opened (vote_of 2 1 true) (with_snapshot None (blank_at 0 ∷ other_blank_at 1 ∷ blank_at 2 ∷ []))).stored.log ≡ [] }
+    ensures short { (opened (vote_of 2 1 true) (with_snapshot None (blank_at 0 ∷ []))).stored.purged ≡ Some (log_id_of 1 1 1) }
 {}
