@@ -1,6 +1,6 @@
 //! Laws of the group step, and of histories that replay.
 
-ghost use Rattle.std.specs.Prelude.{◌≡◌, ℕ};
+ghost use Rattle.std.specs.Prelude.{ℕ};
 ghost use Rattle.raft_engine.specs.GroupState.{GroupState};
 ghost use Rattle.raft_engine.specs.GroupEvent.{GroupEvent};
 ghost use Rattle.raft_engine.specs.GroupStep.{group_step};

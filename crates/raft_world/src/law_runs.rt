@@ -1,6 +1,6 @@
 //! What the laws' words take in and what they leave out, on worked runs and small values: each a contract of a function
 //! without a body.
-ghost use Rattle.std.specs.Prelude.{◌≡◌, true, false, [], ◌∷◌, ◌++◌, Some, None, ℕ, Contains};
+ghost use Rattle.std.specs.Prelude.{◌≡◌, true, false, [], ◌∷◌, ◌++◌, Some, None};
 ghost use Rattle.raft_state.specs.LogId.{log_id_of};
 ghost use Rattle.raft_state.specs.Vote.{vote_of};
 ghost use Rattle.raft_engine.specs.GroupState.{state_of};
@@ -10,7 +10,7 @@ ghost use Rattle.raft_world.specs.GroupWorld.{GroupWorld, Absent, Up, Down, Skip
 ghost use Rattle.raft_world.specs.Example.{Halted, Leads, PassedOver, add, applied_at, held_ids_at, log_ids_at, ok, outcomes_after, part_at, three, to_their_end};
 ghost use Rattle.raft_world.specs.ThreeNodes.{set_up, until_accepted, until_proposed, until_told};
 ghost use Rattle.raft_world.specs.OriginRun.{command_at};
-ghost use Rattle.raft_world.specs.Settled.{Accepted, IsGroupList, IsSettled, group_list};
+ghost use Rattle.raft_world.specs.Settled.{Accepted, IsGroupList, IsSettled};
 ghost use Rattle.raft_world.specs.BallotLists.{AgreeBelow};
 ghost use Rattle.raft_world.specs.CommitsOwn.{CommittedOwn};
 ghost use Rattle.raft_world.specs.GroupRun.{Replays};
