@@ -1,12 +1,12 @@
 -- A leader commits entries of its own leader id alone, over every history.
 use Rattle.std.specs.Prelude.{◌≡◌, ◌⊎◌, ℕ, ◌+◌, ◌<◌, ◌≤◌, ◌^◌, ◌==◌, ◌&&◌, cond, Bool, true, false, List, [], ◌∷◌, ◌++◌, length, slice_get, Option, Some, None, is_some, option_map, refl}
-use Rattle.std.proofs.Common.{inl, inr, sym, ap, ◌∙◌, subst, arith, ⊎_elim, eqb-true, ltb-true}
+use Rattle.std.proofs.Common.{inl, inr, sym, ap, ◌∙◌, subst, arith, take_all, ⊎_elim, eqb-true, ltb-true}
 use Rattle.std.proofs.lemmas.Bool.{and_parts}
 use Rattle.raft_state.specs.declared.vote.Vote.{Vote}
 use Rattle.raft_state.specs.declared.log_id.LogId.{LogId}
 use Rattle.raft_state.specs.LogId.{place_of}
 use Rattle.raft_engine.specs.Values.{Membership, Entry, vote_lt}
-use Rattle.raft_engine.specs.StoredGroup.{StoredGroup, StoringCommand, MakeGroup, SetVote, PutEntries, CutFrom, RemoveUpTo, SetSnapshot, StartAfter, Snapshot, after_storing, after_storing_all, entry_at, first_place, has_id_in_log, held, membership_in_force, prefix_of, snapshot_last}
+use Rattle.raft_engine.specs.StoredGroup.{StoredGroup, StoringCommand, CutFrom, Snapshot, after_storing_all, entry_at, first_place, has_id_in_log, held, membership_in_force, prefix_of, snapshot_last}
 use Rattle.raft_engine.specs.Message.{MessageBody, VoteRequest, VoteReply, AppendRequest, AppendReply, SnapshotRequest, SnapshotReply, AppendFields}
 use Rattle.raft_engine.specs.GroupState.{GroupState, Role, Follower, Candidate, Leader, is_leader, state_of}
 use Rattle.raft_engine.specs.GroupEvent.{GroupEvent, AddGroup, Call, Receive, Open}
@@ -43,6 +43,7 @@ use Rattle.raft_world.proofs.StepLimits.{StateClaims, StepClaims, begun_claims, 
 use Rattle.raft_world.proofs.WorldSteps.{MayCome, MayHappen}
 use Rattle.raft_world.proofs.WorldFits.{NodeStateFits, WorldFits}
 use Rattle.raft_world.proofs.WorldRuns.{Matches, MayTakePlace, SetUpWith, may_take_place, setup_stays}
+use Rattle.raft_world.proofs.WorldCommits.{snapshot_after}
 use Rattle.raft_world.proofs.WorldStart.{Founded, founded, history_matches}
 use Rattle.raft_world.proofs.HeldLists.{at_node, machine}
 use Rattle.raft_world.proofs.Histories.{histories-join}
@@ -127,6 +128,18 @@ module _ (limit : ℕ) where
         offered_quiet own peer v id x (vote_lt v r.state.stored.vote) r h (follows own w v r role led.1)
     body_quiet (SnapshotReply reply) sound = inl (reply_claims limit Unasked peer reply r (λ a id e. tt) h)
 
+-- ---- words of places and states
+
+grown_above : (a b : Option ℕ) → has_grown a b ≡ true → place_above a < place_above b
+grown_above None None t = absurd (let e : false ≡ true = t in cc)
+grown_above (Some a) None t = absurd (let e : false ≡ true = t in cc)
+grown_above None (Some b) t = omega arith
+grown_above (Some a) (Some b) t = let l = ltb-true a b t in omega arith
+
+after_up : (stop : Option ℕ) (old s : GroupState) (r : StepResult) → after_step stop old r ≡ Up s → r.state ≡ s
+after_up None old s r e = let f : Up r.state ≡ Up s = e in cc
+after_up (Some k) old s r e = absurd (let f : Down (stopped_after k old.stored r) ≡ Up s = e in cc)
+
 -- ---- each step
 
 -- an entry of a leader's own is committed, above its snapshot
@@ -139,17 +152,9 @@ abbrev Grows : Membership → ℕ → ℕ → StepResult → Type 0
 Grows m own limit r = is_leader r.state.role ≡ true → limit < place_above r.state.committed → Grown m own r.state
 
 snapshot_within : (limit : ℕ) (cs : List StoringCommand) (st : StoredGroup) → length (prefix_of st.snapshot) ≤ limit → ((c : StoringCommand) → Among c cs → CommandWithin limit c) → length (prefix_of (after_storing_all cs st).snapshot) ≤ limit
-snapshot_within limit [] st l h = l
-snapshot_within limit (c ∷ cs) st l h = snapshot_within limit cs (after_storing c st) (one c (h c (inl refl))) (λ d a. h d (inr a))
-  where
-    one : (d : StoringCommand) → CommandWithin limit d → length (prefix_of (after_storing d st).snapshot) ≤ limit
-    one MakeGroup w = l
-    one (SetVote vote) w = l
-    one (PutEntries place entries) w = l
-    one (CutFrom place) w = l
-    one (RemoveUpTo id) w = l
-    one (SetSnapshot x) w = w
-    one (StartAfter id) w = l
+snapshot_within limit cs st l h =
+    subst (λ ds. length (prefix_of (after_storing_all ds st).snapshot) ≤ limit) (take_all (length cs) cs (omega arith))
+    (snapshot_after limit (length cs) cs st l h)
 
 claims_grow : (limit : ℕ) (m : Membership) (own : ℕ) (committed : Option ℕ) (base : StoredGroup) (r : StepResult) → length (prefix_of base.snapshot) ≤ limit → StoresInOrder committed base r → StepClaims limit Unasked m own r → Grows m own limit r
 claims_grow limit m own committed base r low keeps h leads above =
@@ -253,16 +258,6 @@ module _ (m : Membership) (some : 0 < length m.configs) (own : ℕ) (before : Li
 
   -- ---- each event at a node
 
-  grown_above : (a b : Option ℕ) → has_grown a b ≡ true → place_above a < place_above b
-  grown_above None None t = absurd (let e : false ≡ true = t in cc)
-  grown_above (Some a) None t = absurd (let e : false ≡ true = t in cc)
-  grown_above None (Some b) t = omega arith
-  grown_above (Some a) (Some b) t = let l = ltb-true a b t in omega arith
-
-  after_up : (stop : Option ℕ) (old s : GroupState) (r : StepResult) → after_step stop old r ≡ Up s → r.state ≡ s
-  after_up None old s r e = let f : Up r.state ≡ Up s = e in cc
-  after_up (Some k) old s r e = absurd (let f : Down (stopped_after k old.stored r) ≡ Up s = e in cc)
-
   module _ (s : GroupState) (leads : is_leader s.role ≡ true) where
     from_step : (limit : ℕ) (r : StepResult) → r.state ≡ s → Grows m own limit r → limit < place_above s.committed → Grown m own s
     from_step limit r is h above =
@@ -295,7 +290,7 @@ module _ (m : Membership) (some : 0 < length m.configs) (before : List BallotEve
   stays : w.nodes n ≡ Up s → Grown m n s
   stays is =
       let e = ap (λ x. place_above (known_committed x)) is in
-      let l = grown_above m some n before (known_committed (w.nodes n)) s.committed grown in
+      let l = grown_above (known_committed (w.nodes n)) s.committed grown in
       absurd (omega arith)
 
   scene_grows : (e : WorldEvent) (o : Outcome) (stop : Option ℕ) (scene : Scene) → MayTakePlace m some w before fits scene → (after_scene w e o stop scene).nodes n ≡ Up s → Grown m n s
