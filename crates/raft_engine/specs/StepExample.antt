@@ -14,7 +14,9 @@ use Rattle.raft_engine.specs.GroupState.{GroupState, Leader, no_group, state_of}
 use Rattle.raft_engine.specs.declared.group_call.GroupCall.TheVariants.{Heartbeat}
 use Rattle.raft_engine.specs.GroupEvent.{Call, Receive}
 use Rattle.raft_engine.specs.StepResult.{RefusalReason, append, unchanged}
+use Rattle.raft_engine.specs.Lead.{commit_as_leader}
 use Rattle.raft_engine.specs.Frames.{request_start}
+use Rattle.raft_engine.specs.Opening.{opening_step}
 use Rattle.raft_engine.specs.GroupStep.{group_step}
 
 -- a node that has the group, and nothing in it
@@ -150,3 +152,60 @@ abbrev pub sent_at_heartbeat : ℕ → List ℕ
 sent_at_heartbeat n =
     map (λ (m : Message). entries_in m.body)
     (group_step 1 (leader_with n) (Call Heartbeat 0)).messages
+
+-- a blank of the first leader, at a place
+abbrev pub blank_at : ℕ → Entry
+blank_at place = entry_of (log_id_of 1 1 place) Blank
+
+-- a blank of another leader, at a place
+abbrev pub other_blank_at : ℕ → Entry
+other_blank_at place = entry_of (log_id_of 2 2 place) Blank
+
+-- a group with this log
+abbrev pub with_log : List Entry → StoredGroup
+with_log log = record no_group { present = true; log = log }
+
+-- a group whose snapshot has the first two blanks, and whose log has this behind the purge point
+abbrev pub with_snapshot : Option (LogId ℕ) → List Entry → StoredGroup
+with_snapshot purged log =
+    record (with_log log) {
+      snapshot =
+          Some
+          (record {
+            last = log_id_of 1 1 1;
+            membership = None;
+            «prefix» = blank_at 0 ∷ blank_at 1 ∷ [];
+          });
+      purged = purged;
+    }
+
+-- node 2 leads nodes 1, 2 and 3 under the vote (2, 2, true). Its log has the membership and another leader's blank, then
+-- blanks of its own from place 2 on; node 1 has accepted up to this log id
+abbrev pub leads_three : Option (LogId ℕ) → GroupState
+leads_three matched =
+    let members : Entry =
+    entry_of (log_id_of 0 0 0)
+    (Members
+    (record {
+      configs = (1 ∷ 2 ∷ 3 ∷ []) ∷ [];
+      nodes = (1, []) ∷ (2, []) ∷ (3, []) ∷ [];
+    }))
+    in let log : List Entry =
+    members ∷ blank_at 1 ∷ other_blank_at 2 ∷ other_blank_at 3 ∷ []
+    in record (state_of (record (with_log log) { vote = vote_of 2 2 true })) {
+      role =
+          Leader
+          (record {
+            began = 2;
+            peers = record (new_peer 2 1) { matched = matched } ∷ [];
+          });
+    }
+
+-- up to where that leader commits
+abbrev pub committed_by : Option (LogId ℕ) → Option ℕ
+committed_by matched =
+    let s = leads_three matched in (commit_as_leader 2 s.role (unchanged s)).state.committed
+
+-- node 2 as it is after an opening, with this vote
+abbrev pub opened : Vote ℕ → StoredGroup → GroupState
+opened vote s = (opening_step 2 (record s { vote = vote })).state

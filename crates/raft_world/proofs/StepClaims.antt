@@ -77,7 +77,7 @@ module _ (limit : ℕ) (Replied : Vote ℕ → ℕ → LogId ℕ → Type 0) whe
   more_messages : (xs : List Message) (x : Message) → ClaimWithin limit x.body → ((y : Message) → Among y xs → ClaimWithin limit y.body) → (y : Message) → Among y (xs ++ x ∷ []) → ClaimWithin limit y.body
   more_messages xs x l h y a = ⊎_elim (λ b. h y b) (λ e. subst (λ z. ClaimWithin limit z.body) (sym e) l) (among_last y x xs a)
 
-  sent_claims : (own peer : ℕ) (b : MessageBody) (r : StepResult) → ClaimWithin limit b → Claims r → Claims (send own peer b r)
+  pub sent_claims : (own peer : ℕ) (b : MessageBody) (r : StepResult) → ClaimWithin limit b → Claims r → Claims (send own peer b r)
   sent_claims own peer b r l h =
       (h.0, h.1, more_messages r.messages (record { sender = own; addressee = peer; body = b }) l h.2, h.3, h.4)
 

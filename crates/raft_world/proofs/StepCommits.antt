@@ -132,7 +132,7 @@ removed_place : (o : Option (LogId ℕ)) (r : StepResult) → (remove_up_to o r)
 removed_place None r = refl
 removed_place (Some id) r = refl
 
-removed_role : (o : Option (LogId ℕ)) (r : StepResult) → (remove_up_to o r).state.role ≡ r.state.role
+pub removed_role : (o : Option (LogId ℕ)) (r : StepResult) → (remove_up_to o r).state.role ≡ r.state.role
 removed_role None r = refl
 removed_role (Some id) r = refl
 

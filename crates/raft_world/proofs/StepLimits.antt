@@ -55,7 +55,7 @@ EventClaims limit Replied (Receive peer x now) = ClaimWithin limit x.body × Bod
 EventClaims limit Replied Open = Unit {0}
 
 module _ (limit : ℕ) (Replied : Vote ℕ → ℕ → LogId ℕ → Type 0) where
-  begun_claims : (s s' : GroupState) → s'.stored ≡ s.stored → s'.committed ≡ s.committed → s'.role ≡ s.role → StateClaims limit Replied s → Claims limit Replied (unchanged s')
+  pub begun_claims : (s s' : GroupState) → s'.stored ≡ s.stored → s'.committed ≡ s.committed → s'.role ≡ s.role → StateClaims limit Replied s → Claims limit Replied (unchanged s')
   begun_claims s s' a b c h = (
     subst (λ o. place_above o ≤ limit) (sym b) h.committed,
     subst (λ (st : StoredGroup). length (prefix_of st.snapshot) ≤ limit) (sym a) h.snapshot,
@@ -107,7 +107,7 @@ module _ (limit : ℕ) (Replied : Vote ℕ → ℕ → LogId ℕ → Type 0) whe
       resumed_claims limit Replied own (apply_up_to (place_of last) dropped)
       (applied_claims limit Replied (place_of last) dropped (snapshot_within st.snapshot fits l) (stale_claims limit Replied last begin first))
 
-  event_claims : {m : Membership} (w : BallotWorld) (own : ℕ) (s : GroupState) (e : GroupEvent) → UpFits m (w.node own) s → EventFits m w e → EventClaims limit Replied e → StateClaims limit Replied s → Claims limit Replied (event_step own s e)
+  pub event_claims : {m : Membership} (w : BallotWorld) (own : ℕ) (s : GroupState) (e : GroupEvent) → UpFits m (w.node own) s → EventFits m w e → EventClaims limit Replied e → StateClaims limit Replied s → Claims limit Replied (event_step own s e)
   event_claims w own s AddGroup u fits k h =
       let b = begun_claims s s refl refl refl h in
       stored_claims limit Replied MakeGroup (unchanged s) tt b.1 b.4 b
@@ -129,7 +129,7 @@ module _ (limit : ℕ) (Replied : Vote ℕ → ℕ → LogId ℕ → Type 0) whe
   commit_stored own (Candidate granters) r = refl
   commit_stored own (Leader lead) r = refl
 
-  commit_role : (own : ℕ) (role : Role) (r : StepResult) → (commit_as_leader own role r).state.role ≡ r.state.role
+  pub commit_role : (own : ℕ) (role : Role) (r : StepResult) → (commit_as_leader own role r).state.role ≡ r.state.role
   commit_role own Follower r = refl
   commit_role own (Candidate granters) r = refl
   commit_role own (Leader lead) r = refl
@@ -145,7 +145,7 @@ module _ (limit : ℕ) (Replied : Vote ℕ → ℕ → LogId ℕ → Type 0) whe
     pub stops : (c : StoringCommand) → Among c r.commands → CommandWithin limit c
     pub moves : (place_above r.state.committed ≤ limit) ⊎ Commits m Replied own r.state
 
-  finished_claims : {m : Membership} {some : 0 < length m.configs} {own : ℕ} {before : List BallotEvent} {base : StoredGroup} {w : BallotWorld} (committed : Option ℕ) (r : StepResult) → Ends m some own before base w r → Wished r → Claims limit Replied r → StepClaims m own (finished own committed r)
+  pub finished_claims : {m : Membership} {some : 0 < length m.configs} {own : ℕ} {before : List BallotEvent} {base : StoredGroup} {w : BallotWorld} (committed : Option ℕ) (r : StepResult) → Ends m some own before base w r → Wished r → Claims limit Replied r → StepClaims m own (finished own committed r)
   finished_claims {m} {some} {own} {before} {base} {w} committed r e h claims =
       record {
         claims = subst (λ o. Claims (max limit (place_above o)) Replied end) (sym place) ended;
@@ -214,7 +214,7 @@ module _ (limit : ℕ) (Replied : Vote ℕ → ℕ → LogId ℕ → Type 0) whe
           (purged_claims limit' Replied r1 (commit_claims own r.state.role r limit' (omega arith) (omega arith) claims))
 
   module _ (m : Membership) (some : 0 < length m.configs) (own : ℕ) (before : List BallotEvent) where
-    refused_claims : (s : GroupState) (why : RefusalReason) → StateClaims limit Replied s → StepClaims m own (refused_step s why)
+    pub refused_claims : (s : GroupState) (why : RefusalReason) → StateClaims limit Replied s → StepClaims m own (refused_step s why)
     refused_claims s why h =
         let b = begun_claims s s refl refl refl h in
         record {

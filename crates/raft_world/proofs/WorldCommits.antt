@@ -59,7 +59,7 @@ pub record NodeAfter (m : Membership) (w : GroupWorld) (x : NodeState) (sent : L
   pub reached : (top ≡ length (group_list w)) ⊎ Settles m w top led
 
 -- the snapshot after some of the commands
-snapshot_after : (limit : ℕ) (k : ℕ) (cs : List StoringCommand) (st : StoredGroup) → length (prefix_of st.snapshot) ≤ limit → ((c : StoringCommand) → Among c cs → CommandWithin limit c) → length (prefix_of (after_storing_all (take k cs) st).snapshot) ≤ limit
+pub snapshot_after : (limit : ℕ) (k : ℕ) (cs : List StoringCommand) (st : StoredGroup) → length (prefix_of st.snapshot) ≤ limit → ((c : StoringCommand) → Among c cs → CommandWithin limit c) → length (prefix_of (after_storing_all (take k cs) st).snapshot) ≤ limit
 snapshot_after limit zero cs st l h = l
 snapshot_after limit (suc k) [] st l h = l
 snapshot_after limit (suc k) (c ∷ cs) st l h =

@@ -3,9 +3,13 @@
 //! A run is a list of events, each with the number of storing commands after which it stops, if it does. Each history
 //! that replays is that of a run.
 
-ghost use Rattle.raft_world.specs.Origins.{AskedIsRecorded, EntriesWereAskedFor, OnePlaceForAnEvent, ToldTokensStand};
+ghost use Rattle.raft_world.specs.Origins.{AskedIsRecorded, EntriesWereAskedFor, IsRecordedAt, OnePlaceForAnEvent, ToldTokensStand};
 ghost use Rattle.std.specs.Prelude.{◌≡◌, ℕ, Some};
 ghost use Rattle.raft_engine.specs.Values.{Entry};
+ghost use Rattle.raft_engine.specs.declared.group_call.GroupCall.TheVariants.{Propose};
+ghost use Rattle.raft_world.specs.GroupWorld.{new_world};
+ghost use Rattle.raft_world.specs.GroupRun.{history_of};
+ghost use Rattle.raft_world.specs.OneVoter.{one, stopped_proposal};
 ghost use Rattle.raft_world.specs.Example.{add};
 ghost use Rattle.raft_world.specs.OriginRun.{command_at, AskedInRun, listed_at};
 
@@ -26,12 +30,13 @@ pub fn told_tokens_stand()
 {}
 
 /// A proposal that stops once its entry is stored is on the list, and its event is the entry's origin. Where it stops
-/// before that, it is no origin, and the next command has its place.
+/// before that, it is no origin, and the next command has its place. What is asked of a node that is down isn't taken.
 pub fn origin_of_a_stopped_proposal()
     ensures stored { AskedInRun 1 2 (add 5) 1 (command_at 2 (add 5)) }
     ensures listed { listed_at 1 2 ≡ Some (command_at 2 (add 5)) }
     ensures next { AskedInRun 1 5 (add 7) 3 (command_at 3 (add 7)) }
     ensures not_stored { (e : Entry) → AskedInRun 0 2 (add 5) 1 e → ⊥ }
     ensures instead { AskedInRun 0 5 (add 7) 3 (command_at 2 (add 7)) }
+    ensures skipped { IsRecordedAt (history_of (stopped_proposal 1) (new_world one)) 3 (Propose (add 7) 2) → ⊥ }
     ensures listed_instead { listed_at 0 2 ≡ Some (command_at 2 (add 7)) }
 {}

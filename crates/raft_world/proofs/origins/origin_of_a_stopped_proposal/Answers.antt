@@ -1,6 +1,8 @@
-use Rattle.std.specs.Prelude.{◌≡◌, ℕ, ◌<◌, Option, Some, None, refl}
-use Rattle.std.proofs.Common.{arith, sym, ap}
+use Rattle.std.specs.Prelude.{◌≡◌, ℕ, ◌<◌, true, false, Option, Some, None, refl}
+use Rattle.std.proofs.Common.{arith, sym, ap, ◌∙◌}
 use Rattle.raft_world.specs.declared.world_event.WorldEvent.{WorldEvent}
+use Rattle.raft_world.specs.GroupWorld.{Recorded, Skipped}
+use Rattle.raft_world.specs.Origins.{is_taken}
 use Rattle.raft_world.proofs.BallotAgreement.{same_some}
 use Rattle.raft_world.proofs.origins.origin_of_a_stopped_proposal.Goals as goal
 
@@ -60,3 +62,8 @@ returns-clause-not_stored c = λ e a.
     let stop = ap (λ (x : WorldEvent × Option ℕ). x.1) (same_some a.event) in
     let none = a.stored 0 (sym stop) in
     omega (arith, none)
+
+pub returns-clause-skipped : goal.returns-clause-skipped
+returns-clause-skipped c = λ h.
+    let outcome : Skipped ≡ h.outcome = ap (λ (r : Recorded). r.outcome) (same_some h.recorded) in
+    let f : false ≡ true = ap is_taken outcome ∙ h.taken in cc
