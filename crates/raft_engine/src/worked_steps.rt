@@ -1,16 +1,9 @@
 //! Worked steps, each a contract of a function without a body: the definitions give these rows.
 ghost use Rattle.std.specs.Prelude.{◌≡◌, ◌^◌, true, false, [], ◌∷◌, Some, None};
-<<<<<<< HEAD
-ghost use Rattle.raft_values.specs.Vote.{vote_of};
-ghost use Rattle.raft_values.specs.LogId.{log_id_of};
-ghost use Rattle.raft_engine.specs.StoredGroup.{SetVote};
-ghost use Rattle.raft_engine.specs.GroupState.{no_group, state_of};
-=======
 ghost use Rattle.raft_values.specs.Vote.{vote_of};
 ghost use Rattle.raft_values.specs.LogId.{log_id_of};
 ghost use Rattle.raft_engine.specs.StoredGroup.{Holds, SetVote, entry_at, held};
 ghost use Rattle.raft_engine.specs.GroupState.{is_leader, no_group, state_of};
->>>>>>> law
 ghost use Rattle.raft_engine.specs.StepResult.{BreaksCondition, NumberAtEnd, UnknownGroup, WrongParty};
 ghost use Rattle.raft_engine.specs.StepExample.{answer_to, empty_group, first_request_start, higher_vote, is_granted_at};
 ghost use Rattle.raft_engine.specs.StepExample.{blank_at, committed_by, opened, other_blank_at, with_log, with_snapshot};
