@@ -69,11 +69,7 @@ pub fn append(alloc: Global) -> Result<Frame, AllocError> {
         leader_commit: Some(id(1, 1, 1)),
     };
     let id = AppendId::Numbered { id: 2 };
-    Ok(framed(
-        1,
-        2,
-        FrameBody::Append(AppendFrame { id, request }),
-    ))
+    Ok(framed(1, 2, FrameBody::Append(AppendFrame { id, request })))
 }
 
 /// A notice with these log ids.
@@ -116,11 +112,7 @@ pub fn three_entries(alloc: Global) -> Result<Frame, AllocError> {
         leader_commit: None,
     };
     let id = AppendId::Numbered { id: 1 };
-    Ok(framed(
-        1,
-        3,
-        FrameBody::Append(AppendFrame { id, request }),
-    ))
+    Ok(framed(1, 3, FrameBody::Append(AppendFrame { id, request })))
 }
 
 pub fn append_reply() -> Frame {
@@ -171,11 +163,7 @@ pub fn snapshot(alloc: Global) -> Result<Frame, AllocError> {
         },
         bytes: Bytes::from_slice(alloc, &[0, 0, 0, 0, 0, 0, 0, 5])?,
     };
-    Ok(framed(
-        2,
-        3,
-        FrameBody::Snapshot(SnapshotFrame { id: 4, request }),
-    ))
+    Ok(framed(2, 3, FrameBody::Snapshot(SnapshotFrame { id: 4, request })))
 }
 
 /// Node 3 answers the snapshot so.
