@@ -11,16 +11,17 @@ use std::test::Fail;
 fn verdict_of(alloc: Global, stream: &[u8]) -> Result<Verdict, Fail> {
     let mut feeder = Feeder::new(alloc);
     let fed = feeder.feed(stream);
+    let used = fed.used;
     match fed.frame {
         Ok(None) => Ok(Verdict::More),
         Err(FrameError::Fault(fault)) => Ok(Verdict::Fault(fault)),
         Err(_) => Err("no memory, or failed before".into()),
         Ok(Some(frame)) => {
             let again = write_frame(alloc, &frame).ok().ok_or("not written")?;
-            if stream.get(..fed.used) != Some(again.as_slice()) {
+            if stream.get(..used) != Some(again.as_slice()) {
                 return Err("read, and written in another way".into());
             }
-            Ok(Verdict::Frame(fed.used))
+            Ok(Verdict::Frame(used))
         }
     }
 }
