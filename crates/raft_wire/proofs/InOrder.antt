@@ -11,7 +11,7 @@ use Rattle.std.proofs.lemmas.List.Elements.{All-head, All-tail, All-from_all_wit
 use Rattle.raft_state.specs.Rising.{IsBelowAll, IsRising, IsRisingByFirst}
 use Rattle.raft_wire.specs.Values.{Entry}
 use Rattle.raft_wire.specs.Memberships.{Chained, FitsId as FitsIdAbove, that_id, FitsIds, nothing_left, FitsAddress, FitsNode, that_node}
-use Rattle.raft_wire.specs.Entries.{FitsEntry, follows, that_place}
+use Rattle.raft_wire.specs.Entries.{FitsEntry, that_place}
 use Rattle.raft_wire.specs.Bodies.{FitsBehind, FitsId, FitsAppend}
 use Rattle.raft_wire.specs.Fields.{FitsVote, FitsLast}
 use Rattle.raft_wire.specs.Writing.{is_payload_short}

@@ -1,5 +1,5 @@
 -- What a call that writes answers.
-use Rattle.std.specs.Prelude.{◌≡◌, ℕ, nat_le, Bool, true, ◌&&◌, List, length, Option, Some, None, Result, Ok, Err}
+use Rattle.std.specs.Prelude.{◌≡◌, ℕ, nat_le, Bool, true, List, length, Option, Some, None, Result, Ok, Err}
 use Rattle.std.specs.Prelude.{Vec, if◌then◌else◌}
 use Rattle.std.specs.declared.alloc.Global.{Global}
 use Rattle.std.specs.Ordering.{nat_cmp}

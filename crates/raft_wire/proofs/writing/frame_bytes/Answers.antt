@@ -1,4 +1,4 @@
-use Rattle.std.proofs.Common.{◌≡◌, ◌≤◌, ◌<◌, ◌++◌, [], ◌∷◌, length, ap, subst, sym, arith, ◌∙◌}
+use Rattle.std.proofs.Common.{◌≤◌, length, arith}
 use Rattle.raft_wire.specs.Frames.{spelled_rest}
 use Rattle.raft_wire.proofs.Lengths.{rest_short, joined_short}
 use Rattle.raft_wire.proofs.writing.frame_bytes.Goals as goal

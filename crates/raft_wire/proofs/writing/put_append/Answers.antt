@@ -1,4 +1,4 @@
-use Rattle.std.proofs.Common.{◌≡◌, subst, List}
+use Rattle.std.proofs.Common.{subst, List}
 use Rattle.std.specs.List.{All}
 use Rattle.raft_wire.specs.Values.{Entry}
 use Rattle.raft_wire.specs.Entries.{FitsEntry}

@@ -1,4 +1,4 @@
-use Rattle.std.proofs.Common.{◌≡◌, ◌++◌, ◌∷◌, [], ap, ◌∙◌, List, ℕ}
+use Rattle.std.proofs.Common.{◌≡◌, ◌++◌, ◌∷◌, [], ap, ◌∙◌, ℕ}
 use Rattle.raft_wire.specs.Frames.{byte_of_kind, kind_of, spelled_parties, spelled_body}
 use Rattle.raft_wire.proofs.Joins.{three_parts}
 use Rattle.raft_wire.proofs.writing.put_rest.Goals as goal
