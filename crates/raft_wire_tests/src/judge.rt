@@ -213,6 +213,14 @@ fn frame(bytes: &[u8]) -> Result<(), FrameFault> {
     Ok(())
 }
 
+/// What is wrong with the entry that is to take all of the bytes.
+pub fn fault_of_entry(bytes: &[u8]) -> Option<FrameFault> {
+    match entry(bytes, None) {
+        Err(fault) => Some(fault),
+        Ok((_, rest)) => (!rest.is_empty()).then_some(FrameFault::TrailingBytes),
+    }
+}
+
 /// What stands at the front of a stream.
 pub fn judge(stream: &[u8]) -> Verdict {
     let Ok((len, rest)) = number(stream, 4) else {

@@ -6,6 +6,8 @@ mod bytes;
 #[cfg(test)]
 mod changed;
 #[cfg(test)]
+mod changed_entries;
+#[cfg(test)]
 mod cutting;
 #[cfg(test)]
 mod entries;
