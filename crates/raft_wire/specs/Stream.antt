@@ -44,6 +44,10 @@ judged bytes (Some n) = judged_length bytes n (fault_of_length n)
 unfoldable pub front : List ℕ → Option Judged
 front bytes = judged bytes (length_in bytes)
 
+-- the bytes are found at the front of a stream as this frame, whatever follows
+abbrev pub AreFoundAs : List ℕ → Frame → Type 0
+AreFoundAs bytes frame = (more : List ℕ) → front (bytes ++ more) ≡ Some (Ok frame, length bytes)
+
 -- ---- feeders
 
 -- the bytes of a frame that isn't whole yet, and whether the stream has failed

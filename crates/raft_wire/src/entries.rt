@@ -162,8 +162,9 @@ fn entry_bytes(alloc: Global, entry: &WireEntry) -> Result<Vec<u8>, AllocError>
 /// and then want of memory (`Memory`).
 pub fn write_entry(alloc: Global, entry: &WireEntry) -> Result<Vec<u8>, FrameError>
     ensures written { Writes (fault_of_entry entry.now) (spelled_entry entry.now) result }
-    // So what was written is read again as this entry.
     ensures fits { OnOk result (AreNodesRising entry.now.payload → FitsEntry entry.now) }
+    // What was written is read again as this entry.
+    ensures found { IfOk result (λ v. AreNodesRising entry.now.payload → all_of entry_at v.items ≡ Ok entry.now) }
 {
     if !is_payload_short(&entry.payload) {
         return Err(FrameError::Fault(FrameFault::TooLong));

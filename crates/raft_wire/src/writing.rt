@@ -17,6 +17,7 @@ ghost use Rattle.raft_wire.specs.Frames.{byte_of_kind, spelled_parties, spelled_
 ghost use Rattle.raft_wire.specs.Frames.{are_consecutive, are_entries_short, is_logged_short, is_snapshot_short};
 ghost use Rattle.raft_wire.specs.Frames.{fault_of_entries, fault_of_snapshot, fault_of_frame};
 ghost use Rattle.raft_wire.specs.Frames.{FitsBody, FitsFrame, AreBodyNodesRising};
+ghost use Rattle.raft_wire.specs.Stream.{AreFoundAs};
 
 use crate::entries::{WireEntry, follows, is_payload_short, put_entry};
 use crate::error::{FrameError, FrameFault};
@@ -370,8 +371,9 @@ fn frame_bytes(alloc: Global, frame: &Frame) -> Result<Vec<u8>, AllocError>
 /// and then want of memory (`Memory`).
 pub fn write_frame(alloc: Global, frame: &Frame) -> Result<Vec<u8>, FrameError>
     ensures written { Writes (fault_of_frame frame.now.body) (spelled_frame frame.now) result }
-    // So what was written is found at the front of a stream as this frame.
     ensures fits { OnOk result (AreBodyNodesRising frame.now.body → FitsFrame frame.now) }
+    // What was written is read again as this frame, whatever follows it in a stream.
+    ensures found { IfOk result (λ v. AreBodyNodesRising frame.now.body → AreFoundAs v.items frame.now) }
 {
     if let Some(fault) = fault_of(&frame.body) {
         return Err(FrameError::Fault(fault));
