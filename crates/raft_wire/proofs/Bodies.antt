@@ -1,10 +1,8 @@
 -- The readers of what frames say fit their spellings.
-use Rattle.std.proofs.Common.{◌≡◌, ℕ, zero, suc, ◌+◌, ◌^◌, ◌<◌, ◌≤◌, Bool, true, false, cond, eqb, List, [], ◌∷◌, ◌++◌, length, Option, Some, None, Result, Ok, Err, refl, sym, ap, subst, ◌∙◌, append_assoc, arith}
+use Rattle.std.proofs.Common.{◌≡◌, ℕ, zero, suc, ◌^◌, ◌<◌, ◌≤◌, Bool, true, false, cond, eqb, List, [], ◌∷◌, ◌++◌, length, Option, Some, None, Result, Ok, Err, refl, sym, ap, subst, ◌∙◌, append_assoc, arith}
 use Rattle.std.specs.Prelude.{IfSome}
-use Rattle.std.specs.Int.{w32, w64, to_be_bytes}
+use Rattle.std.specs.Int.{w64, to_be_bytes}
 use Rattle.std.proofs.lemmas.Bool.{eqb-true, eq-eqb}
-use Rattle.raft_values.specs.declared.vote.Vote.{Vote}
-use Rattle.raft_values.specs.declared.log_id.LogId.{LogId}
 use Rattle.raft_engine.specs.declared.vote_message.VoteRequest.{VoteRequest}
 use Rattle.raft_engine.specs.declared.vote_message.VoteResponse.{VoteResponse}
 use Rattle.raft_wire.specs.declared.error.FrameFault.{FrameFault}
@@ -19,8 +17,7 @@ use Rattle.raft_wire.specs.declared.frame.AppendFrame.{AppendFrame}
 use Rattle.raft_wire.specs.declared.frame.AppendReplyFrame.{AppendReplyFrame}
 use Rattle.raft_wire.specs.declared.frame.SnapshotFrame.{SnapshotFrame}
 use Rattle.raft_wire.specs.declared.frame.SnapshotReplyFrame.{SnapshotReplyFrame}
-use Rattle.raft_wire.specs.Values.{Membership, Entry}
-use Rattle.raft_wire.specs.Reader.{Reader, ◌>>=◌, both, made, number_at, counted_at, text_at}
+use Rattle.raft_wire.specs.Reader.{Reader, both, made, number_at, text_at}
 use Rattle.raft_wire.specs.Fields.{spelled_flag, flag_at, spelled_vote, FitsVote, vote_at, spelled_option, option_at, spelled_log_id, FitsLogId, log_id_at, spelled_last, FitsLast, last_at}
 use Rattle.raft_wire.specs.Memberships.{Chained, spelled_list, spelled_membership, FitsMembership, membership_at}
 use Rattle.raft_wire.specs.Entries.{spelled_text, spelled_entry, entry_behind, that_place}
@@ -29,7 +26,7 @@ use Rattle.raft_wire.specs.Bodies.{number_of_id, id_of_number, spelled_id, FitsI
 use Rattle.raft_wire.specs.Bodies.{spelled_result, FitsResult, higher_vote, result_at, spelled_append_reply, FitsAppendReply, append_reply_of, append_reply_at}
 use Rattle.raft_wire.specs.Bodies.{LoggedMembership, Snapshot, spelled_logged, FitsLogged, logged_of, logged_at, spelled_snapshot, FitsSnapshot, snapshot_of, snapshot_at, snapshot_in, spelled_snapshot_frame, FitsSnapshotFrame, snapshot_frame_of, snapshot_frame_at}
 use Rattle.raft_wire.specs.Bodies.{spelled_snapshot_result, FitsSnapshotResult, higher_snapshot_vote, snapshot_result_at, spelled_behind_none, spelled_snapshot_reply, FitsSnapshotReply, snapshot_reply_of, behind_none_at, snapshot_reply_at}
-use Rattle.raft_wire.proofs.Numbers.{IsBytes, IsBytes-rest, bind_ok, passed_ok, ok_is, Takes, Takes-then, Takes-behind}
+use Rattle.raft_wire.proofs.Numbers.{IsBytes, IsBytes-rest, bind_ok, ok_is, Takes, Takes-behind}
 use Rattle.raft_wire.proofs.Fitting.{Reads, fits_as, both_reads, made_reads, u64_reads, flag_reads, Anything, option_reads, text_reads}
 use Rattle.raft_wire.proofs.Lists.{counted_reads}
 use Rattle.raft_wire.proofs.Values.{vote_reads, log_id_reads, last_reads, membership_reads, entry_reads}

@@ -1,19 +1,15 @@
 -- The reader of frames fits their spelling, and no spelling begins another.
-use Rattle.std.proofs.Common.{◌≡◌, ℕ, zero, suc, ◌+◌, ◌^◌, ◌<◌, ◌≤◌, Bool, true, false, cond, eqb, List, [], ◌∷◌, ◌++◌, length, take, drop, Option, Some, None, Result, Ok, Err, refl, sym, ap, subst, ◌∙◌, append_assoc, arith}
-use Rattle.std.specs.Int.{w32, w64, to_be_bytes}
-use Rattle.raft_engine.specs.declared.vote_message.VoteRequest.{VoteRequest}
-use Rattle.raft_engine.specs.declared.vote_message.VoteResponse.{VoteResponse}
-use Rattle.raft_wire.specs.declared.error.FrameFault.{FrameFault}
-use Rattle.raft_wire.specs.declared.error.FrameFault.TheVariants as fault
+use Rattle.std.proofs.Common.{◌≡◌, ℕ, zero, suc, ◌^◌, List, [], ◌∷◌, ◌++◌, Ok, refl, sym, ap, subst, ◌∙◌}
+use Rattle.std.specs.Int.{w64, to_be_bytes}
 use Rattle.raft_wire.specs.declared.frame.FrameKind.{FrameKind}
 use Rattle.raft_wire.specs.declared.frame.FrameKind.TheVariants as kind
 use Rattle.raft_wire.specs.declared.frame.FrameBody.{FrameBody}
 use Rattle.raft_wire.specs.declared.frame.FrameBody.TheVariants as body
 use Rattle.raft_wire.specs.declared.frame.Frame.{Frame}
-use Rattle.raft_wire.specs.Reader.{Reader, ◌>>=◌, made, number_at, all_of}
+use Rattle.raft_wire.specs.Reader.{Reader, ◌>>=◌, made, number_at}
 use Rattle.raft_wire.specs.Bodies.{spelled_vote_request, FitsVoteRequest, vote_request_at, spelled_vote_reply, FitsVoteReply, vote_reply_at, spelled_append, FitsAppend, append_at, spelled_append_reply, FitsAppendReply, append_reply_at, spelled_snapshot_frame, FitsSnapshotFrame, snapshot_frame_at, spelled_snapshot_reply, FitsSnapshotReply, snapshot_reply_at}
-use Rattle.raft_wire.specs.Frames.{byte_of_kind, kind_at, kind_of, spelled_body, FitsBody, asks, answers_vote, appends, answers_append, sends_snapshot, answers_snapshot, body_at, spelled_parties, spelled_rest, rest_at, FitsFrame}
-use Rattle.raft_wire.proofs.Numbers.{IsBytes, IsBytes-rest, bind_ok, ok_is, Takes, Takes-then, Takes-behind, wide64, number_takes, number_again}
+use Rattle.raft_wire.specs.Frames.{byte_of_kind, kind_at, kind_of, spelled_body, FitsBody, asks, answers_vote, appends, answers_append, sends_snapshot, answers_snapshot, body_at, spelled_rest, rest_at, FitsFrame}
+use Rattle.raft_wire.proofs.Numbers.{IsBytes, IsBytes-rest, bind_ok, ok_is, Takes, Takes-then, wide64, number_takes, number_again}
 use Rattle.raft_wire.proofs.Fitting.{Reads}
 use Rattle.raft_wire.proofs.Bodies.{vote_request_reads, vote_reply_reads, append_reads, append_reply_reads, snapshot_frame_reads, snapshot_reply_reads}
 

@@ -1,10 +1,10 @@
 -- What stands at the front of a stream, and the spelling of frames.
-use Rattle.std.proofs.Common.{◌≡◌, ℕ, zero, suc, ◌+◌, ◌-◌, ◌^◌, ◌<◌, ◌≤◌, Bool, true, false, not, ◌&&◌, cond, ltb, nat_le, List, [], ◌∷◌, ◌++◌, length, get_or, take, drop, Option, Some, None, Result, Ok, Err, refl, sym, ap, subst, ◌∙◌, append_assoc, arith, length-append}
+use Rattle.std.proofs.Common.{◌≡◌, ℕ, ◌+◌, ◌≤◌, Bool, true, false, not, ◌&&◌, cond, ltb, nat_le, List, [], ◌∷◌, ◌++◌, length, take, drop, Option, Some, None, Result, Ok, Err, refl, sym, ap, ◌∙◌, append_assoc, arith, length-append}
 use Rattle.std.specs.Prelude.{IfSome}
 use Rattle.std.specs.List.{list_all}
-use Rattle.std.specs.Int.{w32, w64, from_be_bytes, to_be_bytes}
-use Rattle.std.proofs.lemmas.Bool.{cases_lt, ltb-false, le-ltb, le-leb}
-use Rattle.std.proofs.lemmas.List.{take_at, drop_at, length-take-le, take_all}
+use Rattle.std.specs.Int.{w32, from_be_bytes, to_be_bytes}
+use Rattle.std.proofs.lemmas.Bool.{ltb-false, le-ltb, le-leb}
+use Rattle.std.proofs.lemmas.List.{take_at, drop_at, length-take-le}
 use Rattle.std.proofs.Math.Seq.{take-add}
 use Rattle.std.proofs.lemmas.List.{length-drop}
 use Rattle.raft_state.specs.declared.entry.EntryPayload.TheVariants.{Blank, Normal, Membership as Members}
@@ -17,10 +17,10 @@ use Rattle.raft_wire.specs.declared.frame.Frame.{Frame}
 use Rattle.raft_wire.specs.Values.{Membership, Entry, EntryPayload}
 use Rattle.raft_wire.specs.Reader.{all_of}
 use Rattle.raft_wire.specs.Memberships.{Chained, FitsIds, nothing_left, FitsNode, that_node, FitsMembership}
-use Rattle.raft_wire.specs.Entries.{FitsEntry, FitsPayload, follows, that_place}
+use Rattle.raft_wire.specs.Entries.{FitsPayload, that_place}
 use Rattle.raft_wire.specs.Writing.{is_payload_short}
-use Rattle.raft_wire.specs.Bodies.{FitsBehind, FitsAppend, LoggedMembership, FitsLogged, FitsSnapshotFrame}
-use Rattle.raft_wire.specs.Frames.{spelled_parties, spelled_body, spelled_rest, spelled_frame, rest_at, FitsBody, FitsFrame, are_consecutive, are_entries_short, is_logged_short, is_snapshot_short, fault_of_frame, fault_of_entries, fault_of_snapshot}
+use Rattle.raft_wire.specs.Bodies.{FitsBehind, LoggedMembership, FitsLogged}
+use Rattle.raft_wire.specs.Frames.{spelled_parties, spelled_body, spelled_rest, spelled_frame, rest_at, FitsBody, FitsFrame, are_consecutive, are_entries_short, is_logged_short, is_snapshot_short, fault_of_frame}
 use Rattle.raft_wire.specs.Stream.{Judged, length_in, fault_of_length, judged_frame, judged_length, judged, front}
 use Rattle.raft_wire.proofs.Numbers.{IsBytes, IsBytes-take, IsBytes-drop, wide32}
 use Rattle.raft_wire.proofs.Whole.{whole_takes, whole_again}

@@ -13,3 +13,4 @@ pub mod Streams
 pub mod Fronts
 pub mod StreamProofs
 pub mod AnyCutting
+pub mod InOrder

@@ -1,12 +1,12 @@
 -- Ids that were read are in rising order.
-use Rattle.std.proofs.Common.{◌≡◌, ℕ, zero, suc, ◌<◌, ◌≤◌, Bool, true, cond, List, [], ◌∷◌, map, Option, Some, None, Result, Ok, Err, refl, sym, subst, arith}
+use Rattle.std.proofs.Common.{◌≡◌, ℕ, zero, suc, ◌<◌, ◌≤◌, cond, List, [], ◌∷◌, map, Option, Some, None, Ok, Err, sym, subst, arith}
 use Rattle.std.specs.declared.cmp.Ordering.TheVariants.{Less}
 use Rattle.std.specs.Ordering.{nat_cmp}
 use Rattle.std.specs.Cmp.{nat_cmp_is}
 use Rattle.std.specs.Int.{w64}
 use Rattle.raft_quorums.specs.Rising.{IsBelowAll, IsRising, IsRisingByFirst}
 use Rattle.raft_wire.specs.declared.error.FrameFault.TheVariants as fault
-use Rattle.raft_wire.specs.Reader.{Reader, ◌>>=◌, tested, number_at, many_at}
+use Rattle.raft_wire.specs.Reader.{Reader, ◌>>=◌, number_at, many_at}
 use Rattle.raft_wire.specs.Memberships.{Chained, is_above, IsAbove, id_above, that_id, address_at, node_above, that_node}
 use Rattle.raft_wire.proofs.Numbers.{bind_ok, passed_ok, ok_is}
 use Rattle.raft_wire.proofs.Values.{above}

@@ -1,21 +1,20 @@
 -- The laws of streams, by what stands at the front.
-use Rattle.std.proofs.Common.{◌≡◌, ◌⊎◌, inl, inr, ℕ, ◌+◌, ◌<◌, ◌≤◌, Bool, true, false, cond, ltb, List, ◌++◌, length, take, drop, Option, Some, None, Result, Ok, Err, refl, sym, ap, ◌∙◌, append_assoc, arith, length-append}
+use Rattle.std.proofs.Common.{◌≡◌, ◌⊎◌, inl, inr, ℕ, ◌+◌, ◌<◌, ◌≤◌, true, false, ltb, List, ◌++◌, length, take, drop, Option, Some, None, Result, Ok, Err, refl, sym, ap, ◌∙◌, arith, length-append}
 use Rattle.std.specs.Int.{w32, from_be_bytes}
-use Rattle.std.proofs.lemmas.Bool.{cases_lt, ltb-false, ltb-true, le-ltb, lt-ltb}
+use Rattle.std.proofs.lemmas.Bool.{cases_lt, le-ltb, lt-ltb}
 use Rattle.std.proofs.lemmas.List.{drop_at, take-append-le, drop-append-le, length-drop}
 use Rattle.raft_wire.specs.declared.error.FrameFault.{FrameFault}
 use Rattle.raft_wire.specs.declared.frame.Frame.{Frame}
-use Rattle.raft_wire.specs.Values.{Entry}
 use Rattle.raft_wire.specs.Reader.{Reader, all_of}
 use Rattle.raft_wire.specs.Entries.{spelled_entry, FitsEntry, entry_at}
-use Rattle.raft_wire.specs.Frames.{spelled_rest, spelled_frame, rest_at, FitsFrame}
+use Rattle.raft_wire.specs.Frames.{spelled_frame, rest_at}
 use Rattle.raft_wire.specs.Stream.{Judged, length_in, fault_of_length, judged_frame, judged_length, judged, front}
 use Rattle.raft_wire.specs.StreamLaws.{FoundIsSpelled, SpelledIsFound, RefusedIsNoFrame, FoundStays, WaitsOnlySoLong, NoFrameBeginsAnother, NoEntryBeginsAnother, FramesAreShort}
 use Rattle.raft_wire.proofs.Numbers.{ok_is}
 use Rattle.raft_wire.proofs.Fitting.{Reads}
 use Rattle.raft_wire.proofs.Values.{entry_alone_reads}
 use Rattle.raft_wire.proofs.Lengths.{rest_short}
-use Rattle.raft_wire.proofs.Streams.{same_length, has_length, front_fault, front_frame, front_waits}
+use Rattle.raft_wire.proofs.Streams.{same_length, has_length, front_fault, front_frame}
 use Rattle.raft_wire.proofs.Fronts.{fits_within, front_again, front_found, same_judged, length_found}
 
 pub found_is_spelled : FoundIsSpelled

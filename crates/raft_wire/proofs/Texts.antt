@@ -1,10 +1,10 @@
 -- Bytes that are text, and bytes that are none.
-use Rattle.std.proofs.Common.{◌≡◌, Bool, true, false, cond, List, ℕ, Result, Ok, Err, refl}
+use Rattle.std.proofs.Common.{◌≡◌, Bool, true, false, List, ℕ, Ok, Err, refl}
 use Rattle.std.specs.Str.{IsUtf8, is_utf8}
 use Rattle.std.proofs.lemmas.Str.{IsUtf8-from_is_utf8, is_utf8-from_IsUtf8}
 use Rattle.raft_wire.specs.declared.error.FrameFault.{FrameFault}
 use Rattle.raft_wire.specs.declared.error.FrameFault.TheVariants as fault
-use Rattle.raft_wire.specs.Reader.{Reader, ◌>>=◌, tested, byte_at, piece_at}
+use Rattle.raft_wire.specs.Reader.{Reader, tested, byte_at, piece_at}
 use Rattle.raft_wire.specs.Memberships.{address_at}
 
 false_unless : (b : Bool) → (b ≡ true → ⊥) → b ≡ false

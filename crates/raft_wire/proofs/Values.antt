@@ -1,24 +1,22 @@
 -- The readers of votes, log ids, memberships and entries fit their spellings.
-use Rattle.std.proofs.Common.{◌≡◌, ℕ, zero, suc, ◌+◌, ◌^◌, ◌<◌, ◌≤◌, Bool, true, false, cond, eqb, ltb, List, [], ◌∷◌, ◌++◌, length, Option, Some, None, Result, Ok, Err, refl, sym, ap, subst, ◌∙◌, append_assoc, arith}
-use Rattle.std.specs.Int.{w32, w64, to_be_bytes}
-use Rattle.std.specs.Str.{IsUtf8, is_utf8}
+use Rattle.std.proofs.Common.{◌≡◌, ℕ, zero, suc, ◌^◌, ◌<◌, ◌≤◌, Bool, true, cond, List, [], ◌∷◌, ◌++◌, length, Option, Some, None, Ok, Err, refl, sym, subst, arith}
+use Rattle.std.specs.Int.{w64, to_be_bytes}
+use Rattle.std.specs.Str.{is_utf8}
 use Rattle.std.proofs.lemmas.Str.{IsUtf8-from_is_utf8, is_utf8-from_IsUtf8}
 use Rattle.std.proofs.lemmas.Bool.{ltb-true, lt-ltb}
-use Rattle.raft_values.specs.declared.vote.Vote.{Vote}
 use Rattle.raft_values.specs.declared.log_id.LogId.{LogId}
 use Rattle.raft_values.specs.declared.command.Command.{Command}
 use Rattle.raft_state.specs.declared.entry.EntryPayload.TheVariants.{Blank, Normal, Membership as Members}
 use Rattle.raft_values.specs.Vote.{vote_of}
 use Rattle.raft_values.specs.LogId.{log_id_of}
-use Rattle.raft_wire.specs.declared.error.FrameFault.{FrameFault}
 use Rattle.raft_wire.specs.declared.error.FrameFault.TheVariants as fault
-use Rattle.raft_wire.specs.Values.{Membership, Entry, EntryPayload}
-use Rattle.raft_wire.specs.Reader.{Reader, ◌>>=◌, both, made, tested, number_at, byte_at, piece_at, counted_at}
+use Rattle.raft_wire.specs.Values.{Entry, EntryPayload}
+use Rattle.raft_wire.specs.Reader.{both, made, tested, number_at, piece_at, counted_at}
 use Rattle.raft_wire.specs.Fields.{spelled_flag, flag_at, spelled_vote, FitsVote, vote_at, spelled_log_id, FitsLogId, log_id_at, spelled_last, FitsLast, last_at}
 use Rattle.raft_wire.specs.Memberships.{Chained, spelled_list, is_above, IsAbove, FitsId, spelled_id, id_above, that_id, spelled_ids, FitsIds, ids_at, nothing_left}
 use Rattle.raft_wire.specs.Memberships.{spelled_address, FitsAddress, address_at, spelled_node, FitsNode, node_above, that_node, spelled_membership, FitsMembership, membership_of, membership_at}
-use Rattle.raft_wire.specs.Entries.{FitsCommand, spelled_command, command_of, command_at, spelled_payload, FitsPayload, normal_of, members_of, payload_at, spelled_entry, FitsEntry, follows, entry_of, entry_behind, entry_at, that_place}
-use Rattle.raft_wire.proofs.Numbers.{IsBytes, IsBytes-rest, bind_ok, passed_ok, ok_is, Takes, Takes-then, Takes-behind}
+use Rattle.raft_wire.specs.Entries.{FitsCommand, spelled_command, command_of, command_at, spelled_payload, FitsPayload, normal_of, members_of, payload_at, spelled_entry, FitsEntry, follows, entry_of, entry_behind, entry_at}
+use Rattle.raft_wire.proofs.Numbers.{IsBytes, IsBytes-rest, bind_ok, passed_ok, ok_is, Takes, Takes-behind}
 use Rattle.raft_wire.proofs.Fitting.{Reads, fits_as, both_reads, made_reads, tested_reads, u64_reads, flag_reads, Anything, option_reads, piece_takes, piece_again, text_reads}
 use Rattle.raft_wire.proofs.Lists.{counted_reads}
 

@@ -1,13 +1,13 @@
 -- Values that take all of the bytes.
-use Rattle.std.proofs.Common.{◌≡◌, ℕ, Bool, true, false, cond, eqb, List, [], ◌∷◌, ◌++◌, length, Result, Ok, Err, refl, sym, ap, subst, ◌∙◌}
+use Rattle.std.proofs.Common.{◌≡◌, ℕ, cond, eqb, List, [], ◌++◌, length, Result, Ok, Err, refl, sym, ap, subst, ◌∙◌}
 use Rattle.std.specs.Prelude.{IfOk}
 use Rattle.std.proofs.lemmas.Bool.{eqb-true}
 use Rattle.std.proofs.lemmas.List.{append-nil, nil_from_length}
 use Rattle.raft_wire.specs.declared.error.FrameFault.{FrameFault}
 use Rattle.raft_wire.specs.declared.error.FrameFault.TheVariants as fault
 use Rattle.raft_wire.specs.declared.error.FrameError.{FrameError}
-use Rattle.raft_wire.specs.Reader.{Reader, ◌>>=◌, Gives, all_of}
-use Rattle.raft_wire.proofs.Numbers.{IsBytes, bind_ok, passed_ok, Takes}
+use Rattle.raft_wire.specs.Reader.{Reader, Gives, all_of}
+use Rattle.raft_wire.proofs.Numbers.{IsBytes, bind_ok, passed_ok}
 use Rattle.raft_wire.proofs.Fitting.{Reads}
 
 module _ {A : Type 0} (reader : Reader A) (spelled : A → List ℕ) (Fits : A → Type 0) (r : Reads reader spelled Fits) where

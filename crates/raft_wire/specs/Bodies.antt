@@ -1,6 +1,6 @@
 -- The parts of a frame's body: the one spelling of each, and how it is read.
 use Rattle.std.specs.Prelude.{◌≡◌, ℕ, zero, suc, ◌<◌, ◌≤◌, ◌^◌, ◌==◌, Bool, true, List, [], ◌∷◌, ◌++◌, length, Option, Some}
-use Rattle.std.specs.Prelude.{None, Result, Ok, Err, IfSome, if◌then◌else◌}
+use Rattle.std.specs.Prelude.{None, Ok, Err, IfSome, if◌then◌else◌}
 use Rattle.std.specs.Int.{w64, to_be_bytes}
 use Rattle.raft_values.specs.declared.vote.Vote.{Vote}
 use Rattle.raft_values.specs.declared.log_id.LogId.{LogId}
@@ -20,7 +20,7 @@ use Rattle.raft_wire.specs.declared.frame.AppendReplyFrame.{AppendReplyFrame}
 use Rattle.raft_wire.specs.declared.frame.SnapshotFrame.{SnapshotFrame}
 use Rattle.raft_wire.specs.declared.frame.SnapshotReplyFrame.{SnapshotReplyFrame}
 use Rattle.raft_wire.specs.Values.{Membership, Entry}
-use Rattle.raft_wire.specs.Reader.{Reader, ◌>>=◌, both, made, number_at, counted_at, text_at}
+use Rattle.raft_wire.specs.Reader.{Reader, both, made, number_at, counted_at, text_at}
 use Rattle.raft_wire.specs.Fields.{spelled_flag, flag_at, spelled_vote, FitsVote, vote_at, spelled_option, option_at}
 use Rattle.raft_wire.specs.Fields.{spelled_log_id, FitsLogId, log_id_at, spelled_last, FitsLast, last_at}
 use Rattle.raft_wire.specs.Memberships.{Chained, spelled_list, spelled_membership, FitsMembership, membership_at}

@@ -1,13 +1,13 @@
 -- Entries: their one spelling, and how it is read. A further kind of entry is a further tag.
-use Rattle.std.specs.Prelude.{ℕ, zero, suc, ◌+◌, ◌≡◌, ◌<◌, ◌≤◌, ◌^◌, ◌==◌, Bool, true, List, [], ◌∷◌, ◌++◌, length}
-use Rattle.std.specs.Prelude.{Option, Some, None, Result, Ok, Err}
+use Rattle.std.specs.Prelude.{ℕ, zero, suc, ◌+◌, ◌≤◌, ◌==◌, Bool, true, List, [], ◌∷◌, ◌++◌, length}
+use Rattle.std.specs.Prelude.{Option, Some, None, Ok, Err}
 use Rattle.std.specs.Int.{w32, to_be_bytes}
 use Rattle.raft_values.specs.declared.log_id.LogId.{LogId}
 use Rattle.raft_values.specs.declared.command.Command.{Command}
 use Rattle.raft_state.specs.declared.entry.EntryPayload.TheVariants.{Blank, Normal, Membership as Members}
 use Rattle.raft_wire.specs.declared.error.FrameFault.TheVariants as fault
 use Rattle.raft_wire.specs.Values.{Membership, Entry, EntryPayload}
-use Rattle.raft_wire.specs.Reader.{Reader, ◌>>=◌, both, made, tested, text_at}
+use Rattle.raft_wire.specs.Reader.{Reader, both, made, tested, text_at}
 use Rattle.raft_wire.specs.Fields.{spelled_log_id, FitsLogId, log_id_at}
 use Rattle.raft_wire.specs.Memberships.{spelled_membership, FitsMembership, membership_at}
 

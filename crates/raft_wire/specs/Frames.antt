@@ -1,6 +1,6 @@
 -- Frames: their one spelling, and how they are read.
-use Rattle.std.specs.Prelude.{◌≡◌, ℕ, zero, suc, ◌<◌, ◌≤◌, ◌+◌, ◌^◌, nat_lt, nat_le, ◌&&◌, not, Bool, true, List, [], ◌∷◌, ◌++◌}
-use Rattle.std.specs.Prelude.{length, Option, Some, None, Result, Ok, Err, if◌then◌else◌}
+use Rattle.std.specs.Prelude.{ℕ, zero, suc, ◌<◌, ◌^◌, nat_le, ◌&&◌, not, Bool, true, List, [], ◌∷◌, ◌++◌}
+use Rattle.std.specs.Prelude.{length, Option, Some, None, Ok, Err, if◌then◌else◌, All, IfSome}
 use Rattle.std.specs.List.{list_all}
 use Rattle.std.specs.Int.{w32, w64, to_be_bytes}
 use Rattle.raft_engine.specs.declared.vote_message.VoteRequest.{VoteRequest as VoteAsked}
@@ -18,8 +18,8 @@ use Rattle.raft_wire.specs.declared.frame.Frame.{Frame}
 use Rattle.raft_wire.specs.declared.frame.FrameKind.{FrameKind}
 use Rattle.raft_wire.specs.declared.frame.FrameKind.TheVariants as kind
 use Rattle.raft_wire.specs.Values.{Entry}
-use Rattle.raft_wire.specs.Writing.{is_payload_short}
-use Rattle.raft_wire.specs.Reader.{Reader, ◌>>=◌, both, made, number_at}
+use Rattle.raft_wire.specs.Writing.{is_payload_short, AreNodesRising, AreLoggedNodesRising}
+use Rattle.raft_wire.specs.Reader.{Reader, ◌>>=◌, made, number_at}
 use Rattle.raft_wire.specs.Entries.{follows}
 use Rattle.raft_wire.specs.Bodies.{spelled_vote_request, FitsVoteRequest, vote_request_at, spelled_vote_reply}
 use Rattle.raft_wire.specs.Bodies.{FitsVoteReply, vote_reply_at, spelled_append, FitsAppend, append_at}
@@ -164,3 +164,12 @@ fault_of_frame (body.Append f) = fault_of_entries f.request.entries
 fault_of_frame (body.AppendReply f) = None
 fault_of_frame (body.Snapshot f) = fault_of_snapshot f.request.meta.last_membership f.request.bytes
 fault_of_frame (body.SnapshotReply f) = None
+
+-- the nodes of each membership in a frame rise by their ids
+abbrev pub AreBodyNodesRising : FrameBody → Type 0
+AreBodyNodesRising (body.VoteRequest r) = Unit {0}
+AreBodyNodesRising (body.VoteReply r) = Unit {0}
+AreBodyNodesRising (body.Append f) = All (λ e. AreNodesRising e.payload) f.request.entries
+AreBodyNodesRising (body.AppendReply f) = Unit {0}
+AreBodyNodesRising (body.Snapshot f) = IfSome f.request.meta.last_membership AreLoggedNodesRising
+AreBodyNodesRising (body.SnapshotReply f) = Unit {0}

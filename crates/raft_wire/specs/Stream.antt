@@ -1,5 +1,5 @@
 -- What stands at the front of a stream of frames, and what a feeder answers.
-use Rattle.std.specs.Prelude.{◌≡◌, ◌<◌, ◌≤◌, ◌+◌, ℕ, Bool, true, false, List, [], ◌++◌, length, take, drop, nat_lt}
+use Rattle.std.specs.Prelude.{◌≡◌, ◌≤◌, ◌+◌, ℕ, Bool, true, false, List, [], ◌++◌, length, take, drop, nat_lt}
 use Rattle.std.specs.Prelude.{Option, Some, None, Result, Ok, Err, if◌then◌else◌}
 use Rattle.std.specs.Int.{w32, from_be_bytes}
 use Rattle.raft_wire.specs.declared.error.FrameFault.{FrameFault}
@@ -43,6 +43,10 @@ judged bytes (Some n) = judged_length bytes n (fault_of_length n)
 -- what stands at the front: nothing that can be judged yet, a frame, or the first fault
 unfoldable pub front : List ℕ → Option Judged
 front bytes = judged bytes (length_in bytes)
+
+-- the bytes are found at the front of a stream as this frame, whatever follows
+abbrev pub AreFoundAs : List ℕ → Frame → Type 0
+AreFoundAs bytes frame = (more : List ℕ) → front (bytes ++ more) ≡ Some (Ok frame, length bytes)
 
 -- ---- feeders
 

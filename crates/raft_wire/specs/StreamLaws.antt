@@ -1,5 +1,5 @@
 -- Laws of what stands at the front of a stream.
-use Rattle.std.specs.Prelude.{◌≡◌, ◌<◌, ◌≤◌, ◌⊎◌, ◌+◌, ◌^◌, ℕ, List, ◌++◌, length, take, get_or, Option, Some, None, Result, Ok, Err}
+use Rattle.std.specs.Prelude.{◌≡◌, ◌<◌, ◌≤◌, ◌⊎◌, ◌+◌, ℕ, List, ◌++◌, length, take, get_or, Some, None, Ok, Err}
 use Rattle.raft_wire.specs.declared.error.FrameFault.{FrameFault}
 use Rattle.raft_wire.specs.declared.frame.Frame.{Frame}
 use Rattle.raft_wire.specs.Values.{Entry}

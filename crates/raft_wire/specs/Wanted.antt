@@ -34,3 +34,9 @@ Takes held piece used (Err (errors.Fault why)) new =
     (front (held ++ piece) ≡ Some (Err why, length held + used)) × (used ≤ length piece) × (new ≡ [])
 Takes held piece used (Err errors.StreamFailed) new = ⊥
 Takes held piece used (Err errors.Memory) new = (used ≡ 0) × (new ≡ held)
+
+-- a fact for a frame that was read
+abbrev pub IfFrame : Result (Option Frame) FrameError → Type 0 → Type 0
+IfFrame (Ok (Some frame)) fact = fact
+IfFrame (Ok None) fact = Unit {0}
+IfFrame (Err why) fact = Unit {0}

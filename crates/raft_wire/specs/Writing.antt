@@ -1,7 +1,10 @@
 -- What a call that writes answers.
-use Rattle.std.specs.Prelude.{◌≡◌, ℕ, nat_le, Bool, true, ◌&&◌, List, length, Option, Some, None, Result, Ok, Err}
+use Rattle.std.specs.Prelude.{◌≡◌, ℕ, nat_le, Bool, true, List, length, Option, Some, None, Result, Ok, Err}
 use Rattle.std.specs.Prelude.{Vec, if◌then◌else◌}
 use Rattle.std.specs.declared.alloc.Global.{Global}
+use Rattle.std.specs.Ordering.{nat_cmp}
+use Rattle.raft_quorums.specs.Rising.{IsRisingByFirst}
+use Rattle.raft_engine.specs.declared.snapshot_message.LoggedMembership.{LoggedMembership}
 use Rattle.raft_state.specs.declared.entry.EntryPayload.TheVariants.{Blank, Normal, Membership as Members}
 use Rattle.raft_engine.specs.Values.{is_within_limits}
 use Rattle.raft_wire.specs.declared.error.FrameFault.{FrameFault}
@@ -27,3 +30,13 @@ is_payload_short (Members m) = is_within_limits m
 -- a command or membership past its limits
 abbrev pub fault_of_entry : Entry → Option FrameFault
 fault_of_entry e = if is_payload_short e.payload then None else Some fault.TooLong
+
+-- ---- nodes rise by their ids: what the type of memberships keeps, and a borrowed value doesn't show
+
+abbrev pub AreNodesRising : EntryPayload → Type 0
+AreNodesRising Blank = Unit {0}
+AreNodesRising (Normal command) = Unit {0}
+AreNodesRising (Members m) = IsRisingByFirst nat_cmp m.nodes
+
+abbrev pub AreLoggedNodesRising : LoggedMembership ℕ (List ℕ) → Type 0
+AreLoggedNodesRising logged = IsRisingByFirst nat_cmp logged.membership.nodes

@@ -3,8 +3,8 @@ ghost use Rattle.std.specs.Prelude.{◌≡◌, ◌++◌, true, nat_le, List, ℕ
 ghost use Rattle.raft_wire.specs.Values.{Entry as EntryValue};
 ghost use Rattle.raft_wire.specs.Reader.{Gives, all_of};
 ghost use Rattle.raft_wire.specs.Entries.{command_at, payload_at, follows, entry_behind, entry_at};
-ghost use Rattle.raft_wire.specs.Entries.{spelled_command, spelled_payload, spelled_entry, FitsEntry};
-ghost use Rattle.raft_wire.specs.Writing.{Writes, is_payload_short, fault_of_entry};
+ghost use Rattle.raft_wire.specs.Entries.{spelled_command, spelled_payload, spelled_entry, FitsPayload, FitsEntry};
+ghost use Rattle.raft_wire.specs.Writing.{Writes, is_payload_short, fault_of_entry, AreNodesRising};
 
 use crate::error::{FrameError, FrameFault};
 use crate::fields::{log_id_of, put_log_id, put_text, text_of};
@@ -122,7 +122,8 @@ fn put_command(out: &mut Vec<u8>, command: &Command) -> Result<(), AllocError>
 
 fn put_payload(out: &mut Vec<u8>, payload: &WirePayload) -> Result<(), AllocError>
     requires { is_payload_short payload.now ≡ true }
-    ensures { OnOk result (out.new.items ≡ out.old.items ++ spelled_payload payload.now) }
+    ensures items { OnOk result (out.new.items ≡ out.old.items ++ spelled_payload payload.now) }
+    ensures fits { OnOk result (AreNodesRising payload.now → FitsPayload payload.now) }
 {
     match payload {
         EntryPayload::Blank => Ok(out.push(0)?),
@@ -139,7 +140,8 @@ fn put_payload(out: &mut Vec<u8>, payload: &WirePayload) -> Result<(), AllocErro
 
 pub(crate) fn put_entry(out: &mut Vec<u8>, entry: &WireEntry) -> Result<(), AllocError>
     requires { is_payload_short entry.now.payload ≡ true }
-    ensures { OnOk result (out.new.items ≡ out.old.items ++ spelled_entry entry.now) }
+    ensures items { OnOk result (out.new.items ≡ out.old.items ++ spelled_entry entry.now) }
+    ensures fits { OnOk result (AreNodesRising entry.now.payload → FitsEntry entry.now) }
 {
     put_log_id(out, &entry.log_id)?;
     put_payload(out, &entry.payload)
@@ -148,7 +150,8 @@ pub(crate) fn put_entry(out: &mut Vec<u8>, entry: &WireEntry) -> Result<(), Allo
 // The bytes of an entry that is within its limits.
 fn entry_bytes(alloc: Global, entry: &WireEntry) -> Result<Vec<u8>, AllocError>
     requires { is_payload_short entry.now.payload ≡ true }
-    ensures { IfOk result (λ v. v.items ≡ spelled_entry entry.now) }
+    ensures items { IfOk result (λ v. v.items ≡ spelled_entry entry.now) }
+    ensures fits { OnOk result (AreNodesRising entry.now.payload → FitsEntry entry.now) }
 {
     let mut out = Vec::new(alloc);
     put_entry(&mut out, entry)?;
@@ -158,7 +161,10 @@ fn entry_bytes(alloc: Global, entry: &WireEntry) -> Result<Vec<u8>, AllocError>
 /// The one spelling of an entry. Refused are a command or a membership past its limits (`TooLong`),
 /// and then want of memory (`Memory`).
 pub fn write_entry(alloc: Global, entry: &WireEntry) -> Result<Vec<u8>, FrameError>
-    ensures { Writes (fault_of_entry entry.now) (spelled_entry entry.now) result }
+    ensures written { Writes (fault_of_entry entry.now) (spelled_entry entry.now) result }
+    ensures fits { OnOk result (AreNodesRising entry.now.payload → FitsEntry entry.now) }
+    // What was written is read again as this entry.
+    ensures found { IfOk result (λ v. AreNodesRising entry.now.payload → all_of entry_at v.items ≡ Ok entry.now) }
 {
     if !is_payload_short(&entry.payload) {
         return Err(FrameError::Fault(FrameFault::TooLong));

@@ -4,7 +4,7 @@ ghost use Rattle.raft_wire.specs.Reader.{Gives, all_of};
 ghost use Rattle.raft_wire.specs.Frames.{rest_at};
 ghost use Rattle.raft_wire.specs.Stream.{length_in, fault_of_length, front};
 ghost use Rattle.raft_wire.specs.Stream.{fresh, Answers};
-ghost use Rattle.raft_wire.specs.Wanted.{IsWanted, HeldAfter, Takes};
+ghost use Rattle.raft_wire.specs.Wanted.{IsWanted, HeldAfter, Takes, IfFrame};
 
 use crate::error::{FrameError, FrameFault};
 use crate::frame::Frame;
@@ -104,6 +104,8 @@ fn read_held(held: &mut Vec<u8>, bytes: &[u8]) -> Result<Frame, FrameError>
     requires { 4 ≤ length (held.old.items ++ bytes.now) }
     ensures held { HeldAfter held.old.items result held.new.items }
     ensures read { Gives (λ x. x) result (all_of rest_at (drop 4 (held.old.items ++ bytes.now))) }
+    // Where nothing is held the bytes are read where they are.
+    ensures in_place { held.old.items ≡ [] → held.new ≡ held.old }
 {
     let alloc: Global = *held.allocator();
     if held.is_empty() {
@@ -150,7 +152,8 @@ impl Model for Feeder {
 // What feeding a piece answers and leaves held, where the stream hasn't failed.
 fn take_piece(held: &mut Vec<u8>, piece: &[u8]) -> Fed
     requires { front held.old.items ≡ None }
-    ensures { Takes held.old.items piece.now result.used result.frame held.new.items }
+    ensures taken { Takes held.old.items piece.now result.used result.frame held.new.items }
+    ensures in_place { held.old.items ≡ [] → IfFrame result.frame (held.new ≡ held.old) }
 {
     match brought_by(held.as_slice(), piece) {
         Wanted::More => match held.extend_from_slice(piece) {
@@ -180,7 +183,8 @@ fn take_frame(held: &mut Vec<u8>, piece: &[u8], used: usize) -> Fed
     requires frame { front (held.old.items ++ piece.now) ≡ Some (all_of rest_at (drop 4 (held.old.items ++ take used piece.now)), length held.old.items + used) }
     requires within { used ≤ length piece.now }
     requires length { 4 ≤ length (held.old.items ++ take used piece.now) }
-    ensures { Takes held.old.items piece.now result.used result.frame held.new.items }
+    ensures taken { Takes held.old.items piece.now result.used result.frame held.new.items }
+    ensures in_place { held.old.items ≡ [] → held.new ≡ held.old }
 {
     match read_held(held, &piece[..used]) {
         Ok(frame) => Fed {

@@ -3,7 +3,7 @@ ghost use Rattle.std.specs.Prelude.{◌≡◌, ◌++◌, ◌<◌, ◌^◌, lengt
 ghost use Rattle.std.specs.Int.{w32, w64, to_be_bytes};
 ghost use Rattle.raft_wire.specs.Reader.{Gives, number_at, byte_at, piece_at, count_at, text_at};
 ghost use Rattle.raft_wire.specs.Fields.{spelled_flag, spelled_vote, spelled_log_id, spelled_last};
-ghost use Rattle.raft_wire.specs.Fields.{flag_at, vote_at, log_id_at, last_at, option_at};
+ghost use Rattle.raft_wire.specs.Fields.{flag_at, vote_at, log_id_at, last_at, option_at, FitsVote, FitsLogId, FitsLast};
 ghost use Rattle.raft_wire.specs.Entries.{spelled_text};
 
 use crate::error::{FrameError, FrameFault};
@@ -134,7 +134,8 @@ pub(crate) fn last_of(bytes: &[u8]) -> Result<(Option<LogId<u64>>, &[u8]), Frame
 // ---- writing
 
 pub(crate) fn put_u64(out: &mut Vec<u8>, number: u64) -> Result<(), AllocError>
-    ensures { OnOk result (out.new.items ≡ out.old.items ++ to_be_bytes w64 number) }
+    ensures items { OnOk result (out.new.items ≡ out.old.items ++ to_be_bytes w64 number) }
+    ensures fits { number < 2 ^ 64 }
 {
     out.extend_from_slice(&number.to_be_bytes())
 }
@@ -165,7 +166,8 @@ pub(crate) fn put_flag(out: &mut Vec<u8>, flag: bool) -> Result<(), AllocError>
 }
 
 pub(crate) fn put_vote(out: &mut Vec<u8>, vote: &Vote<u64>) -> Result<(), AllocError>
-    ensures { OnOk result (out.new.items ≡ out.old.items ++ spelled_vote vote.now) }
+    ensures items { OnOk result (out.new.items ≡ out.old.items ++ spelled_vote vote.now) }
+    ensures fits { OnOk result (FitsVote vote.now) }
 {
     put_u64(out, vote.leader_id.term)?;
     put_u64(out, vote.leader_id.node_id)?;
@@ -173,7 +175,8 @@ pub(crate) fn put_vote(out: &mut Vec<u8>, vote: &Vote<u64>) -> Result<(), AllocE
 }
 
 pub(crate) fn put_log_id(out: &mut Vec<u8>, id: &LogId<u64>) -> Result<(), AllocError>
-    ensures { OnOk result (out.new.items ≡ out.old.items ++ spelled_log_id id.now) }
+    ensures items { OnOk result (out.new.items ≡ out.old.items ++ spelled_log_id id.now) }
+    ensures fits { OnOk result (FitsLogId id.now) }
 {
     put_u64(out, id.leader_id.term)?;
     put_u64(out, id.leader_id.node_id)?;
@@ -181,7 +184,8 @@ pub(crate) fn put_log_id(out: &mut Vec<u8>, id: &LogId<u64>) -> Result<(), Alloc
 }
 
 pub(crate) fn put_last(out: &mut Vec<u8>, id: &Option<LogId<u64>>) -> Result<(), AllocError>
-    ensures { OnOk result (out.new.items ≡ out.old.items ++ spelled_last id.now) }
+    ensures items { OnOk result (out.new.items ≡ out.old.items ++ spelled_last id.now) }
+    ensures fits { OnOk result (FitsLast id.now) }
 {
     match id {
         None => Ok(out.push(0)?),

@@ -1,11 +1,14 @@
 //! Memberships, read from the front of bytes and written behind others.
-ghost use Rattle.std.specs.Prelude.{◌≡◌, ◌++◌, ◌≤◌, ℕ, List, None, true, nat_le, length, OnOk, All, IfOk};
+ghost use Rattle.std.specs.Prelude.{◌≡◌, ◌++◌, ◌≤◌, ◌<◌, ◌^◌, ℕ, List, None, true, nat_le, length, OnOk, All, IfOk};
 ghost use Rattle.std.specs.List.{list_all};
 ghost use Rattle.raft_engine.specs.Values.{is_within_limits};
 ghost use Rattle.raft_wire.specs.Reader.{Gives, many_at, counted_at};
 ghost use Rattle.raft_wire.specs.Memberships.{id_above, that_id, ids_at, nothing_left, is_above, address_at};
 ghost use Rattle.raft_wire.specs.Memberships.{node_above, that_node, membership_at};
 ghost use Rattle.raft_wire.specs.Memberships.{spelled_list, spelled_ids, spelled_node, spelled_membership};
+ghost use Rattle.raft_wire.specs.Memberships.{Chained, FitsIds, nothing_left, FitsAddress, FitsNode, FitsMembership};
+ghost use Rattle.std.specs.Ordering.{nat_cmp};
+ghost use Rattle.raft_quorums.specs.Rising.{IsRising, IsRisingByFirst};
 
 use crate::error::{FrameError, FrameFault};
 use crate::fields::{byte_of, count_of, piece_of, put_count, put_u64, u64_at};
@@ -191,8 +194,10 @@ pub fn is_within_limits(membership: &Membership<u64, BasicNode>) -> bool
 // ---- writing
 
 fn put_ids(out: &mut Vec<u8>, ids: &[u64]) -> Result<(), AllocError>
-    requires { length ids.now ≤ 64 }
-    ensures { OnOk result (out.new.items ≡ out.old.items ++ spelled_ids ids.now) }
+    requires count { length ids.now ≤ 64 }
+    requires rising { IsRising nat_cmp ids.now }
+    ensures items { OnOk result (out.new.items ≡ out.old.items ++ spelled_ids ids.now) }
+    ensures fits { OnOk result (FitsIds ids.now) }
 {
     put_count(out, ids.len())?;
     for id in ids {
@@ -204,7 +209,8 @@ fn put_ids(out: &mut Vec<u8>, ids: &[u64]) -> Result<(), AllocError>
 fn put_groups(out: &mut Vec<u8>, groups: &[IdSet<u64>]) -> Result<(), AllocError>
     requires count { length groups.now ≤ 8 }
     requires each { All (λ group. length group ≤ 64) groups.now }
-    ensures { OnOk result (out.new.items ≡ out.old.items ++ spelled_list spelled_ids groups.now) }
+    ensures items { OnOk result (out.new.items ≡ out.old.items ++ spelled_list spelled_ids groups.now) }
+    ensures fits { OnOk result (Chained (λ _ ids. FitsIds ids) nothing_left None groups.now) }
 {
     put_count(out, groups.len())?;
     for group in groups {
@@ -215,7 +221,8 @@ fn put_groups(out: &mut Vec<u8>, groups: &[IdSet<u64>]) -> Result<(), AllocError
 
 fn put_node(out: &mut Vec<u8>, id: u64, node: &BasicNode) -> Result<(), AllocError>
     requires { length node.now ≤ 255 }
-    ensures { OnOk result (out.new.items ≡ out.old.items ++ spelled_node (id, node.now)) }
+    ensures items { OnOk result (out.new.items ≡ out.old.items ++ spelled_node (id, node.now)) }
+    ensures fits { OnOk result ((id < 2 ^ 64) × FitsAddress node.now) }
 {
     let address = node.addr.as_str().as_bytes();
     put_u64(out, id)?;
@@ -226,7 +233,8 @@ fn put_node(out: &mut Vec<u8>, id: u64, node: &BasicNode) -> Result<(), AllocErr
 fn put_nodes(out: &mut Vec<u8>, nodes: &[(u64, BasicNode)]) -> Result<(), AllocError>
     requires count { length nodes.now ≤ 128 }
     requires each { All (λ (node : ℕ × List ℕ). length node.1 ≤ 255) nodes.now }
-    ensures { OnOk result (out.new.items ≡ out.old.items ++ spelled_list spelled_node nodes.now) }
+    ensures items { OnOk result (out.new.items ≡ out.old.items ++ spelled_list spelled_node nodes.now) }
+    ensures fits { OnOk result (IsRisingByFirst nat_cmp nodes.now → Chained FitsNode that_node None nodes.now) }
 {
     put_count(out, nodes.len())?;
     for (id, node) in nodes {
@@ -240,7 +248,8 @@ pub(crate) fn put_membership(
     membership: &Membership<u64, BasicNode>,
 ) -> Result<(), AllocError>
     requires { is_within_limits membership.now ≡ true }
-    ensures { OnOk result (out.new.items ≡ out.old.items ++ spelled_membership membership.now) }
+    ensures items { OnOk result (out.new.items ≡ out.old.items ++ spelled_membership membership.now) }
+    ensures fits { OnOk result (IsRisingByFirst nat_cmp membership.now.nodes → FitsMembership membership.now) }
 {
     put_groups(out, membership.get_joint_config())?;
     put_nodes(out, membership.nodes())

@@ -1,19 +1,23 @@
 //! Frames, written field by field.
-ghost use Rattle.std.specs.Prelude.{◌≡◌, ◌≤◌, ◌<◌, ◌-◌, ◌^◌, ◌++◌, ◌&&◌, ◌∷◌, true, nat_le, None, All, drop, length, OnOk, IfOk};
+ghost use Rattle.std.specs.Prelude.{◌≡◌, ◌≤◌, ◌<◌, ◌-◌, ◌^◌, ◌++◌, ◌&&◌, ◌∷◌, true, nat_le, None, All, drop, length, OnOk, IfOk, IfSome};
 ghost use Rattle.std.specs.List.{flat_map, list_all};
 ghost use Rattle.std.specs.Int.{w32, w64, to_be_bytes};
 ghost use Rattle.raft_engine.specs.Values.{is_within_limits};
 ghost use Rattle.raft_wire.specs.Memberships.{spelled_list};
-ghost use Rattle.raft_wire.specs.Entries.{spelled_entry};
-ghost use Rattle.raft_wire.specs.Writing.{Writes, is_payload_short};
+ghost use Rattle.raft_wire.specs.Entries.{spelled_entry, FitsEntry};
+ghost use Rattle.raft_wire.specs.Writing.{Writes, is_payload_short, AreNodesRising, AreLoggedNodesRising};
 ghost use Rattle.raft_wire.specs.Bodies.{spelled_vote_request, spelled_vote_reply, spelled_id, spelled_number};
 ghost use Rattle.raft_wire.specs.Bodies.{spelled_append, spelled_result, spelled_append_reply, spelled_logged};
 ghost use Rattle.raft_wire.specs.Bodies.{spelled_snapshot, spelled_snapshot_frame, spelled_snapshot_result};
 ghost use Rattle.raft_wire.specs.Bodies.{spelled_behind_none, spelled_snapshot_reply};
-ghost use Rattle.raft_wire.specs.Fields.{spelled_option};
+ghost use Rattle.raft_wire.specs.Bodies.{FitsVoteRequest, FitsVoteReply, FitsId, FitsAppend, FitsResult, FitsAppendReply};
+ghost use Rattle.raft_wire.specs.Bodies.{FitsLogged, FitsSnapshot, FitsSnapshotFrame, FitsSnapshotResult, FitsSnapshotReply};
+ghost use Rattle.raft_wire.specs.Fields.{spelled_option, FitsLast};
 ghost use Rattle.raft_wire.specs.Frames.{byte_of_kind, spelled_parties, spelled_body, spelled_rest, spelled_frame};
 ghost use Rattle.raft_wire.specs.Frames.{are_consecutive, are_entries_short, is_logged_short, is_snapshot_short};
 ghost use Rattle.raft_wire.specs.Frames.{fault_of_entries, fault_of_snapshot, fault_of_frame};
+ghost use Rattle.raft_wire.specs.Frames.{FitsBody, FitsFrame, AreBodyNodesRising};
+ghost use Rattle.raft_wire.specs.Stream.{AreFoundAs};
 
 use crate::entries::{WireEntry, follows, is_payload_short, put_entry};
 use crate::error::{FrameError, FrameFault};
@@ -29,14 +33,16 @@ use raft_state::{BasicNode, Bytes, LogId};
 use std::alloc::{AllocError, Global};
 
 fn put_vote_request(out: &mut Vec<u8>, request: &VoteRequest<u64>) -> Result<(), AllocError>
-    ensures { OnOk result (out.new.items ≡ out.old.items ++ spelled_vote_request request.now) }
+    ensures items { OnOk result (out.new.items ≡ out.old.items ++ spelled_vote_request request.now) }
+    ensures fits { OnOk result (FitsVoteRequest request.now) }
 {
     put_vote(out, &request.vote)?;
     put_last(out, &request.last_log_id)
 }
 
 fn put_vote_reply(out: &mut Vec<u8>, reply: &VoteResponse<u64>) -> Result<(), AllocError>
-    ensures { OnOk result (out.new.items ≡ out.old.items ++ spelled_vote_reply reply.now) }
+    ensures items { OnOk result (out.new.items ≡ out.old.items ++ spelled_vote_reply reply.now) }
+    ensures fits { OnOk result (FitsVoteReply reply.now) }
 {
     put_vote(out, &reply.vote)?;
     put_flag(out, reply.vote_granted)?;
@@ -46,7 +52,8 @@ fn put_vote_reply(out: &mut Vec<u8>, reply: &VoteResponse<u64>) -> Result<(), Al
 // ---- append requests and their replies
 
 fn put_id(out: &mut Vec<u8>, id: AppendId) -> Result<(), AllocError>
-    ensures { OnOk result (out.new.items ≡ out.old.items ++ spelled_id id) }
+    ensures items { OnOk result (out.new.items ≡ out.old.items ++ spelled_id id) }
+    ensures fits { OnOk result (FitsId id) }
 {
     match id {
         AppendId::HeartBeat => Ok(out.push(0)?),
@@ -60,7 +67,8 @@ fn put_id(out: &mut Vec<u8>, id: AppendId) -> Result<(), AllocError>
 // The entries without their count.
 fn put_all(out: &mut Vec<u8>, entries: &[WireEntry]) -> Result<(), AllocError>
     requires { All (λ e. is_payload_short e.payload ≡ true) entries.now }
-    ensures { OnOk result (out.new.items ≡ out.old.items ++ flat_map spelled_entry entries.now) }
+    ensures items { OnOk result (out.new.items ≡ out.old.items ++ flat_map spelled_entry entries.now) }
+    ensures fits { OnOk result (All (λ e. AreNodesRising e.payload) entries.now → All FitsEntry entries.now) }
 {
     for entry in entries {
         put_entry(out, entry)?;
@@ -70,15 +78,17 @@ fn put_all(out: &mut Vec<u8>, entries: &[WireEntry]) -> Result<(), AllocError>
 
 fn put_entries(out: &mut Vec<u8>, entries: &[WireEntry]) -> Result<(), AllocError>
     requires { are_entries_short entries.now ≡ true }
-    ensures { OnOk result (out.new.items ≡ out.old.items ++ spelled_list spelled_entry entries.now) }
+    ensures items { OnOk result (out.new.items ≡ out.old.items ++ spelled_list spelled_entry entries.now) }
+    ensures fits { OnOk result (All (λ e. AreNodesRising e.payload) entries.now → All FitsEntry entries.now) }
 {
     put_count(out, entries.len())?;
     put_all(out, entries)
 }
 
 fn put_append(out: &mut Vec<u8>, frame: &AppendFrame) -> Result<(), AllocError>
-    requires { are_entries_short frame.now.request.entries ≡ true }
-    ensures { OnOk result (out.new.items ≡ out.old.items ++ spelled_append frame.now) }
+    requires { fault_of_entries frame.now.request.entries ≡ None }
+    ensures items { OnOk result (out.new.items ≡ out.old.items ++ spelled_append frame.now) }
+    ensures fits { OnOk result (All (λ e. AreNodesRising e.payload) frame.now.request.entries → FitsAppend frame.now) }
 {
     put_vote(out, &frame.request.vote)?;
     put_id(out, frame.id)?;
@@ -88,7 +98,8 @@ fn put_append(out: &mut Vec<u8>, frame: &AppendFrame) -> Result<(), AllocError>
 }
 
 fn put_result(out: &mut Vec<u8>, outcome: &AppendResult) -> Result<(), AllocError>
-    ensures { OnOk result (out.new.items ≡ out.old.items ++ spelled_result outcome.now) }
+    ensures items { OnOk result (out.new.items ≡ out.old.items ++ spelled_result outcome.now) }
+    ensures fits { OnOk result (FitsResult outcome.now) }
 {
     match outcome {
         AppendResult::Success => Ok(out.push(0)?),
@@ -101,7 +112,8 @@ fn put_result(out: &mut Vec<u8>, outcome: &AppendResult) -> Result<(), AllocErro
 }
 
 fn put_append_reply(out: &mut Vec<u8>, reply: &AppendReplyFrame) -> Result<(), AllocError>
-    ensures { OnOk result (out.new.items ≡ out.old.items ++ spelled_append_reply reply.now) }
+    ensures items { OnOk result (out.new.items ≡ out.old.items ++ spelled_append_reply reply.now) }
+    ensures fits { OnOk result (FitsAppendReply reply.now) }
 {
     put_vote(out, &reply.vote)?;
     put_id(out, reply.id)?;
@@ -113,7 +125,8 @@ fn put_append_reply(out: &mut Vec<u8>, reply: &AppendReplyFrame) -> Result<(), A
 // ---- snapshots and their replies
 
 fn put_number(out: &mut Vec<u8>, id: u64) -> Result<(), AllocError>
-    ensures { OnOk result (out.new.items ≡ out.old.items ++ spelled_number id) }
+    ensures items { OnOk result (out.new.items ≡ out.old.items ++ spelled_number id) }
+    ensures fits { OnOk result (id < 2 ^ 64) }
 {
     out.push(1)?;
     put_u64(out, id)
@@ -124,7 +137,8 @@ fn put_logged(
     logged: &LoggedMembership<u64, BasicNode>,
 ) -> Result<(), AllocError>
     requires { is_within_limits logged.now.membership ≡ true }
-    ensures { OnOk result (out.new.items ≡ out.old.items ++ spelled_logged logged.now) }
+    ensures items { OnOk result (out.new.items ≡ out.old.items ++ spelled_logged logged.now) }
+    ensures fits { OnOk result (AreLoggedNodesRising logged.now → FitsLogged logged.now) }
 {
     put_log_id(out, &logged.log_id)?;
     put_membership(out, &logged.membership)
@@ -135,7 +149,8 @@ fn put_last_membership(
     logged: &Option<LoggedMembership<u64, BasicNode>>,
 ) -> Result<(), AllocError>
     requires { is_logged_short logged.now ≡ true }
-    ensures { OnOk result (out.new.items ≡ out.old.items ++ spelled_option spelled_logged logged.now) }
+    ensures items { OnOk result (out.new.items ≡ out.old.items ++ spelled_option spelled_logged logged.now) }
+    ensures fits { OnOk result (IfSome logged.now AreLoggedNodesRising → IfSome logged.now FitsLogged) }
 {
     match logged {
         None => Ok(out.push(0)?),
@@ -152,7 +167,8 @@ fn put_snapshot(
     bytes: &Bytes,
 ) -> Result<(), AllocError>
     requires { is_snapshot_short meta.now.last_membership bytes.now ≡ true }
-    ensures { OnOk result (out.new.items ≡ out.old.items ++ spelled_snapshot (meta.now, bytes.now)) }
+    ensures items { OnOk result (out.new.items ≡ out.old.items ++ spelled_snapshot (meta.now, bytes.now)) }
+    ensures fits { OnOk result (IfSome meta.now.last_membership AreLoggedNodesRising → FitsSnapshot (meta.now, bytes.now)) }
 {
     put_log_id(out, &meta.last_log_id)?;
     put_last_membership(out, &meta.last_membership)?;
@@ -161,7 +177,8 @@ fn put_snapshot(
 
 fn put_snapshot_frame(out: &mut Vec<u8>, frame: &SnapshotFrame) -> Result<(), AllocError>
     requires { is_snapshot_short frame.now.request.meta.last_membership frame.now.request.bytes ≡ true }
-    ensures { OnOk result (out.new.items ≡ out.old.items ++ spelled_snapshot_frame frame.now) }
+    ensures items { OnOk result (out.new.items ≡ out.old.items ++ spelled_snapshot_frame frame.now) }
+    ensures fits { OnOk result (IfSome frame.now.request.meta.last_membership AreLoggedNodesRising → FitsSnapshotFrame frame.now) }
 {
     put_vote(out, &frame.request.vote)?;
     put_number(out, frame.id)?;
@@ -169,7 +186,8 @@ fn put_snapshot_frame(out: &mut Vec<u8>, frame: &SnapshotFrame) -> Result<(), Al
 }
 
 fn put_snapshot_result(out: &mut Vec<u8>, outcome: &SnapshotResult) -> Result<(), AllocError>
-    ensures { OnOk result (out.new.items ≡ out.old.items ++ spelled_snapshot_result outcome.now) }
+    ensures items { OnOk result (out.new.items ≡ out.old.items ++ spelled_snapshot_result outcome.now) }
+    ensures fits { OnOk result (FitsSnapshotResult outcome.now) }
 {
     match outcome {
         SnapshotResult::Success => Ok(out.push(0)?),
@@ -185,7 +203,8 @@ fn put_behind_none(
     last: &Option<LogId<u64>>,
     outcome: &SnapshotResult,
 ) -> Result<(), AllocError>
-    ensures { OnOk result (out.new.items ≡ out.old.items ++ spelled_behind_none (last.now, outcome.now)) }
+    ensures items { OnOk result (out.new.items ≡ out.old.items ++ spelled_behind_none (last.now, outcome.now)) }
+    ensures fits { OnOk result (FitsLast last.now × FitsSnapshotResult outcome.now) }
 {
     out.push(0)?;
     put_last(out, last)?;
@@ -193,7 +212,8 @@ fn put_behind_none(
 }
 
 fn put_snapshot_reply(out: &mut Vec<u8>, reply: &SnapshotReplyFrame) -> Result<(), AllocError>
-    ensures { OnOk result (out.new.items ≡ out.old.items ++ spelled_snapshot_reply reply.now) }
+    ensures items { OnOk result (out.new.items ≡ out.old.items ++ spelled_snapshot_reply reply.now) }
+    ensures fits { OnOk result (FitsSnapshotReply reply.now) }
 {
     put_vote(out, &reply.vote)?;
     put_number(out, reply.id)?;
@@ -289,7 +309,8 @@ fn byte_of_kind(kind: FrameKind) -> u8
 
 fn put_body(out: &mut Vec<u8>, body: &FrameBody) -> Result<(), AllocError>
     requires { fault_of_frame body.now ≡ None }
-    ensures { OnOk result (out.new.items ≡ out.old.items ++ spelled_body body.now) }
+    ensures items { OnOk result (out.new.items ≡ out.old.items ++ spelled_body body.now) }
+    ensures fits { OnOk result (AreBodyNodesRising body.now → FitsBody body.now) }
 {
     match body {
         FrameBody::VoteRequest(request) => put_vote_request(out, request),
@@ -303,7 +324,8 @@ fn put_body(out: &mut Vec<u8>, body: &FrameBody) -> Result<(), AllocError>
 
 // The group, the sender and the addressee.
 fn put_parties(out: &mut Vec<u8>, frame: &Frame) -> Result<(), AllocError>
-    ensures { OnOk result (out.new.items ≡ out.old.items ++ spelled_parties frame.now) }
+    ensures items { OnOk result (out.new.items ≡ out.old.items ++ spelled_parties frame.now) }
+    ensures fits { OnOk result ((frame.now.group < 2 ^ 64) × (frame.now.sender < 2 ^ 64) × (frame.now.addressee < 2 ^ 64)) }
 {
     put_u64(out, frame.group)?;
     put_u64(out, frame.sender)?;
@@ -313,7 +335,8 @@ fn put_parties(out: &mut Vec<u8>, frame: &Frame) -> Result<(), AllocError>
 // A frame behind its length.
 fn put_rest(out: &mut Vec<u8>, frame: &Frame) -> Result<(), AllocError>
     requires { fault_of_frame frame.now.body ≡ None }
-    ensures { OnOk result (out.new.items ≡ out.old.items ++ spelled_rest frame.now) }
+    ensures items { OnOk result (out.new.items ≡ out.old.items ++ spelled_rest frame.now) }
+    ensures fits { OnOk result (AreBodyNodesRising frame.now.body → FitsFrame frame.now) }
 {
     out.push(byte_of_kind(frame.body.kind()))?;
     put_parties(out, frame)?;
@@ -333,7 +356,8 @@ fn set_length(bytes: &mut [u8])
 // The bytes of a frame that has a spelling.
 fn frame_bytes(alloc: Global, frame: &Frame) -> Result<Vec<u8>, AllocError>
     requires { fault_of_frame frame.now.body ≡ None }
-    ensures { IfOk result (λ v. v.items ≡ spelled_frame frame.now) }
+    ensures items { IfOk result (λ v. v.items ≡ spelled_frame frame.now) }
+    ensures fits { OnOk result (AreBodyNodesRising frame.now.body → FitsFrame frame.now) }
 {
     let mut out = Vec::new(alloc);
     out.extend_from_slice(&[0, 0, 0, 0])?;
@@ -346,7 +370,10 @@ fn frame_bytes(alloc: Global, frame: &Frame) -> Result<Vec<u8>, AllocError>
 /// past their limits (`TooLong`), then entries whose places don't follow one another (`NotRising`),
 /// and then want of memory (`Memory`).
 pub fn write_frame(alloc: Global, frame: &Frame) -> Result<Vec<u8>, FrameError>
-    ensures { Writes (fault_of_frame frame.now.body) (spelled_frame frame.now) result }
+    ensures written { Writes (fault_of_frame frame.now.body) (spelled_frame frame.now) result }
+    ensures fits { OnOk result (AreBodyNodesRising frame.now.body → FitsFrame frame.now) }
+    // What was written is read again as this frame, whatever follows it in a stream.
+    ensures found { IfOk result (λ v. AreBodyNodesRising frame.now.body → AreFoundAs v.items frame.now) }
 {
     if let Some(fault) = fault_of(&frame.body) {
         return Err(FrameError::Fault(fault));

@@ -1,12 +1,8 @@
-//! Worked streams, cut in every way.
-use crate::worked::{VOTE_FRAME, append_frame, append_reply, notice};
-use raft_wire::{Feeder, Frame, FrameBody, FrameError, FrameFault, write_frame};
+//! When streams are refused, and what follows.
+use crate::bytes::VOTE_FRAME;
+use raft_wire::{Feeder, Frame, FrameError, FrameFault};
 use std::alloc::Global;
 use std::test::Fail;
-
-fn is_vote(frame: &Frame) -> bool {
-    frame.group == 7 && matches!(frame.body, FrameBody::VoteRequest(_))
-}
 
 // The bytes one by one: nothing before the last, which answers this.
 fn last_answer(alloc: Global, bytes: &[u8]) -> Result<Result<Option<Frame>, FrameError>, Fail> {
@@ -19,37 +15,6 @@ fn last_answer(alloc: Global, bytes: &[u8]) -> Result<Result<Option<Frame>, Fram
         answer = feeder.feed(&[*byte]).frame;
     }
     Ok(answer)
-}
-
-#[test]
-fn each_cut_gives_the_vote(rt: HostRuntime) -> Result<(), Fail> {
-    for at in 0..71 {
-        let mut feeder = Feeder::new(rt.alloc());
-        let first = feeder.feed(&VOTE_FRAME[..at]);
-        assert_eq!(rt; first.used, at);
-        assert!(rt; matches!(first.frame, Ok(None)));
-        let second = feeder.feed(&VOTE_FRAME[at..]);
-        assert_eq!(rt; second.used, 71 - at);
-        let frame = second.frame.ok().flatten().ok_or("no frame")?;
-        assert!(rt; is_vote(&frame));
-    }
-    Ok(())
-}
-
-#[test]
-fn bytes_one_by_one_give_each_frame(rt: HostRuntime) -> Result<(), Fail> {
-    let alloc = rt.alloc();
-    let frames = [append_frame(alloc)?, append_reply(), notice(alloc, None)];
-    for frame in &frames {
-        let bytes = write_frame(alloc, frame).ok().ok_or("not written")?;
-        let read = last_answer(alloc, &bytes)?
-            .ok()
-            .flatten()
-            .ok_or("no frame")?;
-        let again = write_frame(alloc, &read).ok().ok_or("not written")?;
-        assert_eq!(rt; again.as_slice(), bytes.as_slice());
-    }
-    Ok(())
 }
 
 fn fault_of(answer: Result<Option<Frame>, FrameError>) -> Option<FrameFault> {

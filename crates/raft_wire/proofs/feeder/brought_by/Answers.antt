@@ -1,5 +1,5 @@
-use Rattle.std.proofs.Common.{◌≡◌, ◌≤◌, ◌<◌, ◌+◌, ◌-◌, ◌++◌, Some, None, Err, length, sym, ap, subst, ◌∙◌, arith, length-append, ℕ}
-use Rattle.raft_wire.specs.Stream.{Judged, length_in, fault_of_length, front}
+use Rattle.std.proofs.Common.{◌≡◌, ◌+◌, ◌-◌, ◌++◌, Some, Err, length, subst, arith, length-append, ℕ}
+use Rattle.raft_wire.specs.Stream.{length_in, fault_of_length, front}
 use Rattle.raft_wire.proofs.Streams.{held_short, front_none, front_fault, has_length}
 use Rattle.raft_wire.proofs.feeder.brought_by.Goals as goal
 

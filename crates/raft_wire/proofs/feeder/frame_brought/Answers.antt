@@ -1,4 +1,4 @@
-use Rattle.std.proofs.Common.{◌≡◌, ◌≤◌, ◌<◌, ◌+◌, ◌-◌, ◌++◌, length, take, arith, length-append}
+use Rattle.std.proofs.Common.{◌≡◌, ◌≤◌, ◌+◌, ◌-◌, ◌++◌, length, take, arith, length-append}
 use Rattle.std.proofs.lemmas.List.{length-take-le}
 use Rattle.raft_wire.proofs.Streams.{held_waits, front_waits, frame_brought}
 use Rattle.raft_wire.proofs.feeder.frame_brought.Goals as goal

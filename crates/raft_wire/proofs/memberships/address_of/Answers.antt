@@ -1,4 +1,3 @@
-use Rattle.std.proofs.Common.{◌≡◌, Ok, ap, ◌∙◌, sym}
 use Rattle.raft_wire.proofs.Texts.{address_found, address_refused}
 use Rattle.raft_wire.proofs.memberships.address_of.Goals as goal
 
