@@ -113,17 +113,22 @@ fn opened(files: &mut MemoryFileSystem, path: &str) -> Result<Fd, IoFault> {
 }
 
 fn created(files: &mut MemoryFileSystem, path: &str) -> Result<(), IoFault> {
-    if opened(files, path) == Err(IoFault::NotFound) {
-        files.create(path)?;
+    match files.open(path, Permission::ReadWrite) {
+        Err(IoFault::NotFound) => {
+            files.create(path)?;
+            Ok(())
+        }
+        Err(fault) => Err(fault),
+        Ok(_) => Ok(()),
     }
-    Ok(())
 }
 
 fn renamed(files: &mut MemoryFileSystem, from: &str, to: &str) -> Result<(), IoFault> {
-    if opened(files, to) == Err(IoFault::NotFound) {
-        files.rename(from, to)?;
+    match files.open(to, Permission::ReadWrite) {
+        Err(IoFault::NotFound) => files.rename(from, to),
+        Err(fault) => Err(fault),
+        Ok(_) => Ok(()),
     }
-    Ok(())
 }
 
 fn written(files: &mut MemoryFileSystem, path: &str, at: u64, bytes: &[u8]) -> Result<(), IoFault> {
