@@ -1,10 +1,9 @@
 -- Decimal digits and the numbers that they spell.
-use Rattle.std.proofs.Common.{◌≡◌, ℕ, zero, suc, ◌+◌, ◌-◌, ◌*◌, ◌/◌, ◌%◌, ◌^◌, ◌<◌, ◌≤◌, true, cond, nat_lt, Option, Some, None, List, [], ◌∷◌, ◌++◌, length, get_or, take, drop, fold, refl, sym, ap, ◌∙◌, arith, length-append}
+use Rattle.std.proofs.Common.{◌≡◌, ℕ, zero, suc, ◌+◌, ◌-◌, ◌*◌, ◌/◌, ◌%◌, ◌^◌, ◌<◌, ◌≤◌, true, cond, nat_lt, Option, Some, None, List, [], ◌∷◌, ◌++◌, length, get_or, take, drop, refl, sym, ap, ◌∙◌, arith, length-append}
 use Rattle.std.proofs.Math.Nat.{pow-suc}
 use Rattle.std.proofs.lemmas.Bool.{and_parts, lt-ltb}
 use Rattle.std.proofs.lemmas.Bool.Decides.{nat_tests}
-use Rattle.std.proofs.lemmas.List.{take_more, take_all, take-append-drop, length-take-le}
-use Rattle.std.proofs.lemmas.List.Sums.{fold_push, fold-append}
+use Rattle.std.proofs.lemmas.List.{take_all, take-append-drop, length-take-le}
 use Rattle.std.proofs.lemmas.List.Folds.{list_all-append, list_all_more}
 use Rattle.std.specs.List.{list_all}
 use Rattle.std.proofs.Math.Seq.{take-append_seam, drop-append_seam}
