@@ -70,6 +70,7 @@ impl<T: Drop> From<AllocFailed<T>> for Fault {
     }
 }
 
+/// The run, in order.
 pub const STEPS: [Step; 35] = [
     Step::MakeDir("raft"),
     Step::Create("raft/a"),
