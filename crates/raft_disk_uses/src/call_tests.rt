@@ -1,8 +1,10 @@
 //! Runs of the calls with values from outside.
 
 use crate::test_files::{NOTES, made, put, put_behind, whole};
+use raft_log_disk::number::{are_digits, digits_value, is_digit_byte};
 use raft_log_disk::{
-    CrashChoice, CrashFiles, FileSystem, HeaderFault, IoFault, LogFileFormat, MemoryFileSystem,
+    CrashChoice, CrashFiles, Fd, FileSystem, HeaderFault, IoFault, LogFileFormat, MemoryFileSystem,
+    Permission,
 };
 use raft_log_records::Version;
 use std::test::Fail;
@@ -59,6 +61,73 @@ fn files_are_listed_moved_and_deleted(rt: HostRuntime) -> Result<(), Fail> {
     assert_eq!(rt; files.file_size(first), Err(IoFault::NotFound));
     assert_eq!(rt; files.delete("raft/a"), Err(IoFault::NotFound));
     Ok(())
+}
+
+/// Gives the notes a path that no file has, and opens them under it: three changing calls.
+fn reused(files: &mut MemoryFileSystem, to: &str) -> Result<Fd, IoFault> {
+    match files.open(to, Permission::ReadOnly) {
+        Err(IoFault::NotFound) => files.reuse_and_open(NOTES, to),
+        opened => opened,
+    }
+}
+
+#[test]
+fn a_file_is_reused_under_another_name(rt: HostRuntime) -> Result<(), Fail> {
+    let alloc = rt.alloc();
+    // The second call renames, the third one opens.
+    for (first_refused, old, new) in [(2u64, true, false), (3, false, true), (4, false, true)] {
+        let mut files = MemoryFileSystem::new(alloc);
+        let fd = made(&mut files, NOTES)?;
+        files.fuse(Some(first_refused));
+        let told = reused(&mut files, "raft/new");
+        let wanted = if first_refused == 4 {
+            Ok(fd)
+        } else {
+            Err(IoFault::Refused)
+        };
+        assert_eq!(rt; told, wanted);
+        files.fuse(None);
+        assert_eq!(rt; files.open(NOTES, Permission::ReadOnly).is_ok(), old);
+        assert_eq!(rt; files.open("raft/new", Permission::ReadOnly).is_ok(), new);
+    }
+    Ok(())
+}
+
+#[test]
+fn a_reuse_is_a_rename_and_nothing_lies_beside_a_file(rt: HostRuntime) -> Result<(), Fail> {
+    let alloc = rt.alloc();
+    let mut files = MemoryFileSystem::new(alloc);
+    let fd = made(&mut files, NOTES)?;
+    if files.open("raft/new", Permission::ReadOnly) == Err(IoFault::NotFound) {
+        files.reuse(NOTES, "raft/new")?;
+    }
+    assert_eq!(rt; files.open("raft/new", Permission::ReadOnly), Ok(fd));
+    assert!(rt; !files.exists_metadata("raft/new"));
+    files.fuse(Some(1));
+    assert_eq!(rt; files.delete_metadata("raft/new"), Ok(()));
+    assert_eq!(rt; files.delete("raft/new"), Err(IoFault::Refused));
+    Ok(())
+}
+
+#[test]
+fn digits(rt: HostRuntime) {
+    for (text, value) in [
+        ("", Some(0)),
+        ("0042", Some(42)),
+        ("18446744073709551615", Some(u64::MAX)),
+        ("18446744073709551616", None),
+        ("99999999999999999999", None),
+    ] {
+        let bytes = text.as_bytes();
+        assert!(rt; are_digits(bytes), "{text}");
+        if are_digits(bytes) {
+            assert_eq!(rt; digits_value(bytes), value, "{text}");
+        }
+    }
+    assert!(rt; !are_digits(b"+1"));
+    assert!(rt; !are_digits(b"1/"));
+    assert!(rt; is_digit_byte(b'9'));
+    assert!(rt; !is_digit_byte(b':'));
 }
 
 #[test]

@@ -115,11 +115,11 @@ fn a_rename_keeps_the_images(rt: HostRuntime) -> Result<(), Fail> {
 }
 
 /// Two files and their bytes.
-fn pair(alloc: Global, one: &str, other: &str) -> Result<CrashChoice, AllocError> {
+fn pair(alloc: Global, one: (&str, &str), other: (&str, &str)) -> Result<CrashChoice, AllocError> {
     let mut all = Vec::new(alloc);
-    for (path, bytes) in [(one, b"a"), (other, b"b")] {
+    for (path, bytes) in [one, other] {
         let path = String::from_str(alloc, path)?;
-        let bytes = Vec::from_slice(alloc, bytes.as_slice())?;
+        let bytes = Vec::from_slice(alloc, bytes.as_bytes())?;
         all.push(FileBytes { path, bytes })?;
     }
     Ok(CrashChoice::Bytes(all))
@@ -138,9 +138,40 @@ fn an_image_names_each_file_once(rt: HostRuntime) -> Result<(), Fail> {
         (NOTES, "raft/third", Err(CrashRefusal::NotAnImage)),
         ("raft/other", NOTES, Err(CrashRefusal::NotAnImage)),
     ] {
-        let choice = pair(alloc, one, other)?;
+        let choice = pair(alloc, (one, "a"), (other, "b"))?;
         assert_eq!(rt; files.may_crash(&choice), wanted);
         assert_eq!(rt; files.crash(&choice), wanted);
+    }
+    Ok(())
+}
+
+/// How many of some texts a crash may leave of the second file, where it leaves this one of the
+/// first.
+fn count_beside(files: &MemoryFileSystem, alloc: Global, first: &str) -> Result<u32, AllocError> {
+    let mut count: u32 = 0;
+    for second in ["", "a", "b", "c", "ab", "bb"] {
+        let choice = pair(alloc, (NOTES, first), ("raft/other", second))?;
+        if files.may_crash(&choice) == Ok(()) {
+            count = count.saturating_add(1);
+        }
+    }
+    Ok(count)
+}
+
+#[test]
+fn each_file_is_left_by_its_own_changes(rt: HostRuntime) -> Result<(), Fail> {
+    let alloc = rt.alloc();
+    let (mut files, fd) = synced(alloc, b"a")?;
+    let other = made(&mut files, "raft/other")?;
+    put(&mut files, other, 0, b"b")?;
+    files.sync(other)?;
+    put(&mut files, fd, 1, b"b")?;
+    files.truncate(other, 0)?;
+    for first in ["a", "aa", "ab", "ac"] {
+        assert_eq!(rt; count_beside(&files, alloc, first)?, 4, "{first}");
+    }
+    for first in ["", "b", "c", "ba", "bb", "abc"] {
+        assert_eq!(rt; count_beside(&files, alloc, first)?, 0, "{first}");
     }
     Ok(())
 }

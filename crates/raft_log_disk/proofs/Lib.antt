@@ -2,7 +2,9 @@ pub mod ByteLemmas
 pub mod CauseLemmas
 pub mod ChanceLemmas
 pub mod CrashLemmas
+pub mod DigitLemmas
 pub mod FilesLemmas
+pub mod HeaderLemmas
 pub mod LawLemmas
 pub mod MemoryLemmas
 pub mod NameLemmas

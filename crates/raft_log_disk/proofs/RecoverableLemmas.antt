@@ -8,12 +8,12 @@ use Rattle.raft_log_disk.specs.Image.{IsOutside, IsFileImage, IsRecoverable}
 
 -- ---- bytes
 
-bytes_taken : (n : ℕ) (xs : List ℕ) → AreBytes xs → AreBytes (take n xs)
+pub bytes_taken : (n : ℕ) (xs : List ℕ) → AreBytes xs → AreBytes (take n xs)
 bytes_taken zero xs h = tt
 bytes_taken (suc n) [] h = tt
 bytes_taken (suc n) (x ∷ xs) h = (h.0, bytes_taken n xs h.1)
 
-bytes_dropped : (n : ℕ) (xs : List ℕ) → AreBytes xs → AreBytes (drop n xs)
+pub bytes_dropped : (n : ℕ) (xs : List ℕ) → AreBytes xs → AreBytes (drop n xs)
 bytes_dropped zero xs h = h
 bytes_dropped (suc n) [] h = tt
 bytes_dropped (suc n) (x ∷ xs) h = bytes_dropped n xs h.1

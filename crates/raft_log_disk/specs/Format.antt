@@ -1,5 +1,5 @@
 -- The header of a log file: a fixed text, the version, and under version 2 the alignment.
-use Rattle.std.specs.Prelude.{◌≡◌, ℕ, ◌+◌, Bool, not, nat_lt, List, [], ◌∷◌, ◌++◌, length, take, drop, Result, Ok, Err, ◌==◌, if◌then◌else◌}
+use Rattle.std.specs.Prelude.{◌≡◌, ℕ, ◌+◌, ◌^◌, ◌<◌, Bool, not, nat_lt, List, [], ◌∷◌, ◌++◌, length, take, drop, Result, Ok, Err, ◌==◌, if◌then◌else◌}
 use Rattle.std.specs.Int.{w64, from_be_bytes, to_be_bytes}
 use Rattle.raft_log_records.specs.declared.version.Version.{Version}
 use Rattle.raft_log_records.specs.declared.version.Version.TheVariants.{V1, V2}
@@ -21,6 +21,10 @@ header_len V2 = 69
 -- the bytes of a header
 abbrev pub spelled_header : LogFileFormat → Text
 spelled_header f = magic ++ (elim f.version [ V1 ↦ to_be_bytes w64 1 | V2 ↦ to_be_bytes w64 2 ++ to_be_bytes w64 f.alignment ])
+
+-- a format that a header can say: version 1 has no alignment
+abbrev pub IsSpellable : LogFileFormat → Type 0
+IsSpellable f = (f.alignment < 2 ^ 64) × (f.version ≡ V1 → f.alignment ≡ 0)
 
 -- what a version and what follows it say
 abbrev pub versioned : ℕ → Text → Result LogFileFormat HeaderFault

@@ -1,8 +1,10 @@
 //! Laws of every file system, and of every disk.
 
-ghost use Rattle.std.specs.Prelude.{◌≡◌, ℕ};
+ghost use Rattle.std.specs.Prelude.{◌≡◌, ◌++◌, ℕ, List, Ok, take};
 ghost use Rattle.raft_log_disk.specs.declared.crash.CrashChoice.TheVariants.{Least, Most};
-ghost use Rattle.raft_log_disk.specs.Disk.{Disk, IsNamed, IsNoFile, with_file, after_sync};
+ghost use Rattle.raft_log_disk.specs.declared.format.LogFileFormat.{LogFileFormat};
+ghost use Rattle.raft_log_disk.specs.Disk.{Disk, AreBytes, IsNamed, IsNoFile, with_file, after_sync};
+ghost use Rattle.raft_log_disk.specs.Format.{IsSpellable, header_at, header_len, spelled_header};
 ghost use Rattle.raft_log_disk.specs.Image.{Image, IsImage, IsImageOf};
 
 use crate::FileSystem;
@@ -21,4 +23,12 @@ pub fn least_and_most_are_images<F: FileSystem>(files: &F)
 pub fn synced_file_is_left_as_read()
     ensures { (d : Disk) (fd : ℕ) (image : Image) → (IsNoFile d fd → ⊥) →
         IsImage (with_file d fd (after_sync (d.file fd))) image → image fd ≡ (d.file fd).bytes }
+{}
+
+/// A header that was written is read as it was, whatever follows, and a header that is read is
+/// spelled so.
+pub fn headers_are_read_as_written()
+    ensures written { (f : LogFileFormat) (rest : List ℕ) → IsSpellable f → header_at (spelled_header f ++ rest) ≡ Ok f }
+    ensures read { (bytes : List ℕ) (f : LogFileFormat) → AreBytes bytes → header_at bytes ≡ Ok f → take (header_len f.version) bytes ≡ spelled_header f }
+    ensures spellable { (bytes : List ℕ) (f : LogFileFormat) → AreBytes bytes → header_at bytes ≡ Ok f → IsSpellable f }
 {}

@@ -15,12 +15,15 @@ mod memory_calls;
 mod memory_crash;
 mod memory_file;
 mod name;
+pub mod number;
 mod space;
 mod system;
 
 pub use crash::{CrashChoice, CrashFiles, CrashRefusal, FileBytes};
 pub use fault::{Fd, IoFault, Permission};
 pub use format::{HeaderFault, LogFileFormat};
-pub use laws::{least_and_most_are_images, synced_file_is_left_as_read};
+pub use laws::{
+    headers_are_read_as_written, least_and_most_are_images, synced_file_is_left_as_read,
+};
 pub use memory::MemoryFileSystem;
 pub use system::FileSystem;

@@ -16,6 +16,8 @@ impl FileSystem for MemoryFileSystem {
 
     ghost room = { room_in };
 
+    ghost has_metadata = { λ _ _. ⊥ };
+
     ghost is_named = { memory_is_named };
 
     ghost has_images = { memory_images };

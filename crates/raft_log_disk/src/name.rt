@@ -4,24 +4,22 @@ ghost use Rattle.std.specs.Prelude.{◌≡◌, ◌≤◌, length, Option, Some, 
 ghost use Rattle.std.specs.List.{list_all};
 ghost use Rattle.raft_log_disk.specs.Name.{is_digit, value_of, queued, file_id_of, log_file_of};
 
+use crate::number;
 use raft_log_records::{FileId, LogQueue};
 
-/// The number that digits spell, if they are digits.
-fn digits_value(text: &[u8]) -> Option<u64>
+/// The number that sixteen digits at most spell, if they are digits.
+fn short_value(text: &[u8]) -> Option<u64>
     requires { length text.now ≤ 16 }
     ensures { result ≡ (if list_all is_digit text.now then Some (value_of text.now) else None) }
 {
-    let mut value: u64 = 0;
-    for b in text {
-        if *b < b'0' || *b > b'9' {
-            return None;
-        }
-        value = value * 10 + u64::from(*b - b'0');
+    if number::are_digits(text) {
+        number::digits_value(text)
+    } else {
+        None
     }
-    Some(value)
 }
 
-fn with_suffix(suffix: &[u8], seq: u64) -> Option<FileId>
+fn queued(suffix: &[u8], seq: u64) -> Option<FileId>
     ensures { result ≡ queued suffix.now seq }
 {
     if suffix == b".raftlog".as_slice() {
@@ -40,8 +38,8 @@ pub fn id_of(name: &[u8]) -> Option<FileId>
     if name.len() != 24 {
         return None;
     }
-    let seq = digits_value(&name[..16])?;
-    with_suffix(&name[16..], seq)
+    let seq = short_value(&name[..16])?;
+    queued(&name[16..], seq)
 }
 
 /// The log file of a path.

@@ -28,6 +28,9 @@ pub trait FileSystem: Send + Sync {
     /// The free bytes of a directory.
     ghost room: { Self → List ℕ → ℕ };
 
+    /// That something is kept beside the file of a path.
+    ghost has_metadata: { Self → List ℕ → Type 0 };
+
     /// Makes an empty file, and opens it for writing. `NotFound`: its directory was not made.
     fn create(&mut self, path: &str) -> Result<Fd, IoFault>
         requires { fd_of (disk self.old).names path.now ≡ None }
@@ -92,6 +95,7 @@ pub trait FileSystem: Send + Sync {
     /// default there is nothing.
     fn delete_metadata(&mut self, path: &str) -> Result<(), IoFault>
         ensures kept { disk self.new ≡ disk self.old }
+        ensures fewer { (other : List ℕ) → has_metadata self.new other → has_metadata self.old other }
         ensures cause { HasCause ⊥ ⊥ (meter self.old) (meter self.new) result }
     {
         let _ = path;
@@ -145,9 +149,11 @@ pub trait FileSystem: Send + Sync {
         ensures cause { HasCause (IsNoFile (disk self.old) fd.0) ⊥ (meter self.old) (meter self.new) result }
         ensures call { IsOneCall (meter self.old) (meter self.new) result };
 
-    /// Whether something is kept beside the file of a path: the file system's own word, by
-    /// default no.
-    fn exists_metadata(&self, path: &str) -> bool {
+    /// Whether something is kept beside the file of a path: told only where it is so, by default
+    /// never.
+    fn exists_metadata(&self, path: &str) -> bool
+        ensures { IsTrue result → has_metadata self.now path.now }
+    {
         let _ = path;
         false
     }

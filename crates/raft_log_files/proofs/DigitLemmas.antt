@@ -1,19 +1,16 @@
 -- Decimal digits and the numbers that they spell.
-use Rattle.std.proofs.Common.{◌≡◌, ℕ, zero, suc, ◌+◌, ◌-◌, ◌*◌, ◌/◌, ◌%◌, ◌^◌, ◌<◌, ◌≤◌, true, cond, nat_lt, Option, Some, None, List, [], ◌∷◌, ◌++◌, length, get_or, take, drop, fold, refl, sym, ap, ◌∙◌, arith, length-append}
+use Rattle.std.proofs.Common.{◌≡◌, ℕ, zero, suc, ◌+◌, ◌-◌, ◌*◌, ◌/◌, ◌%◌, ◌^◌, ◌<◌, ◌≤◌, true, cond, nat_lt, Option, Some, None, List, [], ◌∷◌, ◌++◌, length, get_or, take, drop, refl, sym, ap, ◌∙◌, arith, length-append}
 use Rattle.std.proofs.Math.Nat.{pow-suc}
 use Rattle.std.proofs.lemmas.Bool.{and_parts, lt-ltb}
 use Rattle.std.proofs.lemmas.Bool.Decides.{nat_tests}
-use Rattle.std.proofs.lemmas.List.{take_more, take_all, take-append-drop, length-take-le}
-use Rattle.std.proofs.lemmas.List.Sums.{fold_push, fold-append}
+use Rattle.std.proofs.lemmas.List.{take_all, take-append-drop, length-take-le}
 use Rattle.std.proofs.lemmas.List.Folds.{list_all-append, list_all_more}
 use Rattle.std.specs.List.{list_all}
 use Rattle.std.proofs.Math.Seq.{take-append_seam, drop-append_seam}
 use Rattle.raft_log_disk.specs.Name.{digits, is_digit, value_of, file_name, suffix_of}
+use Rattle.raft_log_disk.proofs.DigitLemmas.{value_of-last, split_last, last_is_digit, value_of-lt}
 use Rattle.raft_log_records.specs.declared.file_id.FileId.{FileId}
 use Rattle.raft_log_files.specs.FileName.{suffixed}
-
-pub value_of-last : (text : List ℕ) (c : ℕ) → value_of (text ++ c ∷ []) ≡ value_of text * 10 + (c - 48)
-value_of-last text c = fold_push (λ n b. n * 10 + (b - 48)) 0 text c
 
 pub length-digits : (k n : ℕ) → length (digits k n) ≡ k
 length-digits zero n = refl
@@ -34,24 +31,6 @@ value_of-digits (suc k) n h =
     let front : value_of (digits k (n / 10)) ≡ n / 10 = value_of-digits k (n / 10) (omega arith) in
     omega (arith, value_of-last (digits k (n / 10)) (48 + n % 10), front)
 
--- a list of some length is its front and its last
-split_last : (k : ℕ) (text : List ℕ) → length text ≡ suc k → text ≡ take k text ++ get_or text k 0 ∷ []
-split_last k text h = sym (take_all (k + 1) text (omega arith)) ∙ take_more text k 0 (omega arith)
-
-last_is_digit : (c : ℕ) → is_digit c ≡ true → (47 < c) × (c < 58)
-last_is_digit c h = grind (arith, nat_tests)
-
--- a value never falls as digits go on
-value_on : (n : ℕ) (text : List ℕ) → n ≤ fold (λ n b. n * 10 + (b - 48)) n text
-value_on n [] = omega arith
-value_on n (c ∷ text) = omega (arith, value_on (n * 10 + (c - 48)) text)
-
-pub value_of-take-le : (text : List ℕ) (i : ℕ) → value_of (take i text) ≤ value_of text
-value_of-take-le text i =
-    let whole : value_of text ≡ fold (λ n b. n * 10 + (b - 48)) (value_of (take i text)) (drop i text) =
-    ap value_of (sym (take-append-drop i text)) ∙ fold-append (λ n b. n * 10 + (b - 48)) 0 (take i text) (drop i text) in
-    omega (arith, whole, value_on (value_of (take i text)) (drop i text))
-
 -- so many digits are those of their value
 pub digits-value_of : (k : ℕ) (text : List ℕ) → length text ≡ k → list_all is_digit text ≡ true → digits k (value_of text) ≡ text
 digits-value_of zero [] h d = refl
@@ -66,20 +45,6 @@ digits-value_of (suc k) text h d =
     let front : value_of text / 10 ≡ value_of (take k text) = omega arith in
     let last : 48 + value_of text % 10 ≡ c = omega arith in
     rw (front, last, digits-value_of k (take k text) (omega (arith, length-take-le k text (omega arith))) tests.0) (sym parts)
-
--- digits spell less than the next power of ten
-pub value_of-lt : (k : ℕ) (text : List ℕ) → length text ≡ k → list_all is_digit text ≡ true → value_of text < 10 ^ k
-value_of-lt zero [] h d = omega arith
-value_of-lt zero (c ∷ text) h d = absurd (omega arith)
-value_of-lt (suc k) text h d =
-    let c : ℕ = get_or text k 0 in
-    let parts : text ≡ take k text ++ c ∷ [] = split_last k text h in
-    let tests = and_parts (list_all is_digit (take k text)) (is_digit c)
-    (sym (list_all_more is_digit text k 0 (omega arith)) ∙ ap (list_all is_digit) (take_all (k + 1) text (omega arith)) ∙ d) in
-    let digit = last_is_digit c tests.1 in
-    let value : value_of text ≡ value_of (take k text) * 10 + (c - 48) = ap value_of parts ∙ value_of-last (take k text) c in
-    let below = value_of-lt k (take k text) (omega (arith, length-take-le k text (omega arith))) tests.0 in
-    omega (arith, pow-suc 10 k)
 
 -- ---- names
 

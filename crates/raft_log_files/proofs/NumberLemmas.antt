@@ -1,18 +1,15 @@
 -- Sizes and the texts that say them.
-use Rattle.std.proofs.Common.{◌≡◌, ℕ, suc, ◌+◌, ◌-◌, ◌*◌, ◌^◌, ◌<◌, ◌≤◌, Bool, true, false, cond, eqb, nat_lt, List, [], ◌∷◌, ◌++◌, length, take, drop, fold, Some, None, get_or, refl, sym, ap, ◌∙◌, rules, arith}
-use Rattle.std.proofs.lemmas.Bool.{and_parts, ne_eqb, lt-ltb, le-ltb}
+use Rattle.std.proofs.Common.{◌≡◌, ℕ, suc, ◌+◌, ◌-◌, ◌*◌, ◌^◌, ◌<◌, Bool, true, false, cond, eqb, List, [], ◌∷◌, ◌++◌, length, take, drop, fold, Some, None, refl, ◌∙◌, rules, arith}
+use Rattle.std.proofs.lemmas.Bool.{and_parts, ne_eqb}
 use Rattle.std.proofs.lemmas.Bool.Decides.{nat_tests}
 use Rattle.std.proofs.lemmas.Fmt.{digits_decimal, digits_value-decimal, decimal_nonempty}
 use Rattle.std.proofs.lemmas.Str.Parse.{IsNumeralModel, numerals_by_fold}
 use Rattle.std.proofs.Math.Seq.{take-append_seam, drop-append_seam}
 use Rattle.std.proofs.Math.Nat.{mul-one}
-use Rattle.std.proofs.lemmas.List.{take_all}
-use Rattle.std.proofs.lemmas.List.Sums.{fold_more}
 use Rattle.std.specs.Fmt.{decimal}
 use Rattle.std.specs.List.{list_all, prefix_len}
 use Rattle.raft_log_records.specs.declared.size.ReadableSize.{ReadableSize}
 use Rattle.raft_log_disk.specs.Name.{is_digit, value_of}
-use Rattle.raft_log_files.proofs.DigitLemmas.{value_of-take-le}
 use Rattle.raft_log_files.specs.Size.{size_below_end, sized, size_said, size_text, unit_bytes, after_spaces}
 
 take-one-more : (n x : ℕ) (xs : List ℕ) → take (1 + n) (x ∷ xs) ≡ x ∷ take n xs
@@ -56,18 +53,3 @@ digits_said text n some all value fits =
 pub size_said-text : (size : ReadableSize) → size.0 < 2 ^ 64 → size_said (size_text size) ≡ Some size
 size_said-text size fits =
     digits_said (decimal size.0) size.0 (decimal_nonempty size.0 fits) (digits_decimal own size.0 fits) (digits_value-decimal own size.0 fits) fits
-
--- ---- numbers past the end of their type
-
-pub too_large : (text : List ℕ) (i : ℕ) → i < length text → 2 ^ 64 ≤ value_of (take i text) * 10 + (get_or text i 0 - 48)
-    → None ≡ cond (nat_lt (value_of text) (2 ^ 64)) (Some (value_of text)) None
-too_large text i within large =
-    let more : value_of (take (i + 1) text) ≡ value_of (take i text) * 10 + (get_or text i 0 - 48) = fold_more (λ n b. n * 10 + (b - 48)) 0 text i 0 within in
-    let above : 2 ^ 64 ≤ value_of text = omega (arith, more, value_of-take-le text (i + 1)) in
-    rw (le-ltb (value_of text) (2 ^ 64) above)
-
-pub whole_value : (text : List ℕ) (v i : ℕ) → length text ≤ i → v ≡ value_of (take i text) → v < 2 ^ 64
-    → Some v ≡ cond (nat_lt (value_of text) (2 ^ 64)) (Some (value_of text)) None
-whole_value text v i past is fits =
-    let whole : value_of text ≡ v = ap value_of (sym (take_all i text past)) ∙ sym is in
-    rw (whole, lt-ltb v (2 ^ 64) fits)

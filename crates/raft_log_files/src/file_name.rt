@@ -4,6 +4,7 @@ ghost use Rattle.std.specs.Prelude.{◌≡◌, ◌≢◌, ◌<◌, ◌^◌, ◌+
 ghost use Rattle.raft_log_files.specs.FileName.{suffixed, reserved_name, IsFileSeq};
 
 use crate::number;
+use raft_log_disk::number::{are_digits, digits_value};
 use raft_log_records::{FileId, FileSeq, LogQueue};
 use std::alloc::{AllocError, Global};
 
@@ -43,10 +44,10 @@ fn seq_before(name: &str, suffix: &str) -> Option<FileSeq>
         return None;
     }
     let (front, behind) = bytes.split_at(LOG_SEQ_WIDTH);
-    if behind != suffix.as_bytes() || !number::are_digits(front) {
+    if behind != suffix.as_bytes() || !are_digits(front) {
         return None;
     }
-    number::digits_value(front)
+    digits_value(front)
 }
 
 fn with_suffix(alloc: Global, seq: FileSeq, suffix: &str) -> Result<String, AllocError>

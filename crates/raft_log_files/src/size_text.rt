@@ -5,6 +5,7 @@ ghost use Rattle.std.specs.List.{prefix_len};
 ghost use Rattle.raft_log_files.specs.Size.{letter_bytes, ends_unit, unit_bytes, is_space, size_of, size_said, size_text};
 
 use crate::number;
+use raft_log_disk::number::digits_value;
 use raft_log_records::ReadableSize;
 use std::alloc::{AllocError, Global};
 
@@ -72,7 +73,7 @@ pub fn parse_size(text: &[u8]) -> Option<ReadableSize>
     }
     let (_, unit) = behind.split_at(spaces_len(behind));
     let unit = bytes_of_unit(unit)?;
-    let count = number::digits_value(digits)?;
+    let count = digits_value(digits)?;
     Some(ReadableSize(count.checked_mul(unit)?))
 }
 

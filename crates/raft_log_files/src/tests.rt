@@ -1,10 +1,12 @@
 //! What no clause says: texts, and each public function once where all goes well.
 
 use super::{
-    ArgumentFault, Config, Error, FileNameExt, IoFault, OtherFault, RecoveryMode,
-    build_reserved_file_name, is_file_seq, parse_reserved_file_name,
+    ArgumentFault, Config, CorruptionFault, Error, FileNameExt, HeaderFault, IoFault,
+    LogFileFormat, OtherFault, RecoveryMode, build_reserved_file_name, is_file_seq,
+    parse_reserved_file_name,
 };
 use raft_log_records::{FileId, LogQueue, ReadableSize, Version};
+use std::alloc::Global;
 use std::test::Fail;
 
 #[test]
@@ -134,6 +136,65 @@ fn settings_of_a_text(rt: HostRuntime) -> Result<(), Fail> {
             .contains("target-file-size = \"134217728B\"")
     );
     assert!(rt; !written.as_str().contains("spill-dir"));
+    Ok(())
+}
+
+/// The target size that a size text gives.
+fn target_size(alloc: Global, size: &str) -> Result<ReadableSize, Error> {
+    let text = format!(in alloc; "target-file-size = \"{size}\"\n")?;
+    let config = Config::from_toml(alloc, text.as_str())?;
+    Ok(config.target_file_size)
+}
+
+#[test]
+fn size_texts(rt: HostRuntime) -> Result<(), Fail> {
+    for (size, bytes) in [
+        ("128MiB", 134_217_728),
+        ("128M", 134_217_728),
+        ("128 MB", 134_217_728),
+        ("4096", 4096),
+        ("0B", 0),
+        ("3   KiB", 3072),
+        ("16383P", 18_445_618_173_802_708_992),
+        ("18446744073709551615", u64::MAX),
+    ] {
+        let read = target_size(rt.alloc(), size);
+        assert!(rt; read == Ok(ReadableSize(bytes)), "{size}");
+    }
+    for size in [
+        "",
+        "MB",
+        "+1",
+        "-1",
+        "1.5MB",
+        "1e3",
+        "1mb",
+        "1MiB ",
+        " 1MB",
+        "1 MBB",
+        "1KKB",
+        "16384P",
+        "18446744073709551616",
+        "184467440737095516160",
+    ] {
+        let read = target_size(rt.alloc(), size);
+        let bad = Error::InvalidArgument(ArgumentFault::BadSetting);
+        assert!(rt; read == Err(bad), "{size}");
+    }
+    Ok(())
+}
+
+#[test]
+fn a_header_of_another_version_is_corruption(rt: HostRuntime) -> Result<(), Fail> {
+    let mut header = LogFileFormat::new(Version::V2, 4096).encode(rt.alloc())?;
+    header[60] = 4;
+    let Err(fault) = LogFileFormat::decode(&header) else {
+        return Err(Fail::from("a header"));
+    };
+    let error = Error::from(fault);
+    let wanted = CorruptionFault::Header(HeaderFault::BadVersion);
+    assert_eq!(rt; error, Error::Corruption(wanted));
+    assert_eq!(rt; error.number(), 2);
     Ok(())
 }
 

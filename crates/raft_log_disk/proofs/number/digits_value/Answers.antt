@@ -1,6 +1,6 @@
 use Rattle.std.proofs.Common.{◌<◌, ◌*◌, ◌+◌, ◌^◌, ◌∙◌, arith}
-use Rattle.raft_log_files.proofs.NumberLemmas.{too_large, whole_value}
-use Rattle.raft_log_files.proofs.number.digits_value.Goals as goal
+use Rattle.raft_log_disk.proofs.DigitLemmas.{too_large, whole_value}
+use Rattle.raft_log_disk.proofs.number.digits_value.Goals as goal
 
 pub returns-in_err-checked_mul : goal.returns-in_err-checked_mul
 returns-in_err-checked_mul c =

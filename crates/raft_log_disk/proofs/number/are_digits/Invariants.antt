@@ -1,7 +1,7 @@
 use Rattle.std.proofs.Common.{◌≡◌, true, take}
 use Rattle.std.specs.List.{list_all}
 use Rattle.raft_log_disk.specs.Name.{is_digit}
-use Rattle.raft_log_files.proofs.number.are_digits.Given as goal
+use Rattle.raft_log_disk.proofs.number.are_digits.Given as goal
 
 abbrev pub invariant-loop-byte : goal.invariant-loop-byte
 invariant-loop-byte l = list_all is_digit (take l.byte-index l.text) ≡ true
