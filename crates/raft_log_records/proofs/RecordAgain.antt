@@ -1,11 +1,11 @@
 -- A record that is spelled is read again, whatever follows it.
-use Rattle.std.proofs.Common.{◌≡◌, ◌≢◌, ◌⊎◌, inl, inr, ℕ, zero, suc, ◌+◌, ◌-◌, ◌^◌, ◌<◌, ◌≤◌, ◌/◌, ◌%◌, Bool, true, false, not, cond, ltb, eqb, List, [], ◌∷◌, ◌++◌, length, get_or, map, take, drop, Option, Some, None, Result, Ok, Err, refl, sym, ap, subst, ◌∙◌, append_assoc, arith, length-append}
-use Rattle.std.specs.Prelude.{◌||◌, IfSome, bit_xor, fold}
-use Rattle.std.specs.List.{list_any, AllByRecursion, flat_map}
+use Rattle.std.proofs.Common.{◌≡◌, ◌⊎◌, inl, inr, ℕ, suc, ◌+◌, ◌-◌, ◌^◌, ◌<◌, ◌≤◌, ◌/◌, ◌%◌, Bool, true, false, not, cond, ltb, eqb, List, [], ◌∷◌, ◌++◌, length, take, drop, Option, Some, None, Result, Ok, Err, refl, sym, ap, subst, ◌∙◌, append_assoc, arith, length-append}
+use Rattle.std.specs.Prelude.{◌||◌, IfSome, fold}
+use Rattle.std.specs.List.{list_any, flat_map}
 use Rattle.std.specs.Int.{w32, w64, from_be_bytes, to_be_bytes}
 use Rattle.std.proofs.lemmas.Bool.{cases_eq, eq-eqb, ne_eqb, le-ltb}
 use Rattle.std.proofs.lemmas.Nat.{from_be_bytes-to_be_bytes_4, xor_of_32}
-use Rattle.std.proofs.lemmas.List.{take_at, drop_at, append-nil}
+use Rattle.std.proofs.lemmas.List.{take_at, drop_at}
 use Rattle.std.proofs.lemmas.List.Concat.{flat_map-cons}
 use Rattle.raft_log_records.specs.declared.error.RecordFault.{RecordFault}
 use Rattle.raft_log_records.specs.declared.error.RecordFault.TheVariants as fault
@@ -14,9 +14,9 @@ use Rattle.raft_log_records.specs.declared.error.RecordError.TheVariants as erro
 use Rattle.raft_log_records.specs.declared.record.Record.{Record}
 use Rattle.raft_log_records.specs.declared.item.EntryIndex.{EntryIndex}
 use Rattle.raft_log_records.specs.Checksum.{shifted, after_byte, crc32_of}
-use Rattle.raft_log_records.specs.Item.{Item, items_of, item_map, with_bytes}
-use Rattle.raft_log_records.specs.Spelling.{holds_entries, block_of, block_part, signed, sealed, lengths, spell_block, spell_item, spell_items, spell_change, spell_parts, spell_record, record_len, IsItem, AreItems}
-use Rattle.raft_log_records.specs.Reading.{◌>>=◌, Gives, Finds, number_at, unsealed, header_at, block_at, body_at, agrees, record_at}
+use Rattle.raft_log_records.specs.Item.{Item, items_of, with_bytes}
+use Rattle.raft_log_records.specs.Spelling.{holds_entries, block_of, block_part, signed, sealed, lengths, spell_block, spell_item, spell_items, spell_change, spell_record, record_len, AreItems}
+use Rattle.raft_log_records.specs.Reading.{Gives, Finds, number_at, unsealed, header_at, block_at, agrees, record_at}
 use Rattle.raft_log_records.proofs.Fields.{IsBytes, IsBytes-take, IsBytes-drop, wide32, number_again}
 use Rattle.raft_log_records.proofs.Again.{placed, placed_end, body_again}
 use Rattle.raft_log_records.proofs.Placed.{placed_end_is, placed_held, none_block, placed_bytes}

@@ -1,6 +1,6 @@
 -- A batch, as its callers see it.
-use Rattle.std.specs.Prelude.{◌≡◌, ◌<◌, ◌≤◌, ◌+◌, ◌^◌, ℕ, Bool, true, false, List, [], ◌∷◌, ◌++◌, length, map, take, Option, Some}
-use Rattle.std.specs.Prelude.{None, Result, Ok, Err, All, if◌then◌else◌}
+use Rattle.std.specs.Prelude.{◌≡◌, ◌<◌, ◌≤◌, ◌+◌, ℕ, Bool, List, [], ◌∷◌, ◌++◌, length, map, take, Option}
+use Rattle.std.specs.Prelude.{None, Result, Ok, Err}
 use Rattle.std.specs.Prelude.{Vec}
 use Rattle.std.specs.declared.alloc.Global.{Global}
 use Rattle.std.specs.List.{flat_map, AllByRecursion, list_any}
@@ -9,7 +9,7 @@ use Rattle.raft_log_records.specs.declared.error.RecordError.TheVariants as erro
 use Rattle.raft_log_records.specs.declared.item.EntryIndex.{EntryIndex}
 use Rattle.raft_log_records.specs.declared.item.LogItem.{LogItem}
 use Rattle.raft_log_records.specs.Item.Change.{entries}
-use Rattle.raft_log_records.specs.Item.{Change, Item, place, item_of, items_of, with_bytes, with_lengths}
+use Rattle.raft_log_records.specs.Item.{Item, place, item_of, items_of, with_lengths}
 use Rattle.raft_log_records.specs.Spelling.{IsItem, FitsBytes, entries_of, holds_entries, block_part, spell_item, spell_record, record_len, AreItems}
 
 -- whether it is open, or written as a record that is signed so
