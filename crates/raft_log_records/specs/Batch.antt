@@ -1,5 +1,5 @@
 -- A batch, as its callers see it.
-use Rattle.std.specs.Prelude.{◌≡◌, ◌<◌, ◌≤◌, ◌+◌, ℕ, Bool, List, [], ◌∷◌, ◌++◌, length, map, take, Option}
+use Rattle.std.specs.Prelude.{◌≡◌, ◌≢◌, ◌<◌, ◌≤◌, ◌+◌, ℕ, Bool, List, [], ◌∷◌, ◌++◌, length, map, take, Option}
 use Rattle.std.specs.Prelude.{None, Result, Ok, Err}
 use Rattle.std.specs.Prelude.{Vec}
 use Rattle.std.specs.declared.alloc.Global.{Global}
@@ -137,3 +137,16 @@ pub record IsRecordAt (signature : Option ℕ) (bytes : List ℕ) (items : List 
   pub spelled : take len bytes ≡ spell_record signature items
   pub whole : len ≡ record_len items
   pub within : len ≤ length bytes
+
+-- the record of these items at the front of some bytes, but for one byte behind its first eight
+pub record IsRecordChanged (signature : Option ℕ) (items : List (Item (List ℕ))) (bytes : List ℕ) : Type 0 where
+  pub front : List ℕ
+  pub byte : ℕ
+  pub other : ℕ
+  pub back : List ℕ
+  pub rest : List ℕ
+  pub spelled : spell_record signature items ≡ front ++ byte ∷ back
+  pub behind : 8 ≤ length front
+  pub is_byte : byte < 256
+  pub changed : other ≢ byte
+  pub bytes_are : bytes ≡ (front ++ other ∷ back) ++ rest

@@ -76,7 +76,10 @@ impl GlobalStats {
     pub fn rewrite_entries(&self) -> u64
         ensures { result ≡ (counts_in self.now).rewritten }
     {
-        let GlobalStats { rewrite_entries, .. } = *self;
+        let GlobalStats {
+            rewrite_entries,
+            ..
+        } = *self;
         rewrite_entries
     }
 
@@ -85,7 +88,10 @@ impl GlobalStats {
     pub fn deleted_rewrite_entries(&self) -> u64
         ensures { result ≡ (counts_in self.now).deleted }
     {
-        let GlobalStats { deleted_rewrite_entries, .. } = *self;
+        let GlobalStats {
+            deleted_rewrite_entries,
+            ..
+        } = *self;
         deleted_rewrite_entries
     }
 
