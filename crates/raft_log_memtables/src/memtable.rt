@@ -9,7 +9,7 @@ ghost use Rattle.raft_log_records.specs.Reading.{indexed};
 ghost use Rattle.raft_log_records.specs.Spelling.{first_index};
 ghost use Rattle.raft_log_memtables.specs.Content.{after_change, reach_after, takes_from};
 ghost use Rattle.raft_log_memtables.specs.Entries.{IsFirst, IsLast};
-ghost use Rattle.raft_log_memtables.specs.Taken.{HasWithin, NoneWithin};
+ghost use Rattle.raft_log_memtables.specs.Taken.{HasWithin, NoneWithin, TakesFrom};
 ghost use Rattle.raft_log_memtables.specs.MemTable.{table_content, group_in, reached_in};
 ghost use Rattle.raft_log_memtables.specs.MemTable.{only_there, placed_change, is_clean_of};
 
@@ -187,8 +187,11 @@ impl MemTable {
     /// end, and where there are no entries they begin anywhere.
     #[tactic(auto, unfolding(crate::specs::MemTable::group_in))]
     pub fn takes(&self, first: u64) -> bool
-        ensures { (low high : Option ℕ) → IsFirst (group_in self.now).entry low → IsLast (group_in self.now).entry high
+        ensures ends { (low high : Option ℕ) → IsFirst (group_in self.now).entry low → IsLast (group_in self.now).entry high
             → result ≡ takes_from low high first }
+        // The same as a batch that begins with such entries is judged by.
+        ensures yes { OnTrue result (TakesFrom (group_in self.now).entry first) }
+        ensures no { OnFalse result (TakesFrom (group_in self.now).entry first → ⊥) }
     {
         match (self.first_index(), self.last_index()) {
             (Some(low), Some(high)) => low <= first && (first == 0 || first - 1 <= high),

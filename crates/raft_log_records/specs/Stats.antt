@@ -13,7 +13,7 @@ pub record Counts : Type 0 where
   pub deleted : ℕ
 
 unfoldable pub counts_in : GlobalStats → Counts
-counts_in stats = record { appended = stats.live_append_entries; rewritten = stats.rewrite_entries; deleted = stats.deleted_rewrite_entries }
+counts_in stats = record { appended = stats.appended; rewritten = stats.rewritten; deleted = stats.deleted }
 
 abbrev pub no_counts : Counts
 no_counts = record { appended = 0; rewritten = 0; deleted = 0 }

@@ -10,9 +10,12 @@ use crate::file_id::LogQueue;
 /// 2^64 - 1.
 #[derive(Clone, Copy, Debug, PartialEq, Eq)]
 pub struct GlobalStats {
-    live_append_entries: u64,
-    rewrite_entries: u64,
-    deleted_rewrite_entries: u64,
+    /// Those of the append queue that are needed.
+    appended: u64,
+    /// Those written to the rewrite queue since its counters began.
+    rewritten: u64,
+    /// Those of them that are no longer needed.
+    deleted: u64,
 }
 
 impl GlobalStats {
@@ -22,9 +25,9 @@ impl GlobalStats {
         ensures { counts_in result ≡ no_counts }
     {
         GlobalStats {
-            live_append_entries: 0,
-            rewrite_entries: 0,
-            deleted_rewrite_entries: 0,
+            appended: 0,
+            rewritten: 0,
+            deleted: 0,
         }
     }
 
@@ -35,10 +38,10 @@ impl GlobalStats {
     {
         match queue {
             LogQueue::Append => {
-                self.live_append_entries = self.live_append_entries.saturating_add(count);
+                self.appended = self.appended.saturating_add(count);
             }
             LogQueue::Rewrite => {
-                self.rewrite_entries = self.rewrite_entries.saturating_add(count);
+                self.rewritten = self.rewritten.saturating_add(count);
             }
         }
     }
@@ -50,10 +53,10 @@ impl GlobalStats {
     {
         match queue {
             LogQueue::Append => {
-                self.live_append_entries = self.live_append_entries.saturating_sub(count);
+                self.appended = self.appended.saturating_sub(count);
             }
             LogQueue::Rewrite => {
-                self.deleted_rewrite_entries = self.deleted_rewrite_entries.saturating_add(count);
+                self.deleted = self.deleted.saturating_add(count);
             }
         }
     }
@@ -64,10 +67,8 @@ impl GlobalStats {
         ensures { result ≡ live_in queue (counts_in self.now) }
     {
         match queue {
-            LogQueue::Append => self.live_append_entries,
-            LogQueue::Rewrite => self
-                .rewrite_entries
-                .saturating_sub(self.deleted_rewrite_entries),
+            LogQueue::Append => self.appended,
+            LogQueue::Rewrite => self.rewritten.saturating_sub(self.deleted),
         }
     }
 
@@ -76,11 +77,8 @@ impl GlobalStats {
     pub fn rewrite_entries(&self) -> u64
         ensures { result ≡ (counts_in self.now).rewritten }
     {
-        let GlobalStats {
-            rewrite_entries,
-            ..
-        } = *self;
-        rewrite_entries
+        let GlobalStats { rewritten, .. } = *self;
+        rewritten
     }
 
     /// Those of them that are no longer needed.
@@ -88,11 +86,8 @@ impl GlobalStats {
     pub fn deleted_rewrite_entries(&self) -> u64
         ensures { result ≡ (counts_in self.now).deleted }
     {
-        let GlobalStats {
-            deleted_rewrite_entries,
-            ..
-        } = *self;
-        deleted_rewrite_entries
+        let GlobalStats { deleted, .. } = *self;
+        deleted
     }
 
     /// Lets the counters of the rewrite queue begin again.
@@ -100,7 +95,7 @@ impl GlobalStats {
     pub fn reset_rewrite_counters(&mut self)
         ensures { counts_in self.new ≡ begun_again (counts_in self.old) }
     {
-        self.rewrite_entries = 0;
-        self.deleted_rewrite_entries = 0;
+        self.rewritten = 0;
+        self.deleted = 0;
     }
 }
