@@ -90,8 +90,10 @@ impl MemTables {
         first: u64,
         last: Option<u64>,
     ) -> bool
-        ensures yes { OnTrue result (HasWithin (after_batch (items_of items.now) (content_in self.now) raft_group_id).entry first last) }
-        ensures no { OnFalse result (NoneWithin (after_batch (items_of items.now) (content_in self.now) raft_group_id).entry first last) }
+        ensures yes { OnTrue result (HasWithin
+            (after_batch (items_of items.now) (content_in self.now) raft_group_id).entry first last) }
+        ensures no { OnFalse result (NoneWithin
+            (after_batch (items_of items.now) (content_in self.now) raft_group_id).entry first last) }
     {
         let mut rest = items;
         let mut bounds = (first, last);
@@ -110,8 +112,10 @@ impl MemTables {
 
     /// Whether entries may begin at this index after some items.
     fn takes_from(&self, items: &[LogItem], raft_group_id: u64, index: u64) -> bool
-        ensures yes { OnTrue result (TakesFrom (after_batch (items_of items.now) (content_in self.now) raft_group_id).entry index) }
-        ensures no { OnFalse result (TakesFrom (after_batch (items_of items.now) (content_in self.now) raft_group_id).entry index → ⊥) }
+        ensures yes { OnTrue result (TakesFrom
+            (after_batch (items_of items.now) (content_in self.now) raft_group_id).entry index) }
+        ensures no { OnFalse result (TakesFrom
+            (after_batch (items_of items.now) (content_in self.now) raft_group_id).entry index → ⊥) }
     {
         !self.has_within(items, raft_group_id, 0, None)
             || (self.has_within(items, raft_group_id, 0, Some(index))
@@ -120,8 +124,10 @@ impl MemTables {
 
     /// Whether an item is taken after some items.
     fn takes_item(&self, items: &[LogItem], item: &LogItem) -> bool
-        ensures yes { OnTrue result (Takes (change_of item.now.content) (after_batch (items_of items.now) (content_in self.now) item.now.raft_group_id)) }
-        ensures no { OnFalse result (Takes (change_of item.now.content) (after_batch (items_of items.now) (content_in self.now) item.now.raft_group_id) → ⊥) }
+        ensures yes { OnTrue result (Takes (change_of item.now.content)
+            (after_batch (items_of items.now) (content_in self.now) item.now.raft_group_id)) }
+        ensures no { OnFalse result (Takes (change_of item.now.content)
+            (after_batch (items_of items.now) (content_in self.now) item.now.raft_group_id) → ⊥) }
     {
         match &item.content {
             LogItemContent::EntryIndexes(run) => {
