@@ -4,7 +4,7 @@ use Rattle.std.proofs.lemmas.Bool.{eq-eqb}
 use Rattle.raft_log_records.specs.declared.item.AtomicGroupStatus.TheVariants.{Begin, Middle, End}
 use Rattle.raft_log_records.specs.declared.item.AtomicGroupStatus.{AtomicGroupStatus}
 use Rattle.raft_log_records.specs.declared.item.EntryIndex.{EntryIndex}
-use Rattle.raft_log_records.specs.Item.{Change, Item, change_map, item_map}
+use Rattle.raft_log_records.specs.Item.{Change, Item, change_map}
 use Rattle.raft_log_records.specs.Item.Change.{entries, clean, compact, put, delete, mark}
 use Rattle.raft_log_records.specs.declared.file_id.FileBlockHandle.{FileBlockHandle}
 use Rattle.raft_log_memtables.specs.Content.{Content, nothing, after_batch, after_item, reach_after_batch, reach_after_item}

@@ -7,3 +7,5 @@ pub mod Replay
 pub mod Records
 pub mod Recovery
 pub mod Laws
+pub mod Taken
+pub mod Search

@@ -1,6 +1,6 @@
 -- Records of log files, replayed in their order: those of an atomic group count together or not at all.
 -- E stands for an entry, and S for what the records are replayed into, by a step for the items of a batch.
-use Rattle.std.specs.Prelude.{ℕ, Bool, nat_eq, if◌then◌else◌, List, [], ◌∷◌, ◌++◌, Option, Some, None}
+use Rattle.std.specs.Prelude.{ℕ, nat_eq, if◌then◌else◌, List, [], ◌∷◌, ◌++◌, Option, Some, None}
 use Rattle.raft_log_records.specs.Item.{Change, Item}
 use Rattle.raft_log_records.specs.Item.Change.{entries, clean, compact, put, delete, mark}
 use Rattle.raft_log_records.specs.declared.item.AtomicGroupStatus.{AtomicGroupStatus}

@@ -10,6 +10,7 @@ ghost use Rattle.raft_log_memtables.specs.Content.{entry_at, reach_of};
 ghost use Rattle.raft_log_memtables.specs.Entries.{entry_of, placed_in, placed_pairs, IsFirst};
 ghost use Rattle.raft_log_memtables.specs.Entries.{IsLast, HasFrom, NoneFrom, HasBefore};
 ghost use Rattle.raft_log_memtables.specs.Entries.{NoneBefore, or_else};
+ghost use Rattle.raft_log_memtables.specs.Taken.{within, HasWithin, NoneWithin};
 
 use raft_log_records::{EntryIndex, FileBlockHandle};
 use std::alloc::AllocError;
@@ -56,6 +57,27 @@ fn has_before(entries: &EntryMap, limit: u64) -> bool
 {
     match first_of(entries) {
         Some(first) => first < limit,
+        None => false,
+    }
+}
+
+/// Whether an index lies between two others, of which the last may be left out.
+pub fn is_within(index: u64, first: u64, last: Option<u64>) -> bool
+    ensures { result ≡ within first last index }
+{
+    match last {
+        Some(last) => first <= index && index <= last,
+        None => first <= index,
+    }
+}
+
+/// Whether an entry is there between two indexes.
+pub fn has_within(entries: &EntryMap, first: u64, last: Option<u64>) -> bool
+    ensures yes { OnTrue result (HasWithin (entry_of entries.now) first last) }
+    ensures no { OnFalse result (NoneWithin (entry_of entries.now) first last) }
+{
+    match entries.range(first..).next() {
+        Some((index, _)) => is_within(*index, first, last),
         None => false,
     }
 }

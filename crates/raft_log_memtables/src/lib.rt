@@ -7,6 +7,7 @@ mod laws;
 mod memtable;
 mod memtables;
 mod replay;
+mod taken;
 
 pub use laws::atomic_groups_count_together;
 pub use memtable::MemTable;

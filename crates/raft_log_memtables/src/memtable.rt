@@ -1,6 +1,7 @@
 //! What the log engine has of one group.
 
 ghost use Rattle.std.specs.Prelude.{◌≡◌, ℕ, Option, None, false, OnOk};
+ghost use Rattle.std.specs.Bool.{OnTrue, OnFalse};
 ghost use Rattle.std.specs.Option.{option_copied};
 ghost use Rattle.raft_log_records.specs.Item.{change_of};
 ghost use Rattle.raft_log_records.specs.Item.Change.{entries, compact, put, delete};
@@ -8,10 +9,13 @@ ghost use Rattle.raft_log_records.specs.Reading.{indexed};
 ghost use Rattle.raft_log_records.specs.Spelling.{first_index};
 ghost use Rattle.raft_log_memtables.specs.Content.{after_change, reach_after, takes_from};
 ghost use Rattle.raft_log_memtables.specs.Entries.{IsFirst, IsLast};
+ghost use Rattle.raft_log_memtables.specs.Taken.{HasWithin, NoneWithin, TakesFrom};
 ghost use Rattle.raft_log_memtables.specs.MemTable.{table_content, group_in, reached_in};
 ghost use Rattle.raft_log_memtables.specs.MemTable.{only_there, placed_change, is_clean_of};
 
-use crate::entries::{EntryMap, add_placed, cut_before, cut_from, first_of, last_of, reach};
+use crate::entries::{
+    EntryMap, add_placed, cut_before, cut_from, first_of, has_within, last_of, reach,
+};
 use raft_log_records::{Command, EntryIndex, FileBlockHandle, LogItemContent};
 use std::alloc::{AllocError, Global};
 use std::collections::BTreeMap;
@@ -27,7 +31,7 @@ pub struct MemTable {
 }
 
 /// The index of the first entry.
-fn first_index_of(entries: &[EntryIndex]) -> u64
+pub(crate) fn first_index_of(entries: &[EntryIndex]) -> u64
     ensures { result ≡ first_index (indexed entries.now) }
 {
     match entries {
@@ -144,6 +148,15 @@ impl MemTable {
         }
     }
 
+    /// Whether an entry is there between two indexes.
+    #[tactic(auto, unfolding(crate::specs::MemTable::group_in))]
+    pub(crate) fn has_within(&self, first: u64, last: Option<u64>) -> bool
+        ensures yes { OnTrue result (HasWithin (group_in self.now).entry first last) }
+        ensures no { OnFalse result (NoneWithin (group_in self.now).entry first last) }
+    {
+        has_within(&self.entries, first, last)
+    }
+
     /// The index of the first entry, if there is one.
     #[tactic(auto, unfolding(crate::specs::MemTable::group_in))]
     pub fn first_index(&self) -> Option<u64>
@@ -166,15 +179,19 @@ impl MemTable {
     pub fn reached(&self) -> Option<u64>
         ensures { result ≡ reached_in self.now }
     {
-        self.reached
+        let MemTable { reached, .. } = self;
+        *reached
     }
 
     /// Whether a batch may add entries from an index on (own): they begin inside the list or at its
     /// end, and where there are no entries they begin anywhere.
     #[tactic(auto, unfolding(crate::specs::MemTable::group_in))]
     pub fn takes(&self, first: u64) -> bool
-        ensures { (low high : Option ℕ) → IsFirst (group_in self.now).entry low → IsLast (group_in self.now).entry high
+        ensures ends { (low high : Option ℕ) → IsFirst (group_in self.now).entry low → IsLast (group_in self.now).entry high
             → result ≡ takes_from low high first }
+        // The same as a batch that begins with such entries is judged by.
+        ensures yes { OnTrue result (TakesFrom (group_in self.now).entry first) }
+        ensures no { OnFalse result (TakesFrom (group_in self.now).entry first → ⊥) }
     {
         match (self.first_index(), self.last_index()) {
             (Some(low), Some(high)) => low <= first && (first == 0 || first - 1 <= high),

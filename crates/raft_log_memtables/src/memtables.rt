@@ -2,6 +2,7 @@
 
 ghost use Rattle.std.specs.Prelude.{◌≡◌, ℕ, Option, Some, None, IsSome, false, nat_eq};
 ghost use Rattle.std.specs.Prelude.{if◌then◌else◌, OnOk, MatchOption};
+ghost use Rattle.std.specs.Bool.{OnTrue, OnFalse};
 ghost use Rattle.std.specs.Option.{option_copied};
 ghost use Rattle.std.specs.BTreeMap.{get};
 ghost use Rattle.std.specs.Ordering.{nat_cmp};
@@ -14,6 +15,7 @@ ghost use Rattle.raft_log_memtables.specs.MemTable.{group_in, batch_items, place
 ghost use Rattle.raft_log_memtables.specs.MemTable.{is_clean_of, is_mark_of};
 ghost use Rattle.raft_log_memtables.specs.Tables.{table_at, reach_at, IsMade, IsChanged};
 ghost use Rattle.raft_log_memtables.specs.MemTables.{content_in, reach_in};
+ghost use Rattle.raft_log_memtables.specs.Taken.{HasWithin, NoneWithin};
 
 use crate::memtable::MemTable;
 use raft_log_records::{
@@ -100,6 +102,7 @@ pub struct MemTables {
 }
 
 impl MemTables {
+    /// No group is there yet.
     #[tactic(auto, unfolding(crate::specs::MemTables::content_in, crate::specs::MemTables::reach_in))]
     pub fn new(alloc: Global) -> MemTables
         ensures content { content_in result ≡ nothing }
@@ -160,6 +163,17 @@ impl MemTables {
         match self.get_table(raft_group_id) {
             None => None,
             Some(table) => table.get(key),
+        }
+    }
+
+    /// Whether a group has an entry between two indexes.
+    pub(crate) fn holds_within(&self, raft_group_id: u64, first: u64, last: Option<u64>) -> bool
+        ensures yes { OnTrue result (HasWithin (content_in self.now raft_group_id).entry first last) }
+        ensures no { OnFalse result (NoneWithin (content_in self.now raft_group_id).entry first last) }
+    {
+        match self.get_table(raft_group_id) {
+            None => false,
+            Some(table) => table.has_within(first, last),
         }
     }
 

@@ -168,7 +168,8 @@ impl MemTableRecoverContext {
         ensures content { content_in result ≡ (replay_in self).state }
         ensures reach { reach_in result ≡ (reach_replay_in self).state }
     {
-        self.memtables
+        let MemTableRecoverContext { memtables, .. } = self;
+        memtables
     }
 }
 

@@ -1,5 +1,5 @@
 -- What is spelled is read again, whatever follows it.
-use Rattle.std.proofs.Common.{◌≡◌, ◌≢◌, ℕ, zero, suc, ◌+◌, ◌-◌, ◌^◌, ◌<◌, ◌≤◌, Bool, true, false, not, cond, ltb, eqb, List, [], ◌∷◌, ◌++◌, length, map, take, drop, Option, Some, None, Result, Ok, Err, refl, sym, ap, subst, ◌∙◌, append_assoc, arith, length-append}
+use Rattle.std.proofs.Common.{◌≡◌, ℕ, suc, ◌+◌, ◌-◌, ◌^◌, ◌<◌, ◌≤◌, true, false, not, cond, ltb, eqb, List, [], ◌∷◌, ◌++◌, length, map, Result, Ok, Err, refl, sym, ap, ◌∙◌, append_assoc, arith}
 use Rattle.std.specs.List.{flat_map, AllByRecursion}
 use Rattle.std.specs.Int.{w32, w64, to_be_bytes}
 use Rattle.std.proofs.lemmas.Bool.{le-ltb, ne_eqb, eq-eqb}
@@ -12,8 +12,8 @@ use Rattle.raft_log_records.specs.declared.item.AtomicGroupStatus.{AtomicGroupSt
 use Rattle.raft_log_records.specs.declared.item.AtomicGroupStatus.TheVariants.{Begin, Middle, End}
 use Rattle.raft_log_records.specs.Item.{Change, Item, place, change_map, item_map}
 use Rattle.raft_log_records.specs.Item.Change.{entries, clean, compact, put, delete, mark}
-use Rattle.raft_log_records.specs.Spelling.{spell_string, spell_entry, spell_change, spell_item, spell_items, status_byte, IsConsecutive, IsKey, IsChange, IsItem, first_index, lengths}
-use Rattle.raft_log_records.specs.Reading.{◌>>=◌, number_at, string_at, key_at, status_at, entry_at, entries_at, run_at, indexed, change_behind, change_at, item_at, items_at, body_at}
+use Rattle.raft_log_records.specs.Spelling.{spell_string, spell_entry, spell_change, spell_item, spell_items, status_byte, IsConsecutive, IsChange, IsItem, first_index, lengths}
+use Rattle.raft_log_records.specs.Reading.{◌>>=◌, number_at, status_at, entry_at, entries_at, run_at, indexed, change_behind, change_at, item_at, items_at, body_at}
 use Rattle.raft_log_records.specs.Batch.{runs}
 use Rattle.raft_log_records.proofs.Fields.{wide32, wide64, number_again, string_again, key_again}
 

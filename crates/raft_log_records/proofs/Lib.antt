@@ -16,3 +16,5 @@ pub mod RecordAgain
 pub mod Joined
 pub mod Runs
 pub mod Messages
+pub mod Changed
+pub mod RecordChanged

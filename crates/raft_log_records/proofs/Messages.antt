@@ -1,5 +1,5 @@
 -- Messages that are written into a block, one after the other.
-use Rattle.std.proofs.Common.{◌≡◌, ℕ, suc, ◌+◌, ◌-◌, ◌*◌, ◌<◌, ◌≤◌, Bool, List, [], ◌∷◌, ◌++◌, length, get_or, map, take, drop, refl, sym, ap, subst, ◌∙◌, append_assoc, append-nil, add-one, arith, length-append}
+use Rattle.std.proofs.Common.{◌≡◌, ℕ, suc, ◌+◌, ◌-◌, ◌*◌, ◌<◌, ◌≤◌, Bool, List, [], ◌∷◌, ◌++◌, length, get_or, map, take, drop, sym, ap, subst, ◌∙◌, append_assoc, append-nil, add-one, arith, length-append}
 use Rattle.std.proofs.Math.Seq.{take-suc, drop-cons}
 use Rattle.std.proofs.lemmas.List.{map_push, take-map, take-append-drop, take-append-le, take_all}
 use Rattle.std.proofs.lemmas.Grind.{flat_map-append}
@@ -9,7 +9,7 @@ use Rattle.raft_log_records.specs.declared.error.RecordError.TheVariants as erro
 use Rattle.raft_log_records.specs.declared.item.EntryIndex.{EntryIndex}
 use Rattle.raft_log_records.specs.declared.item.LogItem.{LogItem}
 use Rattle.raft_log_records.specs.Item.{Item, place, items_of, with_bytes}
-use Rattle.raft_log_records.specs.Spelling.{block_of, record_len}
+use Rattle.raft_log_records.specs.Spelling.{record_len}
 use Rattle.raft_log_records.specs.Batch.{Batch, IsSound, IsWriteRefusal, LogsWritten, joined, numbered, runs, run_of}
 use Rattle.raft_log_records.proofs.Laid.{block_is}
 use Rattle.raft_log_records.proofs.Runs.{record_len_run}

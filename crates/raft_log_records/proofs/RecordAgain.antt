@@ -1,11 +1,11 @@
 -- A record that is spelled is read again, whatever follows it.
-use Rattle.std.proofs.Common.{◌≡◌, ◌≢◌, ◌⊎◌, inl, inr, ℕ, zero, suc, ◌+◌, ◌-◌, ◌^◌, ◌<◌, ◌≤◌, ◌/◌, ◌%◌, Bool, true, false, not, cond, ltb, eqb, List, [], ◌∷◌, ◌++◌, length, get_or, map, take, drop, Option, Some, None, Result, Ok, Err, refl, sym, ap, subst, ◌∙◌, append_assoc, arith, length-append}
-use Rattle.std.specs.Prelude.{◌||◌, IfSome, bit_xor, fold}
-use Rattle.std.specs.List.{list_any, AllByRecursion, flat_map}
+use Rattle.std.proofs.Common.{◌≡◌, ◌⊎◌, inl, inr, ℕ, suc, ◌+◌, ◌-◌, ◌^◌, ◌<◌, ◌≤◌, ◌/◌, ◌%◌, Bool, true, false, not, cond, ltb, eqb, List, [], ◌∷◌, ◌++◌, length, take, drop, Option, Some, None, Result, Ok, Err, refl, sym, ap, subst, ◌∙◌, append_assoc, arith, length-append}
+use Rattle.std.specs.Prelude.{◌||◌, IfSome, fold}
+use Rattle.std.specs.List.{list_any, flat_map}
 use Rattle.std.specs.Int.{w32, w64, from_be_bytes, to_be_bytes}
 use Rattle.std.proofs.lemmas.Bool.{cases_eq, eq-eqb, ne_eqb, le-ltb}
 use Rattle.std.proofs.lemmas.Nat.{from_be_bytes-to_be_bytes_4, xor_of_32}
-use Rattle.std.proofs.lemmas.List.{take_at, drop_at, append-nil}
+use Rattle.std.proofs.lemmas.List.{take_at, drop_at}
 use Rattle.std.proofs.lemmas.List.Concat.{flat_map-cons}
 use Rattle.raft_log_records.specs.declared.error.RecordFault.{RecordFault}
 use Rattle.raft_log_records.specs.declared.error.RecordFault.TheVariants as fault
@@ -14,9 +14,9 @@ use Rattle.raft_log_records.specs.declared.error.RecordError.TheVariants as erro
 use Rattle.raft_log_records.specs.declared.record.Record.{Record}
 use Rattle.raft_log_records.specs.declared.item.EntryIndex.{EntryIndex}
 use Rattle.raft_log_records.specs.Checksum.{shifted, after_byte, crc32_of}
-use Rattle.raft_log_records.specs.Item.{Item, items_of, item_map, with_bytes}
-use Rattle.raft_log_records.specs.Spelling.{holds_entries, block_of, block_part, signed, sealed, lengths, spell_block, spell_item, spell_items, spell_change, spell_parts, spell_record, record_len, IsItem, AreItems}
-use Rattle.raft_log_records.specs.Reading.{◌>>=◌, Gives, Finds, number_at, unsealed, header_at, block_at, body_at, agrees, record_at}
+use Rattle.raft_log_records.specs.Item.{Item, items_of, with_bytes}
+use Rattle.raft_log_records.specs.Spelling.{holds_entries, block_of, block_part, signed, sealed, lengths, spell_block, spell_item, spell_items, spell_change, spell_record, record_len, AreItems}
+use Rattle.raft_log_records.specs.Reading.{Gives, Finds, number_at, unsealed, header_at, block_at, agrees, record_at}
 use Rattle.raft_log_records.proofs.Fields.{IsBytes, IsBytes-take, IsBytes-drop, wide32, number_again}
 use Rattle.raft_log_records.proofs.Again.{placed, placed_end, body_again}
 use Rattle.raft_log_records.proofs.Placed.{placed_end_is, placed_held, none_block, placed_bytes}
@@ -45,11 +45,11 @@ pub crc_fits : (bytes : List ℕ) → IsBytes bytes → crc32_of bytes < 2 ^ 32
 unfolding crc32_of
 crc_fits bytes h = xor_of_32 _ _ (folds_fit bytes 4294967295 h (omega arith)) (omega arith)
 
-signed_fits : (signature : Option ℕ) (sum : ℕ) → IfSome signature (λ s. s < 2 ^ 32) → sum < 2 ^ 32 → signed signature sum < 2 ^ 32
+pub signed_fits : (signature : Option ℕ) (sum : ℕ) → IfSome signature (λ s. s < 2 ^ 32) → sum < 2 ^ 32 → signed signature sum < 2 ^ 32
 signed_fits None sum h k = k
 signed_fits (Some s) sum h k = xor_of_32 sum s k h
 
-unsealed_again : (wrong : RecordFault) (signature : Option ℕ) (body : List ℕ) → IfSome signature (λ s. s < 2 ^ 32) → IsBytes body → unsealed wrong signature (sealed signature body) ≡ Ok body
+pub unsealed_again : (wrong : RecordFault) (signature : Option ℕ) (body : List ℕ) → IfSome signature (λ s. s < 2 ^ 32) → IsBytes body → unsealed wrong signature (sealed signature body) ≡ Ok body
 unfolding unsealed
 unsealed_again wrong signature body h fits = with_sum (to_be_bytes w32 sum) refl (from_be_bytes-to_be_bytes_4 sum (signed_fits signature (crc32_of body) h (crc_fits body fits)))
   where
@@ -67,10 +67,10 @@ unsealed_again wrong signature body h fits = with_sum (to_be_bytes w32 sum) refl
 
 -- ---- the parts of a record and what follows it
 
-abbrev head_of : ℕ → ℕ → List ℕ
+abbrev pub head_of : ℕ → ℕ → List ℕ
 head_of len offset = to_be_bytes w32 len ++ to_be_bytes w32 offset
 
-five : (a b c d rest : List ℕ) → (a ++ (b ++ (c ++ d))) ++ rest ≡ (a ++ b) ++ (c ++ (d ++ rest))
+pub five : (a b c d rest : List ℕ) → (a ++ (b ++ (c ++ d))) ++ rest ≡ (a ++ b) ++ (c ++ (d ++ rest))
 five a b c d rest = simp append_assoc
 
 pub record Parts (len offset : ℕ) (block body rest bytes : List ℕ) : Type 0 where
@@ -81,7 +81,7 @@ pub record Parts (len offset : ℕ) (block body rest bytes : List ℕ) : Type 0 
   pub four : 8 ≤ length body
   pub place : (length block ≡ 0) ⊎ (4 ≤ length block)
 
-header_again : (len offset : ℕ) (block body rest bytes : List ℕ) → Parts len offset block body rest bytes → header_at bytes ≡ Ok (len, offset)
+pub header_again : (len offset : ℕ) (block body rest bytes : List ℕ) → Parts len offset block body rest bytes → header_at bytes ≡ Ok (len, offset)
 unfolding header_at
 header_again len offset block body rest bytes p =
     let more = block ++ (body ++ rest) in
@@ -107,13 +107,13 @@ header_again len offset block body rest bytes p =
     or_true false = refl
 
 -- the parts lie where the header says
-block_lies : (len offset : ℕ) (block body rest bytes : List ℕ) → Parts len offset block body rest bytes → take (offset - 8) (drop 8 bytes) ≡ block
+pub block_lies : (len offset : ℕ) (block body rest bytes : List ℕ) → Parts len offset block body rest bytes → take (offset - 8) (drop 8 bytes) ≡ block
 block_lies len offset block body rest bytes p =
     let n : offset - 8 ≡ length block = omega (arith, p.offset_is) in
     let behind : drop 8 bytes ≡ block ++ (body ++ rest) = ap (λ (l : List ℕ). drop 8 l) p.whole ∙ drop_at (head_of len offset) (block ++ (body ++ rest)) 8 refl in
     ap (λ (l : List ℕ). take (offset - 8) l) behind ∙ ap (λ (k : ℕ). take k (block ++ (body ++ rest))) n ∙ take_at block (body ++ rest) (length block) refl
 
-body_lies : (len offset : ℕ) (block body rest bytes : List ℕ) → Parts len offset block body rest bytes → take (len - offset) (drop offset bytes) ≡ body
+pub body_lies : (len offset : ℕ) (block body rest bytes : List ℕ) → Parts len offset block body rest bytes → take (len - offset) (drop offset bytes) ≡ body
 body_lies len offset block body rest bytes p =
     let n : len - offset ≡ length body = omega (arith, p.len_is) in
     let front : length (head_of len offset ++ block) ≡ offset = omega (arith, length-append (head_of len offset) block, p.offset_is, eight (to_be_bytes w32 len) (to_be_bytes w32 offset) refl refl) in
@@ -142,7 +142,7 @@ block_again offset items bytes fits is lies = by_test (list_any holds_entries it
         let near : eqb offset 8 ≡ true = eq-eqb _ _ (omega arith) in
         rw (near, none_block items h) refl
 
-agreed_again : (offset : ℕ) (items : List (Item (List ℕ))) → offset ≡ 8 + length (spell_block items) → not (agrees offset (placed 0 items)) ≡ false
+pub agreed_again : (offset : ℕ) (items : List (Item (List ℕ))) → offset ≡ 8 + length (spell_block items) → not (agrees offset (placed 0 items)) ≡ false
 unfolding agrees
 agreed_again offset items is = by_test (list_any holds_entries items) refl
   where
@@ -158,7 +158,7 @@ agreed_again offset items is = by_test (list_any holds_entries items) refl
         let held = placed_held 0 items ∙ h in
         rw (near, held) refl
 
-limit_is : (items : List (Item (List ℕ))) → placed_end 0 items ≡ (8 + length (spell_block items)) - 12
+pub limit_is : (items : List (Item (List ℕ))) → placed_end 0 items ≡ (8 + length (spell_block items)) - 12
 limit_is items = placed_end_is 0 items ∙ by_test (list_any holds_entries items) refl
   where
     by_test : (b : Bool) → list_any holds_entries items ≡ b → 0 + length (block_of items) ≡ (8 + length (spell_block items)) - 12
@@ -172,13 +172,13 @@ limit_is items = placed_end_is 0 items ∙ by_test (list_any holds_entries items
 
 -- ---- bytes of parts
 
-front_bytes : (a b : List ℕ) → IsBytes (a ++ b) → IsBytes a
+pub front_bytes : (a b : List ℕ) → IsBytes (a ++ b) → IsBytes a
 front_bytes a b h = subst IsBytes (take_at a b (length a) refl) (IsBytes-take (length a) (a ++ b) h)
 
-back_bytes : (a b : List ℕ) → IsBytes (a ++ b) → IsBytes b
+pub back_bytes : (a b : List ℕ) → IsBytes (a ++ b) → IsBytes b
 back_bytes a b h = subst IsBytes (drop_at a b (length a) refl) (IsBytes-drop (length a) (a ++ b) h)
 
-block_bytes : (items : List (Item (List ℕ))) → IsBytes (spell_block items) → IsBytes (block_of items)
+pub block_bytes : (items : List (Item (List ℕ))) → IsBytes (spell_block items) → IsBytes (block_of items)
 block_bytes items h = by_test (list_any holds_entries items) refl
   where
     by_test : (b : Bool) → list_any holds_entries items ≡ b → IsBytes (block_of items)
@@ -188,11 +188,11 @@ block_bytes items h = by_test (list_any holds_entries items) refl
 item_long : (item : Item ℕ) → 8 ≤ length (spell_item item)
 item_long item = omega (arith, length-append (to_be_bytes w64 item.group) (spell_change item.change))
 
-count_small : (items : List (Item ℕ)) → length items ≤ length (flat_map spell_item items)
+pub count_small : (items : List (Item ℕ)) → length items ≤ length (flat_map spell_item items)
 count_small [] = omega arith
 count_small (item ∷ items) = omega (arith, count_small items, item_long item, ap length (flat_map-cons spell_item item items), length-append (spell_item item) (flat_map spell_item items))
 
-block_place : (items : List (Item (List ℕ))) → (length (spell_block items) ≡ 0) ⊎ (4 ≤ length (spell_block items))
+pub block_place : (items : List (Item (List ℕ))) → (length (spell_block items) ≡ 0) ⊎ (4 ≤ length (spell_block items))
 block_place items = by_test (list_any holds_entries items) refl
   where
     by_test : (b : Bool) → list_any holds_entries items ≡ b → (length (spell_block items) ≡ 0) ⊎ (4 ≤ length (spell_block items))

@@ -1,5 +1,5 @@
 -- A run of entries that a batch takes.
-use Rattle.std.proofs.Common.{◌≡◌, ◌≢◌, ℕ, suc, ◌+◌, ◌*◌, ◌-◌, ◌^◌, ◌<◌, ◌≤◌, Bool, true, false, List, [], ◌∷◌, ◌++◌, length, map, Option, None, Err, refl, sym, ap, subst, ◌∙◌, append_assoc, arith, length-append}
+use Rattle.std.proofs.Common.{◌≡◌, ℕ, suc, ◌+◌, ◌*◌, ◌-◌, ◌^◌, ◌<◌, ◌≤◌, Bool, true, false, List, [], ◌∷◌, ◌++◌, length, map, Err, refl, sym, ap, subst, ◌∙◌, arith, length-append}
 use Rattle.std.specs.Prelude.{◌||◌}
 use Rattle.std.specs.List.{flat_map, list_any, AllByRecursion}
 use Rattle.std.specs.Int.{w32, w64, to_be_bytes}
@@ -14,13 +14,13 @@ use Rattle.raft_log_records.specs.declared.error.RecordError.TheVariants as erro
 use Rattle.raft_log_records.specs.Item.{Change, Item, item_of, items_of, change_map, item_map, entry_bytes, with_bytes, with_lengths}
 use Rattle.raft_log_records.specs.Item.Change.{entries}
 use Rattle.raft_log_records.specs.Reading.{indexed}
-use Rattle.raft_log_records.specs.Spelling.{IsItem, IsChange, IsConsecutive, FitsBytes, first_index, is_entries, holds_entries, entries_of, lengths, block_of, block_part, spell_block, spell_entry, spell_item, spell_items, spell_change, record_len}
+use Rattle.raft_log_records.specs.Spelling.{IsItem, IsChange, IsConsecutive, FitsBytes, first_index, holds_entries, entries_of, lengths, block_of, block_part, spell_block, spell_entry, spell_item, spell_items, record_len}
 use Rattle.raft_log_records.specs.Batch.{Batch, LogsEntries, IsRunLaid, IsLaid, IsSound, joined, numbered, runs, run_of}
 use Rattle.raft_log_records.proofs.Spelled.{heads, heads_of}
 use Rattle.raft_log_records.proofs.Taken.{unindexed}
 use Rattle.raft_log_records.proofs.Again.{run_end}
 use Rattle.raft_log_records.proofs.Placed.{bytes_in, run_end_is, none_block, change_placed}
-use Rattle.raft_log_records.proofs.Laid.{laid_push, laid_stays, any_held, block_is, laid_lengths}
+use Rattle.raft_log_records.proofs.Laid.{laid_push, laid_stays, block_is, laid_lengths}
 use Rattle.raft_log_records.proofs.Sound.{lengths_push, each_push, spelled_push, length-spell_items}
 
 pub numbered_bytes : (first : ℕ) (parts : List (List ℕ)) → bytes_in (numbered first parts) ≡ parts

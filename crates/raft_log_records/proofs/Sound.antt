@@ -1,5 +1,5 @@
 -- The length and the bytes of a batch's record, from the program's parts of it.
-use Rattle.std.proofs.Common.{◌≡◌, ◌≢◌, ℕ, suc, ◌+◌, ◌-◌, ◌≤◌, ◌<◌, ◌^◌, Bool, true, false, List, [], ◌∷◌, ◌++◌, length, map, take, append_assoc, Option, None, All, refl, sym, ap, subst, ◌∙◌, arith, length-append}
+use Rattle.std.proofs.Common.{◌≡◌, ℕ, ◌+◌, ◌-◌, ◌≤◌, ◌<◌, Bool, true, false, List, [], ◌∷◌, ◌++◌, length, take, append_assoc, Option, refl, sym, ap, subst, ◌∙◌, arith, length-append}
 use Rattle.std.specs.Prelude.{◌||◌}
 use Rattle.std.specs.List.{flat_map, list_any, AllByRecursion}
 use Rattle.std.specs.Int.{w32, w64, to_be_bytes}
@@ -11,7 +11,7 @@ use Rattle.raft_log_records.specs.declared.item.LogItem.{LogItem}
 use Rattle.raft_log_records.specs.Checksum.{crc32_of}
 use Rattle.raft_log_records.specs.Item.{Change, Item, item_of, items_of, change_map, item_map, entry_bytes, with_bytes, with_lengths}
 use Rattle.raft_log_records.specs.Item.Change.{entries, clean, compact, put, delete, mark}
-use Rattle.raft_log_records.specs.Spelling.{IsItem, FitsBytes, is_entries, holds_entries, entries_of, lengths, block_of, block_part, spell_block, spell_item, spell_items, spell_string, spell_change, spell_parts, spell_record, record_len, signed, AreItems}
+use Rattle.raft_log_records.specs.Spelling.{IsItem, FitsBytes, is_entries, holds_entries, entries_of, lengths, block_of, block_part, spell_block, spell_item, spell_items, spell_string, spell_change, spell_parts, spell_record, record_len, signed}
 use Rattle.raft_log_records.specs.Batch.{IsRunLaid, IsLaid, IsSound, record_of}
 use Rattle.raft_log_records.specs.BatchView.{writing_of, KeepsChecksum}
 use Rattle.raft_log_records.specs.declared.batch.BufState.{BufState}

@@ -1,9 +1,9 @@
 -- How the program's items are spelled.
-use Rattle.std.proofs.Common.{◌≡◌, ℕ, suc, List, [], ◌∷◌, ◌++◌, length, map, refl, sym, ap, ◌∙◌}
+use Rattle.std.proofs.Common.{◌≡◌, ℕ, suc, List, [], ◌∷◌, ◌++◌, length, map, refl, ap, ◌∙◌}
 use Rattle.std.specs.List.{flat_map}
 use Rattle.std.specs.Int.{w32, to_be_bytes}
 use Rattle.raft_log_records.specs.declared.item.EntryIndex.{EntryIndex}
-use Rattle.raft_log_records.specs.Item.{Change, change_map}
+use Rattle.raft_log_records.specs.Item.{change_map}
 use Rattle.raft_log_records.specs.Item.Change.{entries}
 use Rattle.raft_log_records.specs.Reading.{indexed}
 use Rattle.raft_log_records.specs.Spelling.{spell_entry, spell_run, spell_change}

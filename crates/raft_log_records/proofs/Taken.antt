@@ -1,5 +1,5 @@
 -- What is read was spelled so.
-use Rattle.std.proofs.Common.{◌≡◌, ◌≢◌, ◌⊎◌, inl, inr, ℕ, zero, suc, ◌+◌, ◌-◌, ◌^◌, ◌<◌, ◌≤◌, Bool, true, false, not, cond, ltb, eqb, List, [], ◌∷◌, ◌++◌, length, map, take, drop, Option, Some, None, Result, Ok, Err, refl, sym, ap, subst, ◌∙◌, append_assoc, arith}
+use Rattle.std.proofs.Common.{◌≡◌, ◌≢◌, ◌⊎◌, inl, inr, ℕ, zero, suc, ◌+◌, ◌-◌, ◌^◌, ◌<◌, ◌≤◌, Bool, true, false, not, cond, ltb, eqb, List, [], ◌∷◌, ◌++◌, length, Result, Ok, Err, refl, sym, ap, subst, ◌∙◌, arith}
 use Rattle.std.specs.List.{flat_map, AllByRecursion}
 use Rattle.std.specs.Int.{w32, w64, to_be_bytes}
 use Rattle.std.proofs.lemmas.Bool.{ltb-false, eqb-true, eqb-false}
@@ -12,7 +12,7 @@ use Rattle.raft_log_records.specs.declared.item.AtomicGroupStatus.{AtomicGroupSt
 use Rattle.raft_log_records.specs.declared.item.AtomicGroupStatus.TheVariants.{Begin, Middle, End}
 use Rattle.raft_log_records.specs.Item.{Change, Item, place, change_map, item_map, with_lengths}
 use Rattle.raft_log_records.specs.Item.Change.{entries, clean, compact, put, delete, mark}
-use Rattle.raft_log_records.specs.Spelling.{spell_string, spell_entry, spell_run, spell_change, spell_item, spell_items, status_byte, IsConsecutive, IsKey, IsChange, IsItem, entries_of, first_index}
+use Rattle.raft_log_records.specs.Spelling.{spell_string, spell_entry, spell_change, spell_item, spell_items, status_byte, IsConsecutive, IsChange, IsItem, entries_of, first_index}
 use Rattle.raft_log_records.specs.Batch.{IsRunLaid, IsLaid}
 use Rattle.raft_log_records.specs.Reading.{◌>>=◌, number_at, string_at, key_at, status_at, entry_at, entries_at, run_at, indexed, change_behind, change_at, item_at, items_at, body_at}
 use Rattle.raft_log_records.proofs.Spelled.{heads, heads_of, count, run_spelled}

@@ -1,6 +1,6 @@
 -- A batch, as its callers see it.
-use Rattle.std.specs.Prelude.{◌≡◌, ◌<◌, ◌≤◌, ◌+◌, ◌^◌, ℕ, Bool, true, false, List, [], ◌∷◌, ◌++◌, length, map, take, Option, Some}
-use Rattle.std.specs.Prelude.{None, Result, Ok, Err, All, if◌then◌else◌}
+use Rattle.std.specs.Prelude.{◌≡◌, ◌≢◌, ◌<◌, ◌≤◌, ◌+◌, ℕ, Bool, List, [], ◌∷◌, ◌++◌, length, map, take, Option}
+use Rattle.std.specs.Prelude.{None, Result, Ok, Err}
 use Rattle.std.specs.Prelude.{Vec}
 use Rattle.std.specs.declared.alloc.Global.{Global}
 use Rattle.std.specs.List.{flat_map, AllByRecursion, list_any}
@@ -9,7 +9,7 @@ use Rattle.raft_log_records.specs.declared.error.RecordError.TheVariants as erro
 use Rattle.raft_log_records.specs.declared.item.EntryIndex.{EntryIndex}
 use Rattle.raft_log_records.specs.declared.item.LogItem.{LogItem}
 use Rattle.raft_log_records.specs.Item.Change.{entries}
-use Rattle.raft_log_records.specs.Item.{Change, Item, place, item_of, items_of, with_bytes, with_lengths}
+use Rattle.raft_log_records.specs.Item.{Item, place, item_of, items_of, with_lengths}
 use Rattle.raft_log_records.specs.Spelling.{IsItem, FitsBytes, entries_of, holds_entries, block_part, spell_item, spell_record, record_len, AreItems}
 
 -- whether it is open, or written as a record that is signed so
@@ -137,3 +137,16 @@ pub record IsRecordAt (signature : Option ℕ) (bytes : List ℕ) (items : List 
   pub spelled : take len bytes ≡ spell_record signature items
   pub whole : len ≡ record_len items
   pub within : len ≤ length bytes
+
+-- the record of these items at the front of some bytes, but for one byte behind its first eight
+pub record IsRecordChanged (signature : Option ℕ) (items : List (Item (List ℕ))) (bytes : List ℕ) : Type 0 where
+  pub front : List ℕ
+  pub byte : ℕ
+  pub other : ℕ
+  pub back : List ℕ
+  pub rest : List ℕ
+  pub spelled : spell_record signature items ≡ front ++ byte ∷ back
+  pub behind : 8 ≤ length front
+  pub is_byte : byte < 256
+  pub changed : other ≢ byte
+  pub bytes_are : bytes ≡ (front ++ other ∷ back) ++ rest

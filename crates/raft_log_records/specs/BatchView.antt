@@ -1,5 +1,5 @@
 -- How the program's parts of a batch are seen as a batch.
-use Rattle.std.specs.Prelude.{◌≡◌, ℕ, List, Option}
+use Rattle.std.specs.Prelude.{◌≡◌, ℕ, List}
 use Rattle.raft_log_records.specs.Checksum.{crc32_of}
 use Rattle.raft_log_records.specs.declared.batch.BufState.{BufState}
 use Rattle.raft_log_records.specs.declared.batch.BufState.TheVariants as buf

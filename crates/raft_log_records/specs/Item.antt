@@ -1,6 +1,5 @@
 -- The items of a batch, without where they lie in memory. E stands for an entry: its bytes, its length, or its place.
-use Rattle.std.specs.Prelude.{ℕ, List, map, length, take, drop, Option, None, Bool, true, false, ◌||◌}
-use Rattle.std.specs.List.{list_any}
+use Rattle.std.specs.Prelude.{ℕ, List, map, take, drop, None}
 use Rattle.raft_log_records.specs.declared.command.Command.{Command}
 use Rattle.raft_log_records.specs.declared.command.Command.TheVariants as command
 use Rattle.raft_log_records.specs.declared.item.EntryIndex.{EntryIndex}

@@ -5,3 +5,5 @@ pub mod Spelling
 pub mod Reading
 pub mod Batch
 pub mod BatchView
+pub mod Stats
+pub mod Refusal

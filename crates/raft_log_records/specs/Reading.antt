@@ -1,6 +1,6 @@
 -- Reading a record from left to right, with the first fault that is met.
-use Rattle.std.specs.Prelude.{◌≡◌, ◌+◌, ◌-◌, ℕ, zero, suc, Bool, true, false, not, ◌||◌, List, [], ◌∷◌, ◌++◌, length, map, take}
-use Rattle.std.specs.Prelude.{drop, Option, Some, None, Result, Ok, Err, nat_lt, ◌==◌, if◌then◌else◌}
+use Rattle.std.specs.Prelude.{◌≡◌, ◌⊎◌, ◌+◌, ◌-◌, ℕ, zero, suc, Bool, not, ◌||◌, List, [], ◌∷◌, length, map, take}
+use Rattle.std.specs.Prelude.{drop, Option, None, Result, Ok, Err, nat_lt, ◌==◌, if◌then◌else◌}
 use Rattle.std.specs.List.{list_any}
 use Rattle.std.specs.Int.{Width, w32, w64, byte_len, from_be_bytes}
 use Rattle.raft_log_records.specs.Checksum.{crc32_of}
@@ -175,6 +175,12 @@ Finds (Ok r) items len = (with_bytes r.entries.now (items_of r.batch.items.items
 Finds (Err errors.Memory) items len = Unit {0}
 Finds (Err errors.TooLong) items len = ⊥
 Finds (Err (errors.Corruption f)) items len = ⊥
+
+-- one of the checksums is wrong, unless memory runs out
+abbrev pub FailsByChecksum : RecordError → Type 0
+FailsByChecksum errors.Memory = Unit {0}
+FailsByChecksum errors.TooLong = ⊥
+FailsByChecksum (errors.Corruption f) = (f ≡ fault.ItemsChecksum) ⊎ (f ≡ fault.EntriesChecksum)
 
 -- a block of entries that is read alone
 unfoldable pub entries_block_at : List ℕ → Result (List ℕ) RecordFault

@@ -4,7 +4,7 @@ use Rattle.std.specs.Prelude.{Some, None, IfSome, if◌then◌else◌}
 use Rattle.std.specs.List.{flat_map, AllByRecursion, list_any}
 use Rattle.std.specs.Int.{w32, w64, to_be_bytes}
 use Rattle.raft_log_records.specs.Checksum.{crc32_of}
-use Rattle.raft_log_records.specs.Item.{Change, Item, change_map, item_map}
+use Rattle.raft_log_records.specs.Item.{Change, Item, item_map}
 use Rattle.raft_log_records.specs.Item.Change.{entries, clean, compact, put, delete, mark}
 use Rattle.raft_log_records.specs.declared.item.EntryIndex.{EntryIndex}
 use Rattle.raft_log_records.specs.declared.item.AtomicGroupStatus.{AtomicGroupStatus}

@@ -17,6 +17,7 @@ pub struct AtomicGroupBuilder {
 }
 
 impl AtomicGroupBuilder {
+    /// The atomic group with this id.
     pub fn with_id(id: u64) -> AtomicGroupBuilder
         ensures { result.id ≡ id }
     {

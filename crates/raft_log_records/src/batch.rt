@@ -65,6 +65,7 @@ impl Model for LogBatch {
 }
 
 impl LogBatch {
+    /// A batch without items.
     pub fn new(alloc: Global) -> LogBatch
         ensures { result ≡ nothing_logged }
     {
@@ -78,6 +79,7 @@ impl LogBatch {
         }
     }
 
+    /// Whether it has no items.
     pub fn is_empty(&self) -> bool
         ensures { IsTrue result ↔ (self.now.items ≡ []) }
     {
@@ -227,7 +229,7 @@ impl LogBatch {
         ensures len { IfOk result (λ n. n ≡ length (encoded_of self.new)) }
         ensures err { IfErr result (λ e. (e ≡ RecordError.Memory) × (self.new ≡ self.old)) }
     {
-        if self.items.is_empty() {
+        if self.is_empty() {
             self.encoded.clear();
             self.buf_state = BufState::Open;
             return Ok(0);

@@ -9,6 +9,9 @@ use crate::message::Message;
 use crate::record::MAX_RECORD_LEN;
 use std::alloc::{AllocError, Global};
 
+/// A record has at most so many entries, each with an index and a length.
+const MOST_ENTRIES: usize = MAX_RECORD_LEN as usize / 12;
+
 /// The length of all entries together, or none where it passes any record's.
 pub fn total_len(entries: &[Vec<u8>]) -> Option<u32>
     ensures fits { IfSome result (λ n. (n ≡ length (joined (payloads entries.now))) × (n ≤ 33554432)) }
@@ -35,7 +38,7 @@ pub fn index_entries(
     requires room { at + length (joined (payloads entries.now)) < 2 ^ 32 }
     ensures { IfOk result (λ v. v.items ≡ runs at (numbered first (payloads entries.now))) }
 {
-    let mut indexes = Vec::new(alloc);
+    let mut indexes = Vec::with_capacity(alloc, entries.len())?;
     let mut index = first;
     for entry in entries {
         let entry_len = entry.len() as u32;
@@ -57,6 +60,7 @@ pub fn append_all(out: &mut Vec<u8>, entries: &[Vec<u8>]) -> Result<(), AllocErr
     ensures err { OnErr result (out.new.items ≡ out.old.items) }
 {
     let len = out.len();
+    out.reserve(total_len(entries).unwrap_or(0) as usize)?;
     for entry in entries {
         let Ok(()) = out.extend_from_slice(entry) else {
             out.truncate(len);
@@ -82,7 +86,7 @@ pub fn write_all<T: Message>(
     ensures stays { OnErr result ((more : List ℕ) × (out.new.items ≡ out.old.items ++ more)) }
     ensures long { IfErr result (IsWriteRefusal (length out.old.items + 12 * length entries.now + length (joined (map T.bytes entries.now)))) }
 {
-    let mut indexes = Vec::new(alloc);
+    let mut indexes = Vec::with_capacity(alloc, entries.len().min(MOST_ENTRIES))?;
     let mut index = first;
     for entry in entries {
         let at = out.len();

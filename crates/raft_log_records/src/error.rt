@@ -2,6 +2,7 @@
 
 ghost use Rattle.std.specs.Prelude.{◌≡◌};
 ghost use Rattle.raft_log_records.specs.declared.error.RecordError.TheVariants.{Memory};
+ghost use Rattle.raft_log_records.specs.Refusal.{number_of};
 
 use std::alloc::{AllocError, AllocFailed};
 use thiserror::Error;
@@ -41,6 +42,19 @@ pub enum RecordError {
     TooLong,
     #[error("corrupt record: {0:?}")]
     Corruption(RecordFault),
+}
+
+impl RecordError {
+    /// The number that each kind of refusal has, from 1 to 3.
+    pub fn number(&self) -> u8
+        ensures { result ≡ number_of self.now }
+    {
+        match self {
+            RecordError::Memory => 1,
+            RecordError::TooLong => 2,
+            RecordError::Corruption(_) => 3,
+        }
+    }
 }
 
 impl From<AllocError> for RecordError {

@@ -22,6 +22,7 @@ pub struct FileId {
 }
 
 impl FileId {
+    /// The file with this number in a queue.
     pub fn new(queue: LogQueue, seq: FileSeq) -> FileId
         ensures queue { result.queue ≡ queue }
         ensures seq { result.seq ≡ seq }

@@ -1,6 +1,6 @@
 //! Reading the fields and items of a record, from left to right.
 
-ghost use Rattle.std.specs.Prelude.{◌≡◌, ◌≤◌, ◌+◌, ◌<◌, ◌^◌, length, IfOk};
+ghost use Rattle.std.specs.Prelude.{◌≡◌, ◌≤◌, ◌+◌, ◌<◌, ◌/◌, ◌^◌, length, min, IfOk};
 ghost use Rattle.std.specs.Int.{w32, w64};
 ghost use Rattle.raft_log_records.specs.Item.{change_of, item_of, items_of};
 ghost use Rattle.raft_log_records.specs.Reading.{Gives, number_at, string_at, key_at, status_at, entry_at, entries_at, run_at, change_behind, change_at, item_at, items_at, body_at};
@@ -9,6 +9,21 @@ use crate::command::Command;
 use crate::error::{RecordError, RecordFault};
 use crate::item::{AtomicGroupStatus, EntryIndex, LogItem, LogItemContent};
 use std::alloc::Global;
+
+/// An item has its group and its tag at least.
+const LEAST_ITEM_LEN: usize = 9;
+
+/// An entry's index and length.
+const ENTRY_LEN: usize = 12;
+
+/// How many of `count` parts some bytes can hold, each of `part_len` bytes at least. Room is made for
+/// so many, whatever the count says, so that bytes can't ask for more memory than parts of theirs take.
+fn parts_within(count: u32, part_len: usize, bytes: &[u8]) -> usize
+    requires { 0 < part_len }
+    ensures { result ≡ min count (length bytes.now / part_len) }
+{
+    (count as usize).min(bytes.len() / part_len)
+}
 
 pub fn u32_at(bytes: &[u8]) -> Result<(u32, &[u8]), RecordError>
     ensures { Gives (λ x. (x.0, x.1.now)) result (number_at w32 bytes.now) }
@@ -115,7 +130,7 @@ fn entries_of(
     ensures within { IfOk result (λ x. x.1 ≤ limit) }
     ensures read { Gives (λ x. (x.0.items, x.1, x.2.now)) result (entries_at count first limit at bytes.now) }
 {
-    let mut entries = Vec::new(alloc);
+    let mut entries = Vec::with_capacity(alloc, parts_within(count, ENTRY_LEN, bytes))?;
     let mut rest = bytes;
     for i in 0..count {
         let (entry, after) = entry_of(first, i, limit, at, rest)?;
@@ -234,7 +249,7 @@ fn items_behind(
 ) -> Result<(Vec<LogItem>, u32, &[u8]), RecordError>
     ensures { Gives (λ x. (items_of x.0.items, x.1, x.2.now)) result (items_at count limit 0 bytes.now) }
 {
-    let mut items = Vec::new(alloc);
+    let mut items = Vec::with_capacity(alloc, parts_within(count, LEAST_ITEM_LEN, bytes))?;
     let mut rest = bytes;
     let mut at = 0;
     for _ in 0..count {

@@ -1,11 +1,11 @@
 //! Reading a record: its header, its items and its block of entries, with both checksums.
 
-ghost use Rattle.std.specs.Prelude.{◌≡◌, ◌≤◌, ◌+◌, ◌⊎◌, ◌++◌, ℕ, List, length, IfOk};
+ghost use Rattle.std.specs.Prelude.{◌≡◌, ◌≤◌, ◌+◌, ◌⊎◌, ◌++◌, ℕ, List, length, IfOk, IsErrAnd};
 ghost use Rattle.std.specs.List.{list_any};
 ghost use Rattle.raft_log_records.specs.Item.{Item, item_of, items_of, with_bytes};
-ghost use Rattle.raft_log_records.specs.Batch.{IsRecordAt};
+ghost use Rattle.raft_log_records.specs.Batch.{IsRecordAt, IsRecordChanged};
 ghost use Rattle.raft_log_records.specs.Spelling.{sealed, signed, IsSignature, holds_entries, AreItems, spell_record, record_len};
-ghost use Rattle.raft_log_records.specs.Reading.{Gives, Finds, header_at, unsealed, block_at, agrees, record_at, entries_block_at};
+ghost use Rattle.raft_log_records.specs.Reading.{Gives, Finds, FailsByChecksum, header_at, unsealed, block_at, agrees, record_at, entries_block_at};
 
 use crate::checksum::crc32;
 use crate::error::{RecordError, RecordFault};
@@ -155,6 +155,9 @@ pub fn read_record(
     // What is spelled so is read, whatever follows it, unless memory runs out.
     ensures only { (items : List (Item (List ℕ))) (rest : List ℕ) → IsSignature signature → AreItems items
         → bytes.now ≡ spell_record signature items ++ rest → Finds result items (record_len items) }
+    // A record of which one byte behind its header was changed is never read.
+    ensures changed { (items : List (Item (List ℕ))) → IsSignature signature → AreItems items
+        → IsRecordChanged signature items bytes.now → IsErrAnd result FailsByChecksum }
     // Which fault it is.
     ensures exact { Gives (λ r. (items_of r.batch.items.items, r.entries.now, r.len)) result (record_at signature bytes.now) }
 {

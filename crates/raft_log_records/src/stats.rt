@@ -1,72 +1,101 @@
 //! How many entries and keys the log engine has, for the choice when to clean.
 
+ghost use Rattle.std.specs.Prelude.{◌≡◌};
+ghost use Rattle.raft_log_records.specs.Stats.{counts_in, no_counts, after_add, after_delete};
+ghost use Rattle.raft_log_records.specs.Stats.{live_in, begun_again};
+
 use crate::file_id::LogQueue;
 
 /// Counts of entries and keys in the two queues (raft-engine's `GlobalStats`). A count stays at
 /// 2^64 - 1.
 #[derive(Clone, Copy, Debug, PartialEq, Eq)]
 pub struct GlobalStats {
-    live_append_entries: u64,
-    rewrite_entries: u64,
-    deleted_rewrite_entries: u64,
+    /// Those of the append queue that are needed.
+    appended: u64,
+    /// Those written to the rewrite queue since its counters began.
+    rewritten: u64,
+    /// Those of them that are no longer needed.
+    deleted: u64,
 }
 
 impl GlobalStats {
-    pub fn new() -> GlobalStats {
+    /// Nothing is counted yet.
+    #[tactic(auto, unfolding(crate::specs::Stats::counts_in))]
+    pub fn new() -> GlobalStats
+        ensures { counts_in result ≡ no_counts }
+    {
         GlobalStats {
-            live_append_entries: 0,
-            rewrite_entries: 0,
-            deleted_rewrite_entries: 0,
+            appended: 0,
+            rewritten: 0,
+            deleted: 0,
         }
     }
 
     /// Entries and keys that a queue has gained.
-    pub fn add(&mut self, queue: LogQueue, count: u64) {
+    #[tactic(auto, unfolding(crate::specs::Stats::counts_in))]
+    pub fn add(&mut self, queue: LogQueue, count: u64)
+        ensures { counts_in self.new ≡ after_add queue count (counts_in self.old) }
+    {
         match queue {
             LogQueue::Append => {
-                self.live_append_entries = self.live_append_entries.saturating_add(count);
+                self.appended = self.appended.saturating_add(count);
             }
             LogQueue::Rewrite => {
-                self.rewrite_entries = self.rewrite_entries.saturating_add(count);
+                self.rewritten = self.rewritten.saturating_add(count);
             }
         }
     }
 
     /// Entries and keys of a queue that are no longer needed.
-    pub fn delete(&mut self, queue: LogQueue, count: u64) {
+    #[tactic(auto, unfolding(crate::specs::Stats::counts_in))]
+    pub fn delete(&mut self, queue: LogQueue, count: u64)
+        ensures { counts_in self.new ≡ after_delete queue count (counts_in self.old) }
+    {
         match queue {
             LogQueue::Append => {
-                self.live_append_entries = self.live_append_entries.saturating_sub(count);
+                self.appended = self.appended.saturating_sub(count);
             }
             LogQueue::Rewrite => {
-                self.deleted_rewrite_entries = self.deleted_rewrite_entries.saturating_add(count);
+                self.deleted = self.deleted.saturating_add(count);
             }
         }
     }
 
     /// Entries and keys of a queue that are needed.
-    pub fn live_entries(&self, queue: LogQueue) -> u64 {
+    #[tactic(auto, unfolding(crate::specs::Stats::counts_in))]
+    pub fn live_entries(&self, queue: LogQueue) -> u64
+        ensures { result ≡ live_in queue (counts_in self.now) }
+    {
         match queue {
-            LogQueue::Append => self.live_append_entries,
-            LogQueue::Rewrite => self
-                .rewrite_entries
-                .saturating_sub(self.deleted_rewrite_entries),
+            LogQueue::Append => self.appended,
+            LogQueue::Rewrite => self.rewritten.saturating_sub(self.deleted),
         }
     }
 
     /// Entries and keys written to the rewrite queue since its counters began.
-    pub fn rewrite_entries(&self) -> u64 {
-        self.rewrite_entries
+    #[tactic(auto, unfolding(crate::specs::Stats::counts_in))]
+    pub fn rewrite_entries(&self) -> u64
+        ensures { result ≡ (counts_in self.now).rewritten }
+    {
+        let GlobalStats { rewritten, .. } = *self;
+        rewritten
     }
 
     /// Those of them that are no longer needed.
-    pub fn deleted_rewrite_entries(&self) -> u64 {
-        self.deleted_rewrite_entries
+    #[tactic(auto, unfolding(crate::specs::Stats::counts_in))]
+    pub fn deleted_rewrite_entries(&self) -> u64
+        ensures { result ≡ (counts_in self.now).deleted }
+    {
+        let GlobalStats { deleted, .. } = *self;
+        deleted
     }
 
     /// Lets the counters of the rewrite queue begin again.
-    pub fn reset_rewrite_counters(&mut self) {
-        self.rewrite_entries = 0;
-        self.deleted_rewrite_entries = 0;
+    #[tactic(auto, unfolding(crate::specs::Stats::counts_in))]
+    pub fn reset_rewrite_counters(&mut self)
+        ensures { counts_in self.new ≡ begun_again (counts_in self.old) }
+    {
+        self.rewritten = 0;
+        self.deleted = 0;
     }
 }

@@ -33,6 +33,7 @@ pub struct LogFileContext {
 }
 
 impl LogFileContext {
+    /// The file with this name, in this version's format.
     pub fn new(id: FileId, version: Version) -> LogFileContext
         ensures id { result.id ≡ id }
         ensures version { result.version ≡ version }

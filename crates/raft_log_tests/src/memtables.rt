@@ -108,3 +108,42 @@ fn entries_begin_inside_the_list_or_at_its_end(rt: HostRuntime) -> Result<(), Fa
     }
     Ok(())
 }
+
+/// The entries of a batch in the memtables that 5 and 6 of group 7 made.
+fn takes_after_two(alloc: Global, more: &[u64], limit: u64) -> Result<bool, RecordError> {
+    let mut tables = MemTables::new(alloc);
+    let mut batch = LogBatch::new(alloc);
+    for index in [5, 6] {
+        add_entry(alloc, &mut batch, index)?;
+    }
+    tables.apply(batch.drain(), handle())?;
+    for index in more {
+        if *index < 1000 {
+            add_entry(alloc, &mut batch, *index)?;
+        }
+        if *index == limit {
+            batch.add_command(7, Command::Compact { index: limit })?;
+        }
+    }
+    Ok(tables.takes(&batch.drain().items))
+}
+
+#[test]
+fn a_batch_is_taken_where_each_of_its_entries_is(rt: HostRuntime) -> Result<(), Fail> {
+    let alloc = rt.alloc();
+    let rows: [(&[u64], u64, bool); 8] = [
+        (&[7, 8, 9], 0, true),
+        (&[7, 9], 0, false),
+        (&[6, 7], 0, true),
+        (&[6, 8], 0, false),
+        (&[5], 0, true),
+        (&[4], 0, false),
+        (&[7, 7, 100], 7, false),
+        (&[7, 6], 7, false),
+    ];
+    for (more, limit, taken) in rows {
+        let takes = takes_after_two(alloc, more, limit)?;
+        assert_eq!(rt; takes, taken);
+    }
+    Ok(())
+}

@@ -6,7 +6,7 @@ use Rattle.raft_log_records.proofs.reading.entries_of.Goals as goal
 
 pub returns-in_err-entry-clause-read : goal.returns-in_err-entry-clause-read
 returns-in_err-entry-clause-read c =
-    let p = err_from_is_err_and c.from_residual.result c.from_residual.ensures.1 in
+    let p = err_from_is_err_and c.from_residual-in_err-entry.result c.from_residual-in_err-entry.ensures.1 in
     rw (p.1, p.2) (entries_fail c.in_err-entry.field-0.0 c.loop-i.entries.items c.args.count c.loop-i.i c.args.first c.args.limit c.loop-i.at c.loop-i.rest.now (entries_at c.args.count c.args.first c.args.limit c.args.at c.args.bytes.now) c.loop-i-test.true c.in_err-entry.ensures.read c.loop-i.invariant.read)
 
 pub loop-i-preserved : goal.loop-i-preserved

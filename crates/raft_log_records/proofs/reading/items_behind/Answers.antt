@@ -8,7 +8,7 @@ use Rattle.raft_log_records.proofs.reading.items_behind.Goals as goal
 
 pub returns-in_err-item : goal.returns-in_err-item
 returns-in_err-item c =
-    let p = err_from_is_err_and c.from_residual.result c.from_residual.ensures.1 in
+    let p = err_from_is_err_and c.from_residual-in_err-item.result c.from_residual-in_err-item.ensures.1 in
     rw (p.1, p.2) (items_fail c.in_err-item.field-0.0 (items_of c.loop.items.items) c.args.count c.loop.counter c.args.limit c.loop.at c.loop.rest.now (items_at c.args.count c.args.limit 0 c.args.bytes.now) c.loop-test.true c.in_err-item.ensures.read c.loop.invariant.read)
 
 pub loop-preserved : goal.loop-preserved

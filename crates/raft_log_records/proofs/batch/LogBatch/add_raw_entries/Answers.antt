@@ -1,9 +1,9 @@
-use Rattle.std.proofs.Common.{◌≡◌, ◌≤◌, ◌<◌, ◌+◌, ◌++◌, ◌∷◌, [], ℕ, Bool, List, length, refl, sym, ap, ◌∙◌, arith}
+use Rattle.std.proofs.Common.{◌≡◌, length, refl, sym, ◌∙◌, arith}
 use Rattle.std.specs.List.{list_any}
 use Rattle.std.proofs.lemmas.Bool.{eqb-false}
 use Rattle.std.proofs.lemmas.List.{length-map}
-use Rattle.raft_log_records.specs.Spelling.{holds_entries, record_len}
-use Rattle.raft_log_records.specs.Batch.{payloads, joined, run_of}
+use Rattle.raft_log_records.specs.Spelling.{holds_entries}
+use Rattle.raft_log_records.specs.Batch.{payloads}
 use Rattle.raft_log_records.proofs.Runs.{run_longer, refused_long}
 use Rattle.raft_log_records.proofs.batch.LogBatch.add_raw_entries.Goals as goal
 

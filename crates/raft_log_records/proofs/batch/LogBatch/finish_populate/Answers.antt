@@ -1,7 +1,7 @@
 use Rattle.std.proofs.Common.{◌≡◌, ℕ, List, None, ◌∙◌, ap, sym, arith, length}
 use Rattle.raft_log_records.specs.declared.item.LogItem.{LogItem}
 use Rattle.raft_log_records.specs.Item.{items_of, with_bytes, with_lengths}
-use Rattle.raft_log_records.specs.Spelling.{block_part, spell_items, spell_parts, spell_record, record_len}
+use Rattle.raft_log_records.specs.Spelling.{block_part, spell_items, spell_parts, record_len}
 use Rattle.raft_log_records.specs.Batch.{Batch}
 use Rattle.raft_log_records.proofs.Sound.{sound_len, sound_spelled}
 use Rattle.raft_log_records.proofs.batch.LogBatch.finish_populate.Goals as goal

@@ -1,7 +1,7 @@
-use Rattle.std.proofs.Common.{◌≡◌, ◌∙◌, ap, sym, arith}
+use Rattle.std.proofs.Common.{◌∙◌, ap, sym, arith}
 use Rattle.std.proofs.lemmas.List.{with_items_is}
 use Rattle.raft_log_records.specs.Item.{items_of, with_bytes, with_lengths}
-use Rattle.raft_log_records.specs.Spelling.{block_part, spell_items, spell_parts, signed}
+use Rattle.raft_log_records.specs.Spelling.{block_part, spell_items, signed}
 use Rattle.raft_log_records.proofs.Sound.{sound_spelled, parts_long, parts_signed_again, encoded_is, checksum_is}
 use Rattle.raft_log_records.proofs.batch.LogBatch.prepare_write.Goals as goal
 

@@ -1,13 +1,11 @@
-use Rattle.std.proofs.Common.{◌≡◌, ◌≤◌, ◌+◌, ◌*◌, ◌++◌, ◌∷◌, [], ℕ, List, length, refl, sym, ap, subst, ◌∙◌, arith}
+use Rattle.std.proofs.Common.{◌≡◌, ◌≤◌, ◌++◌, ◌∷◌, [], ℕ, List, length, sym, ap, subst, ◌∙◌, arith}
 use Rattle.std.proofs.lemmas.List.{length-map}
-use Rattle.std.proofs.lemmas.Result.{err_from_is_err_and}
 use Rattle.raft_log_records.specs.declared.item.LogItem.{LogItem}
 use Rattle.raft_log_records.specs.declared.item.LogItemContent.TheVariants as content
-use Rattle.raft_log_records.specs.Item.{Item, item_of, items_of, with_bytes}
+use Rattle.raft_log_records.specs.Item.{Item}
 use Rattle.raft_log_records.specs.Spelling.{record_len}
-use Rattle.raft_log_records.specs.Batch.{Batch, payloads, joined, run_of}
+use Rattle.raft_log_records.specs.Batch.{Batch, payloads, run_of}
 use Rattle.raft_log_records.specs.Batch.Writing.{open_still}
-use Rattle.raft_log_records.specs.BatchView.{writing_of}
 use Rattle.raft_log_records.proofs.Runs.{RunRoom, room_is, run_pushed, run_viewed, indexes_are}
 use Rattle.raft_log_records.proofs.batch.LogBatch.push_run.Goals as goal
 
