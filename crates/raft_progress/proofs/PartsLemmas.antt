@@ -112,7 +112,7 @@ module _ {K V : Type 0} (eq : K → K → Bool) where
           | true ↦ λ e.
               let apart : eq x.0 other ≡ false = ap (λ y. eq y other) (same x.0 id e) ∙ h in
               ap (λ b. value_if b (x.0, v) (entry_at eq xs other)) apart ∙ sym (ap (λ b. value_if b x (entry_at eq xs other)) apart)
-          | false ↦ λ e. 
+          | false ↦ λ e.
               elim (eq x.0 other) as (λ c. value_if c x (entry_at eq (with_value eq xs id v) other) ≡ value_if c x (entry_at eq xs other)) [
                 | true ↦ refl
                 | false ↦ value_kept xs id other v h
