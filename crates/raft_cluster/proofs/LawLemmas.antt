@@ -1,9 +1,9 @@
 -- The laws of histories that replay.
 use Rattle.std.proofs.Common.{◌≡◌, ℕ, zero, suc, ◌<◌, ◌==◌, ◌⊎◌, Bool, true, false, List, [], ◌∷◌, ◌++◌, length, length-append, take, slice_get, append_assoc, append-nil, Option, Some, None, refl, ap, ◌∙◌, sym, subst, inl, inr, arith}
 use Rattle.std.proofs.lemmas.Bool.{eqb-true, eqb-false, eq-eqb}
-use Rattle.raft_state.specs.declared.membership.Membership.{Membership as RaftMembership}
+use Rattle.raft_membership.specs.declared.membership.Membership.{Membership as RaftMembership}
 use Rattle.raft_state.specs.declared.entry.EntryPayload.TheVariants.{Blank, Normal, Membership}
-use Rattle.raft_state.specs.declared.command.Command.{Command}
+use Rattle.raft_values.specs.declared.command.Command.{Command}
 use Rattle.raft_node.specs.Machine.{MachineRules}
 use Rattle.raft_node.specs.Fold.{GroupEntry, GroupPayload, fold_of, answer_in}
 use Rattle.raft_cluster.specs.declared.event.ClusterEvent.{ClusterEvent}

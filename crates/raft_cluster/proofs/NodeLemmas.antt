@@ -16,8 +16,8 @@ use Rattle.raft_cluster.specs.declared.event.EventOutcome.{EventOutcome}
 use Rattle.raft_cluster.specs.declared.event.EventOutcome.TheVariants.{Done, Fault, Refused}
 use Rattle.raft_cluster.specs.declared.event.Refusal.TheVariants.{NoNode}
 use Rattle.raft_node.specs.declared.fault.Fault.TheVariants.{UnknownGroup}
-use Rattle.raft_state.specs.declared.membership.Membership.{Membership}
-use Rattle.raft_state.specs.declared.command.Command.{Command}
+use Rattle.raft_membership.specs.declared.membership.Membership.{Membership}
+use Rattle.raft_values.specs.declared.command.Command.{Command}
 use Rattle.raft_cluster.specs.Event.{node_of, group_of}
 use Rattle.raft_cluster.specs.Group.{GroupValue, list_in}
 use Rattle.raft_cluster.specs.GroupStep.{set_up_refusal, command_refusal, refusal_of, list_taken, list_where, unless_refused, outcome_unless, told_by, told_for}

@@ -1,8 +1,8 @@
 -- What one event does to a group's list: it is refused and leaves it, or adds to its end.
 use Rattle.std.proofs.Common.{◌≡◌, ℕ, ◌==◌, Bool, true, false, not, nat_eq, nat_lt, List, [], ◌∷◌, length, Option, Some, None, refl, ◌∙◌, sym, subst, arith}
 use Rattle.std.proofs.lemmas.Bool.{ne_eqb, true≢false}
-use Rattle.raft_state.specs.declared.membership.Membership.{Membership}
-use Rattle.raft_state.specs.declared.command.Command.{Command}
+use Rattle.raft_membership.specs.declared.membership.Membership.{Membership}
+use Rattle.raft_values.specs.declared.command.Command.{Command}
 use Rattle.raft_node.specs.declared.fault.MembershipFault.{MembershipFault}
 use Rattle.raft_node.specs.Machine.{MachineRules}
 use Rattle.raft_node.specs.MembershipFault.{membership_fault_of}
@@ -12,7 +12,7 @@ use Rattle.raft_cluster.specs.declared.event.ClusterEvent.TheVariants.{AddGroup,
 use Rattle.raft_cluster.specs.declared.event.EventOutcome.{EventOutcome}
 use Rattle.raft_cluster.specs.declared.event.EventOutcome.TheVariants.{Done, Refused}
 use Rattle.raft_cluster.specs.declared.event.Refusal.TheVariants.{NoNode}
-use Rattle.raft_state.specs.Membership.{is_voter}
+use Rattle.raft_membership.specs.Membership.{is_voter}
 use Rattle.raft_cluster.specs.declared.event.Told.{Told}
 use Rattle.raft_cluster.specs.Event.{node_of, group_of}
 use Rattle.raft_cluster.specs.GroupStep.{names_other, set_up_reasons, command_reasons, refused_if, add_refusal, set_up_refusal, command_refusal, call_refusal, refusal_of, list_taken, list_after, list_where, unless_refused, outcome_unless, outcome_of, told_by}

@@ -3,10 +3,10 @@
 use Rattle.std.specs.Prelude.{ℕ, Bool, ◌==◌, not, nat_eq, nat_lt, List, [], ◌∷◌, ◌++◌, length, Option, Some, None, true, false}
 use Rattle.std.specs.List.{list_any}
 use Rattle.raft_state.specs.declared.entry.EntryPayload.TheVariants.{Blank, Normal, Membership}
-use Rattle.raft_state.specs.declared.command.Command.{Command}
-use Rattle.raft_state.specs.declared.membership.Membership.{Membership as RaftMembership}
-use Rattle.raft_state.specs.LogId.{log_id_of}
-use Rattle.raft_state.specs.Membership.{is_voter}
+use Rattle.raft_values.specs.declared.command.Command.{Command}
+use Rattle.raft_membership.specs.declared.membership.Membership.{Membership as RaftMembership}
+use Rattle.raft_values.specs.LogId.{log_id_of}
+use Rattle.raft_membership.specs.Membership.{is_voter}
 use Rattle.raft_node.specs.declared.fault.Fault.TheVariants.{NotLeader, UnknownGroup, GroupExists, NotAllowed, NotVoter, Membership as BadMembership, CommandTooLong}
 use Rattle.raft_node.specs.declared.fault.MembershipFault.{MembershipFault}
 use Rattle.raft_node.specs.Machine.{MachineRules}

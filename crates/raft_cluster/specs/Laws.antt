@@ -1,7 +1,7 @@
 -- What a history that replays promises of each group, in the words of a user.
 use Rattle.std.specs.Prelude.{◌≡◌, ℕ, suc, ◌<◌, ◌==◌, Bool, true, false, List, [], ◌∷◌, length, slice_get, take, Some}
 use Rattle.raft_state.specs.declared.entry.EntryPayload.TheVariants.{Blank, Normal, Membership}
-use Rattle.raft_state.specs.declared.command.Command.{Command}
+use Rattle.raft_values.specs.declared.command.Command.{Command}
 use Rattle.raft_node.specs.Machine.{MachineRules}
 use Rattle.raft_node.specs.Fold.{GroupEntry, GroupPayload, answer_at}
 use Rattle.raft_cluster.specs.declared.event.ClusterEvent.{ClusterEvent}

@@ -2,7 +2,7 @@
 ghost use Rattle.std.specs.Prelude.{◌≡◌, ◌==◌, not, Some};
 ghost use Rattle.std.specs.List.{list_any};
 ghost use Rattle.std.specs.Prelude.{nat_eq};
-ghost use Rattle.raft_state.specs.Membership.{is_voter};
+ghost use Rattle.raft_membership.specs.Membership.{is_voter};
 ghost use Rattle.raft_cluster.specs.GroupStep.{set_up_refusal, command_refusal, names_other};
 
 use crate::event::{EventOutcome, Refusal};

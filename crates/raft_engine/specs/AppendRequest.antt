@@ -1,7 +1,7 @@
 -- A leader sends entries, or says what is committed.
 use Rattle.std.specs.Prelude.{ℕ, Bool, true, false, ◌||◌, if◌then◌else◌, List, [], ◌∷◌, filter, not, Option, Some, None, min, is_some}
-use Rattle.raft_state.specs.declared.log_id.LogId.{LogId}
-use Rattle.raft_state.specs.LogId.{place_of}
+use Rattle.raft_values.specs.declared.log_id.LogId.{LogId}
+use Rattle.raft_values.specs.LogId.{place_of}
 use Rattle.raft_engine.specs.Values.{Entry, vote_lt}
 use Rattle.raft_engine.specs.StoredGroup.{StoredGroup, PutEntries, CutFrom, entry_at, has_id_in_log}
 use Rattle.raft_engine.specs.Message.{AppendReply, AppendFields, ReplyResult, Success, Conflict, HigherVote, last_sent}

@@ -1,6 +1,6 @@
 -- A node stands for election.
 use Rattle.std.specs.Prelude.{ℕ, ◌+◌, ◌==◌, false, true, if◌then◌else◌, List, [], ◌∷◌, filter, Option, Some, None}
-use Rattle.raft_state.specs.Vote.{vote_of}
+use Rattle.raft_values.specs.Vote.{vote_of}
 use Rattle.raft_engine.specs.Values.{LoggedMembership, voter_ids}
 use Rattle.raft_engine.specs.StoredGroup.{StoredGroup, last_id, membership_in_force}
 use Rattle.raft_engine.specs.Message.{VoteRequest}

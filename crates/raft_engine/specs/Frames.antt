@@ -1,8 +1,8 @@
 -- What a leader sends at the end of an event: requests to peers that lack entries, else notices.
 use Rattle.std.specs.Prelude.{ℕ, ◌+◌, ◌-◌, ◌*◌, ◌/◌, max, ◌&&◌, nat_lt, Bool, true, false}
 use Rattle.std.specs.Prelude.{if◌then◌else◌, List, [], ◌∷◌, take, drop, Option, Some, None, is_none, option_and_then}
-use Rattle.raft_state.specs.declared.log_id.LogId.{LogId}
-use Rattle.raft_state.specs.LogId.{next_place}
+use Rattle.raft_values.specs.declared.log_id.LogId.{LogId}
+use Rattle.raft_values.specs.LogId.{next_place}
 use Rattle.raft_engine.specs.StoredGroup.{StoredGroup, Snapshot, first_place, end_place, id_at, id_before}
 use Rattle.raft_engine.specs.Message.{MessageBody, AppendRequest, SnapshotRequest, HeartBeat, Numbered, last_sent}
 use Rattle.raft_engine.specs.Peer.{PeerState, with_peer}

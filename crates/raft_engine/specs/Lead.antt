@@ -1,11 +1,11 @@
 -- How a lead begins, what a leader commits, and how it purges.
 use Rattle.std.specs.Prelude.{ℕ, ◌==◌, ◌&&◌, nat_lt, Bool, true, false, if◌then◌else◌, List, [], ◌∷◌, ◌++◌, filter, Option, Some, None, option_map}
 use Rattle.std.specs.List.{list_any, last_or}
-use Rattle.raft_state.specs.declared.vote.Vote.{Vote}
-use Rattle.raft_state.specs.declared.log_id.LogId.{LogId}
-use Rattle.raft_state.specs.LogId.{place_of}
+use Rattle.raft_values.specs.declared.vote.Vote.{Vote}
+use Rattle.raft_values.specs.declared.log_id.LogId.{LogId}
+use Rattle.raft_values.specs.LogId.{place_of}
 use Rattle.raft_state.specs.declared.entry.EntryPayload.TheVariants.{Blank}
-use Rattle.raft_state.specs.Quorum.{is_quorum}
+use Rattle.raft_quorums.specs.Quorum.{is_quorum}
 use Rattle.raft_engine.specs.Values.{Entry, has_id, is_written_by, LoggedMembership, member_ids}
 use Rattle.raft_engine.specs.StoredGroup.{StoredGroup, RemoveUpTo, end_place, entry_at, id_of, membership_in_force}
 use Rattle.raft_engine.specs.Peer.{PeerState, new_peer, peer_or, is_kept_for_peers}

@@ -1,7 +1,7 @@
 -- What nodes of a group send to one another.
 use Rattle.std.specs.Prelude.{ℕ, Bool, true, false, ◌==◌, List, [], ◌∷◌, Option, Some}
-use Rattle.raft_state.specs.declared.vote.Vote.{Vote}
-use Rattle.raft_state.specs.declared.log_id.LogId.{LogId}
+use Rattle.raft_values.specs.declared.vote.Vote.{Vote}
+use Rattle.raft_values.specs.declared.log_id.LogId.{LogId}
 use Rattle.raft_engine.specs.Values.{Entry}
 use Rattle.raft_engine.specs.StoredGroup.{Snapshot}
 

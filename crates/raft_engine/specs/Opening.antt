@@ -1,7 +1,7 @@
 -- A node is opened with what it has stored of the group.
 use Rattle.std.specs.Prelude.{ℕ, ◌==◌, ◌&&◌, ◌||◌, nat_lt, if◌then◌else◌, Bool, Option, Some, None}
-use Rattle.raft_state.specs.declared.log_id.LogId.{LogId}
-use Rattle.raft_state.specs.LogId.{place_of}
+use Rattle.raft_values.specs.declared.log_id.LogId.{LogId}
+use Rattle.raft_values.specs.LogId.{place_of}
 use Rattle.raft_engine.specs.StoredGroup.{StoredGroup, StartAfter, first_place, has_id_in_log, snapshot_last}
 use Rattle.raft_engine.specs.GroupState.{Leader, state_of}
 use Rattle.raft_engine.specs.StepResult.{StepResult, unchanged, store, in_role, apply_up_to}

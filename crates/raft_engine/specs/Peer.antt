@@ -1,7 +1,7 @@
 -- What a leader knows of each peer.
 use Rattle.std.specs.Prelude.{ℕ, Bool, true, false, ◌==◌, ◌&&◌, nat_lt, if◌then◌else◌, List, [], ◌∷◌, Option, Some, None}
 use Rattle.std.specs.List.{list_any}
-use Rattle.raft_state.specs.declared.log_id.LogId.{LogId}
+use Rattle.raft_values.specs.declared.log_id.LogId.{LogId}
 use Rattle.raft_engine.specs.Values.{last_id_eq}
 use Rattle.raft_engine.specs.Message.{ReplyFields, Numbered, request_id_eq}
 

@@ -1,6 +1,6 @@
 -- The log is purged, no further than the snapshot goes.
 use Rattle.std.specs.Prelude.{ℕ, min, nat_lt, if◌then◌else◌, Option, Some, None}
-use Rattle.raft_state.specs.declared.log_id.LogId.{LogId}
+use Rattle.raft_values.specs.declared.log_id.LogId.{LogId}
 use Rattle.raft_engine.specs.StoredGroup.{first_place, snapshot_last}
 use Rattle.raft_engine.specs.GroupState.{Role, Follower, Candidate, Leader}
 use Rattle.raft_engine.specs.StepResult.{StepResult, later_place}

@@ -1,7 +1,7 @@
 -- What a leader learns from a reply to its request.
 use Rattle.std.specs.Prelude.{ℕ, max, nat_le, ◌&&◌, if◌then◌else◌, Option, Some, None}
-use Rattle.raft_state.specs.declared.log_id.LogId.{LogId}
-use Rattle.raft_state.specs.LogId.{next_place}
+use Rattle.raft_values.specs.declared.log_id.LogId.{LogId}
+use Rattle.raft_values.specs.LogId.{next_place}
 use Rattle.raft_engine.specs.Values.{vote_eq}
 use Rattle.raft_engine.specs.Message.{ReplyFields, ReplyResult, Success, Conflict, HigherVote}
 use Rattle.raft_engine.specs.Peer.{PeerState, is_answer_to}

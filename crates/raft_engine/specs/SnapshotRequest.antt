@@ -1,8 +1,8 @@
 -- A leader sends its snapshot.
 use Rattle.std.specs.Prelude.{ℕ, ◌+◌, Bool, true, false, if◌then◌else◌, Option, Some, None, is_some}
-use Rattle.raft_state.specs.declared.vote.Vote.{Vote}
+use Rattle.raft_values.specs.declared.vote.Vote.{Vote}
 use Rattle.raft_engine.specs.Values.{vote_lt}
-use Rattle.raft_state.specs.declared.log_id.LogId.{LogId}
+use Rattle.raft_values.specs.declared.log_id.LogId.{LogId}
 use Rattle.raft_engine.specs.StoredGroup.{Snapshot, SetSnapshot, RemoveUpTo, entry_at, has_id_in_log}
 use Rattle.raft_engine.specs.Message.{SnapshotReply, ReplyResult, Success, HigherVote, Numbered}
 use Rattle.raft_engine.specs.StepResult.{StepResult, store, send, take_over, apply_up_to, is_within}

@@ -1,7 +1,7 @@
 -- A snapshot of what is applied is built and stored.
 use Rattle.std.specs.Prelude.{ℕ, ◌+◌, nat_lt, if◌then◌else◌, Option, Some, None, take}
-use Rattle.raft_state.specs.declared.log_id.LogId.{LogId}
-use Rattle.raft_state.specs.LogId.{next_place}
+use Rattle.raft_values.specs.declared.log_id.LogId.{LogId}
+use Rattle.raft_values.specs.LogId.{next_place}
 use Rattle.raft_engine.specs.Values.{last_membership}
 use Rattle.raft_engine.specs.StoredGroup.{StoredGroup, Snapshot, SetSnapshot, held, entry_at, id_of, snapshot_last}
 use Rattle.raft_engine.specs.StepResult.{StepResult, store}

@@ -1,7 +1,7 @@
 -- What a step gives, and the words by which steps are put together.
 use Rattle.std.specs.Prelude.{ℕ, max, Bool, false, nat_le, not, if◌then◌else◌, List, [], ◌∷◌, ◌++◌, map, filter, Option, Some, None}
-use Rattle.raft_state.specs.declared.vote.Vote.{Vote}
-use Rattle.raft_state.specs.declared.log_id.LogId.{LogId}
+use Rattle.raft_values.specs.declared.vote.Vote.{Vote}
+use Rattle.raft_values.specs.declared.log_id.LogId.{LogId}
 use Rattle.raft_engine.specs.Values.{entry_of, EntryPayload, vote_lt}
 use Rattle.raft_engine.specs.StoredGroup.{StoredGroup, StoringCommand, SetVote, PutEntries, after_storing, end_place}
 use Rattle.raft_engine.specs.Message.{Message, MessageBody}

@@ -1,9 +1,9 @@
 -- What a node keeps of a group, and the storing commands that change it.
 use Rattle.std.specs.Prelude.{◌≡◌, ◌<◌, ◌≤◌, ℕ, ◌+◌, ◌-◌, ◌==◌, nat_lt, if◌then◌else◌, Bool, true, false, List}
 use Rattle.std.specs.Prelude.{[], ◌∷◌, ◌++◌, take, drop, length, slice_get, Option, Some, None, option_map, option_and_then}
-use Rattle.raft_state.specs.declared.vote.Vote.{Vote}
-use Rattle.raft_state.specs.declared.log_id.LogId.{LogId}
-use Rattle.raft_state.specs.LogId.{next_place}
+use Rattle.raft_values.specs.declared.vote.Vote.{Vote}
+use Rattle.raft_values.specs.declared.log_id.LogId.{LogId}
+use Rattle.raft_values.specs.LogId.{next_place}
 use Rattle.raft_engine.specs.Values.{Entry, last_membership, log_id_eq, LoggedMembership}
 
 -- a snapshot: the list up to and with the entry of a log id, and the last membership in it

@@ -4,21 +4,21 @@ use Rattle.std.specs.Bool.{beq}
 use Rattle.std.specs.List.{list_all}
 use Rattle.std.specs.Ordering.{nat_cmp, is_lt}
 use Rattle.std.specs.Cmp.Lexicographic.{pointwise}
-use Rattle.raft_state.specs.declared.vote.LeaderId.{LeaderId}
-use Rattle.raft_state.specs.declared.vote.Vote.{Vote}
-use Rattle.raft_state.specs.declared.log_id.LogId.{LogId}
-use Rattle.raft_state.specs.declared.membership.Membership.{Membership as MembershipOf}
-use Rattle.raft_state.specs.declared.change_members.ChangeMembers.{ChangeMembers as ChangeMembersOf}
+use Rattle.raft_values.specs.declared.vote.LeaderId.{LeaderId}
+use Rattle.raft_values.specs.declared.vote.Vote.{Vote}
+use Rattle.raft_values.specs.declared.log_id.LogId.{LogId}
+use Rattle.raft_membership.specs.declared.membership.Membership.{Membership as MembershipOf}
+use Rattle.raft_membership.specs.declared.change_members.ChangeMembers.{ChangeMembers as ChangeMembersOf}
 use Rattle.raft_state.specs.declared.entry.Entry.{Entry as EntryOf}
 use Rattle.raft_state.specs.declared.entry.EntryPayload.{EntryPayload as EntryPayloadOf}
 use Rattle.raft_state.specs.declared.entry.EntryPayload.TheVariants.{Blank, Normal, Membership as Members}
 use Rattle.raft_engine.specs.declared.snapshot_message.LoggedMembership.{LoggedMembership as LoggedMembershipOf}
-use Rattle.raft_state.specs.Vote.{leader_cmp, vote_cmp}
-use Rattle.raft_state.specs.LogId.{log_id_cmp}
-use Rattle.raft_state.specs.Nodes.{has_id as is_among}
-use Rattle.raft_state.specs.Membership.{is_voter as is_voter_of}
-use Rattle.raft_state.specs.Validity.{validity_fault}
-use Rattle.raft_state.specs.MembershipChange.{changed}
+use Rattle.raft_values.specs.Vote.{leader_cmp, vote_cmp}
+use Rattle.raft_values.specs.LogId.{log_id_cmp}
+use Rattle.raft_quorums.specs.Nodes.{has_id as is_among}
+use Rattle.raft_membership.specs.Membership.{is_voter as is_voter_of}
+use Rattle.raft_membership.specs.Validity.{validity_fault}
+use Rattle.raft_membership.specs.MembershipChange.{changed}
 
 abbrev pub Membership : Type 0
 Membership = MembershipOf ℕ (List ℕ)

@@ -1,6 +1,6 @@
 -- A voter answers a candidate.
 use Rattle.std.specs.Prelude.{ℕ, Bool, true, false, ◌&&◌, if◌then◌else◌}
-use Rattle.raft_state.specs.declared.vote.Vote.{Vote}
+use Rattle.raft_values.specs.declared.vote.Vote.{Vote}
 use Rattle.raft_engine.specs.Values.{vote_eq, vote_lt}
 use Rattle.raft_engine.specs.StepResult.{StepResult, store_vote, step_down}
 use Rattle.raft_engine.specs.Lead.{with_grant}

@@ -1,7 +1,7 @@
 -- A candidate asks for the node's vote.
 use Rattle.std.specs.Prelude.{ℕ, ◌+◌, nat_le, Bool, true, false, ◌||◌, ◌&&◌, if◌then◌else◌, Option, Some, None}
-use Rattle.raft_state.specs.declared.vote.Vote.{Vote}
-use Rattle.raft_state.specs.declared.log_id.LogId.{LogId}
+use Rattle.raft_values.specs.declared.vote.Vote.{Vote}
+use Rattle.raft_values.specs.declared.log_id.LogId.{LogId}
 use Rattle.raft_engine.specs.Values.{last_id_lt, vote_lt}
 use Rattle.raft_engine.specs.StoredGroup.{last_id}
 use Rattle.raft_engine.specs.Message.{VoteReply}

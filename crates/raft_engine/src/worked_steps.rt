@@ -1,7 +1,7 @@
 //! Worked steps, each a contract of a function without a body: the definitions give these rows.
 ghost use Rattle.std.specs.Prelude.{◌≡◌, ◌^◌, true, false, [], ◌∷◌, Some, None};
-ghost use Rattle.raft_state.specs.Vote.{vote_of};
-ghost use Rattle.raft_state.specs.LogId.{log_id_of};
+ghost use Rattle.raft_values.specs.Vote.{vote_of};
+ghost use Rattle.raft_values.specs.LogId.{log_id_of};
 ghost use Rattle.raft_engine.specs.StoredGroup.{SetVote};
 ghost use Rattle.raft_engine.specs.GroupState.{no_group, state_of};
 ghost use Rattle.raft_engine.specs.StepResult.{BreaksCondition, NumberAtEnd, UnknownGroup, WrongParty};

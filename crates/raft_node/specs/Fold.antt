@@ -3,7 +3,7 @@ use Rattle.std.specs.Prelude.{ℕ, ◌+◌, List, [], ◌∷◌, Option, Some, N
 use Rattle.raft_state.specs.declared.entry.Entry.{Entry}
 use Rattle.raft_state.specs.declared.entry.EntryPayload.{EntryPayload}
 use Rattle.raft_state.specs.declared.entry.EntryPayload.TheVariants.{Blank, Normal, Membership}
-use Rattle.raft_state.specs.declared.command.Command.{Command}
+use Rattle.raft_values.specs.declared.command.Command.{Command}
 use Rattle.raft_node.specs.Machine.{MachineRules}
 
 -- an entry of a group: node ids are numbers, nodes are their addresses

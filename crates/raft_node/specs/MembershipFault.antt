@@ -2,9 +2,9 @@
 use Rattle.std.specs.Prelude.{ℕ, Bool, ◌==◌, ◌&&◌, nat_eq, nat_le, true, false, List, length, Option, Some, None}
 use Rattle.std.specs.Ordering.{nat_cmp}
 use Rattle.std.specs.List.{list_all}
-use Rattle.raft_state.specs.declared.membership.Membership.{Membership}
-use Rattle.raft_state.specs.declared.error.ChangeMembershipError.{ChangeMembershipError}
-use Rattle.raft_state.specs.Validity.{validity_fault}
+use Rattle.raft_membership.specs.declared.membership.Membership.{Membership}
+use Rattle.raft_membership.specs.declared.error.ChangeMembershipError.{ChangeMembershipError}
+use Rattle.raft_membership.specs.Validity.{validity_fault}
 use Rattle.raft_node.specs.declared.fault.MembershipFault.{MembershipFault}
 use Rattle.raft_node.specs.declared.fault.MembershipFault.TheVariants.{Invalid, NoGroup, PastLimit}
 

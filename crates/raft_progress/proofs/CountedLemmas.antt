@@ -7,8 +7,8 @@ use Rattle.std.specs.Ordering.{is_lt, is_le}
 use Rattle.std.specs.Cmp.{IsTotalOrder}
 use Rattle.std.proofs.Math.ListN.{set}
 use Rattle.std.proofs.lemmas.List.Sorted.{IsPermutation-refl}
-use Rattle.raft_state.specs.Nodes.{has_node}
-use Rattle.raft_state.specs.QuorumLaws.{IsWithin}
+use Rattle.raft_quorums.specs.Nodes.{has_node}
+use Rattle.raft_quorums.specs.QuorumLaws.{IsWithin}
 use Rattle.raft_progress.specs.Counted.{IsCounted, IsSamePart}
 use Rattle.raft_progress.specs.Granted.{IsFalling, IsGranted}
 use Rattle.raft_progress.specs.Parts.{Parts, written}

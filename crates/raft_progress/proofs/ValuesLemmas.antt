@@ -4,7 +4,7 @@ use Rattle.std.specs.Prelude.{Bool, true, false, not, ◌||◌, cond, nat_lt, Op
 use Rattle.std.specs.List.{position, position_or_len, prefix_len}
 use Rattle.std.proofs.Math.ListN.{set}
 use borrow.Author.Tests.{ltb-true, ltb-false}
-use Rattle.raft_state.specs.Nodes.{has_node}
+use Rattle.raft_quorums.specs.Nodes.{has_node}
 use Rattle.std.specs.declared.cmp.Ordering.{Ordering}
 use Rattle.std.specs.Ordering.{is_le}
 use Rattle.std.specs.Cmp.{IsTotalOrder}

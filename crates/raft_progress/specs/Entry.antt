@@ -1,8 +1,8 @@
 -- What a leader sends to a peer next.
 use Rattle.std.specs.Prelude.{ℕ, zero, suc, ◌+◌, ◌-◌, ◌*◌, ◌/◌, max, min, nat_le, nat_lt, if◌then◌else◌, List, Option, Some, None}
 use Rattle.std.specs.declared.cmp.Ordering.{Ordering}
-use Rattle.raft_state.specs.declared.log_id.LogId.{LogId}
-use Rattle.raft_state.specs.LogId.{next_place}
+use Rattle.raft_values.specs.declared.log_id.LogId.{LogId}
+use Rattle.raft_values.specs.LogId.{next_place}
 use Rattle.raft_state.specs.LogIdList.{last_id}
 use Rattle.raft_state.specs.State.{id_before}
 use Rattle.raft_progress.specs.declared.inflight.Inflight.{Inflight}

@@ -2,10 +2,10 @@
 use Rattle.std.specs.Prelude.{ℕ, nat_lt, not, Option, Some, None}
 use Rattle.std.specs.Option.{option_map, option_or}
 use Rattle.std.specs.declared.cmp.Ordering.{Ordering}
-use Rattle.raft_state.specs.declared.log_id.LogId.{LogId}
-use Rattle.raft_state.specs.declared.validate.Invalid.{Invalid}
-use Rattle.raft_state.specs.LogId.{is_past, next_place}
-use Rattle.raft_state.specs.Range.{range_fault}
+use Rattle.raft_values.specs.declared.log_id.LogId.{LogId}
+use Rattle.raft_values.specs.declared.validate.Invalid.{Invalid}
+use Rattle.raft_values.specs.LogId.{is_past, next_place}
+use Rattle.raft_values.specs.Range.{range_fault}
 use Rattle.raft_state.specs.State.{or_fault}
 use Rattle.raft_progress.specs.declared.inflight.Inflight.{Inflight}
 use Rattle.raft_progress.specs.declared.inflight.Inflight.TheVariants.{None as Nothing, Logs, Snapshot}

@@ -3,7 +3,7 @@ use Rattle.std.specs.Prelude.{◌≡◌, ℕ, Bool, true, false, ◌||◌, if◌
 use Rattle.std.specs.List.{IsDistinct}
 use Rattle.std.specs.List.Sorted.{IsPermutation}
 use Rattle.std.specs.Option.{option_or}
-use Rattle.raft_state.specs.Nodes.{has_id, has_node}
+use Rattle.raft_quorums.specs.Nodes.{has_id, has_node}
 use Rattle.raft_progress.specs.Values.{value_at, with_value, with_value_at}
 
 -- the quorum set that counts, the value that it was last built with, what is granted, and the

@@ -2,7 +2,7 @@
 use Rattle.std.specs.Prelude.{◌≡◌, ℕ, suc, ◌<◌, ◌≤◌, Bool, true, false, List, length, take, slice_index_or}
 use Rattle.std.specs.declared.cmp.Ordering.{Ordering}
 use Rattle.std.specs.Ordering.{is_lt}
-use Rattle.raft_state.specs.Nodes.{has_node}
+use Rattle.raft_quorums.specs.Nodes.{has_node}
 
 module _ {K V P : Type 0} (eq : K → K → Bool) (cmp : P → P → Ordering) (compared : V → P) (accepts : (K → Bool) → Bool) (voters : List (K × V)) where
   -- the first n are no quorum, or there are none

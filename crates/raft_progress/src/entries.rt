@@ -2,7 +2,7 @@
 ghost use Rattle.std.specs.Prelude.{◌≡◌, ◌<◌, true, false, length, Some, None, IfSome, IfNone, IfOk, map, is_some, slice_set, slice_index_or};
 ghost use Rattle.std.specs.List.{position};
 ghost use Rattle.std.specs.Option.{option_copied};
-ghost use Rattle.raft_state.specs.Nodes.{has_node};
+ghost use Rattle.raft_quorums.specs.Nodes.{has_node};
 ghost use Rattle.raft_progress.specs.Values.{value_at, with_value};
 
 use raft_state::NodeId;

@@ -1,7 +1,7 @@
 //! The voters in falling order of their values, and the search for a quorum in front of them.
 ghost use Rattle.std.specs.Prelude.{◌≡◌, ◌<◌, ◌≤◌, ◌&&◌, ◌-◌, ◌++◌, ◌∷◌, [], length, slice_set, slice_index_or, take, true, IfSome, IfNone, OnOk, IsPermutation};
 ghost use Rattle.std.specs.Ordering.{is_le, is_lt};
-ghost use Rattle.raft_state.specs.Nodes.{has_node};
+ghost use Rattle.raft_quorums.specs.Nodes.{has_node};
 ghost use Rattle.raft_progress.specs.Granted.{IsFalling, IsGranted, IsFallingBut};
 ghost use Rattle.raft_progress.specs.Search.{EndsQuorum, HasNoQuorum};
 

@@ -1,11 +1,11 @@
 ghost use Rattle.std.specs.Prelude.{◌≡◌, Some};
-ghost use Rattle.raft_state.specs.LogId.{log_id_of};
+ghost use Rattle.raft_values.specs.LogId.{log_id_of};
 
 use super::{
     Inflight, InvalidProgress, Progress, ProgressEntry, ReplayError, ReplayItem, VecProgress,
     replay,
 };
-use raft_state::laws::{changes_are_coherent, quorums_share_a_voter, superset_is_quorum};
+use raft_membership::laws::{changes_are_coherent, quorums_share_a_voter, superset_is_quorum};
 use raft_state::{
     EmptyNode, IdSet, Invalid, Joint, LeaderId, LogId, LogIdRange, Membership, NodeMap, RaftState,
     Validate, VoterGroups,

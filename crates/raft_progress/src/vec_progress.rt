@@ -6,7 +6,7 @@ ghost use Rattle.std.specs.Borrow.{Lends, LendsIf, sem};
 ghost use Rattle.std.specs.Fn.{FnOnceReturnsAtMut};
 ghost use Rattle.std.specs.List.{list_any};
 ghost use Rattle.std.specs.Option.{option_copied, option_copied_mut};
-ghost use Rattle.raft_state.specs.Nodes.{has_id, has_node};
+ghost use Rattle.raft_quorums.specs.Nodes.{has_id, has_node};
 ghost use Rattle.raft_progress.specs.Counted.{IsCounted, IsNoLess, IsSamePart, lowers_value};
 ghost use Rattle.raft_progress.specs.Granted.{IsFalling};
 ghost use Rattle.raft_progress.specs.Parts.{IsUpgraded, SetsValue, carried, has_value, value_of, with_learner, with_voter, written};

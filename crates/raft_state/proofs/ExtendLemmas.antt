@@ -6,10 +6,10 @@ use Rattle.std.specs.declared.cmp.Ordering.{Ordering}
 use Rattle.std.specs.declared.cmp.Ordering.TheVariants.{Greater}
 use Rattle.std.proofs.lemmas.List.{drop_more, get_or-map, length-map, length_push, get_or_push}
 use Rattle.std.proofs.lemmas.List.Sums.{fold_more}
-use Rattle.raft_state.specs.declared.vote.LeaderId.{LeaderId}
-use Rattle.raft_state.specs.declared.log_id.LogId.{LogId}
+use Rattle.raft_values.specs.declared.vote.LeaderId.{LeaderId}
+use Rattle.raft_values.specs.declared.log_id.LogId.{LogId}
 use Rattle.raft_state.specs.LogIdList.{leader_ids, last_id, ids_between, appended, extended, AllGoOn, GoesOn, AreOfLeader, HaveOneLeader, PlacesRise, ids_of}
-use Rattle.raft_state.specs.Vote.{leader_cmp}
+use Rattle.raft_values.specs.Vote.{leader_cmp}
 use Rattle.raft_state.proofs.LogIdLemmas.{leader_ids-join, leader_ids-first}
 use Rattle.raft_state.proofs.LogIdListLemmas.{final, last_id-cons, last_id-ids_of}
 

@@ -3,7 +3,7 @@ use Rattle.std.proofs.Common.{◌≡◌, ◌≢◌, ℕ, zero, suc, ◌+◌, ◌
 use Rattle.std.specs.Prelude.{Option, Some, None}
 use Rattle.std.proofs.lemmas.List.{drop-set, take_at, length-drop, length-set}
 use Rattle.std.proofs.lemmas.List.{set-get_or}
-use Rattle.raft_state.specs.declared.log_id.LogId.{LogId}
+use Rattle.raft_values.specs.declared.log_id.LogId.{LogId}
 use Rattle.raft_state.specs.LogIdList.{ids_of, id_at, last_id, truncated, from_place, purged, or_alone, PlacesRise, Reaches}
 use Rattle.raft_state.proofs.LogIdListLemmas.{final, last_id-cons, ids_of-first}
 use Rattle.raft_state.proofs.KeyCutLemmas.{IsBelowKeys, id_by, id_at-before, id_at-behind, id_at-inside, id_at-last, truncated-before, truncated-behind, truncated-pair, truncated-front, from_place-before, from_place-behind, from_place-inside}

@@ -6,8 +6,8 @@ use Rattle.std.specs.Option.{option_or}
 use Rattle.std.proofs.lemmas.Bool.Decides.{nat_tests}
 use Rattle.std.proofs.lemmas.List.Elements.{filter-append}
 use Rattle.std.proofs.lemmas.List.Folds.{find-append}
-use Rattle.raft_state.specs.declared.vote.LeaderId.{LeaderId}
-use Rattle.raft_state.specs.declared.log_id.LogId.{LogId}
+use Rattle.raft_values.specs.declared.vote.LeaderId.{LeaderId}
+use Rattle.raft_values.specs.declared.log_id.LogId.{LogId}
 use Rattle.raft_state.specs.LogIdList.{leader_ids, end_of_key, ids_of, last_id, id_at, truncated, from_place, IsBelowNext, PlacesRise}
 use Rattle.raft_state.proofs.LogIdLemmas.{leader_ids-join, leader_ids-none, leader_ids-one, leader_ids-first, filter-all, filter-no, find-no}
 use Rattle.raft_state.proofs.LogIdListLemmas.{final, ids_of-first, ids_behind}

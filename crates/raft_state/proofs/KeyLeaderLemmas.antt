@@ -7,9 +7,9 @@ use Rattle.std.specs.declared.cmp.Ordering.TheVariants.{Less, Equal, Greater}
 use Rattle.std.specs.Ordering.{is_eq, ordering_then, nat_cmp}
 use Rattle.std.specs.Cmp.{IsTotalOrder}
 use Rattle.std.proofs.lemmas.Cmp.{nat_cmp_total}
-use Rattle.raft_state.specs.declared.vote.LeaderId.{LeaderId}
-use Rattle.raft_state.specs.declared.log_id.LogId.{LogId}
-use Rattle.raft_state.specs.Vote.{leader_cmp}
+use Rattle.raft_values.specs.declared.vote.LeaderId.{LeaderId}
+use Rattle.raft_values.specs.declared.log_id.LogId.{LogId}
+use Rattle.raft_values.specs.Vote.{leader_cmp}
 use Rattle.raft_state.specs.LogIdList.{last_id, ends_in_pair, LeadersRise, of_leader}
 use Rattle.raft_state.proofs.LogIdListLemmas.{final, last_id-cons}
 use Rattle.raft_state.proofs.KeyOrderLemmas.{same_leader, same_by_order}

@@ -5,9 +5,9 @@ use Rattle.std.specs.declared.cmp.Ordering.{Ordering}
 use Rattle.std.specs.declared.cmp.Ordering.TheVariants.{Less, Equal, Greater}
 use Rattle.std.specs.Ordering.{is_eq, ordering_then, nat_cmp}
 use Rattle.std.proofs.lemmas.Bool.Decides.{nat_tests}
-use Rattle.raft_state.specs.declared.vote.LeaderId.{LeaderId}
-use Rattle.raft_state.specs.declared.log_id.LogId.{LogId}
-use Rattle.raft_state.specs.Vote.{leader_cmp}
+use Rattle.raft_values.specs.declared.vote.LeaderId.{LeaderId}
+use Rattle.raft_values.specs.declared.log_id.LogId.{LogId}
+use Rattle.raft_values.specs.Vote.{leader_cmp}
 use Rattle.raft_state.specs.LogIdList.{leader_ids, end_of_key, ids_of, last_id, ids_between, appended, IsBelowNext, PlacesRise, ends_in_pair, IsLedOn, LeadersRise, AreKeys, GoesOn}
 use Rattle.raft_state.proofs.LogIdLemmas.{leader_ids-join, leader_ids-one}
 use Rattle.raft_state.proofs.LogIdListLemmas.{final, last_id-cons, appended-after, ids_of-push, IsAfter}

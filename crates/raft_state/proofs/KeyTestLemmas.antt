@@ -2,7 +2,7 @@
 use Rattle.std.proofs.Common.{◌≡◌, ℕ, ◌+◌, ◌-◌, ◌<◌, List, [], ◌∷◌, length, get_or, take, drop, refl, ap, sym, subst, ◌∙◌, arith, length-drop}
 use Rattle.std.specs.declared.cmp.Ordering.{Ordering}
 use Rattle.std.proofs.lemmas.List.{drop_more, take_all}
-use Rattle.raft_state.specs.declared.log_id.LogId.{LogId}
+use Rattle.raft_values.specs.declared.log_id.LogId.{LogId}
 use Rattle.raft_state.specs.LogIdList.{IsBelowNext, PlacesRise, IsLedOn, LeadersRise, AreKeys}
 
 -- the rest of a list to its end

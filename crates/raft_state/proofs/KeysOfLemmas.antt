@@ -7,9 +7,9 @@ use Rattle.std.specs.declared.cmp.Ordering.TheVariants.{Less, Equal, Greater}
 use Rattle.std.specs.Ordering.{is_eq, ordering_then, nat_cmp}
 use Rattle.std.specs.Cmp.{IsTotalOrder}
 use Rattle.std.proofs.lemmas.Cmp.{nat_cmp_total}
-use Rattle.raft_state.specs.declared.vote.LeaderId.{LeaderId}
-use Rattle.raft_state.specs.declared.log_id.LogId.{LogId}
-use Rattle.raft_state.specs.Vote.{leader_cmp}
+use Rattle.raft_values.specs.declared.vote.LeaderId.{LeaderId}
+use Rattle.raft_values.specs.declared.log_id.LogId.{LogId}
+use Rattle.raft_values.specs.Vote.{leader_cmp}
 use Rattle.raft_state.specs.LogIdList.{leader_ids, end_of_key, ids_of, PlacesRise, LeadersRise, AreKeys, begins_leader, keys_behind, keys_of}
 use Rattle.raft_state.proofs.LogIdLemmas.{run, id_of, leader_ids-one}
 use Rattle.raft_state.proofs.LogIdListLemmas.{ids_of-first, ids_behind}

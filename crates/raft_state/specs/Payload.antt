@@ -1,6 +1,6 @@
 -- What an entry asks for.
 use Rattle.std.specs.Prelude.{Bool, true, false, Option, Some, None}
-use Rattle.raft_state.specs.declared.membership.Membership.{Membership as Members}
+use Rattle.raft_membership.specs.declared.membership.Membership.{Membership as Members}
 use Rattle.raft_state.specs.declared.entry.EntryPayload.{EntryPayload}
 use Rattle.raft_state.specs.declared.entry.EntryPayload.TheVariants.{Blank, Normal, Membership}
 

@@ -5,18 +5,18 @@ use Rattle.std.specs.List.{slice_get}
 use Rattle.std.specs.Option.{option_or}
 use Rattle.std.specs.declared.cmp.Ordering.{Ordering}
 use Rattle.raft_state.specs.declared.accepted.Accepted.{Accepted}
-use Rattle.raft_state.specs.declared.io_state.IOState.{IOState}
-use Rattle.raft_state.specs.declared.vote.LeaderId.{LeaderId}
-use Rattle.raft_state.specs.declared.vote.Vote.{Vote}
-use Rattle.raft_state.specs.declared.log_id.LogId.{LogId}
+use Rattle.raft_values.specs.declared.io_state.IOState.{IOState}
+use Rattle.raft_values.specs.declared.vote.LeaderId.{LeaderId}
+use Rattle.raft_values.specs.declared.vote.Vote.{Vote}
+use Rattle.raft_values.specs.declared.log_id.LogId.{LogId}
 use Rattle.raft_state.specs.declared.raft_state.RaftState.{RaftState}
-use Rattle.raft_state.specs.declared.server_state.ServerState.{ServerState}
-use Rattle.raft_state.specs.declared.server_state.ServerState.TheVariants.{Learner, Follower, Candidate, Leader}
-use Rattle.raft_state.specs.declared.validate.Invalid.{Invalid}
-use Rattle.raft_state.specs.declared.validate.Invalid.TheVariants.{FirstLogId, PurgedPastGoal, PurgePastCommitted, PurgePastSnapshot, SnapshotPastCommitted, CommittedPastLog}
-use Rattle.raft_state.specs.LogId.{is_past}
+use Rattle.raft_values.specs.declared.server_state.ServerState.{ServerState}
+use Rattle.raft_values.specs.declared.server_state.ServerState.TheVariants.{Learner, Follower, Candidate, Leader}
+use Rattle.raft_values.specs.declared.validate.Invalid.{Invalid}
+use Rattle.raft_values.specs.declared.validate.Invalid.TheVariants.{FirstLogId, PurgedPastGoal, PurgePastCommitted, PurgePastSnapshot, SnapshotPastCommitted, CommittedPastLog}
+use Rattle.raft_values.specs.LogId.{is_past}
 use Rattle.raft_state.specs.LogIdList.{id_at, last_id}
-use Rattle.raft_state.specs.MembershipState.{membership_fault}
+use Rattle.raft_membership.specs.MembershipState.{membership_fault}
 
 -- the fault if it is there, else what else there is
 abbrev pub or_fault : {E : Type 0} → Bool → E → Option E → Option E

@@ -3,9 +3,9 @@ ghost use Rattle.std.specs.Prelude.{◌≡◌, None};
 ghost use Rattle.std.specs.Option.{option_copied};
 ghost use Rattle.raft_state.specs.State.{accepted_under};
 
-use crate::log_id::LogId;
-use crate::node::{NodeId, default_id};
-use crate::vote::LeaderId;
+use raft_values::log_id::LogId;
+use raft_values::node::{NodeId, default_id};
+use raft_values::vote::LeaderId;
 
 /// The last log id that a node has accepted of a leader (openraft): the log up to it is known to be
 /// the leader's, so it may be committed with the leader's commits.

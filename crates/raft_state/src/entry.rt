@@ -1,9 +1,9 @@
 //! Entries of a log.
 ghost use Rattle.std.specs.Prelude.{◌≡◌};
 
-use crate::log_id::LogId;
-use crate::membership::Membership;
-use crate::node::{Node, NodeId};
+use raft_membership::membership::Membership;
+use raft_values::log_id::LogId;
+use raft_values::node::{Node, NodeId};
 use std::alloc::AllocError;
 use std::fmt::{self, Debug, Display};
 

@@ -6,9 +6,9 @@ ghost use Rattle.raft_state.specs.LogIdList.{ids_of, last_id, id_at, appended, t
 ghost use Rattle.raft_state.specs.LogIdList.{Reaches, ends_in_pair, keys_of, of_leader, extended, AllGoOn, IsBelowNext, IsLedOn};
 ghost use Rattle.raft_state.specs.LogIdList.{HaveOneLeader, KeepsFront, with_end};
 
-use crate::log_id::LogId;
-use crate::node::NodeId;
 use crate::raft_entry::RaftLogId;
+use raft_values::log_id::LogId;
+use raft_values::node::NodeId;
 use std::alloc::{AllocError, Global};
 use std::cmp::Ordering;
 use std::marker::Model;
@@ -23,7 +23,7 @@ pub struct LogIdList<NID: NodeId> {
 
 impl<NID: NodeId> Model for LogIdList<NID> {
     ghost use Rattle.std.specs.Prelude.{List};
-    ghost use Rattle.raft_state.specs.declared.log_id.LogId.{LogId};
+    ghost use Rattle.raft_values.specs.declared.log_id.LogId.{LogId};
     ghost use Rattle.raft_state.specs.LogIdList.{ids_of, AreKeys};
 
     ghost Value = { List (LogId NID) };

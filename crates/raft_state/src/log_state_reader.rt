@@ -1,13 +1,13 @@
 //! Reading the log ids of a state.
 ghost use Rattle.std.specs.Prelude.{◌≡◌, ◌↔◌, IsTrue, List, Option, Some, true, false};
 ghost use Rattle.std.specs.Option.{option_copied};
-ghost use Rattle.raft_state.specs.declared.log_id.LogId.{LogId as Id};
+ghost use Rattle.raft_values.specs.declared.log_id.LogId.{LogId as Id};
 ghost use Rattle.raft_state.specs.LogIdList.{id_at, last_id};
-ghost use Rattle.raft_state.specs.LogId.{reaches};
+ghost use Rattle.raft_values.specs.LogId.{reaches};
 ghost use Rattle.raft_state.specs.State.{id_before};
 
-use crate::log_id::LogId;
-use crate::node::NodeId;
+use raft_values::log_id::LogId;
+use raft_values::node::NodeId;
 
 /// What has the log ids of a node (openraft).
 pub trait LogStateReader<NID: NodeId> {

@@ -2,15 +2,15 @@
 ghost use Rattle.std.specs.Prelude.{◌≡◌, Bool, Option, refl};
 ghost use Rattle.std.specs.Option.{option_copied};
 ghost use Rattle.raft_state.specs.Payload.{is_blank, membership_of};
-ghost use Rattle.raft_state.specs.declared.log_id.LogId.{LogId as Id};
-ghost use Rattle.raft_state.specs.declared.membership.Membership.{Membership as Members};
+ghost use Rattle.raft_values.specs.declared.log_id.LogId.{LogId as Id};
+ghost use Rattle.raft_membership.specs.declared.membership.Membership.{Membership as Members};
 ghost use Rattle.raft_state.specs.declared.entry.EntryPayload.TheVariants.{Blank, Normal, Membership as Asks};
 
 use crate::entry::{Entry, EntryPayload};
-use crate::log_id::LogId;
-use crate::membership::Membership;
-use crate::node::{Node, NodeId, default_id};
-use crate::vote::LeaderId;
+use raft_membership::membership::Membership;
+use raft_values::log_id::LogId;
+use raft_values::node::{Node, NodeId, default_id};
+use raft_values::vote::LeaderId;
 
 /// What an entry asks for, as far as Raft knows (openraft).
 pub trait RaftPayload<NID: NodeId, N: Node> {

@@ -2,30 +2,30 @@
 ghost use Rattle.std.specs.Prelude.{◌≡◌, ◌↔◌, ◌+◌, ◌<◌, ◌^◌, ◌&&◌, true, false, IsTrue, [], None, Some, map, if◌then◌else◌, IfOk, OnOk, OnErr, IfErr};
 ghost use Rattle.std.specs.List.{slice_get};
 ghost use Rattle.std.specs.Option.{option_copied};
-ghost use Rattle.raft_state.specs.LogId.{is_past};
+ghost use Rattle.raft_values.specs.LogId.{is_past};
 ghost use Rattle.raft_state.specs.LogIdList.{AllGoOn, HaveOneLeader, extended, id_at, last_id, purged};
-ghost use Rattle.raft_state.specs.Membership.{is_voter};
-ghost use Rattle.raft_state.specs.MembershipState.{committed_upto};
-ghost use Rattle.raft_state.specs.declared.server_state.ServerState.TheVariants.{Learner};
+ghost use Rattle.raft_membership.specs.Membership.{is_voter};
+ghost use Rattle.raft_membership.specs.MembershipState.{committed_upto};
+ghost use Rattle.raft_values.specs.declared.server_state.ServerState.TheVariants.{Learner};
 ghost use Rattle.raft_state.specs.State.{first_leader, no_io};
 ghost use Rattle.raft_state.specs.State.{accepted_under, begins_at, first_vote, last_purged, part_of, purge_fault, state_fault};
 
 use crate::accepted::Accepted;
-use crate::instant::Instant;
-use crate::io_state::{IOState, LogIOId};
-use crate::log_id::LogId;
 use crate::log_id_list::LogIdList;
-use crate::log_id_option_ext::is_past;
 use crate::log_state_reader::LogStateReader;
-use crate::membership_state::MembershipState;
-use crate::node::{Node, NodeId, default_id};
 use crate::raft_entry::RaftLogId;
-use crate::server_state::ServerState;
-use crate::snapshot_meta::SnapshotMeta;
-use crate::utime::UTime;
-use crate::validate::{Invalid, Validate};
-use crate::vote::{LeaderId, Vote};
-use crate::vote_state_reader::VoteStateReader;
+use raft_membership::membership_state::MembershipState;
+use raft_membership::snapshot_meta::SnapshotMeta;
+use raft_values::instant::Instant;
+use raft_values::io_state::{IOState, LogIOId};
+use raft_values::log_id::LogId;
+use raft_values::log_id_option_ext::is_past;
+use raft_values::node::{Node, NodeId, default_id};
+use raft_values::server_state::ServerState;
+use raft_values::utime::UTime;
+use raft_values::validate::{Invalid, Validate};
+use raft_values::vote::{LeaderId, Vote};
+use raft_values::vote_state_reader::VoteStateReader;
 use std::alloc::{AllocError, Global};
 
 /// What a node knows of its group (openraft).

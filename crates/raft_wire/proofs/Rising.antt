@@ -4,7 +4,7 @@ use Rattle.std.specs.declared.cmp.Ordering.TheVariants.{Less}
 use Rattle.std.specs.Ordering.{nat_cmp}
 use Rattle.std.specs.Cmp.{nat_cmp_is}
 use Rattle.std.specs.Int.{w64}
-use Rattle.raft_state.specs.Rising.{IsBelowAll, IsRising, IsRisingByFirst}
+use Rattle.raft_quorums.specs.Rising.{IsBelowAll, IsRising, IsRisingByFirst}
 use Rattle.raft_wire.specs.declared.error.FrameFault.TheVariants as fault
 use Rattle.raft_wire.specs.Reader.{Reader, ◌>>=◌, tested, number_at, many_at}
 use Rattle.raft_wire.specs.Memberships.{Chained, is_above, IsAbove, id_above, that_id, address_at, node_above, that_node}

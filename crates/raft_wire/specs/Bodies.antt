@@ -2,8 +2,8 @@
 use Rattle.std.specs.Prelude.{◌≡◌, ℕ, zero, suc, ◌<◌, ◌≤◌, ◌^◌, ◌==◌, Bool, true, List, [], ◌∷◌, ◌++◌, length, Option, Some}
 use Rattle.std.specs.Prelude.{None, Result, Ok, Err, IfSome, if◌then◌else◌}
 use Rattle.std.specs.Int.{w64, to_be_bytes}
-use Rattle.raft_state.specs.declared.vote.Vote.{Vote}
-use Rattle.raft_state.specs.declared.log_id.LogId.{LogId}
+use Rattle.raft_values.specs.declared.vote.Vote.{Vote}
+use Rattle.raft_values.specs.declared.log_id.LogId.{LogId}
 use Rattle.raft_engine.specs.declared.vote_message.VoteRequest.{VoteRequest}
 use Rattle.raft_engine.specs.declared.vote_message.VoteResponse.{VoteResponse}
 use Rattle.raft_engine.specs.declared.snapshot_message.LoggedMembership.{LoggedMembership as LoggedMembershipOf}

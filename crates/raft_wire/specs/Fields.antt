@@ -2,10 +2,10 @@
 use Rattle.std.specs.Prelude.{ℕ, zero, suc, ◌<◌, ◌^◌, Bool, true, false, List, [], ◌∷◌, ◌++◌, Option, Some, None}
 use Rattle.std.specs.Prelude.{Result, Ok, Err, IfSome}
 use Rattle.std.specs.Int.{w64, to_be_bytes}
-use Rattle.raft_state.specs.declared.vote.Vote.{Vote}
-use Rattle.raft_state.specs.declared.log_id.LogId.{LogId}
-use Rattle.raft_state.specs.Vote.{vote_of}
-use Rattle.raft_state.specs.LogId.{log_id_of}
+use Rattle.raft_values.specs.declared.vote.Vote.{Vote}
+use Rattle.raft_values.specs.declared.log_id.LogId.{LogId}
+use Rattle.raft_values.specs.Vote.{vote_of}
+use Rattle.raft_values.specs.LogId.{log_id_of}
 use Rattle.raft_wire.specs.declared.error.FrameFault.TheVariants as fault
 use Rattle.raft_wire.specs.Reader.{Reader, ◌>>=◌, both, made, number_at}
 

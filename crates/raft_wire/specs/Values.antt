@@ -1,7 +1,7 @@
 -- The values that frames and stored entries carry: node ids are numbers, addresses and commands are bytes.
 use Rattle.std.specs.Prelude.{ℕ, List}
-use Rattle.raft_state.specs.declared.command.Command.{Command}
-use Rattle.raft_state.specs.declared.membership.Membership.{Membership as MembershipOf}
+use Rattle.raft_values.specs.declared.command.Command.{Command}
+use Rattle.raft_membership.specs.declared.membership.Membership.{Membership as MembershipOf}
 use Rattle.raft_state.specs.declared.entry.Entry.{Entry as EntryOf}
 use Rattle.raft_state.specs.declared.entry.EntryPayload.{EntryPayload as EntryPayloadOf}
 

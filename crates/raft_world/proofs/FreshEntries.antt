@@ -3,7 +3,7 @@ use Rattle.std.specs.Prelude.{◌≡◌, ℕ, zero, suc, ◌+◌, ◌-◌, ◌<�
 use Rattle.std.proofs.Common.{sym, ap, ◌∙◌, arith, ⊎_elim, eqb-true, eq-eqb, leb-true, leb-false}
 use Rattle.std.proofs.lemmas.Bool.{and_from, and_parts, cond-false, cases_Bool, cases_lt, eqb-false, false_from_ne_true}
 use Rattle.std.proofs.lemmas.Option.{slice_get_past}
-use Rattle.raft_state.specs.declared.log_id.LogId.{LogId}
+use Rattle.raft_values.specs.declared.log_id.LogId.{LogId}
 use Rattle.raft_engine.specs.Values.{Membership, Entry, log_id_eq, leader_eq}
 use Rattle.raft_engine.specs.StoredGroup.{StoredGroup, first_place, id_of, is_id, has_id_in_log}
 use Rattle.raft_engine.specs.StepResult.{is_within}

@@ -4,9 +4,9 @@ use Rattle.std.specs.List.{list_any}
 use Rattle.std.proofs.Common.{inl, inr, sym, ap, ◌∙◌, subst, arith, ⊎_elim}
 use Rattle.std.proofs.lemmas.Bool.{and_parts, and_from, or_cases, or_left, or_right}
 use Rattle.std.proofs.lemmas.Option.{slice_get_within}
-use Rattle.raft_state.specs.declared.vote.Vote.{Vote}
-use Rattle.raft_state.specs.declared.log_id.LogId.{LogId}
-use Rattle.raft_state.specs.Quorum.{is_quorum as is_quorum_of}
+use Rattle.raft_values.specs.declared.vote.Vote.{Vote}
+use Rattle.raft_values.specs.declared.log_id.LogId.{LogId}
+use Rattle.raft_quorums.specs.Quorum.{is_quorum as is_quorum_of}
 use Rattle.raft_engine.specs.Values.{Membership, Entry, is_written_by, vote_eq}
 use Rattle.raft_engine.specs.Message.{Message}
 use Rattle.raft_world.specs.BallotLists.{AgreeBelow}

@@ -3,7 +3,7 @@ use Rattle.std.specs.Prelude.{◌≡◌, ℕ, suc, ◌-◌, ◌<◌, ◌≤◌, 
 use Rattle.std.proofs.Common.{sym, ap, ◌∙◌, subst, arith, ⊎_elim, append-nil, eq-eqb, lt-ltb, length-take-le}
 use Rattle.std.proofs.lemmas.Bool.{and_from}
 use Rattle.std.proofs.lemmas.Option.{slice_get_within}
-use Rattle.raft_state.specs.declared.vote.Vote.{Vote}
+use Rattle.raft_values.specs.declared.vote.Vote.{Vote}
 use Rattle.raft_engine.specs.Values.{Membership, Entry, vote_lt}
 use Rattle.raft_engine.specs.StoredGroup.{StoredGroup, Holds, first_place, held, prefix_of}
 use Rattle.raft_engine.specs.GroupState.{GroupState, Role, Follower, Candidate, Leader, is_leader}

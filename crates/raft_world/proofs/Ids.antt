@@ -4,8 +4,8 @@ use Rattle.std.proofs.Common.{sym, ap, ap₂, ◌∙◌, arith, ⊎_elim, eq-eqb
 use Rattle.std.proofs.lemmas.List.{length-map}
 use Rattle.std.proofs.lemmas.Option.{slice_get-map}
 use Rattle.std.proofs.lemmas.Bool.{cond-true, cond-false, cases_eq}
-use Rattle.raft_state.specs.declared.log_id.LogId.{LogId}
-use Rattle.raft_state.specs.LogId.{next_place}
+use Rattle.raft_values.specs.declared.log_id.LogId.{LogId}
+use Rattle.raft_values.specs.LogId.{next_place}
 use Rattle.raft_engine.specs.Values.{Membership}
 use Rattle.raft_engine.specs.Values.{Entry}
 use Rattle.raft_engine.specs.StoredGroup.{StoredGroup, first_place, end_place, id_of, id_at, id_before, last_id}

@@ -1,7 +1,7 @@
 -- The last membership of a list, seen through a snapshot and a log that overlap.
 use Rattle.std.specs.Prelude.{◌≡◌, ℕ, zero, suc, ◌≤◌, List, [], ◌∷◌, ◌++◌, length, take, drop, ◌+◌, Option, Some, None, option_and_then, refl}
 use Rattle.std.proofs.Common.{sym, ap, ◌∙◌, arith, take-append-drop}
-use Rattle.raft_state.specs.declared.log_id.LogId.{LogId}
+use Rattle.raft_values.specs.declared.log_id.LogId.{LogId}
 use Rattle.raft_engine.specs.Values.{Membership}
 use Rattle.raft_engine.specs.Values.{Entry, EntryPayload, LoggedMembership, membership_after, last_membership}
 use Rattle.raft_state.specs.declared.entry.EntryPayload.TheVariants.{Blank, Normal, Membership as Members}

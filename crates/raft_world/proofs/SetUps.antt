@@ -4,15 +4,15 @@ use Rattle.std.specs.Prelude.{◌≡◌, ℕ, ◌+◌, nat_eq, nat_lt, is_none, 
 use Rattle.std.specs.Cmp.Lexicographic.{pointwise}
 use Rattle.std.proofs.Common.{ap₂, ◌∙◌, eqb-true}
 use Rattle.std.proofs.lemmas.Bool.{and_parts}
-use Rattle.raft_state.specs.Quorum.{is_quorum}
+use Rattle.raft_quorums.specs.Quorum.{is_quorum}
 use Rattle.raft_engine.specs.Values.{Membership, entry_of, has_id, is_written_by, configs_eq, nodes_eq, membership_eq}
 use Rattle.raft_engine.specs.GroupState.{Lead, Role, Follower, Candidate, Leader}
 use Rattle.raft_engine.specs.Peer.{PeerState, is_kept_for_peers}
 use Rattle.raft_engine.specs.StoredGroup.{PutEntries, Snapshot, entry_at, first_place, id_of}
 use Rattle.raft_state.specs.declared.entry.EntryPayload.TheVariants.{Blank, Membership as Members}
-use Rattle.raft_state.specs.declared.log_id.LogId.{LogId}
-use Rattle.raft_state.specs.LogId.{log_id_of}
-use Rattle.raft_state.specs.Vote.{vote_of}
+use Rattle.raft_values.specs.declared.log_id.LogId.{LogId}
+use Rattle.raft_values.specs.LogId.{log_id_of}
+use Rattle.raft_values.specs.Vote.{vote_of}
 use Rattle.raft_engine.specs.StepResult.{StepResult, append, in_role, send, step_down, store, store_vote}
 use Rattle.raft_engine.specs.Elect.{ask, other_voters, stand}
 use Rattle.raft_engine.specs.Initialize.{initialize_step}

@@ -1,9 +1,9 @@
 -- What ties the nodes and messages of a group's world to those of the ballot machine.
 use Rattle.std.specs.Prelude.{◌≡◌, ◌⊎◌, ℕ, ◌+◌, ◌<◌, ◌≤◌, ◌^◌, Bool, true, false, List, length, slice_get, Option, Some, None}
 use Rattle.std.proofs.Common.{inl, sym, ap, ◌∙◌, subst}
-use Rattle.raft_state.specs.declared.log_id.LogId.{LogId}
-use Rattle.raft_state.specs.declared.vote.Vote.{Vote}
-use Rattle.raft_state.specs.LogId.{next_place}
+use Rattle.raft_values.specs.declared.log_id.LogId.{LogId}
+use Rattle.raft_values.specs.declared.vote.Vote.{Vote}
+use Rattle.raft_values.specs.LogId.{next_place}
 use Rattle.raft_engine.specs.Values.{Membership}
 use Rattle.raft_engine.specs.Values.{Entry, last_membership}
 use Rattle.raft_engine.specs.StoredGroup.{StoredGroup, Snapshot, prefix_of, held}

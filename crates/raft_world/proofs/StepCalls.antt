@@ -3,7 +3,7 @@ use Rattle.std.specs.Prelude.{◌≡◌, ℕ, ◌<◌, ◌≤◌, ◌^◌, min, 
 use Rattle.std.proofs.Common.{sym, ap, ◌∙◌, subst, arith}
 use Rattle.std.proofs.lemmas.Bool.{ltb-false}
 use Rattle.std.proofs.lemmas.Option.{slice_get_within}
-use Rattle.raft_state.specs.LogId.{log_id_of, next_place}
+use Rattle.raft_values.specs.LogId.{log_id_of, next_place}
 use Rattle.raft_state.specs.declared.entry.EntryPayload.TheVariants.{Normal, Membership as Members}
 use Rattle.raft_engine.specs.Values.{after_change, ChangeMembers, configs_eq, Entry, entry_of, EntryPayload, LoggedMembership, Membership}
 use Rattle.raft_engine.specs.StoredGroup.{StoredGroup, Snapshot, PutEntries, entry_at, id_of, membership_in_force, prefix_of, snapshot_last, held}

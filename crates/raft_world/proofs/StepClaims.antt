@@ -4,11 +4,11 @@ use Rattle.std.specs.Prelude.{◌≡◌, ℕ, ◌+◌, ◌≤◌, ◌&&◌, ◌=
 use Rattle.std.specs.List.{list_any}
 use Rattle.std.proofs.Common.{sym, ap, ◌∙◌, subst, arith, ⊎_elim, length-take}
 use Rattle.std.proofs.lemmas.Bool.{and_parts}
-use Rattle.raft_state.specs.declared.vote.Vote.{Vote}
-use Rattle.raft_state.specs.declared.log_id.LogId.{LogId}
-use Rattle.raft_state.specs.LogId.{next_place, place_of}
-use Rattle.raft_state.specs.Vote.{vote_of}
-use Rattle.raft_state.specs.Quorum.{is_quorum}
+use Rattle.raft_values.specs.declared.vote.Vote.{Vote}
+use Rattle.raft_values.specs.declared.log_id.LogId.{LogId}
+use Rattle.raft_values.specs.LogId.{next_place, place_of}
+use Rattle.raft_values.specs.Vote.{vote_of}
+use Rattle.raft_quorums.specs.Quorum.{is_quorum}
 use Rattle.raft_state.specs.declared.entry.EntryPayload.TheVariants.{Blank, Membership as Members}
 use Rattle.raft_engine.specs.Values.{after_change, ChangeMembers, Entry, EntryPayload, has_id, is_written_by, LoggedMembership, vote_eq, vote_lt}
 use Rattle.raft_engine.specs.StoredGroup.{StoringCommand, MakeGroup, SetVote, PutEntries, CutFrom, RemoveUpTo, SetSnapshot, StartAfter, Snapshot, after_storing, prefix_of, snapshot_last, end_place, entry_at, first_place, has_id_in_log, id_of, held}

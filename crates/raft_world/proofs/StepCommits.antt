@@ -2,10 +2,10 @@
 use Rattle.std.specs.Prelude.{◌≡◌, ◌⊎◌, ℕ, ◌+◌, ◌<◌, ◌≤◌, ◌==◌, max, nat_lt, cond, Bool, true, false, List, [], ◌∷◌, filter, length, slice_get, Option, Some, None, is_none, option_and_then, ◌&&◌, refl}
 use Rattle.std.proofs.Common.{inl, inr, sym, ap, ◌∙◌, subst, arith, ⊎_elim, eqb-true, leb-true}
 use Rattle.std.proofs.lemmas.Bool.{and_parts, cond_both, cases_lt}
-use Rattle.raft_state.specs.declared.vote.Vote.{Vote}
-use Rattle.raft_state.specs.declared.log_id.LogId.{LogId}
-use Rattle.raft_state.specs.LogId.{next_place, place_of}
-use Rattle.raft_state.specs.Quorum.{is_quorum as is_quorum_of}
+use Rattle.raft_values.specs.declared.vote.Vote.{Vote}
+use Rattle.raft_values.specs.declared.log_id.LogId.{LogId}
+use Rattle.raft_values.specs.LogId.{next_place, place_of}
+use Rattle.raft_quorums.specs.Quorum.{is_quorum as is_quorum_of}
 use Rattle.raft_engine.specs.Values.{Membership, Entry, is_written_by}
 use Rattle.raft_engine.specs.StoredGroup.{StoredGroup, StoringCommand, Snapshot, RemoveUpTo, after_storing, end_place, entry_at, first_place, held, id_at, id_of, prefix_of}
 use Rattle.raft_engine.specs.Peer.{PeerState, is_kept_for_peers}

@@ -1,9 +1,9 @@
 -- Each step claims no more to be committed than was known or told, but for what a leader commits in it.
 use Rattle.std.specs.Prelude.{◌≡◌, ◌⊎◌, ℕ, ◌+◌, ◌<◌, ◌≤◌, ◌^◌, max, List, [], ◌∷◌, length, slice_get, Option, Some, None, option_map, refl}
 use Rattle.std.proofs.Common.{inl, inr, sym, ap, ◌∙◌, subst, arith, ⊎_elim}
-use Rattle.raft_state.specs.declared.vote.Vote.{Vote}
-use Rattle.raft_state.specs.declared.log_id.LogId.{LogId}
-use Rattle.raft_state.specs.LogId.{log_id_of, next_place, place_of}
+use Rattle.raft_values.specs.declared.vote.Vote.{Vote}
+use Rattle.raft_values.specs.declared.log_id.LogId.{LogId}
+use Rattle.raft_values.specs.LogId.{log_id_of, next_place, place_of}
 use Rattle.raft_state.specs.declared.entry.EntryPayload.TheVariants.{Normal, Membership as Members}
 use Rattle.raft_engine.specs.Values.{Membership, entry_of}
 use Rattle.raft_engine.specs.StoredGroup.{StoredGroup, StoringCommand, MakeGroup, PutEntries, Snapshot, entry_at, held, id_of, prefix_of, snapshot_last}

@@ -3,8 +3,8 @@ use Rattle.std.specs.Prelude.{◌≡◌, ◌⊎◌, ℕ, zero, suc, ◌+◌, ◌
 use Rattle.std.proofs.Common.{inl, sym, ap, ◌∙◌, subst, arith, ⊎_elim, eq-eqb, eqb-true, lt-ltb, ltb-true, le-ltb, take_all}
 use Rattle.std.proofs.lemmas.Bool.{and_from, and_parts, or_cases, or_left, or_right, cases_lt, cond-false}
 use Rattle.std.proofs.lemmas.Option.{slice_get_past}
-use Rattle.raft_state.specs.declared.log_id.LogId.{LogId}
-use Rattle.raft_state.specs.LogId.{place_of}
+use Rattle.raft_values.specs.declared.log_id.LogId.{LogId}
+use Rattle.raft_values.specs.LogId.{place_of}
 use Rattle.raft_engine.specs.Values.{Membership, Entry, log_id_eq, leader_eq}
 use Rattle.raft_engine.specs.StoredGroup.{StoredGroup, Snapshot, StartAfter, after_storing, after_storing_all, entry_at, id_of, first_place, end_place, has_id_in_log, is_id, snapshot_last, prefix_of, held}
 use Rattle.raft_engine.specs.GroupState.{Follower, Leader, state_of}

@@ -1,9 +1,9 @@
 -- Each kind of event keeps what is stored in line with the commands.
 use Rattle.std.specs.Prelude.{◌≡◌, ℕ, ◌+◌, nat_le, not, cond, Bool, true, false, List, [], ◌∷◌, Option, Some, None, refl}
-use Rattle.raft_state.specs.declared.vote.Vote.{Vote}
-use Rattle.raft_state.specs.Vote.{vote_of}
-use Rattle.raft_state.specs.declared.log_id.LogId.{LogId}
-use Rattle.raft_state.specs.LogId.{log_id_of}
+use Rattle.raft_values.specs.declared.vote.Vote.{Vote}
+use Rattle.raft_values.specs.Vote.{vote_of}
+use Rattle.raft_values.specs.declared.log_id.LogId.{LogId}
+use Rattle.raft_values.specs.LogId.{log_id_of}
 use Rattle.raft_engine.specs.Values.{Entry, EntryPayload, entry_of, LoggedMembership}
 use Rattle.raft_state.specs.declared.entry.EntryPayload.TheVariants.{Membership as Members}
 use Rattle.raft_engine.specs.Values.{ChangeMembers}

@@ -3,11 +3,11 @@ use Rattle.std.specs.Prelude.{◌≡◌, ℕ, ◌<◌, ◌≤◌, ◌&&◌, not,
 use Rattle.std.proofs.Common.{sym, ap, ap₂, ◌∙◌, subst, arith, ⊎_elim}
 use Rattle.std.proofs.lemmas.Bool.{cases_lt, ltb-false}
 use Rattle.std.proofs.lemmas.Option.{slice_get_within}
-use Rattle.raft_state.specs.LogId.{next_place}
-use Rattle.raft_state.specs.declared.log_id.LogId.{LogId}
+use Rattle.raft_values.specs.LogId.{next_place}
+use Rattle.raft_values.specs.declared.log_id.LogId.{LogId}
 use Rattle.raft_state.specs.declared.entry.EntryPayload.TheVariants.{Blank}
 use Rattle.std.specs.List.{list_any}
-use Rattle.raft_state.specs.Quorum.{is_quorum}
+use Rattle.raft_quorums.specs.Quorum.{is_quorum}
 use Rattle.raft_engine.specs.Values.{Entry, has_id, is_written_by, Membership, vote_eq}
 use Rattle.raft_engine.specs.StoredGroup.{StoredGroup, Snapshot, RemoveUpTo, SetSnapshot, CutFrom, entry_at, first_place, held, id_of, prefix_of, snapshot_last}
 use Rattle.raft_engine.specs.Message.{AppendFields, ReplyFields}

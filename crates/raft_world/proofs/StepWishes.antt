@@ -1,9 +1,9 @@
 -- What a leader is still to purge lies within its snapshot, after each kind of event.
 use Rattle.std.specs.Prelude.{◌≡◌, ℕ, ◌+◌, ◌<◌, ◌≤◌, ◌&&◌, min, cond, Bool, true, false, List, [], ◌∷◌, ◌++◌, length, Option, Some, None, is_none, is_some, option_map, refl}
 use Rattle.std.proofs.Common.{sym, ap, ◌∙◌, subst, arith}
-use Rattle.raft_state.specs.declared.vote.Vote.{Vote}
-use Rattle.raft_state.specs.declared.log_id.LogId.{LogId}
-use Rattle.raft_state.specs.Quorum.{is_quorum}
+use Rattle.raft_values.specs.declared.vote.Vote.{Vote}
+use Rattle.raft_values.specs.declared.log_id.LogId.{LogId}
+use Rattle.raft_quorums.specs.Quorum.{is_quorum}
 use Rattle.raft_engine.specs.Values.{ChangeMembers, Entry, has_id, LoggedMembership}
 use Rattle.raft_engine.specs.StoredGroup.{Snapshot, CutFrom, prefix_of, entry_at, has_id_in_log}
 use Rattle.raft_engine.specs.Message.{AppendFields, ReplyFields, ReplyResult, Success, Conflict, HigherVote}

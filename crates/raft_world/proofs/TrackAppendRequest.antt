@@ -1,8 +1,8 @@
 -- A whole append request, with its reply.
 use Rattle.std.specs.Prelude.{◌≡◌, ℕ, ◌+◌, ◌<◌, ◌^◌, Bool, true, false, List, length, Option, Some, None, is_some, refl}
 use Rattle.std.proofs.Common.{inl, sym, ap, ◌∙◌, subst}
-use Rattle.raft_state.specs.declared.log_id.LogId.{LogId}
-use Rattle.raft_state.specs.LogId.{next_place, place_of}
+use Rattle.raft_values.specs.declared.log_id.LogId.{LogId}
+use Rattle.raft_values.specs.LogId.{next_place, place_of}
 use Rattle.raft_engine.specs.Values.{Membership, vote_lt}
 use Rattle.raft_engine.specs.StoredGroup.{StoredGroup, CutFrom, entry_at, held}
 use Rattle.raft_engine.specs.Message.{AppendFields, Conflict, last_sent}

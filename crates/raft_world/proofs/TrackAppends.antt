@@ -4,8 +4,8 @@ use Rattle.std.proofs.Common.{inl, inr, sym, ap, ap₂, ◌∙◌, subst, arith,
 use Rattle.std.proofs.lemmas.Bool.{and_from, or_cases, or_parts, or_left, or_right, not_from_false, cond-true, cond_both, cases_lt}
 use Rattle.std.proofs.lemmas.List.{drop-drop, drop-map, take-map, map-append}
 use Rattle.std.proofs.lemmas.Option.{slice_get_past}
-use Rattle.raft_state.specs.declared.log_id.LogId.{LogId}
-use Rattle.raft_state.specs.LogId.{next_place, place_of}
+use Rattle.raft_values.specs.declared.log_id.LogId.{LogId}
+use Rattle.raft_values.specs.LogId.{next_place, place_of}
 use Rattle.raft_engine.specs.Values.{Membership, Entry}
 use Rattle.raft_engine.specs.StoredGroup.{StoredGroup, PutEntries, CutFrom, after_storing, after_storing_all, first_place, entry_at, prefix_of, has_id_in_log}
 use Rattle.raft_engine.specs.Message.{Message, AppendFields, last_sent}

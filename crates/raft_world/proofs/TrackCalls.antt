@@ -6,7 +6,7 @@ use Rattle.std.specs.Prelude.{nat_eq}
 use Rattle.std.proofs.lemmas.Bool.{and_parts, ltb-false, cases_lt}
 use Rattle.std.proofs.lemmas.Option.{slice_get_past}
 use Rattle.raft_state.specs.declared.entry.EntryPayload.TheVariants.{Membership as Members}
-use Rattle.raft_state.specs.LogId.{next_place}
+use Rattle.raft_values.specs.LogId.{next_place}
 use Rattle.raft_engine.specs.Values.{Membership, Entry, EntryPayload, configs_eq}
 use Rattle.raft_engine.specs.StoredGroup.{StoredGroup, Snapshot, SetSnapshot, after_storing, id_of, snapshot_last, prefix_of, held}
 use Rattle.raft_engine.specs.GroupState.{Lead, Role, Follower, Candidate, Leader}

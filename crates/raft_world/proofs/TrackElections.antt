@@ -2,11 +2,11 @@
 use Rattle.std.specs.Prelude.{◌≡◌, ℕ, ◌+◌, ◌*◌, ◌<◌, ◌^◌, ◌==◌, ◌&&◌, not, nat_lt, Bool, true, false, List, [], ◌∷◌, ◌++◌, length, count_by, take, Some, None, is_none, refl, cond}
 use Rattle.std.proofs.Common.{inl, inr, sym, ap, ◌∙◌, subst, arith, ⊎_elim, eq-eqb, eqb-true, lt-ltb}
 use Rattle.std.proofs.lemmas.Bool.{and_from, and_parts, cond-true, cond_both, not_from_false, or_cases, or_left, or_right}
-use Rattle.raft_state.specs.declared.vote.Vote.{Vote}
+use Rattle.raft_values.specs.declared.vote.Vote.{Vote}
 use Rattle.raft_state.specs.declared.entry.EntryPayload.TheVariants.{Blank, Normal, Membership as Members}
-use Rattle.raft_state.specs.Vote.{vote_of}
-use Rattle.raft_state.specs.LogId.{next_place, log_id_of}
-use Rattle.raft_state.specs.Quorum.{is_quorum as is_quorum_of}
+use Rattle.raft_values.specs.Vote.{vote_of}
+use Rattle.raft_values.specs.LogId.{next_place, log_id_of}
+use Rattle.raft_quorums.specs.Quorum.{is_quorum as is_quorum_of}
 use Rattle.raft_engine.specs.Values.{Membership, Entry, EntryPayload, entry_of, vote_eq, has_id, last_membership}
 use Rattle.raft_engine.specs.StoredGroup.{StoredGroup, PutEntries, end_place, prefix_of, SetVote, after_storing, last_id, held}
 use Rattle.raft_engine.specs.Message.{VoteRequest}

@@ -4,8 +4,8 @@ use Rattle.std.proofs.Common.{inl, inr, sym, ap, ◌∙◌, subst, arith, ⊎_el
 use Rattle.std.proofs.lemmas.Bool.{and_from, cond-true, cond-false, cases_lt}
 use Rattle.std.proofs.lemmas.List.{take-map, drop-map, drop-drop}
 use Rattle.std.proofs.lemmas.Option.{slice_get_within, slice_get_past}
-use Rattle.raft_state.specs.declared.log_id.LogId.{LogId}
-use Rattle.raft_state.specs.LogId.{next_place}
+use Rattle.raft_values.specs.declared.log_id.LogId.{LogId}
+use Rattle.raft_values.specs.LogId.{next_place}
 use Rattle.raft_engine.specs.Values.{Membership, Entry}
 use Rattle.raft_engine.specs.StoredGroup.{StoredGroup, Snapshot, first_place, id_of, id_at, id_before, prefix_of, held}
 use Rattle.raft_engine.specs.Message.{AppendFields, AppendRequest, SnapshotRequest, Numbered, last_sent}

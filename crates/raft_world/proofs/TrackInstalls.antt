@@ -5,9 +5,9 @@ use Rattle.std.proofs.lemmas.Bool.{and_from, not_from_false, cond-true}
 use Rattle.std.proofs.lemmas.List.{take-map}
 use Rattle.std.proofs.Math.Seq.{take-append_seam}
 use Rattle.std.proofs.lemmas.Option.{slice_get_within}
-use Rattle.raft_state.specs.declared.log_id.LogId.{LogId}
-use Rattle.raft_state.specs.declared.vote.Vote.{Vote}
-use Rattle.raft_state.specs.declared.vote.LeaderId.{LeaderId}
+use Rattle.raft_values.specs.declared.log_id.LogId.{LogId}
+use Rattle.raft_values.specs.declared.vote.Vote.{Vote}
+use Rattle.raft_values.specs.declared.vote.LeaderId.{LeaderId}
 use Rattle.raft_engine.specs.Values.{Membership, Entry, EntryPayload}
 use Rattle.raft_engine.specs.StoredGroup.{StoredGroup, Snapshot, CutFrom, SetSnapshot, RemoveUpTo, after_storing, first_place, prefix_of, has_id_in_log}
 use Rattle.raft_engine.specs.StepResult.{StepResult, store, apply_up_to, later_place, with_stored}

@@ -3,8 +3,8 @@ use Rattle.std.specs.Prelude.{◌≡◌, ◌⊎◌, ℕ, ◌+◌, ◌-◌, ◌<�
 use Rattle.std.proofs.Common.{inl, inr, sym, ap, ◌∙◌, subst, arith, ⊎_elim, length-take}
 use Rattle.std.proofs.lemmas.Bool.{cases_lt}
 use Rattle.std.proofs.lemmas.Option.{slice_get_past}
-use Rattle.raft_state.specs.declared.vote.Vote.{Vote}
-use Rattle.raft_state.specs.LogId.{next_place, place_of}
+use Rattle.raft_values.specs.declared.vote.Vote.{Vote}
+use Rattle.raft_values.specs.LogId.{next_place, place_of}
 use Rattle.raft_engine.specs.Values.{Membership, vote_lt}
 use Rattle.raft_engine.specs.StoredGroup.{StoredGroup, Snapshot, CutFrom, entry_at, has_id_in_log, held, first_place}
 use Rattle.raft_engine.specs.Message.{AppendFields, HeartBeat, Success, last_sent}

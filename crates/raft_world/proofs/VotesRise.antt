@@ -2,7 +2,7 @@
 use Rattle.std.specs.Prelude.{◌≡◌, ◌⊎◌, ℕ, zero, suc, ◌<◌, ◌≤◌, ◌==◌, Bool, true, false, List, [], ◌∷◌, take, length, Option, Some, None, refl}
 use Rattle.std.proofs.Common.{inl, inr, sym, ap, ◌∙◌, subst, arith, take_all, eqb-true}
 use Rattle.std.proofs.lemmas.Bool.{false_from_ne_true}
-use Rattle.raft_state.specs.declared.vote.Vote.{Vote}
+use Rattle.raft_values.specs.declared.vote.Vote.{Vote}
 use Rattle.raft_engine.specs.Values.{vote_lt}
 use Rattle.raft_engine.specs.StoredGroup.{StoredGroup, StoringCommand, MakeGroup, SetVote, PutEntries, CutFrom, RemoveUpTo, SetSnapshot, StartAfter, after_storing, after_storing_all}
 use Rattle.raft_engine.specs.GroupState.{GroupState, state_of}

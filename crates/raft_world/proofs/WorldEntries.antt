@@ -2,7 +2,7 @@
 -- holds of each that a node has, that a message carries, and that a leader had.
 use Rattle.std.specs.Prelude.{◌≡◌, ℕ, zero, suc, ◌<◌, ◌==◌, Bool, true, false, [], slice_get, Option, Some, None, is_some, unwrap_or, refl}
 use Rattle.std.proofs.Common.{sym, subst, arith}
-use Rattle.raft_state.specs.declared.log_id.LogId.{LogId}
+use Rattle.raft_values.specs.declared.log_id.LogId.{LogId}
 use Rattle.raft_state.specs.declared.entry.EntryPayload.TheVariants.{Blank}
 use Rattle.raft_engine.specs.Values.{ChangeMembers, Entry, entry_of, LoggedMembership}
 use Rattle.raft_engine.specs.StoredGroup.{StoredGroup, held, membership_in_force}

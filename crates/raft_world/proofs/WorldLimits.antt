@@ -3,9 +3,9 @@ use Rattle.std.specs.Prelude.{◌≡◌, ℕ, ◌≤◌, ◌==◌, ◌&&◌, Boo
 use Rattle.std.specs.Bool.{beq}
 use Rattle.std.proofs.Common.{ap, ◌∙◌, eqb-true, eq-eqb}
 use Rattle.std.proofs.lemmas.Bool.{and_from, and_parts}
-use Rattle.raft_state.specs.declared.vote.LeaderId.{LeaderId}
-use Rattle.raft_state.specs.declared.vote.Vote.{Vote}
-use Rattle.raft_state.specs.declared.log_id.LogId.{LogId}
+use Rattle.raft_values.specs.declared.vote.LeaderId.{LeaderId}
+use Rattle.raft_values.specs.declared.vote.Vote.{Vote}
+use Rattle.raft_values.specs.declared.log_id.LogId.{LogId}
 use Rattle.raft_engine.specs.Values.{leader_eq, log_id_eq, vote_eq}
 use Rattle.raft_engine.specs.StoredGroup.{prefix_of}
 use Rattle.raft_engine.specs.Message.{Message, MessageBody, VoteRequest, VoteReply, AppendRequest, AppendReply, SnapshotRequest, SnapshotReply, ReplyFields, ReplyResult, Success}

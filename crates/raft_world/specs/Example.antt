@@ -1,8 +1,8 @@
 -- Words for worked examples: short events and outcomes, and what a run leaves.
 use Rattle.std.specs.Prelude.{ℕ, List, [], ◌∷◌, ◌++◌, map, drop, slice_get, Option, Some, None, option_map}
-use Rattle.raft_state.specs.declared.log_id.LogId.{LogId}
+use Rattle.raft_values.specs.declared.log_id.LogId.{LogId}
 use Rattle.raft_engine.specs.Values.{Entry, Membership}
-use Rattle.raft_state.specs.declared.vote.Vote.{Vote}
+use Rattle.raft_values.specs.declared.vote.Vote.{Vote}
 use Rattle.raft_engine.specs.StoredGroup.{StoredGroup, StoringCommand, held}
 use Rattle.raft_engine.specs.Message.{Message, MessageBody, VoteRequest, VoteReply, AppendRequest, AppendReply, SnapshotRequest, SnapshotReply, RequestId, HeartBeat, Numbered}
 use Rattle.raft_engine.specs.GroupState.{Untold, Role, Follower, Candidate, Leader}

@@ -1,6 +1,6 @@
 -- All nodes of one group, what they sent, what may happen to them, and what came of it.
 use Rattle.std.specs.Prelude.{ℕ, ◌==◌, Bool, true, false, List, [], Option, None}
-use Rattle.raft_state.specs.declared.vote.Vote.{Vote}
+use Rattle.raft_values.specs.declared.vote.Vote.{Vote}
 use Rattle.raft_engine.specs.Values.{Entry, has_id, Membership}
 use Rattle.raft_engine.specs.StoredGroup.{StoredGroup}
 use Rattle.raft_engine.specs.Message.{Message}

@@ -1,6 +1,6 @@
 -- The one list of a group, over every history that replays.
 use Rattle.std.specs.Prelude.{◌≡◌, ℕ, suc, ◌<◌, ◌^◌, false, List, length, slice_get, take, Some, IsTrue, Contains}
-use Rattle.raft_state.specs.declared.vote.Vote.{Vote}
+use Rattle.raft_values.specs.declared.vote.Vote.{Vote}
 use Rattle.raft_engine.specs.Values.{Entry, has_id, vote_lt}
 use Rattle.raft_engine.specs.StoredGroup.{StoredGroup, Holds, held, prefix_of}
 use Rattle.raft_engine.specs.GroupState.{GroupState, is_leader}

@@ -1,6 +1,6 @@
 -- The run of one voter whose proposal stops: where the entries of its list come from.
 use Rattle.std.specs.Prelude.{ℕ, List, slice_get, Option}
-use Rattle.raft_state.specs.LogId.{log_id_of}
+use Rattle.raft_values.specs.LogId.{log_id_of}
 use Rattle.raft_state.specs.declared.entry.EntryPayload.TheVariants.{Normal}
 use Rattle.raft_engine.specs.Values.{Entry, entry_of}
 use Rattle.raft_engine.specs.declared.group_call.GroupCall.TheVariants.{Propose}

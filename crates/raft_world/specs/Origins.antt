@@ -1,6 +1,6 @@
 -- Where the entries of a group's list come from, and what a told token stands for.
 use Rattle.std.specs.Prelude.{◌≡◌, ℕ, ◌<◌, Bool, true, false, List, [], ◌∷◌, ◌++◌, take, slice_get, Option, Some, None, is_some, Contains}
-use Rattle.raft_state.specs.LogId.{log_id_of}
+use Rattle.raft_values.specs.LogId.{log_id_of}
 use Rattle.raft_state.specs.declared.entry.EntryPayload.TheVariants.{Blank, Normal, Membership as Members}
 use Rattle.raft_engine.specs.Values.{after_change, ChangeMembers, Entry, EntryPayload, entry_of, LoggedMembership}
 use Rattle.raft_engine.specs.StoredGroup.{StoredGroup, end_place, held, membership_in_force}

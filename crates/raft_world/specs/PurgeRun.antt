@@ -1,6 +1,6 @@
 -- A leader that purges as it wishes, and a node that stops between its snapshot and its purge.
 use Rattle.std.specs.Prelude.{ℕ, List, [], ◌∷◌, ◌++◌, Option, Some, None}
-use Rattle.raft_state.specs.declared.log_id.LogId.{LogId}
+use Rattle.raft_values.specs.declared.log_id.LogId.{LogId}
 use Rattle.raft_engine.specs.StoredGroup.{StoredGroup}
 use Rattle.raft_engine.specs.declared.group_call.GroupCall.TheVariants.{Lost, TriggerSnapshot, TriggerPurge}
 use Rattle.raft_world.specs.declared.world_event.WorldEvent.{WorldEvent}

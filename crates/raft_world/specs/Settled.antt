@@ -2,10 +2,10 @@
 use Rattle.std.specs.Prelude.{◌≡◌, ℕ, ◌+◌, ◌==◌, ◌&&◌, ◌||◌, nat_le, nat_lt, if◌then◌else◌, Bool, true, false, List}
 use Rattle.std.specs.Prelude.{[], ◌∷◌, length, map, fold, take, slice_get, Option, Some, None, IsTrue, Contains}
 use Rattle.std.specs.List.{list_any}
-use Rattle.raft_state.specs.declared.vote.LeaderId.{LeaderId}
-use Rattle.raft_state.specs.declared.vote.Vote.{Vote}
-use Rattle.raft_state.specs.declared.log_id.LogId.{LogId}
-use Rattle.raft_state.specs.Quorum.{is_quorum}
+use Rattle.raft_values.specs.declared.vote.LeaderId.{LeaderId}
+use Rattle.raft_values.specs.declared.vote.Vote.{Vote}
+use Rattle.raft_values.specs.declared.log_id.LogId.{LogId}
+use Rattle.raft_quorums.specs.Quorum.{is_quorum}
 use Rattle.raft_engine.specs.Values.{Entry, is_written_by, leader_eq, log_id_eq, Membership, vote_eq}
 use Rattle.raft_engine.specs.Message.{Message, MessageBody, VoteRequest, VoteReply, AppendRequest, AppendReply, SnapshotRequest}
 use Rattle.raft_engine.specs.Message.{SnapshotReply, ReplyFields, ReplyResult, Success, Conflict, HigherVote}

@@ -1,7 +1,7 @@
 //! Worked runs, each a contract of a function without a body: the definitions give these rows.
 ghost use Rattle.std.specs.Prelude.{◌≡◌, true, false, [], ◌∷◌, Some, None};
-ghost use Rattle.raft_state.specs.LogId.{log_id_of};
-ghost use Rattle.raft_state.specs.Vote.{vote_of};
+ghost use Rattle.raft_values.specs.LogId.{log_id_of};
+ghost use Rattle.raft_values.specs.Vote.{vote_of};
 ghost use Rattle.raft_engine.specs.StoredGroup.{SetVote, CutFrom, PutEntries};
 ghost use Rattle.raft_engine.specs.Values.{entry_of};
 ghost use Rattle.raft_state.specs.declared.entry.EntryPayload.TheVariants.{Blank};

@@ -1,8 +1,8 @@
 -- How far a script has come, and what each line makes of it.
 use Rattle.std.specs.Prelude.{ℕ, ◌+◌, ◌==◌, if◌then◌else◌, List, [], ◌∷◌, ◌++◌, Option, Some, None, codes}
 use Rattle.std.specs.Int.{w64, to_be_bytes}
-use Rattle.raft_state.specs.declared.command.Command.{Command}
-use Rattle.raft_state.specs.declared.membership.Membership.{Membership}
+use Rattle.raft_values.specs.declared.command.Command.{Command}
+use Rattle.raft_membership.specs.declared.membership.Membership.{Membership}
 use Rattle.raft_node.specs.Adding.{adding}
 use Rattle.raft_node.specs.Fold.{GroupEntry}
 use Rattle.raft_cluster.specs.declared.event.ClusterEvent.{ClusterEvent}

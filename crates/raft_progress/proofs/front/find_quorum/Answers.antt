@@ -1,6 +1,6 @@
 use Rattle.std.proofs.Common.{rules, ◌≡◌, ◌∙◌, ◌+◌, sym, ap, arith, ◌<◌, length, take, true, get_or, suc, add-one}
 use Rattle.std.specs.Ordering.{is_lt}
-use Rattle.raft_state.specs.Nodes.{has_node}
+use Rattle.raft_quorums.specs.Nodes.{has_node}
 use Rattle.raft_progress.proofs.FallingLemmas.{at_any}
 use Rattle.raft_progress.proofs.front.find_quorum.Goals as goal
 

@@ -2,7 +2,7 @@ use Rattle.std.proofs.Common.{◌≡◌, ℕ, zero, suc, ◌+◌, ◌-◌, ◌<�
 use Rattle.std.specs.Prelude.{Some}
 use Rattle.std.specs.declared.cmp.Ordering.{Ordering}
 use Rattle.std.proofs.lemmas.List.{length-map}
-use Rattle.raft_state.specs.declared.log_id.LogId.{LogId}
+use Rattle.raft_values.specs.declared.log_id.LogId.{LogId}
 use Rattle.raft_state.specs.LogIdList.{ids_of, last_id, appended, extended, AllGoOn, GoesOn, HaveOneLeader}
 use Rattle.raft_state.proofs.ExtendLemmas.{ends-extend, last-grown, item_id}
 use Rattle.raft_state.proofs.FrontLemmas.{front-trans}

@@ -1,6 +1,6 @@
 use Rattle.std.proofs.Common.{◌≡◌, ℕ, ◌+◌, ◌-◌, ◌<◌, ◌≤◌, List, [], ◌∷◌, ◌++◌, length, get_or, set, take, drop, rules, sym, ◌∙◌, arith, ap, subst, refl, length-drop, length-set}
 use Rattle.std.proofs.lemmas.List.{drop-set, take_at}
-use Rattle.raft_state.specs.declared.log_id.LogId.{LogId}
+use Rattle.raft_values.specs.declared.log_id.LogId.{LogId}
 use Rattle.raft_state.specs.LogIdList.{ids_of, purged, AreKeys}
 use Rattle.raft_state.proofs.KeyCutLemmas.{id_by}
 use Rattle.raft_state.proofs.KeyCountLemmas.{purged-none_counted, purged-inside_counted}

@@ -1,6 +1,6 @@
 use Rattle.std.proofs.Common.{◌≡◌, ◌<◌, ◌≤◌, ◌-◌, ℕ, length, get_or, List, sym, ◌∙◌, arith, ap, subst}
 use Rattle.std.specs.Prelude.{Some}
-use Rattle.raft_state.specs.declared.log_id.LogId.{LogId}
+use Rattle.raft_values.specs.declared.log_id.LogId.{LogId}
 use Rattle.raft_state.proofs.KeyCountLemmas.{id_at-none_counted, id_at-some_counted, id_at-last_counted, id_at-past_counted}
 use Rattle.raft_state.proofs.log_id_list.id_by_keys.Goals as goal
 

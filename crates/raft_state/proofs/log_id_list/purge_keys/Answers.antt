@@ -1,6 +1,6 @@
 use Rattle.std.proofs.Common.{◌≡◌, ◌+◌, List, [], ◌∷◌, ◌++◌, set, take, sym, ◌∙◌, ap, refl}
 use Rattle.std.specs.Prelude.{Some}
-use Rattle.raft_state.specs.declared.log_id.LogId.{LogId}
+use Rattle.raft_values.specs.declared.log_id.LogId.{LogId}
 use Rattle.raft_state.specs.LogIdList.{ids_of, last_id}
 use Rattle.raft_state.proofs.LogIdLemmas.{leader_ids-one}
 use Rattle.raft_state.proofs.KeyCountLemmas.{purged-past}

@@ -1,5 +1,5 @@
 use Rattle.std.proofs.Common.{◌≡◌, ℕ, ◌+◌, ◌-◌, ◌<◌, ◌≤◌, ◌≢◌, List, length, get_or, set, take, rules, sym, ◌∙◌, arith, ap, subst, refl}
-use Rattle.raft_state.specs.declared.log_id.LogId.{LogId}
+use Rattle.raft_values.specs.declared.log_id.LogId.{LogId}
 use Rattle.raft_state.specs.LogIdList.{ids_of, truncated, AreKeys}
 use Rattle.raft_state.proofs.KeyCutLemmas.{id_by}
 use Rattle.raft_state.proofs.KeyCountLemmas.{truncated-none_counted, truncated-all_counted, truncated-pair_counted, truncated-front_counted}

@@ -1,7 +1,7 @@
 use Rattle.std.proofs.Common.{sym, subst}
 use Rattle.raft_progress.specs.Granted.{IsFalling, IsGranted}
 use Rattle.std.specs.List.{IsDistinct}
-use Rattle.raft_state.specs.Rising.{IsRising}
+use Rattle.raft_quorums.specs.Rising.{IsRising}
 use Rattle.raft_progress.specs.Parts.{ids_of}
 use Rattle.raft_progress.proofs.PartsLemmas.{ids-beside, rising_distinct}
 use Rattle.raft_progress.proofs.GrantedLemmas.{built_falling, built_granted}

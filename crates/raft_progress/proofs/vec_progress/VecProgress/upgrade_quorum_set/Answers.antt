@@ -1,6 +1,6 @@
 use Rattle.std.proofs.Common.{◌≡◌, ◌∙◌, map, refl, subst, sym}
 use Rattle.std.specs.List.Sorted.{IsPermutation}
-use Rattle.raft_state.specs.Rising.{IsRising}
+use Rattle.raft_quorums.specs.Rising.{IsRising}
 use Rattle.raft_progress.specs.Parts.{carried}
 use Rattle.raft_progress.proofs.PartsLemmas.{distinct-carried, upgraded}
 use Rattle.raft_progress.proofs.vec_progress.VecProgress.upgrade_quorum_set.Goals as goal

@@ -1,0 +1,4 @@
+pub mod MembershipLemmas
+pub mod LawLemmas
+pub mod ReplaceLemmas
+pub mod FaultLemmas

@@ -1,5 +1,0 @@
-use Rattle.raft_state.proofs.PlaceLemmas.{IsBehindFirst}
-use Rattle.raft_state.proofs.id_set.place.Given as goal
-
-abbrev pub invariant-loop-at : goal.invariant-loop-at
-invariant-loop-at g l = IsBehindFirst (g.NID.Ord.cmp l.id) l.ids l.at

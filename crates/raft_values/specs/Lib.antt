@@ -1,0 +1,4 @@
+pub mod Vote
+pub mod LogId
+pub mod LogIndex
+pub mod Range
