@@ -10,15 +10,9 @@ use Rattle.std.proofs.lemmas.List.Sorted.{list_any-IsPermutation, IsPermutation-
 use Rattle.std.proofs.Math.ListN.{set}
 use Rattle.std.proofs.lemmas.List.{get_or-set_same, take-set-le}
 use Rattle.std.proofs.Math.Bool.{true≢false}
-<<<<<<< HEAD
 use Rattle.raft_quorums.specs.Nodes.{has_node}
 use Rattle.raft_quorums.specs.QuorumLaws.{IsWithin}
 use Rattle.raft_progress.specs.Granted.{IsGreatest, IsFalling, value_of, has_reached, reached_values, IsGranted}
-=======
-use Rattle.raft_quorums.specs.Nodes.{has_node}
-use Rattle.raft_quorums.specs.QuorumLaws.{IsWithin}
-use Rattle.raft_progress.specs.Granted.{IsGreatest, Every, IsFalling, value_of, has_reached, reached_values, IsGranted}
->>>>>>> main
 use Rattle.raft_progress.proofs.FallingLemmas.{at_any}
 use Rattle.raft_progress.proofs.OrderLemmas.{bool_cases, le_if_not_lt, lt_if_not_le, not_lt_if_le, le_if_lt, le_if_eq, eq_if_both, eq_back, le_self, eq_self, lt_le, le_lt, le_le}
 

@@ -14,15 +14,9 @@ use Rattle.std.specs.Ordering.{is_eq, is_le}
 use Rattle.raft_progress.specs.Counted.{IsNoLess, lowers_value}
 use Rattle.std.specs.Cmp.{IsTotalOrder}
 use Rattle.raft_progress.proofs.OrderLemmas.{le_if_not_lt}
-<<<<<<< HEAD
 use Rattle.raft_quorums.specs.Rising.{IsBelowAll, IsRising}
 use Rattle.raft_quorums.specs.Nodes.{has_id, has_node}
 use Rattle.raft_progress.proofs.ValuesLemmas.{some_of, value_if}
-=======
-use Rattle.raft_quorums.specs.Rising.{IsBelowAll, IsRising}
-use Rattle.raft_quorums.specs.Nodes.{has_id, has_node}
-use Rattle.raft_progress.proofs.ValuesLemmas.{some_of}
->>>>>>> main
 use Rattle.raft_progress.proofs.FallingLemmas.{at_any}
 use Rattle.raft_progress.specs.Values.{entry_at, value_at, with_value, with_value_at}
 use Rattle.raft_progress.specs.Parts.{Parts, IsUpgraded, SetsValue, carried, ids_of, has_value, value_of, with_learner, with_voter, written}

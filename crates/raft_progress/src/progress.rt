@@ -4,13 +4,8 @@ ghost use Rattle.std.specs.Ordering.{is_le};
 ghost use Rattle.std.specs.Borrow.{LendsSo, sem};
 ghost use Rattle.std.specs.Fn.{FnOnceReturnsAtMut};
 ghost use Rattle.std.specs.Option.{option_copied, option_copied_mut};
-<<<<<<< HEAD
 ghost use Rattle.raft_quorums.specs.Nodes.{has_node};
 ghost use Rattle.raft_progress.specs.Counted.{IsCounted, IsNoLess, IsSamePart};
-=======
-ghost use Rattle.raft_quorums.specs.Nodes.{has_node};
-ghost use Rattle.raft_progress.specs.Counted.{IsCounted, IsNoLess};
->>>>>>> main
 ghost use Rattle.raft_progress.specs.Parts.{IsUpgraded, Parts, SetsValue, has_value, value_of, written};
 ghost use Rattle.raft_progress.specs.Replay.{Increases};
 ghost use Rattle.raft_progress.specs.Values.{value_at};

@@ -1,11 +1,6 @@
 //! What a leader knows of one peer.
-<<<<<<< HEAD
 ghost use Rattle.std.specs.Prelude.{◌≡◌, ◌+◌, ◌-◌, ◌*◌, ◌/◌, ◌^◌, ◌<◌, true, false, max, min, nat_lt, None, is_some, Ok, Err, OnErr};
 ghost use Rattle.raft_values.specs.LogId.{is_past, next_place};
-=======
-ghost use Rattle.std.specs.Prelude.{◌≡◌, ◌+◌, ◌-◌, ◌*◌, ◌/◌, ◌^◌, ◌<◌, true, false, max, min, None, is_some, Ok, Err, OnErr};
-ghost use Rattle.raft_values.specs.LogId.{next_place};
->>>>>>> main
 ghost use Rattle.raft_state.specs.LogIdList.{last_id};
 ghost use Rattle.raft_progress.specs.Entry.{next_request, request_start, search_behind};
 ghost use Rattle.raft_progress.specs.Faults.{progress_fault, request_fault};
