@@ -1,18 +1,17 @@
 -- What is asked of the nodes that a change leaves, without making them.
-use Rattle.std.proofs.Common.{◌≡◌, ◌==◌, length, Bool, true, false, cond, List, [], ◌∷◌, refl, ap, sym, subst, ◌∙◌}
+use Rattle.std.proofs.Common.{◌≡◌, ◌==◌, length, map, Bool, true, false, cond, List, [], ◌∷◌, refl, ap, sym, subst, ◌∙◌}
 use Rattle.std.specs.Prelude.{◌&&◌, ◌||◌, not, if◌then◌else◌, Option, Some, None}
 use Rattle.std.specs.declared.cmp.Ordering.{Ordering}
 use Rattle.std.specs.declared.cmp.Ordering.TheVariants.{Less, Equal, Greater}
 use Rattle.std.specs.Ordering.{match_ordering}
-use Rattle.std.specs.List.{list_any, filter, find, fold}
-use Rattle.raft_quorums.specs.Nodes.{has_id, has_node, with_node, with_nodes, with_new_node, with_new_nodes}
+use Rattle.std.specs.List.{filter, fold}
+use Rattle.raft_quorums.specs.Nodes.{has_id, has_node, with_ids, with_node, with_nodes, with_new_node, with_new_nodes}
 use Rattle.raft_membership.specs.Membership.{has_empty_group, is_voter, lesser, first_outside, least_outside}
 use Rattle.raft_membership.specs.Validity.{fault_of, groups_fault, IsChangeFault}
-use Rattle.raft_quorums.specs.Quorum.{next_configs}
+use Rattle.raft_quorums.specs.Quorum.{last_config, next_configs}
 use Rattle.std.specs.Cmp.Lexicographic.{pointwise}
 use Rattle.raft_membership.specs.declared.membership.Membership.{Membership}
-use Rattle.raft_membership.specs.declared.change_members.ChangeMembers.{ChangeMembers}
-use Rattle.raft_membership.specs.declared.change_members.ChangeMembers.TheVariants.{ReplaceAllVoters, AddNodes, SetNodes, RemoveNodes}
+use Rattle.raft_membership.specs.declared.change_members.ChangeMembers.TheVariants.{AddVoters, ReplaceAllVoters, AddNodes, SetNodes, RemoveNodes}
 use Rattle.raft_membership.specs.declared.error.ChangeMembershipError.{ChangeMembershipError}
 use Rattle.raft_membership.specs.declared.error.ChangeMembershipError.TheVariants.{EmptyMembership, LearnerNotFound}
 use Rattle.raft_membership.specs.MembershipChange.{fault_after, without_nodes, retained_nodes}
@@ -150,6 +149,15 @@ module _ {K N : Type 0} (eq : K → K → Bool) (cmp : K → K → Ordering) (it
       let new : List (List K) = next_configs (pointwise eq) m.configs ids in
       ap (fault_of (has_empty_group new)) (sym (retained-alike eq cmp itself identical retain m.configs new m.nodes))
 
+  pub told-add_voters : (nodes : List (K × N)) → let new : List (List K) = next_configs (pointwise eq) m.configs (with_ids cmp (last_config m.configs) (map (λ (x : K × N). x.0) nodes))
+      in groups_fault cmp (λ id. has_node eq m.nodes id || has_node eq nodes id) new ≡ fault_after eq cmp m (AddVoters nodes) retain
+  told-add_voters nodes =
+      let new : List (List K) = next_configs (pointwise eq) m.configs (with_ids cmp (last_config m.configs) (map (λ (x : K × N). x.0) nodes)) in
+      let wider : List (K × N) = with_new_nodes eq cmp m.nodes nodes in
+      ap (fault_of (has_empty_group new))
+      (least_outside-same cmp (λ id. has_node eq m.nodes id || has_node eq nodes id) (has_node eq wider) new (λ k. sym (has_with_new_nodes eq cmp same identical m.nodes nodes k))
+      ∙ sym (retained-alike eq cmp itself identical retain m.configs new wider))
+
   pub told-add : (nodes : List (K × N)) → groups_fault cmp (λ id. has_node eq m.nodes id || has_node eq nodes id) m.configs ≡ fault_after eq cmp m (AddNodes nodes) retain
   told-add nodes =
       ap (fault_of (has_empty_group m.configs))
@@ -172,15 +180,13 @@ module _ {K : Type 0} where
   inside : (x y : ChangeMembershipError K) → Some x ≡ Some y → x ≡ y
   inside x y e = cc
 
-  settled : (told empty : Bool) (missing : Option K) (e : ChangeMembershipError K) → Some e ≡ fault_of empty missing → IsChangeFault told (fault_of empty missing) e
-  settled told true missing e h =
-      subst (λ x. IsChangeFault told (Some (EmptyMembership (record {}))) x) (sym (inside e (EmptyMembership (record {})) h)) refl
-  settled told false None e h = cc h
-  settled told false (Some id) e h =
-      subst (λ x. IsChangeFault told (Some (LearnerNotFound (record { node_id = id }))) x) (sym (inside e (LearnerNotFound (record { node_id = id })) h)) refl
+  settled : (empty : Bool) (missing : Option K) (e : ChangeMembershipError K) → Some e ≡ fault_of empty missing → IsChangeFault (fault_of empty missing) e
+  settled true missing e h =
+      subst (λ x. IsChangeFault (Some (EmptyMembership (record {}))) x) (sym (inside e (EmptyMembership (record {})) h)) refl
+  settled false None e h = cc h
+  settled false (Some id) e h =
+      subst (λ x. IsChangeFault (Some (LearnerNotFound (record { node_id = id }))) x) (sym (inside e (LearnerNotFound (record { node_id = id })) h)) refl
 
-  -- a fault that was told first is that of what the change asks for
-  pub told-fault : (told empty : Bool) (missing : Option K) (e : ChangeMembershipError K) → (told ≡ true → Some e ≡ fault_of empty missing) → (told ≡ false → Some e ≡ None)
-      → IsChangeFault told (fault_of empty missing) e
-  told-fault true empty missing e f k = settled true empty missing e (f refl)
-  told-fault false empty missing e f k = cc (k refl)
+  -- a fault that was told is that of what the change asks for
+  pub told-fault : (empty : Bool) (missing : Option K) (e : ChangeMembershipError K) → Some e ≡ fault_of empty missing → IsChangeFault (fault_of empty missing) e
+  told-fault empty missing e h = settled empty missing e h

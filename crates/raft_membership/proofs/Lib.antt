@@ -2,3 +2,4 @@ pub mod MembershipLemmas
 pub mod LawLemmas
 pub mod ReplaceLemmas
 pub mod FaultLemmas
+pub mod AddedLemmas

@@ -1,5 +1,5 @@
 -- Changes of a membership. Those of the nodes alone keep the voter groups.
-use Rattle.std.specs.Prelude.{Option, Bool, true, false, not, ◌||◌, List, [], ◌∷◌, map}
+use Rattle.std.specs.Prelude.{Option, Bool, true, false, not, ◌||◌, List, map}
 use Rattle.std.specs.declared.cmp.Ordering.{Ordering}
 use Rattle.std.specs.Cmp.Lexicographic.{pointwise}
 use Rattle.std.specs.List.{filter}
@@ -45,18 +45,6 @@ module _ {K N : Type 0} (eq : K → K → Bool) (cmp : K → K → Ordering) whe
   changed m (SetNodes nodes) retain = record m { nodes = with_nodes cmp m.nodes nodes }
   changed m (RemoveNodes ids) retain = record m { nodes = without_nodes eq m.nodes ids }
   changed m (ReplaceAllNodes nodes) retain = record m { nodes = nodes }
-
--- the fault of what the change asks for is told before anything is made: not so where a new voter
--- group has to be made first
-abbrev pub is_told_first : {K N : Type 0} → ChangeMembers K N → Bool
-is_told_first (AddVoterIds ids) = false
-is_told_first (AddVoters nodes) = false
-is_told_first (RemoveVoters ids) = false
-is_told_first (ReplaceAllVoters ids) = true
-is_told_first (AddNodes nodes) = true
-is_told_first (SetNodes nodes) = true
-is_told_first (RemoveNodes ids) = true
-is_told_first (ReplaceAllNodes nodes) = true
 
 -- the fault of what the change asks for
 abbrev pub fault_after : {K N : Type 0} → (K → K → Bool) → (K → K → Ordering) → Membership K N → ChangeMembers K N → Bool → Option (ChangeMembershipError K)

@@ -1,5 +1,5 @@
 -- How the two memberships that a node knows follow the log.
-use Rattle.std.specs.Prelude.{ℕ, Bool, true, false, not, ◌&&◌, if◌then◌else◌, Option, Some, None}
+use Rattle.std.specs.Prelude.{ℕ, Bool, not, ◌&&◌, if◌then◌else◌, Option, Some, None}
 use Rattle.std.specs.declared.cmp.Ordering.{Ordering}
 use Rattle.raft_membership.specs.declared.effective_membership.EffectiveMembership.{EffectiveMembership}
 use Rattle.raft_values.specs.declared.log_id.LogId.{LogId}

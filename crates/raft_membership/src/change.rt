@@ -1,15 +1,18 @@
 //! Changes of a membership.
 ghost use Rattle.std.specs.Prelude.{◌≡◌, ◌<◌, not, ◌&&◌, ◌||◌, true, false, Bool, length, None, Some, IfOk, OnOk, OnErr, IfErr};
 ghost use Rattle.std.specs.Cmp.Lexicographic.{pointwise};
-ghost use Rattle.raft_quorums.specs.Nodes.{has_id, has_node};
+ghost use Rattle.std.specs.List.{list_any};
+ghost use Rattle.raft_quorums.specs.Nodes.{has_id, has_node, with_ids};
+ghost use Rattle.raft_quorums.specs.Rising.{IsRising};
 ghost use Rattle.raft_membership.specs.Membership.{is_voter};
-ghost use Rattle.raft_membership.specs.MembershipChange.{changed, fault_after, is_told_first, next_coherent, retained_nodes};
+ghost use Rattle.raft_membership.specs.MembershipChange.{changed, fault_after, next_coherent, retained_nodes};
 ghost use Rattle.raft_quorums.specs.Quorum.{last_config, next_configs};
 ghost use Rattle.raft_membership.specs.declared.change_members.ChangeMembers.TheVariants.{AddVoters};
 ghost use Rattle.raft_membership.specs.Validity.{groups_fault, IsChangeFault};
 
 use crate::change_members::ChangeMembers;
 use crate::error::ChangeMembershipError;
+use crate::goal::{Goal, Stayers};
 use crate::membership::{Membership, fault_of, first_missing, is_voter, lesser};
 use raft_quorums::has_id::HasId;
 use raft_quorums::id_set::IdSet;
@@ -164,32 +167,71 @@ impl<NID: NodeId, N: Node> Membership<NID, N> {
         }
     }
 
+    // Whether the goal is a voter group already.
+    fn has_group<G: Goal<NID>>(&self, goal: &G) -> bool
+        ensures { result ≡ list_any (λ group. pointwise NID.eq group (G.ids goal.now)) self.now.configs }
+    {
+        self.configs
+            .as_slice()
+            .iter()
+            .any(|group| goal.is_group(group))
+    }
+
     // The fault of a step to the goal where the nodes are these.
-    fn step_fault<S: HasId<NID>>(
+    fn step_fault<G: Goal<NID>, S: HasId<NID>>(
         &self,
-        goal: &IdSet<NID>,
+        goal: &G,
         nodes: &S,
     ) -> Option<ChangeMembershipError<NID>>
         requires { 0 < length self.now.configs }
-        ensures { result ≡ groups_fault NID.cmp (S.has nodes.now) (next_configs (pointwise NID.eq) self.now.configs goal.now) }
+        ensures { result ≡ groups_fault NID.cmp (S.has nodes.now) (next_configs (pointwise NID.eq) self.now.configs (G.ids goal.now)) }
     {
-        let missing = first_missing(goal, nodes);
-        if self.configs.as_slice().contains(goal) {
-            return fault_of(goal.is_empty(), missing);
+        let missing = goal.first_missing(nodes);
+        if self.has_group(goal) {
+            return fault_of(goal.has_nobody(), missing);
         }
         let last = self.configs.last();
         let least = lesser(first_missing(last, nodes), missing);
-        fault_of(last.is_empty() || goal.is_empty(), least)
+        fault_of(last.is_empty() || goal.has_nobody(), least)
     }
 
-    // The fault of what the change asks for, where it is told before anything is made.
-    fn fault_told_first(&self, change: &ChangeMembers<NID, N>) -> Option<ChangeMembershipError<NID>>
+    // The fault of a step to the last voter group with these ids too, where the nodes are these.
+    fn fault_of_adding<G: Goal<NID>, S: HasId<NID>>(
+        &self,
+        ids: &G,
+        nodes: &S,
+    ) -> Option<ChangeMembershipError<NID>>
+        requires some { 0 < length self.now.configs }
+        requires rising { IsRising NID.cmp (G.ids ids.now) }
+        ensures { result ≡ groups_fault NID.cmp (S.has nodes.now)
+            (next_configs (pointwise NID.eq) self.now.configs (with_ids NID.cmp (last_config self.now.configs) (G.ids ids.now))) }
+    {
+        let last = self.configs.last().as_slice();
+        if last.has_nobody() {
+            return self.step_fault(ids, nodes);
+        }
+        fault_of(
+            false,
+            lesser(last.first_missing(nodes), ids.first_missing(nodes)),
+        )
+    }
+
+    // The fault of what the change asks for. Takes no memory.
+    fn fault_of_change(&self, change: &ChangeMembers<NID, N>) -> Option<ChangeMembershipError<NID>>
         requires { 0 < length self.now.configs }
-        ensures told { is_told_first change.now ≡ true → (retain : Bool) → result ≡ fault_after NID.eq NID.cmp self.now change.now retain }
-        ensures untold { is_told_first change.now ≡ false → result ≡ None }
+        ensures { (retain : Bool) → result ≡ fault_after NID.eq NID.cmp self.now change.now retain }
     {
         match change {
-            ChangeMembers::ReplaceAllVoters(ids) => self.step_fault(ids, &self.nodes),
+            ChangeMembers::AddVoterIds(ids) => self.fault_of_adding(&ids.as_slice(), &self.nodes),
+            ChangeMembers::AddVoters(more) => {
+                let nodes = &self.nodes;
+                self.fault_of_adding(&more.as_slice(), &Either { nodes, more })
+            }
+            ChangeMembers::RemoveVoters(leavers) => {
+                let group = self.configs.last();
+                self.step_fault(&Stayers { group, leavers }, &self.nodes)
+            }
+            ChangeMembers::ReplaceAllVoters(ids) => self.step_fault(&ids.as_slice(), &self.nodes),
             ChangeMembers::AddNodes(more) => self.fault_with(&Either {
                 nodes: &self.nodes,
                 more,
@@ -203,13 +245,12 @@ impl<NID: NodeId, N: Node> Membership<NID, N> {
                 ids,
             }),
             ChangeMembers::ReplaceAllNodes(nodes) => self.fault_with(nodes),
-            _ => None,
         }
     }
 
     /// The membership that the change asks for (openraft; the membership is borrowed).
-    /// A result that isn't valid is refused as `ensure_valid` does; `Memory` is want of memory, and
-    /// comes after that where no new voter group has to be made to tell it.
+    /// A result that isn't valid is refused as `ensure_valid` does. `Memory` is want of memory, and
+    /// comes only where nothing else is wrong.
     pub fn change(
         &self,
         change: ChangeMembers<NID, N>,
@@ -218,16 +259,13 @@ impl<NID: NodeId, N: Node> Membership<NID, N> {
         requires { 0 < length self.now.configs }
         ensures ok { IfOk result (λ next. next ≡ changed NID.eq NID.cmp self.now change retain) }
         ensures valid { OnOk result (fault_after NID.eq NID.cmp self.now change retain ≡ None) }
-        ensures err { IfErr result (IsChangeFault (is_told_first change) (fault_after NID.eq NID.cmp self.now change retain)) }
+        ensures err { IfErr result (IsChangeFault (fault_after NID.eq NID.cmp self.now change retain)) }
     {
-        if let Some(fault) = self.fault_told_first(&change) {
+        if let Some(fault) = self.fault_of_change(&change) {
             return Err(fault);
         }
         match self.changed(change, retain) {
-            Ok(next) => {
-                next.ensure_valid()?;
-                Ok(next)
-            }
+            Ok(next) => Ok(next),
             Err(refused) => Err(ChangeMembershipError::Memory(refused)),
         }
     }

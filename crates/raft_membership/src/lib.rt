@@ -5,6 +5,7 @@ pub mod change;
 pub mod change_members;
 pub mod effective_membership;
 pub mod error;
+mod goal;
 pub mod into_nodes;
 pub mod laws;
 pub mod membership;

@@ -12,6 +12,7 @@ use raft_values::log_id_option_ext::{is_past, reaches, stands_before};
 use raft_values::node::{Node, NodeId};
 use raft_values::validate::{Invalid, Validate};
 use std::alloc::{AllocError, Global};
+use std::fmt::{self, Display};
 use std::mem;
 
 /// The last committed membership, and the one in force (openraft; memberships are owned, so what
@@ -144,6 +145,14 @@ impl<NID: NodeId, N: Node> MembershipState<NID, N> {
             (false, false) => {}
         }
         Ok(changed)
+    }
+}
+
+impl<NID: NodeId, N: Node> Display for MembershipState<NID, N> {
+    fn fmt<W: fmt::Write>(&self, f: &mut fmt::Formatter<W>) -> fmt::Result {
+        let committed = self.committed();
+        let effective = self.effective();
+        write!(f, "MembershipState{{committed: {committed}, effective: {effective}}}")
     }
 }
 

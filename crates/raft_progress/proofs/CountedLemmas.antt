@@ -2,6 +2,7 @@
 use Rattle.std.proofs.Common.{◌≡◌, ℕ, zero, suc, ◌<◌, List, [], ◌∷◌, length, get_or, refl, ap, sym, ◌∙◌, subst, arith}
 use Rattle.std.specs.Prelude.{Bool, true, false, if◌then◌else◌}
 use Rattle.std.specs.declared.cmp.Ordering.{Ordering}
+use Rattle.std.specs.List.{AllByRecursion}
 use Rattle.std.specs.Ordering.{is_lt, is_le}
 use Rattle.std.specs.Cmp.{IsTotalOrder}
 use Rattle.std.proofs.Math.ListN.{set}
@@ -9,7 +10,7 @@ use Rattle.std.proofs.lemmas.List.Sorted.{IsPermutation-refl}
 use Rattle.raft_quorums.specs.Nodes.{has_node}
 use Rattle.raft_quorums.specs.QuorumLaws.{IsWithin}
 use Rattle.raft_progress.specs.Counted.{IsCounted, IsSamePart}
-use Rattle.raft_progress.specs.Granted.{Every, IsFalling, IsGranted}
+use Rattle.raft_progress.specs.Granted.{IsFalling, IsGranted}
 use Rattle.raft_progress.specs.Parts.{Parts, written}
 use Rattle.raft_progress.specs.Values.{value_at, with_value}
 use Rattle.raft_progress.proofs.GrantedLemmas.{granted_same}
@@ -17,12 +18,12 @@ use Rattle.raft_progress.proofs.OrderLemmas.{le_self}
 use Rattle.raft_progress.proofs.PartsLemmas.{index_of}
 use Rattle.raft_progress.proofs.ValuesLemmas.{some_of}
 
-every_set : {X : Type 0} (Q : X → Type 0) (xs : List X) (i : ℕ) (y d : X) → (Q (get_or xs i d) → Q y) → Every Q xs → Every Q (set xs i y)
+every_set : {X : Type 0} (Q : X → Type 0) (xs : List X) (i : ℕ) (y d : X) → (Q (get_or xs i d) → Q y) → AllByRecursion Q xs → AllByRecursion Q (set xs i y)
 every_set Q [] i y d f h = tt
 every_set Q (x ∷ xs) zero y d f h = (f h.0, h.1)
 every_set Q (x ∷ xs) (suc i) y d f h = (h.0, every_set Q xs i y d f h.1)
 
-every_as : {X : Type 0} (Q R : X → Type 0) → ((x : X) → Q x → R x) → (xs : List X) → Every Q xs → Every R xs
+every_as : {X : Type 0} (Q R : X → Type 0) → ((x : X) → Q x → R x) → (xs : List X) → AllByRecursion Q xs → AllByRecursion R xs
 every_as Q R w [] h = tt
 every_as Q R w (x ∷ xs) h = (w x h.0, every_as Q R w xs h.1)
 

@@ -4,9 +4,9 @@ use Rattle.std.specs.Prelude.{Bool, true, false}
 use Rattle.std.specs.declared.cmp.Ordering.{Ordering}
 use Rattle.std.specs.Ordering.{is_lt, is_le}
 use Rattle.std.specs.Cmp.{IsTotalOrder}
-use Rattle.std.specs.List.{swap}
+use Rattle.std.specs.List.{AllByRecursion, swap}
 use Rattle.std.proofs.Math.ListN.{set}
-use Rattle.raft_progress.specs.Granted.{IsFalling, IsFallingBut, AllBut, Every}
+use Rattle.raft_progress.specs.Granted.{IsFalling, IsFallingBut, AllBut}
 use Rattle.raft_progress.proofs.OrderLemmas.{le_if_lt, le_if_not_lt, le_le}
 
 -- the list with the element at the index and the next one in each other's place
@@ -85,7 +85,7 @@ module _ {K V P : Type 0} {cmp : P → P → Ordering} (o : IsTotalOrder cmp) (c
   falling_first (x ∷ xs) f = f
 
   -- what all but one are at most, and that one is at most one of the others before it
-  but_all : (x : K × V) (n : ℕ) (xs : List (K × V)) (d : K × V) → suc n < length xs → at_most (get_or xs (suc n) d) (get_or xs n d) → AllBut (suc n) (λ y. at_most y x) xs → Every (λ y. at_most y x) xs
+  but_all : (x : K × V) (n : ℕ) (xs : List (K × V)) (d : K × V) → suc n < length xs → at_most (get_or xs (suc n) d) (get_or xs n d) → AllBut (suc n) (λ y. at_most y x) xs → AllByRecursion (λ y. at_most y x) xs
   but_all x n [] d h l a = tt
   but_all x n (y ∷ []) d h l a = absurd (omega arith)
   but_all x zero (y ∷ z ∷ xs) d h l a = (a.0, (le_le o (compared z.1) (compared y.1) (compared x.1) l a.0, a.1))
@@ -116,11 +116,11 @@ module _ {K V P : Type 0} {cmp : P → P → Ordering} (o : IsTotalOrder cmp) (c
   step_rests r (x ∷ xs) i j p e h t q f =
       falling_at_rest (x ∷ xs) i j x (omega arith) h (sym (t x) ∙ q) f
 
-  every_weaker : (Q R : K × V → Type 0) → ((x : K × V) → Q x → R x) → (xs : List (K × V)) → Every Q xs → Every R xs
+  every_weaker : (Q R : K × V → Type 0) → ((x : K × V) → Q x → R x) → (xs : List (K × V)) → AllByRecursion Q xs → AllByRecursion R xs
   every_weaker Q R w [] h = tt
   every_weaker Q R w (x ∷ xs) h = (w x h.0, every_weaker Q R w xs h.1)
 
-  every_but_set : (Q : K × V → Type 0) (xs : List (K × V)) (i : ℕ) (y : K × V) → Every Q xs → AllBut i Q (set xs i y)
+  every_but_set : (Q : K × V → Type 0) (xs : List (K × V)) (i : ℕ) (y : K × V) → AllByRecursion Q xs → AllBut i Q (set xs i y)
   every_but_set Q [] i y h = tt
   every_but_set Q (x ∷ xs) zero y h = h.1
   every_but_set Q (x ∷ xs) (suc i) y h = (h.0, every_but_set Q xs i y h.1)
@@ -133,7 +133,7 @@ module _ {K V P : Type 0} {cmp : P → P → Ordering} (o : IsTotalOrder cmp) (c
   falling_but_set (x ∷ xs) (suc i) y d h l f =
       (every_but_set (λ z. at_most z x) xs i y f.0, falling_but_set xs i y d (omega arith) l f.1)
 
-  but_pushed : (Q : K × V → Type 0) (xs : List (K × V)) (y : K × V) → Every Q xs → AllBut (length xs) Q (xs ++ y ∷ [])
+  but_pushed : (Q : K × V → Type 0) (xs : List (K × V)) (y : K × V) → AllByRecursion Q xs → AllBut (length xs) Q (xs ++ y ∷ [])
   but_pushed Q [] y h = tt
   but_pushed Q (x ∷ xs) y h = (h.0, but_pushed Q xs y h.1)
 

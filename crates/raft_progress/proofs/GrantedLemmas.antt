@@ -4,7 +4,7 @@ use Rattle.std.specs.Prelude.{Bool, true, false, ◌&&◌, ◌||◌, ◌⊎◌, 
 use Rattle.std.specs.declared.cmp.Ordering.{Ordering}
 use Rattle.std.specs.Ordering.{is_lt, is_le, is_eq}
 use Rattle.std.specs.Cmp.{IsTotalOrder}
-use Rattle.std.specs.List.{list_any, list_all}
+use Rattle.std.specs.List.{AllByRecursion, list_any, list_all}
 use Rattle.std.specs.List.Sorted.{IsPermutation}
 use Rattle.std.proofs.lemmas.List.Sorted.{list_any-IsPermutation, IsPermutation-sym}
 use Rattle.std.proofs.Math.ListN.{set}
@@ -12,7 +12,7 @@ use Rattle.std.proofs.lemmas.List.{get_or-set_same, take-set-le}
 use Rattle.std.proofs.Math.Bool.{true≢false}
 use Rattle.raft_quorums.specs.Nodes.{has_node}
 use Rattle.raft_quorums.specs.QuorumLaws.{IsWithin}
-use Rattle.raft_progress.specs.Granted.{IsGreatest, Every, IsFalling, value_of, has_reached, reached_values, IsGranted}
+use Rattle.raft_progress.specs.Granted.{IsGreatest, IsFalling, value_of, has_reached, reached_values, IsGranted}
 use Rattle.raft_progress.proofs.FallingLemmas.{at_any}
 use Rattle.raft_progress.proofs.OrderLemmas.{bool_cases, le_if_not_lt, lt_if_not_le, not_lt_if_le, le_if_lt, le_if_eq, eq_if_both, eq_back, le_self, eq_self, lt_le, le_lt, le_le}
 
@@ -48,16 +48,16 @@ false_unless true f = sym (f refl)
 false_unless false f = refl
 
 module _ {X : Type 0} where
-  every_any : (Q : X → Type 0) → ((x : X) → Q x) → (xs : List X) → Every Q xs
+  every_any : (Q : X → Type 0) → ((x : X) → Q x) → (xs : List X) → AllByRecursion Q xs
   every_any Q q [] = tt
   every_any Q q (x ∷ xs) = (q x, every_any Q q xs)
 
-  pub every_at : (Q : X → Type 0) (xs : List X) (i : ℕ) (d : X) → i < length xs → Every Q xs → Q (get_or xs i d)
+  pub every_at : (Q : X → Type 0) (xs : List X) (i : ℕ) (d : X) → i < length xs → AllByRecursion Q xs → Q (get_or xs i d)
   every_at Q [] i d h e = absurd (omega arith)
   every_at Q (x ∷ xs) zero d h e = e.0
   every_at Q (x ∷ xs) (suc i) d h e = every_at Q xs i d (omega arith) e.1
 
-  any_along : (p r : X → Bool) (xs : List X) → Every (λ x. p x ≡ true → r x ≡ true) xs → list_any p xs ≡ true → list_any r xs ≡ true
+  any_along : (p r : X → Bool) (xs : List X) → AllByRecursion (λ x. p x ≡ true → r x ≡ true) xs → list_any p xs ≡ true → list_any r xs ≡ true
   any_along p r [] e h = h
   any_along p r (x ∷ xs) e h =
       or_cases (p x) (list_any p xs) h (λ k. or_left (r x) (list_any r xs) (e.0 k)) (λ k. or_right (r x) (list_any r xs) (any_along p r xs e.1 k))
@@ -88,13 +88,13 @@ module _ {X : Type 0} where
   any_at p (x ∷ xs) zero d h e = or_left (p x) (list_any p xs) e
   any_at p (x ∷ xs) (suc i) d h e = or_right (p x) (list_any p xs) (any_at p xs i d (omega arith) e)
 
-  none_at_all : (p : X → Bool) (xs : List X) → list_any p xs ≡ false → Every (λ x. p x ≡ false) xs
+  none_at_all : (p : X → Bool) (xs : List X) → list_any p xs ≡ false → AllByRecursion (λ x. p x ≡ false) xs
   none_at_all p [] h = tt
   none_at_all p (x ∷ xs) h =
       (false_unless (p x) (λ k. sym h ∙ or_left (p x) (list_any p xs) k), none_at_all p xs (false_unless (list_any p xs) (λ k. sym h ∙ or_right (p x) (list_any p xs) k)))
 
   -- what passes a test that is filtered by one and asked by another
-  all_filtered : {P : Type 0} (q t : P → Bool) (f : X → P) (xs : List X) → Every (λ x. q (f x) ≡ true → t (f x) ≡ true) xs → list_all t (filter q (map f xs)) ≡ true
+  all_filtered : {P : Type 0} (q t : P → Bool) (f : X → P) (xs : List X) → AllByRecursion (λ x. q (f x) ≡ true → t (f x) ≡ true) xs → list_all t (filter q (map f xs)) ≡ true
   all_filtered q t f [] e = refl
   all_filtered q t f (x ∷ xs) e =
       elim (q (f x)) as (λ b. (b ≡ true → t (f x) ≡ true) → list_all t (cond b (f x ∷ filter q (map f xs)) (filter q (map f xs))) ≡ true) [
@@ -102,10 +102,10 @@ module _ {X : Type 0} where
         | false ↦ λ k. all_filtered q t f xs e.1
       ] e.0
 
-  filtered_all : {P : Type 0} (q t : P → Bool) (f : X → P) (xs : List X) → list_all t (filter q (map f xs)) ≡ true → Every (λ x. q (f x) ≡ true → t (f x) ≡ true) xs
+  filtered_all : {P : Type 0} (q t : P → Bool) (f : X → P) (xs : List X) → list_all t (filter q (map f xs)) ≡ true → AllByRecursion (λ x. q (f x) ≡ true → t (f x) ≡ true) xs
   filtered_all q t f [] h = tt
   filtered_all q t f (x ∷ xs) h =
-      elim (q (f x)) as (λ b. list_all t (cond b (f x ∷ filter q (map f xs)) (filter q (map f xs))) ≡ true → (b ≡ true → t (f x) ≡ true) × Every (λ x. q (f x) ≡ true → t (f x) ≡ true) xs) [
+      elim (q (f x)) as (λ b. list_all t (cond b (f x ∷ filter q (map f xs)) (filter q (map f xs))) ≡ true → (b ≡ true → t (f x) ≡ true) × AllByRecursion (λ x. q (f x) ≡ true → t (f x) ≡ true) xs) [
         | true ↦ λ k. (λ _. and_left (t (f x)) (list_all t (filter q (map f xs))) k, filtered_all q t f xs (and_right (t (f x)) (list_all t (filter q (map f xs))) k))
         | false ↦ λ k. (λ e. cc e, filtered_all q t f xs k)
       ] h
@@ -150,7 +150,7 @@ module _ {K V P : Type 0} (eq : K → K → Bool) {cmp : P → P → Ordering} (
       false_unless (some_above (x ∷ xs) g) (λ k. or_cases (is_lt (cmp g (val x))) (some_above xs g) k (λ e. sym h ∙ e)
       (λ e. sym h ∙ any_along_gives g x xs f.0 e))
     where
-      any_along_gives : (g : P) (x : K × V) (xs : List (K × V)) → Every (λ y. is_le (cmp (compared y.1) (compared x.1)) ≡ true) xs → some_above xs g ≡ true → is_lt (cmp g (val x)) ≡ true
+      any_along_gives : (g : P) (x : K × V) (xs : List (K × V)) → AllByRecursion (λ y. is_le (cmp (compared y.1) (compared x.1)) ≡ true) xs → some_above xs g ≡ true → is_lt (cmp g (val x)) ≡ true
       any_along_gives g x [] e h = cc h
       any_along_gives g x (y ∷ ys) e h =
           or_cases (is_lt (cmp g (val y))) (some_above ys g) h (λ k. lt_le o g (val y) (val x) k e.0) (any_along_gives g x ys e.1)
@@ -190,13 +190,13 @@ module _ {K V P : Type 0} (eq : K → K → Bool) {cmp : P → P → Ordering} (
       (front_has_reached xs i d (omega arith) f.1 id e))
 
   -- all before a value above g are above g
-  front_above : (xs : List (K × V)) (g : P) (n : ℕ) (d : K × V) → n < length xs → IsFalling cmp compared xs → is_lt (cmp g (val (get_or xs n d))) ≡ true → Every (λ (x : K × V). is_lt (cmp g (val x)) ≡ true) (take n xs)
+  front_above : (xs : List (K × V)) (g : P) (n : ℕ) (d : K × V) → n < length xs → IsFalling cmp compared xs → is_lt (cmp g (val (get_or xs n d))) ≡ true → AllByRecursion (λ (x : K × V). is_lt (cmp g (val x)) ≡ true) (take n xs)
   front_above xs g zero d h f l = tt
   front_above [] g (suc n) d h f l = tt
   front_above (x ∷ xs) g (suc n) d h f l =
       (lt_le o g (val (get_or xs n d)) (val x) l (all_fall x xs n d (omega arith) f), front_above xs g n d (omega arith) f.1 l)
 
-  all_above_within : (xs : List (K × V)) (g : P) → Every (λ (x : K × V). is_lt (cmp g (val x)) ≡ true) xs → IsWithin (has_node eq xs) (has_above xs g)
+  all_above_within : (xs : List (K × V)) (g : P) → AllByRecursion (λ (x : K × V). is_lt (cmp g (val x)) ≡ true) xs → IsWithin (has_node eq xs) (has_above xs g)
   all_above_within [] g e id h = h
   all_above_within (x ∷ xs) g e id h =
       or_cases (eq x.0 id) (has_node eq xs id) h
@@ -204,7 +204,7 @@ module _ {K V P : Type 0} (eq : K → K → Bool) {cmp : P → P → Ordering} (
       (λ k. or_right (eq x.0 id && is_lt (cmp g (val x))) (has_above xs g id) (all_above_within xs g e.1 id k))
 
   -- the least of those above g
-  least_above : {G : Type 0} (T : K × V → Type 0) (xs : List (K × V)) (g : P) → Every T xs → some_above xs g ≡ true → ((m : K × V) → T m → is_lt (cmp g (val m)) ≡ true → Every (λ (y : K × V). is_lt (cmp g (val y)) ≡ true → is_le (cmp (val m) (val y)) ≡ true) xs → G) → G
+  least_above : {G : Type 0} (T : K × V → Type 0) (xs : List (K × V)) (g : P) → AllByRecursion T xs → some_above xs g ≡ true → ((m : K × V) → T m → is_lt (cmp g (val m)) ≡ true → AllByRecursion (λ (y : K × V). is_lt (cmp g (val y)) ≡ true → is_le (cmp (val m) (val y)) ≡ true) xs → G) → G
   least_above T [] g t h f = cc h
   least_above T (x ∷ xs) g t h f =
       bool_cases (some_above xs g)
@@ -220,15 +220,15 @@ module _ {K V P : Type 0} (eq : K → K → Bool) {cmp : P → P → Ordering} (
       le_if_not_le : (a b : P) → is_le (cmp a b) ≡ false → is_le (cmp b a) ≡ true
       le_if_not_le a b u = le_if_lt o b a (lt_if_not_le o a b u)
 
-      every_step : (p q : P) (ys : List (K × V)) → is_le (cmp p q) ≡ true → Every (λ (y : K × V). is_lt (cmp g (val y)) ≡ true → is_le (cmp q (val y)) ≡ true) ys → Every (λ (y : K × V). is_lt (cmp g (val y)) ≡ true → is_le (cmp p (val y)) ≡ true) ys
+      every_step : (p q : P) (ys : List (K × V)) → is_le (cmp p q) ≡ true → AllByRecursion (λ (y : K × V). is_lt (cmp g (val y)) ≡ true → is_le (cmp q (val y)) ≡ true) ys → AllByRecursion (λ (y : K × V). is_lt (cmp g (val y)) ≡ true → is_le (cmp p (val y)) ≡ true) ys
       every_step p q [] u a = tt
       every_step p q (y ∷ ys) u a = ((λ k. le_le o p q (val y) u (a.0 k)), every_step p q ys u a.1)
 
-      every_none : (p : P) (ys : List (K × V)) → Every (λ (y : K × V). is_lt (cmp g (val y)) ≡ false) ys → Every (λ (y : K × V). is_lt (cmp g (val y)) ≡ true → is_le (cmp p (val y)) ≡ true) ys
+      every_none : (p : P) (ys : List (K × V)) → AllByRecursion (λ (y : K × V). is_lt (cmp g (val y)) ≡ false) ys → AllByRecursion (λ (y : K × V). is_lt (cmp g (val y)) ≡ true → is_le (cmp p (val y)) ≡ true) ys
       every_none p [] e = tt
       every_none p (y ∷ ys) e = ((λ k. not_both (is_lt (cmp g (val y))) k e.0), every_none p ys e.1)
 
-  above_reached_along : (xs : List (K × V)) (g p : P) → Every (λ (y : K × V). is_lt (cmp g (val y)) ≡ true → is_le (cmp p (val y)) ≡ true) xs → IsWithin (has_above xs g) (has_reached eq cmp compared xs p)
+  above_reached_along : (xs : List (K × V)) (g p : P) → AllByRecursion (λ (y : K × V). is_lt (cmp g (val y)) ≡ true → is_le (cmp p (val y)) ≡ true) xs → IsWithin (has_above xs g) (has_reached eq cmp compared xs p)
   above_reached_along [] g p e id h = h
   above_reached_along (y ∷ ys) g p e id h =
       or_cases (eq y.0 id && is_lt (cmp g (val y))) (has_above ys g id) h
@@ -288,7 +288,7 @@ module _ {K V P : Type 0} (eq : K → K → Bool) {cmp : P → P → Ordering} (
     granted_least d g xs h =
         and_left (is_le (cmp d g)) (list_all (λ p. is_le (cmp p g)) (reached_values eq cmp compared accepts xs)) h.1
 
-    every_not_lt : (g : P) (ys xs : List (K × V)) → Every (λ (x : K × V). is_lt (cmp g (val x)) ≡ false) ys → Every (λ (x : K × V). reached xs (val x) ≡ true → is_le (cmp (val x) g) ≡ true) ys
+    every_not_lt : (g : P) (ys xs : List (K × V)) → AllByRecursion (λ (x : K × V). is_lt (cmp g (val x)) ≡ false) ys → AllByRecursion (λ (x : K × V). reached xs (val x) ≡ true → is_le (cmp (val x) g) ≡ true) ys
     every_not_lt g [] xs e = tt
     every_not_lt g (y ∷ ys) xs e = ((λ _. le_if_not_lt o g (val y) e.0), every_not_lt g ys xs e.1)
 
@@ -315,7 +315,7 @@ module _ {K V P : Type 0} (eq : K → K → Bool) {cmp : P → P → Ordering} (
     quiet_stop g ys (suc n) f r nq a =
         not_both (accepts (has_node eq (take (suc n) ys))) (wider (has_above ys g) (has_node eq (take (suc n) ys)) (above_in_front ys g (suc n) f r) a) (nq (omega arith))
 
-    some_first : (ys : List (K × V)) (g : P) (n : ℕ) → 0 < n → n < length ys → Every (λ (x : K × V). is_lt (cmp g (val x)) ≡ true) (take n ys) → some_above (take n ys) g ≡ true
+    some_first : (ys : List (K × V)) (g : P) (n : ℕ) → 0 < n → n < length ys → AllByRecursion (λ (x : K × V). is_lt (cmp g (val x)) ≡ true) (take n ys) → some_above (take n ys) g ≡ true
     some_first [] g n p h e = absurd (omega arith)
     some_first (y ∷ ys) g zero p h e = absurd (omega arith)
     some_first (y ∷ ys) g (suc n) p h e = or_left (is_lt (cmp g (val y))) (some_above (take n ys) g) e.0
@@ -397,12 +397,12 @@ module _ {K V P : Type 0} (eq : K → K → Bool) {cmp : P → P → Ordering} (
           (attained_moved d g (set xs i y) ys m (attained_set d g s (granted_attained d g xs h)))
           (granted_least d g xs h)
 
-      every_step_up : (g : P) (zs : List (K × V)) → Every (λ (x : K × V). is_eq (cmp (val x) g) ≡ false) zs → Every (λ (x : K × V). is_le (cmp g (val x)) ≡ true → is_lt (cmp g (val x)) ≡ true) zs
+      every_step_up : (g : P) (zs : List (K × V)) → AllByRecursion (λ (x : K × V). is_eq (cmp (val x) g) ≡ false) zs → AllByRecursion (λ (x : K × V). is_le (cmp g (val x)) ≡ true → is_lt (cmp g (val x)) ≡ true) zs
       every_step_up g [] k = tt
       every_step_up g (z ∷ zs) k =
           ((λ l. bool_cases (is_lt (cmp g (val z))) (λ u. u) (λ u. not_both (is_eq (cmp (val z) g)) (eq_if_both o (val z) g (le_if_not_lt o g (val z) u) l) k.0)), every_step_up g zs k.1)
 
-      reached_above : (g : P) (zs : List (K × V)) → Every (λ (x : K × V). is_le (cmp g (val x)) ≡ true → is_lt (cmp g (val x)) ≡ true) zs → IsWithin (has_reached eq cmp compared zs g) (has_above zs g)
+      reached_above : (g : P) (zs : List (K × V)) → AllByRecursion (λ (x : K × V). is_le (cmp g (val x)) ≡ true → is_lt (cmp g (val x)) ≡ true) zs → IsWithin (has_reached eq cmp compared zs g) (has_above zs g)
       reached_above g [] k id h = h
       reached_above g (z ∷ zs) k id h =
           or_cases (eq z.0 id && is_le (cmp g (val z))) (has_reached eq cmp compared zs g id) h
@@ -447,7 +447,7 @@ module _ {K V P : Type 0} (eq : K → K → Bool) {cmp : P → P → Ordering} (
   abbrev beside : K → K × V
   beside id = (id, v)
 
-  every_beside : (Q : K × V → Type 0) → ((id : K) → Q (id, v)) → (ids : List K) → Every Q (map beside ids)
+  every_beside : (Q : K × V → Type 0) → ((id : K) → Q (id, v)) → (ids : List K) → AllByRecursion Q (map beside ids)
   every_beside Q q [] = tt
   every_beside Q q (id ∷ ids) = (q id, every_beside Q q ids)
 

@@ -16,9 +16,9 @@ use Rattle.std.specs.Cmp.{IsTotalOrder}
 use Rattle.raft_progress.proofs.OrderLemmas.{le_if_not_lt}
 use Rattle.raft_quorums.specs.Rising.{IsBelowAll, IsRising}
 use Rattle.raft_quorums.specs.Nodes.{has_id, has_node}
-use Rattle.raft_progress.proofs.ValuesLemmas.{some_of}
+use Rattle.raft_progress.proofs.ValuesLemmas.{some_of, value_if}
 use Rattle.raft_progress.proofs.FallingLemmas.{at_any}
-use Rattle.raft_progress.specs.Values.{value_at, with_value, with_value_at}
+use Rattle.raft_progress.specs.Values.{entry_at, value_at, with_value, with_value_at}
 use Rattle.raft_progress.specs.Parts.{Parts, IsUpgraded, SetsValue, carried, ids_of, has_value, value_of, with_learner, with_voter, written}
 
 absurd_both : {G : Type 0} (b : Bool) → b ≡ true → b ≡ false → G
@@ -49,7 +49,7 @@ module _ {K V : Type 0} (eq : K → K → Bool) where
   index_of [] id h = cc h
   index_of (x ∷ xs) id h =
       elim (eq x.0 id) as (λ b. (b || has_node eq xs id) ≡ true
-      → (at : ℕ) × (at < suc (length xs)) × ((d : K × V) (v : V) → cond b ((x.0, v) ∷ xs) (x ∷ with_value eq xs id v) ≡ set (x ∷ xs) at ((get_or (x ∷ xs) at d).0, v)) × ((d : K × V) → cond b (Some x.1) (value_at eq xs id) ≡ Some (get_or (x ∷ xs) at d).1)) [
+      → (at : ℕ) × (at < suc (length xs)) × ((d : K × V) (v : V) → cond b ((x.0, v) ∷ xs) (x ∷ with_value eq xs id v) ≡ set (x ∷ xs) at ((get_or (x ∷ xs) at d).0, v)) × ((d : K × V) → value_if b x (entry_at eq xs id) ≡ Some (get_or (x ∷ xs) at d).1)) [
         | true ↦ λ _. (0, omega arith, (λ d v. refl), (λ d. refl))
         | false ↦ λ k. let w = index_of xs id k in (suc w.0, omega (arith, w.1), (λ d v. ap (λ l. x ∷ l) (w.2 d v)), w.3)
       ] h
@@ -70,7 +70,7 @@ module _ {K V : Type 0} (eq : K → K → Bool) where
   pub value_at-missing : (xs : List (K × V)) (id : K) → has_node eq xs id ≡ false → value_at eq xs id ≡ None
   value_at-missing [] id h = refl
   value_at-missing (x ∷ xs) id h =
-      elim (eq x.0 id) as (λ b. (b || has_node eq xs id) ≡ false → cond b (Some x.1) (value_at eq xs id) ≡ None) [
+      elim (eq x.0 id) as (λ b. (b || has_node eq xs id) ≡ false → value_if b x (entry_at eq xs id) ≡ None) [
         | true ↦ λ k. cc k
         | false ↦ λ k. value_at-missing xs id k
       ] h
@@ -78,7 +78,7 @@ module _ {K V : Type 0} (eq : K → K → Bool) where
   pub missing : (xs : List (K × V)) (id : K) → value_at eq xs id ≡ None → has_node eq xs id ≡ false
   missing [] id h = refl
   missing (x ∷ xs) id h =
-      elim (eq x.0 id) as (λ b. cond b (Some x.1) (value_at eq xs id) ≡ None → (b || has_node eq xs id) ≡ false) [
+      elim (eq x.0 id) as (λ b. value_if b x (entry_at eq xs id) ≡ None → (b || has_node eq xs id) ≡ false) [
         | true ↦ λ k. cc k
         | false ↦ λ k. missing xs id k
       ] h
@@ -87,14 +87,14 @@ module _ {K V : Type 0} (eq : K → K → Bool) where
   value_set [] id v h = cc h
   value_set (x ∷ xs) id v h =
       elim (eq x.0 id) as (λ b. eq x.0 id ≡ b → (b || has_node eq xs id) ≡ true → value_at eq (cond b ((x.0, v) ∷ xs) (x ∷ with_value eq xs id v)) id ≡ Some v) [
-        | true ↦ λ e k. ap (λ b. cond b (Some v) (value_at eq xs id)) e
-        | false ↦ λ e k. ap (λ b. cond b (Some x.1) (value_at eq (with_value eq xs id v) id)) e ∙ value_set xs id v k
+        | true ↦ λ e k. ap (λ b. value_if b (x.0, v) (entry_at eq xs id)) e
+        | false ↦ λ e k. ap (λ b. value_if b x (entry_at eq (with_value eq xs id v) id)) e ∙ value_set xs id v k
       ] refl h
 
   entry_there : (xs : List (K × V)) (id : K) (v : V) → value_at eq xs id ≡ Some v → (key : K) × (eq key id ≡ true) × Contains xs (key, v)
   entry_there [] id v h = cc h
   entry_there (x ∷ xs) id v h =
-      elim (eq x.0 id) as (λ b. eq x.0 id ≡ b → cond b (Some x.1) (value_at eq xs id) ≡ Some v → (key : K) × (eq key id ≡ true) × Contains (x ∷ xs) (key, v)) [
+      elim (eq x.0 id) as (λ b. eq x.0 id ≡ b → value_if b x (entry_at eq xs id) ≡ Some v → (key : K) × (eq key id ≡ true) × Contains (x ∷ xs) (key, v)) [
         | true ↦ λ e k. let w : x.1 ≡ v = cc k in (x.0, e, (0, omega arith, ap (λ z. (x.0, z)) w))
         | false ↦ λ e k. let w = entry_there xs id v k in (w.0, w.1, (suc w.2.0, omega (arith, w.2.1), w.2.2))
       ] refl h
@@ -108,21 +108,25 @@ module _ {K V : Type 0} (eq : K → K → Bool) where
     pub value_kept : (xs : List (K × V)) (id other : K) (v : V) → eq id other ≡ false → value_at eq (with_value eq xs id v) other ≡ value_at eq xs other
     value_kept [] id other v h = refl
     value_kept (x ∷ xs) id other v h =
-        elim (eq x.0 id) as (λ b. eq x.0 id ≡ b → value_at eq (cond b ((x.0, v) ∷ xs) (x ∷ with_value eq xs id v)) other ≡ cond (eq x.0 other) (Some x.1) (value_at eq xs other)) [
+        elim (eq x.0 id) as (λ b. eq x.0 id ≡ b → value_at eq (cond b ((x.0, v) ∷ xs) (x ∷ with_value eq xs id v)) other ≡ value_if (eq x.0 other) x (entry_at eq xs other)) [
           | true ↦ λ e.
               let apart : eq x.0 other ≡ false = ap (λ y. eq y other) (same x.0 id e) ∙ h in
-              ap (λ b. cond b (Some v) (value_at eq xs other)) apart ∙ sym (ap (λ b. cond b (Some x.1) (value_at eq xs other)) apart)
-          | false ↦ λ e. ap (λ o. cond (eq x.0 other) (Some x.1) o) (value_kept xs id other v h)
+              ap (λ b. value_if b (x.0, v) (entry_at eq xs other)) apart ∙ sym (ap (λ b. value_if b x (entry_at eq xs other)) apart)
+          | false ↦ λ e.
+              elim (eq x.0 other) as (λ c. value_if c x (entry_at eq (with_value eq xs id v) other) ≡ value_if c x (entry_at eq xs other)) [
+                | true ↦ refl
+                | false ↦ value_kept xs id other v h
+              ]
         ] refl
 
     -- among distinct ids an entry is what its id gives
     found_there : (xs : List (K × V)) (k : ℕ) (d : K × V) (id : K) → IsDistinct eq (ids_of xs) → k < length xs → eq (get_or xs k d).0 id ≡ true → value_at eq xs id ≡ Some (get_or xs k d).1
     unfolding IsDistinct
     found_there [] k d id a h e = absurd (omega arith)
-    found_there (x ∷ xs) zero d id a h e = ap (λ b. cond b (Some x.1) (value_at eq xs id)) e
+    found_there (x ∷ xs) zero d id a h e = ap (λ b. value_if b x (entry_at eq xs id)) e
     found_there (x ∷ xs) (suc k) d id a h e =
         let apart : eq x.0 id ≡ false = ap (eq x.0) (sym (same (get_or xs k d).0 id e)) ∙ apart_at x.0 xs k d a.0 (omega arith) in
-        ap (λ b. cond b (Some x.1) (value_at eq xs id)) apart ∙ found_there xs k d id a.1 (omega arith) e
+        ap (λ b. value_if b x (entry_at eq xs id)) apart ∙ found_there xs k d id a.1 (omega arith) e
 
     -- entries with distinct ids give the same values in whatever order they stand
     pub value_at-moved : (xs ys : List (K × V)) (id : K) → IsPermutation xs ys → IsDistinct eq (ids_of ys) → value_at eq ys id ≡ value_at eq xs id
@@ -251,7 +255,7 @@ module _ {K V : Type 0} (eq : K → K → Bool) (same : (x y : K) → eq x y ≡
   pub value_at-beside : (ids : List K) (id : K) → value_at eq (map (beside f) ids) id ≡ (if has_id eq ids id then Some (f id) else None)
   value_at-beside [] id = refl
   value_at-beside (x ∷ xs) id =
-      elim (eq x id) as (λ b. eq x id ≡ b → cond b (Some (f x)) (value_at eq (map (beside f) xs) id) ≡ (if (b || has_id eq xs id) then Some (f id) else None)) [
+      elim (eq x id) as (λ b. eq x id ≡ b → value_if b (x, f x) (entry_at eq (map (beside f) xs) id) ≡ (if (b || has_id eq xs id) then Some (f id) else None)) [
         | true ↦ λ e. ap (λ y. Some (f y)) (same x id e)
         | false ↦ λ e. value_at-beside xs id
       ] refl

@@ -8,8 +8,8 @@ use Rattle.raft_quorums.specs.Nodes.{has_node}
 use Rattle.std.specs.declared.cmp.Ordering.{Ordering}
 use Rattle.std.specs.Ordering.{is_le}
 use Rattle.std.specs.Cmp.{IsTotalOrder}
-use Rattle.std.specs.Option.{option_or, IfSome}
-use Rattle.raft_progress.specs.Values.{value_at, with_value, rises_above}
+use Rattle.std.specs.Option.{option_map, option_or, IfSome}
+use Rattle.raft_progress.specs.Values.{entry_at, value_at, with_value, rises_above}
 use Rattle.raft_progress.proofs.OrderLemmas.{le_if_lt}
 
 is_place : (b : Bool) (n at : ℕ) → Some at ≡ cond b (Some n) None → (b ≡ true) × (at ≡ n)
@@ -19,6 +19,10 @@ is_place false n at e = cc e
 is_missing : (b : Bool) (n : ℕ) → None ≡ cond b (Some n) None → b ≡ false
 is_missing true n e = cc e
 is_missing false n e = refl
+
+-- the value of the entry where the test holds, else of the one that was found behind it
+abbrev pub value_if : {K V : Type 0} → Bool → K × V → Option (K × V) → Option V
+value_if {K} {V} b x found = option_map (λ (z : K × V). z.1) (cond b (Some x) found)
 
 module _ {K V : Type 0} (eq : K → K → Bool) (id : K) where
   abbrev is_id : K × V → Bool
@@ -34,7 +38,7 @@ module _ {K V : Type 0} (eq : K → K → Bool) (id : K) where
   first_place (x ∷ xs) d v h =
       elim (eq x.0 id) as (λ b. cond (not b) (1 + position_or_len is_id xs) 0 < suc (length xs) →
       (cond b ((x.0, v) ∷ xs) (x ∷ with_value eq xs id v) ≡ set (x ∷ xs) (cond (not b) (1 + position_or_len is_id xs) 0) ((get_or (x ∷ xs) (cond (not b) (1 + position_or_len is_id xs) 0) d).0, v))
-      × (cond b (Some x.1) (value_at eq xs id) ≡ Some (get_or (x ∷ xs) (cond (not b) (1 + position_or_len is_id xs) 0) d).1) × ((b || has_node eq xs id) ≡ true)) [
+      × (value_if b x (entry_at eq xs id) ≡ Some (get_or (x ∷ xs) (cond (not b) (1 + position_or_len is_id xs) 0) d).1) × ((b || has_node eq xs id) ≡ true)) [
         | true ↦ λ k. (refl, refl, refl)
         | false ↦ λ k.
             let w = first_place xs d v (omega arith) in
@@ -47,7 +51,7 @@ module _ {K V : Type 0} (eq : K → K → Bool) (id : K) where
   no_place [] v h = (refl, refl, refl)
   no_place (x ∷ xs) v h =
       elim (eq x.0 id) as (λ b. suc (length xs) ≤ cond (not b) (1 + position_or_len is_id xs) 0 →
-      (cond b ((x.0, v) ∷ xs) (x ∷ with_value eq xs id v) ≡ x ∷ xs) × (cond b (Some x.1) (value_at eq xs id) ≡ None) × ((b || has_node eq xs id) ≡ false)) [
+      (cond b ((x.0, v) ∷ xs) (x ∷ with_value eq xs id v) ≡ x ∷ xs) × (value_if b x (entry_at eq xs id) ≡ None) × ((b || has_node eq xs id) ≡ false)) [
         | true ↦ λ k. absurd (omega arith)
         | false ↦ λ k. let w = no_place xs v (omega arith) in (ap (λ l. x ∷ l) w.0, w.1, w.2)
       ] h

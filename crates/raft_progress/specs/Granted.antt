@@ -2,21 +2,16 @@
 use Rattle.std.specs.Prelude.{◌≡◌, ℕ, zero, suc, Bool, true, ◌&&◌, List, [], ◌∷◌, map, filter, take}
 use Rattle.std.specs.declared.cmp.Ordering.{Ordering}
 use Rattle.std.specs.Ordering.{is_le, is_eq}
-use Rattle.std.specs.List.{list_any, list_all}
+use Rattle.std.specs.List.{AllByRecursion, list_any, list_all}
 
 -- x equals one of the list, and is at least each
 abbrev pub IsGreatest : {P : Type 0} → (P → P → Ordering) → P → List P → Type 0
 IsGreatest cmp x xs = (list_any (λ y. is_eq (cmp y x)) xs ≡ true) × (list_all (λ y. is_le (cmp y x)) xs ≡ true)
 
--- each of the list
-abbrev pub Every : {X : Type 0} → (X → Type 0) → List X → Type 0
-Every Q [] = Unit {0}
-Every Q (x ∷ xs) = Q x × Every Q xs
-
 -- each of the list but the one at the index
 abbrev pub AllBut : {X : Type 0} → ℕ → (X → Type 0) → List X → Type 0
 AllBut at Q [] = Unit {0}
-AllBut zero Q (x ∷ xs) = Every Q xs
+AllBut zero Q (x ∷ xs) = AllByRecursion Q xs
 AllBut (suc at) Q (x ∷ xs) = Q x × AllBut at Q xs
 
 module _ {K V P : Type 0} where
@@ -27,7 +22,7 @@ module _ {K V P : Type 0} where
   -- each value is at least those that follow it
   abbrev pub IsFalling : (P → P → Ordering) → (V → P) → List (K × V) → Type 0
   IsFalling cmp compared [] = Unit {0}
-  IsFalling cmp compared (x ∷ xs) = Every (λ y. is_le (cmp (compared y.1) (compared x.1)) ≡ true) xs × IsFalling cmp compared xs
+  IsFalling cmp compared (x ∷ xs) = AllByRecursion (λ y. is_le (cmp (compared y.1) (compared x.1)) ≡ true) xs × IsFalling cmp compared xs
 
   -- they fall without the one at the index, which is at least those that follow it
   abbrev pub IsFallingBut : (P → P → Ordering) → (V → P) → ℕ → List (K × V) → Type 0

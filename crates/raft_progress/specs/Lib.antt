@@ -5,4 +5,5 @@ pub mod Parts
 pub mod Counted
 pub mod Inflight
 pub mod Entry
+pub mod Faults
 pub mod Replay

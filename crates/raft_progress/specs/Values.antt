@@ -1,5 +1,7 @@
 -- The values beside ids.
 use Rattle.std.specs.declared.cmp.Ordering.{Ordering}
+use Rattle.std.specs.List.{find}
+use Rattle.std.specs.Option.{option_map}
 use Rattle.std.specs.Ordering.{is_lt}
 use Rattle.raft_quorums.specs.Nodes.{has_id}
 use Rattle.std.specs.Prelude.{ℕ, zero, suc, Bool, true, false, not, ◌&&◌, cond, Option, Some, None, List, [], ◌∷◌}
@@ -11,10 +13,13 @@ with_value_at (x ∷ xs) zero v = (x.0, v) ∷ xs
 with_value_at (x ∷ xs) (suc at) v = x ∷ with_value_at xs at v
 
 module _ {K V : Type 0} (eq : K → K → Bool) where
+  -- the first entry with the id
+  abbrev pub entry_at : List (K × V) → K → Option (K × V)
+  entry_at xs id = find (λ (x : K × V). eq x.0 id) xs
+
   -- the value beside the id
   abbrev pub value_at : List (K × V) → K → Option V
-  value_at [] id = None
-  value_at (x ∷ xs) id = cond (eq x.0 id) (Some x.1) (value_at xs id)
+  value_at xs id = option_map (λ (x : K × V). x.1) (entry_at xs id)
 
   -- the list with this value beside the id
   abbrev pub with_value : List (K × V) → K → V → List (K × V)

@@ -2,9 +2,10 @@
 ghost use Rattle.std.specs.Prelude.{◌≡◌, true, false, is_none, is_some};
 ghost use Rattle.std.specs.Ordering.{is_lt};
 ghost use Rattle.std.specs.Option.{option_cmp};
+ghost use Rattle.raft_progress.specs.Faults.{inflight_fault};
 ghost use Rattle.raft_progress.specs.Inflight.{has_request_id, is_snapshot, is_logs, request_id, rest_behind, under_id};
 
-use raft_state::{LogId, LogIdRange, NodeId};
+use raft_state::{Invalid, LogId, LogIdRange, NodeId, Validate};
 use std::fmt::{self, Display};
 
 /// What a leader has sent to a peer, until the peer answers (openraft).
@@ -136,6 +137,18 @@ impl<NID: NodeId> Inflight<NID> {
     {
         if self.is_my_id(request_id) {
             *self = Inflight::None;
+        }
+    }
+}
+
+/// Log ids that are on their way are a range in order.
+impl<NID: NodeId> Validate<Invalid> for Inflight<NID> {
+    ghost fault = { inflight_fault NID.cmp };
+
+    fn validate(&self) -> Result<(), Invalid> {
+        match self {
+            Inflight::None | Inflight::Snapshot { .. } => Ok(()),
+            Inflight::Logs { log_id_range, .. } => log_id_range.validate(),
         }
     }
 }

@@ -5,6 +5,7 @@ pub mod borrow;
 pub mod entries;
 pub mod front;
 pub mod inflight;
+pub mod invalid_progress;
 pub mod iter;
 pub mod progress;
 pub mod progress_entry;
@@ -13,6 +14,7 @@ pub mod vec_progress;
 
 pub use borrow::Borrow;
 pub use inflight::Inflight;
+pub use invalid_progress::InvalidProgress;
 pub use iter::Iter;
 pub use progress::Progress;
 pub use progress_entry::ProgressEntry;

@@ -5,7 +5,7 @@ ghost use Rattle.std.specs.Borrow.{LendsSo, sem};
 ghost use Rattle.std.specs.Fn.{FnOnceReturnsAtMut};
 ghost use Rattle.std.specs.Option.{option_copied, option_copied_mut};
 ghost use Rattle.raft_quorums.specs.Nodes.{has_node};
-ghost use Rattle.raft_progress.specs.Counted.{IsCounted, IsNoLess};
+ghost use Rattle.raft_progress.specs.Counted.{IsCounted, IsNoLess, IsSamePart};
 ghost use Rattle.raft_progress.specs.Parts.{IsUpgraded, Parts, SetsValue, has_value, value_of, written};
 ghost use Rattle.raft_progress.specs.Replay.{Increases};
 ghost use Rattle.raft_progress.specs.Values.{value_at};
@@ -31,6 +31,7 @@ pub trait Progress<ID: NodeId, V: Copy + Borrow<P>, P: Copy + Ord, QS: QuorumSet
             × FnOnceReturnsAtMut F.FnOnce f before tt value × SetsValue ID.eq (parts self.old) (parts self.new) id.now value) }
         ensures unknown { OnErr result (parts self.new ≡ parts self.old) }
         ensures counted { IsCounted ID.eq P.cmp V.borrowed QS.accepts (parts self.old) → IsCounted ID.eq P.cmp V.borrowed QS.accepts (parts self.new) }
+        ensures grows { is_le (P.cmp (parts self.old).granted (parts self.new).granted) ≡ true }
         ensures answer { result ≡ (if has_value ID.eq (parts self.old) id.now then Ok (parts self.new).granted else Err (parts self.new).granted) };
 
     /// Sets the value of the id, which is no less than before, and answers what is granted: as an
@@ -39,6 +40,7 @@ pub trait Progress<ID: NodeId, V: Copy + Borrow<P>, P: Copy + Ord, QS: QuorumSet
         requires rises { IsNoLess P.cmp V.borrowed (value_at ID.eq (parts self.old).voters id.now) value }
         ensures sets { SetsValue ID.eq (parts self.old) (parts self.new) id.now value }
         ensures counted { IsCounted ID.eq P.cmp V.borrowed QS.accepts (parts self.old) → IsCounted ID.eq P.cmp V.borrowed QS.accepts (parts self.new) }
+        ensures grows { is_le (P.cmp (parts self.old).granted (parts self.new).granted) ≡ true }
         ensures answer { result ≡ (if has_value ID.eq (parts self.old) id.now then Ok (parts self.new).granted else Err (parts self.new).granted) };
 
     /// Sets the value of the id if that raises it, and answers what is granted: as an error where
@@ -46,17 +48,24 @@ pub trait Progress<ID: NodeId, V: Copy + Borrow<P>, P: Copy + Ord, QS: QuorumSet
     fn increase_to(&mut self, id: &ID, value: V) -> Result<P, P>
         ensures increases { Increases ID.eq P.cmp V.borrowed (parts self.old) (parts self.new) id.now value }
         ensures counted { IsCounted ID.eq P.cmp V.borrowed QS.accepts (parts self.old) → IsCounted ID.eq P.cmp V.borrowed QS.accepts (parts self.new) }
+        ensures grows { is_le (P.cmp (parts self.old).granted (parts self.new).granted) ≡ true }
         ensures answer { result ≡ (if has_value ID.eq (parts self.old) id.now then Ok (parts self.new).granted else Err (parts self.new).granted) };
 
     /// The value of the id, or None where nobody has it.
     fn try_get(&self, id: &ID) -> Option<&V>
         ensures { option_copied result ≡ value_of ID.eq (parts self.now) id.now };
 
-    /// The value of the id to be written, or None where nobody has it.
+    /// The value of the id to be written, or None where nobody has it. What is granted stays
+    /// counted where the part that is compared stays, or the id is a learner's. Where a voter's
+    /// part is changed it is no longer promised, and nothing else breaks.
     fn get_mut(&mut self, id: &ID) -> Option<&mut V>
         ensures* writes_back { sem 𝓛 (LendsSo Self.row V.row self.entry result
             (λ after value. parts after ≡ written ID.eq (parts self.old) id.now value) (λ after. parts after ≡ parts self.old)) }
-        ensures value { option_copied_mut result ≡ value_of ID.eq (parts self.old) id.now };
+        ensures value { option_copied_mut result ≡ value_of ID.eq (parts self.old) id.now }
+        ensures sets { (value : V) → SetsValue ID.eq (parts self.old) (written ID.eq (parts self.old) id.now value) id.now value }
+        ensures counted { (value : V) → IsSamePart V.borrowed (value_at ID.eq (parts self.old).voters id.now) value
+            → IsCounted ID.eq P.cmp V.borrowed QS.accepts (parts self.old)
+            → IsCounted ID.eq P.cmp V.borrowed QS.accepts (written ID.eq (parts self.old) id.now value) };
 
     /// The value of the id, which somebody has.
     fn get(&self, id: &ID) -> &V

@@ -1,13 +1,15 @@
 //! What a leader knows of one peer.
-ghost use Rattle.std.specs.Prelude.{◌≡◌, ◌+◌, ◌-◌, ◌*◌, ◌/◌, ◌^◌, ◌<◌, true, false, max, min, None, is_some, Ok, Err, OnErr};
-ghost use Rattle.raft_values.specs.LogId.{next_place};
+ghost use Rattle.std.specs.Prelude.{◌≡◌, ◌+◌, ◌-◌, ◌*◌, ◌/◌, ◌^◌, ◌<◌, true, false, max, min, nat_lt, None, is_some, Ok, Err, OnErr};
+ghost use Rattle.raft_values.specs.LogId.{is_past, next_place};
 ghost use Rattle.raft_state.specs.LogIdList.{last_id};
 ghost use Rattle.raft_progress.specs.Entry.{next_request, request_start, search_behind};
+ghost use Rattle.raft_progress.specs.Faults.{progress_fault, request_fault};
 ghost use Rattle.raft_progress.specs.Inflight.{has_request_id, is_past_start, request_id, rest_behind, under_id};
 
 use crate::borrow::Borrow;
 use crate::inflight::Inflight;
-use raft_state::{LogId, LogIdOptionExt, LogStateReader, NodeId};
+use crate::invalid_progress::InvalidProgress;
+use raft_state::{LogId, LogIdOptionExt, LogStateReader, NodeId, Validate};
 use std::fmt::{self, Display};
 
 /// What a leader knows of a peer (openraft). What is compared of it is `matching`.
@@ -169,6 +171,70 @@ fn request_end(start: u64, max_entries: u64, end: u64) -> u64
     ensures { result ≡ min (start + max_entries) end }
 {
     start.saturating_add(max_entries).min(end)
+}
+
+// Whether the first comes after the second; none comes before all.
+fn is_past<NID: NodeId>(first: &Option<LogId<NID>>, second: &Option<LogId<NID>>) -> bool
+    ensures { result ≡ is_past NID.cmp first.now second.now }
+{
+    match (first, second) {
+        (None, _) => false,
+        (Some(_), None) => true,
+        (Some(a), Some(b)) => a.cmp(b).is_gt(),
+    }
+}
+
+// Whether the log id stands at the place or behind it.
+fn is_outside<NID: NodeId>(log_id: &Option<LogId<NID>>, end: u64) -> bool
+    ensures { result ≡ nat_lt end (next_place log_id.now) }
+{
+    match log_id {
+        None => false,
+        Some(log_id) => end <= log_id.index,
+    }
+}
+
+// What is wrong with the request in flight beside what is known of the peer.
+fn request_fault<NID: NodeId>(entry: &ProgressEntry<NID>) -> Option<InvalidProgress>
+    ensures { result ≡ request_fault NID.cmp entry.now.matching entry.now.searching_end entry.now.inflight }
+{
+    match entry.inflight {
+        Inflight::None => None,
+        Inflight::Logs { log_id_range, .. } => {
+            if is_past(&entry.matching, &log_id_range.prev) {
+                return Some(InvalidProgress::MatchingPastRequest);
+            }
+            if is_outside(&log_id_range.prev, entry.searching_end) {
+                return Some(InvalidProgress::RequestPastSearch);
+            }
+            None
+        }
+        Inflight::Snapshot { last_log_id, .. } => {
+            if is_past(&last_log_id, &entry.matching) {
+                return None;
+            }
+            Some(InvalidProgress::SnapshotNotPastMatching)
+        }
+    }
+}
+
+/// What is known to be the same lies within the search, what is in flight is right by itself, and
+/// goes on from what is known to be the same.
+impl<NID: NodeId> Validate<InvalidProgress> for ProgressEntry<NID> {
+    ghost fault = { progress_fault NID.cmp };
+
+    fn validate(&self) -> Result<(), InvalidProgress> {
+        if is_outside(&self.matching, self.searching_end) {
+            return Err(InvalidProgress::MatchingPastSearch);
+        }
+        if let Err(fault) = self.inflight.validate() {
+            return Err(InvalidProgress::Inflight(fault));
+        }
+        match request_fault(self) {
+            Some(fault) => Err(fault),
+            None => Ok(()),
+        }
+    }
 }
 
 impl<NID: NodeId> Borrow<Option<LogId<NID>>> for ProgressEntry<NID> {

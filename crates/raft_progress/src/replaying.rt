@@ -50,8 +50,8 @@ pub enum ReplayError {
 
 // Does one item, or changes nothing.
 fn replay_item<ID: NodeId, V: Copy + Borrow<P>, P: Copy + Ord, QS: QuorumSet<ID> + Drop>(
-    progress: &mut VecProgress<ID, V, P, QS>,
     alloc: Global,
+    progress: &mut VecProgress<ID, V, P, QS>,
     item: ReplayItem<ID, V, QS>,
 ) -> Result<(), ReplayError>
     ensures ok { OnOk result (DoesItem ID.eq P.cmp V.borrowed QS.members progress.old item progress.new) }
@@ -92,8 +92,8 @@ fn replay_item<ID: NodeId, V: Copy + Borrow<P>, P: Copy + Ord, QS: QuorumSet<ID>
 /// An update that would lower a voter's value, and a change for which there is no memory, ends
 /// the replay: the progress is as the items before left it (own).
 pub fn replay<ID: NodeId, V: Copy + Borrow<P>, P: Copy + Ord, QS: QuorumSet<ID> + Drop>(
-    progress: &mut VecProgress<ID, V, P, QS>,
     alloc: Global,
+    progress: &mut VecProgress<ID, V, P, QS>,
     items: Vec<ReplayItem<ID, V, QS>>,
 ) -> Result<(), ReplayError>
     ensures ok { OnOk result (Replays ID.eq P.cmp V.borrowed QS.members progress.old items.items progress.new) }
@@ -101,7 +101,7 @@ pub fn replay<ID: NodeId, V: Copy + Borrow<P>, P: Copy + Ord, QS: QuorumSet<ID> 
     ensures counted { IsCounted ID.eq P.cmp V.borrowed QS.accepts progress.old → IsCounted ID.eq P.cmp V.borrowed QS.accepts progress.new }
 {
     for item in items {
-        replay_item(progress, alloc, item)?;
+        replay_item(alloc, progress, item)?;
     }
     Ok(())
 }

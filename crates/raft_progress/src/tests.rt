@@ -1,8 +1,16 @@
-ghost use Rattle.std.specs.Prelude.{◌≡◌};
+ghost use Rattle.std.specs.Prelude.{◌≡◌, Some};
 ghost use Rattle.raft_values.specs.LogId.{log_id_of};
 
-use super::{Inflight, Progress, ProgressEntry, ReplayError, ReplayItem, VecProgress, replay};
-use raft_state::{EmptyNode, IdSet, Joint, LeaderId, LogId, LogIdRange, RaftState};
+use super::{
+    Inflight, InvalidProgress, Progress, ProgressEntry, ReplayError, ReplayItem, VecProgress,
+    replay,
+};
+use raft_membership::laws::{changes_are_coherent, quorums_share_a_voter, superset_is_quorum};
+use raft_state::{
+    EmptyNode, IdSet, Invalid, Joint, LeaderId, LogId, LogIdRange, Membership, NodeMap, RaftState,
+    Validate, VoterGroups,
+};
+use std::alloc::{AllocError, Global};
 use std::test::Fail;
 
 fn log_id(index: u64) -> LogId<u64>
@@ -181,7 +189,7 @@ fn a_replay_stops_before_a_lower_value(rt: HostRuntime) -> Result<(), Fail> {
     items.push(ReplayItem::IncreaseTo { id: 2, value: 4 })?;
     items.push(ReplayItem::IncreaseTo { id: 2, value: 10 })?;
     items.push(ReplayItem::Update { id: 3, value: 6 })?;
-    assert_eq!(rt; replay(&mut progress, alloc, items), Ok(()));
+    assert_eq!(rt; replay(alloc, &mut progress, items), Ok(()));
     assert_eq!(rt; progress.granted(), &5);
     let mut more = Vec::new(alloc);
     more.push(ReplayItem::UpgradeQuorumSet {
@@ -192,7 +200,7 @@ fn a_replay_stops_before_a_lower_value(rt: HostRuntime) -> Result<(), Fail> {
     more.push(ReplayItem::Update { id: 2, value: 9 })?;
     more.push(ReplayItem::IncreaseTo { id: 1, value: 8 })?;
     assert_eq!(rt;
-        replay(&mut progress, alloc, more),
+        replay(alloc, &mut progress, more),
         Err(ReplayError::Lowers)
     );
     assert_eq!(rt; progress.granted(), &3);
@@ -243,6 +251,245 @@ fn a_conflict_of_the_request_in_flight_counts(rt: HostRuntime) -> Result<(), Fai
     assert_eq!(rt;
         entry.to_string(rt.alloc())?.as_str(),
         "{[None, 7), inflight:None}"
+    );
+    Ok(())
+}
+
+// The ids and values in the order in which they stand.
+fn entries<PR: Progress<u64, u64, u64, Vec<u64>>>(
+    alloc: Global,
+    progress: &PR,
+) -> Result<Vec<(u64, u64)>, AllocError> {
+    let mut entries = Vec::new(alloc);
+    for entry in progress.iter() {
+        entries.push(*entry)?;
+    }
+    Ok(entries)
+}
+
+#[test]
+fn voters_stand_by_falling_values(rt: HostRuntime) -> Result<(), Fail> {
+    let voters = vec![in rt.alloc(); 10u64, 11, 12, 13]?;
+    let mut progress: VecProgress<u64, u64, u64, Vec<u64>> = VecProgress::new(
+        rt.alloc(),
+        voters,
+        &[20],
+        0,
+    )?;
+    let _ = progress.increase_to(&20, 9);
+    assert_eq!(rt;
+        entries(rt.alloc(), &progress)?.as_slice(),
+        [(10, 0), (11, 0), (12, 0), (13, 0), (20, 9)].as_slice()
+    );
+    assert_eq!(rt; progress.increase_to(&12, 4), Ok(0));
+    assert_eq!(rt; progress.increase_to(&13, 6), Ok(0));
+    assert_eq!(rt; progress.increase_to(&10, 4), Ok(4));
+    assert_eq!(rt;
+        entries(rt.alloc(), &progress)?.as_slice(),
+        [(13, 6), (12, 4), (10, 4), (11, 0), (20, 9)].as_slice()
+    );
+    assert_eq!(rt; progress.increase_to(&10, 7), Ok(4));
+    assert_eq!(rt; progress.increase_to(&11, 5), Ok(5));
+    assert_eq!(rt;
+        entries(rt.alloc(), &progress)?.as_slice(),
+        [(10, 7), (13, 6), (11, 5), (12, 4), (20, 9)].as_slice()
+    );
+    Ok(())
+}
+
+#[test]
+fn a_learner_is_set_to_any_value(rt: HostRuntime) -> Result<(), Fail> {
+    let voters = vec![in rt.alloc(); 1u64, 2, 3]?;
+    let mut progress: VecProgress<u64, u64, u64, Vec<u64>> = VecProgress::new(
+        rt.alloc(),
+        voters,
+        &[7],
+        3,
+    )?;
+    assert_eq!(rt; progress.update(&7, 9), Ok(3));
+    assert_eq!(rt; progress.get(&7), &9);
+    Ok(())
+}
+
+#[test]
+fn a_reference_for_writing_is_lent(rt: HostRuntime) -> Result<(), Fail> {
+    let voters = vec![in rt.alloc(); 1u64, 2, 3]?;
+    let mut progress: VecProgress<u64, u64, u64, Vec<u64>> = VecProgress::new(
+        rt.alloc(),
+        voters,
+        &[7],
+        0,
+    )?;
+    for id in [2u64, 7] {
+        match progress.get_mut(&id) {
+            Some(value) => *value = 5,
+            None => assert!(rt; false),
+        }
+    }
+    assert!(rt; progress.get_mut(&8).is_none());
+    assert_eq!(rt;
+        entries(rt.alloc(), &progress)?.as_slice(),
+        [(1, 0), (2, 5), (3, 0), (7, 5)].as_slice()
+    );
+    assert_eq!(rt; progress.granted(), &0);
+    Ok(())
+}
+
+// Each call of any progress, by the bound alone: what was granted after each.
+fn walked<PR: Progress<u64, u64, u64, Vec<u64>> + Drop>(
+    alloc: Global,
+    progress: &mut PR,
+    next: Vec<u64>,
+) -> Result<(PR, Vec<u64>), AllocError> {
+    let mut granted = Vec::new(alloc);
+    granted.push(*progress.granted())?;
+    let _ = progress.increase_to(&1, 6);
+    granted.push(*progress.granted())?;
+    let _ = progress.update_with(&2, |kept| *kept = (*kept).max(8));
+    granted.push(*progress.granted())?;
+    if let Some(value) = progress.get_mut(&9) {
+        *value = 7;
+    }
+    if let Some(value) = progress.try_get(&9) {
+        granted.push(*value)?;
+    }
+    if progress.is_voter(&9) == Some(false) {
+        granted.push(progress.quorum_set().len() as u64)?;
+    }
+    let after = progress.upgrade_quorum_set(alloc, next, &[1], 1)?;
+    granted.push(*after.granted())?;
+    Ok((after, granted))
+}
+
+#[test]
+fn any_progress_is_walked_by_its_bound(rt: HostRuntime) -> Result<(), Fail> {
+    let alloc = rt.alloc();
+    let mut progress: VecProgress<u64, u64, u64, Vec<u64>> = VecProgress::new(
+        alloc,
+        vec![in alloc; 1u64, 2, 3]?,
+        &[9],
+        0,
+    )?;
+    let (after, granted) = walked(alloc, &mut progress, vec![in alloc; 2u64, 9]?)?;
+    assert_eq!(rt; granted.as_slice(), [0, 0, 6, 7, 3, 7].as_slice());
+    assert_eq!(rt;
+        entries(alloc, &after)?.as_slice(),
+        [(2, 8), (9, 7), (1, 6)].as_slice()
+    );
+    Ok(())
+}
+
+// A joint of groups of ids.
+fn joint(
+    alloc: Global,
+    groups: &[&[u64]],
+) -> Result<Joint<u64, IdSet<u64>, Vec<IdSet<u64>>>, AllocError> {
+    let mut sets = Vec::new(alloc);
+    for group in groups {
+        sets.push(IdSet::from_slice(alloc, *group)?)?;
+    }
+    Ok(Joint::new(sets))
+}
+
+#[test]
+fn values_go_through_a_joint_to_the_next_group(rt: HostRuntime) -> Result<(), Fail> {
+    let alloc = rt.alloc();
+    let old = joint(alloc, &[[1, 2, 3].as_slice()])?;
+    let mut first: VecProgress<u64, u64, u64, Joint<u64, IdSet<u64>, Vec<IdSet<u64>>>> =
+        VecProgress::new(alloc, old, &[], 0)?;
+    assert_eq!(rt; first.increase_to(&1, 15), Ok(0));
+    assert_eq!(rt; first.increase_to(&2, 16), Ok(15));
+    let both = joint(alloc, &[[1, 2, 3].as_slice(), [4, 5, 6].as_slice()])?;
+    let mut second = first.upgrade_quorum_set(alloc, both, &[7], 0)?;
+    assert_eq!(rt; second.granted(), &0);
+    assert_eq!(rt; second.try_get(&6), Some(&0));
+    assert_eq!(rt; second.is_voter(&6), Some(true));
+    assert_eq!(rt; second.increase_to(&6, 19), Ok(0));
+    assert_eq!(rt; second.increase_to(&5, 18), Ok(15));
+    let new = joint(alloc, &[[4, 5, 6].as_slice()])?;
+    let third = second.upgrade_quorum_set(alloc, new, &[2], 0)?;
+    assert_eq!(rt; third.granted(), &18);
+    assert_eq!(rt; third.try_get(&2), Some(&16));
+    assert_eq!(rt; third.is_voter(&2), Some(false));
+    assert_eq!(rt; third.try_get(&1), None);
+    Ok(())
+}
+
+#[test]
+fn a_membership_counts_by_its_laws(rt: HostRuntime) -> Result<(), Fail> {
+    let alloc = rt.alloc();
+    let mut groups = VoterGroups::new(alloc);
+    groups.push(IdSet::from_slice(alloc, &[1u64, 2, 3])?)?;
+    groups.push(IdSet::from_slice(alloc, &[3u64, 4, 5])?)?;
+    let nodes: NodeMap<u64, EmptyNode> = NodeMap::new(alloc);
+    let membership = Membership::from_parts(groups, nodes);
+    assert!(rt; membership.get_joint_config().len() > 0);
+    superset_is_quorum(&membership);
+    quorums_share_a_voter(&membership);
+    changes_are_coherent(&membership);
+    let mut progress: VecProgress<u64, u64, u64, Membership<u64, EmptyNode>> = VecProgress::new(
+        alloc,
+        membership,
+        &[],
+        0,
+    )?;
+    assert_eq!(rt; progress.increase_to(&3, 9), Ok(0));
+    assert_eq!(rt; progress.increase_to(&1, 4), Ok(0));
+    assert_eq!(rt; progress.increase_to(&5, 7), Ok(4));
+    assert_eq!(rt; progress.increase_to(&2, 8), Ok(7));
+    Ok(())
+}
+
+// A peer whose log matches up to place 3 and is searched up to place 8, with this in flight.
+fn peer(inflight: Inflight<u64>) -> ProgressEntry<u64>
+    ensures { result ≡ record { matching = Some (log_id_of 1 1 3); curr_inflight_id = 1; inflight = inflight; searching_end = 8 } }
+{
+    ProgressEntry {
+        matching: Some(log_id(3)),
+        curr_inflight_id: 1,
+        inflight,
+        searching_end: 8,
+    }
+}
+
+#[test]
+fn a_peer_is_told_to_be_wrong(rt: HostRuntime) -> Result<(), Fail> {
+    let turned = Inflight::Logs {
+        id: 1,
+        log_id_range: LogIdRange::new(Some(log_id(6)), Some(log_id(5))),
+    };
+    assert_eq!(rt; turned.validate(), Err(Invalid::Range));
+    let rows = [
+        (Inflight::None, Ok(())),
+        (turned, Err(InvalidProgress::Inflight(Invalid::Range))),
+        (Inflight::logs(Some(log_id(3)), Some(log_id(5))), Ok(())),
+        (
+            Inflight::logs(Some(log_id(2)), Some(log_id(5))),
+            Err(InvalidProgress::MatchingPastRequest),
+        ),
+        (Inflight::logs(Some(log_id(7)), Some(log_id(9))), Ok(())),
+        (
+            Inflight::logs(Some(log_id(8)), Some(log_id(9))),
+            Err(InvalidProgress::RequestPastSearch),
+        ),
+        (Inflight::snapshot(Some(log_id(4))), Ok(())),
+        (
+            Inflight::snapshot(Some(log_id(3))),
+            Err(InvalidProgress::SnapshotNotPastMatching),
+        ),
+    ];
+    for (inflight, want) in rows {
+        assert_eq!(rt; peer(inflight).validate(), want);
+    }
+    let mut short = peer(Inflight::None);
+    short.searching_end = 3;
+    assert_eq!(rt; short.validate(), Err(InvalidProgress::MatchingPastSearch));
+    assert_eq!(rt; ProgressEntry::<u64>::empty(0).validate(), Ok(()));
+    assert_eq!(rt;
+        InvalidProgress::Inflight(Invalid::Range)
+            .to_string(rt.alloc())?
+            .as_str(),
+        "the range ends before it begins"
     );
     Ok(())
 }

@@ -2,7 +2,8 @@
 
 use crate::memberships::{ids, membership, nodes};
 use raft_state::{
-    BasicNode, ChangeMembers, ChangeMembershipError, IdSet, LearnerNotFound, Membership,
+    BasicNode, ChangeMembers, ChangeMembershipError, EmptyMembership, IdSet, LearnerNotFound,
+    Membership,
 };
 use std::alloc::{AllocError, Global};
 use std::process::Abort;
@@ -38,6 +39,69 @@ fn stepped(
     let groups = m.get_joint_config().len();
     assert!(rt; groups > 0);
     m.next_coherent(goal, false)
+}
+
+// Why the change is refused, if it is.
+fn refusal(
+    rt: &impl Abort,
+    m: &Membership<u64, BasicNode>,
+    change: ChangeMembers<u64, BasicNode>,
+) -> Option<ChangeMembershipError<u64>> {
+    match tried(rt, m, change, true) {
+        Ok(_) => None,
+        Err(refused) => Some(refused),
+    }
+}
+
+// That the node would be a voter but is no node.
+fn missing(node_id: u64) -> Option<ChangeMembershipError<u64>> {
+    Some(ChangeMembershipError::LearnerNotFound(LearnerNotFound { node_id }))
+}
+
+#[test]
+fn voters_who_come_are_refused(rt: HostRuntime) -> Result<(), Fail> {
+    let alloc = rt.alloc();
+    let nobody = Some(ChangeMembershipError::EmptyMembership(EmptyMembership {}));
+    let known = [(1, "1"), (2, "2")].as_slice();
+    let empty_last = membership(alloc, [[1].as_slice(), [].as_slice()].as_slice(), known)?;
+    for (id, want) in [(1, None), (2, nobody)] {
+        let by_id = ChangeMembers::AddVoterIds(ids(alloc, [id].as_slice())?);
+        assert_eq!(rt; refusal(&rt, &empty_last, by_id), want);
+        let with_node = ChangeMembers::AddVoters(nodes(alloc, [(id, "new")].as_slice())?);
+        assert_eq!(rt; refusal(&rt, &empty_last, with_node), want);
+    }
+    let lost = membership(alloc, [[1, 5].as_slice()].as_slice(), known)?;
+    for (id, want) in [(2, 5), (4, 4), (9, 5)] {
+        let by_id = ChangeMembers::AddVoterIds(ids(alloc, [id].as_slice())?);
+        assert_eq!(rt; refusal(&rt, &lost, by_id), missing(want));
+        let with_node = ChangeMembers::AddVoters(nodes(alloc, [(id, "new")].as_slice())?);
+        assert_eq!(rt; refusal(&rt, &lost, with_node), missing(5));
+    }
+    let found = ChangeMembers::AddVoters(nodes(alloc, [(5, "new")].as_slice())?);
+    assert_eq!(rt; refusal(&rt, &lost, found), None);
+    Ok(())
+}
+
+#[test]
+fn voters_who_go_are_refused(rt: HostRuntime) -> Result<(), Fail> {
+    let alloc = rt.alloc();
+    let nobody = Some(ChangeMembershipError::EmptyMembership(EmptyMembership {}));
+    let known = [(1, "1"), (2, "2")].as_slice();
+    let lost = membership(alloc, [[1, 5].as_slice()].as_slice(), known)?;
+    let joint = membership(alloc, [[1].as_slice(), [1, 5].as_slice()].as_slice(), known)?;
+    let rows = [
+        ([1, 5].as_slice(), nobody, nobody),
+        ([5].as_slice(), missing(5), None),
+        ([1].as_slice(), missing(5), missing(5)),
+        ([7].as_slice(), missing(5), missing(5)),
+    ];
+    for (leavers, want, want_in_joint) in rows {
+        let go = ChangeMembers::RemoveVoters(ids(alloc, leavers)?);
+        assert_eq!(rt; refusal(&rt, &lost, go), want);
+        let go = ChangeMembers::RemoveVoters(ids(alloc, leavers)?);
+        assert_eq!(rt; refusal(&rt, &joint, go), want_in_joint);
+    }
+    Ok(())
 }
 
 #[test]

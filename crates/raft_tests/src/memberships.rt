@@ -2,7 +2,8 @@
 
 use raft_state::{
     BasicNode, ChangeMembershipError, EffectiveMembership, IdSet, IntoNodes, LeaderId,
-    LearnerNotFound, LogId, Membership, NodeMap, QuorumSet, StoredMembership, VoterGroups,
+    LearnerNotFound, LogId, Membership, MembershipState, MessageSummary, NodeMap, QuorumSet,
+    StoredMembership, VoterGroups,
 };
 use std::alloc::{AllocError, Global};
 use std::test::Fail;
@@ -190,5 +191,15 @@ fn memberships_of_a_log(rt: HostRuntime) -> Result<(), Fail> {
     assert!(rt; effective.is_quorum(&ids(rt.alloc(), [1, 2].as_slice())?));
     assert_eq!(rt; effective.ids(rt.alloc())?.len(), 2);
     assert!(rt; effective.clone()? == effective);
+    Ok(())
+}
+
+#[test]
+fn a_membership_state_is_told_in_short(rt: HostRuntime) -> Result<(), Fail> {
+    let state: MembershipState<u64, BasicNode> = MembershipState::default(rt.alloc());
+    assert_eq!(rt;
+        state.summary(rt.alloc())?.as_str(),
+        "MembershipState{committed: {log_id:None, {voters:[], nodes:[]}}, effective: {log_id:None, {voters:[], nodes:[]}}}"
+    );
     Ok(())
 }

@@ -60,7 +60,9 @@ pub struct EmptyNode {}
 
 impl EmptyNode {
     /// The node of which nothing is known.
-    pub fn new() -> EmptyNode {
+    pub fn new() -> EmptyNode
+        ensures { result ≡ record {} }
+    {
         EmptyNode {}
     }
 }
