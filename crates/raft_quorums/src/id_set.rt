@@ -1,5 +1,5 @@
 //! Sets of node ids.
-ghost use Rattle.std.specs.Prelude.{◌≡◌, ◌+◌, ◌<◌, [], length, IfOk, OnOk, OnErr, MatchResult, ◌≤◌, ◌==◌};
+ghost use Rattle.std.specs.Prelude.{◌≡◌, ◌+◌, ◌<◌, [], length, IfOk, OnOk, OnErr, MatchResult, ◌≤◌, ◌==◌, if◌then◌else◌, suc};
 ghost use Rattle.std.specs.List.{filter, list_any};
 ghost use Rattle.raft_quorums.specs.Quorum.{rising_ids};
 ghost use Rattle.raft_quorums.specs.Nodes.{with_ids};
@@ -49,6 +49,7 @@ fn place<NID: NodeId>(ids: &[NID], id: &NID) -> Result<usize, usize>
 fn insert_rising<NID: NodeId>(ids: &mut Vec<NID>, id: NID) -> Result<bool, AllocError>
     requires { IsRising NID.cmp ids.old.items }
     ensures ok { OnOk result (ids.new.items ≡ insert_key NID.cmp ids.old.items id) }
+    ensures grows { IfOk result (λ is_new. length ids.new.items ≡ (if is_new then suc (length ids.old.items) else length ids.old.items)) }
     ensures err { OnErr result (ids.new.items ≡ ids.old.items) }
     ensures rising { IsRising NID.cmp ids.new.items }
 {
@@ -165,6 +166,7 @@ impl<NID: NodeId> IdSet<NID> {
     /// Takes the id in, and says whether it is new. Without memory the set stays.
     pub fn insert(&mut self, id: NID) -> Result<bool, AllocError>
         ensures ok { OnOk result (self.new ≡ insert_key NID.cmp self.old id) }
+        ensures grows { IfOk result (λ is_new. length self.new ≡ (if is_new then suc (length self.old) else length self.old)) }
         ensures err { OnErr result (self.new ≡ self.old) }
     {
         insert_rising(&mut self.ids, id)
