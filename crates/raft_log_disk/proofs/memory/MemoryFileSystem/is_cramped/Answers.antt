@@ -1,4 +1,4 @@
-use Rattle.std.proofs.Common.{◌≡◌, ◌<◌, ◌≤◌, false, ap, sym, subst, ◌∙◌, refl}
+use Rattle.std.proofs.Common.{◌≡◌, ◌<◌, ◌≤◌, false, ap, sym, subst, ◌∙◌}
 use Rattle.std.specs.Prelude.{nat_lt, ◌&&◌}
 use Rattle.std.specs.List.{list_any}
 use Rattle.std.proofs.lemmas.Bool.{le-ltb}
@@ -21,12 +21,13 @@ pub loop-space-preserved : goal.loop-space-preserved
 loop-space-preserved c =
     let test = short_by _ _ c.args.self.now.spaces.items c.args.self.now.files.items c.as_str-path.result.now c.as_str-directory.result.now c.args.bytes c.space-item.result c.is_some.result c.name_of.ensures c.as_str-directory.ensures.value c.is_some.ensures in
     let fails : is_short c.args.self.now.spaces.items c.args.self.now.files.items c.as_str-path.result.now c.args.bytes c.space-item.result ≡ false = elim c.else-is_some.branch [
-        else-is_some-via-then-is_some+else-room-bytes w ↦
-            let left : w.room.result ≡ room_in c.args.self.now c.as_str-directory.result.now =
-            w.room.ensures ∙ ap (λ ss. room_of ss w.deref-then-is_some.result.now c.as_str-directory.result.now) w.deref.ensures.value ∙ ap (λ fs. room_of c.args.self.now.spaces.items fs c.as_str-directory.result.now) w.deref-then-is_some.ensures.value in
-            test ∙ ap (λ b. b && nat_lt (room_in c.args.self.now c.as_str-directory.result.now) c.args.bytes) w.if-is_some.true
-            ∙ le-ltb (room_in c.args.self.now c.as_str-directory.result.now) c.args.bytes (subst (λ n. c.args.bytes ≤ n) left w.if-room-bytes.false)
-        | else-is_some-via-else-is_some w ↦ test ∙ ap (λ b. b && nat_lt (room_in c.args.self.now c.as_str-directory.result.now) c.args.bytes) w.if-is_some.false ] in
+      | else-is_some-via-then-is_some+else-room-bytes w ↦
+          let left : w.room.result ≡ room_in c.args.self.now c.as_str-directory.result.now =
+          w.room.ensures ∙ ap (λ ss. room_of ss w.deref-then-is_some.result.now c.as_str-directory.result.now) w.deref.ensures.value ∙ ap (λ fs. room_of c.args.self.now.spaces.items fs c.as_str-directory.result.now) w.deref-then-is_some.ensures.value in
+          test ∙ ap (λ b. b && nat_lt (room_in c.args.self.now c.as_str-directory.result.now) c.args.bytes) w.if-is_some.true
+          ∙ le-ltb (room_in c.args.self.now c.as_str-directory.result.now) c.args.bytes (subst (λ n. c.args.bytes ≤ n) left w.if-room-bytes.false)
+      | else-is_some-via-else-is_some w ↦ test ∙ ap (λ b. b && nat_lt (room_in c.args.self.now c.as_str-directory.result.now) c.args.bytes) w.if-is_some.false
+    ] in
     passed_over _ _ _ _ c.loop-space-test.true c.space-item.is fails ∙ c.loop-space.invariant
 
 pub returns-clause-no : goal.returns-clause-no
