@@ -1,6 +1,6 @@
 -- Why a call was refused.
-use Rattle.std.proofs.Common.{◌≡◌, ℕ, ◌+◌, ◌-◌, ◌^◌, ◌≤◌, min, true, false, Option, Some, None, refl, sym, ap, subst, ◌∙◌, arith}
-use Rattle.std.specs.Prelude.{Result, Ok, Err, OnErr, IsErrOf}
+use Rattle.std.proofs.Common.{◌≡◌, true, false, refl, sym, ap, subst, ◌∙◌}
+use Rattle.std.specs.Prelude.{Result, Ok, Err, OnErr}
 use Rattle.raft_log_disk.specs.declared.fault.IoFault.{IoFault}
 use Rattle.raft_log_disk.specs.declared.fault.IoFault.TheVariants.{NotFound, NoSpace, Refused, Memory}
 use Rattle.raft_log_disk.specs.Cause.{Meter, HasCause, HasReadCause, counted}
@@ -11,6 +11,7 @@ pub second_cause : {S T : Type 0} (absent gone : Type 0) (before between after :
 second_cause absent gone before between after first second a b there = record {
   refused = b.refused ∙ ap (counted second) a.refused;
   missing = λ e. let h : false ≡ true = a.missing e in absurd cc;
+  lacking = b.lacking;
   not_found = λ e. absurd (there (b.not_found e));
   no_space = b.no_space;
   reads = b.reads ∙ a.reads;
@@ -21,6 +22,7 @@ pub cramped_cause : {T : Type 0} (absent cramped : Type 0) (old new : Meter) →
 cramped_cause absent cramped old new same reads lacks = record {
   refused = same;
   missing = λ e. refl;
+  lacking = λ e. refl;
   not_found = λ e. absurd cc;
   no_space = λ e. lacks;
   reads = reads;
@@ -31,10 +33,11 @@ pub unreadable_cause : {T : Type 0} (absent unreadable : Type 0) → unreadable 
 unreadable_cause absent unreadable there = record { missing = λ e. refl; unread = λ e. refl; refused = λ e. there; not_found = λ e. absurd cc; no_space = λ e. absurd cc }
 
 -- a call that was taken
-pub taken_cause : {T : Type 0} (absent cramped : Type 0) (old new : Meter) (x : T) → new.refusals ≡ old.refusals → new.unreadable ≡ old.unreadable → (absent → ⊥) → HasCause absent cramped old new (Ok x)
-taken_cause absent cramped old new x same reads there = record {
+pub taken_cause : {T : Type 0} (absent cramped : Type 0) (old new : Meter) (x : T) → new.refusals ≡ old.refusals → new.unreadable ≡ old.unreadable → (absent → ⊥) → (cramped → ⊥) → HasCause absent cramped old new (Ok x)
+taken_cause absent cramped old new x same reads there roomy = record {
   refused = same;
   missing = λ e. absurd (there e);
+  lacking = λ e. absurd (roomy e);
   not_found = λ e. absurd cc;
   no_space = λ e. absurd cc;
   reads = reads;

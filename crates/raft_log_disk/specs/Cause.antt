@@ -1,8 +1,7 @@
 -- Why a call is refused.
-use Rattle.std.specs.Prelude.{◌≡◌, ℕ, ◌+◌, ◌-◌, ◌^◌, ◌≤◌, min, List, Option, Some, None, Result, Ok, Err, IsErr, IsErrOf}
+use Rattle.std.specs.Prelude.{◌≡◌, ℕ, ◌+◌, ◌-◌, ◌^◌, min, List, Option, Some, None, Result, Ok, Err, IsErr, IsErrOf}
 use Rattle.raft_log_disk.specs.declared.fault.IoFault.{IoFault}
 use Rattle.raft_log_disk.specs.declared.fault.IoFault.TheVariants.{NotFound, NoSpace, Refused, Memory}
-use Rattle.raft_log_disk.specs.Disk.{Disk, IsIn}
 
 -- what a file system tells of its refusals
 pub record Meter : Type 0 where
@@ -27,10 +26,12 @@ counted (Err NoSpace) refusals = refusals
 counted (Err Memory) refusals = refusals
 
 -- why a changing call was refused: `absent` says that what it names is not there, and `cramped`
--- that room was missing
+-- that room is missing. Where either holds the call is an error, and `NotFound` and `NoSpace` come
+-- only there
 pub record HasCause {T : Type 0} (absent cramped : Type 0) (old new : Meter) (result : Result T IoFault) : Type 0 where
   pub refused : new.refusals ≡ counted result old.refusals
   pub missing : absent → IsErr result
+  pub lacking : cramped → IsErr result
   pub not_found : IsErrOf result NotFound → absent
   pub no_space : IsErrOf result NoSpace → cramped
   pub reads : new.unreadable ≡ old.unreadable

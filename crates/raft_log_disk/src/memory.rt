@@ -84,11 +84,13 @@ impl MemoryFileSystem {
     /// Whether the file at a place is in a directory that has less room than this.
     pub(crate) fn is_cramped(&self, i: usize, bytes: u64) -> bool
         requires { i < length self.now.files.items }
-        ensures { IsTrue result → (number : ℕ) → IsPlace self.now.files.items number i → LacksRoom (room_in self.now) (disk_in self.now) number bytes }
+        ensures yes { IsTrue result → (number : ℕ) → IsPlace self.now.files.items number i → LacksRoom (room_in self.now) (disk_in self.now) number bytes }
+        ensures no { (number : ℕ) → IsPlace self.now.files.items number i → LacksRoom (room_in self.now) (disk_in self.now) number bytes → IsTrue result }
     {
+        let path = self.files[i].path.as_str();
         for space in &self.spaces {
             let directory = space.directory.as_str();
-            if name_of(directory, self.files[i].path.as_str()).is_some()
+            if name_of(directory, path).is_some()
                 && room(&self.spaces, &self.files, directory) < bytes
             {
                 return true;

@@ -17,7 +17,7 @@ use std::alloc::Global;
 /// was written, allocated or cut is safe from a crash only after the file's next `sync`.
 ///
 /// A call that is `Refused` may have taken effect in any part. After `Memory`, `NoSpace` and
-/// `NotFound` the files are as before.
+/// `NotFound` the files are as before. A call that lacks room is never `Ok`.
 pub trait FileSystem: Send + Sync {
     /// What reads see, and what a crash may leave.
     ghost disk: { Self → Disk };

@@ -8,4 +8,4 @@ use Rattle.raft_log_disk.proofs.memory_calls.MemoryFileSystemFileSystem.sync.Goa
 
 pub returns-clause-cause : goal.returns-clause-cause
 returns-clause-cause c = taken_cause _ _ _ _ _ c.spend-is_refused.ensures.refusals (ap (λ (v : Vec (String Global) Global). texts_of v.items) c.spend-is_refused.ensures.reads)
-    (number_there c.args.self.now.directories.items _ c.args.self.now.next _ _ c.index_mut.result.now c.in-Some.ensures)
+    (number_there c.args.self.now.directories.items _ c.args.self.now.next _ _ c.index_mut.result.now c.in-Some.ensures) (λ short. short)

@@ -1,4 +1,4 @@
-use Rattle.std.proofs.Common.{inl, inr, ◌≡◌, ◌+◌, ◌-◌, length, arith, refl, ap, subst}
+use Rattle.std.proofs.Common.{inl, inr, ◌≡◌, ◌+◌, ◌-◌, length, arith, refl, sym, ap, subst}
 use Rattle.std.specs.Prelude.{Vec, String}
 use Rattle.std.specs.declared.alloc.Global.{Global}
 use Rattle.raft_log_disk.specs.Disk.{LacksRoom}
@@ -13,11 +13,15 @@ returns-then-is_cramped-clause-cause c =
     let there = length_there _ _ _ _ c.in-Some.ensures c.index.ensures in
     let growth : c.saturating_sub-growth.result ≡ c.args.at + length c.args.bytes.now - length (file_of c.args.self.now.files.items c.args.fd.0).bytes = omega (arith, there, c.saturating_sub-growth.ensures, c.len.ensures) in
     cramped_cause _ _ _ _ c.spend-is_refused.ensures.refusals (ap (λ (v : Vec (String Global) Global). texts_of v.items) c.spend-is_refused.ensures.reads)
-    (subst (LacksRoom (room_in c.args.self.now) (disk_in c.args.self.now) c.args.fd.0) growth (c.if-is_cramped.ensures refl c.args.fd.0 c.in-Some.ensures))
+    (subst (LacksRoom (room_in c.args.self.now) (disk_in c.args.self.now) c.args.fd.0) growth (c.if-is_cramped.ensures.yes refl c.args.fd.0 c.in-Some.ensures))
 
 pub returns-clause-cause : goal.returns-clause-cause
-returns-clause-cause c = taken_cause _ _ _ _ _ c.spend-is_refused.ensures.refusals (ap (λ (v : Vec (String Global) Global). texts_of v.items) c.spend-is_refused.ensures.reads)
+returns-clause-cause c =
+    let there = length_there _ _ _ _ c.in-Some.ensures c.index.ensures in
+    let growth : c.saturating_sub-growth.result ≡ c.args.at + length c.args.bytes.now - length (file_of c.args.self.now.files.items c.args.fd.0).bytes = omega (arith, there, c.saturating_sub-growth.ensures, c.len.ensures) in
+    taken_cause _ _ _ _ _ c.spend-is_refused.ensures.refusals (ap (λ (v : Vec (String Global) Global). texts_of v.items) c.spend-is_refused.ensures.reads)
     (number_there c.args.self.now.directories.items _ c.args.self.now.next _ _ c.index_mut-2.result.now c.in-Some.ensures)
+    (λ short. let yes = c.if-is_cramped.ensures.no c.args.fd.0 c.in-Some.ensures (subst (LacksRoom (room_in c.args.self.now) (disk_in c.args.self.now) c.args.fd.0) (sym growth) short) in absurd cc)
 
 pub returns-in_default-refuse_write-clause-err : goal.returns-in_default-refuse_write-clause-err
 returns-in_default-refuse_write-clause-err c = inl (file_kept c.args.self.now.directories.items c.args.self.now.files.items c.args.fd.0 c.in-Some.i c.args.self.now.next c.index_mut.result.now c.refuse_write.new.self c.in-Some.ensures c.index_mut.ensures.value c.in_default-refuse_write.ensures.number c.in_default-refuse_write.ensures.path c.in_default-refuse_write.ensures.err)
