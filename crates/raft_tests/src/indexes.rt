@@ -2,6 +2,7 @@
 
 use crate::ids::id;
 use raft_state::{Invalid, LogId, LogIdOptionExt, LogIdRange, LogIndexOptionExt, Validate};
+use raft_values::log_id_option_ext::{is_past, reaches, stands_before};
 use std::test::Fail;
 
 fn index_of<L: LogIdOptionExt>(log_id: &L) -> Option<u64> {
@@ -42,4 +43,21 @@ fn ranges_have_a_length(rt: HostRuntime) -> Result<(), Fail> {
     let turned = LogIdRange::new(Some(id(2, 1, 3)), Some(id(1, 1, 8)));
     assert!(rt; turned.validate() == Err(Invalid::Range));
     Ok(())
+}
+
+#[test]
+fn log_ids_are_compared_where_there_may_be_none(rt: HostRuntime) {
+    let low = Some(id(1, 2, 7));
+    let high = Some(id(2, 1, 4));
+    assert!(rt; is_past(&high, &low));
+    assert!(rt; !is_past(&low, &high));
+    assert!(rt; is_past(&low, &None));
+    assert!(rt; !is_past(&None, &low));
+    assert!(rt; stands_before(&high, &low));
+    assert!(rt; !stands_before(&low, &low));
+    assert!(rt; stands_before(&None, &high));
+    assert!(rt; !stands_before(&high, &None));
+    assert!(rt; reaches(&low, 7));
+    assert!(rt; !reaches(&low, 8));
+    assert!(rt; !reaches(&None::<LogId<u64>>, 0));
 }

@@ -1,7 +1,11 @@
 //! Quorums, joints and coherent steps.
 
 use crate::memberships::{ids, membership};
-use raft_state::{AsJoint, Coherent, FindCoherent, IdSet, Joint, QuorumSet};
+use raft_quorums::joint::all_accept;
+use raft_state::{
+    AsJoint, Coherent, EmptyNode, FindCoherent, HasId, IdSet, Joint, NodeMap, QuorumSet,
+    VoterGroups,
+};
 use std::alloc::{AllocError, Global};
 use std::test::Fail;
 
@@ -62,5 +66,44 @@ fn joints_follow_one_another(rt: HostRuntime) -> Result<(), Fail> {
     assert!(rt; enough(&shown, [1, 2, 3].as_slice()));
     assert!(rt; shown.is_coherent_with(&shown));
     assert_eq!(rt; named(rt.alloc(), &shown)?.len(), 3);
+    Ok(())
+}
+
+fn has<S: HasId<u64>>(set: &S, id: u64) -> bool {
+    set.has_id(&id)
+}
+
+#[test]
+fn ids_that_sets_have(rt: HostRuntime) -> Result<(), Fail> {
+    let list = [7, 3].as_slice();
+    assert!(rt; has(&list, 3));
+    assert!(rt; !has(&list, 4));
+    let vector = list.to_vec(rt.alloc())?;
+    assert!(rt; has(&vector, 7));
+    assert!(rt; !has(&vector, 4));
+    let set: IdSet<u64> = IdSet::from_rising(vec![in rt.alloc(); 7]?);
+    assert_eq!(rt; set.as_slice(), [7].as_slice());
+    assert!(rt; has(&set, 7));
+    assert!(rt; !has(&set, 3));
+    let nodes: NodeMap<u64, EmptyNode> = NodeMap::from_rising(vec![in rt.alloc();
+        (7, EmptyNode::new()),
+    ]?);
+    assert_eq!(rt; nodes.len(), 1);
+    assert!(rt; has(&nodes, 7));
+    assert!(rt; !has(&nodes, 3));
+    Ok(())
+}
+
+#[test]
+fn groups_go_towards_another(rt: HostRuntime) -> Result<(), Fail> {
+    let first = ids(rt.alloc(), [1, 2, 3].as_slice())?;
+    let goal = ids(rt.alloc(), [3, 4].as_slice())?;
+    let groups = VoterGroups::from(vec![in rt.alloc(); first]?);
+    assert_eq!(rt; groups.last().len(), 3);
+    let both = groups.next_towards(goal.clone()?)?;
+    assert_eq!(rt; both.len(), 2);
+    assert_eq!(rt; both.ids()?.as_slice(), [1, 2, 3, 4].as_slice());
+    assert!(rt; all_accept(both.as_slice(), &[2, 3, 4].as_slice()));
+    assert!(rt; !all_accept(both.as_slice(), &[1, 2, 3].as_slice()));
     Ok(())
 }

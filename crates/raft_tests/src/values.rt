@@ -5,6 +5,7 @@ use raft_state::{
     MessageSummary, NodeEssential, RaftEntry, RaftLogId, RaftPayload, ServerState, Vote,
     leader_ids_by_term_and_node, log_ids_by_leader_and_index, votes_by_term_node_committed,
 };
+use raft_values::node::default_id;
 use std::alloc::AllocError;
 use std::cmp::Ordering;
 use std::test::Fail;
@@ -64,6 +65,7 @@ fn nodes_without_a_description(rt: HostRuntime) -> Result<(), Fail> {
     assert!(rt; node != unknown);
     assert_eq!(rt; node.to_string(rt.alloc())?.as_str(), "a:1");
     assert!(rt; EmptyNode::new() == NodeEssential::default(rt.alloc()));
+    assert_eq!(rt; default_id::<u64>(), 0);
     assert_eq!(rt;
         EmptyNode::new().to_string(rt.alloc())?.as_str(),
         "EmptyNode"
