@@ -152,7 +152,10 @@ impl<NID: NodeId, N: Node> Display for MembershipState<NID, N> {
     fn fmt<W: fmt::Write>(&self, f: &mut fmt::Formatter<W>) -> fmt::Result {
         let committed = self.committed();
         let effective = self.effective();
-        write!(f, "MembershipState{{committed: {committed}, effective: {effective}}}")
+        write!(
+            f,
+            "MembershipState{{committed: {committed}, effective: {effective}}}"
+        )
     }
 }
 
