@@ -1,8 +1,7 @@
 //! A run of calls on files in memory, each of them asked once more where it found no memory.
 //!
 //! Want of memory leaves the files as they were, so a run in which one allocation is refused prints
-//! what a run prints in which none is: `rt try --fail-alloc 1..` refuses each in turn, and names the
-//! runs that print something else.
+//! what a run prints in which none is: with `rt try --fail-alloc N`, for each N up to 109.
 #![tactic(auto)]
 
 mod steps;
