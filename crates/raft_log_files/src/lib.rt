@@ -21,6 +21,3 @@ pub use raft_log_disk::{
     LogFileFormat, MemoryFileSystem, Permission,
 };
 pub use recovery::{RecoveryConfig, RecoveryMode};
-
-#[cfg(test)]
-mod tests;

@@ -12,9 +12,11 @@ abbrev pub within : ℕ → Option ℕ → ℕ → Bool
 within first None index = nat_le first index
 within first (Some last) index = nat_le first index && nat_le index last
 
+-- an entry stands from the first place on, up to the last one if there is one
 abbrev pub HasWithin : {E : Type 0} → (ℕ → Option E) → ℕ → Option ℕ → Type 0
 HasWithin entry first last = (i : ℕ) × (within first last i ≡ true) × IsSome (entry i)
 
+-- no entry stands there
 abbrev pub NoneWithin : {E : Type 0} → (ℕ → Option E) → ℕ → Option ℕ → Type 0
 NoneWithin entry first last = (i : ℕ) → within first last i ≡ true → entry i ≡ None
 
@@ -24,6 +26,7 @@ NoneWithin entry first last = (i : ℕ) → within first last i ≡ true → ent
 abbrev pub TakesFrom : {E : Type 0} → (ℕ → Option E) → ℕ → Type 0
 TakesFrom entry index = NoneWithin entry 0 None ⊎ (HasWithin entry 0 (Some index) × HasWithin entry (index - 1) None)
 
+-- the group takes the change
 abbrev pub Takes : {E : Type 0} → Change E → GroupContent E → Type 0
 Takes (entries es) g = TakesFrom g.entry (first_index es)
 Takes clean g = Unit {0}

@@ -179,8 +179,7 @@ impl MemTable {
     pub fn reached(&self) -> Option<u64>
         ensures { result ≡ reached_in self.now }
     {
-        let MemTable { reached, .. } = self;
-        *reached
+        self.reached
     }
 
     /// Whether a batch may add entries from an index on (own): they begin inside the list or at its

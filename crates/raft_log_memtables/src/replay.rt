@@ -168,8 +168,7 @@ impl MemTableRecoverContext {
         ensures content { content_in result ≡ (replay_in self).state }
         ensures reach { reach_in result ≡ (reach_replay_in self).state }
     {
-        let MemTableRecoverContext { memtables, .. } = self;
-        memtables
+        self.memtables
     }
 }
 

@@ -7,7 +7,7 @@ use Rattle.raft_log_records.specs.declared.stats.GlobalStats.{GlobalStats}
 pub record Counts : Type 0 where
   -- those of the append queue that are needed
   pub appended : ℕ
-  -- those written to the rewrite queue since its counters began
+  -- those written to the rewrite queue, without the ones that a reset has taken off
   pub rewritten : ℕ
   -- those of them that are no longer needed
   pub deleted : ℕ
@@ -15,9 +15,11 @@ pub record Counts : Type 0 where
 unfoldable pub counts_in : GlobalStats → Counts
 counts_in stats = record { appended = stats.appended; rewritten = stats.rewritten; deleted = stats.deleted }
 
+-- nothing is counted
 abbrev pub no_counts : Counts
 no_counts = record { appended = 0; rewritten = 0; deleted = 0 }
 
+-- so many more, up to the greatest count
 abbrev pub risen : ℕ → ℕ → ℕ
 risen before count = min (before + count) (2 ^ 64 - 1)
 
@@ -36,6 +38,6 @@ abbrev pub live_in : LogQueue → Counts → ℕ
 live_in Append c = c.appended
 live_in Rewrite c = c.rewritten - c.deleted
 
--- the rewrite queue's counters begin again
-abbrev pub begun_again : Counts → Counts
-begun_again c = record { appended = c.appended; rewritten = 0; deleted = 0 }
+-- what the rewrite queue no longer needs counts no more
+abbrev pub without_deleted : Counts → Counts
+without_deleted c = record { appended = c.appended; rewritten = c.rewritten - c.deleted; deleted = 0 }

@@ -29,6 +29,3 @@ pub use record::{LogItemBatch, MAX_RECORD_LEN, Record, read_entries_block, read_
 pub use size::ReadableSize;
 pub use stats::GlobalStats;
 pub use version::{LogFileContext, Version};
-
-#[cfg(test)]
-mod tests;

@@ -2,7 +2,7 @@
 
 ghost use Rattle.std.specs.Prelude.{◌≡◌};
 ghost use Rattle.raft_log_records.specs.Stats.{counts_in, no_counts, after_add, after_delete};
-ghost use Rattle.raft_log_records.specs.Stats.{live_in, begun_again};
+ghost use Rattle.raft_log_records.specs.Stats.{live_in, without_deleted};
 
 use crate::file_id::LogQueue;
 
@@ -12,7 +12,7 @@ use crate::file_id::LogQueue;
 pub struct GlobalStats {
     /// Those of the append queue that are needed.
     appended: u64,
-    /// Those written to the rewrite queue since its counters began.
+    /// Those written to the rewrite queue, without the ones that a reset has taken off.
     rewritten: u64,
     /// Those of them that are no longer needed.
     deleted: u64,
@@ -72,13 +72,12 @@ impl GlobalStats {
         }
     }
 
-    /// Entries and keys written to the rewrite queue since its counters began.
+    /// Entries and keys written to the rewrite queue, without the ones that a reset has taken off.
     #[tactic(auto, unfolding(crate::specs::Stats::counts_in))]
     pub fn rewrite_entries(&self) -> u64
         ensures { result ≡ (counts_in self.now).rewritten }
     {
-        let GlobalStats { rewritten, .. } = *self;
-        rewritten
+        self.rewritten
     }
 
     /// Those of them that are no longer needed.
@@ -86,16 +85,16 @@ impl GlobalStats {
     pub fn deleted_rewrite_entries(&self) -> u64
         ensures { result ≡ (counts_in self.now).deleted }
     {
-        let GlobalStats { deleted, .. } = *self;
-        deleted
+        self.deleted
     }
 
-    /// Lets the counters of the rewrite queue begin again.
+    /// The rewrite queue's entries and keys that are no longer needed count no more, neither as
+    /// written nor as deleted. Those that are needed stay counted.
     #[tactic(auto, unfolding(crate::specs::Stats::counts_in))]
     pub fn reset_rewrite_counters(&mut self)
-        ensures { counts_in self.new ≡ begun_again (counts_in self.old) }
+        ensures { counts_in self.new ≡ without_deleted (counts_in self.old) }
     {
-        self.rewritten = 0;
+        self.rewritten = self.rewritten.saturating_sub(self.deleted);
         self.deleted = 0;
     }
 }

@@ -18,3 +18,19 @@ impl Borrow<u64> for u64 {
         self
     }
 }
+
+impl Borrow<bool> for bool {
+    ghost borrowed = { λ x. x };
+
+    fn borrow(&self) -> &bool {
+        self
+    }
+}
+
+impl Borrow<Option<u64>> for Option<u64> {
+    ghost borrowed = { λ x. x };
+
+    fn borrow(&self) -> &Option<u64> {
+        self
+    }
+}

@@ -21,6 +21,3 @@ pub use progress_entry::ProgressEntry;
 pub use raft_state::Joint;
 pub use replaying::{ReplayError, ReplayItem, replay};
 pub use vec_progress::VecProgress;
-
-#[cfg(test)]
-mod tests;

@@ -1,15 +1,10 @@
 -- Log ids put behind others one after the other.
-use Rattle.std.proofs.Common.{◌≡◌, ◌≢◌, ℕ, zero, suc, ◌+◌, ◌-◌, ◌<◌, ◌≤◌, List, [], ◌∷◌, ◌++◌, map, length, get_or, take, drop, refl, ap, sym, subst, ◌∙◌, arith, append_assoc}
-use Rattle.std.specs.Prelude.{Option, Some, None}
-use Rattle.std.specs.List.{fold, slice_get}
-use Rattle.std.specs.declared.cmp.Ordering.{Ordering}
-use Rattle.std.specs.declared.cmp.Ordering.TheVariants.{Greater}
-use Rattle.std.proofs.lemmas.List.{drop_more, get_or-map, length-map, length_push, get_or_push}
+use Rattle.std.proofs.Common.{◌≡◌, ℕ, ◌+◌, ◌-◌, ◌<◌, List, [], ◌∷◌, ◌++◌, map, length, get_or, take, drop, refl, ap, sym, subst, ◌∙◌, arith, append_assoc}
+use Rattle.std.specs.Prelude.{Option, Some}
+use Rattle.std.proofs.lemmas.List.{drop_more, get_or-map}
 use Rattle.std.proofs.lemmas.List.Sums.{fold_more}
-use Rattle.raft_values.specs.declared.vote.LeaderId.{LeaderId}
 use Rattle.raft_values.specs.declared.log_id.LogId.{LogId}
 use Rattle.raft_state.specs.LogIdList.{leader_ids, last_id, ids_between, appended, extended, AllGoOn, GoesOn, AreOfLeader, HaveOneLeader, PlacesRise, ids_of}
-use Rattle.raft_values.specs.Vote.{leader_cmp}
 use Rattle.raft_state.proofs.LogIdLemmas.{leader_ids-join, leader_ids-first}
 use Rattle.raft_state.proofs.LogIdListLemmas.{final, last_id-cons, last_id-ids_of}
 
@@ -30,7 +25,6 @@ module _ {K : Type 0} where
   pub extended_more : (ids more : List (LogId K)) (i : ℕ) (d : LogId K) → i < length more → extended ids (take (i + 1) more) ≡ appended (extended ids (take i more)) (get_or more i d)
   extended_more ids more i d h = fold_more appended ids more i d h
 
-module _ {K : Type 0} where
   regroup : (ids a b : List (LogId K)) (y : LogId K) → ((ids ++ a) ++ y ∷ []) ++ b ≡ ids ++ (a ++ y ∷ b)
   regroup ids a b y = simp append_assoc
 
@@ -53,38 +47,27 @@ module _ {K : Type 0} where
       ∙ ap (λ l. (((ids ++ below) ++ y ∷ []) ++ leader_ids l (y.index + 1) z.index) ++ z ∷ []) same
       ∙ ap (λ l. l ++ z ∷ []) (regroup ids below above y ∙ ap (λ l. ids ++ l) parts) ∙ sym direct
 
-module _ {K : Type 0} (cmp : K → K → Ordering) where
-  pub rises : (x y : LogId K) (ys : List (LogId K)) → AllGoOn cmp (Some x) (y ∷ ys) → x.index < (final y ys).index
-  rises x y [] h = h.0.0
-  rises x y (z ∷ ys) h = let later = rises y z ys h.1 in let here = h.0.0 in omega arith
-
-  pub final-leader : (leader : LeaderId K) (y : LogId K) (ys : List (LogId K)) → AreOfLeader leader (y ∷ ys) → (final y ys).leader_id ≡ leader
-  final-leader leader y [] h = h.0
-  final-leader leader y (z ∷ ys) h = final-leader leader z ys h.1
+  -- the last one of what goes on stands behind
+  rises : (x y : LogId K) (ys : List (LogId K)) → AllGoOn (Some x) (y ∷ ys) → x.index < (final y ys).index
+  rises x y [] h = h.0
+  rises x y (z ∷ ys) h = let later = rises y z ys h.1 in let here = h.0 in omega arith
 
   one_leader : (ids : List (LogId K)) (x y : LogId K) (ys : List (LogId K)) → last_id ids ≡ Some x
-      → AreOfLeader x.leader_id (y ∷ ys) → AllGoOn cmp (Some x) (y ∷ ys) → extended ids (y ∷ ys) ≡ appended ids (final y ys)
+      → AreOfLeader x.leader_id (y ∷ ys) → AllGoOn (Some x) (y ∷ ys) → extended ids (y ∷ ys) ≡ appended ids (final y ys)
   one_leader ids x y [] e same h = refl
   one_leader ids x y (z ∷ ys) e same h =
       one_leader (appended ids y) y z ys (last_id-appended ids y) (subst (λ l. AreOfLeader l (z ∷ ys)) (sym same.0) same.1) h.1
-      ∙ skipped ids x y (final z ys) e same.0 h.0.0 (rises y z ys h.1)
+      ∙ skipped ids x y (final z ys) e same.0 h.0 (rises y z ys h.1)
 
   -- of log ids of one leader the first and the last one tell all
   pub extended-ends : (ids : List (LogId K)) (x y : LogId K) (ys : List (LogId K)) → AreOfLeader x.leader_id (y ∷ ys)
-      → AllGoOn cmp (Some x) (y ∷ ys) → extended ids (x ∷ y ∷ ys) ≡ appended (appended ids x) (final y ys)
+      → AllGoOn (Some x) (y ∷ ys) → extended ids (x ∷ y ∷ ys) ≡ appended (appended ids x) (final y ys)
   extended-ends ids x y ys same h = one_leader (appended ids x) x y ys (last_id-appended ids x) same h
 
-  -- the last one goes on from the first one
-  pub ends-go_on : (x y : LogId K) (ys : List (LogId K)) → AreOfLeader x.leader_id (y ∷ ys) → AllGoOn cmp (Some x) (y ∷ ys)
-      → GoesOn cmp (Some x) (final y ys)
-  ends-go_on x y ys same h =
-      (rises x y ys h, subst (λ l. leader_cmp cmp x.leader_id l ≢ Greater) (same.0 ∙ sym (final-leader x.leader_id y ys same)) h.0.1)
-
-module _ {K : Type 0} (cmp : K → K → Ordering) where
   -- the next log id goes on from the last one, and the rest from it
-  pub next_goes_on : (last : Option (LogId K)) (more : List (LogId K)) (i : ℕ) (d : LogId K) → i < length more → AllGoOn cmp last (drop i more)
-      → GoesOn cmp last (get_or more i d) × AllGoOn cmp (Some (get_or more i d)) (drop (i + 1) more)
-  next_goes_on last more i d h on = subst (AllGoOn cmp last) (drop_more more i d h) on
+  pub next_goes_on : (last : Option (LogId K)) (more : List (LogId K)) (i : ℕ) (d : LogId K) → i < length more → AllGoOn last (drop i more)
+      → GoesOn last (get_or more i d) × AllGoOn (Some (get_or more i d)) (drop (i + 1) more)
+  next_goes_on last more i d h on = subst (AllGoOn last) (drop_more more i d h) on
 
   get_or-final : (x : LogId K) (xs : List (LogId K)) (d : LogId K) → get_or (x ∷ xs) (length xs) d ≡ final x xs
   get_or-final x [] d = refl
@@ -92,16 +75,15 @@ module _ {K : Type 0} (cmp : K → K → Ordering) where
 
   -- the first and the last of log ids of one leader tell all, and the last one goes on from the first
   pub ends-extend : (ids : List (LogId K)) (last : Option (LogId K)) (more : List (LogId K)) (x z : LogId K) → 1 < length more
-      → x ≡ get_or more 0 x → z ≡ get_or more (length more - 1) z → HaveOneLeader more → AllGoOn cmp last more
-      → (extended ids more ≡ appended (appended ids x) z) × GoesOn cmp (Some x) z
+      → x ≡ get_or more 0 x → z ≡ get_or more (length more - 1) z → HaveOneLeader more → AllGoOn last more
+      → (extended ids more ≡ appended (appended ids x) z) × GoesOn (Some x) z
   ends-extend ids last [] x z h e f same on = absurd (omega arith)
   ends-extend ids last (a ∷ []) x z h e f same on = absurd (omega arith)
   ends-extend ids last (a ∷ b ∷ bs) x z h e f same on =
       let at : length (a ∷ b ∷ bs) - 1 ≡ length (b ∷ bs) = omega arith in
       let end : z ≡ final b bs = f ∙ ap (λ n. get_or (a ∷ b ∷ bs) n z) at ∙ get_or-final a (b ∷ bs) z in
-      rw (e, end) (extended-ends cmp ids a b bs same on.1, ends-go_on cmp a b bs same on.1)
+      rw (e, end) (extended-ends ids a b bs same on.1, rises a b bs on.1)
 
-module _ {K : Type 0} where
   -- the last key of grown ones
   pub last-grown : (keys new : List (LogId K)) (id : LogId K) → PlacesRise new → ids_of new ≡ appended (ids_of keys) id → last_id new ≡ Some id
   last-grown keys new id rise e = sym (last_id-ids_of new rise) ∙ ap last_id e ∙ last_id-appended (ids_of keys) id

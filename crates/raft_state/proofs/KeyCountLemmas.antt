@@ -1,12 +1,10 @@
 -- What a count of the keys up to a place tells of the full list.
-use Rattle.std.proofs.Common.{◌≡◌, ◌≢◌, ℕ, zero, suc, ◌+◌, ◌-◌, ◌<◌, ◌≤◌, List, [], ◌∷◌, ◌++◌, length, set, get_or, take, drop, refl, ap, sym, subst, ◌∙◌, arith}
-use Rattle.std.specs.Prelude.{Option, Some, None}
-use Rattle.std.proofs.lemmas.List.{drop-set, take_at, length-drop, length-set}
-use Rattle.std.proofs.lemmas.List.{set-get_or}
+use Rattle.std.proofs.Common.{◌≡◌, ℕ, zero, suc, ◌+◌, ◌-◌, ◌<◌, ◌≤◌, List, [], ◌∷◌, length, set, get_or, take, drop, refl, ap, sym, subst, ◌∙◌, arith}
+use Rattle.std.specs.Prelude.{Some, None}
 use Rattle.raft_values.specs.declared.log_id.LogId.{LogId}
-use Rattle.raft_state.specs.LogIdList.{ids_of, id_at, last_id, truncated, from_place, purged, or_alone, PlacesRise, Reaches}
+use Rattle.raft_state.specs.LogIdList.{ids_of, id_at, last_id, truncated, purged, or_alone, PlacesRise, Reaches}
 use Rattle.raft_state.proofs.LogIdListLemmas.{final, last_id-cons, ids_of-first}
-use Rattle.raft_state.proofs.KeyCutLemmas.{IsBelowKeys, id_by, id_at-before, id_at-behind, id_at-inside, id_at-last, truncated-before, truncated-behind, truncated-pair, truncated-front, from_place-before, from_place-behind, from_place-inside}
+use Rattle.raft_state.proofs.KeyCutLemmas.{id_by, id_at-before, id_at-behind, id_at-inside, id_at-last, truncated-before, truncated-behind, truncated-pair, truncated-front, from_place-before, from_place-behind, from_place-inside}
 
 module _ {K : Type 0} where
   get_or-final : (key : LogId K) (keys : List (LogId K)) (d : LogId K) → get_or (key ∷ keys) (length keys) d ≡ final key keys

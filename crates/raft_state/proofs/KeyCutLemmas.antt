@@ -1,16 +1,15 @@
 -- What a place parts of the full list of log ids: the log id there, those below it, those from it on.
-use Rattle.std.proofs.Common.{◌≡◌, ◌≢◌, ℕ, zero, suc, ◌+◌, ◌-◌, ◌<◌, ◌≤◌, Bool, true, false, List, [], ◌∷◌, ◌++◌, ◌⊎◌, inl, inr, length, set, get_or, take, drop, refl, ap, sym, subst, ◌∙◌, arith, append-nil, append_assoc}
-use Rattle.std.specs.Prelude.{Option, Some, None, ◌==◌, nat_lt, nat_le}
+use Rattle.std.proofs.Common.{◌≡◌, ◌≢◌, ℕ, zero, suc, ◌+◌, ◌-◌, ◌<◌, ◌≤◌, true, false, List, [], ◌∷◌, ◌++◌, length, set, get_or, take, drop, refl, ap, sym, subst, ◌∙◌, arith, append-nil, append_assoc}
+use Rattle.std.specs.Prelude.{Some, None, ◌==◌, nat_lt, nat_le}
 use Rattle.std.specs.List.{filter, find}
-use Rattle.std.specs.Option.{option_or}
 use Rattle.std.proofs.lemmas.Bool.Decides.{nat_tests}
 use Rattle.std.proofs.lemmas.List.Elements.{filter-append}
 use Rattle.std.proofs.lemmas.List.Folds.{find-append}
 use Rattle.raft_values.specs.declared.vote.LeaderId.{LeaderId}
 use Rattle.raft_values.specs.declared.log_id.LogId.{LogId}
-use Rattle.raft_state.specs.LogIdList.{leader_ids, end_of_key, ids_of, last_id, id_at, truncated, from_place, IsBelowNext, PlacesRise}
-use Rattle.raft_state.proofs.LogIdLemmas.{leader_ids-join, leader_ids-none, leader_ids-one, leader_ids-first, filter-all, filter-no, find-no}
-use Rattle.raft_state.proofs.LogIdListLemmas.{final, ids_of-first, ids_behind}
+use Rattle.raft_state.specs.LogIdList.{leader_ids, ids_of, id_at, truncated, from_place, PlacesRise}
+use Rattle.raft_state.proofs.LogIdLemmas.{leader_ids-join, leader_ids-first, filter-all, filter-no, find-no}
+use Rattle.raft_state.proofs.LogIdListLemmas.{final}
 
 below-yes : (a b : ℕ) → a < b → nat_lt a b ≡ true
 below-yes a b h = grind (arith, nat_tests)

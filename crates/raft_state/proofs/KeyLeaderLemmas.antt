@@ -1,79 +1,83 @@
--- The keys of the last leader: all keys before them have earlier leaders.
-use Rattle.std.proofs.Common.{◌≡◌, ◌≢◌, ℕ, zero, suc, ◌+◌, ◌-◌, ◌<◌, ◌≤◌, Bool, true, false, List, [], ◌∷◌, length, drop, refl, ap, sym, subst, ◌∙◌, arith}
-use Rattle.std.specs.Prelude.{Option, Some, None}
-use Rattle.std.specs.List.{filter}
+-- The keys of the last run of one leader: what stands before them isn't in that run.
+use Rattle.std.proofs.Common.{◌≡◌, ℕ, zero, suc, ◌+◌, ◌-◌, ◌≤◌, true, false, List, [], ◌∷◌, ◌++◌, length, drop, refl, ap, sym, ◌∙◌, arith}
+use Rattle.std.specs.List.{list_all}
 use Rattle.std.specs.declared.cmp.Ordering.{Ordering}
-use Rattle.std.specs.declared.cmp.Ordering.TheVariants.{Less, Equal, Greater}
-use Rattle.std.specs.Ordering.{is_eq, ordering_then, nat_cmp}
+use Rattle.std.specs.Ordering.{is_eq}
 use Rattle.std.specs.Cmp.{IsTotalOrder}
-use Rattle.std.proofs.lemmas.Cmp.{nat_cmp_total}
 use Rattle.raft_values.specs.declared.vote.LeaderId.{LeaderId}
 use Rattle.raft_values.specs.declared.log_id.LogId.{LogId}
-use Rattle.raft_values.specs.Vote.{leader_cmp}
-use Rattle.raft_state.specs.LogIdList.{last_id, ends_in_pair, LeadersRise, of_leader}
-use Rattle.raft_state.proofs.LogIdListLemmas.{final, last_id-cons}
-use Rattle.raft_state.proofs.KeyOrderLemmas.{same_leader, same_by_order}
-use Rattle.raft_state.proofs.KeyRestLemmas.{same_leader-equal}
+use Rattle.raft_state.specs.LogIdList.{leader_ids, ids_of, PlacesRise, AreKeys, ends_in_pair, keys_of, has_leader, last_run}
+use Rattle.raft_state.proofs.LogIdLemmas.{run, id_of, leader_ids-one}
+use Rattle.raft_state.proofs.LogIdListLemmas.{ids_of-first, ids_behind}
+use Rattle.raft_state.proofs.KeyRestLemmas.{same_leader-equal, AreKeys-drop}
+use Rattle.raft_state.proofs.KeysOfLemmas.{keys_of-ids_of}
 
-module _ {K : Type 0} (cmp : K → K → Ordering) (order : IsTotalOrder cmp) (told_apart : (x y : K) → is_eq (cmp x y) ≡ true → x ≡ y) where
-  chain : (a b c : LeaderId K) (o p : Ordering) → nat_cmp a.term b.term ≡ o → nat_cmp b.term c.term ≡ p
-      → ordering_then o (cmp a.node_id b.node_id) ≡ Less → ordering_then p (cmp b.node_id c.node_id) ≡ Less → leader_cmp cmp a c ≡ Less
-  chain a b c Less Less e f h k = ap (λ o. ordering_then o (cmp a.node_id c.node_id)) (nat_cmp_total.trans a.term b.term c.term e f)
-  chain a b c Less Equal e f h k =
-      ap (λ o. ordering_then o (cmp a.node_id c.node_id)) (ap (nat_cmp a.term) (sym (same_by_order b.term c.term f)) ∙ e)
-  chain a b c Less Greater e f h k = cc
-  chain a b c Equal Less e f h k = ap (λ o. ordering_then o (cmp a.node_id c.node_id)) (nat_cmp_total.congr a.term b.term c.term e ∙ f)
-  chain a b c Equal Equal e f h k =
-      ap (λ o. ordering_then o (cmp a.node_id c.node_id)) (nat_cmp_total.congr a.term b.term c.term e ∙ f)
-      ∙ order.trans a.node_id b.node_id c.node_id h k
-  chain a b c Equal Greater e f h k = cc
-  chain a b c Greater p e f h k = cc
+module _ {K : Type 0} (cmp : K → K → Ordering) (order : IsTotalOrder cmp) where
+  own : (leader : LeaderId K) (index : ℕ) → has_leader cmp leader (id_of leader index) ≡ true
+  own leader index = ap is_eq (same_leader-equal cmp order leader)
 
-  earlier-trans : (a b c : LeaderId K) → leader_cmp cmp a b ≡ Less → leader_cmp cmp b c ≡ Less → leader_cmp cmp a c ≡ Less
-  earlier-trans a b c h k = chain a b c (nat_cmp a.term b.term) (nat_cmp b.term c.term) refl refl h k
+  -- a leader's log ids and one of another leader: not all are that leader's
+  run_differs : (leader : LeaderId K) (a n : ℕ) (next : LogId K) (ids : List (LogId K)) → has_leader cmp leader next ≡ false
+      → list_all (has_leader cmp leader) (run leader a n ++ next ∷ ids) ≡ false
+  run_differs leader a zero next ids differs = rw differs refl
+  run_differs leader a (suc n) next ids differs = rw (own leader a) (run_differs leader (a + 1) n next ids differs)
 
-  earlier_by : (a b c : LeaderId K) (o : Ordering) → leader_cmp cmp b c ≡ o → leader_cmp cmp a b ≡ Less → o ≢ Greater → leader_cmp cmp a c ≡ Less
-  earlier_by a b c Less e h k = earlier-trans a b c h e
-  earlier_by a b c Equal e h k = subst (λ x. leader_cmp cmp a x ≡ Less) (same_leader cmp told_apart b c (ap is_eq e)) h
-  earlier_by a b c Greater e h k = absurd (k refl)
+  -- so that the last run stands behind them
+  run_dropped : (leader : LeaderId K) (a n : ℕ) (next : LogId K) (ids : List (LogId K)) → has_leader cmp leader next ≡ false
+      → last_run cmp (run leader a n ++ next ∷ ids) ≡ last_run cmp (next ∷ ids)
+  run_dropped leader a zero next ids differs = refl
+  run_dropped leader a (suc n) next ids differs = rw (run_differs leader (a + 1) n next ids differs) (run_dropped leader (a + 1) n next ids differs)
 
-  earlier-final : (key next later : LogId K) (keys : List (LogId K)) → LeadersRise cmp (key ∷ next ∷ later ∷ keys) → leader_cmp cmp key.leader_id (final later keys).leader_id ≡ Less
-  earlier-final key next later [] h = earlier_by key.leader_id next.leader_id later.leader_id (leader_cmp cmp next.leader_id later.leader_id) refl h.0 h.1.0
-  earlier-final key next later (last ∷ keys) h =
-      earlier-trans key.leader_id next.leader_id (final last keys).leader_id h.0 (earlier-final next later last keys h.1)
+  key_dropped : (key next : LogId K) (keys : List (LogId K)) → PlacesRise (next ∷ keys) → has_leader cmp key.leader_id next ≡ false
+      → last_run cmp (ids_of (key ∷ next ∷ keys)) ≡ last_run cmp (ids_of (next ∷ keys))
+  key_dropped key next keys h differs =
+      ap (λ ids. last_run cmp (leader_ids key.leader_id key.index next.index ++ ids)) (ids_of-first next keys h)
+      ∙ run_dropped key.leader_id key.index (next.index - key.index) next (ids_behind next keys) differs
+      ∙ ap (last_run cmp) (sym (ids_of-first next keys h))
 
-  abbrev has_leader : LeaderId K → LogId K → Bool
-  has_leader leader id = is_eq (leader_cmp cmp id.leader_id leader)
+  run_kept : (leader : LeaderId K) (a n : ℕ) (next : LogId K) → has_leader cmp leader next ≡ true → list_all (has_leader cmp leader) (run leader a n ++ next ∷ []) ≡ true
+  run_kept leader a zero next same = rw same refl
+  run_kept leader a (suc n) next same = rw (own leader a) (run_kept leader (a + 1) n next same)
 
-  itself_kept : (key : LogId K) → filter (has_leader key.leader_id) (key ∷ []) ≡ key ∷ []
-  itself_kept key = rw (ap is_eq (same_leader-equal cmp order key.leader_id)) refl
+  whole_kept : (key : LogId K) (ids : List (LogId K)) → list_all (has_leader cmp key.leader_id) ids ≡ true → last_run cmp (key ∷ ids) ≡ key ∷ ids
+  whole_kept key ids same = rw same refl
 
-  pair_kept : (key next : LogId K) (keys : List (LogId K)) → LeadersRise cmp (key ∷ next ∷ keys) → ends_in_pair cmp (key ∷ next ∷ keys) ≡ true
-      → filter (has_leader (final next keys).leader_id) (key ∷ next ∷ keys) ≡ drop (length keys) (key ∷ next ∷ keys)
-  pair_kept key next [] h pair = rw pair (ap (λ ids. key ∷ ids) (itself_kept next))
-  pair_kept key next (later ∷ keys) h pair = rw (ap is_eq (earlier-final key next later keys h)) (pair_kept next later keys h.1 pair)
+  ids_of-one : (key : LogId K) → ids_of (key ∷ []) ≡ key ∷ []
+  ids_of-one key = ap (λ ids. ids ++ []) (leader_ids-one key.leader_id key.index (key.index + 1) refl)
 
-  single_kept : (key : LogId K) (keys : List (LogId K)) → LeadersRise cmp (key ∷ keys) → ends_in_pair cmp (key ∷ keys) ≡ false
-      → filter (has_leader (final key keys).leader_id) (key ∷ keys) ≡ drop (length keys) (key ∷ keys)
-  single_kept key [] h pair = itself_kept key
-  single_kept key (next ∷ []) h pair = rw pair (itself_kept next)
-  single_kept key (next ∷ later ∷ keys) h pair = rw (ap is_eq (earlier-final key next later keys h)) (single_kept next (later ∷ keys) h.1 pair)
+  pair_left : (key next : LogId K) (keys : List (LogId K)) → AreKeys cmp (key ∷ next ∷ keys) → ends_in_pair cmp (key ∷ next ∷ keys) ≡ true
+      → last_run cmp (ids_of (key ∷ next ∷ keys)) ≡ ids_of (drop (length keys) (key ∷ next ∷ keys))
+  pair_left key next [] h pair =
+      let whole : ids_of (key ∷ next ∷ []) ≡ key ∷ (leader_ids key.leader_id (key.index + 1) next.index ++ next ∷ []) =
+      ids_of-first key (next ∷ []) h.0 ∙ ap (λ ids. key ∷ (leader_ids key.leader_id (key.index + 1) next.index ++ ids)) (ids_of-one next) in
+      ap (last_run cmp) whole
+      ∙ whole_kept key _ (run_kept key.leader_id (key.index + 1) (next.index - (key.index + 1)) next pair)
+      ∙ sym whole
+  pair_left key next (later ∷ keys) h pair = key_dropped key next (later ∷ keys) h.0.1 h.1.0 ∙ pair_left next later keys (h.0.1, h.1.1) pair
 
-  -- a pair at the end is all that the last leader has
-  pub of_leader-pair : (keys : List (LogId K)) → LeadersRise cmp keys → ends_in_pair cmp keys ≡ true → of_leader cmp (last_id keys) keys ≡ drop (length keys - 2) keys
-  of_leader-pair [] h pair = cc
-  of_leader-pair (key ∷ []) h pair = cc
-  of_leader-pair (key ∷ next ∷ keys) h pair =
+  single_left : (key : LogId K) (keys : List (LogId K)) → AreKeys cmp (key ∷ keys) → ends_in_pair cmp (key ∷ keys) ≡ false
+      → last_run cmp (ids_of (key ∷ keys)) ≡ ids_of (drop (length keys) (key ∷ keys))
+  single_left key [] h pair = ap (last_run cmp) (ids_of-one key) ∙ sym (ids_of-one key)
+  single_left key (next ∷ []) h pair = key_dropped key next [] h.0.1 pair ∙ single_left next [] (h.0.1, h.1.1) refl
+  single_left key (next ∷ later ∷ keys) h pair = key_dropped key next (later ∷ keys) h.0.1 h.1.0 ∙ single_left next (later ∷ keys) (h.0.1, h.1.1) pair
+
+  -- a pair at the end is the keys of the last run
+  pub last_run-pair : (keys : List (LogId K)) → AreKeys cmp keys → ends_in_pair cmp keys ≡ true → keys_of cmp (last_run cmp (ids_of keys)) ≡ drop (length keys - 2) keys
+  last_run-pair [] h pair = cc
+  last_run-pair (key ∷ []) h pair = cc
+  last_run-pair (key ∷ next ∷ keys) h pair =
       let at : length (key ∷ next ∷ keys) - 2 ≡ length keys = omega arith in
-      ap (λ last. of_leader cmp last (key ∷ next ∷ keys)) (last_id-cons key (next ∷ keys)) ∙ pair_kept key next keys h pair
+      ap (keys_of cmp) (pair_left key next keys h pair)
+      ∙ keys_of-ids_of cmp order (drop (length keys) (key ∷ next ∷ keys)) (AreKeys-drop cmp (length keys) (key ∷ next ∷ keys) h)
       ∙ ap (λ n. drop n (key ∷ next ∷ keys)) (sym at)
 
-  -- else its last key is
-  pub of_leader-single : (keys : List (LogId K)) → LeadersRise cmp keys → ends_in_pair cmp keys ≡ false → of_leader cmp (last_id keys) keys ≡ drop (length keys - 1) keys
-  of_leader-single [] h pair = refl
-  of_leader-single (key ∷ keys) h pair =
+  -- else the last key is
+  pub last_run-single : (keys : List (LogId K)) → AreKeys cmp keys → ends_in_pair cmp keys ≡ false → keys_of cmp (last_run cmp (ids_of keys)) ≡ drop (length keys - 1) keys
+  last_run-single [] h pair = refl
+  last_run-single (key ∷ keys) h pair =
       let at : length (key ∷ keys) - 1 ≡ length keys = omega arith in
-      ap (λ last. of_leader cmp last (key ∷ keys)) (last_id-cons key keys) ∙ single_kept key keys h pair
+      ap (keys_of cmp) (single_left key keys h pair)
+      ∙ keys_of-ids_of cmp order (drop (length keys) (key ∷ keys)) (AreKeys-drop cmp (length keys) (key ∷ keys) h)
       ∙ ap (λ n. drop n (key ∷ keys)) (sym at)
 
   pub pair_long : (keys : List (LogId K)) → ends_in_pair cmp keys ≡ true → 2 ≤ length keys

@@ -1,6 +1,6 @@
--- What comes behind keys in order leaves them in order, whether it is one key more or takes the place of the last one.
-use Rattle.std.proofs.Common.{◌≡◌, ◌≢◌, ℕ, zero, suc, ◌+◌, ◌-◌, ◌<◌, ◌≤◌, Bool, true, false, List, [], ◌∷◌, ◌++◌, length, set, get_or, refl, ap, sym, subst, ◌∙◌, arith, append-nil, append_assoc}
-use Rattle.std.specs.Prelude.{Option, Some, None}
+-- What comes behind keys leaves keys, whether it is one key more or takes the place of the last one.
+use Rattle.std.proofs.Common.{◌≡◌, ℕ, suc, ◌+◌, ◌-◌, ◌<◌, ◌≤◌, true, false, List, [], ◌∷◌, ◌++◌, length, set, get_or, refl, ap, sym, subst, ◌∙◌, arith, append-nil, append_assoc}
+use Rattle.std.specs.Prelude.{Some}
 use Rattle.std.specs.declared.cmp.Ordering.{Ordering}
 use Rattle.std.specs.declared.cmp.Ordering.TheVariants.{Less, Equal, Greater}
 use Rattle.std.specs.Ordering.{is_eq, ordering_then, nat_cmp}
@@ -8,17 +8,12 @@ use Rattle.std.proofs.lemmas.Bool.Decides.{nat_tests}
 use Rattle.raft_values.specs.declared.vote.LeaderId.{LeaderId}
 use Rattle.raft_values.specs.declared.log_id.LogId.{LogId}
 use Rattle.raft_values.specs.Vote.{leader_cmp}
-use Rattle.raft_state.specs.LogIdList.{leader_ids, end_of_key, ids_of, last_id, ids_between, appended, IsBelowNext, PlacesRise, ends_in_pair, IsLedOn, LeadersRise, AreKeys, GoesOn}
+use Rattle.raft_state.specs.LogIdList.{leader_ids, ids_of, last_id, appended, PlacesRise, ends_in_pair, LeadersChange, AreKeys, GoesOn}
 use Rattle.raft_state.proofs.LogIdLemmas.{leader_ids-join, leader_ids-one}
-use Rattle.raft_state.proofs.LogIdListLemmas.{final, last_id-cons, appended-after, ids_of-push, IsAfter}
-
-less_only : (o : Ordering) → o ≢ Greater → is_eq o ≡ false → o ≡ Less
-less_only Less h e = refl
-less_only Equal h e = cc
-less_only Greater h e = absurd (h refl)
+use Rattle.raft_state.proofs.LogIdListLemmas.{final, last_id-cons, appended-after}
 
 -- numbers that compare equal are equal
-pub same_by_order : (a b : ℕ) → nat_cmp a b ≡ Equal → a ≡ b
+same_by_order : (a b : ℕ) → nat_cmp a b ≡ Equal → a ≡ b
 same_by_order a b e = grind (arith, nat_tests, e)
 
 module _ {K : Type 0} (cmp : K → K → Ordering) (told_apart : (x y : K) → is_eq (cmp x y) ≡ true → x ≡ y) where
@@ -32,7 +27,7 @@ module _ {K : Type 0} (cmp : K → K → Ordering) (told_apart : (x y : K) → i
   same_node a b Greater e h = cc
 
   -- leaders that compare equal are one leader
-  pub same_leader : (a b : LeaderId K) → is_eq (leader_cmp cmp a b) ≡ true → a ≡ b
+  same_leader : (a b : LeaderId K) → is_eq (leader_cmp cmp a b) ≡ true → a ≡ b
   same_leader a b h = same_node a b (nat_cmp a.term b.term) refl h
 
   replaced : (key next : LogId K) (keys : List (LogId K)) (id : LogId K) → PlacesRise (key ∷ next ∷ keys)
@@ -53,58 +48,52 @@ module _ {K : Type 0} (cmp : K → K → Ordering) (told_apart : (x y : K) → i
       ∙ sym (append_assoc (leader_ids key.leader_id key.index next.index) (ids_of (next ∷ later ∷ keys)) _)
 
   -- where the last two keys have one leader, the new last one takes the place of the old
-  pub ids_of-replace : (keys : List (LogId K)) (id : LogId K) → PlacesRise keys → ends_in_pair cmp keys ≡ true → IsAfter (last_id keys) id
+  pub ids_of-replace : (keys : List (LogId K)) (id : LogId K) → PlacesRise keys → ends_in_pair cmp keys ≡ true → GoesOn (last_id keys) id
       → ids_of (set keys (length keys - 1) id) ≡ appended (ids_of keys) id
   ids_of-replace [] id h pair l = cc
   ids_of-replace (key ∷ []) id h pair l = cc
   ids_of-replace (key ∷ next ∷ keys) id h pair l =
       let at : length (key ∷ next ∷ keys) - 1 ≡ suc (length keys) = omega arith in
       let last : last_id (key ∷ next ∷ keys) ≡ Some (final next keys) = last_id-cons key (next ∷ keys) in
-      rw at (replaced key next keys id h pair (subst (λ found. IsAfter found id) last l)
+      rw at (replaced key next keys id h pair (subst (λ found. GoesOn found id) last l)
       ∙ sym (appended-after (key ∷ next ∷ keys) (final next keys) id h last))
 
+module _ {K : Type 0} where
   places-push : (key : LogId K) (keys : List (LogId K)) (id : LogId K) → PlacesRise (key ∷ keys) → (final key keys).index < id.index → PlacesRise (key ∷ (keys ++ id ∷ []))
   places-push key [] id h l = (l, (tt, tt))
   places-push key (next ∷ keys) id h l = (h.0, places-push next keys id h.1 l)
-
-  leaders-push : (key : LogId K) (keys : List (LogId K)) (id : LogId K) → LeadersRise cmp (key ∷ keys) → ends_in_pair cmp (key ∷ keys) ≡ false
-      → leader_cmp cmp (final key keys).leader_id id.leader_id ≢ Greater → LeadersRise cmp (key ∷ (keys ++ id ∷ []))
-  leaders-push key [] id h pair l = (l, (tt, tt))
-  leaders-push key (next ∷ []) id h pair l = (less_only _ h.0 pair, leaders-push next [] id h.1 refl l)
-  leaders-push key (next ∷ later ∷ keys) id h pair l = (h.0, leaders-push next (later ∷ keys) id h.1 pair l)
 
   places-replace : (key next : LogId K) (keys : List (LogId K)) (id : LogId K) → PlacesRise (key ∷ next ∷ keys) → (final next keys).index < id.index
       → PlacesRise (set (key ∷ next ∷ keys) (suc (length keys)) id)
   places-replace key next [] id h l = (omega arith, (tt, tt))
   places-replace key next (later ∷ keys) id h l = (h.0, places-replace next later keys id h.1 l)
 
-  leaders-replace : (key next : LogId K) (keys : List (LogId K)) (id : LogId K) → LeadersRise cmp (key ∷ next ∷ keys) → ends_in_pair cmp (key ∷ next ∷ keys) ≡ true
-      → leader_cmp cmp (final next keys).leader_id id.leader_id ≢ Greater → LeadersRise cmp (set (key ∷ next ∷ keys) (suc (length keys)) id)
-  leaders-replace key next [] id h pair l =
-      (subst (λ a. leader_cmp cmp a id.leader_id ≢ Greater) (sym (same_leader key.leader_id next.leader_id pair)) l, (tt, tt))
-  leaders-replace key next (later ∷ []) id h pair l = (h.0, leaders-replace next later [] id h.1 pair l)
-  leaders-replace key next (later ∷ last ∷ keys) id h pair l = (h.0, leaders-replace next later (last ∷ keys) id h.1 pair l)
+module _ {K : Type 0} (cmp : K → K → Ordering) where
+  leaders-push : (key : LogId K) (keys : List (LogId K)) (id : LogId K) → LeadersChange cmp (key ∷ keys) → ends_in_pair cmp (key ∷ keys) ≡ false → LeadersChange cmp (key ∷ (keys ++ id ∷ []))
+  leaders-push key [] id h pair = (tt, (tt, tt))
+  leaders-push key (next ∷ []) id h pair = (pair, leaders-push next [] id h.1 refl)
+  leaders-push key (next ∷ later ∷ keys) id h pair = (h.0, leaders-push next (later ∷ keys) id h.1 pair)
 
-  pub after : (last : Option (LogId K)) (id : LogId K) → GoesOn cmp last id → IsAfter last id
-  after None id h = tt
-  after (Some last) id h = h.0
+  leaders-replace : (key next : LogId K) (keys : List (LogId K)) (id : LogId K) → LeadersChange cmp (key ∷ next ∷ keys) → LeadersChange cmp (set (key ∷ next ∷ keys) (suc (length keys)) id)
+  leaders-replace key next [] id h = (tt, (tt, tt))
+  leaders-replace key next (later ∷ []) id h = (h.0, leaders-replace next later [] id h.1)
+  leaders-replace key next (later ∷ last ∷ keys) id h = (h.0, leaders-replace next later (last ∷ keys) id h.1)
 
-  -- a key more, or another last one, leaves keys in order
-  pub AreKeys-push : (keys : List (LogId K)) (id : LogId K) → AreKeys cmp keys → ends_in_pair cmp keys ≡ false → GoesOn cmp (last_id keys) id → AreKeys cmp (keys ++ id ∷ [])
+  -- a key more, or another last one, leaves keys
+  pub AreKeys-push : (keys : List (LogId K)) (id : LogId K) → AreKeys cmp keys → ends_in_pair cmp keys ≡ false → GoesOn (last_id keys) id → AreKeys cmp (keys ++ id ∷ [])
   AreKeys-push [] id h pair l = ((tt, tt), (tt, tt))
   AreKeys-push (key ∷ keys) id h pair l =
-      let on : GoesOn cmp (Some (final key keys)) id = subst (λ found. GoesOn cmp found id) (last_id-cons key keys) l in
-      (places-push key keys id h.0 on.0, leaders-push key keys id h.1 pair on.1)
+      let on : GoesOn (Some (final key keys)) id = subst (λ found. GoesOn found id) (last_id-cons key keys) l in
+      (places-push key keys id h.0 on, leaders-push key keys id h.1 pair)
 
-  pub AreKeys-replace : (keys : List (LogId K)) (id : LogId K) → AreKeys cmp keys → ends_in_pair cmp keys ≡ true → GoesOn cmp (last_id keys) id → AreKeys cmp (set keys (length keys - 1) id)
-  AreKeys-replace [] id h pair l = cc
-  AreKeys-replace (key ∷ []) id h pair l = cc
-  AreKeys-replace (key ∷ next ∷ keys) id h pair l =
+  pub AreKeys-replace : (keys : List (LogId K)) (id : LogId K) → AreKeys cmp keys → GoesOn (last_id keys) id → AreKeys cmp (set keys (length keys - 1) id)
+  AreKeys-replace [] id h l = (tt, tt)
+  AreKeys-replace (key ∷ []) id h l = ((tt, tt), (tt, tt))
+  AreKeys-replace (key ∷ next ∷ keys) id h l =
       let at : length (key ∷ next ∷ keys) - 1 ≡ suc (length keys) = omega arith in
-      let on : GoesOn cmp (Some (final next keys)) id = subst (λ found. GoesOn cmp found id) (last_id-cons key (next ∷ keys)) l in
-      rw at (places-replace key next keys id h.0 on.0, leaders-replace key next keys id h.1 pair on.1)
+      let on : GoesOn (Some (final next keys)) id = subst (λ found. GoesOn found id) (last_id-cons key (next ∷ keys)) l in
+      rw at (places-replace key next keys id h.0 on, leaders-replace key next keys id h.1)
 
-module _ {K : Type 0} (cmp : K → K → Ordering) where
   -- what the last two say of the whole
   pub ends_in_pair-short : (keys : List (LogId K)) → length keys < 2 → ends_in_pair cmp keys ≡ false
   ends_in_pair-short [] h = refl

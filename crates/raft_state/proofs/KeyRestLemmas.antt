@@ -1,14 +1,14 @@
--- The front of keys in order, and their rest, are keys in order.
-use Rattle.std.proofs.Common.{◌≡◌, ◌≢◌, ℕ, zero, suc, ◌+◌, ◌-◌, ◌<◌, ◌≤◌, Bool, true, false, List, [], ◌∷◌, length, set, get_or, take, drop, refl, ap, sym, subst, ◌∙◌, arith}
+-- The front of keys, and their rest, are keys.
+use Rattle.std.proofs.Common.{◌≡◌, ℕ, zero, suc, ◌+◌, ◌-◌, ◌<◌, ◌≤◌, false, List, [], ◌∷◌, length, set, get_or, take, drop, refl, ap, sym, subst, ◌∙◌, arith}
 use Rattle.std.specs.declared.cmp.Ordering.{Ordering}
 use Rattle.std.specs.declared.cmp.Ordering.TheVariants.{Less, Equal, Greater}
-use Rattle.std.specs.Ordering.{ordering_then, ordering_reverse, nat_cmp}
+use Rattle.std.specs.Ordering.{is_eq, ordering_then, ordering_reverse, nat_cmp}
 use Rattle.std.specs.Cmp.{IsTotalOrder}
 use Rattle.std.proofs.lemmas.Cmp.{nat_cmp_total}
 use Rattle.raft_values.specs.declared.vote.LeaderId.{LeaderId}
 use Rattle.raft_values.specs.declared.log_id.LogId.{LogId}
 use Rattle.raft_values.specs.Vote.{leader_cmp}
-use Rattle.raft_state.specs.LogIdList.{IsBelowNext, PlacesRise, IsLedOn, LeadersRise, AreKeys}
+use Rattle.raft_state.specs.LogIdList.{IsBelowNext, PlacesRise, ChangesLeader, LeadersChange, AreKeys}
 use Rattle.raft_state.proofs.KeyCutLemmas.{id_by}
 
 equal_alone : (o : Ordering) → o ≡ ordering_reverse o → o ≡ Equal
@@ -54,54 +54,55 @@ module _ {K : Type 0} (cmp : K → K → Ordering) (order : IsTotalOrder cmp) wh
   pub same_leader-equal : (a : LeaderId K) → leader_cmp cmp a a ≡ Equal
   same_leader-equal a = same_term a (nat_cmp a.term a.term) (itself nat_cmp nat_cmp_total a.term)
 
-  no-later : (a : LeaderId K) → leader_cmp cmp a a ≢ Greater
-  no-later a e = let equal = same_leader-equal a in cc
+module _ {K : Type 0} (cmp : K → K → Ordering) where
+  changes-take : (key : LogId K) (n : ℕ) (keys : List (LogId K)) → ChangesLeader cmp key keys → ChangesLeader cmp key (take n keys)
+  changes-take key zero keys h = tt
+  changes-take key (suc n) [] h = tt
+  changes-take key (suc zero) (next ∷ keys) h = tt
+  changes-take key (suc (suc n)) (next ∷ []) h = tt
+  changes-take key (suc (suc n)) (next ∷ later ∷ keys) h = h
 
-  led-take : (key : LogId K) (n : ℕ) (keys : List (LogId K)) → IsLedOn cmp key keys → IsLedOn cmp key (take n keys)
-  led-take key zero keys h = tt
-  led-take key (suc n) [] h = tt
-  led-take key (suc zero) (next ∷ []) h = h
-  led-take key (suc zero) (next ∷ later ∷ keys) h = λ e. cc
-  led-take key (suc (suc n)) (next ∷ []) h = h
-  led-take key (suc (suc n)) (next ∷ later ∷ keys) h = h
-
-  leaders-take : (n : ℕ) (keys : List (LogId K)) → LeadersRise cmp keys → LeadersRise cmp (take n keys)
+  leaders-take : (n : ℕ) (keys : List (LogId K)) → LeadersChange cmp keys → LeadersChange cmp (take n keys)
   leaders-take zero keys h = tt
   leaders-take (suc n) [] h = tt
-  leaders-take (suc n) (key ∷ keys) h = (led-take key n keys h.0, leaders-take n keys h.1)
+  leaders-take (suc n) (key ∷ keys) h = (changes-take key n keys h.0, leaders-take n keys h.1)
 
   -- the front of keys
   pub AreKeys-take : (n : ℕ) (keys : List (LogId K)) → AreKeys cmp keys → AreKeys cmp (take n keys)
   AreKeys-take n keys h = (places-take n keys h.0, leaders-take n keys h.1)
 
-  leaders-pair : (keys : List (LogId K)) (i : ℕ) (key id : LogId K) → LeadersRise cmp keys → key ≡ get_or keys i key → suc i < length keys → id.leader_id ≡ key.leader_id → LeadersRise cmp (take (suc (suc i)) (set keys (suc i) id))
-  leaders-pair [] i key id h e l m = absurd (omega arith)
-  leaders-pair (first ∷ []) i key id h e l m = absurd (omega arith)
-  leaders-pair (first ∷ next ∷ keys) zero key id h e l m =
-      let one_leader : first.leader_id ≡ id.leader_id = ap (λ (x : LogId K). x.leader_id) (sym e) ∙ sym m in
-      (subst (λ a. leader_cmp cmp first.leader_id a ≢ Greater) one_leader (no-later first.leader_id), (tt, tt))
-  leaders-pair (first ∷ next ∷ []) (suc i) key id h e l m = absurd (omega arith)
-  leaders-pair (first ∷ next ∷ later ∷ keys) (suc zero) key id h e l m = (h.0, leaders-pair (next ∷ later ∷ keys) zero key id h.1 e (omega arith) m)
-  leaders-pair (first ∷ next ∷ later ∷ keys) (suc (suc i)) key id h e l m = (h.0, leaders-pair (next ∷ later ∷ keys) (suc i) key id h.1 e (omega arith) m)
+  -- the rest of keys
+  pub AreKeys-drop : (n : ℕ) (keys : List (LogId K)) → AreKeys cmp keys → AreKeys cmp (drop n keys)
+  AreKeys-drop zero keys h = h
+  AreKeys-drop (suc n) [] h = (tt, tt)
+  AreKeys-drop (suc n) (key ∷ keys) h = AreKeys-drop n keys (h.0.1, h.1.1)
 
-  -- the front of keys, and behind it one more log id of its last leader
+  leaders-pair : (keys : List (LogId K)) (i : ℕ) (id : LogId K) → LeadersChange cmp keys → suc i < length keys → LeadersChange cmp (take (suc (suc i)) (set keys (suc i) id))
+  leaders-pair [] i id h l = absurd (omega arith)
+  leaders-pair (first ∷ []) i id h l = absurd (omega arith)
+  leaders-pair (first ∷ next ∷ keys) zero id h l = (tt, (tt, tt))
+  leaders-pair (first ∷ next ∷ []) (suc i) id h l = absurd (omega arith)
+  leaders-pair (first ∷ next ∷ later ∷ keys) (suc zero) id h l = (h.0, leaders-pair (next ∷ later ∷ keys) zero id h.1 (omega arith))
+  leaders-pair (first ∷ next ∷ later ∷ keys) (suc (suc i)) id h l = (h.0, leaders-pair (next ∷ later ∷ keys) (suc i) id h.1 (omega arith))
+
+  -- the front of keys, and behind it one more log id
   pub AreKeys-pair : (keys : List (LogId K)) (count : ℕ) (key id : LogId K) → AreKeys cmp keys → 0 < count → count < length keys → key ≡ get_or keys (count - 1) key
-      → key.index < id.index → id.leader_id ≡ key.leader_id → AreKeys cmp (take (count + 1) (set keys count id))
-  AreKeys-pair keys zero key id h l m e n o = absurd (omega arith)
-  AreKeys-pair keys (suc i) key id h l m e n o =
+      → key.index < id.index → AreKeys cmp (take (count + 1) (set keys count id))
+  AreKeys-pair keys zero key id h l m e n = absurd (omega arith)
+  AreKeys-pair keys (suc i) key id h l m e n =
       let back : suc i - 1 ≡ i = omega arith in
       let more : suc i + 1 ≡ suc (suc i) = omega arith in
       let here : key ≡ get_or keys i key = e ∙ ap (λ n. get_or keys n key) back in
-      rw more (places-pair keys i key id h.0 here m n, leaders-pair keys i key id h.1 here m o)
+      rw more (places-pair keys i key id h.0 here m n, leaders-pair keys i id h.1 m)
 
-  led-by : (a b : LogId K) (keys : List (LogId K)) → a.leader_id ≡ b.leader_id → IsLedOn cmp a keys → IsLedOn cmp b keys
-  led-by a b [] e h = tt
-  led-by a b (next ∷ []) e h = subst (λ x. leader_cmp cmp x next.leader_id ≢ Greater) e h
-  led-by a b (next ∷ later ∷ keys) e h = subst (λ x. leader_cmp cmp x next.leader_id ≡ Less) e h
+  changes-by : (a b : LogId K) (keys : List (LogId K)) → a.leader_id ≡ b.leader_id → ChangesLeader cmp a keys → ChangesLeader cmp b keys
+  changes-by a b [] e h = tt
+  changes-by a b (next ∷ []) e h = tt
+  changes-by a b (next ∷ later ∷ keys) e h = subst (λ x. is_eq (leader_cmp cmp x next.leader_id) ≡ false) e h
 
-  leaders-rest : (keys : List (LogId K)) (i : ℕ) (key : LogId K) (at : ℕ) → LeadersRise cmp keys → i < length keys → key ≡ get_or keys i key → LeadersRise cmp (id_by key.leader_id at ∷ drop (suc i) keys)
+  leaders-rest : (keys : List (LogId K)) (i : ℕ) (key : LogId K) (at : ℕ) → LeadersChange cmp keys → i < length keys → key ≡ get_or keys i key → LeadersChange cmp (id_by key.leader_id at ∷ drop (suc i) keys)
   leaders-rest [] i key at h l e = absurd (omega arith)
-  leaders-rest (first ∷ keys) zero key at h l e = (led-by first (id_by key.leader_id at) keys (ap (λ (x : LogId K). x.leader_id) (sym e)) h.0, h.1)
+  leaders-rest (first ∷ keys) zero key at h l e = (changes-by first (id_by key.leader_id at) keys (ap (λ (x : LogId K). x.leader_id) (sym e)) h.0, h.1)
   leaders-rest (first ∷ keys) (suc i) key at h l e = leaders-rest keys i key at h.1 (omega arith) e
 
   -- the rest of keys, and before it a log id of the leader before

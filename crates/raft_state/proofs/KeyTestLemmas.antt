@@ -1,9 +1,9 @@
--- Keys are in order where each key leads on to those behind it.
-use Rattle.std.proofs.Common.{◌≡◌, ℕ, ◌+◌, ◌-◌, ◌<◌, List, [], ◌∷◌, length, get_or, take, drop, refl, ap, sym, subst, ◌∙◌, arith, length-drop}
+-- They are keys where each leads on to those behind it.
+use Rattle.std.proofs.Common.{◌≡◌, ℕ, ◌+◌, ◌-◌, ◌<◌, List, ◌∷◌, length, get_or, take, drop, sym, subst, arith, length-drop}
 use Rattle.std.specs.declared.cmp.Ordering.{Ordering}
 use Rattle.std.proofs.lemmas.List.{drop_more, take_all}
 use Rattle.raft_values.specs.declared.log_id.LogId.{LogId}
-use Rattle.raft_state.specs.LogIdList.{IsBelowNext, PlacesRise, IsLedOn, LeadersRise, AreKeys}
+use Rattle.raft_state.specs.LogIdList.{IsBelowNext, ChangesLeader, AreKeys}
 
 -- the rest of a list to its end
 pub rest_whole : {X : Type 0} (xs : List X) (n : ℕ) → take (length xs - n) (drop n xs) ≡ drop n xs
@@ -12,7 +12,7 @@ rest_whole xs n = take_all (length xs - n) (drop n xs) (omega (arith, length-dro
 module _ {K : Type 0} (cmp : K → K → Ordering) where
   -- the key leads on to those behind it
   abbrev pub LeadsOn : LogId K → List (LogId K) → Type 0
-  LeadsOn key keys = IsBelowNext key keys × IsLedOn cmp key keys
+  LeadsOn key keys = IsBelowNext key keys × ChangesLeader cmp key keys
 
   keys_apart : (key : LogId K) (keys : List (LogId K)) → AreKeys cmp (key ∷ keys) → LeadsOn key keys × AreKeys cmp keys
   keys_apart key keys h = ((h.0.0, h.1.0), (h.0.1, h.1.1))

@@ -1,16 +1,12 @@
 -- The keys are told by the full list that they stand for.
-use Rattle.std.proofs.Common.{◌≡◌, ◌≢◌, ℕ, zero, suc, ◌+◌, ◌-◌, ◌<◌, ◌≤◌, Bool, true, false, List, [], ◌∷◌, ◌++◌, map, refl, ap, sym, subst, ◌∙◌, arith, append-nil}
-use Rattle.std.specs.Prelude.{Option, Some, None, not, if◌then◌else◌}
-use Rattle.std.specs.List.{range_with_len, filter}
+use Rattle.std.proofs.Common.{◌≡◌, ℕ, zero, suc, ◌+◌, ◌-◌, true, false, List, [], ◌∷◌, ◌++◌, refl, ap, sym, ◌∙◌}
+use Rattle.std.specs.Prelude.{Option, Some, None, not}
 use Rattle.std.specs.declared.cmp.Ordering.{Ordering}
-use Rattle.std.specs.declared.cmp.Ordering.TheVariants.{Less, Equal, Greater}
-use Rattle.std.specs.Ordering.{is_eq, ordering_then, nat_cmp}
+use Rattle.std.specs.Ordering.{is_eq}
 use Rattle.std.specs.Cmp.{IsTotalOrder}
-use Rattle.std.proofs.lemmas.Cmp.{nat_cmp_total}
 use Rattle.raft_values.specs.declared.vote.LeaderId.{LeaderId}
 use Rattle.raft_values.specs.declared.log_id.LogId.{LogId}
-use Rattle.raft_values.specs.Vote.{leader_cmp}
-use Rattle.raft_state.specs.LogIdList.{leader_ids, end_of_key, ids_of, PlacesRise, LeadersRise, AreKeys, begins_leader, keys_behind, keys_of}
+use Rattle.raft_state.specs.LogIdList.{leader_ids, ids_of, PlacesRise, AreKeys, begins_leader, keys_behind, keys_of}
 use Rattle.raft_state.proofs.LogIdLemmas.{run, id_of, leader_ids-one}
 use Rattle.raft_state.proofs.LogIdListLemmas.{ids_of-first, ids_behind}
 use Rattle.raft_state.proofs.KeyRestLemmas.{same_leader-equal}
@@ -44,7 +40,7 @@ module _ {K : Type 0} (cmp : K → K → Ordering) (order : IsTotalOrder cmp) wh
       ∙ ap (λ ids. key ∷ keys_behind cmp (Some key.leader_id) (ids ++ [])) (leader_ids-one next.leader_id next.index (next.index + 1) refl)
   keys_behind-ids_of before key (next ∷ later ∷ keys) h b =
       one_key_on before key next (later ∷ keys) h.0 b
-      ∙ ap (λ ids. key ∷ ids) (keys_behind-ids_of (Some key.leader_id) next (later ∷ keys) (h.0.1, h.1.1) (ap (λ o. not (is_eq o)) h.1.0))
+      ∙ ap (λ ids. key ∷ ids) (keys_behind-ids_of (Some key.leader_id) next (later ∷ keys) (h.0.1, h.1.1) (ap not h.1.0))
 
   -- the keys among the log ids that keys stand for are those keys
   pub keys_of-ids_of : (keys : List (LogId K)) → AreKeys cmp keys → keys_of cmp (ids_of keys) ≡ keys

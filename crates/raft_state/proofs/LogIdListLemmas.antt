@@ -1,11 +1,10 @@
 -- The full list of log ids that keys stand for: its ends, and what goes to either end.
-use Rattle.std.proofs.Common.{◌≡◌, ℕ, zero, suc, ◌+◌, ◌-◌, ◌<◌, ◌≤◌, Bool, true, false, List, [], ◌∷◌, ◌++◌, length, set, get_or, refl, ap, sym, subst, ◌∙◌, arith, append-nil, append_assoc}
-use Rattle.std.specs.Prelude.{Option, Some, None}
+use Rattle.std.proofs.Common.{◌≡◌, ◌+◌, ◌-◌, ◌<◌, List, [], ◌∷◌, ◌++◌, length, refl, ap, sym, subst, ◌∙◌, arith, append_assoc}
+use Rattle.std.specs.Prelude.{Some}
 use Rattle.std.specs.List.{slice_get}
-use Rattle.raft_values.specs.declared.vote.LeaderId.{LeaderId}
 use Rattle.raft_values.specs.declared.log_id.LogId.{LogId}
-use Rattle.raft_state.specs.LogIdList.{leader_ids, end_of_key, ids_of, last_id, ids_between, appended, IsBelowNext, PlacesRise}
-use Rattle.raft_state.proofs.LogIdLemmas.{leader_ids-join, leader_ids-none, leader_ids-one, leader_ids-first}
+use Rattle.raft_state.specs.LogIdList.{leader_ids, end_of_key, ids_of, last_id, ids_between, appended, IsBelowNext, PlacesRise, GoesOn}
+use Rattle.raft_state.proofs.LogIdLemmas.{leader_ids-none, leader_ids-one, leader_ids-first}
 
 -- the last one of x and those behind it
 abbrev pub final : {X : Type 0} → X → List X → X
@@ -74,14 +73,9 @@ module _ {K : Type 0} where
       ap (λ found. ids_of keys ++ ids_between found id.index ++ id ∷ []) (last_id-ids_of keys h ∙ e)
       ∙ sym (joined (ids_of keys) (leader_ids last.leader_id (last.index + 1) id.index) id)
 
-  -- the log id comes after the last of these
-  abbrev pub IsAfter : Option (LogId K) → LogId K → Type 0
-  IsAfter None id = Unit {0}
-  IsAfter (Some last) id = last.index < id.index
-
   -- a key more at the end
-  pub ids_of-push : (keys : List (LogId K)) (id : LogId K) → PlacesRise keys → IsAfter (last_id keys) id → ids_of (keys ++ id ∷ []) ≡ appended (ids_of keys) id
+  pub ids_of-push : (keys : List (LogId K)) (id : LogId K) → PlacesRise keys → GoesOn (last_id keys) id → ids_of (keys ++ id ∷ []) ≡ appended (ids_of keys) id
   ids_of-push [] id h l = rw (leader_ids-one id.leader_id id.index (id.index + 1) refl) refl
   ids_of-push (key ∷ keys) id h l =
       let last : last_id (key ∷ keys) ≡ Some (final key keys) = last_id-cons key keys in
-      pushed key keys id h (subst (λ found. IsAfter found id) last l) ∙ sym (appended-after (key ∷ keys) (final key keys) id h last)
+      pushed key keys id h (subst (λ found. GoesOn found id) last l) ∙ sym (appended-after (key ∷ keys) (final key keys) id h last)

@@ -1,9 +1,8 @@
 -- A log's ids as a full list, and the keys from which it is made.
-use Rattle.std.specs.Prelude.{◌≡◌, ◌≢◌, ℕ, ◌+◌, ◌-◌, ◌<◌, ◌≤◌, ◌==◌, Bool, true, false, not, if◌then◌else◌, nat_lt, nat_le, List}
+use Rattle.std.specs.Prelude.{◌≡◌, ℕ, ◌+◌, ◌-◌, ◌<◌, ◌≤◌, ◌==◌, Bool, true, false, not, if◌then◌else◌, nat_lt, nat_le, List}
 use Rattle.std.specs.Prelude.{[], ◌∷◌, ◌++◌, map, length, take, slice_set, Option, Some, None}
-use Rattle.std.specs.List.{range_with_len, slice_get, filter, find, fold}
+use Rattle.std.specs.List.{range_with_len, slice_get, filter, find, fold, list_all}
 use Rattle.std.specs.declared.cmp.Ordering.{Ordering}
-use Rattle.std.specs.declared.cmp.Ordering.TheVariants.{Less, Greater}
 use Rattle.std.specs.Ordering.{is_eq}
 use Rattle.raft_values.specs.declared.vote.LeaderId.{LeaderId}
 use Rattle.raft_values.specs.declared.log_id.LogId.{LogId}
@@ -88,6 +87,16 @@ module _ {K : Type 0} where
   PlacesRise [] = Unit {0}
   PlacesRise (key ∷ keys) = IsBelowNext key keys × PlacesRise keys
 
+  -- the log id may come behind the last one: at a later place, whatever its leader
+  abbrev pub GoesOn : Option (LogId K) → LogId K → Type 0
+  GoesOn None id = Unit {0}
+  GoesOn (Some last) id = last.index < id.index
+
+  -- each goes on from the one before it
+  abbrev pub AllGoOn : Option (LogId K) → List (LogId K) → Type 0
+  AllGoOn last [] = Unit {0}
+  AllGoOn last (id ∷ ids) = GoesOn last id × AllGoOn (Some id) ids
+
 module _ {K : Type 0} (cmp : K → K → Ordering) where
   -- the last two have one leader
   abbrev pub ends_in_pair : List (LogId K) → Bool
@@ -96,38 +105,27 @@ module _ {K : Type 0} (cmp : K → K → Ordering) where
   ends_in_pair (id ∷ next ∷ []) = is_eq (leader_cmp cmp id.leader_id next.leader_id)
   ends_in_pair (id ∷ next ∷ later ∷ ids) = ends_in_pair (next ∷ later ∷ ids)
 
-  -- the next key has a later leader; the last one may have the same
-  abbrev pub IsLedOn : LogId K → List (LogId K) → Type 0
-  IsLedOn key [] = Unit {0}
-  IsLedOn key (next ∷ []) = leader_cmp cmp key.leader_id next.leader_id ≢ Greater
-  IsLedOn key (next ∷ later ∷ keys) = leader_cmp cmp key.leader_id next.leader_id ≡ Less
+  -- the next key has another leader; the last one may have the same
+  abbrev pub ChangesLeader : LogId K → List (LogId K) → Type 0
+  ChangesLeader key [] = Unit {0}
+  ChangesLeader key (next ∷ []) = Unit {0}
+  ChangesLeader key (next ∷ later ∷ keys) = is_eq (leader_cmp cmp key.leader_id next.leader_id) ≡ false
 
-  -- the leaders rise, where only the last two may be the same
-  abbrev pub LeadersRise : List (LogId K) → Type 0
-  LeadersRise [] = Unit {0}
-  LeadersRise (key ∷ keys) = IsLedOn key keys × LeadersRise keys
+  -- neighbours have different leaders, where only the last two may have one
+  abbrev pub LeadersChange : List (LogId K) → Type 0
+  LeadersChange [] = Unit {0}
+  LeadersChange (key ∷ keys) = ChangesLeader key keys × LeadersChange keys
 
-  -- the log ids are keys: the first one of each leader, and at the end the last one
+  -- the log ids are keys: the first one of each run of one leader, and at the end the last one
   abbrev pub AreKeys : List (LogId K) → Type 0
-  AreKeys keys = PlacesRise keys × LeadersRise keys
+  AreKeys keys = PlacesRise keys × LeadersChange keys
 
-  -- the log id may come behind the last one: at a later place, and from no earlier leader
-  abbrev pub GoesOn : Option (LogId K) → LogId K → Type 0
-  GoesOn None id = Unit {0}
-  GoesOn (Some last) id =
-      (last.index < id.index) × (leader_cmp cmp last.leader_id id.leader_id ≢ Greater)
-
-  -- each goes on from the one before it
-  abbrev pub AllGoOn : Option (LogId K) → List (LogId K) → Type 0
-  AllGoOn last [] = Unit {0}
-  AllGoOn last (id ∷ ids) = GoesOn last id × AllGoOn (Some id) ids
-
-  -- the log id begins a leader: the one before it, if any, has another
+  -- the log id begins a run of one leader: the one before it, if any, has another
   abbrev pub begins_leader : Option (LeaderId K) → LogId K → Bool
   begins_leader None id = true
   begins_leader (Some before) id = not (is_eq (leader_cmp cmp before id.leader_id))
 
-  -- the keys among the log ids behind a leader: those that begin a leader, and the last one
+  -- the keys among the log ids behind a leader: those that begin a run, and the last one
   abbrev pub keys_behind : Option (LeaderId K) → List (LogId K) → List (LogId K)
   keys_behind before [] = []
   keys_behind before (id ∷ []) = id ∷ []
@@ -135,14 +133,18 @@ module _ {K : Type 0} (cmp : K → K → Ordering) where
       if begins_leader before id then id ∷ keys_behind (Some id.leader_id) (next ∷ ids)
       else keys_behind (Some id.leader_id) (next ∷ ids)
 
-  -- the keys among log ids: the first one of each leader, and the last one of all
+  -- the keys among log ids: the first one of each run of one leader, and the last one of all
   abbrev pub keys_of : List (LogId K) → List (LogId K)
   keys_of ids = keys_behind None ids
 
-  -- those that have the leader of the last log id
-  abbrev pub of_leader : Option (LogId K) → List (LogId K) → List (LogId K)
-  of_leader None ids = []
-  of_leader (Some last) ids = filter (λ id. is_eq (leader_cmp cmp id.leader_id last.leader_id)) ids
+  -- the log id has this leader
+  abbrev pub has_leader : LeaderId K → LogId K → Bool
+  has_leader leader id = is_eq (leader_cmp cmp leader id.leader_id)
+
+  -- the last run of one leader: the longest end of the log ids that has but one
+  abbrev pub last_run : List (LogId K) → List (LogId K)
+  last_run [] = []
+  last_run (id ∷ ids) = if list_all (has_leader id.leader_id) ids then id ∷ ids else last_run ids
 
 module _ {K : Type 0} where
   -- all have this leader

@@ -3,7 +3,7 @@ ghost use Rattle.std.specs.Prelude.{map, IsTrue, ◌↔◌, ◌≡◌, ◌+◌, 
 ghost use Rattle.std.specs.List.{slice_get};
 ghost use Rattle.std.specs.Option.{option_copied};
 ghost use Rattle.raft_state.specs.LogIdList.{ids_of, last_id, id_at, appended, truncated, purged, PlacesRise, AreKeys, GoesOn};
-ghost use Rattle.raft_state.specs.LogIdList.{Reaches, ends_in_pair, keys_of, of_leader, extended, AllGoOn, IsBelowNext, IsLedOn};
+ghost use Rattle.raft_state.specs.LogIdList.{Reaches, ends_in_pair, keys_of, last_run, extended, AllGoOn, IsBelowNext, ChangesLeader};
 ghost use Rattle.raft_state.specs.LogIdList.{HaveOneLeader, KeepsFront, with_end};
 
 use crate::raft_entry::RaftLogId;
@@ -13,8 +13,9 @@ use std::alloc::{AllocError, Global};
 use std::cmp::Ordering;
 use std::marker::Model;
 
-/// The ids of a log (openraft). It keeps the first log id of each leader and the last one of all.
-/// Contracts see the full list, by rising index without a gap.
+/// The ids of a log (openraft). It keeps the first log id of each run of one leader and the last one
+/// of all. Contracts see the full list, by rising index without a gap. Its leaders may fall (own),
+/// since a peer's frames may bring any.
 #[derive(Debug, Drop)]
 pub struct LogIdList<NID: NodeId> {
     alloc: Global,
@@ -59,7 +60,7 @@ fn ends_in_pair<NID: NodeId>(keys: &[LogId<NID>]) -> bool
 
 fn append_key<NID: NodeId>(keys: &mut Vec<LogId<NID>>, id: LogId<NID>) -> Result<(), AllocError>
     requires keys { AreKeys NID.cmp keys.old.items }
-    requires goes_on { GoesOn NID.cmp (last_id keys.old.items) id }
+    requires goes_on { GoesOn (last_id keys.old.items) id }
     ensures ok { OnOk result (ids_of keys.new.items ≡ appended (ids_of keys.old.items) id) }
     ensures err { OnErr result (keys.new.items ≡ keys.old.items) }
     ensures keys { AreKeys NID.cmp keys.new.items }
@@ -81,7 +82,7 @@ fn append_keys<NID: NodeId, LID: RaftLogId<NID>>(
     new_ids: &[LID],
 ) -> Result<(), AllocError>
     requires keys { AreKeys NID.cmp keys.old.items }
-    requires go_on { AllGoOn NID.cmp (last_id keys.old.items) (map LID.id new_ids.now) }
+    requires go_on { AllGoOn (last_id keys.old.items) (map LID.id new_ids.now) }
     ensures ok { OnOk result (ids_of keys.new.items ≡ extended (ids_of keys.old.items) (map LID.id new_ids.now)) }
     ensures keys { AreKeys NID.cmp keys.new.items }
     ensures front { KeepsFront keys.old.items keys.new.items }
@@ -98,7 +99,7 @@ fn append_ends<NID: NodeId, LID: RaftLogId<NID>>(
     new_ids: &[LID],
 ) -> Result<(), AllocError>
     requires keys { AreKeys NID.cmp keys.old.items }
-    requires go_on { AllGoOn NID.cmp (last_id keys.old.items) (map LID.id new_ids.now) }
+    requires go_on { AllGoOn (last_id keys.old.items) (map LID.id new_ids.now) }
     requires one_leader { HaveOneLeader (map LID.id new_ids.now) }
     ensures ok { OnOk result (ids_of keys.new.items ≡ extended (ids_of keys.old.items) (map LID.id new_ids.now)) }
     ensures keys { AreKeys NID.cmp keys.new.items }
@@ -135,7 +136,7 @@ fn extend_keys<NID: NodeId, LID: RaftLogId<NID>>(
     new_ids: &[LID],
 ) -> Result<(), AllocError>
     requires keys { AreKeys NID.cmp keys.old.items }
-    requires go_on { AllGoOn NID.cmp (last_id keys.old.items) (map LID.id new_ids.now) }
+    requires go_on { AllGoOn (last_id keys.old.items) (map LID.id new_ids.now) }
     ensures ok { OnOk result (ids_of keys.new.items ≡ extended (ids_of keys.old.items) (map LID.id new_ids.now)) }
     ensures err { OnErr result (keys.new.items ≡ keys.old.items) }
     ensures keys { AreKeys NID.cmp keys.new.items }
@@ -156,7 +157,7 @@ fn extend_ends<NID: NodeId, LID: RaftLogId<NID>>(
     new_ids: &[LID],
 ) -> Result<(), AllocError>
     requires keys { AreKeys NID.cmp keys.old.items }
-    requires go_on { AllGoOn NID.cmp (last_id keys.old.items) (map LID.id new_ids.now) }
+    requires go_on { AllGoOn (last_id keys.old.items) (map LID.id new_ids.now) }
     requires one_leader { HaveOneLeader (map LID.id new_ids.now) }
     ensures ok { OnOk result (ids_of keys.new.items ≡ extended (ids_of keys.old.items) (map LID.id new_ids.now)) }
     ensures err { OnErr result (keys.new.items ≡ keys.old.items) }
@@ -256,17 +257,17 @@ fn purge_keys<NID: NodeId>(keys: &mut Vec<LogId<NID>>, upto: &LogId<NID>) -> Res
 
 // Whether the key may stand before these.
 fn leads_on<NID: NodeId>(key: &LogId<NID>, keys: &[LogId<NID>]) -> bool
-    ensures { IsTrue result ↔ (IsBelowNext key.now keys.now × IsLedOn NID.cmp key.now keys.now) }
+    ensures { IsTrue result ↔ (IsBelowNext key.now keys.now × ChangesLeader NID.cmp key.now keys.now) }
 {
     match keys {
         [] => true,
-        [last] => key.index < last.index && key.leader_id.cmp(&last.leader_id).is_le(),
-        [next, ..] => key.index < next.index && key.leader_id.cmp(&next.leader_id).is_lt(),
+        [last] => key.index < last.index,
+        [next, ..] => key.index < next.index && key.leader_id.cmp(&next.leader_id).is_ne(),
     }
 }
 
-/// Whether the log ids are keys in order: their indexes rise, and their leaders too, where only
-/// the last two may be of one leader (own). `LogIdList::new` takes just such keys.
+/// Whether the log ids are keys: their indexes rise, and neighbours are of different leaders, where
+/// only the last two may be of one leader (own). `LogIdList::new` takes just such keys.
 pub fn are_keys<NID: NodeId>(keys: &[LogId<NID>]) -> bool
     ensures { IsTrue result ↔ AreKeys NID.cmp keys.now }
 {
@@ -278,10 +279,10 @@ pub fn are_keys<NID: NodeId>(keys: &[LogId<NID>]) -> bool
     true
 }
 
-// The keys that the leader of the last one has.
+// The keys of the last run of one leader.
 fn keys_of_last_leader<NID: NodeId>(keys: &[LogId<NID>]) -> &[LogId<NID>]
     requires { AreKeys NID.cmp keys.now }
-    ensures { result.now ≡ of_leader NID.cmp (last_id keys.now) keys.now }
+    ensures { result.now ≡ keys_of NID.cmp (last_run NID.cmp (ids_of keys.now)) }
 {
     if ends_in_pair(keys) {
         return &keys[keys.len() - 2..];
@@ -293,7 +294,7 @@ fn keys_of_last_leader<NID: NodeId>(keys: &[LogId<NID>]) -> &[LogId<NID>]
 }
 
 impl<NID: NodeId> LogIdList<NID> {
-    /// The list that these keys stand for; `are_keys` tells whether they are in order.
+    /// The list that these keys stand for; `are_keys` tells whether they are keys.
     pub fn new(alloc: Global, key_log_ids: &[LogId<NID>]) -> Result<LogIdList<NID>, AllocError>
         requires { AreKeys NID.cmp key_log_ids.now }
         ensures { IfOk result (λ list. list ≡ ids_of key_log_ids.now) }
@@ -316,7 +317,7 @@ impl<NID: NodeId> LogIdList<NID> {
     /// Puts the log ids behind the others, one after the other; places between get the leader
     /// before. Without memory the list stays.
     pub fn extend<LID: RaftLogId<NID>>(&mut self, new_ids: &[LID]) -> Result<(), AllocError>
-        requires { AllGoOn NID.cmp (last_id self.old) (map LID.id new_ids.now) }
+        requires { AllGoOn (last_id self.old) (map LID.id new_ids.now) }
         ensures ok { OnOk result (self.new ≡ extended self.old (map LID.id new_ids.now)) }
         ensures err { OnErr result (self.new ≡ self.old) }
     {
@@ -329,7 +330,7 @@ impl<NID: NodeId> LogIdList<NID> {
         &mut self,
         new_ids: &[LID],
     ) -> Result<(), AllocError>
-        requires go_on { AllGoOn NID.cmp (last_id self.old) (map LID.id new_ids.now) }
+        requires go_on { AllGoOn (last_id self.old) (map LID.id new_ids.now) }
         requires one_leader { HaveOneLeader (map LID.id new_ids.now) }
         ensures ok { OnOk result (self.new ≡ extended self.old (map LID.id new_ids.now)) }
         ensures err { OnErr result (self.new ≡ self.old) }
@@ -337,9 +338,9 @@ impl<NID: NodeId> LogIdList<NID> {
         extend_ends(&mut self.key_log_ids, new_ids)
     }
 
-    /// The keys that the last leader has: its first log id, and the last one of all.
+    /// The keys of the last run of one leader: its first log id, and the last one of all.
     pub fn by_last_leader(&self) -> &[LogId<NID>]
-        ensures { result.now ≡ of_leader NID.cmp (last_id self.now) (keys_of NID.cmp self.now) }
+        ensures { result.now ≡ keys_of NID.cmp (last_run NID.cmp self.now) }
     {
         keys_of_last_leader(self.key_log_ids.as_slice())
     }
@@ -381,14 +382,14 @@ impl<NID: NodeId> LogIdList<NID> {
     /// Puts the log id behind the others; places between get the leader of the last one.
     /// Without memory the list stays.
     pub fn append(&mut self, new_log_id: LogId<NID>) -> Result<(), AllocError>
-        requires { GoesOn NID.cmp (last_id self.old) new_log_id }
+        requires { GoesOn (last_id self.old) new_log_id }
         ensures ok { OnOk result (self.new ≡ appended self.old new_log_id) }
         ensures err { OnErr result (self.new ≡ self.old) }
     {
         append_key(&mut self.key_log_ids, new_log_id)
     }
 
-    /// The keys: the first log id of each leader, and the last one of all.
+    /// The keys: the first log id of each run of one leader, and the last one of all.
     pub fn key_log_ids(&self) -> &[LogId<NID>]
         ensures keys { result.now ≡ keys_of NID.cmp self.now }
         ensures ids { ids_of result.now ≡ self.now }

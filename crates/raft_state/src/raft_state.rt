@@ -211,7 +211,7 @@ impl<NID: NodeId, N: Node, I: Instant> RaftState<NID, N, I> {
 
     /// Puts the log ids behind the others. Without memory the state stays.
     pub fn extend_log_ids<LID: RaftLogId<NID>>(&mut self, new_ids: &[LID]) -> Result<(), AllocError>
-        requires { AllGoOn NID.cmp (last_id self.old.log_ids) (map LID.id new_ids.now) }
+        requires { AllGoOn (last_id self.old.log_ids) (map LID.id new_ids.now) }
         ensures ok { OnOk result (self.new ≡ record self.old { log_ids = extended self.old.log_ids (map LID.id new_ids.now) }) }
         ensures err { OnErr result (self.new ≡ self.old) }
     {
@@ -223,7 +223,7 @@ impl<NID: NodeId, N: Node, I: Instant> RaftState<NID, N, I> {
         &mut self,
         new_ids: &[LID],
     ) -> Result<(), AllocError>
-        requires goes_on { AllGoOn NID.cmp (last_id self.old.log_ids) (map LID.id new_ids.now) }
+        requires goes_on { AllGoOn (last_id self.old.log_ids) (map LID.id new_ids.now) }
         requires one_leader { HaveOneLeader (map LID.id new_ids.now) }
         ensures ok { OnOk result (self.new ≡ record self.old { log_ids = extended self.old.log_ids (map LID.id new_ids.now) }) }
         ensures err { OnErr result (self.new ≡ self.old) }

@@ -43,11 +43,41 @@ fn rows(rt: HostRuntime) -> Result<(), Fail> {
     Ok(())
 }
 
+// Places have to rise, and a run of one leader has one key, but for the last. Leaders may fall.
 #[test]
-fn keys_out_of_order_are_told(rt: HostRuntime) -> Result<(), Fail> {
+fn what_are_no_keys_is_told(rt: HostRuntime) -> Result<(), Fail> {
     assert!(rt; !are_keys(&[id(1, 1, 1), id(1, 1, 4), id(2, 1, 5)]));
-    assert!(rt; !are_keys(&[id(2, 1, 1), id(1, 1, 4)]));
     assert!(rt; !are_keys(&[id(1, 1, 4), id(2, 1, 4)]));
+    assert!(rt; are_keys(&[id(2, 1, 1), id(1, 1, 4)]));
+    assert!(rt; are_keys(&[id(2, 1, 1), id(1, 1, 4), id(2, 1, 5)]));
+    Ok(())
+}
+
+// Leaders 3, 1 and 3 again, of which the last has two log ids.
+#[test]
+fn leaders_may_fall(rt: HostRuntime) -> Result<(), Fail> {
+    let mut list = LogIdList::default(rt.alloc());
+    list.extend(&[
+        id(3, 1, 0),
+        id(1, 2, 1),
+        id(1, 2, 2),
+        id(3, 1, 3),
+        id(3, 1, 4),
+    ])?;
+    assert_eq!(rt;
+        list.key_log_ids(),
+        [id(3, 1, 0), id(1, 2, 1), id(3, 1, 3), id(3, 1, 4)].as_slice()
+    );
+    assert_eq!(rt;
+        list.by_last_leader(),
+        [id(3, 1, 3), id(3, 1, 4)].as_slice()
+    );
+    assert_eq!(rt; list.get(2), Some(id(1, 2, 2)));
+    list.truncate(3);
+    assert_eq!(rt;
+        list.by_last_leader(),
+        [id(1, 2, 1), id(1, 2, 2)].as_slice()
+    );
     Ok(())
 }
 

@@ -3,8 +3,8 @@ use Rattle.std.proofs.Common.{◌≡◌, ℕ, zero, suc, ◌^◌, ◌<◌, ◌�
 use Rattle.std.specs.Prelude.{IfSome}
 use Rattle.std.specs.Int.{w64, to_be_bytes}
 use Rattle.std.proofs.lemmas.Bool.{eqb-true, eq-eqb}
-use Rattle.raft_engine.specs.declared.vote_message.VoteRequest.{VoteRequest}
-use Rattle.raft_engine.specs.declared.vote_message.VoteResponse.{VoteResponse}
+use Rattle.raft_group_step.specs.declared.vote_message.VoteRequest.{VoteRequest}
+use Rattle.raft_group_step.specs.declared.vote_message.VoteResponse.{VoteResponse}
 use Rattle.raft_wire.specs.declared.error.FrameFault.{FrameFault}
 use Rattle.raft_wire.specs.declared.error.FrameFault.TheVariants as fault
 use Rattle.raft_wire.specs.declared.frame.AppendId.{AppendId}

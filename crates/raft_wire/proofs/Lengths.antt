@@ -8,7 +8,7 @@ use Rattle.std.proofs.Math.Nat.{suc-mul}
 use Rattle.raft_values.specs.declared.vote.Vote.{Vote}
 use Rattle.raft_values.specs.declared.log_id.LogId.{LogId}
 use Rattle.raft_state.specs.declared.entry.EntryPayload.TheVariants.{Blank, Normal, Membership as Members}
-use Rattle.raft_engine.specs.Values.{is_within_limits}
+use Rattle.raft_group_step.specs.Values.{is_within_limits}
 use Rattle.raft_wire.specs.declared.error.FrameFault.{FrameFault}
 use Rattle.raft_wire.specs.declared.error.FrameFault.TheVariants as fault
 use Rattle.raft_wire.specs.declared.frame.AppendId.{AppendId}

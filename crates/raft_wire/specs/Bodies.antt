@@ -4,10 +4,10 @@ use Rattle.std.specs.Prelude.{None, Ok, Err, IfSome, if◌then◌else◌}
 use Rattle.std.specs.Int.{w64, to_be_bytes}
 use Rattle.raft_values.specs.declared.vote.Vote.{Vote}
 use Rattle.raft_values.specs.declared.log_id.LogId.{LogId}
-use Rattle.raft_engine.specs.declared.vote_message.VoteRequest.{VoteRequest}
-use Rattle.raft_engine.specs.declared.vote_message.VoteResponse.{VoteResponse}
-use Rattle.raft_engine.specs.declared.snapshot_message.LoggedMembership.{LoggedMembership as LoggedMembershipOf}
-use Rattle.raft_engine.specs.declared.snapshot_message.SnapshotMeta.{SnapshotMeta as SnapshotMetaOf}
+use Rattle.raft_group_step.specs.declared.vote_message.VoteRequest.{VoteRequest}
+use Rattle.raft_group_step.specs.declared.vote_message.VoteResponse.{VoteResponse}
+use Rattle.raft_group_step.specs.declared.snapshot_message.LoggedMembership.{LoggedMembership as LoggedMembershipOf}
+use Rattle.raft_group_step.specs.declared.snapshot_message.SnapshotMeta.{SnapshotMeta as SnapshotMetaOf}
 use Rattle.raft_wire.specs.declared.error.FrameFault.TheVariants as fault
 use Rattle.raft_wire.specs.declared.frame.AppendId.{AppendId}
 use Rattle.raft_wire.specs.declared.frame.AppendId.TheVariants.{HeartBeat, Numbered}

@@ -3,9 +3,9 @@ use Rattle.std.specs.Prelude.{ℕ, zero, suc, ◌<◌, ◌^◌, nat_le, ◌&&◌
 use Rattle.std.specs.Prelude.{length, Option, Some, None, Ok, Err, if◌then◌else◌, All, IfSome}
 use Rattle.std.specs.List.{list_all}
 use Rattle.std.specs.Int.{w32, w64, to_be_bytes}
-use Rattle.raft_engine.specs.declared.vote_message.VoteRequest.{VoteRequest as VoteAsked}
-use Rattle.raft_engine.specs.declared.vote_message.VoteResponse.{VoteResponse}
-use Rattle.raft_engine.specs.Values.{is_within_limits}
+use Rattle.raft_group_step.specs.declared.vote_message.VoteRequest.{VoteRequest as VoteAsked}
+use Rattle.raft_group_step.specs.declared.vote_message.VoteResponse.{VoteResponse}
+use Rattle.raft_group_step.specs.Values.{is_within_limits}
 use Rattle.raft_wire.specs.declared.error.FrameFault.{FrameFault}
 use Rattle.raft_wire.specs.declared.error.FrameFault.TheVariants as fault
 use Rattle.raft_wire.specs.declared.frame.AppendFrame.{AppendFrame}

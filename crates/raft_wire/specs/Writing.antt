@@ -4,9 +4,9 @@ use Rattle.std.specs.Prelude.{Vec, if◌then◌else◌}
 use Rattle.std.specs.declared.alloc.Global.{Global}
 use Rattle.std.specs.Ordering.{nat_cmp}
 use Rattle.raft_quorums.specs.Rising.{IsRisingByFirst}
-use Rattle.raft_engine.specs.declared.snapshot_message.LoggedMembership.{LoggedMembership}
+use Rattle.raft_group_step.specs.declared.snapshot_message.LoggedMembership.{LoggedMembership}
 use Rattle.raft_state.specs.declared.entry.EntryPayload.TheVariants.{Blank, Normal, Membership as Members}
-use Rattle.raft_engine.specs.Values.{is_within_limits}
+use Rattle.raft_group_step.specs.Values.{is_within_limits}
 use Rattle.raft_wire.specs.declared.error.FrameFault.{FrameFault}
 use Rattle.raft_wire.specs.declared.error.FrameFault.TheVariants as fault
 use Rattle.raft_wire.specs.declared.error.FrameError.{FrameError}

@@ -2,7 +2,7 @@
 ghost use Rattle.std.specs.Prelude.{◌≡◌};
 ghost use Rattle.raft_wire.specs.Frames.{kind_of};
 
-use raft_engine::{AppendEntriesRequest, InstallSnapshotRequest, VoteRequest, VoteResponse};
+use raft_group_step::{AppendEntriesRequest, InstallSnapshotRequest, VoteRequest, VoteResponse};
 use raft_state::{BasicNode, Command, LogId, Vote};
 
 /// Which append request a frame is about (own).

@@ -24,6 +24,6 @@ pub use laws::{
     spelled_frames_are_found,
 };
 pub use memberships::{MAX_ADDRESS_LEN, MAX_GROUPS, MAX_NODES, MAX_VOTERS, is_within_limits};
-pub use raft_engine::SnapshotMeta;
+pub use raft_group_step::SnapshotMeta;
 pub use reading::{MAX_ENTRIES, MAX_SNAPSHOT_LEN, WireSnapshot};
 pub use writing::write_frame;

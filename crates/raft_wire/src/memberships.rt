@@ -1,7 +1,7 @@
 //! Memberships, read from the front of bytes and written behind others.
 ghost use Rattle.std.specs.Prelude.{◌≡◌, ◌++◌, ◌≤◌, ◌<◌, ◌^◌, ℕ, List, None, true, nat_le, length, OnOk, All, IfOk};
 ghost use Rattle.std.specs.List.{list_all};
-ghost use Rattle.raft_engine.specs.Values.{is_within_limits};
+ghost use Rattle.raft_group_step.specs.Values.{is_within_limits};
 ghost use Rattle.raft_wire.specs.Reader.{Gives, many_at, counted_at};
 ghost use Rattle.raft_wire.specs.Memberships.{id_above, that_id, ids_at, nothing_left, is_above, address_at};
 ghost use Rattle.raft_wire.specs.Memberships.{node_above, that_node, membership_at};

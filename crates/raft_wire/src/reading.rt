@@ -16,7 +16,7 @@ use crate::frame::{
     SnapshotFrame, SnapshotReplyFrame, SnapshotResult,
 };
 use crate::memberships::membership_of;
-use raft_engine::{
+use raft_group_step::{
     AppendEntriesRequest, Entries, InstallSnapshotRequest, LoggedMembership, SnapshotMeta,
     VoteRequest, VoteResponse,
 };

@@ -2,7 +2,7 @@
 ghost use Rattle.std.specs.Prelude.{◌≡◌, ◌≤◌, ◌<◌, ◌-◌, ◌^◌, ◌++◌, ◌&&◌, ◌∷◌, true, nat_le, None, All, drop, length, OnOk, IfOk, IfSome};
 ghost use Rattle.std.specs.List.{flat_map, list_all};
 ghost use Rattle.std.specs.Int.{w32, w64, to_be_bytes};
-ghost use Rattle.raft_engine.specs.Values.{is_within_limits};
+ghost use Rattle.raft_group_step.specs.Values.{is_within_limits};
 ghost use Rattle.raft_wire.specs.Memberships.{spelled_list};
 ghost use Rattle.raft_wire.specs.Entries.{spelled_entry, FitsEntry};
 ghost use Rattle.raft_wire.specs.Writing.{Writes, is_payload_short, AreNodesRising, AreLoggedNodesRising};
@@ -28,7 +28,7 @@ use crate::frame::{
 };
 use crate::memberships::{is_within_limits, put_membership};
 use crate::reading::{MAX_ENTRIES, MAX_SNAPSHOT_LEN};
-use raft_engine::{LoggedMembership, SnapshotMeta, VoteRequest, VoteResponse};
+use raft_group_step::{LoggedMembership, SnapshotMeta, VoteRequest, VoteResponse};
 use raft_state::{BasicNode, Bytes, LogId};
 use std::alloc::{AllocError, Global};
 

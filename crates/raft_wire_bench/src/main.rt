@@ -5,7 +5,7 @@
 //! the rounds. Its answer is the frame's length.
 #![tactic(auto)]
 
-use raft_engine::{AppendEntriesRequest, Entries};
+use raft_group_step::{AppendEntriesRequest, Entries};
 use raft_state::{Command, Entry, EntryPayload, LeaderId, LogId, Vote};
 use raft_wire::{
     AppendFrame, AppendId, Feeder, Frame, FrameBody, FrameError, WireEntry, write_frame,

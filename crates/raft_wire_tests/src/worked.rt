@@ -1,5 +1,5 @@
 //! The worked frames as values, in the order of their bytes.
-use raft_engine::{
+use raft_group_step::{
     AppendEntriesRequest, Entries, InstallSnapshotRequest, LoggedMembership, SnapshotMeta,
     VoteRequest, VoteResponse,
 };

@@ -1,9 +1,9 @@
 -- What nodes know to be committed, what they applied, and their snapshots are fronts of the group's list.
 use Rattle.std.specs.Prelude.{◌≡◌, ℕ, zero, suc, ◌≤◌, List, [], ◌∷◌, length, take, Some, None, refl}
 use Rattle.std.proofs.Common.{sym, ap, ◌∙◌, subst, arith}
-use Rattle.raft_engine.specs.StoredGroup.{StoredGroup, Holds, held, prefix_of}
-use Rattle.raft_engine.specs.GroupState.{GroupState}
-use Rattle.raft_engine.specs.SnapshotRequest.{place_above}
+use Rattle.raft_group_step.specs.StoredGroup.{StoredGroup, Holds, held, prefix_of}
+use Rattle.raft_group_step.specs.GroupState.{GroupState}
+use Rattle.raft_group_step.specs.SnapshotRequest.{place_above}
 use Rattle.raft_world.specs.BallotLists.{AgreeBelow}
 use Rattle.raft_world.specs.BallotWorld.{BallotWorld}
 use Rattle.raft_world.specs.BallotRanks.{ballot_group}

@@ -4,11 +4,11 @@ use Rattle.std.proofs.Common.{sym, ap, ◌∙◌, arith, ⊎_elim, eqb-true, eq-
 use Rattle.std.proofs.lemmas.Bool.{and_from, and_parts, cond-false, cases_Bool, cases_lt, eqb-false, false_from_ne_true}
 use Rattle.std.proofs.lemmas.Option.{slice_get_past}
 use Rattle.raft_values.specs.declared.log_id.LogId.{LogId}
-use Rattle.raft_engine.specs.Values.{Membership, Entry, log_id_eq, leader_eq}
-use Rattle.raft_engine.specs.StoredGroup.{StoredGroup, first_place, id_of, is_id, has_id_in_log}
-use Rattle.raft_engine.specs.StepResult.{is_within}
-use Rattle.raft_engine.specs.SnapshotRequest.{place_above}
-use Rattle.raft_engine.specs.AppendRequest.{above_committed, missing_entries}
+use Rattle.raft_group_step.specs.Values.{Membership, Entry, log_id_eq, leader_eq}
+use Rattle.raft_group_step.specs.StoredGroup.{StoredGroup, first_place, id_of, is_id, has_id_in_log}
+use Rattle.raft_group_step.specs.StepResult.{is_within}
+use Rattle.raft_group_step.specs.SnapshotRequest.{place_above}
+use Rattle.raft_group_step.specs.AppendRequest.{above_committed, missing_entries}
 use Rattle.raft_world.specs.BallotLogs.{BallotEntry, holds_before}
 use Rattle.raft_world.specs.BallotRanks.{rank_of, ballot_entry, ballot_log}
 use Rattle.raft_world.proofs.BallotAgreement.{some_at, same_some}

@@ -7,8 +7,8 @@ use Rattle.std.proofs.lemmas.Option.{slice_get_within}
 use Rattle.raft_values.specs.declared.vote.Vote.{Vote}
 use Rattle.raft_values.specs.declared.log_id.LogId.{LogId}
 use Rattle.raft_quorums.specs.Quorum.{is_quorum as is_quorum_of}
-use Rattle.raft_engine.specs.Values.{Membership, Entry, is_written_by, vote_eq}
-use Rattle.raft_engine.specs.Message.{Message}
+use Rattle.raft_group_step.specs.Values.{Membership, Entry, is_written_by, vote_eq}
+use Rattle.raft_group_step.specs.Message.{Message}
 use Rattle.raft_world.specs.BallotLists.{AgreeBelow}
 use Rattle.raft_world.specs.BallotLogs.{BallotEntry}
 use Rattle.raft_world.specs.BallotQuorum.{is_quorum}

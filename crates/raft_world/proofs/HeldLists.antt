@@ -4,9 +4,9 @@ use Rattle.std.proofs.Common.{sym, ap, ◌∙◌, subst, arith, ⊎_elim, append
 use Rattle.std.proofs.lemmas.Bool.{and_from}
 use Rattle.std.proofs.lemmas.Option.{slice_get_within}
 use Rattle.raft_values.specs.declared.vote.Vote.{Vote}
-use Rattle.raft_engine.specs.Values.{Membership, Entry, vote_lt}
-use Rattle.raft_engine.specs.StoredGroup.{StoredGroup, Holds, first_place, held, prefix_of}
-use Rattle.raft_engine.specs.GroupState.{GroupState, Role, Follower, Candidate, Leader, is_leader}
+use Rattle.raft_group_step.specs.Values.{Membership, Entry, vote_lt}
+use Rattle.raft_group_step.specs.StoredGroup.{StoredGroup, Holds, first_place, held, prefix_of}
+use Rattle.raft_group_step.specs.GroupState.{GroupState, Role, Follower, Candidate, Leader, is_leader}
 use Rattle.raft_world.specs.BallotLists.{AgreeBelow}
 use Rattle.raft_world.specs.BallotLogs.{BallotEntry}
 use Rattle.raft_world.specs.BallotWorld.{BallotWorld, BallotEvent, is_ballot_leader}

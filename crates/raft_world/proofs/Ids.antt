@@ -6,9 +6,9 @@ use Rattle.std.proofs.lemmas.Option.{slice_get-map}
 use Rattle.std.proofs.lemmas.Bool.{cond-true, cond-false, cases_eq}
 use Rattle.raft_values.specs.declared.log_id.LogId.{LogId}
 use Rattle.raft_values.specs.LogId.{next_place}
-use Rattle.raft_engine.specs.Values.{Membership}
-use Rattle.raft_engine.specs.Values.{Entry}
-use Rattle.raft_engine.specs.StoredGroup.{StoredGroup, first_place, end_place, id_of, id_at, id_before, last_id}
+use Rattle.raft_group_step.specs.Values.{Membership}
+use Rattle.raft_group_step.specs.Values.{Entry}
+use Rattle.raft_group_step.specs.StoredGroup.{StoredGroup, first_place, end_place, id_of, id_at, id_before, last_id}
 use Rattle.raft_world.specs.BallotLogs.{BallotEntry, LogEnd, ballot_of, ballot_before, last_ballot, log_end}
 use Rattle.raft_world.specs.BallotWorld.{BallotNode}
 use Rattle.raft_world.specs.BallotRanks.{ballot_entry, ballot_log}

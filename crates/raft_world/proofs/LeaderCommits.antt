@@ -5,20 +5,20 @@ use Rattle.std.proofs.lemmas.Bool.{and_parts}
 use Rattle.raft_values.specs.declared.vote.Vote.{Vote}
 use Rattle.raft_values.specs.declared.log_id.LogId.{LogId}
 use Rattle.raft_values.specs.LogId.{place_of}
-use Rattle.raft_engine.specs.Values.{Membership, Entry, vote_lt}
-use Rattle.raft_engine.specs.StoredGroup.{StoredGroup, StoringCommand, CutFrom, Snapshot, after_storing_all, entry_at, first_place, has_id_in_log, held, membership_in_force, prefix_of, snapshot_last}
-use Rattle.raft_engine.specs.Message.{MessageBody, VoteRequest, VoteReply, AppendRequest, AppendReply, SnapshotRequest, SnapshotReply, AppendFields}
-use Rattle.raft_engine.specs.GroupState.{GroupState, Role, Follower, Candidate, Leader, is_leader, state_of}
-use Rattle.raft_engine.specs.GroupEvent.{GroupEvent, AddGroup, Call, Receive, Open}
-use Rattle.raft_engine.specs.StepResult.{RefusalReason, StepResult, is_within, refused_step, renew, step_down, store, store_vote, take_over}
-use Rattle.raft_engine.specs.Lead.{commit_as_leader, purge_as_wished, purge_up_to, with_wish}
-use Rattle.raft_engine.specs.Peer.{is_kept_for_peers}
-use Rattle.raft_engine.specs.Frames.{has_grown}
-use Rattle.raft_engine.specs.VoteRequest.{may_grant}
-use Rattle.raft_engine.specs.AppendRequest.{above_committed, cut_at, cut_from, heard, is_held, joined, missing_entries, put_entries}
-use Rattle.raft_engine.specs.SnapshotRequest.{cut_other, install_unless, offered, place_above}
-use Rattle.raft_engine.specs.Refusal.{do_follow, has_known_snapshot, is_of_leader, is_sound, keep_voters, refusal_of}
-use Rattle.raft_engine.specs.GroupStep.{begun, event_step, finished, group_step, message_step, step_unless}
+use Rattle.raft_group_step.specs.Values.{Membership, Entry, vote_lt}
+use Rattle.raft_group_step.specs.StoredGroup.{StoredGroup, StoringCommand, CutFrom, Snapshot, after_storing_all, entry_at, first_place, has_id_in_log, held, membership_in_force, prefix_of, snapshot_last}
+use Rattle.raft_group_step.specs.Message.{MessageBody, VoteRequest, VoteReply, AppendRequest, AppendReply, SnapshotRequest, SnapshotReply, AppendFields}
+use Rattle.raft_group_step.specs.GroupState.{GroupState, Role, Follower, Candidate, Leader, is_leader, state_of}
+use Rattle.raft_group_step.specs.GroupEvent.{GroupEvent, AddGroup, Call, Receive, Open}
+use Rattle.raft_group_step.specs.StepResult.{RefusalReason, StepResult, is_within, refused_step, renew, step_down, store, store_vote, take_over}
+use Rattle.raft_group_step.specs.Lead.{commit_as_leader, purge_as_wished, purge_up_to, with_wish}
+use Rattle.raft_group_step.specs.Peer.{is_kept_for_peers}
+use Rattle.raft_group_step.specs.Frames.{has_grown}
+use Rattle.raft_group_step.specs.VoteRequest.{may_grant}
+use Rattle.raft_group_step.specs.AppendRequest.{above_committed, cut_at, cut_from, heard, is_held, joined, missing_entries, put_entries}
+use Rattle.raft_group_step.specs.SnapshotRequest.{cut_other, install_unless, offered, place_above}
+use Rattle.raft_group_step.specs.Refusal.{do_follow, has_known_snapshot, is_of_leader, is_sound, keep_voters, refusal_of}
+use Rattle.raft_group_step.specs.GroupStep.{begun, event_step, finished, group_step, message_step, step_unless}
 use Rattle.raft_world.specs.BallotWorld.{BallotWorld, BallotEvent}
 use Rattle.raft_world.specs.declared.world_event.WorldEvent.{WorldEvent}
 use Rattle.raft_world.specs.GroupWorld.{GroupWorld, NodeState, Absent, Up, Down, Outcome, is_stop, new_world, state_or}

@@ -2,10 +2,10 @@
 use Rattle.std.specs.Prelude.{◌≡◌, ℕ, zero, suc, ◌≤◌, List, [], ◌∷◌, ◌++◌, length, take, drop, ◌+◌, Option, Some, None, option_and_then, refl}
 use Rattle.std.proofs.Common.{sym, ap, ◌∙◌, arith, take-append-drop}
 use Rattle.raft_values.specs.declared.log_id.LogId.{LogId}
-use Rattle.raft_engine.specs.Values.{Membership}
-use Rattle.raft_engine.specs.Values.{Entry, EntryPayload, LoggedMembership, membership_after, last_membership}
+use Rattle.raft_group_step.specs.Values.{Membership}
+use Rattle.raft_group_step.specs.Values.{Entry, EntryPayload, LoggedMembership, membership_after, last_membership}
 use Rattle.raft_state.specs.declared.entry.EntryPayload.TheVariants.{Blank, Normal, Membership as Members}
-use Rattle.raft_engine.specs.StoredGroup.{StoredGroup, Snapshot, first_place, prefix_of, membership_in_force}
+use Rattle.raft_group_step.specs.StoredGroup.{StoredGroup, Snapshot, first_place, prefix_of, membership_in_force}
 use Rattle.raft_world.proofs.BallotAgreement.{same_some}
 use Rattle.raft_world.proofs.Shapes.{Good, Joined, good_drop}
 

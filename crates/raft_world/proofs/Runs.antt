@@ -1,9 +1,9 @@
 -- A history replays just where some run gives it.
 use Rattle.std.specs.Prelude.{◌≡◌, ℕ, Bool, true, false, List, [], ◌∷◌, Option, Some, None, is_some, unwrap_or, refl}
 use Rattle.std.proofs.Common.{ap, sym, ◌∙◌}
-use Rattle.raft_engine.specs.GroupState.{GroupState}
-use Rattle.raft_engine.specs.GroupEvent.{GroupEvent}
-use Rattle.raft_engine.specs.StepResult.{StepResult, RefusalReason}
+use Rattle.raft_group_step.specs.GroupState.{GroupState}
+use Rattle.raft_group_step.specs.GroupEvent.{GroupEvent}
+use Rattle.raft_group_step.specs.StepResult.{StepResult, RefusalReason}
 use Rattle.raft_world.specs.declared.world_event.WorldEvent.{WorldEvent}
 use Rattle.raft_world.specs.GroupWorld.{GroupWorld, NodeState, Absent, Up, Down, Outcome, Done, Refused, Stopped, Skipped, Recorded, is_stop}
 use Rattle.raft_world.specs.NodeEvent.{NodeEvent, Comes, Crashes, Restarts, outcome_at, outcome_of_end, outcome_of_step}

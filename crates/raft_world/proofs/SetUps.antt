@@ -5,20 +5,20 @@ use Rattle.std.specs.Cmp.Lexicographic.{pointwise}
 use Rattle.std.proofs.Common.{ap₂, ◌∙◌, eqb-true}
 use Rattle.std.proofs.lemmas.Bool.{and_parts}
 use Rattle.raft_quorums.specs.Quorum.{is_quorum}
-use Rattle.raft_engine.specs.Values.{Membership, entry_of, has_id, is_written_by, configs_eq, nodes_eq, membership_eq}
-use Rattle.raft_engine.specs.GroupState.{Lead, Role, Follower, Candidate, Leader}
-use Rattle.raft_engine.specs.Peer.{PeerState, is_kept_for_peers}
-use Rattle.raft_engine.specs.StoredGroup.{PutEntries, Snapshot, entry_at, first_place, id_of}
+use Rattle.raft_group_step.specs.Values.{Membership, entry_of, has_id, is_written_by, configs_eq, nodes_eq, membership_eq}
+use Rattle.raft_group_step.specs.GroupState.{Lead, Role, Follower, Candidate, Leader}
+use Rattle.raft_group_step.specs.Peer.{PeerState, is_kept_for_peers}
+use Rattle.raft_group_step.specs.StoredGroup.{PutEntries, Snapshot, entry_at, first_place, id_of}
 use Rattle.raft_state.specs.declared.entry.EntryPayload.TheVariants.{Blank, Membership as Members}
 use Rattle.raft_values.specs.declared.log_id.LogId.{LogId}
 use Rattle.raft_values.specs.LogId.{log_id_of}
 use Rattle.raft_values.specs.Vote.{vote_of}
-use Rattle.raft_engine.specs.StepResult.{StepResult, append, in_role, send, step_down, store, store_vote}
-use Rattle.raft_engine.specs.Elect.{ask, other_voters, stand}
-use Rattle.raft_engine.specs.Initialize.{initialize_step}
-use Rattle.raft_engine.specs.Lead.{append_blank, commit_as_leader, committed_vote, configs_in_force, lead_if, new_lead, other_ids, peer_of, purge_as_wished, purge_up_to, remove_up_to, with_grant, with_wish}
-use Rattle.raft_engine.specs.Frames.{has_grown, lacks_entries, notice, send_entries, send_request, send_snapshot, serve_all, serve_as, with_frames}
-use Rattle.raft_engine.specs.GroupStep.{finished}
+use Rattle.raft_group_step.specs.StepResult.{StepResult, append, in_role, send, step_down, store, store_vote}
+use Rattle.raft_group_step.specs.Elect.{ask, other_voters, stand}
+use Rattle.raft_group_step.specs.Initialize.{initialize_step}
+use Rattle.raft_group_step.specs.Lead.{append_blank, commit_as_leader, committed_vote, configs_in_force, lead_if, new_lead, other_ids, peer_of, purge_as_wished, purge_up_to, remove_up_to, with_grant, with_wish}
+use Rattle.raft_group_step.specs.Frames.{has_grown, lacks_entries, notice, send_entries, send_request, send_snapshot, serve_all, serve_as, with_frames}
+use Rattle.raft_group_step.specs.GroupStep.{finished}
 use Rattle.raft_world.proofs.StepWords.{either}
 use Rattle.raft_world.proofs.TrackCalls.{configs_same}
 

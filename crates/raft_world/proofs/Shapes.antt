@@ -4,10 +4,10 @@ use Rattle.std.proofs.Common.{sym, ap, ◌∙◌, arith, ⊎_elim, lt-ltb, le-lt
 use Rattle.std.proofs.lemmas.List.{drop-drop, drop-take, drop-append-le, take-append-le}
 use Rattle.std.proofs.lemmas.Bool.{cases_lt, cond-true, cond-false}
 use Rattle.raft_values.specs.declared.log_id.LogId.{LogId}
-use Rattle.raft_engine.specs.Values.{Membership}
-use Rattle.raft_engine.specs.Values.{Entry}
+use Rattle.raft_group_step.specs.Values.{Membership}
+use Rattle.raft_group_step.specs.Values.{Entry}
 use Rattle.raft_state.specs.declared.entry.EntryPayload.TheVariants.{Membership as Members}
-use Rattle.raft_engine.specs.StoredGroup.{StoredGroup, Snapshot, PutEntries, CutFrom, RemoveUpTo, SetSnapshot, after_storing, first_place, end_place, entry_at, prefix_of, held}
+use Rattle.raft_group_step.specs.StoredGroup.{StoredGroup, Snapshot, PutEntries, CutFrom, RemoveUpTo, SetSnapshot, after_storing, first_place, end_place, entry_at, prefix_of, held}
 
 pub slice_take : {A : Type 0} (k : ℕ) (xs : List A) (i : ℕ) → i < k → slice_get (take k xs) i ≡ slice_get xs i
 slice_take zero xs i l = absurd (omega arith)

@@ -4,13 +4,13 @@ use Rattle.std.proofs.Common.{inl, sym, ap, ◌∙◌, subst}
 use Rattle.raft_values.specs.declared.log_id.LogId.{LogId}
 use Rattle.raft_values.specs.declared.vote.Vote.{Vote}
 use Rattle.raft_values.specs.LogId.{next_place}
-use Rattle.raft_engine.specs.Values.{Membership}
-use Rattle.raft_engine.specs.Values.{Entry, last_membership}
-use Rattle.raft_engine.specs.StoredGroup.{StoredGroup, Snapshot, prefix_of, held}
-use Rattle.raft_engine.specs.Message.{Message, MessageBody, VoteRequest, VoteReply, AppendRequest, AppendReply, SnapshotRequest, SnapshotReply, AppendFields, ReplyFields, ReplyResult, Success, Conflict, HigherVote}
-use Rattle.raft_engine.specs.Peer.{PeerState, Outstanding}
-use Rattle.raft_engine.specs.GroupState.{GroupState, Role, Follower, Candidate, Leader}
-use Rattle.raft_engine.specs.SnapshotRequest.{place_above}
+use Rattle.raft_group_step.specs.Values.{Membership}
+use Rattle.raft_group_step.specs.Values.{Entry, last_membership}
+use Rattle.raft_group_step.specs.StoredGroup.{StoredGroup, Snapshot, prefix_of, held}
+use Rattle.raft_group_step.specs.Message.{Message, MessageBody, VoteRequest, VoteReply, AppendRequest, AppendReply, SnapshotRequest, SnapshotReply, AppendFields, ReplyFields, ReplyResult, Success, Conflict, HigherVote}
+use Rattle.raft_group_step.specs.Peer.{PeerState, Outstanding}
+use Rattle.raft_group_step.specs.GroupState.{GroupState, Role, Follower, Candidate, Leader}
+use Rattle.raft_group_step.specs.SnapshotRequest.{place_above}
 use Rattle.raft_world.specs.BallotLogs.{BallotEntry}
 use Rattle.raft_world.specs.BallotWorld.{BallotNode, BallotRequest, BallotGrant, BallotAppend, BallotReply, BallotWorld}
 use Rattle.raft_world.specs.BallotRanks.{rank_of, ballot_log}

@@ -5,19 +5,19 @@ use Rattle.std.proofs.lemmas.Bool.{ltb-false}
 use Rattle.std.proofs.lemmas.Option.{slice_get_within}
 use Rattle.raft_values.specs.LogId.{log_id_of, next_place}
 use Rattle.raft_state.specs.declared.entry.EntryPayload.TheVariants.{Normal, Membership as Members}
-use Rattle.raft_engine.specs.Values.{after_change, ChangeMembers, configs_eq, Entry, entry_of, EntryPayload, LoggedMembership, Membership}
-use Rattle.raft_engine.specs.StoredGroup.{StoredGroup, Snapshot, PutEntries, entry_at, id_of, membership_in_force, prefix_of, snapshot_last, held}
-use Rattle.raft_engine.specs.GroupState.{GroupState, Lead, Role, Follower, Candidate, Leader, is_leader}
-use Rattle.raft_engine.specs.declared.group_call.GroupCall.TheVariants.{Initialize, Elect, Propose, ChangeMembership, Heartbeat, Lost, TriggerSnapshot, TriggerPurge}
-use Rattle.raft_engine.specs.GroupEvent.{GroupCall, Call}
-use Rattle.raft_engine.specs.StepResult.{RefusalReason, NotLeader, NotVoter, NotAllowed, VoterChange, StepResult, store, later_place}
-use Rattle.raft_engine.specs.Lead.{with_wish}
-use Rattle.raft_engine.specs.Initialize.{is_new, initialize_step}
-use Rattle.raft_engine.specs.MembershipStep.{append_changed}
-use Rattle.raft_engine.specs.PurgeTrigger.{purge_as, purge_within}
-use Rattle.raft_engine.specs.SnapshotTrigger.{snapshot_at, store_snapshot_at, snapshot_of_applied}
-use Rattle.raft_engine.specs.GroupStep.{begun, call_step}
-use Rattle.raft_engine.specs.Refusal.{unless, first_of_reasons, known_leader, is_voter_in, reasons_of, reasons_of_call, reasons_of_change, refusal_of}
+use Rattle.raft_group_step.specs.Values.{after_change, ChangeMembers, configs_eq, Entry, entry_of, EntryPayload, LoggedMembership, Membership}
+use Rattle.raft_group_step.specs.StoredGroup.{StoredGroup, Snapshot, PutEntries, entry_at, id_of, membership_in_force, prefix_of, snapshot_last, held}
+use Rattle.raft_group_step.specs.GroupState.{GroupState, Lead, Role, Follower, Candidate, Leader, is_leader}
+use Rattle.raft_group_step.specs.declared.group_call.GroupCall.TheVariants.{Initialize, Elect, Propose, ChangeMembership, Heartbeat, Lost, TriggerSnapshot, TriggerPurge}
+use Rattle.raft_group_step.specs.GroupEvent.{GroupCall, Call}
+use Rattle.raft_group_step.specs.StepResult.{RefusalReason, NotLeader, NotVoter, NotAllowed, VoterChange, StepResult, store, later_place}
+use Rattle.raft_group_step.specs.Lead.{with_wish}
+use Rattle.raft_group_step.specs.Initialize.{is_new, initialize_step}
+use Rattle.raft_group_step.specs.MembershipStep.{append_changed}
+use Rattle.raft_group_step.specs.PurgeTrigger.{purge_as, purge_within}
+use Rattle.raft_group_step.specs.SnapshotTrigger.{snapshot_at, store_snapshot_at, snapshot_of_applied}
+use Rattle.raft_group_step.specs.GroupStep.{begun, call_step}
+use Rattle.raft_group_step.specs.Refusal.{unless, first_of_reasons, known_leader, is_voter_in, reasons_of, reasons_of_call, reasons_of_change, refusal_of}
 use Rattle.raft_world.specs.BallotWorld.{BallotWorld, BallotEvent}
 use Rattle.raft_world.proofs.BallotOthers.{extends_refl}
 use Rattle.raft_world.proofs.Shapes.{joined_held, joined_at}

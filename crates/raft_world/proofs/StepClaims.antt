@@ -10,27 +10,27 @@ use Rattle.raft_values.specs.LogId.{next_place, place_of}
 use Rattle.raft_values.specs.Vote.{vote_of}
 use Rattle.raft_quorums.specs.Quorum.{is_quorum}
 use Rattle.raft_state.specs.declared.entry.EntryPayload.TheVariants.{Blank, Membership as Members}
-use Rattle.raft_engine.specs.Values.{after_change, ChangeMembers, Entry, EntryPayload, has_id, is_written_by, LoggedMembership, vote_eq, vote_lt}
-use Rattle.raft_engine.specs.StoredGroup.{StoringCommand, MakeGroup, SetVote, PutEntries, CutFrom, RemoveUpTo, SetSnapshot, StartAfter, Snapshot, after_storing, prefix_of, snapshot_last, end_place, entry_at, first_place, has_id_in_log, id_of, held}
-use Rattle.raft_engine.specs.Message.{Message, MessageBody, VoteRequest, VoteReply, AppendRequest, AppendReply, SnapshotRequest, SnapshotReply, AppendFields, ReplyFields, ReplyResult, Success, Conflict, HigherVote, last_sent}
-use Rattle.raft_engine.specs.Peer.{PeerState, is_answer_to, is_kept_for_peers, new_peer, with_peer}
-use Rattle.raft_engine.specs.GroupState.{Lead, Role, Follower, Candidate, Leader}
-use Rattle.raft_engine.specs.StepResult.{StepResult, append, apply_up_to, in_role, is_within, later_place, renew, send, step_down, store, store_vote, take_over}
-use Rattle.raft_engine.specs.Lead.{append_blank, committed_vote, configs_in_force, lead_if, new_lead, other_ids, peer_of, purge_as_wished, purge_up_to, remove_up_to, with_grant, with_wish}
-use Rattle.raft_engine.specs.Frames.{committed_id, has_grown, lacks_entries, notice, send_entries, send_request, send_snapshot, serve_all, serve_as, with_frames, with_peer_state}
-use Rattle.raft_engine.specs.Elect.{ask, elect_step, other_voters, stand}
-use Rattle.raft_engine.specs.Propose.{append_with_token}
-use Rattle.raft_engine.specs.MembershipStep.{append_changed}
-use Rattle.raft_engine.specs.VoteRequest.{judged}
-use Rattle.raft_engine.specs.VoteReply.{counted, take_over_greater}
-use Rattle.raft_engine.specs.AppendRequest.{above_committed, cut_at, cut_from, heard, joined, lesser_place, missing_entries, put_entries}
-use Rattle.raft_engine.specs.SnapshotRequest.{cut_other, install, install_unless, offered, place_above}
-use Rattle.raft_engine.specs.Reply.{after_answer, answered, ended, reply_step, with_higher_vote}
-use Rattle.raft_engine.specs.Heartbeat.{beat_as, send_notices}
-use Rattle.raft_engine.specs.Lost.{lost_as}
-use Rattle.raft_engine.specs.PurgeTrigger.{purge_as, purge_within}
-use Rattle.raft_engine.specs.SnapshotTrigger.{snapshot_at, snapshot_of_applied, store_snapshot_at}
-use Rattle.raft_engine.specs.Opening.{drop_stale_log, is_joined_to, resume_lead}
+use Rattle.raft_group_step.specs.Values.{after_change, ChangeMembers, Entry, EntryPayload, has_id, is_written_by, LoggedMembership, vote_eq, vote_lt}
+use Rattle.raft_group_step.specs.StoredGroup.{StoringCommand, MakeGroup, SetVote, PutEntries, CutFrom, RemoveUpTo, SetSnapshot, StartAfter, Snapshot, after_storing, prefix_of, snapshot_last, end_place, entry_at, first_place, has_id_in_log, id_of, held}
+use Rattle.raft_group_step.specs.Message.{Message, MessageBody, VoteRequest, VoteReply, AppendRequest, AppendReply, SnapshotRequest, SnapshotReply, AppendFields, ReplyFields, ReplyResult, Success, Conflict, HigherVote, last_sent}
+use Rattle.raft_group_step.specs.Peer.{PeerState, is_answer_to, is_kept_for_peers, new_peer, with_peer}
+use Rattle.raft_group_step.specs.GroupState.{Lead, Role, Follower, Candidate, Leader}
+use Rattle.raft_group_step.specs.StepResult.{StepResult, append, apply_up_to, in_role, is_within, later_place, renew, send, step_down, store, store_vote, take_over}
+use Rattle.raft_group_step.specs.Lead.{append_blank, committed_vote, configs_in_force, lead_if, new_lead, other_ids, peer_of, purge_as_wished, purge_up_to, remove_up_to, with_grant, with_wish}
+use Rattle.raft_group_step.specs.Frames.{committed_id, has_grown, lacks_entries, notice, send_entries, send_request, send_snapshot, serve_all, serve_as, with_frames, with_peer_state}
+use Rattle.raft_group_step.specs.Elect.{ask, elect_step, other_voters, stand}
+use Rattle.raft_group_step.specs.Propose.{append_with_token}
+use Rattle.raft_group_step.specs.MembershipStep.{append_changed}
+use Rattle.raft_group_step.specs.VoteRequest.{judged}
+use Rattle.raft_group_step.specs.VoteReply.{counted, take_over_greater}
+use Rattle.raft_group_step.specs.AppendRequest.{above_committed, cut_at, cut_from, heard, joined, lesser_place, missing_entries, put_entries}
+use Rattle.raft_group_step.specs.SnapshotRequest.{cut_other, install, install_unless, offered, place_above}
+use Rattle.raft_group_step.specs.Reply.{after_answer, answered, ended, reply_step, with_higher_vote}
+use Rattle.raft_group_step.specs.Heartbeat.{beat_as, send_notices}
+use Rattle.raft_group_step.specs.Lost.{lost_as}
+use Rattle.raft_group_step.specs.PurgeTrigger.{purge_as, purge_within}
+use Rattle.raft_group_step.specs.SnapshotTrigger.{snapshot_at, snapshot_of_applied, store_snapshot_at}
+use Rattle.raft_group_step.specs.Opening.{drop_stale_log, is_joined_to, resume_lead}
 use Rattle.raft_world.proofs.BallotSafe.{Among}
 use Rattle.raft_world.proofs.VoteRanks.{vote_eq_same}
 use Rattle.raft_world.proofs.StepWords.{either, either_by}

@@ -6,14 +6,14 @@ use Rattle.raft_values.specs.declared.vote.Vote.{Vote}
 use Rattle.raft_values.specs.declared.log_id.LogId.{LogId}
 use Rattle.raft_values.specs.LogId.{next_place, place_of}
 use Rattle.raft_quorums.specs.Quorum.{is_quorum as is_quorum_of}
-use Rattle.raft_engine.specs.Values.{Membership, Entry, is_written_by}
-use Rattle.raft_engine.specs.StoredGroup.{StoredGroup, StoringCommand, Snapshot, RemoveUpTo, after_storing, end_place, entry_at, first_place, held, id_at, id_of, prefix_of}
-use Rattle.raft_engine.specs.Peer.{PeerState, is_kept_for_peers}
-use Rattle.raft_engine.specs.GroupState.{GroupState, Lead, Role, Follower, Candidate, Leader, is_leader}
-use Rattle.raft_engine.specs.StepResult.{StepResult, apply_up_to, is_within, later_place, send}
-use Rattle.raft_engine.specs.SnapshotRequest.{place_above}
-use Rattle.raft_engine.specs.Lead.{commit_as_leader, configs_in_force, has_accepted, last_place, may_be_committed, other_ids, peer_of, purge_as_wished, purge_up_to, remove_up_to, with_wish}
-use Rattle.raft_engine.specs.Frames.{committed_id, has_grown, lacks_entries, notice, send_entries, send_request, send_snapshot, serve_all, serve_as, with_frames}
+use Rattle.raft_group_step.specs.Values.{Membership, Entry, is_written_by}
+use Rattle.raft_group_step.specs.StoredGroup.{StoredGroup, StoringCommand, Snapshot, RemoveUpTo, after_storing, end_place, entry_at, first_place, held, id_at, id_of, prefix_of}
+use Rattle.raft_group_step.specs.Peer.{PeerState, is_kept_for_peers}
+use Rattle.raft_group_step.specs.GroupState.{GroupState, Lead, Role, Follower, Candidate, Leader, is_leader}
+use Rattle.raft_group_step.specs.StepResult.{StepResult, apply_up_to, is_within, later_place, send}
+use Rattle.raft_group_step.specs.SnapshotRequest.{place_above}
+use Rattle.raft_group_step.specs.Lead.{commit_as_leader, configs_in_force, has_accepted, last_place, may_be_committed, other_ids, peer_of, purge_as_wished, purge_up_to, remove_up_to, with_wish}
+use Rattle.raft_group_step.specs.Frames.{committed_id, has_grown, lacks_entries, notice, send_entries, send_request, send_snapshot, serve_all, serve_as, with_frames}
 use Rattle.raft_world.specs.BallotWorld.{BallotWorld, BallotEvent}
 use Rattle.raft_world.specs.BallotRanks.{rank_of, ballot_entry}
 use Rattle.raft_world.proofs.BallotAgreement.{same_some}

@@ -1,16 +1,16 @@
 -- Each step of the group keeps what ties a node to the ballot machine.
 use Rattle.std.specs.Prelude.{◌≡◌, ℕ, ◌<◌, ◌^◌, List, [], length, Option, Some, None, refl}
 use Rattle.std.proofs.Common.{sym, subst}
-use Rattle.raft_engine.specs.Values.{Membership}
-use Rattle.raft_engine.specs.Peer.{is_kept_for_peers}
-use Rattle.raft_engine.specs.StoredGroup.{StoredGroup, MakeGroup, held}
-use Rattle.raft_engine.specs.GroupState.{GroupState, Role, Follower, Candidate, Leader, state_of}
-use Rattle.raft_engine.specs.GroupEvent.{GroupEvent, AddGroup, Call, Receive, Open}
-use Rattle.raft_engine.specs.StepResult.{RefusalReason, StepResult, refused_step, store, unchanged}
-use Rattle.raft_engine.specs.Lead.{commit_as_leader, other_ids, purge_as_wished, with_wish}
-use Rattle.raft_engine.specs.Frames.{has_grown}
-use Rattle.raft_engine.specs.Refusal.{refusal_of}
-use Rattle.raft_engine.specs.GroupStep.{begun, event_step, finished, step_unless}
+use Rattle.raft_group_step.specs.Values.{Membership}
+use Rattle.raft_group_step.specs.Peer.{is_kept_for_peers}
+use Rattle.raft_group_step.specs.StoredGroup.{StoredGroup, MakeGroup, held}
+use Rattle.raft_group_step.specs.GroupState.{GroupState, Role, Follower, Candidate, Leader, state_of}
+use Rattle.raft_group_step.specs.GroupEvent.{GroupEvent, AddGroup, Call, Receive, Open}
+use Rattle.raft_group_step.specs.StepResult.{RefusalReason, StepResult, refused_step, store, unchanged}
+use Rattle.raft_group_step.specs.Lead.{commit_as_leader, other_ids, purge_as_wished, with_wish}
+use Rattle.raft_group_step.specs.Frames.{has_grown}
+use Rattle.raft_group_step.specs.Refusal.{refusal_of}
+use Rattle.raft_group_step.specs.GroupStep.{begun, event_step, finished, step_unless}
 use Rattle.raft_world.specs.BallotWorld.{BallotWorld, BallotEvent}
 use Rattle.raft_world.proofs.BallotOthers.{extends_refl}
 use Rattle.raft_world.proofs.Standing.{LeadKept, lead_same, MessageFits, RoleFits, up_down}

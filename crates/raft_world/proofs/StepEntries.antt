@@ -7,31 +7,31 @@ use Rattle.raft_values.specs.declared.log_id.LogId.{LogId}
 use Rattle.raft_values.specs.LogId.{log_id_of}
 use Rattle.raft_quorums.specs.Quorum.{is_quorum}
 use Rattle.raft_state.specs.declared.entry.EntryPayload.TheVariants.{Blank, Normal, Membership as Members}
-use Rattle.raft_engine.specs.Values.{after_change, ChangeMembers, Entry, EntryPayload, entry_of, has_id, LoggedMembership, vote_lt}
-use Rattle.raft_engine.specs.StoredGroup.{StoredGroup, Snapshot, StoringCommand, MakeGroup, SetVote, PutEntries, CutFrom, RemoveUpTo, SetSnapshot, StartAfter, after_storing, after_storing_all, end_place, first_place, has_id_in_log, held, membership_in_force, prefix_of, snapshot_last}
-use Rattle.raft_engine.specs.Message.{Message, MessageBody, VoteRequest, VoteReply, AppendRequest, AppendReply, SnapshotRequest, SnapshotReply, AppendFields, ReplyFields, ReplyResult, Success, Conflict, HigherVote}
-use Rattle.raft_engine.specs.Peer.{PeerState, is_kept_for_peers}
-use Rattle.raft_engine.specs.GroupState.{GroupState, Lead, Role, Follower, Candidate, Leader, state_of}
-use Rattle.raft_engine.specs.declared.group_call.GroupCall.TheVariants.{Initialize, Elect, Propose, ChangeMembership, Heartbeat, Lost, TriggerSnapshot, TriggerPurge}
-use Rattle.raft_engine.specs.GroupEvent.{GroupCall, GroupEvent, AddGroup, Call, Receive, Open}
-use Rattle.raft_engine.specs.StepResult.{RefusalReason, StepResult, append, in_role, refused_step, send, step_down, store, store_vote, take_over, unchanged}
-use Rattle.raft_engine.specs.Lead.{begin_lead, commit_as_leader, configs_in_force, lead_if, other_ids, purge_as_wished, purge_up_to, remove_up_to, with_grant, with_wish}
-use Rattle.raft_engine.specs.Frames.{entries_in_request, has_grown, lacks_entries, notice, send_entries, send_request, send_snapshot, serve, serve_all, serve_as}
-use Rattle.raft_engine.specs.Elect.{ask, elect_step, other_voters, stand}
-use Rattle.raft_engine.specs.VoteRequest.{judged, may_grant}
-use Rattle.raft_engine.specs.VoteReply.{counted, take_over_greater}
-use Rattle.raft_engine.specs.AppendRequest.{above_committed, cut_at, cut_from, heard, joined, missing_entries, put_entries}
-use Rattle.raft_engine.specs.SnapshotRequest.{cut_other, install, install_unless, offered, place_above}
-use Rattle.raft_engine.specs.Reply.{answered, reply_step, with_higher_vote}
-use Rattle.raft_engine.specs.Propose.{append_with_token}
-use Rattle.raft_engine.specs.MembershipStep.{append_changed}
-use Rattle.raft_engine.specs.Heartbeat.{beat_as, send_notices}
-use Rattle.raft_engine.specs.Lost.{lost_as}
-use Rattle.raft_engine.specs.SnapshotTrigger.{snapshot_at, snapshot_of_applied, store_snapshot_at}
-use Rattle.raft_engine.specs.PurgeTrigger.{purge_as, purge_within}
-use Rattle.raft_engine.specs.Opening.{drop_stale_log, resume_lead}
-use Rattle.raft_engine.specs.Refusal.{refusal_of}
-use Rattle.raft_engine.specs.GroupStep.{begun, call_step, event_step, finished, group_step, message_step, step_unless}
+use Rattle.raft_group_step.specs.Values.{after_change, ChangeMembers, Entry, EntryPayload, entry_of, has_id, LoggedMembership, vote_lt}
+use Rattle.raft_group_step.specs.StoredGroup.{StoredGroup, Snapshot, StoringCommand, MakeGroup, SetVote, PutEntries, CutFrom, RemoveUpTo, SetSnapshot, StartAfter, after_storing, after_storing_all, end_place, first_place, has_id_in_log, held, membership_in_force, prefix_of, snapshot_last}
+use Rattle.raft_group_step.specs.Message.{Message, MessageBody, VoteRequest, VoteReply, AppendRequest, AppendReply, SnapshotRequest, SnapshotReply, AppendFields, ReplyFields, ReplyResult, Success, Conflict, HigherVote}
+use Rattle.raft_group_step.specs.Peer.{PeerState, is_kept_for_peers}
+use Rattle.raft_group_step.specs.GroupState.{GroupState, Lead, Role, Follower, Candidate, Leader, state_of}
+use Rattle.raft_group_step.specs.declared.group_call.GroupCall.TheVariants.{Initialize, Elect, Propose, ChangeMembership, Heartbeat, Lost, TriggerSnapshot, TriggerPurge}
+use Rattle.raft_group_step.specs.GroupEvent.{GroupCall, GroupEvent, AddGroup, Call, Receive, Open}
+use Rattle.raft_group_step.specs.StepResult.{RefusalReason, StepResult, append, in_role, refused_step, send, step_down, store, store_vote, take_over, unchanged}
+use Rattle.raft_group_step.specs.Lead.{begin_lead, commit_as_leader, configs_in_force, lead_if, other_ids, purge_as_wished, purge_up_to, remove_up_to, with_grant, with_wish}
+use Rattle.raft_group_step.specs.Frames.{entries_in_request, has_grown, lacks_entries, notice, send_entries, send_request, send_snapshot, serve, serve_all, serve_as}
+use Rattle.raft_group_step.specs.Elect.{ask, elect_step, other_voters, stand}
+use Rattle.raft_group_step.specs.VoteRequest.{judged, may_grant}
+use Rattle.raft_group_step.specs.VoteReply.{counted, take_over_greater}
+use Rattle.raft_group_step.specs.AppendRequest.{above_committed, cut_at, cut_from, heard, joined, missing_entries, put_entries}
+use Rattle.raft_group_step.specs.SnapshotRequest.{cut_other, install, install_unless, offered, place_above}
+use Rattle.raft_group_step.specs.Reply.{answered, reply_step, with_higher_vote}
+use Rattle.raft_group_step.specs.Propose.{append_with_token}
+use Rattle.raft_group_step.specs.MembershipStep.{append_changed}
+use Rattle.raft_group_step.specs.Heartbeat.{beat_as, send_notices}
+use Rattle.raft_group_step.specs.Lost.{lost_as}
+use Rattle.raft_group_step.specs.SnapshotTrigger.{snapshot_at, snapshot_of_applied, store_snapshot_at}
+use Rattle.raft_group_step.specs.PurgeTrigger.{purge_as, purge_within}
+use Rattle.raft_group_step.specs.Opening.{drop_stale_log, resume_lead}
+use Rattle.raft_group_step.specs.Refusal.{refusal_of}
+use Rattle.raft_group_step.specs.GroupStep.{begun, call_step, event_step, finished, group_step, message_step, step_unless}
 use Rattle.raft_world.proofs.StepWords.{either, either_by}
 
 -- each of these is so

@@ -1,13 +1,13 @@
 -- A node and an event that fit the ballot machine, and what a step keeps: wherever it stops, and at its end.
 use Rattle.std.specs.Prelude.{◌≡◌, ℕ, ◌<◌, ◌^◌, List, length, take, Some}
-use Rattle.raft_engine.specs.Values.{Membership}
-use Rattle.raft_engine.specs.StoredGroup.{StoredGroup, after_storing_all, prefix_of, held}
-use Rattle.raft_engine.specs.Message.{Message}
-use Rattle.raft_engine.specs.GroupState.{GroupState, state_of}
-use Rattle.raft_engine.specs.declared.group_call.GroupCall.TheVariants.{Initialize, Elect, Propose, ChangeMembership, Heartbeat, Lost, TriggerSnapshot, TriggerPurge}
-use Rattle.raft_engine.specs.GroupEvent.{GroupCall, GroupEvent, AddGroup, Call, Receive, Open}
-use Rattle.raft_engine.specs.StepResult.{StepResult}
-use Rattle.raft_engine.specs.GroupStep.{group_step}
+use Rattle.raft_group_step.specs.Values.{Membership}
+use Rattle.raft_group_step.specs.StoredGroup.{StoredGroup, after_storing_all, prefix_of, held}
+use Rattle.raft_group_step.specs.Message.{Message}
+use Rattle.raft_group_step.specs.GroupState.{GroupState, state_of}
+use Rattle.raft_group_step.specs.declared.group_call.GroupCall.TheVariants.{Initialize, Elect, Propose, ChangeMembership, Heartbeat, Lost, TriggerSnapshot, TriggerPurge}
+use Rattle.raft_group_step.specs.GroupEvent.{GroupCall, GroupEvent, AddGroup, Call, Receive, Open}
+use Rattle.raft_group_step.specs.StepResult.{StepResult}
+use Rattle.raft_group_step.specs.GroupStep.{group_step}
 use Rattle.raft_world.specs.BallotWorld.{BallotWorld, BallotEvent, ballot_start, ballot_run}
 use Rattle.raft_world.specs.BallotRanks.{ballot_group}
 use Rattle.raft_world.proofs.BallotSafe.{Among}

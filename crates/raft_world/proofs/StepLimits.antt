@@ -5,20 +5,20 @@ use Rattle.raft_values.specs.declared.vote.Vote.{Vote}
 use Rattle.raft_values.specs.declared.log_id.LogId.{LogId}
 use Rattle.raft_values.specs.LogId.{log_id_of, next_place, place_of}
 use Rattle.raft_state.specs.declared.entry.EntryPayload.TheVariants.{Normal, Membership as Members}
-use Rattle.raft_engine.specs.Values.{Membership, entry_of}
-use Rattle.raft_engine.specs.StoredGroup.{StoredGroup, StoringCommand, MakeGroup, PutEntries, Snapshot, entry_at, held, id_of, prefix_of, snapshot_last}
-use Rattle.raft_engine.specs.Message.{MessageBody, VoteRequest, VoteReply, AppendRequest, AppendReply, SnapshotRequest, SnapshotReply}
-use Rattle.raft_engine.specs.GroupState.{GroupState, Role, Follower, Candidate, Leader, is_leader, state_of}
-use Rattle.raft_engine.specs.declared.group_call.GroupCall.TheVariants.{Initialize, Elect, Propose, ChangeMembership, Heartbeat, Lost, TriggerSnapshot, TriggerPurge}
-use Rattle.raft_engine.specs.GroupEvent.{GroupCall, GroupEvent, AddGroup, Call, Receive, Open}
-use Rattle.raft_engine.specs.StepResult.{RefusalReason, StepResult, apply_up_to, refused_step, store, unchanged}
-use Rattle.raft_engine.specs.SnapshotRequest.{place_above}
-use Rattle.raft_engine.specs.VoteRequest.{may_grant}
-use Rattle.raft_engine.specs.Lead.{commit_as_leader, purge_as_wished}
-use Rattle.raft_engine.specs.Frames.{committed_id, with_frames}
-use Rattle.raft_engine.specs.Opening.{drop_stale_log, opening_step}
-use Rattle.raft_engine.specs.Refusal.{refusal_of}
-use Rattle.raft_engine.specs.GroupStep.{begun, call_step, event_step, finished, group_step, message_step, step_unless}
+use Rattle.raft_group_step.specs.Values.{Membership, entry_of}
+use Rattle.raft_group_step.specs.StoredGroup.{StoredGroup, StoringCommand, MakeGroup, PutEntries, Snapshot, entry_at, held, id_of, prefix_of, snapshot_last}
+use Rattle.raft_group_step.specs.Message.{MessageBody, VoteRequest, VoteReply, AppendRequest, AppendReply, SnapshotRequest, SnapshotReply}
+use Rattle.raft_group_step.specs.GroupState.{GroupState, Role, Follower, Candidate, Leader, is_leader, state_of}
+use Rattle.raft_group_step.specs.declared.group_call.GroupCall.TheVariants.{Initialize, Elect, Propose, ChangeMembership, Heartbeat, Lost, TriggerSnapshot, TriggerPurge}
+use Rattle.raft_group_step.specs.GroupEvent.{GroupCall, GroupEvent, AddGroup, Call, Receive, Open}
+use Rattle.raft_group_step.specs.StepResult.{RefusalReason, StepResult, apply_up_to, refused_step, store, unchanged}
+use Rattle.raft_group_step.specs.SnapshotRequest.{place_above}
+use Rattle.raft_group_step.specs.VoteRequest.{may_grant}
+use Rattle.raft_group_step.specs.Lead.{commit_as_leader, purge_as_wished}
+use Rattle.raft_group_step.specs.Frames.{committed_id, with_frames}
+use Rattle.raft_group_step.specs.Opening.{drop_stale_log, opening_step}
+use Rattle.raft_group_step.specs.Refusal.{refusal_of}
+use Rattle.raft_group_step.specs.GroupStep.{begun, call_step, event_step, finished, group_step, message_step, step_unless}
 use Rattle.raft_world.specs.BallotWorld.{BallotWorld, BallotEvent}
 use Rattle.raft_world.proofs.BallotSafe.{Among}
 use Rattle.raft_world.proofs.Standing.{BodyFits, SnapshotFits, UpFits}

@@ -3,15 +3,15 @@ use Rattle.std.specs.Prelude.{◌≡◌, ℕ, ◌<◌, ◌^◌, ◌==◌, ◌&&�
 use Rattle.std.proofs.Common.{sym, ◌∙◌, subst, arith, eqb-true, eq-eqb}
 use Rattle.std.proofs.lemmas.Bool.{and_parts, not-true}
 use Rattle.raft_values.specs.declared.vote.Vote.{Vote}
-use Rattle.raft_engine.specs.Values.{Membership}
-use Rattle.raft_engine.specs.StoredGroup.{StoredGroup, membership_in_force, held}
-use Rattle.raft_engine.specs.Message.{Message, MessageBody, VoteRequest, VoteReply, AppendRequest, AppendReply, SnapshotRequest, SnapshotReply}
-use Rattle.raft_engine.specs.GroupState.{GroupState}
-use Rattle.raft_engine.specs.StepResult.{StepResult, WrongParty, BreaksCondition}
-use Rattle.raft_engine.specs.VoteRequest.{may_grant}
-use Rattle.raft_engine.specs.GroupStep.{begun, message_step}
-use Rattle.raft_engine.specs.GroupEvent.{Receive}
-use Rattle.raft_engine.specs.Refusal.{do_follow, has_known_snapshot, is_foreign, is_foreign_result, is_of_leader, is_right_party, is_sound, keep_voters, reasons_of, refusal_of}
+use Rattle.raft_group_step.specs.Values.{Membership}
+use Rattle.raft_group_step.specs.StoredGroup.{StoredGroup, membership_in_force, held}
+use Rattle.raft_group_step.specs.Message.{Message, MessageBody, VoteRequest, VoteReply, AppendRequest, AppendReply, SnapshotRequest, SnapshotReply}
+use Rattle.raft_group_step.specs.GroupState.{GroupState}
+use Rattle.raft_group_step.specs.StepResult.{StepResult, WrongParty, BreaksCondition}
+use Rattle.raft_group_step.specs.VoteRequest.{may_grant}
+use Rattle.raft_group_step.specs.GroupStep.{begun, message_step}
+use Rattle.raft_group_step.specs.GroupEvent.{Receive}
+use Rattle.raft_group_step.specs.Refusal.{do_follow, has_known_snapshot, is_foreign, is_foreign_result, is_of_leader, is_right_party, is_sound, keep_voters, reasons_of, refusal_of}
 use Rattle.raft_world.specs.BallotWorld.{BallotWorld, BallotEvent}
 use Rattle.raft_world.proofs.FreshEntries.{without_is}
 use Rattle.raft_world.proofs.Standing.{BodyFits, MessageFits, RoleFits}

@@ -5,13 +5,13 @@ use Rattle.std.proofs.lemmas.Bool.{and_from, and_parts, or_cases, or_left, or_ri
 use Rattle.std.proofs.lemmas.Option.{slice_get_past}
 use Rattle.raft_values.specs.declared.log_id.LogId.{LogId}
 use Rattle.raft_values.specs.LogId.{place_of}
-use Rattle.raft_engine.specs.Values.{Membership, Entry, log_id_eq, leader_eq}
-use Rattle.raft_engine.specs.StoredGroup.{StoredGroup, Snapshot, StartAfter, after_storing, after_storing_all, entry_at, id_of, first_place, end_place, has_id_in_log, is_id, snapshot_last, prefix_of, held}
-use Rattle.raft_engine.specs.GroupState.{Follower, Leader, state_of}
-use Rattle.raft_engine.specs.StepResult.{StepResult, unchanged, store, in_role, apply_up_to, later_place}
-use Rattle.raft_engine.specs.SnapshotRequest.{place_above}
-use Rattle.raft_engine.specs.Lead.{new_lead}
-use Rattle.raft_engine.specs.Opening.{is_joined_to, drop_stale_log, resume_lead, opening_step}
+use Rattle.raft_group_step.specs.Values.{Membership, Entry, log_id_eq, leader_eq}
+use Rattle.raft_group_step.specs.StoredGroup.{StoredGroup, Snapshot, StartAfter, after_storing, after_storing_all, entry_at, id_of, first_place, end_place, has_id_in_log, is_id, snapshot_last, prefix_of, held}
+use Rattle.raft_group_step.specs.GroupState.{Follower, Leader, state_of}
+use Rattle.raft_group_step.specs.StepResult.{StepResult, unchanged, store, in_role, apply_up_to, later_place}
+use Rattle.raft_group_step.specs.SnapshotRequest.{place_above}
+use Rattle.raft_group_step.specs.Lead.{new_lead}
+use Rattle.raft_group_step.specs.Opening.{is_joined_to, drop_stale_log, resume_lead, opening_step}
 use Rattle.raft_world.specs.BallotWorld.{BallotNode, BallotWorld, BallotEvent, ForgetCommitted, forgotten}
 use Rattle.raft_world.proofs.BallotAgreement.{same_some, with_value_same}
 use Rattle.raft_world.proofs.BallotAppends.{drop_past}

@@ -4,31 +4,31 @@ use Rattle.raft_values.specs.declared.vote.Vote.{Vote}
 use Rattle.raft_values.specs.Vote.{vote_of}
 use Rattle.raft_values.specs.declared.log_id.LogId.{LogId}
 use Rattle.raft_values.specs.LogId.{log_id_of}
-use Rattle.raft_engine.specs.Values.{Entry, EntryPayload, entry_of, LoggedMembership}
+use Rattle.raft_group_step.specs.Values.{Entry, EntryPayload, entry_of, LoggedMembership}
 use Rattle.raft_state.specs.declared.entry.EntryPayload.TheVariants.{Membership as Members}
-use Rattle.raft_engine.specs.Values.{ChangeMembers}
-use Rattle.raft_engine.specs.StoredGroup.{has_id_in_log, StoredGroup, Snapshot, MakeGroup, PutEntries, CutFrom, RemoveUpTo, SetSnapshot}
-use Rattle.raft_engine.specs.Message.{AppendFields, ReplyFields, ReplyResult, Success, Conflict, HigherVote, MessageBody, VoteRequest, VoteReply, AppendRequest, AppendReply, SnapshotRequest, SnapshotReply}
-use Rattle.raft_engine.specs.GroupState.{GroupState, Lead, Role, Follower, Candidate, Leader, state_of}
-use Rattle.raft_engine.specs.declared.group_call.GroupCall.TheVariants.{Initialize, Elect, Propose, ChangeMembership, Heartbeat, Lost, TriggerSnapshot, TriggerPurge}
-use Rattle.raft_engine.specs.GroupEvent.{GroupCall, GroupEvent, AddGroup, Call, Receive, Open}
-use Rattle.raft_engine.specs.StepResult.{is_within, StepResult, RefusalReason, unchanged, store, store_vote, step_down, take_over}
-use Rattle.raft_engine.specs.Elect.{ask, stand, elect_step, other_voters}
-use Rattle.raft_engine.specs.VoteRequest.{judged, may_grant}
-use Rattle.raft_engine.specs.VoteReply.{take_over_greater, counted}
-use Rattle.raft_engine.specs.AppendRequest.{is_held, above_committed, missing_entries, cut_from, cut_at, put_entries, joined, heard}
-use Rattle.raft_engine.specs.SnapshotRequest.{place_above, cut_other, install, install_unless, offered}
-use Rattle.raft_engine.specs.Reply.{answered, with_higher_vote, reply_step}
-use Rattle.raft_engine.specs.Propose.{append_with_token}
-use Rattle.raft_engine.specs.MembershipStep.{append_changed}
-use Rattle.raft_engine.specs.Heartbeat.{send_notices, beat_as}
-use Rattle.raft_engine.specs.Lost.{lost_as}
-use Rattle.raft_engine.specs.Lead.{other_ids}
-use Rattle.raft_engine.specs.SnapshotTrigger.{store_snapshot_at, snapshot_of_applied}
-use Rattle.raft_engine.specs.PurgeTrigger.{purge_as, purge_within}
-use Rattle.raft_engine.specs.Opening.{drop_stale_log, resume_lead}
-use Rattle.raft_engine.specs.GroupStep.{begun, message_step, call_step, event_step, step_unless, group_step}
-use Rattle.raft_engine.specs.Refusal.{refusal_of}
+use Rattle.raft_group_step.specs.Values.{ChangeMembers}
+use Rattle.raft_group_step.specs.StoredGroup.{has_id_in_log, StoredGroup, Snapshot, MakeGroup, PutEntries, CutFrom, RemoveUpTo, SetSnapshot}
+use Rattle.raft_group_step.specs.Message.{AppendFields, ReplyFields, ReplyResult, Success, Conflict, HigherVote, MessageBody, VoteRequest, VoteReply, AppendRequest, AppendReply, SnapshotRequest, SnapshotReply}
+use Rattle.raft_group_step.specs.GroupState.{GroupState, Lead, Role, Follower, Candidate, Leader, state_of}
+use Rattle.raft_group_step.specs.declared.group_call.GroupCall.TheVariants.{Initialize, Elect, Propose, ChangeMembership, Heartbeat, Lost, TriggerSnapshot, TriggerPurge}
+use Rattle.raft_group_step.specs.GroupEvent.{GroupCall, GroupEvent, AddGroup, Call, Receive, Open}
+use Rattle.raft_group_step.specs.StepResult.{is_within, StepResult, RefusalReason, unchanged, store, store_vote, step_down, take_over}
+use Rattle.raft_group_step.specs.Elect.{ask, stand, elect_step, other_voters}
+use Rattle.raft_group_step.specs.VoteRequest.{judged, may_grant}
+use Rattle.raft_group_step.specs.VoteReply.{take_over_greater, counted}
+use Rattle.raft_group_step.specs.AppendRequest.{is_held, above_committed, missing_entries, cut_from, cut_at, put_entries, joined, heard}
+use Rattle.raft_group_step.specs.SnapshotRequest.{place_above, cut_other, install, install_unless, offered}
+use Rattle.raft_group_step.specs.Reply.{answered, with_higher_vote, reply_step}
+use Rattle.raft_group_step.specs.Propose.{append_with_token}
+use Rattle.raft_group_step.specs.MembershipStep.{append_changed}
+use Rattle.raft_group_step.specs.Heartbeat.{send_notices, beat_as}
+use Rattle.raft_group_step.specs.Lost.{lost_as}
+use Rattle.raft_group_step.specs.Lead.{other_ids}
+use Rattle.raft_group_step.specs.SnapshotTrigger.{store_snapshot_at, snapshot_of_applied}
+use Rattle.raft_group_step.specs.PurgeTrigger.{purge_as, purge_within}
+use Rattle.raft_group_step.specs.Opening.{drop_stale_log, resume_lead}
+use Rattle.raft_group_step.specs.GroupStep.{begun, message_step, call_step, event_step, step_unless, group_step}
+use Rattle.raft_group_step.specs.Refusal.{refusal_of}
 use Rattle.raft_world.specs.StoringOrder.{StoresInOrder}
 use Rattle.raft_world.proofs.StepWords.{either, either_by, same, store-keeps, store_vote-keeps, step_down-keeps, take_over-keeps, append-keeps, with_grant-keeps, remove-keeps, finished-keeps}
 use Rattle.std.proofs.Common.{sym, ◌∙◌, ap, subst, arith, leb-true}

@@ -8,22 +8,22 @@ use Rattle.raft_values.specs.declared.log_id.LogId.{LogId}
 use Rattle.raft_state.specs.declared.entry.EntryPayload.TheVariants.{Blank}
 use Rattle.std.specs.List.{list_any}
 use Rattle.raft_quorums.specs.Quorum.{is_quorum}
-use Rattle.raft_engine.specs.Values.{Entry, has_id, is_written_by, Membership, vote_eq}
-use Rattle.raft_engine.specs.StoredGroup.{StoredGroup, Snapshot, RemoveUpTo, SetSnapshot, CutFrom, entry_at, first_place, held, id_of, prefix_of, snapshot_last}
-use Rattle.raft_engine.specs.Message.{AppendFields, ReplyFields}
-use Rattle.raft_engine.specs.Peer.{PeerState, is_answer_to, with_peer}
-use Rattle.raft_engine.specs.GroupState.{Lead, Role, Follower, Candidate, Leader, Untold, is_leader}
-use Rattle.raft_engine.specs.StepResult.{StepResult, append, apply_up_to, in_role, is_within, later_place, send, step_down, store, store_vote}
-use Rattle.raft_engine.specs.Lead.{begin_lead, committed_vote, configs_in_force, lead_if, new_lead, other_ids, peer_of, purge_up_to, remove_up_to, with_grant, with_wish}
-use Rattle.raft_engine.specs.Frames.{has_grown, with_peer_state, lacks_entries, notice, send_entries, send_request, send_snapshot, serve, serve_all, serve_as, with_frames}
-use Rattle.raft_engine.specs.Elect.{ask, elect_step, other_voters, stand}
-use Rattle.raft_engine.specs.AppendRequest.{cut_at, cut_from, joined, put_entries}
-use Rattle.raft_engine.specs.SnapshotRequest.{cut_other, install_unless, place_above}
-use Rattle.raft_engine.specs.Reply.{after_answer, answered, ended}
-use Rattle.raft_engine.specs.Heartbeat.{beat_as, send_notices}
-use Rattle.raft_engine.specs.Lost.{lost_as}
-use Rattle.raft_engine.specs.SnapshotTrigger.{snapshot_of_applied, store_snapshot_at}
-use Rattle.raft_engine.specs.PurgeTrigger.{purge_as, purge_within}
+use Rattle.raft_group_step.specs.Values.{Entry, has_id, is_written_by, Membership, vote_eq}
+use Rattle.raft_group_step.specs.StoredGroup.{StoredGroup, Snapshot, RemoveUpTo, SetSnapshot, CutFrom, entry_at, first_place, held, id_of, prefix_of, snapshot_last}
+use Rattle.raft_group_step.specs.Message.{AppendFields, ReplyFields}
+use Rattle.raft_group_step.specs.Peer.{PeerState, is_answer_to, with_peer}
+use Rattle.raft_group_step.specs.GroupState.{Lead, Role, Follower, Candidate, Leader, Untold, is_leader}
+use Rattle.raft_group_step.specs.StepResult.{StepResult, append, apply_up_to, in_role, is_within, later_place, send, step_down, store, store_vote}
+use Rattle.raft_group_step.specs.Lead.{begin_lead, committed_vote, configs_in_force, lead_if, new_lead, other_ids, peer_of, purge_up_to, remove_up_to, with_grant, with_wish}
+use Rattle.raft_group_step.specs.Frames.{has_grown, with_peer_state, lacks_entries, notice, send_entries, send_request, send_snapshot, serve, serve_all, serve_as, with_frames}
+use Rattle.raft_group_step.specs.Elect.{ask, elect_step, other_voters, stand}
+use Rattle.raft_group_step.specs.AppendRequest.{cut_at, cut_from, joined, put_entries}
+use Rattle.raft_group_step.specs.SnapshotRequest.{cut_other, install_unless, place_above}
+use Rattle.raft_group_step.specs.Reply.{after_answer, answered, ended}
+use Rattle.raft_group_step.specs.Heartbeat.{beat_as, send_notices}
+use Rattle.raft_group_step.specs.Lost.{lost_as}
+use Rattle.raft_group_step.specs.SnapshotTrigger.{snapshot_of_applied, store_snapshot_at}
+use Rattle.raft_group_step.specs.PurgeTrigger.{purge_as, purge_within}
 use Rattle.raft_world.specs.BallotWorld.{BallotWorld, BallotEvent}
 use Rattle.raft_world.proofs.BallotAgreement.{some_at}
 use Rattle.raft_world.proofs.Shapes.{joined_at, joined_below}

@@ -8,25 +8,25 @@ use Rattle.raft_values.specs.declared.vote.Vote.{Vote}
 use Rattle.raft_values.specs.declared.log_id.LogId.{LogId}
 use Rattle.raft_values.specs.LogId.{log_id_of, place_of}
 use Rattle.raft_state.specs.declared.entry.EntryPayload.TheVariants.{Normal, Membership as Members}
-use Rattle.raft_engine.specs.Values.{after_change, ChangeMembers, Entry, EntryPayload, entry_of, LoggedMembership, Membership, vote_eq, vote_lt}
-use Rattle.raft_engine.specs.StoredGroup.{StoredGroup, Snapshot, PutEntries, StartAfter, end_place, held, membership_in_force, snapshot_last}
-use Rattle.raft_engine.specs.Message.{MessageBody, VoteRequest, VoteReply, AppendRequest, AppendReply, SnapshotRequest, SnapshotReply, AppendFields, ReplyFields, ReplyResult, Success, Conflict, HigherVote}
-use Rattle.raft_engine.specs.Peer.{is_kept_for_peers}
-use Rattle.raft_engine.specs.GroupState.{GroupState, Lead, Role, Follower, Candidate, Leader, Untold, is_leader, state_of}
-use Rattle.raft_engine.specs.declared.group_call.GroupCall.TheVariants.{Initialize, Elect, Propose, ChangeMembership, Heartbeat, Lost, TriggerSnapshot, TriggerPurge}
-use Rattle.raft_engine.specs.GroupEvent.{GroupCall, GroupEvent, AddGroup, Call, Receive, Open}
-use Rattle.raft_engine.specs.StepResult.{RefusalReason, NotLeader, StepResult, append, apply_up_to, in_role, is_within, later_place, renew, send, step_down, store, store_vote, take_over, unchanged}
-use Rattle.raft_engine.specs.Lead.{commit_as_leader, new_lead, purge_as_wished, purge_up_to, with_grant, with_wish}
-use Rattle.raft_engine.specs.VoteRequest.{judged, may_grant}
-use Rattle.raft_engine.specs.VoteReply.{counted, take_over_greater}
-use Rattle.raft_engine.specs.AppendRequest.{heard, is_held}
-use Rattle.raft_engine.specs.SnapshotRequest.{offered}
-use Rattle.raft_engine.specs.Reply.{reply_step, with_higher_vote}
-use Rattle.raft_engine.specs.Propose.{append_with_token}
-use Rattle.raft_engine.specs.MembershipStep.{append_changed}
-use Rattle.raft_engine.specs.Opening.{drop_stale_log, is_joined_to, opening_step}
-use Rattle.raft_engine.specs.Refusal.{do_follow, has_known_snapshot, is_of_leader, is_sound, keep_voters, known_leader, reasons_of, reasons_of_call, reasons_of_change, refusal_of}
-use Rattle.raft_engine.specs.GroupStep.{begun, call_step, event_step, finished, group_step, message_step, step_unless}
+use Rattle.raft_group_step.specs.Values.{after_change, ChangeMembers, Entry, EntryPayload, entry_of, LoggedMembership, Membership, vote_eq, vote_lt}
+use Rattle.raft_group_step.specs.StoredGroup.{StoredGroup, Snapshot, PutEntries, StartAfter, end_place, held, membership_in_force, snapshot_last}
+use Rattle.raft_group_step.specs.Message.{MessageBody, VoteRequest, VoteReply, AppendRequest, AppendReply, SnapshotRequest, SnapshotReply, AppendFields, ReplyFields, ReplyResult, Success, Conflict, HigherVote}
+use Rattle.raft_group_step.specs.Peer.{is_kept_for_peers}
+use Rattle.raft_group_step.specs.GroupState.{GroupState, Lead, Role, Follower, Candidate, Leader, Untold, is_leader, state_of}
+use Rattle.raft_group_step.specs.declared.group_call.GroupCall.TheVariants.{Initialize, Elect, Propose, ChangeMembership, Heartbeat, Lost, TriggerSnapshot, TriggerPurge}
+use Rattle.raft_group_step.specs.GroupEvent.{GroupCall, GroupEvent, AddGroup, Call, Receive, Open}
+use Rattle.raft_group_step.specs.StepResult.{RefusalReason, NotLeader, StepResult, append, apply_up_to, in_role, is_within, later_place, renew, send, step_down, store, store_vote, take_over, unchanged}
+use Rattle.raft_group_step.specs.Lead.{commit_as_leader, new_lead, purge_as_wished, purge_up_to, with_grant, with_wish}
+use Rattle.raft_group_step.specs.VoteRequest.{judged, may_grant}
+use Rattle.raft_group_step.specs.VoteReply.{counted, take_over_greater}
+use Rattle.raft_group_step.specs.AppendRequest.{heard, is_held}
+use Rattle.raft_group_step.specs.SnapshotRequest.{offered}
+use Rattle.raft_group_step.specs.Reply.{reply_step, with_higher_vote}
+use Rattle.raft_group_step.specs.Propose.{append_with_token}
+use Rattle.raft_group_step.specs.MembershipStep.{append_changed}
+use Rattle.raft_group_step.specs.Opening.{drop_stale_log, is_joined_to, opening_step}
+use Rattle.raft_group_step.specs.Refusal.{do_follow, has_known_snapshot, is_of_leader, is_sound, keep_voters, known_leader, reasons_of, reasons_of_call, reasons_of_change, refusal_of}
+use Rattle.raft_group_step.specs.GroupStep.{begun, call_step, event_step, finished, group_step, message_step, step_unless}
 use Rattle.raft_world.specs.BallotWorld.{BallotWorld, BallotEvent}
 use Rattle.raft_world.proofs.Shapes.{joined_end, joined_held, slice_after}
 use Rattle.raft_world.proofs.Standing.{BodyFits, OwnVote, RoleFits}

@@ -4,24 +4,24 @@ use Rattle.std.proofs.Common.{sym, ap, ◌∙◌, subst, arith}
 use Rattle.raft_values.specs.declared.vote.Vote.{Vote}
 use Rattle.raft_values.specs.declared.log_id.LogId.{LogId}
 use Rattle.raft_quorums.specs.Quorum.{is_quorum}
-use Rattle.raft_engine.specs.Values.{ChangeMembers, Entry, has_id, LoggedMembership}
-use Rattle.raft_engine.specs.StoredGroup.{Snapshot, CutFrom, prefix_of, entry_at, has_id_in_log}
-use Rattle.raft_engine.specs.Message.{AppendFields, ReplyFields, ReplyResult, Success, Conflict, HigherVote}
-use Rattle.raft_engine.specs.Peer.{PeerState}
-use Rattle.raft_engine.specs.GroupState.{Lead, Role, Follower, Candidate, Leader}
-use Rattle.raft_engine.specs.StepResult.{StepResult, in_role, send, store, step_down, take_over, later_place, is_within}
-use Rattle.raft_engine.specs.Lead.{configs_in_force, other_ids, remove_up_to, with_wish, begin_lead, lead_if, with_grant, commit_as_leader, purge_as_wished}
-use Rattle.raft_engine.specs.Frames.{lacks_entries, notice, send_request, serve, serve_as, serve_all, with_frames, has_grown}
-use Rattle.raft_engine.specs.Elect.{elect_step, stand, other_voters}
-use Rattle.raft_engine.specs.VoteRequest.{judged}
-use Rattle.raft_engine.specs.VoteReply.{take_over_greater, counted}
-use Rattle.raft_engine.specs.AppendRequest.{cut_from, cut_at, put_entries, joined, heard}
-use Rattle.raft_engine.specs.SnapshotRequest.{place_above, cut_other, install, install_unless, offered}
-use Rattle.raft_engine.specs.Reply.{answered, with_higher_vote, reply_step}
-use Rattle.raft_engine.specs.MembershipStep.{append_changed}
-use Rattle.raft_engine.specs.Heartbeat.{send_notices, beat_as}
-use Rattle.raft_engine.specs.Lost.{lost_as}
-use Rattle.raft_engine.specs.PurgeTrigger.{purge_as, purge_within}
+use Rattle.raft_group_step.specs.Values.{ChangeMembers, Entry, has_id, LoggedMembership}
+use Rattle.raft_group_step.specs.StoredGroup.{Snapshot, CutFrom, prefix_of, entry_at, has_id_in_log}
+use Rattle.raft_group_step.specs.Message.{AppendFields, ReplyFields, ReplyResult, Success, Conflict, HigherVote}
+use Rattle.raft_group_step.specs.Peer.{PeerState}
+use Rattle.raft_group_step.specs.GroupState.{Lead, Role, Follower, Candidate, Leader}
+use Rattle.raft_group_step.specs.StepResult.{StepResult, in_role, send, store, step_down, take_over, later_place, is_within}
+use Rattle.raft_group_step.specs.Lead.{configs_in_force, other_ids, remove_up_to, with_wish, begin_lead, lead_if, with_grant, commit_as_leader, purge_as_wished}
+use Rattle.raft_group_step.specs.Frames.{lacks_entries, notice, send_request, serve, serve_as, serve_all, with_frames, has_grown}
+use Rattle.raft_group_step.specs.Elect.{elect_step, stand, other_voters}
+use Rattle.raft_group_step.specs.VoteRequest.{judged}
+use Rattle.raft_group_step.specs.VoteReply.{take_over_greater, counted}
+use Rattle.raft_group_step.specs.AppendRequest.{cut_from, cut_at, put_entries, joined, heard}
+use Rattle.raft_group_step.specs.SnapshotRequest.{place_above, cut_other, install, install_unless, offered}
+use Rattle.raft_group_step.specs.Reply.{answered, with_higher_vote, reply_step}
+use Rattle.raft_group_step.specs.MembershipStep.{append_changed}
+use Rattle.raft_group_step.specs.Heartbeat.{send_notices, beat_as}
+use Rattle.raft_group_step.specs.Lost.{lost_as}
+use Rattle.raft_group_step.specs.PurgeTrigger.{purge_as, purge_within}
 use Rattle.raft_world.proofs.StepWords.{either}
 use Rattle.raft_world.proofs.StepFits.{WishFits}
 use Rattle.raft_world.proofs.BallotAgreement.{same_some}

@@ -1,18 +1,18 @@
 -- Each word by which steps are put together keeps what is stored in line with the commands.
 use Rattle.std.specs.Prelude.{◌≡◌, ℕ, Bool, true, false, if◌then◌else◌, List, [], ◌∷◌, ◌++◌, Option, Some, None, refl}
 use Rattle.std.proofs.Common.{sym, ◌∙◌, ap, subst}
-use Rattle.raft_engine.specs.StoredGroup.{StoredGroup, Snapshot, StoringCommand, SetVote, after_storing, after_storing_all}
-use Rattle.raft_engine.specs.GroupState.{Lead, Role, Follower, Candidate, Leader}
-use Rattle.raft_engine.specs.StepResult.{StepResult, store, renew, store_vote, step_down, take_over, append}
+use Rattle.raft_group_step.specs.StoredGroup.{StoredGroup, Snapshot, StoringCommand, SetVote, after_storing, after_storing_all}
+use Rattle.raft_group_step.specs.GroupState.{Lead, Role, Follower, Candidate, Leader}
+use Rattle.raft_group_step.specs.StepResult.{StepResult, store, renew, store_vote, step_down, take_over, append}
 use Rattle.raft_values.specs.declared.vote.Vote.{Vote}
-use Rattle.raft_engine.specs.Values.{vote_lt}
+use Rattle.raft_group_step.specs.Values.{vote_lt}
 use Rattle.raft_values.specs.declared.log_id.LogId.{LogId}
-use Rattle.raft_engine.specs.Values.{EntryPayload}
+use Rattle.raft_group_step.specs.Values.{EntryPayload}
 use Rattle.raft_state.specs.declared.entry.EntryPayload.TheVariants.{Blank}
-use Rattle.raft_engine.specs.Peer.{PeerState}
-use Rattle.raft_engine.specs.GroupStep.{finished}
-use Rattle.raft_engine.specs.Lead.{other_ids, remove_up_to, with_wish, append_blank, committed_vote, begin_lead, lead_if, with_grant, commit_as_leader, purge_as_wished}
-use Rattle.raft_engine.specs.Frames.{with_frames, has_grown, send_request, serve, serve_all, serve_as}
+use Rattle.raft_group_step.specs.Peer.{PeerState}
+use Rattle.raft_group_step.specs.GroupStep.{finished}
+use Rattle.raft_group_step.specs.Lead.{other_ids, remove_up_to, with_wish, append_blank, committed_vote, begin_lead, lead_if, with_grant, commit_as_leader, purge_as_wished}
+use Rattle.raft_group_step.specs.Frames.{with_frames, has_grown, send_request, serve, serve_all, serve_as}
 use Rattle.raft_world.specs.StoringOrder.{StoresInOrder, KeepsVoteAndCommitted, AllKeep}
 use Rattle.raft_world.proofs.VoteOrders.{not_below, committed_not_below}
 

@@ -3,12 +3,12 @@ use Rattle.std.specs.Prelude.{◌≡◌, ℕ, ◌+◌, ◌<◌, ◌^◌, Bool, t
 use Rattle.std.proofs.Common.{inl, sym, ap, ◌∙◌, subst}
 use Rattle.raft_values.specs.declared.log_id.LogId.{LogId}
 use Rattle.raft_values.specs.LogId.{next_place, place_of}
-use Rattle.raft_engine.specs.Values.{Membership, vote_lt}
-use Rattle.raft_engine.specs.StoredGroup.{StoredGroup, CutFrom, entry_at, held}
-use Rattle.raft_engine.specs.Message.{AppendFields, Conflict, last_sent}
-use Rattle.raft_engine.specs.GroupState.{Follower}
-use Rattle.raft_engine.specs.StepResult.{StepResult, store, take_over}
-use Rattle.raft_engine.specs.AppendRequest.{is_held, cut_from, cut_at, above_committed, missing_entries, lesser_place, reply_append, joined, heard, append_request_step}
+use Rattle.raft_group_step.specs.Values.{Membership, vote_lt}
+use Rattle.raft_group_step.specs.StoredGroup.{StoredGroup, CutFrom, entry_at, held}
+use Rattle.raft_group_step.specs.Message.{AppendFields, Conflict, last_sent}
+use Rattle.raft_group_step.specs.GroupState.{Follower}
+use Rattle.raft_group_step.specs.StepResult.{StepResult, store, take_over}
+use Rattle.raft_group_step.specs.AppendRequest.{is_held, cut_from, cut_at, above_committed, missing_entries, lesser_place, reply_append, joined, heard, append_request_step}
 use Rattle.raft_world.specs.BallotWorld.{BallotWorld, BallotEvent, taken, cut_before}
 use Rattle.raft_world.specs.BallotRanks.{rank_of, ballot_log}
 use Rattle.raft_world.proofs.BallotOthers.{Extends, extends_refl}

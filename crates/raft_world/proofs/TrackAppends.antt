@@ -6,12 +6,12 @@ use Rattle.std.proofs.lemmas.List.{drop-drop, drop-map, take-map, map-append}
 use Rattle.std.proofs.lemmas.Option.{slice_get_past}
 use Rattle.raft_values.specs.declared.log_id.LogId.{LogId}
 use Rattle.raft_values.specs.LogId.{next_place, place_of}
-use Rattle.raft_engine.specs.Values.{Membership, Entry}
-use Rattle.raft_engine.specs.StoredGroup.{StoredGroup, PutEntries, CutFrom, after_storing, after_storing_all, first_place, entry_at, prefix_of, has_id_in_log}
-use Rattle.raft_engine.specs.Message.{Message, AppendFields, last_sent}
-use Rattle.raft_engine.specs.StepResult.{StepResult, store, with_stored, apply_up_to, later_place, is_within}
-use Rattle.raft_engine.specs.SnapshotRequest.{place_above}
-use Rattle.raft_engine.specs.AppendRequest.{is_held, cut_from, above_committed, missing_entries, put_entries, lesser_place}
+use Rattle.raft_group_step.specs.Values.{Membership, Entry}
+use Rattle.raft_group_step.specs.StoredGroup.{StoredGroup, PutEntries, CutFrom, after_storing, after_storing_all, first_place, entry_at, prefix_of, has_id_in_log}
+use Rattle.raft_group_step.specs.Message.{Message, AppendFields, last_sent}
+use Rattle.raft_group_step.specs.StepResult.{StepResult, store, with_stored, apply_up_to, later_place, is_within}
+use Rattle.raft_group_step.specs.SnapshotRequest.{place_above}
+use Rattle.raft_group_step.specs.AppendRequest.{is_held, cut_from, above_committed, missing_entries, put_entries, lesser_place}
 use Rattle.raft_world.specs.BallotLogs.{BallotEntry, holds_before, put_from}
 use Rattle.raft_world.specs.BallotLogs.{cut_from as cut_log_from}
 use Rattle.raft_world.specs.BallotWorld.{BallotNode, BallotAppend, BallotWorld, BallotEvent, TakeEntries, CutForEntries, CutForConflict, can_raise, taken, cut, cut_before, append_comes, cut_comes, conflict_comes, ballot_step}

@@ -7,17 +7,17 @@ use Rattle.std.proofs.lemmas.Bool.{and_parts, ltb-false, cases_lt}
 use Rattle.std.proofs.lemmas.Option.{slice_get_past}
 use Rattle.raft_state.specs.declared.entry.EntryPayload.TheVariants.{Membership as Members}
 use Rattle.raft_values.specs.LogId.{next_place}
-use Rattle.raft_engine.specs.Values.{Membership, Entry, EntryPayload, configs_eq}
-use Rattle.raft_engine.specs.StoredGroup.{StoredGroup, Snapshot, SetSnapshot, after_storing, id_of, snapshot_last, prefix_of, held}
-use Rattle.raft_engine.specs.GroupState.{Lead, Role, Follower, Candidate, Leader}
-use Rattle.raft_engine.specs.StepResult.{StepResult, store, append, with_stored}
-use Rattle.raft_engine.specs.Lead.{peer_of}
-use Rattle.raft_engine.specs.Frames.{with_peer_state}
-use Rattle.raft_engine.specs.Reply.{ended}
-use Rattle.raft_engine.specs.Lost.{lost_as}
-use Rattle.raft_engine.specs.Propose.{append_with_token}
-use Rattle.raft_engine.specs.SnapshotTrigger.{snapshot_at, store_snapshot_at, snapshot_of_applied}
-use Rattle.raft_engine.specs.SnapshotRequest.{place_above}
+use Rattle.raft_group_step.specs.Values.{Membership, Entry, EntryPayload, configs_eq}
+use Rattle.raft_group_step.specs.StoredGroup.{StoredGroup, Snapshot, SetSnapshot, after_storing, id_of, snapshot_last, prefix_of, held}
+use Rattle.raft_group_step.specs.GroupState.{Lead, Role, Follower, Candidate, Leader}
+use Rattle.raft_group_step.specs.StepResult.{StepResult, store, append, with_stored}
+use Rattle.raft_group_step.specs.Lead.{peer_of}
+use Rattle.raft_group_step.specs.Frames.{with_peer_state}
+use Rattle.raft_group_step.specs.Reply.{ended}
+use Rattle.raft_group_step.specs.Lost.{lost_as}
+use Rattle.raft_group_step.specs.Propose.{append_with_token}
+use Rattle.raft_group_step.specs.SnapshotTrigger.{snapshot_at, store_snapshot_at, snapshot_of_applied}
+use Rattle.raft_group_step.specs.SnapshotRequest.{place_above}
 use Rattle.raft_world.specs.BallotWorld.{BallotWorld, BallotEvent, written}
 use Rattle.raft_world.specs.BallotRanks.{rank_of}
 use Rattle.raft_world.proofs.BallotAgreement.{same_some, some_at}

@@ -6,12 +6,12 @@ use Rattle.std.proofs.lemmas.Bool.{and_parts, and_from, or_left, or_right, cases
 use Rattle.raft_values.specs.declared.log_id.LogId.{LogId}
 use Rattle.raft_values.specs.LogId.{place_of}
 use Rattle.raft_quorums.specs.Quorum.{is_quorum as is_quorum_of}
-use Rattle.raft_engine.specs.Values.{Membership, Entry, is_written_by}
-use Rattle.raft_engine.specs.StoredGroup.{StoredGroup, first_place, end_place, held}
-use Rattle.raft_engine.specs.GroupState.{Lead, Role, Follower, Candidate, Leader}
-use Rattle.raft_engine.specs.StepResult.{StepResult, apply_up_to, later_place, is_within}
-use Rattle.raft_engine.specs.SnapshotRequest.{place_above}
-use Rattle.raft_engine.specs.Lead.{configs_in_force, peer_of, has_accepted, may_be_committed, last_place, commit_as_leader}
+use Rattle.raft_group_step.specs.Values.{Membership, Entry, is_written_by}
+use Rattle.raft_group_step.specs.StoredGroup.{StoredGroup, first_place, end_place, held}
+use Rattle.raft_group_step.specs.GroupState.{Lead, Role, Follower, Candidate, Leader}
+use Rattle.raft_group_step.specs.StepResult.{StepResult, apply_up_to, later_place, is_within}
+use Rattle.raft_group_step.specs.SnapshotRequest.{place_above}
+use Rattle.raft_group_step.specs.Lead.{configs_in_force, peer_of, has_accepted, may_be_committed, last_place, commit_as_leader}
 use Rattle.raft_world.specs.BallotWorld.{BallotReply, BallotWorld, BallotEvent, CommitPlace, is_of, ballot_accepted, is_ballot_leader, is_ballot_settled, committed_to, ballot_start, ballot_step, ballot_run}
 use Rattle.raft_world.specs.BallotRanks.{rank_of, owner_of, ballot_entry, ballot_group}
 use Rattle.raft_world.specs.CommitsOwn.{CommitsOwn}

@@ -7,14 +7,14 @@ use Rattle.raft_state.specs.declared.entry.EntryPayload.TheVariants.{Blank, Norm
 use Rattle.raft_values.specs.Vote.{vote_of}
 use Rattle.raft_values.specs.LogId.{next_place, log_id_of}
 use Rattle.raft_quorums.specs.Quorum.{is_quorum as is_quorum_of}
-use Rattle.raft_engine.specs.Values.{Membership, Entry, EntryPayload, entry_of, vote_eq, has_id, last_membership}
-use Rattle.raft_engine.specs.StoredGroup.{StoredGroup, PutEntries, end_place, prefix_of, SetVote, after_storing, last_id, held}
-use Rattle.raft_engine.specs.Message.{VoteRequest}
-use Rattle.raft_engine.specs.GroupState.{Role, Follower, Candidate, Leader}
-use Rattle.raft_engine.specs.StepResult.{StepResult, store, store_vote, step_down, in_role, with_stored, append}
-use Rattle.raft_engine.specs.Lead.{configs_of, configs_in_force, committed_vote, new_lead, begin_lead, lead_if, with_grant}
-use Rattle.raft_engine.specs.Elect.{other_voters, ask, stand, elect_step}
-use Rattle.raft_engine.specs.Initialize.{is_new, initialize_step}
+use Rattle.raft_group_step.specs.Values.{Membership, Entry, EntryPayload, entry_of, vote_eq, has_id, last_membership}
+use Rattle.raft_group_step.specs.StoredGroup.{StoredGroup, PutEntries, end_place, prefix_of, SetVote, after_storing, last_id, held}
+use Rattle.raft_group_step.specs.Message.{VoteRequest}
+use Rattle.raft_group_step.specs.GroupState.{Role, Follower, Candidate, Leader}
+use Rattle.raft_group_step.specs.StepResult.{StepResult, store, store_vote, step_down, in_role, with_stored, append}
+use Rattle.raft_group_step.specs.Lead.{configs_of, configs_in_force, committed_vote, new_lead, begin_lead, lead_if, with_grant}
+use Rattle.raft_group_step.specs.Elect.{other_voters, ask, stand, elect_step}
+use Rattle.raft_group_step.specs.Initialize.{is_new, initialize_step}
 use Rattle.raft_world.specs.BallotLogs.{LogEnd}
 use Rattle.raft_world.specs.BallotQuorum.{is_quorum}
 use Rattle.raft_world.specs.BallotWorld.{FoundGroup, founded, is_empty, BallotRequest, BallotGrant, BallotWorld, BallotEvent, StandForElection, WinElection, has_granted, is_ballot_candidate, elected, won, written, ballot_step}

@@ -6,16 +6,16 @@ use Rattle.std.proofs.lemmas.List.{take-map, drop-map, drop-drop}
 use Rattle.std.proofs.lemmas.Option.{slice_get_within, slice_get_past}
 use Rattle.raft_values.specs.declared.log_id.LogId.{LogId}
 use Rattle.raft_values.specs.LogId.{next_place}
-use Rattle.raft_engine.specs.Values.{Membership, Entry}
-use Rattle.raft_engine.specs.StoredGroup.{StoredGroup, Snapshot, first_place, id_of, id_at, id_before, prefix_of, held}
-use Rattle.raft_engine.specs.Message.{AppendFields, AppendRequest, SnapshotRequest, Numbered, last_sent}
-use Rattle.raft_engine.specs.Peer.{PeerState, Outstanding, with_peer}
-use Rattle.raft_engine.specs.GroupState.{GroupState, Lead, Role, Follower, Candidate, Leader}
-use Rattle.raft_engine.specs.StepResult.{StepResult, send}
-use Rattle.raft_engine.specs.Lead.{peer_of, other_ids}
-use Rattle.raft_engine.specs.Frames.{committed_id, notice, request_start, waiting, send_entries, send_snapshot, send_request, serve, serve_as, serve_all, lacks_entries, entries_in_request}
-use Rattle.raft_engine.specs.Heartbeat.{send_notices, beat_as}
-use Rattle.raft_engine.specs.SnapshotRequest.{place_above}
+use Rattle.raft_group_step.specs.Values.{Membership, Entry}
+use Rattle.raft_group_step.specs.StoredGroup.{StoredGroup, Snapshot, first_place, id_of, id_at, id_before, prefix_of, held}
+use Rattle.raft_group_step.specs.Message.{AppendFields, AppendRequest, SnapshotRequest, Numbered, last_sent}
+use Rattle.raft_group_step.specs.Peer.{PeerState, Outstanding, with_peer}
+use Rattle.raft_group_step.specs.GroupState.{GroupState, Lead, Role, Follower, Candidate, Leader}
+use Rattle.raft_group_step.specs.StepResult.{StepResult, send}
+use Rattle.raft_group_step.specs.Lead.{peer_of, other_ids}
+use Rattle.raft_group_step.specs.Frames.{committed_id, notice, request_start, waiting, send_entries, send_snapshot, send_request, serve, serve_as, serve_all, lacks_entries, entries_in_request}
+use Rattle.raft_group_step.specs.Heartbeat.{send_notices, beat_as}
+use Rattle.raft_group_step.specs.SnapshotRequest.{place_above}
 use Rattle.raft_world.specs.BallotLogs.{BallotEntry, ballot_of, ballot_before}
 use Rattle.raft_world.specs.BallotWorld.{BallotWorld, BallotEvent, SendEntries, is_ballot_leader, sent, ballot_step}
 use Rattle.raft_world.specs.BallotRanks.{rank_of, ballot_entry, ballot_log, ballot_group}

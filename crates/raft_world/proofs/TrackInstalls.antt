@@ -8,10 +8,10 @@ use Rattle.std.proofs.lemmas.Option.{slice_get_within}
 use Rattle.raft_values.specs.declared.log_id.LogId.{LogId}
 use Rattle.raft_values.specs.declared.vote.Vote.{Vote}
 use Rattle.raft_values.specs.declared.vote.LeaderId.{LeaderId}
-use Rattle.raft_engine.specs.Values.{Membership, Entry, EntryPayload}
-use Rattle.raft_engine.specs.StoredGroup.{StoredGroup, Snapshot, CutFrom, SetSnapshot, RemoveUpTo, after_storing, first_place, prefix_of, has_id_in_log}
-use Rattle.raft_engine.specs.StepResult.{StepResult, store, apply_up_to, later_place, with_stored}
-use Rattle.raft_engine.specs.SnapshotRequest.{place_above}
+use Rattle.raft_group_step.specs.Values.{Membership, Entry, EntryPayload}
+use Rattle.raft_group_step.specs.StoredGroup.{StoredGroup, Snapshot, CutFrom, SetSnapshot, RemoveUpTo, after_storing, first_place, prefix_of, has_id_in_log}
+use Rattle.raft_group_step.specs.StepResult.{StepResult, store, apply_up_to, later_place, with_stored}
+use Rattle.raft_group_step.specs.SnapshotRequest.{place_above}
 use Rattle.raft_world.specs.BallotLists.{AgreeBelow}
 use Rattle.raft_world.specs.BallotLogs.{BallotEntry, ballot_of, ballot_before, last_ballot, holds_before, put_over}
 use Rattle.raft_world.specs.BallotWorld.{BallotNode, BallotAppend, BallotWorld, BallotEvent, TakeEntries, CutForSnapshot, can_raise, taken, dropped, append_comes, drop_comes, ballot_step}

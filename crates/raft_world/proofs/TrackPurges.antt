@@ -2,10 +2,10 @@
 use Rattle.std.specs.Prelude.{◌≡◌, ℕ, ◌<◌, ◌≤◌, List, length, slice_get, Some, refl}
 use Rattle.std.proofs.Common.{sym, ap, ◌∙◌, subst, arith, ⊎_elim}
 use Rattle.std.proofs.lemmas.Bool.{cases_lt}
-use Rattle.raft_engine.specs.Values.{Membership, Entry}
-use Rattle.raft_engine.specs.StoredGroup.{StoredGroup, RemoveUpTo, after_storing, id_of, first_place, prefix_of, held}
-use Rattle.raft_engine.specs.StepResult.{StepResult, store, with_stored}
-use Rattle.raft_engine.specs.Lead.{remove_up_to, purge_up_to}
+use Rattle.raft_group_step.specs.Values.{Membership, Entry}
+use Rattle.raft_group_step.specs.StoredGroup.{StoredGroup, RemoveUpTo, after_storing, id_of, first_place, prefix_of, held}
+use Rattle.raft_group_step.specs.StepResult.{StepResult, store, with_stored}
+use Rattle.raft_group_step.specs.Lead.{remove_up_to, purge_up_to}
 use Rattle.raft_world.specs.BallotWorld.{BallotWorld, BallotEvent}
 use Rattle.raft_world.proofs.BallotAgreement.{some_at, same_some}
 use Rattle.raft_world.proofs.BallotOthers.{extends_refl}

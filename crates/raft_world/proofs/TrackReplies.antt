@@ -6,18 +6,18 @@ use Rattle.raft_values.specs.declared.log_id.LogId.{LogId}
 use Rattle.raft_values.specs.declared.vote.Vote.{Vote}
 use Rattle.raft_values.specs.declared.vote.LeaderId.{LeaderId}
 use Rattle.raft_values.specs.LogId.{next_place}
-use Rattle.raft_engine.specs.Values.{Membership, Entry, vote_eq, vote_lt, leader_eq, last_id_lt, last_id_eq}
-use Rattle.raft_engine.specs.StoredGroup.{StoredGroup, last_id, held}
-use Rattle.raft_engine.specs.Message.{ReplyFields, ReplyResult, Success, Conflict, HigherVote}
-use Rattle.raft_engine.specs.Peer.{PeerState, Outstanding, new_peer, peer_or, with_peer, is_answer_to}
-use Rattle.raft_engine.specs.GroupState.{Lead, Role, Follower, Candidate, Leader}
-use Rattle.raft_engine.specs.StepResult.{StepResult, store_vote, step_down}
-use Rattle.raft_engine.specs.Lead.{peer_of}
-use Rattle.raft_engine.specs.Frames.{with_peer_state}
-use Rattle.raft_engine.specs.VoteRequest.{may_grant, is_under_lease, judged, vote_request_step}
-use Rattle.raft_engine.specs.VoteReply.{take_over_greater, counted, vote_reply_step}
-use Rattle.raft_engine.specs.Reply.{after_answer, answered, with_higher_vote, reply_step}
-use Rattle.raft_engine.specs.Refusal.{is_foreign, is_foreign_result}
+use Rattle.raft_group_step.specs.Values.{Membership, Entry, vote_eq, vote_lt, leader_eq, last_id_lt, last_id_eq}
+use Rattle.raft_group_step.specs.StoredGroup.{StoredGroup, last_id, held}
+use Rattle.raft_group_step.specs.Message.{ReplyFields, ReplyResult, Success, Conflict, HigherVote}
+use Rattle.raft_group_step.specs.Peer.{PeerState, Outstanding, new_peer, peer_or, with_peer, is_answer_to}
+use Rattle.raft_group_step.specs.GroupState.{Lead, Role, Follower, Candidate, Leader}
+use Rattle.raft_group_step.specs.StepResult.{StepResult, store_vote, step_down}
+use Rattle.raft_group_step.specs.Lead.{peer_of}
+use Rattle.raft_group_step.specs.Frames.{with_peer_state}
+use Rattle.raft_group_step.specs.VoteRequest.{may_grant, is_under_lease, judged, vote_request_step}
+use Rattle.raft_group_step.specs.VoteReply.{take_over_greater, counted, vote_reply_step}
+use Rattle.raft_group_step.specs.Reply.{after_answer, answered, with_higher_vote, reply_step}
+use Rattle.raft_group_step.specs.Refusal.{is_foreign, is_foreign_result}
 use Rattle.raft_world.specs.BallotWorld.{BallotReply, BallotWorld, BallotEvent, raised}
 use Rattle.raft_world.specs.BallotRanks.{rank_of}
 use Rattle.raft_world.proofs.BallotSafe.{Among}

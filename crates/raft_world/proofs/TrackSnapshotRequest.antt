@@ -5,13 +5,13 @@ use Rattle.std.proofs.lemmas.Bool.{cases_lt}
 use Rattle.std.proofs.lemmas.Option.{slice_get_past}
 use Rattle.raft_values.specs.declared.vote.Vote.{Vote}
 use Rattle.raft_values.specs.LogId.{next_place, place_of}
-use Rattle.raft_engine.specs.Values.{Membership, vote_lt}
-use Rattle.raft_engine.specs.StoredGroup.{StoredGroup, Snapshot, CutFrom, entry_at, has_id_in_log, held, first_place}
-use Rattle.raft_engine.specs.Message.{AppendFields, HeartBeat, Success, last_sent}
-use Rattle.raft_engine.specs.GroupState.{Follower}
-use Rattle.raft_engine.specs.StepResult.{StepResult, store, take_over, apply_up_to, is_within}
-use Rattle.raft_engine.specs.AppendRequest.{above_committed, missing_entries, put_entries, lesser_place}
-use Rattle.raft_engine.specs.SnapshotRequest.{place_above, cut_other, install, install_unless, reply_snapshot, offered, snapshot_request_step}
+use Rattle.raft_group_step.specs.Values.{Membership, vote_lt}
+use Rattle.raft_group_step.specs.StoredGroup.{StoredGroup, Snapshot, CutFrom, entry_at, has_id_in_log, held, first_place}
+use Rattle.raft_group_step.specs.Message.{AppendFields, HeartBeat, Success, last_sent}
+use Rattle.raft_group_step.specs.GroupState.{Follower}
+use Rattle.raft_group_step.specs.StepResult.{StepResult, store, take_over, apply_up_to, is_within}
+use Rattle.raft_group_step.specs.AppendRequest.{above_committed, missing_entries, put_entries, lesser_place}
+use Rattle.raft_group_step.specs.SnapshotRequest.{place_above, cut_other, install, install_unless, reply_snapshot, offered, snapshot_request_step}
 use Rattle.raft_world.specs.BallotWorld.{BallotWorld, BallotEvent, taken, dropped}
 use Rattle.raft_world.specs.BallotRanks.{rank_of, ballot_log}
 use Rattle.raft_world.proofs.BallotAgreement.{same_some, some_at, with_value_same}

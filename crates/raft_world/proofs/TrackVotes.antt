@@ -5,14 +5,14 @@ use Rattle.std.proofs.lemmas.Bool.{and_from, or_left, or_right, not_from_false, 
 use Rattle.std.specs.Ordering.{nat_cmp, ordering_then, is_lt}
 use Rattle.raft_values.specs.declared.log_id.LogId.{LogId}
 use Rattle.raft_values.specs.declared.vote.Vote.{Vote}
-use Rattle.raft_engine.specs.Values.{vote_lt}
+use Rattle.raft_group_step.specs.Values.{vote_lt}
 use Rattle.raft_values.specs.LogId.{next_place}
-use Rattle.raft_engine.specs.Values.{last_id_lt}
-use Rattle.raft_engine.specs.Values.{Membership}
-use Rattle.raft_engine.specs.Values.{Entry}
-use Rattle.raft_engine.specs.StoredGroup.{StoredGroup, SetVote, after_storing, last_id, end_place}
-use Rattle.raft_engine.specs.GroupState.{GroupState, Role, Follower, Candidate, Leader}
-use Rattle.raft_engine.specs.StepResult.{StepResult, renew, store_vote, step_down, take_over, with_stored}
+use Rattle.raft_group_step.specs.Values.{last_id_lt}
+use Rattle.raft_group_step.specs.Values.{Membership}
+use Rattle.raft_group_step.specs.Values.{Entry}
+use Rattle.raft_group_step.specs.StoredGroup.{StoredGroup, SetVote, after_storing, last_id, end_place}
+use Rattle.raft_group_step.specs.GroupState.{GroupState, Role, Follower, Candidate, Leader}
+use Rattle.raft_group_step.specs.StepResult.{StepResult, renew, store_vote, step_down, take_over, with_stored}
 use Rattle.raft_world.specs.BallotLogs.{is_at_least}
 use Rattle.raft_world.specs.BallotWorld.{BallotNode, BallotRequest, BallotWorld, BallotEvent, RaiseVote, TakeRequest, can_grant, raised, granted, request_comes, ballot_step}
 use Rattle.raft_world.specs.BallotRanks.{rank_of, owner_of, ballot_group}

@@ -7,10 +7,10 @@ use Rattle.std.proofs.lemmas.Option.{slice_get_within}
 use Rattle.raft_values.specs.declared.log_id.LogId.{LogId}
 use Rattle.raft_state.specs.declared.entry.EntryPayload.TheVariants.{Membership as Members}
 use Rattle.raft_values.specs.LogId.{next_place}
-use Rattle.raft_engine.specs.Values.{Membership, Entry, EntryPayload, entry_of}
-use Rattle.raft_engine.specs.StoredGroup.{StoredGroup, PutEntries, CutFrom, after_storing, end_place, prefix_of, held}
-use Rattle.raft_engine.specs.GroupState.{Role}
-use Rattle.raft_engine.specs.StepResult.{StepResult, append, with_stored}
+use Rattle.raft_group_step.specs.Values.{Membership, Entry, EntryPayload, entry_of}
+use Rattle.raft_group_step.specs.StoredGroup.{StoredGroup, PutEntries, CutFrom, after_storing, end_place, prefix_of, held}
+use Rattle.raft_group_step.specs.GroupState.{Role}
+use Rattle.raft_group_step.specs.StepResult.{StepResult, append, with_stored}
 use Rattle.raft_world.specs.BallotLogs.{BallotEntry}
 use Rattle.raft_world.specs.BallotWorld.{BallotNode, BallotWorld, BallotEvent, WriteEntry, is_ballot_leader, written, ballot_step}
 use Rattle.raft_world.specs.BallotRanks.{rank_of, owner_of, ballot_entry, ballot_log, ballot_group}

@@ -2,11 +2,11 @@
 -- for the machine's node after some of them.
 use Rattle.std.specs.Prelude.{◌≡◌, ◌⊎◌, ℕ, zero, suc, ◌<◌, List, [], ◌∷◌, ◌++◌, length, take, slice_get, Some, refl}
 use Rattle.std.proofs.Common.{inl, inr, sym, ap, ◌∙◌, subst, ⊎_elim}
-use Rattle.raft_engine.specs.Values.{Membership}
-use Rattle.raft_engine.specs.StoredGroup.{StoredGroup, StoringCommand, after_storing, after_storing_all}
-use Rattle.raft_engine.specs.Message.{Message, MessageBody}
-use Rattle.raft_engine.specs.GroupState.{GroupState}
-use Rattle.raft_engine.specs.StepResult.{StepResult, store, send, with_stored}
+use Rattle.raft_group_step.specs.Values.{Membership}
+use Rattle.raft_group_step.specs.StoredGroup.{StoredGroup, StoringCommand, after_storing, after_storing_all}
+use Rattle.raft_group_step.specs.Message.{Message, MessageBody}
+use Rattle.raft_group_step.specs.GroupState.{GroupState}
+use Rattle.raft_group_step.specs.StepResult.{StepResult, store, send, with_stored}
 use Rattle.raft_world.specs.BallotWorld.{BallotNode, BallotWorld, BallotEvent, ballot_start, ballot_step, ballot_run}
 use Rattle.raft_world.specs.BallotOrigin.{actor}
 use Rattle.raft_world.specs.BallotRanks.{ballot_group}
@@ -17,7 +17,7 @@ use Rattle.raft_world.proofs.BallotOthers.{Extends, happens_extends, AllBy}
 use Rattle.raft_world.proofs.Standing.{StoredFits, DownFits, UpFits, LeadKept, MessageFits, up_down, message_on}
 use Rattle.raft_world.proofs.StepWords.{all-append}
 use Rattle.raft_world.proofs.Shapes.{Joined}
-use Rattle.raft_engine.specs.SnapshotRequest.{place_above}
+use Rattle.raft_group_step.specs.SnapshotRequest.{place_above}
 
 pub among_last : {A : Type 0} (x y : A) (xs : List A) → Among x (xs ++ y ∷ []) → Among x xs ⊎ (x ≡ y)
 among_last x y [] h = ⊎_elim (λ e. inr e) (λ a. absurd a) h

@@ -8,7 +8,7 @@ use Rattle.std.specs.Ordering.{nat_cmp, bool_cmp, ordering_then, is_lt}
 use Rattle.raft_values.specs.declared.vote.LeaderId.{LeaderId}
 use Rattle.raft_values.specs.declared.vote.Vote.{Vote}
 use Rattle.raft_values.specs.Vote.{leader_cmp}
-use Rattle.raft_engine.specs.Values.{vote_lt}
+use Rattle.raft_group_step.specs.Values.{vote_lt}
 
 pub less_is : (x y : ℕ) → x < y → nat_cmp x y ≡ Less
 less_is x y l = cond-true (nat_lt x y) _ _ (lt-ltb x y l)

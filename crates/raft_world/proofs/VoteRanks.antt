@@ -5,7 +5,7 @@ use Rattle.std.proofs.Common.{sym, ap, ap₂, ◌∙◌, ⊎_elim, arith, lt-ltb
 use Rattle.std.proofs.lemmas.Bool.{and_parts, and_from, cond-true, cond-false, cases_lt}
 use Rattle.raft_values.specs.declared.vote.LeaderId.{LeaderId}
 use Rattle.raft_values.specs.declared.vote.Vote.{Vote}
-use Rattle.raft_engine.specs.Values.{leader_eq, vote_eq, vote_lt}
+use Rattle.raft_group_step.specs.Values.{leader_eq, vote_eq, vote_lt}
 use Rattle.raft_world.specs.BallotRanks.{rank_of, owner_of}
 use Rattle.raft_world.proofs.VoteOrders.{LeaderBelow, by_term, by_node, VoteOrder, lower, earlier, level, later, higher, vote_order, differ_flags}
 

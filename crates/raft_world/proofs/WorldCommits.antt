@@ -6,14 +6,14 @@ use Rattle.std.proofs.lemmas.Bool.{and_from, cases_lt, or_left, or_right}
 use Rattle.raft_values.specs.declared.vote.Vote.{Vote}
 use Rattle.raft_values.specs.declared.log_id.LogId.{LogId}
 use Rattle.raft_quorums.specs.Quorum.{is_quorum as is_quorum_of}
-use Rattle.raft_engine.specs.Values.{Membership, Entry, has_id, is_written_by, leader_eq, log_id_eq, vote_eq}
-use Rattle.raft_engine.specs.StoredGroup.{StoredGroup, StoringCommand, MakeGroup, SetVote, PutEntries, CutFrom, RemoveUpTo, SetSnapshot, StartAfter, after_storing, after_storing_all, held, prefix_of}
-use Rattle.raft_engine.specs.Message.{Message}
-use Rattle.raft_engine.specs.GroupState.{GroupState, Role, Follower, Candidate, Leader, is_leader, no_group, state_of}
-use Rattle.raft_engine.specs.GroupEvent.{GroupEvent, Open}
-use Rattle.raft_engine.specs.StepResult.{RefusalReason, StepResult}
-use Rattle.raft_engine.specs.SnapshotRequest.{place_above}
-use Rattle.raft_engine.specs.GroupStep.{group_step}
+use Rattle.raft_group_step.specs.Values.{Membership, Entry, has_id, is_written_by, leader_eq, log_id_eq, vote_eq}
+use Rattle.raft_group_step.specs.StoredGroup.{StoredGroup, StoringCommand, MakeGroup, SetVote, PutEntries, CutFrom, RemoveUpTo, SetSnapshot, StartAfter, after_storing, after_storing_all, held, prefix_of}
+use Rattle.raft_group_step.specs.Message.{Message}
+use Rattle.raft_group_step.specs.GroupState.{GroupState, Role, Follower, Candidate, Leader, is_leader, no_group, state_of}
+use Rattle.raft_group_step.specs.GroupEvent.{GroupEvent, Open}
+use Rattle.raft_group_step.specs.StepResult.{RefusalReason, StepResult}
+use Rattle.raft_group_step.specs.SnapshotRequest.{place_above}
+use Rattle.raft_group_step.specs.GroupStep.{group_step}
 use Rattle.raft_world.specs.BallotWorld.{BallotEvent}
 use Rattle.raft_world.specs.declared.world_event.WorldEvent.{WorldEvent}
 use Rattle.raft_world.specs.GroupWorld.{GroupWorld, NodeState, Absent, Up, Down, Led, Outcome, Recorded, is_stop, new_world, state_or}

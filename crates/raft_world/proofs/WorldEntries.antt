@@ -4,15 +4,15 @@ use Rattle.std.specs.Prelude.{◌≡◌, ℕ, zero, suc, ◌<◌, ◌==◌, Bool
 use Rattle.std.proofs.Common.{sym, subst, arith}
 use Rattle.raft_values.specs.declared.log_id.LogId.{LogId}
 use Rattle.raft_state.specs.declared.entry.EntryPayload.TheVariants.{Blank}
-use Rattle.raft_engine.specs.Values.{ChangeMembers, Entry, entry_of, LoggedMembership}
-use Rattle.raft_engine.specs.StoredGroup.{StoredGroup, held, membership_in_force}
-use Rattle.raft_engine.specs.Message.{Message}
-use Rattle.raft_engine.specs.GroupState.{GroupState, Role, Follower, Candidate, Leader, state_of}
-use Rattle.raft_engine.specs.declared.group_call.GroupCall.TheVariants.{Initialize, Elect, Propose, ChangeMembership, Heartbeat, Lost, TriggerSnapshot, TriggerPurge}
-use Rattle.raft_engine.specs.GroupEvent.{GroupCall, GroupEvent, AddGroup, Call, Receive, Open}
-use Rattle.raft_engine.specs.StepResult.{RefusalReason, StepResult}
-use Rattle.raft_engine.specs.Refusal.{refusal_of}
-use Rattle.raft_engine.specs.GroupStep.{group_step}
+use Rattle.raft_group_step.specs.Values.{ChangeMembers, Entry, entry_of, LoggedMembership}
+use Rattle.raft_group_step.specs.StoredGroup.{StoredGroup, held, membership_in_force}
+use Rattle.raft_group_step.specs.Message.{Message}
+use Rattle.raft_group_step.specs.GroupState.{GroupState, Role, Follower, Candidate, Leader, state_of}
+use Rattle.raft_group_step.specs.declared.group_call.GroupCall.TheVariants.{Initialize, Elect, Propose, ChangeMembership, Heartbeat, Lost, TriggerSnapshot, TriggerPurge}
+use Rattle.raft_group_step.specs.GroupEvent.{GroupCall, GroupEvent, AddGroup, Call, Receive, Open}
+use Rattle.raft_group_step.specs.StepResult.{RefusalReason, StepResult}
+use Rattle.raft_group_step.specs.Refusal.{refusal_of}
+use Rattle.raft_group_step.specs.GroupStep.{group_step}
 use Rattle.raft_world.specs.declared.world_event.WorldEvent.{WorldEvent}
 use Rattle.raft_world.specs.declared.world_event.WorldEvent.TheVariants.{Add, Ask, Deliver, Crash, Restart}
 use Rattle.raft_world.specs.GroupWorld.{GroupWorld, NodeState, Absent, Up, Down, Led, Outcome, Done, Skipped, is_stop, state_or}

@@ -1,10 +1,10 @@
 -- A group's world that fits the ballot machine: its nodes, its messages and its notes of leaders.
 use Rattle.std.specs.Prelude.{◌≡◌, ℕ, ◌<◌, ◌^◌, true, List, length, slice_get, Some}
 use Rattle.std.proofs.Common.{sym, ap, ◌∙◌, subst, arith, ⊎_elim}
-use Rattle.raft_engine.specs.Values.{Membership, Entry}
-use Rattle.raft_engine.specs.StoredGroup.{held}
-use Rattle.raft_engine.specs.Message.{Message}
-use Rattle.raft_engine.specs.GroupState.{GroupState, Role, Follower, Candidate, Leader}
+use Rattle.raft_group_step.specs.Values.{Membership, Entry}
+use Rattle.raft_group_step.specs.StoredGroup.{held}
+use Rattle.raft_group_step.specs.Message.{Message}
+use Rattle.raft_group_step.specs.GroupState.{GroupState, Role, Follower, Candidate, Leader}
 use Rattle.raft_world.specs.BallotLists.{AgreeBelow}
 use Rattle.raft_world.specs.BallotWorld.{BallotWorld, BallotEvent, ballot_start, ballot_accepted}
 use Rattle.raft_world.specs.BallotRanks.{rank_of, owner_of, ballot_entry, ballot_log, ballot_group}

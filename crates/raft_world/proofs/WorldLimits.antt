@@ -6,11 +6,11 @@ use Rattle.std.proofs.lemmas.Bool.{and_from, and_parts}
 use Rattle.raft_values.specs.declared.vote.LeaderId.{LeaderId}
 use Rattle.raft_values.specs.declared.vote.Vote.{Vote}
 use Rattle.raft_values.specs.declared.log_id.LogId.{LogId}
-use Rattle.raft_engine.specs.Values.{leader_eq, log_id_eq, vote_eq}
-use Rattle.raft_engine.specs.StoredGroup.{prefix_of}
-use Rattle.raft_engine.specs.Message.{Message, MessageBody, VoteRequest, VoteReply, AppendRequest, AppendReply, SnapshotRequest, SnapshotReply, ReplyFields, ReplyResult, Success}
-use Rattle.raft_engine.specs.GroupState.{Role, Follower, Candidate, Leader}
-use Rattle.raft_engine.specs.GroupEvent.{GroupCall}
+use Rattle.raft_group_step.specs.Values.{leader_eq, log_id_eq, vote_eq}
+use Rattle.raft_group_step.specs.StoredGroup.{prefix_of}
+use Rattle.raft_group_step.specs.Message.{Message, MessageBody, VoteRequest, VoteReply, AppendRequest, AppendReply, SnapshotRequest, SnapshotReply, ReplyFields, ReplyResult, Success}
+use Rattle.raft_group_step.specs.GroupState.{Role, Follower, Candidate, Leader}
+use Rattle.raft_group_step.specs.GroupEvent.{GroupCall}
 use Rattle.raft_world.specs.declared.world_event.WorldEvent.{WorldEvent}
 use Rattle.raft_world.specs.declared.world_event.WorldEvent.TheVariants.{Add, Ask, Deliver, Crash, Restart}
 use Rattle.raft_world.specs.GroupWorld.{GroupWorld, NodeState, Absent, Up, Down}

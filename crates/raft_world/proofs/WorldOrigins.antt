@@ -4,10 +4,10 @@ use Rattle.std.proofs.Common.{inl, inr, sym, ap, ap₂, ◌∙◌, subst, arith,
 use Rattle.std.proofs.Math.Seq.{take-append_seam}
 use Rattle.raft_values.specs.declared.log_id.LogId.{LogId}
 use Rattle.raft_state.specs.declared.entry.EntryPayload.TheVariants.{Blank}
-use Rattle.raft_engine.specs.Values.{Entry, entry_of, has_id}
-use Rattle.raft_engine.specs.GroupState.{GroupState, no_group, state_of}
-use Rattle.raft_engine.specs.GroupEvent.{GroupCall, Call}
-use Rattle.raft_engine.specs.Refusal.{refusal_of}
+use Rattle.raft_group_step.specs.Values.{Entry, entry_of, has_id}
+use Rattle.raft_group_step.specs.GroupState.{GroupState, no_group, state_of}
+use Rattle.raft_group_step.specs.GroupEvent.{GroupCall, Call}
+use Rattle.raft_group_step.specs.Refusal.{refusal_of}
 use Rattle.raft_world.specs.declared.world_event.WorldEvent.{WorldEvent}
 use Rattle.raft_world.specs.declared.world_event.WorldEvent.TheVariants.{Ask}
 use Rattle.raft_world.specs.GroupWorld.{GroupWorld, Absent, Led, Up, new_world, state_or}

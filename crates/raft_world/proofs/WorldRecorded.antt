@@ -1,14 +1,14 @@
 -- What an event of a run asked for stands in its history, neither refused nor skipped.
 use Rattle.std.specs.Prelude.{◌≡◌, ℕ, zero, suc, Bool, true, false, [], ◌∷◌, slice_get, Option, Some, None, is_some, refl}
 use Rattle.std.proofs.Common.{sym, ap, ◌∙◌}
-use Rattle.raft_engine.specs.Values.{ChangeMembers, Entry, LoggedMembership}
-use Rattle.raft_engine.specs.StoredGroup.{membership_in_force}
-use Rattle.raft_engine.specs.GroupState.{GroupState}
-use Rattle.raft_engine.specs.declared.group_call.GroupCall.TheVariants.{Initialize, Elect, Propose, ChangeMembership, Heartbeat, Lost, TriggerSnapshot, TriggerPurge}
-use Rattle.raft_engine.specs.GroupEvent.{GroupCall, GroupEvent, Call}
-use Rattle.raft_engine.specs.StepResult.{RefusalReason, StepResult}
-use Rattle.raft_engine.specs.MembershipStep.{append_changed}
-use Rattle.raft_engine.specs.GroupStep.{begun, call_step, group_step, step_unless}
+use Rattle.raft_group_step.specs.Values.{ChangeMembers, Entry, LoggedMembership}
+use Rattle.raft_group_step.specs.StoredGroup.{membership_in_force}
+use Rattle.raft_group_step.specs.GroupState.{GroupState}
+use Rattle.raft_group_step.specs.declared.group_call.GroupCall.TheVariants.{Initialize, Elect, Propose, ChangeMembership, Heartbeat, Lost, TriggerSnapshot, TriggerPurge}
+use Rattle.raft_group_step.specs.GroupEvent.{GroupCall, GroupEvent, Call}
+use Rattle.raft_group_step.specs.StepResult.{RefusalReason, StepResult}
+use Rattle.raft_group_step.specs.MembershipStep.{append_changed}
+use Rattle.raft_group_step.specs.GroupStep.{begun, call_step, group_step, step_unless}
 use Rattle.raft_world.specs.declared.world_event.WorldEvent.{WorldEvent}
 use Rattle.raft_world.specs.declared.world_event.WorldEvent.TheVariants.{Ask}
 use Rattle.raft_world.specs.GroupWorld.{GroupWorld, Up, Outcome, Recorded}

@@ -2,15 +2,15 @@
 use Rattle.std.specs.Prelude.{◌≡◌, ◌⊎◌, ℕ, ◌<◌, ◌==◌, ◌&&◌, not, Bool, true, false, List, [], ◌∷◌, ◌++◌, length, slice_get, Option, Some, None, refl}
 use Rattle.std.proofs.Common.{inl, inr, sym, ap, ◌∙◌, subst, ⊎_elim, eqb-true}
 use Rattle.std.proofs.lemmas.Bool.{eqb-false}
-use Rattle.raft_engine.specs.Values.{Membership, is_valid, is_within_limits}
-use Rattle.raft_engine.specs.Message.{Message}
-use Rattle.raft_engine.specs.GroupState.{GroupState}
-use Rattle.raft_engine.specs.declared.group_call.GroupCall.TheVariants.{Initialize, Elect, Propose, ChangeMembership, Heartbeat, Lost, TriggerSnapshot, TriggerPurge}
-use Rattle.raft_engine.specs.GroupEvent.{GroupCall, AddGroup, Call, Receive}
-use Rattle.raft_engine.specs.StepResult.{StepResult, RefusalReason, MembershipRefused, UnknownGroup}
-use Rattle.raft_engine.specs.Refusal.{first_of_reasons, is_first_membership, refusal_of, unless}
-use Rattle.raft_engine.specs.Initialize.{initialize_step}
-use Rattle.raft_engine.specs.GroupStep.{begun, finished, group_step, step_unless}
+use Rattle.raft_group_step.specs.Values.{Membership, is_valid, is_within_limits}
+use Rattle.raft_group_step.specs.Message.{Message}
+use Rattle.raft_group_step.specs.GroupState.{GroupState}
+use Rattle.raft_group_step.specs.declared.group_call.GroupCall.TheVariants.{Initialize, Elect, Propose, ChangeMembership, Heartbeat, Lost, TriggerSnapshot, TriggerPurge}
+use Rattle.raft_group_step.specs.GroupEvent.{GroupCall, AddGroup, Call, Receive}
+use Rattle.raft_group_step.specs.StepResult.{StepResult, RefusalReason, MembershipRefused, UnknownGroup}
+use Rattle.raft_group_step.specs.Refusal.{first_of_reasons, is_first_membership, refusal_of, unless}
+use Rattle.raft_group_step.specs.Initialize.{initialize_step}
+use Rattle.raft_group_step.specs.GroupStep.{begun, finished, group_step, step_unless}
 use Rattle.raft_world.specs.BallotWorld.{BallotWorld, BallotEvent}
 use Rattle.raft_world.specs.declared.world_event.WorldEvent.{WorldEvent}
 use Rattle.raft_world.specs.declared.world_event.WorldEvent.TheVariants.{Add, Ask, Deliver, Crash, Restart}

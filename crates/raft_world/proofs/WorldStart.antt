@@ -1,8 +1,8 @@
 -- A new world fits the ballot machine at its start, and so does each that a history leads to.
 use Rattle.std.specs.Prelude.{◌≡◌, ◌⊎◌, ℕ, ◌<◌, ◌^◌, Bool, true, false, List, [], ◌∷◌, length, Option, Some, None, refl}
 use Rattle.std.proofs.Common.{inl, inr, sym, ap, ◌∙◌, arith}
-use Rattle.raft_engine.specs.Values.{Membership, LoggedMembership, has_id}
-use Rattle.raft_engine.specs.GroupState.{no_group, state_of}
+use Rattle.raft_group_step.specs.Values.{Membership, LoggedMembership, has_id}
+use Rattle.raft_group_step.specs.GroupState.{no_group, state_of}
 use Rattle.raft_world.specs.BallotWorld.{BallotWorld}
 use Rattle.raft_world.specs.GroupWorld.{GroupWorld, Absent, Up, Led, Recorded, new_world, state_or}
 use Rattle.raft_world.specs.GroupRun.{Replays}

@@ -1,14 +1,14 @@
 -- What an event does at its node, followed by the ballot machine.
 use Rattle.std.specs.Prelude.{◌≡◌, ◌⊎◌, ℕ, zero, suc, ◌<◌, ◌^◌, Bool, true, false, List, [], ◌++◌, length, take, Option, Some, None, refl}
 use Rattle.std.proofs.Common.{sym, subst, ⊎_elim}
-use Rattle.raft_engine.specs.Values.{Membership}
-use Rattle.raft_engine.specs.StoredGroup.{StoredGroup, StoringCommand, after_storing_all}
-use Rattle.raft_engine.specs.Message.{Message}
-use Rattle.raft_engine.specs.GroupState.{GroupState, state_of}
-use Rattle.raft_engine.specs.GroupEvent.{GroupEvent, Open}
-use Rattle.raft_engine.specs.StepResult.{StepResult, RefusalReason, refused_step}
-use Rattle.raft_engine.specs.Refusal.{refusal_of}
-use Rattle.raft_engine.specs.GroupStep.{group_step, step_unless}
+use Rattle.raft_group_step.specs.Values.{Membership}
+use Rattle.raft_group_step.specs.StoredGroup.{StoredGroup, StoringCommand, after_storing_all}
+use Rattle.raft_group_step.specs.Message.{Message}
+use Rattle.raft_group_step.specs.GroupState.{GroupState, state_of}
+use Rattle.raft_group_step.specs.GroupEvent.{GroupEvent, Open}
+use Rattle.raft_group_step.specs.StepResult.{StepResult, RefusalReason, refused_step}
+use Rattle.raft_group_step.specs.Refusal.{refusal_of}
+use Rattle.raft_group_step.specs.GroupStep.{group_step, step_unless}
 use Rattle.raft_world.specs.BallotWorld.{BallotWorld, BallotEvent, ballot_start}
 use Rattle.raft_world.specs.BallotRanks.{ballot_group}
 use Rattle.raft_world.specs.GroupWorld.{NodeState, Absent, Up, Down, Led, Outcome}

@@ -1,9 +1,9 @@
 -- Each token that an event of a run tells stands for the entry that its own event wrote.
 use Rattle.std.specs.Prelude.{◌≡◌, ℕ, ◌<◌, Bool, true, false, List, [], ◌∷◌, ◌++◌, length, slice_get, Option, Some, None, is_some, refl}
 use Rattle.std.proofs.Common.{inl, inr, sym, ap, ◌∙◌, subst, arith, leb-true, append_assoc, append-nil}
-use Rattle.raft_engine.specs.Values.{Entry, has_id, Membership}
-use Rattle.raft_engine.specs.GroupState.{GroupState, Untold, no_group, state_of}
-use Rattle.raft_engine.specs.GroupEvent.{GroupCall}
+use Rattle.raft_group_step.specs.Values.{Entry, has_id, Membership}
+use Rattle.raft_group_step.specs.GroupState.{GroupState, Untold, no_group, state_of}
+use Rattle.raft_group_step.specs.GroupEvent.{GroupCall}
 use Rattle.raft_world.specs.declared.world_event.WorldEvent.{WorldEvent}
 use Rattle.raft_world.specs.GroupWorld.{GroupWorld, Absent, Up, new_world, state_or}
 use Rattle.raft_world.specs.GroupRun.{group_run, history_of, outcome_of, ran}
@@ -12,8 +12,8 @@ use Rattle.raft_world.specs.OneList.{AreNodeIds, IsGroupHistory}
 use Rattle.raft_world.specs.Origins.{Events, IsAskedAt, ToldTokensStand}
 use Rattle.raft_world.proofs.BallotAgreement.{same_some}
 use Rattle.raft_world.proofs.Counts.{contains_at}
-use Rattle.raft_engine.specs.StoredGroup.{held}
-use Rattle.raft_engine.specs.StepResult.{is_within}
+use Rattle.raft_group_step.specs.StoredGroup.{held}
+use Rattle.raft_group_step.specs.StepResult.{is_within}
 use Rattle.raft_world.specs.Settled.{group_list}
 use Rattle.raft_world.proofs.Committed.{committed_holds}
 use Rattle.raft_world.proofs.Runs.{run-replays}

@@ -1,5 +1,5 @@
 -- Logs, the order of their last entries, and what an append request does to one.
-use Rattle.raft_engine.specs.Values.{EntryPayload}
+use Rattle.raft_group_step.specs.Values.{EntryPayload}
 use Rattle.std.specs.Prelude.{ℕ, zero, suc, ◌==◌, ◌&&◌, ◌||◌, nat_lt, nat_le, if◌then◌else◌, Bool, true, false, List, [], ◌∷◌, length, slice_get, Option, Some, None}
 
 -- what an entry says; ballots never look at it

@@ -1,8 +1,8 @@
 -- Leaders and entries as the ballot machine sees them.
 use Rattle.std.specs.Prelude.{ℕ, ◌+◌, ◌*◌, ◌%◌, ◌^◌, nat_lt, if◌then◌else◌, List, map}
 use Rattle.raft_values.specs.declared.vote.LeaderId.{LeaderId}
-use Rattle.raft_engine.specs.Values.{Membership}
-use Rattle.raft_engine.specs.Values.{Entry}
+use Rattle.raft_group_step.specs.Values.{Membership}
+use Rattle.raft_group_step.specs.Values.{Entry}
 use Rattle.raft_state.specs.declared.entry.EntryPayload.TheVariants.{Membership as Members}
 use Rattle.raft_world.specs.BallotLogs.{BallotEntry}
 use Rattle.raft_world.specs.BallotWorld.{BallotGroup}

@@ -1,12 +1,12 @@
 -- What a leader commits.
 use Rattle.std.specs.Prelude.{◌≡◌, ◌⊎◌, ℕ, true, List, [], ◌∷◌, slice_get, Option, Some, None}
 use Rattle.raft_values.specs.LogId.{place_of}
-use Rattle.raft_engine.specs.Values.{Entry}
-use Rattle.raft_engine.specs.StoredGroup.{entry_at, snapshot_last}
-use Rattle.raft_engine.specs.GroupState.{GroupState, Lead, Leader}
-use Rattle.raft_engine.specs.StepResult.{StepResult}
-use Rattle.raft_engine.specs.Lead.{commit_as_leader}
-use Rattle.raft_engine.specs.Frames.{has_grown}
+use Rattle.raft_group_step.specs.Values.{Entry}
+use Rattle.raft_group_step.specs.StoredGroup.{entry_at, snapshot_last}
+use Rattle.raft_group_step.specs.GroupState.{GroupState, Lead, Leader}
+use Rattle.raft_group_step.specs.StepResult.{StepResult}
+use Rattle.raft_group_step.specs.Lead.{commit_as_leader}
+use Rattle.raft_group_step.specs.Frames.{has_grown}
 use Rattle.raft_world.specs.GroupWorld.{GroupWorld, NodeState, Absent, Up, Down, Recorded}
 use Rattle.raft_world.specs.GroupRun.{Replays}
 use Rattle.raft_world.specs.OneList.{IsGroupHistory, IsLeading}

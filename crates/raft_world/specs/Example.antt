@@ -1,14 +1,14 @@
 -- Words for worked examples: short events and outcomes, and what a run leaves.
 use Rattle.std.specs.Prelude.{ℕ, List, [], ◌∷◌, ◌++◌, map, drop, slice_get, Option, Some, None, option_map}
 use Rattle.raft_values.specs.declared.log_id.LogId.{LogId}
-use Rattle.raft_engine.specs.Values.{Entry, Membership}
+use Rattle.raft_group_step.specs.Values.{Entry, Membership}
 use Rattle.raft_values.specs.declared.vote.Vote.{Vote}
-use Rattle.raft_engine.specs.StoredGroup.{StoredGroup, StoringCommand, held}
-use Rattle.raft_engine.specs.Message.{Message, MessageBody, VoteRequest, VoteReply, AppendRequest, AppendReply, SnapshotRequest, SnapshotReply, RequestId, HeartBeat, Numbered}
-use Rattle.raft_engine.specs.GroupState.{Untold, Role, Follower, Candidate, Leader}
-use Rattle.raft_engine.specs.GroupEvent.{GroupEvent, Receive}
-use Rattle.raft_engine.specs.StepResult.{RefusalReason}
-use Rattle.raft_engine.specs.GroupStep.{group_step}
+use Rattle.raft_group_step.specs.StoredGroup.{StoredGroup, StoringCommand, held}
+use Rattle.raft_group_step.specs.Message.{Message, MessageBody, VoteRequest, VoteReply, AppendRequest, AppendReply, SnapshotRequest, SnapshotReply, RequestId, HeartBeat, Numbered}
+use Rattle.raft_group_step.specs.GroupState.{Untold, Role, Follower, Candidate, Leader}
+use Rattle.raft_group_step.specs.GroupEvent.{GroupEvent, Receive}
+use Rattle.raft_group_step.specs.StepResult.{RefusalReason}
+use Rattle.raft_group_step.specs.GroupStep.{group_step}
 use Rattle.raft_world.specs.declared.world_event.WorldEvent.{WorldEvent}
 use Rattle.raft_world.specs.GroupWorld.{GroupWorld, Outcome, Done, Refused, Stopped, Skipped, Recorded, new_world, NodeState, Absent, Up, Down}
 use Rattle.raft_world.specs.GroupRun.{group_run, history_of}

@@ -1,12 +1,12 @@
 -- All nodes of one group, what they sent, what may happen to them, and what came of it.
 use Rattle.std.specs.Prelude.{ℕ, ◌==◌, Bool, true, false, List, [], Option, None}
 use Rattle.raft_values.specs.declared.vote.Vote.{Vote}
-use Rattle.raft_engine.specs.Values.{Entry, has_id, Membership}
-use Rattle.raft_engine.specs.StoredGroup.{StoredGroup}
-use Rattle.raft_engine.specs.Message.{Message}
-use Rattle.raft_engine.specs.GroupState.{GroupState, Untold, no_group, state_of}
+use Rattle.raft_group_step.specs.Values.{Entry, has_id, Membership}
+use Rattle.raft_group_step.specs.StoredGroup.{StoredGroup}
+use Rattle.raft_group_step.specs.Message.{Message}
+use Rattle.raft_group_step.specs.GroupState.{GroupState, Untold, no_group, state_of}
 use Rattle.raft_world.specs.declared.world_event.WorldEvent.{WorldEvent}
-use Rattle.raft_engine.specs.StepResult.{RefusalReason}
+use Rattle.raft_group_step.specs.StepResult.{RefusalReason}
 
 -- there is no such node, or it is up, or it is down with what it has stored
 pub data NodeState : Type 0 where

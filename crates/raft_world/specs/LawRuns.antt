@@ -3,11 +3,11 @@ use Rattle.std.specs.Prelude.{ℕ, false, List, [], ◌∷◌, ◌++◌, Option,
 use Rattle.raft_values.specs.declared.log_id.LogId.{LogId}
 use Rattle.raft_values.specs.LogId.{log_id_of}
 use Rattle.raft_values.specs.Vote.{vote_of}
-use Rattle.raft_engine.specs.StoredGroup.{StoredGroup}
+use Rattle.raft_group_step.specs.StoredGroup.{StoredGroup}
 use Rattle.raft_state.specs.declared.entry.EntryPayload.TheVariants.{Blank}
-use Rattle.raft_engine.specs.Values.{Entry, entry_of}
-use Rattle.raft_engine.specs.GroupState.{GroupState, no_group, state_of}
-use Rattle.raft_engine.specs.declared.group_call.GroupCall.TheVariants.{Initialize, Elect, Propose, TriggerSnapshot}
+use Rattle.raft_group_step.specs.Values.{Entry, entry_of}
+use Rattle.raft_group_step.specs.GroupState.{GroupState, no_group, state_of}
+use Rattle.raft_group_step.specs.declared.group_call.GroupCall.TheVariants.{Initialize, Elect, Propose, TriggerSnapshot}
 use Rattle.raft_world.specs.declared.world_event.WorldEvent.TheVariants.{Add, Ask, Deliver, Restart}
 use Rattle.raft_world.specs.GroupWorld.{GroupWorld, NodeState, Absent, Up, Down, new_world}
 use Rattle.raft_world.specs.GroupRun.{group_run}

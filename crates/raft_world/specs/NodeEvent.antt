@@ -1,9 +1,9 @@
 -- What an event does at its node: what becomes of it, and the state that it leaves.
 use Rattle.std.specs.Prelude.{ℕ, Bool, true, false, [], Option, Some, None}
-use Rattle.raft_engine.specs.GroupState.{GroupState, state_of}
-use Rattle.raft_engine.specs.GroupEvent.{GroupEvent, Open}
-use Rattle.raft_engine.specs.StepResult.{StepResult, RefusalReason}
-use Rattle.raft_engine.specs.GroupStep.{group_step}
+use Rattle.raft_group_step.specs.GroupState.{GroupState, state_of}
+use Rattle.raft_group_step.specs.GroupEvent.{GroupEvent, Open}
+use Rattle.raft_group_step.specs.StepResult.{StepResult, RefusalReason}
+use Rattle.raft_group_step.specs.GroupStep.{group_step}
 use Rattle.raft_world.specs.Stop.{stopped_after, unknown_at_stop}
 use Rattle.raft_world.specs.GroupWorld.{NodeState, Absent, Up, Down, Outcome, Done, Refused, Stopped, Skipped}
 

@@ -1,10 +1,10 @@
 -- The one list of a group, over every history that replays.
 use Rattle.std.specs.Prelude.{◌≡◌, ℕ, suc, ◌<◌, ◌^◌, false, List, length, slice_get, take, Some, IsTrue, Contains}
 use Rattle.raft_values.specs.declared.vote.Vote.{Vote}
-use Rattle.raft_engine.specs.Values.{Entry, has_id, vote_lt}
-use Rattle.raft_engine.specs.StoredGroup.{StoredGroup, Holds, held, prefix_of}
-use Rattle.raft_engine.specs.GroupState.{GroupState, is_leader}
-use Rattle.raft_engine.specs.SnapshotRequest.{place_above}
+use Rattle.raft_group_step.specs.Values.{Entry, has_id, vote_lt}
+use Rattle.raft_group_step.specs.StoredGroup.{StoredGroup, Holds, held, prefix_of}
+use Rattle.raft_group_step.specs.GroupState.{GroupState, is_leader}
+use Rattle.raft_group_step.specs.SnapshotRequest.{place_above}
 use Rattle.raft_world.specs.BallotLists.{AgreeBelow}
 use Rattle.raft_world.specs.GroupWorld.{GroupWorld, Up, Led, Recorded, new_world}
 use Rattle.raft_world.specs.GroupRun.{Replays}

@@ -2,8 +2,8 @@
 use Rattle.std.specs.Prelude.{ℕ, List, slice_get, Option}
 use Rattle.raft_values.specs.LogId.{log_id_of}
 use Rattle.raft_state.specs.declared.entry.EntryPayload.TheVariants.{Normal}
-use Rattle.raft_engine.specs.Values.{Entry, entry_of}
-use Rattle.raft_engine.specs.declared.group_call.GroupCall.TheVariants.{Propose}
+use Rattle.raft_group_step.specs.Values.{Entry, entry_of}
+use Rattle.raft_group_step.specs.declared.group_call.GroupCall.TheVariants.{Propose}
 use Rattle.raft_world.specs.GroupWorld.{new_world}
 use Rattle.raft_world.specs.GroupRun.{group_run}
 use Rattle.raft_world.specs.Settled.{group_list}

@@ -2,14 +2,14 @@
 use Rattle.std.specs.Prelude.{◌≡◌, ℕ, ◌<◌, Bool, true, false, List, [], ◌∷◌, ◌++◌, take, slice_get, Option, Some, None, is_some, Contains}
 use Rattle.raft_values.specs.LogId.{log_id_of}
 use Rattle.raft_state.specs.declared.entry.EntryPayload.TheVariants.{Blank, Normal, Membership as Members}
-use Rattle.raft_engine.specs.Values.{after_change, ChangeMembers, Entry, EntryPayload, entry_of, LoggedMembership}
-use Rattle.raft_engine.specs.StoredGroup.{StoredGroup, end_place, held, membership_in_force}
-use Rattle.raft_engine.specs.Message.{Message}
-use Rattle.raft_engine.specs.GroupState.{GroupState, Untold}
-use Rattle.raft_engine.specs.declared.group_call.GroupCall.TheVariants.{Initialize, Elect, Propose, ChangeMembership, Heartbeat, Lost, TriggerSnapshot, TriggerPurge}
-use Rattle.raft_engine.specs.GroupEvent.{GroupCall, Call}
-use Rattle.raft_engine.specs.StepResult.{is_within}
-use Rattle.raft_engine.specs.Refusal.{refusal_of}
+use Rattle.raft_group_step.specs.Values.{after_change, ChangeMembers, Entry, EntryPayload, entry_of, LoggedMembership}
+use Rattle.raft_group_step.specs.StoredGroup.{StoredGroup, end_place, held, membership_in_force}
+use Rattle.raft_group_step.specs.Message.{Message}
+use Rattle.raft_group_step.specs.GroupState.{GroupState, Untold}
+use Rattle.raft_group_step.specs.declared.group_call.GroupCall.TheVariants.{Initialize, Elect, Propose, ChangeMembership, Heartbeat, Lost, TriggerSnapshot, TriggerPurge}
+use Rattle.raft_group_step.specs.GroupEvent.{GroupCall, Call}
+use Rattle.raft_group_step.specs.StepResult.{is_within}
+use Rattle.raft_group_step.specs.Refusal.{refusal_of}
 use Rattle.raft_world.specs.declared.world_event.WorldEvent.{WorldEvent}
 use Rattle.raft_world.specs.declared.world_event.WorldEvent.TheVariants.{Ask}
 use Rattle.raft_world.specs.Stop.{token_of_call}

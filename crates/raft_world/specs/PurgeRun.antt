@@ -1,8 +1,8 @@
 -- A leader that purges as it wishes, and a node that stops between its snapshot and its purge.
 use Rattle.std.specs.Prelude.{ℕ, List, [], ◌∷◌, ◌++◌, Option, Some, None}
 use Rattle.raft_values.specs.declared.log_id.LogId.{LogId}
-use Rattle.raft_engine.specs.StoredGroup.{StoredGroup}
-use Rattle.raft_engine.specs.declared.group_call.GroupCall.TheVariants.{Lost, TriggerSnapshot, TriggerPurge}
+use Rattle.raft_group_step.specs.StoredGroup.{StoredGroup}
+use Rattle.raft_group_step.specs.declared.group_call.GroupCall.TheVariants.{Lost, TriggerSnapshot, TriggerPurge}
 use Rattle.raft_world.specs.declared.world_event.WorldEvent.{WorldEvent}
 use Rattle.raft_world.specs.declared.world_event.WorldEvent.TheVariants.{Ask, Deliver, Restart}
 use Rattle.raft_world.specs.GroupWorld.{GroupWorld, new_world}

@@ -6,9 +6,9 @@ use Rattle.raft_values.specs.declared.vote.LeaderId.{LeaderId}
 use Rattle.raft_values.specs.declared.vote.Vote.{Vote}
 use Rattle.raft_values.specs.declared.log_id.LogId.{LogId}
 use Rattle.raft_quorums.specs.Quorum.{is_quorum}
-use Rattle.raft_engine.specs.Values.{Entry, is_written_by, leader_eq, log_id_eq, Membership, vote_eq}
-use Rattle.raft_engine.specs.Message.{Message, MessageBody, VoteRequest, VoteReply, AppendRequest, AppendReply, SnapshotRequest}
-use Rattle.raft_engine.specs.Message.{SnapshotReply, ReplyFields, ReplyResult, Success, Conflict, HigherVote}
+use Rattle.raft_group_step.specs.Values.{Entry, is_written_by, leader_eq, log_id_eq, Membership, vote_eq}
+use Rattle.raft_group_step.specs.Message.{Message, MessageBody, VoteRequest, VoteReply, AppendRequest, AppendReply, SnapshotRequest}
+use Rattle.raft_group_step.specs.Message.{SnapshotReply, ReplyFields, ReplyResult, Success, Conflict, HigherVote}
 use Rattle.raft_world.specs.GroupWorld.{GroupWorld, Led}
 
 abbrev pub is_success : ReplyResult → Bool

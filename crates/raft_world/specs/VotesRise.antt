@@ -1,7 +1,7 @@
 -- Votes along a history.
 use Rattle.std.specs.Prelude.{◌≡◌, ℕ, false, List, Option, Some, None}
-use Rattle.raft_engine.specs.Values.{vote_lt}
-use Rattle.raft_engine.specs.StoredGroup.{StoredGroup}
+use Rattle.raft_group_step.specs.Values.{vote_lt}
+use Rattle.raft_group_step.specs.StoredGroup.{StoredGroup}
 use Rattle.raft_world.specs.GroupWorld.{GroupWorld, NodeState, Absent, Up, Down, Recorded}
 use Rattle.raft_world.specs.GroupRun.{Replays}
 

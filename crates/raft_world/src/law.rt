@@ -1,9 +1,9 @@
 //! Laws of the group step, and of histories that replay.
 
 ghost use Rattle.std.specs.Prelude.{ℕ};
-ghost use Rattle.raft_engine.specs.GroupState.{GroupState};
-ghost use Rattle.raft_engine.specs.GroupEvent.{GroupEvent};
-ghost use Rattle.raft_engine.specs.GroupStep.{group_step};
+ghost use Rattle.raft_group_step.specs.GroupState.{GroupState};
+ghost use Rattle.raft_group_step.specs.GroupEvent.{GroupEvent};
+ghost use Rattle.raft_group_step.specs.GroupStep.{group_step};
 ghost use Rattle.raft_world.specs.StoringOrder.{StoresInOrder};
 ghost use Rattle.raft_world.specs.VotesRise.{VotesNeverDecrease};
 ghost use Rattle.raft_world.specs.CommitsOwn.{CommitsOwn, LeadersCommitTheirOwn};

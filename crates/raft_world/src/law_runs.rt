@@ -3,8 +3,8 @@
 ghost use Rattle.std.specs.Prelude.{◌≡◌, true, false, [], ◌∷◌, ◌++◌, Some, None};
 ghost use Rattle.raft_values.specs.LogId.{log_id_of};
 ghost use Rattle.raft_values.specs.Vote.{vote_of};
-ghost use Rattle.raft_engine.specs.GroupState.{state_of};
-ghost use Rattle.raft_engine.specs.StoredGroup.{CutFrom, SetVote};
+ghost use Rattle.raft_group_step.specs.GroupState.{state_of};
+ghost use Rattle.raft_group_step.specs.StoredGroup.{CutFrom, SetVote};
 ghost use Rattle.raft_world.specs.declared.world_event.WorldEvent.TheVariants.{Add};
 ghost use Rattle.raft_world.specs.GroupWorld.{GroupWorld, Absent, Up, Down, Skipped, new_world};
 ghost use Rattle.raft_world.specs.Example.{Halted, Leads, PassedOver, add, applied_at, held_ids_at, log_ids_at, ok, outcomes_after, part_at, three, to_their_end};

@@ -5,8 +5,8 @@
 
 ghost use Rattle.raft_world.specs.Origins.{AskedIsRecorded, EntriesWereAskedFor, IsRecordedAt, OnePlaceForAnEvent, ToldTokensStand};
 ghost use Rattle.std.specs.Prelude.{◌≡◌, ℕ, Some};
-ghost use Rattle.raft_engine.specs.Values.{Entry};
-ghost use Rattle.raft_engine.specs.declared.group_call.GroupCall.TheVariants.{Propose};
+ghost use Rattle.raft_group_step.specs.Values.{Entry};
+ghost use Rattle.raft_group_step.specs.declared.group_call.GroupCall.TheVariants.{Propose};
 ghost use Rattle.raft_world.specs.GroupWorld.{new_world};
 ghost use Rattle.raft_world.specs.GroupRun.{history_of};
 ghost use Rattle.raft_world.specs.OneVoter.{one, stopped_proposal};

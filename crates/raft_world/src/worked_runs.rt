@@ -2,8 +2,8 @@
 ghost use Rattle.std.specs.Prelude.{◌≡◌, true, false, [], ◌∷◌, Some, None};
 ghost use Rattle.raft_values.specs.LogId.{log_id_of};
 ghost use Rattle.raft_values.specs.Vote.{vote_of};
-ghost use Rattle.raft_engine.specs.StoredGroup.{SetVote, CutFrom, PutEntries};
-ghost use Rattle.raft_engine.specs.Values.{entry_of};
+ghost use Rattle.raft_group_step.specs.StoredGroup.{SetVote, CutFrom, PutEntries};
+ghost use Rattle.raft_group_step.specs.Values.{entry_of};
 ghost use Rattle.raft_state.specs.declared.entry.EntryPayload.TheVariants.{Blank};
 ghost use Rattle.raft_world.specs.Settled.{group_list};
 ghost use Rattle.raft_world.specs.Example.{run_of, to_their_end, three, log_ids_at, ids_of_log, kinds_from, ANotice, ASnapshot, outcomes_after};

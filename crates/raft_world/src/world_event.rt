@@ -1,5 +1,5 @@
 //! What may happen to a group's nodes.
-use raft_engine::GroupCall;
+use raft_group_step::GroupCall;
 use raft_state::{BasicNode, Bytes};
 
 /// What may happen to a group's nodes (own). Moments are ticks.

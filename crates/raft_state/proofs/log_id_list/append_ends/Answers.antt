@@ -1,6 +1,5 @@
-use Rattle.std.proofs.Common.{◌≡◌, ℕ, zero, suc, ◌+◌, ◌-◌, ◌<◌, ◌==◌, Bool, false, List, map, length, get_or, sym, subst, ◌∙◌, ap, arith}
+use Rattle.std.proofs.Common.{◌≡◌, ℕ, zero, suc, ◌-◌, ◌<◌, ◌==◌, Bool, false, List, map, length, get_or, sym, subst, ◌∙◌, ap, arith}
 use Rattle.std.specs.Prelude.{Some}
-use Rattle.std.specs.declared.cmp.Ordering.{Ordering}
 use Rattle.std.proofs.lemmas.List.{length-map}
 use Rattle.raft_values.specs.declared.log_id.LogId.{LogId}
 use Rattle.raft_state.specs.LogIdList.{ids_of, last_id, appended, extended, AllGoOn, GoesOn, HaveOneLeader}
@@ -13,17 +12,17 @@ several zero b e f = cc
 several (suc n) b e f = omega arith
 
 -- what the first and the last item tell
-ends : {X K : Type 0} (cmp : K → K → Ordering) (f : X → LogId K) (ids : List X) (keys : List (LogId K)) (x z : X) (first last : LogId K) → 1 < length ids
+ends : {X K : Type 0} (f : X → LogId K) (ids : List X) (keys : List (LogId K)) (x z : X) (first last : LogId K) → 1 < length ids
     → x ≡ get_or ids 0 x → first ≡ f x → z ≡ get_or ids (length ids - 1) z → last ≡ f z
-    → HaveOneLeader (map f ids) → AllGoOn cmp (last_id keys) (map f ids)
-    → (extended (ids_of keys) (map f ids) ≡ appended (appended (ids_of keys) first) last) × GoesOn cmp (Some first) last
-ends cmp f ids keys x z first last long a b d e same on =
+    → HaveOneLeader (map f ids) → AllGoOn (last_id keys) (map f ids)
+    → (extended (ids_of keys) (map f ids) ≡ appended (appended (ids_of keys) first) last) × GoesOn (Some first) last
+ends f ids keys x z first last long a b d e same on =
     let same_length : length (map f ids) ≡ length ids = length-map ids f in
     let longer : 1 < length (map f ids) = omega arith in
     let at_first : first ≡ get_or (map f ids) 0 first = item_id f ids 0 x first (omega arith) a b in
     let at_last : last ≡ get_or (map f ids) (length ids - 1) last = item_id f ids (length ids - 1) z last (omega arith) d e in
     let end : last ≡ get_or (map f ids) (length (map f ids) - 1) last = at_last ∙ ap (λ n. get_or (map f ids) (n - 1) last) (sym same_length) in
-    ends-extend cmp (ids_of keys) (last_id keys) (map f ids) first last longer at_first end same on
+    ends-extend (ids_of keys) (last_id keys) (map f ids) first last longer at_first end same on
 
 pub append_key-requires-2-clause-goes_on : goal.append_key-requires-2-clause-goes_on
 append_key-requires-2-clause-goes_on g c =
@@ -32,9 +31,9 @@ append_key-requires-2-clause-goes_on g c =
     let first = c.get_log_id-first.result.now in
     let last = c.get_log_id-last.result.now in
     let some : 0 < length ids = several (length ids) c.is_empty.result c.is_empty.ensures c.if-is_empty.false in
-    let two = ends g.NID.Ord.cmp g.LID.RaftLogId.id ids keys c.index-new_ids-0.result c.index-new_ids-new_ids.result first last (omega arith)
+    let two = ends g.LID.RaftLogId.id ids keys c.index-new_ids-0.result c.index-new_ids-new_ids.result first last (omega arith)
     c.index-new_ids-0.is c.get_log_id-first.ensures c.index-new_ids-new_ids.is c.get_log_id-last.ensures c.requires.one_leader c.requires.go_on in
-    subst (λ l. GoesOn g.NID.Ord.cmp l last)
+    subst (λ l. GoesOn l last)
     (sym (last-grown keys c.append_key.new.keys.items first c.in_ok-append_key.ensures.keys.0 c.in_ok-append_key.ensures.ok)) two.1
 
 pub returns-clause-ok : goal.returns-clause-ok
@@ -44,7 +43,7 @@ returns-clause-ok g c =
     let first = c.get_log_id-first.result.now in
     let last = c.get_log_id-last.result.now in
     let some : 0 < length ids = several (length ids) c.is_empty.result c.is_empty.ensures c.if-is_empty.false in
-    let two = ends g.NID.Ord.cmp g.LID.RaftLogId.id ids keys c.index-new_ids-0.result c.index-new_ids-new_ids.result first last (omega arith)
+    let two = ends g.LID.RaftLogId.id ids keys c.index-new_ids-0.result c.index-new_ids-new_ids.result first last (omega arith)
     c.index-new_ids-0.is c.get_log_id-first.ensures c.index-new_ids-new_ids.is c.get_log_id-last.ensures c.requires.one_leader c.requires.go_on in
     c.in_ok-append_key-2.ensures.ok ∙ ap (λ l. appended l last) c.in_ok-append_key.ensures.ok ∙ sym two.0
 

@@ -1,7 +1,7 @@
-use Rattle.std.proofs.Common.{◌≡◌, sym, ◌∙◌, ap, rules, arith, true, false, Bool, length, ◌-◌}
+use Rattle.std.proofs.Common.{◌≡◌, sym, ◌∙◌, ap, true, false, length}
 use Rattle.std.specs.Ordering.{is_eq}
-use Rattle.raft_state.specs.LogIdList.{ends_in_pair, last_id}
-use Rattle.raft_state.proofs.KeyOrderLemmas.{ids_of-replace, AreKeys-push, AreKeys-replace, after}
+use Rattle.raft_state.specs.LogIdList.{ends_in_pair}
+use Rattle.raft_state.proofs.KeyOrderLemmas.{ids_of-replace, AreKeys-push, AreKeys-replace}
 use Rattle.raft_state.proofs.LogIdListLemmas.{ids_of-push}
 use Rattle.raft_state.proofs.log_id_list.append_key.Given as given
 use Rattle.raft_state.proofs.log_id_list.append_key.Goals as goal
@@ -21,17 +21,16 @@ unpaired g c = ap (ends_in_pair g.NID.Ord.cmp) (sym c.as_slice.ensures.value) �
 pub returns-then-ends_in_pair-clause-ok : goal.returns-then-ends_in_pair-clause-ok
 returns-then-ends_in_pair-clause-ok g c =
     rw (count g c) (ids_of-replace g.NID.Ord.cmp (told_apart g) c.args.keys.now.items c.args.id c.requires.keys.0 (paired g c)
-    (after g.NID.Ord.cmp (told_apart g) (last_id c.args.keys.now.items) c.args.id c.requires.goes_on))
+    c.requires.goes_on)
 
 pub returns-then-ends_in_pair-clause-keys : goal.returns-then-ends_in_pair-clause-keys
 returns-then-ends_in_pair-clause-keys g c =
-    rw (count g c) (AreKeys-replace g.NID.Ord.cmp (told_apart g) c.args.keys.now.items c.args.id c.requires.keys (paired g c) c.requires.goes_on)
+    rw (count g c) (AreKeys-replace g.NID.Ord.cmp c.args.keys.now.items c.args.id c.requires.keys c.requires.goes_on)
 
 pub returns-clause-ok : goal.returns-clause-ok
 returns-clause-ok g c =
-    rw c.in_ok-push.ensures.items (ids_of-push c.args.keys.now.items c.args.id c.requires.keys.0
-    (after g.NID.Ord.cmp (told_apart g) (last_id c.args.keys.now.items) c.args.id c.requires.goes_on))
+    rw c.in_ok-push.ensures.items (ids_of-push c.args.keys.now.items c.args.id c.requires.keys.0 c.requires.goes_on)
 
 pub returns-clause-keys : goal.returns-clause-keys
 returns-clause-keys g c =
-    rw c.in_ok-push.ensures.items (AreKeys-push g.NID.Ord.cmp (told_apart g) c.args.keys.now.items c.args.id c.requires.keys (unpaired g c) c.requires.goes_on)
+    rw c.in_ok-push.ensures.items (AreKeys-push g.NID.Ord.cmp c.args.keys.now.items c.args.id c.requires.keys (unpaired g c) c.requires.goes_on)

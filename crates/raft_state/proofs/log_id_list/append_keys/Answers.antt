@@ -1,4 +1,4 @@
-use Rattle.std.proofs.Common.{◌≡◌, ◌+◌, ◌<◌, map, length, get_or, take, drop, sym, subst, ◌∙◌, ap, arith}
+use Rattle.std.proofs.Common.{◌≡◌, ◌+◌, ◌<◌, map, length, get_or, drop, sym, subst, ◌∙◌, ap, arith}
 use Rattle.std.proofs.lemmas.List.{length-map}
 use Rattle.raft_state.specs.LogIdList.{ids_of, last_id, appended, AllGoOn, GoesOn}
 use Rattle.raft_state.proofs.ExtendLemmas.{next_goes_on, extended_more, last-grown, item_id}
@@ -14,8 +14,8 @@ append_key-requires-clause-goes_on g c =
     let within : i < length more = omega (arith, length-map ids g.LID.RaftLogId.id) in
     let here : id ≡ get_or more i id =
     item_id g.LID.RaftLogId.id ids i c.new_id-item.result id c.loop-new_id-test.true c.new_id-item.is c.get_log_id.ensures in
-    subst (GoesOn g.NID.Ord.cmp (last_id c.loop-new_id.keys.items)) (sym here)
-    (next_goes_on g.NID.Ord.cmp (last_id c.loop-new_id.keys.items) more i id within c.loop-new_id.invariant.1).0
+    subst (GoesOn (last_id c.loop-new_id.keys.items)) (sym here)
+    (next_goes_on (last_id c.loop-new_id.keys.items) more i id within c.loop-new_id.invariant.1).0
 
 pub loop-new_id-preserved : goal.loop-new_id-preserved
 loop-new_id-preserved g c =
@@ -32,9 +32,9 @@ loop-new_id-preserved g c =
     c.in_ok-append_key.ensures.ok ∙ ap (appended (ids_of keys)) here in (
       grown ∙ ap (λ l. appended l (get_or more i id)) c.loop-new_id.invariant.0
           ∙ sym (extended_more (ids_of c.args.keys.now.items) more i id within),
-      subst (λ last. AllGoOn g.NID.Ord.cmp last (drop (i + 1) more))
+      subst (λ last. AllGoOn last (drop (i + 1) more))
           (sym (last-grown keys new (get_or more i id) c.in_ok-append_key.ensures.keys.0 grown))
-          (next_goes_on g.NID.Ord.cmp (last_id keys) more i id within c.loop-new_id.invariant.1).1,
+          (next_goes_on (last_id keys) more i id within c.loop-new_id.invariant.1).1,
       c.in_ok-append_key.ensures.keys,
       front-trans c.args.keys.now.items keys new c.loop-new_id.invariant.3 c.in_ok-append_key.ensures.front,
     )

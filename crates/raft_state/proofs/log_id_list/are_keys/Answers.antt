@@ -1,4 +1,4 @@
-use Rattle.std.proofs.Common.{◌≡◌, ◌+◌, refl, sym, subst, ◌∙◌, drop, get_or}
+use Rattle.std.proofs.Common.{◌+◌, refl, sym, subst, ◌∙◌, drop, get_or}
 use Rattle.std.proofs.lemmas.List.{drop_all}
 use Rattle.raft_state.specs.LogIdList.{AreKeys}
 use Rattle.raft_state.proofs.KeyTestLemmas.{rest_whole, LeadsOn, keys-first, keys-before}

@@ -1,7 +1,7 @@
-use Rattle.std.proofs.Common.{◌≡◌, ℕ, ◌+◌, ◌-◌, ◌<◌, ◌≤◌, List, [], ◌∷◌, ◌++◌, length, get_or, set, take, drop, rules, sym, ◌∙◌, arith, ap, subst, refl, length-drop, length-set}
+use Rattle.std.proofs.Common.{◌≡◌, ℕ, ◌+◌, ◌-◌, ◌<◌, ◌≤◌, List, ◌∷◌, ◌++◌, length, set, take, drop, sym, ◌∙◌, arith, ap, subst, length-drop, length-set}
 use Rattle.std.proofs.lemmas.List.{drop-set, take_at}
 use Rattle.raft_values.specs.declared.log_id.LogId.{LogId}
-use Rattle.raft_state.specs.LogIdList.{ids_of, purged, AreKeys}
+use Rattle.raft_state.specs.LogIdList.{ids_of, AreKeys}
 use Rattle.raft_state.proofs.KeyCutLemmas.{id_by}
 use Rattle.raft_state.proofs.KeyCountLemmas.{purged-none_counted, purged-inside_counted}
 use Rattle.raft_state.proofs.KeyRestLemmas.{AreKeys-rest}
@@ -37,7 +37,7 @@ kept : (g : given.Over) (c : goal.After-truncate g)
     → AreKeys g.NID.Ord.cmp (id_by c.index-key.result.now.leader_id c.args.upto.now.index ∷ drop c.count_up_to-count.result c.args.keys.now.items)
 kept g c =
     let said = rw c.as_slice.ensures.value at c.count_up_to-count.ensures in
-    AreKeys-rest g.NID.Ord.cmp g.met.NID.Ord.total c.args.keys.now.items c.count_up_to-count.result c.index-key.result.now c.args.upto.now.index c.requires.keys
+    AreKeys-rest g.NID.Ord.cmp c.args.keys.now.items c.count_up_to-count.result c.index-key.result.now c.args.upto.now.index c.requires.keys
     (omega arith) said.within c.index-key.ensures said.above
 
 pub returns-clause-ids : goal.returns-clause-ids

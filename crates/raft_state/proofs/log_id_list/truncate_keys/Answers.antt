@@ -1,6 +1,6 @@
-use Rattle.std.proofs.Common.{◌≡◌, ℕ, ◌+◌, ◌-◌, ◌<◌, ◌≤◌, ◌≢◌, List, length, get_or, set, take, rules, sym, ◌∙◌, arith, ap, subst, refl}
+use Rattle.std.proofs.Common.{◌≡◌, ℕ, ◌-◌, ◌<◌, ◌≤◌, List, length, get_or, sym, ◌∙◌, arith, ap, subst}
 use Rattle.raft_values.specs.declared.log_id.LogId.{LogId}
-use Rattle.raft_state.specs.LogIdList.{ids_of, truncated, AreKeys}
+use Rattle.raft_state.specs.LogIdList.{ids_of}
 use Rattle.raft_state.proofs.KeyCutLemmas.{id_by}
 use Rattle.raft_state.proofs.KeyCountLemmas.{truncated-none_counted, truncated-all_counted, truncated-pair_counted, truncated-front_counted}
 use Rattle.raft_state.proofs.KeyRestLemmas.{AreKeys-take, AreKeys-pair}
@@ -54,8 +54,8 @@ returns-then-key-at-clause-keys g c =
     let within : c.count_up_to-count.result ≤ length c.args.keys.now.items = said.within in
     let inside : c.count_up_to-count.result < length c.args.keys.now.items = omega arith in
     rw (c.truncate.ensures.items, c.new.ensures)
-    (AreKeys-pair g.NID.Ord.cmp g.met.NID.Ord.total c.args.keys.now.items c.count_up_to-count.result c.index-key.result.now
-    (id_by c.index-key.result.now.leader_id (c.args.at - 1)) c.requires (omega arith) inside c.index-key.ensures c.if-key-at.true refl)
+    (AreKeys-pair g.NID.Ord.cmp c.args.keys.now.items c.count_up_to-count.result c.index-key.result.now
+    (id_by c.index-key.result.now.leader_id (c.args.at - 1)) c.requires (omega arith) inside c.index-key.ensures c.if-key-at.true)
 
 pub returns-clause-ids : goal.returns-clause-ids
 returns-clause-ids g c =
@@ -73,4 +73,4 @@ returns-clause-ids g c =
 pub returns-clause-keys : goal.returns-clause-keys
 returns-clause-keys g c =
     rw c.truncate-2.ensures.items
-    (AreKeys-take g.NID.Ord.cmp g.met.NID.Ord.total c.count_up_to-count.result c.args.keys.now.items c.requires)
+    (AreKeys-take g.NID.Ord.cmp c.count_up_to-count.result c.args.keys.now.items c.requires)

@@ -2,8 +2,8 @@ use Rattle.std.specs.Prelude.{◌≡◌, ℕ, ◌<◌, refl}
 use Rattle.std.proofs.Common.{ap, ◌∙◌, arith}
 use Rattle.raft_values.specs.LogId.{log_id_of}
 use Rattle.raft_state.specs.declared.entry.EntryPayload.TheVariants.{Normal}
-use Rattle.raft_engine.specs.Values.{Entry, entry_of}
-use Rattle.raft_engine.specs.StoredGroup.{entry_at}
+use Rattle.raft_group_step.specs.Values.{Entry, entry_of}
+use Rattle.raft_group_step.specs.StoredGroup.{entry_at}
 use Rattle.raft_values.specs.declared.vote.LeaderId.{LeaderId}
 use Rattle.raft_world.specs.LawRuns.{leads_on_a_snapshot, state_after}
 use Rattle.raft_world.specs.OriginRun.{command_at}

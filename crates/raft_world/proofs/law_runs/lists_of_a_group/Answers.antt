@@ -3,7 +3,7 @@ use Rattle.std.proofs.Common.{arith, sym}
 use Rattle.raft_values.specs.LogId.{log_id_of}
 use Rattle.raft_values.specs.Vote.{vote_of}
 use Rattle.raft_state.specs.declared.entry.EntryPayload.TheVariants.{Membership as Members}
-use Rattle.raft_engine.specs.Values.{entry_of}
+use Rattle.raft_group_step.specs.Values.{entry_of}
 use Rattle.raft_world.specs.GroupWorld.{Led}
 use Rattle.raft_world.specs.Example.{add, membership_of, three, to_their_end}
 use Rattle.raft_world.specs.LawRuns.{after, blank_at}

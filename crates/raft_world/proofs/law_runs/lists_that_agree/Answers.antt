@@ -1,6 +1,6 @@
 use Rattle.std.specs.Prelude.{◌≡◌, ℕ, zero, suc, ◌<◌, [], ◌∷◌, slice_get, refl}
 use Rattle.std.proofs.Common.{ap, arith}
-use Rattle.raft_engine.specs.Values.{Entry}
+use Rattle.raft_group_step.specs.Values.{Entry}
 use Rattle.raft_world.specs.LawRuns.{blank_at}
 use Rattle.raft_world.proofs.BallotAgreement.{same_some}
 use Rattle.raft_world.proofs.law_runs.lists_that_agree.Goals as goal

@@ -1,7 +1,7 @@
 use Rattle.std.specs.Prelude.{◌≡◌, true, false, Some, None, refl}
 use Rattle.std.proofs.Common.{sym, ap, ◌∙◌}
-use Rattle.raft_engine.specs.StoredGroup.{StoredGroup}
-use Rattle.raft_engine.specs.Values.{vote_lt}
+use Rattle.raft_group_step.specs.StoredGroup.{StoredGroup}
+use Rattle.raft_group_step.specs.Values.{vote_lt}
 use Rattle.raft_world.specs.LawRuns.{voted}
 use Rattle.raft_world.proofs.BallotAgreement.{same_some}
 use Rattle.raft_world.proofs.law_runs.votes_that_are_kept.Goals as goal

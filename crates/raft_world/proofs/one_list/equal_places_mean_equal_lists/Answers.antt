@@ -1,7 +1,7 @@
 use Rattle.std.specs.Prelude.{◌++◌, take}
 use Rattle.std.proofs.Common.{ap, sym, ◌∙◌, subst}
-use Rattle.raft_engine.specs.StoredGroup.{held}
-use Rattle.raft_engine.specs.SnapshotRequest.{place_above}
+use Rattle.raft_group_step.specs.StoredGroup.{held}
+use Rattle.raft_group_step.specs.SnapshotRequest.{place_above}
 use Rattle.raft_world.specs.BallotLists.{AgreeBelow}
 use Rattle.raft_world.specs.GroupWorld.{new_world}
 use Rattle.raft_world.specs.OneList.{IsGroupHistory}

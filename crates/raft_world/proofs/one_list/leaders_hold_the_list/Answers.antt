@@ -1,5 +1,5 @@
 use Rattle.std.proofs.Common.{⊎_elim, ap, ◌∙◌}
-use Rattle.raft_engine.specs.Values.{vote_lt}
+use Rattle.raft_group_step.specs.Values.{vote_lt}
 use Rattle.raft_world.proofs.WorldStart.{founded}
 use Rattle.raft_world.proofs.BallotSafe.{among_at}
 use Rattle.raft_world.proofs.Counts.{contains_at}

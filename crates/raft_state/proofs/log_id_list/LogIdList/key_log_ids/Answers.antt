@@ -1,4 +1,4 @@
-use Rattle.std.proofs.Common.{◌≡◌, sym, ◌∙◌, ap}
+use Rattle.std.proofs.Common.{sym, ◌∙◌, ap}
 use Rattle.raft_state.specs.LogIdList.{keys_of}
 use Rattle.raft_state.proofs.KeysOfLemmas.{keys_of-ids_of}
 use Rattle.raft_state.proofs.log_id_list.LogIdList.key_log_ids.Goals as goal

@@ -1,0 +1,4 @@
+pub mod Reason
+pub mod Messages
+pub mod Facts
+pub mod ByFacts

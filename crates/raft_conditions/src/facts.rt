@@ -1,0 +1,54 @@
+//! The facts of a group by which its events are judged.
+use raft_group_step::{AppendEntriesRequest, GroupCall};
+use raft_state::{BasicNode, Bytes, Entry, EntryPayload, LogId, Membership, Vote};
+
+/// An entry whose command is bytes.
+pub type GroupEntry = Entry<u64, BasicNode, Bytes>;
+
+/// What an entry asks for, whose command is bytes.
+pub type GroupPayload = EntryPayload<u64, BasicNode, Bytes>;
+
+/// A call whose command is bytes.
+pub type GroupCommand = GroupCall<u64, BasicNode, Bytes>;
+
+/// A request whose entries' commands are bytes.
+pub type GroupRequest = AppendEntriesRequest<u64, BasicNode, Bytes>;
+
+/// A membership, with the log id of the entry that has it.
+pub type LoggedPair<'a> = (LogId<u64>, &'a Membership<u64, BasicNode>);
+
+/// What is known of a group at a node when an event comes (own).
+#[derive(Clone, Copy)]
+pub struct GroupFacts<'a> {
+    /// The node's own id.
+    pub own: u64,
+    /// Whether the node has the group.
+    pub present: bool,
+    /// The stored vote.
+    pub vote: Vote<u64>,
+    /// The membership in force, if there is one.
+    pub membership: Option<LoggedPair<'a>>,
+    /// Whether the group has neither a vote nor entries nor a snapshot yet.
+    pub is_new: bool,
+    /// Whether the node leads the group.
+    pub is_leader: bool,
+    /// Whether the node stands for election.
+    pub is_candidate: bool,
+    /// The place after the log's last entry.
+    pub end: u64,
+    /// The last place that is known to be committed, if there is one.
+    pub committed: Option<u64>,
+    /// The greatest number of a next request of the leader's peers; 0 where there is none.
+    pub greatest_next_id: u64,
+}
+
+/// Who a message is from and for (own).
+#[derive(Clone, Copy, Debug, PartialEq, Eq)]
+pub struct Parties {
+    /// The node whose connection the message came over.
+    pub peer: u64,
+    /// The node that the message names as its sender.
+    pub sender: u64,
+    /// The node that the message is for.
+    pub addressee: u64,
+}

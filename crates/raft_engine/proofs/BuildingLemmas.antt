@@ -1,0 +1,163 @@
+-- The snapshot of what is applied is stored: the rest stays in order, and the node plays on.
+use Rattle.std.specs.Prelude.{◌≡◌, ℕ, ◌+◌, ◌-◌, ◌≤◌, ◌^◌, ◌==◌, nat_lt, max, true, false, if◌then◌else◌, [], ◌∷◌, drop, filter, length, Option, Some, None, option_and_then, refl}
+use Rattle.std.proofs.Common.{sym, ap, ◌∙◌, subst, arith, lt-ltb}
+use Rattle.std.proofs.lemmas.Bool.Decides.{nat_tests}
+use Rattle.raft_values.specs.declared.vote.Vote.{Vote}
+use Rattle.raft_values.specs.declared.utime.UTime.{UTime}
+use Rattle.raft_values.specs.declared.log_id.LogId.{LogId}
+use Rattle.raft_values.specs.LogId.{next_place, place_of, stands_before}
+use Rattle.raft_group_step.specs.Values.{LoggedMembership, last_membership}
+use Rattle.raft_group_step.specs.StoredGroup.{Snapshot, SetSnapshot, after_storing, first_place, membership_in_force, snapshot_last}
+use Rattle.raft_group_step.specs.GroupState.{GroupState, Role, Follower, Candidate, Leader}
+use Rattle.raft_group_step.specs.GroupEvent.{Call}
+use Rattle.raft_group_step.specs.declared.group_call.GroupCall.TheVariants.{TriggerSnapshot}
+use Rattle.raft_group_step.specs.StepResult.{StepResult, store}
+use Rattle.raft_group_step.specs.Lead.{ids_of, peer_of}
+use Rattle.raft_group_step.specs.Frames.{committed_id}
+use Rattle.raft_group_step.specs.Refusal.{range_reason, refusal_of, unknown_group}
+use Rattle.raft_group_step.specs.GroupStep.{begun, finished}
+use Rattle.raft_group_step.specs.SnapshotTrigger.{snapshot_of_applied, snapshot_trigger_step, store_snapshot_at}
+use Rattle.raft_known_state.specs.KnownState.{KeepsRest, Knows}
+use Rattle.raft_engine.specs.Commands.{sent_by, stored_by}
+use Rattle.raft_engine.specs.Standing.{Engine, IsInOrder, IsStateOf, IsStepOf, IsWholeStepOf, PlaysRole}
+use Rattle.raft_engine.specs.Purging.{MayBePurged}
+use Rattle.raft_engine.specs.Building.{IsSnapshotOfApplied, asking, build_command, covered_id}
+use Rattle.raft_engine.specs.Events.{CanFinish, HasLeadRoom, HasTaken, IsReady}
+use Rattle.raft_engine.proofs.AppendLemmas.{next_of_place}
+use Rattle.raft_engine.proofs.EventLemmas.{no_first_reason, unless_none}
+use Rattle.raft_engine.proofs.LastMembership.{last_overlap}
+use Rattle.raft_engine.proofs.PurgeLemmas.{KeepsStanding, plays_on, snapshot_known}
+
+-- a log id past all that a snapshot has
+pub stands_past : (known : Option (LogId ℕ)) (last : LogId ℕ) → next_place known ≤ last.index → stands_before known (Some last) ≡ true
+stands_past None last l = refl
+stands_past (Some id) last l = lt-ltb id.index last.index (omega arith)
+
+-- the event's numbers are in range
+pub trigger_in_range : (own at : ℕ) (s : GroupState) → refusal_of own s (Call TriggerSnapshot at) ≡ None → range_reason s (at ∷ []) ≡ None
+trigger_in_range own at s e =
+    let range = range_reason s (at ∷ []) in
+    (no_first_reason range [] (no_first_reason (unknown_group s) (range ∷ []) e).1).0
+
+-- an engine that has asked for a snapshot stands for the same state
+pub stands_asking : {C R : Type 0} (own : ℕ) (e : Engine C R) (s : GroupState) → IsStateOf own e s → IsStateOf own (asking e) s
+stands_asking own e s h =
+    let old = h.knows in
+    record {
+      config = h.config;
+      knows = record { vote = old.vote; ids = old.ids; purged = old.purged; snapshot = old.snapshot; memberships = old.memberships; in_force = old.in_force };
+      renewed = h.renewed;
+      committed = h.committed;
+      wish = h.wish;
+      role = h.role;
+      order = h.order;
+    }
+
+-- where the last snapshot has all that is applied the group stores none
+not_past : (known : Option (LogId ℕ)) (applied : ℕ) (id : Option (LogId ℕ)) → place_of id ≡ Some applied → stands_before known id ≡ false → nat_lt applied (next_place known) ≡ true
+not_past known applied None e h = cc e
+not_past None applied (Some id) e h = absurd (let no : true ≡ false = h in cc)
+not_past (Some last) applied (Some id) e h = let same : id.index ≡ applied = cc e in grind (arith, nat_tests, h, same)
+
+pub nothing_to_build : {C R : Type 0} (own at : ℕ) (e : Engine C R) (s : GroupState) → IsStateOf own e s → stands_before (covered_id e) e.state.state.committed ≡ false
+    → snapshot_trigger_step (begun at s) ≡ begun at s
+nothing_to_build own at e s h none = by_place s.applied refl
+  where
+    covers : covered_id e ≡ snapshot_last s.stored
+    covers = snapshot_known s.stored e.state.state.snapshot_meta h.knows.snapshot
+
+    by_place : (o : Option ℕ) → s.applied ≡ o → snapshot_of_applied o (begun at s) ≡ begun at s
+    by_place None f = refl
+    by_place (Some applied) f =
+        let at_place : place_of e.state.state.committed ≡ Some applied = ap place_of h.committed ∙ h.order.committed ∙ sym h.order.applied ∙ f in
+        let has_all : nat_lt applied (next_place (snapshot_last s.stored)) ≡ true =
+        ap (λ known. nat_lt applied (next_place known)) (sym covers) ∙ not_past (covered_id e) applied e.state.state.committed at_place none in
+        rw has_all refl
+
+module _ (s : GroupState) (x : Snapshot) (built : IsSnapshotOfApplied s x) where
+  -- with the log from a place on that it covers, it has the membership in force
+  members_from : (n : ℕ) → n ≤ x.last.index + 1 - first_place s.stored → last_membership x.membership (drop n s.stored.log) ≡ membership_in_force s.stored
+  members_from n l =
+      ap (λ m. last_membership m (drop n s.stored.log)) built.membership
+      ∙ last_overlap n (x.last.index + 1 - first_place s.stored) (option_and_then (λ (y : Snapshot). y.membership) s.stored.snapshot) s.stored.log l
+
+  pub keeps_standing : KeepsStanding s.stored (after_storing (SetSnapshot x) s.stored)
+  keeps_standing = record { vote = refl; last = refl; members = members_from 0 (omega arith) }
+
+  -- all that it covers may be purged
+  pub may_go : (place : ℕ) → place ≤ x.last.index → MayBePurged place (after_storing (SetSnapshot x) s.stored)
+  may_go place l =
+      record {
+        within = omega arith;
+        members = members_from (place + 1 - first_place s.stored) (omega arith) ∙ sym keeps_standing.members;
+      }
+
+  pub order_with : (now : ℕ) → IsInOrder s → IsInOrder (record s { stored = after_storing (SetSnapshot x) s.stored; now = now })
+  order_with now o =
+      let next : next_place (committed_id s) ≡ x.last.index + 1 = next_of_place (committed_id s) x.last.index (o.committed ∙ sym o.applied ∙ built.applied) in
+      let later = built.later in
+      let purged = o.purged in
+      record {
+        placed = o.placed;
+        purged = omega arith;
+        snapshot = omega arith;
+        committed = o.committed;
+        applied = o.applied;
+        within = o.within;
+      }
+
+  module _ (own at : ℕ) where
+    -- the group stores it
+    pub trigger_stores : snapshot_trigger_step (begun at s) ≡ store (SetSnapshot x) (begun at s)
+    trigger_stores =
+        let later = built.later in
+        let past : nat_lt x.last.index (next_place (snapshot_last s.stored)) ≡ false = grind (arith, nat_tests, later) in
+        ap (λ a. snapshot_of_applied a (begun at s)) built.applied
+        ∙ rw past (ap (λ o. store_snapshot_at o (begun at s)) built.entry ∙ ap (λ (y : Snapshot). store (SetSnapshot y) (begun at s)) (sym built.covers))
+
+    -- and who could finish can finish then
+    pub builder_finishes : IsReady own s → (role : Role) → CanFinish own s role → CanFinish own (store (SetSnapshot x) (begun at s)).state role
+    builder_finishes ready Follower h = tt
+    builder_finishes ready (Candidate granters) h = tt
+    builder_finishes ready (Leader lead) h =
+        let room : HasLeadRoom own s lead = h in
+        let with_snapshot : HasLeadRoom own (store (SetSnapshot x) (begun at s)).state lead =
+        record {
+          places = room.places;
+          numbers =
+              subst (λ (m : Option LoggedMembership). (n : ℕ) → (peer_of lead n).next_id + length (filter (λ n. if n == own then false else true) (ids_of m)) ≤ 2 ^ 64)
+              (sym keeps_standing.members) room.numbers;
+          wish = λ place e. let within = ready.wish place e in let later = built.later in may_go place (omega arith);
+        } in
+        with_snapshot
+
+    module _ {C R : Type 0} (e e' : Engine C R) (h : IsStateOf own e s) where
+      pub snapshot_stored : e'.config ≡ e.config → e'.leader ≡ e.leader → e'.candidate ≡ e.candidate
+          → Knows e'.state (after_storing (SetSnapshot x) s.stored) → KeepsRest e.state e'.state
+          → (seq : ℕ) → e'.output.queue ≡ build_command seq ∷ [] → IsStepOf x own e' (store (SetSnapshot x) (begun at s))
+      snapshot_stored config leader candidate knows rest seq queue =
+          record {
+            state = record {
+              config = config ∙ h.config;
+              knows = knows;
+              renewed = ap (λ (v : UTime (Vote ℕ) ℕ). v.utime) rest.vote ∙ h.renewed;
+              committed = rest.committed ∙ h.committed;
+              wish = ap place_of rest.purge_upto ∙ h.wish;
+              role =
+                  plays_on own e'.leader e'.candidate s.stored (after_storing (SetSnapshot x) s.stored) s.role keeps_standing
+                  (subst (λ l. PlaysRole own l e'.candidate s.stored s.role) (sym leader) (subst (λ c. PlaysRole own e.leader c s.stored s.role) (sym candidate) h.role));
+              order = order_with (max s.now at) h.order;
+            };
+            stores = ap (stored_by x) queue;
+            sends = λ t upto. ap (sent_by own t upto) queue;
+          }
+
+      -- what is finished then is the group's step
+      pub build_taken : refusal_of own s (Call TriggerSnapshot at) ≡ None
+          → IsWholeStepOf x own e' (finished own (place_of e.state.state.committed) (store (SetSnapshot x) (begun at s)))
+          → HasTaken x own e' s (Call TriggerSnapshot at)
+      build_taken accepted whole =
+          let before : place_of e.state.state.committed ≡ s.committed = ap place_of h.committed ∙ h.order.committed in
+          rw (unless_none own s (Call TriggerSnapshot at) (refusal_of own s (Call TriggerSnapshot at)) accepted)
+          (subst (λ (r : StepResult). IsWholeStepOf x own e' (finished own s.committed r)) (sym trigger_stores)
+          (subst (λ b. IsWholeStepOf x own e' (finished own b (store (SetSnapshot x) (begun at s)))) before whole))

@@ -1,0 +1,27 @@
+-- What the commands of a queue stand for, as the queue grows.
+use Rattle.std.specs.Prelude.{◌≡◌, ℕ, List, [], ◌∷◌, ◌++◌, Option, refl}
+use Rattle.std.proofs.Common.{ap, sym, ◌∙◌, append-nil}
+use Rattle.std.proofs.lemmas.Grind.{flat_map-append}
+use Rattle.std.specs.List.{flat_map}
+use Rattle.raft_values.specs.declared.log_id.LogId.{LogId}
+use Rattle.raft_group_step.specs.StoredGroup.{StoredGroup, Snapshot, StoringCommand}
+use Rattle.raft_group_step.specs.Message.{Message}
+use Rattle.raft_engine.specs.Commands.{Command, storing_of, sending_of, stored_by, sent_by}
+
+one_more : {X A : Type 0} (f : X → List A) (queue : List X) (c : X) → flat_map f (queue ++ c ∷ []) ≡ flat_map f queue ++ f c
+one_more f queue c = flat_map-append f queue (c ∷ []) ∙ ap (λ xs. flat_map f queue ++ xs) (append-nil (f c))
+
+module _ {C R : Type 0} (queue : List (Command C R)) (c : Command C R) where
+  -- a command behind the others stores after them
+  pub stores_more : (x : Snapshot) (cs more : List StoringCommand) → stored_by x queue ≡ cs → storing_of x c ≡ more → stored_by x (queue ++ c ∷ []) ≡ cs ++ more
+  stores_more x cs more e f = one_more (storing_of x) queue c ∙ ap (λ front. front ++ storing_of x c) e ∙ ap (λ rest. cs ++ rest) f
+
+  pub stores_same : (x : Snapshot) (cs : List StoringCommand) → stored_by x queue ≡ cs → storing_of x c ≡ [] → stored_by x (queue ++ c ∷ []) ≡ cs
+  stores_same x cs e f = stores_more x cs [] e f ∙ append-nil cs
+
+  -- and sends after them
+  pub sends_more : (own : ℕ) (s : StoredGroup) (upto : Option (LogId ℕ)) (ms more : List Message) → sent_by own s upto queue ≡ ms → sending_of own s upto c ≡ more → sent_by own s upto (queue ++ c ∷ []) ≡ ms ++ more
+  sends_more own s upto ms more e f = one_more (sending_of own s upto) queue c ∙ ap (λ front. front ++ sending_of own s upto c) e ∙ ap (λ rest. ms ++ rest) f
+
+  pub sends_same : (own : ℕ) (s : StoredGroup) (upto : Option (LogId ℕ)) (ms : List Message) → sent_by own s upto queue ≡ ms → sending_of own s upto c ≡ [] → sent_by own s upto (queue ++ c ∷ []) ≡ ms
+  sends_same own s upto ms e f = sends_more own s upto ms [] e f ∙ append-nil ms

@@ -1,0 +1,93 @@
+-- What a leader does at the end of an event keeps the room that it has for it.
+use Rattle.std.specs.Prelude.{◌≡◌, ℕ, ◌+◌, ◌≤◌, ◌<◌, ◌^◌, ◌==◌, Bool, true, false, if◌then◌else◌, List, filter, length, Option, Some, None, refl}
+use Rattle.std.proofs.Common.{ap, sym, ◌∙◌, subst, arith}
+use Rattle.raft_values.specs.declared.log_id.LogId.{LogId}
+use Rattle.raft_values.specs.LogId.{next_place}
+use Rattle.raft_known_state.specs.KnownState.{IsPlaced}
+use Rattle.raft_leaders.specs.Candidate.{CandidateValue}
+use Rattle.raft_group_step.specs.Values.{LoggedMembership}
+use Rattle.raft_group_step.specs.StoredGroup.{StoredGroup, end_place, entry_at, id_of, last_id, membership_in_force}
+use Rattle.raft_group_step.specs.GroupState.{GroupState, Lead, Role, Follower, Candidate, Leader}
+use Rattle.raft_group_step.specs.StepResult.{StepResult}
+use Rattle.raft_group_step.specs.Peer.{is_kept_for_peers}
+use Rattle.raft_group_step.specs.Lead.{commit_as_leader, ids_of, other_ids, peer_of, purge_as_wished, purge_up_to, remove_up_to, with_wish}
+use Rattle.raft_group_step.specs.Frames.{has_grown, with_frames}
+use Rattle.raft_group_step.specs.GroupStep.{finished}
+use Rattle.raft_engine.specs.Purging.{MayBePurged}
+use Rattle.raft_engine.specs.Sending.{HasRoomFor, NumbersLeft}
+use Rattle.raft_engine.specs.Standing.{EffectiveMembership, PlaysRole}
+use Rattle.raft_engine.specs.Events.{HasLeadRoom}
+use Rattle.raft_engine.proofs.PurgeLemmas.{KeepsStanding, purge_keeps}
+use Rattle.raft_engine.proofs.ReplicationLemmas.{all_unserved, by_no_lead}
+use Rattle.raft_engine.proofs.SendingLemmas.{end-last}
+
+-- who doesn't lead has nothing to finish
+pub finished_unled : (own : ℕ) (before : Option ℕ) (c : Option (CandidateValue ℕ EffectiveMembership)) (s : StoredGroup) (r : StepResult) → PlaysRole own None c s r.state.role
+    → finished own before r ≡ r
+finished_unled own before c s r h =
+    let commits : commit_as_leader own r.state.role r ≡ r = by_no_lead (λ role. commit_as_leader own role r ≡ r) refl (λ granters. refl) own c s r.state.role h in
+    let purges : purge_as_wished r.state.role r.state.wish r ≡ r =
+    by_no_lead (λ role. purge_as_wished role r.state.wish r ≡ r) refl (λ granters. refl) own c s r.state.role h in
+    ap (λ (y : StepResult). with_frames own before (purge_as_wished y.state.role y.state.wish y)) commits ∙ ap (with_frames own before) purges
+    ∙ all_unserved own (has_grown before r.state.committed) (other_ids own r.state.stored) c s r h
+
+-- ---- committing leaves what is stored, the role and the wish
+
+pub commit_keeps_stored : (own : ℕ) (role : Role) (r : StepResult) → (commit_as_leader own role r).state.stored ≡ r.state.stored
+commit_keeps_stored own Follower r = refl
+commit_keeps_stored own (Candidate granters) r = refl
+commit_keeps_stored own (Leader lead) r = refl
+
+pub commit_keeps_role : (own : ℕ) (role : Role) (r : StepResult) → (commit_as_leader own role r).state.role ≡ r.state.role
+commit_keeps_role own Follower r = refl
+commit_keeps_role own (Candidate granters) r = refl
+commit_keeps_role own (Leader lead) r = refl
+
+pub commit_keeps_wish : (own : ℕ) (role : Role) (r : StepResult) → (commit_as_leader own role r).state.wish ≡ r.state.wish
+commit_keeps_wish own Follower r = refl
+commit_keeps_wish own (Candidate granters) r = refl
+commit_keeps_wish own (Leader lead) r = refl
+
+-- ---- purging leaves the role, the end of the log and the members
+
+pub removing_keeps_role : (id : Option (LogId ℕ)) (r : StepResult) → (remove_up_to id r).state.role ≡ r.state.role
+removing_keeps_role None r = refl
+removing_keeps_role (Some id) r = refl
+
+pub purge_keeps_role : (role : Role) (wish : Option ℕ) (r : StepResult) → (purge_as_wished role wish r).state.role ≡ r.state.role
+purge_keeps_role Follower wish r = refl
+purge_keeps_role (Candidate granters) wish r = refl
+purge_keeps_role (Leader lead) None r = refl
+purge_keeps_role (Leader lead) (Some place) r =
+    elim (is_kept_for_peers place lead.peers) as (λ b. (if b then r else purge_up_to place (with_wish None r)).state.role ≡ r.state.role) [
+      | true ↦ refl
+      | false ↦ removing_keeps_role (id_of (entry_at r.state.stored place)) (with_wish None r)
+    ]
+
+pub wished_keeps : (role : Role) (wish : Option ℕ) (r : StepResult) → IsPlaced r.state.stored → ((place : ℕ) → wish ≡ Some place → MayBePurged place r.state.stored)
+    → KeepsStanding r.state.stored (purge_as_wished role wish r).state.stored
+wished_keeps Follower wish r p may = record { vote = refl; last = refl; members = refl }
+wished_keeps (Candidate granters) wish r p may = record { vote = refl; last = refl; members = refl }
+wished_keeps (Leader lead) None r p may = record { vote = refl; last = refl; members = refl }
+wished_keeps (Leader lead) (Some place) r p may =
+    elim (is_kept_for_peers place lead.peers) as (λ b. KeepsStanding r.state.stored (if b then r else purge_up_to place (with_wish None r)).state.stored) [
+      | true ↦ record { vote = refl; last = refl; members = refl }
+      | false ↦ purge_keeps place (with_wish None r) p (may place refl)
+    ]
+
+-- ---- room for what is sent
+
+abbrev others_of : ℕ → Option LoggedMembership → List ℕ
+others_of own m = filter (λ n. if n == own then false else true) (ids_of m)
+
+-- a leader that had room has room for a request to each other member
+pub room_for_frames : (own : ℕ) (lead : Lead) (s s' : GroupState) → HasLeadRoom own s lead → IsPlaced s.stored → IsPlaced s'.stored → KeepsStanding s.stored s'.stored
+    → s'.role ≡ Leader lead → HasRoomFor (length (other_ids own s'.stored)) s'
+room_for_frames own lead s s' room p p' keeps role =
+    let ends : end_place s'.stored ≡ end_place s.stored = sym (end-last s'.stored p') ∙ ap next_place keeps.last ∙ end-last s.stored p in
+    let places = room.places in
+    let members : other_ids own s'.stored ≡ other_ids own s.stored = ap (others_of own) keeps.members in
+    record {
+      places = let fits : end_place s.stored < 2 ^ 64 = omega arith in subst (λ n. n < 2 ^ 64) (sym ends) fits;
+      numbers = subst (λ k. NumbersLeft k s'.role) (ap length (sym members)) (subst (NumbersLeft (length (other_ids own s.stored))) (sym role) room.numbers);
+    }

@@ -1,0 +1,119 @@
+-- How a lead begins.
+use Rattle.std.specs.Prelude.{◌≡◌, ℕ, ◌+◌, Bool, true, false, ◌||◌, nat_eq, if◌then◌else◌, List, [], ◌∷◌, ◌++◌, map, Option, Some, None, unwrap_or, Result, Ok, Err, IfOk, refl}
+use Rattle.std.specs.Ordering.{nat_cmp}
+use Rattle.std.proofs.Common.{sym, ap, ◌∙◌, subst}
+use Rattle.raft_values.specs.declared.vote.Vote.{Vote}
+use Rattle.raft_values.specs.declared.log_id.LogId.{LogId}
+use Rattle.raft_values.specs.LogId.{next_place}
+use Rattle.raft_state.specs.LogIdList.{last_id, keys_of, last_run}
+use Rattle.raft_membership.specs.Membership.{voter_ids, learner_ids}
+use Rattle.raft_progress.specs.Parts.{has_value, value_of}
+use Rattle.raft_group_step.specs.Values.{LoggedMembership, has_id}
+use Rattle.raft_group_step.specs.StoredGroup.{StoredGroup, end_place, membership_in_force}
+use Rattle.raft_group_step.specs.StoredGroup.{last_id as last_stored_id}
+use Rattle.raft_group_step.specs.Lead.{ids_of, new_lead}
+use Rattle.raft_known_state.specs.KnownState.{KnownState, Knows, IsPlaced, effective_of, stored_ids}
+use Rattle.raft_known_state.proofs.KnownStateLemmas.{end-known, last-known}
+use Rattle.raft_leaders.specs.Leader.{LeaderValue, end_of, unknown_peer}
+use Rattle.std.specs.List.{flat_map}
+use Rattle.raft_values.specs.LogId.{place_of}
+use Rattle.raft_state.specs.declared.raft_state.RaftState.{RaftState}
+use Rattle.raft_group_step.specs.StoredGroup.{Snapshot, SetVote, after_storing}
+use Rattle.raft_group_step.specs.GroupState.{Candidate, Leader}
+use Rattle.raft_group_step.specs.StepResult.{StepResult, in_role, store_vote}
+use Rattle.raft_group_step.specs.Lead.{committed_vote}
+use Rattle.raft_commands.specs.declared.command.Command.TheVariants.{BecomeLeader, SaveVote}
+use Rattle.raft_leaders.specs.Candidate.{CandidateValue}
+use Rattle.raft_engine.specs.Commands.{storing_of, sending_of}
+use Rattle.raft_engine.specs.Standing.{EffectiveMembership, Engine, IsStepOf, Leads, PlaysRole, peer_state}
+use Rattle.raft_engine.proofs.CommandLemmas.{stores_more, stores_same, sends_same}
+use Rattle.raft_engine.proofs.StandingLemmas.{order_kept}
+use Rattle.raft_engine.proofs.LastIdLemmas.{last_of_leader}
+use Rattle.raft_engine.proofs.MemberLemmas.{all_with, all_alike, has_each, voter_or_learner}
+
+abbrev StateOf : Type 0
+StateOf = RaftState ℕ (List ℕ) ℕ
+
+module _ (k : KnownState) (s : StoredGroup) (known : Knows k s) (placed : IsPlaced s) (keys : List (LogId ℕ)) (keys_are : keys ≡ keys_of nat_cmp (last_run nat_cmp k.state.log_ids)) where
+  -- the last leader's keys end with the log
+  pub last_of_log : last_id keys ≡ last_stored_id s
+  last_of_log = ap last_id keys_are ∙ last_of_leader nat_cmp k.state.log_ids ∙ ap last_id known.ids ∙ last-known s placed
+
+  pub end_of_log : end_of keys ≡ end_place s
+  end_of_log = ap (λ ids. next_place (last_id ids)) keys_are ∙ ap next_place (last_of_leader nat_cmp k.state.log_ids) ∙ ap (λ ids. next_place (last_id ids)) known.ids ∙ end-known s placed
+
+has_member : (m : Option LoggedMembership) (n : ℕ) → has_id (ids_of m) n ≡ true
+    → (has_id (voter_ids nat_cmp (effective_of m).membership.configs) n || has_id (learner_ids nat_eq (effective_of m).membership.configs (effective_of m).membership.nodes) n) ≡ true
+has_member None n h = cc h
+has_member (Some m) n h = voter_or_learner m.membership.configs m.membership.nodes n h
+
+module _ (own : ℕ) (vote : Vote ℕ) (s : StoredGroup) (m : EffectiveMembership) (in_force : m ≡ effective_of (membership_in_force s)) (keys : List (LogId ℕ))
+    (lasts : last_id keys ≡ last_stored_id s) (ends : end_of keys ≡ end_place s) (is_own : vote.leader_id.node_id ≡ own) (committed : vote.committed ≡ true) (learners : List ℕ)
+    (learners_are : learners ≡ learner_ids nat_eq m.membership.configs m.membership.nodes) where
+  leads_anew : (l : LeaderValue ℕ EffectiveMembership) → l.vote ≡ vote → l.last_log_id ≡ last_id keys → l.began ≡ end_of keys
+      → l.progress.voters ≡ all_with (unknown_peer (end_of keys)) (voter_ids nat_cmp m.membership.configs) → l.progress.learners ≡ all_with (unknown_peer (end_of keys)) learners
+      → Leads own l (record s { vote = vote }) (new_lead s)
+  leads_anew l voted last began voters others =
+      record {
+        vote = voted;
+        is_own = is_own;
+        committed = committed;
+        last = last ∙ lasts;
+        began = began ∙ ends;
+        peers = λ n.
+            sym (ap (peer_state n)
+            (ap (λ place. unwrap_or (value_of nat_eq l.progress n) (unknown_peer place)) began
+            ∙ all_alike (unknown_peer (end_of keys)) l.progress (voter_ids nat_cmp m.membership.configs) learners voters others n
+            ∙ ap unknown_peer ends));
+        rising = tt;
+        members = λ n h.
+            has_each (unknown_peer (end_of keys)) l.progress (voter_ids nat_cmp m.membership.configs) learners voters others n
+            (ap (λ ids. has_id (voter_ids nat_cmp m.membership.configs) n || has_id ids n) learners_are
+            ∙ ap (λ (y : EffectiveMembership). has_id (voter_ids nat_cmp y.membership.configs) n || has_id (learner_ids nat_eq y.membership.configs y.membership.nodes) n) in_force
+            ∙ has_member (membership_in_force s) n h);
+      }
+
+  -- what a new leader knows: nothing of anybody
+  pub begins : {E : Type 0} (made : Result (LeaderValue ℕ EffectiveMembership) E) → IfOk made (λ l. l.vote ≡ vote) → IfOk made (λ l. l.last_log_id ≡ last_id keys) → IfOk made (λ l. l.began ≡ end_of keys)
+      → IfOk made (λ l. l.progress.voters ≡ all_with (unknown_peer (end_of keys)) (voter_ids nat_cmp m.membership.configs)) → IfOk made (λ l. l.progress.learners ≡ all_with (unknown_peer (end_of keys)) learners)
+      → IfOk made (λ l. Leads own l (record s { vote = vote }) (new_lead s))
+  begins (Ok l) voted last began voters others = leads_anew l voted last began voters others
+  begins (Err e) voted last began voters others = tt
+
+-- a candidate's vote is its own
+pub stands_own : (own : ℕ) (l : Option (LeaderValue ℕ EffectiveMembership)) (c : Option (CandidateValue ℕ EffectiveMembership)) (s : StoredGroup) (granters : List ℕ)
+    → PlaysRole own l c s (Candidate granters) → s.vote.leader_id.node_id ≡ own
+stands_own own None None s granters h = absurd h
+stands_own own None (Some c) s granters h = h.is_own
+stands_own own (Some l) c s granters h = absurd h
+
+module _ {C R : Type 0} (x : Snapshot) (own : ℕ) (e e' : Engine C R) (r : StepResult) (step : IsStepOf x own e r) (l : LeaderValue ℕ EffectiveMembership) (vote : Vote ℕ) where
+  -- the lead of a committed vote that is stored
+  pub lead_begun : vote ≡ committed_vote r.state.stored.vote → e'.config ≡ e.config → e'.leader ≡ Some l → e'.candidate ≡ None
+      → Knows e'.state (after_storing (SetVote vote) r.state.stored) → e'.state.state ≡ record e.state.state { vote = record { value = vote; utime = Some r.state.now } }
+      → e'.output.queue ≡ (e.output.queue ++ SaveVote vote ∷ []) ++ BecomeLeader ∷ [] → Leads own l (record r.state.stored { vote = vote }) (new_lead r.state.stored)
+      → IsStepOf x own e' (in_role (Leader (new_lead r.state.stored)) (store_vote (committed_vote r.state.stored.vote) r))
+  lead_begun voted config leader candidate knows state queue leads =
+      let old = step.state in
+      let s = r.state.stored in
+      let role : PlaysRole own e'.leader e'.candidate (record s { vote = vote }) (Leader (new_lead s)) =
+      subst (λ o. PlaysRole own o e'.candidate (record s { vote = vote }) (Leader (new_lead s))) (sym leader)
+      (subst (λ c. PlaysRole own (Some l) c (record s { vote = vote }) (Leader (new_lead s))) (sym candidate) leads) in
+      let one = stores_more e.output.queue (SaveVote vote) x r.commands (SetVote vote ∷ []) step.stores refl in
+      let begun : IsStepOf x own e' (in_role (Leader (new_lead s)) (store_vote vote r)) =
+      record {
+        state = record {
+          config = config ∙ old.config;
+          knows = knows;
+          renewed = ap (λ (y : StateOf). y.vote.utime) state;
+          committed = ap (λ (y : StateOf). y.committed) state ∙ old.committed;
+          wish = ap (λ (y : StateOf). place_of y.purge_upto) state ∙ old.wish;
+          role = role;
+          order = order_kept r.state vote r.state.now (Leader (new_lead s)) (Some r.state.now) r.state.wish r.state.untold old.order;
+        };
+        stores = ap (λ q. flat_map (storing_of x) q) queue ∙ stores_same (e.output.queue ++ SaveVote vote ∷ []) BecomeLeader x (r.commands ++ SetVote vote ∷ []) one refl;
+        sends = λ t upto.
+            ap (λ q. flat_map (sending_of own t upto) q) queue
+            ∙ sends_same (e.output.queue ++ SaveVote vote ∷ []) BecomeLeader own t upto r.messages (sends_same e.output.queue (SaveVote vote) own t upto r.messages (step.sends t upto) refl) refl;
+      } in
+      subst (λ v. IsStepOf x own e' (in_role (Leader (new_lead s)) (store_vote v r))) voted begun

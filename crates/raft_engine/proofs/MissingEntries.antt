@@ -1,0 +1,167 @@
+-- The entries of a request that the log lacks: which they are, and where the log ends with them.
+use Rattle.std.specs.Prelude.{◌≡◌, ℕ, zero, suc, ◌+◌, ◌-◌, ◌<◌, ◌≤◌, ◌==◌, ◌||◌, ◌&&◌, min, nat_lt, nat_le, not, Bool, true, false, if◌then◌else◌, List, [], ◌∷◌, ◌++◌, filter, length, Option, Some, None, refl}
+use Rattle.std.proofs.Common.{sym, ap, ◌∙◌, subst, arith, length-append, eqb-true}
+use Rattle.std.proofs.lemmas.Bool.{and_parts}
+use Rattle.std.proofs.lemmas.Bool.Decides.{nat_tests}
+use Rattle.std.proofs.lemmas.List.{length-take}
+use Rattle.raft_values.specs.declared.vote.Vote.{Vote}
+use Rattle.raft_values.specs.declared.log_id.LogId.{LogId}
+use Rattle.raft_values.specs.LogId.{next_place, place_of}
+use Rattle.raft_group_step.specs.Values.{Entry}
+use Rattle.raft_group_step.specs.StoredGroup.{StoredGroup, PutEntries, after_storing, first_place, end_place, has_id_in_log, log_below}
+use Rattle.raft_group_step.specs.GroupState.{GroupState}
+use Rattle.raft_group_step.specs.StepResult.{StepResult, is_within}
+use Rattle.raft_group_step.specs.Message.{last_sent}
+use Rattle.raft_group_step.specs.AppendRequest.{above_committed, cut_from, is_held, lesser_place, missing_entries, put_entries}
+use Rattle.raft_group_step.specs.Refusal.{do_follow}
+use Rattle.raft_known_state.specs.KnownState.{ArePlaced}
+use Rattle.raft_engine.specs.Standing.{IsInOrder}
+use Rattle.raft_engine.specs.Following.{EndsWithin, unheld_entries}
+use Rattle.raft_engine.proofs.PlacedEntries.{in_log_within}
+use Rattle.raft_engine.proofs.FollowingLemmas.{cut_ends, end_past, within_log}
+
+-- ---- entries that follow
+
+-- entries that follow stand at their places
+pub placed_after : (vote : Vote ℕ) (es : List Entry) (previous : Option (LogId ℕ)) → do_follow vote previous es ≡ true → ArePlaced (next_place previous) es
+placed_after vote [] previous h = tt
+placed_after vote (e ∷ es) None h =
+    let parts = and_parts _ _ h in let first = and_parts _ _ parts.0 in
+    let at : e.log_id.index ≡ 0 = eqb-true e.log_id.index 0 first.0 in
+    let next : e.log_id.index + 1 ≡ 1 = omega arith in
+    (at, subst (λ n. ArePlaced n es) next (placed_after vote es (Some e.log_id) parts.1))
+placed_after vote (e ∷ es) (Some id) h =
+    let parts = and_parts _ _ h in let more = and_parts _ _ parts.0 in let first = and_parts _ _ more.0 in
+    let at : e.log_id.index ≡ id.index + 1 = eqb-true e.log_id.index (id.index + 1) first.0 in
+    let next : e.log_id.index + 1 ≡ suc (id.index + 1) = omega arith in
+    (at, subst (λ n. ArePlaced n es) next (placed_after vote es (Some e.log_id) parts.1))
+
+-- the last of them stands where they end
+pub ends_at : (es : List Entry) (previous : Option (LogId ℕ)) → ArePlaced (next_place previous) es → next_place (last_sent previous es) ≡ next_place previous + length es
+ends_at [] previous p = omega arith
+ends_at (e ∷ es) previous p =
+    let at : e.log_id.index ≡ next_place previous = p.0 in
+    let next : suc (next_place previous) ≡ e.log_id.index + 1 = omega arith in
+    let rest : next_place (last_sent (Some e.log_id) es) ≡ e.log_id.index + 1 + length es = ends_at es (Some e.log_id) (subst (λ n. ArePlaced n es) next p.1) in
+    omega arith
+
+-- ---- those that the log lacks
+
+all_above : (es : List Entry) (committed : Option ℕ) (place : ℕ) → ArePlaced place es → is_within place committed ≡ false → above_committed committed es ≡ es
+all_above [] committed place p f = refl
+all_above (e ∷ es) committed place p f =
+    let out : is_within e.log_id.index committed ≡ false = ap (λ n. is_within n committed) p.0 ∙ f in
+    rw out (ap (λ rest. e ∷ rest) (all_above es committed (suc place) p.1 (later committed f)))
+  where
+    later : (c : Option ℕ) → is_within place c ≡ false → is_within (suc place) c ≡ false
+    later None g = refl
+    later (Some a) g = grind (arith, nat_tests, g)
+
+later_past : (c : Option ℕ) (place : ℕ) → is_within place c ≡ false → is_within (suc place) c ≡ false
+later_past None place g = refl
+later_past (Some a) place g = grind (arith, nat_tests, g)
+
+not_held : (s : StoredGroup) (es : List Entry) (committed : Option ℕ) (place : ℕ) → ArePlaced place es → is_within place committed ≡ false → missing_entries s es ≡ unheld_entries s committed es
+not_held s [] committed place p f = refl
+not_held s (e ∷ es) committed place p f =
+    let out : is_within e.log_id.index committed ≡ false = ap (λ n. is_within n committed) p.0 ∙ f in
+    rw (out, not_held s es committed (suc place) p.1 (later_past committed place f)) refl
+
+-- those that are missing are those from the first one on that isn't held
+pub missing_are : (s : StoredGroup) (es : List Entry) (committed : Option ℕ) (place : ℕ) → ArePlaced place es → unheld_entries s committed es ≡ missing_entries s (above_committed committed es)
+missing_are s [] committed place p = refl
+missing_are s (e ∷ es) committed place p = by_test (missing_are s es committed (suc place) p.1) (is_within e.log_id.index committed) refl
+  where
+    by_test : unheld_entries s committed es ≡ missing_entries s (above_committed committed es) → (b : Bool) → is_within e.log_id.index committed ≡ b → unheld_entries s committed (e ∷ es) ≡ missing_entries s (above_committed committed (e ∷ es))
+    by_test rest true f = rw f rest
+    by_test rest false f =
+        let out : is_within place committed ≡ false = ap (λ n. is_within n committed) (sym p.0) ∙ f in
+        sym (ap (missing_entries s) (all_above (e ∷ es) committed place p out) ∙ not_held s (e ∷ es) committed place p out)
+
+module _ (s : GroupState) (o : IsInOrder s) where
+  -- what is held stands before the log's end
+  pub held_within : (id : LogId ℕ) → is_held s.stored s.committed (Some id) ≡ true → id.index < end_place s.stored
+  held_within id h = by_test (is_within id.index s.committed) refl
+    where
+      by_test : (b : Bool) → is_within id.index s.committed ≡ b → id.index < end_place s.stored
+      by_test true f = within_log s o id.index f
+      by_test false f = in_log_within s.stored id (ap (λ b. b || has_id_in_log s.stored id) (sym f) ∙ h)
+
+  pub previous_within : (previous : Option (LogId ℕ)) → is_held s.stored s.committed previous ≡ true → next_place previous ≤ end_place s.stored
+  previous_within None h = omega arith
+  previous_within (Some id) h = let g : id.index < end_place s.stored = held_within id h in omega arith
+
+  -- where those that aren't held begin, and how far they go
+  pub record Begin (es : List Entry) (place : ℕ) : Type 0 where
+    pub start : ℕ
+    pub placed : ArePlaced start (unheld_entries s.stored s.committed es)
+    pub past : is_within start s.committed ≡ false
+    pub within : start ≤ end_place s.stored
+    pub reach : place + length es ≤ start + length (unheld_entries s.stored s.committed es)
+
+  pub begin : (es : List Entry) (place : ℕ) → ArePlaced place es → place ≤ end_place s.stored → Begin es place
+  begin [] place p l = record { start = end_place s.stored; placed = tt; past = end_past s o; within = omega arith; reach = omega arith }
+  begin (e ∷ es) place p l = by_test (begin es (suc place) p.1) (is_held s.stored s.committed (Some e.log_id)) refl
+    where
+      out : is_held s.stored s.committed (Some e.log_id) ≡ false → is_within e.log_id.index s.committed ≡ false
+      out f = by_within (is_within e.log_id.index s.committed) refl
+        where
+          by_within : (b : Bool) → is_within e.log_id.index s.committed ≡ b → b ≡ false
+          by_within false g = refl
+          by_within true g = let no : true ≡ false = ap (λ b. b || has_id_in_log s.stored e.log_id) (sym g) ∙ f in cc
+
+      by_test : (suc place ≤ end_place s.stored → Begin es (suc place)) → (b : Bool) → is_held s.stored s.committed (Some e.log_id) ≡ b → Begin (e ∷ es) place
+      by_test more true f =
+          let g : e.log_id.index < end_place s.stored = held_within e.log_id f in
+          let at : e.log_id.index ≡ place = p.0 in
+          let rest : Begin es (suc place) = more (omega arith) in
+          let same : unheld_entries s.stored s.committed (e ∷ es) ≡ unheld_entries s.stored s.committed es = rw f refl in
+          record {
+            start = rest.start;
+            placed = subst (ArePlaced rest.start) (sym same) rest.placed;
+            past = rest.past;
+            within = rest.within;
+            reach = subst (λ xs. place + length (e ∷ es) ≤ rest.start + length xs) (sym same) (let h = rest.reach in omega arith);
+          }
+      by_test more false f =
+          let same : unheld_entries s.stored s.committed (e ∷ es) ≡ e ∷ es = rw f refl in
+          record {
+            start = place;
+            placed = subst (ArePlaced place) (sym same) p;
+            past = ap (λ n. is_within n s.committed) (sym p.0) ∙ out f;
+            within = l;
+            reach = subst (λ xs. place + length (e ∷ es) ≤ place + length xs) (sym same) (omega arith);
+          }
+
+-- put at their place, the log goes as far as they do
+pub put_reaches : (es : List Entry) (place : ℕ) (r : StepResult) → IsInOrder r.state → ArePlaced place es → is_within place r.state.committed ≡ false → place ≤ end_place r.state.stored
+    → place + length es ≤ end_place (put_entries es r).state.stored
+put_reaches [] place r o p past l = omega arith
+put_reaches (e ∷ es) place r o p past l =
+    subst (λ at. place + length (e ∷ es) ≤ end_place (after_storing (PutEntries at (e ∷ es)) (cut_from at r).state.stored)) (sym p.0) (behind (cut_from place r).state.stored (cut_ends r place o past l))
+  where
+    behind : (s : StoredGroup) → end_place s ≡ place → place + length (e ∷ es) ≤ end_place (after_storing (PutEntries place (e ∷ es)) s)
+    behind s f =
+        let n = length-append (log_below s place) (e ∷ es) in
+        let m = length-take (place - first_place s) s.log in omega (arith, n, m)
+
+-- ---- the place up to which the leader says all is committed
+
+pub lesser_within : (a : Option ℕ) (last : Option (LogId ℕ)) (s : StoredGroup) → next_place last ≤ end_place s → EndsWithin (lesser_place a (place_of last)) s
+lesser_within None last s l p e = cc
+lesser_within (Some a) None s l p e = cc
+lesser_within (Some a) (Some id) s l p e =
+    let same : min a id.index ≡ p = cc in let k : id.index + 1 ≤ end_place s = l in omega arith
+
+-- once the missing entries are put, the log has the place up to which the request says all is committed
+pub request_within : (r : StepResult) (vote : Vote ℕ) (previous : Option (LogId ℕ)) (es : List Entry) (said : Option ℕ) → IsInOrder r.state → do_follow vote previous es ≡ true → is_held r.state.stored r.state.committed previous ≡ true
+    → EndsWithin (lesser_place said (place_of (last_sent previous es))) (put_entries (missing_entries r.state.stored (above_committed r.state.committed es)) r).state.stored
+request_within r vote previous es said o follow held =
+    let placed = placed_after vote es previous follow in
+    let b : Begin r.state o es (next_place previous) = begin r.state o es (next_place previous) placed (previous_within r.state o previous held) in
+    let missing = missing_are r.state.stored es r.state.committed (next_place previous) placed in
+    let reached = put_reaches (unheld_entries r.state.stored r.state.committed es) b.start r o b.placed b.past b.within in
+    let ends = ends_at es previous placed in
+    let far : next_place (last_sent previous es) ≤ end_place (put_entries (unheld_entries r.state.stored r.state.committed es) r).state.stored = let reach = b.reach in omega arith in
+    lesser_within said (last_sent previous es) (put_entries (missing_entries r.state.stored (above_committed r.state.committed es)) r).state.stored
+    (subst (λ xs. next_place (last_sent previous es) ≤ end_place (put_entries xs r).state.stored) missing far)

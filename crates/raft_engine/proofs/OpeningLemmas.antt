@@ -1,0 +1,90 @@
+-- A node that starts leads on under a committed vote of its own.
+use Rattle.std.specs.Prelude.{◌≡◌, ℕ, ◌==◌, Bool, true, false, if◌then◌else◌, [], ◌∷◌, ◌++◌, Option, Some, None, refl}
+use Rattle.std.specs.List.{flat_map}
+use Rattle.std.proofs.Common.{ap, sym, ◌∙◌, subst}
+use Rattle.std.proofs.lemmas.Bool.{eqb-true}
+use Rattle.raft_quorums.specs.QuorumLaws.{and_left, and_right}
+use Rattle.raft_values.specs.declared.vote.Vote.{Vote}
+use Rattle.raft_values.specs.LogId.{place_of}
+use Rattle.raft_commands.specs.declared.engine_config.EngineConfig.{EngineConfig}
+use Rattle.raft_known_state.specs.KnownState.{KnownState, Knows}
+use Rattle.raft_group_step.specs.StoredGroup.{Snapshot, StoredGroup, end_place}
+use Rattle.raft_group_step.specs.GroupState.{GroupState, Role, Follower, Leader}
+use Rattle.raft_group_step.specs.StepResult.{StepResult, in_role, unchanged}
+use Rattle.raft_group_step.specs.Lead.{new_lead}
+use Rattle.raft_group_step.specs.Opening.{resume_lead}
+use Rattle.raft_commands.specs.declared.command.Command.TheVariants.{BecomeLeader}
+use Rattle.raft_leaders.specs.Candidate.{CandidateValue}
+use Rattle.raft_leaders.specs.Leader.{LeaderValue}
+use Rattle.raft_engine.specs.Commands.{sending_of, storing_of}
+use Rattle.raft_engine.specs.Events.{CanFinish, IsReady}
+use Rattle.raft_engine.specs.Leading.{leads_by}
+use Rattle.raft_engine.specs.Standing.{EffectiveMembership, Engine, IsStepOf, Leads, PlaysRole}
+use Rattle.raft_engine.proofs.CommandLemmas.{sends_same, stores_same}
+use Rattle.raft_engine.proofs.NewLeadLemmas.{room_at_start}
+use Rattle.raft_engine.proofs.StandingLemmas.{order_kept}
+
+-- a follower doesn't stand
+pub stands_nowhere : (own : ℕ) (l : Option (LeaderValue ℕ EffectiveMembership)) (c : Option (CandidateValue ℕ EffectiveMembership)) (s : StoredGroup) (role : Role)
+    → role ≡ Follower → PlaysRole own l c s role → c ≡ None
+stands_nowhere own l None s role e h = refl
+stands_nowhere own None (Some c) s role e h = absurd (subst (PlaysRole own None (Some c) s) e h)
+stands_nowhere own (Some l) (Some c) s role e h = absurd (subst (PlaysRole own (Some l) (Some c) s) e h)
+
+module _ {C R : Type 0} (x : Snapshot) (own : ℕ) (e e' : Engine C R) (r : StepResult) (step : IsStepOf x own e r) (l : LeaderValue ℕ EffectiveMembership) where
+  -- the lead begins, and nothing is stored
+  pub lead_resumed : e'.config ≡ e.config → e'.leader ≡ Some l → e'.candidate ≡ None → e'.state ≡ e.state → e'.output.queue ≡ e.output.queue ++ BecomeLeader ∷ []
+      → Leads own l r.state.stored (new_lead r.state.stored) → IsStepOf x own e' (in_role (Leader (new_lead r.state.stored)) r)
+  lead_resumed config leader candidate state queue leads =
+      let old = step.state in
+      let s = r.state.stored in
+      record {
+        state = record {
+          config = config ∙ old.config;
+          knows = subst (λ k. Knows k s) (sym state) old.knows;
+          renewed = ap (λ (y : KnownState). y.state.vote.utime) state ∙ old.renewed;
+          committed = ap (λ (y : KnownState). y.state.committed) state ∙ old.committed;
+          wish = ap (λ (y : KnownState). place_of y.state.purge_upto) state ∙ old.wish;
+          role =
+              subst (λ o. PlaysRole own o e'.candidate s (Leader (new_lead s))) (sym leader)
+              (subst (λ c. PlaysRole own (Some l) c s (Leader (new_lead s))) (sym candidate) leads);
+          order = order_kept r.state s.vote r.state.now (Leader (new_lead s)) r.state.renewed r.state.wish r.state.untold old.order;
+        };
+        stores = ap (λ q. flat_map (storing_of x) q) queue ∙ stores_same e.output.queue BecomeLeader x r.commands step.stores refl;
+        sends = λ t upto. ap (λ q. flat_map (sending_of own t upto) q) queue ∙ sends_same e.output.queue BecomeLeader own t upto r.messages (step.sends t upto) refl;
+      }
+
+-- ---- whose vote it is
+
+-- the engine tells it of the vote that it knows
+pub own_vote_known : {C R : Type 0} (x : Snapshot) (own : ℕ) (e : Engine C R) (r : StepResult) (vote : Vote ℕ) (answer : Bool)
+    → IsStepOf x own e r → vote ≡ e.state.state.vote.value → answer ≡ leads_by vote e.config.id → answer ≡ leads_by r.state.stored.vote own
+own_vote_known x own e r vote answer step known says =
+    says ∙ ap (λ (v : Vote ℕ). leads_by v e.config.id) (known ∙ step.state.knows.vote)
+    ∙ ap (leads_by r.state.stored.vote) (ap (λ (y : EngineConfig ℕ). y.id) step.state.config)
+
+module _ (own : ℕ) (vote : Vote ℕ) (leads : leads_by vote own ≡ true) where
+  pub committed_then : vote.committed ≡ true
+  committed_then = and_left vote.committed (vote.leader_id.node_id == own) leads
+
+  pub own_then : vote.leader_id.node_id ≡ own
+  own_then = eqb-true vote.leader_id.node_id own (and_right vote.committed (vote.leader_id.node_id == own) leads)
+
+-- under another vote nothing changes
+pub follows_on : (own : ℕ) (r : StepResult) → leads_by r.state.stored.vote own ≡ false → r ≡ resume_lead own r
+follows_on own r other = ap (λ b. if b then in_role (Leader (new_lead r.state.stored)) r else r) (sym other)
+
+-- under an own one the lead begins
+pub leads_on : (own : ℕ) (r : StepResult) → leads_by r.state.stored.vote own ≡ true → in_role (Leader (new_lead r.state.stored)) r ≡ resume_lead own r
+leads_on own r mine = ap (λ b. if b then in_role (Leader (new_lead r.state.stored)) r else r) (sym mine)
+
+-- a node that starts has room for the end of it
+pub resume_finishes : (own : ℕ) (s : GroupState) → IsReady own s → s.role ≡ Follower → let after = resume_lead own (unchanged s) in CanFinish own after.state after.state.role
+resume_finishes own s ready follows =
+    let led = in_role (Leader (new_lead s.stored)) (unchanged s) in
+    elim (leads_by s.stored.vote own) as (λ b. CanFinish own (if b then led else unchanged s).state (if b then led else unchanged s).state.role) [
+      | true ↦
+          room_at_start own (end_place s.stored) led.state
+          (record { places = ready.places; members = ready.members; wish = λ place e. ready.purges place (ready.wish place e) })
+      | false ↦ subst (CanFinish own s) (sym follows) tt
+    ]

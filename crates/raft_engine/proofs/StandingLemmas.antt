@@ -1,0 +1,119 @@
+-- What changes of an engine leave of the state and step that it stands for.
+use Rattle.std.specs.Prelude.{◌≡◌, ℕ, List, [], ◌∷◌, ◌++◌, Option, Some, None, Bool, true, false, refl}
+use Rattle.std.proofs.Common.{ap, sym, ◌∙◌, subst}
+use Rattle.raft_values.specs.declared.vote.Vote.{Vote}
+use Rattle.raft_values.specs.declared.log_id.LogId.{LogId}
+use Rattle.raft_values.specs.LogId.{place_of}
+use Rattle.raft_state.specs.declared.raft_state.RaftState.{RaftState}
+use Rattle.raft_group_step.specs.StoredGroup.{StoredGroup, Snapshot, SetVote, after_storing}
+use Rattle.raft_group_step.specs.GroupState.{GroupState, Role, Follower, Candidate, Leader, Lead, Untold}
+use Rattle.raft_group_step.specs.StepResult.{StepResult, step_down, store_vote, renew}
+use Rattle.raft_group_step.specs.Message.{Message}
+use Rattle.raft_group_step.specs.Frames.{committed_id}
+use Rattle.raft_commands.specs.declared.command.Command.TheVariants.{SaveVote}
+use Rattle.raft_known_state.specs.KnownState.{KnownState, Knows}
+use Rattle.raft_leaders.specs.Candidate.{CandidateValue}
+use Rattle.raft_leaders.specs.Leader.{LeaderValue}
+use Rattle.std.specs.List.{flat_map}
+use Rattle.raft_commands.specs.Output.{Output}
+use Rattle.raft_engine.specs.Commands.{Command, storing_of, sending_of, stored_by, sent_by}
+use Rattle.raft_engine.specs.Standing.{Engine, EffectiveMembership, IsInOrder, IsStateOf, IsStepOf, IsWholeStepOf, PlaysRole, Stands, Leads}
+use Rattle.raft_engine.proofs.CommandLemmas.{stores_more, stores_same, sends_more, sends_same}
+
+abbrev StateOf : Type 0
+StateOf = RaftState ℕ (List ℕ) ℕ
+
+-- another vote, moment, role, wish or token leaves the places in order
+pub order_kept : (s : GroupState) (vote : Vote ℕ) (now : ℕ) (role : Role) (renewed wish : Option ℕ) (untold : List Untold) → IsInOrder s
+    → IsInOrder (record s { stored = record s.stored { vote = vote }; now = now; role = role; renewed = renewed; wish = wish; untold = untold })
+order_kept s vote now role renewed wish untold o =
+    record { placed = o.placed; purged = o.purged; snapshot = o.snapshot; committed = o.committed; applied = o.applied; within = o.within }
+
+-- a follower stays one, whatever is stored
+pub still_follows : (own : ℕ) (l : Option (LeaderValue ℕ EffectiveMembership)) (c : Option (CandidateValue ℕ EffectiveMembership)) (s s' : StoredGroup) (role : Role)
+    → role ≡ Follower → PlaysRole own l c s role → PlaysRole own l c s' role
+still_follows own None None s s' Follower e h = tt
+still_follows own None (Some c) s s' Follower e h = absurd h
+still_follows own (Some l) c s s' Follower e h = absurd h
+still_follows own l c s s' (Candidate granters) e h = cc
+still_follows own l c s s' (Leader lead) e h = cc
+
+module _ {C R : Type 0} (x : Snapshot) (own : ℕ) (e e' : Engine C R) (r : StepResult) (step : IsStepOf x own e r) where
+  -- a follower's vote is stored
+  pub vote_stored : (vote : Vote ℕ) → r.state.role ≡ Follower → e'.config ≡ e.config → e'.leader ≡ e.leader → e'.candidate ≡ e.candidate
+      → Knows e'.state (after_storing (SetVote vote) r.state.stored) → e'.state.state ≡ record e.state.state { vote = record { value = vote; utime = Some r.state.now } }
+      → e'.output.queue ≡ e.output.queue ++ SaveVote vote ∷ [] → IsStepOf x own e' (store_vote vote r)
+  vote_stored vote follows config leader candidate knows state queue =
+      let old = step.state in
+      record {
+        state = record {
+          config = config ∙ old.config;
+          knows = knows;
+          renewed = ap (λ (y : StateOf). y.vote.utime) state;
+          committed = ap (λ (y : StateOf). y.committed) state ∙ old.committed;
+          wish = ap (λ (y : StateOf). place_of y.purge_upto) state ∙ old.wish;
+          role = still_follows own e'.leader e'.candidate r.state.stored (record r.state.stored { vote = vote }) r.state.role follows
+              (subst (λ l. PlaysRole own l e'.candidate r.state.stored r.state.role) (sym leader) (subst (λ c. PlaysRole own e.leader c r.state.stored r.state.role) (sym candidate) old.role));
+          order = order_kept r.state vote r.state.now r.state.role (Some r.state.now) r.state.wish r.state.untold old.order;
+        };
+        stores = ap (λ q. flat_map (storing_of x) q) queue ∙ stores_more e.output.queue (SaveVote vote) x r.commands (SetVote vote ∷ []) step.stores refl;
+        sends = λ s upto. ap (λ q. flat_map (sending_of own s upto) q) queue ∙ sends_same e.output.queue (SaveVote vote) own s upto r.messages (step.sends s upto) refl;
+      }
+
+  -- the vote in force is heard of at this moment
+  pub vote_renewed : e'.config ≡ e.config → e'.leader ≡ e.leader → e'.candidate ≡ e.candidate → e'.output ≡ e.output
+      → e'.state ≡ record e.state { state = record e.state.state { vote = record e.state.state.vote { utime = Some r.state.now } } } → IsStepOf x own e' (renew r)
+  vote_renewed config leader candidate output state =
+      let old = step.state in
+      record {
+        state = record {
+          config = config ∙ old.config;
+          knows = record {
+            vote = ap (λ (y : KnownState). y.state.vote.value) state ∙ old.knows.vote;
+            ids = ap (λ (y : KnownState). y.state.log_ids) state ∙ old.knows.ids;
+            purged = ap (λ (y : KnownState). y.state.purged_next) state ∙ old.knows.purged;
+            snapshot = ap (λ (y : KnownState). y.state.snapshot_meta) state ∙ old.knows.snapshot;
+            memberships = ap (λ (y : KnownState). y.memberships.items) state ∙ old.knows.memberships;
+            in_force = ap (λ (y : KnownState). y.state.membership_state.effective) state ∙ old.knows.in_force;
+          };
+          renewed = ap (λ (y : KnownState). y.state.vote.utime) state;
+          committed = ap (λ (y : KnownState). y.state.committed) state ∙ old.committed;
+          wish = ap (λ (y : KnownState). place_of y.state.purge_upto) state ∙ old.wish;
+          role = subst (λ l. PlaysRole own l e'.candidate r.state.stored r.state.role) (sym leader) (subst (λ c. PlaysRole own e.leader c r.state.stored r.state.role) (sym candidate) old.role);
+          order = order_kept r.state r.state.stored.vote r.state.now r.state.role (Some r.state.now) r.state.wish r.state.untold old.order;
+        };
+        stores = ap (λ (o : Output C (List ℕ) R ℕ (List ℕ)). stored_by x o.queue) output ∙ step.stores;
+        sends = λ s upto. ap (λ (o : Output C (List ℕ) R ℕ (List ℕ)). sent_by own s upto o.queue) output ∙ step.sends s upto;
+      }
+
+  -- what is sent and stores nothing goes behind the rest
+  pub sent_more : (c : Command C R) (more : List Message) → e'.config ≡ e.config → e'.leader ≡ e.leader → e'.candidate ≡ e.candidate → e'.state ≡ e.state
+      → e'.output.queue ≡ e.output.queue ++ c ∷ [] → storing_of x c ≡ [] → ((s : StoredGroup) (upto : Option (LogId ℕ)) → sending_of own s upto c ≡ more)
+      → IsStepOf x own e' (record r { messages = r.messages ++ more })
+  sent_more c more config leader candidate state queue none sends =
+      let old = step.state in
+      record {
+        state = record {
+          config = config ∙ old.config;
+          knows = subst (λ k. Knows k r.state.stored) (sym state) old.knows;
+          renewed = ap (λ (y : KnownState). y.state.vote.utime) state ∙ old.renewed;
+          committed = ap (λ (y : KnownState). y.state.committed) state ∙ old.committed;
+          wish = ap (λ (y : KnownState). place_of y.state.purge_upto) state ∙ old.wish;
+          role = subst (λ l. PlaysRole own l e'.candidate r.state.stored r.state.role) (sym leader) (subst (λ d. PlaysRole own e.leader d r.state.stored r.state.role) (sym candidate) old.role);
+          order = old.order;
+        };
+        stores = ap (λ q. flat_map (storing_of x) q) queue ∙ stores_same e.output.queue c x r.commands step.stores none;
+        sends = λ s upto. ap (λ q. flat_map (sending_of own s upto) q) queue ∙ sends_more e.output.queue c own s upto r.messages more (step.sends s upto) (sends s upto);
+      }
+
+-- the same queue with a message more
+pub queued : {C R : Type 0} (x : Snapshot) (own : ℕ) (e : Engine C R) (r : StepResult) (c : Command C R) (more : List Message) → IsStepOf x own e r → storing_of x c ≡ []
+    → ((s : StoredGroup) (upto : Option (LogId ℕ)) → sending_of own s upto c ≡ more)
+    → IsStepOf x own (record e { output = record e.output { queue = e.output.queue ++ c ∷ [] } }) (record r { messages = r.messages ++ more })
+queued x own e r c more step none sends =
+    sent_more x own e (record e { output = record e.output { queue = e.output.queue ++ c ∷ [] } }) r step c more refl refl refl refl refl none sends
+
+-- a step whose messages have what is stored later has what is stored now
+pub step_as_whole : {C R : Type 0} (x : Snapshot) (own : ℕ) (e : Engine C R) (r : StepResult) → IsStepOf x own e r → IsWholeStepOf x own e r
+step_as_whole x own e r step =
+    record { state = step.state; stores = step.stores; sends = step.sends r.state.stored (committed_id r.state) }

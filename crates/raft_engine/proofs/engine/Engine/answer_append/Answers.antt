@@ -1,0 +1,17 @@
+use Rattle.std.proofs.Common.{ap, refl, None}
+use Rattle.std.proofs.lemmas.Result.{on_ok_weaker}
+use Rattle.raft_commands.specs.Output.{Output}
+use Rattle.raft_commands.specs.declared.command.Command.TheVariants.{Respond}
+use Rattle.raft_commands.specs.declared.respond.Respond.TheVariants.{AppendEntries}
+use Rattle.raft_group_step.specs.Message.{AppendReply, last_sent}
+use Rattle.raft_engine.specs.Commands.{message_to, result_of}
+use Rattle.raft_engine.proofs.StandingLemmas.{sent_more}
+use Rattle.raft_engine.proofs.engine.Engine.answer_append.Goals as goal
+
+pub returns : goal.returns
+returns g c = λ x own r m step spells.
+    let body = AppendReply (record { vote = m.vote; id = m.id; previous = m.previous; last = last_sent m.previous m.entries; outcome = result_of c.args.resp }) in
+    on_ok_weaker c.push_command.result
+    (λ h. sent_more x own c.args.self.now _ r step (Respond None (AppendEntries c.new.result)) (message_to own c.args.tx.peer body)
+    refl refl refl refl (ap (λ (o : Output _ _ _ _ _). o.queue) h) refl (λ s upto. rw (c.new.ensures, spells.vote, spells.id, spells.previous, spells.last) refl))
+    c.push_command.ensures.ok

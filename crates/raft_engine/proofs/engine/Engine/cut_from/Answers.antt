@@ -1,0 +1,33 @@
+-- The log has an entry at the place where its log id is found there.
+use Rattle.std.proofs.Common.{◌≡◌, ◌∙◌, ap, sym, refl, true, false, None}
+use Rattle.std.specs.Prelude.{Some, [], ◌∷◌, is_some}
+use Rattle.std.proofs.lemmas.Result.{on_ok_weaker}
+use Rattle.raft_commands.specs.Output.{Output}
+use Rattle.raft_commands.specs.declared.command.Command.TheVariants.{DeleteConflictLog}
+use Rattle.raft_group_step.specs.StoredGroup.{CutFrom, entry_at, id_at}
+use Rattle.raft_engine.proofs.PlacedEntries.{entry_of_id, id_of_place}
+use Rattle.raft_engine.proofs.FollowingLemmas.{above_first, cut_keeps_id, log_stored, order_of_cut}
+use Rattle.raft_engine.proofs.engine.Engine.cut_from.Goals as goal
+
+pub returns-in_default : goal.returns-in_default
+returns-in_default g c = λ x own r step follows past.
+    let order = step.state.order in
+    let none : is_some (entry_at r.state.stored c.args.place) ≡ false =
+    entry_of_id r.state.stored c.args.place None (above_first r.state order c.args.place past)
+    (sym c.in_default.is ∙ c.get_log_id.ensures r.state.stored step.state.knows order.placed) in
+    rw none step
+
+pub returns : goal.returns
+returns g c = λ x own r step follows past.
+    let order = step.state.order in
+    let first = above_first r.state order c.args.place past in
+    let found : Some c.in-Some.since ≡ id_at r.state.stored c.args.place = sym c.in-Some.is ∙ c.get_log_id.ensures r.state.stored step.state.knows order.placed in
+    let some : is_some (entry_at r.state.stored c.args.place) ≡ true = entry_of_id r.state.stored c.args.place (Some c.in-Some.since) first found in
+    let at = id_of_place r.state.stored c.args.place c.in-Some.since order.placed first found in
+    on_ok_weaker c.push_command.result
+    (λ h. rw some
+    (log_stored x own c.args.self.now _ r step refl refl refl (CutFrom c.args.place) (DeleteConflictLog c.in-Some.since) follows
+    (c.in_ok-truncate.ensures.known r.state.stored step.state.knows order.placed first) c.in_ok-truncate.ensures.rest
+    (order_of_cut r.state order c.args.place past) (cut_keeps_id r.state order c.args.place past)
+    (ap (λ (o : Output _ _ _ _ _). o.queue) h) (ap (λ n. CutFrom n ∷ []) at) (λ s upto. refl)))
+    c.push_command.ensures.ok

@@ -1,0 +1,37 @@
+-- Learners are no voters, and of no peer anything is known.
+use Rattle.std.proofs.Common.{◌≡◌, ◌∙◌, ◌<◌, ◌^◌, ap, sym, subst, arith}
+use Rattle.std.specs.Ordering.{nat_cmp}
+use Rattle.std.specs.List.{list_any}
+use Rattle.raft_values.specs.LogId.{next_place}
+use Rattle.raft_quorums.specs.Nodes.{has_id}
+use Rattle.std.specs.Prelude.{nat_eq}
+use Rattle.raft_membership.specs.Membership.{learner_ids, voter_ids}
+use Rattle.raft_state.specs.LogIdList.{last_id}
+use Rattle.raft_engine.proofs.LastIdLemmas.{last_of_leader}
+use Rattle.raft_engine.proofs.LeaderLemmas.{begins, end_of_log, last_of_log}
+use Rattle.raft_engine.proofs.MemberLemmas.{no_voters, rising_distinct}
+use Rattle.raft_engine.proofs.engine.Engine.new_leader.Goals as goal
+
+pub new-requires-clause-distinct : goal.new-requires-clause-distinct
+new-requires-clause-distinct g c = rw c.as_slice.ensures.ids (rising_distinct _ c.as_slice.ensures.rising)
+
+pub new-requires-clause-no_voters : goal.new-requires-clause-no_voters
+new-requires-clause-no_voters g c =
+    rw (c.as_slice.ensures.ids, c.in_ok-learner_ids.ensures, c.membership.ensures)
+    (no_voters c.in_ok-membership.membership.membership.configs c.in_ok-membership.membership.membership.nodes)
+
+pub new-requires-clause-fits : goal.new-requires-clause-fits
+new-requires-clause-fits g c =
+    let same = ap (λ ids. next_place (last_id ids)) c.by_last_leader.ensures ∙ ap next_place (last_of_leader nat_cmp c.args.self.now.state.state.log_ids) in
+    omega (arith, same, c.requires)
+
+pub returns : goal.returns
+returns g c = λ own s known placed is_own committed.
+    let keys = c.by_last_leader.result.now in
+    let m = c.in_ok-membership.membership in
+    let in_force = c.in_ok-membership.ensures.cases ∙ c.effective_membership.ensures s known in
+    let lasts = last_of_log c.args.self.now.state s known placed keys c.by_last_leader.ensures in
+    let ends = end_of_log c.args.self.now.state s known placed keys c.by_last_leader.ensures in
+    let learners = c.as_slice.ensures.ids ∙ c.in_ok-learner_ids.ensures ∙ ap (λ y. learner_ids nat_eq y.configs y.nodes) c.membership.ensures in
+    begins own c.args.vote s m in_force keys lasts ends is_own committed c.as_slice.result.now learners
+    c.new.result c.new.ensures.vote c.new.ensures.last_log_id c.new.ensures.began c.new.ensures.voters c.new.ensures.learners

@@ -1,0 +1,33 @@
+-- The entry at the place goes, and those before it.
+use Rattle.std.proofs.Common.{◌≡◌, ◌<◌, ◌∙◌, ap, sym, subst, refl, arith, true, false}
+use Rattle.std.proofs.lemmas.Result.{on_ok_weaker}
+use Rattle.raft_group_step.specs.StoredGroup.{end_place}
+use Rattle.raft_engine.specs.Standing.{IsStepOf}
+use Rattle.raft_engine.proofs.PurgeLemmas.{is_of_entry, none_to_purge, purged_to}
+use Rattle.raft_engine.proofs.engine.Engine.purge_up_to.Goals as goal
+
+pub returns : goal.returns
+returns g c = λ x own r step fits may.
+    let s = r.state.stored in
+    let knows = step.state.knows in
+    let placed = step.state.order.placed in
+    let some = sym (c.has_entry_at.ensures s knows placed) ∙ c.if-not-has_entry_at.false in
+    let entrys = is_of_entry s c.args.place c.in-Some.upto placed some (c.in-Some.ensures s knows placed) in
+    on_ok_weaker c.push_command.result
+    (λ h. purged_to x own c.args.self.now _ r step c.args.place c.in-Some.upto entrys may refl refl refl
+    (c.in_ok-purge.ensures.known s knows placed entrys.above entrys.is_entrys) c.in_ok-purge.ensures.rest (ap (λ o. o.queue) h))
+    c.push_command.ensures.ok
+
+pub returns-then-not-has_entry_at : goal.returns-then-not-has_entry_at
+returns-then-not-has_entry_at g c = λ x own r step fits may.
+    subst (IsStepOf x own c.args.self.now) (sym (none_to_purge c.args.place r (sym (c.has_entry_at.ensures r.state.stored step.state.knows step.state.order.placed) ∙ c.if-not-has_entry_at.true))) step
+
+pub returns-then-upto : goal.returns-then-upto
+returns-then-upto g c = λ x own r step fits may.
+    let s = r.state.stored in
+    let placed = step.state.order.placed in
+    let some = sym (c.has_entry_at.ensures s step.state.knows placed) ∙ c.if-not-has_entry_at.false in
+    let entrys = is_of_entry s c.args.place c.in-Some.upto placed some (c.in-Some.ensures s step.state.knows placed) in
+    let within : c.in-Some.upto.index < end_place s = entrys.within in
+    let greatest : c.in-Some.upto.index ≡ 18446744073709551615 = c.if-upto.true in
+    absurd (omega arith)

@@ -1,0 +1,34 @@
+-- A candidate notes the grant. With a quorum it leads, since its log has room then.
+use Rattle.std.proofs.Common.{◌∙◌, ap, sym, subst, refl}
+use Rattle.std.specs.Prelude.{◌<◌}
+use Rattle.std.proofs.Math.Bool.{true≢false}
+use Rattle.std.proofs.lemmas.Result.{on_ok_weaker}
+use Rattle.raft_group_step.specs.GroupState.{Candidate, is_candidate}
+use Rattle.raft_group_step.specs.StepResult.{in_role}
+use Rattle.raft_group_step.specs.Lead.{lead_if}
+use Rattle.raft_engine.specs.Standing.{IsStepOf}
+use Rattle.raft_engine.proofs.ElectionLemmas.{noted, counted_by, granted_so, known_end, now_granted}
+use Rattle.raft_engine.proofs.engine.Engine.with_grant.Goals as goal
+use Rattle.raft_engine.proofs.engine.Engine.with_grant.Goals.{else-is_quorum-via-then-is_quorum+else-has_room, else-is_quorum-via-else-is_quorum}
+
+pub returns-then-has_room : goal.returns-then-has_room
+returns-then-has_room g c = λ x own r step now room.
+    let n = c.args.n in
+    let w = noted x own c.args.self.now r step c.in-Some.candidate c.grant_by-is_quorum.new.self n c.in-Some.is c.grant_by-is_quorum.ensures.sets c.grant_by-is_quorum.ensures.rest in
+    let stood = in_role (Candidate (now_granted w.0 n)) r in
+    let same = granted_so n w.0 r c.grant_by-is_quorum.result w.1 (counted_by own c.grant_by-is_quorum.new.self r.state.stored (now_granted w.0 n) c.grant_by-is_quorum.result w.2 c.grant_by-is_quorum.ensures.by_groups) in
+    on_ok_weaker c.begin_lead.result
+    (λ h. subst (IsStepOf x own c.begin_lead.new.self) (ap (λ b. lead_if b stood) (sym c.if-is_quorum.true) ∙ same) h)
+    (c.begin_lead.ensures x own stood (now_granted w.0 n) w.3 refl now)
+
+pub returns : goal.returns
+returns g c = λ x own r step now room.
+    let n = c.args.n in
+    let w = noted x own c.args.self.now r step c.in-Some.candidate c.grant_by-is_quorum.new.self n c.in-Some.is c.grant_by-is_quorum.ensures.sets c.grant_by-is_quorum.ensures.rest in
+    let stood = in_role (Candidate (now_granted w.0 n)) r in
+    let same = granted_so n w.0 r c.grant_by-is_quorum.result w.1 (counted_by own c.grant_by-is_quorum.new.self r.state.stored (now_granted w.0 n) c.grant_by-is_quorum.result w.2 c.grant_by-is_quorum.ensures.by_groups) in
+    elim c.else-is_quorum.branch [
+      | else-is_quorum-via-then-is_quorum+else-has_room v ↦
+          absurd (true≢false (sym (v.has_room.ensures.1 (subst (λ place. place < 9223372036854775808) (sym (known_end x own c.args.self.now r step)) (room (ap is_candidate w.1)))) ∙ v.if-has_room.false))
+      | else-is_quorum-via-else-is_quorum v ↦ subst (IsStepOf x own _) (ap (λ b. lead_if b stood) (sym v.if-is_quorum.false) ∙ same) w.3
+    ]

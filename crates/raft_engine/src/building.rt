@@ -1,0 +1,72 @@
+//! Snapshots that the node builds.
+ghost use Rattle.std.specs.Prelude.{◌≡◌, ◌∷◌, [], ℕ, OnOk, IfOk, Ok, true, false, Some, None};
+ghost use Rattle.raft_values.specs.LogId.{stands_before};
+ghost use Rattle.raft_group_step.specs.StoredGroup.{Snapshot};
+ghost use Rattle.raft_group_step.specs.GroupState.{GroupState};
+ghost use Rattle.raft_group_step.specs.GroupEvent.{Call};
+ghost use Rattle.raft_group_step.specs.declared.group_call.GroupCall.TheVariants.{TriggerSnapshot};
+ghost use Rattle.raft_group_step.specs.Refusal.{refusal_of};
+ghost use Rattle.raft_known_state.specs.KnownState.{meta_of};
+ghost use Rattle.raft_engine.specs.Building.{IsSnapshotOfApplied, asking, build_command, covered_id, is_building, with_building};
+ghost use Rattle.raft_engine.specs.Events.{HasTaken, IsReady, MayTake};
+ghost use Rattle.raft_engine.specs.Standing.{IsStateOf};
+
+use crate::engine::Engine;
+use raft_commands::{Command, RaftTypeConfig, sm};
+use raft_state::{BasicNode, Bytes, SnapshotMeta};
+use raft_values::log_id_option_ext::stands_before;
+use std::alloc::AllocError;
+
+impl<C: RaftTypeConfig<NodeId = u64, Node = BasicNode, D = Bytes>> Engine<C> {
+    /// The state machine is to build a snapshot of what is applied, and that is answered (openraft).
+    /// Not where one is being built, nor where the last one has all that is applied: then the event
+    /// is over.
+    pub fn trigger_snapshot(&mut self) -> Result<bool, AllocError>
+        ensures busy { is_building self.old ≡ true → (result ≡ Ok false) × (self.new ≡ self.old) }
+        ensures none_new { (x : Snapshot) (own at : ℕ) (s : GroupState) → MayTake own self.old s (Call TriggerSnapshot at) → is_building self.old ≡ false
+            → stands_before (covered_id self.old) self.old.state.state.committed ≡ false
+            → IfOk result (λ asked. (asked ≡ false) × HasTaken x own self.new s (Call TriggerSnapshot at)) }
+        ensures asked { is_building self.old ≡ false → stands_before (covered_id self.old) self.old.state.state.committed ≡ true
+            → IfOk result (λ asked. (asked ≡ true) × (self.new ≡ asking self.old)) }
+    {
+        if self.state.state.io_state.building_snapshot() {
+            return Ok(false);
+        }
+        if !stands_before(
+            &self.state.state.snapshot_meta.last_log_id,
+            &self.state.state.committed,
+        ) {
+            let before = self.state.state.committed;
+            self.finish(before)?;
+            return Ok(false);
+        }
+        let seq = self.output.next_sm_seq();
+        let command = sm::Command::build_snapshot().with_seq(seq);
+        self.output.push_command(Command::StateMachine { command })?;
+        self.state.state.io_state.set_building_snapshot(true);
+        Ok(true)
+    }
+
+    /// The snapshot that was asked for is built, and is the node's last one from now on (openraft).
+    /// One that doesn't go past the last one is ignored.
+    pub fn finish_building_snapshot(
+        &mut self,
+        meta: SnapshotMeta<u64, BasicNode>,
+    ) -> Result<(), AllocError>
+        ensures built { (own at seq : ℕ) (s : GroupState) (x : Snapshot) → IsStateOf own self.old s → self.old.output.queue ≡ build_command seq ∷ [] → IsReady own s
+            → refusal_of own s (Call TriggerSnapshot at) ≡ None → meta ≡ meta_of (Some x) → IsSnapshotOfApplied s x
+            → OnOk result (HasTaken x own self.new s (Call TriggerSnapshot at)) }
+        ensures ignored { stands_before (covered_id self.old) meta.last_log_id ≡ false → (result ≡ Ok tt) × (self.new ≡ with_building false self.old) }
+    {
+        self.state.state.io_state.set_building_snapshot(false);
+        if !stands_before(
+            &self.state.state.snapshot_meta.last_log_id,
+            &meta.last_log_id,
+        ) {
+            return Ok(());
+        }
+        let before = self.state.state.committed;
+        self.state.save_snapshot(meta)?;
+        self.finish(before)
+    }
+}

@@ -1,0 +1,253 @@
+//! What the engine is asked for: each call does what the group step does at its event.
+ghost use Rattle.std.specs.Prelude.{◌≡◌, ◌<◌, ◌+◌, ◌^◌, ℕ, OnOk, IfOk, max, [], None, Some, Ok, Err, true, false};
+ghost use Rattle.raft_values.specs.LogId.{next_place};
+ghost use Rattle.raft_state.specs.LogIdList.{last_id};
+ghost use Rattle.raft_membership.specs.declared.error.InitializeError.TheVariants.{NotAllowed as IsNotAllowed, NotInMembers as IsNotInMembers};
+ghost use Rattle.raft_group_step.specs.Values.{ChangeMembers, LoggedMembership, after_change, is_voter};
+ghost use Rattle.raft_group_step.specs.StoredGroup.{Snapshot, end_place, membership_in_force, last_id as last_stored_id};
+ghost use Rattle.raft_group_step.specs.Initialize.{is_new};
+ghost use Rattle.raft_group_step.specs.GroupState.{GroupState, Follower};
+ghost use Rattle.raft_group_step.specs.GroupEvent.{Call};
+ghost use Rattle.raft_group_step.specs.declared.group_call.GroupCall.TheVariants.{Initialize, Elect, Propose, ChangeMembership, Heartbeat, Lost, TriggerPurge};
+ghost use Rattle.raft_group_step.specs.Message.{AppendFields, VoteRequest as AsksForVote, VoteReply, AppendRequest, AppendReply, SnapshotRequest, SnapshotReply};
+ghost use Rattle.raft_group_step.specs.StepResult.{StepResult, step_down, unchanged};
+ghost use Rattle.raft_group_step.specs.Lead.{purge_as_wished};
+ghost use Rattle.raft_group_step.specs.GroupStep.{finished};
+ghost use Rattle.raft_group_step.specs.Opening.{resume_lead};
+ghost use Rattle.raft_known_state.specs.KnownState.{meta_of};
+ghost use Rattle.raft_engine.specs.Events.{HasTaken, IsReady, MayTake, received};
+ghost use Rattle.raft_engine.specs.Following.{SpellsAppend, SpellsAppendReply, SpellsSnapshotReply};
+ghost use Rattle.raft_engine.specs.Purging.{MayBePurged};
+ghost use Rattle.raft_engine.specs.Sending.{reply_of};
+ghost use Rattle.raft_engine.specs.Standing.{IsStateOf, IsStepOf, IsWholeStepOf};
+
+use crate::engine::Engine;
+use raft_commands::{Caller, RaftTypeConfig};
+use raft_group_step::{AppendEntriesRequest, AppendEntriesResponse, VoteRequest, VoteResponse};
+use raft_state::{
+    BasicNode, Bytes, InitializeError, Membership, NotAllowed, NotInMembers, SnapshotMeta, Vote,
+};
+use std::alloc::AllocError;
+
+impl<C: RaftTypeConfig<NodeId = u64, Node = BasicNode, D = Bytes>> Engine<C> {
+    /// The node starts with what it has stored (openraft): it leads on under a committed vote of
+    /// its own, and else follows.
+    pub fn startup(&mut self) -> Result<(), AllocError>
+        ensures { (x : Snapshot) (own : ℕ) (s : GroupState) → IsStateOf own self.old s → self.old.output.queue ≡ [] → IsReady own s → s.role ≡ Follower
+            → OnOk result (IsWholeStepOf x own self.new (finished own None (resume_lead own (unchanged s)))) }
+    {
+        self.resume_lead()?;
+        self.finish(None)
+    }
+
+    /// The group is set up with its first membership at this moment, in ticks, and the node stands
+    /// for election (openraft). A group that isn't new stays as it is, and so does one whose
+    /// membership hasn't the node as a voter.
+    pub fn initialize(
+        &mut self,
+        membership: Membership<u64, BasicNode>,
+        now: u64,
+    ) -> Result<Result<(), InitializeError<u64, BasicNode>>, AllocError>
+        ensures refused_old { (own : ℕ) (s : GroupState) → IsStateOf own self.old s → is_new s.stored ≡ false
+            → (result ≡ Ok (Err (IsNotAllowed (record { last_log_id = last_stored_id s.stored; vote = s.stored.vote })))) × (self.new ≡ self.old) }
+        ensures refused_stranger { (own : ℕ) (s : GroupState) → IsStateOf own self.old s → is_new s.stored ≡ true → is_voter membership own ≡ false
+            → (result ≡ Ok (Err (IsNotInMembers (record { node_id = own; membership = membership })))) × (self.new ≡ self.old) }
+        ensures taken { (x : Snapshot) (own at : ℕ) (s : GroupState) → now ≡ max s.now at → MayTake own self.old s (Call (Initialize membership) at)
+            → IfOk result (λ answer. (answer ≡ Ok tt) × HasTaken x own self.new s (Call (Initialize membership) at)) }
+    {
+        if !self.state.is_new() {
+            let last_log_id = self.state.last_log_id();
+            let vote = *self.state.state.vote_ref();
+            let refused = NotAllowed { last_log_id, vote };
+            return Ok(Err(InitializeError::NotAllowed(refused)));
+        }
+        let node_id = self.config.id;
+        if !membership.is_voter(&node_id) {
+            let refused = NotInMembers {
+                node_id,
+                membership,
+            };
+            return Ok(Err(InitializeError::NotInMembers(refused)));
+        }
+        let before = self.state.state.committed;
+        self.initialize_part(membership, now)?;
+        self.finish(before)?;
+        Ok(Ok(()))
+    }
+
+    /// The node stands for election at this moment, in ticks (openraft). It leads at once where
+    /// its own grant is a quorum.
+    pub fn elect(&mut self, now: u64) -> Result<(), AllocError>
+        ensures { (x : Snapshot) (own at : ℕ) (s : GroupState) → now ≡ max s.now at → MayTake own self.old s (Call Elect at)
+            → OnOk result (HasTaken x own self.new s (Call Elect at)) }
+    {
+        let before = self.state.state.committed;
+        self.elect_part(now)?;
+        self.finish(before)
+    }
+
+    /// A candidate asks for the node's vote at this moment, in ticks (openraft). The answer to it
+    /// is queued.
+    pub fn handle_vote_req(
+        &mut self,
+        req: &VoteRequest<u64>,
+        tx: Caller<u64>,
+        now: u64,
+    ) -> Result<(), AllocError>
+        ensures { (x : Snapshot) (own at : ℕ) (s : GroupState) → now ≡ max s.now at
+            → MayTake own self.old s (received own tx.peer (AsksForVote req.now.vote req.now.last_log_id) at)
+            → OnOk result (HasTaken x own self.new s (received own tx.peer (AsksForVote req.now.vote req.now.last_log_id) at)) }
+    {
+        let before = self.state.state.committed;
+        self.vote_request(req, tx, now)?;
+        self.finish(before)
+    }
+
+    /// Another voter answers this candidate at this moment, in ticks (openraft).
+    pub fn handle_vote_resp(
+        &mut self,
+        target: u64,
+        resp: &VoteResponse<u64>,
+        now: u64,
+    ) -> Result<(), AllocError>
+        ensures { (x : Snapshot) (own at : ℕ) (s : GroupState) → now ≡ max s.now at
+            → MayTake own self.old s (received own target (VoteReply resp.now.vote resp.now.vote_granted resp.now.last_log_id) at)
+            → OnOk result (HasTaken x own self.new s (received own target (VoteReply resp.now.vote resp.now.vote_granted resp.now.last_log_id) at)) }
+    {
+        let before = self.state.state.committed;
+        self.vote_reply(target, resp, now)?;
+        self.finish(before)
+    }
+
+    /// A leader sends entries, or says what is committed, at this moment, in ticks (openraft).
+    /// The answer to it is queued.
+    pub fn handle_append_entries(
+        &mut self,
+        req: AppendEntriesRequest<u64, BasicNode, Bytes>,
+        tx: Caller<u64>,
+        now: u64,
+    ) -> Result<(), AllocError>
+        ensures { (x : Snapshot) (own at : ℕ) (s : GroupState) (m : AppendFields) → now ≡ max s.now at
+            → SpellsAppend req m → SpellsAppendReply tx m → MayTake own self.old s (received own tx.peer (AppendRequest m) at)
+            → OnOk result (HasTaken x own self.new s (received own tx.peer (AppendRequest m) at)) }
+    {
+        let before = self.state.state.committed;
+        self.append_request(req, tx, now)?;
+        self.finish(before)
+    }
+
+    /// A leader sends its whole snapshot at this moment, in ticks (openraft). The answer to it is
+    /// queued.
+    pub fn handle_install_full_snapshot(
+        &mut self,
+        vote: Vote<u64>,
+        meta: SnapshotMeta<u64, BasicNode>,
+        tx: Caller<u64>,
+        now: u64,
+    ) -> Result<(), AllocError>
+        requires { next_place meta.last_log_id < 2 ^ 64 }
+        ensures { (x : Snapshot) (own at id : ℕ) (s : GroupState) → now ≡ max s.now at
+            → meta ≡ meta_of (Some x) → tx.vote ≡ vote → SpellsSnapshotReply tx id x → MayTake own self.old s (received own tx.peer (SnapshotRequest vote id x) at)
+            → OnOk result (HasTaken x own self.new s (received own tx.peer (SnapshotRequest vote id x) at)) }
+    {
+        let before = self.state.state.committed;
+        self.snapshot_request(vote, meta, tx, now)?;
+        self.finish(before)
+    }
+
+    /// A leader takes a command, of at most 65,536 bytes (own; openraft's leader handler). Whose
+    /// command it is the runtime keeps.
+    pub fn propose(&mut self, command: Bytes) -> Result<(), AllocError>
+        requires { next_place (last_id self.old.state.state.log_ids) < 2 ^ 63 }
+        ensures { (x : Snapshot) (own at token : ℕ) (s : GroupState) → MayTake own self.old s (Call (Propose command token) at)
+            → OnOk result (HasTaken x own self.new s (Call (Propose command token) at)) }
+    {
+        let before = self.state.state.committed;
+        self.propose_part(command)?;
+        self.finish(before)
+    }
+
+    /// A leader takes the membership that a change of the one in force makes (own; openraft's
+    /// leader handler).
+    pub fn change_membership(
+        &mut self,
+        changed: Membership<u64, BasicNode>,
+    ) -> Result<(), AllocError>
+        requires { next_place (last_id self.old.state.state.log_ids) < 2 ^ 63 }
+        ensures { (x : Snapshot) (own at token : ℕ) (s : GroupState) (m : LoggedMembership) (change : ChangeMembers)
+            → membership_in_force s.stored ≡ Some m → changed ≡ after_change m.membership change → MayTake own self.old s (Call (ChangeMembership change token) at)
+            → OnOk result (HasTaken x own self.new s (Call (ChangeMembership change token) at)) }
+    {
+        let before = self.state.state.committed;
+        self.membership_part(changed)?;
+        self.finish(before)
+    }
+
+    /// A leader says to every other node that it leads on (own; openraft's leader handler).
+    pub fn send_heartbeat(&mut self) -> Result<(), AllocError>
+        ensures { (x : Snapshot) (own at : ℕ) (s : GroupState) → MayTake own self.old s (Call Heartbeat at)
+            → OnOk result (HasTaken x own self.new s (Call Heartbeat at)) }
+    {
+        let before = self.state.state.committed;
+        self.notices()?;
+        self.finish(before)
+    }
+
+    /// The request on its way to the peer counts as failed (own; openraft's replication handler).
+    pub fn handle_lost(&mut self, peer: u64) -> Result<(), AllocError>
+        ensures { (x : Snapshot) (own at : ℕ) (s : GroupState) → MayTake own self.old s (Call (Lost peer) at)
+            → OnOk result (HasTaken x own self.new s (Call (Lost peer) at)) }
+    {
+        let before = self.state.state.committed;
+        self.lost(peer);
+        self.finish(before)
+    }
+
+    /// A peer answers a leader's append request or snapshot at this moment, in ticks (own;
+    /// openraft's replication handler). What came of a snapshot is told as of an append request.
+    pub fn handle_replication_resp(
+        &mut self,
+        peer: u64,
+        reply: &Caller<u64>,
+        outcome: &AppendEntriesResponse<u64>,
+        now: u64,
+    ) -> Result<(), AllocError>
+        ensures append { (x : Snapshot) (own at : ℕ) (s : GroupState) → now ≡ max s.now at
+            → MayTake own self.old s (received own peer (AppendReply (reply_of reply.now outcome.now)) at)
+            → OnOk result (HasTaken x own self.new s (received own peer (AppendReply (reply_of reply.now outcome.now)) at)) }
+        ensures snapshot { (x : Snapshot) (own at : ℕ) (s : GroupState) → now ≡ max s.now at
+            → MayTake own self.old s (received own peer (SnapshotReply (reply_of reply.now outcome.now)) at)
+            → OnOk result (HasTaken x own self.new s (received own peer (SnapshotReply (reply_of reply.now outcome.now)) at)) }
+    {
+        let before = self.state.state.committed;
+        self.answered(peer, reply, outcome, now)?;
+        self.finish(before)
+    }
+
+    /// The log is to be purged up to the place, as far as the snapshot goes (openraft). A leader
+    /// purges once no request needs what goes.
+    pub fn trigger_purge_log(&mut self, place: u64) -> Result<(), AllocError>
+        ensures { (x : Snapshot) (own at : ℕ) (s : GroupState) → MayTake own self.old s (Call (TriggerPurge place) at)
+            → OnOk result (HasTaken x own self.new s (Call (TriggerPurge place) at)) }
+    {
+        let before = self.state.state.committed;
+        self.purge_trigger(place)?;
+        self.finish(before)
+    }
+
+    /// What a leader is still to purge goes, once no request needs it (openraft).
+    pub fn try_purge_log(&mut self) -> Result<(), AllocError>
+        ensures { (x : Snapshot) (own : ℕ) (r : StepResult) → IsStepOf x own self.old r → end_place r.state.stored < 2 ^ 64
+            → ((place : ℕ) → r.state.wish ≡ Some place → MayBePurged place r.state.stored)
+            → OnOk result (IsStepOf x own self.new (purge_as_wished r.state.role r.state.wish r)) }
+    {
+        self.purge_as_wished()
+    }
+
+    /// The node leads no more (openraft). Tokens that are to be told stay unknown.
+    pub fn leader_step_down(&mut self)
+        ensures { (x : Snapshot) (own : ℕ) (r : StepResult) → IsStepOf x own self.old r → IsStepOf x own self.new (step_down r) }
+    {
+        self.step_down();
+    }
+}

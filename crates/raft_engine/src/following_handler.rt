@@ -1,0 +1,224 @@
+//! Following: entries and places that a leader sends.
+ghost use Rattle.std.specs.Prelude.{◌≡◌, ◌≢◌, ◌≤◌, ◌<◌, ℕ, OnOk, true, false, length, drop, Some, None};
+ghost use Rattle.raft_values.specs.LogId.{place_of};
+ghost use Rattle.raft_group_step.specs.StoredGroup.{StoredGroup, Snapshot, end_place};
+ghost use Rattle.raft_group_step.specs.GroupState.{Follower};
+ghost use Rattle.raft_group_step.specs.StepResult.{StepResult, apply_up_to, is_within};
+ghost use Rattle.raft_group_step.specs.Message.{AppendFields, ReplyResult};
+ghost use Rattle.raft_group_step.specs.AppendRequest.{above_committed, append_request_step, cut_at, cut_from, is_held, joined, lesser_place, missing_entries, put_entries, reply_append};
+ghost use Rattle.raft_group_step.specs.Refusal.{do_follow};
+ghost use Rattle.raft_known_state.specs.KnownState.{ArePlaced, IsPlaced, Knows, entry_ids};
+ghost use Rattle.raft_engine.specs.Commands.{result_of};
+ghost use Rattle.raft_engine.specs.Standing.{IsStepOf};
+ghost use Rattle.raft_engine.specs.Following.{EndsWithin, IsVoteOfAnother, SpellsAppend, SpellsAppendReply, all_go_on, unheld_entries};
+
+use crate::engine::Engine;
+use crate::orders::is_lower;
+use raft_commands::{Caller, Command, RaftTypeConfig, Respond, ValueSender};
+use raft_group_step::{AppendEntriesRequest, AppendEntriesResponse, Entries};
+use raft_known_state::KnownState;
+use raft_state::{
+    BasicNode, Bytes, Entry, LogId, LogIdOptionExt, RaftLogId, Vote, VoteStateReader,
+};
+use std::alloc::AllocError;
+
+// Whether the place is committed.
+pub(crate) fn is_committed(known: &KnownState<u64, BasicNode>, place: u64) -> bool
+    ensures { result ≡ is_within place (place_of known.now.state.committed) }
+{
+    match known.state.committed {
+        None => false,
+        Some(committed) => place <= committed.index,
+    }
+}
+
+// Whether the log has the entries up to this log id: there is none, it is committed, or in the log.
+fn is_held(known: &KnownState<u64, BasicNode>, previous: Option<LogId<u64>>) -> bool
+    ensures { (s : StoredGroup) → Knows known.now s → IsPlaced s → result ≡ is_held s (place_of known.now.state.committed) previous }
+{
+    match previous {
+        None => true,
+        Some(previous) => is_committed(known, previous.index) || known.has_log_id(&previous),
+    }
+}
+
+// How many of the entries, from the first one on, are committed or in the log.
+fn count_held(known: &KnownState<u64, BasicNode>, entries: &[Entry<u64, BasicNode, Bytes>]) -> usize
+    ensures held { (s : StoredGroup) → Knows known.now s → IsPlaced s → drop result entries.now ≡ unheld_entries s (place_of known.now.state.committed) entries.now }
+    ensures within { result ≤ length entries.now }
+{
+    for (at, entry) in entries.iter().enumerate() {
+        if !is_held(known, Some(entry.log_id)) {
+            return at;
+        }
+    }
+    entries.len()
+}
+
+// Whether the entries' places rise, from behind the last log id on.
+fn all_go_on(last: Option<LogId<u64>>, entries: &[Entry<u64, BasicNode, Bytes>]) -> bool
+    ensures { result ≡ all_go_on last (entry_ids entries.now) }
+{
+    let mut last = last;
+    for entry in entries {
+        if last.is_some_and(|last| entry.log_id.index <= last.index) {
+            return false;
+        }
+        last = Some(entry.log_id);
+    }
+    true
+}
+
+// The lesser of the two places, none where there is none.
+fn lesser_place(a: Option<LogId<u64>>, b: Option<LogId<u64>>) -> Option<u64>
+    ensures { result ≡ lesser_place (place_of a) (place_of b) }
+{
+    match (a, b) {
+        (Some(a), Some(b)) => Some(a.index.min(b.index)),
+        _ => None,
+    }
+}
+
+impl<C: RaftTypeConfig<NodeId = u64, Node = BasicNode, D = Bytes>> Engine<C> {
+    // All up to the place is committed, if it is above what is.
+    pub(crate) fn commit_up_to(&mut self, place: Option<u64>) -> Result<(), AllocError>
+        ensures { (x : Snapshot) (own : _) (r : StepResult) → IsStepOf x own self.old r → EndsWithin place r.state.stored
+            → OnOk result (IsStepOf x own self.new (apply_up_to place r)) }
+    {
+        let Some(place) = place else {
+            return Ok(());
+        };
+        if is_committed(&self.state, place) {
+            return Ok(());
+        }
+        let Some(upto) = self.state.get_log_id(place) else {
+            return Ok(());
+        };
+        let already_committed = self.state.state.committed;
+        self.state.state.committed = Some(upto);
+        let seq = self.output.next_sm_seq();
+        self.output.push_command(Command::Commit {
+            seq,
+            already_committed,
+            upto,
+        })
+    }
+
+    // The log is shortened from the place on, where it has an entry there.
+    pub(crate) fn cut_from(&mut self, place: u64) -> Result<(), AllocError>
+        ensures { (x : Snapshot) (own : _) (r : StepResult) → IsStepOf x own self.old r → r.state.role ≡ Follower
+            → is_within place r.state.committed ≡ false → OnOk result (IsStepOf x own self.new (cut_from place r)) }
+    {
+        let Some(since) = self.state.get_log_id(place) else {
+            return Ok(());
+        };
+        self.state.truncate(place)?;
+        self.output
+            .push_command(Command::DeleteConflictLog { since })
+    }
+
+    // The log is shortened from this log id on, where it has an entry at its place.
+    fn cut_at(&mut self, previous: Option<LogId<u64>>) -> Result<(), AllocError>
+        ensures { (x : Snapshot) (own : _) (r : StepResult) → IsStepOf x own self.old r → r.state.role ≡ Follower
+            → is_held r.state.stored r.state.committed previous ≡ false → OnOk result (IsStepOf x own self.new (cut_at previous r)) }
+    {
+        match previous {
+            None => Ok(()),
+            Some(previous) => self.cut_from(previous.index),
+        }
+    }
+
+    // The entries are appended, after the log was shortened where another entry stands. Entries
+    // that don't go on behind the log are left out; such a request is refused before.
+    pub(crate) fn put_entries(
+        &mut self,
+        entries: Entries<u64, BasicNode, Bytes>,
+        vote: Vote<u64>,
+    ) -> Result<(), AllocError>
+        ensures { (x : Snapshot) (own : _) (r : StepResult) (place : ℕ) → IsStepOf x own self.old r → r.state.role ≡ Follower
+            → ArePlaced place entries → is_within place r.state.committed ≡ false → place ≤ end_place r.state.stored
+            → OnOk result (IsStepOf x own self.new (put_entries entries r)) }
+    {
+        let Some(first) = entries.as_slice().first() else {
+            return Ok(());
+        };
+        self.cut_from(first.log_id.index)?;
+        let last = self.state.state.log_ids.last().copied();
+        if !all_go_on(last, entries.as_slice()) {
+            return Ok(());
+        }
+        self.state.append(entries.as_slice())?;
+        self.output
+            .push_command(Command::AppendInputEntries { vote, entries })
+    }
+
+    // The entries from the first one on that the log doesn't have are appended.
+    fn put_missing(
+        &mut self,
+        entries: Entries<u64, BasicNode, Bytes>,
+        vote: Vote<u64>,
+    ) -> Result<(), AllocError>
+        ensures { (x : Snapshot) (own : _) (r : StepResult) (previous : _) → IsStepOf x own self.old r → r.state.role ≡ Follower
+            → do_follow vote previous entries ≡ true → is_held r.state.stored r.state.committed previous ≡ true
+            → OnOk result (IsStepOf x own self.new (put_entries (missing_entries r.state.stored (above_committed r.state.committed entries)) r)) }
+    {
+        let mut missing = entries;
+        let held = count_held(&self.state, missing.as_slice());
+        missing.drop_first(held);
+        self.put_entries(missing, vote)
+    }
+
+    // The leader gets this answer.
+    fn answer_append(
+        &mut self,
+        resp: AppendEntriesResponse<u64>,
+        tx: Caller<u64>,
+    ) -> Result<(), AllocError>
+        ensures { (x : Snapshot) (own : _) (r : StepResult) (m : AppendFields) → IsStepOf x own self.old r → SpellsAppendReply tx m
+            → OnOk result (IsStepOf x own self.new (reply_append own tx.peer m (result_of resp) r)) }
+    {
+        let resp = Respond::AppendEntries(ValueSender::new(resp, tx));
+        self.output
+            .push_command(Command::Respond { when: None, resp })
+    }
+
+    // The entries follow what the log has, or they don't.
+    fn join_entries(
+        &mut self,
+        req: AppendEntriesRequest<u64, BasicNode, Bytes>,
+        tx: Caller<u64>,
+    ) -> Result<(), AllocError>
+        ensures { (x : Snapshot) (own : _) (r : StepResult) (m : AppendFields) → IsStepOf x own self.old r → r.state.role ≡ Follower
+            → SpellsAppend req m → SpellsAppendReply tx m → do_follow m.vote m.previous m.entries ≡ true
+            → OnOk result (IsStepOf x own self.new (joined own tx.peer m (is_held r.state.stored r.state.committed m.previous) r)) }
+    {
+        if !is_held(&self.state, req.prev_log_id) {
+            self.cut_at(req.prev_log_id)?;
+            return self.answer_append(AppendEntriesResponse::Conflict, tx);
+        }
+        self.put_missing(req.entries, req.vote)?;
+        self.commit_up_to(lesser_place(req.leader_commit, tx.last))?;
+        self.answer_append(AppendEntriesResponse::Success, tx)
+    }
+
+    // A leader sends entries, or says what is committed, and is answered. Its vote is committed,
+    // and of another node.
+    pub(crate) fn append_request(
+        &mut self,
+        req: AppendEntriesRequest<u64, BasicNode, Bytes>,
+        tx: Caller<u64>,
+        now: u64,
+    ) -> Result<(), AllocError>
+        ensures { (x : Snapshot) (own : _) (r : StepResult) (m : AppendFields) → IsStepOf x own self.old r → r.state.now ≡ now
+            → SpellsAppend req m → SpellsAppendReply tx m → IsVoteOfAnother own m.vote → do_follow m.vote m.previous m.entries ≡ true
+            → OnOk result (IsStepOf x own self.new (append_request_step own tx.peer m r)) }
+    {
+        let mine = *self.state.state.vote_ref();
+        let is_lower = is_lower(&req.vote, &mine);
+        if is_lower {
+            return self.answer_append(AppendEntriesResponse::HigherVote(mine), tx);
+        }
+        self.take_over(req.vote, now)?;
+        self.join_entries(req, tx)
+    }
+}

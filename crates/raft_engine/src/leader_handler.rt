@@ -1,0 +1,207 @@
+//! Leading: how a lead begins, and what a leader writes.
+ghost use Rattle.std.specs.Prelude.{◌≡◌, ◌+◌, ◌<◌, ◌^◌, ℕ, OnOk, IfOk, IsTrue, ◌↔◌, true, Some, None, List, Option};
+ghost use Rattle.raft_values.specs.LogId.{next_place};
+ghost use Rattle.raft_state.specs.LogIdList.{last_id};
+ghost use Rattle.raft_group_step.specs.Values.{ChangeMembers, LoggedMembership, after_change, membership_after};
+ghost use Rattle.raft_group_step.specs.StoredGroup.{StoredGroup, Snapshot, end_place, membership_in_force};
+ghost use Rattle.raft_group_step.specs.Propose.{propose_step};
+ghost use Rattle.raft_group_step.specs.MembershipStep.{membership_step};
+ghost use Rattle.raft_group_step.specs.GroupState.{Lead, Leader as Leading, Candidate as Standing, Follower as Following};
+ghost use Rattle.raft_group_step.specs.StepResult.{StepResult, append};
+ghost use Rattle.raft_group_step.specs.Lead.{append_blank, begin_lead, commit_as_leader, new_lead};
+ghost use Rattle.raft_group_step.specs.Opening.{resume_lead};
+ghost use Rattle.raft_known_state.specs.KnownState.{IsPlaced, Knows};
+ghost use Rattle.raft_leaders.specs.Leader.{id_of_leader, peer_at};
+ghost use Rattle.raft_engine.specs.Standing.{IsStepOf, Leads};
+ghost use Rattle.raft_engine.specs.Leading.{KnowsMembers, leads_by};
+ghost use Rattle.std.specs.Prelude.{nat_eq};
+ghost use Rattle.std.specs.Option.{option_copied};
+
+use crate::engine::Engine;
+use raft_commands::{Command, RaftTypeConfig};
+use raft_group_step::Entries;
+use raft_leaders::{Leader, greatest_accepted};
+use raft_state::{
+    BasicNode, Bytes, EffectiveMembership, Entry, EntryPayload, LogId, LogIdOptionExt, Membership,
+    RaftPayload, Vote, VoteStateReader,
+};
+use std::alloc::{AllocError, Global};
+
+// Whether both log ids stand at one place, or there is none.
+fn share_place(a: Option<&LogId<u64>>, b: Option<&LogId<u64>>) -> bool
+    ensures { IsTrue result ↔ (next_place (option_copied a.entry) ≡ next_place (option_copied b.entry)) }
+{
+    match (a, b) {
+        (None, None) => true,
+        (Some(a), Some(b)) => a.index == b.index,
+        _ => false,
+    }
+}
+
+// Whether the node leads under the vote: it is committed, and the node's own.
+fn leads_under(vote: &Vote<u64>, own: u64) -> bool
+    ensures { result ≡ leads_by vote.now own }
+{
+    vote.committed && vote.leader_id.node_id == own
+}
+
+// The next log id that the leader gives.
+fn next_log_id(leader: &mut Leader<u64, EffectiveMembership<u64, BasicNode>>) -> LogId<u64>
+    requires { next_place leader.old.last_log_id < 2 ^ 63 }
+    ensures id { result ≡ id_of_leader leader.old.vote.leader_id (next_place leader.old.last_log_id) }
+    ensures rest { leader.new ≡ record leader.old { last_log_id = Some result } }
+{
+    let mut ids = [LogId::new(leader.vote_ref().leader_id, 0)];
+    leader.assign_log_ids(&mut ids);
+    ids[0]
+}
+
+// The leader counts by the membership of the entry, if it has one. What is known of each peer stays.
+fn count_by_entry(
+    alloc: Global,
+    leader: &mut Leader<u64, EffectiveMembership<u64, BasicNode>>,
+    entry: &Entry<u64, BasicNode, Bytes>,
+) -> Result<(), AllocError>
+    ensures members { (before : Option LoggedMembership) → KnowsMembers leader.old before
+        → OnOk result (KnowsMembers leader.new (membership_after before entry.now.log_id entry.now.payload)) }
+    ensures peers { OnOk result ((n : ℕ) → peer_at nat_eq leader.new n ≡ peer_at nat_eq leader.old n) }
+    ensures rest { leader.new ≡ record leader.old { progress = leader.new.progress; clock_progress = leader.new.clock_progress } }
+{
+    let Some(membership) = entry.get_membership() else {
+        return Ok(());
+    };
+    let learner_ids = membership.learner_ids()?;
+    let effective = EffectiveMembership::new(Some(entry.log_id), membership.clone()?);
+    leader.change_membership(alloc, effective, learner_ids.as_slice())
+}
+
+impl<C: RaftTypeConfig<NodeId = u64, Node = BasicNode, D = Bytes>> Engine<C> {
+    // A lead that begins under this vote: of no peer anything is known yet.
+    fn new_leader(
+        &self,
+        vote: Vote<u64>,
+    ) -> Result<Leader<u64, EffectiveMembership<u64, BasicNode>>, AllocError>
+        requires { next_place (last_id self.now.state.state.log_ids) < 2 ^ 63 }
+        ensures { (own : _) (s : StoredGroup) → Knows self.now.state s → IsPlaced s → vote.leader_id.node_id ≡ own → vote.committed ≡ true
+            → IfOk result (λ l. Leads own l (record s { vote = vote }) (new_lead s)) }
+    {
+        let membership = self.state.effective_membership().clone()?;
+        let learner_ids = membership.membership().learner_ids()?;
+        Leader::new(
+            self.alloc,
+            vote,
+            membership,
+            learner_ids.as_slice(),
+            self.state.state.log_ids.by_last_leader(),
+        )
+    }
+
+    // The entry goes behind the log, under the vote's leader, and the leader counts by its
+    // membership. A leader whose last log id isn't the log's writes nothing.
+    pub(crate) fn append(
+        &mut self,
+        payload: EntryPayload<u64, BasicNode, Bytes>,
+    ) -> Result<(), AllocError>
+        requires { next_place (last_id self.old.state.state.log_ids) < 2 ^ 63 }
+        ensures { (x : Snapshot) (own : _) (r : StepResult) (lead : Lead) → IsStepOf x own self.old r → r.state.role ≡ Leading lead
+            → OnOk result (IsStepOf x own self.new (append payload r)) }
+    {
+        let Some(leader) = &mut self.leader else {
+            return Ok(());
+        };
+        if !share_place(leader.last_log_id(), self.state.state.log_ids.last()) {
+            return Ok(());
+        }
+        let log_id = next_log_id(leader);
+        let vote = *leader.vote_ref();
+        let entry = Entry { log_id, payload };
+        count_by_entry(self.alloc, leader, &entry)?;
+        let mut entries = Entries::new(self.alloc);
+        entries.push(entry)?;
+        self.state.append(entries.as_slice())?;
+        self.output
+            .push_command(Command::AppendInputEntries { vote, entries })
+    }
+
+    // A blank entry goes behind the log, unless the leader has written one already.
+    fn append_blank(&mut self) -> Result<(), AllocError>
+        requires { next_place (last_id self.old.state.state.log_ids) < 2 ^ 63 }
+        ensures { (x : Snapshot) (own : _) (r : StepResult) (lead : Lead) → IsStepOf x own self.old r → r.state.role ≡ Leading lead
+            → OnOk result (IsStepOf x own self.new (append_blank r)) }
+    {
+        let leader = self.state.state.vote_ref().leader_id;
+        if self.state.is_written_by_leader(&leader) {
+            return Ok(());
+        }
+        self.append(EntryPayload::Blank)
+    }
+
+    // A quorum has granted the candidate's vote: it leads, and writes a blank entry.
+    pub(crate) fn begin_lead(&mut self, now: u64) -> Result<(), AllocError>
+        requires { next_place (last_id self.old.state.state.log_ids) < 2 ^ 63 }
+        ensures { (x : Snapshot) (own : _) (r : StepResult) (granters : List ℕ) → IsStepOf x own self.old r → r.state.role ≡ Standing granters → r.state.now ≡ now
+            → OnOk result (IsStepOf x own self.new (begin_lead r)) }
+    {
+        let mut vote = *self.state.state.vote_ref();
+        vote.committed = true;
+        let leader = self.new_leader(vote)?;
+        self.state.save_vote(now, vote);
+        self.output.push_command(Command::SaveVote { vote })?;
+        self.candidate = None;
+        self.leader = Some(leader);
+        self.output.push_command(Command::BecomeLeader)?;
+        self.append_blank()
+    }
+
+    // The node leads on under a committed vote of its own, and writes nothing.
+    pub(crate) fn resume_lead(&mut self) -> Result<(), AllocError>
+        ensures { (x : Snapshot) (own : _) (r : StepResult) → IsStepOf x own self.old r → r.state.role ≡ Following → end_place r.state.stored < 2 ^ 63
+            → OnOk result (IsStepOf x own self.new (resume_lead own r)) }
+    {
+        let vote = *self.state.state.vote_ref();
+        let leads_on = leads_under(&vote, self.config.id);
+        if !leads_on || !self.has_room() {
+            return Ok(());
+        }
+        let leader = self.new_leader(vote)?;
+        self.leader = Some(leader);
+        self.output.push_command(Command::BecomeLeader)
+    }
+
+    // A command goes behind the log. Its token is for the runtime to keep.
+    pub(crate) fn propose_part(&mut self, command: Bytes) -> Result<(), AllocError>
+        requires { next_place (last_id self.old.state.state.log_ids) < 2 ^ 63 }
+        ensures { (x : Snapshot) (own : _) (r : StepResult) (lead : Lead) (token : ℕ) → IsStepOf x own self.old r → r.state.role ≡ Leading lead
+            → OnOk result (IsStepOf x own self.new (propose_step command token r)) }
+    {
+        self.append(EntryPayload::Normal(command))
+    }
+
+    // The membership that a change of the one in force asks for goes behind the log.
+    pub(crate) fn membership_part(
+        &mut self,
+        changed: Membership<u64, BasicNode>,
+    ) -> Result<(), AllocError>
+        requires { next_place (last_id self.old.state.state.log_ids) < 2 ^ 63 }
+        ensures { (x : Snapshot) (own : _) (r : StepResult) (lead : Lead) (token : ℕ) (m : LoggedMembership) (change : ChangeMembers) → IsStepOf x own self.old r → r.state.role ≡ Leading lead
+            → membership_in_force r.state.stored ≡ Some m → changed ≡ after_change m.membership change
+            → OnOk result (IsStepOf x own self.new (membership_step change token r)) }
+    {
+        self.append(EntryPayload::Membership(changed))
+    }
+
+    // The greatest place that a leader may commit is committed, if it is above what is.
+    pub(crate) fn commit_as_leader(&mut self) -> Result<(), AllocError>
+        requires { next_place (last_id self.old.state.state.log_ids) < 2 ^ 63 }
+        ensures { (x : Snapshot) (own : _) (r : StepResult) → IsStepOf x own self.old r
+            → OnOk result (IsStepOf x own self.new (commit_as_leader own r.state.role r)) }
+    {
+        let Some(leader) = &self.leader else {
+            return Ok(());
+        };
+        let voters = self.state.state.membership_state.effective();
+        let log_ids = &self.state.state.log_ids;
+        let greatest = greatest_accepted(leader, self.config.id, log_ids, voters);
+        self.commit_up_to(greatest.index())
+    }
+}

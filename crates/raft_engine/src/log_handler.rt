@@ -1,0 +1,97 @@
+//! The log is purged, no further than the snapshot goes.
+ghost use Rattle.std.specs.Prelude.{◌≡◌, ◌<◌, ◌^◌, ℕ, OnOk, min, nat_lt, if◌then◌else◌, Some};
+ghost use Rattle.raft_values.specs.LogId.{next_place, place_of};
+ghost use Rattle.raft_values.specs.declared.log_id.LogId.{LogId};
+ghost use Rattle.raft_group_step.specs.StoredGroup.{Snapshot, end_place, first_place, snapshot_last};
+ghost use Rattle.raft_group_step.specs.GroupState.{Lead, Leader as Leading};
+ghost use Rattle.raft_group_step.specs.StepResult.{StepResult, is_within, later_place};
+ghost use Rattle.raft_group_step.specs.Lead.{purge_as_wished, purge_up_to, with_wish};
+ghost use Rattle.raft_group_step.specs.PurgeTrigger.{purge_trigger_step};
+ghost use Rattle.raft_engine.specs.Standing.{IsStepOf};
+ghost use Rattle.raft_engine.specs.Purging.{MayBePurged};
+
+use crate::engine::Engine;
+use raft_commands::{Command, RaftTypeConfig};
+use raft_state::{BasicNode, Bytes, LogId};
+use std::alloc::AllocError;
+
+// Whether the log id stands at the place or above it.
+fn reaches(log_id: &Option<LogId<u64>>, place: u64) -> bool
+    ensures { result ≡ is_within place (place_of log_id.now) }
+{
+    match log_id {
+        None => false,
+        Some(log_id) => place <= log_id.index,
+    }
+}
+
+impl<C: RaftTypeConfig<NodeId = u64, Node = BasicNode, D = Bytes>> Engine<C> {
+    // The log is removed up to its entry at the place, if it has one there.
+    pub(crate) fn purge_up_to(&mut self, place: u64) -> Result<(), AllocError>
+        ensures { (x : Snapshot) (own : _) (r : StepResult) → IsStepOf x own self.old r → end_place r.state.stored < 2 ^ 64
+            → MayBePurged place r.state.stored → OnOk result (IsStepOf x own self.new (purge_up_to place r)) }
+    {
+        if !self.state.has_entry_at(place) {
+            return Ok(());
+        }
+        let Some(upto) = self.state.get_log_id(place) else {
+            return Ok(());
+        };
+        if upto.index == u64::MAX {
+            return Ok(());
+        }
+        self.state.purge(&upto)?;
+        self.output.push_command(Command::PurgeLog { upto })
+    }
+
+    // A leader is to purge up to the place, once no request needs what goes.
+    fn wish_to_purge(&mut self, place: u64)
+        ensures { (x : Snapshot) (own : _) (r : StepResult) → IsStepOf x own self.old r → place < next_place (snapshot_last r.state.stored)
+            → IsStepOf x own self.new (if nat_lt place (first_place r.state.stored) then r else with_wish (later_place r.state.wish (Some place)) r) }
+    {
+        if place < self.state.first_place() {
+            return;
+        }
+        if reaches(&self.state.state.purge_upto, place) {
+            return;
+        }
+        self.state.state.purge_upto = self.state.get_log_id(place);
+    }
+
+    // The log is to be purged up to the place, as far as the snapshot goes: a leader does so once
+    // no request needs what goes.
+    pub(crate) fn purge_trigger(&mut self, place: u64) -> Result<(), AllocError>
+        ensures { (x : Snapshot) (own : _) (r : StepResult) → IsStepOf x own self.old r → end_place r.state.stored < 2 ^ 64
+            → ((last : LogId ℕ) → snapshot_last r.state.stored ≡ Some last → MayBePurged (min place last.index) r.state.stored)
+            → OnOk result (IsStepOf x own self.new (purge_trigger_step place r)) }
+    {
+        let Some(last) = self.state.state.snapshot_meta.last_log_id else {
+            return Ok(());
+        };
+        let place = place.min(last.index);
+        if self.leader.is_none() {
+            return self.purge_up_to(place);
+        }
+        self.wish_to_purge(place);
+        Ok(())
+    }
+
+    // What a leader is still to purge goes, once no request needs it.
+    pub(crate) fn purge_as_wished(&mut self) -> Result<(), AllocError>
+        ensures { (x : Snapshot) (own : _) (r : StepResult) → IsStepOf x own self.old r → end_place r.state.stored < 2 ^ 64
+            → ((place : ℕ) → r.state.wish ≡ Some place → MayBePurged place r.state.stored)
+            → OnOk result (IsStepOf x own self.new (purge_as_wished r.state.role r.state.wish r)) }
+    {
+        let Some(wish) = self.state.state.purge_upto else {
+            return Ok(());
+        };
+        if self.leader.is_none() {
+            return Ok(());
+        }
+        if self.is_kept(wish.index) {
+            return Ok(());
+        }
+        self.state.state.purge_upto = None;
+        self.purge_up_to(wish.index)
+    }
+}

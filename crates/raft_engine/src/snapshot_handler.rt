@@ -1,0 +1,106 @@
+//! Snapshots that a leader sends.
+ghost use Rattle.std.specs.Prelude.{◌≡◌, ◌≤◌, ◌<◌, ◌+◌, ◌^◌, ℕ, OnOk, true, false, Some, None};
+ghost use Rattle.raft_values.specs.LogId.{next_place};
+ghost use Rattle.raft_group_step.specs.StoredGroup.{Snapshot, RemoveUpTo, SetSnapshot};
+ghost use Rattle.raft_group_step.specs.GroupState.{Follower};
+ghost use Rattle.raft_group_step.specs.StepResult.{StepResult, apply_up_to, is_within, store};
+ghost use Rattle.raft_group_step.specs.SnapshotRequest.{cut_other, install_unless, reply_snapshot, snapshot_request_step};
+ghost use Rattle.raft_known_state.specs.KnownState.{IsEntryOrPast, meta_of};
+ghost use Rattle.raft_engine.specs.Commands.{snapshot_result};
+ghost use Rattle.raft_engine.specs.Standing.{IsStepOf};
+ghost use Rattle.raft_engine.specs.Following.{IsVoteOfAnother, SpellsSnapshotReply};
+
+use crate::engine::Engine;
+use crate::following_handler::is_committed;
+use crate::orders::is_lower;
+use raft_commands::{Caller, Command, RaftTypeConfig, Respond, ValueSender, sm};
+use raft_group_step::SnapshotResponse;
+use raft_state::{BasicNode, Bytes, LogId, SnapshotMeta, Vote, VoteStateReader};
+use std::alloc::AllocError;
+
+impl<C: RaftTypeConfig<NodeId = u64, Node = BasicNode, D = Bytes>> Engine<C> {
+    // Where another entry stands at the snapshot's place, what isn't committed goes.
+    fn cut_other(&mut self, last: LogId<u64>) -> Result<(), AllocError>
+        requires { last.index + 1 < 2 ^ 64 }
+        ensures { (x : Snapshot) (own : _) (r : StepResult) → IsStepOf x own self.old r → r.state.role ≡ Follower
+            → is_within last.index r.state.committed ≡ false → OnOk result (IsStepOf x own self.new (cut_other last r)) }
+    {
+        if self.state.has_log_id(&last) || self.state.get_log_id(last.index).is_none() {
+            return Ok(());
+        }
+        match self.state.state.committed {
+            None => self.cut_from(0),
+            Some(committed) => self.cut_from(committed.index.saturating_add(1)),
+        }
+    }
+
+    // The snapshot is stored, and the log that it covers goes after it.
+    fn put_snapshot(
+        &mut self,
+        meta: SnapshotMeta<u64, BasicNode>,
+        last: LogId<u64>,
+    ) -> Result<(), AllocError>
+        requires { last.index + 1 < 2 ^ 64 }
+        ensures { (x : Snapshot) (own : _) (r : StepResult) → IsStepOf x own self.old r → r.state.role ≡ Follower → meta ≡ meta_of (Some x) → last ≡ x.last
+            → is_within last.index r.state.committed ≡ false → IsEntryOrPast r.state.stored last
+            → OnOk result (IsStepOf x own self.new (apply_up_to (Some last.index) (store (RemoveUpTo last) (store (SetSnapshot x) r)))) }
+    {
+        let copy = meta.clone()?;
+        self.state.save_snapshot(meta)?;
+        let seq = self.output.next_sm_seq();
+        let command = sm::Command::install_full_snapshot(copy).with_seq(seq);
+        self.output.push_command(Command::StateMachine { command })?;
+        self.state.purge(&last)?;
+        self.state.state.committed = Some(last);
+        self.output.push_command(Command::PurgeLog { upto: last })
+    }
+
+    // The snapshot is installed, unless all of it is committed.
+    fn install(&mut self, meta: SnapshotMeta<u64, BasicNode>) -> Result<(), AllocError>
+        requires { next_place meta.last_log_id < 2 ^ 64 }
+        ensures { (x : Snapshot) (own : _) (r : StepResult) → IsStepOf x own self.old r → r.state.role ≡ Follower → meta ≡ meta_of (Some x)
+            → OnOk result (IsStepOf x own self.new (install_unless (is_within x.last.index r.state.committed) x r)) }
+    {
+        let Some(last) = meta.last_log_id else {
+            return Ok(());
+        };
+        if is_committed(&self.state, last.index) {
+            return Ok(());
+        }
+        self.cut_other(last)?;
+        self.put_snapshot(meta, last)
+    }
+
+    // The leader gets the node's vote for an answer.
+    fn answer_snapshot(&mut self, tx: Caller<u64>) -> Result<(), AllocError>
+        ensures { (x : Snapshot) (own : _) (r : StepResult) (id : ℕ) → IsStepOf x own self.old r → SpellsSnapshotReply tx id x
+            → OnOk result (IsStepOf x own self.new (reply_snapshot own tx.peer tx.vote id x (snapshot_result tx.vote (record { vote = r.state.stored.vote })) r)) }
+    {
+        let resp = SnapshotResponse::new(*self.state.state.vote_ref());
+        let resp = Respond::InstallFullSnapshot(ValueSender::new(resp, tx));
+        self.output
+            .push_command(Command::Respond { when: None, resp })
+    }
+
+    // A leader sends its snapshot, and is answered. Its vote is committed, and of another node.
+    pub(crate) fn snapshot_request(
+        &mut self,
+        vote: Vote<u64>,
+        meta: SnapshotMeta<u64, BasicNode>,
+        tx: Caller<u64>,
+        now: u64,
+    ) -> Result<(), AllocError>
+        requires { next_place meta.last_log_id < 2 ^ 64 }
+        ensures { (x : Snapshot) (own : _) (r : StepResult) (id : ℕ) → IsStepOf x own self.old r → r.state.now ≡ now → meta ≡ meta_of (Some x)
+            → tx.vote ≡ vote → SpellsSnapshotReply tx id x → IsVoteOfAnother own vote
+            → OnOk result (IsStepOf x own self.new (snapshot_request_step own tx.peer vote id x r)) }
+    {
+        let is_lower = is_lower(&vote, self.state.state.vote_ref());
+        if is_lower {
+            return self.answer_snapshot(tx);
+        }
+        self.take_over(vote, now)?;
+        self.install(meta)?;
+        self.answer_snapshot(tx)
+    }
+}

@@ -1,0 +1,18 @@
+//! Tests of the engine and of what it is made of: rows with values from outside, what is printed,
+//! each public call once with ample memory.
+//!
+//! They stand here and not beside what they test, so that those crates are proved once.
+#![tactic(auto)]
+
+#[cfg(test)]
+mod commands;
+#[cfg(test)]
+mod conditions;
+#[cfg(test)]
+mod engines;
+#[cfg(test)]
+mod known_states;
+#[cfg(test)]
+mod leaders;
+#[cfg(test)]
+mod messages;

@@ -1,0 +1,60 @@
+-- Which commands store a snapshot, and how many commands are stored.
+use Rattle.std.specs.Prelude.{ℕ, ◌-◌, ◌≡◌, Bool, true, false, ◌||◌, List, [], ◌∷◌, ◌++◌, take, Option, Some, None}
+use Rattle.raft_commands.specs.declared.command.Command.TheVariants.{BecomeLeader, QuitLeader, AppendInputEntries, ReplicateCommitted, Commit}
+use Rattle.raft_commands.specs.declared.command.Command.TheVariants.{Replicate, RebuildReplicationStreams, SaveVote, SendVote, PurgeLog}
+use Rattle.raft_commands.specs.declared.command.Command.TheVariants.{DeleteConflictLog, StateMachine, Respond}
+use Rattle.raft_commands.specs.declared.sm.CommandPayload.{CommandPayload}
+use Rattle.raft_commands.specs.declared.sm.CommandPayload.TheVariants.{BuildSnapshot, GetSnapshot, BeginReceivingSnapshot, InstallFullSnapshot, Apply}
+use Rattle.raft_group_step.specs.StoredGroup.{Snapshot, StoredGroup, StoringCommand, after_storing_all}
+use Rattle.raft_engine.specs.Commands.{Command}
+
+-- so many commands from the first on, or all of them
+abbrev pub first_of : Option ℕ → List StoringCommand → List StoringCommand
+first_of None commands = commands
+first_of (Some count) commands = take count commands
+
+-- how many more can be stored after so many
+abbrev pub room_after : Option ℕ → ℕ → Option ℕ
+room_after None stored = None
+room_after (Some count) stored = Some (count - stored)
+
+module _ {C R : Type 0} where
+  -- the state machine builds a snapshot, or installs one
+  abbrev pub machine_has_snapshot : CommandPayload C (List ℕ) R ℕ (List ℕ) → Bool
+  machine_has_snapshot BuildSnapshot = true
+  machine_has_snapshot (GetSnapshot tx) = false
+  machine_has_snapshot (BeginReceivingSnapshot tx) = false
+  machine_has_snapshot (InstallFullSnapshot meta) = true
+  machine_has_snapshot (Apply entries) = false
+
+  -- the command stores a snapshot
+  abbrev pub has_snapshot : Command C R → Bool
+  has_snapshot BecomeLeader = false
+  has_snapshot QuitLeader = false
+  has_snapshot (AppendInputEntries vote entries) = false
+  has_snapshot (ReplicateCommitted target vote matching committed) = false
+  has_snapshot (Commit seq before upto) = false
+  has_snapshot (Replicate target request) = false
+  has_snapshot (RebuildReplicationStreams targets) = false
+  has_snapshot (SaveVote vote) = false
+  has_snapshot (SendVote target request) = false
+  has_snapshot (PurgeLog upto) = false
+  has_snapshot (DeleteConflictLog since) = false
+  has_snapshot (StateMachine command) = machine_has_snapshot command.payload
+  has_snapshot (Respond condition answer) = false
+
+  -- a command of the queue stores a snapshot
+  abbrev pub queue_has_snapshot : List (Command C R) → Bool
+  queue_has_snapshot [] = false
+  queue_has_snapshot (c ∷ cs) = has_snapshot c || queue_has_snapshot cs
+
+-- where a snapshot is stored, it is the one that is given
+abbrev pub IsGiven : Bool → Option Snapshot → Snapshot → Type 0
+IsGiven is_stored given x = is_stored ≡ true → given ≡ Some x
+
+-- some of the commands from the first one on are stored, and the others aren't
+pub record IsPartStored (commands : List StoringCommand) (old new : StoredGroup) : Type 0 where
+  pub done : List StoringCommand
+  pub others : List StoringCommand
+  pub listed : commands ≡ done ++ others
+  pub stored : new ≡ after_storing_all done old

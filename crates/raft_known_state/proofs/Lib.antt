@@ -1,0 +1,4 @@
+mod KeyLeaderLemmas
+pub mod KnownStateLemmas
+mod MemberIdLemmas
+pub mod PlacedIds

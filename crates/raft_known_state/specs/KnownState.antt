@@ -1,0 +1,142 @@
+-- What a node knows of its stored group: log ids in place of entries, and the memberships.
+use Rattle.std.specs.Prelude.{◌≡◌, ℕ, suc, Bool, true, false, nat_lt, nat_le, ◌==◌, ◌&&◌, filter, if◌then◌else◌, List, [], ◌∷◌, ◌++◌, map, Option, Some, None}
+use Rattle.raft_values.specs.declared.vote.LeaderId.{LeaderId}
+use Rattle.raft_values.specs.declared.log_id.LogId.{LogId}
+use Rattle.raft_membership.specs.declared.effective_membership.EffectiveMembership.{EffectiveMembership as EffectiveMembershipOf}
+use Rattle.raft_membership.specs.declared.stored_membership.StoredMembership.{StoredMembership as StoredMembershipOf}
+use Rattle.raft_membership.specs.declared.snapshot_meta.SnapshotMeta.{SnapshotMeta as SnapshotMetaOf}
+use Rattle.raft_state.specs.declared.entry.EntryPayload.TheVariants.{Blank, Normal, Membership as Members}
+use Rattle.raft_group_step.specs.Values.{Entry, EntryPayload, LoggedMembership, Membership, leader_eq}
+use Rattle.raft_group_step.specs.StoredGroup.{StoredGroup, Snapshot, entry_at, first_place, membership_in_force}
+use Rattle.raft_known_state.specs.declared.known_state.KnownState.{KnownState as KnownStateOf}
+
+abbrev pub EffectiveMembership : Type 0
+EffectiveMembership = EffectiveMembershipOf ℕ (List ℕ)
+
+abbrev pub SnapshotMeta : Type 0
+SnapshotMeta = SnapshotMetaOf ℕ (List ℕ)
+
+abbrev pub KnownState : Type 0
+KnownState = KnownStateOf ℕ (List ℕ)
+
+-- no voter groups and no nodes
+abbrev pub no_membership : Membership
+no_membership = record { configs = []; nodes = [] }
+
+-- the last purged log id, where there is one
+abbrev pub purged_ids : Option (LogId ℕ) → List (LogId ℕ)
+purged_ids None = []
+purged_ids (Some id) = id ∷ []
+
+abbrev pub entry_ids : List Entry → List (LogId ℕ)
+entry_ids es = map (λ (e : Entry). e.log_id) es
+
+-- the log ids of a stored group: the last purged one, and those of its log
+abbrev pub stored_ids : StoredGroup → List (LogId ℕ)
+stored_ids s = purged_ids s.purged ++ entry_ids s.log
+
+-- the membership of this entry, if it has one, before the others
+abbrev pub with_membership_of : LogId ℕ → EntryPayload → List EffectiveMembership → List EffectiveMembership
+with_membership_of id Blank rest = rest
+with_membership_of id (Normal command) rest = rest
+with_membership_of id (Members m) rest = record { log_id = Some id; membership = m } ∷ rest
+
+-- the memberships among entries, each with the log id of its entry
+abbrev pub memberships_in : List Entry → List EffectiveMembership
+memberships_in [] = []
+memberships_in (e ∷ es) = with_membership_of e.log_id e.payload (memberships_in es)
+
+-- a membership that may be none, as one that may have no log id
+abbrev pub effective_of : Option LoggedMembership → EffectiveMembership
+effective_of None = record { log_id = None; membership = no_membership }
+effective_of (Some m) = record { log_id = Some m.log_id; membership = m.membership }
+
+abbrev pub last_membership_of : Option LoggedMembership → StoredMembershipOf ℕ (List ℕ)
+last_membership_of None = record { log_id = None; membership = no_membership }
+last_membership_of (Some m) = record { log_id = Some m.log_id; membership = m.membership }
+
+-- what a snapshot covers, without its entries
+abbrev pub meta_of : Option Snapshot → SnapshotMeta
+meta_of None = record { last_log_id = None; last_membership = last_membership_of None }
+meta_of (Some x) = record { last_log_id = Some x.last; last_membership = last_membership_of x.membership }
+
+-- the entries stand at their places, from this one on
+abbrev pub ArePlaced : ℕ → List Entry → Type 0
+ArePlaced place [] = Unit {0}
+ArePlaced place (e ∷ es) = (e.log_id.index ≡ place) × ArePlaced (suc place) es
+
+-- the log's entries stand at their places
+abbrev pub IsPlaced : StoredGroup → Type 0
+IsPlaced s = ArePlaced (first_place s) s.log
+
+-- this is known of the stored group
+pub record Knows (k : KnownState) (s : StoredGroup) : Type 0 where
+  pub vote : k.state.vote.value ≡ s.vote
+  pub ids : k.state.log_ids ≡ stored_ids s
+  pub purged : k.state.purged_next ≡ first_place s
+  pub snapshot : k.state.snapshot_meta ≡ meta_of s.snapshot
+  pub memberships : k.memberships.items ≡ memberships_in s.log
+  pub in_force : k.state.membership_state.effective ≡ effective_of (membership_in_force s)
+
+-- the log id stands below the place; none stands below each
+abbrev pub is_below : ℕ → Option (LogId ℕ) → Bool
+is_below place None = true
+is_below place (Some id) = nat_lt id.index place
+
+-- the memberships before the first one that isn't below the place
+abbrev pub take_below : ℕ → List EffectiveMembership → List EffectiveMembership
+take_below place [] = []
+take_below place (m ∷ ms) = if is_below place m.log_id then m ∷ take_below place ms else []
+
+-- the memberships from the first one on that isn't below the place
+abbrev pub drop_below : ℕ → List EffectiveMembership → List EffectiveMembership
+drop_below place [] = []
+drop_below place (m ∷ ms) = if is_below place m.log_id then drop_below place ms else m ∷ ms
+
+-- the snapshot's membership
+abbrev pub force_of_snapshot : SnapshotMeta → EffectiveMembership
+force_of_snapshot meta =
+    record { log_id = meta.last_membership.log_id; membership = meta.last_membership.membership }
+
+-- the last of these, or else this one
+abbrev pub last_else : EffectiveMembership → List EffectiveMembership → EffectiveMembership
+last_else m [] = m
+last_else m (x ∷ xs) = last_else x xs
+
+-- the last membership of the log, or else the snapshot's
+abbrev pub force_of : KnownState → EffectiveMembership
+force_of k = last_else (force_of_snapshot k.state.snapshot_meta) k.memberships.items
+
+-- a membership of an entry, as one that is in force
+abbrev pub logged_as_effective : LoggedMembership → EffectiveMembership
+logged_as_effective m = record { log_id = Some m.log_id; membership = m.membership }
+
+-- the ids but the own one
+abbrev pub others : ℕ → List ℕ → List ℕ
+others own ids = filter (λ n. if n == own then false else true) ids
+
+-- the log id is of this leader, and at the place or above it
+abbrev pub is_of_leader_from : LeaderId ℕ → ℕ → LogId ℕ → Bool
+is_of_leader_from leader place id = leader_eq id.leader_id leader && nat_le place id.index
+
+-- the place is below the next key, or where there is none not above this one
+abbrev pub stands_under : ℕ → LogId ℕ → Option (LogId ℕ) → Bool
+stands_under place key None = nat_le place key.index
+stands_under place key (Some next) = nat_lt place next.index
+
+-- this membership is in force
+abbrev pub with_force : KnownState → EffectiveMembership → KnownState
+with_force k m =
+    record k {
+      state = record k.state { membership_state = record k.state.membership_state { effective = m } };
+    }
+
+-- the log id is that of the log's entry at its place, or no entry stands there
+abbrev pub IsEntryOrPast : StoredGroup → LogId ℕ → Type 0
+IsEntryOrPast s id = (e : Entry) → entry_at s id.index ≡ Some e → e.log_id ≡ id
+
+-- what isn't of the stored part stays
+pub record KeepsRest (old new : KnownState) : Type 0 where
+  pub vote : new.state.vote ≡ old.state.vote
+  pub committed : new.state.committed ≡ old.state.committed
+  pub purge_upto : new.state.purge_upto ≡ old.state.purge_upto

@@ -1,0 +1,5 @@
+pub mod GrantedLemmas
+pub mod GivenLemmas
+pub mod PeerLemmas
+pub mod AcceptedLemmas
+pub mod OwnLemmas

@@ -1,0 +1,93 @@
+//! A snapshot of a group.
+ghost use Rattle.std.specs.Prelude.{◌≡◌, IfOk};
+ghost use Rattle.std.specs.Option.{option_copied};
+ghost use Rattle.raft_stored_group.specs.Stored.{logged_or_none};
+
+use crate::copies::push_copies;
+use crate::memberships::{LoggedPair, copy_of_pair};
+use raft_group_step::LoggedMembership;
+use raft_state::{BasicNode, Bytes, Entry, LogId};
+use std::alloc::AllocError;
+use std::marker::Model;
+
+/// An entry of a group: node ids are numbers, nodes have addresses, commands are bytes (own).
+pub type GroupEntry = Entry<u64, BasicNode, Bytes>;
+
+/// A snapshot (own): the list of entries up to and with the one of a log id, and the last membership
+/// among them, with the log id of its entry.
+#[derive(Debug, Drop)]
+pub struct GroupSnapshot {
+    last: LogId<u64>,
+    membership: Option<LoggedMembership<u64, BasicNode>>,
+    prefix: Vec<GroupEntry>,
+}
+
+impl Model for GroupSnapshot {
+    ghost use Rattle.raft_group_step.specs.StoredGroup.{Snapshot};
+
+    ghost Value = { Snapshot };
+
+    ghost view = { λ x. record { last = x.last; membership = x.membership; «prefix» = x.prefix.items } };
+}
+
+impl GroupSnapshot {
+    /// The snapshot with this last log id, this membership as its last, and these entries (own).
+    pub fn new(
+        last: LogId<u64>,
+        membership: Option<LoggedMembership<u64, BasicNode>>,
+        prefix: Vec<GroupEntry>,
+    ) -> GroupSnapshot
+        ensures { result ≡ record { last = last; membership = membership; «prefix» = «prefix».items } }
+    {
+        GroupSnapshot {
+            last,
+            membership,
+            prefix,
+        }
+    }
+
+    /// The log id of the last entry (own).
+    pub fn last(&self) -> LogId<u64>
+        ensures { result ≡ self.now.last }
+    {
+        self.last
+    }
+
+    /// The last membership among the entries, with its log id, if there is one (own).
+    pub fn membership(&self) -> Option<&LoggedMembership<u64, BasicNode>>
+        ensures { option_copied result ≡ self.now.membership }
+    {
+        self.membership.as_ref()
+    }
+
+    // That membership with its log id, lent.
+    pub(crate) fn logged_pair(&self) -> Option<LoggedPair<'_>>
+        ensures { logged_or_none result ≡ self.now.membership }
+    {
+        match &self.membership {
+            Some(logged) => Some((logged.log_id, &logged.membership)),
+            None => None,
+        }
+    }
+
+    /// The entries, lent (own).
+    pub fn prefix(&self) -> &[GroupEntry]
+        ensures { result.now ≡ self.now.«prefix» }
+    {
+        self.prefix.as_slice()
+    }
+}
+
+impl Clone for GroupSnapshot {
+    ghost is_clone = { λ x y. y ≡ x };
+
+    fn clone(&self) -> Result<GroupSnapshot, AllocError> {
+        let mut prefix = Vec::new(*self.prefix.allocator());
+        push_copies(&mut prefix, self.prefix.as_slice())?;
+        Ok(GroupSnapshot {
+            last: self.last,
+            membership: copy_of_pair(self.logged_pair())?,
+            prefix,
+        })
+    }
+}

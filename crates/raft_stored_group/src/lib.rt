@@ -1,0 +1,13 @@
+//! What a node keeps of a group, as values.
+#![tactic(auto)]
+
+mod copies;
+pub mod group_snapshot;
+pub mod memberships;
+mod places;
+mod readers;
+pub mod stored_group;
+
+pub use group_snapshot::{GroupEntry, GroupSnapshot};
+pub use memberships::LoggedPair;
+pub use stored_group::StoredGroup;
