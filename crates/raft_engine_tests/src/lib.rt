@@ -1,5 +1,5 @@
-//! Tests of the engine and of what it is made of: rows with values from outside, what is printed,
-//! each public call once with ample memory.
+//! Tests of the engine, of what it is made of, and of what executes its queue on a stored group: rows with values from
+//! outside, what is printed, each public call once with ample memory.
 //!
 //! They stand here and not beside what they test, so that those crates are proved once.
 #![tactic(auto)]
@@ -16,3 +16,5 @@ mod known_states;
 mod leaders;
 #[cfg(test)]
 mod messages;
+#[cfg(test)]
+mod stored_groups;
