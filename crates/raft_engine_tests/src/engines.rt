@@ -19,7 +19,7 @@ use std::test::Fail;
 
 // A group with numbered nodes, whose data are bytes.
 #[derive(Clone, Copy, Debug)]
-struct Numbered;
+pub struct Numbered;
 
 impl RaftTypeConfig for Numbered {
     type D = Bytes;

@@ -1,25 +1,12 @@
 //! Stored groups: each public call once, with ample memory, and what an engine's queue makes of one.
-use raft_commands::{Command, EngineOutput, RaftTypeConfig};
+use crate::engines::Numbered;
+use raft_commands::{Command, EngineOutput};
 use raft_executor::{messages, sent, store, store_first};
 use raft_group_step::{Entries, VoteRequest};
 use raft_state::{BasicNode, Bytes, Entry, EntryPayload, LeaderId, LogId, Vote};
 use raft_stored_group::{GroupEntry, GroupSnapshot, StoredGroup};
 use std::alloc::{AllocError, Global};
 use std::test::Fail;
-
-// A group with numbered nodes, whose data are bytes.
-#[derive(Clone, Copy, Debug)]
-struct Numbered;
-
-impl RaftTypeConfig for Numbered {
-    type D = Bytes;
-
-    type R = Bytes;
-
-    type NodeId = u64;
-
-    type Node = BasicNode;
-}
 
 fn log_id(index: u64) -> LogId<u64> {
     LogId::new(LeaderId::new(6, 1), index)
