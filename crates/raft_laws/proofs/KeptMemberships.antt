@@ -1,13 +1,15 @@
 -- The membership in force of a snapshot and a log that are joined stays, however much of the log the snapshot has.
-use Rattle.std.specs.Prelude.{◌≡◌, ℕ, ◌+◌, ◌-◌, ◌<◌, ◌≤◌, List, length, take, drop, slice_get, Option, Some, None, option_and_then, option_map, refl}
-use Rattle.std.proofs.Common.{sym, ap, ◌∙◌, subst, arith}
+use Rattle.std.specs.Prelude.{◌≡◌, ℕ, ◌+◌, ◌-◌, ◌<◌, ◌≤◌, nat_lt, true, false, List, length, take, drop, slice_get, Option, Some, None, option_and_then, option_map, refl}
+use Rattle.std.proofs.Common.{sym, ap, ◌∙◌, arith, ⊎_elim, le-ltb, ltb-true}
+use Rattle.std.proofs.lemmas.Bool.{cases_lt, cond-false, or_cases}
 use Rattle.std.proofs.lemmas.List.{drop-drop}
 use Rattle.std.proofs.lemmas.Option.{slice_get_within}
 use Rattle.raft_values.specs.declared.log_id.LogId.{LogId}
 use Rattle.raft_values.specs.LogId.{next_place}
 use Rattle.raft_group_step.specs.Values.{Entry, last_membership}
-use Rattle.raft_group_step.specs.StoredGroup.{StoredGroup, Snapshot, CutFrom, after_storing, entry_at, first_place, held, id_of, membership_in_force, prefix_of, snapshot_last}
+use Rattle.raft_group_step.specs.StoredGroup.{StoredGroup, Snapshot, CutFrom, after_storing, end_place, entry_at, first_place, has_id_in_log, id_of, is_id, membership_in_force, prefix_of, snapshot_last}
 use Rattle.raft_group_step.specs.SnapshotTrigger.{snapshot_at}
+use Rattle.raft_group_step.specs.Opening.{is_joined_to}
 use Rattle.raft_laws.proofs.Shapes.{Joined, joined_at, joined_cut, joined_held}
 use Rattle.raft_laws.proofs.Memberships.{in_force, last_overlap}
 use Rattle.raft_laws.proofs.Standing.{SnapshotFits}
@@ -52,3 +54,27 @@ module _ (st : StoredGroup) (fits : (x : Snapshot) → st.snapshot ≡ Some x �
         let cut = joined_cut st xs j (last.index + 1) (omega arith) (omega arith) in
         ap (λ l. last_membership None (take (last.index + 1) l)) (joined_held st xs j)
         ∙ sym (in_force (after_storing (CutFrom (last.index + 1)) st) (take (last.index + 1) xs) cut (λ x e. (fits x e).membership))
+
+-- an opening drops a log that ends below the snapshot's last entry
+entry_within : (st : StoredGroup) (i : ℕ) (e : Entry) → first_place st ≤ i → entry_at st i ≡ Some e → i < end_place st
+entry_within st i e above there =
+    let at = slice_get_within st.log (i - first_place st) e (sym (cond-false (nat_lt i (first_place st)) None (slice_get st.log (i - first_place st)) (le-ltb i (first_place st) above)) ∙ there) in
+    omega arith
+
+id_there : (o : Option Entry) (id : LogId ℕ) → is_id id (id_of o) ≡ true → (e : Entry) × (o ≡ Some e)
+id_there None id h = absurd (let no : false ≡ true = h in cc)
+id_there (Some e) id h = (e, refl)
+
+pub stale_dropped : (st : StoredGroup) (last : LogId ℕ) → end_place st ≤ last.index → is_joined_to st last ≡ true → ⊥
+stale_dropped st last short joined =
+    ⊎_elim
+    (λ below. let l = ltb-true last.index (first_place st) below in omega arith)
+    (λ has.
+    ⊎_elim
+    (λ l. omega arith)
+    (λ above.
+    let entry = id_there (entry_at st last.index) last has in
+    let within = entry_within st last.index entry.0 above entry.1 in
+    omega arith)
+    (cases_lt last.index (first_place st)))
+    (or_cases (nat_lt last.index (first_place st)) (has_id_in_log st last) joined)
