@@ -35,13 +35,20 @@ KeepsLow st (RemoveUpTo id) = id.index < 2 ^ 62
 KeepsLow st (SetSnapshot x) = x.last.index < 2 ^ 62
 KeepsLow st (StartAfter id) = id.index < 2 ^ 62
 
+-- the log ends no higher than its place and the entries that are put there give
+pub put_end : (place : ℕ) (entries : List Entry) (st : StoredGroup) → end_place (after_storing (PutEntries place entries) st) ≤ first_place st + (place - first_place st) + length entries
+put_end place entries st =
+    let kept = take (place - first_place st) st.log in
+    let size = length-append kept entries in
+    let short = length-take (place - first_place st) st.log in
+    omega arith
+
 pub low_after : (c : StoringCommand) (st : StoredGroup) → Low st → KeepsLow st c → Low (after_storing c st)
 low_after MakeGroup st h k = record { reaches = h.reaches; log = h.log; snapshot = h.snapshot }
 low_after (SetVote vote) st h k = record { reaches = h.reaches; log = h.log; snapshot = h.snapshot }
 low_after (PutEntries place entries) st h k =
     let kept = take (place - first_place st) st.log in
-    let size = length-append kept entries in
-    let short = length-take (place - first_place st) st.log in
+    let ends = put_end place entries st in
     record {
       reaches = omega (arith, k.0);
       log = each_append IsLowEntry kept entries (each_take IsLowEntry (place - first_place st) st.log h.log) k.1;
