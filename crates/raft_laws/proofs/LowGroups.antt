@@ -15,7 +15,8 @@ use Rattle.raft_laws.proofs.StepWords.{all-append}
 abbrev pub IsLowEntry : Entry → Type 0
 IsLowEntry e = e.log_id.index < 2 ^ 62
 
--- what a node that purges, or builds or drops by its snapshot, takes places from is low too
+-- the log ends low. Its entries and the snapshot's last one are low too, since a purge, a new snapshot and an opening
+-- take their places from these
 pub record Low (st : StoredGroup) : Type 0 where
   pub reaches : end_place st ≤ 2 ^ 62
   pub log : Each IsLowEntry st.log
@@ -24,7 +25,7 @@ pub record Low (st : StoredGroup) : Type 0 where
 pub low_none : Low no_group
 low_none = record { reaches = omega arith; log = tt; snapshot = λ x e. absurd (let f : None ≡ Some x = e in cc) }
 
--- entries that are put stand no further than the limit from the first place on, also where they would begin below it
+-- what each command needs. Entries that are put begin at their place, or at the first place where that is higher
 abbrev pub KeepsLow : StoredGroup → StoringCommand → Type 0
 KeepsLow st MakeGroup = Unit {0}
 KeepsLow st (SetVote vote) = Unit {0}

@@ -1,6 +1,6 @@
 -- Each kind of event that isn't refused keeps the places of what is stored low, after each of its storing commands.
-use Rattle.std.specs.Prelude.{◌≡◌, ℕ, ◌+◌, ◌-◌, ◌≤◌, ◌<◌, ◌^◌, ◌==◌, ◌&&◌, cond, is_none, is_some, Bool, true, false, List, [], ◌∷◌, ◌++◌, length, Option, Some, None, option_map, refl}
-use Rattle.std.proofs.Common.{sym, ap, ◌∙◌, subst, arith, eqb-true}
+use Rattle.std.specs.Prelude.{◌≡◌, ℕ, ◌+◌, ◌≤◌, ◌<◌, ◌^◌, ◌==◌, ◌&&◌, cond, is_none, is_some, Bool, true, false, List, [], ◌∷◌, ◌++◌, Option, Some, None, option_map, refl}
+use Rattle.std.proofs.Common.{sym, subst, arith, eqb-true}
 use Rattle.std.proofs.lemmas.Bool.{and_parts}
 use Rattle.raft_values.specs.declared.vote.Vote.{Vote}
 use Rattle.raft_values.specs.Vote.{vote_of}
@@ -10,7 +10,7 @@ use Rattle.raft_quorums.specs.Quorum.{is_quorum}
 use Rattle.raft_state.specs.declared.entry.EntryPayload.TheVariants.{Blank, Membership as Members}
 use Rattle.raft_group_step.specs.Values.{ChangeMembers, Entry, EntryPayload, entry_of, has_id, LoggedMembership, Membership, vote_eq, vote_lt}
 use Rattle.raft_group_step.specs.StoredGroup.{StoredGroup, Snapshot, MakeGroup, SetVote, PutEntries, CutFrom, RemoveUpTo, SetSnapshot, StartAfter, end_place, entry_at, first_place, has_id_in_log, id_of, membership_in_force, snapshot_last}
-use Rattle.raft_group_step.specs.Message.{AppendFields, ReplyFields, ReplyResult, Success, Conflict, HigherVote, Message, MessageBody, VoteRequest, VoteReply, AppendRequest, AppendReply, SnapshotRequest, SnapshotReply}
+use Rattle.raft_group_step.specs.Message.{AppendFields, ReplyFields, ReplyResult, Success, Conflict, HigherVote, MessageBody, VoteRequest, VoteReply, AppendRequest, AppendReply, SnapshotRequest, SnapshotReply}
 use Rattle.raft_group_step.specs.GroupState.{GroupState, Lead, Role, Follower, Candidate, Leader, is_candidate, state_of}
 use Rattle.raft_group_step.specs.declared.group_call.GroupCall.TheVariants.{Initialize, Elect, Propose, ChangeMembership, Heartbeat, Lost, TriggerSnapshot, TriggerPurge}
 use Rattle.raft_group_step.specs.GroupEvent.{GroupCall, GroupEvent, AddGroup, Call, Receive, Open}
@@ -25,22 +25,21 @@ use Rattle.raft_group_step.specs.Propose.{append_with_token}
 use Rattle.raft_group_step.specs.MembershipStep.{append_changed}
 use Rattle.raft_group_step.specs.Heartbeat.{beat_as, send_notices}
 use Rattle.raft_group_step.specs.Lost.{lost_as}
-use Rattle.raft_group_step.specs.Lead.{append_blank, begin_lead, commit_as_leader, configs_in_force, lead_if, other_ids, purge_as_wished, purge_up_to, remove_up_to, with_grant, with_wish}
+use Rattle.raft_group_step.specs.Lead.{begin_lead, commit_as_leader, configs_in_force, lead_if, other_ids, purge_as_wished, purge_up_to, remove_up_to, with_grant, with_wish}
 use Rattle.raft_group_step.specs.Frames.{with_frames}
 use Rattle.raft_group_step.specs.SnapshotTrigger.{snapshot_of_applied, store_snapshot_at}
 use Rattle.raft_group_step.specs.PurgeTrigger.{purge_as, purge_within}
 use Rattle.raft_group_step.specs.Opening.{drop_stale_log, resume_lead}
 use Rattle.raft_group_step.specs.Initialize.{initialize_step, is_new}
 use Rattle.raft_group_step.specs.GroupStep.{begun, call_step, event_step, finished, group_step, message_step, step_unless}
-use Rattle.raft_group_step.specs.Refusal.{do_follow, is_of_leader, keep_voters, next_blank, numbers_of, numbers_of_entries, numbers_of_id, numbers_of_request, reasons_of, reasons_of_call, refusal_of}
+use Rattle.raft_group_step.specs.Refusal.{do_follow, is_sound, is_of_leader, keep_voters, next_blank, next_term, numbers_of, numbers_of_entries, numbers_of_id, numbers_of_request, reasons_of, reasons_of_call, refusal_of}
 use Rattle.raft_laws.proofs.StepWords.{either}
 use Rattle.raft_laws.proofs.StepCalls.{NoReason, no_reason, unless_none}
 use Rattle.raft_laws.proofs.StepCommits.{frames_same}
 use Rattle.raft_laws.proofs.StepMessages.{message_passed}
 use Rattle.raft_laws.proofs.TrackElections.{ask_state}
-use Rattle.raft_laws.proofs.BallotAgreement.{same_some}
 use Rattle.raft_laws.proofs.StepEntries.{Each}
-use Rattle.raft_laws.proofs.LowGroups.{KeepsLow, Low, StaysLow, low_id, put_end, same_low, store_low}
+use Rattle.raft_laws.proofs.LowGroups.{Low, StaysLow, low_id, put_end, same_low, store_low}
 use Rattle.raft_laws.proofs.LowNumbers.{IsLow, StandAbove, StandFrom, above_stand, entries_low, follow_stand, low_parts, missing_stand, passed_low, stand_each, stand_end}
 
 -- there is room for one more entry
@@ -322,3 +321,74 @@ module _ (start : StoredGroup) where
   body_low own peer (AppendReply m) r h begins l = reply_low peer m r h
   body_low own peer (SnapshotRequest v id x) r h begins l = offered_low own peer v id x _ r h l
   body_low own peer (SnapshotReply m) r h begins l = reply_low peer m r h
+
+-- ---- what an event that isn't refused keeps
+
+-- a candidate that a message may make a leader has room for its blank entry
+blank_room : (s : GroupState) → Each IsLow (next_blank s) → is_candidate s.role ≡ true → HasRoom s
+blank_room s h = go (is_candidate s.role) h
+  where
+    go : (b : Bool) → Each IsLow (cond b (end_place s.stored ∷ []) []) → b ≡ true → HasRoom s
+    go true k t = k.0
+    go false k t = absurd (let e : false ≡ true = t in cc)
+
+call_known : (own : ℕ) (s : GroupState) (now : ℕ) (call : GroupCall) → NoReason (reasons_of_call own s now call) → CallLow s.stored s call
+call_known own s now (Initialize m) passed =
+    let new = unless_none (is_new s.stored) NotAllowed passed.1.1.1.0 in
+    let two = and_parts (vote_eq s.stored.vote (vote_of 0 0 false) && end_place s.stored == 0) (is_none s.stored.snapshot) new in
+    let one = and_parts (vote_eq s.stored.vote (vote_of 0 0 false)) (end_place s.stored == 0) two.0 in
+    eqb-true (end_place s.stored) 0 one.1
+call_known own s now Elect passed = (passed_low s (now ∷ next_term s ∷ end_place s.stored ∷ []) passed.0).1.1.0
+call_known own s now (Propose command token) passed = (passed_low s (now ∷ end_place s.stored ∷ []) passed.1.0).1.0
+call_known own s now (ChangeMembership change token) passed = (passed_low s (now ∷ end_place s.stored ∷ []) passed.0).1.0
+call_known own s now Heartbeat passed = tt
+call_known own s now (Lost peer) passed = tt
+call_known own s now TriggerSnapshot passed = tt
+call_known own s now (TriggerPurge place) passed = tt
+
+body_known : (own peer : ℕ) (s : GroupState) (b : MessageBody) → Each IsLow (numbers_of b) → Each IsLow (next_blank s) → is_sound own peer s.stored b ≡ true → BodyLow s.stored s b
+body_known own peer s (VoteRequest v last) h blank sound = tt
+body_known own peer s (VoteReply v granted last) h blank sound = blank_room s blank
+body_known own peer s (AppendRequest m) h blank sound =
+    let one = and_parts (is_of_leader peer m.vote && do_follow m.vote m.previous m.entries) (keep_voters (membership_in_force s.stored) m.entries) sound in
+    let two = and_parts (is_of_leader peer m.vote) (do_follow m.vote m.previous m.entries) one.0 in
+    let ids = low_parts (numbers_of_request m.id ++ numbers_of_id m.previous ++ numbers_of_id m.committed) (numbers_of_entries m.entries) h.1 in
+    follow_stand m.vote m.previous m.entries two.1 (entries_low m.entries ids.1)
+body_known own peer s (AppendReply m) h blank sound = tt
+body_known own peer s (SnapshotRequest v id x) h blank sound = h.1.1.1.0
+body_known own peer s (SnapshotReply m) h blank sound = tt
+
+-- what is to be known of the node before an event
+abbrev pub MayBegin : GroupState → GroupEvent → Type 0
+MayBegin s AddGroup = Unit {0}
+MayBegin s (Call call now) = Unit {0}
+MayBegin s (Receive peer x now) = BeginsCommitted s
+MayBegin s Open = Unit {0}
+
+nothing_yet : (s : GroupState) → Low s.stored → StaysLow s.stored (unchanged s)
+nothing_yet s h = record { stored = refl; all = h; now = h }
+
+event_low : (own : ℕ) (s : GroupState) (e : GroupEvent) → refusal_of own s e ≡ None → Low s.stored → MayBegin s e → StaysLow s.stored (event_step own s e)
+event_low own s AddGroup passed h begins = store_low s.stored MakeGroup (unchanged s) (nothing_yet s h) tt
+event_low own s (Call call now) passed h begins =
+    let p = no_reason (reasons_of own s (Call call now)) passed in
+    call_low s.stored own call (begun now s) (nothing_yet (begun now s).state h) (call_known own s now call p.1)
+event_low own s (Receive peer x now) passed h begins =
+    let p = no_reason (reasons_of own s (Receive peer x now)) passed in
+    let numbers = passed_low s (now ∷ numbers_of x.body ++ next_blank s) p.1.1.0 in
+    let parts = low_parts (numbers_of x.body) (next_blank s) numbers.1 in
+    body_low s.stored own peer x.body (begun now s) (nothing_yet (begun now s).state h) begins
+    (body_known own peer s x.body parts.0 parts.1 (message_passed own s peer x now passed).sound)
+event_low own s Open passed h begins =
+    let fresh = unchanged (state_of s.stored) in
+    resume_low s.stored own _
+    (same_low s.stored (drop_stale_log (snapshot_last s.stored) fresh) _ refl refl
+    (drop_low s.stored s.stored.snapshot fresh (nothing_yet (state_of s.stored) h) h.snapshot))
+
+unless_refused : (own : ℕ) (s : GroupState) (e : GroupEvent) (why : Option RefusalReason) → refusal_of own s e ≡ why → Low s.stored → MayBegin s e → StaysLow s.stored (step_unless why own s e)
+unless_refused own s e (Some why) is h begins = record { stored = refl; all = h; now = h }
+unless_refused own s e None is h begins = finished_low s.stored own s.committed _ (event_low own s e is h begins)
+
+-- each step keeps places low, after each of its storing commands
+pub step_low : (own : ℕ) (s : GroupState) (e : GroupEvent) → Low s.stored → MayBegin s e → StaysLow s.stored (group_step own s e)
+step_low own s e h begins = unless_refused own s e (refusal_of own s e) refl h begins
