@@ -68,33 +68,39 @@ fn asked(group: &GroupFacts, sender: u64, vote: Vote<u64>) -> Answer {
     group.vote_request_refusal(from(sender), vote, Some(id(0, 0, 0)), 0)
 }
 
+// A group that node 2 doesn't have.
+fn gone_group() -> GroupFacts<'static> {
+    let mut group = group_with(None);
+    group.present = false;
+    group
+}
+
 #[test]
 fn requests_for_votes_are_refused(rt: HostRuntime) {
     let group = empty_group();
-    assert_eq!(rt; asked(&group, 1, Vote::new(1, 1)), None);
-    assert_eq!(rt;
-        asked(&group, 1, Vote::new_committed(1, 1)),
-        BREAKS_CONDITION
-    );
-    assert_eq!(rt;
-        asked(&group, 1, Vote::new(1 << 62, 1)),
-        Some(Refusal::NumberAtEnd)
-    );
-    assert_eq!(rt;
-        asked(&group, 3, Vote::new(1, 1)),
-        Some(Refusal::WrongParty)
-    );
-    assert_eq!(rt; asked(&group, 1, Vote::new(1, 3)), BREAKS_CONDITION);
-    let mut gone = group;
-    gone.present = false;
-    assert_eq!(rt;
-        asked(&gone, 1, Vote::new_committed(1, 1)),
-        Some(Refusal::UnknownGroup)
-    );
-    assert_eq!(rt;
-        asked(&gone, 3, Vote::new_committed(1, 1)),
-        Some(Refusal::WrongParty)
-    );
+    let gone = gone_group();
+    let rows = [
+        (&group, 1, Vote::new(1, 1), None),
+        (&group, 1, Vote::new_committed(1, 1), BREAKS_CONDITION),
+        (&group, 1, Vote::new(1 << 62, 1), Some(Refusal::NumberAtEnd)),
+        (&group, 3, Vote::new(1, 1), Some(Refusal::WrongParty)),
+        (&group, 1, Vote::new(1, 3), BREAKS_CONDITION),
+        (
+            &gone,
+            1,
+            Vote::new_committed(1, 1),
+            Some(Refusal::UnknownGroup),
+        ),
+        (
+            &gone,
+            3,
+            Vote::new_committed(1, 1),
+            Some(Refusal::WrongParty),
+        ),
+    ];
+    for (group, sender, vote, want) in rows {
+        assert!(rt; asked(group, sender, vote) == want);
+    }
 }
 
 // The answer to a reply to a request of node 2 that tells a higher vote.
@@ -103,32 +109,30 @@ fn told(sent: Vote<u64>, higher: Vote<u64>) -> Answer {
     empty_group().reply_refusal(from(1), sent, None, None, None, &outcome, 0)
 }
 
+// The answer to a reply to a request for a vote.
+fn granted(vote: Vote<u64>) -> Answer {
+    empty_group().vote_reply_refusal(from(1), vote, None, 0)
+}
+
 #[test]
 fn answers_are_refused(rt: HostRuntime) {
-    let group = empty_group();
     let none = Vote::new(0, 0);
-    assert_eq!(rt; told(none, Vote::new(4, 1)), None);
-    assert_eq!(rt; told(none, Vote::new(4, 2)), BREAKS_CONDITION);
-    assert_eq!(rt;
-        told(none, Vote::new(1 << 62, 1)),
-        Some(Refusal::NumberAtEnd)
-    );
-    assert_eq!(rt;
-        told(Vote::new_committed(1, 2), Vote::new(4, 2)),
-        BREAKS_CONDITION
-    );
-    assert_eq!(rt;
-        told(Vote::new_committed(1, 2), Vote::new(4, 1)),
-        BREAKS_CONDITION
-    );
-    assert_eq!(rt;
-        group.vote_reply_refusal(from(1), Vote::new(4, 1), None, 0),
-        None
-    );
-    assert_eq!(rt;
-        group.vote_reply_refusal(from(1), Vote::new(4, 2), None, 0),
-        BREAKS_CONDITION
-    );
+    let own = Vote::new_committed(1, 2);
+    let rows = [
+        (told(none, Vote::new(4, 1)), None),
+        (told(none, Vote::new(4, 2)), BREAKS_CONDITION),
+        (
+            told(none, Vote::new(1 << 62, 1)),
+            Some(Refusal::NumberAtEnd),
+        ),
+        (told(own, Vote::new(4, 2)), BREAKS_CONDITION),
+        (told(own, Vote::new(4, 1)), BREAKS_CONDITION),
+        (granted(Vote::new(4, 1)), None),
+        (granted(Vote::new(4, 2)), BREAKS_CONDITION),
+    ];
+    for (answer, want) in rows {
+        assert!(rt; answer == want);
+    }
 }
 
 // A request with blank entries of these log ids.
@@ -153,6 +157,11 @@ fn request(
     })
 }
 
+// The answer of the group to a request of node 1.
+fn appended(group: &GroupFacts, request: &GroupRequest, last: Option<u64>) -> Answer {
+    group.append_request_refusal(from(1), request, last, 0)
+}
+
 // The answer to a request of node 1 in term 3 with these entries.
 fn sent(
     alloc: Global,
@@ -160,26 +169,34 @@ fn sent(
     ids: &[LogId<u64>],
 ) -> Result<Answer, AllocError> {
     let request = request(alloc, Vote::new_committed(3, 1), previous, ids)?;
-    Ok(empty_group().append_request_refusal(from(1), &request, Some(1), 0))
+    Ok(appended(&empty_group(), &request, Some(1)))
+}
+
+// The answer to a request without entries of a node that wasn't granted its vote.
+fn sent_ungranted(alloc: Global) -> Result<Answer, AllocError> {
+    let request = request(alloc, Vote::new(3, 1), None, &[])?;
+    Ok(appended(&empty_group(), &request, Some(1)))
 }
 
 #[test]
 fn entries_are_refused(rt: HostRuntime) -> Result<(), Fail> {
     let alloc = rt.alloc();
-    assert_eq!(rt; sent(alloc, None, &[id(0, 0, 0), id(2, 1, 1)])?, None);
-    assert_eq!(rt; sent(alloc, None, &[id(2, 1, 1)])?, BREAKS_CONDITION);
-    assert_eq!(rt;
-        sent(alloc, None, &[id(2, 1, 0), id(1, 1, 1)])?,
-        BREAKS_CONDITION
-    );
-    assert_eq!(rt;
-        sent(alloc, Some(id(2, 1, 0)), &[id(1, 1, 1)])?,
-        BREAKS_CONDITION
-    );
-    assert_eq!(rt; sent(alloc, None, &[id(4, 1, 0)])?, BREAKS_CONDITION);
-    let ungranted = request(alloc, Vote::new(3, 1), None, &[])?;
-    let got = empty_group().append_request_refusal(from(1), &ungranted, Some(1), 0);
-    assert_eq!(rt; got, BREAKS_CONDITION);
+    let joined = [id(0, 0, 0), id(2, 1, 1)];
+    let falling = [id(2, 1, 0), id(1, 1, 1)];
+    let second = [id(2, 1, 1)];
+    let lower = [id(1, 1, 1)];
+    let later = [id(4, 1, 0)];
+    let rows = [
+        (None, joined.as_slice(), None),
+        (None, second.as_slice(), BREAKS_CONDITION),
+        (None, falling.as_slice(), BREAKS_CONDITION),
+        (Some(id(2, 1, 0)), lower.as_slice(), BREAKS_CONDITION),
+        (None, later.as_slice(), BREAKS_CONDITION),
+    ];
+    for (previous, ids, want) in rows {
+        assert!(rt; sent(alloc, previous, ids)? == want);
+    }
+    assert!(rt; sent_ungranted(alloc)? == BREAKS_CONDITION);
     Ok(())
 }
 
@@ -191,27 +208,41 @@ fn snapshot(known: &Membership<u64, BasicNode>, other: &Membership<u64, BasicNod
     group.snapshot_request_refusal(from(1), vote, 1, at, Some((at, other)), 0)
 }
 
-#[test]
-fn voters_stay_the_same(rt: HostRuntime) -> Result<(), Fail> {
-    let known = membership(rt.alloc(), &[1, 2], &[1, 2])?;
-    let other = membership(rt.alloc(), &[1, 2, 3], &[1, 2, 3])?;
-    assert_eq!(rt; snapshot(&known, &known), None);
-    assert_eq!(rt; snapshot(&known, &other), BREAKS_CONDITION);
-    let mut request = request(rt.alloc(), Vote::new_committed(3, 1), None, &[])?;
+// Whether a snapshot may have the membership in force, but not another.
+fn snapshot_keeps_voters(
+    known: &Membership<u64, BasicNode>,
+    other: &Membership<u64, BasicNode>,
+) -> bool {
+    snapshot(known, known) == None && snapshot(known, other) == BREAKS_CONDITION
+}
+
+// A request with this first membership.
+fn first_request(
+    alloc: Global,
+    other: Membership<u64, BasicNode>,
+) -> Result<GroupRequest, AllocError> {
+    let mut request = request(alloc, Vote::new_committed(3, 1), None, &[])?;
     request.entries.push(Entry {
         log_id: id(0, 0, 0),
         payload: EntryPayload::Membership(other),
     })?;
-    let mut group = empty_group();
-    assert_eq!(rt;
-        group.append_request_refusal(from(1), &request, None, 0),
-        None
-    );
-    let group = group_with(Some((id(0, 0, 0), &known)));
-    assert_eq!(rt;
-        group.append_request_refusal(from(1), &request, None, 0),
-        BREAKS_CONDITION
-    );
+    Ok(request)
+}
+
+// Whether the request is for a group without a membership, but not for one with this.
+fn request_keeps_voters(known: &Membership<u64, BasicNode>, request: &GroupRequest) -> bool {
+    let group = group_with(Some((id(0, 0, 0), known)));
+    appended(&empty_group(), request, None) == None
+        && appended(&group, request, None) == BREAKS_CONDITION
+}
+
+#[test]
+fn voters_stay_the_same(rt: HostRuntime) -> Result<(), Fail> {
+    let known = membership(rt.alloc(), &[1, 2], &[1, 2])?;
+    let other = membership(rt.alloc(), &[1, 2, 3], &[1, 2, 3])?;
+    assert!(rt; snapshot_keeps_voters(&known, &other));
+    let request = first_request(rt.alloc(), other)?;
+    assert!(rt; request_keeps_voters(&known, &request));
     Ok(())
 }
 
@@ -225,70 +256,121 @@ fn called(
     group.call_refusal(alloc, &call, now)
 }
 
-// A call that sets up nodes 1 and 2.
-fn set_up(alloc: Global, nodes: &[u64]) -> Result<GroupCommand, AllocError> {
+// The answer to a call that makes the group.
+fn added(group: &GroupFacts) -> Answer {
+    group.add_refusal()
+}
+
+// The answer to a call that sets up the voters 1 and 2 of these nodes.
+fn set_up(
+    alloc: Global,
+    group: &GroupFacts,
+    nodes: &[u64],
+    now: u64,
+) -> Result<Answer, AllocError> {
     let membership = membership(alloc, &[1, 2], nodes)?;
-    Ok(GroupCall::Initialize { membership })
+    called(alloc, group, GroupCall::Initialize { membership }, now)
+}
+
+// Node 2 has the group, and something in it.
+fn used_group() -> GroupFacts<'static> {
+    let mut group = group_with(None);
+    group.is_new = false;
+    group
+}
+
+// Node 3 has the group, and something in it.
+fn group_of_3() -> GroupFacts<'static> {
+    let mut group = used_group();
+    group.own = 3;
+    group
+}
+
+// Node 3 had the group.
+fn gone_group_of_3() -> GroupFacts<'static> {
+    let mut group = group_of_3();
+    group.present = false;
+    group
+}
+
+// Whether a group is made where there is none, and is asked nothing before.
+fn is_made_once(alloc: Global) -> Result<bool, AllocError> {
+    let elected = called(alloc, &gone_group_of_3(), GroupCall::Elect, 0)?;
+    Ok(
+        added(&empty_group()) == Some(Refusal::GroupExists)
+            && added(&gone_group_of_3()) == None
+            && elected == Some(Refusal::UnknownGroup),
+    )
 }
 
 #[test]
 fn a_group_is_set_up_once(rt: HostRuntime) -> Result<(), Fail> {
     let alloc = rt.alloc();
-    let both = [1, 2].as_slice();
-    let mut group = empty_group();
-    assert_eq!(rt; group.add_refusal(), Some(Refusal::GroupExists));
-    assert_eq!(rt; called(alloc, &group, set_up(alloc, both)?, 0)?, None);
-    group.is_new = false;
-    assert_eq!(rt;
-        called(alloc, &group, set_up(alloc, both)?, 0)?,
-        Some(Refusal::NotAllowed)
-    );
-    group.own = 3;
-    assert_eq!(rt;
-        called(alloc, &group, set_up(alloc, both)?, 0)?,
-        Some(Refusal::NotVoter)
-    );
-    let late = called(alloc, &group, set_up(alloc, both)?, 1 << 62)?;
-    assert_eq!(rt; late, Some(Refusal::NumberAtEnd));
-    let late = called(alloc, &group, set_up(alloc, &[1])?, 1 << 62)?;
-    assert_eq!(rt; late, Some(Refusal::MembershipRefused));
-    group.present = false;
-    assert_eq!(rt; group.add_refusal(), None);
-    assert_eq!(rt;
-        called(alloc, &group, GroupCall::Elect, 0)?,
-        Some(Refusal::UnknownGroup)
-    );
+    let both = [1, 2];
+    let one = [1];
+    let rows = [
+        (empty_group(), both.as_slice(), 0, None),
+        (used_group(), both.as_slice(), 0, Some(Refusal::NotAllowed)),
+        (group_of_3(), both.as_slice(), 0, Some(Refusal::NotVoter)),
+        (
+            group_of_3(),
+            both.as_slice(),
+            1 << 62,
+            Some(Refusal::NumberAtEnd),
+        ),
+        (
+            group_of_3(),
+            one.as_slice(),
+            1 << 62,
+            Some(Refusal::MembershipRefused),
+        ),
+    ];
+    for (group, nodes, now, want) in rows {
+        assert!(rt; set_up(alloc, &group, nodes, now)? == want);
+    }
+    assert!(rt; is_made_once(alloc)?);
     Ok(())
 }
 
-// A proposal of so many bytes.
-fn proposal(alloc: Global, count: usize) -> Result<GroupCommand, AllocError> {
+// The answer to a proposal of so many bytes.
+fn proposed(
+    alloc: Global,
+    group: &GroupFacts,
+    count: usize,
+    now: u64,
+) -> Result<Answer, AllocError> {
     let zeros = vec![in alloc; 0; count]?;
-    Ok(GroupCall::Propose {
-        command: Bytes::from_slice(alloc, zeros.as_slice())?,
-        token: 1,
-    })
+    let command = Bytes::from_slice(alloc, zeros.as_slice())?;
+    called(alloc, group, GroupCall::Propose { command, token: 1 }, now)
+}
+
+// Node 3 leads the group, whose log ends at this place.
+fn led_group(end: u64) -> GroupFacts<'static> {
+    let mut group = group_with(None);
+    group.vote = Vote::new_committed(1, 3);
+    group.end = end;
+    group
 }
 
 #[test]
 fn leaders_calls_are_refused(rt: HostRuntime) -> Result<(), Fail> {
     let alloc = rt.alloc();
-    let mut group = empty_group();
-    let long = called(alloc, &group, proposal(alloc, 65_537)?, 1 << 62)?;
-    assert_eq!(rt; long, Some(Refusal::CommandTooLong));
-    let longest = called(alloc, &group, proposal(alloc, 65_536)?, 0)?;
-    assert_eq!(rt; longest, Some(Refusal::NotLeader(None)));
-    group.vote = Vote::new_committed(1, 3);
-    let beat = called(alloc, &group, GroupCall::Heartbeat, 0)?;
-    assert_eq!(rt; beat, Some(Refusal::NotLeader(Some(3))));
-    assert_eq!(rt;
-        called(alloc, &group, GroupCall::Elect, 0)?,
-        Some(Refusal::NotVoter)
-    );
-    group.end = 1 << 62;
-    let short = called(alloc, &group, proposal(alloc, 1)?, 0)?;
-    assert_eq!(rt; short, Some(Refusal::NumberAtEnd));
-    assert_eq!(rt; called(alloc, &group, GroupCall::TriggerSnapshot, 0)?, None);
+    let proposals = [
+        (empty_group(), 65_537, 1 << 62, Refusal::CommandTooLong),
+        (empty_group(), 65_536, 0, Refusal::NotLeader(None)),
+        (led_group(1 << 62), 1, 0, Refusal::NumberAtEnd),
+    ];
+    for (group, count, now, want) in proposals {
+        assert!(rt; proposed(alloc, &group, count, now)? == Some(want));
+    }
+    let calls = [
+        (0, GroupCall::Heartbeat, Some(Refusal::NotLeader(Some(3)))),
+        (0, GroupCall::Elect, Some(Refusal::NotVoter)),
+        (1 << 62, GroupCall::TriggerSnapshot, None),
+    ];
+    for (end, call, want) in calls {
+        assert!(rt; called(alloc, &led_group(end), call, 0)? == want);
+    }
     Ok(())
 }
 
@@ -318,40 +400,70 @@ fn changed(
 fn changes_are_refused(rt: HostRuntime) -> Result<(), Fail> {
     let alloc = rt.alloc();
     let known = membership(alloc, &[1, 2], &[1, 2])?;
-    assert_eq!(rt; changed(alloc, &known, 5, None)?, Some(Refusal::InProgress));
-    assert_eq!(rt; changed(alloc, &known, 4, None)?, None);
-    assert_eq!(rt;
-        changed(alloc, &known, 4, Some(&[2]))?,
-        Some(Refusal::VoterChange)
-    );
-    assert_eq!(rt;
-        changed(alloc, &known, 4, Some(&[3]))?,
-        Some(Refusal::MembershipRefused)
-    );
     let nobody = Membership::default(alloc);
-    assert_eq!(rt; changed(alloc, &nobody, 4, None)?, None);
-    assert_eq!(rt;
-        changed(alloc, &nobody, 4, Some(&[3]))?,
-        Some(Refusal::MembershipRefused)
-    );
+    let two = [2];
+    let three = [3];
+    let rows = [
+        (&known, 5, None, Some(Refusal::InProgress)),
+        (&known, 4, None, None),
+        (&known, 4, Some(two.as_slice()), Some(Refusal::VoterChange)),
+        (
+            &known,
+            4,
+            Some(three.as_slice()),
+            Some(Refusal::MembershipRefused),
+        ),
+        (&nobody, 4, None, None),
+        (
+            &nobody,
+            4,
+            Some(three.as_slice()),
+            Some(Refusal::MembershipRefused),
+        ),
+    ];
+    for (members, place, ids, want) in rows {
+        assert!(rt; changed(alloc, members, place, ids)? == want);
+    }
     Ok(())
+}
+
+// Whether these voters of these nodes are valid, within the limits, and may be the first.
+fn judged(alloc: Global, voters: &[u64], nodes: &[u64]) -> Result<(bool, bool, bool), AllocError> {
+    let members = membership(alloc, voters, nodes)?;
+    Ok((
+        is_valid(&members),
+        is_within_limits(&members),
+        is_first_membership(&members),
+    ))
+}
+
+// Whether a membership of nobody is valid, but not the first of a group.
+fn nobody_is_no_first(alloc: Global) -> bool {
+    let none = Membership::default(alloc);
+    is_valid(&none) && !is_first_membership(&none)
+}
+
+// Whether a membership of so many nodes is within the limits.
+fn may_be_so_many(alloc: Global, count: u64) -> Result<bool, AllocError> {
+    let nodes: Vec<u64> = (0..count).collect(alloc)?;
+    Ok(judged(alloc, &[1], nodes.as_slice())?.1)
 }
 
 #[test]
 fn memberships_are_judged(rt: HostRuntime) -> Result<(), Fail> {
     let alloc = rt.alloc();
-    let whole = membership(alloc, &[1, 2], &[1, 2])?;
-    assert!(rt; is_valid(&whole) && is_within_limits(&whole) && is_first_membership(&whole));
-    let missing = membership(alloc, &[1, 2], &[1])?;
-    assert!(rt; !is_valid(&missing));
-    let none = Membership::default(alloc);
-    assert!(rt; is_valid(&none) && !is_first_membership(&none));
+    assert!(rt; judged(alloc, &[1, 2], &[1, 2])? == (true, true, true));
+    assert!(rt; !judged(alloc, &[1, 2], &[1])?.0);
+    assert!(rt; nobody_is_no_first(alloc));
     for (count, want) in [(128, true), (129, false)] {
-        let nodes: Vec<u64> = (0..count).collect(alloc)?;
-        let many = membership(alloc, &[1], nodes.as_slice())?;
-        assert_eq!(rt; is_within_limits(&many), want, "at {count}");
+        assert!(rt; may_be_so_many(alloc, count)? == want, "at {count}");
     }
     Ok(())
+}
+
+// Whether the refusal is told so.
+fn is_told(alloc: Global, refusal: Refusal<u64>, text: &str) -> Result<bool, AllocError> {
+    Ok(format!(in alloc; "{refusal}")?.as_str() == text)
 }
 
 #[test]
@@ -387,7 +499,7 @@ fn refusals_are_told(rt: HostRuntime) -> Result<(), Fail> {
         (Refusal::BreaksCondition, "the message breaks a condition"),
     ];
     for (refusal, text) in refusals {
-        assert_eq!(rt; format!(in alloc; "{refusal}")?.as_str(), text);
+        assert!(rt; is_told(alloc, refusal, text)?);
     }
     Ok(())
 }
