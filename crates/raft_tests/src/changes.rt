@@ -1,6 +1,9 @@
 //! Changes of memberships, as a table.
+//!
+//! Each call stands behind a function without clauses, since a proof that carries the clauses of
+//! several calls takes long.
 
-use crate::memberships::{ids, membership, nodes};
+use crate::memberships::{ids, is_made_of, membership, nodes};
 use raft_state::{
     BasicNode, ChangeMembers, ChangeMembershipError, EmptyMembership, IdSet, LearnerNotFound,
     Membership,
@@ -9,8 +12,16 @@ use std::alloc::{AllocError, Global};
 use std::process::Abort;
 use std::test::Fail;
 
+type Members = Membership<u64, BasicNode>;
+
+type Change = ChangeMembers<u64, BasicNode>;
+
+type Refusal = ChangeMembershipError<u64>;
+
+// ---- memberships
+
 // What five nodes are, whose addresses are their ids.
-fn five(alloc: Global, configs: &[&[u64]]) -> Result<Membership<u64, BasicNode>, AllocError> {
+fn five(alloc: Global, configs: &[&[u64]]) -> Result<Members, AllocError> {
     membership(
         alloc,
         configs,
@@ -18,229 +29,226 @@ fn five(alloc: Global, configs: &[&[u64]]) -> Result<Membership<u64, BasicNode>,
     )
 }
 
+// The voters 1 and 2 of three nodes.
+fn two_of_three(alloc: Global) -> Result<Members, AllocError> {
+    let known = [(1, "1"), (2, "2"), (3, "3")];
+    membership(alloc, [[1, 2].as_slice()].as_slice(), known.as_slice())
+}
+
+// Voter groups of which nodes 1 and 2 alone are known.
+fn of_two_nodes(alloc: Global, configs: &[&[u64]]) -> Result<Members, AllocError> {
+    membership(alloc, configs, [(1, "1"), (2, "2")].as_slice())
+}
+
+// ---- changes
+
+fn add_ids(alloc: Global, of: &[u64]) -> Result<Change, AllocError> {
+    Ok(ChangeMembers::AddVoterIds(ids(alloc, of)?))
+}
+
+fn add_voters(alloc: Global, of: &[(u64, &str)]) -> Result<Change, AllocError> {
+    Ok(ChangeMembers::AddVoters(nodes(alloc, of)?))
+}
+
+fn remove_voters(alloc: Global, of: &[u64]) -> Result<Change, AllocError> {
+    Ok(ChangeMembers::RemoveVoters(ids(alloc, of)?))
+}
+
+fn replace_voters(alloc: Global, of: &[u64]) -> Result<Change, AllocError> {
+    Ok(ChangeMembers::ReplaceAllVoters(ids(alloc, of)?))
+}
+
+// The change to voters, as their set gives it.
+fn change_to(alloc: Global, of: &[u64]) -> Result<Change, AllocError> {
+    Ok(ChangeMembers::from(ids(alloc, of)?))
+}
+
 // The change of a membership that has a voter group.
-fn tried(
-    rt: &impl Abort,
-    m: &Membership<u64, BasicNode>,
-    change: ChangeMembers<u64, BasicNode>,
-    retain: bool,
-) -> Result<Membership<u64, BasicNode>, ChangeMembershipError<u64>> {
+fn tried(rt: &impl Abort, m: &Members, change: Change, retain: bool) -> Result<Members, Refusal> {
     let groups = m.get_joint_config().len();
     assert!(rt; groups > 0);
     m.change(change, retain)
 }
 
 // The step of a membership that has a voter group.
-fn stepped(
-    rt: &impl Abort,
-    m: &Membership<u64, BasicNode>,
-    goal: IdSet<u64>,
-) -> Result<Membership<u64, BasicNode>, AllocError> {
+fn stepped(rt: &impl Abort, m: &Members, goal: IdSet<u64>) -> Result<Members, AllocError> {
     let groups = m.get_joint_config().len();
     assert!(rt; groups > 0);
     m.next_coherent(goal, false)
 }
 
+// ---- what comes of them
+
 // Why the change is refused, if it is.
-fn refusal(
-    rt: &impl Abort,
-    m: &Membership<u64, BasicNode>,
-    change: ChangeMembers<u64, BasicNode>,
-) -> Option<ChangeMembershipError<u64>> {
-    match tried(rt, m, change, true) {
+fn refusal(rt: &impl Abort, m: &Members, change: Change, retain: bool) -> Option<Refusal> {
+    match tried(rt, m, change, retain) {
         Ok(_) => None,
         Err(refused) => Some(refused),
     }
 }
 
 // That the node would be a voter but is no node.
-fn missing(node_id: u64) -> Option<ChangeMembershipError<u64>> {
+fn missing(node_id: u64) -> Option<Refusal> {
     Some(ChangeMembershipError::LearnerNotFound(LearnerNotFound { node_id }))
 }
+
+// That a voter group would be empty.
+fn nobody() -> Option<Refusal> {
+    Some(ChangeMembershipError::EmptyMembership(EmptyMembership {}))
+}
+
+// Why the voter can't be added by its id, and why not with its node.
+fn refusals_of_adding(
+    rt: &impl Abort,
+    alloc: Global,
+    m: &Members,
+    id: u64,
+) -> Result<(Option<Refusal>, Option<Refusal>), AllocError> {
+    let by_id = refusal(rt, m, add_ids(alloc, &[id])?, true);
+    let with_node = refusal(rt, m, add_voters(alloc, &[(id, "new")])?, true);
+    Ok((by_id, with_node))
+}
+
+// Why the voters can't go, if so.
+fn refusal_of_going(
+    rt: &impl Abort,
+    alloc: Global,
+    m: &Members,
+    leavers: &[u64],
+) -> Result<Option<Refusal>, AllocError> {
+    Ok(refusal(rt, m, remove_voters(alloc, leavers)?, true))
+}
+
+// ---- rows
 
 #[test]
 fn voters_who_come_are_refused(rt: HostRuntime) -> Result<(), Fail> {
     let alloc = rt.alloc();
-    let nobody = Some(ChangeMembershipError::EmptyMembership(EmptyMembership {}));
-    let known = [(1, "1"), (2, "2")].as_slice();
-    let empty_last = membership(alloc, [[1].as_slice(), [].as_slice()].as_slice(), known)?;
-    for (id, want) in [(1, None), (2, nobody)] {
-        let by_id = ChangeMembers::AddVoterIds(ids(alloc, [id].as_slice())?);
-        assert_eq!(rt; refusal(&rt, &empty_last, by_id), want);
-        let with_node = ChangeMembers::AddVoters(nodes(alloc, [(id, "new")].as_slice())?);
-        assert_eq!(rt; refusal(&rt, &empty_last, with_node), want);
+    let empty_last = of_two_nodes(alloc, [[1].as_slice(), [].as_slice()].as_slice())?;
+    for (id, want) in [(1, None), (2, nobody())] {
+        assert!(rt; refusals_of_adding(&rt, alloc, &empty_last, id)? == (want, want));
     }
-    let lost = membership(alloc, [[1, 5].as_slice()].as_slice(), known)?;
+    let lost = of_two_nodes(alloc, [[1, 5].as_slice()].as_slice())?;
     for (id, want) in [(2, 5), (4, 4), (9, 5)] {
-        let by_id = ChangeMembers::AddVoterIds(ids(alloc, [id].as_slice())?);
-        assert_eq!(rt; refusal(&rt, &lost, by_id), missing(want));
-        let with_node = ChangeMembers::AddVoters(nodes(alloc, [(id, "new")].as_slice())?);
-        assert_eq!(rt; refusal(&rt, &lost, with_node), missing(5));
+        let refusals = refusals_of_adding(&rt, alloc, &lost, id)?;
+        assert!(rt; refusals == (missing(want), missing(5)));
     }
-    let found = ChangeMembers::AddVoters(nodes(alloc, [(5, "new")].as_slice())?);
-    assert_eq!(rt; refusal(&rt, &lost, found), None);
+    let found = add_voters(alloc, &[(5, "new")])?;
+    assert_eq!(rt; refusal(&rt, &lost, found, true), None);
     Ok(())
 }
 
 #[test]
 fn voters_who_go_are_refused(rt: HostRuntime) -> Result<(), Fail> {
     let alloc = rt.alloc();
-    let nobody = Some(ChangeMembershipError::EmptyMembership(EmptyMembership {}));
-    let known = [(1, "1"), (2, "2")].as_slice();
-    let lost = membership(alloc, [[1, 5].as_slice()].as_slice(), known)?;
-    let joint = membership(alloc, [[1].as_slice(), [1, 5].as_slice()].as_slice(), known)?;
+    let lost = of_two_nodes(alloc, [[1, 5].as_slice()].as_slice())?;
+    let joint = of_two_nodes(alloc, [[1].as_slice(), [1, 5].as_slice()].as_slice())?;
     let rows = [
-        ([1, 5].as_slice(), nobody, nobody),
+        ([1, 5].as_slice(), nobody(), nobody()),
         ([5].as_slice(), missing(5), None),
         ([1].as_slice(), missing(5), missing(5)),
         ([7].as_slice(), missing(5), missing(5)),
     ];
     for (leavers, want, want_in_joint) in rows {
-        let go = ChangeMembers::RemoveVoters(ids(alloc, leavers)?);
-        assert_eq!(rt; refusal(&rt, &lost, go), want);
-        let go = ChangeMembers::RemoveVoters(ids(alloc, leavers)?);
-        assert_eq!(rt; refusal(&rt, &joint, go), want_in_joint);
+        assert_eq!(rt; refusal_of_going(&rt, alloc, &lost, leavers)?, want);
+        assert_eq!(rt;
+            refusal_of_going(&rt, alloc, &joint, leavers)?,
+            want_in_joint
+        );
     }
     Ok(())
 }
 
 #[test]
 fn a_voter_that_leaves_the_nodes_is_missed(rt: HostRuntime) -> Result<(), Fail> {
-    let m = membership(
-        rt.alloc(),
-        [[1, 2].as_slice()].as_slice(),
-        [(1, "1"), (2, "2"), (3, "3")].as_slice(),
-    )?;
-    let refused = tried(
-        &rt,
-        &m,
-        ChangeMembers::RemoveNodes(ids(rt.alloc(), [2].as_slice())?),
-        false,
-    );
-    assert!(rt;
-        refused == Err(ChangeMembershipError::LearnerNotFound(LearnerNotFound { node_id: 2 }))
-    );
-    let emptied = tried(
-        &rt,
-        &m,
-        ChangeMembers::ReplaceAllVoters(ids(rt.alloc(), [].as_slice())?),
-        false,
-    );
-    assert!(rt; matches!(emptied, Err(ChangeMembershipError::EmptyMembership(_))));
+    let alloc = rt.alloc();
+    let m = two_of_three(alloc)?;
+    let go = ChangeMembers::RemoveNodes(ids(alloc, &[2])?);
+    assert_eq!(rt; refusal(&rt, &m, go, false), missing(2));
+    let empty = replace_voters(alloc, &[])?;
+    assert_eq!(rt; refusal(&rt, &m, empty, false), nobody());
     Ok(())
+}
+
+// Whether the change of the voters 1 and 2 of three nodes leaves them, with these nodes.
+fn leaves_nodes(
+    rt: &impl Abort,
+    alloc: Global,
+    change: Change,
+    of: &[(u64, &str)],
+) -> Result<bool, Fail> {
+    let next = tried(rt, &two_of_three(alloc)?, change, false)?;
+    Ok(is_made_of(alloc, &next, [[1, 2].as_slice()].as_slice(), of)?)
 }
 
 #[test]
 fn nodes_are_set(rt: HostRuntime) -> Result<(), Fail> {
-    let m = membership(
-        rt.alloc(),
-        [[1, 2].as_slice()].as_slice(),
-        [(1, "1"), (2, "2"), (3, "3")].as_slice(),
-    )?;
-    let set = ChangeMembers::SetNodes(nodes(rt.alloc(), [(3, "30"), (4, "40")].as_slice())?);
+    let alloc = rt.alloc();
+    let more = [(3, "30"), (4, "40")].as_slice();
+    let set = ChangeMembers::SetNodes(nodes(alloc, more)?);
     let wanted = [(1, "1"), (2, "2"), (3, "30"), (4, "40")];
-    assert!(rt;
-        tried(&rt, &m, set, false)?
-            == membership(
-                rt.alloc(),
-                [[1, 2].as_slice()].as_slice(),
-                wanted.as_slice()
-            )?
-    );
-    let add = ChangeMembers::AddNodes(nodes(rt.alloc(), [(3, "30"), (4, "40")].as_slice())?);
+    assert!(rt; leaves_nodes(&rt, alloc, set, wanted.as_slice())?);
+    let add = ChangeMembers::AddNodes(nodes(alloc, more)?);
     let wanted = [(1, "1"), (2, "2"), (3, "3"), (4, "40")];
-    assert!(rt;
-        tried(&rt, &m, add, false)?
-            == membership(
-                rt.alloc(),
-                [[1, 2].as_slice()].as_slice(),
-                wanted.as_slice()
-            )?
-    );
-    let all = ChangeMembers::ReplaceAllNodes(nodes(rt.alloc(), [(1, "10"), (2, "20")].as_slice())?);
-    let wanted = [(1, "10"), (2, "20")];
-    assert!(rt;
-        tried(&rt, &m, all, false)?
-            == membership(
-                rt.alloc(),
-                [[1, 2].as_slice()].as_slice(),
-                wanted.as_slice()
-            )?
-    );
+    assert!(rt; leaves_nodes(&rt, alloc, add, wanted.as_slice())?);
+    let wanted = [(1, "10"), (2, "20")].as_slice();
+    let all = ChangeMembers::ReplaceAllNodes(nodes(alloc, wanted)?);
+    assert!(rt; leaves_nodes(&rt, alloc, all, wanted)?);
     Ok(())
+}
+
+fn is_five(alloc: Global, m: &Members, configs: &[&[u64]]) -> Result<bool, AllocError> {
+    Ok(*m == five(alloc, configs)?)
 }
 
 #[test]
 fn voters_are_replaced_in_two_steps(rt: HostRuntime) -> Result<(), Fail> {
-    let m = five(rt.alloc(), [[1, 2, 3].as_slice()].as_slice())?;
-    let goal = ids(rt.alloc(), [3, 4, 5].as_slice())?;
-    let joint = tried(&rt, &m, ChangeMembers::from(goal.clone()?), false)?;
-    assert!(rt;
-        joint
-            == five(
-                rt.alloc(),
-                [[1, 2, 3].as_slice(), [3, 4, 5].as_slice()].as_slice()
-            )?
-    );
-    let done = tried(&rt, &joint, ChangeMembers::ReplaceAllVoters(goal), false)?;
+    let alloc = rt.alloc();
+    let m = five(alloc, [[1, 2, 3].as_slice()].as_slice())?;
+    let joint = tried(&rt, &m, change_to(alloc, &[3, 4, 5])?, false)?;
+    let both = [[1, 2, 3].as_slice(), [3, 4, 5].as_slice()];
+    assert!(rt; is_five(alloc, &joint, both.as_slice())?);
+    let done = tried(&rt, &joint, replace_voters(alloc, &[3, 4, 5])?, false)?;
+    let goal = [[3, 4, 5].as_slice()];
     let wanted = [(3, "3"), (4, "4"), (5, "5")];
-    assert!(rt;
-        done == membership(
-            rt.alloc(),
-            [[3, 4, 5].as_slice()].as_slice(),
-            wanted.as_slice()
-        )?
-    );
+    assert!(rt; is_made_of(alloc, &done, goal.as_slice(), wanted.as_slice())?);
     Ok(())
 }
 
 #[test]
 fn voters_come_and_go(rt: HostRuntime) -> Result<(), Fail> {
-    let m = five(rt.alloc(), [[1, 2].as_slice()].as_slice())?;
-    let more = tried(
-        &rt,
-        &m,
-        ChangeMembers::AddVoterIds(ids(rt.alloc(), [5].as_slice())?),
-        true,
-    )?;
+    let alloc = rt.alloc();
+    let m = five(alloc, [[1, 2].as_slice()].as_slice())?;
+    let more = tried(&rt, &m, add_ids(alloc, &[5])?, true)?;
     assert!(rt;
-        more == five(
-            rt.alloc(),
+        is_five(
+            alloc,
+            &more,
             [[1, 2].as_slice(), [1, 2, 5].as_slice()].as_slice()
         )?
     );
-    let fewer = tried(
-        &rt,
-        &m,
-        ChangeMembers::RemoveVoters(ids(rt.alloc(), [2].as_slice())?),
-        true,
-    )?;
-    assert!(rt; fewer == five(rt.alloc(), [[1, 2].as_slice(), [1].as_slice()].as_slice())?);
-    let strange = tried(
-        &rt,
-        &m,
-        ChangeMembers::AddVoterIds(ids(rt.alloc(), [8, 9].as_slice())?),
-        true,
-    );
+    let fewer = tried(&rt, &m, remove_voters(alloc, &[2])?, true)?;
     assert!(rt;
-        strange == Err(ChangeMembershipError::LearnerNotFound(LearnerNotFound { node_id: 8 }))
+        is_five(
+            alloc,
+            &fewer,
+            [[1, 2].as_slice(), [1].as_slice()].as_slice()
+        )?
     );
-    let with_nodes = tried(
-        &rt,
-        &m,
-        ChangeMembers::AddVoters(nodes(rt.alloc(), [(1, "x"), (6, "6")].as_slice())?),
-        true,
-    )?;
+    let strange = add_ids(alloc, &[8, 9])?;
+    assert_eq!(rt; refusal(&rt, &m, strange, true), missing(8));
+    let with_nodes = add_voters(alloc, &[(1, "x"), (6, "6")])?;
+    let wider = tried(&rt, &m, with_nodes, true)?;
     let wanted = [(1, "1"), (2, "2"), (3, "3"), (4, "4"), (5, "5"), (6, "6")];
     let configs = [[1, 2].as_slice(), [1, 2, 6].as_slice()];
-    assert!(rt; with_nodes == membership(rt.alloc(), configs.as_slice(), wanted.as_slice())?);
+    assert!(rt; is_made_of(alloc, &wider, configs.as_slice(), wanted.as_slice())?);
     Ok(())
 }
 
 #[test]
 fn a_step_to_the_present_voters_changes_nothing(rt: HostRuntime) -> Result<(), Fail> {
     let m = five(rt.alloc(), [[1, 2].as_slice()].as_slice())?;
-    let step = stepped(&rt, &m, ids(rt.alloc(), [2, 1].as_slice())?)?;
+    let step = stepped(&rt, &m, ids(rt.alloc(), &[2, 1])?)?;
     assert!(rt; step == m);
     Ok(())
 }

@@ -23,6 +23,8 @@ mod quorums;
 #[cfg(test)]
 mod raft_states;
 #[cfg(test)]
+mod texts;
+#[cfg(test)]
 mod values;
 #[cfg(test)]
 mod written;

@@ -1,45 +1,146 @@
 //! Log id lists by rows.
+//!
+//! Each call stands behind a function without clauses, since a proof that carries the clauses of
+//! several calls takes long.
 
 use crate::ids::id;
 use raft_state::{LogId, LogIdList, are_keys};
+use std::alloc::{AllocError, Global};
+use std::process::Abort;
 use std::test::Fail;
 
-// Truncations, purges and a look-up of the log ids by the keys (1,1,1), (2,1,4), (2,1,5).
+// ---- lists
+
+// The list of these keys.
+fn list_of(alloc: Global, keys: &[LogId<u64>]) -> Result<LogIdList<u64>, Fail> {
+    if !are_keys(keys) {
+        return Err("these are no keys".into());
+    }
+    Ok(LogIdList::new(alloc, keys)?)
+}
+
+// The list of the keys (1,1,1), (2,1,4), (2,1,5).
+fn two_leaders(alloc: Global) -> Result<LogIdList<u64>, Fail> {
+    list_of(alloc, &[id(1, 1, 1), id(2, 1, 4), id(2, 1, 5)])
+}
+
+// Leaders 3, 1 and 3 again, of which the last has two log ids.
+fn falling_leaders(alloc: Global) -> Result<LogIdList<u64>, AllocError> {
+    let mut list = LogIdList::default(alloc);
+    list.extend(&[
+        id(3, 1, 0),
+        id(1, 2, 1),
+        id(1, 2, 2),
+        id(3, 1, 3),
+        id(3, 1, 4),
+    ])?;
+    Ok(list)
+}
+
+fn appended(alloc: Global, log_id: LogId<u64>) -> Result<LogIdList<u64>, AllocError> {
+    let mut list = LogIdList::default(alloc);
+    list.append(log_id)?;
+    Ok(list)
+}
+
+fn extended_by_one(alloc: Global) -> Result<LogIdList<u64>, AllocError> {
+    let mut list = LogIdList::default(alloc);
+    list.extend(&[id(2, 1, 4)])?;
+    Ok(list)
+}
+
+fn extended_by_four(alloc: Global) -> Result<LogIdList<u64>, AllocError> {
+    let mut list = LogIdList::default(alloc);
+    list.extend(&[id(1, 1, 0), id(1, 1, 1), id(2, 3, 2), id(2, 3, 3)])?;
+    Ok(list)
+}
+
+fn three_of_one_leader(alloc: Global) -> Result<LogIdList<u64>, AllocError> {
+    let mut list = LogIdList::default(alloc);
+    list.extend_from_same_leader(&[id(2, 1, 4), id(2, 1, 5), id(2, 1, 6)])?;
+    Ok(list)
+}
+
+fn one_of_one_leader(alloc: Global) -> Result<LogIdList<u64>, AllocError> {
+    let mut list = LogIdList::default(alloc);
+    list.extend_from_same_leader(&[id(3, 2, 0)])?;
+    Ok(list)
+}
+
+fn none_of_one_leader(alloc: Global) -> Result<LogIdList<u64>, AllocError> {
+    let none: [LogId<u64>; 0] = [];
+    let mut list = LogIdList::default(alloc);
+    list.extend_from_same_leader(&none)?;
+    Ok(list)
+}
+
+fn copy_of(list: &LogIdList<u64>) -> Result<LogIdList<u64>, AllocError> {
+    list.clone()
+}
+
+// ---- calls
+
+fn get(list: &LogIdList<u64>, index: u64) -> Option<LogId<u64>> {
+    list.get(index)
+}
+
+fn first(list: &LogIdList<u64>) -> Option<LogId<u64>> {
+    list.first().copied()
+}
+
+fn last(list: &LogIdList<u64>) -> Option<LogId<u64>> {
+    list.last().copied()
+}
+
+fn truncate(list: &mut LogIdList<u64>, at: u64) {
+    list.truncate(at);
+}
+
+fn purge(list: &mut LogIdList<u64>, upto: LogId<u64>) -> Result<(), AllocError> {
+    list.purge(&upto)
+}
+
+fn keys_of(list: &LogIdList<u64>) -> &[LogId<u64>] {
+    list.key_log_ids()
+}
+
+fn has_keys(list: &LogIdList<u64>, keys: &[LogId<u64>]) -> bool {
+    list.key_log_ids() == keys
+}
+
+fn ends_with_leader(list: &LogIdList<u64>, keys: &[LogId<u64>]) -> bool {
+    list.by_last_leader() == keys
+}
+
+// ---- rows
+
+// A look-up of the log ids by the keys (1,1,1), (2,1,4), (2,1,5), truncations and purges.
 #[test]
 fn rows(rt: HostRuntime) -> Result<(), Fail> {
-    let keys = [id(1, 1, 1), id(2, 1, 4), id(2, 1, 5)];
-    assert!(rt; are_keys(&keys));
+    let mut list = two_leaders(rt.alloc())?;
+    assert_eq!(rt; get(&list, 3), Some(id(1, 1, 3)));
+    assert_eq!(rt; get(&list, 0), None);
+    assert_eq!(rt; get(&list, 6), None);
+    assert!(rt; ends_with_leader(&list, &[id(2, 1, 4), id(2, 1, 5)]));
+    truncate(&mut list, 3);
+    assert!(rt; has_keys(&list, &[id(1, 1, 1), id(1, 1, 2)]));
 
-    let mut list = LogIdList::new(rt.alloc(), &keys)?;
-    assert_eq!(rt; list.get(3), Some(id(1, 1, 3)));
-    assert_eq!(rt; list.get(0), None);
-    assert_eq!(rt; list.get(6), None);
-    assert_eq!(rt;
-        list.by_last_leader(),
-        [id(2, 1, 4), id(2, 1, 5)].as_slice()
-    );
-    list.truncate(3);
-    assert_eq!(rt; list.key_log_ids(), [id(1, 1, 1), id(1, 1, 2)].as_slice());
+    let mut list = two_leaders(rt.alloc())?;
+    truncate(&mut list, 5);
+    assert!(rt; has_keys(&list, &[id(1, 1, 1), id(2, 1, 4)]));
+    assert_eq!(rt; last(&list), Some(id(2, 1, 4)));
+    purges(&rt, rt.alloc())
+}
 
-    let mut list = LogIdList::new(rt.alloc(), &keys)?;
-    list.truncate(5);
-    assert_eq!(rt; list.key_log_ids(), [id(1, 1, 1), id(2, 1, 4)].as_slice());
-    assert_eq!(rt; list.last().copied(), Some(id(2, 1, 4)));
-
-    let mut list = LogIdList::new(rt.alloc(), &keys)?;
-    list.purge(&id(1, 1, 2))?;
-    assert_eq!(rt;
-        list.key_log_ids(),
-        [id(1, 1, 2), id(2, 1, 4), id(2, 1, 5)].as_slice()
-    );
-    assert_eq!(rt; list.first().copied(), Some(id(1, 1, 2)));
-    list.purge(&id(1, 1, 1))?;
-    assert_eq!(rt;
-        list.key_log_ids(),
-        [id(1, 1, 2), id(2, 1, 4), id(2, 1, 5)].as_slice()
-    );
-    list.purge(&id(3, 2, 9))?;
-    assert_eq!(rt; list.key_log_ids(), [id(3, 2, 9)].as_slice());
+fn purges(rt: &impl Abort, alloc: Global) -> Result<(), Fail> {
+    let mut list = two_leaders(alloc)?;
+    purge(&mut list, id(1, 1, 2))?;
+    assert!(rt; has_keys(&list, &[id(1, 1, 2), id(2, 1, 4), id(2, 1, 5)]));
+    assert_eq!(rt; first(&list), Some(id(1, 1, 2)));
+    purge(&mut list, id(1, 1, 1))?;
+    assert!(rt; has_keys(&list, &[id(1, 1, 2), id(2, 1, 4), id(2, 1, 5)]));
+    purge(&mut list, id(3, 2, 9))?;
+    assert!(rt; has_keys(&list, &[id(3, 2, 9)]));
     Ok(())
 }
 
@@ -53,71 +154,41 @@ fn what_are_no_keys_is_told(rt: HostRuntime) -> Result<(), Fail> {
     Ok(())
 }
 
-// Leaders 3, 1 and 3 again, of which the last has two log ids.
 #[test]
 fn leaders_may_fall(rt: HostRuntime) -> Result<(), Fail> {
-    let mut list = LogIdList::default(rt.alloc());
-    list.extend(&[
-        id(3, 1, 0),
-        id(1, 2, 1),
-        id(1, 2, 2),
-        id(3, 1, 3),
-        id(3, 1, 4),
-    ])?;
-    assert_eq!(rt;
-        list.key_log_ids(),
-        [id(3, 1, 0), id(1, 2, 1), id(3, 1, 3), id(3, 1, 4)].as_slice()
-    );
-    assert_eq!(rt;
-        list.by_last_leader(),
-        [id(3, 1, 3), id(3, 1, 4)].as_slice()
-    );
-    assert_eq!(rt; list.get(2), Some(id(1, 2, 2)));
-    list.truncate(3);
-    assert_eq!(rt;
-        list.by_last_leader(),
-        [id(1, 2, 1), id(1, 2, 2)].as_slice()
-    );
+    let mut list = falling_leaders(rt.alloc())?;
+    assert!(rt; has_keys(&list, &[id(3, 1, 0), id(1, 2, 1), id(3, 1, 3), id(3, 1, 4)]));
+    assert!(rt; ends_with_leader(&list, &[id(3, 1, 3), id(3, 1, 4)]));
+    assert_eq!(rt; get(&list, 2), Some(id(1, 2, 2)));
+    truncate(&mut list, 3);
+    assert!(rt; ends_with_leader(&list, &[id(1, 2, 1), id(1, 2, 2)]));
     Ok(())
 }
 
 // An empty list takes any log id, and then each that goes on from it.
 #[test]
 fn log_ids_go_on(rt: HostRuntime) -> Result<(), Fail> {
-    let mut list = LogIdList::default(rt.alloc());
-    list.append(id(1, 1, 1))?;
-    assert_eq!(rt; list.key_log_ids(), [id(1, 1, 1)].as_slice());
-
-    let mut list = LogIdList::default(rt.alloc());
-    list.extend(&[id(2, 1, 4)])?;
-    assert_eq!(rt; list.key_log_ids(), [id(2, 1, 4)].as_slice());
-    let copy = list.clone()?;
-    assert_eq!(rt; copy.key_log_ids(), list.key_log_ids());
+    let list = appended(rt.alloc(), id(1, 1, 1))?;
+    assert!(rt; has_keys(&list, &[id(1, 1, 1)]));
+    let list = extended_by_one(rt.alloc())?;
+    assert!(rt; has_keys(&list, &[id(2, 1, 4)]));
+    let copy = copy_of(&list)?;
+    assert_eq!(rt; keys_of(&copy), keys_of(&list));
     Ok(())
 }
 
 // Ids of one leader are put behind the others by the first and the last of them.
 #[test]
 fn ids_of_one_leader_go_on(rt: HostRuntime) -> Result<(), Fail> {
-    let mut list = LogIdList::default(rt.alloc());
-    list.extend_from_same_leader(&[id(2, 1, 4), id(2, 1, 5), id(2, 1, 6)])?;
-    assert_eq!(rt; list.key_log_ids(), [id(2, 1, 4), id(2, 1, 6)].as_slice());
-    assert_eq!(rt; list.get(5), Some(id(2, 1, 5)));
-
-    let mut list = LogIdList::default(rt.alloc());
-    list.extend_from_same_leader(&[id(3, 2, 0)])?;
-    assert_eq!(rt; list.key_log_ids(), [id(3, 2, 0)].as_slice());
-    let none: [LogId<u64>; 0] = [];
-    let mut list = LogIdList::default(rt.alloc());
-    list.extend_from_same_leader(&none)?;
-    assert!(rt; list.first().is_none());
-    assert!(rt; list.last().is_none());
-
-    let mut list = LogIdList::default(rt.alloc());
-    list.extend(&[id(1, 1, 0), id(1, 1, 1), id(2, 3, 2), id(2, 3, 3)])?;
-    assert_eq!(rt;
-        list.key_log_ids(),
-        [id(1, 1, 0), id(2, 3, 2), id(2, 3, 3)].as_slice()
-    );
+    let list = three_of_one_leader(rt.alloc())?;
+    assert!(rt; has_keys(&list, &[id(2, 1, 4), id(2, 1, 6)]));
+    assert_eq!(rt; get(&list, 5), Some(id(2, 1, 5)));
+    let list = one_of_one_leader(rt.alloc())?;
+    assert!(rt; has_keys(&list, &[id(3, 2, 0)]));
+    let list = none_of_one_leader(rt.alloc())?;
+    assert!(rt; first(&list).is_none());
+    assert!(rt; last(&list).is_none());
+    let list = extended_by_four(rt.alloc())?;
+    assert!(rt; has_keys(&list, &[id(1, 1, 0), id(2, 3, 2), id(2, 3, 3)]));
     Ok(())
 }

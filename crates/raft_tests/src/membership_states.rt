@@ -1,4 +1,7 @@
 //! The two memberships that a node knows.
+//!
+//! Each call stands behind a function without clauses, since a proof that carries the clauses of
+//! several calls takes long.
 
 use crate::ids::id;
 use crate::memberships::membership;
@@ -28,57 +31,132 @@ fn two(alloc: Global) -> Result<MembershipState<u64, BasicNode>, AllocError> {
     Ok(state)
 }
 
+// A committed membership behind the one in force.
+fn turned(alloc: Global) -> Result<MembershipState<u64, BasicNode>, AllocError> {
+    let committed = one(alloc, Some(id(1, 1, 2)), 1)?;
+    Ok(MembershipState::new(committed, one(alloc, None, 1)?))
+}
+
+// ---- calls
+
+fn copy_of(
+    state: &MembershipState<u64, BasicNode>,
+) -> Result<MembershipState<u64, BasicNode>, AllocError> {
+    state.clone()
+}
+
+fn commit(state: &mut MembershipState<u64, BasicNode>, upto: LogId<u64>) -> Result<(), AllocError> {
+    state.commit(&Some(upto))
+}
+
+fn truncate(state: &mut MembershipState<u64, BasicNode>, since: u64) -> Result<bool, AllocError> {
+    state.truncate(since)
+}
+
+// Takes the membership of this entry and voter as the committed one.
+fn update_committed(
+    alloc: Global,
+    state: &mut MembershipState<u64, BasicNode>,
+    log_id: LogId<u64>,
+    voter: u64,
+) -> Result<bool, AllocError> {
+    state.update_committed(one(alloc, Some(log_id), voter)?)
+}
+
+// ---- what is seen of it
+
+// Whether the membership of this entry and voter is committed.
+fn has_committed(
+    alloc: Global,
+    state: &MembershipState<u64, BasicNode>,
+    log_id: LogId<u64>,
+    voter: u64,
+) -> Result<bool, AllocError> {
+    Ok(*state.committed() == one(alloc, Some(log_id), voter)?)
+}
+
+// Whether the membership of this entry and voter is in force.
+fn has_in_force(
+    alloc: Global,
+    state: &MembershipState<u64, BasicNode>,
+    log_id: LogId<u64>,
+    voter: u64,
+) -> Result<bool, AllocError> {
+    Ok(*state.effective() == one(alloc, Some(log_id), voter)?)
+}
+
+fn is_voter(state: &MembershipState<u64, BasicNode>, node_id: u64) -> bool {
+    state.is_voter(&node_id)
+}
+
+// Whether the membership in force is committed.
+fn is_settled(state: &MembershipState<u64, BasicNode>) -> bool {
+    state.ensure_committed().is_ok()
+}
+
+// Whether the membership in force isn't committed, but the one of this entry is.
+fn waits_behind(state: &MembershipState<u64, BasicNode>, committed: LogId<u64>) -> bool {
+    match state.ensure_committed() {
+        Ok(()) => false,
+        Err(wait) => wait.committed == Some(committed),
+    }
+}
+
+fn is_valid(state: &MembershipState<u64, BasicNode>) -> bool {
+    state.validate().is_ok()
+}
+
+fn is_turned(state: &MembershipState<u64, BasicNode>) -> bool {
+    state.validate() == Err(Invalid::CommittedMembership)
+}
+
+// ---- rows
+
 #[test]
 fn a_membership_is_committed(rt: HostRuntime) -> Result<(), Fail> {
-    let mut state = two(rt.alloc())?;
-    assert!(rt; *state.committed() == one(rt.alloc(), Some(id(1, 1, 2)), 1)?);
-    assert!(rt; *state.effective() == one(rt.alloc(), Some(id(3, 1, 5)), 2)?);
-    assert!(rt; state.is_voter(&2));
-    assert!(rt; !state.is_voter(&1));
-    let waits = state.ensure_committed();
-    assert!(rt;
-        waits
-            .err()
-            .map_or(false, |wait| wait.committed == Some(id(1, 1, 2)))
-    );
-    state.commit(&Some(id(3, 1, 4)))?;
-    assert!(rt; state.ensure_committed().is_err());
-    state.commit(&Some(id(3, 1, 5)))?;
-    assert!(rt; state.ensure_committed().is_ok());
-    assert!(rt; *state.committed() == one(rt.alloc(), Some(id(3, 1, 5)), 2)?);
+    let alloc = rt.alloc();
+    let mut state = two(alloc)?;
+    assert!(rt; has_committed(alloc, &state, id(1, 1, 2), 1)?);
+    assert!(rt; has_in_force(alloc, &state, id(3, 1, 5), 2)?);
+    assert!(rt; is_voter(&state, 2));
+    assert!(rt; !is_voter(&state, 1));
+    assert!(rt; waits_behind(&state, id(1, 1, 2)));
+    commit(&mut state, id(3, 1, 4))?;
+    assert!(rt; !is_settled(&state));
+    commit(&mut state, id(3, 1, 5))?;
+    assert!(rt; is_settled(&state));
+    assert!(rt; has_committed(alloc, &state, id(3, 1, 5), 2)?);
     Ok(())
 }
 
 #[test]
 fn a_membership_goes_with_its_entry(rt: HostRuntime) -> Result<(), Fail> {
-    let mut state = two(rt.alloc())?;
-    let copy = state.clone()?;
-    assert!(rt; !state.truncate(6)?);
-    assert!(rt; state.truncate(5)?);
-    assert!(rt; *state.effective() == one(rt.alloc(), Some(id(1, 1, 2)), 1)?);
-    assert!(rt; *copy.effective() == one(rt.alloc(), Some(id(3, 1, 5)), 2)?);
+    let alloc = rt.alloc();
+    let mut state = two(alloc)?;
+    let copy = copy_of(&state)?;
+    assert!(rt; !truncate(&mut state, 6)?);
+    assert!(rt; truncate(&mut state, 5)?);
+    assert!(rt; has_in_force(alloc, &state, id(1, 1, 2), 1)?);
+    assert!(rt; has_in_force(alloc, &copy, id(3, 1, 5), 2)?);
     Ok(())
 }
 
 #[test]
 fn a_committed_membership_takes_over(rt: HostRuntime) -> Result<(), Fail> {
-    let mut state = two(rt.alloc())?;
-    assert!(rt; !state.update_committed(one(rt.alloc(), Some(id(2, 1, 4)), 3)?)?);
-    assert!(rt; *state.committed() == one(rt.alloc(), Some(id(2, 1, 4)), 3)?);
-    assert!(rt; *state.effective() == one(rt.alloc(), Some(id(3, 1, 5)), 2)?);
-    assert!(rt; state.update_committed(one(rt.alloc(), Some(id(4, 1, 5)), 4)?)?);
-    assert!(rt; *state.effective() == one(rt.alloc(), Some(id(4, 1, 5)), 4)?);
-    assert!(rt; *state.committed() == one(rt.alloc(), Some(id(4, 1, 5)), 4)?);
+    let alloc = rt.alloc();
+    let mut state = two(alloc)?;
+    assert!(rt; !update_committed(alloc, &mut state, id(2, 1, 4), 3)?);
+    assert!(rt; has_committed(alloc, &state, id(2, 1, 4), 3)?);
+    assert!(rt; has_in_force(alloc, &state, id(3, 1, 5), 2)?);
+    assert!(rt; update_committed(alloc, &mut state, id(4, 1, 5), 4)?);
+    assert!(rt; has_in_force(alloc, &state, id(4, 1, 5), 4)?);
+    assert!(rt; has_committed(alloc, &state, id(4, 1, 5), 4)?);
     Ok(())
 }
 
 #[test]
 fn the_committed_one_is_no_later(rt: HostRuntime) -> Result<(), Fail> {
-    assert!(rt; two(rt.alloc())?.validate().is_ok());
-    let turned = MembershipState::new(
-        one(rt.alloc(), Some(id(1, 1, 2)), 1)?,
-        one(rt.alloc(), None, 1)?,
-    );
-    assert!(rt; turned.validate() == Err(Invalid::CommittedMembership));
+    assert!(rt; is_valid(&two(rt.alloc())?));
+    assert!(rt; is_turned(&turned(rt.alloc())?));
     Ok(())
 }

@@ -1,4 +1,7 @@
 //! Sets, maps and memberships.
+//!
+//! Each call stands behind a function without clauses, since a proof that carries the clauses of
+//! several calls takes long.
 
 use raft_state::{
     BasicNode, ChangeMembershipError, EffectiveMembership, IdSet, IntoNodes, LeaderId,
@@ -35,59 +38,165 @@ pub fn membership(
     Ok(Membership::from_parts(groups, nodes(alloc, of)?))
 }
 
+// ---- sets
+
+fn insert_id(set: &mut IdSet<u64>, id: u64) -> Result<bool, AllocError> {
+    set.insert(id)
+}
+
+fn has_ids(set: &IdSet<u64>, of: &[u64]) -> bool {
+    set.as_slice() == of
+}
+
+fn contains_id(set: &IdSet<u64>, id: u64) -> bool {
+    set.contains(&id)
+}
+
+fn count_ids(set: &IdSet<u64>) -> usize {
+    set.len()
+}
+
+fn has_no_ids(set: &IdSet<u64>) -> bool {
+    set.is_empty()
+}
+
+fn new_set_is_empty(alloc: Global) -> bool {
+    IdSet::<u64>::new(alloc).is_empty()
+}
+
+// Whether these ids are left of those that both sets have.
+fn keeps_ids(set: &IdSet<u64>, keep: &IdSet<u64>, of: &[u64]) -> Result<bool, AllocError> {
+    Ok(set.filtered(keep)?.as_slice() == of)
+}
+
+fn grows_to(set: &IdSet<u64>, more: &[u64], of: &[u64]) -> Result<bool, AllocError> {
+    Ok(set.with(more)?.as_slice() == of)
+}
+
+fn set_is_copied(set: &IdSet<u64>) -> Result<bool, AllocError> {
+    Ok(set.clone()? == *set)
+}
+
 #[test]
 fn a_set_keeps_its_ids_in_order(rt: HostRuntime) -> Result<(), Fail> {
-    let mut set = ids(rt.alloc(), [5, 2, 9, 2].as_slice())?;
-    assert_eq!(rt; set.as_slice(), [2, 5, 9].as_slice());
-    assert!(rt; set.insert(3)?);
-    assert!(rt; !set.insert(3)?);
-    assert!(rt; set.contains(&3));
-    assert_eq!(rt; set.len(), 4);
-    assert!(rt; !set.is_empty());
-    let odd = ids(rt.alloc(), [3, 5, 7].as_slice())?;
-    assert_eq!(rt; set.filtered(&odd)?.as_slice(), [3, 5].as_slice());
-    assert_eq!(rt;
-        set.with([4].as_slice())?.as_slice(),
-        [2, 3, 4, 5, 9].as_slice()
-    );
-    assert!(rt; set.clone()? == set);
-    assert!(rt; IdSet::<u64>::new(rt.alloc()).is_empty());
+    let mut set = ids(rt.alloc(), &[5, 2, 9, 2])?;
+    assert!(rt; has_ids(&set, &[2, 5, 9]));
+    assert!(rt; insert_id(&mut set, 3)?);
+    assert!(rt; !insert_id(&mut set, 3)?);
+    assert!(rt; contains_id(&set, 3));
+    assert_eq!(rt; count_ids(&set), 4);
+    assert!(rt; !has_no_ids(&set));
+    let odd = ids(rt.alloc(), &[3, 5, 7])?;
+    assert!(rt; keeps_ids(&set, &odd, &[3, 5])?);
+    assert!(rt; grows_to(&set, &[4], &[2, 3, 4, 5, 9])?);
+    assert!(rt; set_is_copied(&set)?);
+    assert!(rt; new_set_is_empty(rt.alloc()));
     Ok(())
+}
+
+// ---- maps
+
+type Nodes = NodeMap<u64, BasicNode>;
+
+fn insert_node(alloc: Global, map: &mut Nodes, id: u64, addr: &str) -> Result<(), AllocError> {
+    map.insert(id, BasicNode::new(alloc, addr)?)
+}
+
+fn insert_new_node(alloc: Global, map: &mut Nodes, id: u64, addr: &str) -> Result<(), AllocError> {
+    map.insert_new(id, BasicNode::new(alloc, addr)?)
+}
+
+fn count_nodes(map: &Nodes) -> usize {
+    map.len()
+}
+
+fn contains_node(map: &Nodes, id: u64) -> bool {
+    map.contains(&id)
+}
+
+fn has_nodes(alloc: Global, map: &Nodes, of: &[(u64, &str)]) -> Result<bool, AllocError> {
+    Ok(*map == nodes(alloc, of)?)
+}
+
+fn map_is_copied(map: &Nodes) -> Result<bool, AllocError> {
+    Ok(map.clone()? == *map)
+}
+
+fn has_no_node(map: &Nodes, id: u64) -> bool {
+    map.get(&id).is_none()
+}
+
+fn has_address(map: &Nodes, id: u64, addr: &str) -> bool {
+    match map.get(&id) {
+        Some(node) => node.addr.as_str() == addr,
+        None => false,
+    }
+}
+
+fn has_keys(map: &Nodes, of: &[u64]) -> Result<bool, AllocError> {
+    Ok(map.ids()?.as_slice() == of)
+}
+
+fn with_nodes(map: &Nodes, more: &Nodes) -> Result<Nodes, AllocError> {
+    map.with_nodes(more.as_slice())
+}
+
+fn with_new_nodes(map: &Nodes, more: &Nodes) -> Result<Nodes, AllocError> {
+    map.with_new_nodes(more.as_slice())
+}
+
+fn kept_nodes(map: &Nodes, keep: &IdSet<u64>) -> Result<Nodes, AllocError> {
+    map.filtered(keep)
+}
+
+// Nodes 7 and 3, each put in again: the first stays, and the second is replaced.
+fn put_in_twice(alloc: Global) -> Result<Nodes, AllocError> {
+    let mut map = nodes(alloc, &[(7, "g"), (3, "c")])?;
+    insert_node(alloc, &mut map, 3, "d")?;
+    insert_new_node(alloc, &mut map, 7, "h")?;
+    Ok(map)
+}
+
+// The nodes 1 and 7.
+fn two_more(alloc: Global) -> Result<Nodes, AllocError> {
+    nodes(alloc, &[(1, "a"), (7, "z")])
+}
+
+fn takes_more_nodes(alloc: Global, map: &Nodes) -> Result<bool, AllocError> {
+    let wider = with_nodes(map, &two_more(alloc)?)?;
+    has_nodes(alloc, &wider, &[(1, "a"), (3, "d"), (7, "z")])
+}
+
+fn takes_new_nodes(alloc: Global, map: &Nodes) -> Result<bool, AllocError> {
+    let wider = with_new_nodes(map, &two_more(alloc)?)?;
+    has_nodes(alloc, &wider, &[(1, "a"), (3, "d"), (7, "g")])
+}
+
+fn keeps_node_7(alloc: Global, map: &Nodes) -> Result<bool, AllocError> {
+    let kept = kept_nodes(map, &ids(alloc, &[7])?)?;
+    has_nodes(alloc, &kept, &[(7, "g")])
 }
 
 #[test]
 fn a_map_keeps_its_nodes_in_order(rt: HostRuntime) -> Result<(), Fail> {
-    let mut map = nodes(rt.alloc(), [(7, "g"), (3, "c")].as_slice())?;
-    map.insert(3, BasicNode::new(rt.alloc(), "d")?)?;
-    map.insert_new(7, BasicNode::new(rt.alloc(), "h")?)?;
-    assert_eq!(rt; map.len(), 2);
-    assert!(rt; map.contains(&7));
-    assert!(rt; !map.contains(&4));
-    assert!(rt; map == nodes(rt.alloc(), [(3, "d"), (7, "g")].as_slice())?);
-    assert!(rt; map.clone()? == map);
-    assert!(rt; map.get(&4).is_none());
-    assert!(rt; map.get(&3).map_or(false, |node| node.addr.as_str() == "d"));
-    assert_eq!(rt; map.ids()?.as_slice(), [3, 7].as_slice());
-    let more = nodes(rt.alloc(), [(1, "a"), (7, "z")].as_slice())?;
-    assert!(rt;
-        map.with_nodes(more.as_slice())?
-            == nodes(rt.alloc(), [(1, "a"), (3, "d"), (7, "z")].as_slice())?
-    );
-    assert!(rt;
-        map.with_new_nodes(more.as_slice())?
-            == nodes(rt.alloc(), [(1, "a"), (3, "d"), (7, "g")].as_slice())?
-    );
-    assert!(rt;
-        map.filtered(&ids(rt.alloc(), [7].as_slice())?)?
-            == nodes(rt.alloc(), [(7, "g")].as_slice())?
-    );
+    let map = put_in_twice(rt.alloc())?;
+    assert_eq!(rt; count_nodes(&map), 2);
+    assert!(rt; contains_node(&map, 7));
+    assert!(rt; !contains_node(&map, 4));
+    assert!(rt; has_nodes(rt.alloc(), &map, &[(3, "d"), (7, "g")])?);
+    assert!(rt; map_is_copied(&map)?);
+    assert!(rt; has_no_node(&map, 4));
+    assert!(rt; has_address(&map, 3, "d"));
+    assert!(rt; has_keys(&map, &[3, 7])?);
+    assert!(rt; takes_more_nodes(rt.alloc(), &map)?);
+    assert!(rt; takes_new_nodes(rt.alloc(), &map)?);
+    assert!(rt; keeps_node_7(rt.alloc(), &map)?);
     Ok(())
 }
 
-fn given<T: IntoNodes<u64, BasicNode>>(
-    alloc: Global,
-    of: T,
-) -> Result<NodeMap<u64, BasicNode>, AllocError> {
+// ---- what nodes are made of
+
+fn given<T: IntoNodes<u64, BasicNode>>(alloc: Global, of: T) -> Result<Nodes, AllocError> {
     of.into_nodes(alloc)
 }
 
@@ -95,48 +204,101 @@ fn told<T: IntoNodes<u64, BasicNode>>(alloc: Global, of: &T) -> Result<(bool, us
     Ok((of.has_nodes(), of.node_ids(alloc)?.len()))
 }
 
+// The ids of nodes 1 and 2.
+fn both(alloc: Global) -> Result<IdSet<u64>, AllocError> {
+    ids(alloc, &[2, 1])
+}
+
+// The nodes 1 and 2, of which no more is known.
+fn unknown(alloc: Global) -> Result<Nodes, AllocError> {
+    nodes(alloc, &[(1, ""), (2, "")])
+}
+
+fn are_unknown<T: IntoNodes<u64, BasicNode>>(alloc: Global, of: T) -> Result<bool, AllocError> {
+    Ok(given(alloc, of)? == unknown(alloc)?)
+}
+
 #[test]
 fn nodes_are_given_in_four_ways(rt: HostRuntime) -> Result<(), Fail> {
-    let set = ids(rt.alloc(), [2, 1].as_slice())?;
-    let unknown = nodes(rt.alloc(), [(1, ""), (2, "")].as_slice())?;
-    assert_eq!(rt; told(rt.alloc(), &())?, (false, 0));
-    assert_eq!(rt; told(rt.alloc(), &set)?, (false, 2));
-    assert_eq!(rt; told(rt.alloc(), &Some(set.clone()?))?, (false, 2));
-    assert_eq!(rt; told(rt.alloc(), &unknown)?, (true, 2));
-    assert_eq!(rt; given(rt.alloc(), ())?.len(), 0);
-    assert!(rt; given(rt.alloc(), set.clone()?)? == unknown);
-    assert!(rt; given(rt.alloc(), Some(set))? == unknown);
+    let alloc = rt.alloc();
+    assert_eq!(rt; told(alloc, &())?, (false, 0));
+    assert_eq!(rt; told(alloc, &both(alloc)?)?, (false, 2));
+    assert_eq!(rt; told(alloc, &Some(both(alloc)?))?, (false, 2));
+    assert_eq!(rt; told(alloc, &unknown(alloc)?)?, (true, 2));
+    assert_eq!(rt; given(alloc, ())?.len(), 0);
+    assert!(rt; are_unknown(alloc, both(alloc)?)?);
+    assert!(rt; are_unknown(alloc, Some(both(alloc)?))?);
     let none: Option<IdSet<u64>> = None;
-    assert_eq!(rt; told(rt.alloc(), &none)?, (false, 0));
-    assert_eq!(rt; given(rt.alloc(), none)?.len(), 0);
-    assert!(rt; given(rt.alloc(), unknown.clone()?)? == unknown);
+    assert_eq!(rt; told(alloc, &none)?, (false, 0));
+    assert_eq!(rt; given(alloc, none)?.len(), 0);
+    assert!(rt; are_unknown(alloc, unknown(alloc)?)?);
     Ok(())
+}
+
+// ---- memberships
+
+type Members = Membership<u64, BasicNode>;
+
+// The voters 1 and 2, and the nodes 2 and 3.
+fn two_voters(alloc: Global) -> Result<Members, AllocError> {
+    let voters = vec![in alloc; ids(alloc, &[1, 2])?]?;
+    Membership::new(alloc, voters, nodes(alloc, &[(2, "b"), (3, "c")])?)
+}
+
+/// Whether the membership has just these voter groups and nodes.
+pub fn is_made_of(
+    alloc: Global,
+    m: &Membership<u64, BasicNode>,
+    configs: &[&[u64]],
+    of: &[(u64, &str)],
+) -> Result<bool, AllocError> {
+    Ok(*m == membership(alloc, configs, of)?)
+}
+
+fn is_joint(m: &Members) -> bool {
+    m.is_in_joint_consensus()
+}
+
+fn has_voters(m: &Members, of: &[u64]) -> Result<bool, AllocError> {
+    Ok(m.voter_ids()?.as_slice() == of)
+}
+
+fn has_learners(m: &Members, of: &[u64]) -> Result<bool, AllocError> {
+    Ok(m.learner_ids()?.as_slice() == of)
+}
+
+fn has_so_many(m: &Members, groups: usize, nodes: usize) -> bool {
+    m.get_joint_config().len() == groups && m.nodes().len() == nodes
+}
+
+fn is_voter(m: &Members, id: u64) -> bool {
+    m.is_voter(&id)
+}
+
+fn has_node(m: &Members, id: u64) -> bool {
+    m.get_node(&id).is_some()
+}
+
+fn is_valid(m: &Members) -> bool {
+    m.ensure_valid().is_ok()
+}
+
+fn is_copied(m: &Members) -> Result<bool, AllocError> {
+    Ok(m.clone()? == *m)
 }
 
 #[test]
 fn a_new_membership_has_all_voters_as_nodes(rt: HostRuntime) -> Result<(), Fail> {
-    let voters = vec![in rt.alloc(); ids(rt.alloc(), [1, 2].as_slice())?]?;
-    let m = Membership::new(
-        rt.alloc(),
-        voters,
-        nodes(rt.alloc(), [(2, "b"), (3, "c")].as_slice())?,
-    )?;
-    assert!(rt;
-        m == membership(
-            rt.alloc(),
-            [[1, 2].as_slice()].as_slice(),
-            [(1, ""), (2, "b"), (3, "c")].as_slice()
-        )?
-    );
-    assert!(rt; !m.is_in_joint_consensus());
-    assert_eq!(rt; m.voter_ids()?.as_slice(), [1, 2].as_slice());
-    assert_eq!(rt; m.learner_ids()?.as_slice(), [3].as_slice());
-    assert_eq!(rt; m.get_joint_config().len(), 1);
-    assert_eq!(rt; m.nodes().len(), 3);
-    assert!(rt; m.is_voter(&2));
-    assert!(rt; m.get_node(&3).is_some());
-    assert!(rt; m.ensure_valid().is_ok());
-    assert!(rt; m.clone()? == m);
+    let m = two_voters(rt.alloc())?;
+    assert!(rt; is_made_of(rt.alloc(), &m, &[&[1, 2]], &[(1, ""), (2, "b"), (3, "c")])?);
+    assert!(rt; !is_joint(&m));
+    assert!(rt; has_voters(&m, &[1, 2])?);
+    assert!(rt; has_learners(&m, &[3])?);
+    assert!(rt; has_so_many(&m, 1, 3));
+    assert!(rt; is_voter(&m, 2));
+    assert!(rt; has_node(&m, 3));
+    assert!(rt; is_valid(&m));
+    assert!(rt; is_copied(&m)?);
     Ok(())
 }
 
@@ -165,32 +327,90 @@ fn memberships_are_refused(rt: HostRuntime) -> Result<(), Fail> {
     Ok(())
 }
 
+// ---- memberships of a log
+
+type Stored = StoredMembership<u64, BasicNode>;
+
+type Effective = EffectiveMembership<u64, BasicNode>;
+
+fn two_voters_of_three(alloc: Global) -> Result<Members, AllocError> {
+    membership(alloc, &[&[1, 2]], &[(1, "a"), (2, "b"), (3, "c")])
+}
+
+fn stored(log_id: LogId<u64>, members: Members) -> Stored {
+    StoredMembership::new(Some(log_id), members)
+}
+
+fn effective(members: Members) -> Effective {
+    EffectiveMembership::new(None, members)
+}
+
+fn is_stored(of: &Stored, log_id: LogId<u64>, m: &Members) -> bool {
+    *of.log_id() == Some(log_id) && *of.membership() == *m
+}
+
+fn has_counts(of: &Stored, voters: usize, nodes: usize) -> Result<bool, AllocError> {
+    Ok(of.voter_ids()?.len() == voters && of.nodes().len() == nodes)
+}
+
+fn stored_is_copied(of: &Stored) -> Result<bool, AllocError> {
+    Ok(of.clone()? == *of)
+}
+
+fn stored_is_told(alloc: Global, of: &Stored) -> Result<bool, AllocError> {
+    Ok(of.to_string(alloc)?.len() > 0)
+}
+
+fn is_in_force(of: &Effective, m: &Members) -> bool {
+    of.log_id().is_none() && *of.membership() == *m
+}
+
+fn has_voters_in_force(of: &Effective, voters: &[u64]) -> Result<bool, AllocError> {
+    Ok(of.voter_ids()?.as_slice() == voters)
+}
+
+fn has_in_force(of: &Effective, nodes: usize, groups: usize) -> bool {
+    of.nodes().len() == nodes && of.get_joint_config().len() == groups
+}
+
+fn votes_in_force(of: &Effective, id: u64) -> bool {
+    of.is_voter(&id)
+}
+
+fn lacks_in_force(of: &Effective, id: u64) -> bool {
+    of.get_node(&id).is_none()
+}
+
+fn is_quorum(of: &Effective, set: &IdSet<u64>) -> bool {
+    of.is_quorum(set)
+}
+
+fn count_members(alloc: Global, of: &Effective) -> Result<usize, AllocError> {
+    Ok(of.ids(alloc)?.len())
+}
+
+fn effective_is_copied(of: &Effective) -> Result<bool, AllocError> {
+    Ok(of.clone()? == *of)
+}
+
 #[test]
 fn memberships_of_a_log(rt: HostRuntime) -> Result<(), Fail> {
     let log_id = LogId::new(LeaderId::new(1, 1u64), 2);
-    let m = membership(
-        rt.alloc(),
-        [[1, 2].as_slice()].as_slice(),
-        [(1, "a"), (2, "b"), (3, "c")].as_slice(),
-    )?;
-    let stored = StoredMembership::new(Some(log_id), m.clone()?);
-    assert_eq!(rt; *stored.log_id(), Some(log_id));
-    assert!(rt; *stored.membership() == m);
-    assert_eq!(rt; stored.voter_ids()?.len(), 2);
-    assert_eq!(rt; stored.nodes().len(), 3);
-    assert!(rt; stored.clone()? == stored);
-    assert!(rt; stored.to_string(rt.alloc())?.len() > 0);
-    let effective = EffectiveMembership::new(None, m.clone()?);
-    assert!(rt; effective.log_id().is_none());
-    assert!(rt; *effective.membership() == m);
-    assert_eq!(rt; effective.voter_ids()?.as_slice(), [1, 2].as_slice());
-    assert_eq!(rt; effective.nodes().len(), 3);
-    assert_eq!(rt; effective.get_joint_config().len(), 1);
-    assert!(rt; effective.is_voter(&1));
-    assert!(rt; effective.get_node(&4).is_none());
-    assert!(rt; effective.is_quorum(&ids(rt.alloc(), [1, 2].as_slice())?));
-    assert_eq!(rt; effective.ids(rt.alloc())?.len(), 2);
-    assert!(rt; effective.clone()? == effective);
+    let m = two_voters_of_three(rt.alloc())?;
+    let of_log = stored(log_id, two_voters_of_three(rt.alloc())?);
+    assert!(rt; is_stored(&of_log, log_id, &m));
+    assert!(rt; has_counts(&of_log, 2, 3)?);
+    assert!(rt; stored_is_copied(&of_log)?);
+    assert!(rt; stored_is_told(rt.alloc(), &of_log)?);
+    let in_force = effective(two_voters_of_three(rt.alloc())?);
+    assert!(rt; is_in_force(&in_force, &m));
+    assert!(rt; has_voters_in_force(&in_force, &[1, 2])?);
+    assert!(rt; has_in_force(&in_force, 3, 1));
+    assert!(rt; votes_in_force(&in_force, 1));
+    assert!(rt; lacks_in_force(&in_force, 4));
+    assert!(rt; is_quorum(&in_force, &ids(rt.alloc(), &[1, 2])?));
+    assert_eq!(rt; count_members(rt.alloc(), &in_force)?, 2);
+    assert!(rt; effective_is_copied(&in_force)?);
     Ok(())
 }
 
