@@ -1,7 +1,7 @@
 //! Texts of errors, and their parts.
 
+use crate::answers::reads;
 use crate::memberships::membership;
-use crate::texts::reads;
 use raft_state::{
     ChangeMembershipError, ClientWriteError, EmptyMembership, EmptyNode, ForwardToLeader,
     InProgress, InitializeError, LackEntry, LearnerNotFound, NotAllowed, NotInMembers, TryAsRef,
@@ -19,22 +19,22 @@ fn errors_say_what_is_wrong(rt: HostRuntime) -> Result<(), Fail> {
             rt.alloc(),
             &missing,
             "node 4 would be a voter but is no node"
-        )?
+        )
     );
     let empty: ChangeMembershipError<u64> = ChangeMembershipError::EmptyMembership(
         EmptyMembership {},
     );
-    assert!(rt; reads(rt.alloc(), &empty, "a voter group would be empty")?);
+    assert!(rt; reads(rt.alloc(), &empty, "a voter group would be empty"));
     let busy: InProgress<u64> = InProgress {
         committed: None,
         membership_log_id: None,
     };
-    assert!(rt; reads(rt.alloc(), &busy, "the change before isn't committed yet")?);
+    assert!(rt; reads(rt.alloc(), &busy, "the change before isn't committed yet"));
     let lack: LackEntry<u64> = LackEntry {
         index: Some(3),
         last_purged_log_id: None,
     };
-    assert!(rt; reads(rt.alloc(), &lack, "the log has no such entry")?);
+    assert!(rt; reads(rt.alloc(), &lack, "the log has no such entry"));
     Ok(())
 }
 
@@ -49,13 +49,13 @@ fn a_group_is_not_set_up(rt: HostRuntime) -> Result<(), Fail> {
             rt.alloc(),
             &voted,
             "the node has voted or has entries already"
-        )?
+        )
     );
     let outside = InitializeError::NotInMembers(NotInMembers {
         node_id: 7,
         membership: membership(rt.alloc(), [].as_slice(), [].as_slice())?,
     });
-    assert!(rt; reads(rt.alloc(), &outside, "node 7 is no voter of the membership")?);
+    assert!(rt; reads(rt.alloc(), &outside, "node 7 is no voter of the membership"));
     Ok(())
 }
 

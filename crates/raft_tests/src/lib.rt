@@ -5,6 +5,8 @@
 #![tactic(auto)]
 
 #[cfg(test)]
+mod answers;
+#[cfg(test)]
 mod changes;
 #[cfg(test)]
 mod errors;
@@ -22,8 +24,6 @@ mod memberships;
 mod quorums;
 #[cfg(test)]
 mod raft_states;
-#[cfg(test)]
-mod texts;
 #[cfg(test)]
 mod values;
 #[cfg(test)]

@@ -3,6 +3,7 @@
 //! Each call stands behind a function without clauses, since a proof that carries the clauses of
 //! several calls takes long.
 
+use crate::answers::is_done;
 use crate::ids::id;
 use raft_state::{LogId, LogIdList, are_keys};
 use std::alloc::{AllocError, Global};
@@ -108,6 +109,18 @@ fn has_keys(list: &LogIdList<u64>, keys: &[LogId<u64>]) -> bool {
     list.key_log_ids() == keys
 }
 
+// Whether there is a list, of these keys.
+fn gives_keys(list: Result<LogIdList<u64>, AllocError>, keys: &[LogId<u64>]) -> bool {
+    match list {
+        Ok(list) => has_keys(&list, keys),
+        Err(_) => false,
+    }
+}
+
+fn is_empty(list: &LogIdList<u64>) -> bool {
+    list.first().is_none() && list.last().is_none()
+}
+
 fn ends_with_leader(list: &LogIdList<u64>, keys: &[LogId<u64>]) -> bool {
     list.by_last_leader() == keys
 }
@@ -124,22 +137,26 @@ fn rows(rt: HostRuntime) -> Result<(), Fail> {
     assert!(rt; ends_with_leader(&list, &[id(2, 1, 4), id(2, 1, 5)]));
     truncate(&mut list, 3);
     assert!(rt; has_keys(&list, &[id(1, 1, 1), id(1, 1, 2)]));
+    truncated_at_the_last(&rt, rt.alloc())?;
+    purged(&rt, rt.alloc())
+}
 
-    let mut list = two_leaders(rt.alloc())?;
+fn truncated_at_the_last(rt: &impl Abort, alloc: Global) -> Result<(), Fail> {
+    let mut list = two_leaders(alloc)?;
     truncate(&mut list, 5);
     assert!(rt; has_keys(&list, &[id(1, 1, 1), id(2, 1, 4)]));
     assert_eq!(rt; last(&list), Some(id(2, 1, 4)));
-    purges(&rt, rt.alloc())
+    Ok(())
 }
 
-fn purges(rt: &impl Abort, alloc: Global) -> Result<(), Fail> {
+fn purged(rt: &impl Abort, alloc: Global) -> Result<(), Fail> {
     let mut list = two_leaders(alloc)?;
-    purge(&mut list, id(1, 1, 2))?;
+    assert!(rt; is_done(purge(&mut list, id(1, 1, 2))));
     assert!(rt; has_keys(&list, &[id(1, 1, 2), id(2, 1, 4), id(2, 1, 5)]));
     assert_eq!(rt; first(&list), Some(id(1, 1, 2)));
-    purge(&mut list, id(1, 1, 1))?;
+    assert!(rt; is_done(purge(&mut list, id(1, 1, 1))));
     assert!(rt; has_keys(&list, &[id(1, 1, 2), id(2, 1, 4), id(2, 1, 5)]));
-    purge(&mut list, id(3, 2, 9))?;
+    assert!(rt; is_done(purge(&mut list, id(3, 2, 9))));
     assert!(rt; has_keys(&list, &[id(3, 2, 9)]));
     Ok(())
 }
@@ -168,27 +185,23 @@ fn leaders_may_fall(rt: HostRuntime) -> Result<(), Fail> {
 // An empty list takes any log id, and then each that goes on from it.
 #[test]
 fn log_ids_go_on(rt: HostRuntime) -> Result<(), Fail> {
-    let list = appended(rt.alloc(), id(1, 1, 1))?;
-    assert!(rt; has_keys(&list, &[id(1, 1, 1)]));
+    assert!(rt; gives_keys(appended(rt.alloc(), id(1, 1, 1)), &[id(1, 1, 1)]));
     let list = extended_by_one(rt.alloc())?;
     assert!(rt; has_keys(&list, &[id(2, 1, 4)]));
-    let copy = copy_of(&list)?;
-    assert_eq!(rt; keys_of(&copy), keys_of(&list));
+    assert!(rt; gives_keys(copy_of(&list), keys_of(&list)));
     Ok(())
 }
 
 // Ids of one leader are put behind the others by the first and the last of them.
 #[test]
 fn ids_of_one_leader_go_on(rt: HostRuntime) -> Result<(), Fail> {
-    let list = three_of_one_leader(rt.alloc())?;
+    let alloc = rt.alloc();
+    assert!(rt; gives_keys(one_of_one_leader(alloc), &[id(3, 2, 0)]));
+    let keys = [id(1, 1, 0), id(2, 3, 2), id(2, 3, 3)];
+    assert!(rt; gives_keys(extended_by_four(alloc), &keys));
+    let list = three_of_one_leader(alloc)?;
     assert!(rt; has_keys(&list, &[id(2, 1, 4), id(2, 1, 6)]));
     assert_eq!(rt; get(&list, 5), Some(id(2, 1, 5)));
-    let list = one_of_one_leader(rt.alloc())?;
-    assert!(rt; has_keys(&list, &[id(3, 2, 0)]));
-    let list = none_of_one_leader(rt.alloc())?;
-    assert!(rt; first(&list).is_none());
-    assert!(rt; last(&list).is_none());
-    let list = extended_by_four(rt.alloc())?;
-    assert!(rt; has_keys(&list, &[id(1, 1, 0), id(2, 3, 2), id(2, 3, 3)]));
+    assert!(rt; is_empty(&none_of_one_leader(alloc)?));
     Ok(())
 }

@@ -3,6 +3,7 @@
 //! Each call stands behind a function without clauses, since a proof that carries the clauses of
 //! several calls takes long.
 
+use crate::answers::{holds, is_denied, is_done};
 use crate::ids::id;
 use crate::memberships::membership;
 use raft_state::{BasicNode, EffectiveMembership, Invalid, LogId, MembershipState, Validate};
@@ -53,14 +54,15 @@ fn truncate(state: &mut MembershipState<u64, BasicNode>, since: u64) -> Result<b
     state.truncate(since)
 }
 
-// Takes the membership of this entry and voter as the committed one.
-fn update_committed(
+// Whether the membership of this entry and voter, taken as the committed one, comes in force.
+fn takes_over(
     alloc: Global,
     state: &mut MembershipState<u64, BasicNode>,
     log_id: LogId<u64>,
     voter: u64,
-) -> Result<bool, AllocError> {
-    state.update_committed(one(alloc, Some(log_id), voter)?)
+) -> Option<bool> {
+    let members = one(alloc, Some(log_id), voter).ok()?;
+    state.update_committed(members).ok()
 }
 
 // ---- what is seen of it
@@ -71,8 +73,11 @@ fn has_committed(
     state: &MembershipState<u64, BasicNode>,
     log_id: LogId<u64>,
     voter: u64,
-) -> Result<bool, AllocError> {
-    Ok(*state.committed() == one(alloc, Some(log_id), voter)?)
+) -> bool {
+    match one(alloc, Some(log_id), voter) {
+        Ok(wanted) => *state.committed() == wanted,
+        Err(_) => false,
+    }
 }
 
 // Whether the membership of this entry and voter is in force.
@@ -81,8 +86,11 @@ fn has_in_force(
     state: &MembershipState<u64, BasicNode>,
     log_id: LogId<u64>,
     voter: u64,
-) -> Result<bool, AllocError> {
-    Ok(*state.effective() == one(alloc, Some(log_id), voter)?)
+) -> bool {
+    match one(alloc, Some(log_id), voter) {
+        Ok(wanted) => *state.effective() == wanted,
+        Err(_) => false,
+    }
 }
 
 fn is_voter(state: &MembershipState<u64, BasicNode>, node_id: u64) -> bool {
@@ -116,16 +124,16 @@ fn is_turned(state: &MembershipState<u64, BasicNode>) -> bool {
 fn a_membership_is_committed(rt: HostRuntime) -> Result<(), Fail> {
     let alloc = rt.alloc();
     let mut state = two(alloc)?;
-    assert!(rt; has_committed(alloc, &state, id(1, 1, 2), 1)?);
-    assert!(rt; has_in_force(alloc, &state, id(3, 1, 5), 2)?);
+    assert!(rt; has_committed(alloc, &state, id(1, 1, 2), 1));
+    assert!(rt; has_in_force(alloc, &state, id(3, 1, 5), 2));
     assert!(rt; is_voter(&state, 2));
     assert!(rt; !is_voter(&state, 1));
     assert!(rt; waits_behind(&state, id(1, 1, 2)));
-    commit(&mut state, id(3, 1, 4))?;
+    assert!(rt; is_done(commit(&mut state, id(3, 1, 4))));
     assert!(rt; !is_settled(&state));
-    commit(&mut state, id(3, 1, 5))?;
+    assert!(rt; is_done(commit(&mut state, id(3, 1, 5))));
     assert!(rt; is_settled(&state));
-    assert!(rt; has_committed(alloc, &state, id(3, 1, 5), 2)?);
+    assert!(rt; has_committed(alloc, &state, id(3, 1, 5), 2));
     Ok(())
 }
 
@@ -134,10 +142,10 @@ fn a_membership_goes_with_its_entry(rt: HostRuntime) -> Result<(), Fail> {
     let alloc = rt.alloc();
     let mut state = two(alloc)?;
     let copy = copy_of(&state)?;
-    assert!(rt; !truncate(&mut state, 6)?);
-    assert!(rt; truncate(&mut state, 5)?);
-    assert!(rt; has_in_force(alloc, &state, id(1, 1, 2), 1)?);
-    assert!(rt; has_in_force(alloc, &copy, id(3, 1, 5), 2)?);
+    assert!(rt; is_denied(truncate(&mut state, 6)));
+    assert!(rt; holds(truncate(&mut state, 5)));
+    assert!(rt; has_in_force(alloc, &state, id(1, 1, 2), 1));
+    assert!(rt; has_in_force(alloc, &copy, id(3, 1, 5), 2));
     Ok(())
 }
 
@@ -145,12 +153,12 @@ fn a_membership_goes_with_its_entry(rt: HostRuntime) -> Result<(), Fail> {
 fn a_committed_membership_takes_over(rt: HostRuntime) -> Result<(), Fail> {
     let alloc = rt.alloc();
     let mut state = two(alloc)?;
-    assert!(rt; !update_committed(alloc, &mut state, id(2, 1, 4), 3)?);
-    assert!(rt; has_committed(alloc, &state, id(2, 1, 4), 3)?);
-    assert!(rt; has_in_force(alloc, &state, id(3, 1, 5), 2)?);
-    assert!(rt; update_committed(alloc, &mut state, id(4, 1, 5), 4)?);
-    assert!(rt; has_in_force(alloc, &state, id(4, 1, 5), 4)?);
-    assert!(rt; has_committed(alloc, &state, id(4, 1, 5), 4)?);
+    assert!(rt; takes_over(alloc, &mut state, id(2, 1, 4), 3) == Some(false));
+    assert!(rt; has_committed(alloc, &state, id(2, 1, 4), 3));
+    assert!(rt; has_in_force(alloc, &state, id(3, 1, 5), 2));
+    assert!(rt; takes_over(alloc, &mut state, id(4, 1, 5), 4) == Some(true));
+    assert!(rt; has_in_force(alloc, &state, id(4, 1, 5), 4));
+    assert!(rt; has_committed(alloc, &state, id(4, 1, 5), 4));
     Ok(())
 }
 

@@ -3,6 +3,7 @@
 //! Each call stands behind a function without clauses, since a proof that carries the clauses of
 //! several calls takes long.
 
+use crate::answers::{holds, is_denied};
 use raft_state::{
     BasicNode, ChangeMembershipError, EffectiveMembership, IdSet, IntoNodes, LeaderId,
     LearnerNotFound, LogId, Membership, MembershipState, MessageSummary, NodeMap, QuorumSet,
@@ -81,15 +82,15 @@ fn set_is_copied(set: &IdSet<u64>) -> Result<bool, AllocError> {
 fn a_set_keeps_its_ids_in_order(rt: HostRuntime) -> Result<(), Fail> {
     let mut set = ids(rt.alloc(), &[5, 2, 9, 2])?;
     assert!(rt; has_ids(&set, &[2, 5, 9]));
-    assert!(rt; insert_id(&mut set, 3)?);
-    assert!(rt; !insert_id(&mut set, 3)?);
+    assert!(rt; holds(insert_id(&mut set, 3)));
+    assert!(rt; is_denied(insert_id(&mut set, 3)));
     assert!(rt; contains_id(&set, 3));
     assert_eq!(rt; count_ids(&set), 4);
     assert!(rt; !has_no_ids(&set));
     let odd = ids(rt.alloc(), &[3, 5, 7])?;
-    assert!(rt; keeps_ids(&set, &odd, &[3, 5])?);
-    assert!(rt; grows_to(&set, &[4], &[2, 3, 4, 5, 9])?);
-    assert!(rt; set_is_copied(&set)?);
+    assert!(rt; holds(keeps_ids(&set, &odd, &[3, 5])));
+    assert!(rt; holds(grows_to(&set, &[4], &[2, 3, 4, 5, 9])));
+    assert!(rt; holds(set_is_copied(&set)));
     assert!(rt; new_set_is_empty(rt.alloc()));
     Ok(())
 }
@@ -183,14 +184,14 @@ fn a_map_keeps_its_nodes_in_order(rt: HostRuntime) -> Result<(), Fail> {
     assert_eq!(rt; count_nodes(&map), 2);
     assert!(rt; contains_node(&map, 7));
     assert!(rt; !contains_node(&map, 4));
-    assert!(rt; has_nodes(rt.alloc(), &map, &[(3, "d"), (7, "g")])?);
-    assert!(rt; map_is_copied(&map)?);
+    assert!(rt; holds(has_nodes(rt.alloc(), &map, &[(3, "d"), (7, "g")])));
+    assert!(rt; holds(map_is_copied(&map)));
     assert!(rt; has_no_node(&map, 4));
     assert!(rt; has_address(&map, 3, "d"));
-    assert!(rt; has_keys(&map, &[3, 7])?);
-    assert!(rt; takes_more_nodes(rt.alloc(), &map)?);
-    assert!(rt; takes_new_nodes(rt.alloc(), &map)?);
-    assert!(rt; keeps_node_7(rt.alloc(), &map)?);
+    assert!(rt; holds(has_keys(&map, &[3, 7])));
+    assert!(rt; holds(takes_more_nodes(rt.alloc(), &map)));
+    assert!(rt; holds(takes_new_nodes(rt.alloc(), &map)));
+    assert!(rt; holds(keeps_node_7(rt.alloc(), &map)));
     Ok(())
 }
 
@@ -204,6 +205,19 @@ fn told<T: IntoNodes<u64, BasicNode>>(alloc: Global, of: &T) -> Result<(bool, us
     Ok((of.has_nodes(), of.node_ids(alloc)?.len()))
 }
 
+// Whether this is told of them: whether they are nodes, and how many ids there are.
+fn tells<T: IntoNodes<u64, BasicNode>>(
+    alloc: Global,
+    of: &T,
+    want: (bool, usize),
+) -> Result<bool, AllocError> {
+    Ok(told(alloc, of)? == want)
+}
+
+fn gives_none<T: IntoNodes<u64, BasicNode>>(alloc: Global, of: T) -> Result<bool, AllocError> {
+    Ok(given(alloc, of)?.len() == 0)
+}
+
 // The ids of nodes 1 and 2.
 fn both(alloc: Global) -> Result<IdSet<u64>, AllocError> {
     ids(alloc, &[2, 1])
@@ -214,24 +228,28 @@ fn unknown(alloc: Global) -> Result<Nodes, AllocError> {
     nodes(alloc, &[(1, ""), (2, "")])
 }
 
-fn are_unknown<T: IntoNodes<u64, BasicNode>>(alloc: Global, of: T) -> Result<bool, AllocError> {
+// Whether the nodes 1 and 2 are given, of which no more is known.
+fn gives_both<T: IntoNodes<u64, BasicNode>>(alloc: Global, of: T) -> Result<bool, AllocError> {
     Ok(given(alloc, of)? == unknown(alloc)?)
 }
 
 #[test]
 fn nodes_are_given_in_four_ways(rt: HostRuntime) -> Result<(), Fail> {
     let alloc = rt.alloc();
-    assert_eq!(rt; told(alloc, &())?, (false, 0));
-    assert_eq!(rt; told(alloc, &both(alloc)?)?, (false, 2));
-    assert_eq!(rt; told(alloc, &Some(both(alloc)?))?, (false, 2));
-    assert_eq!(rt; told(alloc, &unknown(alloc)?)?, (true, 2));
-    assert_eq!(rt; given(alloc, ())?.len(), 0);
-    assert!(rt; are_unknown(alloc, both(alloc)?)?);
-    assert!(rt; are_unknown(alloc, Some(both(alloc)?))?);
+    assert!(rt; holds(tells(alloc, &(), (false, 0))));
+    assert!(rt; holds(gives_none(alloc, ())));
     let none: Option<IdSet<u64>> = None;
-    assert_eq!(rt; told(alloc, &none)?, (false, 0));
-    assert_eq!(rt; given(alloc, none)?.len(), 0);
-    assert!(rt; are_unknown(alloc, unknown(alloc)?)?);
+    assert!(rt; holds(tells(alloc, &none, (false, 0))));
+    assert!(rt; holds(gives_none(alloc, none)));
+    let set = both(alloc)?;
+    assert!(rt; holds(tells(alloc, &set, (false, 2))));
+    assert!(rt; holds(gives_both(alloc, set)));
+    let some = Some(both(alloc)?);
+    assert!(rt; holds(tells(alloc, &some, (false, 2))));
+    assert!(rt; holds(gives_both(alloc, some)));
+    let nodes = unknown(alloc)?;
+    assert!(rt; holds(tells(alloc, &nodes, (true, 2))));
+    assert!(rt; holds(gives_both(alloc, nodes)));
     Ok(())
 }
 
@@ -290,15 +308,15 @@ fn is_copied(m: &Members) -> Result<bool, AllocError> {
 #[test]
 fn a_new_membership_has_all_voters_as_nodes(rt: HostRuntime) -> Result<(), Fail> {
     let m = two_voters(rt.alloc())?;
-    assert!(rt; is_made_of(rt.alloc(), &m, &[&[1, 2]], &[(1, ""), (2, "b"), (3, "c")])?);
+    assert!(rt; holds(is_made_of(rt.alloc(), &m, &[&[1, 2]], &[(1, ""), (2, "b"), (3, "c")])));
     assert!(rt; !is_joint(&m));
-    assert!(rt; has_voters(&m, &[1, 2])?);
-    assert!(rt; has_learners(&m, &[3])?);
+    assert!(rt; holds(has_voters(&m, &[1, 2])));
+    assert!(rt; holds(has_learners(&m, &[3])));
     assert!(rt; has_so_many(&m, 1, 3));
     assert!(rt; is_voter(&m, 2));
     assert!(rt; has_node(&m, 3));
     assert!(rt; is_valid(&m));
-    assert!(rt; is_copied(&m)?);
+    assert!(rt; holds(is_copied(&m)));
     Ok(())
 }
 
@@ -381,12 +399,12 @@ fn lacks_in_force(of: &Effective, id: u64) -> bool {
     of.get_node(&id).is_none()
 }
 
-fn is_quorum(of: &Effective, set: &IdSet<u64>) -> bool {
-    of.is_quorum(set)
+fn is_quorum(alloc: Global, of: &Effective, set: &[u64]) -> Result<bool, AllocError> {
+    Ok(of.is_quorum(&ids(alloc, set)?))
 }
 
-fn count_members(alloc: Global, of: &Effective) -> Result<usize, AllocError> {
-    Ok(of.ids(alloc)?.len())
+fn has_so_many_ids(alloc: Global, of: &Effective, ids: usize) -> Result<bool, AllocError> {
+    Ok(of.ids(alloc)?.len() == ids)
 }
 
 fn effective_is_copied(of: &Effective) -> Result<bool, AllocError> {
@@ -399,18 +417,18 @@ fn memberships_of_a_log(rt: HostRuntime) -> Result<(), Fail> {
     let m = two_voters_of_three(rt.alloc())?;
     let of_log = stored(log_id, two_voters_of_three(rt.alloc())?);
     assert!(rt; is_stored(&of_log, log_id, &m));
-    assert!(rt; has_counts(&of_log, 2, 3)?);
-    assert!(rt; stored_is_copied(&of_log)?);
-    assert!(rt; stored_is_told(rt.alloc(), &of_log)?);
+    assert!(rt; holds(has_counts(&of_log, 2, 3)));
+    assert!(rt; holds(stored_is_copied(&of_log)));
+    assert!(rt; holds(stored_is_told(rt.alloc(), &of_log)));
     let in_force = effective(two_voters_of_three(rt.alloc())?);
     assert!(rt; is_in_force(&in_force, &m));
-    assert!(rt; has_voters_in_force(&in_force, &[1, 2])?);
+    assert!(rt; holds(has_voters_in_force(&in_force, &[1, 2])));
     assert!(rt; has_in_force(&in_force, 3, 1));
     assert!(rt; votes_in_force(&in_force, 1));
     assert!(rt; lacks_in_force(&in_force, 4));
-    assert!(rt; is_quorum(&in_force, &ids(rt.alloc(), &[1, 2])?));
-    assert_eq!(rt; count_members(rt.alloc(), &in_force)?, 2);
-    assert!(rt; effective_is_copied(&in_force)?);
+    assert!(rt; holds(is_quorum(rt.alloc(), &in_force, &[1, 2])));
+    assert!(rt; holds(has_so_many_ids(rt.alloc(), &in_force, 2)));
+    assert!(rt; holds(effective_is_copied(&in_force)));
     Ok(())
 }
 

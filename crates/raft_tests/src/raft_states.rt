@@ -3,6 +3,7 @@
 //! Each call stands behind a function without clauses, since a proof that carries the clauses of
 //! several calls takes long.
 
+use crate::answers::{holds, is_denied, is_done};
 use crate::ids::id;
 use crate::memberships::membership;
 use raft_state::{
@@ -227,12 +228,12 @@ fn a_state_moves_on(rt: HostRuntime) -> Result<(), Fail> {
     let copy = copy_of(&state)?;
     accept(&mut state, id(3, 1, 5));
     assert_eq!(rt; accepted(&state), Some(id(3, 1, 5)));
-    assert!(rt; !commit(&mut state, id(1, 1, 3))?);
-    assert!(rt; commit(&mut state, id(3, 1, 5))?);
+    assert!(rt; is_denied(commit(&mut state, id(1, 1, 3))));
+    assert!(rt; holds(commit(&mut state, id(3, 1, 5))));
     assert!(rt; state.committed == Some(id(3, 1, 5)));
     assert!(rt; has_settled_members(&state));
     assert!(rt; !has_settled_members(&copy));
-    purge_up_to_3(&mut state)?;
+    assert!(rt; is_done(purge_up_to_3(&mut state)));
     assert_eq!(rt; ends(&state), (Some(id(1, 1, 3)), Some(id(3, 1, 5))));
     let new = extended(rt.alloc())?;
     assert_eq!(rt; ends(&new), (None, Some(id(2, 1, 1))));
@@ -248,10 +249,9 @@ fn a_state_out_of_order_is_told(rt: HostRuntime) -> Result<(), Fail> {
     assert!(rt; is_valid(&wrong));
     wrong.purged_next = 2;
     assert!(rt; has_fault(&wrong, Invalid::FirstLogId));
-    let mut wrong = state(rt.alloc())?;
+    wrong.purged_next = 3;
     wrong.purge_upto = None;
     assert!(rt; has_fault(&wrong, Invalid::PurgedPastGoal));
-    let mut wrong = state(rt.alloc())?;
     wrong.purge_upto = Some(id(1, 1, 4));
     assert!(rt; has_fault(&wrong, Invalid::PurgePastSnapshot));
     wrong.snapshot_meta.last_log_id = None;
@@ -261,7 +261,6 @@ fn a_state_out_of_order_is_told(rt: HostRuntime) -> Result<(), Fail> {
     let mut wrong = state(rt.alloc())?;
     wrong.committed = Some(id(1, 1, 2));
     assert!(rt; has_fault(&wrong, Invalid::SnapshotPastCommitted));
-    let mut wrong = state(rt.alloc())?;
     wrong.committed = Some(id(4, 1, 6));
     assert!(rt; has_fault(&wrong, Invalid::CommittedPastLog));
     Ok(())

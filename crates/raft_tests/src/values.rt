@@ -3,7 +3,7 @@
 //! Each call stands behind a function without clauses, since a proof that carries the clauses of
 //! several calls takes long.
 
-use crate::texts::reads;
+use crate::answers::{holds, reads};
 use raft_state::{
     BasicNode, EmptyNode, Entry, EntryPayload, FromAppData, IdSet, LeaderId, LogId, Membership,
     MessageSummary, NodeEssential, RaftEntry, RaftLogId, RaftPayload, ServerState, Vote,
@@ -92,10 +92,10 @@ fn nodes_without_a_description(rt: HostRuntime) -> Result<(), Fail> {
     let node = node(rt.alloc(), "a:1")?;
     assert!(rt; are_equal(&copy_of(&node)?, &node));
     assert!(rt; !are_equal(&node, &unknown));
-    assert!(rt; reads(rt.alloc(), &node, "a:1")?);
+    assert!(rt; reads(rt.alloc(), &node, "a:1"));
     assert!(rt; empty_is_default(rt.alloc()));
     assert_eq!(rt; default_id::<u64>(), 0);
-    assert!(rt; reads(rt.alloc(), &EmptyNode::new(), "EmptyNode")?);
+    assert!(rt; reads(rt.alloc(), &EmptyNode::new(), "EmptyNode"));
     Ok(())
 }
 
@@ -143,10 +143,10 @@ fn entries_by_their_traits(rt: HostRuntime) -> Result<(), Fail> {
     let mut entry: NumberEntry = blank(4);
     assert_eq!(rt; asks(&entry), (true, false));
     assert_eq!(rt; moved(&mut entry, 6), 6);
-    assert!(rt; reads(rt.alloc(), &entry, "T8-N1-6:blank")?);
+    assert!(rt; reads(rt.alloc(), &entry, "T8-N1-6:blank"));
     let asking = asking(entry.log_id, one_voter(rt.alloc())?);
     assert_eq!(rt; asks(&asking), (false, true));
-    assert!(rt; entry_is_copied(&asking)?);
+    assert!(rt; holds(entry_is_copied(&asking)));
     let adding: NumberEntry = command(5);
     assert!(rt; asks_for(&adding, 5, 0));
     Ok(())

@@ -3,8 +3,8 @@
 //! Each call stands behind a function without clauses, since a proof that carries the clauses of
 //! several calls takes long.
 
+use crate::answers::reads;
 use crate::ids::id;
-use crate::texts::reads;
 use raft_state::{Accepted, IOState, LeaderId, LogIOId, LogId, UTime, Vote};
 use std::test::Fail;
 
@@ -30,12 +30,12 @@ fn inner(value: UTime<u64, u64>) -> u64 {
 fn values_know_when_they_changed(rt: HostRuntime) -> Result<(), Fail> {
     let mut value: UTime<u64, u64> = UTime::without_utime(3);
     assert!(rt; is_of(&value, 3, None));
-    assert!(rt; reads(rt.alloc(), &value, "3")?);
+    assert!(rt; reads(rt.alloc(), &value, "3"));
     touch(&mut value, 10);
     assert!(rt; is_of(&value, 3, Some(10)));
     update(&mut value, 20, 4);
     assert!(rt; is_of(&value, 4, Some(20)));
-    assert!(rt; reads(rt.alloc(), &value, "4@20")?);
+    assert!(rt; reads(rt.alloc(), &value, "4@20"));
     assert_eq!(rt; inner(value), 4);
     assert!(rt; is_of(&UTime::new(5, 6), 6, Some(5)));
     Ok(())
@@ -98,7 +98,7 @@ fn purged(state: &IOState<u64>) -> Option<LogId<u64>> {
 
 #[test]
 fn what_is_written_is_noted(rt: HostRuntime) -> Result<(), Fail> {
-    assert!(rt; reads(rt.alloc(), &flushed(), "by:T7-N2, T7-N2-4")?);
+    assert!(rt; reads(rt.alloc(), &flushed(), "by:T7-N2, T7-N2-4"));
     let mut state = written();
     assert!(rt; !builds(&state));
     begin_building(&mut state);
