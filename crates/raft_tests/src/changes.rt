@@ -3,6 +3,7 @@
 //! Each call stands behind a function without clauses, since a proof that carries the clauses of
 //! several calls takes long.
 
+use crate::answers::holds;
 use crate::memberships::{ids, is_made_of, membership, nodes};
 use raft_state::{
     BasicNode, ChangeMembers, ChangeMembershipError, EmptyMembership, IdSet, LearnerNotFound,
@@ -97,26 +98,42 @@ fn nobody() -> Option<Refusal> {
     Some(ChangeMembershipError::EmptyMembership(EmptyMembership {}))
 }
 
-// Why the voter can't be added by its id, and why not with its node.
-fn refusals_of_adding(
+// Whether the voter is refused so by its id, and so with its node.
+fn is_refused(
     rt: &impl Abort,
     alloc: Global,
     m: &Members,
     id: u64,
-) -> Result<(Option<Refusal>, Option<Refusal>), AllocError> {
+    wants: (Option<Refusal>, Option<Refusal>),
+) -> Result<bool, AllocError> {
     let by_id = refusal(rt, m, add_ids(alloc, &[id])?, true);
     let with_node = refusal(rt, m, add_voters(alloc, &[(id, "new")])?, true);
-    Ok((by_id, with_node))
+    Ok(by_id == wants.0 && with_node == wants.1)
 }
 
-// Why the voters can't go, if so.
-fn refusal_of_going(
+// Whether the voters who would go are refused so.
+fn may_not_go(
     rt: &impl Abort,
     alloc: Global,
     m: &Members,
     leavers: &[u64],
-) -> Result<Option<Refusal>, AllocError> {
-    Ok(refusal(rt, m, remove_voters(alloc, leavers)?, true))
+    want: Option<Refusal>,
+) -> Result<bool, AllocError> {
+    Ok(refusal(rt, m, remove_voters(alloc, leavers)?, true) == want)
+}
+
+// Whether the change is refused so, where there was memory to make it.
+fn is_told(
+    rt: &impl Abort,
+    m: &Members,
+    change: Result<Change, AllocError>,
+    retain: bool,
+    want: Option<Refusal>,
+) -> bool {
+    match change {
+        Ok(change) => refusal(rt, m, change, retain) == want,
+        Err(_) => false,
+    }
 }
 
 // ---- rows
@@ -126,15 +143,15 @@ fn voters_who_come_are_refused(rt: HostRuntime) -> Result<(), Fail> {
     let alloc = rt.alloc();
     let empty_last = of_two_nodes(alloc, [[1].as_slice(), [].as_slice()].as_slice())?;
     for (id, want) in [(1, None), (2, nobody())] {
-        assert!(rt; refusals_of_adding(&rt, alloc, &empty_last, id)? == (want, want));
+        assert!(rt; holds(is_refused(&rt, alloc, &empty_last, id, (want, want))));
     }
     let lost = of_two_nodes(alloc, [[1, 5].as_slice()].as_slice())?;
     for (id, want) in [(2, 5), (4, 4), (9, 5)] {
-        let refusals = refusals_of_adding(&rt, alloc, &lost, id)?;
-        assert!(rt; refusals == (missing(want), missing(5)));
+        let wants = (missing(want), missing(5));
+        assert!(rt; holds(is_refused(&rt, alloc, &lost, id, wants)));
     }
-    let found = add_voters(alloc, &[(5, "new")])?;
-    assert_eq!(rt; refusal(&rt, &lost, found, true), None);
+    let found = add_voters(alloc, &[(5, "new")]);
+    assert!(rt; is_told(&rt, &lost, found, true, None));
     Ok(())
 }
 
@@ -150,35 +167,34 @@ fn voters_who_go_are_refused(rt: HostRuntime) -> Result<(), Fail> {
         ([7].as_slice(), missing(5), missing(5)),
     ];
     for (leavers, want, want_in_joint) in rows {
-        assert_eq!(rt; refusal_of_going(&rt, alloc, &lost, leavers)?, want);
-        assert_eq!(rt;
-            refusal_of_going(&rt, alloc, &joint, leavers)?,
-            want_in_joint
-        );
+        assert!(rt; holds(may_not_go(&rt, alloc, &lost, leavers, want)));
+        assert!(rt; holds(may_not_go(&rt, alloc, &joint, leavers, want_in_joint)));
     }
     Ok(())
+}
+
+fn remove_nodes(alloc: Global, of: &[u64]) -> Result<Change, AllocError> {
+    Ok(ChangeMembers::RemoveNodes(ids(alloc, of)?))
 }
 
 #[test]
 fn a_voter_that_leaves_the_nodes_is_missed(rt: HostRuntime) -> Result<(), Fail> {
     let alloc = rt.alloc();
     let m = two_of_three(alloc)?;
-    let go = ChangeMembers::RemoveNodes(ids(alloc, &[2])?);
-    assert_eq!(rt; refusal(&rt, &m, go, false), missing(2));
-    let empty = replace_voters(alloc, &[])?;
-    assert_eq!(rt; refusal(&rt, &m, empty, false), nobody());
+    assert!(rt; is_told(&rt, &m, remove_nodes(alloc, &[2]), false, missing(2)));
+    assert!(rt; is_told(&rt, &m, replace_voters(alloc, &[]), false, nobody()));
     Ok(())
 }
 
 // Whether the change of the voters 1 and 2 of three nodes leaves them, with these nodes.
-fn leaves_nodes(
-    rt: &impl Abort,
-    alloc: Global,
-    change: Change,
-    of: &[(u64, &str)],
-) -> Result<bool, Fail> {
-    let next = tried(rt, &two_of_three(alloc)?, change, false)?;
-    Ok(is_made_of(alloc, &next, [[1, 2].as_slice()].as_slice(), of)?)
+fn leaves_nodes(rt: &impl Abort, alloc: Global, change: Change, of: &[(u64, &str)]) -> bool {
+    let Ok(before) = two_of_three(alloc) else {
+        return false;
+    };
+    match tried(rt, &before, change, false) {
+        Ok(next) => holds(is_made_of(alloc, &next, [[1, 2].as_slice()].as_slice(), of)),
+        Err(_) => false,
+    }
 }
 
 #[test]
@@ -187,14 +203,21 @@ fn nodes_are_set(rt: HostRuntime) -> Result<(), Fail> {
     let more = [(3, "30"), (4, "40")].as_slice();
     let set = ChangeMembers::SetNodes(nodes(alloc, more)?);
     let wanted = [(1, "1"), (2, "2"), (3, "30"), (4, "40")];
-    assert!(rt; leaves_nodes(&rt, alloc, set, wanted.as_slice())?);
+    assert!(rt; leaves_nodes(&rt, alloc, set, wanted.as_slice()));
     let add = ChangeMembers::AddNodes(nodes(alloc, more)?);
     let wanted = [(1, "1"), (2, "2"), (3, "3"), (4, "40")];
-    assert!(rt; leaves_nodes(&rt, alloc, add, wanted.as_slice())?);
+    assert!(rt; leaves_nodes(&rt, alloc, add, wanted.as_slice()));
     let wanted = [(1, "10"), (2, "20")].as_slice();
     let all = ChangeMembers::ReplaceAllNodes(nodes(alloc, wanted)?);
-    assert!(rt; leaves_nodes(&rt, alloc, all, wanted)?);
+    assert!(rt; leaves_nodes(&rt, alloc, all, wanted));
     Ok(())
+}
+
+// The five nodes with the voters 1 to 3 and 3 to 5, on the way from the first to the others.
+fn on_the_way(rt: &impl Abort, alloc: Global) -> Result<Members, Fail> {
+    let m = five(alloc, [[1, 2, 3].as_slice()].as_slice())?;
+    let change = change_to(alloc, &[3, 4, 5])?;
+    Ok(tried(rt, &m, change, false)?)
 }
 
 fn is_five(alloc: Global, m: &Members, configs: &[&[u64]]) -> Result<bool, AllocError> {
@@ -204,44 +227,49 @@ fn is_five(alloc: Global, m: &Members, configs: &[&[u64]]) -> Result<bool, Alloc
 #[test]
 fn voters_are_replaced_in_two_steps(rt: HostRuntime) -> Result<(), Fail> {
     let alloc = rt.alloc();
-    let m = five(alloc, [[1, 2, 3].as_slice()].as_slice())?;
-    let joint = tried(&rt, &m, change_to(alloc, &[3, 4, 5])?, false)?;
+    let joint = on_the_way(&rt, alloc)?;
     let both = [[1, 2, 3].as_slice(), [3, 4, 5].as_slice()];
-    assert!(rt; is_five(alloc, &joint, both.as_slice())?);
-    let done = tried(&rt, &joint, replace_voters(alloc, &[3, 4, 5])?, false)?;
-    let goal = [[3, 4, 5].as_slice()];
+    assert!(rt; holds(is_five(alloc, &joint, both.as_slice())));
+    let goal = replace_voters(alloc, &[3, 4, 5])?;
+    let done = tried(&rt, &joint, goal, false)?;
+    let groups = [[3, 4, 5].as_slice()];
     let wanted = [(3, "3"), (4, "4"), (5, "5")];
-    assert!(rt; is_made_of(alloc, &done, goal.as_slice(), wanted.as_slice())?);
+    assert!(rt; holds(is_made_of(alloc, &done, groups.as_slice(), wanted.as_slice())));
     Ok(())
+}
+
+// The five nodes, once the voters 1 and 2 have changed so.
+fn changed(
+    rt: &impl Abort,
+    alloc: Global,
+    change: Result<Change, AllocError>,
+) -> Result<Members, Fail> {
+    let change = change?;
+    let m = five(alloc, [[1, 2].as_slice()].as_slice())?;
+    Ok(tried(rt, &m, change, true)?)
 }
 
 #[test]
 fn voters_come_and_go(rt: HostRuntime) -> Result<(), Fail> {
     let alloc = rt.alloc();
+    come_and_go(&rt, alloc)?;
     let m = five(alloc, [[1, 2].as_slice()].as_slice())?;
-    let more = tried(&rt, &m, add_ids(alloc, &[5])?, true)?;
-    assert!(rt;
-        is_five(
-            alloc,
-            &more,
-            [[1, 2].as_slice(), [1, 2, 5].as_slice()].as_slice()
-        )?
-    );
-    let fewer = tried(&rt, &m, remove_voters(alloc, &[2])?, true)?;
-    assert!(rt;
-        is_five(
-            alloc,
-            &fewer,
-            [[1, 2].as_slice(), [1].as_slice()].as_slice()
-        )?
-    );
-    let strange = add_ids(alloc, &[8, 9])?;
-    assert_eq!(rt; refusal(&rt, &m, strange, true), missing(8));
-    let with_nodes = add_voters(alloc, &[(1, "x"), (6, "6")])?;
-    let wider = tried(&rt, &m, with_nodes, true)?;
+    assert!(rt; is_told(&rt, &m, add_ids(alloc, &[8, 9]), true, missing(8)));
+    let with_nodes = add_voters(alloc, &[(1, "x"), (6, "6")]);
+    let wider = changed(&rt, alloc, with_nodes)?;
     let wanted = [(1, "1"), (2, "2"), (3, "3"), (4, "4"), (5, "5"), (6, "6")];
     let configs = [[1, 2].as_slice(), [1, 2, 6].as_slice()];
-    assert!(rt; is_made_of(alloc, &wider, configs.as_slice(), wanted.as_slice())?);
+    assert!(rt; holds(is_made_of(alloc, &wider, configs.as_slice(), wanted.as_slice())));
+    Ok(())
+}
+
+fn come_and_go(rt: &impl Abort, alloc: Global) -> Result<(), Fail> {
+    let more = changed(rt, alloc, add_ids(alloc, &[5]))?;
+    let configs = [[1, 2].as_slice(), [1, 2, 5].as_slice()];
+    assert!(rt; holds(is_five(alloc, &more, configs.as_slice())));
+    let fewer = changed(rt, alloc, remove_voters(alloc, &[2]))?;
+    let configs = [[1, 2].as_slice(), [1].as_slice()];
+    assert!(rt; holds(is_five(alloc, &fewer, configs.as_slice())));
     Ok(())
 }
 

@@ -24,11 +24,24 @@ fn one(
     Ok(EffectiveMembership::new(log_id, members))
 }
 
+fn new_state(alloc: Global) -> MembershipState<u64, BasicNode> {
+    MembershipState::default(alloc)
+}
+
+fn append(
+    state: &mut MembershipState<u64, BasicNode>,
+    members: EffectiveMembership<u64, BasicNode>,
+) {
+    state.append(members);
+}
+
 // The first membership, committed, and another one in force.
 fn two(alloc: Global) -> Result<MembershipState<u64, BasicNode>, AllocError> {
-    let mut state = MembershipState::default(alloc);
-    state.append(one(alloc, Some(id(1, 1, 2)), 1)?);
-    state.append(one(alloc, Some(id(3, 1, 5)), 2)?);
+    let first = one(alloc, Some(id(1, 1, 2)), 1)?;
+    let second = one(alloc, Some(id(3, 1, 5)), 2)?;
+    let mut state = new_state(alloc);
+    append(&mut state, first);
+    append(&mut state, second);
     Ok(state)
 }
 

@@ -50,14 +50,16 @@ fn append(state: &mut State, members: EffectiveMembership<u64, BasicNode>) {
 
 // Purged up to 2, a snapshot up to 3, committed up to 4, and a log up to 5.
 fn state(alloc: Global) -> Result<State, AllocError> {
+    let members = node_1(alloc)?;
+    let log_ids = log_ids(alloc)?;
     let mut state = new_state(alloc);
     state.vote = UTime::new(7, Vote::new_committed(3, 1));
-    state.log_ids = log_ids(alloc)?;
+    state.log_ids = log_ids;
     state.purged_next = 3;
     state.purge_upto = Some(id(1, 1, 2));
     state.snapshot_meta = snapshot_up_to_3(alloc);
     state.committed = Some(id(1, 1, 4));
-    append(&mut state, node_1(alloc)?);
+    append(&mut state, members);
     Ok(state)
 }
 
