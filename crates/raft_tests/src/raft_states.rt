@@ -184,23 +184,40 @@ fn has_fault(state: &State, fault: Invalid) -> bool {
 
 // ---- rows
 
+// Whether each reader of `state` tells what was put there.
+fn is_read(state: &State) -> bool {
+    if log_id_at(state, 4) != Some(id(1, 1, 4)) || log_id_at(state, 6).is_some() {
+        return false;
+    }
+    if ends(state) != (Some(id(1, 1, 2)), Some(id(3, 1, 5))) {
+        return false;
+    }
+    voted(state) == Vote::new_committed(3, 1) && voted_at(state) == Some(7)
+}
+
+// Whether its log ids are those of its keys.
+fn has_its_log_ids(state: &State) -> bool {
+    log_id_before(state, 5) == Some(id(1, 1, 4))
+        && log_id_before(state, 0).is_none()
+        && has(state, id(3, 1, 5))
+        && !has(state, id(2, 1, 5))
+        && has(state, id(1, 1, 0))
+}
+
+// Whether its marks are those that were set.
+fn has_its_marks(state: &State) -> bool {
+    snapshot_last(state) == Some(id(1, 1, 3))
+        && committed(state) == Some(id(1, 1, 4))
+        && purge_upto(state) == Some(id(1, 1, 2))
+        && has_written_nothing(state)
+}
+
 #[test]
 fn a_state_is_read(rt: HostRuntime) -> Result<(), Fail> {
     let state = state(rt.alloc())?;
-    assert_eq!(rt; log_id_at(&state, 4), Some(id(1, 1, 4)));
-    assert_eq!(rt; log_id_at(&state, 6), None);
-    assert_eq!(rt; ends(&state), (Some(id(1, 1, 2)), Some(id(3, 1, 5))));
-    assert!(rt; voted(&state) == Vote::new_committed(3, 1));
-    assert_eq!(rt; voted_at(&state), Some(7));
-    assert_eq!(rt; log_id_before(&state, 5), Some(id(1, 1, 4)));
-    assert_eq!(rt; log_id_before(&state, 0), None);
-    assert!(rt; has(&state, id(3, 1, 5)));
-    assert!(rt; !has(&state, id(2, 1, 5)));
-    assert!(rt; has(&state, id(1, 1, 0)));
-    assert_eq!(rt; snapshot_last(&state), Some(id(1, 1, 3)));
-    assert_eq!(rt; committed(&state), Some(id(1, 1, 4)));
-    assert_eq!(rt; purge_upto(&state), Some(id(1, 1, 2)));
-    assert!(rt; has_written_nothing(&state));
+    assert!(rt; is_read(&state));
+    assert!(rt; has_its_log_ids(&state));
+    assert!(rt; has_its_marks(&state));
     Ok(())
 }
 
