@@ -1,9 +1,6 @@
 //! What a node knows of its group.
-//!
-//! Each call stands behind a function without clauses, since a proof that carries the clauses of
-//! several calls takes long.
 
-use crate::answers::{holds, is_denied, is_done};
+use crate::answers::{holds, is_done};
 use crate::ids::id;
 use crate::memberships::membership;
 use raft_state::{
@@ -63,39 +60,12 @@ fn state(alloc: Global) -> Result<State, AllocError> {
     Ok(state)
 }
 
-// A log of entries of two leaders.
-fn extended(alloc: Global) -> Result<State, AllocError> {
-    let mut state: State = RaftState::default(alloc);
-    state.extend_log_ids(&[id(1, 1, 0), id(2, 1, 1)])?;
-    Ok(state)
-}
-
-fn extended_from_same_leader(alloc: Global) -> Result<State, AllocError> {
-    let mut state: State = RaftState::default(alloc);
-    state.extend_log_ids_from_same_leader(&[id(1, 1, 0), id(1, 1, 1)])?;
-    Ok(state)
-}
-
 fn copy_of(state: &State) -> Result<State, AllocError> {
     state.clone()
 }
 
-// ---- calls
-
-fn votes(state: &mut State, vote: Vote<u64>) {
-    state.vote = UTime::without_utime(vote);
-}
-
-fn accept(state: &mut State, log_id: LogId<u64>) {
-    state.update_accepted(Some(log_id));
-}
-
 fn commit(state: &mut State, log_id: LogId<u64>) -> Result<bool, AllocError> {
     state.update_committed(&Some(log_id))
-}
-
-fn purge_up_to_3(state: &mut State) -> Result<(), AllocError> {
-    state.purge_log(&id(1, 1, 3))
 }
 
 // ---- what is seen of it
@@ -221,66 +191,146 @@ fn a_state_is_read(rt: HostRuntime) -> Result<(), Fail> {
     Ok(())
 }
 
+// Whether node 1 leads by the vote, and node 2 learns.
+fn is_led_by_node_1(state: &State) -> bool {
+    if !is_voter(state, 1) || !is_leading(state, 1) || is_leader(state, 2) {
+        return false;
+    }
+    is_leader(state, 1)
+        && plays(state, 1, ServerState::Leader)
+        && plays(state, 2, ServerState::Learner)
+}
+
+// Whether node 1 plays the part once `state` has this vote.
+fn plays_by(state: &mut State, vote: Vote<u64>, part: ServerState) -> bool {
+    state.vote = UTime::without_utime(vote);
+    plays(state, 1, part)
+}
+
+// Whether node 1 leads no more by later votes, of a state that is initialized.
+fn leads_no_more(state: &mut State) -> bool {
+    plays_by(state, Vote::new(4, 1), ServerState::Candidate)
+        && plays_by(state, Vote::new(4, 2), ServerState::Follower)
+        && is_initialized(state)
+}
+
+// Whether a new state is valid and not initialized.
+fn starts_anew(alloc: Global) -> bool {
+    let state = new_state(alloc);
+    !is_initialized(&state) && is_valid(&state)
+}
+
 #[test]
 fn who_leads_by_the_vote(rt: HostRuntime) -> Result<(), Fail> {
     let mut state = state(rt.alloc())?;
-    assert!(rt; is_voter(&state, 1));
-    assert!(rt; is_leading(&state, 1));
-    assert!(rt; is_leader(&state, 1));
-    assert!(rt; !is_leader(&state, 2));
-    assert!(rt; plays(&state, 1, ServerState::Leader));
-    assert!(rt; plays(&state, 2, ServerState::Learner));
-    votes(&mut state, Vote::new(4, 1));
-    assert!(rt; plays(&state, 1, ServerState::Candidate));
-    votes(&mut state, Vote::new(4, 2));
-    assert!(rt; plays(&state, 1, ServerState::Follower));
-    assert!(rt; is_initialized(&state));
-    let new = new_state(rt.alloc());
-    assert!(rt; !is_initialized(&new));
-    assert!(rt; is_valid(&new));
+    assert!(rt; is_led_by_node_1(&state));
+    assert!(rt; leads_no_more(&mut state));
+    assert!(rt; starts_anew(rt.alloc()));
     Ok(())
+}
+
+// Whether the last log id is taken as accepted.
+fn accepts_the_last(state: &mut State) -> bool {
+    state.update_accepted(Some(id(3, 1, 5)));
+    accepted(state) == Some(id(3, 1, 5))
+}
+
+// Whether what is committed goes on to the last log id, and never back.
+fn commits_the_last(state: &mut State) -> Result<bool, AllocError> {
+    if commit(state, id(1, 1, 3))? || !commit(state, id(3, 1, 5))? {
+        return Ok(false);
+    }
+    Ok(state.committed == Some(id(3, 1, 5)))
+}
+
+// Whether the log goes on from 4 once it is purged up to 3.
+fn is_purged_up_to_3(state: &mut State) -> Result<bool, AllocError> {
+    state.purge_log(&id(1, 1, 3))?;
+    Ok(ends(state) == (Some(id(1, 1, 3)), Some(id(3, 1, 5))))
+}
+
+// Whether `state` moves on and the copy doesn't.
+fn moves_on(state: &mut State, copy: &State) -> Result<bool, AllocError> {
+    if !accepts_the_last(state) || !commits_the_last(state)? {
+        return Ok(false);
+    }
+    if !has_settled_members(state) || has_settled_members(copy) {
+        return Ok(false);
+    }
+    is_purged_up_to_3(state)
+}
+
+// Whether a log of entries of two leaders ends with the last of them.
+fn is_extended(alloc: Global) -> bool {
+    let mut state: State = RaftState::default(alloc);
+    is_done(state.extend_log_ids(&[id(1, 1, 0), id(2, 1, 1)])) && ends_with(&state, id(2, 1, 1))
+}
+
+fn is_extended_from_same_leader(alloc: Global) -> bool {
+    let mut state: State = RaftState::default(alloc);
+    is_done(state.extend_log_ids_from_same_leader(&[id(1, 1, 0), id(1, 1, 1)]))
+        && ends_with(&state, id(1, 1, 1))
+}
+
+// Whether nothing is purged and the log ends so.
+fn ends_with(state: &State, last: LogId<u64>) -> bool {
+    ends(state) == (None, Some(last))
 }
 
 #[test]
 fn a_state_moves_on(rt: HostRuntime) -> Result<(), Fail> {
     let mut state = state(rt.alloc())?;
     let copy = copy_of(&state)?;
-    accept(&mut state, id(3, 1, 5));
-    assert_eq!(rt; accepted(&state), Some(id(3, 1, 5)));
-    assert!(rt; is_denied(commit(&mut state, id(1, 1, 3))));
-    assert!(rt; holds(commit(&mut state, id(3, 1, 5))));
-    assert!(rt; state.committed == Some(id(3, 1, 5)));
-    assert!(rt; has_settled_members(&state));
-    assert!(rt; !has_settled_members(&copy));
-    assert!(rt; is_done(purge_up_to_3(&mut state)));
-    assert_eq!(rt; ends(&state), (Some(id(1, 1, 3)), Some(id(3, 1, 5))));
-    let new = extended(rt.alloc())?;
-    assert_eq!(rt; ends(&new), (None, Some(id(2, 1, 1))));
-    let new = extended_from_same_leader(rt.alloc())?;
-    assert_eq!(rt; ends(&new), (None, Some(id(1, 1, 1))));
+    assert!(rt; holds(moves_on(&mut state, &copy)));
+    assert!(rt; is_extended(rt.alloc()));
+    assert!(rt; is_extended_from_same_leader(rt.alloc()));
     Ok(())
 }
 
-// Each fault of a state.
+// Whether each fault of what is purged is told.
+fn tells_of_purges(state: &mut State) -> bool {
+    state.purged_next = 2;
+    if !has_fault(state, Invalid::FirstLogId) {
+        return false;
+    }
+    state.purged_next = 3;
+    state.purge_upto = None;
+    has_fault(state, Invalid::PurgedPastGoal)
+}
+
+// Whether each fault of what is to be purged is told.
+fn tells_of_goals(state: &mut State) -> bool {
+    state.purge_upto = Some(id(1, 1, 4));
+    if !has_fault(state, Invalid::PurgePastSnapshot) {
+        return false;
+    }
+    state.snapshot_meta.last_log_id = None;
+    if !is_valid(state) {
+        return false;
+    }
+    state.purge_upto = Some(id(3, 1, 5));
+    has_fault(state, Invalid::PurgePastCommitted)
+}
+
+// Whether each fault of what is committed is told.
+fn tells_of_commits(state: &mut State) -> bool {
+    state.committed = Some(id(1, 1, 2));
+    if !has_fault(state, Invalid::SnapshotPastCommitted) {
+        return false;
+    }
+    state.committed = Some(id(4, 1, 6));
+    has_fault(state, Invalid::CommittedPastLog)
+}
+
+// Whether each fault of a state is told. It ends with what is committed.
+fn tells_of_faults(state: &mut State, again: &mut State) -> bool {
+    is_valid(state) && tells_of_purges(state) && tells_of_goals(state) && tells_of_commits(again)
+}
+
 #[test]
 fn a_state_out_of_order_is_told(rt: HostRuntime) -> Result<(), Fail> {
     let mut wrong = state(rt.alloc())?;
-    assert!(rt; is_valid(&wrong));
-    wrong.purged_next = 2;
-    assert!(rt; has_fault(&wrong, Invalid::FirstLogId));
-    wrong.purged_next = 3;
-    wrong.purge_upto = None;
-    assert!(rt; has_fault(&wrong, Invalid::PurgedPastGoal));
-    wrong.purge_upto = Some(id(1, 1, 4));
-    assert!(rt; has_fault(&wrong, Invalid::PurgePastSnapshot));
-    wrong.snapshot_meta.last_log_id = None;
-    assert!(rt; is_valid(&wrong));
-    wrong.purge_upto = Some(id(3, 1, 5));
-    assert!(rt; has_fault(&wrong, Invalid::PurgePastCommitted));
-    let mut wrong = state(rt.alloc())?;
-    wrong.committed = Some(id(1, 1, 2));
-    assert!(rt; has_fault(&wrong, Invalid::SnapshotPastCommitted));
-    wrong.committed = Some(id(4, 1, 6));
-    assert!(rt; has_fault(&wrong, Invalid::CommittedPastLog));
+    let mut again = state(rt.alloc())?;
+    assert!(rt; tells_of_faults(&mut wrong, &mut again));
     Ok(())
 }
