@@ -1,9 +1,6 @@
 //! Sets, maps and memberships.
-//!
-//! Each call stands behind a function without clauses, since a proof that carries the clauses of
-//! several calls takes long.
 
-use crate::answers::{holds, is_denied};
+use crate::answers::holds;
 use raft_state::{
     BasicNode, ChangeMembershipError, EffectiveMembership, IdSet, IntoNodes, LeaderId,
     LearnerNotFound, LogId, Membership, MembershipState, MessageSummary, NodeMap, QuorumSet,
@@ -41,24 +38,16 @@ pub fn membership(
 
 // ---- sets
 
-fn insert_id(set: &mut IdSet<u64>, id: u64) -> Result<bool, AllocError> {
-    set.insert(id)
-}
-
 fn has_ids(set: &IdSet<u64>, of: &[u64]) -> bool {
     set.as_slice() == of
 }
 
-fn contains_id(set: &IdSet<u64>, id: u64) -> bool {
-    set.contains(&id)
-}
-
-fn count_ids(set: &IdSet<u64>) -> usize {
-    set.len()
-}
-
-fn has_no_ids(set: &IdSet<u64>) -> bool {
-    set.is_empty()
+// Whether 3 is put in once, as the fourth id.
+fn takes_3_once(set: &mut IdSet<u64>) -> Result<bool, AllocError> {
+    if !set.insert(3)? || set.insert(3)? {
+        return Ok(false);
+    }
+    Ok(set.contains(&3) && set.len() == 4 && !set.is_empty())
 }
 
 fn new_set_is_empty(alloc: Global) -> bool {
@@ -78,19 +67,24 @@ fn set_is_copied(set: &IdSet<u64>) -> Result<bool, AllocError> {
     Ok(set.clone()? == *set)
 }
 
+fn keeps_odd_ids(alloc: Global, set: &IdSet<u64>) -> Result<bool, AllocError> {
+    let odd = ids(alloc, &[3, 5, 7])?;
+    keeps_ids(set, &odd, &[3, 5])
+}
+
+// Whether the set of 2, 3, 5 and 9 gives these others.
+fn gives_other_sets(alloc: Global, set: &IdSet<u64>) -> bool {
+    holds(keeps_odd_ids(alloc, set))
+        && holds(grows_to(set, &[4], &[2, 3, 4, 5, 9]))
+        && holds(set_is_copied(set))
+}
+
 #[test]
 fn a_set_keeps_its_ids_in_order(rt: HostRuntime) -> Result<(), Fail> {
     let mut set = ids(rt.alloc(), &[5, 2, 9, 2])?;
     assert!(rt; has_ids(&set, &[2, 5, 9]));
-    assert!(rt; holds(insert_id(&mut set, 3)));
-    assert!(rt; is_denied(insert_id(&mut set, 3)));
-    assert!(rt; contains_id(&set, 3));
-    assert_eq!(rt; count_ids(&set), 4);
-    assert!(rt; !has_no_ids(&set));
-    let odd = ids(rt.alloc(), &[3, 5, 7])?;
-    assert!(rt; holds(keeps_ids(&set, &odd, &[3, 5])));
-    assert!(rt; holds(grows_to(&set, &[4], &[2, 3, 4, 5, 9])));
-    assert!(rt; holds(set_is_copied(&set)));
+    assert!(rt; holds(takes_3_once(&mut set)));
+    assert!(rt; gives_other_sets(rt.alloc(), &set));
     assert!(rt; new_set_is_empty(rt.alloc()));
     Ok(())
 }
@@ -107,24 +101,12 @@ fn insert_new_node(alloc: Global, map: &mut Nodes, id: u64, addr: &str) -> Resul
     map.insert_new(id, BasicNode::new(alloc, addr)?)
 }
 
-fn count_nodes(map: &Nodes) -> usize {
-    map.len()
-}
-
-fn contains_node(map: &Nodes, id: u64) -> bool {
-    map.contains(&id)
-}
-
 fn has_nodes(alloc: Global, map: &Nodes, of: &[(u64, &str)]) -> Result<bool, AllocError> {
     Ok(*map == nodes(alloc, of)?)
 }
 
 fn map_is_copied(map: &Nodes) -> Result<bool, AllocError> {
     Ok(map.clone()? == *map)
-}
-
-fn has_no_node(map: &Nodes, id: u64) -> bool {
-    map.get(&id).is_none()
 }
 
 fn has_address(map: &Nodes, id: u64, addr: &str) -> bool {
@@ -178,20 +160,33 @@ fn keeps_node_7(alloc: Global, map: &Nodes) -> Result<bool, AllocError> {
     has_nodes(alloc, &kept, &[(7, "g")])
 }
 
+// Whether the map has the nodes 3 and 7.
+fn has_3_and_7(map: &Nodes) -> bool {
+    map.len() == 2
+        && map.contains(&7)
+        && !map.contains(&4)
+        && map.get(&4).is_none()
+        && has_address(map, 3, "d")
+}
+
+fn is_told_and_copied(alloc: Global, map: &Nodes) -> bool {
+    holds(has_nodes(alloc, map, &[(3, "d"), (7, "g")]))
+        && holds(map_is_copied(map))
+        && holds(has_keys(map, &[3, 7]))
+}
+
+fn gives_other_maps(alloc: Global, map: &Nodes) -> bool {
+    holds(takes_more_nodes(alloc, map))
+        && holds(takes_new_nodes(alloc, map))
+        && holds(keeps_node_7(alloc, map))
+}
+
 #[test]
 fn a_map_keeps_its_nodes_in_order(rt: HostRuntime) -> Result<(), Fail> {
     let map = put_in_twice(rt.alloc())?;
-    assert_eq!(rt; count_nodes(&map), 2);
-    assert!(rt; contains_node(&map, 7));
-    assert!(rt; !contains_node(&map, 4));
-    assert!(rt; holds(has_nodes(rt.alloc(), &map, &[(3, "d"), (7, "g")])));
-    assert!(rt; holds(map_is_copied(&map)));
-    assert!(rt; has_no_node(&map, 4));
-    assert!(rt; has_address(&map, 3, "d"));
-    assert!(rt; holds(has_keys(&map, &[3, 7])));
-    assert!(rt; holds(takes_more_nodes(rt.alloc(), &map)));
-    assert!(rt; holds(takes_new_nodes(rt.alloc(), &map)));
-    assert!(rt; holds(keeps_node_7(rt.alloc(), &map)));
+    assert!(rt; has_3_and_7(&map));
+    assert!(rt; is_told_and_copied(rt.alloc(), &map));
+    assert!(rt; gives_other_maps(rt.alloc(), &map));
     Ok(())
 }
 
@@ -233,23 +228,26 @@ fn gives_both<T: IntoNodes<u64, BasicNode>>(alloc: Global, of: T) -> Result<bool
     Ok(given(alloc, of)? == unknown(alloc)?)
 }
 
+// Whether they tell of no ids, and give no nodes.
+fn are_none<T: IntoNodes<u64, BasicNode>>(alloc: Global, of: T) -> bool {
+    let is_told = holds(tells(alloc, &of, (false, 0)));
+    holds(gives_none(alloc, of)) && is_told
+}
+
+// Whether they tell of two ids, and give the nodes 1 and 2.
+fn are_both<T: IntoNodes<u64, BasicNode>>(alloc: Global, of: T, are_nodes: bool) -> bool {
+    let is_told = holds(tells(alloc, &of, (are_nodes, 2)));
+    holds(gives_both(alloc, of)) && is_told
+}
+
 #[test]
 fn nodes_are_given_in_four_ways(rt: HostRuntime) -> Result<(), Fail> {
     let alloc = rt.alloc();
-    assert!(rt; holds(tells(alloc, &(), (false, 0))));
-    assert!(rt; holds(gives_none(alloc, ())));
-    let none: Option<IdSet<u64>> = None;
-    assert!(rt; holds(tells(alloc, &none, (false, 0))));
-    assert!(rt; holds(gives_none(alloc, none)));
-    let set = both(alloc)?;
-    assert!(rt; holds(tells(alloc, &set, (false, 2))));
-    assert!(rt; holds(gives_both(alloc, set)));
-    let some = Some(both(alloc)?);
-    assert!(rt; holds(tells(alloc, &some, (false, 2))));
-    assert!(rt; holds(gives_both(alloc, some)));
-    let nodes = unknown(alloc)?;
-    assert!(rt; holds(tells(alloc, &nodes, (true, 2))));
-    assert!(rt; holds(gives_both(alloc, nodes)));
+    assert!(rt; are_none(alloc, ()));
+    assert!(rt; are_none(alloc, None::<IdSet<u64>>));
+    assert!(rt; are_both(alloc, both(alloc)?, false));
+    assert!(rt; are_both(alloc, Some(both(alloc)?), false));
+    assert!(rt; are_both(alloc, unknown(alloc)?, true));
     Ok(())
 }
 
@@ -273,10 +271,6 @@ pub fn is_made_of(
     Ok(*m == membership(alloc, configs, of)?)
 }
 
-fn is_joint(m: &Members) -> bool {
-    m.is_in_joint_consensus()
-}
-
 fn has_voters(m: &Members, of: &[u64]) -> Result<bool, AllocError> {
     Ok(m.voter_ids()?.as_slice() == of)
 }
@@ -285,63 +279,68 @@ fn has_learners(m: &Members, of: &[u64]) -> Result<bool, AllocError> {
     Ok(m.learner_ids()?.as_slice() == of)
 }
 
-fn has_so_many(m: &Members, groups: usize, nodes: usize) -> bool {
-    m.get_joint_config().len() == groups && m.nodes().len() == nodes
+fn is_copied(m: &Members) -> Result<bool, AllocError> {
+    Ok(m.clone()? == *m)
 }
 
-fn is_voter(m: &Members, id: u64) -> bool {
-    m.is_voter(&id)
-}
-
-fn has_node(m: &Members, id: u64) -> bool {
-    m.get_node(&id).is_some()
+// Whether it is one voter group, and three nodes.
+fn has_its_parts(m: &Members) -> bool {
+    if m.is_in_joint_consensus() || m.get_joint_config().len() != 1 {
+        return false;
+    }
+    m.nodes().len() == 3 && m.is_voter(&2) && m.get_node(&3).is_some() && is_valid(m)
 }
 
 fn is_valid(m: &Members) -> bool {
     m.ensure_valid().is_ok()
 }
 
-fn is_copied(m: &Members) -> Result<bool, AllocError> {
-    Ok(m.clone()? == *m)
+fn has_its_ids(m: &Members) -> bool {
+    holds(has_voters(m, &[1, 2])) && holds(has_learners(m, &[3])) && holds(is_copied(m))
 }
 
 #[test]
 fn a_new_membership_has_all_voters_as_nodes(rt: HostRuntime) -> Result<(), Fail> {
     let m = two_voters(rt.alloc())?;
     assert!(rt; holds(is_made_of(rt.alloc(), &m, &[&[1, 2]], &[(1, ""), (2, "b"), (3, "c")])));
-    assert!(rt; !is_joint(&m));
-    assert!(rt; holds(has_voters(&m, &[1, 2])));
-    assert!(rt; holds(has_learners(&m, &[3])));
-    assert!(rt; has_so_many(&m, 1, 3));
-    assert!(rt; is_voter(&m, 2));
-    assert!(rt; has_node(&m, 3));
-    assert!(rt; is_valid(&m));
-    assert!(rt; holds(is_copied(&m)));
+    assert!(rt; has_its_parts(&m));
+    assert!(rt; has_its_ids(&m));
     Ok(())
+}
+
+// A membership whose second voter group is empty.
+fn empty_last(alloc: Global) -> Result<Members, AllocError> {
+    membership(
+        alloc,
+        [[1].as_slice(), [].as_slice()].as_slice(),
+        [(1, "a")].as_slice(),
+    )
+}
+
+fn has_an_empty_group(m: &Members) -> bool {
+    matches!(
+        m.ensure_valid(),
+        Err(ChangeMembershipError::EmptyMembership(_))
+    )
+}
+
+// A membership whose voters 9 and 4 are no nodes.
+fn two_missing(alloc: Global) -> Result<Members, AllocError> {
+    membership(
+        alloc,
+        [[1, 9].as_slice(), [4, 5].as_slice()].as_slice(),
+        [(1, "a"), (5, "e")].as_slice(),
+    )
+}
+
+fn misses_node(m: &Members, node_id: u64) -> bool {
+    m.ensure_valid() == Err(ChangeMembershipError::LearnerNotFound(LearnerNotFound { node_id }))
 }
 
 #[test]
 fn memberships_are_refused(rt: HostRuntime) -> Result<(), Fail> {
-    let empty = membership(
-        rt.alloc(),
-        [[1].as_slice(), [].as_slice()].as_slice(),
-        [(1, "a")].as_slice(),
-    )?;
-    assert!(rt;
-        matches!(
-            empty.ensure_valid(),
-            Err(ChangeMembershipError::EmptyMembership(_))
-        )
-    );
-    let missing = membership(
-        rt.alloc(),
-        [[1, 9].as_slice(), [4, 5].as_slice()].as_slice(),
-        [(1, "a"), (5, "e")].as_slice(),
-    )?;
-    assert!(rt;
-        missing.ensure_valid()
-            == Err(ChangeMembershipError::LearnerNotFound(LearnerNotFound { node_id: 4 }))
-    );
+    assert!(rt; has_an_empty_group(&empty_last(rt.alloc())?));
+    assert!(rt; misses_node(&two_missing(rt.alloc())?, 4));
     Ok(())
 }
 
@@ -391,14 +390,6 @@ fn has_in_force(of: &Effective, nodes: usize, groups: usize) -> bool {
     of.nodes().len() == nodes && of.get_joint_config().len() == groups
 }
 
-fn votes_in_force(of: &Effective, id: u64) -> bool {
-    of.is_voter(&id)
-}
-
-fn lacks_in_force(of: &Effective, id: u64) -> bool {
-    of.get_node(&id).is_none()
-}
-
 fn is_quorum(alloc: Global, of: &Effective, set: &[u64]) -> Result<bool, AllocError> {
     Ok(of.is_quorum(&ids(alloc, set)?))
 }
@@ -411,33 +402,63 @@ fn effective_is_copied(of: &Effective) -> Result<bool, AllocError> {
     Ok(of.clone()? == *of)
 }
 
+fn tells_of_log(alloc: Global, of: &Stored, log_id: LogId<u64>, m: &Members) -> bool {
+    is_stored(of, log_id, m)
+        && holds(has_counts(of, 2, 3))
+        && holds(stored_is_copied(of))
+        && holds(stored_is_told(alloc, of))
+}
+
+// Whether the membership of an entry is read as it was put there.
+fn is_of_log(alloc: Global, m: &Members) -> Result<bool, AllocError> {
+    let log_id = LogId::new(LeaderId::new(1, 1u64), 2);
+    let of_log = stored(log_id, two_voters_of_three(alloc)?);
+    Ok(tells_of_log(alloc, &of_log, log_id, m))
+}
+
+// Whether nodes 1 and 2 vote, and no node 4 is known.
+fn has_voters_1_and_2(of: &Effective) -> bool {
+    holds(has_voters_in_force(of, &[1, 2]))
+        && has_in_force(of, 3, 1)
+        && of.is_voter(&1)
+        && of.get_node(&4).is_none()
+}
+
+fn tells_of_force(alloc: Global, of: &Effective, m: &Members) -> bool {
+    is_in_force(of, m)
+        && has_voters_1_and_2(of)
+        && holds(is_quorum(alloc, of, &[1, 2]))
+        && holds(has_so_many_ids(alloc, of, 2))
+        && holds(effective_is_copied(of))
+}
+
+// Whether the membership in force is read as it was put there.
+fn comes_in_force(alloc: Global, m: &Members) -> Result<bool, AllocError> {
+    let in_force = effective(two_voters_of_three(alloc)?);
+    Ok(tells_of_force(alloc, &in_force, m))
+}
+
 #[test]
 fn memberships_of_a_log(rt: HostRuntime) -> Result<(), Fail> {
-    let log_id = LogId::new(LeaderId::new(1, 1u64), 2);
     let m = two_voters_of_three(rt.alloc())?;
-    let of_log = stored(log_id, two_voters_of_three(rt.alloc())?);
-    assert!(rt; is_stored(&of_log, log_id, &m));
-    assert!(rt; holds(has_counts(&of_log, 2, 3)));
-    assert!(rt; holds(stored_is_copied(&of_log)));
-    assert!(rt; holds(stored_is_told(rt.alloc(), &of_log)));
-    let in_force = effective(two_voters_of_three(rt.alloc())?);
-    assert!(rt; is_in_force(&in_force, &m));
-    assert!(rt; holds(has_voters_in_force(&in_force, &[1, 2])));
-    assert!(rt; has_in_force(&in_force, 3, 1));
-    assert!(rt; votes_in_force(&in_force, 1));
-    assert!(rt; lacks_in_force(&in_force, 4));
-    assert!(rt; holds(is_quorum(rt.alloc(), &in_force, &[1, 2])));
-    assert!(rt; holds(has_so_many_ids(rt.alloc(), &in_force, 2)));
-    assert!(rt; holds(effective_is_copied(&in_force)));
+    assert!(rt; holds(is_of_log(rt.alloc(), &m)));
+    assert!(rt; holds(comes_in_force(rt.alloc(), &m)));
     Ok(())
+}
+
+fn is_summed_up(
+    alloc: Global,
+    state: &MembershipState<u64, BasicNode>,
+    text: &str,
+) -> Result<bool, AllocError> {
+    Ok(state.summary(alloc)?.as_str() == text)
 }
 
 #[test]
 fn a_membership_state_is_told_in_short(rt: HostRuntime) -> Result<(), Fail> {
     let state: MembershipState<u64, BasicNode> = MembershipState::default(rt.alloc());
-    assert_eq!(rt;
-        state.summary(rt.alloc())?.as_str(),
-        "MembershipState{committed: {log_id:None, {voters:[], nodes:[]}}, effective: {log_id:None, {voters:[], nodes:[]}}}"
-    );
+    let text =
+        "MembershipState{committed: {log_id:None, {voters:[], nodes:[]}}, effective: {log_id:None, {voters:[], nodes:[]}}}";
+    assert!(rt; holds(is_summed_up(rt.alloc(), &state, text)));
     Ok(())
 }
