@@ -1,7 +1,4 @@
 //! Changes of memberships, as a table.
-//!
-//! Each call stands behind a function without clauses, since a proof that carries the clauses of
-//! several calls takes long.
 
 use crate::answers::holds;
 use crate::memberships::{ids, is_made_of, membership, nodes};
@@ -138,21 +135,44 @@ fn is_told(
 
 // ---- rows
 
+// Whether the voters who come are refused where a voter group is empty.
+fn tells_of_nobody(rt: &impl Abort, alloc: Global, m: &Members) -> bool {
+    holds(is_refused(rt, alloc, m, 1, (None, None)))
+        && holds(is_refused(rt, alloc, m, 2, (nobody(), nobody())))
+}
+
+// Whether the voters who come are refused where the voter 5 is no node, but for the node 5.
+fn tells_of_missing(rt: &impl Abort, alloc: Global, m: &Members) -> bool {
+    holds(is_refused(rt, alloc, m, 2, (missing(5), missing(5))))
+        && holds(is_refused(rt, alloc, m, 4, (missing(4), missing(5))))
+        && holds(is_refused(rt, alloc, m, 9, (missing(5), missing(5))))
+        && is_told(rt, m, add_voters(alloc, &[(5, "new")]), true, None)
+}
+
 #[test]
 fn voters_who_come_are_refused(rt: HostRuntime) -> Result<(), Fail> {
     let alloc = rt.alloc();
     let empty_last = of_two_nodes(alloc, [[1].as_slice(), [].as_slice()].as_slice())?;
-    for (id, want) in [(1, None), (2, nobody())] {
-        assert!(rt; holds(is_refused(&rt, alloc, &empty_last, id, (want, want))));
-    }
     let lost = of_two_nodes(alloc, [[1, 5].as_slice()].as_slice())?;
-    for (id, want) in [(2, 5), (4, 4), (9, 5)] {
-        let wants = (missing(want), missing(5));
-        assert!(rt; holds(is_refused(&rt, alloc, &lost, id, wants)));
-    }
-    let found = add_voters(alloc, &[(5, "new")]);
-    assert!(rt; is_told(&rt, &lost, found, true, None));
+    assert!(rt; tells_of_nobody(&rt, alloc, &empty_last));
+    assert!(rt; tells_of_missing(&rt, alloc, &lost));
     Ok(())
+}
+
+// Whether the voters who go are refused, of the voters 1 and 5.
+fn tells_of_leavers(rt: &impl Abort, alloc: Global, m: &Members) -> bool {
+    holds(may_not_go(rt, alloc, m, &[1, 5], nobody()))
+        && holds(may_not_go(rt, alloc, m, &[5], missing(5)))
+        && holds(may_not_go(rt, alloc, m, &[1], missing(5)))
+        && holds(may_not_go(rt, alloc, m, &[7], missing(5)))
+}
+
+// Whether they are refused on the way from the voter 1 to the voters 1 and 5.
+fn tells_of_leavers_in_joint(rt: &impl Abort, alloc: Global, m: &Members) -> bool {
+    holds(may_not_go(rt, alloc, m, &[1, 5], nobody()))
+        && holds(may_not_go(rt, alloc, m, &[5], None))
+        && holds(may_not_go(rt, alloc, m, &[1], missing(5)))
+        && holds(may_not_go(rt, alloc, m, &[7], missing(5)))
 }
 
 #[test]
@@ -160,16 +180,8 @@ fn voters_who_go_are_refused(rt: HostRuntime) -> Result<(), Fail> {
     let alloc = rt.alloc();
     let lost = of_two_nodes(alloc, [[1, 5].as_slice()].as_slice())?;
     let joint = of_two_nodes(alloc, [[1].as_slice(), [1, 5].as_slice()].as_slice())?;
-    let rows = [
-        ([1, 5].as_slice(), nobody(), nobody()),
-        ([5].as_slice(), missing(5), None),
-        ([1].as_slice(), missing(5), missing(5)),
-        ([7].as_slice(), missing(5), missing(5)),
-    ];
-    for (leavers, want, want_in_joint) in rows {
-        assert!(rt; holds(may_not_go(&rt, alloc, &lost, leavers, want)));
-        assert!(rt; holds(may_not_go(&rt, alloc, &joint, leavers, want_in_joint)));
-    }
+    assert!(rt; tells_of_leavers(&rt, alloc, &lost));
+    assert!(rt; tells_of_leavers_in_joint(&rt, alloc, &joint));
     Ok(())
 }
 
@@ -224,17 +236,29 @@ fn is_five(alloc: Global, m: &Members, configs: &[&[u64]]) -> Result<bool, Alloc
     Ok(*m == five(alloc, configs)?)
 }
 
-#[test]
-fn voters_are_replaced_in_two_steps(rt: HostRuntime) -> Result<(), Fail> {
-    let alloc = rt.alloc();
-    let joint = on_the_way(&rt, alloc)?;
-    let both = [[1, 2, 3].as_slice(), [3, 4, 5].as_slice()];
-    assert!(rt; holds(is_five(alloc, &joint, both.as_slice())));
+// The voters 3 to 5, from those on the way.
+fn arrived(rt: &impl Abort, alloc: Global, joint: &Members) -> Result<Members, Fail> {
     let goal = replace_voters(alloc, &[3, 4, 5])?;
-    let done = tried(&rt, &joint, goal, false)?;
+    Ok(tried(rt, joint, goal, false)?)
+}
+
+fn is_on_the_way(alloc: Global, joint: &Members) -> bool {
+    let both = [[1, 2, 3].as_slice(), [3, 4, 5].as_slice()];
+    holds(is_five(alloc, joint, both.as_slice()))
+}
+
+fn has_arrived(alloc: Global, done: &Members) -> bool {
     let groups = [[3, 4, 5].as_slice()];
     let wanted = [(3, "3"), (4, "4"), (5, "5")];
-    assert!(rt; holds(is_made_of(alloc, &done, groups.as_slice(), wanted.as_slice())));
+    holds(is_made_of(alloc, done, groups.as_slice(), wanted.as_slice()))
+}
+
+#[test]
+fn voters_are_replaced_in_two_steps(rt: HostRuntime) -> Result<(), Fail> {
+    let joint = on_the_way(&rt, rt.alloc())?;
+    let done = arrived(&rt, rt.alloc(), &joint)?;
+    assert!(rt; is_on_the_way(rt.alloc(), &joint));
+    assert!(rt; has_arrived(rt.alloc(), &done));
     Ok(())
 }
 
@@ -249,34 +273,52 @@ fn changed(
     Ok(tried(rt, &m, change, true)?)
 }
 
-#[test]
-fn voters_come_and_go(rt: HostRuntime) -> Result<(), Fail> {
-    let alloc = rt.alloc();
-    come_and_go(&rt, alloc)?;
+// Whether the voter 5 comes.
+fn voter_5_comes(rt: &impl Abort, alloc: Global) -> Result<bool, Fail> {
+    let more = changed(rt, alloc, add_ids(alloc, &[5]))?;
+    let configs = [[1, 2].as_slice(), [1, 2, 5].as_slice()];
+    Ok(holds(is_five(alloc, &more, configs.as_slice())))
+}
+
+// Whether the voter 2 goes.
+fn voter_2_goes(rt: &impl Abort, alloc: Global) -> Result<bool, Fail> {
+    let fewer = changed(rt, alloc, remove_voters(alloc, &[2]))?;
+    let configs = [[1, 2].as_slice(), [1].as_slice()];
+    Ok(holds(is_five(alloc, &fewer, configs.as_slice())))
+}
+
+// Whether the voters 8 and 9 are refused, who are no nodes.
+fn voter_8_is_missed(rt: &impl Abort, alloc: Global) -> Result<bool, Fail> {
     let m = five(alloc, [[1, 2].as_slice()].as_slice())?;
-    assert!(rt; is_told(&rt, &m, add_ids(alloc, &[8, 9]), true, missing(8)));
-    let with_nodes = add_voters(alloc, &[(1, "x"), (6, "6")]);
-    let wider = changed(&rt, alloc, with_nodes)?;
+    Ok(is_told(rt, &m, add_ids(alloc, &[8, 9]), true, missing(8)))
+}
+
+// Whether the voter 6 comes with its node, and the node 1 stays as it is.
+fn node_6_comes(rt: &impl Abort, alloc: Global) -> Result<bool, Fail> {
+    let wider = changed(rt, alloc, add_voters(alloc, &[(1, "x"), (6, "6")]))?;
     let wanted = [(1, "1"), (2, "2"), (3, "3"), (4, "4"), (5, "5"), (6, "6")];
     let configs = [[1, 2].as_slice(), [1, 2, 6].as_slice()];
-    assert!(rt; holds(is_made_of(alloc, &wider, configs.as_slice(), wanted.as_slice())));
+    Ok(holds(is_made_of(alloc, &wider, configs.as_slice(), wanted.as_slice())))
+}
+
+#[test]
+fn voters_come_and_go(rt: HostRuntime) -> Result<(), Fail> {
+    assert!(rt; voter_5_comes(&rt, rt.alloc())?);
+    assert!(rt; voter_2_goes(&rt, rt.alloc())?);
+    assert!(rt; voter_8_is_missed(&rt, rt.alloc())?);
+    assert!(rt; node_6_comes(&rt, rt.alloc())?);
     Ok(())
 }
 
-fn come_and_go(rt: &impl Abort, alloc: Global) -> Result<(), Fail> {
-    let more = changed(rt, alloc, add_ids(alloc, &[5]))?;
-    let configs = [[1, 2].as_slice(), [1, 2, 5].as_slice()];
-    assert!(rt; holds(is_five(alloc, &more, configs.as_slice())));
-    let fewer = changed(rt, alloc, remove_voters(alloc, &[2]))?;
-    let configs = [[1, 2].as_slice(), [1].as_slice()];
-    assert!(rt; holds(is_five(alloc, &fewer, configs.as_slice())));
-    Ok(())
+// Whether a step to these voters changes nothing.
+fn stays(rt: &impl Abort, m: &Members, voters: IdSet<u64>) -> Result<bool, AllocError> {
+    Ok(stepped(rt, m, voters)? == *m)
 }
 
 #[test]
 fn a_step_to_the_present_voters_changes_nothing(rt: HostRuntime) -> Result<(), Fail> {
     let m = five(rt.alloc(), [[1, 2].as_slice()].as_slice())?;
-    let step = stepped(&rt, &m, ids(rt.alloc(), &[2, 1])?)?;
-    assert!(rt; step == m);
+    let present = ids(rt.alloc(), &[2, 1])?;
+    assert!(rt; holds(stays(&rt, &m, present)));
     Ok(())
 }
