@@ -1,5 +1,4 @@
-//! What calls that want memory answer, as a `bool`: each `?` in a test makes its proof much longer,
-//! since all that is kept until then is dropped there.
+//! What calls that want memory answer, as a `bool`.
 
 use std::alloc::{AllocError, Global};
 use std::fmt::Display;

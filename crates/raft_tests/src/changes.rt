@@ -38,6 +38,21 @@ fn of_two_nodes(alloc: Global, configs: &[&[u64]]) -> Result<Members, AllocError
     membership(alloc, configs, [(1, "1"), (2, "2")].as_slice())
 }
 
+// The voter 1 on the way to nobody.
+fn empty_last(alloc: Global) -> Result<Members, AllocError> {
+    of_two_nodes(alloc, [[1].as_slice(), [].as_slice()].as_slice())
+}
+
+// The voters 1 and 5, of whom the second is no node.
+fn lost(alloc: Global) -> Result<Members, AllocError> {
+    of_two_nodes(alloc, [[1, 5].as_slice()].as_slice())
+}
+
+// The voter 1 on the way to the voters 1 and 5.
+fn lost_in_joint(alloc: Global) -> Result<Members, AllocError> {
+    of_two_nodes(alloc, [[1].as_slice(), [1, 5].as_slice()].as_slice())
+}
+
 // ---- changes
 
 fn add_ids(alloc: Global, of: &[u64]) -> Result<Change, AllocError> {
@@ -151,11 +166,8 @@ fn tells_of_missing(rt: &impl Abort, alloc: Global, m: &Members) -> bool {
 
 #[test]
 fn voters_who_come_are_refused(rt: HostRuntime) -> Result<(), Fail> {
-    let alloc = rt.alloc();
-    let empty_last = of_two_nodes(alloc, [[1].as_slice(), [].as_slice()].as_slice())?;
-    let lost = of_two_nodes(alloc, [[1, 5].as_slice()].as_slice())?;
-    assert!(rt; tells_of_nobody(&rt, alloc, &empty_last));
-    assert!(rt; tells_of_missing(&rt, alloc, &lost));
+    assert!(rt; tells_of_nobody(&rt, rt.alloc(), &empty_last(rt.alloc())?));
+    assert!(rt; tells_of_missing(&rt, rt.alloc(), &lost(rt.alloc())?));
     Ok(())
 }
 
@@ -177,11 +189,8 @@ fn tells_of_leavers_in_joint(rt: &impl Abort, alloc: Global, m: &Members) -> boo
 
 #[test]
 fn voters_who_go_are_refused(rt: HostRuntime) -> Result<(), Fail> {
-    let alloc = rt.alloc();
-    let lost = of_two_nodes(alloc, [[1, 5].as_slice()].as_slice())?;
-    let joint = of_two_nodes(alloc, [[1].as_slice(), [1, 5].as_slice()].as_slice())?;
-    assert!(rt; tells_of_leavers(&rt, alloc, &lost));
-    assert!(rt; tells_of_leavers_in_joint(&rt, alloc, &joint));
+    assert!(rt; tells_of_leavers(&rt, rt.alloc(), &lost(rt.alloc())?));
+    assert!(rt; tells_of_leavers_in_joint(&rt, rt.alloc(), &lost_in_joint(rt.alloc())?));
     Ok(())
 }
 

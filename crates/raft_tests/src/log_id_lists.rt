@@ -1,13 +1,9 @@
 //! Log id lists by rows.
-//!
-//! Each call stands behind a function without clauses, since a proof that carries the clauses of
-//! several calls takes long.
 
 use crate::answers::is_done;
 use crate::ids::id;
 use raft_state::{LogId, LogIdList, are_keys};
 use std::alloc::{AllocError, Global};
-use std::process::Abort;
 use std::test::Fail;
 
 // ---- lists
@@ -127,37 +123,53 @@ fn ends_with_leader(list: &LogIdList<u64>, keys: &[LogId<u64>]) -> bool {
 
 // ---- rows
 
+fn is_looked_up(list: &LogIdList<u64>) -> bool {
+    get(list, 3) == Some(id(1, 1, 3))
+        && get(list, 0).is_none()
+        && get(list, 6).is_none()
+        && ends_with_leader(list, &[id(2, 1, 4), id(2, 1, 5)])
+}
+
+// Whether the list is looked up, and truncated at a place that is no key.
+fn is_truncated(alloc: Global) -> Result<bool, Fail> {
+    let mut list = two_leaders(alloc)?;
+    let is_looked_up = is_looked_up(&list);
+    truncate(&mut list, 3);
+    Ok(is_looked_up && has_keys(&list, &[id(1, 1, 1), id(1, 1, 2)]))
+}
+
+fn is_truncated_at_the_last(alloc: Global) -> Result<bool, Fail> {
+    let mut list = two_leaders(alloc)?;
+    truncate(&mut list, 5);
+    let has_keys = has_keys(&list, &[id(1, 1, 1), id(2, 1, 4)]);
+    Ok(has_keys && last(&list) == Some(id(2, 1, 4)))
+}
+
+// Whether the list begins at the place 2 once it is purged up to the log id.
+fn begins_at_2(list: &mut LogIdList<u64>, purged: LogId<u64>) -> bool {
+    is_done(purge(list, purged))
+        && has_keys(list, &[id(1, 1, 2), id(2, 1, 4), id(2, 1, 5)])
+        && first(list) == Some(id(1, 1, 2))
+}
+
+// Whether nothing but what it is purged up to is left.
+fn is_purged_whole(list: &mut LogIdList<u64>) -> bool {
+    is_done(purge(list, id(3, 2, 9))) && has_keys(list, &[id(3, 2, 9)])
+}
+
+// Whether the list is purged, and no less when it is purged up to an earlier place.
+fn is_purged(alloc: Global) -> Result<bool, Fail> {
+    let mut list = two_leaders(alloc)?;
+    let begins_at_2 = begins_at_2(&mut list, id(1, 1, 2)) && begins_at_2(&mut list, id(1, 1, 1));
+    Ok(begins_at_2 && is_purged_whole(&mut list))
+}
+
 // A look-up of the log ids by the keys (1,1,1), (2,1,4), (2,1,5), truncations and purges.
 #[test]
 fn rows(rt: HostRuntime) -> Result<(), Fail> {
-    let mut list = two_leaders(rt.alloc())?;
-    assert_eq!(rt; get(&list, 3), Some(id(1, 1, 3)));
-    assert_eq!(rt; get(&list, 0), None);
-    assert_eq!(rt; get(&list, 6), None);
-    assert!(rt; ends_with_leader(&list, &[id(2, 1, 4), id(2, 1, 5)]));
-    truncate(&mut list, 3);
-    assert!(rt; has_keys(&list, &[id(1, 1, 1), id(1, 1, 2)]));
-    truncated_at_the_last(&rt, rt.alloc())?;
-    purged(&rt, rt.alloc())
-}
-
-fn truncated_at_the_last(rt: &impl Abort, alloc: Global) -> Result<(), Fail> {
-    let mut list = two_leaders(alloc)?;
-    truncate(&mut list, 5);
-    assert!(rt; has_keys(&list, &[id(1, 1, 1), id(2, 1, 4)]));
-    assert_eq!(rt; last(&list), Some(id(2, 1, 4)));
-    Ok(())
-}
-
-fn purged(rt: &impl Abort, alloc: Global) -> Result<(), Fail> {
-    let mut list = two_leaders(alloc)?;
-    assert!(rt; is_done(purge(&mut list, id(1, 1, 2))));
-    assert!(rt; has_keys(&list, &[id(1, 1, 2), id(2, 1, 4), id(2, 1, 5)]));
-    assert_eq!(rt; first(&list), Some(id(1, 1, 2)));
-    assert!(rt; is_done(purge(&mut list, id(1, 1, 1))));
-    assert!(rt; has_keys(&list, &[id(1, 1, 2), id(2, 1, 4), id(2, 1, 5)]));
-    assert!(rt; is_done(purge(&mut list, id(3, 2, 9))));
-    assert!(rt; has_keys(&list, &[id(3, 2, 9)]));
+    assert!(rt; is_truncated(rt.alloc())?);
+    assert!(rt; is_truncated_at_the_last(rt.alloc())?);
+    assert!(rt; is_purged(rt.alloc())?);
     Ok(())
 }
 
@@ -171,37 +183,50 @@ fn what_are_no_keys_is_told(rt: HostRuntime) -> Result<(), Fail> {
     Ok(())
 }
 
+fn falls_twice(list: &LogIdList<u64>) -> bool {
+    has_keys(list, &[id(3, 1, 0), id(1, 2, 1), id(3, 1, 3), id(3, 1, 4)])
+        && ends_with_leader(list, &[id(3, 1, 3), id(3, 1, 4)])
+        && get(list, 2) == Some(id(1, 2, 2))
+}
+
+// Whether the leader 1 is the last once the list is truncated.
+fn is_cut_to_leader_1(list: &mut LogIdList<u64>) -> bool {
+    truncate(list, 3);
+    ends_with_leader(list, &[id(1, 2, 1), id(1, 2, 2)])
+}
+
 #[test]
 fn leaders_may_fall(rt: HostRuntime) -> Result<(), Fail> {
     let mut list = falling_leaders(rt.alloc())?;
-    assert!(rt; has_keys(&list, &[id(3, 1, 0), id(1, 2, 1), id(3, 1, 3), id(3, 1, 4)]));
-    assert!(rt; ends_with_leader(&list, &[id(3, 1, 3), id(3, 1, 4)]));
-    assert_eq!(rt; get(&list, 2), Some(id(1, 2, 2)));
-    truncate(&mut list, 3);
-    assert!(rt; ends_with_leader(&list, &[id(1, 2, 1), id(1, 2, 2)]));
+    assert!(rt; falls_twice(&list));
+    assert!(rt; is_cut_to_leader_1(&mut list));
     Ok(())
 }
 
 // An empty list takes any log id, and then each that goes on from it.
+fn has_4_and_is_copied(list: &LogIdList<u64>) -> bool {
+    has_keys(list, &[id(2, 1, 4)]) && gives_keys(copy_of(list), keys_of(list))
+}
+
 #[test]
 fn log_ids_go_on(rt: HostRuntime) -> Result<(), Fail> {
     assert!(rt; gives_keys(appended(rt.alloc(), id(1, 1, 1)), &[id(1, 1, 1)]));
-    let list = extended_by_one(rt.alloc())?;
-    assert!(rt; has_keys(&list, &[id(2, 1, 4)]));
-    assert!(rt; gives_keys(copy_of(&list), keys_of(&list)));
+    assert!(rt; has_4_and_is_copied(&extended_by_one(rt.alloc())?));
     Ok(())
 }
 
 // Ids of one leader are put behind the others by the first and the last of them.
+fn goes_from_4_to_6(list: &LogIdList<u64>) -> bool {
+    has_keys(list, &[id(2, 1, 4), id(2, 1, 6)]) && get(list, 5) == Some(id(2, 1, 5))
+}
+
 #[test]
 fn ids_of_one_leader_go_on(rt: HostRuntime) -> Result<(), Fail> {
     let alloc = rt.alloc();
     assert!(rt; gives_keys(one_of_one_leader(alloc), &[id(3, 2, 0)]));
     let keys = [id(1, 1, 0), id(2, 3, 2), id(2, 3, 3)];
     assert!(rt; gives_keys(extended_by_four(alloc), &keys));
-    let list = three_of_one_leader(alloc)?;
-    assert!(rt; has_keys(&list, &[id(2, 1, 4), id(2, 1, 6)]));
-    assert_eq!(rt; get(&list, 5), Some(id(2, 1, 5)));
+    assert!(rt; goes_from_4_to_6(&three_of_one_leader(alloc)?));
     assert!(rt; is_empty(&none_of_one_leader(alloc)?));
     Ok(())
 }

@@ -1,7 +1,4 @@
 //! Quorums, joints and coherent steps.
-//!
-//! Each call stands behind a function without clauses, since a proof that carries the clauses of
-//! several calls takes long.
 
 use crate::answers::holds;
 use crate::memberships::{ids, membership};
@@ -42,18 +39,31 @@ fn is_joint(m: &Membership<u64, BasicNode>) -> bool {
     m.is_in_joint_consensus()
 }
 
+// Whether both groups have to agree, of 1 to 5 and of 6 to 8.
+fn asks_both_groups(alloc: Global, m: &Membership<u64, BasicNode>) -> bool {
+    !enough(m, &[1, 2, 3])
+        && enough(m, &[1, 2, 3, 6, 7])
+        && is_joint(m)
+        && holds(names_so_many(alloc, m, 8))
+}
+
+// Whether no voter groups are content with nobody.
+fn asks_nobody(alloc: Global) -> Result<bool, AllocError> {
+    Ok(enough(&voters(alloc, &[])?, &[]))
+}
+
+// Whether an empty voter group is never content.
+fn asks_in_vain(alloc: Global) -> Result<bool, AllocError> {
+    Ok(!enough(&voters(alloc, [[].as_slice()].as_slice())?, &[1]))
+}
+
 #[test]
 fn quorums_of_a_joint_config(rt: HostRuntime) -> Result<(), Fail> {
     let configs = [[1, 2, 3, 4, 5].as_slice(), [6, 7, 8].as_slice()];
     let m = voters(rt.alloc(), configs.as_slice())?;
-    assert!(rt; !enough(&m, &[1, 2, 3]));
-    assert!(rt; enough(&m, &[1, 2, 3, 6, 7]));
-    assert!(rt; is_joint(&m));
-    assert!(rt; holds(names_so_many(rt.alloc(), &m, 8)));
-    let none = voters(rt.alloc(), &[])?;
-    assert!(rt; enough(&none, &[]));
-    let empty = voters(rt.alloc(), [[].as_slice()].as_slice())?;
-    assert!(rt; !enough(&empty, &[1]));
+    assert!(rt; asks_both_groups(rt.alloc(), &m));
+    assert!(rt; holds(asks_nobody(rt.alloc())));
+    assert!(rt; holds(asks_in_vain(rt.alloc())));
     Ok(())
 }
 
@@ -65,19 +75,27 @@ fn accepts_itself(set: &IdSet<u64>) -> bool {
     set.is_quorum(set)
 }
 
+// Whether two of the list, which has 1 to 3, are a quorum and one isn't.
+fn list_asks_two(alloc: Global, list: &[u64]) -> bool {
+    enough(&list, &[1, 3]) && !enough(&list, &[1]) && holds(names(alloc, &list, &[1, 2, 3]))
+}
+
+fn vector_asks_two(alloc: Global, vector: &Vec<u64>) -> bool {
+    enough(vector, &[1, 3]) && holds(names_so_many(alloc, vector, 3))
+}
+
+fn set_asks_two(alloc: Global, set: &IdSet<u64>) -> bool {
+    enough(set, &[2, 3]) && accepts_itself(set) && holds(names_so_many(alloc, set, 3))
+}
+
 #[test]
 fn quorums_of_lists_and_sets(rt: HostRuntime) -> Result<(), Fail> {
     let list = [3, 1, 2].as_slice();
-    assert!(rt; enough(&list, &[1, 3]));
-    assert!(rt; !enough(&list, &[1]));
-    assert!(rt; holds(names(rt.alloc(), &list, &[1, 2, 3])));
     let vector = copied(rt.alloc(), list)?;
-    assert!(rt; enough(&vector, &[1, 3]));
-    assert!(rt; holds(names_so_many(rt.alloc(), &vector, 3)));
     let set = ids(rt.alloc(), list)?;
-    assert!(rt; enough(&set, &[2, 3]));
-    assert!(rt; accepts_itself(&set));
-    assert!(rt; holds(names_so_many(rt.alloc(), &set, 3)));
+    assert!(rt; list_asks_two(rt.alloc(), list));
+    assert!(rt; vector_asks_two(rt.alloc(), &vector));
+    assert!(rt; set_asks_two(rt.alloc(), &set));
     Ok(())
 }
 
@@ -118,23 +136,55 @@ fn shown_is_coherent(joint: &Groups) -> bool {
     shown.is_coherent_with(&shown)
 }
 
+// The joint of 1 and 2.
+fn start_of(alloc: Global) -> Result<Groups, AllocError> {
+    let group = ids(alloc, &[1, 2])?;
+    joint_of(alloc, group)
+}
+
+// The next joint on the way to 2 and 3.
+fn towards_2_and_3(alloc: Global, from: &Groups) -> Result<Groups, Fail> {
+    let goal = ids(alloc, &[2, 3])?;
+    next_joint(alloc, from, goal)
+}
+
+fn lacks_2_and_3(alloc: Global, joint: &Groups) -> Result<bool, AllocError> {
+    let group = ids(alloc, &[2, 3])?;
+    Ok(!has_group(joint, &group))
+}
+
+// Whether both groups have to agree, of 1 and 2 and of 2 and 3.
+fn joins_both(alloc: Global, joint: &Groups) -> bool {
+    count_children(joint) == 2
+        && !enough(joint, &[2])
+        && enough(joint, &[1, 2, 3])
+        && holds(names(alloc, joint, &[1, 2, 3]))
+}
+
+// Whether what is shown of the joint agrees as it does.
+fn is_shown(alloc: Global, joint: &Groups) -> bool {
+    let shown = shown(joint);
+    enough(&shown, &[1, 2, 3]) && shown_is_coherent(joint) && holds(names_so_many(alloc, &shown, 3))
+}
+
+// Whether the step after `joint` has one group again.
+fn comes_to_an_end(alloc: Global, joint: &Groups) -> Result<bool, Fail> {
+    let last = towards_2_and_3(alloc, joint)?;
+    Ok(count_children(&last) == 1)
+}
+
+// Whether `joint` follows `start`, which has no group of 2 and 3.
+fn follows(alloc: Global, joint: &Groups, start: &Groups) -> bool {
+    are_coherent(start, joint) && holds(lacks_2_and_3(alloc, start))
+}
+
 #[test]
 fn joints_follow_one_another(rt: HostRuntime) -> Result<(), Fail> {
-    let alloc = rt.alloc();
-    let second = ids(alloc, &[2, 3])?;
-    let start = joint_of(alloc, ids(alloc, &[1, 2])?)?;
-    let joint = next_joint(alloc, &start, ids(alloc, &[2, 3])?)?;
-    assert_eq!(rt; count_children(&joint), 2);
-    assert!(rt; are_coherent(&start, &joint));
-    assert!(rt; !has_group(&start, &second));
-    assert!(rt; !enough(&joint, &[2]));
-    assert!(rt; enough(&joint, &[1, 2, 3]));
-    assert!(rt; holds(names(alloc, &joint, &[1, 2, 3])));
-    assert!(rt; enough(&shown(&joint), &[1, 2, 3]));
-    assert!(rt; shown_is_coherent(&joint));
-    assert!(rt; holds(names_so_many(alloc, &shown(&joint), 3)));
-    let last = next_joint(alloc, &joint, second)?;
-    assert_eq!(rt; count_children(&last), 1);
+    let start = start_of(rt.alloc())?;
+    let joint = towards_2_and_3(rt.alloc(), &start)?;
+    assert!(rt; joins_both(rt.alloc(), &joint) && follows(rt.alloc(), &joint, &start));
+    assert!(rt; is_shown(rt.alloc(), &joint));
+    assert!(rt; comes_to_an_end(rt.alloc(), &joint)?);
     Ok(())
 }
 
@@ -156,26 +206,29 @@ fn has_ids(set: &IdSet<u64>, of: &[u64]) -> bool {
     set.as_slice() == of
 }
 
-fn count_nodes(nodes: &NodeMap<u64, EmptyNode>) -> usize {
-    nodes.len()
+fn list_has_3(list: &[u64]) -> bool {
+    has(&list, 3) && !has(&list, 4)
+}
+
+fn vector_has_7(vector: &Vec<u64>) -> bool {
+    has(vector, 7) && !has(vector, 4)
+}
+
+fn set_has_7(set: &IdSet<u64>) -> bool {
+    has_ids(set, &[7]) && has(set, 7) && !has(set, 3)
+}
+
+fn nodes_have_7(nodes: &NodeMap<u64, EmptyNode>) -> bool {
+    nodes.len() == 1 && has(nodes, 7) && !has(nodes, 3)
 }
 
 #[test]
 fn ids_that_sets_have(rt: HostRuntime) -> Result<(), Fail> {
     let list = [7, 3].as_slice();
-    assert!(rt; has(&list, 3));
-    assert!(rt; !has(&list, 4));
-    let vector = copied(rt.alloc(), list)?;
-    assert!(rt; has(&vector, 7));
-    assert!(rt; !has(&vector, 4));
-    let set = set_of_7(rt.alloc())?;
-    assert!(rt; has_ids(&set, &[7]));
-    assert!(rt; has(&set, 7));
-    assert!(rt; !has(&set, 3));
-    let nodes = nodes_of_7(rt.alloc())?;
-    assert_eq!(rt; count_nodes(&nodes), 1);
-    assert!(rt; has(&nodes, 7));
-    assert!(rt; !has(&nodes, 3));
+    assert!(rt; list_has_3(list));
+    assert!(rt; vector_has_7(&copied(rt.alloc(), list)?));
+    assert!(rt; set_has_7(&set_of_7(rt.alloc())?));
+    assert!(rt; nodes_have_7(&nodes_of_7(rt.alloc())?));
     Ok(())
 }
 
@@ -213,14 +266,31 @@ fn all_groups_accept(groups: &VoterGroups<u64>, nodes: &[u64]) -> bool {
     all_accept(groups.as_slice(), &nodes)
 }
 
+// The groups of 1 to 3.
+fn first_groups(alloc: Global) -> Result<VoterGroups<u64>, AllocError> {
+    let group = ids(alloc, &[1, 2, 3])?;
+    groups_of(alloc, group)
+}
+
+// Whether there are two groups, of 1 to 3 and of 3 and 4.
+fn are_both_groups(both: &VoterGroups<u64>) -> bool {
+    count_groups(both) == 2
+        && holds(have_ids(both, &[1, 2, 3, 4]))
+        && all_groups_accept(both, &[2, 3, 4])
+        && !all_groups_accept(both, &[1, 2, 3])
+}
+
+// Whether both groups stand on the way to 3 and 4.
+fn go_towards(alloc: Global, groups: &VoterGroups<u64>) -> Result<bool, Fail> {
+    let goal = ids(alloc, &[3, 4])?;
+    let both = next_groups(groups, goal)?;
+    Ok(are_both_groups(&both))
+}
+
 #[test]
 fn groups_go_towards_another(rt: HostRuntime) -> Result<(), Fail> {
-    let groups = groups_of(rt.alloc(), ids(rt.alloc(), &[1, 2, 3])?)?;
-    assert_eq!(rt; count_last(&groups), Some(3));
-    let both = next_groups(&groups, ids(rt.alloc(), &[3, 4])?)?;
-    assert_eq!(rt; count_groups(&both), 2);
-    assert!(rt; holds(have_ids(&both, &[1, 2, 3, 4])));
-    assert!(rt; all_groups_accept(&both, &[2, 3, 4]));
-    assert!(rt; !all_groups_accept(&both, &[1, 2, 3]));
+    let groups = first_groups(rt.alloc())?;
+    assert!(rt; count_last(&groups) == Some(3));
+    assert!(rt; go_towards(rt.alloc(), &groups)?);
     Ok(())
 }

@@ -1,7 +1,4 @@
 //! Votes, log ids, nodes, entries.
-//!
-//! Each call stands behind a function without clauses, since a proof that carries the clauses of
-//! several calls takes long.
 
 use crate::answers::{holds, reads};
 use raft_state::{
@@ -85,16 +82,24 @@ fn empty_is_default(alloc: Global) -> bool {
     EmptyNode::new() == NodeEssential::default(alloc)
 }
 
+fn is_copied(node: &BasicNode) -> Result<bool, AllocError> {
+    Ok(are_equal(&copy_of(node)?, node))
+}
+
+// Whether the node is told by its address and the other one has none.
+fn has_description(alloc: Global, node: &BasicNode, unknown: &BasicNode) -> bool {
+    has_address(unknown, "")
+        && holds(is_copied(node))
+        && !are_equal(node, unknown)
+        && reads(alloc, node, "a:1")
+}
+
 #[test]
 fn nodes_without_a_description(rt: HostRuntime) -> Result<(), Fail> {
     let unknown = unknown_node(rt.alloc());
-    assert!(rt; has_address(&unknown, ""));
     let node = node(rt.alloc(), "a:1")?;
-    assert!(rt; are_equal(&copy_of(&node)?, &node));
-    assert!(rt; !are_equal(&node, &unknown));
-    assert!(rt; reads(rt.alloc(), &node, "a:1"));
-    assert!(rt; empty_is_default(rt.alloc()));
-    assert_eq!(rt; default_id::<u64>(), 0);
+    assert!(rt; has_description(rt.alloc(), &node, &unknown));
+    assert!(rt; empty_is_default(rt.alloc()) && default_id::<u64>() == 0);
     assert!(rt; reads(rt.alloc(), &EmptyNode::new(), "EmptyNode"));
     Ok(())
 }
@@ -138,17 +143,22 @@ fn asks_for(entry: &NumberEntry, command: u64, index: u64) -> bool {
     entry.payload == EntryPayload::Normal(command) && entry.log_id.index == index
 }
 
+// Whether the entry is blank, and is so at the place 6 too.
+fn is_blank_and_moves(alloc: Global, entry: &mut NumberEntry) -> bool {
+    asks(entry) == (true, false) && moved(entry, 6) == 6 && reads(alloc, entry, "T8-N1-6:blank")
+}
+
+fn asks_for_members(entry: &NumberEntry) -> bool {
+    asks(entry) == (false, true) && holds(entry_is_copied(entry))
+}
+
 #[test]
 fn entries_by_their_traits(rt: HostRuntime) -> Result<(), Fail> {
     let mut entry: NumberEntry = blank(4);
-    assert_eq!(rt; asks(&entry), (true, false));
-    assert_eq!(rt; moved(&mut entry, 6), 6);
-    assert!(rt; reads(rt.alloc(), &entry, "T8-N1-6:blank"));
+    assert!(rt; is_blank_and_moves(rt.alloc(), &mut entry));
     let asking = asking(entry.log_id, one_voter(rt.alloc())?);
-    assert_eq!(rt; asks(&asking), (false, true));
-    assert!(rt; holds(entry_is_copied(&asking)));
-    let adding: NumberEntry = command(5);
-    assert!(rt; asks_for(&adding, 5, 0));
+    assert!(rt; asks_for_members(&asking));
+    assert!(rt; asks_for(&command(5), 5, 0));
     Ok(())
 }
 

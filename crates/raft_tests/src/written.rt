@@ -1,7 +1,4 @@
 //! Moments, and what has really been written.
-//!
-//! Each call stands behind a function without clauses, since a proof that carries the clauses of
-//! several calls takes long.
 
 use crate::answers::reads;
 use crate::ids::id;
