@@ -39,6 +39,14 @@ fn is_joint(m: &Membership<u64, BasicNode>) -> bool {
     m.is_in_joint_consensus()
 }
 
+// The voters 1 to 5 on the way to the voters 6 to 8.
+fn five_and_three(alloc: Global) -> Result<Membership<u64, BasicNode>, AllocError> {
+    voters(
+        alloc,
+        [[1, 2, 3, 4, 5].as_slice(), [6, 7, 8].as_slice()].as_slice(),
+    )
+}
+
 // Whether both groups have to agree, of 1 to 5 and of 6 to 8.
 fn asks_both_groups(alloc: Global, m: &Membership<u64, BasicNode>) -> bool {
     !enough(m, &[1, 2, 3])
@@ -59,9 +67,7 @@ fn asks_in_vain(alloc: Global) -> Result<bool, AllocError> {
 
 #[test]
 fn quorums_of_a_joint_config(rt: HostRuntime) -> Result<(), Fail> {
-    let configs = [[1, 2, 3, 4, 5].as_slice(), [6, 7, 8].as_slice()];
-    let m = voters(rt.alloc(), configs.as_slice())?;
-    assert!(rt; asks_both_groups(rt.alloc(), &m));
+    assert!(rt; asks_both_groups(rt.alloc(), &five_and_three(rt.alloc())?));
     assert!(rt; holds(asks_nobody(rt.alloc())));
     assert!(rt; holds(asks_in_vain(rt.alloc())));
     Ok(())
