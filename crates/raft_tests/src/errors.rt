@@ -1,5 +1,6 @@
 //! Texts of errors, and their parts.
 
+use crate::answers::reads;
 use crate::memberships::membership;
 use raft_state::{
     ChangeMembershipError, ClientWriteError, EmptyMembership, EmptyNode, ForwardToLeader,
@@ -13,33 +14,27 @@ fn errors_say_what_is_wrong(rt: HostRuntime) -> Result<(), Fail> {
     let missing: ChangeMembershipError<u64> = ChangeMembershipError::LearnerNotFound(
         LearnerNotFound { node_id: 4 },
     );
-    assert_eq!(rt;
-        missing.to_string(rt.alloc())?.as_str(),
-        "node 4 would be a voter but is no node"
+    assert!(rt;
+        reads(
+            rt.alloc(),
+            &missing,
+            "node 4 would be a voter but is no node"
+        )
     );
     let empty: ChangeMembershipError<u64> = ChangeMembershipError::EmptyMembership(
         EmptyMembership {},
     );
-    assert_eq!(rt;
-        empty.to_string(rt.alloc())?.as_str(),
-        "a voter group would be empty"
-    );
+    assert!(rt; reads(rt.alloc(), &empty, "a voter group would be empty"));
     let busy: InProgress<u64> = InProgress {
         committed: None,
         membership_log_id: None,
     };
-    assert_eq!(rt;
-        busy.to_string(rt.alloc())?.as_str(),
-        "the change before isn't committed yet"
-    );
+    assert!(rt; reads(rt.alloc(), &busy, "the change before isn't committed yet"));
     let lack: LackEntry<u64> = LackEntry {
         index: Some(3),
         last_purged_log_id: None,
     };
-    assert_eq!(rt;
-        lack.to_string(rt.alloc())?.as_str(),
-        "the log has no such entry"
-    );
+    assert!(rt; reads(rt.alloc(), &lack, "the log has no such entry"));
     Ok(())
 }
 
@@ -49,18 +44,18 @@ fn a_group_is_not_set_up(rt: HostRuntime) -> Result<(), Fail> {
         last_log_id: None,
         vote: Vote::new(1, 2),
     });
-    assert_eq!(rt;
-        voted.to_string(rt.alloc())?.as_str(),
-        "the node has voted or has entries already"
+    assert!(rt;
+        reads(
+            rt.alloc(),
+            &voted,
+            "the node has voted or has entries already"
+        )
     );
     let outside = InitializeError::NotInMembers(NotInMembers {
         node_id: 7,
         membership: membership(rt.alloc(), [].as_slice(), [].as_slice())?,
     });
-    assert_eq!(rt;
-        outside.to_string(rt.alloc())?.as_str(),
-        "node 7 is no voter of the membership"
-    );
+    assert!(rt; reads(rt.alloc(), &outside, "node 7 is no voter of the membership"));
     Ok(())
 }
 

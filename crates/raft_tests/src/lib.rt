@@ -1,9 +1,12 @@
 //! Tests of the crates below: rows with values from outside, each public call once with ample
 //! memory, and each generic item at a concrete type through its bound.
 //!
-//! They stand here and not beside what they test, so that those crates are proved once.
+//! They stand here and not beside what they test, so that those crates are proved once. Few asserts
+//! and exits keep a test's proof short, so its rows stand in functions that answer one `bool`.
 #![tactic(auto)]
 
+#[cfg(test)]
+mod answers;
 #[cfg(test)]
 mod changes;
 #[cfg(test)]

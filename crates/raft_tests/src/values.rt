@@ -1,12 +1,13 @@
 //! Votes, log ids, nodes, entries.
 
+use crate::answers::{holds, reads};
 use raft_state::{
     BasicNode, EmptyNode, Entry, EntryPayload, FromAppData, IdSet, LeaderId, LogId, Membership,
     MessageSummary, NodeEssential, RaftEntry, RaftLogId, RaftPayload, ServerState, Vote,
     leader_ids_by_term_and_node, log_ids_by_leader_and_index, votes_by_term_node_committed,
 };
 use raft_values::node::default_id;
-use std::alloc::AllocError;
+use std::alloc::{AllocError, Global};
 use std::cmp::Ordering;
 use std::test::Fail;
 
@@ -55,23 +56,57 @@ fn log_ids_are_ordered_by_leader_and_place(rt: HostRuntime) -> Result<(), Fail> 
     Ok(())
 }
 
+// ---- nodes
+
+fn unknown_node(alloc: Global) -> BasicNode {
+    NodeEssential::default(alloc)
+}
+
+fn node(alloc: Global, addr: &str) -> Result<BasicNode, AllocError> {
+    BasicNode::new(alloc, addr)
+}
+
+fn has_address(node: &BasicNode, addr: &str) -> bool {
+    node.addr.as_str() == addr
+}
+
+fn copy_of(node: &BasicNode) -> Result<BasicNode, AllocError> {
+    node.clone()
+}
+
+fn are_equal(node: &BasicNode, other: &BasicNode) -> bool {
+    *node == *other
+}
+
+fn empty_is_default(alloc: Global) -> bool {
+    EmptyNode::new() == NodeEssential::default(alloc)
+}
+
+fn is_copied(node: &BasicNode) -> Result<bool, AllocError> {
+    Ok(are_equal(&copy_of(node)?, node))
+}
+
+// Whether the node is told by its address and the other one has none.
+fn has_description(alloc: Global, node: &BasicNode, unknown: &BasicNode) -> bool {
+    has_address(unknown, "")
+        && holds(is_copied(node))
+        && !are_equal(node, unknown)
+        && reads(alloc, node, "a:1")
+}
+
 #[test]
 fn nodes_without_a_description(rt: HostRuntime) -> Result<(), Fail> {
-    let unknown: BasicNode = NodeEssential::default(rt.alloc());
-    assert_eq!(rt; unknown.addr.as_str(), "");
-    let node = BasicNode::new(rt.alloc(), "a:1")?;
-    let copy = node.clone()?;
-    assert!(rt; copy == node);
-    assert!(rt; node != unknown);
-    assert_eq!(rt; node.to_string(rt.alloc())?.as_str(), "a:1");
-    assert!(rt; EmptyNode::new() == NodeEssential::default(rt.alloc()));
-    assert_eq!(rt; default_id::<u64>(), 0);
-    assert_eq!(rt;
-        EmptyNode::new().to_string(rt.alloc())?.as_str(),
-        "EmptyNode"
-    );
+    let unknown = unknown_node(rt.alloc());
+    let node = node(rt.alloc(), "a:1")?;
+    assert!(rt; has_description(rt.alloc(), &node, &unknown));
+    assert!(rt; empty_is_default(rt.alloc()) && default_id::<u64>() == 0);
+    assert!(rt; reads(rt.alloc(), &EmptyNode::new(), "EmptyNode"));
     Ok(())
 }
+
+// ---- entries
+
+type NumberEntry = Entry<u64, EmptyNode, u64>;
 
 fn blank<E: RaftEntry<u64, Membership<u64, EmptyNode>>>(index: u64) -> E {
     E::new_blank(LogId::new(LeaderId::new(8, 1), index))
@@ -91,21 +126,39 @@ fn command<E: FromAppData<u64>>(value: u64) -> E {
     E::from_app_data(value)
 }
 
+fn one_voter(alloc: Global) -> Result<Membership<u64, EmptyNode>, AllocError> {
+    let group = IdSet::from_slice(alloc, &[1])?;
+    Membership::new(alloc, vec![in alloc; group]?, ())
+}
+
+fn asking(log_id: LogId<u64>, members: Membership<u64, EmptyNode>) -> NumberEntry {
+    Entry::new_membership(log_id, members)
+}
+
+fn entry_is_copied(entry: &NumberEntry) -> Result<bool, AllocError> {
+    Ok(entry.clone()? == *entry)
+}
+
+fn asks_for(entry: &NumberEntry, command: u64, index: u64) -> bool {
+    entry.payload == EntryPayload::Normal(command) && entry.log_id.index == index
+}
+
+// Whether the entry is blank, and is so at the place 6 too.
+fn is_blank_and_moves(alloc: Global, entry: &mut NumberEntry) -> bool {
+    asks(entry) == (true, false) && moved(entry, 6) == 6 && reads(alloc, entry, "T8-N1-6:blank")
+}
+
+fn asks_for_members(entry: &NumberEntry) -> bool {
+    asks(entry) == (false, true) && holds(entry_is_copied(entry))
+}
+
 #[test]
 fn entries_by_their_traits(rt: HostRuntime) -> Result<(), Fail> {
-    let mut entry: Entry<u64, EmptyNode, u64> = blank(4);
-    assert_eq!(rt; asks(&entry), (true, false));
-    assert_eq!(rt; moved(&mut entry, 6), 6);
-    assert_eq!(rt; entry.to_string(rt.alloc())?.as_str(), "T8-N1-6:blank");
-    let group = IdSet::from_slice(rt.alloc(), [1].as_slice())?;
-    let groups = vec![in rt.alloc(); group]?;
-    let membership: Membership<u64, EmptyNode> = Membership::new(rt.alloc(), groups, ())?;
-    let asking: Entry<u64, EmptyNode, u64> = Entry::new_membership(entry.log_id, membership);
-    assert_eq!(rt; asks(&asking), (false, true));
-    assert!(rt; asking.clone()? == asking);
-    let adding: Entry<u64, EmptyNode, u64> = command(5);
-    assert!(rt; adding.payload == EntryPayload::Normal(5));
-    assert_eq!(rt; adding.log_id.index, 0);
+    let mut entry: NumberEntry = blank(4);
+    assert!(rt; is_blank_and_moves(rt.alloc(), &mut entry));
+    let asking = asking(entry.log_id, one_voter(rt.alloc())?);
+    assert!(rt; asks_for_members(&asking));
+    assert!(rt; asks_for(&command(5), 5, 0));
     Ok(())
 }
 
