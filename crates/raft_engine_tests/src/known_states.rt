@@ -111,53 +111,117 @@ fn has_read_ids(known: &KnownState<u64, BasicNode>) -> bool {
         && !known.has_log_id(&id(1, 3))
 }
 
+// Whether leader 1 of term 1 wrote an entry of it, and that of term 3 none.
+fn is_written_in_term_1(known: &KnownState<u64, BasicNode>) -> bool {
+    known.is_written_by_leader(&LeaderId::new(1, 1))
+        && !known.is_written_by_leader(&LeaderId::new(3, 1))
+}
+
+fn is_new(known: &KnownState<u64, BasicNode>) -> bool {
+    known.is_new()
+}
+
 #[test]
 fn a_group_that_is_read_is_known(rt: HostRuntime) -> Result<(), Fail> {
     let known = read_group(rt.alloc())?;
     assert!(rt; has_read_places(&known));
     assert!(rt; has_read_ids(&known));
-    assert!(rt; !known.is_new() && known.is_written_by_leader(&LeaderId::new(1, 1)));
-    assert!(rt; !known.is_written_by_leader(&LeaderId::new(3, 1)));
+    assert!(rt; !is_new(&known) && is_written_in_term_1(&known));
     Ok(())
+}
+
+fn has_no_membership(known: &KnownState<u64, BasicNode>) -> bool {
+    known.membership().is_none()
+}
+
+fn node_count(known: &KnownState<u64, BasicNode>) -> usize {
+    known.effective_membership().nodes().len()
+}
+
+// Whether the nodes and the voters other than node 2 are these.
+fn are_others(
+    alloc: Global,
+    known: &KnownState<u64, BasicNode>,
+    ids: &[u64],
+    voters: &[u64],
+) -> Result<bool, AllocError> {
+    let other_ids = known.other_ids(alloc, 2)?;
+    let other_voters = known.other_voters(alloc, 2)?;
+    Ok(other_ids.as_slice() == ids && other_voters.as_slice() == voters)
+}
+
+// Whether a group of which nothing is known has no membership.
+fn starts_anew(alloc: Global) -> bool {
+    let fresh = new_group(alloc);
+    is_new(&fresh) && has_no_membership(&fresh)
 }
 
 #[test]
 fn members_are_known(rt: HostRuntime) -> Result<(), Fail> {
-    let alloc = rt.alloc();
-    let fresh = new_group(alloc);
-    assert!(rt; fresh.is_new() && fresh.membership().is_none());
-    let known = read_group(alloc)?;
-    assert_eq!(rt; known.effective_membership().nodes().len(), 3);
-    assert_eq!(rt; known.other_ids(alloc, 2)?.as_slice(), [1, 3].as_slice());
-    assert_eq!(rt; known.other_voters(alloc, 2)?.as_slice(), [1].as_slice());
+    assert!(rt; starts_anew(rt.alloc()));
+    let known = read_group(rt.alloc())?;
+    assert!(rt; node_count(&known) == 3);
+    assert!(rt; are_others(rt.alloc(), &known, &[1, 3], &[1])?);
     Ok(())
+}
+
+fn cut(known: &mut KnownState<u64, BasicNode>, place: u64) -> Result<(), AllocError> {
+    known.truncate(place)
+}
+
+fn ends_with(known: &KnownState<u64, BasicNode>, last: LogId<u64>) -> bool {
+    known.last_log_id() == Some(last)
 }
 
 #[test]
 fn a_cut_is_followed(rt: HostRuntime) -> Result<(), Fail> {
     let mut known = grown_group(rt.alloc())?;
-    assert_eq!(rt; place_in_force(&known), Some(2));
-    known.truncate(2)?;
-    assert_eq!(rt; known.last_log_id(), Some(id(1, 1)));
-    assert_eq!(rt; place_in_force(&known), Some(0));
+    assert!(rt; place_in_force(&known) == Some(2));
+    cut(&mut known, 2)?;
+    assert!(rt; ends_with(&known, id(1, 1)));
+    assert!(rt; place_in_force(&known) == Some(0));
     Ok(())
+}
+
+// Whether a vote is kept with its moment.
+fn keeps_vote(known: &mut KnownState<u64, BasicNode>) -> bool {
+    known.save_vote(7, Vote::new_committed(2, 1));
+    known.state.vote.utime() == Some(7)
+}
+
+fn purge_first(known: &mut KnownState<u64, BasicNode>) -> Result<(), AllocError> {
+    known.purge(&id(1, 0))
+}
+
+// Whether the log begins at 1, without the membership.
+fn begins_without_members(known: &KnownState<u64, BasicNode>) -> bool {
+    known.first_place() == 1 && has_no_membership(known)
+}
+
+// A snapshot of the first entry, which is this membership.
+fn first_snapshot(members: Membership<u64, BasicNode>) -> SnapshotMeta<u64, BasicNode> {
+    SnapshotMeta {
+        last_log_id: Some(id(1, 0)),
+        last_membership: StoredMembership::new(Some(id(1, 0)), members),
+    }
+}
+
+fn save_snapshot(
+    known: &mut KnownState<u64, BasicNode>,
+    meta: SnapshotMeta<u64, BasicNode>,
+) -> Result<(), AllocError> {
+    known.save_snapshot(meta)
 }
 
 #[test]
 fn a_purge_and_a_snapshot_are_followed(rt: HostRuntime) -> Result<(), Fail> {
-    let alloc = rt.alloc();
-    let mut known = grown_group(alloc)?;
-    known.save_vote(7, Vote::new_committed(2, 1));
-    assert_eq!(rt; known.state.vote.utime(), Some(7));
-    known.truncate(2)?;
-    known.purge(&id(1, 0))?;
-    assert!(rt; known.first_place() == 1 && known.membership().is_none());
-    let last_membership = StoredMembership::new(Some(id(1, 0)), members(alloc, &[1])?);
-    let last_log_id = Some(id(1, 0));
-    known.save_snapshot(SnapshotMeta {
-        last_log_id,
-        last_membership,
-    })?;
-    assert_eq!(rt; place_in_force(&known), Some(0));
+    let mut known = grown_group(rt.alloc())?;
+    assert!(rt; keeps_vote(&mut known));
+    cut(&mut known, 2)?;
+    purge_first(&mut known)?;
+    assert!(rt; begins_without_members(&known));
+    let meta = first_snapshot(members(rt.alloc(), &[1])?);
+    save_snapshot(&mut known, meta)?;
+    assert!(rt; place_in_force(&known) == Some(0));
     Ok(())
 }
