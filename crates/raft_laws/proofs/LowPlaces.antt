@@ -61,7 +61,7 @@ event_low n Restarts stop (Down stored) h begins = after_low n (state_of stored)
 
 -- ---- an event of the world
 
-abbrev WorldLow : GroupWorld → Type 0
+abbrev pub WorldLow : GroupWorld → Type 0
 WorldLow w = (n : ℕ) → NodeLow (w.nodes n)
 
 one_low : (b : Bool) (new old : NodeState) → NodeLow new → NodeLow old → NodeLow (state_or b new old)
@@ -99,7 +99,7 @@ module _ (ids : List ℕ) (small : AreNodeIds ids) where
   new_low true = low_none
   new_low false = tt
 
-  history_low : (rs : List Recorded) (end : GroupWorld) → Replays (new_world ids) rs end → WorldLow end
+  pub history_low : (rs : List Recorded) (end : GroupWorld) → Replays (new_world ids) rs end → WorldLow end
   history_low rs end run = run_low [] rs (new_world ids) end refl (λ n. new_low (has_id ids n)) run
 
 stored_low : (x : NodeState) (st : StoredGroup) → NodeLow x → stored_of x ≡ Some st → end_place st ≤ 2 ^ 62
