@@ -23,6 +23,7 @@ pub mod FinishLemmas
 pub mod RoomLemmas
 pub mod RoomToGrow
 pub mod LeaderFinish
+pub mod NewGroupLemmas
 pub mod NewLeadLemmas
 pub mod ElectionEvents
 pub mod OpeningLemmas
