@@ -2,27 +2,47 @@
 ghost use Rattle.std.specs.Prelude.{◌≡◌, ◌<◌, ◌≤◌, length};
 
 use crate::bytes::FRAMES;
+use crate::calls::{feed, new_feeder, written};
 use crate::judge::{Verdict, judge};
-use raft_wire::{Feeder, FrameError, write_frame};
+use raft_wire::{Fed, Frame, FrameError};
 use std::alloc::Global;
 use std::test::Fail;
 
-// What a feeder says of a stream in one piece. A frame's bytes are those that it is written as.
+fn fed_at_once(alloc: Global, stream: &[u8]) -> Fed {
+    let mut feeder = new_feeder(alloc);
+    feed(&mut feeder, stream)
+}
+
+fn begins_with(stream: &[u8], used: usize, bytes: &[u8]) -> bool {
+    stream.get(..used) == Some(bytes)
+}
+
+// A frame's bytes are those that it is written as.
+fn verdict_of_frame(
+    alloc: Global,
+    stream: &[u8],
+    used: usize,
+    frame: &Frame,
+) -> Result<Verdict, Fail> {
+    let Ok(again) = written(alloc, frame) else {
+        return Err("not written".into());
+    };
+    if begins_with(stream, used, &again) {
+        Ok(Verdict::Frame(used))
+    } else {
+        Err("read, and written in another way".into())
+    }
+}
+
+// What a feeder says of a stream in one piece.
 fn verdict_of(alloc: Global, stream: &[u8]) -> Result<Verdict, Fail> {
-    let mut feeder = Feeder::new(alloc);
-    let fed = feeder.feed(stream);
+    let fed = fed_at_once(alloc, stream);
     let used = fed.used;
     match fed.frame {
         Ok(None) => Ok(Verdict::More),
         Err(FrameError::Fault(fault)) => Ok(Verdict::Fault(fault)),
         Err(_) => Err("no memory, or failed before".into()),
-        Ok(Some(frame)) => {
-            let again = write_frame(alloc, &frame).ok().ok_or("not written")?;
-            if stream.get(..used) != Some(again.as_slice()) {
-                return Err("read, and written in another way".into());
-            }
-            Ok(Verdict::Frame(used))
-        }
+        Ok(Some(frame)) => verdict_of_frame(alloc, stream, used, &frame),
     }
 }
 

@@ -2,21 +2,19 @@
 ghost use Rattle.std.specs.Prelude.{◌≡◌, ◌<◌, length};
 
 use crate::bytes::{APPEND, THREE_ENTRIES};
+use crate::calls::{entry_of, is_written_so, written_entry};
 use crate::judge::fault_of_entry;
-use raft_wire::{FrameError, FrameFault, read_entry, write_entry};
+use raft_wire::{FrameError, FrameFault};
 use std::alloc::Global;
 use std::test::Fail;
 
 // What `read_entry` says is wrong. An entry's bytes are those that it is written as.
 fn fault_of(alloc: Global, bytes: &[u8]) -> Result<Option<FrameFault>, Fail> {
-    match read_entry(alloc, bytes) {
+    match entry_of(alloc, bytes) {
         Err(FrameError::Fault(fault)) => Ok(Some(fault)),
         Err(_) => Err("no memory".into()),
         Ok(entry) => {
-            let again = write_entry(alloc, &entry).ok().ok_or("not written")?;
-            if again.as_slice() != bytes {
-                return Err("read, and written in another way".into());
-            }
+            is_written_so(written_entry(alloc, &entry), bytes)?;
             Ok(None)
         }
     }

@@ -2,18 +2,32 @@
 ghost use Rattle.std.specs.Prelude.{◌≤◌, length};
 
 use crate::bytes::FRAMES;
-use raft_wire::{Feeder, Frame, write_frame};
+use crate::calls::{feed, has_failed, is_written_so, new_feeder, written};
+use raft_wire::{Fed, Feeder, Frame};
 use std::alloc::Global;
 use std::test::Fail;
 
+// All of the piece is taken, and there is neither a frame nor a fault.
+fn waits_after(feeder: &mut Feeder, piece: &[u8]) -> bool {
+    let begun = feed(feeder, piece);
+    begun.used == piece.len() && matches!(begun.frame, Ok(None)) && !has_failed(feeder)
+}
+
 // There is a frame, and it is written as these bytes.
-fn is_written_so(alloc: Global, frame: Option<Frame>, bytes: &[u8]) -> Result<(), Fail> {
-    let frame = frame.ok_or("no frame")?;
-    let again = write_frame(alloc, &frame).ok().ok_or("not written")?;
-    if again.as_slice() != bytes {
-        return Err("written in another way".into());
+fn gives(alloc: Global, fed: Fed, bytes: &[u8]) -> Result<(), Fail> {
+    match fed.frame {
+        Ok(Some(frame)) => is_written_so(written(alloc, &frame), bytes),
+        _ => Err("no frame".into()),
     }
-    Ok(())
+}
+
+// The others give the frame.
+fn ends_with(alloc: Global, feeder: &mut Feeder, rest: &[u8], bytes: &[u8]) -> Result<(), Fail> {
+    let ended = feed(feeder, rest);
+    if ended.used != rest.len() {
+        return Err("not all is taken".into());
+    }
+    gives(alloc, ended, bytes)
 }
 
 // So many bytes give no frame and no fault; the others give the frame.
@@ -21,16 +35,12 @@ fn is_read_in_two(alloc: Global, bytes: &[u8], at: usize) -> Result<(), Fail>
     requires { at ≤ length bytes.now }
 {
     let (first, second) = bytes.split_at(at);
-    let mut feeder = Feeder::new(alloc);
-    let begun = feeder.feed(first);
-    if begun.used != at || !matches!(begun.frame, Ok(None)) || feeder.failed() {
-        return Err("judged too early".into());
+    let mut feeder = new_feeder(alloc);
+    if waits_after(&mut feeder, first) {
+        ends_with(alloc, &mut feeder, second, bytes)
+    } else {
+        Err("judged too early".into())
     }
-    let ended = feeder.feed(second);
-    if ended.used != second.len() {
-        return Err("not all is taken".into());
-    }
-    is_written_so(alloc, ended.frame.ok().flatten(), bytes)
 }
 
 fn is_read_in_each_two(alloc: Global, bytes: &[u8]) -> Result<(), Fail> {
@@ -57,21 +67,50 @@ fn all_frames(alloc: Global) -> Result<Vec<u8>, Fail> {
     Ok(stream)
 }
 
+// Puts what the frame is written as behind the others.
+fn put_written(alloc: Global, all: &mut Vec<u8>, frame: &Frame) -> Result<(), Fail> {
+    let Ok(bytes) = written(alloc, frame) else {
+        return Err("not written".into());
+    };
+    all.extend_from_slice(&bytes)?;
+    Ok(())
+}
+
+// Puts the frame that was given, if there is one.
+fn put_given(alloc: Global, all: &mut Vec<u8>, fed: Fed) -> Result<(), Fail> {
+    match fed.frame {
+        Ok(None) => Ok(()),
+        Ok(Some(frame)) => put_written(alloc, all, &frame),
+        Err(_) => Err("a fault".into()),
+    }
+}
+
+// Feeds so many bytes at most, and answers those that aren't taken.
+fn fed_piece<'a>(
+    alloc: Global,
+    feeder: &mut Feeder,
+    all: &mut Vec<u8>,
+    rest: &'a [u8],
+    size: usize,
+) -> Result<&'a [u8], Fail> {
+    let fed = feed(feeder, rest.get(..size).unwrap_or(rest));
+    let used = fed.used;
+    put_given(alloc, all, fed)?;
+    match rest.get(used..) {
+        Some(left) => Ok(left),
+        None => Err("more is taken than is there".into()),
+    }
+}
+
 // What the frames that a feeder gives are written as, where pieces have at most so many bytes.
 fn read_in_pieces(alloc: Global, stream: &[u8], size: usize) -> Result<Vec<u8>, Fail> {
-    let mut feeder = Feeder::new(alloc);
-    let mut written = Vec::new(alloc);
+    let mut feeder = new_feeder(alloc);
+    let mut all = Vec::new(alloc);
     let mut rest = stream;
     for _ in 0..stream.len() {
-        let piece = rest.get(..size).unwrap_or(rest);
-        let fed = feeder.feed(piece);
-        rest = rest.get(fed.used..).ok_or("more is taken than is there")?;
-        if let Some(frame) = fed.frame.ok().ok_or("a fault")? {
-            let bytes = write_frame(alloc, &frame).ok().ok_or("not written")?;
-            written.extend_from_slice(&bytes)?;
-        }
+        rest = fed_piece(alloc, &mut feeder, &mut all, rest, size)?;
     }
-    Ok(written)
+    Ok(all)
 }
 
 #[test]

@@ -84,14 +84,32 @@ pub fn notice(alloc: Global, last: Option<LogId<u64>>) -> Frame {
     framed(1, 2, FrameBody::Append(AppendFrame { id, request }))
 }
 
-fn three_voters(alloc: Global) -> Result<Membership<u64, BasicNode>, AllocError> {
+fn group_of_three(alloc: Global) -> Result<VoterGroups<u64>, AllocError> {
     let mut groups = VoterGroups::new(alloc);
     groups.push(IdSet::from_slice(alloc, &[1, 2, 3])?)?;
+    Ok(groups)
+}
+
+fn put_node(
+    nodes: &mut NodeMap<u64, BasicNode>,
+    alloc: Global,
+    id: u64,
+    address: &str,
+) -> Result<(), AllocError> {
+    nodes.insert(id, BasicNode::new(alloc, address)?)
+}
+
+fn three_nodes(alloc: Global) -> Result<NodeMap<u64, BasicNode>, AllocError> {
     let mut nodes = NodeMap::new(alloc);
-    nodes.insert(1, BasicNode::new(alloc, "n1")?)?;
-    nodes.insert(2, BasicNode::new(alloc, "n2")?)?;
-    nodes.insert(3, BasicNode::new(alloc, "n3")?)?;
-    Ok(Membership::from_parts(groups, nodes))
+    put_node(&mut nodes, alloc, 1, "n1")?;
+    put_node(&mut nodes, alloc, 2, "n2")?;
+    put_node(&mut nodes, alloc, 3, "n3")?;
+    Ok(nodes)
+}
+
+fn three_voters(alloc: Global) -> Result<Membership<u64, BasicNode>, AllocError> {
+    let groups = group_of_three(alloc)?;
+    Ok(Membership::from_parts(groups, three_nodes(alloc)?))
 }
 
 pub fn three_entries(alloc: Global) -> Result<Frame, AllocError> {
