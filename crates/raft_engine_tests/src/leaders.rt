@@ -183,9 +183,24 @@ fn entries_get_the_next_log_ids(rt: HostRuntime) -> Result<(), Fail> {
     Ok(())
 }
 
-// Whether somebody has the id, whose log is then known to match up to there.
-fn matches_up_to(leader: &mut NumberedLeader, id: u64, last: LogId<u64>) -> bool {
-    leader.set_peer(&id, ProgressEntry::new(Some(last)))
+// What is known of a peer whose log matches up to (1, 1, 3).
+fn up_to_3() -> ProgressEntry<u64> {
+    ProgressEntry::new(Some(log_id(1, 1, 3)))
+}
+
+// The same up to (1, 1, 5).
+fn up_to_5() -> ProgressEntry<u64> {
+    ProgressEntry::new(Some(log_id(1, 1, 5)))
+}
+
+// The same up to (2, 2, 5).
+fn up_to_own_5() -> ProgressEntry<u64> {
+    ProgressEntry::new(Some(log_id(2, 2, 5)))
+}
+
+// Whether somebody has the id, of whom that is then known.
+fn is_written_down(leader: &mut NumberedLeader, id: u64, known: ProgressEntry<u64>) -> bool {
+    leader.set_peer(&id, known)
 }
 
 // The voters are these from now on.
@@ -208,7 +223,7 @@ fn is_voter(leader: &NumberedLeader, id: u64) -> Option<bool> {
 
 // Whether node 3 is kept as a learner, node 5 is a new voter, and node 4 is nobody.
 fn has_kept_3(leader: &NumberedLeader) -> bool {
-    peer(leader, 3) == ProgressEntry::new(Some(log_id(1, 1, 5)))
+    peer(leader, 3) == up_to_5()
         && peer(leader, 4) == ProgressEntry::empty(9)
         && peer(leader, 5) == ProgressEntry::empty(9)
         && is_voter(leader, 3) == Some(false)
@@ -219,8 +234,8 @@ fn has_kept_3(leader: &NumberedLeader) -> bool {
 fn peers_are_written_down_and_kept(rt: HostRuntime) -> Result<(), Fail> {
     let alloc = rt.alloc();
     let mut leader = leader_after_8(alloc, &[1, 2, 3])?;
-    assert!(rt; matches_up_to(&mut leader, 3, log_id(1, 1, 5)));
-    assert!(rt; !matches_up_to(&mut leader, 4, log_id(1, 1, 5)));
+    assert!(rt; is_written_down(&mut leader, 3, up_to_5()));
+    assert!(rt; !is_written_down(&mut leader, 4, up_to_5()));
     change_voters(alloc, &mut leader, &[1, 2, 5])?;
     assert!(rt; has_kept_3(&leader));
     Ok(())
@@ -293,12 +308,12 @@ fn own_entries_are_committed(rt: HostRuntime) -> Result<(), Fail> {
     let mut leader = leader_after_6(rt.alloc())?;
     assert!(rt; commits(&leader, &log_ids, &voters, None));
     let rows = [
-        (1, log_id(1, 1, 3), None),
-        (3, log_id(2, 2, 5), Some(log_id(2, 2, 5))),
+        (1, up_to_3(), None),
+        (3, up_to_own_5(), Some(log_id(2, 2, 5))),
     ];
-    for (id, last, want) in rows {
+    for (id, known, want) in rows {
         assert!(rt;
-            matches_up_to(&mut leader, id, last) && commits(&leader, &log_ids, &voters, want)
+            is_written_down(&mut leader, id, known) && commits(&leader, &log_ids, &voters, want)
         );
     }
     Ok(())
