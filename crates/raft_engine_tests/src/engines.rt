@@ -258,6 +258,17 @@ fn a_new_engine_follows(rt: HostRuntime) -> Result<(), Fail> {
     Ok(())
 }
 
+fn engine_of_new_group(alloc: Global) -> Result<NumberedEngine, AllocError> {
+    Engine::for_new_group(alloc, 3)
+}
+
+#[test]
+fn an_engine_of_a_new_group_follows(rt: HostRuntime) -> Result<(), Fail> {
+    let engine = engine_of_new_group(rt.alloc())?;
+    assert!(rt; is_new(&engine));
+    Ok(())
+}
+
 // One voter leads at once, and commits each command as it is taken.
 fn leads_alone(alloc: Global) -> Result<bool, Fail> {
     let mut engine = set_up(alloc, &[1])?;
