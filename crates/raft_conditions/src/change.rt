@@ -1,10 +1,10 @@
 //! When a change of the membership is refused.
-ghost use Rattle.std.specs.Prelude.{◌≡◌, ◌∷◌, [], IfOk, nat_eq, not, option_map};
+ghost use Rattle.std.specs.Prelude.{◌≡◌, ◌∷◌, [], IfOk, false, MatchOption, nat_eq, not, option_map};
 ghost use Rattle.std.specs.Ordering.{nat_cmp};
 ghost use Rattle.raft_quorums.specs.Nodes.{has_id};
 ghost use Rattle.raft_quorums.specs.Rising.{IsRisingByFirst};
 ghost use Rattle.raft_group_step.specs.Refusal.{change_reasons, first_of_reasons};
-ghost use Rattle.raft_group_step.specs.Values.{after_change};
+ghost use Rattle.raft_group_step.specs.Values.{after_change, is_valid};
 ghost use Rattle.raft_conditions.specs.Reason.{reason_of};
 
 use crate::limits::{is_valid, is_within_limits};
@@ -130,6 +130,26 @@ fn step_refusal(
     None
 }
 
+/// What the change makes of the membership (own): nothing where that wouldn't be valid. An error is
+/// want of memory.
+pub fn changed_membership(
+    alloc: Global,
+    old: &Membership<u64, BasicNode>,
+    change: &Change,
+) -> Result<Option<Membership<u64, BasicNode>>, AllocError>
+    ensures { IfOk result (λ changed. MatchOption changed (is_valid (after_change old.now change.now) ≡ false) (λ new. new ≡ after_change old.now change.now)) }
+{
+    if old.get_joint_config().is_empty() {
+        let new = changed_without_groups(alloc, learners_of(alloc, old)?, change)?;
+        return Ok(Some(new));
+    }
+    match old.change(copied_change(change)?, true) {
+        Ok(new) => Ok(Some(new)),
+        Err(ChangeMembershipError::Memory(refused)) => Err(refused),
+        Err(_) => Ok(None),
+    }
+}
+
 /// Why the membership isn't changed so, if it isn't: the new one isn't valid or past a limit, or has
 /// other voter groups. An error is want of memory.
 pub(crate) fn change_refusal(
@@ -139,13 +159,8 @@ pub(crate) fn change_refusal(
 ) -> Result<Option<Refusal<u64>>, AllocError>
     ensures { IfOk result (λ refusal. option_map reason_of refusal ≡ first_of_reasons (change_reasons old.now (after_change old.now change.now))) }
 {
-    if old.get_joint_config().is_empty() {
-        let new = changed_without_groups(alloc, learners_of(alloc, old)?, change)?;
-        return Ok(step_refusal(old, &new));
-    }
-    match old.change(copied_change(change)?, true) {
-        Ok(new) => Ok(step_refusal(old, &new)),
-        Err(ChangeMembershipError::Memory(refused)) => Err(refused),
-        Err(_) => Ok(Some(Refusal::MembershipRefused)),
+    match changed_membership(alloc, old, change)? {
+        Some(new) => Ok(step_refusal(old, &new)),
+        None => Ok(Some(Refusal::MembershipRefused)),
     }
 }

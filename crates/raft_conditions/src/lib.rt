@@ -10,6 +10,7 @@ mod messages;
 mod ranges;
 mod refusal;
 
+pub use change::changed_membership;
 pub use facts::{
     GroupCommand, GroupEntry, GroupFacts, GroupPayload, GroupRequest, LoggedPair, Parties,
 };

@@ -55,8 +55,8 @@ pub(crate) fn push_up_to(
     push_copies(to, &entries[..room.min(entries.len())])
 }
 
-// The same entries again, as requests have them.
-pub(crate) fn copies_of(
+/// Copies of the entries, as requests have them (own). It fails for want of memory alone.
+pub fn copies_of(
     alloc: Global,
     entries: &[GroupEntry],
 ) -> Result<Entries<u64, BasicNode, Bytes>, AllocError>
