@@ -1,0 +1,32 @@
+-- How a step runs at a member, while its engine is taken out.
+use Rattle.std.specs.Prelude.{◌≡◌, ℕ, true, List, map, Option, Some, None}
+use Rattle.raft_group_step.specs.StoredGroup.{StoredGroup, Snapshot, after_storing_all}
+use Rattle.raft_group_step.specs.StepResult.{StepResult}
+use Rattle.raft_engine.specs.Standing.{IsWholeStepOf}
+use Rattle.raft_executor.specs.Sent.{message_of}
+use Rattle.raft_executor.specs.Stored.{IsGiven, queue_has_snapshot}
+use Rattle.raft_laws.specs.Stop.{stopped_after}
+use Rattle.raft_member.specs.Member.{Engine, IsDown, IsUp}
+use Rattle.raft_member.specs.declared.member.Member.{Member}
+use Rattle.raft_member.specs.declared.member.Ended.{Ended}
+use Rattle.raft_member.specs.declared.member.Ended.TheVariants as ended
+
+-- the engine has done the step, which begins with this stored, and the snapshot that its queue stores is given
+pub record IsRun (own : ℕ) (e : Engine) (old : StoredGroup) (r : StepResult) (given : Option Snapshot) (moment : ℕ) : Type 0 where
+  pub snapshot : Snapshot
+  pub step : IsWholeStepOf snapshot own e r
+  pub is_given : IsGiven (queue_has_snapshot e.output.queue) given snapshot
+  pub stored : r.state.stored ≡ after_storing_all r.commands old
+  pub moment : moment ≡ r.state.now
+
+-- the step stopped after some of its storing commands, and the member is down
+pub record HasHalted (old : StoredGroup) (r : StepResult) (m : Member) : Type 0 where
+  pub number : ℕ
+  pub down : IsDown m (stopped_after number old r)
+
+-- the step ran to its end, or stopped where it was to stop
+abbrev pub HasRun : StoredGroup → StepResult → Option ℕ → Member → Ended → Type 0
+HasRun old r stop m (ended.Done sent) = (stop ≡ None) × (map message_of sent.items ≡ r.messages) × IsUp m r.state
+HasRun old r stop m (ended.Refused why) = ⊥
+HasRun old r stop m ended.Stopped = (number : ℕ) × (stop ≡ Some number) × IsDown m (stopped_after number old r)
+HasRun old r stop m ended.Skipped = ⊥

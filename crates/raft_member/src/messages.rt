@@ -1,0 +1,197 @@
+//! Messages that come to a member.
+ghost use Rattle.std.specs.Prelude.{◌≡◌, ℕ, Ok, IfOk, OnOk, OnErr, max};
+ghost use Rattle.raft_group_step.specs.StoredGroup.{Snapshot, StoredGroup as Stored};
+ghost use Rattle.raft_group_step.specs.GroupState.{GroupState};
+ghost use Rattle.raft_group_step.specs.GroupEvent.{Receive};
+ghost use Rattle.raft_conditions.specs.Facts.{IsRefusalOf};
+ghost use Rattle.raft_engine.specs.Events.{HasTaken, MayTake, received};
+ghost use Rattle.raft_executor.specs.Sent.{body_of, message_of};
+ghost use Rattle.raft_executor.specs.declared.message.Body.TheVariants.{SnapshotRequest as SendsSnapshot};
+ghost use Rattle.raft_member.specs.Member.{HasEnded, HasStopped, IsBegun, IsDown, IsIdle, IsLawful, IsUp};
+ghost use Rattle.raft_member.specs.declared.member.Ended.TheVariants.{Skipped};
+
+use crate::member::{ByteGroup, Ended, Member};
+use crate::metas::{membership_of, meta_of};
+use crate::numbers::number_in;
+use raft_conditions::{GroupFacts, GroupRequest, Parties, Refusal};
+use raft_engine::{AppendEntriesRequest, Caller, Engine, RequestId};
+use raft_executor::{Body, Message};
+use raft_state::{LogId, Vote};
+use raft_stored_group::{GroupSnapshot, copies_of};
+use std::alloc::{AllocError, Global};
+
+// Why the message is refused, if it is.
+fn message_refusal(facts: &GroupFacts, message: &Message, now: u64) -> Option<Refusal<u64>>
+    ensures { IsRefusalOf facts.now (Receive message.now.sender (message_of message.now) now) result }
+{
+    let parties = Parties {
+        peer: message.sender,
+        sender: message.sender,
+        addressee: message.addressee,
+    };
+    match &message.body {
+        Body::VoteRequest(asked) => {
+            facts.vote_request_refusal(parties, asked.vote, asked.last_log_id, now)
+        }
+        Body::VoteReply(answer) => {
+            facts.vote_reply_refusal(parties, answer.vote, answer.last_log_id, now)
+        }
+        Body::AppendRequest { id, request } => {
+            facts.append_request_refusal(parties, request, number_in(id), now)
+        }
+        Body::AppendReply { request, outcome } | Body::SnapshotReply { request, outcome } => {
+            let id = number_in(&request.id);
+            facts.reply_refusal(parties, request.vote, id, request.previous, request.last, outcome, now)
+        }
+        Body::SnapshotRequest { vote, id, snapshot } => {
+            let membership = membership_of(snapshot);
+            facts.snapshot_request_refusal(parties, *vote, *id, snapshot.last(), membership, now)
+        }
+    }
+}
+
+// The log id of the last entry of a request, or the one before its entries.
+fn last_sent(request: &GroupRequest) -> Option<LogId<u64>>
+    ensures { result ≡ last_sent request.now.prev_log_id request.now.entries }
+{
+    match request.entries.as_slice().last() {
+        Some(entry) => Some(entry.log_id),
+        None => request.prev_log_id,
+    }
+}
+
+// A leader's request is handed to the engine.
+fn take_request(
+    alloc: Global,
+    peer: u64,
+    id: RequestId,
+    request: &GroupRequest,
+    moment: u64,
+    engine: &mut Engine<ByteGroup>,
+) -> Result<(), AllocError>
+    ensures { (x : Snapshot) (own at : ℕ) (s : GroupState) → moment ≡ max s.now at → MayTake own engine.old s (received own peer (body_of (SendsEntries id request.now)) at)
+        → OnOk result (HasTaken x own engine.new s (received own peer (body_of (SendsEntries id request.now)) at)) }
+{
+    let caller = Caller {
+        peer,
+        vote: request.vote,
+        id,
+        previous: request.prev_log_id,
+        last: last_sent(request),
+    };
+    let copy = AppendEntriesRequest {
+        vote: request.vote,
+        prev_log_id: request.prev_log_id,
+        entries: copies_of(alloc, request.entries.as_slice())?,
+        leader_commit: request.leader_commit,
+    };
+    engine.handle_append_entries(copy, caller, moment)
+}
+
+// The engine is handed the message, but for a snapshot, at this moment.
+fn take_message(
+    alloc: Global,
+    message: &Message,
+    moment: u64,
+    engine: &mut Engine<ByteGroup>,
+) -> Result<(), AllocError>
+    ensures { (x : Snapshot) (own at : ℕ) (s : GroupState) → moment ≡ max s.now at → ((vote : _) (id : ℕ) (y : Snapshot) → message.now.body ≡ SendsSnapshot vote id y → ⊥)
+        → MayTake own engine.old s (received own message.now.sender (body_of message.now.body) at)
+        → OnOk result (HasTaken x own engine.new s (received own message.now.sender (body_of message.now.body) at)) }
+{
+    let peer = message.sender;
+    match &message.body {
+        Body::VoteRequest(asked) => {
+            let caller = Caller::new(peer, asked.vote);
+            engine.handle_vote_req(asked, caller, moment)
+        }
+        Body::VoteReply(answer) => engine.handle_vote_resp(peer, answer, moment),
+        Body::AppendRequest { id, request } => {
+            take_request(alloc, peer, *id, request, moment, engine)
+        }
+        Body::AppendReply { request, outcome } | Body::SnapshotReply { request, outcome } => {
+            engine.handle_replication_resp(peer, request, outcome, moment)
+        }
+        Body::SnapshotRequest { .. } => Ok(()),
+    }
+}
+
+// A leader's snapshot is handed to the engine.
+fn take_snapshot(
+    alloc: Global,
+    peer: u64,
+    vote: Vote<u64>,
+    id: u64,
+    snapshot: &GroupSnapshot,
+    moment: u64,
+    engine: &mut Engine<ByteGroup>,
+) -> Result<(), AllocError>
+    ensures { (own at : ℕ) (s : GroupState) → moment ≡ max s.now at → MayTake own engine.old s (received own peer (body_of (SendsSnapshot vote id snapshot.now)) at)
+        → OnOk result (HasTaken snapshot.now own engine.new s (received own peer (body_of (SendsSnapshot vote id snapshot.now)) at)) }
+{
+    let last = snapshot.last();
+    if last.index == u64::MAX {
+        return Ok(());
+    }
+    let caller = Caller {
+        peer,
+        vote,
+        id: RequestId::Snapshot { id },
+        previous: None,
+        last: Some(last),
+    };
+    engine.handle_install_full_snapshot(vote, meta_of(alloc, snapshot)?, caller, moment)
+}
+
+impl Member {
+    // A message that isn't refused.
+    fn accepted_message(
+        &mut self,
+        alloc: Global,
+        engine: Engine<ByteGroup>,
+        message: &Message,
+        moment: u64,
+        stop: Option<u64>,
+    ) -> Result<Ended, AllocError>
+        ensures id { self.new.id ≡ self.old.id }
+        ensures ok { (at : ℕ) (s : GroupState) → IsBegun self.old s → moment ≡ max s.now at → MayTake self.old.id engine s (received self.old.id message.now.sender (body_of message.now.body) at)
+            → IfOk result (HasEnded self.old.id s (received self.old.id message.now.sender (body_of message.now.body) at) stop self.new) }
+        ensures err { (at : ℕ) (s : GroupState) → IsBegun self.old s → moment ≡ max s.now at → MayTake self.old.id engine s (received self.old.id message.now.sender (body_of message.now.body) at)
+            → OnErr result (HasStopped self.old.id s (received self.old.id message.now.sender (body_of message.now.body) at) self.new) }
+    {
+        let mut engine = engine;
+        if let Body::SnapshotRequest { vote, id, snapshot } = &message.body {
+            take_snapshot(alloc, message.sender, *vote, *id, snapshot, moment, &mut engine)?;
+            return self.end_taken(alloc, engine, Some(snapshot), moment, stop);
+        }
+        take_message(alloc, message, moment, &mut engine)?;
+        self.end_taken(alloc, engine, None, moment, stop)
+    }
+
+    /// A message comes at this moment, in ticks (own); one before the last one counts as the last
+    /// one. It may stop after so many storing commands. An error is want of memory: then the member
+    /// is down, with some of the storing commands done, from the first on.
+    pub fn receive(
+        &mut self,
+        alloc: Global,
+        message: &Message,
+        now: u64,
+        stop: Option<u64>,
+    ) -> Result<Ended, AllocError>
+        ensures id { self.new.id ≡ self.old.id }
+        ensures ok { (s : GroupState) → IsUp self.old s → IsLawful self.old.id s → IfOk result (HasEnded self.old.id s (Receive message.now.sender (message_of message.now) now) stop self.new) }
+        ensures err { (s : GroupState) → IsUp self.old s → IsLawful self.old.id s → OnErr result (HasStopped self.old.id s (Receive message.now.sender (message_of message.now) now) self.new) }
+        ensures down { (stored : Stored) → IsDown self.old stored → (result ≡ Ok Skipped) × IsDown self.new stored }
+    {
+        let Some(engine) = self.engine.take() else {
+            return Ok(Ended::Skipped);
+        };
+        match message_refusal(&self.facts(&engine), message, now) {
+            Some(refusal) => Ok(self.end_refused(engine, refusal, stop)),
+            None => {
+                let moment = self.moment.max(now);
+                self.accepted_message(alloc, engine, message, moment, stop)
+            }
+        }
+    }
+}

@@ -1,0 +1,144 @@
+//! A member that was down is opened with what it has stored.
+ghost use Rattle.std.specs.Prelude.{◌≡◌, ◌<◌, ◌^◌, nat_lt, ℕ, IfOk, Ok, OnErr, None};
+ghost use Rattle.raft_values.specs.LogId.{next_place};
+ghost use Rattle.raft_group_step.specs.StoredGroup.{StoredGroup as Stored, end_place};
+ghost use Rattle.raft_group_step.specs.StepResult.{unchanged};
+ghost use Rattle.raft_group_step.specs.GroupState.{GroupState, state_of};
+ghost use Rattle.raft_group_step.specs.GroupEvent.{Open};
+ghost use Rattle.raft_group_step.specs.GroupStep.{finished};
+ghost use Rattle.raft_group_step.specs.Opening.{resume_lead};
+ghost use Rattle.raft_engine.specs.Following.{all_go_on};
+ghost use Rattle.raft_known_state.specs.KnownState.{IsPlaced, entry_ids, meta_of};
+ghost use Rattle.raft_laws.specs.Opened.{opened};
+ghost use Rattle.raft_member.specs.Member.{HasEnded, HasStopped, IsDown, IsUp};
+ghost use Rattle.raft_member.specs.Opening.{HasOpened, IsFresh, IsOpenable, stale_end};
+ghost use Rattle.raft_member.specs.Running.{HasHalted, HasRun};
+ghost use Rattle.raft_member.specs.declared.member.Ended.TheVariants.{Skipped};
+
+use crate::member::{ByteGroup, Ended, Member};
+use crate::metas::meta_of;
+use raft_commands::EngineConfig;
+use raft_engine::{Engine, KnownState};
+use raft_state::{BasicNode, LogId, SnapshotMeta};
+use raft_stored_group::{GroupEntry, StoredGroup};
+use std::alloc::{AllocError, Global};
+
+// What the stored snapshot covers; nothing where there is none.
+fn stored_meta(
+    alloc: Global,
+    stored: &StoredGroup,
+) -> Result<SnapshotMeta<u64, BasicNode>, AllocError>
+    ensures { IfOk result (λ meta. meta ≡ meta_of stored.now.snapshot) }
+{
+    match stored.snapshot() {
+        Some(snapshot) => meta_of(alloc, snapshot),
+        None => Ok(SnapshotMeta::default(alloc)),
+    }
+}
+
+// Whether the entries' places rise, from behind the log id on.
+fn all_go_on(last: Option<LogId<u64>>, entries: &[GroupEntry]) -> bool
+    ensures { result ≡ all_go_on last (entry_ids entries.now) }
+{
+    let mut last = last;
+    for entry in entries {
+        if last.is_some_and(|last| entry.log_id.index <= last.index) {
+            return false;
+        }
+        last = Some(entry.log_id);
+    }
+    true
+}
+
+// Whether a place stands behind the log id that 64 bits hold.
+fn has_next(last: Option<LogId<u64>>) -> bool
+    ensures { result ≡ nat_lt (next_place last) (2 ^ 64) }
+{
+    match last {
+        None => true,
+        Some(id) => id.index < u64::MAX,
+    }
+}
+
+// What is known of what is stored; nothing where the log's places don't rise.
+fn known_state(
+    alloc: Global,
+    stored: &StoredGroup,
+) -> Result<Option<KnownState<u64, BasicNode>>, AllocError>
+    ensures { IsPlaced stored.now → end_place stored.now < 2 ^ 64 → IfOk result (IsFresh stored.now) }
+{
+    let purged = stored.purged();
+    if !has_next(purged) || !all_go_on(purged, stored.log()) {
+        return Ok(None);
+    }
+    let meta = stored_meta(alloc, stored)?;
+    let known = KnownState::load(alloc, stored.vote(), purged, meta, stored.log())?;
+    Ok(Some(known))
+}
+
+// The engine of what is stored: what the snapshot has is committed.
+fn opened_engine(
+    alloc: Global,
+    id: u64,
+    stored: &StoredGroup,
+) -> Result<Option<Engine<ByteGroup>>, AllocError>
+    ensures { (st : Stored) → stored.now ≡ (opened st).state.stored → IsOpenable id st → IfOk result (HasOpened id (opened st).state) }
+{
+    let Some(known) = known_state(alloc, stored)? else {
+        return Ok(None);
+    };
+    let mut engine = Engine::new(alloc, known, EngineConfig::new(id));
+    engine.state.state.committed = stored.snapshot_last();
+    Ok(Some(engine))
+}
+
+// The snapshot's last log id, where the log doesn't belong to the snapshot.
+fn stale_end(stored: &StoredGroup) -> Option<LogId<u64>>
+    ensures { result ≡ stale_end stored.now }
+{
+    let last = stored.snapshot_last()?;
+    if stored.is_joined_to(&last) {
+        return None;
+    }
+    Some(last)
+}
+
+impl Member {
+    // The engine starts with what is stored, whose log belongs to the snapshot.
+    fn start(&mut self, alloc: Global, stop: Option<u64>) -> Result<Ended, AllocError>
+        ensures id { self.new.id ≡ self.old.id }
+        ensures ok { (st : Stored) → IsDown self.old (opened st).state.stored → IsOpenable self.old.id st
+            → IfOk result (HasRun (opened st).state.stored (finished self.old.id None (resume_lead self.old.id (unchanged (opened st).state))) stop self.new) }
+        ensures err { (st : Stored) → IsDown self.old (opened st).state.stored → IsOpenable self.old.id st
+            → OnErr result (HasHalted (opened st).state.stored (finished self.old.id None (resume_lead self.old.id (unchanged (opened st).state))) self.new) }
+    {
+        let Some(mut engine) = opened_engine(alloc, self.id, &self.stored)? else {
+            return Ok(Ended::Skipped);
+        };
+        engine.startup()?;
+        self.end_taken(alloc, engine, None, 0, stop)
+    }
+
+    /// The member is opened with what it has stored (own): what the snapshot has is committed and
+    /// applied, a log that doesn't belong to the snapshot is dropped, and the node leads on under a
+    /// committed vote of its own. It may stop after so many storing commands. An error is want of
+    /// memory: then the member is down, with some of the storing commands done, from the first on.
+    pub fn open(&mut self, alloc: Global, stop: Option<u64>) -> Result<Ended, AllocError>
+        ensures id { self.new.id ≡ self.old.id }
+        ensures ok { (st : Stored) → IsDown self.old st → IsOpenable self.old.id st → IfOk result (HasEnded self.old.id (state_of st) Open stop self.new) }
+        ensures err { (st : Stored) → IsDown self.old st → IsOpenable self.old.id st → OnErr result (HasStopped self.old.id (state_of st) Open self.new) }
+        ensures up { (s : GroupState) → IsUp self.old s → (result ≡ Ok Skipped) × IsUp self.new s }
+    {
+        if self.engine.is_some() {
+            return Ok(Ended::Skipped);
+        }
+        let Some(last) = stale_end(&self.stored) else {
+            return self.start(alloc, stop);
+        };
+        if stop == Some(0) {
+            return Ok(Ended::Stopped);
+        }
+        self.stored.start_after(last);
+        self.start(alloc, stop.map(|count| count.saturating_sub(1)))
+    }
+}
