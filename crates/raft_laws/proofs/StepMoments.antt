@@ -1,20 +1,20 @@
 -- Each word by which steps are put together keeps the moment, and none refuses.
-use Rattle.std.specs.Prelude.{◌≡◌, ℕ, max, Bool, true, false, List, [], ◌∷◌, Option, Some, None, refl}
+use Rattle.std.specs.Prelude.{◌≡◌, ℕ, ◌+◌, max, if◌then◌else◌, Bool, true, false, List, [], ◌∷◌, ◌++◌, Option, Some, None, refl}
 use Rattle.std.proofs.Common.{◌∙◌, ap}
 use Rattle.raft_values.specs.declared.vote.Vote.{Vote}
 use Rattle.raft_values.specs.Vote.{vote_of}
 use Rattle.raft_values.specs.declared.log_id.LogId.{LogId}
-use Rattle.raft_values.specs.LogId.{log_id_of}
+use Rattle.raft_values.specs.LogId.{log_id_of, place_of}
 use Rattle.raft_state.specs.declared.entry.EntryPayload.TheVariants.{Blank, Membership as Members}
-use Rattle.raft_group_step.specs.Values.{ChangeMembers, Entry, EntryPayload, LoggedMembership, Membership, entry_of}
-use Rattle.raft_group_step.specs.StoredGroup.{CutFrom, PutEntries, Snapshot, StartAfter}
+use Rattle.raft_group_step.specs.Values.{ChangeMembers, Entry, LoggedMembership, entry_of, has_id}
+use Rattle.raft_group_step.specs.StoredGroup.{CutFrom, PutEntries, Snapshot, StartAfter, snapshot_last}
 use Rattle.raft_group_step.specs.Message.{AppendFields, ReplyFields, ReplyResult, Success, Conflict, HigherVote, MessageBody, VoteRequest, VoteReply, AppendRequest, AppendReply, SnapshotRequest, SnapshotReply}
 use Rattle.raft_group_step.specs.Peer.{PeerState}
 use Rattle.raft_group_step.specs.GroupState.{GroupState, Lead, Role, Follower, Candidate, Leader, state_of}
 use Rattle.raft_group_step.specs.declared.group_call.GroupCall.TheVariants.{Initialize, Elect, Propose, ChangeMembership, Heartbeat, Lost, TriggerSnapshot, TriggerPurge}
 use Rattle.raft_group_step.specs.GroupEvent.{GroupCall, GroupEvent, AddGroup, Call, Receive, Open}
-use Rattle.raft_group_step.specs.StepResult.{StepResult, RefusalReason, append, in_role, later_place, renew, send, step_down, store, store_vote, take_over, unchanged}
-use Rattle.raft_group_step.specs.Lead.{append_blank, commit_as_leader, lead_if, new_lead, other_ids, peer_of, purge_as_wished, remove_up_to, with_grant, with_wish}
+use Rattle.raft_group_step.specs.StepResult.{StepResult, RefusalReason, append, apply_up_to, in_role, later_place, renew, send, step_down, store, store_vote, take_over, unchanged}
+use Rattle.raft_group_step.specs.Lead.{append_blank, commit_as_leader, committed_vote, lead_if, new_lead, other_ids, peer_of, purge_as_wished, remove_up_to, with_grant, with_wish}
 use Rattle.raft_group_step.specs.Frames.{has_grown, notice, send_entries, send_request, send_snapshot, serve, serve_all, serve_as, with_frames, with_peer_state}
 use Rattle.raft_group_step.specs.Elect.{ask, elect_step, other_voters, stand}
 use Rattle.raft_group_step.specs.Initialize.{initialize_step}
@@ -57,12 +57,17 @@ module _ (now : ℕ) where
   blank_goes r h = either (Goes now) _ _ _ h (on r (append Blank r) refl refl h)
 
   lead_goes : (b : Bool) (r : StepResult) → Goes now r → Goes now (lead_if b r)
-  lead_goes true r h = blank_goes _ (on r _ refl refl h)
+  lead_goes true r h =
+      let led = in_role (Leader (new_lead r.state.stored)) (store_vote (committed_vote r.state.stored.vote) r) in
+      blank_goes led (on r led refl refl h)
   lead_goes false r h = h
 
   grant_goes : (n : ℕ) (role : Role) (r : StepResult) → Goes now r → Goes now (with_grant n role r)
   grant_goes n Follower r h = h
-  grant_goes n (Candidate granters) r h = lead_goes _ _ (on r _ refl refl h)
+  grant_goes n (Candidate granters) r h =
+      let granted = if has_id granters n then granters else granters ++ n ∷ [] in
+      let candidate = in_role (Candidate granted) r in
+      lead_goes _ candidate (on r candidate refl refl h)
   grant_goes n (Leader lead) r h = h
 
   ask_goes : (own : ℕ) (ns : List ℕ) (r : StepResult) → Goes now r → Goes now (ask own ns r)
@@ -71,8 +76,10 @@ module _ (now : ℕ) where
 
   elect_goes : (own : ℕ) (r : StepResult) → Goes now r → Goes now (elect_step own r)
   elect_goes own r h =
+      let vote = vote_of (r.state.stored.vote.leader_id.term + 1) own false in
+      let candidate = in_role (Candidate []) (store_vote vote (step_down r)) in
       grant_goes own (stand own r).state.role (stand own r)
-      (ask_goes own (other_voters own r.state.stored) _ (on r _ refl refl h))
+      (ask_goes own (other_voters own r.state.stored) candidate (on r candidate refl refl h))
 
   judged_goes : (own peer : ℕ) (vote : Vote ℕ) (b : Bool) (r : StepResult) → Goes now r → Goes now (judged own peer vote b r)
   judged_goes own peer vote true r h = on (take_over vote r) _ refl refl (take_over_goes vote r h)
@@ -185,7 +192,7 @@ module _ (now : ℕ) where
   within_goes place None r h = h
   within_goes place (Some last) r h = purge_goes _ r.state.role r h
 
-  pub call_goes : (own : ℕ) (call : GroupCall) (r : StepResult) → Goes now r → Goes now (call_step own call r)
+  call_goes : (own : ℕ) (call : GroupCall) (r : StepResult) → Goes now r → Goes now (call_step own call r)
   call_goes own (Initialize m) r h =
       elect_goes own (store (PutEntries 0 (entry_of (log_id_of 0 0 0) (Members m) ∷ [])) r) (on r _ refl refl h)
   call_goes own Elect r h = elect_goes own r h
@@ -241,7 +248,7 @@ module _ (now : ℕ) where
   frames_go own before r h =
       serve_all_goes own (has_grown before r.state.committed) (other_ids own r.state.stored) r h
 
-  pub finished_goes : (own : ℕ) (before : Option ℕ) (r : StepResult) → Goes now r → Goes now (finished own before r)
+  finished_goes : (own : ℕ) (before : Option ℕ) (r : StepResult) → Goes now r → Goes now (finished own before r)
   finished_goes own before r h =
       let committed = commit_as_leader own r.state.role r in
       frames_go own before _
@@ -262,12 +269,14 @@ event_goes own s (Call call now) = call_goes (max s.now now) own call (begun now
 event_goes own s (Receive peer m now) =
     message_goes (max s.now now) own peer m.body (begun now s) (record { moment = refl; taken = refl })
 event_goes own s Open =
-    let fresh = unchanged (state_of s.stored) in
-    resume_goes 0 own _
-    (on 0 (drop_stale_log _ fresh) _ refl refl (drop_goes 0 _ fresh (record { moment = refl; taken = refl })))
+    let last = snapshot_last s.stored in
+    let whole = unchanged (state_of s.stored) in
+    let joined = drop_stale_log last whole in
+    resume_goes 0 own (apply_up_to (place_of last) joined)
+    (on 0 joined (apply_up_to (place_of last) joined) refl refl (drop_goes 0 last whole (record { moment = refl; taken = refl })))
 
 -- an event that isn't refused goes on to its end
-step_goes : (own : ℕ) (s : GroupState) (e : GroupEvent) → Goes (moment_of s e) (step_unless None own s e)
+pub step_goes : (own : ℕ) (s : GroupState) (e : GroupEvent) → Goes (moment_of s e) (step_unless None own s e)
 step_goes own s e = finished_goes (moment_of s e) own s.committed (event_step own s e) (event_goes own s e)
 
 pub moments_of_calls : MomentsOfCalls
