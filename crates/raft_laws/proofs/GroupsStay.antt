@@ -1,5 +1,5 @@
 -- No storing command takes a group away.
-use Rattle.std.specs.Prelude.{◌≡◌, true, List, [], ◌∷◌, refl}
+use Rattle.std.specs.Prelude.{◌≡◌, true, [], ◌∷◌, refl}
 use Rattle.raft_group_step.specs.StoredGroup.{StoredGroup, StoringCommand, MakeGroup, SetVote, PutEntries, CutFrom, RemoveUpTo, SetSnapshot, StartAfter, after_storing}
 use Rattle.raft_laws.specs.GroupsStay.{GroupsStay}
 

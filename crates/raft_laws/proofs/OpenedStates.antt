@@ -1,5 +1,5 @@
 -- What an opening makes of a stored group: its log is as it was, or empty above the snapshot. Either goes on from the snapshot.
-use Rattle.std.specs.Prelude.{◌≡◌, ℕ, ◌+◌, ◌-◌, ◌≤◌, true, length, drop, slice_get, Option, Some, None, option_and_then, option_map, refl}
+use Rattle.std.specs.Prelude.{◌≡◌, ℕ, ◌+◌, ◌-◌, true, length, drop, slice_get, Option, Some, None, option_and_then, option_map, refl}
 use Rattle.std.proofs.Common.{sym, ap, ◌∙◌, subst, arith}
 use Rattle.std.proofs.Math.Seq.{drop-nil}
 use Rattle.raft_values.specs.declared.log_id.LogId.{LogId}

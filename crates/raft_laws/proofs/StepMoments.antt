@@ -17,18 +17,17 @@ use Rattle.raft_group_step.specs.StepResult.{StepResult, RefusalReason, append, 
 use Rattle.raft_group_step.specs.Lead.{append_blank, commit_as_leader, committed_vote, lead_if, new_lead, other_ids, peer_of, purge_as_wished, remove_up_to, with_grant, with_wish}
 use Rattle.raft_group_step.specs.Frames.{has_grown, notice, send_entries, send_request, send_snapshot, serve, serve_all, serve_as, with_frames, with_peer_state}
 use Rattle.raft_group_step.specs.Elect.{ask, elect_step, other_voters, stand}
-use Rattle.raft_group_step.specs.Initialize.{initialize_step}
 use Rattle.raft_group_step.specs.VoteRequest.{judged, may_grant}
 use Rattle.raft_group_step.specs.VoteReply.{counted, take_over_greater}
 use Rattle.raft_group_step.specs.AppendRequest.{above_committed, cut_at, cut_from, heard, joined, missing_entries, put_entries}
-use Rattle.raft_group_step.specs.SnapshotRequest.{cut_other, install, install_unless, offered, place_above}
+use Rattle.raft_group_step.specs.SnapshotRequest.{cut_other, install_unless, offered, place_above}
 use Rattle.raft_group_step.specs.Reply.{after_answer, answered, ended, reply_step, with_higher_vote}
 use Rattle.raft_group_step.specs.MembershipStep.{append_changed}
 use Rattle.raft_group_step.specs.Heartbeat.{beat_as, send_notices}
 use Rattle.raft_group_step.specs.Lost.{lost_as}
 use Rattle.raft_group_step.specs.SnapshotTrigger.{snapshot_of_applied, store_snapshot_at}
 use Rattle.raft_group_step.specs.PurgeTrigger.{purge_as, purge_within}
-use Rattle.raft_group_step.specs.Opening.{drop_stale_log, opening_step, resume_lead}
+use Rattle.raft_group_step.specs.Opening.{drop_stale_log, resume_lead}
 use Rattle.raft_group_step.specs.Refusal.{refusal_of}
 use Rattle.raft_group_step.specs.GroupStep.{begun, call_step, event_step, finished, message_step, step_unless}
 use Rattle.raft_laws.specs.Moments.{MomentsOfCalls, MomentsOfMessages, MomentsOfOpenings}
