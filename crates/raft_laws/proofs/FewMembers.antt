@@ -73,7 +73,7 @@ ids_few : (o : Option LoggedMembership) → IsFewOption o → length (ids_of o) 
 ids_few None h = omega arith
 ids_few (Some m) h = let size = length-map m.membership.nodes (λ x. x.0) in omega (arith, h)
 
-stored_few : (st : StoredGroup) → ((x : Snapshot) → st.snapshot ≡ Some x → SnapshotFits x) → StoredEach IsFewEntry st → length (ids_of (membership_in_force st)) ≤ 128
+pub stored_few : (st : StoredGroup) → ((x : Snapshot) → st.snapshot ≡ Some x → SnapshotFits x) → StoredEach IsFewEntry st → length (ids_of (membership_in_force st)) ≤ 128
 stored_few st f h =
     ids_few (membership_in_force st)
     (last_few (option_and_then (λ (x : Snapshot). x.membership) st.snapshot) st.log (snapshot_few st.snapshot f h.1) h.0)
@@ -104,7 +104,9 @@ history_few ids rs end h =
     let run = replays-run rs (new_world ids) end h.replays in
     subst AllFew run.same_end (run_few run.events (new_world ids) (start_few ids))
 
+pub stored_entries_few : (ids : List ℕ) (rs : List Recorded) (end : GroupWorld) → IsGroupHistory ids rs end → (n : ℕ) (st : StoredGroup) → stored_of (end.nodes n) ≡ Some st → StoredEach IsFewEntry st
+stored_entries_few ids rs end h n st e = entries_few (end.nodes n) st ((history_few ids rs end h).nodes n) e
+
 pub members_few : MembersAreFew
 members_few ids rs end h n st e =
-    stored_few st (history_snapshots ids rs end h n st e)
-    (entries_few (end.nodes n) st ((history_few ids rs end h).nodes n) e)
+    stored_few st (history_snapshots ids rs end h n st e) (stored_entries_few ids rs end h n st e)

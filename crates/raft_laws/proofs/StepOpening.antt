@@ -289,6 +289,10 @@ module _ (m : Membership) (some : 0 < length m.configs) (own : ℕ) (before : Li
   cleaned : Cleaned (drop_stale_log (snapshot_last st) r0)
   cleaned = cleaned_as st.snapshot refl down.shape
 
+  -- what the opening goes on from
+  pub opened_up : UpFits m (opened.node own) (placed (drop_stale_log (snapshot_last st) r0)).state
+  opened_up = (placed_tracks (drop_stale_log (snapshot_last st) r0) cleaned).up
+
   pub opening_ends : Ends m some own before st w (opening_step own st)
   opening_ends = resumed _ cleaned
 

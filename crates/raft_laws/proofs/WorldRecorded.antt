@@ -1,22 +1,18 @@
 -- What an event of a run asked for stands in its history, neither refused nor skipped.
 use Rattle.std.specs.Prelude.{◌≡◌, ℕ, zero, suc, Bool, true, false, [], ◌∷◌, slice_get, Option, Some, None, is_some, refl}
 use Rattle.std.proofs.Common.{sym, ap, ◌∙◌}
-use Rattle.raft_group_step.specs.Values.{ChangeMembers, Entry, LoggedMembership}
-use Rattle.raft_group_step.specs.StoredGroup.{membership_in_force}
 use Rattle.raft_group_step.specs.GroupState.{GroupState}
-use Rattle.raft_group_step.specs.declared.group_call.GroupCall.TheVariants.{Initialize, Elect, Propose, ChangeMembership, Heartbeat, Lost, TriggerSnapshot, TriggerPurge}
-use Rattle.raft_group_step.specs.GroupEvent.{GroupCall, GroupEvent, Call}
+use Rattle.raft_group_step.specs.GroupEvent.{GroupEvent, Call}
 use Rattle.raft_group_step.specs.StepResult.{RefusalReason, StepResult}
-use Rattle.raft_group_step.specs.MembershipStep.{append_changed}
-use Rattle.raft_group_step.specs.GroupStep.{begun, call_step, group_step, step_unless}
+use Rattle.raft_group_step.specs.GroupStep.{group_step}
 use Rattle.raft_laws.specs.declared.world_event.WorldEvent.{WorldEvent}
 use Rattle.raft_laws.specs.declared.world_event.WorldEvent.TheVariants.{Ask}
 use Rattle.raft_laws.specs.GroupWorld.{GroupWorld, Up, Outcome, Recorded}
 use Rattle.raft_laws.specs.NodeEvent.{Comes, outcome_at, outcome_of_end, outcome_of_step}
 use Rattle.raft_laws.specs.GroupRun.{history_of, outcome_in, outcome_of, ran, scene_of_call}
-use Rattle.raft_laws.specs.Origins.{AskedIsRecorded, Events, entry_of_call, is_taken, world_before}
+use Rattle.raft_laws.specs.Origins.{AskedIsRecorded, Events, is_taken, world_before}
 use Rattle.raft_laws.proofs.BallotAgreement.{same_some}
-use Rattle.raft_laws.proofs.SetUps.{Goes, finished_goes, set_up_done}
+use Rattle.raft_laws.proofs.StepMoments.{refusals_told}
 
 abbrev recorded : WorldEvent → Outcome → Recorded
 recorded event outcome = record { event = event; outcome = outcome }
@@ -31,24 +27,6 @@ history_at (x ∷ es) w zero event stop e =
     ap (λ (y : WorldEvent × Option ℕ). Some (recorded y.0 (outcome_of w y.0 (is_some y.1)))) (same_some e)
 history_at (x ∷ es) w (suc number) event stop e = history_at es (ran w x.0 x.1) number event stop e
 
-changed_goes : (r : StepResult) → r.refused ≡ None → (o : Option LoggedMembership) (change : ChangeMembers) (token : ℕ) → Goes (append_changed o change token r)
-changed_goes r h None change token = record { is = h }
-changed_goes r h (Some x) change token = record { is = h }
-
--- a call that writes and isn't refused goes on to its end
-call_goes : (own : ℕ) (s : GroupState) (call : GroupCall) (now : ℕ) (e : Entry) → entry_of_call s.stored call ≡ Some e → (step_unless None own s (Call call now)).refused ≡ None
-call_goes own s (Initialize m) now e writes = set_up_done own m s.committed (begun now s) refl
-call_goes own s Elect now e writes = none_some e writes
-call_goes own s (Propose command token) now e writes =
-    (finished_goes own s.committed (call_step own (Propose command token) (begun now s)) (record { is = refl })).is
-call_goes own s (ChangeMembership change token) now e writes =
-    (finished_goes own s.committed (call_step own (ChangeMembership change token) (begun now s))
-    (changed_goes (begun now s) refl (membership_in_force s.stored) change token)).is
-call_goes own s Heartbeat now e writes = none_some e writes
-call_goes own s (Lost peer) now e writes = none_some e writes
-call_goes own s TriggerSnapshot now e writes = none_some e writes
-call_goes own s (TriggerPurge place) now e writes = none_some e writes
-
 end_taken : (r : StepResult) (why : Option RefusalReason) → why ≡ None → is_taken (outcome_of_end r why) ≡ true
 end_taken r None e = refl
 end_taken r (Some why) e = absurd (let f : None ≡ Some why = sym e in cc)
@@ -62,9 +40,7 @@ asked_is_recorded es w number call e a =
     let world = world_before es number w in
     let stopped = is_some a.stop in
     let event : GroupEvent = Call call a.now in
-    let goes : (group_step a.node a.state event).refused ≡ None =
-    ap (λ (o : Option RefusalReason). (step_unless o a.node a.state event).refused) a.taken ∙ call_goes a.node a.state call a.now e a.writes
-    in
+    let goes : (group_step a.node a.state event).refused ≡ None = refusals_told a.node a.state event ∙ a.taken in
     let is : outcome_of world (Ask a.node call a.now) stopped ≡ outcome_at a.node (Comes event) stopped (Up a.state) =
     ap (λ (t : Bool). outcome_in world stopped (scene_of_call t a.node call a.now)) a.set_up
     ∙ ap (outcome_at a.node (Comes event) stopped) a.is_up

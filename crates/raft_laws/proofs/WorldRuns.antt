@@ -22,7 +22,8 @@ use Rattle.raft_laws.proofs.StepFits.{world_after}
 use Rattle.raft_laws.proofs.Standing.{MessageFits, message_on}
 use Rattle.raft_laws.proofs.WorldFits.{NodeStateFits, WorldFits, led_on, node_on}
 use Rattle.raft_laws.proofs.WorldSteps.{NodeEnd, MayCome, MayHappen, node_event}
-use Rattle.raft_laws.proofs.SetUps.{same_membership, set_up_done}
+use Rattle.raft_laws.proofs.SameMemberships.{same_membership}
+use Rattle.raft_laws.proofs.StepMoments.{step_goes}
 
 pub among_either : {A : Type 0} (x : A) (xs ys : List A) → Among x (xs ++ ys) → Among x xs ⊎ Among x ys
 among_either x [] ys h = inr h
@@ -83,7 +84,7 @@ module _ (m : Membership) (b : BallotWorld) where
       go None is =
           let r : StepResult = finished n s.committed (initialize_step n x (begun now s)) in
           let same : group_step n s (Call (Initialize x) now) ≡ r = ap (λ o. step_unless o n s (Call (Initialize x) now)) is in
-          let done : outcome_of_end r r.refused ≡ Done r.messages r.told r.unknown = ap (outcome_of_end r) (set_up_done n x s.committed (begun now s) refl) in
+          let done : outcome_of_end r r.refused ≡ Done r.messages r.told r.unknown = ap (outcome_of_end r) (step_goes n s (Call (Initialize x) now)).taken in
           named n s x now (noted x (ap (λ (q : StepResult). setup_after None (Ask n (Initialize x) now) (outcome_of_end q q.refused)) same ∙ ap (setup_after None (Ask n (Initialize x) now)) done))
 
   call_comes : (first : Option Membership) → ((y : Membership) → first ≡ Some y → IsSetUp m y) → (n : ℕ) (s : GroupState) (call : GroupCall) (now : ℕ) (stopped : Bool) → is_same_setup first (setup_in_call call) ≡ true → ((y : Membership) → setup_after first (Ask n call now) (outcome_of_step stopped s (Call call now) (group_step n s (Call call now))) ≡ Some y → IsSetUp m y) → MayCome m b n s (Call call now)

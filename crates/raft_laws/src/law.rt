@@ -5,6 +5,8 @@ ghost use Rattle.raft_group_step.specs.GroupState.{GroupState};
 ghost use Rattle.raft_group_step.specs.GroupEvent.{GroupEvent};
 ghost use Rattle.raft_group_step.specs.GroupStep.{group_step};
 ghost use Rattle.raft_laws.specs.StoringOrder.{StoresInOrder};
+ghost use Rattle.raft_laws.specs.GroupsStay.{GroupsStay};
+ghost use Rattle.raft_laws.specs.Refusals.{RefusalsAreTold};
 ghost use Rattle.raft_laws.specs.VotesRise.{VotesNeverDecrease};
 ghost use Rattle.raft_laws.specs.CommitsOwn.{CommitsOwn, LeadersCommitTheirOwn};
 
@@ -12,6 +14,16 @@ ghost use Rattle.raft_laws.specs.CommitsOwn.{CommitsOwn, LeadersCommitTheirOwn};
 /// lesser vote in place of a greater, and none cuts the log at or below the committed place.
 pub fn step_stores_its_commands()
     ensures { (own : ℕ) (s : GroupState) (e : GroupEvent) → StoresInOrder s.committed s.stored (group_step own s e) }
+{}
+
+/// A group that a node has stays, whatever is stored.
+pub fn groups_stay()
+    ensures { GroupsStay }
+{}
+
+/// A step tells the reason for which its event is refused, and none where it isn't.
+pub fn refusals_are_told()
+    ensures { RefusalsAreTold }
 {}
 
 /// A node's vote never decreases, over every history that replays, with a stop after any number of an event's storing
