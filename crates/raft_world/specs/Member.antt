@@ -15,10 +15,10 @@ use Rattle.raft_engine.specs.Standing.{Engine as EngineOf, IsStateOf}
 use Rattle.raft_executor.specs.Sent.{message_of}
 use Rattle.raft_laws.specs.GroupWorld.{NodeState, Absent, Up, Down}
 use Rattle.raft_laws.specs.Stop.{stopped_after}
-use Rattle.raft_member.specs.declared.member.ByteGroup.{ByteGroup}
-use Rattle.raft_member.specs.declared.member.Member.{Member}
-use Rattle.raft_member.specs.declared.member.Ended.{Ended}
-use Rattle.raft_member.specs.declared.member.Ended.TheVariants as ended
+use Rattle.raft_world.specs.declared.member.ByteGroup.{ByteGroup}
+use Rattle.raft_world.specs.declared.member.Member.{Member}
+use Rattle.raft_world.specs.declared.member.Ended.{Ended}
+use Rattle.raft_world.specs.declared.member.Ended.TheVariants as ended
 
 abbrev pub Engine : Type 0
 Engine = EngineOf ByteGroup (List ℕ)
@@ -39,10 +39,10 @@ pub record IsUp (m : Member) (s : GroupState) : Type 0 where
   pub moment : m.moment ≡ s.now
 
 -- the member is down with what it has stored
-pub record IsDown (m : Member) (stored : StoredGroup) : Type 0 where
+pub record IsDown (m : Member) (kept : StoredGroup) : Type 0 where
   pub no_engine : m.engine ≡ None
-  pub stored : m.stored ≡ stored
-  pub present : stored.present ≡ true
+  pub stored : m.stored ≡ kept
+  pub present : kept.present ≡ true
 
 -- the member is in this state
 abbrev pub IsAt : Member → NodeState → Type 0

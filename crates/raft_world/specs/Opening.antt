@@ -9,15 +9,15 @@ use Rattle.raft_engine.specs.Events.{IsReady}
 use Rattle.raft_engine.specs.Standing.{IsStateOf}
 use Rattle.raft_known_state.specs.KnownState.{IsPlaced, KnownState, Knows}
 use Rattle.raft_laws.specs.Opened.{opened}
-use Rattle.raft_member.specs.Member.{Engine}
+use Rattle.raft_world.specs.Member.{Engine}
 
 -- what was stored is in order once it is opened, and as an engine asks
-pub record IsOpenable (own : ℕ) (stored : StoredGroup) : Type 0 where
-  pub placed : IsPlaced (opened stored).state.stored
-  pub purged : first_place (opened stored).state.stored ≤ next_place (snapshot_last (opened stored).state.stored)
-  pub snapshot : (last : LogId ℕ) → snapshot_last stored ≡ Some last → id_at (opened stored).state.stored last.index ≡ Some last
-  pub reaches : next_place (snapshot_last (opened stored).state.stored) ≤ end_place (opened stored).state.stored
-  pub ready : IsReady own (opened stored).state
+pub record IsOpenable (own : ℕ) (kept : StoredGroup) : Type 0 where
+  pub placed : IsPlaced (opened kept).state.stored
+  pub purged : first_place (opened kept).state.stored ≤ next_place (snapshot_last (opened kept).state.stored)
+  pub snapshot : (last : LogId ℕ) → snapshot_last kept ≡ Some last → id_at (opened kept).state.stored last.index ≡ Some last
+  pub reaches : next_place (snapshot_last (opened kept).state.stored) ≤ end_place (opened kept).state.stored
+  pub ready : IsReady own (opened kept).state
 
 -- what is known is what is stored, and nothing is committed yet
 pub record Loads (k : KnownState) (stored : StoredGroup) : Type 0 where

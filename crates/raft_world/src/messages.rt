@@ -6,10 +6,14 @@ ghost use Rattle.raft_group_step.specs.GroupEvent.{Receive};
 ghost use Rattle.raft_conditions.specs.Facts.{IsRefusalOf};
 ghost use Rattle.raft_engine.specs.Events.{HasTaken, MayTake, received};
 ghost use Rattle.raft_executor.specs.Sent.{body_of, message_of};
-ghost use Rattle.raft_executor.specs.declared.message.Body.TheVariants.{SnapshotRequest as SendsSnapshot};
-ghost use Rattle.raft_member.specs.Member.{HasEnded, HasStopped, IsBegun, IsDown, IsIdle, IsLawful, IsUp};
-ghost use Rattle.raft_member.specs.declared.member.Ended.TheVariants.{Skipped};
+ghost use Rattle.raft_executor.specs.declared.message.Body.TheVariants.{AppendRequest as SendsEntries, SnapshotRequest as SendsSnapshot};
+ghost use Rattle.raft_group_step.specs.GroupStep.{group_step};
+ghost use Rattle.raft_group_step.specs.Message.{last_sent};
+ghost use Rattle.raft_world.specs.Member.{HasEnded, HasStopped, IsDown, IsIdle, IsLawful, IsUp};
+ghost use Rattle.raft_world.specs.Running.{HasHalted, HasRun, left_by};
+ghost use Rattle.raft_world.specs.declared.member.Ended.TheVariants.{Skipped};
 
+use crate::ending::end_refused;
 use crate::member::{ByteGroup, Ended, Member};
 use crate::metas::{membership_of, meta_of};
 use crate::numbers::number_in;
@@ -148,24 +152,47 @@ impl Member {
     fn accepted_message(
         &mut self,
         alloc: Global,
-        engine: Engine<ByteGroup>,
+        engine: &mut Engine<ByteGroup>,
         message: &Message,
         moment: u64,
         stop: Option<u64>,
     ) -> Result<Ended, AllocError>
         ensures id { self.new.id ≡ self.old.id }
-        ensures ok { (at : ℕ) (s : GroupState) → IsBegun self.old s → moment ≡ max s.now at → MayTake self.old.id engine s (received self.old.id message.now.sender (body_of message.now.body) at)
-            → IfOk result (HasEnded self.old.id s (received self.old.id message.now.sender (body_of message.now.body) at) stop self.new) }
-        ensures err { (at : ℕ) (s : GroupState) → IsBegun self.old s → moment ≡ max s.now at → MayTake self.old.id engine s (received self.old.id message.now.sender (body_of message.now.body) at)
-            → OnErr result (HasStopped self.old.id s (received self.old.id message.now.sender (body_of message.now.body) at) self.new) }
+        ensures ok { (at : ℕ) (s : GroupState) → IsDown self.old s.stored → moment ≡ max s.now at → MayTake self.old.id engine.old s (received self.old.id message.now.sender (body_of message.now.body) at)
+            → IfOk result (λ ended. HasRun s.stored (group_step self.old.id s (received self.old.id message.now.sender (body_of message.now.body) at)) stop (left_by ended engine.new self.new) ended) }
+        ensures err { (at : ℕ) (s : GroupState) → IsDown self.old s.stored → moment ≡ max s.now at → MayTake self.old.id engine.old s (received self.old.id message.now.sender (body_of message.now.body) at)
+            → OnErr result (HasHalted s.stored (group_step self.old.id s (received self.old.id message.now.sender (body_of message.now.body) at)) self.new) }
     {
-        let mut engine = engine;
         if let Body::SnapshotRequest { vote, id, snapshot } = &message.body {
-            take_snapshot(alloc, message.sender, *vote, *id, snapshot, moment, &mut engine)?;
+            take_snapshot(alloc, message.sender, *vote, *id, snapshot, moment, engine)?;
             return self.end_taken(alloc, engine, Some(snapshot), moment, stop);
         }
-        take_message(alloc, message, moment, &mut engine)?;
+        take_message(alloc, message, moment, engine)?;
         self.end_taken(alloc, engine, None, moment, stop)
+    }
+
+    // A message comes while the engine is taken out.
+    fn message(
+        &mut self,
+        alloc: Global,
+        engine: &mut Engine<ByteGroup>,
+        message: &Message,
+        now: u64,
+        stop: Option<u64>,
+    ) -> Result<Ended, AllocError>
+        ensures id { self.new.id ≡ self.old.id }
+        ensures ok { (s : GroupState) → IsDown self.old s.stored → self.old.moment ≡ s.now → IsIdle self.old.id engine.old s → IsLawful self.old.id s
+            → IfOk result (λ ended. HasEnded self.old.id s (Receive message.now.sender (message_of message.now) now) stop (left_by ended engine.new self.new) ended) }
+        ensures err { (s : GroupState) → IsDown self.old s.stored → self.old.moment ≡ s.now → IsIdle self.old.id engine.old s → IsLawful self.old.id s
+            → OnErr result (HasStopped self.old.id s (Receive message.now.sender (message_of message.now) now) self.new) }
+    {
+        match message_refusal(&self.facts(engine), message, now) {
+            Some(refusal) => Ok(end_refused(refusal, stop)),
+            None => {
+                let moment = self.moment.max(now);
+                self.accepted_message(alloc, engine, message, moment, stop)
+            }
+        }
     }
 
     /// A message comes at this moment, in ticks (own); one before the last one counts as the last
@@ -183,15 +210,11 @@ impl Member {
         ensures err { (s : GroupState) → IsUp self.old s → IsLawful self.old.id s → OnErr result (HasStopped self.old.id s (Receive message.now.sender (message_of message.now) now) self.new) }
         ensures down { (stored : Stored) → IsDown self.old stored → (result ≡ Ok Skipped) × IsDown self.new stored }
     {
-        let Some(engine) = self.engine.take() else {
+        let Some(mut engine) = self.engine.take() else {
             return Ok(Ended::Skipped);
         };
-        match message_refusal(&self.facts(&engine), message, now) {
-            Some(refusal) => Ok(self.end_refused(engine, refusal, stop)),
-            None => {
-                let moment = self.moment.max(now);
-                self.accepted_message(alloc, engine, message, moment, stop)
-            }
-        }
+        let ended = self.message(alloc, &mut engine, message, now, stop)?;
+        self.put_back(engine, &ended);
+        Ok(ended)
     }
 }

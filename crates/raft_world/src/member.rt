@@ -4,7 +4,7 @@ ghost use Rattle.std.specs.Option.{option_copied};
 ghost use Rattle.raft_group_step.specs.StoredGroup.{StoredGroup as Stored};
 ghost use Rattle.raft_group_step.specs.GroupState.{GroupState, no_group, state_of};
 ghost use Rattle.raft_laws.specs.GroupWorld.{Up};
-ghost use Rattle.raft_member.specs.Member.{IsAt, IsDown, IsUp};
+ghost use Rattle.raft_world.specs.Member.{IsAt, IsDown, IsUp};
 
 use crate::ending::at_rest;
 use raft_commands::RaftTypeConfig;

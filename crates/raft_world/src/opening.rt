@@ -10,10 +10,10 @@ ghost use Rattle.raft_group_step.specs.Opening.{resume_lead};
 ghost use Rattle.raft_engine.specs.Following.{all_go_on};
 ghost use Rattle.raft_known_state.specs.KnownState.{IsPlaced, entry_ids, meta_of};
 ghost use Rattle.raft_laws.specs.Opened.{opened};
-ghost use Rattle.raft_member.specs.Member.{HasEnded, HasStopped, IsDown, IsUp};
-ghost use Rattle.raft_member.specs.Opening.{HasOpened, IsFresh, IsOpenable, stale_end};
-ghost use Rattle.raft_member.specs.Running.{HasHalted, HasRun};
-ghost use Rattle.raft_member.specs.declared.member.Ended.TheVariants.{Skipped};
+ghost use Rattle.raft_world.specs.Member.{HasEnded, HasStopped, IsDown, IsUp};
+ghost use Rattle.raft_world.specs.Opening.{HasOpened, IsFresh, IsOpenable, stale_end};
+ghost use Rattle.raft_world.specs.Running.{HasHalted, HasRun};
+ghost use Rattle.raft_world.specs.declared.member.Ended.TheVariants.{Skipped};
 
 use crate::member::{ByteGroup, Ended, Member};
 use crate::metas::meta_of;
@@ -116,7 +116,9 @@ impl Member {
             return Ok(Ended::Skipped);
         };
         engine.startup()?;
-        self.end_taken(alloc, engine, None, 0, stop)
+        let ended = self.end_taken(alloc, &mut engine, None, 0, stop)?;
+        self.put_back(engine, &ended);
+        Ok(ended)
     }
 
     /// The member is opened with what it has stored (own): what the snapshot has is committed and

@@ -1,5 +1,5 @@
 //! The end of an event: what the queue asks for is stored and sent.
-ghost use Rattle.std.specs.Prelude.{◌≡◌, ℕ, IfOk, OnErr, Some, None, true};
+ghost use Rattle.std.specs.Prelude.{◌≡◌, ℕ, IfOk, OnErr, Some};
 ghost use Rattle.std.specs.Option.{option_copied};
 ghost use Rattle.raft_group_step.specs.StoredGroup.{StoredGroup as Stored};
 ghost use Rattle.raft_group_step.specs.GroupState.{GroupState};
@@ -8,8 +8,8 @@ ghost use Rattle.raft_group_step.specs.Refusal.{refusal_of};
 ghost use Rattle.raft_group_step.specs.StepResult.{StepResult};
 ghost use Rattle.raft_conditions.specs.Reason.{reason_of};
 ghost use Rattle.raft_engine.specs.Standing.{IsStateOf};
-ghost use Rattle.raft_member.specs.Member.{HasEnded, IsDown, IsIdle};
-ghost use Rattle.raft_member.specs.Running.{HasHalted, HasRun, IsRun};
+ghost use Rattle.raft_world.specs.Member.{HasEnded, IsDown, IsIdle};
+ghost use Rattle.raft_world.specs.Running.{HasHalted, HasRun, IsRun, left_by};
 
 use crate::member::{ByteGroup, Ended, Member};
 use raft_conditions::Refusal;
@@ -18,33 +18,42 @@ use raft_executor::{messages, store_first};
 use raft_stored_group::GroupSnapshot;
 use std::alloc::{AllocError, Global};
 
+// The engine has nothing left to do.
+fn come_to_rest(engine: &mut Engine<ByteGroup>)
+    ensures { (own : ℕ) (s : GroupState) → IsStateOf own engine.old s → IsIdle own engine.new s }
+{
+    engine.output.clear();
+    engine.state.state.io_state.set_building_snapshot(false);
+}
+
 // The engine with nothing left to do.
 pub(crate) fn at_rest(engine: Engine<ByteGroup>) -> Engine<ByteGroup>
     ensures { (own : ℕ) (s : GroupState) → IsStateOf own engine s → IsIdle own result s }
 {
     let mut engine = engine;
-    engine.output.clear();
-    engine.state.state.io_state.set_building_snapshot(false);
+    come_to_rest(&mut engine);
     engine
 }
 
+// The event is refused, or stopped before that was told.
+pub(crate) fn end_refused(refusal: Refusal<u64>, stop: Option<u64>) -> Ended
+    ensures { (s : GroupState) (event : GroupEvent) (e : _) (m : _) → IsDown m s.stored → m.moment ≡ s.now
+        → IsIdle m.id e s → refusal_of m.id s event ≡ Some (reason_of refusal) → HasEnded m.id s event stop (left_by result e m) result }
+{
+    if stop.is_some() {
+        return Ended::Stopped;
+    }
+    Ended::Refused(refusal)
+}
+
 impl Member {
-    // The event is refused, or stopped before that was told.
-    pub(crate) fn end_refused(
-        &mut self,
-        engine: Engine<ByteGroup>,
-        refusal: Refusal<u64>,
-        stop: Option<u64>,
-    ) -> Ended
-        ensures id { self.new.id ≡ self.old.id }
-        ensures ended { (s : GroupState) (event : GroupEvent) → self.old.stored ≡ s.stored → s.stored.present ≡ true → self.old.moment ≡ s.now → self.old.engine ≡ None
-            → IsIdle self.old.id engine s → refusal_of self.old.id s event ≡ Some (reason_of refusal) → HasEnded self.old.id s event stop self.new result }
+    // The engine that was taken out for an event goes back, unless the event stopped.
+    pub(crate) fn put_back(&mut self, engine: Engine<ByteGroup>, ended: &Ended)
+        ensures { self.new ≡ left_by ended.now engine self.old }
     {
-        if stop.is_some() {
-            return Ended::Stopped;
+        if matches!(ended, Ended::Done(_) | Ended::Refused(_)) {
+            self.engine = Some(engine);
         }
-        self.engine = Some(engine);
-        Ended::Refused(refusal)
     }
 
     // The step is done: what the queue asks for is stored in its order, and sent. The snapshot is
@@ -52,15 +61,15 @@ impl Member {
     pub(crate) fn end_taken(
         &mut self,
         alloc: Global,
-        engine: Engine<ByteGroup>,
+        engine: &mut Engine<ByteGroup>,
         snapshot: Option<&GroupSnapshot>,
         moment: u64,
         stop: Option<u64>,
     ) -> Result<Ended, AllocError>
         ensures id { self.new.id ≡ self.old.id }
-        ensures ok { (old : Stored) (r : StepResult) → IsDown self.old old → IsRun self.old.id engine old r (option_copied snapshot.entry) moment
-            → IfOk result (HasRun old r stop self.new) }
-        ensures err { (old : Stored) (r : StepResult) → IsDown self.old old → IsRun self.old.id engine old r (option_copied snapshot.entry) moment
+        ensures ok { (old : Stored) (r : StepResult) → IsDown self.old old → IsRun self.old.id engine.old old r (option_copied snapshot.entry) moment
+            → IfOk result (λ ended. HasRun old r stop (left_by ended engine.new self.new) ended) }
+        ensures err { (old : Stored) (r : StepResult) → IsDown self.old old → IsRun self.old.id engine.old old r (option_copied snapshot.entry) moment
             → OnErr result (HasHalted old r self.new) }
     {
         store_first(&engine.output, stop, snapshot, &mut self.stored)?;
@@ -70,7 +79,7 @@ impl Member {
         let committed = engine.state.state.committed;
         let sent = messages(alloc, self.id, &engine.output, &self.stored, committed)?;
         self.moment = moment;
-        self.engine = Some(at_rest(engine));
+        come_to_rest(engine);
         Ok(Ended::Done(sent))
     }
 }

@@ -6,18 +6,25 @@ use Rattle.raft_engine.specs.Standing.{IsWholeStepOf}
 use Rattle.raft_executor.specs.Sent.{message_of}
 use Rattle.raft_executor.specs.Stored.{IsGiven, queue_has_snapshot}
 use Rattle.raft_laws.specs.Stop.{stopped_after}
-use Rattle.raft_member.specs.Member.{Engine, IsDown, IsUp}
-use Rattle.raft_member.specs.declared.member.Member.{Member}
-use Rattle.raft_member.specs.declared.member.Ended.{Ended}
-use Rattle.raft_member.specs.declared.member.Ended.TheVariants as ended
+use Rattle.raft_world.specs.Member.{Engine, IsDown, IsUp}
+use Rattle.raft_world.specs.declared.member.Member.{Member}
+use Rattle.raft_world.specs.declared.member.Ended.{Ended}
+use Rattle.raft_world.specs.declared.member.Ended.TheVariants as ended
 
 -- the engine has done the step, which begins with this stored, and the snapshot that its queue stores is given
-pub record IsRun (own : ℕ) (e : Engine) (old : StoredGroup) (r : StepResult) (given : Option Snapshot) (moment : ℕ) : Type 0 where
+pub record IsRun (own : ℕ) (e : Engine) (old : StoredGroup) (r : StepResult) (given : Option Snapshot) (at : ℕ) : Type 0 where
   pub snapshot : Snapshot
   pub step : IsWholeStepOf snapshot own e r
   pub is_given : IsGiven (queue_has_snapshot e.output.queue) given snapshot
   pub stored : r.state.stored ≡ after_storing_all r.commands old
-  pub moment : moment ≡ r.state.now
+  pub moment : at ≡ r.state.now
+
+-- the member that an event leaves: up with this engine, unless the event stopped
+abbrev pub left_by : Ended → Engine → Member → Member
+left_by (ended.Done sent) e m = record m { engine = Some e }
+left_by (ended.Refused why) e m = record m { engine = Some e }
+left_by ended.Stopped e m = m
+left_by ended.Skipped e m = m
 
 -- the step stopped after some of its storing commands, and the member is down
 pub record HasHalted (old : StoredGroup) (r : StepResult) (m : Member) : Type 0 where

@@ -1,0 +1,91 @@
+-- Events that come to a member.
+use Rattle.std.specs.Prelude.{◌≡◌, ℕ, zero, suc, max, Option, Some, None, List, [], ◌∷◌, take, map, Result, Ok, Err, IfOk, OnErr, OnOk, true, refl}
+use Rattle.std.proofs.Common.{sym, ap, ◌∙◌, subst}
+use Rattle.raft_group_step.specs.StoredGroup.{StoredGroup, StoringCommand, Snapshot, after_storing_all}
+use Rattle.raft_group_step.specs.GroupState.{GroupState}
+use Rattle.raft_group_step.specs.GroupEvent.{GroupCall, GroupEvent, Call, Receive}
+use Rattle.raft_group_step.specs.GroupStep.{group_step, step_unless}
+use Rattle.raft_group_step.specs.Message.{MessageBody}
+use Rattle.raft_group_step.specs.Refusal.{refusal_of}
+use Rattle.raft_group_step.specs.StepResult.{RefusalReason, StepResult, refused_step}
+use Rattle.raft_engine.specs.Events.{HasTaken, received}
+use Rattle.raft_executor.specs.Sent.{message_of}
+use Rattle.raft_laws.specs.Stop.{stopped_after}
+use Rattle.raft_laws.proofs.StepMoments.{moments_of_calls, moments_of_messages}
+use Rattle.raft_laws.proofs.StepOrder.{step-keeps}
+use Rattle.raft_world.specs.Member.{Engine, HasEnded, HasStopped, IsDown, IsIdle, IsUp}
+use Rattle.raft_world.specs.Running.{HasHalted, HasRun, IsRun, left_by}
+use Rattle.raft_world.specs.declared.member.Member.{Member}
+use Rattle.raft_world.specs.declared.member.Ended.{Ended}
+use Rattle.raft_world.specs.declared.member.Ended.TheVariants as ended
+use Rattle.raft_world.proofs.RunLemmas.{run_without_snapshot}
+
+-- ---- results
+
+pub if_ok_so : {T E : Type 0} {P Q : T → Type 0} (r : Result T E) → ((v : T) → P v → Q v) → IfOk r P → IfOk r Q
+if_ok_so (Ok v) so p = so v p
+if_ok_so (Err e) so p = p
+
+pub on_err_so : {T E P Q : Type 0} (r : Result T E) → (P → Q) → OnErr r P → OnErr r Q
+on_err_so (Ok v) so p = p
+on_err_so (Err e) so p = so p
+
+-- ---- events that aren't refused
+
+module _ (own : ℕ) (s : GroupState) (event : GroupEvent) where
+  -- an event that isn't refused ends as its step does
+  pub ended_as_run : (stop : Option ℕ) (m : Member) (end : Ended) → refusal_of own s event ≡ None → HasRun s.stored (group_step own s event) stop m end → HasEnded own s event stop m end
+  ended_as_run stop m (ended.Done sent) accepted h = (h.0, accepted, h.1, h.2)
+  ended_as_run stop m (ended.Refused why) accepted h = absurd h
+  ended_as_run stop m ended.Stopped accepted h = h
+  ended_as_run stop m ended.Skipped accepted h = absurd h
+
+  pub stopped_as_halted : (m : Member) → HasHalted s.stored (group_step own s event) m → HasStopped own s event m
+  stopped_as_halted m h = record { number = h.number; down = h.down }
+
+  -- one that nothing is stored of yet
+  pub stopped_at_once : (m : Member) → IsDown m s.stored → HasStopped own s event m
+  stopped_at_once m h = record { number = 0; down = h }
+
+  pub halted_at_once : (m : Member) → IsDown m s.stored → HasHalted s.stored (group_step own s event) m
+  halted_at_once m h = record { number = 0; down = h }
+
+-- the engine has done a call, whatever the snapshot
+pub run_of_call : (own at moment : ℕ) (e : Engine) (s : GroupState) (call : GroupCall) → moment ≡ max s.now at → refusal_of own s (Call call at) ≡ None
+    → ((x : Snapshot) → HasTaken x own e s (Call call at)) → IsRun own e s.stored (group_step own s (Call call at)) None moment
+run_of_call own at moment e s call is accepted h =
+    run_without_snapshot own e s.stored (group_step own s (Call call at)) moment h (step-keeps own s (Call call at)).stored
+    (is ∙ sym (moments_of_calls own s call at accepted))
+
+-- the engine was handed a message, whatever the snapshot
+pub run_of_message : (own peer at moment : ℕ) (e : Engine) (s : GroupState) (body : MessageBody) → moment ≡ max s.now at → refusal_of own s (received own peer body at) ≡ None
+    → ((x : Snapshot) → HasTaken x own e s (received own peer body at)) → IsRun own e s.stored (group_step own s (received own peer body at)) None moment
+run_of_message own peer at moment e s body is accepted h =
+    run_without_snapshot own e s.stored (group_step own s (received own peer body at)) moment h (step-keeps own s (received own peer body at)).stored
+    (is ∙ sym (moments_of_messages own s peer (record { sender = peer; addressee = own; body = body }) at accepted))
+
+-- ---- events that are refused
+
+-- a refused event changes nothing
+pub refused_state : (own : ℕ) (s : GroupState) (event : GroupEvent) (why : RefusalReason) → refusal_of own s event ≡ Some why → group_step own s event ≡ refused_step s why
+refused_state own s event why e = ap (λ reason. step_unless reason own s event) e
+
+take_none : (k : ℕ) (s : StoredGroup) → after_storing_all (take k []) s ≡ s
+take_none zero s = refl
+take_none (suc k) s = refl
+
+pub down_as_refused : (own : ℕ) (s : GroupState) (event : GroupEvent) (why : RefusalReason) (m : Member) (k : ℕ) → refusal_of own s event ≡ Some why → IsDown m s.stored
+    → IsDown m (stopped_after k s.stored (group_step own s event))
+down_as_refused own s event why m k e h =
+    subst (λ (r : StepResult). IsDown m (stopped_after k s.stored r)) (sym (refused_state own s event why e)) (subst (IsDown m) (sym (take_none k s.stored)) h)
+
+-- the member is up again with the engine that was taken out
+pub up_again : (m : Member) (e : Engine) (s : GroupState) → IsDown m s.stored → m.moment ≡ s.now → IsIdle m.id e s → IsUp (record m { engine = Some e }) s
+up_again m e s down moment idle = record {
+  engine = e;
+  has_engine = refl;
+  idle = idle;
+  stored = down.stored;
+  present = down.present;
+  moment = moment;
+}

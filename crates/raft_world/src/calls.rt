@@ -1,0 +1,190 @@
+//! What a member is asked for.
+ghost use Rattle.std.specs.Prelude.{◌≡◌, ℕ, Ok, IfOk, OnOk, OnErr, max};
+ghost use Rattle.raft_group_step.specs.StoredGroup.{Snapshot, StoredGroup as Stored};
+ghost use Rattle.raft_group_step.specs.GroupState.{GroupState};
+ghost use Rattle.raft_group_step.specs.GroupEvent.{Call};
+ghost use Rattle.raft_group_step.specs.Values.{ChangeMembers};
+ghost use Rattle.raft_group_step.specs.declared.group_call.GroupCall.TheVariants.{ChangeMembership, Initialize, Propose, TriggerSnapshot};
+ghost use Rattle.raft_engine.specs.Events.{HasTaken, MayTake};
+ghost use Rattle.raft_group_step.specs.GroupStep.{group_step};
+ghost use Rattle.raft_world.specs.Member.{HasEnded, HasMembershipOfApplied, HasStopped, IsDown, IsIdle, IsLawful, IsUp};
+ghost use Rattle.raft_world.specs.Running.{HasHalted, HasRun, left_by};
+ghost use Rattle.raft_world.specs.declared.member.Ended.TheVariants.{Skipped};
+
+use crate::ending::end_refused;
+use crate::member::{ByteGroup, Ended, Member};
+use crate::metas::meta_of;
+use raft_conditions::{GroupCommand, changed_membership};
+use raft_engine::Engine;
+use raft_group_step::GroupCall;
+use raft_state::{BasicNode, Bytes, ChangeMembers, Membership};
+use raft_stored_group::StoredGroup;
+use std::alloc::{AllocError, Global};
+
+// The leader takes what the change makes of the membership in force.
+fn change(
+    alloc: Global,
+    stored: &StoredGroup,
+    change: &ChangeMembers<u64, BasicNode>,
+    engine: &mut Engine<ByteGroup>,
+) -> Result<(), AllocError>
+    ensures { (x : Snapshot) (own at token : ℕ) (s : GroupState) → stored.now ≡ s.stored → MayTake own engine.old s (Call (ChangeMembership change.now token) at)
+        → OnOk result (HasTaken x own engine.new s (Call (ChangeMembership change.now token) at)) }
+{
+    let Some((_, old)) = stored.membership_in_force() else {
+        return Ok(());
+    };
+    let Some(new) = changed_membership(alloc, old, change)? else {
+        return Ok(());
+    };
+    if !engine.has_room() {
+        return Ok(());
+    }
+    engine.change_membership(new)
+}
+
+// The group is set up with this membership.
+fn initialize(
+    membership: &Membership<u64, BasicNode>,
+    moment: u64,
+    engine: &mut Engine<ByteGroup>,
+) -> Result<(), AllocError>
+    ensures { (x : Snapshot) (own at : ℕ) (s : GroupState) → moment ≡ max s.now at → MayTake own engine.old s (Call (Initialize membership.now) at)
+        → OnOk result (HasTaken x own engine.new s (Call (Initialize membership.now) at)) }
+{
+    let copy = membership.clone()?;
+    let _answer = engine.initialize(copy, moment)?;
+    Ok(())
+}
+
+// The leader takes a command.
+fn propose(command: &Bytes, engine: &mut Engine<ByteGroup>) -> Result<(), AllocError>
+    ensures { (x : Snapshot) (own at token : ℕ) (s : GroupState) → MayTake own engine.old s (Call (Propose command.now token) at)
+        → OnOk result (HasTaken x own engine.new s (Call (Propose command.now token) at)) }
+{
+    if !engine.has_room() {
+        return Ok(());
+    }
+    engine.propose(command.clone()?)
+}
+
+// The engine does what the call asks, but for a snapshot, at this moment.
+fn take_call(
+    alloc: Global,
+    stored: &StoredGroup,
+    call: &GroupCommand,
+    moment: u64,
+    engine: &mut Engine<ByteGroup>,
+) -> Result<(), AllocError>
+    ensures { (x : Snapshot) (own at : ℕ) (s : GroupState) → stored.now ≡ s.stored → moment ≡ max s.now at → (call.now ≡ TriggerSnapshot → ⊥) → MayTake own engine.old s (Call call.now at)
+        → OnOk result (HasTaken x own engine.new s (Call call.now at)) }
+{
+    match call {
+        GroupCall::Initialize { membership } => initialize(membership, moment, engine),
+        GroupCall::Elect => engine.elect(moment),
+        GroupCall::Propose { command, .. } => propose(command, engine),
+        GroupCall::ChangeMembership { change, .. } => self::change(alloc, stored, change, engine),
+        GroupCall::Heartbeat => engine.send_heartbeat(),
+        GroupCall::Lost { peer } => engine.handle_lost(*peer),
+        GroupCall::TriggerSnapshot => Ok(()),
+        GroupCall::TriggerPurge { place } => engine.trigger_purge_log(*place),
+    }
+}
+
+impl Member {
+    // A snapshot of what is applied is built and stored, where the last one doesn't have that.
+    fn snapshot_call(
+        &mut self,
+        alloc: Global,
+        engine: &mut Engine<ByteGroup>,
+        moment: u64,
+        stop: Option<u64>,
+    ) -> Result<Ended, AllocError>
+        ensures id { self.new.id ≡ self.old.id }
+        ensures ok { (at : ℕ) (s : GroupState) → IsDown self.old s.stored → IsIdle self.old.id engine.old s → moment ≡ max s.now at → HasMembershipOfApplied s → MayTake self.old.id engine.old s (Call TriggerSnapshot at)
+            → IfOk result (λ ended. HasRun s.stored (group_step self.old.id s (Call TriggerSnapshot at)) stop (left_by ended engine.new self.new) ended) }
+        ensures err { (at : ℕ) (s : GroupState) → IsDown self.old s.stored → IsIdle self.old.id engine.old s → moment ≡ max s.now at → HasMembershipOfApplied s → MayTake self.old.id engine.old s (Call TriggerSnapshot at)
+            → OnErr result (HasHalted s.stored (group_step self.old.id s (Call TriggerSnapshot at)) self.new) }
+    {
+        if !engine.trigger_snapshot()? {
+            return self.end_taken(alloc, engine, None, moment, stop);
+        }
+        let Some(applied) = engine.state.state.committed else {
+            return Ok(Ended::Skipped);
+        };
+        let Some(snapshot) = self.stored.snapshot_at(applied.index)? else {
+            return Ok(Ended::Skipped);
+        };
+        engine.finish_building_snapshot(meta_of(alloc, &snapshot)?)?;
+        self.end_taken(alloc, engine, Some(&snapshot), moment, stop)
+    }
+
+    // A call that isn't refused.
+    fn accepted_call(
+        &mut self,
+        alloc: Global,
+        engine: &mut Engine<ByteGroup>,
+        call: &GroupCommand,
+        moment: u64,
+        stop: Option<u64>,
+    ) -> Result<Ended, AllocError>
+        ensures id { self.new.id ≡ self.old.id }
+        ensures ok { (at : ℕ) (s : GroupState) → IsDown self.old s.stored → IsIdle self.old.id engine.old s → moment ≡ max s.now at → HasMembershipOfApplied s → MayTake self.old.id engine.old s (Call call.now at)
+            → IfOk result (λ ended. HasRun s.stored (group_step self.old.id s (Call call.now at)) stop (left_by ended engine.new self.new) ended) }
+        ensures err { (at : ℕ) (s : GroupState) → IsDown self.old s.stored → IsIdle self.old.id engine.old s → moment ≡ max s.now at → HasMembershipOfApplied s → MayTake self.old.id engine.old s (Call call.now at)
+            → OnErr result (HasHalted s.stored (group_step self.old.id s (Call call.now at)) self.new) }
+    {
+        if matches!(call, GroupCall::TriggerSnapshot) {
+            return self.snapshot_call(alloc, engine, moment, stop);
+        }
+        take_call(alloc, &self.stored, call, moment, engine)?;
+        self.end_taken(alloc, engine, None, moment, stop)
+    }
+
+    // A call comes while the engine is taken out.
+    fn call(
+        &mut self,
+        alloc: Global,
+        engine: &mut Engine<ByteGroup>,
+        call: &GroupCommand,
+        now: u64,
+        stop: Option<u64>,
+    ) -> Result<Ended, AllocError>
+        ensures id { self.new.id ≡ self.old.id }
+        ensures ok { (s : GroupState) → IsDown self.old s.stored → self.old.moment ≡ s.now → IsIdle self.old.id engine.old s → IsLawful self.old.id s
+            → IfOk result (λ ended. HasEnded self.old.id s (Call call.now now) stop (left_by ended engine.new self.new) ended) }
+        ensures err { (s : GroupState) → IsDown self.old s.stored → self.old.moment ≡ s.now → IsIdle self.old.id engine.old s → IsLawful self.old.id s
+            → OnErr result (HasStopped self.old.id s (Call call.now now) self.new) }
+    {
+        match self.facts(engine).call_refusal(alloc, call, now)? {
+            Some(refusal) => Ok(end_refused(refusal, stop)),
+            None => {
+                let moment = self.moment.max(now);
+                self.accepted_call(alloc, engine, call, moment, stop)
+            }
+        }
+    }
+
+    /// The member is asked for something at this moment, in ticks (own); one before the last one
+    /// counts as the last one. It may stop after so many storing commands. An error is want of
+    /// memory: then the member is down, with some of the storing commands done, from the first on.
+    pub fn ask(
+        &mut self,
+        alloc: Global,
+        call: &GroupCommand,
+        now: u64,
+        stop: Option<u64>,
+    ) -> Result<Ended, AllocError>
+        ensures id { self.new.id ≡ self.old.id }
+        ensures ok { (s : GroupState) → IsUp self.old s → IsLawful self.old.id s → IfOk result (HasEnded self.old.id s (Call call.now now) stop self.new) }
+        ensures err { (s : GroupState) → IsUp self.old s → IsLawful self.old.id s → OnErr result (HasStopped self.old.id s (Call call.now now) self.new) }
+        ensures down { (stored : Stored) → IsDown self.old stored → (result ≡ Ok Skipped) × IsDown self.new stored }
+    {
+        let Some(mut engine) = self.engine.take() else {
+            return Ok(Ended::Skipped);
+        };
+        let ended = self.call(alloc, &mut engine, call, now, stop)?;
+        self.put_back(engine, &ended);
+        Ok(ended)
+    }
+}
