@@ -78,18 +78,15 @@ fn body_accepts(vote: &Vote<u64>, place: u64, body: &Body) -> bool
 fn has_replied(messages: &[Message], vote: &Vote<u64>, place: u64, node: u64) -> bool
     ensures { result ≡ list_any (λ m. is_reply vote.now place node (message_of m)) messages.now }
 {
-    messages
-        .iter()
-        .any(|message| message.sender == node && body_accepts(vote, place, &message.body))
+    messages.iter().any(|message| message.sender == node
+        && body_accepts(vote, place, &message.body))
 }
 
 // Whether the note has an entry of the vote's leader, at or after the place.
 fn has_later(note: &LedNote, vote: &Vote<u64>, place: u64) -> bool
     ensures { result ≡ has_later vote.now place note.now.list.items }
 {
-    note.list
-        .iter()
-        .any(|entry| is_at_or_after(&vote.leader_id, place, &entry.log_id))
+    note.list.iter().any(|entry| is_at_or_after(&vote.leader_id, place, &entry.log_id))
 }
 
 // Whether the node led under the vote with such an entry.
