@@ -1,6 +1,6 @@
 -- Lists seen element by element, the count up to the last entry that passes, and worlds that tell the same.
-use Rattle.std.proofs.Common.{◌≡◌, ℕ, zero, suc, ◌+◌, ◌-◌, ◌<◌, ◌≤◌, Bool, true, false, List, [], ◌∷◌, ◌++◌, map, length, take, get_or, refl, ap, sym, ◌∙◌, subst, arith, cond, length-take}
-use Rattle.std.specs.Prelude.{◌||◌, if◌then◌else◌, Option}
+use Rattle.std.proofs.Common.{◌≡◌, ℕ, ◌+◌, ◌-◌, ◌<◌, ◌≤◌, Bool, true, false, List, [], ◌∷◌, ◌++◌, map, length, take, get_or, refl, ap, sym, ◌∙◌, arith, length-take}
+use Rattle.std.specs.Prelude.{◌||◌, if◌then◌else◌, max, Option}
 use Rattle.std.specs.List.{list_any}
 use Rattle.std.proofs.lemmas.List.{take_more}
 use Rattle.raft_group_step.specs.Values.{Entry, Membership}
@@ -39,6 +39,18 @@ count_past p xs i d l h =
     ∙ (count-last p 0 0 (take i xs) (get_or xs i d)
     ∙ ap (λ (b : Bool). if b then 0 + length (take i xs) + 1 else count_to_last p 0 0 (take i xs)) h)
 
+-- no more count than there are
+at_most_next : (b : Bool) (found at : ℕ) → found ≤ at → (if b then at + 1 else found) ≤ at + 1
+at_most_next true found at h = omega arith
+at_most_next false found at h = omega arith
+
+count_bound : (p : Entry → Bool) (found at : ℕ) (xs : List Entry) → found ≤ at → count_to_last p found at xs ≤ at + length xs
+count_bound p found at [] h = omega arith
+count_bound p found at (x ∷ xs) h =
+    let rest : count_to_last p (if p x then at + 1 else found) (at + 1) xs ≤ at + 1 + length xs
+    = count_bound p (if p x then at + 1 else found) (at + 1) xs (at_most_next (p x) found at h) in
+    omega arith
+
 -- the entries behind this one don't pass, and it is read from the list that is lent
 pub record IsLookedAt (p : Entry → Bool) (xs shown : List Entry) (back : ℕ) (e : Entry) : Type 0 where
   pub same : shown ≡ xs
@@ -47,9 +59,9 @@ pub record IsLookedAt (p : Entry → Bool) (xs shown : List Entry) (back : ℕ) 
   pub rest : count_to_last p 0 0 (take (length xs - back) xs) ≡ count_to_last p 0 0 xs
 
 -- where it passes, it is the last one that does
-pub found : (p : Entry → Bool) (xs shown : List Entry) (back : ℕ) (e : Entry) → IsLookedAt p xs shown back e → p e ≡ true
+pub found_last : (p : Entry → Bool) (xs shown : List Entry) (back : ℕ) (e : Entry) → IsLookedAt p xs shown back e → p e ≡ true
     → length shown - 1 - back + 1 ≡ count_to_last p 0 0 xs
-found p xs shown back e h t =
+found_last p xs shown back e h t =
     let at : length shown - 1 - back + 1 ≡ length xs - 1 - back + 1 = ap (λ (ys : List Entry). length ys - 1 - back + 1) h.same in
     let inside : length xs - 1 - back < length xs = omega (arith, ap length h.same, h.within) in
     let next : length xs - 1 - back + 1 ≡ length xs - back = omega (arith, ap length h.same, h.within) in
@@ -69,6 +81,13 @@ not_found p xs shown back e h f =
     ap (λ (k : ℕ). count_to_last p 0 0 (take k xs)) before
     ∙ (sym (count_past p xs (length xs - 1 - back) e inside (ap p (sym here) ∙ f))
     ∙ (ap (λ (k : ℕ). count_to_last p 0 0 (take k xs)) next ∙ h.rest))
+
+-- where only as many are left as are known, no more count
+pub known_remain : (p : Entry → Bool) (xs : List Entry) (back known : ℕ) → length xs - known ≤ back
+    → count_to_last p 0 0 (take (length xs - back) xs) ≡ count_to_last p 0 0 xs → known ≡ max known (count_to_last p 0 0 xs)
+known_remain p xs back known h rest =
+    let few : count_to_last p 0 0 (take (length xs - back) xs) ≤ 0 + length (take (length xs - back) xs) = count_bound p 0 0 (take (length xs - back) xs) (omega arith) in
+    omega (arith, length-take (length xs - back) xs)
 
 -- the first of two tests passes, so that one of them does
 pub first_passes : {X Y U V : Type 0} (p : Y → Bool) (f : X → Y) (xs : List X) (q : V → Bool) (g : U → V) (us : List U) (a : Bool)

@@ -1,5 +1,5 @@
 //! What is settled of the lists that leaders had, and the longest of it.
-ghost use Rattle.std.specs.Prelude.{◌≡◌, IfOk, map};
+ghost use Rattle.std.specs.Prelude.{◌≡◌, ◌<◌, ◌≤◌, IfOk, length, map, max};
 ghost use Rattle.std.specs.Option.{option_copied};
 ghost use Rattle.raft_quorums.specs.Quorum.{is_quorum};
 ghost use Rattle.raft_executor.specs.Sent.{message_of};
@@ -48,46 +48,43 @@ fn is_accepted_by_quorum(
         )
 }
 
-// How many of the leader's entries stand up to its last one that a quorum accepted under its vote.
-fn settled_count(
+// How many of the leader's entries stand up to its last one that a quorum accepted under its vote, or
+// as many as are known where those are more.
+fn settled_or_known(
     messages: &[Message],
     setup: Option<&Membership<u64, BasicNode>>,
     led: &[LedNote],
     note: &LedNote,
+    known: usize,
 ) -> usize
-    ensures { result ≡ count_to_last (is_accepted_by_quorum (world_of messages.now (option_copied setup.entry) led.now) note.now.vote) 0 0 note.now.list.items }
+    ensures count { result ≡ max known (count_to_last (is_accepted_by_quorum (world_of messages.now (option_copied setup.entry) led.now) note.now.vote) 0 0 note.now.list.items) }
+    ensures within { known < result → result ≤ length note.now.list.items }
 {
     let entries = note.list.as_slice();
-    // The last one that passes is found soonest from the end.
-    for back in 0..entries.len() {
+    // The last one that passes is found soonest from the end, and those that are known need no look.
+    for back in 0..entries.len().saturating_sub(known) {
         let at = entries.len() - 1 - back;
         if is_accepted_by_quorum(messages, setup, led, &note.vote, &entries[at]) {
             return at + 1;
         }
     }
-    0
+    known
 }
 
-// What is settled of the leader's list, lent.
-fn settled_part<'a>(
+// The longer one of the list and what is settled of the leader's list, lent; the list where they are
+// as long.
+fn longer<'a>(
     messages: &[Message],
     setup: Option<&Membership<u64, BasicNode>>,
     led: &[LedNote],
+    list: &'a [GroupEntry],
     note: &'a LedNote,
 ) -> &'a [GroupEntry]
-    ensures { result.now ≡ settled_part (world_of messages.now (option_copied setup.entry) led.now) (led_of note.now) }
+    ensures { result.now ≡ longer list.now (settled_part (world_of messages.now (option_copied setup.entry) led.now) (led_of note.now)) }
 {
-    let count = settled_count(messages, setup, led, note);
-    let entries = note.list.as_slice();
-    &entries[..count.min(entries.len())]
-}
-
-// The longer of the two lists; the first where they are as long.
-fn longer<'a>(list: &'a [GroupEntry], other: &'a [GroupEntry]) -> &'a [GroupEntry]
-    ensures { result.now ≡ longer list.now other.now }
-{
-    if list.len() < other.len() {
-        other
+    let count = settled_or_known(messages, setup, led, note, list.len());
+    if list.len() < count {
+        &note.list.as_slice()[..count]
     } else {
         list
     }
@@ -103,7 +100,7 @@ fn longest_settled<'a>(
 {
     let mut longest: &[GroupEntry] = &[];
     for note in led {
-        longest = longer(longest, settled_part(messages, setup, led, note));
+        longest = longer(messages, setup, led, longest, note);
     }
     longest
 }

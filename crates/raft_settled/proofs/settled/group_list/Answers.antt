@@ -1,5 +1,5 @@
 -- The list is that of each world with these messages, this set-up and these leaders.
-use Rattle.std.proofs.Common.{ap, sym, ◌∙◌, ◌++◌}
+use Rattle.std.proofs.Common.{ap, ◌∙◌, ◌++◌}
 use Rattle.std.specs.Option.{option_copied}
 use Rattle.raft_settled.specs.World.{world_of}
 use Rattle.raft_settled.proofs.SettledLemmas.{group_list-same}
