@@ -1,10 +1,11 @@
 //! A member of a group: it is up with an engine, or down with what it has stored.
-ghost use Rattle.std.specs.Prelude.{◌≡◌, IfOk, true, is_some};
+ghost use Rattle.std.specs.Prelude.{◌≡◌, IfOk, true, false, is_some};
 ghost use Rattle.std.specs.Option.{option_copied};
 ghost use Rattle.raft_group_step.specs.StoredGroup.{StoredGroup as Stored};
-ghost use Rattle.raft_group_step.specs.GroupState.{GroupState, no_group, state_of};
-ghost use Rattle.raft_laws.specs.GroupWorld.{Up};
-ghost use Rattle.raft_world.specs.Member.{IsAt, IsDown, IsUp};
+ghost use Rattle.raft_group_step.specs.GroupState.{GroupState, is_leader, no_group, state_of};
+ghost use Rattle.raft_group_step.specs.GroupEvent.{AddGroup};
+ghost use Rattle.raft_world.specs.Member.{HasEnded, IsDown, IsUp};
+ghost use Rattle.raft_world.specs.declared.member.Ended.TheVariants.{Skipped};
 
 use crate::ending::at_rest;
 use raft_commands::RaftTypeConfig;
@@ -90,6 +91,33 @@ impl Member {
         ensures { option_copied result ≡ self.now.engine }
     {
         self.engine.as_ref()
+    }
+
+    /// Whether the member leads (own).
+    pub fn is_leading(&self) -> bool
+        ensures up { (s : GroupState) → IsUp self.now s → result ≡ is_leader s.role }
+        ensures down { (stored : Stored) → IsDown self.now stored → result ≡ false }
+    {
+        match &self.engine {
+            Some(engine) => engine.leader.is_some(),
+            None => false,
+        }
+    }
+
+    /// The group is added at a member that has it, which is refused (own). It may be to stop.
+    pub fn add_group(&mut self, stop: Option<u64>) -> Ended
+        ensures id { self.new.id ≡ self.old.id }
+        ensures up { (s : GroupState) → IsUp self.old s → HasEnded self.old.id s AddGroup stop self.new result }
+        ensures down { (stored : Stored) → IsDown self.old stored → (result ≡ Skipped) × IsDown self.new stored }
+    {
+        if self.engine.is_none() {
+            return Ended::Skipped;
+        }
+        if stop.is_some() {
+            self.crash();
+            return Ended::Stopped;
+        }
+        Ended::Refused(Refusal::GroupExists)
     }
 
     /// The member goes down, and what it has stored stays (own).

@@ -1,0 +1,127 @@
+-- Which world of a group a `World` is, and what its events leave.
+use Rattle.std.specs.Prelude.{◌≡◌, ◌==◌, ℕ, List, [], ◌∷◌, ◌++◌, map, take, length, slice_get, find, Option, Some, None, is_some}
+use Rattle.raft_group_step.specs.Message.{Message as Sent}
+use Rattle.raft_group_step.specs.StoredGroup.{Holds}
+use Rattle.raft_group_step.specs.GroupState.{GroupState}
+use Rattle.raft_conditions.specs.Reason.{reason_of}
+use Rattle.raft_executor.specs.Sent.{message_of}
+use Rattle.raft_laws.specs.declared.world_event.WorldEvent.{WorldEvent}
+use Rattle.raft_laws.specs.declared.world_event.WorldEvent.TheVariants.{Add, Ask, Deliver, Crash, Restart}
+use Rattle.raft_laws.specs.BallotLists.{AgreeBelow}
+use Rattle.raft_laws.specs.GroupWorld.{GroupWorld, NodeState, Absent, Up, Outcome, Done, Refused, Stopped, Skipped, Recorded, new_world}
+use Rattle.raft_laws.specs.GroupRun.{group_run, history_of, outcome_of, ran}
+use Rattle.raft_laws.specs.OneList.{IsGroupHistory}
+use Rattle.raft_laws.specs.Settled.{IsGroupList, group_list}
+use Rattle.raft_settled.specs.World.{led_of}
+use Rattle.raft_world.specs.Member.{IsAt}
+use Rattle.raft_world.specs.declared.member.Member.{Member}
+use Rattle.raft_world.specs.declared.world.World.{World}
+use Rattle.raft_world.specs.declared.world.Mark.{Mark}
+use Rattle.raft_world.specs.declared.world.Mark.TheVariants as mark
+use Rattle.raft_world.specs.declared.world.PlannedEvent.{PlannedEvent}
+
+-- the member with the id, if there is one
+abbrev pub member_of : ℕ → List Member → Option Member
+member_of id members = find (λ (m : Member). m.id == id) members
+
+-- the node with this member, if it has one, is in this state
+abbrev pub IsNodeAt : Option Member → NodeState → Type 0
+IsNodeAt None state = state ≡ Absent
+IsNodeAt (Some m) state = IsAt m state
+
+-- the members are in these states
+abbrev pub AreNodes : List Member → (ℕ → NodeState) → Type 0
+AreNodes members nodes = (n : ℕ) → IsNodeAt (member_of n members) (nodes n)
+
+-- it is this world
+pub record IsWorldOf (w : World) (g : GroupWorld) : Type 0 where
+  pub nodes : AreNodes w.members.items g.nodes
+  pub messages : map message_of w.messages.items ≡ g.messages
+  pub setup : w.setup ≡ g.setup
+  pub led : map led_of w.led.items ≡ g.led
+
+-- what a mark says of an outcome
+abbrev pub IsMarkOf : Mark → Outcome → Type 0
+IsMarkOf mark.Done (Done sent told unknown) = Unit {0}
+IsMarkOf mark.Done (Refused why) = ⊥
+IsMarkOf mark.Done (Stopped unknown) = ⊥
+IsMarkOf mark.Done Skipped = ⊥
+IsMarkOf (mark.Refused refusal) (Done sent told unknown) = ⊥
+IsMarkOf (mark.Refused refusal) (Refused why) = reason_of refusal ≡ why
+IsMarkOf (mark.Refused refusal) (Stopped unknown) = ⊥
+IsMarkOf (mark.Refused refusal) Skipped = ⊥
+IsMarkOf mark.Stopped (Done sent told unknown) = ⊥
+IsMarkOf mark.Stopped (Refused why) = ⊥
+IsMarkOf mark.Stopped (Stopped unknown) = Unit {0}
+IsMarkOf mark.Stopped Skipped = ⊥
+IsMarkOf mark.Skipped (Done sent told unknown) = ⊥
+IsMarkOf mark.Skipped (Refused why) = ⊥
+IsMarkOf mark.Skipped (Stopped unknown) = ⊥
+IsMarkOf mark.Skipped Skipped = Unit {0}
+
+-- the event with the number of storing commands after which it is to stop
+abbrev pub planned_of : PlannedEvent → WorldEvent × Option ℕ
+planned_of e = (e.event, e.stop)
+
+-- the event happened, and the mark says what became of it
+pub record HasHappened (g : GroupWorld) (e : PlannedEvent) (w : World) (mark : Mark) : Type 0 where
+  pub world : IsWorldOf w (ran g e.event e.stop)
+  pub marked : IsMarkOf mark (outcome_of g e.event (is_some e.stop))
+
+-- the node that an event comes to
+abbrev pub addressee_of : Option Sent → Option ℕ
+addressee_of None = None
+addressee_of (Some m) = Some m.addressee
+
+abbrev pub node_of : GroupWorld → WorldEvent → Option ℕ
+node_of g (Add n) = Some n
+node_of g (Ask n call now) = Some n
+node_of g (Deliver number now) = addressee_of (slice_get g.messages number)
+node_of g (Crash n) = Some n
+node_of g (Restart n) = Some n
+
+-- an event that met want of memory stopped after some of its storing commands, or its node went down before it
+pub data BreakOf (g : GroupWorld) (e : WorldEvent) : Type 0 where
+  Stops : (number : ℕ) → BreakOf g e
+  GoesDown : (n : ℕ) (is_there : node_of g e ≡ Some n) → BreakOf g e
+
+-- the break as an event with the number of storing commands after which it stopped
+abbrev pub last_of : (g : GroupWorld) (e : WorldEvent) → BreakOf g e → WorldEvent × Option ℕ
+last_of g e (Stops number) = (e, Some number)
+last_of g e (GoesDown n is_there) = (Crash n, None)
+
+-- the event broke off
+pub record HasBroken (g : GroupWorld) (e : PlannedEvent) (w : World) : Type 0 where
+  pub break : BreakOf g e.event
+  pub world : IsWorldOf w (ran g (last_of g e.event break).0 (last_of g e.event break).1)
+
+-- the last event that was begun, where not all were run
+pub data RunEnd (events : List PlannedEvent) (count : ℕ) (g : GroupWorld) : Type 0 where
+  All : count ≡ length events → RunEnd events count g
+  Broke : (e : PlannedEvent) → slice_get events count ≡ Some e → BreakOf g e.event → RunEnd events count g
+
+abbrev pub rest_of : {events : List PlannedEvent} {count : ℕ} {g : GroupWorld} → RunEnd events count g → List (WorldEvent × Option ℕ)
+rest_of (All is) = []
+rest_of {g = g} (Broke e is break) = last_of g e.event break ∷ []
+
+-- each member that is up holds the group's list as far as it has applied it
+abbrev pub AppliedIsListed : GroupWorld → Type 0
+AppliedIsListed g = (n : ℕ) (s : GroupState) → g.nodes n ≡ Up s → (place : ℕ) → s.applied ≡ Some place → Holds s.stored (group_list g) place
+
+-- however far the events were run, the world is that of the definitions after them, a history led there, and the group has
+-- one list, which goes on from the one before
+pub record HasRunEvents (ids : List ℕ) (rs : List Recorded) (g : GroupWorld) (events : List PlannedEvent) (count : ℕ) (w : World) : Type 0 where
+  pub end : RunEnd events count (group_run (map planned_of (take count events)) g)
+  pub world : IsWorldOf w (group_run (map planned_of (take count events) ++ rest_of end) g)
+  pub history : IsGroupHistory ids (rs ++ history_of (map planned_of (take count events) ++ rest_of end) g) (group_run (map planned_of (take count events) ++ rest_of end) g)
+  pub one_list : let last = group_run (map planned_of (take count events) ++ rest_of end) g in IsGroupList last (group_list last)
+  pub grows : AgreeBelow (length (group_list g)) (group_list g) (group_list (group_run (map planned_of (take count events) ++ rest_of end) g))
+  pub applied : AppliedIsListed (group_run (map planned_of (take count events) ++ rest_of end) g)
+
+-- the group is added at each of these nodes
+abbrev pub additions : List ℕ → List (WorldEvent × Option ℕ)
+additions ids = map (λ n. (Add n, None)) ids
+
+-- the world of these nodes, which have the group and nothing in it
+abbrev pub begun_world : List ℕ → GroupWorld
+begun_world ids = group_run (additions ids) (new_world ids)

@@ -1,0 +1,138 @@
+//! A world of one group: its members, and what they sent.
+ghost use Rattle.std.specs.Prelude.{◌≡◌, List, ℕ, IfOk, OnErr, [], option_map};
+ghost use Rattle.std.specs.Option.{option_copied};
+ghost use Rattle.raft_laws.specs.GroupWorld.{GroupWorld, Recorded};
+ghost use Rattle.raft_laws.specs.OneList.{AreNodeIds, IsGroupHistory};
+ghost use Rattle.raft_laws.specs.Settled.{group_list};
+ghost use Rattle.raft_world.specs.World.{HasBroken, HasHappened, HasRunEvents, IsWorldOf, begun_world, member_of};
+
+use crate::member::Member;
+use crate::places::place_of;
+use raft_conditions::Refusal;
+use raft_executor::Message;
+use raft_laws::world_event::WorldEvent;
+use raft_settled::{LedNote, group_list};
+use raft_state::{BasicNode, Membership};
+use raft_stored_group::GroupEntry;
+use std::alloc::{AllocError, Global};
+
+/// An event, and the number of storing commands after which it is to stop, if it is (own).
+#[derive(Debug, Drop)]
+pub struct PlannedEvent {
+    /// What is to happen.
+    pub event: WorldEvent,
+    /// After so many storing commands it stops, and its node goes down.
+    pub stop: Option<u64>,
+}
+
+/// What became of an event (own).
+#[derive(Clone, Copy, Debug, PartialEq, Eq)]
+pub enum Mark {
+    /// It ran to its end.
+    Done,
+    /// It was refused.
+    Refused(Refusal<u64>),
+    /// It stopped as it was to, and its node is down.
+    Stopped,
+    /// It was passed over: there is no such node or message, the node is down or, to be restarted,
+    /// up, or the group was set up with another membership.
+    Skipped,
+}
+
+/// All members of one group, and all that they sent (own; crates of openraft's runtime do this with
+/// tasks and channels).
+#[derive(Drop)]
+pub struct World {
+    pub(crate) alloc: Global,
+    pub(crate) members: Vec<Member>,
+    pub(crate) messages: Vec<Message>,
+    pub(crate) setup: Option<Membership<u64, BasicNode>>,
+    pub(crate) led: Vec<LedNote>,
+    pub(crate) marks: Vec<Mark>,
+}
+
+impl World {
+    /// Nodes with these ids, which have the group and nothing in it (own). It fails for want of
+    /// memory alone.
+    pub fn new(alloc: Global, ids: &[u64]) -> Result<World, AllocError>
+        ensures world { IfOk result (λ w. IsWorldOf w (begun_world ids.now)) }
+        ensures history { (rs : List Recorded) → IsGroupHistory ids.now (begun_history ids.now) (begun_world ids.now) }
+    {
+        let mut world = World {
+            alloc,
+            members: Vec::new(alloc),
+            messages: Vec::new(alloc),
+            setup: None,
+            led: Vec::new(alloc),
+            marks: Vec::new(alloc),
+        };
+        for id in ids {
+            world.members.push(Member::new(alloc, *id)?)?;
+        }
+        Ok(world)
+    }
+
+    // One event, and its mark.
+    fn happen(&mut self, planned: &PlannedEvent) -> Result<(), AllocError>
+        ensures { (ids : List ℕ) (rs : List Recorded) (g : GroupWorld) → IsGroupHistory ids rs g → IsWorldOf self.old g
+            → OnOk result (IsWorldOf self.new (ran g planned.now.event planned.now.stop)) × OnErr result (HasBroken g planned.now self.new) }
+    {
+        if let Err(refused) = self.marks.reserve(1) {
+            self.stop_node_of(&planned.event);
+            return Err(refused);
+        }
+        let mark = self.event(planned)?;
+        self.marks.push(mark)
+    }
+
+    /// Runs the events in their order, and says how many (own). Fewer than all only for want of
+    /// memory: then the event that met it stopped, or its node went down before it.
+    pub fn run(&mut self, events: &[PlannedEvent]) -> usize
+        ensures { (ids : List ℕ) (rs : List Recorded) (g : GroupWorld) → IsGroupHistory ids rs g → IsWorldOf self.old g
+            → HasRunEvents ids rs g events.now result self.new }
+    {
+        for (i, planned) in events.iter().enumerate() {
+            if self.happen(planned).is_err() {
+                return i;
+            }
+        }
+        events.len()
+    }
+
+    /// The group's one list (own): the entries that are settled, by place. It is a copy, and fails
+    /// for want of memory alone.
+    pub fn list(&self) -> Result<Vec<GroupEntry>, AllocError>
+        ensures { IfOk result (λ list. (g : GroupWorld) → IsWorldOf self.now g → list.items ≡ group_list g) }
+    {
+        group_list(
+            self.alloc,
+            self.messages.as_slice(),
+            self.setup.as_ref(),
+            self.led.as_slice(),
+        )
+    }
+
+    /// What became of each event that was run, in order, lent (own).
+    pub fn marks(&self) -> &[Mark]
+        ensures { result.now ≡ self.now.marks.items }
+    {
+        self.marks.as_slice()
+    }
+
+    /// What was sent, by the numbers of the messages, lent (own).
+    pub fn messages(&self) -> &[Message]
+        ensures { result.now ≡ self.now.messages.items }
+    {
+        self.messages.as_slice()
+    }
+
+    /// The member of the node with this id, lent, if there is one (own).
+    pub fn member(&self, id: u64) -> Option<&Member>
+        ensures { option_copied result ≡ member_of id self.now.members.items }
+    {
+        match place_of(self.members.as_slice(), id) {
+            Some(place) => self.members.get(place),
+            None => None,
+        }
+    }
+}
