@@ -89,3 +89,27 @@ up_again m e s down moment idle = record {
   present = down.present;
   moment = moment;
 }
+
+-- ---- snapshots
+
+-- the engine has done a call with the snapshot that is given
+pub run_of_call_with : (own at moment : ℕ) (e : Engine) (s : GroupState) (call : GroupCall) (x : Snapshot) → moment ≡ max s.now at → refusal_of own s (Call call at) ≡ None
+    → HasTaken x own e s (Call call at) → IsRun own e s.stored (group_step own s (Call call at)) (Some x) moment
+run_of_call_with own at moment e s call x is accepted h = record {
+  snapshot = x;
+  step = h;
+  is_given = λ has. refl;
+  stored = (step-keeps own s (Call call at)).stored;
+  moment = is ∙ sym (moments_of_calls own s call at accepted);
+}
+
+-- the engine was handed a message with the snapshot that is given
+pub run_of_message_with : (own peer at moment : ℕ) (e : Engine) (s : GroupState) (body : MessageBody) (x : Snapshot) → moment ≡ max s.now at → refusal_of own s (received own peer body at) ≡ None
+    → HasTaken x own e s (received own peer body at) → IsRun own e s.stored (group_step own s (received own peer body at)) (Some x) moment
+run_of_message_with own peer at moment e s body x is accepted h = record {
+  snapshot = x;
+  step = h;
+  is_given = λ has. refl;
+  stored = (step-keeps own s (received own peer body at)).stored;
+  moment = is ∙ sym (moments_of_messages own s peer (record { sender = peer; addressee = own; body = body }) at accepted);
+}

@@ -55,7 +55,8 @@ impl World {
             return Ok(());
         }
         let led = note(self.alloc, member.id, &member.stored)?;
-        self.led.push(led)
+        self.led.push(led)?;
+        Ok(())
     }
 
     // What the member sent goes behind the other messages, and it is noted that it leads, where it

@@ -82,7 +82,8 @@ impl World {
             return Err(refused);
         }
         let mark = self.event(planned)?;
-        self.marks.push(mark)
+        self.marks.push(mark)?;
+        Ok(())
     }
 
     /// Runs the events in their order, and says how many (own). Fewer than all only for want of
