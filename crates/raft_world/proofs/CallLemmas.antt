@@ -56,5 +56,5 @@ none_both b n y = absurd (let no : false ≡ true = sym n ∙ y in cc)
 
 -- what holds in both cases of a test
 pub by_cases : {P : Type 0} (b : Bool) → (b ≡ true → P) → (b ≡ false → P) → P
-by_cases true yes other = yes refl
-by_cases false yes other = other refl
+by_cases true t f = t refl
+by_cases false t f = f refl

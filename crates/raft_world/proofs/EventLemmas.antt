@@ -14,7 +14,7 @@ use Rattle.raft_laws.specs.Stop.{stopped_after}
 use Rattle.raft_laws.proofs.StepMoments.{moments_of_calls, moments_of_messages}
 use Rattle.raft_laws.proofs.StepOrder.{step-keeps}
 use Rattle.raft_world.specs.Member.{Engine, HasEnded, HasStopped, IsDown, IsIdle, IsUp}
-use Rattle.raft_world.specs.Running.{HasHalted, HasRun, IsRun, left_by}
+use Rattle.raft_world.specs.Running.{EndsTo, HasHalted, HasRun, IsRun, RunsTo, left_by}
 use Rattle.raft_world.specs.declared.member.Member.{Member}
 use Rattle.raft_world.specs.declared.member.Ended.{Ended}
 use Rattle.raft_world.specs.declared.member.Ended.TheVariants as ended
@@ -49,6 +49,12 @@ module _ (own : ℕ) (s : GroupState) (event : GroupEvent) where
 
   pub halted_at_once : (m : Member) → IsDown m s.stored → HasHalted s.stored (group_step own s event) m
   halted_at_once m h = record { number = 0; down = h }
+
+-- so does its call
+pub ends_as_runs : {E : Type 0} (own : ℕ) (s : GroupState) (event : GroupEvent) (stop : Option ℕ) (e : Engine) (m : Member) (r : Result Ended E) → refusal_of own s event ≡ None
+    → RunsTo s.stored (group_step own s event) stop e m r → EndsTo own s event stop e m r
+ends_as_runs own s event stop e m (Ok end) accepted h = ended_as_run own s event stop (left_by end e m) end accepted h
+ends_as_runs own s event stop e m (Err refused) accepted h = h
 
 -- the engine has done a call, whatever the snapshot
 pub run_of_call : (own at moment : ℕ) (e : Engine) (s : GroupState) (call : GroupCall) → moment ≡ max s.now at → refusal_of own s (Call call at) ≡ None

@@ -18,13 +18,14 @@ use Rattle.raft_world.proofs.CallLemmas.{by_cases, none_both}
 use Rattle.raft_world.proofs.EventLemmas.{run_of_call, run_of_call_with}
 use Rattle.raft_world.proofs.RunLemmas.{one_snapshot}
 use Rattle.raft_world.proofs.member.Member.snapshot_call.Goals as goal
+use Rattle.raft_world.proofs.member.Member.snapshot_call.Goals.{After-drop-snapshot-inside-4}
 
 pub returns-then-not-branch-clause-ok : goal.returns-then-not-branch-clause-ok
 returns-then-not-branch-clause-ok c = λ at s down idle moment members may.
     let none_past : stands_before (covered_id c.args.engine.now) c.args.engine.now.state.state.committed ≡ false =
         by_cases (stands_before (covered_id c.args.engine.now) c.args.engine.now.state.state.committed)
-        (λ yes. none_both c.in_ok-trigger_snapshot.field-0 c.if-not-branch.true (c.in_ok-trigger_snapshot.ensures.asked idle.not_building yes).0)
-        (λ no. no) in
+        (λ t. none_both c.in_ok-trigger_snapshot.field-0 c.if-not-branch.true (c.in_ok-trigger_snapshot.ensures.asked idle.not_building t).0)
+        (λ f. f) in
     c.end_taken.ensures.ok s.stored (group_step c.args.self.now.id s (Call TriggerSnapshot at)) down
     (run_of_call c.args.self.now.id at c.args.moment c.trigger_snapshot.new.self s TriggerSnapshot moment may.accepted
     (λ x. (c.in_ok-trigger_snapshot.ensures.none_new x c.args.self.now.id at s may idle.not_building none_past).1))
@@ -33,8 +34,8 @@ pub returns-then-not-branch-clause-err : goal.returns-then-not-branch-clause-err
 returns-then-not-branch-clause-err c = λ at s down idle moment members may.
     let none_past : stands_before (covered_id c.args.engine.now) c.args.engine.now.state.state.committed ≡ false =
         by_cases (stands_before (covered_id c.args.engine.now) c.args.engine.now.state.state.committed)
-        (λ yes. none_both c.in_ok-trigger_snapshot.field-0 c.if-not-branch.true (c.in_ok-trigger_snapshot.ensures.asked idle.not_building yes).0)
-        (λ no. no) in
+        (λ t. none_both c.in_ok-trigger_snapshot.field-0 c.if-not-branch.true (c.in_ok-trigger_snapshot.ensures.asked idle.not_building t).0)
+        (λ f. f) in
     c.end_taken.ensures.err s.stored (group_step c.args.self.now.id s (Call TriggerSnapshot at)) down
     (run_of_call c.args.self.now.id at c.args.moment c.trigger_snapshot.new.self s TriggerSnapshot moment may.accepted
     (λ x. (c.in_ok-trigger_snapshot.ensures.none_new x c.args.self.now.id at s may idle.not_building none_past).1))
@@ -42,8 +43,8 @@ returns-then-not-branch-clause-err c = λ at s down idle moment members may.
 pub returns-in_default-clause-ok : goal.returns-in_default-clause-ok
 returns-in_default-clause-ok c = λ at s down idle moment members may.
     let past : stands_before (covered_id c.args.engine.now) c.args.engine.now.state.state.committed ≡ true =
-        by_cases (stands_before (covered_id c.args.engine.now) c.args.engine.now.state.state.committed) (λ yes. yes)
-        (λ no. none_both c.in_ok-trigger_snapshot.field-0 (c.in_ok-trigger_snapshot.ensures.none_new (one_snapshot 0) c.args.self.now.id at s may idle.not_building no).0 c.if-not-branch.false) in
+        by_cases (stands_before (covered_id c.args.engine.now) c.args.engine.now.state.state.committed) (λ t. t)
+        (λ f. none_both c.in_ok-trigger_snapshot.field-0 (c.in_ok-trigger_snapshot.ensures.none_new (one_snapshot 0) c.args.self.now.id at s may idle.not_building f).0 c.if-not-branch.false) in
     let asked = (c.in_ok-trigger_snapshot.ensures.asked idle.not_building past).1 in
     let none : c.args.engine.now.state.state.committed ≡ None = sym (ap (λ (e : Engine). e.state.state.committed) asked) ∙ c.in_default.is in
     none_stands_behind (covered_id c.args.engine.now) (ap (λ o. stands_before (covered_id c.args.engine.now) o) (sym none) ∙ past)
@@ -51,21 +52,21 @@ returns-in_default-clause-ok c = λ at s down idle moment members may.
 pub returns-in_default-2-clause-ok : goal.returns-in_default-2-clause-ok
 returns-in_default-2-clause-ok c = λ at s down idle moment members may.
     let past : stands_before (covered_id c.args.engine.now) c.args.engine.now.state.state.committed ≡ true =
-        by_cases (stands_before (covered_id c.args.engine.now) c.args.engine.now.state.state.committed) (λ yes. yes)
-        (λ no. none_both c.in_ok-trigger_snapshot.field-0 (c.in_ok-trigger_snapshot.ensures.none_new (one_snapshot 0) c.args.self.now.id at s may idle.not_building no).0 c.if-not-branch.false) in
+        by_cases (stands_before (covered_id c.args.engine.now) c.args.engine.now.state.state.committed) (λ t. t)
+        (λ f. none_both c.in_ok-trigger_snapshot.field-0 (c.in_ok-trigger_snapshot.ensures.none_new (one_snapshot 0) c.args.self.now.id at s may idle.not_building f).0 c.if-not-branch.false) in
     let asked = (c.in_ok-trigger_snapshot.ensures.asked idle.not_building past).1 in
     let is : c.args.engine.now.state.state.committed ≡ Some c.in-Some.applied = sym (ap (λ (e : Engine). e.state.state.committed) asked) ∙ c.in-Some.is in
     has_snapshot c.args.self.now.id c.args.engine.now s idle.stands c.in-Some.applied is (ap (λ o. stands_before (covered_id c.args.engine.now) o) (sym is) ∙ past)
     (ap (λ stored. option_map (snapshot_at stored) (id_of (entry_at stored c.in-Some.applied.index))) (sym down.stored) ∙ sym c.in_ok-snapshot.ensures ∙ c.in_default-2.is)
 
 -- the snapshot that was built
-module _ (c : goal.After-end_taken-2) (at : ℕ) (s : GroupState) (down : IsDown c.args.self.now s.stored) (idle : IsIdle c.args.self.now.id c.args.engine.now s)
+module _ (c : After-drop-snapshot-inside-4) (at : ℕ) (s : GroupState) (down : IsDown c.args.self.now s.stored) (idle : IsIdle c.args.self.now.id c.args.engine.now s)
     (members : HasMembershipOfApplied s) (may : MayTake c.args.self.now.id c.args.engine.now s (Call TriggerSnapshot at)) where
   taken : HasTaken c.in-Some-2.snapshot c.args.self.now.id c.finish_building_snapshot.new.self s (Call TriggerSnapshot at)
   taken =
       let past : stands_before (covered_id c.args.engine.now) c.args.engine.now.state.state.committed ≡ true =
-          by_cases (stands_before (covered_id c.args.engine.now) c.args.engine.now.state.state.committed) (λ yes. yes)
-          (λ no. none_both c.in_ok-trigger_snapshot.field-0 (c.in_ok-trigger_snapshot.ensures.none_new (one_snapshot 0) c.args.self.now.id at s may idle.not_building no).0 c.if-not-branch.false) in
+          by_cases (stands_before (covered_id c.args.engine.now) c.args.engine.now.state.state.committed) (λ t. t)
+          (λ f. none_both c.in_ok-trigger_snapshot.field-0 (c.in_ok-trigger_snapshot.ensures.none_new (one_snapshot 0) c.args.self.now.id at s may idle.not_building f).0 c.if-not-branch.false) in
       let asked = (c.in_ok-trigger_snapshot.ensures.asked idle.not_building past).1 in
       let is : c.args.engine.now.state.state.committed ≡ Some c.in-Some.applied = sym (ap (λ (e : Engine). e.state.state.committed) asked) ∙ c.in-Some.is in
       let found = ap (λ stored. option_map (snapshot_at stored) (id_of (entry_at stored c.in-Some.applied.index))) (sym down.stored) ∙ sym c.in_ok-snapshot.ensures ∙ c.in-Some-2.is in
