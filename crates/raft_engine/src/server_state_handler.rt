@@ -1,5 +1,5 @@
 //! The part that the node plays: leader, candidate, follower or learner.
-ghost use Rattle.std.specs.Prelude.{◌≡◌, ◌==◌, ℕ, not, OnOk};
+ghost use Rattle.std.specs.Prelude.{◌≡◌, ◌↔◌, ℕ, false};
 ghost use Rattle.raft_group_step.specs.StoredGroup.{Snapshot, membership_in_force};
 ghost use Rattle.raft_group_step.specs.GroupState.{GroupState};
 ghost use Rattle.raft_group_step.specs.Refusal.{is_voter_in};
@@ -41,7 +41,7 @@ impl<'x, C: RaftTypeConfig<NodeId = u64, Node = BasicNode, D = Bytes>> ServerSta
     pub fn update_server_state_if_changed(&mut self) -> bool
         ensures same_engine { self.new.engine.ghost_name ≡ self.old.engine.ghost_name }
         ensures noted { self.new.engine.now ≡ with_server_state (server_state_of self.old.engine.now) self.old.engine.now }
-        ensures changed { result ≡ not (server_state_eq self.old.engine.now.state.state.server_state (server_state_of self.old.engine.now)) }
+        ensures changed { (result ≡ false) ↔ (self.old.engine.now.state.state.server_state ≡ server_state_of self.old.engine.now) }
         ensures step { (x : Snapshot) (own : ℕ) (r : StepResult) → IsStepOf x own self.old.engine.now r → IsStepOf x own self.new.engine.now r }
     {
         let server_state = self.calc_server_state();
