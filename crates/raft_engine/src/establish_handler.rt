@@ -94,7 +94,7 @@ impl<C: RaftTypeConfig<NodeId = u64, Node = BasicNode, D = Bytes>> Engine<C> {
         };
         let is_quorum = candidate.grant_by(&n);
         if is_quorum && self.has_room() {
-            return self.begin_lead(now);
+            return self.establish_handler().establish(now);
         }
         Ok(())
     }
@@ -142,7 +142,7 @@ impl<C: RaftTypeConfig<NodeId = u64, Node = BasicNode, D = Bytes>> Engine<C> {
         if resp.vote_granted && resp.vote == *self.state.state.vote_ref() {
             return self.with_grant(peer, now);
         }
-        self.take_over_greater(resp.vote, now)
+        self.vote_handler().update_greater_vote(resp.vote, now)
     }
 
     // The group is set up: its membership is the first entry, and the node stands for election.

@@ -10,6 +10,7 @@ ghost use Rattle.raft_group_step.specs.Refusal.{do_follow};
 ghost use Rattle.raft_group_step.specs.SnapshotRequest.{install_unless};
 ghost use Rattle.raft_known_state.specs.KnownState.{ArePlaced, IsPlaced, Knows, entry_ids, meta_of};
 ghost use Rattle.raft_engine.specs.Commands.{result_of};
+ghost use Rattle.raft_engine.specs.Numbering.{KeepsNumbers, NumbersRise};
 ghost use Rattle.raft_engine.specs.Standing.{IsStepOf};
 ghost use Rattle.raft_engine.specs.Following.{EndsWithin, IsVoteOfAnother, SpellsAppend, SpellsAppendReply, all_go_on, unheld_entries};
 
@@ -106,6 +107,7 @@ impl<'x, C: RaftTypeConfig<NodeId = u64, Node = BasicNode, D = Bytes>> Following
     /// All up to the place is committed (openraft), if it is above what is.
     pub fn commit_entries(&mut self, leader_committed: Option<u64>) -> Result<(), AllocError>
         ensures same_engine { self.new.engine.ghost_name ≡ self.old.engine.ghost_name }
+        ensures numbers { OnOk result (NumbersRise self.old.engine.now.output self.new.engine.now.output) }
         ensures step { (x : Snapshot) (own : _) (r : StepResult) → IsStepOf x own self.old.engine.now r → EndsWithin leader_committed r.state.stored
             → OnOk result (IsStepOf x own self.new.engine.now (apply_up_to leader_committed r)) }
     {
@@ -130,6 +132,7 @@ impl<'x, C: RaftTypeConfig<NodeId = u64, Node = BasicNode, D = Bytes>> Following
     ) -> Result<(), AllocError>
         requires { next_place meta.last_log_id < 2 ^ 64 }
         ensures same_engine { self.new.engine.ghost_name ≡ self.old.engine.ghost_name }
+        ensures numbers { OnOk result (NumbersRise self.old.engine.now.output self.new.engine.now.output) }
         ensures step { (x : Snapshot) (own : _) (r : StepResult) → IsStepOf x own self.old.engine.now r → r.state.role ≡ Follower → meta ≡ meta_of (Some x)
             → OnOk result (IsStepOf x own self.new.engine.now (install_unless (is_within x.last.index r.state.committed) x r)) }
     {
@@ -140,7 +143,8 @@ impl<'x, C: RaftTypeConfig<NodeId = u64, Node = BasicNode, D = Bytes>> Following
 impl<C: RaftTypeConfig<NodeId = u64, Node = BasicNode, D = Bytes>> Engine<C> {
     // All up to the place is committed, if it is above what is.
     pub(crate) fn commit_up_to(&mut self, place: Option<u64>) -> Result<(), AllocError>
-        ensures { (x : Snapshot) (own : _) (r : StepResult) → IsStepOf x own self.old r → EndsWithin place r.state.stored
+        ensures numbers { OnOk result (NumbersRise self.old.output self.new.output) }
+        ensures step { (x : Snapshot) (own : _) (r : StepResult) → IsStepOf x own self.old r → EndsWithin place r.state.stored
             → OnOk result (IsStepOf x own self.new (apply_up_to place r)) }
     {
         let Some(place) = place else {
@@ -164,7 +168,8 @@ impl<C: RaftTypeConfig<NodeId = u64, Node = BasicNode, D = Bytes>> Engine<C> {
 
     // The log is shortened from the place on, where it has an entry there.
     pub(crate) fn cut_from(&mut self, place: u64) -> Result<(), AllocError>
-        ensures { (x : Snapshot) (own : _) (r : StepResult) → IsStepOf x own self.old r → r.state.role ≡ Follower
+        ensures numbers { OnOk result (KeepsNumbers self.old.output self.new.output) }
+        ensures step { (x : Snapshot) (own : _) (r : StepResult) → IsStepOf x own self.old r → r.state.role ≡ Follower
             → is_within place r.state.committed ≡ false → OnOk result (IsStepOf x own self.new (cut_from place r)) }
     {
         let Some(since) = self.state.get_log_id(place) else {

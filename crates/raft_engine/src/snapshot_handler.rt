@@ -8,6 +8,7 @@ ghost use Rattle.raft_group_step.specs.SnapshotRequest.{cut_other, install_unles
 ghost use Rattle.raft_known_state.specs.KnownState.{IsEntryOrPast, KeepsRest, Knows, meta_of};
 ghost use Rattle.raft_engine.specs.Building.{asking, covered_id, is_building};
 ghost use Rattle.raft_engine.specs.Commands.{snapshot_result};
+ghost use Rattle.raft_engine.specs.Numbering.{GainsNumber, KeepsNumbers, NumbersRise};
 ghost use Rattle.raft_engine.specs.Standing.{IsStepOf};
 ghost use Rattle.raft_engine.specs.Following.{IsVoteOfAnother, SpellsSnapshotReply};
 
@@ -61,9 +62,9 @@ impl<'x, C: RaftTypeConfig<NodeId = u64, Node = BasicNode, D = Bytes>> SnapshotH
     ) -> Result<bool, AllocError>
         ensures same_engine { self.new.engine.ghost_name ≡ self.old.engine.ghost_name }
         ensures ignored { stands_before (covered_id self.old.engine.now) meta.last_log_id ≡ false → (result ≡ Ok false) × (self.new.engine.now ≡ self.old.engine.now) }
+        ensures which { IfOk result (λ updated. updated ≡ stands_before (covered_id self.old.engine.now) meta.last_log_id) }
         ensures known { (s : StoredGroup) (x : Snapshot) → Knows self.old.engine.now.state s → meta ≡ meta_of (Some x)
-            → stands_before (covered_id self.old.engine.now) meta.last_log_id ≡ true
-            → IfOk result (λ updated. (updated ≡ true) × Knows self.new.engine.now.state (after_storing (SetSnapshot x) s)) }
+            → IfOk result (λ updated. updated ≡ true → Knows self.new.engine.now.state (after_storing (SetSnapshot x) s)) }
         ensures rest { OnOk result (KeepsRest self.old.engine.now.state self.new.engine.now.state
             × (self.new.engine.now ≡ record self.old.engine.now { state = self.new.engine.now.state })) }
     {
@@ -80,7 +81,8 @@ impl<C: RaftTypeConfig<NodeId = u64, Node = BasicNode, D = Bytes>> Engine<C> {
     // Where another entry stands at the snapshot's place, what isn't committed goes.
     fn cut_other(&mut self, last: LogId<u64>) -> Result<(), AllocError>
         requires { last.index + 1 < 2 ^ 64 }
-        ensures { (x : Snapshot) (own : _) (r : StepResult) → IsStepOf x own self.old r → r.state.role ≡ Follower
+        ensures numbers { OnOk result (KeepsNumbers self.old.output self.new.output) }
+        ensures step { (x : Snapshot) (own : _) (r : StepResult) → IsStepOf x own self.old r → r.state.role ≡ Follower
             → is_within last.index r.state.committed ≡ false → OnOk result (IsStepOf x own self.new (cut_other last r)) }
     {
         if self.state.has_log_id(&last) || self.state.get_log_id(last.index).is_none() {
@@ -99,7 +101,8 @@ impl<C: RaftTypeConfig<NodeId = u64, Node = BasicNode, D = Bytes>> Engine<C> {
         last: LogId<u64>,
     ) -> Result<(), AllocError>
         requires { last.index + 1 < 2 ^ 64 }
-        ensures { (x : Snapshot) (own : _) (r : StepResult) → IsStepOf x own self.old r → r.state.role ≡ Follower → meta ≡ meta_of (Some x) → last ≡ x.last
+        ensures numbers { OnOk result (GainsNumber self.old.output self.new.output) }
+        ensures step { (x : Snapshot) (own : _) (r : StepResult) → IsStepOf x own self.old r → r.state.role ≡ Follower → meta ≡ meta_of (Some x) → last ≡ x.last
             → is_within last.index r.state.committed ≡ false → IsEntryOrPast r.state.stored last
             → OnOk result (IsStepOf x own self.new (apply_up_to (Some last.index) (store (RemoveUpTo last) (store (SetSnapshot x) r)))) }
     {
@@ -116,7 +119,8 @@ impl<C: RaftTypeConfig<NodeId = u64, Node = BasicNode, D = Bytes>> Engine<C> {
     // The snapshot is installed, unless all of it is committed.
     pub(crate) fn install(&mut self, meta: SnapshotMeta<u64, BasicNode>) -> Result<(), AllocError>
         requires { next_place meta.last_log_id < 2 ^ 64 }
-        ensures { (x : Snapshot) (own : _) (r : StepResult) → IsStepOf x own self.old r → r.state.role ≡ Follower → meta ≡ meta_of (Some x)
+        ensures numbers { OnOk result (NumbersRise self.old.output self.new.output) }
+        ensures step { (x : Snapshot) (own : _) (r : StepResult) → IsStepOf x own self.old r → r.state.role ≡ Follower → meta ≡ meta_of (Some x)
             → OnOk result (IsStepOf x own self.new (install_unless (is_within x.last.index r.state.committed) x r)) }
     {
         let Some(last) = meta.last_log_id else {
