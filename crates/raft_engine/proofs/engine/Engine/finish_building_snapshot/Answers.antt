@@ -4,7 +4,7 @@ use Rattle.raft_group_step.specs.StoredGroup.{SetSnapshot}
 use Rattle.raft_group_step.specs.StepResult.{store}
 use Rattle.raft_group_step.specs.GroupStep.{begun}
 use Rattle.raft_known_state.specs.KnownState.{KeepsRest, Knows}
-use Rattle.raft_engine.specs.Standing.{IsStepOf}
+use Rattle.raft_engine.specs.Standing.{Engine, IsStepOf}
 use Rattle.raft_engine.proofs.BuildingLemmas.{build_taken, builder_finishes, snapshot_stored, trigger_in_range}
 use Rattle.raft_engine.proofs.RoomLemmas.{can_finish_when_ready}
 use Rattle.raft_engine.proofs.engine.Engine.finish_building_snapshot.Goals as goal
@@ -23,7 +23,7 @@ returns-clause-built g c = λ own at seq s x stands queue ready accepted meta bu
     let after = store (SetSnapshot x) (begun at s) in
     let step = snapshot_stored s x built own at before (record lent { state = given.state }) stands refl refl refl knows
     (record { vote = kept.vote; committed = kept.committed; purge_upto = kept.purge_upto }) seq queue in
-    let same = c.in_ok-is_updated.ensures.rest.1 ∙ ap (λ e. record e { state = given.state }) c.snapshot_handler.ensures.value in
+    let same = c.in_ok-is_updated.ensures.rest.1 ∙ ap (λ (e : Engine _ _). record e { state = given.state }) c.snapshot_handler.ensures.value in
     let can = builder_finishes s x built own at ready s.role (can_finish_when_ready own s (at ∷ []) ready (trigger_in_range own at s accepted)) in
     on_ok_weaker c.finish.result
     (build_taken s x built own at before c.finish.new.self stands accepted)
