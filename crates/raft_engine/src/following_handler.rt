@@ -20,8 +20,7 @@ use raft_commands::{Caller, Command, RaftTypeConfig, Respond, ValueSender};
 use raft_group_step::{AppendEntriesRequest, AppendEntriesResponse, Entries};
 use raft_known_state::KnownState;
 use raft_state::{
-    BasicNode, Bytes, Entry, LogId, LogIdOptionExt, RaftLogId, SnapshotMeta, Vote,
-    VoteStateReader,
+    BasicNode, Bytes, Entry, LogId, LogIdOptionExt, RaftLogId, SnapshotMeta, Vote, VoteStateReader,
 };
 use std::alloc::AllocError;
 

@@ -1,7 +1,7 @@
 //! The part that the node plays: leader, candidate, follower or learner.
 ghost use Rattle.std.specs.Prelude.{◌≡◌, ◌↔◌, ℕ, false};
 ghost use Rattle.raft_group_step.specs.StoredGroup.{Snapshot, membership_in_force};
-ghost use Rattle.raft_group_step.specs.GroupState.{GroupState};
+ghost use Rattle.raft_group_step.specs.GroupState.{GroupState, is_leader};
 ghost use Rattle.raft_group_step.specs.Refusal.{is_voter_in};
 ghost use Rattle.raft_group_step.specs.StepResult.{StepResult};
 ghost use Rattle.raft_engine.specs.ServerStates.{part_in, server_state_of, with_server_state};
@@ -35,6 +35,20 @@ impl<'x, C: RaftTypeConfig<NodeId = u64, Node = BasicNode, D = Bytes>> ServerSta
         } else {
             ServerState::Learner
         }
+    }
+
+    /// Whether the node leads (openraft).
+    pub fn is_leader(&self) -> bool
+        ensures { (own : ℕ) (s : GroupState) → IsStateOf own self.now.engine.now s → result ≡ is_leader s.role }
+    {
+        self.engine.leader.is_some()
+    }
+
+    /// Whether the node is a voter of the membership in force (openraft).
+    pub fn is_voter(&self) -> bool
+        ensures { (own : ℕ) (s : GroupState) → IsStateOf own self.now.engine.now s → result ≡ is_voter_in (membership_in_force s.stored) own }
+    {
+        self.engine.state.state.is_voter(&self.engine.config.id)
     }
 
     /// Notes the part that the node plays (openraft), and says whether it was another one before.

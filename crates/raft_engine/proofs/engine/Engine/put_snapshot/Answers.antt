@@ -37,12 +37,12 @@ returns-clause-numbers g c =
     on_ok_weaker c.push_command-2.result
     (λ h. (
       ap (λ (o : Output _ _ _ _ _). numbers_in o.queue) h
-      ∙ ap (λ (o : Output _ _ _ _ _). numbers_in (o.queue ++ purge ∷ [])) pushed
-      ∙ ap (λ (o : Output _ _ _ _ _). numbers_in ((o.queue ++ command ∷ []) ++ purge ∷ [])) asked
-      ∙ numbers_more (queue ++ command ∷ []) purge
-      ∙ append-nil (numbers_in (queue ++ command ∷ []))
-      ∙ numbers_more queue command
-      ∙ ap (λ n. numbers_in queue ++ n ∷ []) seq,
+          ∙ ap (λ (o : Output _ _ _ _ _). numbers_in (o.queue ++ purge ∷ [])) pushed
+          ∙ ap (λ (o : Output _ _ _ _ _). numbers_in ((o.queue ++ command ∷ []) ++ purge ∷ [])) asked
+          ∙ numbers_more (queue ++ command ∷ []) purge
+          ∙ append-nil (numbers_in (queue ++ command ∷ []))
+          ∙ numbers_more queue command
+          ∙ ap (λ n. numbers_in queue ++ n ∷ []) seq,
       ap (λ (o : Output _ _ _ _ _). o.last_sm_seq) h ∙ ap (λ (o : Output _ _ _ _ _). o.last_sm_seq) pushed ∙ ap (λ (o : Output _ _ _ _ _). o.last_sm_seq) asked,
     ))
     c.push_command-2.ensures.ok
