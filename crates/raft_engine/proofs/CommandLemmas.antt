@@ -7,6 +7,8 @@ use Rattle.raft_values.specs.declared.log_id.LogId.{LogId}
 use Rattle.raft_group_step.specs.StoredGroup.{StoredGroup, Snapshot, StoringCommand}
 use Rattle.raft_group_step.specs.Message.{Message}
 use Rattle.raft_engine.specs.Commands.{Command, storing_of, sending_of, stored_by, sent_by}
+use Rattle.raft_commands.specs.Output.{following_seq}
+use Rattle.raft_engine.specs.Numbering.{GainsNumber, KeepsNumbers, Output, number_in, numbers_in}
 
 one_more : {X A : Type 0} (f : X → List A) (queue : List X) (c : X) → flat_map f (queue ++ c ∷ []) ≡ flat_map f queue ++ f c
 one_more f queue c = flat_map-append f queue (c ∷ []) ∙ ap (λ xs. flat_map f queue ++ xs) (append-nil (f c))
@@ -25,3 +27,14 @@ module _ {C R : Type 0} (queue : List (Command C R)) (c : Command C R) where
 
   pub sends_same : (own : ℕ) (s : StoredGroup) (upto : Option (LogId ℕ)) (ms : List Message) → sent_by own s upto queue ≡ ms → sending_of own s upto c ≡ [] → sent_by own s upto (queue ++ c ∷ []) ≡ ms
   sends_same own s upto ms e f = sends_more own s upto ms [] e f ∙ append-nil ms
+
+  -- and its number is behind theirs
+  pub numbers_more : numbers_in (queue ++ c ∷ []) ≡ numbers_in queue ++ number_in c
+  numbers_more = one_more number_in queue c
+
+-- a number that is gained once others are kept is gained in all
+pub gained_after : {C R : Type 0} (a b c : Output C R) → KeepsNumbers a b → GainsNumber b c → GainsNumber a c
+gained_after a b c kept gained = (
+  gained.0 ∙ ap (λ ns. ns ++ following_seq b.last_sm_seq ∷ []) kept.0 ∙ ap (λ last. numbers_in a.queue ++ following_seq last ∷ []) kept.1,
+  gained.1 ∙ ap following_seq kept.1,
+)

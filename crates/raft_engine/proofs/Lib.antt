@@ -30,3 +30,4 @@ pub mod OpeningLemmas
 pub mod ReceivedLemmas
 pub mod LastMembership
 pub mod BuildingLemmas
+pub mod HandlerLemmas

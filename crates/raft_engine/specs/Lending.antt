@@ -1,6 +1,6 @@
--- What an engine ends as, where a `&mut` to its candidate is returned.
-use Rattle.std.specs.Prelude.{Option, Some}
-use Rattle.std.specs.Borrow.{Fml, LendsIf, MutBor, RattleType}
+-- What an engine ends as, where a `&mut` to its candidate is returned, or a handler that leads.
+use Rattle.std.specs.Prelude.{◌≡◌, Option, Some, Result}
+use Rattle.std.specs.Borrow.{Fml, LendsIf, MutBor, RattleType, RestsIfErr}
 use Rattle.std.specs.declared.clone.Clone.{Ghosts as ClonesBy}
 use Rattle.std.specs.declared.cmp.Ord.{Ghosts as OrdersBy}
 use Rattle.std.specs.declared.cmp.PartialEq.{Ghosts as EqualsBy}
@@ -15,6 +15,7 @@ use Rattle.raft_membership.specs.Membership.{voter_ids}
 use Rattle.raft_membership.specs.contracts.effective_membership.EffectiveMembership.{the_row as membership_row}
 use Rattle.raft_leaders.specs.contracts.candidate.Candidate.{the_row as candidate_row}
 use Rattle.raft_engine.specs.contracts.engine.Engine.{the_row}
+use Rattle.raft_engine.specs.declared.leader_handler.LeaderHandler.{LeaderHandler}
 
 -- the types of a group, with what their traits say of them
 module _ (C D R K N : RattleType) (c-debug : DebugsBy C.Denot) (d-debug : DebugsBy D.Denot) (r-debug : DebugsBy R.Denot)
@@ -37,3 +38,7 @@ module _ (C D R K N : RattleType) (c-debug : DebugsBy C.Denot) (d-debug : Debugs
   -- the engine ends with the candidate last written through r, or as it was
   abbrev pub LendsCandidate : MutBor engine_row.Denot → Option (MutBor lent_row.Denot) → Fml
   LendsCandidate e r = LendsIf engine_row lent_row e r (λ w. record e.now { candidate = Some w }) e.now
+
+  -- the engine ends as the handler in r leaves it, or as it was where r has none
+  abbrev pub LendsToLeader : {T E : Type 0} → MutBor engine_row.Denot → Result (LeaderHandler C.Denot D.Denot R.Denot K.Denot N.Denot × T) E → Fml
+  LendsToLeader e r = RestsIfErr engine_row e (λ taken. taken.0.engine.ghost_name) r (λ last. last ≡ e.now)

@@ -12,9 +12,8 @@ ghost use Rattle.raft_engine.specs.Events.{HasTaken, IsReady, MayTake};
 ghost use Rattle.raft_engine.specs.Standing.{IsStateOf};
 
 use crate::engine::Engine;
-use raft_commands::{Command, RaftTypeConfig, sm};
+use raft_commands::RaftTypeConfig;
 use raft_state::{BasicNode, Bytes, SnapshotMeta};
-use raft_values::log_id_option_ext::stands_before;
 use std::alloc::AllocError;
 
 impl<C: RaftTypeConfig<NodeId = u64, Node = BasicNode, D = Bytes>> Engine<C> {
@@ -29,22 +28,13 @@ impl<C: RaftTypeConfig<NodeId = u64, Node = BasicNode, D = Bytes>> Engine<C> {
         ensures asked { is_building self.old ≡ false → stands_before (covered_id self.old) self.old.state.state.committed ≡ true
             → IfOk result (λ asked. (asked ≡ true) × (self.new ≡ asking self.old)) }
     {
-        if self.state.state.io_state.building_snapshot() {
-            return Ok(false);
-        }
-        if !stands_before(
-            &self.state.state.snapshot_meta.last_log_id,
-            &self.state.state.committed,
-        ) {
-            let before = self.state.state.committed;
+        let before = self.state.state.committed;
+        let is_building = self.state.state.io_state.building_snapshot();
+        let is_asked = self.snapshot_handler().trigger_snapshot()?;
+        if !is_building && !is_asked {
             self.finish(before)?;
-            return Ok(false);
         }
-        let seq = self.output.next_sm_seq();
-        let command = sm::Command::build_snapshot().with_seq(seq);
-        self.output.push_command(Command::StateMachine { command })?;
-        self.state.state.io_state.set_building_snapshot(true);
-        Ok(true)
+        Ok(is_asked)
     }
 
     /// The snapshot that was asked for is built, and is the node's last one from now on (openraft).
@@ -59,14 +49,11 @@ impl<C: RaftTypeConfig<NodeId = u64, Node = BasicNode, D = Bytes>> Engine<C> {
         ensures ignored { stands_before (covered_id self.old) meta.last_log_id ≡ false → (result ≡ Ok tt) × (self.new ≡ with_building false self.old) }
     {
         self.state.state.io_state.set_building_snapshot(false);
-        if !stands_before(
-            &self.state.state.snapshot_meta.last_log_id,
-            &meta.last_log_id,
-        ) {
+        let before = self.state.state.committed;
+        let is_updated = self.snapshot_handler().update_snapshot(meta)?;
+        if !is_updated {
             return Ok(());
         }
-        let before = self.state.state.committed;
-        self.state.save_snapshot(meta)?;
         self.finish(before)
     }
 }

@@ -231,7 +231,7 @@ impl<C: RaftTypeConfig<NodeId = u64, Node = BasicNode, D = Bytes>> Engine<C> {
             → OnOk result (HasTaken x own self.new s (Call (TriggerPurge place) at)) }
     {
         let before = self.state.state.committed;
-        self.purge_trigger(place)?;
+        self.log_handler().update_purge_upto(place)?;
         self.finish(before)
     }
 
@@ -241,13 +241,13 @@ impl<C: RaftTypeConfig<NodeId = u64, Node = BasicNode, D = Bytes>> Engine<C> {
             → ((place : ℕ) → r.state.wish ≡ Some place → MayBePurged place r.state.stored)
             → OnOk result (IsStepOf x own self.new (purge_as_wished r.state.role r.state.wish r)) }
     {
-        self.purge_as_wished()
+        self.log_handler().purge_log()
     }
 
     /// The node leads no more (openraft). Tokens that are to be told stay unknown.
     pub fn leader_step_down(&mut self)
         ensures { (x : Snapshot) (own : ℕ) (r : StepResult) → IsStepOf x own self.old r → IsStepOf x own self.new (step_down r) }
     {
-        self.step_down();
+        self.vote_handler().become_following();
     }
 }

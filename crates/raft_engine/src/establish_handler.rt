@@ -1,5 +1,5 @@
 //! Elections: a node stands, asks the others, and counts who grants.
-ghost use Rattle.std.specs.Prelude.{◌≡◌, ◌+◌, ◌<◌, ◌^◌, ◌↔◌, OnOk, IfOk, IsTrue, true, false, ◌∷◌, []};
+ghost use Rattle.std.specs.Prelude.{◌≡◌, ◌+◌, ◌<◌, ◌^◌, ◌↔◌, OnOk, IfOk, IsTrue, true, false, List, ℕ, ◌∷◌, []};
 ghost use Rattle.raft_values.specs.LogId.{next_place};
 ghost use Rattle.raft_state.specs.LogIdList.{last_id as last_known_id};
 ghost use Rattle.raft_group_step.specs.Values.{is_voter};
@@ -7,7 +7,7 @@ ghost use Rattle.raft_group_step.specs.StoredGroup.{Snapshot, StoredGroup, end_p
 ghost use Rattle.raft_group_step.specs.GroupState.{Candidate as Standing, is_candidate};
 ghost use Rattle.raft_group_step.specs.StepResult.{StepResult, in_role, step_down};
 ghost use Rattle.raft_group_step.specs.Refusal.{is_voter_in};
-ghost use Rattle.raft_group_step.specs.Lead.{with_grant};
+ghost use Rattle.raft_group_step.specs.Lead.{begin_lead, with_grant};
 ghost use Rattle.raft_group_step.specs.Elect.{ask, elect_step, stand};
 ghost use Rattle.raft_group_step.specs.Initialize.{initialize_step, is_new};
 ghost use Rattle.raft_group_step.specs.VoteReply.{vote_reply_step};
@@ -22,6 +22,25 @@ use raft_state::{
     BasicNode, Bytes, EffectiveMembership, Entry, EntryPayload, LeaderId, LogId, Membership, Vote,
 };
 use std::alloc::AllocError;
+
+/// Makes a leader of a candidate (openraft).
+#[derive(Drop)]
+pub struct EstablishHandler<'x, C: RaftTypeConfig> {
+    pub(crate) engine: &'x mut Engine<C>,
+}
+
+impl<'x, C: RaftTypeConfig<NodeId = u64, Node = BasicNode, D = Bytes>> EstablishHandler<'x, C> {
+    /// A quorum has granted the candidate's vote at this moment, in ticks (openraft): the node leads,
+    /// and writes a blank entry unless it has written an entry under the vote.
+    pub fn establish(&mut self, now: u64) -> Result<(), AllocError>
+        requires { next_place (last_known_id self.old.engine.now.state.state.log_ids) < 2 ^ 63 }
+        ensures same_engine { self.new.engine.ghost_name ≡ self.old.engine.ghost_name }
+        ensures step { (x : Snapshot) (own : _) (r : StepResult) (granters : List ℕ) → IsStepOf x own self.old.engine.now r → r.state.role ≡ Standing granters → r.state.now ≡ now
+            → OnOk result (IsStepOf x own self.new.engine.now (begin_lead r)) }
+    {
+        self.engine.begin_lead(now)
+    }
+}
 
 impl<C: RaftTypeConfig<NodeId = u64, Node = BasicNode, D = Bytes>> Engine<C> {
     // Each of these voters is asked for its vote.
@@ -75,7 +94,7 @@ impl<C: RaftTypeConfig<NodeId = u64, Node = BasicNode, D = Bytes>> Engine<C> {
         };
         let is_quorum = candidate.grant_by(&n);
         if is_quorum && self.has_room() {
-            return self.begin_lead(now);
+            return self.establish_handler().establish(now);
         }
         Ok(())
     }
@@ -123,7 +142,7 @@ impl<C: RaftTypeConfig<NodeId = u64, Node = BasicNode, D = Bytes>> Engine<C> {
         if resp.vote_granted && resp.vote == *self.state.state.vote_ref() {
             return self.with_grant(peer, now);
         }
-        self.take_over_greater(resp.vote, now)
+        self.vote_handler().update_greater_vote(resp.vote, now)
     }
 
     // The group is set up: its membership is the first entry, and the node stands for election.

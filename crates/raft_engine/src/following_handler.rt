@@ -1,14 +1,16 @@
 //! Following: entries and places that a leader sends.
-ghost use Rattle.std.specs.Prelude.{◌≡◌, ◌≢◌, ◌≤◌, ◌<◌, ℕ, OnOk, true, false, length, drop, Some, None};
-ghost use Rattle.raft_values.specs.LogId.{place_of};
+ghost use Rattle.std.specs.Prelude.{◌≡◌, ◌≢◌, ◌≤◌, ◌<◌, ◌^◌, ℕ, OnOk, true, false, length, drop, Some, None};
+ghost use Rattle.raft_values.specs.LogId.{next_place, place_of};
 ghost use Rattle.raft_group_step.specs.StoredGroup.{StoredGroup, Snapshot, end_place};
 ghost use Rattle.raft_group_step.specs.GroupState.{Follower};
 ghost use Rattle.raft_group_step.specs.StepResult.{StepResult, apply_up_to, is_within};
 ghost use Rattle.raft_group_step.specs.Message.{AppendFields, ReplyResult};
 ghost use Rattle.raft_group_step.specs.AppendRequest.{above_committed, append_request_step, cut_at, cut_from, is_held, joined, lesser_place, missing_entries, put_entries, reply_append};
 ghost use Rattle.raft_group_step.specs.Refusal.{do_follow};
-ghost use Rattle.raft_known_state.specs.KnownState.{ArePlaced, IsPlaced, Knows, entry_ids};
+ghost use Rattle.raft_group_step.specs.SnapshotRequest.{install_unless};
+ghost use Rattle.raft_known_state.specs.KnownState.{ArePlaced, IsPlaced, Knows, entry_ids, meta_of};
 ghost use Rattle.raft_engine.specs.Commands.{result_of};
+ghost use Rattle.raft_engine.specs.Numbering.{KeepsNumbers, NumbersRise};
 ghost use Rattle.raft_engine.specs.Standing.{IsStepOf};
 ghost use Rattle.raft_engine.specs.Following.{EndsWithin, IsVoteOfAnother, SpellsAppend, SpellsAppendReply, all_go_on, unheld_entries};
 
@@ -18,7 +20,7 @@ use raft_commands::{Caller, Command, RaftTypeConfig, Respond, ValueSender};
 use raft_group_step::{AppendEntriesRequest, AppendEntriesResponse, Entries};
 use raft_known_state::KnownState;
 use raft_state::{
-    BasicNode, Bytes, Entry, LogId, LogIdOptionExt, RaftLogId, Vote, VoteStateReader,
+    BasicNode, Bytes, Entry, LogId, LogIdOptionExt, RaftLogId, SnapshotMeta, Vote, VoteStateReader,
 };
 use std::alloc::AllocError;
 
@@ -79,10 +81,69 @@ fn lesser_place(a: Option<LogId<u64>>, b: Option<LogId<u64>>) -> Option<u64>
     }
 }
 
+/// Takes what a leader sends, at a node that doesn't lead (openraft).
+#[derive(Drop)]
+pub struct FollowingHandler<'x, C: RaftTypeConfig> {
+    pub(crate) engine: &'x mut Engine<C>,
+}
+
+impl<'x, C: RaftTypeConfig<NodeId = u64, Node = BasicNode, D = Bytes>> FollowingHandler<'x, C> {
+    /// The entries that the log doesn't have are appended (openraft), after the log was shortened
+    /// where another entry stands; the one before them is committed or in the log.
+    pub fn append_entries(
+        &mut self,
+        vote: Vote<u64>,
+        entries: Entries<u64, BasicNode, Bytes>,
+    ) -> Result<(), AllocError>
+        ensures same_engine { self.new.engine.ghost_name ≡ self.old.engine.ghost_name }
+        ensures step { (x : Snapshot) (own : _) (r : StepResult) (previous : _) → IsStepOf x own self.old.engine.now r → r.state.role ≡ Follower
+            → do_follow vote previous entries ≡ true → is_held r.state.stored r.state.committed previous ≡ true
+            → OnOk result (IsStepOf x own self.new.engine.now (put_entries (missing_entries r.state.stored (above_committed r.state.committed entries)) r)) }
+    {
+        self.engine.put_missing(entries, vote)
+    }
+
+    /// All up to the place is committed (openraft), if it is above what is.
+    pub fn commit_entries(&mut self, leader_committed: Option<u64>) -> Result<(), AllocError>
+        ensures same_engine { self.new.engine.ghost_name ≡ self.old.engine.ghost_name }
+        ensures numbers { OnOk result (NumbersRise self.old.engine.now.output self.new.engine.now.output) }
+        ensures step { (x : Snapshot) (own : _) (r : StepResult) → IsStepOf x own self.old.engine.now r → EndsWithin leader_committed r.state.stored
+            → OnOk result (IsStepOf x own self.new.engine.now (apply_up_to leader_committed r)) }
+    {
+        self.engine.commit_up_to(leader_committed)
+    }
+
+    /// The log is shortened from the place on (openraft), where it has an entry there that isn't
+    /// committed.
+    pub fn truncate_logs(&mut self, since: u64) -> Result<(), AllocError>
+        ensures same_engine { self.new.engine.ghost_name ≡ self.old.engine.ghost_name }
+        ensures step { (x : Snapshot) (own : _) (r : StepResult) → IsStepOf x own self.old.engine.now r → r.state.role ≡ Follower
+            → is_within since r.state.committed ≡ false → OnOk result (IsStepOf x own self.new.engine.now (cut_from since r)) }
+    {
+        self.engine.cut_from(since)
+    }
+
+    /// The snapshot is installed (openraft), unless all of it is committed; the log that it covers
+    /// goes.
+    pub fn install_full_snapshot(
+        &mut self,
+        meta: SnapshotMeta<u64, BasicNode>,
+    ) -> Result<(), AllocError>
+        requires { next_place meta.last_log_id < 2 ^ 64 }
+        ensures same_engine { self.new.engine.ghost_name ≡ self.old.engine.ghost_name }
+        ensures numbers { OnOk result (NumbersRise self.old.engine.now.output self.new.engine.now.output) }
+        ensures step { (x : Snapshot) (own : _) (r : StepResult) → IsStepOf x own self.old.engine.now r → r.state.role ≡ Follower → meta ≡ meta_of (Some x)
+            → OnOk result (IsStepOf x own self.new.engine.now (install_unless (is_within x.last.index r.state.committed) x r)) }
+    {
+        self.engine.install(meta)
+    }
+}
+
 impl<C: RaftTypeConfig<NodeId = u64, Node = BasicNode, D = Bytes>> Engine<C> {
     // All up to the place is committed, if it is above what is.
     pub(crate) fn commit_up_to(&mut self, place: Option<u64>) -> Result<(), AllocError>
-        ensures { (x : Snapshot) (own : _) (r : StepResult) → IsStepOf x own self.old r → EndsWithin place r.state.stored
+        ensures numbers { OnOk result (NumbersRise self.old.output self.new.output) }
+        ensures step { (x : Snapshot) (own : _) (r : StepResult) → IsStepOf x own self.old r → EndsWithin place r.state.stored
             → OnOk result (IsStepOf x own self.new (apply_up_to place r)) }
     {
         let Some(place) = place else {
@@ -106,7 +167,8 @@ impl<C: RaftTypeConfig<NodeId = u64, Node = BasicNode, D = Bytes>> Engine<C> {
 
     // The log is shortened from the place on, where it has an entry there.
     pub(crate) fn cut_from(&mut self, place: u64) -> Result<(), AllocError>
-        ensures { (x : Snapshot) (own : _) (r : StepResult) → IsStepOf x own self.old r → r.state.role ≡ Follower
+        ensures numbers { OnOk result (KeepsNumbers self.old.output self.new.output) }
+        ensures step { (x : Snapshot) (own : _) (r : StepResult) → IsStepOf x own self.old r → r.state.role ≡ Follower
             → is_within place r.state.committed ≡ false → OnOk result (IsStepOf x own self.new (cut_from place r)) }
     {
         let Some(since) = self.state.get_log_id(place) else {

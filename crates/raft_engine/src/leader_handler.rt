@@ -10,6 +10,7 @@ ghost use Rattle.raft_group_step.specs.GroupState.{Lead, Leader as Leading, Cand
 ghost use Rattle.raft_group_step.specs.StepResult.{StepResult, append};
 ghost use Rattle.raft_group_step.specs.Lead.{append_blank, begin_lead, commit_as_leader, new_lead};
 ghost use Rattle.raft_group_step.specs.Opening.{resume_lead};
+ghost use Rattle.raft_group_step.specs.Heartbeat.{beat_as};
 ghost use Rattle.raft_known_state.specs.KnownState.{IsPlaced, Knows};
 ghost use Rattle.raft_leaders.specs.Leader.{id_of_leader, peer_at};
 ghost use Rattle.raft_engine.specs.Standing.{IsStepOf, Leads};
@@ -73,6 +74,36 @@ fn count_by_entry(
     let learner_ids = membership.learner_ids()?;
     let effective = EffectiveMembership::new(Some(entry.log_id), membership.clone()?);
     leader.change_membership(alloc, effective, learner_ids.as_slice())
+}
+
+/// Writes and speaks for a node that leads (openraft).
+#[derive(Drop)]
+pub struct LeaderHandler<'x, C: RaftTypeConfig> {
+    pub(crate) engine: &'x mut Engine<C>,
+}
+
+impl<'x, C: RaftTypeConfig<NodeId = u64, Node = BasicNode, D = Bytes>> LeaderHandler<'x, C> {
+    /// An entry goes behind the log (openraft; here one at a time). It is sent once it is written.
+    pub fn leader_append_entry(
+        &mut self,
+        payload: EntryPayload<u64, BasicNode, Bytes>,
+    ) -> Result<(), AllocError>
+        requires { next_place (last_id self.old.engine.now.state.state.log_ids) < 2 ^ 63 }
+        ensures same_engine { self.new.engine.ghost_name ≡ self.old.engine.ghost_name }
+        ensures step { (x : Snapshot) (own : _) (r : StepResult) (lead : Lead) → IsStepOf x own self.old.engine.now r → r.state.role ≡ Leading lead
+            → OnOk result (IsStepOf x own self.new.engine.now (append payload r)) }
+    {
+        self.engine.append(payload)
+    }
+
+    /// The leader says to every other node that it leads on (openraft).
+    pub fn send_heartbeat(&mut self) -> Result<(), AllocError>
+        ensures same_engine { self.new.engine.ghost_name ≡ self.old.engine.ghost_name }
+        ensures step { (x : Snapshot) (own : _) (r : StepResult) → IsStepOf x own self.old.engine.now r
+            → OnOk result (IsStepOf x own self.new.engine.now (beat_as own r.state.role r)) }
+    {
+        self.engine.notices()
+    }
 }
 
 impl<C: RaftTypeConfig<NodeId = u64, Node = BasicNode, D = Bytes>> Engine<C> {

@@ -1,14 +1,16 @@
 //! The log is purged, no further than the snapshot goes.
-ghost use Rattle.std.specs.Prelude.{◌≡◌, ◌<◌, ◌^◌, ℕ, OnOk, min, nat_lt, if◌then◌else◌, Some};
+ghost use Rattle.std.specs.Prelude.{◌≡◌, ◌<◌, ◌≤◌, ◌^◌, ℕ, OnOk, min, nat_lt, if◌then◌else◌, Some};
 ghost use Rattle.raft_values.specs.LogId.{next_place, place_of};
 ghost use Rattle.raft_values.specs.declared.log_id.LogId.{LogId};
 ghost use Rattle.raft_group_step.specs.StoredGroup.{Snapshot, end_place, first_place, snapshot_last};
 ghost use Rattle.raft_group_step.specs.GroupState.{Lead, Leader as Leading};
 ghost use Rattle.raft_group_step.specs.StepResult.{StepResult, is_within, later_place};
 ghost use Rattle.raft_group_step.specs.Lead.{purge_as_wished, purge_up_to, with_wish};
+ghost use Rattle.raft_group_step.specs.AppendRequest.{lesser_place};
 ghost use Rattle.raft_group_step.specs.PurgeTrigger.{purge_trigger_step};
 ghost use Rattle.raft_engine.specs.Standing.{IsStepOf};
 ghost use Rattle.raft_engine.specs.Purging.{MayBePurged};
+ghost use Rattle.raft_engine.specs.Building.{covered_id};
 
 use crate::engine::Engine;
 use raft_commands::{Command, RaftTypeConfig};
@@ -22,6 +24,53 @@ fn reaches(log_id: &Option<LogId<u64>>, place: u64) -> bool
     match log_id {
         None => false,
         Some(log_id) => place <= log_id.index,
+    }
+}
+
+/// Purges the log (openraft).
+#[derive(Drop)]
+pub struct LogHandler<'x, C: RaftTypeConfig> {
+    pub(crate) engine: &'x mut Engine<C>,
+}
+
+impl<'x, C: RaftTypeConfig<NodeId = u64, Node = BasicNode, D = Bytes>> LogHandler<'x, C> {
+    /// The last place that goes where the log is to be purged up to this one (openraft): the
+    /// snapshot's last place, if that is lower. None where there is no snapshot.
+    pub fn calc_purge_upto(&self, place: u64) -> Option<u64>
+        ensures { result ≡ lesser_place (Some place) (place_of (covered_id self.now.engine.now)) }
+    {
+        match self.engine.state.state.snapshot_meta.last_log_id {
+            None => None,
+            Some(last) => Some(place.min(last.index)),
+        }
+    }
+
+    /// The log is to be purged up to the place (openraft), and goes no further than the snapshot: a
+    /// leader purges once no request needs what goes, and any other node at once.
+    pub fn update_purge_upto(&mut self, place: u64) -> Result<(), AllocError>
+        ensures same_engine { self.new.engine.ghost_name ≡ self.old.engine.ghost_name }
+        ensures within { (x : Snapshot) (own : _) (r : StepResult) → IsStepOf x own self.old.engine.now r → end_place r.state.stored < 2 ^ 64
+            → ((last : LogId ℕ) → snapshot_last r.state.stored ≡ Some last → MayBePurged (min place last.index) r.state.stored)
+            → OnOk result (self.new.engine.now.state.state.purged_next ≤ next_place (covered_id self.new.engine.now)) }
+        ensures step { (x : Snapshot) (own : _) (r : StepResult) → IsStepOf x own self.old.engine.now r → end_place r.state.stored < 2 ^ 64
+            → ((last : LogId ℕ) → snapshot_last r.state.stored ≡ Some last → MayBePurged (min place last.index) r.state.stored)
+            → OnOk result (IsStepOf x own self.new.engine.now (purge_trigger_step place r)) }
+    {
+        self.engine.purge_trigger(place)
+    }
+
+    /// What a leader is still to purge goes (openraft), once no request needs it, and no further
+    /// than the snapshot.
+    pub fn purge_log(&mut self) -> Result<(), AllocError>
+        ensures same_engine { self.new.engine.ghost_name ≡ self.old.engine.ghost_name }
+        ensures within { (x : Snapshot) (own : _) (r : StepResult) → IsStepOf x own self.old.engine.now r → end_place r.state.stored < 2 ^ 64
+            → ((place : ℕ) → r.state.wish ≡ Some place → MayBePurged place r.state.stored)
+            → OnOk result (self.new.engine.now.state.state.purged_next ≤ next_place (covered_id self.new.engine.now)) }
+        ensures step { (x : Snapshot) (own : _) (r : StepResult) → IsStepOf x own self.old.engine.now r → end_place r.state.stored < 2 ^ 64
+            → ((place : ℕ) → r.state.wish ≡ Some place → MayBePurged place r.state.stored)
+            → OnOk result (IsStepOf x own self.new.engine.now (purge_as_wished r.state.role r.state.wish r)) }
+    {
+        self.engine.purge_as_wished()
     }
 }
 

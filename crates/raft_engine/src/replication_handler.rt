@@ -1,14 +1,15 @@
 //! Replication: what a leader sends to its peers, and what it learns from them.
-ghost use Rattle.std.specs.Prelude.{◌≡◌, ◌↔◌, ℕ, ◌+◌, ◌-◌, ◌*◌, ◌/◌, ◌^◌, ◌<◌, ◌≤◌, IsTrue, min, true, take, drop, length, OnOk};
+ghost use Rattle.std.specs.Prelude.{◌≡◌, ◌↔◌, ℕ, ◌+◌, ◌-◌, ◌*◌, ◌/◌, ◌^◌, ◌<◌, ◌≤◌, IsTrue, min, true, take, drop, length, OnOk, Some};
 ghost use Rattle.std.specs.List.{list_all};
 ghost use Rattle.raft_values.specs.LogId.{next_place};
+ghost use Rattle.raft_state.specs.LogIdList.{last_id};
 ghost use Rattle.raft_group_step.specs.Values.{has_id};
 ghost use Rattle.raft_group_step.specs.StoredGroup.{StoredGroup, Snapshot, end_place, first_place, id_before, membership_in_force};
 ghost use Rattle.raft_group_step.specs.Message.{Numbered, last_sent, request_id_eq};
 ghost use Rattle.raft_group_step.specs.Peer.{is_answer_to, is_kept_for_peers, needs_below};
 ghost use Rattle.raft_group_step.specs.GroupState.{GroupState, Lead, Leader as LeaderRole};
 ghost use Rattle.raft_group_step.specs.StepResult.{StepResult, send};
-ghost use Rattle.raft_group_step.specs.Lead.{ids_of, other_ids, peer_of};
+ghost use Rattle.raft_group_step.specs.Lead.{commit_as_leader, ids_of, other_ids, peer_of, purge_as_wished};
 ghost use Rattle.raft_group_step.specs.Frames.{entries_in_request, has_grown, lacks_entries, notice, request_start, send_request, serve_all, serve_as, with_frames};
 ghost use Rattle.raft_group_step.specs.Heartbeat.{beat_as, send_notices};
 ghost use Rattle.raft_group_step.specs.Reply.{after_answer, answered, reply_step};
@@ -16,6 +17,7 @@ ghost use Rattle.raft_group_step.specs.Lost.{lost_as};
 ghost use Rattle.raft_known_state.specs.KnownState.{IsPlaced, Knows};
 ghost use Rattle.raft_engine.specs.Commands.{number_of, result_of};
 ghost use Rattle.raft_engine.specs.Standing.{IsStateOf, IsStepOf, IsWholeStepOf, outstanding_of, peer_state};
+ghost use Rattle.raft_engine.specs.Purging.{MayBePurged};
 ghost use Rattle.raft_engine.specs.Sending.{HasPeer, HasRoomFor, reply_of, request_for, with_known};
 
 use crate::engine::Engine;
@@ -128,6 +130,68 @@ fn needs_below(place: u64, inflight: &Inflight<u64>) -> bool
             None => true,
             Some(previous) => previous.index < place,
         },
+    }
+}
+
+/// Sends to the peers of a leader, and learns from their answers (openraft).
+#[derive(Drop)]
+pub struct ReplicationHandler<'x, C: RaftTypeConfig> {
+    pub(crate) engine: &'x mut Engine<C>,
+}
+
+impl<'x, C: RaftTypeConfig<NodeId = u64, Node = BasicNode, D = Bytes>> ReplicationHandler<'x, C> {
+    /// The leader sends what an event calls for (openraft): a request to each peer that lacks entries
+    /// and has none on its way, else a notice where more is committed than this place.
+    pub fn initiate_replication(&mut self, committed_before: Option<u64>) -> Result<(), AllocError>
+        ensures same_engine { self.new.engine.ghost_name ≡ self.old.engine.ghost_name }
+        ensures step { (x : Snapshot) (own : ℕ) (r : StepResult) → IsWholeStepOf x own self.old.engine.now r → HasRoomFor (length (other_ids own r.state.stored)) r.state
+            → OnOk result (IsWholeStepOf x own self.new.engine.now (with_frames own committed_before r)) }
+    {
+        self.engine.with_frames(committed_before)
+    }
+
+    /// The peer answers the request on its way at this moment, in ticks (openraft): a greater vote
+    /// is taken over, then the answer counts.
+    pub fn update_progress(
+        &mut self,
+        peer: u64,
+        reply: &Caller<u64>,
+        outcome: &AppendEntriesResponse<u64>,
+        now: u64,
+    ) -> Result<(), AllocError>
+        ensures same_engine { self.new.engine.ghost_name ≡ self.old.engine.ghost_name }
+        ensures step { (x : Snapshot) (own : ℕ) (r : StepResult) → IsStepOf x own self.old.engine.now r → r.state.now ≡ now → next_place reply.now.last < 2 ^ 64
+            → OnOk result (IsStepOf x own self.new.engine.now (reply_step peer (reply_of reply.now outcome.now) r)) }
+    {
+        self.engine.answered(peer, reply, outcome, now)
+    }
+
+    /// The request on its way to the peer counts as failed (own).
+    pub fn reset_inflight(&mut self, peer: u64)
+        ensures same_engine { self.new.engine.ghost_name ≡ self.old.engine.ghost_name }
+        ensures step { (x : Snapshot) (own : ℕ) (r : StepResult) → IsStepOf x own self.old.engine.now r → IsStepOf x own self.new.engine.now (lost_as peer r.state.role r) }
+    {
+        self.engine.lost(peer);
+    }
+
+    /// The greatest place that a quorum has accepted is committed (openraft), if it is above what is.
+    pub fn try_commit_quorum_accepted(&mut self) -> Result<(), AllocError>
+        requires { next_place (last_id self.old.engine.now.state.state.log_ids) < 2 ^ 63 }
+        ensures same_engine { self.new.engine.ghost_name ≡ self.old.engine.ghost_name }
+        ensures step { (x : Snapshot) (own : ℕ) (r : StepResult) → IsStepOf x own self.old.engine.now r
+            → OnOk result (IsStepOf x own self.new.engine.now (commit_as_leader own r.state.role r)) }
+    {
+        self.engine.commit_as_leader()
+    }
+
+    /// What the leader is still to purge goes (openraft), once no request needs it.
+    pub fn try_purge_log(&mut self) -> Result<(), AllocError>
+        ensures same_engine { self.new.engine.ghost_name ≡ self.old.engine.ghost_name }
+        ensures step { (x : Snapshot) (own : ℕ) (r : StepResult) → IsStepOf x own self.old.engine.now r → end_place r.state.stored < 2 ^ 64
+            → ((place : ℕ) → r.state.wish ≡ Some place → MayBePurged place r.state.stored)
+            → OnOk result (IsStepOf x own self.new.engine.now (purge_as_wished r.state.role r.state.wish r)) }
+    {
+        self.engine.purge_as_wished()
     }
 }
 

@@ -1,5 +1,6 @@
 //! Votes: which one is in force, and whether it is granted to another node.
-ghost use Rattle.std.specs.Prelude.{◌≡◌, OnOk, if◌then◌else◌};
+ghost use Rattle.std.specs.Prelude.{◌≡◌, OnOk, IfOk, Ok, true, false, if◌then◌else◌};
+ghost use Rattle.raft_group_step.specs.Values.{vote_lt};
 ghost use Rattle.raft_group_step.specs.StoredGroup.{Snapshot};
 ghost use Rattle.raft_group_step.specs.GroupState.{GroupState, Follower};
 ghost use Rattle.raft_group_step.specs.StepResult.{StepResult, step_down, store_vote, take_over};
@@ -13,6 +14,49 @@ use raft_commands::{Caller, Command, RaftTypeConfig, Respond, ValueSender};
 use raft_group_step::{VoteRequest, VoteResponse};
 use raft_state::{BasicNode, Bytes, Vote};
 use std::alloc::AllocError;
+
+/// Decides of the votes that come with messages (openraft).
+#[derive(Drop)]
+pub struct VoteHandler<'x, C: RaftTypeConfig> {
+    pub(crate) engine: &'x mut Engine<C>,
+}
+
+impl<'x, C: RaftTypeConfig<NodeId = u64, Node = BasicNode, D = Bytes>> VoteHandler<'x, C> {
+    /// A message comes with this vote at this moment, in ticks (openraft): a greater one is taken
+    /// over and stored, the one in force is renewed, and a lesser one is refused. Says whether it
+    /// is in force from now on.
+    pub fn update_vote(&mut self, vote: Vote<u64>, now: u64) -> Result<bool, AllocError>
+        ensures same_engine { self.new.engine.ghost_name ≡ self.old.engine.ghost_name }
+        ensures lesser { vote_lt vote self.old.engine.now.state.state.vote.value ≡ true → (result ≡ Ok false) × (self.new.engine.now ≡ self.old.engine.now) }
+        ensures equal { vote ≡ self.old.engine.now.state.state.vote.value → (result ≡ Ok true) × (self.new.engine.now.output ≡ self.old.engine.now.output) }
+        ensures step { (x : Snapshot) (own : _) (r : StepResult) → IsStepOf x own self.old.engine.now r → r.state.now ≡ now → vote_lt vote r.state.stored.vote ≡ false
+            → IfOk result (λ is_in_force. (is_in_force ≡ true) × IsStepOf x own self.new.engine.now (take_over vote r)) }
+    {
+        if is_lower(&vote, self.engine.state.state.vote_ref()) {
+            return Ok(false);
+        }
+        self.engine.take_over(vote, now)?;
+        Ok(true)
+    }
+
+    /// A message answers with this vote at this moment, in ticks (own): a greater one is taken over
+    /// and stored, and any other one changes nothing.
+    pub fn update_greater_vote(&mut self, vote: Vote<u64>, now: u64) -> Result<(), AllocError>
+        ensures same_engine { self.new.engine.ghost_name ≡ self.old.engine.ghost_name }
+        ensures step { (x : Snapshot) (own : _) (r : StepResult) → IsStepOf x own self.old.engine.now r → r.state.now ≡ now
+            → OnOk result (IsStepOf x own self.new.engine.now (take_over_greater vote r)) }
+    {
+        self.engine.take_over_greater(vote, now)
+    }
+
+    /// The node neither stands nor leads any more (openraft).
+    pub fn become_following(&mut self)
+        ensures same_engine { self.new.engine.ghost_name ≡ self.old.engine.ghost_name }
+        ensures step { (x : Snapshot) (own : _) (r : StepResult) → IsStepOf x own self.old.engine.now r → IsStepOf x own self.new.engine.now (step_down r) }
+    {
+        self.engine.step_down();
+    }
+}
 
 impl<C: RaftTypeConfig<NodeId = u64, Node = BasicNode, D = Bytes>> Engine<C> {
     // The node neither stands nor leads any more.
@@ -35,7 +79,8 @@ impl<C: RaftTypeConfig<NodeId = u64, Node = BasicNode, D = Bytes>> Engine<C> {
 
     // A vote that isn't below the own one is in force from now on; a greater one is stored.
     pub(crate) fn take_over(&mut self, vote: Vote<u64>, now: u64) -> Result<(), AllocError>
-        ensures { (x : Snapshot) (own : _) (r : StepResult) → IsStepOf x own self.old r → r.state.now ≡ now
+        ensures level { vote_lt self.old.state.state.vote.value vote ≡ false → (result ≡ Ok tt) × (self.new.output ≡ self.old.output) }
+        ensures step { (x : Snapshot) (own : _) (r : StepResult) → IsStepOf x own self.old r → r.state.now ≡ now
             → OnOk result (IsStepOf x own self.new (take_over vote r)) }
     {
         if is_lower(self.state.state.vote_ref(), &vote) {

@@ -31,9 +31,9 @@ impl RaftTypeConfig for Numbered {
     type Node = BasicNode;
 }
 
-type NumberedEngine = Engine<Numbered>;
+pub(crate) type NumberedEngine = Engine<Numbered>;
 
-fn log_id(term: u64, index: u64) -> LogId<u64>
+pub(crate) fn log_id(term: u64, index: u64) -> LogId<u64>
     ensures { result ≡ log_id_of term 1 index }
 {
     LogId::new(LeaderId::new(term, 1), index)
@@ -48,7 +48,10 @@ fn nothing_known(alloc: Global) -> Result<KnownState<u64, BasicNode>, AllocError
 }
 
 // A membership of these voters.
-fn members(alloc: Global, voters: &[u64]) -> Result<Membership<u64, BasicNode>, AllocError> {
+pub(crate) fn members(
+    alloc: Global,
+    voters: &[u64],
+) -> Result<Membership<u64, BasicNode>, AllocError> {
     let mut groups = VoterGroups::new(alloc);
     groups.push(IdSet::from_slice(alloc, voters)?)?;
     let mut nodes = NodeMap::new(alloc);
@@ -70,7 +73,7 @@ fn one_voter_of_two(alloc: Global) -> Result<Membership<u64, BasicNode>, AllocEr
 }
 
 // A node that led under term 4, and has the membership of nodes 1 and 2.
-fn had_led(alloc: Global) -> Result<KnownState<u64, BasicNode>, AllocError> {
+pub(crate) fn had_led(alloc: Global) -> Result<KnownState<u64, BasicNode>, AllocError> {
     let payload = EntryPayload::Membership(members(alloc, &[1, 2])?);
     let first = Entry {
         log_id: log_id(0, 0),
@@ -80,11 +83,15 @@ fn had_led(alloc: Global) -> Result<KnownState<u64, BasicNode>, AllocError> {
     KnownState::load(alloc, Vote::new_committed(4, 1), None, meta, &[first])
 }
 
-fn engine_of(alloc: Global, id: u64, known: KnownState<u64, BasicNode>) -> NumberedEngine {
+pub(crate) fn engine_of(
+    alloc: Global,
+    id: u64,
+    known: KnownState<u64, BasicNode>,
+) -> NumberedEngine {
     Engine::new(alloc, known, EngineConfig::new(id))
 }
 
-fn new_engine(alloc: Global, id: u64) -> Result<NumberedEngine, AllocError> {
+pub(crate) fn new_engine(alloc: Global, id: u64) -> Result<NumberedEngine, AllocError> {
     Ok(engine_of(alloc, id, nothing_known(alloc)?))
 }
 
@@ -117,7 +124,7 @@ fn changes(engine: &mut NumberedEngine, members: Membership<u64, BasicNode>) -> 
 }
 
 // Node 2 has accepted the entries up to place 1 of a leader's first request.
-fn accepted() -> Caller<u64> {
+pub(crate) fn accepted() -> Caller<u64> {
     Caller {
         peer: 2,
         vote: Vote::new_committed(1, 1),
@@ -148,7 +155,7 @@ fn asks_for_snapshot(engine: &mut NumberedEngine) -> Option<bool> {
 }
 
 // The snapshot of a group's first entries, the membership's and one more.
-fn snapshot_meta(
+pub(crate) fn snapshot_meta(
     last: LogId<u64>,
     members: Membership<u64, BasicNode>,
 ) -> SnapshotMeta<u64, BasicNode>
@@ -226,11 +233,11 @@ fn is_new(engine: &NumberedEngine) -> bool {
         && !engine.is_there_greater_log()
 }
 
-fn has_vote(engine: &NumberedEngine, vote: Vote<u64>) -> bool {
+pub(crate) fn has_vote(engine: &NumberedEngine, vote: Vote<u64>) -> bool {
     *engine.state.state.vote_ref() == vote
 }
 
-fn leads(engine: &NumberedEngine) -> bool {
+pub(crate) fn leads(engine: &NumberedEngine) -> bool {
     engine.leader.is_some()
 }
 
@@ -242,7 +249,7 @@ fn has_committed(engine: &NumberedEngine, place: Option<u64>) -> bool {
 // ---- runs
 
 // The engine of node 1 once it has set up a group of these voters.
-fn set_up(alloc: Global, voters: &[u64]) -> Result<NumberedEngine, Fail> {
+pub(crate) fn set_up(alloc: Global, voters: &[u64]) -> Result<NumberedEngine, Fail> {
     let mut engine = new_engine(alloc, 1)?;
     if is_set_up(&mut engine, members(alloc, voters)?) {
         Ok(engine)

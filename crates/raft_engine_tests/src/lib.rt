@@ -13,6 +13,8 @@ mod conditions;
 #[cfg(test)]
 mod engines;
 #[cfg(test)]
+mod handlers;
+#[cfg(test)]
 mod known_states;
 #[cfg(test)]
 mod leaders;

@@ -22,4 +22,4 @@ returns g c = λ x own r step.
     let within = subst (λ place. EndsWithin place r.state.stored) (sym c.index.ensures) (found_within x own old r step l c.in-Some.is voters in_force found greatest) in
     subst (λ y. OnOk c.commit_up_to.result (IsStepOf x own c.commit_up_to.new.self y))
     (ap (λ place. apply_up_to place r) c.index.ensures ∙ commits x own old r step l c.in-Some.is voters in_force found greatest)
-    (c.commit_up_to.ensures x own r step within)
+    (c.commit_up_to.ensures.step x own r step within)

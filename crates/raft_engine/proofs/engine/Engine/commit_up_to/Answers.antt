@@ -9,16 +9,16 @@ use Rattle.raft_engine.proofs.PlacedEntries.{has_entry}
 use Rattle.raft_engine.proofs.FollowingLemmas.{above_first, committed_place, more_committed}
 use Rattle.raft_engine.proofs.engine.Engine.commit_up_to.Goals as goal
 
-pub returns-in_default-get_log_id : goal.returns-in_default-get_log_id
-returns-in_default-get_log_id g c = λ x own r step within.
+pub returns-in_default-get_log_id-clause-step : goal.returns-in_default-get_log_id-clause-step
+returns-in_default-get_log_id-clause-step g c = λ x own r step within.
     let order = step.state.order in
     let past : is_within c.in-Some.place r.state.committed ≡ false =
     ap (is_within c.in-Some.place) (sym (committed_place own c.args.self.now r.state step.state)) ∙ sym c.is_committed.ensures ∙ c.if-is_committed.false in
     let there = has_entry r.state.stored c.in-Some.place order.placed (above_first r.state order c.in-Some.place past) (within c.in-Some.place c.in-Some.is) in
     let none : None ≡ Some there.entry.log_id = sym c.in_default-get_log_id.is ∙ c.get_log_id.ensures r.state.stored step.state.knows order.placed ∙ there.id in cc
 
-pub returns : goal.returns
-returns g c = λ x own r step within.
+pub returns-clause-step : goal.returns-clause-step
+returns-clause-step g c = λ x own r step within.
     let order = step.state.order in
     let past : is_within c.in-Some.place r.state.committed ≡ false =
     ap (is_within c.in-Some.place) (sym (committed_place own c.args.self.now r.state step.state)) ∙ sym c.is_committed.ensures ∙ c.if-is_committed.false in

@@ -9,16 +9,16 @@ use Rattle.raft_engine.proofs.PlacedEntries.{entry_of_id, id_of_place}
 use Rattle.raft_engine.proofs.FollowingLemmas.{above_first, cut_keeps_id, log_stored, order_of_cut}
 use Rattle.raft_engine.proofs.engine.Engine.cut_from.Goals as goal
 
-pub returns-in_default : goal.returns-in_default
-returns-in_default g c = λ x own r step follows past.
+pub returns-in_default-clause-step : goal.returns-in_default-clause-step
+returns-in_default-clause-step g c = λ x own r step follows past.
     let order = step.state.order in
     let none : is_some (entry_at r.state.stored c.args.place) ≡ false =
     entry_of_id r.state.stored c.args.place None (above_first r.state order c.args.place past)
     (sym c.in_default.is ∙ c.get_log_id.ensures r.state.stored step.state.knows order.placed) in
     rw none step
 
-pub returns : goal.returns
-returns g c = λ x own r step follows past.
+pub returns-clause-step : goal.returns-clause-step
+returns-clause-step g c = λ x own r step follows past.
     let order = step.state.order in
     let first = above_first r.state order c.args.place past in
     let found : Some c.in-Some.since ≡ id_at r.state.stored c.args.place = sym c.in-Some.is ∙ c.get_log_id.ensures r.state.stored step.state.knows order.placed in

@@ -14,8 +14,8 @@ use Rattle.raft_engine.proofs.SnapshotLemmas.{past_above}
 use Rattle.raft_engine.proofs.engine.Engine.cut_other.Goals as goal
 use Rattle.raft_engine.proofs.engine.Engine.cut_other.Goals.{then-has_log_id-via-then-has_log_id, then-has_log_id-via-else-has_log_id+then-is_none}
 
-pub returns-then-has_log_id : goal.returns-then-has_log_id
-returns-then-has_log_id g c = λ x own r step follows past.
+pub returns-then-has_log_id-clause-step : goal.returns-then-has_log_id-clause-step
+returns-then-has_log_id-clause-step g c = λ x own r step follows past.
     let order = step.state.order in
     let has = c.has_log_id.ensures r.state.stored step.state.knows order.placed in
     elim c.then-has_log_id.branch [
@@ -30,8 +30,8 @@ returns-then-has_log_id g c = λ x own r step follows past.
           rw (other, none) step
     ]
 
-pub returns-in-Some : goal.returns-in-Some
-returns-in-Some g c = λ x own r step follows past.
+pub returns-in-Some-clause-step : goal.returns-in-Some-clause-step
+returns-in-Some-clause-step g c = λ x own r step follows past.
     let order = step.state.order in
     let other : has_id_in_log r.state.stored c.args.last ≡ false = sym (c.has_log_id.ensures r.state.stored step.state.knows order.placed) ∙ c.if-has_log_id.false in
     let some : is_some (entry_at r.state.stored c.args.last.index) ≡ true =
@@ -44,4 +44,4 @@ returns-in-Some g c = λ x own r step follows past.
     rw (other, some)
     (on_ok_weaker c.cut_from-in-Some.result
     (λ h. subst (λ p. IsStepOf x own c.cut_from-in-Some.new.self (cut_from p r)) above h)
-    (c.cut_from-in-Some.ensures x own r step follows (subst (λ p. is_within p r.state.committed ≡ false) (sym above) (past_above r.state.committed))))
+    (c.cut_from-in-Some.ensures.step x own r step follows (subst (λ p. is_within p r.state.committed ≡ false) (sym above) (past_above r.state.committed))))

@@ -33,7 +33,7 @@ returns g c = λ x own r m step follows says repeats follow.
     let upto : c.lesser_place.result ≡ lesser_place (place_of m.committed) (place_of (last_sent m.previous m.entries)) =
     c.lesser_place.ensures ∙ ap₂ (λ a b. lesser_place (place_of a) (place_of b)) says.committed repeats.last in
     let within = request_within r m.vote m.previous m.entries (place_of m.committed) step.state.order follow test in
-    let committed = c.in_ok-commit_up_to.ensures x own after joined (subst (λ p. EndsWithin p after.state.stored) (sym upto) within) in
+    let committed = c.in_ok-commit_up_to.ensures.step x own after joined (subst (λ p. EndsWithin p after.state.stored) (sym upto) within) in
     rw test
     (c.answer_append-2.ensures x own (apply_up_to (lesser_place (place_of m.committed) (place_of (last_sent m.previous m.entries))) after) m
     (subst (λ p. IsStepOf x own c.commit_up_to.new.self (apply_up_to p after)) upto committed) repeats)

@@ -32,7 +32,7 @@ returns-then-not-all_go_on g c = λ x own r place step follows placed past l.
     let found : slice_get c.args.entries 0 ≡ Some first = ap (λ xs. slice_get xs 0) (sym c.as_slice.ensures) ∙ sym c.first.ensures.value ∙ ap option_copied c.in-Some.is in
     let at : place ≡ first.log_id.index = let f = found_at c.args.entries place 0 first placed found in omega arith in
     let cut_past = ap (λ n. is_within n r.state.committed) (sym at) ∙ past in
-    let cut = c.in_ok-cut_from.ensures x own r step follows cut_past in
+    let cut = c.in_ok-cut_from.ensures.step x own r step follows cut_past in
     let ends = cut_ends r first.log_id.index step.state.order cut_past (subst (λ n. n ≤ end_place r.state.stored) at l) in
     let goes = known_go_on (cut_from first.log_id.index r).state.stored c.cut_from.new.self.state.state.log_ids c.args.entries first.log_id.index
     cut.state.order.placed cut.state.knows.ids ends (subst (λ n. ArePlaced n c.args.entries) at placed) in
@@ -46,7 +46,7 @@ returns g c = λ x own r place step follows placed past l.
     let found : slice_get c.args.entries 0 ≡ Some first = ap (λ xs. slice_get xs 0) (sym c.as_slice.ensures) ∙ sym c.first.ensures.value ∙ ap option_copied c.in-Some.is in
     let at : place ≡ first.log_id.index = let f = found_at c.args.entries place 0 first placed found in omega arith in
     let cut_past = ap (λ n. is_within n r.state.committed) (sym at) ∙ past in
-    let cut = c.in_ok-cut_from.ensures x own r step follows cut_past in
+    let cut = c.in_ok-cut_from.ensures.step x own r step follows cut_past in
     let ends = cut_ends r first.log_id.index step.state.order cut_past (subst (λ n. n ≤ end_place r.state.stored) at l) in
     let after = cut_from first.log_id.index r in
     let at_end = subst (λ n. ArePlaced n c.args.entries) (at ∙ sym ends) placed in

@@ -1,15 +1,18 @@
-use Rattle.std.proofs.Common.{◌++◌, ◌∙◌, ap, refl}
+use Rattle.std.proofs.Common.{◌++◌, ◌∙◌, ap, append-nil, refl}
 use Rattle.std.specs.Prelude.{[], ◌∷◌}
 use Rattle.std.proofs.lemmas.Result.{on_ok_weaker}
 use Rattle.raft_commands.specs.Output.{Output}
+use Rattle.raft_commands.specs.declared.sm.Command.{Command as MachineCommand}
 use Rattle.raft_commands.specs.declared.command.Command.TheVariants.{PurgeLog, StateMachine}
 use Rattle.raft_group_step.specs.StoredGroup.{SetSnapshot, after_storing}
+use Rattle.raft_engine.specs.Numbering.{numbers_in}
+use Rattle.raft_engine.proofs.CommandLemmas.{numbers_more}
 use Rattle.raft_engine.proofs.FollowingLemmas.{above_first}
 use Rattle.raft_engine.proofs.SnapshotLemmas.{both_keep, installed}
 use Rattle.raft_engine.proofs.engine.Engine.put_snapshot.Goals as goal
 
-pub returns : goal.returns
-returns g c = λ x own r step follows meta is_last past there.
+pub returns-clause-step : goal.returns-clause-step
+returns-clause-step g c = λ x own r step follows meta is_last past there.
     let order = step.state.order in
     let first = above_first r.state order c.args.last.index past in
     let saved = c.in_ok-save_snapshot.ensures.known r.state.stored x step.state.knows meta in
@@ -21,4 +24,25 @@ returns g c = λ x own r step follows meta is_last past there.
     (ap (λ (o : Output _ _ _ _ _). o.queue) h ∙ ap (λ (o : Output _ _ _ _ _). o.queue ++ PurgeLog c.args.last ∷ []) c.in_ok-push_command.ensures.ok
     ∙ ap (λ (o : Output _ _ _ _ _). (o.queue ++ StateMachine command ∷ []) ++ PurgeLog c.args.last ∷ []) c.next_sm_seq-seq.ensures.rest)
     (rw (c.with_seq-command.ensures, c.install_full_snapshot.ensures) refl) refl (λ s upto. refl) (λ s upto. refl))
+    c.push_command-2.ensures.ok
+
+pub returns-clause-numbers : goal.returns-clause-numbers
+returns-clause-numbers g c =
+    let queue = c.args.self.now.output.queue in
+    let command = StateMachine c.with_seq-command.result in
+    let purge = PurgeLog c.args.last in
+    let seq = ap (λ (y : MachineCommand _ _ _ _ _). y.seq) c.with_seq-command.ensures ∙ c.next_sm_seq-seq.ensures.value in
+    let pushed = c.in_ok-push_command.ensures.ok in
+    let asked = c.next_sm_seq-seq.ensures.rest in
+    on_ok_weaker c.push_command-2.result
+    (λ h. (
+      ap (λ (o : Output _ _ _ _ _). numbers_in o.queue) h
+          ∙ ap (λ (o : Output _ _ _ _ _). numbers_in (o.queue ++ purge ∷ [])) pushed
+          ∙ ap (λ (o : Output _ _ _ _ _). numbers_in ((o.queue ++ command ∷ []) ++ purge ∷ [])) asked
+          ∙ numbers_more (queue ++ command ∷ []) purge
+          ∙ append-nil (numbers_in (queue ++ command ∷ []))
+          ∙ numbers_more queue command
+          ∙ ap (λ n. numbers_in queue ++ n ∷ []) seq,
+      ap (λ (o : Output _ _ _ _ _). o.last_sm_seq) h ∙ ap (λ (o : Output _ _ _ _ _). o.last_sm_seq) pushed ∙ ap (λ (o : Output _ _ _ _ _). o.last_sm_seq) asked,
+    ))
     c.push_command-2.ensures.ok

@@ -28,7 +28,7 @@ returns g c = λ x own r id step now meta asked repeats another.
     let taken = take_over c.args.vote r in
     let follows = follows_after x own c.args.self.now r c.args.vote step another no_lower in
     let after = install_unless (is_within x.last.index taken.state.committed) x taken in
-    let installed = c.in_ok-install.ensures x own taken (c.in_ok-take_over.ensures x own r step now) follows meta in
+    let installed = c.in_ok-install.ensures.step x own taken (c.in_ok-take_over.ensures.step x own r step now) follows meta in
     let level : vote_lt c.args.vote after.state.stored.vote ≡ false =
     ap (vote_lt c.args.vote) (install_keeps_vote (is_within x.last.index taken.state.committed) x taken) ∙ not_below_after c.args.vote r no_lower in
     let says = ap (λ v. snapshot_result v (record { vote = after.state.stored.vote })) asked ∙ says_success c.args.vote after.state.stored.vote level in

@@ -6,14 +6,14 @@ use Rattle.raft_group_step.specs.StepResult.{step_down}
 use Rattle.raft_engine.proofs.StandingLemmas.{vote_renewed}
 use Rattle.raft_engine.proofs.engine.Engine.take_over.Goals as goal
 
-pub returns-then-is_lower : goal.returns-then-is_lower
-returns-then-is_lower g c = λ x own r step now.
+pub returns-then-is_lower-clause-step : goal.returns-then-is_lower-clause-step
+returns-then-is_lower-clause-step g c = λ x own r step now.
     let greater : vote_lt r.state.stored.vote c.args.vote ≡ true =
     ap (λ v. vote_lt v c.args.vote) (sym (c.vote_ref.ensures ∙ step.state.knows.vote)) ∙ sym c.is_lower.ensures ∙ c.if-is_lower.true in
     rw greater (c.store_vote.ensures x own (step_down r) (c.step_down.ensures x own r step) refl now)
 
-pub returns : goal.returns
-returns g c = λ x own r step now.
+pub returns-clause-step : goal.returns-clause-step
+returns-clause-step g c = λ x own r step now.
     let no_greater : vote_lt r.state.stored.vote c.args.vote ≡ false =
     ap (λ v. vote_lt v c.args.vote) (sym (c.vote_ref.ensures ∙ step.state.knows.vote)) ∙ sym c.is_lower.ensures ∙ c.if-is_lower.false in
     rw no_greater

@@ -1,6 +1,6 @@
 -- What a ready state's snapshot covers may go, at once or later.
 use Rattle.std.specs.Prelude.{◌<◌, ◌^◌, ◌∷◌, []}
-use Rattle.std.proofs.Common.{arith}
+use Rattle.std.proofs.Common.{arith, rules, sym, subst}
 use Rattle.std.proofs.lemmas.Result.{on_ok_weaker}
 use Rattle.raft_group_step.specs.declared.group_call.GroupCall.TheVariants.{TriggerPurge}
 use Rattle.raft_group_step.specs.GroupEvent.{Call}
@@ -8,6 +8,7 @@ use Rattle.raft_group_step.specs.GroupStep.{begun}
 use Rattle.raft_group_step.specs.PurgeTrigger.{purge_trigger_step}
 use Rattle.raft_group_step.specs.Refusal.{range_reason}
 use Rattle.raft_group_step.specs.StoredGroup.{end_place}
+use Rattle.raft_engine.specs.Standing.{IsStepOf}
 use Rattle.raft_engine.proofs.EventLemmas.{event_taken, no_first_reason, step_begun}
 use Rattle.raft_engine.proofs.LeaderFinish.{finish_purged, purge_asked}
 use Rattle.raft_engine.proofs.RoomLemmas.{call_accepted, can_finish_when_ready, finish_at, ready_at}
@@ -24,6 +25,9 @@ returns g c = λ x own at s may.
     let fits : end_place s.stored < 2 ^ 64 = omega arith in
     let range = (no_first_reason (range_reason s (at ∷ [])) [] (call_accepted own at s (TriggerPurge place) may.accepted)).0 in
     let can = finish_at own r.state.now s (can_finish_when_ready own s (at ∷ []) may.ready range) in
-    let step = c.in_ok-purge_trigger.ensures x own r (step_begun x own at old s may.stands may.empty) fits (purge_asked own r ready place) in
+    let step =
+    c.in_ok-update_purge_upto.ensures.step x own r
+    (subst (λ e. IsStepOf x own e r) (sym c.log_handler.ensures.value) (step_begun x own at old s may.stands may.empty)) fits (purge_asked own r ready place) in
     on_ok_weaker c.finish.result (event_taken x own old c.finish.new.self s event may)
-    (c.finish.ensures x own (purge_trigger_step place r) step (finish_purged own r ready place can))
+    (c.finish.ensures x own (purge_trigger_step place r)
+    (subst (λ e. IsStepOf x own e (purge_trigger_step place r)) (search rules) step) (finish_purged own r ready place can))
