@@ -1,0 +1,8 @@
+//! The rules of a group as a plain slow program over lists, written from the definitions and not from the engine.
+//!
+//! Each function stands for the definition of its name, so that both can be read side by side. Tokens are left out.
+pub mod membership;
+pub mod message;
+pub mod state;
+pub mod stored;
+pub mod values;
