@@ -135,3 +135,8 @@ pub fn dropped(entries: &[PlainEntry], count: u64) -> &[PlainEntry] {
     let count = entries.len().min(count as usize);
     &entries[count..]
 }
+
+/// Whether the lists have the same log ids. A log id stands for one entry.
+pub fn are_same_ids(a: &[PlainEntry], b: &[PlainEntry]) -> bool {
+    a.len() == b.len() && a.iter().zip(b).all(|(x, y)| x.id == y.id)
+}
