@@ -3,4 +3,18 @@
 #![tactic(auto)]
 
 #[cfg(test)]
+mod chance;
+#[cfg(test)]
+mod choices;
+#[cfg(test)]
+mod courses;
+#[cfg(test)]
 mod plain;
+#[cfg(test)]
+mod plain_worlds;
+#[cfg(test)]
+mod real;
+#[cfg(test)]
+mod same;
+#[cfg(test)]
+mod seen;

@@ -2,9 +2,7 @@
 use crate::plain::elections::new_lead;
 use crate::plain::state::{PlainRole, PlainState};
 use crate::plain::step::PlainStep;
-use crate::plain::stored::{
-    PlainSnapshot, PlainStored, PlainStoring, last_membership, logged_of,
-};
+use crate::plain::stored::{PlainSnapshot, PlainStored, PlainStoring, last_membership, logged_of};
 use crate::plain::values::{after, copies_of, later_place, next_place, place_of, taken};
 use raft_state::LogId;
 use std::alloc::AllocError;

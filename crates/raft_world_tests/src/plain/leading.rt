@@ -4,7 +4,7 @@ use crate::plain::message::{PlainBody, PlainOutcome, PlainReply};
 use crate::plain::state::{PlainLead, PlainPeer, PlainRole, PlainState};
 use crate::plain::step::PlainStep;
 use crate::plain::stored::{PlainStored, PlainStoring};
-use crate::plain::values::{PlainEntry, PlainPayload, is_within, next_place, place_of};
+use crate::plain::values::{PlainPayload, is_within, next_place, place_of};
 use raft_state::LogId;
 use std::alloc::{AllocError, Global};
 
@@ -139,32 +139,29 @@ fn accepted_by(
     Ok(ids)
 }
 
-// The entry is the leader's own, and a quorum has accepted all up to it.
-fn may_be_committed(
-    alloc: Global,
-    own: u64,
-    s: &PlainStored,
-    lead: &PlainLead,
-    entry: &PlainEntry,
-) -> Result<bool, AllocError> {
-    if entry.id.leader_id != s.vote.leader_id {
-        return Ok(false);
+// The places of the leader's own entries.
+fn own_places(alloc: Global, s: &PlainStored) -> Result<Vec<u64>, AllocError> {
+    let mut places = Vec::new(alloc);
+    for entry in &s.log {
+        if entry.id.leader_id == s.vote.leader_id {
+            places.push(entry.id.index)?;
+        }
     }
-    let ids = accepted_by(alloc, own, s, lead, entry.id.index)?;
-    Ok(is_quorum(s.groups_in_force(), &ids))
+    Ok(places)
 }
 
-// The place of the last entry that may be committed.
+// The place of the last entry of the leader's own up to which a quorum has accepted all.
 fn last_committed(
     alloc: Global,
     own: u64,
     s: &PlainStored,
     lead: &PlainLead,
 ) -> Result<Option<u64>, AllocError> {
+    let groups = s.groups_in_force();
     let mut last = None;
-    for entry in &s.log {
-        if may_be_committed(alloc, own, s, lead, entry)? {
-            last = Some(entry.id.index);
+    for place in &own_places(alloc, s)? {
+        if is_quorum(groups, &accepted_by(alloc, own, s, lead, *place)?) {
+            last = Some(*place);
         }
     }
     Ok(last)

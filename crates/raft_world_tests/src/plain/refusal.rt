@@ -165,10 +165,7 @@ fn is_offer_low(m: &PlainOffer) -> bool {
         None => true,
         Some((id, _)) => is_id_low(Some(id)),
     };
-    is_vote_low(m.vote)
-        && is_low(m.number)
-        && is_id_low(Some(m.snapshot.last))
-        && is_membership_low
+    is_vote_low(m.vote) && is_low(m.number) && is_id_low(Some(m.snapshot.last)) && is_membership_low
 }
 
 // The terms, places and request numbers of a message are low.
@@ -300,10 +297,7 @@ fn refusal_of_initialize(
     membership: &PlainMembership,
 ) -> Option<Refusal<u64>> {
     first_of(&[
-        unless(
-            membership.is_first_membership(),
-            Refusal::MembershipRefused,
-        ),
+        unless(membership.is_first_membership(), Refusal::MembershipRefused),
         range_reason(s, &[now, next_term(s)]),
         unless(membership.is_voter(own), Refusal::NotVoter),
         unless(is_new(&s.stored), Refusal::NotAllowed),
@@ -369,10 +363,7 @@ fn refusal_of_message(
         unknown_group(s),
         range_reason(s, &[now]),
         unless(are_low, Refusal::NumberAtEnd),
-        unless(
-            is_sound(own, &s.stored, message),
-            Refusal::BreaksCondition,
-        ),
+        unless(is_sound(own, &s.stored, message), Refusal::BreaksCondition),
     ])
 }
 

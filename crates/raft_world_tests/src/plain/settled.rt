@@ -105,10 +105,7 @@ fn is_accepted_by_quorum(
     if entry.id.leader_id != vote.leader_id {
         return Ok(false);
     }
-    Ok(is_quorum(
-        &setup.groups,
-        &accepters(w, all, entry.id.index)?,
-    ))
+    Ok(is_quorum(&setup.groups, &accepters(w, all, entry.id.index)?))
 }
 
 // How many entries of the leader's list are settled: those up to its last one that a quorum accepted

@@ -1,5 +1,5 @@
 //! Votes, log ids, places and entries.
-use crate::plain::membership::PlainMembership;
+use crate::plain::membership::{PlainMembership, is_same_membership};
 use raft_state::{LeaderId, LogId, Vote};
 use std::alloc::{AllocError, Global};
 
@@ -93,6 +93,24 @@ pub fn lesser_place(a: Option<u64>, b: Option<u64>) -> Option<u64> {
 
 // ---- lists of entries
 
+fn is_same_payload(a: &PlainPayload, b: &PlainPayload) -> bool {
+    match (a, b) {
+        (PlainPayload::Blank, PlainPayload::Blank) => true,
+        (PlainPayload::Command(a), PlainPayload::Command(b)) => a.as_slice() == b.as_slice(),
+        (PlainPayload::Members(a), PlainPayload::Members(b)) => is_same_membership(a, b),
+        _ => false,
+    }
+}
+
+fn is_same_entry(a: &PlainEntry, b: &PlainEntry) -> bool {
+    a.id == b.id && is_same_payload(&a.payload, &b.payload)
+}
+
+/// Whether the entries are the same.
+pub fn are_same_entries(a: &[PlainEntry], b: &[PlainEntry]) -> bool {
+    a.len() == b.len() && a.iter().zip(b).all(|(x, y)| is_same_entry(x, y))
+}
+
 fn copy_of_payload(payload: &PlainPayload) -> Result<PlainPayload, AllocError> {
     Ok(match payload {
         PlainPayload::Blank => PlainPayload::Blank,
@@ -134,9 +152,4 @@ pub fn taken(entries: &[PlainEntry], count: u64) -> &[PlainEntry] {
 pub fn dropped(entries: &[PlainEntry], count: u64) -> &[PlainEntry] {
     let count = entries.len().min(count as usize);
     &entries[count..]
-}
-
-/// Whether the lists have the same log ids. A log id stands for one entry.
-pub fn are_same_ids(a: &[PlainEntry], b: &[PlainEntry]) -> bool {
-    a.len() == b.len() && a.iter().zip(b).all(|(x, y)| x.id == y.id)
 }

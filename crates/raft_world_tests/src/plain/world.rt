@@ -5,7 +5,7 @@ use crate::plain::message::{PlainMessage, copy_of_message};
 use crate::plain::state::PlainState;
 use crate::plain::step::PlainStep;
 use crate::plain::stored::{PlainStored, PlainStoring};
-use crate::plain::values::{PlainEntry, are_same_ids};
+use crate::plain::values::{PlainEntry, are_same_entries};
 use raft_conditions::Refusal;
 use raft_state::Vote;
 use std::alloc::{AllocError, Global};
@@ -136,10 +136,7 @@ fn stopped_after(
 }
 
 // A step that runs to its end: the node is up.
-fn run_to_its_end(
-    mut step: PlainStep,
-    event: PlainGroupEvent,
-) -> Result<Happened, AllocError> {
+fn run_to_its_end(mut step: PlainStep, event: PlainGroupEvent) -> Result<Happened, AllocError> {
     let mark = match step.group_step(event)? {
         None => PlainMark::Done,
         Some(why) => PlainMark::Refused(why),
@@ -233,7 +230,7 @@ fn led_by(member: &PlainMember) -> Result<Option<PlainLed>, AllocError> {
 
 // Whether the notes say the same.
 fn is_same_note(a: &PlainLed, b: &PlainLed) -> bool {
-    a.node == b.node && a.vote == b.vote && are_same_ids(&a.list, &b.list)
+    a.node == b.node && a.vote == b.vote && are_same_entries(&a.list, &b.list)
 }
 
 // The membership that a call sets a group up with.
