@@ -11,10 +11,16 @@ mod courses;
 #[cfg(test)]
 mod plain;
 #[cfg(test)]
+mod plain_runs;
+#[cfg(test)]
 mod plain_worlds;
 #[cfg(test)]
 mod real;
 #[cfg(test)]
+mod rows;
+#[cfg(test)]
 mod same;
 #[cfg(test)]
 mod seen;
+#[cfg(test)]
+mod worked;
