@@ -31,7 +31,7 @@ pub const FIVE: Course = Course {
     groups: &[&[1, 2, 3, 4, 5]],
     learners: &[],
     commands: 90,
-    snapshots: 60,
+    snapshots: 100,
 };
 
 /// Two voter groups that share two voters, and a learner.
@@ -42,5 +42,5 @@ pub const JOINT: Course = Course {
     groups: &[&[1, 2, 3], &[2, 3, 4]],
     learners: &[5],
     commands: 90,
-    snapshots: 60,
+    snapshots: 100,
 };

@@ -2,7 +2,8 @@
 use crate::plain::world::PlainWorld;
 use crate::rows::{Fact, Row, Run, event_of, has_come, is_so};
 use crate::worked::{
-    CONFLICTS, CRASHES, ELECTIONS, LOSSES, MEMBERSHIPS, ONE_NODE, PURGES, SNAPSHOTS, STOPS,
+    ADDITIONS, CONFLICTS, CRASHES, ELECTIONS, LOSSES, MEMBERSHIPS, ONE_NODE, PURGES, SNAPSHOTS,
+    STOPS,
 };
 use std::alloc::{AllocError, Global};
 use std::test::Fail;
@@ -43,11 +44,21 @@ fn after_parts(alloc: Global, run: &Run) -> Result<PlainWorld, Fail> {
     Ok(world)
 }
 
+fn goes_so(alloc: Global, run: &Run) -> Result<(), Fail> {
+    let world = after_parts(alloc, run)?;
+    are_so(&world, run.facts)
+}
+
 fn all_go_so(alloc: Global, runs: &[Run]) -> Result<(), Fail> {
     for run in runs {
-        are_so(&after_parts(alloc, run)?, run.facts)?;
+        goes_so(alloc, run)?;
     }
     Ok(())
+}
+
+#[test]
+fn additions_go_so(rt: HostRuntime) -> Result<(), Fail> {
+    all_go_so(rt.alloc(), &ADDITIONS)
 }
 
 #[test]

@@ -59,45 +59,10 @@ fn five_worlds(alloc: Global, course: Course) -> Result<Seen, Fail> {
     Ok(seen)
 }
 
-// Whether enough was decided, stopped and refused.
-fn is_lively(seen: &Seen) -> bool {
-    seen.done > 1200
-        && seen.refused > 100
-        && seen.stopped > 20
-        && seen.skipped > 100
-        && seen.leads > 10
-        && seen.settled > 60
-}
-
-// Whether all kinds of answers came.
-fn has_all_answers(seen: &Seen) -> bool {
-    seen.grants > 10
-        && seen.denials > 10
-        && seen.successes > 100
-        && seen.conflicts > 0
-        && seen.higher_votes > 10
-        && seen.snapshots > 0
-}
-
-// Whether the more frequent reasons were given.
-fn has_reasons(seen: &Seen) -> bool {
-    seen.not_leader > 10
-        && seen.not_voter > 0
-        && seen.not_allowed > 0
-        && seen.in_progress > 0
-        && seen.at_end > 0
-        && seen.exists > 0
-        && seen.unknown > 0
-}
-
-fn goes_through_all(seen: &Seen) -> bool {
-    is_lively(seen) && has_all_answers(seen) && has_reasons(seen)
-}
-
 #[test]
 fn three_nodes_agree(rt: HostRuntime) -> Result<(), Fail> {
     let seen = five_worlds(rt.alloc(), THREE)?;
-    assert!(rt; goes_through_all(&seen), "{seen:?}");
+    assert!(rt; seen.goes_through_all() && seen.unknown > 0, "{seen:?}");
     Ok(())
 }
 
@@ -105,7 +70,7 @@ fn three_nodes_agree(rt: HostRuntime) -> Result<(), Fail> {
 fn busy_nodes_agree(rt: HostRuntime) -> Result<(), Fail> {
     let seen = five_worlds(rt.alloc(), BUSY)?;
     assert!(rt;
-        goes_through_all(&seen) && seen.full_requests > 0,
+        seen.goes_through_all() && seen.full_requests > 0,
         "{seen:?}"
     );
     Ok(())
@@ -114,13 +79,13 @@ fn busy_nodes_agree(rt: HostRuntime) -> Result<(), Fail> {
 #[test]
 fn five_nodes_agree(rt: HostRuntime) -> Result<(), Fail> {
     let seen = five_worlds(rt.alloc(), FIVE)?;
-    assert!(rt; goes_through_all(&seen), "{seen:?}");
+    assert!(rt; seen.goes_through_all() && seen.unknown > 0, "{seen:?}");
     Ok(())
 }
 
 #[test]
 fn joint_groups_agree(rt: HostRuntime) -> Result<(), Fail> {
     let seen = five_worlds(rt.alloc(), JOINT)?;
-    assert!(rt; goes_through_all(&seen), "{seen:?}");
+    assert!(rt; seen.goes_through_all() && seen.unknown > 0, "{seen:?}");
     Ok(())
 }

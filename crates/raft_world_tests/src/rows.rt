@@ -33,7 +33,7 @@ pub enum Deed {
 }
 
 /// What came of it.
-#[derive(Clone, Copy, Debug, PartialEq, Eq)]
+#[derive(Clone, Copy, Debug)]
 pub enum Came {
     /// Messages to these nodes.
     Sent(&'static [u64]),

@@ -149,4 +149,39 @@ impl Seen {
         self.count_leads(&w.led);
         self.settled = self.settled.saturating_add(settled);
     }
+
+    // Whether enough was decided, stopped and refused.
+    fn is_lively(&self) -> bool {
+        self.done > 1200
+            && self.refused > 100
+            && self.stopped > 20
+            && self.skipped > 100
+            && self.leads > 10
+            && self.settled > 60
+    }
+
+    // Whether all kinds of answers came.
+    fn has_all_answers(&self) -> bool {
+        self.grants > 10
+            && self.denials > 10
+            && self.successes > 100
+            && self.conflicts > 0
+            && self.higher_votes > 10
+            && self.snapshots > 0
+    }
+
+    // Whether the more frequent reasons were given.
+    fn has_reasons(&self) -> bool {
+        self.not_leader > 10
+            && self.not_voter > 0
+            && self.not_allowed > 0
+            && self.in_progress > 0
+            && self.at_end > 0
+            && self.exists > 0
+    }
+
+    /// Whether all that random worlds are to go through came about, and often enough.
+    pub fn goes_through_all(&self) -> bool {
+        self.is_lively() && self.has_all_answers() && self.has_reasons()
+    }
 }

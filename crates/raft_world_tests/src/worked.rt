@@ -476,7 +476,7 @@ pub const MEMBERSHIPS: [Run; 3] = [
 
 // ---- one voter
 
-const ALONE: &[Row] = &[
+const ADDED: &[Row] = &[
     (
         Deed::Propose(1, 5, 0),
         None,
@@ -484,6 +484,16 @@ const ALONE: &[Row] = &[
     ),
     (Deed::Add(1), None, Came::Sent(&[])),
     (Deed::Add(1), None, Came::Refused(Refusal::GroupExists)),
+];
+
+/// A group is added once; before, nothing can be asked of it.
+pub const ADDITIONS: [Run; 1] = [Run {
+    parts: &[ADDED],
+    facts: &[Fact::List(&[]), Fact::Log(1, &[])],
+}];
+
+const ALONE: &[Row] = &[
+    (Deed::Add(1), None, Came::Sent(&[])),
     (
         Deed::Propose(1, 5, 0),
         None,

@@ -248,13 +248,21 @@ fn setup_in(event: &PlainEvent) -> Option<&PlainMembership> {
     }
 }
 
+// A node that is up and has nothing of the group, or the group with nothing in it.
+fn new_member(alloc: Global, id: u64, has_group: bool) -> PlainMember {
+    let mut stored = PlainStored::no_group(alloc);
+    stored.present = has_group;
+    PlainMember {
+        id,
+        state: PlainNodeState::Up(PlainState::new(stored)),
+    }
+}
+
 impl PlainWorld {
-    /// Nodes that are up and know of no group.
-    pub fn new(alloc: Global, ids: &[u64]) -> Result<PlainWorld, AllocError> {
+    fn of_members(alloc: Global, ids: &[u64], has_group: bool) -> Result<PlainWorld, AllocError> {
         let mut members = Vec::new(alloc);
         for id in ids {
-            let state = PlainNodeState::Up(PlainState::new(PlainStored::no_group(alloc)));
-            members.push(PlainMember { id: *id, state })?;
+            members.push(new_member(alloc, *id, has_group))?;
         }
         Ok(PlainWorld {
             alloc,
@@ -263,6 +271,16 @@ impl PlainWorld {
             setup: None,
             led: Vec::new(alloc),
         })
+    }
+
+    /// Nodes that are up and know of no group.
+    pub fn new(alloc: Global, ids: &[u64]) -> Result<PlainWorld, AllocError> {
+        PlainWorld::of_members(alloc, ids, false)
+    }
+
+    /// Nodes that are up and have the group, with nothing in it.
+    pub fn begun(alloc: Global, ids: &[u64]) -> Result<PlainWorld, AllocError> {
+        PlainWorld::of_members(alloc, ids, true)
     }
 
     /// The node with the id, if there is one.
