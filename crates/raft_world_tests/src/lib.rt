@@ -9,11 +9,13 @@ mod choices;
 #[cfg(test)]
 mod courses;
 #[cfg(test)]
+mod pair;
+#[cfg(test)]
 mod plain;
 #[cfg(test)]
 mod plain_runs;
 #[cfg(test)]
-mod plain_worlds;
+mod random_worlds;
 #[cfg(test)]
 mod real;
 #[cfg(test)]
@@ -23,4 +25,8 @@ mod same;
 #[cfg(test)]
 mod seen;
 #[cfg(test)]
+mod wanting_memory;
+#[cfg(test)]
 mod worked;
+#[cfg(test)]
+mod worked_worlds;
