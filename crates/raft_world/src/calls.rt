@@ -76,7 +76,8 @@ fn take_call(
     moment: u64,
     engine: &mut Engine<ByteGroup>,
 ) -> Result<(), AllocError>
-    ensures { (x : Snapshot) (own at : ℕ) (s : GroupState) → stored.now ≡ s.stored → moment ≡ max s.now at → (call.now ≡ TriggerSnapshot → ⊥) → MayTake own engine.old s (Call call.now at)
+    ensures { (x : Snapshot) (own at : ℕ) (s : GroupState) → stored.now ≡ s.stored → moment ≡ max s.now at → (call.now ≡ TriggerSnapshot → ⊥)
+        → MayTake own engine.old s (Call call.now at)
         → OnOk result (HasTaken x own engine.new s (Call call.now at)) }
 {
     match call {
@@ -101,9 +102,11 @@ impl Member {
         stop: Option<u64>,
     ) -> Result<Ended, AllocError>
         ensures id { self.new.id ≡ self.old.id }
-        ensures ok { (at : ℕ) (s : GroupState) → IsDown self.old s.stored → IsIdle self.old.id engine.old s → moment ≡ max s.now at → HasMembershipOfApplied s → MayTake self.old.id engine.old s (Call TriggerSnapshot at)
+        ensures ok { (at : ℕ) (s : GroupState) → IsDown self.old s.stored → IsIdle self.old.id engine.old s → moment ≡ max s.now at → HasMembershipOfApplied s
+            → MayTake self.old.id engine.old s (Call TriggerSnapshot at)
             → RunsTo s.stored (group_step self.old.id s (Call TriggerSnapshot at)) stop engine.new self.new result }
-        ensures err { (at : ℕ) (s : GroupState) → IsDown self.old s.stored → IsIdle self.old.id engine.old s → moment ≡ max s.now at → HasMembershipOfApplied s → MayTake self.old.id engine.old s (Call TriggerSnapshot at)
+        ensures err { (at : ℕ) (s : GroupState) → IsDown self.old s.stored → IsIdle self.old.id engine.old s → moment ≡ max s.now at → HasMembershipOfApplied s
+            → MayTake self.old.id engine.old s (Call TriggerSnapshot at)
             → OnErr result (HasHalted s.stored (group_step self.old.id s (Call TriggerSnapshot at)) self.new) }
     {
         if !engine.trigger_snapshot()? {
@@ -129,9 +132,11 @@ impl Member {
         stop: Option<u64>,
     ) -> Result<Ended, AllocError>
         ensures id { self.new.id ≡ self.old.id }
-        ensures ok { (at : ℕ) (s : GroupState) → IsDown self.old s.stored → IsIdle self.old.id engine.old s → moment ≡ max s.now at → HasMembershipOfApplied s → MayTake self.old.id engine.old s (Call call.now at)
+        ensures ok { (at : ℕ) (s : GroupState) → IsDown self.old s.stored → IsIdle self.old.id engine.old s → moment ≡ max s.now at → HasMembershipOfApplied s
+            → MayTake self.old.id engine.old s (Call call.now at)
             → RunsTo s.stored (group_step self.old.id s (Call call.now at)) stop engine.new self.new result }
-        ensures err { (at : ℕ) (s : GroupState) → IsDown self.old s.stored → IsIdle self.old.id engine.old s → moment ≡ max s.now at → HasMembershipOfApplied s → MayTake self.old.id engine.old s (Call call.now at)
+        ensures err { (at : ℕ) (s : GroupState) → IsDown self.old s.stored → IsIdle self.old.id engine.old s → moment ≡ max s.now at → HasMembershipOfApplied s
+            → MayTake self.old.id engine.old s (Call call.now at)
             → OnErr result (HasHalted s.stored (group_step self.old.id s (Call call.now at)) self.new) }
     {
         if matches!(call, GroupCall::TriggerSnapshot) {

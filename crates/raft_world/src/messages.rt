@@ -45,7 +45,15 @@ fn message_refusal(facts: &GroupFacts, message: &Message, now: u64) -> Option<Re
         }
         Body::AppendReply { request, outcome } | Body::SnapshotReply { request, outcome } => {
             let id = number_in(&request.id);
-            facts.reply_refusal(parties, request.vote, id, request.previous, request.last, outcome, now)
+            facts.reply_refusal(
+                parties,
+                request.vote,
+                id,
+                request.previous,
+                request.last,
+                outcome,
+                now,
+            )
         }
         Body::SnapshotRequest { vote, id, snapshot } => {
             let membership = membership_of(snapshot);
@@ -159,9 +167,11 @@ impl Member {
         stop: Option<u64>,
     ) -> Result<Ended, AllocError>
         ensures id { self.new.id ≡ self.old.id }
-        ensures ok { (at : ℕ) (s : GroupState) → IsDown self.old s.stored → moment ≡ max s.now at → MayTake self.old.id engine.old s (received self.old.id message.now.sender (body_of message.now.body) at)
+        ensures ok { (at : ℕ) (s : GroupState) → IsDown self.old s.stored → moment ≡ max s.now at
+            → MayTake self.old.id engine.old s (received self.old.id message.now.sender (body_of message.now.body) at)
             → RunsTo s.stored (group_step self.old.id s (received self.old.id message.now.sender (body_of message.now.body) at)) stop engine.new self.new result }
-        ensures err { (at : ℕ) (s : GroupState) → IsDown self.old s.stored → moment ≡ max s.now at → MayTake self.old.id engine.old s (received self.old.id message.now.sender (body_of message.now.body) at)
+        ensures err { (at : ℕ) (s : GroupState) → IsDown self.old s.stored → moment ≡ max s.now at
+            → MayTake self.old.id engine.old s (received self.old.id message.now.sender (body_of message.now.body) at)
             → OnErr result (HasHalted s.stored (group_step self.old.id s (received self.old.id message.now.sender (body_of message.now.body) at)) self.new) }
     {
         if let Body::SnapshotRequest { vote, id, snapshot } = &message.body {

@@ -123,7 +123,12 @@ fn node_of(world: &World, deed: Deed) -> u64 {
 }
 
 // Whether it shows that the event wasn't run: its node is down, and all else is as it was.
-fn is_stopped(world: &World, node: u64, before: &[Option<Sight>; 3], counts: (usize, usize)) -> bool {
+fn is_stopped(
+    world: &World,
+    node: u64,
+    before: &[Option<Sight>; 3],
+    counts: (usize, usize),
+) -> bool {
     let after = all_sights(world);
     is_down(world, node)
         && are_others_same(before, &after, node)
@@ -169,13 +174,7 @@ fn deliver(alloc: Global, world: &mut World, from: u64, most: u64, now: u64) -> 
 }
 
 // A node takes a command, sends again what was lost, and all is delivered.
-fn propose(
-    alloc: Global,
-    world: &mut World,
-    amount: u8,
-    next: u64,
-    now: u64,
-) -> Result<u64, Fail> {
+fn propose(alloc: Global, world: &mut World, amount: u8, next: u64, now: u64) -> Result<u64, Fail> {
     goes(alloc, world, Deed::Propose(1, amount, now))?;
     goes(alloc, world, Deed::Lost(1, 2))?;
     goes(alloc, world, Deed::Lost(1, 3))?;

@@ -14,9 +14,9 @@ returns-in_default c = λ x own at token s same may. absurd
 pub returns-in_default-2 : goal.returns-in_default-2
 returns-in_default-2 c = λ x own at token s same may.
     let known : membership_in_force s.stored ≡ Some (record { log_id = c.in-Some.field-0-0; membership = c.in-Some.old.now }) =
-        ap membership_in_force (sym same) ∙ sym c.membership_in_force.ensures ∙ ap logged_or_none c.in-Some.is in
+    ap membership_in_force (sym same) ∙ sym c.membership_in_force.ensures ∙ ap logged_or_none c.in-Some.is in
     let invalid : is_valid (after_change c.in-Some.old.now c.args.change.now) ≡ false =
-        subst (λ o. MatchOption o (is_valid (after_change c.in-Some.old.now c.args.change.now) ≡ false) (λ new. new ≡ after_change c.in-Some.old.now c.args.change.now)) c.in_default-2.is c.in_ok-new.ensures in
+    subst (λ o. MatchOption o (is_valid (after_change c.in-Some.old.now c.args.change.now) ≡ false) (λ new. new ≡ after_change c.in-Some.old.now c.args.change.now)) c.in_default-2.is c.in_ok-new.ensures in
     let valid = change_is_valid own at token s c.args.change.now may.accepted _ known in
     absurd (let no : false ≡ true = sym invalid ∙ valid in cc)
 
@@ -27,7 +27,7 @@ returns-then-not-has_room c = λ x own at token s same may.
 pub returns : goal.returns
 returns c = λ x own at token s same may.
     let known : membership_in_force s.stored ≡ Some (record { log_id = c.in-Some.field-0-0; membership = c.in-Some.old.now }) =
-        ap membership_in_force (sym same) ∙ sym c.membership_in_force.ensures ∙ ap logged_or_none c.in-Some.is in
+    ap membership_in_force (sym same) ∙ sym c.membership_in_force.ensures ∙ ap logged_or_none c.in-Some.is in
     c.change_membership.ensures x own at token s _ c.args.change.now known
     (subst (λ o. MatchOption o (is_valid (after_change c.in-Some.old.now c.args.change.now) ≡ false) (λ new. new ≡ after_change c.in-Some.old.now c.args.change.now)) c.in-Some-2.is c.in_ok-new.ensures)
     may

@@ -20,8 +20,8 @@ pub returns-in-SnapshotRequest : goal.returns-in-SnapshotRequest
 returns-in-SnapshotRequest c = λ own s facts.
     let x = c.in-SnapshotRequest.snapshot in
     let whole : record { last = c.last.result; membership = logged_or_none c.membership_of-membership.result; «prefix» = x.«prefix» } ≡ x =
-        ap (λ last. record { last = last; membership = logged_or_none c.membership_of-membership.result; «prefix» = x.«prefix» }) c.last.ensures
-        ∙ ap (λ membership. record { last = x.last; membership = membership; «prefix» = x.«prefix» }) c.membership_of-membership.ensures in
+    ap (λ last. record { last = last; membership = logged_or_none c.membership_of-membership.result; «prefix» = x.«prefix» }) c.last.ensures
+    ∙ ap (λ membership. record { last = x.last; membership = membership; «prefix» = x.«prefix» }) c.membership_of-membership.ensures in
     subst (λ body. option_map reason_of c.snapshot_request_refusal.result
     ≡ refusal_of own s (Receive c.args.message.now.sender (record { sender = c.args.message.now.sender; addressee = c.args.message.now.addressee; body = body_of body }) c.args.now))
     (sym c.in-SnapshotRequest.is)

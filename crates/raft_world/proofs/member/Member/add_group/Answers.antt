@@ -14,5 +14,5 @@ returns-then-is_some-clause-up c = λ s up.
       there.0,
       there.1,
       down_as_refused c.args.self.now.id s AddGroup GroupExists c.crash.new.self there.0
-      (ap (λ present. first_of_reasons (unless (not present) GroupExists ∷ [])) up.present) (c.crash.ensures.up s up),
+          (ap (λ present. first_of_reasons (unless (not present) GroupExists ∷ [])) up.present) (c.crash.ensures.up s up),
     )

@@ -19,9 +19,9 @@ returns-then-is_some-clause-ok c = λ old r down run.
       there.0,
       there.1,
       stopped_there _ _ old r _ _ run down.present _ down.no_engine there.0
-      (c.in_ok-store_first.ensures.ok run.snapshot run.is_given
-      ∙ (ap (λ stop. after_storing_all (first_of stop (stored_by run.snapshot c.args.engine.now.output.queue)) c.args.self.now.stored) there.1
-      ∙ ap (λ s. after_storing_all (first_of (Some there.0) (stored_by run.snapshot c.args.engine.now.output.queue)) s) down.stored)),
+          (c.in_ok-store_first.ensures.ok run.snapshot run.is_given
+          ∙ (ap (λ stop. after_storing_all (first_of stop (stored_by run.snapshot c.args.engine.now.output.queue)) c.args.self.now.stored) there.1
+          ∙ ap (λ s. after_storing_all (first_of (Some there.0) (stored_by run.snapshot c.args.engine.now.output.queue)) s) down.stored)),
     )
 
 pub returns-in_err-sent-clause-err : goal.returns-in_err-sent-clause-err
@@ -37,12 +37,12 @@ pub returns-clause-ok : goal.returns-clause-ok
 returns-clause-ok c = λ old r down run.
     let none = no_stop c.args.stop (sym c.is_some.ensures ∙ c.if-is_some.false) in
     let stored =
-        c.in_ok-store_first.ensures.ok run.snapshot run.is_given
-        ∙ (ap (λ stop. after_storing_all (first_of stop (stored_by run.snapshot c.args.engine.now.output.queue)) c.args.self.now.stored) none
-        ∙ ap (λ s. after_storing_all (first_of None (stored_by run.snapshot c.args.engine.now.output.queue)) s) down.stored)
+    c.in_ok-store_first.ensures.ok run.snapshot run.is_given
+    ∙ (ap (λ stop. after_storing_all (first_of stop (stored_by run.snapshot c.args.engine.now.output.queue)) c.args.self.now.stored) none
+    ∙ ap (λ s. after_storing_all (first_of None (stored_by run.snapshot c.args.engine.now.output.queue)) s) down.stored)
     in (
       none,
       c.in_ok-sent.ensures ∙ sent_at_end _ _ old r _ _ run down.present _ stored,
       up_at_end _ _ old r _ _ run down.present _ c.come_to_rest.new.engine refl refl stored
-      (c.come_to_rest.ensures c.args.self.now.id r.state run.step.state),
+          (c.come_to_rest.ensures c.args.self.now.id r.state run.step.state),
     )

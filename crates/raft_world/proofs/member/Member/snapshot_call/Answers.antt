@@ -23,9 +23,9 @@ use Rattle.raft_world.proofs.member.Member.snapshot_call.Goals.{After-drop-snaps
 pub returns-then-not-branch-clause-ok : goal.returns-then-not-branch-clause-ok
 returns-then-not-branch-clause-ok c = λ at s down idle moment members may.
     let none_past : stands_before (covered_id c.args.engine.now) c.args.engine.now.state.state.committed ≡ false =
-        by_cases (stands_before (covered_id c.args.engine.now) c.args.engine.now.state.state.committed)
-        (λ t. none_both c.in_ok-trigger_snapshot.field-0 c.if-not-branch.true (c.in_ok-trigger_snapshot.ensures.asked idle.not_building t).0)
-        (λ f. f) in
+    by_cases (stands_before (covered_id c.args.engine.now) c.args.engine.now.state.state.committed)
+    (λ t. none_both c.in_ok-trigger_snapshot.field-0 c.if-not-branch.true (c.in_ok-trigger_snapshot.ensures.asked idle.not_building t).0)
+    (λ f. f) in
     c.end_taken.ensures.ok s.stored (group_step c.args.self.now.id s (Call TriggerSnapshot at)) down
     (run_of_call c.args.self.now.id at c.args.moment c.trigger_snapshot.new.self s TriggerSnapshot moment may.accepted
     (λ x. (c.in_ok-trigger_snapshot.ensures.none_new x c.args.self.now.id at s may idle.not_building none_past).1))
@@ -33,9 +33,9 @@ returns-then-not-branch-clause-ok c = λ at s down idle moment members may.
 pub returns-then-not-branch-clause-err : goal.returns-then-not-branch-clause-err
 returns-then-not-branch-clause-err c = λ at s down idle moment members may.
     let none_past : stands_before (covered_id c.args.engine.now) c.args.engine.now.state.state.committed ≡ false =
-        by_cases (stands_before (covered_id c.args.engine.now) c.args.engine.now.state.state.committed)
-        (λ t. none_both c.in_ok-trigger_snapshot.field-0 c.if-not-branch.true (c.in_ok-trigger_snapshot.ensures.asked idle.not_building t).0)
-        (λ f. f) in
+    by_cases (stands_before (covered_id c.args.engine.now) c.args.engine.now.state.state.committed)
+    (λ t. none_both c.in_ok-trigger_snapshot.field-0 c.if-not-branch.true (c.in_ok-trigger_snapshot.ensures.asked idle.not_building t).0)
+    (λ f. f) in
     c.end_taken.ensures.err s.stored (group_step c.args.self.now.id s (Call TriggerSnapshot at)) down
     (run_of_call c.args.self.now.id at c.args.moment c.trigger_snapshot.new.self s TriggerSnapshot moment may.accepted
     (λ x. (c.in_ok-trigger_snapshot.ensures.none_new x c.args.self.now.id at s may idle.not_building none_past).1))
@@ -43,8 +43,8 @@ returns-then-not-branch-clause-err c = λ at s down idle moment members may.
 pub returns-in_default-clause-ok : goal.returns-in_default-clause-ok
 returns-in_default-clause-ok c = λ at s down idle moment members may.
     let past : stands_before (covered_id c.args.engine.now) c.args.engine.now.state.state.committed ≡ true =
-        by_cases (stands_before (covered_id c.args.engine.now) c.args.engine.now.state.state.committed) (λ t. t)
-        (λ f. none_both c.in_ok-trigger_snapshot.field-0 (c.in_ok-trigger_snapshot.ensures.none_new (one_snapshot 0) c.args.self.now.id at s may idle.not_building f).0 c.if-not-branch.false) in
+    by_cases (stands_before (covered_id c.args.engine.now) c.args.engine.now.state.state.committed) (λ t. t)
+    (λ f. none_both c.in_ok-trigger_snapshot.field-0 (c.in_ok-trigger_snapshot.ensures.none_new (one_snapshot 0) c.args.self.now.id at s may idle.not_building f).0 c.if-not-branch.false) in
     let asked = (c.in_ok-trigger_snapshot.ensures.asked idle.not_building past).1 in
     let none : c.args.engine.now.state.state.committed ≡ None = sym (ap (λ (e : Engine). e.state.state.committed) asked) ∙ c.in_default.is in
     none_stands_behind (covered_id c.args.engine.now) (ap (λ o. stands_before (covered_id c.args.engine.now) o) (sym none) ∙ past)
@@ -52,8 +52,8 @@ returns-in_default-clause-ok c = λ at s down idle moment members may.
 pub returns-in_default-2-clause-ok : goal.returns-in_default-2-clause-ok
 returns-in_default-2-clause-ok c = λ at s down idle moment members may.
     let past : stands_before (covered_id c.args.engine.now) c.args.engine.now.state.state.committed ≡ true =
-        by_cases (stands_before (covered_id c.args.engine.now) c.args.engine.now.state.state.committed) (λ t. t)
-        (λ f. none_both c.in_ok-trigger_snapshot.field-0 (c.in_ok-trigger_snapshot.ensures.none_new (one_snapshot 0) c.args.self.now.id at s may idle.not_building f).0 c.if-not-branch.false) in
+    by_cases (stands_before (covered_id c.args.engine.now) c.args.engine.now.state.state.committed) (λ t. t)
+    (λ f. none_both c.in_ok-trigger_snapshot.field-0 (c.in_ok-trigger_snapshot.ensures.none_new (one_snapshot 0) c.args.self.now.id at s may idle.not_building f).0 c.if-not-branch.false) in
     let asked = (c.in_ok-trigger_snapshot.ensures.asked idle.not_building past).1 in
     let is : c.args.engine.now.state.state.committed ≡ Some c.in-Some.applied = sym (ap (λ (e : Engine). e.state.state.committed) asked) ∙ c.in-Some.is in
     has_snapshot c.args.self.now.id c.args.engine.now s idle.stands c.in-Some.applied is (ap (λ o. stands_before (covered_id c.args.engine.now) o) (sym is) ∙ past)
@@ -65,8 +65,8 @@ module _ (c : After-drop-snapshot-inside-4) (at : ℕ) (s : GroupState) (down : 
   taken : HasTaken c.in-Some-2.snapshot c.args.self.now.id c.finish_building_snapshot.new.self s (Call TriggerSnapshot at)
   taken =
       let past : stands_before (covered_id c.args.engine.now) c.args.engine.now.state.state.committed ≡ true =
-          by_cases (stands_before (covered_id c.args.engine.now) c.args.engine.now.state.state.committed) (λ t. t)
-          (λ f. none_both c.in_ok-trigger_snapshot.field-0 (c.in_ok-trigger_snapshot.ensures.none_new (one_snapshot 0) c.args.self.now.id at s may idle.not_building f).0 c.if-not-branch.false) in
+      by_cases (stands_before (covered_id c.args.engine.now) c.args.engine.now.state.state.committed) (λ t. t)
+      (λ f. none_both c.in_ok-trigger_snapshot.field-0 (c.in_ok-trigger_snapshot.ensures.none_new (one_snapshot 0) c.args.self.now.id at s may idle.not_building f).0 c.if-not-branch.false) in
       let asked = (c.in_ok-trigger_snapshot.ensures.asked idle.not_building past).1 in
       let is : c.args.engine.now.state.state.committed ≡ Some c.in-Some.applied = sym (ap (λ (e : Engine). e.state.state.committed) asked) ∙ c.in-Some.is in
       let found = ap (λ stored. option_map (snapshot_at stored) (id_of (entry_at stored c.in-Some.applied.index))) (sym down.stored) ∙ sym c.in_ok-snapshot.ensures ∙ c.in-Some-2.is in
