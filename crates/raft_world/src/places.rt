@@ -10,10 +10,5 @@ pub(crate) fn place_of(members: &[Member], id: u64) -> Option<usize>
     ensures place { result ≡ position_from (λ (m : AMember). m.id == id) 0 members.now }
     ensures within { IfSome result (λ place. place < length members.now) }
 {
-    for (place, member) in members.iter().enumerate() {
-        if member.id == id {
-            return Some(place);
-        }
-    }
-    None
+    members.iter().position(|member| member.id == id)
 }
