@@ -4,11 +4,11 @@ use Rattle.raft_conditions.specs.Reason.{reason_of}
 use Rattle.raft_group_step.specs.GroupState.{GroupState, Untold}
 use Rattle.raft_group_step.specs.Values.{Membership}
 use Rattle.raft_executor.specs.Sent.{message_of}
+use Rattle.raft_executor.specs.declared.message.Message.{Message as SentMessage}
 use Rattle.raft_laws.specs.GroupWorld.{GroupWorld, NodeState, Absent, Up, Down, Outcome, Done, Refused, Stopped, Skipped, is_stop, with_node_state}
 use Rattle.raft_laws.specs.GroupRun.{ended, led_by, stop_at, setup_in}
 use Rattle.raft_laws.specs.NodeEvent.{NodeEvent, outcome_at, state_after}
 use Rattle.raft_laws.specs.declared.world_event.WorldEvent.{WorldEvent}
-use Rattle.raft_laws.specs.declared.world_event.WorldEvent.TheVariants.{Crash}
 use Rattle.raft_settled.specs.World.{led_of}
 use Rattle.raft_world.specs.Member.{IsAt}
 use Rattle.raft_world.specs.World.{AreNodes, IsMarkOf, IsPlace, IsWorldOf}
@@ -68,7 +68,7 @@ down_of (Down stored) = Down stored
 -- the node went down before what the event left there was noted: a done event stopped, and a refused one is forgotten
 abbrev pub IsCut : World → GroupWorld → WorldEvent → ℕ → NodeState → Outcome → Type 0
 IsCut w g e n state (Done sent told unknown) = IsWorldOf w (ended g e (Stopped []) n (down_of state))
-IsCut w g e n state (Refused why) = IsWorldOf w (ended g (Crash n) (Done [] [] []) n (down_of state))
+IsCut w g e n state (Refused why) = IsWorldBut w g n (down_of state)
 IsCut w g e n state (Stopped unknown) = ⊥
 IsCut w g e n state Skipped = ⊥
 
@@ -78,6 +78,6 @@ HasConcluded g e n state o w (Ok mark) = IsWorldOf w (ended g e o n state) × Is
 HasConcluded g e n state o w (Err met) = IsCut w g e n state o
 
 -- the messages and the note of an event stand behind the others
-pub record IsSent (old new : World) (n : ℕ) (state : NodeState) (sent : List _) : Type 0 where
+pub record IsSent (old new : World) (n : ℕ) (state : NodeState) (sent : List SentMessage) : Type 0 where
   pub messages : new.messages.items ≡ old.messages.items ++ sent
   pub led : map led_of new.led.items ≡ map led_of old.led.items ++ led_by n state

@@ -1,10 +1,11 @@
 //! A world of one group: its members, and what they sent.
-ghost use Rattle.std.specs.Prelude.{◌≡◌, List, ℕ, IfOk, OnErr, [], option_map};
+ghost use Rattle.std.specs.Prelude.{◌≡◌, List, ℕ, IfOk, OnOk, OnErr};
 ghost use Rattle.std.specs.Option.{option_copied};
-ghost use Rattle.raft_laws.specs.GroupWorld.{GroupWorld, Recorded};
+ghost use Rattle.raft_laws.specs.GroupWorld.{GroupWorld, Recorded, new_world};
+ghost use Rattle.raft_laws.specs.GroupRun.{history_of, ran};
 ghost use Rattle.raft_laws.specs.OneList.{AreNodeIds, IsGroupHistory};
 ghost use Rattle.raft_laws.specs.Settled.{group_list};
-ghost use Rattle.raft_world.specs.World.{HasBroken, HasHappened, HasRunEvents, IsWorldOf, begun_world, member_of};
+ghost use Rattle.raft_world.specs.World.{HasBroken, HasRunEvents, IsWorldOf, additions, begun_world, member_of};
 
 use crate::member::Member;
 use crate::places::place_of;
@@ -56,7 +57,7 @@ impl World {
     /// memory alone.
     pub fn new(alloc: Global, ids: &[u64]) -> Result<World, AllocError>
         ensures world { IfOk result (λ w. IsWorldOf w (begun_world ids.now)) }
-        ensures history { (rs : List Recorded) → IsGroupHistory ids.now (begun_history ids.now) (begun_world ids.now) }
+        ensures history { IsGroupHistory ids.now (history_of (additions ids.now) (new_world ids.now)) (begun_world ids.now) }
     {
         let mut world = World {
             alloc,
@@ -75,14 +76,15 @@ impl World {
     // One event, and its mark.
     fn happen(&mut self, planned: &PlannedEvent) -> Result<(), AllocError>
         ensures { (ids : List ℕ) (rs : List Recorded) (g : GroupWorld) → IsGroupHistory ids rs g → IsWorldOf self.old g
-            → OnOk result (IsWorldOf self.new (ran g planned.now.event planned.now.stop)) × OnErr result (HasBroken g planned.now self.new) }
+            → OnOk result (IsWorldOf self.new (ran g planned.now.event planned.now.stop)) × OnErr result (HasBroken g planned.now.event self.new) }
     {
         if let Err(refused) = self.marks.reserve(1) {
             self.stop_node_of(&planned.event);
             return Err(refused);
         }
         let mark = self.event(planned)?;
-        self.marks.push(mark)
+        self.marks.push(mark)?;
+        Ok(())
     }
 
     /// Runs the events in their order, and says how many (own). Fewer than all only for want of
