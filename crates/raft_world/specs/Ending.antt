@@ -67,7 +67,7 @@ down_of (Down stored) = Down stored
 
 -- the node went down before what the event left there was noted: a done event stopped, and a refused one is forgotten
 abbrev pub IsCut : World → GroupWorld → WorldEvent → ℕ → NodeState → Outcome → Type 0
-IsCut w g e n state (Done sent told unknown) = IsWorldOf w (ended g e (Stopped []) n (down_of state))
+IsCut w g e n state (Done sent told unknown) = (lost : List ℕ) → IsWorldOf w (ended g e (Stopped lost) n (down_of state))
 IsCut w g e n state (Refused why) = IsWorldBut w g n (down_of state)
 IsCut w g e n state (Stopped unknown) = ⊥
 IsCut w g e n state Skipped = ⊥
