@@ -11,7 +11,7 @@ use Rattle.raft_group_step.specs.StepResult.{RefusalReason, StepResult}
 use Rattle.raft_executor.specs.Sent.{message_of}
 use Rattle.raft_laws.specs.GroupWorld.{NodeState, Absent, Up, Down, Led, Outcome, Done, Refused, Stopped, is_stop}
 use Rattle.raft_laws.specs.GroupRun.{led_as, led_by, stop_at}
-use Rattle.raft_laws.specs.NodeEvent.{NodeEvent, Comes, Restarts, after_step, outcome_of_end, outcome_of_step}
+use Rattle.raft_laws.specs.NodeEvent.{NodeEvent, Comes, Restarts, after_step, outcome_at, outcome_of_end, outcome_of_step}
 use Rattle.raft_laws.specs.Stop.{stopped_after, unknown_at_stop}
 use Rattle.raft_laws.proofs.StepMoments.{refusals_told}
 use Rattle.raft_laws.proofs.StepOrder.{step-keeps}
@@ -96,7 +96,7 @@ comes n e stop (Up s) m new (Err met) same at lawful ok err down =
     record { number = has.number; unknown = unknown_at_stop s e (group_step n s e); outcome = refl; after = has.down }
 comes n e stop (Down st) m new (Ok end) same at lawful ok err down =
     let is : end_of.Skipped ≡ end = (let e : Ok end ≡ Ok end_of.Skipped = (down st at).0 in cc) in
-    record { outcome = subst (λ (x : Ended). IsEndOf x _) is refl; after = (down st at).1 }
+    record { outcome = subst (λ (x : Ended). IsEndOf x (outcome_at n (Comes e) (is_some stop) (Down st))) is refl; after = (down st at).1 }
 comes n e stop (Down st) m new (Err met) same at lawful ok err down = absurd (let no : Err met ≡ Ok end_of.Skipped = (down st at).0 in cc)
 
 -- the member was opened
@@ -118,7 +118,7 @@ opens n stop (Down st) m new (Err met) same at openable ok err up =
     record { number = has.number; unknown = unknown_at_stop (state_of st) Open (group_step n (state_of st) Open); outcome = refl; after = has.down }
 opens n stop (Up s) m new (Ok end) same at openable ok err up =
     let is : end_of.Skipped ≡ end = (let e : Ok end ≡ Ok end_of.Skipped = (up s at).0 in cc) in
-    record { outcome = subst (λ (x : Ended). IsEndOf x _) is refl; after = (up s at).1 }
+    record { outcome = subst (λ (x : Ended). IsEndOf x (outcome_at n Restarts (is_some stop) (Up s))) is refl; after = (up s at).1 }
 opens n stop (Up s) m new (Err met) same at openable ok err up = absurd (let no : Err met ≡ Ok end_of.Skipped = (up s at).0 in cc)
 
 -- ---- a member that goes down
@@ -145,11 +145,14 @@ no_lead n m Absent b at up is = refl
 no_lead n m (Up s) b at up is = leads_as n s s.role (sym (up s at) ∙ is)
 no_lead n m (Down st) b at up is = refl
 
+abbrev note_of : ℕ → StoredGroup → Led
+note_of n st = record { node = n; vote = st.vote; list = held st }
+
 pub lead_noted : (n : ℕ) (m : Member) (state : NodeState) (b : Bool) → IsAt m state → m.id ≡ n → ((s : GroupState) → IsUp m s → b ≡ is_leader s.role) → ((st : StoredGroup) → IsDown m st → b ≡ false) → b ≡ true
     → record { node = m.id; vote = m.stored.vote; list = held m.stored } ∷ [] ≡ led_by n state
 lead_noted n m Absent b at same up down is = absurd at
 lead_noted n m (Up s) b at same up down is =
-    ap (λ (st : StoredGroup). (record { node = m.id; vote = st.vote; list = held st } : Led) ∷ []) at.stored
-    ∙ ap (λ i. (record { node = i; vote = s.stored.vote; list = held s.stored } : Led) ∷ []) same
+    ap (λ (st : StoredGroup). note_of m.id st ∷ []) at.stored
+    ∙ ap (λ i. note_of i s.stored ∷ []) same
     ∙ sym (leads_so n s s.role (sym (up s at) ∙ is))
 lead_noted n m (Down st) b at same up down is = absurd (let no : false ≡ true = sym (down st at) ∙ is in cc)

@@ -224,10 +224,10 @@ module _ (w : World) (g : GroupWorld) (e : WorldEvent) (n : ℕ) (o : Outcome) (
   )
 
   -- it is not
-  pub but_kept : (new : World) → new.members ≡ w.members → new.messages ≡ w.messages → new.setup ≡ w.setup → new.led.items ≡ w.led.items → IsWorldBut new g n state
+  pub but_kept : (new : World) → new.members ≡ w.members → new.messages.items ≡ w.messages.items → new.setup ≡ w.setup → new.led.items ≡ w.led.items → IsWorldBut new g n state
   but_kept new members messages setup led = record {
     nodes = subst (λ (v : Vec Member Global). AreNodes v.items (with_node_state n state g.nodes)) (sym members) h.nodes;
-    messages = ap (λ (v : Vec SentMessage Global). map message_of v.items) messages ∙ h.messages;
+    messages = ap (map message_of) messages ∙ h.messages;
     setup = setup ∙ h.setup;
     led = ap (map led_of) led ∙ h.led;
   }
@@ -250,9 +250,9 @@ module _ (w : World) (g : GroupWorld) (e : WorldEvent) (n : ℕ) (o : Outcome) (
   )
 
   -- it is done, and the node goes down before it sends: it stopped after all that it stores
-  pub cut_done : (set new : World) (setup : Option Membership) (sent : Vec SentMessage Global) → IsEndOf (end_of.Done sent) o → setup ≡ first_setup g.setup e → set ≡ record w { setup = set_up_with setup w.setup }
+  pub cut_done : (new : World) (setup : Option Membership) (sent : Vec SentMessage Global) → IsEndOf (end_of.Done sent) o → setup ≡ first_setup g.setup e
       → IsWorldBut new (record g { setup = set_up_with setup g.setup }) n (down_of state) → IsCut new g e n state o
-  cut_done set new setup sent is first made cut =
+  cut_done new setup sent is first cut =
       subst (IsCut new g e n state) (sym is.2)
       (λ lost. record {
         nodes = cut.nodes;
