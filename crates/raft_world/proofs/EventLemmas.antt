@@ -14,7 +14,7 @@ use Rattle.raft_laws.specs.Stop.{stopped_after}
 use Rattle.raft_laws.proofs.StepMoments.{moments_of_calls, moments_of_messages}
 use Rattle.raft_laws.proofs.StepOrder.{step-keeps}
 use Rattle.raft_world.specs.Member.{Engine, HasEnded, HasStopped, IsDown, IsIdle, IsUp}
-use Rattle.raft_world.specs.Running.{HasHalted, HasRun, IsRun, left_by}
+use Rattle.raft_world.specs.Running.{EndsTo, HasHalted, HasRun, IsRun, RunsTo, left_by}
 use Rattle.raft_world.specs.declared.member.Member.{Member}
 use Rattle.raft_world.specs.declared.member.Ended.{Ended}
 use Rattle.raft_world.specs.declared.member.Ended.TheVariants as ended
@@ -49,6 +49,12 @@ module _ (own : ℕ) (s : GroupState) (event : GroupEvent) where
 
   pub halted_at_once : (m : Member) → IsDown m s.stored → HasHalted s.stored (group_step own s event) m
   halted_at_once m h = record { number = 0; down = h }
+
+-- so does its call
+pub ends_as_runs : {E : Type 0} (own : ℕ) (s : GroupState) (event : GroupEvent) (stop : Option ℕ) (e : Engine) (m : Member) (r : Result Ended E) → refusal_of own s event ≡ None
+    → RunsTo s.stored (group_step own s event) stop e m r → EndsTo own s event stop e m r
+ends_as_runs own s event stop e m (Ok end) accepted h = ended_as_run own s event stop (left_by end e m) end accepted h
+ends_as_runs own s event stop e m (Err refused) accepted h = h
 
 -- the engine has done a call, whatever the snapshot
 pub run_of_call : (own at moment : ℕ) (e : Engine) (s : GroupState) (call : GroupCall) → moment ≡ max s.now at → refusal_of own s (Call call at) ≡ None
@@ -88,4 +94,28 @@ up_again m e s down moment idle = record {
   stored = down.stored;
   present = down.present;
   moment = moment;
+}
+
+-- ---- snapshots
+
+-- the engine has done a call with the snapshot that is given
+pub run_of_call_with : (own at moment : ℕ) (e : Engine) (s : GroupState) (call : GroupCall) (x : Snapshot) → moment ≡ max s.now at → refusal_of own s (Call call at) ≡ None
+    → HasTaken x own e s (Call call at) → IsRun own e s.stored (group_step own s (Call call at)) (Some x) moment
+run_of_call_with own at moment e s call x is accepted h = record {
+  snapshot = x;
+  step = h;
+  is_given = λ has. refl;
+  stored = (step-keeps own s (Call call at)).stored;
+  moment = is ∙ sym (moments_of_calls own s call at accepted);
+}
+
+-- the engine was handed a message with the snapshot that is given
+pub run_of_message_with : (own peer at moment : ℕ) (e : Engine) (s : GroupState) (body : MessageBody) (x : Snapshot) → moment ≡ max s.now at → refusal_of own s (received own peer body at) ≡ None
+    → HasTaken x own e s (received own peer body at) → IsRun own e s.stored (group_step own s (received own peer body at)) (Some x) moment
+run_of_message_with own peer at moment e s body x is accepted h = record {
+  snapshot = x;
+  step = h;
+  is_given = λ has. refl;
+  stored = (step-keeps own s (received own peer body at)).stored;
+  moment = is ∙ sym (moments_of_messages own s peer (record { sender = peer; addressee = own; body = body }) at accepted);
 }

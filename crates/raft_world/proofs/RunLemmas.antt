@@ -91,7 +91,7 @@ module _ {C R : Type 0} where
           (same_rest (storing_of x c) (stored_by x cs) (stored_by y cs)
           (e ∙ ap (λ l. l ++ stored_by y cs) (sym (stores_same x y c is))))
 
-abbrev one_snapshot : ℕ → Snapshot
+abbrev pub one_snapshot : ℕ → Snapshot
 one_snapshot place = record { last = log_id_of 0 0 place; membership = None; «prefix» = [] }
 
 two_differ : one_snapshot 0 ≡ one_snapshot 1 → ⊥

@@ -1,12 +1,14 @@
 -- How a step runs at a member, while its engine is taken out.
-use Rattle.std.specs.Prelude.{◌≡◌, ℕ, true, List, map, Option, Some, None}
+use Rattle.std.specs.Prelude.{◌≡◌, ℕ, true, List, map, Option, Some, None, Result, Ok, Err}
 use Rattle.raft_group_step.specs.StoredGroup.{StoredGroup, Snapshot, after_storing_all}
+use Rattle.raft_group_step.specs.GroupState.{GroupState}
+use Rattle.raft_group_step.specs.GroupEvent.{GroupEvent}
 use Rattle.raft_group_step.specs.StepResult.{StepResult}
 use Rattle.raft_engine.specs.Standing.{IsWholeStepOf}
 use Rattle.raft_executor.specs.Sent.{message_of}
 use Rattle.raft_executor.specs.Stored.{IsGiven, queue_has_snapshot}
 use Rattle.raft_laws.specs.Stop.{stopped_after}
-use Rattle.raft_world.specs.Member.{Engine, IsDown, IsUp}
+use Rattle.raft_world.specs.Member.{Engine, HasEnded, IsDown, IsUp}
 use Rattle.raft_world.specs.declared.member.Member.{Member}
 use Rattle.raft_world.specs.declared.member.Ended.{Ended}
 use Rattle.raft_world.specs.declared.member.Ended.TheVariants as ended
@@ -37,3 +39,14 @@ HasRun old r stop m (ended.Done sent) = (stop ≡ None) × (map message_of sent.
 HasRun old r stop m (ended.Refused why) = ⊥
 HasRun old r stop m ended.Stopped = (number : ℕ) × (stop ≡ Some number) × IsDown m (stopped_after number old r)
 HasRun old r stop m ended.Skipped = ⊥
+
+module _ {E : Type 0} where
+  -- where the call succeeds the step ran so, at the member with this engine put back
+  abbrev pub RunsTo : StoredGroup → StepResult → Option ℕ → Engine → Member → Result Ended E → Type 0
+  RunsTo old r stop e m (Ok end) = HasRun old r stop (left_by end e m) end
+  RunsTo old r stop e m (Err refused) = Unit {0}
+
+  -- and the event ended so
+  abbrev pub EndsTo : ℕ → GroupState → GroupEvent → Option ℕ → Engine → Member → Result Ended E → Type 0
+  EndsTo own s event stop e m (Ok end) = HasEnded own s event stop (left_by end e m) end
+  EndsTo own s event stop e m (Err refused) = Unit {0}

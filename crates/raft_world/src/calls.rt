@@ -8,7 +8,7 @@ ghost use Rattle.raft_group_step.specs.declared.group_call.GroupCall.TheVariants
 ghost use Rattle.raft_engine.specs.Events.{HasTaken, MayTake};
 ghost use Rattle.raft_group_step.specs.GroupStep.{group_step};
 ghost use Rattle.raft_world.specs.Member.{HasEnded, HasMembershipOfApplied, HasStopped, IsDown, IsIdle, IsLawful, IsUp};
-ghost use Rattle.raft_world.specs.Running.{HasHalted, HasRun, left_by};
+ghost use Rattle.raft_world.specs.Running.{EndsTo, HasHalted, RunsTo};
 ghost use Rattle.raft_world.specs.declared.member.Ended.TheVariants.{Skipped};
 
 use crate::ending::end_refused;
@@ -102,7 +102,7 @@ impl Member {
     ) -> Result<Ended, AllocError>
         ensures id { self.new.id ≡ self.old.id }
         ensures ok { (at : ℕ) (s : GroupState) → IsDown self.old s.stored → IsIdle self.old.id engine.old s → moment ≡ max s.now at → HasMembershipOfApplied s → MayTake self.old.id engine.old s (Call TriggerSnapshot at)
-            → IfOk result (λ ended. HasRun s.stored (group_step self.old.id s (Call TriggerSnapshot at)) stop (left_by ended engine.new self.new) ended) }
+            → RunsTo s.stored (group_step self.old.id s (Call TriggerSnapshot at)) stop engine.new self.new result }
         ensures err { (at : ℕ) (s : GroupState) → IsDown self.old s.stored → IsIdle self.old.id engine.old s → moment ≡ max s.now at → HasMembershipOfApplied s → MayTake self.old.id engine.old s (Call TriggerSnapshot at)
             → OnErr result (HasHalted s.stored (group_step self.old.id s (Call TriggerSnapshot at)) self.new) }
     {
@@ -130,7 +130,7 @@ impl Member {
     ) -> Result<Ended, AllocError>
         ensures id { self.new.id ≡ self.old.id }
         ensures ok { (at : ℕ) (s : GroupState) → IsDown self.old s.stored → IsIdle self.old.id engine.old s → moment ≡ max s.now at → HasMembershipOfApplied s → MayTake self.old.id engine.old s (Call call.now at)
-            → IfOk result (λ ended. HasRun s.stored (group_step self.old.id s (Call call.now at)) stop (left_by ended engine.new self.new) ended) }
+            → RunsTo s.stored (group_step self.old.id s (Call call.now at)) stop engine.new self.new result }
         ensures err { (at : ℕ) (s : GroupState) → IsDown self.old s.stored → IsIdle self.old.id engine.old s → moment ≡ max s.now at → HasMembershipOfApplied s → MayTake self.old.id engine.old s (Call call.now at)
             → OnErr result (HasHalted s.stored (group_step self.old.id s (Call call.now at)) self.new) }
     {
@@ -152,7 +152,7 @@ impl Member {
     ) -> Result<Ended, AllocError>
         ensures id { self.new.id ≡ self.old.id }
         ensures ok { (s : GroupState) → IsDown self.old s.stored → self.old.moment ≡ s.now → IsIdle self.old.id engine.old s → IsLawful self.old.id s
-            → IfOk result (λ ended. HasEnded self.old.id s (Call call.now now) stop (left_by ended engine.new self.new) ended) }
+            → EndsTo self.old.id s (Call call.now now) stop engine.new self.new result }
         ensures err { (s : GroupState) → IsDown self.old s.stored → self.old.moment ≡ s.now → IsIdle self.old.id engine.old s → IsLawful self.old.id s
             → OnErr result (HasStopped self.old.id s (Call call.now now) self.new) }
     {

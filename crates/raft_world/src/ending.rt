@@ -9,7 +9,7 @@ ghost use Rattle.raft_group_step.specs.StepResult.{StepResult};
 ghost use Rattle.raft_conditions.specs.Reason.{reason_of};
 ghost use Rattle.raft_engine.specs.Standing.{IsStateOf};
 ghost use Rattle.raft_world.specs.Member.{HasEnded, IsDown, IsIdle};
-ghost use Rattle.raft_world.specs.Running.{HasHalted, HasRun, IsRun, left_by};
+ghost use Rattle.raft_world.specs.Running.{HasHalted, IsRun, RunsTo, left_by};
 
 use crate::member::{ByteGroup, Ended, Member};
 use raft_conditions::Refusal;
@@ -68,7 +68,7 @@ impl Member {
     ) -> Result<Ended, AllocError>
         ensures id { self.new.id ≡ self.old.id }
         ensures ok { (old : Stored) (r : StepResult) → IsDown self.old old → IsRun self.old.id engine.old old r (option_copied snapshot.entry) moment
-            → IfOk result (λ ended. HasRun old r stop (left_by ended engine.new self.new) ended) }
+            → RunsTo old r stop engine.new self.new result }
         ensures err { (old : Stored) (r : StepResult) → IsDown self.old old → IsRun self.old.id engine.old old r (option_copied snapshot.entry) moment
             → OnErr result (HasHalted old r self.new) }
     {

@@ -1,6 +1,9 @@
 //! The facts of the group at a member, by which its events are judged.
-ghost use Rattle.std.specs.Prelude.{◌≡◌, ◌<◌, ◌^◌};
+ghost use Rattle.std.specs.Prelude.{◌≡◌, ◌<◌, ◌+◌, ◌^◌, ◌++◌, ℕ, nat_eq, nat_lt};
+ghost use Rattle.std.specs.List.{list_all};
 ghost use Rattle.raft_values.specs.LogId.{next_place};
+ghost use Rattle.raft_progress.specs.Parts.{ids_of};
+ghost use Rattle.raft_leaders.specs.Leader.{peer_at};
 ghost use Rattle.raft_group_step.specs.StoredGroup.{end_place};
 ghost use Rattle.raft_group_step.specs.GroupState.{GroupState};
 ghost use Rattle.raft_conditions.specs.Facts.{IsFactsOf};
@@ -13,11 +16,14 @@ use raft_state::{BasicNode, EffectiveMembership, LogId, LogIdOptionExt};
 
 type GroupLeader = Leader<u64, EffectiveMembership<u64, BasicNode>>;
 
-// The greatest number of a next request to a peer; 0 where there is none.
-fn greatest_next_id(leader: &GroupLeader) -> u64 {
+// The greatest number of a next request to a peer, 2^64 - 1 in place of 2^64; 0 where there is none.
+fn greatest_next_id(leader: &GroupLeader) -> u64
+    ensures { (limit : ℕ) → 0 < limit → limit < 2 ^ 64
+        → nat_lt result limit ≡ list_all (λ id. nat_lt ((peer_at nat_eq leader.now id).curr_inflight_id + 1) limit) (ids_of (leader.now.progress.voters ++ leader.now.progress.learners)) }
+{
     let mut greatest = 0;
-    for (id, _) in leader.progress().iter() {
-        let next = leader.peer(id).curr_inflight_id.saturating_add(1);
+    for entry in leader.progress().iter() {
+        let next = leader.peer(&entry.0).curr_inflight_id.saturating_add(1);
         greatest = next.max(greatest);
     }
     greatest

@@ -10,7 +10,7 @@ ghost use Rattle.raft_executor.specs.declared.message.Body.TheVariants.{AppendRe
 ghost use Rattle.raft_group_step.specs.GroupStep.{group_step};
 ghost use Rattle.raft_group_step.specs.Message.{last_sent};
 ghost use Rattle.raft_world.specs.Member.{HasEnded, HasStopped, IsDown, IsIdle, IsLawful, IsUp};
-ghost use Rattle.raft_world.specs.Running.{HasHalted, HasRun, left_by};
+ghost use Rattle.raft_world.specs.Running.{EndsTo, HasHalted, RunsTo};
 ghost use Rattle.raft_world.specs.declared.member.Ended.TheVariants.{Skipped};
 
 use crate::ending::end_refused;
@@ -159,7 +159,7 @@ impl Member {
     ) -> Result<Ended, AllocError>
         ensures id { self.new.id ≡ self.old.id }
         ensures ok { (at : ℕ) (s : GroupState) → IsDown self.old s.stored → moment ≡ max s.now at → MayTake self.old.id engine.old s (received self.old.id message.now.sender (body_of message.now.body) at)
-            → IfOk result (λ ended. HasRun s.stored (group_step self.old.id s (received self.old.id message.now.sender (body_of message.now.body) at)) stop (left_by ended engine.new self.new) ended) }
+            → RunsTo s.stored (group_step self.old.id s (received self.old.id message.now.sender (body_of message.now.body) at)) stop engine.new self.new result }
         ensures err { (at : ℕ) (s : GroupState) → IsDown self.old s.stored → moment ≡ max s.now at → MayTake self.old.id engine.old s (received self.old.id message.now.sender (body_of message.now.body) at)
             → OnErr result (HasHalted s.stored (group_step self.old.id s (received self.old.id message.now.sender (body_of message.now.body) at)) self.new) }
     {
@@ -182,7 +182,7 @@ impl Member {
     ) -> Result<Ended, AllocError>
         ensures id { self.new.id ≡ self.old.id }
         ensures ok { (s : GroupState) → IsDown self.old s.stored → self.old.moment ≡ s.now → IsIdle self.old.id engine.old s → IsLawful self.old.id s
-            → IfOk result (λ ended. HasEnded self.old.id s (Receive message.now.sender (message_of message.now) now) stop (left_by ended engine.new self.new) ended) }
+            → EndsTo self.old.id s (Receive message.now.sender (message_of message.now) now) stop engine.new self.new result }
         ensures err { (s : GroupState) → IsDown self.old s.stored → self.old.moment ≡ s.now → IsIdle self.old.id engine.old s → IsLawful self.old.id s
             → OnErr result (HasStopped self.old.id s (Receive message.now.sender (message_of message.now) now) self.new) }
     {

@@ -137,10 +137,12 @@ impl Member {
         let Some(last) = stale_end(&self.stored) else {
             return self.start(alloc, stop);
         };
-        if stop == Some(0) {
-            return Ok(Ended::Stopped);
-        }
+        let stop_later = match stop {
+            Some(0) => return Ok(Ended::Stopped),
+            Some(count) => Some(count - 1),
+            None => None,
+        };
         self.stored.start_after(last);
-        self.start(alloc, stop.map(|count| count.saturating_sub(1)))
+        self.start(alloc, stop_later)
     }
 }
