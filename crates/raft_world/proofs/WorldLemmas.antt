@@ -1,7 +1,8 @@
 -- What an event leaves in the world.
-use Rattle.std.specs.Prelude.{◌≡◌, ℕ, Bool, true, false, List, [], ◌∷◌, ◌++◌, length, map, slice_get, Option, Some, None, is_some, unwrap_or, Result, Ok, Err, Vec, refl}
+use Rattle.std.specs.Prelude.{◌≡◌, ℕ, Bool, true, false, List, [], ◌∷◌, ◌++◌, length, map, slice_get, Option, Some, None, is_some, unwrap_or, Result, Ok, Err, Vec, slice_set as set, refl}
 use Rattle.std.proofs.Common.{sym, ap, ◌∙◌, subst}
 use Rattle.std.proofs.lemmas.List.{append-nil, map-append}
+use Rattle.std.specs.Vec.{with_item}
 use Rattle.std.specs.declared.alloc.Global.{Global}
 use Rattle.raft_group_step.specs.Message.{Message as Sent}
 use Rattle.raft_group_step.specs.Values.{Membership}
@@ -23,14 +24,16 @@ use Rattle.raft_laws.specs.NodeEvent.{NodeEvent, Comes, Crashes, Restarts, after
 use Rattle.raft_laws.specs.Stop.{stopped_after, unknown_at_stop}
 use Rattle.raft_settled.specs.World.{led_of}
 use Rattle.raft_world.specs.Ending.{BreaksAt, ComesTo, EndsAt, HasConcluded, IsCut, IsEndOf, IsWorldBut, down_of, first_setup, set_up_with}
-use Rattle.raft_world.specs.World.{AreNodes, GoesDown, HasBroken, HasCome, HasHappened, IsMarkOf, IsWorldOf, Stops, addressee_of, node_of}
+use Rattle.raft_world.specs.World.{AreNodes, GoesDown, HasBroken, HasCome, HasHappened, IsMarkOf, IsPlace, IsWorldOf, Stops, addressee_of, node_of}
+use Rattle.raft_world.specs.Member.{IsAt}
+use Rattle.raft_world.specs.declared.member.Ended.{Ended}
 use Rattle.raft_world.specs.declared.member.Ended.TheVariants as end_of
 use Rattle.raft_world.specs.declared.member.Member.{Member}
 use Rattle.raft_world.specs.declared.world.World.{World}
 use Rattle.raft_world.specs.declared.world.Mark.{Mark}
 use Rattle.raft_world.specs.declared.world.Mark.TheVariants as mark
 use Rattle.raft_world.proofs.EndingLemmas.{refused_keeps, stopped_at_end, told_as}
-use Rattle.raft_world.proofs.PlaceLemmas.{nodes_same}
+use Rattle.raft_world.proofs.PlaceLemmas.{nodes_same, nodes_with, still_placed}
 
 -- ---- worlds after events
 
@@ -320,3 +323,72 @@ module _ (w : World) (g : GroupWorld) (e : WorldEvent) (n : ℕ) where
     marked = subst (IsMarkOf made) (sym (became_there g e n at_node there (is_some stop))) h.1;
   }
   concluded at_node stop (Err met) there may h = cut_at at_node stop (g.nodes n) there may refl h
+
+-- ---- the whole way of an event
+
+pub none_first : (known : Option Membership) (e : WorldEvent) → setup_in e ≡ None → None ≡ first_setup known e
+none_first None e is = sym is
+none_first (Some m) e is = refl
+
+module _ (w : World) (g : GroupWorld) (e : WorldEvent) (n place : ℕ) (h : IsWorldOf w g) (at_place : IsPlace w.members.items n place) where
+  -- the world with the member that the event left
+  pub but_came : (new : Member) (state : NodeState) → new.id ≡ n → IsAt new state → IsWorldBut (record w { members = with_item w.members place new }) g n state
+  but_came new state same at = record {
+    nodes = nodes_with w.members.items g.nodes n place new state at_place h.nodes same at;
+    messages = h.messages;
+    setup = h.setup;
+    led = h.led;
+  }
+
+  -- the event ended at its member, and was concluded
+  pub came : {E : Type 0} (last : World) (at_node : NodeEvent) (stop : Option ℕ) (new : Member) (end : Ended) (setup : Option Membership) (r : Result Mark E) → scene_of g e ≡ At n at_node → MayStop at_node → new.id ≡ n
+      → EndsAt n at_node stop (g.nodes n) new end → setup ≡ first_setup g.setup e
+      → ((x : GroupWorld) (event : WorldEvent) (k : ℕ) (o : Outcome) (state : NodeState) → IsPlace (set w.members.items place new) k place → IsWorldBut (record w { members = with_item w.members place new }) x k state
+      → setup ≡ first_setup x.setup event → IsEndOf end o → HasConcluded x event k o state last r)
+      → HasCome g e stop last r
+  came last at_node stop new end setup r there may same ends first done =
+      concluded last g e n at_node stop r there may
+      (done g e n (outcome_at n at_node (is_some stop) (g.nodes n))
+      (state_after n at_node (stop_at (is_stop (outcome_at n at_node (is_some stop) (g.nodes n))) (unwrap_or stop 0)) (g.nodes n))
+      (still_placed w.members.items n place new same at_place)
+      (but_came new (state_after n at_node (stop_at (is_stop (outcome_at n at_node (is_some stop) (g.nodes n))) (unwrap_or stop 0)) (g.nodes n)) same ends.after)
+      first ends.outcome)
+
+  -- the event broke off at its member
+  pub broke : (at_node : NodeEvent) (new : Member) (setup : Option Membership) → scene_of g e ≡ At n at_node → new.id ≡ n → BreaksAt n at_node (g.nodes n) new → setup ≡ first_setup g.setup e
+      → HasBroken g e (record w { members = with_item w.members place new; setup = set_up_with setup w.setup })
+  broke at_node new setup there same b first =
+      broke_there (record w { members = with_item w.members place new }) new g e n at_node setup there b
+      (but_came new (state_after n at_node (Some b.number) (g.nodes n)) same b.after) first
+
+  -- its node went down before it
+  pub went_down : (last : World) → node_of g e ≡ Some n → ((x : GroupWorld) (k : ℕ) (state : NodeState) → IsPlace w.members.items k place → IsWorldBut w x k state → IsWorldBut last x k (down_of state)) → HasBroken g e last
+  went_down last is down = goes_down last g e n is (down g n (g.nodes n) at_place (but_same w g n (g.nodes n) h refl))
+
+-- ---- marks of crashes
+
+pub crash_done : (last : World) (g : GroupWorld) (n : ℕ) (stop : Option ℕ) (m : Member) → IsAt m (g.nodes n) → is_some m.engine ≡ true → IsWorldBut last g n (down_of (g.nodes n)) → HasHappened g (Crash n) stop last mark.Done
+crash_done last g n stop m at up down = record {
+  world = crashed last g n stop down;
+  marked = marked_done (g.nodes n) (is_some stop) at;
+}
+  where
+    marked_done : (state : NodeState) (b : Bool) → IsAt m state → IsMarkOf mark.Done (outcome_at n Crashes b state)
+    marked_done Absent b here = absurd here
+    marked_done (Up s) b here = tt
+    marked_done (Down st) b here = absurd (let no : false ≡ true = sym (ap is_some here.no_engine) ∙ up in cc)
+
+pub crash_skipped : (w : World) (g : GroupWorld) (n : ℕ) (stop : Option ℕ) (m : Member) → IsAt m (g.nodes n) → is_some m.engine ≡ false → IsWorldOf w g → HasHappened g (Crash n) stop w mark.Skipped
+crash_skipped w g n stop m at down h = record {
+  world = crashed w g n stop (but_same w g n (down_of (g.nodes n)) h (stays (g.nodes n) at));
+  marked = marked_skipped (g.nodes n) (is_some stop) at;
+}
+  where
+    stays : (state : NodeState) → IsAt m state → state ≡ down_of state
+    stays Absent here = absurd here
+    stays (Up s) here = absurd (let no : true ≡ false = sym (ap is_some here.has_engine) ∙ down in cc)
+    stays (Down st) here = refl
+    marked_skipped : (state : NodeState) (b : Bool) → IsAt m state → IsMarkOf mark.Skipped (outcome_at n Crashes b state)
+    marked_skipped Absent b here = tt
+    marked_skipped (Up s) b here = absurd (let no : true ≡ false = sym (ap is_some here.has_engine) ∙ down in cc)
+    marked_skipped (Down st) b here = tt

@@ -137,7 +137,7 @@ impl World {
 
     // The group is added at a node, which has it.
     fn add(&mut self, node: u64, stop: Option<u64>) -> Result<Mark, AllocError>
-        ensures { (g : GroupWorld) → IsWorldOf self.old g → HasCome g (Add node) stop self.new result }
+        ensures { (ids : List ℕ) (rs : List Recorded) (g : GroupWorld) → IsGroupHistory ids rs g → IsWorldOf self.old g → HasCome g (Add node) stop self.new result }
     {
         let Some(place) = place_of(self.members.as_slice(), node) else {
             return Ok(Mark::Skipped);
