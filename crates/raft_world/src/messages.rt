@@ -21,7 +21,7 @@ use raft_conditions::{GroupFacts, GroupRequest, Parties, Refusal};
 use raft_engine::{AppendEntriesRequest, Caller, Engine, RequestId};
 use raft_executor::{Body, Message};
 use raft_state::{LogId, Vote};
-use raft_stored_group::{GroupSnapshot, copies_of};
+use raft_stored_group::{GroupEntry, GroupSnapshot, copies_of};
 use std::alloc::{AllocError, Global};
 
 // Why the message is refused, if it is.
@@ -55,13 +55,14 @@ fn message_refusal(facts: &GroupFacts, message: &Message, now: u64) -> Option<Re
 }
 
 // The log id of the last entry of a request, or the one before its entries.
-fn last_sent(request: &GroupRequest) -> Option<LogId<u64>>
-    ensures { result ≡ last_sent request.now.prev_log_id request.now.entries }
+fn last_sent(last: Option<LogId<u64>>, entries: &[GroupEntry]) -> Option<LogId<u64>>
+    ensures { result ≡ last_sent last entries.now }
 {
-    match request.entries.as_slice().last() {
-        Some(entry) => Some(entry.log_id),
-        None => request.prev_log_id,
+    let mut last = last;
+    for entry in entries {
+        last = Some(entry.log_id);
     }
+    last
 }
 
 // A leader's request is handed to the engine.
@@ -81,7 +82,7 @@ fn take_request(
         vote: request.vote,
         id,
         previous: request.prev_log_id,
-        last: last_sent(request),
+        last: last_sent(request.prev_log_id, request.entries.as_slice()),
     };
     let copy = AppendEntriesRequest {
         vote: request.vote,
