@@ -7,8 +7,12 @@ use Rattle.raft_group_step.specs.Values.{has_id}
 use Rattle.raft_group_step.specs.GroupState.{GroupState, no_group, state_of}
 use Rattle.raft_laws.specs.declared.world_event.WorldEvent.{WorldEvent}
 use Rattle.raft_laws.specs.declared.world_event.WorldEvent.TheVariants.{Add}
-use Rattle.raft_laws.specs.GroupWorld.{GroupWorld, NodeState, Absent, Up, Down, Recorded, new_world, state_or, with_node_state}
-use Rattle.raft_laws.specs.GroupRun.{Replays, group_run, history_of, ran}
+use Rattle.raft_group_step.specs.GroupEvent.{AddGroup}
+use Rattle.raft_executor.specs.Sent.{message_of}
+use Rattle.raft_settled.specs.World.{led_of}
+use Rattle.raft_laws.specs.NodeEvent.{Comes, outcome_at, state_after}
+use Rattle.raft_laws.specs.GroupWorld.{GroupWorld, NodeState, Absent, Up, Down, Outcome, Done, Refused, Stopped, Skipped, Recorded, is_stop, new_world, state_or, with_node_state}
+use Rattle.raft_laws.specs.GroupRun.{Replays, group_run, history_of, led_after, ran, sent_in, setup_after, stop_at}
 use Rattle.raft_laws.specs.OneList.{AreNodeIds, IsGroupHistory}
 use Rattle.raft_laws.specs.Settled.{group_list}
 use Rattle.raft_laws.proofs.Committed.{applied_holds}
@@ -120,3 +124,105 @@ record IsQuiet (g : GroupWorld) : Type 0 where
   setup : g.setup ≡ None
   led : g.led ≡ []
   new : (n : ℕ) → IsNew (g.nodes n)
+
+abbrev here_of : ℕ → NodeState → Outcome
+here_of m state = outcome_at m (Comes AddGroup) false state
+
+abbrev left_of : ℕ → NodeState → NodeState
+left_of m state = state_after m (Comes AddGroup) (stop_at (is_stop (here_of m state)) 0) state
+
+abbrev AddsQuietly : ℕ → NodeState → Type 0
+AddsQuietly m state = (left_of m state ≡ added state) × (sent_in (here_of m state) ≡ []) × (led_after (here_of m state) m (left_of m state) ≡ [])
+
+adds_quietly : (m : ℕ) (state : NodeState) → IsNew state → AddsQuietly m state
+adds_quietly m Absent h = (refl, refl, refl)
+adds_quietly m (Up s) (inl e) = subst (λ (x : GroupState). AddsQuietly m (Up x)) (sym e) (refl, refl, refl)
+adds_quietly m (Up s) (inr e) = subst (λ (x : GroupState). AddsQuietly m (Up x)) (sym e) (refl, refl, refl)
+adds_quietly m (Down st) h = absurd h
+
+still_new : (state : NodeState) → IsNew state → IsNew (added state)
+still_new Absent h = tt
+still_new (Up s) h = inr refl
+still_new (Down st) h = absurd h
+
+new_either : (b : Bool) (x y : NodeState) → IsNew x → IsNew y → IsNew (state_or b x y)
+new_either true x y h k = h
+new_either false x y h k = k
+
+no_setup : (m : ℕ) (o : Outcome) → setup_after None (Add m) o ≡ None
+no_setup m (Done sent told unknown) = refl
+no_setup m (Refused why) = refl
+no_setup m (Stopped unknown) = refl
+no_setup m Skipped = refl
+
+module _ (m : ℕ) (g : GroupWorld) (q : IsQuiet g) where
+  quietly : AddsQuietly m (g.nodes m)
+  quietly = adds_quietly m (g.nodes m) (q.new m)
+
+  add_quiet : IsQuiet (ran g (Add m) None)
+  add_quiet = record {
+    messages = ap (λ l. l ++ sent_in (here_of m (g.nodes m))) q.messages ∙ quietly.1;
+    setup = ap (λ k. setup_after k (Add m) (here_of m (g.nodes m))) q.setup ∙ no_setup m (here_of m (g.nodes m));
+    led = ap (λ l. l ++ led_after (here_of m (g.nodes m)) m (left_of m (g.nodes m))) q.led ∙ quietly.2;
+    new = λ n. new_either (n == m) (left_of m (g.nodes m)) (g.nodes n) (subst IsNew (sym quietly.0) (still_new (g.nodes m) (q.new m))) (q.new n);
+  }
+
+  add_nodes : (n : ℕ) → (ran g (Add m) None).nodes n ≡ state_or (n == m) (added (g.nodes m)) (g.nodes n)
+  add_nodes n = ap (λ (x : NodeState). state_or (n == m) x (g.nodes n)) quietly.0
+
+added_twice : (b : Bool) (state : NodeState) → state_or b (added (added state)) (added state) ≡ added state
+added_twice true Absent = refl
+added_twice true (Up s) = refl
+added_twice true (Down st) = refl
+added_twice false state = refl
+
+-- a node that is among the first ones, or among the others
+adds_next : (b c : Bool) (rest : Bool) (here state : NodeState) → b ≡ c → (b ≡ true → here ≡ state)
+    → state_or rest (added (state_or b (added here) state)) (state_or b (added here) state) ≡ state_or (c || rest) (added state) state
+adds_next true true rest here state e same =
+    added_twice rest here ∙ ap added (same refl)
+adds_next true false rest here state e same = absurd (let no : true ≡ false = e in cc)
+adds_next false true rest here state e same = absurd (let no : false ≡ true = e in cc)
+adds_next false false rest here state e same = refl
+
+eq_both : (a b : ℕ) (t : Bool) → (a == b) ≡ t → (b == a) ≡ t
+eq_both a b true e = eq-eqb b a (sym (eqb-true a b e))
+eq_both a b false e = ne_eqb b a (λ is. eqb-false a b e (sym is))
+
+add_all_quiet : (ids : List ℕ) (g : GroupWorld) → IsQuiet g → IsQuiet (group_run (additions ids) g)
+add_all_quiet [] g q = q
+add_all_quiet (m ∷ ids) g q = add_all_quiet ids (ran g (Add m) None) (add_quiet m g q)
+
+add_all_nodes : (ids : List ℕ) (g : GroupWorld) → IsQuiet g → (n : ℕ) → (group_run (additions ids) g).nodes n ≡ state_or (has_id ids n) (added (g.nodes n)) (g.nodes n)
+add_all_nodes [] g q n = refl
+add_all_nodes (m ∷ ids) g q n =
+    add_all_nodes ids (ran g (Add m) None) (add_quiet m g q) n
+    ∙ ap (λ (x : NodeState). state_or (has_id ids n) (added x) x) (add_nodes m g q n)
+    ∙ adds_next (n == m) (m == n) (has_id ids n) (g.nodes m) (g.nodes n) (sym (eq_both n m (n == m) refl)) (λ is. ap g.nodes (sym (eqb-true n m is)))
+
+new_quiet : (ids : List ℕ) → IsQuiet (new_world ids)
+new_quiet ids = record {
+  messages = refl;
+  setup = refl;
+  led = refl;
+  new = λ n. new_either (has_id ids n) (Up (state_of no_group)) Absent (inl refl) tt;
+}
+
+begins_so : (b : Bool) → state_or b (Up begun) Absent ≡ state_or b (added (state_or b (Up (state_of no_group)) Absent)) (state_or b (Up (state_of no_group)) Absent)
+begins_so true = refl
+begins_so false = refl
+
+-- the members that were made are the world that begins
+pub begins : (w : World) (ids : List ℕ) → AreBegun w.members.items ids → w.messages.items ≡ [] → w.setup ≡ None → w.led.items ≡ [] → IsWorldOf w (begun_world ids)
+begins w ids h messages setup led =
+    let q = add_all_quiet ids (new_world ids) (new_quiet ids) in
+    record {
+      nodes = λ n.
+          subst (IsNodeAt (member_of n w.members.items)) (begins_so (has_id ids n) ∙ sym (add_all_nodes ids (new_world ids) (new_quiet ids) n)) (begun_nodes w.members.items ids h n);
+      messages = ap (map message_of) messages ∙ sym q.messages;
+      setup = setup ∙ sym q.setup;
+      led = ap (map led_of) led ∙ sym q.led;
+    }
+
+pub history_begins : (ids : List ℕ) → AreNodeIds ids → IsGroupHistory ids (history_of (additions ids) (new_world ids)) (begun_world ids)
+history_begins ids fit = record { node_ids = fit; replays = run-replays (additions ids) (new_world ids) }

@@ -1,14 +1,15 @@
 -- What an event leaves in the world.
-use Rattle.std.specs.Prelude.{◌≡◌, ℕ, Bool, true, false, List, [], ◌∷◌, ◌++◌, length, map, slice_get, Option, Some, None, is_some, unwrap_or, Result, Ok, Err, Vec, slice_set as set, refl}
+use Rattle.std.specs.Prelude.{◌≡◌, ℕ, Bool, true, false, List, [], ◌∷◌, ◌++◌, length, map, slice_get, Option, Some, None, is_some, unwrap_or, Result, Ok, Err, Vec, slice_set as set, option_map, refl}
 use Rattle.std.proofs.Common.{sym, ap, ◌∙◌, subst}
 use Rattle.std.proofs.lemmas.List.{append-nil, map-append}
+use Rattle.std.proofs.lemmas.Option.{slice_get-map}
 use Rattle.std.specs.Vec.{with_item}
 use Rattle.std.specs.declared.alloc.Global.{Global}
 use Rattle.raft_group_step.specs.Message.{Message as Sent}
 use Rattle.raft_group_step.specs.Values.{Membership}
 use Rattle.raft_group_step.specs.StoredGroup.{StoredGroup}
 use Rattle.raft_group_step.specs.GroupState.{GroupState, Untold, state_of}
-use Rattle.raft_group_step.specs.GroupEvent.{GroupCall, GroupEvent, Open}
+use Rattle.raft_group_step.specs.GroupEvent.{GroupCall, GroupEvent, Call, Receive, Open}
 use Rattle.raft_group_step.specs.GroupStep.{group_step}
 use Rattle.raft_group_step.specs.Refusal.{refusal_of}
 use Rattle.raft_group_step.specs.StepResult.{RefusalReason, StepResult}
@@ -344,7 +345,7 @@ module _ (w : World) (g : GroupWorld) (e : WorldEvent) (n place : ℕ) (h : IsWo
   pub came : {E : Type 0} (last : World) (at_node : NodeEvent) (stop : Option ℕ) (new : Member) (end : Ended) (setup : Option Membership) (r : Result Mark E) → scene_of g e ≡ At n at_node → MayStop at_node → new.id ≡ n
       → EndsAt n at_node stop (g.nodes n) new end → setup ≡ first_setup g.setup e
       → ((x : GroupWorld) (event : WorldEvent) (k : ℕ) (o : Outcome) (state : NodeState) → IsPlace (set w.members.items place new) k place → IsWorldBut (record w { members = with_item w.members place new }) x k state
-      → setup ≡ first_setup x.setup event → IsEndOf end o → HasConcluded x event k o state last r)
+      → setup ≡ first_setup x.setup event → IsEndOf end o → HasConcluded x event k state o last r)
       → HasCome g e stop last r
   came last at_node stop new end setup r there may same ends first done =
       concluded last g e n at_node stop r there may
@@ -392,3 +393,47 @@ crash_skipped w g n stop m at down h = record {
     marked_skipped Absent b here = tt
     marked_skipped (Up s) b here = absurd (let no : true ≡ false = sym (ap is_some here.has_engine) ∙ down in cc)
     marked_skipped (Down st) b here = tt
+
+-- ---- nodes that go down before an event
+
+-- there is no node that the event comes to
+nowhere_of : (g : GroupWorld) (e : WorldEvent) → node_of g e ≡ None → scene_of g e ≡ Nowhere
+nowhere_of g (Add m) is = absurd (let no : Some m ≡ None = is in cc)
+nowhere_of g (Ask m call now) is = absurd (let no : Some m ≡ None = is in cc)
+nowhere_of g (Deliver number now) is = undelivered (slice_get g.messages number) is
+  where
+    undelivered : (o : Option Sent) → addressee_of o ≡ None → scene_of_delivery o now ≡ Nowhere
+    undelivered None is = refl
+    undelivered (Some m) is = absurd (let no : Some m.addressee ≡ None = is in cc)
+nowhere_of g (Crash m) is = absurd (let no : Some m ≡ None = is in cc)
+nowhere_of g (Restart m) is = absurd (let no : Some m ≡ None = is in cc)
+
+pub broke_nowhere : (w : World) (g : GroupWorld) (e : WorldEvent) → node_of g e ≡ None → IsWorldOf w g → HasBroken g e w
+broke_nowhere w g e is h = record { break = Stops 0; world = nowhere w g e (Some 0) (nowhere_of g e is) h }
+
+pub broke_crashed : (w : World) (g : GroupWorld) (e : WorldEvent) (n : ℕ) (made : Mark) → node_of g e ≡ Some n → HasHappened g (Crash n) None w made → HasBroken g e w
+broke_crashed w g e n made is h = record { break = GoesDown n is; world = h.world }
+
+-- ---- scenes
+
+pub scene_asked : (g : GroupWorld) (w : World) (b : Bool) (n : ℕ) (call : GroupCall) (now : ℕ) → IsWorldOf w g → b ≡ is_same_setup w.setup (setup_in_call call) → b ≡ true → scene_of g (Ask n call now) ≡ At n (Comes (Call call now))
+scene_asked g w b n call now h is yes =
+    ap (λ x. scene_of_call x n call now) (ap (λ o. is_same_setup o (setup_in_call call)) (sym h.setup) ∙ sym is ∙ yes)
+
+pub scene_refused : (g : GroupWorld) (w : World) (b : Bool) (n : ℕ) (call : GroupCall) (now : ℕ) → IsWorldOf w g → b ≡ is_same_setup w.setup (setup_in_call call) → b ≡ false → scene_of g (Ask n call now) ≡ Nowhere
+scene_refused g w b n call now h is no =
+    ap (λ x. scene_of_call x n call now) (ap (λ o. is_same_setup o (setup_in_call call)) (sym h.setup) ∙ sym is ∙ no)
+
+pub scene_delivered : (g : GroupWorld) (w : World) (number now : ℕ) (m : SentMessage) → IsWorldOf w g → slice_get w.messages.items number ≡ Some m
+    → scene_of g (Deliver number now) ≡ At m.addressee (Comes (Receive m.sender (message_of m) now))
+scene_delivered g w number now m h is =
+    ap (λ o. scene_of_delivery o now)
+    (ap (λ l. slice_get l number) (sym h.messages) ∙ slice_get-map message_of w.messages.items number ∙ ap (option_map message_of) is)
+
+pub scene_lost : (g : GroupWorld) (w : World) (number now : ℕ) → IsWorldOf w g → slice_get w.messages.items number ≡ None → scene_of g (Deliver number now) ≡ Nowhere
+scene_lost g w number now h is =
+    ap (λ o. scene_of_delivery o now)
+    (ap (λ l. slice_get l number) (sym h.messages) ∙ slice_get-map message_of w.messages.items number ∙ ap (option_map message_of) is)
+
+pub known_first : (known other : Option Membership) (e : WorldEvent) (o : Option Membership) → known ≡ other → o ≡ first_setup known e → o ≡ first_setup other e
+known_first known other e o same is = is ∙ ap (λ k. first_setup k e) same

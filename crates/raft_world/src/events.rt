@@ -193,8 +193,10 @@ impl World {
         let Some(place) = place_of(self.members.as_slice(), message.addressee) else {
             return Ok(Mark::Skipped);
         };
-        let ended = self.members[place].receive(self.alloc, message, now, stop)?;
-        self.conclude(place, None, ended)
+        match self.members[place].receive(self.alloc, message, now, stop) {
+            Ok(ended) => self.conclude(place, None, ended),
+            Err(refused) => Err(refused),
+        }
     }
 
     // A node goes down.
@@ -218,8 +220,10 @@ impl World {
         let Some(place) = place_of(self.members.as_slice(), node) else {
             return Ok(Mark::Skipped);
         };
-        let ended = self.members[place].open(self.alloc, stop)?;
-        self.conclude(place, None, ended)
+        match self.members[place].open(self.alloc, stop) {
+            Ok(ended) => self.conclude(place, None, ended),
+            Err(refused) => Err(refused),
+        }
     }
 
     // The node that an event comes to, where its message was sent.
