@@ -1,7 +1,9 @@
 -- Runs of a world: how it begins, and what holds however far its events were run.
-use Rattle.std.specs.Prelude.{◌≡◌, ◌⊎◌, ◌==◌, ℕ, suc, ◌+◌, ◌<◌, Bool, true, false, List, [], ◌∷◌, ◌++◌, ◌||◌, map, take, length, slice_get, Option, Some, None, is_some, unwrap_or, refl}
+use Rattle.std.specs.Prelude.{◌≡◌, ◌⊎◌, ◌==◌, ℕ, suc, ◌+◌, ◌<◌, Bool, true, false, List, [], ◌∷◌, ◌++◌, ◌||◌, map, take, length, slice_get, Option, Some, None, Vec, refl}
 use Rattle.std.proofs.Common.{sym, ap, ◌∙◌, subst, inl, inr, append_assoc, cond}
-use Rattle.std.proofs.lemmas.List.{append-nil}
+use Rattle.std.proofs.lemmas.List.{append-nil, map-append, take_all, take_more}
+use Rattle.std.specs.List.{slice_index_or as get_or}
+use Rattle.std.specs.declared.alloc.Global.{Global}
 use Rattle.std.proofs.lemmas.Bool.{eqb-true, eqb-false, eq-eqb, ne_eqb}
 use Rattle.raft_group_step.specs.Values.{has_id}
 use Rattle.raft_group_step.specs.GroupState.{GroupState, no_group, state_of}
@@ -23,6 +25,7 @@ use Rattle.raft_laws.proofs.WorldStart.{founded}
 use Rattle.raft_world.specs.Member.{IsUp}
 use Rattle.raft_world.specs.World.{AreNodes, All, Broke, HasBroken, HasRunEvents, IsNodeAt, IsWorldOf, RunEnd, additions, begun_world, last_of, member_of, planned_of, rest_of}
 use Rattle.raft_world.specs.declared.member.Member.{Member}
+use Rattle.raft_world.specs.declared.world.Mark.{Mark}
 use Rattle.raft_world.specs.declared.world.World.{World}
 use Rattle.raft_world.specs.declared.world.PlannedEvent.{PlannedEvent}
 
@@ -226,3 +229,37 @@ begins w ids h messages setup led =
 
 pub history_begins : (ids : List ℕ) → AreNodeIds ids → IsGroupHistory ids (history_of (additions ids) (new_world ids)) (begun_world ids)
 history_begins ids fit = record { node_ids = fit; replays = run-replays (additions ids) (new_world ids) }
+
+-- ---- loops
+
+-- one more event
+pub run_more : (events : List PlannedEvent) (i : ℕ) (e : PlannedEvent) (g : GroupWorld) → i < length events → e ≡ get_or events i e
+    → group_run (map planned_of (take (i + 1) events)) g ≡ ran (group_run (map planned_of (take i events)) g) e.event e.stop
+run_more events i e g low is =
+    ap (λ es. group_run (map planned_of es) g) (take_more events i e low ∙ ap (λ x. take i events ++ (x ∷ [])) (sym is))
+    ∙ ap (λ es. group_run es g) (map-append planned_of (take i events) (e ∷ []))
+    ∙ run_both (map planned_of (take i events)) (planned_of e ∷ []) g
+
+-- one more member
+pub begun_next : (ms : List Member) (ids : List ℕ) (i : ℕ) (m : Member) (n : ℕ) → AreBegun ms (take i ids) → i < length ids → n ≡ get_or ids i n → m.id ≡ n → IsUp m begun → AreBegun (ms ++ (m ∷ [])) (take (i + 1) ids)
+begun_next ms ids i m n h low is same up =
+    subst (AreBegun (ms ++ (m ∷ []))) (sym (take_more ids i n low ∙ ap (λ x. take i ids ++ (x ∷ [])) (sym is)))
+    (begun_more ms (take i ids) m n h same up)
+
+pub begun_all : (ms : List Member) (ids : List ℕ) (i : ℕ) → i ≡ length ids → AreBegun ms (take i ids) → AreBegun ms ids
+begun_all ms ids i is h = subst (AreBegun ms) (ap (λ k. take k ids) is ∙ take_all ids) h
+
+-- marks say nothing of the world
+pub with_marks : (w : World) (g : GroupWorld) (marks : Vec Mark Global) → IsWorldOf w g → IsWorldOf (record w { marks = marks }) g
+with_marks w g marks h = record { nodes = h.nodes; messages = h.messages; setup = h.setup; led = h.led }
+
+pub run_with_marks : (ids : List ℕ) (rs : List Recorded) (g : GroupWorld) (events : List PlannedEvent) (count : ℕ) (w : World) (marks : Vec Mark Global) → HasRunEvents ids rs g events count w
+    → HasRunEvents ids rs g events count (record w { marks = marks })
+run_with_marks ids rs g events count w marks h = record {
+  end = h.end;
+  world = with_marks w _ marks h.world;
+  history = h.history;
+  one_list = h.one_list;
+  grows = h.grows;
+  applied = h.applied;
+}
