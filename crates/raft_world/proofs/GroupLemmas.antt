@@ -1,6 +1,6 @@
 -- Runs of a world: how it begins, and what holds however far its events were run.
-use Rattle.std.specs.Prelude.{◌≡◌, ◌⊎◌, ◌==◌, ℕ, suc, ◌+◌, ◌<◌, Bool, true, false, List, [], ◌∷◌, ◌++◌, ◌||◌, map, take, length, slice_get, Option, Some, None, Vec, refl}
-use Rattle.std.proofs.Common.{sym, ap, ◌∙◌, subst, inl, inr, append_assoc, cond}
+use Rattle.std.specs.Prelude.{◌≡◌, ◌⊎◌, ◌==◌, ℕ, suc, ◌+◌, ◌<◌, ◌≤◌, ◌^◌, IsTrue, Bool, true, false, List, [], ◌∷◌, ◌++◌, ◌||◌, map, take, length, slice_get, Option, Some, None, Vec, refl}
+use Rattle.std.proofs.Common.{sym, ap, ◌∙◌, subst, inl, inr, cond, arith}
 use Rattle.std.proofs.lemmas.List.{append-nil, map-append, take_all, take_more}
 use Rattle.std.specs.List.{slice_index_or as get_or}
 use Rattle.std.specs.declared.alloc.Global.{Global}
@@ -241,13 +241,22 @@ run_more events i e g low is =
     ∙ run_both (map planned_of (take i events)) (planned_of e ∷ []) g
 
 -- one more member
-pub begun_next : (ms : List Member) (ids : List ℕ) (i : ℕ) (m : Member) (n : ℕ) → AreBegun ms (take i ids) → i < length ids → n ≡ get_or ids i n → m.id ≡ n → IsUp m begun → AreBegun (ms ++ (m ∷ [])) (take (i + 1) ids)
-begun_next ms ids i m n h low is same up =
-    subst (AreBegun (ms ++ (m ∷ []))) (sym (take_more ids i n low ∙ ap (λ x. take i ids ++ (x ∷ [])) (sym is)))
-    (begun_more ms (take i ids) m n h same up)
+pub begun_next : (ms : List Member) (ids : List ℕ) (i : ℕ) (m : Member) → AreBegun ms (take i ids) → i < length ids → m.id ≡ get_or ids i 0 → IsUp m begun → AreBegun (ms ++ (m ∷ [])) (take (i + 1) ids)
+begun_next ms ids i m h low same up =
+    subst (AreBegun (ms ++ (m ∷ []))) (sym (take_more ids i 0 low)) (begun_more ms (take i ids) m (get_or ids i 0) h same up)
 
-pub begun_all : (ms : List Member) (ids : List ℕ) (i : ℕ) → i ≡ length ids → AreBegun ms (take i ids) → AreBegun ms ids
-begun_all ms ids i is h = subst (AreBegun ms) (ap (λ k. take k ids) is ∙ take_all ids) h
+pub begun_all : (ms : List Member) (ids : List ℕ) (i : ℕ) → length ids ≤ i → AreBegun ms (take i ids) → AreBegun ms ids
+begun_all ms ids i all h = subst (AreBegun ms) (take_all i ids all) h
+
+-- ids of 64 bits
+fit_step : (m n : ℕ) (b rest : Bool) → (m == n) ≡ b → m < 2 ^ 64 → (IsTrue rest → n < 2 ^ 64) → IsTrue (b || rest) → n < 2 ^ 64
+fit_step m n true rest is low next has = subst (λ k. k < 2 ^ 64) (eqb-true m n is) low
+fit_step m n false rest is low next has = next has
+
+pub ids_fit : (ids : List ℕ) → ((k : ℕ) → k < length ids → get_or ids k 0 < 2 ^ 64) → AreNodeIds ids
+ids_fit [] h n has = absurd (let no : false ≡ true = has in cc)
+ids_fit (m ∷ ids) h n has =
+    fit_step m n (m == n) (has_id ids n) refl (h 0 (omega arith)) (ids_fit ids (λ k low. h (suc k) (omega arith)) n) has
 
 -- marks say nothing of the world
 pub with_marks : (w : World) (g : GroupWorld) (marks : Vec Mark Global) → IsWorldOf w g → IsWorldOf (record w { marks = marks }) g

@@ -1,5 +1,5 @@
 -- Members by their places.
-use Rattle.std.specs.Prelude.{◌≡◌, ◌==◌, ◌<◌, ◌+◌, ℕ, zero, suc, Bool, true, false, List, [], ◌∷◌, length, slice_set as set, Option, Some, None, IfSome, refl}
+use Rattle.std.specs.Prelude.{◌≡◌, ◌==◌, ◌<◌, ◌+◌, ℕ, zero, suc, Bool, true, false, List, [], ◌∷◌, length, slice_get, slice_set as set, Option, Some, None, IfSome, refl}
 use Rattle.std.specs.List.{find, position_from, slice_index_or as get_or}
 use Rattle.std.proofs.Common.{sym, ap, ◌∙◌, subst, arith, cond}
 use Rattle.std.proofs.lemmas.Bool.{eq-eqb, ne_eqb, eqb-true, eqb-false}
@@ -58,6 +58,11 @@ pub found : (ms : List Member) (id place : ℕ) (d : Member) → IsPlace ms id p
 found [] id place d h = absurd h
 found (m ∷ ms) id zero d h = ap (λ b. cond b (Some m) (member_of id ms)) (eq-eqb m.id id h)
 found (m ∷ ms) id (suc place) d h = ap (λ b. cond b (Some m) (member_of id ms)) (ne_eqb m.id id h.0) ∙ found ms id place d h.1
+
+pub found_get : (ms : List Member) (id place : ℕ) → IsPlace ms id place → slice_get ms place ≡ member_of id ms
+found_get [] id place h = absurd h
+found_get (m ∷ ms) id zero h = sym (ap (λ b. cond b (Some m) (member_of id ms)) (eq-eqb m.id id h))
+found_get (m ∷ ms) id (suc place) h = found_get ms id place h.1 ∙ sym (ap (λ b. cond b (Some m) (member_of id ms)) (ne_eqb m.id id h.0))
 
 -- ---- a member in its place
 

@@ -417,12 +417,12 @@ broke_crashed w g e n made is h = record { break = GoesDown n is; world = h.worl
 -- ---- scenes
 
 pub scene_asked : (g : GroupWorld) (w : World) (b : Bool) (n : ℕ) (call : GroupCall) (now : ℕ) → IsWorldOf w g → b ≡ is_same_setup w.setup (setup_in_call call) → b ≡ true → scene_of g (Ask n call now) ≡ At n (Comes (Call call now))
-scene_asked g w b n call now h is yes =
-    ap (λ x. scene_of_call x n call now) (ap (λ o. is_same_setup o (setup_in_call call)) (sym h.setup) ∙ sym is ∙ yes)
+scene_asked g w b n call now h is same =
+    ap (λ x. scene_of_call x n call now) (ap (λ o. is_same_setup o (setup_in_call call)) (sym h.setup) ∙ sym is ∙ same)
 
 pub scene_refused : (g : GroupWorld) (w : World) (b : Bool) (n : ℕ) (call : GroupCall) (now : ℕ) → IsWorldOf w g → b ≡ is_same_setup w.setup (setup_in_call call) → b ≡ false → scene_of g (Ask n call now) ≡ Nowhere
-scene_refused g w b n call now h is no =
-    ap (λ x. scene_of_call x n call now) (ap (λ o. is_same_setup o (setup_in_call call)) (sym h.setup) ∙ sym is ∙ no)
+scene_refused g w b n call now h is other =
+    ap (λ x. scene_of_call x n call now) (ap (λ o. is_same_setup o (setup_in_call call)) (sym h.setup) ∙ sym is ∙ other)
 
 pub scene_delivered : (g : GroupWorld) (w : World) (number now : ℕ) (m : SentMessage) → IsWorldOf w g → slice_get w.messages.items number ≡ Some m
     → scene_of g (Deliver number now) ≡ At m.addressee (Comes (Receive m.sender (message_of m) now))
