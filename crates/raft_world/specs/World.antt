@@ -1,5 +1,6 @@
 -- Which world of a group a `World` is, and what its events leave.
-use Rattle.std.specs.Prelude.{◌≡◌, ◌==◌, ℕ, List, [], ◌∷◌, ◌++◌, map, take, length, slice_get, find, Option, Some, None, is_some}
+use Rattle.std.specs.Prelude.{◌≡◌, ◌==◌, ℕ, zero, suc, List, [], ◌∷◌, ◌++◌, map, take, length, slice_get, Option, Some, None, is_some, Result, Ok, Err}
+use Rattle.std.specs.List.{find}
 use Rattle.raft_group_step.specs.Message.{Message as Sent}
 use Rattle.raft_group_step.specs.StoredGroup.{Holds}
 use Rattle.raft_group_step.specs.GroupState.{GroupState}
@@ -33,6 +34,17 @@ IsNodeAt (Some m) state = IsAt m state
 abbrev pub AreNodes : List Member → (ℕ → NodeState) → Type 0
 AreNodes members nodes = (n : ℕ) → IsNodeAt (member_of n members) (nodes n)
 
+-- the first member with the id stands at this place
+abbrev pub IsPlace : List Member → ℕ → ℕ → Type 0
+IsPlace [] id place = ⊥
+IsPlace (m ∷ ms) id zero = m.id ≡ id
+IsPlace (m ∷ ms) id (suc place) = (m.id ≡ id → ⊥) × IsPlace ms id place
+
+-- the place of the first member with the id, if there is one
+abbrev pub IsPlaceOf : List Member → ℕ → Option ℕ → Type 0
+IsPlaceOf members id None = member_of id members ≡ None
+IsPlaceOf members id (Some place) = IsPlace members id place
+
 -- it is this world
 pub record IsWorldOf (w : World) (g : GroupWorld) : Type 0 where
   pub nodes : AreNodes w.members.items g.nodes
@@ -64,9 +76,9 @@ abbrev pub planned_of : PlannedEvent → WorldEvent × Option ℕ
 planned_of e = (e.event, e.stop)
 
 -- the event happened, and the mark says what became of it
-pub record HasHappened (g : GroupWorld) (e : PlannedEvent) (w : World) (mark : Mark) : Type 0 where
-  pub world : IsWorldOf w (ran g e.event e.stop)
-  pub marked : IsMarkOf mark (outcome_of g e.event (is_some e.stop))
+pub record HasHappened (g : GroupWorld) (e : WorldEvent) (stop : Option ℕ) (w : World) (mark : Mark) : Type 0 where
+  pub world : IsWorldOf w (ran g e stop)
+  pub marked : IsMarkOf mark (outcome_of g e (is_some stop))
 
 -- the node that an event comes to
 abbrev pub addressee_of : Option Sent → Option ℕ
@@ -91,9 +103,14 @@ last_of g e (Stops number) = (e, Some number)
 last_of g e (GoesDown n is_there) = (Crash n, None)
 
 -- the event broke off
-pub record HasBroken (g : GroupWorld) (e : PlannedEvent) (w : World) : Type 0 where
-  pub break : BreakOf g e.event
-  pub world : IsWorldOf w (ran g (last_of g e.event break).0 (last_of g e.event break).1)
+pub record HasBroken (g : GroupWorld) (e : WorldEvent) (w : World) : Type 0 where
+  pub break : BreakOf g e
+  pub world : IsWorldOf w (ran g (last_of g e break).0 (last_of g e break).1)
+
+-- the event happened, or broke off where it met want of memory
+abbrev pub HasCome : {E : Type 0} → GroupWorld → WorldEvent → Option ℕ → World → Result Mark E → Type 0
+HasCome g e stop w (Ok mark) = HasHappened g e stop w mark
+HasCome g e stop w (Err met) = HasBroken g e w
 
 -- the last event that was begun, where not all were run
 pub data RunEnd (events : List PlannedEvent) (count : ℕ) (g : GroupWorld) : Type 0 where

@@ -1,10 +1,11 @@
 //! A world of one group: its members, and what they sent.
-ghost use Rattle.std.specs.Prelude.{◌≡◌, List, ℕ, IfOk, OnErr, [], option_map};
+ghost use Rattle.std.specs.Prelude.{◌≡◌, List, ℕ, IfOk, OnOk, OnErr};
 ghost use Rattle.std.specs.Option.{option_copied};
-ghost use Rattle.raft_laws.specs.GroupWorld.{GroupWorld, Recorded};
+ghost use Rattle.raft_laws.specs.GroupWorld.{GroupWorld, Recorded, new_world};
+ghost use Rattle.raft_laws.specs.GroupRun.{history_of, ran};
 ghost use Rattle.raft_laws.specs.OneList.{AreNodeIds, IsGroupHistory};
 ghost use Rattle.raft_laws.specs.Settled.{group_list};
-ghost use Rattle.raft_world.specs.World.{HasBroken, HasHappened, HasRunEvents, IsWorldOf, begun_world, member_of};
+ghost use Rattle.raft_world.specs.World.{HasBroken, HasRunEvents, IsWorldOf, additions, begun_world, member_of};
 
 use crate::member::Member;
 use crate::places::place_of;
@@ -15,6 +16,7 @@ use raft_settled::{LedNote, group_list};
 use raft_state::{BasicNode, Membership};
 use raft_stored_group::GroupEntry;
 use std::alloc::{AllocError, Global};
+use std::mem;
 
 /// An event, and the number of storing commands after which it is to stop, if it is (own).
 #[derive(Debug, Drop)]
@@ -56,7 +58,7 @@ impl World {
     /// memory alone.
     pub fn new(alloc: Global, ids: &[u64]) -> Result<World, AllocError>
         ensures world { IfOk result (λ w. IsWorldOf w (begun_world ids.now)) }
-        ensures history { (rs : List Recorded) → IsGroupHistory ids.now (begun_history ids.now) (begun_world ids.now) }
+        ensures history { IsGroupHistory ids.now (history_of (additions ids.now) (new_world ids.now)) (begun_world ids.now) }
     {
         let mut world = World {
             alloc,
@@ -73,17 +75,36 @@ impl World {
     }
 
     // One event, and its mark.
-    fn happen(&mut self, planned: &PlannedEvent) -> Result<(), AllocError>
-        ensures { (ids : List ℕ) (rs : List Recorded) (g : GroupWorld) → IsGroupHistory ids rs g → IsWorldOf self.old g
-            → OnOk result (IsWorldOf self.new (ran g planned.now.event planned.now.stop)) × OnErr result (HasBroken g planned.now self.new) }
+    fn happen(
+        &mut self,
+        planned: &PlannedEvent,
+        marks: &mut Vec<Mark>,
+    ) -> Result<(), AllocError>
+        ensures ok { (ids : List ℕ) (rs : List Recorded) (g : GroupWorld) → IsGroupHistory ids rs g → IsWorldOf self.old g
+            → OnOk result (IsWorldOf self.new (ran g planned.now.event planned.now.stop)) }
+        ensures err { (ids : List ℕ) (rs : List Recorded) (g : GroupWorld) → IsGroupHistory ids rs g → IsWorldOf self.old g
+            → OnErr result (HasBroken g planned.now.event self.new) }
     {
-        if let Err(refused) = self.marks.reserve(1) {
+        if let Err(refused) = marks.reserve(1) {
             self.stop_node_of(&planned.event);
             return Err(refused);
         }
         let mark = self.event(planned)?;
-        self.marks.push(mark)?;
+        marks.push_reserved(mark);
         Ok(())
+    }
+
+    // The events in their order, with their marks.
+    fn run_marked(&mut self, events: &[PlannedEvent], marks: &mut Vec<Mark>) -> usize
+        ensures { (ids : List ℕ) (rs : List Recorded) (g : GroupWorld) → IsGroupHistory ids rs g → IsWorldOf self.old g
+            → HasRunEvents ids rs g events.now result self.new }
+    {
+        for (i, planned) in events.iter().enumerate() {
+            let Ok(()) = self.happen(planned, marks) else {
+                return i;
+            };
+        }
+        events.len()
     }
 
     /// Runs the events in their order, and says how many (own). Fewer than all only for want of
@@ -92,12 +113,10 @@ impl World {
         ensures { (ids : List ℕ) (rs : List Recorded) (g : GroupWorld) → IsGroupHistory ids rs g → IsWorldOf self.old g
             → HasRunEvents ids rs g events.now result self.new }
     {
-        for (i, planned) in events.iter().enumerate() {
-            if self.happen(planned).is_err() {
-                return i;
-            }
-        }
-        events.len()
+        let mut marks = mem::replace(&mut self.marks, Vec::new(self.alloc));
+        let count = self.run_marked(events, &mut marks);
+        self.marks = marks;
+        count
     }
 
     /// The group's one list (own): the entries that are settled, by place. It is a copy, and fails

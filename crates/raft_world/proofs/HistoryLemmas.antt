@@ -1,0 +1,96 @@
+-- What every history of a group has, as members ask it of their states.
+use Rattle.std.specs.Prelude.{◌≡◌, ℕ, zero, suc, ◌+◌, ◌≤◌, ◌<◌, ◌^◌, Bool, true, false, List, [], ◌∷◌, filter, length, slice_get, Option, Some, None, refl}
+use Rattle.std.proofs.Common.{sym, ap, ◌∙◌, subst, arith, cond}
+use Rattle.raft_values.specs.declared.log_id.LogId.{LogId}
+use Rattle.raft_values.specs.LogId.{next_place}
+use Rattle.raft_group_step.specs.Values.{Entry}
+use Rattle.raft_group_step.specs.StoredGroup.{StoredGroup, Snapshot, first_place, membership_in_force, snapshot_last}
+use Rattle.raft_group_step.specs.GroupState.{GroupState, state_of}
+use Rattle.raft_group_step.specs.Lead.{ids_of, other_ids}
+use Rattle.raft_group_step.specs.StepResult.{StepResult, unchanged}
+use Rattle.raft_group_step.specs.Opening.{drop_stale_log, is_joined_to}
+use Rattle.raft_known_state.specs.KnownState.{ArePlaced}
+use Rattle.raft_engine.specs.Events.{IsReady}
+use Rattle.raft_laws.specs.GroupWorld.{GroupWorld, Up, Down, Recorded}
+use Rattle.raft_laws.specs.OneList.{IsGroupHistory}
+use Rattle.raft_laws.specs.Opened.{IsInOrder, opened}
+use Rattle.raft_laws.specs.VotesRise.{stored_of}
+use Rattle.raft_laws.proofs.FewMembers.{members_few}
+use Rattle.raft_laws.proofs.LowPlaces.{places_low}
+use Rattle.raft_laws.proofs.OpenedStates.{opened_in_order, opened_keeps, opened_low}
+use Rattle.raft_laws.proofs.ReadyStates.{purge_of_up_node, snapshot_ready, wish_covered}
+use Rattle.raft_laws.proofs.StepWords.{either}
+use Rattle.raft_world.specs.Member.{IsLawful}
+use Rattle.raft_world.specs.Opening.{IsOpenable}
+
+-- ---- few members
+
+one_more : (b : Bool) (x : ℕ) (xs : List ℕ) (k : ℕ) → length xs ≤ k → length (cond b (x ∷ xs) xs) ≤ suc k
+one_more true x xs k h = omega arith
+one_more false x xs k h = omega arith
+
+filter_short : (p : ℕ → Bool) (xs : List ℕ) → length (filter p xs) ≤ length xs
+filter_short p [] = omega arith
+filter_short p (x ∷ xs) = one_more (p x) x (filter p xs) (length xs) (filter_short p xs)
+
+others_few : (own : ℕ) (st : StoredGroup) → length (ids_of (membership_in_force st)) ≤ 128 → length (other_ids own st) ≤ 2 ^ 62
+others_few own st few =
+    let fewer : length (other_ids own st) ≤ length (ids_of (membership_in_force st)) = filter_short _ (ids_of (membership_in_force st)) in
+    omega arith
+
+-- ---- nodes that are up
+
+pub lawful_at : (ids : List ℕ) (rs : List Recorded) (g : GroupWorld) → IsGroupHistory ids rs g → (n : ℕ) (s : GroupState) → g.nodes n ≡ Up s → IsLawful n s
+lawful_at ids rs g h n s is = record {
+  ready = record {
+    places = places_low ids rs g h n s.stored (ap stored_of is);
+    members = others_few n s.stored (members_few ids rs g h n s.stored (ap stored_of is));
+    wish = wish_covered ids rs g h n s is;
+    purges = λ place below. record { within = below; members = purge_of_up_node ids rs g h n s is place below };
+  };
+  snapshots = snapshot_ready ids rs g h n s is;
+}
+
+-- ---- nodes that are down
+
+placed_on : (es : List Entry) (start : ℕ) → ((i : ℕ) (e : Entry) → slice_get es i ≡ Some e → e.log_id.index ≡ start + i) → ArePlaced start es
+placed_on [] start h = tt
+placed_on (x ∷ xs) start h = (
+  let first : x.log_id.index ≡ start + 0 = h 0 x refl in omega arith,
+  placed_on xs (suc start) (λ i e is. let next : e.log_id.index ≡ start + suc i = h (suc i) e is in omega arith),
+)
+
+opening_keeps_snapshot : (st : StoredGroup) (o : Option (LogId ℕ)) → (drop_stale_log o (unchanged (state_of st))).state.stored.snapshot ≡ st.snapshot
+opening_keeps_snapshot st None = refl
+opening_keeps_snapshot st (Some last) = either (λ (r : StepResult). r.state.stored.snapshot ≡ st.snapshot) (is_joined_to st last) _ _ refl refl
+
+opening_has_no_wish : (st : StoredGroup) (o : Option (LogId ℕ)) → (drop_stale_log o (unchanged (state_of st))).state.wish ≡ None
+opening_has_no_wish st None = refl
+opening_has_no_wish st (Some last) = either (λ (r : StepResult). r.state.wish ≡ None) (is_joined_to st last) _ _ refl refl
+
+same_last : (a b : StoredGroup) → a.snapshot ≡ b.snapshot → snapshot_last a ≡ snapshot_last b
+same_last a b same = ap (λ (o : Option Snapshot). snapshot_last (record a { snapshot = o })) same
+
+no_wish : {P : Type 0} (o : Option ℕ) (place : ℕ) → o ≡ None → o ≡ Some place → P
+no_wish o place none is = absurd (let no : None ≡ Some place = sym none ∙ is in cc)
+
+pub openable_at : (ids : List ℕ) (rs : List Recorded) (g : GroupWorld) → IsGroupHistory ids rs g → (n : ℕ) (st : StoredGroup) → g.nodes n ≡ Down st → IsOpenable n st
+openable_at ids rs g h n st is =
+    let now = (opened st).state.stored in
+    let order = opened_in_order ids rs g h n st is in
+    let last_is : snapshot_last now ≡ snapshot_last st = same_last now st (opening_keeps_snapshot st (snapshot_last st)) in
+    record {
+      placed = placed_on now.log (first_place now) order.placed;
+      purged = order.covered;
+      snapshot = λ last e. order.joined last (last_is ∙ e);
+      reaches = order.reaches;
+      ready = record {
+        places = opened_low ids rs g h n st is;
+        members = others_few n now order.members;
+        wish = λ place e. no_wish _ place (opening_has_no_wish st (snapshot_last st)) e;
+        purges = λ place below. record {
+          within = below;
+          members = opened_keeps ids rs g h n st is place (subst (λ o. place < next_place o) last_is below);
+        };
+      };
+    }

@@ -1,0 +1,23 @@
+use Rattle.std.specs.Prelude.{◌++◌, map, take}
+use Rattle.std.proofs.Common.{refl, sym, ◌∙◌, subst, arith}
+use Rattle.std.proofs.lemmas.Option.{slice_get_read}
+use Rattle.raft_laws.specs.GroupRun.{group_run, history_of}
+use Rattle.raft_world.specs.World.{IsWorldOf, planned_of}
+use Rattle.raft_world.proofs.GroupLemmas.{history_after, run_all, run_broke, run_more}
+use Rattle.raft_world.proofs.world.World.run_marked.Goals as goal
+
+pub loop-i-preserved : goal.loop-i-preserved
+loop-i-preserved c = λ ids rs g history h.
+    let events = c.args.events.now in
+    let i = c.loop-i.i in
+    let es = map planned_of (take i events) in
+    subst (IsWorldOf c.happen.new.self) (sym (run_more events i c.planned-item.result g (omega arith) c.planned-item.is))
+    (c.in-Ok.ensures.ok ids (rs ++ history_of es g) (group_run es g) (history_after ids rs g es history) (c.loop-i.invariant ids rs g history h))
+
+pub returns-in_default : goal.returns-in_default
+returns-in_default c = λ ids rs g history h.
+    let events = c.args.events.now in
+    let i = c.loop-i.i in
+    let es = map planned_of (take i events) in
+    run_broke ids rs g events i c.happen.new.self c.planned-item.result history (slice_get_read events _ i c.planned-item.result refl (omega arith) c.planned-item.is)
+    (c.in_default.ensures.err ids (rs ++ history_of es g) (group_run es g) (history_after ids rs g es history) (c.loop-i.invariant ids rs g history h))
