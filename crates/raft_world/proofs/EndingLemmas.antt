@@ -65,7 +65,7 @@ module _ (own : ℕ) (s : GroupState) (e : GroupEvent) (m : Member) where
       let told : outcome_of_end r r.refused ≡ Refused (reason_of why) = told_as own s e (Some (reason_of why)) h.1 in (
         told,
         subst (λ (o : Outcome). IsAt m (after_step (stop_at (is_stop o) 0) s r)) (sym told)
-        (subst (IsUp m) (sym (refused_keeps own s e (reason_of why) h.1)) h.2),
+            (subst (IsUp m) (sym (refused_keeps own s e (reason_of why) h.1)) h.2),
       )
   ends_as_step (Some k) (end_of.Refused why) h = some_none k h.0
   ends_as_step None end_of.Stopped h = some_none h.0 (sym h.1)

@@ -203,13 +203,13 @@ module _ (w : World) (g : GroupWorld) (e : WorldEvent) (n : ℕ) (o : Outcome) (
       → IsWorldOf new (ended g e o n state) × IsMarkOf mark.Stopped o
   concluded_stopped new setup lost is first made = (
     subst (λ (x : World). IsWorldOf x (ended g e o n state)) (sym made)
-    (subst (λ (x : Outcome). IsWorldOf (record w { setup = set_up_with setup w.setup }) (ended g e x n state)) (sym is)
-    (record {
-      nodes = h.nodes;
-      messages = h.messages ∙ sym (append-nil g.messages);
-      setup = ap (λ k. set_up_with k w.setup) first ∙ ap (set_up_with (first_setup g.setup e)) h.setup ∙ setup_stopped g.setup e lost;
-      led = h.led ∙ sym (append-nil g.led);
-    })),
+        (subst (λ (x : Outcome). IsWorldOf (record w { setup = set_up_with setup w.setup }) (ended g e x n state)) (sym is)
+        (record {
+          nodes = h.nodes;
+          messages = h.messages ∙ sym (append-nil g.messages);
+          setup = ap (λ k. set_up_with k w.setup) first ∙ ap (set_up_with (first_setup g.setup e)) h.setup ∙ setup_stopped g.setup e lost;
+          led = h.led ∙ sym (append-nil g.led);
+        })),
     subst (IsMarkOf mark.Stopped) (sym is) tt,
   )
 
@@ -218,12 +218,12 @@ module _ (w : World) (g : GroupWorld) (e : WorldEvent) (n : ℕ) (o : Outcome) (
       → map led_of new.led.items ≡ map led_of w.led.items ++ led_by n state → IsWorldOf new (ended g e o n state) × IsMarkOf (mark.Refused refusal) o
   concluded_refused new refusal is members messages setup led = (
     subst (λ (x : Outcome). IsWorldOf new (ended g e x n state)) (sym is)
-    (record {
-      nodes = subst (λ (v : Vec Member Global). AreNodes v.items (with_node_state n state g.nodes)) (sym members) h.nodes;
-      messages = ap (λ (v : Vec SentMessage Global). map message_of v.items) messages ∙ h.messages ∙ sym (append-nil g.messages);
-      setup = setup ∙ h.setup ∙ sym (setup_refused g.setup e (reason_of refusal));
-      led = led ∙ ap (λ l. l ++ led_by n state) h.led;
-    }),
+        (record {
+          nodes = subst (λ (v : Vec Member Global). AreNodes v.items (with_node_state n state g.nodes)) (sym members) h.nodes;
+          messages = ap (λ (v : Vec SentMessage Global). map message_of v.items) messages ∙ h.messages ∙ sym (append-nil g.messages);
+          setup = setup ∙ h.setup ∙ sym (setup_refused g.setup e (reason_of refusal));
+          led = led ∙ ap (λ l. l ++ led_by n state) h.led;
+        }),
     subst (IsMarkOf (mark.Refused refusal)) (sym is) refl,
   )
 
@@ -244,12 +244,12 @@ module _ (w : World) (g : GroupWorld) (e : WorldEvent) (n : ℕ) (o : Outcome) (
       → IsWorldOf new (ended g e o n state) × IsMarkOf mark.Done o
   concluded_done new setup sent is first members sets messages led = (
     subst (λ (x : Outcome). IsWorldOf new (ended g e x n state)) (sym is.2)
-    (record {
-      nodes = subst (λ (v : Vec Member Global). AreNodes v.items (with_node_state n state g.nodes)) (sym members) h.nodes;
-      messages = ap (map message_of) messages ∙ map-append message_of w.messages.items sent.items ∙ ap (λ l. l ++ map message_of sent.items) h.messages;
-      setup = sets ∙ ap (λ k. set_up_with k w.setup) first ∙ ap (set_up_with (first_setup g.setup e)) h.setup ∙ setup_done g.setup e (map message_of sent.items) is.0 is.1;
-      led = led ∙ ap (λ l. l ++ led_by n state) h.led;
-    }),
+        (record {
+          nodes = subst (λ (v : Vec Member Global). AreNodes v.items (with_node_state n state g.nodes)) (sym members) h.nodes;
+          messages = ap (map message_of) messages ∙ map-append message_of w.messages.items sent.items ∙ ap (λ l. l ++ map message_of sent.items) h.messages;
+          setup = sets ∙ ap (λ k. set_up_with k w.setup) first ∙ ap (set_up_with (first_setup g.setup e)) h.setup ∙ setup_done g.setup e (map message_of sent.items) is.0 is.1;
+          led = led ∙ ap (λ l. l ++ led_by n state) h.led;
+        }),
     subst (IsMarkOf mark.Done) (sym is.2) tt,
   )
 
@@ -389,6 +389,7 @@ crash_skipped w g n stop m at down h = record {
     stays Absent here = absurd here
     stays (Up s) here = absurd (let no : true ≡ false = sym (ap is_some here.has_engine) ∙ down in cc)
     stays (Down st) here = refl
+
     marked_skipped : (state : NodeState) (b : Bool) → IsAt m state → IsMarkOf mark.Skipped (outcome_at n Crashes b state)
     marked_skipped Absent b here = tt
     marked_skipped (Up s) b here = absurd (let no : true ≡ false = sym (ap is_some here.has_engine) ∙ down in cc)

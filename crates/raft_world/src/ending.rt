@@ -51,8 +51,9 @@ impl Member {
     pub(crate) fn put_back(&mut self, engine: Engine<ByteGroup>, ended: &Ended)
         ensures { self.new ≡ left_by ended.now engine self.old }
     {
-        if matches!(ended, Ended::Done(_) | Ended::Refused(_)) {
-            self.engine = Some(engine);
+        match ended {
+            Ended::Done(_) | Ended::Refused(_) => self.engine = Some(engine),
+            Ended::Stopped | Ended::Skipped => {}
         }
     }
 

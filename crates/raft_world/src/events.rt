@@ -179,12 +179,7 @@ impl World {
     }
 
     // A message is delivered.
-    fn deliver(
-        &mut self,
-        number: u64,
-        now: u64,
-        stop: Option<u64>,
-    ) -> Result<Mark, AllocError>
+    fn deliver(&mut self, number: u64, now: u64, stop: Option<u64>) -> Result<Mark, AllocError>
         ensures { (ids : List ℕ) (rs : List Recorded) (g : GroupWorld) → IsGroupHistory ids rs g → IsWorldOf self.old g → HasCome g (Deliver number now) stop self.new result }
     {
         let Some(message) = self.messages.get(number as usize) else {

@@ -75,11 +75,7 @@ impl World {
     }
 
     // One event, and its mark.
-    fn happen(
-        &mut self,
-        planned: &PlannedEvent,
-        marks: &mut Vec<Mark>,
-    ) -> Result<(), AllocError>
+    fn happen(&mut self, planned: &PlannedEvent, marks: &mut Vec<Mark>) -> Result<(), AllocError>
         ensures ok { (ids : List ℕ) (rs : List Recorded) (g : GroupWorld) → IsGroupHistory ids rs g → IsWorldOf self.old g
             → OnOk result (IsWorldOf self.new (ran g planned.now.event planned.now.stop)) }
         ensures err { (ids : List ℕ) (rs : List Recorded) (g : GroupWorld) → IsGroupHistory ids rs g → IsWorldOf self.old g
