@@ -8,6 +8,7 @@ use Rattle.raft_world.specs.World.{IsPlace, IsPlaceOf}
 use Rattle.raft_world.specs.declared.member.Member.{Member}
 use Rattle.raft_world.proofs.PlaceLemmas.{named_there, no_node, node_there}
 use Rattle.raft_world.proofs.EndingLemmas.{comes}
+use Rattle.raft_world.proofs.LookupLemmas.{item_there}
 use Rattle.raft_world.proofs.HistoryLemmas.{lawful_at}
 use Rattle.raft_world.proofs.WorldLemmas.{broke, came, none_first, passed_absent, scene_delivered}
 use Rattle.raft_world.proofs.world.World.deliver.Goals as goal
@@ -16,7 +17,7 @@ pub returns-in_default-place_of : goal.returns-in_default-place_of
 returns-in_default-place_of c = λ ids rs g history h.
     let w = c.args.self.now in
     let m = c.in-Some.message.now in
-    let sent : slice_get w.messages.items c.args.number ≡ Some m = cc (c.in-Some.ensures.lookup, c.deref.ensures.value) in
+    let sent : slice_get w.messages.items c.args.number ≡ Some m = item_there _ w.messages.items c.args.number m c.deref.ensures.value c.in-Some.ensures.lookup.0 c.in-Some.ensures.lookup.1 in
     let none = subst (λ (l : List Member). IsPlaceOf l m.addressee None) c.as_slice.ensures.value (subst (IsPlaceOf c.as_slice.result.now m.addressee) c.in_default-place_of.is c.place_of.ensures.place) in
     passed_absent w g (Deliver c.args.number c.args.now) c.args.stop m.addressee (Comes (Receive m.sender (message_of m) c.args.now))
     (scene_delivered g w c.args.number c.args.now m h sent) (no_node w.members.items g.nodes m.addressee none h.nodes) h
@@ -30,7 +31,7 @@ returns-in-Ok c = λ ids rs g history h.
     let e = Deliver c.args.number c.args.now in
     let old = c.index_mut.result.now in
     let new = c.receive.new.self in
-    let sent : slice_get w.messages.items c.args.number ≡ Some m = cc (c.in-Some.ensures.lookup, c.deref.ensures.value) in
+    let sent : slice_get w.messages.items c.args.number ≡ Some m = item_there _ w.messages.items c.args.number m c.deref.ensures.value c.in-Some.ensures.lookup.0 c.in-Some.ensures.lookup.1 in
     let scene = scene_delivered g w c.args.number c.args.now m h sent in
     let there : IsPlace w.members.items n place = subst (λ (l : List Member). IsPlace l n place) c.as_slice.ensures.value c.in-Some-place_of.ensures.place in
     let named = named_there w.members.items n place old there c.index_mut.ensures.value in
@@ -49,7 +50,7 @@ returns-in-Err c = λ ids rs g history h.
     let e = Deliver c.args.number c.args.now in
     let old = c.index_mut.result.now in
     let new = c.receive.new.self in
-    let sent : slice_get w.messages.items c.args.number ≡ Some m = cc (c.in-Some.ensures.lookup, c.deref.ensures.value) in
+    let sent : slice_get w.messages.items c.args.number ≡ Some m = item_there _ w.messages.items c.args.number m c.deref.ensures.value c.in-Some.ensures.lookup.0 c.in-Some.ensures.lookup.1 in
     let scene = scene_delivered g w c.args.number c.args.now m h sent in
     let there : IsPlace w.members.items n place = subst (λ (l : List Member). IsPlace l n place) c.as_slice.ensures.value c.in-Some-place_of.ensures.place in
     let named = named_there w.members.items n place old there c.index_mut.ensures.value in

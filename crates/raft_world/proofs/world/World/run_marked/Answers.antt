@@ -1,4 +1,4 @@
-use Rattle.std.specs.Prelude.{◌++◌, map, take}
+use Rattle.std.specs.Prelude.{◌≡◌, ◌++◌, length, map, take}
 use Rattle.std.proofs.Common.{refl, sym, ◌∙◌, subst, arith}
 use Rattle.std.proofs.lemmas.Option.{slice_get_read}
 use Rattle.raft_laws.specs.GroupRun.{group_run, history_of}
@@ -11,7 +11,7 @@ loop-i-preserved c = λ ids rs g history h.
     let events = c.args.events.now in
     let i = c.loop-i.i in
     let es = map planned_of (take i events) in
-    subst (IsWorldOf c.happen.new.self) (sym (run_more events i c.planned-item.result g (omega arith) c.planned-item.is))
+    subst (IsWorldOf c.happen.new.self) (sym (run_more events i c.index-events-i.result g (omega arith) c.index-events-i.ensures))
     (c.in-Ok.ensures.ok ids (rs ++ history_of es g) (group_run es g) (history_after ids rs g es history) (c.loop-i.invariant ids rs g history h))
 
 pub returns-in_default : goal.returns-in_default
@@ -19,5 +19,12 @@ returns-in_default c = λ ids rs g history h.
     let events = c.args.events.now in
     let i = c.loop-i.i in
     let es = map planned_of (take i events) in
-    run_broke ids rs g events i c.happen.new.self c.planned-item.result history (slice_get_read events _ i c.planned-item.result refl (omega arith) c.planned-item.is)
+    run_broke ids rs g events i c.happen.new.self c.index-events-i.result history (slice_get_read events _ i c.index-events-i.result refl (omega arith) c.index-events-i.ensures)
     (c.in_default.ensures.err ids (rs ++ history_of es g) (group_run es g) (history_after ids rs g es history) (c.loop-i.invariant ids rs g history h))
+
+pub returns : goal.returns
+returns c = λ ids rs g history h.
+    let count = length c.args.events.now in
+    let same : c.loop-i.i ≡ count = omega arith in
+    run_all ids rs g c.args.events.now count c.loop-i.self history refl
+    (subst (λ k. IsWorldOf c.loop-i.self (group_run (map planned_of (take k c.args.events.now)) g)) same (c.loop-i.invariant ids rs g history h))
