@@ -11,7 +11,7 @@ loop-i-preserved c = λ ids rs g history h.
     let events = c.args.events.now in
     let i = c.loop-i.i in
     let es = map planned_of (take i events) in
-    subst (IsWorldOf c.happen.new.self) (sym (run_more events i c.index-events-i.result g (omega arith) c.index-events-i.ensures))
+    subst (IsWorldOf c.happen.new.self) (sym (run_more events i c.index-events-i.result g (omega arith) c.index-events-i.is))
     (c.in-Ok.ensures.ok ids (rs ++ history_of es g) (group_run es g) (history_after ids rs g es history) (c.loop-i.invariant ids rs g history h))
 
 pub returns-in_default : goal.returns-in_default
@@ -19,7 +19,7 @@ returns-in_default c = λ ids rs g history h.
     let events = c.args.events.now in
     let i = c.loop-i.i in
     let es = map planned_of (take i events) in
-    run_broke ids rs g events i c.happen.new.self c.index-events-i.result history (slice_get_read events _ i c.index-events-i.result refl (omega arith) c.index-events-i.ensures)
+    run_broke ids rs g events i c.happen.new.self c.index-events-i.result history (slice_get_read events _ i c.index-events-i.result refl (omega arith) c.index-events-i.is)
     (c.in_default.ensures.err ids (rs ++ history_of es g) (group_run es g) (history_after ids rs g es history) (c.loop-i.invariant ids rs g history h))
 
 pub returns : goal.returns
