@@ -298,10 +298,6 @@ fn a_follower_takes_entries_and_a_snapshot(rt: HostRuntime) -> Result<(), Fail> 
 
 // ---- the part that a node plays
 
-fn part_of(engine: &mut NumberedEngine) -> ServerState {
-    engine.server_state_handler().calc_server_state()
-}
-
 fn is_leading_voter(engine: &mut NumberedEngine) -> bool {
     let handler = engine.server_state_handler();
     handler.is_leader() && handler.is_voter()
@@ -313,23 +309,35 @@ fn notes_part(engine: &mut NumberedEngine) -> bool {
         .update_server_state_if_changed()
 }
 
-// A new node learns, a voter of two stands, one of one leads, and then follows.
-fn plays_parts(alloc: Global) -> Result<bool, Fail> {
-    let mut new = new_engine(alloc, 3)?;
-    let mut candidate = set_up(alloc, &[1, 2])?;
-    let mut leader = set_up(alloc, &[1])?;
-    let parts = part_of(&mut new) == ServerState::Learner
-        && part_of(&mut candidate) == ServerState::Candidate
-        && part_of(&mut leader) == ServerState::Leader;
-    let is_noted = is_leading_voter(&mut leader)
-        && notes_part(&mut leader)
-        && !notes_part(&mut leader);
-    becomes_following(&mut leader);
-    Ok(parts && is_noted && part_of(&mut leader) == ServerState::Follower)
+fn plays(engine: &mut NumberedEngine, part: ServerState) -> bool {
+    engine.server_state_handler().calc_server_state() == part
 }
 
 #[test]
-fn each_part_is_told(rt: HostRuntime) -> Result<(), Fail> {
+fn a_new_node_learns(rt: HostRuntime) -> Result<(), Fail> {
+    let mut engine = new_engine(rt.alloc(), 3)?;
+    assert!(rt; plays(&mut engine, ServerState::Learner));
+    Ok(())
+}
+
+#[test]
+fn a_voter_of_two_stands(rt: HostRuntime) -> Result<(), Fail> {
+    let mut engine = set_up(rt.alloc(), &[1, 2])?;
+    assert!(rt; plays(&mut engine, ServerState::Candidate));
+    Ok(())
+}
+
+// A voter of one leads, which is noted once, and then follows.
+fn plays_parts(alloc: Global) -> Result<bool, Fail> {
+    let mut engine = set_up(alloc, &[1])?;
+    let leads = plays(&mut engine, ServerState::Leader) && is_leading_voter(&mut engine);
+    let is_noted = notes_part(&mut engine) && !notes_part(&mut engine);
+    becomes_following(&mut engine);
+    Ok(leads && is_noted && plays(&mut engine, ServerState::Follower))
+}
+
+#[test]
+fn a_change_of_part_is_noted_once(rt: HostRuntime) -> Result<(), Fail> {
     assert!(rt; plays_parts(rt.alloc())?);
     Ok(())
 }
