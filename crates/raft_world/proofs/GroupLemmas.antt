@@ -1,6 +1,6 @@
 -- Runs of a world: how it begins, and what holds however far its events were run.
-use Rattle.std.specs.Prelude.{◌≡◌, ◌⊎◌, ◌==◌, ℕ, suc, ◌+◌, ◌<◌, ◌≤◌, ◌^◌, IsTrue, Bool, true, false, List, [], ◌∷◌, ◌++◌, ◌||◌, map, take, length, slice_get, Option, Some, None, Vec, refl}
-use Rattle.std.proofs.Common.{sym, ap, ◌∙◌, subst, inl, inr, cond, arith}
+use Rattle.std.specs.Prelude.{◌≡◌, ◌⊎◌, ◌==◌, ℕ, suc, ◌+◌, ◌<◌, ◌≤◌, ◌^◌, IsTrue, Bool, true, false, List, [], ◌∷◌, ◌++◌, ◌||◌, map, take, length, slice_get, Option, Some, None, is_some, Vec, refl}
+use Rattle.std.proofs.Common.{sym, ap, ◌∙◌, subst, inl, inr, cond, arith, append_assoc}
 use Rattle.std.proofs.lemmas.List.{append-nil, map-append, take_all, take_more}
 use Rattle.std.specs.List.{slice_index_or as get_or}
 use Rattle.std.specs.declared.alloc.Global.{Global}
@@ -14,7 +14,7 @@ use Rattle.raft_executor.specs.Sent.{message_of}
 use Rattle.raft_settled.specs.World.{led_of}
 use Rattle.raft_laws.specs.NodeEvent.{Comes, outcome_at, state_after}
 use Rattle.raft_laws.specs.GroupWorld.{GroupWorld, NodeState, Absent, Up, Down, Outcome, Done, Refused, Stopped, Skipped, Recorded, is_stop, new_world, state_or, with_node_state}
-use Rattle.raft_laws.specs.GroupRun.{Replays, group_run, history_of, led_after, ran, sent_in, setup_after, stop_at}
+use Rattle.raft_laws.specs.GroupRun.{Replays, group_run, history_of, led_after, outcome_of, ran, sent_in, setup_after, stop_at}
 use Rattle.raft_laws.specs.OneList.{AreNodeIds, IsGroupHistory}
 use Rattle.raft_laws.specs.Settled.{group_list}
 use Rattle.raft_laws.proofs.Committed.{applied_holds}
@@ -23,7 +23,7 @@ use Rattle.raft_laws.proofs.Histories.{histories-join}
 use Rattle.raft_laws.proofs.Runs.{run-replays}
 use Rattle.raft_laws.proofs.WorldStart.{founded}
 use Rattle.raft_world.specs.Member.{IsUp}
-use Rattle.raft_world.specs.World.{AreNodes, All, Broke, HasBroken, HasRunEvents, IsNodeAt, IsWorldOf, RunEnd, additions, begun_world, last_of, member_of, planned_of, rest_of}
+use Rattle.raft_world.specs.World.{AreMarks, AreNodes, All, Broke, HasBroken, HasMarked, HasRunEvents, IsNodeAt, IsWorldOf, RunEnd, additions, begun_world, last_of, member_of, planned_of, rest_of}
 use Rattle.raft_world.specs.declared.member.Member.{Member}
 use Rattle.raft_world.specs.declared.world.Mark.{Mark}
 use Rattle.raft_world.specs.declared.world.World.{World}
@@ -257,6 +257,45 @@ pub ids_fit : (ids : List ℕ) → ((k : ℕ) → k < length ids → get_or ids 
 ids_fit [] h n has = absurd (let no : false ≡ true = has in cc)
 ids_fit (m ∷ ids) h n has =
     fit_step m n (m == n) (has_id ids n) refl (h 0 (omega arith)) (ids_fit ids (λ k low. h (suc k) (omega arith)) n) has
+
+-- ---- marks
+
+history_both : (es fs : List (WorldEvent × Option ℕ)) (g : GroupWorld) → history_of (es ++ fs) g ≡ history_of es g ++ history_of fs (group_run es g)
+history_both [] fs g = refl
+history_both (e ∷ es) fs g = ap (λ rs. record { event = e.0; outcome = outcome_of g e.0 (is_some e.1) } ∷ rs) (history_both es fs (ran g e.0 e.1))
+
+marks_both : (a b : List Mark) (rs ss : List Recorded) → AreMarks a rs → AreMarks b ss → AreMarks (a ++ b) (rs ++ ss)
+marks_both [] b [] ss h k = k
+marks_both [] b (r ∷ rs) ss h k = absurd h
+marks_both (m ∷ ms) b [] ss h k = absurd h
+marks_both (m ∷ ms) b (r ∷ rs) ss h k = (h.0, marks_both ms b rs ss h.1 k)
+
+-- nothing is marked yet
+pub none_marked : (before : List Mark) (g : GroupWorld) → HasMarked before g [] before
+none_marked before g = record { more = []; listed = sym (append-nil before); say = tt }
+
+-- more events are marked behind the others
+marked_both : (before middle after : List Mark) (g : GroupWorld) (es fs : List (WorldEvent × Option ℕ)) → HasMarked before g es middle → HasMarked middle (group_run es g) fs after
+    → HasMarked before g (es ++ fs) after
+marked_both before middle after g es fs h k = record {
+  more = h.more ++ k.more;
+  listed = k.listed ∙ (ap (λ l. l ++ k.more) h.listed ∙ append_assoc before h.more k.more);
+  say = subst (AreMarks (h.more ++ k.more)) (sym (history_both es fs g)) (marks_both h.more k.more (history_of es g) (history_of fs (group_run es g)) h.say k.say);
+}
+
+planned_more : (events : List PlannedEvent) (i : ℕ) (e : PlannedEvent) → i < length events → e ≡ get_or events i e
+    → map planned_of (take (i + 1) events) ≡ map planned_of (take i events) ++ planned_of e ∷ []
+planned_more events i e low is =
+    ap (map planned_of) (take_more events i e low ∙ ap (λ x. take i events ++ (x ∷ [])) (sym is))
+    ∙ map-append planned_of (take i events) (e ∷ [])
+
+-- and one more event
+pub marked_more : (before middle after : List Mark) (g : GroupWorld) (events : List PlannedEvent) (i : ℕ) (e : PlannedEvent) → i < length events → e ≡ get_or events i e
+    → HasMarked before g (map planned_of (take i events)) middle → HasMarked middle (group_run (map planned_of (take i events)) g) (planned_of e ∷ []) after
+    → HasMarked before g (map planned_of (take (i + 1) events)) after
+marked_more before middle after g events i e low is h k =
+    subst (λ es. HasMarked before g es after) (sym (planned_more events i e low is))
+    (marked_both before middle after g (map planned_of (take i events)) (planned_of e ∷ []) h k)
 
 -- marks say nothing of the world
 pub with_marks : (w : World) (g : GroupWorld) (marks : Vec Mark Global) → IsWorldOf w g → IsWorldOf (record w { marks = marks }) g

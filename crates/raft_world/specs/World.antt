@@ -135,6 +135,19 @@ pub record HasRunEvents (ids : List ℕ) (rs : List Recorded) (g : GroupWorld) (
   pub grows : AgreeBelow (length (group_list g)) (group_list g) (group_list (group_run (map planned_of (take count events) ++ rest_of end) g))
   pub applied : AppliedIsListed (group_run (map planned_of (take count events) ++ rest_of end) g)
 
+-- each mark says what became of its event
+abbrev pub AreMarks : List Mark → List Recorded → Type 0
+AreMarks [] [] = Unit {0}
+AreMarks [] (r ∷ rs) = ⊥
+AreMarks (m ∷ ms) [] = ⊥
+AreMarks (m ∷ ms) (r ∷ rs) = IsMarkOf m r.outcome × AreMarks ms rs
+
+-- behind the marks before stand those of these events
+pub record HasMarked (before : List Mark) (g : GroupWorld) (es : List (WorldEvent × Option ℕ)) (after : List Mark) : Type 0 where
+  pub more : List Mark
+  pub listed : after ≡ before ++ more
+  pub say : AreMarks more (history_of es g)
+
 -- the group is added at each of these nodes
 abbrev pub additions : List ℕ → List (WorldEvent × Option ℕ)
 additions ids = map (λ n. (Add n, None)) ids

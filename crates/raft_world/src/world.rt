@@ -1,11 +1,11 @@
 //! A world of one group: its members, and what they sent.
-ghost use Rattle.std.specs.Prelude.{◌≡◌, List, ℕ, IfOk, OnOk, OnErr};
+ghost use Rattle.std.specs.Prelude.{◌≡◌, ◌∷◌, [], List, ℕ, map, take, IfOk, OnOk, OnErr};
 ghost use Rattle.std.specs.Option.{option_copied};
 ghost use Rattle.raft_laws.specs.GroupWorld.{GroupWorld, Recorded, new_world};
 ghost use Rattle.raft_laws.specs.GroupRun.{history_of, ran};
 ghost use Rattle.raft_laws.specs.OneList.{AreNodeIds, IsGroupHistory};
 ghost use Rattle.raft_laws.specs.Settled.{group_list};
-ghost use Rattle.raft_world.specs.World.{HasBroken, HasRunEvents, IsWorldOf, additions, begun_world, member_of};
+ghost use Rattle.raft_world.specs.World.{HasBroken, HasMarked, HasRunEvents, IsWorldOf, additions, begun_world, member_of, planned_of};
 
 use crate::member::Member;
 use crate::places::place_of;
@@ -80,6 +80,9 @@ impl World {
             → OnOk result (IsWorldOf self.new (ran g planned.now.event planned.now.stop)) }
         ensures err { (ids : List ℕ) (rs : List Recorded) (g : GroupWorld) → IsGroupHistory ids rs g → IsWorldOf self.old g
             → OnErr result (HasBroken g planned.now.event self.new) }
+        ensures marked { (ids : List ℕ) (rs : List Recorded) (g : GroupWorld) → IsGroupHistory ids rs g → IsWorldOf self.old g
+            → OnOk result (HasMarked marks.old.items g (planned_of planned.now ∷ []) marks.new.items) }
+        ensures unmarked { OnErr result (marks.new.items ≡ marks.old.items) }
     {
         if let Err(refused) = marks.reserve(1) {
             self.stop_node_of(&planned.event);
@@ -92,8 +95,10 @@ impl World {
 
     // The events in their order, with their marks.
     fn run_marked(&mut self, events: &[PlannedEvent], marks: &mut Vec<Mark>) -> usize
-        ensures { (ids : List ℕ) (rs : List Recorded) (g : GroupWorld) → IsGroupHistory ids rs g → IsWorldOf self.old g
+        ensures run { (ids : List ℕ) (rs : List Recorded) (g : GroupWorld) → IsGroupHistory ids rs g → IsWorldOf self.old g
             → HasRunEvents ids rs g events.now result self.new }
+        ensures marks { (ids : List ℕ) (rs : List Recorded) (g : GroupWorld) → IsGroupHistory ids rs g → IsWorldOf self.old g
+            → HasMarked marks.old.items g (map planned_of (take result events.now)) marks.new.items }
     {
         for (i, planned) in events.iter().enumerate() {
             let Ok(()) = self.happen(planned, marks) else {
@@ -106,8 +111,10 @@ impl World {
     /// Runs the events in their order, and says how many (own). Fewer than all only for want of
     /// memory: then the event that met it stopped, or its node went down before it.
     pub fn run(&mut self, events: &[PlannedEvent]) -> usize
-        ensures { (ids : List ℕ) (rs : List Recorded) (g : GroupWorld) → IsGroupHistory ids rs g → IsWorldOf self.old g
+        ensures run { (ids : List ℕ) (rs : List Recorded) (g : GroupWorld) → IsGroupHistory ids rs g → IsWorldOf self.old g
             → HasRunEvents ids rs g events.now result self.new }
+        ensures marks { (ids : List ℕ) (rs : List Recorded) (g : GroupWorld) → IsGroupHistory ids rs g → IsWorldOf self.old g
+            → HasMarked self.old.marks.items g (map planned_of (take result events.now)) self.new.marks.items }
     {
         let mut marks = mem::replace(&mut self.marks, Vec::new(self.alloc));
         let count = self.run_marked(events, &mut marks);

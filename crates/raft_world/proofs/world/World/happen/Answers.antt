@@ -1,3 +1,5 @@
+use Rattle.std.specs.Prelude.{◌∷◌, ◌++◌, []}
+use Rattle.std.proofs.Common.{ap, ◌∙◌}
 use Rattle.raft_world.proofs.RunLemmas.{at_any_error}
 use Rattle.raft_world.proofs.world.World.happen.Goals as goal
 
@@ -9,3 +11,10 @@ returns-in_err-mark-clause-err c = λ ids rs g history h. at_any_error _ (c.in_e
 
 pub returns-clause-ok : goal.returns-clause-ok
 returns-clause-ok c = λ ids rs g history h. (c.in_ok-mark.ensures ids rs g history h).world
+
+pub returns-clause-marked : goal.returns-clause-marked
+returns-clause-marked c = λ ids rs g history h. record {
+  more = c.in_ok-mark.mark ∷ [];
+  listed = c.push_reserved.ensures.items ∙ ap (λ l. l ++ c.in_ok-mark.mark ∷ []) c.reserve.ensures.items;
+  say = ((c.in_ok-mark.ensures ids rs g history h).marked, tt);
+}
