@@ -77,7 +77,7 @@ fn weights_of(course: &Course) -> [(Kind, u64); 14] {
         (Kind::Snapshot, course.snapshots),
         (Kind::Purge, course.snapshots),
         (Kind::Crash, 7),
-        (Kind::Restart, 50),
+        (Kind::Restart, 80),
         (Kind::Change, 20),
         (Kind::SetUp, 5),
         (Kind::Add, 8),
@@ -222,7 +222,7 @@ impl Chooser {
 
     // The moment, now and then one that has passed or is past all limits.
     fn moment(&mut self) -> u64 {
-        if self.chance.is_met(10) {
+        if self.chance.is_met(40) {
             return self.now.saturating_sub(self.chance.below(400));
         }
         if self.chance.is_met(3) {
@@ -510,8 +510,8 @@ impl Chooser {
     pub fn choose(&mut self, w: &PlainWorld) -> Result<(PlainEvent, Option<u64>), AllocError> {
         let event = self.event(w)?;
         self.go_on();
-        let stop = if self.chance.is_met(20) {
-            Some(self.chance.below(4))
+        let stop = if self.chance.is_met(35) {
+            Some(self.chance.below(5).saturating_sub(1))
         } else {
             None
         };

@@ -1,9 +1,9 @@
-//! The courses of random worlds: 20 worlds of 500 events each.
+//! The courses of random worlds. Five worlds are run of each, which makes 10,000 events.
 use crate::choices::Course;
 
 /// Three voters.
 pub const THREE: Course = Course {
-    seed: 1,
+    seed: 21,
     events: 500,
     ids: &[1, 2, 3],
     groups: &[&[1, 2, 3]],
@@ -14,8 +14,8 @@ pub const THREE: Course = Course {
 
 /// Three voters that take so many commands that a request doesn't have all of them.
 pub const BUSY: Course = Course {
-    seed: 11,
-    events: 500,
+    seed: 14,
+    events: 350,
     ids: &[1, 2, 3],
     groups: &[&[1, 2, 3]],
     learners: &[],
@@ -25,8 +25,8 @@ pub const BUSY: Course = Course {
 
 /// Five voters.
 pub const FIVE: Course = Course {
-    seed: 21,
-    events: 500,
+    seed: 23,
+    events: 600,
     ids: &[1, 2, 3, 4, 5],
     groups: &[&[1, 2, 3, 4, 5]],
     learners: &[],
@@ -36,8 +36,8 @@ pub const FIVE: Course = Course {
 
 /// Two voter groups that share two voters, and a learner.
 pub const JOINT: Course = Course {
-    seed: 31,
-    events: 500,
+    seed: 5,
+    events: 550,
     ids: &[1, 2, 3, 4, 5],
     groups: &[&[1, 2, 3], &[2, 3, 4]],
     learners: &[5],

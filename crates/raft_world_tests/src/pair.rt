@@ -5,7 +5,7 @@ use crate::real::real_event;
 use crate::same::{are_same_entries, are_same_messages, is_same_stored};
 use raft_engine::Engine;
 use raft_laws::WorldEvent;
-use raft_state::{LogIdOptionExt, LogIndexOptionExt};
+use raft_state::LogIdOptionExt;
 use raft_world::{ByteGroup, Mark, Member, PlannedEvent, World};
 use std::alloc::{AllocError, Global};
 

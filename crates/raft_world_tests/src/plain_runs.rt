@@ -2,8 +2,8 @@
 use crate::plain::world::PlainWorld;
 use crate::rows::{Fact, Row, Run, event_of, has_come, is_so};
 use crate::worked::{
-    ADDITIONS, CONFLICTS, CRASHES, ELECTIONS, LOSSES, MEMBERSHIPS, ONE_NODE, PURGES, SNAPSHOTS,
-    STOPS,
+    ADDITIONS, CONFLICTS, CRASHES, ELECTIONS, LOSSES, MEMBERSHIPS, MOMENTS, ONE_NODE, PURGES,
+    SNAPSHOTS, STOPS,
 };
 use std::alloc::{AllocError, Global};
 use std::test::Fail;
@@ -104,4 +104,9 @@ fn one_node_goes_so(rt: HostRuntime) -> Result<(), Fail> {
 #[test]
 fn losses_go_so(rt: HostRuntime) -> Result<(), Fail> {
     all_go_so(rt.alloc(), &LOSSES)
+}
+
+#[test]
+fn moments_go_so(rt: HostRuntime) -> Result<(), Fail> {
+    all_go_so(rt.alloc(), &MOMENTS)
 }

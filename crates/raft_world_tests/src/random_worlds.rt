@@ -66,8 +66,9 @@ fn all_hold(w: &PlainWorld, list: &[GroupEntry]) -> Result<bool, AllocError> {
 // Whether both worlds have the same list, and all nodes what is committed of it.
 fn agree(pair: &Pair, seen: &mut Seen) -> Result<bool, AllocError> {
     let list = pair.real.list()?;
+    let plain = pair.plain.list()?;
     seen.count_world(&pair.plain, list.len() as u64);
-    Ok(pair.has_same_list()? && all_hold(&pair.plain, &list)?)
+    Ok(are_same_entries(&plain, &list) && all_hold(&pair.plain, &list)?)
 }
 
 fn agrees_after(alloc: Global, course: Course, seen: &mut Seen) -> Result<(), Fail> {

@@ -152,7 +152,7 @@ impl Seen {
 
     // Whether enough was decided, stopped and refused.
     fn is_lively(&self) -> bool {
-        self.done > 1200
+        self.done > 1000
             && self.refused > 100
             && self.stopped > 20
             && self.skipped > 100

@@ -568,3 +568,76 @@ pub const LOSSES: [Run; 2] = [
         facts: &[Fact::Applied(3, Some(2))],
     },
 ];
+
+// ---- moments
+
+const HEARD_LATE: &[Row] = &[(Deed::Deliver(0, 1000), None, Came::Sent(&[1]))];
+
+const CALLED_EARLY: &[Row] = &[(Deed::Snapshot(2), None, Came::Sent(&[]))];
+
+const ASKED_EARLY: &[Row] = &[
+    (Deed::Elect(1, 1000), None, Came::Sent(&[2, 3])),
+    (Deed::Deliver(13, 10), None, Came::Sent(&[1])),
+];
+
+const ASKED_UNDER_LEASE: &[Row] = &[
+    (Deed::Elect(1, 1000), None, Came::Sent(&[2, 3])),
+    (Deed::Deliver(12, 150), None, Came::Sent(&[1])),
+];
+
+const ASKED_AFTER_LEASE: &[Row] = &[
+    (Deed::Elect(1, 1000), None, Came::Sent(&[2, 3])),
+    (Deed::Deliver(12, 151), None, Came::Sent(&[1])),
+];
+
+/// A vote is granted 150 ticks after the leader was heard of; a moment before the last one counts as
+/// the last one.
+pub const MOMENTS: [Run; 4] = [
+    Run {
+        parts: &[
+            SET_UP,
+            COMMITTED,
+            PROPOSED,
+            ACCEPTED,
+            TOLD,
+            HEARD_LATE,
+            CALLED_EARLY,
+            ASKED_EARLY,
+        ],
+        facts: &[Fact::Votes(2, 2, 1, false)],
+    },
+    Run {
+        parts: &[
+            SET_UP,
+            COMMITTED,
+            PROPOSED,
+            ACCEPTED,
+            TOLD,
+            HEARD_LATE,
+            ASKED_EARLY,
+        ],
+        facts: &[Fact::Votes(2, 2, 1, false)],
+    },
+    Run {
+        parts: &[
+            SET_UP,
+            COMMITTED,
+            PROPOSED,
+            ACCEPTED,
+            TOLD,
+            ASKED_UNDER_LEASE,
+        ],
+        facts: &[Fact::Votes(2, 1, 1, true), Fact::Stands(1)],
+    },
+    Run {
+        parts: &[
+            SET_UP,
+            COMMITTED,
+            PROPOSED,
+            ACCEPTED,
+            TOLD,
+            ASKED_AFTER_LEASE,
+        ],
+        facts: &[Fact::Votes(2, 2, 1, false), Fact::Stands(1)],
+    },
+];

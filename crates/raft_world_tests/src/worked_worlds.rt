@@ -3,7 +3,7 @@
 use crate::pair::Pair;
 use crate::rows::{Deed, Fact, Row, Run, event_of, has_come, is_so};
 use crate::worked::{
-    CONFLICTS, CRASHES, ELECTIONS, LOSSES, MEMBERSHIPS, ONE_NODE, PURGES, SNAPSHOTS, STOPS,
+    CONFLICTS, CRASHES, ELECTIONS, LOSSES, MEMBERSHIPS, MOMENTS, ONE_NODE, PURGES, SNAPSHOTS, STOPS,
 };
 use std::alloc::{AllocError, Global};
 use std::test::Fail;
@@ -107,4 +107,9 @@ fn one_voter_goes_so(rt: HostRuntime) -> Result<(), Fail> {
 #[test]
 fn losses_go_so(rt: HostRuntime) -> Result<(), Fail> {
     all_go_so(rt.alloc(), &LOSSES)
+}
+
+#[test]
+fn moments_go_so(rt: HostRuntime) -> Result<(), Fail> {
+    all_go_so(rt.alloc(), &MOMENTS)
 }
