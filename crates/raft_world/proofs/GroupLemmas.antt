@@ -17,13 +17,15 @@ use Rattle.raft_laws.specs.GroupWorld.{GroupWorld, NodeState, Absent, Up, Down, 
 use Rattle.raft_laws.specs.GroupRun.{Replays, group_run, history_of, led_after, outcome_of, ran, sent_in, setup_after, stop_at}
 use Rattle.raft_laws.specs.OneList.{AreNodeIds, IsGroupHistory}
 use Rattle.raft_laws.specs.Settled.{group_list}
-use Rattle.raft_laws.proofs.Committed.{applied_holds}
+use Rattle.raft_laws.proofs.Committed.{applied_holds, committed_holds, snapshot_front}
 use Rattle.raft_laws.proofs.GroupList.{goes_on, is_list, list_grows}
 use Rattle.raft_laws.proofs.Histories.{histories-join}
+use Rattle.raft_laws.proofs.ListLaws.{leaders_hold, log_ids_agree}
 use Rattle.raft_laws.proofs.Runs.{run-replays}
+use Rattle.raft_laws.proofs.VotesRise.{votes_rise}
 use Rattle.raft_laws.proofs.WorldStart.{founded}
 use Rattle.raft_world.specs.Member.{IsUp}
-use Rattle.raft_world.specs.World.{AreMarks, AreNodes, All, Broke, HasBroken, HasMarked, HasRunEvents, IsNodeAt, IsWorldOf, RunEnd, additions, begun_world, last_of, member_of, planned_of, rest_of}
+use Rattle.raft_world.specs.World.{AreMarks, AreNodes, All, Broke, HasBroken, HasMarked, HasRunEvents, IsNodeAt, IsWorldOf, KeepsTheLaws, RunEnd, additions, begun_world, last_of, member_of, planned_of, rest_of}
 use Rattle.raft_world.specs.declared.member.Member.{Member}
 use Rattle.raft_world.specs.declared.world.Mark.{Mark}
 use Rattle.raft_world.specs.declared.world.World.{World}
@@ -42,6 +44,19 @@ history_after ids rs g es h = record {
   replays = histories-join rs (history_of es g) (new_world ids) g (group_run es g) h.replays (run-replays es g);
 }
 
+-- the world to which a history leads keeps the laws
+laws_kept : (ids : List ℕ) (rs : List Recorded) (g : GroupWorld) → IsGroupHistory ids rs g → KeepsTheLaws g
+laws_kept ids rs g h =
+    let f = founded ids h.node_ids rs g h.replays in
+    record {
+      one_list = is_list f.membership f.some g f.is;
+      leaders = leaders_hold ids rs g h;
+      committed = committed_holds ids rs g h;
+      applied = applied_holds ids rs g h;
+      snapshots = snapshot_front ids rs g h;
+      log_ids = log_ids_agree ids rs g h;
+    }
+
 -- however far they were run, the laws hold
 pub has_run : (ids : List ℕ) (rs : List Recorded) (g : GroupWorld) (events : List PlannedEvent) (count : ℕ) (w : World) → IsGroupHistory ids rs g → (end : RunEnd events count (group_run (map planned_of (take count events)) g))
     → IsWorldOf w (group_run (map planned_of (take count events) ++ rest_of end) g) → HasRunEvents ids rs g events count w
@@ -54,9 +69,11 @@ has_run ids rs g events count w h end world =
       end = end;
       world = world;
       history = on;
-      one_list = is_list f.membership f.some last f.is;
-      grows = list_grows g last (goes_on (history_of es g) g last (run-replays es g)) (founded ids h.node_ids rs g h.replays) f;
-      applied = applied_holds ids (rs ++ history_of es g) last on;
+      laws = laws_kept ids (rs ++ history_of es g) last on;
+      goes_on = record {
+        list = list_grows g last (goes_on (history_of es g) g last (run-replays es g)) (founded ids h.node_ids rs g h.replays) f;
+        votes = votes_rise g last (history_of es g) (run-replays es g);
+      };
     }
 
 pub run_all : (ids : List ℕ) (rs : List Recorded) (g : GroupWorld) (events : List PlannedEvent) (count : ℕ) (w : World) → IsGroupHistory ids rs g → count ≡ length events
@@ -307,7 +324,6 @@ run_with_marks ids rs g events count w marks h = record {
   end = h.end;
   world = with_marks w _ marks h.world;
   history = h.history;
-  one_list = h.one_list;
-  grows = h.grows;
-  applied = h.applied;
+  laws = h.laws;
+  goes_on = h.goes_on;
 }

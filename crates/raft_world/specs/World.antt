@@ -2,8 +2,6 @@
 use Rattle.std.specs.Prelude.{◌≡◌, ◌==◌, ℕ, zero, suc, List, [], ◌∷◌, ◌++◌, map, take, length, slice_get, Option, Some, None, is_some, Result, Ok, Err}
 use Rattle.std.specs.List.{find}
 use Rattle.raft_group_step.specs.Message.{Message as Sent}
-use Rattle.raft_group_step.specs.StoredGroup.{Holds}
-use Rattle.raft_group_step.specs.GroupState.{GroupState}
 use Rattle.raft_conditions.specs.Reason.{reason_of}
 use Rattle.raft_executor.specs.Sent.{message_of}
 use Rattle.raft_laws.specs.declared.world_event.WorldEvent.{WorldEvent}
@@ -11,7 +9,8 @@ use Rattle.raft_laws.specs.declared.world_event.WorldEvent.TheVariants.{Add, Ask
 use Rattle.raft_laws.specs.BallotLists.{AgreeBelow}
 use Rattle.raft_laws.specs.GroupWorld.{GroupWorld, NodeState, Absent, Up, Outcome, Done, Refused, Stopped, Skipped, Recorded, new_world}
 use Rattle.raft_laws.specs.GroupRun.{group_run, history_of, outcome_of, ran}
-use Rattle.raft_laws.specs.OneList.{IsGroupHistory}
+use Rattle.raft_laws.specs.VotesRise.{VoteKept}
+use Rattle.raft_laws.specs.OneList.{AppliedIsHeld, CommittedIsHeld, IsGroupHistory, LeadersHold, LogIdsAgree, SnapshotsAreListed}
 use Rattle.raft_laws.specs.Settled.{IsGroupList, group_list}
 use Rattle.raft_settled.specs.World.{led_of}
 use Rattle.raft_world.specs.Member.{IsAt}
@@ -121,19 +120,30 @@ abbrev pub rest_of : {events : List PlannedEvent} {count : ℕ} {g : GroupWorld}
 rest_of (All is) = []
 rest_of {g = g} (Broke e is break) = last_of g e.event break ∷ []
 
--- each member that is up holds the group's list as far as it has applied it
-abbrev pub AppliedIsListed : GroupWorld → Type 0
-AppliedIsListed g = (n : ℕ) (s : GroupState) → g.nodes n ≡ Up s → (place : ℕ) → s.applied ≡ Some place → Holds s.stored (group_list g) place
+-- the group has one list; whoever leads under a vote that isn't below the one under which an entry was settled holds it up to
+-- there; each node that is up holds it as far as it knows it to be committed, and as far as it has applied it, and each stored
+-- snapshot is a front of it; and a log id stands for one entry
+pub record KeepsTheLaws (g : GroupWorld) : Type 0 where
+  pub one_list : IsGroupList g (group_list g)
+  pub leaders : LeadersHold g
+  pub committed : CommittedIsHeld g
+  pub applied : AppliedIsHeld g
+  pub snapshots : SnapshotsAreListed g
+  pub log_ids : LogIdsAgree g
 
--- however far the events were run, the world is that of the definitions after them, a history led there, and the group has
--- one list, which goes on from the one before
+-- what the group has settled stays, and no node's vote falls
+pub record GoesOnFrom (before after : GroupWorld) : Type 0 where
+  pub list : AgreeBelow (length (group_list before)) (group_list before) (group_list after)
+  pub votes : (n : ℕ) → VoteKept (before.nodes n) (after.nodes n)
+
+-- however far the events were run, the world is that of the definitions after them, a history led there, it keeps the laws, and
+-- it goes on from the one before
 pub record HasRunEvents (ids : List ℕ) (rs : List Recorded) (g : GroupWorld) (events : List PlannedEvent) (count : ℕ) (w : World) : Type 0 where
   pub end : RunEnd events count (group_run (map planned_of (take count events)) g)
   pub world : IsWorldOf w (group_run (map planned_of (take count events) ++ rest_of end) g)
   pub history : IsGroupHistory ids (rs ++ history_of (map planned_of (take count events) ++ rest_of end) g) (group_run (map planned_of (take count events) ++ rest_of end) g)
-  pub one_list : let last = group_run (map planned_of (take count events) ++ rest_of end) g in IsGroupList last (group_list last)
-  pub grows : AgreeBelow (length (group_list g)) (group_list g) (group_list (group_run (map planned_of (take count events) ++ rest_of end) g))
-  pub applied : AppliedIsListed (group_run (map planned_of (take count events) ++ rest_of end) g)
+  pub laws : KeepsTheLaws (group_run (map planned_of (take count events) ++ rest_of end) g)
+  pub goes_on : GoesOnFrom g (group_run (map planned_of (take count events) ++ rest_of end) g)
 
 -- each mark says what became of its event
 abbrev pub AreMarks : List Mark → List Recorded → Type 0

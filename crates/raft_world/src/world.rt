@@ -129,7 +129,7 @@ impl World {
     {
         group_list(
             self.alloc,
-            self.messages.as_slice(),
+            self.messages(),
             self.setup.as_ref(),
             self.led.as_slice(),
         )
