@@ -64,10 +64,10 @@ is_at_most a b t = go (vote_order a b)
     go (later e f p q o) = let x = ap flag p in let y = ap flag q in inr (sym e, inr (sym f, omega arith))
     go (higher l o) = leader_at_most b a l
 
-not_below_itself : (a : Vote ℕ) → vote_lt a a ≡ false
+pub not_below_itself : (a : Vote ℕ) → vote_lt a a ≡ false
 not_below_itself a = false_from_ne_true (vote_lt a a) (λ t. let h = is_below a a t in omega (arith, h))
 
-not_below_again : (a b c : Vote ℕ) → vote_lt b a ≡ false → vote_lt c b ≡ false → vote_lt c a ≡ false
+pub not_below_again : (a b c : Vote ℕ) → vote_lt b a ≡ false → vote_lt c b ≡ false → vote_lt c a ≡ false
 not_below_again a b c h k =
     false_from_ne_true (vote_lt c a)
     (λ t. let x = is_at_most b a h in let y = is_at_most c b k in let z = is_below c a t in omega (arith, x, y, z))
@@ -129,7 +129,7 @@ one_of : (b : Bool) (old new : NodeState) → (b ≡ true → VoteKept old new) 
 one_of true old new h = h refl
 one_of false old new h = stays old
 
-scene_gives : (w : GroupWorld) (e : WorldEvent) (o : Outcome) (stop : Option ℕ) (scene : Scene) (n : ℕ) → VoteKept (w.nodes n) ((after_scene w e o stop scene).nodes n)
+pub scene_gives : (w : GroupWorld) (e : WorldEvent) (o : Outcome) (stop : Option ℕ) (scene : Scene) (n : ℕ) → VoteKept (w.nodes n) ((after_scene w e o stop scene).nodes n)
 scene_gives w e o stop Nowhere n = stays (w.nodes n)
 scene_gives w e o stop (At node at_node) n =
     one_of (n == node) (w.nodes n) (state_after node at_node stop (w.nodes node))

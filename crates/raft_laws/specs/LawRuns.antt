@@ -4,6 +4,7 @@ use Rattle.raft_values.specs.declared.log_id.LogId.{LogId}
 use Rattle.raft_values.specs.LogId.{log_id_of}
 use Rattle.raft_values.specs.Vote.{vote_of}
 use Rattle.raft_group_step.specs.StoredGroup.{StoredGroup}
+use Rattle.raft_group_step.specs.Message.{VoteRequest}
 use Rattle.raft_state.specs.declared.entry.EntryPayload.TheVariants.{Blank}
 use Rattle.raft_group_step.specs.Values.{Entry, entry_of}
 use Rattle.raft_group_step.specs.GroupState.{GroupState, no_group, state_of}
@@ -88,6 +89,16 @@ stopped_set_up =
 -- a node that stored the vote of a term for itself
 abbrev pub voted : ℕ → StoredGroup
 voted term = record no_group { vote = vote_of term 1 false }
+
+-- node 1 has stored its vote of one term, and has asked node 2 for its vote of another
+abbrev pub told_once : ℕ → ℕ → GroupWorld
+told_once stored told =
+    record {
+      nodes = λ n. Down (voted stored);
+      messages = record { sender = 1; addressee = 2; body = VoteRequest (vote_of told 1 false) None } ∷ [];
+      setup = None;
+      led = [];
+    }
 
 -- the state of a node that is up
 abbrev pub state_in : NodeState → GroupState

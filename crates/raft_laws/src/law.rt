@@ -7,7 +7,7 @@ ghost use Rattle.raft_group_step.specs.GroupStep.{group_step};
 ghost use Rattle.raft_laws.specs.StoringOrder.{StoresInOrder};
 ghost use Rattle.raft_laws.specs.GroupsStay.{GroupsStay};
 ghost use Rattle.raft_laws.specs.Refusals.{RefusalsAreTold};
-ghost use Rattle.raft_laws.specs.VotesRise.{VotesNeverDecrease};
+ghost use Rattle.raft_laws.specs.VotesRise.{SentVotesStay, VotesNeverDecrease};
 ghost use Rattle.raft_laws.specs.CommitsOwn.{CommitsOwn, LeadersCommitTheirOwn};
 
 /// What a step has stored is what its storing commands make of the group, one after the other. None of them puts a
@@ -27,9 +27,11 @@ pub fn refusals_are_told()
 {}
 
 /// A node's vote never decreases, over every history that replays, with a stop after any number of an event's storing
-/// commands, crashes and restarts: what it has stored later has a vote that isn't below the one before.
+/// commands, crashes and restarts: what it has stored later has a vote that isn't below the one before, nor below any vote
+/// that it sent or answered as its own.
 pub fn votes_never_decrease()
-    ensures { VotesNeverDecrease }
+    ensures stored { VotesNeverDecrease }
+    ensures sent { SentVotesStay }
 {}
 
 /// A leader commits only log ids of its own leader id, over every history that replays, with stops, crashes and restarts:

@@ -4,6 +4,7 @@ ghost use Rattle.std.specs.Prelude.{◌≡◌, true, false, [], ◌∷◌, ◌++
 ghost use Rattle.raft_values.specs.LogId.{log_id_of};
 ghost use Rattle.raft_values.specs.Vote.{vote_of};
 ghost use Rattle.raft_group_step.specs.GroupState.{state_of};
+ghost use Rattle.raft_group_step.specs.Message.{HigherVote, Success};
 ghost use Rattle.raft_group_step.specs.StoredGroup.{CutFrom, SetVote};
 ghost use Rattle.raft_laws.specs.declared.world_event.WorldEvent.TheVariants.{Add};
 ghost use Rattle.raft_laws.specs.GroupWorld.{GroupWorld, Absent, Up, Down, Skipped, new_world};
@@ -16,9 +17,9 @@ ghost use Rattle.raft_laws.specs.CommitsOwn.{CommittedOwn};
 ghost use Rattle.raft_laws.specs.GroupRun.{Replays};
 ghost use Rattle.raft_laws.specs.OneVoter.{one};
 ghost use Rattle.raft_laws.specs.StoringOrder.{AllKeep, KeepsVoteAndCommitted};
-ghost use Rattle.raft_laws.specs.VotesRise.{VoteKept};
+ghost use Rattle.raft_laws.specs.VotesRise.{SentVotesKept, VoteKept, replied_vote};
 ghost use Rattle.raft_laws.specs.LawRuns.{accepted_for_another, accepted_with_own, after, another_set_up, first_three, first_two, known_after, leads_on_a_snapshot};
-ghost use Rattle.raft_laws.specs.LawRuns.{blank_at, list_after, outcomes_with_own, settled_aside, state_after, stopped_set_up, stops_with_a_snapshot, stored_unsaid, told_of_anothers, voted};
+ghost use Rattle.raft_laws.specs.LawRuns.{blank_at, list_after, outcomes_with_own, settled_aside, state_after, stopped_set_up, stops_with_a_snapshot, stored_unsaid, told_of_anothers, told_once, voted};
 
 /// An entry is settled once a quorum accepted it under its leader's vote: not while a minority has it, not where a node
 /// stored it and stopped before it replied, and not by what is accepted under another leader's vote, until that leader has
@@ -106,6 +107,15 @@ pub fn votes_that_are_kept()
     ensures rises { VoteKept (Up (state_of (voted 1))) (Down (voted 2)) }
     ensures falls { VoteKept (Down (voted 2)) (Up (state_of (voted 1))) → ⊥ }
     ensures lost { VoteKept (Down (voted 1)) Absent → ⊥ }
+{}
+
+/// A message tells its sender's vote: the one that it comes under, or the greater one that a reply tells. Who has told a
+/// greater vote than it has stored hasn't kept it.
+pub fn votes_that_are_told()
+    ensures taken { replied_vote (vote_of 1 1 true) Success ≡ vote_of 1 1 true }
+    ensures greater { replied_vote (vote_of 1 1 true) (HigherVote (vote_of 2 1 false)) ≡ vote_of 2 1 false }
+    ensures kept { SentVotesKept (told_once 2 1) }
+    ensures lost { SentVotesKept (told_once 1 2) → ⊥ }
 {}
 
 /// Each storing command is judged by what is stored when its turn comes: no vote below that one, no cut at or below the

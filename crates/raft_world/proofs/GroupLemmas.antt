@@ -22,6 +22,7 @@ use Rattle.raft_laws.proofs.GroupList.{goes_on, is_list, list_grows}
 use Rattle.raft_laws.proofs.Histories.{histories-join}
 use Rattle.raft_laws.proofs.ListLaws.{leaders_hold, log_ids_agree}
 use Rattle.raft_laws.proofs.Runs.{run-replays}
+use Rattle.raft_laws.proofs.SentVotes.{sent_votes_stay}
 use Rattle.raft_laws.proofs.VotesRise.{votes_rise}
 use Rattle.raft_laws.proofs.WorldStart.{founded}
 use Rattle.raft_world.specs.Member.{IsUp}
@@ -55,6 +56,7 @@ laws_kept ids rs g h =
       applied = applied_holds ids rs g h;
       snapshots = snapshot_front ids rs g h;
       log_ids = log_ids_agree ids rs g h;
+      sent_votes = sent_votes_stay ids rs g h.replays;
     }
 
 -- however far they were run, the laws hold

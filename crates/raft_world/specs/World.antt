@@ -9,7 +9,7 @@ use Rattle.raft_laws.specs.declared.world_event.WorldEvent.TheVariants.{Add, Ask
 use Rattle.raft_laws.specs.BallotLists.{AgreeBelow}
 use Rattle.raft_laws.specs.GroupWorld.{GroupWorld, NodeState, Absent, Up, Outcome, Done, Refused, Stopped, Skipped, Recorded, new_world}
 use Rattle.raft_laws.specs.GroupRun.{group_run, history_of, outcome_of, ran}
-use Rattle.raft_laws.specs.VotesRise.{VoteKept}
+use Rattle.raft_laws.specs.VotesRise.{SentVotesKept, VoteKept}
 use Rattle.raft_laws.specs.OneList.{AppliedIsHeld, CommittedIsHeld, IsGroupHistory, LeadersHold, LogIdsAgree, SnapshotsAreListed}
 use Rattle.raft_laws.specs.Settled.{IsGroupList, group_list}
 use Rattle.raft_settled.specs.World.{led_of}
@@ -122,7 +122,7 @@ rest_of {g = g} (Broke e is break) = last_of g e.event break ∷ []
 
 -- the group has one list; whoever leads under a vote that isn't below the one under which an entry was settled holds it up to
 -- there; each node that is up holds it as far as it knows it to be committed, and as far as it has applied it, and each stored
--- snapshot is a front of it; and a log id stands for one entry
+-- snapshot is a front of it; a log id stands for one entry; and no node's vote is below one that it sent or answered as its own
 pub record KeepsTheLaws (g : GroupWorld) : Type 0 where
   pub one_list : IsGroupList g (group_list g)
   pub leaders : LeadersHold g
@@ -130,6 +130,7 @@ pub record KeepsTheLaws (g : GroupWorld) : Type 0 where
   pub applied : AppliedIsHeld g
   pub snapshots : SnapshotsAreListed g
   pub log_ids : LogIdsAgree g
+  pub sent_votes : SentVotesKept g
 
 -- what the group has settled stays, and no node's vote falls
 pub record GoesOnFrom (before after : GroupWorld) : Type 0 where
