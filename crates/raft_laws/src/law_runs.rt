@@ -19,7 +19,8 @@ ghost use Rattle.raft_laws.specs.OneVoter.{one};
 ghost use Rattle.raft_laws.specs.StoringOrder.{AllKeep, KeepsVoteAndCommitted};
 ghost use Rattle.raft_laws.specs.VotesRise.{SentVotesKept, VoteKept, replied_vote};
 ghost use Rattle.raft_laws.specs.LawRuns.{accepted_for_another, accepted_with_own, after, another_set_up, first_three, first_two, known_after, leads_on_a_snapshot};
-ghost use Rattle.raft_laws.specs.LawRuns.{blank_at, list_after, outcomes_with_own, settled_aside, state_after, stopped_set_up, stops_with_a_snapshot, stored_unsaid, told_of_anothers, told_once, voted};
+ghost use Rattle.raft_laws.specs.LawRuns.{blank_at, list_after, outcomes_with_own, settled_aside, state_after, stopped_set_up, stops_with_a_snapshot, stored_unsaid, told_of_anothers};
+ghost use Rattle.raft_laws.specs.LawRuns.{told_once, voted};
 
 /// An entry is settled once a quorum accepted it under its leader's vote: not while a minority has it, not where a node
 /// stored it and stopped before it replied, and not by what is accepted under another leader's vote, until that leader has
