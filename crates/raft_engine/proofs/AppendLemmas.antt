@@ -27,7 +27,7 @@ use Rattle.raft_commands.specs.declared.command.Command.TheVariants.{AppendInput
 use Rattle.raft_leaders.specs.Candidate.{CandidateValue}
 use Rattle.raft_leaders.specs.Leader.{LeaderValue, id_of_leader, peer_at}
 use Rattle.raft_engine.specs.Commands.{put_all, storing_of, sending_of, stored_by, sent_by}
-use Rattle.raft_engine.specs.Standing.{EffectiveMembership, Engine, IsInOrder, IsStateOf, IsStepOf, Leads, PlaysRole, peer_state}
+use Rattle.raft_engine.specs.Standing.{EffectiveMembership, Engine, Given, IsInOrder, IsStateOf, IsStepOf, Leads, PlaysRole, peer_state}
 use Rattle.raft_engine.specs.Leading.{KnowsMembers}
 use Rattle.raft_engine.proofs.CommandLemmas.{stores_more, sends_same}
 use Rattle.raft_engine.proofs.StandingLemmas.{order_kept}
@@ -126,7 +126,7 @@ leads_on : (own : ℕ) (l l' : LeaderValue ℕ EffectiveMembership) (c : Option 
 leads_on own l l' None s s' lead h k = k
 leads_on own l l' (Some c) s s' lead h k = absurd h
 
-module _ {C R : Type 0} (x : Snapshot) (own : ℕ) (e : Engine C R) (r : StepResult) (step : IsStepOf x own e r) (lead : Lead) (leads : r.state.role ≡ Leader lead)
+module _ {C R : Type 0} (x : Given) (own : ℕ) (e : Engine C R) (r : StepResult) (step : IsStepOf x own e r) (lead : Lead) (leads : r.state.role ≡ Leader lead)
     (l : LeaderValue ℕ EffectiveMembership) (led : e.leader ≡ Some l) where
   plays : PlaysRole own (Some l) e.candidate r.state.stored (Leader lead)
   plays =
@@ -176,12 +176,12 @@ module _ {C R : Type 0} (x : Snapshot) (own : ℕ) (e : Engine C R) (r : StepRes
         }
 
   module _ (e' : Engine C R) (payload : EntryPayload) (l' : LeaderValue ℕ EffectiveMembership) (vote : Vote ℕ) (entries : List Entry) (id : LogId ℕ) where
-    pub appended : e'.config ≡ e.config → e'.leader ≡ Some l' → e'.candidate ≡ e.candidate → id ≡ id_of_leader l.vote.leader_id (next_place l.last_log_id) → entries ≡ entry_of id payload ∷ []
+    pub appended : e'.config ≡ e.config → e'.seen_greater_log ≡ e.seen_greater_log → e'.leader ≡ Some l' → e'.candidate ≡ e.candidate → id ≡ id_of_leader l.vote.leader_id (next_place l.last_log_id) → entries ≡ entry_of id payload ∷ []
         → ((s : StoredGroup) → Knows e.state s → IsPlaced s → ArePlaced (end_place s) entries → Knows e'.state (after_storing (PutEntries (end_place s) entries) s))
         → KeepsRest e.state e'.state → l'.vote ≡ l.vote → l'.last_log_id ≡ Some id → l'.began ≡ l.began → ((n : ℕ) → peer_at nat_eq l' n ≡ peer_at nat_eq l n)
         → ((before : Option LoggedMembership) → KnowsMembers l before → KnowsMembers l' (membership_after before id payload))
         → e'.output.queue ≡ e.output.queue ++ AppendInputEntries vote entries ∷ [] → IsStepOf x own e' (append payload r)
-    appended config leader candidate id_is entries_are known rest voted last began peers members queue =
+    appended config seen leader candidate id_is entries_are known rest voted last began peers members queue =
         let old = step.state in
         let s = r.state.stored in
         let id_next : id ≡ next_id payload = id_is ∙ given_next payload in
@@ -202,14 +202,15 @@ module _ {C R : Type 0} (x : Snapshot) (own : ℕ) (e : Engine C R) (r : StepRes
                 (subst (λ y. Leads own l' y lead) (sym (grown_is s (put payload))) (leads_more payload l' id id_next voted last began peers members)))));
             order = order_more r.state (put payload) (placed_put payload) old.order;
           };
-          stores = ap (λ q. flat_map (storing_of x) q) queue ∙ stores_more e.output.queue (AppendInputEntries vote entries) x r.commands (PutEntries (end_place s) (put payload) ∷ []) step.stores (ap put_all puts);
+          stores = ap (λ q. flat_map (storing_of x.snapshot) q) queue ∙ stores_more e.output.queue (AppendInputEntries vote entries) x.snapshot r.commands (PutEntries (end_place s) (put payload) ∷ []) step.stores (ap put_all puts);
           sends = λ t upto. ap (λ q. flat_map (sending_of own t upto) q) queue ∙ sends_same e.output.queue (AppendInputEntries vote entries) own t upto r.messages (step.sends t upto) refl;
+          seen = seen ∙ step.seen;
         }
 
 -- ---- tokens
 
 -- tokens that are to be told are none of the engine's
-pub whatever_tokens : {C R : Type 0} (x : Snapshot) (own : ℕ) (e : Engine C R) (r : StepResult) (untold : List Untold) → IsStepOf x own e r → IsStepOf x own e (record r { state = record r.state { untold = untold } })
+pub whatever_tokens : {C R : Type 0} (x : Given) (own : ℕ) (e : Engine C R) (r : StepResult) (untold : List Untold) → IsStepOf x own e r → IsStepOf x own e (record r { state = record r.state { untold = untold } })
 whatever_tokens x own e r untold step =
     let old = step.state in
     record {
@@ -224,6 +225,7 @@ whatever_tokens x own e r untold step =
       };
       stores = step.stores;
       sends = step.sends;
+      seen = step.seen;
     }
 
 -- what a proposal's token waits for

@@ -21,7 +21,7 @@ use Rattle.raft_leaders.specs.Accepted.{greatest_accepted, has_accepted as has_a
 use Rattle.raft_leaders.specs.Candidate.{CandidateValue}
 use Rattle.raft_leaders.specs.Leader.{LeaderValue, end_of, peer_at}
 use Rattle.raft_engine.specs.Following.{EndsWithin}
-use Rattle.raft_engine.specs.Standing.{EffectiveMembership, Engine, IsInOrder, IsStepOf, Leads, PlaysRole}
+use Rattle.raft_engine.specs.Standing.{EffectiveMembership, Engine, Given, IsInOrder, IsStepOf, Leads, PlaysRole}
 use Rattle.raft_engine.proofs.FollowingLemmas.{later_same, past_committed}
 
 -- ---- the same quorums
@@ -141,7 +141,7 @@ purged_within s o id e = by_test (is_within id.index s.committed) refl
         let a = o.purged in
         let b = o.snapshot in absurd (omega arith)
 
-module _ {C R : Type 0} (x : Snapshot) (own : ℕ) (e : Engine C R) (r : StepResult) (step : IsStepOf x own e r) where
+module _ {C R : Type 0} (x : Given) (own : ℕ) (e : Engine C R) (r : StepResult) (step : IsStepOf x own e r) where
   module _ (l : LeaderValue ℕ EffectiveMembership) (led : e.leader ≡ Some l) (voters : EffectiveMembership) (in_force : voters ≡ effective_of (membership_in_force r.state.stored))
       (found : Option (LogId ℕ)) (greatest : found ≡ greatest_accepted own l (is_quorum voters.membership.configs) e.state.state.log_ids) where
     leads : (lead : Lead) × (r.state.role ≡ Leader lead) × Leads own l r.state.stored lead

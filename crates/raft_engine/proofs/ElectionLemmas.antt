@@ -21,11 +21,11 @@ use Rattle.raft_known_state.proofs.KnownStateLemmas.{end-known}
 use Rattle.raft_leaders.specs.Candidate.{CandidateValue, CountsBy, SaysWhoGranted, any_granted}
 use Rattle.raft_leaders.specs.Leader.{LeaderValue}
 use Rattle.raft_engine.specs.Commands.{Command, message_to}
-use Rattle.raft_engine.specs.Standing.{Engine, EffectiveMembership, IsStepOf, PlaysRole, Stands}
+use Rattle.raft_engine.specs.Standing.{EffectiveMembership, Engine, Given, IsStepOf, PlaysRole, Stands}
 use Rattle.raft_engine.proofs.CandidateLemmas.{stands_more}
 use Rattle.raft_engine.proofs.StandingLemmas.{order_kept, queued}
 
-module _ {C R : Type 0} (x : Snapshot) (own : ℕ) (req : Request ℕ) where
+module _ {C R : Type 0} (x : Given) (own : ℕ) (req : Request ℕ) where
   -- a request to each of these
   abbrev pub requests : List ℕ → List (Command C R)
   requests ns = map (λ n. SendVote n req) ns
@@ -64,7 +64,7 @@ is_standing own (Some l) c s (Leader lead) h = absurd h
 abbrev pub now_granted : List ℕ → ℕ → List ℕ
 now_granted granters n = if has_id granters n then granters else granters ++ n ∷ []
 
-module _ {C R : Type 0} (x : Snapshot) (own : ℕ) (e : Engine C R) (r : StepResult) (step : IsStepOf x own e r) where
+module _ {C R : Type 0} (x : Given) (own : ℕ) (e : Engine C R) (r : StepResult) (step : IsStepOf x own e r) where
   -- a node that doesn't lead is a candidate from now on
   pub stands_now : (granters : List ℕ) (c : CandidateValue ℕ EffectiveMembership) → e.leader ≡ None → Stands own c r.state.stored granters
       → IsStepOf x own (record e { candidate = Some c }) (in_role (Candidate granters) r)
@@ -82,6 +82,7 @@ module _ {C R : Type 0} (x : Snapshot) (own : ℕ) (e : Engine C R) (r : StepRes
         };
         stores = step.stores;
         sends = step.sends;
+        seen = step.seen;
       }
 
   -- the place after the last log id that is known
@@ -146,7 +147,7 @@ module _ (own : ℕ) (r : StepResult) where
       ap (λ b. lead_if (is_quorum (configs_in_force st.state.stored) (has_id (if b then own ∷ [] else own ∷ own ∷ []))) (in_role (Candidate (if b then own ∷ [] else own ∷ own ∷ [])) st)) self
       ∙ ap (λ role. with_grant own role st) (sym (ap (λ s. s.role) stood_state))
 
-module _ {C R : Type 0} (x : Snapshot) (own : ℕ) (e : Engine C R) (r : StepResult) (vote : Vote ℕ) (step : IsStepOf x own e (store_vote vote (step_down r))) where
+module _ {C R : Type 0} (x : Given) (own : ℕ) (e : Engine C R) (r : StepResult) (vote : Vote ℕ) (step : IsStepOf x own e (store_vote vote (step_down r))) where
   -- the next term's vote is stored, and the node is a candidate for it
   pub has_stood : (c : CandidateValue ℕ EffectiveMembership) → Stands own c (record r.state.stored { vote = vote }) (own ∷ [])
       → IsStepOf x own (record e { candidate = Some c }) (in_role (Candidate (own ∷ [])) (store_vote vote (step_down r)))

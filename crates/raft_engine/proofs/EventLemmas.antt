@@ -1,17 +1,18 @@
 -- From the words of the group step to its events.
-use Rattle.std.specs.Prelude.{◌≡◌, ℕ, max, Bool, true, false, List, [], ◌∷◌, Option, Some, None, refl}
+use Rattle.std.specs.Prelude.{◌≡◌, ◌||◌, ℕ, max, Bool, true, false, List, [], ◌∷◌, Option, Some, None, refl}
 use Rattle.std.proofs.Common.{ap, sym, ◌∙◌, subst}
 use Rattle.raft_values.specs.declared.log_id.LogId.{LogId}
 use Rattle.raft_values.specs.LogId.{place_of}
 use Rattle.raft_group_step.specs.StoredGroup.{StoredGroup, Snapshot}
+use Rattle.raft_group_step.specs.Message.{MessageBody}
 use Rattle.raft_group_step.specs.GroupState.{GroupState}
 use Rattle.raft_group_step.specs.GroupEvent.{GroupEvent}
 use Rattle.raft_group_step.specs.StepResult.{StepResult, RefusalReason, unchanged}
 use Rattle.raft_group_step.specs.Refusal.{first_of_reasons, refusal_of, unless}
 use Rattle.raft_group_step.specs.GroupStep.{begun, event_step, finished, group_step, step_unless}
 use Rattle.raft_engine.specs.Commands.{sent_by, stored_by}
-use Rattle.raft_engine.specs.Standing.{Engine, IsInOrder, IsStateOf, IsStepOf, IsWholeStepOf}
-use Rattle.raft_engine.specs.Events.{HasTaken, MayTake}
+use Rattle.raft_engine.specs.Standing.{Engine, Given, IsInOrder, IsStateOf, IsStepOf, IsWholeStepOf, given}
+use Rattle.raft_engine.specs.Events.{HasTaken, MayTake, given_after, received, tells_greater_log}
 
 -- another moment leaves the places in order
 abbrev with_moment : ℕ → GroupState → GroupState
@@ -36,16 +37,17 @@ module _ {C R : Type 0} (x : Snapshot) (own : ℕ) (e : Engine C R) (s : GroupSt
       }
 
   -- with nothing left to do it stands for a step that does nothing
-  pub step_unchanged : IsStateOf own e s → e.output.queue ≡ [] → IsStepOf x own e (unchanged s)
+  pub step_unchanged : IsStateOf own e s → e.output.queue ≡ [] → IsStepOf (given x e) own e (unchanged s)
   step_unchanged h empty =
       record {
         state = h;
         stores = ap (stored_by x) empty;
         sends = λ stored upto. ap (sent_by own stored upto) empty;
+        seen = refl;
       }
 
 -- and so as an event begins
-pub step_begun : {C R : Type 0} (x : Snapshot) (own at : ℕ) (e : Engine C R) (s : GroupState) → IsStateOf own e s → e.output.queue ≡ [] → IsStepOf x own e (begun at s)
+pub step_begun : {C R : Type 0} (x : Snapshot) (own at : ℕ) (e : Engine C R) (s : GroupState) → IsStateOf own e s → e.output.queue ≡ [] → IsStepOf (given x e) own e (begun at s)
 step_begun x own at e s h empty = step_unchanged x own e (with_moment (max s.now at) s) (stands_at x own e s (max s.now at) h) empty
 
 pub unless_none : (own : ℕ) (s : GroupState) (event : GroupEvent) (why : Option RefusalReason) → why ≡ None → step_unless why own s event ≡ finished own s.committed (event_step own s event)
@@ -54,11 +56,50 @@ unless_none own s event (Some why) e = absurd (let no : Some why ≡ None = e in
 
 -- what is finished of an event that isn't refused is the group's step
 pub event_taken : {C R : Type 0} (x : Snapshot) (own : ℕ) (e e' : Engine C R) (s : GroupState) (event : GroupEvent) → MayTake own e s event
-    → IsWholeStepOf x own e' (finished own (place_of e.state.state.committed) (event_step own s event)) → HasTaken x own e' s event
+    → IsWholeStepOf (given_after x e s event) own e' (finished own (place_of e.state.state.committed) (event_step own s event)) → HasTaken x own e e' s event
 event_taken x own e e' s event may h =
     let before : place_of e.state.state.committed ≡ s.committed = ap place_of may.stands.committed ∙ may.stands.order.committed in
     rw (unless_none own s event (refusal_of own s event) may.accepted)
-    (subst (λ b. IsWholeStepOf x own e' (finished own b (event_step own s event))) before h)
+    (subst (λ b. IsWholeStepOf (given_after x e s event) own e' (finished own b (event_step own s event))) before h)
+
+-- the same step by an engine that knows otherwise of greater logs
+pub knowing : {C R : Type 0} (x : Given) (own : ℕ) (e : Engine C R) (r : StepResult) (seen : Bool) → IsWholeStepOf x own e r
+    → IsWholeStepOf (record x { seen_greater_log = seen }) own (record e { seen_greater_log = seen }) r
+knowing x own e r seen h =
+    let old = h.state in
+    record {
+      state = record {
+        config = old.config;
+        knows = old.knows;
+        renewed = old.renewed;
+        committed = old.committed;
+        wish = old.wish;
+        role = old.role;
+        order = old.order;
+      };
+      stores = h.stores;
+      sends = h.sends;
+      seen = refl;
+    }
+
+module _ {C R : Type 0} (x : Snapshot) (own peer at : ℕ) (e e' : Engine C R) (s : GroupState) (body : MessageBody) (may : MayTake own e s (received own peer body at))
+    (whole : IsWholeStepOf (given x e) own e' (finished own (place_of e.state.state.committed) (event_step own s (received own peer body at)))) where
+  abbrev done : StepResult
+  done = finished own (place_of e.state.state.committed) (event_step own s (received own peer body at))
+
+  -- an answer has told of a greater log, which is noted
+  pub told_taken : (e'' : Engine C R) → tells_greater_log s body ≡ true → e'' ≡ record e' { seen_greater_log = true } → HasTaken x own e e'' s (received own peer body at)
+  told_taken e'' told noted =
+      event_taken x own e e'' s (received own peer body at) may
+      (subst (λ y. IsWholeStepOf (given_after x e s (received own peer body at)) own y done) (sym noted)
+      (subst (λ b. IsWholeStepOf (record { snapshot = x; seen_greater_log = b || e.seen_greater_log }) own (record e' { seen_greater_log = true }) done) (sym told)
+      (knowing (given x e) own e' done true whole)))
+
+  -- it has told of none
+  pub untold_taken : tells_greater_log s body ≡ false → HasTaken x own e e' s (received own peer body at)
+  untold_taken untold =
+      event_taken x own e e' s (received own peer body at) may
+      (subst (λ b. IsWholeStepOf (record { snapshot = x; seen_greater_log = b || e.seen_greater_log }) own e' done) (sym untold) whole)
 
 -- ---- what holds of an event that isn't refused
 

@@ -20,7 +20,7 @@ use Rattle.raft_known_state.specs.KnownState.{KnownState, Knows, KeepsRest, AreP
 use Rattle.raft_known_state.proofs.PlacedIds.{by_order}
 use Rattle.raft_known_state.proofs.KnownStateLemmas.{end-known, log_whole}
 use Rattle.raft_engine.specs.Commands.{Command, put_all, storing_of, sending_of, stored_by, sent_by}
-use Rattle.raft_engine.specs.Standing.{Engine, IsInOrder, IsStateOf, IsStepOf, PlaysRole}
+use Rattle.raft_engine.specs.Standing.{Engine, Given, IsInOrder, IsStateOf, IsStepOf, PlaysRole}
 use Rattle.raft_engine.specs.Following.{EndsWithin, all_go_on}
 use Rattle.raft_engine.proofs.CommandLemmas.{stores_more, stores_same, sends_same}
 use Rattle.raft_engine.proofs.StandingLemmas.{still_follows}
@@ -181,8 +181,8 @@ known_go_on s ids es place p same e q =
     placed_go_on es place (last_id ids) q
     (let n : next_place (last_id ids) ≡ end_place s = ap (λ i. next_place (last_id i)) same ∙ end-known s p in omega arith)
 
-module _ {C R : Type 0} (x : Snapshot) (own : ℕ) (e e' : Engine C R) (r : StepResult) (step : IsStepOf x own e r)
-    (config : e'.config ≡ e.config) (leader : e'.leader ≡ e.leader) (candidate : e'.candidate ≡ e.candidate) where
+module _ {C R : Type 0} (x : Given) (own : ℕ) (e e' : Engine C R) (r : StepResult) (step : IsStepOf x own e r)
+    (config : e'.config ≡ e.config) (seen : e'.seen_greater_log ≡ e.seen_greater_log) (leader : e'.leader ≡ e.leader) (candidate : e'.candidate ≡ e.candidate) where
   role_kept : (s : StoredGroup) → r.state.role ≡ Follower → PlaysRole own e'.leader e'.candidate s r.state.role
   role_kept s follows =
       still_follows own e'.leader e'.candidate r.state.stored s r.state.role follows
@@ -191,7 +191,7 @@ module _ {C R : Type 0} (x : Snapshot) (own : ℕ) (e e' : Engine C R) (r : Step
   -- a follower's log changes behind what is committed
   pub log_stored : (c : StoringCommand) (d : Command C R) → r.state.role ≡ Follower → Knows e'.state (after_storing c r.state.stored) → KeepsRest e.state e'.state
       → IsInOrder (with_stored r.state (after_storing c r.state.stored)) → committed_id (with_stored r.state (after_storing c r.state.stored)) ≡ committed_id r.state
-      → e'.output.queue ≡ e.output.queue ++ d ∷ [] → storing_of x d ≡ c ∷ [] → ((s : StoredGroup) (upto : Option (LogId ℕ)) → sending_of own s upto d ≡ []) → IsStepOf x own e' (store c r)
+      → e'.output.queue ≡ e.output.queue ++ d ∷ [] → storing_of x.snapshot d ≡ c ∷ [] → ((s : StoredGroup) (upto : Option (LogId ℕ)) → sending_of own s upto d ≡ []) → IsStepOf x own e' (store c r)
   log_stored c d follows knows keeps order same queue stores sends =
       let old = step.state in
       record {
@@ -204,12 +204,13 @@ module _ {C R : Type 0} (x : Snapshot) (own : ℕ) (e e' : Engine C R) (r : Step
           role = role_kept (after_storing c r.state.stored) follows;
           order = order;
         };
-        stores = ap (λ q. flat_map (storing_of x) q) queue ∙ stores_more e.output.queue d x r.commands (c ∷ []) step.stores stores;
+        stores = ap (λ q. flat_map (storing_of x.snapshot) q) queue ∙ stores_more e.output.queue d x.snapshot r.commands (c ∷ []) step.stores stores;
         sends = λ s upto. ap (λ q. flat_map (sending_of own s upto) q) queue ∙ sends_same e.output.queue d own s upto r.messages (step.sends s upto) (sends s upto);
+        seen = seen ∙ step.seen;
       }
 
 -- nothing is committed that wasn't
-pub none_committed : {C R : Type 0} (x : Snapshot) (own : ℕ) (e : Engine C R) (r : StepResult) (place : Option ℕ) → IsStepOf x own e r → later_place r.state.committed place ≡ r.state.committed → IsStepOf x own e (apply_up_to place r)
+pub none_committed : {C R : Type 0} (x : Given) (own : ℕ) (e : Engine C R) (r : StepResult) (place : Option ℕ) → IsStepOf x own e r → later_place r.state.committed place ≡ r.state.committed → IsStepOf x own e (apply_up_to place r)
 none_committed x own e r place step same =
     let old = step.state in
     let id : option_and_then (id_at r.state.stored) (later_place r.state.committed place) ≡ committed_id r.state = ap (option_and_then (id_at r.state.stored)) same in
@@ -232,16 +233,17 @@ none_committed x own e r place step same =
       };
       stores = step.stores;
       sends = step.sends;
+      seen = step.seen;
     }
 
-module _ {C R : Type 0} (x : Snapshot) (own : ℕ) (e e' : Engine C R) (r : StepResult) (step : IsStepOf x own e r) where
+module _ {C R : Type 0} (x : Given) (own : ℕ) (e e' : Engine C R) (r : StepResult) (step : IsStepOf x own e r) where
   -- an entry above what is committed is committed
-  pub more_committed : (place : ℕ) (id : LogId ℕ) (d : Command C R) → e'.config ≡ e.config → e'.leader ≡ e.leader → e'.candidate ≡ e.candidate
+  pub more_committed : (place : ℕ) (id : LogId ℕ) (d : Command C R) → e'.config ≡ e.config → e'.seen_greater_log ≡ e.seen_greater_log → e'.leader ≡ e.leader → e'.candidate ≡ e.candidate
       → e'.state ≡ record e.state { state = record e.state.state { committed = Some id } }
       → is_within place r.state.committed ≡ false → place < end_place r.state.stored → Some id ≡ id_at r.state.stored place
-      → e'.output.queue ≡ e.output.queue ++ d ∷ [] → storing_of x d ≡ [] → ((s : StoredGroup) (upto : Option (LogId ℕ)) → sending_of own s upto d ≡ [])
+      → e'.output.queue ≡ e.output.queue ++ d ∷ [] → storing_of x.snapshot d ≡ [] → ((s : StoredGroup) (upto : Option (LogId ℕ)) → sending_of own s upto d ≡ [])
       → IsStepOf x own e' (apply_up_to (Some place) r)
-  more_committed place id d config leader candidate state past within found queue stores sends =
+  more_committed place id d config seen leader candidate state past within found queue stores sends =
       let old = step.state in
       let later : later_place r.state.committed (Some place) ≡ Some place = later_more r.state.committed place past in
       let now_id : option_and_then (id_at r.state.stored) (later_place r.state.committed (Some place)) ≡ Some id = ap (option_and_then (id_at r.state.stored)) later ∙ sym found in
@@ -273,6 +275,7 @@ module _ {C R : Type 0} (x : Snapshot) (own : ℕ) (e e' : Engine C R) (r : Step
             within = subst (λ c. next_place c ≤ end_place r.state.stored) (sym now_id) (omega arith);
           };
         };
-        stores = ap (λ q. flat_map (storing_of x) q) queue ∙ stores_same e.output.queue d x r.commands step.stores stores;
+        stores = ap (λ q. flat_map (storing_of x.snapshot) q) queue ∙ stores_same e.output.queue d x.snapshot r.commands step.stores stores;
         sends = λ s upto. ap (λ q. flat_map (sending_of own s upto) q) queue ∙ sends_same e.output.queue d own s upto r.messages (step.sends s upto) (sends s upto);
+        seen = seen ∙ step.seen;
       }

@@ -25,7 +25,7 @@ use Rattle.raft_group_step.specs.Lead.{committed_vote}
 use Rattle.raft_commands.specs.declared.command.Command.TheVariants.{BecomeLeader, SaveVote}
 use Rattle.raft_leaders.specs.Candidate.{CandidateValue}
 use Rattle.raft_engine.specs.Commands.{storing_of, sending_of}
-use Rattle.raft_engine.specs.Standing.{EffectiveMembership, Engine, IsStepOf, Leads, PlaysRole, peer_state}
+use Rattle.raft_engine.specs.Standing.{EffectiveMembership, Engine, Given, IsStepOf, Leads, PlaysRole, peer_state}
 use Rattle.raft_engine.proofs.CommandLemmas.{stores_more, stores_same, sends_same}
 use Rattle.raft_engine.proofs.StandingLemmas.{order_kept}
 use Rattle.raft_engine.proofs.LastIdLemmas.{last_of_leader}
@@ -87,19 +87,19 @@ stands_own own None None s granters h = absurd h
 stands_own own None (Some c) s granters h = h.is_own
 stands_own own (Some l) c s granters h = absurd h
 
-module _ {C R : Type 0} (x : Snapshot) (own : ℕ) (e e' : Engine C R) (r : StepResult) (step : IsStepOf x own e r) (l : LeaderValue ℕ EffectiveMembership) (vote : Vote ℕ) where
+module _ {C R : Type 0} (x : Given) (own : ℕ) (e e' : Engine C R) (r : StepResult) (step : IsStepOf x own e r) (l : LeaderValue ℕ EffectiveMembership) (vote : Vote ℕ) where
   -- the lead of a committed vote that is stored
-  pub lead_begun : vote ≡ committed_vote r.state.stored.vote → e'.config ≡ e.config → e'.leader ≡ Some l → e'.candidate ≡ None
+  pub lead_begun : vote ≡ committed_vote r.state.stored.vote → e'.config ≡ e.config → e'.seen_greater_log ≡ e.seen_greater_log → e'.leader ≡ Some l → e'.candidate ≡ None
       → Knows e'.state (after_storing (SetVote vote) r.state.stored) → e'.state.state ≡ record e.state.state { vote = record { value = vote; utime = Some r.state.now } }
       → e'.output.queue ≡ (e.output.queue ++ SaveVote vote ∷ []) ++ BecomeLeader ∷ [] → Leads own l (record r.state.stored { vote = vote }) (new_lead r.state.stored)
       → IsStepOf x own e' (in_role (Leader (new_lead r.state.stored)) (store_vote (committed_vote r.state.stored.vote) r))
-  lead_begun voted config leader candidate knows state queue leads =
+  lead_begun voted config seen leader candidate knows state queue leads =
       let old = step.state in
       let s = r.state.stored in
       let role : PlaysRole own e'.leader e'.candidate (record s { vote = vote }) (Leader (new_lead s)) =
       subst (λ o. PlaysRole own o e'.candidate (record s { vote = vote }) (Leader (new_lead s))) (sym leader)
       (subst (λ c. PlaysRole own (Some l) c (record s { vote = vote }) (Leader (new_lead s))) (sym candidate) leads) in
-      let one = stores_more e.output.queue (SaveVote vote) x r.commands (SetVote vote ∷ []) step.stores refl in
+      let one = stores_more e.output.queue (SaveVote vote) x.snapshot r.commands (SetVote vote ∷ []) step.stores refl in
       let begun : IsStepOf x own e' (in_role (Leader (new_lead s)) (store_vote vote r)) =
       record {
         state = record {
@@ -111,9 +111,10 @@ module _ {C R : Type 0} (x : Snapshot) (own : ℕ) (e e' : Engine C R) (r : Step
           role = role;
           order = order_kept r.state vote r.state.now (Leader (new_lead s)) (Some r.state.now) r.state.wish r.state.untold old.order;
         };
-        stores = ap (λ q. flat_map (storing_of x) q) queue ∙ stores_same (e.output.queue ++ SaveVote vote ∷ []) BecomeLeader x (r.commands ++ SetVote vote ∷ []) one refl;
+        stores = ap (λ q. flat_map (storing_of x.snapshot) q) queue ∙ stores_same (e.output.queue ++ SaveVote vote ∷ []) BecomeLeader x.snapshot (r.commands ++ SetVote vote ∷ []) one refl;
         sends = λ t upto.
             ap (λ q. flat_map (sending_of own t upto) q) queue
             ∙ sends_same (e.output.queue ++ SaveVote vote ∷ []) BecomeLeader own t upto r.messages (sends_same e.output.queue (SaveVote vote) own t upto r.messages (step.sends t upto) refl) refl;
+        seen = seen ∙ step.seen;
       } in
       subst (λ v. IsStepOf x own e' (in_role (Leader (new_lead s)) (store_vote v r))) voted begun

@@ -19,7 +19,7 @@ use Rattle.raft_leaders.specs.Leader.{LeaderValue}
 use Rattle.raft_engine.specs.Commands.{sending_of, storing_of}
 use Rattle.raft_engine.specs.Events.{CanFinish, IsReady}
 use Rattle.raft_engine.specs.Leading.{leads_by}
-use Rattle.raft_engine.specs.Standing.{EffectiveMembership, Engine, IsStepOf, Leads, PlaysRole}
+use Rattle.raft_engine.specs.Standing.{EffectiveMembership, Engine, Given, IsStepOf, Leads, PlaysRole}
 use Rattle.raft_engine.proofs.CommandLemmas.{sends_same, stores_same}
 use Rattle.raft_engine.proofs.NewLeadLemmas.{room_at_start}
 use Rattle.raft_engine.proofs.StandingLemmas.{order_kept}
@@ -31,11 +31,11 @@ stands_nowhere own l None s role e h = refl
 stands_nowhere own None (Some c) s role e h = absurd (subst (PlaysRole own None (Some c) s) e h)
 stands_nowhere own (Some l) (Some c) s role e h = absurd (subst (PlaysRole own (Some l) (Some c) s) e h)
 
-module _ {C R : Type 0} (x : Snapshot) (own : ℕ) (e e' : Engine C R) (r : StepResult) (step : IsStepOf x own e r) (l : LeaderValue ℕ EffectiveMembership) where
+module _ {C R : Type 0} (x : Given) (own : ℕ) (e e' : Engine C R) (r : StepResult) (step : IsStepOf x own e r) (l : LeaderValue ℕ EffectiveMembership) where
   -- the lead begins, and nothing is stored
-  pub lead_resumed : e'.config ≡ e.config → e'.leader ≡ Some l → e'.candidate ≡ None → e'.state ≡ e.state → e'.output.queue ≡ e.output.queue ++ BecomeLeader ∷ []
+  pub lead_resumed : e'.config ≡ e.config → e'.seen_greater_log ≡ e.seen_greater_log → e'.leader ≡ Some l → e'.candidate ≡ None → e'.state ≡ e.state → e'.output.queue ≡ e.output.queue ++ BecomeLeader ∷ []
       → Leads own l r.state.stored (new_lead r.state.stored) → IsStepOf x own e' (in_role (Leader (new_lead r.state.stored)) r)
-  lead_resumed config leader candidate state queue leads =
+  lead_resumed config seen leader candidate state queue leads =
       let old = step.state in
       let s = r.state.stored in
       record {
@@ -50,14 +50,15 @@ module _ {C R : Type 0} (x : Snapshot) (own : ℕ) (e e' : Engine C R) (r : Step
               (subst (λ c. PlaysRole own (Some l) c s (Leader (new_lead s))) (sym candidate) leads);
           order = order_kept r.state s.vote r.state.now (Leader (new_lead s)) r.state.renewed r.state.wish r.state.untold old.order;
         };
-        stores = ap (λ q. flat_map (storing_of x) q) queue ∙ stores_same e.output.queue BecomeLeader x r.commands step.stores refl;
+        stores = ap (λ q. flat_map (storing_of x.snapshot) q) queue ∙ stores_same e.output.queue BecomeLeader x.snapshot r.commands step.stores refl;
         sends = λ t upto. ap (λ q. flat_map (sending_of own t upto) q) queue ∙ sends_same e.output.queue BecomeLeader own t upto r.messages (step.sends t upto) refl;
+        seen = seen ∙ step.seen;
       }
 
 -- ---- whose vote it is
 
 -- the engine tells it of the vote that it knows
-pub own_vote_known : {C R : Type 0} (x : Snapshot) (own : ℕ) (e : Engine C R) (r : StepResult) (vote : Vote ℕ) (answer : Bool)
+pub own_vote_known : {C R : Type 0} (x : Given) (own : ℕ) (e : Engine C R) (r : StepResult) (vote : Vote ℕ) (answer : Bool)
     → IsStepOf x own e r → vote ≡ e.state.state.vote.value → answer ≡ leads_by vote e.config.id → answer ≡ leads_by r.state.stored.vote own
 own_vote_known x own e r vote answer step known says =
     says ∙ ap (λ (v : Vote ℕ). leads_by v e.config.id) (known ∙ step.state.knows.vote)

@@ -11,7 +11,7 @@ use Rattle.raft_group_step.specs.GroupState.{Role, Follower, Candidate, Leader}
 use Rattle.raft_group_step.specs.StepResult.{StepResult, renew, step_down, store_vote, take_over}
 use Rattle.raft_leaders.specs.Candidate.{CandidateValue}
 use Rattle.raft_leaders.specs.Leader.{LeaderValue}
-use Rattle.raft_engine.specs.Standing.{EffectiveMembership, Engine, IsStepOf, PlaysRole, Stands, Leads}
+use Rattle.raft_engine.specs.Standing.{EffectiveMembership, Engine, Given, IsStepOf, Leads, PlaysRole, Stands}
 use Rattle.raft_engine.specs.Following.{IsVoteOfAnother}
 use Rattle.raft_group_step.specs.StoredGroup.{StoredGroup, Snapshot}
 
@@ -78,7 +78,7 @@ only_follows own s vote another level (Some l) None (Leader lead) h =
 only_follows own s vote another level (Some l) (Some c) (Leader lead) h = absurd h
 
 -- once it is taken over, the node follows
-pub follows_after : {C R : Type 0} (x : Snapshot) (own : ℕ) (e : Engine C R) (r : StepResult) (vote : Vote ℕ) → IsStepOf x own e r → IsVoteOfAnother own vote → vote_lt vote r.state.stored.vote ≡ false → (take_over vote r).state.role ≡ Follower
+pub follows_after : {C R : Type 0} (x : Given) (own : ℕ) (e : Engine C R) (r : StepResult) (vote : Vote ℕ) → IsStepOf x own e r → IsVoteOfAnother own vote → vote_lt vote r.state.stored.vote ≡ false → (take_over vote r).state.role ≡ Follower
 follows_after x own e r vote step another no_lower = by_test (vote_lt r.state.stored.vote vote) refl
   where
     by_test : (b : Bool) → vote_lt r.state.stored.vote vote ≡ b → (if b then store_vote vote (step_down r) else renew r).state.role ≡ Follower

@@ -24,7 +24,7 @@ use Rattle.raft_leaders.specs.Candidate.{CandidateValue, SaysWhoGranted}
 use Rattle.raft_leaders.specs.Leader.{LeaderValue}
 use Rattle.raft_engine.specs.Commands.{storing_of, sending_of}
 use Rattle.raft_engine.specs.Purging.{MayBePurged}
-use Rattle.raft_engine.specs.Standing.{EffectiveMembership, Engine, IsInOrder, IsStateOf, IsStepOf, Leads, PlaysRole, Stands}
+use Rattle.raft_engine.specs.Standing.{EffectiveMembership, Engine, Given, IsInOrder, IsStateOf, IsStepOf, Leads, PlaysRole, Stands}
 use Rattle.raft_engine.proofs.AppendLemmas.{next_of_place}
 use Rattle.raft_engine.proofs.CommandLemmas.{stores_more, sends_same}
 use Rattle.raft_engine.proofs.StandingLemmas.{order_kept}
@@ -176,11 +176,11 @@ is_of_entry s place id p h e =
           ap (λ (y : Entry). y.log_id) one ∙ sym mine;
     }
 
-module _ {C R : Type 0} (x : Snapshot) (own : ℕ) (e e' : Engine C R) (r : StepResult) (step : IsStepOf x own e r) (place : ℕ) (upto : LogId ℕ) (entrys : IsOfEntry r.state.stored place upto) where
-  pub purged_to : MayBePurged place r.state.stored → e'.config ≡ e.config → e'.leader ≡ e.leader → e'.candidate ≡ e.candidate
+module _ {C R : Type 0} (x : Given) (own : ℕ) (e e' : Engine C R) (r : StepResult) (step : IsStepOf x own e r) (place : ℕ) (upto : LogId ℕ) (entrys : IsOfEntry r.state.stored place upto) where
+  pub purged_to : MayBePurged place r.state.stored → e'.config ≡ e.config → e'.seen_greater_log ≡ e.seen_greater_log → e'.leader ≡ e.leader → e'.candidate ≡ e.candidate
       → Knows e'.state (after_storing (RemoveUpTo upto) r.state.stored) → KeepsRest e.state e'.state → e'.output.queue ≡ e.output.queue ++ PurgeLog upto ∷ []
       → IsStepOf x own e' (purge_up_to place r)
-  purged_to may config leader candidate knows rest queue =
+  purged_to may config seen leader candidate knows rest queue =
       let old = step.state in
       let s = r.state.stored in
       let covered : upto.index < next_place (snapshot_last s) = subst (λ n. n < next_place (snapshot_last s)) (sym entrys.index) may.within in
@@ -204,8 +204,9 @@ module _ {C R : Type 0} (x : Snapshot) (own : ℕ) (e e' : Engine C R) (r : Step
               (subst (λ l. PlaysRole own l e'.candidate s r.state.role) (sym leader) (subst (λ c. PlaysRole own e.leader c s r.state.role) (sym candidate) old.role));
           order = order_left r.state old.order upto entrys.above entrys.within entrys.found covered;
         };
-        stores = ap (λ q. flat_map (storing_of x) q) queue ∙ stores_more e.output.queue (PurgeLog upto) x r.commands (RemoveUpTo upto ∷ []) step.stores refl;
+        stores = ap (λ q. flat_map (storing_of x.snapshot) q) queue ∙ stores_more e.output.queue (PurgeLog upto) x.snapshot r.commands (RemoveUpTo upto ∷ []) step.stores refl;
         sends = λ t places. ap (λ q. flat_map (sending_of own t places) q) queue ∙ sends_same e.output.queue (PurgeLog upto) own t places r.messages (step.sends t places) refl;
+        seen = seen ∙ step.seen;
       } in
       subst (IsStepOf x own e') (ap (λ found. remove_up_to found r) (sym entrys.there)) purges
 
@@ -246,7 +247,7 @@ module _ (place : ℕ) (r : StepResult) (placed : IsPlaced r.state.stored) (may 
 -- ---- what a leader is still to purge
 
 -- another wish
-pub wished : {C R : Type 0} (x : Snapshot) (own : ℕ) (e e' : Engine C R) (r : StepResult) → IsStepOf x own e r → (wish : Option ℕ) (upto : Option (LogId ℕ))
+pub wished : {C R : Type 0} (x : Given) (own : ℕ) (e e' : Engine C R) (r : StepResult) → IsStepOf x own e r → (wish : Option ℕ) (upto : Option (LogId ℕ))
     → e' ≡ record e { state = record e.state { state = record e.state.state { purge_upto = upto } } } → place_of upto ≡ wish → IsStepOf x own e' (with_wish wish r)
 wished x own e e' r step wish upto same is =
     let old = step.state in
@@ -263,6 +264,7 @@ wished x own e e' r step wish upto same is =
       };
       stores = step.stores;
       sends = step.sends;
+      seen = step.seen;
     } in
     subst (λ y. IsStepOf x own y (with_wish wish r)) (sym same) other
 
@@ -300,7 +302,7 @@ not_led own None c s Follower place r e h = refl
 not_led own None c s (Candidate granters) place r e h = refl
 not_led own None c s (Leader lead) place r e h = absurd h
 
-module _ {C R : Type 0} (x : Snapshot) (own : ℕ) (e : Engine C R) (r : StepResult) (step : IsStepOf x own e r) (place : ℕ) (last : LogId ℕ) (covers : e.state.state.snapshot_meta.last_log_id ≡ Some last) where
+module _ {C R : Type 0} (x : Given) (own : ℕ) (e : Engine C R) (r : StepResult) (step : IsStepOf x own e r) (place : ℕ) (last : LogId ℕ) (covers : e.state.state.snapshot_meta.last_log_id ≡ Some last) where
   pub covers_last : snapshot_last r.state.stored ≡ Some last
   covers_last = sym (snapshot_known r.state.stored e.state.state.snapshot_meta step.state.knows.snapshot) ∙ covers
 
@@ -319,7 +321,7 @@ module _ {C R : Type 0} (x : Snapshot) (own : ℕ) (e : Engine C R) (r : StepRes
       ∙ not_led own e.leader e.candidate r.state.stored r.state.role (min place last.index) r none step.state.role
 
 -- without a snapshot nothing is purged
-pub none_covered : {C R : Type 0} (x : Snapshot) (own : ℕ) (e : Engine C R) (r : StepResult) (place : ℕ) → IsStepOf x own e r → e.state.state.snapshot_meta.last_log_id ≡ None → purge_trigger_step place r ≡ r
+pub none_covered : {C R : Type 0} (x : Given) (own : ℕ) (e : Engine C R) (r : StepResult) (place : ℕ) → IsStepOf x own e r → e.state.state.snapshot_meta.last_log_id ≡ None → purge_trigger_step place r ≡ r
 none_covered x own e r place step none =
     ap (λ found. purge_within place found r) (sym (snapshot_known r.state.stored e.state.state.snapshot_meta step.state.knows.snapshot) ∙ none)
 
@@ -338,7 +340,7 @@ module _ (wish : Option ℕ) (r : StepResult) where
   not_led_waits own None c s (Candidate granters) e h = refl
   not_led_waits own None c s (Leader lead) e h = absurd h
 
-module _ {C R : Type 0} (x : Snapshot) (own : ℕ) (e : Engine C R) (r : StepResult) (step : IsStepOf x own e r) where
+module _ {C R : Type 0} (x : Given) (own : ℕ) (e : Engine C R) (r : StepResult) (step : IsStepOf x own e r) where
   -- nothing is wished for
   pub nothing_wished : e.state.state.purge_upto ≡ None → purge_as_wished r.state.role r.state.wish r ≡ r
   nothing_wished none = no_wish r.state.wish r r.state.role (sym step.state.wish ∙ ap place_of none)

@@ -16,7 +16,7 @@ use Rattle.raft_group_step.specs.Refusal.{do_follow, has_known_snapshot, keep_vo
 use Rattle.raft_group_step.specs.GroupStep.{begun}
 use Rattle.raft_engine.specs.Events.{CanFinish, IsReady, received}
 use Rattle.raft_engine.specs.Following.{IsVoteOfAnother}
-use Rattle.raft_engine.specs.Standing.{Engine, IsStepOf}
+use Rattle.raft_engine.specs.Standing.{Engine, Given, IsStepOf}
 use Rattle.raft_engine.proofs.EventLemmas.{no_first_reason, passes}
 use Rattle.raft_engine.proofs.FollowingLemmas.{cut_keeps_role}
 use Rattle.raft_engine.proofs.OtherVotes.{follows_after}
@@ -132,7 +132,7 @@ module _ (own peer : ℕ) (r : StepResult) (can : Finishes own r) where
         | false ↦ can
       ]
 
-  module _ {C R : Type 0} (x : Snapshot) (e : Engine C R) (step : IsStepOf x own e r) where
+  module _ {C R : Type 0} (x : Given) (e : Engine C R) (step : IsStepOf x own e r) where
     -- after a leader's entries
     pub append_request_finishes : (m : AppendFields) → IsVoteOfAnother own m.vote → Finishes own (append_request_step own peer m r)
     append_request_finishes m another = by_test (vote_lt m.vote r.state.stored.vote) refl
@@ -145,12 +145,12 @@ module _ (own peer : ℕ) (r : StepResult) (can : Finishes own r) where
             (joined_keeps_role own peer m (is_held taken.state.stored taken.state.committed m.previous) taken ∙ follows_after x own e r m.vote step another f)
 
     -- after a leader's snapshot
-    pub snapshot_request_finishes : (vote : Vote ℕ) (id : ℕ) → IsVoteOfAnother own vote → Finishes own (snapshot_request_step own peer vote id x r)
+    pub snapshot_request_finishes : (vote : Vote ℕ) (id : ℕ) → IsVoteOfAnother own vote → Finishes own (snapshot_request_step own peer vote id x.snapshot r)
     snapshot_request_finishes vote id another = by_test (vote_lt vote r.state.stored.vote) refl
       where
-        by_test : (b : Bool) → vote_lt vote r.state.stored.vote ≡ b → Finishes own (offered own peer vote id x b r)
+        by_test : (b : Bool) → vote_lt vote r.state.stored.vote ≡ b → Finishes own (offered own peer vote id x.snapshot b r)
         by_test true f = can
         by_test false f =
             let taken = take_over vote r in
-            followers_finish own (offered own peer vote id x false r).state
-            (installing_keeps_role (is_within x.last.index taken.state.committed) x taken ∙ follows_after x own e r vote step another f)
+            followers_finish own (offered own peer vote id x.snapshot false r).state
+            (installing_keeps_role (is_within x.snapshot.last.index taken.state.committed) x.snapshot taken ∙ follows_after x own e r vote step another f)

@@ -18,7 +18,7 @@ use Rattle.raft_group_step.specs.GroupState.{Follower}
 use Rattle.raft_group_step.specs.StepResult.{StepResult, apply_up_to, is_within, later_place, store}
 use Rattle.raft_known_state.specs.KnownState.{ArePlaced, IsEntryOrPast, KeepsRest, KnownState, Knows}
 use Rattle.raft_engine.specs.Commands.{Command, sending_of, snapshot_result, storing_of}
-use Rattle.raft_engine.specs.Standing.{Engine, IsInOrder, IsStepOf, PlaysRole}
+use Rattle.raft_engine.specs.Standing.{Engine, Given, IsInOrder, IsStepOf, PlaysRole}
 use Rattle.raft_engine.proofs.CommandLemmas.{sends_same, stores_more}
 use Rattle.raft_engine.proofs.StandingLemmas.{still_follows}
 use Rattle.raft_engine.proofs.PlacedEntries.{dropped, entry_within}
@@ -104,15 +104,15 @@ both_keep a b c k l = record { vote = l.vote ∙ k.vote; committed = l.committed
 abbrev pub after_snapshot : Snapshot → LogId ℕ → StoredGroup → StoredGroup
 after_snapshot x last s = after_storing (RemoveUpTo last) (after_storing (SetSnapshot x) s)
 
-module _ {C R : Type 0} (x : Snapshot) (own : ℕ) (e e' : Engine C R) (r : StepResult) (step : IsStepOf x own e r)
-    (config : e'.config ≡ e.config) (leader : e'.leader ≡ e.leader) (candidate : e'.candidate ≡ e.candidate) (follows : r.state.role ≡ Follower)
-    (last : LogId ℕ) (is_last : last ≡ x.last) (past : is_within last.index r.state.committed ≡ false) where
+module _ {C R : Type 0} (g : Given) (own : ℕ) (e e' : Engine C R) (r : StepResult) (step : IsStepOf g own e r)
+    (config : e'.config ≡ e.config) (seen : e'.seen_greater_log ≡ e.seen_greater_log) (leader : e'.leader ≡ e.leader) (candidate : e'.candidate ≡ e.candidate) (follows : r.state.role ≡ Follower)
+    (last : LogId ℕ) (is_last : last ≡ g.snapshot.last) (past : is_within last.index r.state.committed ≡ false) where
   later : later_place r.state.committed (Some last.index) ≡ Some last.index
   later = later_more r.state.committed last.index past
 
-  now_id : option_and_then (id_at (after_snapshot x last r.state.stored)) (later_place r.state.committed (Some last.index)) ≡ Some last
+  now_id : option_and_then (id_at (after_snapshot g.snapshot last r.state.stored)) (later_place r.state.committed (Some last.index)) ≡ Some last
   now_id =
-      ap (option_and_then (id_at (after_snapshot x last r.state.stored))) later
+      ap (option_and_then (id_at (after_snapshot g.snapshot last r.state.stored))) later
       ∙ (let t : (last.index + 1 == last.index + 1) ≡ true = eq-eqb (last.index + 1) (last.index + 1) refl in rw t refl)
 
   placed_after : ArePlaced (last.index + 1) (drop (last.index + 1 - first_place r.state.stored) r.state.stored.log)
@@ -122,14 +122,14 @@ module _ {C R : Type 0} (x : Snapshot) (own : ℕ) (e e' : Engine C R) (r : Step
       subst (λ n. ArePlaced n (drop (last.index + 1 - first_place r.state.stored) r.state.stored.log)) at
       (dropped r.state.stored.log (first_place r.state.stored) (last.index + 1 - first_place r.state.stored) step.state.order.placed)
 
-  pub installed : (k : KnownState) (c d : Command C R) → Knows k (after_snapshot x last r.state.stored) → KeepsRest e.state k → e'.state ≡ record k { state = record k.state { committed = Some last } }
-      → e'.output.queue ≡ (e.output.queue ++ c ∷ []) ++ d ∷ [] → storing_of x c ≡ SetSnapshot x ∷ [] → storing_of x d ≡ RemoveUpTo last ∷ []
+  pub installed : (k : KnownState) (c d : Command C R) → Knows k (after_snapshot g.snapshot last r.state.stored) → KeepsRest e.state k → e'.state ≡ record k { state = record k.state { committed = Some last } }
+      → e'.output.queue ≡ (e.output.queue ++ c ∷ []) ++ d ∷ [] → storing_of g.snapshot c ≡ SetSnapshot g.snapshot ∷ [] → storing_of g.snapshot d ≡ RemoveUpTo last ∷ []
       → ((s : StoredGroup) (upto : Option (LogId ℕ)) → sending_of own s upto c ≡ []) → ((s : StoredGroup) (upto : Option (LogId ℕ)) → sending_of own s upto d ≡ [])
-      → IsStepOf x own e' (apply_up_to (Some last.index) (store (RemoveUpTo last) (store (SetSnapshot x) r)))
+      → IsStepOf g own e' (apply_up_to (Some last.index) (store (RemoveUpTo last) (store (SetSnapshot g.snapshot) r)))
   installed k c d knows keeps state queue stores-c stores-d sends-c sends-d =
       let old = step.state in
-      let next : last.index + 1 ≤ x.last.index + 1 = subst (λ (id : LogId ℕ). last.index + 1 ≤ id.index + 1) is_last (omega arith) in
-      let back : x.last.index + 1 ≤ last.index + 1 = subst (λ (id : LogId ℕ). id.index + 1 ≤ last.index + 1) is_last (omega arith) in
+      let next : last.index + 1 ≤ g.snapshot.last.index + 1 = subst (λ (id : LogId ℕ). last.index + 1 ≤ id.index + 1) is_last (omega arith) in
+      let back : g.snapshot.last.index + 1 ≤ last.index + 1 = subst (λ (id : LogId ℕ). id.index + 1 ≤ last.index + 1) is_last (omega arith) in
       record {
         state = record {
           config = config ∙ old.config;
@@ -145,23 +145,24 @@ module _ {C R : Type 0} (x : Snapshot) (own : ℕ) (e e' : Engine C R) (r : Step
           committed = ap (λ (y : KnownState). y.state.committed) state ∙ sym now_id;
           wish = ap (λ (y : KnownState). place_of y.state.purge_upto) state ∙ ap place_of keeps.purge_upto ∙ old.wish;
           role =
-              still_follows own e'.leader e'.candidate r.state.stored (after_snapshot x last r.state.stored) r.state.role follows
+              still_follows own e'.leader e'.candidate r.state.stored (after_snapshot g.snapshot last r.state.stored) r.state.role follows
               (subst (λ l. PlaysRole own l e'.candidate r.state.stored r.state.role) (sym leader) (subst (λ y. PlaysRole own e.leader y r.state.stored r.state.role) (sym candidate) old.role));
           order = record {
             placed = placed_after;
             purged = next;
-            snapshot = subst (λ y. x.last.index + 1 ≤ next_place y) (sym now_id) back;
+            snapshot = subst (λ y. g.snapshot.last.index + 1 ≤ next_place y) (sym now_id) back;
             committed = ap place_of now_id ∙ sym later;
             applied = refl;
-            within = subst (λ y. next_place y ≤ end_place (after_snapshot x last r.state.stored)) (sym now_id) (omega arith);
+            within = subst (λ y. next_place y ≤ end_place (after_snapshot g.snapshot last r.state.stored)) (sym now_id) (omega arith);
           };
         };
         stores =
-            ap (λ q. flat_map (storing_of x) q) queue
-            ∙ stores_more (e.output.queue ++ c ∷ []) d x (r.commands ++ SetSnapshot x ∷ []) (RemoveUpTo last ∷ [])
-            (stores_more e.output.queue c x r.commands (SetSnapshot x ∷ []) step.stores stores-c) stores-d;
+            ap (λ q. flat_map (storing_of g.snapshot) q) queue
+            ∙ stores_more (e.output.queue ++ c ∷ []) d g.snapshot (r.commands ++ SetSnapshot g.snapshot ∷ []) (RemoveUpTo last ∷ [])
+            (stores_more e.output.queue c g.snapshot r.commands (SetSnapshot g.snapshot ∷ []) step.stores stores-c) stores-d;
         sends = λ s upto.
             ap (λ q. flat_map (sending_of own s upto) q) queue
             ∙ sends_same (e.output.queue ++ c ∷ []) d own s upto r.messages
             (sends_same e.output.queue c own s upto r.messages (step.sends s upto) (sends-c s upto)) (sends-d s upto);
+        seen = seen ∙ step.seen;
       }

@@ -17,7 +17,7 @@ use Rattle.raft_leaders.specs.Leader.{LeaderValue}
 use Rattle.std.specs.List.{flat_map}
 use Rattle.raft_commands.specs.Output.{Output}
 use Rattle.raft_engine.specs.Commands.{Command, storing_of, sending_of, stored_by, sent_by}
-use Rattle.raft_engine.specs.Standing.{Engine, EffectiveMembership, IsInOrder, IsStateOf, IsStepOf, IsWholeStepOf, PlaysRole, Stands, Leads}
+use Rattle.raft_engine.specs.Standing.{EffectiveMembership, Engine, Given, IsInOrder, IsStateOf, IsStepOf, IsWholeStepOf, Leads, PlaysRole, Stands}
 use Rattle.raft_engine.proofs.CommandLemmas.{stores_more, stores_same, sends_more, sends_same}
 
 abbrev StateOf : Type 0
@@ -38,12 +38,12 @@ still_follows own (Some l) c s s' Follower e h = absurd h
 still_follows own l c s s' (Candidate granters) e h = cc
 still_follows own l c s s' (Leader lead) e h = cc
 
-module _ {C R : Type 0} (x : Snapshot) (own : ℕ) (e e' : Engine C R) (r : StepResult) (step : IsStepOf x own e r) where
+module _ {C R : Type 0} (x : Given) (own : ℕ) (e e' : Engine C R) (r : StepResult) (step : IsStepOf x own e r) where
   -- a follower's vote is stored
-  pub vote_stored : (vote : Vote ℕ) → r.state.role ≡ Follower → e'.config ≡ e.config → e'.leader ≡ e.leader → e'.candidate ≡ e.candidate
+  pub vote_stored : (vote : Vote ℕ) → r.state.role ≡ Follower → e'.config ≡ e.config → e'.seen_greater_log ≡ e.seen_greater_log → e'.leader ≡ e.leader → e'.candidate ≡ e.candidate
       → Knows e'.state (after_storing (SetVote vote) r.state.stored) → e'.state.state ≡ record e.state.state { vote = record { value = vote; utime = Some r.state.now } }
       → e'.output.queue ≡ e.output.queue ++ SaveVote vote ∷ [] → IsStepOf x own e' (store_vote vote r)
-  vote_stored vote follows config leader candidate knows state queue =
+  vote_stored vote follows config seen leader candidate knows state queue =
       let old = step.state in
       record {
         state = record {
@@ -56,14 +56,15 @@ module _ {C R : Type 0} (x : Snapshot) (own : ℕ) (e e' : Engine C R) (r : Step
               (subst (λ l. PlaysRole own l e'.candidate r.state.stored r.state.role) (sym leader) (subst (λ c. PlaysRole own e.leader c r.state.stored r.state.role) (sym candidate) old.role));
           order = order_kept r.state vote r.state.now r.state.role (Some r.state.now) r.state.wish r.state.untold old.order;
         };
-        stores = ap (λ q. flat_map (storing_of x) q) queue ∙ stores_more e.output.queue (SaveVote vote) x r.commands (SetVote vote ∷ []) step.stores refl;
+        stores = ap (λ q. flat_map (storing_of x.snapshot) q) queue ∙ stores_more e.output.queue (SaveVote vote) x.snapshot r.commands (SetVote vote ∷ []) step.stores refl;
         sends = λ s upto. ap (λ q. flat_map (sending_of own s upto) q) queue ∙ sends_same e.output.queue (SaveVote vote) own s upto r.messages (step.sends s upto) refl;
+        seen = seen ∙ step.seen;
       }
 
   -- the vote in force is heard of at this moment
-  pub vote_renewed : e'.config ≡ e.config → e'.leader ≡ e.leader → e'.candidate ≡ e.candidate → e'.output ≡ e.output
+  pub vote_renewed : e'.config ≡ e.config → e'.seen_greater_log ≡ e.seen_greater_log → e'.leader ≡ e.leader → e'.candidate ≡ e.candidate → e'.output ≡ e.output
       → e'.state ≡ record e.state { state = record e.state.state { vote = record e.state.state.vote { utime = Some r.state.now } } } → IsStepOf x own e' (renew r)
-  vote_renewed config leader candidate output state =
+  vote_renewed config seen leader candidate output state =
       let old = step.state in
       record {
         state = record {
@@ -82,15 +83,16 @@ module _ {C R : Type 0} (x : Snapshot) (own : ℕ) (e e' : Engine C R) (r : Step
           role = subst (λ l. PlaysRole own l e'.candidate r.state.stored r.state.role) (sym leader) (subst (λ c. PlaysRole own e.leader c r.state.stored r.state.role) (sym candidate) old.role);
           order = order_kept r.state r.state.stored.vote r.state.now r.state.role (Some r.state.now) r.state.wish r.state.untold old.order;
         };
-        stores = ap (λ (o : Output C (List ℕ) R ℕ (List ℕ)). stored_by x o.queue) output ∙ step.stores;
+        stores = ap (λ (o : Output C (List ℕ) R ℕ (List ℕ)). stored_by x.snapshot o.queue) output ∙ step.stores;
         sends = λ s upto. ap (λ (o : Output C (List ℕ) R ℕ (List ℕ)). sent_by own s upto o.queue) output ∙ step.sends s upto;
+        seen = seen ∙ step.seen;
       }
 
   -- what is sent and stores nothing goes behind the rest
-  pub sent_more : (c : Command C R) (more : List Message) → e'.config ≡ e.config → e'.leader ≡ e.leader → e'.candidate ≡ e.candidate → e'.state ≡ e.state
-      → e'.output.queue ≡ e.output.queue ++ c ∷ [] → storing_of x c ≡ [] → ((s : StoredGroup) (upto : Option (LogId ℕ)) → sending_of own s upto c ≡ more)
+  pub sent_more : (c : Command C R) (more : List Message) → e'.config ≡ e.config → e'.seen_greater_log ≡ e.seen_greater_log → e'.leader ≡ e.leader → e'.candidate ≡ e.candidate → e'.state ≡ e.state
+      → e'.output.queue ≡ e.output.queue ++ c ∷ [] → storing_of x.snapshot c ≡ [] → ((s : StoredGroup) (upto : Option (LogId ℕ)) → sending_of own s upto c ≡ more)
       → IsStepOf x own e' (record r { messages = r.messages ++ more })
-  sent_more c more config leader candidate state queue none sends =
+  sent_more c more config seen leader candidate state queue none sends =
       let old = step.state in
       record {
         state = record {
@@ -102,18 +104,19 @@ module _ {C R : Type 0} (x : Snapshot) (own : ℕ) (e e' : Engine C R) (r : Step
           role = subst (λ l. PlaysRole own l e'.candidate r.state.stored r.state.role) (sym leader) (subst (λ d. PlaysRole own e.leader d r.state.stored r.state.role) (sym candidate) old.role);
           order = old.order;
         };
-        stores = ap (λ q. flat_map (storing_of x) q) queue ∙ stores_same e.output.queue c x r.commands step.stores none;
+        stores = ap (λ q. flat_map (storing_of x.snapshot) q) queue ∙ stores_same e.output.queue c x.snapshot r.commands step.stores none;
         sends = λ s upto. ap (λ q. flat_map (sending_of own s upto) q) queue ∙ sends_more e.output.queue c own s upto r.messages more (step.sends s upto) (sends s upto);
+        seen = seen ∙ step.seen;
       }
 
 -- the same queue with a message more
-pub queued : {C R : Type 0} (x : Snapshot) (own : ℕ) (e : Engine C R) (r : StepResult) (c : Command C R) (more : List Message) → IsStepOf x own e r → storing_of x c ≡ []
+pub queued : {C R : Type 0} (x : Given) (own : ℕ) (e : Engine C R) (r : StepResult) (c : Command C R) (more : List Message) → IsStepOf x own e r → storing_of x.snapshot c ≡ []
     → ((s : StoredGroup) (upto : Option (LogId ℕ)) → sending_of own s upto c ≡ more)
     → IsStepOf x own (record e { output = record e.output { queue = e.output.queue ++ c ∷ [] } }) (record r { messages = r.messages ++ more })
 queued x own e r c more step none sends =
-    sent_more x own e (record e { output = record e.output { queue = e.output.queue ++ c ∷ [] } }) r step c more refl refl refl refl refl none sends
+    sent_more x own e (record e { output = record e.output { queue = e.output.queue ++ c ∷ [] } }) r step c more refl refl refl refl refl refl none sends
 
 -- a step whose messages have what is stored later has what is stored now
-pub step_as_whole : {C R : Type 0} (x : Snapshot) (own : ℕ) (e : Engine C R) (r : StepResult) → IsStepOf x own e r → IsWholeStepOf x own e r
+pub step_as_whole : {C R : Type 0} (x : Given) (own : ℕ) (e : Engine C R) (r : StepResult) → IsStepOf x own e r → IsWholeStepOf x own e r
 step_as_whole x own e r step =
-    record { state = step.state; stores = step.stores; sends = step.sends r.state.stored (committed_id r.state) }
+    record { state = step.state; stores = step.stores; sends = step.sends r.state.stored (committed_id r.state); seen = step.seen }

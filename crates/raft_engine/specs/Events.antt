@@ -1,16 +1,17 @@
 -- When an engine may be handed an event, and what it has done of the event then.
-use Rattle.std.specs.Prelude.{◌≡◌, ℕ, ◌+◌, ◌≤◌, ◌<◌, ◌^◌, [], length, max, Option, Some, None}
+use Rattle.std.specs.Prelude.{◌≡◌, ℕ, ◌+◌, ◌≤◌, ◌<◌, ◌^◌, ◌&&◌, ◌||◌, not, Bool, false, [], length, max, Option, Some, None}
 use Rattle.raft_values.specs.LogId.{next_place}
-use Rattle.raft_group_step.specs.StoredGroup.{StoredGroup, Snapshot, end_place, snapshot_last}
-use Rattle.raft_group_step.specs.GroupState.{GroupState, Lead, Role, Follower, Candidate, Leader}
-use Rattle.raft_group_step.specs.GroupEvent.{GroupEvent, Receive}
-use Rattle.raft_group_step.specs.Message.{MessageBody}
+use Rattle.raft_group_step.specs.StoredGroup.{StoredGroup, Snapshot, end_place, last_id, snapshot_last}
+use Rattle.raft_group_step.specs.Values.{last_id_lt, vote_eq}
+use Rattle.raft_group_step.specs.GroupState.{GroupState, Lead, Role, Follower, Candidate, Leader, is_candidate}
+use Rattle.raft_group_step.specs.GroupEvent.{GroupEvent, AddGroup, Call, Receive, Open}
+use Rattle.raft_group_step.specs.Message.{MessageBody, VoteRequest, VoteReply, AppendRequest, AppendReply, SnapshotRequest, SnapshotReply}
 use Rattle.raft_group_step.specs.StepResult.{StepResult}
 use Rattle.raft_group_step.specs.Lead.{other_ids, peer_of}
 use Rattle.raft_group_step.specs.Refusal.{refusal_of}
 use Rattle.raft_group_step.specs.GroupStep.{group_step}
 use Rattle.raft_engine.specs.Purging.{MayBePurged}
-use Rattle.raft_engine.specs.Standing.{Engine, IsStateOf, IsWholeStepOf}
+use Rattle.raft_engine.specs.Standing.{Engine, Given, IsStateOf, IsWholeStepOf}
 
 -- places and numbers of requests fit, and what a leader wishes to purge may go
 pub record HasLeadRoom (own : ℕ) (s : GroupState) (lead : Lead) : Type 0 where
@@ -36,6 +37,23 @@ pub record IsReady (own : ℕ) (s : GroupState) : Type 0 where
 abbrev pub received : ℕ → ℕ → MessageBody → ℕ → GroupEvent
 received own peer body at = Receive peer (record { sender = peer; addressee = own; body = body }) at
 
+-- an answer that isn't a grant tells a candidate of a log that is greater than its own
+abbrev pub tells_greater_log : GroupState → MessageBody → Bool
+tells_greater_log s (VoteRequest vote last) = false
+tells_greater_log s (VoteReply vote granted last) =
+    is_candidate s.role && not (granted && vote_eq vote s.stored.vote) && last_id_lt (last_id s.stored) last
+tells_greater_log s (AppendRequest m) = false
+tells_greater_log s (AppendReply m) = false
+tells_greater_log s (SnapshotRequest vote id snapshot) = false
+tells_greater_log s (SnapshotReply m) = false
+
+-- whether a greater log was told of up to an event's end
+abbrev pub seen_after : GroupState → GroupEvent → Bool → Bool
+seen_after s AddGroup seen = seen
+seen_after s (Call call now) seen = seen
+seen_after s (Receive peer m now) seen = tells_greater_log s m.body || seen
+seen_after s Open seen = seen
+
 module _ {C R : Type 0} where
   -- the engine stands for the state and has nothing left to do, and the event isn't refused
   pub record MayTake (own : ℕ) (e : Engine C R) (s : GroupState) (event : GroupEvent) : Type 0 where
@@ -44,6 +62,10 @@ module _ {C R : Type 0} where
     pub ready : IsReady own s
     pub accepted : refusal_of own s event ≡ None
 
-  -- the engine has done what the group step does at the event
-  abbrev pub HasTaken : Snapshot → ℕ → Engine C R → GroupState → GroupEvent → Type 0
-  HasTaken x own e s event = IsWholeStepOf x own e (group_step own s event)
+  -- what an event leaves alone, or learns of greater logs
+  abbrev pub given_after : Snapshot → Engine C R → GroupState → GroupEvent → Given
+  given_after x e s event = record { snapshot = x; seen_greater_log = seen_after s event e.seen_greater_log }
+
+  -- the engine, which was e, has done what the group step does at the event
+  abbrev pub HasTaken : Snapshot → ℕ → Engine C R → Engine C R → GroupState → GroupEvent → Type 0
+  HasTaken x own e e' s event = IsWholeStepOf (given_after x e s event) own e' (group_step own s event)

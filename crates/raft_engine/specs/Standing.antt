@@ -99,7 +99,17 @@ pub record IsInOrder (s : GroupState) : Type 0 where
 abbrev pub Engine : Type 0 → Type 0 → Type 0
 Engine C R = EngineOf C (List ℕ) R ℕ (List ℕ)
 
+-- what the words of a step leave alone: the snapshot that a command of its queue stores, and whether a node told of a log that
+-- is greater than the own one
+pub record Given : Type 0 where
+  pub snapshot : Snapshot
+  pub seen_greater_log : Bool
+
 module _ {C R : Type 0} where
+  -- a snapshot, and what the engine knows of greater logs
+  abbrev pub given : Snapshot → Engine C R → Given
+  given x e = record { snapshot = x; seen_greater_log = e.seen_greater_log }
+
   -- the engine of this node stands for the group's state
   pub record IsStateOf (own : ℕ) (e : Engine C R) (s : GroupState) : Type 0 where
     pub config : e.config ≡ config_of own
@@ -110,15 +120,16 @@ module _ {C R : Type 0} where
     pub role : PlaysRole own e.leader e.candidate s.stored s.role
     pub order : IsInOrder s
 
-  -- the engine and its queue stand for the step so far, whatever is stored later; x is the snapshot
-  -- that a command of the queue stores
-  pub record IsStepOf (x : Snapshot) (own : ℕ) (e : Engine C R) (r : StepResult) : Type 0 where
+  -- the engine and its queue stand for the step so far, whatever is stored later
+  pub record IsStepOf (x : Given) (own : ℕ) (e : Engine C R) (r : StepResult) : Type 0 where
     pub state : IsStateOf own e r.state
-    pub stores : stored_by x e.output.queue ≡ r.commands
+    pub stores : stored_by x.snapshot e.output.queue ≡ r.commands
     pub sends : (s : StoredGroup) (upto : Option (LogId ℕ)) → sent_by own s upto e.output.queue ≡ r.messages
+    pub seen : e.seen_greater_log ≡ x.seen_greater_log
 
   -- the same once the event is over: what is sent has what is stored and committed then
-  pub record IsWholeStepOf (x : Snapshot) (own : ℕ) (e : Engine C R) (r : StepResult) : Type 0 where
+  pub record IsWholeStepOf (x : Given) (own : ℕ) (e : Engine C R) (r : StepResult) : Type 0 where
     pub state : IsStateOf own e r.state
-    pub stores : stored_by x e.output.queue ≡ r.commands
+    pub stores : stored_by x.snapshot e.output.queue ≡ r.commands
     pub sends : sent_by own r.state.stored (committed_id r.state) e.output.queue ≡ r.messages
+    pub seen : e.seen_greater_log ≡ x.seen_greater_log

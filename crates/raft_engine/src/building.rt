@@ -24,7 +24,7 @@ impl<C: RaftTypeConfig<NodeId = u64, Node = BasicNode, D = Bytes>> Engine<C> {
         ensures busy { is_building self.old ≡ true → (result ≡ Ok false) × (self.new ≡ self.old) }
         ensures none_new { (x : Snapshot) (own at : ℕ) (s : GroupState) → MayTake own self.old s (Call TriggerSnapshot at) → is_building self.old ≡ false
             → stands_before (covered_id self.old) self.old.state.state.committed ≡ false
-            → IfOk result (λ asked. (asked ≡ false) × HasTaken x own self.new s (Call TriggerSnapshot at)) }
+            → IfOk result (λ asked. (asked ≡ false) × HasTaken x own self.old self.new s (Call TriggerSnapshot at)) }
         ensures asked { is_building self.old ≡ false → stands_before (covered_id self.old) self.old.state.state.committed ≡ true
             → IfOk result (λ asked. (asked ≡ true) × (self.new ≡ asking self.old)) }
     {
@@ -45,7 +45,7 @@ impl<C: RaftTypeConfig<NodeId = u64, Node = BasicNode, D = Bytes>> Engine<C> {
     ) -> Result<(), AllocError>
         ensures built { (own at seq : ℕ) (s : GroupState) (x : Snapshot) → IsStateOf own self.old s → self.old.output.queue ≡ build_command seq ∷ [] → IsReady own s
             → refusal_of own s (Call TriggerSnapshot at) ≡ None → meta ≡ meta_of (Some x) → IsSnapshotOfApplied s x
-            → OnOk result (HasTaken x own self.new s (Call TriggerSnapshot at)) }
+            → OnOk result (HasTaken x own self.old self.new s (Call TriggerSnapshot at)) }
         ensures ignored { stands_before (covered_id self.old) meta.last_log_id ≡ false → (result ≡ Ok tt) × (self.new ≡ with_building false self.old) }
     {
         self.state.state.io_state.set_building_snapshot(false);

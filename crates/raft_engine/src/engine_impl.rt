@@ -19,7 +19,7 @@ ghost use Rattle.raft_engine.specs.Events.{HasTaken, IsReady, MayTake, received}
 ghost use Rattle.raft_engine.specs.Following.{SpellsAppend, SpellsAppendReply, SpellsSnapshotReply};
 ghost use Rattle.raft_engine.specs.Purging.{MayBePurged};
 ghost use Rattle.raft_engine.specs.Sending.{reply_of};
-ghost use Rattle.raft_engine.specs.Standing.{IsStateOf, IsStepOf, IsWholeStepOf};
+ghost use Rattle.raft_engine.specs.Standing.{Given, IsStateOf, IsStepOf, IsWholeStepOf, given};
 
 use crate::engine::Engine;
 use raft_commands::{Caller, RaftTypeConfig};
@@ -34,7 +34,7 @@ impl<C: RaftTypeConfig<NodeId = u64, Node = BasicNode, D = Bytes>> Engine<C> {
     /// its own, and else follows.
     pub fn startup(&mut self) -> Result<(), AllocError>
         ensures { (x : Snapshot) (own : ℕ) (s : GroupState) → IsStateOf own self.old s → self.old.output.queue ≡ [] → IsReady own s → s.role ≡ Follower
-            → OnOk result (IsWholeStepOf x own self.new (finished own None (resume_lead own (unchanged s)))) }
+            → OnOk result (IsWholeStepOf (given x self.old) own self.new (finished own None (resume_lead own (unchanged s)))) }
     {
         self.resume_lead()?;
         self.finish(None)
@@ -53,7 +53,7 @@ impl<C: RaftTypeConfig<NodeId = u64, Node = BasicNode, D = Bytes>> Engine<C> {
         ensures refused_stranger { (own : ℕ) (s : GroupState) → IsStateOf own self.old s → is_new s.stored ≡ true → is_voter membership own ≡ false
             → (result ≡ Ok (Err (IsNotInMembers (record { node_id = own; membership = membership })))) × (self.new ≡ self.old) }
         ensures taken { (x : Snapshot) (own at : ℕ) (s : GroupState) → now ≡ max s.now at → MayTake own self.old s (Call (Initialize membership) at)
-            → IfOk result (λ answer. (answer ≡ Ok tt) × HasTaken x own self.new s (Call (Initialize membership) at)) }
+            → IfOk result (λ answer. (answer ≡ Ok tt) × HasTaken x own self.old self.new s (Call (Initialize membership) at)) }
     {
         if !self.state.is_new() {
             let last_log_id = self.state.last_log_id();
@@ -79,7 +79,7 @@ impl<C: RaftTypeConfig<NodeId = u64, Node = BasicNode, D = Bytes>> Engine<C> {
     /// its own grant is a quorum.
     pub fn elect(&mut self, now: u64) -> Result<(), AllocError>
         ensures { (x : Snapshot) (own at : ℕ) (s : GroupState) → now ≡ max s.now at → MayTake own self.old s (Call Elect at)
-            → OnOk result (HasTaken x own self.new s (Call Elect at)) }
+            → OnOk result (HasTaken x own self.old self.new s (Call Elect at)) }
     {
         let before = self.state.state.committed;
         self.elect_part(now)?;
@@ -96,14 +96,16 @@ impl<C: RaftTypeConfig<NodeId = u64, Node = BasicNode, D = Bytes>> Engine<C> {
     ) -> Result<(), AllocError>
         ensures { (x : Snapshot) (own at : ℕ) (s : GroupState) → now ≡ max s.now at
             → MayTake own self.old s (received own tx.peer (AsksForVote req.now.vote req.now.last_log_id) at)
-            → OnOk result (HasTaken x own self.new s (received own tx.peer (AsksForVote req.now.vote req.now.last_log_id) at)) }
+            → OnOk result (HasTaken x own self.old self.new s (received own tx.peer (AsksForVote req.now.vote req.now.last_log_id) at)) }
     {
         let before = self.state.state.committed;
         self.vote_request(req, tx, now)?;
         self.finish(before)
     }
 
-    /// Another voter answers this candidate at this moment, in ticks (openraft).
+    /// Another voter answers this candidate at this moment, in ticks (openraft). An answer that
+    /// isn't a grant may tell of a greater log, so that the runtime waits longer before the next
+    /// election.
     pub fn handle_vote_resp(
         &mut self,
         target: u64,
@@ -112,11 +114,16 @@ impl<C: RaftTypeConfig<NodeId = u64, Node = BasicNode, D = Bytes>> Engine<C> {
     ) -> Result<(), AllocError>
         ensures { (x : Snapshot) (own at : ℕ) (s : GroupState) → now ≡ max s.now at
             → MayTake own self.old s (received own target (VoteReply resp.now.vote resp.now.vote_granted resp.now.last_log_id) at)
-            → OnOk result (HasTaken x own self.new s (received own target (VoteReply resp.now.vote resp.now.vote_granted resp.now.last_log_id) at)) }
+            → OnOk result (HasTaken x own self.old self.new s (received own target (VoteReply resp.now.vote resp.now.vote_granted resp.now.last_log_id) at)) }
     {
         let before = self.state.state.committed;
+        let is_told = self.is_told_of_greater_log(resp);
         self.vote_reply(target, resp, now)?;
-        self.finish(before)
+        self.finish(before)?;
+        if is_told {
+            self.set_greater_log();
+        }
+        Ok(())
     }
 
     /// A leader sends entries, or says what is committed, at this moment, in ticks (openraft).
@@ -129,7 +136,7 @@ impl<C: RaftTypeConfig<NodeId = u64, Node = BasicNode, D = Bytes>> Engine<C> {
     ) -> Result<(), AllocError>
         ensures { (x : Snapshot) (own at : ℕ) (s : GroupState) (m : AppendFields) → now ≡ max s.now at
             → SpellsAppend req m → SpellsAppendReply tx m → MayTake own self.old s (received own tx.peer (AppendRequest m) at)
-            → OnOk result (HasTaken x own self.new s (received own tx.peer (AppendRequest m) at)) }
+            → OnOk result (HasTaken x own self.old self.new s (received own tx.peer (AppendRequest m) at)) }
     {
         let before = self.state.state.committed;
         self.append_request(req, tx, now)?;
@@ -148,7 +155,7 @@ impl<C: RaftTypeConfig<NodeId = u64, Node = BasicNode, D = Bytes>> Engine<C> {
         requires { next_place meta.last_log_id < 2 ^ 64 }
         ensures { (x : Snapshot) (own at id : ℕ) (s : GroupState) → now ≡ max s.now at
             → meta ≡ meta_of (Some x) → tx.vote ≡ vote → SpellsSnapshotReply tx id x → MayTake own self.old s (received own tx.peer (SnapshotRequest vote id x) at)
-            → OnOk result (HasTaken x own self.new s (received own tx.peer (SnapshotRequest vote id x) at)) }
+            → OnOk result (HasTaken x own self.old self.new s (received own tx.peer (SnapshotRequest vote id x) at)) }
     {
         let before = self.state.state.committed;
         self.snapshot_request(vote, meta, tx, now)?;
@@ -160,7 +167,7 @@ impl<C: RaftTypeConfig<NodeId = u64, Node = BasicNode, D = Bytes>> Engine<C> {
     pub fn propose(&mut self, command: Bytes) -> Result<(), AllocError>
         requires { next_place (last_id self.old.state.state.log_ids) < 2 ^ 63 }
         ensures { (x : Snapshot) (own at token : ℕ) (s : GroupState) → MayTake own self.old s (Call (Propose command token) at)
-            → OnOk result (HasTaken x own self.new s (Call (Propose command token) at)) }
+            → OnOk result (HasTaken x own self.old self.new s (Call (Propose command token) at)) }
     {
         let before = self.state.state.committed;
         self.propose_part(command)?;
@@ -176,7 +183,7 @@ impl<C: RaftTypeConfig<NodeId = u64, Node = BasicNode, D = Bytes>> Engine<C> {
         requires { next_place (last_id self.old.state.state.log_ids) < 2 ^ 63 }
         ensures { (x : Snapshot) (own at token : ℕ) (s : GroupState) (m : LoggedMembership) (change : ChangeMembers)
             → membership_in_force s.stored ≡ Some m → changed ≡ after_change m.membership change → MayTake own self.old s (Call (ChangeMembership change token) at)
-            → OnOk result (HasTaken x own self.new s (Call (ChangeMembership change token) at)) }
+            → OnOk result (HasTaken x own self.old self.new s (Call (ChangeMembership change token) at)) }
     {
         let before = self.state.state.committed;
         self.membership_part(changed)?;
@@ -186,7 +193,7 @@ impl<C: RaftTypeConfig<NodeId = u64, Node = BasicNode, D = Bytes>> Engine<C> {
     /// A leader says to every other node that it leads on (own; openraft's leader handler).
     pub fn send_heartbeat(&mut self) -> Result<(), AllocError>
         ensures { (x : Snapshot) (own at : ℕ) (s : GroupState) → MayTake own self.old s (Call Heartbeat at)
-            → OnOk result (HasTaken x own self.new s (Call Heartbeat at)) }
+            → OnOk result (HasTaken x own self.old self.new s (Call Heartbeat at)) }
     {
         let before = self.state.state.committed;
         self.notices()?;
@@ -196,7 +203,7 @@ impl<C: RaftTypeConfig<NodeId = u64, Node = BasicNode, D = Bytes>> Engine<C> {
     /// The request on its way to the peer counts as failed (own; openraft's replication handler).
     pub fn handle_lost(&mut self, peer: u64) -> Result<(), AllocError>
         ensures { (x : Snapshot) (own at : ℕ) (s : GroupState) → MayTake own self.old s (Call (Lost peer) at)
-            → OnOk result (HasTaken x own self.new s (Call (Lost peer) at)) }
+            → OnOk result (HasTaken x own self.old self.new s (Call (Lost peer) at)) }
     {
         let before = self.state.state.committed;
         self.lost(peer);
@@ -214,10 +221,10 @@ impl<C: RaftTypeConfig<NodeId = u64, Node = BasicNode, D = Bytes>> Engine<C> {
     ) -> Result<(), AllocError>
         ensures append { (x : Snapshot) (own at : ℕ) (s : GroupState) → now ≡ max s.now at
             → MayTake own self.old s (received own peer (AppendReply (reply_of reply.now outcome.now)) at)
-            → OnOk result (HasTaken x own self.new s (received own peer (AppendReply (reply_of reply.now outcome.now)) at)) }
+            → OnOk result (HasTaken x own self.old self.new s (received own peer (AppendReply (reply_of reply.now outcome.now)) at)) }
         ensures snapshot { (x : Snapshot) (own at : ℕ) (s : GroupState) → now ≡ max s.now at
             → MayTake own self.old s (received own peer (SnapshotReply (reply_of reply.now outcome.now)) at)
-            → OnOk result (HasTaken x own self.new s (received own peer (SnapshotReply (reply_of reply.now outcome.now)) at)) }
+            → OnOk result (HasTaken x own self.old self.new s (received own peer (SnapshotReply (reply_of reply.now outcome.now)) at)) }
     {
         let before = self.state.state.committed;
         self.answered(peer, reply, outcome, now)?;
@@ -228,7 +235,7 @@ impl<C: RaftTypeConfig<NodeId = u64, Node = BasicNode, D = Bytes>> Engine<C> {
     /// purges once no request needs what goes.
     pub fn trigger_purge_log(&mut self, place: u64) -> Result<(), AllocError>
         ensures { (x : Snapshot) (own at : ℕ) (s : GroupState) → MayTake own self.old s (Call (TriggerPurge place) at)
-            → OnOk result (HasTaken x own self.new s (Call (TriggerPurge place) at)) }
+            → OnOk result (HasTaken x own self.old self.new s (Call (TriggerPurge place) at)) }
     {
         let before = self.state.state.committed;
         self.log_handler().update_purge_upto(place)?;
@@ -237,7 +244,7 @@ impl<C: RaftTypeConfig<NodeId = u64, Node = BasicNode, D = Bytes>> Engine<C> {
 
     /// What a leader is still to purge goes, once no request needs it (openraft).
     pub fn try_purge_log(&mut self) -> Result<(), AllocError>
-        ensures { (x : Snapshot) (own : ℕ) (r : StepResult) → IsStepOf x own self.old r → end_place r.state.stored < 2 ^ 64
+        ensures { (x : Given) (own : ℕ) (r : StepResult) → IsStepOf x own self.old r → end_place r.state.stored < 2 ^ 64
             → ((place : ℕ) → r.state.wish ≡ Some place → MayBePurged place r.state.stored)
             → OnOk result (IsStepOf x own self.new (purge_as_wished r.state.role r.state.wish r)) }
     {
@@ -246,7 +253,7 @@ impl<C: RaftTypeConfig<NodeId = u64, Node = BasicNode, D = Bytes>> Engine<C> {
 
     /// The node leads no more (openraft). Tokens that are to be told stay unknown.
     pub fn leader_step_down(&mut self)
-        ensures { (x : Snapshot) (own : ℕ) (r : StepResult) → IsStepOf x own self.old r → IsStepOf x own self.new (step_down r) }
+        ensures { (x : Given) (own : ℕ) (r : StepResult) → IsStepOf x own self.old r → IsStepOf x own self.new (step_down r) }
     {
         self.vote_handler().become_following();
     }

@@ -3,18 +3,21 @@ ghost use Rattle.std.specs.Prelude.{◌≡◌, ◌+◌, ◌<◌, ◌^◌, ◌↔
 ghost use Rattle.raft_values.specs.LogId.{next_place};
 ghost use Rattle.raft_state.specs.LogIdList.{last_id as last_known_id};
 ghost use Rattle.raft_group_step.specs.Values.{is_voter};
-ghost use Rattle.raft_group_step.specs.StoredGroup.{Snapshot, StoredGroup, end_place, last_id, membership_in_force};
-ghost use Rattle.raft_group_step.specs.GroupState.{Candidate as Standing, is_candidate};
+ghost use Rattle.raft_group_step.specs.StoredGroup.{StoredGroup, end_place, last_id, membership_in_force};
+ghost use Rattle.raft_group_step.specs.GroupState.{GroupState, Candidate as Standing, is_candidate};
+ghost use Rattle.raft_group_step.specs.Message.{VoteReply};
 ghost use Rattle.raft_group_step.specs.StepResult.{StepResult, in_role, step_down};
 ghost use Rattle.raft_group_step.specs.Refusal.{is_voter_in};
 ghost use Rattle.raft_group_step.specs.Lead.{begin_lead, with_grant};
 ghost use Rattle.raft_group_step.specs.Elect.{ask, elect_step, stand};
 ghost use Rattle.raft_group_step.specs.Initialize.{initialize_step, is_new};
 ghost use Rattle.raft_group_step.specs.VoteReply.{vote_reply_step};
-ghost use Rattle.raft_engine.specs.Standing.{IsStepOf, Stands};
+ghost use Rattle.raft_engine.specs.Standing.{Given, IsStateOf, IsStepOf, Stands};
+ghost use Rattle.raft_engine.specs.Events.{tells_greater_log};
 ghost use Rattle.raft_known_state.specs.KnownState.{Knows};
 
 use crate::engine::Engine;
+use crate::orders::is_behind;
 use raft_commands::{Command, RaftTypeConfig};
 use raft_group_step::{Entries, VoteRequest, VoteResponse};
 use raft_leaders::Candidate;
@@ -35,7 +38,7 @@ impl<'x, C: RaftTypeConfig<NodeId = u64, Node = BasicNode, D = Bytes>> Establish
     pub fn establish(&mut self, now: u64) -> Result<(), AllocError>
         requires { next_place (last_known_id self.old.engine.now.state.state.log_ids) < 2 ^ 63 }
         ensures same_engine { self.new.engine.ghost_name ≡ self.old.engine.ghost_name }
-        ensures step { (x : Snapshot) (own : _) (r : StepResult) (granters : List ℕ) → IsStepOf x own self.old.engine.now r → r.state.role ≡ Standing granters → r.state.now ≡ now
+        ensures step { (x : Given) (own : _) (r : StepResult) (granters : List ℕ) → IsStepOf x own self.old.engine.now r → r.state.role ≡ Standing granters → r.state.now ≡ now
             → OnOk result (IsStepOf x own self.new.engine.now (begin_lead r)) }
     {
         self.engine.begin_lead(now)
@@ -45,7 +48,7 @@ impl<'x, C: RaftTypeConfig<NodeId = u64, Node = BasicNode, D = Bytes>> Establish
 impl<C: RaftTypeConfig<NodeId = u64, Node = BasicNode, D = Bytes>> Engine<C> {
     // Each of these voters is asked for its vote.
     fn ask(&mut self, voters: &[u64], vote_req: VoteRequest<u64>) -> Result<(), AllocError>
-        ensures { (x : Snapshot) (own : _) (r : StepResult) → IsStepOf x own self.old r → r.state.stored.vote ≡ vote_req.vote
+        ensures { (x : Given) (own : _) (r : StepResult) → IsStepOf x own self.old r → r.state.stored.vote ≡ vote_req.vote
             → last_id r.state.stored ≡ vote_req.last_log_id → OnOk result (IsStepOf x own self.new (ask own voters.now r)) }
     {
         for target in voters {
@@ -85,7 +88,7 @@ impl<C: RaftTypeConfig<NodeId = u64, Node = BasicNode, D = Bytes>> Engine<C> {
 
     // A candidate notes that this node has granted its vote. Once a quorum has, it leads.
     pub(crate) fn with_grant(&mut self, n: u64, now: u64) -> Result<(), AllocError>
-        ensures { (x : Snapshot) (own : _) (r : StepResult) → IsStepOf x own self.old r → r.state.now ≡ now
+        ensures { (x : Given) (own : _) (r : StepResult) → IsStepOf x own self.old r → r.state.now ≡ now
             → (is_candidate r.state.role ≡ true → end_place r.state.stored < 2 ^ 63)
             → OnOk result (IsStepOf x own self.new (with_grant n r.state.role r)) }
     {
@@ -101,7 +104,7 @@ impl<C: RaftTypeConfig<NodeId = u64, Node = BasicNode, D = Bytes>> Engine<C> {
 
     // The node votes for itself in the next term, and asks the other voters.
     fn stand(&mut self, now: u64) -> Result<(), AllocError>
-        ensures { (x : Snapshot) (own : _) (r : StepResult) → IsStepOf x own self.old r → r.state.now ≡ now
+        ensures { (x : Given) (own : _) (r : StepResult) → IsStepOf x own self.old r → r.state.now ≡ now
             → r.state.stored.vote.leader_id.term + 1 < 2 ^ 64 → is_voter_in (membership_in_force r.state.stored) own ≡ true
             → OnOk result (IsStepOf x own self.new (in_role (Standing (own ∷ [])) (stand own r))) }
     {
@@ -119,13 +122,23 @@ impl<C: RaftTypeConfig<NodeId = u64, Node = BasicNode, D = Bytes>> Engine<C> {
 
     // The node stands for election. It leads at once where its own grant is a quorum.
     pub(crate) fn elect_part(&mut self, now: u64) -> Result<(), AllocError>
-        ensures { (x : Snapshot) (own : _) (r : StepResult) → IsStepOf x own self.old r → r.state.now ≡ now
+        ensures { (x : Given) (own : _) (r : StepResult) → IsStepOf x own self.old r → r.state.now ≡ now
             → r.state.stored.vote.leader_id.term + 1 < 2 ^ 64 → end_place r.state.stored < 2 ^ 63
             → is_voter_in (membership_in_force r.state.stored) own ≡ true
             → OnOk result (IsStepOf x own self.new (elect_step own r)) }
     {
         self.stand(now)?;
         self.with_grant(self.config.id, now)
+    }
+
+    // Whether an answer that isn't a grant tells a candidate of a log that is greater than its own.
+    pub(crate) fn is_told_of_greater_log(&self, resp: &VoteResponse<u64>) -> bool
+        ensures { (own : ℕ) (s : GroupState) → IsStateOf own self.now s
+            → result ≡ tells_greater_log s (VoteReply resp.now.vote resp.now.vote_granted resp.now.last_log_id) }
+    {
+        let last = self.state.last_log_id();
+        let is_grant = resp.vote_granted && resp.vote == *self.state.state.vote_ref();
+        self.candidate.is_some() && !is_grant && is_behind(&last, &resp.last_log_id)
     }
 
     // Another voter answers a candidate. A grant counts where its vote is the one in force.
@@ -135,7 +148,7 @@ impl<C: RaftTypeConfig<NodeId = u64, Node = BasicNode, D = Bytes>> Engine<C> {
         resp: &VoteResponse<u64>,
         now: u64,
     ) -> Result<(), AllocError>
-        ensures { (x : Snapshot) (own : _) (r : StepResult) → IsStepOf x own self.old r → r.state.now ≡ now
+        ensures { (x : Given) (own : _) (r : StepResult) → IsStepOf x own self.old r → r.state.now ≡ now
             → (is_candidate r.state.role ≡ true → end_place r.state.stored < 2 ^ 63)
             → OnOk result (IsStepOf x own self.new (vote_reply_step peer resp.now.vote resp.now.vote_granted r)) }
     {
@@ -151,7 +164,7 @@ impl<C: RaftTypeConfig<NodeId = u64, Node = BasicNode, D = Bytes>> Engine<C> {
         membership: Membership<u64, BasicNode>,
         now: u64,
     ) -> Result<(), AllocError>
-        ensures { (x : Snapshot) (own : _) (r : StepResult) → IsStepOf x own self.old r → r.state.now ≡ now
+        ensures { (x : Given) (own : _) (r : StepResult) → IsStepOf x own self.old r → r.state.now ≡ now
             → is_new r.state.stored ≡ true → is_voter membership own ≡ true
             → OnOk result (IsStepOf x own self.new (initialize_step own membership r)) }
     {

@@ -1,11 +1,10 @@
 //! The end of an event: a leader commits, purges as wished, and sends.
 ghost use Rattle.std.specs.Prelude.{◌≡◌, OnOk};
 ghost use Rattle.raft_values.specs.LogId.{place_of};
-ghost use Rattle.raft_group_step.specs.StoredGroup.{Snapshot};
 ghost use Rattle.raft_group_step.specs.StepResult.{StepResult};
 ghost use Rattle.raft_group_step.specs.GroupStep.{finished};
 ghost use Rattle.raft_engine.specs.Events.{CanFinish};
-ghost use Rattle.raft_engine.specs.Standing.{IsStepOf, IsWholeStepOf};
+ghost use Rattle.raft_engine.specs.Standing.{Given, IsStepOf, IsWholeStepOf};
 
 use crate::engine::Engine;
 use raft_commands::RaftTypeConfig;
@@ -16,7 +15,7 @@ impl<C: RaftTypeConfig<NodeId = u64, Node = BasicNode, D = Bytes>> Engine<C> {
     // Then a leader commits, purges as wished, and sends; before: what was committed as the event
     // began.
     pub(crate) fn finish(&mut self, before: Option<LogId<u64>>) -> Result<(), AllocError>
-        ensures { (x : Snapshot) (own : _) (r : StepResult) → IsStepOf x own self.old r → CanFinish own r.state r.state.role
+        ensures { (x : Given) (own : _) (r : StepResult) → IsStepOf x own self.old r → CanFinish own r.state r.state.role
             → OnOk result (IsWholeStepOf x own self.new (finished own (place_of before) r)) }
     {
         if self.leader.is_none() {

@@ -1,7 +1,7 @@
 //! Following: entries and places that a leader sends.
 ghost use Rattle.std.specs.Prelude.{◌≡◌, ◌≢◌, ◌≤◌, ◌<◌, ◌^◌, ℕ, OnOk, true, false, length, drop, Some, None};
 ghost use Rattle.raft_values.specs.LogId.{next_place, place_of};
-ghost use Rattle.raft_group_step.specs.StoredGroup.{StoredGroup, Snapshot, end_place};
+ghost use Rattle.raft_group_step.specs.StoredGroup.{StoredGroup, end_place};
 ghost use Rattle.raft_group_step.specs.GroupState.{Follower};
 ghost use Rattle.raft_group_step.specs.StepResult.{StepResult, apply_up_to, is_within};
 ghost use Rattle.raft_group_step.specs.Message.{AppendFields, ReplyResult};
@@ -11,7 +11,7 @@ ghost use Rattle.raft_group_step.specs.SnapshotRequest.{install_unless};
 ghost use Rattle.raft_known_state.specs.KnownState.{ArePlaced, IsPlaced, Knows, entry_ids, meta_of};
 ghost use Rattle.raft_engine.specs.Commands.{result_of};
 ghost use Rattle.raft_engine.specs.Numbering.{KeepsNumbers, NumbersRise};
-ghost use Rattle.raft_engine.specs.Standing.{IsStepOf};
+ghost use Rattle.raft_engine.specs.Standing.{Given, IsStepOf};
 ghost use Rattle.raft_engine.specs.Following.{EndsWithin, IsVoteOfAnother, SpellsAppend, SpellsAppendReply, all_go_on, unheld_entries};
 
 use crate::engine::Engine;
@@ -96,7 +96,7 @@ impl<'x, C: RaftTypeConfig<NodeId = u64, Node = BasicNode, D = Bytes>> Following
         entries: Entries<u64, BasicNode, Bytes>,
     ) -> Result<(), AllocError>
         ensures same_engine { self.new.engine.ghost_name ≡ self.old.engine.ghost_name }
-        ensures step { (x : Snapshot) (own : _) (r : StepResult) (previous : _) → IsStepOf x own self.old.engine.now r → r.state.role ≡ Follower
+        ensures step { (x : Given) (own : _) (r : StepResult) (previous : _) → IsStepOf x own self.old.engine.now r → r.state.role ≡ Follower
             → do_follow vote previous entries ≡ true → is_held r.state.stored r.state.committed previous ≡ true
             → OnOk result (IsStepOf x own self.new.engine.now (put_entries (missing_entries r.state.stored (above_committed r.state.committed entries)) r)) }
     {
@@ -107,7 +107,7 @@ impl<'x, C: RaftTypeConfig<NodeId = u64, Node = BasicNode, D = Bytes>> Following
     pub fn commit_entries(&mut self, leader_committed: Option<u64>) -> Result<(), AllocError>
         ensures same_engine { self.new.engine.ghost_name ≡ self.old.engine.ghost_name }
         ensures numbers { OnOk result (NumbersRise self.old.engine.now.output self.new.engine.now.output) }
-        ensures step { (x : Snapshot) (own : _) (r : StepResult) → IsStepOf x own self.old.engine.now r → EndsWithin leader_committed r.state.stored
+        ensures step { (x : Given) (own : _) (r : StepResult) → IsStepOf x own self.old.engine.now r → EndsWithin leader_committed r.state.stored
             → OnOk result (IsStepOf x own self.new.engine.now (apply_up_to leader_committed r)) }
     {
         self.engine.commit_up_to(leader_committed)
@@ -117,7 +117,7 @@ impl<'x, C: RaftTypeConfig<NodeId = u64, Node = BasicNode, D = Bytes>> Following
     /// committed.
     pub fn truncate_logs(&mut self, since: u64) -> Result<(), AllocError>
         ensures same_engine { self.new.engine.ghost_name ≡ self.old.engine.ghost_name }
-        ensures step { (x : Snapshot) (own : _) (r : StepResult) → IsStepOf x own self.old.engine.now r → r.state.role ≡ Follower
+        ensures step { (x : Given) (own : _) (r : StepResult) → IsStepOf x own self.old.engine.now r → r.state.role ≡ Follower
             → is_within since r.state.committed ≡ false → OnOk result (IsStepOf x own self.new.engine.now (cut_from since r)) }
     {
         self.engine.cut_from(since)
@@ -132,8 +132,8 @@ impl<'x, C: RaftTypeConfig<NodeId = u64, Node = BasicNode, D = Bytes>> Following
         requires { next_place meta.last_log_id < 2 ^ 64 }
         ensures same_engine { self.new.engine.ghost_name ≡ self.old.engine.ghost_name }
         ensures numbers { OnOk result (NumbersRise self.old.engine.now.output self.new.engine.now.output) }
-        ensures step { (x : Snapshot) (own : _) (r : StepResult) → IsStepOf x own self.old.engine.now r → r.state.role ≡ Follower → meta ≡ meta_of (Some x)
-            → OnOk result (IsStepOf x own self.new.engine.now (install_unless (is_within x.last.index r.state.committed) x r)) }
+        ensures step { (x : Given) (own : _) (r : StepResult) → IsStepOf x own self.old.engine.now r → r.state.role ≡ Follower → meta ≡ meta_of (Some x.snapshot)
+            → OnOk result (IsStepOf x own self.new.engine.now (install_unless (is_within x.snapshot.last.index r.state.committed) x.snapshot r)) }
     {
         self.engine.install(meta)
     }
@@ -143,7 +143,7 @@ impl<C: RaftTypeConfig<NodeId = u64, Node = BasicNode, D = Bytes>> Engine<C> {
     // All up to the place is committed, if it is above what is.
     pub(crate) fn commit_up_to(&mut self, place: Option<u64>) -> Result<(), AllocError>
         ensures numbers { OnOk result (NumbersRise self.old.output self.new.output) }
-        ensures step { (x : Snapshot) (own : _) (r : StepResult) → IsStepOf x own self.old r → EndsWithin place r.state.stored
+        ensures step { (x : Given) (own : _) (r : StepResult) → IsStepOf x own self.old r → EndsWithin place r.state.stored
             → OnOk result (IsStepOf x own self.new (apply_up_to place r)) }
     {
         let Some(place) = place else {
@@ -168,7 +168,7 @@ impl<C: RaftTypeConfig<NodeId = u64, Node = BasicNode, D = Bytes>> Engine<C> {
     // The log is shortened from the place on, where it has an entry there.
     pub(crate) fn cut_from(&mut self, place: u64) -> Result<(), AllocError>
         ensures numbers { OnOk result (KeepsNumbers self.old.output self.new.output) }
-        ensures step { (x : Snapshot) (own : _) (r : StepResult) → IsStepOf x own self.old r → r.state.role ≡ Follower
+        ensures step { (x : Given) (own : _) (r : StepResult) → IsStepOf x own self.old r → r.state.role ≡ Follower
             → is_within place r.state.committed ≡ false → OnOk result (IsStepOf x own self.new (cut_from place r)) }
     {
         let Some(since) = self.state.get_log_id(place) else {
@@ -181,7 +181,7 @@ impl<C: RaftTypeConfig<NodeId = u64, Node = BasicNode, D = Bytes>> Engine<C> {
 
     // The log is shortened from this log id on, where it has an entry at its place.
     fn cut_at(&mut self, previous: Option<LogId<u64>>) -> Result<(), AllocError>
-        ensures { (x : Snapshot) (own : _) (r : StepResult) → IsStepOf x own self.old r → r.state.role ≡ Follower
+        ensures { (x : Given) (own : _) (r : StepResult) → IsStepOf x own self.old r → r.state.role ≡ Follower
             → is_held r.state.stored r.state.committed previous ≡ false → OnOk result (IsStepOf x own self.new (cut_at previous r)) }
     {
         match previous {
@@ -197,7 +197,7 @@ impl<C: RaftTypeConfig<NodeId = u64, Node = BasicNode, D = Bytes>> Engine<C> {
         entries: Entries<u64, BasicNode, Bytes>,
         vote: Vote<u64>,
     ) -> Result<(), AllocError>
-        ensures { (x : Snapshot) (own : _) (r : StepResult) (place : ℕ) → IsStepOf x own self.old r → r.state.role ≡ Follower
+        ensures { (x : Given) (own : _) (r : StepResult) (place : ℕ) → IsStepOf x own self.old r → r.state.role ≡ Follower
             → ArePlaced place entries → is_within place r.state.committed ≡ false → place ≤ end_place r.state.stored
             → OnOk result (IsStepOf x own self.new (put_entries entries r)) }
     {
@@ -220,7 +220,7 @@ impl<C: RaftTypeConfig<NodeId = u64, Node = BasicNode, D = Bytes>> Engine<C> {
         entries: Entries<u64, BasicNode, Bytes>,
         vote: Vote<u64>,
     ) -> Result<(), AllocError>
-        ensures { (x : Snapshot) (own : _) (r : StepResult) (previous : _) → IsStepOf x own self.old r → r.state.role ≡ Follower
+        ensures { (x : Given) (own : _) (r : StepResult) (previous : _) → IsStepOf x own self.old r → r.state.role ≡ Follower
             → do_follow vote previous entries ≡ true → is_held r.state.stored r.state.committed previous ≡ true
             → OnOk result (IsStepOf x own self.new (put_entries (missing_entries r.state.stored (above_committed r.state.committed entries)) r)) }
     {
@@ -236,7 +236,7 @@ impl<C: RaftTypeConfig<NodeId = u64, Node = BasicNode, D = Bytes>> Engine<C> {
         resp: AppendEntriesResponse<u64>,
         tx: Caller<u64>,
     ) -> Result<(), AllocError>
-        ensures { (x : Snapshot) (own : _) (r : StepResult) (m : AppendFields) → IsStepOf x own self.old r → SpellsAppendReply tx m
+        ensures { (x : Given) (own : _) (r : StepResult) (m : AppendFields) → IsStepOf x own self.old r → SpellsAppendReply tx m
             → OnOk result (IsStepOf x own self.new (reply_append own tx.peer m (result_of resp) r)) }
     {
         let resp = Respond::AppendEntries(ValueSender::new(resp, tx));
@@ -250,7 +250,7 @@ impl<C: RaftTypeConfig<NodeId = u64, Node = BasicNode, D = Bytes>> Engine<C> {
         req: AppendEntriesRequest<u64, BasicNode, Bytes>,
         tx: Caller<u64>,
     ) -> Result<(), AllocError>
-        ensures { (x : Snapshot) (own : _) (r : StepResult) (m : AppendFields) → IsStepOf x own self.old r → r.state.role ≡ Follower
+        ensures { (x : Given) (own : _) (r : StepResult) (m : AppendFields) → IsStepOf x own self.old r → r.state.role ≡ Follower
             → SpellsAppend req m → SpellsAppendReply tx m → do_follow m.vote m.previous m.entries ≡ true
             → OnOk result (IsStepOf x own self.new (joined own tx.peer m (is_held r.state.stored r.state.committed m.previous) r)) }
     {
@@ -271,7 +271,7 @@ impl<C: RaftTypeConfig<NodeId = u64, Node = BasicNode, D = Bytes>> Engine<C> {
         tx: Caller<u64>,
         now: u64,
     ) -> Result<(), AllocError>
-        ensures { (x : Snapshot) (own : _) (r : StepResult) (m : AppendFields) → IsStepOf x own self.old r → r.state.now ≡ now
+        ensures { (x : Given) (own : _) (r : StepResult) (m : AppendFields) → IsStepOf x own self.old r → r.state.now ≡ now
             → SpellsAppend req m → SpellsAppendReply tx m → IsVoteOfAnother own m.vote → do_follow m.vote m.previous m.entries ≡ true
             → OnOk result (IsStepOf x own self.new (append_request_step own tx.peer m r)) }
     {

@@ -3,7 +3,7 @@ ghost use Rattle.std.specs.Prelude.{◌≡◌, ◌+◌, ◌<◌, ◌^◌, ℕ, O
 ghost use Rattle.raft_values.specs.LogId.{next_place};
 ghost use Rattle.raft_state.specs.LogIdList.{last_id};
 ghost use Rattle.raft_group_step.specs.Values.{ChangeMembers, LoggedMembership, after_change, membership_after};
-ghost use Rattle.raft_group_step.specs.StoredGroup.{StoredGroup, Snapshot, end_place, membership_in_force};
+ghost use Rattle.raft_group_step.specs.StoredGroup.{StoredGroup, end_place, membership_in_force};
 ghost use Rattle.raft_group_step.specs.Propose.{propose_step};
 ghost use Rattle.raft_group_step.specs.MembershipStep.{membership_step};
 ghost use Rattle.raft_group_step.specs.GroupState.{Lead, Leader as Leading, Candidate as Standing, Follower as Following};
@@ -13,7 +13,7 @@ ghost use Rattle.raft_group_step.specs.Opening.{resume_lead};
 ghost use Rattle.raft_group_step.specs.Heartbeat.{beat_as};
 ghost use Rattle.raft_known_state.specs.KnownState.{IsPlaced, Knows};
 ghost use Rattle.raft_leaders.specs.Leader.{id_of_leader, peer_at};
-ghost use Rattle.raft_engine.specs.Standing.{IsStepOf, Leads};
+ghost use Rattle.raft_engine.specs.Standing.{Given, IsStepOf, Leads};
 ghost use Rattle.raft_engine.specs.Leading.{KnowsMembers, leads_by};
 ghost use Rattle.std.specs.Prelude.{nat_eq};
 ghost use Rattle.std.specs.Option.{option_copied};
@@ -90,7 +90,7 @@ impl<'x, C: RaftTypeConfig<NodeId = u64, Node = BasicNode, D = Bytes>> LeaderHan
     ) -> Result<(), AllocError>
         requires { next_place (last_id self.old.engine.now.state.state.log_ids) < 2 ^ 63 }
         ensures same_engine { self.new.engine.ghost_name ≡ self.old.engine.ghost_name }
-        ensures step { (x : Snapshot) (own : _) (r : StepResult) (lead : Lead) → IsStepOf x own self.old.engine.now r → r.state.role ≡ Leading lead
+        ensures step { (x : Given) (own : _) (r : StepResult) (lead : Lead) → IsStepOf x own self.old.engine.now r → r.state.role ≡ Leading lead
             → OnOk result (IsStepOf x own self.new.engine.now (append payload r)) }
     {
         self.engine.append(payload)
@@ -99,7 +99,7 @@ impl<'x, C: RaftTypeConfig<NodeId = u64, Node = BasicNode, D = Bytes>> LeaderHan
     /// The leader says to every other node that it leads on (openraft).
     pub fn send_heartbeat(&mut self) -> Result<(), AllocError>
         ensures same_engine { self.new.engine.ghost_name ≡ self.old.engine.ghost_name }
-        ensures step { (x : Snapshot) (own : _) (r : StepResult) → IsStepOf x own self.old.engine.now r
+        ensures step { (x : Given) (own : _) (r : StepResult) → IsStepOf x own self.old.engine.now r
             → OnOk result (IsStepOf x own self.new.engine.now (beat_as own r.state.role r)) }
     {
         self.engine.notices()
@@ -134,7 +134,7 @@ impl<C: RaftTypeConfig<NodeId = u64, Node = BasicNode, D = Bytes>> Engine<C> {
         payload: EntryPayload<u64, BasicNode, Bytes>,
     ) -> Result<(), AllocError>
         requires { next_place (last_id self.old.state.state.log_ids) < 2 ^ 63 }
-        ensures { (x : Snapshot) (own : _) (r : StepResult) (lead : Lead) → IsStepOf x own self.old r → r.state.role ≡ Leading lead
+        ensures { (x : Given) (own : _) (r : StepResult) (lead : Lead) → IsStepOf x own self.old r → r.state.role ≡ Leading lead
             → OnOk result (IsStepOf x own self.new (append payload r)) }
     {
         let Some(leader) = &mut self.leader else {
@@ -157,7 +157,7 @@ impl<C: RaftTypeConfig<NodeId = u64, Node = BasicNode, D = Bytes>> Engine<C> {
     // A blank entry goes behind the log, unless the leader has written one already.
     fn append_blank(&mut self) -> Result<(), AllocError>
         requires { next_place (last_id self.old.state.state.log_ids) < 2 ^ 63 }
-        ensures { (x : Snapshot) (own : _) (r : StepResult) (lead : Lead) → IsStepOf x own self.old r → r.state.role ≡ Leading lead
+        ensures { (x : Given) (own : _) (r : StepResult) (lead : Lead) → IsStepOf x own self.old r → r.state.role ≡ Leading lead
             → OnOk result (IsStepOf x own self.new (append_blank r)) }
     {
         let leader = self.state.state.vote_ref().leader_id;
@@ -170,7 +170,7 @@ impl<C: RaftTypeConfig<NodeId = u64, Node = BasicNode, D = Bytes>> Engine<C> {
     // A quorum has granted the candidate's vote: it leads, and writes a blank entry.
     pub(crate) fn begin_lead(&mut self, now: u64) -> Result<(), AllocError>
         requires { next_place (last_id self.old.state.state.log_ids) < 2 ^ 63 }
-        ensures { (x : Snapshot) (own : _) (r : StepResult) (granters : List ℕ) → IsStepOf x own self.old r → r.state.role ≡ Standing granters → r.state.now ≡ now
+        ensures { (x : Given) (own : _) (r : StepResult) (granters : List ℕ) → IsStepOf x own self.old r → r.state.role ≡ Standing granters → r.state.now ≡ now
             → OnOk result (IsStepOf x own self.new (begin_lead r)) }
     {
         let mut vote = *self.state.state.vote_ref();
@@ -186,7 +186,7 @@ impl<C: RaftTypeConfig<NodeId = u64, Node = BasicNode, D = Bytes>> Engine<C> {
 
     // The node leads on under a committed vote of its own, and writes nothing.
     pub(crate) fn resume_lead(&mut self) -> Result<(), AllocError>
-        ensures { (x : Snapshot) (own : _) (r : StepResult) → IsStepOf x own self.old r → r.state.role ≡ Following → end_place r.state.stored < 2 ^ 63
+        ensures { (x : Given) (own : _) (r : StepResult) → IsStepOf x own self.old r → r.state.role ≡ Following → end_place r.state.stored < 2 ^ 63
             → OnOk result (IsStepOf x own self.new (resume_lead own r)) }
     {
         let vote = *self.state.state.vote_ref();
@@ -202,7 +202,7 @@ impl<C: RaftTypeConfig<NodeId = u64, Node = BasicNode, D = Bytes>> Engine<C> {
     // A command goes behind the log. Its token is for the runtime to keep.
     pub(crate) fn propose_part(&mut self, command: Bytes) -> Result<(), AllocError>
         requires { next_place (last_id self.old.state.state.log_ids) < 2 ^ 63 }
-        ensures { (x : Snapshot) (own : _) (r : StepResult) (lead : Lead) (token : ℕ) → IsStepOf x own self.old r → r.state.role ≡ Leading lead
+        ensures { (x : Given) (own : _) (r : StepResult) (lead : Lead) (token : ℕ) → IsStepOf x own self.old r → r.state.role ≡ Leading lead
             → OnOk result (IsStepOf x own self.new (propose_step command token r)) }
     {
         self.append(EntryPayload::Normal(command))
@@ -214,7 +214,7 @@ impl<C: RaftTypeConfig<NodeId = u64, Node = BasicNode, D = Bytes>> Engine<C> {
         changed: Membership<u64, BasicNode>,
     ) -> Result<(), AllocError>
         requires { next_place (last_id self.old.state.state.log_ids) < 2 ^ 63 }
-        ensures { (x : Snapshot) (own : _) (r : StepResult) (lead : Lead) (token : ℕ) (m : LoggedMembership) (change : ChangeMembers) → IsStepOf x own self.old r → r.state.role ≡ Leading lead
+        ensures { (x : Given) (own : _) (r : StepResult) (lead : Lead) (token : ℕ) (m : LoggedMembership) (change : ChangeMembers) → IsStepOf x own self.old r → r.state.role ≡ Leading lead
             → membership_in_force r.state.stored ≡ Some m → changed ≡ after_change m.membership change
             → OnOk result (IsStepOf x own self.new (membership_step change token r)) }
     {
@@ -224,7 +224,7 @@ impl<C: RaftTypeConfig<NodeId = u64, Node = BasicNode, D = Bytes>> Engine<C> {
     // The greatest place that a leader may commit is committed, if it is above what is.
     pub(crate) fn commit_as_leader(&mut self) -> Result<(), AllocError>
         requires { next_place (last_id self.old.state.state.log_ids) < 2 ^ 63 }
-        ensures { (x : Snapshot) (own : _) (r : StepResult) → IsStepOf x own self.old r
+        ensures { (x : Given) (own : _) (r : StepResult) → IsStepOf x own self.old r
             → OnOk result (IsStepOf x own self.new (commit_as_leader own r.state.role r)) }
     {
         let Some(leader) = &self.leader else {

@@ -2,13 +2,13 @@
 ghost use Rattle.std.specs.Prelude.{◌≡◌, ◌<◌, ◌≤◌, ◌^◌, ℕ, OnOk, min, nat_lt, if◌then◌else◌, Some};
 ghost use Rattle.raft_values.specs.LogId.{next_place, place_of};
 ghost use Rattle.raft_values.specs.declared.log_id.LogId.{LogId};
-ghost use Rattle.raft_group_step.specs.StoredGroup.{Snapshot, end_place, first_place, snapshot_last};
+ghost use Rattle.raft_group_step.specs.StoredGroup.{end_place, first_place, snapshot_last};
 ghost use Rattle.raft_group_step.specs.GroupState.{Lead, Leader as Leading};
 ghost use Rattle.raft_group_step.specs.StepResult.{StepResult, is_within, later_place};
 ghost use Rattle.raft_group_step.specs.Lead.{purge_as_wished, purge_up_to, with_wish};
 ghost use Rattle.raft_group_step.specs.AppendRequest.{lesser_place};
 ghost use Rattle.raft_group_step.specs.PurgeTrigger.{purge_trigger_step};
-ghost use Rattle.raft_engine.specs.Standing.{IsStepOf};
+ghost use Rattle.raft_engine.specs.Standing.{Given, IsStepOf};
 ghost use Rattle.raft_engine.specs.Purging.{MayBePurged};
 ghost use Rattle.raft_engine.specs.Building.{covered_id};
 
@@ -49,10 +49,10 @@ impl<'x, C: RaftTypeConfig<NodeId = u64, Node = BasicNode, D = Bytes>> LogHandle
     /// leader purges once no request needs what goes, and any other node at once.
     pub fn update_purge_upto(&mut self, place: u64) -> Result<(), AllocError>
         ensures same_engine { self.new.engine.ghost_name ≡ self.old.engine.ghost_name }
-        ensures within { (x : Snapshot) (own : _) (r : StepResult) → IsStepOf x own self.old.engine.now r → end_place r.state.stored < 2 ^ 64
+        ensures within { (x : Given) (own : _) (r : StepResult) → IsStepOf x own self.old.engine.now r → end_place r.state.stored < 2 ^ 64
             → ((last : LogId ℕ) → snapshot_last r.state.stored ≡ Some last → MayBePurged (min place last.index) r.state.stored)
             → OnOk result (self.new.engine.now.state.state.purged_next ≤ next_place (covered_id self.new.engine.now)) }
-        ensures step { (x : Snapshot) (own : _) (r : StepResult) → IsStepOf x own self.old.engine.now r → end_place r.state.stored < 2 ^ 64
+        ensures step { (x : Given) (own : _) (r : StepResult) → IsStepOf x own self.old.engine.now r → end_place r.state.stored < 2 ^ 64
             → ((last : LogId ℕ) → snapshot_last r.state.stored ≡ Some last → MayBePurged (min place last.index) r.state.stored)
             → OnOk result (IsStepOf x own self.new.engine.now (purge_trigger_step place r)) }
     {
@@ -63,10 +63,10 @@ impl<'x, C: RaftTypeConfig<NodeId = u64, Node = BasicNode, D = Bytes>> LogHandle
     /// than the snapshot.
     pub fn purge_log(&mut self) -> Result<(), AllocError>
         ensures same_engine { self.new.engine.ghost_name ≡ self.old.engine.ghost_name }
-        ensures within { (x : Snapshot) (own : _) (r : StepResult) → IsStepOf x own self.old.engine.now r → end_place r.state.stored < 2 ^ 64
+        ensures within { (x : Given) (own : _) (r : StepResult) → IsStepOf x own self.old.engine.now r → end_place r.state.stored < 2 ^ 64
             → ((place : ℕ) → r.state.wish ≡ Some place → MayBePurged place r.state.stored)
             → OnOk result (self.new.engine.now.state.state.purged_next ≤ next_place (covered_id self.new.engine.now)) }
-        ensures step { (x : Snapshot) (own : _) (r : StepResult) → IsStepOf x own self.old.engine.now r → end_place r.state.stored < 2 ^ 64
+        ensures step { (x : Given) (own : _) (r : StepResult) → IsStepOf x own self.old.engine.now r → end_place r.state.stored < 2 ^ 64
             → ((place : ℕ) → r.state.wish ≡ Some place → MayBePurged place r.state.stored)
             → OnOk result (IsStepOf x own self.new.engine.now (purge_as_wished r.state.role r.state.wish r)) }
     {
@@ -77,7 +77,7 @@ impl<'x, C: RaftTypeConfig<NodeId = u64, Node = BasicNode, D = Bytes>> LogHandle
 impl<C: RaftTypeConfig<NodeId = u64, Node = BasicNode, D = Bytes>> Engine<C> {
     // The log is removed up to its entry at the place, if it has one there.
     pub(crate) fn purge_up_to(&mut self, place: u64) -> Result<(), AllocError>
-        ensures { (x : Snapshot) (own : _) (r : StepResult) → IsStepOf x own self.old r → end_place r.state.stored < 2 ^ 64
+        ensures { (x : Given) (own : _) (r : StepResult) → IsStepOf x own self.old r → end_place r.state.stored < 2 ^ 64
             → MayBePurged place r.state.stored → OnOk result (IsStepOf x own self.new (purge_up_to place r)) }
     {
         if !self.state.has_entry_at(place) {
@@ -95,7 +95,7 @@ impl<C: RaftTypeConfig<NodeId = u64, Node = BasicNode, D = Bytes>> Engine<C> {
 
     // A leader is to purge up to the place, once no request needs what goes.
     fn wish_to_purge(&mut self, place: u64)
-        ensures { (x : Snapshot) (own : _) (r : StepResult) → IsStepOf x own self.old r → place < next_place (snapshot_last r.state.stored)
+        ensures { (x : Given) (own : _) (r : StepResult) → IsStepOf x own self.old r → place < next_place (snapshot_last r.state.stored)
             → IsStepOf x own self.new (if nat_lt place (first_place r.state.stored) then r else with_wish (later_place r.state.wish (Some place)) r) }
     {
         if place < self.state.first_place() {
@@ -110,7 +110,7 @@ impl<C: RaftTypeConfig<NodeId = u64, Node = BasicNode, D = Bytes>> Engine<C> {
     // The log is to be purged up to the place, as far as the snapshot goes: a leader does so once
     // no request needs what goes.
     pub(crate) fn purge_trigger(&mut self, place: u64) -> Result<(), AllocError>
-        ensures { (x : Snapshot) (own : _) (r : StepResult) → IsStepOf x own self.old r → end_place r.state.stored < 2 ^ 64
+        ensures { (x : Given) (own : _) (r : StepResult) → IsStepOf x own self.old r → end_place r.state.stored < 2 ^ 64
             → ((last : LogId ℕ) → snapshot_last r.state.stored ≡ Some last → MayBePurged (min place last.index) r.state.stored)
             → OnOk result (IsStepOf x own self.new (purge_trigger_step place r)) }
     {
@@ -127,7 +127,7 @@ impl<C: RaftTypeConfig<NodeId = u64, Node = BasicNode, D = Bytes>> Engine<C> {
 
     // What a leader is still to purge goes, once no request needs it.
     pub(crate) fn purge_as_wished(&mut self) -> Result<(), AllocError>
-        ensures { (x : Snapshot) (own : _) (r : StepResult) → IsStepOf x own self.old r → end_place r.state.stored < 2 ^ 64
+        ensures { (x : Given) (own : _) (r : StepResult) → IsStepOf x own self.old r → end_place r.state.stored < 2 ^ 64
             → ((place : ℕ) → r.state.wish ≡ Some place → MayBePurged place r.state.stored)
             → OnOk result (IsStepOf x own self.new (purge_as_wished r.state.role r.state.wish r)) }
     {

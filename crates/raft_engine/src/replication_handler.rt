@@ -4,7 +4,7 @@ ghost use Rattle.std.specs.List.{list_all};
 ghost use Rattle.raft_values.specs.LogId.{next_place};
 ghost use Rattle.raft_state.specs.LogIdList.{last_id};
 ghost use Rattle.raft_group_step.specs.Values.{has_id};
-ghost use Rattle.raft_group_step.specs.StoredGroup.{StoredGroup, Snapshot, end_place, first_place, id_before, membership_in_force};
+ghost use Rattle.raft_group_step.specs.StoredGroup.{StoredGroup, end_place, first_place, id_before, membership_in_force};
 ghost use Rattle.raft_group_step.specs.Message.{Numbered, last_sent, request_id_eq};
 ghost use Rattle.raft_group_step.specs.Peer.{is_answer_to, is_kept_for_peers, needs_below};
 ghost use Rattle.raft_group_step.specs.GroupState.{GroupState, Lead, Leader as LeaderRole};
@@ -16,7 +16,7 @@ ghost use Rattle.raft_group_step.specs.Reply.{after_answer, answered, reply_step
 ghost use Rattle.raft_group_step.specs.Lost.{lost_as};
 ghost use Rattle.raft_known_state.specs.KnownState.{IsPlaced, Knows};
 ghost use Rattle.raft_engine.specs.Commands.{number_of, result_of};
-ghost use Rattle.raft_engine.specs.Standing.{IsStateOf, IsStepOf, IsWholeStepOf, outstanding_of, peer_state};
+ghost use Rattle.raft_engine.specs.Standing.{Given, IsStateOf, IsStepOf, IsWholeStepOf, outstanding_of, peer_state};
 ghost use Rattle.raft_engine.specs.Purging.{MayBePurged};
 ghost use Rattle.raft_engine.specs.Sending.{HasPeer, HasRoomFor, reply_of, request_for, with_known};
 
@@ -144,7 +144,7 @@ impl<'x, C: RaftTypeConfig<NodeId = u64, Node = BasicNode, D = Bytes>> Replicati
     /// and has none on its way, else a notice where more is committed than this place.
     pub fn initiate_replication(&mut self, committed_before: Option<u64>) -> Result<(), AllocError>
         ensures same_engine { self.new.engine.ghost_name ≡ self.old.engine.ghost_name }
-        ensures step { (x : Snapshot) (own : ℕ) (r : StepResult) → IsWholeStepOf x own self.old.engine.now r → HasRoomFor (length (other_ids own r.state.stored)) r.state
+        ensures step { (x : Given) (own : ℕ) (r : StepResult) → IsWholeStepOf x own self.old.engine.now r → HasRoomFor (length (other_ids own r.state.stored)) r.state
             → OnOk result (IsWholeStepOf x own self.new.engine.now (with_frames own committed_before r)) }
     {
         self.engine.with_frames(committed_before)
@@ -160,7 +160,7 @@ impl<'x, C: RaftTypeConfig<NodeId = u64, Node = BasicNode, D = Bytes>> Replicati
         now: u64,
     ) -> Result<(), AllocError>
         ensures same_engine { self.new.engine.ghost_name ≡ self.old.engine.ghost_name }
-        ensures step { (x : Snapshot) (own : ℕ) (r : StepResult) → IsStepOf x own self.old.engine.now r → r.state.now ≡ now → next_place reply.now.last < 2 ^ 64
+        ensures step { (x : Given) (own : ℕ) (r : StepResult) → IsStepOf x own self.old.engine.now r → r.state.now ≡ now → next_place reply.now.last < 2 ^ 64
             → OnOk result (IsStepOf x own self.new.engine.now (reply_step peer (reply_of reply.now outcome.now) r)) }
     {
         self.engine.answered(peer, reply, outcome, now)
@@ -169,7 +169,7 @@ impl<'x, C: RaftTypeConfig<NodeId = u64, Node = BasicNode, D = Bytes>> Replicati
     /// The request on its way to the peer counts as failed (own).
     pub fn reset_inflight(&mut self, peer: u64)
         ensures same_engine { self.new.engine.ghost_name ≡ self.old.engine.ghost_name }
-        ensures step { (x : Snapshot) (own : ℕ) (r : StepResult) → IsStepOf x own self.old.engine.now r → IsStepOf x own self.new.engine.now (lost_as peer r.state.role r) }
+        ensures step { (x : Given) (own : ℕ) (r : StepResult) → IsStepOf x own self.old.engine.now r → IsStepOf x own self.new.engine.now (lost_as peer r.state.role r) }
     {
         self.engine.lost(peer);
     }
@@ -178,7 +178,7 @@ impl<'x, C: RaftTypeConfig<NodeId = u64, Node = BasicNode, D = Bytes>> Replicati
     pub fn try_commit_quorum_accepted(&mut self) -> Result<(), AllocError>
         requires { next_place (last_id self.old.engine.now.state.state.log_ids) < 2 ^ 63 }
         ensures same_engine { self.new.engine.ghost_name ≡ self.old.engine.ghost_name }
-        ensures step { (x : Snapshot) (own : ℕ) (r : StepResult) → IsStepOf x own self.old.engine.now r
+        ensures step { (x : Given) (own : ℕ) (r : StepResult) → IsStepOf x own self.old.engine.now r
             → OnOk result (IsStepOf x own self.new.engine.now (commit_as_leader own r.state.role r)) }
     {
         self.engine.commit_as_leader()
@@ -187,7 +187,7 @@ impl<'x, C: RaftTypeConfig<NodeId = u64, Node = BasicNode, D = Bytes>> Replicati
     /// What the leader is still to purge goes (openraft), once no request needs it.
     pub fn try_purge_log(&mut self) -> Result<(), AllocError>
         ensures same_engine { self.new.engine.ghost_name ≡ self.old.engine.ghost_name }
-        ensures step { (x : Snapshot) (own : ℕ) (r : StepResult) → IsStepOf x own self.old.engine.now r → end_place r.state.stored < 2 ^ 64
+        ensures step { (x : Given) (own : ℕ) (r : StepResult) → IsStepOf x own self.old.engine.now r → end_place r.state.stored < 2 ^ 64
             → ((place : ℕ) → r.state.wish ≡ Some place → MayBePurged place r.state.stored)
             → OnOk result (IsStepOf x own self.new.engine.now (purge_as_wished r.state.role r.state.wish r)) }
     {
@@ -268,7 +268,7 @@ impl<C: RaftTypeConfig<NodeId = u64, Node = BasicNode, D = Bytes>> Engine<C> {
     fn set_peer(&mut self, n: u64, entry: ProgressEntry<u64>)
         ensures known { (own : ℕ) (s : GroupState) (lead : Lead) → IsStateOf own self.old s → s.role ≡ LeaderRole lead → HasPeer n self.old.leader
             → IsStateOf own self.new (with_known (peer_state n entry) lead s) }
-        ensures rest { self.new.output ≡ self.old.output }
+        ensures rest { (self.new.output ≡ self.old.output) × (self.new.seen_greater_log ≡ self.old.seen_greater_log) }
     {
         if let Some(leader) = &mut self.leader {
             leader.set_peer(&n, entry);
@@ -277,7 +277,7 @@ impl<C: RaftTypeConfig<NodeId = u64, Node = BasicNode, D = Bytes>> Engine<C> {
 
     // The peer gets its next request.
     fn send_request(&mut self, n: u64, entry: &ProgressEntry<u64>) -> Result<(), AllocError>
-        ensures { (x : Snapshot) (own : ℕ) (r : StepResult) (lead : Lead) → IsWholeStepOf x own self.old r → r.state.role ≡ LeaderRole lead → HasPeer n self.old.leader
+        ensures { (x : Given) (own : ℕ) (r : StepResult) (lead : Lead) → IsWholeStepOf x own self.old r → r.state.role ≡ LeaderRole lead → HasPeer n self.old.leader
             → peer_of lead n ≡ peer_state n entry.now → HasRoomFor 1 r.state → next_place entry.now.matching < 2 ^ 64
             → OnOk result (IsWholeStepOf x own self.new (send_request own (peer_of lead n) lead r.state.stored.snapshot r)) }
     {
@@ -292,9 +292,9 @@ impl<C: RaftTypeConfig<NodeId = u64, Node = BasicNode, D = Bytes>> Engine<C> {
 
     // The peer is told how far is committed.
     fn send_notice(&mut self, n: u64, entry: &ProgressEntry<u64>) -> Result<(), AllocError>
-        ensures step { (x : Snapshot) (own : ℕ) (r : StepResult) (lead : Lead) → IsStepOf x own self.old r → peer_of lead n ≡ peer_state n entry.now
+        ensures step { (x : Given) (own : ℕ) (r : StepResult) (lead : Lead) → IsStepOf x own self.old r → peer_of lead n ≡ peer_state n entry.now
             → OnOk result (IsStepOf x own self.new (send own n (notice r.state (peer_of lead n)) r)) }
-        ensures whole { (x : Snapshot) (own : ℕ) (r : StepResult) (lead : Lead) → IsWholeStepOf x own self.old r → peer_of lead n ≡ peer_state n entry.now
+        ensures whole { (x : Given) (own : ℕ) (r : StepResult) (lead : Lead) → IsWholeStepOf x own self.old r → peer_of lead n ≡ peer_state n entry.now
             → OnOk result (IsWholeStepOf x own self.new (send own n (notice r.state (peer_of lead n)) r)) }
     {
         self.output.push_command(Command::ReplicateCommitted {
@@ -308,7 +308,7 @@ impl<C: RaftTypeConfig<NodeId = u64, Node = BasicNode, D = Bytes>> Engine<C> {
     // A leader sends a request to the member if none is on its way and entries are lacking, else a
     // notice if there is news.
     fn serve(&mut self, n: u64, has_news: bool) -> Result<(), AllocError>
-        ensures { (x : Snapshot) (own : ℕ) (r : StepResult) → IsWholeStepOf x own self.old r → has_id (ids_of (membership_in_force r.state.stored)) n ≡ true
+        ensures { (x : Given) (own : ℕ) (r : StepResult) → IsWholeStepOf x own self.old r → has_id (ids_of (membership_in_force r.state.stored)) n ≡ true
             → HasRoomFor 1 r.state → OnOk result (IsWholeStepOf x own self.new (serve_as own has_news n r.state.role r)) }
     {
         let Some(leader) = &self.leader else {
@@ -326,7 +326,7 @@ impl<C: RaftTypeConfig<NodeId = u64, Node = BasicNode, D = Bytes>> Engine<C> {
 
     // A leader serves these members in turn.
     fn serve_all(&mut self, ids: &[u64], has_news: bool) -> Result<(), AllocError>
-        ensures { (x : Snapshot) (own : ℕ) (r : StepResult) → IsWholeStepOf x own self.old r
+        ensures { (x : Given) (own : ℕ) (r : StepResult) → IsWholeStepOf x own self.old r
             → list_all (has_id (ids_of (membership_in_force r.state.stored))) ids.now ≡ true → HasRoomFor (length ids.now) r.state
             → OnOk result (IsWholeStepOf x own self.new (serve_all own has_news ids.now r)) }
     {
@@ -338,7 +338,7 @@ impl<C: RaftTypeConfig<NodeId = u64, Node = BasicNode, D = Bytes>> Engine<C> {
 
     // What a leader sends when the event is over; before: what was committed as it began.
     pub(crate) fn with_frames(&mut self, before: Option<u64>) -> Result<(), AllocError>
-        ensures { (x : Snapshot) (own : ℕ) (r : StepResult) → IsWholeStepOf x own self.old r → HasRoomFor (length (other_ids own r.state.stored)) r.state
+        ensures { (x : Given) (own : ℕ) (r : StepResult) → IsWholeStepOf x own self.old r → HasRoomFor (length (other_ids own r.state.stored)) r.state
             → OnOk result (IsWholeStepOf x own self.new (with_frames own before r)) }
     {
         if self.leader.is_none() {
@@ -351,7 +351,7 @@ impl<C: RaftTypeConfig<NodeId = u64, Node = BasicNode, D = Bytes>> Engine<C> {
 
     // A leader tells the node how far is committed.
     fn notice(&mut self, n: u64) -> Result<(), AllocError>
-        ensures { (x : Snapshot) (own : ℕ) (r : StepResult) (lead : Lead) → IsStepOf x own self.old r → r.state.role ≡ LeaderRole lead
+        ensures { (x : Given) (own : ℕ) (r : StepResult) (lead : Lead) → IsStepOf x own self.old r → r.state.role ≡ LeaderRole lead
             → OnOk result (IsStepOf x own self.new (send own n (notice r.state (peer_of lead n)) r)) }
     {
         let Some(leader) = &self.leader else {
@@ -363,7 +363,7 @@ impl<C: RaftTypeConfig<NodeId = u64, Node = BasicNode, D = Bytes>> Engine<C> {
 
     // A leader tells each of these nodes.
     fn send_notices(&mut self, ids: &[u64]) -> Result<(), AllocError>
-        ensures { (x : Snapshot) (own : ℕ) (r : StepResult) (lead : Lead) → IsStepOf x own self.old r → r.state.role ≡ LeaderRole lead
+        ensures { (x : Given) (own : ℕ) (r : StepResult) (lead : Lead) → IsStepOf x own self.old r → r.state.role ≡ LeaderRole lead
             → OnOk result (IsStepOf x own self.new (send_notices own lead ids.now r)) }
     {
         for n in ids {
@@ -374,7 +374,7 @@ impl<C: RaftTypeConfig<NodeId = u64, Node = BasicNode, D = Bytes>> Engine<C> {
 
     // A leader says to every other node that it leads on.
     pub(crate) fn notices(&mut self) -> Result<(), AllocError>
-        ensures { (x : Snapshot) (own : ℕ) (r : StepResult) → IsStepOf x own self.old r
+        ensures { (x : Given) (own : ℕ) (r : StepResult) → IsStepOf x own self.old r
             → OnOk result (IsStepOf x own self.new (beat_as own r.state.role r)) }
     {
         if self.leader.is_none() {
@@ -386,7 +386,7 @@ impl<C: RaftTypeConfig<NodeId = u64, Node = BasicNode, D = Bytes>> Engine<C> {
 
     // An answer under the own vote to the outstanding request ends it.
     fn take_answer(&mut self, peer: u64, reply: &Caller<u64>, outcome: &AppendEntriesResponse<u64>)
-        ensures { (x : Snapshot) (own : ℕ) (r : StepResult) → IsStepOf x own self.old r → next_place reply.now.last < 2 ^ 64
+        ensures { (x : Given) (own : ℕ) (r : StepResult) → IsStepOf x own self.old r → next_place reply.now.last < 2 ^ 64
             → IsStepOf x own self.new (answered peer (reply_of reply.now outcome.now) r.state.role r) }
     {
         let Some(leader) = &self.leader else {
@@ -406,7 +406,7 @@ impl<C: RaftTypeConfig<NodeId = u64, Node = BasicNode, D = Bytes>> Engine<C> {
         outcome: &AppendEntriesResponse<u64>,
         now: u64,
     ) -> Result<(), AllocError>
-        ensures { (x : Snapshot) (own : ℕ) (r : StepResult) → IsStepOf x own self.old r → r.state.now ≡ now → next_place reply.now.last < 2 ^ 64
+        ensures { (x : Given) (own : ℕ) (r : StepResult) → IsStepOf x own self.old r → r.state.now ≡ now → next_place reply.now.last < 2 ^ 64
             → OnOk result (IsStepOf x own self.new (reply_step peer (reply_of reply.now outcome.now) r)) }
     {
         if let AppendEntriesResponse::HigherVote(vote) = outcome {
@@ -418,7 +418,7 @@ impl<C: RaftTypeConfig<NodeId = u64, Node = BasicNode, D = Bytes>> Engine<C> {
 
     // The outstanding request to the peer counts as failed.
     pub(crate) fn lost(&mut self, peer: u64)
-        ensures { (x : Snapshot) (own : ℕ) (r : StepResult) → IsStepOf x own self.old r → IsStepOf x own self.new (lost_as peer r.state.role r) }
+        ensures { (x : Given) (own : ℕ) (r : StepResult) → IsStepOf x own self.old r → IsStepOf x own self.new (lost_as peer r.state.role r) }
     {
         let Some(leader) = &self.leader else {
             return;

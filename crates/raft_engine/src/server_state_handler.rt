@@ -1,11 +1,11 @@
 //! The part that the node plays: leader, candidate, follower or learner.
 ghost use Rattle.std.specs.Prelude.{◌≡◌, ◌↔◌, ℕ, false};
-ghost use Rattle.raft_group_step.specs.StoredGroup.{Snapshot, membership_in_force};
+ghost use Rattle.raft_group_step.specs.StoredGroup.{membership_in_force};
 ghost use Rattle.raft_group_step.specs.GroupState.{GroupState, is_leader};
 ghost use Rattle.raft_group_step.specs.Refusal.{is_voter_in};
 ghost use Rattle.raft_group_step.specs.StepResult.{StepResult};
 ghost use Rattle.raft_engine.specs.ServerStates.{part_in, server_state_of, with_server_state};
-ghost use Rattle.raft_engine.specs.Standing.{IsStateOf, IsStepOf};
+ghost use Rattle.raft_engine.specs.Standing.{Given, IsStateOf, IsStepOf};
 
 use crate::engine::Engine;
 use raft_commands::RaftTypeConfig;
@@ -56,7 +56,7 @@ impl<'x, C: RaftTypeConfig<NodeId = u64, Node = BasicNode, D = Bytes>> ServerSta
         ensures same_engine { self.new.engine.ghost_name ≡ self.old.engine.ghost_name }
         ensures noted { self.new.engine.now ≡ with_server_state (server_state_of self.old.engine.now) self.old.engine.now }
         ensures changed { (result ≡ false) ↔ (self.old.engine.now.state.state.server_state ≡ server_state_of self.old.engine.now) }
-        ensures step { (x : Snapshot) (own : ℕ) (r : StepResult) → IsStepOf x own self.old.engine.now r → IsStepOf x own self.new.engine.now r }
+        ensures step { (x : Given) (own : ℕ) (r : StepResult) → IsStepOf x own self.old.engine.now r → IsStepOf x own self.new.engine.now r }
     {
         let server_state = self.calc_server_state();
         if self.engine.state.state.server_state == server_state {

@@ -9,7 +9,7 @@ ghost use Rattle.raft_known_state.specs.KnownState.{IsEntryOrPast, KeepsRest, Kn
 ghost use Rattle.raft_engine.specs.Building.{asking, covered_id, is_building};
 ghost use Rattle.raft_engine.specs.Commands.{snapshot_result};
 ghost use Rattle.raft_engine.specs.Numbering.{GainsNumber, KeepsNumbers, NumbersRise};
-ghost use Rattle.raft_engine.specs.Standing.{IsStepOf};
+ghost use Rattle.raft_engine.specs.Standing.{Given, IsStepOf};
 ghost use Rattle.raft_engine.specs.Following.{IsVoteOfAnother, SpellsSnapshotReply};
 
 use crate::engine::Engine;
@@ -82,7 +82,7 @@ impl<C: RaftTypeConfig<NodeId = u64, Node = BasicNode, D = Bytes>> Engine<C> {
     fn cut_other(&mut self, last: LogId<u64>) -> Result<(), AllocError>
         requires { last.index + 1 < 2 ^ 64 }
         ensures numbers { OnOk result (KeepsNumbers self.old.output self.new.output) }
-        ensures step { (x : Snapshot) (own : _) (r : StepResult) → IsStepOf x own self.old r → r.state.role ≡ Follower
+        ensures step { (x : Given) (own : _) (r : StepResult) → IsStepOf x own self.old r → r.state.role ≡ Follower
             → is_within last.index r.state.committed ≡ false → OnOk result (IsStepOf x own self.new (cut_other last r)) }
     {
         if self.state.has_log_id(&last) || self.state.get_log_id(last.index).is_none() {
@@ -102,9 +102,9 @@ impl<C: RaftTypeConfig<NodeId = u64, Node = BasicNode, D = Bytes>> Engine<C> {
     ) -> Result<(), AllocError>
         requires { last.index + 1 < 2 ^ 64 }
         ensures numbers { OnOk result (GainsNumber self.old.output self.new.output) }
-        ensures step { (x : Snapshot) (own : _) (r : StepResult) → IsStepOf x own self.old r → r.state.role ≡ Follower → meta ≡ meta_of (Some x) → last ≡ x.last
+        ensures step { (x : Given) (own : _) (r : StepResult) → IsStepOf x own self.old r → r.state.role ≡ Follower → meta ≡ meta_of (Some x.snapshot) → last ≡ x.snapshot.last
             → is_within last.index r.state.committed ≡ false → IsEntryOrPast r.state.stored last
-            → OnOk result (IsStepOf x own self.new (apply_up_to (Some last.index) (store (RemoveUpTo last) (store (SetSnapshot x) r)))) }
+            → OnOk result (IsStepOf x own self.new (apply_up_to (Some last.index) (store (RemoveUpTo last) (store (SetSnapshot x.snapshot) r)))) }
     {
         let copy = meta.clone()?;
         self.state.save_snapshot(meta)?;
@@ -120,8 +120,8 @@ impl<C: RaftTypeConfig<NodeId = u64, Node = BasicNode, D = Bytes>> Engine<C> {
     pub(crate) fn install(&mut self, meta: SnapshotMeta<u64, BasicNode>) -> Result<(), AllocError>
         requires { next_place meta.last_log_id < 2 ^ 64 }
         ensures numbers { OnOk result (NumbersRise self.old.output self.new.output) }
-        ensures step { (x : Snapshot) (own : _) (r : StepResult) → IsStepOf x own self.old r → r.state.role ≡ Follower → meta ≡ meta_of (Some x)
-            → OnOk result (IsStepOf x own self.new (install_unless (is_within x.last.index r.state.committed) x r)) }
+        ensures step { (x : Given) (own : _) (r : StepResult) → IsStepOf x own self.old r → r.state.role ≡ Follower → meta ≡ meta_of (Some x.snapshot)
+            → OnOk result (IsStepOf x own self.new (install_unless (is_within x.snapshot.last.index r.state.committed) x.snapshot r)) }
     {
         let Some(last) = meta.last_log_id else {
             return Ok(());
@@ -135,8 +135,8 @@ impl<C: RaftTypeConfig<NodeId = u64, Node = BasicNode, D = Bytes>> Engine<C> {
 
     // The leader gets the node's vote for an answer.
     fn answer_snapshot(&mut self, tx: Caller<u64>) -> Result<(), AllocError>
-        ensures { (x : Snapshot) (own : _) (r : StepResult) (id : ℕ) → IsStepOf x own self.old r → SpellsSnapshotReply tx id x
-            → OnOk result (IsStepOf x own self.new (reply_snapshot own tx.peer tx.vote id x (snapshot_result tx.vote (record { vote = r.state.stored.vote })) r)) }
+        ensures { (x : Given) (own : _) (r : StepResult) (id : ℕ) → IsStepOf x own self.old r → SpellsSnapshotReply tx id x.snapshot
+            → OnOk result (IsStepOf x own self.new (reply_snapshot own tx.peer tx.vote id x.snapshot (snapshot_result tx.vote (record { vote = r.state.stored.vote })) r)) }
     {
         let resp = SnapshotResponse::new(*self.state.state.vote_ref());
         let resp = Respond::InstallFullSnapshot(ValueSender::new(resp, tx));
@@ -153,9 +153,9 @@ impl<C: RaftTypeConfig<NodeId = u64, Node = BasicNode, D = Bytes>> Engine<C> {
         now: u64,
     ) -> Result<(), AllocError>
         requires { next_place meta.last_log_id < 2 ^ 64 }
-        ensures { (x : Snapshot) (own : _) (r : StepResult) (id : ℕ) → IsStepOf x own self.old r → r.state.now ≡ now → meta ≡ meta_of (Some x)
-            → tx.vote ≡ vote → SpellsSnapshotReply tx id x → IsVoteOfAnother own vote
-            → OnOk result (IsStepOf x own self.new (snapshot_request_step own tx.peer vote id x r)) }
+        ensures { (x : Given) (own : _) (r : StepResult) (id : ℕ) → IsStepOf x own self.old r → r.state.now ≡ now → meta ≡ meta_of (Some x.snapshot)
+            → tx.vote ≡ vote → SpellsSnapshotReply tx id x.snapshot → IsVoteOfAnother own vote
+            → OnOk result (IsStepOf x own self.new (snapshot_request_step own tx.peer vote id x.snapshot r)) }
     {
         let is_lower = is_lower(&vote, self.state.state.vote_ref());
         if is_lower {

@@ -1,12 +1,11 @@
 //! Votes: which one is in force, and whether it is granted to another node.
 ghost use Rattle.std.specs.Prelude.{◌≡◌, OnOk, IfOk, Ok, true, false, if◌then◌else◌};
 ghost use Rattle.raft_group_step.specs.Values.{vote_lt};
-ghost use Rattle.raft_group_step.specs.StoredGroup.{Snapshot};
 ghost use Rattle.raft_group_step.specs.GroupState.{GroupState, Follower};
 ghost use Rattle.raft_group_step.specs.StepResult.{StepResult, step_down, store_vote, take_over};
 ghost use Rattle.raft_group_step.specs.VoteReply.{take_over_greater};
 ghost use Rattle.raft_group_step.specs.VoteRequest.{is_under_lease, may_grant, reply_vote, vote_request_step};
-ghost use Rattle.raft_engine.specs.Standing.{IsStateOf, IsStepOf};
+ghost use Rattle.raft_engine.specs.Standing.{Given, IsStateOf, IsStepOf};
 
 use crate::engine::Engine;
 use crate::orders::{is_behind, is_lower};
@@ -29,7 +28,7 @@ impl<'x, C: RaftTypeConfig<NodeId = u64, Node = BasicNode, D = Bytes>> VoteHandl
         ensures same_engine { self.new.engine.ghost_name ≡ self.old.engine.ghost_name }
         ensures lesser { vote_lt vote self.old.engine.now.state.state.vote.value ≡ true → (result ≡ Ok false) × (self.new.engine.now ≡ self.old.engine.now) }
         ensures equal { vote ≡ self.old.engine.now.state.state.vote.value → (result ≡ Ok true) × (self.new.engine.now.output ≡ self.old.engine.now.output) }
-        ensures step { (x : Snapshot) (own : _) (r : StepResult) → IsStepOf x own self.old.engine.now r → r.state.now ≡ now → vote_lt vote r.state.stored.vote ≡ false
+        ensures step { (x : Given) (own : _) (r : StepResult) → IsStepOf x own self.old.engine.now r → r.state.now ≡ now → vote_lt vote r.state.stored.vote ≡ false
             → IfOk result (λ is_in_force. (is_in_force ≡ true) × IsStepOf x own self.new.engine.now (take_over vote r)) }
     {
         if is_lower(&vote, self.engine.state.state.vote_ref()) {
@@ -43,7 +42,7 @@ impl<'x, C: RaftTypeConfig<NodeId = u64, Node = BasicNode, D = Bytes>> VoteHandl
     /// and stored, and any other one changes nothing.
     pub fn update_greater_vote(&mut self, vote: Vote<u64>, now: u64) -> Result<(), AllocError>
         ensures same_engine { self.new.engine.ghost_name ≡ self.old.engine.ghost_name }
-        ensures step { (x : Snapshot) (own : _) (r : StepResult) → IsStepOf x own self.old.engine.now r → r.state.now ≡ now
+        ensures step { (x : Given) (own : _) (r : StepResult) → IsStepOf x own self.old.engine.now r → r.state.now ≡ now
             → OnOk result (IsStepOf x own self.new.engine.now (take_over_greater vote r)) }
     {
         self.engine.take_over_greater(vote, now)
@@ -52,7 +51,7 @@ impl<'x, C: RaftTypeConfig<NodeId = u64, Node = BasicNode, D = Bytes>> VoteHandl
     /// The node neither stands nor leads any more (openraft).
     pub fn become_following(&mut self)
         ensures same_engine { self.new.engine.ghost_name ≡ self.old.engine.ghost_name }
-        ensures step { (x : Snapshot) (own : _) (r : StepResult) → IsStepOf x own self.old.engine.now r → IsStepOf x own self.new.engine.now (step_down r) }
+        ensures step { (x : Given) (own : _) (r : StepResult) → IsStepOf x own self.old.engine.now r → IsStepOf x own self.new.engine.now (step_down r) }
     {
         self.engine.step_down();
     }
@@ -61,7 +60,7 @@ impl<'x, C: RaftTypeConfig<NodeId = u64, Node = BasicNode, D = Bytes>> VoteHandl
 impl<C: RaftTypeConfig<NodeId = u64, Node = BasicNode, D = Bytes>> Engine<C> {
     // The node neither stands nor leads any more.
     pub(crate) fn step_down(&mut self)
-        ensures { (x : Snapshot) (own : _) (r : StepResult) → IsStepOf x own self.old r → IsStepOf x own self.new (step_down r) }
+        ensures { (x : Given) (own : _) (r : StepResult) → IsStepOf x own self.old r → IsStepOf x own self.new (step_down r) }
     {
         self.leader = None;
         self.candidate = None;
@@ -70,7 +69,7 @@ impl<C: RaftTypeConfig<NodeId = u64, Node = BasicNode, D = Bytes>> Engine<C> {
 
     // The vote is stored, and heard of at this moment.
     pub(crate) fn store_vote(&mut self, vote: Vote<u64>, now: u64) -> Result<(), AllocError>
-        ensures { (x : Snapshot) (own : _) (r : StepResult) → IsStepOf x own self.old r → r.state.role ≡ Follower → r.state.now ≡ now
+        ensures { (x : Given) (own : _) (r : StepResult) → IsStepOf x own self.old r → r.state.role ≡ Follower → r.state.now ≡ now
             → OnOk result (IsStepOf x own self.new (store_vote vote r)) }
     {
         self.state.save_vote(now, vote);
@@ -80,7 +79,7 @@ impl<C: RaftTypeConfig<NodeId = u64, Node = BasicNode, D = Bytes>> Engine<C> {
     // A vote that isn't below the own one is in force from now on; a greater one is stored.
     pub(crate) fn take_over(&mut self, vote: Vote<u64>, now: u64) -> Result<(), AllocError>
         ensures level { vote_lt self.old.state.state.vote.value vote ≡ false → (result ≡ Ok tt) × (self.new.output ≡ self.old.output) }
-        ensures step { (x : Snapshot) (own : _) (r : StepResult) → IsStepOf x own self.old r → r.state.now ≡ now
+        ensures step { (x : Given) (own : _) (r : StepResult) → IsStepOf x own self.old r → r.state.now ≡ now
             → OnOk result (IsStepOf x own self.new (take_over vote r)) }
     {
         if is_lower(self.state.state.vote_ref(), &vote) {
@@ -93,7 +92,7 @@ impl<C: RaftTypeConfig<NodeId = u64, Node = BasicNode, D = Bytes>> Engine<C> {
 
     // A greater vote is taken over, and nothing else changes anything.
     pub(crate) fn take_over_greater(&mut self, vote: Vote<u64>, now: u64) -> Result<(), AllocError>
-        ensures { (x : Snapshot) (own : _) (r : StepResult) → IsStepOf x own self.old r → r.state.now ≡ now
+        ensures { (x : Given) (own : _) (r : StepResult) → IsStepOf x own self.old r → r.state.now ≡ now
             → OnOk result (IsStepOf x own self.new (take_over_greater vote r)) }
     {
         if is_lower(self.state.state.vote_ref(), &vote) {
@@ -130,7 +129,7 @@ impl<C: RaftTypeConfig<NodeId = u64, Node = BasicNode, D = Bytes>> Engine<C> {
 
     // The vote is taken over, if it is granted.
     fn take_over_if(&mut self, granted: bool, vote: Vote<u64>, now: u64) -> Result<(), AllocError>
-        ensures { (x : Snapshot) (own : _) (r : StepResult) → IsStepOf x own self.old r → r.state.now ≡ now
+        ensures { (x : Given) (own : _) (r : StepResult) → IsStepOf x own self.old r → r.state.now ≡ now
             → OnOk result (IsStepOf x own self.new (if granted then take_over vote r else r)) }
     {
         if granted {
@@ -141,7 +140,7 @@ impl<C: RaftTypeConfig<NodeId = u64, Node = BasicNode, D = Bytes>> Engine<C> {
 
     // The candidate is answered by the vote in force and the last log id.
     fn answer_vote(&mut self, tx: Caller<u64>, granted: bool) -> Result<(), AllocError>
-        ensures { (x : Snapshot) (own : _) (r : StepResult) → IsStepOf x own self.old r
+        ensures { (x : Given) (own : _) (r : StepResult) → IsStepOf x own self.old r
             → OnOk result (IsStepOf x own self.new (reply_vote own tx.peer granted r)) }
     {
         let last = self.state.last_log_id();
@@ -158,7 +157,7 @@ impl<C: RaftTypeConfig<NodeId = u64, Node = BasicNode, D = Bytes>> Engine<C> {
         tx: Caller<u64>,
         now: u64,
     ) -> Result<(), AllocError>
-        ensures { (x : Snapshot) (own : _) (r : StepResult) → IsStepOf x own self.old r → r.state.now ≡ now
+        ensures { (x : Given) (own : _) (r : StepResult) → IsStepOf x own self.old r → r.state.now ≡ now
             → OnOk result (IsStepOf x own self.new (vote_request_step own tx.peer req.now.vote req.now.last_log_id r)) }
     {
         let granted = self.may_grant(req, now);

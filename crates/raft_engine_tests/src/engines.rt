@@ -307,6 +307,33 @@ fn a_quorum_makes_a_leader_and_commits(rt: HostRuntime) -> Result<(), Fail> {
     Ok(())
 }
 
+// Whether it knows of a greater log once node 3 has refused its vote with this last log id.
+fn learns(engine: &mut NumberedEngine, last: Option<LogId<u64>>) -> bool {
+    let resp = VoteResponse::new(&Vote::new(1, 1), last, false);
+    engine.handle_vote_resp(3, &resp, 6).is_ok() && engine.is_there_greater_log()
+}
+
+fn forgets(engine: &mut NumberedEngine) {
+    engine.reset_greater_log();
+}
+
+// A refusal tells a candidate of a greater log, and a leader of none.
+fn learns_of_logs(alloc: Global) -> Result<bool, Fail> {
+    let mut engine = set_up(alloc, &[1, 2, 3])?;
+    let greater = Some(LogId::new(LeaderId::new(0, 2), 0));
+    let is_unaware = !learns(&mut engine, None);
+    let is_aware = learns(&mut engine, greater) && learns(&mut engine, None);
+    forgets(&mut engine);
+    let leads_on = is_granted(&mut engine) && leads(&engine) && !learns(&mut engine, greater);
+    Ok(is_unaware && is_aware && leads_on)
+}
+
+#[test]
+fn a_greater_log_is_noted(rt: HostRuntime) -> Result<(), Fail> {
+    assert!(rt; learns_of_logs(rt.alloc())?);
+    Ok(())
+}
+
 // A leader takes a membership with one node more, and leads on until it steps down.
 fn changes_members(alloc: Global) -> Result<bool, Fail> {
     let mut engine = set_up(alloc, &[1])?;

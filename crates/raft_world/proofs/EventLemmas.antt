@@ -57,16 +57,16 @@ ends_as_runs own s event stop e m (Ok end) accepted h = ended_as_run own s event
 ends_as_runs own s event stop e m (Err refused) accepted h = h
 
 -- the engine has done a call, whatever the snapshot
-pub run_of_call : (own at moment : ℕ) (e : Engine) (s : GroupState) (call : GroupCall) → moment ≡ max s.now at → refusal_of own s (Call call at) ≡ None
-    → ((x : Snapshot) → HasTaken x own e s (Call call at)) → IsRun own e s.stored (group_step own s (Call call at)) None moment
-run_of_call own at moment e s call is accepted h =
+pub run_of_call : (before : Engine) (own at moment : ℕ) (e : Engine) (s : GroupState) (call : GroupCall) → moment ≡ max s.now at → refusal_of own s (Call call at) ≡ None
+    → ((x : Snapshot) → HasTaken x own before e s (Call call at)) → IsRun own e s.stored (group_step own s (Call call at)) None moment
+run_of_call before own at moment e s call is accepted h =
     run_without_snapshot own e s.stored (group_step own s (Call call at)) moment h (step-keeps own s (Call call at)).stored
     (is ∙ sym (moments_of_calls own s call at accepted))
 
 -- the engine was handed a message, whatever the snapshot
-pub run_of_message : (own peer at moment : ℕ) (e : Engine) (s : GroupState) (body : MessageBody) → moment ≡ max s.now at → refusal_of own s (received own peer body at) ≡ None
-    → ((x : Snapshot) → HasTaken x own e s (received own peer body at)) → IsRun own e s.stored (group_step own s (received own peer body at)) None moment
-run_of_message own peer at moment e s body is accepted h =
+pub run_of_message : (before : Engine) (own peer at moment : ℕ) (e : Engine) (s : GroupState) (body : MessageBody) → moment ≡ max s.now at → refusal_of own s (received own peer body at) ≡ None
+    → ((x : Snapshot) → HasTaken x own before e s (received own peer body at)) → IsRun own e s.stored (group_step own s (received own peer body at)) None moment
+run_of_message before own peer at moment e s body is accepted h =
     run_without_snapshot own e s.stored (group_step own s (received own peer body at)) moment h (step-keeps own s (received own peer body at)).stored
     (is ∙ sym (moments_of_messages own s peer (record { sender = peer; addressee = own; body = body }) at accepted))
 
@@ -99,10 +99,11 @@ up_again m e s down moment idle = record {
 -- ---- snapshots
 
 -- the engine has done a call with the snapshot that is given
-pub run_of_call_with : (own at moment : ℕ) (e : Engine) (s : GroupState) (call : GroupCall) (x : Snapshot) → moment ≡ max s.now at → refusal_of own s (Call call at) ≡ None
-    → HasTaken x own e s (Call call at) → IsRun own e s.stored (group_step own s (Call call at)) (Some x) moment
-run_of_call_with own at moment e s call x is accepted h = record {
+pub run_of_call_with : (before : Engine) (own at moment : ℕ) (e : Engine) (s : GroupState) (call : GroupCall) (x : Snapshot) → moment ≡ max s.now at → refusal_of own s (Call call at) ≡ None
+    → HasTaken x own before e s (Call call at) → IsRun own e s.stored (group_step own s (Call call at)) (Some x) moment
+run_of_call_with before own at moment e s call x is accepted h = record {
   snapshot = x;
+  seen = _;
   step = h;
   is_given = λ has. refl;
   stored = (step-keeps own s (Call call at)).stored;
@@ -110,10 +111,11 @@ run_of_call_with own at moment e s call x is accepted h = record {
 }
 
 -- the engine was handed a message with the snapshot that is given
-pub run_of_message_with : (own peer at moment : ℕ) (e : Engine) (s : GroupState) (body : MessageBody) (x : Snapshot) → moment ≡ max s.now at → refusal_of own s (received own peer body at) ≡ None
-    → HasTaken x own e s (received own peer body at) → IsRun own e s.stored (group_step own s (received own peer body at)) (Some x) moment
-run_of_message_with own peer at moment e s body x is accepted h = record {
+pub run_of_message_with : (before : Engine) (own peer at moment : ℕ) (e : Engine) (s : GroupState) (body : MessageBody) (x : Snapshot) → moment ≡ max s.now at → refusal_of own s (received own peer body at) ≡ None
+    → HasTaken x own before e s (received own peer body at) → IsRun own e s.stored (group_step own s (received own peer body at)) (Some x) moment
+run_of_message_with before own peer at moment e s body x is accepted h = record {
   snapshot = x;
+  seen = _;
   step = h;
   is_given = λ has. refl;
   stored = (step-keeps own s (received own peer body at)).stored;

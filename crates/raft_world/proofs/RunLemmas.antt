@@ -98,19 +98,20 @@ two_differ : one_snapshot 0 ≡ one_snapshot 1 → ⊥
 two_differ e = absurd (let no : zero ≡ suc zero = ap (λ (x : Snapshot). x.last.index) e in cc)
 
 -- a step that its engine has done whatever the snapshot stores none
-pub no_snapshot_stored : {own : ℕ} (e : Engine) (r : StepResult) → ((x : Snapshot) → IsWholeStepOf x own e r) → queue_has_snapshot e.output.queue ≡ false
+pub no_snapshot_stored : {own : ℕ} {seen : Bool} (e : Engine) (r : StepResult) → ((x : Snapshot) → IsWholeStepOf (record { snapshot = x; seen_greater_log = seen }) own e r) → queue_has_snapshot e.output.queue ≡ false
 no_snapshot_stored e r h =
     no_snapshot (one_snapshot 0) (one_snapshot 1) two_differ e.output.queue ((h (one_snapshot 0)).stores ∙ sym (h (one_snapshot 1)).stores)
 
 -- so no snapshot need be given for it
-pub none_given : {own : ℕ} (e : Engine) (r : StepResult) → ((x : Snapshot) → IsWholeStepOf x own e r) → (x : Snapshot) → IsGiven (queue_has_snapshot e.output.queue) None x
+pub none_given : {own : ℕ} {seen : Bool} (e : Engine) (r : StepResult) → ((x : Snapshot) → IsWholeStepOf (record { snapshot = x; seen_greater_log = seen }) own e r) → (x : Snapshot) → IsGiven (queue_has_snapshot e.output.queue) None x
 none_given e r h x = λ has. absurd (let no : false ≡ true = sym (no_snapshot_stored e r h) ∙ has in cc)
 
 -- a step that its engine has done whatever the snapshot is run with none
-pub run_without_snapshot : (own : ℕ) (e : Engine) (old : StoredGroup) (r : StepResult) (at : ℕ) → ((x : Snapshot) → IsWholeStepOf x own e r)
+pub run_without_snapshot : {seen : Bool} (own : ℕ) (e : Engine) (old : StoredGroup) (r : StepResult) (at : ℕ) → ((x : Snapshot) → IsWholeStepOf (record { snapshot = x; seen_greater_log = seen }) own e r)
     → r.state.stored ≡ after_storing_all r.commands old → at ≡ r.state.now → IsRun own e old r None at
-run_without_snapshot own e old r at h stored moment = record {
+run_without_snapshot {seen} own e old r at h stored moment = record {
   snapshot = one_snapshot 0;
+  seen = seen;
   step = h (one_snapshot 0);
   is_given = none_given e r h (one_snapshot 0);
   stored = stored;

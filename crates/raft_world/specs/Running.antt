@@ -1,5 +1,5 @@
 -- How a step runs at a member, while its engine is taken out.
-use Rattle.std.specs.Prelude.{◌≡◌, ℕ, true, List, map, Option, Some, None, Result, Ok, Err}
+use Rattle.std.specs.Prelude.{◌≡◌, ℕ, Bool, true, List, map, Option, Some, None, Result, Ok, Err}
 use Rattle.raft_group_step.specs.StoredGroup.{StoredGroup, Snapshot, after_storing_all}
 use Rattle.raft_group_step.specs.GroupState.{GroupState}
 use Rattle.raft_group_step.specs.GroupEvent.{GroupEvent}
@@ -16,7 +16,8 @@ use Rattle.raft_world.specs.declared.member.Ended.TheVariants as ended
 -- the engine has done the step, which begins with this stored, and the snapshot that its queue stores is given
 pub record IsRun (own : ℕ) (e : Engine) (old : StoredGroup) (r : StepResult) (given : Option Snapshot) (at : ℕ) : Type 0 where
   pub snapshot : Snapshot
-  pub step : IsWholeStepOf snapshot own e r
+  pub seen : Bool
+  pub step : IsWholeStepOf (record { snapshot = snapshot; seen_greater_log = seen }) own e r
   pub is_given : IsGiven (queue_has_snapshot e.output.queue) given snapshot
   pub stored : r.state.stored ≡ after_storing_all r.commands old
   pub moment : at ≡ r.state.now

@@ -29,7 +29,7 @@ fn change(
     engine: &mut Engine<ByteGroup>,
 ) -> Result<(), AllocError>
     ensures { (x : Snapshot) (own at token : ℕ) (s : GroupState) → stored.now ≡ s.stored → MayTake own engine.old s (Call (ChangeMembership change.now token) at)
-        → OnOk result (HasTaken x own engine.new s (Call (ChangeMembership change.now token) at)) }
+        → OnOk result (HasTaken x own engine.old engine.new s (Call (ChangeMembership change.now token) at)) }
 {
     let Some((_, old)) = stored.membership_in_force() else {
         return Ok(());
@@ -50,7 +50,7 @@ fn initialize(
     engine: &mut Engine<ByteGroup>,
 ) -> Result<(), AllocError>
     ensures { (x : Snapshot) (own at : ℕ) (s : GroupState) → moment ≡ max s.now at → MayTake own engine.old s (Call (Initialize membership.now) at)
-        → OnOk result (HasTaken x own engine.new s (Call (Initialize membership.now) at)) }
+        → OnOk result (HasTaken x own engine.old engine.new s (Call (Initialize membership.now) at)) }
 {
     let copy = membership.clone()?;
     let _answer = engine.initialize(copy, moment)?;
@@ -60,7 +60,7 @@ fn initialize(
 // The leader takes a command.
 fn propose(command: &Bytes, engine: &mut Engine<ByteGroup>) -> Result<(), AllocError>
     ensures { (x : Snapshot) (own at token : ℕ) (s : GroupState) → MayTake own engine.old s (Call (Propose command.now token) at)
-        → OnOk result (HasTaken x own engine.new s (Call (Propose command.now token) at)) }
+        → OnOk result (HasTaken x own engine.old engine.new s (Call (Propose command.now token) at)) }
 {
     if !engine.has_room() {
         return Ok(());
@@ -78,7 +78,7 @@ fn take_call(
 ) -> Result<(), AllocError>
     ensures { (x : Snapshot) (own at : ℕ) (s : GroupState) → stored.now ≡ s.stored → moment ≡ max s.now at → (call.now ≡ TriggerSnapshot → ⊥)
         → MayTake own engine.old s (Call call.now at)
-        → OnOk result (HasTaken x own engine.new s (Call call.now at)) }
+        → OnOk result (HasTaken x own engine.old engine.new s (Call call.now at)) }
 {
     match call {
         GroupCall::Initialize { membership } => initialize(membership, moment, engine),

@@ -83,7 +83,7 @@ fn take_request(
     engine: &mut Engine<ByteGroup>,
 ) -> Result<(), AllocError>
     ensures { (x : Snapshot) (own at : ℕ) (s : GroupState) → moment ≡ max s.now at → MayTake own engine.old s (received own peer (body_of (SendsEntries id request.now)) at)
-        → OnOk result (HasTaken x own engine.new s (received own peer (body_of (SendsEntries id request.now)) at)) }
+        → OnOk result (HasTaken x own engine.old engine.new s (received own peer (body_of (SendsEntries id request.now)) at)) }
 {
     let caller = Caller {
         peer,
@@ -110,7 +110,7 @@ fn take_message(
 ) -> Result<(), AllocError>
     ensures { (x : Snapshot) (own at : ℕ) (s : GroupState) → moment ≡ max s.now at → ((vote : _) (id : ℕ) (y : Snapshot) → message.now.body ≡ SendsSnapshot vote id y → ⊥)
         → MayTake own engine.old s (received own message.now.sender (body_of message.now.body) at)
-        → OnOk result (HasTaken x own engine.new s (received own message.now.sender (body_of message.now.body) at)) }
+        → OnOk result (HasTaken x own engine.old engine.new s (received own message.now.sender (body_of message.now.body) at)) }
 {
     let peer = message.sender;
     match &message.body {
@@ -140,7 +140,7 @@ fn take_snapshot(
     engine: &mut Engine<ByteGroup>,
 ) -> Result<(), AllocError>
     ensures { (own at : ℕ) (s : GroupState) → moment ≡ max s.now at → MayTake own engine.old s (received own peer (body_of (SendsSnapshot vote id snapshot.now)) at)
-        → OnOk result (HasTaken snapshot.now own engine.new s (received own peer (body_of (SendsSnapshot vote id snapshot.now)) at)) }
+        → OnOk result (HasTaken snapshot.now own engine.old engine.new s (received own peer (body_of (SendsSnapshot vote id snapshot.now)) at)) }
 {
     let last = snapshot.last();
     if last.index == u64::MAX {

@@ -26,7 +26,7 @@ returns-clause-step g c = λ x own r step follows past.
     let at = id_of_place r.state.stored c.args.place c.in-Some.since order.placed first found in
     on_ok_weaker c.push_command.result
     (λ h. rw some
-    (log_stored x own c.args.self.now _ r step refl refl refl (CutFrom c.args.place) (DeleteConflictLog c.in-Some.since) follows
+    (log_stored x own c.args.self.now _ r step refl refl refl refl (CutFrom c.args.place) (DeleteConflictLog c.in-Some.since) follows
     (c.in_ok-truncate.ensures.known r.state.stored step.state.knows order.placed first) c.in_ok-truncate.ensures.rest
     (order_of_cut r.state order c.args.place past) (cut_keeps_id r.state order c.args.place past)
     (ap (λ (o : Output _ _ _ _ _). o.queue) h) (ap (λ n. CutFrom n ∷ []) at) (λ s upto. refl)))

@@ -6,6 +6,7 @@ use Rattle.raft_group_step.specs.declared.group_call.GroupCall.TheVariants.{Elec
 use Rattle.raft_group_step.specs.Elect.{elect_step}
 use Rattle.raft_group_step.specs.GroupStep.{begun}
 use Rattle.raft_engine.proofs.ElectionEvents.{term_left, votes_now}
+use Rattle.raft_engine.specs.Standing.{given}
 use Rattle.raft_engine.proofs.EventLemmas.{event_taken, step_begun}
 use Rattle.raft_engine.proofs.NewLeadLemmas.{elect_finishes}
 use Rattle.raft_engine.proofs.engine.Engine.elect.Goals as goal
@@ -16,7 +17,7 @@ returns g c = λ x own at s now may.
     let term = term_left own at s may.accepted in
     let places = may.ready.places in
     let stood =
-    c.in_ok-elect_part.ensures x own (begun at s) (step_begun x own at e s may.stands may.empty) (sym now)
+    c.in_ok-elect_part.ensures (given x e) own (begun at s) (step_begun x own at e s may.stands may.empty) (sym now)
     (omega (arith, term)) (omega (arith, places)) (votes_now own at s may.accepted) in
     on_ok_weaker c.finish.result (λ h. event_taken x own e c.finish.new.self s (Call Elect at) may h)
-    (c.finish.ensures x own (elect_step own (begun at s)) stood (elect_finishes own (begun at s) places may.ready.members))
+    (c.finish.ensures (given x e) own (elect_step own (begun at s)) stood (elect_finishes own (begun at s) places may.ready.members))

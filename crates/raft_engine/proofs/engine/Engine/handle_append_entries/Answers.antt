@@ -4,6 +4,7 @@ use Rattle.raft_group_step.specs.Message.{AppendRequest}
 use Rattle.raft_group_step.specs.GroupStep.{begun}
 use Rattle.raft_group_step.specs.AppendRequest.{append_request_step}
 use Rattle.raft_engine.specs.Events.{received}
+use Rattle.raft_engine.specs.Standing.{given}
 use Rattle.raft_engine.proofs.EventLemmas.{event_taken, step_begun}
 use Rattle.raft_engine.proofs.ReceivedLemmas.{append_request_finishes, begins_to_finish, sound_append}
 use Rattle.raft_engine.proofs.engine.Engine.handle_append_entries.Goals as goal
@@ -16,6 +17,6 @@ returns g c = λ x own at s m now says repeats may.
     let sound = sound_append own peer m at s may.accepted in
     on_ok_weaker c.finish.result
     (event_taken x own c.args.self.now c.finish.new.self s (received own peer (AppendRequest m) at) may)
-    (c.finish.ensures x own (append_request_step own peer m (begun at s))
-    (c.in_ok-append_request.ensures x own (begun at s) m step (sym now) says repeats sound.0 sound.1)
-    (append_request_finishes own peer (begun at s) can x c.args.self.now step m sound.0))
+    (c.finish.ensures (given x c.args.self.now) own (append_request_step own peer m (begun at s))
+    (c.in_ok-append_request.ensures (given x c.args.self.now) own (begun at s) m step (sym now) says repeats sound.0 sound.1)
+    (append_request_finishes own peer (begun at s) can (given x c.args.self.now) c.args.self.now step m sound.0))

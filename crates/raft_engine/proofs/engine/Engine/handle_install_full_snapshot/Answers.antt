@@ -4,6 +4,7 @@ use Rattle.raft_group_step.specs.Message.{SnapshotRequest}
 use Rattle.raft_group_step.specs.GroupStep.{begun}
 use Rattle.raft_group_step.specs.SnapshotRequest.{snapshot_request_step}
 use Rattle.raft_engine.specs.Events.{received}
+use Rattle.raft_engine.specs.Standing.{given}
 use Rattle.raft_engine.proofs.EventLemmas.{event_taken, step_begun}
 use Rattle.raft_engine.proofs.ReceivedLemmas.{begins_to_finish, snapshot_request_finishes, sound_snapshot}
 use Rattle.raft_engine.proofs.engine.Engine.handle_install_full_snapshot.Goals as goal
@@ -17,6 +18,6 @@ returns g c = λ x own at id s now meta asked repeats may.
     let another = sound_snapshot own peer vote id x at s may.accepted in
     on_ok_weaker c.finish.result
     (event_taken x own c.args.self.now c.finish.new.self s (received own peer (SnapshotRequest vote id x) at) may)
-    (c.finish.ensures x own (snapshot_request_step own peer vote id x (begun at s))
-    (c.in_ok-snapshot_request.ensures x own (begun at s) id step (sym now) meta asked repeats another)
-    (snapshot_request_finishes own peer (begun at s) can x c.args.self.now step vote id another))
+    (c.finish.ensures (given x c.args.self.now) own (snapshot_request_step own peer vote id x (begun at s))
+    (c.in_ok-snapshot_request.ensures (given x c.args.self.now) own (begun at s) id step (sym now) meta asked repeats another)
+    (snapshot_request_finishes own peer (begun at s) can (given x c.args.self.now) c.args.self.now step vote id another))

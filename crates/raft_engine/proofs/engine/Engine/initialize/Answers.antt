@@ -8,6 +8,7 @@ use Rattle.raft_group_step.specs.declared.group_call.GroupCall.TheVariants.{Init
 use Rattle.raft_group_step.specs.GroupStep.{begun}
 use Rattle.raft_group_step.specs.Initialize.{initialize_step}
 use Rattle.raft_engine.proofs.ElectionEvents.{initialize_finishes, is_new_then, votes_in_first}
+use Rattle.raft_engine.specs.Standing.{given}
 use Rattle.raft_engine.proofs.EventLemmas.{event_taken, step_begun}
 use Rattle.raft_engine.proofs.engine.Engine.initialize.Goals as goal
 
@@ -27,9 +28,9 @@ returns-clause-taken g c = λ x own at s now may.
     let e = c.args.self.now in
     let m = c.args.membership in
     let stood =
-    c.in_ok-initialize_part.ensures x own (begun at s) (step_begun x own at e s may.stands may.empty) (sym now)
+    c.in_ok-initialize_part.ensures (given x e) own (begun at s) (step_begun x own at e s may.stands may.empty) (sym now)
     (is_new_then own at s m may.accepted) (votes_in_first own at s m may.accepted) in (
       refl,
       event_taken x own e c.finish.new.self s (Call (Initialize m) at) may
-          (c.in_ok-finish.ensures x own (initialize_step own m (begun at s)) stood (initialize_finishes own at s m may.accepted (begun at s) refl)),
+          (c.in_ok-finish.ensures (given x e) own (initialize_step own m (begun at s)) stood (initialize_finishes own at s m may.accepted (begun at s) refl)),
     )

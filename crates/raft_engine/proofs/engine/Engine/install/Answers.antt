@@ -18,23 +18,23 @@ same_last a b e = cc
 
 pub returns-then-is_committed-clause-step : goal.returns-then-is_committed-clause-step
 returns-then-is_committed-clause-step g c = λ x own r step follows meta.
-    let last = same_last c.in-Some.last x.last (sym c.in-Some.is ∙ ap (λ (y : SnapshotMeta). y.last_log_id) meta) in
-    let all : is_within x.last.index r.state.committed ≡ true =
+    let last = same_last c.in-Some.last x.snapshot.last (sym c.in-Some.is ∙ ap (λ (y : SnapshotMeta). y.last_log_id) meta) in
+    let all : is_within x.snapshot.last.index r.state.committed ≡ true =
     ap (λ (id : LogId ℕ). is_within id.index r.state.committed) (sym last) ∙ ap (is_within c.in-Some.last.index) (sym (committed_place own c.args.self.now r.state step.state))
     ∙ sym c.is_committed.ensures ∙ c.if-is_committed.true in
     rw all step
 
 pub returns-clause-step : goal.returns-clause-step
 returns-clause-step g c = λ x own r step follows meta.
-    let last = same_last c.in-Some.last x.last (sym c.in-Some.is ∙ ap (λ (y : SnapshotMeta). y.last_log_id) meta) in
+    let last = same_last c.in-Some.last x.snapshot.last (sym c.in-Some.is ∙ ap (λ (y : SnapshotMeta). y.last_log_id) meta) in
     let past : is_within c.in-Some.last.index r.state.committed ≡ false =
     ap (is_within c.in-Some.last.index) (sym (committed_place own c.args.self.now r.state step.state)) ∙ sym c.is_committed.ensures ∙ c.if-is_committed.false in
-    let more : is_within x.last.index r.state.committed ≡ false = ap (λ (id : LogId ℕ). is_within id.index r.state.committed) (sym last) ∙ past in
+    let more : is_within x.snapshot.last.index r.state.committed ≡ false = ap (λ (id : LogId ℕ). is_within id.index r.state.committed) (sym last) ∙ past in
     let cut = cut_other c.in-Some.last r in
     let keeps = cut_other_keeps c.in-Some.last r in
     rw more
     (on_ok_weaker c.put_snapshot.result
-    (λ h. subst (λ (id : LogId ℕ). IsStepOf x own c.put_snapshot.new.self (apply_up_to (Some id.index) (store (RemoveUpTo id) (store (SetSnapshot x) (cut_other id r))))) last h)
+    (λ h. subst (λ (id : LogId ℕ). IsStepOf x own c.put_snapshot.new.self (apply_up_to (Some id.index) (store (RemoveUpTo id) (store (SetSnapshot x.snapshot) (cut_other id r))))) last h)
     (c.put_snapshot.ensures.step x own cut (c.in_ok-cut_other.ensures.step x own r step follows past) (keeps.0 ∙ follows) meta last
     (ap (is_within c.in-Some.last.index) keeps.1 ∙ past) (is_entry_or_past r c.in-Some.last step.state.order past)))
 

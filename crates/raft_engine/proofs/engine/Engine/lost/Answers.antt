@@ -27,4 +27,4 @@ returns g c = λ x own r step.
     let busy : is_none (request_id entry.inflight) ≡ false = sym c.is_none.ensures ∙ c.if-is_none.false in
     rw (lost-is c.args.peer led.0 r.state.role entry r led.1 known true busy)
     (known_step x own self c.set_peer.new.self r step (peer_state c.args.peer (record entry { inflight = Nothing })) led.0
-    (c.set_peer.ensures.known own r.state led.0 step.state led.1 (known-busy c.in-Some.leader self.leader c.args.peer entry c.in-Some.is c.peer-entry.ensures busy)) c.set_peer.ensures.rest)
+    (c.set_peer.ensures.known own r.state led.0 step.state led.1 (known-busy c.in-Some.leader self.leader c.args.peer entry c.in-Some.is c.peer-entry.ensures busy)) c.set_peer.ensures.rest.0 c.set_peer.ensures.rest.1)

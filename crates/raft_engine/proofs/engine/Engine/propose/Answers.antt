@@ -4,6 +4,7 @@ use Rattle.raft_group_step.specs.declared.group_call.GroupCall.TheVariants.{Prop
 use Rattle.raft_group_step.specs.GroupEvent.{Call}
 use Rattle.raft_group_step.specs.GroupStep.{begun}
 use Rattle.raft_group_step.specs.Propose.{propose_step}
+use Rattle.raft_engine.specs.Standing.{given}
 use Rattle.raft_engine.proofs.EventLemmas.{event_taken, step_begun}
 use Rattle.raft_engine.proofs.LeaderFinish.{finish_proposed, proposes}
 use Rattle.raft_engine.proofs.engine.Engine.propose.Goals as goal
@@ -14,6 +15,6 @@ returns g c = λ x own at token s may.
     let command = c.args.command in
     let event = Call (Propose command token) at in
     let lead = proposes own at token s may.ready may.stands.order command may.accepted in
-    let step = c.in_ok-propose_part.ensures x own (begun at s) lead.0 token (step_begun x own at old s may.stands may.empty) lead.1 in
+    let step = c.in_ok-propose_part.ensures (given x old) own (begun at s) lead.0 token (step_begun x own at old s may.stands may.empty) lead.1 in
     on_ok_weaker c.finish.result (event_taken x own old c.finish.new.self s event may)
-    (c.finish.ensures x own (propose_step command token (begun at s)) step (finish_proposed own at token s may.ready may.stands.order command may.accepted))
+    (c.finish.ensures (given x old) own (propose_step command token (begun at s)) step (finish_proposed own at token s may.ready may.stands.order command may.accepted))

@@ -14,7 +14,7 @@ returns g c = λ x own r step fits may.
     let some = sym (c.has_entry_at.ensures s knows placed) ∙ c.if-not-has_entry_at.false in
     let entrys = is_of_entry s c.args.place c.in-Some.upto placed some (c.in-Some.ensures s knows placed) in
     on_ok_weaker c.push_command.result
-    (λ h. purged_to x own c.args.self.now _ r step c.args.place c.in-Some.upto entrys may refl refl refl
+    (λ h. purged_to x own c.args.self.now _ r step c.args.place c.in-Some.upto entrys may refl refl refl refl
     (c.in_ok-purge.ensures.known s knows placed entrys.above entrys.is_entrys) c.in_ok-purge.ensures.rest (ap (λ o. o.queue) h))
     c.push_command.ensures.ok
 

@@ -15,12 +15,12 @@ pub returns-clause-step : goal.returns-clause-step
 returns-clause-step g c = λ x own r step follows meta is_last past there.
     let order = step.state.order in
     let first = above_first r.state order c.args.last.index past in
-    let saved = c.in_ok-save_snapshot.ensures.known r.state.stored x step.state.knows meta in
-    let purged = c.in_ok-purge.ensures.known (after_storing (SetSnapshot x) r.state.stored) saved order.placed first there in
+    let saved = c.in_ok-save_snapshot.ensures.known r.state.stored x.snapshot step.state.knows meta in
+    let purged = c.in_ok-purge.ensures.known (after_storing (SetSnapshot x.snapshot) r.state.stored) saved order.placed first there in
     let keeps = both_keep c.args.self.now.state c.save_snapshot.new.self c.purge.new.self c.in_ok-save_snapshot.ensures.rest c.in_ok-purge.ensures.rest in
     let command = c.with_seq-command.result in
     on_ok_weaker c.push_command-2.result
-    (λ h. installed x own c.args.self.now _ r step refl refl refl follows c.args.last is_last past c.purge.new.self (StateMachine command) (PurgeLog c.args.last) purged keeps refl
+    (λ h. installed x own c.args.self.now _ r step refl refl refl refl follows c.args.last is_last past c.purge.new.self (StateMachine command) (PurgeLog c.args.last) purged keeps refl
     (ap (λ (o : Output _ _ _ _ _). o.queue) h ∙ ap (λ (o : Output _ _ _ _ _). o.queue ++ PurgeLog c.args.last ∷ []) c.in_ok-push_command.ensures.ok
     ∙ ap (λ (o : Output _ _ _ _ _). (o.queue ++ StateMachine command ∷ []) ++ PurgeLog c.args.last ∷ []) c.next_sm_seq-seq.ensures.rest)
     (rw (c.with_seq-command.ensures, c.install_full_snapshot.ensures) refl) refl (λ s upto. refl) (λ s upto. refl))

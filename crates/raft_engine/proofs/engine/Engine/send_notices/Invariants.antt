@@ -4,10 +4,10 @@ use Rattle.raft_group_step.specs.StoredGroup.{Snapshot}
 use Rattle.raft_group_step.specs.GroupState.{Lead, Leader}
 use Rattle.raft_group_step.specs.StepResult.{StepResult}
 use Rattle.raft_group_step.specs.Heartbeat.{send_notices}
-use Rattle.raft_engine.specs.Standing.{IsStepOf}
+use Rattle.raft_engine.specs.Standing.{Given, IsStepOf}
 use Rattle.raft_engine.proofs.engine.Engine.send_notices.Given as goal
 
 abbrev pub invariant-loop-n : goal.invariant-loop-n
 invariant-loop-n g l =
-    (x : Snapshot) (own : ℕ) (r : StepResult) (lead : Lead) → IsStepOf {C = g.row.C.Denot} {R = g.row.C-R.Denot} x own l.initial.self r → r.state.role ≡ Leader lead
+    (x : Given) (own : ℕ) (r : StepResult) (lead : Lead) → IsStepOf {C = g.row.C.Denot} {R = g.row.C-R.Denot} x own l.initial.self r → r.state.role ≡ Leader lead
     → IsStepOf {C = g.row.C.Denot} {R = g.row.C-R.Denot} x own l.self (send_notices own lead (take l.n-index l.ids) r)

@@ -17,8 +17,8 @@ returns-then-is_lower g c = λ x own r id step now meta asked repeats another.
     let says = ap (λ v. snapshot_result v (record { vote = r.state.stored.vote })) asked ∙ says_higher c.args.vote r.state.stored.vote lower in
     rw lower
     (on_ok_weaker c.answer_snapshot.result
-    (λ h. subst (λ v. IsStepOf x own c.answer_snapshot.new.self (reply_snapshot own c.args.tx.peer v id x (HigherVote r.state.stored.vote) r)) asked
-    (subst (λ o. IsStepOf x own c.answer_snapshot.new.self (reply_snapshot own c.args.tx.peer c.args.tx.vote id x o r)) says h))
+    (λ h. subst (λ v. IsStepOf x own c.answer_snapshot.new.self (reply_snapshot own c.args.tx.peer v id x.snapshot (HigherVote r.state.stored.vote) r)) asked
+    (subst (λ o. IsStepOf x own c.answer_snapshot.new.self (reply_snapshot own c.args.tx.peer c.args.tx.vote id x.snapshot o r)) says h))
     (c.answer_snapshot.ensures x own r id step repeats))
 
 pub returns : goal.returns
@@ -27,13 +27,13 @@ returns g c = λ x own r id step now meta asked repeats another.
     ap (vote_lt c.args.vote) (sym (c.vote_ref.ensures ∙ step.state.knows.vote)) ∙ sym c.is_lower-is_lower.ensures ∙ c.if-is_lower.false in
     let taken = take_over c.args.vote r in
     let follows = follows_after x own c.args.self.now r c.args.vote step another no_lower in
-    let after = install_unless (is_within x.last.index taken.state.committed) x taken in
+    let after = install_unless (is_within x.snapshot.last.index taken.state.committed) x.snapshot taken in
     let installed = c.in_ok-install.ensures.step x own taken (c.in_ok-take_over.ensures.step x own r step now) follows meta in
     let level : vote_lt c.args.vote after.state.stored.vote ≡ false =
-    ap (vote_lt c.args.vote) (install_keeps_vote (is_within x.last.index taken.state.committed) x taken) ∙ not_below_after c.args.vote r no_lower in
+    ap (vote_lt c.args.vote) (install_keeps_vote (is_within x.snapshot.last.index taken.state.committed) x.snapshot taken) ∙ not_below_after c.args.vote r no_lower in
     let says = ap (λ v. snapshot_result v (record { vote = after.state.stored.vote })) asked ∙ says_success c.args.vote after.state.stored.vote level in
     rw no_lower
     (on_ok_weaker c.answer_snapshot-2.result
-    (λ h. subst (λ v. IsStepOf x own c.answer_snapshot-2.new.self (reply_snapshot own c.args.tx.peer v id x Success after)) asked
-    (subst (λ o. IsStepOf x own c.answer_snapshot-2.new.self (reply_snapshot own c.args.tx.peer c.args.tx.vote id x o after)) says h))
+    (λ h. subst (λ v. IsStepOf x own c.answer_snapshot-2.new.self (reply_snapshot own c.args.tx.peer v id x.snapshot Success after)) asked
+    (subst (λ o. IsStepOf x own c.answer_snapshot-2.new.self (reply_snapshot own c.args.tx.peer c.args.tx.vote id x.snapshot o after)) says h))
     (c.answer_snapshot-2.ensures x own after id installed repeats))

@@ -17,6 +17,6 @@ returns-clause-step g c = λ x own r step now.
     let no_greater : vote_lt r.state.stored.vote c.args.vote ≡ false =
     ap (λ v. vote_lt v c.args.vote) (sym (c.vote_ref.ensures ∙ step.state.knows.vote)) ∙ sym c.is_lower.ensures ∙ c.if-is_lower.false in
     rw no_greater
-    (vote_renewed x own c.args.self.now _ r step refl refl refl refl
+    (vote_renewed x own c.args.self.now _ r step refl refl refl refl refl
     (ap (λ v. record c.args.self.now.state { state = record c.args.self.now.state.state { vote = v } }) c.touch.ensures
     ∙ ap (λ t. record c.args.self.now.state { state = record c.args.self.now.state.state { vote = record c.args.self.now.state.state.vote { utime = Some t } } }) (sym now)))

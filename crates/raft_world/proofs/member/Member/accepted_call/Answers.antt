@@ -9,7 +9,7 @@ use Rattle.raft_world.proofs.member.Member.accepted_call.Goals.{in-TriggerSnapsh
 pub returns-clause-ok : goal.returns-clause-ok
 returns-clause-ok c = λ at s down idle moment members may.
     c.end_taken.ensures.ok s.stored (group_step c.args.self.now.id s (Call c.args.call.now at)) down
-    (run_of_call c.args.self.now.id at c.args.moment c.take_call.new.engine s c.args.call.now moment may.accepted
+    (run_of_call c.args.engine.now c.args.self.now.id at c.args.moment c.take_call.new.engine s c.args.call.now moment may.accepted
     (λ x. c.in_ok-take_call.ensures x c.args.self.now.id at s down.stored moment
     (elim c.match-matches.branch [
       | in-TriggerSnapshot w ↦ none_both c.match-matches.matches c.if-matches.false w.matches-is
@@ -20,7 +20,7 @@ returns-clause-ok c = λ at s down idle moment members may.
 pub returns-clause-err : goal.returns-clause-err
 returns-clause-err c = λ at s down idle moment members may.
     c.end_taken.ensures.err s.stored (group_step c.args.self.now.id s (Call c.args.call.now at)) down
-    (run_of_call c.args.self.now.id at c.args.moment c.take_call.new.engine s c.args.call.now moment may.accepted
+    (run_of_call c.args.engine.now c.args.self.now.id at c.args.moment c.take_call.new.engine s c.args.call.now moment may.accepted
     (λ x. c.in_ok-take_call.ensures x c.args.self.now.id at s down.stored moment
     (elim c.match-matches.branch [
       | in-TriggerSnapshot w ↦ none_both c.match-matches.matches c.if-matches.false w.matches-is

@@ -27,7 +27,7 @@ returns-then-not-branch-clause-ok c = λ at s down idle moment members may.
     (λ t. none_both c.in_ok-trigger_snapshot.field-0 c.if-not-branch.true (c.in_ok-trigger_snapshot.ensures.asked idle.not_building t).0)
     (λ f. f) in
     c.end_taken.ensures.ok s.stored (group_step c.args.self.now.id s (Call TriggerSnapshot at)) down
-    (run_of_call c.args.self.now.id at c.args.moment c.trigger_snapshot.new.self s TriggerSnapshot moment may.accepted
+    (run_of_call c.args.engine.now c.args.self.now.id at c.args.moment c.trigger_snapshot.new.self s TriggerSnapshot moment may.accepted
     (λ x. (c.in_ok-trigger_snapshot.ensures.none_new x c.args.self.now.id at s may idle.not_building none_past).1))
 
 pub returns-then-not-branch-clause-err : goal.returns-then-not-branch-clause-err
@@ -37,7 +37,7 @@ returns-then-not-branch-clause-err c = λ at s down idle moment members may.
     (λ t. none_both c.in_ok-trigger_snapshot.field-0 c.if-not-branch.true (c.in_ok-trigger_snapshot.ensures.asked idle.not_building t).0)
     (λ f. f) in
     c.end_taken.ensures.err s.stored (group_step c.args.self.now.id s (Call TriggerSnapshot at)) down
-    (run_of_call c.args.self.now.id at c.args.moment c.trigger_snapshot.new.self s TriggerSnapshot moment may.accepted
+    (run_of_call c.args.engine.now c.args.self.now.id at c.args.moment c.trigger_snapshot.new.self s TriggerSnapshot moment may.accepted
     (λ x. (c.in_ok-trigger_snapshot.ensures.none_new x c.args.self.now.id at s may idle.not_building none_past).1))
 
 pub returns-in_default-clause-ok : goal.returns-in_default-clause-ok
@@ -62,7 +62,7 @@ returns-in_default-2-clause-ok c = λ at s down idle moment members may.
 -- the snapshot that was built
 module _ (c : After-drop-snapshot-inside-4) (at : ℕ) (s : GroupState) (down : IsDown c.args.self.now s.stored) (idle : IsIdle c.args.self.now.id c.args.engine.now s)
     (members : HasMembershipOfApplied s) (may : MayTake c.args.self.now.id c.args.engine.now s (Call TriggerSnapshot at)) where
-  taken : HasTaken c.in-Some-2.snapshot c.args.self.now.id c.finish_building_snapshot.new.self s (Call TriggerSnapshot at)
+  taken : HasTaken c.in-Some-2.snapshot c.args.self.now.id c.trigger_snapshot.new.self c.finish_building_snapshot.new.self s (Call TriggerSnapshot at)
   taken =
       let past : stands_before (covered_id c.args.engine.now) c.args.engine.now.state.state.committed ≡ true =
       by_cases (stands_before (covered_id c.args.engine.now) c.args.engine.now.state.state.committed) (λ t. t)
@@ -80,9 +80,9 @@ module _ (c : After-drop-snapshot-inside-4) (at : ℕ) (s : GroupState) (down : 
 pub returns-clause-ok : goal.returns-clause-ok
 returns-clause-ok c = λ at s down idle moment members may.
     c.end_taken-2.ensures.ok s.stored (group_step c.args.self.now.id s (Call TriggerSnapshot at)) down
-    (run_of_call_with c.args.self.now.id at c.args.moment c.finish_building_snapshot.new.self s TriggerSnapshot c.in-Some-2.snapshot moment may.accepted (taken c at s down idle members may))
+    (run_of_call_with c.trigger_snapshot.new.self c.args.self.now.id at c.args.moment c.finish_building_snapshot.new.self s TriggerSnapshot c.in-Some-2.snapshot moment may.accepted (taken c at s down idle members may))
 
 pub returns-clause-err : goal.returns-clause-err
 returns-clause-err c = λ at s down idle moment members may.
     c.end_taken-2.ensures.err s.stored (group_step c.args.self.now.id s (Call TriggerSnapshot at)) down
-    (run_of_call_with c.args.self.now.id at c.args.moment c.finish_building_snapshot.new.self s TriggerSnapshot c.in-Some-2.snapshot moment may.accepted (taken c at s down idle members may))
+    (run_of_call_with c.trigger_snapshot.new.self c.args.self.now.id at c.args.moment c.finish_building_snapshot.new.self s TriggerSnapshot c.in-Some-2.snapshot moment may.accepted (taken c at s down idle members may))
