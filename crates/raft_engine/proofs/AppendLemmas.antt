@@ -26,10 +26,11 @@ use Rattle.raft_known_state.proofs.PlacedIds.{by_order, last_of}
 use Rattle.raft_commands.specs.declared.command.Command.TheVariants.{AppendInputEntries}
 use Rattle.raft_leaders.specs.Candidate.{CandidateValue}
 use Rattle.raft_leaders.specs.Leader.{LeaderValue, id_of_leader, peer_at}
+use Rattle.raft_commands.specs.Output.{Output}
 use Rattle.raft_engine.specs.Commands.{put_all, storing_of, sending_of, stored_by, sent_by}
 use Rattle.raft_engine.specs.Standing.{EffectiveMembership, Engine, Given, IsInOrder, IsStateOf, IsStepOf, Leads, PlaysRole, peer_state}
 use Rattle.raft_engine.specs.Leading.{KnowsMembers}
-use Rattle.raft_engine.proofs.CommandLemmas.{stores_more, sends_same}
+use Rattle.raft_engine.proofs.CommandLemmas.{numbers_kept, sends_same, stores_more}
 use Rattle.raft_engine.proofs.StandingLemmas.{order_kept}
 
 -- a leader knows the members of an entry that has a membership
@@ -180,9 +181,10 @@ module _ {C R : Type 0} (x : Given) (own : ℕ) (e : Engine C R) (r : StepResult
         → ((s : StoredGroup) → Knows e.state s → IsPlaced s → ArePlaced (end_place s) entries → Knows e'.state (after_storing (PutEntries (end_place s) entries) s))
         → KeepsRest e.state e'.state → l'.vote ≡ l.vote → l'.last_log_id ≡ Some id → l'.began ≡ l.began → ((n : ℕ) → peer_at nat_eq l' n ≡ peer_at nat_eq l n)
         → ((before : Option LoggedMembership) → KnowsMembers l before → KnowsMembers l' (membership_after before id payload))
-        → e'.output.queue ≡ e.output.queue ++ AppendInputEntries vote entries ∷ [] → IsStepOf x own e' (append payload r)
-    appended config seen leader candidate id_is entries_are known rest voted last began peers members queue =
+        → e'.output ≡ record e.output { queue = e.output.queue ++ AppendInputEntries vote entries ∷ [] } → IsStepOf x own e' (append payload r)
+    appended config seen leader candidate id_is entries_are known rest voted last began peers members output =
         let old = step.state in
+        let queue = ap (λ (o : Output C (List ℕ) R ℕ (List ℕ)). o.queue) output in
         let s = r.state.stored in
         let id_next : id ≡ next_id payload = id_is ∙ given_next payload in
         let puts : entries ≡ put payload = entries_are ∙ ap (λ (y : LogId ℕ). entry_of y payload ∷ []) id_next in
@@ -205,6 +207,7 @@ module _ {C R : Type 0} (x : Given) (own : ℕ) (e : Engine C R) (r : StepResult
           stores = ap (λ q. flat_map (storing_of x.snapshot) q) queue ∙ stores_more e.output.queue (AppendInputEntries vote entries) x.snapshot r.commands (PutEntries (end_place s) (put payload) ∷ []) step.stores (ap put_all puts);
           sends = λ t upto. ap (λ q. flat_map (sending_of own t upto) q) queue ∙ sends_same e.output.queue (AppendInputEntries vote entries) own t upto r.messages (step.sends t upto) refl;
           seen = seen ∙ step.seen;
+          numbers = numbers_kept x.last_sm_seq e.output e'.output (AppendInputEntries vote entries) step.numbers output refl;
         }
 
 -- ---- tokens
@@ -226,6 +229,7 @@ whatever_tokens x own e r untold step =
       stores = step.stores;
       sends = step.sends;
       seen = step.seen;
+      numbers = step.numbers;
     }
 
 -- what a proposal's token waits for

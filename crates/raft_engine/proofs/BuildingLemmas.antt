@@ -15,14 +15,15 @@ use Rattle.raft_group_step.specs.StepResult.{StepResult, store}
 use Rattle.raft_group_step.specs.Lead.{ids_of, peer_of}
 use Rattle.raft_group_step.specs.Frames.{committed_id}
 use Rattle.raft_group_step.specs.Refusal.{range_reason, refusal_of, unknown_group}
-use Rattle.raft_group_step.specs.GroupStep.{begun, finished}
+use Rattle.raft_group_step.specs.GroupStep.{begun, finished, group_step}
 use Rattle.raft_group_step.specs.SnapshotTrigger.{snapshot_of_applied, snapshot_trigger_step, store_snapshot_at}
 use Rattle.raft_known_state.specs.KnownState.{KeepsRest, Knows}
+use Rattle.raft_engine.specs.Numbering.{NumbersFollow}
 use Rattle.raft_engine.specs.Commands.{sent_by, stored_by}
-use Rattle.raft_engine.specs.Standing.{Engine, IsInOrder, IsStateOf, IsStepOf, IsWholeStepOf, PlaysRole, given}
+use Rattle.raft_engine.specs.Standing.{Engine, Given, IsInOrder, IsStateOf, IsStepOf, IsWholeStepOf, PlaysRole}
 use Rattle.raft_engine.specs.Purging.{MayBePurged}
 use Rattle.raft_engine.specs.Building.{IsSnapshotOfApplied, asking, build_command, covered_id}
-use Rattle.raft_engine.specs.Events.{CanFinish, HasLeadRoom, HasTaken, IsReady}
+use Rattle.raft_engine.specs.Events.{CanFinish, HasLeadRoom, IsReady}
 use Rattle.raft_engine.proofs.AppendLemmas.{next_of_place}
 use Rattle.raft_engine.proofs.EventLemmas.{no_first_reason, unless_none}
 use Rattle.raft_engine.proofs.LastMembership.{last_overlap}
@@ -132,10 +133,10 @@ module _ (s : GroupState) (x : Snapshot) (built : IsSnapshotOfApplied s x) where
         with_snapshot
 
     module _ {C R : Type 0} (e e' : Engine C R) (h : IsStateOf own e s) where
-      pub snapshot_stored : e'.config ≡ e.config → e'.seen_greater_log ≡ e.seen_greater_log → e'.leader ≡ e.leader → e'.candidate ≡ e.candidate
+      pub snapshot_stored : (g : Given) → g.snapshot ≡ x → e'.seen_greater_log ≡ g.seen_greater_log → NumbersFollow g.last_sm_seq e'.output → e'.config ≡ e.config → e'.leader ≡ e.leader → e'.candidate ≡ e.candidate
           → Knows e'.state (after_storing (SetSnapshot x) s.stored) → KeepsRest e.state e'.state
-          → (seq : ℕ) → e'.output.queue ≡ build_command seq ∷ [] → IsStepOf (given x e) own e' (store (SetSnapshot x) (begun at s))
-      snapshot_stored config seen leader candidate knows rest seq queue =
+          → (seq : ℕ) → e'.output.queue ≡ build_command seq ∷ [] → IsStepOf g own e' (store (SetSnapshot x) (begun at s))
+      snapshot_stored g is seen numbers config leader candidate knows rest seq queue =
           record {
             state = record {
               config = config ∙ h.config;
@@ -148,17 +149,18 @@ module _ (s : GroupState) (x : Snapshot) (built : IsSnapshotOfApplied s x) where
                   (subst (λ l. PlaysRole own l e'.candidate s.stored s.role) (sym leader) (subst (λ c. PlaysRole own e.leader c s.stored s.role) (sym candidate) h.role));
               order = order_with (max s.now at) h.order;
             };
-            stores = ap (stored_by x) queue;
+            stores = ap (λ (y : Snapshot). stored_by y e'.output.queue) is ∙ ap (stored_by x) queue;
             sends = λ t upto. ap (sent_by own t upto) queue;
             seen = seen;
+            numbers = numbers;
           }
 
       -- what is finished then is the group's step
-      pub build_taken : refusal_of own s (Call TriggerSnapshot at) ≡ None
-          → IsWholeStepOf (given x e) own e' (finished own (place_of e.state.state.committed) (store (SetSnapshot x) (begun at s)))
-          → HasTaken x own e e' s (Call TriggerSnapshot at)
-      build_taken accepted whole =
+      pub build_taken : (g : Given) → refusal_of own s (Call TriggerSnapshot at) ≡ None
+          → IsWholeStepOf g own e' (finished own (place_of e.state.state.committed) (store (SetSnapshot x) (begun at s)))
+          → IsWholeStepOf g own e' (group_step own s (Call TriggerSnapshot at))
+      build_taken g accepted whole =
           let before : place_of e.state.state.committed ≡ s.committed = ap place_of h.committed ∙ h.order.committed in
           rw (unless_none own s (Call TriggerSnapshot at) (refusal_of own s (Call TriggerSnapshot at)) accepted)
-          (subst (λ (r : StepResult). IsWholeStepOf (given x e) own e' (finished own s.committed r)) (sym trigger_stores)
-          (subst (λ b. IsWholeStepOf (given x e) own e' (finished own b (store (SetSnapshot x) (begun at s)))) before whole))
+          (subst (λ (r : StepResult). IsWholeStepOf g own e' (finished own s.committed r)) (sym trigger_stores)
+          (subst (λ b. IsWholeStepOf g own e' (finished own b (store (SetSnapshot x) (begun at s)))) before whole))

@@ -1,6 +1,6 @@
 -- What the commands of a queue stand for, as the queue grows.
 use Rattle.std.specs.Prelude.{◌≡◌, ℕ, List, [], ◌∷◌, ◌++◌, Option, refl}
-use Rattle.std.proofs.Common.{ap, sym, ◌∙◌, append-nil}
+use Rattle.std.proofs.Common.{ap, sym, subst, ◌∙◌, append-nil}
 use Rattle.std.proofs.lemmas.Grind.{flat_map-append}
 use Rattle.std.specs.List.{flat_map}
 use Rattle.raft_values.specs.declared.log_id.LogId.{LogId}
@@ -8,7 +8,7 @@ use Rattle.raft_group_step.specs.StoredGroup.{StoredGroup, Snapshot, StoringComm
 use Rattle.raft_group_step.specs.Message.{Message}
 use Rattle.raft_engine.specs.Commands.{Command, storing_of, sending_of, stored_by, sent_by}
 use Rattle.raft_commands.specs.Output.{following_seq}
-use Rattle.raft_engine.specs.Numbering.{GainsNumber, KeepsNumbers, Output, number_in, numbers_in}
+use Rattle.raft_engine.specs.Numbering.{Follow, GainsNumber, KeepsNumbers, NumbersFollow, Output, number_in, numbers_in}
 
 one_more : {X A : Type 0} (f : X → List A) (queue : List X) (c : X) → flat_map f (queue ++ c ∷ []) ≡ flat_map f queue ++ f c
 one_more f queue c = flat_map-append f queue (c ∷ []) ∙ ap (λ xs. flat_map f queue ++ xs) (append-nil (f c))
@@ -38,3 +38,23 @@ gained_after a b c kept gained = (
   gained.0 ∙ ap (λ ns. ns ++ following_seq b.last_sm_seq ∷ []) kept.0 ∙ ap (λ last. numbers_in a.queue ++ following_seq last ∷ []) kept.1,
   gained.1 ∙ ap following_seq kept.1,
 )
+
+-- numbers that follow one another, and the next one
+follows_more : (before : ℕ) (ns : List ℕ) (last : ℕ) → Follow before ns last → Follow before (ns ++ following_seq last ∷ []) (following_seq last)
+follows_more before [] last h = (ap following_seq h, refl)
+follows_more before (n ∷ ns) last h = (h.0, follows_more n ns last h.1)
+
+module _ {C R : Type 0} (before : ℕ) (old new : Output C R) (c : Command C R) (follow : NumbersFollow before old) where
+  -- a command without a number is pushed
+  pub numbers_kept : new ≡ record old { queue = old.queue ++ c ∷ [] } → number_in c ≡ [] → NumbersFollow before new
+  numbers_kept pushed none =
+      subst (NumbersFollow before) (sym pushed)
+      (subst (λ ns. Follow before ns old.last_sm_seq)
+      (sym (numbers_more old.queue c ∙ ap (λ ns. numbers_in old.queue ++ ns) none ∙ append-nil (numbers_in old.queue))) follow)
+
+  -- a command with the next number is pushed
+  pub numbers_gained : new ≡ record { queue = old.queue ++ c ∷ []; last_sm_seq = following_seq old.last_sm_seq } → number_in c ≡ following_seq old.last_sm_seq ∷ [] → NumbersFollow before new
+  numbers_gained pushed next =
+      subst (NumbersFollow before) (sym pushed)
+      (subst (λ ns. Follow before ns (following_seq old.last_sm_seq))
+      (sym (numbers_more old.queue c ∙ ap (λ ns. numbers_in old.queue ++ ns) next)) (follows_more before (numbers_in old.queue) old.last_sm_seq follow))

@@ -39,7 +39,7 @@ module _ {C R : Type 0} (x : Given) (own : ℕ) (req : Request ℕ) where
   asked [] e r step vote last = subst (λ q. IsStepOf x own (with_queue e q) r) (sym (append-nil e.output.queue)) step
   asked (n ∷ ns) e r step vote last =
       let one : IsStepOf x own (with_queue e (e.output.queue ++ SendVote n req ∷ [])) (send own n (VoteRequest r.state.stored.vote (last_id r.state.stored)) r) =
-      queued x own e r (SendVote n req) (message_to own n (VoteRequest r.state.stored.vote (last_id r.state.stored))) step refl (λ s upto. rw (vote, last) refl) in
+      queued x own e r (SendVote n req) (message_to own n (VoteRequest r.state.stored.vote (last_id r.state.stored))) step refl refl (λ s upto. rw (vote, last) refl) in
       subst (λ q. IsStepOf x own (with_queue e q) (ask own (n ∷ ns) r)) (append_assoc e.output.queue (SendVote n req ∷ []) (requests ns))
       (asked ns (with_queue e (e.output.queue ++ SendVote n req ∷ [])) (send own n (VoteRequest r.state.stored.vote (last_id r.state.stored)) r) one vote last)
 
@@ -83,6 +83,7 @@ module _ {C R : Type 0} (x : Given) (own : ℕ) (e : Engine C R) (r : StepResult
         stores = step.stores;
         sends = step.sends;
         seen = step.seen;
+        numbers = step.numbers;
       }
 
   -- the place after the last log id that is known

@@ -10,6 +10,7 @@ use Rattle.raft_group_step.specs.GroupEvent.{GroupEvent}
 use Rattle.raft_group_step.specs.StepResult.{StepResult, RefusalReason, unchanged}
 use Rattle.raft_group_step.specs.Refusal.{first_of_reasons, refusal_of, unless}
 use Rattle.raft_group_step.specs.GroupStep.{begun, event_step, finished, group_step, step_unless}
+use Rattle.raft_engine.specs.Numbering.{Follow, numbers_in}
 use Rattle.raft_engine.specs.Commands.{sent_by, stored_by}
 use Rattle.raft_engine.specs.Standing.{Engine, Given, IsInOrder, IsStateOf, IsStepOf, IsWholeStepOf, given}
 use Rattle.raft_engine.specs.Events.{HasTaken, MayTake, given_after, received, tells_greater_log}
@@ -44,6 +45,7 @@ module _ {C R : Type 0} (x : Snapshot) (own : ℕ) (e : Engine C R) (s : GroupSt
         stores = ap (stored_by x) empty;
         sends = λ stored upto. ap (sent_by own stored upto) empty;
         seen = refl;
+        numbers = subst (λ queue. Follow e.output.last_sm_seq (numbers_in queue) e.output.last_sm_seq) (sym empty) refl;
       }
 
 -- and so as an event begins
@@ -80,6 +82,7 @@ knowing x own e r seen h =
       stores = h.stores;
       sends = h.sends;
       seen = refl;
+      numbers = h.numbers;
     }
 
 module _ {C R : Type 0} (x : Snapshot) (own peer at : ℕ) (e e' : Engine C R) (s : GroupState) (body : MessageBody) (may : MayTake own e s (received own peer body at))
@@ -92,14 +95,14 @@ module _ {C R : Type 0} (x : Snapshot) (own peer at : ℕ) (e e' : Engine C R) (
   told_taken e'' told noted =
       event_taken x own e e'' s (received own peer body at) may
       (subst (λ y. IsWholeStepOf (given_after x e s (received own peer body at)) own y done) (sym noted)
-      (subst (λ b. IsWholeStepOf (record { snapshot = x; seen_greater_log = b || e.seen_greater_log }) own (record e' { seen_greater_log = true }) done) (sym told)
+      (subst (λ b. IsWholeStepOf (record { snapshot = x; seen_greater_log = b || e.seen_greater_log; last_sm_seq = e.output.last_sm_seq }) own (record e' { seen_greater_log = true }) done) (sym told)
       (knowing (given x e) own e' done true whole)))
 
   -- it has told of none
   pub untold_taken : tells_greater_log s body ≡ false → HasTaken x own e e' s (received own peer body at)
   untold_taken untold =
       event_taken x own e e' s (received own peer body at) may
-      (subst (λ b. IsWholeStepOf (record { snapshot = x; seen_greater_log = b || e.seen_greater_log }) own e' done) (sym untold) whole)
+      (subst (λ b. IsWholeStepOf (record { snapshot = x; seen_greater_log = b || e.seen_greater_log; last_sm_seq = e.output.last_sm_seq }) own e' done) (sym untold) whole)
 
 -- ---- what holds of an event that isn't refused
 

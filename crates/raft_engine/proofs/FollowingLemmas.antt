@@ -19,10 +19,12 @@ use Rattle.raft_commands.specs.declared.command.Command.TheVariants.{AppendInput
 use Rattle.raft_known_state.specs.KnownState.{KnownState, Knows, KeepsRest, ArePlaced, IsPlaced, entry_ids, stored_ids}
 use Rattle.raft_known_state.proofs.PlacedIds.{by_order}
 use Rattle.raft_known_state.proofs.KnownStateLemmas.{end-known, log_whole}
+use Rattle.raft_commands.specs.Output.{Output, following_seq}
+use Rattle.raft_engine.specs.Numbering.{number_in}
 use Rattle.raft_engine.specs.Commands.{Command, put_all, storing_of, sending_of, stored_by, sent_by}
 use Rattle.raft_engine.specs.Standing.{Engine, Given, IsInOrder, IsStateOf, IsStepOf, PlaysRole}
 use Rattle.raft_engine.specs.Following.{EndsWithin, all_go_on}
-use Rattle.raft_engine.proofs.CommandLemmas.{stores_more, stores_same, sends_same}
+use Rattle.raft_engine.proofs.CommandLemmas.{numbers_gained, numbers_kept, sends_same, stores_more, stores_same}
 use Rattle.raft_engine.proofs.StandingLemmas.{still_follows}
 use Rattle.raft_engine.proofs.PlacedEntries.{HasEntry, has_entry, id_of_place, none_behind, with_log, id_below_cut, id_before_more, end_of_cut, end_of_any_cut, taken, behind, found_at, placed_go_on}
 
@@ -191,9 +193,11 @@ module _ {C R : Type 0} (x : Given) (own : ℕ) (e e' : Engine C R) (r : StepRes
   -- a follower's log changes behind what is committed
   pub log_stored : (c : StoringCommand) (d : Command C R) → r.state.role ≡ Follower → Knows e'.state (after_storing c r.state.stored) → KeepsRest e.state e'.state
       → IsInOrder (with_stored r.state (after_storing c r.state.stored)) → committed_id (with_stored r.state (after_storing c r.state.stored)) ≡ committed_id r.state
-      → e'.output.queue ≡ e.output.queue ++ d ∷ [] → storing_of x.snapshot d ≡ c ∷ [] → ((s : StoredGroup) (upto : Option (LogId ℕ)) → sending_of own s upto d ≡ []) → IsStepOf x own e' (store c r)
-  log_stored c d follows knows keeps order same queue stores sends =
+      → e'.output ≡ record e.output { queue = e.output.queue ++ d ∷ [] } → storing_of x.snapshot d ≡ c ∷ [] → number_in d ≡ []
+      → ((s : StoredGroup) (upto : Option (LogId ℕ)) → sending_of own s upto d ≡ []) → IsStepOf x own e' (store c r)
+  log_stored c d follows knows keeps order same output stores silent sends =
       let old = step.state in
+      let queue = ap (λ (o : Output C (List ℕ) R ℕ (List ℕ)). o.queue) output in
       record {
         state = record {
           config = config ∙ old.config;
@@ -207,6 +211,7 @@ module _ {C R : Type 0} (x : Given) (own : ℕ) (e e' : Engine C R) (r : StepRes
         stores = ap (λ q. flat_map (storing_of x.snapshot) q) queue ∙ stores_more e.output.queue d x.snapshot r.commands (c ∷ []) step.stores stores;
         sends = λ s upto. ap (λ q. flat_map (sending_of own s upto) q) queue ∙ sends_same e.output.queue d own s upto r.messages (step.sends s upto) (sends s upto);
         seen = seen ∙ step.seen;
+        numbers = numbers_kept x.last_sm_seq e.output e'.output d step.numbers output silent;
       }
 
 -- nothing is committed that wasn't
@@ -234,6 +239,7 @@ none_committed x own e r place step same =
       stores = step.stores;
       sends = step.sends;
       seen = step.seen;
+      numbers = step.numbers;
     }
 
 module _ {C R : Type 0} (x : Given) (own : ℕ) (e e' : Engine C R) (r : StepResult) (step : IsStepOf x own e r) where
@@ -241,10 +247,12 @@ module _ {C R : Type 0} (x : Given) (own : ℕ) (e e' : Engine C R) (r : StepRes
   pub more_committed : (place : ℕ) (id : LogId ℕ) (d : Command C R) → e'.config ≡ e.config → e'.seen_greater_log ≡ e.seen_greater_log → e'.leader ≡ e.leader → e'.candidate ≡ e.candidate
       → e'.state ≡ record e.state { state = record e.state.state { committed = Some id } }
       → is_within place r.state.committed ≡ false → place < end_place r.state.stored → Some id ≡ id_at r.state.stored place
-      → e'.output.queue ≡ e.output.queue ++ d ∷ [] → storing_of x.snapshot d ≡ [] → ((s : StoredGroup) (upto : Option (LogId ℕ)) → sending_of own s upto d ≡ [])
+      → e'.output ≡ record { queue = e.output.queue ++ d ∷ []; last_sm_seq = following_seq e.output.last_sm_seq } → storing_of x.snapshot d ≡ [] → number_in d ≡ following_seq e.output.last_sm_seq ∷ []
+      → ((s : StoredGroup) (upto : Option (LogId ℕ)) → sending_of own s upto d ≡ [])
       → IsStepOf x own e' (apply_up_to (Some place) r)
-  more_committed place id d config seen leader candidate state past within found queue stores sends =
+  more_committed place id d config seen leader candidate state past within found output stores next_number sends =
       let old = step.state in
+      let queue = ap (λ (o : Output C (List ℕ) R ℕ (List ℕ)). o.queue) output in
       let later : later_place r.state.committed (Some place) ≡ Some place = later_more r.state.committed place past in
       let now_id : option_and_then (id_at r.state.stored) (later_place r.state.committed (Some place)) ≡ Some id = ap (option_and_then (id_at r.state.stored)) later ∙ sym found in
       let at : id.index ≡ place = id_of_place r.state.stored place id old.order.placed (above_first r.state old.order place past) found in
@@ -278,4 +286,5 @@ module _ {C R : Type 0} (x : Given) (own : ℕ) (e e' : Engine C R) (r : StepRes
         stores = ap (λ q. flat_map (storing_of x.snapshot) q) queue ∙ stores_same e.output.queue d x.snapshot r.commands step.stores stores;
         sends = λ s upto. ap (λ q. flat_map (sending_of own s upto) q) queue ∙ sends_same e.output.queue d own s upto r.messages (step.sends s upto) (sends s upto);
         seen = seen ∙ step.seen;
+        numbers = numbers_gained x.last_sm_seq e.output e'.output d step.numbers output next_number;
       }

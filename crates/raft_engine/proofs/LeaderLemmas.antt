@@ -24,9 +24,10 @@ use Rattle.raft_group_step.specs.StepResult.{StepResult, in_role, store_vote}
 use Rattle.raft_group_step.specs.Lead.{committed_vote}
 use Rattle.raft_commands.specs.declared.command.Command.TheVariants.{BecomeLeader, SaveVote}
 use Rattle.raft_leaders.specs.Candidate.{CandidateValue}
+use Rattle.raft_commands.specs.Output.{Output}
 use Rattle.raft_engine.specs.Commands.{storing_of, sending_of}
 use Rattle.raft_engine.specs.Standing.{EffectiveMembership, Engine, Given, IsStepOf, Leads, PlaysRole, peer_state}
-use Rattle.raft_engine.proofs.CommandLemmas.{stores_more, stores_same, sends_same}
+use Rattle.raft_engine.proofs.CommandLemmas.{numbers_kept, sends_same, stores_more, stores_same}
 use Rattle.raft_engine.proofs.StandingLemmas.{order_kept}
 use Rattle.raft_engine.proofs.LastIdLemmas.{last_of_leader}
 use Rattle.raft_engine.proofs.MemberLemmas.{all_with, all_alike, has_each, voter_or_learner}
@@ -91,10 +92,12 @@ module _ {C R : Type 0} (x : Given) (own : ℕ) (e e' : Engine C R) (r : StepRes
   -- the lead of a committed vote that is stored
   pub lead_begun : vote ≡ committed_vote r.state.stored.vote → e'.config ≡ e.config → e'.seen_greater_log ≡ e.seen_greater_log → e'.leader ≡ Some l → e'.candidate ≡ None
       → Knows e'.state (after_storing (SetVote vote) r.state.stored) → e'.state.state ≡ record e.state.state { vote = record { value = vote; utime = Some r.state.now } }
-      → e'.output.queue ≡ (e.output.queue ++ SaveVote vote ∷ []) ++ BecomeLeader ∷ [] → Leads own l (record r.state.stored { vote = vote }) (new_lead r.state.stored)
+      → e'.output ≡ record e.output { queue = (e.output.queue ++ SaveVote vote ∷ []) ++ BecomeLeader ∷ [] } → Leads own l (record r.state.stored { vote = vote }) (new_lead r.state.stored)
       → IsStepOf x own e' (in_role (Leader (new_lead r.state.stored)) (store_vote (committed_vote r.state.stored.vote) r))
-  lead_begun voted config seen leader candidate knows state queue leads =
+  lead_begun voted config seen leader candidate knows state output leads =
       let old = step.state in
+      let queue = ap (λ (o : Output C (List ℕ) R ℕ (List ℕ)). o.queue) output in
+      let voting : Output C (List ℕ) R ℕ (List ℕ) = record e.output { queue = e.output.queue ++ SaveVote vote ∷ [] } in
       let s = r.state.stored in
       let role : PlaysRole own e'.leader e'.candidate (record s { vote = vote }) (Leader (new_lead s)) =
       subst (λ o. PlaysRole own o e'.candidate (record s { vote = vote }) (Leader (new_lead s))) (sym leader)
@@ -116,5 +119,6 @@ module _ {C R : Type 0} (x : Given) (own : ℕ) (e e' : Engine C R) (r : StepRes
             ap (λ q. flat_map (sending_of own t upto) q) queue
             ∙ sends_same (e.output.queue ++ SaveVote vote ∷ []) BecomeLeader own t upto r.messages (sends_same e.output.queue (SaveVote vote) own t upto r.messages (step.sends t upto) refl) refl;
         seen = seen ∙ step.seen;
+        numbers = numbers_kept x.last_sm_seq voting e'.output BecomeLeader (numbers_kept x.last_sm_seq e.output voting (SaveVote vote) step.numbers refl refl) output refl;
       } in
       subst (λ v. IsStepOf x own e' (in_role (Leader (new_lead s)) (store_vote v r))) voted begun

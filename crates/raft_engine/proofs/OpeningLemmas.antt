@@ -1,5 +1,5 @@
 -- A node that starts leads on under a committed vote of its own.
-use Rattle.std.specs.Prelude.{◌≡◌, ℕ, ◌==◌, Bool, true, false, if◌then◌else◌, [], ◌∷◌, ◌++◌, Option, Some, None, refl}
+use Rattle.std.specs.Prelude.{◌≡◌, ℕ, ◌==◌, Bool, true, false, if◌then◌else◌, [], ◌∷◌, ◌++◌, Option, Some, None, refl, List}
 use Rattle.std.specs.List.{flat_map}
 use Rattle.std.proofs.Common.{ap, sym, ◌∙◌, subst}
 use Rattle.std.proofs.lemmas.Bool.{eqb-true}
@@ -16,11 +16,12 @@ use Rattle.raft_group_step.specs.Opening.{resume_lead}
 use Rattle.raft_commands.specs.declared.command.Command.TheVariants.{BecomeLeader}
 use Rattle.raft_leaders.specs.Candidate.{CandidateValue}
 use Rattle.raft_leaders.specs.Leader.{LeaderValue}
+use Rattle.raft_commands.specs.Output.{Output}
 use Rattle.raft_engine.specs.Commands.{sending_of, storing_of}
 use Rattle.raft_engine.specs.Events.{CanFinish, IsReady}
 use Rattle.raft_engine.specs.Leading.{leads_by}
 use Rattle.raft_engine.specs.Standing.{EffectiveMembership, Engine, Given, IsStepOf, Leads, PlaysRole}
-use Rattle.raft_engine.proofs.CommandLemmas.{sends_same, stores_same}
+use Rattle.raft_engine.proofs.CommandLemmas.{numbers_kept, sends_same, stores_same}
 use Rattle.raft_engine.proofs.NewLeadLemmas.{room_at_start}
 use Rattle.raft_engine.proofs.StandingLemmas.{order_kept}
 
@@ -33,10 +34,11 @@ stands_nowhere own (Some l) (Some c) s role e h = absurd (subst (PlaysRole own (
 
 module _ {C R : Type 0} (x : Given) (own : ℕ) (e e' : Engine C R) (r : StepResult) (step : IsStepOf x own e r) (l : LeaderValue ℕ EffectiveMembership) where
   -- the lead begins, and nothing is stored
-  pub lead_resumed : e'.config ≡ e.config → e'.seen_greater_log ≡ e.seen_greater_log → e'.leader ≡ Some l → e'.candidate ≡ None → e'.state ≡ e.state → e'.output.queue ≡ e.output.queue ++ BecomeLeader ∷ []
+  pub lead_resumed : e'.config ≡ e.config → e'.seen_greater_log ≡ e.seen_greater_log → e'.leader ≡ Some l → e'.candidate ≡ None → e'.state ≡ e.state → e'.output ≡ record e.output { queue = e.output.queue ++ BecomeLeader ∷ [] }
       → Leads own l r.state.stored (new_lead r.state.stored) → IsStepOf x own e' (in_role (Leader (new_lead r.state.stored)) r)
-  lead_resumed config seen leader candidate state queue leads =
+  lead_resumed config seen leader candidate state output leads =
       let old = step.state in
+      let queue = ap (λ (o : Output C (List ℕ) R ℕ (List ℕ)). o.queue) output in
       let s = r.state.stored in
       record {
         state = record {
@@ -53,6 +55,7 @@ module _ {C R : Type 0} (x : Given) (own : ℕ) (e e' : Engine C R) (r : StepRes
         stores = ap (λ q. flat_map (storing_of x.snapshot) q) queue ∙ stores_same e.output.queue BecomeLeader x.snapshot r.commands step.stores refl;
         sends = λ t upto. ap (λ q. flat_map (sending_of own t upto) q) queue ∙ sends_same e.output.queue BecomeLeader own t upto r.messages (step.sends t upto) refl;
         seen = seen ∙ step.seen;
+        numbers = numbers_kept x.last_sm_seq e.output e'.output BecomeLeader step.numbers output refl;
       }
 
 -- ---- whose vote it is

@@ -22,11 +22,12 @@ use Rattle.raft_commands.specs.declared.command.Command.TheVariants.{PurgeLog}
 use Rattle.raft_progress.specs.Parts.{has_value}
 use Rattle.raft_leaders.specs.Candidate.{CandidateValue, SaysWhoGranted}
 use Rattle.raft_leaders.specs.Leader.{LeaderValue}
+use Rattle.raft_commands.specs.Output.{Output}
 use Rattle.raft_engine.specs.Commands.{storing_of, sending_of}
 use Rattle.raft_engine.specs.Purging.{MayBePurged}
 use Rattle.raft_engine.specs.Standing.{EffectiveMembership, Engine, Given, IsInOrder, IsStateOf, IsStepOf, Leads, PlaysRole, Stands}
 use Rattle.raft_engine.proofs.AppendLemmas.{next_of_place}
-use Rattle.raft_engine.proofs.CommandLemmas.{stores_more, sends_same}
+use Rattle.raft_engine.proofs.CommandLemmas.{numbers_kept, sends_same, stores_more}
 use Rattle.raft_engine.proofs.StandingLemmas.{order_kept}
 use Rattle.raft_engine.proofs.PlacedEntries.{HasEntry, dropped, entry_within, has_entry}
 
@@ -178,10 +179,11 @@ is_of_entry s place id p h e =
 
 module _ {C R : Type 0} (x : Given) (own : ℕ) (e e' : Engine C R) (r : StepResult) (step : IsStepOf x own e r) (place : ℕ) (upto : LogId ℕ) (entrys : IsOfEntry r.state.stored place upto) where
   pub purged_to : MayBePurged place r.state.stored → e'.config ≡ e.config → e'.seen_greater_log ≡ e.seen_greater_log → e'.leader ≡ e.leader → e'.candidate ≡ e.candidate
-      → Knows e'.state (after_storing (RemoveUpTo upto) r.state.stored) → KeepsRest e.state e'.state → e'.output.queue ≡ e.output.queue ++ PurgeLog upto ∷ []
+      → Knows e'.state (after_storing (RemoveUpTo upto) r.state.stored) → KeepsRest e.state e'.state → e'.output ≡ record e.output { queue = e.output.queue ++ PurgeLog upto ∷ [] }
       → IsStepOf x own e' (purge_up_to place r)
-  purged_to may config seen leader candidate knows rest queue =
+  purged_to may config seen leader candidate knows rest output =
       let old = step.state in
+      let queue = ap (λ (o : Output C (List ℕ) R ℕ (List ℕ)). o.queue) output in
       let s = r.state.stored in
       let covered : upto.index < next_place (snapshot_last s) = subst (λ n. n < next_place (snapshot_last s)) (sym entrys.index) may.within in
       let standing : KeepsStanding s (after_storing (RemoveUpTo upto) s) =
@@ -207,6 +209,7 @@ module _ {C R : Type 0} (x : Given) (own : ℕ) (e e' : Engine C R) (r : StepRes
         stores = ap (λ q. flat_map (storing_of x.snapshot) q) queue ∙ stores_more e.output.queue (PurgeLog upto) x.snapshot r.commands (RemoveUpTo upto ∷ []) step.stores refl;
         sends = λ t places. ap (λ q. flat_map (sending_of own t places) q) queue ∙ sends_same e.output.queue (PurgeLog upto) own t places r.messages (step.sends t places) refl;
         seen = seen ∙ step.seen;
+        numbers = numbers_kept x.last_sm_seq e.output e'.output (PurgeLog upto) step.numbers output refl;
       } in
       subst (IsStepOf x own e') (ap (λ found. remove_up_to found r) (sym entrys.there)) purges
 
@@ -265,6 +268,7 @@ wished x own e e' r step wish upto same is =
       stores = step.stores;
       sends = step.sends;
       seen = step.seen;
+      numbers = step.numbers;
     } in
     subst (λ y. IsStepOf x own y (with_wish wish r)) (sym same) other
 

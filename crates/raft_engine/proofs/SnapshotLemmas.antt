@@ -17,9 +17,11 @@ use Rattle.raft_group_step.specs.Frames.{committed_id}
 use Rattle.raft_group_step.specs.GroupState.{Follower}
 use Rattle.raft_group_step.specs.StepResult.{StepResult, apply_up_to, is_within, later_place, store}
 use Rattle.raft_known_state.specs.KnownState.{ArePlaced, IsEntryOrPast, KeepsRest, KnownState, Knows}
+use Rattle.raft_commands.specs.Output.{Output, following_seq}
+use Rattle.raft_engine.specs.Numbering.{number_in}
 use Rattle.raft_engine.specs.Commands.{Command, sending_of, snapshot_result, storing_of}
 use Rattle.raft_engine.specs.Standing.{Engine, Given, IsInOrder, IsStepOf, PlaysRole}
-use Rattle.raft_engine.proofs.CommandLemmas.{sends_same, stores_more}
+use Rattle.raft_engine.proofs.CommandLemmas.{numbers_gained, numbers_kept, sends_same, stores_more}
 use Rattle.raft_engine.proofs.StandingLemmas.{still_follows}
 use Rattle.raft_engine.proofs.PlacedEntries.{dropped, entry_within}
 use Rattle.raft_engine.proofs.FollowingLemmas.{above_first, cut_ends, later_more, past_committed}
@@ -123,11 +125,13 @@ module _ {C R : Type 0} (g : Given) (own : ℕ) (e e' : Engine C R) (r : StepRes
       (dropped r.state.stored.log (first_place r.state.stored) (last.index + 1 - first_place r.state.stored) step.state.order.placed)
 
   pub installed : (k : KnownState) (c d : Command C R) → Knows k (after_snapshot g.snapshot last r.state.stored) → KeepsRest e.state k → e'.state ≡ record k { state = record k.state { committed = Some last } }
-      → e'.output.queue ≡ (e.output.queue ++ c ∷ []) ++ d ∷ [] → storing_of g.snapshot c ≡ SetSnapshot g.snapshot ∷ [] → storing_of g.snapshot d ≡ RemoveUpTo last ∷ []
+      → e'.output ≡ record { queue = (e.output.queue ++ c ∷ []) ++ d ∷ []; last_sm_seq = following_seq e.output.last_sm_seq } → storing_of g.snapshot c ≡ SetSnapshot g.snapshot ∷ [] → storing_of g.snapshot d ≡ RemoveUpTo last ∷ [] → number_in c ≡ following_seq e.output.last_sm_seq ∷ [] → number_in d ≡ []
       → ((s : StoredGroup) (upto : Option (LogId ℕ)) → sending_of own s upto c ≡ []) → ((s : StoredGroup) (upto : Option (LogId ℕ)) → sending_of own s upto d ≡ [])
       → IsStepOf g own e' (apply_up_to (Some last.index) (store (RemoveUpTo last) (store (SetSnapshot g.snapshot) r)))
-  installed k c d knows keeps state queue stores-c stores-d sends-c sends-d =
+  installed k c d knows keeps state output stores-c stores-d number-c number-d sends-c sends-d =
       let old = step.state in
+      let queue = ap (λ (o : Output C (List ℕ) R ℕ (List ℕ)). o.queue) output in
+      let middle : Output C (List ℕ) R ℕ (List ℕ) = record { queue = e.output.queue ++ c ∷ []; last_sm_seq = following_seq e.output.last_sm_seq } in
       let next : last.index + 1 ≤ g.snapshot.last.index + 1 = subst (λ (id : LogId ℕ). last.index + 1 ≤ id.index + 1) is_last (omega arith) in
       let back : g.snapshot.last.index + 1 ≤ last.index + 1 = subst (λ (id : LogId ℕ). id.index + 1 ≤ last.index + 1) is_last (omega arith) in
       record {
@@ -165,4 +169,5 @@ module _ {C R : Type 0} (g : Given) (own : ℕ) (e e' : Engine C R) (r : StepRes
             ∙ sends_same (e.output.queue ++ c ∷ []) d own s upto r.messages
             (sends_same e.output.queue c own s upto r.messages (step.sends s upto) (sends-c s upto)) (sends-d s upto);
         seen = seen ∙ step.seen;
+        numbers = numbers_kept g.last_sm_seq middle e'.output d (numbers_gained g.last_sm_seq e.output middle c step.numbers refl number-c) output number-d;
       }

@@ -16,9 +16,10 @@ use Rattle.raft_leaders.specs.Candidate.{CandidateValue}
 use Rattle.raft_leaders.specs.Leader.{LeaderValue}
 use Rattle.std.specs.List.{flat_map}
 use Rattle.raft_commands.specs.Output.{Output}
+use Rattle.raft_engine.specs.Numbering.{NumbersFollow, number_in}
 use Rattle.raft_engine.specs.Commands.{Command, storing_of, sending_of, stored_by, sent_by}
 use Rattle.raft_engine.specs.Standing.{EffectiveMembership, Engine, Given, IsInOrder, IsStateOf, IsStepOf, IsWholeStepOf, Leads, PlaysRole, Stands}
-use Rattle.raft_engine.proofs.CommandLemmas.{stores_more, stores_same, sends_more, sends_same}
+use Rattle.raft_engine.proofs.CommandLemmas.{numbers_kept, sends_more, sends_same, stores_more, stores_same}
 
 abbrev StateOf : Type 0
 StateOf = RaftState ℕ (List ℕ) ℕ
@@ -42,9 +43,10 @@ module _ {C R : Type 0} (x : Given) (own : ℕ) (e e' : Engine C R) (r : StepRes
   -- a follower's vote is stored
   pub vote_stored : (vote : Vote ℕ) → r.state.role ≡ Follower → e'.config ≡ e.config → e'.seen_greater_log ≡ e.seen_greater_log → e'.leader ≡ e.leader → e'.candidate ≡ e.candidate
       → Knows e'.state (after_storing (SetVote vote) r.state.stored) → e'.state.state ≡ record e.state.state { vote = record { value = vote; utime = Some r.state.now } }
-      → e'.output.queue ≡ e.output.queue ++ SaveVote vote ∷ [] → IsStepOf x own e' (store_vote vote r)
-  vote_stored vote follows config seen leader candidate knows state queue =
+      → e'.output ≡ record e.output { queue = e.output.queue ++ SaveVote vote ∷ [] } → IsStepOf x own e' (store_vote vote r)
+  vote_stored vote follows config seen leader candidate knows state output =
       let old = step.state in
+      let queue = ap (λ (o : Output C (List ℕ) R ℕ (List ℕ)). o.queue) output in
       record {
         state = record {
           config = config ∙ old.config;
@@ -59,6 +61,7 @@ module _ {C R : Type 0} (x : Given) (own : ℕ) (e e' : Engine C R) (r : StepRes
         stores = ap (λ q. flat_map (storing_of x.snapshot) q) queue ∙ stores_more e.output.queue (SaveVote vote) x.snapshot r.commands (SetVote vote ∷ []) step.stores refl;
         sends = λ s upto. ap (λ q. flat_map (sending_of own s upto) q) queue ∙ sends_same e.output.queue (SaveVote vote) own s upto r.messages (step.sends s upto) refl;
         seen = seen ∙ step.seen;
+        numbers = numbers_kept x.last_sm_seq e.output e'.output (SaveVote vote) step.numbers output refl;
       }
 
   -- the vote in force is heard of at this moment
@@ -86,14 +89,16 @@ module _ {C R : Type 0} (x : Given) (own : ℕ) (e e' : Engine C R) (r : StepRes
         stores = ap (λ (o : Output C (List ℕ) R ℕ (List ℕ)). stored_by x.snapshot o.queue) output ∙ step.stores;
         sends = λ s upto. ap (λ (o : Output C (List ℕ) R ℕ (List ℕ)). sent_by own s upto o.queue) output ∙ step.sends s upto;
         seen = seen ∙ step.seen;
+        numbers = subst (NumbersFollow x.last_sm_seq) (sym output) step.numbers;
       }
 
   -- what is sent and stores nothing goes behind the rest
   pub sent_more : (c : Command C R) (more : List Message) → e'.config ≡ e.config → e'.seen_greater_log ≡ e.seen_greater_log → e'.leader ≡ e.leader → e'.candidate ≡ e.candidate → e'.state ≡ e.state
-      → e'.output.queue ≡ e.output.queue ++ c ∷ [] → storing_of x.snapshot c ≡ [] → ((s : StoredGroup) (upto : Option (LogId ℕ)) → sending_of own s upto c ≡ more)
+      → e'.output ≡ record e.output { queue = e.output.queue ++ c ∷ [] } → storing_of x.snapshot c ≡ [] → number_in c ≡ [] → ((s : StoredGroup) (upto : Option (LogId ℕ)) → sending_of own s upto c ≡ more)
       → IsStepOf x own e' (record r { messages = r.messages ++ more })
-  sent_more c more config seen leader candidate state queue none sends =
+  sent_more c more config seen leader candidate state output none silent sends =
       let old = step.state in
+      let queue = ap (λ (o : Output C (List ℕ) R ℕ (List ℕ)). o.queue) output in
       record {
         state = record {
           config = config ∙ old.config;
@@ -107,16 +112,17 @@ module _ {C R : Type 0} (x : Given) (own : ℕ) (e e' : Engine C R) (r : StepRes
         stores = ap (λ q. flat_map (storing_of x.snapshot) q) queue ∙ stores_same e.output.queue c x.snapshot r.commands step.stores none;
         sends = λ s upto. ap (λ q. flat_map (sending_of own s upto) q) queue ∙ sends_more e.output.queue c own s upto r.messages more (step.sends s upto) (sends s upto);
         seen = seen ∙ step.seen;
+        numbers = numbers_kept x.last_sm_seq e.output e'.output c step.numbers output silent;
       }
 
 -- the same queue with a message more
-pub queued : {C R : Type 0} (x : Given) (own : ℕ) (e : Engine C R) (r : StepResult) (c : Command C R) (more : List Message) → IsStepOf x own e r → storing_of x.snapshot c ≡ []
+pub queued : {C R : Type 0} (x : Given) (own : ℕ) (e : Engine C R) (r : StepResult) (c : Command C R) (more : List Message) → IsStepOf x own e r → storing_of x.snapshot c ≡ [] → number_in c ≡ []
     → ((s : StoredGroup) (upto : Option (LogId ℕ)) → sending_of own s upto c ≡ more)
     → IsStepOf x own (record e { output = record e.output { queue = e.output.queue ++ c ∷ [] } }) (record r { messages = r.messages ++ more })
-queued x own e r c more step none sends =
-    sent_more x own e (record e { output = record e.output { queue = e.output.queue ++ c ∷ [] } }) r step c more refl refl refl refl refl refl none sends
+queued x own e r c more step none silent sends =
+    sent_more x own e (record e { output = record e.output { queue = e.output.queue ++ c ∷ [] } }) r step c more refl refl refl refl refl refl none silent sends
 
 -- a step whose messages have what is stored later has what is stored now
 pub step_as_whole : {C R : Type 0} (x : Given) (own : ℕ) (e : Engine C R) (r : StepResult) → IsStepOf x own e r → IsWholeStepOf x own e r
 step_as_whole x own e r step =
-    record { state = step.state; stores = step.stores; sends = step.sends r.state.stored (committed_id r.state); seen = step.seen }
+    record { state = step.state; stores = step.stores; sends = step.sends r.state.stored (committed_id r.state); seen = step.seen; numbers = step.numbers }

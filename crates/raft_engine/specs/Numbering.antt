@@ -11,6 +11,11 @@ use Rattle.raft_engine.specs.Commands.{Command}
 abbrev pub Output : Type 0 → Type 0 → Type 0
 Output C R = OutputOf C (List ℕ) R ℕ (List ℕ)
 
+-- numbers that follow one another, from behind the first one to the last
+abbrev pub Follow : ℕ → List ℕ → ℕ → Type 0
+Follow before [] last = last ≡ before
+Follow before (n ∷ ns) last = (n ≡ following_seq before) × Follow n ns last
+
 module _ {C R : Type 0} where
   -- the number of a command, if the state machine gets it
   abbrev pub number_in : Command C R → List ℕ
@@ -31,6 +36,10 @@ module _ {C R : Type 0} where
   -- the numbers of a queue, in its order
   abbrev pub numbers_in : List (Command C R) → List ℕ
   numbers_in queue = flat_map number_in queue
+
+  -- the numbers of the queue follow this one, and the last of them was given last
+  abbrev pub NumbersFollow : ℕ → Output C R → Type 0
+  NumbersFollow before output = Follow before (numbers_in output.queue) output.last_sm_seq
 
   -- the state machine gets no further command
   abbrev pub KeepsNumbers : Output C R → Output C R → Type 0

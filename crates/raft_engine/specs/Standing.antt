@@ -18,6 +18,7 @@ use Rattle.raft_known_state.specs.KnownState.{Knows, IsPlaced}
 use Rattle.raft_commands.specs.Config.{config_of}
 use Rattle.raft_leaders.specs.Candidate.{CandidateValue, SaysWhoGranted, any_granted}
 use Rattle.raft_leaders.specs.Leader.{LeaderValue, peer_at}
+use Rattle.raft_engine.specs.Numbering.{NumbersFollow}
 use Rattle.raft_engine.specs.declared.engine.Engine.{Engine as EngineOf}
 use Rattle.raft_engine.specs.Commands.{stored_by, sent_by}
 use Rattle.std.specs.Prelude.{nat_eq}
@@ -99,16 +100,17 @@ pub record IsInOrder (s : GroupState) : Type 0 where
 abbrev pub Engine : Type 0 → Type 0 → Type 0
 Engine C R = EngineOf C (List ℕ) R ℕ (List ℕ)
 
--- what the words of a step leave alone: the snapshot that a command of its queue stores, and whether a node told of a log that
--- is greater than the own one
+-- what the words of a step don't decide: the snapshot that a command of its queue stores, whether a node told of a log that is
+-- greater than the own one, and the last number of a command of the state machine as the step began
 pub record Given : Type 0 where
   pub snapshot : Snapshot
   pub seen_greater_log : Bool
+  pub last_sm_seq : ℕ
 
 module _ {C R : Type 0} where
-  -- a snapshot, and what the engine knows of greater logs
+  -- a snapshot, and what the engine knows as a step begins
   abbrev pub given : Snapshot → Engine C R → Given
-  given x e = record { snapshot = x; seen_greater_log = e.seen_greater_log }
+  given x e = record { snapshot = x; seen_greater_log = e.seen_greater_log; last_sm_seq = e.output.last_sm_seq }
 
   -- the engine of this node stands for the group's state
   pub record IsStateOf (own : ℕ) (e : Engine C R) (s : GroupState) : Type 0 where
@@ -126,6 +128,7 @@ module _ {C R : Type 0} where
     pub stores : stored_by x.snapshot e.output.queue ≡ r.commands
     pub sends : (s : StoredGroup) (upto : Option (LogId ℕ)) → sent_by own s upto e.output.queue ≡ r.messages
     pub seen : e.seen_greater_log ≡ x.seen_greater_log
+    pub numbers : NumbersFollow x.last_sm_seq e.output
 
   -- the same once the event is over: what is sent has what is stored and committed then
   pub record IsWholeStepOf (x : Given) (own : ℕ) (e : Engine C R) (r : StepResult) : Type 0 where
@@ -133,3 +136,4 @@ module _ {C R : Type 0} where
     pub stores : stored_by x.snapshot e.output.queue ≡ r.commands
     pub sends : sent_by own r.state.stored (committed_id r.state) e.output.queue ≡ r.messages
     pub seen : e.seen_greater_log ≡ x.seen_greater_log
+    pub numbers : NumbersFollow x.last_sm_seq e.output

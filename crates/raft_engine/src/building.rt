@@ -7,7 +7,7 @@ ghost use Rattle.raft_group_step.specs.GroupEvent.{Call};
 ghost use Rattle.raft_group_step.specs.declared.group_call.GroupCall.TheVariants.{TriggerSnapshot};
 ghost use Rattle.raft_group_step.specs.Refusal.{refusal_of};
 ghost use Rattle.raft_known_state.specs.KnownState.{meta_of};
-ghost use Rattle.raft_engine.specs.Building.{IsSnapshotOfApplied, asking, build_command, covered_id, is_building, with_building};
+ghost use Rattle.raft_engine.specs.Building.{IsSnapshotOfApplied, asking, covered_id, is_building, with_building};
 ghost use Rattle.raft_engine.specs.Events.{HasTaken, IsReady, MayTake};
 ghost use Rattle.raft_engine.specs.Standing.{IsStateOf};
 
@@ -43,9 +43,9 @@ impl<C: RaftTypeConfig<NodeId = u64, Node = BasicNode, D = Bytes>> Engine<C> {
         &mut self,
         meta: SnapshotMeta<u64, BasicNode>,
     ) -> Result<(), AllocError>
-        ensures built { (own at seq : ℕ) (s : GroupState) (x : Snapshot) → IsStateOf own self.old s → self.old.output.queue ≡ build_command seq ∷ [] → IsReady own s
+        ensures built { (own at : ℕ) (before : _) (s : GroupState) (x : Snapshot) → self.old ≡ asking before → before.output.queue ≡ [] → IsStateOf own self.old s → IsReady own s
             → refusal_of own s (Call TriggerSnapshot at) ≡ None → meta ≡ meta_of (Some x) → IsSnapshotOfApplied s x
-            → OnOk result (HasTaken x own self.old self.new s (Call TriggerSnapshot at)) }
+            → OnOk result (HasTaken x own before self.new s (Call TriggerSnapshot at)) }
         ensures ignored { stands_before (covered_id self.old) meta.last_log_id ≡ false → (result ≡ Ok tt) × (self.new ≡ with_building false self.old) }
     {
         self.state.state.io_state.set_building_snapshot(false);

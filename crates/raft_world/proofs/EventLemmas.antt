@@ -8,7 +8,7 @@ use Rattle.raft_group_step.specs.GroupStep.{group_step, step_unless}
 use Rattle.raft_group_step.specs.Message.{MessageBody}
 use Rattle.raft_group_step.specs.Refusal.{refusal_of}
 use Rattle.raft_group_step.specs.StepResult.{RefusalReason, StepResult, refused_step}
-use Rattle.raft_engine.specs.Events.{HasTaken, received}
+use Rattle.raft_engine.specs.Events.{HasTaken, given_after, received}
 use Rattle.raft_executor.specs.Sent.{message_of}
 use Rattle.raft_laws.specs.Stop.{stopped_after}
 use Rattle.raft_laws.proofs.StepMoments.{moments_of_calls, moments_of_messages}
@@ -102,8 +102,7 @@ up_again m e s down moment idle = record {
 pub run_of_call_with : (before : Engine) (own at moment : ℕ) (e : Engine) (s : GroupState) (call : GroupCall) (x : Snapshot) → moment ≡ max s.now at → refusal_of own s (Call call at) ≡ None
     → HasTaken x own before e s (Call call at) → IsRun own e s.stored (group_step own s (Call call at)) (Some x) moment
 run_of_call_with before own at moment e s call x is accepted h = record {
-  snapshot = x;
-  seen = _;
+  taken = given_after x before s (Call call at);
   step = h;
   is_given = λ has. refl;
   stored = (step-keeps own s (Call call at)).stored;
@@ -114,8 +113,7 @@ run_of_call_with before own at moment e s call x is accepted h = record {
 pub run_of_message_with : (before : Engine) (own peer at moment : ℕ) (e : Engine) (s : GroupState) (body : MessageBody) (x : Snapshot) → moment ≡ max s.now at → refusal_of own s (received own peer body at) ≡ None
     → HasTaken x own before e s (received own peer body at) → IsRun own e s.stored (group_step own s (received own peer body at)) (Some x) moment
 run_of_message_with before own peer at moment e s body x is accepted h = record {
-  snapshot = x;
-  seen = _;
+  taken = given_after x before s (received own peer body at);
   step = h;
   is_given = λ has. refl;
   stored = (step-keeps own s (received own peer body at)).stored;

@@ -98,20 +98,19 @@ two_differ : one_snapshot 0 ≡ one_snapshot 1 → ⊥
 two_differ e = absurd (let no : zero ≡ suc zero = ap (λ (x : Snapshot). x.last.index) e in cc)
 
 -- a step that its engine has done whatever the snapshot stores none
-pub no_snapshot_stored : {own : ℕ} {seen : Bool} (e : Engine) (r : StepResult) → ((x : Snapshot) → IsWholeStepOf (record { snapshot = x; seen_greater_log = seen }) own e r) → queue_has_snapshot e.output.queue ≡ false
+pub no_snapshot_stored : {own : ℕ} {seen : Bool} {last : ℕ} (e : Engine) (r : StepResult) → ((x : Snapshot) → IsWholeStepOf (record { snapshot = x; seen_greater_log = seen; last_sm_seq = last }) own e r) → queue_has_snapshot e.output.queue ≡ false
 no_snapshot_stored e r h =
     no_snapshot (one_snapshot 0) (one_snapshot 1) two_differ e.output.queue ((h (one_snapshot 0)).stores ∙ sym (h (one_snapshot 1)).stores)
 
 -- so no snapshot need be given for it
-pub none_given : {own : ℕ} {seen : Bool} (e : Engine) (r : StepResult) → ((x : Snapshot) → IsWholeStepOf (record { snapshot = x; seen_greater_log = seen }) own e r) → (x : Snapshot) → IsGiven (queue_has_snapshot e.output.queue) None x
+pub none_given : {own : ℕ} {seen : Bool} {last : ℕ} (e : Engine) (r : StepResult) → ((x : Snapshot) → IsWholeStepOf (record { snapshot = x; seen_greater_log = seen; last_sm_seq = last }) own e r) → (x : Snapshot) → IsGiven (queue_has_snapshot e.output.queue) None x
 none_given e r h x = λ has. absurd (let no : false ≡ true = sym (no_snapshot_stored e r h) ∙ has in cc)
 
 -- a step that its engine has done whatever the snapshot is run with none
-pub run_without_snapshot : {seen : Bool} (own : ℕ) (e : Engine) (old : StoredGroup) (r : StepResult) (at : ℕ) → ((x : Snapshot) → IsWholeStepOf (record { snapshot = x; seen_greater_log = seen }) own e r)
+pub run_without_snapshot : {seen : Bool} {last : ℕ} (own : ℕ) (e : Engine) (old : StoredGroup) (r : StepResult) (at : ℕ) → ((x : Snapshot) → IsWholeStepOf (record { snapshot = x; seen_greater_log = seen; last_sm_seq = last }) own e r)
     → r.state.stored ≡ after_storing_all r.commands old → at ≡ r.state.now → IsRun own e old r None at
-run_without_snapshot {seen} own e old r at h stored moment = record {
-  snapshot = one_snapshot 0;
-  seen = seen;
+run_without_snapshot {seen} {last} own e old r at h stored moment = record {
+  taken = record { snapshot = one_snapshot 0; seen_greater_log = seen; last_sm_seq = last };
   step = h (one_snapshot 0);
   is_given = none_given e r h (one_snapshot 0);
   stored = stored;
@@ -144,7 +143,7 @@ front_stored (Some k) cs done others e = front_of_first k cs done others e
 
 module _ (own : ℕ) (e : Engine) (old : StoredGroup) (r : StepResult) (given : Option Snapshot) (at : ℕ) (run : IsRun own e old r given at) (present : old.present ≡ true) where
   -- the number of those that were stored
-  pub halted_within : (m : Member) → m.engine ≡ None → (stop : Option ℕ) → IsPartStored (first_of stop (stored_by run.snapshot e.output.queue)) old m.stored → HasHalted old r m
+  pub halted_within : (m : Member) → m.engine ≡ None → (stop : Option ℕ) → IsPartStored (first_of stop (stored_by run.taken.snapshot e.output.queue)) old m.stored → HasHalted old r m
   halted_within m none stop part =
       let commands : first_of stop r.commands ≡ part.done ++ part.others = ap (first_of stop) (sym run.step.stores) ∙ part.listed in
       record {
@@ -157,7 +156,7 @@ module _ (own : ℕ) (e : Engine) (old : StoredGroup) (r : StepResult) (given : 
       }
 
   -- all was stored, and nothing sent
-  pub halted_at_end : (m : Member) → m.engine ≡ None → m.stored ≡ after_storing_all (first_of None (stored_by run.snapshot e.output.queue)) old → HasHalted old r m
+  pub halted_at_end : (m : Member) → m.engine ≡ None → m.stored ≡ after_storing_all (first_of None (stored_by run.taken.snapshot e.output.queue)) old → HasHalted old r m
   halted_at_end m none stored = record {
     number = length r.commands;
     down = record {
@@ -170,18 +169,18 @@ module _ (own : ℕ) (e : Engine) (old : StoredGroup) (r : StepResult) (given : 
   }
 
   -- it stopped where it was to
-  pub stopped_there : (m : Member) → m.engine ≡ None → (k : ℕ) → m.stored ≡ after_storing_all (first_of (Some k) (stored_by run.snapshot e.output.queue)) old → IsDown m (stopped_after k old r)
+  pub stopped_there : (m : Member) → m.engine ≡ None → (k : ℕ) → m.stored ≡ after_storing_all (first_of (Some k) (stored_by run.taken.snapshot e.output.queue)) old → IsDown m (stopped_after k old r)
   stopped_there m none k stored = record {
     no_engine = none;
     stored = stored ∙ ap (λ l. after_storing_all (take k l) old) run.step.stores;
     present = groups_stay (take k r.commands) old present;
   }
 
-  all_stored : (new : StoredGroup) → new ≡ after_storing_all (first_of None (stored_by run.snapshot e.output.queue)) old → new ≡ r.state.stored
+  all_stored : (new : StoredGroup) → new ≡ after_storing_all (first_of None (stored_by run.taken.snapshot e.output.queue)) old → new ≡ r.state.stored
   all_stored new stored = stored ∙ ap (λ l. after_storing_all l old) run.step.stores ∙ sym run.stored
 
   -- it ran to its end
-  pub up_at_end : (m : Member) (rest : Engine) → m.engine ≡ Some rest → m.moment ≡ at → m.stored ≡ after_storing_all (first_of None (stored_by run.snapshot e.output.queue)) old
+  pub up_at_end : (m : Member) (rest : Engine) → m.engine ≡ Some rest → m.moment ≡ at → m.stored ≡ after_storing_all (first_of None (stored_by run.taken.snapshot e.output.queue)) old
       → IsIdle m.id rest r.state → IsUp m r.state
   up_at_end m rest has moment stored idle = record {
     engine = rest;
@@ -193,7 +192,7 @@ module _ (own : ℕ) (e : Engine) (old : StoredGroup) (r : StepResult) (given : 
   }
 
   -- what it sent
-  pub sent_at_end : (new : StoredGroup) → new ≡ after_storing_all (first_of None (stored_by run.snapshot e.output.queue)) old
+  pub sent_at_end : (new : StoredGroup) → new ≡ after_storing_all (first_of None (stored_by run.taken.snapshot e.output.queue)) old
       → sent_by own new e.state.state.committed e.output.queue ≡ r.messages
   sent_at_end new stored =
       ap (λ s. sent_by own s e.state.state.committed e.output.queue) (all_stored new stored)

@@ -1,10 +1,10 @@
 -- How a step runs at a member, while its engine is taken out.
-use Rattle.std.specs.Prelude.{◌≡◌, ℕ, Bool, true, List, map, Option, Some, None, Result, Ok, Err}
+use Rattle.std.specs.Prelude.{◌≡◌, ℕ, true, List, map, Option, Some, None, Result, Ok, Err}
 use Rattle.raft_group_step.specs.StoredGroup.{StoredGroup, Snapshot, after_storing_all}
 use Rattle.raft_group_step.specs.GroupState.{GroupState}
 use Rattle.raft_group_step.specs.GroupEvent.{GroupEvent}
 use Rattle.raft_group_step.specs.StepResult.{StepResult}
-use Rattle.raft_engine.specs.Standing.{IsWholeStepOf}
+use Rattle.raft_engine.specs.Standing.{Given, IsWholeStepOf}
 use Rattle.raft_executor.specs.Sent.{message_of}
 use Rattle.raft_executor.specs.Stored.{IsGiven, queue_has_snapshot}
 use Rattle.raft_laws.specs.Stop.{stopped_after}
@@ -15,10 +15,9 @@ use Rattle.raft_world.specs.declared.member.Ended.TheVariants as ended
 
 -- the engine has done the step, which begins with this stored, and the snapshot that its queue stores is given
 pub record IsRun (own : ℕ) (e : Engine) (old : StoredGroup) (r : StepResult) (given : Option Snapshot) (at : ℕ) : Type 0 where
-  pub snapshot : Snapshot
-  pub seen : Bool
-  pub step : IsWholeStepOf (record { snapshot = snapshot; seen_greater_log = seen }) own e r
-  pub is_given : IsGiven (queue_has_snapshot e.output.queue) given snapshot
+  pub taken : Given
+  pub step : IsWholeStepOf taken own e r
+  pub is_given : IsGiven (queue_has_snapshot e.output.queue) given taken.snapshot
   pub stored : r.state.stored ≡ after_storing_all r.commands old
   pub moment : at ≡ r.state.now
 

@@ -38,5 +38,5 @@ returns g c = λ x own r lead step leads.
     (ap (λ (y : LeaderOf). y.began) counted.rest ∙ ap (λ (y : LeaderOf). y.began) given)
     (λ n. counted.peers n ∙ ap (λ (y : LeaderOf). peer_at nat_eq y n) given)
     (λ before knows. counted.members before (subst (λ (y : LeaderOf). KnowsMembers y before) (sym given) knows))
-    (ap (λ o. o.queue) h))
+    h)
     c.push_command.ensures.ok

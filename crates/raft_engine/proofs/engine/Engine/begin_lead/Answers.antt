@@ -3,6 +3,7 @@ use Rattle.std.proofs.Common.{◌≡◌, ◌∙◌, ap, sym, subst, refl, ◌++�
 use Rattle.std.specs.Prelude.{Some}
 use Rattle.raft_values.specs.declared.vote.Vote.{Vote}
 use Rattle.raft_state.specs.declared.raft_state.RaftState.{RaftState}
+use Rattle.raft_commands.specs.Output.{Output}
 use Rattle.raft_commands.specs.declared.command.Command.TheVariants.{BecomeLeader}
 use Rattle.raft_group_step.specs.Lead.{committed_vote, new_lead}
 use Rattle.raft_group_step.specs.StepResult.{in_role, store_vote}
@@ -24,5 +25,5 @@ returns g c = λ x own r granters step stands now.
     (lead_begun x own old _ r step c.in_ok-leader.leader (record c.vote_ref-vote.result.now { committed = true }) voted refl refl refl refl
     (c.save_vote.ensures.known s step.state.knows)
     (ap (λ (y : KnownState). y.state) c.save_vote.ensures.rest ∙ ap (λ t. record old.state.state { vote = record { value = record c.vote_ref-vote.result.now { committed = true }; utime = Some t } }) (sym now))
-    (ap (λ o. o.queue) c.in_ok-push_command-2.ensures.ok ∙ ap (λ o. o.queue ++ BecomeLeader ∷ []) c.in_ok-push_command.ensures.ok)
+    (c.in_ok-push_command-2.ensures.ok ∙ ap (λ (o : Output _ _ _ _ _). record o { queue = o.queue ++ BecomeLeader ∷ [] }) c.in_ok-push_command.ensures.ok)
     leads) refl

@@ -1,30 +1,38 @@
-use Rattle.std.proofs.Common.{◌∙◌, [], ◌∷◌, ap, false, refl, rules, subst, sym}
+use Rattle.std.proofs.Common.{◌∙◌, [], ◌∷◌, ◌++◌, ap, false, refl, rules, subst, sym}
 use Rattle.std.proofs.lemmas.Result.{on_ok_weaker}
 use Rattle.raft_group_step.specs.StoredGroup.{SetSnapshot}
 use Rattle.raft_group_step.specs.StepResult.{store}
 use Rattle.raft_group_step.specs.GroupStep.{begun}
 use Rattle.raft_known_state.specs.KnownState.{KeepsRest, Knows}
+use Rattle.raft_commands.specs.Output.{following_seq}
+use Rattle.raft_engine.specs.Building.{build_command}
+use Rattle.raft_engine.specs.Numbering.{Follow, NumbersFollow, numbers_in}
 use Rattle.raft_engine.specs.Standing.{Engine, IsStepOf, given}
 use Rattle.raft_engine.proofs.BuildingLemmas.{build_taken, builder_finishes, snapshot_stored, trigger_in_range}
 use Rattle.raft_engine.proofs.RoomLemmas.{can_finish_when_ready}
 use Rattle.raft_engine.proofs.engine.Engine.finish_building_snapshot.Goals as goal
 
 pub returns-clause-built : goal.returns-clause-built
-returns-clause-built g c = λ own at seq s x stands queue ready accepted meta built.
-    let before = c.args.self.now in
+returns-clause-built g c = λ own at before s x asked empty stands ready accepted meta built.
+    let e = c.args.self.now in
+    let seq = following_seq before.output.last_sm_seq in
+    let queue = ap (λ (y : Engine _ _). y.output.queue) asked ∙ ap (λ q. q ++ build_command seq ∷ []) empty in
+    let numbers =
+    subst (λ (y : Engine _ _). NumbersFollow before.output.last_sm_seq y.output) (sym asked)
+    (subst (λ q. Follow before.output.last_sm_seq (numbers_in (q ++ build_command seq ∷ [])) seq) (sym empty) (refl, refl)) in
     let old = stands.knows in
     let lent =
-    record before { state = record before.state { state = record before.state.state { io_state = c.set_building_snapshot.new.self } } } in
+    record e { state = record e.state { state = record e.state.state { io_state = c.set_building_snapshot.new.self } } } in
     let lent_back = c.update_snapshot.new.self.engine.now in
     let known : Knows lent.state s.stored =
     record { vote = old.vote; ids = old.ids; purged = old.purged; snapshot = old.snapshot; memberships = old.memberships; in_force = old.in_force } in
     let knows = c.in_ok-is_updated.ensures.known s.stored x (subst (λ e. Knows e.state s.stored) (sym c.snapshot_handler.ensures.value) known) meta c.if-not-is_updated.false in
     let kept : KeepsRest lent.state lent_back.state = subst (λ e. KeepsRest e.state lent_back.state) c.snapshot_handler.ensures.value c.in_ok-is_updated.ensures.rest.0 in
     let after = store (SetSnapshot x) (begun at s) in
-    let step = snapshot_stored s x built own at before (record lent { state = lent_back.state }) stands refl refl refl refl knows
+    let step = snapshot_stored s x built own at e (record lent { state = lent_back.state }) stands (given x before) refl (ap (λ (y : Engine _ _). y.seen_greater_log) asked) numbers refl refl refl knows
     (record { vote = kept.vote; committed = kept.committed; purge_upto = kept.purge_upto }) seq queue in
     let same = c.in_ok-is_updated.ensures.rest.1 ∙ ap (λ (e : Engine _ _). record e { state = lent_back.state }) c.snapshot_handler.ensures.value in
     let can = builder_finishes s x built own at ready s.role (can_finish_when_ready own s (at ∷ []) ready (trigger_in_range own at s accepted)) in
     on_ok_weaker c.finish.result
-    (build_taken s x built own at before c.finish.new.self stands accepted)
+    (build_taken s x built own at e c.finish.new.self stands (given x before) accepted)
     (c.finish.ensures (given x before) own after (subst (λ e. IsStepOf (given x before) own e after) (search rules) (subst (λ e. IsStepOf (given x before) own e after) (sym same) step)) can)

@@ -15,7 +15,7 @@ returns g c = λ x own r step fits may.
     let entrys = is_of_entry s c.args.place c.in-Some.upto placed some (c.in-Some.ensures s knows placed) in
     on_ok_weaker c.push_command.result
     (λ h. purged_to x own c.args.self.now _ r step c.args.place c.in-Some.upto entrys may refl refl refl refl
-    (c.in_ok-purge.ensures.known s knows placed entrys.above entrys.is_entrys) c.in_ok-purge.ensures.rest (ap (λ o. o.queue) h))
+    (c.in_ok-purge.ensures.known s knows placed entrys.above entrys.is_entrys) c.in_ok-purge.ensures.rest h)
     c.push_command.ensures.ok
 
 pub returns-then-not-has_entry_at : goal.returns-then-not-has_entry_at

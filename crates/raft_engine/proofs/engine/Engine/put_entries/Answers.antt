@@ -59,5 +59,5 @@ returns g c = λ x own r place step follows placed past l.
     (log_stored x own c.cut_from.new.self _ after cut refl refl refl refl (PutEntries first.log_id.index c.args.entries) (AppendInputEntries c.args.vote c.args.entries)
     (cut_keeps_role first.log_id.index r ∙ follows) known c.in_ok-append.ensures.rest
     (order_of_put after.state cut.state.order c.args.entries at_end first.log_id.index ends) (put_keeps_id after.state cut.state.order c.args.entries at_end first.log_id.index ends)
-    (ap (λ (o : Output _ _ _ _ _). o.queue) h) (put_all_as c.args.entries first found) (λ s upto. refl)))
+    h (put_all_as c.args.entries first found) refl (λ s upto. refl)))
     c.push_command.ensures.ok

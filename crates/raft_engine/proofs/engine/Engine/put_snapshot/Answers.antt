@@ -21,9 +21,10 @@ returns-clause-step g c = λ x own r step follows meta is_last past there.
     let command = c.with_seq-command.result in
     on_ok_weaker c.push_command-2.result
     (λ h. installed x own c.args.self.now _ r step refl refl refl refl follows c.args.last is_last past c.purge.new.self (StateMachine command) (PurgeLog c.args.last) purged keeps refl
-    (ap (λ (o : Output _ _ _ _ _). o.queue) h ∙ ap (λ (o : Output _ _ _ _ _). o.queue ++ PurgeLog c.args.last ∷ []) c.in_ok-push_command.ensures.ok
-    ∙ ap (λ (o : Output _ _ _ _ _). (o.queue ++ StateMachine command ∷ []) ++ PurgeLog c.args.last ∷ []) c.next_sm_seq-seq.ensures.rest)
-    (rw (c.with_seq-command.ensures, c.install_full_snapshot.ensures) refl) refl (λ s upto. refl) (λ s upto. refl))
+    (h ∙ ap (λ (o : Output _ _ _ _ _). record o { queue = o.queue ++ PurgeLog c.args.last ∷ [] }) c.in_ok-push_command.ensures.ok
+    ∙ ap (λ (o : Output _ _ _ _ _). record o { queue = (o.queue ++ StateMachine command ∷ []) ++ PurgeLog c.args.last ∷ [] }) c.next_sm_seq-seq.ensures.rest)
+    (rw (c.with_seq-command.ensures, c.install_full_snapshot.ensures) refl) refl
+    (ap (λ n. n ∷ []) (ap (λ (y : MachineCommand _ _ _ _ _). y.seq) c.with_seq-command.ensures ∙ c.next_sm_seq-seq.ensures.value)) refl (λ s upto. refl) (λ s upto. refl))
     c.push_command-2.ensures.ok
 
 pub returns-clause-numbers : goal.returns-clause-numbers

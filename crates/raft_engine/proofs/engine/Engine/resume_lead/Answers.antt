@@ -35,5 +35,5 @@ returns g c = λ x own r step follows room.
     (λ pushed.
     subst (IsStepOf x own _) (leads_on own r mine)
     (lead_resumed x own e _ r step c.in_ok-leader.leader refl refl refl
-    (stands_nowhere own e.leader e.candidate s r.state.role follows step.state.role) refl (ap (λ o. o.queue) pushed) leads))
+    (stands_nowhere own e.leader e.candidate s r.state.role follows step.state.role) refl pushed leads))
     c.push_command.ensures.ok

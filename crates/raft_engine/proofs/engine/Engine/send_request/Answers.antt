@@ -15,5 +15,5 @@ returns g c = λ x own r lead step is_lead has e room m.
     on_ok_weaker c.push_command.result
     (λ h. requested x own c.args.self.now c.set_peer.new.self (record c.set_peer.new.self { output = c.push_command.new.self }) r c.args.n lead entry c.saturating_add.result c.next_request-req.result step e
     (omega (arith, c.saturating_add.ensures)) (c.next_request-req.ensures own c.args.n r.state step.state room.places m (omega arith))
-    (c.set_peer.ensures.known own r.state lead step.state is_lead has) c.set_peer.ensures.rest.0 c.set_peer.ensures.rest.1 refl refl refl refl (ap (λ o. o.queue) h))
+    (c.set_peer.ensures.known own r.state lead step.state is_lead has) c.set_peer.ensures.rest.0 c.set_peer.ensures.rest.1 refl refl refl refl h)
     c.push_command.ensures.ok

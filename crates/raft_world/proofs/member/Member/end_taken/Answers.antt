@@ -10,8 +10,8 @@ pub returns-in_err-store_first-clause-err : goal.returns-in_err-store_first-clau
 returns-in_err-store_first-clause-err c = λ old r down run.
     at_any_error _
     (halted_within _ _ old r _ _ run down.present _ down.no_engine c.args.stop
-    (subst (λ s. IsPartStored (first_of c.args.stop (stored_by run.snapshot c.args.engine.now.output.queue)) s c.store_first.new.stored) down.stored
-    (c.in_err-store_first.ensures.err run.snapshot run.is_given)))
+    (subst (λ s. IsPartStored (first_of c.args.stop (stored_by run.taken.snapshot c.args.engine.now.output.queue)) s c.store_first.new.stored) down.stored
+    (c.in_err-store_first.ensures.err run.taken.snapshot run.is_given)))
 
 pub returns-then-is_some-clause-ok : goal.returns-then-is_some-clause-ok
 returns-then-is_some-clause-ok c = λ old r down run.
@@ -19,9 +19,9 @@ returns-then-is_some-clause-ok c = λ old r down run.
       there.0,
       there.1,
       stopped_there _ _ old r _ _ run down.present _ down.no_engine there.0
-          (c.in_ok-store_first.ensures.ok run.snapshot run.is_given
-          ∙ (ap (λ stop. after_storing_all (first_of stop (stored_by run.snapshot c.args.engine.now.output.queue)) c.args.self.now.stored) there.1
-          ∙ ap (λ s. after_storing_all (first_of (Some there.0) (stored_by run.snapshot c.args.engine.now.output.queue)) s) down.stored)),
+          (c.in_ok-store_first.ensures.ok run.taken.snapshot run.is_given
+          ∙ (ap (λ stop. after_storing_all (first_of stop (stored_by run.taken.snapshot c.args.engine.now.output.queue)) c.args.self.now.stored) there.1
+          ∙ ap (λ s. after_storing_all (first_of (Some there.0) (stored_by run.taken.snapshot c.args.engine.now.output.queue)) s) down.stored)),
     )
 
 pub returns-in_err-sent-clause-err : goal.returns-in_err-sent-clause-err
@@ -29,17 +29,17 @@ returns-in_err-sent-clause-err c = λ old r down run.
     let none = no_stop c.args.stop (sym c.is_some.ensures ∙ c.if-is_some.false) in
     at_any_error _
     (halted_at_end _ _ old r _ _ run down.present _ down.no_engine
-    (c.in_ok-store_first.ensures.ok run.snapshot run.is_given
-    ∙ (ap (λ stop. after_storing_all (first_of stop (stored_by run.snapshot c.args.engine.now.output.queue)) c.args.self.now.stored) none
-    ∙ ap (λ s. after_storing_all (first_of None (stored_by run.snapshot c.args.engine.now.output.queue)) s) down.stored)))
+    (c.in_ok-store_first.ensures.ok run.taken.snapshot run.is_given
+    ∙ (ap (λ stop. after_storing_all (first_of stop (stored_by run.taken.snapshot c.args.engine.now.output.queue)) c.args.self.now.stored) none
+    ∙ ap (λ s. after_storing_all (first_of None (stored_by run.taken.snapshot c.args.engine.now.output.queue)) s) down.stored)))
 
 pub returns-clause-ok : goal.returns-clause-ok
 returns-clause-ok c = λ old r down run.
     let none = no_stop c.args.stop (sym c.is_some.ensures ∙ c.if-is_some.false) in
     let stored =
-    c.in_ok-store_first.ensures.ok run.snapshot run.is_given
-    ∙ (ap (λ stop. after_storing_all (first_of stop (stored_by run.snapshot c.args.engine.now.output.queue)) c.args.self.now.stored) none
-    ∙ ap (λ s. after_storing_all (first_of None (stored_by run.snapshot c.args.engine.now.output.queue)) s) down.stored)
+    c.in_ok-store_first.ensures.ok run.taken.snapshot run.is_given
+    ∙ (ap (λ stop. after_storing_all (first_of stop (stored_by run.taken.snapshot c.args.engine.now.output.queue)) c.args.self.now.stored) none
+    ∙ ap (λ s. after_storing_all (first_of None (stored_by run.taken.snapshot c.args.engine.now.output.queue)) s) down.stored)
     in (
       none,
       c.in_ok-sent.ensures ∙ sent_at_end _ _ old r _ _ run down.present _ stored,

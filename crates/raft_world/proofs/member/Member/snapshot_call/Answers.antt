@@ -62,7 +62,7 @@ returns-in_default-2-clause-ok c = λ at s down idle moment members may.
 -- the snapshot that was built
 module _ (c : After-drop-snapshot-inside-4) (at : ℕ) (s : GroupState) (down : IsDown c.args.self.now s.stored) (idle : IsIdle c.args.self.now.id c.args.engine.now s)
     (members : HasMembershipOfApplied s) (may : MayTake c.args.self.now.id c.args.engine.now s (Call TriggerSnapshot at)) where
-  taken : HasTaken c.in-Some-2.snapshot c.args.self.now.id c.trigger_snapshot.new.self c.finish_building_snapshot.new.self s (Call TriggerSnapshot at)
+  taken : HasTaken c.in-Some-2.snapshot c.args.self.now.id c.args.engine.now c.finish_building_snapshot.new.self s (Call TriggerSnapshot at)
   taken =
       let past : stands_before (covered_id c.args.engine.now) c.args.engine.now.state.state.committed ≡ true =
       by_cases (stands_before (covered_id c.args.engine.now) c.args.engine.now.state.state.committed) (λ t. t)
@@ -70,19 +70,17 @@ module _ (c : After-drop-snapshot-inside-4) (at : ℕ) (s : GroupState) (down : 
       let asked = (c.in_ok-trigger_snapshot.ensures.asked idle.not_building past).1 in
       let is : c.args.engine.now.state.state.committed ≡ Some c.in-Some.applied = sym (ap (λ (e : Engine). e.state.state.committed) asked) ∙ c.in-Some.is in
       let found = ap (λ stored. option_map (snapshot_at stored) (id_of (entry_at stored c.in-Some.applied.index))) (sym down.stored) ∙ sym c.in_ok-snapshot.ensures ∙ c.in-Some-2.is in
-      let seq = following_seq c.args.engine.now.output.last_sm_seq in
-      c.in_ok-finish_building_snapshot.ensures.built c.args.self.now.id at seq s c.in-Some-2.snapshot
+      c.in_ok-finish_building_snapshot.ensures.built c.args.self.now.id at c.args.engine.now s c.in-Some-2.snapshot asked idle.empty
       (subst (λ e. IsStateOf c.args.self.now.id e s) (sym asked) (stands_asking c.args.self.now.id c.args.engine.now s idle.stands))
-      (ap (λ (e : Engine). e.output.queue) asked ∙ ap (λ queue. queue ++ build_command seq ∷ []) idle.empty)
       may.ready may.accepted c.in_ok-meta_of.ensures
       (is_of_applied c.args.self.now.id c.args.engine.now s idle.stands c.in-Some.applied is (ap (λ o. stands_before (covered_id c.args.engine.now) o) (sym is) ∙ past) members c.in-Some-2.snapshot found)
 
 pub returns-clause-ok : goal.returns-clause-ok
 returns-clause-ok c = λ at s down idle moment members may.
     c.end_taken-2.ensures.ok s.stored (group_step c.args.self.now.id s (Call TriggerSnapshot at)) down
-    (run_of_call_with c.trigger_snapshot.new.self c.args.self.now.id at c.args.moment c.finish_building_snapshot.new.self s TriggerSnapshot c.in-Some-2.snapshot moment may.accepted (taken c at s down idle members may))
+    (run_of_call_with c.args.engine.now c.args.self.now.id at c.args.moment c.finish_building_snapshot.new.self s TriggerSnapshot c.in-Some-2.snapshot moment may.accepted (taken c at s down idle members may))
 
 pub returns-clause-err : goal.returns-clause-err
 returns-clause-err c = λ at s down idle moment members may.
     c.end_taken-2.ensures.err s.stored (group_step c.args.self.now.id s (Call TriggerSnapshot at)) down
-    (run_of_call_with c.trigger_snapshot.new.self c.args.self.now.id at c.args.moment c.finish_building_snapshot.new.self s TriggerSnapshot c.in-Some-2.snapshot moment may.accepted (taken c at s down idle members may))
+    (run_of_call_with c.args.engine.now c.args.self.now.id at c.args.moment c.finish_building_snapshot.new.self s TriggerSnapshot c.in-Some-2.snapshot moment may.accepted (taken c at s down idle members may))
