@@ -1,5 +1,5 @@
 -- What a leader appends, and what it leaves in order.
-use Rattle.std.specs.Prelude.{◌≡◌, ℕ, zero, suc, ◌+◌, ◌-◌, ◌<◌, ◌≤◌, ◌==◌, nat_lt, nat_eq, Bool, true, false, if◌then◌else◌, map, List, [], ◌∷◌, ◌++◌, length, Option, Some, None, option_and_then, refl}
+use Rattle.std.specs.Prelude.{◌≡◌, ℕ, zero, suc, ◌+◌, ◌-◌, ◌<◌, ◌≤◌, ◌==◌, nat_lt, nat_eq, true, false, if◌then◌else◌, List, [], ◌∷◌, ◌++◌, length, Option, Some, None, option_and_then, refl}
 use Rattle.std.specs.List.{slice_get, flat_map}
 use Rattle.std.proofs.Common.{sym, ap, ◌∙◌, subst, arith, append_assoc, add_assoc, length-append}
 use Rattle.std.proofs.lemmas.List.{map-append}
@@ -13,22 +13,22 @@ use Rattle.raft_state.specs.declared.entry.EntryPayload.TheVariants.{Blank, Norm
 use Rattle.raft_state.specs.Payload.{membership_of}
 use Rattle.raft_progress.specs.Parts.{has_value}
 use Rattle.raft_group_step.specs.Values.{ChangeMembers, Entry, EntryPayload, Membership, LoggedMembership, after_change, entry_of, has_id, last_membership, membership_after}
-use Rattle.raft_group_step.specs.StoredGroup.{StoredGroup, Snapshot, PutEntries, after_storing, end_place, entry_at, first_place, id_at, id_of, log_below, membership_in_force, snapshot_last}
+use Rattle.raft_group_step.specs.StoredGroup.{StoredGroup, Snapshot, PutEntries, after_storing, end_place, first_place, id_at, id_of, log_below, membership_in_force, snapshot_last}
 use Rattle.raft_group_step.specs.StoredGroup.{last_id as last_stored_id}
 use Rattle.raft_group_step.specs.GroupState.{GroupState, Lead, Leader, Untold}
 use Rattle.raft_group_step.specs.StepResult.{StepResult, append}
 use Rattle.raft_group_step.specs.MembershipStep.{append_changed, membership_step}
 use Rattle.raft_group_step.specs.Lead.{ids_of}
 use Rattle.raft_group_step.specs.Frames.{committed_id}
-use Rattle.raft_known_state.specs.KnownState.{ArePlaced, IsPlaced, KeepsRest, KnownState, Knows, entry_ids, purged_ids, stored_ids}
+use Rattle.raft_known_state.specs.KnownState.{ArePlaced, IsPlaced, KeepsRest, Knows, entry_ids, purged_ids}
 use Rattle.raft_known_state.proofs.KnownStateLemmas.{end-known, last-known, log_whole}
 use Rattle.raft_known_state.proofs.PlacedIds.{by_order, last_of}
 use Rattle.raft_commands.specs.declared.command.Command.TheVariants.{AppendInputEntries}
 use Rattle.raft_leaders.specs.Candidate.{CandidateValue}
 use Rattle.raft_leaders.specs.Leader.{LeaderValue, id_of_leader, peer_at}
 use Rattle.raft_commands.specs.Output.{Output}
-use Rattle.raft_engine.specs.Commands.{put_all, storing_of, sending_of, stored_by, sent_by}
-use Rattle.raft_engine.specs.Standing.{EffectiveMembership, Engine, Given, IsInOrder, IsStateOf, IsStepOf, Leads, PlaysRole, peer_state}
+use Rattle.raft_engine.specs.Commands.{put_all, storing_of, sending_of}
+use Rattle.raft_engine.specs.Standing.{EffectiveMembership, Engine, Given, IsInOrder, IsStepOf, Leads, PlaysRole, peer_state}
 use Rattle.raft_engine.specs.Leading.{KnowsMembers}
 use Rattle.raft_engine.proofs.CommandLemmas.{numbers_kept, sends_same, stores_more}
 use Rattle.raft_engine.proofs.StandingLemmas.{order_kept}

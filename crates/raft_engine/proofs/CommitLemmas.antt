@@ -2,13 +2,12 @@
 use Rattle.std.specs.Prelude.{◌≡◌, ℕ, suc, ◌+◌, ◌*◌, ◌<◌, ◌≤◌, ◌==◌, ◌&&◌, nat_eq, nat_lt, Bool, true, false, not, cond, if◌then◌else◌, count_by, filter, List, [], ◌∷◌, ◌++◌, length, Option, Some, None, option_map, refl}
 use Rattle.std.specs.List.{fold, last_or, list_all}
 use Rattle.std.proofs.Common.{sym, ap, ◌∙◌, subst, arith}
-use Rattle.raft_values.specs.declared.vote.LeaderId.{LeaderId}
 use Rattle.raft_values.specs.declared.vote.Vote.{Vote}
 use Rattle.raft_values.specs.declared.log_id.LogId.{LogId}
 use Rattle.raft_values.specs.LogId.{next_place, place_of, reaches}
 use Rattle.raft_quorums.specs.Quorum.{is_majority, is_quorum}
 use Rattle.raft_group_step.specs.Values.{Entry, LoggedMembership, leader_eq}
-use Rattle.raft_group_step.specs.StoredGroup.{StoredGroup, Snapshot, end_place, membership_in_force, snapshot_last}
+use Rattle.raft_group_step.specs.StoredGroup.{StoredGroup, end_place, membership_in_force}
 use Rattle.raft_group_step.specs.Peer.{PeerState}
 use Rattle.raft_group_step.specs.GroupState.{GroupState, Role, Follower, Candidate, Leader, Lead, Untold}
 use Rattle.raft_group_step.specs.StepResult.{StepResult, apply_up_to, is_within, later_place}

@@ -9,7 +9,7 @@ use Rattle.raft_state.specs.LogIdList.{last_id as last_known_id}
 use Rattle.raft_quorums.specs.Quorum.{is_quorum}
 use Rattle.raft_progress.specs.Parts.{SetsValue}
 use Rattle.raft_group_step.specs.Values.{has_id}
-use Rattle.raft_group_step.specs.StoredGroup.{Snapshot, StoredGroup, end_place, last_id}
+use Rattle.raft_group_step.specs.StoredGroup.{StoredGroup, end_place, last_id}
 use Rattle.raft_group_step.specs.GroupState.{Role, Follower, Candidate, Leader}
 use Rattle.raft_group_step.specs.Message.{VoteRequest}
 use Rattle.raft_group_step.specs.declared.vote_message.VoteRequest.{VoteRequest as Request}

@@ -1,15 +1,14 @@
 -- From the words of the group step to its events.
 use Rattle.std.specs.Prelude.{◌≡◌, ◌||◌, ℕ, max, Bool, true, false, List, [], ◌∷◌, Option, Some, None, refl}
 use Rattle.std.proofs.Common.{ap, sym, ◌∙◌, subst}
-use Rattle.raft_values.specs.declared.log_id.LogId.{LogId}
 use Rattle.raft_values.specs.LogId.{place_of}
-use Rattle.raft_group_step.specs.StoredGroup.{StoredGroup, Snapshot}
+use Rattle.raft_group_step.specs.StoredGroup.{Snapshot}
 use Rattle.raft_group_step.specs.Message.{MessageBody}
 use Rattle.raft_group_step.specs.GroupState.{GroupState}
 use Rattle.raft_group_step.specs.GroupEvent.{GroupEvent}
 use Rattle.raft_group_step.specs.StepResult.{StepResult, RefusalReason, unchanged}
 use Rattle.raft_group_step.specs.Refusal.{first_of_reasons, refusal_of, unless}
-use Rattle.raft_group_step.specs.GroupStep.{begun, event_step, finished, group_step, step_unless}
+use Rattle.raft_group_step.specs.GroupStep.{begun, event_step, finished, step_unless}
 use Rattle.raft_engine.specs.Numbering.{Follow, numbers_in}
 use Rattle.raft_engine.specs.Commands.{sent_by, stored_by}
 use Rattle.raft_engine.specs.Standing.{Engine, Given, IsInOrder, IsStateOf, IsStepOf, IsWholeStepOf, given}

@@ -1,32 +1,28 @@
 -- What a follower's step leaves as its log is shortened, grows, and is committed.
-use Rattle.std.specs.Prelude.{◌≡◌, ◌≢◌, ℕ, zero, suc, ◌+◌, ◌-◌, ◌<◌, ◌≤◌, ◌==◌, max, min, nat_lt, nat_le, not, ◌||◌, Bool, true, false, if◌then◌else◌, List, [], ◌∷◌, ◌++◌, filter, length, take, drop, Option, Some, None, option_and_then, is_some, refl}
+use Rattle.std.specs.Prelude.{◌≡◌, ℕ, ◌+◌, ◌-◌, ◌<◌, ◌≤◌, max, nat_le, Bool, true, false, if◌then◌else◌, List, [], ◌∷◌, ◌++◌, Option, Some, None, option_and_then, is_some, refl}
 use Rattle.std.specs.List.{slice_get, flat_map}
 use Rattle.std.proofs.Common.{sym, ap, ◌∙◌, subst, arith, length-append}
 use Rattle.std.proofs.lemmas.Bool.Decides.{nat_tests}
-use Rattle.std.proofs.lemmas.List.{length-take}
-use Rattle.raft_values.specs.declared.vote.Vote.{Vote}
 use Rattle.raft_values.specs.declared.log_id.LogId.{LogId}
 use Rattle.raft_values.specs.LogId.{next_place, place_of}
 use Rattle.raft_state.specs.LogIdList.{last_id}
 use Rattle.raft_group_step.specs.Values.{Entry}
-use Rattle.raft_group_step.specs.StoredGroup.{StoredGroup, Snapshot, StoringCommand, CutFrom, PutEntries, after_storing, first_place, end_place, entry_at, id_at, log_below, snapshot_last}
-use Rattle.raft_group_step.specs.GroupState.{GroupState, Role, Follower}
+use Rattle.raft_group_step.specs.StoredGroup.{StoredGroup, StoringCommand, CutFrom, PutEntries, after_storing, first_place, end_place, entry_at, id_at, log_below, snapshot_last}
+use Rattle.raft_group_step.specs.GroupState.{GroupState, Follower}
 use Rattle.raft_group_step.specs.StepResult.{StepResult, store, with_stored, later_place, is_within, apply_up_to}
-use Rattle.raft_group_step.specs.Message.{Message}
 use Rattle.raft_group_step.specs.AppendRequest.{cut_from, put_entries}
 use Rattle.raft_group_step.specs.Frames.{committed_id}
-use Rattle.raft_commands.specs.declared.command.Command.TheVariants.{AppendInputEntries, Commit, DeleteConflictLog}
 use Rattle.raft_known_state.specs.KnownState.{KnownState, Knows, KeepsRest, ArePlaced, IsPlaced, entry_ids, stored_ids}
 use Rattle.raft_known_state.proofs.PlacedIds.{by_order}
 use Rattle.raft_known_state.proofs.KnownStateLemmas.{end-known, log_whole}
 use Rattle.raft_commands.specs.Output.{Output, following_seq}
 use Rattle.raft_engine.specs.Numbering.{number_in}
-use Rattle.raft_engine.specs.Commands.{Command, put_all, storing_of, sending_of, stored_by, sent_by}
+use Rattle.raft_engine.specs.Commands.{Command, put_all, storing_of, sending_of}
 use Rattle.raft_engine.specs.Standing.{Engine, Given, IsInOrder, IsStateOf, IsStepOf, PlaysRole}
-use Rattle.raft_engine.specs.Following.{EndsWithin, all_go_on}
+use Rattle.raft_engine.specs.Following.{all_go_on}
 use Rattle.raft_engine.proofs.CommandLemmas.{numbers_gained, numbers_kept, sends_same, stores_more, stores_same}
 use Rattle.raft_engine.proofs.StandingLemmas.{still_follows}
-use Rattle.raft_engine.proofs.PlacedEntries.{HasEntry, has_entry, id_of_place, none_behind, with_log, id_below_cut, id_before_more, end_of_cut, end_of_any_cut, taken, behind, found_at, placed_go_on}
+use Rattle.raft_engine.proofs.PlacedEntries.{HasEntry, has_entry, id_of_place, none_behind, with_log, id_below_cut, id_before_more, end_of_cut, end_of_any_cut, taken, behind, placed_go_on}
 
 -- ---- places
 

@@ -1,8 +1,8 @@
 -- What an engine that stands for a group's state keeps in order.
-use Rattle.std.specs.Prelude.{◌≡◌, ℕ, ◌≤◌}
-use Rattle.std.proofs.Common.{sym, ap, ◌∙◌, subst}
+use Rattle.std.specs.Prelude.{ℕ, ◌≤◌}
+use Rattle.std.proofs.Common.{sym, subst}
 use Rattle.raft_values.specs.LogId.{next_place}
-use Rattle.raft_group_step.specs.StoredGroup.{first_place, snapshot_last}
+use Rattle.raft_group_step.specs.StoredGroup.{first_place}
 use Rattle.raft_group_step.specs.GroupState.{GroupState}
 use Rattle.raft_engine.specs.Building.{covered_id}
 use Rattle.raft_engine.specs.Standing.{Engine, IsStateOf}

@@ -1,5 +1,5 @@
 -- How a lead begins.
-use Rattle.std.specs.Prelude.{◌≡◌, ℕ, ◌+◌, Bool, true, false, ◌||◌, nat_eq, if◌then◌else◌, List, [], ◌∷◌, ◌++◌, map, Option, Some, None, unwrap_or, Result, Ok, Err, IfOk, refl}
+use Rattle.std.specs.Prelude.{◌≡◌, ℕ, true, ◌||◌, nat_eq, List, [], ◌∷◌, ◌++◌, Option, Some, None, unwrap_or, Result, Ok, Err, IfOk, refl}
 use Rattle.std.specs.Ordering.{nat_cmp}
 use Rattle.std.proofs.Common.{sym, ap, ◌∙◌, subst}
 use Rattle.raft_values.specs.declared.vote.Vote.{Vote}
@@ -7,18 +7,18 @@ use Rattle.raft_values.specs.declared.log_id.LogId.{LogId}
 use Rattle.raft_values.specs.LogId.{next_place}
 use Rattle.raft_state.specs.LogIdList.{last_id, keys_of, last_run}
 use Rattle.raft_membership.specs.Membership.{voter_ids, learner_ids}
-use Rattle.raft_progress.specs.Parts.{has_value, value_of}
+use Rattle.raft_progress.specs.Parts.{value_of}
 use Rattle.raft_group_step.specs.Values.{LoggedMembership, has_id}
 use Rattle.raft_group_step.specs.StoredGroup.{StoredGroup, end_place, membership_in_force}
 use Rattle.raft_group_step.specs.StoredGroup.{last_id as last_stored_id}
 use Rattle.raft_group_step.specs.Lead.{ids_of, new_lead}
-use Rattle.raft_known_state.specs.KnownState.{KnownState, Knows, IsPlaced, effective_of, stored_ids}
+use Rattle.raft_known_state.specs.KnownState.{KnownState, Knows, IsPlaced, effective_of}
 use Rattle.raft_known_state.proofs.KnownStateLemmas.{end-known, last-known}
 use Rattle.raft_leaders.specs.Leader.{LeaderValue, end_of, unknown_peer}
 use Rattle.std.specs.List.{flat_map}
 use Rattle.raft_values.specs.LogId.{place_of}
 use Rattle.raft_state.specs.declared.raft_state.RaftState.{RaftState}
-use Rattle.raft_group_step.specs.StoredGroup.{Snapshot, SetVote, after_storing}
+use Rattle.raft_group_step.specs.StoredGroup.{SetVote, after_storing}
 use Rattle.raft_group_step.specs.GroupState.{Candidate, Leader}
 use Rattle.raft_group_step.specs.StepResult.{StepResult, in_role, store_vote}
 use Rattle.raft_group_step.specs.Lead.{committed_vote}

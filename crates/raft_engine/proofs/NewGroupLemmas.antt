@@ -1,11 +1,11 @@
 -- The engine of a group with nothing in it stands for that, and is ready for each event.
-use Rattle.std.specs.Prelude.{◌≡◌, ℕ, ◌≤◌, ◌<◌, ◌^◌, true, Option, Some, None, refl}
-use Rattle.std.proofs.Common.{ap, sym, ◌∙◌, subst, arith}
+use Rattle.std.specs.Prelude.{◌≡◌, ℕ, ◌≤◌, ◌<◌, ◌^◌, true, Some, None, refl}
+use Rattle.std.proofs.Common.{ap, sym, subst, arith}
 use Rattle.raft_values.specs.LogId.{place_of}
 use Rattle.raft_commands.specs.Config.{config_of}
 use Rattle.raft_known_state.specs.KnownState.{Knows}
 use Rattle.raft_group_step.specs.StoredGroup.{StoredGroup}
-use Rattle.raft_group_step.specs.GroupState.{GroupState, Follower, no_group, state_of}
+use Rattle.raft_group_step.specs.GroupState.{Follower, no_group, state_of}
 use Rattle.raft_engine.specs.Events.{IsReady}
 use Rattle.raft_engine.specs.Standing.{Engine, IsInOrder, IsStateOf, PlaysRole}
 

@@ -8,7 +8,7 @@ use Rattle.raft_values.specs.declared.vote.Vote.{Vote}
 use Rattle.raft_values.specs.LogId.{place_of}
 use Rattle.raft_commands.specs.declared.engine_config.EngineConfig.{EngineConfig}
 use Rattle.raft_known_state.specs.KnownState.{KnownState, Knows}
-use Rattle.raft_group_step.specs.StoredGroup.{Snapshot, StoredGroup, end_place}
+use Rattle.raft_group_step.specs.StoredGroup.{StoredGroup, end_place}
 use Rattle.raft_group_step.specs.GroupState.{GroupState, Role, Follower, Leader}
 use Rattle.raft_group_step.specs.StepResult.{StepResult, in_role, unchanged}
 use Rattle.raft_group_step.specs.Lead.{new_lead}

@@ -1,5 +1,5 @@
 -- A vote of another node that isn't below the own one: once it is taken over, the node follows.
-use Rattle.std.specs.Prelude.{◌≡◌, ◌≢◌, ℕ, ◌<◌, Bool, true, false, if◌then◌else◌, Option, Some, None, refl}
+use Rattle.std.specs.Prelude.{◌≡◌, ℕ, ◌<◌, Bool, true, false, if◌then◌else◌, Option, Some, None, refl}
 use Rattle.std.proofs.Common.{sym, ap, ap₂, ◌∙◌, ⊎_elim, arith, lt-ltb, le-ltb, eq-eqb}
 use Rattle.std.proofs.lemmas.Bool.{cases_order, cond-true, cond-false}
 use Rattle.std.specs.declared.cmp.Ordering.TheVariants.{Less, Equal}
@@ -13,7 +13,7 @@ use Rattle.raft_leaders.specs.Candidate.{CandidateValue}
 use Rattle.raft_leaders.specs.Leader.{LeaderValue}
 use Rattle.raft_engine.specs.Standing.{EffectiveMembership, Engine, Given, IsStepOf, Leads, PlaysRole, Stands}
 use Rattle.raft_engine.specs.Following.{IsVoteOfAnother}
-use Rattle.raft_group_step.specs.StoredGroup.{StoredGroup, Snapshot}
+use Rattle.raft_group_step.specs.StoredGroup.{StoredGroup}
 
 less_is : (x y : ℕ) → x < y → nat_cmp x y ≡ Less
 less_is x y l = cond-true (nat_lt x y) _ _ (lt-ltb x y l)

@@ -1,13 +1,13 @@
 -- Entries that stand at consecutive places, and the log ids of a stored group that they make.
-use Rattle.std.specs.Prelude.{◌≡◌, ℕ, zero, suc, ◌+◌, ◌-◌, ◌<◌, ◌≤◌, ◌==◌, nat_lt, nat_le, Bool, true, false, if◌then◌else◌, List, [], ◌∷◌, ◌++◌, length, take, drop, Option, Some, None, option_and_then, is_some, refl}
+use Rattle.std.specs.Prelude.{◌≡◌, ℕ, zero, suc, ◌+◌, ◌-◌, ◌<◌, ◌≤◌, ◌==◌, nat_lt, Bool, true, false, if◌then◌else◌, List, [], ◌∷◌, ◌++◌, length, take, drop, Option, Some, None, is_some, refl}
 use Rattle.std.specs.List.{slice_get}
 use Rattle.std.proofs.Common.{sym, ap, ◌∙◌, subst, arith}
 use Rattle.std.proofs.lemmas.Bool.Decides.{nat_tests}
-use Rattle.std.proofs.lemmas.List.{length-take, length-append}
+use Rattle.std.proofs.lemmas.List.{length-take}
 use Rattle.raft_values.specs.declared.log_id.LogId.{LogId}
-use Rattle.raft_values.specs.LogId.{next_place, place_of}
+use Rattle.raft_values.specs.LogId.{next_place}
 use Rattle.raft_state.specs.LogIdList.{AllGoOn}
-use Rattle.raft_group_step.specs.Values.{Entry, log_id_eq}
+use Rattle.raft_group_step.specs.Values.{Entry}
 use Rattle.raft_group_step.specs.StoredGroup.{StoredGroup, first_place, end_place, entry_at, id_of, id_at, is_id, has_id_in_log, log_below}
 use Rattle.raft_known_state.specs.KnownState.{ArePlaced, IsPlaced, entry_ids}
 use Rattle.raft_known_state.proofs.PlacedIds.{by_order}

@@ -1,5 +1,5 @@
 -- What is purged leaves the rest in order, and the node plays on.
-use Rattle.std.specs.Prelude.{◌≡◌, ℕ, zero, suc, ◌+◌, ◌-◌, ◌<◌, ◌≤◌, ◌==◌, nat_lt, nat_eq, Bool, true, false, if◌then◌else◌, List, [], ◌∷◌, ◌++◌, drop, length, Option, Some, None, min, option_and_then, option_map, refl}
+use Rattle.std.specs.Prelude.{◌≡◌, ℕ, zero, suc, ◌+◌, ◌-◌, ◌<◌, ◌≤◌, ◌==◌, nat_lt, nat_eq, Bool, true, false, if◌then◌else◌, List, [], ◌∷◌, ◌++◌, drop, Option, Some, None, min, option_and_then, option_map, refl}
 use Rattle.std.specs.List.{slice_get, flat_map}
 use Rattle.std.specs.Option.{is_some}
 use Rattle.std.proofs.Common.{sym, ap, ◌∙◌, subst, arith, length-drop}
@@ -8,7 +8,7 @@ use Rattle.raft_values.specs.declared.vote.Vote.{Vote}
 use Rattle.raft_values.specs.declared.utime.UTime.{UTime}
 use Rattle.raft_values.specs.declared.log_id.LogId.{LogId}
 use Rattle.raft_values.specs.LogId.{next_place, place_of}
-use Rattle.raft_group_step.specs.Values.{Entry, LoggedMembership, has_id, last_membership}
+use Rattle.raft_group_step.specs.Values.{Entry, has_id, last_membership}
 use Rattle.raft_group_step.specs.StoredGroup.{StoredGroup, Snapshot, RemoveUpTo, after_storing, end_place, entry_at, first_place, id_at, id_of, last_id, membership_in_force, snapshot_last}
 use Rattle.raft_group_step.specs.GroupState.{GroupState, Role, Follower, Candidate, Leader, Lead}
 use Rattle.raft_group_step.specs.StepResult.{StepResult, later_place, store, with_stored}
@@ -25,7 +25,7 @@ use Rattle.raft_leaders.specs.Leader.{LeaderValue}
 use Rattle.raft_commands.specs.Output.{Output}
 use Rattle.raft_engine.specs.Commands.{storing_of, sending_of}
 use Rattle.raft_engine.specs.Purging.{MayBePurged}
-use Rattle.raft_engine.specs.Standing.{EffectiveMembership, Engine, Given, IsInOrder, IsStateOf, IsStepOf, Leads, PlaysRole, Stands}
+use Rattle.raft_engine.specs.Standing.{EffectiveMembership, Engine, Given, IsInOrder, IsStepOf, Leads, PlaysRole, Stands}
 use Rattle.raft_engine.proofs.AppendLemmas.{next_of_place}
 use Rattle.raft_engine.proofs.CommandLemmas.{numbers_kept, sends_same, stores_more}
 use Rattle.raft_engine.proofs.StandingLemmas.{order_kept}

@@ -9,7 +9,7 @@ use Rattle.raft_values.specs.declared.vote.Vote.{Vote}
 use Rattle.raft_values.specs.declared.log_id.LogId.{LogId}
 use Rattle.raft_values.specs.LogId.{next_place, place_of}
 use Rattle.raft_group_step.specs.Values.{leader_eq, log_id_eq, vote_lt}
-use Rattle.raft_group_step.specs.StoredGroup.{StoredGroup, Snapshot, StoringCommand, CutFrom, RemoveUpTo, SetSnapshot, after_storing, end_place, entry_at, first_place, has_id_in_log, id_at, id_of, is_id, snapshot_last}
+use Rattle.raft_group_step.specs.StoredGroup.{StoredGroup, Snapshot, StoringCommand, CutFrom, RemoveUpTo, SetSnapshot, after_storing, end_place, entry_at, first_place, has_id_in_log, id_at, id_of, is_id}
 use Rattle.raft_group_step.specs.Message.{HigherVote, Success}
 use Rattle.raft_group_step.specs.AppendRequest.{cut_from}
 use Rattle.raft_group_step.specs.SnapshotRequest.{cut_other, install_unless, place_above}

@@ -1,13 +1,13 @@
 -- What changes of an engine leave of the state and step that it stands for.
-use Rattle.std.specs.Prelude.{◌≡◌, ℕ, List, [], ◌∷◌, ◌++◌, Option, Some, None, Bool, true, false, refl}
+use Rattle.std.specs.Prelude.{◌≡◌, ℕ, List, [], ◌∷◌, ◌++◌, Option, Some, None, refl}
 use Rattle.std.proofs.Common.{ap, sym, ◌∙◌, subst}
 use Rattle.raft_values.specs.declared.vote.Vote.{Vote}
 use Rattle.raft_values.specs.declared.log_id.LogId.{LogId}
 use Rattle.raft_values.specs.LogId.{place_of}
 use Rattle.raft_state.specs.declared.raft_state.RaftState.{RaftState}
-use Rattle.raft_group_step.specs.StoredGroup.{StoredGroup, Snapshot, SetVote, after_storing}
-use Rattle.raft_group_step.specs.GroupState.{GroupState, Role, Follower, Candidate, Leader, Lead, Untold}
-use Rattle.raft_group_step.specs.StepResult.{StepResult, step_down, store_vote, renew}
+use Rattle.raft_group_step.specs.StoredGroup.{StoredGroup, SetVote, after_storing}
+use Rattle.raft_group_step.specs.GroupState.{GroupState, Role, Follower, Candidate, Leader, Untold}
+use Rattle.raft_group_step.specs.StepResult.{StepResult, store_vote, renew}
 use Rattle.raft_group_step.specs.Message.{Message}
 use Rattle.raft_group_step.specs.Frames.{committed_id}
 use Rattle.raft_commands.specs.declared.command.Command.TheVariants.{SaveVote}
@@ -18,7 +18,7 @@ use Rattle.std.specs.List.{flat_map}
 use Rattle.raft_commands.specs.Output.{Output}
 use Rattle.raft_engine.specs.Numbering.{NumbersFollow, number_in}
 use Rattle.raft_engine.specs.Commands.{Command, storing_of, sending_of, stored_by, sent_by}
-use Rattle.raft_engine.specs.Standing.{EffectiveMembership, Engine, Given, IsInOrder, IsStateOf, IsStepOf, IsWholeStepOf, Leads, PlaysRole, Stands}
+use Rattle.raft_engine.specs.Standing.{EffectiveMembership, Engine, Given, IsInOrder, IsStepOf, IsWholeStepOf, PlaysRole}
 use Rattle.raft_engine.proofs.CommandLemmas.{numbers_kept, sends_more, sends_same, stores_more, stores_same}
 
 abbrev StateOf : Type 0

@@ -1,5 +1,5 @@
 -- A candidate is answered, whether its vote is granted or not.
-use Rattle.std.specs.Prelude.{◌≡◌, ℕ, Bool, true, false, if◌then◌else◌, Option, refl}
+use Rattle.std.specs.Prelude.{◌≡◌, ℕ, Bool, true, false, if◌then◌else◌, refl}
 use Rattle.raft_values.specs.declared.vote.Vote.{Vote}
 use Rattle.raft_group_step.specs.StepResult.{StepResult, take_over}
 use Rattle.raft_group_step.specs.VoteRequest.{judged, reply_vote}

@@ -1,12 +1,11 @@
 -- When an engine may be handed an event, and what it has done of the event then.
-use Rattle.std.specs.Prelude.{◌≡◌, ℕ, ◌+◌, ◌≤◌, ◌<◌, ◌^◌, ◌&&◌, ◌||◌, not, Bool, false, [], length, max, Option, Some, None}
+use Rattle.std.specs.Prelude.{◌≡◌, ℕ, ◌+◌, ◌≤◌, ◌<◌, ◌^◌, ◌&&◌, ◌||◌, not, Bool, false, [], length, Some, None}
 use Rattle.raft_values.specs.LogId.{next_place}
-use Rattle.raft_group_step.specs.StoredGroup.{StoredGroup, Snapshot, end_place, last_id, snapshot_last}
+use Rattle.raft_group_step.specs.StoredGroup.{Snapshot, end_place, last_id, snapshot_last}
 use Rattle.raft_group_step.specs.Values.{last_id_lt, vote_eq}
 use Rattle.raft_group_step.specs.GroupState.{GroupState, Lead, Role, Follower, Candidate, Leader, is_candidate}
 use Rattle.raft_group_step.specs.GroupEvent.{GroupEvent, AddGroup, Call, Receive, Open}
 use Rattle.raft_group_step.specs.Message.{MessageBody, VoteRequest, VoteReply, AppendRequest, AppendReply, SnapshotRequest, SnapshotReply}
-use Rattle.raft_group_step.specs.StepResult.{StepResult}
 use Rattle.raft_group_step.specs.Lead.{other_ids, peer_of}
 use Rattle.raft_group_step.specs.Refusal.{refusal_of}
 use Rattle.raft_group_step.specs.GroupStep.{group_step}

@@ -1,11 +1,11 @@
 -- No node's stored vote is below one that it sent or answered as its own.
 use Rattle.std.specs.Prelude.{◌≡◌, ℕ, ◌+◌, ◌==◌, Bool, true, false, List, [], ◌∷◌, ◌++◌, if◌then◌else◌, Option, Some, None, refl}
-use Rattle.std.proofs.Common.{inl, inr, sym, ap, ◌∙◌, subst, arith, ⊎_elim, eq-eqb}
+use Rattle.std.proofs.Common.{sym, ap, ◌∙◌, subst, arith, ⊎_elim, eq-eqb}
 use Rattle.raft_values.specs.declared.vote.Vote.{Vote}
 use Rattle.raft_values.specs.Vote.{vote_of}
 use Rattle.raft_values.specs.declared.log_id.LogId.{LogId}
 use Rattle.raft_values.specs.LogId.{log_id_of}
-use Rattle.raft_group_step.specs.Values.{Entry, EntryPayload, LoggedMembership, ChangeMembers, entry_of, has_id, vote_lt}
+use Rattle.raft_group_step.specs.Values.{Entry, LoggedMembership, ChangeMembers, entry_of, has_id, vote_lt}
 use Rattle.raft_state.specs.declared.entry.EntryPayload.TheVariants.{Blank, Membership as Members}
 use Rattle.raft_group_step.specs.StoredGroup.{StoredGroup, Snapshot, CutFrom, PutEntries, StartAfter, entry_at, id_of, snapshot_last}
 use Rattle.raft_group_step.specs.Message.{Message, MessageBody, VoteRequest, VoteReply, AppendRequest, AppendReply, SnapshotRequest, SnapshotReply, AppendFields, ReplyFields, ReplyResult, Success, Conflict, HigherVote}
@@ -24,17 +24,17 @@ use Rattle.raft_group_step.specs.MembershipStep.{append_changed}
 use Rattle.raft_group_step.specs.Heartbeat.{beat_as, send_notices}
 use Rattle.raft_group_step.specs.Lost.{lost_as}
 use Rattle.raft_group_step.specs.Lead.{begin_lead, commit_as_leader, committed_vote, lead_if, new_lead, other_ids, peer_of, purge_as_wished, remove_up_to, with_grant, with_wish}
-use Rattle.raft_group_step.specs.Frames.{has_grown, send_entries, send_request, send_snapshot, with_peer_state, serve, serve_all, serve_as, with_frames}
+use Rattle.raft_group_step.specs.Frames.{has_grown, send_entries, send_request, send_snapshot, with_peer_state, serve, serve_all, serve_as}
 use Rattle.raft_group_step.specs.SnapshotTrigger.{snapshot_of_applied, store_snapshot_at}
 use Rattle.raft_group_step.specs.PurgeTrigger.{purge_as, purge_within}
-use Rattle.raft_group_step.specs.Opening.{drop_stale_log, opening_step, resume_lead}
+use Rattle.raft_group_step.specs.Opening.{drop_stale_log, resume_lead}
 use Rattle.raft_group_step.specs.Refusal.{refusal_of}
 use Rattle.raft_group_step.specs.GroupStep.{begun, call_step, event_step, finished, group_step, message_step, step_unless}
 use Rattle.raft_laws.specs.declared.world_event.WorldEvent.{WorldEvent}
 use Rattle.raft_laws.specs.GroupWorld.{GroupWorld, NodeState, Absent, Up, Down, Outcome, Recorded, is_stop, new_world, state_or}
 use Rattle.raft_laws.specs.NodeEvent.{NodeEvent, Comes, Crashes, Restarts, after_step, outcome_at, outcome_of_end, state_after}
-use Rattle.raft_laws.specs.GroupRun.{Scene, Nowhere, At, Replays, after_scene, happens, outcome_in, outcome_of, scene_of, sent_in, stop_at}
-use Rattle.raft_laws.specs.VotesRise.{SentVoteKept, SentVotesKept, SentVotesStay, own_vote, stored_of}
+use Rattle.raft_laws.specs.GroupRun.{Scene, Nowhere, At, Replays, after_scene, happens, outcome_in, scene_of, sent_in, stop_at}
+use Rattle.raft_laws.specs.VotesRise.{SentVoteKept, SentVotesStay, own_vote, stored_of}
 use Rattle.raft_laws.proofs.BallotSafe.{Among, among_at}
 use Rattle.raft_laws.proofs.Counts.{contains_at}
 use Rattle.raft_laws.proofs.StepWords.{either, either_by}

@@ -1,10 +1,10 @@
 -- What is applied has an entry in the log, of which a snapshot can be built.
-use Rattle.std.specs.Prelude.{◌≡◌, ℕ, ◌+◌, ◌≤◌, ◌<◌, Bool, true, false, nat_lt, Option, Some, None, option_map, refl}
+use Rattle.std.specs.Prelude.{◌≡◌, ℕ, ◌+◌, ◌≤◌, ◌<◌, true, false, Option, Some, None, option_map, refl}
 use Rattle.std.proofs.Common.{sym, ap, ◌∙◌, subst, arith}
 use Rattle.std.proofs.lemmas.Bool.{ltb-true}
 use Rattle.raft_values.specs.declared.log_id.LogId.{LogId}
 use Rattle.raft_values.specs.LogId.{next_place, place_of, stands_before}
-use Rattle.raft_group_step.specs.StoredGroup.{Snapshot, CutFrom, after_storing, end_place, entry_at, first_place, id_of, membership_in_force, snapshot_last}
+use Rattle.raft_group_step.specs.StoredGroup.{Snapshot, end_place, entry_at, first_place, id_of, snapshot_last}
 use Rattle.raft_group_step.specs.GroupState.{GroupState}
 use Rattle.raft_group_step.specs.Frames.{committed_id}
 use Rattle.raft_group_step.specs.SnapshotTrigger.{snapshot_at}

@@ -1,5 +1,5 @@
 -- What an event left at its member, as what became of it at its node.
-use Rattle.std.specs.Prelude.{◌≡◌, ℕ, Bool, true, false, List, [], ◌∷◌, take, length, map, Option, Some, None, is_some, unwrap_or, Result, Ok, Err, IfOk, OnErr, refl}
+use Rattle.std.specs.Prelude.{◌≡◌, ℕ, Bool, true, false, List, [], ◌∷◌, take, length, Option, Some, None, is_some, unwrap_or, Result, Ok, Err, IfOk, OnErr, refl}
 use Rattle.std.proofs.Common.{sym, ap, ◌∙◌, subst}
 use Rattle.raft_conditions.specs.Reason.{reason_of}
 use Rattle.raft_group_step.specs.StoredGroup.{StoredGroup, StoringCommand, after_storing_all, held}
@@ -8,14 +8,13 @@ use Rattle.raft_group_step.specs.GroupEvent.{GroupEvent, Open}
 use Rattle.raft_group_step.specs.GroupStep.{group_step}
 use Rattle.raft_group_step.specs.Refusal.{refusal_of}
 use Rattle.raft_group_step.specs.StepResult.{RefusalReason, StepResult}
-use Rattle.raft_executor.specs.Sent.{message_of}
-use Rattle.raft_laws.specs.GroupWorld.{NodeState, Absent, Up, Down, Led, Outcome, Done, Refused, Stopped, is_stop}
+use Rattle.raft_laws.specs.GroupWorld.{NodeState, Absent, Up, Down, Led, Outcome, Done, Refused, is_stop}
 use Rattle.raft_laws.specs.GroupRun.{led_as, led_by, stop_at}
-use Rattle.raft_laws.specs.NodeEvent.{NodeEvent, Comes, Restarts, after_step, outcome_at, outcome_of_end, outcome_of_step}
+use Rattle.raft_laws.specs.NodeEvent.{Comes, Restarts, after_step, outcome_at, outcome_of_end, outcome_of_step}
 use Rattle.raft_laws.specs.Stop.{stopped_after, unknown_at_stop}
 use Rattle.raft_laws.proofs.StepMoments.{refusals_told}
 use Rattle.raft_laws.proofs.StepOrder.{step-keeps}
-use Rattle.raft_world.specs.Ending.{BreaksAt, ComesTo, EndsAt, IsEndOf, down_of}
+use Rattle.raft_world.specs.Ending.{ComesTo, IsEndOf, down_of}
 use Rattle.raft_world.specs.Member.{HasEnded, HasStopped, IsAt, IsDown, IsLawful, IsUp}
 use Rattle.raft_world.specs.Opening.{IsOpenable}
 use Rattle.raft_world.specs.declared.member.Member.{Member}

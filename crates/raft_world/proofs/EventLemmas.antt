@@ -1,15 +1,14 @@
 -- Events that come to a member.
-use Rattle.std.specs.Prelude.{◌≡◌, ℕ, zero, suc, max, Option, Some, None, List, [], ◌∷◌, take, map, Result, Ok, Err, IfOk, OnErr, OnOk, true, refl}
+use Rattle.std.specs.Prelude.{◌≡◌, ℕ, zero, suc, max, Option, Some, None, [], take, Result, Ok, Err, IfOk, OnErr, refl}
 use Rattle.std.proofs.Common.{sym, ap, ◌∙◌, subst}
-use Rattle.raft_group_step.specs.StoredGroup.{StoredGroup, StoringCommand, Snapshot, after_storing_all}
+use Rattle.raft_group_step.specs.StoredGroup.{StoredGroup, Snapshot, after_storing_all}
 use Rattle.raft_group_step.specs.GroupState.{GroupState}
-use Rattle.raft_group_step.specs.GroupEvent.{GroupCall, GroupEvent, Call, Receive}
+use Rattle.raft_group_step.specs.GroupEvent.{GroupCall, GroupEvent, Call}
 use Rattle.raft_group_step.specs.GroupStep.{group_step, step_unless}
 use Rattle.raft_group_step.specs.Message.{MessageBody}
 use Rattle.raft_group_step.specs.Refusal.{refusal_of}
 use Rattle.raft_group_step.specs.StepResult.{RefusalReason, StepResult, refused_step}
 use Rattle.raft_engine.specs.Events.{HasTaken, given_after, received}
-use Rattle.raft_executor.specs.Sent.{message_of}
 use Rattle.raft_laws.specs.Stop.{stopped_after}
 use Rattle.raft_laws.proofs.StepMoments.{moments_of_calls, moments_of_messages}
 use Rattle.raft_laws.proofs.StepOrder.{step-keeps}

@@ -13,10 +13,9 @@ use Rattle.raft_group_step.specs.GroupEvent.{AddGroup}
 use Rattle.raft_executor.specs.Sent.{message_of}
 use Rattle.raft_settled.specs.World.{led_of}
 use Rattle.raft_laws.specs.NodeEvent.{Comes, outcome_at, state_after}
-use Rattle.raft_laws.specs.GroupWorld.{GroupWorld, NodeState, Absent, Up, Down, Outcome, Done, Refused, Stopped, Skipped, Recorded, is_stop, new_world, state_or, with_node_state}
-use Rattle.raft_laws.specs.GroupRun.{Replays, group_run, history_of, led_after, outcome_of, ran, sent_in, setup_after, stop_at}
+use Rattle.raft_laws.specs.GroupWorld.{GroupWorld, NodeState, Absent, Up, Down, Outcome, Done, Refused, Stopped, Skipped, Recorded, is_stop, new_world, state_or}
+use Rattle.raft_laws.specs.GroupRun.{group_run, history_of, led_after, outcome_of, ran, sent_in, setup_after, stop_at}
 use Rattle.raft_laws.specs.OneList.{AreNodeIds, IsGroupHistory}
-use Rattle.raft_laws.specs.Settled.{group_list}
 use Rattle.raft_laws.proofs.Committed.{applied_holds, committed_holds, snapshot_front}
 use Rattle.raft_laws.proofs.GroupList.{goes_on, is_list, list_grows}
 use Rattle.raft_laws.proofs.Histories.{histories-join}

@@ -1,5 +1,5 @@
 -- What every history of a group has, as members ask it of their states.
-use Rattle.std.specs.Prelude.{◌≡◌, ℕ, zero, suc, ◌+◌, ◌≤◌, ◌<◌, ◌^◌, Bool, true, false, List, [], ◌∷◌, filter, length, slice_get, Option, Some, None, refl}
+use Rattle.std.specs.Prelude.{◌≡◌, ℕ, suc, ◌+◌, ◌≤◌, ◌<◌, ◌^◌, Bool, true, false, List, [], ◌∷◌, filter, length, slice_get, Option, Some, None, refl}
 use Rattle.std.proofs.Common.{sym, ap, ◌∙◌, subst, arith, cond}
 use Rattle.raft_values.specs.declared.log_id.LogId.{LogId}
 use Rattle.raft_values.specs.LogId.{next_place}
@@ -10,10 +10,9 @@ use Rattle.raft_group_step.specs.Lead.{ids_of, other_ids}
 use Rattle.raft_group_step.specs.StepResult.{StepResult, unchanged}
 use Rattle.raft_group_step.specs.Opening.{drop_stale_log, is_joined_to}
 use Rattle.raft_known_state.specs.KnownState.{ArePlaced}
-use Rattle.raft_engine.specs.Events.{IsReady}
 use Rattle.raft_laws.specs.GroupWorld.{GroupWorld, Up, Down, Recorded}
 use Rattle.raft_laws.specs.OneList.{IsGroupHistory}
-use Rattle.raft_laws.specs.Opened.{IsInOrder, opened}
+use Rattle.raft_laws.specs.Opened.{opened}
 use Rattle.raft_laws.specs.VotesRise.{stored_of}
 use Rattle.raft_laws.proofs.FewMembers.{members_few}
 use Rattle.raft_laws.proofs.LowPlaces.{places_low}

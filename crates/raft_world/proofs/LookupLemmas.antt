@@ -1,5 +1,5 @@
 -- What a lookup in a slice gave.
-use Rattle.std.specs.Prelude.{◌≡◌, ◌<◌, ◌≤◌, ℕ, nat_lt, Bool, true, List, length, slice_get, Option, Some, None, IfSome, is_some, refl}
+use Rattle.std.specs.Prelude.{◌≡◌, ◌<◌, ◌≤◌, ℕ, nat_lt, true, List, length, slice_get, Option, Some, None, IfSome, is_some, refl}
 use Rattle.std.specs.List.{slice_index_or as get_or}
 use Rattle.std.specs.Option.{option_copied}
 use Rattle.std.proofs.Common.{Bor, sym, ap, ◌∙◌, arith}

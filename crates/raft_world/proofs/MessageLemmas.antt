@@ -1,10 +1,10 @@
 -- What a message that isn't refused says.
-use Rattle.std.specs.Prelude.{◌≡◌, ℕ, ◌<◌, ◌^◌, true, None, Some, List, ◌∷◌, ◌++◌}
+use Rattle.std.specs.Prelude.{◌≡◌, ℕ, ◌<◌, ◌^◌, true, None, ◌∷◌, ◌++◌}
 use Rattle.raft_values.specs.declared.vote.Vote.{Vote}
 use Rattle.raft_group_step.specs.StoredGroup.{Snapshot}
 use Rattle.raft_group_step.specs.GroupState.{GroupState}
 use Rattle.raft_group_step.specs.Message.{SnapshotRequest}
-use Rattle.raft_group_step.specs.Refusal.{are_in_range, next_blank, numbers_of, numbers_of_id, numbers_of_membership, refusal_of}
+use Rattle.raft_group_step.specs.Refusal.{are_in_range, next_blank, numbers_of, numbers_of_membership, refusal_of}
 use Rattle.raft_engine.specs.Events.{received}
 use Rattle.raft_engine.proofs.RoomLemmas.{first_low, front_low, low_numbers, message_accepted, others_low}
 

@@ -1,6 +1,6 @@
 -- Members by their places.
 use Rattle.std.specs.Prelude.{◌≡◌, ◌==◌, ◌<◌, ◌+◌, ℕ, zero, suc, Bool, true, false, List, [], ◌∷◌, length, slice_get, slice_set as set, Option, Some, None, IfSome, refl}
-use Rattle.std.specs.List.{find, position_from, slice_index_or as get_or}
+use Rattle.std.specs.List.{position_from, slice_index_or as get_or}
 use Rattle.std.proofs.Common.{sym, ap, ◌∙◌, subst, arith, cond}
 use Rattle.std.proofs.lemmas.Bool.{eq-eqb, ne_eqb, eqb-true, eqb-false}
 use Rattle.raft_laws.specs.GroupWorld.{NodeState, Absent, state_or, with_node_state}

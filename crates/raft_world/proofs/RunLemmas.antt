@@ -1,20 +1,16 @@
 -- A step that is stored and sent, in part or whole.
-use Rattle.std.specs.Prelude.{◌≡◌, ℕ, zero, suc, ◌+◌, ◌≤◌, min, Bool, true, false, ◌||◌, is_some, List, [], ◌∷◌, ◌++◌, take, length, map, Option, Some, None, Result, Ok, Err, IfOk, OnErr, refl}
-use Rattle.std.proofs.Common.{sym, ap, ◌∙◌, subst, arith}
+use Rattle.std.specs.Prelude.{◌≡◌, ℕ, zero, suc, Bool, true, false, ◌||◌, is_some, List, [], ◌∷◌, ◌++◌, take, length, Option, Some, None, Result, Ok, Err, OnErr, refl}
+use Rattle.std.proofs.Common.{sym, ap, ◌∙◌}
 use Rattle.raft_values.specs.LogId.{log_id_of}
-use Rattle.raft_group_step.specs.Values.{Entry}
 use Rattle.raft_group_step.specs.StoredGroup.{StoredGroup, StoringCommand, Snapshot, SetSnapshot, after_storing_all}
-use Rattle.raft_group_step.specs.GroupState.{GroupState}
 use Rattle.raft_group_step.specs.StepResult.{StepResult}
-use Rattle.raft_group_step.specs.Frames.{committed_id}
 use Rattle.raft_commands.specs.declared.command.Command.TheVariants.{BecomeLeader, QuitLeader, AppendInputEntries, ReplicateCommitted, Commit}
 use Rattle.raft_commands.specs.declared.command.Command.TheVariants.{Replicate, RebuildReplicationStreams, SaveVote, SendVote, PurgeLog}
 use Rattle.raft_commands.specs.declared.command.Command.TheVariants.{DeleteConflictLog, StateMachine, Respond}
 use Rattle.raft_commands.specs.declared.sm.CommandPayload.{CommandPayload}
 use Rattle.raft_commands.specs.declared.sm.CommandPayload.TheVariants.{BuildSnapshot, GetSnapshot, BeginReceivingSnapshot, InstallFullSnapshot, Apply}
 use Rattle.raft_engine.specs.Commands.{Command, storing_of, storing_of_machine, stored_by, sent_by}
-use Rattle.raft_engine.specs.Standing.{IsStateOf, IsWholeStepOf}
-use Rattle.raft_executor.specs.Sent.{message_of}
+use Rattle.raft_engine.specs.Standing.{IsWholeStepOf}
 use Rattle.raft_executor.specs.Stored.{IsGiven, IsPartStored, first_of, has_snapshot, machine_has_snapshot, queue_has_snapshot}
 use Rattle.raft_laws.specs.Stop.{stopped_after}
 use Rattle.raft_laws.proofs.GroupsStay.{groups_stay}

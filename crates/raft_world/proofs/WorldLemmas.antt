@@ -1,5 +1,5 @@
 -- What an event leaves in the world.
-use Rattle.std.specs.Prelude.{◌≡◌, ℕ, Bool, true, false, List, [], ◌∷◌, ◌++◌, length, map, slice_get, Option, Some, None, is_some, unwrap_or, Result, Ok, Err, Vec, slice_set as set, option_map, refl}
+use Rattle.std.specs.Prelude.{◌≡◌, ℕ, Bool, true, false, List, [], ◌++◌, length, map, slice_get, Option, Some, None, is_some, unwrap_or, Result, Ok, Err, Vec, slice_set as set, option_map, refl}
 use Rattle.std.proofs.Common.{sym, ap, ◌∙◌, subst}
 use Rattle.std.proofs.lemmas.List.{append-nil, map-append}
 use Rattle.std.proofs.lemmas.Option.{slice_get-map}
@@ -12,7 +12,7 @@ use Rattle.raft_group_step.specs.GroupState.{GroupState, Untold, state_of}
 use Rattle.raft_group_step.specs.GroupEvent.{GroupCall, GroupEvent, Call, Receive, Open}
 use Rattle.raft_group_step.specs.GroupStep.{group_step}
 use Rattle.raft_group_step.specs.Refusal.{refusal_of}
-use Rattle.raft_group_step.specs.StepResult.{RefusalReason, StepResult}
+use Rattle.raft_group_step.specs.StepResult.{RefusalReason}
 use Rattle.raft_conditions.specs.Reason.{reason_of}
 use Rattle.raft_conditions.specs.declared.refusal.Refusal.{Refusal}
 use Rattle.raft_executor.specs.Sent.{message_of}
@@ -24,7 +24,7 @@ use Rattle.raft_laws.specs.GroupRun.{Scene, Nowhere, At, after_scene, ended, is_
 use Rattle.raft_laws.specs.NodeEvent.{NodeEvent, Comes, Crashes, Restarts, after_step, outcome_at, outcome_of_end, state_after}
 use Rattle.raft_laws.specs.Stop.{stopped_after, unknown_at_stop}
 use Rattle.raft_settled.specs.World.{led_of}
-use Rattle.raft_world.specs.Ending.{BreaksAt, ComesTo, EndsAt, HasConcluded, IsCut, IsEndOf, IsWorldBut, down_of, first_setup, set_up_with}
+use Rattle.raft_world.specs.Ending.{BreaksAt, EndsAt, HasConcluded, IsCut, IsEndOf, IsWorldBut, down_of, first_setup, set_up_with}
 use Rattle.raft_world.specs.World.{AreNodes, GoesDown, HasBroken, HasCome, HasHappened, IsMarkOf, IsPlace, IsWorldOf, Stops, addressee_of, node_of}
 use Rattle.raft_world.specs.Member.{IsAt}
 use Rattle.raft_world.specs.declared.member.Ended.{Ended}

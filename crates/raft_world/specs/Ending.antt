@@ -1,7 +1,7 @@
 -- What an event left at its member, told of any state that the member was in, and in the world.
-use Rattle.std.specs.Prelude.{◌≡◌, ℕ, Bool, true, false, List, [], ◌++◌, map, Option, Some, None, is_some, unwrap_or, Result, Ok, Err}
+use Rattle.std.specs.Prelude.{◌≡◌, ℕ, true, List, ◌++◌, map, Option, Some, None, is_some, unwrap_or, Result, Ok, Err}
 use Rattle.raft_conditions.specs.Reason.{reason_of}
-use Rattle.raft_group_step.specs.GroupState.{GroupState, Untold}
+use Rattle.raft_group_step.specs.GroupState.{Untold}
 use Rattle.raft_group_step.specs.Values.{Membership}
 use Rattle.raft_executor.specs.Sent.{message_of}
 use Rattle.raft_executor.specs.declared.message.Message.{Message as SentMessage}
@@ -11,7 +11,7 @@ use Rattle.raft_laws.specs.NodeEvent.{NodeEvent, outcome_at, state_after}
 use Rattle.raft_laws.specs.declared.world_event.WorldEvent.{WorldEvent}
 use Rattle.raft_settled.specs.World.{led_of}
 use Rattle.raft_world.specs.Member.{IsAt}
-use Rattle.raft_world.specs.World.{AreNodes, IsMarkOf, IsPlace, IsWorldOf}
+use Rattle.raft_world.specs.World.{AreNodes, IsMarkOf, IsWorldOf}
 use Rattle.raft_world.specs.declared.member.Member.{Member}
 use Rattle.raft_world.specs.declared.member.Ended.{Ended}
 use Rattle.raft_world.specs.declared.member.Ended.TheVariants as end_of

@@ -1,5 +1,5 @@
 -- How a step runs at a member, while its engine is taken out.
-use Rattle.std.specs.Prelude.{◌≡◌, ℕ, true, List, map, Option, Some, None, Result, Ok, Err}
+use Rattle.std.specs.Prelude.{◌≡◌, ℕ, map, Option, Some, None, Result, Ok, Err}
 use Rattle.raft_group_step.specs.StoredGroup.{StoredGroup, Snapshot, after_storing_all}
 use Rattle.raft_group_step.specs.GroupState.{GroupState}
 use Rattle.raft_group_step.specs.GroupEvent.{GroupEvent}

@@ -7,7 +7,7 @@ use Rattle.raft_executor.specs.Sent.{message_of}
 use Rattle.raft_laws.specs.declared.world_event.WorldEvent.{WorldEvent}
 use Rattle.raft_laws.specs.declared.world_event.WorldEvent.TheVariants.{Add, Ask, Deliver, Crash, Restart}
 use Rattle.raft_laws.specs.BallotLists.{AgreeBelow}
-use Rattle.raft_laws.specs.GroupWorld.{GroupWorld, NodeState, Absent, Up, Outcome, Done, Refused, Stopped, Skipped, Recorded, new_world}
+use Rattle.raft_laws.specs.GroupWorld.{GroupWorld, NodeState, Absent, Outcome, Done, Refused, Stopped, Skipped, Recorded, new_world}
 use Rattle.raft_laws.specs.GroupRun.{group_run, history_of, outcome_of, ran}
 use Rattle.raft_laws.specs.VotesRise.{SentVotesKept, VoteKept}
 use Rattle.raft_laws.specs.OneList.{AppliedIsHeld, CommittedIsHeld, IsGroupHistory, LeadersHold, LogIdsAgree, SnapshotsAreListed}

@@ -1,5 +1,5 @@
-use Rattle.std.specs.Prelude.{◌≡◌, true, false, [], ◌∷◌, None, refl}
-use Rattle.std.proofs.Common.{sym, ap, ◌∙◌, ⊎_elim}
+use Rattle.std.specs.Prelude.{◌≡◌, true, false, refl}
+use Rattle.std.proofs.Common.{ap, ◌∙◌, ⊎_elim}
 use Rattle.raft_values.specs.Vote.{vote_of}
 use Rattle.raft_group_step.specs.Message.{Message}
 use Rattle.raft_group_step.specs.StoredGroup.{StoredGroup}

@@ -1,6 +1,6 @@
 -- A change that isn't refused has a membership to change, makes a valid one, and has room.
-use Rattle.std.proofs.Common.{Some, None, MatchOption, ap, sym, ◌∙◌, ◌≡◌, subst, false, true}
-use Rattle.raft_group_step.specs.Values.{LoggedMembership, Membership, after_change, is_valid}
+use Rattle.std.proofs.Common.{Some, MatchOption, ap, sym, ◌∙◌, ◌≡◌, subst, false, true}
+use Rattle.raft_group_step.specs.Values.{after_change, is_valid}
 use Rattle.raft_group_step.specs.StoredGroup.{membership_in_force}
 use Rattle.raft_stored_group.specs.Stored.{logged_or_none}
 use Rattle.raft_world.proofs.CallLemmas.{change_is_valid, has_membership, has_room_when_ready, none_both}

@@ -1,5 +1,5 @@
 -- A refused event changes nothing, and stores nothing where it stops.
-use Rattle.std.proofs.Common.{sym, ap, ◌∙◌, refl}
+use Rattle.std.proofs.Common.{sym, ◌∙◌}
 use Rattle.raft_conditions.specs.Reason.{reason_of}
 use Rattle.raft_world.proofs.RunLemmas.{no_stop, some_stop}
 use Rattle.raft_world.proofs.EventLemmas.{down_as_refused, up_again}

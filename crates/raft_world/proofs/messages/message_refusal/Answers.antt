@@ -1,6 +1,5 @@
 -- Each kind of message is judged by its own conditions.
 use Rattle.std.proofs.Common.{◌≡◌, option_map, sym, ap, ◌∙◌, subst}
-use Rattle.raft_group_step.specs.StoredGroup.{Snapshot}
 use Rattle.raft_group_step.specs.GroupEvent.{Receive}
 use Rattle.raft_group_step.specs.Message.{SnapshotRequest}
 use Rattle.raft_group_step.specs.Refusal.{refusal_of}

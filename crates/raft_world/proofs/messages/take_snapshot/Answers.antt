@@ -1,5 +1,5 @@
 -- A snapshot that isn't refused has a low last place.
-use Rattle.std.proofs.Common.{◌≡◌, ℕ, ◌<◌, ◌^◌, ap, sym, ◌∙◌, arith}
+use Rattle.std.proofs.Common.{◌≡◌, ℕ, ap, sym, ◌∙◌, arith}
 use Rattle.raft_values.specs.declared.log_id.LogId.{LogId}
 use Rattle.raft_world.proofs.MessageLemmas.{snapshot_is_low}
 use Rattle.raft_world.proofs.messages.take_snapshot.Goals as goal

@@ -1,7 +1,6 @@
-use Rattle.std.proofs.Common.{◌∙◌, ap, refl, None}
+use Rattle.std.proofs.Common.{◌∙◌, refl, None}
 use Rattle.std.specs.Prelude.{Some}
 use Rattle.std.proofs.lemmas.Result.{on_ok_weaker}
-use Rattle.raft_commands.specs.Output.{Output}
 use Rattle.raft_commands.specs.declared.command.Command.TheVariants.{Respond}
 use Rattle.raft_commands.specs.declared.respond.Respond.TheVariants.{InstallFullSnapshot}
 use Rattle.raft_group_step.specs.Message.{SnapshotReply, Numbered}

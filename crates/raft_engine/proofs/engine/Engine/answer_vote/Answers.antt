@@ -1,4 +1,4 @@
-use Rattle.std.proofs.Common.{◌≡◌, ◌∙◌, ap, sym, refl}
+use Rattle.std.proofs.Common.{◌∙◌, refl}
 use Rattle.std.specs.Prelude.{None}
 use Rattle.raft_commands.specs.declared.command.Command.TheVariants.{Respond}
 use Rattle.raft_commands.specs.declared.respond.Respond.TheVariants.{Vote as ToVote}

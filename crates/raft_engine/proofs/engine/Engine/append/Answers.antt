@@ -1,5 +1,5 @@
 -- The leader's last log id is the log's, and its entry goes behind it.
-use Rattle.std.proofs.Common.{◌≡◌, ◌∙◌, ap, sym, subst, refl, ◌++◌, ◌∷◌, []}
+use Rattle.std.proofs.Common.{◌∙◌, ap, sym, subst, refl, ◌++◌, ◌∷◌, []}
 use Rattle.std.specs.Prelude.{ℕ, nat_eq}
 use Rattle.std.proofs.lemmas.Result.{on_ok_weaker}
 use Rattle.raft_values.specs.LogId.{next_place}

@@ -1,7 +1,6 @@
 -- Where the leader has written an entry already, nothing is appended.
-use Rattle.std.proofs.Common.{◌≡◌, ◌∙◌, ap, sym, subst, true, false, ℕ}
+use Rattle.std.proofs.Common.{◌≡◌, ◌∙◌, ap, sym, true, false, ℕ}
 use Rattle.std.specs.List.{list_any}
-use Rattle.std.proofs.lemmas.Result.{on_ok_weaker}
 use Rattle.raft_values.specs.declared.vote.Vote.{Vote}
 use Rattle.raft_group_step.specs.Values.{is_written_by}
 use Rattle.raft_engine.proofs.engine.Engine.append_blank.Goals as goal

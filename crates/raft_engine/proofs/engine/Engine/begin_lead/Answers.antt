@@ -1,13 +1,12 @@
 -- The vote is committed and stored, and the lead begins with a blank entry.
-use Rattle.std.proofs.Common.{◌≡◌, ◌∙◌, ap, sym, subst, refl, ◌++◌, ◌∷◌, [], true, List, ℕ}
+use Rattle.std.proofs.Common.{◌≡◌, ◌∙◌, ap, sym, subst, refl, ◌++◌, ◌∷◌, [], true, ℕ}
 use Rattle.std.specs.Prelude.{Some}
 use Rattle.raft_values.specs.declared.vote.Vote.{Vote}
-use Rattle.raft_state.specs.declared.raft_state.RaftState.{RaftState}
 use Rattle.raft_commands.specs.Output.{Output}
 use Rattle.raft_commands.specs.declared.command.Command.TheVariants.{BecomeLeader}
 use Rattle.raft_group_step.specs.Lead.{committed_vote, new_lead}
 use Rattle.raft_group_step.specs.StepResult.{in_role, store_vote}
-use Rattle.raft_group_step.specs.GroupState.{Leader, Candidate}
+use Rattle.raft_group_step.specs.GroupState.{Leader}
 use Rattle.raft_known_state.specs.KnownState.{KnownState}
 use Rattle.raft_engine.specs.Standing.{PlaysRole}
 use Rattle.raft_engine.proofs.LeaderLemmas.{lead_begun, stands_own}

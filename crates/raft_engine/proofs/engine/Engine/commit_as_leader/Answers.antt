@@ -1,5 +1,5 @@
 -- The greatest log id that may be committed tells the place.
-use Rattle.std.proofs.Common.{◌≡◌, ◌∙◌, ap, sym, subst, OnOk, ℕ}
+use Rattle.std.proofs.Common.{◌∙◌, ap, sym, subst, OnOk, ℕ}
 use Rattle.raft_quorums.specs.Quorum.{is_quorum}
 use Rattle.raft_commands.specs.declared.engine_config.EngineConfig.{EngineConfig}
 use Rattle.raft_group_step.specs.StepResult.{apply_up_to}

@@ -2,7 +2,6 @@
 use Rattle.std.proofs.Common.{◌≡◌, ◌∙◌, ap, sym, refl, true, false, None}
 use Rattle.std.specs.Prelude.{Some, [], ◌∷◌, is_some}
 use Rattle.std.proofs.lemmas.Result.{on_ok_weaker}
-use Rattle.raft_commands.specs.Output.{Output}
 use Rattle.raft_commands.specs.declared.command.Command.TheVariants.{DeleteConflictLog}
 use Rattle.raft_group_step.specs.StoredGroup.{CutFrom, entry_at, id_at}
 use Rattle.raft_engine.proofs.PlacedEntries.{entry_of_id, id_of_place}

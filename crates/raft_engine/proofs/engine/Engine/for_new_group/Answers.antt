@@ -1,5 +1,5 @@
 -- What was loaded is the new group, and the engine begins with it.
-use Rattle.std.proofs.Common.{◌≡◌, ◌∙◌, ap, sym, subst, refl}
+use Rattle.std.proofs.Common.{◌∙◌, ap, sym, subst, refl}
 use Rattle.raft_known_state.specs.KnownState.{KnownState, Knows}
 use Rattle.raft_engine.proofs.NewGroupLemmas.{new_group, ready, stands}
 use Rattle.raft_engine.proofs.engine.Engine.for_new_group.Goals as goal

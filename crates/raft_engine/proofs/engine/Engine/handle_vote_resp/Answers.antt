@@ -5,7 +5,7 @@ use Rattle.raft_group_step.specs.Message.{VoteReply}
 use Rattle.raft_group_step.specs.VoteReply.{vote_reply_step}
 use Rattle.raft_group_step.specs.GroupStep.{begun}
 use Rattle.raft_group_step.specs.Refusal.{next_blank, numbers_of}
-use Rattle.raft_engine.specs.Events.{received, tells_greater_log}
+use Rattle.raft_engine.specs.Events.{tells_greater_log}
 use Rattle.raft_engine.specs.Standing.{given}
 use Rattle.raft_engine.proofs.EventLemmas.{step_begun, told_taken, untold_taken}
 use Rattle.raft_engine.proofs.NewLeadLemmas.{ready_leads, reply_finishes}

@@ -1,11 +1,9 @@
 -- Learners are no voters, and of no peer anything is known.
-use Rattle.std.proofs.Common.{◌≡◌, ◌∙◌, ◌<◌, ◌^◌, ap, sym, subst, arith}
+use Rattle.std.proofs.Common.{◌∙◌, ap, arith}
 use Rattle.std.specs.Ordering.{nat_cmp}
-use Rattle.std.specs.List.{list_any}
 use Rattle.raft_values.specs.LogId.{next_place}
-use Rattle.raft_quorums.specs.Nodes.{has_id}
 use Rattle.std.specs.Prelude.{nat_eq}
-use Rattle.raft_membership.specs.Membership.{learner_ids, voter_ids}
+use Rattle.raft_membership.specs.Membership.{learner_ids}
 use Rattle.raft_state.specs.LogIdList.{last_id}
 use Rattle.raft_engine.proofs.LastIdLemmas.{last_of_leader}
 use Rattle.raft_engine.proofs.LeaderLemmas.{begins, end_of_log, last_of_log}

@@ -1,8 +1,8 @@
 -- A leader purges what it wished to, unless a request needs it.
-use Rattle.std.proofs.Common.{◌≡◌, ◌∙◌, ap, sym, subst, refl, true, false, not, OnOk, None}
+use Rattle.std.proofs.Common.{◌∙◌, ap, sym, subst, refl, true, false, not, OnOk, None}
 use Rattle.raft_group_step.specs.Lead.{with_wish}
 use Rattle.raft_engine.specs.Standing.{IsStepOf}
-use Rattle.raft_engine.proofs.PurgeLemmas.{as_wished, lead_now, nothing_wished, others_wait, wish_is, wished}
+use Rattle.raft_engine.proofs.PurgeLemmas.{as_wished, lead_now, others_wait, wish_is, wished}
 use Rattle.raft_engine.proofs.engine.Engine.purge_as_wished.Goals as goal
 
 pub returns : goal.returns

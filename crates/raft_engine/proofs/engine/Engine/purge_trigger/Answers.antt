@@ -1,5 +1,5 @@
 -- As far as the snapshot goes.
-use Rattle.std.proofs.Common.{◌≡◌, ◌<◌, ◌∙◌, ap, sym, subst, true, false, not, nat_lt, if◌then◌else◌, OnOk, Some}
+use Rattle.std.proofs.Common.{◌<◌, ◌∙◌, ap, sym, subst, not, nat_lt, if◌then◌else◌, OnOk, Some}
 use Rattle.raft_values.specs.LogId.{next_place}
 use Rattle.raft_group_step.specs.StoredGroup.{first_place, snapshot_last}
 use Rattle.raft_group_step.specs.StepResult.{later_place}

@@ -1,5 +1,5 @@
 -- The entry at the place goes, and those before it.
-use Rattle.std.proofs.Common.{◌≡◌, ◌<◌, ◌∙◌, ap, sym, subst, refl, arith, true, false}
+use Rattle.std.proofs.Common.{◌≡◌, ◌<◌, ◌∙◌, sym, subst, refl, arith}
 use Rattle.std.proofs.lemmas.Result.{on_ok_weaker}
 use Rattle.raft_group_step.specs.StoredGroup.{end_place}
 use Rattle.raft_engine.specs.Standing.{IsStepOf}

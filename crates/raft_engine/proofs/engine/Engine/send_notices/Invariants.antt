@@ -1,6 +1,5 @@
 -- The nodes so far are told.
 use Rattle.std.proofs.Common.{◌≡◌, ℕ, take}
-use Rattle.raft_group_step.specs.StoredGroup.{Snapshot}
 use Rattle.raft_group_step.specs.GroupState.{Lead, Leader}
 use Rattle.raft_group_step.specs.StepResult.{StepResult}
 use Rattle.raft_group_step.specs.Heartbeat.{send_notices}

@@ -1,5 +1,5 @@
 -- The request leaves, and the peer's entry waits for its answer.
-use Rattle.std.proofs.Common.{◌+◌, ◌≤◌, ◌^◌, refl, ap, subst, arith}
+use Rattle.std.proofs.Common.{◌+◌, ◌≤◌, ◌^◌, refl, subst, arith}
 use Rattle.std.proofs.lemmas.Result.{on_ok_weaker}
 use Rattle.raft_group_step.specs.Peer.{PeerState}
 use Rattle.raft_group_step.specs.Lead.{peer_of}

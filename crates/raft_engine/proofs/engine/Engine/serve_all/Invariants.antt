@@ -2,7 +2,7 @@
 use Rattle.std.proofs.Common.{◌≡◌, ℕ, take, length, true}
 use Rattle.std.specs.List.{list_all}
 use Rattle.raft_group_step.specs.Values.{has_id}
-use Rattle.raft_group_step.specs.StoredGroup.{Snapshot, membership_in_force}
+use Rattle.raft_group_step.specs.StoredGroup.{membership_in_force}
 use Rattle.raft_group_step.specs.StepResult.{StepResult}
 use Rattle.raft_group_step.specs.Lead.{ids_of}
 use Rattle.raft_group_step.specs.Frames.{serve_all}

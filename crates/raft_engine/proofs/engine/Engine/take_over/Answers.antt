@@ -1,6 +1,5 @@
 use Rattle.std.proofs.Common.{◌≡◌, ◌∙◌, ap, sym, refl, true, false}
 use Rattle.std.specs.Prelude.{Some}
-use Rattle.raft_known_state.specs.KnownState.{KnownState}
 use Rattle.raft_group_step.specs.Values.{vote_lt}
 use Rattle.raft_group_step.specs.StepResult.{step_down}
 use Rattle.raft_engine.proofs.StandingLemmas.{vote_renewed}

@@ -1,5 +1,5 @@
 -- The engine is handed the message, and its queue is stored and sent.
-use Rattle.std.proofs.Common.{◌≡◌, Some, sym, ap, ◌∙◌, subst}
+use Rattle.std.proofs.Common.{sym, subst}
 use Rattle.raft_group_step.specs.GroupStep.{group_step}
 use Rattle.raft_engine.specs.Events.{HasTaken, MayTake, received}
 use Rattle.raft_executor.specs.Sent.{body_of}

@@ -1,5 +1,5 @@
 -- A group that is there isn't added again, and nothing is stored of that.
-use Rattle.std.proofs.Common.{true, not, sym, ap, ◌∙◌}
+use Rattle.std.proofs.Common.{not, sym, ap, ◌∙◌}
 use Rattle.raft_group_step.specs.GroupEvent.{AddGroup}
 use Rattle.raft_group_step.specs.Refusal.{first_of_reasons, unless}
 use Rattle.raft_group_step.specs.StepResult.{GroupExists}

@@ -1,14 +1,13 @@
 -- A snapshot is built of what is applied, and else the engine had nothing to build.
-use Rattle.std.proofs.Common.{◌≡◌, ℕ, ◌∷◌, ◌++◌, [], Bool, true, false, Option, Some, None, option_map, sym, ap, ◌∙◌, subst}
+use Rattle.std.proofs.Common.{◌≡◌, ℕ, true, false, Some, None, option_map, sym, ap, ◌∙◌, subst}
 use Rattle.raft_values.specs.LogId.{stands_before}
-use Rattle.raft_group_step.specs.StoredGroup.{Snapshot, entry_at, id_of}
+use Rattle.raft_group_step.specs.StoredGroup.{entry_at, id_of}
 use Rattle.raft_group_step.specs.GroupState.{GroupState}
 use Rattle.raft_group_step.specs.GroupEvent.{Call}
 use Rattle.raft_group_step.specs.GroupStep.{group_step}
 use Rattle.raft_group_step.specs.SnapshotTrigger.{snapshot_at}
 use Rattle.raft_group_step.specs.declared.group_call.GroupCall.TheVariants.{TriggerSnapshot}
-use Rattle.raft_commands.specs.Output.{following_seq}
-use Rattle.raft_engine.specs.Building.{asking, build_command, covered_id}
+use Rattle.raft_engine.specs.Building.{covered_id}
 use Rattle.raft_engine.specs.Events.{HasTaken, MayTake}
 use Rattle.raft_engine.specs.Standing.{IsStateOf}
 use Rattle.raft_engine.proofs.BuildingLemmas.{stands_asking}

@@ -1,6 +1,5 @@
 use Rattle.std.proofs.Common.{◌∙◌}
 use Rattle.raft_world.specs.Ending.{down_of}
-use Rattle.raft_world.specs.World.{AreNodes}
 use Rattle.raft_laws.specs.GroupWorld.{with_node_state}
 use Rattle.std.proofs.Common.{subst}
 use Rattle.raft_world.specs.Member.{IsAt}
