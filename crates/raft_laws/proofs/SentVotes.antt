@@ -65,83 +65,84 @@ tells_so own vote (x ∷ ms) m h a =
 
 -- ---- words that store no vote and send nothing
 
-record Of (Q : Vote ℕ → List Message → Type 0) (r : StepResult) : Type 0 where
+-- it holds of the vote that a step has stored so far, and of what it has sent
+record HoldsOf (Q : Vote ℕ → List Message → Type 0) (r : StepResult) : Type 0 where
   holds : Q r.state.stored.vote r.messages
 
 module _ (Q : Vote ℕ → List Message → Type 0) where
-  pass : (r q : StepResult) → q.state.stored.vote ≡ r.state.stored.vote → q.messages ≡ r.messages → Of Q r → Of Q q
+  pass : (r q : StepResult) → q.state.stored.vote ≡ r.state.stored.vote → q.messages ≡ r.messages → HoldsOf Q r → HoldsOf Q q
   pass r q v m h = record { holds = subst (λ x. Q x q.messages) (sym v) (subst (Q r.state.stored.vote) (sym m) h.holds) }
 
-  cut_from-quiet : (i : ℕ) (r : StepResult) → Of Q r → Of Q (cut_from i r)
-  cut_from-quiet i r h = either (Of Q) _ _ _ (pass r (store (CutFrom i) r) refl refl h) h
+  cut_from-quiet : (i : ℕ) (r : StepResult) → HoldsOf Q r → HoldsOf Q (cut_from i r)
+  cut_from-quiet i r h = either (HoldsOf Q) _ _ _ (pass r (store (CutFrom i) r) refl refl h) h
 
-  cut_at-quiet : (id : Option (LogId ℕ)) (r : StepResult) → Of Q r → Of Q (cut_at id r)
+  cut_at-quiet : (id : Option (LogId ℕ)) (r : StepResult) → HoldsOf Q r → HoldsOf Q (cut_at id r)
   cut_at-quiet None r h = h
   cut_at-quiet (Some id) r h = cut_from-quiet id.index r h
 
-  put-quiet : (es : List Entry) (r : StepResult) → Of Q r → Of Q (put_entries es r)
+  put-quiet : (es : List Entry) (r : StepResult) → HoldsOf Q r → HoldsOf Q (put_entries es r)
   put-quiet [] r h = h
   put-quiet (e ∷ es) r h = pass (cut_from e.log_id.index r) _ refl refl (cut_from-quiet e.log_id.index r h)
 
-  cut_other-quiet : (last : LogId ℕ) (r : StepResult) → Of Q r → Of Q (cut_other last r)
+  cut_other-quiet : (last : LogId ℕ) (r : StepResult) → HoldsOf Q r → HoldsOf Q (cut_other last r)
   cut_other-quiet last r h =
-      either (Of Q) _ _ _ h (either (Of Q) _ _ _ (cut_from-quiet (place_above r.state.committed) r h) h)
+      either (HoldsOf Q) _ _ _ h (either (HoldsOf Q) _ _ _ (cut_from-quiet (place_above r.state.committed) r h) h)
 
-  install-quiet : (b : Bool) (x : Snapshot) (r : StepResult) → Of Q r → Of Q (install_unless b x r)
+  install-quiet : (b : Bool) (x : Snapshot) (r : StepResult) → HoldsOf Q r → HoldsOf Q (install_unless b x r)
   install-quiet true x r h = h
   install-quiet false x r h = pass (cut_other x.last r) _ refl refl (cut_other-quiet x.last r h)
 
-  remove-quiet : (id : Option (LogId ℕ)) (r : StepResult) → Of Q r → Of Q (remove_up_to id r)
+  remove-quiet : (id : Option (LogId ℕ)) (r : StepResult) → HoldsOf Q r → HoldsOf Q (remove_up_to id r)
   remove-quiet None r h = h
   remove-quiet (Some id) r h = pass r _ refl refl h
 
-  answered-quiet : (peer : ℕ) (m : ReplyFields) (role : Role) (r : StepResult) → Of Q r → Of Q (answered peer m role r)
+  answered-quiet : (peer : ℕ) (m : ReplyFields) (role : Role) (r : StepResult) → HoldsOf Q r → HoldsOf Q (answered peer m role r)
   answered-quiet peer m Follower r h = h
   answered-quiet peer m (Candidate g) r h = h
   answered-quiet peer m (Leader lead) r h =
-      either (Of Q) _ _ _ (pass r (with_peer_state (after_answer (peer_of lead peer) m m.outcome) lead r) refl refl h) h
+      either (HoldsOf Q) _ _ _ (pass r (with_peer_state (after_answer (peer_of lead peer) m m.outcome) lead r) refl refl h) h
 
-  changed-quiet : (m : Option LoggedMembership) (c : ChangeMembers) (token : ℕ) (r : StepResult) → Of Q r → Of Q (append_changed m c token r)
+  changed-quiet : (m : Option LoggedMembership) (c : ChangeMembers) (token : ℕ) (r : StepResult) → HoldsOf Q r → HoldsOf Q (append_changed m c token r)
   changed-quiet None c token r h = h
   changed-quiet (Some m) c token r h = pass r _ refl refl h
 
-  lost-quiet : (peer : ℕ) (role : Role) (r : StepResult) → Of Q r → Of Q (lost_as peer role r)
+  lost-quiet : (peer : ℕ) (role : Role) (r : StepResult) → HoldsOf Q r → HoldsOf Q (lost_as peer role r)
   lost-quiet peer Follower r h = h
   lost-quiet peer (Candidate g) r h = h
-  lost-quiet peer (Leader lead) r h = either (Of Q) _ _ _ (pass r (with_peer_state (ended (peer_of lead peer)) lead r) refl refl h) h
+  lost-quiet peer (Leader lead) r h = either (HoldsOf Q) _ _ _ (pass r (with_peer_state (ended (peer_of lead peer)) lead r) refl refl h) h
 
-  snapshot_at-quiet : (id : Option (LogId ℕ)) (r : StepResult) → Of Q r → Of Q (store_snapshot_at id r)
+  snapshot_at-quiet : (id : Option (LogId ℕ)) (r : StepResult) → HoldsOf Q r → HoldsOf Q (store_snapshot_at id r)
   snapshot_at-quiet None r h = h
   snapshot_at-quiet (Some id) r h = pass r _ refl refl h
 
-  snapshot-quiet : (a : Option ℕ) (r : StepResult) → Of Q r → Of Q (snapshot_of_applied a r)
+  snapshot-quiet : (a : Option ℕ) (r : StepResult) → HoldsOf Q r → HoldsOf Q (snapshot_of_applied a r)
   snapshot-quiet None r h = h
-  snapshot-quiet (Some a) r h = either (Of Q) _ _ _ h (snapshot_at-quiet _ r h)
+  snapshot-quiet (Some a) r h = either (HoldsOf Q) _ _ _ h (snapshot_at-quiet _ r h)
 
-  purge_as-quiet : (i : ℕ) (role : Role) (r : StepResult) → Of Q r → Of Q (purge_as i role r)
+  purge_as-quiet : (i : ℕ) (role : Role) (r : StepResult) → HoldsOf Q r → HoldsOf Q (purge_as i role r)
   purge_as-quiet i Follower r h = remove-quiet _ r h
   purge_as-quiet i (Candidate g) r h = remove-quiet _ r h
-  purge_as-quiet i (Leader lead) r h = either (Of Q) _ _ _ h (pass r (with_wish (later_place r.state.wish (Some i)) r) refl refl h)
+  purge_as-quiet i (Leader lead) r h = either (HoldsOf Q) _ _ _ h (pass r (with_wish (later_place r.state.wish (Some i)) r) refl refl h)
 
-  purge_within-quiet : (i : ℕ) (last : Option (LogId ℕ)) (r : StepResult) → Of Q r → Of Q (purge_within i last r)
+  purge_within-quiet : (i : ℕ) (last : Option (LogId ℕ)) (r : StepResult) → HoldsOf Q r → HoldsOf Q (purge_within i last r)
   purge_within-quiet i None r h = h
   purge_within-quiet i (Some last) r h = purge_as-quiet _ r.state.role r h
 
-  drop-quiet : (last : Option (LogId ℕ)) (r : StepResult) → Of Q r → Of Q (drop_stale_log last r)
+  drop-quiet : (last : Option (LogId ℕ)) (r : StepResult) → HoldsOf Q r → HoldsOf Q (drop_stale_log last r)
   drop-quiet None r h = h
-  drop-quiet (Some last) r h = either (Of Q) _ _ _ h (pass r (store (StartAfter last) r) refl refl h)
+  drop-quiet (Some last) r h = either (HoldsOf Q) _ _ _ h (pass r (store (StartAfter last) r) refl refl h)
 
-  commit-quiet : (own : ℕ) (role : Role) (r : StepResult) → Of Q r → Of Q (commit_as_leader own role r)
+  commit-quiet : (own : ℕ) (role : Role) (r : StepResult) → HoldsOf Q r → HoldsOf Q (commit_as_leader own role r)
   commit-quiet own Follower r h = h
   commit-quiet own (Candidate g) r h = h
   commit-quiet own (Leader lead) r h = pass r _ refl refl h
 
-  wished-quiet : (role : Role) (wish : Option ℕ) (r : StepResult) → Of Q r → Of Q (purge_as_wished role wish r)
+  wished-quiet : (role : Role) (wish : Option ℕ) (r : StepResult) → HoldsOf Q r → HoldsOf Q (purge_as_wished role wish r)
   wished-quiet Follower wish r h = h
   wished-quiet (Candidate g) wish r h = h
   wished-quiet (Leader lead) None r h = h
   wished-quiet (Leader lead) (Some place) r h =
-      either (Of Q) _ _ _ h (remove-quiet (id_of (entry_at r.state.stored place)) (with_wish None r) (pass r (with_wish None r) refl refl h))
+      either (HoldsOf Q) _ _ _ h (remove-quiet (id_of (entry_at r.state.stored place)) (with_wish None r) (pass r (with_wish None r) refl refl h))
 
 -- ---- words that store a vote or send
 
@@ -151,7 +152,7 @@ Took own v vote ms = AllTell own vote ms × (vote_lt vote v ≡ false)
 
 module _ (own : ℕ) where
   abbrev Tells : StepResult → Type 0
-  Tells r = Of (AllTell own) r
+  Tells r = HoldsOf (AllTell own) r
 
   send-tells : (peer : ℕ) (b : MessageBody) (r : StepResult) → Tells r → vote_lt r.state.stored.vote (own_vote b) ≡ false → Tells (send own peer b r)
   send-tells peer b r h low = record { holds = tell_more own r.state.stored.vote r.messages _ h.holds refl low }
@@ -170,9 +171,9 @@ module _ (own : ℕ) where
   greater-tells v r h =
       either_by Tells _ _ _ (λ t. store_vote-tells v (step_down r) (down-tells r h) (not_below r.state.stored.vote v t)) (λ t. h)
 
-  take_over-took : (v : Vote ℕ) (r : StepResult) → Tells r → Of (Took own v) (take_over v r)
+  take_over-took : (v : Vote ℕ) (r : StepResult) → Tells r → HoldsOf (Took own v) (take_over v r)
   take_over-took v r h =
-      either_by (Of (Took own v)) _ _ _
+      either_by (HoldsOf (Took own v)) _ _ _
       (λ t. record {
         holds = ((store_vote-tells v (step_down r) (down-tells r h) (not_below r.state.stored.vote v t)).holds, not_below_itself v);
       })
@@ -224,7 +225,7 @@ module _ (own : ℕ) where
   took_sends : (peer : ℕ) (b : MessageBody) (v : Vote ℕ) (r : StepResult) → own_vote b ≡ v → Took own v r.state.stored.vote r.messages → Tells (send own peer b r)
   took_sends peer b v r is h = send-tells peer b r (record { holds = h.0 }) (ap (vote_lt r.state.stored.vote) is ∙ h.1)
 
-  joined-tells : (peer : ℕ) (m : AppendFields) (b : Bool) (r : StepResult) → Of (Took own m.vote) r → Tells (joined own peer m b r)
+  joined-tells : (peer : ℕ) (m : AppendFields) (b : Bool) (r : StepResult) → HoldsOf (Took own m.vote) r → Tells (joined own peer m b r)
   joined-tells peer m true r h =
       let fresh = missing_entries r.state.stored (above_committed r.state.committed m.entries) in
       took_sends peer _ m.vote _ refl (put-quiet (Took own m.vote) fresh r h).holds
