@@ -9,23 +9,24 @@ use Rattle.raft_group_step.specs.Values.{has_id}
 use Rattle.raft_group_step.specs.GroupState.{GroupState, no_group, state_of}
 use Rattle.raft_laws.specs.declared.world_event.WorldEvent.{WorldEvent}
 use Rattle.raft_laws.specs.declared.world_event.WorldEvent.TheVariants.{Add}
-use Rattle.raft_group_step.specs.GroupEvent.{AddGroup}
+use Rattle.raft_group_step.specs.GroupEvent.{AddGroup, Open}
 use Rattle.raft_executor.specs.Sent.{message_of}
 use Rattle.raft_settled.specs.World.{led_of}
-use Rattle.raft_laws.specs.NodeEvent.{Comes, outcome_at, state_after}
+use Rattle.raft_laws.specs.NodeEvent.{NodeEvent, Comes, Crashes, Restarts, outcome_at, state_after}
 use Rattle.raft_laws.specs.GroupWorld.{GroupWorld, NodeState, Absent, Up, Down, Outcome, Done, Refused, Stopped, Skipped, Recorded, is_stop, new_world, state_or}
-use Rattle.raft_laws.specs.GroupRun.{group_run, history_of, led_after, outcome_of, ran, sent_in, setup_after, stop_at}
+use Rattle.raft_laws.specs.GroupRun.{Scene, Nowhere, At, group_run, history_of, led_after, outcome_of, ran, scene_of, sent_in, setup_after, stop_at}
 use Rattle.raft_laws.specs.OneList.{AreNodeIds, IsGroupHistory}
 use Rattle.raft_laws.proofs.Committed.{applied_holds, committed_holds, snapshot_front}
 use Rattle.raft_laws.proofs.GroupList.{goes_on, is_list, list_grows}
 use Rattle.raft_laws.proofs.Histories.{histories-join}
 use Rattle.raft_laws.proofs.ListLaws.{leaders_hold, log_ids_agree}
 use Rattle.raft_laws.proofs.Runs.{run-replays}
+use Rattle.raft_laws.proofs.StepOrder.{step-keeps}
 use Rattle.raft_laws.proofs.SentVotes.{sent_votes_stay}
 use Rattle.raft_laws.proofs.VotesRise.{votes_rise}
 use Rattle.raft_laws.proofs.WorldStart.{founded}
 use Rattle.raft_world.specs.Member.{IsUp}
-use Rattle.raft_world.specs.World.{AreMarks, AreNodes, All, Broke, HasBroken, HasMarked, HasRunEvents, IsNodeAt, IsWorldOf, KeepsTheLaws, RunEnd, additions, begun_world, last_of, member_of, planned_of, rest_of}
+use Rattle.raft_world.specs.World.{AllStoreRightly, AreMarks, AreNodes, All, Broke, HasBroken, HasMarked, HasRunEvents, IsNodeAt, IsWorldOf, KeepsTheLaws, RunEnd, StoresRightly, StoresRightlyIn, additions, begun_world, last_of, member_of, planned_of, rest_of}
 use Rattle.raft_world.specs.declared.member.Member.{Member}
 use Rattle.raft_world.specs.declared.world.Mark.{Mark}
 use Rattle.raft_world.specs.declared.world.World.{World}
@@ -58,6 +59,24 @@ laws_kept ids rs g h =
       sent_votes = sent_votes_stay ids rs g h.replays;
     }
 
+-- each step stores in order
+stores_rightly : (n : ℕ) (e : NodeEvent) (state : NodeState) → StoresRightly n e state
+stores_rightly n e Absent = tt
+stores_rightly n (Comes e) (Up s) = step-keeps n s e
+stores_rightly n Crashes (Up s) = tt
+stores_rightly n Restarts (Up s) = tt
+stores_rightly n (Comes e) (Down stored) = tt
+stores_rightly n Crashes (Down stored) = tt
+stores_rightly n Restarts (Down stored) = step-keeps n (state_of stored) Open
+
+stores_rightly_in : (g : GroupWorld) (scene : Scene) → StoresRightlyIn g scene
+stores_rightly_in g Nowhere = tt
+stores_rightly_in g (At n e) = stores_rightly n e (g.nodes n)
+
+all_store_rightly : (es : List (WorldEvent × Option ℕ)) (g : GroupWorld) → AllStoreRightly es g
+all_store_rightly [] g = tt
+all_store_rightly (e ∷ es) g = (stores_rightly_in g (scene_of g e.0), all_store_rightly es (ran g e.0 e.1))
+
 -- however far they were run, the laws hold
 pub has_run : (ids : List ℕ) (rs : List Recorded) (g : GroupWorld) (events : List PlannedEvent) (count : ℕ) (w : World) → IsGroupHistory ids rs g → (end : RunEnd events count (group_run (map planned_of (take count events)) g))
     → IsWorldOf w (group_run (map planned_of (take count events) ++ rest_of end) g) → HasRunEvents ids rs g events count w
@@ -75,6 +94,7 @@ has_run ids rs g events count w h end world =
         list = list_grows g last (goes_on (history_of es g) g last (run-replays es g)) (founded ids h.node_ids rs g h.replays) f;
         votes = votes_rise g last (history_of es g) (run-replays es g);
       };
+      stores = all_store_rightly es g;
     }
 
 pub run_all : (ids : List ℕ) (rs : List Recorded) (g : GroupWorld) (events : List PlannedEvent) (count : ℕ) (w : World) → IsGroupHistory ids rs g → count ≡ length events
@@ -327,4 +347,5 @@ run_with_marks ids rs g events count w marks h = record {
   history = h.history;
   laws = h.laws;
   goes_on = h.goes_on;
+  stores = h.stores;
 }

@@ -2,14 +2,19 @@
 use Rattle.std.specs.Prelude.{◌≡◌, ◌==◌, ℕ, zero, suc, List, [], ◌∷◌, ◌++◌, map, take, length, slice_get, Option, Some, None, is_some, Result, Ok, Err}
 use Rattle.std.specs.List.{find}
 use Rattle.raft_group_step.specs.Message.{Message as Sent}
+use Rattle.raft_group_step.specs.GroupState.{state_of}
+use Rattle.raft_group_step.specs.GroupEvent.{Open}
+use Rattle.raft_group_step.specs.GroupStep.{group_step}
 use Rattle.raft_conditions.specs.Reason.{reason_of}
 use Rattle.raft_executor.specs.Sent.{message_of}
 use Rattle.raft_laws.specs.declared.world_event.WorldEvent.{WorldEvent}
 use Rattle.raft_laws.specs.declared.world_event.WorldEvent.TheVariants.{Add, Ask, Deliver, Crash, Restart}
 use Rattle.raft_laws.specs.BallotLists.{AgreeBelow}
-use Rattle.raft_laws.specs.GroupWorld.{GroupWorld, NodeState, Absent, Outcome, Done, Refused, Stopped, Skipped, Recorded, new_world}
-use Rattle.raft_laws.specs.GroupRun.{group_run, history_of, outcome_of, ran}
+use Rattle.raft_laws.specs.GroupWorld.{GroupWorld, NodeState, Absent, Up, Down, Outcome, Done, Refused, Stopped, Skipped, Recorded, new_world}
+use Rattle.raft_laws.specs.GroupRun.{Scene, Nowhere, At, group_run, history_of, outcome_of, ran, scene_of}
 use Rattle.raft_laws.specs.VotesRise.{SentVotesKept, VoteKept}
+use Rattle.raft_laws.specs.NodeEvent.{NodeEvent, Comes, Crashes, Restarts}
+use Rattle.raft_laws.specs.StoringOrder.{StoresInOrder}
 use Rattle.raft_laws.specs.OneList.{AppliedIsHeld, CommittedIsHeld, IsGroupHistory, LeadersHold, LogIdsAgree, SnapshotsAreListed}
 use Rattle.raft_laws.specs.Settled.{IsGroupList, group_list}
 use Rattle.raft_settled.specs.World.{led_of}
@@ -132,19 +137,40 @@ pub record KeepsTheLaws (g : GroupWorld) : Type 0 where
   pub log_ids : LogIdsAgree g
   pub sent_votes : SentVotesKept g
 
+-- what a node stores at an event puts no lesser vote in place of a greater, and shortens no log at or below what the node knows
+-- to be committed: at each storing command, so also where the event stops. A node that is opened knows of nothing committed yet
+abbrev pub StoresRightly : ℕ → NodeEvent → NodeState → Type 0
+StoresRightly n e Absent = Unit {0}
+StoresRightly n (Comes e) (Up s) = StoresInOrder s.committed s.stored (group_step n s e)
+StoresRightly n Crashes (Up s) = Unit {0}
+StoresRightly n Restarts (Up s) = Unit {0}
+StoresRightly n (Comes e) (Down stored) = Unit {0}
+StoresRightly n Crashes (Down stored) = Unit {0}
+StoresRightly n Restarts (Down stored) = StoresInOrder None stored (group_step n (state_of stored) Open)
+
+abbrev pub StoresRightlyIn : GroupWorld → Scene → Type 0
+StoresRightlyIn g Nowhere = Unit {0}
+StoresRightlyIn g (At n e) = StoresRightly n e (g.nodes n)
+
+-- so at each event of a run
+abbrev pub AllStoreRightly : List (WorldEvent × Option ℕ) → GroupWorld → Type 0
+AllStoreRightly [] g = Unit {0}
+AllStoreRightly (e ∷ es) g = StoresRightlyIn g (scene_of g e.0) × AllStoreRightly es (ran g e.0 e.1)
+
 -- what the group has settled stays, and no node's vote falls
 pub record GoesOnFrom (before after : GroupWorld) : Type 0 where
   pub list : AgreeBelow (length (group_list before)) (group_list before) (group_list after)
   pub votes : (n : ℕ) → VoteKept (before.nodes n) (after.nodes n)
 
--- however far the events were run, the world is that of the definitions after them, a history led there, it keeps the laws, and
--- it goes on from the one before
+-- however far the events were run, the world is that of the definitions after them, a history led there, it keeps the laws, it
+-- goes on from the one before, and nothing was stored that shortens a committed log
 pub record HasRunEvents (ids : List ℕ) (rs : List Recorded) (g : GroupWorld) (events : List PlannedEvent) (count : ℕ) (w : World) : Type 0 where
   pub end : RunEnd events count (group_run (map planned_of (take count events)) g)
   pub world : IsWorldOf w (group_run (map planned_of (take count events) ++ rest_of end) g)
   pub history : IsGroupHistory ids (rs ++ history_of (map planned_of (take count events) ++ rest_of end) g) (group_run (map planned_of (take count events) ++ rest_of end) g)
   pub laws : KeepsTheLaws (group_run (map planned_of (take count events) ++ rest_of end) g)
   pub goes_on : GoesOnFrom g (group_run (map planned_of (take count events) ++ rest_of end) g)
+  pub stores : AllStoreRightly (map planned_of (take count events) ++ rest_of end) g
 
 -- each mark says what became of its event
 abbrev pub AreMarks : List Mark → List Recorded → Type 0
