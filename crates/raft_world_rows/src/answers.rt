@@ -90,7 +90,12 @@ impl Answering {
     fn tell(&mut self, sent: usize) -> Result<(), AllocError> {
         self.text.clear();
         put_world(&mut self.text, &self.world, &self.ids, sent)?;
-        write!(self.told, "{} {}", self.count, MarkText(last_mark(&self.world)))?;
+        write!(
+            self.told,
+            "{} {}",
+            self.count,
+            MarkText(last_mark(&self.world))
+        )?;
         put_kinds(&mut self.told, &self.world, sent)?;
         writeln!(self.told, " {:08x}", crc32(self.text.as_bytes()))
     }

@@ -12,13 +12,7 @@ use std::fmt::Display;
 pub fn kind_of(body: &Body) -> &'static str {
     match body {
         Body::VoteRequest(_) => "ask",
-        Body::VoteReply(reply) => {
-            if reply.vote_granted {
-                "grant"
-            } else {
-                "deny"
-            }
-        }
+        Body::VoteReply(reply) => { if reply.vote_granted { "grant" } else { "deny" } }
         Body::AppendRequest { id, .. } => match id {
             RequestId::HeartBeat => "notice",
             _ => "append",
@@ -128,10 +122,6 @@ impl Display for MessageText<'_> {
     fn fmt<W: fmt::Write>(&self, f: &mut fmt::Formatter<W>) -> fmt::Result {
         let kind = kind_of(&self.0.body);
         let body = BodyText(&self.0.body);
-        writeln!(
-            f,
-            "{}>{} {kind} {body}",
-            self.0.sender, self.0.addressee
-        )
+        writeln!(f, "{}>{} {kind} {body}", self.0.sender, self.0.addressee)
     }
 }

@@ -51,13 +51,7 @@ impl Display for MarkText {
 // The part that a node plays.
 fn role_of(member: &Member) -> &'static str {
     match member.engine() {
-        None => {
-            if member.is_up() {
-                "up"
-            } else {
-                "down"
-            }
-        }
+        None => { if member.is_up() { "up" } else { "down" } }
         Some(engine) => match (engine.leader.is_some(), engine.candidate_ref().is_some()) {
             (true, true) => "leads and stands",
             (true, false) => "leads",
