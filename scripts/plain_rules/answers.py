@@ -1,4 +1,5 @@
-"""The plain program as a filter: it reads lines of events, and prints what each left, as the program of the engines does."""
+"""The plain program as a filter: it reads lines of events, and prints what each left, as the
+program of the engines does."""
 
 from plain_rules.settled import list_of
 from plain_rules.text import entries_text, kind_of, read_event, sum_text, world_text
@@ -6,7 +7,8 @@ from plain_rules.world import World
 
 
 class Answering:
-    """A world that answers lines. It keeps the text of its last answer, of which the answer has the checksum alone."""
+    """A world that answers lines. It keeps the text of its last answer, of which the answer has the
+    checksum alone."""
 
     def __init__(self):
         self.begin(())
@@ -19,13 +21,14 @@ class Answering:
         self.text = world_text(self.world, 0)
 
     def happen(self, event):
-        """The number of the event, what became of it, the kinds of the messages that were sent with their addressees, and
-        the checksum of these messages and of all nodes."""
+        """The number of the event, what became of it, the kinds of the messages that were sent with
+        their addressees, and the checksum of these messages and of all nodes."""
         self.number += 1
         sent_before = len(self.world.messages)
         mark = self.world.happen(event)
         self.text = world_text(self.world, sent_before)
-        sent = "".join(f" {kind_of(it.body)}>{it.addressee}" for it in self.world.messages[sent_before:])
+        messages = self.world.messages[sent_before:]
+        sent = "".join(f" {kind_of(it.body)}>{it.addressee}" for it in messages)
         return f"{self.number} {mark}{sent} {sum_text(self.text)}\n"
 
     def list(self):

@@ -1,5 +1,5 @@
-"""What happens next in a random world. Events are weighted so that elections, commits, snapshots, losses and stops all come
-about."""
+"""What happens next in a random world. Events are weighted so that elections, commits, snapshots,
+losses and stops all come about."""
 
 from dataclasses import dataclass
 from typing import Tuple
@@ -17,8 +17,9 @@ MOST_WAITING = 40
 
 @dataclass(frozen=True)
 class Course:
-    """What random worlds begin with, and how long they go on: the nodes that there are, the voter groups and the learners of
-    the first membership, how often a leader is asked to take a command, against 600 times that a message is delivered in
+    """What random worlds begin with, and how long they go on: the nodes that there are, the voter
+    groups and the learners of the first membership, how often a leader is asked to take a command,
+    against 600 times that a message is delivered in
     its turn, and how often a snapshot is asked for, and a purge."""
 
     seed: int
@@ -35,8 +36,9 @@ class Course:
         return tuple((node, address) for node in self.ids if node in firsts)
 
 
-# The courses, by name. Five worlds are run of each, which makes 10,000 events: three voters; three voters that take so many
-# commands that a request doesn't have all of them; five voters; two voter groups that share two voters, and a learner.
+# The courses, by name. Five worlds are run of each, which makes 10,000 events: three voters; three
+# voters that take so many commands that a request doesn't have all of them; five voters; two voter
+# groups that share two voters, and a learner.
 COURSES = {
     "three": Course(21, 500, (1, 2, 3), ((1, 2, 3),), (), 90, 60),
     "busy": Course(14, 350, (1, 2, 3), ((1, 2, 3),), (), 300, 40),
@@ -120,7 +122,8 @@ class Chooser:
         """A change of the membership."""
         roll = self.chance.below(12)
         if roll == 3:
-            return Change("replace-voters", self.course.groups[self.chance.below(len(self.course.groups))])
+            at = self.chance.below(len(self.course.groups))
+            return Change("replace-voters", self.course.groups[at])
         if roll == 8:
             return Change("replace-nodes", self.course.nodes_at(self.address()))
         ids = {0: "add-voter-ids", 2: "remove-voters", 6: "remove-nodes", 7: "remove-nodes"}
@@ -131,15 +134,17 @@ class Chooser:
 
     def first_membership(self):
         """The first membership, and now and then one that can't be."""
-        nodes = self.course.nodes_at("here")
-        return Membership(self.course.groups, self.some_nodes() if self.chance.is_met(100) else nodes)
+        if self.chance.is_met(100):
+            return Membership(self.course.groups, self.some_nodes())
+        return Membership(self.course.groups, self.course.nodes_at("here"))
 
     def is_cut_off(self, message):
         """The message is from or to the node that is cut off."""
         return self.cut_for > 0 and self.cut in (message.sender, message.addressee)
 
     def in_turn(self):
-        """The next message in its turn: those of a node that is cut off are lost, and those that have waited for long."""
+        """The next message in its turn: those of a node that is cut off are lost, and those that
+        have waited for long."""
         count = len(self.world.messages)
         for number in range(max(self.next, count - MOST_WAITING), count):
             self.next = number + 1
@@ -173,7 +178,8 @@ class Chooser:
         return self.ask("elect", self.chance.one_of(self.ids_of_up(), other))
 
     def next_message(self):
-        """The next message in its turn. Where none waits, a leader takes a command, or a node stands."""
+        """The next message in its turn. Where none waits, a leader takes a command, or a node
+        stands."""
         number = self.in_turn()
         if number is not None:
             return self.deliver(number)

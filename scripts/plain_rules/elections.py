@@ -71,7 +71,9 @@ def initialize(step, membership):
 
 def is_under_lease(state):
     """A leader was heard of not long ago."""
-    return state.renewed is not None and state.stored.vote.granted and state.now <= state.renewed + LEASE
+    if state.renewed is None or not state.stored.vote.granted:
+        return False
+    return state.now <= state.renewed + LEASE
 
 
 def may_grant(state, request):
@@ -84,7 +86,8 @@ def may_grant(state, request):
 
 
 def vote_request(step, peer, request):
-    """A candidate asks for the node's vote. The reply has the vote then in force and the own last log id."""
+    """A candidate asks for the node's vote. The reply has the vote then in force and the own last
+    log id."""
     granted = may_grant(step.state, request)
     if granted:
         step.take_over(request.vote)

@@ -14,8 +14,9 @@ class Change:
 
 @dataclass(frozen=True)
 class Event:
-    """What happens, after how many storing commands it stops, if it does, and to what: a node, or the message that is
-    delivered. A call comes with what it asks for: a membership, a command, a change, a peer or a place."""
+    """What happens, after how many storing commands it stops, if it does, and to what: a node, or
+    the message that is delivered. A call comes with what it asks for: a membership, a command, a
+    change, a peer or a place."""
 
     verb: str
     target: int

@@ -10,9 +10,10 @@ from plain_rules.choices import COURSES, Chooser
 from plain_rules.text import event_text
 
 HEAD = """\
-# Events of worlds, which scripts/expected_worlds writes. An event reads: verb, node (`deliver`: number of the message),
-# moment, after how many storing commands it stops, and what is asked for. `list` asks for the group's list, and `show` for
-# the text that the last answer has the checksum of.
+# Events of worlds, which scripts/expected_worlds writes. An event reads: verb, node (`deliver`:
+# number of the message), moment, after how many storing commands it stops, and what is asked for.
+# `list` asks for the group's list, and `show` for the text that the last answer has the checksum
+# of.
 """
 
 # The group's list is asked for after so many events.
@@ -62,7 +63,8 @@ class Expected:
         return seen.count_world(marks, world, int(self.answers[-2].split()[1]))
 
     def put_list(self, title):
-        """The group's list, which each node that is up has to have as far as it knows it to be committed."""
+        """The group's list, which each node that is up has to have as far as it knows it to be
+        committed."""
         self.put("list")
         for member in self.answering.world.members:
             committed = None if member.up is None else member.up.committed

@@ -1,7 +1,8 @@
 """What a leader sends comes to another node."""
 
 from plain_rules import stored as storing
-from plain_rules.messages import CONFLICT, SUCCESS, AppendReply, HigherVote, SnapshotReply, last_sent
+from plain_rules.messages import CONFLICT, SUCCESS, last_sent
+from plain_rules.messages import AppendReply, HigherVote, SnapshotReply
 from plain_rules.values import is_within, lesser_place, place_of
 
 
@@ -10,7 +11,9 @@ from plain_rules.values import is_within, lesser_place, place_of
 
 def is_held(state, log_id):
     """The log has the entries up to this log id: there is none, it is committed, or in the log."""
-    return log_id is None or is_within(log_id.place, state.committed) or state.stored.has_id_in_log(log_id)
+    if log_id is None or is_within(log_id.place, state.committed):
+        return True
+    return state.stored.has_id_in_log(log_id)
 
 
 def missing_entries(state, entries):
@@ -29,8 +32,8 @@ def cut_from(step, place):
 
 
 def join(step, request):
-    """The entries follow what the log has. What isn't there is appended, after the log was shortened where another entry
-    stands."""
+    """The entries follow what the log has. What isn't there is appended, after the log was
+    shortened where another entry stands."""
     fresh = missing_entries(step.state, request.entries)
     if fresh:
         cut_from(step, fresh[0].id.place)
@@ -49,8 +52,8 @@ def judge(step, request):
 
 
 def append_request(step, peer, request):
-    """A leader sends entries, or says what is committed. A request under a vote below the own one is answered by the own
-    one."""
+    """A leader sends entries, or says what is committed. A request under a vote below the own one
+    is answered by the own one."""
     mine = step.stored.vote
     if request.vote < mine:
         outcome = HigherVote(mine)
@@ -80,7 +83,8 @@ def install(step, snapshot):
 
 
 def snapshot_request(step, peer, offer):
-    """A leader sends its snapshot. A request under a vote below the own one is answered by the own one."""
+    """A leader sends its snapshot. A request under a vote below the own one is answered by the own
+    one."""
     mine = step.stored.vote
     if offer.vote < mine:
         outcome = HigherVote(mine)

@@ -17,7 +17,8 @@ def snapshot_at(stored, log_id):
 
 
 def snapshot_due(state):
-    """The log id up to which a snapshot is to be built: what is applied, unless the last one has it."""
+    """The log id up to which a snapshot is to be built: what is applied, unless the last one has
+    it."""
     if state.applied is None or state.applied < next_place(state.stored.snapshot_last()):
         return None
     return state.stored.entry_id_at(state.applied)
@@ -31,7 +32,8 @@ def trigger_snapshot(step):
 
 
 def purge_as(step, place):
-    """A leader keeps the greatest place as its wish, which is looked at before the event is over."""
+    """A leader keeps the greatest place as its wish, which is looked at before the event is
+    over."""
     if not step.state.is_leader():
         purge_up_to(step, place)
     elif place >= step.stored.first_place():
@@ -61,8 +63,8 @@ def resume_lead(step):
 
 
 def open_group(step):
-    """The node is opened: a log that doesn't belong to the snapshot is dropped, and what the snapshot has is committed and
-    applied, and nothing else."""
+    """The node is opened: a log that doesn't belong to the snapshot is dropped, and what the
+    snapshot has is committed and applied, and nothing else."""
     last = step.stored.snapshot_last()
     if last is not None and not is_joined_to(step.stored, last):
         step.store(storing.start_after, last)

@@ -1,4 +1,5 @@
-"""What a leader does: it takes commands and changes, hears replies, commits, and sends at the end of an event."""
+"""What a leader does: it takes commands and changes, hears replies, commits, and sends at the end
+of an event."""
 
 from dataclasses import replace
 
@@ -35,7 +36,8 @@ def lost(step, node):
 
 
 def search_after(peer, previous):
-    """Where the search goes on after a conflict: at the previous place, if that is above what is matched."""
+    """Where the search goes on after a conflict: at the previous place, if that is above what is
+    matched."""
     if previous is not None and peer.next() <= previous.place:
         return previous.place
     return peer.search
@@ -53,8 +55,8 @@ def after_answer(peer, reply):
 
 
 def reply(step, node, answer):
-    """A peer answers a request. A greater vote is taken over, whatever it answers; an answer counts under the own vote
-    alone."""
+    """A peer answers a request. A greater vote is taken over, whatever it answers; an answer counts
+    under the own vote alone."""
     if isinstance(answer.outcome, HigherVote):
         step.take_over_greater(answer.outcome.vote)
     lead = step.state.lead()
@@ -69,9 +71,13 @@ def reply(step, node, answer):
 
 
 def accepted_by(own, stored, lead, place):
-    """Those that have accepted the leader's entries up to the place. What the leader stored counts at once."""
-    ids = {peer.id for peer in lead.peers.values() if peer.id != own and is_within(place, place_of(peer.matched))}
-    return ids | {own} if place < stored.end_place() else ids
+    """Those that have accepted the leader's entries up to the place. What the leader stored counts
+    at once."""
+    ids = {own} if place < stored.end_place() else set()
+    for peer in lead.peers.values():
+        if peer.id != own and is_within(place, place_of(peer.matched)):
+            ids.add(peer.id)
+    return ids
 
 
 def place_to_commit(own, stored, lead):
@@ -126,7 +132,8 @@ def lacks_entries(stored, peer):
 
 
 def request_start(stored, peer):
-    """Where a request begins: halfway to where the search stands, by eights, and above the purge point."""
+    """Where a request begins: halfway to where the search stands, by eights, and above the purge
+    point."""
     half = max(0, peer.search - peer.next()) // 16 * 8
     return max(stored.first_place(), peer.next() + half)
 
@@ -136,7 +143,8 @@ def entries_for(state, peer):
     stored = state.stored
     start = request_start(stored, peer)
     entries = stored.log[start - stored.first_place() :][:ENTRIES_IN_REQUEST]
-    return Append(stored.vote, peer.next_number, stored.id_before(start), committed_id(state), entries)
+    previous = stored.id_before(start)
+    return Append(stored.vote, peer.next_number, previous, committed_id(state), entries)
 
 
 def waiting(peer, previous, last, has_snapshot):
@@ -166,7 +174,8 @@ def other_ids(own, stored):
 
 
 def serve(step, lead, peer, has_news):
-    """A request if none is outstanding and the peer lacks entries, else a notice if there is news."""
+    """A request if none is outstanding and the peer lacks entries, else a notice if there is
+    news."""
     if peer.outstanding is None and lacks_entries(step.stored, peer):
         send_request(step, lead, peer)
     elif has_news:

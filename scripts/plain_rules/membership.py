@@ -46,7 +46,8 @@ class Membership:
         return all(group and all(voter in nodes for voter in group) for group in self.groups)
 
     def is_within_limits(self):
-        """At most 8 voter groups of at most 64 voters, and 128 nodes with addresses of at most 255 bytes."""
+        """At most 8 voter groups of at most 64 voters, and 128 nodes with addresses of at most 255
+        bytes."""
         return (
             len(self.groups) <= 8
             and all(len(group) <= 64 for group in self.groups)
@@ -105,7 +106,8 @@ def last_group_with(old, ids):
 
 
 def groups_towards(old, goal):
-    """One step towards the goal: alone where it is a voter group already, else beside the last one."""
+    """One step towards the goal: alone where it is a voter group already, else beside the last
+    one."""
     return (goal,) if goal in old.groups else old.groups[-1:] + (goal,)
 
 

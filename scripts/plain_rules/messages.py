@@ -36,8 +36,8 @@ class VoteReply:
 
 @dataclass(frozen=True)
 class Append:
-    """Entries to be appended after the previous one, and how far the sender has committed. A notice or heartbeat has no
-    number."""
+    """Entries to be appended after the previous one, and how far the sender has committed. A notice
+    or heartbeat has no number."""
 
     vote: Vote
     number: Optional[int]
@@ -48,7 +48,8 @@ class Append:
 
 @dataclass(frozen=True)
 class Reply:
-    """A reply repeats what the request was, and says what came of it: success, conflict or a higher vote."""
+    """A reply repeats what the request was, and says what came of it: success, conflict or a higher
+    vote."""
 
     vote: Vote
     number: Optional[int]

@@ -43,7 +43,8 @@ def are_low(state, *numbers):
     """The numbers are low, and those of a leader's next requests."""
     lead = state.lead()
     peers = () if lead is None else lead.peers.values()
-    return all(number < NUMBER_LIMIT for number in numbers) and all(peer.next_number < NUMBER_LIMIT for peer in peers)
+    all_numbers = list(numbers) + [peer.next_number for peer in peers]
+    return all(number < NUMBER_LIMIT for number in all_numbers)
 
 
 def is_voter_in_force(stored, own):
@@ -119,7 +120,8 @@ def are_numbers_low(state, body):
 
 
 def is_foreign(own, mine, vote):
-    """A greater vote never has the own id, since a node stores each vote of its own before it sends it."""
+    """A greater vote never has the own id, since a node stores each vote of its own before it sends
+    it."""
     return not (vote.node == own and mine < vote)
 
 
@@ -135,10 +137,11 @@ def do_follow(vote, previous, entries):
 
 
 def keep_voters(known, entries):
-    """All memberships among the entries have the known voter groups, or else those of the first one."""
-    memberships = [entry.payload.membership for entry in entries if isinstance(entry.payload, Members)]
-    all_groups = [membership.groups for membership in ([known] if known else []) + memberships]
-    return all(groups == all_groups[0] for groups in all_groups)
+    """All memberships among the entries have the known voter groups, or else those of the first
+    one."""
+    payloads = [entry.payload for entry in entries if isinstance(entry.payload, Members)]
+    memberships = ([] if known is None else [known]) + [payload.membership for payload in payloads]
+    return all(membership.groups == memberships[0].groups for membership in memberships)
 
 
 def known_membership(stored):
@@ -166,8 +169,9 @@ def is_sound(own, stored, message):
     if isinstance(body, VoteReply):
         return is_foreign(own, stored.vote, body.vote)
     if isinstance(body, Append):
+        follows = do_follow(body.vote, body.previous, body.entries)
         keeps = keep_voters(known_membership(stored), body.entries)
-        return is_of_leader(peer, body.vote) and do_follow(body.vote, body.previous, body.entries) and keeps
+        return is_of_leader(peer, body.vote) and follows and keeps
     if isinstance(body, Offer):
         return is_of_leader(peer, body.vote) and has_known_snapshot(stored, body)
     votes = [body.vote] + ([body.outcome.vote] if isinstance(body.outcome, HigherVote) else [])

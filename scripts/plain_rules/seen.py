@@ -44,7 +44,8 @@ def count_message(seen, body):
 
 
 def count_world(marks, world, settled):
-    """What came about in a world after events with these marks, with so many entries that the group agreed on."""
+    """What came about in a world after events with these marks, with so many entries that the group
+    agreed on."""
     seen = Counter(settled=settled)
     for mark in marks:
         seen.update(mark.split()[:2])
@@ -58,4 +59,5 @@ def count_world(marks, world, settled):
 def faults_of(name, seen):
     """What came about too seldom in the worlds of a course."""
     wanted = {**LEAST, **ALSO.get(name, {})}
-    return [f"{name}: {what}: {seen[what]} times" for what, least in wanted.items() if seen[what] <= least]
+    rare = [what for what, least in wanted.items() if seen[what] <= least]
+    return [f"{name}: {what}: {seen[what]} times alone" for what in rare]

@@ -15,7 +15,9 @@ def place_replied(world, vote, node):
     last = None
     for message in world.messages:
         body = message.body
-        if message.sender == node and isinstance(body, Reply) and body.vote == vote and body.outcome == SUCCESS:
+        if message.sender != node or not isinstance(body, Reply) or body.vote != vote:
+            continue
+        if body.outcome == SUCCESS:
             last = later_place(last, place_under(vote, body.last))
     return last
 
@@ -31,21 +33,24 @@ def place_led(world, vote, node):
 
 
 def all_accepted(world, vote):
-    """Each node, and the greatest place of an entry of the vote's leader that it has accepted under that vote."""
-    return {
-        member.id: later_place(place_replied(world, vote, member.id), place_led(world, vote, member.id))
-        for member in world.members
-    }
+    """Each node, and the greatest place of an entry of the vote's leader that it has accepted under
+    that vote."""
+    accepted = {}
+    for member in world.members:
+        replied = place_replied(world, vote, member.id)
+        accepted[member.id] = later_place(replied, place_led(world, vote, member.id))
+    return accepted
 
 
 def count_settled(world, led, accepted):
-    """How many entries of the leader's list are settled: those up to its last one that a quorum accepted under its vote."""
+    """How many entries of the leader's list are settled: those up to its last one that a quorum
+    accepted under its vote."""
     groups = () if world.setup is None else world.setup.groups
     found = 0
     for count, entry in enumerate(led.list, 1):
         if entry.id.leader == led.vote.leader:
-            accepters = [node for node, place in accepted.items() if is_within(entry.id.place, place)]
-            if is_quorum(groups, accepters):
+            place = entry.id.place
+            if is_quorum(groups, [node for node in accepted if is_within(place, accepted[node])]):
                 found = count
     return found
 

@@ -19,8 +19,8 @@ class Outstanding:
 
 @dataclass(frozen=True)
 class Peer:
-    """What the peer has accepted, where the search for its log's end stands, the number of the next request, and the one
-    that is outstanding."""
+    """What the peer has accepted, where the search for its log's end stands, the number of the next
+    request, and the one that is outstanding."""
 
     id: int
     matched: Optional[Id]
@@ -33,7 +33,8 @@ class Peer:
         return next_place(self.matched)
 
     def needs_below(self, place):
-        """Whether an append request is outstanding whose previous place is below this one, or none."""
+        """Whether an append request is outstanding whose previous place is below this one, or
+        none."""
         request = self.outstanding
         if request is None or request.has_snapshot:
             return False
@@ -44,7 +45,8 @@ class Peer:
         request = self.outstanding
         if request is None:
             return False
-        return (reply.number, reply.previous, reply.last) == (request.number, request.previous, request.last)
+        wanted = (request.number, request.previous, request.last)
+        return (reply.number, reply.previous, reply.last) == wanted
 
     def ended(self):
         """The peer without an outstanding request."""
@@ -70,13 +72,15 @@ class Lead:
         return self.peers.get(node, Peer(node, None, self.began, 1, None))
 
     def is_kept_for_peers(self, place):
-        """Whether some peer's outstanding request keeps the log from being purged up to the place."""
+        """Whether some peer's outstanding request keeps the log from being purged up to the
+        place."""
         return any(peer.needs_below(place) for peer in self.peers.values())
 
 
 @dataclass
 class State:
-    """A group at a node that is up. A follower has no role. At an opening the stored part alone is left."""
+    """A group at a node that is up. A follower has no role. At an opening the stored part alone is
+    left."""
 
     stored: Stored
     now: int = 0

@@ -6,8 +6,8 @@ from plain_rules.values import Entry, Id, later_place
 
 
 class Step:
-    """A step of the node `own`: its state, the storing commands so far, and what it sent. Storing commands are functions of
-    the stored part with what else they take."""
+    """A step of the node `own`: its state, the storing commands so far, and what it sent. Storing
+    commands are functions of the stored part with what else they take."""
 
     def __init__(self, own, state):
         self.own = own

@@ -17,7 +17,8 @@ def last_membership(before, entries):
 
 @dataclass(frozen=True)
 class Snapshot:
-    """The list up to and with the entry of a log id, and the last membership in it with its log id."""
+    """The list up to and with the entry of a log id, and the last membership in it with its log
+    id."""
 
     last: Id
     membership: Optional[tuple]

@@ -4,7 +4,8 @@ import zlib
 
 from plain_rules.events import Change, Event
 from plain_rules.membership import CHANGES_OF_IDS, Membership
-from plain_rules.messages import Append, AppendReply, HigherVote, Offer, SnapshotReply, VoteReply, VoteRequest
+from plain_rules.messages import Append, AppendReply, HigherVote, Offer
+from plain_rules.messages import SnapshotReply, VoteReply, VoteRequest
 from plain_rules.values import Blank, Command
 
 
@@ -45,12 +46,15 @@ def payload_text(payload):
     """`blank`, the bytes of a command, or a membership."""
     if isinstance(payload, Blank):
         return "blank"
-    return payload.data.hex() if isinstance(payload, Command) else membership_text(payload.membership)
+    if isinstance(payload, Command):
+        return payload.data.hex()
+    return membership_text(payload.membership)
 
 
 def entries_text(entries):
     """How many there are, and each."""
-    return f"{len(entries)}" + "".join(f" [{id_text(it.id)} {payload_text(it.payload)}]" for it in entries)
+    texts = [f" [{id_text(it.id)} {payload_text(it.payload)}]" for it in entries]
+    return f"{len(entries)}{''.join(texts)}"
 
 
 def logged_text(logged):
@@ -60,7 +64,10 @@ def logged_text(logged):
 
 def snapshot_text(snapshot):
     """Its last log id, its last membership and its entries."""
-    return or_dash(snapshot, lambda it: f"{id_text(it.last)} with {logged_text(it.membership)} of {entries_text(it.prefix)}")
+    if snapshot is None:
+        return "-"
+    membership = logged_text(snapshot.membership)
+    return f"{id_text(snapshot.last)} with {membership} of {entries_text(snapshot.prefix)}"
 
 
 # ---- messages
@@ -92,8 +99,8 @@ def said_text(body):
     if isinstance(body, (VoteRequest, VoteReply)):
         return f"last {id_text(body.last)}"
     if isinstance(body, Append):
-        committed = id_text(body.committed)
-        return f"number {or_dash(body.number)} after {id_text(body.previous)} committed {committed} entries {entries_text(body.entries)}"
+        ids = f"after {id_text(body.previous)} committed {id_text(body.committed)}"
+        return f"number {or_dash(body.number)} {ids} entries {entries_text(body.entries)}"
     if isinstance(body, Offer):
         return f"number {body.number} snapshot {snapshot_text(body.snapshot)}"
     ids = f"after {id_text(body.previous)} last {id_text(body.last)}"
@@ -103,7 +110,8 @@ def said_text(body):
 def message_text(message):
     """Sender and addressee, and what it says, on a line."""
     body = message.body
-    return f"{message.sender}>{message.addressee} {kind_of(body)} {vote_text(body.vote)} {said_text(body)}\n"
+    said = f"{kind_of(body)} {vote_text(body.vote)} {said_text(body)}"
+    return f"{message.sender}>{message.addressee} {said}\n"
 
 
 # ---- worlds
@@ -121,10 +129,11 @@ def role_text(member):
 def member_text(member):
     """A node with all that it has stored, on a line."""
     stored, state = member.stored(), member.up
-    committed = or_dash(None if state is None else state.committed)
-    kept = f"{'group' if stored.present else 'none'} vote {vote_text(stored.vote)} purged {id_text(stored.purged)}"
-    of_snapshot = snapshot_text(stored.snapshot)
-    return f"{member.id} {role_text(member)} committed {committed} {kept} snapshot {of_snapshot} log {entries_text(stored.log)}\n"
+    known = f"{role_text(member)} committed {or_dash(None if state is None else state.committed)}"
+    group = "group" if stored.present else "none"
+    kept = f"{group} vote {vote_text(stored.vote)} purged {id_text(stored.purged)}"
+    entries = f"snapshot {snapshot_text(stored.snapshot)} log {entries_text(stored.log)}"
+    return f"{member.id} {known} {kept} {entries}\n"
 
 
 def world_text(world, sent_before):
@@ -150,8 +159,9 @@ def data_text(data):
 
 def change_text(change):
     """A change with the ids or nodes that it names."""
-    named = ",".join(map(str, change.named)) if change.kind in CHANGES_OF_IDS else nodes_text(change.named)
-    return f"{change.kind} {named}"
+    if change.kind in CHANGES_OF_IDS:
+        return f"{change.kind} {','.join(map(str, change.named))}"
+    return f"{change.kind} {nodes_text(change.named)}"
 
 
 def what_text(what):
@@ -201,7 +211,13 @@ def read_data(text):
 
 
 # How what a call asks for is read.
-READERS = {"setup": read_membership, "propose": read_data, "change": read_change, "lost": int, "purge": int}
+READERS = {
+    "setup": read_membership,
+    "propose": read_data,
+    "change": read_change,
+    "lost": int,
+    "purge": int,
+}
 
 
 def read_event(line):

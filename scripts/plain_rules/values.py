@@ -1,4 +1,5 @@
-"""Votes, log ids, places and entries. A log id or place that there may be none of is None, which is below all."""
+"""Votes, log ids, places and entries. A log id or place that there may be none of is None, which is
+below all."""
 
 from dataclasses import dataclass
 from typing import NamedTuple, Optional

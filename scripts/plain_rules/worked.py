@@ -16,7 +16,8 @@ IDS = (1, 2, 3, 4)
 
 @dataclass
 class Run:
-    """A run: its rows, an event with its answer each, what is so in the end, and whether its nodes have the group."""
+    """A run: its rows, an event with its answer each, what is so in the end, and whether its nodes
+    have the group."""
 
     has_group: bool
     names: List[str]
@@ -109,7 +110,8 @@ def faults_of(run, adds_group):
 
 
 def all_faults(runs):
-    """What goes otherwise in the runs. Where nodes have the group, it is tried with additions too."""
+    """What goes otherwise in the runs. Where nodes have the group, it is tried with additions
+    too."""
     faults = []
     for run in runs:
         for adds_group in (False, True) if run.has_group else (False,):

@@ -6,7 +6,8 @@ from typing import List, Optional, Tuple
 from plain_rules import elections, following, keeping, leading, refusal
 from plain_rules import stored as storing
 from plain_rules.membership import Membership
-from plain_rules.messages import Append, AppendReply, Message, Offer, SnapshotReply, VoteReply, VoteRequest
+from plain_rules.messages import Append, AppendReply, Message, Offer
+from plain_rules.messages import SnapshotReply, VoteReply, VoteRequest
 from plain_rules.state import State
 from plain_rules.step import Step
 from plain_rules.stored import Stored
@@ -68,7 +69,8 @@ def event_step(step, event, message):
 
 
 def group_step(step, event, message):
-    """The step, or why the event is refused. In the end a leader commits, purges as wished, and sends."""
+    """The step, or why the event is refused. In the end a leader commits, purges as wished, and
+    sends."""
     refused = refusal_of(step.own, step.state, event, message)
     if refused is None:
         before = step.state.committed
@@ -118,8 +120,8 @@ def stopped_after(count, before, commands):
 
 @dataclass
 class World:
-    """The nodes, the messages, numbered from 0 in the order of sending, what the group was set up with, and the notes of
-    those that led."""
+    """The nodes, the messages, numbered from 0 in the order of sending, what the group was set up
+    with, and the notes of those that led."""
 
     members: List[Member]
     messages: List[Message] = field(default_factory=list)
@@ -147,8 +149,8 @@ class World:
                 self.led.append(led)
 
     def run_step(self, member, state, event, message):
-        """A step that runs to its end, after which the node is up; or it stops after its first so many storing commands,
-        and the node is down."""
+        """A step that runs to its end, after which the node is up; or it stops after its first so
+        many storing commands, and the node is down."""
         before = state.stored
         step = Step(member.id, state)
         refused = group_step(step, event, message)
@@ -173,8 +175,8 @@ class World:
         return self.run_step(member, member.up, event, message)
 
     def happen(self, event):
-        """What becomes of an event. The first set-up that was neither refused nor skipped is kept; one that stopped counts,
-        and one that names another membership is skipped."""
+        """What becomes of an event. The first set-up that was neither refused nor skipped is kept;
+        one that stopped counts, and one that names another membership is skipped."""
         if event.verb == "deliver":
             if event.target >= len(self.messages):
                 return SKIPPED

@@ -1,8 +1,8 @@
 //! A run of a world of engines in which an event that finds no memory is asked for once more.
 //!
-//! The event that meets want of memory stops, its node is down, all else is as it was, and once the node is opened again the
-//! run goes on. So a run in which one allocation is refused prints what a run prints in which none is: `rt try --fail-alloc
-//! 1..` tries each.
+//! The event that meets want of memory stops, its node is down, all else is as it was, and once the
+//! node is opened again the run goes on. So a run in which one allocation is refused prints what a
+//! run prints in which none is: with `rt try --fail-alloc N`.
 #![tactic(auto)]
 
 mod deeds;
@@ -13,8 +13,8 @@ mod sights;
 use fault::Fault;
 use run::{Run, Turn};
 
-// Node 1 sets the group up, leads, and takes four commands, about a crash of another node, a snapshot and a purge. Where it
-// no longer leads, it is elected again.
+// Node 1 sets the group up, leads, and takes four commands, about a crash of another node, a
+// snapshot and a purge. Where it no longer leads, it is elected again.
 const COURSE: [Turn; 11] = [
     Turn::SetUp,
     Turn::Lead(1000),

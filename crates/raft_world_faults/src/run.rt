@@ -88,7 +88,8 @@ impl Run {
         Err(Fault::Stuck)
     }
 
-    // The deed, and once more where memory was wanting: then its node is down, and all else is as it was.
+    // The deed, and once more where memory was wanting: then its node is down, and all else is as
+    // it was.
     fn go(&mut self, deed: Deed) -> Result<(), Fault> {
         let before = Sights::of(&self.world);
         let node = node_of(&self.world, deed);
