@@ -1,0 +1,35 @@
+//! Worlds of engines that read events and print what each left.
+//!
+//! `scripts/expected_worlds` writes both the events and what is to be printed, by a plain program
+//! of the rules that was written from the definitions. A line of the input is one of:
+//! - `world 1 2 3`: another world of these nodes, which have the group and nothing in it;
+//! - an event: verb, node (`deliver`: number of the message), moment, after how many storing
+//!   commands it stops, and what is asked for. Its answer is its number in its world, what became
+//!   of it, the kinds of the messages that were sent with their addressees, and the checksum of a
+//!   text: these messages, and all nodes with what they have stored;
+//! - `list`: how many entries the group's list has, and the checksum of their text;
+//! - `show`: the text of which the last answer has the checksum alone.
+#![tactic(auto)]
+
+mod answers;
+mod entry_texts;
+mod fault;
+mod message_texts;
+mod reading;
+mod values;
+mod world_texts;
+
+use answers::Answering;
+use fault::Fault;
+
+fn main(rt: HostRuntime) -> Result<(), Fault> {
+    let mut answering = Answering::new(rt.alloc())?;
+    for line in rt.lines(rt.alloc()) {
+        let line = line?;
+        match answering.answer(line.as_str()) {
+            Ok(()) => rt.print(answering.told())?,
+            Err(fault) => println!(rt; "{line}: {fault:?}")?,
+        }
+    }
+    Ok(())
+}
