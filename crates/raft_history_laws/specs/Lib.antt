@@ -1,0 +1,5 @@
+pub mod LeaderLists
+pub mod LeaderListsRun
+pub mod WholeSnapshots
+pub mod WholeSnapshotsRun
+pub mod NotedIds
