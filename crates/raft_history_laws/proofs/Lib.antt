@@ -5,3 +5,5 @@ pub mod LeaderLists
 pub mod WholeSnapshots
 pub mod NotedIds
 pub mod TakenEntries
+pub mod LastNoted
+pub mod SmallIds

@@ -3,3 +3,4 @@ pub mod LeaderListsRun
 pub mod WholeSnapshots
 pub mod WholeSnapshotsRun
 pub mod NotedIds
+pub mod NotedIdsRun
