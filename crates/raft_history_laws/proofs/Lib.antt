@@ -4,6 +4,11 @@ pub mod Notes
 pub mod LeaderLists
 pub mod WholeSnapshots
 pub mod NotedIds
+pub mod StepEnds
 pub mod TakenEntries
 pub mod LastNoted
+pub mod StepLeads
+pub mod StepWaits
 pub mod SmallIds
+pub mod AlongNodes
+pub mod WaitingTokens

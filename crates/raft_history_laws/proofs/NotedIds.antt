@@ -74,6 +74,14 @@ module _ (m : Membership) (some : 0 < length m.configs) (before : List BallotEve
   body_in_lead sender (SnapshotRequest vote id x) fits i e h = sent_in_lead _ 0 _ _ x.«prefix» fits.good fits.sent i e h
   body_in_lead sender (SnapshotReply r) fits i e h = absurd (let no : None ≡ Some e = h in cc)
 
+  pub leads_all_at : (n : ℕ) (s : GroupState) (lead : Lead) → NodeFits m b n s → s.role ≡ Leader lead → length (b.lead (rank_of s.stored.vote.leader_id)) ≡ end_place s.stored
+  leads_all_at n s lead at leads =
+      let role : RoleFits n b s.stored.vote (held s.stored) (Leader lead) = subst (RoleFits n b s.stored.vote (held s.stored)) leads at.role in
+      ap length (lead_list m some before n s at.up role.0 role.1)
+      ∙ size_same (held s.stored)
+      ∙ ap length (joined_held s.stored at.up.list at.up.joined)
+      ∙ sym (joined_end s.stored at.up.list at.up.joined)
+
   module _ (w : GroupWorld) (fits : WorldFits m b w) where
     held_in_lead : (n : ℕ) (st : StoredGroup) → stored_of (w.nodes n) ≡ Some st → (i : ℕ) (e : Entry) → slice_get (held st) i ≡ Some e → InLead b e
     held_in_lead n st has i e h =
@@ -104,13 +112,7 @@ module _ (m : Membership) (some : 0 < length m.configs) (before : List BallotEve
 
     -- a leader has all that was written under its vote
     pub leads_all : (n : ℕ) (s : GroupState) (lead : Lead) → w.nodes n ≡ Up s → s.role ≡ Leader lead → length (b.lead (rank_of s.stored.vote.leader_id)) ≡ end_place s.stored
-    leads_all n s lead up leads =
-        let at : NodeFits m b n s = (at_node m b w fits n (Up s) up).1 in
-        let role : RoleFits n b s.stored.vote (held s.stored) (Leader lead) = subst (RoleFits n b s.stored.vote (held s.stored)) leads at.role in
-        ap length (lead_list m some before n s at.up role.0 role.1)
-        ∙ size_same (held s.stored)
-        ∙ ap length (joined_held s.stored at.up.list at.up.joined)
-        ∙ sym (joined_end s.stored at.up.list at.up.joined)
+    leads_all n s lead up leads = leads_all_at n s lead (at_node m b w fits n (Up s) up).1 leads
 
 -- ---- a node that takes a command or a change leads
 

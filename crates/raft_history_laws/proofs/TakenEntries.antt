@@ -18,17 +18,17 @@ use Rattle.raft_laws.specs.Origins.{changed_entry, entry_of_call}
 use Rattle.raft_laws.proofs.BallotAgreement.{same_some}
 use Rattle.raft_laws.proofs.Shapes.{joined_end, joined_held}
 use Rattle.raft_laws.proofs.StepFits.{EventFits, NodeFits, world_after}
-use Rattle.raft_laws.proofs.StepCommits.{Purged, frames_same, purged_same}
+use Rattle.raft_laws.proofs.StepCommits.{frames_same}
 use Rattle.raft_laws.proofs.StepDispatch.{event_ends}
 use Rattle.raft_laws.proofs.StepOrder.{step-keeps}
-use Rattle.raft_laws.proofs.StepWishes.{Wished, committed_wish}
+use Rattle.raft_laws.proofs.StepWishes.{Wished}
 use Rattle.raft_laws.proofs.StepWords.{either}
-use Rattle.raft_laws.proofs.TrackCommits.{commit_ends}
 use Rattle.raft_laws.proofs.TrackElections.{Ends}
 use Rattle.raft_history_laws.specs.NotedIds.{is_noted}
+use Rattle.raft_history_laws.proofs.StepEnds.{commit_same, finished_held, finished_vote}
 
 -- what a call that writes an entry puts first
-abbrev put_first : StoredGroup → Entry → StoringCommand
+abbrev pub put_first : StoredGroup → Entry → StoringCommand
 put_first st e = PutEntries (end_place st) (e ∷ [])
 
 -- the call's own step: its entry is put, and nothing else
@@ -69,11 +69,6 @@ wished_more (Leader lead) (Some place) r =
     either (OneMore r) (is_kept_for_peers place lead.peers) r (purge_up_to place (with_wish None r)) (inl refl)
     (removed_more (id_of (entry_at r.state.stored place)) (with_wish None r))
 
-commit_same : (own : ℕ) (role : Role) (r : StepResult) → ((commit_as_leader own role r).commands ≡ r.commands) × ((commit_as_leader own role r).state.stored ≡ r.state.stored)
-commit_same own Follower r = (refl, refl)
-commit_same own (Candidate granters) r = (refl, refl)
-commit_same own (Leader lead) r = (refl, refl)
-
 -- one command, and maybe one more: after the first of them, or after all
 taken_first : (k : ℕ) (c : StoringCommand) → take (suc k) (c ∷ []) ≡ c ∷ []
 taken_first zero c = refl
@@ -86,7 +81,7 @@ taken_both (suc (suc k)) c d = inr refl
 
 -- ---- what is held behind it
 
-put_end : (st : StoredGroup) (e : Entry) → end_place (after_storing (put_first st e) st) ≡ end_place st + 1
+pub put_end : (st : StoredGroup) (e : Entry) → end_place (after_storing (put_first st e) st) ≡ end_place st + 1
 put_end st e =
     let size = length-append (take (end_place st - first_place st) st.log) (e ∷ []) in
     let all = length-take-le (end_place st - first_place st) st.log (omega arith) in
@@ -129,24 +124,14 @@ module _ (m : Membership) (some : 0 < length m.configs) (own : ℕ) (small : own
   is_finished : end ≡ finished own s.committed r0
   is_finished = ap (λ o. step_unless o own s (Call call now)) taken
 
-  purged : Purged r1 r2
-  purged =
-      let one = commit_ends ends.0.world r0 ends.0.tracks r0.state.role refl ends.0.role in
-      purged_same m one.world own r1 one.tracks.up (committed_wish own r0 ends.1)
-
   held_whole : held end.state.stored ≡ held r0.state.stored
-  held_whole =
-      ap (λ (r : StepResult). held r.state.stored) is_finished
-      ∙ ap held (frames_same own s.committed r2).0
-      ∙ purged.held'
-      ∙ ap held (commit_same own r0.state.role r0).1
+  held_whole = ap (λ (r : StepResult). held r.state.stored) is_finished ∙ finished_held s.committed r0 ends.0 ends.1
 
   vote_whole : end.state.stored.vote ≡ s.stored.vote
   vote_whole =
       ap (λ (r : StepResult). r.state.stored.vote) is_finished
-      ∙ (frames_same own s.committed r2).3
-      ∙ purged.vote
-      ∙ ap (λ (st : StoredGroup). st.vote) ((commit_same own r0.state.role r0).1 ∙ puts.stored)
+      ∙ finished_vote s.committed r0 ends.0 ends.1
+      ∙ ap (λ (st : StoredGroup). st.vote) puts.stored
 
   end_more : OneMore r0 end
   end_more =

@@ -4,3 +4,5 @@ pub mod WholeSnapshots
 pub mod WholeSnapshotsRun
 pub mod NotedIds
 pub mod NotedIdsRun
+pub mod WaitingTokens
+pub mod WaitingTokensRun

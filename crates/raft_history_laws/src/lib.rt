@@ -5,3 +5,4 @@
 pub mod leader_lists;
 pub mod origins;
 pub mod snapshots;
+pub mod waiting;
