@@ -13,7 +13,7 @@ use Rattle.raft_laws.proofs.StepFits.{world_after}
 use Rattle.raft_laws.proofs.WorldFits.{NodeStateFits, WorldFits}
 use Rattle.raft_laws.proofs.WorldSteps.{MayHappen}
 use Rattle.raft_laws.proofs.WorldRuns.{Matches, MayTakePlace, SetUpWith, may_take_place, setup_stays}
-use Rattle.raft_laws.proofs.WorldStart.{Founded, founded, history_matches}
+use Rattle.raft_laws.proofs.WorldStart.{Founded, IsFounded, founded, history_matches}
 use Rattle.raft_history_laws.proofs.Along.{along, one_more}
 use Rattle.raft_history_laws.proofs.Later.{one_node}
 
@@ -25,6 +25,7 @@ pub record MayFollow (w : GroupWorld) (r : Recorded) (k : ℕ) : Type 0 where
   pub before_known : SetUpWith membership w
   pub known : SetUpWith membership (happens w r.event r.outcome k)
   pub may : MayTakePlace membership some w first.before first.fits (scene_of w r.event)
+  pub founded_next : IsFounded membership some (happens w r.event r.outcome k)
 
 pub may_follow : (ids : List ℕ) → AreNodeIds ids → (rs : List Recorded) (w : GroupWorld) → Replays (new_world ids) rs w → (r : Recorded) (k : ℕ) → r.outcome ≡ outcome_of w r.event (is_stop r.outcome) → MayFollow w r k
 may_follow ids small rs w run r k is =
@@ -39,6 +40,7 @@ may_follow ids small rs w run r k is =
       before_known = known;
       known = f.known;
       may = may_take_place f.membership f.some w first.before first.fits known r.event r.outcome k is f.known;
+      founded_next = f.is;
     }
 
 -- what each event keeps at the node where it happens

@@ -12,3 +12,7 @@ pub mod StepWaits
 pub mod SmallIds
 pub mod AlongNodes
 pub mod WaitingTokens
+pub mod SettledNotes
+pub mod StepCommitted
+pub mod ToldAnswers
+pub mod RunNotes

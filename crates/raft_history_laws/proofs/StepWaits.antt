@@ -141,7 +141,7 @@ drop_role : (last : Option (LogId ℕ)) (r : StepResult) → (drop_stale_log las
 drop_role None r = refl
 drop_role (Some last) r = either (λ q. q.state.role ≡ r.state.role) (is_joined_to r.state.stored last) r (store (StartAfter last) r) refl refl
 
-opening_without : (own : ℕ) (st : StoredGroup) → Without (opening_step own st)
+pub opening_without : (own : ℕ) (st : StoredGroup) → Without (opening_step own st)
 opening_without own st =
     let last = snapshot_last st in
     let dropped = drop_stale_log last (unchanged (state_of st)) in
@@ -158,12 +158,12 @@ opening_without own st =
 -- ---- the end of an event
 
 -- what sends and purges leaves these alone
-record Alike (r q : StepResult) : Type 0 where
-  vote : q.state.stored.vote ≡ r.state.stored.vote
-  began : began_of q.state.role ≡ began_of r.state.role
-  untold : q.state.untold ≡ r.state.untold
-  told : q.told ≡ r.told
-  committed : q.state.committed ≡ r.state.committed
+pub record Alike (r q : StepResult) : Type 0 where
+  pub vote : q.state.stored.vote ≡ r.state.stored.vote
+  pub began : began_of q.state.role ≡ began_of r.state.role
+  pub untold : q.state.untold ≡ r.state.untold
+  pub told : q.told ≡ r.told
+  pub committed : q.state.committed ≡ r.state.committed
 
 alike : (r : StepResult) → Alike r r
 alike r = record { vote = refl; began = refl; untold = refl; told = refl; committed = refl }
@@ -220,7 +220,7 @@ wished_alike (Leader lead) (Some place) r =
     either (Alike r) (is_kept_for_peers place lead.peers) r (purge_up_to place q) (alike r)
     (alike_trans {q = q} (record { vote = refl; began = refl; untold = refl; told = refl; committed = refl }) (removed_alike (id_of (entry_at q.state.stored place)) q))
 
-end_alike : (own : ℕ) (before : Option ℕ) (r : StepResult) → Alike (commit_as_leader own r.state.role r) (finished own before r)
+pub end_alike : (own : ℕ) (before : Option ℕ) (r : StepResult) → Alike (commit_as_leader own r.state.role r) (finished own before r)
 end_alike own before r =
     let r1 = commit_as_leader own r.state.role r in
     let r2 = purge_as_wished r1.state.role r1.state.wish r1 in
@@ -282,7 +282,7 @@ commit_quiet own Follower r h = h
 commit_quiet own (Candidate granters) r h = h
 commit_quiet own (Leader lead) r h = apply_quiet (last_place (filter (may_be_committed own r.state.stored lead) r.state.stored.log)) r h
 
-finished_quiet : (own : ℕ) (before : Option ℕ) (r : StepResult) → Quiet r → Quiet (finished own before r)
+pub finished_quiet : (own : ℕ) (before : Option ℕ) (r : StepResult) → Quiet r → Quiet (finished own before r)
 finished_quiet own before r h =
     let a = end_alike own before r in
     same_quiet (commit_as_leader own r.state.role r) (finished own before r) a.untold a.told (commit_quiet own r.state.role r h)
@@ -321,7 +321,7 @@ module _ {m : Membership} {some : 0 < length m.configs} {own : ℕ} {before : Li
       }
 
 module _ (m : Membership) (some : 0 < length m.configs) (own : ℕ) (small : own < 2 ^ 64) (before : List BallotEvent) where
-  event_taken : (s : GroupState) (e : GroupEvent) → NodeFits m (world_after m before) own s → EventFits m (world_after m before) e → (is_leader s.role ≡ false → s.untold ≡ []) → refusal_of own s e ≡ None → Without (event_step own s e) ⊎ Takes s (brought s.stored e) (event_step own s e)
+  pub event_taken : (s : GroupState) (e : GroupEvent) → NodeFits m (world_after m before) own s → EventFits m (world_after m before) e → (is_leader s.role ≡ false → s.untold ≡ []) → refusal_of own s e ≡ None → Without (event_step own s e) ⊎ Takes s (brought s.stored e) (event_step own s e)
   event_taken s AddGroup n fits others passed =
       inr (record { vote = refl; began = refl; untold = sym (append-nil s.untold); told = refl; committed = refl })
   event_taken s (Call call now) n fits others passed = call_taken s others own call now passed

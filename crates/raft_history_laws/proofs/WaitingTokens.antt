@@ -39,11 +39,11 @@ use Rattle.raft_history_laws.proofs.StepWaits.{WaitsOn, brought, due, opening_wa
 
 -- ---- lists of tokens
 
-each_contains : {A : Type 0} (P : A → Type 0) (xs : List A) (x : A) → Each P xs → Contains xs x → P x
+pub each_contains : {A : Type 0} (P : A → Type 0) (xs : List A) (x : A) → Each P xs → Contains xs x → P x
 each_contains P xs x h c = let k = contains_at xs x c in each_at P xs k.0 x h k.1
 
 -- what passes has passed
-all_pass : {A : Type 0} (p : A → Bool) (xs : List A) → Each (λ x. p x ≡ true) (filter p xs)
+pub all_pass : {A : Type 0} (p : A → Bool) (xs : List A) → Each (λ x. p x ≡ true) (filter p xs)
 all_pass p [] = tt
 all_pass p (x ∷ xs) = go (p x) refl (all_pass p xs)
   where
@@ -51,7 +51,7 @@ all_pass p (x ∷ xs) = go (p x) refl (all_pass p xs)
     go true e rest = (e, rest)
     go false e rest = rest
 
-each_both : {A : Type 0} (P Q : A → Type 0) (xs : List A) → Each P xs → Each Q xs → Each (λ x. P x × Q x) xs
+pub each_both : {A : Type 0} (P Q : A → Type 0) (xs : List A) → Each P xs → Each Q xs → Each (λ x. P x × Q x) xs
 each_both P Q [] h k = tt
 each_both P Q (x ∷ xs) h k = ((h.0, k.0), each_both P Q xs h.1 k.1)
 
@@ -79,7 +79,7 @@ are_rising (x ∷ xs) h = ((λ y c. each_contains (λ (z : Untold). x.place < z.
 -- ---- a node that is up
 
 -- an event brings a token at the node's next place, or none
-brings_one : (st : StoredGroup) (e : GroupEvent) → (brought st e ≡ []) ⊎ ((token : ℕ) × (brought st e ≡ token_at st token ∷ []))
+pub brings_one : (st : StoredGroup) (e : GroupEvent) → (brought st e ≡ []) ⊎ ((token : ℕ) × (brought st e ≡ token_at st token ∷ []))
 brings_one st AddGroup = inl refl
 brings_one st (Call (Initialize first) now) = inl refl
 brings_one st (Call Elect now) = inl refl
@@ -116,16 +116,16 @@ module _ (m : Membership) (some : 0 < length m.configs) (own : ℕ) (small : own
   abbrev r : StepResult
   r = group_step own s e
 
-  end : StepEnd m own before s.stored r
+  pub end : StepEnd m own before s.stored r
   end = step_fits m some own small before s e fits event_fits
 
-  abbrev after : List BallotEvent
+  abbrev pub after : List BallotEvent
   after = before ++ end.later.events
 
   after_is : world_after m after ≡ world_later m own before end.later
   after_is = run_append (ballot_group m) some before end.later.events (ballot_start (ballot_group m))
 
-  fits_after : NodeFits m (world_after m after) own r.state
+  pub fits_after : NodeFits m (world_after m after) own r.state
   fits_after = subst (λ b. NodeFits m b own r.state) (sym after_is) end.node
 
   later : Later (world_after m before) (world_after m after)
@@ -134,7 +134,7 @@ module _ (m : Membership) (some : 0 < length m.configs) (own : ℕ) (small : own
       (run_next (ballot_group m) some (world_after m before) end.later.events (after_safe m some before)).later
 
   -- what a token of this lead stands for
-  abbrev Q : Untold → Entry → Type 0
+  abbrev pub Q : Untold → Entry → Type 0
   Q x y = (y.log_id.leader_id ≡ s.stored.vote.leader_id) × ((place : ℕ) → began_of s.role ≡ Some place → place ≤ x.place)
 
   fits_now : TokensFit Q s
@@ -176,7 +176,7 @@ module _ (m : Membership) (some : 0 < length m.configs) (own : ℕ) (small : own
   wanted (Receive peer x now) = tt
   wanted Open = tt
 
-  tells : TokensEnd Q r
+  pub tells : TokensEnd Q r
   tells = step_tells Q m some own small before s e fits event_fits fits_now (λ o. wanted e)
 
   module _ (w : WaitsOn s (brought s.stored e) r) where

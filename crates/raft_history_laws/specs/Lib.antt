@@ -6,3 +6,5 @@ pub mod NotedIds
 pub mod NotedIdsRun
 pub mod WaitingTokens
 pub mod WaitingTokensRun
+pub mod ToldAnswers
+pub mod ToldAnswersRun

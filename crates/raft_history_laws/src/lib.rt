@@ -5,4 +5,5 @@
 pub mod leader_lists;
 pub mod origins;
 pub mod snapshots;
+pub mod told;
 pub mod waiting;
