@@ -7,6 +7,7 @@ use Rattle.raft_laws.specs.declared.world_event.WorldEvent.TheVariants.{Ask}
 use Rattle.raft_laws.specs.GroupWorld.{GroupWorld, new_world}
 use Rattle.raft_laws.specs.Origins.{Events}
 use Rattle.raft_laws.specs.Example.{add, ids_of_log, three, to_their_end}
+use Rattle.raft_laws.specs.LearnerRun.{changes, four}
 use Rattle.raft_laws.specs.ThreeNodes.{until_told}
 use Rattle.raft_laws.specs.OneVoter.{one, stopped_proposal}
 use Rattle.raft_history_laws.specs.NotedIds.{IsNotedAt, IsOrigin, entries_in}
@@ -24,6 +25,10 @@ asked_follower = to_their_end (until_told ++ Ask 2 (Propose (add 9) 9) 0 ∷ [])
 
 abbrev pub NotedByFollower : LogId ℕ → Type 0
 NotedByFollower id = IsNotedAt asked_follower (new_world three) 11 id
+
+-- a learner's address changes
+abbrev pub NotedByChange : LogId ℕ → Type 0
+NotedByChange id = IsNotedAt (to_their_end changes) (new_world four) 10 id
 
 -- the log ids of the entries that a message has
 abbrev pub ids_in_message : GroupWorld → ℕ → Option (List (LogId ℕ))

@@ -1,6 +1,7 @@
 -- The tokens that wait in worked runs.
 use Rattle.std.specs.Prelude.{ℕ, List, [], ◌∷◌, ◌++◌}
-use Rattle.raft_group_step.specs.GroupState.{GroupState, Untold}
+use Rattle.raft_values.specs.declared.vote.Vote.{Vote}
+use Rattle.raft_group_step.specs.GroupState.{GroupState, Role, Untold}
 use Rattle.raft_group_step.specs.declared.group_call.GroupCall.TheVariants.{Propose}
 use Rattle.raft_laws.specs.declared.world_event.WorldEvent.TheVariants.{Ask}
 use Rattle.raft_laws.specs.Origins.{Events}
@@ -26,3 +27,10 @@ proposing = state_after (to_their_end until_proposed) 1
 -- node 1, opened behind a stop, with two commands of its lead before
 abbrev pub reopened : GroupState
 reopened = state_after leads_on_behind_a_stop 1
+
+-- the same state under another vote, or in another role
+abbrev pub under_vote : Vote ℕ → GroupState → GroupState
+under_vote vote s = record s { stored = record s.stored { vote = vote } }
+
+abbrev pub with_role : Role → GroupState → GroupState
+with_role role s = record s { role = role }

@@ -10,7 +10,7 @@ ghost use Rattle.raft_laws.specs.OriginRun.{command_at};
 ghost use Rattle.raft_laws.specs.SnapshotRun.{until_installed};
 ghost use Rattle.raft_laws.specs.ThreeNodes.{until_committed, until_proposed};
 ghost use Rattle.raft_history_laws.specs.NotedIds.{IsSomewhere, NotedIsAbove, NotedIsNew, OriginIsLast};
-ghost use Rattle.raft_history_laws.specs.NotedIdsRun.{NotedByFollower, NotedInRun, OriginInRun, ids_in_message};
+ghost use Rattle.raft_history_laws.specs.NotedIdsRun.{NotedByChange, NotedByFollower, NotedInRun, OriginInRun, ids_in_message};
 
 /// A node that takes a command or a change of the membership has all that was ever written under its vote's leader: each such
 /// entry, held by any node, in any message or with any leader so far, stands below the node's next place. So no entry of the
@@ -27,7 +27,8 @@ pub fn origin_is_last()
 {}
 
 /// A proposal that stops before it has stored anything notes its log id all the same, and the next one notes it again: that one
-/// is its origin. A proposal that stops behind its entry is the entry's origin. A set-up notes nothing, nor what is asked of a
+/// is its origin. A proposal that stops behind its entry is the entry's origin. A change of the membership notes its log id too.
+/// A set-up notes nothing, nor what is asked of a
 /// node that is down, nor what is refused.
 pub fn noted_log_ids_of_runs()
     ensures stopped { NotedInRun 0 2 (log_id_of 1 1 2) }
@@ -39,6 +40,7 @@ pub fn noted_log_ids_of_runs()
     ensures set_up { (id : LogId ℕ) → NotedInRun 0 1 id → ⊥ }
     ensures down { (id : LogId ℕ) → NotedInRun 0 3 id → ⊥ }
     ensures refused { (id : LogId ℕ) → NotedByFollower id → ⊥ }
+    ensures change { NotedByChange (log_id_of 1 1 2) }
 {}
 
 /// An entry is somewhere from its event on, also where each node that held it has another at its place since. Requests for

@@ -1,11 +1,12 @@
-use Rattle.std.specs.Prelude.{◌≡◌, ℕ, ◌<◌, true, false, [], Option, Some, None, refl}
+use Rattle.std.specs.Prelude.{[], ◌∷◌, ◌≡◌, ℕ, ◌<◌, true, false, [], Option, Some, None, refl}
 use Rattle.std.proofs.Common.{arith, sym, ap, ◌∙◌}
 use Rattle.raft_values.specs.LogId.{log_id_of}
 use Rattle.raft_group_step.specs.GroupState.{GroupState}
 use Rattle.raft_group_step.specs.StoredGroup.{StoredGroup}
 use Rattle.raft_group_step.specs.Values.{Membership}
 use Rattle.raft_group_step.specs.StepResult.{NotLeader, RefusalReason}
-use Rattle.raft_group_step.specs.declared.group_call.GroupCall.TheVariants.{Initialize, Propose}
+use Rattle.raft_group_step.specs.declared.group_call.GroupCall.TheVariants.{ChangeMembership, Initialize, Propose}
+use Rattle.raft_membership.specs.declared.change_members.ChangeMembers.TheVariants.{SetNodes}
 use Rattle.raft_group_step.specs.GroupEvent.{GroupCall, Call}
 use Rattle.raft_group_step.specs.Refusal.{refusal_of}
 use Rattle.raft_laws.specs.declared.world_event.WorldEvent.{WorldEvent}
@@ -155,3 +156,18 @@ returns-clause-refused c = λ id x.
     refused_none (refusal_of x.node x.state (Call x.call x.now))
     (refused_at 2 x.node (Propose (add 9) 9) x.call 0 x.now x.state same x.is_up)
     x.taken
+
+pub returns-clause-change : goal.returns-clause-change
+returns-clause-change c =
+    record {
+      node = 1;
+      call = ChangeMembership (SetNodes ((4, 110 ∷ []) ∷ [])) 2;
+      now = 0;
+      stop = None;
+      state = _;
+      event = refl;
+      is_up = refl;
+      noted = refl;
+      taken = refl;
+      next = refl;
+    }

@@ -1,5 +1,8 @@
-use Rattle.std.specs.Prelude.{◌≡◌, true, false, [], ◌∷◌, Some, refl}
-use Rattle.std.proofs.Common.{arith, ap}
+use Rattle.std.specs.Prelude.{◌≡◌, ℕ, true, false, [], ◌∷◌, Some, refl}
+use Rattle.std.proofs.Common.{◌∙◌, ap, arith}
+use Rattle.raft_values.specs.declared.vote.LeaderId.{LeaderId}
+use Rattle.raft_group_step.specs.Values.{Entry}
+use Rattle.raft_group_step.specs.GroupState.{Follower, Leader}
 use Rattle.raft_laws.specs.Example.{add}
 use Rattle.raft_laws.specs.OriginRun.{command_at}
 use Rattle.raft_laws.proofs.BallotAgreement.{same_some}
@@ -34,6 +37,16 @@ returns-clause-earlier_lead c = λ h.
     let began : Some 4 ≡ Some h.lead.began = ap began_of h.leads in
     let same = same_some began in
     omega (arith, l, same)
+
+pub returns-clause-other_vote : goal.returns-clause-other_vote
+returns-clause-other_vote c = λ h.
+    let entry : Some (command_at 2 (add 5)) ≡ Some h.entry = h.stands in
+    let leader = ap (λ (e : Entry). e.log_id.leader_id) (same_some entry) ∙ h.own in
+    let term : 1 ≡ 3 = ap (λ (l : LeaderId ℕ). l.term) leader in
+    omega (arith, term)
+
+pub returns-clause-follower : goal.returns-clause-follower
+returns-clause-follower c = λ h. let f : Follower ≡ Leader h.lead = h.leads in cc
 
 pub returns-clause-falling : goal.returns-clause-falling
 returns-clause-falling c = λ h.
