@@ -1,2 +1,4 @@
 pub mod Sending
 pub mod Answering
+pub mod Electing
+pub mod Proposing

@@ -1,4 +1,6 @@
 //! The laws of single steps of a group at a node.
 #![tactic(auto)]
 
+pub mod elections;
 pub mod replies;
+pub mod taking;
