@@ -1,5 +1,6 @@
 -- A candidate that a quorum granted leads in that event.
 use Rattle.std.specs.Prelude.{◌≡◌, ℕ, ◌+◌, ◌==◌, ◌&&◌, Bool, true, false, List, [], ◌∷◌, ◌++◌, Option, Some, None, cond, is_some, refl}
+use Rattle.std.specs.List.{list_any}
 use Rattle.std.proofs.Common.{sym, ap, ◌∙◌, subst}
 use Rattle.raft_values.specs.declared.vote.Vote.{Vote}
 use Rattle.raft_values.specs.declared.log_id.LogId.{LogId}
@@ -38,10 +39,10 @@ use Rattle.raft_step_laws.proofs.Sending.{finished_adds, idle_end}
 
 -- ---- words of roles
 
-never : {A : Type 0} → (b : Bool) → b ≡ true → b ≡ false → A
+pub never : {A : Type 0} → (b : Bool) → b ≡ true → b ≡ false → A
 never b t f = absurd (let e : true ≡ false = sym t ∙ f in cc)
 
-and_false : (b : Bool) → (b && false) ≡ false
+pub and_false : (b : Bool) → (b && false) ≡ false
 and_false true = refl
 and_false false = refl
 
@@ -54,15 +55,25 @@ not_leading role granters e = ap is_leader e
 standing : (role : Role) (granters : List ℕ) → role ≡ Candidate granters → is_candidate role ≡ true
 standing role granters e = ap is_candidate e
 
--- ---- what is no grant leaves the role, or the node is no candidate then
+not_both : {A : Type 0} → (role : Role) (granters : List ℕ) → role ≡ Candidate granters → is_candidate role ≡ false → A
+not_both role granters e f = never (is_candidate role) (standing role granters e) f
+
+no_candidate : (role : Role) → is_leader role ≡ true → is_candidate role ≡ false
+no_candidate Follower t = refl
+no_candidate (Candidate granters) t = absurd (let f : false ≡ true = t in cc)
+no_candidate (Leader lead) t = refl
+
+-- ---- what is no grant leaves the role, or ends it, or changes what a leader knows of its peers
 
 data Calm (r q : StepResult) : Type 0 where
   same : q.state.role ≡ r.state.role → Calm r q
-  gone : is_candidate q.state.role ≡ false → Calm r q
+  gone : q.state.role ≡ Follower → Calm r q
+  yet : is_leader r.state.role ≡ true → is_leader q.state.role ≡ true → Calm r q
 
 calm_then : {p q r : StepResult} → Calm p q → r.state.role ≡ q.state.role → Calm p r
 calm_then (same e) f = same (f ∙ e)
-calm_then (gone e) f = gone (ap is_candidate f ∙ e)
+calm_then (gone e) f = gone (f ∙ e)
+calm_then (yet e g) f = yet e (ap is_leader f ∙ g)
 
 abbrev SameRole : StepResult → StepResult → Type 0
 SameRole r q = q.state.role ≡ r.state.role
@@ -84,7 +95,7 @@ put_role : (es : List Entry) (r : StepResult) → SameRole r (put_entries es r)
 put_role [] r = refl
 put_role (e ∷ es) r = cut_role e.log_id.index r
 
-joined_role : (own peer : ℕ) (m : AppendFields) (b : Bool) (r : StepResult) → SameRole r (joined own peer m b r)
+pub joined_role : (own peer : ℕ) (m : AppendFields) (b : Bool) (r : StepResult) → SameRole r (joined own peer m b r)
 joined_role own peer m true r = put_role _ r
 joined_role own peer m false r = cut_at_role m.previous r
 
@@ -93,7 +104,7 @@ other_role last r =
     either (SameRole r) (has_id_in_log r.state.stored last) r _ refl
     (either (SameRole r) (is_some (entry_at r.state.stored last.index)) _ r (cut_role (place_above r.state.committed) r) refl)
 
-unless_role : (b : Bool) (x : Snapshot) (r : StepResult) → SameRole r (install_unless b x r)
+pub unless_role : (b : Bool) (x : Snapshot) (r : StepResult) → SameRole r (install_unless b x r)
 unless_role true x r = refl
 unless_role false x r = other_role x.last r
 
@@ -118,11 +129,18 @@ higher_calm Success r = same refl
 higher_calm Conflict r = same refl
 higher_calm (HigherVote v) r = greater_calm v r
 
+-- a leader that leads on
+leads_calm : {p r q : StepResult} → is_leader r.state.role ≡ true → is_leader q.state.role ≡ true → Calm p r → Calm p q
+leads_calm f g (same e) = yet (ap is_leader (sym e) ∙ f) g
+leads_calm f g (gone e) = never (is_leader Follower) (ap is_leader (sym e) ∙ f) refl
+leads_calm f g (yet e h) = yet e g
+
 answered_calm : (peer : ℕ) (m : ReplyFields) (role : Role) (p r : StepResult) → r.state.role ≡ role → Calm p r → Calm p (answered peer m role r)
 answered_calm peer m Follower p r e h = h
 answered_calm peer m (Candidate granters) p r e h = h
 answered_calm peer m (Leader lead) p r e h =
-    either (Calm p) (vote_eq m.vote r.state.stored.vote && is_answer_to m (peer_of lead peer).outstanding) _ r (gone refl) h
+    either (Calm p) (vote_eq m.vote r.state.stored.vote && is_answer_to m (peer_of lead peer).outstanding) _ r
+    (leads_calm {r = r} (ap is_leader e) refl h) h
 
 reply_calm : (peer : ℕ) (m : ReplyFields) (r : StepResult) → Calm r (reply_step peer m r)
 reply_calm peer m r =
@@ -144,10 +162,11 @@ beat_role own Follower r = refl
 beat_role own (Candidate granters) r = refl
 beat_role own (Leader lead) r = notices_role own lead (other_ids own r.state.stored) r
 
-lost_calm : (peer : ℕ) (role : Role) (r : StepResult) → Calm r (lost_as peer role r)
-lost_calm peer Follower r = same refl
-lost_calm peer (Candidate granters) r = same refl
-lost_calm peer (Leader lead) r = either (Calm r) (is_some (peer_of lead peer).outstanding) _ r (gone refl) (same refl)
+lost_calm : (peer : ℕ) (role : Role) (r : StepResult) → r.state.role ≡ role → Calm r (lost_as peer role r)
+lost_calm peer Follower r e = same refl
+lost_calm peer (Candidate granters) r e = same refl
+lost_calm peer (Leader lead) r e =
+    either (Calm r) (is_some (peer_of lead peer).outstanding) _ r (yet (ap is_leader e) refl) (same refl)
 
 shot_role : (id : Option (LogId ℕ)) (r : StepResult) → SameRole r (store_snapshot_at id r)
 shot_role None r = refl
@@ -176,37 +195,48 @@ dropped_role : (last : Option (LogId ℕ)) (r : StepResult) → SameRole r (drop
 dropped_role None r = refl
 dropped_role (Some last) r = either (SameRole r) (is_joined_to r.state.stored last) r _ refl refl
 
-opened_gone : (own : ℕ) (s : GroupState) (r : StepResult) → Calm r (opening_step own s.stored)
-opened_gone own s r =
+-- a lead that begins knows of no peer
+data Opened (q : StepResult) : Type 0 where
+  begins : (lead : Lead) → q.state.role ≡ Leader lead → lead.peers ≡ [] → Opened q
+  waits : q.state.role ≡ Follower → Opened q
+
+opened_role : (own : ℕ) (s : GroupState) → Opened (opening_step own s.stored)
+opened_role own s =
     let last = snapshot_last s.stored in
     let placed = apply_up_to (place_of last) (drop_stale_log last (unchanged (state_of s.stored))) in
     let vote = placed.state.stored.vote in
-    either (Calm r) (vote.committed && vote.leader_id.node_id == own) (in_role (Leader (new_lead placed.state.stored)) placed) placed
-    (gone refl)
-    (gone (ap is_candidate (dropped_role last (unchanged (state_of s.stored)))))
+    either Opened (vote.committed && vote.leader_id.node_id == own) (in_role (Leader (new_lead placed.state.stored)) placed) placed
+    (begins (new_lead placed.state.stored) refl refl)
+    (waits (dropped_role last (unchanged (state_of s.stored))))
 
--- ---- what the event itself does to a candidate
+-- ---- what the event itself does to the role
 
-data Standing (own : ℕ) (s : GroupState) (e : GroupEvent) (q : StepResult) : Type 0 where
+pub data Standing (own : ℕ) (s : GroupState) (e : GroupEvent) (q : StepResult) : Type 0 where
   stands_on : q.state.role ≡ s.role → granters_after own s e ≡ granters_of s.role → counts_a_grant s e ≡ false → Standing own s e q
   lacks : (granters : List ℕ) → q.state.role ≡ Candidate granters → granters ≡ granters_after own s e → configs_in_force q.state.stored ≡ configs_counted s e → is_quorum (configs_in_force q.state.stored) (has_id granters) ≡ false → Standing own s e q
-  leads : is_leader q.state.role ≡ true → is_candidate q.state.role ≡ false → Standing own s e q
-  idles : is_candidate q.state.role ≡ false → counts_a_grant s e ≡ false → Standing own s e q
+  -- a lead begins, which knows of no peer yet
+  wins : (lead : Lead) → q.state.role ≡ Leader lead → lead.peers ≡ [] → Standing own s e q
+  follows : q.state.role ≡ Follower → counts_a_grant s e ≡ false → Standing own s e q
+  -- a grant that comes to no candidate
+  idles : q.state.role ≡ s.role → is_candidate s.role ≡ false → counts_a_grant s e ≡ false → Standing own s e q
+  leads_yet : is_leader s.role ≡ true → is_leader q.state.role ≡ true → counts_a_grant s e ≡ false → Standing own s e q
 
 -- an event without a grant
 calm_stands : {own : ℕ} {s : GroupState} {e : GroupEvent} (r q : StepResult) → r.state.role ≡ s.role → granters_after own s e ≡ granters_of s.role → counts_a_grant s e ≡ false → Calm r q → Standing own s e q
 calm_stands r q f after none (same g) = stands_on (g ∙ f) after none
-calm_stands r q f after none (gone g) = idles g none
+calm_stands r q f after none (gone g) = follows g none
+calm_stands r q f after none (yet h g) = leads_yet (ap is_leader (sym f) ∙ h) g none
 
 -- the lead begins
-begun_lead : (r : StepResult) → (is_leader (begin_lead r).state.role ≡ true) × (is_candidate (begin_lead r).state.role ≡ false)
+begun_lead : (r : StepResult) → (begin_lead r).state.role ≡ Leader (new_lead r.state.stored)
 begun_lead r =
     let q = in_role (Leader (new_lead r.state.stored)) (store_vote (committed_vote r.state.stored.vote) r) in
-    either (λ x. (is_leader x.state.role ≡ true) × (is_candidate x.state.role ≡ false)) _ q (append Blank q) (refl, refl) (refl, refl)
+    either (λ x. x.state.role ≡ Leader (new_lead r.state.stored)) (list_any (is_written_by q.state.stored.vote.leader_id) q.state.stored.log) q (append Blank q)
+    refl refl
 
 -- one more grant
 granted_stands : {own : ℕ} {s : GroupState} {e : GroupEvent} (granters : List ℕ) (r : StepResult) → granters ≡ granters_after own s e → configs_in_force r.state.stored ≡ configs_counted s e → (b : Bool) → is_quorum (configs_in_force r.state.stored) (has_id granters) ≡ b → Standing own s e (lead_if b (in_role (Candidate granters) r))
-granted_stands granters r e f true t = let x = begun_lead (in_role (Candidate granters) r) in leads x.0 x.1
+granted_stands granters r e f true t = wins (new_lead r.state.stored) (begun_lead (in_role (Candidate granters) r)) refl
 granted_stands granters r e f false t = lacks granters refl e f t
 
 module _ (own : ℕ) (s : GroupState) (now : ℕ) where
@@ -240,7 +270,7 @@ module _ (own : ℕ) (s : GroupState) (now : ℕ) where
   call_stands (Propose command token) = stands_on refl refl refl
   call_stands (ChangeMembership change token) = stands_on (changed_role (membership_in_force s.stored) change token r) refl refl
   call_stands Heartbeat = stands_on (beat_role own s.role r) refl refl
-  call_stands (Lost peer) = calm_stands r (lost_as peer s.role r) refl refl refl (lost_calm peer s.role r)
+  call_stands (Lost peer) = calm_stands r (lost_as peer s.role r) refl refl refl (lost_calm peer s.role r refl)
   call_stands TriggerSnapshot = stands_on (snapshot_role s.applied r) refl refl
   call_stands (TriggerPurge place) = stands_on (within_role place (snapshot_last s.stored) r) refl refl
 
@@ -257,14 +287,14 @@ module _ (own : ℕ) (s : GroupState) (now : ℕ) where
         h
 
     granted_by : (role : Role) → s.role ≡ role → is_grant_for s.stored m.body ≡ true → Standing own s e (with_grant peer role r)
-    granted_by Follower is t = idles (ap is_candidate is) (ap (λ x. is_candidate x && is_grant_for s.stored m.body) is)
+    granted_by Follower is t = idles refl (ap is_candidate is) (ap (λ x. is_candidate x && is_grant_for s.stored m.body) is)
     granted_by (Candidate granters) is t =
         let after : granters_after own s e ≡ with_granter peer granters =
         ap (λ b. cond b (with_granter peer (granters_of s.role)) (granters_of s.role)) t ∙ ap (λ x. with_granter peer (granters_of x)) is
         in
         granted_stands (with_granter peer granters) r (sym after) refl
         (is_quorum (configs_in_force s.stored) (has_id (with_granter peer granters))) refl
-    granted_by (Leader lead) is t = idles (ap is_candidate is) (ap (λ x. is_candidate x && is_grant_for s.stored m.body) is)
+    granted_by (Leader lead) is t = idles refl (ap is_candidate is) (ap (λ x. is_candidate x && is_grant_for s.stored m.body) is)
 
     counted_stands : (v : Vote ℕ) (b : Bool) → is_grant_for s.stored m.body ≡ b → Standing own s e (counted peer b v r)
     counted_stands v true t = granted_by s.role refl t
@@ -278,15 +308,15 @@ module _ (own : ℕ) (s : GroupState) (now : ℕ) where
     body_stands (SnapshotRequest v id x) is = passes _ (ap (is_grant_for s.stored) is) (offered_calm own peer v id x (vote_lt v s.stored.vote) r)
     body_stands (SnapshotReply a) is = passes _ (ap (is_grant_for s.stored) is) (reply_calm peer a r)
 
-event_stands : (own : ℕ) (s : GroupState) (e : GroupEvent) → Standing own s e (event_step own s e)
+pub event_stands : (own : ℕ) (s : GroupState) (e : GroupEvent) → Standing own s e (event_step own s e)
 event_stands own s AddGroup = stands_on refl refl refl
 event_stands own s (Call call now) = call_stands own s now call
 event_stands own s (Receive peer m now) = body_stands own s now peer m m.body refl
-event_stands own s Open = open_stands (opened_gone own s (unchanged (state_of s.stored)))
+event_stands own s Open = open_stands (opened_role own s)
   where
-    open_stands : Calm (unchanged (state_of s.stored)) (opening_step own s.stored) → Standing own s Open (opening_step own s.stored)
-    open_stands (same f) = idles (ap is_candidate f) refl
-    open_stands (gone f) = idles f refl
+    open_stands : Opened (opening_step own s.stored) → Standing own s Open (opening_step own s.stored)
+    open_stands (begins lead f g) = wins lead f g
+    open_stands (waits f) = follows f refl
 
 -- ---- the laws
 
@@ -314,8 +344,10 @@ module _ (own : ℕ) (s : GroupState) (e : GroupEvent) where
       go : Standing own s e q → granters ≡ granters_after own s e
       go (stands_on f after none) = granters_in s.role granters (sym f ∙ then) ∙ sym after
       go (lacks others f after counted few) = granters_in q.state.role granters then ∙ ap granters_of f ∙ after
-      go (leads t f) = never (is_candidate q.state.role) (standing q.state.role granters then) f
-      go (idles f none) = never (is_candidate q.state.role) (standing q.state.role granters then) f
+      go (wins lead f g) = not_both q.state.role granters then (ap is_candidate f)
+      go (follows f none) = not_both q.state.role granters then (ap is_candidate f)
+      go (idles f idle none) = not_both q.state.role granters then (ap is_candidate f ∙ idle)
+      go (leads_yet f g none) = not_both q.state.role granters then (no_candidate q.state.role g)
 
   leads_then : counts_a_grant s e ≡ true → is_quorum (configs_counted s e) (has_id (granters_after own s e)) ≡ true → is_leader end.state.role ≡ true
   leads_then counts many = (finished_adds own s.committed q).leads ∙ go (event_stands own s e)
@@ -327,8 +359,10 @@ module _ (own : ℕ) (s : GroupState) (e : GroupEvent) where
           (ap (λ cs. is_quorum cs (has_id (granters_after own s e))) (sym counted)
           ∙ ap (λ ns. is_quorum (configs_in_force q.state.stored) (has_id ns)) (sym after)
           ∙ few)
-      go (leads t f) = t
-      go (idles f none) = never (counts_a_grant s e) counts none
+      go (wins lead f g) = ap is_leader f
+      go (follows f none) = never (counts_a_grant s e) counts none
+      go (idles f idle none) = never (counts_a_grant s e) counts none
+      go (leads_yet f g none) = never (counts_a_grant s e) counts none
 
   lacks_then : LacksAQuorum s → (is_candidate s.role ≡ true → configs_in_force end.state.stored ≡ configs_in_force s.stored) → LacksAQuorum end.state
   lacks_then before stays granters is = go (event_stands own s e)
@@ -347,8 +381,10 @@ module _ (own : ℕ) (s : GroupState) (e : GroupEvent) where
           let others_are : granters ≡ others = granters_in q.state.role granters then ∙ ap granters_of f in
           ap (λ (x : StepResult). is_quorum (configs_in_force x.state.stored) (has_id granters)) whole
           ∙ ap (λ ns. is_quorum (configs_in_force q.state.stored) (has_id ns)) others_are ∙ few
-      go (leads t f) = never (is_candidate q.state.role) (standing q.state.role granters then) f
-      go (idles f none) = never (is_candidate q.state.role) (standing q.state.role granters then) f
+      go (wins lead f g) = not_both q.state.role granters then (ap is_candidate f)
+      go (follows f none) = not_both q.state.role granters then (ap is_candidate f)
+      go (idles f idle none) = not_both q.state.role granters then (ap is_candidate f ∙ idle)
+      go (leads_yet f g none) = not_both q.state.role granters then (no_candidate q.state.role g)
 
   lacks_unless : (why : Option RefusalReason) → LacksAQuorum s → (is_candidate s.role ≡ true → configs_in_force (step_unless why own s e).state.stored ≡ configs_in_force s.stored) → LacksAQuorum (step_unless why own s e).state
   lacks_unless (Some why) before stays = before

@@ -1,5 +1,5 @@
 -- What the end of an event does: it sends requests alone and stores removals alone, behind what the event itself sent and
--- stored. It leaves the vote, and whether the node leads, and where the node doesn't lead it does nothing.
+-- stored. It leaves the vote, the unknown tokens, and whether the node leads, and where the node doesn't lead it does nothing.
 use Rattle.std.specs.Prelude.{◌≡◌, ℕ, ◌&&◌, cond, nat_lt, Bool, true, false, List, [], ◌∷◌, ◌++◌, Option, Some, None, All, is_none, refl}
 use Rattle.std.proofs.Common.{sym, ap, ◌∙◌, append_assoc}
 use Rattle.std.proofs.lemmas.List.{append-nil}
@@ -32,10 +32,11 @@ pub record AddsRequests (r q : StepResult) : Type 0 where
   pub removed : List StoringCommand
   pub stored : q.commands ≡ r.commands ++ removed
   pub removals : All Removes removed
+  pub unknown : q.unknown ≡ r.unknown
 
 -- what neither sends nor stores
-adds_none : (r q : StepResult) → q.messages ≡ r.messages → q.state.stored.vote ≡ r.state.stored.vote → is_leader q.state.role ≡ is_leader r.state.role → q.commands ≡ r.commands → AddsRequests r q
-adds_none r q e v l c =
+adds_none : (r q : StepResult) → q.messages ≡ r.messages → q.state.stored.vote ≡ r.state.stored.vote → is_leader q.state.role ≡ is_leader r.state.role → q.commands ≡ r.commands → q.unknown ≡ r.unknown → AddsRequests r q
+adds_none r q e v l c u =
     record {
       more = [];
       added = e ∙ sym (append-nil r.messages);
@@ -45,10 +46,11 @@ adds_none r q e v l c =
       removed = [];
       stored = c ∙ sym (append-nil r.commands);
       removals = All-nil Removes;
+      unknown = u;
     }
 
-adds_one : (r q : StepResult) (x : Message) → AsksReply x → q.messages ≡ r.messages ++ x ∷ [] → q.state.stored.vote ≡ r.state.stored.vote → is_leader q.state.role ≡ is_leader r.state.role → q.commands ≡ r.commands → AddsRequests r q
-adds_one r q x h e v l c =
+adds_one : (r q : StepResult) (x : Message) → AsksReply x → q.messages ≡ r.messages ++ x ∷ [] → q.state.stored.vote ≡ r.state.stored.vote → is_leader q.state.role ≡ is_leader r.state.role → q.commands ≡ r.commands → q.unknown ≡ r.unknown → AddsRequests r q
+adds_one r q x h e v l c u =
     record {
       more = x ∷ [];
       added = e;
@@ -58,6 +60,7 @@ adds_one r q x h e v l c =
       removed = [];
       stored = c ∙ sym (append-nil r.commands);
       removals = All-nil Removes;
+      unknown = u;
     }
 
 -- a leader leads on, with other notes of its peers
@@ -75,27 +78,28 @@ adds_then {p} {q} {r} h k =
       removed = h.removed ++ k.removed;
       stored = k.stored ∙ ap (λ cs. cs ++ k.removed) h.stored ∙ append_assoc p.commands h.removed k.removed;
       removals = All-append Removes h.removed k.removed h.removals k.removals;
+      unknown = k.unknown ∙ h.unknown;
     }
 
 entries_add : (own : ℕ) (p : PeerState) (lead : Lead) (r : StepResult) → r.state.role ≡ Leader lead → AddsRequests r (send_entries own p lead r)
 entries_add own p lead r e =
-    let q = send_entries own p lead r in adds_one r q _ refl refl refl (leads_yet r q lead _ e refl) refl
+    let q = send_entries own p lead r in adds_one r q _ refl refl refl (leads_yet r q lead _ e refl) refl refl
 
 request_adds : (own : ℕ) (p : PeerState) (lead : Lead) (o : Option Snapshot) (r : StepResult) → r.state.role ≡ Leader lead → AddsRequests r (send_request own p lead o r)
 request_adds own p lead None r e = entries_add own p lead r e
 request_adds own p lead (Some x) r e =
     let q = send_snapshot own p lead x r in
     either (AddsRequests r) (nat_lt p.search (first_place r.state.stored)) q (send_entries own p lead r)
-    (adds_one r q _ refl refl refl (leads_yet r q lead _ e refl) refl)
+    (adds_one r q _ refl refl refl (leads_yet r q lead _ e refl) refl refl)
     (entries_add own p lead r e)
 
 nothing_added : (r : StepResult) → AddsRequests r r
-nothing_added r = adds_none r r refl refl refl refl
+nothing_added r = adds_none r r refl refl refl refl refl
 
 notice_adds : (own : ℕ) (news : Bool) (p : PeerState) (r : StepResult) → AddsRequests r (cond news (send own p.peer (notice r.state p) r) r)
 notice_adds own news p r =
     let q = send own p.peer (notice r.state p) r in
-    either (AddsRequests r) news q r (adds_one r q _ refl refl refl refl refl) (nothing_added r)
+    either (AddsRequests r) news q r (adds_one r q _ refl refl refl refl refl refl) (nothing_added r)
 
 serve_adds : (own : ℕ) (news : Bool) (n : ℕ) (role : Role) (r : StepResult) → r.state.role ≡ role → AddsRequests r (serve_as own news n role r)
 serve_adds own news n Follower r e = nothing_added r
@@ -114,7 +118,7 @@ serve_all_adds own news (n ∷ ns) r = adds_then (serve_adds own news n r.state.
 commit_adds : (own : ℕ) (role : Role) (r : StepResult) → AddsRequests r (commit_as_leader own role r)
 commit_adds own Follower r = nothing_added r
 commit_adds own (Candidate granters) r = nothing_added r
-commit_adds own (Leader lead) r = adds_none r _ refl refl refl refl
+commit_adds own (Leader lead) r = adds_none r _ refl refl refl refl refl
 
 remove_adds : (id : Option (LogId ℕ)) (r : StepResult) → AddsRequests r (remove_up_to id r)
 remove_adds None r = nothing_added r
@@ -128,6 +132,7 @@ remove_adds (Some id) r =
       removed = RemoveUpTo id ∷ [];
       stored = refl;
       removals = All-cons Removes (RemoveUpTo id) [] refl (All-nil Removes);
+      unknown = refl;
     }
 
 purge_adds : (role : Role) (wish : Option ℕ) (r : StepResult) → AddsRequests r (purge_as_wished role wish r)
@@ -138,7 +143,7 @@ purge_adds (Leader lead) (Some place) r =
     let wished = with_wish None r in
     either (AddsRequests r) (is_kept_for_peers place lead.peers) r (purge_up_to place wished)
     (nothing_added r)
-    (adds_then (adds_none r wished refl refl refl refl) (remove_adds (id_of (entry_at r.state.stored place)) wished))
+    (adds_then (adds_none r wished refl refl refl refl refl) (remove_adds (id_of (entry_at r.state.stored place)) wished))
 
 pub finished_adds : (own : ℕ) (before : Option ℕ) (r : StepResult) → AddsRequests r (finished own before r)
 finished_adds own before r =

@@ -4,3 +4,7 @@ pub mod Elections
 pub mod ElectionRows
 pub mod Taking
 pub mod TakingRows
+pub mod Tokens
+pub mod TokenRows
+pub mod PeerStates
+pub mod Serving

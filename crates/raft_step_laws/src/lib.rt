@@ -4,3 +4,4 @@
 pub mod elections;
 pub mod replies;
 pub mod taking;
+pub mod tokens;
