@@ -149,7 +149,7 @@ reply_calm peer m r =
 
 -- ---- calls
 
-changed_role : (o : Option LoggedMembership) (change : ChangeMembers) (token : ℕ) (r : StepResult) → SameRole r (append_changed o change token r)
+pub changed_role : (o : Option LoggedMembership) (change : ChangeMembers) (token : ℕ) (r : StepResult) → SameRole r (append_changed o change token r)
 changed_role None change token r = refl
 changed_role (Some m) change token r = refl
 
@@ -157,7 +157,7 @@ notices_role : (own : ℕ) (lead : Lead) (ns : List ℕ) (r : StepResult) → Sa
 notices_role own lead [] r = refl
 notices_role own lead (n ∷ ns) r = notices_role own lead ns _
 
-beat_role : (own : ℕ) (role : Role) (r : StepResult) → SameRole r (beat_as own role r)
+pub beat_role : (own : ℕ) (role : Role) (r : StepResult) → SameRole r (beat_as own role r)
 beat_role own Follower r = refl
 beat_role own (Candidate granters) r = refl
 beat_role own (Leader lead) r = notices_role own lead (other_ids own r.state.stored) r
@@ -172,7 +172,7 @@ shot_role : (id : Option (LogId ℕ)) (r : StepResult) → SameRole r (store_sna
 shot_role None r = refl
 shot_role (Some id) r = refl
 
-snapshot_role : (applied : Option ℕ) (r : StepResult) → SameRole r (snapshot_of_applied applied r)
+pub snapshot_role : (applied : Option ℕ) (r : StepResult) → SameRole r (snapshot_of_applied applied r)
 snapshot_role None r = refl
 snapshot_role (Some a) r = either (SameRole r) _ r _ refl (shot_role (id_of (entry_at r.state.stored a)) r)
 
@@ -185,7 +185,7 @@ purge_role place Follower r = remove_role (id_of (entry_at r.state.stored place)
 purge_role place (Candidate granters) r = remove_role (id_of (entry_at r.state.stored place)) r
 purge_role place (Leader lead) r = either (SameRole r) _ r _ refl refl
 
-within_role : (place : ℕ) (last : Option (LogId ℕ)) (r : StepResult) → SameRole r (purge_within place last r)
+pub within_role : (place : ℕ) (last : Option (LogId ℕ)) (r : StepResult) → SameRole r (purge_within place last r)
 within_role place None r = refl
 within_role place (Some last) r = purge_role _ r.state.role r
 
@@ -196,11 +196,11 @@ dropped_role None r = refl
 dropped_role (Some last) r = either (SameRole r) (is_joined_to r.state.stored last) r _ refl refl
 
 -- a lead that begins knows of no peer
-data Opened (q : StepResult) : Type 0 where
+pub data Opened (q : StepResult) : Type 0 where
   begins : (lead : Lead) → q.state.role ≡ Leader lead → lead.peers ≡ [] → Opened q
   waits : q.state.role ≡ Follower → Opened q
 
-opened_role : (own : ℕ) (s : GroupState) → Opened (opening_step own s.stored)
+pub opened_role : (own : ℕ) (s : GroupState) → Opened (opening_step own s.stored)
 opened_role own s =
     let last = snapshot_last s.stored in
     let placed = apply_up_to (place_of last) (drop_stale_log last (unchanged (state_of s.stored))) in

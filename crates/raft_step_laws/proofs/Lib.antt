@@ -6,3 +6,7 @@ pub mod Untold
 pub mod Telling
 pub mod OwnVotes
 pub mod PeerLists
+pub mod LeaderSends
+pub mod Unnumbered
+pub mod PeerEvents
+pub mod Served

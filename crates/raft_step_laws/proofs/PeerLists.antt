@@ -2,6 +2,7 @@
 use Rattle.std.specs.Prelude.{◌≡◌, ◌⊎◌, ℕ, zero, suc, ◌+◌, ◌==◌, nat_lt, cond, Bool, true, false, List, [], ◌∷◌, ◌++◌, Option, Some, None, Contains, refl}
 use Rattle.std.proofs.Common.{inl, inr, sym, ap, ◌∙◌, subst, arith, eqb-true, eq-eqb, ⊎_elim}
 use Rattle.std.proofs.lemmas.Bool.{cond_both, cond-true, cond-false}
+use Rattle.std.proofs.lemmas.List.Elements.{Contains-append_right}
 use Rattle.raft_group_step.specs.Message.{Message, MessageBody, VoteRequest, VoteReply, AppendRequest, AppendReply, SnapshotRequest, SnapshotReply, AppendFields, RequestId, HeartBeat, Numbered}
 use Rattle.raft_group_step.specs.Peer.{Outstanding, PeerState, peer_or, with_peer}
 use Rattle.raft_step_laws.specs.PeerStates.{after_append, after_body, peer_after_sending}
@@ -112,6 +113,31 @@ body_peer (AppendReply m) p = refl
 body_peer (SnapshotRequest vote id snapshot) p = refl
 body_peer (SnapshotReply m) p = refl
 
+appended_has : (id : RequestId) (m : AppendFields) (p : PeerState) → (o : Outstanding) × (p.outstanding ≡ Some o) → (o : Outstanding) × ((after_append id m p).outstanding ≡ Some o)
+appended_has HeartBeat m p h = h
+appended_has (Numbered id) m p h = (_, refl)
+
+-- a request stays outstanding until another is sent
+pub body_has : (b : MessageBody) (p : PeerState) → (o : Outstanding) × (p.outstanding ≡ Some o) → (o : Outstanding) × ((after_body b p).outstanding ≡ Some o)
+body_has (VoteRequest vote last) p h = h
+body_has (VoteReply vote granted last) p h = h
+body_has (AppendRequest m) p h = appended_has m.id m p h
+body_has (AppendReply m) p h = h
+body_has (SnapshotRequest vote id snapshot) p h = (_, refl)
+body_has (SnapshotReply m) p h = h
+
+appended_matched : (id : RequestId) (m : AppendFields) (p : PeerState) → (after_append id m p).matched ≡ p.matched
+appended_matched HeartBeat m p = refl
+appended_matched (Numbered id) m p = refl
+
+pub body_matched : (b : MessageBody) (p : PeerState) → (after_body b p).matched ≡ p.matched
+body_matched (VoteRequest vote last) p = refl
+body_matched (VoteReply vote granted last) p = refl
+body_matched (AppendRequest m) p = appended_matched m.id m p
+body_matched (AppendReply m) p = refl
+body_matched (SnapshotRequest vote id snapshot) p = refl
+body_matched (SnapshotReply m) p = refl
+
 one_peer : (m : Message) (p : PeerState) → (cond (m.addressee == p.peer) (after_body m.body p) p).peer ≡ p.peer
 one_peer m p =
     cond_both (m.addressee == p.peer) (after_body m.body p) p (λ q. q.peer ≡ p.peer) (λ t. body_peer m.body p) (λ t. refl)
@@ -124,11 +150,22 @@ sent_later : (m : Message) (ms : List Message) (n id : ℕ) → IsSent ms n id �
 sent_later m ms n id h =
     record {
       message = h.message;
-      sent = (h.sent.0 + 1, ?, ?);
+      sent = Contains-append_right (m ∷ []) ms h.message h.sent;
       addressee = h.addressee;
       number = h.number;
     }
 
+one_since : (m : Message) (p : PeerState) (o : Outstanding) → (cond (m.addressee == p.peer) (after_body m.body p) p).outstanding ≡ Some o → (p.outstanding ≡ Some o) ⊎ ((m.addressee ≡ p.peer) × (request_number m.body ≡ Some o.id))
+one_since m p o =
+    cond_both (m.addressee == p.peer) (after_body m.body p) p (λ q. q.outstanding ≡ Some o → (p.outstanding ≡ Some o) ⊎ ((m.addressee ≡ p.peer) × (request_number m.body ≡ Some o.id)))
+    (λ t e. ⊎_elim (λ f. inl f) (λ f. inr (eqb-true m.addressee p.peer t, f)) (body_number m.body p o e))
+    (λ t e. inl e)
+
 pub outstanding_since : (ms : List Message) (p : PeerState) (o : Outstanding) → (peer_after_sending ms p).outstanding ≡ Some o → (p.outstanding ≡ Some o) ⊎ IsSent ms p.peer o.id
 outstanding_since [] p o e = inl e
-outstanding_since (m ∷ ms) p o e = ?
+outstanding_since (m ∷ ms) p o e =
+    let q = cond (m.addressee == p.peer) (after_body m.body p) p in
+    ⊎_elim
+    (λ f. ⊎_elim (λ g. inl g) (λ g. inr (sent_here m ms p.peer o.id g.0 g.1)) (one_since m p o f))
+    (λ h. inr (sent_later m ms p.peer o.id (subst (λ n. IsSent ms n o.id) (one_peer m p) h)))
+    (outstanding_since ms q o e)

@@ -49,12 +49,12 @@ use Rattle.raft_step_laws.proofs.Untold.{Without, counted_without, down_without,
 
 -- ---- what leaves all tokens, and whether the node leads
 
-record Stays (r q : StepResult) : Type 0 where
-  untold : q.state.untold ≡ r.state.untold
-  told : q.told ≡ r.told
-  unknown : q.unknown ≡ r.unknown
-  leads : is_leader q.state.role ≡ is_leader r.state.role
-  vote : q.state.stored.vote ≡ r.state.stored.vote
+pub record Stays (r q : StepResult) : Type 0 where
+  pub untold : q.state.untold ≡ r.state.untold
+  pub told : q.told ≡ r.told
+  pub unknown : q.unknown ≡ r.unknown
+  pub leads : is_leader q.state.role ≡ is_leader r.state.role
+  pub vote : q.state.stored.vote ≡ r.state.stored.vote
 
 stays_refl : (r : StepResult) → Stays r r
 stays_refl r = record { untold = refl; told = refl; unknown = refl; leads = refl; vote = refl }
@@ -69,7 +69,7 @@ notices_stay own lead [] p r h = h
 notices_stay own lead (n ∷ ns) p r h =
     notices_stay own lead ns p _ (record { untold = h.untold; told = h.told; unknown = h.unknown; leads = h.leads; vote = h.vote })
 
-beat_stays : (own : ℕ) (role : Role) (r : StepResult) → Stays r (beat_as own role r)
+pub beat_stays : (own : ℕ) (role : Role) (r : StepResult) → Stays r (beat_as own role r)
 beat_stays own Follower r = stays_refl r
 beat_stays own (Candidate granters) r = stays_refl r
 beat_stays own (Leader lead) r = notices_stay own lead (other_ids own r.state.stored) r r (stays_refl r)
@@ -91,7 +91,7 @@ shot_stays : (id : Option (LogId ℕ)) (r : StepResult) → Stays r (store_snaps
 shot_stays None r = stays_refl r
 shot_stays (Some id) r = record { untold = refl; told = refl; unknown = refl; leads = refl; vote = refl }
 
-snapshot_stays : (applied : Option ℕ) (r : StepResult) → Stays r (snapshot_of_applied applied r)
+pub snapshot_stays : (applied : Option ℕ) (r : StepResult) → Stays r (snapshot_of_applied applied r)
 snapshot_stays None r = stays_refl r
 snapshot_stays (Some a) r = either (Stays r) _ r _ (stays_refl r) (shot_stays (id_of (entry_at r.state.stored a)) r)
 
@@ -106,7 +106,7 @@ purge_stays place (Leader lead) r =
     either (Stays r) (nat_lt place (first_place r.state.stored)) r (with_wish (later_place r.state.wish (Some place)) r) (stays_refl r)
     (record { untold = refl; told = refl; unknown = refl; leads = refl; vote = refl })
 
-within_stays : (place : ℕ) (last : Option (LogId ℕ)) (r : StepResult) → Stays r (purge_within place last r)
+pub within_stays : (place : ℕ) (last : Option (LogId ℕ)) (r : StepResult) → Stays r (purge_within place last r)
 within_stays place None r = stays_refl r
 within_stays place (Some last) r = purge_stays _ r.state.role r
 
@@ -159,12 +159,12 @@ data Course (s : GroupState) (e : GroupEvent) (q : StepResult) : Type 0 where
 not_leading : (s t : GroupState) → is_leader t.role ≡ false → leads_on s t ≡ false
 not_leading s t e = ap (λ b. is_leader s.role && (b && vote_eq s.stored.vote t.stored.vote)) e ∙ and_false (is_leader s.role)
 
-another_vote : (s t : GroupState) → vote_eq s.stored.vote t.stored.vote ≡ false → leads_on s t ≡ false
+pub another_vote : (s t : GroupState) → vote_eq s.stored.vote t.stored.vote ≡ false → leads_on s t ≡ false
 another_vote s t e =
     ap (λ b. is_leader s.role && (is_leader t.role && b)) e
     ∙ ap (λ b. is_leader s.role && b) (and_false (is_leader t.role)) ∙ and_false (is_leader s.role)
 
-next_term_differs : (v w : Vote ℕ) → w.leader_id.term ≡ v.leader_id.term + 1 → vote_eq v w ≡ false
+pub next_term_differs : (v w : Vote ℕ) → w.leader_id.term ≡ v.leader_id.term + 1 → vote_eq v w ≡ false
 next_term_differs v w e =
     ap (λ b. (b && v.leader_id.node_id == w.leader_id.node_id) && beq v.committed w.committed) (ne_eqb v.leader_id.term w.leader_id.term (λ f. omega arith))
 

@@ -13,7 +13,7 @@ use Rattle.raft_group_step.specs.Lead.{peer_of}
 use Rattle.raft_group_step.specs.Reply.{after_answer, ended}
 use Rattle.raft_group_step.specs.Refusal.{refusal_of}
 use Rattle.raft_group_step.specs.GroupStep.{group_step}
-use Rattle.raft_step_laws.specs.Tokens.{leads_on}
+use Rattle.raft_step_laws.specs.Tokens.{HasItsOwnVote, leads_on}
 
 -- ---- what comes back
 
@@ -95,7 +95,7 @@ keeps_its_lead s Open t = false
 -- in one lead: what came changes the peer, and then what is sent
 abbrev pub PeersReplay : Type 0
 PeersReplay =
-    (own : ℕ) (s : GroupState) (e : GroupEvent) → refusal_of own s e ≡ None
+    (own : ℕ) (s : GroupState) (e : GroupEvent) → HasItsOwnVote own s → refusal_of own s e ≡ None
     → (lead lead' : Lead) → s.role ≡ Leader lead → (group_step own s e).state.role ≡ Leader lead'
     → keeps_its_lead s e (group_step own s e).state ≡ true
     → (lead'.began ≡ lead.began)
@@ -104,7 +104,7 @@ PeersReplay =
 -- as a lead begins, nothing is known of any peer but what is sent then
 abbrev pub LeadsBeginAnew : Type 0
 LeadsBeginAnew =
-    (own : ℕ) (s : GroupState) (e : GroupEvent) → refusal_of own s e ≡ None
+    (own : ℕ) (s : GroupState) (e : GroupEvent) → HasItsOwnVote own s → refusal_of own s e ≡ None
     → (lead : Lead) → (group_step own s e).state.role ≡ Leader lead
     → keeps_its_lead s e (group_step own s e).state ≡ false
     → (n : ℕ) → peer_of lead n ≡ peer_after_sending (group_step own s e).messages (new_peer lead.began n)

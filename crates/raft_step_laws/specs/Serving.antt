@@ -10,6 +10,7 @@ use Rattle.raft_group_step.specs.Lead.{other_ids, peer_of}
 use Rattle.raft_group_step.specs.Frames.{lacks_entries}
 use Rattle.raft_group_step.specs.Refusal.{refusal_of}
 use Rattle.raft_group_step.specs.GroupStep.{group_step}
+use Rattle.raft_step_laws.specs.Tokens.{HasItsOwnVote}
 
 abbrev pub number_of_id : RequestId → Option ℕ
 number_of_id HeartBeat = None
@@ -47,7 +48,7 @@ pub record IsServed (s : GroupState) (r : StepResult) (n : ℕ) : Type 0 where
 -- none, it was sent one
 abbrev pub PeersAreServed : Type 0
 PeersAreServed =
-    (own : ℕ) (s : GroupState) (e : GroupEvent) → refusal_of own s e ≡ None
+    (own : ℕ) (s : GroupState) (e : GroupEvent) → HasItsOwnVote own s → refusal_of own s e ≡ None
     → (lead : Lead) → (group_step own s e).state.role ≡ Leader lead
     → (n : ℕ) → has_id (other_ids own (group_step own s e).state.stored) n ≡ true
     → lacks_entries (group_step own s e).state.stored (peer_of lead n) ≡ true

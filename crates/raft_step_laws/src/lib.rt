@@ -2,6 +2,7 @@
 #![tactic(auto)]
 
 pub mod elections;
+pub mod peers;
 pub mod replies;
 pub mod taking;
 pub mod tokens;
