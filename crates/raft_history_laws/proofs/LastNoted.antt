@@ -8,14 +8,14 @@ use Rattle.raft_group_step.specs.StoredGroup.{StoredGroup, after_storing_all, en
 use Rattle.raft_group_step.specs.GroupState.{GroupState}
 use Rattle.raft_group_step.specs.declared.group_call.GroupCall.TheVariants.{Initialize, Elect, Propose, ChangeMembership, Heartbeat, Lost, TriggerSnapshot, TriggerPurge}
 use Rattle.raft_group_step.specs.GroupEvent.{GroupCall, GroupEvent, Call}
-use Rattle.raft_group_step.specs.StepResult.{RefusalReason, StepResult}
+use Rattle.raft_group_step.specs.StepResult.{StepResult}
 use Rattle.raft_group_step.specs.GroupStep.{group_step, step_unless}
 use Rattle.raft_laws.specs.BallotWorld.{BallotWorld}
 use Rattle.raft_laws.specs.BallotRanks.{rank_of}
 use Rattle.raft_laws.specs.declared.world_event.WorldEvent.{WorldEvent}
 use Rattle.raft_laws.specs.declared.world_event.WorldEvent.TheVariants.{Ask}
 use Rattle.raft_laws.specs.GroupWorld.{GroupWorld, NodeState, Up, is_stop, new_world}
-use Rattle.raft_laws.specs.NodeEvent.{Comes, after_step, outcome_at, outcome_of_end, outcome_of_step, state_after}
+use Rattle.raft_laws.specs.NodeEvent.{Comes, after_step, outcome_at, outcome_of_step, state_after}
 use Rattle.raft_laws.specs.GroupRun.{Scene, At, Replays, after_scene, group_run, history_of, outcome_in, ran, scene_of_call, stop_at}
 use Rattle.raft_laws.specs.VotesRise.{stored_of}
 use Rattle.raft_laws.specs.OneList.{AreNodeIds}
@@ -62,13 +62,20 @@ world_later es first later w le =
 -- ---- what an event that is taken leaves at its node
 
 -- what is so of what the whole event stores, and of each stop of it, is so of what is stored behind it
-stored_behind : (P : StoredGroup → Type 0) (s : GroupState) (e : GroupEvent) (r : StepResult) (stop : Option ℕ) → r.refused ≡ None → P r.state.stored → ((k : ℕ) → stop ≡ Some k → P (after_storing_all (take k r.commands) s.stored)) → (st : StoredGroup) × (stored_of (after_step (stop_at (is_stop (outcome_of_step (is_some stop) s e r)) (unwrap_or stop 0)) s r) ≡ Some st) × P st
-stored_behind P s e r None taken whole part = go r.refused taken
-  where
-    go : (o : Option RefusalReason) → o ≡ None → (st : StoredGroup) × (stored_of (after_step (stop_at (is_stop (outcome_of_end r o)) 0) s r) ≡ Some st) × P st
-    go None e = (r.state.stored, refl, whole)
-    go (Some why) e = absurd (let no : None ≡ Some why = sym e in cc)
-stored_behind P s e r (Some k) taken whole part = (after_storing_all (take k r.commands) s.stored, refl, part k refl)
+module _ (P : StoredGroup → Type 0) (s : GroupState) (e : GroupEvent) where
+  abbrev Behind : Option ℕ → StepResult → Type 0
+  Behind stop r =
+      (st : StoredGroup)
+      × (stored_of (after_step (stop_at (is_stop (outcome_of_step (is_some stop) s e r)) (unwrap_or stop 0)) s r) ≡ Some st)
+      × P st
+
+  not_refused_behind : (r : StepResult) (stop : Option ℕ) → P r.state.stored → ((k : ℕ) → stop ≡ Some k → P (after_storing_all (take k r.commands) s.stored)) → Behind stop (record r { refused = None })
+  not_refused_behind r None whole part = (r.state.stored, refl, whole)
+  not_refused_behind r (Some k) whole part = (after_storing_all (take k r.commands) s.stored, refl, part k refl)
+
+  stored_behind : (r : StepResult) (stop : Option ℕ) → r.refused ≡ None → P r.state.stored → ((k : ℕ) → stop ≡ Some k → P (after_storing_all (take k r.commands) s.stored)) → Behind stop r
+  stored_behind r stop taken whole part =
+      subst (λ o. Behind stop (record r { refused = o })) (sym taken) (not_refused_behind r stop whole part)
 
 -- ---- the event of an entry
 

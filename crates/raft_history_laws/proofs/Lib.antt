@@ -16,3 +16,4 @@ pub mod SettledNotes
 pub mod StepCommitted
 pub mod ToldAnswers
 pub mod RunNotes
+pub mod LackedQuorums

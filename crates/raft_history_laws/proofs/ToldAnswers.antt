@@ -12,8 +12,8 @@ use Rattle.raft_group_step.specs.Refusal.{refusal_of}
 use Rattle.raft_group_step.specs.GroupStep.{event_step, group_step, step_unless}
 use Rattle.raft_laws.specs.BallotWorld.{BallotEvent}
 use Rattle.raft_laws.specs.declared.world_event.WorldEvent.{WorldEvent}
-use Rattle.raft_laws.specs.GroupWorld.{GroupWorld, NodeState, Absent, Up, Down, Led, Done, Refused, Skipped, Recorded, is_stop, new_world}
-use Rattle.raft_laws.specs.NodeEvent.{NodeEvent, Comes, Crashes, Restarts, outcome_at, outcome_of_end, state_after}
+use Rattle.raft_laws.specs.GroupWorld.{GroupWorld, NodeState, Absent, Up, Down, Led, Outcome, Done, Refused, Stopped, Skipped, Recorded, is_stop, new_world}
+use Rattle.raft_laws.specs.NodeEvent.{NodeEvent, Comes, Restarts, outcome_at, outcome_of_end, state_after}
 use Rattle.raft_laws.specs.GroupRun.{Scene, Nowhere, At, Replays, after_scene, happens, led_as, led_by, outcome_in, outcome_of, scene_of}
 use Rattle.raft_laws.specs.OneList.{AreNodeIds, IsGroupHistory}
 use Rattle.raft_laws.specs.Settled.{group_list}
@@ -65,6 +65,12 @@ same_told sent sent' told told' unknown unknown' e = cc
 none_told : (x : Untold) (told : List Untold) → told ≡ [] → Contains told x → ⊥
 none_told x told e c = let l = c.1 in let n = ap length e in omega arith
 
+abbrev told_in : Outcome → List Untold
+told_in (Done sent told unknown) = told
+told_in (Refused why) = []
+told_in (Stopped unknown) = []
+told_in Skipped = []
+
 -- what a step that runs to its end tells
 end_told : (sent : List Message) (told : List Untold) (unknown : List ℕ) (r : StepResult) (o : Option RefusalReason) → Done sent told unknown ≡ outcome_of_end r o → told ≡ r.told
 end_told sent told unknown r None e = same_told sent r.messages told r.told unknown r.unknown e
@@ -89,13 +95,11 @@ come_tells n s e sent told unknown is (Some why) why_not =
 node_tells : (n : ℕ) (at_node : NodeEvent) (x : NodeState) (sent : List Message) (told : List Untold) (unknown : List ℕ) → Done sent told unknown ≡ outcome_at n at_node false x → (y : Untold) → Contains told y → Tells n at_node x told
 node_tells n at_node Absent sent told unknown e y c = absurd (skipped sent told unknown e)
 node_tells n (Comes event) (Up s) sent told unknown e y c = come_tells n s event sent told unknown e (refusal_of n s event) refl
-node_tells n Crashes (Up s) sent told unknown e y c = absurd (none_told y told (same_told sent [] told [] unknown [] e) c)
-node_tells n Restarts (Up s) sent told unknown e y c = absurd (skipped sent told unknown e)
-node_tells n (Comes event) (Down stored) sent told unknown e y c = absurd (skipped sent told unknown e)
-node_tells n Crashes (Down stored) sent told unknown e y c = absurd (skipped sent told unknown e)
+node_tells n other (Up s) sent told unknown e y c = absurd (none_told y told (ap told_in e) c)
 node_tells n Restarts (Down stored) sent told unknown e y c =
     let r = group_step n (state_of stored) Open in
     absurd (none_told y told (end_told sent told unknown r r.refused e ∙ opening_told n stored) c)
+node_tells n other (Down stored) sent told unknown e y c = absurd (none_told y told (ap told_in e) c)
 
 -- ---- the event in its world
 

@@ -16,7 +16,7 @@ use Rattle.raft_group_step.specs.GroupStep.{group_step, step_unless}
 use Rattle.raft_laws.specs.BallotWorld.{BallotEvent, ballot_start}
 use Rattle.raft_laws.specs.BallotRanks.{ballot_group, rank_of}
 use Rattle.raft_laws.specs.GroupWorld.{GroupWorld, NodeState, Absent, Up, Down, Recorded, new_world, state_or}
-use Rattle.raft_laws.specs.NodeEvent.{Comes, Crashes, Restarts, after_step}
+use Rattle.raft_laws.specs.NodeEvent.{Comes, Restarts, after_step}
 use Rattle.raft_laws.specs.GroupRun.{Replays, stop_at}
 use Rattle.raft_laws.specs.OneList.{AreNodeIds}
 use Rattle.raft_laws.proofs.BallotAgreement.{same_some}
@@ -286,13 +286,12 @@ nodes_wait : NodesKeep NodeWaits
 nodes_wait m some before n e stopped k Absent fits may h = tt
 nodes_wait m some before n (Comes e) stopped k (Up s) fits may h =
     stops_waits n stopped k s (group_step n s e) (comes_wait m some n fits.0 before s e fits.1 may h)
-nodes_wait m some before n Crashes stopped k (Up s) fits may h = tt
 nodes_wait m some before n Restarts stopped k (Up s) fits may h = h
-nodes_wait m some before n (Comes e) stopped k (Down stored) fits may h = tt
-nodes_wait m some before n Crashes stopped k (Down stored) fits may h = tt
+nodes_wait m some before n other stopped k (Up s) fits may h = tt
 nodes_wait m some before n Restarts stopped k (Down stored) fits may h =
     let x = opening_waits m some n fits.0 before stored fits.1 in
     stops_waits n stopped k (state_of stored) (group_step n (state_of stored) Open) (no_tokens (group_step n (state_of stored) Open).state x.quiet.untold x.began)
+nodes_wait m some before n other stopped k (Down stored) fits may h = tt
 
 start_waits : (n : ℕ) (b : Bool) → NodeWaits n (state_or b (Up (state_of no_group)) Absent)
 start_waits n true = no_tokens (state_of no_group) refl (none_began Follower no_group refl)

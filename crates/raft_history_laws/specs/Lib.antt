@@ -8,3 +8,5 @@ pub mod WaitingTokens
 pub mod WaitingTokensRun
 pub mod ToldAnswers
 pub mod ToldAnswersRun
+pub mod Candidates
+pub mod CandidatesRun

@@ -2,6 +2,7 @@
 //! and what a told token stands for.
 #![tactic(auto)]
 
+pub mod candidates;
 pub mod leader_lists;
 pub mod origins;
 pub mod snapshots;

@@ -47,5 +47,6 @@ other_term e = let term : 1 ≡ 2 = ap (λ (v : Vote ℕ). v.leader_id.term) e i
 pub returns-clause-other_vote : goal.returns-clause-other_vote
 returns-clause-other_vote c = λ h.
     let w = run_of three until_accepted in
-    let all : Each (λ (l : Led). l.vote ≡ vote_of 1 1 true) w.led = (refl, (refl, (refl, tt))) in
+    let first = refl {a = vote_of 1 1 true} in
+    let all : Each (λ (l : Led). l.vote ≡ vote_of 1 1 true) w.led = (first, (first, (first, tt))) in
     other_term (sym (each_contains (λ (l : Led). l.vote ≡ vote_of 1 1 true) w.led h.0 all h.2) ∙ h.1)
