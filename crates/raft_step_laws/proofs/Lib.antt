@@ -1,0 +1,12 @@
+pub mod Sending
+pub mod Answering
+pub mod Electing
+pub mod Proposing
+pub mod Untold
+pub mod Telling
+pub mod OwnVotes
+pub mod PeerLists
+pub mod LeaderSends
+pub mod Unnumbered
+pub mod PeerEvents
+pub mod Served

@@ -1,0 +1,7 @@
+use Rattle.std.specs.Prelude.{◌≡◌, true, false}
+use Rattle.std.proofs.Common.{arith}
+use Rattle.raft_step_laws.specs.TokenRows.{waits}
+use Rattle.raft_step_laws.proofs.tokens.states_with_tokens.Goals as goal
+
+pub returns-clause-committed : goal.returns-clause-committed
+returns-clause-committed c = λ h. let e : true ≡ false = h 0 (waits 7 2) (omega arith) in cc

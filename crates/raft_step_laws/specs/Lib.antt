@@ -1,0 +1,10 @@
+pub mod Replies
+pub mod ReplyRows
+pub mod Elections
+pub mod ElectionRows
+pub mod Taking
+pub mod TakingRows
+pub mod Tokens
+pub mod TokenRows
+pub mod PeerStates
+pub mod Serving
