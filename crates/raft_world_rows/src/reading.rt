@@ -180,6 +180,7 @@ fn event_in(
             now,
         },
         "crash" => WorldEvent::Crash { node: target },
+        "halt" => WorldEvent::Halt { node: target },
         "restart" => WorldEvent::Restart { node: target },
         verb => WorldEvent::Ask {
             node: target,
