@@ -13,7 +13,8 @@ import tempfile
 
 from kit import rt, rtlib
 
-CALLS = r"; it calls .*\Z|: it calls .*\Z"
+GOAL = re.compile(r"note: src/\S+:\d+:\d+: it is not proved that ")
+# Errors that say no more than that a proof names what an edit took away.
 NAMES = r"has no field|is not in scope|has no `|was not admitted|was rejected, was not checked"
 
 
@@ -23,8 +24,15 @@ class Ran:
     def __init__(self, status, said, seconds):
         self.status, self.seconds = status, seconds
         self.lines = said.rstrip("\n").split("\n")
-        found = [re.match(r"fn (\S+): (.*)", it) for it in self.lines]
-        self.functions = {it[1]: it[2] for it in found if it}
+        # What is said of each function, and its goals that search left, which stand above that.
+        self.functions, self.goals, goals = {}, {}, []
+        for line in self.lines:
+            found = re.match(r"fn (\S+): (.*)", line)
+            if found:
+                self.functions[found[1]], self.goals[found[1]] = found[2], goals
+                goals = []
+            elif GOAL.match(line):
+                goals.append(line)
         # With this last line the check went over each function that it was asked for.
         self.has_ended = bool(re.match(r"only=\d+ proved=\d+\Z", self.lines[-1]))
         self.is_stale = bool(rtlib.STALE.search(said))
@@ -38,32 +46,28 @@ class Ran:
                 found[it] = said
         return found
 
-    def refuses(self, name):
+    def refuses(self, name, is_alone):
         """Returns whether the function isn't proved by a goal of its own, and else why not."""
         said = self.of(name)
         if name not in said:
             return False, "the check says nothing of it"
-        whys = [self._why_not(*it) for it in said.items()]
+        whys = [self._why_not(*it, is_alone) for it in said.items()]
         return None in whys, next((it for it in whys if it), "")
 
-    def _why_not(self, name, said):
+    def _why_not(self, name, said, is_alone):
         """Returns None where the function isn't proved by a goal of its own, and else what is."""
-        rest = re.sub(CALLS, "", said)
-        if rest.startswith("no proof") and rest != "no proof":
-            return None
-        if said.startswith("not proved"):
-            errors = self.errors_of(name)
+        if said.startswith(("no proof", "not proved")):
+            if self.goals[name]:
+                return None
+            # (alone, also the lemmas that just this function's proof cites)
+            folder = "proofs" if is_alone else "/".join(["proofs", *name.split("::")[1:]])
+            head = re.compile(rf"(\./)?{re.escape(folder)}/\S+:\d+:\d+: error: ")
+            errors = [it for it in self.lines if head.match(it)]
             if any(not re.search(NAMES, it) for it in errors):
                 return None
             if errors:
-                return f"only its proof's names are missed: {errors[0][:150]}"
+                return f"only names are missed in its proof: {errors[0][:150]}"
         return f"{name} is {said[:150]}"
-
-    def errors_of(self, name):
-        """Returns the errors in the function's own proof."""
-        folder = "/".join(["proofs", *name.split("::")[1:]])
-        head = re.compile(rf"(\./)?{re.escape(folder)}/[^/]*:\d+:\d+: error: ")
-        return [it for it in self.lines if head.match(it)]
 
     def first_error(self):
         """Returns the line that says why the check didn't end."""
@@ -119,16 +123,14 @@ class Tries:
             self.parts(edits, ran, texts)
             return
         for it in edits:
-            if self.is_refused(it, ran):
+            said = [ran.refuses(name, len(edits) == 1) for name in it.functions]
+            if all(well for well, _ in said):
                 self.refused.append(it)
             elif len(edits) > 1:
                 self.round([it])
             else:
-                whys = [ran.refuses(name)[1] for name in it.functions]
-                self.failed[it] = f"is NOT REFUSED: {'; '.join(filter(None, whys))}"
-
-    def is_refused(self, edit, ran):
-        return all(ran.refuses(name)[0] for name in edit.functions)
+                whys = [why for well, why in said if not well]
+                self.failed[it] = f"is NOT REFUSED: {'; '.join(whys)}"
 
     def parts(self, edits, ran, texts):
         """Goes on after a check that didn't end, or that couldn't read what was edited."""

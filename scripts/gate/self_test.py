@@ -48,6 +48,10 @@ WANTED = {
 }
 
 
+# What a check says of a function that it refuses.
+REFUSAL = "note: src/a.rt:1:1: it is not proved that it holds (`x`)\nfn {}: no proof: of `x`\n"
+
+
 def write(file, text):
     os.makedirs(os.path.dirname(file), exist_ok=True)
     with open(file, "w", encoding="utf-8") as it:
@@ -55,7 +59,7 @@ def write(file, text):
 
 
 def with_the_prover(top):
-    """Returns what is wrong in how the edits of a tiny crate are told."""
+    """Returns what is wrong in how the edits of a tiny crate are told, and the seconds it took."""
     write(f"{top}/crates.txt", "tiny:\n")
     write(f"{top}/crates/tiny/src/lib.rt", SOURCE)
     for name, (lines, _) in WANTED.items():
@@ -70,7 +74,7 @@ def with_the_prover(top):
         said = told.get(f"tiny/{name}", "nothing")
         if said != wanted and not (wanted and said and said.startswith(wanted)):
             wrong.append(f"{name}: wanted {wanted or 'refused'}, and not {said or 'refused'}")
-    return wrong
+    return wrong, tries.seconds
 
 
 class _Edit:
@@ -88,7 +92,7 @@ def without_it():
     killed = lambda only: rounds.Ran(-9, "", 0)
     silent = lambda only: rounds.Ran(1, f"only={len(only)} proved=0\n", 0)
     refused = lambda only: rounds.Ran(
-        1, "".join(f"fn {it}: no proof: `search` gave up\n" for it in only) + "only=1 proved=0\n", 0
+        1, "".join(REFUSAL.format(it) for it in only) + "only=1 proved=0\n", 0
     )
     cases = {
         "a killed round": (lambda only: killed(only) if len(only) > 1 else refused(only), None),
@@ -108,6 +112,7 @@ def without_it():
 
 
 def run():
-    """Returns what is wrong in how edits are told."""
+    """Returns what is wrong in how edits are told, and the seconds of one core that it took."""
     with tempfile.TemporaryDirectory(prefix="try-edits-self-test-") as top:
-        return without_it() + with_the_prover(top)
+        wrong, seconds = with_the_prover(top)
+        return without_it() + wrong, seconds

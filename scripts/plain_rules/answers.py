@@ -1,8 +1,10 @@
 """The plain program as a filter: it reads lines of events, and prints what each left, as the
 program of the engines does."""
 
+from dataclasses import replace
+
 from plain_rules.settled import list_of
-from plain_rules.text import entries_text, kind_of, read_event, sum_text, world_text
+from plain_rules.text import entries_text, kind_of, payload_text, read_event, sum_text, world_text
 from plain_rules.world import World
 
 
@@ -13,10 +15,13 @@ class Answering:
     def __init__(self):
         self.begin(())
 
-    def begin(self, ids):
-        """Another world of these nodes, which have the group."""
+    def begin(self, ids, is_patient=False):
+        """Another world of these nodes, which have the group. Events of a patient one have no
+        answer."""
         self.world = World.new(ids, True)
+        self.is_patient = is_patient
         self.number = 0
+        self.next = 0
         self.settled = ()
         self.text = world_text(self.world, 0)
 
@@ -29,7 +34,20 @@ class Answering:
         self.text = world_text(self.world, sent_before)
         messages = self.world.messages[sent_before:]
         sent = "".join(f" {kind_of(it.body)}>{it.addressee}" for it in messages)
-        return f"{self.number} {mark}{sent} {sum_text(self.text)}\n"
+        return "" if self.is_patient else f"{self.number} {mark}{sent} {sum_text(self.text)}\n"
+
+    def deliver(self, event):
+        """The next message is delivered, if there is one."""
+        end = len(self.world.messages)
+        answer = self.happen(replace(event, verb="deliver", target=self.next))
+        self.next = min(self.next + 1, end)
+        return answer
+
+    def lead(self, event):
+        """A node stands for election, unless it leads."""
+        if event.target in self.world.leaders():
+            return ""
+        return self.happen(replace(event, verb="elect"))
 
     def list(self):
         """How many entries the list of the group has, and their checksum."""
@@ -37,17 +55,24 @@ class Answering:
         self.text = entries_text(self.settled) + "\n"
         return f"list {len(self.settled)} {sum_text(self.text)}\n"
 
+    def last(self):
+        """What the last entry of the group's list asks for."""
+        entries = list_of(self.world)
+        return f"last {payload_text(entries[-1].payload) if entries else '-'}\n"
+
     def answer(self, line):
         """The answer to a line, with its newline: an empty line and a comment have none."""
         words = line.split()
         if not words or words[0] == "#":
             return ""
-        if words[0] == "world":
-            self.begin(tuple(map(int, words[1:])))
+        if words[0] in ("world", "patient"):
+            self.begin(tuple(map(int, words[1:])), words[0] == "patient")
             return " ".join(words) + "\n"
-        if words[0] == "show":
-            return self.text
-        return self.list() if words[0] == "list" else self.happen(read_event(line))
+        asked = {"show": lambda: self.text, "list": self.list, "last": self.last}
+        if words[0] in asked:
+            return asked[words[0]]()
+        comes = {"next": self.deliver, "lead": self.lead}
+        return comes.get(words[0], self.happen)(read_event(line))
 
 
 def answers_to(lines):

@@ -16,6 +16,26 @@ HEAD = """\
 # of.
 """
 
+# A run that goes on after want of memory: node 1 sets the group up, leads, and takes four commands,
+# about a crash of another node, a snapshot and a purge. Where it no longer leads, it is elected
+# again, and requests that were lost are sent again.
+PATIENT = """\
+setup 1 0 - 1,2,3;1@node,2@node,3@node
+next 0
+lead 1 1000 -
+next 1000
+propose 1 1000 - 05
+crash 3 0 -
+propose 1 1000 - 06
+snapshot 1 0 -
+purge 1 0 - 9
+restart 3 0 -
+propose 1 1000 - 07
+lead 1 2000 -
+next 2000
+propose 1 2000 - 08
+"""
+
 # The group's list is asked for after so many events.
 EVENTS_TO_LIST = 100
 
@@ -74,8 +94,22 @@ class Expected:
                 self.faults.append(f"{title}: node {member.id} has something else than the list")
 
 
+def patient_lines():
+    """The lines of the run that goes on after want of memory. Messages are delivered in their turn,
+    at most 30 of them, and after each command the list's last entry is asked for."""
+    for line in PATIENT.splitlines():
+        verb, number, *rest = line.split()
+        if verb == "next":
+            yield from [f"next 0 {number} -"] * 30
+            continue
+        yield line
+        if verb == "propose":
+            yield from ["lost 1 0 - 2", "lost 1 0 - 3"]
+            yield from [f"next 0 {rest[0]} -"] * 30 + ["last"]
+
+
 def expected():
-    """The worked runs, then the random worlds."""
+    """The worked runs, the random worlds, and a run that goes on after want of memory."""
     made = Expected()
     runs = worked.read_runs()
     made.faults += worked.all_faults(runs)
@@ -87,4 +121,8 @@ def expected():
         for seed in range(course.seed, course.seed + 5):
             came.update(made.put_random(name, course, seed))
         made.faults += seen.faults_of(name, came)
+    made.put("# want of memory")
+    made.put("patient 1 2 3")
+    for line in patient_lines():
+        made.put(line)
     return made

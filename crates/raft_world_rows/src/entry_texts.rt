@@ -78,9 +78,9 @@ impl Display for BytesText<'_> {
     }
 }
 
-// `blank`, the bytes of a command, or a membership.
+/// `blank`, the bytes of a command, or a membership.
 #[derive(Clone, Copy)]
-struct PayloadText<'a>(&'a EntryPayload<u64, BasicNode, Bytes>);
+pub struct PayloadText<'a>(pub &'a EntryPayload<u64, BasicNode, Bytes>);
 
 impl Display for PayloadText<'_> {
     fn fmt<W: fmt::Write>(&self, f: &mut fmt::Formatter<W>) -> fmt::Result {

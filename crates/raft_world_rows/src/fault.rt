@@ -9,6 +9,10 @@ pub enum Fault {
     Line,
     /// Memory is wanting: where an event was to be run, its node is down now.
     Memory,
+    /// An event found no memory, and something else than its node has changed.
+    Changed,
+    /// An event that is asked for once more isn't run.
+    Stuck,
     /// The input can't be read, or the output can't be written.
     Io,
 }

@@ -7,14 +7,20 @@
 //!   commands it stops, and what is asked for. Its answer is its number in its world, what became
 //!   of it, the kinds of the messages that were sent with their addressees, and the checksum of a
 //!   text: these messages, and all nodes with what they have stored;
+//!   `next` delivers the next message in its turn, and `lead` elects where the node doesn't lead;
 //! - `list`: how many entries the group's list has, and the checksum of their text;
-//! - `show`: the text of which the last answer has the checksum alone.
+//! - `last`: what the list's last entry asks for;
+//! - `show`: the text of which the last answer has the checksum alone;
+//! - `patient 1 2 3`: another world, whose events have no answer. One that finds no memory stops,
+//!   its node is down, all else is as it was, and once the node is opened again the run goes on. So
+//!   it prints the same where one allocation is refused (`rt try --fail-alloc N`).
 #![tactic(auto)]
 
 mod answers;
 mod entry_texts;
 mod fault;
 mod message_texts;
+mod patience;
 mod reading;
 mod values;
 mod world_texts;

@@ -150,7 +150,7 @@ fn call_in(alloc: Global, verb: &str, words: &mut Words, token: u64) -> Result<C
         "setup" => setup_call(alloc, words),
         "propose" => propose_in(alloc, word(words)?, token),
         "change" => change_call(alloc, words, token),
-        "elect" => Ok(GroupCall::Elect),
+        "elect" | "lead" => Ok(GroupCall::Elect),
         "beat" => Ok(GroupCall::Heartbeat),
         "snapshot" => Ok(GroupCall::TriggerSnapshot),
         "lost" => Ok(GroupCall::Lost {
@@ -167,10 +167,11 @@ fn call_in(alloc: Global, verb: &str, words: &mut Words, token: u64) -> Result<C
 fn event_in(
     alloc: Global,
     verb: &str,
-    target: u64,
     words: &mut Words,
+    next: u64,
     token: u64,
 ) -> Result<PlannedEvent, Fault> {
+    let target = number(words)?;
     let now = number(words)?;
     let stop = stop_in(word(words)?)?;
     let event = match verb {
@@ -179,6 +180,7 @@ fn event_in(
             number: target,
             now,
         },
+        "next" => WorldEvent::Deliver { number: next, now },
         "crash" => WorldEvent::Crash { node: target },
         "halt" => WorldEvent::Halt { node: target },
         "restart" => WorldEvent::Restart { node: target },
@@ -191,21 +193,27 @@ fn event_in(
     Ok(PlannedEvent { event, stop })
 }
 
-/// The event on a line, with this token where it needs one.
-pub fn read_event(alloc: Global, line: &str, token: u64) -> Result<PlannedEvent, Fault> {
+/// The event on a line, with the number of the next message and this token where it needs one.
+pub fn read_event(alloc: Global, line: &str, next: u64, token: u64) -> Result<PlannedEvent, Fault> {
     let mut words = line.split_whitespace();
     let verb = word(&mut words)?;
-    let target = number(&mut words)?;
-    event_in(alloc, verb, target, &mut words, token)
+    event_in(alloc, verb, &mut words, next, token)
+}
+
+/// The node that the event on a line comes to.
+pub fn read_target(line: &str) -> Result<u64, Fault> {
+    let mut words = line.split_whitespace();
+    let _verb = word(&mut words)?;
+    number(&mut words)
 }
 
 /// The node ids on a line, behind its verb.
 pub fn read_ids(alloc: Global, line: &str) -> Result<Vec<u64>, Fault> {
     let mut ids = Vec::new(alloc);
-    for word in line.split_whitespace() {
-        if word != "world" {
-            ids.push(number_in(word)?)?;
-        }
+    let mut words = line.split_whitespace();
+    let _verb = word(&mut words)?;
+    for word in words {
+        ids.push(number_in(word)?)?;
     }
     Ok(ids)
 }
