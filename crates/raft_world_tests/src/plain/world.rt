@@ -148,14 +148,21 @@ fn run_to_its_end(mut step: PlainStep, event: PlainGroupEvent) -> Result<Happene
     })
 }
 
-// A step that stops after its first so many storing commands: the node is down.
+// A step that stops after its first so many storing commands: the node is down. A refused one can't
+// stop.
 fn run_until(
     count: u64,
     mut step: PlainStep,
     event: PlainGroupEvent,
 ) -> Result<Happened, AllocError> {
     let before = step.state.stored.clone()?;
-    step.group_step(event)?;
+    if let Some(why) = step.group_step(event)? {
+        return Ok(Happened {
+            mark: PlainMark::Refused(why),
+            state: PlainNodeState::Up(step.state),
+            sent: Vec::new(step.alloc),
+        });
+    }
     let stored = stopped_after(count, before, &step.commands)?;
     Ok(Happened {
         mark: PlainMark::Stopped,
