@@ -41,7 +41,7 @@ class Course:
 # groups that share two voters, and a learner.
 COURSES = {
     "three": Course(21, 500, (1, 2, 3), ((1, 2, 3),), (), 90, 60),
-    "busy": Course(14, 350, (1, 2, 3), ((1, 2, 3),), (), 300, 40),
+    "busy": Course(28, 350, (1, 2, 3), ((1, 2, 3),), (), 300, 40),
     "five": Course(23, 600, (1, 2, 3, 4, 5), ((1, 2, 3, 4, 5),), (), 90, 100),
     "joint": Course(5, 550, (1, 2, 3, 4, 5), ((1, 2, 3), (2, 3, 4)), (5,), 90, 100),
 }
@@ -229,8 +229,8 @@ class Chooser:
     def event_of(self, kind):
         """An event of this kind."""
         node = self.any_node()
-        if kind == "crash":
-            return Event("crash", node)
+        if kind in ("crash", "halt"):
+            return Event(kind, node)
         if kind == "add":
             bare = [member.id for member in self.world.members if not member.stored().present]
             return Event("add", self.chance.one_of(bare, node))
@@ -250,6 +250,7 @@ class Chooser:
             "snapshot": self.course.snapshots,
             "purge": self.course.snapshots,
             "crash": 7,
+            "halt": 4,
             "restart": 80,
             "change_members": 20,
             "set_up": 5,

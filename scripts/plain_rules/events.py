@@ -29,4 +29,4 @@ class Event:
 CALLS = ("setup", "elect", "propose", "change", "beat", "lost", "snapshot", "purge")
 
 # What else may happen.
-OTHERS = ("add", "deliver", "crash", "restart")
+OTHERS = ("add", "deliver", "crash", "halt", "restart")

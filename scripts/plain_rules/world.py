@@ -149,12 +149,12 @@ class World:
                 self.led.append(led)
 
     def run_step(self, member, state, event, message):
-        """A step that runs to its end, after which the node is up; or it stops after its first so
-        many storing commands, and the node is down."""
+        """A step that is refused or runs to its end, after which the node is up; or it stops after
+        its first so many storing commands, and the node is down."""
         before = state.stored
         step = Step(member.id, state)
         refused = group_step(step, event, message)
-        if event.stop is not None:
+        if refused is None and event.stop is not None:
             member.up, member.down = None, stopped_after(event.stop, before, step.commands)
             return STOPPED
         member.up, member.down = step.state, None
@@ -169,9 +169,9 @@ class World:
             return SKIPPED
         if event.verb == "restart":
             return self.run_step(member, State(member.down), event, message)
-        if event.verb == "crash":
+        if event.verb in ("crash", "halt"):
             member.up, member.down = None, member.up.stored
-            return DONE
+            return DONE if event.verb == "crash" else STOPPED
         return self.run_step(member, member.up, event, message)
 
     def happen(self, event):

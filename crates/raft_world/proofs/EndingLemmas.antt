@@ -1,5 +1,5 @@
 -- What an event left at its member, as what became of it at its node.
-use Rattle.std.specs.Prelude.{◌≡◌, ℕ, Bool, true, false, List, [], ◌∷◌, take, length, Option, Some, None, is_some, unwrap_or, Result, Ok, Err, IfOk, OnErr, refl}
+use Rattle.std.specs.Prelude.{◌≡◌, ℕ, Bool, true, false, List, [], ◌∷◌, take, length, Option, Some, None, is_some, unwrap_or, Result, Ok, Err, IfOk, IfErr, OnErr, refl}
 use Rattle.std.proofs.Common.{sym, ap, ◌∙◌, subst}
 use Rattle.raft_conditions.specs.Reason.{reason_of}
 use Rattle.raft_group_step.specs.StoredGroup.{StoredGroup, StoringCommand, after_storing_all, held}
@@ -8,18 +8,21 @@ use Rattle.raft_group_step.specs.GroupEvent.{GroupEvent, Open}
 use Rattle.raft_group_step.specs.GroupStep.{group_step}
 use Rattle.raft_group_step.specs.Refusal.{refusal_of}
 use Rattle.raft_group_step.specs.StepResult.{RefusalReason, StepResult}
-use Rattle.raft_laws.specs.GroupWorld.{NodeState, Absent, Up, Down, Led, Outcome, Done, Refused, is_stop}
+use Rattle.raft_laws.specs.GroupWorld.{NodeState, Absent, Up, Down, Led, Outcome, Done, Refused, Stopped, is_stop}
 use Rattle.raft_laws.specs.GroupRun.{led_as, led_by, stop_at}
-use Rattle.raft_laws.specs.NodeEvent.{Comes, Restarts, after_step, outcome_at, outcome_of_end, outcome_of_step}
+use Rattle.raft_laws.specs.NodeEvent.{Comes, Restarts, after_step, outcome_at, outcome_of_end, outcome_of_step, outcome_of_stop}
 use Rattle.raft_laws.specs.Stop.{stopped_after, unknown_at_stop}
 use Rattle.raft_laws.proofs.StepMoments.{refusals_told}
 use Rattle.raft_laws.proofs.StepOrder.{step-keeps}
-use Rattle.raft_world.specs.Ending.{ComesTo, IsEndOf, down_of}
-use Rattle.raft_world.specs.Member.{HasEnded, HasStopped, IsAt, IsDown, IsLawful, IsUp}
+use Rattle.std.specs.declared.alloc.AllocError.{AllocError}
+use Rattle.raft_world.specs.Ending.{BreaksAt, ComesTo, IsEndOf, down_of}
+use Rattle.raft_world.specs.Member.{HasBrokenOff, HasEnded, HasStopped, IsAt, IsDown, IsLawful, IsUp}
 use Rattle.raft_world.specs.Opening.{IsOpenable}
 use Rattle.raft_world.specs.declared.member.Member.{Member}
 use Rattle.raft_world.specs.declared.member.Ended.{Ended}
 use Rattle.raft_world.specs.declared.member.Ended.TheVariants as end_of
+use Rattle.raft_world.specs.declared.member.Broken.{Broken}
+use Rattle.raft_world.specs.declared.member.Broken.TheVariants as broken
 use Rattle.raft_world.proofs.EventLemmas.{refused_state}
 
 -- a refused event keeps the state
@@ -30,6 +33,11 @@ refused_keeps own s e why h = ap (λ (r : StepResult). r.state) (refused_state o
 pub told_as : (own : ℕ) (s : GroupState) (e : GroupEvent) (why : Option RefusalReason) → refusal_of own s e ≡ why
     → outcome_of_end (group_step own s e) (group_step own s e).refused ≡ outcome_of_end (group_step own s e) why
 told_as own s e why h = ap (outcome_of_end (group_step own s e)) (refusals_told own s e ∙ h)
+
+-- and of its stop
+pub stopped_as : (own : ℕ) (s : GroupState) (e : GroupEvent) (why : Option RefusalReason) → refusal_of own s e ≡ why
+    → outcome_of_step true s e (group_step own s e) ≡ outcome_of_stop s e (group_step own s e) why
+stopped_as own s e why h = ap (outcome_of_stop s e (group_step own s e)) (refusals_told own s e ∙ h)
 
 take_all : (cs : List StoringCommand) → take (length cs) cs ≡ cs
 take_all [] = refl
@@ -61,18 +69,26 @@ module _ (own : ℕ) (s : GroupState) (e : GroupEvent) (m : Member) where
   ends_as_step (Some k) (end_of.Done sent) h = some_none k h.0
   ends_as_step None (end_of.Refused why) h =
       let r = group_step own s e in
-      let told : outcome_of_end r r.refused ≡ Refused (reason_of why) = told_as own s e (Some (reason_of why)) h.1 in (
+      let told : outcome_of_end r r.refused ≡ Refused (reason_of why) = told_as own s e (Some (reason_of why)) h.0 in (
         told,
         subst (λ (o : Outcome). IsAt m (after_step (stop_at (is_stop o) 0) s r)) (sym told)
-            (subst (IsUp m) (sym (refused_keeps own s e (reason_of why) h.1)) h.2),
+            (subst (IsUp m) (sym (refused_keeps own s e (reason_of why) h.0)) h.1),
       )
-  ends_as_step (Some k) (end_of.Refused why) h = some_none k h.0
-  ends_as_step None end_of.Stopped h = some_none h.0 (sym h.1)
+  ends_as_step (Some k) (end_of.Refused why) h =
+      let r = group_step own s e in
+      let told : outcome_of_step true s e r ≡ Refused (reason_of why) = stopped_as own s e (Some (reason_of why)) h.0 in (
+        told,
+        subst (λ (o : Outcome). IsAt m (after_step (stop_at (is_stop o) k) s r)) (sym told)
+            (subst (IsUp m) (sym (refused_keeps own s e (reason_of why) h.0)) h.1),
+      )
+  ends_as_step None end_of.Stopped h = some_none h.1.0 (sym h.1.1)
   ends_as_step (Some k) end_of.Stopped h =
       let r = group_step own s e in
-      let same : h.0 ≡ k = (let e : Some k ≡ Some h.0 = h.1 in cc) in (
-        (unknown_at_stop s e r, refl),
-        subst (λ j. IsDown m (stopped_after j s.stored r)) same h.2,
+      let told : outcome_of_step true s e r ≡ Stopped (unknown_at_stop s e r) = stopped_as own s e None h.0 in
+      let same : h.1.0 ≡ k = (let e : Some k ≡ Some h.1.0 = h.1.1 in cc) in (
+        (unknown_at_stop s e r, told),
+        subst (λ (o : Outcome). IsAt m (after_step (stop_at (is_stop o) k) s r)) (sym told)
+            (subst (λ j. IsDown m (stopped_after j s.stored r)) same h.1.2),
       )
   ends_as_step stop end_of.Skipped h = absurd h
 
@@ -92,11 +108,32 @@ comes n e stop (Up s) m new (Err met) same at lawful ok err down =
     let has : HasStopped n s e new =
     subst (λ i. HasStopped i s e new) same (err s at (subst (λ i. IsLawful i s) (sym same) (lawful s refl)))
     in
-    record { number = has.number; unknown = unknown_at_stop s e (group_step n s e); outcome = refl; after = has.down }
+    record { number = has.number; unknown = unknown_at_stop s e (group_step n s e); outcome = stopped_as n s e None has.taken; after = has.down }
 comes n e stop (Down st) m new (Ok end) same at lawful ok err down =
     let is : end_of.Skipped ≡ end = (let e : Ok end ≡ Ok end_of.Skipped = (down st at).0 in cc) in
     record { outcome = subst (λ (x : Ended). IsEndOf x (outcome_at n (Comes e) (is_some stop) (Down st))) is refl; after = (down st at).1 }
 comes n e stop (Down st) m new (Err met) same at lawful ok err down = absurd (let no : Err met ≡ Ok end_of.Skipped = (down st at).0 in cc)
+
+-- ---- a call that met want of memory
+
+pub ended_as : {E : Type 0} (a b : Ended) → ◌≡◌ {A = Result Ended E} (Ok a) (Ok b) → a ≡ b
+ended_as {E} a b e = let f : ◌≡◌ {A = Result Ended E} (Ok a) (Ok b) = e in cc
+
+-- before it was judged: the member is down as it was
+pub unjudged : (n : ℕ) (e : GroupEvent) (state : NodeState) (m new : Member) (met : AllocError) → m.id ≡ n → IsAt m state → ((s : GroupState) → state ≡ Up s → IsLawful n s)
+    → ((s : GroupState) → IsUp m s → IsLawful m.id s → (let r : Result Ended Broken = Err (broken.Unjudged met) in IfErr r (HasBrokenOff m.id s e new)))
+    → ((st : StoredGroup) → IsDown m st → (Err (broken.Unjudged met) ≡ Ok end_of.Skipped) × IsDown new st) → IsAt new (down_of state)
+unjudged n e Absent m new met same at lawful err down = absurd at
+unjudged n e (Up s) m new met same at lawful err down = err s at (subst (λ i. IsLawful i s) (sym same) (lawful s refl))
+unjudged n e (Down st) m new met same at lawful err down = (down st at).1
+
+-- once it was begun
+pub begun : (n : ℕ) (e : GroupEvent) (stop : Option ℕ) (state : NodeState) (m new : Member) (met : AllocError) → m.id ≡ n → IsAt m state → ((s : GroupState) → state ≡ Up s → IsLawful n s)
+    → ((s : GroupState) → IsUp m s → IsLawful m.id s → (let r : Result Ended Broken = Err (broken.Begun met) in IfErr r (HasBrokenOff m.id s e new)))
+    → ((st : StoredGroup) → IsDown m st → (Err (broken.Begun met) ≡ Ok end_of.Skipped) × IsDown new st) → BreaksAt n (Comes e) state new
+begun n e stop state m new met same at lawful err down =
+    comes n e stop state m new (Err met) same at lawful (λ s up law. tt) err
+    (λ st is. absurd (let no : Err (broken.Begun met) ≡ Ok end_of.Skipped = (down st is).0 in cc))
 
 -- the member was opened
 pub opens : {E : Type 0} (n : ℕ) (stop : Option ℕ) (state : NodeState) (m new : Member) (r : Result Ended E) → m.id ≡ n → IsAt m state → ((st : StoredGroup) → state ≡ Down st → IsOpenable n st)
@@ -114,7 +151,7 @@ opens n stop (Down st) m new (Err met) same at openable ok err up =
     let has : HasStopped n (state_of st) Open new =
     subst (λ i. HasStopped i (state_of st) Open new) same (err st at (subst (λ i. IsOpenable i st) (sym same) (openable st refl)))
     in
-    record { number = has.number; unknown = unknown_at_stop (state_of st) Open (group_step n (state_of st) Open); outcome = refl; after = has.down }
+    record { number = has.number; unknown = unknown_at_stop (state_of st) Open (group_step n (state_of st) Open); outcome = stopped_as n (state_of st) Open None has.taken; after = has.down }
 opens n stop (Up s) m new (Ok end) same at openable ok err up =
     let is : end_of.Skipped ≡ end = (let e : Ok end ≡ Ok end_of.Skipped = (up s at).0 in cc) in
     record { outcome = subst (λ (x : Ended). IsEndOf x (outcome_at n Restarts (is_some stop) (Up s))) is refl; after = (up s at).1 }

@@ -1,15 +1,14 @@
 -- Events that come to a member.
-use Rattle.std.specs.Prelude.{◌≡◌, ℕ, zero, suc, max, Option, Some, None, [], take, Result, Ok, Err, IfOk, OnErr, refl}
-use Rattle.std.proofs.Common.{sym, ap, ◌∙◌, subst}
-use Rattle.raft_group_step.specs.StoredGroup.{StoredGroup, Snapshot, after_storing_all}
+use Rattle.std.specs.Prelude.{◌≡◌, ℕ, max, Option, Some, None, Result, Ok, Err, IfOk, OnErr, refl}
+use Rattle.std.proofs.Common.{sym, ap, ◌∙◌}
+use Rattle.raft_group_step.specs.StoredGroup.{Snapshot}
 use Rattle.raft_group_step.specs.GroupState.{GroupState}
 use Rattle.raft_group_step.specs.GroupEvent.{GroupCall, GroupEvent, Call}
 use Rattle.raft_group_step.specs.GroupStep.{group_step, step_unless}
 use Rattle.raft_group_step.specs.Message.{MessageBody}
 use Rattle.raft_group_step.specs.Refusal.{refusal_of}
-use Rattle.raft_group_step.specs.StepResult.{RefusalReason, StepResult, refused_step}
+use Rattle.raft_group_step.specs.StepResult.{RefusalReason, refused_step}
 use Rattle.raft_engine.specs.Events.{HasTaken, given_after, received}
-use Rattle.raft_laws.specs.Stop.{stopped_after}
 use Rattle.raft_laws.proofs.StepMoments.{moments_of_calls, moments_of_messages}
 use Rattle.raft_laws.proofs.StepOrder.{step-keeps}
 use Rattle.raft_world.specs.Member.{Engine, HasEnded, HasStopped, IsDown, IsIdle, IsUp}
@@ -36,15 +35,11 @@ module _ (own : ℕ) (s : GroupState) (event : GroupEvent) where
   pub ended_as_run : (stop : Option ℕ) (m : Member) (end : Ended) → refusal_of own s event ≡ None → HasRun s.stored (group_step own s event) stop m end → HasEnded own s event stop m end
   ended_as_run stop m (ended.Done sent) accepted h = (h.0, accepted, h.1, h.2)
   ended_as_run stop m (ended.Refused why) accepted h = absurd h
-  ended_as_run stop m ended.Stopped accepted h = h
+  ended_as_run stop m ended.Stopped accepted h = (accepted, h)
   ended_as_run stop m ended.Skipped accepted h = absurd h
 
-  pub stopped_as_halted : (m : Member) → HasHalted s.stored (group_step own s event) m → HasStopped own s event m
-  stopped_as_halted m h = record { number = h.number; down = h.down }
-
-  -- one that nothing is stored of yet
-  pub stopped_at_once : (m : Member) → IsDown m s.stored → HasStopped own s event m
-  stopped_at_once m h = record { number = 0; down = h }
+  pub stopped_as_halted : (m : Member) → refusal_of own s event ≡ None → HasHalted s.stored (group_step own s event) m → HasStopped own s event m
+  stopped_as_halted m accepted h = record { taken = accepted; number = h.number; down = h.down }
 
   pub halted_at_once : (m : Member) → IsDown m s.stored → HasHalted s.stored (group_step own s event) m
   halted_at_once m h = record { number = 0; down = h }
@@ -74,15 +69,6 @@ run_of_message before own peer at moment e s body is accepted h =
 -- a refused event changes nothing
 pub refused_state : (own : ℕ) (s : GroupState) (event : GroupEvent) (why : RefusalReason) → refusal_of own s event ≡ Some why → group_step own s event ≡ refused_step s why
 refused_state own s event why e = ap (λ reason. step_unless reason own s event) e
-
-take_none : (k : ℕ) (s : StoredGroup) → after_storing_all (take k []) s ≡ s
-take_none zero s = refl
-take_none (suc k) s = refl
-
-pub down_as_refused : (own : ℕ) (s : GroupState) (event : GroupEvent) (why : RefusalReason) (m : Member) (k : ℕ) → refusal_of own s event ≡ Some why → IsDown m s.stored
-    → IsDown m (stopped_after k s.stored (group_step own s event))
-down_as_refused own s event why m k e h =
-    subst (λ (r : StepResult). IsDown m (stopped_after k s.stored r)) (sym (refused_state own s event why e)) (subst (IsDown m) (sym (take_none k s.stored)) h)
 
 -- the member is up again with the engine that was taken out
 pub up_again : (m : Member) (e : Engine) (s : GroupState) → IsDown m s.stored → m.moment ≡ s.now → IsIdle m.id e s → IsUp (record m { engine = Some e }) s

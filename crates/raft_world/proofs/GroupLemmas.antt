@@ -12,7 +12,7 @@ use Rattle.raft_laws.specs.declared.world_event.WorldEvent.TheVariants.{Add}
 use Rattle.raft_group_step.specs.GroupEvent.{AddGroup, Open}
 use Rattle.raft_executor.specs.Sent.{message_of}
 use Rattle.raft_settled.specs.World.{led_of}
-use Rattle.raft_laws.specs.NodeEvent.{NodeEvent, Comes, Crashes, Restarts, outcome_at, state_after}
+use Rattle.raft_laws.specs.NodeEvent.{NodeEvent, Comes, Crashes, Halts, Restarts, outcome_at, state_after}
 use Rattle.raft_laws.specs.GroupWorld.{GroupWorld, NodeState, Absent, Up, Down, Outcome, Done, Refused, Stopped, Skipped, Recorded, is_stop, new_world, state_or}
 use Rattle.raft_laws.specs.GroupRun.{Scene, Nowhere, At, group_run, history_of, led_after, outcome_of, ran, scene_of, sent_in, setup_after, stop_at}
 use Rattle.raft_laws.specs.OneList.{AreNodeIds, IsGroupHistory}
@@ -64,9 +64,11 @@ stores_rightly : (n : ℕ) (e : NodeEvent) (state : NodeState) → StoresRightly
 stores_rightly n e Absent = tt
 stores_rightly n (Comes e) (Up s) = step-keeps n s e
 stores_rightly n Crashes (Up s) = tt
+stores_rightly n Halts (Up s) = tt
 stores_rightly n Restarts (Up s) = tt
 stores_rightly n (Comes e) (Down stored) = tt
 stores_rightly n Crashes (Down stored) = tt
+stores_rightly n Halts (Down stored) = tt
 stores_rightly n Restarts (Down stored) = step-keeps n (state_of stored) Open
 
 stores_rightly_in : (g : GroupWorld) (scene : Scene) → StoresRightlyIn g scene

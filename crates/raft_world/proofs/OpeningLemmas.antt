@@ -197,7 +197,7 @@ module _ (st : StoredGroup) where
         ∙ ap (λ cs. after_storing_all (take (length first + n) cs) st) (sym commands)
 
     pub stopped_of_halted : (m : Member) → HasHalted (opened st).state.stored rest m → HasStopped own (state_of st) Open m
-    stopped_of_halted m h = record { number = length first + h.number; down = subst (IsDown m) (stops_as h.number) h.down }
+    stopped_of_halted m h = record { taken = refl; number = length first + h.number; down = subst (IsDown m) (stops_as h.number) h.down }
 
     module _ (stop later : Option ℕ) (leaves : Leaves (length first) stop later) (m : Member) where
       pub ended_of_run : (e : Ended) → HasRun (opened st).state.stored rest later m e → HasEnded own (state_of st) Open stop m e
@@ -206,5 +206,5 @@ module _ (st : StoredGroup) where
           ap (λ (r : StepResult). r.messages) step_goes_on ∙ ap (λ (r : StepResult). r.messages ++ rest.messages) opened_as in
           (leaves.0 h.0, refl, h.1 ∙ sym messages, subst (IsUp m) (ap (λ (r : StepResult). r.state) (sym step_goes_on)) h.2)
       ended_of_run (ended.Refused why) h = absurd h
-      ended_of_run ended.Stopped h = (length first + h.0, leaves.1 h.0 h.1, subst (IsDown m) (stops_as h.0) h.2)
+      ended_of_run ended.Stopped h = (refl, (length first + h.0, leaves.1 h.0 h.1, subst (IsDown m) (stops_as h.0) h.2))
       ended_of_run ended.Skipped h = absurd h

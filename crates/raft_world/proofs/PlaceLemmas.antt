@@ -110,6 +110,14 @@ nodes_with ms nodes id place new state h are e at n =
     (λ is. subst (λ (o : Option Member). IsNodeAt o state) (sym (ap (λ k. member_of k (set ms place new)) is ∙ set_there ms id place new e h)) at)
     (λ ne. subst (λ (o : Option Member). IsNodeAt o (nodes n)) (sym (set_beside ms id place n new e ne h)) (are n))
 
+-- the nodes after one came into this state, whose member stayed as it was
+pub nodes_left : (ms : List Member) (nodes : ℕ → NodeState) (id place : ℕ) (m : Member) (state : NodeState) → IsPlace ms id place → AreNodes ms nodes → m ≡ get_or ms place m → IsAt m state
+    → AreNodes ms (with_node_state id state nodes)
+nodes_left ms nodes id place m state h are e at n =
+    with_step id n (n == id) state nodes (member_of n ms) refl
+    (λ is. subst (λ (o : Option Member). IsNodeAt o state) (sym (ap (λ k. member_of k ms) is ∙ found ms id place m h ∙ ap Some (sym e))) at)
+    (λ ne. are n)
+
 -- and again into another one
 pub nodes_again : (ms : List Member) (nodes : ℕ → NodeState) (id place : ℕ) (new : Member) (before state : NodeState) → IsPlace ms id place → AreNodes ms (with_node_state id before nodes)
     → new.id ≡ id → IsAt new state → AreNodes (set ms place new) (with_node_state id state nodes)

@@ -3,6 +3,7 @@ use Rattle.std.specs.Prelude.{◌≡◌, ℕ, Bool, true, false, List, [], ◌++
 use Rattle.std.proofs.Common.{sym, ap, ◌∙◌, subst}
 use Rattle.std.proofs.lemmas.List.{append-nil, map-append}
 use Rattle.std.proofs.lemmas.Option.{slice_get-map}
+use Rattle.std.specs.List.{slice_index_or as get_or}
 use Rattle.std.specs.Vec.{with_item}
 use Rattle.std.specs.declared.alloc.Global.{Global}
 use Rattle.raft_group_step.specs.Message.{Message as Sent}
@@ -12,16 +13,16 @@ use Rattle.raft_group_step.specs.GroupState.{GroupState, Untold, state_of}
 use Rattle.raft_group_step.specs.GroupEvent.{GroupCall, GroupEvent, Call, Receive, Open}
 use Rattle.raft_group_step.specs.GroupStep.{group_step}
 use Rattle.raft_group_step.specs.Refusal.{refusal_of}
-use Rattle.raft_group_step.specs.StepResult.{RefusalReason}
+use Rattle.raft_group_step.specs.StepResult.{RefusalReason, tokens_of}
 use Rattle.raft_conditions.specs.Reason.{reason_of}
 use Rattle.raft_conditions.specs.declared.refusal.Refusal.{Refusal}
 use Rattle.raft_executor.specs.Sent.{message_of}
 use Rattle.raft_executor.specs.declared.message.Message.{Message as SentMessage}
 use Rattle.raft_laws.specs.declared.world_event.WorldEvent.{WorldEvent}
-use Rattle.raft_laws.specs.declared.world_event.WorldEvent.TheVariants.{Add, Ask, Deliver, Crash, Restart}
+use Rattle.raft_laws.specs.declared.world_event.WorldEvent.TheVariants.{Add, Ask, Deliver, Crash, Halt, Restart}
 use Rattle.raft_laws.specs.GroupWorld.{GroupWorld, NodeState, Absent, Up, Down, Outcome, Done, Refused, Stopped, Skipped, is_stop, with_node_state}
 use Rattle.raft_laws.specs.GroupRun.{Scene, Nowhere, At, after_scene, ended, is_same_setup, led_after, led_by, outcome_in, outcome_of, ran, scene_of, scene_of_call, scene_of_delivery, sent_in, setup_after, setup_in, setup_in_call, stop_at}
-use Rattle.raft_laws.specs.NodeEvent.{NodeEvent, Comes, Crashes, Restarts, after_step, outcome_at, outcome_of_end, state_after}
+use Rattle.raft_laws.specs.NodeEvent.{NodeEvent, Comes, Crashes, Halts, Restarts, after_step, outcome_at, outcome_of_end, outcome_of_step, outcome_of_stop, state_after}
 use Rattle.raft_laws.specs.Stop.{stopped_after, unknown_at_stop}
 use Rattle.raft_settled.specs.World.{led_of}
 use Rattle.raft_world.specs.Ending.{BreaksAt, EndsAt, HasConcluded, IsCut, IsEndOf, IsWorldBut, down_of, first_setup, set_up_with}
@@ -33,8 +34,8 @@ use Rattle.raft_world.specs.declared.member.Member.{Member}
 use Rattle.raft_world.specs.declared.world.World.{World}
 use Rattle.raft_world.specs.declared.world.Mark.{Mark}
 use Rattle.raft_world.specs.declared.world.Mark.TheVariants as mark
-use Rattle.raft_world.proofs.EndingLemmas.{refused_keeps, stopped_at_end, told_as}
-use Rattle.raft_world.proofs.PlaceLemmas.{nodes_same, nodes_with, still_placed}
+use Rattle.raft_world.proofs.EndingLemmas.{refused_keeps, stopped_as, stopped_at_end, told_as}
+use Rattle.raft_world.proofs.PlaceLemmas.{nodes_left, nodes_same, nodes_with, still_placed}
 
 -- ---- worlds after events
 
@@ -76,6 +77,10 @@ setup_skipped (Some m) e = refl
 setup_crashed : (known : Option Membership) (n : ℕ) → setup_after known (Crash n) (Done [] [] []) ≡ known
 setup_crashed None n = refl
 setup_crashed (Some m) n = refl
+
+setup_halted : (known : Option Membership) (n : ℕ) (lost : List ℕ) → setup_after known (Halt n) (Stopped lost) ≡ known
+setup_halted None n lost = refl
+setup_halted (Some m) n lost = refl
 
 same_setup : (o : Option Membership) → set_up_with o None ≡ o
 same_setup None = refl
@@ -146,6 +151,17 @@ crashed_at w g n k b (Down st) h = quiet w g (Crash n) Skipped n (Down st) h ref
 pub crashed : (w : World) (g : GroupWorld) (n : ℕ) (stop : Option ℕ) → IsWorldBut w g n (down_of (g.nodes n)) → IsWorldOf w (ran g (Crash n) stop)
 crashed w g n stop h = crashed_at w g n (unwrap_or stop 0) (is_some stop) (g.nodes n) h
 
+halted_at : (w : World) (g : GroupWorld) (n k : ℕ) (b : Bool) (state : NodeState) → IsWorldBut w g n (down_of state)
+    → IsWorldOf w (ended g (Halt n) (outcome_at n Halts b state) n (state_after n Halts (stop_at (is_stop (outcome_at n Halts b state)) k) state))
+halted_at w g n k b Absent h = quiet w g (Halt n) Skipped n Absent h refl refl (setup_skipped g.setup (Halt n))
+halted_at w g n k b (Up s) h =
+    let lost = tokens_of s.untold in quiet w g (Halt n) (Stopped lost) n (Down s.stored) h refl refl (setup_halted g.setup n lost)
+halted_at w g n k b (Down st) h = quiet w g (Halt n) Skipped n (Down st) h refl refl (setup_skipped g.setup (Halt n))
+
+-- another group's event stopped the node
+pub halted : (w : World) (g : GroupWorld) (n : ℕ) (stop : Option ℕ) → IsWorldBut w g n (down_of (g.nodes n)) → IsWorldOf w (ran g (Halt n) stop)
+halted w g n stop h = halted_at w g n (unwrap_or stop 0) (is_some stop) (g.nodes n) h
+
 -- the node went down before the event
 pub goes_down : (w : World) (g : GroupWorld) (e : WorldEvent) (n : ℕ) → node_of g e ≡ Some n → IsWorldBut w g n (down_of (g.nodes n)) → HasBroken g e w
 goes_down w g e n is h = record { break = GoesDown n is; world = crashed w g n None h }
@@ -165,6 +181,7 @@ node_of_scene g (Add m) n at_node is = ap Some (cc is)
 node_of_scene g (Ask m call now) n at_node is = ap Some (node_of_call (is_same_setup g.setup (setup_in_call call)) n m call now at_node is)
 node_of_scene g (Deliver number now) n at_node is = node_of_delivery (slice_get g.messages number) n now at_node is
 node_of_scene g (Crash m) n at_node is = ap Some (cc is)
+node_of_scene g (Halt m) n at_node is = ap Some (cc is)
 node_of_scene g (Restart m) n at_node is = ap Some (cc is)
 
 -- ---- events that broke off
@@ -277,11 +294,12 @@ module _ (w : World) (g : GroupWorld) (e : WorldEvent) (n : ℕ) (o : Outcome) (
 abbrev pub MayStop : NodeEvent → Type 0
 MayStop (Comes e) = Unit {0}
 MayStop Crashes = ⊥
+MayStop Halts = ⊥
 MayStop Restarts = Unit {0}
 
 module _ (w : World) (g : GroupWorld) (e : WorldEvent) (n : ℕ) (at_node : NodeEvent) (there : scene_of g e ≡ At n at_node) where
   cut_by_reason : (s : GroupState) (event : GroupEvent) (why : Option RefusalReason) → refusal_of n s event ≡ why → ((b : ℕ) → state_after n at_node (Some b) (g.nodes n) ≡ Down (stopped_after b s.stored (group_step n s event)))
-      → outcome_at n at_node true (g.nodes n) ≡ Stopped (unknown_at_stop s event (group_step n s event)) → down_of (g.nodes n) ≡ Down s.stored
+      → outcome_at n at_node true (g.nodes n) ≡ outcome_of_stop s event (group_step n s event) why → down_of (g.nodes n) ≡ Down s.stored
       → IsCut w g e n (after_step (stop_at (is_stop (outcome_of_end (group_step n s event) why)) 0) s (group_step n s event)) (outcome_of_end (group_step n s event) why) → HasBroken g e w
   cut_by_reason s event None is state_is outcome_is down cut =
       let r = group_step n s event in
@@ -293,25 +311,44 @@ module _ (w : World) (g : GroupWorld) (e : WorldEvent) (n : ℕ) (at_node : Node
       (subst (IsWorldBut w g n) (ap (λ (x : GroupState). Down x.stored) (refused_keeps n s event why is) ∙ sym down) cut)
 
   cut_by_step : (s : GroupState) (event : GroupEvent) → ((b : ℕ) → state_after n at_node (Some b) (g.nodes n) ≡ Down (stopped_after b s.stored (group_step n s event)))
-      → outcome_at n at_node true (g.nodes n) ≡ Stopped (unknown_at_stop s event (group_step n s event)) → down_of (g.nodes n) ≡ Down s.stored
+      → outcome_at n at_node true (g.nodes n) ≡ outcome_of_step true s event (group_step n s event) → down_of (g.nodes n) ≡ Down s.stored
       → IsCut w g e n (after_step (stop_at (is_stop (outcome_of_end (group_step n s event) (group_step n s event).refused)) 0) s (group_step n s event)) (outcome_of_end (group_step n s event) (group_step n s event).refused)
       → HasBroken g e w
   cut_by_step s event state_is outcome_is down cut =
-      cut_by_reason s event (refusal_of n s event) refl state_is outcome_is down
+      cut_by_reason s event (refusal_of n s event) refl state_is (outcome_is ∙ stopped_as n s event (refusal_of n s event) refl) down
       (subst (λ (o : Outcome). IsCut w g e n (after_step (stop_at (is_stop o) 0) s (group_step n s event)) o) (told_as n s event (refusal_of n s event) refl) cut)
+
+  -- one that was to stop had stopped, or it was refused
+  cut_refused_stop : (k : ℕ) (s : GroupState) (event : GroupEvent) (why : Option RefusalReason) → refusal_of n s event ≡ why → down_of (g.nodes n) ≡ Down s.stored
+      → IsCut w g e n (after_step (stop_at (is_stop (outcome_of_stop s event (group_step n s event) why)) k) s (group_step n s event)) (outcome_of_stop s event (group_step n s event) why)
+      → HasBroken g e w
+  cut_refused_stop k s event None is down cut = absurd cut
+  cut_refused_stop k s event (Some why) is down cut =
+      goes_down w g e n (node_of_scene g e n at_node there)
+      (subst (IsWorldBut w g n) (ap (λ (x : GroupState). Down x.stored) (refused_keeps n s event why is) ∙ sym down) cut)
+
+  cut_by_stop : (k : ℕ) (s : GroupState) (event : GroupEvent) → down_of (g.nodes n) ≡ Down s.stored
+      → IsCut w g e n (after_step (stop_at (is_stop (outcome_of_step true s event (group_step n s event))) k) s (group_step n s event)) (outcome_of_step true s event (group_step n s event))
+      → HasBroken g e w
+  cut_by_stop k s event down cut =
+      cut_refused_stop k s event (refusal_of n s event) refl down
+      (subst (λ (o : Outcome). IsCut w g e n (after_step (stop_at (is_stop o) k) s (group_step n s event)) o) (stopped_as n s event (refusal_of n s event) refl) cut)
 
 module _ (w : World) (g : GroupWorld) (e : WorldEvent) (n : ℕ) where
   cut_at : (at_node : NodeEvent) (stop : Option ℕ) (state : NodeState) → scene_of g e ≡ At n at_node → MayStop at_node → g.nodes n ≡ state
       → IsCut w g e n (state_after n at_node (stop_at (is_stop (outcome_at n at_node (is_some stop) state)) (unwrap_or stop 0)) state) (outcome_at n at_node (is_some stop) state) → HasBroken g e w
   cut_at Crashes stop state there may is cut = absurd may
+  cut_at Halts stop state there may is cut = absurd may
   cut_at (Comes event) stop Absent there may is cut = absurd cut
   cut_at (Comes event) stop (Down st) there may is cut = absurd cut
-  cut_at (Comes event) (Some k) (Up s) there may is cut = absurd cut
+  cut_at (Comes event) (Some k) (Up s) there may is cut =
+      cut_by_stop w g e n (Comes event) there k s event (ap down_of is) cut
   cut_at (Comes event) None (Up s) there may is cut =
       cut_by_step w g e n (Comes event) there s event (λ b. ap (state_after n (Comes event) (Some b)) is) (ap (outcome_at n (Comes event) true) is) (ap down_of is) cut
   cut_at Restarts stop Absent there may is cut = absurd cut
   cut_at Restarts stop (Up s) there may is cut = absurd cut
-  cut_at Restarts (Some k) (Down st) there may is cut = absurd cut
+  cut_at Restarts (Some k) (Down st) there may is cut =
+      cut_by_stop w g e n Restarts there k (state_of st) Open (ap down_of is) cut
   cut_at Restarts None (Down st) there may is cut =
       cut_by_step w g e n Restarts there (state_of st) Open (λ b. ap (state_after n Restarts (Some b)) is) (ap (outcome_at n Restarts true) is) (ap down_of is) cut
 
@@ -355,12 +392,26 @@ module _ (w : World) (g : GroupWorld) (e : WorldEvent) (n place : ℕ) (h : IsWo
       (but_came new (state_after n at_node (stop_at (is_stop (outcome_at n at_node (is_some stop) (g.nodes n))) (unwrap_or stop 0)) (g.nodes n)) same ends.after)
       first ends.outcome)
 
+  -- the event ended at its member, which stayed as it was
+  pub but_stayed : (m : Member) (state : NodeState) → m ≡ get_or w.members.items place m → IsAt m state → IsWorldBut w g n state
+  but_stayed m state there at = record {
+    nodes = nodes_left w.members.items g.nodes n place m state at_place h.nodes there at;
+    messages = h.messages;
+    setup = h.setup;
+    led = h.led;
+  }
+
   -- the event broke off at its member
   pub broke : (at_node : NodeEvent) (new : Member) (setup : Option Membership) → scene_of g e ≡ At n at_node → new.id ≡ n → BreaksAt n at_node (g.nodes n) new → setup ≡ first_setup g.setup e
       → HasBroken g e (record w { members = with_item w.members place new; setup = set_up_with setup w.setup })
   broke at_node new setup there same b first =
       broke_there (record w { members = with_item w.members place new }) new g e n at_node setup there b
       (but_came new (state_after n at_node (Some b.number) (g.nodes n)) same b.after) first
+
+  -- its member met want of memory before it was begun
+  pub went_down_there : (at_node : NodeEvent) (new : Member) → scene_of g e ≡ At n at_node → new.id ≡ n → IsAt new (down_of (g.nodes n)) → HasBroken g e (record w { members = with_item w.members place new })
+  went_down_there at_node new there same at =
+      goes_down (record w { members = with_item w.members place new }) g e n (node_of_scene g e n at_node there) (but_came new (down_of (g.nodes n)) same at)
 
   -- its node went down before it
   pub went_down : (last : World) → node_of g e ≡ Some n → ((x : GroupWorld) (k : ℕ) (state : NodeState) → IsPlace w.members.items k place → IsWorldBut w x k state → IsWorldBut last x k (down_of state)) → HasBroken g e last
@@ -395,6 +446,35 @@ crash_skipped w g n stop m at down h = record {
     marked_skipped (Up s) b here = absurd (let no : true ≡ false = sym (ap is_some here.has_engine) ∙ down in cc)
     marked_skipped (Down st) b here = tt
 
+-- ---- marks of halts
+
+pub halt_done : (last : World) (g : GroupWorld) (n : ℕ) (stop : Option ℕ) (m : Member) → IsAt m (g.nodes n) → is_some m.engine ≡ true → IsWorldBut last g n (down_of (g.nodes n)) → HasHappened g (Halt n) stop last mark.Stopped
+halt_done last g n stop m at up down = record {
+  world = halted last g n stop down;
+  marked = marked_stopped (g.nodes n) (is_some stop) at;
+}
+  where
+    marked_stopped : (state : NodeState) (b : Bool) → IsAt m state → IsMarkOf mark.Stopped (outcome_at n Halts b state)
+    marked_stopped Absent b here = absurd here
+    marked_stopped (Up s) b here = tt
+    marked_stopped (Down st) b here = absurd (let no : false ≡ true = sym (ap is_some here.no_engine) ∙ up in cc)
+
+pub halt_skipped : (w : World) (g : GroupWorld) (n : ℕ) (stop : Option ℕ) (m : Member) → IsAt m (g.nodes n) → is_some m.engine ≡ false → IsWorldOf w g → HasHappened g (Halt n) stop w mark.Skipped
+halt_skipped w g n stop m at down h = record {
+  world = halted w g n stop (but_same w g n (down_of (g.nodes n)) h (stays (g.nodes n) at));
+  marked = marked_skipped (g.nodes n) (is_some stop) at;
+}
+  where
+    stays : (state : NodeState) → IsAt m state → state ≡ down_of state
+    stays Absent here = absurd here
+    stays (Up s) here = absurd (let no : true ≡ false = sym (ap is_some here.has_engine) ∙ down in cc)
+    stays (Down st) here = refl
+
+    marked_skipped : (state : NodeState) (b : Bool) → IsAt m state → IsMarkOf mark.Skipped (outcome_at n Halts b state)
+    marked_skipped Absent b here = tt
+    marked_skipped (Up s) b here = absurd (let no : true ≡ false = sym (ap is_some here.has_engine) ∙ down in cc)
+    marked_skipped (Down st) b here = tt
+
 -- ---- nodes that go down before an event
 
 -- there is no node that the event comes to
@@ -407,6 +487,7 @@ nowhere_of g (Deliver number now) is = undelivered (slice_get g.messages number)
     undelivered None is = refl
     undelivered (Some m) is = absurd (let no : Some m.addressee ≡ None = is in cc)
 nowhere_of g (Crash m) is = absurd (let no : Some m ≡ None = is in cc)
+nowhere_of g (Halt m) is = absurd (let no : Some m ≡ None = is in cc)
 nowhere_of g (Restart m) is = absurd (let no : Some m ≡ None = is in cc)
 
 pub broke_nowhere : (w : World) (g : GroupWorld) (e : WorldEvent) → node_of g e ≡ None → IsWorldOf w g → HasBroken g e w

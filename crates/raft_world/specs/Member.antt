@@ -19,6 +19,8 @@ use Rattle.raft_world.specs.declared.member.ByteGroup.{ByteGroup}
 use Rattle.raft_world.specs.declared.member.Member.{Member}
 use Rattle.raft_world.specs.declared.member.Ended.{Ended}
 use Rattle.raft_world.specs.declared.member.Ended.TheVariants as ended
+use Rattle.raft_world.specs.declared.member.Broken.{Broken}
+use Rattle.raft_world.specs.declared.member.Broken.TheVariants as broken
 
 abbrev pub Engine : Type 0
 Engine = EngineOf ByteGroup (List ℕ)
@@ -62,10 +64,16 @@ pub record IsLawful (own : ℕ) (s : GroupState) : Type 0 where
   pub ready : IsReady own s
   pub snapshots : HasMembershipOfApplied s
 
--- the event stopped after some of its storing commands, and the member is down
+-- the event isn't refused; it stopped after some of its storing commands, and the member is down
 pub record HasStopped (own : ℕ) (s : GroupState) (event : GroupEvent) (m : Member) : Type 0 where
+  pub taken : refusal_of own s event ≡ None
   pub number : ℕ
   pub down : IsDown m (stopped_after number s.stored (group_step own s event))
+
+-- the event met want of memory: before it was known whether it is refused, or once it was begun
+abbrev pub HasBrokenOff : ℕ → GroupState → GroupEvent → Member → Broken → Type 0
+HasBrokenOff own s event m (broken.Unjudged met) = IsDown m s.stored
+HasBrokenOff own s event m (broken.Begun met) = HasStopped own s event m
 
 -- the event ended so at a member that was in this state, where it was to stop after so many storing commands, or to run on
 abbrev pub HasEnded : ℕ → GroupState → GroupEvent → Option ℕ → Member → Ended → Type 0
@@ -73,7 +81,8 @@ HasEnded own s event stop m (ended.Done sent) =
     (stop ≡ None) × (refusal_of own s event ≡ None)
     × (map message_of sent.items ≡ (group_step own s event).messages) × IsUp m (group_step own s event).state
 HasEnded own s event stop m (ended.Refused why) =
-    (stop ≡ None) × (refusal_of own s event ≡ Some (reason_of why)) × IsUp m s
+    (refusal_of own s event ≡ Some (reason_of why)) × IsUp m s
 HasEnded own s event stop m ended.Stopped =
-    (number : ℕ) × (stop ≡ Some number) × IsDown m (stopped_after number s.stored (group_step own s event))
+    (refusal_of own s event ≡ None)
+    × ((number : ℕ) × (stop ≡ Some number) × IsDown m (stopped_after number s.stored (group_step own s event)))
 HasEnded own s event stop m ended.Skipped = ⊥

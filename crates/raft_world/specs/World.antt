@@ -8,12 +8,12 @@ use Rattle.raft_group_step.specs.GroupStep.{group_step}
 use Rattle.raft_conditions.specs.Reason.{reason_of}
 use Rattle.raft_executor.specs.Sent.{message_of}
 use Rattle.raft_laws.specs.declared.world_event.WorldEvent.{WorldEvent}
-use Rattle.raft_laws.specs.declared.world_event.WorldEvent.TheVariants.{Add, Ask, Deliver, Crash, Restart}
+use Rattle.raft_laws.specs.declared.world_event.WorldEvent.TheVariants.{Add, Ask, Deliver, Crash, Halt, Restart}
 use Rattle.raft_laws.specs.BallotLists.{AgreeBelow}
 use Rattle.raft_laws.specs.GroupWorld.{GroupWorld, NodeState, Absent, Up, Down, Outcome, Done, Refused, Stopped, Skipped, Recorded, new_world}
 use Rattle.raft_laws.specs.GroupRun.{Scene, Nowhere, At, group_run, history_of, outcome_of, ran, scene_of}
 use Rattle.raft_laws.specs.VotesRise.{SentVotesKept, VoteKept}
-use Rattle.raft_laws.specs.NodeEvent.{NodeEvent, Comes, Crashes, Restarts}
+use Rattle.raft_laws.specs.NodeEvent.{NodeEvent, Comes, Crashes, Halts, Restarts}
 use Rattle.raft_laws.specs.StoringOrder.{StoresInOrder}
 use Rattle.raft_laws.specs.OneList.{AppliedIsHeld, CommittedIsHeld, IsGroupHistory, LeadersHold, LogIdsAgree, SnapshotsAreListed}
 use Rattle.raft_laws.specs.Settled.{IsGroupList, group_list}
@@ -94,6 +94,7 @@ node_of g (Add n) = Some n
 node_of g (Ask n call now) = Some n
 node_of g (Deliver number now) = addressee_of (slice_get g.messages number)
 node_of g (Crash n) = Some n
+node_of g (Halt n) = Some n
 node_of g (Restart n) = Some n
 
 -- an event that met want of memory stopped after some of its storing commands, or its node went down before it
@@ -143,9 +144,11 @@ abbrev pub StoresRightly : ℕ → NodeEvent → NodeState → Type 0
 StoresRightly n e Absent = Unit {0}
 StoresRightly n (Comes e) (Up s) = StoresInOrder s.committed s.stored (group_step n s e)
 StoresRightly n Crashes (Up s) = Unit {0}
+StoresRightly n Halts (Up s) = Unit {0}
 StoresRightly n Restarts (Up s) = Unit {0}
 StoresRightly n (Comes e) (Down stored) = Unit {0}
 StoresRightly n Crashes (Down stored) = Unit {0}
+StoresRightly n Halts (Down stored) = Unit {0}
 StoresRightly n Restarts (Down stored) = StoresInOrder None stored (group_step n (state_of stored) Open)
 
 abbrev pub StoresRightlyIn : GroupWorld → Scene → Type 0

@@ -1,5 +1,5 @@
 //! What a member is asked for.
-ghost use Rattle.std.specs.Prelude.{◌≡◌, ℕ, Ok, IfOk, OnOk, OnErr, max};
+ghost use Rattle.std.specs.Prelude.{◌≡◌, ℕ, Ok, IfOk, IfErr, OnOk, OnErr, max};
 ghost use Rattle.raft_group_step.specs.StoredGroup.{Snapshot, StoredGroup as Stored};
 ghost use Rattle.raft_group_step.specs.GroupState.{GroupState};
 ghost use Rattle.raft_group_step.specs.GroupEvent.{Call};
@@ -7,12 +7,11 @@ ghost use Rattle.raft_group_step.specs.Values.{ChangeMembers};
 ghost use Rattle.raft_group_step.specs.declared.group_call.GroupCall.TheVariants.{ChangeMembership, Initialize, Propose, TriggerSnapshot};
 ghost use Rattle.raft_engine.specs.Events.{HasTaken, MayTake};
 ghost use Rattle.raft_group_step.specs.GroupStep.{group_step};
-ghost use Rattle.raft_world.specs.Member.{HasEnded, HasMembershipOfApplied, HasStopped, IsDown, IsIdle, IsLawful, IsUp};
+ghost use Rattle.raft_world.specs.Member.{HasBrokenOff, HasEnded, HasMembershipOfApplied, IsDown, IsIdle, IsLawful, IsUp};
 ghost use Rattle.raft_world.specs.Running.{EndsTo, HasHalted, RunsTo};
 ghost use Rattle.raft_world.specs.declared.member.Ended.TheVariants.{Skipped};
 
-use crate::ending::end_refused;
-use crate::member::{ByteGroup, Ended, Member};
+use crate::member::{Broken, ByteGroup, Ended, Member};
 use crate::metas::meta_of;
 use raft_conditions::{GroupCommand, changed_membership};
 use raft_engine::Engine;
@@ -154,35 +153,41 @@ impl Member {
         call: &GroupCommand,
         now: u64,
         stop: Option<u64>,
-    ) -> Result<Ended, AllocError>
+    ) -> Result<Ended, Broken>
         ensures id { self.new.id ≡ self.old.id }
         ensures ok { (s : GroupState) → IsDown self.old s.stored → self.old.moment ≡ s.now → IsIdle self.old.id engine.old s → IsLawful self.old.id s
             → EndsTo self.old.id s (Call call.now now) stop engine.new self.new result }
         ensures err { (s : GroupState) → IsDown self.old s.stored → self.old.moment ≡ s.now → IsIdle self.old.id engine.old s → IsLawful self.old.id s
-            → OnErr result (HasStopped self.old.id s (Call call.now now) self.new) }
+            → IfErr result (HasBrokenOff self.old.id s (Call call.now now) self.new) }
     {
-        match self.facts(engine).call_refusal(alloc, call, now)? {
-            Some(refusal) => Ok(end_refused(refusal, stop)),
-            None => {
-                let moment = self.moment.max(now);
-                self.accepted_call(alloc, engine, call, moment, stop)
-            }
+        let refusal = match self.facts(engine).call_refusal(alloc, call, now) {
+            Ok(refusal) => refusal,
+            Err(refused) => return Err(Broken::Unjudged(refused)),
+        };
+        if let Some(refusal) = refusal {
+            return Ok(Ended::Refused(refusal));
+        }
+        let moment = self.moment.max(now);
+        match self.accepted_call(alloc, engine, call, moment, stop) {
+            Ok(ended) => Ok(ended),
+            Err(refused) => Err(Broken::Begun(refused)),
         }
     }
 
     /// The member is asked for something at this moment, in ticks (own); one before the last one
-    /// counts as the last one. It may stop after so many storing commands. An error is want of
-    /// memory: then the member is down, with some of the storing commands done, from the first on.
+    /// counts as the last one. It may stop after so many storing commands, unless it is refused. An
+    /// error is want of memory: then the member is down, as it was or with some of the storing
+    /// commands done, from the first on.
     pub fn ask(
         &mut self,
         alloc: Global,
         call: &GroupCommand,
         now: u64,
         stop: Option<u64>,
-    ) -> Result<Ended, AllocError>
+    ) -> Result<Ended, Broken>
         ensures id { self.new.id ≡ self.old.id }
         ensures ok { (s : GroupState) → IsUp self.old s → IsLawful self.old.id s → IfOk result (HasEnded self.old.id s (Call call.now now) stop self.new) }
-        ensures err { (s : GroupState) → IsUp self.old s → IsLawful self.old.id s → OnErr result (HasStopped self.old.id s (Call call.now now) self.new) }
+        ensures err { (s : GroupState) → IsUp self.old s → IsLawful self.old.id s → IfErr result (HasBrokenOff self.old.id s (Call call.now now) self.new) }
         ensures down { (stored : Stored) → IsDown self.old stored → (result ≡ Ok Skipped) × IsDown self.new stored }
     {
         let Some(mut engine) = self.engine.take() else {

@@ -1,18 +1,14 @@
 //! The end of an event: what the queue asks for is stored and sent.
-ghost use Rattle.std.specs.Prelude.{◌≡◌, ℕ, IfOk, OnErr, Some};
+ghost use Rattle.std.specs.Prelude.{◌≡◌, ℕ, OnErr};
 ghost use Rattle.std.specs.Option.{option_copied};
 ghost use Rattle.raft_group_step.specs.StoredGroup.{StoredGroup as Stored};
 ghost use Rattle.raft_group_step.specs.GroupState.{GroupState};
-ghost use Rattle.raft_group_step.specs.GroupEvent.{GroupEvent};
-ghost use Rattle.raft_group_step.specs.Refusal.{refusal_of};
 ghost use Rattle.raft_group_step.specs.StepResult.{StepResult};
-ghost use Rattle.raft_conditions.specs.Reason.{reason_of};
 ghost use Rattle.raft_engine.specs.Standing.{IsStateOf};
-ghost use Rattle.raft_world.specs.Member.{HasEnded, IsDown, IsIdle};
+ghost use Rattle.raft_world.specs.Member.{IsDown, IsIdle};
 ghost use Rattle.raft_world.specs.Running.{HasHalted, IsRun, RunsTo, left_by};
 
 use crate::member::{ByteGroup, Ended, Member};
-use raft_conditions::Refusal;
 use raft_engine::Engine;
 use raft_executor::{messages, store_first};
 use raft_stored_group::GroupSnapshot;
@@ -33,17 +29,6 @@ pub(crate) fn at_rest(engine: Engine<ByteGroup>) -> Engine<ByteGroup>
     let mut engine = engine;
     come_to_rest(&mut engine);
     engine
-}
-
-// The event is refused, or stopped before that was told.
-pub(crate) fn end_refused(refusal: Refusal<u64>, stop: Option<u64>) -> Ended
-    ensures { (s : GroupState) (event : GroupEvent) (e : _) (m : _) → IsDown m s.stored → m.moment ≡ s.now
-        → IsIdle m.id e s → refusal_of m.id s event ≡ Some (reason_of refusal) → HasEnded m.id s event stop (left_by result e m) result }
-{
-    if stop.is_some() {
-        return Ended::Stopped;
-    }
-    Ended::Refused(refusal)
 }
 
 impl Member {

@@ -5,13 +5,13 @@ ghost use Rattle.raft_laws.specs.GroupWorld.{GroupWorld, NodeState, Outcome, Rec
 ghost use Rattle.raft_laws.specs.GroupRun.{is_same_setup, led_by, setup_in_call};
 ghost use Rattle.raft_laws.specs.OneList.{IsGroupHistory};
 ghost use Rattle.raft_laws.specs.declared.world_event.WorldEvent.{WorldEvent as AnEvent};
-ghost use Rattle.raft_laws.specs.declared.world_event.WorldEvent.TheVariants.{Add, Ask, Crash, Deliver, Restart};
+ghost use Rattle.raft_laws.specs.declared.world_event.WorldEvent.TheVariants.{Add, Ask, Crash, Deliver, Halt, Restart};
 ghost use Rattle.raft_settled.specs.World.{led_of};
 ghost use Rattle.raft_world.specs.Member.{IsAt};
 ghost use Rattle.raft_world.specs.World.{AreNodes, HasBroken, HasCome, HasHappened, IsPlace, IsWorldOf, node_of};
 ghost use Rattle.raft_world.specs.Ending.{HasConcluded, IsEndOf, IsSent, IsWorldBut, down_of, first_setup, set_up_with};
 
-use crate::member::{Ended, Member};
+use crate::member::{Broken, Ended, Member};
 use crate::places::place_of;
 use crate::world::{Mark, PlannedEvent, World};
 use raft_conditions::GroupCommand;
@@ -136,13 +136,13 @@ impl World {
     }
 
     // The group is added at a node, which has it.
-    fn add(&mut self, node: u64, stop: Option<u64>) -> Result<Mark, AllocError>
-        ensures { (ids : List ℕ) (rs : List Recorded) (g : GroupWorld) → IsGroupHistory ids rs g → IsWorldOf self.old g → HasCome g (Add node) stop self.new result }
+    fn add(&mut self, node: u64) -> Result<Mark, AllocError>
+        ensures { (ids : List ℕ) (rs : List Recorded) (g : GroupWorld) (stop : Option ℕ) → IsGroupHistory ids rs g → IsWorldOf self.old g → HasCome g (Add node) stop self.new result }
     {
         let Some(place) = place_of(self.members.as_slice(), node) else {
             return Ok(Mark::Skipped);
         };
-        let ended = self.members[place].add_group(stop);
+        let ended = self.members[place].add_group();
         self.conclude(place, None, ended)
     }
 
@@ -171,7 +171,8 @@ impl World {
         };
         match self.members[place].ask(self.alloc, call, now, stop) {
             Ok(ended) => self.conclude(place, setup, ended),
-            Err(refused) => {
+            Err(Broken::Unjudged(refused)) => Err(refused),
+            Err(Broken::Begun(refused)) => {
                 self.set_up(setup);
                 Err(refused)
             }
@@ -208,6 +209,20 @@ impl World {
         Mark::Done
     }
 
+    // Another group's event stops a node.
+    fn halt(&mut self, node: u64) -> Mark
+        ensures { (g : GroupWorld) (stop : Option ℕ) → IsWorldOf self.old g → HasHappened g (Halt node) stop self.new result }
+    {
+        let Some(place) = place_of(self.members.as_slice(), node) else {
+            return Mark::Skipped;
+        };
+        if !self.members[place].is_up() {
+            return Mark::Skipped;
+        }
+        self.crash_at(place);
+        Mark::Stopped
+    }
+
     // A node that is down is opened.
     fn restart(&mut self, node: u64, stop: Option<u64>) -> Result<Mark, AllocError>
         ensures { (ids : List ℕ) (rs : List Recorded) (g : GroupWorld) → IsGroupHistory ids rs g → IsWorldOf self.old g → HasCome g (Restart node) stop self.new result }
@@ -229,6 +244,7 @@ impl World {
             WorldEvent::Add { node } => Some(*node),
             WorldEvent::Ask { node, .. } => Some(*node),
             WorldEvent::Crash { node } => Some(*node),
+            WorldEvent::Halt { node } => Some(*node),
             WorldEvent::Restart { node } => Some(*node),
             WorldEvent::Deliver { number, .. } => {
                 let message = self.messages.get(*number as usize)?;
@@ -253,10 +269,11 @@ impl World {
     {
         let stop = planned.stop;
         match &planned.event {
-            WorldEvent::Add { node } => self.add(*node, stop),
+            WorldEvent::Add { node } => self.add(*node),
             WorldEvent::Ask { node, call, now } => self.ask(*node, call, *now, stop),
             WorldEvent::Deliver { number, now } => self.deliver(*number, *now, stop),
             WorldEvent::Crash { node } => Ok(self.crash(*node)),
+            WorldEvent::Halt { node } => Ok(self.halt(*node)),
             WorldEvent::Restart { node } => self.restart(*node, stop),
         }
     }

@@ -1,5 +1,5 @@
 //! A member of a group: it is up with an engine, or down with what it has stored.
-ghost use Rattle.std.specs.Prelude.{◌≡◌, IfOk, true, false, is_some};
+ghost use Rattle.std.specs.Prelude.{◌≡◌, ℕ, IfOk, Option, true, false, is_some};
 ghost use Rattle.std.specs.Option.{option_copied};
 ghost use Rattle.raft_group_step.specs.StoredGroup.{StoredGroup as Stored};
 ghost use Rattle.raft_group_step.specs.GroupState.{GroupState, is_leader, no_group, state_of};
@@ -41,6 +41,15 @@ pub enum Ended {
     Stopped,
     /// Nothing happened: the member was down, or up where it was to be opened.
     Skipped,
+}
+
+/// How far an event came that met want of memory (own): its member is down.
+#[derive(Debug, Drop)]
+pub enum Broken {
+    /// It isn't known whether it is refused, and nothing of it was begun.
+    Unjudged(AllocError),
+    /// It wasn't refused, and some of its storing commands are done, from the first on.
+    Begun(AllocError),
 }
 
 /// A member of a group at a node (own): it is up with an engine, or down with what it has stored.
@@ -104,18 +113,13 @@ impl Member {
         }
     }
 
-    /// The group is added at a member that has it, which is refused (own). It may be to stop.
-    pub fn add_group(&mut self, stop: Option<u64>) -> Ended
-        ensures id { self.new.id ≡ self.old.id }
-        ensures up { (s : GroupState) → IsUp self.old s → HasEnded self.old.id s AddGroup stop self.new result }
-        ensures down { (stored : Stored) → IsDown self.old stored → (result ≡ Skipped) × IsDown self.new stored }
+    /// The group is added at a member that has it, which is refused (own), also where it is to stop.
+    pub fn add_group(&self) -> Ended
+        ensures up { (s : GroupState) (stop : Option ℕ) → IsUp self.now s → HasEnded self.now.id s AddGroup stop self.now result }
+        ensures down { (stored : Stored) → IsDown self.now stored → result ≡ Skipped }
     {
         if self.engine.is_none() {
             return Ended::Skipped;
-        }
-        if stop.is_some() {
-            self.crash();
-            return Ended::Stopped;
         }
         Ended::Refused(Refusal::GroupExists)
     }

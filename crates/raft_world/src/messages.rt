@@ -13,7 +13,6 @@ ghost use Rattle.raft_world.specs.Member.{HasEnded, HasStopped, IsDown, IsIdle, 
 ghost use Rattle.raft_world.specs.Running.{EndsTo, HasHalted, RunsTo};
 ghost use Rattle.raft_world.specs.declared.member.Ended.TheVariants.{Skipped};
 
-use crate::ending::end_refused;
 use crate::member::{ByteGroup, Ended, Member};
 use crate::metas::{membership_of, meta_of};
 use crate::numbers::number_in;
@@ -198,7 +197,7 @@ impl Member {
             → OnErr result (HasStopped self.old.id s (Receive message.now.sender (message_of message.now) now) self.new) }
     {
         match message_refusal(&self.facts(engine), message, now) {
-            Some(refusal) => Ok(end_refused(refusal, stop)),
+            Some(refusal) => Ok(Ended::Refused(refusal)),
             None => {
                 let moment = self.moment.max(now);
                 self.accepted_message(alloc, engine, message, moment, stop)
@@ -207,8 +206,8 @@ impl Member {
     }
 
     /// A message comes at this moment, in ticks (own); one before the last one counts as the last
-    /// one. It may stop after so many storing commands. An error is want of memory: then the member
-    /// is down, with some of the storing commands done, from the first on.
+    /// one. It may stop after so many storing commands, unless it is refused. An error is want of
+    /// memory: then the member is down, with some of the storing commands done, from the first on.
     pub fn receive(
         &mut self,
         alloc: Global,

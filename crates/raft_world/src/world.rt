@@ -23,7 +23,7 @@ use std::mem;
 pub struct PlannedEvent {
     /// What is to happen.
     pub event: WorldEvent,
-    /// After so many storing commands it stops, and its node goes down.
+    /// After so many storing commands it stops, and its node goes down, unless it is refused.
     pub stop: Option<u64>,
 }
 
@@ -34,7 +34,7 @@ pub enum Mark {
     Done,
     /// It was refused.
     Refused(Refusal<u64>),
-    /// It stopped as it was to, and its node is down.
+    /// It stopped as it was to, or another group's event stopped the node, and its node is down.
     Stopped,
     /// It was passed over: there is no such node or message, the node is down or, to be restarted,
     /// up, or the group was set up with another membership.

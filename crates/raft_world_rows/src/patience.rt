@@ -11,6 +11,7 @@ fn node_of(world: &World, event: &WorldEvent) -> u64 {
         WorldEvent::Add { node }
         | WorldEvent::Ask { node, .. }
         | WorldEvent::Crash { node }
+        | WorldEvent::Halt { node }
         | WorldEvent::Restart { node } => *node,
         WorldEvent::Deliver { number, .. } => match world.messages().get(*number as usize) {
             None => 0,

@@ -182,6 +182,7 @@ fn event_in(
         },
         "next" => WorldEvent::Deliver { number: next, now },
         "crash" => WorldEvent::Crash { node: target },
+        "halt" => WorldEvent::Halt { node: target },
         "restart" => WorldEvent::Restart { node: target },
         verb => WorldEvent::Ask {
             node: target,

@@ -4,6 +4,7 @@ use Rattle.raft_group_step.specs.StoredGroup.{end_place}
 use Rattle.raft_group_step.specs.GroupEvent.{Call}
 use Rattle.raft_group_step.specs.Refusal.{refusal_of}
 use Rattle.raft_conditions.specs.Reason.{reason_of}
+use Rattle.raft_world.proofs.EventLemmas.{up_again}
 use Rattle.raft_world.proofs.member.Member.call.Goals as goal
 
 pub returns-in-Some-clause-ok : goal.returns-in-Some-clause-ok
@@ -11,5 +12,5 @@ returns-in-Some-clause-ok c = λ s down moment idle lawful.
     let low : end_place s.stored ≤ 2 ^ 62 = lawful.ready.places in
     let facts = c.facts.ensures s idle.stands down.stored (omega arith) in
     let refused : refusal_of c.args.self.now.id s (Call c.args.call.now c.args.now) ≡ Some (reason_of c.in-Some.refusal) =
-    sym (c.in_ok-refusal.ensures.refusal c.args.self.now.id s facts) ∙ ap (option_map reason_of) c.in-Some.is in
-    c.end_refused.ensures s (Call c.args.call.now c.args.now) c.args.engine.now c.args.self.now down moment idle refused
+    sym (c.in-Ok.ensures.refusal c.args.self.now.id s facts) ∙ ap (option_map reason_of) c.in-Some.is in
+    (refused, up_again c.args.self.now c.args.engine.now s down moment idle)

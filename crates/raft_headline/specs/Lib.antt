@@ -1,0 +1,4 @@
+pub mod ClusterEvent
+pub mod Seen
+pub mod Machines
+pub mod Replaying

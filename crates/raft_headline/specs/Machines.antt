@@ -1,0 +1,187 @@
+-- Machines beside a group: what each node's machine runs as its group commits, and the bytes of snapshots.
+use Rattle.std.specs.Prelude.{◌≡◌, ℕ, ◌+◌, Bool, true, false, List, [], ◌∷◌, ◌++◌, map, take, drop, slice_get, Option, Some, None, Contains}
+use Rattle.raft_state.specs.declared.entry.EntryPayload.TheVariants.{Blank, Normal, Membership as Members}
+use Rattle.raft_group_step.specs.Values.{Entry, EntryPayload}
+use Rattle.raft_group_step.specs.StoredGroup.{Snapshot, StoringCommand, MakeGroup, SetVote, PutEntries, CutFrom, RemoveUpTo, SetSnapshot, StartAfter}
+use Rattle.raft_group_step.specs.GroupState.{GroupState, state_of}
+use Rattle.raft_group_step.specs.GroupEvent.{GroupEvent, AddGroup, Call, Receive, Open}
+use Rattle.raft_group_step.specs.GroupStep.{group_step}
+use Rattle.raft_group_step.specs.SnapshotRequest.{place_above}
+use Rattle.raft_laws.specs.BallotLists.{with_value}
+use Rattle.raft_laws.specs.GroupWorld.{GroupWorld, NodeState, Absent, Up, Down, new_world}
+use Rattle.raft_laws.specs.NodeEvent.{NodeEvent, Comes, Crashes, Halts, Restarts}
+use Rattle.raft_laws.specs.GroupRun.{Scene, Nowhere, At}
+use Rattle.raft_laws.specs.OneList.{applied_list}
+use Rattle.raft_node.specs.Machine.{MachineRules}
+use Rattle.raft_node.specs.Fold.{GroupEntry, GroupPayload, answer_at, answer_in, fold_of, state_from}
+
+-- ---- a list as a machine reads it
+
+abbrev pub machine_payload : EntryPayload → GroupPayload
+machine_payload Blank = Blank
+machine_payload (Normal command) = Normal (record { bytes = command })
+machine_payload (Members m) = Members m
+
+abbrev pub machine_entry : Entry → GroupEntry
+machine_entry e = record { log_id = e.log_id; payload = machine_payload e.payload }
+
+abbrev pub machine_list : List Entry → List GroupEntry
+machine_list es = map machine_entry es
+
+-- the machine's state after the list, and its answer at a place of it
+abbrev pub list_fold : MachineRules → List Entry → List ℕ
+list_fold rules es = fold_of rules (machine_list es)
+
+abbrev pub list_answer : MachineRules → List Entry → ℕ → List ℕ
+list_answer rules es place = answer_at rules (machine_list es) place
+
+-- ---- a machine that runs on
+
+-- the state of a machine that has run so many entries of the list
+pub record Standing : Type 0 where
+  pub state : List ℕ
+  pub count : ℕ
+
+-- the state once it has run the rest of this list, too
+abbrev pub run_on : MachineRules → Standing → List Entry → List ℕ
+run_on rules at es = state_from rules at.state at.count (machine_list (drop at.count es))
+
+-- its answer as it runs the entry at a place
+abbrev pub answer_on : MachineRules → Standing → List Entry → ℕ → List ℕ
+answer_on rules at es place =
+    answer_in rules (run_on rules at (take place es)) place (slice_get (machine_list es) place)
+
+-- ---- snapshots
+
+-- bytes that a machine gave for a snapshot
+pub record Built : Type 0 where
+  pub snapshot : Snapshot
+  pub bytes : List ℕ
+
+abbrev pub snapshot_in : StoringCommand → Option Snapshot
+snapshot_in MakeGroup = None
+snapshot_in (SetVote vote) = None
+snapshot_in (PutEntries place entries) = None
+snapshot_in (CutFrom place) = None
+snapshot_in (RemoveUpTo id) = None
+snapshot_in (SetSnapshot x) = Some x
+snapshot_in (StartAfter id) = None
+
+abbrev pub later_of : Option Snapshot → Option Snapshot → Option Snapshot
+later_of first None = first
+later_of first (Some x) = Some x
+
+-- the last snapshot that these commands store, if there is one
+abbrev pub snapshot_stored : List StoringCommand → Option Snapshot
+snapshot_stored [] = None
+snapshot_stored (c ∷ cs) = later_of (snapshot_in c) (snapshot_stored cs)
+
+-- a snapshot that came in a message is installed, and one that was asked for is built
+abbrev pub installed_by : GroupEvent → List StoringCommand → Option Snapshot
+installed_by AddGroup cs = None
+installed_by (Call call now) cs = None
+installed_by (Receive peer message now) cs = snapshot_stored cs
+installed_by Open cs = None
+
+abbrev pub asked_by : GroupEvent → List StoringCommand → Option Snapshot
+asked_by AddGroup cs = None
+asked_by (Call call now) cs = snapshot_stored cs
+asked_by (Receive peer message now) cs = None
+asked_by Open cs = None
+
+-- the law of a machine: what its snapshot restores is the state that it was given of
+abbrev pub KeepsItsLaw : MachineRules → List ℕ → Type 0
+KeepsItsLaw rules state = rules.restored (rules.snapshot state) ≡ state
+
+-- ---- one group with its machines
+
+-- the world of a group, the states of the machines of nodes that are up, and all bytes that were given for snapshots
+pub record Replicas : Type 0 where
+  pub world : GroupWorld
+  pub machines : ℕ → List ℕ
+  pub built : List Built
+
+-- nodes that know of no group, and machines that have run nothing
+abbrev pub new_replicas : MachineRules → List ℕ → Replicas
+new_replicas rules ids =
+    record { world = new_world ids; machines = λ n. rules.first; built = [] }
+
+-- a step that a node's machine takes part in: where the machine stands, and whose bytes it is to restore
+pub record Turn : Type 0 where
+  pub state : GroupState
+  pub event : GroupEvent
+  pub before : Standing
+  pub restores : Option Snapshot
+
+-- a machine runs on, and a node that is opened begins a new one
+abbrev pub turn_of : MachineRules → ℕ → List ℕ → NodeEvent → NodeState → Option Turn
+turn_of rules n machine e Absent = None
+turn_of rules n machine (Comes e) (Up s) =
+    Some
+    (record {
+      state = s;
+      event = e;
+      before = record { state = machine; count = place_above s.applied };
+      restores = installed_by e (group_step n s e).commands;
+    })
+turn_of rules n machine Crashes (Up s) = None
+turn_of rules n machine Halts (Up s) = None
+turn_of rules n machine Restarts (Up s) = None
+turn_of rules n machine (Comes e) (Down stored) = None
+turn_of rules n machine Crashes (Down stored) = None
+turn_of rules n machine Halts (Down stored) = None
+turn_of rules n machine Restarts (Down stored) =
+    Some
+    (record {
+      state = state_of stored;
+      event = Open;
+      before = record { state = rules.first; count = 0 };
+      restores = stored.snapshot;
+    })
+
+-- the machine goes on where it stood, or where bytes that were given for the snapshot bring it
+abbrev pub StandsAt : MachineRules → List Built → Standing → Option Snapshot → Standing → Type 0
+StandsAt rules built before None at = at ≡ before
+StandsAt rules built before (Some x) at =
+    (bytes : List ℕ) × Contains built (record { snapshot = x; bytes = bytes })
+    × (at ≡ record { state = rules.restored bytes; count = x.last.index + 1 })
+
+-- the machine gives the bytes of a snapshot that is asked for, before it runs on
+abbrev pub built_of : MachineRules → List ℕ → Option Snapshot → List Built
+built_of rules state None = []
+built_of rules state (Some x) = record { snapshot = x; bytes = rules.snapshot state } ∷ []
+
+-- it keeps its law where one is asked for
+abbrev pub GivesRightly : MachineRules → List ℕ → Option Snapshot → Type 0
+GivesRightly rules state None = Unit {0}
+GivesRightly rules state (Some x) = KeepsItsLaw rules state
+
+-- of a node that goes down nothing is left
+abbrev pub machines_after : Bool → ℕ → List ℕ → (ℕ → List ℕ) → ℕ → List ℕ
+machines_after true n state machines = machines
+machines_after false n state machines = with_value machines n state
+
+-- the machine of node n takes this turn, in a step that stops or runs to its end
+pub record TakesTurn (rules : MachineRules) (n : ℕ) (turn : Turn) (stops : Bool) (old new : Replicas) (answers : ℕ → List ℕ) : Type 0 where
+  pub at : Standing
+  pub stands : StandsAt rules old.built turn.before turn.restores at
+  pub machines : new.machines ≡ machines_after stops n (run_on rules at (applied_list (group_step n turn.state turn.event).state)) old.machines
+  pub rightly : GivesRightly rules turn.before.state (asked_by turn.event (group_step n turn.state turn.event).commands)
+  pub built : new.built ≡ old.built ++ built_of rules turn.before.state (asked_by turn.event (group_step n turn.state turn.event).commands)
+  pub answered : answers ≡ answer_on rules at (applied_list (group_step n turn.state turn.event).state)
+
+-- no machine runs
+pub record StandsStill (old new : Replicas) : Type 0 where
+  pub machines : new.machines ≡ old.machines
+  pub built : new.built ≡ old.built
+
+abbrev pub MachinesMove : MachineRules → ℕ → Option Turn → Bool → Replicas → Replicas → (ℕ → List ℕ) → Type 0
+MachinesMove rules n None stops old new answers = StandsStill old new
+MachinesMove rules n (Some turn) stops old new answers =
+    TakesTurn rules n turn stops old new answers
+
+-- so where the event happens
+abbrev pub MachinesMoveIn : MachineRules → Scene → Bool → Replicas → Replicas → (ℕ → List ℕ) → Type 0
+MachinesMoveIn rules Nowhere stops old new answers = StandsStill old new
+MachinesMoveIn rules (At n e) stops old new answers =
+    MachinesMove rules n (turn_of rules n (old.machines n) e (old.world.nodes n)) stops old new answers
