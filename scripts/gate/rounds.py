@@ -163,7 +163,18 @@ class Tries:
         only = dict.fromkeys(name for it in edits for name in it.functions)
         ran = self._check(self.crate, texts, only)
         self.seconds, self.checks = self.seconds + ran.seconds, self.checks + 1
+        self.keep(edits, ran)
         return ran, texts
+
+    def keep(self, edits, ran):
+        """Keeps what the check said, for whoever wants to know which goal refused an edit."""
+        if self.crate:
+            folder = f"{self.crate.folder}/out/edits"
+            if self.checks == 1:
+                shutil.rmtree(folder, ignore_errors=True)
+            os.makedirs(folder, exist_ok=True)
+            with open(f"{folder}/{self.checks}.txt", "w", encoding="utf-8") as it:
+                it.write("\n".join(["edits: " + " ".join(e.name for e in edits), *ran.lines, ""]))
 
 
 def first_round(edits):
