@@ -10,3 +10,4 @@ pub mod LeaderSends
 pub mod Unnumbered
 pub mod PeerEvents
 pub mod Served
+pub mod FitWords

@@ -103,7 +103,7 @@ module _ (own : ℕ) where
   granted_mine peer Follower r e h = h
   granted_mine peer (Candidate granters) r e h =
       record {
-        is = λ t. ap (λ (x : LeaderId ℕ). x.node_id) (granted_leader peer (Candidate granters) r) ∙ h.is (ap seeks_or_leads e)
+        is = λ t. ap (λ (x : LeaderId ℕ). x.node_id) (granted_leader peer (Candidate granters) r) ∙ h.is (ap seeks_or_leads e);
       }
   granted_mine peer (Leader lead) r e h = h
 
@@ -216,7 +216,7 @@ module _ (own : ℕ) where
   finished_mine before r h true t =
       let on = finished_adds own before r in
       record {
-        is = λ u. ap (λ (v : Vote ℕ). v.leader_id.node_id) on.vote ∙ h.is (leading_seeks r.state.role t)
+        is = λ u. ap (λ (v : Vote ℕ). v.leader_id.node_id) on.vote ∙ h.is (leading_seeks r.state.role t);
       }
     where
       leading_seeks : (role : Role) → is_leader role ≡ true → seeks_or_leads role ≡ true

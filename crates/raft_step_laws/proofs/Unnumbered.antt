@@ -43,7 +43,7 @@ same_plain r q e h = record { messages = subst AllUnnumbered (sym e) h.messages 
 send_plain : (own peer : ℕ) (b : MessageBody) (r : StepResult) → request_number b ≡ None → Plain r → Plain (send own peer b r)
 send_plain own peer b r e h =
     record {
-      messages = unnumbered_more r.messages (record { sender = own; addressee = peer; body = b } ∷ []) h.messages (e, tt)
+      messages = unnumbered_more r.messages (record { sender = own; addressee = peer; body = b } ∷ []) h.messages (e, tt);
     }
 
 -- ---- votes and elections

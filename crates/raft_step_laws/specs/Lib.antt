@@ -8,3 +8,5 @@ pub mod Tokens
 pub mod TokenRows
 pub mod PeerStates
 pub mod Serving
+pub mod PeerRows
+pub mod Fitting
