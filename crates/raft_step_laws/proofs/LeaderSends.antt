@@ -153,7 +153,7 @@ has_request_after (m ∷ ms) p h =
     (cond_both (m.addressee == p.peer) (after_body m.body p) p HasRequest (λ t. body_has m.body p h) (λ t. h))
 
 -- sending leaves what the peer has accepted
-matched_after : (ms : List Message) (p : PeerState) → (peer_after_sending ms p).matched ≡ p.matched
+pub matched_after : (ms : List Message) (p : PeerState) → (peer_after_sending ms p).matched ≡ p.matched
 matched_after [] p = refl
 matched_after (m ∷ ms) p =
     matched_after ms (cond (m.addressee == p.peer) (after_body m.body p) p)

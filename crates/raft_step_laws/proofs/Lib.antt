@@ -11,3 +11,5 @@ pub mod Unnumbered
 pub mod PeerEvents
 pub mod Served
 pub mod FitWords
+pub mod FitSteps
+pub mod Committing

@@ -391,16 +391,16 @@ module _ (own : ℕ) (s : GroupState) (mine : HasItsOwnVote own s) (waits : Wait
 -- ---- the end of an event
 
 -- a purge tells nothing
-record Untouched (r q : StepResult) : Type 0 where
-  untold : q.state.untold ≡ r.state.untold
-  told : q.told ≡ r.told
-  committed : q.state.committed ≡ r.state.committed
+pub record Untouched (r q : StepResult) : Type 0 where
+  pub untold : q.state.untold ≡ r.state.untold
+  pub told : q.told ≡ r.told
+  pub committed : q.state.committed ≡ r.state.committed
 
 removed_untouched : (id : Option (LogId ℕ)) (r : StepResult) → Untouched r (remove_up_to id r)
 removed_untouched None r = record { untold = refl; told = refl; committed = refl }
 removed_untouched (Some id) r = record { untold = refl; told = refl; committed = refl }
 
-purged_untouched : (role : Role) (wish : Option ℕ) (r : StepResult) → Untouched r (purge_as_wished role wish r)
+pub purged_untouched : (role : Role) (wish : Option ℕ) (r : StepResult) → Untouched r (purge_as_wished role wish r)
 purged_untouched Follower wish r = record { untold = refl; told = refl; committed = refl }
 purged_untouched (Candidate granters) wish r = record { untold = refl; told = refl; committed = refl }
 purged_untouched (Leader lead) None r = record { untold = refl; told = refl; committed = refl }

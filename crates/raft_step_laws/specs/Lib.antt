@@ -10,3 +10,4 @@ pub mod PeerStates
 pub mod Serving
 pub mod PeerRows
 pub mod Fitting
+pub mod Commits

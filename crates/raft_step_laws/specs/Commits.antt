@@ -1,0 +1,43 @@
+-- A leader commits at once what a quorum accepted.
+use Rattle.std.specs.Prelude.{◌≡◌, ℕ, ◌==◌, ◌||◌, nat_le, Bool, true, false, Option, Some, None, Contains}
+use Rattle.raft_values.specs.declared.log_id.LogId.{LogId}
+use Rattle.raft_quorums.specs.Quorum.{is_quorum}
+use Rattle.raft_group_step.specs.Values.{Entry, is_written_by}
+use Rattle.raft_group_step.specs.StoredGroup.{StoredGroup}
+use Rattle.raft_group_step.specs.GroupState.{GroupState, Lead, Leader}
+use Rattle.raft_group_step.specs.GroupEvent.{GroupEvent}
+use Rattle.raft_group_step.specs.StepResult.{is_within}
+use Rattle.raft_group_step.specs.Lead.{configs_in_force, peer_of}
+use Rattle.raft_group_step.specs.Refusal.{refusal_of}
+use Rattle.raft_group_step.specs.GroupStep.{event_step, group_step}
+use Rattle.raft_step_laws.specs.Fitting.{FitsEvent, FitsStored, IsCommittedWithin}
+
+-- what was accepted reaches the place
+abbrev pub reaches : Option (LogId ℕ) → ℕ → Bool
+reaches None place = false
+reaches (Some id) place = nat_le place id.index
+
+-- the leader itself, and the peers that have accepted its entries up to the place, are a quorum
+abbrev pub has_quorum_at : ℕ → StoredGroup → Lead → ℕ → Bool
+has_quorum_at own s lead place =
+    is_quorum (configs_in_force s) (λ n. n == own || reaches (peer_of lead n).matched place)
+
+-- what goes at the event's end leaves the voter groups in force
+abbrev pub PurgeKeepsVoters : ℕ → GroupState → GroupEvent → Type 0
+PurgeKeepsVoters own s e =
+    configs_in_force (group_step own s e).state.stored ≡ configs_in_force (event_step own s e).state.stored
+
+-- each of a leader's own entries that is in its log, and up to which a quorum has accepted, is committed
+abbrev pub CommitsAll : ℕ → GroupState → Lead → Type 0
+CommitsAll own s lead =
+    (x : Entry) → Contains s.stored.log x → is_written_by s.stored.vote.leader_id x ≡ true
+    → has_quorum_at own s.stored lead x.log_id.index ≡ true
+    → is_within x.log_id.index s.committed ≡ true
+
+-- so it is after each event that isn't refused
+abbrev pub CommitsAtOnce : Type 0
+CommitsAtOnce =
+    (own : ℕ) (s : GroupState) (e : GroupEvent) → FitsStored s.stored → IsCommittedWithin s → FitsEvent e
+    → refusal_of own s e ≡ None → PurgeKeepsVoters own s e
+    → (lead : Lead) → (group_step own s e).state.role ≡ Leader lead
+    → CommitsAll own (group_step own s e).state lead
