@@ -3,6 +3,7 @@ use Rattle.std.specs.Prelude.{◌≡◌, ℕ, zero, suc, ◌+◌, ◌-◌, ◌<�
 use Rattle.std.specs.List.{last_or}
 use Rattle.std.proofs.Common.{sym, ap, ◌∙◌, subst, arith, le-leb, lt-ltb}
 use Rattle.std.proofs.lemmas.Bool.{and_from, cond_both}
+use Rattle.std.proofs.lemmas.List.Elements.{All-contains}
 use Rattle.std.proofs.lemmas.Option.{slice_get_within}
 use Rattle.raft_values.specs.declared.log_id.LogId.{LogId}
 use Rattle.raft_values.specs.LogId.{place_of}
@@ -18,18 +19,19 @@ use Rattle.raft_group_step.specs.Lead.{commit_as_leader, configs_in_force, has_a
 use Rattle.raft_group_step.specs.Frames.{with_frames}
 use Rattle.raft_group_step.specs.Refusal.{refusal_of}
 use Rattle.raft_group_step.specs.GroupStep.{event_step, finished, group_step, step_unless}
-use Rattle.raft_laws.proofs.Counts.{contains_at}
+use Rattle.raft_laws.proofs.Counts.{at_contains, contains_at}
 use Rattle.raft_laws.proofs.Shapes.{slice_drop}
 use Rattle.raft_laws.proofs.StepCalls.{leads_on as leading}
 use Rattle.raft_laws.proofs.StepTokens.{frames_same}
 use Rattle.raft_laws.proofs.StepWords.{either}
-use Rattle.raft_step_laws.specs.Commits.{CommitsAll, CommitsAtOnce, has_quorum_at, reaches}
+use Rattle.raft_step_laws.specs.Commits.{CommitsAll, CommitsAtOnce, TokensAreToldAtOnce, has_quorum_at, reaches}
 use Rattle.raft_step_laws.specs.Fitting.{ArePlacedFrom, FitsStored}
-use Rattle.raft_step_laws.proofs.FitSteps.{event_fits}
-use Rattle.raft_step_laws.proofs.FitWords.{StandFrom, placed_stand}
+use Rattle.raft_step_laws.proofs.FitSteps.{event_fits, steps_fit}
+use Rattle.raft_step_laws.proofs.FitWords.{StandFrom, entry_place, entry_within, placed_stand}
 use Rattle.raft_step_laws.proofs.LeaderSends.{finished_sends, matched_after, same_lead, settled}
 use Rattle.raft_step_laws.proofs.Sending.{finished_adds}
-use Rattle.raft_step_laws.proofs.Telling.{purged_untouched}
+use Rattle.raft_step_laws.proofs.Telling.{purged_untouched, untold_above}
+use Rattle.raft_step_laws.specs.Tokens.{is_due}
 
 -- ---- the last entry that passes stands at or behind each that does
 
@@ -170,3 +172,21 @@ commits_at_once own s e fits c f passed voters lead =
     (sym passed)
     (λ v. commits own s e (event_fits own s e fits c f passed).placed v lead)
     voters
+
+pub told_at_once : TokensAreToldAtOnce
+told_at_once own s e fits c f mine waits none above passed voters lead is t there x at written =
+    go (has_quorum_at own (group_step own s e).state.stored lead t.place) refl
+  where
+    go : (b : Bool) → has_quorum_at own (group_step own s e).state.stored lead t.place ≡ b → has_quorum_at own (group_step own s e).state.stored lead t.place ≡ false
+    go false q = q
+    go true q =
+        let st = (group_step own s e).state.stored in
+        let stored = (steps_fit own s e fits c f).stored in
+        let place = entry_place st stored t.place x at in
+        let inside = at_contains st.log x (t.place - first_place st) (entry_within st t.place x at).2 in
+        let committed =
+        commits_at_once own s e fits c f passed voters lead is x inside written (ap (has_quorum_at own st lead) place ∙ q)
+        in
+        let waiting = All-contains (λ y. is_due (group_step own s e).state y ≡ false) (group_step own s e).state.untold t (untold_above own s e mine waits none above) there in
+        absurd
+        (let no : true ≡ false = sym committed ∙ ap (λ k. is_within k (group_step own s e).state.committed) place ∙ waiting in cc)

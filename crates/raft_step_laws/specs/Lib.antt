@@ -11,3 +11,5 @@ pub mod Serving
 pub mod PeerRows
 pub mod Fitting
 pub mod Commits
+pub mod CommitRows
+pub mod FittingRows
