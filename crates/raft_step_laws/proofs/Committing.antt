@@ -1,5 +1,5 @@
 -- A leader commits at once what a quorum accepted.
-use Rattle.std.specs.Prelude.{◌≡◌, ℕ, zero, suc, ◌+◌, ◌-◌, ◌<◌, ◌≤◌, ◌==◌, ◌||◌, cond, max, nat_le, nat_lt, Bool, true, false, List, [], ◌∷◌, drop, filter, length, slice_get, Option, Some, None, Contains, option_map, refl}
+use Rattle.std.specs.Prelude.{◌≡◌, ℕ, zero, suc, ◌+◌, ◌-◌, ◌<◌, ◌≤◌, ◌==◌, ◌||◌, cond, max, nat_lt, Bool, true, false, List, [], ◌∷◌, filter, slice_get, Option, Some, None, option_map, refl}
 use Rattle.std.specs.List.{last_or}
 use Rattle.std.proofs.Common.{sym, ap, ◌∙◌, subst, arith, le-leb, lt-ltb}
 use Rattle.std.proofs.lemmas.Bool.{and_from, cond_both}
@@ -10,14 +10,12 @@ use Rattle.raft_values.specs.LogId.{place_of}
 use Rattle.raft_quorums.specs.Quorum.{is_quorum}
 use Rattle.raft_quorums.specs.QuorumLaws.{wider_quorum}
 use Rattle.raft_group_step.specs.Values.{Entry, is_written_by}
-use Rattle.raft_group_step.specs.StoredGroup.{StoredGroup, RemoveUpTo, end_place, entry_at, first_place, id_of}
+use Rattle.raft_group_step.specs.StoredGroup.{StoredGroup, end_place, entry_at, first_place, id_of}
 use Rattle.raft_group_step.specs.Peer.{is_kept_for_peers}
 use Rattle.raft_group_step.specs.GroupState.{GroupState, Lead, Role, Follower, Candidate, Leader, is_leader}
 use Rattle.raft_group_step.specs.GroupEvent.{GroupEvent}
-use Rattle.raft_group_step.specs.StepResult.{StepResult, is_within, later_place, store}
-use Rattle.raft_group_step.specs.Lead.{commit_as_leader, configs_in_force, has_accepted, last_place, may_be_committed, peer_of, purge_as_wished, purge_up_to, remove_up_to, with_wish}
-use Rattle.raft_group_step.specs.Frames.{with_frames}
-use Rattle.raft_group_step.specs.Refusal.{refusal_of}
+use Rattle.raft_group_step.specs.StepResult.{StepResult, is_within, later_place}
+use Rattle.raft_group_step.specs.Lead.{commit_as_leader, configs_in_force, has_accepted, may_be_committed, peer_of, purge_as_wished, purge_up_to, remove_up_to, with_wish}
 use Rattle.raft_group_step.specs.GroupStep.{event_step, finished, group_step, step_unless}
 use Rattle.raft_laws.proofs.Counts.{at_contains, contains_at}
 use Rattle.raft_laws.proofs.Shapes.{slice_drop}
@@ -25,7 +23,7 @@ use Rattle.raft_laws.proofs.StepCalls.{leads_on as leading}
 use Rattle.raft_laws.proofs.StepTokens.{frames_same}
 use Rattle.raft_laws.proofs.StepWords.{either}
 use Rattle.raft_step_laws.specs.Commits.{CommitsAll, CommitsAtOnce, TokensAreToldAtOnce, has_quorum_at, reaches}
-use Rattle.raft_step_laws.specs.Fitting.{ArePlacedFrom, FitsStored}
+use Rattle.raft_step_laws.specs.Fitting.{ArePlacedFrom}
 use Rattle.raft_step_laws.proofs.FitSteps.{event_fits, steps_fit}
 use Rattle.raft_step_laws.proofs.FitWords.{StandFrom, entry_place, entry_within, placed_stand}
 use Rattle.raft_step_laws.proofs.LeaderSends.{finished_sends, matched_after, same_lead, settled}

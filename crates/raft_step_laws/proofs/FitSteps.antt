@@ -1,5 +1,5 @@
 -- What a step stores and sends fits the limits, where what the node has and is sent does.
-use Rattle.std.specs.Prelude.{◌≡◌, ℕ, ◌+◌, ◌-◌, ◌<◌, ◌≤◌, ◌==◌, ◌&&◌, ◌||◌, cond, is_none, is_some, nat_le, nat_lt, not, Bool, true, false, List, [], ◌∷◌, ◌++◌, drop, filter, length, take, Option, Some, None, All, IfSome, IsTrue, refl}
+use Rattle.std.specs.Prelude.{◌≡◌, ℕ, ◌+◌, ◌-◌, ◌≤◌, ◌==◌, ◌&&◌, ◌||◌, cond, is_none, is_some, nat_le, nat_lt, not, Bool, true, false, List, [], ◌∷◌, ◌++◌, drop, filter, length, take, Option, Some, None, All, IfSome, IsTrue, refl}
 use Rattle.std.specs.List.{list_any}
 use Rattle.std.proofs.Common.{sym, ap, ◌∙◌, subst, arith, eqb-true, leb-true}
 use Rattle.std.proofs.lemmas.Bool.{and_parts}
@@ -9,24 +9,24 @@ use Rattle.std.proofs.lemmas.Option.{slice_get_within}
 use Rattle.raft_values.specs.declared.vote.Vote.{Vote}
 use Rattle.raft_values.specs.Vote.{vote_of}
 use Rattle.raft_values.specs.declared.log_id.LogId.{LogId}
-use Rattle.raft_values.specs.LogId.{log_id_of, next_place, place_of}
+use Rattle.raft_values.specs.LogId.{log_id_of, next_place}
 use Rattle.raft_quorums.specs.Quorum.{is_quorum}
 use Rattle.raft_state.specs.declared.entry.EntryPayload.TheVariants.{Blank, Normal, Membership as Members}
-use Rattle.raft_group_step.specs.Values.{after_change, ChangeMembers, Entry, EntryPayload, LoggedMembership, Membership, configs_eq, entry_of, has_id, is_valid, is_within_limits, is_written_by, vote_eq, vote_lt}
-use Rattle.raft_group_step.specs.StoredGroup.{Snapshot, StoredGroup, StoringCommand, MakeGroup, SetVote, PutEntries, CutFrom, RemoveUpTo, SetSnapshot, StartAfter, after_storing, after_storing_all, end_place, entry_at, first_place, has_id_in_log, id_before, id_of, log_below, membership_in_force, snapshot_last}
-use Rattle.raft_group_step.specs.Message.{AppendFields, HeartBeat, Message, Numbered, RequestId, MessageBody, VoteRequest, VoteReply, AppendRequest, AppendReply, SnapshotRequest, SnapshotReply, ReplyFields, ReplyResult, Success, Conflict, HigherVote}
+use Rattle.raft_group_step.specs.Values.{after_change, ChangeMembers, Entry, EntryPayload, LoggedMembership, entry_of, has_id, is_valid, is_within_limits, is_written_by, vote_eq, vote_lt}
+use Rattle.raft_group_step.specs.StoredGroup.{Snapshot, StoredGroup, StoringCommand, MakeGroup, SetVote, PutEntries, CutFrom, RemoveUpTo, SetSnapshot, StartAfter, after_storing, after_storing_all, end_place, entry_at, first_place, has_id_in_log, id_before, id_of, membership_in_force, snapshot_last}
+use Rattle.raft_group_step.specs.Message.{AppendFields, Message, Numbered, RequestId, MessageBody, VoteRequest, VoteReply, AppendRequest, AppendReply, SnapshotRequest, SnapshotReply, ReplyFields, ReplyResult, Success, Conflict, HigherVote}
 use Rattle.raft_group_step.specs.Peer.{PeerState, is_answer_to, is_kept_for_peers}
 use Rattle.raft_group_step.specs.GroupState.{GroupState, Lead, Role, Follower, Candidate, Leader, state_of}
 use Rattle.raft_group_step.specs.declared.group_call.GroupCall.TheVariants.{Initialize, Elect, Propose, ChangeMembership, Heartbeat, Lost, TriggerSnapshot, TriggerPurge}
 use Rattle.raft_group_step.specs.GroupEvent.{GroupCall, GroupEvent, AddGroup, Call, Receive, Open}
 use Rattle.raft_group_step.specs.StepResult.{CommandTooLong, MembershipRefused, NotAllowed, RefusalReason, StepResult, append, apply_up_to, in_role, is_within, later_place, refused_step, renew, send, step_down, store, store_vote, take_over, unchanged}
 use Rattle.raft_group_step.specs.Lead.{begin_lead, commit_as_leader, committed_vote, configs_in_force, lead_if, new_lead, other_ids, peer_of, purge_as_wished, purge_up_to, remove_up_to, with_grant, with_wish}
-use Rattle.raft_group_step.specs.Frames.{committed_id, entries_in_request, has_grown, lacks_entries, notice, request_start, send_entries, send_request, send_snapshot, serve, serve_all, serve_as, with_frames}
+use Rattle.raft_group_step.specs.Frames.{committed_id, entries_in_request, has_grown, lacks_entries, notice, request_start, send_entries, send_request, send_snapshot, serve, serve_all, serve_as}
 use Rattle.raft_group_step.specs.Elect.{ask, elect_step, other_voters, stand}
 use Rattle.raft_group_step.specs.VoteRequest.{judged, may_grant}
 use Rattle.raft_group_step.specs.VoteReply.{counted, take_over_greater}
 use Rattle.raft_group_step.specs.AppendRequest.{above_committed, cut_at, cut_from, heard, is_held, joined, missing_entries, put_entries}
-use Rattle.raft_group_step.specs.SnapshotRequest.{cut_other, install, install_unless, offered, place_above}
+use Rattle.raft_group_step.specs.SnapshotRequest.{cut_other, install_unless, offered, place_above}
 use Rattle.raft_group_step.specs.Reply.{answered, reply_step, with_higher_vote}
 use Rattle.raft_group_step.specs.Propose.{append_with_token}
 use Rattle.raft_group_step.specs.MembershipStep.{append_changed}
@@ -34,19 +34,24 @@ use Rattle.raft_group_step.specs.Heartbeat.{beat_as, send_notices}
 use Rattle.raft_group_step.specs.Lost.{lost_as}
 use Rattle.raft_group_step.specs.SnapshotTrigger.{snapshot_of_applied, store_snapshot_at}
 use Rattle.raft_group_step.specs.PurgeTrigger.{purge_as, purge_within}
-use Rattle.raft_group_step.specs.Opening.{drop_stale_log, is_joined_to, opening_step, resume_lead}
-use Rattle.raft_group_step.specs.Initialize.{initialize_step, is_new}
+use Rattle.raft_group_step.specs.Opening.{drop_stale_log, is_joined_to, resume_lead}
+use Rattle.raft_group_step.specs.Initialize.{is_new}
 use Rattle.raft_group_step.specs.Refusal.{command_limit, is_first_membership, reasons_of, reasons_of_call, reasons_of_change, refusal_of}
 use Rattle.raft_group_step.specs.GroupStep.{begun, call_step, event_step, finished, group_step, message_step, step_unless}
 use Rattle.raft_laws.proofs.FreshEntries.{within_is, without_is}
 use Rattle.raft_laws.proofs.Shapes.{slice_drop, slice_taken}
 use Rattle.raft_laws.proofs.StepCalls.{NoReason, no_reason, unless_none}
 use Rattle.raft_laws.proofs.StepWords.{all-append, either, either_by}
-use Rattle.raft_step_laws.specs.Fitting.{AllFit, ArePlacedFrom, FitEntries, FitsBody, FitsEvent, FitsPayload, FitsRequest, FitsSnapshot, FitsStored, FitsStoring, IsCommittedWithin, StepFits, StepsFit}
-use Rattle.raft_step_laws.proofs.FitWords.{Fits, StandFrom, StandWithin, above_within, all_fit, before_next, built_fits, entry_place, entry_within, in_log_within, missing_within, no_entry, placed_drop, placed_one, placed_stand, some_entry, stand_placed, stop_fits, stored_fits}
+use Rattle.raft_step_laws.specs.Fitting.{AllFit, FitEntries, FitsBody, FitsEvent, FitsPayload, FitsRequest, FitsSnapshot, FitsStored, FitsStoring, IsCommittedWithin, StepsFit}
+use Rattle.raft_step_laws.proofs.FitWords.{Fits, StandWithin, above_within, all_fit, before_next, built_fits, entry_place, entry_within, in_log_within, missing_within, placed_one, placed_stand, some_entry, stand_placed, stop_fits, stored_fits}
 
 abbrev FitsMessage : Message → Type 0
 FitsMessage m = FitsBody m.body
+
+-- a notice has no entries
+notice_fits : (s : GroupState) (p : PeerState) → FitsBody (notice s p)
+notice_fits s p =
+    record { count = omega arith; entries = All-nil Fits; placed = λ i e at. absurd (let f : None ≡ Some e = at in cc) }
 
 module _ (base : StoredGroup) where
   -- all that was stored and sent fits, and what is stored then
@@ -320,11 +325,7 @@ module _ (base : StoredGroup) where
 
   notices_keep : (own : ℕ) (lead : Lead) (ns : List ℕ) (r : StepResult) → Keeps r → Keeps (send_notices own lead ns r)
   notices_keep own lead [] r h = h
-  notices_keep own lead (n ∷ ns) r h = notices_keep own lead ns _ (sends own n _ r h (notice_fits (peer_of lead n).matched))
-    where
-      notice_fits : (o : Option (LogId ℕ)) → FitsRequest (record { vote = r.state.stored.vote; id = HeartBeat; previous = o; committed = committed_id r.state; entries = [] })
-      notice_fits o =
-          record { count = omega arith; entries = All-nil Fits; placed = λ i e at. absurd (let f : None ≡ Some e = at in cc) }
+  notices_keep own lead (n ∷ ns) r h = notices_keep own lead ns _ (sends own n _ r h (notice_fits r.state (peer_of lead n)))
 
   beat_keeps : (own : ℕ) (role : Role) (r : StepResult) → Keeps r → Keeps (beat_as own role r)
   beat_keeps own Follower r h = h
@@ -418,11 +419,7 @@ module _ (base : StoredGroup) where
       let told = send own p.peer (notice r.state p) r in
       either Keeps (is_none p.outstanding && lacks_entries r.state.stored p) (send_request own p lead r.state.stored.snapshot r) (cond b told r)
       (request_keeps own p lead r.state.stored.snapshot r refl h)
-      (either Keeps b told r (sends own p.peer (notice r.state p) r h (notice_fits p.matched)) h)
-    where
-      notice_fits : (o : Option (LogId ℕ)) → FitsRequest (record { vote = r.state.stored.vote; id = HeartBeat; previous = o; committed = committed_id r.state; entries = [] })
-      notice_fits o =
-          record { count = omega arith; entries = All-nil Fits; placed = λ i e at. absurd (let f : None ≡ Some e = at in cc) }
+      (either Keeps b told r (sends own p.peer (notice r.state p) r h (notice_fits r.state p)) h)
 
   serve_as_keeps : (own : ℕ) (b : Bool) (n : ℕ) (role : Role) (r : StepResult) → Keeps r → Keeps (serve_as own b n role r)
   serve_as_keeps own b n Follower r h = h

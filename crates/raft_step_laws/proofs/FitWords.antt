@@ -1,14 +1,14 @@
 -- Entries at their places, and storing commands that fit.
-use Rattle.std.specs.Prelude.{◌≡◌, ◌⊎◌, ℕ, zero, suc, ◌+◌, ◌-◌, ◌<◌, ◌≤◌, ◌==◌, cond, not, nat_lt, is_some, Bool, true, false, List, [], ◌∷◌, ◌++◌, drop, filter, length, slice_get, take, Option, Some, None, All, IfSome, IsTrue, option_map, refl}
+use Rattle.std.specs.Prelude.{◌≡◌, ℕ, zero, suc, ◌+◌, ◌-◌, ◌<◌, ◌≤◌, ◌==◌, cond, not, nat_lt, is_some, Bool, true, false, List, [], ◌∷◌, ◌++◌, drop, length, slice_get, take, Option, Some, None, IfSome, refl}
 use Rattle.std.proofs.Common.{sym, ap, ◌∙◌, subst, arith, eq-eqb, eqb-true, ltb-true, ⊎_elim}
 use Rattle.std.proofs.lemmas.Bool.{cases_lt, cond_both, ltb-false}
 use Rattle.std.proofs.lemmas.List.{length-take-le}
-use Rattle.std.proofs.lemmas.List.Elements.{All-append, All-cons, All-drop, All-filter, All-head, All-nil, All-tail, All-take}
+use Rattle.std.proofs.lemmas.List.Elements.{All-append, All-drop, All-head, All-nil, All-tail, All-take}
 use Rattle.std.proofs.lemmas.Option.{slice_get_within}
 use Rattle.raft_values.specs.declared.log_id.LogId.{LogId}
 use Rattle.raft_values.specs.LogId.{next_place}
 use Rattle.raft_state.specs.declared.entry.EntryPayload.TheVariants.{Blank, Normal, Membership as Members}
-use Rattle.raft_group_step.specs.Values.{Entry, EntryPayload, LoggedMembership, entry_of, is_within_limits, last_membership, membership_after}
+use Rattle.raft_group_step.specs.Values.{Entry, EntryPayload, LoggedMembership, last_membership, membership_after}
 use Rattle.raft_group_step.specs.StoredGroup.{Snapshot, StoredGroup, StoringCommand, MakeGroup, SetVote, PutEntries, CutFrom, RemoveUpTo, SetSnapshot, StartAfter, after_storing, after_storing_all, end_place, entry_at, first_place, has_id_in_log, held, id_at, id_before, id_of, is_id, prefix_of}
 use Rattle.raft_group_step.specs.StepResult.{is_within}
 use Rattle.raft_group_step.specs.SnapshotRequest.{place_above}
@@ -16,7 +16,7 @@ use Rattle.raft_group_step.specs.AppendRequest.{above_committed, missing_entries
 use Rattle.raft_group_step.specs.SnapshotTrigger.{snapshot_at}
 use Rattle.raft_laws.proofs.FreshEntries.{within_is, without_is}
 use Rattle.raft_laws.proofs.Shapes.{slice_after, slice_before, slice_drop, slice_taken}
-use Rattle.raft_step_laws.specs.Fitting.{AllFit, ArePlacedFrom, FitEntries, FitsLogged, FitsPayload, FitsPut, FitsSnapshot, FitsStored, FitsStoring}
+use Rattle.raft_step_laws.specs.Fitting.{AllFit, ArePlacedFrom, FitEntries, FitsLogged, FitsPayload, FitsSnapshot, FitsStored, FitsStoring}
 
 abbrev pub Fits : Entry → Type 0
 Fits e = FitsPayload e.payload

@@ -1,7 +1,6 @@
 -- Leaders of worked rows, and what a quorum accepted.
-use Rattle.std.specs.Prelude.{ℕ, Bool, true, List, [], ◌∷◌, Option, Some, None}
+use Rattle.std.specs.Prelude.{ℕ, Bool, true, List, [], ◌∷◌, Option}
 use Rattle.raft_values.specs.declared.log_id.LogId.{LogId}
-use Rattle.raft_values.specs.LogId.{log_id_of}
 use Rattle.raft_values.specs.Vote.{vote_of}
 use Rattle.raft_group_step.specs.Message.{Numbered, Success}
 use Rattle.raft_group_step.specs.Peer.{new_peer}
@@ -10,7 +9,7 @@ use Rattle.raft_group_step.specs.GroupStep.{group_step}
 use Rattle.raft_group_step.specs.StepExample.{leads_three}
 use Rattle.raft_step_laws.specs.Commits.{has_quorum_at}
 use Rattle.raft_step_laws.specs.PeerRows.{before, last, replies}
-use Rattle.raft_step_laws.specs.TokenRows.{leader, waits}
+use Rattle.raft_step_laws.specs.TokenRows.{leader}
 
 -- the lead in which node 1 has accepted all up to this log id
 abbrev pub lead_to : Option (LogId ℕ) → Lead

@@ -1,15 +1,15 @@
 -- Peers of worked rows.
-use Rattle.std.specs.Prelude.{ℕ, Bool, true, false, List, [], ◌∷◌, Option, Some, None}
+use Rattle.std.specs.Prelude.{ℕ, true, false, List, [], ◌∷◌, Option, Some, None}
 use Rattle.raft_values.specs.declared.vote.Vote.{Vote}
 use Rattle.raft_values.specs.Vote.{vote_of}
 use Rattle.raft_values.specs.declared.log_id.LogId.{LogId}
 use Rattle.raft_values.specs.LogId.{log_id_of}
 use Rattle.raft_group_step.specs.StoredGroup.{Snapshot}
-use Rattle.raft_group_step.specs.Message.{Message, MessageBody, AppendReply, AppendRequest, SnapshotRequest, Conflict, HeartBeat, Numbered, ReplyFields, ReplyResult, RequestId, Success}
+use Rattle.raft_group_step.specs.Message.{Message, MessageBody, AppendReply, AppendRequest, SnapshotRequest, ReplyResult, RequestId}
 use Rattle.raft_group_step.specs.Peer.{PeerState, new_peer}
 use Rattle.raft_group_step.specs.GroupState.{GroupState, Role, Follower, Candidate, Leader}
-use Rattle.raft_group_step.specs.declared.group_call.GroupCall.TheVariants.{Heartbeat, Lost}
-use Rattle.raft_group_step.specs.GroupEvent.{Call, GroupEvent, Open, Receive}
+use Rattle.raft_group_step.specs.declared.group_call.GroupCall.TheVariants.{Heartbeat}
+use Rattle.raft_group_step.specs.GroupEvent.{Call, GroupEvent, Receive}
 use Rattle.raft_group_step.specs.StepResult.{StepResult}
 use Rattle.raft_group_step.specs.Lead.{peer_of}
 use Rattle.raft_group_step.specs.GroupStep.{group_step}

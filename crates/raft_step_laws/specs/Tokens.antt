@@ -1,7 +1,7 @@
 -- What becomes of tokens in a step.
 use Rattle.std.specs.Prelude.{◌≡◌, ℕ, Bool, true, false, ◌&&◌, not, List, [], ◌∷◌, ◌++◌, filter, None, All}
 use Rattle.raft_group_step.specs.Values.{vote_eq}
-use Rattle.raft_group_step.specs.StoredGroup.{StoredGroup, end_place}
+use Rattle.raft_group_step.specs.StoredGroup.{end_place}
 use Rattle.raft_group_step.specs.GroupState.{GroupState, Role, Follower, Candidate, Leader, Untold, is_leader}
 use Rattle.raft_group_step.specs.GroupEvent.{GroupEvent, AddGroup, Call, Receive, Open}
 use Rattle.raft_group_step.specs.StepResult.{StepResult, is_within, tokens_of}
