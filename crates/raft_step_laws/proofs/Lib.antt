@@ -13,3 +13,4 @@ pub mod Served
 pub mod FitWords
 pub mod FitSteps
 pub mod Committing
+pub mod InOrder
