@@ -5,8 +5,6 @@ mod adding;
 mod fault;
 mod limits;
 mod machine;
-#[cfg(test)]
-mod tests;
 
 pub use adding::AddingMachine;
 pub use fault::{Fault, MembershipFault};

@@ -8,6 +8,3 @@ fn main(rt: HostRuntime) -> ExitCode {
     let end = run_script(rt.alloc(), &mut rt.stdin(), &mut rt.stdout());
     ExitCode::from(end.status())
 }
-
-#[cfg(test)]
-mod tests;

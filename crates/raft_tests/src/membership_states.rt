@@ -1,20 +1,17 @@
 //! The two memberships that a node knows.
 
-use crate::answers::{holds, is_denied, is_done};
+use crate::answers::{assert_rows, holds};
 use crate::ids::id;
-use crate::memberships::membership;
+use crate::makers::membership;
 use raft_state::{BasicNode, EffectiveMembership, Invalid, LogId, MembershipState, Validate};
 use std::alloc::{AllocError, Global};
-use std::test::Fail;
 
 type Known = MembershipState<u64, BasicNode>;
 
+type Effective = EffectiveMembership<u64, BasicNode>;
+
 // The membership of an entry with one voter group of one node.
-fn one(
-    alloc: Global,
-    log_id: Option<LogId<u64>>,
-    voter: u64,
-) -> Result<EffectiveMembership<u64, BasicNode>, AllocError> {
+fn one(alloc: Global, log_id: Option<LogId<u64>>, voter: u64) -> Result<Effective, AllocError> {
     let members = membership(
         alloc,
         [[voter].as_slice()].as_slice(),
@@ -23,73 +20,32 @@ fn one(
     Ok(EffectiveMembership::new(log_id, members))
 }
 
-fn new_state(alloc: Global) -> Known {
-    MembershipState::default(alloc)
-}
-
-fn append(state: &mut Known, members: EffectiveMembership<u64, BasicNode>) {
-    state.append(members);
-}
-
 // The first membership, committed, and another one in force.
 fn two(alloc: Global) -> Result<Known, AllocError> {
     let first = one(alloc, Some(id(1, 1, 2)), 1)?;
     let second = one(alloc, Some(id(3, 1, 5)), 2)?;
-    let mut state = new_state(alloc);
-    append(&mut state, first);
-    append(&mut state, second);
+    let mut state = MembershipState::default(alloc);
+    state.append(first);
+    state.append(second);
     Ok(state)
 }
 
-// A committed membership behind the one in force.
-fn turned(alloc: Global) -> Result<Known, AllocError> {
-    let committed = one(alloc, Some(id(1, 1, 2)), 1)?;
-    Ok(MembershipState::new(committed, one(alloc, None, 1)?))
+// Whether it is the membership of this entry and voter.
+fn is_one(alloc: Global, of: &Effective, log_id: LogId<u64>, voter: u64) -> bool {
+    match one(alloc, Some(log_id), voter) {
+        Ok(wanted) => *of == wanted,
+        Err(_) => false,
+    }
 }
 
-// ---- calls
-
-fn copy_of(state: &Known) -> Result<Known, AllocError> {
-    state.clone()
-}
-
-fn commit(state: &mut Known, upto: LogId<u64>) -> Result<(), AllocError> {
-    state.commit(&Some(upto))
-}
-
-fn truncate(state: &mut Known, since: u64) -> Result<bool, AllocError> {
-    state.truncate(since)
-}
-
-// Whether the membership of this entry and voter, taken as the committed one, comes in force.
-fn takes_over(alloc: Global, state: &mut Known, log_id: LogId<u64>, voter: u64) -> Option<bool> {
-    let members = one(alloc, Some(log_id), voter).ok()?;
-    state.update_committed(members).ok()
-}
-
-// ---- what is seen of it
-
-// Whether the membership of this entry and voter is committed.
 fn has_committed(alloc: Global, state: &Known, log_id: LogId<u64>, voter: u64) -> bool {
-    match one(alloc, Some(log_id), voter) {
-        Ok(wanted) => *state.committed() == wanted,
-        Err(_) => false,
-    }
+    is_one(alloc, state.committed(), log_id, voter)
 }
 
-// Whether the membership of this entry and voter is in force.
 fn has_in_force(alloc: Global, state: &Known, log_id: LogId<u64>, voter: u64) -> bool {
-    match one(alloc, Some(log_id), voter) {
-        Ok(wanted) => *state.effective() == wanted,
-        Err(_) => false,
-    }
+    is_one(alloc, state.effective(), log_id, voter)
 }
 
-fn is_voter(state: &Known, node_id: u64) -> bool {
-    state.is_voter(&node_id)
-}
-
-// Whether the membership in force is committed.
 fn is_settled(state: &Known) -> bool {
     state.ensure_committed().is_ok()
 }
@@ -102,88 +58,106 @@ fn waits_behind(state: &Known, committed: LogId<u64>) -> bool {
     }
 }
 
-fn is_valid(state: &Known) -> bool {
-    state.validate().is_ok()
+// Whether the second of two memberships has the voters, and waits for the first.
+fn two_are_known(alloc: Global) -> Result<bool, AllocError> {
+    let state = two(alloc)?;
+    Ok(
+        has_committed(alloc, &state, id(1, 1, 2), 1)
+            & has_in_force(alloc, &state, id(3, 1, 5), 2)
+            & state.is_voter(&2)
+            & !state.is_voter(&1)
+            & waits_behind(&state, id(1, 1, 2)),
+    )
 }
 
-fn is_turned(state: &Known) -> bool {
-    state.validate() == Err(Invalid::CommittedMembership)
+// Whether what is in force is settled once the log is committed up to here.
+fn settles(state: &mut Known, upto: LogId<u64>) -> Result<bool, AllocError> {
+    state.commit(&Some(upto))?;
+    Ok(is_settled(state))
 }
 
-// ---- rows
-
-// Whether the first membership is committed, and the second one in force.
-fn has_both(alloc: Global, state: &Known) -> bool {
-    has_committed(alloc, state, id(1, 1, 2), 1) && has_in_force(alloc, state, id(3, 1, 5), 2)
+// With its entry and not before.
+fn one_is_committed(alloc: Global) -> Result<bool, AllocError> {
+    let mut state = two(alloc)?;
+    let settles_early = settles(&mut state, id(3, 1, 4));
+    let settles_in_time = settles(&mut state, id(3, 1, 5));
+    Ok(
+        (settles_early == Ok(false))
+            & (settles_in_time == Ok(true))
+            & has_committed(alloc, &state, id(3, 1, 5), 2),
+    )
 }
 
-// Whether the second one has the voters, and waits for the first.
-fn is_of_the_second(state: &Known) -> bool {
-    is_voter(state, 2) && !is_voter(state, 1) && waits_behind(state, id(1, 1, 2))
+// With its entry and not before, and not in a copy.
+fn one_goes_with_its_entry(alloc: Global) -> Result<bool, AllocError> {
+    let mut state = two(alloc)?;
+    let copy = state.clone()?;
+    let goes_early = state.truncate(6);
+    let goes_in_time = state.truncate(5);
+    Ok(
+        (goes_early == Ok(false))
+            & (goes_in_time == Ok(true))
+            & has_in_force(alloc, &state, id(1, 1, 2), 1)
+            & has_in_force(alloc, &copy, id(3, 1, 5), 2),
+    )
 }
 
-// Whether the second one is committed with its entry and not before.
-fn settles(alloc: Global, state: &mut Known) -> bool {
-    if !is_done(commit(state, id(3, 1, 4))) || is_settled(state) {
-        return false;
-    }
-    is_done(commit(state, id(3, 1, 5)))
-        && is_settled(state)
-        && has_committed(alloc, state, id(3, 1, 5), 2)
+// Whether the membership of this entry and voter, taken as the committed one, comes in force.
+fn takes_over(
+    alloc: Global,
+    state: &mut Known,
+    log_id: LogId<u64>,
+    voter: u64,
+) -> Result<bool, AllocError> {
+    state.update_committed(one(alloc, Some(log_id), voter)?)
+}
+
+// An earlier one leaves the second one in force; one of a later leader at the same place doesn't.
+fn committed_ones_are_taken(alloc: Global) -> Result<bool, AllocError> {
+    let mut state = two(alloc)?;
+    let earlier = takes_over(alloc, &mut state, id(2, 1, 4), 3);
+    let is_behind = has_committed(alloc, &state, id(2, 1, 4), 3)
+        & has_in_force(alloc, &state, id(3, 1, 5), 2);
+    let later = takes_over(alloc, &mut state, id(4, 1, 5), 4);
+    Ok(
+        (earlier == Ok(false))
+            & is_behind
+            & (later == Ok(true))
+            & has_committed(alloc, &state, id(4, 1, 5), 4)
+            & has_in_force(alloc, &state, id(4, 1, 5), 4),
+    )
+}
+
+// A committed membership behind the one in force.
+fn turned(alloc: Global) -> Result<Known, AllocError> {
+    let committed = one(alloc, Some(id(1, 1, 2)), 1)?;
+    Ok(MembershipState::new(committed, one(alloc, None, 1)?))
+}
+
+fn the_committed_one_is_no_later(alloc: Global) -> Result<bool, AllocError> {
+    let state = two(alloc)?;
+    let turned = turned(alloc)?;
+    Ok(state.validate().is_ok() & (turned.validate() == Err(Invalid::CommittedMembership)))
 }
 
 #[test]
-fn a_membership_is_committed(rt: HostRuntime) -> Result<(), Fail> {
-    let mut state = two(rt.alloc())?;
-    assert!(rt; has_both(rt.alloc(), &state) && is_of_the_second(&state));
-    assert!(rt; settles(rt.alloc(), &mut state));
-    Ok(())
-}
-
-// Whether the second one goes with its entry and not before.
-fn goes(state: &mut Known) -> bool {
-    is_denied(truncate(state, 6)) && holds(truncate(state, 5))
-}
-
-// Whether the first one is in force again, but not in the copy.
-fn has_gone(alloc: Global, state: &Known, copy: &Known) -> bool {
-    has_in_force(alloc, state, id(1, 1, 2), 1) && has_in_force(alloc, copy, id(3, 1, 5), 2)
-}
-
-#[test]
-fn a_membership_goes_with_its_entry(rt: HostRuntime) -> Result<(), Fail> {
-    let mut state = two(rt.alloc())?;
-    let copy = copy_of(&state)?;
-    assert!(rt; goes(&mut state));
-    assert!(rt; has_gone(rt.alloc(), &state, &copy));
-    Ok(())
-}
-
-// Whether an earlier one is committed, and the second one stays in force.
-fn takes_an_earlier_one(alloc: Global, state: &mut Known) -> bool {
-    takes_over(alloc, state, id(2, 1, 4), 3) == Some(false)
-        && has_committed(alloc, state, id(2, 1, 4), 3)
-        && has_in_force(alloc, state, id(3, 1, 5), 2)
-}
-
-// Whether one of a later leader at the same place is committed and in force.
-fn takes_a_later_one(alloc: Global, state: &mut Known) -> bool {
-    takes_over(alloc, state, id(4, 1, 5), 4) == Some(true)
-        && has_in_force(alloc, state, id(4, 1, 5), 4)
-        && has_committed(alloc, state, id(4, 1, 5), 4)
-}
-
-#[test]
-fn a_committed_membership_takes_over(rt: HostRuntime) -> Result<(), Fail> {
-    let mut state = two(rt.alloc())?;
-    assert!(rt; takes_an_earlier_one(rt.alloc(), &mut state));
-    assert!(rt; takes_a_later_one(rt.alloc(), &mut state));
-    Ok(())
-}
-
-#[test]
-fn the_committed_one_is_no_later(rt: HostRuntime) -> Result<(), Fail> {
-    assert!(rt; is_valid(&two(rt.alloc())?));
-    assert!(rt; is_turned(&turned(rt.alloc())?));
-    Ok(())
+fn membership_states(rt: HostRuntime) {
+    let alloc = rt.alloc();
+    let rows = [
+        ("two are known", holds(two_are_known(alloc))),
+        ("one is committed", holds(one_is_committed(alloc))),
+        (
+            "one goes with its entry",
+            holds(one_goes_with_its_entry(alloc)),
+        ),
+        (
+            "committed ones are taken",
+            holds(committed_ones_are_taken(alloc)),
+        ),
+        (
+            "the committed one is no later",
+            holds(the_committed_one_is_no_later(alloc)),
+        ),
+    ];
+    assert_rows(&rt, rows.as_slice());
 }

@@ -1,18 +1,17 @@
-//! Votes, log ids, nodes, entries.
+//! Votes, log ids, nodes, entries, and who leads.
 
-use crate::answers::{holds, reads};
+use crate::answers::{assert_rows, holds};
 use raft_state::{
-    BasicNode, EmptyNode, Entry, EntryPayload, FromAppData, IdSet, LeaderId, LogId, Membership,
-    MessageSummary, NodeEssential, RaftEntry, RaftLogId, RaftPayload, ServerState, Vote,
-    leader_ids_by_term_and_node, log_ids_by_leader_and_index, votes_by_term_node_committed,
+    BasicNode, ChangeMembershipError, ClientWriteError, EmptyMembership, EmptyNode, Entry,
+    EntryPayload, ForwardToLeader, FromAppData, IdSet, LeaderId, LogId, Membership, NodeEssential,
+    RaftEntry, RaftLogId, RaftPayload, ServerState, TryAsRef, Vote, leader_ids_by_term_and_node,
+    log_ids_by_leader_and_index, votes_by_term_node_committed,
 };
 use raft_values::node::default_id;
 use std::alloc::{AllocError, Global};
 use std::cmp::Ordering;
-use std::test::Fail;
 
-#[test]
-fn votes_are_ordered_by_term_node_committed(rt: HostRuntime) {
+fn votes_rise_by_term_node_committed() -> bool {
     let rising = [
         Vote::new(1, 9u64),
         Vote::new(2, 1),
@@ -20,88 +19,42 @@ fn votes_are_ordered_by_term_node_committed(rt: HostRuntime) {
         Vote::new(2, 2),
         Vote::new_committed(2, 2),
     ];
+    let mut rise = votes_by_term_node_committed(&rising[0], &rising[1]) == Ordering::Less;
     for at in 0..4 {
-        assert!(rt; rising[at] < rising[at + 1]);
+        rise &= rising[at] < rising[at + 1];
     }
-    assert_eq!(rt;
-        votes_by_term_node_committed(&rising[0], &rising[1]),
-        Ordering::Less
-    );
+    rise
 }
 
-#[test]
-fn a_vote_is_committed_once(rt: HostRuntime) -> Result<(), Fail> {
+fn a_vote_is_committed_once() -> bool {
     let mut vote = Vote::new(6, 7u64);
-    assert!(rt; !vote.is_committed());
+    let was_committed = vote.is_committed();
     vote.commit();
-    assert!(rt; vote == Vote::new_committed(6, 7));
-    assert_eq!(rt; vote.leader_id().get_term(), 6);
-    assert_eq!(rt; vote.leader_id().voted_for(), Some(7));
-    assert_eq!(rt; vote.summary(rt.alloc())?.as_str(), "<T6-N7:committed>");
-    assert_eq!(rt;
-        leader_ids_by_term_and_node(&LeaderId::new(1, 5u64), vote.leader_id()),
-        Ordering::Less
-    );
-    Ok(())
+    let leader = vote.leader_id();
+    !was_committed
+        & (vote == Vote::new_committed(6, 7))
+        & (leader.get_term() == 6)
+        & (leader.voted_for() == Some(7))
+        & (leader_ids_by_term_and_node(&LeaderId::new(1, 5u64), leader) == Ordering::Less)
 }
 
-#[test]
-fn log_ids_are_ordered_by_leader_and_place(rt: HostRuntime) -> Result<(), Fail> {
+fn log_ids_rise_by_leader_and_place() -> bool {
     let low = LogId::new(LeaderId::new(1, 2u64), 9);
     let high = LogId::new(LeaderId::new(7, 1u64), 3);
-    assert!(rt; low < high);
-    assert_eq!(rt; log_ids_by_leader_and_index(&high, &low), Ordering::Greater);
-    assert_eq!(rt; high.committed_leader_id().get_term(), 7);
-    assert_eq!(rt; high.to_string(rt.alloc())?.as_str(), "T7-N1-3");
-    Ok(())
+    (low < high)
+        & (log_ids_by_leader_and_index(&high, &low) == Ordering::Greater)
+        & (high.committed_leader_id().get_term() == 7)
 }
 
-// ---- nodes
-
-fn unknown_node(alloc: Global) -> BasicNode {
-    NodeEssential::default(alloc)
+fn nodes_are_described(alloc: Global) -> Result<bool, AllocError> {
+    let unknown: BasicNode = NodeEssential::default(alloc);
+    let node = BasicNode::new(alloc, "a:1")?;
+    let copy = node.clone()?;
+    Ok(unknown.addr.is_empty() & (copy == node) & (node != unknown))
 }
 
-fn node(alloc: Global, addr: &str) -> Result<BasicNode, AllocError> {
-    BasicNode::new(alloc, addr)
-}
-
-fn has_address(node: &BasicNode, addr: &str) -> bool {
-    node.addr.as_str() == addr
-}
-
-fn copy_of(node: &BasicNode) -> Result<BasicNode, AllocError> {
-    node.clone()
-}
-
-fn are_equal(node: &BasicNode, other: &BasicNode) -> bool {
-    *node == *other
-}
-
-fn empty_is_default(alloc: Global) -> bool {
-    EmptyNode::new() == NodeEssential::default(alloc)
-}
-
-fn is_copied(node: &BasicNode) -> Result<bool, AllocError> {
-    Ok(are_equal(&copy_of(node)?, node))
-}
-
-// Whether the node is told by its address and the other one has none.
-fn has_description(alloc: Global, node: &BasicNode, unknown: &BasicNode) -> bool {
-    has_address(unknown, "")
-        && holds(is_copied(node))
-        && !are_equal(node, unknown)
-        && reads(alloc, node, "a:1")
-}
-
-#[test]
-fn nodes_without_a_description(rt: HostRuntime) -> Result<(), Fail> {
-    let unknown = unknown_node(rt.alloc());
-    let node = node(rt.alloc(), "a:1")?;
-    assert!(rt; has_description(rt.alloc(), &node, &unknown));
-    assert!(rt; empty_is_default(rt.alloc()) && default_id::<u64>() == 0);
-    assert!(rt; reads(rt.alloc(), &EmptyNode::new(), "EmptyNode"));
-    Ok(())
+fn ids_and_nodes_have_defaults(alloc: Global) -> bool {
+    (EmptyNode::new() == NodeEssential::default(alloc)) & (default_id::<u64>() == 0)
 }
 
 // ---- entries
@@ -126,47 +79,86 @@ fn command<E: FromAppData<u64>>(value: u64) -> E {
     E::from_app_data(value)
 }
 
+fn a_blank_entry_moves() -> bool {
+    let mut entry: NumberEntry = blank(4);
+    (asks(&entry) == (true, false)) & (moved(&mut entry, 6) == 6)
+}
+
 fn one_voter(alloc: Global) -> Result<Membership<u64, EmptyNode>, AllocError> {
     let group = IdSet::from_slice(alloc, &[1])?;
     Membership::new(alloc, vec![in alloc; group]?, ())
-}
-
-fn asking(log_id: LogId<u64>, members: Membership<u64, EmptyNode>) -> NumberEntry {
-    Entry::new_membership(log_id, members)
 }
 
 fn entry_is_copied(entry: &NumberEntry) -> Result<bool, AllocError> {
     Ok(entry.clone()? == *entry)
 }
 
-fn asks_for(entry: &NumberEntry, command: u64, index: u64) -> bool {
-    entry.payload == EntryPayload::Normal(command) && entry.log_id.index == index
+fn an_entry_asks_for_members(alloc: Global) -> Result<bool, AllocError> {
+    let log_id = LogId::new(LeaderId::new(8, 1), 6);
+    let entry: NumberEntry = Entry::new_membership(log_id, one_voter(alloc)?);
+    Ok((asks(&entry) == (false, true)) & holds(entry_is_copied(&entry)))
 }
 
-// Whether the entry is blank, and is so at the place 6 too.
-fn is_blank_and_moves(alloc: Global, entry: &mut NumberEntry) -> bool {
-    asks(entry) == (true, false) && moved(entry, 6) == 6 && reads(alloc, entry, "T8-N1-6:blank")
+fn an_entry_has_a_command() -> bool {
+    let entry: NumberEntry = command(5);
+    (entry.payload == EntryPayload::Normal(5)) & (entry.log_id.index == 0)
 }
 
-fn asks_for_members(entry: &NumberEntry) -> bool {
-    asks(entry) == (false, true) && holds(entry_is_copied(entry))
+// ---- parts
+
+fn nodes_play_their_parts() -> bool {
+    ServerState::default().is_learner()
+        & ServerState::Follower.is_follower()
+        & ServerState::Candidate.is_candidate()
+        & ServerState::Leader.is_leader()
+        & !ServerState::Shutdown.is_leader()
+}
+
+// Who leads, where the refusal tells that.
+fn leader_told(refusal: &ClientWriteError<u64, EmptyNode>) -> Option<Option<u64>> {
+    match refusal.try_as_ref() {
+        Some(part) => Some(part.leader_id),
+        None => None,
+    }
+}
+
+fn refusals_tell_who_leads() -> bool {
+    let known = ClientWriteError::ForwardToLeader(ForwardToLeader::new(3, EmptyNode::new()));
+    let unknown = ClientWriteError::ForwardToLeader(ForwardToLeader::empty());
+    let other = ClientWriteError::ChangeMembershipError(ChangeMembershipError::EmptyMembership(
+        EmptyMembership {},
+    ));
+    (leader_told(&known) == Some(Some(3)))
+        & (leader_told(&unknown) == Some(None))
+        & leader_told(&other).is_none()
 }
 
 #[test]
-fn entries_by_their_traits(rt: HostRuntime) -> Result<(), Fail> {
-    let mut entry: NumberEntry = blank(4);
-    assert!(rt; is_blank_and_moves(rt.alloc(), &mut entry));
-    let asking = asking(entry.log_id, one_voter(rt.alloc())?);
-    assert!(rt; asks_for_members(&asking));
-    assert!(rt; asks_for(&command(5), 5, 0));
-    Ok(())
-}
-
-#[test]
-fn parts_of_a_node(rt: HostRuntime) {
-    assert!(rt; ServerState::default().is_learner());
-    assert!(rt; ServerState::Follower.is_follower());
-    assert!(rt; ServerState::Candidate.is_candidate());
-    assert!(rt; ServerState::Leader.is_leader());
-    assert!(rt; !ServerState::Shutdown.is_leader());
+fn values(rt: HostRuntime) {
+    let alloc = rt.alloc();
+    let rows = [
+        (
+            "votes rise by term, node and committed",
+            votes_rise_by_term_node_committed(),
+        ),
+        ("a vote is committed once", a_vote_is_committed_once()),
+        (
+            "log ids rise by leader and place",
+            log_ids_rise_by_leader_and_place(),
+        ),
+        ("nodes are described", holds(nodes_are_described(alloc))),
+        (
+            "ids and nodes have defaults",
+            ids_and_nodes_have_defaults(alloc),
+        ),
+        ("a blank entry moves", a_blank_entry_moves()),
+        (
+            "an entry asks for members",
+            holds(an_entry_asks_for_members(alloc)),
+        ),
+        ("an entry has a command", an_entry_has_a_command()),
+        ("nodes play their parts", nodes_play_their_parts()),
+        ("refusals tell who leads", refusals_tell_who_leads()),
+    ];
+    assert_rows(&rt, rows.as_slice());
 }

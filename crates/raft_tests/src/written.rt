@@ -1,128 +1,74 @@
 //! Moments, and what has really been written.
 
-use crate::answers::reads;
+use crate::answers::assert_rows;
 use crate::ids::id;
-use raft_state::{Accepted, IOState, LeaderId, LogIOId, LogId, UTime, Vote};
-use std::test::Fail;
-
-// ---- moments
+use raft_state::{Accepted, IOState, LeaderId, LogIOId, UTime, Vote};
 
 fn is_of(value: &UTime<u64, u64>, inner: u64, moment: Option<u64>) -> bool {
-    *value.get() == inner && value.utime() == moment
+    (*value.get() == inner) & (value.utime() == moment)
 }
 
-fn touch(value: &mut UTime<u64, u64>, moment: u64) {
-    value.touch(moment);
-}
-
-fn update(value: &mut UTime<u64, u64>, moment: u64, inner: u64) {
-    value.update(moment, inner);
-}
-
-fn inner(value: UTime<u64, u64>) -> u64 {
-    value.into_inner()
-}
-
-#[test]
-fn values_know_when_they_changed(rt: HostRuntime) -> Result<(), Fail> {
+fn values_know_when_they_changed() -> bool {
     let mut value: UTime<u64, u64> = UTime::without_utime(3);
-    assert!(rt; is_of(&value, 3, None));
-    assert!(rt; reads(rt.alloc(), &value, "3"));
-    touch(&mut value, 10);
-    assert!(rt; is_of(&value, 3, Some(10)));
-    update(&mut value, 20, 4);
-    assert!(rt; is_of(&value, 4, Some(20)));
-    assert!(rt; reads(rt.alloc(), &value, "4@20"));
-    assert_eq!(rt; inner(value), 4);
-    assert!(rt; is_of(&UTime::new(5, 6), 6, Some(5)));
-    Ok(())
-}
-
-// ---- what is written
-
-// What stands first in the test below.
-fn written() -> IOState<u64> {
-    IOState::new(Vote::new(1, 2), flushed(), None, None, None)
+    let is_new = is_of(&value, 3, None);
+    value.touch(10);
+    let is_touched = is_of(&value, 3, Some(10));
+    value.update(20, 4);
+    let is_updated = is_of(&value, 4, Some(20));
+    let is_made = is_of(&UTime::new(5, 6), 6, Some(5));
+    is_new & is_touched & is_updated & is_made & (value.into_inner() == 4)
 }
 
 fn flushed() -> LogIOId<u64> {
     LogIOId::new(LeaderId::new(7, 2), Some(id(7, 2, 4)))
 }
 
-fn builds(state: &IOState<u64>) -> bool {
-    state.building_snapshot()
-}
-
-fn begin_building(state: &mut IOState<u64>) {
+// Whether it is noted that a snapshot is built, who is voted for, and that a leader's log is
+// flushed up to nothing.
+fn votes_and_logs_are_noted() -> bool {
+    let mut state: IOState<u64> = IOState::new(Vote::new(1, 2), flushed(), None, None, None);
+    let was_building = state.building_snapshot();
     state.set_building_snapshot(true);
-}
-
-// Whether the vote is noted.
-fn takes_vote(state: &mut IOState<u64>, vote: Vote<u64>) -> bool {
-    state.update_vote(vote);
-    state.vote == vote
-}
-
-// Whether it is noted that a leader's log is flushed up to nothing.
-fn takes_leader(state: &mut IOState<u64>) -> bool {
+    state.update_vote(Vote::new(2, 2));
     state.update_flushed(LogIOId::new(LeaderId::new(2, 2), None));
-    state.flushed.log_id.is_none()
+    !was_building
+        & state.building_snapshot()
+        & (state.vote == Vote::new(2, 2))
+        & state.flushed.log_id.is_none()
 }
 
-fn apply(state: &mut IOState<u64>, log_id: LogId<u64>) {
-    state.update_applied(Some(log_id));
+fn places_are_noted() -> bool {
+    let mut state: IOState<u64> = IOState::new(Vote::new(1, 2), flushed(), None, None, None);
+    state.update_applied(Some(id(1, 2, 4)));
+    state.update_snapshot(Some(id(1, 2, 3)));
+    state.update_purged(Some(id(1, 2, 2)));
+    (state.applied().copied() == Some(id(1, 2, 4)))
+        & (state.snapshot().copied() == Some(id(1, 2, 3)))
+        & (state.purged().copied() == Some(id(1, 2, 2)))
 }
 
-fn take_snapshot(state: &mut IOState<u64>, log_id: LogId<u64>) {
-    state.update_snapshot(Some(log_id));
-}
-
-fn purge(state: &mut IOState<u64>, log_id: LogId<u64>) {
-    state.update_purged(Some(log_id));
-}
-
-fn applied(state: &IOState<u64>) -> Option<LogId<u64>> {
-    state.applied().copied()
-}
-
-fn snapshot(state: &IOState<u64>) -> Option<LogId<u64>> {
-    state.snapshot().copied()
-}
-
-fn purged(state: &IOState<u64>) -> Option<LogId<u64>> {
-    state.purged().copied()
-}
-
-#[test]
-fn what_is_written_is_noted(rt: HostRuntime) -> Result<(), Fail> {
-    assert!(rt; reads(rt.alloc(), &flushed(), "by:T7-N2, T7-N2-4"));
-    let mut state = written();
-    assert!(rt; !builds(&state));
-    begin_building(&mut state);
-    assert!(rt; builds(&state));
-    assert!(rt; takes_vote(&mut state, Vote::new(2, 2)));
-    assert!(rt; takes_leader(&mut state));
-    apply(&mut state, id(1, 2, 4));
-    take_snapshot(&mut state, id(1, 2, 3));
-    purge(&mut state, id(1, 2, 2));
-    assert_eq!(rt; applied(&state), Some(id(1, 2, 4)));
-    assert_eq!(rt; snapshot(&state), Some(id(1, 2, 3)));
-    assert_eq!(rt; purged(&state), Some(id(1, 2, 2)));
-    Ok(())
-}
-
-#[test]
-fn what_is_accepted_is_of_one_leader(rt: HostRuntime) {
+fn what_is_accepted_is_of_one_leader() -> bool {
     let accepted = Accepted::new(LeaderId::new(1, 2), Some(id(1, 2, 4)));
-    assert_eq!(rt;
-        accepted.last_accepted_log_id(&LeaderId::new(1, 2)).copied(),
-        Some(id(1, 2, 4))
-    );
-    assert!(rt;
-        accepted
-            .last_accepted_log_id(&LeaderId::new(1, 3))
-            .is_none()
-    );
+    let last = accepted.last_accepted_log_id(&LeaderId::new(1, 2)).copied();
+    let other = accepted.last_accepted_log_id(&LeaderId::new(1, 3)).copied();
     let none: Accepted<u64> = Accepted::none();
-    assert!(rt; none.last_accepted_log_id(&LeaderId::new(0, 0)).is_none());
+    let first = none.last_accepted_log_id(&LeaderId::new(0, 0)).copied();
+    (last == Some(id(1, 2, 4))) & other.is_none() & first.is_none()
+}
+
+#[test]
+fn written(rt: HostRuntime) {
+    let rows = [
+        (
+            "values know when they changed",
+            values_know_when_they_changed(),
+        ),
+        ("votes and logs are noted", votes_and_logs_are_noted()),
+        ("places are noted", places_are_noted()),
+        (
+            "what is accepted is of one leader",
+            what_is_accepted_is_of_one_leader(),
+        ),
+    ];
+    assert_rows(&rt, rows.as_slice());
 }

@@ -1,0 +1,173 @@
+use Rattle.std.specs.Prelude.{[], ◌∷◌, ◌≡◌, ℕ, ◌<◌, true, false, [], Option, Some, None, refl}
+use Rattle.std.proofs.Common.{arith, sym, ap, ◌∙◌}
+use Rattle.raft_values.specs.LogId.{log_id_of}
+use Rattle.raft_group_step.specs.GroupState.{GroupState}
+use Rattle.raft_group_step.specs.StoredGroup.{StoredGroup}
+use Rattle.raft_group_step.specs.Values.{Membership}
+use Rattle.raft_group_step.specs.StepResult.{NotLeader, RefusalReason}
+use Rattle.raft_group_step.specs.declared.group_call.GroupCall.TheVariants.{ChangeMembership, Initialize, Propose}
+use Rattle.raft_membership.specs.declared.change_members.ChangeMembers.TheVariants.{SetNodes}
+use Rattle.raft_group_step.specs.GroupEvent.{GroupCall, Call}
+use Rattle.raft_group_step.specs.Refusal.{refusal_of}
+use Rattle.raft_laws.specs.declared.world_event.WorldEvent.{WorldEvent}
+use Rattle.raft_laws.specs.declared.world_event.WorldEvent.TheVariants.{Ask}
+use Rattle.raft_laws.specs.GroupWorld.{GroupWorld, NodeState, Absent, Down, Up, new_world}
+use Rattle.raft_laws.specs.Origins.{world_before}
+use Rattle.raft_laws.specs.OneVoter.{one, stopped_proposal}
+use Rattle.raft_laws.specs.OriginRun.{command_at}
+use Rattle.raft_laws.specs.Example.{add, membership_of, three}
+use Rattle.raft_laws.proofs.BallotAgreement.{same_some}
+use Rattle.raft_history_laws.specs.NotedIds.{is_noted}
+use Rattle.raft_history_laws.specs.NotedIdsRun.{asked_follower, NotedInRun, OriginInRun}
+use Rattle.raft_history_laws.proofs.LastNoted.{origin_is_last}
+use Rattle.raft_history_laws.proofs.SmallIds.{one_is_small}
+use Rattle.raft_history_laws.proofs.origins.noted_log_ids_of_runs.Goals as goal
+
+above_none : (j k : ℕ) → 0 < j → Some j ≡ Some k → 0 < k
+above_none j k l e = let f = same_some e in omega (arith, f)
+
+no_stop : (k : ℕ) → None ≡ Some k → 0 < k
+no_stop k e = absurd (let f : None ≡ Some k = e in cc)
+
+again : NotedInRun 0 5 (log_id_of 1 1 2)
+again =
+    record {
+      node = 1;
+      call = Propose (add 7) 3;
+      now = 0;
+      stop = None;
+      state = _;
+      event = refl;
+      is_up = refl;
+      noted = refl;
+      taken = refl;
+      next = refl;
+    }
+
+pub returns-clause-stopped : goal.returns-clause-stopped
+returns-clause-stopped c =
+    record {
+      node = 1;
+      call = Propose (add 5) 1;
+      now = 0;
+      stop = Some 0;
+      state = _;
+      event = refl;
+      is_up = refl;
+      noted = refl;
+      taken = refl;
+      next = refl;
+    }
+
+pub returns-clause-again : goal.returns-clause-again
+returns-clause-again c = again
+
+pub returns-clause-origin : goal.returns-clause-origin
+returns-clause-origin c =
+    origin_is_last one one_is_small (stopped_proposal 0) 5 (Propose (add 7) 3) (command_at 2 (add 7))
+    (record {
+      node = 1;
+      now = 0;
+      stop = None;
+      state = _;
+      event = refl;
+      is_up = refl;
+      set_up = refl;
+      taken = refl;
+      stored = no_stop;
+      writes = refl;
+    })
+    refl
+
+pub returns-clause-no_origin : goal.returns-clause-no_origin
+returns-clause-no_origin c = λ h. h.last 5 (omega arith) again
+
+stored : OriginInRun 1 2 (log_id_of 1 1 2)
+stored =
+    origin_is_last one one_is_small (stopped_proposal 1) 2 (Propose (add 5) 1) (command_at 2 (add 5))
+    (record {
+      node = 1;
+      now = 0;
+      stop = Some 1;
+      state = _;
+      event = refl;
+      is_up = refl;
+      set_up = refl;
+      taken = refl;
+      stored = λ k e. above_none 1 k (omega arith) e;
+      writes = refl;
+    })
+    refl
+
+pub returns-clause-stored : goal.returns-clause-stored
+returns-clause-stored c = stored
+
+pub returns-clause-behind : goal.returns-clause-behind
+returns-clause-behind c = λ h. stored.last 5 (omega arith) h
+
+abbrev event-of : ℕ → GroupCall → ℕ → Option ℕ → WorldEvent × Option ℕ
+event-of n call now stop = (Ask n call now, stop)
+
+same_ask : (n k : ℕ) (call other : GroupCall) (now then : ℕ) (stop stop' : Option ℕ) → Some (event-of n call now stop) ≡ Some (event-of k other then stop') → (n ≡ k) × (call ≡ other) × (now ≡ then)
+same_ask n k call other now then stop stop' e =
+    let f : Ask n call now ≡ Ask k other then = ap (λ (x : WorldEvent × Option ℕ). x.0) (same_some e) in (cc, cc, cc)
+
+initialize_is_none : (first : Membership) (call : GroupCall) → Initialize first ≡ call → is_noted call ≡ true → ⊥
+initialize_is_none first call e t = let f : false ≡ true = ap is_noted e ∙ t in cc
+
+pub returns-clause-set_up : goal.returns-clause-set_up
+returns-clause-set_up c = λ id x.
+    initialize_is_none (membership_of one []) x.call (same_ask 1 x.node (Initialize (membership_of one [])) x.call 0 x.now None x.stop x.event).1 x.noted
+
+down_up : (x : NodeState) (st : StoredGroup) (s : GroupState) → x ≡ Down st → x ≡ Up s → ⊥
+down_up x st s d u = let e : Down st ≡ Up s = sym d ∙ u in cc
+
+abbrev stopped_world : GroupWorld
+stopped_world = world_before (stopped_proposal 0) 3 (new_world one)
+
+pub returns-clause-down : goal.returns-clause-down
+returns-clause-down c = λ id x.
+    let same = same_ask 1 x.node (Propose (add 7) 2) x.call 0 x.now None x.stop x.event in
+    down_up (stopped_world.nodes x.node) _ x.state (ap stopped_world.nodes (sym same.0)) x.is_up
+
+-- ---- what a follower refuses
+
+abbrev follower_world : GroupWorld
+follower_world = world_before asked_follower 11 (new_world three)
+
+abbrev refusal_in : ℕ → GroupCall → ℕ → NodeState → Option RefusalReason
+refusal_in n call now Absent = None
+refusal_in n call now (Up s) = refusal_of n s (Call call now)
+refusal_in n call now (Down kept) = None
+
+refused_none : (o : Option RefusalReason) → Some (NotLeader (Some 1)) ≡ o → o ≡ None → ⊥
+refused_none o e f = let g : Some (NotLeader (Some 1)) ≡ None = e ∙ f in cc
+
+refused_at : (n k : ℕ) (call other : GroupCall) (now then : ℕ) (s : GroupState) → (n ≡ k) × (call ≡ other) × (now ≡ then) → follower_world.nodes k ≡ Up s → refusal_in n call now (follower_world.nodes n) ≡ refusal_of k s (Call other then)
+refused_at n k call other now then s same up =
+    ap (λ m. refusal_in m call now (follower_world.nodes m)) same.0
+    ∙ ap (λ c. refusal_in k c now (follower_world.nodes k)) same.1
+    ∙ ap (λ t. refusal_in k other t (follower_world.nodes k)) same.2
+    ∙ ap (refusal_in k other then) up
+
+pub returns-clause-refused : goal.returns-clause-refused
+returns-clause-refused c = λ id x.
+    let same = same_ask 2 x.node (Propose (add 9) 9) x.call 0 x.now None x.stop x.event in
+    refused_none (refusal_of x.node x.state (Call x.call x.now))
+    (refused_at 2 x.node (Propose (add 9) 9) x.call 0 x.now x.state same x.is_up)
+    x.taken
+
+pub returns-clause-change : goal.returns-clause-change
+returns-clause-change c =
+    record {
+      node = 1;
+      call = ChangeMembership (SetNodes ((4, 110 ∷ []) ∷ [])) 2;
+      now = 0;
+      stop = None;
+      state = _;
+      event = refl;
+      is_up = refl;
+      noted = refl;
+      taken = refl;
+      next = refl;
+    }

@@ -1,0 +1,12 @@
+pub mod LeaderLists
+pub mod LeaderListsRun
+pub mod WholeSnapshots
+pub mod WholeSnapshotsRun
+pub mod NotedIds
+pub mod NotedIdsRun
+pub mod WaitingTokens
+pub mod WaitingTokensRun
+pub mod ToldAnswers
+pub mod ToldAnswersRun
+pub mod Candidates
+pub mod CandidatesRun

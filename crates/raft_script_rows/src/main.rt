@@ -1,0 +1,92 @@
+//! Runs scripts, one on each line of the input, and prints how each ends and what it answers.
+//!
+//! In a line `|` stands for a newline and `%FF` for a byte. These are the lines:
+//!
+//! - `run SCRIPT`: the script as it is;
+//! - `comment N SCRIPT`: `nodes 1|`, then N times `#`, then the script;
+//! - `pieces N READ ROOM SCRIPT`: the reader and the writer take N bytes at a time and are
+//!   interrupted before each; the reader fails behind READ bytes and the writer without ROOM;
+//! - `status`: the exit status of a script that finds no memory.
+#![tactic(auto)]
+
+mod broken;
+
+use broken::{Piecewise, Stubborn};
+use percent_encoding::percent_decode;
+use raft_cluster::{ScriptEnd, run_script};
+use std::alloc::{AllocError, Global};
+use std::io;
+
+/// The bytes that a script's text stands for.
+fn bytes_of(alloc: Global, text: &str) -> Result<Vec<u8>, AllocError> {
+    let mut bytes = Vec::new(alloc);
+    percent_decode(text.as_bytes()).append_to(&mut bytes)?;
+    for byte in bytes.iter_mut() {
+        if *byte == b'|' {
+            *byte = b'\n';
+        }
+    }
+    Ok(bytes)
+}
+
+/// The bytes of `nodes 1|`, a comment of so many bytes and what is to follow.
+fn with_comment(alloc: Global, length: usize, rest: &[u8]) -> Result<Vec<u8>, AllocError> {
+    let mut script = b"nodes 1\n".to_vec(alloc)?;
+    for _ in 0..length {
+        script.push(b'#')?;
+    }
+    script.extend_from_slice(rest)?;
+    Ok(script)
+}
+
+/// The number at the front of a text, and the text behind its space.
+fn number_of(text: &str) -> (usize, &str) {
+    let (word, rest) = text.split_once(' ').unwrap_or((text, ""));
+    (word.parse().unwrap_or(usize::MAX), rest)
+}
+
+fn print_end(rt: &impl Print, line: &str, end: ScriptEnd, written: &[u8]) -> io::Result<()> {
+    let text = str::from_utf8(written).unwrap_or("no UTF-8");
+    println!(rt; "{line} -> {end:?} {} {text:?}", end.status())
+}
+
+fn run(rt: &HostRuntime, line: &str, script: &[u8]) -> io::Result<()> {
+    let mut reader = script;
+    let mut writer = Vec::new(rt.alloc());
+    let end = run_script(rt.alloc(), &mut reader, &mut writer);
+    print_end(rt, line, end, writer.as_slice())
+}
+
+fn run_in_pieces(rt: &HostRuntime, line: &str, words: &str) -> io::Result<()> {
+    let (piece, rest) = number_of(words);
+    let (read, rest) = number_of(rest);
+    let (room, text) = number_of(rest);
+    let script = bytes_of(rt.alloc(), text)?;
+    let mut reader = Piecewise::new(script.as_slice(), piece, read);
+    let mut writer = Stubborn::new(rt.alloc(), piece, room);
+    let end = run_script(rt.alloc(), &mut reader, &mut writer);
+    print_end(rt, line, end, writer.written())
+}
+
+fn answer(rt: &HostRuntime, line: &str) -> io::Result<()> {
+    let (call, words) = line.split_once(' ').unwrap_or((line, ""));
+    match call {
+        "run" => run(rt, line, bytes_of(rt.alloc(), words)?.as_slice()),
+        "comment" => {
+            let (length, text) = number_of(words);
+            let rest = bytes_of(rt.alloc(), text)?;
+            let script = with_comment(rt.alloc(), length, rest.as_slice())?;
+            run(rt, line, script.as_slice())
+        }
+        "pieces" => run_in_pieces(rt, line, words),
+        "status" => println!(rt; "{line} -> {}", ScriptEnd::Memory.status()),
+        _ => println!(rt; "{line} -> no row"),
+    }
+}
+
+fn main(rt: HostRuntime) -> io::Result<()> {
+    for line in rt.lines(rt.alloc()) {
+        answer(&rt, line?.as_str())?;
+    }
+    Ok(())
+}

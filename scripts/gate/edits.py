@@ -1,0 +1,140 @@
+"""Edits: wrong bodies as files, and the functions that a check has to refuse with them.
+
+An edit has a line 'file: PATH' and pairs of lines 'old: TEXT' and 'new: TEXT', as a must-fail edit
+of rt. It may have a line 'why: ..', what a user would lose, and lines 'only: CRATE::PATH': the
+functions that must be refused, where these aren't just those whose bodies are turned.
+"""
+import glob
+import os
+import re
+
+import kit
+
+
+class Edit:
+    """A wrong body: what it turns, and the functions that must be refused with it."""
+
+    def __init__(self, crate, file):
+        self.crate, self.file = crate, file
+        self.name = f"{crate.name}/{os.path.basename(file).removesuffix('.edit')}"
+        with open(file, encoding="utf-8") as it:
+            text = it.read()
+        self.pairs, self.fault = _pairs(text)
+        self.functions = tuple(re.findall(r"(?m)^only: *(\S+)", text))
+        # The functions whose bodies it turns, or none where it turns something else too.
+        self.bodies = ()
+
+    def made(self, texts):
+        """Returns the files' texts with this edit made too, or None and why it can't be made."""
+        texts = dict(texts)
+        for path, old, new in self.pairs:
+            if path not in texts:
+                text = text_of(self.crate, path)
+                if text is None:
+                    return None, f"there is no file {path}"
+                texts[path] = text
+            found = texts[path].count(old)
+            if found != 1:
+                return None, f"an old text is in {path} {found} times, and not once"
+            texts[path] = texts[path].replace(old, new)
+        return texts, None
+
+
+def text_of(crate, path):
+    """Returns the text of the crate's file, or None where there is none."""
+    try:
+        with open(f"{crate.folder}/{path}", encoding="utf-8") as it:
+            return it.read()
+    except OSError:
+        return None
+
+
+def _pairs(text):
+    path, old, pairs = None, None, []
+    for line in text.split("\n"):
+        if line.startswith("file: "):
+            path = line[len("file: ") :].strip()
+            if os.path.normpath(path) != path or not path.startswith(("src/", "specs/")):
+                return [], f"{path} is no file below src/ or specs/"
+        elif line.startswith("old: "):
+            old = line[len("old: ") :]
+        elif line.startswith("new:"):
+            if not path or not old:
+                return [], "a line new: stands before any line file: or old:"
+            pairs.append((path, old, line[len("new:") :].removeprefix(" ")))
+            old = None
+    return pairs, None if pairs else "it has no pair of lines old: and new:"
+
+
+def read(crate, folder):
+    """Returns the crate's edits, each with the functions that must be refused."""
+    found = [Edit(crate, it) for it in sorted(glob.glob(f"{glob.escape(folder)}/*.edit"))]
+    names = Names(crate) if found else None
+    for it in found:
+        it.fault = it.fault or it.made({})[1]
+        if not it.fault:
+            it.bodies = names.turned(it)
+            it.functions = it.functions or it.bodies
+    return found
+
+
+class Names:
+    """Which function a place in the crate's sources belongs to, by the name that a check has for it."""
+
+    def __init__(self, crate):
+        self.crate = crate
+        self.functions, self.modules = kit.functions(crate)
+
+    def turned(self, edit):
+        """Returns the functions whose bodies the edit turns, or none where it turns more."""
+        texts, bodies, found = {}, {}, []
+        for path, old, new in edit.pairs:
+            if path not in texts:
+                texts[path] = text_of(self.crate, path).encode()
+                bodies[path] = [
+                    (f.opens, f.end, self.name(f))
+                    for f in self.functions
+                    if f.file == path and f.has_body
+                ]
+            old, new, text = old.encode(), new.encode(), texts[path]
+            at = text.find(old)
+            start, end = at + _common(old, new), at + len(old)
+            end -= min(_common(old[::-1], new[::-1]), end - start)
+            found += [it[2] for it in bodies[path] if it[0] < start <= end < it[1]][:1] or [None]
+            texts[path] = text[:at] + new + text[at + len(old) :]
+            moved = [lambda it: it + (len(new) - len(old)) * (it >= at + len(old))][0]
+            bodies[path] = [(moved(a), moved(b), name) for a, b, name in bodies[path]]
+        return tuple(dict.fromkeys(found)) if all(found) else ()
+
+    def name(self, f):
+        """Returns a check's name for the function, by the kit's rule: of an impl of a trait the
+        words of the type, the trait's name and the words of its arguments."""
+        block, module, owner = f.block, f.module, []
+        if block and block.is_trait:
+            owner = block.trait[:1]
+        elif block and block.trait:
+            owner = [_words(block.ty, block.generics) + _words(block.trait, block.generics)]
+        elif block:
+            # (such an impl is named by its type, wherever it stands)
+            owner, module = block.ty[:1], self.modules.get(block.ty[0], module)
+        return "::".join([self.crate.name, *module, *owner, f.name])
+
+
+def _common(one, other):
+    """Returns how many bytes the two have in common at their front."""
+    return len(os.path.commonprefix([one, other]))
+
+
+def _words(tokens, parameters):
+    """Returns the words of a type as they stand in an impl's name, less the impl's own parameters."""
+    found = []
+    for at, it in enumerate(tokens):
+        if it == "&":
+            found.append("Ref")
+        elif it == "[":
+            found.append("Slice")
+        elif it == "(":
+            found.append(f"Tuple{tokens[at : tokens.index(')', at)].count(',') + 1}")
+        elif re.match(r"\w", it) and it not in parameters:
+            found.append(it[:1].upper() + it[1:])
+    return "".join(found)

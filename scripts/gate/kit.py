@@ -1,0 +1,75 @@
+"""The kit's own scripts, which know how a crate is checked, and what try_edits asks of them."""
+import functools
+import importlib.machinery
+import importlib.util
+import os
+import subprocess
+import sys
+
+sys.dont_write_bytecode = True
+
+
+def _load(name, file):
+    loader = importlib.machinery.SourceFileLoader(name, file)
+    made = importlib.util.module_from_spec(importlib.util.spec_from_loader(name, loader))
+    sys.modules[name] = made
+    loader.exec_module(made)
+    return made
+
+
+def _said(*words):
+    return subprocess.run(words, capture_output=True, text=True, check=True).stdout.strip()
+
+
+FOLDER = os.path.dirname(_said("rt", "doc"))
+IDENTITY = _said("rt", "version")
+rt = _load("rt", f"{FOLDER}/bin/rt")
+rtlib = rt.rtlib
+_bodies = _load("rt_plant_bodies", f"{FOLDER}/bin/rt-plant-bodies")
+
+
+def crates(top):
+    """Returns the repository's crates by their names, lowest first."""
+    found = sorted(rtlib.crates_below(top), key=lambda it: len(it.below()))
+    return {it.name: it for it in found}
+
+
+def functions(crate):
+    """Returns the crate's functions as the kit reads them, with the type's module of each."""
+    source = _bodies.Source(crate.folder)
+    source.read("src/main.rt" if crate.is_program else "src/lib.rt")
+    return source.functions, {name: found[0][0] for name, found in source.declared.items()}
+
+
+def _newest(folder):
+    times = [os.path.getmtime(it) for it in rtlib.files_of(folder)]
+    return max(times, default=0)
+
+
+@functools.lru_cache(maxsize=None)
+def _is_of_ci(crate):
+    """Returns whether rt ci built the library from these sources. It leaves no stamp, so the
+    times of the files tell, of this library and of those below it."""
+    made = f"{crate.rlib}/format"
+    if not os.path.isfile(made) or os.path.exists(f"{crate.folder}/out/rlib/stamp"):
+        return False
+    sources = max(_newest(it.folder) for it in [crate, *crate.below()])
+    below = [os.path.getmtime(f"{it.rlib}/format") for it in crate.below() if _is_of_ci(it)]
+    return len(below) == len(crate.below()) and max([sources, *below]) < os.path.getmtime(made)
+
+
+def build_below(crate):
+    """Builds the libraries below the crate where they aren't. Returns what went wrong, or None."""
+    if all(map(_is_of_ci, crate.below())):
+        return None
+    for it in crate.below():
+        if it.is_built():
+            continue
+        print(f"building the library {it.name}", flush=True)
+        how = {"cwd": it.folder, "stdin": subprocess.DEVNULL, "stdout": subprocess.PIPE}
+        ran = subprocess.run(
+            ["rt", "lib", "--jobs", "1"], stderr=subprocess.STDOUT, text=True, errors="replace", **how
+        )
+        if ran.returncode or not it.is_built():
+            return f"the library {it.name} isn't built: {ran.stdout[-600:]}"
+    return None

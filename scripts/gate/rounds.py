@@ -1,0 +1,181 @@
+"""Tries a crate's edits in rounds.
+
+In a round edits of different functions are made at once, in a copy of the crate, and one check of
+just these functions has to say of each that it isn't proved, by a goal of its own. A function's
+goals go by its own body and by the contracts of what it calls, and edits of other bodies leave
+these as they are: so each edit is refused as it would be alone.
+"""
+import os
+import re
+import shutil
+import subprocess
+import tempfile
+
+from kit import rt, rtlib
+
+GOAL = re.compile(r"note: src/\S+:\d+:\d+: it is not proved that ")
+# Errors that say no more than that a proof names what an edit took away.
+NAMES = r"has no field|is not in scope|has no `|was not admitted|was rejected, was not checked"
+
+
+class Ran:
+    """A check that has ended, and what it said of each function."""
+
+    def __init__(self, status, said, seconds):
+        self.status, self.seconds = status, seconds
+        self.lines = said.rstrip("\n").split("\n")
+        # What is said of each function, and its goals that search left, which stand above that.
+        self.functions, self.goals, goals = {}, {}, []
+        for line in self.lines:
+            found = re.match(r"fn (\S+): (.*)", line)
+            if found:
+                self.functions[found[1]], self.goals[found[1]] = found[2], goals
+                goals = []
+            elif GOAL.match(line):
+                goals.append(line)
+        # With this last line the check went over each function that it was asked for.
+        self.has_ended = bool(re.match(r"only=\d+ proved=\d+\Z", self.lines[-1]))
+        self.is_stale = bool(rtlib.STALE.search(said))
+
+    def of(self, name):
+        """Returns what the check says of the function and of the closures in its body, by name."""
+        parts, found = name.split("::"), {}
+        for it, said in self.functions.items():
+            words = [word for word in it.split("::") if word != "fn"]
+            if it == name or f"::fn::" in it and words[: len(parts)] == parts:
+                found[it] = said
+        return found
+
+    def refuses(self, name, is_alone):
+        """Returns whether the function isn't proved by a goal of its own, and else why not."""
+        said = self.of(name)
+        if name not in said:
+            return False, "the check says nothing of it"
+        whys = [self._why_not(*it, is_alone) for it in said.items()]
+        return None in whys, next((it for it in whys if it), "")
+
+    def _why_not(self, name, said, is_alone):
+        """Returns None where the function isn't proved by a goal of its own, and else what is."""
+        if said.startswith(("no proof", "not proved")):
+            if self.goals[name]:
+                return None
+            # (alone, also the lemmas that just this function's proof cites)
+            folder = "proofs" if is_alone else "/".join(["proofs", *name.split("::")[1:]])
+            head = re.compile(rf"(\./)?{re.escape(folder)}/\S+:\d+:\d+: error: ")
+            errors = [it for it in self.lines if head.match(it)]
+            if any(not re.search(NAMES, it) for it in errors):
+                return None
+            if errors:
+                return f"only names are missed in its proof: {errors[0][:150]}"
+        return f"{name} is {said[:150]}"
+
+    def first_error(self):
+        """Returns the line that says why the check didn't end."""
+        told = [it for it in self.lines if re.search(r"\berror\b", it)]
+        return (told or self.lines)[0][:300]
+
+
+def check(crate, texts, only):
+    """Checks these functions of a copy of the crate that has these texts in place of its own."""
+    with tempfile.TemporaryDirectory(prefix="try-edits-") as room:
+        for part in rtlib.PARTS:
+            if os.path.isdir(f"{crate.folder}/{part}"):
+                shutil.copytree(f"{crate.folder}/{part}", f"{room}/{part}")
+        for path, text in texts.items():
+            with open(f"{room}/{path}", "w", encoding="utf-8") as it:
+                it.write(text)
+        words = [rtlib.RATTLE, "check", *crate.words(["--jobs", "1"], keeps=False)]
+        words += [it for name in only for it in ("--only", name)]
+        with tempfile.TemporaryFile("w+", errors="replace") as said:
+            how = {"stdin": subprocess.DEVNULL, "stdout": said, "stderr": subprocess.STDOUT}
+            ran = subprocess.Popen([*rtlib.guarded(), *words], cwd=room, **how)
+            _, status, used = os.wait4(ran.pid, 0)
+            ran.returncode = os.waitstatus_to_exitcode(status)
+            said.seek(0)
+            return Ran(ran.returncode, said.read(), used.ru_utime + used.ru_stime)
+
+
+class Tries:
+    """The edits of one crate, and what became of each."""
+
+    def __init__(self, crate, edits, check=check):
+        self.crate, self.edits, self._check = crate, edits, check
+        self.refused, self.failed = [], {}
+        self.seconds, self.checks = 0.0, 0
+
+    def run(self):
+        """Tries all edits, in as few rounds as their functions allow."""
+        for it in self.edits:
+            if it.fault:
+                self.failed[it] = f"can't be made: {it.fault}"
+            elif not it.functions:
+                self.failed[it] = "turns no body: name what must be refused by a line only:"
+        left = [it for it in self.edits if it not in self.failed]
+        while left:
+            now = first_round(left)
+            self.round(now)
+            left = [it for it in left if it not in now]
+
+    def round(self, edits):
+        """Tries these edits at once, and in smaller parts where the check doesn't end."""
+        ran, texts = self.checked(edits)
+        if not ran.has_ended or any(rt.unread(it, texts) for it in ran.lines):
+            self.parts(edits, ran, texts)
+            return
+        for it in edits:
+            said = [ran.refuses(name, len(edits) == 1) for name in it.functions]
+            if all(well for well, _ in said):
+                self.refused.append(it)
+            elif len(edits) > 1:
+                self.round([it])
+            else:
+                whys = [why for well, why in said if not well]
+                self.failed[it] = f"is NOT REFUSED: {'; '.join(whys)}"
+
+    def parts(self, edits, ran, texts):
+        """Goes on after a check that didn't end, or that couldn't read what was edited."""
+        unknown = re.search(r"has no function `([^`]*)`|several functions are named `([^`]*)`", ran.lines[-1])
+        lost = [it for it in edits if unknown and (unknown[1] or unknown[2]) in it.functions]
+        for it in lost:
+            self.failed[it] = f"names a function that isn't found: {ran.lines[-1][:300]}"
+        rest = [it for it in edits if it not in lost]
+        if lost and rest:
+            self.round(rest)
+        elif len(rest) > 1:
+            half = len(rest) // 2
+            self.round(rest[:half])
+            self.round(rest[half:])
+        elif rest:
+            self.failed[rest[0]] = self.why_not_tried(ran, texts)
+
+    def why_not_tried(self, ran, texts):
+        unread = [it for it in ran.lines if rt.unread(it, texts)]
+        if ran.is_stale:
+            return "was not tried: a library below isn't built as it stands"
+        if ran.status < 0 or ran.status == 137:
+            return f"was not tried: its check was killed ({ran.status})"
+        return f"doesn't read, so no contract was tried: {(unread or [ran.first_error()])[0][:300]}"
+
+    def checked(self, edits):
+        texts = {}
+        for it in edits:
+            texts, _ = it.made(texts)
+        only = dict.fromkeys(name for it in edits for name in it.functions)
+        ran = self._check(self.crate, texts, only)
+        self.seconds, self.checks = self.seconds + ran.seconds, self.checks + 1
+        return ran, texts
+
+
+def first_round(edits):
+    """Returns edits that can be tried at once: no two of them turn one function or name it, and each
+    can be made beside the others. One that turns more than bodies is tried alone."""
+    if not edits[0].bodies:
+        return edits[:1]
+    now, taken, texts = [], set(), {}
+    for it in edits:
+        touched = {*it.functions, *it.bodies}
+        made = it.made(texts)[0] if it.bodies and not touched & taken else None
+        if made:
+            texts, taken = made, taken | touched
+            now.append(it)
+    return now

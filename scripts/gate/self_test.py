@@ -1,0 +1,118 @@
+"""Tries edits of a tiny crate, most of which must be told as not refused, and why. Without this a
+program that takes every edit for refused would look well."""
+import os
+import tempfile
+
+import edits
+import kit
+import rounds
+
+SOURCE = """//! A tiny crate.
+#![tactic(auto)]
+ghost use Rattle.std.specs.Prelude.{◌≡◌, ◌+◌, ◌<◌};
+
+/// The next number.
+pub fn next(number: u8) -> u8
+    requires { number < 9 }
+    ensures { result ≡ number + 1 }
+{
+    1 + number
+}
+
+/// The number after the next one.
+pub fn after_next(number: u8) -> u8
+    requires { number < 8 }
+    ensures { result ≡ number + 2 }
+{
+    next(next(number))
+}
+
+/// A number below nine, whichever.
+pub fn small() -> u8
+    ensures { result < 9 }
+{
+    let small = 3;
+    small
+}
+"""
+
+# Each edit's lines, and how what is said of it begins (None: it is refused).
+WANTED = {
+    "a_step_of_two": ("old: 1 + number\nnew: 2 + number", None),
+    "harmless": ("old: = 3;\nnew: = 4;", "is NOT REFUSED"),
+    "lacks_its_text": ("old: = 5;\nnew: = 4;", "can't be made"),
+    "names_no_function": ("only: tiny::last\nold: = 3;\nnew: = 9;", "names a function"),
+    "refuses_a_caller_alone": ("only: tiny::after_next\nold: 1 + n\nnew: 2 + n", "is NOT REFUSED"),
+    "turns_a_contract": ("old: result < 9\nnew: result < 3", "turns no body"),
+    "unreadable": ("old: next(next(number))\nnew: next(next(nummer))", "doesn't read"),
+}
+
+
+# What a check says of a function that it refuses.
+REFUSAL = "note: src/a.rt:1:1: it is not proved that it holds (`x`)\nfn {}: no proof: of `x`\n"
+
+
+def write(file, text):
+    os.makedirs(os.path.dirname(file), exist_ok=True)
+    with open(file, "w", encoding="utf-8") as it:
+        it.write(text)
+
+
+def with_the_prover(top):
+    """Returns what is wrong in how the edits of a tiny crate are told, and the seconds it took."""
+    write(f"{top}/crates.txt", "tiny:\n")
+    write(f"{top}/crates/tiny/src/lib.rt", SOURCE)
+    for name, (lines, _) in WANTED.items():
+        write(f"{top}/edits/{name}.edit", f"file: src/lib.rt\n{lines}\n")
+    crate = kit.crates(top)["tiny"]
+    tries = rounds.Tries(crate, edits.read(crate, f"{top}/edits"))
+    tries.run()
+    told = {it.name: None for it in tries.refused}
+    told.update({it.name: why for it, why in tries.failed.items()})
+    wrong = []
+    for name, (_, wanted) in WANTED.items():
+        said = told.get(f"tiny/{name}", "nothing")
+        if said != wanted and not (wanted and said and said.startswith(wanted)):
+            wrong.append(f"{name}: wanted {wanted or 'refused'}, and not {said or 'refused'}")
+    return wrong, tries.seconds
+
+
+class _Edit:
+    """An edit that needs no crate."""
+
+    def __init__(self, name):
+        self.name, self.fault, self.functions, self.bodies = name, None, (f"a::{name}",), (name,)
+
+    def made(self, texts):
+        return {**texts, self.name: ""}, None
+
+
+def without_it():
+    """Returns what is wrong where checks are killed, or end early, or say too little."""
+    killed = lambda only: rounds.Ran(-9, "", 0)
+    silent = lambda only: rounds.Ran(1, f"only={len(only)} proved=0\n", 0)
+    refused = lambda only: rounds.Ran(
+        1, "".join(REFUSAL.format(it) for it in only) + "only=1 proved=0\n", 0
+    )
+    cases = {
+        "a killed round": (lambda only: killed(only) if len(only) > 1 else refused(only), None),
+        "killed checks": (killed, "was not tried"),
+        "a check that ends early": (lambda only: rounds.Ran(0, "fn a::x: proved", 0), "doesn't read"),
+        "a check that is silent": (silent, "is NOT REFUSED"),
+    }
+    wrong = []
+    for case, (check, wanted) in cases.items():
+        tries = rounds.Tries(None, [_Edit(it) for it in "xyz"], lambda _, __, only: check(only))
+        tries.run()
+        whys = list(tries.failed.values())
+        well = len(whys) == 3 * bool(wanted) and len(tries.refused) == 3 - len(whys)
+        if not well or not all(it.startswith(wanted) for it in whys):
+            wrong.append(f"{case}: wanted {wanted or 'refused'}, and not {whys}")
+    return wrong
+
+
+def run():
+    """Returns what is wrong in how edits are told, and the seconds of one core that it took."""
+    with tempfile.TemporaryDirectory(prefix="try-edits-self-test-") as top:
+        wrong, seconds = with_the_prover(top)
+        return without_it() + wrong, seconds
