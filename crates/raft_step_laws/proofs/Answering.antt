@@ -8,12 +8,11 @@ use Rattle.raft_group_step.specs.StoredGroup.{Snapshot, entry_at, has_id_in_log,
 use Rattle.raft_group_step.specs.Message.{Message, MessageBody, VoteRequest, VoteReply, AppendRequest, AppendReply, SnapshotRequest, SnapshotReply, AppendFields}
 use Rattle.raft_group_step.specs.GroupState.{GroupState}
 use Rattle.raft_group_step.specs.GroupEvent.{Receive}
-use Rattle.raft_group_step.specs.StepResult.{RefusalReason, StepResult, is_within, renew, step_down, store_vote, take_over}
+use Rattle.raft_group_step.specs.StepResult.{StepResult, is_within, renew, step_down, store_vote, take_over}
 use Rattle.raft_group_step.specs.VoteRequest.{is_under_lease, judged, may_grant}
 use Rattle.raft_group_step.specs.AppendRequest.{cut_at, cut_from, heard, is_held, joined, put_entries}
 use Rattle.raft_group_step.specs.SnapshotRequest.{cut_other, install_unless, offered, place_above}
-use Rattle.raft_group_step.specs.Refusal.{refusal_of}
-use Rattle.raft_group_step.specs.GroupStep.{begun, event_step, finished, group_step, message_step, step_unless}
+use Rattle.raft_group_step.specs.GroupStep.{begun, event_step, finished, message_step, step_unless}
 use Rattle.raft_laws.proofs.StepWords.{either, either_by}
 use Rattle.raft_laws.proofs.VoteRanks.{same_vote}
 use Rattle.raft_step_laws.specs.Replies.{IsAnswered, RepliesTo, RequestsAreAnswered, is_request}

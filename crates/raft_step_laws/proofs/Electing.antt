@@ -1,15 +1,15 @@
 -- A candidate that a quorum granted leads in that event.
-use Rattle.std.specs.Prelude.{◌≡◌, ℕ, ◌+◌, ◌==◌, ◌&&◌, Bool, true, false, List, [], ◌∷◌, ◌++◌, Option, Some, None, cond, is_some, refl}
+use Rattle.std.specs.Prelude.{◌≡◌, ℕ, ◌+◌, ◌==◌, ◌&&◌, Bool, true, false, List, [], ◌∷◌, Option, Some, None, cond, is_some, refl}
 use Rattle.std.specs.List.{list_any}
 use Rattle.std.proofs.Common.{sym, ap, ◌∙◌, subst}
 use Rattle.raft_values.specs.declared.vote.Vote.{Vote}
 use Rattle.raft_values.specs.declared.log_id.LogId.{LogId}
-use Rattle.raft_values.specs.LogId.{log_id_of, next_place, place_of}
+use Rattle.raft_values.specs.LogId.{log_id_of, place_of}
 use Rattle.raft_values.specs.Vote.{vote_of}
 use Rattle.raft_quorums.specs.Quorum.{is_quorum}
 use Rattle.raft_state.specs.declared.entry.EntryPayload.TheVariants.{Blank, Membership as Members}
-use Rattle.raft_group_step.specs.Values.{ChangeMembers, Entry, LoggedMembership, Membership, entry_of, has_id, is_written_by, vote_eq, vote_lt}
-use Rattle.raft_group_step.specs.StoredGroup.{Snapshot, PutEntries, entry_at, first_place, has_id_in_log, id_of, log_below, membership_in_force, snapshot_last}
+use Rattle.raft_group_step.specs.Values.{ChangeMembers, Entry, LoggedMembership, entry_of, has_id, is_written_by, vote_eq, vote_lt}
+use Rattle.raft_group_step.specs.StoredGroup.{Snapshot, PutEntries, entry_at, has_id_in_log, id_of, log_below, membership_in_force, snapshot_last}
 use Rattle.raft_group_step.specs.Message.{Message, MessageBody, VoteRequest, VoteReply, AppendRequest, AppendReply, SnapshotRequest, SnapshotReply, AppendFields, ReplyFields, ReplyResult, Success, Conflict, HigherVote}
 use Rattle.raft_group_step.specs.Peer.{is_answer_to}
 use Rattle.raft_group_step.specs.GroupState.{GroupState, Lead, Role, Follower, Candidate, Leader, is_candidate, is_leader, state_of}
@@ -17,7 +17,7 @@ use Rattle.raft_group_step.specs.declared.group_call.GroupCall.TheVariants.{Init
 use Rattle.raft_group_step.specs.GroupEvent.{GroupCall, GroupEvent, AddGroup, Call, Receive, Open}
 use Rattle.raft_group_step.specs.StepResult.{RefusalReason, StepResult, append, in_role, is_within, renew, step_down, store, store_vote, take_over, unchanged, apply_up_to}
 use Rattle.raft_group_step.specs.Lead.{begin_lead, committed_vote, configs_in_force, lead_if, new_lead, other_ids, peer_of, remove_up_to, with_grant}
-use Rattle.raft_group_step.specs.Elect.{ask, elect_step, other_voters, stand}
+use Rattle.raft_group_step.specs.Elect.{ask, elect_step, other_voters}
 use Rattle.raft_group_step.specs.VoteRequest.{judged, may_grant}
 use Rattle.raft_group_step.specs.VoteReply.{counted, take_over_greater}
 use Rattle.raft_group_step.specs.AppendRequest.{cut_at, cut_from, heard, is_held, joined, put_entries}
@@ -30,17 +30,15 @@ use Rattle.raft_group_step.specs.SnapshotTrigger.{snapshot_of_applied, store_sna
 use Rattle.raft_group_step.specs.PurgeTrigger.{purge_as, purge_within}
 use Rattle.raft_group_step.specs.Opening.{drop_stale_log, is_joined_to, opening_step}
 use Rattle.raft_group_step.specs.Refusal.{refusal_of}
-use Rattle.raft_group_step.specs.GroupStep.{begun, call_step, event_step, finished, group_step, message_step, step_unless}
+use Rattle.raft_group_step.specs.GroupStep.{begun, call_step, event_step, finished, message_step, step_unless}
 use Rattle.raft_laws.proofs.Memberships.{last_append}
-use Rattle.raft_laws.proofs.StepWords.{either, either_by}
+use Rattle.raft_laws.proofs.StepWords.{either}
 use Rattle.raft_laws.proofs.TrackElections.{ask_state}
+use Rattle.raft_laws.proofs.VoteOrders.{differ_flags as never}
 use Rattle.raft_step_laws.specs.Elections.{CandidatesLack, GrantedCandidatesLead, GrantersReplay, LacksAQuorum, configs_counted, counts_a_grant, granters_after, granters_of, is_grant_for, stands_in_call, with_granter}
 use Rattle.raft_step_laws.proofs.Sending.{finished_adds, idle_end}
 
 -- ---- words of roles
-
-pub never : {A : Type 0} → (b : Bool) → b ≡ true → b ≡ false → A
-never b t f = absurd (let e : true ≡ false = sym t ∙ f in cc)
 
 pub and_false : (b : Bool) → (b && false) ≡ false
 and_false true = refl

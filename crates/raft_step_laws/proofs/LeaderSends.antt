@@ -1,21 +1,21 @@
 -- What a leader sends at the end of an event: what it makes of its peers, and that each is served.
-use Rattle.std.specs.Prelude.{◌≡◌, ◌⊎◌, ℕ, ◌+◌, ◌-◌, ◌==◌, ◌&&◌, ◌||◌, cond, nat_eq, nat_lt, is_none, is_some, Bool, true, false, List, [], ◌∷◌, ◌++◌, drop, take, Option, Some, None, refl}
-use Rattle.std.specs.List.{list_any}
-use Rattle.std.proofs.Common.{inl, inr, sym, ap, ◌∙◌, subst, arith, eqb-true, append-nil, append_assoc, ⊎_elim}
-use Rattle.std.proofs.lemmas.Bool.{and_parts, cond_both, or_cases}
+use Rattle.std.specs.Prelude.{◌≡◌, ◌⊎◌, ℕ, ◌-◌, ◌==◌, ◌&&◌, ◌||◌, cond, nat_eq, nat_lt, is_none, Bool, true, false, List, [], ◌∷◌, ◌++◌, drop, take, Option, Some, None, refl}
+use Rattle.std.proofs.Common.{inl, inr, sym, ap, ◌∙◌, subst, eqb-true, append-nil, append_assoc, ⊎_elim}
+use Rattle.std.proofs.lemmas.Bool.{cond_both}
 use Rattle.raft_values.specs.LogId.{next_place}
 use Rattle.raft_values.specs.declared.log_id.LogId.{LogId}
 use Rattle.raft_group_step.specs.Values.{has_id}
 use Rattle.raft_group_step.specs.StoredGroup.{Snapshot, StoredGroup, end_place, entry_at, first_place, id_before, id_of}
 use Rattle.raft_group_step.specs.Message.{Message, MessageBody, AppendRequest, SnapshotRequest, Numbered, last_sent}
 use Rattle.raft_group_step.specs.Peer.{Outstanding, PeerState, is_kept_for_peers, new_peer, with_peer}
-use Rattle.raft_group_step.specs.GroupState.{GroupState, Lead, Role, Follower, Candidate, Leader, is_leader}
+use Rattle.raft_group_step.specs.GroupState.{Lead, Role, Follower, Candidate, Leader}
 use Rattle.raft_group_step.specs.StepResult.{StepResult, send}
 use Rattle.raft_group_step.specs.Lead.{commit_as_leader, other_ids, peer_of, purge_as_wished, purge_up_to, remove_up_to, with_wish}
-use Rattle.raft_group_step.specs.Frames.{committed_id, entries_in_request, has_grown, lacks_entries, notice, request_start, send_entries, send_request, send_snapshot, serve, serve_all, serve_as, waiting, with_frames, with_peer_state}
+use Rattle.raft_group_step.specs.Frames.{committed_id, entries_in_request, has_grown, lacks_entries, notice, request_start, send_entries, send_request, send_snapshot, serve, serve_all, serve_as, waiting}
 use Rattle.raft_group_step.specs.GroupStep.{finished}
 use Rattle.raft_laws.proofs.StepWords.{either, either_by}
 use Rattle.raft_laws.proofs.StepCommits.{removed_role}
+use Rattle.raft_laws.proofs.StepLimits.{commit_role}
 use Rattle.raft_laws.proofs.TrackReplies.{peer_of_is}
 use Rattle.raft_step_laws.specs.PeerStates.{after_body, peer_after_sending}
 use Rattle.raft_step_laws.proofs.PeerLists.{body_has, body_matched, cond_same, sending_joins, set_found, set_others}
@@ -153,7 +153,7 @@ has_request_after (m ∷ ms) p h =
     (cond_both (m.addressee == p.peer) (after_body m.body p) p HasRequest (λ t. body_has m.body p h) (λ t. h))
 
 -- sending leaves what the peer has accepted
-matched_after : (ms : List Message) (p : PeerState) → (peer_after_sending ms p).matched ≡ p.matched
+pub matched_after : (ms : List Message) (p : PeerState) → (peer_after_sending ms p).matched ≡ p.matched
 matched_after [] p = refl
 matched_after (m ∷ ms) p =
     matched_after ms (cond (m.addressee == p.peer) (after_body m.body p) p)
@@ -241,11 +241,6 @@ all_served own news (k ∷ ns) lead r is n among =
 
 -- ---- from the event's own part to the end
 
-commit_role : (own : ℕ) (role : Role) (r : StepResult) → (commit_as_leader own role r).state.role ≡ r.state.role
-commit_role own Follower r = refl
-commit_role own (Candidate granters) r = refl
-commit_role own (Leader lead) r = refl
-
 commit_messages : (own : ℕ) (role : Role) (r : StepResult) → (commit_as_leader own role r).messages ≡ r.messages
 commit_messages own Follower r = refl
 commit_messages own (Candidate granters) r = refl
@@ -281,7 +276,7 @@ settled own r =
 pub settled_role : (own : ℕ) (r : StepResult) → (settled own r).state.role ≡ r.state.role
 settled_role own r =
     let committed = commit_as_leader own r.state.role r in
-    purge_role committed.state.role committed.state.wish committed ∙ commit_role own r.state.role r
+    purge_role committed.state.role committed.state.wish committed ∙ commit_role 0 (λ v n id. Unit {0}) own r.state.role r
 
 pub settled_messages : (own : ℕ) (r : StepResult) → (settled own r).messages ≡ r.messages
 settled_messages own r =

@@ -10,3 +10,7 @@ pub mod LeaderSends
 pub mod Unnumbered
 pub mod PeerEvents
 pub mod Served
+pub mod FitWords
+pub mod FitSteps
+pub mod Committing
+pub mod InOrder

@@ -8,7 +8,7 @@ use Rattle.raft_values.specs.declared.log_id.LogId.{LogId}
 use Rattle.raft_values.specs.LogId.{log_id_of, place_of}
 use Rattle.raft_state.specs.declared.entry.EntryPayload.TheVariants.{Membership as Members}
 use Rattle.raft_group_step.specs.Values.{ChangeMembers, Entry, LoggedMembership, entry_of, vote_eq, vote_lt}
-use Rattle.raft_group_step.specs.StoredGroup.{Snapshot, CutFrom, PutEntries, RemoveUpTo, SetSnapshot, StartAfter, entry_at, first_place, has_id_in_log, id_of, membership_in_force, snapshot_last}
+use Rattle.raft_group_step.specs.StoredGroup.{Snapshot, CutFrom, PutEntries, StartAfter, entry_at, first_place, has_id_in_log, id_of, membership_in_force, snapshot_last}
 use Rattle.raft_group_step.specs.Message.{MessageBody, VoteRequest, VoteReply, AppendRequest, AppendReply, SnapshotRequest, SnapshotReply, AppendFields, ReplyFields, ReplyResult, Success, Conflict, HigherVote}
 use Rattle.raft_group_step.specs.Peer.{is_answer_to}
 use Rattle.raft_group_step.specs.GroupState.{GroupState, Lead, Role, Follower, Candidate, Leader, is_leader, state_of}
@@ -29,7 +29,7 @@ use Rattle.raft_group_step.specs.SnapshotTrigger.{snapshot_of_applied, store_sna
 use Rattle.raft_group_step.specs.PurgeTrigger.{purge_as, purge_within}
 use Rattle.raft_group_step.specs.Opening.{drop_stale_log, is_joined_to, opening_step}
 use Rattle.raft_group_step.specs.Refusal.{refusal_of}
-use Rattle.raft_group_step.specs.GroupStep.{begun, call_step, event_step, finished, group_step, message_step, step_unless}
+use Rattle.raft_group_step.specs.GroupStep.{begun, call_step, event_step, finished, message_step, step_unless}
 use Rattle.raft_laws.proofs.StepWords.{either, either_by}
 use Rattle.raft_step_laws.specs.Tokens.{HasItsOwnVote, VotesStayOwn, seeks_or_leads}
 use Rattle.raft_step_laws.proofs.Sending.{finished_adds, idle_end}
@@ -103,7 +103,7 @@ module _ (own : ℕ) where
   granted_mine peer Follower r e h = h
   granted_mine peer (Candidate granters) r e h =
       record {
-        is = λ t. ap (λ (x : LeaderId ℕ). x.node_id) (granted_leader peer (Candidate granters) r) ∙ h.is (ap seeks_or_leads e)
+        is = λ t. ap (λ (x : LeaderId ℕ). x.node_id) (granted_leader peer (Candidate granters) r) ∙ h.is (ap seeks_or_leads e);
       }
   granted_mine peer (Leader lead) r e h = h
 
@@ -216,7 +216,7 @@ module _ (own : ℕ) where
   finished_mine before r h true t =
       let on = finished_adds own before r in
       record {
-        is = λ u. ap (λ (v : Vote ℕ). v.leader_id.node_id) on.vote ∙ h.is (leading_seeks r.state.role t)
+        is = λ u. ap (λ (v : Vote ℕ). v.leader_id.node_id) on.vote ∙ h.is (leading_seeks r.state.role t);
       }
     where
       leading_seeks : (role : Role) → is_leader role ≡ true → seeks_or_leads role ≡ true

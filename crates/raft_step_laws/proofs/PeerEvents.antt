@@ -1,42 +1,43 @@
 -- What comes to a leader, what it makes of the leader's peers, and what the whole step does.
-use Rattle.std.specs.Prelude.{◌≡◌, ◌⊎◌, ℕ, ◌+◌, ◌==◌, ◌&&◌, cond, is_some, Bool, true, false, List, [], ◌∷◌, ◌++◌, Option, Some, None, refl}
-use Rattle.std.proofs.Common.{inl, inr, sym, ap, ap₂, ◌∙◌, subst, arith, eqb-true, eq-eqb, ⊎_elim}
+use Rattle.std.specs.Prelude.{◌≡◌, ℕ, ◌+◌, ◌==◌, ◌&&◌, cond, is_some, Bool, true, false, [], ◌∷◌, ◌++◌, Option, Some, None, refl}
+use Rattle.std.proofs.Common.{sym, ap, ap₂, ◌∙◌, subst, eqb-true}
 use Rattle.std.proofs.lemmas.Bool.{and_parts, cond_both, cond-true, cond-false}
 use Rattle.raft_values.specs.declared.vote.LeaderId.{LeaderId}
 use Rattle.raft_values.specs.declared.vote.Vote.{Vote}
 use Rattle.raft_values.specs.declared.log_id.LogId.{LogId}
 use Rattle.raft_values.specs.LogId.{log_id_of}
 use Rattle.raft_state.specs.declared.entry.EntryPayload.TheVariants.{Membership as Members}
-use Rattle.raft_group_step.specs.Values.{ChangeMembers, LoggedMembership, entry_of, has_id, vote_eq, vote_lt}
-use Rattle.raft_group_step.specs.StoredGroup.{Snapshot, PutEntries, StoredGroup, membership_in_force, snapshot_last}
+use Rattle.raft_group_step.specs.Values.{ChangeMembers, LoggedMembership, entry_of, vote_eq, vote_lt}
+use Rattle.raft_group_step.specs.StoredGroup.{Snapshot, PutEntries, membership_in_force, snapshot_last}
 use Rattle.raft_group_step.specs.Message.{Message, MessageBody, VoteRequest, VoteReply, AppendRequest, AppendReply, SnapshotRequest, SnapshotReply, AppendFields, ReplyFields, ReplyResult, Success, Conflict, HigherVote}
 use Rattle.raft_group_step.specs.Peer.{Outstanding, PeerState, is_answer_to, new_peer, peer_or, with_peer}
 use Rattle.raft_group_step.specs.GroupState.{GroupState, Lead, Role, Follower, Candidate, Leader, is_leader}
 use Rattle.raft_group_step.specs.declared.group_call.GroupCall.TheVariants.{Initialize, Elect, Propose, ChangeMembership, Heartbeat, Lost, TriggerSnapshot, TriggerPurge}
 use Rattle.raft_group_step.specs.GroupEvent.{GroupCall, GroupEvent, AddGroup, Call, Receive, Open}
-use Rattle.raft_group_step.specs.StepResult.{RefusalReason, StepResult, is_within, renew, step_down, store, store_vote, take_over}
-use Rattle.raft_group_step.specs.Lead.{commit_as_leader, other_ids, peer_of, purge_as_wished, with_grant}
+use Rattle.raft_group_step.specs.StepResult.{StepResult, is_within, renew, step_down, store, store_vote, take_over}
+use Rattle.raft_group_step.specs.Lead.{peer_of, with_grant}
 use Rattle.raft_group_step.specs.Elect.{elect_step}
-use Rattle.raft_group_step.specs.Frames.{has_grown, lacks_entries, with_frames, with_peer_state}
+use Rattle.raft_group_step.specs.Frames.{with_peer_state}
 use Rattle.raft_group_step.specs.VoteRequest.{judged, may_grant}
 use Rattle.raft_group_step.specs.VoteReply.{counted, take_over_greater}
 use Rattle.raft_group_step.specs.AppendRequest.{heard, is_held, joined}
-use Rattle.raft_group_step.specs.SnapshotRequest.{install_unless, offered}
-use Rattle.raft_group_step.specs.Reply.{after_answer, answered, ended, reply_step, with_higher_vote}
+use Rattle.raft_group_step.specs.SnapshotRequest.{offered}
+use Rattle.raft_group_step.specs.Reply.{after_answer, answered, ended, with_higher_vote}
 use Rattle.raft_group_step.specs.MembershipStep.{append_changed}
 use Rattle.raft_group_step.specs.Lost.{lost_as}
 use Rattle.raft_group_step.specs.Opening.{opening_step}
 use Rattle.raft_group_step.specs.Refusal.{do_follow, has_known_snapshot, is_of_leader, is_sound, keep_voters, refusal_of}
-use Rattle.raft_group_step.specs.GroupStep.{begun, call_step, event_step, finished, group_step, message_step, step_unless}
+use Rattle.raft_group_step.specs.GroupStep.{begun, call_step, event_step, finished, message_step, step_unless}
 use Rattle.raft_laws.proofs.StepMessages.{message_passed, of_leader}
 use Rattle.raft_laws.proofs.StepWords.{either, either_by}
 use Rattle.raft_laws.proofs.TrackReplies.{peer_of_is}
 use Rattle.raft_laws.proofs.VoteRanks.{same_vote}
 use Rattle.raft_laws.proofs.WorldLimits.{vote_itself}
+use Rattle.raft_laws.proofs.VoteOrders.{differ_flags as never}
 use Rattle.raft_step_laws.specs.PeerStates.{LeadsBeginAnew, PeersReplay, keeps_its_lead, peer_after_event, peer_after_message, peer_after_reply, peer_after_sending}
 use Rattle.raft_step_laws.specs.Elections.{stands_in_call}
 use Rattle.raft_step_laws.specs.Tokens.{HasItsOwnVote, leads_on, seeks_or_leads}
-use Rattle.raft_step_laws.proofs.Electing.{Opened, Standing, beat_role, begins, changed_role, event_stands, follows, idles, joined_role, lacks, leads_yet, never, opened_role, snapshot_role, stands_on, unless_role, waits, wins, within_role}
+use Rattle.raft_step_laws.proofs.Electing.{Opened, Standing, beat_role, begins, changed_role, event_stands, follows, idles, joined_role, lacks, leads_yet, opened_role, snapshot_role, stands_on, unless_role, waits, wins, within_role}
 use Rattle.raft_step_laws.proofs.LeaderSends.{Sends, finished_sends, same_lead, settled, settled_messages}
 use Rattle.raft_step_laws.proofs.PeerLists.{cond_same, sending_joins, set_found, set_others, unnumbered_all}
 use Rattle.raft_step_laws.proofs.Sending.{finished_adds}

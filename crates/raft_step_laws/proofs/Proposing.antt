@@ -1,5 +1,5 @@
 -- A leader takes each command within the limits, and stores it at the next place.
-use Rattle.std.specs.Prelude.{◌≡◌, ℕ, ◌+◌, ◌-◌, ◌<◌, ◌^◌, nat_le, nat_lt, Bool, true, List, [], ◌∷◌, ◌++◌, Option, Some, None, All, length, map, slice_get, take, refl}
+use Rattle.std.specs.Prelude.{◌≡◌, ℕ, ◌+◌, ◌-◌, ◌<◌, ◌^◌, nat_le, nat_lt, Bool, true, List, [], ◌∷◌, ◌++◌, Option, Some, None, All, length, map, slice_get, refl}
 use Rattle.std.proofs.Common.{sym, ap, ◌∙◌, subst, arith, le-leb, lt-ltb, le-ltb}
 use Rattle.std.proofs.lemmas.Bool.{cond-false}
 use Rattle.std.proofs.lemmas.List.{take_all}
@@ -9,11 +9,11 @@ use Rattle.raft_state.specs.declared.entry.EntryPayload.TheVariants.{Normal}
 use Rattle.raft_group_step.specs.Values.{Entry}
 use Rattle.raft_group_step.specs.StoredGroup.{StoredGroup, PutEntries, after_storing, end_place, entry_at, first_place, log_below}
 use Rattle.raft_group_step.specs.Peer.{PeerState}
-use Rattle.raft_group_step.specs.GroupState.{GroupState, Lead, Leader, Role, is_leader}
+use Rattle.raft_group_step.specs.GroupState.{GroupState, Lead, Leader, is_leader}
 use Rattle.raft_group_step.specs.declared.group_call.GroupCall.TheVariants.{Propose}
 use Rattle.raft_group_step.specs.GroupEvent.{Call}
 use Rattle.raft_group_step.specs.StepResult.{CommandTooLong, NotLeader, NumberAtEnd, RefusalReason, UnknownGroup}
-use Rattle.raft_group_step.specs.Refusal.{are_in_range, command_limit, first_of_reasons, known_leader, next_ids, number_limit, reasons_of, refusal_of, unless}
+use Rattle.raft_group_step.specs.Refusal.{are_in_range, command_limit, first_of_reasons, known_leader, next_ids, number_limit, reasons_of, unless}
 use Rattle.raft_group_step.specs.GroupStep.{event_step, step_unless}
 use Rattle.raft_laws.specs.Origins.{next_entry}
 use Rattle.raft_laws.proofs.Shapes.{slice_after}

@@ -1,10 +1,9 @@
 -- A leader serves its peers.
-use Rattle.std.specs.Prelude.{◌≡◌, ◌⊎◌, ℕ, ◌==◌, ◌&&◌, cond, Bool, true, false, List, Option, Some, None, refl}
+use Rattle.std.specs.Prelude.{◌≡◌, ◌⊎◌, ℕ, ◌==◌, ◌&&◌, Bool, true, false, Some, None, refl}
 use Rattle.std.proofs.Common.{inl, inr, sym, ap, ◌∙◌, subst, ⊎_elim}
 use Rattle.std.proofs.lemmas.Bool.{cond_both}
 use Rattle.raft_values.specs.declared.vote.Vote.{Vote}
 use Rattle.raft_group_step.specs.Values.{has_id, vote_eq}
-use Rattle.raft_group_step.specs.StoredGroup.{StoredGroup}
 use Rattle.raft_group_step.specs.Message.{MessageBody, VoteRequest, VoteReply, AppendRequest, AppendReply, SnapshotRequest, SnapshotReply, ReplyFields, ReplyResult, Success, Conflict, HigherVote}
 use Rattle.raft_group_step.specs.Peer.{Outstanding, PeerState, is_answer_to, new_peer}
 use Rattle.raft_group_step.specs.GroupState.{GroupState, Lead, Leader, is_leader}
@@ -17,11 +16,11 @@ use Rattle.raft_group_step.specs.Refusal.{refusal_of}
 use Rattle.raft_group_step.specs.GroupStep.{event_step, finished, group_step, step_unless}
 use Rattle.raft_laws.proofs.StepCalls.{leads_on as leading}
 use Rattle.raft_laws.proofs.TrackReplies.{peer_of_is}
-use Rattle.raft_step_laws.specs.PeerStates.{keeps_its_lead, loses, peer_after_event, peer_after_message, peer_after_reply, peer_after_sending}
-use Rattle.raft_step_laws.specs.Serving.{IsServed, IsSent, PeersAreServed, waited_for}
+use Rattle.raft_laws.proofs.VoteOrders.{differ_flags as never}
+use Rattle.raft_step_laws.specs.PeerStates.{keeps_its_lead, loses, peer_after_event, peer_after_message, peer_after_reply}
+use Rattle.raft_step_laws.specs.Serving.{IsSent, PeersAreServed, waited_for}
 use Rattle.raft_step_laws.specs.Tokens.{HasItsOwnVote}
-use Rattle.raft_step_laws.proofs.Electing.{never}
-use Rattle.raft_step_laws.proofs.LeaderSends.{HasRequest, ServedAt, finished_sends, finished_serves, settled}
+use Rattle.raft_step_laws.proofs.LeaderSends.{HasRequest, finished_sends, finished_serves, settled}
 use Rattle.raft_step_laws.proofs.PeerEvents.{keeps_none, leads_begin_anew, peers_replay}
 use Rattle.raft_step_laws.proofs.PeerLists.{outstanding_since}
 use Rattle.raft_step_laws.proofs.Sending.{finished_adds}

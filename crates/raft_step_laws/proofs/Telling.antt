@@ -9,25 +9,24 @@ use Rattle.raft_values.specs.declared.vote.Vote.{Vote}
 use Rattle.raft_values.specs.declared.vote.LeaderId.{LeaderId}
 use Rattle.raft_values.specs.declared.log_id.LogId.{LogId}
 use Rattle.raft_values.specs.LogId.{log_id_of}
-use Rattle.raft_values.specs.Vote.{vote_of}
 use Rattle.raft_quorums.specs.Quorum.{is_quorum}
 use Rattle.raft_state.specs.declared.entry.EntryPayload.TheVariants.{Blank, Membership as Members}
-use Rattle.raft_group_step.specs.Values.{ChangeMembers, LoggedMembership, Membership, entry_of, has_id, is_written_by, vote_eq, vote_lt}
+use Rattle.raft_group_step.specs.Values.{ChangeMembers, LoggedMembership, entry_of, has_id, is_written_by, vote_eq, vote_lt}
 use Rattle.raft_group_step.specs.StoredGroup.{Snapshot, PutEntries, entry_at, first_place, id_of, membership_in_force, snapshot_last}
 use Rattle.raft_group_step.specs.Message.{Message, MessageBody, VoteRequest, VoteReply, AppendRequest, AppendReply, SnapshotRequest, SnapshotReply, AppendFields, ReplyFields, ReplyResult, Success, Conflict, HigherVote}
 use Rattle.raft_group_step.specs.Peer.{is_answer_to, is_kept_for_peers}
-use Rattle.raft_group_step.specs.GroupState.{GroupState, Lead, Role, Follower, Candidate, Leader, Untold, is_leader, state_of}
+use Rattle.raft_group_step.specs.GroupState.{GroupState, Lead, Role, Follower, Candidate, Leader, Untold, is_leader}
 use Rattle.raft_group_step.specs.declared.group_call.GroupCall.TheVariants.{Initialize, Elect, Propose, ChangeMembership, Heartbeat, Lost, TriggerSnapshot, TriggerPurge}
 use Rattle.raft_group_step.specs.GroupEvent.{GroupCall, GroupEvent, AddGroup, Call, Receive, Open}
-use Rattle.raft_group_step.specs.StepResult.{InProgress, NotLeader, RefusalReason, StepResult, append, in_role, is_within, later_place, renew, step_down, store, store_vote, take_over, tokens_of, unchanged}
-use Rattle.raft_group_step.specs.Lead.{begin_lead, commit_as_leader, committed_vote, configs_in_force, last_place, lead_if, may_be_committed, new_lead, other_ids, peer_of, purge_as_wished, purge_up_to, remove_up_to, with_grant, with_wish}
+use Rattle.raft_group_step.specs.StepResult.{InProgress, NotLeader, RefusalReason, StepResult, append, in_role, is_within, later_place, renew, step_down, store, store_vote, take_over, tokens_of}
+use Rattle.raft_group_step.specs.Lead.{begin_lead, commit_as_leader, committed_vote, configs_in_force, lead_if, new_lead, other_ids, peer_of, purge_as_wished, purge_up_to, remove_up_to, with_grant, with_wish}
 use Rattle.raft_group_step.specs.Frames.{with_frames}
-use Rattle.raft_group_step.specs.Elect.{ask, elect_step, other_voters, stand}
+use Rattle.raft_group_step.specs.Elect.{elect_step, other_voters, stand}
 use Rattle.raft_group_step.specs.VoteRequest.{judged, may_grant}
 use Rattle.raft_group_step.specs.VoteReply.{counted, take_over_greater}
 use Rattle.raft_group_step.specs.AppendRequest.{heard, is_held, joined}
 use Rattle.raft_group_step.specs.SnapshotRequest.{install_unless, offered}
-use Rattle.raft_group_step.specs.Reply.{answered, reply_step, with_higher_vote}
+use Rattle.raft_group_step.specs.Reply.{answered, with_higher_vote}
 use Rattle.raft_group_step.specs.MembershipStep.{append_changed}
 use Rattle.raft_group_step.specs.Heartbeat.{beat_as, send_notices}
 use Rattle.raft_group_step.specs.Lost.{lost_as}
@@ -35,15 +34,16 @@ use Rattle.raft_group_step.specs.SnapshotTrigger.{snapshot_of_applied, store_sna
 use Rattle.raft_group_step.specs.PurgeTrigger.{purge_as, purge_within}
 use Rattle.raft_group_step.specs.Refusal.{do_follow, has_known_snapshot, is_of_leader, is_settled_membership, is_sound, keep_voters, known_leader, reasons_of, reasons_of_call, refusal_of}
 use Rattle.raft_group_step.specs.GroupStep.{begun, call_step, event_step, finished, group_step, message_step, step_unless}
-use Rattle.raft_laws.proofs.StepCalls.{NoReason, leads_on as leading, no_reason, unless_none}
+use Rattle.raft_laws.proofs.StepCalls.{NoReason, no_reason, unless_none}
 use Rattle.raft_laws.proofs.StepMessages.{message_passed, of_leader}
 use Rattle.raft_laws.proofs.StepTokens.{frames_same}
 use Rattle.raft_laws.proofs.StepWords.{either, either_by}
 use Rattle.raft_laws.proofs.TrackElections.{ask_state}
 use Rattle.raft_laws.proofs.VoteRanks.{same_vote}
 use Rattle.raft_laws.proofs.WorldLimits.{vote_itself}
+use Rattle.raft_laws.proofs.VoteOrders.{differ_flags as never}
 use Rattle.raft_step_laws.specs.Tokens.{HasItsOwnVote, OpensWithNone, TokensGo, TokensOfSteps, TokensWaitLeading, UntoldIsAbove, WaitsAbove, WaitsLeading, brought, is_due, leads_on, seeks_or_leads}
-use Rattle.raft_step_laws.proofs.Electing.{and_false, joined_role, never, unless_role}
+use Rattle.raft_step_laws.proofs.Electing.{and_false, joined_role, unless_role}
 use Rattle.raft_step_laws.proofs.Sending.{finished_adds}
 use Rattle.raft_step_laws.proofs.Untold.{Without, counted_without, down_without, elect_without, finished_without, heard_without, joined_without, judged_without, offered_without, opening_without, reply_without, same_without, unless_without}
 
@@ -391,16 +391,16 @@ module _ (own : ℕ) (s : GroupState) (mine : HasItsOwnVote own s) (waits : Wait
 -- ---- the end of an event
 
 -- a purge tells nothing
-record Untouched (r q : StepResult) : Type 0 where
-  untold : q.state.untold ≡ r.state.untold
-  told : q.told ≡ r.told
-  committed : q.state.committed ≡ r.state.committed
+pub record Untouched (r q : StepResult) : Type 0 where
+  pub untold : q.state.untold ≡ r.state.untold
+  pub told : q.told ≡ r.told
+  pub committed : q.state.committed ≡ r.state.committed
 
 removed_untouched : (id : Option (LogId ℕ)) (r : StepResult) → Untouched r (remove_up_to id r)
 removed_untouched None r = record { untold = refl; told = refl; committed = refl }
 removed_untouched (Some id) r = record { untold = refl; told = refl; committed = refl }
 
-purged_untouched : (role : Role) (wish : Option ℕ) (r : StepResult) → Untouched r (purge_as_wished role wish r)
+pub purged_untouched : (role : Role) (wish : Option ℕ) (r : StepResult) → Untouched r (purge_as_wished role wish r)
 purged_untouched Follower wish r = record { untold = refl; told = refl; committed = refl }
 purged_untouched (Candidate granters) wish r = record { untold = refl; told = refl; committed = refl }
 purged_untouched (Leader lead) None r = record { untold = refl; told = refl; committed = refl }

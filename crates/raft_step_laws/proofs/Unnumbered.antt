@@ -9,13 +9,13 @@ use Rattle.raft_quorums.specs.Quorum.{is_quorum}
 use Rattle.raft_state.specs.declared.entry.EntryPayload.TheVariants.{Blank, Membership as Members}
 use Rattle.raft_group_step.specs.Values.{ChangeMembers, Entry, LoggedMembership, entry_of, has_id, is_written_by, vote_eq, vote_lt}
 use Rattle.raft_group_step.specs.StoredGroup.{Snapshot, CutFrom, PutEntries, StartAfter, entry_at, first_place, has_id_in_log, id_of, membership_in_force, snapshot_last}
-use Rattle.raft_group_step.specs.Message.{Message, MessageBody, VoteRequest, VoteReply, AppendRequest, AppendReply, SnapshotRequest, SnapshotReply, AppendFields, ReplyFields, ReplyResult, Success, Conflict, HigherVote}
+use Rattle.raft_group_step.specs.Message.{MessageBody, VoteRequest, VoteReply, AppendRequest, AppendReply, SnapshotRequest, SnapshotReply, AppendFields, ReplyFields, ReplyResult, Success, Conflict, HigherVote}
 use Rattle.raft_group_step.specs.Peer.{is_answer_to}
 use Rattle.raft_group_step.specs.GroupState.{GroupState, Lead, Role, Follower, Candidate, Leader, state_of}
 use Rattle.raft_group_step.specs.declared.group_call.GroupCall.TheVariants.{Initialize, Elect, Propose, ChangeMembership, Heartbeat, Lost, TriggerSnapshot, TriggerPurge}
 use Rattle.raft_group_step.specs.GroupEvent.{GroupCall, GroupEvent, AddGroup, Call, Receive, Open}
 use Rattle.raft_group_step.specs.StepResult.{StepResult, append, apply_up_to, in_role, is_within, later_place, renew, send, step_down, store, store_vote, take_over, unchanged}
-use Rattle.raft_group_step.specs.Lead.{begin_lead, committed_vote, configs_in_force, lead_if, new_lead, other_ids, peer_of, remove_up_to, with_grant, with_wish}
+use Rattle.raft_group_step.specs.Lead.{committed_vote, configs_in_force, lead_if, new_lead, other_ids, peer_of, remove_up_to, with_grant, with_wish}
 use Rattle.raft_group_step.specs.Elect.{ask, elect_step, other_voters, stand}
 use Rattle.raft_group_step.specs.VoteRequest.{judged, may_grant}
 use Rattle.raft_group_step.specs.VoteReply.{counted, take_over_greater}
@@ -27,7 +27,7 @@ use Rattle.raft_group_step.specs.Heartbeat.{beat_as, send_notices}
 use Rattle.raft_group_step.specs.Lost.{lost_as}
 use Rattle.raft_group_step.specs.SnapshotTrigger.{snapshot_of_applied, store_snapshot_at}
 use Rattle.raft_group_step.specs.PurgeTrigger.{purge_as, purge_within}
-use Rattle.raft_group_step.specs.Opening.{drop_stale_log, is_joined_to, opening_step, resume_lead}
+use Rattle.raft_group_step.specs.Opening.{drop_stale_log, is_joined_to, opening_step}
 use Rattle.raft_group_step.specs.GroupStep.{begun, call_step, event_step, message_step}
 use Rattle.raft_laws.proofs.StepWords.{either}
 use Rattle.raft_step_laws.specs.Serving.{request_number}
@@ -43,7 +43,7 @@ same_plain r q e h = record { messages = subst AllUnnumbered (sym e) h.messages 
 send_plain : (own peer : ℕ) (b : MessageBody) (r : StepResult) → request_number b ≡ None → Plain r → Plain (send own peer b r)
 send_plain own peer b r e h =
     record {
-      messages = unnumbered_more r.messages (record { sender = own; addressee = peer; body = b } ∷ []) h.messages (e, tt)
+      messages = unnumbered_more r.messages (record { sender = own; addressee = peer; body = b } ∷ []) h.messages (e, tt);
     }
 
 -- ---- votes and elections

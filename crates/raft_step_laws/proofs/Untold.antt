@@ -1,32 +1,26 @@
 -- A node without tokens: each part of a step leaves it so.
-use Rattle.std.specs.Prelude.{◌≡◌, ℕ, ◌==◌, ◌&&◌, cond, not, is_some, nat_lt, Bool, true, false, List, [], ◌∷◌, ◌++◌, filter, Option, Some, None, refl}
-use Rattle.std.proofs.Common.{sym, ap, ap₂, ◌∙◌, append-nil}
+use Rattle.std.specs.Prelude.{◌≡◌, ℕ, ◌==◌, ◌&&◌, cond, not, is_some, Bool, true, false, List, [], ◌∷◌, ◌++◌, filter, Option, Some, None, refl}
+use Rattle.std.proofs.Common.{ap, ap₂, ◌∙◌, append-nil}
 use Rattle.raft_values.specs.declared.vote.Vote.{Vote}
 use Rattle.raft_values.specs.declared.log_id.LogId.{LogId}
-use Rattle.raft_values.specs.LogId.{log_id_of, next_place, place_of}
-use Rattle.raft_values.specs.Vote.{vote_of}
+use Rattle.raft_values.specs.LogId.{place_of}
 use Rattle.raft_quorums.specs.Quorum.{is_quorum}
-use Rattle.raft_state.specs.declared.entry.EntryPayload.TheVariants.{Blank, Membership as Members}
+use Rattle.raft_state.specs.declared.entry.EntryPayload.TheVariants.{Blank}
 use Rattle.std.specs.List.{list_any}
-use Rattle.raft_group_step.specs.Values.{Entry, Membership, entry_of, has_id, is_written_by, vote_eq, vote_lt}
-use Rattle.raft_group_step.specs.StoredGroup.{Snapshot, CutFrom, PutEntries, RemoveUpTo, SetSnapshot, StartAfter, entry_at, first_place, has_id_in_log, id_of, snapshot_last}
-use Rattle.raft_group_step.specs.Message.{MessageBody, AppendFields, ReplyFields, ReplyResult, Success, Conflict, HigherVote}
+use Rattle.raft_group_step.specs.Values.{Entry, has_id, is_written_by, vote_eq, vote_lt}
+use Rattle.raft_group_step.specs.StoredGroup.{Snapshot, CutFrom, RemoveUpTo, SetSnapshot, StartAfter, entry_at, has_id_in_log, id_of, snapshot_last}
+use Rattle.raft_group_step.specs.Message.{AppendFields, ReplyFields, ReplyResult, Success, Conflict, HigherVote}
 use Rattle.raft_group_step.specs.Peer.{is_answer_to, is_kept_for_peers}
-use Rattle.raft_group_step.specs.GroupState.{GroupState, Lead, Role, Follower, Candidate, Leader, Untold, state_of}
-use Rattle.raft_group_step.specs.StepResult.{StepResult, append, apply_up_to, in_role, is_within, later_place, renew, send, step_down, store, store_vote, take_over, tokens_of, unchanged}
-use Rattle.raft_group_step.specs.Lead.{begin_lead, commit_as_leader, committed_vote, configs_in_force, lead_if, new_lead, other_ids, peer_of, purge_as_wished, purge_up_to, remove_up_to, with_grant, with_wish}
-use Rattle.raft_group_step.specs.Frames.{with_frames}
+use Rattle.raft_group_step.specs.GroupState.{GroupState, Role, Follower, Candidate, Leader, Untold, state_of}
+use Rattle.raft_group_step.specs.StepResult.{StepResult, append, apply_up_to, in_role, is_within, later_place, renew, step_down, store, store_vote, take_over, tokens_of, unchanged}
+use Rattle.raft_group_step.specs.Lead.{begin_lead, commit_as_leader, committed_vote, configs_in_force, lead_if, new_lead, peer_of, purge_as_wished, purge_up_to, remove_up_to, with_grant, with_wish}
 use Rattle.raft_group_step.specs.Elect.{ask, elect_step, other_voters, stand}
 use Rattle.raft_group_step.specs.VoteRequest.{judged}
 use Rattle.raft_group_step.specs.VoteReply.{counted, take_over_greater}
 use Rattle.raft_group_step.specs.AppendRequest.{above_committed, cut_at, cut_from, heard, is_held, joined, missing_entries, put_entries}
 use Rattle.raft_group_step.specs.SnapshotRequest.{cut_other, install_unless, offered, place_above}
 use Rattle.raft_group_step.specs.Reply.{answered, reply_step, with_higher_vote}
-use Rattle.raft_group_step.specs.Heartbeat.{beat_as, send_notices}
-use Rattle.raft_group_step.specs.Lost.{lost_as}
-use Rattle.raft_group_step.specs.SnapshotTrigger.{snapshot_of_applied, store_snapshot_at}
-use Rattle.raft_group_step.specs.PurgeTrigger.{purge_as, purge_within}
-use Rattle.raft_group_step.specs.Opening.{drop_stale_log, is_joined_to, opening_step, resume_lead}
+use Rattle.raft_group_step.specs.Opening.{drop_stale_log, is_joined_to, opening_step}
 use Rattle.raft_group_step.specs.GroupStep.{finished}
 use Rattle.raft_laws.proofs.StepWords.{either}
 use Rattle.raft_laws.proofs.StepTokens.{frames_same}

@@ -3,8 +3,8 @@ use Rattle.std.specs.Prelude.{ℕ, Bool, true, false, List, [], ◌∷◌, None}
 use Rattle.raft_values.specs.declared.vote.Vote.{Vote}
 use Rattle.raft_values.specs.Vote.{vote_of}
 use Rattle.raft_group_step.specs.Values.{Membership}
-use Rattle.raft_group_step.specs.Message.{MessageBody, VoteReply}
-use Rattle.raft_group_step.specs.GroupState.{Candidate, GroupState, Role, is_leader}
+use Rattle.raft_group_step.specs.Message.{VoteReply}
+use Rattle.raft_group_step.specs.GroupState.{Candidate, GroupState, is_leader}
 use Rattle.raft_group_step.specs.GroupEvent.{GroupEvent, Receive}
 use Rattle.raft_group_step.specs.GroupStep.{group_step}
 use Rattle.raft_group_step.specs.StepExample.{leads_three}

@@ -8,3 +8,8 @@ pub mod Tokens
 pub mod TokenRows
 pub mod PeerStates
 pub mod Serving
+pub mod PeerRows
+pub mod Fitting
+pub mod Commits
+pub mod CommitRows
+pub mod FittingRows

@@ -5,7 +5,7 @@ use Rattle.raft_values.specs.declared.log_id.LogId.{LogId}
 use Rattle.raft_group_step.specs.StoredGroup.{StoredGroup, last_id}
 use Rattle.raft_group_step.specs.Message.{Message, MessageBody, VoteRequest, VoteReply, AppendRequest, AppendReply, SnapshotRequest, SnapshotReply, ReplyFields, RequestId, Numbered, last_sent}
 use Rattle.raft_group_step.specs.GroupState.{GroupState}
-use Rattle.raft_group_step.specs.GroupEvent.{GroupEvent, Receive}
+use Rattle.raft_group_step.specs.GroupEvent.{Receive}
 use Rattle.raft_group_step.specs.StepResult.{StepResult}
 use Rattle.raft_group_step.specs.Refusal.{refusal_of}
 use Rattle.raft_group_step.specs.GroupStep.{group_step}

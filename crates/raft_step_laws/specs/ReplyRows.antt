@@ -1,11 +1,11 @@
 -- Requests and replies of worked rows.
-use Rattle.std.specs.Prelude.{ℕ, Bool, true, false, List, [], ◌∷◌, Option, Some, None, map}
+use Rattle.std.specs.Prelude.{ℕ, Bool, false, List, [], ◌∷◌, Option, Some, None, map}
 use Rattle.raft_values.specs.declared.vote.Vote.{Vote}
 use Rattle.raft_values.specs.Vote.{vote_of}
 use Rattle.raft_values.specs.declared.log_id.LogId.{LogId}
 use Rattle.raft_values.specs.LogId.{log_id_of}
 use Rattle.raft_group_step.specs.StoredGroup.{StoredGroup}
-use Rattle.raft_group_step.specs.Message.{Message, MessageBody, AppendReply, VoteReply, VoteRequest, ReplyFields, Conflict, RequestId, Numbered}
+use Rattle.raft_group_step.specs.Message.{Message, MessageBody, VoteReply, VoteRequest, ReplyFields, Conflict, RequestId}
 use Rattle.raft_group_step.specs.GroupEvent.{Receive}
 use Rattle.raft_group_step.specs.GroupState.{GroupState}
 use Rattle.raft_group_step.specs.StepResult.{StepResult}

@@ -1,5 +1,5 @@
 -- A leader serves its peers.
-use Rattle.std.specs.Prelude.{◌≡◌, ◌⊎◌, ℕ, Bool, true, List, Option, Some, None, Contains}
+use Rattle.std.specs.Prelude.{◌≡◌, ◌⊎◌, ℕ, true, List, Option, Some, None, Contains}
 use Rattle.raft_group_step.specs.Values.{has_id}
 use Rattle.raft_group_step.specs.Message.{Message, MessageBody, VoteRequest, VoteReply, AppendRequest, AppendReply, SnapshotRequest, SnapshotReply, RequestId, HeartBeat, Numbered}
 use Rattle.raft_group_step.specs.Peer.{Outstanding}

@@ -1,7 +1,7 @@
 -- What becomes of tokens in a step.
-use Rattle.std.specs.Prelude.{◌≡◌, ℕ, Bool, true, false, ◌&&◌, not, List, [], ◌∷◌, ◌++◌, filter, None, All}
+use Rattle.std.specs.Prelude.{◌≡◌, ℕ, ◌+◌, ◌<◌, ◌≤◌, Bool, true, false, ◌&&◌, not, List, [], ◌∷◌, ◌++◌, filter, None, All}
 use Rattle.raft_group_step.specs.Values.{vote_eq}
-use Rattle.raft_group_step.specs.StoredGroup.{StoredGroup, end_place}
+use Rattle.raft_group_step.specs.StoredGroup.{end_place}
 use Rattle.raft_group_step.specs.GroupState.{GroupState, Role, Follower, Candidate, Leader, Untold, is_leader}
 use Rattle.raft_group_step.specs.GroupEvent.{GroupEvent, AddGroup, Call, Receive, Open}
 use Rattle.raft_group_step.specs.StepResult.{StepResult, is_within, tokens_of}
@@ -83,3 +83,20 @@ abbrev pub UntoldIsAbove : Type 0
 UntoldIsAbove =
     (own : ℕ) (s : GroupState) (e : GroupEvent) → HasItsOwnVote own s → WaitsLeading s → OpensWithNone s e
     → WaitsAbove s → WaitsAbove (group_step own s e).state
+
+-- the places rise, from this one on
+abbrev pub RiseFrom : ℕ → List Untold → Type 0
+RiseFrom start [] = Unit {0}
+RiseFrom start (x ∷ xs) = (start ≤ x.place) × RiseFrom (x.place + 1) xs
+
+-- tokens wait by rising place, each below the log's end
+pub record WaitsInOrder (s : GroupState) : Type 0 where
+  pub rising : RiseFrom 0 s.untold
+  pub below : All (λ (x : Untold). x.place < end_place s.stored) s.untold
+
+-- then they are told by rising place, and the others wait so
+abbrev pub TokensGoInOrder : Type 0
+TokensGoInOrder =
+    (own : ℕ) (s : GroupState) (e : GroupEvent) → HasItsOwnVote own s → WaitsLeading s → OpensWithNone s e
+    → WaitsInOrder s → refusal_of own s e ≡ None
+    → RiseFrom 0 (group_step own s e).told × RiseFrom 0 (group_step own s e).state.untold

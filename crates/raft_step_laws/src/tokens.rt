@@ -9,14 +9,16 @@ ghost use Rattle.raft_group_step.specs.GroupEvent.{Call, Open};
 ghost use Rattle.raft_group_step.specs.GroupStep.{group_step};
 ghost use Rattle.raft_group_step.specs.StepExample.{follower_of_one};
 ghost use Rattle.raft_step_laws.specs.ElectionRows.{candidate};
-ghost use Rattle.raft_step_laws.specs.Tokens.{HasItsOwnVote, OpensWithNone, TokensGo, TokensOfSteps, TokensWaitLeading, UntoldIsAbove, VotesStayOwn, WaitsAbove, WaitsLeading};
+ghost use Rattle.raft_step_laws.specs.Tokens.{HasItsOwnVote, OpensWithNone, TokensGo, TokensGoInOrder, TokensOfSteps, TokensWaitLeading, UntoldIsAbove, VotesStayOwn, WaitsAbove, WaitsInOrder, WaitsLeading};
 ghost use Rattle.raft_step_laws.specs.TokenRows.{accepts, answering, answers_at, giving_up, hears_of, leader, leader_asking, proposes, sole_leader, waits};
 
 /// Where a leader leads on under its vote, just the tokens whose place is committed are told, in their order, and the others
 /// wait. Else all that waited stay unknown, and none is told or waits. So it is at each state whose leaders and candidates
 /// have their own vote, whose tokens wait at leaders alone, and of an opening that begins with none.
+/// Where they wait by rising place, below the log's end, they are told so, and the others wait so.
 pub fn tokens_are_told_once()
-    ensures { TokensOfSteps }
+    ensures tokens { TokensOfSteps }
+    ensures order { TokensGoInOrder }
 {}
 
 /// What waits, waits at a leader alone, and above all that is committed; and a candidate's and a leader's vote is its own: so
@@ -71,4 +73,8 @@ pub fn states_with_tokens()
     ensures waits_following { WaitsLeading (giving_up [] [] (waits 7 2 ∷ [])).state → ⊥ }
     ensures above { WaitsAbove (answering (Some 2) [] [] (waits 8 3 ∷ [])).state }
     ensures committed { WaitsAbove (answering (Some 2) [] [] (waits 7 2 ∷ [])).state → ⊥ }
+    ensures in_order { WaitsInOrder leader }
+    ensures falling { WaitsInOrder (answering None [] [] (waits 8 3 ∷ waits 7 2 ∷ [])).state → ⊥ }
+    ensures twice { WaitsInOrder (answering None [] [] (waits 7 2 ∷ waits 8 2 ∷ [])).state → ⊥ }
+    ensures behind { WaitsInOrder (answering None [] [] (waits 7 4 ∷ [])).state → ⊥ }
 {}

@@ -1,0 +1,108 @@
+-- What a step stores and sends fits the limits, where what the node has and is sent does.
+use Rattle.std.specs.Prelude.{◌≡◌, ℕ, ◌+◌, ◌<◌, ◌≤◌, List, [], ◌∷◌, length, slice_get, Option, Some, IsTrue, All, IfSome}
+use Rattle.raft_values.specs.LogId.{next_place}
+use Rattle.raft_state.specs.declared.entry.EntryPayload.TheVariants.{Blank, Normal, Membership as Members}
+use Rattle.raft_group_step.specs.Values.{Entry, EntryPayload, LoggedMembership, is_within_limits}
+use Rattle.raft_group_step.specs.StoredGroup.{Snapshot, StoredGroup, after_storing, end_place, first_place}
+use Rattle.raft_group_step.specs.StoredGroup.{StoringCommand, MakeGroup, SetVote, PutEntries, CutFrom, RemoveUpTo, SetSnapshot, StartAfter}
+use Rattle.raft_group_step.specs.Message.{AppendFields, Message, MessageBody, VoteRequest, VoteReply, AppendRequest, AppendReply, SnapshotRequest, SnapshotReply}
+use Rattle.raft_group_step.specs.GroupState.{GroupState}
+use Rattle.raft_group_step.specs.GroupEvent.{GroupEvent, AddGroup, Call, Receive, Open}
+use Rattle.raft_group_step.specs.StepResult.{StepResult}
+use Rattle.raft_group_step.specs.SnapshotRequest.{place_above}
+use Rattle.raft_group_step.specs.GroupStep.{group_step}
+use Rattle.raft_laws.specs.Stop.{stopped_after}
+
+-- ---- entries
+
+-- a command has at most 65,536 bytes, and a membership is within its limits
+abbrev pub FitsPayload : EntryPayload → Type 0
+FitsPayload Blank = Unit {0}
+FitsPayload (Normal command) = length command ≤ 65536
+FitsPayload (Members m) = IsTrue (is_within_limits m)
+
+abbrev pub FitEntries : List Entry → Type 0
+FitEntries es = All (λ (e : Entry). FitsPayload e.payload) es
+
+-- the entries have the places from this one on, one after the other
+abbrev pub ArePlacedFrom : ℕ → List Entry → Type 0
+ArePlacedFrom start es = (i : ℕ) (e : Entry) → slice_get es i ≡ Some e → e.log_id.index ≡ start + i
+
+-- ---- what a node has
+
+abbrev pub FitsLogged : Option LoggedMembership → Type 0
+FitsLogged m = IfSome m (λ (x : LoggedMembership). IsTrue (is_within_limits x.membership))
+
+pub record FitsSnapshot (x : Snapshot) : Type 0 where
+  pub entries : FitEntries x.«prefix»
+  pub membership : FitsLogged x.membership
+
+pub record FitsStored (s : StoredGroup) : Type 0 where
+  pub entries : FitEntries s.log
+  pub placed : ArePlacedFrom (first_place s) s.log
+  pub snapshot : IfSome s.snapshot FitsSnapshot
+
+-- what is committed reaches up to the log's front at least, and no further than its end
+pub record IsCommittedWithin (s : GroupState) : Type 0 where
+  pub begins : first_place s.stored ≤ place_above s.committed
+  pub ends : place_above s.committed ≤ end_place s.stored
+
+-- ---- what is sent: at most 64 entries a request, which follow the previous one
+
+pub record FitsRequest (m : AppendFields) : Type 0 where
+  pub count : length m.entries ≤ 64
+  pub entries : FitEntries m.entries
+  pub placed : ArePlacedFrom (next_place m.previous) m.entries
+
+abbrev pub FitsBody : MessageBody → Type 0
+FitsBody (VoteRequest vote last) = Unit {0}
+FitsBody (VoteReply vote granted last) = Unit {0}
+FitsBody (AppendRequest m) = FitsRequest m
+FitsBody (AppendReply m) = Unit {0}
+FitsBody (SnapshotRequest vote id snapshot) = FitsSnapshot snapshot
+FitsBody (SnapshotReply m) = Unit {0}
+
+-- what comes in a message fits
+abbrev pub FitsEvent : GroupEvent → Type 0
+FitsEvent AddGroup = Unit {0}
+FitsEvent (Call call now) = Unit {0}
+FitsEvent (Receive peer m now) = FitsBody m.body
+FitsEvent Open = Unit {0}
+
+-- ---- what is stored
+
+-- at most 64 entries are put, at their places, inside the log or right behind it
+pub record FitsPut (s : StoredGroup) (place : ℕ) (es : List Entry) : Type 0 where
+  pub above : first_place s ≤ place
+  pub within : place ≤ end_place s
+  pub count : length es ≤ 64
+  pub entries : FitEntries es
+  pub placed : ArePlacedFrom place es
+
+abbrev pub FitsStoring : StoredGroup → StoringCommand → Type 0
+FitsStoring s MakeGroup = Unit {0}
+FitsStoring s (SetVote vote) = Unit {0}
+FitsStoring s (PutEntries place es) = FitsPut s place es
+FitsStoring s (CutFrom place) = (first_place s ≤ place) × (place < end_place s)
+FitsStoring s (RemoveUpTo id) = first_place s ≤ id.index + 1
+FitsStoring s (SetSnapshot snapshot) = FitsSnapshot snapshot
+FitsStoring s (StartAfter id) = Unit {0}
+
+-- each of these commands, in their order
+abbrev pub AllFit : StoredGroup → List StoringCommand → Type 0
+AllFit s [] = Unit {0}
+AllFit s (c ∷ cs) = FitsStoring s c × AllFit (after_storing c s) cs
+
+-- ---- the law
+
+-- what a step stores and sends, what is left at its end, and what a stop leaves after any number of its commands
+pub record StepFits (s : GroupState) (r : StepResult) : Type 0 where
+  pub commands : AllFit s.stored r.commands
+  pub messages : All (λ (m : Message). FitsBody m.body) r.messages
+  pub stored : FitsStored r.state.stored
+  pub stops : (k : ℕ) → FitsStored (stopped_after k s.stored r)
+
+abbrev pub StepsFit : Type 0
+StepsFit =
+    (own : ℕ) (s : GroupState) (e : GroupEvent) → FitsStored s.stored → IsCommittedWithin s → FitsEvent e
+    → StepFits s (group_step own s e)
