@@ -23,7 +23,7 @@ use Rattle.raft_laws.specs.BallotWorld.{BallotWorld, BallotEvent}
 use Rattle.raft_laws.specs.declared.world_event.WorldEvent.{WorldEvent}
 use Rattle.raft_laws.specs.GroupWorld.{GroupWorld, NodeState, Absent, Up, Down, Outcome, is_stop, new_world, state_or}
 use Rattle.raft_laws.specs.Stop.{stopped_after}
-use Rattle.raft_laws.specs.NodeEvent.{NodeEvent, Comes, Crashes, Restarts, after_step, state_after}
+use Rattle.raft_laws.specs.NodeEvent.{NodeEvent, Comes, Crashes, Halts, Restarts, after_step, state_after}
 use Rattle.raft_laws.specs.GroupRun.{Scene, Nowhere, At, after_scene, happens, scene_of, stop_at}
 use Rattle.raft_laws.specs.StoringOrder.{StoresInOrder}
 use Rattle.raft_laws.specs.CommitsOwn.{CommittedOwn, LeadersCommitTheirOwn, known_committed}
@@ -271,6 +271,7 @@ module _ (m : Membership) (some : 0 < length m.configs) (own : ℕ) (before : Li
         let r = group_step own old e in
         from_step (place_above old.committed) r (after_up stop old s r is) (step_grows fits.0 old fits.1 e may) (grown_above old.committed s.committed grown)
     node_grows Crashes stop (Up old) fits may is grown = absurd (let f : Down old.stored ≡ Up s = is in cc)
+    node_grows Halts stop (Up old) fits may is grown = absurd (let f : Down old.stored ≡ Up s = is in cc)
     node_grows Restarts stop (Up old) fits may is grown =
         let same : old ≡ s = (let f : Up old ≡ Up s = is in cc) in
         let e = ap (λ (x : GroupState). place_above x.committed) same in
@@ -278,6 +279,7 @@ module _ (m : Membership) (some : 0 < length m.configs) (own : ℕ) (before : Li
         absurd (omega arith)
     node_grows (Comes e) stop (Down stored) fits may is grown = absurd (let f : Down stored ≡ Up s = is in cc)
     node_grows Crashes stop (Down stored) fits may is grown = absurd (let f : Down stored ≡ Up s = is in cc)
+    node_grows Halts stop (Down stored) fits may is grown = absurd (let f : Down stored ≡ Up s = is in cc)
     node_grows Restarts stop (Down stored) fits may is grown =
         let r = group_step own (state_of stored) Open in
         let known = place_of (snapshot_last stored) in

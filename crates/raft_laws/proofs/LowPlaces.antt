@@ -8,7 +8,7 @@ use Rattle.raft_group_step.specs.GroupEvent.{GroupEvent, AddGroup, Call, Receive
 use Rattle.raft_group_step.specs.GroupStep.{group_step}
 use Rattle.raft_laws.specs.declared.world_event.WorldEvent.{WorldEvent}
 use Rattle.raft_laws.specs.GroupWorld.{GroupWorld, NodeState, Absent, Up, Down, Outcome, Recorded, is_stop, new_world, state_or}
-use Rattle.raft_laws.specs.NodeEvent.{NodeEvent, Comes, Crashes, Restarts, after_step, state_after}
+use Rattle.raft_laws.specs.NodeEvent.{NodeEvent, Comes, Crashes, Halts, Restarts, after_step, state_after}
 use Rattle.raft_laws.specs.GroupRun.{Scene, Nowhere, At, Replays, after_scene, happens, scene_of, stop_at}
 use Rattle.raft_laws.specs.OneList.{AreNodeIds}
 use Rattle.raft_laws.specs.VotesRise.{stored_of}
@@ -54,9 +54,11 @@ event_low : (n : ℕ) (e : NodeEvent) (stop : Option ℕ) (x : NodeState) → No
 event_low n e stop Absent h begins = tt
 event_low n (Comes e) stop (Up s) h begins = after_low n s e stop h (may_begin s e begins)
 event_low n Crashes stop (Up s) h begins = h
+event_low n Halts stop (Up s) h begins = h
 event_low n Restarts stop (Up s) h begins = h
 event_low n (Comes e) stop (Down stored) h begins = h
 event_low n Crashes stop (Down stored) h begins = h
+event_low n Halts stop (Down stored) h begins = h
 event_low n Restarts stop (Down stored) h begins = after_low n (state_of stored) Open stop h tt
 
 -- ---- an event of the world

@@ -6,15 +6,19 @@ use Rattle.raft_group_step.specs.GroupEvent.{GroupEvent}
 use Rattle.raft_group_step.specs.StepResult.{StepResult, RefusalReason}
 use Rattle.raft_laws.specs.declared.world_event.WorldEvent.{WorldEvent}
 use Rattle.raft_laws.specs.GroupWorld.{GroupWorld, NodeState, Absent, Up, Down, Outcome, Done, Refused, Stopped, Skipped, Recorded, is_stop}
-use Rattle.raft_laws.specs.NodeEvent.{NodeEvent, Comes, Crashes, Restarts, outcome_at, outcome_of_end, outcome_of_step}
+use Rattle.raft_laws.specs.NodeEvent.{NodeEvent, Comes, Crashes, Halts, Restarts, outcome_at, outcome_of_end, outcome_of_step, outcome_of_stop}
 use Rattle.raft_laws.specs.GroupRun.{Scene, Nowhere, At, Replays, IsReplayed, group_run, happens, history_of, outcome_in, outcome_of, ran, scene_of, stop_at}
 
-end-is-no-stop : (r : StepResult) (why : Option RefusalReason) → is_stop (outcome_of_end r why) ≡ false
+pub end-is-no-stop : (r : StepResult) (why : Option RefusalReason) → is_stop (outcome_of_end r why) ≡ false
 end-is-no-stop r None = refl
 end-is-no-stop r (Some why) = refl
 
+stop-tells : (s : GroupState) (e : GroupEvent) (r : StepResult) (why : Option RefusalReason) → r.refused ≡ why → outcome_of_stop s e r why ≡ outcome_of_step (is_stop (outcome_of_stop s e r why)) s e r
+stop-tells s e r None is = ap (outcome_of_stop s e r) (sym is)
+stop-tells s e r (Some why) is = ap (outcome_of_end r) (sym is)
+
 step-tells-stop : (stopped : Bool) (s : GroupState) (e : GroupEvent) (r : StepResult) → outcome_of_step stopped s e r ≡ outcome_of_step (is_stop (outcome_of_step stopped s e r)) s e r
-step-tells-stop true s e r = refl
+step-tells-stop true s e r = stop-tells s e r r.refused refl
 step-tells-stop false s e r =
     ap (λ stopped. outcome_of_step stopped s e r) (sym (end-is-no-stop r r.refused))
 
@@ -22,12 +26,15 @@ node-tells-stop : (n : ℕ) (e : NodeEvent) (stopped : Bool) (s : NodeState) →
 node-tells-stop n e stopped Absent = refl
 node-tells-stop n (Comes e) stopped (Up s) = step-tells-stop stopped s e _
 node-tells-stop n Crashes stopped (Up s) = refl
+node-tells-stop n Halts stopped (Up s) = refl
 node-tells-stop n Restarts stopped (Up s) = refl
 node-tells-stop n (Comes e) stopped (Down stored) = refl
 node-tells-stop n Crashes stopped (Down stored) = refl
+node-tells-stop n Halts stopped (Down stored) = refl
 node-tells-stop n Restarts stopped (Down stored) = step-tells-stop stopped _ _ _
 
-scene-tells-stop : (w : GroupWorld) (stopped : Bool) (scene : Scene) → outcome_in w stopped scene ≡ outcome_in w (is_stop (outcome_in w stopped scene)) scene
+-- whether an outcome is a stop says how it came about
+pub scene-tells-stop : (w : GroupWorld) (stopped : Bool) (scene : Scene) → outcome_in w stopped scene ≡ outcome_in w (is_stop (outcome_in w stopped scene)) scene
 scene-tells-stop w stopped Nowhere = refl
 scene-tells-stop w stopped (At n e) = node-tells-stop n e stopped (w.nodes n)
 

@@ -32,7 +32,7 @@ use Rattle.raft_group_step.specs.Refusal.{refusal_of}
 use Rattle.raft_group_step.specs.GroupStep.{begun, call_step, event_step, finished, group_step, message_step, step_unless}
 use Rattle.raft_laws.specs.declared.world_event.WorldEvent.{WorldEvent}
 use Rattle.raft_laws.specs.GroupWorld.{GroupWorld, NodeState, Absent, Up, Down, Outcome, Recorded, is_stop, new_world, state_or}
-use Rattle.raft_laws.specs.NodeEvent.{NodeEvent, Comes, Crashes, Restarts, after_step, outcome_at, outcome_of_end, state_after}
+use Rattle.raft_laws.specs.NodeEvent.{NodeEvent, Comes, Crashes, Halts, Restarts, after_step, outcome_at, outcome_of_end, outcome_of_stop, state_after}
 use Rattle.raft_laws.specs.GroupRun.{Scene, Nowhere, At, Replays, after_scene, happens, outcome_in, scene_of, sent_in, stop_at}
 use Rattle.raft_laws.specs.VotesRise.{SentVoteKept, SentVotesStay, own_vote, stored_of}
 use Rattle.raft_laws.proofs.BallotSafe.{Among, among_at}
@@ -346,16 +346,24 @@ step_sends n k s e m None a =
     let told = tells_so n r.state.stored.vote r.messages m (step-tells n s e).holds a in
     record { sender = told.0; stored = r.state.stored; is_stored = refl; kept = told.1 }
 
+-- a step that is to stop sends nothing
+stop_sends : (n k : ℕ) (s : GroupState) (e : GroupEvent) (m : Message) (why : Option RefusalReason) → let o = outcome_of_stop s e (group_step n s e) why in
+    Among m (sent_in o) → Sent n (after_step (stop_at (is_stop o) k) s (group_step n s e)) m
+stop_sends n k s e m (Some why) a = absurd a
+stop_sends n k s e m None a = absurd a
+
 event_sends : (n : ℕ) (e : NodeEvent) (b : Bool) (k : ℕ) (x : NodeState) (m : Message) → let o = outcome_at n e b x in
     Among m (sent_in o) → Sent n (state_after n e (stop_at (is_stop o) k) x) m
 event_sends n e b k Absent m a = absurd a
-event_sends n (Comes e) true k (Up s) m a = absurd a
+event_sends n (Comes e) true k (Up s) m a = stop_sends n k s e m (group_step n s e).refused a
 event_sends n (Comes e) false k (Up s) m a = step_sends n k s e m (group_step n s e).refused a
 event_sends n Crashes b k (Up s) m a = absurd a
+event_sends n Halts b k (Up s) m a = absurd a
 event_sends n Restarts b k (Up s) m a = absurd a
 event_sends n (Comes e) b k (Down st) m a = absurd a
 event_sends n Crashes b k (Down st) m a = absurd a
-event_sends n Restarts true k (Down st) m a = absurd a
+event_sends n Halts b k (Down st) m a = absurd a
+event_sends n Restarts true k (Down st) m a = stop_sends n k (state_of st) Open m (group_step n (state_of st) Open).refused a
 event_sends n Restarts false k (Down st) m a = step_sends n k (state_of st) Open m (group_step n (state_of st) Open).refused a
 
 abbrev AllKept : GroupWorld → List Message → Type 0

@@ -10,7 +10,7 @@ use Rattle.raft_group_step.specs.GroupEvent.{GroupEvent, Open}
 use Rattle.raft_group_step.specs.GroupStep.{group_step}
 use Rattle.raft_laws.specs.GroupWorld.{GroupWorld, NodeState, Absent, Up, Down, Recorded, Outcome, is_stop, state_or}
 use Rattle.raft_laws.specs.declared.world_event.WorldEvent.{WorldEvent}
-use Rattle.raft_laws.specs.NodeEvent.{NodeEvent, Comes, Crashes, Restarts, after_step, state_after}
+use Rattle.raft_laws.specs.NodeEvent.{NodeEvent, Comes, Crashes, Halts, Restarts, after_step, state_after}
 use Rattle.raft_laws.specs.GroupRun.{Scene, Nowhere, At, Replays, happens, after_scene, scene_of, stop_at}
 use Rattle.raft_laws.specs.StoringOrder.{KeepsVoteAndCommitted, AllKeep}
 use Rattle.raft_laws.specs.VotesRise.{stored_of, VoteKept}
@@ -120,9 +120,11 @@ event_gives : (n : ℕ) (e : NodeEvent) (stop : Option ℕ) (old : NodeState) �
 event_gives n e stop Absent = stays Absent
 event_gives n (Comes e) stop (Up s) = step_gives n (Up s) s e stop refl
 event_gives n Crashes stop (Up s) = gives (Up s) (Down s.stored) s.stored s.stored refl refl (not_below_itself s.stored.vote)
+event_gives n Halts stop (Up s) = gives (Up s) (Down s.stored) s.stored s.stored refl refl (not_below_itself s.stored.vote)
 event_gives n Restarts stop (Up s) = stays (Up s)
 event_gives n (Comes e) stop (Down stored) = stays (Down stored)
 event_gives n Crashes stop (Down stored) = stays (Down stored)
+event_gives n Halts stop (Down stored) = stays (Down stored)
 event_gives n Restarts stop (Down stored) = step_gives n (Down stored) (state_of stored) Open stop refl
 
 one_of : (b : Bool) (old new : NodeState) → (b ≡ true → VoteKept old new) → VoteKept old (state_or b new old)

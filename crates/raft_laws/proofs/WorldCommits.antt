@@ -17,7 +17,8 @@ use Rattle.raft_group_step.specs.GroupStep.{group_step}
 use Rattle.raft_laws.specs.BallotWorld.{BallotEvent}
 use Rattle.raft_laws.specs.declared.world_event.WorldEvent.{WorldEvent}
 use Rattle.raft_laws.specs.GroupWorld.{GroupWorld, NodeState, Absent, Up, Down, Led, Outcome, Recorded, is_stop, new_world, state_or}
-use Rattle.raft_laws.specs.NodeEvent.{NodeEvent, Comes, Crashes, Restarts, after_step, outcome_at, outcome_of_end, outcome_of_step, state_after}
+use Rattle.raft_laws.specs.Stop.{stopped_after}
+use Rattle.raft_laws.specs.NodeEvent.{NodeEvent, Comes, Crashes, Halts, Restarts, after_step, outcome_at, outcome_of_end, outcome_of_step, outcome_of_stop, state_after}
 use Rattle.raft_laws.specs.GroupRun.{Scene, Nowhere, At, Replays, after_scene, ended, happens, led_after, led_as, led_by, outcome_in, outcome_of, scene_of, sent_in, stop_at}
 use Rattle.raft_laws.specs.Settled.{group_list, has_accepted_some, has_led_with, has_replied, is_accepted_by_quorum, is_at_or_after, setup_configs, settled_part, count_to_last}
 use Rattle.raft_laws.specs.OneList.{AreNodeIds}
@@ -139,18 +140,27 @@ module _ (m : Membership) (some : 0 < length m.configs) (w : GroupWorld) (limits
 
     step_after : (s : GroupState) → s.stored ≡ base → (stopped : Bool) (k : ℕ) (e : GroupEvent) → NodeAfter m w (after_step (stop_at stopped k) s r) (sent_in (outcome_of_step stopped s e r)) (led_after (outcome_of_step stopped s e r) n (after_step (stop_at stopped k) s r))
     step_after s is false k e = of_end r.refused
-    step_after s is true k e =
-        quiet (Down (after_storing_all (take k r.commands) s.stored))
-        (snapshot_after limit k r.commands s.stored (subst (λ (st : StoredGroup). length (prefix_of st.snapshot) ≤ limit) (sym is) low) h.stops)
+    step_after s is true k e = of_stop r.refused
+      where
+        down : NodeAfter m w (Down (stopped_after k s.stored r)) [] []
+        down =
+            quiet (Down (stopped_after k s.stored r))
+            (snapshot_after limit k r.commands s.stored (subst (λ (st : StoredGroup). length (prefix_of st.snapshot) ≤ limit) (sym is) low) h.stops)
+
+        of_stop : (why : Option RefusalReason) → NodeAfter m w (Down (stopped_after k s.stored r)) (sent_in (outcome_of_stop s e r why)) (led_after (outcome_of_stop s e r why) n (Down (stopped_after k s.stored r)))
+        of_stop None = down
+        of_stop (Some why) = down
 
   node_after : (e : NodeEvent) (stopped : Bool) (k : ℕ) (x : NodeState) → NodeStateFits m (world_after m before) n x → MayHappen m (world_after m before) n e x → ComesKnown w limits e → NodeLimits limit (replied w) x → NodeAfter m w (state_after n e (stop_at stopped k) x) (sent_in (outcome_at n e stopped x)) (led_after (outcome_at n e stopped x) n (state_after n e (stop_at stopped k) x))
   node_after e stopped k Absent fits may known h = quiet Absent tt
   node_after (Comes e) stopped k (Up s) fits may known h =
       step_after s.stored h.snapshot (group_step n s e) (step_limits limit (replied w) m some n before fits.0 s e fits.1 may known h) s refl stopped k e
   node_after Crashes stopped k (Up s) fits may known h = quiet (Down s.stored) h.snapshot
+  node_after Halts stopped k (Up s) fits may known h = quiet (Down s.stored) h.snapshot
   node_after Restarts stopped k (Up s) fits may known h = quiet (Up s) h
   node_after (Comes e) stopped k (Down stored) fits may known h = quiet (Down stored) h
   node_after Crashes stopped k (Down stored) fits may known h = quiet (Down stored) h
+  node_after Halts stopped k (Down stored) fits may known h = quiet (Down stored) h
   node_after Restarts stopped k (Down stored) fits may known h =
       step_after stored h (group_step n (state_of stored) Open) (opening_limits limit (replied w) m some n before stored fits.1 h) (state_of stored) refl stopped k Open
 

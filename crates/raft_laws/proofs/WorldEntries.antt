@@ -1,7 +1,7 @@
 -- Where the entries of a group's world come from: what holds of each entry that a call writes, and of each blank one,
 -- holds of each that a node has, that a message carries, and that a leader had.
 use Rattle.std.specs.Prelude.{◌≡◌, ℕ, zero, suc, ◌<◌, ◌==◌, Bool, true, false, [], slice_get, Option, Some, None, is_some, unwrap_or, refl}
-use Rattle.std.proofs.Common.{sym, subst, arith}
+use Rattle.std.proofs.Common.{sym, ◌∙◌, subst, arith}
 use Rattle.raft_values.specs.declared.log_id.LogId.{LogId}
 use Rattle.raft_state.specs.declared.entry.EntryPayload.TheVariants.{Blank}
 use Rattle.raft_group_step.specs.Values.{ChangeMembers, Entry, entry_of, LoggedMembership}
@@ -10,15 +10,16 @@ use Rattle.raft_group_step.specs.Message.{Message}
 use Rattle.raft_group_step.specs.GroupState.{GroupState, Role, Follower, Candidate, Leader, state_of}
 use Rattle.raft_group_step.specs.declared.group_call.GroupCall.TheVariants.{Initialize, Elect, Propose, ChangeMembership, Heartbeat, Lost, TriggerSnapshot, TriggerPurge}
 use Rattle.raft_group_step.specs.GroupEvent.{GroupCall, GroupEvent, AddGroup, Call, Receive, Open}
-use Rattle.raft_group_step.specs.StepResult.{RefusalReason, StepResult}
+use Rattle.raft_group_step.specs.StepResult.{RefusalReason, StepResult, tokens_of}
 use Rattle.raft_group_step.specs.Refusal.{refusal_of}
 use Rattle.raft_group_step.specs.GroupStep.{group_step}
 use Rattle.raft_laws.specs.declared.world_event.WorldEvent.{WorldEvent}
-use Rattle.raft_laws.specs.declared.world_event.WorldEvent.TheVariants.{Add, Ask, Deliver, Crash, Restart}
-use Rattle.raft_laws.specs.GroupWorld.{GroupWorld, NodeState, Absent, Up, Down, Led, Outcome, Done, Skipped, is_stop, state_or}
-use Rattle.raft_laws.specs.NodeEvent.{NodeEvent, Comes, Crashes, Restarts, after_step, outcome_at, outcome_of_end, outcome_of_step, state_after}
+use Rattle.raft_laws.specs.declared.world_event.WorldEvent.TheVariants.{Add, Ask, Deliver, Crash, Halt, Restart}
+use Rattle.raft_laws.specs.GroupWorld.{GroupWorld, NodeState, Absent, Up, Down, Led, Outcome, Done, Stopped, Skipped, is_stop, state_or}
+use Rattle.raft_laws.specs.NodeEvent.{NodeEvent, Comes, Crashes, Halts, Restarts, after_step, outcome_at, outcome_of_end, outcome_of_step, outcome_of_stop, state_after}
 use Rattle.raft_laws.specs.GroupRun.{Scene, At, after_scene, is_same_setup, led_after, led_as, outcome_in, ran, scene_of, scene_of_call, scene_of_delivery, sent_in, setup_in_call, stop_at}
 use Rattle.raft_laws.specs.Origins.{changed_entry, entry_of_call}
+use Rattle.raft_laws.proofs.StepMoments.{refusals_told}
 use Rattle.raft_laws.proofs.StepEntries.{Each, each_append, each_at, BodyEach, BroughtEach, CallEach, ChangedEach, EntriesKept, StoredEach, entries_kept}
 
 module _ (P : Entry → Type 0) (blank : (id : LogId ℕ) → P (entry_of id Blank)) where
@@ -60,12 +61,22 @@ module _ (P : Entry → Type 0) (blank : (id : LogId ℕ) → P (entry_of id Bla
   end_left n base r (Some why) h =
       record { state_each = h.end.1; sent = tt; notes = led_each n r.state r.state.role h.end.0 }
 
+  -- a step that is to stop
+  stop_left : (n : ℕ) (k : ℕ) (s : GroupState) (e : GroupEvent) (why : Option RefusalReason) → refusal_of n s e ≡ why → StoredEach P s.stored → (0 < k → refusal_of n s e ≡ None → BroughtEach P s.stored e) → NodeLeft n (after_step (stop_at (is_stop (outcome_of_stop s e (group_step n s e) why)) k) s (group_step n s e)) (outcome_of_stop s e (group_step n s e) why)
+  stop_left n zero s e None is h brought = record { state_each = h; sent = tt; notes = tt }
+  stop_left n (suc k) s e None is h brought =
+      let kept = entries_kept P blank n s e h (brought (omega arith)) in
+      record { state_each = kept.stops (suc k); sent = tt; notes = tt }
+  stop_left n k s e (Some why) is h brought =
+      end_left n s.stored (group_step n s e) (Some why)
+      (entries_kept P blank n s e h (λ taken. absurd (let f : None ≡ Some why = sym taken ∙ is in cc)))
+
   -- a step, which may stop
   step_left : (n : ℕ) (stopped : Bool) (k : ℕ) (s : GroupState) (e : GroupEvent) → StoredEach P s.stored → ((stopped ≡ true → 0 < k) → refusal_of n s e ≡ None → BroughtEach P s.stored e) → NodeLeft n (after_step (stop_at (is_stop (outcome_of_step stopped s e (group_step n s e))) k) s (group_step n s e)) (outcome_of_step stopped s e (group_step n s e))
-  step_left n true zero s e h brought = record { state_each = h; sent = tt; notes = tt }
-  step_left n true (suc k) s e h brought =
-      let kept = entries_kept P blank n s e h (λ taken. brought (λ t. omega arith) taken) in
-      record { state_each = kept.stops (suc k); sent = tt; notes = tt }
+  step_left n true k s e h brought =
+      let r = group_step n s e in
+      subst (λ why. NodeLeft n (after_step (stop_at (is_stop (outcome_of_stop s e r why)) k) s r) (outcome_of_stop s e r why)) (sym (refusals_told n s e))
+      (stop_left n k s e (refusal_of n s e) refl h (λ some. brought (λ t. some)))
   step_left n false k s e h brought =
       let r = group_step n s e in
       let kept = entries_kept P blank n s e h (λ taken. brought (λ t. absurd (let f : false ≡ true = t in cc)) taken) in
@@ -81,15 +92,18 @@ module _ (P : Entry → Type 0) (blank : (id : LogId ℕ) → P (entry_of id Bla
   BringsEach n stopped k (Comes e) Absent = Unit {0}
   BringsEach n stopped k (Comes e) (Down stored) = Unit {0}
   BringsEach n stopped k Crashes x = Unit {0}
+  BringsEach n stopped k Halts x = Unit {0}
   BringsEach n stopped k Restarts x = Unit {0}
 
   node_left : (n : ℕ) (e : NodeEvent) (stopped : Bool) (k : ℕ) (x : NodeState) → NodeEach x → BringsEach n stopped k e x → NodeLeft n (state_after n e (stop_at (is_stop (outcome_at n e stopped x)) k) x) (outcome_at n e stopped x)
   node_left n e stopped k Absent h brought = left n Absent Skipped refl refl tt
   node_left n (Comes e) stopped k (Up s) h brought = step_left n stopped k s e h brought
   node_left n Crashes stopped k (Up s) h brought = left n (Down s.stored) (Done [] [] []) refl refl h
+  node_left n Halts stopped k (Up s) h brought = left n (Down s.stored) (Stopped (tokens_of s.untold)) refl refl h
   node_left n Restarts stopped k (Up s) h brought = left n (Up s) Skipped refl refl h
   node_left n (Comes e) stopped k (Down stored) h brought = left n (Down stored) Skipped refl refl h
   node_left n Crashes stopped k (Down stored) h brought = left n (Down stored) Skipped refl refl h
+  node_left n Halts stopped k (Down stored) h brought = left n (Down stored) Skipped refl refl h
   node_left n Restarts stopped k (Down stored) h brought = step_left n stopped k (state_of stored) Open h (λ t taken. tt)
 
   -- ---- the world
@@ -167,6 +181,7 @@ module _ (P : Entry → Type 0) (blank : (id : LogId ℕ) → P (entry_of id Bla
     event_each (Ask n call now) calls = asked_each n call now calls (is_same_setup w.setup (setup_in_call call)) refl
     event_each (Deliver number now) calls = delivered_each number now (slice_get w.messages number) refl
     event_each (Crash n) calls = scene_each w (Crash n) n Crashes stopped k h tt
+    event_each (Halt n) calls = scene_each w (Halt n) n Halts stopped k h tt
     event_each (Restart n) calls = scene_each w (Restart n) n Restarts stopped k h tt
 
   -- one event, which runs to its end or stops

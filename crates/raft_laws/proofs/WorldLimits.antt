@@ -12,9 +12,9 @@ use Rattle.raft_group_step.specs.Message.{Message, MessageBody, VoteRequest, Vot
 use Rattle.raft_group_step.specs.GroupState.{Role, Follower, Candidate, Leader}
 use Rattle.raft_group_step.specs.GroupEvent.{GroupCall}
 use Rattle.raft_laws.specs.declared.world_event.WorldEvent.{WorldEvent}
-use Rattle.raft_laws.specs.declared.world_event.WorldEvent.TheVariants.{Add, Ask, Deliver, Crash, Restart}
+use Rattle.raft_laws.specs.declared.world_event.WorldEvent.TheVariants.{Add, Ask, Deliver, Crash, Halt, Restart}
 use Rattle.raft_laws.specs.GroupWorld.{GroupWorld, NodeState, Absent, Up, Down}
-use Rattle.raft_laws.specs.NodeEvent.{NodeEvent, Comes, Crashes, Restarts}
+use Rattle.raft_laws.specs.NodeEvent.{NodeEvent, Comes, Crashes, Halts, Restarts}
 use Rattle.raft_laws.specs.GroupRun.{Scene, Nowhere, At, is_same_setup, scene_of, scene_of_call, scene_of_delivery, setup_in_call}
 use Rattle.raft_laws.specs.Settled.{accepts, body_accepts, group_list, has_replied, is_last, is_success}
 use Rattle.raft_laws.proofs.BallotSafe.{Among, among_at}
@@ -120,6 +120,7 @@ module _ (w : GroupWorld) (limits : WorldLimits w) where
   abbrev pub ComesKnown : NodeEvent → Type 0
   ComesKnown (Comes e) = EventClaims limit (replied w) e
   ComesKnown Crashes = Unit {0}
+  ComesKnown Halts = Unit {0}
   ComesKnown Restarts = Unit {0}
 
   abbrev pub SceneKnown : Scene → Type 0
@@ -140,4 +141,5 @@ module _ (w : GroupWorld) (limits : WorldLimits w) where
   scene_known (Ask n call now) = call_known (is_same_setup w.setup (setup_in_call call)) n call now
   scene_known (Deliver number now) = delivery_known number now (slice_get w.messages number) refl
   scene_known (Crash n) = tt
+  scene_known (Halt n) = tt
   scene_known (Restart n) = tt

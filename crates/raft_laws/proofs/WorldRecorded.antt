@@ -8,7 +8,7 @@ use Rattle.raft_group_step.specs.GroupStep.{group_step}
 use Rattle.raft_laws.specs.declared.world_event.WorldEvent.{WorldEvent}
 use Rattle.raft_laws.specs.declared.world_event.WorldEvent.TheVariants.{Ask}
 use Rattle.raft_laws.specs.GroupWorld.{GroupWorld, Up, Outcome, Recorded}
-use Rattle.raft_laws.specs.NodeEvent.{Comes, outcome_at, outcome_of_end, outcome_of_step}
+use Rattle.raft_laws.specs.NodeEvent.{Comes, outcome_at, outcome_of_end, outcome_of_step, outcome_of_stop}
 use Rattle.raft_laws.specs.GroupRun.{history_of, outcome_in, outcome_of, ran, scene_of_call}
 use Rattle.raft_laws.specs.Origins.{AskedIsRecorded, Events, is_taken, world_before}
 use Rattle.raft_laws.proofs.BallotAgreement.{same_some}
@@ -32,7 +32,7 @@ end_taken r None e = refl
 end_taken r (Some why) e = absurd (let f : None ≡ Some why = sym e in cc)
 
 step_taken : (stopped : Bool) (s : GroupState) (e : GroupEvent) (r : StepResult) → r.refused ≡ None → is_taken (outcome_of_step stopped s e r) ≡ true
-step_taken true s e r h = refl
+step_taken true s e r h = ap (λ o. is_taken (outcome_of_stop s e r o)) h
 step_taken false s e r h = end_taken r r.refused h
 
 pub asked_is_recorded : AskedIsRecorded

@@ -6,16 +6,16 @@ use Rattle.raft_group_step.specs.Values.{Membership, is_valid, is_within_limits}
 use Rattle.raft_group_step.specs.Message.{Message}
 use Rattle.raft_group_step.specs.GroupState.{GroupState}
 use Rattle.raft_group_step.specs.declared.group_call.GroupCall.TheVariants.{Initialize, Elect, Propose, ChangeMembership, Heartbeat, Lost, TriggerSnapshot, TriggerPurge}
-use Rattle.raft_group_step.specs.GroupEvent.{GroupCall, AddGroup, Call, Receive}
+use Rattle.raft_group_step.specs.GroupEvent.{GroupCall, GroupEvent, AddGroup, Call, Receive}
 use Rattle.raft_group_step.specs.StepResult.{StepResult, RefusalReason, MembershipRefused, UnknownGroup}
 use Rattle.raft_group_step.specs.Refusal.{first_of_reasons, is_first_membership, refusal_of, unless}
 use Rattle.raft_group_step.specs.Initialize.{initialize_step}
 use Rattle.raft_group_step.specs.GroupStep.{begun, finished, group_step, step_unless}
 use Rattle.raft_laws.specs.BallotWorld.{BallotWorld, BallotEvent}
 use Rattle.raft_laws.specs.declared.world_event.WorldEvent.{WorldEvent}
-use Rattle.raft_laws.specs.declared.world_event.WorldEvent.TheVariants.{Add, Ask, Deliver, Crash, Restart}
-use Rattle.raft_laws.specs.GroupWorld.{GroupWorld, NodeState, Absent, Up, Down, Outcome, Done, Recorded, is_stop, state_or, with_node_state}
-use Rattle.raft_laws.specs.NodeEvent.{NodeEvent, Comes, outcome_at, outcome_of_end, outcome_of_step, state_after}
+use Rattle.raft_laws.specs.declared.world_event.WorldEvent.TheVariants.{Add, Ask, Deliver, Crash, Halt, Restart}
+use Rattle.raft_laws.specs.GroupWorld.{GroupWorld, NodeState, Absent, Up, Down, Outcome, Recorded, is_stop, state_or, with_node_state}
+use Rattle.raft_laws.specs.NodeEvent.{NodeEvent, Comes, outcome_at, outcome_of_end, outcome_of_step, outcome_of_stop, state_after}
 use Rattle.raft_laws.specs.GroupRun.{Scene, Nowhere, At, Replays, after_scene, ended, happens, is_same_setup, led_after, outcome_in, outcome_of, scene_of, scene_of_call, scene_of_delivery, sent_in, setup_after, setup_in_call, stop_at}
 use Rattle.raft_laws.proofs.BallotSafe.{Among, among_at}
 use Rattle.raft_laws.proofs.StepFits.{world_after}
@@ -75,17 +75,29 @@ module _ (m : Membership) (b : BallotWorld) where
   named : (n : ℕ) (s : GroupState) (x : Membership) (now : ℕ) → IsSetUp m x → MayCome m b n s (Call (Initialize x) now)
   named n s x now h = ⊎_elim (λ e. inl e) (λ none. inr (no_voters n s x now none)) h
 
-  set_up_comes : (n : ℕ) (s : GroupState) (x : Membership) (now : ℕ) (stopped : Bool) → ((y : Membership) → setup_after None (Ask n (Initialize x) now) (outcome_of_step stopped s (Call (Initialize x) now) (group_step n s (Call (Initialize x) now))) ≡ Some y → IsSetUp m y) → MayCome m b n s (Call (Initialize x) now)
-  set_up_comes n s x now true noted = named n s x now (noted x refl)
-  set_up_comes n s x now false noted = go (refusal_of n s (Call (Initialize x) now)) refl
-    where
-      go : (o : Option RefusalReason) → refusal_of n s (Call (Initialize x) now) ≡ o → MayCome m b n s (Call (Initialize x) now)
-      go (Some why) is = inr (why, is)
-      go None is =
-          let r : StepResult = finished n s.committed (initialize_step n x (begun now s)) in
-          let same : group_step n s (Call (Initialize x) now) ≡ r = ap (λ o. step_unless o n s (Call (Initialize x) now)) is in
-          let done : outcome_of_end r r.refused ≡ Done r.messages r.told r.unknown = ap (outcome_of_end r) (step_goes n s (Call (Initialize x) now)).taken in
-          named n s x now (noted x (ap (λ (q : StepResult). setup_after None (Ask n (Initialize x) now) (outcome_of_end q q.refused)) same ∙ ap (setup_after None (Ask n (Initialize x) now)) done))
+  -- a set-up that isn't refused sets the group up, whether it stops or not
+  module _ (n : ℕ) (s : GroupState) (x : Membership) (now : ℕ) where
+    abbrev set_up_event : GroupEvent
+    set_up_event = Call (Initialize x) now
+
+    abbrev taken_set_up : StepResult
+    taken_set_up = finished n s.committed (initialize_step n x (begun now s))
+
+    abbrev set_up_by : Outcome → Option Membership
+    set_up_by o = setup_after None (Ask n (Initialize x) now) o
+
+    sets_up : (stopped : Bool) → set_up_by (outcome_of_step stopped s set_up_event taken_set_up) ≡ Some x
+    sets_up true = ap (λ o. set_up_by (outcome_of_stop s set_up_event taken_set_up o)) (step_goes n s set_up_event).taken
+    sets_up false = ap (λ o. set_up_by (outcome_of_end taken_set_up o)) (step_goes n s set_up_event).taken
+
+    set_up_comes : (stopped : Bool) → ((y : Membership) → set_up_by (outcome_of_step stopped s set_up_event (group_step n s set_up_event)) ≡ Some y → IsSetUp m y) → MayCome m b n s set_up_event
+    set_up_comes stopped noted = go (refusal_of n s set_up_event) refl
+      where
+        go : (o : Option RefusalReason) → refusal_of n s set_up_event ≡ o → MayCome m b n s set_up_event
+        go (Some why) is = inr (why, is)
+        go None is =
+            let same : group_step n s set_up_event ≡ taken_set_up = ap (λ o. step_unless o n s set_up_event) is in
+            named n s x now (noted x (ap (λ (q : StepResult). set_up_by (outcome_of_step stopped s set_up_event q)) same ∙ sets_up stopped))
 
   call_comes : (first : Option Membership) → ((y : Membership) → first ≡ Some y → IsSetUp m y) → (n : ℕ) (s : GroupState) (call : GroupCall) (now : ℕ) (stopped : Bool) → is_same_setup first (setup_in_call call) ≡ true → ((y : Membership) → setup_after first (Ask n call now) (outcome_of_step stopped s (Call call now) (group_step n s (Call call now))) ≡ Some y → IsSetUp m y) → MayCome m b n s (Call call now)
   call_comes None known n s (Initialize x) now stopped t noted = set_up_comes n s x now stopped noted
@@ -182,6 +194,7 @@ module _ (m : Membership) (some : 0 < length m.configs) where
     event_takes_place known (Ask n call now) stopped noted = call_takes_place known n call now stopped (is_same_setup w.setup (setup_in_call call)) refl noted
     event_takes_place known (Deliver number now) stopped noted = delivery_takes_place number now (slice_get w.messages number) refl
     event_takes_place known (Crash n) stopped noted = tt
+    event_takes_place known (Halt n) stopped noted = tt
     event_takes_place known (Restart n) stopped noted = tt
 
     -- each event that has this outcome may take place

@@ -12,8 +12,9 @@ use Rattle.raft_group_step.specs.GroupStep.{group_step, step_unless}
 use Rattle.raft_laws.specs.BallotWorld.{BallotWorld, BallotEvent, ballot_start}
 use Rattle.raft_laws.specs.BallotRanks.{ballot_group}
 use Rattle.raft_laws.specs.GroupWorld.{NodeState, Absent, Up, Down, Led, Outcome}
-use Rattle.raft_laws.specs.NodeEvent.{NodeEvent, Comes, Crashes, Restarts, after_step, outcome_at, outcome_of_end, outcome_of_step, state_after}
+use Rattle.raft_laws.specs.NodeEvent.{NodeEvent, Comes, Crashes, Halts, Restarts, after_step, outcome_at, outcome_of_end, outcome_of_step, outcome_of_stop, state_after}
 use Rattle.raft_laws.specs.GroupRun.{led_after, led_by, sent_in, stop_at}
+use Rattle.raft_laws.specs.Stop.{stopped_after}
 use Rattle.raft_laws.proofs.BallotSafe.{Among}
 use Rattle.raft_laws.proofs.BallotStep.{Later, later_refl}
 use Rattle.raft_laws.proofs.BallotRuns.{run_next}
@@ -47,6 +48,7 @@ MayHappen m b n (Comes e) (Up s) = MayCome m b n s e
 MayHappen m b n (Comes e) Absent = Unit {0}
 MayHappen m b n (Comes e) (Down stored) = Unit {0}
 MayHappen m b n Crashes x = Unit {0}
+MayHappen m b n Halts x = Unit {0}
 MayHappen m b n Restarts x = Unit {0}
 
 module _ (m : Membership) (some : 0 < length m.configs) (before : List BallotEvent) (n : ℕ) where
@@ -115,9 +117,9 @@ module _ (m : Membership) (some : 0 < length m.configs) (before : List BallotEve
     of_end None = at_end r.messages (led_by n (Up r.state)) (λ x a. a) (λ l a. a)
     of_end (Some why) = at_end [] (led_by n (Up r.state)) (λ x a. absurd a) (λ l a. a)
 
-    pub step_end : (stopped : Bool) (k : ℕ) (e : GroupEvent) → Ended (outcome_of_step stopped s e r) (after_step (stop_at stopped k) s r)
-    step_end false k e = of_end r.refused
-    step_end true k e =
+    -- the node is down after its first k storing commands
+    down_end : (k : ℕ) → NodeEnd m before n (Down (stopped_after k s.stored r)) [] []
+    down_end k =
         let stop = end.stops k in
         let events = stop.later.events in
         let is : world_after m (before ++ events) ≡ world_later m n before stop.later = run_append (ballot_group m) some before events (ballot_start (ballot_group m)) in
@@ -134,14 +136,24 @@ module _ (m : Membership) (some : 0 < length m.configs) (before : List BallotEve
           notes = λ l a. absurd a;
         }
 
+    of_stop : (k : ℕ) (e : GroupEvent) (why : Option RefusalReason) → Ended (outcome_of_stop s e r why) (Down (stopped_after k s.stored r))
+    of_stop k e None = down_end k
+    of_stop k e (Some why) = down_end k
+
+    pub step_end : (stopped : Bool) (k : ℕ) (e : GroupEvent) → Ended (outcome_of_step stopped s e r) (after_step (stop_at stopped k) s r)
+    step_end false k e = of_end r.refused
+    step_end true k e = of_stop k e r.refused
+
   -- each event at a node that fits, whatever it is
   pub node_event : (e : NodeEvent) (stopped : Bool) (k : ℕ) (x : NodeState) → NodeStateFits m (world_after m before) n x → MayHappen m (world_after m before) n e x → NodeEnd m before n (state_after n e (stop_at stopped k) x) (sent_in (outcome_at n e stopped x)) (led_after (outcome_at n e stopped x) n (state_after n e (stop_at stopped k) x))
   node_event e stopped k Absent h may = stays_end Absent h
   node_event (Comes e) stopped k (Up s) h may =
       step_end h.0 s (group_step n s e) (comes_end h.0 s e h.1 may) stopped k e
   node_event Crashes stopped k (Up s) h may = stays_end (Down s.stored) (h.0, record { down = up_down h.1.up; lead = h.1.lead })
+  node_event Halts stopped k (Up s) h may = stays_end (Down s.stored) (h.0, record { down = up_down h.1.up; lead = h.1.lead })
   node_event Restarts stopped k (Up s) h may = stays_end (Up s) h
   node_event (Comes e) stopped k (Down stored) h may = stays_end (Down stored) h
   node_event Crashes stopped k (Down stored) h may = stays_end (Down stored) h
+  node_event Halts stopped k (Down stored) h may = stays_end (Down stored) h
   node_event Restarts stopped k (Down stored) h may =
       step_end h.0 (state_of stored) (group_step n (state_of stored) Open) (opening_fits m some n h.0 before stored h.1) stopped k Open

@@ -1,26 +1,28 @@
 -- Tokens in a group's world: each that a node is still to tell, and each that an event tells, stands for its entry.
 use Rattle.std.specs.Prelude.{◌≡◌, ℕ, ◌<◌, ◌^◌, ◌==◌, Bool, true, false, List, [], ◌∷◌, length, slice_get, Option, Some, None, is_some, unwrap_or, refl}
-use Rattle.std.proofs.Common.{sym, ap, subst, ⊎_elim, eq-eqb}
+use Rattle.std.proofs.Common.{sym, ap, ◌∙◌, subst, ⊎_elim, eq-eqb}
 use Rattle.raft_group_step.specs.Values.{ChangeMembers, Entry, LoggedMembership, Membership}
 use Rattle.raft_group_step.specs.StoredGroup.{StoredGroup, membership_in_force}
 use Rattle.raft_group_step.specs.Message.{Message}
 use Rattle.raft_group_step.specs.GroupState.{GroupState, Untold, state_of}
 use Rattle.raft_group_step.specs.declared.group_call.GroupCall.TheVariants.{Initialize, Elect, Propose, ChangeMembership, Heartbeat, Lost, TriggerSnapshot, TriggerPurge}
 use Rattle.raft_group_step.specs.GroupEvent.{GroupCall, GroupEvent, AddGroup, Call, Receive, Open}
-use Rattle.raft_group_step.specs.StepResult.{RefusalReason, StepResult}
+use Rattle.raft_group_step.specs.StepResult.{RefusalReason, StepResult, tokens_of}
 use Rattle.raft_group_step.specs.Refusal.{refusal_of}
 use Rattle.raft_group_step.specs.GroupStep.{group_step, step_unless}
 use Rattle.raft_laws.specs.BallotWorld.{BallotEvent}
 use Rattle.raft_laws.specs.declared.world_event.WorldEvent.{WorldEvent}
-use Rattle.raft_laws.specs.declared.world_event.WorldEvent.TheVariants.{Add, Ask, Deliver, Crash, Restart}
+use Rattle.raft_laws.specs.declared.world_event.WorldEvent.TheVariants.{Add, Ask, Deliver, Crash, Halt, Restart}
 use Rattle.raft_laws.specs.Stop.{token_of_call}
 use Rattle.raft_laws.specs.GroupWorld.{GroupWorld, NodeState, Absent, Up, Down, Outcome, Done, Refused, Stopped, Skipped, is_stop, state_or, with_node_state}
-use Rattle.raft_laws.specs.NodeEvent.{NodeEvent, Comes, Crashes, Restarts, after_step, outcome_at, outcome_of_end, outcome_of_step, state_after}
+use Rattle.raft_laws.specs.NodeEvent.{NodeEvent, Comes, Crashes, Halts, Restarts, after_step, outcome_at, outcome_of_end, outcome_of_step, outcome_of_stop, state_after}
 use Rattle.raft_laws.specs.GroupRun.{Scene, Nowhere, At, after_scene, is_same_setup, outcome_in, outcome_of, ran, scene_of, scene_of_call, scene_of_delivery, setup_in_call, stop_at}
 use Rattle.raft_laws.specs.Origins.{changed_entry, entry_of_call}
 use Rattle.raft_laws.proofs.BallotSafe.{among_at}
 use Rattle.raft_laws.proofs.StepEntries.{Each}
+use Rattle.raft_laws.proofs.Runs.{end-is-no-stop}
 use Rattle.raft_laws.proofs.StepFits.{NodeFits, world_after}
+use Rattle.raft_laws.proofs.StepMoments.{refusals_told}
 use Rattle.raft_laws.proofs.StepTold.{CallToken, ChangeToken, EventToken, ToldFits, TokensEnd, TokensFit, opening_tells, step_tells, token_at}
 use Rattle.raft_laws.proofs.WorldFits.{NodeStateFits, WorldFits}
 use Rattle.raft_laws.proofs.WorldSteps.{MayCome, MayHappen}
@@ -70,9 +72,14 @@ module _ (Q : Untold → Entry → Type 0) where
       }
   end_tokens r (Some why) h = none_told (Up r.state) (Refused why) (refused_none why) h.left
 
-  step_tokens : (stopped : Bool) (k : ℕ) (s : GroupState) (e : GroupEvent) (r : StepResult) → (stopped ≡ false → TokensEnd Q r) → TokensLeft (after_step (stop_at (is_stop (outcome_of_step stopped s e r)) k) s r) (outcome_of_step stopped s e r)
-  step_tokens true k s e r h = none_told _ _ (stopped_none _) tt
-  step_tokens false k s e r h = go r.refused (end_tokens r r.refused (h refl))
+  -- one that is to stop
+  stop_tokens : (k : ℕ) (s : GroupState) (e : GroupEvent) (r : StepResult) (why : Option RefusalReason) → (is_stop (outcome_of_stop s e r why) ≡ false → TokensEnd Q r) → TokensLeft (after_step (stop_at (is_stop (outcome_of_stop s e r why)) k) s r) (outcome_of_stop s e r why)
+  stop_tokens k s e r None h = none_told _ _ (stopped_none _) tt
+  stop_tokens k s e r (Some why) h = end_tokens r (Some why) (h refl)
+
+  step_tokens : (stopped : Bool) (k : ℕ) (s : GroupState) (e : GroupEvent) (r : StepResult) → (is_stop (outcome_of_step stopped s e r) ≡ false → TokensEnd Q r) → TokensLeft (after_step (stop_at (is_stop (outcome_of_step stopped s e r)) k) s r) (outcome_of_step stopped s e r)
+  step_tokens true k s e r h = stop_tokens k s e r r.refused h
+  step_tokens false k s e r h = go r.refused (end_tokens r r.refused (h (end-is-no-stop r r.refused)))
     where
       go : (why : Option RefusalReason) → TokensLeft (Up r.state) (outcome_of_end r why) → TokensLeft (after_step (stop_at (is_stop (outcome_of_end r why)) k) s r) (outcome_of_end r why)
       go None l = l
@@ -99,7 +106,16 @@ module _ (Q : Untold → Entry → Type 0) where
   BringsToken n (Comes e) Absent = Unit {0}
   BringsToken n (Comes e) (Down stored) = Unit {0}
   BringsToken n Crashes x = Unit {0}
+  BringsToken n Halts x = Unit {0}
   BringsToken n Restarts x = Unit {0}
+
+  -- an event that is taken and doesn't end as a stop wasn't to stop
+  not_to_stop : (n : ℕ) (stopped : Bool) (s : GroupState) (e : GroupEvent) → refusal_of n s e ≡ None → is_stop (outcome_of_step stopped s e (group_step n s e)) ≡ false → stopped ≡ false
+  not_to_stop n true s e taken going =
+      let r = group_step n s e in
+      let stops : is_stop (outcome_of_stop s e r r.refused) ≡ true = ap (λ why. is_stop (outcome_of_stop s e r why)) (refusals_told n s e ∙ taken) in
+      absurd (let f : true ≡ false = sym stops ∙ going in cc)
+  not_to_stop n false s e taken going = refl
 
   module _ (m : Membership) (some : 0 < length m.configs) (before : List BallotEvent) (n : ℕ) where
     comes_tokens : n < 2 ^ 64 → (s : GroupState) (e : GroupEvent) → NodeFits m (world_after m before) n s → MayCome m (world_after m before) n s e → TokensFit Q s → (refusal_of n s e ≡ None → EventToken Q s.stored e) → TokensEnd Q (group_step n s e)
@@ -112,11 +128,13 @@ module _ (Q : Untold → Entry → Type 0) where
     node_tokens : (e : NodeEvent) (stopped : Bool) (k : ℕ) (x : NodeState) → NodeStateFits m (world_after m before) n x → MayHappen m (world_after m before) n e x → NodeTokens x → (stopped ≡ false → BringsToken n e x) → TokensLeft (state_after n e (stop_at (is_stop (outcome_at n e stopped x)) k) x) (outcome_at n e stopped x)
     node_tokens e stopped k Absent h may tokens wanted = none_told Absent Skipped skipped tt
     node_tokens (Comes e) stopped k (Up s) h may tokens wanted =
-        step_tokens stopped k s e (group_step n s e) (λ going. comes_tokens h.0 s e h.1 may tokens (wanted going))
+        step_tokens stopped k s e (group_step n s e) (λ going. comes_tokens h.0 s e h.1 may tokens (λ taken. wanted (not_to_stop n stopped s e taken going) taken))
     node_tokens Crashes stopped k (Up s) h may tokens wanted = none_told (Down s.stored) (Done [] [] []) crashed tt
+    node_tokens Halts stopped k (Up s) h may tokens wanted = none_told (Down s.stored) (Stopped (tokens_of s.untold)) (stopped_none (tokens_of s.untold)) tt
     node_tokens Restarts stopped k (Up s) h may tokens wanted = none_told (Up s) Skipped skipped tokens
     node_tokens (Comes e) stopped k (Down stored) h may tokens wanted = none_told (Down stored) Skipped skipped tt
     node_tokens Crashes stopped k (Down stored) h may tokens wanted = none_told (Down stored) Skipped skipped tt
+    node_tokens Halts stopped k (Down stored) h may tokens wanted = none_told (Down stored) Skipped skipped tt
     node_tokens Restarts stopped k (Down stored) h may tokens wanted =
         step_tokens stopped k (state_of stored) Open (group_step n (state_of stored) Open) (λ going. opening_tells Q m some n h.0 before stored h.1)
 
@@ -212,6 +230,7 @@ module _ (Q : Untold → Entry → Type 0) where
     event_tokens (Ask n call now) calls noted = asked_tokens n call now calls (is_same_setup w.setup (setup_in_call call)) refl noted
     event_tokens (Deliver number now) calls noted = delivered_tokens number now (slice_get w.messages number) refl
     event_tokens (Crash n) calls noted = scene_tokens (Crash n) n Crashes tt (λ going. tt)
+    event_tokens (Halt n) calls noted = scene_tokens (Halt n) n Halts tt (λ going. tt)
     event_tokens (Restart n) calls noted = scene_tokens (Restart n) n Restarts tt (λ going. tt)
 
   -- one event, which runs to its end or stops

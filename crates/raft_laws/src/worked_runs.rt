@@ -5,9 +5,11 @@ ghost use Rattle.raft_values.specs.Vote.{vote_of};
 ghost use Rattle.raft_group_step.specs.StoredGroup.{SetVote, CutFrom, PutEntries};
 ghost use Rattle.raft_group_step.specs.Values.{entry_of};
 ghost use Rattle.raft_state.specs.declared.entry.EntryPayload.TheVariants.{Blank};
+ghost use Rattle.raft_laws.specs.GroupWorld.{new_world};
+ghost use Rattle.raft_laws.specs.GroupRun.{group_run};
 ghost use Rattle.raft_laws.specs.Settled.{group_list};
 ghost use Rattle.raft_laws.specs.Example.{run_of, to_their_end, three, log_ids_at, ids_of_log, kinds_from, ANotice, ASnapshot, outcomes_after};
-ghost use Rattle.raft_laws.specs.Example.{vote_at, applied_at, part_at, Stands, Leads, held_ids_at, commands_at_delivery};
+ghost use Rattle.raft_laws.specs.Example.{vote_at, applied_at, part_at, Follows, IsDown, Stands, Leads, held_ids_at, commands_at_delivery};
 ghost use Rattle.raft_laws.specs.ThreeNodes.{until_told, outcomes_until_told, kinds_until_told};
 ghost use Rattle.raft_laws.specs.CrashRuns.{leader_restarts, outcomes_of_restart, late_replies, twice, outcomes_of_twice};
 ghost use Rattle.raft_laws.specs.CrashRuns.{behind, outcomes_of_behind, after_voter_stops, asked_again, outcomes_of_stop};
@@ -17,6 +19,7 @@ ghost use Rattle.raft_laws.specs.SnapshotRun.{until_installed, until_caught_up, 
 ghost use Rattle.raft_laws.specs.LearnerRun.{four, changes, outcomes_of_changes};
 ghost use Rattle.raft_laws.specs.LostRun.{beats, outcomes_of_beats, sent_again, outcomes_of_sent_again};
 ghost use Rattle.raft_laws.specs.PurgeRun.{wished, fulfilled, outcomes_of_wish, after_stops, snapshot_comes_first, outcomes_of_stops, purged_at};
+ghost use Rattle.raft_laws.specs.HaltRuns.{halted_again, outcome_of_refused_proposal, outcomes_of_halts, outcomes_of_refused_set_up, refused_proposal, refused_set_up, until_halted};
 ghost use Rattle.raft_laws.specs.OneVoter.{one, alone, outcomes_of_alone, stopped_proposal, outcomes_of_stopped_proposal};
 
 /// Three nodes: an election, a command, and what each event sends.
@@ -40,6 +43,20 @@ pub fn crash_of_a_leader()
 pub fn request_that_comes_twice()
     ensures outcomes { outcomes_after 10 three (to_their_end twice) ≡ outcomes_of_twice }
     ensures applied { applied_at (run_of three twice) 2 ≡ Some 2 }
+{}
+
+/// A leader that another group's event stops names the token that waits, and keeps what it has stored.
+pub fn halts_of_nodes()
+    ensures outcomes { outcomes_after 9 three (to_their_end halted_again) ≡ outcomes_of_halts }
+    ensures down { part_at (run_of three until_halted) 1 ≡ IsDown }
+    ensures log { log_ids_at (run_of three until_halted) 1 ≡ Some (log_id_of 0 0 0 ∷ log_id_of 1 1 1 ∷ log_id_of 1 1 2 ∷ []) }
+{}
+
+/// An event that is refused doesn't stop: its node stays up, and a set-up is none.
+pub fn stops_of_refused_events()
+    ensures proposal { outcomes_after 11 three refused_proposal ≡ outcome_of_refused_proposal }
+    ensures stays_up { part_at (group_run refused_proposal (new_world three)) 2 ≡ Follows }
+    ensures set_up { outcomes_after 0 one refused_set_up ≡ outcomes_of_refused_set_up }
 {}
 
 /// A node whose log is behind isn't granted a vote.

@@ -31,6 +31,12 @@ pub enum WorldEvent {
         /// The node.
         node: u64,
     },
+    /// Another group's event stops the node: what it has stored stays, and its untold tokens are
+    /// named as unknown.
+    Halt {
+        /// The node.
+        node: u64,
+    },
     /// A node that is down is opened.
     Restart {
         /// The node.
