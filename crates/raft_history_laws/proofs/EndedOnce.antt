@@ -1,7 +1,7 @@
 -- Each token of a ledger was brought by its event, and ends once.
-use Rattle.std.specs.Prelude.{◌≡◌, ◌⊎◌, ℕ, zero, suc, ◌+◌, ◌-◌, ◌<◌, ◌≤◌, ◌==◌, cond, not, Bool, true, false, List, [], ◌∷◌, ◌++◌, filter, length, map, slice_get, take, Option, Some, None, Contains, refl}
-use Rattle.std.proofs.Common.{inl, inr, sym, ap, ◌∙◌, subst, arith, ⊎_elim, append_assoc, length-append, length-take-le, take-take}
-use Rattle.std.proofs.lemmas.Bool.{cases_eq, cases_lt, cases_order}
+use Rattle.std.specs.Prelude.{◌≡◌, ◌⊎◌, ℕ, zero, suc, ◌+◌, ◌-◌, ◌<◌, ◌≤◌, cond, not, Bool, true, false, List, [], ◌∷◌, ◌++◌, filter, length, slice_get, take, Option, Some, None, Contains, refl}
+use Rattle.std.proofs.Common.{inl, inr, sym, ap, ◌∙◌, subst, arith, ⊎_elim, length-take-le}
+use Rattle.std.proofs.lemmas.Bool.{cases_eq, cases_order}
 use Rattle.std.proofs.lemmas.List.{take-append-le}
 use Rattle.std.proofs.lemmas.Option.{slice_get_within}
 use Rattle.raft_group_step.specs.StoredGroup.{end_place}
@@ -18,9 +18,8 @@ use Rattle.raft_laws.specs.GroupWorld.{GroupWorld, NodeState, Absent, Up, Down, 
 use Rattle.raft_laws.specs.NodeEvent.{NodeEvent, Comes, Crashes, Halts, Restarts}
 use Rattle.raft_laws.specs.GroupRun.{Scene, Nowhere, At, group_run, is_same_setup, ran, scene_of, scene_of_call, scene_of_delivery, setup_in_call}
 use Rattle.raft_laws.specs.Stop.{token_of_call}
-use Rattle.raft_laws.specs.OneList.{AreNodeIds}
 use Rattle.raft_laws.specs.Origins.{Events, world_before}
-use Rattle.raft_laws.proofs.BallotAgreement.{same_some, some_at, slice_get-append, with_value_cases, with_value_other}
+use Rattle.raft_laws.proofs.BallotAgreement.{some_at, slice_get-append, with_value_cases, with_value_other}
 use Rattle.raft_laws.proofs.BallotSafe.{Among, among_at}
 use Rattle.raft_laws.proofs.Counts.{among_contains, contains_at}
 use Rattle.raft_laws.proofs.WorldOrigins.{event_at, world_at}

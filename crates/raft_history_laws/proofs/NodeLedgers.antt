@@ -1,9 +1,8 @@
 -- How an event ends the tokens of its node.
-use Rattle.std.specs.Prelude.{◌≡◌, ◌⊎◌, ℕ, ◌<◌, ◌^◌, not, Bool, true, false, List, [], ◌∷◌, ◌++◌, filter, length, map, Option, Some, None, is_some, refl}
+use Rattle.std.specs.Prelude.{◌≡◌, ◌⊎◌, ℕ, ◌<◌, ◌^◌, not, Bool, true, false, List, [], ◌∷◌, ◌++◌, filter, length, Option, Some, None, is_some, refl}
 use Rattle.std.proofs.Common.{inl, inr, sym, ap, ap₂, ◌∙◌, subst, ⊎_elim, append-nil}
 use Rattle.std.proofs.lemmas.Bool.{and_from}
 use Rattle.std.proofs.lemmas.List.{map-append}
-use Rattle.raft_values.specs.declared.vote.Vote.{Vote}
 use Rattle.raft_group_step.specs.Values.{Membership, vote_eq}
 use Rattle.raft_group_step.specs.StoredGroup.{StoredGroup, end_place, held}
 use Rattle.raft_group_step.specs.GroupState.{GroupState, Role, Follower, Candidate, Leader, Untold, is_leader, state_of}
@@ -22,13 +21,13 @@ use Rattle.raft_laws.proofs.StepFits.{EventFits, NodeFits, world_after}
 use Rattle.raft_laws.proofs.StepMoments.{step_goes}
 use Rattle.raft_laws.proofs.WorldFits.{NodeStateFits}
 use Rattle.raft_laws.proofs.WorldLimits.{vote_itself}
-use Rattle.raft_laws.proofs.WorldSteps.{MayCome, MayHappen}
+use Rattle.raft_laws.proofs.WorldSteps.{MayHappen}
 use Rattle.raft_step_laws.specs.Tokens.{HasItsOwnVote, OpensWithNone, TokensGo, brought, leads_on, seeks_or_leads, tokens_at}
 use Rattle.raft_step_laws.proofs.Telling.{tokens_go}
 use Rattle.raft_history_laws.specs.TokenEnds.{Names, NamesUnlessCrash, Numbered, brings, brought_unless, has_place, numbered, that_ended, that_wait, told_in, unknown_in, untold_in, untolds}
-use Rattle.raft_history_laws.proofs.LedgerLists.{all_ended, all_wait, due_ended, kept_wait, none_ended, none_wait, untolds_append, untolds_none, untolds_numbered}
+use Rattle.raft_history_laws.proofs.LedgerLists.{all_ended, all_wait, due_ended, kept_wait, none_ended, none_wait, untolds_append, untolds_numbered}
 use Rattle.raft_history_laws.proofs.StepCommitted.{leads_by}
-use Rattle.raft_history_laws.proofs.StepLeads.{began_of, Without as Without_there}
+use Rattle.raft_history_laws.proofs.StepLeads.{Without as Without_there}
 use Rattle.raft_history_laws.proofs.StepWaits.{WaitsOn, brings_none, brought as brought_there, step_waits}
 use Rattle.raft_history_laws.proofs.WaitingTokens.{NodeWaits, TokensWait, which_role}
 

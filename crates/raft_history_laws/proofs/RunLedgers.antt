@@ -1,16 +1,13 @@
 -- The ledger of a run: it has just the tokens that wait, and each event's outcome names those that end in it.
-use Rattle.std.specs.Prelude.{◌≡◌, ◌⊎◌, ℕ, zero, suc, ◌+◌, ◌<◌, ◌≤◌, ◌==◌, Bool, true, false, List, [], ◌∷◌, ◌++◌, length, slice_get, take, Option, Some, None, is_some, unwrap_or, refl}
-use Rattle.std.proofs.Common.{inl, inr, sym, ap, ◌∙◌, subst, arith, ⊎_elim, append_assoc, append-nil, ne_eqb}
-use Rattle.std.proofs.lemmas.Bool.{cases_eq}
-use Rattle.std.proofs.lemmas.Option.{slice_get_within}
-use Rattle.raft_group_step.specs.Values.{Membership, has_id}
+use Rattle.std.specs.Prelude.{◌≡◌, ℕ, suc, ◌+◌, Bool, true, false, List, [], ◌∷◌, ◌++◌, length, slice_get, take, Option, Some, None, is_some, unwrap_or, refl}
+use Rattle.std.proofs.Common.{sym, ap, ◌∙◌, subst, arith, append_assoc, append-nil, ne_eqb}
+use Rattle.raft_group_step.specs.Values.{has_id}
 use Rattle.raft_group_step.specs.Message.{Message}
-use Rattle.raft_group_step.specs.GroupState.{Untold, no_group, state_of}
+use Rattle.raft_group_step.specs.GroupState.{no_group, state_of}
 use Rattle.raft_group_step.specs.GroupEvent.{AddGroup, Call, GroupCall, Open, Receive}
-use Rattle.raft_laws.specs.BallotLists.{with_value}
 use Rattle.raft_laws.specs.declared.world_event.WorldEvent.{WorldEvent}
 use Rattle.raft_laws.specs.declared.world_event.WorldEvent.TheVariants.{Add, Ask, Crash, Deliver, Halt, Restart}
-use Rattle.raft_laws.specs.GroupWorld.{GroupWorld, NodeState, Absent, Up, Outcome, Recorded, is_stop, new_world, state_or, with_node_state}
+use Rattle.raft_laws.specs.GroupWorld.{GroupWorld, NodeState, Absent, Up, Outcome, is_stop, new_world, state_or}
 use Rattle.raft_laws.specs.NodeEvent.{NodeEvent, Comes, Crashes, Halts, Restarts, outcome_at, state_after}
 use Rattle.raft_laws.specs.GroupRun.{Scene, Nowhere, At, Replays, after_scene, group_run, history_of, is_same_setup, outcome_in, outcome_of, ran, scene_of, scene_of_call, scene_of_delivery, setup_in_call, stop_at}
 use Rattle.raft_laws.specs.OneList.{AreNodeIds}
@@ -23,8 +20,8 @@ use Rattle.raft_laws.proofs.WorldRuns.{MayTakePlace}
 use Rattle.raft_laws.proofs.WorldSteps.{MayHappen}
 use Rattle.raft_history_laws.specs.TokenEnds.{EndsAreNamed, Ledger, LedgersHaveTheUntold, NamesUnlessCrash, Numbered, at_stake, brings, ledger_behind, ledger_from, ledger_of, that_ended, that_wait, untold_in, untolds}
 use Rattle.raft_history_laws.proofs.AlongNodes.{MayFollow, may_follow}
-use Rattle.raft_history_laws.proofs.LastNoted.{take_one_more, world_behind}
-use Rattle.raft_history_laws.proofs.NodeLedgers.{IsNoOpening, NodeLedger, node_ledger}
+use Rattle.raft_history_laws.proofs.LastNoted.{world_behind}
+use Rattle.raft_history_laws.proofs.NodeLedgers.{NodeLedger, node_ledger}
 use Rattle.raft_history_laws.proofs.Notes.{state_here}
 use Rattle.raft_history_laws.proofs.WaitingTokens.{node_waits}
 

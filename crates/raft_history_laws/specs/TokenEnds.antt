@@ -1,5 +1,5 @@
 -- Which event brought each token, and how it ends: it is told, or named as unknown, or lost in a crash, and once.
-use Rattle.std.specs.Prelude.{◌≡◌, ◌⊎◌, ℕ, suc, ◌+◌, ◌<◌, ◌==◌, not, Bool, true, false, List, [], ◌∷◌, ◌++◌, filter, length, map, slice_get, take, Option, Some, None, is_some, Contains}
+use Rattle.std.specs.Prelude.{◌≡◌, ◌⊎◌, ℕ, suc, ◌==◌, not, Bool, List, [], ◌∷◌, ◌++◌, filter, map, slice_get, take, Option, Some, None, is_some, Contains}
 use Rattle.std.specs.List.{list_any}
 use Rattle.raft_group_step.specs.StoredGroup.{end_place}
 use Rattle.raft_group_step.specs.GroupState.{GroupState, Untold}

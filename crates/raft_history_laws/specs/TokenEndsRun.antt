@@ -1,11 +1,11 @@
 -- The tokens of worked runs, with the numbers of their events, and how they end.
-use Rattle.std.specs.Prelude.{ℕ, List, [], ◌∷◌, ◌++◌, Some, None}
+use Rattle.std.specs.Prelude.{ℕ, List, [], ◌∷◌, ◌++◌}
 use Rattle.raft_group_step.specs.declared.group_call.GroupCall.TheVariants.{Propose}
 use Rattle.raft_laws.specs.declared.world_event.WorldEvent.TheVariants.{Ask, Deliver}
 use Rattle.raft_laws.specs.GroupWorld.{Up, new_world}
 use Rattle.raft_laws.specs.Origins.{Events}
 use Rattle.raft_laws.specs.Example.{add, three, to_their_end}
-use Rattle.raft_laws.specs.ThreeNodes.{until_accepted, until_proposed}
+use Rattle.raft_laws.specs.ThreeNodes.{until_proposed}
 use Rattle.raft_laws.specs.OneVoter.{one, stopped_proposal}
 use Rattle.raft_history_laws.specs.NotedIdsRun.{asked_follower}
 use Rattle.raft_history_laws.specs.TokenEnds.{EndsAt, IsBrought, Numbered, ledger_of, that_ended, that_wait}

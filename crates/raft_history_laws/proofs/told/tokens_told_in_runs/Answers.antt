@@ -20,7 +20,7 @@ returns-clause-told c =
       node = 1;
       at_node = _;
       here = refl;
-      state = state_in (w.nodes 1);
+      state = _;
       leading = record { is_up = refl; leads = refl };
       entry = command_at 2 (add 5);
       stands = refl;
