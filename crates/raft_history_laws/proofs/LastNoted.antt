@@ -39,14 +39,14 @@ use Rattle.raft_history_laws.proofs.TakenEntries.{HoldsMore, stopped_holds, whol
 
 -- ---- runs, cut behind an event
 
-take_one_more : {A : Type 0} (k : ℕ) (xs : List A) (x : A) → slice_get xs k ≡ Some x → take (suc k) xs ≡ take k xs ++ x ∷ []
+pub take_one_more : {A : Type 0} (k : ℕ) (xs : List A) (x : A) → slice_get xs k ≡ Some x → take (suc k) xs ≡ take k xs ++ x ∷ []
 take_one_more zero [] x e = absurd (let no : None ≡ Some x = e in cc)
 take_one_more zero (y ∷ xs) x e = ap (λ z. z ∷ []) (same_some e)
 take_one_more (suc k) [] x e = absurd (let no : None ≡ Some x = e in cc)
 take_one_more (suc k) (y ∷ xs) x e = ap (λ l. y ∷ l) (take_one_more k xs x e)
 
 -- the world behind an event
-world_behind : (es : Events) (number : ℕ) (w : GroupWorld) (x : WorldEvent × Option ℕ) → slice_get es number ≡ Some x → world_before es (suc number) w ≡ ran (world_before es number w) x.0 x.1
+pub world_behind : (es : Events) (number : ℕ) (w : GroupWorld) (x : WorldEvent × Option ℕ) → slice_get es number ≡ Some x → world_before es (suc number) w ≡ ran (world_before es number w) x.0 x.1
 world_behind es number w x e = ap (λ (l : Events). group_run l w) (take_one_more number es x e) ∙ run_more (take number es) x w
 
 -- the events between two worlds of a run

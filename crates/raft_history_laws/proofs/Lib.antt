@@ -17,3 +17,8 @@ pub mod StepCommitted
 pub mod ToldAnswers
 pub mod RunNotes
 pub mod LackedQuorums
+pub mod LedgerLists
+pub mod NodeLedgers
+pub mod RunLedgers
+pub mod EndedOnce
+pub mod FollowerRefuses

@@ -41,7 +41,7 @@ within_due None x l = absurd (omega arith)
 within_due (Some b) x l = le-leb x.place b (omega arith)
 
 -- a leader by where its lead began
-leads_by : (role : Role) → is_leader role ≡ is_some (began_of role)
+pub leads_by : (role : Role) → is_leader role ≡ is_some (began_of role)
 leads_by Follower = refl
 leads_by (Candidate granters) = refl
 leads_by (Leader lead) = refl
@@ -154,12 +154,12 @@ module _ (m : Membership) (some : 0 < length m.configs) (own : ℕ) (small : own
   told_commits x c =
       let t = each_contains (ToldFits (Q m some own small before s e fits event_fits passed h) r.state) r.told x (tells m some own small before s e fits event_fits passed h).told c in
       ⊎_elim
-      (λ without. absurd (none_contains x (subst (λ xs. Contains xs x) without.quiet.told c)))
+      (λ without. absurd (none_contains x (subst (λ xs. Contains xs x) without.0.quiet.told c)))
       (λ w.
       let d = came_due w x c in
       ⊎_elim
       (λ without.
-      let quiet = finished_quiet own s.committed r0 without.quiet in
+      let quiet = finished_quiet own s.committed r0 without.0.quiet in
       absurd (none_contains x (subst (λ xs. Contains xs x) (ap (λ (q : StepResult). q.told) is_finished ∙ quiet.told) c)))
       (λ takes.
       let at = due_within r.state.committed x d.1 in

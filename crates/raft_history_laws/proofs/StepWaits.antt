@@ -72,7 +72,7 @@ pub record Takes (s : GroupState) (more : List Untold) (q : StepResult) : Type 0
 
 module _ (s : GroupState) (others : is_leader s.role ≡ false → s.untold ≡ []) where
   abbrev Taken : List Untold → StepResult → Type 0
-  Taken more q = Without q ⊎ Takes s more q
+  Taken more q = (Without q × (more ≡ [])) ⊎ Takes s more q
 
   going : (q : StepResult) → Going s others q → Taken [] q
   going q g =
@@ -86,7 +86,7 @@ module _ (s : GroupState) (others : is_leader s.role ≡ false → s.untold ≡ 
       })
 
   kept : (q : StepResult) → Kept s others q → Taken [] q
-  kept q h = ⊎_elim (λ w. inl w) (λ g. going q g) h
+  kept q h = ⊎_elim (λ w. inl (w, refl)) (λ g. going q g) h
 
   first_going : (now : ℕ) → Going s others (begun now s)
   first_going now = record { vote = refl; began = refl; untold = refl; told = refl; committed = refl }
@@ -97,8 +97,8 @@ module _ (s : GroupState) (others : is_leader s.role ≡ false → s.untold ≡ 
 
   call_taken : (own : ℕ) (call : GroupCall) (now : ℕ) → refusal_of own s (Call call now) ≡ None → Taken (brought_by s.stored call) (call_step own call (begun now s))
   call_taken own (Initialize first) now e =
-      inl (elect_without own (store (PutEntries 0 (entry_of (log_id_of 0 0 0) (Members first) ∷ [])) (begun now s)) refl)
-  call_taken own Elect now e = inl (elect_without own (begun now s) refl)
+      inl (elect_without own (store (PutEntries 0 (entry_of (log_id_of 0 0 0) (Members first) ∷ [])) (begun now s)) refl, refl)
+  call_taken own Elect now e = inl (elect_without own (begun now s) refl, refl)
   call_taken own (Propose command token) now e = inr (record { vote = refl; began = refl; untold = refl; told = refl; committed = refl })
   call_taken own (ChangeMembership change token) now e =
       let passed = (no_reason (reasons_of own s (Call (ChangeMembership change token) now)) e).1 in
@@ -294,9 +294,9 @@ commit_began own (Leader lead) r = refl
 
 -- ---- each step
 
--- there are no tokens, or the lead goes on with those of before and what the event brings
+-- there are no tokens, nor does the event bring one, or the lead goes on with those of before and what the event brings
 abbrev pub Waiting : GroupState → List Untold → StepResult → Type 0
-Waiting s more r = Without r ⊎ WaitsOn s more r
+Waiting s more r = (Without r × (more ≡ [])) ⊎ WaitsOn s more r
 
 module _ {m : Membership} {some : 0 < length m.configs} {own : ℕ} {before : List BallotEvent} {base : StoredGroup} {w : BallotWorld} where
   end_stays : (committed : Option ℕ) (r : StepResult) → Ends m some own before base w r → Wished r → end_place (finished own committed r).state.stored ≡ end_place r.state.stored
@@ -321,7 +321,7 @@ module _ {m : Membership} {some : 0 < length m.configs} {own : ℕ} {before : Li
       }
 
 module _ (m : Membership) (some : 0 < length m.configs) (own : ℕ) (small : own < 2 ^ 64) (before : List BallotEvent) where
-  pub event_taken : (s : GroupState) (e : GroupEvent) → NodeFits m (world_after m before) own s → EventFits m (world_after m before) e → (is_leader s.role ≡ false → s.untold ≡ []) → refusal_of own s e ≡ None → Without (event_step own s e) ⊎ Takes s (brought s.stored e) (event_step own s e)
+  pub event_taken : (s : GroupState) (e : GroupEvent) → NodeFits m (world_after m before) own s → EventFits m (world_after m before) e → (is_leader s.role ≡ false → s.untold ≡ []) → refusal_of own s e ≡ None → (Without (event_step own s e) × (brought s.stored e ≡ [])) ⊎ Takes s (brought s.stored e) (event_step own s e)
   event_taken s AddGroup n fits others passed =
       inr (record { vote = refl; began = refl; untold = sym (append-nil s.untold); told = refl; committed = refl })
   event_taken s (Call call now) n fits others passed = call_taken s others own call now passed
@@ -330,10 +330,10 @@ module _ (m : Membership) (some : 0 < length m.configs) (own : ℕ) (small : own
       kept s others (event_step own s (Receive peer x now))
       (body_kept s others small (world_after m before) now (begins m some own before s (begun now s).state n refl refl refl) n.role peer p.stranger x.body
       (subst (λ k. BodyFits m (world_after m before) k x.body) p.sender fits) p.sound)
-  event_taken s Open n fits others passed = inl (opening_without own s.stored)
+  event_taken s Open n fits others passed = inl (opening_without own s.stored, refl)
 
   -- only a leader takes more tokens
-  brings_none : (s : GroupState) (e : GroupEvent) → refusal_of own s e ≡ None → is_leader s.role ≡ false → brought s.stored e ≡ []
+  pub brings_none : (s : GroupState) (e : GroupEvent) → refusal_of own s e ≡ None → is_leader s.role ≡ false → brought s.stored e ≡ []
   brings_none s AddGroup passed lone = refl
   brings_none s (Call (Initialize first) now) passed lone = refl
   brings_none s (Call Elect now) passed lone = refl
@@ -359,7 +359,7 @@ module _ (m : Membership) (some : 0 < length m.configs) (own : ℕ) (small : own
       let is : group_step own s e ≡ finished own s.committed r0 = ap (λ o. step_unless o own s e) passed in
       subst (Waiting s (brought s.stored e)) (sym is)
       (⊎_elim
-      (λ x. inl (finished_without s.committed r0 on.0 on.1 x))
+      (λ x. inl (finished_without s.committed r0 on.0 on.1 x.0, x.1))
       (λ x.
       inr
       (finished_waits s (brought s.stored e)

@@ -107,7 +107,7 @@ no_tokens s e b =
       rise = subst Rise (sym e) tt;
     }
 
-which_role : (role : Role) → (is_leader role ≡ false) ⊎ ((lead : Lead) × (role ≡ Leader lead))
+pub which_role : (role : Role) → (is_leader role ≡ false) ⊎ ((lead : Lead) × (role ≡ Leader lead))
 which_role Follower = inl refl
 which_role (Candidate granters) = inl refl
 which_role (Leader lead) = inr (lead, refl)
@@ -256,7 +256,7 @@ module _ (m : Membership) (some : 0 < length m.configs) (own : ℕ) (small : own
   pub waits_after : TokensWait r.state
   waits_after =
       ⊎_elim
-      (λ x. no_tokens r.state x.quiet.untold x.began)
+      (λ x. no_tokens r.state x.0.quiet.untold x.0.began)
       (λ w. goes_on w)
       (step_waits m some own small before s e fits event_fits h.others passed)
 
@@ -297,9 +297,11 @@ start_waits : (n : ℕ) (b : Bool) → NodeWaits n (state_or b (Up (state_of no_
 start_waits n true = no_tokens (state_of no_group) refl (none_began Follower no_group refl)
 start_waits n false = tt
 
+pub node_waits : (ids : List ℕ) → AreNodeIds ids → (rs : List Recorded) (end : GroupWorld) → Replays (new_world ids) rs end → (n : ℕ) → NodeWaits n (end.nodes n)
+node_waits ids small rs end run n = along_nodes NodeWaits nodes_wait ids small start_waits rs end run n
+
 pub tokens_wait : (ids : List ℕ) → AreNodeIds ids → (rs : List Recorded) (end : GroupWorld) → Replays (new_world ids) rs end → (n : ℕ) (s : GroupState) → end.nodes n ≡ Up s → TokensWait s
-tokens_wait ids small rs end run n s up =
-    subst (NodeWaits n) up (along_nodes NodeWaits nodes_wait ids small start_waits rs end run n)
+tokens_wait ids small rs end run n s up = subst (NodeWaits n) up (node_waits ids small rs end run n)
 
 pub waits_own : WaitsOwn
 waits_own ids rs end h n s up =

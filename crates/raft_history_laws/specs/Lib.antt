@@ -10,3 +10,5 @@ pub mod ToldAnswers
 pub mod ToldAnswersRun
 pub mod Candidates
 pub mod CandidatesRun
+pub mod TokenEnds
+pub mod TokenEndsRun

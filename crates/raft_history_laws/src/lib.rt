@@ -3,6 +3,7 @@
 #![tactic(auto)]
 
 pub mod candidates;
+pub mod ends;
 pub mod leader_lists;
 pub mod origins;
 pub mod snapshots;
