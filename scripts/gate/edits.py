@@ -2,7 +2,8 @@
 
 An edit has a line 'file: PATH' and pairs of lines 'old: TEXT' and 'new: TEXT', as a must-fail edit
 of rt. It may have a line 'why: ..', what a user would lose, and lines 'only: CRATE::PATH': the
-functions that must be refused, where these aren't just those whose bodies are turned.
+functions that must be refused, where these aren't just those whose bodies are turned. An edit that
+turns a definition and has no such line is refused where any function of the crate is.
 """
 import glob
 import os
@@ -23,6 +24,8 @@ class Edit:
         self.functions = tuple(re.findall(r"(?m)^only: *(\S+)", text))
         # The functions whose bodies it turns, or none where it turns something else too.
         self.bodies = ()
+        # Whether it is enough that one of its functions is refused.
+        self.takes_any = False
 
     def made(self, texts):
         """Returns the files' texts with this edit made too, or None and why it can't be made."""
@@ -75,6 +78,10 @@ def read(crate, folder):
         if not it.fault:
             it.bodies = names.turned(it)
             it.functions = it.functions or it.bodies
+            # (a turned definition that names nobody: some function of the crate must be refused)
+            it.takes_any = not it.functions and all(path.startswith("specs/") for path, _, _ in it.pairs)
+            if it.takes_any:
+                it.functions = tuple(map(names.name, names.functions))
     return found
 
 

@@ -124,12 +124,13 @@ class Tries:
             return
         for it in edits:
             said = [ran.refuses(name, len(edits) == 1) for name in it.functions]
-            if all(well for well, _ in said):
+            refused = [well for well, _ in said]
+            if any(refused) if it.takes_any else all(refused):
                 self.refused.append(it)
             elif len(edits) > 1:
                 self.round([it])
             else:
-                whys = [why for well, why in said if not well]
+                whys = [why for well, why in said if not well][:3]
                 self.failed[it] = f"is NOT REFUSED: {'; '.join(whys)}"
 
     def parts(self, edits, ran, texts):

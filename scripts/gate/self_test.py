@@ -10,6 +10,7 @@ import rounds
 SOURCE = """//! A tiny crate.
 #![tactic(auto)]
 ghost use Rattle.std.specs.Prelude.{◌≡◌, ◌+◌, ◌<◌};
+ghost use Rattle.tiny.specs.Low.{low};
 
 /// The next number.
 pub fn next(number: u8) -> u8
@@ -29,11 +30,20 @@ pub fn after_next(number: u8) -> u8
 
 /// A number below nine, whichever.
 pub fn small() -> u8
-    ensures { result < 9 }
+    ensures { result < low }
 {
     let small = 3;
     small
 }
+"""
+
+DEFINITIONS = """use Rattle.std.specs.Prelude.{ℕ}
+
+abbrev pub low : ℕ
+low = 9
+
+abbrev pub other : ℕ
+other = 9
 """
 
 # Each edit's lines, and how what is said of it begins (None: it is refused).
@@ -43,7 +53,9 @@ WANTED = {
     "lacks_its_text": ("old: = 5;\nnew: = 4;", "can't be made"),
     "names_no_function": ("only: tiny::last\nold: = 3;\nnew: = 9;", "names a function"),
     "refuses_a_caller_alone": ("only: tiny::after_next\nold: 1 + n\nnew: 2 + n", "is NOT REFUSED"),
-    "turns_a_contract": ("old: result < 9\nnew: result < 3", "turns no body"),
+    "turns_a_contract": ("old: result < low\nnew: result < 3", "turns no body"),
+    "turns_a_definition": ("file: specs/Low.antt\nold: low = 9\nnew: low = 3", None),
+    "turns_an_unused_definition": ("file: specs/Low.antt\nold: other = 9\nnew: other = 3", "is NOT REFUSED"),
     "unreadable": ("old: next(next(number))\nnew: next(next(nummer))", "doesn't read"),
 }
 
@@ -62,8 +74,11 @@ def with_the_prover(top):
     """Returns what is wrong in how the edits of a tiny crate are told, and the seconds it took."""
     write(f"{top}/crates.txt", "tiny:\n")
     write(f"{top}/crates/tiny/src/lib.rt", SOURCE)
+    write(f"{top}/crates/tiny/specs/Lib.antt", "pub mod Low\n")
+    write(f"{top}/crates/tiny/specs/Low.antt", DEFINITIONS)
     for name, (lines, _) in WANTED.items():
-        write(f"{top}/edits/{name}.edit", f"file: src/lib.rt\n{lines}\n")
+        file = "" if lines.startswith("file: ") else "file: src/lib.rt\n"
+        write(f"{top}/edits/{name}.edit", f"{file}{lines}\n")
     crate = kit.crates(top)["tiny"]
     tries = rounds.Tries(crate, edits.read(crate, f"{top}/edits"))
     tries.run()
@@ -82,6 +97,7 @@ class _Edit:
 
     def __init__(self, name):
         self.name, self.fault, self.functions, self.bodies = name, None, (f"a::{name}",), (name,)
+        self.takes_any = False
 
     def made(self, texts):
         return {**texts, self.name: ""}, None
