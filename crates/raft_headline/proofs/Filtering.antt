@@ -1,5 +1,5 @@
 -- A cluster's history replays for a group just if its filtered one does.
-use Rattle.std.specs.Prelude.{◌≡◌, ℕ, ◌==◌, Bool, true, false, if◌then◌else◌, List, [], ◌∷◌, filter, map, cond, Some, refl}
+use Rattle.std.specs.Prelude.{◌≡◌, ℕ, ◌==◌, Bool, true, false, if◌then◌else◌, List, [], ◌∷◌, filter, map, cond, Option, Some, None, refl}
 use Rattle.std.proofs.Common.{sym, ap, ◌∙◌, subst}
 use Rattle.std.specs.List.{find}
 use Rattle.raft_laws.specs.declared.world_event.WorldEvent.{WorldEvent}
@@ -131,7 +131,7 @@ module _ (h : ℕ) where
 
   -- ---- and is told the same
 
-  module _ (op : Bool) (answers : ℕ → List ℕ) where
+  module _ (op : Bool) (answers : ℕ → Option (List ℕ)) where
     parts_on : (opening : Bool) (parts : List (ℕ × Said)) (what : Outcome) → Says h opening answers (Opened parts) what → Says h opening answers (Opened (own_parts h parts)) what
     parts_on true parts (Ended sent told unknown) s = subst (λ (said : Said). IsSaid answers said sent told unknown) (sym (said_kept parts)) s
     parts_on false parts (Ended sent told unknown) s = absurd s
@@ -181,7 +181,7 @@ module _ (h : ℕ) where
   module _ (rules : MachineRules) where
     -- whether it stopped counts, and what it says
     pub same_step : (e : WorldEvent) (r s : Recorded) (k : ℕ) (old new : Replicas) → s.node ≡ r.node → is_stopped s.outcome ≡ is_stopped r.outcome
-        → ((op : Bool) (answers : ℕ → List ℕ) (what : Outcome) → Says h op answers r.outcome what → Says h op answers s.outcome what)
+        → ((op : Bool) (answers : ℕ → Option (List ℕ)) (what : Outcome) → Says h op answers r.outcome what → Says h op answers s.outcome what)
         → OwnStep rules h e r k old new → OwnStep rules h e s k old new
     same_step e r s k old new node stop says step = record {
       answers = step.answers;
@@ -214,11 +214,11 @@ module _ (h : ℕ) where
 
     halt_on : (n : ℕ) (o : ClusterOutcome) (old new : Replicas) → HaltStep rules h n o old new → HaltStep rules h n (own_outcome h o) old new
     halt_on n o old new step =
-        record { world = step.world; machines = step.machines; says = says_on false (λ place. []) o _ step.says }
+        record { world = step.world; machines = step.machines; says = says_on false (λ place. None) o _ step.says }
 
     halt_back : (n : ℕ) (o : ClusterOutcome) (old new : Replicas) → HaltStep rules h n (own_outcome h o) old new → HaltStep rules h n o old new
     halt_back n o old new step =
-        record { world = step.world; machines = step.machines; says = says_back false (λ place. []) o _ step.says }
+        record { world = step.world; machines = step.machines; says = says_back false (λ place. None) o _ step.says }
 
     -- what is passed over leads nowhere
     module _ (r : Recorded) (is : seen_by h r ≡ Passed) (numbers : List ℕ) (old : Replicas) where

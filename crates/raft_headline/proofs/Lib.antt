@@ -1,1 +1,13 @@
 pub mod Filtering
+pub mod StepApplies
+pub mod StepRuns
+pub mod Folding
+pub mod NodeFacts
+pub mod WorldMachines
+pub mod AsGroup
+pub mod Splitting
+pub mod Origins
+pub mod Headlines
+pub mod Tells
+pub mod Stopping
+pub mod TheHeadline

@@ -1,5 +1,6 @@
 -- Machines beside a group: what each node's machine runs as its group commits, and the bytes of snapshots.
-use Rattle.std.specs.Prelude.{◌≡◌, ℕ, ◌+◌, Bool, true, false, List, [], ◌∷◌, ◌++◌, map, take, drop, slice_get, Option, Some, None, Contains}
+use Rattle.std.specs.Prelude.{◌≡◌, ℕ, ◌+◌, Bool, true, false, nat_lt, if◌then◌else◌, List, [], ◌∷◌, ◌++◌, map, take, drop, slice_get, Option, Some, None, option_map, Contains}
+use Rattle.std.specs.List.{last_or}
 use Rattle.raft_state.specs.declared.entry.EntryPayload.TheVariants.{Blank, Normal, Membership as Members}
 use Rattle.raft_group_step.specs.Values.{Entry, EntryPayload}
 use Rattle.raft_group_step.specs.StoredGroup.{Snapshot, StoringCommand, MakeGroup, SetVote, PutEntries, CutFrom, RemoveUpTo, SetSnapshot, StartAfter}
@@ -13,7 +14,7 @@ use Rattle.raft_laws.specs.NodeEvent.{NodeEvent, Comes, Crashes, Halts, Restarts
 use Rattle.raft_laws.specs.GroupRun.{Scene, Nowhere, At}
 use Rattle.raft_laws.specs.OneList.{applied_list}
 use Rattle.raft_node.specs.Machine.{MachineRules}
-use Rattle.raft_node.specs.Fold.{GroupEntry, GroupPayload, answer_at, answer_in, fold_of, state_from}
+use Rattle.raft_node.specs.Fold.{GroupEntry, GroupPayload, answer_at, answer_to_payload, fold_of, state_from}
 
 -- ---- a list as a machine reads it
 
@@ -46,10 +47,11 @@ pub record Standing : Type 0 where
 abbrev pub run_on : MachineRules → Standing → List Entry → List ℕ
 run_on rules at es = state_from rules at.state at.count (machine_list (drop at.count es))
 
--- its answer as it runs the entry at a place
-abbrev pub answer_on : MachineRules → Standing → List Entry → ℕ → List ℕ
+-- its answer as it runs the entry at a place. There is none where it has run that before, or doesn't come so far
+abbrev pub answer_on : MachineRules → Standing → List Entry → ℕ → Option (List ℕ)
 answer_on rules at es place =
-    answer_in rules (run_on rules at (take place es)) place (slice_get (machine_list es) place)
+    if nat_lt place at.count then None
+    else option_map (λ (e : GroupEntry). answer_to_payload rules (run_on rules at (take place es)) place e.payload) (slice_get (machine_list es) place)
 
 -- ---- snapshots
 
@@ -67,27 +69,27 @@ snapshot_in (RemoveUpTo id) = None
 snapshot_in (SetSnapshot x) = Some x
 snapshot_in (StartAfter id) = None
 
-abbrev pub later_of : Option Snapshot → Option Snapshot → Option Snapshot
-later_of first None = first
-later_of first (Some x) = Some x
+abbrev pub with_snapshot : Option Snapshot → List Snapshot → List Snapshot
+with_snapshot None xs = xs
+with_snapshot (Some x) xs = x ∷ xs
 
--- the last snapshot that these commands store, if there is one
-abbrev pub snapshot_stored : List StoringCommand → Option Snapshot
-snapshot_stored [] = None
-snapshot_stored (c ∷ cs) = later_of (snapshot_in c) (snapshot_stored cs)
+-- the snapshots that these commands store, in their order
+abbrev pub snapshots_of : List StoringCommand → List Snapshot
+snapshots_of [] = []
+snapshots_of (c ∷ cs) = with_snapshot (snapshot_in c) (snapshots_of cs)
 
--- a snapshot that came in a message is installed, and one that was asked for is built
-abbrev pub installed_by : GroupEvent → List StoringCommand → Option Snapshot
-installed_by AddGroup cs = None
-installed_by (Call call now) cs = None
-installed_by (Receive peer message now) cs = snapshot_stored cs
-installed_by Open cs = None
+-- those that came in a message, and those that a call asked for
+abbrev pub brought_by : GroupEvent → List StoringCommand → List Snapshot
+brought_by AddGroup cs = []
+brought_by (Call call now) cs = []
+brought_by (Receive peer message now) cs = snapshots_of cs
+brought_by Open cs = []
 
-abbrev pub asked_by : GroupEvent → List StoringCommand → Option Snapshot
-asked_by AddGroup cs = None
-asked_by (Call call now) cs = snapshot_stored cs
-asked_by (Receive peer message now) cs = None
-asked_by Open cs = None
+abbrev pub asked_by : GroupEvent → List StoringCommand → List Snapshot
+asked_by AddGroup cs = []
+asked_by (Call call now) cs = snapshots_of cs
+asked_by (Receive peer message now) cs = []
+asked_by Open cs = []
 
 -- the law of a machine: what its snapshot restores is the state that it was given of
 abbrev pub KeepsItsLaw : MachineRules → List ℕ → Type 0
@@ -106,7 +108,7 @@ abbrev pub new_replicas : MachineRules → List ℕ → Replicas
 new_replicas rules ids =
     record { world = new_world ids; machines = λ n. rules.first; built = [] }
 
--- a step that a node's machine takes part in: where the machine stands, and whose bytes it is to restore
+-- a step that a node's machine takes part in: where the machine stands, and the snapshot that it is to restore, if any
 pub record Turn : Type 0 where
   pub state : GroupState
   pub event : GroupEvent
@@ -122,7 +124,7 @@ turn_of rules n machine (Comes e) (Up s) =
       state = s;
       event = e;
       before = record { state = machine; count = place_above s.applied };
-      restores = installed_by e (group_step n s e).commands;
+      restores = last_or None (brought_by e (group_step n s e).commands);
     })
 turn_of rules n machine Crashes (Up s) = None
 turn_of rules n machine Halts (Up s) = None
@@ -139,22 +141,25 @@ turn_of rules n machine Restarts (Down stored) =
       restores = stored.snapshot;
     })
 
--- the machine goes on where it stood, or where bytes that were given for the snapshot bring it
+-- the snapshot has bytes
+abbrev pub HasBytes : List Built → Snapshot → Type 0
+HasBytes built x = (bytes : List ℕ) × Contains built (record { snapshot = x; bytes = bytes })
+
+-- the machine goes on where it stood, or where the bytes of the snapshot bring it
 abbrev pub StandsAt : MachineRules → List Built → Standing → Option Snapshot → Standing → Type 0
 StandsAt rules built before None at = at ≡ before
 StandsAt rules built before (Some x) at =
-    (bytes : List ℕ) × Contains built (record { snapshot = x; bytes = bytes })
-    × (at ≡ record { state = rules.restored bytes; count = x.last.index + 1 })
+    (has : HasBytes built x) × (at ≡ record { state = rules.restored has.0; count = x.last.index + 1 })
 
 -- the machine gives the bytes of a snapshot that is asked for, before it runs on
-abbrev pub built_of : MachineRules → List ℕ → Option Snapshot → List Built
-built_of rules state None = []
-built_of rules state (Some x) = record { snapshot = x; bytes = rules.snapshot state } ∷ []
+abbrev pub given_of : MachineRules → List ℕ → List Snapshot → List Built
+given_of rules state xs =
+    map (λ (x : Snapshot). record { snapshot = x; bytes = rules.snapshot state }) xs
 
 -- it keeps its law where one is asked for
-abbrev pub GivesRightly : MachineRules → List ℕ → Option Snapshot → Type 0
-GivesRightly rules state None = Unit {0}
-GivesRightly rules state (Some x) = KeepsItsLaw rules state
+abbrev pub GivesRightly : MachineRules → List ℕ → List Snapshot → Type 0
+GivesRightly rules state [] = Unit {0}
+GivesRightly rules state (x ∷ xs) = KeepsItsLaw rules state
 
 -- of a node that goes down nothing is left
 abbrev pub machines_after : Bool → ℕ → List ℕ → (ℕ → List ℕ) → ℕ → List ℕ
@@ -162,26 +167,27 @@ machines_after true n state machines = machines
 machines_after false n state machines = with_value machines n state
 
 -- the machine of node n takes this turn, in a step that stops or runs to its end
-pub record TakesTurn (rules : MachineRules) (n : ℕ) (turn : Turn) (stops : Bool) (old new : Replicas) (answers : ℕ → List ℕ) : Type 0 where
+pub record TakesTurn (rules : MachineRules) (n : ℕ) (turn : Turn) (stops : Bool) (old new : Replicas) (answers : ℕ → Option (List ℕ)) : Type 0 where
   pub at : Standing
   pub stands : StandsAt rules old.built turn.before turn.restores at
   pub machines : new.machines ≡ machines_after stops n (run_on rules at (applied_list (group_step n turn.state turn.event).state)) old.machines
-  pub rightly : GivesRightly rules turn.before.state (asked_by turn.event (group_step n turn.state turn.event).commands)
-  pub built : new.built ≡ old.built ++ built_of rules turn.before.state (asked_by turn.event (group_step n turn.state turn.event).commands)
   pub answered : answers ≡ answer_on rules at (applied_list (group_step n turn.state turn.event).state)
+  pub brought : (x : Snapshot) → Contains (brought_by turn.event (group_step n turn.state turn.event).commands) x → HasBytes old.built x
+  pub rightly : GivesRightly rules turn.before.state (asked_by turn.event (group_step n turn.state turn.event).commands)
+  pub given : new.built ≡ old.built ++ given_of rules turn.before.state (asked_by turn.event (group_step n turn.state turn.event).commands)
 
 -- no machine runs
 pub record StandsStill (old new : Replicas) : Type 0 where
   pub machines : new.machines ≡ old.machines
   pub built : new.built ≡ old.built
 
-abbrev pub MachinesMove : MachineRules → ℕ → Option Turn → Bool → Replicas → Replicas → (ℕ → List ℕ) → Type 0
+abbrev pub MachinesMove : MachineRules → ℕ → Option Turn → Bool → Replicas → Replicas → (ℕ → Option (List ℕ)) → Type 0
 MachinesMove rules n None stops old new answers = StandsStill old new
 MachinesMove rules n (Some turn) stops old new answers =
     TakesTurn rules n turn stops old new answers
 
 -- so where the event happens
-abbrev pub MachinesMoveIn : MachineRules → Scene → Bool → Replicas → Replicas → (ℕ → List ℕ) → Type 0
+abbrev pub MachinesMoveIn : MachineRules → Scene → Bool → Replicas → Replicas → (ℕ → Option (List ℕ)) → Type 0
 MachinesMoveIn rules Nowhere stops old new answers = StandsStill old new
 MachinesMoveIn rules (At n e) stops old new answers =
     MachinesMove rules n (turn_of rules n (old.machines n) e (old.world.nodes n)) stops old new answers

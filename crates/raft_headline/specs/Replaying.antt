@@ -1,5 +1,5 @@
 -- A cluster's history as one of a group: what it leads to, for numbers of the group's own stops.
-use Rattle.std.specs.Prelude.{◌≡◌, ◌↔◌, ℕ, Bool, true, false, List, [], ◌∷◌}
+use Rattle.std.specs.Prelude.{◌≡◌, ◌↔◌, ℕ, Bool, true, false, List, [], ◌∷◌, Option, Some, None}
 use Rattle.raft_group_step.specs.Message.{Message}
 use Rattle.raft_group_step.specs.GroupState.{Untold}
 use Rattle.raft_laws.specs.declared.world_event.WorldEvent.{WorldEvent}
@@ -14,25 +14,25 @@ use Rattle.raft_headline.specs.Machines.{MachinesMoveIn, Replicas, StandsStill}
 
 -- ---- what an outcome says of a group
 
--- the token is told at its place, with the machine's answer there
-pub record IsToldAs (answers : ℕ → List ℕ) (t : Told) (x : Untold) : Type 0 where
+-- the token is told at its place, with the machine's answer as it runs the entry there
+pub record IsToldAs (answers : ℕ → Option (List ℕ)) (t : Told) (x : Untold) : Type 0 where
   pub token : t.token ≡ x.token
   pub place : t.place ≡ x.place
-  pub answer : t.answer ≡ answers x.place
+  pub answer : answers x.place ≡ Some t.answer
 
-abbrev pub AreToldAs : (ℕ → List ℕ) → List Told → List Untold → Type 0
+abbrev pub AreToldAs : (ℕ → Option (List ℕ)) → List Told → List Untold → Type 0
 AreToldAs answers [] [] = Unit {0}
 AreToldAs answers [] (x ∷ xs) = ⊥
 AreToldAs answers (t ∷ ts) [] = ⊥
 AreToldAs answers (t ∷ ts) (x ∷ xs) = IsToldAs answers t x × AreToldAs answers ts xs
 
-pub record IsSaid (answers : ℕ → List ℕ) (said : Said) (messages : List Message) (tells : List Untold) (lost : List ℕ) : Type 0 where
+pub record IsSaid (answers : ℕ → Option (List ℕ)) (said : Said) (messages : List Message) (tells : List Untold) (lost : List ℕ) : Type 0 where
   pub sent : said.sent ≡ messages
   pub told : AreToldAs answers said.told tells
   pub unknown : said.unknown ≡ lost
 
 -- the outcome of an opening has a part for each group, and that of another event is its group's
-abbrev pub SaysEnd : ℕ → Bool → (ℕ → List ℕ) → ClusterOutcome → List Message → List Untold → List ℕ → Type 0
+abbrev pub SaysEnd : ℕ → Bool → (ℕ → Option (List ℕ)) → ClusterOutcome → List Message → List Untold → List ℕ → Type 0
 SaysEnd h true answers (Opened parts) sent told unknown = IsSaid answers (said_of h parts) sent told unknown
 SaysEnd h false answers (Done said) sent told unknown = IsSaid answers said sent told unknown
 SaysEnd h true answers (Done said) sent told unknown = ⊥
@@ -54,7 +54,7 @@ SaysStop h PassedOver unknown = ⊥
 SaysStop h TurnedAway unknown = ⊥
 
 -- what became of the group's event is what the outcome says
-abbrev pub Says : ℕ → Bool → (ℕ → List ℕ) → ClusterOutcome → Outcome → Type 0
+abbrev pub Says : ℕ → Bool → (ℕ → Option (List ℕ)) → ClusterOutcome → Outcome → Type 0
 Says h opening answers o (Ended sent told unknown) = SaysEnd h opening answers o sent told unknown
 Says h opening answers o (Declined why) = o ≡ Refused why
 Says h opening answers o (Broken unknown) = SaysStop h o unknown
@@ -99,7 +99,7 @@ with_number false k numbers = numbers
 module _ (rules : MachineRules) (h : ℕ) where
   -- an event of the group, which stopped after its first k storing commands if it stopped
   pub record OwnStep (e : WorldEvent) (r : Recorded) (k : ℕ) (old new : Replicas) : Type 0 where
-    pub answers : ℕ → List ℕ
+    pub answers : ℕ → Option (List ℕ)
     pub there : IsThere (scene_of old.world e) r.node
     pub world : new.world ≡ happens old.world e (outcome_of old.world e (is_stopped r.outcome)) k
     pub machines : MachinesMoveIn rules (scene_of old.world e) (is_stop (outcome_of old.world e (is_stopped r.outcome))) old new answers
@@ -109,7 +109,7 @@ module _ (rules : MachineRules) (h : ℕ) where
   pub record HaltStep (n : ℕ) (o : ClusterOutcome) (old new : Replicas) : Type 0 where
     pub world : new.world ≡ happens old.world (event.Halt n) (outcome_of old.world (event.Halt n) true) 0
     pub machines : StandsStill old new
-    pub says : Says h false (λ place. []) o (outcome_of old.world (event.Halt n) true)
+    pub says : Says h false (λ place. None) o (outcome_of old.world (event.Halt n) true)
 
   pub record CrashStep (n : ℕ) (o : ClusterOutcome) (old new : Replicas) : Type 0 where
     pub world : new.world ≡ happens old.world (event.Crash n) (outcome_of old.world (event.Crash n) false) 0

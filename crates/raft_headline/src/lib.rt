@@ -2,3 +2,5 @@
 #![tactic(auto)]
 
 pub mod filter;
+pub mod folds;
+pub mod headline;

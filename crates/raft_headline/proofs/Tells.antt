@@ -1,0 +1,249 @@
+-- What an event tells stands on the list, with the fold's answer.
+use Rattle.std.specs.Prelude.{◌≡◌, ◌==◌, ◌<◌, ℕ, zero, suc, Bool, true, false, List, [], ◌∷◌, ◌++◌, length, slice_get, Option, Some, None, is_some, Contains, refl}
+use Rattle.std.proofs.Common.{inl, inr, sym, ap, ◌∙◌, subst, arith, append_assoc}
+use Rattle.std.proofs.lemmas.Option.{slice_get_within}
+use Rattle.raft_group_step.specs.Message.{Message}
+use Rattle.raft_group_step.specs.GroupState.{Untold}
+use Rattle.raft_laws.specs.BallotLists.{AgreeBelow}
+use Rattle.raft_laws.specs.declared.world_event.WorldEvent.{WorldEvent}
+use Rattle.raft_laws.specs.declared.world_event.WorldEvent.TheVariants as event
+use Rattle.raft_laws.specs.GroupWorld.{GroupWorld, Outcome, Skipped, is_stop, new_world}
+use Rattle.raft_laws.specs.GroupWorld.{Done as Ended, Refused as Declined, Stopped as Broken, Recorded as GroupRecorded}
+use Rattle.raft_laws.specs.GroupRun.{IsReplayed, after_scene, group_run, happens, history_of, outcome_of, ran, scene_of, stop_at}
+use Rattle.raft_laws.specs.OneList.{AreNodeIds}
+use Rattle.raft_laws.specs.Origins.{Events, IsRecordedAt, IsTold}
+use Rattle.raft_laws.specs.Settled.{group_list}
+use Rattle.raft_laws.proofs.Counts.{at_contains, contains_at}
+use Rattle.raft_laws.proofs.Runs.{replays-run}
+use Rattle.raft_laws.proofs.WorldOrigins.{run_more}
+use Rattle.raft_laws.proofs.WorldRecorded.{asked_is_recorded}
+use Rattle.raft_laws.proofs.WorldTold.{told_tokens_stand}
+use Rattle.raft_node.specs.Machine.{MachineRules}
+use Rattle.raft_headline.specs.ClusterEvent.{ClusterEvent, AddGroup, Ask, Deliver, ResetPeer, Clean, Crash, Reopen, Halt, ClusterOutcome, Done, Opened, Refused, Stopped, Fused, PassedOver, TurnedAway, Recorded, Said, Told, is_stopped, is_turned_away, said_of}
+use Rattle.raft_headline.specs.Seen.{Own, own_or_aside, seen_by, seen_of, seen_unless}
+use Rattle.raft_headline.specs.Machines.{Replicas, list_answer, new_replicas}
+use Rattle.raft_headline.specs.Replaying.{AreToldAs, IsToldAs, OwnStep, ReplaysFor, ReplaysWith, Says, StepsTo, is_opening}
+use Rattle.raft_headline.specs.Headline.{IsOriginOf, IsToldRightly, ToldStand, said_at_opening, said_by, said_if}
+use Rattle.raft_headline.proofs.AsGroup.{Aligned, Led, RecordOf, Stepped, led, own_answers, own_stepped, place_in}
+use Rattle.raft_headline.proofs.Folding.{AnswersFold, answer_front}
+use Rattle.raft_headline.proofs.Headlines.{leads_there}
+use Rattle.raft_headline.proofs.NodeFacts.{list_front}
+use Rattle.raft_headline.proofs.Origins.{asked_for, origin_there}
+use Rattle.raft_headline.proofs.Splitting.{Between, cut_at, in_front, split}
+
+-- ---- what was said of the group
+
+-- the group's step tells the token, with the machine's answer
+record ToldOf (answers : ℕ → Option (List ℕ)) (what : Outcome) (t : Told) : Type 0 where
+  sent : List Message
+  tells : List Untold
+  lost : List ℕ
+  is : what ≡ Ended sent tells lost
+  token : Untold
+  has : Contains tells token
+  told_as : IsToldAs answers t token
+
+-- the told answer is of an event of the group that ran to its end
+record ToldBy (h : ℕ) (r : Recorded) (t : Told) : Type 0 where
+  event : WorldEvent
+  seen : seen_by h r ≡ Own event
+  goes : is_stopped r.outcome ≡ false
+  told : (answers : ℕ → Option (List ℕ)) (what : Outcome) → Says h (is_opening event) answers r.outcome what → ToldOf answers what t
+
+-- which token it is
+record OneOf (answers : ℕ → Option (List ℕ)) (xs : List Untold) (t : Told) : Type 0 where
+  number : ℕ
+  token : Untold
+  there : slice_get xs number ≡ Some token
+  told_as : IsToldAs answers t token
+
+one_of : (answers : ℕ → Option (List ℕ)) (ts : List Told) (xs : List Untold) (t : Told) (n : ℕ) → AreToldAs answers ts xs → slice_get ts n ≡ Some t → OneOf answers xs t
+one_of answers [] xs t n h e = absurd (let f : None ≡ Some t = e in cc)
+one_of answers (u ∷ ts) [] t n h e = absurd h
+one_of answers (u ∷ ts) (x ∷ xs) t zero h e =
+    let same : u ≡ t = (let f : Some u ≡ Some t = e in cc) in
+    record { number = 0; token = x; there = refl; told_as = subst (λ v. IsToldAs answers v x) same h.0 }
+one_of answers (u ∷ ts) (x ∷ xs) t (suc n) h e =
+    let o = one_of answers ts xs t n h.1 e in
+    record { number = suc o.number; token = o.token; there = o.there; told_as = o.told_as }
+
+no_tells : {P : Type 0} (t : Told) → Contains [] t → P
+no_tells t has = let l = has.1 in absurd (omega arith)
+
+module _ (h : ℕ) (t : Told) where
+  said_ends : (answers : ℕ → Option (List ℕ)) (ts : List Told) (sent : List Message) (tells : List Untold) (lost : List ℕ) → Contains ts t → AreToldAs answers ts tells → ToldOf answers (Ended sent tells lost) t
+  said_ends answers ts sent tells lost has h1 =
+      let at = contains_at ts t has in
+      let o = one_of answers ts tells t at.0 h1 at.1 in
+      record { sent = sent; tells = tells; lost = lost; is = refl; token = o.token; has = at_contains tells o.token o.number o.there; told_as = o.told_as }
+
+  done_says : (said : Said) (answers : ℕ → Option (List ℕ)) (what : Outcome) → Contains said.told t → Says h false answers (Done said) what → ToldOf answers what t
+  done_says said answers (Ended sent tells lost) has s = said_ends answers said.told sent tells lost has s.told
+  done_says said answers (Declined why) has s = absurd (let f : Done said ≡ Refused why = s in cc)
+  done_says said answers (Broken lost) has s = absurd s
+  done_says said answers Skipped has s = absurd (let f : Done said ≡ PassedOver = s in cc)
+
+  opened_says : (parts : List (ℕ × Said)) (answers : ℕ → Option (List ℕ)) (what : Outcome) → Contains (said_of h parts).told t → Says h true answers (Opened parts) what → ToldOf answers what t
+  opened_says parts answers (Ended sent tells lost) has s = said_ends answers (said_of h parts).told sent tells lost has s.told
+  opened_says parts answers (Declined why) has s = absurd (let f : Opened parts ≡ Refused why = s in cc)
+  opened_says parts answers (Broken lost) has s = absurd s
+  opened_says parts answers Skipped has s = absurd (let f : Opened parts ≡ PassedOver = s in cc)
+
+  -- an event of the group
+  own_told : (r : Recorded) (b : Bool) (e : WorldEvent) (n : ℕ) (o : ClusterOutcome) → r.outcome ≡ o → is_opening e ≡ false → ((away : Bool) → is_turned_away o ≡ away → seen_by h r ≡ seen_unless away (own_or_aside b e n o)) → Contains (said_if b o).told t → ToldBy h r t
+  own_told r true e n (Done said) is opening sees has = record {
+    event = e;
+    seen = sees false refl;
+    goes = ap is_stopped is;
+    told = λ answers what s. done_says said answers what has (subst (λ k. Says h k answers (Done said) what) opening (subst (λ o. Says h (is_opening e) answers o what) is s));
+  }
+  own_told r true e n (Opened parts) is opening sees has = no_tells t has
+  own_told r true e n (Refused why) is opening sees has = no_tells t has
+  own_told r true e n (Stopped lost) is opening sees has = no_tells t has
+  own_told r true e n Fused is opening sees has = no_tells t has
+  own_told r true e n PassedOver is opening sees has = no_tells t has
+  own_told r true e n TurnedAway is opening sees has = no_tells t has
+  own_told r false e n o is opening sees has = no_tells t has
+
+  -- an opening
+  opening_told : (r : Recorded) (n : ℕ) (o : ClusterOutcome) → r.outcome ≡ o → ((away : Bool) → is_turned_away o ≡ away → seen_by h r ≡ seen_unless away (Own (event.Restart n))) → Contains (said_at_opening h o).told t → ToldBy h r t
+  opening_told r n (Done said) is sees has = no_tells t has
+  opening_told r n (Opened parts) is sees has = record {
+    event = event.Restart n;
+    seen = sees false refl;
+    goes = ap is_stopped is;
+    told = λ answers what s. opened_says parts answers what has (subst (λ o. Says h true answers o what) is s);
+  }
+  opening_told r n (Refused why) is sees has = no_tells t has
+  opening_told r n (Stopped lost) is sees has = no_tells t has
+  opening_told r n Fused is sees has = no_tells t has
+  opening_told r n PassedOver is sees has = no_tells t has
+  opening_told r n TurnedAway is sees has = no_tells t has
+
+  sees_as : (r : Recorded) (e : ClusterEvent) (o : ClusterOutcome) → r.event ≡ e → r.outcome ≡ o → (away : Bool) → is_turned_away o ≡ away → seen_by h r ≡ seen_unless away (seen_of h e r.node o)
+  sees_as r e o same is away t =
+      ap (λ x. seen_unless (is_turned_away r.outcome) (seen_of h x r.node r.outcome)) same
+      ∙ ap (λ x. seen_unless (is_turned_away x) (seen_of h e r.node x)) is
+      ∙ ap (λ b. seen_unless b (seen_of h e r.node o)) t
+
+  event_told : (r : Recorded) (e : ClusterEvent) (o : ClusterOutcome) → r.event ≡ e → r.outcome ≡ o → Contains (said_by h e o).told t → ToldBy h r t
+  event_told r (AddGroup n g) o e is has = own_told r (g == h) _ n o is refl (sees_as r (AddGroup n g) o e is) has
+  event_told r (Ask n g call now) o e is has = own_told r (g == h) _ n o is refl (sees_as r (Ask n g call now) o e is) has
+  event_told r (Deliver g number now) o e is has = own_told r (g == h) _ r.node o is refl (sees_as r (Deliver g number now) o e is) has
+  event_told r (ResetPeer n peer) o e is has = no_tells t has
+  event_told r (Clean n) o e is has = no_tells t has
+  event_told r (Crash n) o e is has = no_tells t has
+  event_told r (Reopen n) o e is has = opening_told r n o is (sees_as r (Reopen n) o e is) has
+  event_told r (Halt n) o e is has = no_tells t has
+
+-- ---- the group's history up to the event
+
+aligned_more : (rules : MachineRules) (ids : List ℕ) (h : ℕ) (front : List Recorded) (gs : List GroupRecorded) (r : Recorded) (x : GroupRecorded) → Aligned rules ids h front gs → RecordOf rules ids h (seen_by h r) r x → Aligned rules ids h (front ++ r ∷ []) (gs ++ x ∷ [])
+aligned_more rules ids h [] gs r x a of = inr (x, [], ap (λ l. l ++ x ∷ []) a, of, refl)
+aligned_more rules ids h (q ∷ front) gs r x (inl a) of = inl (aligned_more rules ids h front gs r x a of)
+aligned_more rules ids h (q ∷ front) gs r x (inr a) of =
+    inr (a.0, a.1 ++ x ∷ [], ap (λ l. l ++ x ∷ []) a.2, a.3, aligned_more rules ids h front a.1 r x a.4 of)
+
+history_more : (es : Events) (x : WorldEvent × Option ℕ) (w : GroupWorld) → history_of (es ++ x ∷ []) w ≡ history_of es w ++ record { event = x.0; outcome = outcome_of (group_run es w) x.0 (is_some x.1) } ∷ []
+history_more [] x w = refl
+history_more (e ∷ es) x w =
+    ap (λ rs. record { event = e.0; outcome = outcome_of w e.0 (is_some e.1) } ∷ rs) (history_more es x (ran w e.0 e.1))
+
+-- an event that ran to its end leads on whatever the number
+ends_alike : (w : GroupWorld) (e : WorldEvent) (o : Outcome) (k : ℕ) → is_stop o ≡ false → happens w e o k ≡ happens w e o 0
+ends_alike w e o k goes = ap (λ b. after_scene w e o (stop_at b k) (scene_of w e)) goes ∙ sym (ap (λ b. after_scene w e o (stop_at b 0) (scene_of w e)) goes)
+
+module _ (rules : MachineRules) (ids : List ℕ) (fit : AreNodeIds ids) (h : ℕ) (history front back : List Recorded) (r : Recorded) (is : history ≡ front ++ r ∷ back) (middle next end : Replicas) (k : ℕ)
+    (before : Led rules ids h [] front (new_replicas rules ids) middle) (e : WorldEvent) (goes : is_stopped r.outcome ≡ false) (seen : seen_by h r ≡ Own e) (step : OwnStep rules h e r k middle next) (after : ReplaysFor rules h next back end) where
+  abbrev gs : List GroupRecorded
+  gs = before.more
+
+  abbrev what : Outcome
+  what = outcome_of middle.world e (is_stopped r.outcome)
+
+  abbrev x : GroupRecorded
+  x = record { event = e; outcome = what }
+
+  stepped : Stepped rules ids h gs r middle next x
+  stepped = own_stepped rules ids h gs r k e middle next seen before.kept step
+
+  rest : Led rules ids h (gs ++ x ∷ []) back next end
+  rest = led rules ids h (gs ++ x ∷ []) back after.0 next end stepped.kept after.1
+
+  grows : AgreeBelow (length (group_list next.world)) (group_list next.world) (group_list end.world)
+  grows = list_front ids (gs ++ x ∷ []) rest.more next.world end.world (stepped.kept).leads rest.run
+
+  runs : IsReplayed (new_world ids) gs middle.world
+  runs = replays-run gs (new_world ids) middle.world ((before.kept).leads).replays
+
+  abbrev last : WorldEvent × Option ℕ
+  last = (e, None)
+
+  same_outcome : outcome_of (group_run runs.events (new_world ids)) e false ≡ what
+  same_outcome = ap (λ w. outcome_of w e false) runs.same_end ∙ ap (outcome_of middle.world e) (sym goes)
+
+  recorded_so : history_of (runs.events ++ last ∷ []) (new_world ids) ≡ gs ++ x ∷ []
+  recorded_so =
+      history_more runs.events last (new_world ids)
+      ∙ ap (λ l. l ++ record { event = e; outcome = outcome_of (group_run runs.events (new_world ids)) e false } ∷ []) runs.same_history
+      ∙ ap (λ (o : Outcome). gs ++ record { event = e; outcome = o } ∷ []) same_outcome
+
+  leads_there_too : is_stop what ≡ false → group_run (runs.events ++ last ∷ []) (new_world ids) ≡ next.world
+  leads_there_too ends =
+      run_more runs.events last (new_world ids)
+      ∙ ap (λ w. happens w e (outcome_of w e false) 0) runs.same_end
+      ∙ ap (λ b. happens middle.world e (outcome_of middle.world e b) 0) (sym goes)
+      ∙ sym (ends_alike middle.world e what k ends)
+      ∙ sym step.world
+
+  told_there : (t : Told) → ToldOf step.answers what t → IsToldRightly rules h history (group_list end.world) t
+  told_there t o =
+      let ends : is_stop what ≡ false = ap is_stop o.is in
+      let tale : IsTold (runs.events ++ last ∷ []) (new_world ids) o.token = told_tokens_stand ids fit runs.events last o.sent o.tells o.lost (same_outcome ∙ o.is) o.token o.has in
+      let written : IsRecordedAt (gs ++ x ∷ []) tale.number tale.call =
+      subst (λ l. IsRecordedAt l tale.number tale.call) recorded_so (asked_is_recorded (runs.events ++ last ∷ []) (new_world ids) tale.number tale.call tale.entry tale.asked)
+      in
+      let aligned = aligned_more rules ids h front gs r x before.aligned stepped.of in
+      let origin : IsOriginOf h (front ++ r ∷ []) (place_in rules ids h (front ++ r ∷ []) (gs ++ x ∷ []) aligned tale.number) tale.entry =
+      origin_there rules ids h (front ++ r ∷ []) (gs ++ x ∷ []) aligned tale.number tale.call tale.entry written (asked_for ((tale.asked).state).stored tale.call tale.entry (tale.asked).writes)
+      in
+      let there : slice_get (group_list next.world) (o.token).place ≡ Some tale.entry = ap (λ (w : GroupWorld). slice_get (group_list w) (o.token).place) (sym (leads_there_too ends)) ∙ tale.on_list in
+      let inside : (o.token).place < length (group_list next.world) = slice_get_within (group_list next.world) (o.token).place tale.entry there in
+      let answer : AnswersFold rules (group_list next.world) (o.token).place t.answer =
+      own_answers rules ids h gs r k e middle next before.kept step o.sent o.tells o.lost o.is o.token o.has t.answer (o.told_as).answer
+      in
+      let place : t.place ≡ (o.token).place = (o.told_as).place in
+      record {
+        entry = tale.entry;
+        number = place_in rules ids h (front ++ r ∷ []) (gs ++ x ∷ []) aligned tale.number;
+        stands = ap (slice_get (group_list end.world)) place ∙ sym (grows.same (o.token).place inside) ∙ there;
+        origin = record {
+          asked = origin.asked;
+          node = origin.node;
+          now = origin.now;
+          recorded = origin.recorded;
+          stands =
+              ap (λ l. slice_get l (place_in rules ids h (front ++ r ∷ []) (gs ++ x ∷ []) aligned tale.number)) (is ∙ sym (append_assoc front (r ∷ []) back))
+              ∙ in_front (front ++ r ∷ []) back _ origin.recorded origin.stands;
+          event = origin.event;
+          taken = origin.taken;
+          holds = origin.holds;
+        };
+        token = tale.token ∙ ap (λ n. n ∷ []) (sym (o.told_as).token);
+        answer =
+            answer.same
+            ∙ answer_front rules (length (group_list next.world)) (group_list next.world) (group_list end.world) grows (o.token).place inside
+            ∙ ap (list_answer rules (group_list end.world)) (sym place);
+      }
+
+pub told_stand : (rules : MachineRules) (ids : List ℕ) → AreNodeIds ids → (h : ℕ) (history : List Recorded) (end : Replicas) → ReplaysFor rules h (new_replicas rules ids) history end → ToldStand rules h history (group_list end.world)
+told_stand rules ids fit h history end run number r t there has =
+    let cut = cut_at history number r there in
+    let b : Between rules h (new_replicas rules ids) cut.front (r ∷ cut.back) end =
+    split rules h cut.front (r ∷ cut.back) run.0 (new_replicas rules ids) end (subst (λ l. ReplaysWith rules h (new_replicas rules ids) l run.0 end) cut.is run.1)
+    in
+    let one = (b.after).1.0 in
+    let by = event_told h t r r.event r.outcome refl refl has in
+    let step : OwnStep rules h by.event r one.number b.middle one.new = subst (λ s. StepsTo rules h s r one.number b.middle one.new) by.seen one.step in
+    told_there rules ids fit h history cut.front cut.back r cut.is b.middle one.new end one.number (leads_there rules ids fit h cut.front b.middle b.before) by.event by.goes by.seen step
+    (one.others, (b.after).1.1) t (by.told step.answers (outcome_of (b.middle).world by.event (is_stopped r.outcome)) step.says)
