@@ -27,6 +27,7 @@ use Rattle.raft_laws.proofs.WorldRuns.{among_either}
 use Rattle.raft_step_laws.specs.Tokens.{brought, tokens_at}
 use Rattle.raft_history_laws.specs.TokenEnds.{EndsAt, IsBrought, Ledger, Numbered, TokensEndOnce, WaitingWereBrought, at_stake, brings, brought_unless, has_place, ledger_behind, ledger_of, numbered, that_ended, that_wait, untold_in}
 use Rattle.raft_history_laws.proofs.LastNoted.{take_one_more, world_behind}
+use Rattle.raft_history_laws.proofs.Notes.{among_behind}
 use Rattle.raft_history_laws.proofs.RunLedgers.{along_runs, ledger_more}
 
 -- ---- members of filtered lists
@@ -50,10 +51,6 @@ filter_among p (y ∷ xs) x a t = go (p y) refl (λ b. filter_among p xs x b t)
 among_front : {A : Type 0} (x : A) (xs ys : List A) → Among x xs → Among x (xs ++ ys)
 among_front x [] ys a = absurd a
 among_front x (z ∷ xs) ys a = ⊎_elim (λ e. inl e) (λ b. inr (among_front x xs ys b)) a
-
-among_back : {A : Type 0} (x : A) (xs ys : List A) → Among x ys → Among x (xs ++ ys)
-among_back x [] ys a = a
-among_back x (z ∷ xs) ys a = inr (among_back x xs ys a)
 
 contains_among : {A : Type 0} (xs : List A) (x : A) → Contains xs x → Among x xs
 contains_among xs x c = let k = contains_at xs x c in among_at xs k.0 x k.1
@@ -441,7 +438,7 @@ module _ (w : GroupWorld) (es : Events) where
     pub fate : Fate n token (length es)
     fate =
         let inside = slice_get_within es number _ b.event in
-        let at : Among token (at_stake es w number n come) = among_back token (ledger number n) (brings n number come ((world_before es number w).nodes n)) (subst (Among token) (sym is_brought) (inl refl)) in
+        let at : Among token (at_stake es w number n come) = among_behind token (ledger number n) (brings n number come ((world_before es number w).nodes n)) (subst (Among token) (sym is_brought) (inl refl)) in
         let first : Fate n token (suc number) = fate_here n token number (Ask n b.call b.now, b.stop) come b.event comes_here at in
         let e : suc number + (length es - suc number) ≡ length es = omega arith in
         subst (Fate n token) e (fate_on n token (suc number) (length es - suc number) (omega arith) first)

@@ -27,10 +27,11 @@ use Rattle.raft_laws.proofs.Standing.{OwnVote}
 use Rattle.raft_laws.proofs.StepFits.{EventFits, NodeFits, world_after}
 use Rattle.raft_laws.proofs.StepMoments.{step_goes}
 use Rattle.raft_laws.proofs.WorldOrigins.{run_more}
-use Rattle.raft_laws.proofs.WorldTold.{run_both}
+use Rattle.raft_laws.specs.Stop.{token_of_call}
+use Rattle.raft_laws.proofs.WorldTold.{run_both, told_tokens_stand}
 use Rattle.raft_laws.proofs.WorldStart.{Founded, founded}
 use Rattle.raft_laws.proofs.HeldLists.{at_node}
-use Rattle.raft_history_laws.specs.NotedIds.{IsNotedAt, OriginIsLast, is_noted, next_id}
+use Rattle.raft_history_laws.specs.NotedIds.{ToldHaveOrigins, IsNotedAt, OriginIsLast, is_noted, next_id}
 use Rattle.raft_history_laws.proofs.Later.{BothMatch, both_match}
 use Rattle.raft_history_laws.proofs.LeaderLists.{leader_vote, stored_lead}
 use Rattle.raft_history_laws.proofs.NotedIds.{leads_all, taken_leads}
@@ -219,3 +220,20 @@ origin_is_last ids small es number call e a noted =
       noted = asked_noted ids small es number call e a noted;
       last = not_noted_later ids small es number call e a noted;
     }
+
+-- a call that brings a token is noted
+pub token_noted : (call : GroupCall) (token : ℕ) → token_of_call call ≡ token ∷ [] → is_noted call ≡ true
+token_noted (Initialize membership) token e = absurd (let f : [] ≡ token ∷ [] = e in cc)
+token_noted Elect token e = absurd (let f : [] ≡ token ∷ [] = e in cc)
+token_noted (Propose command t) token e = refl
+token_noted (ChangeMembership change t) token e = refl
+token_noted Heartbeat token e = absurd (let f : [] ≡ token ∷ [] = e in cc)
+token_noted (Lost peer) token e = absurd (let f : [] ≡ token ∷ [] = e in cc)
+token_noted TriggerSnapshot token e = absurd (let f : [] ≡ token ∷ [] = e in cc)
+token_noted (TriggerPurge place) token e = absurd (let f : [] ≡ token ∷ [] = e in cc)
+
+-- a told token's event is the origin of its entry's log id
+pub told_have_origins : ToldHaveOrigins
+told_have_origins ids small es last sent told unknown done x within =
+    let t = told_tokens_stand ids small es last sent told unknown done x within in
+    (t, origin_is_last ids small (es ++ last ∷ []) t.number t.call t.entry t.asked (token_noted t.call x.token t.token))

@@ -1,8 +1,9 @@
 -- The note that an event leaves.
-use Rattle.std.specs.Prelude.{◌≡◌, ◌⊎◌, ℕ, [], ◌∷◌, ◌++◌, Option, refl}
+use Rattle.std.specs.Prelude.{List, ◌≡◌, ◌⊎◌, ℕ, [], ◌∷◌, ◌++◌, Option, refl}
 use Rattle.std.proofs.Common.{inl, inr, ap, ◌∙◌, eq-eqb, append-nil}
 use Rattle.raft_group_step.specs.StoredGroup.{held}
 use Rattle.raft_group_step.specs.GroupState.{GroupState, Lead, Role, Follower, Candidate, Leader}
+use Rattle.raft_laws.proofs.BallotSafe.{Among}
 use Rattle.raft_laws.specs.declared.world_event.WorldEvent.{WorldEvent}
 use Rattle.raft_laws.specs.GroupWorld.{GroupWorld, NodeState, Absent, Up, Down, Led, Outcome, Done, Refused, Stopped, Skipped, is_stop, state_or, with_node_state}
 use Rattle.raft_laws.specs.NodeEvent.{state_after}
@@ -10,6 +11,10 @@ use Rattle.raft_laws.specs.GroupRun.{Scene, Nowhere, At, after_scene, happens, l
 
 abbrev pub note_of : ℕ → GroupState → Led
 note_of n s = record { node = n; vote = s.stored.vote; list = held s.stored }
+
+pub among_behind : {A : Type 0} (x : A) (xs ys : List A) → Among x ys → Among x (xs ++ ys)
+among_behind x [] ys a = a
+among_behind x (z ∷ xs) ys a = inr (among_behind x xs ys a)
 
 -- the note is of a node that leads
 pub record NewNote (w w' : GroupWorld) : Type 0 where

@@ -7,19 +7,19 @@ use Rattle.raft_values.specs.declared.vote.Vote.{Vote}
 use Rattle.raft_values.specs.LogId.{next_place}
 use Rattle.raft_state.specs.declared.entry.EntryPayload.TheVariants.{Blank}
 use Rattle.raft_quorums.specs.Quorum.{is_quorum}
-use Rattle.raft_group_step.specs.Values.{Entry, entry_of, has_id, is_written_by, vote_eq, vote_lt}
-use Rattle.raft_group_step.specs.StoredGroup.{StoredGroup, Snapshot, CutFrom, end_place, entry_at, first_place, has_id_in_log, id_of, snapshot_last}
+use Rattle.raft_group_step.specs.Values.{entry_of, has_id, is_written_by, vote_eq, vote_lt}
+use Rattle.raft_group_step.specs.StoredGroup.{StoredGroup, Snapshot, end_place, entry_at, first_place, id_of, snapshot_last}
 use Rattle.raft_group_step.specs.Message.{AppendFields, MessageBody, ReplyFields, ReplyResult, Success, Conflict, HigherVote}
 use Rattle.raft_group_step.specs.Peer.{PeerState, is_answer_to}
 use Rattle.raft_group_step.specs.GroupState.{GroupState, Lead, Role, Follower, Candidate, Leader, is_leader}
-use Rattle.raft_group_step.specs.StepResult.{StepResult, append, in_role, is_within, later_place, renew, send, step_down, store, store_vote, take_over}
+use Rattle.raft_group_step.specs.StepResult.{StepResult, append, in_role, is_within, later_place, renew, send, step_down, store_vote, take_over}
 use Rattle.raft_group_step.specs.Lead.{begin_lead, committed_vote, configs_in_force, lead_if, new_lead, other_ids, peer_of, remove_up_to, with_grant, with_wish}
 use Rattle.raft_group_step.specs.Frames.{with_peer_state}
 use Rattle.raft_group_step.specs.Elect.{ask, elect_step, other_voters, stand}
 use Rattle.raft_group_step.specs.VoteRequest.{judged}
 use Rattle.raft_group_step.specs.VoteReply.{counted, take_over_greater}
-use Rattle.raft_group_step.specs.AppendRequest.{cut_at, cut_from, heard, is_held, joined, put_entries}
-use Rattle.raft_group_step.specs.SnapshotRequest.{cut_other, install_unless, offered, place_above}
+use Rattle.raft_group_step.specs.AppendRequest.{heard, is_held, joined}
+use Rattle.raft_group_step.specs.SnapshotRequest.{install_unless, offered}
 use Rattle.raft_group_step.specs.Reply.{after_answer, answered, ended, reply_step, with_higher_vote}
 use Rattle.raft_group_step.specs.Heartbeat.{beat_as, send_notices}
 use Rattle.raft_group_step.specs.Lost.{lost_as}
@@ -28,6 +28,7 @@ use Rattle.raft_group_step.specs.PurgeTrigger.{purge_as, purge_within}
 use Rattle.raft_laws.proofs.BallotAgreement.{same_some}
 use Rattle.raft_laws.proofs.StepTokens.{Quiet, joined_quiet, same_quiet, unless_quiet}
 use Rattle.raft_laws.proofs.StepWords.{either}
+use Rattle.raft_step_laws.proofs.Electing.{joined_role, unless_role}
 use Rattle.raft_history_laws.proofs.TakenEntries.{put_end}
 
 -- where a leader's lead began
@@ -210,32 +211,6 @@ module _ (s : GroupState) (others : is_leader s.role ≡ false → s.untold ≡ 
 
   -- ---- requests of a leader, behind which the node follows
 
-  cut_role : (i : ℕ) (q : StepResult) → (cut_from i q).state.role ≡ q.state.role
-  cut_role i q = either (λ p. p.state.role ≡ q.state.role) (is_some (entry_at q.state.stored i)) (store (CutFrom i) q) q refl refl
-
-  cut_at_role : (id : Option (LogId ℕ)) (q : StepResult) → (cut_at id q).state.role ≡ q.state.role
-  cut_at_role None q = refl
-  cut_at_role (Some id) q = cut_role id.index q
-
-  put_role : (es : List Entry) (q : StepResult) → (put_entries es q).state.role ≡ q.state.role
-  put_role [] q = refl
-  put_role (e ∷ es) q = cut_role e.log_id.index q
-
-  joined_role : (own peer : ℕ) (a : AppendFields) (b : Bool) (q : StepResult) → (joined own peer a b q).state.role ≡ q.state.role
-  joined_role own peer a true q = put_role _ q
-  joined_role own peer a false q = cut_at_role a.previous q
-
-  other_role : (last : LogId ℕ) (q : StepResult) → (cut_other last q).state.role ≡ q.state.role
-  other_role last q =
-      let place = place_above q.state.committed in
-      let stands = is_some (entry_at q.state.stored last.index) in
-      either (λ p. p.state.role ≡ q.state.role) (has_id_in_log q.state.stored last) q (cond stands (cut_from place q) q) refl
-      (either (λ p. p.state.role ≡ q.state.role) stands (cut_from place q) q (cut_role place q) refl)
-
-  install_role : (b : Bool) (x : Snapshot) (q : StepResult) → (install_unless b x q).state.role ≡ q.state.role
-  install_role true x q = refl
-  install_role false x q = other_role x.last q
-
   pub heard_kept : (own peer : ℕ) (a : AppendFields) (b : Bool) (q : StepResult) → (b ≡ false → (take_over a.vote q).state.role ≡ Follower) → Kept q → Kept (heard own peer a b q)
   heard_kept own peer a true q f h = send_kept own peer _ q h
   heard_kept own peer a false q f h =
@@ -253,7 +228,7 @@ module _ (s : GroupState) (others : is_leader s.role ≡ false → s.untold ≡ 
       inl
       (without_follower (offered own peer v id x false q)
       (same_quiet (install_unless b x taken) (offered own peer v id x false q) refl refl (unless_quiet b x taken quiet))
-      (install_role b x taken ∙ f refl))
+      (unless_role b x taken ∙ f refl))
 
   -- ---- calls that leave the lead alone
 

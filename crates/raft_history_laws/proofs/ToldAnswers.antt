@@ -35,7 +35,7 @@ use Rattle.raft_laws.proofs.WorldSteps.{MayCome, MayHappen}
 use Rattle.raft_laws.proofs.WorldRuns.{MayTakePlace}
 use Rattle.raft_history_laws.specs.ToldAnswers.{IsToldUnder, LeadersHoldTold, SettledUnderStays, ToldIsSettledUnder}
 use Rattle.raft_history_laws.proofs.AlongNodes.{MayFollow, may_follow}
-use Rattle.raft_history_laws.proofs.Notes.{note_of, state_here}
+use Rattle.raft_history_laws.proofs.Notes.{among_behind, note_of, state_here}
 use Rattle.raft_history_laws.proofs.SettledNotes.{settled_still, settled_up_to}
 use Rattle.raft_history_laws.proofs.StepCommitted.{CommitsUpTo, told_commits}
 use Rattle.raft_history_laws.proofs.StepWaits.{due, finished_quiet, opening_without}
@@ -107,10 +107,6 @@ role_note : (n : ℕ) (s : GroupState) (role : Role) → is_leader role ≡ true
 role_note n s Follower t = absurd (let f : false ≡ true = t in cc)
 role_note n s (Candidate granters) t = absurd (let f : false ≡ true = t in cc)
 role_note n s (Leader lead) t = inl refl
-
-among_behind : {A : Type 0} (x : A) (xs ys : List A) → Among x ys → Among x (xs ++ ys)
-among_behind x [] ys a = a
-among_behind x (z ∷ xs) ys a = inr (among_behind x xs ys a)
 
 -- a committed place lies below the log's end
 not_due : (c : Option ℕ) (x : Untold) → place_above c ≤ x.place → due c x ≡ false

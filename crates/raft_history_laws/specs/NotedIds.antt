@@ -1,19 +1,20 @@
 -- The log ids that nodes note as they take commands and changes, and the event that a log id comes from.
-use Rattle.std.specs.Prelude.{◌≡◌, ℕ, ◌<◌, Bool, true, false, List, [], slice_get, Option, Some, None, Contains}
+use Rattle.std.specs.Prelude.{◌≡◌, ℕ, ◌<◌, Bool, true, false, List, [], ◌∷◌, ◌++◌, slice_get, Option, Some, None, is_some, Contains}
 use Rattle.raft_values.specs.declared.log_id.LogId.{LogId}
 use Rattle.raft_group_step.specs.Values.{Entry}
 use Rattle.raft_group_step.specs.StoredGroup.{StoredGroup, end_place, held}
 use Rattle.raft_group_step.specs.Message.{Message, MessageBody, VoteRequest, VoteReply, AppendRequest, AppendReply, SnapshotRequest, SnapshotReply}
-use Rattle.raft_group_step.specs.GroupState.{GroupState}
+use Rattle.raft_group_step.specs.GroupState.{GroupState, Untold}
 use Rattle.raft_group_step.specs.declared.group_call.GroupCall.TheVariants.{Initialize, Elect, Propose, ChangeMembership, Heartbeat, Lost, TriggerSnapshot, TriggerPurge}
 use Rattle.raft_group_step.specs.GroupEvent.{GroupCall, Call}
 use Rattle.raft_group_step.specs.Refusal.{refusal_of}
+use Rattle.raft_laws.specs.declared.world_event.WorldEvent.{WorldEvent}
 use Rattle.raft_laws.specs.declared.world_event.WorldEvent.TheVariants.{Ask}
-use Rattle.raft_laws.specs.GroupWorld.{GroupWorld, Led, Recorded, Up, new_world}
-use Rattle.raft_laws.specs.GroupRun.{Replays}
+use Rattle.raft_laws.specs.GroupWorld.{GroupWorld, Done, Led, Recorded, Up, new_world}
+use Rattle.raft_laws.specs.GroupRun.{Replays, group_run, outcome_of}
 use Rattle.raft_laws.specs.VotesRise.{stored_of}
 use Rattle.raft_laws.specs.OneList.{AreNodeIds, IsGroupHistory}
-use Rattle.raft_laws.specs.Origins.{Events, IsAskedAt, world_before}
+use Rattle.raft_laws.specs.Origins.{Events, IsAskedAt, IsTold, world_before}
 
 -- a proposal or a change of the membership: a log id is noted for it
 abbrev pub is_noted : GroupCall → Bool
@@ -90,3 +91,12 @@ OriginIsLast =
     (ids : List ℕ) → AreNodeIds ids → (es : Events) (number : ℕ) (call : GroupCall) (e : Entry)
     → IsAskedAt es (new_world ids) number call e → is_noted call ≡ true
     → IsOrigin es (new_world ids) number e.log_id
+
+-- the event that brought a told token is the origin of the log id of the entry for which it is told
+abbrev pub ToldHaveOrigins : Type 0
+ToldHaveOrigins =
+    (ids : List ℕ) → AreNodeIds ids → (es : Events) (last : WorldEvent × Option ℕ)
+    → (sent : List Message) (told : List Untold) (unknown : List ℕ)
+    → outcome_of (group_run es (new_world ids)) last.0 (is_some last.1) ≡ Done sent told unknown
+    → (x : Untold) → Contains told x
+    → (t : IsTold (es ++ last ∷ []) (new_world ids) x) × IsOrigin (es ++ last ∷ []) (new_world ids) t.number t.entry.log_id

@@ -9,7 +9,7 @@ ghost use Rattle.raft_laws.specs.LawRuns.{first_three};
 ghost use Rattle.raft_laws.specs.OriginRun.{command_at};
 ghost use Rattle.raft_laws.specs.SnapshotRun.{until_installed};
 ghost use Rattle.raft_laws.specs.ThreeNodes.{until_committed, until_proposed};
-ghost use Rattle.raft_history_laws.specs.NotedIds.{IsSomewhere, NotedIsAbove, NotedIsNew, OriginIsLast};
+ghost use Rattle.raft_history_laws.specs.NotedIds.{IsSomewhere, NotedIsAbove, NotedIsNew, OriginIsLast, ToldHaveOrigins};
 ghost use Rattle.raft_history_laws.specs.NotedIdsRun.{NotedByChange, NotedByFollower, NotedInRun, OriginInRun, ids_in_message};
 
 /// A node that takes a command or a change of the membership has all that was ever written under its vote's leader: each such
@@ -21,9 +21,10 @@ pub fn noted_log_ids_are_new()
 {}
 
 /// The event that wrote the entry of a command or a change, and stored it, is the last one that noted its log id. Earlier ones
-/// may have noted it, and stopped before they stored anything.
+/// may have noted it, and stopped before they stored anything. So a told token's event is the origin of the log id of its entry.
 pub fn origin_is_last()
-    ensures { OriginIsLast }
+    ensures origin { OriginIsLast }
+    ensures told { ToldHaveOrigins }
 {}
 
 /// A proposal that stops before it has stored anything notes its log id all the same, and the next one notes it again: that one

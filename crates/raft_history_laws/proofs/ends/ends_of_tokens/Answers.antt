@@ -1,17 +1,15 @@
-use Rattle.std.specs.Prelude.{◌≡◌, ℕ, true, [], ◌∷◌, Some, None, refl}
+use Rattle.std.specs.Prelude.{[], ◌∷◌, Some, None, refl}
 use Rattle.std.proofs.Common.{arith}
-use Rattle.raft_group_step.specs.declared.group_call.GroupCall.TheVariants.{Initialize, Elect, Propose, ChangeMembership, Heartbeat, Lost, TriggerSnapshot, TriggerPurge}
-use Rattle.raft_group_step.specs.GroupEvent.{GroupCall}
+use Rattle.raft_group_step.specs.declared.group_call.GroupCall.TheVariants.{Propose}
 use Rattle.raft_laws.specs.declared.world_event.WorldEvent.TheVariants.{Ask, Crash, Deliver, Halt}
 use Rattle.raft_laws.specs.GroupWorld.{new_world}
-use Rattle.raft_laws.specs.Stop.{token_of_call}
 use Rattle.raft_laws.specs.Example.{add, three, to_their_end}
 use Rattle.raft_laws.specs.ThreeNodes.{until_told}
 use Rattle.raft_laws.proofs.Counts.{at_contains}
-use Rattle.raft_history_laws.specs.NotedIds.{is_noted}
 use Rattle.raft_history_laws.specs.TokenEndsRun.{CommandEndsAt, of_event}
 use Rattle.raft_history_laws.proofs.EndedOnce.{ends_once}
 use Rattle.raft_history_laws.proofs.FollowerRefuses.{follower_notes_none}
+use Rattle.raft_history_laws.proofs.LastNoted.{token_noted}
 use Rattle.raft_history_laws.proofs.ends.ends_of_tokens.Goals as goal
 
 told : CommandEndsAt (to_their_end until_told) 10
@@ -86,16 +84,6 @@ returns-clause-stopped_at_once c =
       here = refl;
       ended = at_contains (of_event 2 1 2 ∷ []) (of_event 2 1 2) 0 refl;
     }
-
-token_noted : (call : GroupCall) (token : ℕ) → token_of_call call ≡ token ∷ [] → is_noted call ≡ true
-token_noted (Initialize membership) token e = absurd (let f : [] ≡ token ∷ [] = e in cc)
-token_noted Elect token e = absurd (let f : [] ≡ token ∷ [] = e in cc)
-token_noted (Propose command t) token e = refl
-token_noted (ChangeMembership change t) token e = refl
-token_noted Heartbeat token e = absurd (let f : [] ≡ token ∷ [] = e in cc)
-token_noted (Lost peer) token e = absurd (let f : [] ≡ token ∷ [] = e in cc)
-token_noted TriggerSnapshot token e = absurd (let f : [] ≡ token ∷ [] = e in cc)
-token_noted (TriggerPurge place) token e = absurd (let f : [] ≡ token ∷ [] = e in cc)
 
 pub returns-clause-refused : goal.returns-clause-refused
 returns-clause-refused c = λ place b.
