@@ -3,8 +3,11 @@
 
 ghost use Rattle.std.specs.Prelude.{◌≡◌, true, false, [], ◌∷◌, Some, None};
 ghost use Rattle.raft_values.specs.LogId.{log_id_of};
-ghost use Rattle.raft_step_laws.specs.Commits.{CommitsAll, CommitsAtOnce, NoneWaitsAccepted, TokensAreToldAtOnce};
-ghost use Rattle.raft_step_laws.specs.CommitRows.{committed_then, lead_to, leading, quorum_at};
+ghost use Rattle.raft_step_laws.specs.Commits.{CommitsAll, CommitsAtOnce, NoneWaitsAccepted, PurgeKeepsVoters, TokensAreToldAtOnce};
+ghost use Rattle.raft_step_laws.specs.ElectionRows.{candidate};
+ghost use Rattle.raft_step_laws.specs.Elections.{LacksAQuorum};
+ghost use Rattle.raft_group_step.specs.StepExample.{leads_three};
+ghost use Rattle.raft_step_laws.specs.CommitRows.{committed_then, lead_to, leading, purged, purges, quorum_at, without_membership};
 ghost use Rattle.raft_step_laws.specs.PeerRows.{before, last};
 ghost use Rattle.raft_step_laws.specs.TokenRows.{waits};
 
@@ -32,4 +35,13 @@ pub fn commits_of_a_leader()
     ensures not_all { CommitsAll 2 (leading (Some 2) []) (lead_to last) → ⊥ }
     ensures waits { NoneWaitsAccepted 2 (leading (Some 2) (waits 7 3 ∷ [])) (lead_to last) → ⊥ }
     ensures not_accepted { NoneWaitsAccepted 2 (leading (Some 2) (waits 7 3 ∷ [])) (lead_to (Some (log_id_of 2 2 2))) }
+{}
+
+/// A purge that takes the membership in force along leaves no voter groups, and so any nodes are a quorum: the laws are of
+/// purges that keep them.
+pub fn purges_of_the_membership()
+    ensures voters { PurgeKeepsVoters 2 (without_membership (leads_three None)) purges → ⊥ }
+    ensures commits { CommitsAll 2 (purged (leads_three None)) (lead_to None) → ⊥ }
+    ensures grants { LacksAQuorum (purged (candidate (2 ∷ []))) → ⊥ }
+    ensures keeps { PurgeKeepsVoters 2 (leads_three None) purges }
 {}

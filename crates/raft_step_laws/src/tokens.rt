@@ -9,7 +9,7 @@ ghost use Rattle.raft_group_step.specs.GroupEvent.{Call, Open};
 ghost use Rattle.raft_group_step.specs.GroupStep.{group_step};
 ghost use Rattle.raft_group_step.specs.StepExample.{follower_of_one};
 ghost use Rattle.raft_step_laws.specs.ElectionRows.{candidate};
-ghost use Rattle.raft_step_laws.specs.Tokens.{HasItsOwnVote, OpensWithNone, TokensGo, TokensGoInOrder, TokensOfSteps, TokensWaitLeading, UntoldIsAbove, VotesStayOwn, WaitsAbove, WaitsInOrder, WaitsLeading};
+ghost use Rattle.raft_step_laws.specs.Tokens.{HasItsOwnVote, OpensWithNone, TokensGo, TokensGoInOrder, TokensOfSteps, TokensWaitLeading, UntoldIsAbove, VotesStayOwn, WaitsAbove, WaitsInOrder, WaitsLeading, brought};
 ghost use Rattle.raft_step_laws.specs.TokenRows.{accepts, answering, answers_at, giving_up, hears_of, leader, leader_asking, proposes, sole_leader, waits};
 
 /// Where a leader leads on under its vote, just the tokens whose place is committed are told, in their order, and the others
@@ -43,6 +43,7 @@ pub fn tokens_of_a_leader()
 
 /// A leader that leads on tells what is due, once, and keeps the rest; one that gives up its lead names all that waited.
 pub fn steps_of_tokens()
+    ensures brings { brought leader proposes ≡ waits 9 4 ∷ [] }
     ensures waits { TokensGo leader (Call Heartbeat 0) (answering None [] [] (waits 7 2 ∷ waits 8 3 ∷ [])) }
     ensures told { TokensGo leader (Call Heartbeat 0) (answering (Some 2) (waits 7 2 ∷ []) [] (waits 8 3 ∷ [])) }
     ensures early { TokensGo leader (Call Heartbeat 0) (answering None (waits 7 2 ∷ []) [] (waits 8 3 ∷ [])) → ⊥ }
