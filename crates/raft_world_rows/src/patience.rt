@@ -35,10 +35,10 @@ fn others(alloc: Global, world: &World, ids: &[u64], but: u64) -> Result<String,
     Ok(text)
 }
 
-fn is_down(world: &World, node: u64) -> bool {
+fn is_up(world: &World, node: u64) -> bool {
     match world.member(node) {
         None => false,
-        Some(member) => !member.is_up(),
+        Some(member) => member.is_up(),
     }
 }
 
@@ -60,8 +60,8 @@ fn run_again(world: &mut World, node: u64, planned: &[PlannedEvent; 1]) -> Resul
     Err(Fault::Stuck)
 }
 
-/// Runs an event, and once more where it found no memory: then its node is down, and all else is as
-/// it was.
+/// Runs an event, and once more where it found no memory: then its node, if there is one, is down,
+/// and all else is as it was.
 pub fn run_patiently(
     alloc: Global,
     world: &mut World,
@@ -74,8 +74,8 @@ pub fn run_patiently(
         return Ok(());
     }
     let after = others(alloc, world, ids, node)?;
-    if is_down(world, node) && before.as_str() == after.as_str() {
-        return run_again(world, node, planned);
+    if is_up(world, node) || before.as_str() != after.as_str() {
+        return Err(Fault::Changed);
     }
-    Err(Fault::Changed)
+    run_again(world, node, planned)
 }
