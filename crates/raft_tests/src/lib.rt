@@ -3,7 +3,7 @@
 //!
 //! They stand here and not beside what they test, so that those crates are proved once. A test is
 //! one assert over rows, which answer a `bool` by flags that `&` joins: asserts and early ends make
-//! a proof long. Rows of text stand in raft_rows.
+//! a proof long. Rows of text stand in raft_value_rows.
 #![tactic(auto)]
 
 #[cfg(test)]
