@@ -9,14 +9,3 @@ mod storing;
 pub use appending::append;
 pub use restarting::{RestartFault, restart};
 pub use storing::{load, store};
-
-#[cfg(test)]
-mod call_tests;
-#[cfg(test)]
-mod chance_tests;
-#[cfg(test)]
-mod image_tests;
-#[cfg(test)]
-mod stop_tests;
-#[cfg(test)]
-mod test_files;

@@ -1,27 +1,22 @@
-//! Checksums of known bytes.
+//! Checksums.
+
 use raft_log_records::{Checksum, crc32, crc32_by_bytes, is_intact};
+use raft_rows::{Answer, bytes, number};
+use std::alloc::{AllocError, Global};
 
-/// How many of the bytes 0, 1, 2, .. are summed, and zlib's `crc32` of them.
-const VECTORS: [(usize, u32); 8] = [
-    (1, 0xD202_EF8D),
-    (15, 0xA06C_675E),
-    (16, 0xCECE_E288),
-    (17, 0x2C18_3A19),
-    (31, 0x4D78_6D77),
-    (32, 0x9126_7E8A),
-    (33, 0xE490_8305),
-    (256, 0x2905_8C73),
-];
-
-fn counted() -> [u8; 256] {
-    let mut bytes = [0; 256];
-    for (place, byte) in bytes.iter_mut().enumerate() {
-        *byte = place as u8;
+/// The bytes that a word says. That of `3..9` are the bytes 3 to 8.
+fn text(alloc: Global, word: &str) -> Result<Vec<u8>, AllocError> {
+    let Some((from, to)) = word.split_once("..") else {
+        return bytes(alloc, word);
+    };
+    let mut counted = Vec::new(alloc);
+    for byte in number(from)..number(to) {
+        counted.push((byte % 256) as u8)?;
     }
-    bytes
+    Ok(counted)
 }
 
-/// Two pieces with no copy of them.
+/// The checksum of two pieces, with no copy of them.
 fn of_two(front: &[u8], back: &[u8]) -> u32 {
     let mut checksum = Checksum::new();
     checksum.update(front);
@@ -29,34 +24,23 @@ fn of_two(front: &[u8], back: &[u8]) -> u32 {
     checksum.finish()
 }
 
-#[test]
-fn the_usual_check_value(rt: HostRuntime) {
-    assert_eq!(rt; crc32(b"123456789"), 0xCBF4_3926);
-    assert_eq!(rt; crc32(b""), 0);
-    assert_eq!(rt; Checksum::default().finish(), 0);
-}
-
-#[test]
-fn lengths_around_whole_blocks(rt: HostRuntime) {
-    let bytes = counted();
-    for (len, expected) in VECTORS {
-        if len <= bytes.len() {
-            assert_eq!(rt; crc32(&bytes[..len]), expected);
-            assert_eq!(rt; crc32_by_bytes(&bytes[..len]), expected);
+/// The answer to a row about a checksum.
+pub fn summed(alloc: Global, words: &[&str]) -> Option<Answer> {
+    let sum = match *words {
+        ["crc32-of-none"] => Checksum::default().finish(),
+        ["crc32", word] => crc32(&text(alloc, word).ok()?),
+        ["crc32-by-bytes", word] => crc32_by_bytes(&text(alloc, word).ok()?),
+        ["crc32-of-two", front, back] => {
+            of_two(&text(alloc, front).ok()?, &text(alloc, back).ok()?)
         }
-    }
+        _ => return None,
+    };
+    Some(Answer::shown(alloc, &sum))
 }
 
-#[test]
-fn a_changed_byte_is_noticed(rt: HostRuntime) {
-    assert!(rt; is_intact(b"123456789", 0xCBF4_3926));
-    assert!(rt; !is_intact(b"123456780", 0xCBF4_3926));
-    assert!(rt; !is_intact(b"143256789", 0xCBF4_3926));
-}
-
-#[test]
-fn pieces_sum_as_the_whole(rt: HostRuntime) {
-    assert_eq!(rt; of_two(b"1234", b"56789"), 0xCBF4_3926);
-    let bytes = counted();
-    assert_eq!(rt; of_two(&bytes[..21], &bytes[21..]), 0x2905_8C73);
+/// The answer to a row about bytes and their checksum.
+pub fn compared(alloc: Global, word: &str, sum: &str) -> Option<Answer> {
+    let sum = u32::try_from(number(sum)).ok()?;
+    let intact = is_intact(&bytes(alloc, word).ok()?, sum);
+    Some(Answer::shown(alloc, &intact))
 }

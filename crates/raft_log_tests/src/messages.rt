@@ -1,13 +1,22 @@
-ghost use Rattle.std.specs.Prelude.{length};
+//! Messages that are their own bytes.
 
-use raft_log_records::{LogBatch, Message, MessageExt, RecordError, read_record};
+ghost use Rattle.std.specs.Prelude.{◌≡◌, length};
+
+use raft_log_records::{Message, MessageExt};
 use std::alloc::{AllocError, Global};
-use std::test::Fail;
 
 /// A message that is its own bytes.
 #[derive(Drop)]
-struct Text {
+pub struct Text {
     bytes: Vec<u8>,
+}
+
+impl Text {
+    pub fn new(bytes: Vec<u8>) -> Text
+        ensures { result.bytes ≡ bytes }
+    {
+        Text { bytes }
+    }
 }
 
 impl Message for Text {
@@ -24,7 +33,7 @@ impl Message for Text {
 }
 
 /// Entries whose index is their length.
-struct ByLength;
+pub struct ByLength;
 
 impl MessageExt for ByLength {
     type Entry = Text;
@@ -36,47 +45,16 @@ impl MessageExt for ByLength {
     }
 }
 
-/// What was written is read back, through the bound.
-fn is_read_back<M: Message + Drop>(alloc: Global, message: &M) -> Result<bool, AllocError> {
+/// The bytes that are written of what is read of some bytes, through the bound.
+fn written_again<M: Message + Drop>(alloc: Global, text: &[u8]) -> Result<Vec<u8>, AllocError> {
     let mut bytes = Vec::new(alloc);
-    message.write(&mut bytes)?;
-    let read = M::parse(alloc, &bytes)?;
-    Ok(read.is_some())
+    if let Some(message) = M::parse(alloc, text)? {
+        message.write(&mut bytes)?;
+    }
+    Ok(bytes)
 }
 
-/// A batch with one entry, a message of one byte.
-fn entry_batch(alloc: Global) -> Result<LogBatch, RecordError> {
-    let bytes = Vec::from_slice(alloc, b"a")?;
-    let entry = Text { bytes };
-    let mut batch = LogBatch::new(alloc);
-    batch.add_entries::<ByLength>(7, &[entry])?;
-    batch.finish_populate()?;
-    Ok(batch)
-}
-
-#[test]
-fn an_entry_is_written_by_its_message(rt: HostRuntime) -> Result<(), Fail> {
-    let batch = entry_batch(rt.alloc())?;
-    assert_eq!(rt; batch.encoded_bytes().len(), 46);
-    let front = [0, 0, 0, 46, 0, 0, 0, 13, 0x61, 0xe8, 0xb7, 0xbe, 0x43].as_slice();
-    assert_eq!(rt; &batch.encoded_bytes()[..13], front);
-    let index = [0, 0, 0, 0, 0, 0, 0, 1].as_slice();
-    assert_eq!(rt; &batch.encoded_bytes()[30..38], index);
-    Ok(())
-}
-
-#[test]
-fn a_message_is_a_value(rt: HostRuntime) -> Result<(), Fail> {
-    let alloc = rt.alloc();
-    let bytes = Vec::from_slice(alloc, &[0, 0, 0, 0, 0, 0, 0, 3])?;
-    let message = Text { bytes };
-    let key = Vec::from_slice(alloc, b"end")?;
-    let mut batch = LogBatch::new(alloc);
-    batch.put_message(7, key, &message)?;
-    assert_eq!(rt; batch.finish_populate()?, 44);
-    let record = read_record(alloc, batch.encoded_bytes(), None)?;
-    assert_eq!(rt; record.batch.items.len(), 1);
-    let again = is_read_back(alloc, &message)?;
-    assert!(rt; again);
-    Ok(())
+/// What the text of a message is read and written as.
+pub fn read_and_written(alloc: Global, text: &[u8]) -> Result<Vec<u8>, AllocError> {
+    written_again::<Text>(alloc, text)
 }
