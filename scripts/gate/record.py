@@ -38,10 +38,8 @@ class Tried:
             self.sums = {row[0]: row[1] for row in rows if len(row) == 2}
 
     def set(self, name, made):
-        """Notes the crate's sum, or forgets it where there is none."""
-        self.sums.pop(name, None)
-        if made:
-            self.sums[name] = made
+        """Notes the crate's sum, or a dash where an edit wasn't refused."""
+        self.sums[name] = made
         draft = f"{self.file}.new"
         with open(draft, "w", encoding="utf-8") as it:
             it.write("# Crates whose edits were all refused, with the sum of what that rests on")
