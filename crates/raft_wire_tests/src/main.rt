@@ -1,0 +1,19 @@
+//! Streams, frames and entries as bytes, a row of text each, and what is read and written of them.
+//!
+//! `scripts/wire_rows` writes `stdin` and `stdout` by the format, and by a judge of its own.
+#![tactic(auto)]
+
+mod calls;
+mod changing;
+mod cutting;
+mod entries;
+mod frames;
+mod rows;
+
+use raft_rows::run;
+use rows::Calls;
+use std::io;
+
+fn main(rt: HostRuntime) -> io::Result<()> {
+    run(&rt, &mut Calls::new(rt.alloc()))
+}
