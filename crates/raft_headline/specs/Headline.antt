@@ -14,7 +14,8 @@ use Rattle.raft_laws.specs.Settled.{IsGroupList, group_list}
 use Rattle.raft_laws.specs.Stop.{token_of_call}
 use Rattle.raft_laws.specs.VotesRise.{stored_of}
 use Rattle.raft_node.specs.Machine.{MachineRules}
-use Rattle.raft_headline.specs.ClusterEvent.{ClusterEvent, AddGroup, Ask, Deliver, ResetPeer, Clean, Crash, Reopen, Halt, ClusterOutcome, Done, Opened, Refused, Stopped, Fused, PassedOver, TurnedAway, Recorded, Said, Told, is_stopped, said_of, silent}
+use Rattle.raft_headline.specs.ClusterEvent.{ClusterEvent, AddGroup, Ask, Deliver, ResetPeer, Clean, Crash, Reopen, Halt, ClusterOutcome, Done}
+use Rattle.raft_headline.specs.ClusterEvent.{Opened, Refused, Stopped, Fused, PassedOver, TurnedAway, Recorded, Said, Told, is_stopped, said_of, silent}
 use Rattle.raft_headline.specs.Machines.{Built, HasBytes, Replicas, list_answer, list_fold, new_replicas}
 use Rattle.raft_headline.specs.Replaying.{ReplaysFor}
 

@@ -9,7 +9,8 @@ ghost use Rattle.raft_group_step.specs.GroupEvent.{Call, Open};
 ghost use Rattle.raft_group_step.specs.GroupStep.{group_step};
 ghost use Rattle.raft_group_step.specs.StepExample.{follower_of_one};
 ghost use Rattle.raft_step_laws.specs.ElectionRows.{candidate};
-ghost use Rattle.raft_step_laws.specs.Tokens.{HasItsOwnVote, OpensWithNone, TokensGo, TokensGoInOrder, TokensOfSteps, TokensWaitLeading, UntoldIsAbove, VotesStayOwn, WaitsAbove, WaitsInOrder, WaitsLeading, brought};
+ghost use Rattle.raft_step_laws.specs.Tokens.{HasItsOwnVote, OpensWithNone, TokensGo, TokensGoInOrder, TokensOfSteps, TokensWaitLeading};
+ghost use Rattle.raft_step_laws.specs.Tokens.{UntoldIsAbove, VotesStayOwn, WaitsAbove, WaitsInOrder, WaitsLeading, brought};
 ghost use Rattle.raft_step_laws.specs.TokenRows.{accepts, answering, answers_at, giving_up, hears_of, leader, leader_asking, proposes, sole_leader, waits};
 
 /// Where a leader leads on under its vote, just the tokens whose place is committed are told, in their order, and the others
