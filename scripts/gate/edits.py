@@ -86,7 +86,7 @@ def read(crate, folder):
 
 
 class Names:
-    """Which function a place in the crate's sources belongs to, by the name that a check has for it."""
+    """Which function a place in the crate's sources belongs to, by its name in a check."""
 
     def __init__(self, crate):
         self.crate = crate
@@ -94,23 +94,8 @@ class Names:
 
     def turned(self, edit):
         """Returns the functions whose bodies the edit turns, or none where it turns more."""
-        texts, bodies, found = {}, {}, []
-        for path, old, new in edit.pairs:
-            if path not in texts:
-                texts[path] = text_of(self.crate, path).encode()
-                bodies[path] = [
-                    (f.opens, f.end, self.name(f))
-                    for f in self.functions
-                    if f.file == path and f.has_body
-                ]
-            old, new, text = old.encode(), new.encode(), texts[path]
-            at = text.find(old)
-            start, end = at + _common(old, new), at + len(old)
-            end -= min(_common(old[::-1], new[::-1]), end - start)
-            found += [it[2] for it in bodies[path] if it[0] < start <= end < it[1]][:1] or [None]
-            texts[path] = text[:at] + new + text[at + len(old) :]
-            moved = [lambda it: it + (len(new) - len(old)) * (it >= at + len(old))][0]
-            bodies[path] = [(moved(a), moved(b), name) for a, b, name in bodies[path]]
+        files = {path: File(self, path) for path, _, _ in edit.pairs}
+        found = [files[path].turn(old.encode(), new.encode()) for path, old, new in edit.pairs]
         return tuple(dict.fromkeys(found)) if all(found) else ()
 
     def name(self, f):
@@ -127,13 +112,37 @@ class Names:
         return "::".join([self.crate.name, *module, *owner, f.name])
 
 
+class File:
+    """A file's text as an edit's pairs turn it, with the places of the functions' bodies."""
+
+    def __init__(self, names, path):
+        self.text = text_of(names.crate, path).encode()
+        here = [f for f in names.functions if f.file == path and f.has_body]
+        self.bodies = [(f.opens, f.end, names.name(f)) for f in here]
+
+    def turn(self, old, new):
+        """Makes the change, and returns the function whose body holds it whole, or None."""
+        at = self.text.find(old)
+        front = _common(old, new)
+        back = min(_common(old[::-1], new[::-1]), len(old) - front)
+        start, end, behind = at + front, at + len(old) - back, at + len(old)
+        found = [name for a, b, name in self.bodies if a < start <= end < b]
+        self.text = self.text[:at] + new + self.text[behind:]
+        longer = len(new) - len(old)
+        self.bodies = [
+            (a + longer * (a >= behind), b + longer * (b >= behind), name)
+            for a, b, name in self.bodies
+        ]
+        return found[0] if found else None
+
+
 def _common(one, other):
     """Returns how many bytes the two have in common at their front."""
     return len(os.path.commonprefix([one, other]))
 
 
 def _words(tokens, parameters):
-    """Returns the words of a type as they stand in an impl's name, less the impl's own parameters."""
+    """Returns a type's words as they stand in an impl's name, less the impl's own parameters."""
     found = []
     for at, it in enumerate(tokens):
         if it == "&":

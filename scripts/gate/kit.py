@@ -67,9 +67,8 @@ def build_below(crate):
             continue
         print(f"building the library {it.name}", flush=True)
         how = {"cwd": it.folder, "stdin": subprocess.DEVNULL, "stdout": subprocess.PIPE}
-        ran = subprocess.run(
-            ["rt", "lib", "--jobs", "1"], stderr=subprocess.STDOUT, text=True, errors="replace", **how
-        )
+        how |= {"stderr": subprocess.STDOUT, "text": True, "errors": "replace"}
+        ran = subprocess.run(["rt", "lib", "--jobs", "1"], **how)
         if ran.returncode or not it.is_built():
             return f"the library {it.name} isn't built: {ran.stdout[-600:]}"
     return None

@@ -69,10 +69,19 @@ class Ran:
                 return f"only names are missed in its proof: {errors[0][:150]}"
         return f"{name} is {said[:150]}"
 
-    def first_error(self):
-        """Returns the line that says why the check didn't end."""
-        told = [it for it in self.lines if re.search(r"\berror\b", it)]
-        return (told or self.lines)[0][:300]
+    def unread(self, texts):
+        """Returns the first line that says that an edited text can't be read, or None."""
+        told = [it for it in self.lines if rt.unread(it, texts)]
+        if not told and not self.has_ended:
+            told = [it for it in self.lines if re.search(r"\berror\b", it)]
+            told = told or [f"the check ended early, with status {self.status}"]
+        return told[0][:300] if told else None
+
+    def lost(self):
+        """Returns the function that was asked for and that the check doesn't know, or None."""
+        why = r"has no function `([^`]*)`|several functions are named `([^`]*)`"
+        found = re.search(why, self.lines[-1])
+        return found and (found[1] or found[2])
 
 
 def check(crate, texts, only):
@@ -119,9 +128,16 @@ class Tries:
     def round(self, edits):
         """Tries these edits at once, and in smaller parts where the check doesn't end."""
         ran, texts = self.checked(edits)
-        if not ran.has_ended or any(rt.unread(it, texts) for it in ran.lines):
+        if ran.is_stale:
+            why = "was not tried: a library below isn't built as it stands"
+            self.failed.update(dict.fromkeys(edits, why))
+        elif ran.unread(texts):
             self.parts(edits, ran, texts)
-            return
+        else:
+            self.judge(edits, ran)
+
+    def judge(self, edits, ran):
+        """Notes which edits the check refused. The others are tried alone, if they weren't."""
         for it in edits:
             said = [ran.refuses(name, len(edits) == 1) for name in it.functions]
             refused = [well for well, _ in said]
@@ -135,27 +151,19 @@ class Tries:
 
     def parts(self, edits, ran, texts):
         """Goes on after a check that didn't end, or that couldn't read what was edited."""
-        unknown = re.search(r"has no function `([^`]*)`|several functions are named `([^`]*)`", ran.lines[-1])
-        lost = [it for it in edits if unknown and (unknown[1] or unknown[2]) in it.functions]
-        for it in lost:
-            self.failed[it] = f"names a function that isn't found: {ran.lines[-1][:300]}"
+        lost = [it for it in edits if ran.lost() in it.functions]
+        why = f"names a function that isn't found: {ran.lines[-1][:300]}"
+        self.failed.update(dict.fromkeys(lost, why))
         rest = [it for it in edits if it not in lost]
-        if lost and rest:
-            self.round(rest)
-        elif len(rest) > 1:
-            half = len(rest) // 2
-            self.round(rest[:half])
-            self.round(rest[half:])
-        elif rest:
-            self.failed[rest[0]] = self.why_not_tried(ran, texts)
-
-    def why_not_tried(self, ran, texts):
-        unread = [it for it in ran.lines if rt.unread(it, texts)]
-        if ran.is_stale:
-            return "was not tried: a library below isn't built as it stands"
-        if ran.status < 0 or ran.status == 137:
-            return f"was not tried: its check was killed ({ran.status})"
-        return f"doesn't read, so no contract was tried: {(unread or [ran.first_error()])[0][:300]}"
+        half = len(rest) // 2 * (not lost)
+        for some in (rest[:half], rest[half:]) if len(edits) > 1 else ():
+            if some:
+                self.round(some)
+        if len(edits) == 1 and rest:
+            was_killed = ran.status < 0 or ran.status == 137
+            why = f"was not tried: its check was killed ({ran.status})"
+            unread = f"doesn't read, so no contract was tried: {ran.unread(texts)}"
+            self.failed[rest[0]] = why if was_killed else unread
 
     def checked(self, edits):
         texts = {}
@@ -179,8 +187,8 @@ class Tries:
 
 
 def first_round(edits):
-    """Returns edits that can be tried at once: no two of them turn one function or name it, and each
-    can be made beside the others. One that turns more than bodies is tried alone."""
+    """Returns edits that can be tried at once: no two of them turn one function or name it, and
+    each can be made beside the others. One that turns more than bodies is tried alone."""
     if not edits[0].bodies:
         return edits[:1]
     now, taken, texts = [], set(), {}

@@ -113,7 +113,7 @@ def without_it():
     cases = {
         "a killed round": (lambda only: killed(only) if len(only) > 1 else refused(only), None),
         "killed checks": (killed, "was not tried"),
-        "a check that ends early": (lambda only: rounds.Ran(0, "fn a::x: proved", 0), "doesn't read"),
+        "a check that ends early": (lambda _: rounds.Ran(0, "fn a::x: proved", 0), "doesn't read"),
         "a check that is silent": (silent, "is NOT REFUSED"),
     }
     wrong = []
