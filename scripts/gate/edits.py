@@ -107,8 +107,9 @@ class Names:
         elif block and block.trait:
             owner = [_words(block.ty, block.generics) + _words(block.trait, block.generics)]
         elif block:
-            # (such an impl is named by its type, wherever it stands)
-            owner, module = block.ty[:1], self.modules.get(block.ty[0], module)
+            # (such an impl is named by its type and that one's module, wherever it stands)
+            fixed = [it for it in block.ty[1:] if re.match(r"\w", it) and it not in block.generics]
+            owner, module = ["+".join([block.ty[0], *fixed])], self.modules.get(block.ty[0], module)
         return "::".join([self.crate.name, *module, *owner, f.name])
 
 

@@ -155,15 +155,17 @@ class Tries:
         why = f"names a function that isn't found: {ran.lines[-1][:300]}"
         self.failed.update(dict.fromkeys(lost, why))
         rest = [it for it in edits if it not in lost]
-        half = len(rest) // 2 * (not lost)
-        for some in (rest[:half], rest[half:]) if len(edits) > 1 else ():
-            if some:
-                self.round(some)
         if len(edits) == 1 and rest:
-            was_killed = ran.status < 0 or ran.status == 137
-            why = f"was not tried: its check was killed ({ran.status})"
-            unread = f"doesn't read, so no contract was tried: {ran.unread(texts)}"
-            self.failed[rest[0]] = why if was_killed else unread
+            self.failed[rest[0]] = self.why_not_tried(ran, texts)
+            return
+        half = 0 if lost else len(rest) // 2
+        for some in filter(None, (rest[:half], rest[half:])):
+            self.round(some)
+
+    def why_not_tried(self, ran, texts):
+        if ran.status < 0 or ran.status == 137:
+            return f"was not tried: its check was killed ({ran.status})"
+        return f"doesn't read, so no contract was tried: {ran.unread(texts)}"
 
     def checked(self, edits):
         texts = {}
