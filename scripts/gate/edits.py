@@ -107,9 +107,14 @@ class Names:
         elif block and block.trait:
             owner = [_words(block.ty, block.generics) + _words(block.trait, block.generics)]
         elif block:
-            # (such an impl is named by its type and that one's module, wherever it stands)
-            fixed = [it for it in block.ty[1:] if re.match(r"\w", it) and it not in block.generics]
-            owner, module = ["+".join([block.ty[0], *fixed])], self.modules.get(block.ty[0], module)
+            given = [it for it in block.ty[1:] if re.match(r"\w", it)]
+            if any(it not in block.generics for it in given):
+                # (such an impl is named by all that the type is given, where it stands)
+                owner = ["+".join([block.ty[0], *given])]
+            else:
+                # (any other by its type, in that one's module)
+                here = self.modules.get(block.ty[0], [module])
+                owner, module = [block.ty[0]], module if module in here else here[0]
         return "::".join([self.crate.name, *module, *owner, f.name])
 
 

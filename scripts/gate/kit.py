@@ -35,10 +35,10 @@ def crates(top):
 
 
 def functions(crate):
-    """Returns the crate's functions as the kit reads them, with the type's module of each."""
+    """Returns the crate's functions as the kit reads them, and the modules that declare each type."""
     source = _bodies.Source(crate.folder)
     source.read("src/main.rt" if crate.is_program else "src/lib.rt")
-    return source.functions, {name: found[0][0] for name, found in source.declared.items()}
+    return source.functions, {name: [it[0] for it in found] for name, found in source.declared.items()}
 
 
 def _newest(folder):

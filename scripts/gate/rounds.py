@@ -3,7 +3,8 @@
 In a round edits of different functions are made at once, in a copy of the crate, and one check of
 just these functions has to say of each that it isn't proved, by a goal of its own. A function's
 goals go by its own body and by the contracts of what it calls, and edits of other bodies leave
-these as they are: so each edit is refused as it would be alone.
+these as they are: so each edit is refused as it would be alone. An edit of a definition stands
+beside others whose laws don't reach it (reach.py).
 """
 import os
 import re
@@ -14,6 +15,7 @@ import tempfile
 from kit import rt, rtlib
 
 GOAL = re.compile(r"note: src/\S+:\d+:\d+: it is not proved that ")
+ERROR = re.compile(r"(?:\./)?(\S+?):(\d+):\d+: error: ")
 # Errors that say no more than that a proof names what an edit took away.
 NAMES = r"has no field|is not in scope|has no `|was not admitted|was rejected, was not checked"
 
@@ -46,23 +48,23 @@ class Ran:
                 found[it] = said
         return found
 
-    def refuses(self, name, is_alone):
-        """Returns whether the function isn't proved by a goal of its own, and else why not."""
+    def refuses(self, name, is_own):
+        """Returns whether the function isn't proved by a goal of its own, and else why not. Of an
+        error's file and line is_own says whether it can be of the function's own proof."""
         said = self.of(name)
         if name not in said:
             return False, "the check says nothing of it"
-        whys = [self._why_not(*it, is_alone) for it in said.items()]
+        whys = [self._why_not(*it, is_own) for it in said.items()]
         return None in whys, next((it for it in whys if it), "")
 
-    def _why_not(self, name, said, is_alone):
+    def _why_not(self, name, said, is_own):
         """Returns None where the function isn't proved by a goal of its own, and else what is."""
         if said.startswith(("no proof", "not proved")):
-            if self.goals[name]:
+            # (a goal that stands at no place of the source, as a type's invariant, is told at its end)
+            if self.goals[name] or "`search` did not prove" in said:
                 return None
-            # (alone, also the lemmas that just this function's proof cites)
-            folder = "proofs" if is_alone else "/".join(["proofs", *name.split("::")[1:]])
-            head = re.compile(rf"(\./)?{re.escape(folder)}/\S+:\d+:\d+: error: ")
-            errors = [it for it in self.lines if head.match(it)]
+            found = [(ERROR.match(it), it) for it in self.lines]
+            errors = [it for at, it in found if at and is_own(name, at[1], int(at[2]))]
             if any(not re.search(NAMES, it) for it in errors):
                 return None
             if errors:
@@ -107,8 +109,14 @@ def check(crate, texts, only):
 class Tries:
     """The edits of one crate, and what became of each."""
 
-    def __init__(self, crate, edits, check=check):
+    def __init__(self, crate, edits, check=check, reach=None):
         self.crate, self.edits, self._check = crate, edits, check
+        # Of an edit of definitions that can stand beside others: what its laws reach, what it turns.
+        self.reaches = {}
+        for it in edits if reach else ():
+            reached, turned = reach.of(it), reach.touched(it)
+            if not it.bodies and not it.fault and reached and turned:
+                self.reaches[it] = reached, turned
         self.refused, self.failed = [], {}
         self.seconds, self.checks = 0.0, 0
 
@@ -121,7 +129,7 @@ class Tries:
                 self.failed[it] = "turns no body: name what must be refused by a line only:"
         left = [it for it in self.edits if it not in self.failed]
         while left:
-            now = first_round(left)
+            now = first_round(left, self.reaches)
             self.round(now)
             left = [it for it in left if it not in now]
 
@@ -139,7 +147,8 @@ class Tries:
     def judge(self, edits, ran):
         """Notes which edits the check refused. The others are tried alone, if they weren't."""
         for it in edits:
-            said = [ran.refuses(name, len(edits) == 1) for name in it.functions]
+            is_own = self.own(it, len(edits) == 1)
+            said = [ran.refuses(name, is_own) for name in it.functions]
             refused = [well for well, _ in said]
             if any(refused) if it.takes_any else all(refused):
                 self.refused.append(it)
@@ -148,6 +157,18 @@ class Tries:
             else:
                 whys = [why for well, why in said if not well][:3]
                 self.failed[it] = f"is NOT REFUSED: {'; '.join(whys)}"
+
+    def own(self, edit, is_alone):
+        """Returns which errors can be of the edit: alone each in a proof, also in the lemmas that it
+        cites, else those in what its laws reach, or in the function's own folder."""
+        if is_alone:
+            return lambda name, path, line: path.startswith("proofs/")
+        if edit in self.reaches:
+            reached = self.reaches[edit][0]
+            here = lambda it, path, line: it.path == path and it.first <= line <= it.last
+            return lambda name, path, line: any(here(it, path, line) for it in reached)
+        folder = lambda name: "/".join(["proofs", *name.split("::")[1:], ""])
+        return lambda name, path, line: path.startswith(folder(name))
 
     def parts(self, edits, ran, texts):
         """Goes on after a check that didn't end, or that couldn't read what was edited."""
@@ -188,16 +209,28 @@ class Tries:
                 it.write("\n".join(["edits: " + " ".join(e.name for e in edits), *ran.lines, ""]))
 
 
-def first_round(edits):
+def first_round(edits, reaches):
     """Returns edits that can be tried at once: no two of them turn one function or name it, and
-    each can be made beside the others. One that turns more than bodies is tried alone."""
-    if not edits[0].bodies:
+    each can be made beside the others. Of definitions no law may reach what another edit turns.
+    One that turns something else is tried alone."""
+    first = edits[0]
+    if not first.bodies and first not in reaches:
         return edits[:1]
-    now, taken, texts = [], set(), {}
+    now, texts = [], {}
     for it in edits:
-        touched = {*it.functions, *it.bodies}
-        made = it.made(texts)[0] if it.bodies and not touched & taken else None
+        is_like = it.bodies if first.bodies else it in reaches
+        made = it.made(texts)[0] if is_like and all(are_apart(it, x, reaches) for x in now) else None
         if made:
-            texts, taken = made, taken | touched
+            texts = made
             now.append(it)
     return now
+
+
+def are_apart(one, other, reaches):
+    """Returns whether neither edit can change what is said of the other's functions."""
+    if {*one.functions, *one.bodies} & {*other.functions, *other.bodies}:
+        return False
+    if one.bodies:
+        return True
+    (reached, turned), (others, other_turned) = reaches[one], reaches[other]
+    return not reached & other_turned and not others & turned

@@ -5,12 +5,13 @@ import tempfile
 
 import edits
 import kit
+import reach
 import rounds
 
 SOURCE = """//! A tiny crate.
 #![tactic(auto)]
 ghost use Rattle.std.specs.Prelude.{◌≡◌, ◌+◌, ◌<◌};
-ghost use Rattle.tiny.specs.Low.{low};
+ghost use Rattle.tiny.specs.Low.{apart, low, twice};
 
 /// The next number.
 pub fn next(number: u8) -> u8
@@ -35,26 +36,59 @@ pub fn small() -> u8
     let small = 3;
     small
 }
+
+/// A law.
+pub fn low_is_nine()
+    ensures { low ≡ 9 }
+{}
+
+/// A law of two definitions.
+pub fn twice_is_eighteen()
+    ensures { twice ≡ 18 }
+{}
+
+/// A law of a definition that nothing else names.
+pub fn apart_is_nine()
+    ensures { apart ≡ 9 }
+{}
 """
 
-DEFINITIONS = """use Rattle.std.specs.Prelude.{ℕ}
+DEFINITIONS = """use Rattle.std.specs.Prelude.{ℕ, ◌+◌}
 
 abbrev pub low : ℕ
 low = 9
 
 abbrev pub other : ℕ
 other = 9
+
+abbrev pub apart : ℕ
+apart = 9
+
+abbrev pub twice : ℕ
+twice = low + low
 """
 
 # Each edit's lines, and how what is said of it begins (None: it is refused).
 WANTED = {
     "a_step_of_two": ("old: 1 + number\nnew: 2 + number", None),
+    "beside_one_that_is_refused": (
+        "only: tiny::apart_is_nine\nfile: specs/Low.antt\nold: apart = 9\nnew: apart = 4 + 5",
+        "is NOT REFUSED",
+    ),
     "harmless": ("old: = 3;\nnew: = 4;", "is NOT REFUSED"),
+    "twice_in_other_words": (
+        "only: tiny::twice_is_eighteen\nfile: specs/Low.antt\nold: low + low\nnew: low + (low + 0)",
+        "is NOT REFUSED",
+    ),
     "lacks_its_text": ("old: = 5;\nnew: = 4;", "can't be made"),
     "names_no_function": ("only: tiny::last\nold: = 3;\nnew: = 9;", "names a function"),
     "refuses_a_caller_alone": ("only: tiny::after_next\nold: 1 + n\nnew: 2 + n", "is NOT REFUSED"),
     "turns_a_contract": ("old: result < low\nnew: result < 3", "turns no body"),
     "turns_a_definition": ("file: specs/Low.antt\nold: low = 9\nnew: low = 3", None),
+    "turns_a_law": (
+        "only: tiny::low_is_nine\nfile: specs/Low.antt\nold: low = 9\nnew: low = 3",
+        None,
+    ),
     "turns_an_unused_definition": ("file: specs/Low.antt\nold: other = 9\nnew: other = 3", "is NOT REFUSED"),
     "unreadable": ("old: next(next(number))\nnew: next(next(nummer))", "doesn't read"),
 }
@@ -80,7 +114,7 @@ def with_the_prover(top):
         file = "" if lines.startswith("file: ") else "file: src/lib.rt\n"
         write(f"{top}/edits/{name}.edit", f"{file}{lines}\n")
     crate = kit.crates(top)["tiny"]
-    tries = rounds.Tries(crate, edits.read(crate, f"{top}/edits"))
+    tries = rounds.Tries(crate, edits.read(crate, f"{top}/edits"), reach=reach.Reach(edits.Names(crate)))
     tries.run()
     told = {it.name: None for it in tries.refused}
     told.update({it.name: why for it, why in tries.failed.items()})

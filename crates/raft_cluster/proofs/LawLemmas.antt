@@ -3,7 +3,6 @@ use Rattle.std.proofs.Common.{◌≡◌, ℕ, zero, suc, ◌<◌, ◌==◌, ◌�
 use Rattle.std.proofs.lemmas.Bool.{eqb-true, eqb-false, eq-eqb}
 use Rattle.raft_membership.specs.declared.membership.Membership.{Membership as RaftMembership}
 use Rattle.raft_state.specs.declared.entry.EntryPayload.TheVariants.{Blank, Normal, Membership}
-use Rattle.raft_values.specs.declared.command.Command.{Command}
 use Rattle.raft_node.specs.Machine.{MachineRules}
 use Rattle.raft_node.specs.Fold.{GroupEntry, GroupPayload, fold_of, answer_in}
 use Rattle.raft_cluster.specs.declared.event.ClusterEvent.{ClusterEvent}
@@ -62,7 +61,7 @@ at_end (z ∷ zs) x entry (suc place) e = at (at_end zs x entry place e)
     at (inl h) = inl h
     at (inr h) = inr (omega (arith, h.0), h.1)
 
-shaped_command : (own : ℕ) (entries : List GroupEntry) (command : Command) → IsShaped entries → 1 < length entries → IsShaped (with_command own entries command)
+shaped_command : (own : ℕ) (entries : List GroupEntry) (command : List ℕ) → IsShaped entries → 1 < length entries → IsShaped (with_command own entries command)
 shaped_command own entries command shaped long =
     record {
       places = λ place entry e. at place entry (at_end entries (entry_at 1 own (length entries) (Normal command)) entry place e);
@@ -202,7 +201,7 @@ refused_change_nothing rules own history replayed number r here refused group =
         let one : None ≡ Some why = sym taken ∙ at_g in cc
 
 -- the commands of two lists, one behind the other
-commands_with-append : (p : GroupPayload) (xs ys : List Command) → commands_with p (xs ++ ys) ≡ commands_with p xs ++ ys
+commands_with-append : (p : GroupPayload) (xs ys : List (List ℕ)) → commands_with p (xs ++ ys) ≡ commands_with p xs ++ ys
 commands_with-append Blank xs ys = refl
 commands_with-append (Membership m) xs ys = refl
 commands_with-append (Normal command) xs ys = refl
@@ -210,10 +209,10 @@ commands_with-append (Normal command) xs ys = refl
 commands_in-append : (xs ys : List GroupEntry) → commands_in (xs ++ ys) ≡ commands_in xs ++ commands_in ys
 commands_in-append [] ys = refl
 commands_in-append (x ∷ xs) ys =
-    ap (λ (cs : List Command). commands_with x.payload cs) (commands_in-append xs ys) ∙ commands_with-append x.payload (commands_in xs) (commands_in ys)
+    ap (λ (cs : List (List ℕ)). commands_with x.payload cs) (commands_in-append xs ys) ∙ commands_with-append x.payload (commands_in xs) (commands_in ys)
 
 -- what one event takes goes before what the others take
-taken_with-append : (group : ℕ) (event : ClusterEvent) (outcome : EventOutcome) (others : List Command)
+taken_with-append : (group : ℕ) (event : ClusterEvent) (outcome : EventOutcome) (others : List (List ℕ))
     → taken_with group event outcome others ≡ taken_with group event outcome [] ++ others
 taken_with-append group (AddGroup node h) outcome others = refl
 taken_with-append group (Initialize node h m now) outcome others = refl
@@ -272,7 +271,7 @@ commands_after rules own group before event outcome answered = at (group_of even
         ∙ ap (λ (o : EventOutcome). commands_in (entries_of list) ++ taken_with group event o []) (sym out)
     unless (Some why) is same out =
         sym (append-nil (commands_in (entries_of list)))
-        ∙ ap (λ (cs : List Command). commands_in (entries_of list) ++ cs)
+        ∙ ap (λ (cs : List (List ℕ)). commands_in (entries_of list) ++ cs)
         (sym (taken_with-refused group event outcome (subst IsRefusal (sym out) (refusal_is own list event why is))))
 
     at : (b : Bool) → (group_of event == group) ≡ b
@@ -283,7 +282,7 @@ commands_after rules own group before event outcome answered = at (group_of even
         unless (refusal_of own list event) refl same here
     at false other =
         sym (append-nil (commands_in (entries_of list)))
-        ∙ ap (λ (cs : List Command). commands_in (entries_of list) ++ cs) (sym (taken_with-other group event outcome other))
+        ∙ ap (λ (cs : List (List ℕ)). commands_in (entries_of list) ++ cs) (sym (taken_with-other group event outcome other))
 
 commands_from : (rules : MachineRules) (own group : ℕ) (before : List ClusterEvent) (history : List Recorded) → ReplaysAfter rules own before history
     → commands_in (entries_of (list_of own group (before ++ events_of history))) ≡ commands_in (entries_of (list_of own group before)) ++ taken_commands group history
@@ -294,9 +293,9 @@ commands_from rules own group before (r ∷ rs) replayed =
     ap (λ (es : List ClusterEvent). commands_in (entries_of (list_of own group es))) (sym (append_assoc before (r.event ∷ []) (events_of rs)))
     ∙ commands_from rules own group (before ++ r.event ∷ []) rs replayed.1
     ∙ ap (λ l. commands_in (entries_of l) ++ taken_commands group rs) (list_from-append own group None before r.event)
-    ∙ ap (λ (cs : List Command). cs ++ taken_commands group rs) (commands_after rules own group before r.event r.outcome replayed.0)
+    ∙ ap (λ (cs : List (List ℕ)). cs ++ taken_commands group rs) (commands_after rules own group before r.event r.outcome replayed.0)
     ∙ append_assoc (commands_in (entries_of (list_of own group before))) (taken_with group r.event r.outcome []) (taken_commands group rs)
-    ∙ ap (λ (cs : List Command). commands_in (entries_of (list_of own group before)) ++ cs) (sym (taken_with-append group r.event r.outcome (taken_commands group rs)))
+    ∙ ap (λ (cs : List (List ℕ)). commands_in (entries_of (list_of own group before)) ++ cs) (sym (taken_with-append group r.event r.outcome (taken_commands group rs)))
 
 -- the commands of each group's list are those that were proposed to it and not refused, in order
 pub commands_are_taken : (rules : MachineRules) (own group : ℕ) (history : List Recorded) → Replays rules own history
@@ -313,7 +312,7 @@ take_grown [] more = refl
 take_grown (y ∷ ys) more = ap (λ (zs : List GroupEntry). y ∷ zs) (take_grown ys more)
 
 -- a command that was told at the end of a list is told of each list that it grows to
-told_stands : (rules : MachineRules) (own : ℕ) (entries final : List GroupEntry) (command : Command) (token : ℕ)
+told_stands : (rules : MachineRules) (own : ℕ) (entries final : List GroupEntry) (command : List ℕ) (token : ℕ)
     → GrowsTo (with_command own entries command) final → IsTold rules final command token (told_for rules entries command token)
 told_stands rules own entries final command token grows =
     let entry : GroupEntry = entry_at 1 own (length entries) (Normal command) in
@@ -330,7 +329,7 @@ told_stands rules own entries final command token grows =
           ∙ ap (λ (o : Option GroupEntry). answer_in rules (fold_of rules entries) (length entries) o) here);
     }
 
-told_there : (rules : MachineRules) (own node group : ℕ) (command : Command) (token now : ℕ) (told : List Told) (list : Option (List GroupEntry)) (after : List ClusterEvent)
+told_there : (rules : MachineRules) (own node group : ℕ) (command : List ℕ) (token now : ℕ) (told : List Told) (list : Option (List GroupEntry)) (after : List ClusterEvent)
     → Done told ≡ outcome_of rules own list (Propose node group command token now)
     → (length told ≡ 1) × AreTold rules (entries_of (list_from own group (list_after own group list (Propose node group command token now)) after)) command token told
 told_there rules own node group command token now told list after done =

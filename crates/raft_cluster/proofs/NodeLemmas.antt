@@ -17,7 +17,6 @@ use Rattle.raft_cluster.specs.declared.event.EventOutcome.TheVariants.{Done, Fau
 use Rattle.raft_cluster.specs.declared.event.Refusal.TheVariants.{NoNode}
 use Rattle.raft_node.specs.declared.fault.Fault.TheVariants.{UnknownGroup}
 use Rattle.raft_membership.specs.declared.membership.Membership.{Membership}
-use Rattle.raft_values.specs.declared.command.Command.{Command}
 use Rattle.raft_cluster.specs.Event.{node_of, group_of}
 use Rattle.raft_cluster.specs.Group.{GroupValue, list_in}
 use Rattle.raft_cluster.specs.GroupStep.{set_up_refusal, command_refusal, refusal_of, list_taken, list_where, unless_refused, outcome_unless, told_by, told_for}
@@ -209,7 +208,7 @@ set_up_refused own other group now m entries lent r why same_id same by is =
     (ap (λ n. set_up_refusal n m (Some entries)) (sym same_id) ∙ ap (λ (es : List GroupEntry). set_up_refusal own m (Some es)) (sym same) ∙ sym by ∙ is)
 
 -- a command is refused, or taken, as the group's entries say
-pub command_refused : (other group token now : ℕ) (command : Command) (entries lent : List GroupEntry) (r why : Option EventOutcome)
+pub command_refused : (other group token now : ℕ) (command : List ℕ) (entries lent : List GroupEntry) (r why : Option EventOutcome)
     → lent ≡ entries → r ≡ command_refusal command (Some lent) → r ≡ why → refusal_of other (Some entries) (Propose other group command token now) ≡ why
 command_refused other group token now command entries lent r why same by is =
     rw (eq-eqb other other refl) (ap (λ (es : List GroupEntry). command_refusal command (Some es)) (sym same) ∙ sym by ∙ is)
@@ -218,7 +217,7 @@ command_refused other group token now command entries lent r why same by is =
 pub set_up_unknown : (own group now : ℕ) (m : Membership ℕ (List ℕ)) → refusal_of own None (Initialize own group m now) ≡ Some (Fault UnknownGroup)
 set_up_unknown own group now m = rw (eq-eqb own own refl) refl
 
-pub command_unknown : (own group token now : ℕ) (command : Command) → refusal_of own None (Propose own group command token now) ≡ Some (Fault UnknownGroup)
+pub command_unknown : (own group token now : ℕ) (command : List ℕ) → refusal_of own None (Propose own group command token now) ≡ Some (Fault UnknownGroup)
 command_unknown own group token now command = rw (eq-eqb own own refl) refl
 
 -- one group stands at a place
@@ -229,8 +228,8 @@ same_group v own gs group i g h is found here here_too =
     cc
 
 -- what is told is the machine's answer at the list's end
-pub told_at_end : (rules : MachineRules) (g h : GroupValue) (lent : List GroupEntry) (command : Command) (token : ℕ) (answer : List ℕ) (told : List Told)
-    → g ≡ h → lent ≡ g.entries → answer ≡ rules.answer (fold_of rules h.entries) (length h.entries) command.bytes
+pub told_at_end : (rules : MachineRules) (g h : GroupValue) (lent : List GroupEntry) (command : List ℕ) (token : ℕ) (answer : List ℕ) (told : List Told)
+    → g ≡ h → lent ≡ g.entries → answer ≡ rules.answer (fold_of rules h.entries) (length h.entries) command
     → told ≡ record { token = token; place = length lent; answer = answer } ∷ [] → told ≡ told_for rules h.entries command token ∷ []
 told_at_end rules g h lent command token answer told same lent_is answer_is told_is =
     let place : length lent ≡ length h.entries = ap length (lent_is ∙ ap (λ (x : GroupValue). x.entries) same) in

@@ -2,7 +2,6 @@
 use Rattle.std.proofs.Common.{◌≡◌, ℕ, ◌==◌, Bool, true, false, not, nat_eq, nat_lt, List, [], ◌∷◌, length, Option, Some, None, refl, ◌∙◌, sym, subst, arith}
 use Rattle.std.proofs.lemmas.Bool.{ne_eqb, true≢false}
 use Rattle.raft_membership.specs.declared.membership.Membership.{Membership}
-use Rattle.raft_values.specs.declared.command.Command.{Command}
 use Rattle.raft_node.specs.declared.fault.MembershipFault.{MembershipFault}
 use Rattle.raft_node.specs.Machine.{MachineRules}
 use Rattle.raft_node.specs.MembershipFault.{membership_fault_of}
@@ -133,7 +132,7 @@ command_taken_of false true e = absurd (some_is_none _ e)
 command_taken_of false false e = refl
 
 -- a command is taken by a group that was set up
-pub command_taken : (own node group token now : ℕ) (command : Command) (list : Option (List GroupEntry))
+pub command_taken : (own node group token now : ℕ) (command : List ℕ) (list : Option (List GroupEntry))
     → refusal_of own list (Propose node group command token now) ≡ None
     → (entries : List GroupEntry) × (list ≡ Some entries) × ((length entries == 0) ≡ false)
 command_taken own node group token now command None taken =
@@ -141,6 +140,6 @@ command_taken own node group token now command None taken =
 command_taken own node group token now command (Some entries) taken = (
   entries,
   refl,
-  command_taken_of (nat_lt 65536 (length command.bytes)) (length entries == 0)
+  command_taken_of (nat_lt 65536 (length command)) (length entries == 0)
       (no_reason (not (node == own)) (command_refusal command (Some entries)) taken),
 )

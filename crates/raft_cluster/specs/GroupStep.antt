@@ -3,7 +3,6 @@
 use Rattle.std.specs.Prelude.{ℕ, Bool, ◌==◌, not, nat_eq, nat_lt, List, [], ◌∷◌, ◌++◌, length, Option, Some, None, true, false}
 use Rattle.std.specs.List.{list_any}
 use Rattle.raft_state.specs.declared.entry.EntryPayload.TheVariants.{Blank, Normal, Membership}
-use Rattle.raft_values.specs.declared.command.Command.{Command}
 use Rattle.raft_membership.specs.declared.membership.Membership.{Membership as RaftMembership}
 use Rattle.raft_values.specs.LogId.{log_id_of}
 use Rattle.raft_membership.specs.Membership.{is_voter}
@@ -30,7 +29,7 @@ abbrev pub set_up_list : ℕ → RaftMembership ℕ (List ℕ) → List GroupEnt
 set_up_list own membership = entry_at 0 0 0 (Membership membership) ∷ entry_at 1 own 1 Blank ∷ []
 
 -- a command goes to the end
-abbrev pub with_command : ℕ → List GroupEntry → Command → List GroupEntry
+abbrev pub with_command : ℕ → List GroupEntry → List ℕ → List GroupEntry
 with_command own entries command =
     entries ++ entry_at 1 own (length entries) (Normal command) ∷ []
 
@@ -73,10 +72,10 @@ set_up_refusal own membership (Some entries) =
     (not (length entries == 0)) (names_other own membership)
 
 -- why a command isn't taken: it is too long, or the group was not set up, so nobody leads it
-abbrev pub command_refusal : Command → Option (List GroupEntry) → Option EventOutcome
+abbrev pub command_refusal : List ℕ → Option (List GroupEntry) → Option EventOutcome
 command_refusal command None = Some (Refused_by_node UnknownGroup)
 command_refusal command (Some entries) =
-    command_reasons (nat_lt 65536 (length command.bytes)) (length entries == 0)
+    command_reasons (nat_lt 65536 (length command)) (length entries == 0)
 
 abbrev pub call_refusal : ℕ → Option (List GroupEntry) → ClusterEvent → Option EventOutcome
 call_refusal own list (AddGroup node group) = add_refusal list
@@ -112,12 +111,12 @@ abbrev pub list_after : ℕ → ℕ → Option (List GroupEntry) → ClusterEven
 list_after own group list event = list_where (group_of event == group) own list event
 
 -- a command is told at the list's end, with the machine's answer there
-abbrev pub told_for : MachineRules → List GroupEntry → Command → ℕ → Told
+abbrev pub told_for : MachineRules → List GroupEntry → List ℕ → ℕ → Told
 told_for rules entries command token =
     record {
       token = token;
       place = length entries;
-      answer = rules.answer (fold_of rules entries) (length entries) command.bytes;
+      answer = rules.answer (fold_of rules entries) (length entries) command;
     }
 
 abbrev pub told_by : MachineRules → Option (List GroupEntry) → ClusterEvent → List Told

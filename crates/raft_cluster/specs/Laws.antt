@@ -1,7 +1,6 @@
 -- What a history that replays promises of each group, in the words of a user.
 use Rattle.std.specs.Prelude.{◌≡◌, ℕ, suc, ◌<◌, ◌==◌, Bool, true, false, List, [], ◌∷◌, length, slice_get, take, Some}
 use Rattle.raft_state.specs.declared.entry.EntryPayload.TheVariants.{Blank, Normal, Membership}
-use Rattle.raft_values.specs.declared.command.Command.{Command}
 use Rattle.raft_node.specs.Machine.{MachineRules}
 use Rattle.raft_node.specs.Fold.{GroupEntry, GroupPayload, answer_at}
 use Rattle.raft_cluster.specs.declared.event.ClusterEvent.{ClusterEvent}
@@ -18,19 +17,19 @@ HasPayload entries place payload =
     (entry : GroupEntry) × (slice_get entries place ≡ Some entry) × (entry.payload ≡ payload)
 
 -- a told command stands at its place, and the told bytes are the fold's answer there
-pub record IsTold (rules : MachineRules) (entries : List GroupEntry) (command : Command) (token : ℕ) (told : Told) : Type 0 where
+pub record IsTold (rules : MachineRules) (entries : List GroupEntry) (command : List ℕ) (token : ℕ) (told : Told) : Type 0 where
   pub same_token : told.token ≡ token
   pub stands : HasPayload entries told.place (Normal command)
   pub answered : told.answer ≡ answer_at rules entries told.place
 
-abbrev pub AreTold : MachineRules → List GroupEntry → Command → ℕ → List Told → Type 0
+abbrev pub AreTold : MachineRules → List GroupEntry → List ℕ → ℕ → List Told → Type 0
 AreTold rules entries command token [] = Unit {0}
 AreTold rules entries command token (told ∷ others) = IsTold rules entries command token told × AreTold rules entries command token others
 
 -- each proposal that was taken is told once, and what it is told stands in its group's list
 abbrev pub ToldStand : MachineRules → ℕ → List Recorded → Type 0
 ToldStand rules own history =
-    (number node group : ℕ) (command : Command) (token now : ℕ) (told : List Told)
+    (number node group : ℕ) (command : List ℕ) (token now : ℕ) (told : List Told)
     → slice_get history number ≡ Some (record { event = Propose node group command token now; outcome = Done told })
     → (length told ≡ 1) × AreTold rules (group_list own group history) command token told
 
@@ -47,21 +46,21 @@ PlacesRise entries =
     → (entry.log_id.index ≡ place) × IsPayloadAt place entry.payload
 
 -- the commands of these entries, in order
-abbrev pub commands_with : GroupPayload → List Command → List Command
+abbrev pub commands_with : GroupPayload → List (List ℕ) → List (List ℕ)
 commands_with Blank others = others
 commands_with (Membership membership) others = others
 commands_with (Normal command) others = command ∷ others
 
-abbrev pub commands_in : List GroupEntry → List Command
+abbrev pub commands_in : List GroupEntry → List (List ℕ)
 commands_in [] = []
 commands_in (entry ∷ entries) = commands_with entry.payload (commands_in entries)
 
-abbrev pub command_if : Bool → Command → List Command → List Command
+abbrev pub command_if : Bool → List ℕ → List (List ℕ) → List (List ℕ)
 command_if true command others = command ∷ others
 command_if false command others = others
 
 -- a command that an event handed to the group and that was not refused
-abbrev pub taken_with : ℕ → ClusterEvent → EventOutcome → List Command → List Command
+abbrev pub taken_with : ℕ → ClusterEvent → EventOutcome → List (List ℕ) → List (List ℕ)
 taken_with group (Propose node h command token now) (Done told) others = command_if (h == group) command others
 taken_with group (Propose node h command token now) (Fault why) others = others
 taken_with group (Propose node h command token now) (Refused why) others = others
@@ -69,7 +68,7 @@ taken_with group (AddGroup node h) outcome others = others
 taken_with group (Initialize node h membership now) outcome others = others
 
 -- the commands that were proposed to the group and not refused, in order
-abbrev pub taken_commands : ℕ → List Recorded → List Command
+abbrev pub taken_commands : ℕ → List Recorded → List (List ℕ)
 taken_commands group [] = []
 taken_commands group (r ∷ rs) = taken_with group r.event r.outcome (taken_commands group rs)
 

@@ -1,10 +1,10 @@
 //! What may happen to a cluster, and what comes of it.
-ghost use Rattle.std.specs.Prelude.{◌≡◌, ◌<◌, [], ◌∷◌, IfOk, vec_capacity};
+ghost use Rattle.std.specs.Prelude.{◌≡◌, [], ◌∷◌, IfOk, vec_capacity};
 ghost use Rattle.raft_cluster.specs.Event.{label_of, node_of};
 ghost use Rattle.raft_cluster.specs.Cluster.{told_in};
 
 use raft_node::Fault;
-use raft_state::{BasicNode, Bytes, Command, Membership};
+use raft_state::{BasicNode, Bytes, Membership};
 use std::alloc::{AllocError, Global};
 use std::marker::Model;
 use thiserror::Error;
@@ -28,7 +28,7 @@ pub enum ClusterEvent {
     Propose {
         node: u64,
         group: u64,
-        command: Command,
+        command: Bytes,
         token: u64,
         now: u64,
     },
@@ -91,12 +91,12 @@ impl ToldList {
     }
 }
 
-/// Room for one told answer, found before the event that tells it (own).
+/// Room for one told answer and no more, found before the event that tells it (own).
 #[derive(Debug, Drop)]
 pub struct ToldRoom {
     items: Vec<Told>,
     ghost empty: { items.items ≡ [] },
-    ghost room: { 0 < vec_capacity items },
+    ghost room: { vec_capacity items ≡ 1 },
 }
 
 impl ToldRoom {

@@ -4,12 +4,12 @@ ghost use Rattle.raft_node.specs.Fold.{fold_of};
 ghost use Rattle.raft_cluster.specs.GroupStep.{set_up_list, with_command};
 
 use raft_node::StateMachine;
-use raft_state::{BasicNode, Bytes, Command, Entry, EntryPayload, LeaderId, LogId, Membership};
+use raft_state::{BasicNode, Bytes, Entry, EntryPayload, LeaderId, LogId, Membership};
 use std::alloc::{AllocError, Global};
 use std::marker::Model;
 
-/// An entry of a group: node ids are numbers, nodes have addresses, data is a command (own).
-pub type GroupEntry = Entry<u64, BasicNode, Command>;
+/// An entry of a group: node ids are numbers, nodes have addresses, data is a command's bytes (own).
+pub type GroupEntry = Entry<u64, BasicNode, Bytes>;
 
 /// The term of a group's one leader, as long as its node alone votes.
 const FIRST_TERM: u64 = 1;
@@ -94,15 +94,15 @@ impl<M: StateMachine> Group<M> {
     }
 
     /// The leader `own` appends the command, and the machine runs it and answers.
-    pub fn append(&mut self, own: u64, command: &Command) -> Result<Bytes, AllocError>
+    pub fn append(&mut self, own: u64, command: &Bytes) -> Result<Bytes, AllocError>
         ensures ok { OnOk result (self.new ≡ record { id = self.old.id; entries = with_command own self.old.entries command.now }) }
-        ensures answer { IfOk result (λ a. a ≡ M.rules.answer (fold_of M.rules self.old.entries) (length self.old.entries) command.now.bytes) }
+        ensures answer { IfOk result (λ a. a ≡ M.rules.answer (fold_of M.rules self.old.entries) (length self.old.entries) command.now) }
         ensures err { OnErr result (self.new ≡ self.old) }
     {
         self.entries.reserve(1)?;
         let place = self.entries.len() as u64;
         let data = command.clone()?;
-        let answer = self.machine.apply(place, &command.bytes)?;
+        let answer = self.machine.apply(place, command)?;
         let entry = Entry {
             log_id: LogId::new(LeaderId::new(FIRST_TERM, own), place),
             payload: EntryPayload::Normal(data),

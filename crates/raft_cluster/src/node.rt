@@ -11,7 +11,7 @@ use crate::event::{ClusterEvent, EventOutcome, Refusal, Told, ToldList, ToldRoom
 use crate::group::{Group, GroupEntry};
 use crate::refusal::{command_refusal, set_up_refusal};
 use raft_node::{Fault, StateMachine};
-use raft_state::{BasicNode, Command, Membership};
+use raft_state::{BasicNode, Bytes, Membership};
 use std::alloc::{AllocError, Global};
 use std::marker::Model;
 
@@ -128,7 +128,7 @@ impl<M: StateMachine> Node<M> {
     pub fn propose(
         &mut self,
         group: u64,
-        command: &Command,
+        command: &Bytes,
         token: u64,
         now: u64,
     ) -> Result<EventOutcome, AllocError>

@@ -8,7 +8,7 @@ ghost use Rattle.raft_cluster.specs.GroupStep.{set_up_refusal, command_refusal, 
 use crate::event::{EventOutcome, Refusal};
 use crate::group::GroupEntry;
 use raft_node::{Fault, MAX_COMMAND_BYTES, membership_fault};
-use raft_state::{BasicNode, Command, Membership};
+use raft_state::{BasicNode, Bytes, Membership};
 
 // Whether a voter group has this node.
 fn is_voter(membership: &Membership<u64, BasicNode>, own: u64) -> bool
@@ -49,10 +49,10 @@ pub fn set_up_refusal(
 }
 
 /// Why the group with these entries doesn't take the command.
-pub fn command_refusal(command: &Command, entries: &[GroupEntry]) -> Option<EventOutcome>
+pub fn command_refusal(command: &Bytes, entries: &[GroupEntry]) -> Option<EventOutcome>
     ensures { result ≡ command_refusal command.now (Some entries.now) }
 {
-    if command.bytes.len() > MAX_COMMAND_BYTES {
+    if command.len() > MAX_COMMAND_BYTES {
         return Some(EventOutcome::Fault(Fault::CommandTooLong));
     }
     if entries.is_empty() {

@@ -4,7 +4,7 @@ use Rattle.raft_values.specs.declared.vote.Vote.{Vote}
 use Rattle.raft_values.specs.declared.log_id.LogId.{LogId}
 use Rattle.raft_conditions.specs.declared.facts.GroupFacts.{GroupFacts}
 use Rattle.raft_conditions.specs.declared.facts.Parties.{Parties}
-use Rattle.raft_conditions.specs.Facts.{logged_or_none}
+use Rattle.raft_messages.specs.Memberships.{logged_or_none}
 use Rattle.raft_group_step.specs.Values.{leader_lt, LoggedMembership, is_voter}
 use Rattle.raft_group_step.specs.GroupEvent.{GroupCall}
 use Rattle.raft_group_step.specs.declared.group_call.GroupCall.TheVariants.{Initialize, Elect, Propose, ChangeMembership, Heartbeat, Lost, TriggerSnapshot, TriggerPurge}

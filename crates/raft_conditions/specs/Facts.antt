@@ -1,23 +1,14 @@
 -- The facts of a group by which its events are judged.
 use Rattle.std.specs.Prelude.{◌≡◌, ℕ, nat_lt, Option, option_map}
-use Rattle.std.proofs.Common.{Bor}
-use Rattle.raft_values.specs.declared.log_id.LogId.{LogId}
 use Rattle.raft_conditions.specs.declared.facts.GroupFacts.{GroupFacts}
 use Rattle.raft_conditions.specs.declared.refusal.Refusal.{Refusal}
-use Rattle.raft_group_step.specs.Values.{LoggedMembership, Membership}
+use Rattle.raft_messages.specs.Memberships.{logged_or_none}
 use Rattle.raft_group_step.specs.StoredGroup.{end_place, membership_in_force}
 use Rattle.raft_group_step.specs.GroupState.{GroupState, is_leader, is_candidate}
 use Rattle.raft_group_step.specs.GroupEvent.{GroupEvent}
 use Rattle.raft_group_step.specs.Initialize.{is_new}
 use Rattle.raft_group_step.specs.Refusal.{are_in_range, next_ids, number_limit, refusal_of}
 use Rattle.raft_conditions.specs.Reason.{reason_of}
-
--- a membership with the log id of its entry
-abbrev pub logged : LogId ℕ × Bor Membership → LoggedMembership
-logged x = record { log_id = x.0; membership = x.1.now }
-
-abbrev pub logged_or_none : Option (LogId ℕ × Bor Membership) → Option LoggedMembership
-logged_or_none x = option_map logged x
 
 -- these are the facts of the group at the node
 pub record IsFactsOf (own : ℕ) (facts : GroupFacts) (s : GroupState) : Type 0 where

@@ -4,15 +4,16 @@ ghost use Rattle.raft_group_step.specs.GroupEvent.{AddGroup, Call, GroupCall};
 ghost use Rattle.raft_group_step.specs.Refusal.{are_in_range, first_of_reasons, is_voter_in, known_leader, reasons_of_change};
 ghost use Rattle.raft_group_step.specs.declared.group_call.GroupCall.TheVariants.{Initialize, Elect, Propose, ChangeMembership, Heartbeat, TriggerSnapshot};
 ghost use Rattle.raft_conditions.specs.ByFacts.{AreLow, IsChangeTried, call_numbers, call_reason_by, early_reasons_by, is_low, is_settled_by, lead_reason_by, next_term_by};
-ghost use Rattle.raft_conditions.specs.Facts.{IsRefusalOf, logged_or_none};
+ghost use Rattle.raft_conditions.specs.Facts.{IsRefusalOf};
+ghost use Rattle.raft_messages.specs.Memberships.{logged_or_none};
 ghost use Rattle.raft_conditions.specs.Reason.{reason_of};
 
 use crate::change::change_refusal;
 use crate::facts::{GroupCommand, GroupFacts};
-use crate::limits::{MAX_COMMAND_BYTES, is_first_membership};
-use crate::ranges::{NUMBER_LIMIT, is_low};
+use crate::ranges::is_low;
 use crate::refusal::Refusal;
 use raft_group_step::GroupCall;
+use raft_messages::{MAX_COMMAND_BYTES, NUMBER_LIMIT, is_first_membership};
 use raft_state::{BasicNode, Bytes, ChangeMembers, Membership};
 use std::alloc::{AllocError, Global};
 

@@ -7,8 +7,8 @@ ghost use Rattle.raft_group_step.specs.Refusal.{change_reasons, first_of_reasons
 ghost use Rattle.raft_group_step.specs.Values.{after_change, is_valid};
 ghost use Rattle.raft_conditions.specs.Reason.{reason_of};
 
-use crate::limits::{is_valid, is_within_limits};
 use crate::refusal::Refusal;
+use raft_messages::{is_valid, is_within_limits};
 use raft_state::{
     BasicNode, ChangeMembers, ChangeMembershipError, HasId, IdSet, Membership, NodeMap, VoterGroups,
 };

@@ -1,11 +1,11 @@
 //! The conditions under which a leader sends entries.
 ghost use Rattle.std.specs.Prelude.{◌≡◌, ◌+◌, ◌==◌};
 ghost use Rattle.raft_group_step.specs.Refusal.{do_follow, has_known_configs, has_known_voters, keep_voters};
-ghost use Rattle.raft_group_step.specs.Values.{leader_lt, membership_after};
+ghost use Rattle.raft_group_step.specs.Values.{leader_lt};
 ghost use Rattle.raft_conditions.specs.ByFacts.{follows};
-ghost use Rattle.raft_conditions.specs.Facts.{logged_or_none};
+ghost use Rattle.raft_messages.specs.Memberships.{logged_or_none};
 
-use crate::facts::{GroupEntry, GroupPayload, LoggedPair};
+use raft_messages::{GroupEntry, GroupPayload, LoggedPair, membership_after};
 use raft_state::{
     BasicNode, EntryPayload, LeaderId, LogId, Membership, Vote, leader_ids_by_term_and_node,
 };
@@ -79,19 +79,6 @@ fn has_known_voters(known: Option<LoggedPair>, payload: &GroupPayload) -> bool
     match payload {
         EntryPayload::Membership(membership) => has_known_configs(known, membership),
         _ => true,
-    }
-}
-
-// The membership of the entry, or else the one before.
-fn membership_after<'a>(
-    known: Option<LoggedPair<'a>>,
-    entry: &'a GroupEntry,
-) -> Option<LoggedPair<'a>>
-    ensures { logged_or_none result ≡ membership_after (logged_or_none known.entry) entry.now.log_id entry.now.payload }
-{
-    match &entry.payload {
-        EntryPayload::Membership(membership) => Some((entry.log_id, membership)),
-        _ => known,
     }
 }
 

@@ -1,21 +1,10 @@
 //! The facts of a group by which its events are judged.
-use raft_group_step::{AppendEntriesRequest, GroupCall};
-use raft_state::{BasicNode, Bytes, Entry, EntryPayload, LogId, Membership, Vote};
-
-/// An entry whose command is bytes.
-pub type GroupEntry = Entry<u64, BasicNode, Bytes>;
-
-/// What an entry asks for, whose command is bytes.
-pub type GroupPayload = EntryPayload<u64, BasicNode, Bytes>;
+use raft_group_step::GroupCall;
+use raft_messages::LoggedPair;
+use raft_state::{BasicNode, Bytes, Vote};
 
 /// A call whose command is bytes.
 pub type GroupCommand = GroupCall<u64, BasicNode, Bytes>;
-
-/// A request whose entries' commands are bytes.
-pub type GroupRequest = AppendEntriesRequest<u64, BasicNode, Bytes>;
-
-/// A membership, with the log id of the entry that has it.
-pub type LoggedPair<'a> = (LogId<u64>, &'a Membership<u64, BasicNode>);
 
 /// What is known of a group at a node when an event comes (own).
 #[derive(Clone, Copy)]

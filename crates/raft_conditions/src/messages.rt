@@ -1,21 +1,23 @@
 //! When a message is refused.
 ghost use Rattle.std.specs.Prelude.{◌≡◌, ◌&&◌, ◌∷◌, [], ℕ, List, Option, Bool, true, option_map, IfNone, Some};
-ghost use Rattle.raft_group_step.specs.Message.{AppendReply, SnapshotReply, SnapshotRequest, VoteReply, VoteRequest};
+ghost use Rattle.raft_group_step.specs.Message.{AppendReply, AppendRequest, SnapshotReply, SnapshotRequest, VoteReply, VoteRequest};
 ghost use Rattle.raft_group_step.specs.Refusal.{are_in_range, do_follow, keep_voters, has_known_snapshot, is_foreign, is_foreign_result};
 ghost use Rattle.raft_group_step.specs.Refusal.{is_of_leader, numbers_of, numbers_of_membership, numbers_of_reply};
 ghost use Rattle.raft_group_step.specs.Values.{Entry, vote_lt};
 ghost use Rattle.raft_conditions.specs.ByFacts.{AreLow, HasRoom, has_room, is_right_party_by, message_reason_by};
-ghost use Rattle.raft_conditions.specs.Facts.{IsRefusalOf, logged_or_none};
+ghost use Rattle.raft_conditions.specs.Facts.{IsRefusalOf};
 ghost use Rattle.raft_conditions.specs.Reason.{reason_of};
-ghost use Rattle.raft_conditions.specs.Messages.{append_body, received, reply_fields, seen_outcome, snapshot_body};
+ghost use Rattle.raft_conditions.specs.Messages.{received};
+ghost use Rattle.raft_messages.specs.Memberships.{logged_or_none, snapshot_of};
+ghost use Rattle.raft_messages.specs.Messages.{append_fields_of, outcome_of, reply_fields_of};
 
 use crate::entries::{do_follow, has_known_configs, keep_voters};
-use crate::facts::{GroupFacts, GroupRequest, LoggedPair, Parties};
+use crate::facts::{GroupFacts, Parties};
 use crate::ranges::{
     are_low_entries, is_low, is_low_id, is_low_id_or_none, is_low_outcome, is_low_request,
 };
 use crate::refusal::Refusal;
-use raft_group_step::AppendEntriesResponse;
+use raft_messages::{AppendFields, ReplyFields, ReplyResult, SnapshotHead};
 use raft_state::{LogId, Vote, votes_by_term_node_committed};
 use std::cmp::Ordering;
 
@@ -58,12 +60,12 @@ impl<'a> GroupFacts<'a> {
     }
 
     // The same of a vote that an answer tells, if it tells one.
-    fn is_foreign_outcome(&self, outcome: &AppendEntriesResponse<u64>) -> bool
-        ensures { result ≡ is_foreign_result self.now.own self.now.vote (seen_outcome outcome.now) }
+    fn is_foreign_outcome(&self, outcome: &ReplyResult) -> bool
+        ensures { result ≡ is_foreign_result self.now.own self.now.vote (outcome_of outcome.now) }
     {
         match outcome {
-            AppendEntriesResponse::HigherVote(vote) => self.is_foreign(vote),
-            _ => true,
+            ReplyResult::HigherVote(vote) => self.is_foreign(vote),
+            ReplyResult::Success | ReplyResult::Conflict => true,
         }
     }
 
@@ -138,44 +140,44 @@ impl<'a> GroupFacts<'a> {
     }
 
     // Whether the numbers of an append request are in range.
-    fn are_append_numbers_low(&self, request: &GroupRequest, id: Option<u64>, now: u64) -> bool
-        ensures { result ≡ (are_in_range (now ∷ numbers_of (append_body request.now id)) && has_room self.now) }
+    fn are_append_numbers_low(&self, request: &AppendFields, now: u64) -> bool
+        ensures { result ≡ (are_in_range (now ∷ numbers_of (AppendRequest (append_fields_of request.now))) && has_room self.now) }
     {
-        let is_first_low = is_low(now) && is_low(request.vote.leader_id.term) && is_low_request(id);
-        is_first_low
-            && is_low_id_or_none(request.prev_log_id)
-            && is_low_id_or_none(request.leader_commit)
+        let is_vote_low = is_low(now) && is_low(request.vote.leader_id.term);
+        is_vote_low
+            && is_low_request(&request.id)
+            && is_low_id_or_none(request.previous)
+            && is_low_id_or_none(request.committed)
             && are_low_entries(request.entries.as_slice())
             && self.has_room()
     }
 
     // Whether a leader may send the request.
-    fn is_sound_append(&self, peer: u64, request: &GroupRequest) -> bool
-        ensures { result ≡ (is_of_leader peer request.now.vote && do_follow request.now.vote request.now.prev_log_id request.now.entries
+    fn is_sound_append(&self, peer: u64, request: &AppendFields) -> bool
+        ensures { result ≡ (is_of_leader peer request.now.vote && do_follow request.now.vote request.now.previous request.now.entries
             && keep_voters (logged_or_none self.now.membership) request.now.entries) }
     {
         let entries = request.entries.as_slice();
         is_of_leader(peer, &request.vote)
-            && do_follow(&request.vote, request.prev_log_id, entries)
+            && do_follow(&request.vote, request.previous, entries)
             && keep_voters(self.membership, entries)
     }
 
-    /// Why an append request with this number (none: a notice or heartbeat) is refused, if it is: it
+    /// Why an append request, notice or heartbeat is refused, if it is: it
     /// isn't the peer's own (`WrongParty`), the group isn't there, a number isn't low, or the vote
     /// isn't the peer's committed one, the entries don't follow one another or have other voter
     /// groups than those in force (`BreaksCondition`).
     pub fn append_request_refusal(
         &self,
         parties: Parties,
-        request: &GroupRequest,
-        id: Option<u64>,
+        request: &AppendFields,
         now: u64,
     ) -> Option<Refusal<u64>>
-        ensures refusal { IsRefusalOf self.now (received parties (append_body request.now id) now) result }
-        ensures numbers { IfNone result (AreLow (now ∷ numbers_of (append_body request.now id))) }
+        ensures refusal { IsRefusalOf self.now (received parties (AppendRequest (append_fields_of request.now)) now) result }
+        ensures numbers { IfNone result (AreLow (now ∷ numbers_of (AppendRequest (append_fields_of request.now)))) }
         ensures room { IfNone result (HasRoom self.now) }
     {
-        let in_range = self.are_append_numbers_low(request, id, now);
+        let in_range = self.are_append_numbers_low(request, now);
         self.message_refusal(
             &parties,
             in_range,
@@ -184,44 +186,34 @@ impl<'a> GroupFacts<'a> {
     }
 
     // Whether the numbers of an answer are in range.
-    fn are_reply_numbers_low(
-        &self,
-        vote: &Vote<u64>,
-        id: Option<u64>,
-        ends: (Option<LogId<u64>>, Option<LogId<u64>>),
-        outcome: &AppendEntriesResponse<u64>,
-        now: u64,
-    ) -> bool
-        ensures { result ≡ (are_in_range (now ∷ numbers_of_reply (reply_fields vote.now id ends.0 ends.1 outcome.now)) && has_room self.now) }
+    fn are_reply_numbers_low(&self, reply: &ReplyFields, now: u64) -> bool
+        ensures { result ≡ (are_in_range (now ∷ numbers_of_reply (reply_fields_of reply.now)) && has_room self.now) }
     {
-        let is_first_low = is_low(now) && is_low(vote.leader_id.term) && is_low_request(id);
-        is_first_low
-            && is_low_id_or_none(ends.0)
-            && is_low_id_or_none(ends.1)
-            && is_low_outcome(outcome)
+        let is_vote_low = is_low(now) && is_low(reply.vote.leader_id.term);
+        is_vote_low
+            && is_low_request(&reply.id)
+            && is_low_id_or_none(reply.previous)
+            && is_low_id_or_none(reply.last)
+            && is_low_outcome(&reply.outcome)
             && self.has_room()
     }
 
     /// Why an answer to an append request or a snapshot is refused, if it is: it isn't the peer's own
     /// (`WrongParty`), the group isn't there, a number isn't low, or a vote in it is one of the own
-    /// that was never stored (`BreaksCondition`). `PartialSuccess` is read as `Success`.
+    /// that was never stored (`BreaksCondition`).
     pub fn reply_refusal(
         &self,
         parties: Parties,
-        vote: Vote<u64>,
-        id: Option<u64>,
-        previous: Option<LogId<u64>>,
-        last: Option<LogId<u64>>,
-        outcome: &AppendEntriesResponse<u64>,
+        reply: &ReplyFields,
         now: u64,
     ) -> Option<Refusal<u64>>
-        ensures append { IsRefusalOf self.now (received parties (AppendReply (reply_fields vote id previous last outcome.now)) now) result }
-        ensures snapshot { IsRefusalOf self.now (received parties (SnapshotReply (reply_fields vote id previous last outcome.now)) now) result }
-        ensures numbers { IfNone result (AreLow (now ∷ numbers_of_reply (reply_fields vote id previous last outcome.now))) }
+        ensures append { IsRefusalOf self.now (received parties (AppendReply (reply_fields_of reply.now)) now) result }
+        ensures snapshot { IsRefusalOf self.now (received parties (SnapshotReply (reply_fields_of reply.now)) now) result }
+        ensures numbers { IfNone result (AreLow (now ∷ numbers_of_reply (reply_fields_of reply.now))) }
         ensures room { IfNone result (HasRoom self.now) }
     {
-        let in_range = self.are_reply_numbers_low(&vote, id, (previous, last), outcome, now);
-        let is_sound = self.is_foreign(&vote) && self.is_foreign_outcome(outcome);
+        let in_range = self.are_reply_numbers_low(reply, now);
+        let is_sound = self.is_foreign(&reply.vote) && self.is_foreign_outcome(&reply.outcome);
         self.message_refusal(&parties, in_range, is_sound)
     }
 
@@ -230,25 +222,24 @@ impl<'a> GroupFacts<'a> {
         &self,
         vote: &Vote<u64>,
         id: u64,
-        last: LogId<u64>,
-        membership: Option<LoggedPair>,
+        head: SnapshotHead,
         now: u64,
     ) -> bool
-        ensures { result ≡ (are_in_range (now ∷ numbers_of (snapshot_body vote.now id last (logged_or_none membership.entry) [])) && has_room self.now) }
+        ensures { result ≡ (are_in_range (now ∷ numbers_of (SnapshotRequest vote.now id (snapshot_of head.entry []))) && has_room self.now) }
     {
-        let is_membership_low = match membership {
+        let is_membership_low = match head.membership {
             None => true,
             Some((log_id, _)) => is_low_id(log_id),
         };
         let is_first_low = is_low(now) && is_low(vote.leader_id.term) && is_low(id);
-        is_first_low && is_low_id(last) && is_membership_low && self.has_room()
+        is_first_low && is_low_id(head.last) && is_membership_low && self.has_room()
     }
 
     // Whether a leader may send the snapshot.
-    fn is_sound_snapshot(&self, peer: u64, vote: &Vote<u64>, membership: Option<LoggedPair>) -> bool
-        ensures { result ≡ (is_of_leader peer vote.now && has_known_snapshot (logged_or_none self.now.membership) (logged_or_none membership.entry)) }
+    fn is_sound_snapshot(&self, peer: u64, vote: &Vote<u64>, head: SnapshotHead) -> bool
+        ensures { result ≡ (is_of_leader peer vote.now && has_known_snapshot (logged_or_none self.now.membership) (logged_or_none head.entry.membership)) }
     {
-        let has_known = match membership {
+        let has_known = match head.membership {
             None => true,
             Some((_, membership)) => has_known_configs(self.membership, membership),
         };
@@ -263,16 +254,15 @@ impl<'a> GroupFacts<'a> {
         parties: Parties,
         vote: Vote<u64>,
         id: u64,
-        last: LogId<u64>,
-        membership: Option<LoggedPair>,
+        head: SnapshotHead,
         now: u64,
     ) -> Option<Refusal<u64>>
-        ensures refusal { (entries : List Entry) → IsRefusalOf self.now (received parties (snapshot_body vote id last (logged_or_none membership.entry) entries) now) result }
-        ensures numbers { IfNone result (AreLow (now ∷ numbers_of (snapshot_body vote id last (logged_or_none membership.entry) []))) }
+        ensures refusal { (entries : List Entry) → IsRefusalOf self.now (received parties (SnapshotRequest vote id (snapshot_of head.entry entries)) now) result }
+        ensures numbers { IfNone result (AreLow (now ∷ numbers_of (SnapshotRequest vote id (snapshot_of head.entry [])))) }
         ensures room { IfNone result (HasRoom self.now) }
     {
-        let in_range = self.are_snapshot_numbers_low(&vote, id, last, membership, now);
-        let is_sound = self.is_sound_snapshot(parties.peer, &vote, membership);
+        let in_range = self.are_snapshot_numbers_low(&vote, id, head, now);
+        let is_sound = self.is_sound_snapshot(parties.peer, &vote, head);
         self.message_refusal(&parties, in_range, is_sound)
     }
 }

@@ -2,14 +2,10 @@
 ghost use Rattle.std.specs.Prelude.{◌≡◌};
 ghost use Rattle.raft_group_step.specs.Refusal.{are_in_range, numbers_of_entries, numbers_of_id, numbers_of_request, numbers_of_result};
 ghost use Rattle.raft_conditions.specs.ByFacts.{is_low, is_low_id};
-ghost use Rattle.raft_conditions.specs.Messages.{request_id_of, seen_outcome};
+ghost use Rattle.raft_messages.specs.Messages.{outcome_of, request_id_of};
 
-use crate::facts::GroupEntry;
-use raft_group_step::AppendEntriesResponse;
+use raft_messages::{GroupEntry, NUMBER_LIMIT, ReplyResult, RequestId};
 use raft_state::LogId;
-
-/// Terms, places, moments and the numbers of requests are below this.
-pub const NUMBER_LIMIT: u64 = 1 << 62;
 
 // Whether a number is below the limit.
 pub(crate) fn is_low(number: u64) -> bool
@@ -36,22 +32,22 @@ pub(crate) fn is_low_id_or_none(id: Option<LogId<u64>>) -> bool
 }
 
 // Whether the number of a request is below the limit, if it has one.
-pub(crate) fn is_low_request(id: Option<u64>) -> bool
-    ensures { result ≡ are_in_range (numbers_of_request (request_id_of id)) }
+pub(crate) fn is_low_request(id: &RequestId) -> bool
+    ensures { result ≡ are_in_range (numbers_of_request (request_id_of id.now)) }
 {
     match id {
-        None => true,
-        Some(number) => is_low(number),
+        RequestId::HeartBeat => true,
+        RequestId::Numbered { id } => is_low(*id),
     }
 }
 
 // Whether the term of a vote that an answer tells is below the limit, if it tells one.
-pub(crate) fn is_low_outcome(outcome: &AppendEntriesResponse<u64>) -> bool
-    ensures { result ≡ are_in_range (numbers_of_result (seen_outcome outcome.now)) }
+pub(crate) fn is_low_outcome(outcome: &ReplyResult) -> bool
+    ensures { result ≡ are_in_range (numbers_of_result (outcome_of outcome.now)) }
 {
     match outcome {
-        AppendEntriesResponse::HigherVote(vote) => is_low(vote.leader_id.term),
-        _ => true,
+        ReplyResult::HigherVote(vote) => is_low(vote.leader_id.term),
+        ReplyResult::Success | ReplyResult::Conflict => true,
     }
 }
 

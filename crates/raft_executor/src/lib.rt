@@ -5,6 +5,6 @@ pub mod message;
 pub mod sending;
 pub mod storing;
 
-pub use message::{Body, Message};
+pub use message::{GroupBody, GroupMessage};
 pub use sending::{messages, sent};
 pub use storing::{store, store_first};

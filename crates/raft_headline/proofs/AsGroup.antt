@@ -1,6 +1,6 @@
--- A cluster's history as one of a group: its events by their numbers, and what it keeps of the machines.
-use Rattle.std.specs.Prelude.{◌≡◌, ◌⊎◌, ℕ, zero, suc, ◌<◌, Bool, true, false, List, [], ◌∷◌, ◌++◌, length, slice_get, Option, Some, None, Contains, refl}
-use Rattle.std.proofs.Common.{inl, inr, sym, ap, ◌∙◌, subst, arith, append_assoc}
+-- A cluster's history as one of a group, and what it keeps of the machines.
+use Rattle.std.specs.Prelude.{◌≡◌, ℕ, Bool, true, false, List, [], ◌∷◌, ◌++◌, slice_get, Option, Some, None, Contains, refl}
+use Rattle.std.proofs.Common.{sym, ap, ◌∙◌, subst, append_assoc}
 use Rattle.std.proofs.lemmas.List.{append-nil}
 use Rattle.raft_group_step.specs.Message.{Message}
 use Rattle.raft_group_step.specs.GroupEvent.{GroupCall}
@@ -19,21 +19,14 @@ use Rattle.raft_group_step.specs.StoredGroup.{Snapshot}
 use Rattle.raft_laws.proofs.Histories.{histories-join}
 use Rattle.raft_laws.proofs.Runs.{scene-tells-stop}
 use Rattle.raft_node.specs.Machine.{MachineRules}
-use Rattle.raft_headline.specs.ClusterEvent.{ClusterOutcome, Recorded, is_stopped}
+use Rattle.raft_headline.specs.ClusterEvent.{Recorded, is_stopped}
 use Rattle.raft_headline.specs.Seen.{Seen, Passed, Own, Halted, Crashed, seen_by}
 use Rattle.raft_headline.specs.Machines.{Built, MachinesMove, MachinesMoveIn, Replicas, StandsStill, turn_of}
-use Rattle.raft_headline.specs.Replaying.{CrashStep, HaltStep, OwnStep, ReplaysWith, Says, StepsTo, is_opening}
+use Rattle.raft_headline.specs.Replaying.{CrashStep, HaltStep, OwnStep, ReplaysWith, StepsTo}
 use Rattle.raft_headline.proofs.Folding.{AnswersFold}
 use Rattle.raft_headline.proofs.WorldMachines.{Kept, NotOpening, at_answers, at_kept}
 
 -- ---- one event
-
--- the group's records of an event: none, or one
-abbrev pub recorded_as : Seen → ClusterOutcome → GroupWorld → List GroupRecorded
-recorded_as Passed o w = []
-recorded_as (Own e) o w = record { event = e; outcome = outcome_of w e (is_stopped o) } ∷ []
-recorded_as (Halted n) o w = record { event = event.Halt n; outcome = outcome_of w (event.Halt n) true } ∷ []
-recorded_as (Crashed n) o w = record { event = event.Crash n; outcome = outcome_of w (event.Crash n) false } ∷ []
 
 one_replays : (w v : GroupWorld) (e : WorldEvent) (stopped : Bool) (k : ℕ) → v ≡ happens w e (outcome_of w e stopped) k → Replays w (record { event = e; outcome = outcome_of w e stopped } ∷ []) v
 one_replays w v e stopped k is = (scene-tells-stop w stopped (scene_of w e), (k, is))
@@ -62,7 +55,7 @@ scene_fits w (event.Restart n) = tt
 no_turn : (rules : MachineRules) (n : ℕ) (e : NodeEvent) (x : NodeState) (m : List ℕ) → (turn_of rules n m e x ≡ None) → (b : Bool) (old new : Replicas) (answers : ℕ → Option (List ℕ)) → StandsStill old new → MachinesMove rules n (turn_of rules n m e x) b old new answers
 no_turn rules n e x m is b old new answers h = subst (λ t. MachinesMove rules n t b old new answers) (sym is) h
 
-crash_turn : (rules : MachineRules) (n : ℕ) (x : NodeState) (m : List ℕ) → turn_of rules n m Crashes x ≡ None
+pub crash_turn : (rules : MachineRules) (n : ℕ) (x : NodeState) (m : List ℕ) → turn_of rules n m Crashes x ≡ None
 crash_turn rules n Absent m = refl
 crash_turn rules n (Up s) m = refl
 crash_turn rules n (Down st) m = refl
@@ -101,27 +94,18 @@ module _ (rules : MachineRules) (ids : List ℕ) where
       at_kept rules ids rs old k r new.world run (joined_history rs old new r k run) new refl answers n at_node (is_stop o) i fits
       (λ j. ap (λ (w : GroupWorld). w.nodes j) is) moves
 
-  -- the record of an event, with what became of it in the group
-  abbrev pub RecordOf : ℕ → Seen → Recorded → GroupRecorded → Type 0
-  RecordOf h Passed r x = ⊥
-  RecordOf h (Own e) r x = (x.event ≡ e) × (answers : ℕ → Option (List ℕ)) × Says h (is_opening e) answers r.outcome x.outcome
-  RecordOf h (Halted n) r x = x.event ≡ event.Halt n
-  RecordOf h (Crashed n) r x = x.event ≡ event.Crash n
-
-  -- what an event leads to, as one of the group's own history
-  pub record Stepped (h : ℕ) (rs : List GroupRecorded) (r : Recorded) (old new : Replicas) (x : GroupRecorded) : Type 0 where
+  -- what an event leads to, as an event of the group's own history
+  pub record Stepped (rs : List GroupRecorded) (old new : Replicas) (x : GroupRecorded) : Type 0 where
     pub kept : Kept rules ids (rs ++ x ∷ []) new
     pub run : Replays old.world (x ∷ []) new.world
-    pub of : RecordOf h (seen_by h r) r x
 
-  pub own_stepped : (h : ℕ) (rs : List GroupRecorded) (r : Recorded) (k : ℕ) (e : WorldEvent) (old new : Replicas) → seen_by h r ≡ Own e → Kept rules ids rs old → OwnStep rules h e r k old new → Stepped h rs r old new (record { event = e; outcome = outcome_of old.world e (is_stopped r.outcome) })
-  own_stepped h rs r k e old new is kept step =
+  pub own_stepped : (h : ℕ) (rs : List GroupRecorded) (r : Recorded) (k : ℕ) (e : WorldEvent) (old new : Replicas) → Kept rules ids rs old → OwnStep rules h e r k old new → Stepped rs old new (record { event = e; outcome = outcome_of old.world e (is_stopped r.outcome) })
+  own_stepped h rs r k e old new kept step =
       let o = outcome_of old.world e (is_stopped r.outcome) in
       let run = one_replays old.world new.world e (is_stopped r.outcome) k step.world in
       record {
         kept = scene_kept rs old new e o k (scene_of old.world e) step.answers (scene_fits old.world e) kept run step.world step.machines;
         run = run;
-        of = subst (λ s. RecordOf h s r (record { event = e; outcome = o })) (sym is) (refl, step.answers, step.says);
       }
 
   scene_answers : (rs : List GroupRecorded) (old new : Replicas) (e : WorldEvent) (stopped : Bool) (i : ℕ) (scene : Scene) (answers : ℕ → Option (List ℕ)) → SceneFits scene → Kept rules ids rs old
@@ -143,8 +127,8 @@ module _ (rules : MachineRules) (ids : List ℕ) where
       scene_answers rs old new e stopped k (scene_of old.world e) step.answers (scene_fits old.world e) kept (record { event = e; outcome = o })
       (one_replays old.world new.world e stopped k step.world) (is_stop o) (ap is_stop ends) o step.world step.machines sent tells lost ends
 
-  halt_stepped : (h : ℕ) (rs : List GroupRecorded) (r : Recorded) (n : ℕ) (old new : Replicas) → seen_by h r ≡ Halted n → Kept rules ids rs old → HaltStep rules h n r.outcome old new → Stepped h rs r old new (record { event = event.Halt n; outcome = outcome_of old.world (event.Halt n) true })
-  halt_stepped h rs r n old new is kept step =
+  halt_stepped : (h : ℕ) (rs : List GroupRecorded) (r : Recorded) (n : ℕ) (old new : Replicas) → Kept rules ids rs old → HaltStep rules h n r.outcome old new → Stepped rs old new (record { event = event.Halt n; outcome = outcome_of old.world (event.Halt n) true })
+  halt_stepped h rs r n old new kept step =
       let o = outcome_of old.world (event.Halt n) true in
       let run = one_replays old.world new.world (event.Halt n) true 0 step.world in
       record {
@@ -152,11 +136,10 @@ module _ (rules : MachineRules) (ids : List ℕ) where
             scene_kept rs old new (event.Halt n) o 0 (At n Halts) (λ place. None) tt kept run step.world
             (no_turn rules n Halts (old.world.nodes n) (old.machines n) (halt_turn rules n (old.world.nodes n) (old.machines n)) (is_stop o) old new (λ place. None) step.machines);
         run = run;
-        of = subst (λ s. RecordOf h s r (record { event = event.Halt n; outcome = o })) (sym is) refl;
       }
 
-  crash_stepped : (h : ℕ) (rs : List GroupRecorded) (r : Recorded) (n : ℕ) (old new : Replicas) → seen_by h r ≡ Crashed n → Kept rules ids rs old → CrashStep rules h n r.outcome old new → Stepped h rs r old new (record { event = event.Crash n; outcome = outcome_of old.world (event.Crash n) false })
-  crash_stepped h rs r n old new is kept step =
+  crash_stepped : (h : ℕ) (rs : List GroupRecorded) (r : Recorded) (n : ℕ) (old new : Replicas) → Kept rules ids rs old → CrashStep rules h n r.outcome old new → Stepped rs old new (record { event = event.Crash n; outcome = outcome_of old.world (event.Crash n) false })
+  crash_stepped h rs r n old new kept step =
       let o = outcome_of old.world (event.Crash n) false in
       let run = one_replays old.world new.world (event.Crash n) false 0 step.world in
       record {
@@ -164,90 +147,42 @@ module _ (rules : MachineRules) (ids : List ℕ) where
             scene_kept rs old new (event.Crash n) o 0 (At n Crashes) (λ place. None) tt kept run step.world
             (no_turn rules n Crashes (old.world.nodes n) (old.machines n) (crash_turn rules n (old.world.nodes n) (old.machines n)) (is_stop o) old new (λ place. None) step.machines);
         run = run;
-        of = subst (λ s. RecordOf h s r (record { event = event.Crash n; outcome = o })) (sym is) refl;
       }
 
   -- ---- a history
 
-  -- the group's records stand one by one for those of the cluster's that the group sees
-  abbrev pub Aligned : ℕ → List Recorded → List GroupRecorded → Type 0
-  Aligned h [] gs = gs ≡ []
-  Aligned h (r ∷ rs) gs =
-      Aligned h rs gs ⊎ ((x : GroupRecorded) × (rest : List GroupRecorded) × (gs ≡ x ∷ rest) × RecordOf h (seen_by h r) r x × Aligned h rs rest)
-
-  pub record Led (h : ℕ) (rs : List GroupRecorded) (history : List Recorded) (old end : Replicas) : Type 0 where
+  pub record Led (rs : List GroupRecorded) (old end : Replicas) : Type 0 where
     pub more : List GroupRecorded
     pub kept : Kept rules ids (rs ++ more) end
     pub run : Replays old.world more end.world
-    pub aligned : Aligned h history more
 
-  one_more : (h : ℕ) (rs : List GroupRecorded) (r : Recorded) (history : List Recorded) (old new end : Replicas) (x : GroupRecorded) → Stepped h rs r old new x → Led h (rs ++ x ∷ []) history new end → Led h rs (r ∷ history) old end
-  one_more h rs r history old new end x s l = record {
+  one_more : (rs : List GroupRecorded) (old new end : Replicas) (x : GroupRecorded) → Stepped rs old new x → Led (rs ++ x ∷ []) new end → Led rs old end
+  one_more rs old new end x s l = record {
     more = x ∷ l.more;
     kept = subst (λ gs. Kept rules ids gs end) (append_assoc rs (x ∷ []) l.more) l.kept;
     run = histories-join (x ∷ []) l.more old.world new.world end.world s.run l.run;
-    aligned = inr (x, l.more, refl, s.of, l.aligned);
   }
 
-  pub led : (h : ℕ) (rs : List GroupRecorded) (history : List Recorded) (numbers : List ℕ) (old end : Replicas) → Kept rules ids rs old → ReplaysWith rules h old history numbers end → Led h rs history old end
+  pub led : (h : ℕ) (rs : List GroupRecorded) (history : List Recorded) (numbers : List ℕ) (old end : Replicas) → Kept rules ids rs old → ReplaysWith rules h old history numbers end → Led rs old end
   led h rs [] numbers old end k run = record {
     more = [];
     kept = subst (Kept rules ids (rs ++ [])) (sym run.1) (subst (λ gs. Kept rules ids gs old) (sym (append-nil rs)) k);
     run = ap (λ (g : Replicas). g.world) run.1;
-    aligned = refl;
   }
   led h rs (r ∷ history) numbers old end k run =
       go (seen_by h r) refl (λ gs kept. led h gs history run.0.others run.0.new end kept run.1)
     where
-      go : (seen : Seen) → seen_by h r ≡ seen → ((gs : List GroupRecorded) → Kept rules ids gs run.0.new → Led h gs history run.0.new end) → Led h rs (r ∷ history) old end
+      go : (seen : Seen) → seen_by h r ≡ seen → ((gs : List GroupRecorded) → Kept rules ids gs run.0.new → Led gs run.0.new end) → Led rs old end
       go Passed is rest =
           let same : run.0.new ≡ old = subst (λ s. StepsTo rules h s r run.0.number old run.0.new) is run.0.step in
-          let l : Led h rs history old end = subst (λ (g : Replicas). Led h rs history g end) same (rest rs (subst (Kept rules ids rs) (sym same) k)) in
-          record { more = l.more; kept = l.kept; run = l.run; aligned = inl l.aligned }
+          let l : Led rs old end = subst (λ (g : Replicas). Led rs g end) same (rest rs (subst (Kept rules ids rs) (sym same) k)) in
+          record { more = l.more; kept = l.kept; run = l.run }
       go (Own e) is rest =
-          let s = own_stepped h rs r run.0.number e old run.0.new is k (subst (λ s. StepsTo rules h s r run.0.number old run.0.new) is run.0.step) in
-          one_more h rs r history old run.0.new end _ s (rest _ s.kept)
+          let s = own_stepped h rs r run.0.number e old run.0.new k (subst (λ s. StepsTo rules h s r run.0.number old run.0.new) is run.0.step) in
+          one_more rs old run.0.new end _ s (rest _ s.kept)
       go (Halted n) is rest =
-          let s = halt_stepped h rs r n old run.0.new is k (subst (λ s. StepsTo rules h s r run.0.number old run.0.new) is run.0.step) in
-          one_more h rs r history old run.0.new end _ s (rest _ s.kept)
+          let s = halt_stepped h rs r n old run.0.new k (subst (λ s. StepsTo rules h s r run.0.number old run.0.new) is run.0.step) in
+          one_more rs old run.0.new end _ s (rest _ s.kept)
       go (Crashed n) is rest =
-          let s = crash_stepped h rs r n old run.0.new is k (subst (λ s. StepsTo rules h s r run.0.number old run.0.new) is run.0.step) in
-          one_more h rs r history old run.0.new end _ s (rest _ s.kept)
-
-  -- ---- numbers
-
-  -- where the cluster's history has the group's record with this number
-  abbrev pub place_in : (h : ℕ) (rs : List Recorded) (gs : List GroupRecorded) → Aligned h rs gs → ℕ → ℕ
-  place_in h [] gs a i = 0
-  place_in h (r ∷ rs) gs (inl a) i = suc (place_in h rs gs a i)
-  place_in h (r ∷ rs) gs (inr a) zero = 0
-  place_in h (r ∷ rs) gs (inr a) (suc i) = suc (place_in h rs a.1 a.4 i)
-
-  pub record Found (h : ℕ) (rs : List Recorded) (number : ℕ) (x : GroupRecorded) : Type 0 where
-    pub recorded : Recorded
-    pub stands : slice_get rs number ≡ Some recorded
-    pub of : RecordOf h (seen_by h recorded) recorded x
-
-  later : (h : ℕ) (r : Recorded) (rs : List Recorded) (number : ℕ) (x : GroupRecorded) → Found h rs number x → Found h (r ∷ rs) (suc number) x
-  later h r rs number x f = record { recorded = f.recorded; stands = f.stands; of = f.of }
-
-  pub found : (h : ℕ) (rs : List Recorded) (gs : List GroupRecorded) (a : Aligned h rs gs) (i : ℕ) (x : GroupRecorded) → slice_get gs i ≡ Some x → Found h rs (place_in h rs gs a i) x
-  found h [] gs a i x e = absurd (let f : None ≡ Some x = ap (λ l. slice_get l i) (sym a) ∙ e in cc)
-  found h (r ∷ rs) gs (inl a) i x e = later h r rs (place_in h rs gs a i) x (found h rs gs a i x e)
-  found h (r ∷ rs) gs (inr a) zero x e =
-      let same : a.0 ≡ x = (let f : Some a.0 ≡ Some x = ap (λ l. slice_get l 0) (sym a.2) ∙ e in cc) in
-      record { recorded = r; stands = refl; of = subst (RecordOf h (seen_by h r) r) same a.3 }
-  found h (r ∷ rs) gs (inr a) (suc i) x e =
-      later h r rs (place_in h rs a.1 a.4 i) x (found h rs a.1 a.4 i x (ap (λ l. slice_get l (suc i)) (sym a.2) ∙ e))
-
-  -- two of its records stand at two places
-  pub place_once : (h : ℕ) (rs : List Recorded) (gs : List GroupRecorded) (a : Aligned h rs gs) (i j : ℕ) → i < length gs → j < length gs → place_in h rs gs a i ≡ place_in h rs gs a j → i ≡ j
-  place_once h [] gs a i j li lj e = absurd (let n = ap length a in omega arith)
-  place_once h (r ∷ rs) gs (inl a) i j li lj e = place_once h rs gs a i j li lj (omega arith)
-  place_once h (r ∷ rs) gs (inr a) zero zero li lj e = refl
-  place_once h (r ∷ rs) gs (inr a) zero (suc j) li lj e = absurd (omega arith)
-  place_once h (r ∷ rs) gs (inr a) (suc i) zero li lj e = absurd (omega arith)
-  place_once h (r ∷ rs) gs (inr a) (suc i) (suc j) li lj e =
-      let n = ap length a.2 in
-      let same : i ≡ j = place_once h rs a.1 a.4 i j (omega arith) (omega arith) (omega arith) in
-      ap suc same
+          let s = crash_stepped h rs r n old run.0.new k (subst (λ s. StepsTo rules h s r run.0.number old run.0.new) is run.0.step) in
+          one_more rs old run.0.new end _ s (rest _ s.kept)

@@ -1,34 +1,24 @@
 -- A history that replays keeps the headline.
-use Rattle.std.specs.Prelude.{◌≡◌, ℕ, ◌+◌, ◌<◌, Bool, true, false, List, [], length, take, slice_get, Some, None, Contains, refl}
+use Rattle.std.specs.Prelude.{◌≡◌, ℕ, ◌+◌, Bool, true, false, List, [], length, take, Some, None, refl}
 use Rattle.std.proofs.Common.{sym, ap, ◌∙◌, subst, arith}
 use Rattle.std.proofs.lemmas.List.{take_all}
-use Rattle.std.proofs.lemmas.Option.{slice_get_within}
-use Rattle.raft_state.specs.declared.entry.EntryPayload.TheVariants.{Blank}
-use Rattle.raft_group_step.specs.Values.{Entry, has_id}
+use Rattle.raft_group_step.specs.Values.{has_id}
 use Rattle.raft_group_step.specs.StoredGroup.{Snapshot, StoredGroup, prefix_of}
 use Rattle.raft_group_step.specs.GroupState.{GroupState, no_group, state_of}
-use Rattle.raft_group_step.specs.GroupEvent.{GroupCall}
 use Rattle.raft_laws.specs.BallotLists.{AgreeBelow}
-use Rattle.raft_laws.specs.GroupWorld.{GroupWorld, Absent, Up, new_world, state_or}
+use Rattle.raft_laws.specs.GroupWorld.{Absent, Up, state_or}
 use Rattle.raft_laws.specs.GroupWorld.{Recorded as GroupRecorded}
-use Rattle.raft_laws.specs.GroupRun.{IsReplayed, group_run}
 use Rattle.raft_laws.specs.OneList.{AreNodeIds, IsGroupHistory, applied_list}
-use Rattle.raft_laws.specs.Origins.{Events, IsAskedAt, IsRecordedAt}
 use Rattle.raft_laws.specs.Settled.{group_list}
 use Rattle.raft_laws.specs.VotesRise.{stored_of}
 use Rattle.raft_laws.proofs.Committed.{same_front, snapshot_front}
-use Rattle.raft_laws.proofs.WorldOrigins.{entries_were_asked_for, one_place_for_an_event}
-use Rattle.raft_laws.proofs.Counts.{at_contains}
-use Rattle.raft_laws.proofs.Runs.{replays-run}
-use Rattle.raft_laws.proofs.WorldRecorded.{asked_is_recorded}
 use Rattle.raft_node.specs.Machine.{MachineRules}
 use Rattle.raft_headline.specs.ClusterEvent.{Recorded}
 use Rattle.raft_headline.specs.Machines.{Replicas, list_fold, new_replicas}
 use Rattle.raft_headline.specs.Replaying.{ReplaysFor}
-use Rattle.raft_headline.specs.Headline.{AppliedAreFronts, HaveOrigins, IsOriginOf, ListGrows, SnapshotsAreFronts}
-use Rattle.raft_headline.proofs.AsGroup.{Led, led, place_in, place_once}
+use Rattle.raft_headline.specs.Headline.{AppliedAreFronts, ListGrows, SnapshotsAreFronts}
+use Rattle.raft_headline.proofs.AsGroup.{Led, led}
 use Rattle.raft_headline.proofs.NodeFacts.{applied_front, applied_within, list_front, snapshot_size}
-use Rattle.raft_headline.proofs.Origins.{asked_for, origin_there}
 use Rattle.raft_headline.proofs.WorldMachines.{Kept}
 
 -- ---- the beginning
@@ -54,7 +44,7 @@ kept_start rules ids fit = record {
 }
 
 module _ (rules : MachineRules) (ids : List ℕ) (fit : AreNodeIds ids) (h : ℕ) (history : List Recorded) (end : Replicas) (run : ReplaysFor rules h (new_replicas rules ids) history end) where
-  pub leads_there : Led rules ids h [] history (new_replicas rules ids) end
+  pub leads_there : Led rules ids [] (new_replicas rules ids) end
   leads_there = led rules ids h [] history run.0 (new_replicas rules ids) end (kept_start rules ids fit) run.1
 
   abbrev gs : List GroupRecorded
@@ -90,52 +80,6 @@ module _ (rules : MachineRules) (ids : List ℕ) (fit : AreNodeIds ids) (h : ℕ
         has = kept.bytes n st x is f;
         restores = λ bytes has. kept.built x bytes has ∙ ap (list_fold rules) whole;
       }
-
-  -- ---- origins
-
-  runs : IsReplayed (new_world ids) gs end.world
-  runs = replays-run gs (new_world ids) end.world group_history.replays
-
-  abbrev es : Events
-  es = runs.events
-
-  abbrev Asked : Entry → Type 0
-  Asked e = (number : ℕ) × (call : GroupCall) × IsAskedAt es (new_world ids) number call e
-
-  asked : (place : ℕ) (e : Entry) → slice_get (group_list end.world) place ≡ Some e → (e.payload ≡ Blank → ⊥) → Asked e
-  asked place e is some =
-      entries_were_asked_for ids es e
-      (subst (λ (w : GroupWorld). Contains (group_list w) e) (sym runs.same_end) (at_contains (group_list end.world) e place is)) some
-
-  recorded : (number : ℕ) (call : GroupCall) (e : Entry) → IsAskedAt es (new_world ids) number call e → IsRecordedAt gs number call
-  recorded number call e a =
-      subst (λ l. IsRecordedAt l number call) runs.same_history (asked_is_recorded es (new_world ids) number call e a)
-
-  inside : (number : ℕ) (call : GroupCall) → IsRecordedAt gs number call → number < length gs
-  inside number call r = slice_get_within gs number _ r.recorded
-
-  abbrev number_of : (place : ℕ) (e : Entry) → slice_get (group_list end.world) place ≡ Some e → (e.payload ≡ Blank → ⊥) → ℕ
-  number_of place e is some = place_in rules ids h history gs leads_there.aligned (asked place e is some).0
-
-  origin_of : (place : ℕ) (e : Entry) (is : slice_get (group_list end.world) place ≡ Some e) (some : e.payload ≡ Blank → ⊥) → IsOriginOf h history (number_of place e is some) e
-  origin_of place e is some =
-      let a = asked place e is some in
-      origin_there rules ids h history gs leads_there.aligned a.0 a.1 e (recorded a.0 a.1 e a.2) (asked_for a.2.state.stored a.1 e a.2.writes)
-
-  one_origin : (i j : ℕ) (x y : Entry) (at_i : slice_get (group_list end.world) i ≡ Some x) (at_j : slice_get (group_list end.world) j ≡ Some y) (some_x : x.payload ≡ Blank → ⊥) (some_y : y.payload ≡ Blank → ⊥) → number_of i x at_i some_x ≡ number_of j y at_j some_y → i ≡ j
-  one_origin i j x y at_i at_j some_x some_y same =
-      let a = asked i x at_i some_x in
-      let b = asked j y at_j some_y in
-      let number : b.0 ≡ a.0 =
-      sym (place_once rules ids h history gs leads_there.aligned a.0 b.0 (inside a.0 a.1 (recorded a.0 a.1 x a.2)) (inside b.0 b.1 (recorded b.0 b.1 y b.2)) same)
-      in
-      let there : (k : ℕ) (z : Entry) → slice_get (group_list end.world) k ≡ Some z → slice_get (group_list (group_run es (new_world ids))) k ≡ Some z =
-      λ k z e. ap (λ (w : GroupWorld). slice_get (group_list w) k) runs.same_end ∙ e
-      in
-      one_place_for_an_event ids fit es i j x y (there i x at_i) (there j y at_j) a.0 a.1 b.1 a.2 (subst (λ k. IsAskedAt es (new_world ids) k b.1 y) number b.2)
-
-  pub have_origins : HaveOrigins h history (group_list end.world)
-  have_origins = record { number = number_of; origin = origin_of; once = one_origin }
 
 -- ---- the list grows
 

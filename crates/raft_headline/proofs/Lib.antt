@@ -1,3 +1,4 @@
+pub mod Same
 pub mod Filtering
 pub mod StepApplies
 pub mod StepRuns
@@ -5,9 +6,21 @@ pub mod Folding
 pub mod NodeFacts
 pub mod WorldMachines
 pub mod AsGroup
+pub mod OwnRuns
 pub mod Splitting
+pub mod TakenCalls
 pub mod Origins
+pub mod ListOrigins
 pub mod Headlines
 pub mod Tells
+pub mod Happening
+pub mod Leading
+pub mod Taking
+pub mod Ending
+pub mod Serving
+pub mod Answering
 pub mod Stopping
 pub mod TheHeadline
+pub mod RowRuns
+pub mod RowOrigins
+pub mod RowLeaders

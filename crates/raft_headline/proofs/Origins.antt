@@ -1,22 +1,36 @@
 -- Where a cluster's history has what a group was asked for.
-use Rattle.std.specs.Prelude.{◌≡◌, ◌==◌, ℕ, Bool, true, false, if◌then◌else◌, List, Option, Some, None, refl}
-use Rattle.std.proofs.Common.{sym, ap, ◌∙◌, subst, eqb-true}
+use Rattle.std.specs.Prelude.{◌≡◌, ◌==◌, ℕ, ◌<◌, Bool, true, false, if◌then◌else◌, List, [], ◌∷◌, Option, Some, None, refl}
+use Rattle.std.proofs.Common.{sym, ap, ◌∙◌, subst, arith, eqb-true}
+use Rattle.raft_values.specs.declared.log_id.LogId.{LogId}
 use Rattle.raft_group_step.specs.Values.{ChangeMembers, Entry, LoggedMembership}
 use Rattle.raft_group_step.specs.StoredGroup.{StoredGroup, membership_in_force}
+use Rattle.raft_group_step.specs.GroupState.{GroupState}
 use Rattle.raft_group_step.specs.declared.group_call.GroupCall.TheVariants.{Initialize, Elect, Propose, ChangeMembership, Heartbeat, Lost, TriggerSnapshot, TriggerPurge}
-use Rattle.raft_group_step.specs.GroupEvent.{GroupCall}
+use Rattle.raft_group_step.specs.GroupEvent.{Call, GroupCall, GroupEvent}
+use Rattle.raft_group_step.specs.Refusal.{refusal_of}
+use Rattle.raft_group_step.specs.GroupStep.{group_step}
 use Rattle.raft_laws.specs.declared.world_event.WorldEvent.{WorldEvent}
 use Rattle.raft_laws.specs.declared.world_event.WorldEvent.TheVariants as event
-use Rattle.raft_laws.specs.GroupWorld.{Outcome, Skipped}
-use Rattle.raft_laws.specs.GroupWorld.{Done as Ended, Refused as Declined, Stopped as Broken, Recorded as GroupRecorded}
-use Rattle.raft_laws.specs.Origins.{IsRecordedAt, changed_entry, entry_of_call}
+use Rattle.raft_laws.specs.GroupWorld.{GroupWorld, Outcome, Skipped, Up, new_world}
+use Rattle.raft_laws.specs.GroupWorld.{Done as Ended, Refused as Declined, Stopped as Broken}
+use Rattle.raft_laws.specs.NodeEvent.{Comes, outcome_at, outcome_of_end, outcome_of_stop}
+use Rattle.raft_laws.specs.GroupRun.{At, is_same_setup, outcome_in, outcome_of, scene_of, scene_of_call, setup_in_call, stop_at}
+use Rattle.raft_laws.specs.OneList.{AreNodeIds}
+use Rattle.raft_laws.specs.Origins.{Events, IsAskedAt, changed_entry, entry_of_call, world_before}
 use Rattle.raft_laws.specs.Origins.{is_taken as is_taken_there}
+use Rattle.raft_laws.proofs.StepMoments.{refusals_told}
+use Rattle.raft_history_laws.specs.NotedIds.{IsNotedAt, IsOrigin, is_noted, next_id}
+use Rattle.raft_history_laws.proofs.LastNoted.{origin_is_last}
 use Rattle.raft_node.specs.Machine.{MachineRules}
 use Rattle.raft_headline.specs.ClusterEvent.{ClusterEvent, AddGroup, Ask, Deliver, ResetPeer, Clean, Crash, Reopen, Halt, ClusterOutcome, Done, Opened, Refused, Stopped, Fused, PassedOver, TurnedAway, Recorded, is_stopped, is_turned_away}
 use Rattle.raft_headline.specs.Seen.{Seen, Passed, Own, Halted, Crashed, own_or_aside, seen_by, seen_of, seen_unless}
-use Rattle.raft_headline.specs.Replaying.{Says, is_opening}
-use Rattle.raft_headline.specs.Headline.{IsAskedFor, IsOriginOf, is_taken}
-use Rattle.raft_headline.proofs.AsGroup.{Aligned, Found, RecordOf, found, place_in}
+use Rattle.raft_headline.specs.Machines.{Replicas, new_replicas}
+use Rattle.raft_headline.specs.OwnEvents.{own_event, own_events, own_number}
+use Rattle.raft_headline.specs.Replaying.{OwnStep, ReplaysWith, Says, StepsTo}
+use Rattle.raft_headline.specs.Told.{IsAskedFor, IsLastNoted, IsNotedBy, IsOriginOf, is_taken}
+use Rattle.raft_headline.proofs.OwnRuns.{SeenAt, own_is_seen, own_number_rises}
+use Rattle.raft_headline.proofs.TakenCalls.{CameTo, noted_setup, same_setup, taken_came}
+use Rattle.raft_headline.proofs.Same.{first_is, same_up}
 
 -- ---- what an entry was asked for
 
@@ -115,33 +129,144 @@ module _ (h n : ℕ) (call : GroupCall) (now : ℕ) where
     pub event : r.event ≡ Ask n h call now
     pub taken : is_taken r.outcome ≡ true
 
-  module _ (rules : MachineRules) (ids : List ℕ) where
-    pub asked_there : (r : Recorded) (x : GroupRecorded) (seen : Seen) → seen_by h r ≡ seen → RecordOf rules ids h seen r x → x.event ≡ wanted → is_taken_there x.outcome ≡ true → AskedThere r
-    asked_there r x Passed is of e t = absurd of
-    asked_there r x (Own own) is of e t =
-        let same : own ≡ wanted = sym of.0 ∙ e in
-        record {
-          event = own_ask r.event r.node r.outcome (is_turned_away r.outcome) (is ∙ ap Own same);
-          taken = ends_taken r.outcome of.1 x.outcome (subst (λ k. Says h (is_opening k) of.1 r.outcome x.outcome) same of.2) t;
-        }
-    asked_there r x (Halted m) is of e t = absurd (let f : event.Halt m ≡ wanted = sym of ∙ e in cc)
-    asked_there r x (Crashed m) is of e t = absurd (let f : event.Crash m ≡ wanted = sym of ∙ e in cc)
+-- what came to its node, and wasn't refused, is taken
+taken_outcome : (n : ℕ) (s : GroupState) (e : GroupEvent) (stopped : Bool) → refusal_of n s e ≡ None → is_taken_there (outcome_at n (Comes e) stopped (Up s)) ≡ true
+taken_outcome n s e true goes = ap (λ o. is_taken_there (outcome_of_stop s e (group_step n s e) o)) (refusals_told n s e ∙ goes)
+taken_outcome n s e false goes = ap (λ o. is_taken_there (outcome_of_end (group_step n s e) o)) (refusals_told n s e ∙ goes)
 
--- a call that stands in the group's history stands in the cluster's, at its place
-module _ (rules : MachineRules) (ids : List ℕ) (h : ℕ) (history : List Recorded) (gs : List GroupRecorded) (aligned : Aligned rules ids h history gs) where
-  abbrev pub origin_there : (number : ℕ) (call : GroupCall) (e : Entry) → IsRecordedAt gs number call → IsAskedFor call e.payload → IsOriginOf h history (place_in rules ids h history gs aligned number) e
-  origin_there number call e r holds =
-      let f : Found rules ids h history (place_in rules ids h history gs aligned number) (record { event = event.Ask r.node call r.now; outcome = r.outcome }) =
-      found rules ids h history gs aligned number _ r.recorded
+-- ---- what the group's run asked for
+
+module _ (rules : MachineRules) (ids : List ℕ) (h : ℕ) (history : List Recorded) (end : Replicas) (numbers : List ℕ) (run : ReplaysWith rules h (new_replicas rules ids) history numbers end) where
+  abbrev es : Events
+  es = own_events h history numbers
+
+  abbrev first : GroupWorld
+  first = new_world ids
+
+  -- the group's event with this number stands at a place of the cluster's history
+  module _ (place number : ℕ) (s : SeenAt rules h history es first place number) where
+    abbrev r : Recorded
+    r = s.recorded
+
+    -- so does what it asked for
+    module _ (n : ℕ) (call : GroupCall) (now : ℕ) (c : CameTo ids h history numbers number n call now) where
+      abbrev asked_for_it : WorldEvent
+      asked_for_it = event.Ask n call now
+
+      same_event : s.event ≡ (asked_for_it, c.stop)
+      same_event = let f : Some s.event ≡ Some (asked_for_it, c.stop) = sym s.there ∙ c.event in some_same s.event (asked_for_it, c.stop) f
+        where
+          some_same : (a b : WorldEvent × Option ℕ) → Some a ≡ Some b → a ≡ b
+          some_same a b f = cc
+
+      event_is : (e : WorldEvent) (stop : Option ℕ) → (e, stop) ∷ [] ≡ s.event ∷ [] → e ≡ asked_for_it
+      event_is e stop f = ap (λ (p : WorldEvent × Option ℕ). p.0) (sym (first_is (e, stop) s.event f) ∙ same_event)
+
+      here : scene_of s.old.world asked_for_it ≡ At n (Comes (Call call now))
+      here =
+          ap (λ b. scene_of_call b n call now)
+          (ap (λ (w : GroupWorld). is_same_setup w.setup (setup_in_call call)) (sym s.before) ∙ c.set_up)
+
+      is_taken_so : (stopped : Bool) → is_taken_there (outcome_of s.old.world asked_for_it stopped) ≡ true
+      is_taken_so stopped =
+          ap (λ scene. is_taken_there (outcome_in s.old.world stopped scene)) here
+          ∙ ap (λ x. is_taken_there (outcome_at n (Comes (Call call now)) stopped x)) (ap (λ (w : GroupWorld). w.nodes n) (sym s.before) ∙ c.is_up)
+          ∙ taken_outcome n c.state (Call call now) stopped c.passed
+
+      asked_as : (seen : Seen) → seen_by h r ≡ seen → StepsTo rules h seen r s.k s.old s.new → own_event seen r.outcome s.k ≡ s.event ∷ [] → AskedThere h n call now r
+      asked_as Passed is step e = absurd (let f : [] ≡ s.event ∷ [] = e in cc)
+      asked_as (Own v) is step e =
+          let same : v ≡ asked_for_it = event_is v (stop_at (is_stopped r.outcome) s.k) e in
+          let own : OwnStep rules h asked_for_it r s.k s.old s.new = subst (λ x. OwnStep rules h x r s.k s.old s.new) same step in
+          record {
+            event = own_ask h n call now r.event r.node r.outcome (is_turned_away r.outcome) (is ∙ ap Own same);
+            taken = ends_taken h n call now r.outcome own.answers (outcome_of s.old.world asked_for_it (is_stopped r.outcome)) own.says (is_taken_so (is_stopped r.outcome));
+          }
+      asked_as (Halted m) is step e = absurd (let f : event.Halt m ≡ asked_for_it = event_is (event.Halt m) (Some 0) e in cc)
+      asked_as (Crashed m) is step e = absurd (let f : event.Crash m ≡ asked_for_it = event_is (event.Crash m) None e in cc)
+
+      pub asked_there : AskedThere h n call now r
+      asked_there = asked_as (seen_by h r) refl s.step s.is_event
+
+    -- and what it noted
+    noted_by : (id : LogId ℕ) → IsNotedAt es first number id → IsNotedBy ids h history numbers place id
+    noted_by id x =
+        let a : AskedThere h x.node x.call x.now r =
+        asked_there x.node x.call x.now
+        (record {
+          stop = x.stop;
+          state = x.state;
+          event = x.event;
+          is_up = x.is_up;
+          set_up = same_setup (world_before es number first) x.call (noted_setup x.call x.noted);
+          passed = x.taken;
+        })
+        in
+        record {
+          call = x.call;
+          node = x.node;
+          now = x.now;
+          recorded = r;
+          stands = s.stands;
+          event = a.event;
+          noted = x.noted;
+          taken = a.taken;
+          state = x.state;
+          is_up = ap (λ k. (world_before es k first).nodes x.node) s.is_number ∙ x.is_up;
+          next = x.next;
+        }
+
+    is_seen : seen_by h r ≡ Passed → ⊥
+    is_seen passed = let f : [] ≡ s.event ∷ [] = sym (ap (λ seen. own_event seen r.outcome s.k) passed) ∙ s.is_event in cc
+
+  -- what an event of the cluster noted, its event in the group's run noted
+  noted_at : (place : ℕ) (id : LogId ℕ) → IsNotedBy ids h history numbers place id → IsNotedAt es first (own_number h history place) id
+  noted_at place id x =
+      let c : CameTo ids h history numbers (own_number h history place) x.node x.call x.now =
+      taken_came rules ids h history end numbers run place x.recorded x.stands x.node x.call x.now x.event (noted_setup x.call x.noted) x.taken
       in
-      let a = asked_there h r.node call r.now rules ids f.recorded _ (seen_by h f.recorded) refl f.of refl r.taken in
+      record {
+        node = x.node;
+        call = x.call;
+        now = x.now;
+        stop = c.stop;
+        state = c.state;
+        event = c.event;
+        is_up = c.is_up;
+        noted = x.noted;
+        taken = c.passed;
+        next = ap (λ (y : GroupState). next_id y.stored) (same_up c.state x.state (sym c.is_up ∙ x.is_up)) ∙ x.next;
+      }
+
+  pub last_noted : AreNodeIds ids → (number : ℕ) (call : GroupCall) (e : Entry) → IsAskedAt es first number call e → (place : ℕ) → SeenAt rules h history es first place number → is_noted call ≡ true → IsLastNoted ids h history numbers place e.log_id
+  last_noted fit number call e a place s noted =
+      let o : IsOrigin es first number e.log_id = origin_is_last ids fit es number call e a noted in
+      record {
+        noted = noted_by place number s e.log_id o.noted;
+        last = λ later behind x.
+            let rises : own_number h history place < own_number h history later = own_number_rises h history place later s.recorded s.stands (is_seen place number s) behind in
+            let is = s.is_number in
+            o.last (own_number h history later) (omega (arith, rises, is)) (noted_at later e.log_id x);
+      }
+
+  -- the event that asked for an entry in the group's run is its origin in the cluster's history
+  abbrev pub origin_at : AreNodeIds ids → (number : ℕ) (call : GroupCall) (e : Entry) → IsAskedAt es first number call e → (place : ℕ) → SeenAt rules h history es first place number → IsOriginOf ids h history numbers place e
+  origin_at fit number call e a place s =
+      let there : AskedThere h a.node call a.now s.recorded =
+      asked_there place number s a.node call a.now
+      (record { stop = a.stop; state = a.state; event = a.event; is_up = a.is_up; set_up = a.set_up; passed = a.taken })
+      in
       record {
         asked = call;
-        node = r.node;
-        now = r.now;
-        recorded = f.recorded;
-        stands = f.stands;
-        event = a.event;
-        taken = a.taken;
-        holds = holds;
+        node = a.node;
+        now = a.now;
+        recorded = s.recorded;
+        stands = s.stands;
+        event = there.event;
+        taken = there.taken;
+        holds = asked_for a.state.stored call e a.writes;
+        last = last_noted fit number call e a place s;
       }
+
+  pub seen_asked : (number : ℕ) (call : GroupCall) (e : Entry) → IsAskedAt es first number call e → (place : ℕ) × SeenAt rules h history es first place number
+  seen_asked number call e a = own_is_seen rules h history numbers (new_replicas rules ids) end run number (event.Ask a.node call a.now, a.stop) a.event

@@ -1,11 +1,14 @@
 -- Histories cut at an event, and lists at a place.
 use Rattle.std.specs.Prelude.{◌≡◌, ℕ, zero, suc, List, [], ◌∷◌, ◌++◌, slice_get, Some, None, refl}
-use Rattle.std.proofs.Common.{ap}
+use Rattle.std.proofs.Common.{sym, ap, ◌∙◌, append_assoc}
+use Rattle.raft_laws.specs.Origins.{Events}
 use Rattle.raft_node.specs.Machine.{MachineRules}
 use Rattle.raft_headline.specs.ClusterEvent.{Recorded}
 use Rattle.raft_headline.specs.Seen.{seen_by}
 use Rattle.raft_headline.specs.Machines.{Replicas}
+use Rattle.raft_headline.specs.OwnEvents.{own_event, own_events}
 use Rattle.raft_headline.specs.Replaying.{IsStep, ReplaysFor, ReplaysWith, takes_number, with_number}
+use Rattle.raft_headline.proofs.OwnRuns.{own_first}
 
 -- ---- lists
 
@@ -33,25 +36,31 @@ in_front (y ∷ xs) ys (suc n) x e = in_front xs ys n x e
 -- ---- histories
 
 module _ (rules : MachineRules) (h : ℕ) where
-  -- the group between two parts of a history
-  pub record Between (old : Replicas) (xs ys : List Recorded) (end : Replicas) : Type 0 where
+  -- the group between two parts of a history, and the group's own events in each
+  pub record Between (old : Replicas) (xs ys : List Recorded) (numbers : List ℕ) (end : Replicas) : Type 0 where
     pub middle : Replicas
     pub before : ReplaysFor rules h old xs middle
     pub after : ReplaysFor rules h middle ys end
+    pub events : own_events h (xs ++ ys) numbers ≡ own_events h xs before.0 ++ own_events h ys after.0
 
-  one_before : (r : Recorded) (xs ys : List Recorded) (numbers : List ℕ) (old end : Replicas) (one : IsStep rules h r numbers old) → Between one.new xs ys end → Between old (r ∷ xs) ys end
+  one_before : (r : Recorded) (xs ys : List Recorded) (numbers : List ℕ) (old end : Replicas) (one : IsStep rules h r numbers old) → Between one.new xs ys one.others end → Between old (r ∷ xs) ys numbers end
   one_before r xs ys numbers old end one b =
       let ks = (b.before).0 in
+      let here : Events = own_event (seen_by h r) r.outcome one.number in
+      let all : List ℕ = with_number (takes_number (seen_by h r) r.outcome) one.number ks in
+      let again : IsStep rules h r all old = record { number = one.number; others = ks; numbered = refl; new = one.new; step = one.step } in
       record {
         middle = b.middle;
-        before = (
-          with_number (takes_number (seen_by h r) r.outcome) one.number ks,
-          (record { number = one.number; others = ks; numbered = refl; new = one.new; step = one.step }, (b.before).1),
-        );
+        before = (all, (again, (b.before).1));
         after = b.after;
+        events =
+            own_first rules h r (xs ++ ys) numbers old one
+            ∙ ap (λ es. here ++ es) b.events
+            ∙ sym (append_assoc here (own_events h xs ks) (own_events h ys (b.after).0))
+            ∙ ap (λ es. es ++ own_events h ys (b.after).0) (sym (own_first rules h r xs all old again));
       }
 
-  pub split : (xs ys : List Recorded) (numbers : List ℕ) (old end : Replicas) → ReplaysWith rules h old (xs ++ ys) numbers end → Between old xs ys end
-  split [] ys numbers old end run = record { middle = old; before = ([], (refl, refl)); after = (numbers, run) }
+  pub split : (xs ys : List Recorded) (numbers : List ℕ) (old end : Replicas) → ReplaysWith rules h old (xs ++ ys) numbers end → Between old xs ys numbers end
+  split [] ys numbers old end run = record { middle = old; before = ([], (refl, refl)); after = (numbers, run); events = refl }
   split (r ∷ xs) ys numbers old end run =
       one_before r xs ys numbers old end run.0 (split xs ys run.0.others run.0.new end run.1)

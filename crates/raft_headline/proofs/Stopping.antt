@@ -20,7 +20,7 @@ use Rattle.raft_headline.specs.ClusterEvent.{ClusterEvent, AddGroup, Ask, Delive
 use Rattle.raft_headline.specs.Seen.{Seen, Passed, Halted, aside, own_or_aside, seen_by, seen_of, seen_unless}
 use Rattle.raft_headline.specs.Machines.{Replicas}
 use Rattle.raft_headline.specs.Replaying.{CrashStep, HaltStep, IsThere, SaysCrash, OwnStep, ReplaysFor, ReplaysWith, Says, SaysEnd, StepsTo, is_opening}
-use Rattle.raft_headline.specs.Headline.{StopsStay, is_of_group, is_opened, is_passed, node_at, node_in, opens, opens_by}
+use Rattle.raft_headline.specs.Stops.{StopsStay, is_of_group, is_opened, is_passed, node_at, node_in, opens, opens_by}
 use Rattle.raft_headline.proofs.Splitting.{split}
 
 -- ---- a node that is down

@@ -1,54 +1,57 @@
 -- What an event tells stands on the list, with the fold's answer.
-use Rattle.std.specs.Prelude.{◌≡◌, ◌==◌, ◌<◌, ℕ, zero, suc, Bool, true, false, List, [], ◌∷◌, ◌++◌, length, slice_get, Option, Some, None, is_some, Contains, refl}
-use Rattle.std.proofs.Common.{inl, inr, sym, ap, ◌∙◌, subst, arith, append_assoc}
+use Rattle.std.specs.Prelude.{◌≡◌, ◌==◌, ◌<◌, ℕ, zero, suc, Bool, true, false, List, [], ◌∷◌, ◌++◌, length, slice_get, Option, Some, None, Contains, refl}
+use Rattle.std.proofs.Common.{sym, ap, ◌∙◌, subst, arith, append_assoc}
+use Rattle.std.proofs.lemmas.List.{take-append-le}
 use Rattle.std.proofs.lemmas.Option.{slice_get_within}
 use Rattle.raft_group_step.specs.Message.{Message}
+use Rattle.raft_group_step.specs.Values.{Entry}
 use Rattle.raft_group_step.specs.GroupState.{Untold}
+use Rattle.raft_group_step.specs.GroupEvent.{GroupCall}
 use Rattle.raft_laws.specs.BallotLists.{AgreeBelow}
 use Rattle.raft_laws.specs.declared.world_event.WorldEvent.{WorldEvent}
 use Rattle.raft_laws.specs.declared.world_event.WorldEvent.TheVariants as event
 use Rattle.raft_laws.specs.GroupWorld.{GroupWorld, Outcome, Skipped, is_stop, new_world}
 use Rattle.raft_laws.specs.GroupWorld.{Done as Ended, Refused as Declined, Stopped as Broken, Recorded as GroupRecorded}
-use Rattle.raft_laws.specs.GroupRun.{IsReplayed, after_scene, group_run, happens, history_of, outcome_of, ran, scene_of, stop_at}
+use Rattle.raft_laws.specs.GroupRun.{group_run, happens, is_same_setup, outcome_of, setup_in_call, stop_at}
 use Rattle.raft_laws.specs.OneList.{AreNodeIds}
-use Rattle.raft_laws.specs.Origins.{Events, IsRecordedAt, IsTold}
+use Rattle.raft_laws.specs.Origins.{Events, IsAskedAt, IsTold, world_before}
 use Rattle.raft_laws.specs.Settled.{group_list}
 use Rattle.raft_laws.proofs.Counts.{at_contains, contains_at}
-use Rattle.raft_laws.proofs.Runs.{replays-run}
 use Rattle.raft_laws.proofs.WorldOrigins.{run_more}
-use Rattle.raft_laws.proofs.WorldRecorded.{asked_is_recorded}
 use Rattle.raft_laws.proofs.WorldTold.{told_tokens_stand}
 use Rattle.raft_node.specs.Machine.{MachineRules}
 use Rattle.raft_headline.specs.ClusterEvent.{ClusterEvent, AddGroup, Ask, Deliver, ResetPeer, Clean, Crash, Reopen, Halt, ClusterOutcome, Done, Opened, Refused, Stopped, Fused, PassedOver, TurnedAway, Recorded, Said, Told, is_stopped, is_turned_away, said_of}
 use Rattle.raft_headline.specs.Seen.{Own, own_or_aside, seen_by, seen_of, seen_unless}
 use Rattle.raft_headline.specs.Machines.{Replicas, list_answer, new_replicas}
-use Rattle.raft_headline.specs.Replaying.{AreToldAs, IsToldAs, OwnStep, ReplaysFor, ReplaysWith, Says, StepsTo, is_opening}
-use Rattle.raft_headline.specs.Headline.{IsOriginOf, IsToldRightly, ToldStand, said_at_opening, said_by, said_if}
-use Rattle.raft_headline.proofs.AsGroup.{Aligned, Led, RecordOf, Stepped, led, own_answers, own_stepped, place_in}
+use Rattle.raft_headline.specs.OwnEvents.{own_event, own_events}
+use Rattle.raft_headline.specs.Replaying.{AreToldAs, IsToldAs, OwnStep, ReplaysWith, Says, StepsTo, is_opening}
+use Rattle.raft_headline.specs.Told.{IsToldRightly, ToldStand, said_at_opening, said_by, said_if}
+use Rattle.raft_headline.proofs.AsGroup.{Led, Stepped, led, own_answers, own_stepped}
 use Rattle.raft_headline.proofs.Folding.{AnswersFold, answer_front}
 use Rattle.raft_headline.proofs.Headlines.{leads_there}
 use Rattle.raft_headline.proofs.NodeFacts.{list_front}
-use Rattle.raft_headline.proofs.Origins.{asked_for, origin_there}
+use Rattle.raft_headline.proofs.Origins.{origin_at, seen_asked}
+use Rattle.raft_headline.proofs.OwnRuns.{ends_alike, own_first, runs}
 use Rattle.raft_headline.proofs.Splitting.{Between, cut_at, in_front, split}
 
 -- ---- what was said of the group
 
 -- the group's step tells the token, with the machine's answer
-record ToldOf (answers : ℕ → Option (List ℕ)) (what : Outcome) (t : Told) : Type 0 where
-  sent : List Message
-  tells : List Untold
-  lost : List ℕ
-  is : what ≡ Ended sent tells lost
-  token : Untold
-  has : Contains tells token
-  told_as : IsToldAs answers t token
+pub record ToldOf (answers : ℕ → Option (List ℕ)) (what : Outcome) (t : Told) : Type 0 where
+  pub sent : List Message
+  pub tells : List Untold
+  pub lost : List ℕ
+  pub is : what ≡ Ended sent tells lost
+  pub token : Untold
+  pub has : Contains tells token
+  pub told_as : IsToldAs answers t token
 
 -- the told answer is of an event of the group that ran to its end
-record ToldBy (h : ℕ) (r : Recorded) (t : Told) : Type 0 where
-  event : WorldEvent
-  seen : seen_by h r ≡ Own event
-  goes : is_stopped r.outcome ≡ false
-  told : (answers : ℕ → Option (List ℕ)) (what : Outcome) → Says h (is_opening event) answers r.outcome what → ToldOf answers what t
+pub record ToldBy (h : ℕ) (r : Recorded) (t : Told) : Type 0 where
+  pub event : WorldEvent
+  pub seen : seen_by h r ≡ Own event
+  pub goes : is_stopped r.outcome ≡ false
+  pub told : (answers : ℕ → Option (List ℕ)) (what : Outcome) → Says h (is_opening event) answers r.outcome what → ToldOf answers what t
 
 -- which token it is
 record OneOf (answers : ℕ → Option (List ℕ)) (xs : List Untold) (t : Told) : Type 0 where
@@ -126,7 +129,7 @@ module _ (h : ℕ) (t : Told) where
       ∙ ap (λ x. seen_unless (is_turned_away x) (seen_of h e r.node x)) is
       ∙ ap (λ b. seen_unless b (seen_of h e r.node o)) t
 
-  event_told : (r : Recorded) (e : ClusterEvent) (o : ClusterOutcome) → r.event ≡ e → r.outcome ≡ o → Contains (said_by h e o).told t → ToldBy h r t
+  pub event_told : (r : Recorded) (e : ClusterEvent) (o : ClusterOutcome) → r.event ≡ e → r.outcome ≡ o → Contains (said_by h e o).told t → ToldBy h r t
   event_told r (AddGroup n g) o e is has = own_told r (g == h) _ n o is refl (sees_as r (AddGroup n g) o e is) has
   event_told r (Ask n g call now) o e is has = own_told r (g == h) _ n o is refl (sees_as r (Ask n g call now) o e is) has
   event_told r (Deliver g number now) o e is has = own_told r (g == h) _ r.node o is refl (sees_as r (Deliver g number now) o e is) has
@@ -138,23 +141,40 @@ module _ (h : ℕ) (t : Told) where
 
 -- ---- the group's history up to the event
 
-aligned_more : (rules : MachineRules) (ids : List ℕ) (h : ℕ) (front : List Recorded) (gs : List GroupRecorded) (r : Recorded) (x : GroupRecorded) → Aligned rules ids h front gs → RecordOf rules ids h (seen_by h r) r x → Aligned rules ids h (front ++ r ∷ []) (gs ++ x ∷ [])
-aligned_more rules ids h [] gs r x a of = inr (x, [], ap (λ l. l ++ x ∷ []) a, of, refl)
-aligned_more rules ids h (q ∷ front) gs r x (inl a) of = inl (aligned_more rules ids h front gs r x a of)
-aligned_more rules ids h (q ∷ front) gs r x (inr a) of =
-    inr (a.0, a.1 ++ x ∷ [], ap (λ l. l ++ x ∷ []) a.2, a.3, aligned_more rules ids h front a.1 r x a.4 of)
+-- what was asked for in the front of a run was asked for in the whole
+asked_in_front : (xs ys : Events) (w : GroupWorld) (number : ℕ) (call : GroupCall) (e : Entry) → IsAskedAt xs w number call e → IsAskedAt (xs ++ ys) w number call e
+asked_in_front xs ys w number call e a =
+    let inside : number < length xs = slice_get_within xs number _ a.event in
+    let same : world_before (xs ++ ys) number w ≡ world_before xs number w = ap (λ (l : Events). group_run l w) (take-append-le number xs ys (omega arith)) in
+    record {
+      node = a.node;
+      now = a.now;
+      stop = a.stop;
+      state = a.state;
+      event = in_front xs ys number _ a.event;
+      is_up = ap (λ (v : GroupWorld). v.nodes a.node) same ∙ a.is_up;
+      set_up = ap (λ (v : GroupWorld). is_same_setup v.setup (setup_in_call call)) same ∙ a.set_up;
+      taken = a.taken;
+      stored = a.stored;
+      writes = a.writes;
+    }
 
-history_more : (es : Events) (x : WorldEvent × Option ℕ) (w : GroupWorld) → history_of (es ++ x ∷ []) w ≡ history_of es w ++ record { event = x.0; outcome = outcome_of (group_run es w) x.0 (is_some x.1) } ∷ []
-history_more [] x w = refl
-history_more (e ∷ es) x w =
-    ap (λ rs. record { event = e.0; outcome = outcome_of w e.0 (is_some e.1) } ∷ rs) (history_more es x (ran w e.0 e.1))
+module _ (rules : MachineRules) (ids : List ℕ) (fit : AreNodeIds ids) (h : ℕ) (history : List Recorded) (end : Replicas) (numbers : List ℕ) (run : ReplaysWith rules h (new_replicas rules ids) history numbers end) (front back : List Recorded) (r : Recorded) (is : history ≡ front ++ r ∷ back) (b : Between rules h (new_replicas rules ids) front (r ∷ back) numbers end) (e : WorldEvent) (goes : is_stopped r.outcome ≡ false) (seen : seen_by h r ≡ Own e) where
+  abbrev middle : Replicas
+  middle = b.middle
 
--- an event that ran to its end leads on whatever the number
-ends_alike : (w : GroupWorld) (e : WorldEvent) (o : Outcome) (k : ℕ) → is_stop o ≡ false → happens w e o k ≡ happens w e o 0
-ends_alike w e o k goes = ap (λ b. after_scene w e o (stop_at b k) (scene_of w e)) goes ∙ sym (ap (λ b. after_scene w e o (stop_at b 0) (scene_of w e)) goes)
+  abbrev next : Replicas
+  next = (b.after).1.0.new
 
-module _ (rules : MachineRules) (ids : List ℕ) (fit : AreNodeIds ids) (h : ℕ) (history front back : List Recorded) (r : Recorded) (is : history ≡ front ++ r ∷ back) (middle next end : Replicas) (k : ℕ)
-    (before : Led rules ids h [] front (new_replicas rules ids) middle) (e : WorldEvent) (goes : is_stopped r.outcome ≡ false) (seen : seen_by h r ≡ Own e) (step : OwnStep rules h e r k middle next) (after : ReplaysFor rules h next back end) where
+  abbrev k : ℕ
+  k = (b.after).1.0.number
+
+  pub step : OwnStep rules h e r k middle next
+  step = subst (λ s. StepsTo rules h s r k middle next) seen (b.after).1.0.step
+
+  before : Led rules ids [] (new_replicas rules ids) middle
+  before = leads_there rules ids fit h front middle b.before
+
   abbrev gs : List GroupRecorded
   gs = before.more
 
@@ -164,49 +184,57 @@ module _ (rules : MachineRules) (ids : List ℕ) (fit : AreNodeIds ids) (h : ℕ
   abbrev x : GroupRecorded
   x = record { event = e; outcome = what }
 
-  stepped : Stepped rules ids h gs r middle next x
-  stepped = own_stepped rules ids h gs r k e middle next seen before.kept step
+  stepped : Stepped rules ids gs middle next x
+  stepped = own_stepped rules ids h gs r k e middle next before.kept step
 
-  rest : Led rules ids h (gs ++ x ∷ []) back next end
-  rest = led rules ids h (gs ++ x ∷ []) back after.0 next end stepped.kept after.1
+  rest : Led rules ids (gs ++ x ∷ []) next end
+  rest = led rules ids h (gs ++ x ∷ []) back (b.after).1.0.others next end stepped.kept (b.after).1.1
 
   grows : AgreeBelow (length (group_list next.world)) (group_list next.world) (group_list end.world)
   grows = list_front ids (gs ++ x ∷ []) rest.more next.world end.world (stepped.kept).leads rest.run
 
-  runs : IsReplayed (new_world ids) gs middle.world
-  runs = replays-run gs (new_world ids) middle.world ((before.kept).leads).replays
+  -- the group's own events up to this one, and behind it
+  abbrev first : Events
+  first = own_events h front (b.before).0
 
   abbrev last : WorldEvent × Option ℕ
   last = (e, None)
 
-  same_outcome : outcome_of (group_run runs.events (new_world ids)) e false ≡ what
-  same_outcome = ap (λ w. outcome_of w e false) runs.same_end ∙ ap (outcome_of middle.world e) (sym goes)
+  abbrev others : Events
+  others = own_events h back (b.after).1.0.others
 
-  recorded_so : history_of (runs.events ++ last ∷ []) (new_world ids) ≡ gs ++ x ∷ []
-  recorded_so =
-      history_more runs.events last (new_world ids)
-      ∙ ap (λ l. l ++ record { event = e; outcome = outcome_of (group_run runs.events (new_world ids)) e false } ∷ []) runs.same_history
-      ∙ ap (λ (o : Outcome). gs ++ record { event = e; outcome = o } ∷ []) same_outcome
+  same_middle : group_run first (new_world ids) ≡ middle.world
+  same_middle = runs rules h front (b.before).0 (new_replicas rules ids) middle (b.before).1
 
-  leads_there_too : is_stop what ≡ false → group_run (runs.events ++ last ∷ []) (new_world ids) ≡ next.world
+  all_events : own_events h history numbers ≡ (first ++ last ∷ []) ++ others
+  all_events =
+      ap (λ l. own_events h l numbers) is
+      ∙ b.events
+      ∙ ap (λ es. first ++ es) (own_first rules h r back (b.after).0 middle (b.after).1.0)
+      ∙ ap (λ s. first ++ (own_event s r.outcome k ++ others)) seen
+      ∙ ap (λ t. first ++ (((e, stop_at t k) ∷ []) ++ others)) goes
+      ∙ sym (append_assoc first (last ∷ []) others)
+
+  same_outcome : outcome_of (group_run first (new_world ids)) e false ≡ what
+  same_outcome = ap (λ w. outcome_of w e false) same_middle ∙ ap (outcome_of middle.world e) (sym goes)
+
+  leads_there_too : is_stop what ≡ false → group_run (first ++ last ∷ []) (new_world ids) ≡ next.world
   leads_there_too ends =
-      run_more runs.events last (new_world ids)
-      ∙ ap (λ w. happens w e (outcome_of w e false) 0) runs.same_end
-      ∙ ap (λ b. happens middle.world e (outcome_of middle.world e b) 0) (sym goes)
+      run_more first last (new_world ids)
+      ∙ ap (λ w. happens w e (outcome_of w e false) 0) same_middle
+      ∙ ap (λ t. happens middle.world e (outcome_of middle.world e t) 0) (sym goes)
       ∙ sym (ends_alike middle.world e what k ends)
       ∙ sym step.world
 
-  told_there : (t : Told) → ToldOf step.answers what t → IsToldRightly rules h history (group_list end.world) t
+  pub told_there : (t : Told) → ToldOf step.answers what t → IsToldRightly rules ids h history numbers (group_list end.world) t
   told_there t o =
       let ends : is_stop what ≡ false = ap is_stop o.is in
-      let tale : IsTold (runs.events ++ last ∷ []) (new_world ids) o.token = told_tokens_stand ids fit runs.events last o.sent o.tells o.lost (same_outcome ∙ o.is) o.token o.has in
-      let written : IsRecordedAt (gs ++ x ∷ []) tale.number tale.call =
-      subst (λ l. IsRecordedAt l tale.number tale.call) recorded_so (asked_is_recorded (runs.events ++ last ∷ []) (new_world ids) tale.number tale.call tale.entry tale.asked)
+      let tale : IsTold (first ++ last ∷ []) (new_world ids) o.token = told_tokens_stand ids fit first last o.sent o.tells o.lost (same_outcome ∙ o.is) o.token o.has in
+      let asked : IsAskedAt (own_events h history numbers) (new_world ids) tale.number tale.call tale.entry =
+      subst (λ es. IsAskedAt es (new_world ids) tale.number tale.call tale.entry) (sym all_events)
+      (asked_in_front (first ++ last ∷ []) others (new_world ids) tale.number tale.call tale.entry tale.asked)
       in
-      let aligned = aligned_more rules ids h front gs r x before.aligned stepped.of in
-      let origin : IsOriginOf h (front ++ r ∷ []) (place_in rules ids h (front ++ r ∷ []) (gs ++ x ∷ []) aligned tale.number) tale.entry =
-      origin_there rules ids h (front ++ r ∷ []) (gs ++ x ∷ []) aligned tale.number tale.call tale.entry written (asked_for ((tale.asked).state).stored tale.call tale.entry (tale.asked).writes)
-      in
+      let seen_it = seen_asked rules ids h history end numbers run tale.number tale.call tale.entry asked in
       let there : slice_get (group_list next.world) (o.token).place ≡ Some tale.entry = ap (λ (w : GroupWorld). slice_get (group_list w) (o.token).place) (sym (leads_there_too ends)) ∙ tale.on_list in
       let inside : (o.token).place < length (group_list next.world) = slice_get_within (group_list next.world) (o.token).place tale.entry there in
       let answer : AnswersFold rules (group_list next.world) (o.token).place t.answer =
@@ -215,20 +243,9 @@ module _ (rules : MachineRules) (ids : List ℕ) (fit : AreNodeIds ids) (h : ℕ
       let place : t.place ≡ (o.token).place = (o.told_as).place in
       record {
         entry = tale.entry;
-        number = place_in rules ids h (front ++ r ∷ []) (gs ++ x ∷ []) aligned tale.number;
+        number = seen_it.0;
         stands = ap (slice_get (group_list end.world)) place ∙ sym (grows.same (o.token).place inside) ∙ there;
-        origin = record {
-          asked = origin.asked;
-          node = origin.node;
-          now = origin.now;
-          recorded = origin.recorded;
-          stands =
-              ap (λ l. slice_get l (place_in rules ids h (front ++ r ∷ []) (gs ++ x ∷ []) aligned tale.number)) (is ∙ sym (append_assoc front (r ∷ []) back))
-              ∙ in_front (front ++ r ∷ []) back _ origin.recorded origin.stands;
-          event = origin.event;
-          taken = origin.taken;
-          holds = origin.holds;
-        };
+        origin = origin_at rules ids h history end numbers run fit tale.number tale.call tale.entry asked seen_it.0 seen_it.1;
         token = tale.token ∙ ap (λ n. n ∷ []) (sym (o.told_as).token);
         answer =
             answer.same
@@ -236,14 +253,13 @@ module _ (rules : MachineRules) (ids : List ℕ) (fit : AreNodeIds ids) (h : ℕ
             ∙ ap (list_answer rules (group_list end.world)) (sym place);
       }
 
-pub told_stand : (rules : MachineRules) (ids : List ℕ) → AreNodeIds ids → (h : ℕ) (history : List Recorded) (end : Replicas) → ReplaysFor rules h (new_replicas rules ids) history end → ToldStand rules h history (group_list end.world)
-told_stand rules ids fit h history end run number r t there has =
+pub told_stand : (rules : MachineRules) (ids : List ℕ) → AreNodeIds ids → (h : ℕ) (history : List Recorded) (end : Replicas) → ToldStand rules ids h history end
+told_stand rules ids fit h history end numbers run number r t there has =
     let cut = cut_at history number r there in
-    let b : Between rules h (new_replicas rules ids) cut.front (r ∷ cut.back) end =
-    split rules h cut.front (r ∷ cut.back) run.0 (new_replicas rules ids) end (subst (λ l. ReplaysWith rules h (new_replicas rules ids) l run.0 end) cut.is run.1)
+    let b : Between rules h (new_replicas rules ids) cut.front (r ∷ cut.back) numbers end =
+    split rules h cut.front (r ∷ cut.back) numbers (new_replicas rules ids) end (subst (λ l. ReplaysWith rules h (new_replicas rules ids) l numbers end) cut.is run)
     in
-    let one = (b.after).1.0 in
     let by = event_told h t r r.event r.outcome refl refl has in
-    let step : OwnStep rules h by.event r one.number b.middle one.new = subst (λ s. StepsTo rules h s r one.number b.middle one.new) by.seen one.step in
-    told_there rules ids fit h history cut.front cut.back r cut.is b.middle one.new end one.number (leads_there rules ids fit h cut.front b.middle b.before) by.event by.goes by.seen step
-    (one.others, (b.after).1.1) t (by.told step.answers (outcome_of (b.middle).world by.event (is_stopped r.outcome)) step.says)
+    let its : OwnStep rules h by.event r (b.after).1.0.number b.middle (b.after).1.0.new = step rules ids fit h history end numbers run cut.front cut.back r cut.is b by.event by.goes by.seen in
+    told_there rules ids fit h history end numbers run cut.front cut.back r cut.is b by.event by.goes by.seen t
+    (by.told its.answers (outcome_of (b.middle).world by.event (is_stopped r.outcome)) its.says)

@@ -6,7 +6,8 @@ use Rattle.raft_node.specs.Machine.{MachineRules}
 use Rattle.raft_headline.specs.ClusterEvent.{Recorded, Told}
 use Rattle.raft_headline.specs.Machines.{Replicas, list_answer, new_replicas}
 use Rattle.raft_headline.specs.Replaying.{ReplaysFor}
-use Rattle.raft_headline.specs.Headline.{AppliedAreFronts, SnapshotsAreFronts, said_by}
+use Rattle.raft_headline.specs.Told.{said_by}
+use Rattle.raft_headline.specs.Headline.{AppliedAreFronts, SnapshotsAreFronts}
 
 -- the machine of each node that is up is the fold of the list up to what the node has applied
 abbrev pub MachinesAreFolds : Type 0

@@ -2,5 +2,15 @@ pub mod ClusterEvent
 pub mod Seen
 pub mod Machines
 pub mod Replaying
+pub mod Told
+pub mod Stops
+pub mod Happened
+pub mod Leaders
+pub mod Takes
+pub mod OwnEvents
+pub mod Tokens
+pub mod Serves
+pub mod Answers
 pub mod Headline
+pub mod Rows
 pub mod Folds

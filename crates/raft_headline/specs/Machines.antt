@@ -21,7 +21,7 @@ use Rattle.raft_node.specs.Fold.{GroupEntry, GroupPayload, answer_at, answer_to_
 
 abbrev pub machine_payload : EntryPayload → GroupPayload
 machine_payload Blank = Blank
-machine_payload (Normal command) = Normal (record { bytes = command })
+machine_payload (Normal command) = Normal command
 machine_payload (Members m) = Members m
 
 abbrev pub machine_entry : Entry → GroupEntry

@@ -4,3 +4,4 @@
 pub mod filter;
 pub mod folds;
 pub mod headline;
+pub mod rows;

@@ -228,12 +228,12 @@ take_whole : {A : Type 0} (xs : List A) → take (length xs) xs ≡ xs
 take_whole [] = refl
 take_whole (x ∷ xs) = ap (λ l. x ∷ l) (take_whole xs)
 
-no_setup : (o : Option Membership) → is_same_setup o None ≡ true
+pub no_setup : (o : Option Membership) → is_same_setup o None ≡ true
 no_setup None = refl
 no_setup (Some first) = refl
 
 -- a call that brings a token sets no group up
-token_setup : (call : GroupCall) (token : ℕ) → token_of_call call ≡ token ∷ [] → setup_in_call call ≡ None
+pub token_setup : (call : GroupCall) (token : ℕ) → token_of_call call ≡ token ∷ [] → setup_in_call call ≡ None
 token_setup (Initialize membership) token e = absurd (let f : [] ≡ token ∷ [] = e in cc)
 token_setup Elect token e = refl
 token_setup (Propose command t) token e = refl

@@ -22,3 +22,11 @@ pub mod NodeLedgers
 pub mod RunLedgers
 pub mod EndedOnce
 pub mod FollowerRefuses
+pub mod FittingWorlds
+pub mod ServedNodes
+pub mod CommittedAtOnce
+pub mod PeersInOrder
+pub mod LeadPeers
+pub mod OrderedNodes
+pub mod RunLeads
+pub mod TakenNodes

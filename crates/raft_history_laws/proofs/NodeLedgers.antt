@@ -103,7 +103,7 @@ opens_none s (Call call now) other = tt
 opens_none s (Receive peer x now) other = tt
 opens_none s Open other = absurd (other refl)
 
-own_vote : (n : ℕ) (b : BallotWorld) (s : GroupState) (role : Role) → RoleFits n b s.stored.vote (held s.stored) role → seeks_or_leads role ≡ true → s.stored.vote.leader_id.node_id ≡ n
+pub own_vote : (n : ℕ) (b : BallotWorld) (s : GroupState) (role : Role) → RoleFits n b s.stored.vote (held s.stored) role → seeks_or_leads role ≡ true → s.stored.vote.leader_id.node_id ≡ n
 own_vote n b s Follower h t = absurd (let f : false ≡ true = t in cc)
 own_vote n b s (Candidate granters) h t = h.0.node
 own_vote n b s (Leader lead) h t = h.0.node

@@ -79,48 +79,48 @@ no_opening w (Restart n) i h = let f : At n Restarts ≡ At i (Comes Open) = h i
 -- ---- one event of a run
 
 module _ (ids : List ℕ) (small : AreNodeIds ids) where
-  abbrev first : GroupWorld
+  abbrev pub first : GroupWorld
   first = new_world ids
 
   module _ (pre : Events) (x : WorldEvent × Option ℕ) where
-    abbrev w : GroupWorld
+    abbrev pub w : GroupWorld
     w = group_run pre first
 
-    abbrev next : GroupWorld
+    abbrev pub next : GroupWorld
     next = ran w x.0 x.1
 
-    abbrev outcome : Outcome
+    abbrev pub outcome : Outcome
     outcome = outcome_of w x.0 (is_some x.1)
 
-    abbrev k : ℕ
+    abbrev pub k : ℕ
     k = unwrap_or x.1 0
 
-    run : Replays first (history_of pre first) w
+    pub run : Replays first (history_of pre first) w
     run = run-replays pre first
 
-    same : outcome ≡ outcome_of w x.0 (is_stop outcome)
+    pub same : outcome ≡ outcome_of w x.0 (is_stop outcome)
     same = (run-replays (x ∷ []) w).0
 
-    f : MayFollow w (record { event = x.0; outcome = outcome }) k
+    pub f : MayFollow w (record { event = x.0; outcome = outcome }) k
     f = may_follow ids small (history_of pre first) w run (record { event = x.0; outcome = outcome }) k same
 
     module _ (n : ℕ) (at_node : NodeEvent) (here : scene_of w x.0 ≡ At n at_node) where
-      outcome_is : outcome ≡ outcome_at n at_node (is_stop outcome) (w.nodes n)
+      pub outcome_is : outcome ≡ outcome_at n at_node (is_stop outcome) (w.nodes n)
       outcome_is = same ∙ ap (outcome_in w (is_stop outcome)) here
 
-      next_is : next ≡ after_scene w x.0 outcome (stop_at (is_stop outcome) k) (At n at_node)
+      pub next_is : next ≡ after_scene w x.0 outcome (stop_at (is_stop outcome) k) (At n at_node)
       next_is = ap (after_scene w x.0 outcome (stop_at (is_stop outcome) k)) here
 
-      abbrev state : NodeState
+      abbrev pub state : NodeState
       state = state_after n at_node (stop_at (is_stop outcome) k) (w.nodes n)
 
-      node_is : next.nodes n ≡ state
+      pub node_is : next.nodes n ≡ state
       node_is = ap (λ (v : GroupWorld). v.nodes n) next_is ∙ state_here n state w.nodes
 
-      other_is : (j : ℕ) → (j ≡ n → ⊥) → next.nodes j ≡ w.nodes j
+      pub other_is : (j : ℕ) → (j ≡ n → ⊥) → next.nodes j ≡ w.nodes j
       other_is j ne = ap (λ (v : GroupWorld). v.nodes j) next_is ∙ ap (λ b. state_or b state (w.nodes j)) (ne_eqb j n ne)
 
-      may : MayHappen f.membership (world_after f.membership f.first.before) n at_node (w.nodes n)
+      pub may : MayHappen f.membership (world_after f.membership f.first.before) n at_node (w.nodes n)
       may = subst (MayTakePlace f.membership f.some w f.first.before f.first.fits) here f.may
 
       pub event_ledger : (number : ℕ) (l : List Numbered) → untolds l ≡ untold_in (w.nodes n) → NodeLedger at_node outcome (next.nodes n) (l ++ brings n number at_node (w.nodes n))

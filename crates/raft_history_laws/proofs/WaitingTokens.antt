@@ -98,7 +98,7 @@ pub record TokensWait (s : GroupState) : Type 0 where
   pub each : Each (IsWaiting s) s.untold
   pub rise : Rise s.untold
 
-no_tokens : (s : GroupState) → s.untold ≡ [] → BeganWithin s.role s.stored → TokensWait s
+pub no_tokens : (s : GroupState) → s.untold ≡ [] → BeganWithin s.role s.stored → TokensWait s
 no_tokens s e b =
     record {
       others = λ n. e;
@@ -267,7 +267,7 @@ NodeWaits n Absent = Unit {0}
 NodeWaits n (Up s) = TokensWait s
 NodeWaits n (Down stored) = Unit {0}
 
-comes_wait : (m : Membership) (some : 0 < length m.configs) (own : ℕ) (small : own < 2 ^ 64) (before : List BallotEvent) (s : GroupState) (e : GroupEvent) → NodeFits m (world_after m before) own s → MayCome m (world_after m before) own s e → TokensWait s → TokensWait (group_step own s e).state
+pub comes_wait : (m : Membership) (some : 0 < length m.configs) (own : ℕ) (small : own < 2 ^ 64) (before : List BallotEvent) (s : GroupState) (e : GroupEvent) → NodeFits m (world_after m before) own s → MayCome m (world_after m before) own s e → TokensWait s → TokensWait (group_step own s e).state
 comes_wait m some own small before s e fits may h =
     ⊎_elim
     (λ event_fits. go (refusal_of own s e) refl event_fits)

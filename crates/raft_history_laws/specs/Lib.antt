@@ -12,3 +12,13 @@ pub mod Candidates
 pub mod CandidatesRun
 pub mod TokenEnds
 pub mod TokenEndsRun
+pub mod Limits
+pub mod LimitsRun
+pub mod Leads
+pub mod KnownPeers
+pub mod LeadsRun
+pub mod AnsweredCommits
+pub mod ServedPeers
+pub mod ServedPeersRun
+pub mod TakenCommands
+pub mod TakenCommandsRun

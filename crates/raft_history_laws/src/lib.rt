@@ -3,9 +3,14 @@
 #![tactic(auto)]
 
 pub mod candidates;
+pub mod commits;
 pub mod ends;
+pub mod known_peers;
 pub mod leader_lists;
+pub mod limits;
 pub mod origins;
+pub mod serving;
 pub mod snapshots;
+pub mod taking;
 pub mod told;
 pub mod waiting;

@@ -3,3 +3,4 @@ pub mod LawLemmas
 pub mod ReplaceLemmas
 pub mod FaultLemmas
 pub mod AddedLemmas
+pub mod OneGroupLemmas

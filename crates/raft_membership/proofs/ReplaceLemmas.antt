@@ -18,7 +18,7 @@ use Rattle.std.specs.Cmp.Lexicographic.{pointwise, lists_equiv}
 use Rattle.raft_quorums.specs.Quorum.{next_configs, last_of}
 use Rattle.raft_quorums.specs.QuorumLaws.{or_left, or_right, and_left, and_right}
 
-both : (a b : Bool) → a ≡ true → b ≡ true → (a && b) ≡ true
+pub both : (a b : Bool) → a ≡ true → b ≡ true → (a && b) ≡ true
 both true b h k = k
 both false b h k = h
 

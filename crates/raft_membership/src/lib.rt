@@ -10,6 +10,7 @@ pub mod into_nodes;
 pub mod laws;
 pub mod membership;
 pub mod membership_state;
+mod one_group;
 pub mod snapshot_meta;
 pub mod stored_membership;
 

@@ -5,6 +5,7 @@ ghost use Rattle.raft_membership.specs.Membership.{is_voter, voter_ids, learner_
 ghost use Rattle.std.specs.Prelude.{◌≡◌, ◌↔◌, ◌<◌, IsTrue, IfOk, length, not, OnOk, IfErr, []};
 ghost use Rattle.raft_membership.specs.Membership.{first_outside, least_outside, has_empty_group, lesser};
 ghost use Rattle.raft_quorums.specs.Quorum.{is_quorum};
+ghost use Rattle.raft_quorums.specs.Rising.{IsRisingByFirst};
 ghost use Rattle.raft_quorums.specs.QuorumLaws.{wider_quorum};
 ghost use Rattle.raft_quorums.specs.RisingLaws.{joint_ids_rise};
 ghost use Rattle.raft_membership.specs.Validity.{fault_of, groups_fault, validity_fault};
@@ -134,7 +135,8 @@ impl<NID: NodeId, N: Node> Membership<NID, N> {
 
     /// The ids with their nodes, voters and learners, by rising id.
     pub fn nodes(&self) -> &[(NID, N)]
-        ensures { result.now ≡ self.now.nodes }
+        ensures nodes { result.now ≡ self.now.nodes }
+        ensures rising { IsRisingByFirst NID.cmp self.now.nodes }
     {
         self.nodes.as_slice()
     }

@@ -3,26 +3,25 @@ use Rattle.std.specs.Prelude.{ℕ, ◌+◌, List, [], ◌∷◌, Option, Some, N
 use Rattle.raft_state.specs.declared.entry.Entry.{Entry}
 use Rattle.raft_state.specs.declared.entry.EntryPayload.{EntryPayload}
 use Rattle.raft_state.specs.declared.entry.EntryPayload.TheVariants.{Blank, Normal, Membership}
-use Rattle.raft_values.specs.declared.command.Command.{Command}
 use Rattle.raft_node.specs.Machine.{MachineRules}
 
 -- an entry of a group: node ids are numbers, nodes are their addresses
 abbrev pub GroupEntry : Type 0
-GroupEntry = Entry ℕ (List ℕ) Command
+GroupEntry = Entry ℕ (List ℕ) (List ℕ)
 
 abbrev pub GroupPayload : Type 0
-GroupPayload = EntryPayload ℕ (List ℕ) Command
+GroupPayload = EntryPayload ℕ (List ℕ) (List ℕ)
 
 -- a command moves the machine, a blank and a membership leave it
 abbrev pub after_payload : MachineRules → List ℕ → ℕ → GroupPayload → List ℕ
 after_payload rules state place Blank = state
-after_payload rules state place (Normal command) = rules.step state place command.bytes
+after_payload rules state place (Normal command) = rules.step state place command
 after_payload rules state place (Membership membership) = state
 
 -- a command is answered by the machine, a blank and a membership by no bytes
 abbrev pub answer_to_payload : MachineRules → List ℕ → ℕ → GroupPayload → List ℕ
 answer_to_payload rules state place Blank = []
-answer_to_payload rules state place (Normal command) = rules.answer state place command.bytes
+answer_to_payload rules state place (Normal command) = rules.answer state place command
 answer_to_payload rules state place (Membership membership) = []
 
 -- the state after these entries, the first of which stands at this place

@@ -28,7 +28,7 @@ one_shared true false c l m n f h = f (omega arith)
 one_shared false true c l m n f h = f (omega arith)
 one_shared false false c l m n f h = f (omega arith)
 
-count_more : {K : Type 0} (p : K → Bool) (x : K) (xs : List K) → count_by p (x ∷ xs) ≡ cond (p x) 1 0 + count_by p xs
+pub count_more : {K : Type 0} (p : K → Bool) (x : K) (xs : List K) → count_by p (x ∷ xs) ≡ cond (p x) 1 0 + count_by p xs
 count_more p x xs = grind (arith, common_steps)
 
 both_hold : (a b c d : Bool) → (a ≡ true → c ≡ true) → (b ≡ true → d ≡ true) → (a && b) ≡ true → (c && d) ≡ true

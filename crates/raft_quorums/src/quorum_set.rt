@@ -2,7 +2,7 @@
 ghost use Rattle.std.specs.Prelude.{◌≡◌, Bool, List, true, IfOk};
 ghost use Rattle.std.specs.List.{fold};
 ghost use Rattle.std.specs.BTreeSet.{insert_key};
-ghost use Rattle.raft_quorums.specs.Quorum.{is_majority, rising_ids};
+ghost use Rattle.raft_quorums.specs.Quorum.{is_majority, each_once, rising_ids};
 ghost use Rattle.raft_quorums.specs.QuorumLaws.{IsWithin, wider_majority};
 ghost use Rattle.raft_quorums.specs.Rising.{IsRising};
 ghost use Rattle.raft_quorums.specs.RisingLaws.{rising_ids_rise};
@@ -46,6 +46,25 @@ fn is_majority<ID: NodeId, S: HasId<ID>>(group: &[ID], nodes: &S) -> bool
     group.len() - count < count
 }
 
+// Whether more than half of the ids are in the set, where an id that stands twice counts once.
+fn is_majority_of_ids<ID: NodeId, S: HasId<ID>>(ids: &[ID], nodes: &S) -> bool
+    ensures { result ≡ is_majority (S.has nodes.now) (each_once ID.eq ids.now) }
+{
+    let mut total = 0usize;
+    let mut count = 0usize;
+    for at in 0..ids.len() {
+        let id = &ids[at];
+        if ids[at + 1..].contains(id) {
+            continue;
+        }
+        total += 1;
+        if nodes.has_id(id) {
+            count += 1;
+        }
+    }
+    total - count < count
+}
+
 #[tactic(auto, using(crate::specs::RisingLaws::rising_ids_same))]
 impl<ID: NodeId> QuorumSet<ID> for IdSet<ID> {
     ghost accepts = { λ ids p. is_majority p ids };
@@ -66,37 +85,37 @@ impl<ID: NodeId> QuorumSet<ID> for IdSet<ID> {
 }
 
 impl<ID: NodeId> QuorumSet<ID> for Vec<ID> {
-    ghost accepts = { λ ids p. is_majority p ids.items };
+    ghost accepts = { λ ids p. is_majority p (each_once ID.eq ids.items) };
 
     ghost members = { λ ids. rising_ids ID.cmp ids.items };
 
     fn is_quorum<S: HasId<ID>>(&self, nodes: &S) -> bool {
-        is_majority(self.as_slice(), nodes)
+        is_majority_of_ids(self.as_slice(), nodes)
     }
 
     fn ids(&self, alloc: Global) -> Result<IdSet<ID>, AllocError> {
         IdSet::from_slice(alloc, self.as_slice())
     }
 
-    ghost superset = { λ q p r wider h. wider_majority p r wider q.items h };
+    ghost superset = { λ q p r wider h. wider_majority p r wider (each_once ID.eq q.items) h };
 
     ghost members_rise = { λ q. rising_ids_rise ID.total q.items };
 }
 
 impl<ID: NodeId> QuorumSet<ID> for &[ID] {
-    ghost accepts = { λ ids p. is_majority p ids.now };
+    ghost accepts = { λ ids p. is_majority p (each_once ID.eq ids.now) };
 
     ghost members = { λ ids. rising_ids ID.cmp ids.now };
 
     fn is_quorum<S: HasId<ID>>(&self, nodes: &S) -> bool {
-        is_majority(*self, nodes)
+        is_majority_of_ids(*self, nodes)
     }
 
     fn ids(&self, alloc: Global) -> Result<IdSet<ID>, AllocError> {
         IdSet::from_slice(alloc, *self)
     }
 
-    ghost superset = { λ q p r wider h. wider_majority p r wider q.now h };
+    ghost superset = { λ q p r wider h. wider_majority p r wider (each_once ID.eq q.now) h };
 
     ghost members_rise = { λ q. rising_ids_rise ID.total q.now };
 }

@@ -4,8 +4,9 @@ use Rattle.std.specs.List.{list_any}
 use Rattle.raft_values.specs.declared.vote.Vote.{Vote}
 use Rattle.raft_group_step.specs.Values.{Entry, Membership, vote_eq}
 use Rattle.raft_group_step.specs.Message.{Message}
-use Rattle.raft_executor.specs.declared.message.Message.{Message as Sent}
-use Rattle.raft_executor.specs.Sent.{message_of}
+use Rattle.raft_group_step.specs.StoredGroup.{Snapshot}
+use Rattle.raft_messages.specs.declared.message.Message.{Message as Sent}
+use Rattle.raft_messages.specs.Messages.{message_of}
 use Rattle.raft_laws.specs.GroupWorld.{GroupWorld, Led, Absent}
 use Rattle.raft_laws.specs.Settled.{body_accepts, is_at_or_after}
 use Rattle.raft_settled.specs.declared.led_note.LedNote.{LedNote}
@@ -15,7 +16,7 @@ abbrev pub led_of : LedNote → Led
 led_of n = record { node = n.node; vote = n.vote; list = n.list.items }
 
 -- the world with these messages, this set-up and these leaders; of its nodes nothing is told
-abbrev pub world_of : List Sent → Option Membership → List LedNote → GroupWorld
+abbrev pub world_of : List (Sent Snapshot) → Option Membership → List LedNote → GroupWorld
 world_of messages setup led =
     record {
       nodes = λ n. Absent;

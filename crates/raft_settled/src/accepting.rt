@@ -2,16 +2,13 @@
 ghost use Rattle.std.specs.Prelude.{◌≡◌, ◌==◌, ◌&&◌, None, map};
 ghost use Rattle.std.specs.List.{list_any};
 ghost use Rattle.raft_group_step.specs.Values.{vote_eq};
-ghost use Rattle.raft_engine.specs.Commands.{result_of};
-ghost use Rattle.raft_engine.specs.Sending.{reply_of};
-ghost use Rattle.raft_executor.specs.Sent.{body_of, message_of};
+ghost use Rattle.raft_messages.specs.Messages.{body_of, message_of, outcome_of, reply_fields_of};
 ghost use Rattle.raft_laws.specs.Settled.{accepts, body_accepts, has_accepted_some, is_at_or_after, is_last, is_success};
 ghost use Rattle.raft_settled.specs.World.{has_later, is_led_with, is_reply, led_of, world_of};
 
 use crate::led_note::LedNote;
-use raft_commands::Caller;
-use raft_executor::{Body, Message};
-use raft_group_step::AppendEntriesResponse;
+use raft_executor::{GroupBody, GroupMessage};
+use raft_messages::{MessageBody, ReplyFields, ReplyResult};
 use raft_state::{HasId, LeaderId, LogId, Vote};
 
 // Whether the log id is of the leader, at or after the place.
@@ -32,12 +29,12 @@ fn is_last(leader: &LeaderId<u64>, place: u64, last: &Option<LogId<u64>>) -> boo
 }
 
 // Whether all of the request is there.
-fn is_success(outcome: &AppendEntriesResponse<u64>) -> bool
-    ensures { result ≡ is_success (result_of outcome.now) }
+fn is_success(outcome: &ReplyResult) -> bool
+    ensures { result ≡ is_success (outcome_of outcome.now) }
 {
     match outcome {
-        AppendEntriesResponse::Success | AppendEntriesResponse::PartialSuccess(_) => true,
-        AppendEntriesResponse::Conflict | AppendEntriesResponse::HigherVote(_) => false,
+        ReplyResult::Success => true,
+        ReplyResult::Conflict | ReplyResult::HigherVote(_) => false,
     }
 }
 
@@ -49,33 +46,28 @@ fn is_same_vote(vote: &Vote<u64>, other: &Vote<u64>) -> bool
 }
 
 // Whether the answer accepts, under the vote, a request that ends at the place or after it.
-fn accepts(
-    vote: &Vote<u64>,
-    place: u64,
-    request: &Caller<u64>,
-    outcome: &AppendEntriesResponse<u64>,
-) -> bool
-    ensures { result ≡ accepts vote.now (is_at_or_after vote.now.leader_id place) (reply_of request.now outcome.now) }
+fn accepts(vote: &Vote<u64>, place: u64, reply: &ReplyFields) -> bool
+    ensures { result ≡ accepts vote.now (is_at_or_after vote.now.leader_id place) (reply_fields_of reply.now) }
 {
-    is_success(outcome)
-        && is_same_vote(&request.vote, vote)
-        && is_last(&vote.leader_id, place, &request.last)
+    is_success(&reply.outcome)
+        && is_same_vote(&reply.vote, vote)
+        && is_last(&vote.leader_id, place, &reply.last)
 }
 
 // Whether it is an answer that accepts.
-fn body_accepts(vote: &Vote<u64>, place: u64, body: &Body) -> bool
+fn body_accepts(vote: &Vote<u64>, place: u64, body: &GroupBody) -> bool
     ensures { result ≡ body_accepts vote.now (is_at_or_after vote.now.leader_id place) (body_of body.now) }
 {
     match body {
-        Body::AppendReply { request, outcome } | Body::SnapshotReply { request, outcome } => {
-            accepts(vote, place, request, outcome)
+        MessageBody::AppendReply(reply) | MessageBody::SnapshotReply(reply) => {
+            accepts(vote, place, reply)
         }
         _ => false,
     }
 }
 
 // Whether the node sent an answer that accepts.
-fn has_replied(messages: &[Message], vote: &Vote<u64>, place: u64, node: u64) -> bool
+fn has_replied(messages: &[GroupMessage], vote: &Vote<u64>, place: u64, node: u64) -> bool
     ensures { result ≡ list_any (λ m. is_reply vote.now place node (message_of m)) messages.now }
 {
     messages.iter().any(|message| message.sender == node
@@ -101,7 +93,7 @@ fn has_led_with(led: &[LedNote], vote: &Vote<u64>, place: u64, node: u64) -> boo
 /// The nodes that have accepted, under the vote, an entry of its leader at or after the place.
 #[derive(Drop)]
 pub(crate) struct Acceptors<'a> {
-    pub(crate) messages: &'a [Message],
+    pub(crate) messages: &'a [GroupMessage],
     pub(crate) led: &'a [LedNote],
     pub(crate) vote: Vote<u64>,
     pub(crate) place: u64,

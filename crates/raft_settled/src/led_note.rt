@@ -4,9 +4,9 @@ ghost use Rattle.raft_values.specs.LogId.{next_place};
 ghost use Rattle.raft_group_step.specs.StoredGroup.{first_place, held, prefix_of};
 ghost use Rattle.raft_settled.specs.World.{led_of};
 
-use crate::copies::push_copies;
+use raft_messages::{GroupEntry, push_copies};
 use raft_state::{LogId, Vote};
-use raft_stored_group::{GroupEntry, StoredGroup};
+use raft_stored_group::StoredGroup;
 use std::alloc::{AllocError, Global};
 
 /// A note of a node that led at the end of an event (own).

@@ -2,7 +2,6 @@
 #![tactic(auto)]
 
 mod accepting;
-mod copies;
 pub mod led_note;
 pub mod settled;
 

@@ -2,17 +2,16 @@
 ghost use Rattle.std.specs.Prelude.{◌≡◌, ◌<◌, ◌≤◌, IfOk, length, map, max};
 ghost use Rattle.std.specs.Option.{option_copied};
 ghost use Rattle.raft_quorums.specs.Quorum.{is_quorum};
-ghost use Rattle.raft_executor.specs.Sent.{message_of};
+ghost use Rattle.raft_messages.specs.Messages.{message_of};
 ghost use Rattle.raft_laws.specs.GroupWorld.{GroupWorld};
 ghost use Rattle.raft_laws.specs.Settled.{count_to_last, group_list, is_accepted_by_quorum, longer, settled_part, setup_configs};
 ghost use Rattle.raft_settled.specs.World.{led_of, world_of};
 
 use crate::accepting::Acceptors;
-use crate::copies::push_copies;
 use crate::led_note::LedNote;
-use raft_executor::Message;
+use raft_executor::GroupMessage;
+use raft_messages::{GroupEntry, push_copies};
 use raft_state::{BasicNode, HasId, Membership, QuorumSet, Vote};
-use raft_stored_group::GroupEntry;
 use std::alloc::{AllocError, Global};
 
 // Whether the nodes are a quorum of the set-up's voter groups; all are where there is no set-up.
@@ -27,7 +26,7 @@ fn is_quorum<S: HasId<u64>>(setup: Option<&Membership<u64, BasicNode>>, nodes: &
 
 // Whether the entry is of the vote's leader, and a quorum has accepted it or a later one of that leader.
 fn is_accepted_by_quorum(
-    messages: &[Message],
+    messages: &[GroupMessage],
     setup: Option<&Membership<u64, BasicNode>>,
     led: &[LedNote],
     vote: &Vote<u64>,
@@ -51,7 +50,7 @@ fn is_accepted_by_quorum(
 // How many of the leader's entries stand up to its last one that a quorum accepted under its vote, or
 // as many as are known where those are more.
 fn settled_or_known(
-    messages: &[Message],
+    messages: &[GroupMessage],
     setup: Option<&Membership<u64, BasicNode>>,
     led: &[LedNote],
     note: &LedNote,
@@ -74,7 +73,7 @@ fn settled_or_known(
 // The longer one of the list and what is settled of the leader's list, lent; the list where they are
 // as long.
 fn longer<'a>(
-    messages: &[Message],
+    messages: &[GroupMessage],
     setup: Option<&Membership<u64, BasicNode>>,
     led: &[LedNote],
     list: &'a [GroupEntry],
@@ -92,7 +91,7 @@ fn longer<'a>(
 
 // The first of the longest parts of leaders' lists that are settled, lent.
 fn longest_settled<'a>(
-    messages: &[Message],
+    messages: &[GroupMessage],
     setup: Option<&Membership<u64, BasicNode>>,
     led: &'a [LedNote],
 ) -> &'a [GroupEntry]
@@ -110,7 +109,7 @@ fn longest_settled<'a>(
 /// that a quorum accepted under the leader's vote. It is a copy, and fails for want of memory alone.
 pub fn group_list(
     alloc: Global,
-    messages: &[Message],
+    messages: &[GroupMessage],
     setup: Option<&Membership<u64, BasicNode>>,
     led: &[LedNote],
 ) -> Result<Vec<GroupEntry>, AllocError>

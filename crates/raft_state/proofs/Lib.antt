@@ -9,3 +9,4 @@ pub mod KeyLeaderLemmas
 pub mod ExtendLemmas
 pub mod FrontLemmas
 pub mod KeyTestLemmas
+pub mod GrowthLemmas

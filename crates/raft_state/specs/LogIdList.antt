@@ -137,6 +137,10 @@ module _ {K : Type 0} (cmp : K → K → Ordering) where
   abbrev pub keys_of : List (LogId K) → List (LogId K)
   keys_of ids = keys_behind None ids
 
+  -- these log ids are told by fewer keys than the others
+  abbrev pub HasFewerKeys : List (LogId K) → List (LogId K) → Type 0
+  HasFewerKeys ids others = length (keys_of ids) < length (keys_of others)
+
   -- the log id has this leader
   abbrev pub has_leader : LeaderId K → LogId K → Bool
   has_leader leader id = is_eq (leader_cmp cmp leader id.leader_id)

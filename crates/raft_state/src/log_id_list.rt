@@ -4,7 +4,7 @@ ghost use Rattle.std.specs.List.{slice_get};
 ghost use Rattle.std.specs.Option.{option_copied};
 ghost use Rattle.raft_state.specs.LogIdList.{ids_of, last_id, id_at, appended, truncated, purged, PlacesRise, AreKeys, GoesOn};
 ghost use Rattle.raft_state.specs.LogIdList.{Reaches, ends_in_pair, keys_of, last_run, extended, AllGoOn, IsBelowNext, ChangesLeader};
-ghost use Rattle.raft_state.specs.LogIdList.{HaveOneLeader, KeepsFront, with_end};
+ghost use Rattle.raft_state.specs.LogIdList.{HaveOneLeader, KeepsFront, with_end, HasFewerKeys};
 
 use crate::raft_entry::RaftLogId;
 use raft_values::log_id::LogId;
@@ -63,6 +63,7 @@ fn append_key<NID: NodeId>(keys: &mut Vec<LogId<NID>>, id: LogId<NID>) -> Result
     requires goes_on { GoesOn (last_id keys.old.items) id }
     ensures ok { OnOk result (ids_of keys.new.items ≡ appended (ids_of keys.old.items) id) }
     ensures err { OnErr result (keys.new.items ≡ keys.old.items) }
+    ensures only { OnErr result (HasFewerKeys NID.cmp (ids_of keys.old.items) (appended (ids_of keys.old.items) id)) }
     ensures keys { AreKeys NID.cmp keys.new.items }
     ensures front { KeepsFront keys.old.items keys.new.items }
 {
@@ -84,6 +85,7 @@ fn append_keys<NID: NodeId, LID: RaftLogId<NID>>(
     requires keys { AreKeys NID.cmp keys.old.items }
     requires go_on { AllGoOn (last_id keys.old.items) (map LID.id new_ids.now) }
     ensures ok { OnOk result (ids_of keys.new.items ≡ extended (ids_of keys.old.items) (map LID.id new_ids.now)) }
+    ensures only { OnErr result (HasFewerKeys NID.cmp (ids_of keys.old.items) (extended (ids_of keys.old.items) (map LID.id new_ids.now))) }
     ensures keys { AreKeys NID.cmp keys.new.items }
     ensures front { KeepsFront keys.old.items keys.new.items }
 {
@@ -102,6 +104,7 @@ fn append_ends<NID: NodeId, LID: RaftLogId<NID>>(
     requires go_on { AllGoOn (last_id keys.old.items) (map LID.id new_ids.now) }
     requires one_leader { HaveOneLeader (map LID.id new_ids.now) }
     ensures ok { OnOk result (ids_of keys.new.items ≡ extended (ids_of keys.old.items) (map LID.id new_ids.now)) }
+    ensures only { OnErr result (HasFewerKeys NID.cmp (ids_of keys.old.items) (extended (ids_of keys.old.items) (map LID.id new_ids.now))) }
     ensures keys { AreKeys NID.cmp keys.new.items }
     ensures front { KeepsFront keys.old.items keys.new.items }
 {
@@ -139,6 +142,7 @@ fn extend_keys<NID: NodeId, LID: RaftLogId<NID>>(
     requires go_on { AllGoOn (last_id keys.old.items) (map LID.id new_ids.now) }
     ensures ok { OnOk result (ids_of keys.new.items ≡ extended (ids_of keys.old.items) (map LID.id new_ids.now)) }
     ensures err { OnErr result (keys.new.items ≡ keys.old.items) }
+    ensures only { OnErr result (HasFewerKeys NID.cmp (ids_of keys.old.items) (extended (ids_of keys.old.items) (map LID.id new_ids.now))) }
     ensures keys { AreKeys NID.cmp keys.new.items }
 {
     let kept = keys.len();
@@ -161,6 +165,7 @@ fn extend_ends<NID: NodeId, LID: RaftLogId<NID>>(
     requires one_leader { HaveOneLeader (map LID.id new_ids.now) }
     ensures ok { OnOk result (ids_of keys.new.items ≡ extended (ids_of keys.old.items) (map LID.id new_ids.now)) }
     ensures err { OnErr result (keys.new.items ≡ keys.old.items) }
+    ensures only { OnErr result (HasFewerKeys NID.cmp (ids_of keys.old.items) (extended (ids_of keys.old.items) (map LID.id new_ids.now))) }
     ensures keys { AreKeys NID.cmp keys.new.items }
 {
     let kept = keys.len();
@@ -240,6 +245,7 @@ fn purge_keys<NID: NodeId>(keys: &mut Vec<LogId<NID>>, upto: &LogId<NID>) -> Res
     requires { AreKeys NID.cmp keys.old.items }
     ensures ok { OnOk result (ids_of keys.new.items ≡ purged (ids_of keys.old.items) upto.now) }
     ensures err { OnErr result (keys.new.items ≡ keys.old.items) }
+    ensures only { OnErr result (keys.old.items ≡ []) }
     ensures keys { AreKeys NID.cmp keys.new.items }
 {
     let Some(last) = keys.last().copied() else {
@@ -315,17 +321,18 @@ impl<NID: NodeId> LogIdList<NID> {
     }
 
     /// Puts the log ids behind the others, one after the other; places between get the leader
-    /// before. Without memory the list stays.
+    /// before. Without memory the list stays; none is asked for where no more keys are needed.
     pub fn extend<LID: RaftLogId<NID>>(&mut self, new_ids: &[LID]) -> Result<(), AllocError>
         requires { AllGoOn (last_id self.old) (map LID.id new_ids.now) }
         ensures ok { OnOk result (self.new ≡ extended self.old (map LID.id new_ids.now)) }
         ensures err { OnErr result (self.new ≡ self.old) }
+        ensures only { OnErr result (HasFewerKeys NID.cmp self.old (extended self.old (map LID.id new_ids.now))) }
     {
         extend_keys(&mut self.key_log_ids, new_ids)
     }
 
     /// The same for log ids of one leader, of which only the first and the last one are read.
-    /// Without memory the list stays.
+    /// Without memory the list stays; none is asked for where no more keys are needed.
     pub fn extend_from_same_leader<LID: RaftLogId<NID>>(
         &mut self,
         new_ids: &[LID],
@@ -334,6 +341,7 @@ impl<NID: NodeId> LogIdList<NID> {
         requires one_leader { HaveOneLeader (map LID.id new_ids.now) }
         ensures ok { OnOk result (self.new ≡ extended self.old (map LID.id new_ids.now)) }
         ensures err { OnErr result (self.new ≡ self.old) }
+        ensures only { OnErr result (HasFewerKeys NID.cmp self.old (extended self.old (map LID.id new_ids.now))) }
     {
         extend_ends(&mut self.key_log_ids, new_ids)
     }
@@ -358,6 +366,7 @@ impl<NID: NodeId> LogIdList<NID> {
     pub fn purge(&mut self, upto: &LogId<NID>) -> Result<(), AllocError>
         ensures ok { OnOk result (self.new ≡ purged self.old upto.now) }
         ensures err { OnErr result (self.new ≡ self.old) }
+        ensures only { OnErr result (self.old ≡ []) }
     {
         purge_keys(&mut self.key_log_ids, upto)
     }
@@ -380,11 +389,12 @@ impl<NID: NodeId> LogIdList<NID> {
     }
 
     /// Puts the log id behind the others; places between get the leader of the last one.
-    /// Without memory the list stays.
+    /// Without memory the list stays; none is asked for where no more keys are needed.
     pub fn append(&mut self, new_log_id: LogId<NID>) -> Result<(), AllocError>
         requires { GoesOn (last_id self.old) new_log_id }
         ensures ok { OnOk result (self.new ≡ appended self.old new_log_id) }
         ensures err { OnErr result (self.new ≡ self.old) }
+        ensures only { OnErr result (HasFewerKeys NID.cmp self.old (appended self.old new_log_id)) }
     {
         append_key(&mut self.key_log_ids, new_log_id)
     }

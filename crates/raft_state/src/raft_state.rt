@@ -3,7 +3,7 @@ ghost use Rattle.std.specs.Prelude.{◌≡◌, ◌↔◌, ◌+◌, ◌<◌, ◌^
 ghost use Rattle.std.specs.List.{slice_get};
 ghost use Rattle.std.specs.Option.{option_copied};
 ghost use Rattle.raft_values.specs.LogId.{is_past};
-ghost use Rattle.raft_state.specs.LogIdList.{AllGoOn, HaveOneLeader, extended, id_at, last_id, purged};
+ghost use Rattle.raft_state.specs.LogIdList.{AllGoOn, HasFewerKeys, HaveOneLeader, extended, id_at, last_id, purged};
 ghost use Rattle.raft_membership.specs.Membership.{is_voter};
 ghost use Rattle.raft_membership.specs.MembershipState.{committed_upto};
 ghost use Rattle.raft_values.specs.declared.server_state.ServerState.TheVariants.{Learner};
@@ -200,6 +200,7 @@ impl<NID: NodeId, N: Node, I: Instant> RaftState<NID, N, I> {
             then record self.old { committed = committed.now; membership_state = committed_upto NID.cmp self.old.membership_state committed.now }
             else self.old)) }
         ensures err { OnErr result (self.new ≡ self.old) }
+        ensures only { OnErr result (is_past NID.cmp committed.now self.old.committed ≡ true) }
     {
         if !is_past(committed, &self.committed) {
             return Ok(false);
@@ -214,6 +215,7 @@ impl<NID: NodeId, N: Node, I: Instant> RaftState<NID, N, I> {
         requires { AllGoOn (last_id self.old.log_ids) (map LID.id new_ids.now) }
         ensures ok { OnOk result (self.new ≡ record self.old { log_ids = extended self.old.log_ids (map LID.id new_ids.now) }) }
         ensures err { OnErr result (self.new ≡ self.old) }
+        ensures only { OnErr result (HasFewerKeys NID.cmp self.old.log_ids (extended self.old.log_ids (map LID.id new_ids.now))) }
     {
         self.log_ids.extend(new_ids)
     }
@@ -227,6 +229,7 @@ impl<NID: NodeId, N: Node, I: Instant> RaftState<NID, N, I> {
         requires one_leader { HaveOneLeader (map LID.id new_ids.now) }
         ensures ok { OnOk result (self.new ≡ record self.old { log_ids = extended self.old.log_ids (map LID.id new_ids.now) }) }
         ensures err { OnErr result (self.new ≡ self.old) }
+        ensures only { OnErr result (HasFewerKeys NID.cmp self.old.log_ids (extended self.old.log_ids (map LID.id new_ids.now))) }
     {
         self.log_ids.extend_from_same_leader(new_ids)
     }
@@ -237,6 +240,7 @@ impl<NID: NodeId, N: Node, I: Instant> RaftState<NID, N, I> {
         requires { upto.now.index + 1 < 2 ^ 64 }
         ensures ok { OnOk result (self.new ≡ record self.old { log_ids = purged self.old.log_ids upto.now; purged_next = upto.now.index + 1 }) }
         ensures err { OnErr result (self.new ≡ self.old) }
+        ensures only { OnErr result (self.old.log_ids ≡ []) }
     {
         self.log_ids.purge(upto)?;
         self.purged_next = upto.index + 1;

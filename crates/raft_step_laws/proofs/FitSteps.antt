@@ -42,7 +42,7 @@ use Rattle.raft_laws.proofs.FreshEntries.{within_is, without_is}
 use Rattle.raft_laws.proofs.Shapes.{slice_drop, slice_taken}
 use Rattle.raft_laws.proofs.StepCalls.{NoReason, no_reason, unless_none}
 use Rattle.raft_laws.proofs.StepWords.{all-append, either, either_by}
-use Rattle.raft_step_laws.specs.Fitting.{AllFit, FitEntries, FitsBody, FitsEvent, FitsPayload, FitsRequest, FitsSnapshot, FitsStored, FitsStoring, IsCommittedWithin, StepsFit}
+use Rattle.raft_step_laws.specs.Fitting.{AllFit, ComesWithin, FitEntries, FitsBody, FitsEvent, FitsPayload, FitsRequest, FitsSnapshot, FitsStored, FitsStoring, IsCommittedWithin, StepsFit}
 use Rattle.raft_step_laws.proofs.FitWords.{Fits, StandWithin, above_within, all_fit, before_next, built_fits, entry_place, entry_within, in_log_within, missing_within, placed_one, placed_stand, some_entry, stand_placed, stop_fits, stored_fits}
 
 abbrev FitsMessage : Message → Type 0
@@ -521,7 +521,7 @@ module _ (own : ℕ) (s : GroupState) (fits : FitsStored s.stored) where
   none_yet t e =
       record { now = subst FitsStored (sym e) fits; is = e; all = tt; messages = All-nil FitsMessage }
 
-  event_keeps : (e : GroupEvent) → IsCommittedWithin s → FitsEvent e → refusal_of own s e ≡ None → Keeps s.stored (event_step own s e)
+  event_keeps : (e : GroupEvent) → ComesWithin s e → FitsEvent e → refusal_of own s e ≡ None → Keeps s.stored (event_step own s e)
   event_keeps AddGroup c f passed = stores s.stored MakeGroup (unchanged s) (none_yet s refl) tt
   event_keeps (Call call now) c f passed =
       call_keeps s.stored own call (begun now s) (none_yet (begun now s).state refl)
@@ -534,7 +534,7 @@ module _ (own : ℕ) (s : GroupState) (fits : FitsStored s.stored) where
       resumed s.stored own _
       (same s.stored (drop_stale_log last fresh) _ refl refl refl (dropped s.stored last fresh (none_yet (state_of s.stored) refl)))
 
-  step_keeps : (e : GroupEvent) → IsCommittedWithin s → FitsEvent e → (why : Option RefusalReason) → refusal_of own s e ≡ why → Keeps s.stored (step_unless why own s e)
+  step_keeps : (e : GroupEvent) → ComesWithin s e → FitsEvent e → (why : Option RefusalReason) → refusal_of own s e ≡ why → Keeps s.stored (step_unless why own s e)
   step_keeps e c f (Some why) is = same s.stored (unchanged s) (refused_step s why) refl refl refl (none_yet s refl)
   step_keeps e c f None is = finished_keeps s.stored own s.committed (event_step own s e) (event_keeps e c f is)
 
@@ -549,5 +549,5 @@ steps_fit own s e fits c f =
     }
 
 -- what the event itself leaves fits
-pub event_fits : (own : ℕ) (s : GroupState) (e : GroupEvent) → FitsStored s.stored → IsCommittedWithin s → FitsEvent e → refusal_of own s e ≡ None → FitsStored (event_step own s e).state.stored
+pub event_fits : (own : ℕ) (s : GroupState) (e : GroupEvent) → FitsStored s.stored → ComesWithin s e → FitsEvent e → refusal_of own s e ≡ None → FitsStored (event_step own s e).state.stored
 event_fits own s e fits c f passed = (event_keeps own s fits e c f passed).now

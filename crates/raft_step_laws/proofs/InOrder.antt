@@ -1,5 +1,5 @@
 -- Tokens are told by rising place.
-use Rattle.std.specs.Prelude.{◌≡◌, ℕ, ◌+◌, ◌<◌, ◌≤◌, cond, not, Bool, true, false, List, [], ◌∷◌, ◌++◌, filter, None, All, refl}
+use Rattle.std.specs.Prelude.{◌≡◌, ℕ, ◌+◌, ◌<◌, ◌≤◌, cond, not, Bool, true, false, List, [], ◌∷◌, ◌++◌, filter, All, refl}
 use Rattle.std.proofs.Common.{sym, subst, arith}
 use Rattle.std.proofs.lemmas.List.Elements.{All-head, All-tail}
 use Rattle.raft_group_step.specs.GroupState.{GroupState, Untold}
@@ -8,7 +8,7 @@ use Rattle.raft_group_step.specs.GroupEvent.{GroupCall, GroupEvent, AddGroup, Ca
 use Rattle.raft_group_step.specs.StoredGroup.{end_place}
 use Rattle.raft_group_step.specs.GroupStep.{group_step}
 use Rattle.raft_laws.specs.Stop.{token_of_call}
-use Rattle.raft_step_laws.specs.Tokens.{RiseFrom, TokensGo, TokensGoInOrder, WaitsInOrder, brought, is_due, leads_on, tokens_at}
+use Rattle.raft_step_laws.specs.Tokens.{RiseFrom, TokensGo, TokensGoInOrder, brought, is_due, leads_on, tokens_at}
 use Rattle.raft_step_laws.proofs.Telling.{tokens_go}
 
 rise_lower : (j k : ℕ) (xs : List Untold) → j ≤ k → RiseFrom k xs → RiseFrom j xs

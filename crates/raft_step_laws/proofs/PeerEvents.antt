@@ -436,3 +436,37 @@ leads_begin_anew own s e mine passed lead =
     (λ o. (step_unless o own s e).state.role ≡ Leader lead → keeps_its_lead s e (step_unless o own s e).state ≡ false → (n : ℕ) → peer_of lead n ≡ peer_after_sending (step_unless o own s e).messages (new_peer lead.began n))
     (sym passed)
     (λ is none. began_by own s e mine passed lead is none s.role refl)
+
+-- ---- the peers as the event's own part is over
+
+-- each is what came makes of it, or nothing is known of any
+pub data PeersThen (s : GroupState) (e : GroupEvent) (q : StepResult) (a : Lead) : Type 0 where
+  known : (lead : Lead) → s.role ≡ Leader lead → keeps_its_lead s e q.state ≡ true → ((n : ℕ) → peer_of a n ≡ peer_after_event s e (peer_of lead n)) → PeersThen s e q a
+  unknown : a.peers ≡ [] → PeersThen s e q a
+
+module _ (own : ℕ) (s : GroupState) (e : GroupEvent) (mine : HasItsOwnVote own s) (passed : refusal_of own s e ≡ None) (a : Lead) (is : (event_step own s e).state.role ≡ Leader a) where
+  abbrev part : StepResult
+  part = event_step own s e
+
+  of_outcome : (lead : Lead) → s.role ≡ Leader lead → Outcome s e lead part → PeersThen s e part a
+  of_outcome lead was (came c) =
+      let same : c.after ≡ a = same_lead c.after a (sym c.role ∙ is) in
+      known lead was c.keeps (λ n. ap (λ l. peer_of l n) (sym same) ∙ c.peers n)
+  of_outcome lead was (over f) = never (is_leader part.state.role) (ap is_leader is) f
+  of_outcome lead was (anew b f g k) = unknown (ap (λ (l : Lead). l.peers) (same_lead a b (sym is ∙ f)) ∙ g)
+
+  of_standing : is_leader s.role ≡ false → Standing own s e part → PeersThen s e part a
+  of_standing idle (stands_on f after none) = never (is_leader part.state.role) (ap is_leader is) (ap is_leader f ∙ idle)
+  of_standing idle (lacks granters f after counted few) = never (is_leader part.state.role) (ap is_leader is) (ap is_leader f)
+  of_standing idle (wins b f g) = unknown (ap (λ (l : Lead). l.peers) (same_lead a b (sym is ∙ f)) ∙ g)
+  of_standing idle (follows f none) = never (is_leader part.state.role) (ap is_leader is) (ap is_leader f)
+  of_standing idle (idles f no_candidate none) = never (is_leader part.state.role) (ap is_leader is) (ap is_leader f ∙ idle)
+  of_standing idle (leads_yet f g none) = never (is_leader s.role) f idle
+
+  of_role : (role : Role) → s.role ≡ role → PeersThen s e part a
+  of_role Follower f = of_standing (ap is_leader f) (event_stands own s e)
+  of_role (Candidate granters) f = of_standing (ap is_leader f) (event_stands own s e)
+  of_role (Leader lead) f = of_outcome lead f (event_comes own s lead f mine e passed)
+
+  pub peers_then : PeersThen s e part a
+  peers_then = of_role s.role refl

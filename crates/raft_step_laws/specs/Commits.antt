@@ -10,7 +10,7 @@ use Rattle.raft_group_step.specs.StepResult.{is_within}
 use Rattle.raft_group_step.specs.Lead.{configs_in_force, peer_of}
 use Rattle.raft_group_step.specs.Refusal.{refusal_of}
 use Rattle.raft_group_step.specs.GroupStep.{event_step, group_step}
-use Rattle.raft_step_laws.specs.Fitting.{FitsEvent, FitsStored, IsCommittedWithin}
+use Rattle.raft_step_laws.specs.Fitting.{ComesWithin, FitsEvent, FitsStored}
 use Rattle.raft_step_laws.specs.Tokens.{HasItsOwnVote, OpensWithNone, WaitsAbove, WaitsLeading}
 
 -- what was accepted reaches the place
@@ -38,7 +38,7 @@ CommitsAll own s lead =
 -- so it is after each event that isn't refused
 abbrev pub CommitsAtOnce : Type 0
 CommitsAtOnce =
-    (own : ℕ) (s : GroupState) (e : GroupEvent) → FitsStored s.stored → IsCommittedWithin s → FitsEvent e
+    (own : ℕ) (s : GroupState) (e : GroupEvent) → FitsStored s.stored → ComesWithin s e → FitsEvent e
     → refusal_of own s e ≡ None → PurgeKeepsVoters own s e
     → (lead : Lead) → (group_step own s e).state.role ≡ Leader lead
     → CommitsAll own (group_step own s e).state lead
@@ -53,7 +53,7 @@ NoneWaitsAccepted own s lead =
 -- so it is after each event that isn't refused, too: a token is told in the event that completes the quorum
 abbrev pub TokensAreToldAtOnce : Type 0
 TokensAreToldAtOnce =
-    (own : ℕ) (s : GroupState) (e : GroupEvent) → FitsStored s.stored → IsCommittedWithin s → FitsEvent e
+    (own : ℕ) (s : GroupState) (e : GroupEvent) → FitsStored s.stored → ComesWithin s e → FitsEvent e
     → HasItsOwnVote own s → WaitsLeading s → OpensWithNone s e → WaitsAbove s
     → refusal_of own s e ≡ None → PurgeKeepsVoters own s e
     → (lead : Lead) → (group_step own s e).state.role ≡ Leader lead

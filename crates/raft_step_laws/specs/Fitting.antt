@@ -69,6 +69,13 @@ FitsEvent (Call call now) = Unit {0}
 FitsEvent (Receive peer m now) = FitsBody m.body
 FitsEvent Open = Unit {0}
 
+-- and what is committed is within the log as a message comes
+abbrev pub ComesWithin : GroupState → GroupEvent → Type 0
+ComesWithin s AddGroup = Unit {0}
+ComesWithin s (Call call now) = Unit {0}
+ComesWithin s (Receive peer m now) = IsCommittedWithin s
+ComesWithin s Open = Unit {0}
+
 -- ---- what is stored
 
 -- at most 64 entries are put, at their places, inside the log or right behind it
@@ -104,5 +111,5 @@ pub record StepFits (s : GroupState) (r : StepResult) : Type 0 where
 
 abbrev pub StepsFit : Type 0
 StepsFit =
-    (own : ℕ) (s : GroupState) (e : GroupEvent) → FitsStored s.stored → IsCommittedWithin s → FitsEvent e
+    (own : ℕ) (s : GroupState) (e : GroupEvent) → FitsStored s.stored → ComesWithin s e → FitsEvent e
     → StepFits s (group_step own s e)

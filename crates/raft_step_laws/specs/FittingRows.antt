@@ -1,13 +1,14 @@
 -- Entries, requests and storing commands of worked rows.
-use Rattle.std.specs.Prelude.{ℕ, true, List, [], ◌∷◌, Option, Some, None, map}
+use Rattle.std.specs.Prelude.{ℕ, true, false, List, [], ◌∷◌, Option, Some, None, map}
 use Rattle.std.specs.List.{range_with_len}
 use Rattle.raft_values.specs.Vote.{vote_of}
 use Rattle.raft_values.specs.declared.log_id.LogId.{LogId}
 use Rattle.raft_values.specs.LogId.{log_id_of}
 use Rattle.raft_group_step.specs.Values.{Entry, Membership}
 use Rattle.raft_group_step.specs.StoredGroup.{Snapshot, StoredGroup}
-use Rattle.raft_group_step.specs.Message.{AppendFields, Numbered}
+use Rattle.raft_group_step.specs.Message.{AppendFields, Numbered, VoteRequest}
 use Rattle.raft_group_step.specs.GroupState.{GroupState, state_of}
+use Rattle.raft_group_step.specs.GroupEvent.{GroupEvent, Receive}
 use Rattle.raft_group_step.specs.StepExample.{blank_at, with_log}
 
 -- a membership with so many voter groups of one node
@@ -45,3 +46,8 @@ snapshot_of m =
       membership = Some (record { log_id = log_id_of 0 0 0; membership = m });
       «prefix» = [];
     }
+
+-- node 1 asks for a vote
+abbrev pub message_of_one : GroupEvent
+message_of_one =
+    Receive 1 (record { sender = 1; addressee = 2; body = VoteRequest (vote_of 1 1 false) None }) 0

@@ -4,10 +4,11 @@
 ghost use Rattle.std.specs.Prelude.{◌≡◌, [], ◌∷◌, ◌++◌, Some, None};
 ghost use Rattle.raft_values.specs.LogId.{log_id_of};
 ghost use Rattle.raft_state.specs.declared.entry.EntryPayload.TheVariants.{Membership as Members, Normal};
+ghost use Rattle.raft_group_step.specs.GroupEvent.{Open};
 ghost use Rattle.raft_group_step.specs.StoredGroup.{CutFrom, PutEntries, RemoveUpTo};
 ghost use Rattle.raft_group_step.specs.StepExample.{blank_at, with_log};
-ghost use Rattle.raft_step_laws.specs.Fitting.{AllFit, ArePlacedFrom, FitsPayload, FitsRequest, FitsSnapshot, FitsStored, FitsStoring, IsCommittedWithin, StepsFit};
-ghost use Rattle.raft_step_laws.specs.FittingRows.{behind_a_purge, blanks_from, committed_to, groups, request, snapshot_of};
+ghost use Rattle.raft_step_laws.specs.Fitting.{AllFit, ArePlacedFrom, ComesWithin, FitsPayload, FitsRequest, FitsSnapshot, FitsStored, FitsStoring, IsCommittedWithin, StepsFit};
+ghost use Rattle.raft_step_laws.specs.FittingRows.{behind_a_purge, blanks_from, committed_to, groups, message_of_one, request, snapshot_of};
 
 /// Where what a node has fits, and what comes to it, so does what a step stores and sends, and what is left of it at its end or
 /// after a stop. A command has at most 65,536 bytes, a membership is within its limits. A request has at most 64 entries, which
@@ -55,7 +56,8 @@ pub fn commands_that_fit()
     ensures out_of_turn { AllFit behind_a_purge (CutFrom 3 ∷ PutEntries 4 (blank_at 4 ∷ []) ∷ []) → ⊥ }
 {}
 
-/// The log's entries are at their places, and what is committed is neither purged nor past the log's end.
+/// The log's entries are at their places, and what is committed is neither purged nor past the log's end. A message is to
+/// find it so, an opening isn't.
 pub fn groups_that_fit()
     ensures placed { FitsStored behind_a_purge }
     ensures misplaced { FitsStored (with_log (blank_at 1 ∷ [])) → ⊥ }
@@ -66,4 +68,6 @@ pub fn groups_that_fit()
     ensures at_purge { IsCommittedWithin (committed_to (Some 1)) }
     ensures purged { IsCommittedWithin (committed_to (Some 0)) → ⊥ }
     ensures past_end { IsCommittedWithin (committed_to (Some 4)) → ⊥ }
+    ensures message { ComesWithin (committed_to (Some 0)) message_of_one → ⊥ }
+    ensures opening { ComesWithin (committed_to (Some 0)) Open }
 {}

@@ -50,6 +50,9 @@ pub fn steps_of_tokens()
     ensures early { TokensGo leader (Call Heartbeat 0) (answering None (waits 7 2 ∷ []) [] (waits 8 3 ∷ [])) → ⊥ }
     ensures late { TokensGo leader (Call Heartbeat 0) (answering (Some 2) [] [] (waits 7 2 ∷ waits 8 3 ∷ [])) → ⊥ }
     ensures forgotten { TokensGo leader (Call Heartbeat 0) (answering None [] [] (waits 8 3 ∷ [])) → ⊥ }
+    ensures lost { TokensGo leader (Call Heartbeat 0) (answering (Some 2) [] [] (waits 8 3 ∷ [])) → ⊥ }
+    ensures told_and_waits { let both = waits 7 2 ∷ waits 8 3 ∷ []
+        in TokensGo leader (Call Heartbeat 0) (answering None (waits 7 2 ∷ []) [] both) → ⊥ }
     ensures unknown { TokensGo leader (Call Heartbeat 0) (answering None [] (7 ∷ []) (waits 7 2 ∷ waits 8 3 ∷ [])) → ⊥ }
     ensures not_noted { TokensGo leader proposes (answering None [] [] (waits 7 2 ∷ waits 8 3 ∷ [])) → ⊥ }
     ensures given_up { TokensGo leader (Call Elect 0) (giving_up [] (7 ∷ 8 ∷ []) []) }

@@ -1,17 +1,13 @@
 //! A snapshot of a group.
 ghost use Rattle.std.specs.Prelude.{◌≡◌, IfOk};
 ghost use Rattle.std.specs.Option.{option_copied};
-ghost use Rattle.raft_stored_group.specs.Stored.{logged_or_none};
+ghost use Rattle.raft_messages.specs.Memberships.{logged_or_none, snapshot_of};
 
-use crate::copies::push_copies;
-use crate::memberships::{LoggedPair, copy_of_pair};
 use raft_group_step::LoggedMembership;
-use raft_state::{BasicNode, Bytes, Entry, LogId};
+use raft_messages::{GroupEntry, LoggedPair, SnapshotHead, copy_of_pair, push_copies};
+use raft_state::{BasicNode, LogId};
 use std::alloc::AllocError;
 use std::marker::Model;
-
-/// An entry of a group: node ids are numbers, nodes have addresses, commands are bytes (own).
-pub type GroupEntry = Entry<u64, BasicNode, Bytes>;
 
 /// A snapshot (own): the list of entries up to and with the one of a log id, and the last membership
 /// among them, with the log id of its entry.
@@ -67,6 +63,16 @@ impl GroupSnapshot {
         match &self.membership {
             Some(logged) => Some((logged.log_id, &logged.membership)),
             None => None,
+        }
+    }
+
+    /// What the snapshot covers, lent (own).
+    pub fn head(&self) -> SnapshotHead<'_>
+        ensures { snapshot_of result self.now.«prefix» ≡ self.now }
+    {
+        SnapshotHead {
+            last: self.last,
+            membership: self.logged_pair(),
         }
     }
 

@@ -2,7 +2,7 @@
 ghost use Rattle.std.specs.Prelude.{◌≡◌, ◌+◌, ◌-◌, ◌^◌, length, min, nat_lt, take, drop};
 ghost use Rattle.raft_values.specs.LogId.{next_place};
 
-use crate::group_snapshot::GroupEntry;
+use raft_messages::GroupEntry;
 use raft_state::LogId;
 
 // Whether the place is at the purge point or below it.

@@ -7,14 +7,14 @@ ghost use Rattle.raft_group_step.specs.Opening.{is_joined_to};
 ghost use Rattle.raft_group_step.specs.SnapshotTrigger.{snapshot_at};
 ghost use Rattle.raft_group_step.specs.StoredGroup.{end_place, entry_at, first_place, has_id_in_log, id_of};
 ghost use Rattle.raft_group_step.specs.StoredGroup.{last_id, membership_in_force, prefix_of, snapshot_last};
-ghost use Rattle.raft_stored_group.specs.Stored.{logged_or_none};
+ghost use Rattle.raft_messages.specs.Memberships.{logged_or_none};
 
-use crate::copies::{copies_of, push_up_to};
-use crate::group_snapshot::{GroupEntry, GroupSnapshot};
-use crate::memberships::{LoggedPair, copy_of_pair, last_membership};
+use crate::copies::push_up_to;
+use crate::group_snapshot::GroupSnapshot;
 use crate::places::{behind, is_purged, places_below, up_to};
 use crate::stored_group::StoredGroup;
 use raft_group_step::Entries;
+use raft_messages::{GroupEntry, LoggedPair, copies_of, copy_of_pair, last_membership};
 use raft_state::{BasicNode, Bytes, LogId, LogIdOptionExt, Vote};
 use std::alloc::AllocError;
 

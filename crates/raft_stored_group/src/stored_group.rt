@@ -3,9 +3,9 @@ ghost use Rattle.std.specs.Prelude.{◌≡◌, OnOk, OnErr};
 ghost use Rattle.raft_group_step.specs.GroupState.{no_group};
 ghost use Rattle.raft_group_step.specs.StoredGroup.{after_storing, CutFrom, MakeGroup, PutEntries, RemoveUpTo, SetSnapshot, SetVote, StartAfter};
 
-use crate::copies::push_copies;
-use crate::group_snapshot::{GroupEntry, GroupSnapshot};
+use crate::group_snapshot::GroupSnapshot;
 use crate::places::{count_up_to, places_below};
+use raft_messages::{GroupEntry, push_copies};
 use raft_state::{LogId, Vote};
 use std::alloc::{AllocError, Global};
 use std::marker::Model;

@@ -12,5 +12,6 @@ pub mod Framed
 pub mod Streams
 pub mod Fronts
 pub mod StreamProofs
+pub mod Feeders
 pub mod AnyCutting
 pub mod InOrder

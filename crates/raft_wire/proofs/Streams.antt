@@ -31,7 +31,7 @@ same_length held more h =
 abbrev no_length : Option ℕ
 no_length = None
 
-not_there : (n : ℕ) → no_length ≡ Some n → ⊥
+pub not_there : (n : ℕ) → no_length ≡ Some n → ⊥
 not_there n e = absurd cc
 
 module _ (s : List ℕ) where

@@ -1,6 +1,6 @@
 -- What stands at the front of a stream of frames, and what a feeder answers.
-use Rattle.std.specs.Prelude.{◌≡◌, ◌≤◌, ◌+◌, ℕ, Bool, true, false, List, [], ◌++◌, length, take, drop, nat_lt}
-use Rattle.std.specs.Prelude.{Option, Some, None, Result, Ok, Err, if◌then◌else◌}
+use Rattle.std.specs.Prelude.{◌≡◌, ◌≤◌, ◌<◌, ◌+◌, ℕ, Bool, true, false, List, [], ◌++◌, length, take, drop, get_or}
+use Rattle.std.specs.Prelude.{nat_lt, Option, Some, None, Result, Ok, Err, if◌then◌else◌}
 use Rattle.std.specs.Int.{w32, from_be_bytes}
 use Rattle.raft_wire.specs.declared.error.FrameFault.{FrameFault}
 use Rattle.raft_wire.specs.declared.error.FrameFault.TheVariants as fault
@@ -8,7 +8,11 @@ use Rattle.raft_wire.specs.declared.error.FrameError.{FrameError}
 use Rattle.raft_wire.specs.declared.error.FrameError.TheVariants as errors
 use Rattle.raft_wire.specs.declared.frame.Frame.{Frame}
 use Rattle.raft_wire.specs.Reader.{all_of}
-use Rattle.raft_wire.specs.Frames.{rest_at}
+use Rattle.raft_wire.specs.Frames.{rest_at, spelled_frame, FitsFrame}
+
+-- each item is a byte
+abbrev pub AreBytes : List ℕ → Type 0
+AreBytes bytes = (i : ℕ) → get_or bytes i 0 < 256
 
 -- a frame or the first fault, and how many bytes it takes
 abbrev pub Judged : Type 0
@@ -55,6 +59,26 @@ pub record Feeding : Type 0 where
   pub held : List ℕ
   pub failed : Bool
 
+-- how many bytes the frame at the front has, its length among them; only the length while that isn't there
+abbrev pub whole_of : Option ℕ → ℕ
+whole_of None = 4
+whole_of (Some n) = n + 4
+
+-- who holds nothing has memory for 64 KiB at most
+abbrev pub IsIdleSmall : List ℕ → ℕ → Type 0
+IsIdleSmall held room = held ≡ [] → room ≤ 65536
+
+-- a feeder: what it holds of a stream, and for how many bytes it has memory
+pub record FeederValue : Type 0 where
+  pub feeding : Feeding
+  pub room : ℕ
+
+-- what each feeder holds: bytes, among which neither a frame nor a fault can be found yet
+pub record HoldsRightly (held : List ℕ) (room : ℕ) : Type 0 where
+  pub bytes : AreBytes held
+  pub waits : front held ≡ None
+  pub idle : IsIdleSmall held room
+
 abbrev pub fresh : Feeding
 fresh = record { held = []; failed = false }
 
@@ -77,3 +101,9 @@ Answers old piece used (Err (errors.Fault why)) new =
     × (new ≡ stopped)
 Answers old piece used (Err errors.StreamFailed) new = (old.failed ≡ true) × (used ≡ 0) × (new ≡ old)
 Answers old piece used (Err errors.Memory) new = (old.failed ≡ false) × (used ≡ 0) × (new ≡ old)
+
+-- a frame that is answered is within its limits, and spelled as what was held and what is taken of the piece
+abbrev pub IsSpelledSo : List ℕ → List ℕ → ℕ → Result (Option Frame) FrameError → Type 0
+IsSpelledSo held piece used (Ok None) = Unit {0}
+IsSpelledSo held piece used (Ok (Some frame)) = FitsFrame frame × (held ++ take used piece ≡ spelled_frame frame)
+IsSpelledSo held piece used (Err why) = Unit {0}

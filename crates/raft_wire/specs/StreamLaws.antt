@@ -1,15 +1,11 @@
 -- Laws of what stands at the front of a stream.
-use Rattle.std.specs.Prelude.{◌≡◌, ◌<◌, ◌≤◌, ◌⊎◌, ◌+◌, ℕ, List, ◌++◌, length, take, get_or, Some, None, Ok, Err}
+use Rattle.std.specs.Prelude.{◌≡◌, ◌<◌, ◌≤◌, ◌⊎◌, ◌+◌, ℕ, List, ◌++◌, length, take, Some, None, Ok, Err}
 use Rattle.raft_wire.specs.declared.error.FrameFault.{FrameFault}
 use Rattle.raft_wire.specs.declared.frame.Frame.{Frame}
 use Rattle.raft_wire.specs.Values.{Entry}
 use Rattle.raft_wire.specs.Entries.{spelled_entry, FitsEntry}
 use Rattle.raft_wire.specs.Frames.{spelled_rest, spelled_frame, FitsFrame}
-use Rattle.raft_wire.specs.Stream.{Judged, length_in, fault_of_length, front}
-
--- each item is a byte
-abbrev pub AreBytes : List ℕ → Type 0
-AreBytes bytes = (i : ℕ) → get_or bytes i 0 < 256
+use Rattle.raft_wire.specs.Stream.{AreBytes, Judged, length_in, fault_of_length, front}
 
 -- a frame that stands at the front is spelled so, each byte of it
 abbrev pub FoundIsSpelled : Type 0

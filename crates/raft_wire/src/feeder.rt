@@ -1,15 +1,16 @@
 //! Frames out of a stream that comes in pieces.
-ghost use Rattle.std.specs.Prelude.{◌≡◌, ◌≢◌, ◌≤◌, ◌<◌, ◌+◌, ◌++◌, ℕ, List, [], Some, None, Ok, Err, take, drop, get_or, length};
+ghost use Rattle.std.specs.Prelude.{◌≡◌, ◌≤◌, ◌<◌, ◌+◌, ◌*◌, ◌++◌, ℕ, List, [], Some, None, Ok, Err, OnOk, OnErr};
+ghost use Rattle.std.specs.Prelude.{take, drop, get_or, length, min, max, vec_len, vec_capacity};
 ghost use Rattle.raft_wire.specs.Reader.{Gives, all_of};
 ghost use Rattle.raft_wire.specs.Frames.{rest_at};
-ghost use Rattle.raft_wire.specs.Stream.{length_in, fault_of_length, front};
-ghost use Rattle.raft_wire.specs.Stream.{fresh, Answers};
+ghost use Rattle.raft_wire.specs.Stream.{length_in, fault_of_length, front, whole_of};
+ghost use Rattle.raft_wire.specs.Stream.{fresh, Answers, IsSpelledSo, IsIdleSmall, HoldsRightly};
 ghost use Rattle.raft_wire.specs.Wanted.{IsWanted, HeldAfter, Takes, IfFrame};
 
 use crate::error::{FrameError, FrameFault};
 use crate::frame::Frame;
 use crate::reading::frame_of;
-use std::alloc::Global;
+use std::alloc::{AllocError, Global};
 use std::marker::Model;
 
 /// Behind its length a frame has at least so many bytes.
@@ -18,13 +19,16 @@ pub const MIN_FRAME_LEN: u32 = 25;
 /// Behind its length a frame has at most so many bytes.
 pub const MAX_FRAME_LEN: u32 = 17_825_788;
 
+/// A feeder that holds nothing has memory for at most so many bytes.
+pub const MAX_IDLE_ROOM: usize = 65_536;
+
 /// The length of a frame takes so many bytes.
 const LENGTH_LEN: usize = 4;
 
 // What a piece brings to the bytes that are held.
 enum Wanted {
-    // No frame is whole yet.
-    More,
+    // No frame is whole yet. The next to be whole has so many bytes: a frame, or its length.
+    More(usize),
     // The length is wrong, and ends behind so many bytes of the piece.
     Fault(FrameFault, usize),
     // A frame ends behind so many bytes of the piece.
@@ -78,9 +82,10 @@ fn frame_brought(held: &[u8], piece: &[u8], len: u32) -> Wanted
     requires right { fault_of_length len ≡ None }
     ensures { IsWanted held.now piece.now result }
 {
-    let used = LENGTH_LEN + len as usize - held.len();
+    let whole = LENGTH_LEN + len as usize;
+    let used = whole - held.len();
     if piece.len() < used {
-        return Wanted::More;
+        return Wanted::More(whole);
     }
     Wanted::Frame(used)
 }
@@ -91,7 +96,7 @@ fn brought_by(held: &[u8], piece: &[u8]) -> Wanted
     ensures { IsWanted held.now piece.now result }
 {
     match length_of(held, piece) {
-        None => Wanted::More,
+        None => Wanted::More(LENGTH_LEN),
         Some(len) => match fault_of_length(len) {
             Some(fault) => Wanted::Fault(fault, LENGTH_LEN - held.len()),
             None => frame_brought(held, piece, len),
@@ -99,11 +104,84 @@ fn brought_by(held: &[u8], piece: &[u8]) -> Wanted
     }
 }
 
+// ---- memory
+
+// For how many bytes memory is taken where so many are needed, of so many in the end. It follows what
+// has come, since a length alone is soon sent. A step goes at most from a quarter to the whole, or from
+// what an idle feeder has: the old block and the new one together are at most that much more.
+fn room_for(needed: usize, whole: usize) -> usize
+    requires needed { needed ≤ whole }
+    requires whole { whole ≤ 17825792 }
+    ensures enough { needed ≤ result }
+    ensures within { result ≤ max 65536 (min (4 * needed) whole) }
+{
+    if whole <= MAX_IDLE_ROOM || whole <= 4 * needed {
+        return whole;
+    }
+    if whole <= 16 * needed {
+        return whole / 4;
+    }
+    if needed <= MAX_IDLE_ROOM / 4 {
+        return MAX_IDLE_ROOM;
+    }
+    4 * needed
+}
+
+// Makes room for so many more bytes, of so many in the end.
+fn make_room(held: &mut Vec<u8>, more: usize, whole: usize) -> Result<(), AllocError>
+    requires more { vec_len held.old + more ≤ whole }
+    requires whole { whole ≤ 17825792 }
+    ensures items { held.new.items ≡ held.old.items }
+    ensures len { vec_len held.new ≡ vec_len held.old }
+    ensures room { OnOk result (vec_len held.new + more ≤ vec_capacity held.new) }
+    ensures same { OnErr result (vec_capacity held.new ≡ vec_capacity held.old) }
+    ensures within { vec_capacity held.new
+        ≤ max (vec_capacity held.old) (max 65536 (min (4 * (vec_len held.old + more)) whole)) }
+{
+    if more <= held.capacity() - held.len() {
+        return Ok(());
+    }
+    let needed = held.len() + more;
+    held.reserve_exact(room_for(needed, whole) - held.len())
+}
+
+// Holds the piece too, of so many bytes in the end.
+fn hold(held: &mut Vec<u8>, piece: &[u8], whole: usize) -> Result<(), AllocError>
+    requires more { length (held.old.items ++ piece.now) ≤ whole }
+    requires whole { whole ≤ 17825792 }
+    requires idle { IsIdleSmall held.old.items (vec_capacity held.old) }
+    ensures ok { OnOk result (held.new.items ≡ held.old.items ++ piece.now) }
+    ensures err { OnErr result (held.new.items ≡ held.old.items) }
+    ensures idle { IsIdleSmall held.new.items (vec_capacity held.new) }
+{
+    if piece.is_empty() {
+        return Ok(());
+    }
+    make_room(held, piece.len(), whole)?;
+    held.extend_from_slice(piece)
+}
+
+// Holds nothing more, and gives back memory past what an idle feeder has.
+fn let_go(held: &mut Vec<u8>)
+    ensures items { held.new.items ≡ [] }
+    ensures room { vec_capacity held.new ≤ 65536 }
+{
+    held.clear();
+    if MAX_IDLE_ROOM < held.capacity() {
+        held.shrink_to_fit();
+    }
+}
+
+// ---- frames
+
 // Reads the frame that is held and these bytes, of which the first four are its length.
 fn read_held(held: &mut Vec<u8>, bytes: &[u8]) -> Result<Frame, FrameError>
-    requires { 4 ≤ length (held.old.items ++ bytes.now) }
+    requires length { 4 ≤ length (held.old.items ++ bytes.now) }
+    requires whole { length (held.old.items ++ bytes.now) ≤ 17825792 }
+    requires idle { IsIdleSmall held.old.items (vec_capacity held.old) }
     ensures held { HeldAfter held.old.items result held.new.items }
     ensures read { Gives (λ x. x) result (all_of rest_at (drop 4 (held.old.items ++ bytes.now))) }
+    ensures idle { IsIdleSmall held.new.items (vec_capacity held.new) }
     // Where nothing is held the bytes are read where they are.
     ensures in_place { held.old.items ≡ [] → held.new ≡ held.old }
 {
@@ -112,11 +190,14 @@ fn read_held(held: &mut Vec<u8>, bytes: &[u8]) -> Result<Frame, FrameError>
         return frame_of(alloc, &bytes[LENGTH_LEN..]);
     }
     let before = held.len();
-    held.extend_from_slice(bytes)?;
+    hold(held, bytes, before + bytes.len())?;
     let read = frame_of(alloc, &held[LENGTH_LEN..]);
     match read {
-        Err(FrameError::Memory) => held.truncate(before),
-        _ => held.clear(),
+        Err(FrameError::Memory) => {
+            held.truncate(before);
+            held.shrink_to_fit();
+        }
+        _ => let_go(held),
     }
     read
 }
@@ -130,8 +211,13 @@ pub struct Fed {
     pub frame: Result<Option<Frame>, FrameError>,
 }
 
-/// Takes a stream piece by piece, and gives its frames one by one (own). Contracts see the bytes that
-/// it holds of a frame that isn't whole yet, and whether the stream has failed.
+/// Takes a stream piece by piece, and gives its frames one by one (own).
+///
+/// It holds the bytes of one frame that isn't whole yet, at most `MAX_FRAME_LEN` + 3, and whether the
+/// stream has failed. While it holds nothing it has memory for at most `MAX_IDLE_ROOM` bytes. While it
+/// holds some it has taken memory for four times as many at most, or for `MAX_IDLE_ROOM`, and never
+/// for more than the frame needs. Contracts see what it holds, whether the stream has failed, and for
+/// how many bytes it has memory. Its errors are those of `feed`.
 #[derive(Drop)]
 pub struct Feeder {
     held: Vec<u8>,
@@ -139,24 +225,26 @@ pub struct Feeder {
 }
 
 impl Model for Feeder {
-    ghost use Rattle.std.specs.Prelude.{◌≡◌, None};
-    ghost use Rattle.raft_wire.specs.Stream.{Feeding, front};
+    ghost use Rattle.std.specs.Prelude.{vec_capacity};
+    ghost use Rattle.raft_wire.specs.Stream.{FeederValue, HoldsRightly};
 
-    ghost Value = { Feeding };
+    ghost Value = { FeederValue };
 
-    ghost view = { λ a. record { held = a.held.items; failed = a.failed } };
+    ghost view = { λ a. record { feeding = record { held = a.held.items; failed = a.failed }; room = vec_capacity a.held } };
 
-    ghost invariant = { λ a. front a.held.items ≡ None };
+    ghost invariant = { λ a. HoldsRightly a.held.items (vec_capacity a.held) };
 }
 
 // What feeding a piece answers and leaves held, where the stream hasn't failed.
 fn take_piece(held: &mut Vec<u8>, piece: &[u8]) -> Fed
-    requires { front held.old.items ≡ None }
+    requires waits { front held.old.items ≡ None }
+    requires idle { IsIdleSmall held.old.items (vec_capacity held.old) }
     ensures taken { Takes held.old.items piece.now result.used result.frame held.new.items }
+    ensures idle { IsIdleSmall held.new.items (vec_capacity held.new) }
     ensures in_place { held.old.items ≡ [] → IfFrame result.frame (held.new ≡ held.old) }
 {
     match brought_by(held.as_slice(), piece) {
-        Wanted::More => match held.extend_from_slice(piece) {
+        Wanted::More(whole) => match hold(held, piece, whole) {
             Ok(()) => Fed {
                 used: piece.len(),
                 frame: Ok(None),
@@ -167,7 +255,7 @@ fn take_piece(held: &mut Vec<u8>, piece: &[u8]) -> Fed
             },
         },
         Wanted::Fault(fault, used) => {
-            held.clear();
+            let_go(held);
             Fed {
                 used,
                 frame: Err(FrameError::Fault(fault)),
@@ -183,7 +271,10 @@ fn take_frame(held: &mut Vec<u8>, piece: &[u8], used: usize) -> Fed
     requires frame { front (held.old.items ++ piece.now) ≡ Some (all_of rest_at (drop 4 (held.old.items ++ take used piece.now)), length held.old.items + used) }
     requires within { used ≤ length piece.now }
     requires length { 4 ≤ length (held.old.items ++ take used piece.now) }
+    requires whole { length (held.old.items ++ take used piece.now) ≤ 17825792 }
+    requires idle { IsIdleSmall held.old.items (vec_capacity held.old) }
     ensures taken { Takes held.old.items piece.now result.used result.frame held.new.items }
+    ensures idle { IsIdleSmall held.new.items (vec_capacity held.new) }
     ensures in_place { held.old.items ≡ [] → held.new ≡ held.old }
 {
     match read_held(held, &piece[..used]) {
@@ -205,7 +296,7 @@ fn take_frame(held: &mut Vec<u8>, piece: &[u8], used: usize) -> Fed
 impl Feeder {
     /// A feeder at the beginning of a stream. Takes no memory.
     pub fn new(alloc: Global) -> Feeder
-        ensures { result ≡ fresh }
+        ensures { result ≡ record { feeding = fresh; room = 0 } }
     {
         Feeder {
             held: Vec::new(alloc),
@@ -217,10 +308,13 @@ impl Feeder {
     /// frame; where none is whole, it takes the piece and answers none. The first fault of a frame is
     /// answered (`Fault`) once the frame is whole, or once its length is there and wrong; from then on
     /// each piece is answered by `StreamFailed`, until `reset`. Without memory (`Memory`) nothing of
-    /// the piece is taken and the feeder is as before. It never holds a whole frame, and a frame that
-    /// lies whole in the piece is read there.
+    /// the piece is taken and the feeder holds what it held before. It never holds a whole frame, and a
+    /// frame that lies whole in the piece is read there.
     pub fn feed(&mut self, piece: &[u8]) -> Fed
-        ensures { Answers self.old piece.now result.used result.frame self.new }
+        ensures answers { Answers self.old.feeding piece.now result.used result.frame self.new.feeding }
+        ensures spelled { IsSpelledSo self.old.feeding.held piece.now result.used result.frame }
+        ensures holds { HoldsRightly self.new.feeding.held self.new.room }
+        ensures in_place { self.old.feeding.held ≡ [] → IfFrame result.frame (self.new.room ≡ self.old.room) }
     {
         if self.failed {
             return Fed {
@@ -237,16 +331,25 @@ impl Feeder {
 
     /// Whether the stream has failed.
     pub fn failed(&self) -> bool
-        ensures { result ≡ self.now.failed }
+        ensures { result ≡ self.now.feeding.failed }
     {
         self.failed
     }
 
+    /// For how many bytes the feeder has memory.
+    pub fn room(&self) -> usize
+        ensures room { result ≡ self.now.room }
+        ensures holds { HoldsRightly self.now.feeding.held self.now.room }
+    {
+        self.held.capacity()
+    }
+
     /// Begins a new stream.
     pub fn reset(&mut self)
-        ensures { self.new ≡ fresh }
+        ensures fresh { self.new.feeding ≡ fresh }
+        ensures room { self.new.room ≤ 65536 }
     {
-        self.held.clear();
+        let_go(&mut self.held);
         self.failed = false;
     }
 }

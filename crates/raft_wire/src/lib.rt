@@ -9,11 +9,12 @@ mod frame;
 mod laws;
 mod memberships;
 mod reading;
+mod snapshots;
 mod writing;
 
 pub use entries::{MAX_COMMAND_LEN, WireEntry, WirePayload, read_entry, write_entry};
 pub use error::{FrameError, FrameFault};
-pub use feeder::{Fed, Feeder, MAX_FRAME_LEN, MIN_FRAME_LEN};
+pub use feeder::{Fed, Feeder, MAX_FRAME_LEN, MAX_IDLE_ROOM, MIN_FRAME_LEN};
 pub use frame::{
     AppendFrame, AppendId, AppendReplyFrame, AppendResult, Frame, FrameBody, FrameKind,
     SnapshotFrame, SnapshotReplyFrame, SnapshotResult,
@@ -26,4 +27,5 @@ pub use laws::{
 pub use memberships::{MAX_ADDRESS_LEN, MAX_GROUPS, MAX_NODES, MAX_VOTERS, is_within_limits};
 pub use raft_group_step::SnapshotMeta;
 pub use reading::{MAX_ENTRIES, MAX_SNAPSHOT_LEN, WireSnapshot};
+pub use snapshots::{read_snapshot_body, write_snapshot_body};
 pub use writing::write_frame;

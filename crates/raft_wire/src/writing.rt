@@ -161,7 +161,7 @@ fn put_last_membership(
     }
 }
 
-fn put_snapshot(
+pub(crate) fn put_snapshot(
     out: &mut Vec<u8>,
     meta: &SnapshotMeta<u64, BasicNode>,
     bytes: &Bytes,
@@ -269,7 +269,10 @@ fn is_logged_short(logged: &Option<LoggedMembership<u64, BasicNode>>) -> bool
     }
 }
 
-fn fault_of_snapshot(meta: &SnapshotMeta<u64, BasicNode>, bytes: &Bytes) -> Option<FrameFault>
+pub(crate) fn fault_of_snapshot(
+    meta: &SnapshotMeta<u64, BasicNode>,
+    bytes: &Bytes,
+) -> Option<FrameFault>
     ensures { result ≡ fault_of_snapshot meta.now.last_membership bytes.now }
 {
     if is_logged_short(&meta.last_membership) && bytes.len() <= MAX_SNAPSHOT_LEN as usize {

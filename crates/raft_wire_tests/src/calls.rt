@@ -1,7 +1,10 @@
 //! The calls, each behind a function without clauses: a proof that carries the clauses of several
 //! calls takes long.
 
-use raft_wire::{Fed, Feeder, Frame, FrameError, WireEntry, read_entry, write_entry, write_frame};
+use raft_wire::{
+    Fed, Feeder, Frame, FrameError, WireEntry, WireSnapshot, read_entry, read_snapshot_body,
+    write_entry, write_frame, write_snapshot_body,
+};
 use std::alloc::Global;
 
 pub fn new_feeder(alloc: Global) -> Feeder {
@@ -14,6 +17,10 @@ pub fn feed(feeder: &mut Feeder, piece: &[u8]) -> Fed {
 
 pub fn has_failed(feeder: &Feeder) -> bool {
     feeder.failed()
+}
+
+pub fn room_of(feeder: &Feeder) -> usize {
+    feeder.room()
 }
 
 pub fn reset(feeder: &mut Feeder) {
@@ -30,6 +37,15 @@ pub fn written_entry(alloc: Global, entry: &WireEntry) -> Result<Vec<u8>, FrameE
 
 pub fn entry_of(alloc: Global, bytes: &[u8]) -> Result<WireEntry, FrameError> {
     read_entry(alloc, bytes)
+}
+
+pub fn written_snapshot(alloc: Global, snapshot: &WireSnapshot) -> Result<Vec<u8>, FrameError> {
+    let (meta, bytes) = snapshot;
+    write_snapshot_body(alloc, meta, bytes)
+}
+
+pub fn snapshot_of(alloc: Global, bytes: &[u8]) -> Result<WireSnapshot, FrameError> {
+    read_snapshot_body(alloc, bytes)
 }
 
 /// What a new feeder makes of a stream in one piece.

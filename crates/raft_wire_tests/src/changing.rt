@@ -2,6 +2,7 @@
 
 use crate::calls::{are, fed_at_once, written};
 use crate::entries::found_entry;
+use crate::snapshots::found_snapshot;
 use raft_rows::{Answer, number};
 use raft_wire::Fed;
 use std::alloc::{AllocError, Global};
@@ -11,6 +12,7 @@ use std::alloc::{AllocError, Global};
 enum Kind {
     Frame,
     Entry,
+    Snapshot,
 }
 
 /// What a feeder found at the front of a stream, and how many bytes a frame has. A frame is written
@@ -35,6 +37,7 @@ fn found(alloc: Global, kind: Kind, bytes: &[u8]) -> (&'static str, usize) {
     match kind {
         Kind::Frame => found_frame(alloc, bytes),
         Kind::Entry => (found_entry(alloc, bytes), 0),
+        Kind::Snapshot => (found_snapshot(alloc, bytes), 0),
     }
 }
 
@@ -90,12 +93,12 @@ fn cut(alloc: Global, frame: &[u8], len: usize) -> Result<String, AllocError> {
     Ok(text)
 }
 
-/// What is found in each front of the bytes of an entry: from which length on.
-fn each_front(alloc: Global, entry: &[u8]) -> Result<String, AllocError> {
+/// What is found in each front of the bytes: from which length on.
+fn each_front(alloc: Global, kind: Kind, bytes: &[u8]) -> Result<String, AllocError> {
     let mut text = String::new(alloc);
     let mut last = ("", 0);
-    for len in 0..entry.len() {
-        let front = found(alloc, Kind::Entry, &entry[..len]);
+    for len in 0..bytes.len() {
+        let front = found(alloc, kind, &bytes[..len]);
         put(&mut text, &mut last, len, front)?;
     }
     Ok(text)
@@ -107,7 +110,11 @@ pub fn changed(bytes: &[u8], alloc: Global, words: &[&str]) -> Option<Answer> {
         ["frame-with", at] => each_value(alloc, Kind::Frame, bytes, number(at) as usize),
         ["frame-cut", len] => cut(alloc, bytes, number(len) as usize),
         ["entry-with", at] => each_value(alloc, Kind::Entry, bytes, number(at) as usize),
-        ["entry-fronts"] => each_front(alloc, bytes),
+        ["entry-fronts"] => each_front(alloc, Kind::Entry, bytes),
+        ["snapshot-body-with", at] => {
+            each_value(alloc, Kind::Snapshot, bytes, number(at) as usize)
+        }
+        ["snapshot-body-fronts"] => each_front(alloc, Kind::Snapshot, bytes),
         _ => return None,
     };
     Some(match text {

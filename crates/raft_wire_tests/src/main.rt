@@ -8,7 +8,9 @@ mod changing;
 mod cutting;
 mod entries;
 mod frames;
+mod rooms;
 mod rows;
+mod snapshots;
 
 use raft_rows::run;
 use rows::Calls;

@@ -5,6 +5,8 @@ use crate::changing::changed;
 use crate::cutting::pieced;
 use crate::entries::stored;
 use crate::frames::{framed, streamed};
+use crate::rooms::roomy;
+use crate::snapshots::kept;
 use raft_rows::{Answer, Rows, bytes};
 use raft_wire::Feeder;
 use std::alloc::{AllocError, Global};
@@ -43,7 +45,13 @@ impl Calls {
         if let Some(answer) = stored(&self.bytes, alloc, words) {
             return Some(answer);
         }
+        if let Some(answer) = kept(&self.bytes, alloc, words) {
+            return Some(answer);
+        }
         if let Some(answer) = changed(&self.bytes, alloc, words) {
+            return Some(answer);
+        }
+        if let Some(answer) = roomy(&self.bytes, alloc, words) {
             return Some(answer);
         }
         pieced(&self.bytes, &self.all, alloc, words)

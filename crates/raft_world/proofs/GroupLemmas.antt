@@ -10,7 +10,7 @@ use Rattle.raft_group_step.specs.GroupState.{GroupState, no_group, state_of}
 use Rattle.raft_laws.specs.declared.world_event.WorldEvent.{WorldEvent}
 use Rattle.raft_laws.specs.declared.world_event.WorldEvent.TheVariants.{Add}
 use Rattle.raft_group_step.specs.GroupEvent.{AddGroup, Open}
-use Rattle.raft_executor.specs.Sent.{message_of}
+use Rattle.raft_messages.specs.Messages.{message_of}
 use Rattle.raft_settled.specs.World.{led_of}
 use Rattle.raft_laws.specs.NodeEvent.{NodeEvent, Comes, Crashes, Halts, Restarts, outcome_at, state_after}
 use Rattle.raft_laws.specs.GroupWorld.{GroupWorld, NodeState, Absent, Up, Down, Outcome, Done, Refused, Stopped, Skipped, Recorded, is_stop, new_world, state_or}

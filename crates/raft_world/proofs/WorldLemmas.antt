@@ -16,8 +16,9 @@ use Rattle.raft_group_step.specs.Refusal.{refusal_of}
 use Rattle.raft_group_step.specs.StepResult.{RefusalReason, tokens_of}
 use Rattle.raft_conditions.specs.Reason.{reason_of}
 use Rattle.raft_conditions.specs.declared.refusal.Refusal.{Refusal}
-use Rattle.raft_executor.specs.Sent.{message_of}
-use Rattle.raft_executor.specs.declared.message.Message.{Message as SentMessage}
+use Rattle.raft_messages.specs.Messages.{message_of}
+use Rattle.raft_group_step.specs.StoredGroup.{Snapshot}
+use Rattle.raft_messages.specs.declared.message.Message.{Message as SentMessage}
 use Rattle.raft_laws.specs.declared.world_event.WorldEvent.{WorldEvent}
 use Rattle.raft_laws.specs.declared.world_event.WorldEvent.TheVariants.{Add, Ask, Deliver, Crash, Halt, Restart}
 use Rattle.raft_laws.specs.GroupWorld.{GroupWorld, NodeState, Absent, Up, Down, Outcome, Done, Refused, Stopped, Skipped, is_stop, with_node_state}
@@ -237,7 +238,7 @@ module _ (w : World) (g : GroupWorld) (e : WorldEvent) (n : ℕ) (o : Outcome) (
     subst (λ (x : Outcome). IsWorldOf new (ended g e x n state)) (sym is)
         (record {
           nodes = subst (λ (v : Vec Member Global). AreNodes v.items (with_node_state n state g.nodes)) (sym members) h.nodes;
-          messages = ap (λ (v : Vec SentMessage Global). map message_of v.items) messages ∙ h.messages ∙ sym (append-nil g.messages);
+          messages = ap (λ (v : Vec (SentMessage Snapshot) Global). map message_of v.items) messages ∙ h.messages ∙ sym (append-nil g.messages);
           setup = setup ∙ h.setup ∙ sym (setup_refused g.setup e (reason_of refusal));
           led = led ∙ ap (λ l. l ++ led_by n state) h.led;
         }),
@@ -256,7 +257,7 @@ module _ (w : World) (g : GroupWorld) (e : WorldEvent) (n : ℕ) (o : Outcome) (
   pub cut_refused : (new : World) (why : RefusalReason) → o ≡ Refused why → IsWorldBut new g n (down_of state) → IsCut new g e n state o
   cut_refused new why is cut = subst (IsCut new g e n state) (sym is) cut
 
-  pub concluded_done : (new : World) (setup : Option Membership) (sent : Vec SentMessage Global) → IsEndOf (end_of.Done sent) o → setup ≡ first_setup g.setup e
+  pub concluded_done : (new : World) (setup : Option Membership) (sent : Vec (SentMessage Snapshot) Global) → IsEndOf (end_of.Done sent) o → setup ≡ first_setup g.setup e
       → new.members ≡ w.members → new.setup ≡ set_up_with setup w.setup → new.messages.items ≡ w.messages.items ++ sent.items → map led_of new.led.items ≡ map led_of w.led.items ++ led_by n state
       → IsWorldOf new (ended g e o n state) × IsMarkOf mark.Done o
   concluded_done new setup sent is first members sets messages led = (
@@ -271,7 +272,7 @@ module _ (w : World) (g : GroupWorld) (e : WorldEvent) (n : ℕ) (o : Outcome) (
   )
 
   -- it is done, and the node goes down before it sends: it stopped after all that it stores
-  pub cut_done : (new : World) (setup : Option Membership) (sent : Vec SentMessage Global) → IsEndOf (end_of.Done sent) o → setup ≡ first_setup g.setup e
+  pub cut_done : (new : World) (setup : Option Membership) (sent : Vec (SentMessage Snapshot) Global) → IsEndOf (end_of.Done sent) o → setup ≡ first_setup g.setup e
       → IsWorldBut new (record g { setup = set_up_with setup g.setup }) n (down_of state) → IsCut new g e n state o
   cut_done new setup sent is first cut =
       subst (IsCut new g e n state) (sym is.2)
@@ -506,7 +507,7 @@ pub scene_refused : (g : GroupWorld) (w : World) (b : Bool) (n : ℕ) (call : Gr
 scene_refused g w b n call now h is other =
     ap (λ x. scene_of_call x n call now) (ap (λ o. is_same_setup o (setup_in_call call)) (sym h.setup) ∙ sym is ∙ other)
 
-pub scene_delivered : (g : GroupWorld) (w : World) (number now : ℕ) (m : SentMessage) → IsWorldOf w g → slice_get w.messages.items number ≡ Some m
+pub scene_delivered : (g : GroupWorld) (w : World) (number now : ℕ) (m : SentMessage Snapshot) → IsWorldOf w g → slice_get w.messages.items number ≡ Some m
     → scene_of g (Deliver number now) ≡ At m.addressee (Comes (Receive m.sender (message_of m) now))
 scene_delivered g w number now m h is =
     ap (λ o. scene_of_delivery o now)

@@ -3,8 +3,9 @@ use Rattle.std.specs.Prelude.{◌≡◌, ℕ, true, List, ◌++◌, map, Option,
 use Rattle.raft_conditions.specs.Reason.{reason_of}
 use Rattle.raft_group_step.specs.GroupState.{Untold}
 use Rattle.raft_group_step.specs.Values.{Membership}
-use Rattle.raft_executor.specs.Sent.{message_of}
-use Rattle.raft_executor.specs.declared.message.Message.{Message as SentMessage}
+use Rattle.raft_messages.specs.Messages.{message_of}
+use Rattle.raft_group_step.specs.StoredGroup.{Snapshot}
+use Rattle.raft_messages.specs.declared.message.Message.{Message as SentMessage}
 use Rattle.raft_laws.specs.GroupWorld.{GroupWorld, NodeState, Absent, Up, Down, Outcome, Done, Refused, Stopped, Skipped, is_stop, with_node_state}
 use Rattle.raft_laws.specs.GroupRun.{ended, led_by, stop_at, setup_in}
 use Rattle.raft_laws.specs.NodeEvent.{NodeEvent, outcome_at, state_after}
@@ -78,6 +79,6 @@ HasConcluded g e n state o w (Ok mark) = IsWorldOf w (ended g e o n state) × Is
 HasConcluded g e n state o w (Err met) = IsCut w g e n state o
 
 -- the messages and the note of an event stand behind the others
-pub record IsSent (old new : World) (n : ℕ) (state : NodeState) (sent : List SentMessage) : Type 0 where
+pub record IsSent (old new : World) (n : ℕ) (state : NodeState) (sent : List (SentMessage Snapshot)) : Type 0 where
   pub messages : new.messages.items ≡ old.messages.items ++ sent
   pub led : map led_of new.led.items ≡ map led_of old.led.items ++ led_by n state

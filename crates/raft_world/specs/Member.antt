@@ -12,7 +12,7 @@ use Rattle.raft_conditions.specs.Reason.{reason_of}
 use Rattle.raft_engine.specs.Building.{is_building}
 use Rattle.raft_engine.specs.Events.{IsReady}
 use Rattle.raft_engine.specs.Standing.{Engine as EngineOf, IsStateOf}
-use Rattle.raft_executor.specs.Sent.{message_of}
+use Rattle.raft_messages.specs.Messages.{message_of}
 use Rattle.raft_laws.specs.GroupWorld.{NodeState, Absent, Up, Down}
 use Rattle.raft_laws.specs.Stop.{stopped_after}
 use Rattle.raft_world.specs.declared.member.ByteGroup.{ByteGroup}

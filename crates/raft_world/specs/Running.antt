@@ -5,7 +5,7 @@ use Rattle.raft_group_step.specs.GroupState.{GroupState}
 use Rattle.raft_group_step.specs.GroupEvent.{GroupEvent}
 use Rattle.raft_group_step.specs.StepResult.{StepResult}
 use Rattle.raft_engine.specs.Standing.{Given, IsWholeStepOf}
-use Rattle.raft_executor.specs.Sent.{message_of}
+use Rattle.raft_messages.specs.Messages.{message_of}
 use Rattle.raft_executor.specs.Stored.{IsGiven, queue_has_snapshot}
 use Rattle.raft_laws.specs.Stop.{stopped_after}
 use Rattle.raft_world.specs.Member.{Engine, HasEnded, IsDown, IsUp}

@@ -6,7 +6,7 @@ use Rattle.raft_group_step.specs.GroupState.{state_of}
 use Rattle.raft_group_step.specs.GroupEvent.{Open}
 use Rattle.raft_group_step.specs.GroupStep.{group_step}
 use Rattle.raft_conditions.specs.Reason.{reason_of}
-use Rattle.raft_executor.specs.Sent.{message_of}
+use Rattle.raft_messages.specs.Messages.{message_of}
 use Rattle.raft_laws.specs.declared.world_event.WorldEvent.{WorldEvent}
 use Rattle.raft_laws.specs.declared.world_event.WorldEvent.TheVariants.{Add, Ask, Deliver, Crash, Halt, Restart}
 use Rattle.raft_laws.specs.BallotLists.{AgreeBelow}

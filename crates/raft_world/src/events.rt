@@ -15,7 +15,7 @@ use crate::member::{Broken, Ended, Member};
 use crate::places::place_of;
 use crate::world::{Mark, PlannedEvent, World};
 use raft_conditions::GroupCommand;
-use raft_executor::Message;
+use raft_executor::GroupMessage;
 use raft_group_step::GroupCall;
 use raft_laws::world_event::WorldEvent;
 use raft_settled::note;
@@ -76,7 +76,7 @@ impl World {
 
     // What the member sent goes behind the other messages, and it is noted that it leads, where it
     // does. Without memory neither is.
-    fn send(&mut self, place: usize, sent: Vec<Message>) -> Result<(), AllocError>
+    fn send(&mut self, place: usize, sent: Vec<GroupMessage>) -> Result<(), AllocError>
         requires { place < vec_len self.old.members }
         ensures members { self.new.members ≡ self.old.members }
         ensures setup { self.new.setup ≡ self.old.setup }

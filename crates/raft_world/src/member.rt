@@ -11,7 +11,7 @@ use crate::ending::at_rest;
 use raft_commands::RaftTypeConfig;
 use raft_conditions::Refusal;
 use raft_engine::Engine;
-use raft_executor::Message;
+use raft_executor::GroupMessage;
 use raft_state::{BasicNode, Bytes};
 use raft_stored_group::StoredGroup;
 use std::alloc::{AllocError, Global};
@@ -34,7 +34,7 @@ impl RaftTypeConfig for ByteGroup {
 #[derive(Debug, Drop)]
 pub enum Ended {
     /// It ran to its end, and sent these messages.
-    Done(Vec<Message>),
+    Done(Vec<GroupMessage>),
     /// It was refused, and the member is as before.
     Refused(Refusal<u64>),
     /// It stopped after the storing commands that it was given, and the member is down.

@@ -5,26 +5,27 @@ ghost use Rattle.raft_group_step.specs.GroupState.{GroupState};
 ghost use Rattle.raft_group_step.specs.GroupEvent.{Receive};
 ghost use Rattle.raft_conditions.specs.Facts.{IsRefusalOf};
 ghost use Rattle.raft_engine.specs.Events.{HasTaken, MayTake, received};
-ghost use Rattle.raft_executor.specs.Sent.{body_of, message_of};
-ghost use Rattle.raft_executor.specs.declared.message.Body.TheVariants.{AppendRequest as SendsEntries, SnapshotRequest as SendsSnapshot};
+ghost use Rattle.raft_messages.specs.Messages.{append_fields_of, body_of, message_of, reply_fields_of};
+ghost use Rattle.raft_messages.specs.declared.message.MessageBody.TheVariants.{SnapshotRequest as SendsSnapshot};
 ghost use Rattle.raft_group_step.specs.GroupStep.{group_step};
-ghost use Rattle.raft_group_step.specs.Message.{last_sent};
+ghost use Rattle.raft_group_step.specs.Message.{AppendReply, AppendRequest, SnapshotReply};
 ghost use Rattle.raft_world.specs.Member.{HasEnded, HasStopped, IsDown, IsIdle, IsLawful, IsUp};
 ghost use Rattle.raft_world.specs.Running.{EndsTo, HasHalted, RunsTo};
 ghost use Rattle.raft_world.specs.declared.member.Ended.TheVariants.{Skipped};
 
 use crate::member::{ByteGroup, Ended, Member};
-use crate::metas::{membership_of, meta_of};
-use crate::numbers::number_in;
-use raft_conditions::{GroupFacts, GroupRequest, Parties, Refusal};
+use crate::metas::meta_of;
+use crate::replies::{caller_and_answer, caller_id};
+use raft_conditions::{GroupFacts, Parties, Refusal};
 use raft_engine::{AppendEntriesRequest, Caller, Engine, RequestId};
-use raft_executor::{Body, Message};
-use raft_state::{LogId, Vote};
-use raft_stored_group::{GroupEntry, GroupSnapshot, copies_of};
+use raft_executor::GroupMessage;
+use raft_messages::{AppendFields, MessageBody, ReplyFields, copies_of, last_sent};
+use raft_state::Vote;
+use raft_stored_group::GroupSnapshot;
 use std::alloc::{AllocError, Global};
 
 // Why the message is refused, if it is.
-fn message_refusal(facts: &GroupFacts, message: &Message, now: u64) -> Option<Refusal<u64>>
+fn message_refusal(facts: &GroupFacts, message: &GroupMessage, now: u64) -> Option<Refusal<u64>>
     ensures { IsRefusalOf facts.now (Receive message.now.sender (message_of message.now) now) result }
 {
     let parties = Parties {
@@ -33,77 +34,69 @@ fn message_refusal(facts: &GroupFacts, message: &Message, now: u64) -> Option<Re
         addressee: message.addressee,
     };
     match &message.body {
-        Body::VoteRequest(asked) => {
+        MessageBody::VoteRequest(asked) => {
             facts.vote_request_refusal(parties, asked.vote, asked.last_log_id, now)
         }
-        Body::VoteReply(answer) => {
+        MessageBody::VoteReply(answer) => {
             facts.vote_reply_refusal(parties, answer.vote, answer.last_log_id, now)
         }
-        Body::AppendRequest { id, request } => {
-            facts.append_request_refusal(parties, request, number_in(id), now)
+        MessageBody::AppendRequest(request) => facts.append_request_refusal(parties, request, now),
+        MessageBody::AppendReply(reply) | MessageBody::SnapshotReply(reply) => {
+            facts.reply_refusal(parties, reply, now)
         }
-        Body::AppendReply { request, outcome } | Body::SnapshotReply { request, outcome } => {
-            let id = number_in(&request.id);
-            facts.reply_refusal(
-                parties,
-                request.vote,
-                id,
-                request.previous,
-                request.last,
-                outcome,
-                now,
-            )
-        }
-        Body::SnapshotRequest { vote, id, snapshot } => {
-            let membership = membership_of(snapshot);
-            facts.snapshot_request_refusal(parties, *vote, *id, snapshot.last(), membership, now)
+        MessageBody::SnapshotRequest { vote, id, snapshot } => {
+            facts.snapshot_request_refusal(parties, *vote, *id, snapshot.head(), now)
         }
     }
-}
-
-// The log id of the last entry of a request, or the one before its entries.
-fn last_sent(last: Option<LogId<u64>>, entries: &[GroupEntry]) -> Option<LogId<u64>>
-    ensures { result ≡ last_sent last entries.now }
-{
-    let mut last = last;
-    for entry in entries {
-        last = Some(entry.log_id);
-    }
-    last
 }
 
 // A leader's request is handed to the engine.
 fn take_request(
     alloc: Global,
     peer: u64,
-    id: RequestId,
-    request: &GroupRequest,
+    request: &AppendFields,
     moment: u64,
     engine: &mut Engine<ByteGroup>,
 ) -> Result<(), AllocError>
-    ensures { (x : Snapshot) (own at : ℕ) (s : GroupState) → moment ≡ max s.now at → MayTake own engine.old s (received own peer (body_of (SendsEntries id request.now)) at)
-        → OnOk result (HasTaken x own engine.old engine.new s (received own peer (body_of (SendsEntries id request.now)) at)) }
+    ensures { (x : Snapshot) (own at : ℕ) (s : GroupState) → moment ≡ max s.now at → MayTake own engine.old s (received own peer (AppendRequest (append_fields_of request.now)) at)
+        → OnOk result (HasTaken x own engine.old engine.new s (received own peer (AppendRequest (append_fields_of request.now)) at)) }
 {
     let caller = Caller {
         peer,
         vote: request.vote,
-        id,
-        previous: request.prev_log_id,
-        last: last_sent(request.prev_log_id, request.entries.as_slice()),
+        id: caller_id(&request.id),
+        previous: request.previous,
+        last: last_sent(request.previous, request.entries.as_slice()),
     };
     let copy = AppendEntriesRequest {
         vote: request.vote,
-        prev_log_id: request.prev_log_id,
+        prev_log_id: request.previous,
         entries: copies_of(alloc, request.entries.as_slice())?,
-        leader_commit: request.leader_commit,
+        leader_commit: request.committed,
     };
     engine.handle_append_entries(copy, caller, moment)
+}
+
+// A peer's answer to an append request or a snapshot is handed to the engine.
+fn take_reply(
+    peer: u64,
+    reply: &ReplyFields,
+    moment: u64,
+    engine: &mut Engine<ByteGroup>,
+) -> Result<(), AllocError>
+    ensures append { (x : Snapshot) (own at : ℕ) (s : GroupState) → moment ≡ max s.now at → MayTake own engine.old s (received own peer (AppendReply (reply_fields_of reply.now)) at)
+        → OnOk result (HasTaken x own engine.old engine.new s (received own peer (AppendReply (reply_fields_of reply.now)) at)) }
+    ensures snapshot { (x : Snapshot) (own at : ℕ) (s : GroupState) → moment ≡ max s.now at → MayTake own engine.old s (received own peer (SnapshotReply (reply_fields_of reply.now)) at)
+        → OnOk result (HasTaken x own engine.old engine.new s (received own peer (SnapshotReply (reply_fields_of reply.now)) at)) }
+{
+    let (caller, answer) = caller_and_answer(peer, reply);
+    engine.handle_replication_resp(peer, &caller, &answer, moment)
 }
 
 // The engine is handed the message, but for a snapshot, at this moment.
 fn take_message(
     alloc: Global,
-    message: &Message,
+    message: &GroupMessage,
     moment: u64,
     engine: &mut Engine<ByteGroup>,
 ) -> Result<(), AllocError>
@@ -113,18 +106,16 @@ fn take_message(
 {
     let peer = message.sender;
     match &message.body {
-        Body::VoteRequest(asked) => {
+        MessageBody::VoteRequest(asked) => {
             let caller = Caller::new(peer, asked.vote);
             engine.handle_vote_req(asked, caller, moment)
         }
-        Body::VoteReply(answer) => engine.handle_vote_resp(peer, answer, moment),
-        Body::AppendRequest { id, request } => {
-            take_request(alloc, peer, *id, request, moment, engine)
+        MessageBody::VoteReply(answer) => engine.handle_vote_resp(peer, answer, moment),
+        MessageBody::AppendRequest(request) => take_request(alloc, peer, request, moment, engine),
+        MessageBody::AppendReply(reply) | MessageBody::SnapshotReply(reply) => {
+            take_reply(peer, reply, moment, engine)
         }
-        Body::AppendReply { request, outcome } | Body::SnapshotReply { request, outcome } => {
-            engine.handle_replication_resp(peer, request, outcome, moment)
-        }
-        Body::SnapshotRequest { .. } => Ok(()),
+        MessageBody::SnapshotRequest { .. } => Ok(()),
     }
 }
 
@@ -161,7 +152,7 @@ impl Member {
         &mut self,
         alloc: Global,
         engine: &mut Engine<ByteGroup>,
-        message: &Message,
+        message: &GroupMessage,
         moment: u64,
         stop: Option<u64>,
     ) -> Result<Ended, AllocError>
@@ -173,7 +164,7 @@ impl Member {
             → MayTake self.old.id engine.old s (received self.old.id message.now.sender (body_of message.now.body) at)
             → OnErr result (HasHalted s.stored (group_step self.old.id s (received self.old.id message.now.sender (body_of message.now.body) at)) self.new) }
     {
-        if let Body::SnapshotRequest { vote, id, snapshot } = &message.body {
+        if let MessageBody::SnapshotRequest { vote, id, snapshot } = &message.body {
             take_snapshot(alloc, message.sender, *vote, *id, snapshot, moment, engine)?;
             return self.end_taken(alloc, engine, Some(snapshot), moment, stop);
         }
@@ -186,7 +177,7 @@ impl Member {
         &mut self,
         alloc: Global,
         engine: &mut Engine<ByteGroup>,
-        message: &Message,
+        message: &GroupMessage,
         now: u64,
         stop: Option<u64>,
     ) -> Result<Ended, AllocError>
@@ -211,7 +202,7 @@ impl Member {
     pub fn receive(
         &mut self,
         alloc: Global,
-        message: &Message,
+        message: &GroupMessage,
         now: u64,
         stop: Option<u64>,
     ) -> Result<Ended, AllocError>

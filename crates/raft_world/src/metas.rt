@@ -1,9 +1,9 @@
 //! What a snapshot covers.
 ghost use Rattle.std.specs.Prelude.{◌≡◌, IfOk, Some};
-ghost use Rattle.raft_conditions.specs.Facts.{logged_or_none};
+ghost use Rattle.raft_messages.specs.Memberships.{logged_or_none};
 ghost use Rattle.raft_known_state.specs.KnownState.{last_membership_of, meta_of};
 
-use raft_conditions::LoggedPair;
+use raft_messages::LoggedPair;
 use raft_state::{BasicNode, SnapshotMeta, StoredMembership};
 use raft_stored_group::GroupSnapshot;
 use std::alloc::{AllocError, Global};

@@ -7,8 +7,7 @@ ghost use Rattle.raft_group_step.specs.GroupState.{GroupState, state_of};
 ghost use Rattle.raft_group_step.specs.GroupEvent.{Open};
 ghost use Rattle.raft_group_step.specs.GroupStep.{finished};
 ghost use Rattle.raft_group_step.specs.Opening.{resume_lead};
-ghost use Rattle.raft_engine.specs.Following.{all_go_on};
-ghost use Rattle.raft_known_state.specs.KnownState.{IsPlaced, entry_ids, meta_of};
+ghost use Rattle.raft_known_state.specs.KnownState.{IsPlaced, meta_of};
 ghost use Rattle.raft_laws.specs.Opened.{opened};
 ghost use Rattle.raft_world.specs.Member.{HasEnded, HasStopped, IsDown, IsUp};
 ghost use Rattle.raft_world.specs.Opening.{HasOpened, IsFresh, IsOpenable, stale_end};
@@ -19,8 +18,9 @@ use crate::member::{ByteGroup, Ended, Member};
 use crate::metas::meta_of;
 use raft_commands::EngineConfig;
 use raft_engine::{Engine, KnownState};
+use raft_messages::all_go_on;
 use raft_state::{BasicNode, LogId, SnapshotMeta};
-use raft_stored_group::{GroupEntry, StoredGroup};
+use raft_stored_group::StoredGroup;
 use std::alloc::{AllocError, Global};
 
 // What the stored snapshot covers; nothing where there is none.
@@ -34,20 +34,6 @@ fn stored_meta(
         Some(snapshot) => meta_of(alloc, snapshot),
         None => Ok(SnapshotMeta::default(alloc)),
     }
-}
-
-// Whether the entries' places rise, from behind the log id on.
-fn all_go_on(last: Option<LogId<u64>>, entries: &[GroupEntry]) -> bool
-    ensures { result ≡ all_go_on last (entry_ids entries.now) }
-{
-    let mut last = last;
-    for entry in entries {
-        if last.is_some_and(|last| entry.log_id.index <= last.index) {
-            return false;
-        }
-        last = Some(entry.log_id);
-    }
-    true
 }
 
 // Whether a place stands behind the log id that 64 bits hold.

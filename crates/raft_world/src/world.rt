@@ -10,11 +10,11 @@ ghost use Rattle.raft_world.specs.World.{HasBroken, HasMarked, HasRunEvents, IsW
 use crate::member::Member;
 use crate::places::place_of;
 use raft_conditions::Refusal;
-use raft_executor::Message;
+use raft_executor::GroupMessage;
 use raft_laws::world_event::WorldEvent;
+use raft_messages::GroupEntry;
 use raft_settled::{LedNote, group_list};
 use raft_state::{BasicNode, Membership};
-use raft_stored_group::GroupEntry;
 use std::alloc::{AllocError, Global};
 use std::mem;
 
@@ -47,7 +47,7 @@ pub enum Mark {
 pub struct World {
     pub(crate) alloc: Global,
     pub(crate) members: Vec<Member>,
-    pub(crate) messages: Vec<Message>,
+    pub(crate) messages: Vec<GroupMessage>,
     pub(crate) setup: Option<Membership<u64, BasicNode>>,
     pub(crate) led: Vec<LedNote>,
     pub(crate) marks: Vec<Mark>,
@@ -143,7 +143,7 @@ impl World {
     }
 
     /// What was sent, by the numbers of the messages, lent (own).
-    pub fn messages(&self) -> &[Message]
+    pub fn messages(&self) -> &[GroupMessage]
         ensures { result.now ≡ self.now.messages.items }
     {
         self.messages.as_slice()

@@ -5,7 +5,7 @@ use crate::message_texts::{MessageText, kind_of};
 use crate::patience::{leads, run_patiently};
 use crate::reading::{read_event, read_ids, read_target};
 use crate::world_texts::{MarkText, MemberText};
-use raft_executor::Message;
+use raft_executor::GroupMessage;
 use raft_log_records::crc32;
 use raft_world::{Mark, World};
 use std::alloc::{AllocError, Global};
@@ -27,7 +27,7 @@ pub struct Answering {
 }
 
 // The messages from a number on.
-fn sent_from(world: &World, number: usize) -> &[Message] {
+fn sent_from(world: &World, number: usize) -> &[GroupMessage] {
     world.messages().get(number..).unwrap_or(&[])
 }
 

@@ -1,8 +1,9 @@
 //! Texts of memberships, entries and snapshots.
 use crate::values::IdText;
 use raft_group_step::LoggedMembership;
+use raft_messages::GroupEntry;
 use raft_state::{BasicNode, Bytes, EntryPayload, IdSet, Membership};
-use raft_stored_group::{GroupEntry, GroupSnapshot};
+use raft_stored_group::GroupSnapshot;
 use std::fmt;
 use std::fmt::Display;
 

@@ -1,25 +1,24 @@
 //! Texts of messages.
 use crate::entry_texts::{EntriesText, SnapshotText};
 use crate::values::{IdText, NumberText, VoteText};
-use raft_commands::Caller;
-use raft_executor::{Body, Message};
-use raft_group_step::{AppendEntriesRequest, AppendEntriesResponse, RequestId};
-use raft_state::{BasicNode, Bytes, LogId, Vote};
+use raft_executor::{GroupBody, GroupMessage};
+use raft_messages::{AppendFields, MessageBody, ReplyFields, ReplyResult, RequestId};
+use raft_state::{LogId, Vote};
 use std::fmt;
 use std::fmt::Display;
 
 /// What a message is called: a notice is a request without a number.
-pub fn kind_of(body: &Body) -> &'static str {
+pub fn kind_of(body: &GroupBody) -> &'static str {
     match body {
-        Body::VoteRequest(_) => "ask",
-        Body::VoteReply(reply) => { if reply.vote_granted { "grant" } else { "deny" } }
-        Body::AppendRequest { id, .. } => match id {
+        MessageBody::VoteRequest(_) => "ask",
+        MessageBody::VoteReply(reply) => { if reply.vote_granted { "grant" } else { "deny" } }
+        MessageBody::AppendRequest(request) => match request.id {
             RequestId::HeartBeat => "notice",
-            _ => "append",
+            RequestId::Numbered { .. } => "append",
         },
-        Body::AppendReply { .. } => "reply",
-        Body::SnapshotRequest { .. } => "snapshot",
-        Body::SnapshotReply { .. } => "answer",
+        MessageBody::AppendReply(_) => "reply",
+        MessageBody::SnapshotRequest { .. } => "snapshot",
+        MessageBody::SnapshotReply(_) => "answer",
     }
 }
 
@@ -27,29 +26,27 @@ pub fn kind_of(body: &Body) -> &'static str {
 fn number_of(id: RequestId) -> NumberText {
     NumberText(match id {
         RequestId::HeartBeat => None,
-        RequestId::AppendEntries { id } => Some(id),
-        RequestId::Snapshot { id } => Some(id),
+        RequestId::Numbered { id } => Some(id),
     })
 }
 
 // What came of a request.
 #[derive(Clone, Copy)]
-struct OutcomeText<'a>(&'a AppendEntriesResponse<u64>);
+struct OutcomeText(ReplyResult);
 
-impl Display for OutcomeText<'_> {
+impl Display for OutcomeText {
     fn fmt<W: fmt::Write>(&self, f: &mut fmt::Formatter<W>) -> fmt::Result {
         match self.0 {
-            AppendEntriesResponse::Success => f.write_str("success"),
-            AppendEntriesResponse::PartialSuccess(_) => f.write_str("partial"),
-            AppendEntriesResponse::Conflict => f.write_str("conflict"),
-            AppendEntriesResponse::HigherVote(vote) => write!(f, "higher {}", VoteText(*vote)),
+            ReplyResult::Success => f.write_str("success"),
+            ReplyResult::Conflict => f.write_str("conflict"),
+            ReplyResult::HigherVote(vote) => write!(f, "higher {}", VoteText(vote)),
         }
     }
 }
 
 // A reply repeats what the request was, and says what came of it.
 #[derive(Clone, Copy)]
-struct ReplyText<'a>(&'a Caller<u64>, &'a AppendEntriesResponse<u64>);
+struct ReplyText<'a>(&'a ReplyFields);
 
 impl Display for ReplyText<'_> {
     fn fmt<W: fmt::Write>(&self, f: &mut fmt::Formatter<W>) -> fmt::Result {
@@ -57,7 +54,7 @@ impl Display for ReplyText<'_> {
         let number = number_of(self.0.id);
         let previous = IdText(self.0.previous);
         let last = IdText(self.0.last);
-        let outcome = OutcomeText(self.1);
+        let outcome = OutcomeText(self.0.outcome);
         write!(
             f,
             "{vote} number {number} after {previous} last {last} {outcome}"
@@ -67,15 +64,15 @@ impl Display for ReplyText<'_> {
 
 // Entries behind a log id, and how far the sender has committed.
 #[derive(Clone, Copy)]
-struct AppendText<'a>(RequestId, &'a AppendEntriesRequest<u64, BasicNode, Bytes>);
+struct AppendText<'a>(&'a AppendFields);
 
 impl Display for AppendText<'_> {
     fn fmt<W: fmt::Write>(&self, f: &mut fmt::Formatter<W>) -> fmt::Result {
-        let vote = VoteText(self.1.vote);
-        let number = number_of(self.0);
-        let previous = IdText(self.1.prev_log_id);
-        let committed = IdText(self.1.leader_commit);
-        let entries = EntriesText(self.1.entries.as_slice());
+        let vote = VoteText(self.0.vote);
+        let number = number_of(self.0.id);
+        let previous = IdText(self.0.previous);
+        let committed = IdText(self.0.committed);
+        let entries = EntriesText(self.0.entries.as_slice());
         write!(
             f,
             "{vote} number {number} after {previous} committed {committed} entries {entries}"
@@ -95,20 +92,20 @@ impl Display for ElectionText {
 
 // What a message says.
 #[derive(Clone, Copy)]
-struct BodyText<'a>(&'a Body);
+struct BodyText<'a>(&'a GroupBody);
 
 impl Display for BodyText<'_> {
     fn fmt<W: fmt::Write>(&self, f: &mut fmt::Formatter<W>) -> fmt::Result {
         match self.0 {
-            Body::VoteRequest(it) => write!(f, "{}", ElectionText(it.vote, it.last_log_id)),
-            Body::VoteReply(it) => write!(f, "{}", ElectionText(it.vote, it.last_log_id)),
-            Body::AppendRequest { id, request } => write!(f, "{}", AppendText(*id, request)),
-            Body::SnapshotRequest { vote, id, snapshot } => {
+            MessageBody::VoteRequest(it) => write!(f, "{}", ElectionText(it.vote, it.last_log_id)),
+            MessageBody::VoteReply(it) => write!(f, "{}", ElectionText(it.vote, it.last_log_id)),
+            MessageBody::AppendRequest(request) => write!(f, "{}", AppendText(request)),
+            MessageBody::SnapshotRequest { vote, id, snapshot } => {
                 let snapshot = SnapshotText(Some(snapshot));
                 write!(f, "{} number {id} snapshot {snapshot}", VoteText(*vote))
             }
-            Body::AppendReply { request, outcome } | Body::SnapshotReply { request, outcome } => {
-                write!(f, "{}", ReplyText(request, outcome))
+            MessageBody::AppendReply(reply) | MessageBody::SnapshotReply(reply) => {
+                write!(f, "{}", ReplyText(reply))
             }
         }
     }
@@ -116,7 +113,7 @@ impl Display for BodyText<'_> {
 
 /// Sender and addressee, and what the message says, on a line.
 #[derive(Clone, Copy)]
-pub struct MessageText<'a>(pub &'a Message);
+pub struct MessageText<'a>(pub &'a GroupMessage);
 
 impl Display for MessageText<'_> {
     fn fmt<W: fmt::Write>(&self, f: &mut fmt::Formatter<W>) -> fmt::Result {

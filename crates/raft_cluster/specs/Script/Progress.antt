@@ -1,7 +1,6 @@
 -- How far a script has come, and what each line makes of it.
 use Rattle.std.specs.Prelude.{ℕ, ◌+◌, ◌==◌, if◌then◌else◌, List, [], ◌∷◌, ◌++◌, Option, Some, None, codes}
 use Rattle.std.specs.Int.{w64, to_be_bytes}
-use Rattle.raft_values.specs.declared.command.Command.{Command}
 use Rattle.raft_membership.specs.declared.membership.Membership.{Membership}
 use Rattle.raft_node.specs.Adding.{adding}
 use Rattle.raft_node.specs.Fold.{GroupEntry}
@@ -30,8 +29,8 @@ abbrev pub one_voter : Membership ℕ (List ℕ)
 one_voter = record { configs = (1 ∷ []) ∷ []; nodes = (1, codes "n1") ∷ [] }
 
 -- the command that adds this amount
-abbrev pub command_of : ℕ → Command
-command_of amount = record { bytes = to_be_bytes w64 amount }
+abbrev pub command_of : ℕ → List ℕ
+command_of amount = to_be_bytes w64 amount
 
 -- the cluster of node 1, to which nothing has happened
 abbrev pub new_cluster : ClusterValue

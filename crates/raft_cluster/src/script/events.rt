@@ -9,7 +9,7 @@ use crate::cluster::Cluster;
 use crate::event::ClusterEvent;
 use crate::script::answer::{number_or_dash, outcome_text};
 use raft_node::AddingMachine;
-use raft_state::{BasicNode, Command, IdSet, Membership, NodeMap, VoterGroups};
+use raft_state::{BasicNode, Bytes, Membership};
 use std::alloc::{AllocError, Global};
 
 /// The one node, so far.
@@ -58,18 +58,16 @@ pub fn total(
 pub fn one_voter(alloc: Global) -> Result<Membership<u64, BasicNode>, AllocError>
     ensures { IfOk result (λ membership. membership ≡ one_voter) }
 {
-    let mut group = IdSet::new(alloc);
-    group.insert(NODE)?;
-    let mut groups = VoterGroups::new(alloc);
-    groups.push(group)?;
-    let mut nodes = NodeMap::new(alloc);
-    nodes.insert(NODE, BasicNode::new(alloc, ADDRESS)?)?;
-    Ok(Membership::from_parts(groups, nodes))
+    match Membership::of_one_group(alloc, &[(NODE, ADDRESS)], &[]) {
+        Ok(membership) => Ok(membership),
+        // There is a voter, so only memory was refused.
+        Err(_) => Err(AllocError),
+    }
 }
 
 /// The command that adds this amount.
-pub fn command_of(alloc: Global, amount: u64) -> Result<Command, AllocError>
+pub fn command_of(alloc: Global, amount: u64) -> Result<Bytes, AllocError>
     ensures { IfOk result (λ command. command ≡ command_of amount) }
 {
-    Command::new(alloc, &amount.to_be_bytes())
+    Bytes::from_slice(alloc, &amount.to_be_bytes())
 }

@@ -11,4 +11,4 @@ from_rising-requires c =
     in let ids : c.in_ok-ids.ids ≡ map (λ (x : ℕ × List ℕ). x.0) nodes =
     c.in_ok-ids.ensures ∙ all_are_learners c.args.old.now.configs nodes c.requires
     in let rising : IsRisingByFirst nat_cmp nodes = subst (IsRising nat_cmp) ids c.as_slice-rising.ensures.rising
-    in subst (λ (xs : List (ℕ × List ℕ)). IsRisingByFirst nat_cmp xs) (sym (c.in_ok-nodes.ensures ∙ c.nodes.ensures)) rising
+    in subst (λ (xs : List (ℕ × List ℕ)). IsRisingByFirst nat_cmp xs) (sym (c.in_ok-nodes.ensures ∙ c.nodes.ensures.nodes)) rising

@@ -1,6 +1,6 @@
 use Rattle.std.proofs.Common.{◌≡◌, drop}
 use Rattle.raft_group_step.specs.Refusal.{keep_voters}
-use Rattle.raft_conditions.specs.Facts.{logged_or_none}
+use Rattle.raft_messages.specs.Memberships.{logged_or_none}
 use Rattle.raft_conditions.proofs.entries.keep_voters.Given as goal
 
 abbrev pub invariant-loop-entry : goal.invariant-loop-entry

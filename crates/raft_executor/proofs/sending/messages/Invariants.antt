@@ -1,7 +1,7 @@
 -- What is sent, with what the commands that are left send, is what the queue sends.
 use Rattle.std.proofs.Common.{◌≡◌, ◌++◌, length, map}
 use Rattle.raft_engine.specs.Commands.{sent_by}
-use Rattle.raft_executor.specs.Sent.{message_of}
+use Rattle.raft_messages.specs.Messages.{message_of}
 use Rattle.raft_executor.proofs.sending.messages.Given as goal
 
 abbrev pub invariant-loop-command : goal.invariant-loop-command

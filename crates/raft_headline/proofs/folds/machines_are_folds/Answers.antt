@@ -9,4 +9,4 @@ pub returns-clause-snapshots : goal.returns-clause-snapshots
 returns-clause-snapshots c = snapshot_fronts
 
 pub returns-clause-answers : goal.returns-clause-answers
-returns-clause-answers c = λ rules ids fit h history end run number r t there has. (told_stand rules ids fit h history end run number r t there has).answer
+returns-clause-answers c = λ rules ids fit h history end run number r t there has. (told_stand rules ids fit h history end run.0 run.1 number r t there has).answer

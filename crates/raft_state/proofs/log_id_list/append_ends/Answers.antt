@@ -2,9 +2,10 @@ use Rattle.std.proofs.Common.{◌≡◌, ℕ, zero, suc, ◌-◌, ◌<◌, ◌==
 use Rattle.std.specs.Prelude.{Some}
 use Rattle.std.proofs.lemmas.List.{length-map}
 use Rattle.raft_values.specs.declared.log_id.LogId.{LogId}
-use Rattle.raft_state.specs.LogIdList.{ids_of, last_id, appended, extended, AllGoOn, GoesOn, HaveOneLeader}
+use Rattle.raft_state.specs.LogIdList.{ids_of, last_id, appended, extended, AllGoOn, GoesOn, HasFewerKeys, HaveOneLeader}
 use Rattle.raft_state.proofs.ExtendLemmas.{ends-extend, last-grown, item_id}
 use Rattle.raft_state.proofs.FrontLemmas.{front-trans}
+use Rattle.raft_state.proofs.GrowthLemmas.{on_err, fewer_keys-at, fewer_keys-behind}
 use Rattle.raft_state.proofs.log_id_list.append_ends.Goals as goal
 
 several : (n : ℕ) (b : Bool) → b ≡ (n == 0) → b ≡ false → 0 < n
@@ -50,3 +51,31 @@ returns-clause-ok g c =
 pub returns-clause-front : goal.returns-clause-front
 returns-clause-front g c =
     front-trans c.args.keys.now.items c.append_key.new.keys.items c.append_key-2.new.keys.items c.in_ok-append_key.ensures.front c.in_ok-append_key-2.ensures.front
+
+pub returns-in_err-append_key-clause-only : goal.returns-in_err-append_key-clause-only
+returns-in_err-append_key-clause-only g c =
+    let cmp = g.NID.Ord.cmp in
+    let ids = c.args.new_ids.now in
+    let before = ids_of c.args.keys.now.items in
+    let first = c.get_log_id-first.result.now in
+    let some : 0 < length ids = several (length ids) c.is_empty.result c.is_empty.ensures c.if-is_empty.false in
+    let long : 0 < length (map g.LID.RaftLogId.id ids) = omega (arith, length-map ids g.LID.RaftLogId.id) in
+    let here : first ≡ get_or (map g.LID.RaftLogId.id ids) 0 first =
+    item_id g.LID.RaftLogId.id ids 0 c.index-new_ids-0.result first some c.index-new_ids-0.is c.get_log_id-first.ensures in
+    on_err c.from_residual.result
+    (fewer_keys-at cmp before (map g.LID.RaftLogId.id ids) 0 first long
+    (subst (λ x. HasFewerKeys cmp before (appended before x)) here c.in_err-append_key.ensures.only))
+
+pub returns-in_err-append_key-2-clause-only : goal.returns-in_err-append_key-2-clause-only
+returns-in_err-append_key-2-clause-only g c =
+    let cmp = g.NID.Ord.cmp in
+    let ids = c.args.new_ids.now in
+    let keys = c.args.keys.now.items in
+    let first = c.get_log_id-first.result.now in
+    let last = c.get_log_id-last.result.now in
+    let some : 0 < length ids = several (length ids) c.is_empty.result c.is_empty.ensures c.if-is_empty.false in
+    let two = ends g.LID.RaftLogId.id ids keys c.index-new_ids-0.result c.index-new_ids-new_ids.result first last (omega arith)
+    c.index-new_ids-0.is c.get_log_id-first.ensures c.index-new_ids-new_ids.is c.get_log_id-last.ensures c.requires.one_leader c.requires.go_on in
+    on_err c.from_residual-in_err-append_key-2.result
+    (subst (HasFewerKeys cmp (ids_of keys)) (sym two.0)
+    (fewer_keys-behind cmp (ids_of keys) (ids_of c.append_key.new.keys.items) first last c.in_ok-append_key.ensures.ok c.in_err-append_key-2.ensures.only))

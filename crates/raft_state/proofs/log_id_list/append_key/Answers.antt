@@ -3,6 +3,7 @@ use Rattle.std.specs.Ordering.{is_eq}
 use Rattle.raft_state.specs.LogIdList.{ends_in_pair}
 use Rattle.raft_state.proofs.KeyOrderLemmas.{ids_of-replace, AreKeys-push, AreKeys-replace}
 use Rattle.raft_state.proofs.LogIdListLemmas.{ids_of-push}
+use Rattle.raft_state.proofs.GrowthLemmas.{on_err, fewer_keys-pushed}
 use Rattle.raft_state.proofs.log_id_list.append_key.Given as given
 use Rattle.raft_state.proofs.log_id_list.append_key.Goals as goal
 
@@ -34,3 +35,10 @@ returns-clause-ok g c =
 pub returns-clause-keys : goal.returns-clause-keys
 returns-clause-keys g c =
     rw c.in_ok-push.ensures.items (AreKeys-push g.NID.Ord.cmp c.args.keys.now.items c.args.id c.requires.keys (unpaired g c) c.requires.goes_on)
+
+pub returns-in_err-push-clause-only : goal.returns-in_err-push-clause-only
+returns-in_err-push-clause-only g c =
+    let unpaired : ends_in_pair g.NID.Ord.cmp c.args.keys.now.items ≡ false =
+    ap (ends_in_pair g.NID.Ord.cmp) (sym c.as_slice.ensures.value) ∙ sym c.ends_in_pair.ensures ∙ c.if-ends_in_pair.false in
+    on_err c.from_residual.result
+    (fewer_keys-pushed g.NID.Ord.cmp g.met.NID.Ord.total c.args.keys.now.items c.args.id c.requires.keys unpaired c.requires.goes_on)

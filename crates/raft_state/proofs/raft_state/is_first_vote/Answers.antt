@@ -1,4 +1,4 @@
-use Rattle.std.proofs.Common.{◌≡◌, Bool, true, false, ap, sym, ◌∙◌, arith}
+use Rattle.std.proofs.Common.{◌≡◌, false, ap, sym, ◌∙◌, arith}
 use Rattle.raft_values.specs.declared.vote.Vote.{Vote}
 use Rattle.raft_state.specs.State.{first_vote}
 use Rattle.raft_state.proofs.raft_state.is_first_vote.Goals as goal

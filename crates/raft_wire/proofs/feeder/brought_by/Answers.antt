@@ -1,10 +1,14 @@
-use Rattle.std.proofs.Common.{◌≡◌, ◌+◌, ◌-◌, ◌++◌, Some, Err, length, subst, arith, length-append, ℕ}
-use Rattle.raft_wire.specs.Stream.{length_in, fault_of_length, front}
+use Rattle.std.proofs.Common.{◌≡◌, ◌+◌, ◌-◌, ◌++◌, Some, None, Err, length, subst, sym, ap, arith, length-append, ℕ}
+use Rattle.raft_wire.specs.Stream.{length_in, fault_of_length, front, whole_of}
 use Rattle.raft_wire.proofs.Streams.{held_short, front_none, front_fault, has_length}
+use Rattle.raft_wire.proofs.Feeders.{no_length_yet}
 use Rattle.raft_wire.proofs.feeder.brought_by.Goals as goal
 
 pub returns-in-None : goal.returns-in-None
-returns-in-None c = front_none (c.args.held.now ++ c.args.piece.now) (cc)
+returns-in-None c =
+    let s = c.args.held.now ++ c.args.piece.now in
+    let none : length_in s ≡ None = cc in
+    (front_none s none, sym (ap whole_of none), omega (arith, no_length_yet s none), omega arith)
 
 pub overflow_sub-result : goal.overflow_sub-result
 overflow_sub-result c =

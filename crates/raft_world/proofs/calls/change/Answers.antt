@@ -2,7 +2,7 @@
 use Rattle.std.proofs.Common.{Some, MatchOption, ap, sym, ◌∙◌, ◌≡◌, subst, false, true}
 use Rattle.raft_group_step.specs.Values.{after_change, is_valid}
 use Rattle.raft_group_step.specs.StoredGroup.{membership_in_force}
-use Rattle.raft_stored_group.specs.Stored.{logged_or_none}
+use Rattle.raft_messages.specs.Memberships.{logged_or_none}
 use Rattle.raft_world.proofs.CallLemmas.{change_is_valid, has_membership, has_room_when_ready, none_both}
 use Rattle.raft_world.proofs.calls.change.Goals as goal
 

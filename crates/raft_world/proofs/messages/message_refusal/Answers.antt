@@ -1,11 +1,10 @@
 -- Each kind of message is judged by its own conditions.
-use Rattle.std.proofs.Common.{◌≡◌, option_map, sym, ap, ◌∙◌, subst}
+use Rattle.std.proofs.Common.{◌≡◌, option_map, sym, subst}
 use Rattle.raft_group_step.specs.GroupEvent.{Receive}
 use Rattle.raft_group_step.specs.Message.{SnapshotRequest}
 use Rattle.raft_group_step.specs.Refusal.{refusal_of}
-use Rattle.raft_conditions.specs.Facts.{logged_or_none}
 use Rattle.raft_conditions.specs.Reason.{reason_of}
-use Rattle.raft_executor.specs.Sent.{body_of}
+use Rattle.raft_messages.specs.Messages.{body_of}
 use Rattle.raft_world.proofs.messages.message_refusal.Goals as goal
 
 pub returns-in-VoteReply : goal.returns-in-VoteReply
@@ -18,13 +17,10 @@ returns-in-VoteReply c = λ own s facts.
 pub returns-in-SnapshotRequest : goal.returns-in-SnapshotRequest
 returns-in-SnapshotRequest c = λ own s facts.
     let x = c.in-SnapshotRequest.snapshot in
-    let whole : record { last = c.last.result; membership = logged_or_none c.membership_of-membership.result; «prefix» = x.«prefix» } ≡ x =
-    ap (λ last. record { last = last; membership = logged_or_none c.membership_of-membership.result; «prefix» = x.«prefix» }) c.last.ensures
-    ∙ ap (λ membership. record { last = x.last; membership = membership; «prefix» = x.«prefix» }) c.membership_of-membership.ensures in
     subst (λ body. option_map reason_of c.snapshot_request_refusal.result
     ≡ refusal_of own s (Receive c.args.message.now.sender (record { sender = c.args.message.now.sender; addressee = c.args.message.now.addressee; body = body_of body }) c.args.now))
     (sym c.in-SnapshotRequest.is)
     (subst (λ y. option_map reason_of c.snapshot_request_refusal.result
     ≡ refusal_of own s (Receive c.args.message.now.sender (record { sender = c.args.message.now.sender; addressee = c.args.message.now.addressee; body = SnapshotRequest c.in-SnapshotRequest.vote c.in-SnapshotRequest.id y }) c.args.now))
-    whole
+    c.head.ensures
     (c.snapshot_request_refusal.ensures.refusal x.«prefix» own s facts))

@@ -1,14 +1,14 @@
 -- Where the message is taken, its numbers were found to be in range.
 use Rattle.std.proofs.Common.{◌∷◌, [], ℕ, List}
 use Rattle.raft_group_step.specs.Refusal.{numbers_of}
-use Rattle.raft_conditions.specs.Facts.{logged_or_none}
-use Rattle.raft_conditions.specs.Messages.{snapshot_body}
+use Rattle.raft_group_step.specs.Message.{SnapshotRequest}
+use Rattle.raft_messages.specs.Memberships.{snapshot_of}
 use Rattle.raft_conditions.specs.ByFacts.{has_room}
 use Rattle.raft_conditions.proofs.FactLemmas.{numbers_told}
 use Rattle.raft_conditions.proofs.facts.GroupFacts.snapshot_request_refusal.Goals as goal
 
 pub returns-clause-numbers : goal.returns-clause-numbers
 returns-clause-numbers c =
-    let ns : List ℕ = c.args.now ∷ numbers_of (snapshot_body c.args.vote c.args.id c.args.last (logged_or_none c.args.membership) [])
+    let ns : List ℕ = c.args.now ∷ numbers_of (SnapshotRequest c.args.vote c.args.id (snapshot_of c.args.head []))
     in numbers_told c.message_refusal.result c.are_snapshot_numbers_low-in_range.result (has_room c.args.self.now) ns
     c.are_snapshot_numbers_low-in_range.ensures c.message_refusal.ensures.taken

@@ -1,5 +1,5 @@
 -- What messages and notes say is what the world says.
-use Rattle.raft_executor.specs.Sent.{message_of}
+use Rattle.raft_messages.specs.Messages.{message_of}
 use Rattle.raft_settled.specs.World.{is_led_with, is_reply, led_of}
 use Rattle.raft_settled.proofs.SettledLemmas.{first_passes, second_tells}
 use Rattle.raft_settled.proofs.accepting.AcceptorsHasIdU64.has_id.Goals as goal

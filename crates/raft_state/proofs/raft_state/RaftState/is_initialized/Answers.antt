@@ -1,6 +1,6 @@
 use Rattle.std.proofs.Common.{◌≡◌, Bool, true, false, not, List, [], ◌∷◌, refl, sym, subst}
 use Rattle.raft_state.specs.State.{first_vote}
-use Rattle.std.specs.Prelude.{◌↔◌, IsTrue, Option, None}
+use Rattle.std.specs.Prelude.{◌↔◌, IsTrue, None}
 use Rattle.raft_values.specs.declared.log_id.LogId.{LogId}
 use Rattle.raft_state.specs.LogIdList.{last_id}
 use Rattle.raft_state.proofs.LogIdListLemmas.{last_id-cons}

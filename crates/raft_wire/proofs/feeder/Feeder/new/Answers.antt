@@ -1,5 +1,6 @@
-use Rattle.raft_wire.proofs.Streams.{empty_waits}
+use Rattle.std.proofs.Common.{arith, vec_capacity}
+use Rattle.raft_wire.proofs.Feeders.{holds_nothing}
 use Rattle.raft_wire.proofs.feeder.Feeder.new.Goals as goal
 
 pub invariant_of-result : goal.invariant_of-result
-invariant_of-result c = empty_waits c.new.result.items c.new.ensures.items
+invariant_of-result c = holds_nothing c.new.result.items (vec_capacity c.new.result) c.new.ensures.items (omega (arith, c.new.ensures.capacity))

@@ -2,7 +2,7 @@
 use Rattle.std.proofs.Common.{sym, subst}
 use Rattle.raft_group_step.specs.GroupStep.{group_step}
 use Rattle.raft_engine.specs.Events.{HasTaken, MayTake, received}
-use Rattle.raft_executor.specs.Sent.{body_of}
+use Rattle.raft_messages.specs.Messages.{body_of}
 use Rattle.raft_world.proofs.EventLemmas.{run_of_message, run_of_message_with}
 use Rattle.raft_world.proofs.member.Member.accepted_message.Goals as goal
 

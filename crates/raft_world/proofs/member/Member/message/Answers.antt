@@ -1,6 +1,6 @@
 -- A refused message ends so.
 use Rattle.std.proofs.Common.{◌≡◌, ◌≤◌, ◌^◌, Some, option_map, sym, ap, ◌∙◌, arith}
-use Rattle.raft_executor.specs.Sent.{message_of}
+use Rattle.raft_messages.specs.Messages.{message_of}
 use Rattle.raft_group_step.specs.StoredGroup.{end_place}
 use Rattle.raft_group_step.specs.GroupEvent.{Receive}
 use Rattle.raft_group_step.specs.Refusal.{refusal_of}

@@ -3,7 +3,8 @@ use Rattle.std.proofs.Common.{sym, ap, ◌∙◌, subst}
 use Rattle.std.specs.declared.alloc.Global.{Global}
 use Rattle.std.specs.Prelude.{Vec}
 use Rattle.raft_conditions.specs.Reason.{reason_of}
-use Rattle.raft_executor.specs.declared.message.Message.{Message}
+use Rattle.raft_group_step.specs.StoredGroup.{Snapshot}
+use Rattle.raft_messages.specs.declared.message.Message.{Message}
 use Rattle.raft_laws.specs.GroupWorld.{NodeState, Refused, with_node_state}
 use Rattle.raft_laws.specs.GroupRun.{led_by}
 use Rattle.raft_settled.specs.World.{led_of}
@@ -25,7 +26,7 @@ returns-in-Err c = λ g e n o state there h first is.
     let there' : IsPlace noted.members.items n c.args.place = subst (λ (v : Vec Member Global). IsPlace v.items n c.args.place) (sym c.note_lead.ensures.members) there in
     cut_refused w g e n o state h c.crash_at.new.self (reason_of c.in-Refused.refusal) refused
     (c.crash_at.ensures g n state there'
-    (but_kept w g e n o state h noted c.note_lead.ensures.members (ap (λ (v : Vec Message Global). v.items) c.note_lead.ensures.messages) c.note_lead.ensures.setup c.in-Err.ensures.err))
+    (but_kept w g e n o state h noted c.note_lead.ensures.members (ap (λ (v : Vec (Message Snapshot) Global). v.items) c.note_lead.ensures.messages) c.note_lead.ensures.setup c.in-Err.ensures.err))
 
 pub returns-in_default : goal.returns-in_default
 returns-in_default c = λ g e n o state there h first is.

@@ -1,6 +1,6 @@
 use Rattle.std.specs.Prelude.{◌≡◌, List, Ok, Err, None, Some, slice_get}
 use Rattle.std.proofs.Common.{refl, ◌∙◌, subst}
-use Rattle.raft_executor.specs.Sent.{message_of}
+use Rattle.raft_messages.specs.Messages.{message_of}
 use Rattle.raft_group_step.specs.GroupEvent.{Receive}
 use Rattle.raft_laws.specs.NodeEvent.{Comes}
 use Rattle.raft_laws.specs.declared.world_event.WorldEvent.TheVariants.{Deliver}

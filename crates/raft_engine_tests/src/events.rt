@@ -1,0 +1,218 @@
+//! Events of an engine.
+ghost use Rattle.std.specs.Prelude.{◌≡◌, Some};
+
+use crate::engines::{NumberedEngine, accepted, log_id, members, numbers};
+use raft_engine::{
+    AppendEntriesRequest, AppendEntriesResponse, Caller, Entries, VoteRequest, VoteResponse,
+};
+use raft_rows::{Answer, number};
+use raft_state::{
+    BasicNode, Bytes, Entry, EntryPayload, LeaderId, LogId, Membership, SnapshotMeta,
+    StoredMembership, Vote,
+};
+use std::alloc::{AllocError, Global};
+
+type Members = Membership<u64, BasicNode>;
+
+type Request = AppendEntriesRequest<u64, BasicNode, Bytes>;
+
+// ---- calls
+
+fn starts(engine: &mut NumberedEngine) -> bool {
+    engine.startup().is_ok()
+}
+
+fn stands(engine: &mut NumberedEngine) -> bool {
+    engine.elect(9).is_ok()
+}
+
+fn beats(engine: &mut NumberedEngine) -> bool {
+    engine.send_heartbeat().is_ok()
+}
+
+fn is_lost(engine: &mut NumberedEngine) -> bool {
+    engine.handle_lost(3).is_ok()
+}
+
+fn is_purge_asked(engine: &mut NumberedEngine) -> bool {
+    engine.trigger_purge_log(0).is_ok()
+}
+
+fn tries_to_purge(engine: &mut NumberedEngine) -> bool {
+    engine.try_purge_log().is_ok()
+}
+
+fn steps_down(engine: &mut NumberedEngine) -> bool {
+    engine.leader_step_down();
+    true
+}
+
+fn forgets(engine: &mut NumberedEngine) -> bool {
+    engine.reset_greater_log();
+    true
+}
+
+// ---- messages
+
+// Node 2 grants the vote of term 1.
+fn is_granted(engine: &mut NumberedEngine) -> bool {
+    let resp = VoteResponse::new(&Vote::new(1, 1), None, true);
+    engine.handle_vote_resp(2, &resp, 6).is_ok()
+}
+
+// Node 3 refuses it, with this last log id.
+fn is_refused(engine: &mut NumberedEngine, last: Option<LogId<u64>>) -> bool {
+    let resp = VoteResponse::new(&Vote::new(1, 1), last, false);
+    engine.handle_vote_resp(3, &resp, 6).is_ok()
+}
+
+fn is_accepted(engine: &mut NumberedEngine) -> bool {
+    let outcome = AppendEntriesResponse::Success;
+    engine
+        .handle_replication_resp(2, &accepted(), &outcome, 7)
+        .is_ok()
+}
+
+fn is_asked_for_vote(engine: &mut NumberedEngine) -> bool {
+    let asked = Vote::new(1, 1);
+    let req = VoteRequest::new(asked, None);
+    engine
+        .handle_vote_req(&req, Caller::new(1, asked), 5)
+        .is_ok()
+}
+
+// Whether there was memory for an event that brings nothing with it.
+fn is_done(engine: &mut NumberedEngine, name: &str) -> Option<bool> {
+    Some(match name {
+        "start" => starts(engine),
+        "elect" => stands(engine),
+        "beat" => beats(engine),
+        "lose-3" => is_lost(engine),
+        "ask-purge-to-0" => is_purge_asked(engine),
+        "purge" => tries_to_purge(engine),
+        "step-down" => steps_down(engine),
+        "forget-greater-log" => forgets(engine),
+        "be-granted-by-2" => is_granted(engine),
+        "be-refused-by-3" => is_refused(engine, None),
+        "be-accepted-by-2" => is_accepted(engine),
+        "be-asked-for-vote" => is_asked_for_vote(engine),
+        _ => return None,
+    })
+}
+
+// ---- memberships, commands and entries
+
+fn is_set_up(engine: &mut NumberedEngine, first: Members) -> bool {
+    matches!(engine.initialize(first, 5), Ok(Ok(())))
+}
+
+fn changes(engine: &mut NumberedEngine, members: Members) -> bool {
+    engine.has_room() && engine.change_membership(members).is_ok()
+}
+
+fn proposes(engine: &mut NumberedEngine, command: Bytes) -> bool {
+    engine.has_room() && engine.propose(command).is_ok()
+}
+
+// The first membership of a group, as a leader sends it.
+fn first_request(alloc: Global, members: Members) -> Result<Request, AllocError> {
+    let mut entries = Entries::new(alloc);
+    let log_id = LogId::new(LeaderId::new(0, 0), 0);
+    let payload = EntryPayload::Membership(members);
+    entries.push(Entry { log_id, payload })?;
+    Ok(AppendEntriesRequest {
+        vote: Vote::new_committed(1, 1),
+        prev_log_id: None,
+        entries,
+        leader_commit: Some(log_id),
+    })
+}
+
+fn follows(engine: &mut NumberedEngine, req: Request) -> bool {
+    engine.handle_append_entries(req, accepted(), 6).is_ok()
+}
+
+// Whether there was memory for an event with these members.
+fn is_done_by(
+    engine: &mut NumberedEngine,
+    alloc: Global,
+    name: &str,
+    members: Members,
+) -> Option<bool> {
+    Some(match name {
+        "set-up" => is_set_up(engine, members),
+        "change" => changes(engine, members),
+        "follow" => follows(engine, first_request(alloc, members).ok()?),
+        _ => return None,
+    })
+}
+
+// ---- snapshots
+
+/// The snapshot of a group up to there, with a membership of the first entry.
+pub fn snapshot_meta(last: LogId<u64>, members: Members) -> SnapshotMeta<u64, BasicNode>
+    ensures { result.last_log_id ≡ Some last }
+{
+    SnapshotMeta {
+        last_log_id: Some(last),
+        last_membership: StoredMembership::new(Some(log_id(0, 0)), members),
+    }
+}
+
+// Whether a snapshot is asked for, if there is memory.
+fn asks_for_snapshot(engine: &mut NumberedEngine) -> Option<bool> {
+    engine.trigger_snapshot().ok()
+}
+
+// The snapshot of the first two entries is there.
+fn has_built(engine: &mut NumberedEngine, members: Members) -> bool {
+    engine
+        .finish_building_snapshot(snapshot_meta(log_id(1, 1), members))
+        .is_ok()
+}
+
+// A snapshot up to place 5 comes.
+fn installs(engine: &mut NumberedEngine, members: Members) -> bool {
+    let vote = Vote::new_committed(1, 1);
+    let meta = snapshot_meta(log_id(1, 5), members);
+    engine
+        .handle_install_full_snapshot(vote, meta, accepted(), 7)
+        .is_ok()
+}
+
+/// The answer to a row about a snapshot.
+pub fn snapped(engine: &mut NumberedEngine, alloc: Global, words: &[&str]) -> Option<Answer> {
+    Some(match words {
+        ["ask"] => Answer::shown(alloc, &asks_for_snapshot(engine)),
+        ["built", voters @ ..] => {
+            let voters = numbers(alloc, voters).ok()?;
+            Answer::truth(has_built(engine, members(alloc, &voters, &voters).ok()?))
+        }
+        ["install", voters @ ..] => {
+            let voters = numbers(alloc, voters).ok()?;
+            Answer::truth(installs(engine, members(alloc, &voters, &voters).ok()?))
+        }
+        _ => return None,
+    })
+}
+
+/// The answer to a row about another event.
+pub fn happened(engine: &mut NumberedEngine, alloc: Global, words: &[&str]) -> Option<Answer> {
+    let done = match words {
+        ["propose", command] => {
+            proposes(engine, Bytes::from_slice(alloc, command.as_bytes()).ok()?)
+        }
+        ["be-refused-by-3", term, node, index] => {
+            let leader = LeaderId::new(number(term), number(node));
+            is_refused(engine, Some(LogId::new(leader, number(index))))
+        }
+        [name] => is_done(engine, name)?,
+        ["add-learner", id] => { changes(engine, members(alloc, &[1], &[1, number(id)]).ok()?) }
+        [name, voters @ ..] => {
+            let voters = numbers(alloc, voters).ok()?;
+            is_done_by(engine, alloc, name, members(alloc, &voters, &voters).ok()?)?
+        }
+        _ => return None,
+    };
+    Some(Answer::truth(done))
+}

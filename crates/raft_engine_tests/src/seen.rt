@@ -1,0 +1,61 @@
+//! What is seen of an engine.
+
+use crate::engines::NumberedEngine;
+use raft_rows::Answer;
+use raft_state::{LogId, LogIdOptionExt, Vote};
+use std::alloc::Global;
+
+fn is_candidate(engine: &NumberedEngine) -> bool {
+    engine.candidate_ref().is_some()
+}
+
+// The same, as it is lent for writing.
+fn lends_candidate(engine: &mut NumberedEngine) -> bool {
+    engine.candidate_mut().is_some()
+}
+
+fn vote(engine: &NumberedEngine) -> Vote<u64> {
+    *engine.state.state.vote_ref()
+}
+
+// The place up to which all is committed.
+fn committed_place(engine: &NumberedEngine) -> Option<u64> {
+    engine.state.state.committed.index()
+}
+
+fn last(engine: &NumberedEngine) -> Option<LogId<u64>> {
+    engine.state.last_log_id()
+}
+
+// Whether the runtime has something to do; then no longer.
+fn take_work(engine: &mut NumberedEngine) -> bool {
+    let has_work = !engine.output.is_empty();
+    engine.output.clear();
+    has_work
+}
+
+// The answer to a question of yes or no.
+fn is_so(engine: &mut NumberedEngine, question: &str) -> Option<bool> {
+    Some(match question {
+        "leads" => engine.leader.is_some(),
+        "is-candidate" => is_candidate(engine),
+        "lends-candidate" => lends_candidate(engine),
+        "has-no-work" => engine.output.is_empty(),
+        "take-work" => take_work(engine),
+        "knows-greater-log" => engine.is_there_greater_log(),
+        _ => return None,
+    })
+}
+
+/// The answer to a row that asks about an engine.
+pub fn seen(engine: &mut NumberedEngine, alloc: Global, question: &str) -> Option<Answer> {
+    Some(match question {
+        "id" => Answer::shown(alloc, &engine.config.id),
+        "vote" => Answer::shown(alloc, &vote(engine)),
+        "committed-place" => Answer::shown(alloc, &committed_place(engine)),
+        "committed" => Answer::shown(alloc, &engine.state.state.committed),
+        "first-place" => Answer::shown(alloc, &engine.state.first_place()),
+        "last" => Answer::shown(alloc, &last(engine)),
+        _ => Answer::truth(is_so(engine, question)?),
+    })
+}

@@ -1,0 +1,221 @@
+-- What nodes have stored and what was sent fits, along every history; and what holds of each node along such worlds.
+use Rattle.std.specs.Prelude.{◌≡◌, ℕ, ◌<◌, Bool, true, false, List, [], length, slice_get, Option, Some, None, refl}
+use Rattle.std.proofs.Common.{sym, ap, ◌∙◌, subst, arith, ⊎_elim}
+use Rattle.std.proofs.lemmas.List.Elements.{All-contains, All-nil}
+use Rattle.raft_group_step.specs.Values.{Entry, Membership, has_id}
+use Rattle.raft_group_step.specs.StoredGroup.{StoredGroup}
+use Rattle.raft_group_step.specs.Message.{Message}
+use Rattle.raft_group_step.specs.GroupState.{GroupState, no_group, state_of}
+use Rattle.raft_group_step.specs.GroupEvent.{GroupCall, GroupEvent, AddGroup, Call, Receive, Open}
+use Rattle.raft_group_step.specs.StepResult.{RefusalReason, StepResult}
+use Rattle.raft_group_step.specs.GroupStep.{group_step}
+use Rattle.raft_laws.specs.BallotWorld.{BallotEvent}
+use Rattle.raft_laws.specs.BallotRanks.{ballot_group}
+use Rattle.raft_laws.specs.declared.world_event.WorldEvent.{WorldEvent}
+use Rattle.raft_laws.specs.declared.world_event.WorldEvent.TheVariants.{Add, Ask, Crash, Deliver, Halt, Restart}
+use Rattle.raft_laws.specs.GroupWorld.{GroupWorld, NodeState, Absent, Up, Down, Outcome, Recorded, is_stop, new_world, state_or}
+use Rattle.raft_laws.specs.NodeEvent.{NodeEvent, Comes, Crashes, Halts, Restarts, after_step, outcome_at, outcome_of_end, outcome_of_step, outcome_of_stop, state_after}
+use Rattle.raft_laws.specs.GroupRun.{Scene, Nowhere, At, Replays, after_scene, is_same_setup, outcome_in, scene_of, scene_of_call, scene_of_delivery, sent_in, setup_in_call, stop_at}
+use Rattle.raft_laws.specs.VotesRise.{stored_of}
+use Rattle.raft_laws.specs.OneList.{AreNodeIds}
+use Rattle.raft_laws.proofs.BallotAgreement.{same_some}
+use Rattle.raft_laws.proofs.BallotSafe.{Among, among_at}
+use Rattle.raft_laws.proofs.BallotSettling.{all_commits}
+use Rattle.raft_laws.proofs.Counts.{among_contains, contains_at}
+use Rattle.raft_laws.proofs.Ids.{size_same}
+use Rattle.raft_laws.proofs.Shapes.{joined_end}
+use Rattle.raft_laws.proofs.Standing.{UpFits}
+use Rattle.raft_laws.proofs.StepFits.{NodeFits, world_after}
+use Rattle.raft_laws.proofs.WorldFits.{NodeStateFits, WorldFits}
+use Rattle.raft_laws.proofs.WorldSteps.{MayHappen}
+use Rattle.raft_laws.proofs.WorldRuns.{MayTakePlace, among_either}
+use Rattle.raft_laws.proofs.HeldLists.{at_node}
+use Rattle.raft_laws.proofs.WorldStart.{founded}
+use Rattle.raft_step_laws.specs.Fitting.{ComesWithin, FitsBody, FitsEvent, FitsPayload, FitsStored, IsCommittedWithin, StepFits}
+use Rattle.raft_step_laws.proofs.FitSteps.{steps_fit}
+use Rattle.raft_history_laws.specs.Limits.{CommittedIsWithin, MessagesFit, StoredPartsFit}
+use Rattle.raft_history_laws.proofs.Along.{along}
+use Rattle.raft_history_laws.proofs.AlongNodes.{may_follow}
+use Rattle.raft_history_laws.proofs.Later.{one_node}
+
+-- ---- what is committed is within the log
+
+module _ (m : Membership) (some : 0 < length m.configs) (before : List BallotEvent) (own : ℕ) (s : GroupState) where
+  pub is_within_log : UpFits m ((world_after m before).node own) s → IsCommittedWithin s
+  is_within_log u =
+      let reached = (all_commits (ballot_group m) some before own).left in
+      let size = ap length u.fits.log ∙ size_same u.list in
+      let ends = joined_end s.stored u.list u.joined in
+      let low = u.joined.low in
+      let above = u.fits.reaches in
+      let is = u.commit in
+      record { begins = omega arith; ends = omega arith }
+
+  pub comes_within : NodeFits m (world_after m before) own s → (e : GroupEvent) → ComesWithin s e
+  comes_within h AddGroup = tt
+  comes_within h (Call call now) = tt
+  comes_within h (Receive peer x now) = is_within_log h.up
+  comes_within h Open = tt
+
+pub committed_within : CommittedIsWithin
+committed_within ids rs end h n s up =
+    let f = founded ids h.node_ids rs end h.replays in
+    let fits = at_node f.membership (world_after f.membership f.is.matches.before) end f.is.matches.fits n (Up s) up in
+    is_within_log f.membership f.some f.is.matches.before n s fits.1.up
+
+-- ---- events that fit
+
+abbrev pub FitsNodeEvent : NodeEvent → Type 0
+FitsNodeEvent (Comes e) = FitsEvent e
+FitsNodeEvent Crashes = Unit {0}
+FitsNodeEvent Halts = Unit {0}
+FitsNodeEvent Restarts = Unit {0}
+
+abbrev pub FitsScene : Scene → Type 0
+FitsScene Nowhere = Unit {0}
+FitsScene (At n e) = FitsNodeEvent e
+
+-- all that was sent fits
+abbrev pub AllSentFit : List Message → Type 0
+AllSentFit ms = (x : Message) → Among x ms → FitsBody x.body
+
+call_fits : (b : Bool) (n : ℕ) (call : GroupCall) (now : ℕ) → FitsScene (scene_of_call b n call now)
+call_fits true n call now = tt
+call_fits false n call now = tt
+
+pub scene_fits : (w : GroupWorld) → AllSentFit w.messages → (e : WorldEvent) → FitsScene (scene_of w e)
+scene_fits w h (Add n) = tt
+scene_fits w h (Ask n call now) = call_fits (is_same_setup w.setup (setup_in_call call)) n call now
+scene_fits w h (Deliver number now) = go (slice_get w.messages number) refl
+  where
+    go : (o : Option Message) → slice_get w.messages number ≡ o → FitsScene (scene_of_delivery o now)
+    go None is = tt
+    go (Some x) is = h x (among_at w.messages number x is)
+scene_fits w h (Crash n) = tt
+scene_fits w h (Halt n) = tt
+scene_fits w h (Restart n) = tt
+
+-- ---- each event at a node
+
+abbrev pub NodeStored : NodeState → Type 0
+NodeStored Absent = Unit {0}
+NodeStored (Up s) = FitsStored s.stored
+NodeStored (Down stored) = FitsStored stored
+
+-- what an event leaves and sends
+record Leaves (o : Outcome) (x : NodeState) : Type 0 where
+  stored : NodeStored x
+  sent : AllSentFit (sent_in o)
+
+nothing_sent : (o : Outcome) (x : NodeState) → sent_in o ≡ [] → NodeStored x → Leaves o x
+nothing_sent o x e h = record { stored = h; sent = λ y a. absurd (subst (λ ms. Among y ms) e a) }
+
+module _ (s : GroupState) (r : StepResult) (h : StepFits s r) where
+  ends : (why : Option RefusalReason) → Leaves (outcome_of_end r why) (Up r.state)
+  ends None =
+      record {
+        stored = h.stored;
+        sent = λ y a. All-contains (λ (z : Message). FitsBody z.body) r.messages y h.messages (among_contains r.messages y a);
+      }
+  ends (Some why) = nothing_sent (outcome_of_end r (Some why)) (Up r.state) refl h.stored
+
+  stops : (k : ℕ) (e : GroupEvent) (why : Option RefusalReason) → Leaves (outcome_of_stop s e r why) (after_step (Some k) s r)
+  stops k e None = nothing_sent (outcome_of_stop s e r None) (after_step (Some k) s r) refl (h.stops k)
+  stops k e (Some why) = nothing_sent (outcome_of_stop s e r (Some why)) (after_step (Some k) s r) refl (h.stops k)
+
+  step_leaves : (stopped : Bool) (k : ℕ) (e : GroupEvent) → Leaves (outcome_of_step stopped s e r) (after_step (stop_at stopped k) s r)
+  step_leaves true k e = stops k e r.refused
+  step_leaves false k e = ends r.refused
+
+node_leaves : (m : Membership) (some : 0 < length m.configs) (before : List BallotEvent) (n : ℕ) (e : NodeEvent) (stopped : Bool) (k : ℕ) (x : NodeState) → NodeStateFits m (world_after m before) n x → FitsNodeEvent e → NodeStored x → Leaves (outcome_at n e stopped x) (state_after n e (stop_at stopped k) x)
+node_leaves m some before n e stopped k Absent fits f h = nothing_sent (outcome_at n e stopped Absent) Absent refl tt
+node_leaves m some before n (Comes e) stopped k (Up s) fits f h =
+    step_leaves s (group_step n s e) (steps_fit n s e h (comes_within m some before n s fits.1 e) f) stopped k e
+node_leaves m some before n Crashes stopped k (Up s) fits f h = nothing_sent (outcome_at n Crashes stopped (Up s)) (Down s.stored) refl h
+node_leaves m some before n Halts stopped k (Up s) fits f h = nothing_sent (outcome_at n Halts stopped (Up s)) (Down s.stored) refl h
+node_leaves m some before n Restarts stopped k (Up s) fits f h = nothing_sent (outcome_at n Restarts stopped (Up s)) (Up s) refl h
+node_leaves m some before n (Comes e) stopped k (Down stored) fits f h = nothing_sent (outcome_at n (Comes e) stopped (Down stored)) (Down stored) refl h
+node_leaves m some before n Crashes stopped k (Down stored) fits f h = nothing_sent (outcome_at n Crashes stopped (Down stored)) (Down stored) refl h
+node_leaves m some before n Halts stopped k (Down stored) fits f h = nothing_sent (outcome_at n Halts stopped (Down stored)) (Down stored) refl h
+node_leaves m some before n Restarts stopped k (Down stored) fits f h =
+    step_leaves (state_of stored) (group_step n (state_of stored) Open) (steps_fit n (state_of stored) Open h tt tt) stopped k Open
+
+-- ---- along every history
+
+pub record WorldStored (w : GroupWorld) : Type 0 where
+  pub nodes : (n : ℕ) → NodeStored (w.nodes n)
+  pub messages : AllSentFit w.messages
+
+scene_stored : (m : Membership) (some : 0 < length m.configs) (before : List BallotEvent) (w : GroupWorld) (fits : WorldFits m (world_after m before) w) (e : WorldEvent) (stopped : Bool) (k : ℕ) (scene : Scene) → FitsScene scene → WorldStored w → WorldStored (after_scene w e (outcome_in w stopped scene) (stop_at stopped k) scene)
+scene_stored m some before w fits e stopped k Nowhere f h = h
+scene_stored m some before w fits e stopped k (At i at_node) f h =
+    let state = state_after i at_node (stop_at stopped k) (w.nodes i) in
+    let o = outcome_at i at_node stopped (w.nodes i) in
+    let left = node_leaves m some before i at_node stopped k (w.nodes i) (fits.nodes i) f (h.nodes i) in
+    record {
+      nodes = λ n. one_node (λ (j : ℕ) (y : NodeState). NodeStored y) i n state w.nodes (λ same. left.stored) (λ other. h.nodes n);
+      messages = λ y a. ⊎_elim (λ old. h.messages y old) (λ new. left.sent y new) (among_either y w.messages (sent_in o) a);
+    }
+
+no_group_fits : FitsStored no_group
+no_group_fits =
+    record {
+      entries = All-nil (λ (e : Entry). FitsPayload e.payload);
+      placed = λ i e at. absurd (let f : None ≡ Some e = at in cc);
+      snapshot = tt;
+    }
+
+start_stored : (b : Bool) → NodeStored (state_or b (Up (state_of no_group)) Absent)
+start_stored true = no_group_fits
+start_stored false = tt
+
+pub world_stored : (ids : List ℕ) → AreNodeIds ids → (rs : List Recorded) (end : GroupWorld) → Replays (new_world ids) rs end → WorldStored end
+world_stored ids small rs end run =
+    along ids WorldStored
+    (λ early w past r k is h.
+    let f = may_follow ids small early w past r k is in
+    subst (λ o. WorldStored (after_scene w r.event o (stop_at (is_stop r.outcome) k) (scene_of w r.event))) (sym is)
+    (scene_stored f.membership f.some f.first.before w f.first.fits r.event (is_stop r.outcome) k (scene_of w r.event) (scene_fits w h.messages r.event) h))
+    (record { nodes = λ n. start_stored (has_id ids n); messages = λ y a. absurd a })
+    rs end run
+
+stored_at : (x : NodeState) (st : StoredGroup) → NodeStored x → stored_of x ≡ Some st → FitsStored st
+stored_at Absent st h e = absurd (let no : None ≡ Some st = e in cc)
+stored_at (Up s) st h e = subst FitsStored (same_some e) h
+stored_at (Down stored) st h e = subst FitsStored (same_some e) h
+
+pub stored_parts_fit : StoredPartsFit
+stored_parts_fit ids rs end h n st has = stored_at (end.nodes n) st ((world_stored ids h.node_ids rs end h.replays).nodes n) has
+
+pub messages_fit : MessagesFit
+messages_fit ids rs end h y within =
+    let k = contains_at end.messages y within in
+    (world_stored ids h.node_ids rs end h.replays).messages y (among_at end.messages k.0 y k.1)
+
+-- ---- what each event keeps at its node, where what is stored and what comes fits
+
+abbrev pub FittingKeep : (ℕ → NodeState → Type 0) → Type 0
+FittingKeep N =
+    (m : Membership) → 0 < length m.configs → (before : List BallotEvent) (n : ℕ) (e : NodeEvent) (stopped : Bool) (k : ℕ) (x : NodeState)
+    → NodeStateFits m (world_after m before) n x → MayHappen m (world_after m before) n e x
+    → NodeStored x → FitsNodeEvent e
+    → N n x → N n (state_after n e (stop_at stopped k) x)
+
+module _ (N : ℕ → NodeState → Type 0) (keep : FittingKeep N) where
+  fitting_scene : (m : Membership) (some : 0 < length m.configs) (before : List BallotEvent) (w : GroupWorld) (fits : WorldFits m (world_after m before) w) (e : WorldEvent) (stopped : Bool) (k : ℕ) (scene : Scene) → MayTakePlace m some w before fits scene → WorldStored w → FitsScene scene → ((n : ℕ) → N n (w.nodes n)) → (n : ℕ) → N n ((after_scene w e (outcome_in w stopped scene) (stop_at stopped k) scene).nodes n)
+  fitting_scene m some before w fits e stopped k Nowhere may stored f h n = h n
+  fitting_scene m some before w fits e stopped k (At i at_node) may stored f h n =
+      let state = state_after i at_node (stop_at stopped k) (w.nodes i) in
+      one_node N i n state w.nodes
+      (λ same. subst (λ j. N j state) (sym same) (keep m some before i at_node stopped k (w.nodes i) (fits.nodes i) may (stored.nodes i) f (h i)))
+      (λ other. h n)
+
+  pub along_fitting : (ids : List ℕ) → AreNodeIds ids → ((n : ℕ) (b : Bool) → N n (state_or b (Up (state_of no_group)) Absent)) → (rs : List Recorded) (end : GroupWorld) → Replays (new_world ids) rs end → (n : ℕ) → N n (end.nodes n)
+  along_fitting ids small start rs end run =
+      along ids (λ (w : GroupWorld). (n : ℕ) → N n (w.nodes n))
+      (λ early w past r k is h.
+      let f = may_follow ids small early w past r k is in
+      let stored = world_stored ids small early w past in
+      subst (λ o. (n : ℕ) → N n ((after_scene w r.event o (stop_at (is_stop r.outcome) k) (scene_of w r.event)).nodes n)) (sym is)
+      (fitting_scene f.membership f.some f.first.before w f.first.fits r.event (is_stop r.outcome) k (scene_of w r.event) f.may stored (scene_fits w stored.messages r.event) h))
+      (λ n. start n (has_id ids n)) rs end run

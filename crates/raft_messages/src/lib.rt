@@ -1,0 +1,18 @@
+//! The words that the crates of a group share: messages, entries, memberships and limits.
+#![tactic(auto)]
+
+pub mod entries;
+pub mod limits;
+pub mod memberships;
+pub mod message;
+
+pub use entries::{
+    GroupEntry, GroupPayload, all_go_on, copies_of, copy_of_entry, copy_of_payload, last_sent,
+    push_copies,
+};
+pub use limits::{
+    MAX_ADDRESS_BYTES, MAX_COMMAND_BYTES, MAX_ENTRIES, MAX_NODES, MAX_VOTER_GROUPS, MAX_VOTERS,
+    NUMBER_LIMIT, is_first_membership, is_valid, is_within_limits,
+};
+pub use memberships::{LoggedPair, SnapshotHead, copy_of_pair, last_membership, membership_after};
+pub use message::{AppendFields, Message, MessageBody, ReplyFields, ReplyResult, RequestId};

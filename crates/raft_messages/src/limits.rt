@@ -1,0 +1,74 @@
+//! Which memberships, commands, requests and numbers may be.
+ghost use Rattle.std.specs.Prelude.{◌≡◌, length, nat_le, ℕ, List};
+ghost use Rattle.std.specs.List.{list_all};
+ghost use Rattle.raft_group_step.specs.Refusal.{is_first_membership};
+ghost use Rattle.raft_group_step.specs.Values.{is_valid, is_within_limits};
+
+use raft_state::{BasicNode, IdSet, Membership};
+
+/// A command has at most so many bytes.
+pub const MAX_COMMAND_BYTES: usize = 65_536;
+
+/// A membership has at most so many voter groups.
+pub const MAX_VOTER_GROUPS: usize = 8;
+
+/// A voter group has at most so many voters.
+pub const MAX_VOTERS: usize = 64;
+
+/// A membership has at most so many nodes.
+pub const MAX_NODES: usize = 128;
+
+/// An address has at most so many bytes.
+pub const MAX_ADDRESS_BYTES: usize = 255;
+
+/// A request has at most so many entries.
+pub const MAX_ENTRIES: usize = 64;
+
+/// Terms, places, moments and the numbers of requests are below this.
+pub const NUMBER_LIMIT: u64 = 1 << 62;
+
+// Whether each voter group has at most so many voters as it may have.
+fn are_groups_short(groups: &[IdSet<u64>]) -> bool
+    ensures { result ≡ list_all (λ (group : List ℕ). nat_le (length group) 64) groups.now }
+{
+    groups.iter().all(|group| group.len() <= MAX_VOTERS)
+}
+
+// Whether each address has at most so many bytes as it may have.
+fn are_addresses_short(nodes: &[(u64, BasicNode)]) -> bool
+    ensures { result ≡ list_all (λ (node : ℕ × List ℕ). nat_le (length node.1) 255) nodes.now }
+{
+    nodes
+        .iter()
+        .all(|node| node.1.addr.len() <= MAX_ADDRESS_BYTES)
+}
+
+/// Whether the membership has at most so many voter groups, voters, nodes and bytes of each
+/// address as it may have (own).
+pub fn is_within_limits(membership: &Membership<u64, BasicNode>) -> bool
+    ensures { result ≡ is_within_limits membership.now }
+{
+    let groups = membership.get_joint_config();
+    let nodes = membership.nodes();
+    groups.len() <= MAX_VOTER_GROUPS
+        && are_groups_short(groups)
+        && nodes.len() <= MAX_NODES
+        && are_addresses_short(nodes)
+}
+
+/// Whether no voter group is empty, and each voter is a node (own).
+pub fn is_valid(membership: &Membership<u64, BasicNode>) -> bool
+    ensures { result ≡ is_valid membership.now }
+{
+    membership.ensure_valid().is_ok()
+}
+
+/// Whether a group can be set up with the membership: it is valid, within the limits and has a
+/// voter group (own).
+pub fn is_first_membership(membership: &Membership<u64, BasicNode>) -> bool
+    ensures { result ≡ is_first_membership membership.now }
+{
+    is_valid(membership)
+        && is_within_limits(membership)
+        && !membership.get_joint_config().is_empty()
+}

@@ -1,0 +1,63 @@
+//! Memberships that are lent with the log ids of their entries, and the head of a snapshot.
+ghost use Rattle.std.specs.Prelude.{◌≡◌, IfOk};
+ghost use Rattle.raft_group_step.specs.Values.{last_membership, membership_after};
+ghost use Rattle.raft_messages.specs.Memberships.{logged_or_none};
+
+use crate::entries::GroupEntry;
+use raft_group_step::LoggedMembership;
+use raft_state::{BasicNode, EntryPayload, LogId, Membership};
+use std::alloc::AllocError;
+
+/// A lent membership, with the log id of the entry that has it (own).
+pub type LoggedPair<'a> = (LogId<u64>, &'a Membership<u64, BasicNode>);
+
+/// What a snapshot covers, lent (own).
+#[derive(Clone, Copy)]
+pub struct SnapshotHead<'a> {
+    /// The log id of the last entry.
+    pub last: LogId<u64>,
+    /// The last membership among the entries, if there is one.
+    pub membership: Option<LoggedPair<'a>>,
+}
+
+/// The membership of the entry, or else the one before (own).
+pub fn membership_after<'a>(
+    before: Option<LoggedPair<'a>>,
+    entry: &'a GroupEntry,
+) -> Option<LoggedPair<'a>>
+    ensures { logged_or_none result ≡ membership_after (logged_or_none before.entry) entry.now.log_id entry.now.payload }
+{
+    match &entry.payload {
+        EntryPayload::Membership(membership) => Some((entry.log_id, membership)),
+        _ => before,
+    }
+}
+
+/// The last membership of the entries, or else the one before them (own).
+pub fn last_membership<'a>(
+    before: Option<LoggedPair<'a>>,
+    entries: &'a [GroupEntry],
+) -> Option<LoggedPair<'a>>
+    ensures { logged_or_none result ≡ last_membership (logged_or_none before.entry) entries.now }
+{
+    let mut last = before;
+    for entry in entries {
+        last = membership_after(last, entry);
+    }
+    last
+}
+
+/// A copy of a membership that is lent, with its log id (own). It fails for want of memory alone.
+pub fn copy_of_pair(
+    pair: Option<LoggedPair>,
+) -> Result<Option<LoggedMembership<u64, BasicNode>>, AllocError>
+    ensures { IfOk result (λ copy. copy ≡ logged_or_none pair.entry) }
+{
+    match pair {
+        None => Ok(None),
+        Some((log_id, membership)) => Ok(Some(LoggedMembership {
+            log_id,
+            membership: membership.clone()?,
+        })),
+    }
+}

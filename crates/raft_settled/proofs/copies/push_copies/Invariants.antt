@@ -1,6 +1,0 @@
--- The entries so far are copied.
-use Rattle.std.proofs.Common.{◌≡◌, ◌++◌, take}
-use Rattle.raft_settled.proofs.copies.push_copies.Given as goal
-
-abbrev pub invariant-loop-entry : goal.invariant-loop-entry
-invariant-loop-entry l = l.to.items ≡ l.fn.to.items ++ take l.entry-index l.entries

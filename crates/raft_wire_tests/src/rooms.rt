@@ -1,0 +1,55 @@
+//! Large frames, and for how many bytes a feeder has memory meanwhile.
+
+use crate::calls::{feed, new_feeder, room_of};
+use raft_rows::{Answer, number};
+use raft_wire::MAX_IDLE_ROOM;
+use std::alloc::{AllocError, Global};
+
+/// A length below 2^32 as four bytes.
+fn length_bytes(len: usize) -> [u8; 4] {
+    ((len % 4_294_967_296) as u32).to_be_bytes()
+}
+
+/// A snapshot's frame with so many bytes of the machine in place of its 8, of another kind.
+fn lengthened(alloc: Global, frame: &[u8], kind: u8, len: usize) -> Result<Vec<u8>, AllocError> {
+    let covered = frame.get(5..frame.len().saturating_sub(12)).unwrap_or(&[]);
+    let behind = covered.len().saturating_add(5).saturating_add(len);
+    let mut bytes = Vec::new(alloc);
+    bytes.extend_from_slice(&length_bytes(behind))?;
+    bytes.push(kind)?;
+    bytes.extend_from_slice(covered)?;
+    bytes.extend_from_slice(&length_bytes(len))?;
+    bytes.extend_from_slice(&Vec::from_elem(alloc, 7u8, len)?)?;
+    Ok(bytes)
+}
+
+/// Whether memory for so many bytes follows what has come of a frame of this length.
+fn is_small(room: usize, come: usize, len: usize) -> bool {
+    room <= MAX_IDLE_ROOM || room <= len.min(come.saturating_mul(4))
+}
+
+/// How many bytes are taken of a frame in pieces, whether the feeder always had little memory, and
+/// whether it gave that back in the end.
+fn rooms(alloc: Global, frame: &[u8], size: usize) -> (usize, bool, bool) {
+    let mut feeder = new_feeder(alloc);
+    let mut taken: usize = 0;
+    let mut small = room_of(&feeder) == 0;
+    for piece in frame.chunks(size.max(1)) {
+        taken = taken.saturating_add(feed(&mut feeder, piece).used);
+        small = small && is_small(room_of(&feeder), taken, frame.len());
+    }
+    (taken, small, room_of(&feeder) <= MAX_IDLE_ROOM)
+}
+
+/// The answer to a row about a large frame that is made of the frame that the bytes are.
+pub fn roomy(bytes: &[u8], alloc: Global, words: &[&str]) -> Option<Answer> {
+    let ["large-frame", kind, len, size] = *words else {
+        return None;
+    };
+    let kind = (number(kind) % 256) as u8;
+    let frame = lengthened(alloc, bytes, kind, number(len) as usize);
+    Some(match frame {
+        Ok(frame) => Answer::shown(alloc, &rooms(alloc, &frame, number(size) as usize)),
+        Err(_) => Answer::NoMemory,
+    })
+}
