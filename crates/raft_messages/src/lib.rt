@@ -11,8 +11,10 @@ pub use entries::{
     push_copies,
 };
 pub use limits::{
-    MAX_ADDRESS_BYTES, MAX_COMMAND_BYTES, MAX_ENTRIES, MAX_NODES, MAX_VOTER_GROUPS, MAX_VOTERS,
-    NUMBER_LIMIT, is_first_membership, is_valid, is_within_limits,
+    MAX_ADDRESS_BYTES, MAX_COMMAND_BYTES, MAX_ENTRIES, MAX_NODES, MAX_SNAPSHOT_BYTES,
+    MAX_VOTER_GROUPS, MAX_VOTERS, NUMBER_LIMIT, is_first_membership, is_valid, is_within_limits,
 };
-pub use memberships::{LoggedPair, SnapshotHead, copy_of_pair, last_membership, membership_after};
+pub use memberships::{
+    LoggedPair, SnapshotBytes, SnapshotHead, copy_of_pair, last_membership, membership_after,
+};
 pub use message::{AppendFields, Message, MessageBody, ReplyFields, ReplyResult, RequestId};

@@ -24,6 +24,9 @@ pub const MAX_ADDRESS_BYTES: usize = 255;
 /// A request has at most so many entries.
 pub const MAX_ENTRIES: usize = 64;
 
+/// A snapshot has at most so many bytes of the machine.
+pub const MAX_SNAPSHOT_BYTES: usize = 16_777_216;
+
 /// Terms, places, moments and the numbers of requests are below this.
 pub const NUMBER_LIMIT: u64 = 1 << 62;
 

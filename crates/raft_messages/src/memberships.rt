@@ -1,11 +1,11 @@
-//! Memberships that are lent with the log ids of their entries, and the head of a snapshot.
+//! Memberships that are lent with the log ids of their entries, and what snapshots are.
 ghost use Rattle.std.specs.Prelude.{◌≡◌, IfOk};
 ghost use Rattle.raft_group_step.specs.Values.{last_membership, membership_after};
 ghost use Rattle.raft_messages.specs.Memberships.{logged_or_none};
 
 use crate::entries::GroupEntry;
-use raft_group_step::LoggedMembership;
-use raft_state::{BasicNode, EntryPayload, LogId, Membership};
+use raft_group_step::{LoggedMembership, SnapshotMeta};
+use raft_state::{BasicNode, Bytes, EntryPayload, LogId, Membership};
 use std::alloc::AllocError;
 
 /// A lent membership, with the log id of the entry that has it (own).
@@ -18,6 +18,15 @@ pub struct SnapshotHead<'a> {
     pub last: LogId<u64>,
     /// The last membership among the entries, if there is one.
     pub membership: Option<LoggedPair<'a>>,
+}
+
+/// A snapshot as it is sent and stored: what it covers, and the machine's state as bytes (own).
+#[derive(Debug, Drop)]
+pub struct SnapshotBytes {
+    /// The log id of the last entry, and the last membership among the entries.
+    pub meta: SnapshotMeta<u64, BasicNode>,
+    /// The machine's state behind the last entry.
+    pub bytes: Bytes,
 }
 
 /// The membership of the entry, or else the one before (own).

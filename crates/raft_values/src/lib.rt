@@ -1,8 +1,7 @@
-//! The plain values of Raft: ids and nodes of a group, votes, log ids, ticks, commands.
+//! The plain values of Raft: ids and nodes of a group, votes, log ids, ticks.
 #![tactic(auto)]
 
 pub mod byte_string;
-pub mod command;
 pub mod instant;
 pub mod io_state;
 pub mod log_id;
@@ -19,7 +18,6 @@ pub mod vote;
 pub mod vote_state_reader;
 
 pub use byte_string::Bytes;
-pub use command::Command;
 pub use instant::Instant;
 pub use io_state::{IOState, LogIOId};
 pub use log_id::{LogId, log_ids_by_leader_and_index};
