@@ -287,11 +287,13 @@ module _ (base : StoredGroup) where
       (stores (RemoveUpTo x.last) set (stores (SetSnapshot x) cleared (other x.last r h) f) (omega (arith, first, past, c.begins)))
 
   offered_keeps : (own peer : ℕ) (v : Vote ℕ) (id : ℕ) (x : Snapshot) (b : Bool) (r : StepResult) → Keeps r → IsCommittedWithin r.state → FitsSnapshot x → Keeps (offered own peer v id x b r)
-  offered_keeps own peer v id x true r h c f = sends own peer _ r h tt
+  offered_keeps own peer v id x true r h c f =
+      sends own peer _ r h (record { number = id; numbered = refl; previous = refl; agrees = λ e. absurd (let f : HigherVote r.state.stored.vote ≡ Conflict = e in cc) })
   offered_keeps own peer v id x false r h c f =
       let taken = take_over v r in
       let b = is_within x.last.index taken.state.committed in
-      sends own peer _ (install_unless b x taken) (installed b x taken refl (took v r h) (took_within v r c) f) tt
+      sends own peer _ (install_unless b x taken) (installed b x taken refl (took v r h) (took_within v r c) f)
+      (record { number = id; numbered = refl; previous = refl; agrees = λ e. absurd (let f : Success ≡ Conflict = e in cc) })
 
   -- ---- replies
 

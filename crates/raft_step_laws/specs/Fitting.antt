@@ -1,11 +1,12 @@
 -- What a step stores and sends fits the limits, where what the node has and is sent does.
-use Rattle.std.specs.Prelude.{◌≡◌, ℕ, ◌+◌, ◌<◌, ◌≤◌, List, [], ◌∷◌, length, slice_get, Option, Some, IsTrue, All, IfSome}
+use Rattle.std.specs.Prelude.{◌≡◌, ℕ, ◌+◌, ◌<◌, ◌≤◌, List, [], ◌∷◌, length, slice_get, Option, Some, None, IsTrue, All, IfSome}
 use Rattle.raft_values.specs.LogId.{next_place}
 use Rattle.raft_state.specs.declared.entry.EntryPayload.TheVariants.{Blank, Normal, Membership as Members}
 use Rattle.raft_group_step.specs.Values.{Entry, EntryPayload, LoggedMembership, is_within_limits}
 use Rattle.raft_group_step.specs.StoredGroup.{Snapshot, StoredGroup, after_storing, end_place, first_place}
 use Rattle.raft_group_step.specs.StoredGroup.{StoringCommand, MakeGroup, SetVote, PutEntries, CutFrom, RemoveUpTo, SetSnapshot, StartAfter}
 use Rattle.raft_group_step.specs.Message.{AppendFields, Message, MessageBody, VoteRequest, VoteReply, AppendRequest, AppendReply, SnapshotRequest, SnapshotReply}
+use Rattle.raft_group_step.specs.Message.{Conflict, Numbered, ReplyFields}
 use Rattle.raft_group_step.specs.GroupState.{GroupState}
 use Rattle.raft_group_step.specs.GroupEvent.{GroupEvent, AddGroup, Call, Receive, Open}
 use Rattle.raft_group_step.specs.StepResult.{StepResult}
@@ -47,12 +48,20 @@ pub record IsCommittedWithin (s : GroupState) : Type 0 where
   pub begins : first_place s.stored ≤ place_above s.committed
   pub ends : place_above s.committed ≤ end_place s.stored
 
--- ---- what is sent: at most 64 entries a request, which follow the previous one
+-- ---- what is sent
 
+-- at most 64 entries a request, which follow the previous one
 pub record FitsRequest (m : AppendFields) : Type 0 where
   pub count : length m.entries ≤ 64
   pub entries : FitEntries m.entries
   pub placed : ArePlacedFrom (next_place m.previous) m.entries
+
+-- the reply to a snapshot has its request's number and no previous log id, and tells of no conflict
+pub record FitsSnapshotReply (m : ReplyFields) : Type 0 where
+  pub number : ℕ
+  pub numbered : m.id ≡ Numbered number
+  pub previous : m.previous ≡ None
+  pub agrees : m.outcome ≡ Conflict → ⊥
 
 abbrev pub FitsBody : MessageBody → Type 0
 FitsBody (VoteRequest vote last) = Unit {0}
@@ -60,7 +69,7 @@ FitsBody (VoteReply vote granted last) = Unit {0}
 FitsBody (AppendRequest m) = FitsRequest m
 FitsBody (AppendReply m) = Unit {0}
 FitsBody (SnapshotRequest vote id snapshot) = FitsSnapshot snapshot
-FitsBody (SnapshotReply m) = Unit {0}
+FitsBody (SnapshotReply m) = FitsSnapshotReply m
 
 -- what comes in a message fits
 abbrev pub FitsEvent : GroupEvent → Type 0

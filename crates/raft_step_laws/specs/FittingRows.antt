@@ -6,7 +6,7 @@ use Rattle.raft_values.specs.declared.log_id.LogId.{LogId}
 use Rattle.raft_values.specs.LogId.{log_id_of}
 use Rattle.raft_group_step.specs.Values.{Entry, Membership}
 use Rattle.raft_group_step.specs.StoredGroup.{Snapshot, StoredGroup}
-use Rattle.raft_group_step.specs.Message.{AppendFields, Numbered, VoteRequest}
+use Rattle.raft_group_step.specs.Message.{AppendFields, Numbered, ReplyFields, ReplyResult, RequestId, VoteRequest}
 use Rattle.raft_group_step.specs.GroupState.{GroupState, state_of}
 use Rattle.raft_group_step.specs.GroupEvent.{GroupEvent, Receive}
 use Rattle.raft_group_step.specs.StepExample.{blank_at, with_log}
@@ -28,6 +28,17 @@ request previous entries =
       previous = previous;
       committed = None;
       entries = entries;
+    }
+
+-- a reply to a request of this number, that was sent behind this log id
+abbrev pub reply : RequestId → Option (LogId ℕ) → ReplyResult → ReplyFields
+reply id previous outcome =
+    record {
+      vote = vote_of 1 1 true;
+      id = id;
+      previous = previous;
+      last = None;
+      outcome = outcome;
     }
 
 -- a log that begins at place 2, behind a purge point, with the blanks at 2 and 3

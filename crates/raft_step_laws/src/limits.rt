@@ -1,18 +1,20 @@
 //! What a step stores and sends fits the limits: a law of single steps, as a contract of a function without a body, with worked
 //! rows of its words.
 
-ghost use Rattle.std.specs.Prelude.{◌≡◌, [], ◌∷◌, ◌++◌, Some, None};
+ghost use Rattle.std.specs.Prelude.{◌≡◌, true, [], ◌∷◌, ◌++◌, Some, None};
 ghost use Rattle.raft_values.specs.LogId.{log_id_of};
+ghost use Rattle.raft_values.specs.Vote.{vote_of};
 ghost use Rattle.raft_state.specs.declared.entry.EntryPayload.TheVariants.{Membership as Members, Normal};
 ghost use Rattle.raft_group_step.specs.GroupEvent.{Open};
+ghost use Rattle.raft_group_step.specs.Message.{Conflict, HeartBeat, HigherVote, Numbered, SnapshotReply, Success};
 ghost use Rattle.raft_group_step.specs.StoredGroup.{CutFrom, PutEntries, RemoveUpTo};
 ghost use Rattle.raft_group_step.specs.StepExample.{blank_at, with_log};
-ghost use Rattle.raft_step_laws.specs.Fitting.{AllFit, ArePlacedFrom, ComesWithin, FitsPayload, FitsRequest, FitsSnapshot, FitsStored, FitsStoring, IsCommittedWithin, StepsFit};
-ghost use Rattle.raft_step_laws.specs.FittingRows.{behind_a_purge, blanks_from, committed_to, groups, message_of_one, request, snapshot_of};
+ghost use Rattle.raft_step_laws.specs.Fitting.{AllFit, ArePlacedFrom, ComesWithin, FitsBody, FitsPayload, FitsRequest, FitsSnapshot, FitsSnapshotReply, FitsStored, FitsStoring, IsCommittedWithin, StepsFit};
+ghost use Rattle.raft_step_laws.specs.FittingRows.{behind_a_purge, blanks_from, committed_to, groups, message_of_one, reply, request, snapshot_of};
 
 /// Where what a node has fits, and what comes to it, so does what a step stores and sends, and what is left of it at its end or
 /// after a stop. A command has at most 65,536 bytes, a membership is within its limits. A request has at most 64 entries, which
-/// follow the previous one. At most 64 entries are put at a time, at their places, inside the log or right behind it; the log
+/// follow the previous one. A snapshot's reply has a number and no previous log id. At most 64 entries are put at a time, at their places, inside the log or right behind it; the log
 /// is cut inside, and its front never comes back.
 pub fn steps_fit()
     ensures { StepsFit }
@@ -35,6 +37,16 @@ pub fn requests_that_fit()
     ensures hole { FitsRequest (request None (blank_at 0 ∷ blank_at 2 ∷ [])) → ⊥ }
     ensures many { FitsRequest (request None (blanks_from 0 65)) → ⊥ }
     ensures wide { FitsRequest (request None (record (blank_at 0) { payload = Members (groups 9) } ∷ [])) → ⊥ }
+{}
+
+/// A snapshot's reply has a number and no previous log id, and tells of success or of a greater vote.
+pub fn snapshot_replies_that_fit()
+    ensures success { FitsSnapshotReply (reply (Numbered 3) None Success) }
+    ensures greater { FitsSnapshotReply (reply (Numbered 3) None (HigherVote (vote_of 2 3 true))) }
+    ensures notice { FitsSnapshotReply (reply HeartBeat None Success) → ⊥ }
+    ensures previous { FitsSnapshotReply (reply (Numbered 3) (Some (log_id_of 1 1 1)) Success) → ⊥ }
+    ensures conflict { FitsSnapshotReply (reply (Numbered 3) None Conflict) → ⊥ }
+    ensures body { FitsBody (SnapshotReply (reply (Numbered 3) None Conflict)) → ⊥ }
 {}
 
 /// Entries are put inside the log or right behind it, at their places; the log is cut where it has an entry, and its front
