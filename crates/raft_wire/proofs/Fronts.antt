@@ -65,9 +65,9 @@ nothing_long : (short : Bool) → short ≡ true → cond short None (Some fault
 nothing_long true p = refl
 nothing_long false p = absurd cc
 
-nothing_wrong_tagged : (of_snapshot : Bool) → of_snapshot ≡ true → cond of_snapshot None (Some fault.BadTag) ≡ None
-nothing_wrong_tagged true p = refl
-nothing_wrong_tagged false p = absurd cc
+no_fault_of_tags : (of_snapshot : Bool) → of_snapshot ≡ true → cond of_snapshot None (Some fault.BadTag) ≡ None
+no_fault_of_tags true p = refl
+no_fault_of_tags false p = absurd cc
 
 pub fits_within : (b : FrameBody) → FitsBody b → fault_of_frame b ≡ None
 fits_within (body.VoteRequest r) h = refl
@@ -80,7 +80,7 @@ fits_within (body.AppendReply m) h = refl
 fits_within (body.SnapshotRequest vote id s) h =
     let m = s.meta.last_membership in
     nothing_long (is_snapshot_short m s.bytes) (both_hold _ _ (logged_within m h.snapshot.membership) (le-leb _ _ h.snapshot.bytes))
-fits_within (body.SnapshotReply m) h = nothing_wrong_tagged (is_of_snapshot m) h.of_snapshot
+fits_within (body.SnapshotReply m) h = no_fault_of_tags (is_of_snapshot m) h.of_snapshot
 
 -- ---- a frame at the front
 
