@@ -16,14 +16,14 @@ use Rattle.raft_messages.specs.declared.message.AppendFields.{AppendFields}
 use Rattle.raft_messages.specs.declared.message.ReplyFields.{ReplyFields}
 use Rattle.raft_wire.specs.declared.error.FrameFault.{FrameFault}
 use Rattle.raft_wire.specs.declared.error.FrameFault.TheVariants as fault
-use Rattle.raft_wire.specs.Reader.{Reader, both, made, tested, number_at, text_at}
+use Rattle.raft_wire.specs.Reader.{Reader, both, made, number_at, text_at}
 use Rattle.raft_wire.specs.Fields.{spelled_flag, flag_at, spelled_vote, FitsVote, vote_at, spelled_option, option_at, spelled_log_id, FitsLogId, log_id_at, spelled_last, FitsLast, last_at}
 use Rattle.raft_wire.specs.Memberships.{Chained, spelled_list, spelled_membership, FitsMembership, membership_at}
 use Rattle.raft_wire.specs.Entries.{spelled_text, spelled_entry, entry_behind, that_place}
 use Rattle.raft_wire.specs.Bodies.{marked_at, spelled_vote_request, FitsVoteRequest, vote_request_of, vote_request_at, spelled_vote_reply, FitsVoteReply, vote_reply_of, vote_reply_at}
 use Rattle.raft_wire.specs.Bodies.{number_of_id, id_of_number, spelled_id, FitsId, id_at, spelled_number, number_of_request_at, spelled_append, FitsBehind, FitsAppend, append_of, entries_at, append_at}
 use Rattle.raft_wire.specs.Bodies.{spelled_result, FitsResult, higher_vote, result_at, spelled_reply, FitsReply, reply_of, reply_at}
-use Rattle.raft_wire.specs.Bodies.{has_number, is_conflict, is_of_snapshot, FitsSnapshotReply, none_at, numbered_at, snapshot_result_at, snapshot_reply_at}
+use Rattle.raft_wire.specs.Bodies.{has_number, is_conflict, FitsSnapshotReply, none_at, numbered_at, snapshot_result_at, snapshot_reply_at}
 use Rattle.raft_wire.specs.Bodies.{spelled_logged, FitsLogged, logged_of, logged_at, spelled_snapshot, FitsSnapshot, snapshot_of, snapshot_at, SentSnapshot, spelled_sent, FitsSent, sent_of, sent_at}
 use Rattle.raft_wire.proofs.Numbers.{IsBytes, IsBytes-rest, bind_ok, ok_is, Takes, Takes-behind}
 use Rattle.raft_wire.proofs.Fitting.{Reads, fits_as, both_reads, made_reads, tested_reads, u64_reads, flag_reads, Anything, option_reads, text_reads}
