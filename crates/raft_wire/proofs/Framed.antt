@@ -3,15 +3,14 @@ use Rattle.std.proofs.Common.{◌≡◌, ℕ, zero, suc, ◌^◌, List, [], ◌�
 use Rattle.std.specs.Int.{w64, to_be_bytes}
 use Rattle.raft_wire.specs.declared.frame.FrameKind.{FrameKind}
 use Rattle.raft_wire.specs.declared.frame.FrameKind.TheVariants as kind
-use Rattle.raft_wire.specs.declared.frame.FrameBody.{FrameBody}
-use Rattle.raft_wire.specs.declared.frame.FrameBody.TheVariants as body
+use Rattle.raft_messages.specs.declared.message.MessageBody.TheVariants as body
 use Rattle.raft_wire.specs.declared.frame.Frame.{Frame}
 use Rattle.raft_wire.specs.Reader.{Reader, ◌>>=◌, made, number_at}
-use Rattle.raft_wire.specs.Bodies.{spelled_vote_request, FitsVoteRequest, vote_request_at, spelled_vote_reply, FitsVoteReply, vote_reply_at, spelled_append, FitsAppend, append_at, spelled_append_reply, FitsAppendReply, append_reply_at, spelled_snapshot_frame, FitsSnapshotFrame, snapshot_frame_at, spelled_snapshot_reply, FitsSnapshotReply, snapshot_reply_at}
-use Rattle.raft_wire.specs.Frames.{byte_of_kind, kind_at, kind_of, spelled_body, FitsBody, asks, answers_vote, appends, answers_append, sends_snapshot, answers_snapshot, body_at, spelled_rest, rest_at, FitsFrame}
+use Rattle.raft_wire.specs.Bodies.{spelled_vote_request, FitsVoteRequest, vote_request_at, spelled_vote_reply, FitsVoteReply, vote_reply_at, spelled_append, FitsAppend, append_at, spelled_reply, FitsReply, reply_at, sent, spelled_sent, FitsSent, sent_at, FitsSnapshotReply, snapshot_reply_at}
+use Rattle.raft_wire.specs.Frames.{byte_of_kind, kind_at, FrameBody, kind_of, spelled_body, FitsBody, asks, answers_vote, appends, answers_append, sends_snapshot, answers_snapshot, body_at, spelled_rest, frame_of, rest_at, FitsFrame}
 use Rattle.raft_wire.proofs.Numbers.{IsBytes, IsBytes-rest, bind_ok, ok_is, Takes, Takes-then, wide64, number_takes, number_again}
 use Rattle.raft_wire.proofs.Fitting.{Reads}
-use Rattle.raft_wire.proofs.Bodies.{vote_request_reads, vote_reply_reads, append_reads, append_reply_reads, snapshot_frame_reads, snapshot_reply_reads}
+use Rattle.raft_wire.proofs.Bodies.{vote_request_reads, vote_reply_reads, append_reads, reply_reads, sent_reads, snapshot_reply_reads}
 
 -- ---- kinds
 
@@ -57,23 +56,20 @@ unfolding body_at
 body_takes kind.VoteRequest bytes x fits e = kind_takes_body kind.VoteRequest asks vote_request_at spelled_vote_request FitsVoteRequest vote_request_reads (λ a. refl) (λ a h. (h, refl)) bytes x fits e
 body_takes kind.VoteReply bytes x fits e = kind_takes_body kind.VoteReply answers_vote vote_reply_at spelled_vote_reply FitsVoteReply vote_reply_reads (λ a. refl) (λ a h. (h, refl)) bytes x fits e
 body_takes kind.Append bytes x fits e = kind_takes_body kind.Append appends append_at spelled_append FitsAppend append_reads (λ a. refl) (λ a h. (h, refl)) bytes x fits e
-body_takes kind.AppendReply bytes x fits e = kind_takes_body kind.AppendReply answers_append append_reply_at spelled_append_reply FitsAppendReply append_reply_reads (λ a. refl) (λ a h. (h, refl)) bytes x fits e
-body_takes kind.Snapshot bytes x fits e = kind_takes_body kind.Snapshot sends_snapshot snapshot_frame_at spelled_snapshot_frame FitsSnapshotFrame snapshot_frame_reads (λ a. refl) (λ a h. (h, refl)) bytes x fits e
-body_takes kind.SnapshotReply bytes x fits e = kind_takes_body kind.SnapshotReply answers_snapshot snapshot_reply_at spelled_snapshot_reply FitsSnapshotReply snapshot_reply_reads (λ a. refl) (λ a h. (h, refl)) bytes x fits e
+body_takes kind.AppendReply bytes x fits e = kind_takes_body kind.AppendReply answers_append reply_at spelled_reply FitsReply reply_reads (λ a. refl) (λ a h. (h, refl)) bytes x fits e
+body_takes kind.Snapshot bytes x fits e = kind_takes_body kind.Snapshot sends_snapshot sent_at spelled_sent FitsSent sent_reads (λ a. refl) (λ a h. (h, refl)) bytes x fits e
+body_takes kind.SnapshotReply bytes x fits e = kind_takes_body kind.SnapshotReply answers_snapshot snapshot_reply_at spelled_reply FitsSnapshotReply snapshot_reply_reads (λ a. refl) (λ a h. (h, refl)) bytes x fits e
 
 body_again : (b : FrameBody) (rest : List ℕ) → FitsBody b → body_at (kind_of b) (spelled_body b ++ rest) ≡ Ok (b, rest)
 unfolding body_at
 body_again (body.VoteRequest r) rest h = rw (vote_request_reads.again r rest h) refl
 body_again (body.VoteReply r) rest h = rw (vote_reply_reads.again r rest h) refl
-body_again (body.Append f) rest h = rw (append_reads.again f rest h) refl
-body_again (body.AppendReply f) rest h = rw (append_reply_reads.again f rest h) refl
-body_again (body.Snapshot f) rest h = rw (snapshot_frame_reads.again f rest h) refl
-body_again (body.SnapshotReply f) rest h = rw (snapshot_reply_reads.again f rest h) refl
+body_again (body.AppendRequest m) rest h = rw (append_reads.again m rest h) refl
+body_again (body.AppendReply m) rest h = rw (reply_reads.again m rest h) refl
+body_again (body.SnapshotRequest vote id s) rest h = rw (sent_reads.again (sent vote id s) rest h) refl
+body_again (body.SnapshotReply m) rest h = rw (snapshot_reply_reads.again m rest h) refl
 
 -- ---- frames behind their length
-
-abbrev frame_of : ℕ → ℕ → ℕ → FrameBody → Frame
-frame_of group sender addressee said = record { group = group; sender = sender; addressee = addressee; body = said }
 
 rest_takes : (bytes : List ℕ) (x : Frame × List ℕ) → IsBytes bytes → rest_at bytes ≡ Ok x → Takes bytes (spelled_rest x.0) x.1 × FitsFrame x.0
 unfolding rest_at
@@ -99,15 +95,15 @@ rest_takes bytes x fits e =
 rest_again : (f : Frame) (rest : List ℕ) → FitsFrame f → rest_at (spelled_rest f ++ rest) ≡ Ok (f, rest)
 unfolding rest_at
 rest_again f rest h =
-    let b = spelled_body f.body ++ rest in
-    let regrouped : spelled_rest f ++ rest ≡ byte_of_kind (kind_of f.body) ∷ (to_be_bytes w64 f.group ++ (to_be_bytes w64 f.sender ++ (to_be_bytes w64 f.addressee ++ b))) = refl in
+    let b = spelled_body f.message.body ++ rest in
+    let regrouped : spelled_rest f ++ rest ≡ byte_of_kind (kind_of f.message.body) ∷ (to_be_bytes w64 f.group ++ (to_be_bytes w64 f.message.sender ++ (to_be_bytes w64 f.message.addressee ++ b))) = refl in
     ap rest_at regrouped
     ∙ rw (
-      kind_again (kind_of f.body) (to_be_bytes w64 f.group ++ (to_be_bytes w64 f.sender ++ (to_be_bytes w64 f.addressee ++ b))),
-      number_again w64 (2 ^ 64) wide64 f.group (to_be_bytes w64 f.sender ++ (to_be_bytes w64 f.addressee ++ b)) h.group,
-      number_again w64 (2 ^ 64) wide64 f.sender (to_be_bytes w64 f.addressee ++ b) h.sender,
-      number_again w64 (2 ^ 64) wide64 f.addressee b h.addressee,
-      body_again f.body rest h.body,
+      kind_again (kind_of f.message.body) (to_be_bytes w64 f.group ++ (to_be_bytes w64 f.message.sender ++ (to_be_bytes w64 f.message.addressee ++ b))),
+      number_again w64 (2 ^ 64) wide64 f.group (to_be_bytes w64 f.message.sender ++ (to_be_bytes w64 f.message.addressee ++ b)) h.group,
+      number_again w64 (2 ^ 64) wide64 f.message.sender (to_be_bytes w64 f.message.addressee ++ b) h.sender,
+      number_again w64 (2 ^ 64) wide64 f.message.addressee b h.addressee,
+      body_again f.message.body rest h.body,
     ) refl
 
 pub rest_reads : Reads rest_at spelled_rest FitsFrame

@@ -8,19 +8,17 @@ use Rattle.std.proofs.lemmas.List.{take_at, drop_at, length-take-le}
 use Rattle.std.proofs.Math.Seq.{take-add}
 use Rattle.std.proofs.lemmas.List.{length-drop}
 use Rattle.raft_state.specs.declared.entry.EntryPayload.TheVariants.{Blank, Normal, Membership as Members}
-use Rattle.raft_group_step.specs.Values.{is_within_limits}
+use Rattle.raft_group_step.specs.Values.{Membership, Entry, EntryPayload, LoggedMembership, is_within_limits}
+use Rattle.raft_messages.specs.declared.message.MessageBody.TheVariants as body
 use Rattle.raft_wire.specs.declared.error.FrameFault.{FrameFault}
 use Rattle.raft_wire.specs.declared.error.FrameFault.TheVariants as fault
-use Rattle.raft_wire.specs.declared.frame.FrameBody.{FrameBody}
-use Rattle.raft_wire.specs.declared.frame.FrameBody.TheVariants as body
 use Rattle.raft_wire.specs.declared.frame.Frame.{Frame}
-use Rattle.raft_wire.specs.Values.{Membership, Entry, EntryPayload}
 use Rattle.raft_wire.specs.Reader.{all_of}
 use Rattle.raft_wire.specs.Memberships.{Chained, FitsIds, nothing_left, FitsNode, that_node, FitsMembership}
 use Rattle.raft_wire.specs.Entries.{FitsPayload, that_place}
 use Rattle.raft_wire.specs.Writing.{is_payload_short}
-use Rattle.raft_wire.specs.Bodies.{FitsBehind, LoggedMembership, FitsLogged}
-use Rattle.raft_wire.specs.Frames.{spelled_parties, spelled_body, spelled_rest, spelled_frame, rest_at, FitsBody, FitsFrame, are_consecutive, are_entries_short, is_logged_short, is_snapshot_short, fault_of_frame}
+use Rattle.raft_wire.specs.Bodies.{FitsBehind, FitsLogged, is_of_snapshot}
+use Rattle.raft_wire.specs.Frames.{FrameBody, spelled_parties, spelled_body, spelled_rest, spelled_frame, rest_at, FitsBody, FitsFrame, are_consecutive, are_entries_short, is_logged_short, is_snapshot_short, fault_of_frame}
 use Rattle.raft_wire.specs.Stream.{Judged, length_in, fault_of_length, judged_frame, judged_length, judged, front}
 use Rattle.raft_wire.proofs.Numbers.{IsBytes, IsBytes-take, IsBytes-drop, wide32}
 use Rattle.raft_wire.proofs.Whole.{whole_takes, whole_again}
@@ -67,18 +65,22 @@ nothing_long : (short : Bool) → short ≡ true → cond short None (Some fault
 nothing_long true p = refl
 nothing_long false p = absurd cc
 
+no_fault_of_tags : (of_snapshot : Bool) → of_snapshot ≡ true → cond of_snapshot None (Some fault.BadTag) ≡ None
+no_fault_of_tags true p = refl
+no_fault_of_tags false p = absurd cc
+
 pub fits_within : (b : FrameBody) → FitsBody b → fault_of_frame b ≡ None
 fits_within (body.VoteRequest r) h = refl
 fits_within (body.VoteReply r) h = refl
-fits_within (body.Append f) h =
-    let es = f.request.entries in
+fits_within (body.AppendRequest m) h =
+    let es = m.entries in
     let payloads = chain_passes FitsBehind that_place (λ (e : Entry). is_payload_short e.payload) (λ last e fits. payload_within e.payload fits.0.payload) None es h.entries in
     nothing_wrong (are_entries_short es) (are_consecutive None es) (both_hold _ _ (le-leb _ _ h.count) payloads) (consecutive None es h.entries)
-fits_within (body.AppendReply f) h = refl
-fits_within (body.Snapshot f) h =
-    let m = f.request.meta.last_membership in
-    nothing_long (is_snapshot_short m f.request.bytes) (both_hold _ _ (logged_within m h.snapshot.membership) (le-leb _ _ h.snapshot.bytes))
-fits_within (body.SnapshotReply f) h = refl
+fits_within (body.AppendReply m) h = refl
+fits_within (body.SnapshotRequest vote id s) h =
+    let m = s.meta.last_membership in
+    nothing_long (is_snapshot_short m s.bytes) (both_hold _ _ (logged_within m h.snapshot.membership) (le-leb _ _ h.snapshot.bytes))
+fits_within (body.SnapshotReply m) h = no_fault_of_tags (is_of_snapshot m) h.of_snapshot
 
 -- ---- a frame at the front
 
@@ -98,8 +100,8 @@ pub front_again : (f : Frame) (rest : List ℕ) → FitsFrame f → front (spell
 front_again f rest h =
     let n = length (spelled_rest f) in
     let s = spelled_frame f ++ rest in
-    let short : n ≤ 17825788 = rest_short f (fits_within f.body h.body) in
-    let some : 25 ≤ n = omega (arith, length-append (spelled_parties f) (spelled_body f.body)) in
+    let short : n ≤ 17825788 = rest_short f (fits_within f.message.body h.body) in
+    let some : 25 ≤ n = omega (arith, length-append (spelled_parties f) (spelled_body f.message.body)) in
     let regrouped : s ≡ to_be_bytes w32 n ++ (spelled_rest f ++ rest) = append_assoc (to_be_bytes w32 n) (spelled_rest f) rest in
     let size : length (spelled_frame f) ≡ n + 4 = omega (arith, length-append (to_be_bytes w32 n) (spelled_rest f)) in
     let long : n + 4 ≤ length s = omega (arith, length-append (spelled_frame f) rest) in

@@ -9,13 +9,13 @@ use Rattle.std.proofs.lemmas.Bool.{and_parts}
 use Rattle.std.proofs.lemmas.Bool.Decides.{nat_tests}
 use Rattle.std.proofs.lemmas.List.Elements.{All-head, All-tail, All-from_all_within, AllWithin-upto}
 use Rattle.raft_quorums.specs.Rising.{IsBelowAll, IsRising, IsRisingByFirst}
-use Rattle.raft_wire.specs.Values.{Entry}
+use Rattle.raft_group_step.specs.Values.{Entry}
+use Rattle.raft_messages.specs.declared.message.AppendFields.{AppendFields}
 use Rattle.raft_wire.specs.Memberships.{Chained, FitsId as FitsIdAbove, that_id, FitsIds, nothing_left, FitsAddress, FitsNode, that_node}
 use Rattle.raft_wire.specs.Entries.{FitsEntry, that_place}
 use Rattle.raft_wire.specs.Bodies.{FitsBehind, FitsId, FitsAppend}
 use Rattle.raft_wire.specs.Fields.{FitsVote, FitsLast}
 use Rattle.raft_wire.specs.Writing.{is_payload_short}
-use Rattle.raft_wire.specs.declared.frame.AppendFrame.{AppendFrame}
 use Rattle.raft_wire.specs.declared.error.FrameFault.TheVariants as fault
 use Rattle.raft_wire.specs.Frames.{are_consecutive, are_entries_short, fault_of_entries}
 
@@ -75,10 +75,9 @@ right_entries false follow h = absurd cc
 few : (n : ℕ) (others : Bool) → (nat_le n 64 && others) ≡ true → n ≤ 64
 few n others h = let parts = and_parts (nat_le n 64) others h in grind (arith, nat_tests)
 
-pub append_fits : (f : AppendFrame) → fault_of_entries f.request.entries ≡ None → FitsVote f.request.vote → FitsId f.id → FitsLast f.request.prev_log_id → FitsLast f.request.leader_commit
-    → All FitsEntry f.request.entries → FitsAppend f
-append_fits f right vote id previous committed each =
-    let es = f.request.entries in
+pub append_fits : (m : AppendFields) → fault_of_entries m.entries ≡ None → FitsVote m.vote → FitsId m.id → FitsLast m.previous → FitsLast m.committed → All FitsEntry m.entries → FitsAppend m
+append_fits m right vote id previous committed each =
+    let es = m.entries in
     let parts = right_entries (are_entries_short es) (are_consecutive None es) right in
     record { vote = vote; id = id; previous = previous; committed = committed; count = few (length es) (list_all (λ e. is_payload_short e.payload) es) parts.0; entries = entries_fit None es parts.1 each }
 

@@ -8,27 +8,23 @@ use Rattle.std.proofs.Math.Nat.{suc-mul}
 use Rattle.raft_values.specs.declared.vote.Vote.{Vote}
 use Rattle.raft_values.specs.declared.log_id.LogId.{LogId}
 use Rattle.raft_state.specs.declared.entry.EntryPayload.TheVariants.{Blank, Normal, Membership as Members}
-use Rattle.raft_group_step.specs.Values.{is_within_limits}
+use Rattle.raft_group_step.specs.Values.{Membership, Entry, EntryPayload, LoggedMembership, is_within_limits}
+use Rattle.raft_messages.specs.declared.message.RequestId.{RequestId}
+use Rattle.raft_messages.specs.declared.message.RequestId.TheVariants.{HeartBeat, Numbered}
+use Rattle.raft_messages.specs.declared.message.ReplyResult.{ReplyResult}
+use Rattle.raft_messages.specs.declared.message.ReplyResult.TheVariants.{Success, Conflict, HigherVote}
+use Rattle.raft_messages.specs.declared.message.AppendFields.{AppendFields}
+use Rattle.raft_messages.specs.declared.message.ReplyFields.{ReplyFields}
+use Rattle.raft_messages.specs.declared.message.MessageBody.TheVariants as body
 use Rattle.raft_wire.specs.declared.error.FrameFault.{FrameFault}
 use Rattle.raft_wire.specs.declared.error.FrameFault.TheVariants as fault
-use Rattle.raft_wire.specs.declared.frame.AppendId.{AppendId}
-use Rattle.raft_wire.specs.declared.frame.AppendId.TheVariants.{HeartBeat, Numbered}
-use Rattle.raft_wire.specs.declared.frame.AppendResult.{AppendResult}
-use Rattle.raft_wire.specs.declared.frame.AppendResult.TheVariants as append
-use Rattle.raft_wire.specs.declared.frame.SnapshotResult.{SnapshotResult}
-use Rattle.raft_wire.specs.declared.frame.SnapshotResult.TheVariants as snapshot
-use Rattle.raft_wire.specs.declared.frame.AppendFrame.{AppendFrame}
-use Rattle.raft_wire.specs.declared.frame.SnapshotFrame.{SnapshotFrame}
-use Rattle.raft_wire.specs.declared.frame.FrameBody.{FrameBody}
-use Rattle.raft_wire.specs.declared.frame.FrameBody.TheVariants as body
 use Rattle.raft_wire.specs.declared.frame.Frame.{Frame}
-use Rattle.raft_wire.specs.Values.{Membership, Entry, EntryPayload}
 use Rattle.raft_wire.specs.Fields.{spelled_flag, spelled_vote, spelled_log_id, spelled_last, spelled_option}
 use Rattle.raft_wire.specs.Memberships.{spelled_list, spelled_id, spelled_ids, spelled_address, spelled_node, spelled_membership}
 use Rattle.raft_wire.specs.Entries.{spelled_text, spelled_payload, spelled_entry}
 use Rattle.raft_wire.specs.Writing.{is_payload_short}
-use Rattle.raft_wire.specs.Bodies.{LoggedMembership, spelled_id as spelled_append_id, spelled_append, spelled_result, spelled_logged, spelled_snapshot, snapshot_in, spelled_snapshot_frame, spelled_snapshot_result, spelled_number, spelled_behind_none}
-use Rattle.raft_wire.specs.Frames.{spelled_parties, spelled_body, spelled_rest, are_consecutive, are_entries_short, is_logged_short, is_snapshot_short, fault_of_entries, fault_of_snapshot, fault_of_frame}
+use Rattle.raft_wire.specs.Bodies.{spelled_id as spelled_request_id, spelled_append, spelled_result, spelled_reply, spelled_logged, spelled_snapshot, SentSnapshot, sent, spelled_sent, spelled_number}
+use Rattle.raft_wire.specs.Frames.{FrameBody, spelled_parties, spelled_body, spelled_rest, are_consecutive, are_entries_short, is_logged_short, is_snapshot_short, fault_of_entries, fault_of_snapshot, fault_of_frame}
 
 both_true : (a b : Bool) → (a && b) ≡ true → (a ≡ true) × (b ≡ true)
 both_true true b h = (refl, h)
@@ -80,8 +76,8 @@ membership_short m h =
 payload_short : (payload : EntryPayload) → is_payload_short payload ≡ true → length (spelled_payload payload) ≤ 65541
 payload_short Blank h = omega arith
 payload_short (Normal command) h =
-    let short : length command.bytes ≤ 65536 = leb-true _ _ h in
-    omega (arith, length-append (to_be_bytes w32 (length command.bytes)) command.bytes)
+    let short : length command ≤ 65536 = leb-true _ _ h in
+    omega (arith, length-append (to_be_bytes w32 (length command)) command)
 payload_short (Members m) h = omega (arith, membership_short m h)
 
 log_id_len : (id : LogId ℕ) → length (spelled_log_id id) ≡ 24
@@ -103,18 +99,14 @@ last_len : (id : Option (LogId ℕ)) → length (spelled_last id) ≤ 25
 last_len None = omega arith
 last_len (Some id) = omega (arith, log_id_len id)
 
-id_len : (id : AppendId) → length (spelled_append_id id) ≤ 9
+id_len : (id : RequestId) → length (spelled_request_id id) ≤ 9
 id_len HeartBeat = omega arith
 id_len (Numbered id) = omega arith
 
-result_len : (r : AppendResult) → length (spelled_result r) ≤ 18
-result_len append.Success = omega arith
-result_len append.Conflict = omega arith
-result_len (append.HigherVote vote) = omega (arith, vote_len vote)
-
-snapshot_result_len : (r : SnapshotResult) → length (spelled_snapshot_result r) ≤ 18
-snapshot_result_len snapshot.Success = omega arith
-snapshot_result_len (snapshot.HigherVote vote) = omega (arith, vote_len vote)
+result_len : (r : ReplyResult) → length (spelled_result r) ≤ 18
+result_len Success = omega arith
+result_len Conflict = omega arith
+result_len (HigherVote vote) = omega (arith, vote_len vote)
 
 none_unless : (b : Bool) (r : Option FrameFault) → cond (not b) (Some fault.TooLong) r ≡ None → b ≡ true
 none_unless true r h = refl
@@ -143,64 +135,61 @@ three a b c = omega (arith, length-append (a ++ b) c, length-append a b)
 five : (a b c d e : List ℕ) → length (a ++ b ++ c ++ d ++ e) ≡ length a + length b + length c + length d + length e
 five a b c d e = omega (arith, length-append (a ++ b ++ c ++ d) e, length-append (a ++ b ++ c) d, three a b c)
 
-append_short : (f : AppendFrame) → are_entries_short f.request.entries ≡ true → length (spelled_append f) ≤ 4200000
-append_short f h =
+append_short : (m : AppendFields) → are_entries_short m.entries ≡ true → length (spelled_append m) ≤ 4200000
+append_short m h =
     omega (
       arith,
-      five (spelled_flag f.request.vote.committed) (spelled_append_id f.id) (spelled_last f.request.prev_log_id) (spelled_last f.request.leader_commit) (spelled_list spelled_entry f.request.entries),
-      flag_len f.request.vote.committed,
-      id_len f.id,
-      last_len f.request.prev_log_id,
-      last_len f.request.leader_commit,
-      entries_short f.request.entries h,
+      five (spelled_flag m.vote.committed) (spelled_request_id m.id) (spelled_last m.previous) (spelled_last m.committed) (spelled_list spelled_entry m.entries),
+      flag_len m.vote.committed,
+      id_len m.id,
+      last_len m.previous,
+      last_len m.committed,
+      entries_short m.entries h,
+    )
+
+reply_short : (m : ReplyFields) → length (spelled_reply m) ≤ 16816000
+reply_short m =
+    omega (
+      arith,
+      five (spelled_flag m.vote.committed) (spelled_request_id m.id) (spelled_last m.previous) (spelled_last m.last) (spelled_result m.outcome),
+      flag_len m.vote.committed,
+      id_len m.id,
+      last_len m.previous,
+      last_len m.last,
+      result_len m.outcome,
     )
 
 logged_short : (m : Option LoggedMembership) → is_logged_short m ≡ true → length (spelled_option spelled_logged m) ≤ 37953
 logged_short None h = omega arith
 logged_short (Some m) h = omega (arith, length-append (spelled_log_id m.log_id) (spelled_membership m.membership), log_id_len m.log_id, membership_short m.membership h)
 
-snapshot_short : (f : SnapshotFrame) → is_snapshot_short f.request.meta.last_membership f.request.bytes ≡ true → length (spelled_snapshot_frame f) ≤ 16816000
-snapshot_short f h =
-    let t = both_true (is_logged_short f.request.meta.last_membership) (nat_le (length f.request.bytes) 16777216) h in
-    let short : length f.request.bytes ≤ 16777216 = leb-true _ _ t.1 in
+sent_short : (s : SentSnapshot) → is_snapshot_short s.snapshot.meta.last_membership s.snapshot.bytes ≡ true → length (spelled_sent s) ≤ 16816000
+sent_short s h =
+    let meta = s.snapshot.meta in
+    let bytes = s.snapshot.bytes in
+    let t = both_true (is_logged_short meta.last_membership) (nat_le (length bytes) 16777216) h in
+    let short : length bytes ≤ 16777216 = leb-true _ _ t.1 in
     omega (
       arith,
-      three (spelled_flag f.request.vote.committed) (spelled_number f.id) (spelled_snapshot (snapshot_in f)),
-      three (spelled_log_id f.request.meta.last_log_id) (spelled_option spelled_logged f.request.meta.last_membership) (spelled_text f.request.bytes),
-      length-append (to_be_bytes w32 (length f.request.bytes)) f.request.bytes,
-      flag_len f.request.vote.committed,
-      log_id_len f.request.meta.last_log_id,
-      logged_short f.request.meta.last_membership t.0,
+      three (spelled_flag s.vote.committed) (spelled_number s.number) (spelled_snapshot s.snapshot),
+      three (spelled_log_id meta.last_log_id) (spelled_option spelled_logged meta.last_membership) (spelled_text bytes),
+      length-append (to_be_bytes w32 (length bytes)) bytes,
+      flag_len s.vote.committed,
+      log_id_len meta.last_log_id,
+      logged_short meta.last_membership t.0,
     )
 
 body_short : (b : FrameBody) → fault_of_frame b ≡ None → length (spelled_body b) ≤ 16816000
 body_short (body.VoteRequest r) h = omega (arith, length-append (spelled_flag r.vote.committed) (spelled_last r.last_log_id), flag_len r.vote.committed, last_len r.last_log_id)
 body_short (body.VoteReply r) h =
     omega (arith, three (spelled_flag r.vote.committed) (spelled_flag r.vote_granted) (spelled_last r.last_log_id), flag_len r.vote.committed, flag_len r.vote_granted, last_len r.last_log_id)
-body_short (body.Append f) h = omega (arith, append_short f (entries_are_short f.request.entries h))
-body_short (body.AppendReply f) h =
-    omega (
-      arith,
-      five (spelled_flag f.vote.committed) (spelled_append_id f.id) (spelled_last f.prev_log_id) (spelled_last f.last_log_id) (spelled_result f.result),
-      flag_len f.vote.committed,
-      id_len f.id,
-      last_len f.prev_log_id,
-      last_len f.last_log_id,
-      result_len f.result,
-    )
-body_short (body.Snapshot f) h = snapshot_short f (snapshot_is_short f.request.meta.last_membership f.request.bytes h)
-body_short (body.SnapshotReply f) h =
-    omega (
-      arith,
-      three (spelled_flag f.vote.committed) (spelled_number f.id) (spelled_behind_none (f.last_log_id, f.result)),
-      length-append (spelled_last f.last_log_id) (spelled_snapshot_result f.result),
-      flag_len f.vote.committed,
-      last_len f.last_log_id,
-      snapshot_result_len f.result,
-    )
+body_short (body.AppendRequest m) h = omega (arith, append_short m (entries_are_short m.entries h))
+body_short (body.AppendReply m) h = reply_short m
+body_short (body.SnapshotRequest vote id s) h = sent_short (sent vote id s) (snapshot_is_short s.meta.last_membership s.bytes h)
+body_short (body.SnapshotReply m) h = reply_short m
 
-pub rest_short : (f : Frame) → fault_of_frame f.body ≡ None → length (spelled_rest f) ≤ 17825788
-rest_short f h = omega (arith, length-append (spelled_parties f) (spelled_body f.body), body_short f.body h)
+pub rest_short : (f : Frame) → fault_of_frame f.message.body ≡ None → length (spelled_rest f) ≤ 17825788
+rest_short f h = omega (arith, length-append (spelled_parties f) (spelled_body f.message.body), body_short f.message.body h)
 
 pub joined_short : (start rest out : List ℕ) → length start ≤ 4 → length rest ≤ 17825788 → out ≡ start ++ rest → length out < 4294967296
 joined_short start rest out a b e = omega (arith, ap length e, length-append start rest)

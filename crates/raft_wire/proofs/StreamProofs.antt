@@ -24,7 +24,7 @@ pub spelled_is_found : SpelledIsFound
 spelled_is_found = λ frame more h. front_again frame more h
 
 pub frames_short : FramesAreShort
-frames_short = λ frame h. rest_short frame (fits_within frame.body h.body)
+frames_short = λ frame h. rest_short frame (fits_within frame.message.body h.body)
 
 -- ---- what is found stays
 

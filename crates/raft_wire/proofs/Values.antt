@@ -5,17 +5,16 @@ use Rattle.std.specs.Str.{is_utf8}
 use Rattle.std.proofs.lemmas.Str.{IsUtf8-from_is_utf8, is_utf8-from_IsUtf8}
 use Rattle.std.proofs.lemmas.Bool.{ltb-true, lt-ltb}
 use Rattle.raft_values.specs.declared.log_id.LogId.{LogId}
-use Rattle.raft_values.specs.declared.command.Command.{Command}
 use Rattle.raft_state.specs.declared.entry.EntryPayload.TheVariants.{Blank, Normal, Membership as Members}
 use Rattle.raft_values.specs.Vote.{vote_of}
 use Rattle.raft_values.specs.LogId.{log_id_of}
+use Rattle.raft_group_step.specs.Values.{Entry, EntryPayload}
 use Rattle.raft_wire.specs.declared.error.FrameFault.TheVariants as fault
-use Rattle.raft_wire.specs.Values.{Entry, EntryPayload}
-use Rattle.raft_wire.specs.Reader.{both, made, tested, number_at, piece_at, counted_at}
+use Rattle.raft_wire.specs.Reader.{both, made, tested, number_at, piece_at, counted_at, text_at}
 use Rattle.raft_wire.specs.Fields.{spelled_flag, flag_at, spelled_vote, FitsVote, vote_at, spelled_log_id, FitsLogId, log_id_at, spelled_last, FitsLast, last_at}
 use Rattle.raft_wire.specs.Memberships.{Chained, spelled_list, is_above, IsAbove, FitsId, spelled_id, id_above, that_id, spelled_ids, FitsIds, ids_at, nothing_left}
 use Rattle.raft_wire.specs.Memberships.{spelled_address, FitsAddress, address_at, spelled_node, FitsNode, node_above, that_node, spelled_membership, FitsMembership, membership_of, membership_at}
-use Rattle.raft_wire.specs.Entries.{FitsCommand, spelled_command, command_of, command_at, spelled_payload, FitsPayload, normal_of, members_of, payload_at, spelled_entry, FitsEntry, follows, entry_of, entry_behind, entry_at}
+use Rattle.raft_wire.specs.Entries.{spelled_text, spelled_payload, FitsPayload, normal_of, members_of, payload_at, spelled_entry, FitsEntry, follows, entry_of, entry_behind, entry_at}
 use Rattle.raft_wire.proofs.Numbers.{IsBytes, IsBytes-rest, bind_ok, passed_ok, ok_is, Takes, Takes-behind}
 use Rattle.raft_wire.proofs.Fitting.{Reads, fits_as, both_reads, made_reads, tested_reads, u64_reads, flag_reads, Anything, option_reads, piece_takes, piece_again, text_reads}
 use Rattle.raft_wire.proofs.Lists.{counted_reads}
@@ -113,9 +112,8 @@ membership_reads =
 
 -- ---- entries
 
-pub command_reads : Reads command_at spelled_command FitsCommand
-unfolding command_at
-command_reads = made_reads command_of (λ (c : Command). c.bytes) _ _ _ (λ c. refl) (λ b. refl) (text_reads 65536 (omega arith))
+command_reads : Reads (text_at 65536) spelled_text (λ command. length command ≤ 65536)
+command_reads = text_reads 65536 (omega arith)
 
 payload_takes : (bytes : List ℕ) (x : EntryPayload × List ℕ) → IsBytes bytes → payload_at bytes ≡ Ok x → Takes bytes (spelled_payload x.0) x.1 × FitsPayload x.0
 unfolding payload_at
@@ -123,9 +121,9 @@ payload_takes [] x fits e = absurd cc
 payload_takes (zero ∷ bytes) x fits e =
     subst (λ (y : EntryPayload × List ℕ). Takes (0 ∷ bytes) (spelled_payload y.0) y.1 × FitsPayload y.0) (ok_is (Blank, bytes) x e) (record { parts = refl; rest_fits = IsBytes-rest 0 bytes fits }, tt)
 payload_takes (suc zero ∷ bytes) x fits e =
-    let a = bind_ok (command_at bytes) (λ a. Ok (normal_of a.0, a.1)) x e in
+    let a = bind_ok (text_at 65536 bytes) (λ a. Ok (normal_of a.0, a.1)) x e in
     let t = command_reads.takes bytes a.0.0 a.0.1 (IsBytes-rest 1 bytes fits) a.1 in
-    subst (λ (y : EntryPayload × List ℕ). Takes (1 ∷ bytes) (spelled_payload y.0) y.1 × FitsPayload y.0) (ok_is (Normal a.0.0, a.0.1) x a.2) (Takes-behind 1 bytes (spelled_command a.0.0) a.0.1 t.0, t.1)
+    subst (λ (y : EntryPayload × List ℕ). Takes (1 ∷ bytes) (spelled_payload y.0) y.1 × FitsPayload y.0) (ok_is (Normal a.0.0, a.0.1) x a.2) (Takes-behind 1 bytes (spelled_text a.0.0) a.0.1 t.0, t.1)
 payload_takes (suc (suc zero) ∷ bytes) x fits e =
     let a = bind_ok (membership_at bytes) (λ a. Ok (members_of a.0, a.1)) x e in
     let t = membership_reads.takes bytes a.0.0 a.0.1 (IsBytes-rest 2 bytes fits) a.1 in

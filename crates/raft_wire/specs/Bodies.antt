@@ -1,26 +1,22 @@
--- The parts of a frame's body: the one spelling of each, and how it is read.
-use Rattle.std.specs.Prelude.{◌≡◌, ℕ, zero, suc, ◌<◌, ◌≤◌, ◌^◌, ◌==◌, Bool, true, List, [], ◌∷◌, ◌++◌, length, Option, Some}
-use Rattle.std.specs.Prelude.{None, Ok, Err, IfSome, if◌then◌else◌}
+-- The parts of a message's body: the one spelling of each, and how it is read.
+use Rattle.std.specs.Prelude.{◌≡◌, ℕ, zero, suc, ◌<◌, ◌≤◌, ◌^◌, ◌==◌, ◌&&◌, not, Bool, true, false, List, [], ◌∷◌, ◌++◌, length}
+use Rattle.std.specs.Prelude.{Option, Some, None, is_none, Ok, Err, IfSome, if◌then◌else◌}
 use Rattle.std.specs.Int.{w64, to_be_bytes}
 use Rattle.raft_values.specs.declared.vote.Vote.{Vote}
 use Rattle.raft_values.specs.declared.log_id.LogId.{LogId}
 use Rattle.raft_group_step.specs.declared.vote_message.VoteRequest.{VoteRequest}
 use Rattle.raft_group_step.specs.declared.vote_message.VoteResponse.{VoteResponse}
-use Rattle.raft_group_step.specs.declared.snapshot_message.LoggedMembership.{LoggedMembership as LoggedMembershipOf}
 use Rattle.raft_group_step.specs.declared.snapshot_message.SnapshotMeta.{SnapshotMeta as SnapshotMetaOf}
+use Rattle.raft_group_step.specs.Values.{Membership, Entry, LoggedMembership}
+use Rattle.raft_messages.specs.declared.memberships.SnapshotBytes.{SnapshotBytes}
+use Rattle.raft_messages.specs.declared.message.RequestId.{RequestId}
+use Rattle.raft_messages.specs.declared.message.RequestId.TheVariants.{HeartBeat, Numbered}
+use Rattle.raft_messages.specs.declared.message.ReplyResult.{ReplyResult}
+use Rattle.raft_messages.specs.declared.message.ReplyResult.TheVariants.{Success, Conflict, HigherVote}
+use Rattle.raft_messages.specs.declared.message.AppendFields.{AppendFields}
+use Rattle.raft_messages.specs.declared.message.ReplyFields.{ReplyFields}
 use Rattle.raft_wire.specs.declared.error.FrameFault.TheVariants as fault
-use Rattle.raft_wire.specs.declared.frame.AppendId.{AppendId}
-use Rattle.raft_wire.specs.declared.frame.AppendId.TheVariants.{HeartBeat, Numbered}
-use Rattle.raft_wire.specs.declared.frame.AppendResult.{AppendResult}
-use Rattle.raft_wire.specs.declared.frame.AppendResult.TheVariants as append
-use Rattle.raft_wire.specs.declared.frame.SnapshotResult.{SnapshotResult}
-use Rattle.raft_wire.specs.declared.frame.SnapshotResult.TheVariants as snapshot
-use Rattle.raft_wire.specs.declared.frame.AppendFrame.{AppendFrame}
-use Rattle.raft_wire.specs.declared.frame.AppendReplyFrame.{AppendReplyFrame}
-use Rattle.raft_wire.specs.declared.frame.SnapshotFrame.{SnapshotFrame}
-use Rattle.raft_wire.specs.declared.frame.SnapshotReplyFrame.{SnapshotReplyFrame}
-use Rattle.raft_wire.specs.Values.{Membership, Entry}
-use Rattle.raft_wire.specs.Reader.{Reader, both, made, number_at, counted_at, text_at}
+use Rattle.raft_wire.specs.Reader.{Reader, both, made, tested, number_at, counted_at, text_at}
 use Rattle.raft_wire.specs.Fields.{spelled_flag, flag_at, spelled_vote, FitsVote, vote_at, spelled_option, option_at}
 use Rattle.raft_wire.specs.Fields.{spelled_log_id, FitsLogId, log_id_at, spelled_last, FitsLast, last_at}
 use Rattle.raft_wire.specs.Memberships.{Chained, spelled_list, spelled_membership, FitsMembership, membership_at}
@@ -61,105 +57,133 @@ vote_reply_at = made vote_reply_of (both vote_at (both flag_at last_at))
 
 -- ---- ids of requests: tag 0 for a notice, or tag 1 and the number
 
-abbrev pub number_of_id : AppendId → Option ℕ
+abbrev pub number_of_id : RequestId → Option ℕ
 number_of_id HeartBeat = None
 number_of_id (Numbered id) = Some id
 
-abbrev pub id_of_number : Option ℕ → AppendId
+abbrev pub id_of_number : Option ℕ → RequestId
 id_of_number None = HeartBeat
 id_of_number (Some id) = Numbered id
 
-abbrev pub spelled_id : AppendId → List ℕ
+abbrev pub spelled_id : RequestId → List ℕ
 spelled_id id = spelled_option (to_be_bytes w64) (number_of_id id)
 
-abbrev pub FitsId : AppendId → Type 0
+abbrev pub FitsId : RequestId → Type 0
 FitsId id = IfSome (number_of_id id) (λ n. n < 2 ^ 64)
 
-unfoldable pub id_at : Reader AppendId
+unfoldable pub id_at : Reader RequestId
 id_at = made id_of_number (option_at (number_at w64))
 
 -- a request that has a number
 abbrev pub spelled_number : ℕ → List ℕ
 spelled_number id = 1 ∷ to_be_bytes w64 id
 
-unfoldable pub numbered_at : Reader ℕ
-numbered_at = marked_at 1 (number_at w64)
+unfoldable pub number_of_request_at : Reader ℕ
+number_of_request_at = marked_at 1 (number_at w64)
 
 -- ---- append requests
 
-abbrev pub spelled_append : AppendFrame → List ℕ
-spelled_append f =
-    spelled_vote f.request.vote ++ spelled_id f.id ++ spelled_last f.request.prev_log_id
-    ++ spelled_last f.request.leader_commit ++ spelled_list spelled_entry f.request.entries
+abbrev pub spelled_append : AppendFields → List ℕ
+spelled_append m =
+    spelled_vote m.vote ++ spelled_id m.id ++ spelled_last m.previous ++ spelled_last m.committed
+    ++ spelled_list spelled_entry m.entries
 
 -- an entry that stands behind one with this place, or first
 abbrev pub FitsBehind : Option ℕ → Entry → Type 0
 FitsBehind last e = FitsEntry e × (follows last e.log_id.index ≡ true)
 
-pub record FitsAppend (f : AppendFrame) : Type 0 where
-  pub vote : FitsVote f.request.vote
-  pub id : FitsId f.id
-  pub previous : FitsLast f.request.prev_log_id
-  pub committed : FitsLast f.request.leader_commit
-  pub count : length f.request.entries ≤ 64
-  pub entries : Chained FitsBehind that_place None f.request.entries
+pub record FitsAppend (m : AppendFields) : Type 0 where
+  pub vote : FitsVote m.vote
+  pub id : FitsId m.id
+  pub previous : FitsLast m.previous
+  pub committed : FitsLast m.committed
+  pub count : length m.entries ≤ 64
+  pub entries : Chained FitsBehind that_place None m.entries
 
-abbrev pub append_of : Vote ℕ × (AppendId × (Option (LogId ℕ) × (Option (LogId ℕ) × List Entry))) → AppendFrame
-append_of x = record {
-  id = x.1.0;
-  request = record { vote = x.0; prev_log_id = x.1.1.0; entries = x.1.1.1.1; leader_commit = x.1.1.1.0 };
-}
+abbrev pub append_of : Vote ℕ × (RequestId × (Option (LogId ℕ) × (Option (LogId ℕ) × List Entry))) → AppendFields
+append_of x = record { vote = x.0; id = x.1.0; previous = x.1.1.0; committed = x.1.1.1.0; entries = x.1.1.1.1 }
 
 abbrev pub entries_at : Reader (List Entry)
 entries_at = counted_at entry_behind that_place 64
 
-unfoldable pub append_at : Reader AppendFrame
+unfoldable pub append_at : Reader AppendFields
 append_at = made append_of (both vote_at (both id_at (both last_at (both last_at entries_at))))
 
--- ---- append replies
+-- ---- replies
 
-abbrev pub spelled_result : AppendResult → List ℕ
-spelled_result append.Success = 0 ∷ []
-spelled_result append.Conflict = 1 ∷ []
-spelled_result (append.HigherVote vote) = 2 ∷ spelled_vote vote
+abbrev pub spelled_result : ReplyResult → List ℕ
+spelled_result Success = 0 ∷ []
+spelled_result Conflict = 1 ∷ []
+spelled_result (HigherVote vote) = 2 ∷ spelled_vote vote
 
-abbrev pub FitsResult : AppendResult → Type 0
-FitsResult append.Success = Unit {0}
-FitsResult append.Conflict = Unit {0}
-FitsResult (append.HigherVote vote) = FitsVote vote
+abbrev pub FitsResult : ReplyResult → Type 0
+FitsResult Success = Unit {0}
+FitsResult Conflict = Unit {0}
+FitsResult (HigherVote vote) = FitsVote vote
 
-abbrev pub higher_vote : Vote ℕ → AppendResult
-higher_vote vote = append.HigherVote vote
+abbrev pub higher_vote : Vote ℕ → ReplyResult
+higher_vote vote = HigherVote vote
 
-unfoldable pub result_at : Reader AppendResult
+unfoldable pub result_at : Reader ReplyResult
 result_at [] = Err fault.CutShort
-result_at (zero ∷ rest) = Ok (append.Success, rest)
-result_at (suc zero ∷ rest) = Ok (append.Conflict, rest)
+result_at (zero ∷ rest) = Ok (Success, rest)
+result_at (suc zero ∷ rest) = Ok (Conflict, rest)
 result_at (suc (suc zero) ∷ rest) = made higher_vote vote_at rest
 result_at (suc (suc (suc b)) ∷ rest) = Err fault.BadTag
 
-abbrev pub spelled_append_reply : AppendReplyFrame → List ℕ
-spelled_append_reply f =
-    spelled_vote f.vote ++ spelled_id f.id ++ spelled_last f.prev_log_id ++ spelled_last f.last_log_id
-    ++ spelled_result f.result
+abbrev pub spelled_reply : ReplyFields → List ℕ
+spelled_reply m =
+    spelled_vote m.vote ++ spelled_id m.id ++ spelled_last m.previous ++ spelled_last m.last
+    ++ spelled_result m.outcome
 
-pub record FitsAppendReply (f : AppendReplyFrame) : Type 0 where
-  pub vote : FitsVote f.vote
-  pub id : FitsId f.id
-  pub previous : FitsLast f.prev_log_id
-  pub last : FitsLast f.last_log_id
-  pub outcome : FitsResult f.result
+pub record FitsReply (m : ReplyFields) : Type 0 where
+  pub vote : FitsVote m.vote
+  pub id : FitsId m.id
+  pub previous : FitsLast m.previous
+  pub last : FitsLast m.last
+  pub outcome : FitsResult m.outcome
 
-abbrev pub append_reply_of : Vote ℕ × (AppendId × (Option (LogId ℕ) × (Option (LogId ℕ) × AppendResult))) → AppendReplyFrame
-append_reply_of x = record { vote = x.0; id = x.1.0; prev_log_id = x.1.1.0; last_log_id = x.1.1.1.0; result = x.1.1.1.1 }
+abbrev pub reply_of : Vote ℕ × (RequestId × (Option (LogId ℕ) × (Option (LogId ℕ) × ReplyResult))) → ReplyFields
+reply_of x = record { vote = x.0; id = x.1.0; previous = x.1.1.0; last = x.1.1.1.0; outcome = x.1.1.1.1 }
 
-unfoldable pub append_reply_at : Reader AppendReplyFrame
-append_reply_at = made append_reply_of (both vote_at (both id_at (both last_at (both last_at result_at))))
+unfoldable pub reply_at : Reader ReplyFields
+reply_at = made reply_of (both vote_at (both id_at (both last_at (both last_at result_at))))
+
+-- ---- replies to snapshots: spelled as all replies, with a number, no previous log id and no conflict
+
+abbrev pub has_number : RequestId → Bool
+has_number HeartBeat = false
+has_number (Numbered id) = true
+
+abbrev pub is_conflict : ReplyResult → Bool
+is_conflict Success = false
+is_conflict Conflict = true
+is_conflict (HigherVote vote) = false
+
+-- the reply says nothing that only an append's reply can say
+abbrev pub is_of_snapshot : ReplyFields → Bool
+is_of_snapshot m = has_number m.id && is_none m.previous && not (is_conflict m.outcome)
+
+pub record FitsSnapshotReply (m : ReplyFields) : Type 0 where
+  pub reply : FitsReply m
+  pub of_snapshot : is_of_snapshot m ≡ true
+
+-- no log id: a tag that must be 0
+unfoldable pub none_at : Reader (Option (LogId ℕ))
+none_at [] = Err fault.CutShort
+none_at (zero ∷ rest) = Ok (None, rest)
+none_at (suc b ∷ rest) = Err fault.BadTag
+
+unfoldable pub numbered_at : Reader RequestId
+numbered_at = tested fault.BadTag has_number id_at
+
+unfoldable pub snapshot_result_at : Reader ReplyResult
+snapshot_result_at = tested fault.BadTag (λ outcome. not (is_conflict outcome)) result_at
+
+unfoldable pub snapshot_reply_at : Reader ReplyFields
+snapshot_reply_at = made reply_of (both vote_at (both numbered_at (both none_at (both last_at snapshot_result_at))))
 
 -- ---- snapshots: what is covered, the last membership with its log id, and the machine's bytes
-
-abbrev pub LoggedMembership : Type 0
-LoggedMembership = LoggedMembershipOf ℕ (List ℕ)
 
 abbrev pub SnapshotMeta : Type 0
 SnapshotMeta = SnapshotMetaOf ℕ (List ℕ)
@@ -177,81 +201,45 @@ logged_of x = record { log_id = x.0; membership = x.1 }
 unfoldable pub logged_at : Reader LoggedMembership
 logged_at = made logged_of (both log_id_at membership_at)
 
--- a snapshot: what it covers, and the machine's bytes. A further part stands behind them
-abbrev pub Snapshot : Type 0
-Snapshot = SnapshotMeta × List ℕ
+-- the snapshot that covers this and has these bytes of the machine
+abbrev pub snapshot_with : SnapshotMeta → List ℕ → SnapshotBytes
+snapshot_with meta bytes = record { meta = meta; bytes = bytes }
 
-abbrev pub spelled_snapshot : Snapshot → List ℕ
+-- a further part stands behind the machine's bytes
+abbrev pub spelled_snapshot : SnapshotBytes → List ℕ
 spelled_snapshot s =
-    spelled_log_id s.0.last_log_id ++ spelled_option spelled_logged s.0.last_membership ++ spelled_text s.1
+    spelled_log_id s.meta.last_log_id ++ spelled_option spelled_logged s.meta.last_membership ++ spelled_text s.bytes
 
-pub record FitsSnapshot (s : Snapshot) : Type 0 where
-  pub last : FitsLogId s.0.last_log_id
-  pub membership : IfSome s.0.last_membership FitsLogged
-  pub bytes : length s.1 ≤ 16777216
+pub record FitsSnapshot (s : SnapshotBytes) : Type 0 where
+  pub last : FitsLogId s.meta.last_log_id
+  pub membership : IfSome s.meta.last_membership FitsLogged
+  pub bytes : length s.bytes ≤ 16777216
 
-abbrev pub snapshot_of : LogId ℕ × (Option LoggedMembership × List ℕ) → Snapshot
-snapshot_of x = (record { last_log_id = x.0; last_membership = x.1.0 }, x.1.1)
+abbrev pub snapshot_of : LogId ℕ × (Option LoggedMembership × List ℕ) → SnapshotBytes
+snapshot_of x = snapshot_with (record { last_log_id = x.0; last_membership = x.1.0 }) x.1.1
 
-unfoldable pub snapshot_at : Reader Snapshot
+unfoldable pub snapshot_at : Reader SnapshotBytes
 snapshot_at = made snapshot_of (both log_id_at (both (option_at logged_at) (text_at 16777216)))
 
-abbrev pub snapshot_in : SnapshotFrame → Snapshot
-snapshot_in f = (f.request.meta, f.request.bytes)
+-- a snapshot that is sent, with the leader's vote and the number of the request
+pub record SentSnapshot : Type 0 where
+  pub vote : Vote ℕ
+  pub number : ℕ
+  pub snapshot : SnapshotBytes
 
-abbrev pub spelled_snapshot_frame : SnapshotFrame → List ℕ
-spelled_snapshot_frame f = spelled_vote f.request.vote ++ spelled_number f.id ++ spelled_snapshot (snapshot_in f)
+abbrev pub sent : Vote ℕ → ℕ → SnapshotBytes → SentSnapshot
+sent vote number snapshot = record { vote = vote; number = number; snapshot = snapshot }
 
-pub record FitsSnapshotFrame (f : SnapshotFrame) : Type 0 where
-  pub vote : FitsVote f.request.vote
-  pub id : f.id < 2 ^ 64
-  pub snapshot : FitsSnapshot (snapshot_in f)
+abbrev pub spelled_sent : SentSnapshot → List ℕ
+spelled_sent s = spelled_vote s.vote ++ spelled_number s.number ++ spelled_snapshot s.snapshot
 
-abbrev pub snapshot_frame_of : Vote ℕ × (ℕ × Snapshot) → SnapshotFrame
-snapshot_frame_of x = record { id = x.1.0; request = record { vote = x.0; meta = x.1.1.0; bytes = x.1.1.1 } }
+pub record FitsSent (s : SentSnapshot) : Type 0 where
+  pub vote : FitsVote s.vote
+  pub number : s.number < 2 ^ 64
+  pub snapshot : FitsSnapshot s.snapshot
 
-unfoldable pub snapshot_frame_at : Reader SnapshotFrame
-snapshot_frame_at = made snapshot_frame_of (both vote_at (both numbered_at snapshot_at))
+abbrev pub sent_of : Vote ℕ × (ℕ × SnapshotBytes) → SentSnapshot
+sent_of x = sent x.0 x.1.0 x.1.1
 
--- ---- replies to snapshots, which have no previous log id
-
-abbrev pub spelled_snapshot_result : SnapshotResult → List ℕ
-spelled_snapshot_result snapshot.Success = 0 ∷ []
-spelled_snapshot_result (snapshot.HigherVote vote) = 2 ∷ spelled_vote vote
-
-abbrev pub FitsSnapshotResult : SnapshotResult → Type 0
-FitsSnapshotResult snapshot.Success = Unit {0}
-FitsSnapshotResult (snapshot.HigherVote vote) = FitsVote vote
-
-abbrev pub higher_snapshot_vote : Vote ℕ → SnapshotResult
-higher_snapshot_vote vote = snapshot.HigherVote vote
-
-unfoldable pub snapshot_result_at : Reader SnapshotResult
-snapshot_result_at [] = Err fault.CutShort
-snapshot_result_at (zero ∷ rest) = Ok (snapshot.Success, rest)
-snapshot_result_at (suc zero ∷ rest) = Err fault.BadTag
-snapshot_result_at (suc (suc zero) ∷ rest) = made higher_snapshot_vote vote_at rest
-snapshot_result_at (suc (suc (suc b)) ∷ rest) = Err fault.BadTag
-
--- the tag of the previous log id is 0
-abbrev pub spelled_behind_none : Option (LogId ℕ) × SnapshotResult → List ℕ
-spelled_behind_none x = 0 ∷ (spelled_last x.0 ++ spelled_snapshot_result x.1)
-
-abbrev pub spelled_snapshot_reply : SnapshotReplyFrame → List ℕ
-spelled_snapshot_reply f =
-    spelled_vote f.vote ++ spelled_number f.id ++ spelled_behind_none (f.last_log_id, f.result)
-
-pub record FitsSnapshotReply (f : SnapshotReplyFrame) : Type 0 where
-  pub vote : FitsVote f.vote
-  pub id : f.id < 2 ^ 64
-  pub last : FitsLast f.last_log_id
-  pub outcome : FitsSnapshotResult f.result
-
-abbrev pub snapshot_reply_of : Vote ℕ × (ℕ × (Option (LogId ℕ) × SnapshotResult)) → SnapshotReplyFrame
-snapshot_reply_of x = record { vote = x.0; id = x.1.0; last_log_id = x.1.1.0; result = x.1.1.1 }
-
-unfoldable pub behind_none_at : Reader (Option (LogId ℕ) × SnapshotResult)
-behind_none_at = marked_at 0 (both last_at snapshot_result_at)
-
-unfoldable pub snapshot_reply_at : Reader SnapshotReplyFrame
-snapshot_reply_at = made snapshot_reply_of (both vote_at (both numbered_at behind_none_at))
+unfoldable pub sent_at : Reader SentSnapshot
+sent_at = made sent_of (both vote_at (both number_of_request_at snapshot_at))

@@ -3,44 +3,30 @@ use Rattle.std.specs.Prelude.{ℕ, zero, suc, ◌+◌, ◌≤◌, ◌==◌, Bool
 use Rattle.std.specs.Prelude.{Option, Some, None, Ok, Err}
 use Rattle.std.specs.Int.{w32, to_be_bytes}
 use Rattle.raft_values.specs.declared.log_id.LogId.{LogId}
-use Rattle.raft_values.specs.declared.command.Command.{Command}
 use Rattle.raft_state.specs.declared.entry.EntryPayload.TheVariants.{Blank, Normal, Membership as Members}
 use Rattle.raft_wire.specs.declared.error.FrameFault.TheVariants as fault
-use Rattle.raft_wire.specs.Values.{Membership, Entry, EntryPayload}
+use Rattle.raft_group_step.specs.Values.{Membership, Entry, EntryPayload}
 use Rattle.raft_wire.specs.Reader.{Reader, both, made, tested, text_at}
 use Rattle.raft_wire.specs.Fields.{spelled_log_id, FitsLogId, log_id_at}
 use Rattle.raft_wire.specs.Memberships.{spelled_membership, FitsMembership, membership_at}
 
--- ---- commands: at most 65,536 bytes behind their length
-
+-- bytes behind their length
 abbrev pub spelled_text : List ℕ → List ℕ
 spelled_text bytes = to_be_bytes w32 (length bytes) ++ bytes
 
-abbrev pub spelled_command : Command → List ℕ
-spelled_command c = spelled_text c.bytes
-
-abbrev pub FitsCommand : Command → Type 0
-FitsCommand c = length c.bytes ≤ 65536
-
-abbrev pub command_of : List ℕ → Command
-command_of bytes = record { bytes = bytes }
-
-unfoldable pub command_at : Reader Command
-command_at = made command_of (text_at 65536)
-
--- ---- what an entry asks for: a tag, and what belongs to it
+-- ---- what an entry asks for: a tag, and what belongs to it. A command has at most 65,536 bytes
 
 abbrev pub spelled_payload : EntryPayload → List ℕ
 spelled_payload Blank = 0 ∷ []
-spelled_payload (Normal command) = 1 ∷ spelled_command command
+spelled_payload (Normal command) = 1 ∷ spelled_text command
 spelled_payload (Members m) = 2 ∷ spelled_membership m
 
 abbrev pub FitsPayload : EntryPayload → Type 0
 FitsPayload Blank = Unit {0}
-FitsPayload (Normal command) = FitsCommand command
+FitsPayload (Normal command) = length command ≤ 65536
 FitsPayload (Members m) = FitsMembership m
 
-abbrev pub normal_of : Command → EntryPayload
+abbrev pub normal_of : List ℕ → EntryPayload
 normal_of command = Normal command
 
 abbrev pub members_of : Membership → EntryPayload
@@ -49,7 +35,7 @@ members_of m = Members m
 unfoldable pub payload_at : Reader EntryPayload
 payload_at [] = Err fault.CutShort
 payload_at (zero ∷ rest) = Ok (Blank, rest)
-payload_at (suc zero ∷ rest) = made normal_of command_at rest
+payload_at (suc zero ∷ rest) = made normal_of (text_at 65536) rest
 payload_at (suc (suc zero) ∷ rest) = made members_of membership_at rest
 payload_at (suc (suc (suc b)) ∷ rest) = Err fault.BadTag
 

@@ -1,31 +1,28 @@
 -- Frames: their one spelling, and how they are read.
 use Rattle.std.specs.Prelude.{ℕ, zero, suc, ◌<◌, ◌^◌, nat_le, ◌&&◌, not, Bool, true, List, [], ◌∷◌, ◌++◌}
-use Rattle.std.specs.Prelude.{length, Option, Some, None, Ok, Err, if◌then◌else◌, All, IfSome}
+use Rattle.std.specs.Prelude.{length, Option, Some, None, Ok, Err, if◌then◌else◌}
 use Rattle.std.specs.List.{list_all}
 use Rattle.std.specs.Int.{w32, w64, to_be_bytes}
-use Rattle.raft_group_step.specs.declared.vote_message.VoteRequest.{VoteRequest as VoteAsked}
+use Rattle.raft_group_step.specs.declared.vote_message.VoteRequest.{VoteRequest}
 use Rattle.raft_group_step.specs.declared.vote_message.VoteResponse.{VoteResponse}
-use Rattle.raft_group_step.specs.Values.{is_within_limits}
+use Rattle.raft_group_step.specs.Values.{Entry, LoggedMembership, is_within_limits}
+use Rattle.raft_messages.specs.declared.memberships.SnapshotBytes.{SnapshotBytes}
+use Rattle.raft_messages.specs.declared.message.AppendFields.{AppendFields}
+use Rattle.raft_messages.specs.declared.message.ReplyFields.{ReplyFields}
+use Rattle.raft_messages.specs.declared.message.MessageBody.{MessageBody}
+use Rattle.raft_messages.specs.declared.message.MessageBody.TheVariants as body
 use Rattle.raft_wire.specs.declared.error.FrameFault.{FrameFault}
 use Rattle.raft_wire.specs.declared.error.FrameFault.TheVariants as fault
-use Rattle.raft_wire.specs.declared.frame.AppendFrame.{AppendFrame}
-use Rattle.raft_wire.specs.declared.frame.AppendReplyFrame.{AppendReplyFrame}
-use Rattle.raft_wire.specs.declared.frame.SnapshotFrame.{SnapshotFrame}
-use Rattle.raft_wire.specs.declared.frame.SnapshotReplyFrame.{SnapshotReplyFrame}
-use Rattle.raft_wire.specs.declared.frame.FrameBody.{FrameBody}
-use Rattle.raft_wire.specs.declared.frame.FrameBody.TheVariants as body
 use Rattle.raft_wire.specs.declared.frame.Frame.{Frame}
 use Rattle.raft_wire.specs.declared.frame.FrameKind.{FrameKind}
 use Rattle.raft_wire.specs.declared.frame.FrameKind.TheVariants as kind
-use Rattle.raft_wire.specs.Values.{Entry}
-use Rattle.raft_wire.specs.Writing.{is_payload_short, AreNodesRising, AreLoggedNodesRising}
+use Rattle.raft_wire.specs.Writing.{is_payload_short}
 use Rattle.raft_wire.specs.Reader.{Reader, ◌>>=◌, made, number_at}
 use Rattle.raft_wire.specs.Entries.{follows}
 use Rattle.raft_wire.specs.Bodies.{spelled_vote_request, FitsVoteRequest, vote_request_at, spelled_vote_reply}
 use Rattle.raft_wire.specs.Bodies.{FitsVoteReply, vote_reply_at, spelled_append, FitsAppend, append_at}
-use Rattle.raft_wire.specs.Bodies.{spelled_append_reply, FitsAppendReply, append_reply_at, LoggedMembership}
-use Rattle.raft_wire.specs.Bodies.{spelled_snapshot_frame, FitsSnapshotFrame, snapshot_frame_at}
-use Rattle.raft_wire.specs.Bodies.{spelled_snapshot_reply, FitsSnapshotReply, snapshot_reply_at}
+use Rattle.raft_wire.specs.Bodies.{spelled_reply, FitsReply, reply_at, SentSnapshot, sent, spelled_sent, FitsSent, sent_at}
+use Rattle.raft_wire.specs.Bodies.{is_of_snapshot, FitsSnapshotReply, snapshot_reply_at}
 
 -- ---- kinds
 
@@ -49,66 +46,74 @@ kind_at (suc (suc (suc (suc (suc zero)))) ∷ rest) = Ok (kind.Snapshot, rest)
 kind_at (suc (suc (suc (suc (suc (suc zero))))) ∷ rest) = Ok (kind.SnapshotReply, rest)
 kind_at (suc (suc (suc (suc (suc (suc (suc n)))))) ∷ rest) = Err fault.BadKind
 
--- ---- what a frame says
+-- ---- what a frame says: what a message says whose snapshot is bytes
+
+abbrev pub FrameBody : Type 0
+FrameBody = MessageBody SnapshotBytes
 
 abbrev pub kind_of : FrameBody → FrameKind
 kind_of (body.VoteRequest r) = kind.VoteRequest
 kind_of (body.VoteReply r) = kind.VoteReply
-kind_of (body.Append f) = kind.Append
-kind_of (body.AppendReply f) = kind.AppendReply
-kind_of (body.Snapshot f) = kind.Snapshot
-kind_of (body.SnapshotReply f) = kind.SnapshotReply
+kind_of (body.AppendRequest m) = kind.Append
+kind_of (body.AppendReply m) = kind.AppendReply
+kind_of (body.SnapshotRequest vote id s) = kind.Snapshot
+kind_of (body.SnapshotReply m) = kind.SnapshotReply
 
 abbrev pub spelled_body : FrameBody → List ℕ
 spelled_body (body.VoteRequest r) = spelled_vote_request r
 spelled_body (body.VoteReply r) = spelled_vote_reply r
-spelled_body (body.Append f) = spelled_append f
-spelled_body (body.AppendReply f) = spelled_append_reply f
-spelled_body (body.Snapshot f) = spelled_snapshot_frame f
-spelled_body (body.SnapshotReply f) = spelled_snapshot_reply f
+spelled_body (body.AppendRequest m) = spelled_append m
+spelled_body (body.AppendReply m) = spelled_reply m
+spelled_body (body.SnapshotRequest vote id s) = spelled_sent (sent vote id s)
+spelled_body (body.SnapshotReply m) = spelled_reply m
 
 abbrev pub FitsBody : FrameBody → Type 0
 FitsBody (body.VoteRequest r) = FitsVoteRequest r
 FitsBody (body.VoteReply r) = FitsVoteReply r
-FitsBody (body.Append f) = FitsAppend f
-FitsBody (body.AppendReply f) = FitsAppendReply f
-FitsBody (body.Snapshot f) = FitsSnapshotFrame f
-FitsBody (body.SnapshotReply f) = FitsSnapshotReply f
+FitsBody (body.AppendRequest m) = FitsAppend m
+FitsBody (body.AppendReply m) = FitsReply m
+FitsBody (body.SnapshotRequest vote id s) = FitsSent (sent vote id s)
+FitsBody (body.SnapshotReply m) = FitsSnapshotReply m
 
-abbrev pub asks : VoteAsked ℕ → FrameBody
+abbrev pub asks : VoteRequest ℕ → FrameBody
 asks r = body.VoteRequest r
 
 abbrev pub answers_vote : VoteResponse ℕ → FrameBody
 answers_vote r = body.VoteReply r
 
-abbrev pub appends : AppendFrame → FrameBody
-appends f = body.Append f
+abbrev pub appends : AppendFields → FrameBody
+appends m = body.AppendRequest m
 
-abbrev pub answers_append : AppendReplyFrame → FrameBody
-answers_append f = body.AppendReply f
+abbrev pub answers_append : ReplyFields → FrameBody
+answers_append m = body.AppendReply m
 
-abbrev pub sends_snapshot : SnapshotFrame → FrameBody
-sends_snapshot f = body.Snapshot f
+abbrev pub sends_snapshot : SentSnapshot → FrameBody
+sends_snapshot s = body.SnapshotRequest s.vote s.number s.snapshot
 
-abbrev pub answers_snapshot : SnapshotReplyFrame → FrameBody
-answers_snapshot f = body.SnapshotReply f
+abbrev pub answers_snapshot : ReplyFields → FrameBody
+answers_snapshot m = body.SnapshotReply m
 
 -- the body of a frame of this kind
 unfoldable pub body_at : FrameKind → Reader FrameBody
 body_at kind.VoteRequest bytes = made asks vote_request_at bytes
 body_at kind.VoteReply bytes = made answers_vote vote_reply_at bytes
 body_at kind.Append bytes = made appends append_at bytes
-body_at kind.AppendReply bytes = made answers_append append_reply_at bytes
-body_at kind.Snapshot bytes = made sends_snapshot snapshot_frame_at bytes
+body_at kind.AppendReply bytes = made answers_append reply_at bytes
+body_at kind.Snapshot bytes = made sends_snapshot sent_at bytes
 body_at kind.SnapshotReply bytes = made answers_snapshot snapshot_reply_at bytes
 
 -- ---- frames without their length: kind, group, sender, addressee, body
 
 abbrev pub spelled_parties : Frame → List ℕ
-spelled_parties f = to_be_bytes w64 f.group ++ (to_be_bytes w64 f.sender ++ to_be_bytes w64 f.addressee)
+spelled_parties f =
+    to_be_bytes w64 f.group ++ (to_be_bytes w64 f.message.sender ++ to_be_bytes w64 f.message.addressee)
 
 abbrev pub spelled_rest : Frame → List ℕ
-spelled_rest f = byte_of_kind (kind_of f.body) ∷ (spelled_parties f ++ spelled_body f.body)
+spelled_rest f = byte_of_kind (kind_of f.message.body) ∷ (spelled_parties f ++ spelled_body f.message.body)
+
+abbrev pub frame_of : ℕ → ℕ → ℕ → FrameBody → Frame
+frame_of group sender addressee said =
+    record { group = group; message = record { sender = sender; addressee = addressee; body = said } }
 
 unfoldable pub rest_at : Reader Frame
 rest_at bytes = do
@@ -117,7 +122,7 @@ rest_at bytes = do
   sender ← number_at w64 group.1
   addressee ← number_at w64 sender.1
   said ← body_at kind.0 addressee.1
-  Ok (record { group = group.0; sender = sender.0; addressee = addressee.0; body = said.0 }, said.1)
+  Ok (frame_of group.0 sender.0 addressee.0 said.0, said.1)
 
 -- ---- frames
 
@@ -126,9 +131,9 @@ spelled_frame f = to_be_bytes w32 (length (spelled_rest f)) ++ spelled_rest f
 
 pub record FitsFrame (f : Frame) : Type 0 where
   pub group : f.group < 2 ^ 64
-  pub sender : f.sender < 2 ^ 64
-  pub addressee : f.addressee < 2 ^ 64
-  pub body : FitsBody f.body
+  pub sender : f.message.sender < 2 ^ 64
+  pub addressee : f.message.addressee < 2 ^ 64
+  pub body : FitsBody f.message.body
 
 -- ---- why a frame isn't written
 
@@ -157,19 +162,14 @@ is_snapshot_short m bytes = is_logged_short m && nat_le (length bytes) 16777216
 abbrev pub fault_of_snapshot : Option LoggedMembership → List ℕ → Option FrameFault
 fault_of_snapshot m bytes = if is_snapshot_short m bytes then None else Some fault.TooLong
 
+-- a reply that a snapshot can't have: a tag of it would have a value that it can't have
+abbrev pub fault_of_snapshot_reply : ReplyFields → Option FrameFault
+fault_of_snapshot_reply m = if is_of_snapshot m then None else Some fault.BadTag
+
 abbrev pub fault_of_frame : FrameBody → Option FrameFault
 fault_of_frame (body.VoteRequest r) = None
 fault_of_frame (body.VoteReply r) = None
-fault_of_frame (body.Append f) = fault_of_entries f.request.entries
-fault_of_frame (body.AppendReply f) = None
-fault_of_frame (body.Snapshot f) = fault_of_snapshot f.request.meta.last_membership f.request.bytes
-fault_of_frame (body.SnapshotReply f) = None
-
--- the nodes of each membership in a frame rise by their ids
-abbrev pub AreBodyNodesRising : FrameBody → Type 0
-AreBodyNodesRising (body.VoteRequest r) = Unit {0}
-AreBodyNodesRising (body.VoteReply r) = Unit {0}
-AreBodyNodesRising (body.Append f) = All (λ e. AreNodesRising e.payload) f.request.entries
-AreBodyNodesRising (body.AppendReply f) = Unit {0}
-AreBodyNodesRising (body.Snapshot f) = IfSome f.request.meta.last_membership AreLoggedNodesRising
-AreBodyNodesRising (body.SnapshotReply f) = Unit {0}
+fault_of_frame (body.AppendRequest m) = fault_of_entries m.entries
+fault_of_frame (body.AppendReply m) = None
+fault_of_frame (body.SnapshotRequest vote id s) = fault_of_snapshot s.meta.last_membership s.bytes
+fault_of_frame (body.SnapshotReply m) = fault_of_snapshot_reply m

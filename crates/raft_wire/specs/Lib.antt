@@ -1,5 +1,4 @@
 pub mod Numbers
-pub mod Values
 pub mod Reader
 pub mod Fields
 pub mod Memberships

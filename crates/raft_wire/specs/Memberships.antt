@@ -3,8 +3,8 @@ use Rattle.std.specs.Prelude.{ℕ, ◌<◌, ◌≤◌, ◌^◌, nat_lt, Bool, tr
 use Rattle.std.specs.List.{flat_map}
 use Rattle.std.specs.Str.{IsUtf8, is_utf8}
 use Rattle.std.specs.Int.{w32, w64, to_be_bytes}
+use Rattle.raft_group_step.specs.Values.{Membership}
 use Rattle.raft_wire.specs.declared.error.FrameFault.TheVariants as fault
-use Rattle.raft_wire.specs.Values.{Membership}
 use Rattle.raft_wire.specs.Reader.{Reader, ◌>>=◌, both, made, tested, number_at, byte_at, piece_at, counted_at}
 
 -- ---- lists in which each value depends on what the one before it leaves

@@ -1,8 +1,8 @@
 -- Laws of what stands at the front of a stream.
 use Rattle.std.specs.Prelude.{◌≡◌, ◌<◌, ◌≤◌, ◌⊎◌, ◌+◌, ℕ, List, ◌++◌, length, take, Some, None, Ok, Err}
+use Rattle.raft_group_step.specs.Values.{Entry}
 use Rattle.raft_wire.specs.declared.error.FrameFault.{FrameFault}
 use Rattle.raft_wire.specs.declared.frame.Frame.{Frame}
-use Rattle.raft_wire.specs.Values.{Entry}
 use Rattle.raft_wire.specs.Entries.{spelled_entry, FitsEntry}
 use Rattle.raft_wire.specs.Frames.{spelled_rest, spelled_frame, FitsFrame}
 use Rattle.raft_wire.specs.Stream.{AreBytes, Judged, length_in, fault_of_length, front}

@@ -1,36 +1,27 @@
 //! Entries, read from the front of bytes and written behind others, and alone as they are stored.
-ghost use Rattle.std.specs.Prelude.{◌≡◌, ◌++◌, true, nat_le, List, ℕ, length, OnOk, IfOk};
-ghost use Rattle.raft_wire.specs.Values.{Entry as EntryValue};
-ghost use Rattle.raft_wire.specs.Reader.{Gives, all_of};
-ghost use Rattle.raft_wire.specs.Entries.{command_at, payload_at, follows, entry_behind, entry_at};
-ghost use Rattle.raft_wire.specs.Entries.{spelled_command, spelled_payload, spelled_entry, FitsPayload, FitsEntry};
-ghost use Rattle.raft_wire.specs.Writing.{Writes, is_payload_short, fault_of_entry, AreNodesRising};
+ghost use Rattle.std.specs.Prelude.{◌≡◌, ◌++◌, true, OnOk, IfOk};
+ghost use Rattle.raft_group_step.specs.Values.{Entry as EntryValue};
+ghost use Rattle.raft_wire.specs.Reader.{Gives, all_of, text_at};
+ghost use Rattle.raft_wire.specs.Entries.{payload_at, follows, entry_behind, entry_at};
+ghost use Rattle.raft_wire.specs.Entries.{spelled_payload, spelled_entry, FitsPayload, FitsEntry};
+ghost use Rattle.raft_wire.specs.Writing.{Writes, is_payload_short, fault_of_entry};
 
 use crate::error::{FrameError, FrameFault};
 use crate::fields::{log_id_of, put_log_id, put_text, text_of};
-use crate::memberships::{is_within_limits, membership_of, put_membership};
-use raft_state::{BasicNode, Command, Entry, EntryPayload};
+use crate::memberships::{membership_of, put_membership};
+use raft_messages::{GroupEntry, GroupPayload, MAX_COMMAND_BYTES, is_within_limits};
+use raft_state::{Bytes, EntryPayload};
 use std::alloc::{AllocError, Global};
 
-/// A command has at most so many bytes.
-pub const MAX_COMMAND_LEN: u32 = 65_536;
-
-/// An entry as it is sent and stored.
-pub type WireEntry = Entry<u64, BasicNode, Command>;
-
-/// What an entry that is sent and stored asks for.
-pub type WirePayload = EntryPayload<u64, BasicNode, Command>;
-
-#[tactic(auto, unfolding(crate::specs::Entries::command_at))]
-fn command_of(alloc: Global, bytes: &[u8]) -> Result<(Command, &[u8]), FrameError>
-    ensures { Gives (λ x. (x.0, x.1.now)) result (command_at bytes.now) }
+fn command_of(alloc: Global, bytes: &[u8]) -> Result<(Bytes, &[u8]), FrameError>
+    ensures { Gives (λ x. (x.0, x.1.now)) result (text_at 65536 bytes.now) }
 {
-    let (text, rest) = text_of(MAX_COMMAND_LEN, bytes)?;
-    Ok((Command::new(alloc, text)?, rest))
+    let (text, rest) = text_of(MAX_COMMAND_BYTES, bytes)?;
+    Ok((Bytes::from_slice(alloc, text)?, rest))
 }
 
 #[tactic(auto, unfolding(crate::specs::Entries::payload_at))]
-fn payload_of(alloc: Global, bytes: &[u8]) -> Result<(WirePayload, &[u8]), FrameError>
+fn payload_of(alloc: Global, bytes: &[u8]) -> Result<(GroupPayload, &[u8]), FrameError>
     ensures { Gives (λ x. (x.0, x.1.now)) result (payload_at bytes.now) }
 {
     match bytes {
@@ -64,7 +55,7 @@ pub(crate) fn entry_of(
     alloc: Global,
     last: Option<u64>,
     bytes: &[u8],
-) -> Result<(WireEntry, &[u8]), FrameError>
+) -> Result<(GroupEntry, &[u8]), FrameError>
     ensures { Gives (λ x. (x.0, x.1.now)) result (entry_behind last bytes.now) }
 {
     let (log_id, rest) = log_id_of(bytes)?;
@@ -72,12 +63,12 @@ pub(crate) fn entry_of(
         return Err(FrameError::Fault(FrameFault::NotRising));
     }
     let (payload, rest) = payload_of(alloc, rest)?;
-    Ok((Entry { log_id, payload }, rest))
+    Ok((GroupEntry { log_id, payload }, rest))
 }
 
 // The entry that takes all of the bytes.
 #[tactic(auto, unfolding(crate::specs::Entries::entry_at, crate::specs::Reader::all_of))]
-fn whole_entry(alloc: Global, bytes: &[u8]) -> Result<WireEntry, FrameError>
+fn whole_entry(alloc: Global, bytes: &[u8]) -> Result<GroupEntry, FrameError>
     ensures { Gives (λ x. x) result (all_of entry_at bytes.now) }
 {
     let (entry, rest) = entry_of(alloc, None, bytes)?;
@@ -89,7 +80,7 @@ fn whole_entry(alloc: Global, bytes: &[u8]) -> Result<WireEntry, FrameError>
 
 /// Reads the entry that takes all of the bytes, as `write_entry` wrote it. Refused are bytes that are
 /// no entry, by the first fault from left to right (`Fault`), and want of memory (`Memory`).
-pub fn read_entry(alloc: Global, bytes: &[u8]) -> Result<WireEntry, FrameError>
+pub fn read_entry(alloc: Global, bytes: &[u8]) -> Result<GroupEntry, FrameError>
     // What is read is spelled so, each byte of it.
     ensures found { IfOk result (λ e. FitsEntry e × (bytes.now ≡ spelled_entry e)) }
     // What is spelled so is read, unless memory runs out.
@@ -103,33 +94,26 @@ pub fn read_entry(alloc: Global, bytes: &[u8]) -> Result<WireEntry, FrameError>
 // ---- writing
 
 // Whether the command or membership is within its limits.
-pub(crate) fn is_payload_short(payload: &WirePayload) -> bool
+pub(crate) fn is_payload_short(payload: &GroupPayload) -> bool
     ensures { result ≡ is_payload_short payload.now }
 {
     match payload {
         EntryPayload::Blank => true,
-        EntryPayload::Normal(command) => command.bytes.len() <= MAX_COMMAND_LEN as usize,
+        EntryPayload::Normal(command) => command.len() <= MAX_COMMAND_BYTES,
         EntryPayload::Membership(membership) => is_within_limits(membership),
     }
 }
 
-fn put_command(out: &mut Vec<u8>, command: &Command) -> Result<(), AllocError>
-    requires { nat_le (length command.now.bytes) 65536 ≡ true }
-    ensures { OnOk result (out.new.items ≡ out.old.items ++ spelled_command command.now) }
-{
-    put_text(out, command.bytes.as_slice())
-}
-
-fn put_payload(out: &mut Vec<u8>, payload: &WirePayload) -> Result<(), AllocError>
+fn put_payload(out: &mut Vec<u8>, payload: &GroupPayload) -> Result<(), AllocError>
     requires { is_payload_short payload.now ≡ true }
     ensures items { OnOk result (out.new.items ≡ out.old.items ++ spelled_payload payload.now) }
-    ensures fits { OnOk result (AreNodesRising payload.now → FitsPayload payload.now) }
+    ensures fits { OnOk result (FitsPayload payload.now) }
 {
     match payload {
         EntryPayload::Blank => Ok(out.push(0)?),
         EntryPayload::Normal(command) => {
             out.push(1)?;
-            put_command(out, command)
+            put_text(out, command.as_slice())
         }
         EntryPayload::Membership(membership) => {
             out.push(2)?;
@@ -138,20 +122,20 @@ fn put_payload(out: &mut Vec<u8>, payload: &WirePayload) -> Result<(), AllocErro
     }
 }
 
-pub(crate) fn put_entry(out: &mut Vec<u8>, entry: &WireEntry) -> Result<(), AllocError>
+pub(crate) fn put_entry(out: &mut Vec<u8>, entry: &GroupEntry) -> Result<(), AllocError>
     requires { is_payload_short entry.now.payload ≡ true }
     ensures items { OnOk result (out.new.items ≡ out.old.items ++ spelled_entry entry.now) }
-    ensures fits { OnOk result (AreNodesRising entry.now.payload → FitsEntry entry.now) }
+    ensures fits { OnOk result (FitsEntry entry.now) }
 {
     put_log_id(out, &entry.log_id)?;
     put_payload(out, &entry.payload)
 }
 
 // The bytes of an entry that is within its limits.
-fn entry_bytes(alloc: Global, entry: &WireEntry) -> Result<Vec<u8>, AllocError>
+fn entry_bytes(alloc: Global, entry: &GroupEntry) -> Result<Vec<u8>, AllocError>
     requires { is_payload_short entry.now.payload ≡ true }
     ensures items { IfOk result (λ v. v.items ≡ spelled_entry entry.now) }
-    ensures fits { OnOk result (AreNodesRising entry.now.payload → FitsEntry entry.now) }
+    ensures fits { OnOk result (FitsEntry entry.now) }
 {
     let mut out = Vec::new(alloc);
     put_entry(&mut out, entry)?;
@@ -160,11 +144,11 @@ fn entry_bytes(alloc: Global, entry: &WireEntry) -> Result<Vec<u8>, AllocError>
 
 /// The one spelling of an entry. Refused are a command or a membership past its limits (`TooLong`),
 /// and then want of memory (`Memory`).
-pub fn write_entry(alloc: Global, entry: &WireEntry) -> Result<Vec<u8>, FrameError>
+pub fn write_entry(alloc: Global, entry: &GroupEntry) -> Result<Vec<u8>, FrameError>
     ensures written { Writes (fault_of_entry entry.now) (spelled_entry entry.now) result }
-    ensures fits { OnOk result (AreNodesRising entry.now.payload → FitsEntry entry.now) }
+    ensures fits { OnOk result (FitsEntry entry.now) }
     // What was written is read again as this entry.
-    ensures found { IfOk result (λ v. AreNodesRising entry.now.payload → all_of entry_at v.items ≡ Ok entry.now) }
+    ensures found { IfOk result (λ v. all_of entry_at v.items ≡ Ok entry.now) }
 {
     if !is_payload_short(&entry.payload) {
         return Err(FrameError::Fault(FrameFault::TooLong));

@@ -57,11 +57,11 @@ pub(crate) fn piece_of(len: usize, bytes: &[u8]) -> Result<(&[u8], &[u8]), Frame
 
 // A count or length of four bytes, up to a limit.
 #[tactic(auto, unfolding(crate::specs::Reader::count_at))]
-pub(crate) fn count_of(limit: u32, bytes: &[u8]) -> Result<(u32, &[u8]), FrameError>
+pub(crate) fn count_of(limit: usize, bytes: &[u8]) -> Result<(u32, &[u8]), FrameError>
     ensures { Gives (λ x. (x.0, x.1.now)) result (count_at limit bytes.now) }
 {
     let (count, rest) = u32_at(bytes)?;
-    if limit < count {
+    if limit < count as usize {
         return Err(FrameError::Fault(FrameFault::TooLong));
     }
     Ok((count, rest))
@@ -69,7 +69,7 @@ pub(crate) fn count_of(limit: u32, bytes: &[u8]) -> Result<(u32, &[u8]), FrameEr
 
 // A length up to a limit, and so many bytes, lent.
 #[tactic(auto, unfolding(crate::specs::Reader::text_at))]
-pub(crate) fn text_of(limit: u32, bytes: &[u8]) -> Result<(&[u8], &[u8]), FrameError>
+pub(crate) fn text_of(limit: usize, bytes: &[u8]) -> Result<(&[u8], &[u8]), FrameError>
     ensures { Gives (λ x. (x.0.now, x.1.now)) result (text_at limit bytes.now) }
 {
     let (len, rest) = count_of(limit, bytes)?;

@@ -12,20 +12,14 @@ mod reading;
 mod snapshots;
 mod writing;
 
-pub use entries::{MAX_COMMAND_LEN, WireEntry, WirePayload, read_entry, write_entry};
+pub use entries::{read_entry, write_entry};
 pub use error::{FrameError, FrameFault};
 pub use feeder::{Fed, Feeder, MAX_FRAME_LEN, MAX_IDLE_ROOM, MIN_FRAME_LEN};
-pub use frame::{
-    AppendFrame, AppendId, AppendReplyFrame, AppendResult, Frame, FrameBody, FrameKind,
-    SnapshotFrame, SnapshotReplyFrame, SnapshotResult,
-};
+pub use frame::{Frame, FrameKind};
 pub use laws::{
     cuts_do_not_matter, feeders_wait_only_so_long, found_frames_are_spelled_so, found_stays,
     frames_are_short, no_spelling_begins_another, refused_streams_begin_no_frame,
     spelled_frames_are_found,
 };
-pub use memberships::{MAX_ADDRESS_LEN, MAX_GROUPS, MAX_NODES, MAX_VOTERS, is_within_limits};
-pub use raft_group_step::SnapshotMeta;
-pub use reading::{MAX_ENTRIES, MAX_SNAPSHOT_LEN, WireSnapshot};
 pub use snapshots::{read_snapshot_body, write_snapshot_body};
 pub use writing::write_frame;

@@ -1,6 +1,5 @@
 //! Memberships, read from the front of bytes and written behind others.
-ghost use Rattle.std.specs.Prelude.{◌≡◌, ◌++◌, ◌≤◌, ◌<◌, ◌^◌, ℕ, List, None, true, nat_le, length, OnOk, All, IfOk};
-ghost use Rattle.std.specs.List.{list_all};
+ghost use Rattle.std.specs.Prelude.{◌≡◌, ◌++◌, ◌≤◌, ◌<◌, ◌^◌, ℕ, List, None, true, length, OnOk, All};
 ghost use Rattle.raft_group_step.specs.Values.{is_within_limits};
 ghost use Rattle.raft_wire.specs.Reader.{Gives, many_at, counted_at};
 ghost use Rattle.raft_wire.specs.Memberships.{id_above, that_id, ids_at, nothing_left, is_above, address_at};
@@ -12,20 +11,9 @@ ghost use Rattle.raft_quorums.specs.Rising.{IsRising, IsRisingByFirst};
 
 use crate::error::{FrameError, FrameFault};
 use crate::fields::{byte_of, count_of, piece_of, put_count, put_u64, u64_at};
+use raft_messages::{MAX_NODES, MAX_VOTER_GROUPS, MAX_VOTERS};
 use raft_state::{BasicNode, IdSet, Membership, NodeMap, VoterGroups};
 use std::alloc::{AllocError, Global};
-
-/// A membership has at most so many voter groups.
-pub const MAX_GROUPS: u32 = 8;
-
-/// A voter group has at most so many ids.
-pub const MAX_VOTERS: u32 = 64;
-
-/// A membership has at most so many nodes.
-pub const MAX_NODES: u32 = 128;
-
-/// An address has at most so many bytes.
-pub const MAX_ADDRESS_LEN: usize = 255;
 
 // Whether the id is above the one before it.
 fn is_above(last: Option<u64>, id: u64) -> bool
@@ -141,54 +129,13 @@ pub(crate) fn membership_of(
 ) -> Result<(Membership<u64, BasicNode>, &[u8]), FrameError>
     ensures { Gives (λ x. (x.0, x.1.now)) result (membership_at bytes.now) }
 {
-    let (count, rest) = count_of(MAX_GROUPS, bytes)?;
+    let (count, rest) = count_of(MAX_VOTER_GROUPS, bytes)?;
     let (groups, rest) = groups_behind(alloc, count, rest)?;
     let (count, rest) = count_of(MAX_NODES, rest)?;
     let (nodes, rest) = nodes_behind(alloc, count, rest)?;
     let groups = VoterGroups::from(groups);
     let nodes = NodeMap::from_rising(nodes);
     Ok((Membership::from_parts(groups, nodes), rest))
-}
-
-// ---- limits
-
-// Whether a voter group has at most so many ids as it may have.
-fn is_group_short(group: &IdSet<u64>) -> bool
-    ensures { result ≡ nat_le (length group.now) 64 }
-{
-    group.len() <= MAX_VOTERS as usize
-}
-
-// Whether a node's address has at most so many bytes as it may have.
-fn is_address_short(node: &(u64, BasicNode)) -> bool
-    ensures { result ≡ nat_le (length node.now.1) 255 }
-{
-    node.1.addr.len() <= MAX_ADDRESS_LEN
-}
-
-fn are_groups_short(groups: &[IdSet<u64>]) -> bool
-    ensures { result ≡ list_all (λ (group : List ℕ). nat_le (length group) 64) groups.now }
-{
-    groups.iter().all(|group| is_group_short(group))
-}
-
-fn are_addresses_short(nodes: &[(u64, BasicNode)]) -> bool
-    ensures { result ≡ list_all (λ (node : ℕ × List ℕ). nat_le (length node.1) 255) nodes.now }
-{
-    nodes.iter().all(|node| is_address_short(node))
-}
-
-/// Whether the membership has at most so many groups, voters, nodes and bytes of each address as it
-/// may have.
-pub fn is_within_limits(membership: &Membership<u64, BasicNode>) -> bool
-    ensures { result ≡ is_within_limits membership.now }
-{
-    let groups = membership.get_joint_config();
-    let nodes = membership.nodes();
-    groups.len() <= MAX_GROUPS as usize
-        && are_groups_short(groups)
-        && nodes.len() <= MAX_NODES as usize
-        && are_addresses_short(nodes)
 }
 
 // ---- writing
@@ -233,8 +180,9 @@ fn put_node(out: &mut Vec<u8>, id: u64, node: &BasicNode) -> Result<(), AllocErr
 fn put_nodes(out: &mut Vec<u8>, nodes: &[(u64, BasicNode)]) -> Result<(), AllocError>
     requires count { length nodes.now ≤ 128 }
     requires each { All (λ (node : ℕ × List ℕ). length node.1 ≤ 255) nodes.now }
+    requires rising { IsRisingByFirst nat_cmp nodes.now }
     ensures items { OnOk result (out.new.items ≡ out.old.items ++ spelled_list spelled_node nodes.now) }
-    ensures fits { OnOk result (IsRisingByFirst nat_cmp nodes.now → Chained FitsNode that_node None nodes.now) }
+    ensures fits { OnOk result (Chained FitsNode that_node None nodes.now) }
 {
     put_count(out, nodes.len())?;
     for (id, node) in nodes {
@@ -249,7 +197,7 @@ pub(crate) fn put_membership(
 ) -> Result<(), AllocError>
     requires { is_within_limits membership.now ≡ true }
     ensures items { OnOk result (out.new.items ≡ out.old.items ++ spelled_membership membership.now) }
-    ensures fits { OnOk result (IsRisingByFirst nat_cmp membership.now.nodes → FitsMembership membership.now) }
+    ensures fits { OnOk result (FitsMembership membership.now) }
 {
     put_groups(out, membership.get_joint_config())?;
     put_nodes(out, membership.nodes())

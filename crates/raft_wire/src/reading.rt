@@ -2,35 +2,30 @@
 ghost use Rattle.std.specs.Prelude.{◌≡◌, None};
 ghost use Rattle.raft_wire.specs.Reader.{Gives, many_at, all_of};
 ghost use Rattle.raft_wire.specs.Entries.{entry_behind, that_place};
-ghost use Rattle.raft_wire.specs.Bodies.{vote_request_at, vote_reply_at, id_at, numbered_at, entries_at, append_at};
-ghost use Rattle.raft_wire.specs.Bodies.{result_at, append_reply_at, logged_at, snapshot_at, snapshot_frame_at};
-ghost use Rattle.raft_wire.specs.Bodies.{snapshot_result_at, behind_none_at, snapshot_reply_at};
+ghost use Rattle.raft_wire.specs.Bodies.{vote_request_at, vote_reply_at, id_at, number_of_request_at};
+ghost use Rattle.raft_wire.specs.Bodies.{entries_at, append_at, result_at, reply_at, logged_at, snapshot_at, sent, sent_at};
+ghost use Rattle.raft_wire.specs.Bodies.{none_at, numbered_at, snapshot_result_at, snapshot_reply_at};
 ghost use Rattle.raft_wire.specs.Fields.{option_at};
 ghost use Rattle.raft_wire.specs.Frames.{kind_at, body_at, rest_at};
 
 use crate::entries::entry_of;
 use crate::error::{FrameError, FrameFault};
 use crate::fields::{count_of, flag_of, last_of, log_id_of, text_of, u64_at, vote_of};
-use crate::frame::{
-    AppendFrame, AppendId, AppendReplyFrame, AppendResult, Frame, FrameBody, FrameKind,
-    SnapshotFrame, SnapshotReplyFrame, SnapshotResult,
-};
+use crate::frame::{Frame, FrameKind, has_number, is_conflict};
 use crate::memberships::membership_of;
-use raft_group_step::{
-    AppendEntriesRequest, Entries, InstallSnapshotRequest, LoggedMembership, SnapshotMeta,
-    VoteRequest, VoteResponse,
+use raft_group_step::{Entries, LoggedMembership, SnapshotMeta, VoteRequest, VoteResponse};
+use raft_messages::{
+    AppendFields, MAX_ENTRIES, MAX_SNAPSHOT_BYTES, Message, MessageBody, ReplyFields, ReplyResult,
+    RequestId, SnapshotBytes,
 };
-use raft_state::{BasicNode, Bytes, Command, LogId};
+use raft_state::{BasicNode, Bytes, LogId, Vote};
 use std::alloc::Global;
 
-/// A frame has at most so many entries.
-pub const MAX_ENTRIES: u32 = 64;
+/// Entries as requests have them.
+type GroupEntries = Entries<u64, BasicNode, Bytes>;
 
-/// A snapshot has at most so many bytes of the machine.
-pub const MAX_SNAPSHOT_LEN: u32 = 16_777_216;
-
-/// Entries as frames have them.
-type WireEntries = Entries<u64, BasicNode, Command>;
+/// What a frame says.
+type FrameBody = MessageBody<SnapshotBytes>;
 
 #[tactic(auto, unfolding(crate::specs::Bodies::vote_request_at))]
 fn vote_request_of(bytes: &[u8]) -> Result<(VoteRequest<u64>, &[u8]), FrameError>
@@ -59,15 +54,15 @@ fn vote_reply_of(bytes: &[u8]) -> Result<(VoteResponse<u64>, &[u8]), FrameError>
 // ---- append requests and their replies
 
 #[tactic(auto, unfolding(crate::specs::Bodies::id_at, crate::specs::Fields::option_at))]
-fn id_of(bytes: &[u8]) -> Result<(AppendId, &[u8]), FrameError>
+fn id_of(bytes: &[u8]) -> Result<(RequestId, &[u8]), FrameError>
     ensures { Gives (λ x. (x.0, x.1.now)) result (id_at bytes.now) }
 {
     match bytes {
         [] => Err(FrameError::Fault(FrameFault::CutShort)),
-        [0, rest @ ..] => Ok((AppendId::HeartBeat, rest)),
+        [0, rest @ ..] => Ok((RequestId::HeartBeat, rest)),
         [1, rest @ ..] => {
             let (id, rest) = u64_at(rest)?;
-            Ok((AppendId::Numbered { id }, rest))
+            Ok((RequestId::Numbered { id }, rest))
         }
         [_, ..] => Err(FrameError::Fault(FrameFault::BadTag)),
     }
@@ -77,7 +72,7 @@ fn entries_behind(
     alloc: Global,
     count: u32,
     bytes: &[u8],
-) -> Result<(WireEntries, &[u8]), FrameError>
+) -> Result<(GroupEntries, &[u8]), FrameError>
     ensures { Gives (λ x. (x.0, x.1.now)) result (many_at entry_behind that_place count None bytes.now) }
 {
     let mut entries = Entries::new(alloc);
@@ -93,7 +88,7 @@ fn entries_behind(
 }
 
 #[tactic(auto, unfolding(crate::specs::Reader::counted_at))]
-fn entries_of(alloc: Global, bytes: &[u8]) -> Result<(WireEntries, &[u8]), FrameError>
+fn entries_of(alloc: Global, bytes: &[u8]) -> Result<(GroupEntries, &[u8]), FrameError>
     ensures { Gives (λ x. (x.0, x.1.now)) result (entries_at bytes.now) }
 {
     let (count, rest) = count_of(MAX_ENTRIES, bytes)?;
@@ -101,64 +96,122 @@ fn entries_of(alloc: Global, bytes: &[u8]) -> Result<(WireEntries, &[u8]), Frame
 }
 
 #[tactic(auto, unfolding(crate::specs::Bodies::append_at))]
-fn append_of(alloc: Global, bytes: &[u8]) -> Result<(AppendFrame, &[u8]), FrameError>
+fn append_of(alloc: Global, bytes: &[u8]) -> Result<(AppendFields, &[u8]), FrameError>
     ensures { Gives (λ x. (x.0, x.1.now)) result (append_at bytes.now) }
 {
     let (vote, rest) = vote_of(bytes)?;
     let (id, rest) = id_of(rest)?;
-    let (prev_log_id, rest) = last_of(rest)?;
-    let (leader_commit, rest) = last_of(rest)?;
+    let (previous, rest) = last_of(rest)?;
+    let (committed, rest) = last_of(rest)?;
     let (entries, rest) = entries_of(alloc, rest)?;
-    let request = AppendEntriesRequest {
+    let request = AppendFields {
         vote,
-        prev_log_id,
+        id,
+        previous,
+        committed,
         entries,
-        leader_commit,
     };
-    Ok((AppendFrame { id, request }, rest))
+    Ok((request, rest))
 }
 
 #[tactic(auto, unfolding(crate::specs::Bodies::result_at))]
-fn result_of(bytes: &[u8]) -> Result<(AppendResult, &[u8]), FrameError>
+fn result_of(bytes: &[u8]) -> Result<(ReplyResult, &[u8]), FrameError>
     ensures { Gives (λ x. (x.0, x.1.now)) result (result_at bytes.now) }
 {
     match bytes {
         [] => Err(FrameError::Fault(FrameFault::CutShort)),
-        [0, rest @ ..] => Ok((AppendResult::Success, rest)),
-        [1, rest @ ..] => Ok((AppendResult::Conflict, rest)),
+        [0, rest @ ..] => Ok((ReplyResult::Success, rest)),
+        [1, rest @ ..] => Ok((ReplyResult::Conflict, rest)),
         [2, rest @ ..] => {
             let (vote, rest) = vote_of(rest)?;
-            Ok((AppendResult::HigherVote(vote), rest))
+            Ok((ReplyResult::HigherVote(vote), rest))
         }
         [_, ..] => Err(FrameError::Fault(FrameFault::BadTag)),
     }
 }
 
-#[tactic(auto, unfolding(crate::specs::Bodies::append_reply_at))]
-fn append_reply_of(bytes: &[u8]) -> Result<(AppendReplyFrame, &[u8]), FrameError>
-    ensures { Gives (λ x. (x.0, x.1.now)) result (append_reply_at bytes.now) }
+#[tactic(auto, unfolding(crate::specs::Bodies::reply_at))]
+fn reply_of(bytes: &[u8]) -> Result<(ReplyFields, &[u8]), FrameError>
+    ensures { Gives (λ x. (x.0, x.1.now)) result (reply_at bytes.now) }
 {
     let (vote, rest) = vote_of(bytes)?;
     let (id, rest) = id_of(rest)?;
-    let (prev_log_id, rest) = last_of(rest)?;
-    let (last_log_id, rest) = last_of(rest)?;
-    let (result, rest) = result_of(rest)?;
-    let reply = AppendReplyFrame {
+    let (previous, rest) = last_of(rest)?;
+    let (last, rest) = last_of(rest)?;
+    let (outcome, rest) = result_of(rest)?;
+    let reply = ReplyFields {
         vote,
         id,
-        prev_log_id,
-        last_log_id,
-        result,
+        previous,
+        last,
+        outcome,
     };
     Ok((reply, rest))
 }
 
-// ---- snapshots and their replies
+// ---- replies to snapshots
+
+// The id of a request that has a number.
+#[tactic(auto, unfolding(crate::specs::Bodies::numbered_at))]
+fn numbered_of(bytes: &[u8]) -> Result<(RequestId, &[u8]), FrameError>
+    ensures { Gives (λ x. (x.0, x.1.now)) result (numbered_at bytes.now) }
+{
+    let (id, rest) = id_of(bytes)?;
+    if !has_number(id) {
+        return Err(FrameError::Fault(FrameFault::BadTag));
+    }
+    Ok((id, rest))
+}
+
+// No log id. Its tag is judged before anything behind it.
+#[tactic(auto, unfolding(crate::specs::Bodies::none_at))]
+fn none_of(bytes: &[u8]) -> Result<(Option<LogId<u64>>, &[u8]), FrameError>
+    ensures { Gives (λ x. (x.0, x.1.now)) result (none_at bytes.now) }
+{
+    match bytes {
+        [] => Err(FrameError::Fault(FrameFault::CutShort)),
+        [0, rest @ ..] => Ok((None, rest)),
+        [_, ..] => Err(FrameError::Fault(FrameFault::BadTag)),
+    }
+}
+
+// What came of a snapshot: anything but a conflict.
+#[tactic(auto, unfolding(crate::specs::Bodies::snapshot_result_at))]
+fn snapshot_result_of(bytes: &[u8]) -> Result<(ReplyResult, &[u8]), FrameError>
+    ensures { Gives (λ x. (x.0, x.1.now)) result (snapshot_result_at bytes.now) }
+{
+    let (outcome, rest) = result_of(bytes)?;
+    if is_conflict(outcome) {
+        return Err(FrameError::Fault(FrameFault::BadTag));
+    }
+    Ok((outcome, rest))
+}
+
+#[tactic(auto, unfolding(crate::specs::Bodies::snapshot_reply_at))]
+fn snapshot_reply_of(bytes: &[u8]) -> Result<(ReplyFields, &[u8]), FrameError>
+    ensures { Gives (λ x. (x.0, x.1.now)) result (snapshot_reply_at bytes.now) }
+{
+    let (vote, rest) = vote_of(bytes)?;
+    let (id, rest) = numbered_of(rest)?;
+    let (previous, rest) = none_of(rest)?;
+    let (last, rest) = last_of(rest)?;
+    let (outcome, rest) = snapshot_result_of(rest)?;
+    let reply = ReplyFields {
+        vote,
+        id,
+        previous,
+        last,
+        outcome,
+    };
+    Ok((reply, rest))
+}
+
+// ---- snapshots
 
 // The number of a request that has one.
-#[tactic(auto, unfolding(crate::specs::Bodies::numbered_at, crate::specs::Bodies::marked_at))]
-fn numbered_of(bytes: &[u8]) -> Result<(u64, &[u8]), FrameError>
-    ensures { Gives (λ x. (x.0, x.1.now)) result (numbered_at bytes.now) }
+#[tactic(auto, unfolding(crate::specs::Bodies::number_of_request_at, crate::specs::Bodies::marked_at))]
+fn number_of_request(bytes: &[u8]) -> Result<(u64, &[u8]), FrameError>
+    ensures { Gives (λ x. (x.0, x.1.now)) result (number_of_request_at bytes.now) }
 {
     match bytes {
         [] => Err(FrameError::Fault(FrameFault::CutShort)),
@@ -197,80 +250,33 @@ fn last_membership_of(
     }
 }
 
-/// A snapshot as it is sent and stored: what it covers, and the machine's bytes.
-pub type WireSnapshot = (SnapshotMeta<u64, BasicNode>, Bytes);
-
 #[tactic(auto, unfolding(crate::specs::Bodies::snapshot_at))]
-pub(crate) fn snapshot_of(alloc: Global, bytes: &[u8]) -> Result<(WireSnapshot, &[u8]), FrameError>
+pub(crate) fn snapshot_of(alloc: Global, bytes: &[u8]) -> Result<(SnapshotBytes, &[u8]), FrameError>
     ensures { Gives (λ x. (x.0, x.1.now)) result (snapshot_at bytes.now) }
 {
     let (last_log_id, rest) = log_id_of(bytes)?;
     let (last_membership, rest) = last_membership_of(alloc, rest)?;
-    let (text, rest) = text_of(MAX_SNAPSHOT_LEN, rest)?;
+    let (text, rest) = text_of(MAX_SNAPSHOT_BYTES, rest)?;
     let bytes = Bytes::from_slice(alloc, text)?;
     let meta = SnapshotMeta {
         last_log_id,
         last_membership,
     };
-    Ok(((meta, bytes), rest))
+    Ok((SnapshotBytes { meta, bytes }, rest))
 }
 
-#[tactic(auto, unfolding(crate::specs::Bodies::snapshot_frame_at))]
-fn snapshot_frame_of(alloc: Global, bytes: &[u8]) -> Result<(SnapshotFrame, &[u8]), FrameError>
-    ensures { Gives (λ x. (x.0, x.1.now)) result (snapshot_frame_at bytes.now) }
+// The leader's vote, the number of the request and the snapshot.
+#[tactic(auto, unfolding(crate::specs::Bodies::sent_at))]
+fn sent_of(
+    alloc: Global,
+    bytes: &[u8],
+) -> Result<(Vote<u64>, u64, SnapshotBytes, &[u8]), FrameError>
+    ensures { Gives (λ x. (sent x.0 x.1 x.2, x.3.now)) result (sent_at bytes.now) }
 {
     let (vote, rest) = vote_of(bytes)?;
-    let (id, rest) = numbered_of(rest)?;
-    let ((meta, bytes), rest) = snapshot_of(alloc, rest)?;
-    let request = InstallSnapshotRequest { vote, meta, bytes };
-    Ok((SnapshotFrame { id, request }, rest))
-}
-
-#[tactic(auto, unfolding(crate::specs::Bodies::snapshot_result_at))]
-fn snapshot_result_of(bytes: &[u8]) -> Result<(SnapshotResult, &[u8]), FrameError>
-    ensures { Gives (λ x. (x.0, x.1.now)) result (snapshot_result_at bytes.now) }
-{
-    match bytes {
-        [] => Err(FrameError::Fault(FrameFault::CutShort)),
-        [0, rest @ ..] => Ok((SnapshotResult::Success, rest)),
-        [2, rest @ ..] => {
-            let (vote, rest) = vote_of(rest)?;
-            Ok((SnapshotResult::HigherVote(vote), rest))
-        }
-        [_, ..] => Err(FrameError::Fault(FrameFault::BadTag)),
-    }
-}
-
-// The tag of no previous log id, the last log id and what came of the snapshot.
-#[tactic(auto, unfolding(crate::specs::Bodies::behind_none_at, crate::specs::Bodies::marked_at))]
-fn behind_none_of(bytes: &[u8]) -> Result<(Option<LogId<u64>>, SnapshotResult, &[u8]), FrameError>
-    ensures { Gives (λ x. ((x.0, x.1), x.2.now)) result (behind_none_at bytes.now) }
-{
-    match bytes {
-        [] => Err(FrameError::Fault(FrameFault::CutShort)),
-        [0, rest @ ..] => {
-            let (last_log_id, rest) = last_of(rest)?;
-            let (result, rest) = snapshot_result_of(rest)?;
-            Ok((last_log_id, result, rest))
-        }
-        [_, ..] => Err(FrameError::Fault(FrameFault::BadTag)),
-    }
-}
-
-#[tactic(auto, unfolding(crate::specs::Bodies::snapshot_reply_at))]
-fn snapshot_reply_of(bytes: &[u8]) -> Result<(SnapshotReplyFrame, &[u8]), FrameError>
-    ensures { Gives (λ x. (x.0, x.1.now)) result (snapshot_reply_at bytes.now) }
-{
-    let (vote, rest) = vote_of(bytes)?;
-    let (id, rest) = numbered_of(rest)?;
-    let (last_log_id, result, rest) = behind_none_of(rest)?;
-    let reply = SnapshotReplyFrame {
-        vote,
-        id,
-        last_log_id,
-        result,
-    };
-    Ok((reply, rest))
+    let (id, rest) = number_of_request(rest)?;
+    let (snapshot, rest) = snapshot_of(alloc, rest)?;
+    Ok((vote, id, snapshot, rest))
 }
 
 // ---- frames
@@ -298,27 +304,27 @@ fn body_of(alloc: Global, kind: FrameKind, bytes: &[u8]) -> Result<(FrameBody, &
     match kind {
         FrameKind::VoteRequest => {
             let (request, rest) = vote_request_of(bytes)?;
-            Ok((FrameBody::VoteRequest(request), rest))
+            Ok((MessageBody::VoteRequest(request), rest))
         }
         FrameKind::VoteReply => {
             let (reply, rest) = vote_reply_of(bytes)?;
-            Ok((FrameBody::VoteReply(reply), rest))
+            Ok((MessageBody::VoteReply(reply), rest))
         }
         FrameKind::Append => {
-            let (frame, rest) = append_of(alloc, bytes)?;
-            Ok((FrameBody::Append(frame), rest))
+            let (request, rest) = append_of(alloc, bytes)?;
+            Ok((MessageBody::AppendRequest(request), rest))
         }
         FrameKind::AppendReply => {
-            let (frame, rest) = append_reply_of(bytes)?;
-            Ok((FrameBody::AppendReply(frame), rest))
+            let (reply, rest) = reply_of(bytes)?;
+            Ok((MessageBody::AppendReply(reply), rest))
         }
         FrameKind::Snapshot => {
-            let (frame, rest) = snapshot_frame_of(alloc, bytes)?;
-            Ok((FrameBody::Snapshot(frame), rest))
+            let (vote, id, snapshot, rest) = sent_of(alloc, bytes)?;
+            Ok((MessageBody::SnapshotRequest { vote, id, snapshot }, rest))
         }
         FrameKind::SnapshotReply => {
-            let (frame, rest) = snapshot_reply_of(bytes)?;
-            Ok((FrameBody::SnapshotReply(frame), rest))
+            let (reply, rest) = snapshot_reply_of(bytes)?;
+            Ok((MessageBody::SnapshotReply(reply), rest))
         }
     }
 }
@@ -332,13 +338,12 @@ fn rest_of(alloc: Global, bytes: &[u8]) -> Result<(Frame, &[u8]), FrameError>
     let (sender, rest) = u64_at(rest)?;
     let (addressee, rest) = u64_at(rest)?;
     let (body, rest) = body_of(alloc, kind, rest)?;
-    let frame = Frame {
-        group,
+    let message = Message {
         sender,
         addressee,
         body,
     };
-    Ok((frame, rest))
+    Ok((Frame { group, message }, rest))
 }
 
 /// The frame that takes all of the bytes, which begin behind its length.

@@ -1,35 +1,34 @@
 //! Frames, written field by field.
-ghost use Rattle.std.specs.Prelude.{◌≡◌, ◌≤◌, ◌<◌, ◌-◌, ◌^◌, ◌++◌, ◌&&◌, ◌∷◌, true, nat_le, None, All, drop, length, OnOk, IfOk, IfSome};
+ghost use Rattle.std.specs.Prelude.{◌≡◌, ◌≤◌, ◌<◌, ◌-◌, ◌^◌, ◌++◌, true, None, All, drop, length, OnOk, IfOk, IfSome};
 ghost use Rattle.std.specs.List.{flat_map, list_all};
-ghost use Rattle.std.specs.Int.{w32, w64, to_be_bytes};
+ghost use Rattle.std.specs.Int.{w32, to_be_bytes};
 ghost use Rattle.raft_group_step.specs.Values.{is_within_limits};
 ghost use Rattle.raft_wire.specs.Memberships.{spelled_list};
 ghost use Rattle.raft_wire.specs.Entries.{spelled_entry, FitsEntry};
-ghost use Rattle.raft_wire.specs.Writing.{Writes, is_payload_short, AreNodesRising, AreLoggedNodesRising};
+ghost use Rattle.raft_wire.specs.Writing.{Writes, is_payload_short};
 ghost use Rattle.raft_wire.specs.Bodies.{spelled_vote_request, spelled_vote_reply, spelled_id, spelled_number};
-ghost use Rattle.raft_wire.specs.Bodies.{spelled_append, spelled_result, spelled_append_reply, spelled_logged};
-ghost use Rattle.raft_wire.specs.Bodies.{spelled_snapshot, spelled_snapshot_frame, spelled_snapshot_result};
-ghost use Rattle.raft_wire.specs.Bodies.{spelled_behind_none, spelled_snapshot_reply};
-ghost use Rattle.raft_wire.specs.Bodies.{FitsVoteRequest, FitsVoteReply, FitsId, FitsAppend, FitsResult, FitsAppendReply};
-ghost use Rattle.raft_wire.specs.Bodies.{FitsLogged, FitsSnapshot, FitsSnapshotFrame, FitsSnapshotResult, FitsSnapshotReply};
-ghost use Rattle.raft_wire.specs.Fields.{spelled_option, FitsLast};
+ghost use Rattle.raft_wire.specs.Bodies.{spelled_append, spelled_result, spelled_reply, spelled_logged};
+ghost use Rattle.raft_wire.specs.Bodies.{snapshot_with, spelled_snapshot, sent, spelled_sent, is_of_snapshot};
+ghost use Rattle.raft_wire.specs.Bodies.{FitsVoteRequest, FitsVoteReply, FitsId, FitsAppend, FitsResult, FitsReply};
+ghost use Rattle.raft_wire.specs.Bodies.{FitsLogged, FitsSnapshot, FitsSent};
+ghost use Rattle.raft_wire.specs.Fields.{spelled_option};
 ghost use Rattle.raft_wire.specs.Frames.{byte_of_kind, spelled_parties, spelled_body, spelled_rest, spelled_frame};
 ghost use Rattle.raft_wire.specs.Frames.{are_consecutive, are_entries_short, is_logged_short, is_snapshot_short};
-ghost use Rattle.raft_wire.specs.Frames.{fault_of_entries, fault_of_snapshot, fault_of_frame};
-ghost use Rattle.raft_wire.specs.Frames.{FitsBody, FitsFrame, AreBodyNodesRising};
+ghost use Rattle.raft_wire.specs.Frames.{fault_of_entries, fault_of_snapshot, fault_of_snapshot_reply, fault_of_frame};
+ghost use Rattle.raft_wire.specs.Frames.{FitsBody, FitsFrame};
 ghost use Rattle.raft_wire.specs.Stream.{AreFoundAs};
 
-use crate::entries::{WireEntry, follows, is_payload_short, put_entry};
+use crate::entries::{follows, is_payload_short, put_entry};
 use crate::error::{FrameError, FrameFault};
 use crate::fields::{put_count, put_flag, put_last, put_log_id, put_text, put_u64, put_vote};
-use crate::frame::{
-    AppendFrame, AppendId, AppendReplyFrame, AppendResult, Frame, FrameBody, FrameKind,
-    SnapshotFrame, SnapshotReplyFrame, SnapshotResult,
-};
-use crate::memberships::{is_within_limits, put_membership};
-use crate::reading::{MAX_ENTRIES, MAX_SNAPSHOT_LEN};
+use crate::frame::{Frame, FrameKind, has_number, is_conflict};
+use crate::memberships::put_membership;
 use raft_group_step::{LoggedMembership, SnapshotMeta, VoteRequest, VoteResponse};
-use raft_state::{BasicNode, Bytes, LogId};
+use raft_messages::{
+    AppendFields, GroupEntry, MAX_ENTRIES, MAX_SNAPSHOT_BYTES, MessageBody, ReplyFields,
+    ReplyResult, RequestId, SnapshotBytes, is_within_limits,
+};
+use raft_state::{BasicNode, Bytes, Vote};
 use std::alloc::{AllocError, Global};
 
 fn put_vote_request(out: &mut Vec<u8>, request: &VoteRequest<u64>) -> Result<(), AllocError>
@@ -51,13 +50,13 @@ fn put_vote_reply(out: &mut Vec<u8>, reply: &VoteResponse<u64>) -> Result<(), Al
 
 // ---- append requests and their replies
 
-fn put_id(out: &mut Vec<u8>, id: AppendId) -> Result<(), AllocError>
+fn put_id(out: &mut Vec<u8>, id: RequestId) -> Result<(), AllocError>
     ensures items { OnOk result (out.new.items ≡ out.old.items ++ spelled_id id) }
     ensures fits { OnOk result (FitsId id) }
 {
     match id {
-        AppendId::HeartBeat => Ok(out.push(0)?),
-        AppendId::Numbered { id } => {
+        RequestId::HeartBeat => Ok(out.push(0)?),
+        RequestId::Numbered { id } => {
             out.push(1)?;
             put_u64(out, id)
         }
@@ -65,10 +64,10 @@ fn put_id(out: &mut Vec<u8>, id: AppendId) -> Result<(), AllocError>
 }
 
 // The entries without their count.
-fn put_all(out: &mut Vec<u8>, entries: &[WireEntry]) -> Result<(), AllocError>
+fn put_all(out: &mut Vec<u8>, entries: &[GroupEntry]) -> Result<(), AllocError>
     requires { All (λ e. is_payload_short e.payload ≡ true) entries.now }
     ensures items { OnOk result (out.new.items ≡ out.old.items ++ flat_map spelled_entry entries.now) }
-    ensures fits { OnOk result (All (λ e. AreNodesRising e.payload) entries.now → All FitsEntry entries.now) }
+    ensures fits { OnOk result (All FitsEntry entries.now) }
 {
     for entry in entries {
         put_entry(out, entry)?;
@@ -76,53 +75,53 @@ fn put_all(out: &mut Vec<u8>, entries: &[WireEntry]) -> Result<(), AllocError>
     Ok(())
 }
 
-fn put_entries(out: &mut Vec<u8>, entries: &[WireEntry]) -> Result<(), AllocError>
+fn put_entries(out: &mut Vec<u8>, entries: &[GroupEntry]) -> Result<(), AllocError>
     requires { are_entries_short entries.now ≡ true }
     ensures items { OnOk result (out.new.items ≡ out.old.items ++ spelled_list spelled_entry entries.now) }
-    ensures fits { OnOk result (All (λ e. AreNodesRising e.payload) entries.now → All FitsEntry entries.now) }
+    ensures fits { OnOk result (All FitsEntry entries.now) }
 {
     put_count(out, entries.len())?;
     put_all(out, entries)
 }
 
-fn put_append(out: &mut Vec<u8>, frame: &AppendFrame) -> Result<(), AllocError>
-    requires { fault_of_entries frame.now.request.entries ≡ None }
-    ensures items { OnOk result (out.new.items ≡ out.old.items ++ spelled_append frame.now) }
-    ensures fits { OnOk result (All (λ e. AreNodesRising e.payload) frame.now.request.entries → FitsAppend frame.now) }
+fn put_append(out: &mut Vec<u8>, request: &AppendFields) -> Result<(), AllocError>
+    requires { fault_of_entries request.now.entries ≡ None }
+    ensures items { OnOk result (out.new.items ≡ out.old.items ++ spelled_append request.now) }
+    ensures fits { OnOk result (FitsAppend request.now) }
 {
-    put_vote(out, &frame.request.vote)?;
-    put_id(out, frame.id)?;
-    put_last(out, &frame.request.prev_log_id)?;
-    put_last(out, &frame.request.leader_commit)?;
-    put_entries(out, frame.request.entries.as_slice())
+    put_vote(out, &request.vote)?;
+    put_id(out, request.id)?;
+    put_last(out, &request.previous)?;
+    put_last(out, &request.committed)?;
+    put_entries(out, request.entries.as_slice())
 }
 
-fn put_result(out: &mut Vec<u8>, outcome: &AppendResult) -> Result<(), AllocError>
+fn put_result(out: &mut Vec<u8>, outcome: &ReplyResult) -> Result<(), AllocError>
     ensures items { OnOk result (out.new.items ≡ out.old.items ++ spelled_result outcome.now) }
     ensures fits { OnOk result (FitsResult outcome.now) }
 {
     match outcome {
-        AppendResult::Success => Ok(out.push(0)?),
-        AppendResult::Conflict => Ok(out.push(1)?),
-        AppendResult::HigherVote(vote) => {
+        ReplyResult::Success => Ok(out.push(0)?),
+        ReplyResult::Conflict => Ok(out.push(1)?),
+        ReplyResult::HigherVote(vote) => {
             out.push(2)?;
             put_vote(out, vote)
         }
     }
 }
 
-fn put_append_reply(out: &mut Vec<u8>, reply: &AppendReplyFrame) -> Result<(), AllocError>
-    ensures items { OnOk result (out.new.items ≡ out.old.items ++ spelled_append_reply reply.now) }
-    ensures fits { OnOk result (FitsAppendReply reply.now) }
+fn put_reply(out: &mut Vec<u8>, reply: &ReplyFields) -> Result<(), AllocError>
+    ensures items { OnOk result (out.new.items ≡ out.old.items ++ spelled_reply reply.now) }
+    ensures fits { OnOk result (FitsReply reply.now) }
 {
     put_vote(out, &reply.vote)?;
     put_id(out, reply.id)?;
-    put_last(out, &reply.prev_log_id)?;
-    put_last(out, &reply.last_log_id)?;
-    put_result(out, &reply.result)
+    put_last(out, &reply.previous)?;
+    put_last(out, &reply.last)?;
+    put_result(out, &reply.outcome)
 }
 
-// ---- snapshots and their replies
+// ---- snapshots
 
 fn put_number(out: &mut Vec<u8>, id: u64) -> Result<(), AllocError>
     ensures items { OnOk result (out.new.items ≡ out.old.items ++ spelled_number id) }
@@ -138,7 +137,7 @@ fn put_logged(
 ) -> Result<(), AllocError>
     requires { is_within_limits logged.now.membership ≡ true }
     ensures items { OnOk result (out.new.items ≡ out.old.items ++ spelled_logged logged.now) }
-    ensures fits { OnOk result (AreLoggedNodesRising logged.now → FitsLogged logged.now) }
+    ensures fits { OnOk result (FitsLogged logged.now) }
 {
     put_log_id(out, &logged.log_id)?;
     put_membership(out, &logged.membership)
@@ -150,7 +149,7 @@ fn put_last_membership(
 ) -> Result<(), AllocError>
     requires { is_logged_short logged.now ≡ true }
     ensures items { OnOk result (out.new.items ≡ out.old.items ++ spelled_option spelled_logged logged.now) }
-    ensures fits { OnOk result (IfSome logged.now AreLoggedNodesRising → IfSome logged.now FitsLogged) }
+    ensures fits { OnOk result (IfSome logged.now FitsLogged) }
 {
     match logged {
         None => Ok(out.push(0)?),
@@ -167,63 +166,33 @@ pub(crate) fn put_snapshot(
     bytes: &Bytes,
 ) -> Result<(), AllocError>
     requires { is_snapshot_short meta.now.last_membership bytes.now ≡ true }
-    ensures items { OnOk result (out.new.items ≡ out.old.items ++ spelled_snapshot (meta.now, bytes.now)) }
-    ensures fits { OnOk result (IfSome meta.now.last_membership AreLoggedNodesRising → FitsSnapshot (meta.now, bytes.now)) }
+    ensures items { OnOk result (out.new.items ≡ out.old.items ++ spelled_snapshot (snapshot_with meta.now bytes.now)) }
+    ensures fits { OnOk result (FitsSnapshot (snapshot_with meta.now bytes.now)) }
 {
     put_log_id(out, &meta.last_log_id)?;
     put_last_membership(out, &meta.last_membership)?;
     put_text(out, bytes.as_slice())
 }
 
-fn put_snapshot_frame(out: &mut Vec<u8>, frame: &SnapshotFrame) -> Result<(), AllocError>
-    requires { is_snapshot_short frame.now.request.meta.last_membership frame.now.request.bytes ≡ true }
-    ensures items { OnOk result (out.new.items ≡ out.old.items ++ spelled_snapshot_frame frame.now) }
-    ensures fits { OnOk result (IfSome frame.now.request.meta.last_membership AreLoggedNodesRising → FitsSnapshotFrame frame.now) }
-{
-    put_vote(out, &frame.request.vote)?;
-    put_number(out, frame.id)?;
-    put_snapshot(out, &frame.request.meta, &frame.request.bytes)
-}
-
-fn put_snapshot_result(out: &mut Vec<u8>, outcome: &SnapshotResult) -> Result<(), AllocError>
-    ensures items { OnOk result (out.new.items ≡ out.old.items ++ spelled_snapshot_result outcome.now) }
-    ensures fits { OnOk result (FitsSnapshotResult outcome.now) }
-{
-    match outcome {
-        SnapshotResult::Success => Ok(out.push(0)?),
-        SnapshotResult::HigherVote(vote) => {
-            out.push(2)?;
-            put_vote(out, vote)
-        }
-    }
-}
-
-fn put_behind_none(
+fn put_sent(
     out: &mut Vec<u8>,
-    last: &Option<LogId<u64>>,
-    outcome: &SnapshotResult,
+    vote: &Vote<u64>,
+    id: u64,
+    snapshot: &SnapshotBytes,
 ) -> Result<(), AllocError>
-    ensures items { OnOk result (out.new.items ≡ out.old.items ++ spelled_behind_none (last.now, outcome.now)) }
-    ensures fits { OnOk result (FitsLast last.now × FitsSnapshotResult outcome.now) }
+    requires { is_snapshot_short snapshot.now.meta.last_membership snapshot.now.bytes ≡ true }
+    ensures items { OnOk result (out.new.items ≡ out.old.items ++ spelled_sent (sent vote.now id snapshot.now)) }
+    ensures fits { OnOk result (FitsSent (sent vote.now id snapshot.now)) }
 {
-    out.push(0)?;
-    put_last(out, last)?;
-    put_snapshot_result(out, outcome)
-}
-
-fn put_snapshot_reply(out: &mut Vec<u8>, reply: &SnapshotReplyFrame) -> Result<(), AllocError>
-    ensures items { OnOk result (out.new.items ≡ out.old.items ++ spelled_snapshot_reply reply.now) }
-    ensures fits { OnOk result (FitsSnapshotReply reply.now) }
-{
-    put_vote(out, &reply.vote)?;
-    put_number(out, reply.id)?;
-    put_behind_none(out, &reply.last_log_id, &reply.result)
+    put_vote(out, vote)?;
+    put_number(out, id)?;
+    put_snapshot(out, &snapshot.meta, &snapshot.bytes)
 }
 
 // ---- why a frame isn't written
 
 // Whether each place follows the one before.
-fn are_consecutive(entries: &[WireEntry]) -> bool
+fn are_consecutive(entries: &[GroupEntry]) -> bool
     ensures { result ≡ are_consecutive None entries.now }
 {
     let mut last = None;
@@ -236,19 +205,19 @@ fn are_consecutive(entries: &[WireEntry]) -> bool
     true
 }
 
-fn are_payloads_short(entries: &[WireEntry]) -> bool
+fn are_payloads_short(entries: &[GroupEntry]) -> bool
     ensures { result ≡ list_all (λ e. is_payload_short e.payload) entries.now }
 {
     entries.iter().all(|entry| is_payload_short(&entry.payload))
 }
 
-fn are_entries_short(entries: &[WireEntry]) -> bool
+fn are_entries_short(entries: &[GroupEntry]) -> bool
     ensures { result ≡ are_entries_short entries.now }
 {
-    entries.len() <= MAX_ENTRIES as usize && are_payloads_short(entries)
+    entries.len() <= MAX_ENTRIES && are_payloads_short(entries)
 }
 
-fn fault_of_entries(entries: &[WireEntry]) -> Option<FrameFault>
+fn fault_of_entries(entries: &[GroupEntry]) -> Option<FrameFault>
     ensures { result ≡ fault_of_entries entries.now }
 {
     if !are_entries_short(entries) {
@@ -275,23 +244,42 @@ pub(crate) fn fault_of_snapshot(
 ) -> Option<FrameFault>
     ensures { result ≡ fault_of_snapshot meta.now.last_membership bytes.now }
 {
-    if is_logged_short(&meta.last_membership) && bytes.len() <= MAX_SNAPSHOT_LEN as usize {
+    if is_logged_short(&meta.last_membership) && bytes.len() <= MAX_SNAPSHOT_BYTES {
         None
     } else {
         Some(FrameFault::TooLong)
     }
 }
 
-fn fault_of(body: &FrameBody) -> Option<FrameFault>
+// Whether the reply says nothing that only an append's reply can say.
+fn is_of_snapshot(reply: &ReplyFields) -> bool
+    ensures { result ≡ is_of_snapshot reply.now }
+{
+    has_number(reply.id) && reply.previous.is_none() && !is_conflict(reply.outcome)
+}
+
+fn fault_of_snapshot_reply(reply: &ReplyFields) -> Option<FrameFault>
+    ensures { result ≡ fault_of_snapshot_reply reply.now }
+{
+    if is_of_snapshot(reply) {
+        None
+    } else {
+        Some(FrameFault::BadTag)
+    }
+}
+
+fn fault_of(body: &MessageBody<SnapshotBytes>) -> Option<FrameFault>
     ensures { result ≡ fault_of_frame body.now }
 {
     match body {
-        FrameBody::VoteRequest(_) => None,
-        FrameBody::VoteReply(_) => None,
-        FrameBody::Append(frame) => fault_of_entries(frame.request.entries.as_slice()),
-        FrameBody::AppendReply(_) => None,
-        FrameBody::Snapshot(frame) => fault_of_snapshot(&frame.request.meta, &frame.request.bytes),
-        FrameBody::SnapshotReply(_) => None,
+        MessageBody::VoteRequest(_) => None,
+        MessageBody::VoteReply(_) => None,
+        MessageBody::AppendRequest(request) => fault_of_entries(request.entries.as_slice()),
+        MessageBody::AppendReply(_) => None,
+        MessageBody::SnapshotRequest { snapshot, .. } => {
+            fault_of_snapshot(&snapshot.meta, &snapshot.bytes)
+        }
+        MessageBody::SnapshotReply(reply) => fault_of_snapshot_reply(reply),
     }
 }
 
@@ -310,40 +298,40 @@ fn byte_of_kind(kind: FrameKind) -> u8
     }
 }
 
-fn put_body(out: &mut Vec<u8>, body: &FrameBody) -> Result<(), AllocError>
+fn put_body(out: &mut Vec<u8>, body: &MessageBody<SnapshotBytes>) -> Result<(), AllocError>
     requires { fault_of_frame body.now ≡ None }
     ensures items { OnOk result (out.new.items ≡ out.old.items ++ spelled_body body.now) }
-    ensures fits { OnOk result (AreBodyNodesRising body.now → FitsBody body.now) }
+    ensures fits { OnOk result (FitsBody body.now) }
 {
     match body {
-        FrameBody::VoteRequest(request) => put_vote_request(out, request),
-        FrameBody::VoteReply(reply) => put_vote_reply(out, reply),
-        FrameBody::Append(frame) => put_append(out, frame),
-        FrameBody::AppendReply(reply) => put_append_reply(out, reply),
-        FrameBody::Snapshot(frame) => put_snapshot_frame(out, frame),
-        FrameBody::SnapshotReply(reply) => put_snapshot_reply(out, reply),
+        MessageBody::VoteRequest(request) => put_vote_request(out, request),
+        MessageBody::VoteReply(reply) => put_vote_reply(out, reply),
+        MessageBody::AppendRequest(request) => put_append(out, request),
+        MessageBody::AppendReply(reply) => put_reply(out, reply),
+        MessageBody::SnapshotRequest { vote, id, snapshot } => put_sent(out, vote, *id, snapshot),
+        MessageBody::SnapshotReply(reply) => put_reply(out, reply),
     }
 }
 
 // The group, the sender and the addressee.
 fn put_parties(out: &mut Vec<u8>, frame: &Frame) -> Result<(), AllocError>
     ensures items { OnOk result (out.new.items ≡ out.old.items ++ spelled_parties frame.now) }
-    ensures fits { OnOk result ((frame.now.group < 2 ^ 64) × (frame.now.sender < 2 ^ 64) × (frame.now.addressee < 2 ^ 64)) }
+    ensures fits { OnOk result ((frame.now.group < 2 ^ 64) × (frame.now.message.sender < 2 ^ 64) × (frame.now.message.addressee < 2 ^ 64)) }
 {
     put_u64(out, frame.group)?;
-    put_u64(out, frame.sender)?;
-    put_u64(out, frame.addressee)
+    put_u64(out, frame.message.sender)?;
+    put_u64(out, frame.message.addressee)
 }
 
 // A frame behind its length.
 fn put_rest(out: &mut Vec<u8>, frame: &Frame) -> Result<(), AllocError>
-    requires { fault_of_frame frame.now.body ≡ None }
+    requires { fault_of_frame frame.now.message.body ≡ None }
     ensures items { OnOk result (out.new.items ≡ out.old.items ++ spelled_rest frame.now) }
-    ensures fits { OnOk result (AreBodyNodesRising frame.now.body → FitsFrame frame.now) }
+    ensures fits { OnOk result (FitsFrame frame.now) }
 {
-    out.push(byte_of_kind(frame.body.kind()))?;
+    out.push(byte_of_kind(frame.kind()))?;
     put_parties(out, frame)?;
-    put_body(out, &frame.body)
+    put_body(out, &frame.message.body)
 }
 
 // Puts the length of what follows into the first four bytes.
@@ -358,9 +346,9 @@ fn set_length(bytes: &mut [u8])
 
 // The bytes of a frame that has a spelling.
 fn frame_bytes(alloc: Global, frame: &Frame) -> Result<Vec<u8>, AllocError>
-    requires { fault_of_frame frame.now.body ≡ None }
+    requires { fault_of_frame frame.now.message.body ≡ None }
     ensures items { IfOk result (λ v. v.items ≡ spelled_frame frame.now) }
-    ensures fits { OnOk result (AreBodyNodesRising frame.now.body → FitsFrame frame.now) }
+    ensures fits { OnOk result (FitsFrame frame.now) }
 {
     let mut out = Vec::new(alloc);
     out.extend_from_slice(&[0, 0, 0, 0])?;
@@ -369,16 +357,17 @@ fn frame_bytes(alloc: Global, frame: &Frame) -> Result<Vec<u8>, AllocError>
     Ok(out)
 }
 
-/// The one spelling of a frame. Refused are entries, commands, memberships and bytes of a machine
+/// The one spelling of a frame (own). Refused are entries, commands, memberships and bytes of a machine
 /// past their limits (`TooLong`), then entries whose places don't follow one another (`NotRising`),
-/// and then want of memory (`Memory`).
+/// a snapshot's reply that has no number, a previous log id or a conflict (`BadTag`), and then want of
+/// memory (`Memory`).
 pub fn write_frame(alloc: Global, frame: &Frame) -> Result<Vec<u8>, FrameError>
-    ensures written { Writes (fault_of_frame frame.now.body) (spelled_frame frame.now) result }
-    ensures fits { OnOk result (AreBodyNodesRising frame.now.body → FitsFrame frame.now) }
+    ensures written { Writes (fault_of_frame frame.now.message.body) (spelled_frame frame.now) result }
+    ensures fits { OnOk result (FitsFrame frame.now) }
     // What was written is read again as this frame, whatever follows it in a stream.
-    ensures found { IfOk result (λ v. AreBodyNodesRising frame.now.body → AreFoundAs v.items frame.now) }
+    ensures found { IfOk result (λ v. AreFoundAs v.items frame.now) }
 {
-    if let Some(fault) = fault_of(&frame.body) {
+    if let Some(fault) = fault_of(&frame.message.body) {
         return Err(FrameError::Fault(fault));
     }
     Ok(frame_bytes(alloc, frame)?)

@@ -5,11 +5,10 @@
 //! the rounds. Its answer is the frame's length.
 #![tactic(auto)]
 
-use raft_group_step::{AppendEntriesRequest, Entries};
-use raft_state::{Command, Entry, EntryPayload, LeaderId, LogId, Vote};
-use raft_wire::{
-    AppendFrame, AppendId, Feeder, Frame, FrameBody, FrameError, WireEntry, write_frame,
-};
+use raft_group_step::Entries;
+use raft_messages::{AppendFields, GroupEntry, Message, MessageBody, RequestId};
+use raft_state::{Bytes, EntryPayload, LeaderId, LogId, Vote};
+use raft_wire::{Feeder, Frame, FrameError, write_frame};
 use std::alloc::{AllocError, Global};
 use std::io;
 
@@ -52,11 +51,11 @@ fn parse(line: &str) -> Option<Task> {
     })
 }
 
-fn entry_of(alloc: Global, index: u64, bytes: &[u8]) -> Result<WireEntry, AllocError> {
+fn entry_of(alloc: Global, index: u64, bytes: &[u8]) -> Result<GroupEntry, AllocError> {
     let leader_id = LeaderId::new(1, 1);
-    Ok(Entry {
+    Ok(GroupEntry {
         log_id: LogId { leader_id, index },
-        payload: EntryPayload::Normal(Command::new(alloc, bytes)?),
+        payload: EntryPayload::Normal(Bytes::from_slice(alloc, bytes)?),
     })
 }
 
@@ -66,19 +65,19 @@ fn frame_of(alloc: Global, task: Task) -> Result<Frame, AllocError> {
     for index in 0..task.entries {
         entries.push(entry_of(alloc, index, &bytes)?)?;
     }
-    let request = AppendEntriesRequest {
+    let request = AppendFields {
         vote: Vote::new_committed(1, 1),
-        prev_log_id: None,
+        id: RequestId::Numbered { id: 1 },
+        previous: None,
+        committed: None,
         entries,
-        leader_commit: None,
     };
-    let id = AppendId::Numbered { id: 1 };
-    Ok(Frame {
-        group: 7,
+    let message = Message {
         sender: 1,
         addressee: 2,
-        body: FrameBody::Append(AppendFrame { id, request }),
-    })
+        body: MessageBody::AppendRequest(request),
+    };
+    Ok(Frame { group: 7, message })
 }
 
 // One round: how many bytes the frame has.

@@ -1,9 +1,10 @@
 //! The calls, each behind a function without clauses: a proof that carries the clauses of several
 //! calls takes long.
 
+use raft_messages::{GroupEntry, SnapshotBytes};
 use raft_wire::{
-    Fed, Feeder, Frame, FrameError, WireEntry, WireSnapshot, read_entry, read_snapshot_body,
-    write_entry, write_frame, write_snapshot_body,
+    Fed, Feeder, Frame, FrameError, read_entry, read_snapshot_body, write_entry, write_frame,
+    write_snapshot_body,
 };
 use std::alloc::Global;
 
@@ -31,20 +32,19 @@ pub fn written(alloc: Global, frame: &Frame) -> Result<Vec<u8>, FrameError> {
     write_frame(alloc, frame)
 }
 
-pub fn written_entry(alloc: Global, entry: &WireEntry) -> Result<Vec<u8>, FrameError> {
+pub fn written_entry(alloc: Global, entry: &GroupEntry) -> Result<Vec<u8>, FrameError> {
     write_entry(alloc, entry)
 }
 
-pub fn entry_of(alloc: Global, bytes: &[u8]) -> Result<WireEntry, FrameError> {
+pub fn entry_of(alloc: Global, bytes: &[u8]) -> Result<GroupEntry, FrameError> {
     read_entry(alloc, bytes)
 }
 
-pub fn written_snapshot(alloc: Global, snapshot: &WireSnapshot) -> Result<Vec<u8>, FrameError> {
-    let (meta, bytes) = snapshot;
-    write_snapshot_body(alloc, meta, bytes)
+pub fn written_snapshot(alloc: Global, snapshot: &SnapshotBytes) -> Result<Vec<u8>, FrameError> {
+    write_snapshot_body(alloc, &snapshot.meta, &snapshot.bytes)
 }
 
-pub fn snapshot_of(alloc: Global, bytes: &[u8]) -> Result<WireSnapshot, FrameError> {
+pub fn snapshot_of(alloc: Global, bytes: &[u8]) -> Result<SnapshotBytes, FrameError> {
     read_snapshot_body(alloc, bytes)
 }
 

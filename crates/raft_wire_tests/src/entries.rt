@@ -1,9 +1,11 @@
 //! Stored entries that are read and written.
 
 use crate::calls::{are, entry_of, written_entry};
+use crate::texts::EntryText;
+use raft_messages::is_within_limits;
 use raft_rows::Answer;
 use raft_state::{BasicNode, EntryPayload, Membership};
-use raft_wire::is_within_limits;
+use raft_wire::FrameError;
 use std::alloc::Global;
 
 fn is_short(membership: &Membership<u64, BasicNode>) -> bool {
@@ -29,6 +31,14 @@ fn written_again(alloc: Global, bytes: &[u8]) -> Answer {
     }
 }
 
+/// The entry that the bytes are.
+fn shown(alloc: Global, bytes: &[u8]) -> Answer {
+    match entry_of(alloc, bytes) {
+        Ok(entry) => Answer::shown(alloc, &Ok::<_, FrameError>(EntryText(&entry))),
+        Err(error) => Answer::shown(alloc, &Err::<(), _>(error)),
+    }
+}
+
 /// What is found in bytes that are to be an entry, by name. An entry is written as its bytes.
 pub fn found_entry(alloc: Global, bytes: &[u8]) -> &'static str {
     match entry_of(alloc, bytes) {
@@ -41,7 +51,7 @@ pub fn found_entry(alloc: Global, bytes: &[u8]) -> &'static str {
 /// The answer to a row about the entry that the bytes are.
 pub fn stored(bytes: &[u8], alloc: Global, words: &[&str]) -> Option<Answer> {
     Some(match *words {
-        ["entry"] => Answer::shown(alloc, &entry_of(alloc, bytes)),
+        ["entry"] => shown(alloc, bytes),
         ["entry-again"] => written_again(alloc, bytes),
         ["entry-membership-is-short"] => has_short_membership(alloc, bytes),
         _ => return None,

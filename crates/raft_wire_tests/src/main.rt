@@ -11,6 +11,7 @@ mod frames;
 mod rooms;
 mod rows;
 mod snapshots;
+mod texts;
 
 use raft_rows::run;
 use rows::Calls;

@@ -4,6 +4,12 @@ use crate::calls::{are, snapshot_of, written_snapshot};
 use raft_rows::Answer;
 use std::alloc::Global;
 
+/// What the body of some bytes covers, and the machine's bytes.
+fn shown(alloc: Global, bytes: &[u8]) -> Answer {
+    let parts = snapshot_of(alloc, bytes).map(|it| (it.meta, it.bytes));
+    Answer::shown(alloc, &parts)
+}
+
 /// The bytes that the body of some bytes is written as.
 fn written_again(alloc: Global, bytes: &[u8]) -> Answer {
     match snapshot_of(alloc, bytes) {
@@ -24,7 +30,7 @@ pub fn found_snapshot(alloc: Global, bytes: &[u8]) -> &'static str {
 /// The answer to a row about the body that the bytes are.
 pub fn kept(bytes: &[u8], alloc: Global, words: &[&str]) -> Option<Answer> {
     Some(match *words {
-        ["snapshot-body"] => Answer::shown(alloc, &snapshot_of(alloc, bytes)),
+        ["snapshot-body"] => shown(alloc, bytes),
         ["snapshot-body-again"] => written_again(alloc, bytes),
         _ => return None,
     })

@@ -6,8 +6,8 @@ use Rattle.raft_wire.proofs.Whole.{whole_again}
 use Rattle.raft_wire.proofs.entries.write_entry.Goals as goal
 
 pub returns-clause-found : goal.returns-clause-found
-returns-clause-found c = λ rising.
+returns-clause-found c =
     let e = c.args.entry.now in
     let written : c.in_ok-entry_bytes.field-0.items ≡ spelled_entry e = c.in_ok-entry_bytes.ensures.items in
-    let again = whole_again entry_at spelled_entry FitsEntry entry_alone_reads e (c.in_ok-entry_bytes.ensures.fits rising) in
+    let again = whole_again entry_at spelled_entry FitsEntry entry_alone_reads e c.in_ok-entry_bytes.ensures.fits in
     subst (λ (bytes : List ℕ). all_of entry_at bytes ≡ Ok e) (sym written) again

@@ -16,4 +16,4 @@ loop-id-preserved c =
     }
 
 pub returns-clause-fits : goal.returns-clause-fits
-returns-clause-fits c = λ rising. nodes_fit c.args.nodes.now rising (passed_all IsNodeShort c.args.nodes.now c.loop-id.id-index (omega arith) c.loop-id.invariant.fit)
+returns-clause-fits c = nodes_fit c.args.nodes.now c.requires.rising (passed_all IsNodeShort c.args.nodes.now c.loop-id.id-index (omega arith) c.loop-id.invariant.fit)

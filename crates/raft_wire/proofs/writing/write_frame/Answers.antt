@@ -5,7 +5,7 @@ use Rattle.raft_wire.proofs.StreamProofs.{spelled_is_found}
 use Rattle.raft_wire.proofs.writing.write_frame.Goals as goal
 
 pub returns-clause-found : goal.returns-clause-found
-returns-clause-found c = λ rising.
+returns-clause-found c =
     let f = c.args.frame.now in
     let written : c.in_ok-frame_bytes.field-0.items ≡ spelled_frame f = c.in_ok-frame_bytes.ensures.items in
-    subst (λ (bytes : List ℕ). AreFoundAs bytes f) (sym written) (λ more. spelled_is_found f more (c.in_ok-frame_bytes.ensures.fits rising))
+    subst (λ (bytes : List ℕ). AreFoundAs bytes f) (sym written) (λ more. spelled_is_found f more c.in_ok-frame_bytes.ensures.fits)
