@@ -1,5 +1,5 @@
 //! Frames, read from left to right.
-ghost use Rattle.std.specs.Prelude.{◌≡◌, None};
+ghost use Rattle.std.specs.Prelude.{None};
 ghost use Rattle.raft_wire.specs.Reader.{Gives, many_at, all_of};
 ghost use Rattle.raft_wire.specs.Entries.{entry_behind, that_place};
 ghost use Rattle.raft_wire.specs.Bodies.{vote_request_at, vote_reply_at, id_at, number_of_request_at};
