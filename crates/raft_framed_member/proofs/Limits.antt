@@ -2,7 +2,7 @@
 use Rattle.std.specs.Prelude.{◌≡◌, ℕ, zero, suc, ◌+◌, ◌==◌, ◌&&◌, cond, is_none, nat_le, not, Bool, true, false, List, [], ◌∷◌, length, Option, Some, None, All, refl}
 use Rattle.std.specs.List.{list_all}
 use Rattle.std.proofs.Common.{sym, ap, subst, arith, le-leb, leb-true}
-use Rattle.std.proofs.lemmas.Bool.{and_from, and_parts, eqb-true}
+use Rattle.std.proofs.lemmas.Bool.{and_from, and_parts, eq-eqb, eqb-true, not-true}
 use Rattle.std.proofs.lemmas.List.Elements.{All-cons, All-nil}
 use Rattle.raft_values.specs.declared.vote.Vote.{Vote}
 use Rattle.raft_values.specs.declared.log_id.LogId.{LogId}
@@ -67,16 +67,13 @@ short_all (e ∷ es) t =
     let both = and_parts (is_short e) (list_all is_short es) t in
     All-cons Fits e es (short_payload e.payload both.0) (short_all es both.1)
 
-same_number : (n : ℕ) → (n == n) ≡ true
-same_number zero = refl
-same_number (suc n) = same_number n
-
 placed_rise : (last : Option ℕ) (start : ℕ) (es : List Entry) → follows last start ≡ true → ArePlacedFrom start es → are_consecutive last es ≡ true
 placed_rise last start [] t p = refl
 placed_rise last start (e ∷ es) t p =
-    let first : e.log_id.index ≡ start = p 0 e refl in
+    let at_start = p 0 e refl in
+    let first : e.log_id.index ≡ start = omega arith in
     and_from (follows last e.log_id.index) (are_consecutive (Some e.log_id.index) es) (subst (λ i. follows last i ≡ true) (sym first) t)
-    (placed_rise (Some e.log_id.index) (start + 1) es (subst (λ i. (start + 1 == i + 1) ≡ true) (sym first) (same_number (start + 1)))
+    (placed_rise (Some e.log_id.index) (start + 1) es (eq-eqb (start + 1) (e.log_id.index + 1) (omega arith))
     (λ i x at. let q = p (suc i) x at in omega arith))
 
 nothing_wrong : (es : List Entry) → are_entries_short es ≡ true → are_consecutive None es ≡ true → fault_of_entries es ≡ None
@@ -95,9 +92,9 @@ numbered HeartBeat n e = absurd cc
 numbered (Numbered id) n e = refl
 
 agrees : (outcome : ReplyResult) → (outcome_of outcome ≡ HasConflict → ⊥) → is_conflict outcome ≡ false
-agrees Success no = refl
-agrees Conflict no = absurd (no refl)
-agrees (HigherVote vote) no = refl
+agrees Success unlike = refl
+agrees Conflict unlike = absurd (unlike refl)
+agrees (HigherVote vote) unlike = refl
 
 without_fault : (of_snapshot : Bool) (why : FrameFault) → of_snapshot ≡ true → cond of_snapshot None (Some why) ≡ None
 without_fault true why t = refl
@@ -111,12 +108,12 @@ reply_fits m f =
 
 -- a message that fits, and brings no snapshot, has a frame
 pub fits_frame : (carried : SnapshotBytes → Snapshot) (b : MessageBody SnapshotBytes) → brings_snapshot (body_as carried b) ≡ false → FitsBody (body_as carried b) → fault_of_frame b ≡ None
-fits_frame carried (body.VoteRequest r) no f = refl
-fits_frame carried (body.VoteReply r) no f = refl
-fits_frame carried (body.AppendRequest m) no f = request_fits m f
-fits_frame carried (body.AppendReply m) no f = refl
-fits_frame carried (body.SnapshotRequest vote id s) no f = absurd cc
-fits_frame carried (body.SnapshotReply m) no f = without_fault (is_of_snapshot m) fault.BadTag (reply_fits m f)
+fits_frame carried (body.VoteRequest r) bare f = refl
+fits_frame carried (body.VoteReply r) bare f = refl
+fits_frame carried (body.AppendRequest m) bare f = request_fits m f
+fits_frame carried (body.AppendReply m) bare f = refl
+fits_frame carried (body.SnapshotRequest vote id s) bare f = absurd cc
+fits_frame carried (body.SnapshotReply m) bare f = without_fault (is_of_snapshot m) fault.BadTag (reply_fits m f)
 
 -- ---- what a frame brings
 
@@ -146,7 +143,7 @@ reply_is m t =
       number = id.0;
       numbered = id.1;
       previous = none_is m.previous left.1;
-      agrees = no_conflict m.outcome (not_true (is_conflict m.outcome) both.1);
+      agrees = no_conflict m.outcome (not-true (is_conflict m.outcome) both.1);
     }
 
 -- entries that follow the previous one stand at their places
@@ -191,13 +188,13 @@ request_is own peer s m sound right =
 
 -- a message that isn't refused, and that a frame without a snapshot brings, is within the limits
 pub brought_fits : (own : ℕ) (s : GroupState) (now : ℕ) (carried : SnapshotBytes → Snapshot) (m : Sent SnapshotBytes) → brings_snapshot (body_as carried m.body) ≡ false → fault_of_frame m.body ≡ None → refusal_of own s (Receive m.sender (message_as carried m) now) ≡ None → FitsBody (body_as carried m.body)
-brought_fits own s now carried m no right taken =
-    go m.body no right (unless_none (is_sound own m.sender s.stored (body_as carried m.body)) BreaksCondition (no_reason (reasons_of own s (Receive m.sender (message_as carried m) now)) taken).1.1.1.0)
+brought_fits own s now carried m bare right taken =
+    go m.body bare right (unless_none (is_sound own m.sender s.stored (body_as carried m.body)) BreaksCondition (no_reason (reasons_of own s (Receive m.sender (message_as carried m) now)) taken).1.1.1.0)
   where
     go : (b : MessageBody SnapshotBytes) → brings_snapshot (body_as carried b) ≡ false → fault_of_frame b ≡ None → is_sound own m.sender s.stored (body_as carried b) ≡ true → FitsBody (body_as carried b)
-    go (body.VoteRequest r) no right sound = tt
-    go (body.VoteReply r) no right sound = tt
-    go (body.AppendRequest a) no right sound = request_is own m.sender s a sound right
-    go (body.AppendReply a) no right sound = tt
-    go (body.SnapshotRequest vote id x) no right sound = absurd cc
-    go (body.SnapshotReply a) no right sound = reply_is a (of_snapshot (is_of_snapshot a) right)
+    go (body.VoteRequest r) bare right sound = tt
+    go (body.VoteReply r) bare right sound = tt
+    go (body.AppendRequest a) bare right sound = request_is own m.sender s a sound right
+    go (body.AppendReply a) bare right sound = tt
+    go (body.SnapshotRequest vote id x) bare right sound = absurd cc
+    go (body.SnapshotReply a) bare right sound = reply_is a (of_snapshot (is_of_snapshot a) right)

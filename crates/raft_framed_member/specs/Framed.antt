@@ -21,15 +21,15 @@ brings_snapshot (SnapshotRequest vote id snapshot) = true
 brings_snapshot (SnapshotReply m) = false
 
 -- the frame is the group's, and says this message; that brings no snapshot, so no matter what a snapshot's bytes stand for
-pub record IsFrameOf (group : ℕ) (m : Message) (frame : Frame) : Type 0 where
-  pub group : frame.group ≡ group
+pub record IsFrameOf (own_group : ℕ) (m : Message) (frame : Frame) : Type 0 where
+  pub group : frame.group ≡ own_group
   pub fits : FitsFrame frame
   pub says : (carried : SnapshotBytes → Snapshot) → message_as carried frame.message ≡ m
 
 -- the message goes to its addressee as the one spelling of such a frame
-pub record IsSentAs (group : ℕ) (m : Message) (sent : SentFrame) : Type 0 where
+pub record IsSentAs (own_group : ℕ) (m : Message) (sent : SentFrame) : Type 0 where
   pub frame : Frame
-  pub is : IsFrameOf group m frame
+  pub is : IsFrameOf own_group m frame
   pub to : sent.addressee ≡ m.addressee
   pub bytes : sent.bytes.items ≡ spelled_frame frame
 

@@ -4,6 +4,8 @@ ghost use Rattle.raft_messages.specs.Messages.{message_of};
 ghost use Rattle.raft_framed_member.specs.Framed.{AreNotSent, AreSentAs, IsSentAs};
 
 use crate::snapshots::without_snapshot;
+
+
 use raft_executor::GroupMessage;
 use raft_wire::{Frame, FrameError, write_frame};
 use std::alloc::{AllocError, Global};
@@ -30,11 +32,7 @@ pub enum SendError {
 }
 
 // The message as a frame of the group.
-fn framed_message(
-    alloc: Global,
-    group: u64,
-    message: GroupMessage,
-) -> Result<SentFrame, SendError>
+fn framed_message(alloc: Global, group: u64, message: GroupMessage) -> Result<SentFrame, SendError>
     ensures ok { IfOk result (λ sent. IsSentAs group (message_of message) sent) }
     ensures err { IfErr result (λ why. AreNotSent (message_of message ∷ []) why) }
 {
@@ -59,7 +57,10 @@ pub fn framed(
 {
     let mut sent = Vec::new(alloc);
     for message in messages {
-        let frame = framed_message(alloc, group, message)?;
+        let frame = match framed_message(alloc, group, message) {
+            Ok(frame) => frame,
+            Err(why) => return Err(why),
+        };
         if sent.push(frame).is_err() {
             return Err(SendError::Frame(FrameError::Memory));
         }
