@@ -4,8 +4,6 @@ ghost use Rattle.raft_messages.specs.Messages.{message_of};
 ghost use Rattle.raft_framed_member.specs.Framed.{AreNotSent, AreSentAs, IsSentAs};
 
 use crate::snapshots::without_snapshot;
-
-
 use raft_executor::GroupMessage;
 use raft_wire::{Frame, FrameError, write_frame};
 use std::alloc::{AllocError, Global};
