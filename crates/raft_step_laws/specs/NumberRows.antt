@@ -6,7 +6,7 @@ use Rattle.raft_values.specs.LogId.{log_id_of}
 use Rattle.raft_state.specs.declared.entry.EntryPayload.TheVariants.{Blank, Membership as Members}
 use Rattle.raft_group_step.specs.Values.{Membership, entry_of}
 use Rattle.raft_group_step.specs.StoredGroup.{Snapshot, StoredGroup}
-use Rattle.raft_group_step.specs.Message.{AppendReply, AppendRequest, HigherVote, Message, MessageBody, Numbered, ReplyFields, SnapshotReply, SnapshotRequest}
+use Rattle.raft_group_step.specs.Message.{AppendReply, AppendRequest, HigherVote, Message, MessageBody, Numbered, ReplyFields, SnapshotReply, SnapshotRequest, VoteReply, VoteRequest}
 use Rattle.raft_group_step.specs.Peer.{Outstanding, PeerState, new_peer}
 use Rattle.raft_group_step.specs.GroupState.{GroupState}
 use Rattle.raft_group_step.specs.declared.group_call.GroupCall.TheVariants.{Heartbeat, TriggerSnapshot}
@@ -65,6 +65,12 @@ peer_with matched next outstanding =
 
 -- ---- messages
 
+-- a vote request and a reply, with the numbers of the vote and of the last log id
+abbrev pub votes_with : ℕ → ℕ → List MessageBody
+votes_with vote last =
+    VoteRequest (vote_of vote 1 false) (Some (id_of last))
+    ∷ VoteReply (vote_of vote 1 false) true (Some (id_of last)) ∷ []
+
 -- the numbers of its vote, its own, and those of its previous log id, of what is committed, and of its entry
 abbrev pub request_with : ℕ → ℕ → ℕ → ℕ → ℕ → MessageBody
 request_with vote id previous committed entry =
@@ -109,6 +115,9 @@ with_one_past body =
     map is_in_range
     (body past 0 0 0 0 ∷ body 0 past 0 0 0 ∷ body 0 0 past 0 0 ∷ body 0 0 0 past 0
     ∷ body 0 0 0 0 past ∷ [])
+
+abbrev pub none_in_range : List Bool
+none_in_range = false ∷ false ∷ false ∷ false ∷ false ∷ []
 
 -- ---- a run: what a snapshot's list has comes back in a later snapshot
 

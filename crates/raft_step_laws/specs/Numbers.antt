@@ -21,7 +21,7 @@ AreLow ns = All (λ (n : ℕ). n < number_limit) ns
 abbrev pub HasLowId : Entry → Type 0
 HasLowId e = AreLow (numbers_of_id (Some e.log_id))
 
--- the last log id, that of the membership, and those of the list, since a later snapshot takes its membership's from there
+-- the last log id, that of the membership, and those of the list: a later snapshot's membership may come from there
 pub record IsLowSnapshot (x : Snapshot) : Type 0 where
   pub last : AreLow (numbers_of_id (Some x.last))
   pub membership : AreLow (numbers_of_membership x.membership)
@@ -33,7 +33,7 @@ pub record IsLowStored (s : StoredGroup) : Type 0 where
   pub log : All HasLowId s.log
   pub snapshot : IfSome s.snapshot IsLowSnapshot
 
--- what a peer has accepted is low, and so is the number of the next request, where none is outstanding; else it may be at the limit
+-- what a peer has accepted is low, and so is the number of its next request, which may be at the limit while one is outstanding
 pub record IsLowPeer (p : PeerState) : Type 0 where
   pub matched : AreLow (numbers_of_id p.matched)
   pub next : p.next_id ≤ number_limit

@@ -1,21 +1,23 @@
-//! The numbers that a step stores and sends are below the limit: a law of single steps, as a contract
-//! of a function without a body, with worked rows of its words.
+//! The numbers that a step stores and sends are below the limit: a law of single steps, as a
+//! contract of a function without a body, with worked rows of its words.
 
 ghost use Rattle.std.specs.Prelude.{◌≡◌, ◌+◌, ◌-◌, true, false, [], ◌∷◌, map, Some, None};
 ghost use Rattle.raft_values.specs.LogId.{log_id_of};
-ghost use Rattle.raft_values.specs.Vote.{vote_of};
-ghost use Rattle.raft_group_step.specs.Message.{VoteReply, VoteRequest};
 ghost use Rattle.raft_group_step.specs.Refusal.{numbers_of_id, refusal_of};
 ghost use Rattle.raft_group_step.specs.StepExample.{empty_group};
 ghost use Rattle.raft_group_step.specs.StepResult.{NumberAtEnd};
-ghost use Rattle.raft_step_laws.specs.NumberRows.{built_numbers, id_of, is_in_range, listed_at, next_after, past, peer_with, ranges_after, receiver, refused_after, reply_with, request_to, request_with, snapshot_of, snapshot_reply_with, snapshot_with, stored_with, then_a_blank, top, with_one_past};
+ghost use Rattle.raft_step_laws.specs.NumberRows.{built_numbers, listed_at, past, receiver, top};
+ghost use Rattle.raft_step_laws.specs.NumberRows.{next_after, peer_with, ranges_after, refused_after, request_to};
+ghost use Rattle.raft_step_laws.specs.NumberRows.{snapshot_of, snapshot_with, stored_with};
+ghost use Rattle.raft_step_laws.specs.NumberRows.{is_in_range, none_in_range, reply_with, request_with, snapshot_reply_with, votes_with, with_one_past};
 ghost use Rattle.raft_step_laws.specs.Numbers.{AreLow, BringsLowPrefix, HasLowPrefix, IsLowBody, IsLowPeer, IsLowStored, StepsSendLowNumbers};
 
-/// Where the terms, places and log ids of what a node has are below 2^62, those of what a step leaves
-/// are too, at its end and after any stop, and so is each number of each message that it sends.
-/// A leader's next request to a peer has a number below 2^62, or 2^62 while one is outstanding: a step
-/// sends a peer one such request at most. It is to be known that the list of a snapshot that comes has
-/// low log ids, since no refusal looks at these; the law says so of each snapshot that is sent.
+/// Where the terms, places and log ids of what a node has are below 2^62, those of what a step
+/// leaves are too, at its end and after any stop, and so is each number of each message that it
+/// sends. The number of a leader's next request to a peer is below 2^62, or 2^62 while one is
+/// outstanding: a step sends a peer one such request at most. It is to be known that the list of a
+/// snapshot that comes has low log ids, since no refusal looks at these. The law says so of each
+/// snapshot that is sent.
 pub fn numbers_of_steps_are_low()
     ensures { StepsSendLowNumbers }
 {}
@@ -40,7 +42,8 @@ pub fn stored_parts_with_low_numbers()
     ensures listed { IsLowStored (stored_with 0 0 0 (snapshot_of 0 0 past)) → ⊥ }
 {}
 
-/// The number of a peer's next request may be at the limit while one is outstanding, and never past it.
+/// The number of a peer's next request may be at the limit while one is outstanding, and never past
+/// it.
 pub fn peers_with_low_numbers()
     ensures idle { IsLowPeer (peer_with top top None) }
     ensures waits { IsLowPeer (peer_with top past (Some (request_to top))) }
@@ -49,20 +52,25 @@ pub fn peers_with_low_numbers()
     ensures matched { IsLowPeer (peer_with past 0 None) → ⊥ }
 {}
 
-/// A message is in range with each of its numbers just below the limit, and with none at the limit.
-/// The list of a snapshot isn't among these numbers.
+/// Messages of votes are in range with each of their numbers just below the limit, and with none at
+/// the limit.
+pub fn votes_in_range()
+    ensures top { map is_in_range (votes_with top top) ≡ true ∷ true ∷ [] }
+    ensures vote { map is_in_range (votes_with past 0) ≡ false ∷ false ∷ [] }
+    ensures last { map is_in_range (votes_with 0 past) ≡ false ∷ false ∷ [] }
+{}
+
+/// So are requests and replies. A snapshot's list isn't among the numbers that are looked at.
 pub fn messages_in_range()
-    ensures votes { map is_in_range (VoteRequest (vote_of top 1 false) (Some (id_of top)) ∷ VoteReply (vote_of top 1 false) true (Some (id_of top)) ∷ []) ≡ true ∷ true ∷ [] }
-    ensures votes_past { map is_in_range (VoteRequest (vote_of past 1 false) None ∷ VoteReply (vote_of past 1 false) true None ∷ []) ≡ false ∷ false ∷ [] }
-    ensures last_past { map is_in_range (VoteRequest (vote_of 0 1 false) (Some (id_of past)) ∷ VoteReply (vote_of 0 1 false) true (Some (id_of past)) ∷ []) ≡ false ∷ false ∷ [] }
     ensures request { is_in_range (request_with top top top top top) ≡ true }
-    ensures request_past { with_one_past request_with ≡ false ∷ false ∷ false ∷ false ∷ false ∷ [] }
+    ensures request_past { with_one_past request_with ≡ none_in_range }
     ensures reply { is_in_range (reply_with top top top top top) ≡ true }
-    ensures reply_past { with_one_past reply_with ≡ false ∷ false ∷ false ∷ false ∷ false ∷ [] }
+    ensures reply_past { with_one_past reply_with ≡ none_in_range }
     ensures snapshot_reply { is_in_range (snapshot_reply_with top top top top top) ≡ true }
-    ensures snapshot_reply_past { with_one_past snapshot_reply_with ≡ false ∷ false ∷ false ∷ false ∷ false ∷ [] }
+    ensures snapshot_reply_past { with_one_past snapshot_reply_with ≡ none_in_range }
     ensures snapshot { is_in_range (snapshot_with top top top top past) ≡ true }
-    ensures snapshot_past { with_one_past snapshot_with ≡ false ∷ false ∷ false ∷ false ∷ true ∷ [] }
+    ensures snapshot_past { with_one_past snapshot_with
+        ≡ false ∷ false ∷ false ∷ false ∷ true ∷ [] }
 {}
 
 /// What is sent has a low list beside its numbers, and so has what comes.
@@ -75,8 +83,8 @@ pub fn messages_with_low_lists()
     ensures comes_past { BringsLowPrefix (listed_at past) → ⊥ }
 {}
 
-/// Why the list of a snapshot that comes is to be low: no refusal looks at it, and the membership of a
-/// later snapshot, which is sent, has its log id from there.
+/// Why the list of a snapshot that comes is to be low: no refusal looks at it, and the membership
+/// of a later snapshot, which may be sent, has its log id from there.
 pub fn lists_that_come_back()
     ensures first { refusal_of 2 empty_group (listed_at past) ≡ None }
     ensures stored { IsLowStored (receiver top).stored }
