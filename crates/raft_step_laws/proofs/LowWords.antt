@@ -1,6 +1,6 @@
 -- Low numbers in what a node has stored, in what it knows of its peers, and in messages.
 use Rattle.std.specs.Prelude.{◌≡◌, ℕ, zero, suc, ◌+◌, ◌-◌, ◌<◌, ◌==◌, ◌&&◌, cond, nat_lt, Bool, true, false, List, [], ◌∷◌, ◌++◌, drop, length, slice_get, take, Option, Some, None, All, IfSome, option_and_then, refl}
-use Rattle.std.proofs.Common.{ltb-true, lt-ltb}
+use Rattle.std.proofs.Common.{arith, ltb-true, lt-ltb}
 use Rattle.std.proofs.lemmas.Bool.{and_parts}
 use Rattle.std.proofs.lemmas.List.Elements.{All-append, All-cons, All-drop, All-head, All-nil, All-tail, All-take}
 use Rattle.raft_values.specs.declared.log_id.LogId.{LogId}
@@ -15,6 +15,10 @@ use Rattle.raft_group_step.specs.Refusal.{are_in_range, number_limit, numbers_of
 use Rattle.raft_step_laws.specs.Numbers.{AreLow, HasLowId, IsLowSnapshot, IsLowStored}
 
 -- ---- lists of numbers
+
+-- which no number is, also one that is too large to count to
+pub not_below_itself : (n : ℕ) → n < n → ⊥
+not_below_itself n l = omega arith
 
 abbrev pub IsLow : ℕ → Type 0
 IsLow n = n < number_limit

@@ -11,7 +11,7 @@ use Rattle.raft_group_step.specs.Peer.{Outstanding, PeerState, new_peer}
 use Rattle.raft_group_step.specs.GroupState.{GroupState}
 use Rattle.raft_group_step.specs.declared.group_call.GroupCall.TheVariants.{Heartbeat, TriggerSnapshot}
 use Rattle.raft_group_step.specs.GroupEvent.{Call, GroupEvent, Receive}
-use Rattle.raft_group_step.specs.StepResult.{RefusalReason, StepResult}
+use Rattle.raft_group_step.specs.StepResult.{RefusalReason, StepResult, unchanged}
 use Rattle.raft_group_step.specs.Refusal.{are_in_range, next_ids, numbers_of, numbers_of_membership, refusal_of}
 use Rattle.raft_group_step.specs.GroupStep.{group_step}
 use Rattle.raft_group_step.specs.StepExample.{empty_group}
@@ -159,6 +159,19 @@ built_numbers n =
     numbers_of_membership
     (option_and_then (λ (x : Snapshot). x.membership)
     (group_step 2 (receiver n) (Call TriggerSnapshot 0)).state.stored.snapshot)
+
+-- ---- steps, made up
+
+-- a step that sends this and changes nothing
+abbrev pub sending : MessageBody → StepResult
+sending body =
+    record (unchanged (leader 1)) {
+      messages = record { sender = 2; addressee = 1; body = body } ∷ [];
+    }
+
+-- the state with a vote of this term
+abbrev pub with_term : ℕ → GroupState → GroupState
+with_term term s = record s { stored = record s.stored { vote = vote_of term 2 true } }
 
 -- ---- a leader's last request
 

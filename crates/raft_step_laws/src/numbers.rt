@@ -3,21 +3,23 @@
 
 ghost use Rattle.std.specs.Prelude.{◌≡◌, ◌+◌, ◌-◌, true, false, [], ◌∷◌, map, Some, None};
 ghost use Rattle.raft_values.specs.LogId.{log_id_of};
+ghost use Rattle.raft_values.specs.Vote.{vote_of};
 ghost use Rattle.raft_group_step.specs.Refusal.{numbers_of_id, refusal_of};
 ghost use Rattle.raft_group_step.specs.StepExample.{empty_group};
-ghost use Rattle.raft_group_step.specs.StepResult.{NumberAtEnd};
+ghost use Rattle.raft_group_step.specs.StepResult.{NumberAtEnd, unchanged};
+ghost use Rattle.raft_group_step.specs.StoredGroup.{SetVote};
+ghost use Rattle.raft_step_laws.specs.TakingRows.{leader, storing};
 ghost use Rattle.raft_step_laws.specs.NumberRows.{built_numbers, listed_at, past, receiver, top};
 ghost use Rattle.raft_step_laws.specs.NumberRows.{next_after, peer_with, ranges_after, refused_after, request_to};
-ghost use Rattle.raft_step_laws.specs.NumberRows.{snapshot_of, snapshot_with, stored_with};
+ghost use Rattle.raft_step_laws.specs.NumberRows.{sending, snapshot_of, snapshot_with, stored_with, with_term};
 ghost use Rattle.raft_step_laws.specs.NumberRows.{is_in_range, none_in_range, reply_with, request_with, snapshot_reply_with, votes_with, with_one_past};
-ghost use Rattle.raft_step_laws.specs.Numbers.{AreLow, BringsLowPrefix, HasLowPrefix, IsLowBody, IsLowPeer, IsLowStored, StepsSendLowNumbers};
+ghost use Rattle.raft_step_laws.specs.Numbers.{AreLow, BringsLowPrefix, EachPeer, HasLowPrefix, IsLowBody, IsLowPeer, IsLowStored, StepIsLow, StepsSendLowNumbers};
 
 /// Where the terms, places and log ids of what a node has are below 2^62, those of what a step
 /// leaves are too, at its end and after any stop, and so is each number of each message that it
 /// sends. The number of a leader's next request to a peer is below 2^62, or 2^62 while one is
-/// outstanding: a step sends a peer one such request at most. It is to be known that the list of a
-/// snapshot that comes has low log ids, since no refusal looks at these. The law says so of each
-/// snapshot that is sent.
+/// outstanding: then none is sent. It is to be known that the list of a snapshot that comes has low
+/// log ids, since no refusal looks at these. The law says so of each snapshot that is sent.
 pub fn numbers_of_steps_are_low()
     ensures { StepsSendLowNumbers }
 {}
@@ -50,6 +52,19 @@ pub fn peers_with_low_numbers()
     ensures idle_past { IsLowPeer (peer_with 0 past None) → ⊥ }
     ensures waits_past { IsLowPeer (peer_with 0 (past + 1) (Some (request_to past))) → ⊥ }
     ensures matched { IsLowPeer (peer_with past 0 None) → ⊥ }
+    ensures leader { EachPeer IsLowPeer (leader top).role }
+    ensures leader_past { EachPeer IsLowPeer (leader past).role → ⊥ }
+    ensures follower { EachPeer IsLowPeer empty_group.role }
+{}
+
+/// What is judged of a step: its messages, what is left at its end and after each of its storing
+/// commands, and the leader's peers.
+pub fn steps_with_low_numbers()
+    ensures nothing { StepIsLow (leader 1) (unchanged (leader 1)) }
+    ensures message { StepIsLow (leader 1) (sending (request_with past 0 0 0 0)) → ⊥ }
+    ensures stop { StepIsLow (leader 1) (storing (SetVote (vote_of past 1 false) ∷ [])) → ⊥ }
+    ensures stored { StepIsLow (leader 1) (unchanged (with_term past (leader 1))) → ⊥ }
+    ensures peer { StepIsLow (leader 1) (unchanged (leader past)) → ⊥ }
 {}
 
 /// Messages of votes are in range with each of their numbers just below the limit, and with none at

@@ -1,11 +1,8 @@
-use Rattle.std.specs.Prelude.{ℕ, ◌<◌}
 use Rattle.std.proofs.Common.{arith}
 use Rattle.raft_group_step.specs.StepExample.{blank_at}
 use Rattle.raft_step_laws.specs.NumberRows.{past}
+use Rattle.raft_step_laws.proofs.LowWords.{not_below_itself}
 use Rattle.raft_step_laws.proofs.numbers.messages_with_low_lists.Goals as goal
-
-not_below_itself : (n : ℕ) → n < n → ⊥
-not_below_itself n l = omega arith
 
 pub returns-clause-listed : goal.returns-clause-listed
 returns-clause-listed c = λ h. not_below_itself past (h.«prefix» 0 (blank_at 0) (omega arith) 1 0 (omega arith))
