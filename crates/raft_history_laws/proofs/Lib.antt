@@ -30,3 +30,4 @@ pub mod LeadPeers
 pub mod OrderedNodes
 pub mod RunLeads
 pub mod TakenNodes
+pub mod LowWorlds

@@ -22,3 +22,5 @@ pub mod ServedPeers
 pub mod ServedPeersRun
 pub mod TakenCommands
 pub mod TakenCommandsRun
+pub mod Numbers
+pub mod NumbersRun

@@ -8,6 +8,7 @@ pub mod ends;
 pub mod known_peers;
 pub mod leader_lists;
 pub mod limits;
+pub mod numbers;
 pub mod origins;
 pub mod serving;
 pub mod snapshots;

@@ -14,3 +14,5 @@ pub mod FitWords
 pub mod FitSteps
 pub mod Committing
 pub mod InOrder
+pub mod LowWords
+pub mod LowSteps

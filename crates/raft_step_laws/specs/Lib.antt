@@ -13,3 +13,5 @@ pub mod Fitting
 pub mod Commits
 pub mod CommitRows
 pub mod FittingRows
+pub mod Numbers
+pub mod NumberRows

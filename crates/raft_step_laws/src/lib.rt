@@ -4,6 +4,7 @@
 pub mod commits;
 pub mod elections;
 pub mod limits;
+pub mod numbers;
 pub mod peers;
 pub mod replies;
 pub mod taking;
