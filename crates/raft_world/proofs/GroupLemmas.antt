@@ -11,7 +11,7 @@ use Rattle.raft_laws.specs.declared.world_event.WorldEvent.{WorldEvent}
 use Rattle.raft_laws.specs.declared.world_event.WorldEvent.TheVariants.{Add}
 use Rattle.raft_group_step.specs.GroupEvent.{AddGroup, Open}
 use Rattle.raft_messages.specs.Messages.{message_of}
-use Rattle.raft_settled.specs.World.{led_of}
+use Rattle.raft_world.specs.Settled.{led_of}
 use Rattle.raft_laws.specs.NodeEvent.{NodeEvent, Comes, Crashes, Halts, Restarts, outcome_at, state_after}
 use Rattle.raft_laws.specs.GroupWorld.{GroupWorld, NodeState, Absent, Up, Down, Outcome, Done, Refused, Stopped, Skipped, Recorded, is_stop, new_world, state_or}
 use Rattle.raft_laws.specs.GroupRun.{Scene, Nowhere, At, group_run, history_of, led_after, outcome_of, ran, scene_of, sent_in, setup_after, stop_at}

@@ -7,7 +7,7 @@ use Rattle.raft_group_step.specs.StoredGroup.{Snapshot}
 use Rattle.raft_messages.specs.declared.message.Message.{Message}
 use Rattle.raft_laws.specs.GroupWorld.{NodeState, Refused, with_node_state}
 use Rattle.raft_laws.specs.GroupRun.{led_by}
-use Rattle.raft_settled.specs.World.{led_of}
+use Rattle.raft_world.specs.Settled.{led_of}
 use Rattle.raft_world.specs.Ending.{IsEndOf, IsSent}
 use Rattle.raft_world.specs.World.{IsPlace}
 use Rattle.raft_world.specs.declared.member.Ended.{Ended}

@@ -3,8 +3,8 @@ use Rattle.std.proofs.Common.{◌≡◌, drop, map}
 use Rattle.std.specs.Prelude.{fold}
 use Rattle.std.specs.Option.{option_copied}
 use Rattle.raft_laws.specs.Settled.{group_list, longer, settled_part}
-use Rattle.raft_settled.specs.World.{led_of, world_of}
-use Rattle.raft_settled.proofs.settled.longest_settled.Given as goal
+use Rattle.raft_world.specs.Settled.{led_of, world_of}
+use Rattle.raft_world.proofs.settled.longest_settled.Given as goal
 
 abbrev pub invariant-loop-note : goal.invariant-loop-note
 invariant-loop-note l =

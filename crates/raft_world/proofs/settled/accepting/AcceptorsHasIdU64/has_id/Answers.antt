@@ -1,8 +1,8 @@
 -- What messages and notes say is what the world says.
 use Rattle.raft_messages.specs.Messages.{message_of}
-use Rattle.raft_settled.specs.World.{is_led_with, is_reply, led_of}
-use Rattle.raft_settled.proofs.SettledLemmas.{first_passes, second_tells}
-use Rattle.raft_settled.proofs.accepting.AcceptorsHasIdU64.has_id.Goals as goal
+use Rattle.raft_world.specs.Settled.{is_led_with, is_reply, led_of}
+use Rattle.raft_world.proofs.SettledLemmas.{first_passes, second_tells}
+use Rattle.raft_world.proofs.settled.accepting.AcceptorsHasIdU64.has_id.Goals as goal
 
 pub returns-then-has_replied : goal.returns-then-has_replied
 returns-then-has_replied c =

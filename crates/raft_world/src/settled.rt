@@ -5,14 +5,17 @@ ghost use Rattle.raft_quorums.specs.Quorum.{is_quorum};
 ghost use Rattle.raft_messages.specs.Messages.{message_of};
 ghost use Rattle.raft_laws.specs.GroupWorld.{GroupWorld};
 ghost use Rattle.raft_laws.specs.Settled.{count_to_last, group_list, is_accepted_by_quorum, longer, settled_part, setup_configs};
-ghost use Rattle.raft_settled.specs.World.{led_of, world_of};
+ghost use Rattle.raft_world.specs.Settled.{led_of, world_of};
 
-use crate::accepting::Acceptors;
-use crate::led_note::LedNote;
+use crate::settled::accepting::Acceptors;
+use crate::settled::led_note::LedNote;
 use raft_executor::GroupMessage;
 use raft_messages::{GroupEntry, push_copies};
 use raft_state::{BasicNode, HasId, Membership, QuorumSet, Vote};
 use std::alloc::{AllocError, Global};
+
+mod accepting;
+pub(crate) mod led_note;
 
 // Whether the nodes are a quorum of the set-up's voter groups; all are where there is no set-up.
 fn is_quorum<S: HasId<u64>>(setup: Option<&Membership<u64, BasicNode>>, nodes: &S) -> bool
@@ -104,10 +107,10 @@ fn longest_settled<'a>(
     longest
 }
 
-/// The one list of a group, from its messages, the membership that it was set up with and the notes
-/// of its leaders (own): the longest part of a leader's list that is settled, up to its last entry
-/// that a quorum accepted under the leader's vote. It is a copy, and fails for want of memory alone.
-pub fn group_list(
+// The one list of a group, from its messages, the membership that it was set up with and the notes
+// of its leaders: the longest part of a leader's list that is settled, up to its last entry
+// that a quorum accepted under the leader's vote. It is a copy, and fails for want of memory alone.
+pub(crate) fn group_list(
     alloc: Global,
     messages: &[GroupMessage],
     setup: Option<&Membership<u64, BasicNode>>,

@@ -1,22 +1,12 @@
-//! What a snapshot covers.
+//! What snapshots cover, as an engine is told of it.
 ghost use Rattle.std.specs.Prelude.{◌≡◌, IfOk, Some};
 ghost use Rattle.raft_messages.specs.Memberships.{logged_or_none};
 ghost use Rattle.raft_known_state.specs.KnownState.{last_membership_of, meta_of};
 
 use raft_messages::LoggedPair;
 use raft_state::{BasicNode, SnapshotMeta, StoredMembership};
-use raft_stored_group::GroupSnapshot;
+use raft_stored_group::{GroupSnapshot, StoredGroup};
 use std::alloc::{AllocError, Global};
-
-// The snapshot's last membership with its log id, lent.
-pub(crate) fn membership_of(snapshot: &GroupSnapshot) -> Option<LoggedPair<'_>>
-    ensures { logged_or_none result ≡ snapshot.now.membership }
-{
-    match snapshot.membership() {
-        Some(logged) => Some((logged.log_id, &logged.membership)),
-        None => None,
-    }
-}
 
 // A copy of the membership, or the one without voter groups, nodes and log id.
 fn stored_membership(
@@ -33,8 +23,8 @@ fn stored_membership(
     }
 }
 
-// What the snapshot covers.
-pub(crate) fn meta_of(
+/// What the snapshot covers (own). It is a copy, and fails for want of memory alone.
+pub fn meta_of(
     alloc: Global,
     snapshot: &GroupSnapshot,
 ) -> Result<SnapshotMeta<u64, BasicNode>, AllocError>
@@ -42,6 +32,20 @@ pub(crate) fn meta_of(
 {
     Ok(SnapshotMeta {
         last_log_id: Some(snapshot.last()),
-        last_membership: stored_membership(alloc, membership_of(snapshot))?,
+        last_membership: stored_membership(alloc, snapshot.logged_pair())?,
     })
+}
+
+/// What the stored snapshot covers; nothing where there is none (own). It is a copy, and fails for
+/// want of memory alone.
+pub fn stored_meta(
+    alloc: Global,
+    stored: &StoredGroup,
+) -> Result<SnapshotMeta<u64, BasicNode>, AllocError>
+    ensures { IfOk result (λ meta. meta ≡ meta_of stored.now.snapshot) }
+{
+    match stored.snapshot() {
+        Some(snapshot) => meta_of(alloc, snapshot),
+        None => Ok(SnapshotMeta::default(alloc)),
+    }
 }

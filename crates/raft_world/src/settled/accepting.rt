@@ -4,9 +4,9 @@ ghost use Rattle.std.specs.List.{list_any};
 ghost use Rattle.raft_group_step.specs.Values.{vote_eq};
 ghost use Rattle.raft_messages.specs.Messages.{body_of, message_of, outcome_of, reply_fields_of};
 ghost use Rattle.raft_laws.specs.Settled.{accepts, body_accepts, has_accepted_some, is_at_or_after, is_last, is_success};
-ghost use Rattle.raft_settled.specs.World.{has_later, is_led_with, is_reply, led_of, world_of};
+ghost use Rattle.raft_world.specs.Settled.{has_later, is_led_with, is_reply, led_of, world_of};
 
-use crate::led_note::LedNote;
+use crate::settled::led_note::LedNote;
 use raft_executor::{GroupBody, GroupMessage};
 use raft_messages::{MessageBody, ReplyFields, ReplyResult};
 use raft_state::{HasId, LeaderId, LogId, Vote};
@@ -90,13 +90,13 @@ fn has_led_with(led: &[LedNote], vote: &Vote<u64>, place: u64, node: u64) -> boo
     })
 }
 
-/// The nodes that have accepted, under the vote, an entry of its leader at or after the place.
+// The nodes that have accepted, under the vote, an entry of its leader at or after the place.
 #[derive(Drop)]
-pub(crate) struct Acceptors<'a> {
-    pub(crate) messages: &'a [GroupMessage],
-    pub(crate) led: &'a [LedNote],
-    pub(crate) vote: Vote<u64>,
-    pub(crate) place: u64,
+pub(super) struct Acceptors<'a> {
+    pub(super) messages: &'a [GroupMessage],
+    pub(super) led: &'a [LedNote],
+    pub(super) vote: Vote<u64>,
+    pub(super) place: u64,
 }
 
 impl<'a> HasId<u64> for Acceptors<'a> {

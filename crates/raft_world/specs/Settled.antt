@@ -9,7 +9,7 @@ use Rattle.raft_messages.specs.declared.message.Message.{Message as Sent}
 use Rattle.raft_messages.specs.Messages.{message_of}
 use Rattle.raft_laws.specs.GroupWorld.{GroupWorld, Led, Absent}
 use Rattle.raft_laws.specs.Settled.{body_accepts, is_at_or_after}
-use Rattle.raft_settled.specs.declared.led_note.LedNote.{LedNote}
+use Rattle.raft_world.specs.declared.settled.led_note.LedNote.{LedNote}
 
 -- what a note says
 abbrev pub led_of : LedNote → Led

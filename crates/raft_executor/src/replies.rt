@@ -7,8 +7,8 @@ ghost use Rattle.raft_messages.specs.Messages.{outcome_of, reply_fields_of, requ
 use raft_engine::{AppendEntriesResponse, Caller, RequestId as CallerId};
 use raft_messages::{ReplyFields, ReplyResult, RequestId};
 
-// Which request of the caller it is. The engine reads the number alone.
-pub(crate) fn caller_id(id: &RequestId) -> CallerId
+/// Which request of the caller it is (own). The engine reads the number alone.
+pub fn caller_id(id: &RequestId) -> CallerId
     ensures { number_of result ≡ request_id_of id.now }
 {
     match id {
@@ -28,8 +28,8 @@ fn answer(outcome: &ReplyResult) -> AppendEntriesResponse<u64>
     }
 }
 
-// What the peer's answer repeats of the request, and what came of it.
-pub(crate) fn caller_and_answer(
+/// What the peer's answer repeats of the request, and what came of it (own).
+pub fn caller_and_answer(
     peer: u64,
     reply: &ReplyFields,
 ) -> (Caller<u64>, AppendEntriesResponse<u64>)

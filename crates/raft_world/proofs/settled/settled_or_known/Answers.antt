@@ -2,9 +2,9 @@
 use Rattle.std.proofs.Common.{◌≡◌, ◌+◌, ◌-◌, ◌≤◌, length, ap, sym, ◌∙◌, arith}
 use Rattle.std.specs.Option.{option_copied}
 use Rattle.raft_laws.specs.Settled.{count_to_last, is_accepted_by_quorum}
-use Rattle.raft_settled.specs.World.{world_of}
-use Rattle.raft_settled.proofs.SettledLemmas.{IsLookedAt, found_last, known_remain, not_found}
-use Rattle.raft_settled.proofs.settled.settled_or_known.Goals as goal
+use Rattle.raft_world.specs.Settled.{world_of}
+use Rattle.raft_world.proofs.SettledLemmas.{IsLookedAt, found_last, known_remain, not_found}
+use Rattle.raft_world.proofs.settled.settled_or_known.Goals as goal
 
 pub returns-then-is_accepted_by_quorum-clause-count : goal.returns-then-is_accepted_by_quorum-clause-count
 returns-then-is_accepted_by_quorum-clause-count c =

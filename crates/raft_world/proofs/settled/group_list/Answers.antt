@@ -1,9 +1,9 @@
 -- The list is that of each world with these messages, this set-up and these leaders.
 use Rattle.std.proofs.Common.{ap, ◌∙◌, ◌++◌}
 use Rattle.std.specs.Option.{option_copied}
-use Rattle.raft_settled.specs.World.{world_of}
-use Rattle.raft_settled.proofs.SettledLemmas.{group_list-same}
-use Rattle.raft_settled.proofs.settled.group_list.Goals as goal
+use Rattle.raft_world.specs.Settled.{world_of}
+use Rattle.raft_world.proofs.SettledLemmas.{group_list-same}
+use Rattle.raft_world.proofs.settled.group_list.Goals as goal
 
 pub returns : goal.returns
 returns c = λ w sent set led.

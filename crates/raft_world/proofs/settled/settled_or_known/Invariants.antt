@@ -2,8 +2,8 @@
 use Rattle.std.proofs.Common.{◌≡◌, ◌-◌, take, length}
 use Rattle.std.specs.Option.{option_copied}
 use Rattle.raft_laws.specs.Settled.{count_to_last, is_accepted_by_quorum}
-use Rattle.raft_settled.specs.World.{world_of}
-use Rattle.raft_settled.proofs.settled.settled_or_known.Given as goal
+use Rattle.raft_world.specs.Settled.{world_of}
+use Rattle.raft_world.proofs.settled.settled_or_known.Given as goal
 
 abbrev pub invariant-loop-back : goal.invariant-loop-back
 invariant-loop-back l =
