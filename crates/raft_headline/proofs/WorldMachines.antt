@@ -20,7 +20,7 @@ use Rattle.raft_laws.specs.Settled.{group_list}
 use Rattle.raft_laws.specs.VotesRise.{stored_of}
 use Rattle.raft_laws.proofs.BallotAgreement.{same_some}
 use Rattle.raft_laws.proofs.BallotSafe.{Among}
-use Rattle.raft_laws.proofs.Counts.{among_contains, contains_at}
+use Rattle.raft_laws.proofs.Counts.{among_contains, contains_at, among_front, among_behind, contains_among}
 use Rattle.raft_laws.proofs.WorldRuns.{among_either}
 use Rattle.raft_laws.proofs.BallotSafe.{among_at}
 use Rattle.raft_node.specs.Machine.{MachineRules}
@@ -52,25 +52,14 @@ pub record Kept (rules : MachineRules) (ids : List ℕ) (rs : List Recorded) (g 
 
 -- ---- lists
 
-among_left : {A : Type 0} (x : A) (xs ys : List A) → Among x xs → Among x (xs ++ ys)
-among_left x [] ys a = absurd a
-among_left x (z ∷ zs) ys a = ⊎_elim (λ e. inl e) (λ rest. inr (among_left x zs ys rest)) a
-
-among_right : {A : Type 0} (x : A) (xs ys : List A) → Among x ys → Among x (xs ++ ys)
-among_right x [] ys a = a
-among_right x (z ∷ zs) ys a = inr (among_right x zs ys a)
-
 contains_left : {A : Type 0} (xs ys : List A) (x : A) → Contains xs x → Contains (xs ++ ys) x
 contains_left xs ys x h =
-    let at = contains_at xs x h in among_contains (xs ++ ys) x (among_left x xs ys (among_at xs at.0 x at.1))
+    let at = contains_at xs x h in among_contains (xs ++ ys) x (among_front x xs ys (among_at xs at.0 x at.1))
 
 contains_either : {A : Type 0} (xs ys : List A) (x : A) → Contains (xs ++ ys) x → Contains xs x ⊎ Contains ys x
 contains_either xs ys x h =
     let at = contains_at (xs ++ ys) x h in
     ⊎_elim (λ a. inl (among_contains xs x a)) (λ a. inr (among_contains ys x a)) (among_either x xs ys (among_at (xs ++ ys) at.0 x at.1))
-
-among_of : {A : Type 0} (xs : List A) (x : A) → Contains xs x → Among x xs
-among_of xs x h = let at = contains_at xs x h in among_at xs at.0 x at.1
 
 -- the bytes that a machine gave
 module _ (rules : MachineRules) (state : List ℕ) where
@@ -250,7 +239,7 @@ module _ (rules : MachineRules) (ids : List ℕ) (rs : List Recorded) (g : Repli
         ⊎_elim
         (λ old. k.built x bytes old)
         (λ now.
-        let b = given_for rules state xs (record { snapshot = x; bytes = bytes }) (among_of _ _ now) in
+        let b = given_for rules state xs (record { snapshot = x; bytes = bytes }) (contains_among _ _ now) in
         ap rules.restored b.bytes ∙ rightly_law rules state xs x b.snapshot rightly ∙ of x b.snapshot)
         (contains_either g.built (given_of rules state xs) _ (subst (λ l. Contains l (record { snapshot = x; bytes = bytes })) same h))
 
@@ -289,7 +278,7 @@ module _ (rules : MachineRules) (ids : List ℕ) (rs : List Recorded) (g : Repli
         absurd ((step_applies n s (applied_committed ids rs g.world k.leads n s is) (placed_log ids rs g.world k.leads n s is) AddGroup (not_open AddGroup fine)).snapshots y a)
     stored_has n s (Call call now) b fine is h y a =
         let xs = snapshots_of (group_step n s (Call call now)).commands in
-        let there : Among (gave rules (g.machines n) y) (g.built ++ given_of rules (g.machines n) xs) = among_right _ g.built _ (given_among rules (g.machines n) xs y a) in
+        let there : Among (gave rules (g.machines n) y) (g.built ++ given_of rules (g.machines n) xs) = among_behind _ g.built _ (given_among rules (g.machines n) xs y a) in
         (rules.snapshot (g.machines n), subst (λ l. Contains l (gave rules (g.machines n) y)) (sym h.given) (among_contains _ _ there))
     stored_has n s (Receive peer m now) b fine is h y a =
         still_has _ h.given y (h.brought y (among_contains _ y a))

@@ -3,6 +3,7 @@ use Rattle.std.specs.Prelude.{◌≡◌, ℕ, zero, suc, ◌+◌, ◌-◌, ◌<�
 use Rattle.std.proofs.Common.{sym, ap, ◌∙◌, arith, ⊎_elim, lt-ltb, le-ltb, length-drop, length-append, take-append-drop, take-take, length-take-le}
 use Rattle.std.proofs.lemmas.List.{drop-drop, drop-take, drop-append-le, take-append-le}
 use Rattle.std.proofs.lemmas.Bool.{cases_lt, cond-true, cond-false}
+use Rattle.std.proofs.lemmas.Option.{none-some}
 use Rattle.raft_values.specs.declared.log_id.LogId.{LogId}
 use Rattle.raft_group_step.specs.Values.{Membership}
 use Rattle.raft_group_step.specs.Values.{Entry}
@@ -15,11 +16,8 @@ slice_take (suc k) [] i l = refl
 slice_take (suc k) (x ∷ xs) zero l = refl
 slice_take (suc k) (x ∷ xs) (suc i) l = slice_take k xs i (omega arith)
 
-none_some : {A : Type 0} {P : Type 0} (x : A) → None ≡ Some x → P
-none_some x e = absurd (let f : None ≡ Some x = e in cc)
-
 pub slice_taken : {A : Type 0} (k : ℕ) (xs : List A) (i : ℕ) (x : A) → slice_get (take k xs) i ≡ Some x → slice_get xs i ≡ Some x
-slice_taken zero xs i x e = none_some x e
+slice_taken zero xs i x e = absurd (none-some e)
 slice_taken (suc k) [] i x e = e
 slice_taken (suc k) (y ∷ xs) zero x e = e
 slice_taken (suc k) (y ∷ xs) (suc i) x e = slice_taken k xs i x e
@@ -46,7 +44,7 @@ pub record Good (m : Membership) (from : ℕ) (xs : List Entry) : Type 0 where
 
 pub good_none : (m : Membership) (from : ℕ) → Good m from []
 good_none m from =
-    record { placed = λ i e h. none_some e h; bounded = λ i e h. none_some e h; voters = λ i e x h p. none_some e h }
+    record { placed = λ i e h. absurd (none-some h); bounded = λ i e h. absurd (none-some h); voters = λ i e x h p. absurd (none-some h) }
 
 pub good_take : {m : Membership} {from : ℕ} {xs : List Entry} (k : ℕ) → Good m from xs → Good m from (take k xs)
 good_take {m} {from} {xs} k g =
