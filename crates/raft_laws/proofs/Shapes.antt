@@ -9,6 +9,7 @@ use Rattle.raft_group_step.specs.Values.{Membership}
 use Rattle.raft_group_step.specs.Values.{Entry}
 use Rattle.raft_state.specs.declared.entry.EntryPayload.TheVariants.{Membership as Members}
 use Rattle.raft_group_step.specs.StoredGroup.{StoredGroup, Snapshot, PutEntries, CutFrom, RemoveUpTo, SetSnapshot, after_storing, first_place, end_place, entry_at, prefix_of, held}
+use Rattle.raft_laws.proofs.BallotAgreement.{slice_get-append}
 
 pub slice_take : {A : Type 0} (k : ℕ) (xs : List A) (i : ℕ) → i < k → slice_get (take k xs) i ≡ slice_get xs i
 slice_take zero xs i l = absurd (omega arith)
@@ -30,11 +31,6 @@ slice_drop (suc k) (x ∷ xs) i = let e : suc (k + i) ≡ suc k + i = omega arit
 pub slice_after : {A : Type 0} (xs ys : List A) (i : ℕ) → slice_get (xs ++ ys) (length xs + i) ≡ slice_get ys i
 slice_after [] ys i = let e : 0 + i ≡ i = omega arith in ap (slice_get ys) e
 slice_after (x ∷ xs) ys i = let e : length (x ∷ xs) + i ≡ suc (length xs + i) = omega arith in ap (slice_get (x ∷ (xs ++ ys))) e ∙ slice_after xs ys i
-
-pub slice_before : {A : Type 0} (xs ys : List A) (i : ℕ) → i < length xs → slice_get (xs ++ ys) i ≡ slice_get xs i
-slice_before [] ys i l = absurd (omega arith)
-slice_before (x ∷ xs) ys zero l = refl
-slice_before (x ∷ xs) ys (suc i) l = slice_before xs ys i (omega arith)
 
 -- a stretch of the group's list from a place on: each entry has its place, a leader that is a node, and keeps the voters
 pub record Good (m : Membership) (from : ℕ) (xs : List Entry) : Type 0 where
@@ -71,7 +67,7 @@ good_append {m} {from} {xs} {ys} g h =
     }
   where
     first : (i : ℕ) (e : Entry) → i < length xs → slice_get (xs ++ ys) i ≡ Some e → slice_get xs i ≡ Some e
-    first i e l k = sym (slice_before xs ys i l) ∙ k
+    first i e l k = sym (slice_get-append xs ys i l) ∙ k
 
     second : (i : ℕ) (e : Entry) → length xs ≤ i → slice_get (xs ++ ys) i ≡ Some e → slice_get ys (i - length xs) ≡ Some e
     second i e l k =

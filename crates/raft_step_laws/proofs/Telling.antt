@@ -362,7 +362,7 @@ module _ (own : ℕ) (s : GroupState) (idle : is_leader s.role ≡ false) (none 
 
 -- ---- all events
 
-seeks : (role : Role) → is_leader role ≡ true → seeks_or_leads role ≡ true
+pub seeks : (role : Role) → is_leader role ≡ true → seeks_or_leads role ≡ true
 seeks Follower t = absurd (let f : false ≡ true = t in cc)
 seeks (Candidate granters) t = absurd (let f : false ≡ true = t in cc)
 seeks (Leader lead) t = refl
