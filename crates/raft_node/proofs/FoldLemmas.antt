@@ -1,5 +1,5 @@
 -- The fold over a list that got one entry more.
-use Rattle.std.proofs.Common.{◌≡◌, ℕ, ◌+◌, List, [], ◌∷◌, ◌++◌, length, refl, ap, ◌∙◌, arith}
+use Rattle.std.proofs.Common.{◌≡◌, ℕ, ◌+◌, List, [], ◌∷◌, ◌++◌, length, ap, ◌∙◌, arith}
 use Rattle.raft_node.specs.Machine.{MachineRules}
 use Rattle.raft_group_step.specs.Values.{Entry}
 use Rattle.raft_node.specs.Fold.{after_payload, state_from, fold_of}
