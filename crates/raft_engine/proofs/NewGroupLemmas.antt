@@ -24,7 +24,7 @@ ready own =
     record {
       places = let l : 0 ≤ 2 ^ 62 = omega arith in l;
       members = let l : 0 ≤ 2 ^ 62 = omega arith in l;
-      wish = λ place e. absurd (none-some e);
+      wish = λ place e. absurd (none-some _ e);
       purges = λ place l. absurd (let k : place < 0 = l in omega arith);
     }
 

@@ -18,7 +18,7 @@ slice_take (suc k) (x ∷ xs) zero l = refl
 slice_take (suc k) (x ∷ xs) (suc i) l = slice_take k xs i (omega arith)
 
 pub slice_taken : {A : Type 0} (k : ℕ) (xs : List A) (i : ℕ) (x : A) → slice_get (take k xs) i ≡ Some x → slice_get xs i ≡ Some x
-slice_taken zero xs i x e = absurd (none-some e)
+slice_taken zero xs i x e = absurd (none-some _ e)
 slice_taken (suc k) [] i x e = e
 slice_taken (suc k) (y ∷ xs) zero x e = e
 slice_taken (suc k) (y ∷ xs) (suc i) x e = slice_taken k xs i x e
@@ -40,7 +40,7 @@ pub record Good (m : Membership) (from : ℕ) (xs : List Entry) : Type 0 where
 
 pub good_none : (m : Membership) (from : ℕ) → Good m from []
 good_none m from =
-    record { placed = λ i e h. absurd (none-some h); bounded = λ i e h. absurd (none-some h); voters = λ i e x h p. absurd (none-some h) }
+    record { placed = λ i e h. absurd (none-some _ h); bounded = λ i e h. absurd (none-some _ h); voters = λ i e x h p. absurd (none-some _ h) }
 
 pub good_take : {m : Membership} {from : ℕ} {xs : List Entry} (k : ℕ) → Good m from xs → Good m from (take k xs)
 good_take {m} {from} {xs} k g =

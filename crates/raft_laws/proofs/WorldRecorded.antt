@@ -20,7 +20,7 @@ recorded event outcome = record { event = event; outcome = outcome }
 
 -- the history has each event with what became of it
 history_at : (es : Events) (w : GroupWorld) (number : ℕ) (event : WorldEvent) (stop : Option ℕ) → slice_get es number ≡ Some (event, stop) → slice_get (history_of es w) number ≡ Some (recorded event (outcome_of (world_before es number w) event (is_some stop)))
-history_at [] w number event stop e = absurd (none-some e)
+history_at [] w number event stop e = absurd (none-some _ e)
 history_at (x ∷ es) w zero event stop e =
     ap (λ (y : WorldEvent × Option ℕ). Some (recorded y.0 (outcome_of w y.0 (is_some y.1)))) (same_some e)
 history_at (x ∷ es) w (suc number) event stop e = history_at es (ran w x.0 x.1) number event stop e
