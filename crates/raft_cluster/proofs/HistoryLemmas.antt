@@ -2,7 +2,7 @@
 use Rattle.std.proofs.Common.{◌≡◌, ℕ, List, [], ◌∷◌, ◌++◌, append_assoc, append-nil, ◌+◌, ◌<◌, length, get_or, take, Option, None, refl, ap, ◌∙◌, sym, subst}
 use Rattle.std.proofs.lemmas.List.{take_more}
 use Rattle.raft_node.specs.Machine.{MachineRules}
-use Rattle.raft_node.specs.Fold.{GroupEntry}
+use Rattle.raft_group_step.specs.Values.{Entry}
 use Rattle.raft_cluster.specs.declared.event.ClusterEvent.{ClusterEvent}
 use Rattle.raft_cluster.specs.declared.event.Recorded.{Recorded}
 use Rattle.raft_cluster.specs.Event.{group_of}
@@ -15,7 +15,7 @@ pub events_of-append : (history : List Recorded) (r : Recorded) → events_of (h
 events_of-append [] r = refl
 events_of-append (q ∷ qs) r = ap (λ es. q.event ∷ es) (events_of-append qs r)
 
-pub list_from-append : (own group : ℕ) (list : Option (List GroupEntry)) (events : List ClusterEvent) (e : ClusterEvent)
+pub list_from-append : (own group : ℕ) (list : Option (List Entry)) (events : List ClusterEvent) (e : ClusterEvent)
     → list_from own group list (events ++ e ∷ []) ≡ list_after own group (list_from own group list events) e
 list_from-append own group list [] e = refl
 list_from-append own group list (x ∷ xs) e = list_from-append own group (list_after own group list x) xs e

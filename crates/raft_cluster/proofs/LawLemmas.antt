@@ -4,7 +4,8 @@ use Rattle.std.proofs.lemmas.Bool.{eqb-true, eqb-false, eq-eqb}
 use Rattle.raft_membership.specs.declared.membership.Membership.{Membership as RaftMembership}
 use Rattle.raft_state.specs.declared.entry.EntryPayload.TheVariants.{Blank, Normal, Membership}
 use Rattle.raft_node.specs.Machine.{MachineRules}
-use Rattle.raft_node.specs.Fold.{GroupEntry, GroupPayload, fold_of, answer_in}
+use Rattle.raft_group_step.specs.Values.{Entry, EntryPayload}
+use Rattle.raft_node.specs.Fold.{fold_of, answer_in}
 use Rattle.raft_cluster.specs.declared.event.ClusterEvent.{ClusterEvent}
 use Rattle.raft_cluster.specs.declared.event.ClusterEvent.TheVariants.{AddGroup, Initialize, Propose}
 use Rattle.raft_cluster.specs.declared.event.EventOutcome.{EventOutcome}
@@ -20,38 +21,38 @@ use Rattle.raft_cluster.proofs.HistoryLemmas.{list_from-append}
 use Rattle.raft_cluster.proofs.StepLemmas.{refusal_is, done_is_taken, refusal_has_reason, after_either, added_new, set_up_empty, command_taken}
 
 -- what a group's list has of its own: each entry at its place, and no set-up half done
-pub record IsShaped (entries : List GroupEntry) : Type 0 where
+pub record IsShaped (entries : List Entry) : Type 0 where
   pub places : PlacesRise entries
   pub whole : (length entries ≡ 0) ⊎ (1 < length entries)
 
 shaped_nothing : IsShaped []
 shaped_nothing = record { places = λ place entry e. absurd (nothing entry e); whole = inl refl }
   where
-    nothing : (entry : GroupEntry) → None ≡ Some entry → ⊥
+    nothing : (entry : Entry) → None ≡ Some entry → ⊥
     nothing entry e = cc
 
 shaped_set_up : (own : ℕ) (m : RaftMembership ℕ (List ℕ)) → IsShaped (set_up_list own m)
 shaped_set_up own m = record { places = at; whole = inr (omega arith) }
   where
-    at : (place : ℕ) (entry : GroupEntry) → slice_get (set_up_list own m) place ≡ Some entry → (entry.log_id.index ≡ place) × IsPayloadAt place entry.payload
+    at : (place : ℕ) (entry : Entry) → slice_get (set_up_list own m) place ≡ Some entry → (entry.log_id.index ≡ place) × IsPayloadAt place entry.payload
     at zero entry e =
         let same : entry_at 0 0 0 (Membership m) ≡ entry = cc in
-        subst (λ (x : GroupEntry). (x.log_id.index ≡ 0) × IsPayloadAt 0 x.payload) same (refl, refl)
+        subst (λ (x : Entry). (x.log_id.index ≡ 0) × IsPayloadAt 0 x.payload) same (refl, refl)
     at (suc zero) entry e =
         let same : entry_at 1 own 1 Blank ≡ entry = cc in
-        subst (λ (x : GroupEntry). (x.log_id.index ≡ 1) × IsPayloadAt 1 x.payload) same (refl, refl)
+        subst (λ (x : Entry). (x.log_id.index ≡ 1) × IsPayloadAt 1 x.payload) same (refl, refl)
     at (suc (suc place)) entry e = let none : None ≡ Some entry = e in absurd (nothing entry none)
       where
-        nothing : (x : GroupEntry) → None ≡ Some x → ⊥
+        nothing : (x : Entry) → None ≡ Some x → ⊥
         nothing x h = cc
 
 -- an entry of a list with one more is one of the list, or the one more
-at_end : (xs : List GroupEntry) (x entry : GroupEntry) (place : ℕ) → slice_get (xs ++ x ∷ []) place ≡ Some entry
+at_end : (xs : List Entry) (x entry : Entry) (place : ℕ) → slice_get (xs ++ x ∷ []) place ≡ Some entry
     → (slice_get xs place ≡ Some entry) ⊎ ((place ≡ length xs) × (x ≡ entry))
 at_end [] x entry zero e = inr (refl, let same : x ≡ entry = cc in same)
 at_end [] x entry (suc place) e = absurd (nothing entry e)
   where
-    nothing : (y : GroupEntry) → None ≡ Some y → ⊥
+    nothing : (y : Entry) → None ≡ Some y → ⊥
     nothing y h = cc
 at_end (z ∷ zs) x entry zero e = inl e
 at_end (z ∷ zs) x entry (suc place) e = at (at_end zs x entry place e)
@@ -61,29 +62,29 @@ at_end (z ∷ zs) x entry (suc place) e = at (at_end zs x entry place e)
     at (inl h) = inl h
     at (inr h) = inr (omega (arith, h.0), h.1)
 
-shaped_command : (own : ℕ) (entries : List GroupEntry) (command : List ℕ) → IsShaped entries → 1 < length entries → IsShaped (with_command own entries command)
+shaped_command : (own : ℕ) (entries : List Entry) (command : List ℕ) → IsShaped entries → 1 < length entries → IsShaped (with_command own entries command)
 shaped_command own entries command shaped long =
     record {
       places = λ place entry e. at place entry (at_end entries (entry_at 1 own (length entries) (Normal command)) entry place e);
       whole = inr (omega (arith, length-append entries (entry_at 1 own (length entries) (Normal command) ∷ [])));
     }
   where
-    at : (place : ℕ) (entry : GroupEntry)
+    at : (place : ℕ) (entry : Entry)
         → (slice_get entries place ≡ Some entry) ⊎ ((place ≡ length entries) × (entry_at 1 own (length entries) (Normal command) ≡ entry))
         → (entry.log_id.index ≡ place) × IsPayloadAt place entry.payload
     at place entry (inl old) = shaped.places place entry old
     at place entry (inr new) =
-        subst (λ (x : GroupEntry). (x.log_id.index ≡ place) × IsPayloadAt place x.payload) new.1
+        subst (λ (x : Entry). (x.log_id.index ≡ place) × IsPayloadAt place x.payload) new.1
         (sym new.0, omega (arith, new.0, long))
 
-long_if : (entries : List GroupEntry) → IsShaped entries → (length entries == 0) ≡ false → 1 < length entries
+long_if : (entries : List Entry) → IsShaped entries → (length entries == 0) ≡ false → 1 < length entries
 long_if entries shaped some = at shaped.whole
   where
     at : (length entries ≡ 0) ⊎ (1 < length entries) → 1 < length entries
     at (inl none) = absurd (eqb-false (length entries) 0 some none)
     at (inr long) = long
 
-shaped_taken : (own : ℕ) (list : Option (List GroupEntry)) (event : ClusterEvent) → IsShaped (entries_of list)
+shaped_taken : (own : ℕ) (list : Option (List Entry)) (event : ClusterEvent) → IsShaped (entries_of list)
     → refusal_of own list event ≡ None → IsShaped (entries_of (list_taken own list event))
 shaped_taken own list (AddGroup node group) shaped taken = shaped_nothing
 shaped_taken own list (Initialize node group m now) shaped taken = shaped_set_up own m
@@ -93,11 +94,11 @@ shaped_taken own list (Propose node group command token now) shaped taken =
     subst (λ l. IsShaped (with_command own (entries_of l) command)) (sym was.1)
     (shaped_command own was.0 command whole (long_if was.0 whole was.2))
 
-shaped_after : (own group : ℕ) (list : Option (List GroupEntry)) (event : ClusterEvent) → IsShaped (entries_of list) → IsShaped (entries_of (list_after own group list event))
+shaped_after : (own group : ℕ) (list : Option (List Entry)) (event : ClusterEvent) → IsShaped (entries_of list) → IsShaped (entries_of (list_after own group list event))
 shaped_after own group list event shaped =
     after_either (λ l. IsShaped (entries_of l)) own group list event shaped (λ same taken. shaped_taken own list event shaped taken)
 
-shaped_from : (own group : ℕ) (list : Option (List GroupEntry)) (events : List ClusterEvent) → IsShaped (entries_of list) → IsShaped (entries_of (list_from own group list events))
+shaped_from : (own group : ℕ) (list : Option (List Entry)) (events : List ClusterEvent) → IsShaped (entries_of list) → IsShaped (entries_of (list_from own group list events))
 shaped_from own group list [] shaped = shaped
 shaped_from own group list (e ∷ es) shaped = shaped_from own group (list_after own group list e) es (shaped_after own group list e shaped)
 
@@ -106,14 +107,14 @@ pub places_rise : (own group : ℕ) (history : List Recorded) → PlacesRise (gr
 places_rise own group history = (shaped_from own group None (events_of history) shaped_nothing).places
 
 -- a list only grows
-pub record GrowsTo (old new : List GroupEntry) : Type 0 where
-  pub more : List GroupEntry
+pub record GrowsTo (old new : List Entry) : Type 0 where
+  pub more : List Entry
   pub is : new ≡ old ++ more
 
-grows_not : (entries : List GroupEntry) → GrowsTo entries entries
+grows_not : (entries : List Entry) → GrowsTo entries entries
 grows_not entries = record { more = []; is = sym (append-nil entries) }
 
-grows_taken : (own : ℕ) (list : Option (List GroupEntry)) (event : ClusterEvent)
+grows_taken : (own : ℕ) (list : Option (List Entry)) (event : ClusterEvent)
     → refusal_of own list event ≡ None → GrowsTo (entries_of list) (entries_of (list_taken own list event))
 grows_taken own list (AddGroup node group) taken =
     subst (λ l. GrowsTo (entries_of l) []) (sym (added_new own node group list taken)) (grows_not [])
@@ -123,15 +124,15 @@ grows_taken own list (Initialize node group m now) taken =
 grows_taken own list (Propose node group command token now) taken =
     record { more = entry_at 1 own (length (entries_of list)) (Normal command) ∷ []; is = refl }
 
-grows_after : (own group : ℕ) (list : Option (List GroupEntry)) (event : ClusterEvent) → GrowsTo (entries_of list) (entries_of (list_after own group list event))
+grows_after : (own group : ℕ) (list : Option (List Entry)) (event : ClusterEvent) → GrowsTo (entries_of list) (entries_of (list_after own group list event))
 grows_after own group list event =
     after_either (λ l. GrowsTo (entries_of list) (entries_of l)) own group list event (grows_not (entries_of list)) (λ same taken. grows_taken own list event taken)
 
-grows_on : (a b c : List GroupEntry) → GrowsTo a b → GrowsTo b c → GrowsTo a c
+grows_on : (a b c : List Entry) → GrowsTo a b → GrowsTo b c → GrowsTo a c
 grows_on a b c first second =
-    record { more = first.more ++ second.more; is = second.is ∙ ap (λ (x : List GroupEntry). x ++ second.more) first.is ∙ append_assoc a first.more second.more }
+    record { more = first.more ++ second.more; is = second.is ∙ ap (λ (x : List Entry). x ++ second.more) first.is ∙ append_assoc a first.more second.more }
 
-pub grows_from : (own group : ℕ) (list : Option (List GroupEntry)) (events : List ClusterEvent) → GrowsTo (entries_of list) (entries_of (list_from own group list events))
+pub grows_from : (own group : ℕ) (list : Option (List Entry)) (events : List ClusterEvent) → GrowsTo (entries_of list) (entries_of (list_from own group list events))
 grows_from own group list [] = grows_not (entries_of list)
 grows_from own group list (e ∷ es) =
     grows_on (entries_of list) (entries_of (list_after own group list e)) (entries_of (list_from own group (list_after own group list e) es))
@@ -172,7 +173,7 @@ replayed_at rules own start (q ∷ qs) after r replayed =
     replayed_at rules own (start ++ q.event ∷ []) qs after r replayed.1
     ∙ ap (λ (es : List ClusterEvent). outcome_after rules own es r.event) (append_assoc start (q.event ∷ []) (events_of qs))
 
-list_from-split : (own group : ℕ) (list : Option (List GroupEntry)) (before after : List Recorded) (r : Recorded)
+list_from-split : (own group : ℕ) (list : Option (List Entry)) (before after : List Recorded) (r : Recorded)
     → list_from own group list (events_of (before ++ r ∷ after))
     ≡ list_from own group (list_after own group (list_from own group list (events_of before)) r.event) (events_of after)
 list_from-split own group list [] after r = refl
@@ -185,7 +186,7 @@ refused_change_nothing rules own history replayed number r here refused group =
     let answered : r.outcome ≡ outcome_after rules own (events_of split.before) r.event =
     replayed_at rules own [] split.before split.after r (subst (λ (h : List Recorded). Replays rules own h) split.whole replayed) in
     let reason = refusal_has_reason rules own (list_of own (group_of r.event) (events_of split.before)) r.event (subst IsRefusal answered refused) in
-    let list : Option (List GroupEntry) = list_of own group (events_of split.before) in
+    let list : Option (List Entry) = list_of own group (events_of split.before) in
     let kept : list_after own group list r.event ≡ list =
     after_either (λ l. l ≡ list) own group list r.event refl
     (λ same taken. absurd (both group (eqb-true (group_of r.event) group same) taken reason.0 reason.1)) in
@@ -201,12 +202,12 @@ refused_change_nothing rules own history replayed number r here refused group =
         let one : None ≡ Some why = sym taken ∙ at_g in cc
 
 -- the commands of two lists, one behind the other
-commands_with-append : (p : GroupPayload) (xs ys : List (List ℕ)) → commands_with p (xs ++ ys) ≡ commands_with p xs ++ ys
+commands_with-append : (p : EntryPayload) (xs ys : List (List ℕ)) → commands_with p (xs ++ ys) ≡ commands_with p xs ++ ys
 commands_with-append Blank xs ys = refl
 commands_with-append (Membership m) xs ys = refl
 commands_with-append (Normal command) xs ys = refl
 
-commands_in-append : (xs ys : List GroupEntry) → commands_in (xs ++ ys) ≡ commands_in xs ++ commands_in ys
+commands_in-append : (xs ys : List Entry) → commands_in (xs ++ ys) ≡ commands_in xs ++ commands_in ys
 commands_in-append [] ys = refl
 commands_in-append (x ∷ xs) ys =
     ap (λ (cs : List (List ℕ)). commands_with x.payload cs) (commands_in-append xs ys) ∙ commands_with-append x.payload (commands_in xs) (commands_in ys)
@@ -243,7 +244,7 @@ taken_with-other group (Propose node h command token now) (Refused why) other = 
 taken_with-other group (Propose node h command token now) (Done told) other = ap (λ b. command_if b command []) other
 
 -- an event that is taken adds just the command that it has
-commands_taken : (own group : ℕ) (list : Option (List GroupEntry)) (event : ClusterEvent) (told : List Told)
+commands_taken : (own group : ℕ) (list : Option (List Entry)) (event : ClusterEvent) (told : List Told)
     → (group_of event == group) ≡ true → refusal_of own list event ≡ None
     → commands_in (entries_of (list_taken own list event)) ≡ commands_in (entries_of list) ++ taken_with group event (Done told) []
 commands_taken own group list (AddGroup node h) told same taken =
@@ -260,7 +261,7 @@ commands_after : (rules : MachineRules) (own group : ℕ) (before : List Cluster
     ≡ commands_in (entries_of (list_of own group before)) ++ taken_with group event outcome []
 commands_after rules own group before event outcome answered = at (group_of event == group) refl
   where
-    list : Option (List GroupEntry)
+    list : Option (List Entry)
     list = list_of own group before
 
     unless : (o : Option EventOutcome) → refusal_of own list event ≡ o → (group_of event == group) ≡ true
@@ -303,33 +304,33 @@ pub commands_are_taken : (rules : MachineRules) (own group : ℕ) (history : Lis
 commands_are_taken rules own group history replayed = commands_from rules own group [] history replayed
 
 -- what stands at the end of a list stands there in each list that it grows to
-get_grown : (xs more : List GroupEntry) (x : GroupEntry) → slice_get (xs ++ x ∷ more) (length xs) ≡ Some x
+get_grown : (xs more : List Entry) (x : Entry) → slice_get (xs ++ x ∷ more) (length xs) ≡ Some x
 get_grown [] more x = refl
 get_grown (y ∷ ys) more x = get_grown ys more x
 
-take_grown : (xs more : List GroupEntry) → take (length xs) (xs ++ more) ≡ xs
+take_grown : (xs more : List Entry) → take (length xs) (xs ++ more) ≡ xs
 take_grown [] more = refl
-take_grown (y ∷ ys) more = ap (λ (zs : List GroupEntry). y ∷ zs) (take_grown ys more)
+take_grown (y ∷ ys) more = ap (λ (zs : List Entry). y ∷ zs) (take_grown ys more)
 
 -- a command that was told at the end of a list is told of each list that it grows to
-told_stands : (rules : MachineRules) (own : ℕ) (entries final : List GroupEntry) (command : List ℕ) (token : ℕ)
+told_stands : (rules : MachineRules) (own : ℕ) (entries final : List Entry) (command : List ℕ) (token : ℕ)
     → GrowsTo (with_command own entries command) final → IsTold rules final command token (told_for rules entries command token)
 told_stands rules own entries final command token grows =
-    let entry : GroupEntry = entry_at 1 own (length entries) (Normal command) in
+    let entry : Entry = entry_at 1 own (length entries) (Normal command) in
     let whole : final ≡ entries ++ entry ∷ grows.more = grows.is ∙ append_assoc entries (entry ∷ []) grows.more in
     let here : slice_get final (length entries) ≡ Some entry =
-    ap (λ (xs : List GroupEntry). slice_get xs (length entries)) whole ∙ get_grown entries grows.more entry in
+    ap (λ (xs : List Entry). slice_get xs (length entries)) whole ∙ get_grown entries grows.more entry in
     let front : take (length entries) final ≡ entries =
-    ap (λ (xs : List GroupEntry). take (length entries) xs) whole ∙ take_grown entries (entry ∷ grows.more) in
+    ap (λ (xs : List Entry). take (length entries) xs) whole ∙ take_grown entries (entry ∷ grows.more) in
     record {
       same_token = refl;
       stands = (entry, here, refl);
       answered =
-          sym (ap (λ (xs : List GroupEntry). answer_in rules (fold_of rules xs) (length entries) (slice_get final (length entries))) front
-          ∙ ap (λ (o : Option GroupEntry). answer_in rules (fold_of rules entries) (length entries) o) here);
+          sym (ap (λ (xs : List Entry). answer_in rules (fold_of rules xs) (length entries) (slice_get final (length entries))) front
+          ∙ ap (λ (o : Option Entry). answer_in rules (fold_of rules entries) (length entries) o) here);
     }
 
-told_there : (rules : MachineRules) (own node group : ℕ) (command : List ℕ) (token now : ℕ) (told : List Told) (list : Option (List GroupEntry)) (after : List ClusterEvent)
+told_there : (rules : MachineRules) (own node group : ℕ) (command : List ℕ) (token now : ℕ) (told : List Told) (list : Option (List Entry)) (after : List ClusterEvent)
     → Done told ≡ outcome_of rules own list (Propose node group command token now)
     → (length told ≡ 1) × AreTold rules (entries_of (list_from own group (list_after own group list (Propose node group command token now)) after)) command token told
 told_there rules own node group command token now told list after done =
@@ -353,5 +354,5 @@ told_stand rules own history replayed number node group command token now told h
     let list : entries_of (list_from own group (list_after own group (list_of own group (events_of split.before)) (Propose node group command token now)) (events_of split.after))
     ≡ group_list own group history =
     sym (ap (λ (h : List Recorded). group_list own group h) split.whole ∙ ap entries_of (list_from-split own group None split.before split.after r)) in
-    subst (λ (es : List GroupEntry). (length told ≡ 1) × AreTold rules es command token told) list
+    subst (λ (es : List Entry). (length told ≡ 1) × AreTold rules es command token told) list
     (told_there rules own node group command token now told (list_of own group (events_of split.before)) (events_of split.after) answered)

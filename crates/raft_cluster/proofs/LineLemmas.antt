@@ -4,16 +4,13 @@ use Rattle.std.specs.Str.{IsUtf8, is_utf8}
 use Rattle.std.proofs.lemmas.Str.{IsUtf8-from_is_utf8, is_utf8-from_IsUtf8}
 use Rattle.std.proofs.lemmas.Bool.Decides.{Decides-ltb}
 use Rattle.std.proofs.lemmas.Grind.{common_steps}
+use Rattle.std.proofs.lemmas.Bool.{false_from_ne_true}
 use Rattle.raft_cluster.specs.Script.Line.{line_of, said_by}
 use Rattle.raft_cluster.specs.declared.script.line.Line.{Line}
 
 pub line_too_long : (line : List ℕ) → 65536 < length line → line_of line ≡ None
 unfolding line_of
 line_too_long line h = grind (arith, common_steps)
-
-is_false : (b : Bool) → (b ≡ true → ⊥) → b ≡ false
-is_false true h = absurd (h refl)
-is_false false h = refl
 
 refused : (long text : Bool) (said : Option Line) → text ≡ false → cond (long || not text) None said ≡ None
 refused true text said e = refl
@@ -29,11 +26,11 @@ pub line_no_text : (line : List ℕ) → (IsUtf8 line → ⊥) → line_of line 
 unfolding line_of
 line_no_text line h =
     refused (ltb 65536 (length line)) (is_utf8 line) (said_by line)
-    (is_false (is_utf8 line) (λ e. h (IsUtf8-from_is_utf8 line e)))
+    (false_from_ne_true (is_utf8 line) (λ e. h (IsUtf8-from_is_utf8 line e)))
 
 pub line_text : (line : List ℕ) → length line ≤ 65536 → IsUtf8 line → line_of line ≡ said_by line
 unfolding line_of
 line_text line h text =
     taken (ltb 65536 (length line)) (is_utf8 line) (said_by line)
-    (is_false (ltb 65536 (length line)) (λ e. let long : 65536 < length line = (Decides-ltb 65536 (length line)).0 e in absurd (omega arith)))
+    (false_from_ne_true (ltb 65536 (length line)) (λ e. let long : 65536 < length line = (Decides-ltb 65536 (length line)).0 e in absurd (omega arith)))
     (is_utf8-from_IsUtf8 line text)

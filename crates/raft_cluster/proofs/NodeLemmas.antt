@@ -8,7 +8,8 @@ use Rattle.std.proofs.lemmas.Option.{slice_get_past, slice_get_read, get_or_from
 use Rattle.std.proofs.lemmas.List.Folds.{find-append, find_at, find-set, find_past}
 use Rattle.std.proofs.lemmas.List.Quantifiers.{position-Some}
 use Rattle.raft_node.specs.Machine.{MachineRules}
-use Rattle.raft_node.specs.Fold.{GroupEntry, fold_of}
+use Rattle.raft_group_step.specs.Values.{Entry}
+use Rattle.raft_node.specs.Fold.{fold_of}
 use Rattle.raft_cluster.specs.declared.event.ClusterEvent.{ClusterEvent}
 use Rattle.raft_cluster.specs.declared.event.ClusterEvent.TheVariants.{AddGroup, Initialize, Propose}
 use Rattle.raft_cluster.specs.declared.event.Told.{Told}
@@ -63,7 +64,7 @@ taken_step rules e v groups taken here others =
         rw own (here_k ∙ sym (ap (λ o. unless_refused o (list_in v.groups k) (list_taken v.id (list_in v.groups k) e)) for_k))
     at k false other = rw other (others k other)
 
-abbrev pub entries_in : Option GroupValue → Option (List GroupEntry)
+abbrev pub entries_in : Option GroupValue → Option (List Entry)
 entries_in found = option_map (λ (g : GroupValue). g.entries) found
 
 -- a group at the end is found, if none before it has its id
@@ -201,17 +202,17 @@ taken_at rules e v own gs i g h new told is found here here_too same taken list 
     (set_step rules e v i h new (slice_set v.groups i new) told (sym found) at_h own_group taken_h list refl told_is)
 
 -- a set-up is refused, or taken, as the group's entries say
-pub set_up_refused : (own other group now : ℕ) (m : Membership ℕ (List ℕ)) (entries lent : List GroupEntry) (r why : Option EventOutcome)
+pub set_up_refused : (own other group now : ℕ) (m : Membership ℕ (List ℕ)) (entries lent : List Entry) (r why : Option EventOutcome)
     → own ≡ other → lent ≡ entries → r ≡ set_up_refusal own m (Some lent) → r ≡ why → refusal_of other (Some entries) (Initialize other group m now) ≡ why
 set_up_refused own other group now m entries lent r why same_id same by is =
     rw (eq-eqb other other refl)
-    (ap (λ n. set_up_refusal n m (Some entries)) (sym same_id) ∙ ap (λ (es : List GroupEntry). set_up_refusal own m (Some es)) (sym same) ∙ sym by ∙ is)
+    (ap (λ n. set_up_refusal n m (Some entries)) (sym same_id) ∙ ap (λ (es : List Entry). set_up_refusal own m (Some es)) (sym same) ∙ sym by ∙ is)
 
 -- a command is refused, or taken, as the group's entries say
-pub command_refused : (other group token now : ℕ) (command : List ℕ) (entries lent : List GroupEntry) (r why : Option EventOutcome)
+pub command_refused : (other group token now : ℕ) (command : List ℕ) (entries lent : List Entry) (r why : Option EventOutcome)
     → lent ≡ entries → r ≡ command_refusal command (Some lent) → r ≡ why → refusal_of other (Some entries) (Propose other group command token now) ≡ why
 command_refused other group token now command entries lent r why same by is =
-    rw (eq-eqb other other refl) (ap (λ (es : List GroupEntry). command_refusal command (Some es)) (sym same) ∙ sym by ∙ is)
+    rw (eq-eqb other other refl) (ap (λ (es : List Entry). command_refusal command (Some es)) (sym same) ∙ sym by ∙ is)
 
 -- there is no group to set up, or to take a command
 pub set_up_unknown : (own group now : ℕ) (m : Membership ℕ (List ℕ)) → refusal_of own None (Initialize own group m now) ≡ Some (Fault UnknownGroup)
@@ -228,7 +229,7 @@ same_group v own gs group i g h is found here here_too =
     cc
 
 -- what is told is the machine's answer at the list's end
-pub told_at_end : (rules : MachineRules) (g h : GroupValue) (lent : List GroupEntry) (command : List ℕ) (token : ℕ) (answer : List ℕ) (told : List Told)
+pub told_at_end : (rules : MachineRules) (g h : GroupValue) (lent : List Entry) (command : List ℕ) (token : ℕ) (answer : List ℕ) (told : List Told)
     → g ≡ h → lent ≡ g.entries → answer ≡ rules.answer (fold_of rules h.entries) (length h.entries) command
     → told ≡ record { token = token; place = length lent; answer = answer } ∷ [] → told ≡ told_for rules h.entries command token ∷ []
 told_at_end rules g h lent command token answer told same lent_is answer_is told_is =

@@ -5,7 +5,7 @@ use Rattle.raft_membership.specs.declared.membership.Membership.{Membership}
 use Rattle.raft_node.specs.declared.fault.MembershipFault.{MembershipFault}
 use Rattle.raft_node.specs.Machine.{MachineRules}
 use Rattle.raft_node.specs.MembershipFault.{membership_fault_of}
-use Rattle.raft_node.specs.Fold.{GroupEntry}
+use Rattle.raft_group_step.specs.Values.{Entry}
 use Rattle.raft_cluster.specs.declared.event.ClusterEvent.{ClusterEvent}
 use Rattle.raft_cluster.specs.declared.event.ClusterEvent.TheVariants.{AddGroup, Initialize, Propose}
 use Rattle.raft_cluster.specs.declared.event.EventOutcome.{EventOutcome}
@@ -25,7 +25,7 @@ AreRefusals : Option EventOutcome → Type 0
 AreRefusals None = Unit {0}
 AreRefusals (Some why) = IsRefusal why
 
-add_reasons : (list : Option (List GroupEntry)) → AreRefusals (add_refusal list)
+add_reasons : (list : Option (List Entry)) → AreRefusals (add_refusal list)
 unfolding AreRefusals
 add_reasons (Some entries) = tt
 add_reasons None = tt
@@ -44,7 +44,7 @@ command_reasons_of true b = tt
 command_reasons_of false true = tt
 command_reasons_of false false = tt
 
-call_reasons : (own : ℕ) (list : Option (List GroupEntry)) (event : ClusterEvent) → AreRefusals (call_refusal own list event)
+call_reasons : (own : ℕ) (list : Option (List Entry)) (event : ClusterEvent) → AreRefusals (call_refusal own list event)
 unfolding AreRefusals
 call_reasons own list (AddGroup node group) = add_reasons list
 call_reasons own None (Initialize node group m now) = tt
@@ -52,18 +52,18 @@ call_reasons own (Some entries) (Initialize node group m now) = set_up_reasons_o
 call_reasons own None (Propose node group command token now) = tt
 call_reasons own (Some entries) (Propose node group command token now) = command_reasons_of _ _
 
-event_reasons : (own : ℕ) (list : Option (List GroupEntry)) (event : ClusterEvent) (b : Bool) → AreRefusals (refused_if b (Refused NoNode) (call_refusal own list event))
+event_reasons : (own : ℕ) (list : Option (List Entry)) (event : ClusterEvent) (b : Bool) → AreRefusals (refused_if b (Refused NoNode) (call_refusal own list event))
 unfolding AreRefusals
 event_reasons own list event true = tt
 event_reasons own list event false = call_reasons own list event
 
 -- a reason to refuse an event is a refusal
-pub refusal_is : (own : ℕ) (list : Option (List GroupEntry)) (event : ClusterEvent) (v : EventOutcome) → refusal_of own list event ≡ Some v → IsRefusal v
+pub refusal_is : (own : ℕ) (list : Option (List Entry)) (event : ClusterEvent) (v : EventOutcome) → refusal_of own list event ≡ Some v → IsRefusal v
 unfolding AreRefusals
 refusal_is own list event v e = subst AreRefusals e (event_reasons own list event (not (node_of event == own)))
 
 -- an outcome that tells is one of an event that isn't refused, and tells what its event tells
-pub done_is_taken : (rules : MachineRules) (own : ℕ) (list : Option (List GroupEntry)) (event : ClusterEvent) (told : List Told)
+pub done_is_taken : (rules : MachineRules) (own : ℕ) (list : Option (List Entry)) (event : ClusterEvent) (told : List Told)
     → Done told ≡ outcome_of rules own list event → (refusal_of own list event ≡ None) × (told ≡ told_by rules list event)
 done_is_taken rules own list event told e = at (refusal_of own list event) refl e
   where
@@ -73,7 +73,7 @@ done_is_taken rules own list event told e = at (refusal_of own list event) refl 
     at (Some why) is same = absurd (subst IsRefusal (sym same) (refusal_is own list event why is))
 
 -- an outcome that refuses has a reason
-pub refusal_has_reason : (rules : MachineRules) (own : ℕ) (list : Option (List GroupEntry)) (event : ClusterEvent)
+pub refusal_has_reason : (rules : MachineRules) (own : ℕ) (list : Option (List Entry)) (event : ClusterEvent)
     → IsRefusal (outcome_of rules own list event) → (why : EventOutcome) × (refusal_of own list event ≡ Some why)
 refusal_has_reason rules own list event is = at (refusal_of own list event) refl is
   where
@@ -83,7 +83,7 @@ refusal_has_reason rules own list event is = at (refusal_of own list event) refl
     at (Some why) same it = (why, same)
 
 -- a list after an event has what the list before has, if it is kept, and if the event is taken
-pub after_either : (P : Option (List GroupEntry) → Type 0) (own group : ℕ) (list : Option (List GroupEntry)) (event : ClusterEvent)
+pub after_either : (P : Option (List Entry) → Type 0) (own group : ℕ) (list : Option (List Entry)) (event : ClusterEvent)
     → P list → ((group_of event == group) ≡ true → refusal_of own list event ≡ None → P (list_taken own list event)) → P (list_after own group list event)
 after_either P own group list event kept taken = at (group_of event == group) refl
   where
@@ -101,7 +101,7 @@ no_reason true others e = absurd (some_is_none _ e)
 no_reason false others e = e
 
 -- a group that is added wasn't there
-pub added_new : (own node group : ℕ) (list : Option (List GroupEntry)) → refusal_of own list (AddGroup node group) ≡ None → list ≡ None
+pub added_new : (own node group : ℕ) (list : Option (List Entry)) → refusal_of own list (AddGroup node group) ≡ None → list ≡ None
 added_new own node group None taken = refl
 added_new own node group (Some entries) taken = absurd (some_is_none _ (no_reason (not (node == own)) (add_refusal (Some entries)) taken))
 
@@ -112,7 +112,7 @@ set_up_empty_of None false true c e = absurd (some_is_none _ e)
 set_up_empty_of None false false c e = refl
 
 -- a group that is set up was there, and had no entry
-pub set_up_empty : (own node group now : ℕ) (m : Membership ℕ (List ℕ)) (list : Option (List GroupEntry))
+pub set_up_empty : (own node group now : ℕ) (m : Membership ℕ (List ℕ)) (list : Option (List Entry))
     → refusal_of own list (Initialize node group m now) ≡ None → list ≡ Some []
 set_up_empty own node group now m None taken =
     absurd (some_is_none _ (no_reason (not (node == own)) (set_up_refusal own m None) taken))
@@ -123,7 +123,7 @@ set_up_empty own node group now m (Some (x ∷ xs)) taken =
     set_up_empty_of (membership_fault_of m) (not (is_voter nat_eq m.configs own)) (not (length (x ∷ xs) == 0)) (names_other own m) open_call in
     absurd (true≢false (sym (not_empty x xs) ∙ none))
   where
-    not_empty : (y : GroupEntry) (ys : List GroupEntry) → not (length (y ∷ ys) == 0) ≡ true
+    not_empty : (y : Entry) (ys : List Entry) → not (length (y ∷ ys) == 0) ≡ true
     not_empty y ys = let differs : (length (y ∷ ys) == 0) ≡ false = ne_eqb (length (y ∷ ys)) 0 (λ e. omega arith) in rw differs refl
 
 command_taken_of : (a b : Bool) → command_reasons a b ≡ None → b ≡ false
@@ -132,9 +132,9 @@ command_taken_of false true e = absurd (some_is_none _ e)
 command_taken_of false false e = refl
 
 -- a command is taken by a group that was set up
-pub command_taken : (own node group token now : ℕ) (command : List ℕ) (list : Option (List GroupEntry))
+pub command_taken : (own node group token now : ℕ) (command : List ℕ) (list : Option (List Entry))
     → refusal_of own list (Propose node group command token now) ≡ None
-    → (entries : List GroupEntry) × (list ≡ Some entries) × ((length entries == 0) ≡ false)
+    → (entries : List Entry) × (list ≡ Some entries) × ((length entries == 0) ≡ false)
 command_taken own node group token now command None taken =
     absurd (some_is_none _ (no_reason (not (node == own)) (command_refusal command None) taken))
 command_taken own node group token now command (Some entries) taken = (

@@ -1,7 +1,7 @@
 -- A cluster of one node, as contracts see it, and what its type keeps.
 use Rattle.std.specs.Prelude.{◌≡◌, ℕ, List, [], ◌∷◌, ◌++◌, Option, Some, None, slice_get}
 use Rattle.raft_node.specs.Machine.{MachineRules}
-use Rattle.raft_node.specs.Fold.{GroupEntry}
+use Rattle.raft_group_step.specs.Values.{Entry}
 use Rattle.raft_cluster.specs.declared.event.ClusterEvent.{ClusterEvent}
 use Rattle.raft_cluster.specs.declared.event.EventOutcome.{EventOutcome}
 use Rattle.raft_cluster.specs.declared.event.EventOutcome.TheVariants.{Done, Fault, Refused}
@@ -34,7 +34,7 @@ history_after rules own history (event ∷ events) =
     history_after rules own (history ++ recorded_after rules own history event ∷ []) events
 
 -- a group's list of entries, by place: the one list, all of which the node has applied
-abbrev pub group_list : ℕ → ℕ → List Recorded → List GroupEntry
+abbrev pub group_list : ℕ → ℕ → List Recorded → List Entry
 group_list own group history = entries_of (list_of own group (events_of history))
 
 -- what an outcome tells

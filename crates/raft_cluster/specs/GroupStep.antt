@@ -9,7 +9,8 @@ use Rattle.raft_membership.specs.Membership.{is_voter}
 use Rattle.raft_node.specs.declared.fault.Fault.TheVariants.{NotLeader, UnknownGroup, GroupExists, NotAllowed, NotVoter, Membership as BadMembership, CommandTooLong}
 use Rattle.raft_node.specs.declared.fault.MembershipFault.{MembershipFault}
 use Rattle.raft_node.specs.Machine.{MachineRules}
-use Rattle.raft_node.specs.Fold.{GroupEntry, GroupPayload, fold_of}
+use Rattle.raft_group_step.specs.Values.{Entry, EntryPayload}
+use Rattle.raft_node.specs.Fold.{fold_of}
 use Rattle.raft_node.specs.MembershipFault.{membership_fault_of}
 use Rattle.raft_cluster.specs.declared.event.ClusterEvent.{ClusterEvent}
 use Rattle.raft_cluster.specs.declared.event.ClusterEvent.TheVariants.{AddGroup, Initialize, Propose}
@@ -20,16 +21,16 @@ use Rattle.raft_cluster.specs.declared.event.Told.{Told}
 use Rattle.raft_cluster.specs.Event.{node_of, group_of}
 
 -- an entry of this leader at this place
-abbrev pub entry_at : ℕ → ℕ → ℕ → GroupPayload → GroupEntry
+abbrev pub entry_at : ℕ → ℕ → ℕ → EntryPayload → Entry
 entry_at term node index payload =
     record { log_id = log_id_of term node index; payload = payload }
 
 -- a group's first entries: its membership, then the blank of the node, which leads in term 1
-abbrev pub set_up_list : ℕ → RaftMembership ℕ (List ℕ) → List GroupEntry
+abbrev pub set_up_list : ℕ → RaftMembership ℕ (List ℕ) → List Entry
 set_up_list own membership = entry_at 0 0 0 (Membership membership) ∷ entry_at 1 own 1 Blank ∷ []
 
 -- a command goes to the end
-abbrev pub with_command : ℕ → List GroupEntry → List ℕ → List GroupEntry
+abbrev pub with_command : ℕ → List Entry → List ℕ → List Entry
 with_command own entries command =
     entries ++ entry_at 1 own (length entries) (Normal command) ∷ []
 
@@ -47,7 +48,7 @@ refused_for (Some why) others = Some (Refused_by_node (BadMembership why))
 refused_for None others = others
 
 -- why a group isn't added
-abbrev pub add_refusal : Option (List GroupEntry) → Option EventOutcome
+abbrev pub add_refusal : Option (List Entry) → Option EventOutcome
 add_refusal (Some entries) = Some (Refused_by_node GroupExists)
 add_refusal None = None
 
@@ -65,53 +66,53 @@ command_reasons is_too_long is_not_set_up =
     (refused_if is_not_set_up (Refused_by_node (NotLeader None)) None)
 
 -- why a group isn't set up: first the argument, then this node's part, then the group's state
-abbrev pub set_up_refusal : ℕ → RaftMembership ℕ (List ℕ) → Option (List GroupEntry) → Option EventOutcome
+abbrev pub set_up_refusal : ℕ → RaftMembership ℕ (List ℕ) → Option (List Entry) → Option EventOutcome
 set_up_refusal own membership None = Some (Refused_by_node UnknownGroup)
 set_up_refusal own membership (Some entries) =
     set_up_reasons (membership_fault_of membership) (not (is_voter nat_eq membership.configs own))
     (not (length entries == 0)) (names_other own membership)
 
 -- why a command isn't taken: it is too long, or the group was not set up, so nobody leads it
-abbrev pub command_refusal : List ℕ → Option (List GroupEntry) → Option EventOutcome
+abbrev pub command_refusal : List ℕ → Option (List Entry) → Option EventOutcome
 command_refusal command None = Some (Refused_by_node UnknownGroup)
 command_refusal command (Some entries) =
     command_reasons (nat_lt 65536 (length command)) (length entries == 0)
 
-abbrev pub call_refusal : ℕ → Option (List GroupEntry) → ClusterEvent → Option EventOutcome
+abbrev pub call_refusal : ℕ → Option (List Entry) → ClusterEvent → Option EventOutcome
 call_refusal own list (AddGroup node group) = add_refusal list
 call_refusal own list (Initialize node group membership now) = set_up_refusal own membership list
 call_refusal own list (Propose node group command token now) = command_refusal command list
 
 -- why an event is refused, where its group has this list
-abbrev pub refusal_of : ℕ → Option (List GroupEntry) → ClusterEvent → Option EventOutcome
+abbrev pub refusal_of : ℕ → Option (List Entry) → ClusterEvent → Option EventOutcome
 refusal_of own list event =
     refused_if (not (node_of event == own)) (Refused NoNode) (call_refusal own list event)
 
 -- the list, and none where there is none
-abbrev pub entries_of : Option (List GroupEntry) → List GroupEntry
+abbrev pub entries_of : Option (List Entry) → List Entry
 entries_of None = []
 entries_of (Some entries) = entries
 
 -- the list after an event that isn't refused
-abbrev pub list_taken : ℕ → Option (List GroupEntry) → ClusterEvent → Option (List GroupEntry)
+abbrev pub list_taken : ℕ → Option (List Entry) → ClusterEvent → Option (List Entry)
 list_taken own list (AddGroup node group) = Some []
 list_taken own list (Initialize node group membership now) = Some (set_up_list own membership)
 list_taken own list (Propose node group command token now) = Some (with_command own (entries_of list) command)
 
-abbrev pub unless_refused : Option EventOutcome → Option (List GroupEntry) → Option (List GroupEntry) → Option (List GroupEntry)
+abbrev pub unless_refused : Option EventOutcome → Option (List Entry) → Option (List Entry) → Option (List Entry)
 unless_refused (Some why) old new = old
 unless_refused None old new = new
 
-abbrev pub list_where : Bool → ℕ → Option (List GroupEntry) → ClusterEvent → Option (List GroupEntry)
+abbrev pub list_where : Bool → ℕ → Option (List Entry) → ClusterEvent → Option (List Entry)
 list_where true own list event = unless_refused (refusal_of own list event) list (list_taken own list event)
 list_where false own list event = list
 
 -- a group's list after an event; one for another group leaves it
-abbrev pub list_after : ℕ → ℕ → Option (List GroupEntry) → ClusterEvent → Option (List GroupEntry)
+abbrev pub list_after : ℕ → ℕ → Option (List Entry) → ClusterEvent → Option (List Entry)
 list_after own group list event = list_where (group_of event == group) own list event
 
 -- a command is told at the list's end, with the machine's answer there
-abbrev pub told_for : MachineRules → List GroupEntry → List ℕ → ℕ → Told
+abbrev pub told_for : MachineRules → List Entry → List ℕ → ℕ → Told
 told_for rules entries command token =
     record {
       token = token;
@@ -119,7 +120,7 @@ told_for rules entries command token =
       answer = rules.answer (fold_of rules entries) (length entries) command;
     }
 
-abbrev pub told_by : MachineRules → Option (List GroupEntry) → ClusterEvent → List Told
+abbrev pub told_by : MachineRules → Option (List Entry) → ClusterEvent → List Told
 told_by rules list (AddGroup node group) = []
 told_by rules list (Initialize node group membership now) = []
 told_by rules list (Propose node group command token now) = told_for rules (entries_of list) command token ∷ []
@@ -129,5 +130,5 @@ outcome_unless (Some why) told = why
 outcome_unless None told = Done told
 
 -- what an event is answered, where its group has this list
-abbrev pub outcome_of : MachineRules → ℕ → Option (List GroupEntry) → ClusterEvent → EventOutcome
+abbrev pub outcome_of : MachineRules → ℕ → Option (List Entry) → ClusterEvent → EventOutcome
 outcome_of rules own list event = outcome_unless (refusal_of own list event) (told_by rules list event)

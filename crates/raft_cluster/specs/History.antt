@@ -1,7 +1,7 @@
 -- Histories: events with their outcomes, and what they make of each group.
 use Rattle.std.specs.Prelude.{◌≡◌, ℕ, List, [], ◌∷◌, ◌++◌, Option, None}
 use Rattle.raft_node.specs.Machine.{MachineRules}
-use Rattle.raft_node.specs.Fold.{GroupEntry}
+use Rattle.raft_group_step.specs.Values.{Entry}
 use Rattle.raft_cluster.specs.declared.event.ClusterEvent.{ClusterEvent}
 use Rattle.raft_cluster.specs.declared.event.EventOutcome.{EventOutcome}
 use Rattle.raft_cluster.specs.declared.event.Recorded.{Recorded}
@@ -13,12 +13,12 @@ events_of [] = []
 events_of (r ∷ rs) = r.event ∷ events_of rs
 
 -- a group's list after these events
-abbrev pub list_from : ℕ → ℕ → Option (List GroupEntry) → List ClusterEvent → Option (List GroupEntry)
+abbrev pub list_from : ℕ → ℕ → Option (List Entry) → List ClusterEvent → Option (List Entry)
 list_from own group list [] = list
 list_from own group list (event ∷ events) = list_from own group (list_after own group list event) events
 
 -- a group's list after these events, from the beginning
-abbrev pub list_of : ℕ → ℕ → List ClusterEvent → Option (List GroupEntry)
+abbrev pub list_of : ℕ → ℕ → List ClusterEvent → Option (List Entry)
 list_of own group events = list_from own group None events
 
 -- what an event is answered after these events

@@ -2,7 +2,8 @@
 use Rattle.std.specs.Prelude.{◌≡◌, ℕ, suc, ◌<◌, ◌==◌, Bool, true, false, List, [], ◌∷◌, length, slice_get, take, Some}
 use Rattle.raft_state.specs.declared.entry.EntryPayload.TheVariants.{Blank, Normal, Membership}
 use Rattle.raft_node.specs.Machine.{MachineRules}
-use Rattle.raft_node.specs.Fold.{GroupEntry, GroupPayload, answer_at}
+use Rattle.raft_group_step.specs.Values.{Entry, EntryPayload}
+use Rattle.raft_node.specs.Fold.{answer_at}
 use Rattle.raft_cluster.specs.declared.event.ClusterEvent.{ClusterEvent}
 use Rattle.raft_cluster.specs.declared.event.ClusterEvent.TheVariants.{AddGroup, Initialize, Propose}
 use Rattle.raft_cluster.specs.declared.event.EventOutcome.{EventOutcome}
@@ -12,17 +13,17 @@ use Rattle.raft_cluster.specs.declared.event.Told.{Told}
 use Rattle.raft_cluster.specs.Cluster.{group_list}
 
 -- the entry at this place, if there is one, has this payload
-abbrev pub HasPayload : List GroupEntry → ℕ → GroupPayload → Type 0
+abbrev pub HasPayload : List Entry → ℕ → EntryPayload → Type 0
 HasPayload entries place payload =
-    (entry : GroupEntry) × (slice_get entries place ≡ Some entry) × (entry.payload ≡ payload)
+    (entry : Entry) × (slice_get entries place ≡ Some entry) × (entry.payload ≡ payload)
 
 -- a told command stands at its place, and the told bytes are the fold's answer there
-pub record IsTold (rules : MachineRules) (entries : List GroupEntry) (command : List ℕ) (token : ℕ) (told : Told) : Type 0 where
+pub record IsTold (rules : MachineRules) (entries : List Entry) (command : List ℕ) (token : ℕ) (told : Told) : Type 0 where
   pub same_token : told.token ≡ token
   pub stands : HasPayload entries told.place (Normal command)
   pub answered : told.answer ≡ answer_at rules entries told.place
 
-abbrev pub AreTold : MachineRules → List GroupEntry → List ℕ → ℕ → List Told → Type 0
+abbrev pub AreTold : MachineRules → List Entry → List ℕ → ℕ → List Told → Type 0
 AreTold rules entries command token [] = Unit {0}
 AreTold rules entries command token (told ∷ others) = IsTold rules entries command token told × AreTold rules entries command token others
 
@@ -34,24 +35,24 @@ ToldStand rules own history =
     → (length told ≡ 1) × AreTold rules (group_list own group history) command token told
 
 -- the membership at place 0, the blank at place 1, and commands from place 2 on
-abbrev pub IsPayloadAt : ℕ → GroupPayload → Type 0
+abbrev pub IsPayloadAt : ℕ → EntryPayload → Type 0
 IsPayloadAt place (Membership membership) = place ≡ 0
 IsPayloadAt place Blank = place ≡ 1
 IsPayloadAt place (Normal command) = 1 < place
 
 -- each entry's index is its place: there is one entry a place, from 0 on
-abbrev pub PlacesRise : List GroupEntry → Type 0
+abbrev pub PlacesRise : List Entry → Type 0
 PlacesRise entries =
-    (place : ℕ) (entry : GroupEntry) → slice_get entries place ≡ Some entry
+    (place : ℕ) (entry : Entry) → slice_get entries place ≡ Some entry
     → (entry.log_id.index ≡ place) × IsPayloadAt place entry.payload
 
 -- the commands of these entries, in order
-abbrev pub commands_with : GroupPayload → List (List ℕ) → List (List ℕ)
+abbrev pub commands_with : EntryPayload → List (List ℕ) → List (List ℕ)
 commands_with Blank others = others
 commands_with (Membership membership) others = others
 commands_with (Normal command) others = command ∷ others
 
-abbrev pub commands_in : List GroupEntry → List (List ℕ)
+abbrev pub commands_in : List Entry → List (List ℕ)
 commands_in [] = []
 commands_in (entry ∷ entries) = commands_with entry.payload (commands_in entries)
 

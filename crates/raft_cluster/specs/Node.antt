@@ -1,7 +1,7 @@
 -- The node, as contracts see it, and what an event does to it.
 use Rattle.std.specs.Prelude.{◌≡◌, ℕ, ◌<◌, List, [], ◌∷◌, length, take, slice_get, Option, Some, None}
 use Rattle.raft_node.specs.Machine.{MachineRules}
-use Rattle.raft_node.specs.Fold.{GroupEntry}
+use Rattle.raft_group_step.specs.Values.{Entry}
 use Rattle.raft_cluster.specs.declared.event.ClusterEvent.{ClusterEvent}
 use Rattle.raft_cluster.specs.declared.event.EventOutcome.{EventOutcome}
 use Rattle.raft_cluster.specs.Event.{group_of}
@@ -25,7 +25,7 @@ pub record IsNodeStep (rules : MachineRules) (event : ClusterEvent) (old : NodeV
   pub same_id : new.id ≡ old.id
 
 -- the last place of a list, if it has one
-abbrev pub last_place : Option (List GroupEntry) → Option ℕ
+abbrev pub last_place : Option (List Entry) → Option ℕ
 last_place None = None
 last_place (Some []) = None
 last_place (Some (entry ∷ entries)) = Some (length entries)

@@ -6,8 +6,8 @@ ghost use Rattle.raft_cluster.specs.Laws.{ToldStand, PlacesRise, commands_in, ta
 ghost use Rattle.raft_cluster.specs.Cluster.{recorded_after, history_after, group_list, told_at};
 
 use crate::event::{ClusterEvent, Recorded, SentFrame, Told};
-use crate::group::GroupEntry;
 use crate::node::Node;
+use raft_messages::GroupEntry;
 use raft_node::StateMachine;
 use std::alloc::{AllocError, Global};
 use std::marker::Model;

@@ -3,13 +3,11 @@ ghost use Rattle.std.specs.Prelude.{◌≡◌, ◌∷◌, ◌++◌, [], length, 
 ghost use Rattle.raft_node.specs.Fold.{fold_of};
 ghost use Rattle.raft_cluster.specs.GroupStep.{set_up_list, with_command};
 
+use raft_messages::GroupEntry;
 use raft_node::StateMachine;
-use raft_state::{BasicNode, Bytes, Entry, EntryPayload, LeaderId, LogId, Membership};
+use raft_state::{BasicNode, Bytes, EntryPayload, LeaderId, LogId, Membership};
 use std::alloc::{AllocError, Global};
 use std::marker::Model;
-
-/// An entry of a group: node ids are numbers, nodes have addresses, data is a command's bytes (own).
-pub type GroupEntry = Entry<u64, BasicNode, Bytes>;
 
 /// The term of a group's one leader, as long as its node alone votes.
 const FIRST_TERM: u64 = 1;
@@ -80,11 +78,11 @@ impl<M: StateMachine> Group<M> {
     {
         self.entries.reserve(2)?;
         let membership = membership.clone()?;
-        let first = Entry {
+        let first = GroupEntry {
             log_id: LogId::new(LeaderId::new(0, 0), 0),
             payload: EntryPayload::Membership(membership),
         };
-        let blank = Entry {
+        let blank = GroupEntry {
             log_id: LogId::new(LeaderId::new(FIRST_TERM, own), 1),
             payload: EntryPayload::Blank,
         };
@@ -103,7 +101,7 @@ impl<M: StateMachine> Group<M> {
         let place = self.entries.len() as u64;
         let data = command.clone()?;
         let answer = self.machine.apply(place, command)?;
-        let entry = Entry {
+        let entry = GroupEntry {
             log_id: LogId::new(LeaderId::new(FIRST_TERM, own), place),
             payload: EntryPayload::Normal(data),
         };

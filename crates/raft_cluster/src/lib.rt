@@ -12,6 +12,6 @@ pub use cluster::Cluster;
 pub use event::{
     ClusterEvent, EventOutcome, Recorded, Refusal, SentFrame, Told, ToldList, ToldRoom,
 };
-pub use group::{Group, GroupEntry};
+pub use group::Group;
 pub use node::Node;
 pub use script::{ScriptEnd, run_script};

@@ -8,8 +8,9 @@ ghost use Rattle.raft_cluster.specs.Node.{IsNodeStep, last_place};
 ghost use Rattle.raft_cluster.specs.declared.event.ClusterEvent.TheVariants.{AddGroup, Initialize, Propose};
 
 use crate::event::{ClusterEvent, EventOutcome, Refusal, Told, ToldList, ToldRoom};
-use crate::group::{Group, GroupEntry};
+use crate::group::Group;
 use crate::refusal::{command_refusal, set_up_refusal};
+use raft_messages::GroupEntry;
 use raft_node::{Fault, StateMachine};
 use raft_state::{BasicNode, Bytes, Membership};
 use std::alloc::{AllocError, Global};

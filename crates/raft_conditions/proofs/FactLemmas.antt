@@ -1,12 +1,13 @@
 -- What the facts of a group say of it.
 use Rattle.std.proofs.Common.{◌≡◌, ℕ, ◌+◌, ◌&&◌, ◌||◌, not, Bool, true, List, [], ◌∷◌, Option, Some, None, option_map, refl, ap, sym, ◌∙◌, IfNone, IfOk, Result, Ok, Err}
+use Rattle.raft_quorums.specs.QuorumLaws.{and_left, and_right}
 use Rattle.raft_conditions.specs.declared.facts.GroupFacts.{GroupFacts}
 use Rattle.raft_conditions.specs.declared.refusal.Refusal.{Refusal}
 use Rattle.raft_conditions.specs.Facts.{IsFactsOf, IsRefusalOf}
 use Rattle.raft_messages.specs.Memberships.{logged_or_none}
 use Rattle.raft_conditions.specs.Reason.{reason_of}
 use Rattle.raft_conditions.specs.ByFacts.{AreLow, HasRoom, call_reason_by, call_reasons_by, has_room, is_low, is_settled_by, next_term_by, lead_reason_by, range_reason_by}
-use Rattle.raft_conditions.proofs.RangeLemmas.{in_range-append, and_left, and_right, low_number, low_numbers}
+use Rattle.raft_conditions.proofs.RangeLemmas.{in_range-append, low_number, low_numbers}
 use Rattle.raft_group_step.specs.Values.{ChangeMembers, is_voter, LoggedMembership}
 use Rattle.raft_group_step.specs.GroupEvent.{GroupCall, Call}
 use Rattle.raft_group_step.specs.GroupState.{GroupState, is_leader}

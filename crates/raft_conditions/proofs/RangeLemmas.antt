@@ -1,21 +1,14 @@
 -- Numbers in range: of a list's parts, of entries, and what it says of each.
-use Rattle.std.proofs.Common.{◌≡◌, ℕ, ◌<◌, ◌^◌, ◌&&◌, Bool, true, false, List, [], ◌∷◌, ◌++◌, refl}
+use Rattle.std.proofs.Common.{◌≡◌, ℕ, ◌<◌, ◌^◌, ◌&&◌, true, List, [], ◌∷◌, ◌++◌}
 use Rattle.std.proofs.lemmas.Bool.{ltb-true}
 use Rattle.std.proofs.lemmas.List.Folds.{list_all-append}
 use Rattle.raft_group_step.specs.Refusal.{are_in_range, number_limit}
+use Rattle.raft_quorums.specs.QuorumLaws.{and_left, and_right}
 use Rattle.raft_conditions.specs.ByFacts.{AreLow, is_low}
 
 -- the parts of a list are in range
 pub in_range-append : (ms ns : List ℕ) → are_in_range (ms ++ ns) ≡ (are_in_range ms && are_in_range ns)
 in_range-append ms ns = list_all-append is_low ms ns
-
-pub and_left : (a b : Bool) → (a && b) ≡ true → a ≡ true
-and_left true b h = refl
-and_left false b h = h
-
-pub and_right : (a b : Bool) → (a && b) ≡ true → b ≡ true
-and_right true b h = h
-and_right false b h = cc
 
 -- a number in range is below 2 ^ 62
 pub low_number : (n : ℕ) → is_low n ≡ true → n < 2 ^ 62

@@ -1,6 +1,6 @@
 -- What a leader appends, and what it leaves in order.
-use Rattle.std.specs.Prelude.{◌≡◌, ℕ, zero, suc, ◌+◌, ◌-◌, ◌<◌, ◌≤◌, ◌==◌, nat_lt, nat_eq, true, false, if◌then◌else◌, List, [], ◌∷◌, ◌++◌, length, Option, Some, None, option_and_then, refl}
-use Rattle.std.specs.List.{slice_get, flat_map}
+use Rattle.std.specs.Prelude.{◌≡◌, ℕ, ◌+◌, ◌-◌, ◌<◌, ◌≤◌, ◌==◌, nat_lt, nat_eq, true, false, if◌then◌else◌, List, [], ◌∷◌, ◌++◌, length, Option, Some, None, option_and_then, refl}
+use Rattle.std.specs.List.{flat_map}
 use Rattle.std.proofs.Common.{sym, ap, ◌∙◌, subst, arith, append_assoc, add_assoc, length-append}
 use Rattle.std.proofs.lemmas.List.{map-append}
 use Rattle.std.proofs.lemmas.Bool.Decides.{nat_tests}
@@ -12,7 +12,7 @@ use Rattle.raft_state.specs.LogIdList.{last_id}
 use Rattle.raft_state.specs.declared.entry.EntryPayload.TheVariants.{Blank, Normal, Membership as Members}
 use Rattle.raft_state.specs.Payload.{membership_of}
 use Rattle.raft_progress.specs.Parts.{has_value}
-use Rattle.raft_group_step.specs.Values.{ChangeMembers, Entry, EntryPayload, Membership, LoggedMembership, after_change, entry_of, has_id, last_membership, membership_after}
+use Rattle.raft_group_step.specs.Values.{ChangeMembers, Entry, EntryPayload, Membership, LoggedMembership, after_change, entry_of, has_id, membership_after}
 use Rattle.raft_group_step.specs.StoredGroup.{StoredGroup, Snapshot, PutEntries, after_storing, end_place, first_place, id_at, id_of, log_below, membership_in_force, snapshot_last}
 use Rattle.raft_group_step.specs.StoredGroup.{last_id as last_stored_id}
 use Rattle.raft_group_step.specs.GroupState.{GroupState, Lead, Leader, Untold}
@@ -32,6 +32,8 @@ use Rattle.raft_engine.specs.Standing.{EffectiveMembership, Engine, Given, IsInO
 use Rattle.raft_engine.specs.Leading.{KnowsMembers}
 use Rattle.raft_engine.proofs.CommandLemmas.{numbers_kept, sends_same, stores_more}
 use Rattle.raft_engine.proofs.StandingLemmas.{order_kept}
+use Rattle.raft_engine.proofs.PlacedEntries.{behind, get_of_joined}
+use Rattle.raft_engine.proofs.LastMembership.{last_membership-append}
 
 -- a leader knows the members of an entry that has a membership
 pub knows_new : (l : LeaderValue ℕ EffectiveMembership) (before : Option LoggedMembership) (id : LogId ℕ) (payload : EntryPayload) (m : Membership) → Some m ≡ membership_of payload
@@ -43,21 +45,6 @@ knows_new l before id (Members other) m e knows =
 
 -- ---- the log with entries behind it
 
-placed_more : (es more : List Entry) (place : ℕ) → ArePlaced place es → ArePlaced (place + length es) more → ArePlaced place (es ++ more)
-placed_more [] more place h k = let at : place + 0 ≡ place = omega arith in subst (λ n. ArePlaced n more) at k
-placed_more (e ∷ es) more place h k =
-    let at : place + suc (length es) ≡ suc place + length es = omega arith in
-    (h.0, placed_more es more (suc place) h.1 (subst (λ n. ArePlaced n more) at k))
-
-got_in_front : (xs ys : List Entry) (k : ℕ) → k < length xs → slice_get (xs ++ ys) k ≡ slice_get xs k
-got_in_front [] ys k l = absurd (omega arith)
-got_in_front (x ∷ xs) ys zero l = refl
-got_in_front (x ∷ xs) ys (suc k) l = got_in_front xs ys k (omega arith)
-
-pub last_membership-append : (before : Option LoggedMembership) (xs ys : List Entry) → last_membership before (xs ++ ys) ≡ last_membership (last_membership before xs) ys
-last_membership-append before [] ys = refl
-last_membership-append before (x ∷ xs) ys = last_membership-append (membership_after before x.log_id x.payload) xs ys
-
 module _ (s : StoredGroup) (es : List Entry) where
   abbrev pub with_more : StoredGroup
   with_more = record s { log = s.log ++ es }
@@ -68,7 +55,7 @@ module _ (s : StoredGroup) (es : List Entry) where
       by_order i (first_place s)
       (λ m. let below : nat_lt i (first_place s) ≡ true = grind (arith, nat_tests, m) in rw below refl)
       (λ m. let above : nat_lt i (first_place s) ≡ false = grind (arith, nat_tests, m) in
-      rw above (ap (λ found. if i + 1 == first_place s then s.purged else id_of found) (got_in_front s.log es (i - first_place s) (omega arith))))
+      rw above (ap (λ found. if i + 1 == first_place s then s.purged else id_of found) (get_of_joined s.log es (i - first_place s) (omega arith))))
 
 -- the log grown by an entry at the next place
 abbrev pub grown_by : StoredGroup → List Entry → StoredGroup
@@ -108,7 +95,7 @@ order_more s es p o =
     let longer : end_place (grown_by s.stored es) ≡ end_place s.stored + length es =
     ap (λ (y : StoredGroup). end_place y) (grown_is s.stored es) ∙ ap (λ n. first_place s.stored + n) (length-append s.stored.log es) ∙ sym (add_assoc (first_place s.stored) (length s.stored.log) (length es)) in
     record {
-      placed = subst IsPlaced (sym (grown_is s.stored es)) (placed_more s.stored.log es (first_place s.stored) o.placed p);
+      placed = subst IsPlaced (sym (grown_is s.stored es)) (behind s.stored.log es (first_place s.stored) o.placed p);
       purged = o.purged;
       snapshot = subst (λ found. next_place (snapshot_last s.stored) ≤ next_place found) (sym kept) o.snapshot;
       committed = ap place_of kept ∙ o.committed;
@@ -162,7 +149,7 @@ module _ {C R : Type 0} (x : Given) (own : ℕ) (e : Engine C R) (r : StepResult
         → ((before : Option LoggedMembership) → KnowsMembers l before → KnowsMembers l' (membership_after before id payload)) → Leads own l' (with_more r.state.stored (put payload)) lead
     leads_more voted last began peers members =
         let s = r.state.stored in
-        let placed : IsPlaced (with_more s (put payload)) = placed_more s.log (put payload) (first_place s) step.state.order.placed (placed_put payload) in
+        let placed : IsPlaced (with_more s (put payload)) = behind s.log (put payload) (first_place s) step.state.order.placed (placed_put payload) in
         record {
           vote = voted ∙ leads_now.vote;
           is_own = leads_now.is_own;

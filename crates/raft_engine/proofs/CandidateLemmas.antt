@@ -175,7 +175,7 @@ granted_as granters n id =
 
 -- ---- a candidate and its group
 
-configs_are : (m : Option LoggedMembership) → (effective_of m).membership.configs ≡ configs_of m
+pub configs_are : (m : Option LoggedMembership) → (effective_of m).membership.configs ≡ configs_of m
 configs_are None = refl
 configs_are (Some m) = refl
 

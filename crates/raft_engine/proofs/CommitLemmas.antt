@@ -6,12 +6,12 @@ use Rattle.raft_values.specs.declared.vote.Vote.{Vote}
 use Rattle.raft_values.specs.declared.log_id.LogId.{LogId}
 use Rattle.raft_values.specs.LogId.{next_place, place_of, reaches}
 use Rattle.raft_quorums.specs.Quorum.{is_majority, is_quorum}
-use Rattle.raft_group_step.specs.Values.{Entry, LoggedMembership, leader_eq}
+use Rattle.raft_group_step.specs.Values.{Entry, leader_eq}
 use Rattle.raft_group_step.specs.StoredGroup.{StoredGroup, end_place, membership_in_force}
 use Rattle.raft_group_step.specs.Peer.{PeerState}
 use Rattle.raft_group_step.specs.GroupState.{GroupState, Role, Follower, Candidate, Leader, Lead, Untold}
 use Rattle.raft_group_step.specs.StepResult.{StepResult, apply_up_to, is_within, later_place}
-use Rattle.raft_group_step.specs.Lead.{commit_as_leader, configs_in_force, configs_of, has_accepted, last_place, may_be_committed}
+use Rattle.raft_group_step.specs.Lead.{commit_as_leader, configs_in_force, has_accepted, last_place, may_be_committed}
 use Rattle.raft_group_step.specs.Frames.{committed_id}
 use Rattle.raft_known_state.specs.KnownState.{IsPlaced, effective_of, entry_ids, purged_ids, stored_ids}
 use Rattle.raft_known_state.proofs.PlacedIds.{Placed}
@@ -22,6 +22,7 @@ use Rattle.raft_leaders.specs.Leader.{LeaderValue, end_of, peer_at}
 use Rattle.raft_engine.specs.Following.{EndsWithin}
 use Rattle.raft_engine.specs.Standing.{EffectiveMembership, Engine, Given, IsInOrder, IsStepOf, Leads, PlaysRole}
 use Rattle.raft_engine.proofs.FollowingLemmas.{later_same, past_committed}
+use Rattle.raft_engine.proofs.CandidateLemmas.{configs_are}
 
 -- ---- the same quorums
 
@@ -46,10 +47,6 @@ filter_same p q same (x ∷ xs) = ap (λ b. cond b (x ∷ filter p xs) (filter p
 reaches_within : (found : Option (LogId ℕ)) (place : ℕ) → reaches found place ≡ is_within place (place_of found)
 reaches_within None place = refl
 reaches_within (Some id) place = refl
-
-configs_known : (m : Option LoggedMembership) → (effective_of m).membership.configs ≡ configs_of m
-configs_known None = refl
-configs_known (Some m) = refl
 
 -- ---- the last log id that may be committed
 
@@ -161,7 +158,7 @@ module _ {C R : Type 0} (x : Given) (own : ℕ) (e : Engine C R) (r : StepResult
         ap (λ (v : Vote ℕ). leader_eq id.leader_id v.leader_id && is_quorum voters.membership.configs (has_accepted_by own l (end_of (stored_ids r.state.stored)) id.index)) leads.2.vote
         ∙ ap (λ b. leader_eq id.leader_id r.state.stored.vote.leader_id && b)
         (ap (λ configs. is_quorum configs (has_accepted_by own l (end_of (stored_ids r.state.stored)) id.index))
-        (ap (λ (m : EffectiveMembership). m.membership.configs) in_force ∙ configs_known (membership_in_force r.state.stored))
+        (ap (λ (m : EffectiveMembership). m.membership.configs) in_force ∙ configs_are (membership_in_force r.state.stored))
         ∙ quorum_same (has_accepted_by own l (end_of (stored_ids r.state.stored)) id.index) (has_accepted own r.state.stored leads.0 id.index) (accepted_same id.index) (configs_in_force r.state.stored))
 
     found_is : found ≡ last_or None (filter may_commit (stored_ids r.state.stored))

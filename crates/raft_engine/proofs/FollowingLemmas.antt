@@ -12,14 +12,14 @@ use Rattle.raft_group_step.specs.GroupState.{GroupState, Follower}
 use Rattle.raft_group_step.specs.StepResult.{StepResult, store, with_stored, later_place, is_within, apply_up_to}
 use Rattle.raft_group_step.specs.AppendRequest.{cut_from, put_entries}
 use Rattle.raft_group_step.specs.Frames.{committed_id}
-use Rattle.raft_known_state.specs.KnownState.{KnownState, Knows, KeepsRest, ArePlaced, IsPlaced, entry_ids, stored_ids}
+use Rattle.raft_known_state.specs.KnownState.{KnownState, Knows, KeepsRest, ArePlaced, IsPlaced, stored_ids}
 use Rattle.raft_known_state.proofs.PlacedIds.{by_order}
 use Rattle.raft_known_state.proofs.KnownStateLemmas.{end-known, log_whole}
 use Rattle.raft_commands.specs.Output.{Output, following_seq}
 use Rattle.raft_engine.specs.Numbering.{number_in}
 use Rattle.raft_engine.specs.Commands.{Command, put_all, storing_of, sending_of}
 use Rattle.raft_engine.specs.Standing.{Engine, Given, IsInOrder, IsStateOf, IsStepOf, PlaysRole}
-use Rattle.raft_engine.specs.Following.{all_go_on}
+use Rattle.raft_messages.specs.Entries.{all_go_on}
 use Rattle.raft_engine.proofs.CommandLemmas.{numbers_gained, numbers_kept, sends_same, stores_more, stores_same}
 use Rattle.raft_engine.proofs.StandingLemmas.{still_follows}
 use Rattle.raft_engine.proofs.PlacedEntries.{HasEntry, has_entry, id_of_place, none_behind, with_log, id_below_cut, id_before_more, end_of_cut, end_of_any_cut, taken, behind, placed_go_on}
@@ -174,7 +174,7 @@ put_all_as [] e f = cc
 put_all_as (y ∷ es) e f = let same : y ≡ e = cc in ap (λ (z : Entry). PutEntries z.log_id.index (y ∷ es) ∷ []) same
 
 -- once the log ends at the place, entries from there on go on
-pub known_go_on : (s : StoredGroup) (ids : List (LogId ℕ)) (es : List Entry) (place : ℕ) → IsPlaced s → ids ≡ stored_ids s → end_place s ≡ place → ArePlaced place es → all_go_on (last_id ids) (entry_ids es) ≡ true
+pub known_go_on : (s : StoredGroup) (ids : List (LogId ℕ)) (es : List Entry) (place : ℕ) → IsPlaced s → ids ≡ stored_ids s → end_place s ≡ place → ArePlaced place es → all_go_on (last_id ids) es ≡ true
 known_go_on s ids es place p same e q =
     placed_go_on es place (last_id ids) q
     (let n : next_place (last_id ids) ≡ end_place s = ap (λ i. next_place (last_id i)) same ∙ end-known s p in omega arith)

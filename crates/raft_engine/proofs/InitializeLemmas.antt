@@ -5,6 +5,7 @@ use Rattle.std.specs.List.{slice_get}
 use Rattle.std.specs.Option.{is_some}
 use Rattle.std.proofs.Common.{ap, sym, ◌∙◌, subst, append-nil, arith}
 use Rattle.std.proofs.lemmas.Bool.{eqb-true}
+use Rattle.std.proofs.lemmas.List.{nil_from_length}
 use Rattle.raft_values.specs.declared.log_id.LogId.{LogId}
 use Rattle.raft_values.specs.declared.vote.LeaderId.{LeaderId}
 use Rattle.raft_values.specs.LogId.{log_id_of, next_place, place_of}
@@ -22,10 +23,6 @@ use Rattle.raft_group_step.specs.Lead.{with_grant}
 use Rattle.raft_group_step.specs.Elect.{ask, elect_step, other_voters}
 use Rattle.raft_group_step.specs.Initialize.{is_new}
 use Rattle.raft_engine.specs.Standing.{IsInOrder}
-
-no_entries : (log : List Entry) → length log ≡ 0 → log ≡ []
-no_entries [] e = refl
-no_entries (x ∷ log) e = absurd (omega arith)
 
 nothing_taken : (n : ℕ) → take n (let log : List Entry = [] in log) ≡ []
 nothing_taken zero = refl
@@ -61,7 +58,7 @@ module _ (s : StoredGroup) (new : is_new s ≡ true) where
       (and_left (vote_eq s.vote (vote_of 0 0 false)) (end_place s == 0) no_vote_and_end)))
 
   empty_log : s.log ≡ []
-  empty_log = let end = ends_at_start in no_entries s.log (omega (arith, end))
+  empty_log = let end = ends_at_start in nil_from_length s.log (omega (arith, end))
 
   nothing_there : is_some (entry_at s 0) ≡ false
   nothing_there =

@@ -5,9 +5,9 @@ use Rattle.raft_values.specs.declared.log_id.LogId.{LogId}
 use Rattle.raft_state.specs.declared.entry.EntryPayload.TheVariants.{Blank, Normal, Membership as Members}
 use Rattle.raft_group_step.specs.Values.{Entry, EntryPayload, LoggedMembership, last_membership, membership_after}
 
-last_joined : (b : Option LoggedMembership) (xs ys : List Entry) → last_membership b (xs ++ ys) ≡ last_membership (last_membership b xs) ys
-last_joined b [] ys = refl
-last_joined b (x ∷ xs) ys = last_joined (membership_after b x.log_id x.payload) xs ys
+pub last_membership-append : (b : Option LoggedMembership) (xs ys : List Entry) → last_membership b (xs ++ ys) ≡ last_membership (last_membership b xs) ys
+last_membership-append b [] ys = refl
+last_membership-append b (x ∷ xs) ys = last_membership-append (membership_after b x.log_id x.payload) xs ys
 
 -- a list has a membership of its own, or leaves the one before it
 data Decides (xs : List Entry) : Type 0 where
@@ -47,7 +47,7 @@ drop_split (suc n) (suc k) (x ∷ xs) l = drop_split n k xs (omega arith)
 pub last_overlap : (n k : ℕ) (b : Option LoggedMembership) (xs : List Entry) → n ≤ k → last_membership (last_membership b (take k xs)) (drop n xs) ≡ last_membership b xs
 last_overlap n k b xs l =
     ap (last_membership (last_membership b (take k xs))) (drop_split n k xs l)
-    ∙ last_joined (last_membership b (take k xs)) (drop n (take k xs)) (drop k xs)
+    ∙ last_membership-append (last_membership b (take k xs)) (drop n (take k xs)) (drop k xs)
     ∙ ap (λ c. last_membership c (drop k xs)) (overlaps n b (take k xs))
-    ∙ sym (last_joined b (take k xs) (drop k xs))
+    ∙ sym (last_membership-append b (take k xs) (drop k xs))
     ∙ ap (last_membership b) (take-append-drop k xs)

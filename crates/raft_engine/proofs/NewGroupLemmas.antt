@@ -1,6 +1,7 @@
 -- The engine of a group with nothing in it stands for that, and is ready for each event.
-use Rattle.std.specs.Prelude.{◌≡◌, ℕ, ◌≤◌, ◌<◌, ◌^◌, true, Some, None, refl}
+use Rattle.std.specs.Prelude.{◌≡◌, ℕ, ◌≤◌, ◌<◌, ◌^◌, true, None, refl}
 use Rattle.std.proofs.Common.{ap, sym, subst, arith}
+use Rattle.std.proofs.lemmas.Option.{none-some}
 use Rattle.raft_values.specs.LogId.{place_of}
 use Rattle.raft_commands.specs.Config.{config_of}
 use Rattle.raft_known_state.specs.KnownState.{Knows}
@@ -13,9 +14,6 @@ use Rattle.raft_engine.specs.Standing.{Engine, IsInOrder, IsStateOf, PlaysRole}
 abbrev pub new_group : StoredGroup
 new_group = record no_group { present = true }
 
-none_some : {A : Type 0} {P : Type 0} (x : A) → None ≡ Some x → P
-none_some x e = absurd (let f : None ≡ Some x = e in cc)
-
 order : IsInOrder (state_of new_group)
 order =
     let low : 0 ≤ 0 = omega arith in
@@ -26,7 +24,7 @@ ready own =
     record {
       places = let l : 0 ≤ 2 ^ 62 = omega arith in l;
       members = let l : 0 ≤ 2 ^ 62 = omega arith in l;
-      wish = λ place e. none_some place e;
+      wish = λ place e. absurd (none-some _ e);
       purges = λ place l. absurd (let k : place < 0 = l in omega arith);
     }
 

@@ -1,7 +1,7 @@
 -- A vote of another node that isn't below the own one: once it is taken over, the node follows.
 use Rattle.std.specs.Prelude.{◌≡◌, ℕ, ◌<◌, Bool, true, false, if◌then◌else◌, Option, Some, None, refl}
 use Rattle.std.proofs.Common.{sym, ap, ap₂, ◌∙◌, ⊎_elim, arith, lt-ltb, le-ltb, eq-eqb}
-use Rattle.std.proofs.lemmas.Bool.{cases_order, cond-true, cond-false}
+use Rattle.std.proofs.lemmas.Bool.{both_ways, cases_order, cond-true, cond-false}
 use Rattle.std.specs.declared.cmp.Ordering.TheVariants.{Less, Equal}
 use Rattle.std.specs.Ordering.{nat_cmp, bool_cmp, ordering_then, is_lt}
 use Rattle.std.specs.Prelude.{nat_lt, ◌==◌}
@@ -33,9 +33,6 @@ of_one_leader : (a b : Vote ℕ) → a.leader_id.term ≡ b.leader_id.term → a
 of_one_leader a b e f =
     ap₂ (λ o p. is_lt (ordering_then (ordering_then o p) (bool_cmp a.committed b.committed))) (same_is a.leader_id.term b.leader_id.term e) (same_is a.leader_id.node_id b.leader_id.node_id f)
 
-both : {P : Type 0} (b : Bool) → b ≡ true → b ≡ false → P
-both b t f = absurd (let e : true ≡ false = sym t ∙ f in cc)
-
 -- a vote isn't below itself
 pub not_below_itself : (a : Vote ℕ) → vote_lt a a ≡ false
 not_below_itself a = of_one_leader a a refl refl ∙ flags a.committed
@@ -54,9 +51,9 @@ are_level a b h k =
     ⊎_elim
     (λ e. ⊎_elim
     (λ f. record { node = f; committed = flags a.committed b.committed (sym (of_one_leader a b e f) ∙ h) (sym (of_one_leader b a (sym e) (sym f)) ∙ k) })
-    (⊎_elim (λ l. both (vote_lt a b) (below_by_node a b e l) h) (λ l. both (vote_lt b a) (below_by_node b a (sym e) l) k))
+    (⊎_elim (λ l. absurd (both_ways (vote_lt a b) h (below_by_node a b e l))) (λ l. absurd (both_ways (vote_lt b a) k (below_by_node b a (sym e) l))))
     (cases_order a.leader_id.node_id b.leader_id.node_id))
-    (⊎_elim (λ l. both (vote_lt a b) (below_by_term a b l) h) (λ l. both (vote_lt b a) (below_by_term b a l) k))
+    (⊎_elim (λ l. absurd (both_ways (vote_lt a b) h (below_by_term a b l))) (λ l. absurd (both_ways (vote_lt b a) k (below_by_term b a l))))
     (cases_order a.leader_id.term b.leader_id.term)
   where
     flags : (c d : Bool) → is_lt (bool_cmp c d) ≡ false → is_lt (bool_cmp d c) ≡ false → c ≡ d
@@ -70,7 +67,7 @@ only_follows : (own : ℕ) (s : StoredGroup) (vote : Vote ℕ) → IsVoteOfAnoth
 only_follows own s vote another level l c Follower h = refl
 only_follows own s vote another level None None (Candidate granters) h = absurd h
 only_follows own s vote another level None (Some c) (Candidate granters) h =
-    let stands : Stands own c s granters = h in both s.vote.committed (level.committed ∙ another.committed) stands.uncommitted
+    let stands : Stands own c s granters = h in absurd (both_ways s.vote.committed stands.uncommitted (level.committed ∙ another.committed))
 only_follows own s vote another level (Some l) c (Candidate granters) h = absurd h
 only_follows own s vote another level None c (Leader lead) h = absurd h
 only_follows own s vote another level (Some l) None (Leader lead) h =

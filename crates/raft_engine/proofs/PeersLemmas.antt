@@ -10,6 +10,7 @@ use Rattle.std.proofs.Common.{ap, sym, ◌∙◌, subst, arith}
 use Rattle.std.proofs.lemmas.Bool.{eqb-true}
 use Rattle.std.proofs.lemmas.Bool.Decides.{nat_tests}
 use Rattle.std.proofs.Math.Bool.{true≢false}
+use Rattle.std.proofs.lemmas.List.Folds.{list_any-append}
 use Rattle.raft_progress.specs.declared.progress_entry.ProgressEntry.{ProgressEntry}
 use Rattle.raft_progress.specs.Parts.{Parts, SetsValue, has_value, value_of}
 use Rattle.raft_progress.proofs.PartsLemmas.{nobody_has}
@@ -19,6 +20,12 @@ use Rattle.raft_group_step.specs.StoredGroup.{StoredGroup}
 use Rattle.raft_group_step.specs.Peer.{PeerState, is_kept_for_peers, needs_below, new_peer, peer_or, with_peer}
 use Rattle.raft_group_step.specs.GroupState.{Lead}
 use Rattle.raft_engine.specs.Standing.{EffectiveMembership, IsBelowPeer, Leads, PeersRise, outstanding_of, peer_state}
+
+-- tests of which each passes where the other does
+pub same_tests : (a b : Bool) → (a ≡ true → b ≡ true) → (b ≡ true → a ≡ true) → a ≡ b
+same_tests true b f g = sym (f refl)
+same_tests false true f g = g refl
+same_tests false false f g = refl
 
 -- the peer among the others is found there
 pub with_peer-found : (p d : PeerState) (peers : List PeerState) → p.peer ≡ d.peer → peer_or d (with_peer p peers) ≡ p
@@ -197,26 +204,16 @@ module _ (place : ℕ) where
         | false ↦ λ _ j. some_entry test xs j
       ] refl h
 
-  any_front : {X : Type 0} (test : X → Bool) (xs ys : List X) → list_any test (xs ++ ys) ≡ (list_any test xs || list_any test ys)
-  any_front test [] ys = refl
-  any_front test (x ∷ xs) ys =
-      elim (test x) as (λ b. (b || list_any test (xs ++ ys)) ≡ ((b || list_any test xs) || list_any test ys)) [ true ↦ refl | false ↦ any_front test xs ys ]
-
   busy_needs : (i : Inflight ℕ) → needs_below place (outstanding_of i) ≡ true → is_none (request_id i) ≡ false
   busy_needs Nothing h = absurd (true≢false (sym h))
   busy_needs (Logs id range) h = refl
   busy_needs (SnapshotInFlight id last) h = refl
 
-  both : (a b : Bool) → (a ≡ true → b ≡ true) → (b ≡ true → a ≡ true) → a ≡ b
-  both true b f g = sym (f refl)
-  both false true f g = g refl
-  both false false f g = refl
-
   module _ (own : ℕ) (l : LeaderValue ℕ EffectiveMembership) (s : StoredGroup) (lead : Lead) (h : Leads own l s lead) where
     entry_there : (n : ℕ) → needs_below place (outstanding_of (peer_at nat_eq l n).inflight) ≡ true → list_any (entry_needs l) (l.progress.voters ++ l.progress.learners) ≡ true
     entry_there n k =
         let has = busy_has l n (busy_needs (peer_at nat_eq l n).inflight k) in
-        any_front (entry_needs l) l.progress.voters l.progress.learners
+        list_any-append (entry_needs l) l.progress.voters l.progress.learners
         ∙ elim (has_node nat_eq l.progress.voters n) as (λ b. has_node nat_eq l.progress.voters n ≡ b → (b || has_node nat_eq l.progress.learners n) ≡ true
         → (list_any (entry_needs l) l.progress.voters || list_any (entry_needs l) l.progress.learners) ≡ true) [
           | true ↦ λ v _. or_left (list_any (entry_needs l) l.progress.voters) (list_any (entry_needs l) l.progress.learners)
@@ -228,7 +225,7 @@ module _ (place : ℕ) where
     -- an entry needs it where a peer of the lead does
     pub kept_by_entries : list_any (entry_needs l) (l.progress.voters ++ l.progress.learners) ≡ is_kept_for_peers place lead.peers
     kept_by_entries =
-        both (list_any (entry_needs l) (l.progress.voters ++ l.progress.learners)) (is_kept_for_peers place lead.peers)
+        same_tests (list_any (entry_needs l) (l.progress.voters ++ l.progress.learners)) (is_kept_for_peers place lead.peers)
         (λ k. let w = some_entry (λ m. needs_below place (outstanding_of (peer_at nat_eq l m).inflight)) (l.progress.voters ++ l.progress.learners) k in
         peer_needs (new_peer lead.began w.0) lead.peers refl (ap (λ (p : PeerState). needs_below place p.outstanding) (h.peers w.0) ∙ w.1))
         (λ k. let w = found_needs lead.peers h.rising k in

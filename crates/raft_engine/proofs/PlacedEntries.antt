@@ -11,7 +11,7 @@ use Rattle.raft_group_step.specs.Values.{Entry}
 use Rattle.raft_group_step.specs.StoredGroup.{StoredGroup, first_place, end_place, entry_at, id_of, id_at, is_id, has_id_in_log, log_below}
 use Rattle.raft_known_state.specs.KnownState.{ArePlaced, IsPlaced, entry_ids}
 use Rattle.raft_known_state.proofs.PlacedIds.{by_order}
-use Rattle.raft_engine.specs.Following.{goes_on, all_go_on}
+use Rattle.raft_messages.specs.Entries.{all_go_on, goes_on}
 
 -- ---- lists
 
@@ -50,6 +50,11 @@ pub get_of_joined : (es more : List Entry) (i : ℕ) → i < length es → slice
 get_of_joined [] more i l = absurd (omega arith)
 get_of_joined (e ∷ es) more zero l = refl
 get_of_joined (e ∷ es) more (suc i) l = get_of_joined es more i (omega arith)
+
+pub get_of_dropped : (es : List Entry) (n i : ℕ) → slice_get (drop n es) i ≡ slice_get es (n + i)
+get_of_dropped es zero i = let at : zero + i ≡ i = omega arith in ap (slice_get es) (sym at)
+get_of_dropped [] (suc n) i = refl
+get_of_dropped (e ∷ es) (suc n) i = let at : suc n + i ≡ suc (n + i) = omega arith in get_of_dropped es n i ∙ ap (slice_get (e ∷ es)) (sym at)
 
 -- where nothing is found, the list has ended
 pub none_past : (es : List Entry) (n : ℕ) → slice_get es n ≡ None → length es ≤ n
@@ -164,17 +169,17 @@ end_of_any_cut s at place l m k = let n = length-take (at - first_place s) s.log
 -- ---- log ids that go on
 
 -- those that go on by the test do
-pub go_on : (ids : List (LogId ℕ)) (last : Option (LogId ℕ)) → all_go_on last ids ≡ true → AllGoOn last ids
+pub go_on : (es : List Entry) (last : Option (LogId ℕ)) → all_go_on last es ≡ true → AllGoOn last (entry_ids es)
 go_on [] last h = tt
-go_on (id ∷ ids) None h = (tt, go_on ids (Some id) h)
-go_on (id ∷ ids) (Some last) h = by_test (go_on ids (Some id)) (nat_lt last.index id.index) refl
+go_on (e ∷ es) None h = (tt, go_on es (Some e.log_id) h)
+go_on (e ∷ es) (Some last) h = by_test (go_on es (Some e.log_id)) (nat_lt last.index e.log_id.index) refl
   where
-    by_test : (all_go_on (Some id) ids ≡ true → AllGoOn (Some id) ids) → (b : Bool) → nat_lt last.index id.index ≡ b → AllGoOn (Some last) (id ∷ ids)
-    by_test rest true f = (grind (arith, nat_tests, f), rest (ap (λ b. if b then all_go_on (Some id) ids else false) (sym f) ∙ h))
-    by_test rest false f = let no : false ≡ true = ap (λ b. if b then all_go_on (Some id) ids else false) (sym f) ∙ h in cc
+    by_test : (all_go_on (Some e.log_id) es ≡ true → AllGoOn (Some e.log_id) (entry_ids es)) → (b : Bool) → nat_lt last.index e.log_id.index ≡ b → AllGoOn (Some last) (entry_ids (e ∷ es))
+    by_test rest true f = (grind (arith, nat_tests, f), rest (ap (λ b. if b then all_go_on (Some e.log_id) es else false) (sym f) ∙ h))
+    by_test rest false f = let no : false ≡ true = ap (λ b. if b then all_go_on (Some e.log_id) es else false) (sym f) ∙ h in cc
 
 -- entries that stand behind the last log id go on by the test
-pub placed_go_on : (es : List Entry) (place : ℕ) (last : Option (LogId ℕ)) → ArePlaced place es → next_place last ≤ place → all_go_on last (entry_ids es) ≡ true
+pub placed_go_on : (es : List Entry) (place : ℕ) (last : Option (LogId ℕ)) → ArePlaced place es → next_place last ≤ place → all_go_on last es ≡ true
 placed_go_on [] place last p l = refl
 placed_go_on (e ∷ es) place last p l =
     let f : goes_on last e.log_id ≡ true = first last l in

@@ -1,5 +1,5 @@
 -- What is purged leaves the rest in order, and the node plays on.
-use Rattle.std.specs.Prelude.{◌≡◌, ℕ, zero, suc, ◌+◌, ◌-◌, ◌<◌, ◌≤◌, ◌==◌, nat_lt, nat_eq, Bool, true, false, if◌then◌else◌, List, [], ◌∷◌, ◌++◌, drop, Option, Some, None, min, option_and_then, option_map, refl}
+use Rattle.std.specs.Prelude.{◌≡◌, ℕ, ◌+◌, ◌-◌, ◌<◌, ◌≤◌, ◌==◌, nat_lt, nat_eq, Bool, true, false, if◌then◌else◌, List, [], ◌∷◌, ◌++◌, drop, Option, Some, None, min, option_and_then, option_map, refl}
 use Rattle.std.specs.List.{slice_get, flat_map}
 use Rattle.std.specs.Option.{is_some}
 use Rattle.std.proofs.Common.{sym, ap, ◌∙◌, subst, arith, length-drop}
@@ -29,7 +29,7 @@ use Rattle.raft_engine.specs.Standing.{EffectiveMembership, Engine, Given, IsInO
 use Rattle.raft_engine.proofs.AppendLemmas.{next_of_place}
 use Rattle.raft_engine.proofs.CommandLemmas.{numbers_kept, sends_same, stores_more}
 use Rattle.raft_engine.proofs.StandingLemmas.{order_kept}
-use Rattle.raft_engine.proofs.PlacedEntries.{HasEntry, dropped, entry_within, has_entry}
+use Rattle.raft_engine.proofs.PlacedEntries.{HasEntry, dropped, entry_within, has_entry, get_of_dropped}
 
 -- ---- the part that a node plays
 
@@ -77,11 +77,6 @@ plays_on own (Some l) None s s' (Leader lead) k h = leads_on own l s s' lead k h
 plays_on own (Some l) (Some c) s s' (Leader lead) k h = absurd h
 
 -- ---- the log without its first entries
-
-get_of_dropped : (es : List Entry) (n i : ℕ) → slice_get (drop n es) i ≡ slice_get es (n + i)
-get_of_dropped es zero i = let at : zero + i ≡ i = omega arith in ap (slice_get es) (sym at)
-get_of_dropped [] (suc n) i = refl
-get_of_dropped (e ∷ es) (suc n) i = let at : suc n + i ≡ suc (n + i) = omega arith in get_of_dropped es n i ∙ ap (slice_get (e ∷ es)) (sym at)
 
 module _ (s : StoredGroup) (id : LogId ℕ) (placed : IsPlaced s) (above : first_place s ≤ id.index) (within : id.index < end_place s) (found : id_at s id.index ≡ Some id) where
   abbrev pub purged : StoredGroup

@@ -1,7 +1,7 @@
 -- A message that isn't refused, and what the node may finish after it.
 use Rattle.std.specs.Prelude.{◌≡◌, ◌≢◌, ℕ, ◌==◌, ◌&&◌, not, Bool, true, false, if◌then◌else◌, List, [], ◌∷◌, ◌++◌, Option, Some, None, refl}
 use Rattle.std.proofs.Common.{sym, ◌∙◌, subst, eq-eqb, eqb-true}
-use Rattle.std.proofs.lemmas.Bool.{and_parts}
+use Rattle.std.proofs.lemmas.Bool.{and_parts, not-true}
 use Rattle.raft_values.specs.declared.vote.Vote.{Vote}
 use Rattle.raft_values.specs.declared.log_id.LogId.{LogId}
 use Rattle.raft_group_step.specs.Values.{Entry, vote_lt}
@@ -42,15 +42,11 @@ is_accepted own peer body at s e =
     let d = no_first_reason sound [] c.1 in
     record { right = passes _ WrongParty a.0; range = c.0; sound = passes _ BreaksCondition d.0 }
 
-not_false : (b : Bool) → not b ≡ true → b ≡ false
-not_false false e = refl
-not_false true e = absurd (let no : false ≡ true = e in cc)
-
 -- the sender is another node
 pub is_another : (own peer : ℕ) (body : MessageBody) → is_right_party own peer (record { sender = peer; addressee = own; body = body }) ≡ true → peer ≢ own
 is_another own peer body h =
     let tests = and_parts (peer == peer && not (peer == own)) (own == own) h in
-    let other : (peer == own) ≡ false = not_false (peer == own) (and_parts (peer == peer) (not (peer == own)) tests.0).1 in
+    let other : (peer == own) ≡ false = not-true (peer == own) (and_parts (peer == peer) (not (peer == own)) tests.0).1 in
     λ e. absurd (let no : true ≡ false = sym (eq-eqb peer own e) ∙ other in cc)
 
 -- and a leader's vote is its

@@ -3,7 +3,7 @@ use Rattle.std.specs.Prelude.{◌≡◌, ℕ, zero, suc, ◌+◌, ◌^◌, ◌<�
 use Rattle.std.proofs.Common.{ap, sym, ◌∙◌, subst, arith, get_or}
 use Rattle.std.proofs.lemmas.Bool.{eq-eqb, eqb-true}
 use Rattle.std.proofs.Math.Bool.{true≢false}
-use Rattle.raft_quorums.specs.QuorumLaws.{or_left, or_right}
+use Rattle.raft_quorums.specs.QuorumLaws.{or_left, or_right, and_left, and_right}
 use Rattle.raft_progress.specs.declared.inflight.Inflight.TheVariants.{None as Nothing, Logs, Snapshot as SnapshotInFlight}
 use Rattle.raft_group_step.specs.Values.{has_id, vote_eq}
 use Rattle.raft_group_step.specs.Heartbeat.{beat_as, send_notices}
@@ -301,18 +301,6 @@ all_unserved own news [] c s r h = refl
 all_unserved own news (n ∷ ns) c s r h = ap (serve_all own news ns) (unserved own n news c s r.state.role r h) ∙ all_unserved own news ns c s r h
 
 -- ---- what a walk over the members needs
-
-and_left : (a b : Bool) → (a && b) ≡ true → a ≡ true
-and_left true b h = refl
-and_left false b h = h
-
-and_right : (a b : Bool) → (a && b) ≡ true → b ≡ true
-and_right true b h = h
-and_right false b h = absurd (true≢false (sym h))
-
-pub none_is : {X : Type 0} (o : Option X) → is_some o ≡ false → o ≡ None
-none_is None h = refl
-none_is (Some x) h = absurd (true≢false h)
 
 pub some_is : {X : Type 0} (o : Option X) → is_some o ≡ true → (x : X) × (o ≡ Some x)
 some_is None h = absurd (true≢false (sym h))

@@ -16,8 +16,9 @@ use Rattle.raft_known_state.specs.KnownState.{others}
 use Rattle.raft_engine.specs.Purging.{MayBePurged}
 use Rattle.raft_engine.specs.Standing.{IsInOrder}
 use Rattle.raft_engine.specs.Events.{HasLeadRoom}
-use Rattle.raft_engine.proofs.AppendLemmas.{grown_by, grown_is, last_membership-append}
+use Rattle.raft_engine.proofs.AppendLemmas.{grown_by, grown_is}
 use Rattle.raft_engine.proofs.PurgeLemmas.{covered_within}
+use Rattle.raft_engine.proofs.LastMembership.{last_membership-append}
 
 module _ (s : StoredGroup) (es : List Entry) where
   -- the membership in force is the last one of the entries, or else the one before
@@ -79,7 +80,7 @@ module _ (own : ℕ) (r : StepResult) (lead : Lead) (payload : EntryPayload) (or
 
 -- ---- few members
 
-fewer_filtered : (test : ℕ → Bool) (ns : List ℕ) → length (filter test ns) ≤ length ns
+pub fewer_filtered : (test : ℕ → Bool) (ns : List ℕ) → length (filter test ns) ≤ length ns
 fewer_filtered test ns = let all = length-filter_both test (λ n. not (test n)) (λ n. refl) ns in omega (arith, all)
 
 -- a membership within the limits has few nodes

@@ -28,36 +28,14 @@ use Rattle.raft_group_step.specs.Frames.{committed_id, entries_in_request, reque
 use Rattle.raft_known_state.specs.KnownState.{meta_of}
 use Rattle.raft_engine.specs.Standing.{peer_state}
 use Rattle.raft_engine.specs.Sending.{logs_for, request_for, waiting_for}
+use Rattle.raft_engine.proofs.PlacedEntries.{dropped, found_at, get_of_dropped, taken}
 
 -- ---- entries at their places
-
-placed_at : (es : List Entry) (place k : ℕ) (e : Entry) → ArePlaced place es → slice_get es k ≡ Some e → e.log_id.index ≡ place + k
-placed_at [] place k e p h = cc
-placed_at (x ∷ es) place zero e p h =
-    let same : x ≡ e = cc in subst (λ (y : Entry). y.log_id.index ≡ place + 0) same (let f : x.log_id.index ≡ place = p.0 in omega arith)
-placed_at (x ∷ es) place (suc k) e p h = let f : e.log_id.index ≡ suc place + k = placed_at es (suc place) k e p.1 h in omega arith
-
-placed_take : (es : List Entry) (place n : ℕ) → ArePlaced place es → ArePlaced place (take n es)
-placed_take [] place zero p = tt
-placed_take [] place (suc n) p = tt
-placed_take (x ∷ es) place zero p = tt
-placed_take (x ∷ es) place (suc n) p = (p.0, placed_take es (suc place) n p.1)
-
-placed_drop : (es : List Entry) (place n : ℕ) → n ≤ length es → ArePlaced place es → ArePlaced (place + n) (drop n es)
-placed_drop es place zero l p = let at : place + 0 ≡ place = omega arith in rw at p
-placed_drop [] place (suc n) l p = absurd (omega arith)
-placed_drop (x ∷ es) place (suc n) l p =
-    let at : place + suc n ≡ suc place + n = omega arith in rw at (placed_drop es (suc place) n (omega arith) p.1)
 
 some_there : (es : List Entry) (k : ℕ) → k < length es → (e : Entry) × (slice_get es k ≡ Some e)
 some_there [] k l = absurd (omega arith)
 some_there (x ∷ es) zero l = (x, refl)
 some_there (x ∷ es) (suc k) l = some_there es k (omega arith)
-
-get_drop : (es : List Entry) (n k : ℕ) → slice_get (drop n es) k ≡ slice_get es (n + k)
-get_drop es zero k = let at : 0 + k ≡ k = omega arith in rw at refl
-get_drop [] (suc n) k = refl
-get_drop (x ∷ es) (suc n) k = let at : suc n + k ≡ suc (n + k) = omega arith in rw at (get_drop es n k)
 
 -- ---- the log id before a place
 
@@ -83,7 +61,7 @@ module _ (s : StoredGroup) where
   next_before place p l k =
       by_order (first_place s) place
       (λ m. let w = some_there s.log (place - 1 - first_place s) (omega arith) in
-      let at : w.0.log_id.index ≡ first_place s + (place - 1 - first_place s) = placed_at s.log (first_place s) (place - 1 - first_place s) w.0 p w.1 in
+      let at : w.0.log_id.index ≡ first_place s + (place - 1 - first_place s) = found_at s.log (first_place s) (place - 1 - first_place s) w.0 p w.1 in
       ap next_place (before-entry place m ∙ ap id_of w.1) ∙ omega arith)
       (λ m. before-first place (omega arith))
 
@@ -121,10 +99,10 @@ sent-between s start n p l =
     let before : next_place (id_before s start) ≡ start = next_before s start p l m in
     let here : first_place s + (start - first_place s) ≡ start = omega arith in
     let placed : ArePlaced start (drop (start - first_place s) s.log) =
-    subst (λ k. ArePlaced k (drop (start - first_place s) s.log)) here (placed_drop s.log (first_place s) (start - first_place s) (omega arith) p) in
+    subst (λ k. ArePlaced k (drop (start - first_place s) s.log)) here (dropped s.log (first_place s) (start - first_place s) p) in
     let es = take n (drop (start - first_place s) s.log) in
     let after : next_place (last_sent (id_before s start) es) ≡ start + length es =
-    next_sent es start (id_before s start) (placed_take (drop (start - first_place s) s.log) start n placed) before in
+    next_sent es start (id_before s start) (taken (drop (start - first_place s) s.log) start n placed) before in
     let count : next_place (last_sent (id_before s start) es) - next_place (id_before s start) ≡ length es = omega arith in
     ap (λ k. take (next_place (last_sent (id_before s start) es) - next_place (id_before s start)) (drop (k - first_place s) s.log)) before
     ∙ take_taken n (next_place (last_sent (id_before s start) es) - next_place (id_before s start)) (drop (start - first_place s) s.log) count)
@@ -144,7 +122,7 @@ module _ (s : StoredGroup) (start n : ℕ) (l : first_place s ≤ start) where
       let count : suc (stop - 1 - start) ≡ length (take n rest) = omega (arith, length-take n rest) in
       let same : take (suc (stop - 1 - start)) rest ≡ take n rest = take_taken n (suc (stop - 1 - start)) rest count in
       let at : start - first_place s + (stop - 1 - start) ≡ stop - 1 - first_place s = omega arith in
-      before-entry s stop (omega arith) ∙ ap (λ k. id_of (slice_get s.log k)) (sym at) ∙ ap id_of (sym (get_drop s.log (start - first_place s) (stop - 1 - start)))
+      before-entry s stop (omega arith) ∙ ap (λ k. id_of (slice_get s.log k)) (sym at) ∙ ap id_of (sym (get_of_dropped s.log (start - first_place s) (stop - 1 - start)))
       ∙ sym (last_of_sent rest (id_before s start) (stop - 1 - start) (omega arith)) ∙ ap (last_sent (id_before s start)) same
 
   -- past the log none is sent

@@ -1,7 +1,6 @@
 -- What a leader's requests say to a node that follows.
-use Rattle.std.specs.Prelude.{◌≡◌, ◌≢◌, ℕ, ◌<◌, nat_lt, Bool, true, false, if◌then◌else◌, List, [], ◌∷◌, Option, Some, None}
+use Rattle.std.specs.Prelude.{◌≡◌, ◌≢◌, ℕ, ◌<◌, true, if◌then◌else◌, List, [], ◌∷◌, Option, Some}
 use Rattle.raft_values.specs.declared.vote.Vote.{Vote}
-use Rattle.raft_values.specs.declared.log_id.LogId.{LogId}
 use Rattle.raft_group_step.specs.declared.append_entries.AppendEntriesRequest.{AppendEntriesRequest}
 use Rattle.raft_group_step.specs.Values.{Entry}
 use Rattle.raft_group_step.specs.StoredGroup.{StoredGroup, Snapshot, end_place}
@@ -13,16 +12,6 @@ use Rattle.raft_engine.specs.Commands.{number_of}
 -- the place, if there is one, is below the log's end
 abbrev pub EndsWithin : Option ℕ → StoredGroup → Type 0
 EndsWithin place s = (p : ℕ) → place ≡ Some p → p < end_place s
-
--- the log id stands behind the last one
-abbrev pub goes_on : Option (LogId ℕ) → LogId ℕ → Bool
-goes_on None id = true
-goes_on (Some last) id = nat_lt last.index id.index
-
--- each stands behind the one before it
-abbrev pub all_go_on : Option (LogId ℕ) → List (LogId ℕ) → Bool
-all_go_on last [] = true
-all_go_on last (id ∷ ids) = if goes_on last id then all_go_on (Some id) ids else false
 
 -- the entries from the first one on that is neither committed nor in the log
 abbrev pub unheld_entries : StoredGroup → Option ℕ → List Entry → List Entry

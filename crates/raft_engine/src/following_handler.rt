@@ -8,17 +8,18 @@ ghost use Rattle.raft_group_step.specs.Message.{AppendFields, ReplyResult};
 ghost use Rattle.raft_group_step.specs.AppendRequest.{above_committed, append_request_step, cut_at, cut_from, is_held, joined, lesser_place, missing_entries, put_entries, reply_append};
 ghost use Rattle.raft_group_step.specs.Refusal.{do_follow};
 ghost use Rattle.raft_group_step.specs.SnapshotRequest.{install_unless};
-ghost use Rattle.raft_known_state.specs.KnownState.{ArePlaced, IsPlaced, Knows, entry_ids, meta_of};
+ghost use Rattle.raft_known_state.specs.KnownState.{ArePlaced, IsPlaced, Knows, meta_of};
 ghost use Rattle.raft_engine.specs.Commands.{result_of};
 ghost use Rattle.raft_engine.specs.Numbering.{KeepsNumbers, NumbersRise};
 ghost use Rattle.raft_engine.specs.Standing.{Given, IsStepOf};
-ghost use Rattle.raft_engine.specs.Following.{EndsWithin, IsVoteOfAnother, SpellsAppend, SpellsAppendReply, all_go_on, unheld_entries};
+ghost use Rattle.raft_engine.specs.Following.{EndsWithin, IsVoteOfAnother, SpellsAppend, SpellsAppendReply, unheld_entries};
 
 use crate::engine::Engine;
 use crate::orders::is_lower;
 use raft_commands::{Caller, Command, RaftTypeConfig, Respond, ValueSender};
 use raft_group_step::{AppendEntriesRequest, AppendEntriesResponse, Entries};
 use raft_known_state::KnownState;
+use raft_messages::all_go_on;
 use raft_state::{
     BasicNode, Bytes, Entry, LogId, LogIdOptionExt, RaftLogId, SnapshotMeta, Vote, VoteStateReader,
 };
@@ -55,20 +56,6 @@ fn count_held(known: &KnownState<u64, BasicNode>, entries: &[Entry<u64, BasicNod
         }
     }
     entries.len()
-}
-
-// Whether the entries' places rise, from behind the last log id on.
-fn all_go_on(last: Option<LogId<u64>>, entries: &[Entry<u64, BasicNode, Bytes>]) -> bool
-    ensures { result ≡ all_go_on last (entry_ids entries.now) }
-{
-    let mut last = last;
-    for entry in entries {
-        if last.is_some_and(|last| entry.log_id.index <= last.index) {
-            return false;
-        }
-        last = Some(entry.log_id);
-    }
-    true
 }
 
 // The lesser of the two places, none where there is none.

@@ -1,14 +1,14 @@
 -- Commands that are stored one after the other.
 use Rattle.std.proofs.Common.{◌≡◌, ℕ, zero, suc, ◌-◌, Bool, true, false, List, [], ◌∷◌, ◌++◌}
 use Rattle.std.proofs.Common.{length, take, arith, Option, Some, None, append_assoc, refl, sym, ap, subst, ◌∙◌}
-use Rattle.std.specs.Prelude.{◌||◌, Result, Ok, Err, OnErr}
+use Rattle.std.specs.Prelude.{◌||◌}
 use Rattle.std.proofs.lemmas.List.{append-nil}
 use Rattle.raft_group_step.specs.StoredGroup.{StoredGroup, StoringCommand, Snapshot, after_storing, after_storing_all}
 use Rattle.raft_engine.specs.Commands.{Command, storing_of, stored_by}
 use Rattle.raft_executor.specs.Stored.{IsGiven, IsPartStored, first_of, has_snapshot, queue_has_snapshot, room_after}
 
 -- the first ones are stored, and then the others
-after_both : (a b : List StoringCommand) (s : StoredGroup) → after_storing_all (a ++ b) s ≡ after_storing_all b (after_storing_all a s)
+pub after_both : (a b : List StoringCommand) (s : StoredGroup) → after_storing_all (a ++ b) s ≡ after_storing_all b (after_storing_all a s)
 after_both [] b s = refl
 after_both (c ∷ cs) b s = after_both cs b (after_storing c s)
 
@@ -98,8 +98,3 @@ pub all_are_stored : {C R : Type 0} (x : Snapshot) (first : List StoringCommand)
     → left ≡ [] → IsStoredSoFar first room (stored_by x left) old s → s ≡ after_storing_all first old
 all_are_stored {C = C} {R = R} x first room left old s e before =
     all_is_done first room old s (subst (λ (l : List (Command C R)). IsStoredSoFar first room (stored_by x l) old s) e before)
-
--- what holds in any case holds where the call fails
-pub at_any_error : {T E P : Type 0} (r : Result T E) → P → OnErr r P
-at_any_error (Ok v) p = tt
-at_any_error (Err e) p = p

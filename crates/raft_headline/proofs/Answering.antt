@@ -13,6 +13,7 @@ use Rattle.raft_laws.proofs.Counts.{among_contains, at_contains, contains_at}
 use Rattle.raft_laws.proofs.HeldLists.{at_node}
 use Rattle.raft_laws.proofs.StepFits.{world_after}
 use Rattle.raft_laws.proofs.WorldStart.{founded}
+use Rattle.raft_laws.proofs.WorldOrigins.{same_up}
 use Rattle.raft_step_laws.specs.Tokens.{HasItsOwnVote, OpensWithNone, TokensGo, WaitsLeading, brought, is_due, leads_on}
 use Rattle.raft_step_laws.proofs.Telling.{tokens_go}
 use Rattle.raft_history_laws.proofs.RunLeads.{waiting_lack_answers}
@@ -28,7 +29,6 @@ use Rattle.raft_headline.proofs.Ending.{ToldAmong, told_at}
 use Rattle.raft_headline.proofs.Happening.{DoneAt, done_at, number, own_step, past, past_is}
 use Rattle.raft_headline.proofs.OwnRuns.{runs}
 use Rattle.raft_headline.proofs.WorldMachines.{NotOpening}
-use Rattle.raft_headline.proofs.Same.{same_up}
 
 pub none_waits_answered : (rules : MachineRules) (ids : List ℕ) → AreNodeIds ids → (h : ℕ) (history : List Recorded) (end : Replicas) → NoneWaitsAnswered rules ids h history end
 none_waits_answered rules ids fit h history end numbers run n s lead up leads x has =

@@ -15,6 +15,7 @@ use Rattle.raft_laws.specs.OneList.{AreNodeIds}
 use Rattle.raft_laws.specs.Origins.{Events, world_before}
 use Rattle.raft_laws.specs.Stop.{token_of_call}
 use Rattle.raft_laws.proofs.Counts.{at_contains, contains_at}
+use Rattle.raft_laws.proofs.BallotAgreement.{same_some}
 use Rattle.raft_history_laws.specs.TokenEnds.{EndsAt, IsBrought, Names, NamesUnlessCrash, Numbered, at_stake, ledger_of, that_ended, told_in, unknown_in, untold_in, untolds}
 use Rattle.raft_history_laws.proofs.EndedOnce.{tokens_end_once}
 use Rattle.raft_history_laws.proofs.RunLedgers.{ends_are_named, ledgers_have_the_untold}
@@ -215,10 +216,7 @@ module _ (rules : MachineRules) (ids : List ℕ) (fit : AreNodeIds ids) (h : ℕ
     what = outcome_of (world_before es number w) q.event (is_some q.stop)
 
     same_event : (q.event, q.stop) ≡ s.event
-    same_event = let f : Some (q.event, q.stop) ≡ Some s.event = sym q.happened ∙ s.there in some_same (q.event, q.stop) s.event f
-      where
-        some_same : (a b : WorldEvent × Option ℕ) → Some a ≡ Some b → a ≡ b
-        some_same a b f = cc
+    same_event = let f : Some (q.event, q.stop) ≡ Some s.event = sym q.happened ∙ s.there in same_some f
 
     same_outcome : (e : WorldEvent) (stop : Option ℕ) → s.event ≡ (e, stop) → what ≡ outcome_of s.old.world e (is_some stop)
     same_outcome e stop is =

@@ -1,50 +1,41 @@
 -- The fold of a list in two parts, and a machine that runs on.
 use Rattle.std.specs.Prelude.{◌≡◌, ℕ, ◌+◌, ◌<◌, ◌≤◌, nat_lt, List, [], ◌∷◌, ◌++◌, take, drop, length, slice_get, Option, Some, None, option_map, cond, Bool, true, false, refl}
 use Rattle.std.proofs.Common.{sym, ap, ◌∙◌, arith, ltb-false, length-take-le, take-append-drop, take-take}
-use Rattle.std.proofs.lemmas.List.{length-map, map-append, take-map}
-use Rattle.std.proofs.lemmas.Option.{slice_get-map, slice_get_within}
+use Rattle.std.proofs.lemmas.Option.{slice_get_within}
 use Rattle.raft_group_step.specs.Values.{Entry}
 use Rattle.raft_node.specs.Machine.{MachineRules}
-use Rattle.raft_node.specs.Fold.{GroupEntry, after_payload, answer_in, answer_to_payload, fold_of, state_from}
+use Rattle.raft_node.specs.Fold.{after_payload, answer_in, answer_to_payload, fold_of, state_from, answer_at}
 use Rattle.raft_laws.specs.BallotLists.{AgreeBelow}
 use Rattle.raft_laws.proofs.BallotAgreement.{agree_less}
 use Rattle.raft_laws.proofs.Committed.{same_front}
 use Rattle.raft_laws.proofs.Shapes.{slice_take}
-use Rattle.raft_headline.specs.Machines.{Standing, answer_on, list_answer, list_fold, machine_entry, machine_list, run_on}
+use Rattle.raft_headline.specs.Machines.{Standing, answer_on, run_on}
 
-state_from_both : (rules : MachineRules) (state : List ℕ) (place : ℕ) (xs ys : List GroupEntry) → state_from rules state place (xs ++ ys) ≡ state_from rules (state_from rules state place xs) (place + length xs) ys
+state_from_both : (rules : MachineRules) (state : List ℕ) (place : ℕ) (xs ys : List Entry) → state_from rules state place (xs ++ ys) ≡ state_from rules (state_from rules state place xs) (place + length xs) ys
 state_from_both rules state place [] ys =
-    let same : place ≡ place + length {A = GroupEntry} [] = omega arith in ap (λ p. state_from rules state p ys) same
+    let same : place ≡ place + length {A = Entry} [] = omega arith in ap (λ p. state_from rules state p ys) same
 state_from_both rules state place (x ∷ xs) ys =
     let same : place + 1 + length xs ≡ place + length (x ∷ xs) = omega arith in
     let next : List ℕ = after_payload rules state place x.payload in
     state_from_both rules next (place + 1) xs ys ∙ ap (λ p. state_from rules (state_from rules next (place + 1) xs) p ys) same
 
 -- a machine that has run the list's front runs the rest
-pub run_on_fold : (rules : MachineRules) (es : List Entry) (at : Standing) → at.state ≡ list_fold rules (take at.count es) → at.count ≤ length es → run_on rules at es ≡ list_fold rules es
+pub run_on_fold : (rules : MachineRules) (es : List Entry) (at : Standing) → at.state ≡ fold_of rules (take at.count es) → at.count ≤ length es → run_on rules at es ≡ fold_of rules es
 run_on_fold rules es at is le =
     let front = take at.count es in
     let rest = drop at.count es in
-    let size : 0 + length (machine_list front) ≡ at.count = (let e = length-map front machine_entry in let f = length-take-le at.count es le in omega (arith, e, f)) in
-    ap (λ st. state_from rules st at.count (machine_list rest)) is
-    ∙ ap (λ k. state_from rules (list_fold rules front) k (machine_list rest)) (sym size)
-    ∙ sym (state_from_both rules rules.first 0 (machine_list front) (machine_list rest))
-    ∙ ap (fold_of rules) (sym (map-append machine_entry front rest))
-    ∙ ap (list_fold rules) (take-append-drop at.count es)
+    let size : 0 + length front ≡ at.count = (let f = length-take-le at.count es le in omega (arith, f)) in
+    ap (λ st. state_from rules st at.count rest) is
+    ∙ ap (λ k. state_from rules (fold_of rules front) k rest) (sym size)
+    ∙ sym (state_from_both rules rules.first 0 front rest)
+    ∙ ap (fold_of rules) (take-append-drop at.count es)
 
 -- the fold's answer goes by what stands up to the place
-pub answer_front : (rules : MachineRules) (k : ℕ) (xs ys : List Entry) → AgreeBelow k xs ys → (place : ℕ) → place < k → list_answer rules xs place ≡ list_answer rules ys place
+pub answer_front : (rules : MachineRules) (k : ℕ) (xs ys : List Entry) → AgreeBelow k xs ys → (place : ℕ) → place < k → answer_at rules xs place ≡ answer_at rules ys place
 answer_front rules k xs ys agree place l =
     let fronts : take place xs ≡ take place ys = same_front place xs ys (agree_less place (omega arith) agree) in
-    let of : (zs : List Entry) → list_answer rules zs place ≡ answer_in rules (list_fold rules (take place zs)) place (option_map machine_entry (slice_get zs place)) =
-    λ zs.
-    ap (λ l. answer_in rules (fold_of rules l) place (slice_get (machine_list zs) place)) (take-map machine_entry place zs)
-    ∙ ap (answer_in rules (list_fold rules (take place zs)) place) (slice_get-map machine_entry zs place)
-    in
-    of xs
-    ∙ ap (λ zs. answer_in rules (list_fold rules zs) place (option_map machine_entry (slice_get xs place))) fronts
-    ∙ ap (λ o. answer_in rules (list_fold rules (take place ys)) place (option_map machine_entry o)) (agree.same place l)
-    ∙ sym (of ys)
+    ap (λ zs. answer_in rules (fold_of rules zs) place (slice_get xs place)) fronts
+    ∙ ap (answer_in rules (fold_of rules (take place ys)) place) (agree.same place l)
 
 pub agree_take : {A : Type 0} (k : ℕ) (xs : List A) → k ≤ length xs → AgreeBelow k (take k xs) xs
 agree_take k xs le =
@@ -53,24 +44,22 @@ agree_take k xs le =
 -- what a machine answers as it runs an entry is the fold's answer there
 pub record AnswersFold (rules : MachineRules) (es : List Entry) (place : ℕ) (answer : List ℕ) : Type 0 where
   pub within : place < length es
-  pub same : answer ≡ list_answer rules es place
+  pub same : answer ≡ answer_at rules es place
 
 none_answers : {P : Type 0} (answer : List ℕ) → None ≡ Some answer → P
 none_answers answer e = absurd (let f : None ≡ Some answer = e in cc)
 
-module _ (rules : MachineRules) (es : List Entry) (at : Standing) (is : at.state ≡ list_fold rules (take at.count es)) (le : at.count ≤ length es) (place : ℕ) (answer : List ℕ) where
-  abbrev found : Option GroupEntry → Option (List ℕ)
-  found o = option_map (λ (x : GroupEntry). answer_to_payload rules (run_on rules at (take place es)) place x.payload) o
+module _ (rules : MachineRules) (es : List Entry) (at : Standing) (is : at.state ≡ fold_of rules (take at.count es)) (le : at.count ≤ length es) (place : ℕ) (answer : List ℕ) where
+  abbrev found : Option Entry → Option (List ℕ)
+  found o = option_map (λ (x : Entry). answer_to_payload rules (run_on rules at (take place es)) place x.payload) o
 
-  by_entry : at.count ≤ place → (o : Option GroupEntry) → slice_get (machine_list es) place ≡ o → found o ≡ Some answer → AnswersFold rules es place answer
+  by_entry : at.count ≤ place → (o : Option Entry) → slice_get es place ≡ o → found o ≡ Some answer → AnswersFold rules es place answer
   by_entry from None there f = none_answers answer f
   by_entry from (Some x) there f =
-      let inside : place < length (machine_list es) = slice_get_within (machine_list es) place x there in
-      let size = length-map es machine_entry in
-      let within : place < length es = omega (arith, inside, size) in
+      let within : place < length es = slice_get_within es place x there in
       let long : length (take place es) ≡ place = length-take-le place es (omega arith) in
       let front : take at.count (take place es) ≡ take at.count es = take-take at.count place es from in
-      let run : run_on rules at (take place es) ≡ list_fold rules (take place es) = run_on_fold rules (take place es) at (is ∙ ap (list_fold rules) (sym front)) (omega (arith, long)) in
+      let run : run_on rules at (take place es) ≡ fold_of rules (take place es) = run_on_fold rules (take place es) at (is ∙ ap (fold_of rules) (sym front)) (omega (arith, long)) in
       let given : answer ≡ answer_to_payload rules (run_on rules at (take place es)) place x.payload =
       (let g : Some (answer_to_payload rules (run_on rules at (take place es)) place x.payload) ≡ Some answer = f in cc)
       in
@@ -79,15 +68,14 @@ module _ (rules : MachineRules) (es : List Entry) (at : Standing) (is : at.state
         same =
             given
             ∙ ap (λ st. answer_to_payload rules st place x.payload) run
-            ∙ ap (answer_in rules (list_fold rules (take place es)) place) (sym there)
-            ∙ ap (λ l. answer_in rules (fold_of rules l) place (slice_get (machine_list es) place)) (sym (take-map machine_entry place es));
+            ∙ ap (answer_in rules (fold_of rules (take place es)) place) (sym there);
       }
 
   by_test : answer_on rules at es place ≡ Some answer → (b : Bool) → nat_lt place at.count ≡ b → AnswersFold rules es place answer
-  by_test e true t = none_answers answer (sym (ap (λ c. cond c None (found (slice_get (machine_list es) place))) t) ∙ e)
+  by_test e true t = none_answers answer (sym (ap (λ c. cond c None (found (slice_get es place))) t) ∙ e)
   by_test e false t =
-      by_entry (ltb-false place at.count t) (slice_get (machine_list es) place) refl
-      (sym (ap (λ c. cond c None (found (slice_get (machine_list es) place))) t) ∙ e)
+      by_entry (ltb-false place at.count t) (slice_get es place) refl
+      (sym (ap (λ c. cond c None (found (slice_get es place))) t) ∙ e)
 
   pub answers_fold : answer_on rules at es place ≡ Some answer → AnswersFold rules es place answer
   answers_fold e = by_test e (nat_lt place at.count) refl

@@ -14,7 +14,8 @@ use Rattle.raft_laws.specs.VotesRise.{stored_of}
 use Rattle.raft_laws.proofs.Committed.{same_front, snapshot_front}
 use Rattle.raft_node.specs.Machine.{MachineRules}
 use Rattle.raft_headline.specs.ClusterEvent.{Recorded}
-use Rattle.raft_headline.specs.Machines.{Replicas, list_fold, new_replicas}
+use Rattle.raft_node.specs.Fold.{fold_of}
+use Rattle.raft_headline.specs.Machines.{Replicas, new_replicas}
 use Rattle.raft_headline.specs.Replaying.{ReplaysFor}
 use Rattle.raft_headline.specs.Headline.{AppliedAreFronts, ListGrows, SnapshotsAreFronts}
 use Rattle.raft_headline.proofs.AsGroup.{Led, led}
@@ -23,10 +24,10 @@ use Rattle.raft_headline.proofs.WorldMachines.{Kept}
 
 -- ---- the beginning
 
-starts_folded : (rules : MachineRules) (b : Bool) (s : GroupState) → state_or b (Up (state_of no_group)) Absent ≡ Up s → rules.first ≡ list_fold rules (applied_list s)
+starts_folded : (rules : MachineRules) (b : Bool) (s : GroupState) → state_or b (Up (state_of no_group)) Absent ≡ Up s → rules.first ≡ fold_of rules (applied_list s)
 starts_folded rules true s e =
     let same : state_of no_group ≡ s = (let f : Up (state_of no_group) ≡ Up s = e in cc) in
-    ap (λ (x : GroupState). list_fold rules (applied_list x)) same
+    ap (λ (x : GroupState). fold_of rules (applied_list x)) same
 starts_folded rules false s e = absurd (let f : Absent ≡ Up s = e in cc)
 
 starts_without : (b : Bool) (st : StoredGroup) (x : Snapshot) {P : Type 0} → stored_of (state_or b (Up (state_of no_group)) Absent) ≡ Some st → st.snapshot ≡ Some x → P
@@ -61,7 +62,7 @@ module _ (rules : MachineRules) (ids : List ℕ) (fit : AreNodeIds ids) (h : ℕ
   pub applied_fronts : AppliedAreFronts rules end
   applied_fronts n s is = record {
     within = applied_within ids gs end.world group_history n s is;
-    folded = kept.folded n s is ∙ ap (list_fold rules) (applied_front ids gs end.world group_history n s is);
+    folded = kept.folded n s is ∙ ap (fold_of rules) (applied_front ids gs end.world group_history n s is);
   }
 
   pub snapshot_fronts : SnapshotsAreFronts rules end
@@ -78,7 +79,7 @@ module _ (rules : MachineRules) (ids : List ℕ) (fit : AreNodeIds ids) (h : ℕ
         within = omega (arith, agrees.right, size);
         front = whole;
         has = kept.bytes n st x is f;
-        restores = λ bytes has. kept.built x bytes has ∙ ap (list_fold rules) whole;
+        restores = λ bytes has. kept.built x bytes has ∙ ap (fold_of rules) whole;
       }
 
 -- ---- the list grows

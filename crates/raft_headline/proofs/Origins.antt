@@ -19,6 +19,8 @@ use Rattle.raft_laws.specs.OneList.{AreNodeIds}
 use Rattle.raft_laws.specs.Origins.{Events, IsAskedAt, changed_entry, entry_of_call, world_before}
 use Rattle.raft_laws.specs.Origins.{is_taken as is_taken_there}
 use Rattle.raft_laws.proofs.StepMoments.{refusals_told}
+use Rattle.raft_laws.proofs.WorldOrigins.{same_up}
+use Rattle.raft_laws.proofs.BallotAgreement.{same_some}
 use Rattle.raft_history_laws.specs.NotedIds.{IsNotedAt, IsOrigin, is_noted, next_id}
 use Rattle.raft_history_laws.proofs.LastNoted.{origin_is_last}
 use Rattle.raft_node.specs.Machine.{MachineRules}
@@ -30,7 +32,7 @@ use Rattle.raft_headline.specs.Replaying.{OwnStep, ReplaysWith, Says, StepsTo}
 use Rattle.raft_headline.specs.Told.{IsAskedFor, IsLastNoted, IsNotedBy, IsOriginOf, is_taken}
 use Rattle.raft_headline.proofs.OwnRuns.{SeenAt, own_is_seen, own_number_rises}
 use Rattle.raft_headline.proofs.TakenCalls.{CameTo, noted_setup, same_setup, taken_came}
-use Rattle.raft_headline.proofs.Same.{first_is, same_up}
+use Rattle.raft_headline.proofs.Same.{first_is}
 
 -- ---- what an entry was asked for
 
@@ -154,10 +156,7 @@ module _ (rules : MachineRules) (ids : List ℕ) (h : ℕ) (history : List Recor
       asked_for_it = event.Ask n call now
 
       same_event : s.event ≡ (asked_for_it, c.stop)
-      same_event = let f : Some s.event ≡ Some (asked_for_it, c.stop) = sym s.there ∙ c.event in some_same s.event (asked_for_it, c.stop) f
-        where
-          some_same : (a b : WorldEvent × Option ℕ) → Some a ≡ Some b → a ≡ b
-          some_same a b f = cc
+      same_event = let f : Some s.event ≡ Some (asked_for_it, c.stop) = sym s.there ∙ c.event in same_some f
 
       event_is : (e : WorldEvent) (stop : Option ℕ) → (e, stop) ∷ [] ≡ s.event ∷ [] → e ≡ asked_for_it
       event_is e stop f = ap (λ (p : WorldEvent × Option ℕ). p.0) (sym (first_is (e, stop) s.event f) ∙ same_event)

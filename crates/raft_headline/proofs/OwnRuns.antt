@@ -7,6 +7,7 @@ use Rattle.raft_laws.specs.GroupWorld.{GroupWorld, Outcome, Skipped, is_stop}
 use Rattle.raft_laws.specs.GroupWorld.{Done as Ended, Refused as Declined, Stopped as Broken}
 use Rattle.raft_laws.specs.GroupRun.{after_scene, group_run, happens, outcome_of, ran, scene_of, stop_at}
 use Rattle.raft_laws.specs.Origins.{Events, world_before}
+use Rattle.raft_laws.proofs.WorldTold.{run_both}
 use Rattle.raft_node.specs.Machine.{MachineRules}
 use Rattle.raft_headline.specs.ClusterEvent.{ClusterOutcome, Done, Opened, Refused, Stopped, Fused, PassedOver, TurnedAway, Recorded, is_stopped}
 use Rattle.raft_headline.specs.Seen.{Seen, Passed, Own, Halted, Crashed, seen_by}
@@ -81,16 +82,12 @@ module _ (rules : MachineRules) (h : ℕ) where
       ∙ ap (λ es. es ++ own_events h rs (numbers_left b (with_number b one.number one.others))) (its_number rules h r seen one.number one.others)
       ∙ ap (λ ks. own_event seen r.outcome one.number ++ own_events h rs ks) (others_left b one.number one.others)
 
-  run_first : (xs ys : Events) (w : GroupWorld) → group_run (xs ++ ys) w ≡ group_run ys (group_run xs w)
-  run_first [] ys w = refl
-  run_first (x ∷ xs) ys w = run_first xs ys (ran w x.0 x.1)
-
   pub runs : (history : List Recorded) (numbers : List ℕ) (old end : Replicas) → ReplaysWith rules h old history numbers end → group_run (own_events h history numbers) old.world ≡ end.world
   runs [] numbers old end run = ap (λ (g : Replicas). g.world) (sym run.1)
   runs (r ∷ rs) numbers old end run =
       let one = run.0 in
       ap (λ es. group_run es old.world) (own_first r rs numbers old one)
-      ∙ run_first (own_event (seen_by h r) r.outcome one.number) (own_events h rs one.others) old.world
+      ∙ run_both (own_event (seen_by h r) r.outcome one.number) (own_events h rs one.others) old.world
       ∙ ap (λ w. group_run (own_events h rs one.others) w) (one_ran rules h r (seen_by h r) one.number old one.new one.step)
       ∙ runs rs one.others one.new end run.1
 

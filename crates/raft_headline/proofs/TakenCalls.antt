@@ -16,6 +16,7 @@ use Rattle.raft_laws.specs.NodeEvent.{Comes, outcome_at, outcome_of_end, outcome
 use Rattle.raft_laws.specs.GroupRun.{At, is_same_setup, outcome_in, scene_of, scene_of_call, setup_in_call, stop_at}
 use Rattle.raft_laws.specs.Origins.{Events, world_before}
 use Rattle.raft_laws.proofs.StepMoments.{refusals_told}
+use Rattle.raft_laws.proofs.BallotAgreement.{same_some}
 use Rattle.raft_history_laws.specs.NotedIds.{is_noted}
 use Rattle.raft_node.specs.Machine.{MachineRules}
 use Rattle.raft_headline.specs.ClusterEvent.{Ask, ClusterOutcome, Done, Opened, Refused, Stopped, Fused, PassedOver, TurnedAway, Recorded, is_stopped, is_turned_away}
@@ -118,10 +119,7 @@ module _ (rules : MachineRules) (ids : List ℕ) (h : ℕ) (history : List Recor
     it = seen_is_own rules h history numbers (new_replicas rules ids) end run number r is (λ passed. absurd (let f : Passed ≡ Own own = sym passed ∙ seen in cc))
 
     same_record : it.recorded ≡ r
-    same_record = let f : Some it.recorded ≡ Some r = sym it.stands ∙ is in some_same it.recorded r f
-      where
-        some_same : (a b : Recorded) → Some a ≡ Some b → a ≡ b
-        some_same a b f = cc
+    same_record = let f : Some it.recorded ≡ Some r = sym it.stands ∙ is in same_some f
 
     seen_there : seen_by h it.recorded ≡ Own own
     seen_there = ap (seen_by h) same_record ∙ seen

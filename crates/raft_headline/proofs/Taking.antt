@@ -18,6 +18,7 @@ use Rattle.raft_laws.specs.NodeEvent.{Comes, outcome_at, outcome_of_end}
 use Rattle.raft_laws.specs.GroupRun.{At, outcome_in, outcome_of, scene_of, scene_of_delivery}
 use Rattle.raft_laws.specs.OneList.{AreNodeIds}
 use Rattle.raft_laws.proofs.StepMoments.{refusals_told}
+use Rattle.raft_laws.proofs.WorldOrigins.{same_up}
 use Rattle.raft_step_laws.specs.Elections.{configs_counted, counts_a_grant, granters_after}
 use Rattle.raft_step_laws.proofs.Answering.{requests_answered}
 use Rattle.raft_step_laws.proofs.Electing.{granted_lead}
@@ -30,7 +31,6 @@ use Rattle.raft_headline.specs.Replaying.{Says}
 use Rattle.raft_headline.specs.Takes.{CommandsAreTaken, GrantedLead, RequestsAreReplied}
 use Rattle.raft_headline.proofs.TakenCalls.{comes_here}
 use Rattle.raft_headline.proofs.Happening.{DoneAt, done_at, number, own_step, past, past_is, seen_done}
-use Rattle.raft_headline.proofs.Same.{same_up}
 
 -- what the group sees of a call that reached its node
 asked_own : (h n : ℕ) (call : GroupCall) (now : ℕ) (r : Recorded) → r.event ≡ Ask n h call now → is_turned_away r.outcome ≡ false → seen_by h r ≡ Own (event.Ask n call now)

@@ -22,7 +22,8 @@ use Rattle.raft_laws.proofs.WorldTold.{told_tokens_stand}
 use Rattle.raft_node.specs.Machine.{MachineRules}
 use Rattle.raft_headline.specs.ClusterEvent.{ClusterEvent, AddGroup, Ask, Deliver, ResetPeer, Clean, Crash, Reopen, Halt, ClusterOutcome, Done, Opened, Refused, Stopped, Fused, PassedOver, TurnedAway, Recorded, Said, Told, is_stopped, is_turned_away, said_of}
 use Rattle.raft_headline.specs.Seen.{Own, own_or_aside, seen_by, seen_of, seen_unless}
-use Rattle.raft_headline.specs.Machines.{Replicas, list_answer, new_replicas}
+use Rattle.raft_node.specs.Fold.{answer_at}
+use Rattle.raft_headline.specs.Machines.{Replicas, new_replicas}
 use Rattle.raft_headline.specs.OwnEvents.{own_event, own_events}
 use Rattle.raft_headline.specs.Replaying.{AreToldAs, IsToldAs, OwnStep, ReplaysWith, Says, StepsTo, is_opening}
 use Rattle.raft_headline.specs.Told.{IsToldRightly, ToldStand, said_at_opening, said_by, said_if}
@@ -250,7 +251,7 @@ module _ (rules : MachineRules) (ids : List ℕ) (fit : AreNodeIds ids) (h : ℕ
         answer =
             answer.same
             ∙ answer_front rules (length (group_list next.world)) (group_list next.world) (group_list end.world) grows (o.token).place inside
-            ∙ ap (list_answer rules (group_list end.world)) (sym place);
+            ∙ ap (answer_at rules (group_list end.world)) (sym place);
       }
 
 pub told_stand : (rules : MachineRules) (ids : List ℕ) → AreNodeIds ids → (h : ℕ) (history : List Recorded) (end : Replicas) → ToldStand rules ids h history end

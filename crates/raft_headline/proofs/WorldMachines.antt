@@ -20,11 +20,12 @@ use Rattle.raft_laws.specs.Settled.{group_list}
 use Rattle.raft_laws.specs.VotesRise.{stored_of}
 use Rattle.raft_laws.proofs.BallotAgreement.{same_some}
 use Rattle.raft_laws.proofs.BallotSafe.{Among}
-use Rattle.raft_laws.proofs.Counts.{among_contains, contains_at}
+use Rattle.raft_laws.proofs.Counts.{among_contains, contains_at, among_front, among_behind, contains_among}
 use Rattle.raft_laws.proofs.WorldRuns.{among_either}
 use Rattle.raft_laws.proofs.BallotSafe.{among_at}
 use Rattle.raft_node.specs.Machine.{MachineRules}
-use Rattle.raft_headline.specs.Machines.{Built, GivesRightly, HasBytes, KeepsItsLaw, MachinesMove, Replicas, Standing, StandsAt, TakesTurn, Turn, answer_on, asked_by, brought_by, given_of, list_answer, list_fold, run_on, snapshots_of, turn_of}
+use Rattle.raft_node.specs.Fold.{answer_at, fold_of}
+use Rattle.raft_headline.specs.Machines.{Built, GivesRightly, HasBytes, KeepsItsLaw, MachinesMove, Replicas, Standing, StandsAt, TakesTurn, Turn, answer_on, asked_by, brought_by, given_of, run_on, snapshots_of, turn_of}
 use Rattle.raft_headline.proofs.Folding.{AnswersFold, agree_take, answer_front, answers_fold, run_on_fold}
 use Rattle.raft_headline.proofs.NodeFacts.{applied_committed, applied_front, applied_size, applied_within, applied_stays, placed_log, prefix_applied, snapshot_size}
 use Rattle.raft_headline.proofs.StepRuns.{all_among, left_stored, open_applies, snapshot_after, snapshot_or, step_applies, stored_among}
@@ -32,11 +33,11 @@ use Rattle.raft_headline.proofs.StepRuns.{all_among, left_stored, open_applies, 
 module _ (rules : MachineRules) where
   abbrev pub NodesFolded : Replicas → Type 0
   NodesFolded g =
-      (n : ℕ) (s : GroupState) → g.world.nodes n ≡ Up s → g.machines n ≡ list_fold rules (applied_list s)
+      (n : ℕ) (s : GroupState) → g.world.nodes n ≡ Up s → g.machines n ≡ fold_of rules (applied_list s)
 
   abbrev pub BuiltFolded : List Built → Type 0
   BuiltFolded built =
-      (x : Snapshot) (bytes : List ℕ) → Contains built (record { snapshot = x; bytes = bytes }) → rules.restored bytes ≡ list_fold rules x.«prefix»
+      (x : Snapshot) (bytes : List ℕ) → Contains built (record { snapshot = x; bytes = bytes }) → rules.restored bytes ≡ fold_of rules x.«prefix»
 
 abbrev pub BytesThere : Replicas → Type 0
 BytesThere g =
@@ -51,25 +52,14 @@ pub record Kept (rules : MachineRules) (ids : List ℕ) (rs : List Recorded) (g 
 
 -- ---- lists
 
-among_left : {A : Type 0} (x : A) (xs ys : List A) → Among x xs → Among x (xs ++ ys)
-among_left x [] ys a = absurd a
-among_left x (z ∷ zs) ys a = ⊎_elim (λ e. inl e) (λ rest. inr (among_left x zs ys rest)) a
-
-among_right : {A : Type 0} (x : A) (xs ys : List A) → Among x ys → Among x (xs ++ ys)
-among_right x [] ys a = a
-among_right x (z ∷ zs) ys a = inr (among_right x zs ys a)
-
 contains_left : {A : Type 0} (xs ys : List A) (x : A) → Contains xs x → Contains (xs ++ ys) x
 contains_left xs ys x h =
-    let at = contains_at xs x h in among_contains (xs ++ ys) x (among_left x xs ys (among_at xs at.0 x at.1))
+    let at = contains_at xs x h in among_contains (xs ++ ys) x (among_front x xs ys (among_at xs at.0 x at.1))
 
 contains_either : {A : Type 0} (xs ys : List A) (x : A) → Contains (xs ++ ys) x → Contains xs x ⊎ Contains ys x
 contains_either xs ys x h =
     let at = contains_at (xs ++ ys) x h in
     ⊎_elim (λ a. inl (among_contains xs x a)) (λ a. inr (among_contains ys x a)) (among_either x xs ys (among_at (xs ++ ys) at.0 x at.1))
-
-among_of : {A : Type 0} (xs : List A) (x : A) → Contains xs x → Among x xs
-among_of xs x h = let at = contains_at xs x h in among_at xs at.0 x at.1
 
 -- the bytes that a machine gave
 module _ (rules : MachineRules) (state : List ℕ) where
@@ -116,7 +106,7 @@ not_open Open h f = h
 
 -- the machine stands where the state's list says
 pub record Right (rules : MachineRules) (at : Standing) (t : GroupState) : Type 0 where
-  pub state : at.state ≡ list_fold rules (take at.count (applied_list t))
+  pub state : at.state ≡ fold_of rules (take at.count (applied_list t))
   pub within : at.count ≤ length (applied_list t)
 
 module _ (rules : MachineRules) (ids : List ℕ) (rs : List Recorded) (g : Replicas) (k : Kept rules ids rs g) (r : Recorded) (v : GroupWorld) (run : Replays g.world (r ∷ []) v) (next : IsGroupHistory ids (rs ++ r ∷ []) v) where
@@ -129,7 +119,7 @@ module _ (rules : MachineRules) (ids : List ℕ) (rs : List Recorded) (g : Repli
       record {
         state =
             k.folded n s is
-            ∙ ap (list_fold rules) (sym (applied_stays ids rs (r ∷ []) g.world v k.leads next run n n s t is now (omega (arith, before, after, grows))));
+            ∙ ap (fold_of rules) (sym (applied_stays ids rs (r ∷ []) g.world v k.leads next run n n s t is now (omega (arith, before, after, grows))));
         within = omega (arith, before, after, grows, size);
       }
 
@@ -144,8 +134,8 @@ module _ (rules : MachineRules) (ids : List ℕ) (rs : List Recorded) (g : Repli
       record {
         state =
             k.built x has.0 has.1
-            ∙ ap (list_fold rules) (sym front)
-            ∙ ap (λ c. list_fold rules (take c (applied_list t))) size;
+            ∙ ap (fold_of rules) (sym front)
+            ∙ ap (λ c. fold_of rules (take c (applied_list t))) size;
         within = omega (arith, size, (let e : length (take (length x.«prefix») (applied_list t)) ≤ length (applied_list t) = take_short (length x.«prefix») (applied_list t) in e), long);
       }
     where
@@ -211,15 +201,15 @@ module _ (rules : MachineRules) (ids : List ℕ) (rs : List Recorded) (g : Repli
         let state = run_on rules h.at (applied_list (group_step n turn.state turn.event).state) in
         ap (λ f. f n) h.machines ∙ ap (λ b. if b then state else g.machines n) (eq-eqb n n refl)
 
-    ran_folded : (n : ℕ) (turn : Turn) (t : GroupState) (h : TakesTurn rules n turn false g new answers) → (group_step n turn.state turn.event).state ≡ t → Right rules h.at (group_step n turn.state turn.event).state → new.machines n ≡ list_fold rules (applied_list t)
+    ran_folded : (n : ℕ) (turn : Turn) (t : GroupState) (h : TakesTurn rules n turn false g new answers) → (group_step n turn.state turn.event).state ≡ t → Right rules h.at (group_step n turn.state turn.event).state → new.machines n ≡ fold_of rules (applied_list t)
     ran_folded n turn t h same right =
         own_machine n turn h
         ∙ run_on_fold rules (applied_list (group_step n turn.state turn.event).state) h.at right.state right.within
-        ∙ ap (λ (x : GroupState). list_fold rules (applied_list x)) same
+        ∙ ap (λ (x : GroupState). fold_of rules (applied_list x)) same
 
     -- the machine of a node that is up after the event
     node_folded : (n : ℕ) (t : GroupState) (b : Bool) (i : ℕ) (x : NodeState) (e : NodeEvent) → NotOpening e → g.world.nodes n ≡ x → v.nodes n ≡ Up t → state_after n e (stop_at b i) x ≡ Up t
-        → MachinesMove rules n (turn_of rules n (g.machines n) e x) b g new answers → new.machines n ≡ list_fold rules (applied_list t)
+        → MachinesMove rules n (turn_of rules n (g.machines n) e x) b g new answers → new.machines n ≡ fold_of rules (applied_list t)
     node_folded n t b i Absent e fine is now after h = absurd (let f : Absent ≡ Up t = after in cc)
     node_folded n t true i (Up s) (Comes e) fine is now after h = absurd (let f : Down _ ≡ Up t = after in cc)
     node_folded n t false i (Up s) (Comes e) fine is now after h =
@@ -244,20 +234,20 @@ module _ (rules : MachineRules) (ids : List ℕ) (rs : List Recorded) (g : Repli
     still_built : new.built ≡ g.built → BuiltFolded rules new.built
     still_built same x bytes h = k.built x bytes (subst (λ l. Contains l (record { snapshot = x; bytes = bytes })) same h)
 
-    more_built : (state : List ℕ) (xs : List Snapshot) → new.built ≡ g.built ++ given_of rules state xs → GivesRightly rules state xs → ((x : Snapshot) → Among x xs → state ≡ list_fold rules x.«prefix») → BuiltFolded rules new.built
+    more_built : (state : List ℕ) (xs : List Snapshot) → new.built ≡ g.built ++ given_of rules state xs → GivesRightly rules state xs → ((x : Snapshot) → Among x xs → state ≡ fold_of rules x.«prefix») → BuiltFolded rules new.built
     more_built state xs same rightly of x bytes h =
         ⊎_elim
         (λ old. k.built x bytes old)
         (λ now.
-        let b = given_for rules state xs (record { snapshot = x; bytes = bytes }) (among_of _ _ now) in
+        let b = given_for rules state xs (record { snapshot = x; bytes = bytes }) (contains_among _ _ now) in
         ap rules.restored b.bytes ∙ rightly_law rules state xs x b.snapshot rightly ∙ of x b.snapshot)
         (contains_either g.built (given_of rules state xs) _ (subst (λ l. Contains l (record { snapshot = x; bytes = bytes })) same h))
 
-    asked_lists : (n : ℕ) (s : GroupState) (e : GroupEvent) → g.world.nodes n ≡ Up s → NotOpening (Comes e) → (x : Snapshot) → Among x (asked_by e (group_step n s e).commands) → g.machines n ≡ list_fold rules x.«prefix»
+    asked_lists : (n : ℕ) (s : GroupState) (e : GroupEvent) → g.world.nodes n ≡ Up s → NotOpening (Comes e) → (x : Snapshot) → Among x (asked_by e (group_step n s e).commands) → g.machines n ≡ fold_of rules x.«prefix»
     asked_lists n s AddGroup is fine x a = absurd a
     asked_lists n s (Call call now) is fine x a =
         let may = step_applies n s (applied_committed ids rs g.world k.leads n s is) (placed_log ids rs g.world k.leads n s is) (Call call now) (not_open (Call call now) fine) in
-        k.folded n s is ∙ ap (list_fold rules) (sym (may.snapshots x a))
+        k.folded n s is ∙ ap (fold_of rules) (sym (may.snapshots x a))
     asked_lists n s (Receive peer m now) is fine x a = absurd a
     asked_lists n s Open is fine x a = absurd a
 
@@ -288,7 +278,7 @@ module _ (rules : MachineRules) (ids : List ℕ) (rs : List Recorded) (g : Repli
         absurd ((step_applies n s (applied_committed ids rs g.world k.leads n s is) (placed_log ids rs g.world k.leads n s is) AddGroup (not_open AddGroup fine)).snapshots y a)
     stored_has n s (Call call now) b fine is h y a =
         let xs = snapshots_of (group_step n s (Call call now)).commands in
-        let there : Among (gave rules (g.machines n) y) (g.built ++ given_of rules (g.machines n) xs) = among_right _ g.built _ (given_among rules (g.machines n) xs y a) in
+        let there : Among (gave rules (g.machines n) y) (g.built ++ given_of rules (g.machines n) xs) = among_behind _ g.built _ (given_among rules (g.machines n) xs y a) in
         (rules.snapshot (g.machines n), subst (λ l. Contains l (gave rules (g.machines n) y)) (sym h.given) (among_contains _ _ there))
     stored_has n s (Receive peer m now) b fine is h y a =
         still_has _ h.given y (h.brought y (among_contains _ y a))
@@ -344,7 +334,7 @@ module _ (rules : MachineRules) (ids : List ℕ) (rs : List Recorded) (g : Repli
         here : (j : ℕ) (c : Bool) → (j == n) ≡ c → v.nodes j ≡ state_or c (state_after n e (stop_at b i) (g.world.nodes n)) (g.world.nodes j)
         here j c t = nodes j ∙ ap (λ x. state_or x (state_after n e (stop_at b i) (g.world.nodes n)) (g.world.nodes j)) t
 
-        folded_at : (j : ℕ) (t : GroupState) → v.nodes j ≡ Up t → (c : Bool) → (j == n) ≡ c → new.machines j ≡ list_fold rules (applied_list t)
+        folded_at : (j : ℕ) (t : GroupState) → v.nodes j ≡ Up t → (c : Bool) → (j == n) ≡ c → new.machines j ≡ fold_of rules (applied_list t)
         folded_at j t now true c =
             let same = eqb-true j n c in
             let there : v.nodes n ≡ Up t = ap v.nodes (sym same) ∙ now in
@@ -370,7 +360,7 @@ module _ (rules : MachineRules) (ids : List ℕ) (rs : List Recorded) (g : Repli
           within = omega arith;
           same =
               a.same
-              ∙ ap (λ es. list_answer rules es place) front
+              ∙ ap (λ es. answer_at rules es place) front
               ∙ answer_front rules (place_above t.applied) (take (place_above t.applied) (group_list v)) (group_list v) (agree_take (place_above t.applied) (group_list v) within) place inside;
         }
 

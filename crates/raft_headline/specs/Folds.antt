@@ -4,7 +4,8 @@ use Rattle.raft_laws.specs.OneList.{AreNodeIds}
 use Rattle.raft_laws.specs.Settled.{group_list}
 use Rattle.raft_node.specs.Machine.{MachineRules}
 use Rattle.raft_headline.specs.ClusterEvent.{Recorded, Told}
-use Rattle.raft_headline.specs.Machines.{Replicas, list_answer, new_replicas}
+use Rattle.raft_node.specs.Fold.{answer_at}
+use Rattle.raft_headline.specs.Machines.{Replicas, new_replicas}
 use Rattle.raft_headline.specs.Replaying.{ReplaysFor}
 use Rattle.raft_headline.specs.Told.{said_by}
 use Rattle.raft_headline.specs.Headline.{AppliedAreFronts, SnapshotsAreFronts}
@@ -27,4 +28,4 @@ AnswersAreFolds =
     (rules : MachineRules) (ids : List ℕ) → AreNodeIds ids → (h : ℕ) (history : List Recorded) (end : Replicas)
     → ReplaysFor rules h (new_replicas rules ids) history end
     → (number : ℕ) (r : Recorded) (t : Told) → slice_get history number ≡ Some r → Contains (said_by h r.event r.outcome).told t
-    → t.answer ≡ list_answer rules (group_list end.world) t.place
+    → t.answer ≡ answer_at rules (group_list end.world) t.place

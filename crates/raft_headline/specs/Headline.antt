@@ -11,7 +11,8 @@ use Rattle.raft_laws.specs.Settled.{IsGroupList, group_list}
 use Rattle.raft_laws.specs.VotesRise.{stored_of}
 use Rattle.raft_node.specs.Machine.{MachineRules}
 use Rattle.raft_headline.specs.ClusterEvent.{Recorded}
-use Rattle.raft_headline.specs.Machines.{Built, HasBytes, Replicas, list_fold, new_replicas}
+use Rattle.raft_node.specs.Fold.{fold_of}
+use Rattle.raft_headline.specs.Machines.{Built, HasBytes, Replicas, new_replicas}
 use Rattle.raft_headline.specs.Replaying.{ReplaysFor}
 use Rattle.raft_headline.specs.Told.{EntriesHaveOrigins, ToldStand}
 use Rattle.raft_headline.specs.Leaders.{LeadersHoldAnswers}
@@ -36,7 +37,7 @@ ListGrows rules ids h history end =
 -- what a node has applied ends in the list, and its machine's state is the fold up to there
 pub record IsAppliedFront (rules : MachineRules) (list : List Entry) (s : GroupState) (machine : List ℕ) : Type 0 where
   pub within : place_above s.applied ≤ length list
-  pub folded : machine ≡ list_fold rules (take (place_above s.applied) list)
+  pub folded : machine ≡ fold_of rules (take (place_above s.applied) list)
 
 abbrev pub AppliedAreFronts : MachineRules → Replicas → Type 0
 AppliedAreFronts rules end =
@@ -48,7 +49,7 @@ pub record IsSnapshotFront (rules : MachineRules) (list : List Entry) (built : L
   pub within : x.last.index < length list
   pub front : x.«prefix» ≡ take (x.last.index + 1) list
   pub has : HasBytes built x
-  pub restores : (bytes : List ℕ) → Contains built (record { snapshot = x; bytes = bytes }) → rules.restored bytes ≡ list_fold rules (take (x.last.index + 1) list)
+  pub restores : (bytes : List ℕ) → Contains built (record { snapshot = x; bytes = bytes }) → rules.restored bytes ≡ fold_of rules (take (x.last.index + 1) list)
 
 abbrev pub SnapshotsAreFronts : MachineRules → Replicas → Type 0
 SnapshotsAreFronts rules end =

@@ -2,8 +2,7 @@
 use Rattle.std.specs.Prelude.{◌≡◌, ℕ, ◌+◌, Bool, true, false, nat_lt, if◌then◌else◌, List, []}
 use Rattle.std.specs.Prelude.{◌∷◌, ◌++◌, map, take, drop, slice_get, Option, Some, None, option_map, Contains}
 use Rattle.std.specs.List.{last_or}
-use Rattle.raft_state.specs.declared.entry.EntryPayload.TheVariants.{Blank, Normal, Membership as Members}
-use Rattle.raft_group_step.specs.Values.{Entry, EntryPayload}
+use Rattle.raft_group_step.specs.Values.{Entry}
 use Rattle.raft_group_step.specs.StoredGroup.{Snapshot, StoringCommand, MakeGroup, SetVote, PutEntries, CutFrom, RemoveUpTo, SetSnapshot, StartAfter}
 use Rattle.raft_group_step.specs.GroupState.{GroupState, state_of}
 use Rattle.raft_group_step.specs.GroupEvent.{GroupEvent, AddGroup, Call, Receive, Open}
@@ -15,27 +14,7 @@ use Rattle.raft_laws.specs.NodeEvent.{NodeEvent, Comes, Crashes, Halts, Restarts
 use Rattle.raft_laws.specs.GroupRun.{Scene, Nowhere, At}
 use Rattle.raft_laws.specs.OneList.{applied_list}
 use Rattle.raft_node.specs.Machine.{MachineRules}
-use Rattle.raft_node.specs.Fold.{GroupEntry, GroupPayload, answer_at, answer_to_payload, fold_of, state_from}
-
--- ---- a list as a machine reads it
-
-abbrev pub machine_payload : EntryPayload → GroupPayload
-machine_payload Blank = Blank
-machine_payload (Normal command) = Normal command
-machine_payload (Members m) = Members m
-
-abbrev pub machine_entry : Entry → GroupEntry
-machine_entry e = record { log_id = e.log_id; payload = machine_payload e.payload }
-
-abbrev pub machine_list : List Entry → List GroupEntry
-machine_list es = map machine_entry es
-
--- the machine's state after the list, and its answer at a place of it
-abbrev pub list_fold : MachineRules → List Entry → List ℕ
-list_fold rules es = fold_of rules (machine_list es)
-
-abbrev pub list_answer : MachineRules → List Entry → ℕ → List ℕ
-list_answer rules es place = answer_at rules (machine_list es) place
+use Rattle.raft_node.specs.Fold.{answer_to_payload, state_from}
 
 -- ---- a machine that runs on
 
@@ -46,13 +25,13 @@ pub record Standing : Type 0 where
 
 -- the state once it has run the rest of this list, too
 abbrev pub run_on : MachineRules → Standing → List Entry → List ℕ
-run_on rules at es = state_from rules at.state at.count (machine_list (drop at.count es))
+run_on rules at es = state_from rules at.state at.count (drop at.count es)
 
 -- its answer as it runs the entry at a place. There is none where it has run that before, or doesn't come so far
 abbrev pub answer_on : MachineRules → Standing → List Entry → ℕ → Option (List ℕ)
 answer_on rules at es place =
     if nat_lt place at.count then None
-    else option_map (λ (e : GroupEntry). answer_to_payload rules (run_on rules at (take place es)) place e.payload) (slice_get (machine_list es) place)
+    else option_map (λ (e : Entry). answer_to_payload rules (run_on rules at (take place es)) place e.payload) (slice_get es place)
 
 -- ---- snapshots
 

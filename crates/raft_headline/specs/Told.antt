@@ -14,7 +14,8 @@ use Rattle.raft_history_laws.specs.NotedIds.{is_noted, next_id}
 use Rattle.raft_node.specs.Machine.{MachineRules}
 use Rattle.raft_headline.specs.ClusterEvent.{ClusterEvent, AddGroup, Ask, Deliver, ResetPeer, Clean, Crash, Reopen, Halt, ClusterOutcome, Done}
 use Rattle.raft_headline.specs.ClusterEvent.{Opened, Refused, Stopped, Fused, PassedOver, TurnedAway, Recorded, Said, Told, said_of, silent}
-use Rattle.raft_headline.specs.Machines.{Replicas, list_answer, new_replicas}
+use Rattle.raft_node.specs.Fold.{answer_at}
+use Rattle.raft_headline.specs.Machines.{Replicas, new_replicas}
 use Rattle.raft_headline.specs.OwnEvents.{own_events, own_number}
 use Rattle.raft_headline.specs.Replaying.{ReplaysWith}
 
@@ -128,7 +129,7 @@ pub record IsToldRightly (rules : MachineRules) (ids : List ℕ) (h : ℕ) (hist
   pub stands : slice_get list t.place ≡ Some entry
   pub origin : IsOriginOf ids h history numbers number entry
   pub token : token_of_call origin.asked ≡ t.token ∷ []
-  pub answer : t.answer ≡ list_answer rules list t.place
+  pub answer : t.answer ≡ answer_at rules list t.place
 
 -- so it is with all that is told, for all numbers of stops with which the history replays
 abbrev pub ToldStand : MachineRules → List ℕ → ℕ → List Recorded → Replicas → Type 0

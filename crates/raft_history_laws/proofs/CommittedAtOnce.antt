@@ -1,13 +1,11 @@
 -- A leader has committed what a quorum has accepted of its own, along every history, and no token waits there.
-use Rattle.std.specs.Prelude.{◌≡◌, ℕ, ◌-◌, ◌<◌, ◌≤◌, Bool, true, false, List, ◌++◌, length, slice_get, Option, Some, None, refl}
-use Rattle.std.proofs.Common.{sym, ap, ◌∙◌, subst, arith, ⊎_elim, le-leb}
-use Rattle.std.proofs.lemmas.Bool.{cases_lt}
+use Rattle.std.specs.Prelude.{◌≡◌, ℕ, ◌-◌, ◌<◌, Bool, true, false, List, ◌++◌, length, slice_get, Option, Some, None, refl}
+use Rattle.std.proofs.Common.{sym, ap, ◌∙◌, subst, arith, ⊎_elim}
 use Rattle.raft_group_step.specs.Values.{Membership, is_written_by}
 use Rattle.raft_group_step.specs.StoredGroup.{StoredGroup, entry_at, first_place, held}
 use Rattle.raft_group_step.specs.GroupState.{GroupState, Lead, Role, Follower, Candidate, Leader, Untold, is_leader, no_group, state_of}
 use Rattle.raft_group_step.specs.GroupEvent.{GroupEvent, Open}
 use Rattle.raft_group_step.specs.StepResult.{RefusalReason, StepResult, is_within}
-use Rattle.raft_group_step.specs.SnapshotRequest.{place_above}
 use Rattle.raft_group_step.specs.Lead.{configs_in_force}
 use Rattle.raft_group_step.specs.Refusal.{refusal_of}
 use Rattle.raft_group_step.specs.GroupStep.{event_step, group_step, step_unless}
@@ -28,6 +26,7 @@ use Rattle.raft_laws.proofs.StepOpening.{opening_ends}
 use Rattle.raft_laws.proofs.TrackElections.{Ends, configs_are}
 use Rattle.raft_laws.proofs.VoteRanks.{leader_eq_from}
 use Rattle.raft_laws.proofs.WorldStart.{founded}
+use Rattle.raft_laws.proofs.FreshEntries.{without_is}
 use Rattle.raft_step_laws.specs.Commits.{CommitsAll, PurgeKeepsVoters, has_quorum_at}
 use Rattle.raft_step_laws.specs.Fitting.{IsCommittedWithin}
 use Rattle.raft_step_laws.proofs.Committing.{commits_at_once}
@@ -128,19 +127,10 @@ leaders_commit ids rs end h n s lead up leads =
 
 -- ---- no token waits for what is committed
 
--- what is below the committed place is within it
-within_above : (c : Option ℕ) (place : ℕ) → is_within place c ≡ false → place_above c ≤ place
-within_above None place f = omega arith
-within_above (Some b) place f =
-    ⊎_elim
-    (λ l. omega arith)
-    (λ l. let t = le-leb place b l in absurd (let no : true ≡ false = sym t ∙ f in cc))
-    (cases_lt b place)
-
 pub waiting_entry : {m : Membership} (b : BallotWorld) (own : ℕ) (s : GroupState) (x : Untold) → UpFits m (b.node own) s → IsCommittedWithin s → (i : IsWaiting s x) → entry_at s.stored x.place ≡ Some i.entry
 waiting_entry b own s x u within i =
     let begins = within.begins in
-    let above = within_above s.committed x.place i.above in
+    let above = without_is s.committed x.place i.above in
     joined_at s.stored u.list u.joined x.place (omega arith)
     ∙ ap (λ l. slice_get l x.place) (sym (joined_held s.stored u.list u.joined))
     ∙ i.stands

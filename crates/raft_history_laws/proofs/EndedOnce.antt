@@ -1,5 +1,5 @@
 -- Each token of a ledger was brought by its event, and ends once.
-use Rattle.std.specs.Prelude.{◌≡◌, ◌⊎◌, ℕ, zero, suc, ◌+◌, ◌-◌, ◌<◌, ◌≤◌, cond, not, Bool, true, false, List, [], ◌∷◌, ◌++◌, filter, length, slice_get, take, Option, Some, None, Contains, refl}
+use Rattle.std.specs.Prelude.{◌≡◌, ◌⊎◌, ℕ, zero, suc, ◌+◌, ◌-◌, ◌<◌, ◌≤◌, cond, not, Bool, true, false, List, [], ◌∷◌, ◌++◌, filter, length, slice_get, take, Option, Some, None, refl}
 use Rattle.std.proofs.Common.{inl, inr, sym, ap, ◌∙◌, subst, arith, ⊎_elim, length-take-le}
 use Rattle.std.proofs.lemmas.Bool.{cases_eq, cases_order}
 use Rattle.std.proofs.lemmas.List.{take-append-le}
@@ -20,14 +20,13 @@ use Rattle.raft_laws.specs.GroupRun.{Scene, Nowhere, At, group_run, is_same_setu
 use Rattle.raft_laws.specs.Stop.{token_of_call}
 use Rattle.raft_laws.specs.Origins.{Events, world_before}
 use Rattle.raft_laws.proofs.BallotAgreement.{some_at, slice_get-append, with_value_cases, with_value_other}
-use Rattle.raft_laws.proofs.BallotSafe.{Among, among_at}
-use Rattle.raft_laws.proofs.Counts.{among_contains, contains_at}
+use Rattle.raft_laws.proofs.BallotSafe.{Among}
+use Rattle.raft_laws.proofs.Counts.{among_contains, among_behind, among_front, contains_among}
 use Rattle.raft_laws.proofs.WorldOrigins.{event_at, world_at}
 use Rattle.raft_laws.proofs.WorldRuns.{among_either}
 use Rattle.raft_step_laws.specs.Tokens.{brought, tokens_at}
 use Rattle.raft_history_laws.specs.TokenEnds.{EndsAt, IsBrought, Ledger, Numbered, TokensEndOnce, WaitingWereBrought, at_stake, brings, brought_unless, has_place, ledger_behind, ledger_of, numbered, that_ended, that_wait, untold_in}
 use Rattle.raft_history_laws.proofs.LastNoted.{take_one_more, world_behind}
-use Rattle.raft_history_laws.proofs.Notes.{among_behind}
 use Rattle.raft_history_laws.proofs.RunLedgers.{along_runs, ledger_more}
 
 -- ---- members of filtered lists
@@ -47,13 +46,6 @@ filter_among p (y ∷ xs) x a t = go (p y) refl (λ b. filter_among p xs x b t)
     go : (b : Bool) → p y ≡ b → (Among x xs → Among x (filter p xs)) → Among x (cond b (y ∷ filter p xs) (filter p xs))
     go true e rest = ⊎_elim (λ same. inl same) (λ b. inr (rest b)) a
     go false e rest = ⊎_elim (λ same. absurd (let f : true ≡ false = sym t ∙ ap p same ∙ e in cc)) (λ b. rest b) a
-
-among_front : {A : Type 0} (x : A) (xs ys : List A) → Among x xs → Among x (xs ++ ys)
-among_front x [] ys a = absurd a
-among_front x (z ∷ xs) ys a = ⊎_elim (λ e. inl e) (λ b. inr (among_front x xs ys b)) a
-
-contains_among : {A : Type 0} (xs : List A) (x : A) → Contains xs x → Among x xs
-contains_among xs x c = let k = contains_at xs x c in among_at xs k.0 x k.1
 
 -- a token waits on or has ended
 waits_or_ended : (state : NodeState) (ws : List Numbered) (x : Numbered) → Among x ws → Among x (that_wait state ws) ⊎ Among x (that_ended state ws)

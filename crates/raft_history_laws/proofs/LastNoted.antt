@@ -31,11 +31,11 @@ use Rattle.raft_laws.specs.Stop.{token_of_call}
 use Rattle.raft_laws.proofs.WorldTold.{run_both, told_tokens_stand}
 use Rattle.raft_laws.proofs.WorldStart.{Founded, founded}
 use Rattle.raft_laws.proofs.HeldLists.{at_node}
+use Rattle.raft_laws.proofs.Numbers.{state_here}
 use Rattle.raft_history_laws.specs.NotedIds.{ToldHaveOrigins, IsNotedAt, OriginIsLast, is_noted, next_id}
 use Rattle.raft_history_laws.proofs.Later.{BothMatch, both_match}
 use Rattle.raft_history_laws.proofs.LeaderLists.{leader_vote, stored_lead}
 use Rattle.raft_history_laws.proofs.NotedIds.{leads_all, taken_leads}
-use Rattle.raft_history_laws.proofs.Notes.{state_here}
 use Rattle.raft_history_laws.proofs.TakenEntries.{HoldsMore, stopped_holds, whole_holds}
 
 -- ---- runs, cut behind an event

@@ -1,7 +1,7 @@
 -- A peer by the events of a lead: one event more, and what it has answered.
 use Rattle.std.specs.Prelude.{◌≡◌, ℕ, ◌≤◌, ◌==◌, ◌&&◌, ◌||◌, cond, nat_le, Bool, true, false, List, [], ◌∷◌, ◌++◌, Option, Some, None, refl}
 use Rattle.std.proofs.Common.{sym, ap, ap₂, ◌∙◌, arith, append_assoc, append-nil, leb-true, le-leb}
-use Rattle.std.proofs.lemmas.Bool.{and_parts, cond_both}
+use Rattle.std.proofs.lemmas.Bool.{and_parts, cond_both, and_right}
 use Rattle.raft_values.specs.declared.log_id.LogId.{LogId}
 use Rattle.raft_values.specs.declared.vote.Vote.{Vote}
 use Rattle.raft_values.specs.LogId.{next_place}
@@ -13,7 +13,6 @@ use Rattle.raft_group_step.specs.GroupEvent.{GroupEvent, AddGroup, Call, Receive
 use Rattle.raft_group_step.specs.Reply.{after_answer, ended}
 use Rattle.raft_step_laws.specs.Commits.{reaches}
 use Rattle.raft_step_laws.specs.PeerStates.{loses, peer_after_event, peer_after_message, peer_after_reply, peer_after_sending}
-use Rattle.raft_step_laws.proofs.Electing.{and_false}
 use Rattle.raft_step_laws.proofs.PeerLists.{cond_same}
 use Rattle.raft_history_laws.specs.KnownPeers.{accepted_by_event, accepted_by_message, accepted_by_reply, accepted_in, answered_in, one_reaches, peer_after_lead}
 use Rattle.raft_history_laws.specs.Leads.{LeadEvent}
@@ -63,7 +62,7 @@ answered_more s (y ∷ ys) x p =
 
 reply_unmoved : (v : Vote ℕ) (reply : ReplyFields) (b n : ℕ) → peer_after_reply v reply (new_peer b n) ≡ new_peer b n
 reply_unmoved v reply b n =
-    ap (λ t. cond t (after_answer (new_peer b n) reply reply.outcome) (new_peer b n)) (and_false (vote_eq reply.vote v))
+    ap (λ t. cond t (after_answer (new_peer b n) reply reply.outcome) (new_peer b n)) (and_right (vote_eq reply.vote v) false refl)
 
 message_unmoved : (v : Vote ℕ) (m : MessageBody) (b n : ℕ) → peer_after_message v m (new_peer b n) ≡ new_peer b n
 message_unmoved v (VoteRequest w last) b n = refl
@@ -83,7 +82,7 @@ new_unmoved s Open b n = refl
 
 reply_accepts_none : (v : Vote ℕ) (reply : ReplyFields) (b n : ℕ) → accepted_by_reply v reply (new_peer b n) ≡ []
 reply_accepts_none v reply b n =
-    ap (λ t. cond t (accepted_in reply.outcome reply.last) []) (and_false (vote_eq reply.vote v))
+    ap (λ t. cond t (accepted_in reply.outcome reply.last) []) (and_right (vote_eq reply.vote v) false refl)
 
 message_accepts_none : (v : Vote ℕ) (m : MessageBody) (b n : ℕ) → accepted_by_message v m (new_peer b n) ≡ []
 message_accepts_none v (VoteRequest w last) b n = refl

@@ -14,10 +14,10 @@ use Rattle.raft_laws.specs.GroupWorld.{GroupWorld, NodeState, Absent, Up, Down, 
 use Rattle.raft_laws.specs.GroupRun.{Replays, happens}
 use Rattle.raft_laws.specs.VotesRise.{stored_of}
 use Rattle.raft_laws.specs.OneList.{AreNodeIds}
-use Rattle.raft_laws.proofs.BallotAgreement.{same_some}
+use Rattle.raft_laws.proofs.BallotAgreement.{same_some, slice_get-append}
 use Rattle.raft_laws.proofs.BallotSafe.{Among, among_at}
 use Rattle.raft_laws.proofs.VoteRanks.{owner_is}
-use Rattle.raft_laws.proofs.Shapes.{slice_after, slice_before}
+use Rattle.raft_laws.proofs.Shapes.{slice_after}
 use Rattle.raft_laws.proofs.Standing.{OwnVote, RoleFits}
 use Rattle.raft_laws.proofs.StepFits.{NodeFits, world_after}
 use Rattle.raft_laws.proofs.WorldFits.{LedFits, NodeStateFits, WorldFits, after_safe, lead_list}
@@ -78,7 +78,7 @@ module _ (ids : List ℕ) (small : AreNodeIds ids) where
       let first : slice_get (w.led ++ note_of x.node x.state ∷ []) i ≡ Some early = ap (λ ls. slice_get ls i) (sym x.led) ∙ p in
       let second : slice_get (w.led ++ note_of x.node x.state ∷ []) j ≡ Some late = ap (λ ls. slice_get ls j) (sym x.led) ∙ q in
       ⊎_elim
-      (λ l. g i j early late le (sym (slice_before w.led (note_of x.node x.state ∷ []) i (omega arith)) ∙ first) (sym (slice_before w.led (note_of x.node x.state ∷ []) j l) ∙ second) same)
+      (λ l. g i j early late le (sym (slice_get-append w.led (note_of x.node x.state ∷ []) i (omega arith)) ∙ first) (sym (slice_get-append w.led (note_of x.node x.state ∷ []) j l) ∙ second) same)
       (λ l.
       let is : late ≡ note_of x.node x.state = last_is w.led (note_of x.node x.state) late j l second in
       subst (λ (y : Led). AgreeBelow (length early.list) early.list y.list) (sym is)

@@ -1,20 +1,16 @@
 -- The note that an event leaves.
-use Rattle.std.specs.Prelude.{List, ◌≡◌, ◌⊎◌, ℕ, [], ◌∷◌, ◌++◌, Option, refl}
-use Rattle.std.proofs.Common.{inl, inr, ap, ◌∙◌, eq-eqb, append-nil}
+use Rattle.std.specs.Prelude.{◌≡◌, ◌⊎◌, ℕ, [], ◌∷◌, ◌++◌, Option, refl}
+use Rattle.std.proofs.Common.{inl, inr, ◌∙◌, append-nil}
 use Rattle.raft_group_step.specs.StoredGroup.{held}
 use Rattle.raft_group_step.specs.GroupState.{GroupState, Lead, Role, Follower, Candidate, Leader}
-use Rattle.raft_laws.proofs.BallotSafe.{Among}
 use Rattle.raft_laws.specs.declared.world_event.WorldEvent.{WorldEvent}
-use Rattle.raft_laws.specs.GroupWorld.{GroupWorld, NodeState, Absent, Up, Down, Led, Outcome, Done, Refused, Stopped, Skipped, is_stop, state_or, with_node_state}
+use Rattle.raft_laws.specs.GroupWorld.{GroupWorld, NodeState, Absent, Up, Down, Led, Outcome, Done, Refused, Stopped, Skipped, is_stop}
 use Rattle.raft_laws.specs.NodeEvent.{state_after}
 use Rattle.raft_laws.specs.GroupRun.{Scene, Nowhere, At, after_scene, happens, led_after, led_as, led_by, scene_of, stop_at}
+use Rattle.raft_laws.proofs.Numbers.{state_here}
 
 abbrev pub note_of : ℕ → GroupState → Led
 note_of n s = record { node = n; vote = s.stored.vote; list = held s.stored }
-
-pub among_behind : {A : Type 0} (x : A) (xs ys : List A) → Among x ys → Among x (xs ++ ys)
-among_behind x [] ys a = a
-among_behind x (z ∷ xs) ys a = inr (among_behind x xs ys a)
 
 -- the note is of a node that leads
 pub record NewNote (w w' : GroupWorld) : Type 0 where
@@ -27,10 +23,6 @@ pub record NewNote (w w' : GroupWorld) : Type 0 where
 
 abbrev pub Notes : GroupWorld → GroupWorld → Type 0
 Notes w w' = (w'.led ≡ w.led) ⊎ NewNote w w'
-
--- the acting node's state after the event
-pub state_here : (n : ℕ) (state : NodeState) (nodes : ℕ → NodeState) → with_node_state n state nodes n ≡ state
-state_here n state nodes = ap (λ b. state_or b state (nodes n)) (eq-eqb n n refl)
 
 module _ (w w' : GroupWorld) (n : ℕ) where
   of_role : (s : GroupState) → w'.nodes n ≡ Up s → (role : Role) → s.role ≡ role → w'.led ≡ w.led ++ led_as n s role → Notes w w'

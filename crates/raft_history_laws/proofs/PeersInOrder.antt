@@ -17,12 +17,11 @@ use Rattle.raft_group_step.specs.StepResult.{StepResult, send}
 use Rattle.raft_group_step.specs.Lead.{peer_of}
 use Rattle.raft_group_step.specs.Frames.{entries_in_request, lacks_entries, notice, request_start, send_entries, send_request, send_snapshot, serve, serve_all, serve_as, waiting}
 use Rattle.raft_group_step.specs.Reply.{after_answer, ended, search_after}
-use Rattle.raft_laws.proofs.Shapes.{slice_taken}
 use Rattle.raft_laws.proofs.StepWords.{either, either_by}
 use Rattle.raft_laws.proofs.TrackReplies.{peer_of_is}
 use Rattle.raft_step_laws.specs.Fitting.{ArePlacedFrom, FitsStored}
 use Rattle.raft_step_laws.specs.PeerStates.{loses, peer_after_event, peer_after_message, peer_after_reply}
-use Rattle.raft_step_laws.proofs.FitWords.{StandFrom, before_next, placed_drop, placed_stand}
+use Rattle.raft_step_laws.proofs.FitWords.{StandFrom, before_next, placed_drop, placed_stand, placed_take}
 use Rattle.raft_step_laws.proofs.LeaderSends.{same_lead}
 use Rattle.raft_step_laws.proofs.PeerLists.{set_found, set_others}
 
@@ -173,9 +172,6 @@ CoversFront st = (x : Snapshot) → st.snapshot ≡ Some x → (first_place st �
 half_within : (n : ℕ) → n / 16 * 8 ≤ n
 half_within n = omega arith
 
-placed_front : (k start : ℕ) (es : List Entry) → ArePlacedFrom start es → ArePlacedFrom start (take k es)
-placed_front k start es h i e at = h i e (slice_taken k es i e at)
-
 -- of each of its peers
 abbrev pub AllInOrder : StoredGroup → Lead → Type 0
 AllInOrder st lead = (n : ℕ) → IsInOrder (end_place st) (peer_of lead n)
@@ -215,7 +211,7 @@ module _ (own : ℕ) (lead : Lead) (n : ℕ) (r : StepResult) (is : r.state.role
       let high : start ≤ end_place st = omega arith in
       let before : next_place (id_before st start) ≡ start = before_next st fits start low high in
       let from : first_place st + k ≡ start = omega arith in
-      let placed : ArePlacedFrom start es = placed_front 64 start (drop k st.log) (subst (λ i. ArePlacedFrom i (drop k st.log)) from (placed_drop k (first_place st) st.log fits.placed)) in
+      let placed : ArePlacedFrom start es = placed_take 64 start (drop k st.log) (subst (λ i. ArePlacedFrom i (drop k st.log)) from (placed_drop k (first_place st) st.log fits.placed)) in
       let last = last_of (id_before st start) start es before (placed_stand start es placed) in
       let size = length-take 64 (drop k st.log) in
       let rest = length-drop k st.log in

@@ -18,11 +18,11 @@ use Rattle.raft_laws.proofs.StepFits.{world_after}
 use Rattle.raft_laws.proofs.WorldOrigins.{run_more}
 use Rattle.raft_laws.proofs.WorldRuns.{MayTakePlace}
 use Rattle.raft_laws.proofs.WorldSteps.{MayHappen}
+use Rattle.raft_laws.proofs.Numbers.{state_here}
 use Rattle.raft_history_laws.specs.TokenEnds.{EndsAreNamed, Ledger, LedgersHaveTheUntold, NamesUnlessCrash, Numbered, at_stake, brings, ledger_behind, ledger_from, ledger_of, that_ended, that_wait, untold_in, untolds}
 use Rattle.raft_history_laws.proofs.AlongNodes.{MayFollow, may_follow}
 use Rattle.raft_history_laws.proofs.LastNoted.{world_behind}
 use Rattle.raft_history_laws.proofs.NodeLedgers.{NodeLedger, node_ledger}
-use Rattle.raft_history_laws.proofs.Notes.{state_here}
 use Rattle.raft_history_laws.proofs.WaitingTokens.{node_waits}
 
 -- ---- runs, event by event

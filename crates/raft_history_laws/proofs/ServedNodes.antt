@@ -18,13 +18,13 @@ use Rattle.raft_laws.proofs.StepFits.{NodeFits, world_after}
 use Rattle.raft_laws.proofs.StepMoments.{step_goes}
 use Rattle.raft_laws.proofs.WorldFits.{NodeStateFits}
 use Rattle.raft_laws.proofs.WorldStart.{founded}
+use Rattle.raft_laws.proofs.Numbers.{state_here}
 use Rattle.raft_step_laws.specs.Serving.{IsSent, waited_for}
 use Rattle.raft_step_laws.specs.Tokens.{HasItsOwnVote}
 use Rattle.raft_step_laws.proofs.Served.{peers_served}
 use Rattle.raft_history_laws.specs.ServedPeers.{LackingAreSent, LacksEntries, LeadersServe, ServesPeers, waited_in}
 use Rattle.raft_history_laws.proofs.AlongNodes.{NodesKeep, along_nodes}
 use Rattle.raft_history_laws.proofs.NodeLedgers.{own_vote}
-use Rattle.raft_history_laws.proofs.Notes.{state_here}
 
 -- a candidate's and a leader's vote is its own
 pub has_own_vote : (m : Membership) (b : BallotWorld) (n : ℕ) (s : GroupState) → NodeFits m b n s → HasItsOwnVote n s

@@ -1,11 +1,11 @@
 -- A leader tells tokens of what it commits in the same step, by an entry of its own that a quorum has accepted.
-use Rattle.std.specs.Prelude.{◌≡◌, ℕ, zero, suc, ◌+◌, ◌<◌, ◌≤◌, ◌^◌, Bool, true, false, List, [], ◌++◌, filter, length, take, slice_get, Option, Some, None, Contains, is_some, refl}
+use Rattle.std.specs.Prelude.{◌≡◌, ℕ, ◌+◌, ◌<◌, ◌≤◌, ◌^◌, Bool, true, false, List, [], ◌++◌, filter, length, slice_get, Option, Some, None, Contains, is_some, refl}
 use Rattle.std.proofs.Common.{sym, ap, ◌∙◌, subst, arith, ⊎_elim, leb-true, le-leb}
 use Rattle.raft_values.specs.declared.log_id.LogId.{LogId}
 use Rattle.raft_values.specs.declared.vote.Vote.{Vote}
 use Rattle.raft_quorums.specs.Quorum.{is_quorum as is_quorum_of}
 use Rattle.raft_group_step.specs.Values.{Entry, Membership}
-use Rattle.raft_group_step.specs.StoredGroup.{StoredGroup, StoringCommand, after_storing_all, end_place, held}
+use Rattle.raft_group_step.specs.StoredGroup.{StoredGroup, end_place, held}
 use Rattle.raft_group_step.specs.GroupState.{GroupState, Role, Follower, Candidate, Leader, Untold, is_leader}
 use Rattle.raft_group_step.specs.GroupEvent.{GroupEvent}
 use Rattle.raft_group_step.specs.StepResult.{StepResult, is_within}
@@ -24,6 +24,7 @@ use Rattle.raft_laws.proofs.StepTold.{ToldFits}
 use Rattle.raft_laws.proofs.StepWishes.{Wished}
 use Rattle.raft_laws.proofs.Tracking.{MayStop, Tracks}
 use Rattle.raft_laws.proofs.TrackElections.{Ends}
+use Rattle.raft_laws.proofs.WorldSteps.{store_none}
 use Rattle.raft_history_laws.specs.WaitingTokens.{IsWaiting}
 use Rattle.raft_history_laws.proofs.StepEnds.{finished_held, finished_vote}
 use Rattle.raft_history_laws.proofs.StepLeads.{began_of}
@@ -46,10 +47,6 @@ leads_by Follower = refl
 leads_by (Candidate granters) = refl
 leads_by (Leader lead) = refl
 
-no_command : (k : ℕ) (st : StoredGroup) → after_storing_all (take k (let cs : List StoringCommand = [] in cs)) st ≡ st
-no_command zero st = refl
-no_command (suc k) st = refl
-
 -- ---- the step of a leader, as if nothing had been stored and sent before
 
 abbrev afresh : StepResult → StepResult
@@ -60,7 +57,7 @@ fresh_tracks {m} {some} {own} {before} {base} {w} r t =
     record {
       reached = record { events = t.reached.events; by = t.reached.by; is = t.reached.is };
       stops = λ k.
-          subst (MayStop m some own before r.state.stored) (sym (no_command k r.state.stored))
+          subst (MayStop m some own before r.state.stored) (sym (store_none k r.state.stored))
           (record {
             world = w;
             reached = record { events = t.reached.events; by = t.reached.by; is = t.reached.is };

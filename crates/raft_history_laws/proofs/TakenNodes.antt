@@ -27,13 +27,13 @@ use Rattle.raft_laws.proofs.StepDispatch.{event_ends, step_fits}
 use Rattle.raft_laws.proofs.StepFits.{NodeFits, StepEnd, world_after}
 use Rattle.raft_laws.proofs.StepOrder.{step-keeps}
 use Rattle.raft_laws.proofs.WorldStart.{founded}
+use Rattle.raft_laws.proofs.Numbers.{state_here}
 use Rattle.raft_step_laws.specs.Taking.{StoresNext, is_removal}
 use Rattle.raft_step_laws.proofs.Proposing.{leaders_take, proposals_stored, put_stands}
 use Rattle.raft_step_laws.proofs.Sending.{finished_adds, idle_end}
 use Rattle.raft_history_laws.specs.TakenCommands.{HasTaken, LeadersTakeCommands, ProposalsAreTaken, Takes}
 use Rattle.raft_history_laws.proofs.AlongNodes.{NodesKeep, along_nodes}
 use Rattle.raft_history_laws.proofs.CommittedAtOnce.{node_then}
-use Rattle.raft_history_laws.proofs.Notes.{state_here}
 use Rattle.raft_history_laws.proofs.StepEnds.{finished_held, finished_vote}
 use Rattle.raft_history_laws.proofs.EndedOnce.{no_setup}
 

@@ -33,9 +33,11 @@ use Rattle.raft_laws.proofs.WorldLimits.{NodeLimits, SceneKnown, WorldLimits, re
 use Rattle.raft_laws.proofs.WorldStart.{founded}
 use Rattle.raft_laws.proofs.WorldSteps.{MayCome, MayHappen}
 use Rattle.raft_laws.proofs.WorldRuns.{MayTakePlace}
+use Rattle.raft_laws.proofs.Numbers.{state_here}
+use Rattle.raft_laws.proofs.Counts.{among_behind}
 use Rattle.raft_history_laws.specs.ToldAnswers.{IsToldUnder, LeadersHoldTold, SettledUnderStays, ToldIsSettledUnder}
 use Rattle.raft_history_laws.proofs.AlongNodes.{MayFollow, may_follow}
-use Rattle.raft_history_laws.proofs.Notes.{among_behind, note_of, state_here}
+use Rattle.raft_history_laws.proofs.Notes.{note_of}
 use Rattle.raft_history_laws.proofs.SettledNotes.{settled_still, settled_up_to}
 use Rattle.raft_history_laws.proofs.StepCommitted.{CommitsUpTo, told_commits}
 use Rattle.raft_history_laws.proofs.StepWaits.{due, finished_quiet, opening_without}

@@ -6,6 +6,7 @@ use Rattle.std.proofs.Common.{sym, ap, ◌∙◌, arith, get_or, Bor}
 use Rattle.std.proofs.lemmas.Option.{slice_get_read, slice_get_past}
 use Rattle.std.proofs.lemmas.Bool.Decides.{nat_tests}
 use Rattle.std.proofs.lemmas.List.Folds.{list_any-append}
+use Rattle.std.proofs.lemmas.Bool.{and_right}
 use Rattle.raft_values.specs.declared.vote.LeaderId.{LeaderId}
 use Rattle.raft_values.specs.declared.log_id.LogId.{LogId}
 use Rattle.raft_values.specs.LogId.{next_place}
@@ -90,10 +91,6 @@ and_true : (b c : Bool) → c ≡ true → (b && c) ≡ b
 and_true false c e = refl
 and_true true c e = e
 
-and_false : (b c : Bool) → c ≡ false → (b && c) ≡ false
-and_false false c e = refl
-and_false true c e = e
-
 -- all entries of a placed log are at its first place or above it
 entries_of : (leader : LeaderId ℕ) (start place : ℕ) (es : List Entry) → ArePlaced place es → start ≤ place → list_any (is_of_leader_from leader start) (entry_ids es) ≡ list_any (is_written_by leader) es
 entries_of leader start place [] p l = refl
@@ -106,7 +103,7 @@ written_parts : (leader : LeaderId ℕ) (purged_id : Option (LogId ℕ)) (log : 
 written_parts leader None log p = entries_of leader 0 0 log p (omega arith)
 written_parts leader (Some id) log p =
     let below : nat_le (id.index + 1) id.index ≡ false = grind (arith, nat_tests) in
-    ap (λ b. b || list_any (is_of_leader_from leader (id.index + 1)) (entry_ids log)) (and_false (leader_eq id.leader_id leader) (nat_le (id.index + 1) id.index) below)
+    ap (λ b. b || list_any (is_of_leader_from leader (id.index + 1)) (entry_ids log)) (and_right (leader_eq id.leader_id leader) (nat_le (id.index + 1) id.index) below)
     ∙ entries_of leader (id.index + 1) (id.index + 1) log p (omega arith)
 
 -- the leader's log ids from the first place on are those of its entries in the log

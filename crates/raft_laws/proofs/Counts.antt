@@ -1,12 +1,12 @@
 -- Tests over lists, the count up to the last that passes, and the longest of some lists.
-use Rattle.std.specs.Prelude.{◌≡◌, ◌⊎◌, ℕ, zero, suc, ◌+◌, ◌<◌, ◌≤◌, nat_lt, if◌then◌else◌, Bool, true, false, List, [], ◌∷◌, length, map, fold, slice_get, Some, None, Contains, refl}
+use Rattle.std.specs.Prelude.{◌≡◌, ◌⊎◌, ℕ, zero, suc, ◌+◌, ◌<◌, ◌≤◌, nat_lt, if◌then◌else◌, Bool, true, false, List, [], ◌∷◌, ◌++◌, length, map, fold, slice_get, Some, None, Contains, refl}
 use Rattle.std.specs.List.{list_any}
 use Rattle.std.proofs.Common.{inl, inr, sym, ap, ◌∙◌, arith, ⊎_elim, ltb-true, ltb-false}
 use Rattle.std.proofs.lemmas.Bool.{or_cases, or_left, or_right}
 use Rattle.raft_group_step.specs.Values.{Entry}
 use Rattle.raft_laws.specs.Settled.{count_to_last, longer}
 use Rattle.raft_laws.proofs.BallotAgreement.{same_some}
-use Rattle.raft_laws.proofs.BallotSafe.{Among}
+use Rattle.raft_laws.proofs.BallotSafe.{Among, among_at}
 
 -- one of them passes
 pub any_among : {A : Type 0} (p : A → Bool) (xs : List A) → list_any p xs ≡ true → (x : A) × Among x xs × (p x ≡ true)
@@ -37,6 +37,15 @@ pub map_among : {A B : Type 0} (f : A → B) (xs : List A) (x : A) → Among x x
 map_among f [] x h = absurd h
 map_among f (y ∷ ys) x h = ⊎_elim (λ e. inl (ap f e)) (λ a. inr (map_among f ys x a)) h
 
+-- what is among one of two lists is among both of them together
+pub among_front : {A : Type 0} (x : A) (xs ys : List A) → Among x xs → Among x (xs ++ ys)
+among_front x [] ys h = absurd h
+among_front x (z ∷ xs) ys h = ⊎_elim (λ e. inl e) (λ a. inr (among_front x xs ys a)) h
+
+pub among_behind : {A : Type 0} (x : A) (xs ys : List A) → Among x ys → Among x (xs ++ ys)
+among_behind x [] ys a = a
+among_behind x (z ∷ xs) ys a = inr (among_behind x xs ys a)
+
 -- an entry is contained where it stands at some place
 pub contains_at : {A : Type 0} (xs : List A) (x : A) → Contains xs x → (k : ℕ) × (slice_get xs k ≡ Some x)
 contains_at [] x h = absurd (let l = h.1 in omega arith)
@@ -47,6 +56,9 @@ pub at_contains : {A : Type 0} (xs : List A) (x : A) (k : ℕ) → slice_get xs 
 at_contains [] x k e = absurd (let f : None ≡ Some x = e in cc)
 at_contains (y ∷ ys) x zero e = (0, omega arith, same_some e)
 at_contains (y ∷ ys) x (suc k) e = let r = at_contains ys x k e in (suc r.0, omega (arith, r.1), r.2)
+
+pub contains_among : {A : Type 0} (xs : List A) (x : A) → Contains xs x → Among x xs
+contains_among xs x c = let k = contains_at xs x c in among_at xs k.0 x k.1
 
 pub among_contains : {A : Type 0} (xs : List A) (x : A) → Among x xs → Contains xs x
 among_contains [] x h = absurd h

@@ -1,5 +1,5 @@
 -- The group's list has just the settled entries, and only grows.
-use Rattle.std.specs.Prelude.{◌≡◌, ◌⊎◌, ℕ, zero, suc, ◌<◌, ◌≤◌, ◌*◌, ◌&&◌, ◌==◌, nat_lt, Bool, true, List, [], ◌∷◌, ◌++◌, count_by, length, map, take, slice_get, Option, Some, None, Contains, refl}
+use Rattle.std.specs.Prelude.{◌≡◌, ◌⊎◌, ℕ, zero, suc, ◌<◌, ◌≤◌, ◌*◌, ◌&&◌, ◌==◌, nat_lt, Bool, true, List, [], ◌∷◌, count_by, length, map, take, slice_get, Option, Some, None, Contains, refl}
 use Rattle.std.specs.List.{list_any}
 use Rattle.std.proofs.Common.{inl, inr, sym, ap, ◌∙◌, subst, arith, ⊎_elim}
 use Rattle.std.proofs.lemmas.Bool.{and_parts, and_from, or_cases, or_left, or_right}
@@ -27,7 +27,7 @@ use Rattle.raft_laws.proofs.TrackElections.{quorum_link}
 use Rattle.raft_laws.proofs.StepFits.{world_after}
 use Rattle.raft_laws.proofs.WorldRuns.{setup_stays}
 use Rattle.raft_laws.proofs.WorldStart.{IsFounded, Founded}
-use Rattle.raft_laws.proofs.Counts.{among_any, among_contains, among_map, any_among, at_contains, contains_at, count_from, longest, map_among}
+use Rattle.raft_laws.proofs.Counts.{among_any, among_contains, among_map, any_among, at_contains, contains_at, count_from, longest, map_among, among_front}
 use Rattle.raft_laws.proofs.SettledFits.{FrontOf, front_none, fronts_agree, part_front}
 
 -- ---- in one world
@@ -93,16 +93,12 @@ pub record Goes (w w' : GroupWorld) : Type 0 where
   pub led : (l : Led) → Among l w.led → Among l w'.led
   pub setup : (x : Membership) → w.setup ≡ Some x → w'.setup ≡ Some x
 
-still : {A : Type 0} (x : A) (xs ys : List A) → Among x xs → Among x (xs ++ ys)
-still x [] ys h = absurd h
-still x (z ∷ xs) ys h = ⊎_elim (λ e. inl e) (λ a. inr (still x xs ys a)) h
-
 goes_scene : (w : GroupWorld) (e : WorldEvent) (o : Outcome) (stop : Option ℕ) (scene : Scene) → ((x : Membership) → w.setup ≡ Some x → (after_scene w e o stop scene).setup ≡ Some x) → Goes w (after_scene w e o stop scene)
 goes_scene w e o stop Nowhere s = record { messages = λ x a. a; led = λ l a. a; setup = s }
 goes_scene w e o stop (At n at_node) s =
     record {
-      messages = λ x a. still x w.messages (sent_in o) a;
-      led = λ l a. still l w.led (led_after o n (state_after n at_node stop (w.nodes n))) a;
+      messages = λ x a. among_front x w.messages (sent_in o) a;
+      led = λ l a. among_front l w.led (led_after o n (state_after n at_node stop (w.nodes n))) a;
       setup = s;
     }
 

@@ -1,11 +1,11 @@
 -- What nodes hold, as the ballot machine's logs: leaders hold what is settled, and a log id is of one entry.
-use Rattle.std.specs.Prelude.{◌≡◌, ℕ, suc, ◌-◌, ◌<◌, ◌≤◌, ◌^◌, true, false, List, [], ◌++◌, length, drop, take, slice_get, Some, None}
+use Rattle.std.specs.Prelude.{◌≡◌, ℕ, suc, ◌-◌, ◌<◌, ◌≤◌, ◌^◌, true, false, List, [], ◌++◌, length, take, slice_get, Some, None}
 use Rattle.std.proofs.Common.{sym, ap, ◌∙◌, subst, arith, ⊎_elim, append-nil, eq-eqb, lt-ltb, length-take-le}
 use Rattle.std.proofs.lemmas.Bool.{and_from}
 use Rattle.std.proofs.lemmas.Option.{slice_get_within}
 use Rattle.raft_values.specs.declared.vote.Vote.{Vote}
 use Rattle.raft_group_step.specs.Values.{Membership, Entry, vote_lt}
-use Rattle.raft_group_step.specs.StoredGroup.{StoredGroup, Holds, first_place, held, prefix_of}
+use Rattle.raft_group_step.specs.StoredGroup.{StoredGroup, Holds, held}
 use Rattle.raft_group_step.specs.GroupState.{GroupState, Role, Follower, Candidate, Leader, is_leader}
 use Rattle.raft_laws.specs.BallotLists.{AgreeBelow}
 use Rattle.raft_laws.specs.BallotLogs.{BallotEntry}
@@ -20,8 +20,7 @@ use Rattle.raft_laws.proofs.BallotSafe.{Among}
 use Rattle.raft_laws.proofs.BallotSettling.{leaders_have, one_entry}
 use Rattle.raft_laws.proofs.VoteOrders.{VoteOrder, lower, earlier, level, later, higher, vote_order, differ_flags}
 use Rattle.raft_laws.proofs.VoteRanks.{rank_below, rank_same}
-use Rattle.raft_laws.proofs.Shapes.{Good, Stale, joined_held}
-use Rattle.raft_laws.proofs.BallotAppends.{drop_past}
+use Rattle.raft_laws.proofs.Shapes.{Good, joined_held}
 use Rattle.raft_laws.proofs.Ids.{ballot_at}
 use Rattle.raft_laws.proofs.Standing.{RoleFits, StoredFits}
 use Rattle.raft_laws.proofs.StepFits.{NodeFits, world_after}
@@ -30,6 +29,7 @@ use Rattle.raft_laws.proofs.WorldStart.{IsFounded}
 use Rattle.raft_laws.proofs.Counts.{count_from}
 use Rattle.raft_laws.proofs.SettledFits.{same_lists, settled_fits}
 use Rattle.raft_laws.proofs.GroupList.{list_front, part_of, part_short}
+use Rattle.raft_laws.proofs.StepOpening.{stale_held}
 
 -- a vote that isn't below another is of no lesser ballot
 pub rank_not_below : (a b : Vote ℕ) → b.leader_id.node_id < 2 ^ 64 → vote_lt a b ≡ false → rank_of b.leader_id ≤ rank_of a.leader_id
@@ -46,12 +46,6 @@ rank_not_below a b small t = go (vote_order a b)
 pub record HoldsLog (m : Membership) (log : List BallotEntry) (st : StoredGroup) : Type 0 where
   pub good : Good m 0 (held st)
   pub is : log ≡ ballot_log (held st)
-
-stale_held : (st : StoredGroup) (xs : List Entry) → Stale st xs → held st ≡ xs
-stale_held st xs s =
-    let size : length (prefix_of st.snapshot) ≡ length xs = ap length s.front in
-    let none : drop (length (prefix_of st.snapshot) - first_place st) st.log ≡ [] = drop_past (length (prefix_of st.snapshot) - first_place st) st.log (omega (arith, s.short)) in
-    ap (λ l. prefix_of st.snapshot ++ l) none ∙ append-nil (prefix_of st.snapshot) ∙ s.front
 
 holds_as : (m : Membership) (b : BallotWorld) (n : ℕ) (st : StoredGroup) (xs : List Entry) → held st ≡ xs → StoredFits m (b.node n) st xs → HoldsLog m (b.node n).log st
 holds_as m b n st xs is f = record { good = subst (Good m 0) (sym is) f.good; is = f.log ∙ ap ballot_log (sym is) }

@@ -1,7 +1,7 @@
 -- Histories put together and taken apart, and worlds put together from their nodes.
-use Rattle.std.specs.Prelude.{◌≡◌, ◌⊎◌, ℕ, ◌==◌, Bool, true, false, List, [], ◌∷◌, ◌++◌, refl}
+use Rattle.std.specs.Prelude.{◌≡◌, ℕ, ◌==◌, List, [], ◌∷◌, ◌++◌, refl}
 use Rattle.std.proofs.Common.{ap, sym, ◌∙◌, inl, inr}
-use Rattle.std.proofs.lemmas.Bool.{eqb-false}
+use Rattle.std.proofs.lemmas.Bool.{eqb-false, cases_Bool}
 use Rattle.std.proofs.Common.{eqb-true, subst}
 use Rattle.raft_laws.specs.declared.world_event.WorldEvent.{WorldEvent}
 use Rattle.raft_laws.specs.GroupWorld.{GroupWorld, NodeState, Outcome, Recorded, is_stop, state_or, with_node_state}
@@ -28,13 +28,9 @@ histories-split (r ∷ rs) ss w end h =
     one-more r rs ss w end h.1.0 h.0
     (histories-split rs ss (happens w r.event r.outcome h.1.0) end h.1.1)
 
-which : (b : Bool) → (b ≡ true) ⊎ (b ≡ false)
-which true = inl refl
-which false = inr refl
-
 placed-at : (n : ℕ) (state : NodeState) (nodes after : ℕ → NodeState) → after n ≡ state → ((m : ℕ) → (m ≡ n → ⊥) → after m ≡ nodes m) → (m : ℕ) → with_node_state n state nodes m ≡ after m
 placed-at n state nodes after here others m =
-    elim (which (m == n)) as (λ c. with_node_state n state nodes m ≡ after m) [
+    elim (cases_Bool (m == n)) as (λ c. with_node_state n state nodes m ≡ after m) [
       | inl same ↦ ap (λ b. state_or b state (nodes m)) same
           ∙ sym here
           ∙ ap after (sym (eqb-true m n same))

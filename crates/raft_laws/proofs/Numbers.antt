@@ -1,11 +1,15 @@
 -- The number of a stop moves one node alone.
 use Rattle.std.specs.Prelude.{◌≡◌, ℕ, ◌++◌, refl}
 use Rattle.std.proofs.Common.{ap, sym, ◌∙◌}
-use Rattle.std.proofs.lemmas.Bool.{ne_eqb}
+use Rattle.std.proofs.lemmas.Bool.{eq-eqb, ne_eqb}
 use Rattle.raft_laws.specs.declared.world_event.WorldEvent.{WorldEvent}
 use Rattle.raft_laws.specs.GroupWorld.{GroupWorld, NodeState, Outcome, Done, Refused, Stopped, Skipped, is_stop, state_or, with_node_state}
 use Rattle.raft_laws.specs.GroupRun.{Scene, Nowhere, At, after_scene, ended, happens, led_after, scene_of, stop_at}
 use Rattle.raft_laws.specs.Moves.{DifferAtOneNode}
+
+-- the node that changes has its new state
+pub state_here : (n : ℕ) (state : NodeState) (nodes : ℕ → NodeState) → with_node_state n state nodes n ≡ state
+state_here n state nodes = ap (λ same. state_or same state (nodes n)) (eq-eqb n n refl)
 
 -- a node that isn't the one that changes stays
 pub other-node : (n m : ℕ) (state : NodeState) (nodes : ℕ → NodeState) → (m ≡ n → ⊥) → with_node_state n state nodes m ≡ nodes m

@@ -1,18 +1,10 @@
 -- Memberships that are equal by their test are the same.
-use Rattle.std.specs.Prelude.{◌≡◌, ℕ, nat_eq, ◌&&◌, Bool, true, false, List, [], ◌∷◌, refl}
+use Rattle.std.specs.Prelude.{◌≡◌, ℕ, nat_eq, ◌&&◌, true, List}
 use Rattle.std.specs.Cmp.Lexicographic.{pointwise}
 use Rattle.std.proofs.Common.{ap₂, eqb-true}
 use Rattle.std.proofs.lemmas.Bool.{and_parts}
 use Rattle.raft_group_step.specs.Values.{Membership, configs_eq, nodes_eq, membership_eq}
-use Rattle.raft_laws.proofs.TrackCalls.{configs_same}
-
-same_points : {A : Type 0} (eq : A → A → Bool) → ((x y : A) → eq x y ≡ true → x ≡ y) → (xs ys : List A) → pointwise eq xs ys ≡ true → xs ≡ ys
-same_points eq h [] [] t = refl
-same_points eq h [] (y ∷ ys) t = absurd (let f : false ≡ true = t in cc)
-same_points eq h (x ∷ xs) [] t = absurd (let f : false ≡ true = t in cc)
-same_points eq h (x ∷ xs) (y ∷ ys) t =
-    let p = and_parts (eq x y) (pointwise eq xs ys) t in
-    ap₂ (λ z zs. z ∷ zs) (h x y p.0) (same_points eq h xs ys p.1)
+use Rattle.raft_laws.proofs.TrackCalls.{configs_same, same_points}
 
 abbrev node-of : ℕ → List ℕ → ℕ × List ℕ
 node-of n address = (n, address)

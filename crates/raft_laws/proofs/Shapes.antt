@@ -3,11 +3,13 @@ use Rattle.std.specs.Prelude.{◌≡◌, ℕ, zero, suc, ◌+◌, ◌-◌, ◌<�
 use Rattle.std.proofs.Common.{sym, ap, ◌∙◌, arith, ⊎_elim, lt-ltb, le-ltb, length-drop, length-append, take-append-drop, take-take, length-take-le}
 use Rattle.std.proofs.lemmas.List.{drop-drop, drop-take, drop-append-le, take-append-le}
 use Rattle.std.proofs.lemmas.Bool.{cases_lt, cond-true, cond-false}
+use Rattle.std.proofs.lemmas.Option.{none-some}
 use Rattle.raft_values.specs.declared.log_id.LogId.{LogId}
 use Rattle.raft_group_step.specs.Values.{Membership}
 use Rattle.raft_group_step.specs.Values.{Entry}
 use Rattle.raft_state.specs.declared.entry.EntryPayload.TheVariants.{Membership as Members}
 use Rattle.raft_group_step.specs.StoredGroup.{StoredGroup, Snapshot, PutEntries, CutFrom, RemoveUpTo, SetSnapshot, after_storing, first_place, end_place, entry_at, prefix_of, held}
+use Rattle.raft_laws.proofs.BallotAgreement.{slice_get-append}
 
 pub slice_take : {A : Type 0} (k : ℕ) (xs : List A) (i : ℕ) → i < k → slice_get (take k xs) i ≡ slice_get xs i
 slice_take zero xs i l = absurd (omega arith)
@@ -15,11 +17,8 @@ slice_take (suc k) [] i l = refl
 slice_take (suc k) (x ∷ xs) zero l = refl
 slice_take (suc k) (x ∷ xs) (suc i) l = slice_take k xs i (omega arith)
 
-none_some : {A : Type 0} {P : Type 0} (x : A) → None ≡ Some x → P
-none_some x e = absurd (let f : None ≡ Some x = e in cc)
-
 pub slice_taken : {A : Type 0} (k : ℕ) (xs : List A) (i : ℕ) (x : A) → slice_get (take k xs) i ≡ Some x → slice_get xs i ≡ Some x
-slice_taken zero xs i x e = none_some x e
+slice_taken zero xs i x e = absurd (none-some _ e)
 slice_taken (suc k) [] i x e = e
 slice_taken (suc k) (y ∷ xs) zero x e = e
 slice_taken (suc k) (y ∷ xs) (suc i) x e = slice_taken k xs i x e
@@ -33,11 +32,6 @@ pub slice_after : {A : Type 0} (xs ys : List A) (i : ℕ) → slice_get (xs ++ y
 slice_after [] ys i = let e : 0 + i ≡ i = omega arith in ap (slice_get ys) e
 slice_after (x ∷ xs) ys i = let e : length (x ∷ xs) + i ≡ suc (length xs + i) = omega arith in ap (slice_get (x ∷ (xs ++ ys))) e ∙ slice_after xs ys i
 
-pub slice_before : {A : Type 0} (xs ys : List A) (i : ℕ) → i < length xs → slice_get (xs ++ ys) i ≡ slice_get xs i
-slice_before [] ys i l = absurd (omega arith)
-slice_before (x ∷ xs) ys zero l = refl
-slice_before (x ∷ xs) ys (suc i) l = slice_before xs ys i (omega arith)
-
 -- a stretch of the group's list from a place on: each entry has its place, a leader that is a node, and keeps the voters
 pub record Good (m : Membership) (from : ℕ) (xs : List Entry) : Type 0 where
   pub placed : (i : ℕ) (e : Entry) → slice_get xs i ≡ Some e → e.log_id.index ≡ from + i
@@ -46,7 +40,7 @@ pub record Good (m : Membership) (from : ℕ) (xs : List Entry) : Type 0 where
 
 pub good_none : (m : Membership) (from : ℕ) → Good m from []
 good_none m from =
-    record { placed = λ i e h. none_some e h; bounded = λ i e h. none_some e h; voters = λ i e x h p. none_some e h }
+    record { placed = λ i e h. absurd (none-some _ h); bounded = λ i e h. absurd (none-some _ h); voters = λ i e x h p. absurd (none-some _ h) }
 
 pub good_take : {m : Membership} {from : ℕ} {xs : List Entry} (k : ℕ) → Good m from xs → Good m from (take k xs)
 good_take {m} {from} {xs} k g =
@@ -73,7 +67,7 @@ good_append {m} {from} {xs} {ys} g h =
     }
   where
     first : (i : ℕ) (e : Entry) → i < length xs → slice_get (xs ++ ys) i ≡ Some e → slice_get xs i ≡ Some e
-    first i e l k = sym (slice_before xs ys i l) ∙ k
+    first i e l k = sym (slice_get-append xs ys i l) ∙ k
 
     second : (i : ℕ) (e : Entry) → length xs ≤ i → slice_get (xs ++ ys) i ≡ Some e → slice_get ys (i - length xs) ≡ Some e
     second i e l k =

@@ -50,7 +50,7 @@ append_none [] = refl
 append_none (x ∷ xs) = ap (λ l. x ∷ l) (append_none xs)
 
 -- a stale log adds nothing to the snapshot
-stale_held : (st : StoredGroup) (xs : List Entry) → Stale st xs → held st ≡ xs
+pub stale_held : (st : StoredGroup) (xs : List Entry) → Stale st xs → held st ≡ xs
 stale_held st xs s =
     let size = ap length s.front in
     ap (λ l. prefix_of st.snapshot ++ l) (drop_past (length (prefix_of st.snapshot) - first_place st) st.log (omega (arith, size, s.short)))

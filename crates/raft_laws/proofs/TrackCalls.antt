@@ -31,7 +31,7 @@ use Rattle.raft_laws.proofs.TrackElections.{Ends}
 use Rattle.raft_laws.proofs.TrackReplies.{peer_of_fits, with_peer_is}
 
 -- equal voter groups are the same
-same_points : {A : Type 0} (eq : A → A → Bool) → ((x y : A) → eq x y ≡ true → x ≡ y) → (xs ys : List A) → pointwise eq xs ys ≡ true → xs ≡ ys
+pub same_points : {A : Type 0} (eq : A → A → Bool) → ((x y : A) → eq x y ≡ true → x ≡ y) → (xs ys : List A) → pointwise eq xs ys ≡ true → xs ≡ ys
 same_points eq h [] [] t = refl
 same_points eq h [] (y ∷ ys) t = absurd (let f : false ≡ true = t in cc)
 same_points eq h (x ∷ xs) [] t = absurd (let f : false ≡ true = t in cc)

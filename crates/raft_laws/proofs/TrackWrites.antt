@@ -14,10 +14,10 @@ use Rattle.raft_group_step.specs.StepResult.{StepResult, append, with_stored}
 use Rattle.raft_laws.specs.BallotLogs.{BallotEntry}
 use Rattle.raft_laws.specs.BallotWorld.{BallotNode, BallotWorld, BallotEvent, WriteEntry, is_ballot_leader, written, ballot_step}
 use Rattle.raft_laws.specs.BallotRanks.{rank_of, owner_of, ballot_entry, ballot_log, ballot_group}
-use Rattle.raft_laws.proofs.BallotAgreement.{with_value_same, same_some}
+use Rattle.raft_laws.proofs.BallotAgreement.{with_value_same, same_some, slice_get-append}
 use Rattle.raft_laws.proofs.BallotOthers.{Extends}
 use Rattle.raft_laws.proofs.VoteRanks.{owner_is}
-use Rattle.raft_laws.proofs.Shapes.{Good, Joined, good_take, good_append, joined_put, joined_end, joined_held, slice_take, slice_before}
+use Rattle.raft_laws.proofs.Shapes.{Good, Joined, good_take, good_append, joined_put, joined_end, joined_held, slice_take}
 use Rattle.raft_laws.proofs.Memberships.{HasMembership, has_more}
 use Rattle.raft_laws.proofs.Standing.{StoredFits, UpFits, LeadKept, RoleFits, OwnVote, role_on}
 use Rattle.raft_laws.proofs.Tracking.{Tracks, track_event, step_extends}
@@ -26,7 +26,7 @@ use Rattle.raft_laws.proofs.Tracking.{Tracks, track_event, step_extends}
 pub below_stays : (xs ys : List Entry) (p i : ℕ) (e : Entry) → p ≤ length xs → i < p → slice_get xs i ≡ Some e → slice_get (take p xs ++ ys) i ≡ Some e
 below_stays xs ys p i e l k h =
     let size = length-take-le p xs l in
-    slice_before (take p xs) ys i (omega arith) ∙ slice_take p xs i k ∙ h
+    slice_get-append (take p xs) ys i (omega arith) ∙ slice_take p xs i k ∙ h
 
 pub purge_index : (o : Option (LogId ℕ)) (id : LogId ℕ) → o ≡ Some id → id.index + 1 ≡ next_place o
 purge_index o id e = sym (ap next_place e)

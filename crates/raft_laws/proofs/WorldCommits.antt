@@ -33,7 +33,7 @@ use Rattle.raft_laws.proofs.WorldFits.{NodeStateFits, WorldFits}
 use Rattle.raft_laws.proofs.WorldSteps.{MayHappen}
 use Rattle.raft_laws.proofs.WorldRuns.{Matches, MayTakePlace, SetUpWith, among_either, may_take_place, setup_stays}
 use Rattle.raft_laws.proofs.WorldStart.{Founded, founded, history_matches}
-use Rattle.raft_laws.proofs.Counts.{among_any, count_from}
+use Rattle.raft_laws.proofs.Counts.{among_any, count_from, among_behind}
 use Rattle.raft_laws.proofs.GroupList.{Goes, goes_on, list_grows, part_short, quorum_back}
 use Rattle.raft_laws.proofs.BallotQuorums.{quorum_more}
 use Rattle.raft_laws.proofs.TrackElections.{quorum_link}
@@ -236,10 +236,6 @@ node_still w w' goes most Absent h = tt
 node_still w w' goes most (Up s) h = record { committed = h.committed; snapshot = h.snapshot; matched = known_still w w' goes s.stored.vote s.role h.matched }
 node_still w w' goes most (Down stored) h = h
 
-later_among : {A : Type 0} (x : A) (xs ys : List A) → Among x ys → Among x (xs ++ ys)
-later_among x [] ys a = a
-later_among x (z ∷ xs) ys a = inr (later_among x xs ys a)
-
 module _ (m : Membership) (some : 0 < length m.configs) (w : GroupWorld) (limits : WorldLimits w) (before : List BallotEvent) (fits : WorldFits m (world_after m before) w) (e : WorldEvent) (k : ℕ) where
   at_after : (stopped : Bool) (n : ℕ) (at_node : NodeEvent) → MayHappen m (world_after m before) n at_node (w.nodes n) → ComesKnown w limits at_node → SceneAfter m w (ended w e (outcome_at n at_node stopped (w.nodes n)) n (state_after n at_node (stop_at stopped k) (w.nodes n)))
   at_after stopped n at_node may known =
@@ -256,7 +252,7 @@ module _ (m : Membership) (some : 0 < length m.configs) (w : GroupWorld) (limits
             (λ new. a.messages y new)
             (among_either y w.messages (sent_in o) b);
         led = led_after o n x;
-        noted = λ l b. later_among l w.led (led_after o n x) b;
+        noted = λ l b. among_behind l w.led (led_after o n x) b;
         reached = a.reached;
       }
     where

@@ -121,7 +121,7 @@ entries_were_asked_for ids es e within written =
 same_ask : (n k : ℕ) (call other : GroupCall) (now then : ℕ) → Ask n call now ≡ Ask k other then → (n ≡ k) × (call ≡ other)
 same_ask n k call other now then e = (cc, cc)
 
-same_up : (s t : GroupState) → Up s ≡ Up t → s ≡ t
+pub same_up : (s t : GroupState) → Up s ≡ Up t → s ≡ t
 same_up s t e = cc
 
 same_event : {es : Events} {w : GroupWorld} {number : ℕ} {call other : GroupCall} {x y : Entry} → IsAskedAt es w number call x → IsAskedAt es w number other y → x ≡ y

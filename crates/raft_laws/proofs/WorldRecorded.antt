@@ -1,6 +1,7 @@
 -- What an event of a run asked for stands in its history, neither refused nor skipped.
 use Rattle.std.specs.Prelude.{◌≡◌, ℕ, zero, suc, Bool, true, false, [], ◌∷◌, slice_get, Option, Some, None, is_some, refl}
 use Rattle.std.proofs.Common.{sym, ap, ◌∙◌}
+use Rattle.std.proofs.lemmas.Option.{none-some}
 use Rattle.raft_group_step.specs.GroupState.{GroupState}
 use Rattle.raft_group_step.specs.GroupEvent.{GroupEvent, Call}
 use Rattle.raft_group_step.specs.StepResult.{RefusalReason, StepResult}
@@ -17,12 +18,9 @@ use Rattle.raft_laws.proofs.StepMoments.{refusals_told}
 abbrev recorded : WorldEvent → Outcome → Recorded
 recorded event outcome = record { event = event; outcome = outcome }
 
-none_some : {A : Type 0} {P : Type 0} (x : A) → None ≡ Some x → P
-none_some x e = absurd (let f : None ≡ Some x = e in cc)
-
 -- the history has each event with what became of it
 history_at : (es : Events) (w : GroupWorld) (number : ℕ) (event : WorldEvent) (stop : Option ℕ) → slice_get es number ≡ Some (event, stop) → slice_get (history_of es w) number ≡ Some (recorded event (outcome_of (world_before es number w) event (is_some stop)))
-history_at [] w number event stop e = none_some (event, stop) e
+history_at [] w number event stop e = absurd (none-some _ e)
 history_at (x ∷ es) w zero event stop e =
     ap (λ (y : WorldEvent × Option ℕ). Some (recorded y.0 (outcome_of w y.0 (is_some y.1)))) (same_some e)
 history_at (x ∷ es) w (suc number) event stop e = history_at es (ran w x.0 x.1) number event stop e

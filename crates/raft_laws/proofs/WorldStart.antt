@@ -1,6 +1,7 @@
 -- A new world fits the ballot machine at its start, and so does each that a history leads to.
 use Rattle.std.specs.Prelude.{◌≡◌, ◌⊎◌, ℕ, ◌<◌, ◌^◌, Bool, true, false, List, [], ◌∷◌, length, Option, Some, None, refl}
 use Rattle.std.proofs.Common.{inl, inr, sym, ap, ◌∙◌, arith}
+use Rattle.std.proofs.lemmas.Option.{none-some}
 use Rattle.raft_group_step.specs.Values.{Membership, LoggedMembership, has_id}
 use Rattle.raft_group_step.specs.GroupState.{no_group, state_of}
 use Rattle.raft_laws.specs.BallotWorld.{BallotWorld}
@@ -16,9 +17,6 @@ use Rattle.raft_laws.proofs.StepFits.{NodeFits, world_after}
 use Rattle.raft_laws.proofs.WorldFits.{LedFits, NodeStateFits, WorldFits}
 use Rattle.raft_laws.proofs.WorldRuns.{SetUpWith, Matches, run_matches}
 
-none_some : {A : Type 0} {P : Type 0} (x : A) → None ≡ Some x → P
-none_some x e = absurd (let f : None ≡ Some x = e in cc)
-
 new_node : (m : Membership) (n : ℕ) → NodeFits m (world_after m []) n (state_of no_group)
 new_node m n =
     record {
@@ -32,8 +30,8 @@ new_node m n =
                   bound = omega arith;
                   log = refl;
                   good = good_none m 0;
-                  snapshot = λ x e. none_some x e;
-                  purged = λ id e. none_some id e;
+                  snapshot = λ x e. absurd (none-some _ e);
+                  purged = λ id e. absurd (none-some _ e);
                   reaches = omega arith;
                 };
             joined = record { front = refl; log = refl; low = omega arith; high = omega arith };
@@ -42,7 +40,7 @@ new_node m n =
           };
       role = tt;
       lead = lead_young refl;
-      wish = λ place e. none_some place e;
+      wish = λ place e. absurd (none-some _ e);
     }
 
 new_state : (m : Membership) (n : ℕ) (b : Bool) → (b ≡ true → n < 2 ^ 64) → NodeStateFits m (world_after m []) n (state_or b (Up (state_of no_group)) Absent)
@@ -64,7 +62,7 @@ history_matches m some ids small rs end run known =
 -- ---- a group that isn't set up has no leader
 
 voters_of : (m : Membership) (b : BallotWorld) (l : Led) (f : LedFits m b l) → (f.has).0.membership.configs ≡ m.configs
-voters_of m b l f = last_voters m 0 l.list None (λ y e. none_some y e) f.good (f.has).0 (f.has).1
+voters_of m b l f = last_voters m 0 l.list None (λ y e. absurd (none-some _ e)) f.good (f.has).0 (f.has).1
 
 abbrev one_voter : ℕ → Membership
 one_voter n = record { configs = (n ∷ []) ∷ []; nodes = [] }
@@ -122,7 +120,7 @@ module _ (ids : List ℕ) (small : AreNodeIds ids) (rs : List Recorded) (end : G
       }
 
   founded_by : (o : Option Membership) → end.setup ≡ o → Founded end
-  founded_by None is = unfounded (λ m x e. none_some x (sym is ∙ e))
+  founded_by None is = unfounded (λ m x e. absurd (none-some _ (sym is ∙ e)))
   founded_by (Some m) is = set_up m m.configs refl is
 
   -- each history that replays leads to a world that fits the ballot machine

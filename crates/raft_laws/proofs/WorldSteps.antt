@@ -25,7 +25,7 @@ use Rattle.raft_laws.proofs.StepFits.{NodeFits, StopFits, EventFits, StepEnd, wo
 use Rattle.raft_laws.proofs.StepDispatch.{step_fits, opening_fits}
 use Rattle.raft_laws.proofs.WorldFits.{LedFits, NodeStateFits, after_safe, led_in}
 
-store_none : (k : ℕ) (st : StoredGroup) → after_storing_all (take k (let cs : List StoringCommand = [] in cs)) st ≡ st
+pub store_none : (k : ℕ) (st : StoredGroup) → after_storing_all (take k (let cs : List StoringCommand = [] in cs)) st ≡ st
 store_none zero st = refl
 store_none (suc k) st = refl
 

@@ -1,27 +1,23 @@
 -- What a quorum has accepted ends where a peer's log or the leader's own does.
-use Rattle.std.proofs.Common.{◌≡◌, ℕ, suc, ◌+◌, ◌-◌, ◌<◌, ◌≤◌, List, [], ◌∷◌, ◌++◌, refl, ap, sym, ◌∙◌, subst, arith, inl, inr}
-use Rattle.std.specs.Prelude.{Bool, true, false, ◌==◌, nat_eq, nat_le, nat_lt, cond, if◌then◌else◌, Option, Some, None, unwrap_or}
-use Rattle.std.specs.List.{AllByRecursion, find}
+use Rattle.std.proofs.Common.{◌≡◌, ℕ, suc, ◌+◌, ◌-◌, ◌<◌, ◌≤◌, List, [], ◌∷◌, ◌++◌, refl, sym, ◌∙◌, arith, inl, inr}
+use Rattle.std.specs.Prelude.{Bool, true, false, ◌==◌, nat_eq, nat_lt, cond, if◌then◌else◌, Option, Some, None, unwrap_or}
+use Rattle.std.specs.List.{AllByRecursion}
 use Rattle.std.specs.Option.{option_map, option_or}
 use Rattle.std.proofs.Math.Bool.{true≢false}
 use Rattle.std.proofs.lemmas.Bool.Decides.{leb_tells}
-use Rattle.std.proofs.lemmas.Bool.{leb-true}
+use Rattle.std.proofs.lemmas.Bool.{leb-true, le-leb}
 use borrow.Author.Tests.{ltb-true, lt-ltb}
 use Rattle.raft_values.specs.declared.log_id.LogId.{LogId}
 use Rattle.raft_values.specs.LogId.{place_of, reaches}
 use Rattle.raft_quorums.specs.QuorumLaws.{IsWithin}
 use Rattle.raft_progress.specs.declared.progress_entry.ProgressEntry.{ProgressEntry}
-use Rattle.raft_progress.specs.Parts.{value_of}
 use Rattle.raft_progress.specs.Values.{entry_at, value_at}
 use Rattle.raft_leaders.specs.Leader.{LeaderValue, peer_at, unknown_peer}
 use Rattle.raft_leaders.specs.Accepted.{Covers, IsAcceptedEnd, IsReached, has_accepted}
 
-le_as_test : (a b : ℕ) → a ≤ b → nat_le a b ≡ true
-le_as_test a b h = elim (leb_tells a b) [ inl w ↦ w.0 | inr w ↦ absurd (omega (arith, w.1)) ]
-
 reaches_lower : (m : Option (LogId ℕ)) (place at : ℕ) → place ≤ at → reaches m at ≡ true → reaches m place ≡ true
 reaches_lower None place at h k = k
-reaches_lower (Some id) place at h k = le_as_test place id.index (let l : at ≤ id.index = leb-true at id.index k in omega arith)
+reaches_lower (Some id) place at h k = le-leb place id.index (let l : at ≤ id.index = leb-true at id.index k in omega arith)
 
 abbrev pub Entries : Type 0
 Entries = List (ℕ × ProgressEntry ℕ)
@@ -99,7 +95,7 @@ module _ {Q : Type 0} (own : ℕ) (leader : LeaderValue ℕ Q) (accepts : (ℕ �
         elim (leb_tells at id.index) [
           | inl w ↦ (at, h, (omega arith), (λ k. w.0), b)
           | inr w ↦ elim (leb_tells place id.index) [
-            | inl v ↦ (id.index, v.1, (omega arith), (λ k. le_as_test id.index id.index (omega arith)), c)
+            | inl v ↦ (id.index, v.1, (omega arith), (λ k. le-leb id.index id.index (omega arith)), c)
             | inr v ↦ (at, h, (omega arith), (λ k. absurd (true≢false (sym k ∙ v.0))), b)
           ]
         ]

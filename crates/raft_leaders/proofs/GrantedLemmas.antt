@@ -1,10 +1,11 @@
 -- What is granted, once a voter has granted, is whether those who have are a quorum.
 use Rattle.std.proofs.lemmas.Grind.{common_steps}
-use Rattle.std.proofs.Common.{arith, ◌≡◌, List, [], ◌∷◌, map, refl, ap, sym, ◌∙◌, subst}
-use Rattle.std.specs.Prelude.{ℕ, ◌+◌, ◌*◌, nat_lt, length, count_by, Bool, true, false, not, ◌&&◌, ◌||◌, cond, filter, Option, Some, None}
+use Rattle.std.proofs.Common.{arith, ◌≡◌, List, [], ◌∷◌, map, refl, ap, sym, ◌∙◌}
+use Rattle.std.specs.Prelude.{◌+◌, ◌*◌, nat_lt, length, count_by, Bool, true, false, not, ◌&&◌, ◌||◌, cond, filter, Option, Some, None}
 use Rattle.std.specs.List.{AllByRecursion, IsDistinct, list_any, list_all}
 use Rattle.std.specs.Ordering.{bool_cmp, is_eq, is_le}
 use Rattle.std.proofs.Math.Bool.{true≢false}
+use Rattle.std.proofs.lemmas.Bool.{and_right, not-true}
 use Rattle.raft_quorums.specs.Nodes.{has_id}
 use Rattle.raft_quorums.specs.Quorum.{is_majority, is_quorum}
 use Rattle.raft_quorums.specs.QuorumLaws.{or_left, or_right}
@@ -19,14 +20,6 @@ or_false : (a : Bool) → (a || false) ≡ a
 or_false true = refl
 or_false false = refl
 
-and_false : (a : Bool) → (a && false) ≡ false
-and_false true = refl
-and_false false = refl
-
-not_true : (a : Bool) → not a ≡ true → a ≡ false
-not_true true h = sym h
-not_true false h = refl
-
 -- a set flag stays in the list where the test lets it through
 any_true : (r : Bool → Bool) (bs : List Bool) → list_any (λ y. is_eq (bool_cmp y true)) (filter r bs) ≡ (list_any (λ b. b) bs && r true)
 any_true r [] = refl
@@ -34,7 +27,7 @@ any_true r (true ∷ bs) =
     elim (r true) as (λ b. list_any (λ y. is_eq (bool_cmp y true)) (filter r bs) ≡ (list_any (λ b. b) bs && b)
     → list_any (λ y. is_eq (bool_cmp y true)) (cond b (true ∷ filter r bs) (filter r bs)) ≡ b) [
       | true ↦ λ ih. refl
-      | false ↦ λ ih. ih ∙ and_false (list_any (λ b. b) bs)
+      | false ↦ λ ih. ih ∙ and_right (list_any (λ b. b) bs) false refl
     ] (any_true r bs)
 any_true r (false ∷ bs) =
     elim (r false) as (λ b. list_any (λ y. is_eq (bool_cmp y true)) (cond b (false ∷ filter r bs) (filter r bs)) ≡ (list_any (λ b. b) bs && r true)) [
@@ -48,7 +41,7 @@ none_true r (true ∷ bs) =
     elim (r true) as (λ b. list_all (λ y. is_le (bool_cmp y false)) (filter r bs) ≡ not (list_any (λ b. b) bs && b)
     → list_all (λ y. is_le (bool_cmp y false)) (cond b (true ∷ filter r bs) (filter r bs)) ≡ not b) [
       | true ↦ λ ih. refl
-      | false ↦ λ ih. ih ∙ ap not (and_false (list_any (λ b. b) bs))
+      | false ↦ λ ih. ih ∙ ap not (and_right (list_any (λ b. b) bs) false refl)
     ] (none_true r bs)
 none_true r (false ∷ bs) =
     elim (r false) as (λ b. list_all (λ y. is_le (bool_cmp y false)) (cond b (false ∷ filter r bs) (filter r bs)) ≡ not (list_any (λ b. b) bs && r true)) [
@@ -59,7 +52,7 @@ none_true r (false ∷ bs) =
 -- the greatest of false and the flags that the test lets through
 greatest_flag : (r : Bool → Bool) (bs : List Bool) (granted : Bool) → IsGreatest bool_cmp granted (false ∷ filter r bs) → granted ≡ (list_any (λ b. b) bs && r true)
 greatest_flag r bs true h = sym h.0 ∙ any_true r bs
-greatest_flag r bs false h = sym (not_true (list_any (λ b. b) bs && r true) (sym (none_true r bs) ∙ h.1))
+greatest_flag r bs false h = sym (not-true (list_any (λ b. b) bs && r true) (sym (none_true r bs) ∙ h.1))
 
 any_flags : {K : Type 0} (voters : List (K × Bool)) → list_any (λ b. b) (map (value_of (λ b. b)) voters) ≡ any_granted voters
 any_flags [] = refl

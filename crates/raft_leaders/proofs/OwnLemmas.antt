@@ -1,16 +1,16 @@
 -- The last of the leader's own log ids, found from the end of a list whose places rise by one.
-use Rattle.std.proofs.Common.{◌≡◌, ℕ, zero, suc, ◌+◌, ◌-◌, ◌<◌, ◌≤◌, List, [], ◌∷◌, ◌++◌, map, length, refl, ap, sym, ◌∙◌, subst, arith, inl, inr}
+use Rattle.std.proofs.Common.{◌≡◌, ℕ, zero, suc, ◌+◌, ◌-◌, ◌<◌, ◌≤◌, List, [], ◌∷◌, ◌++◌, length, refl, ap, sym, ◌∙◌, subst, arith, inl, inr}
 use Rattle.std.specs.Prelude.{Bool, true, false, ◌==◌, ◌&&◌, nat_eq, nat_lt, cond, if◌then◌else◌, filter, Option, Some, None, is_some}
-use Rattle.std.specs.List.{AllByRecursion, find, last_or, range_with_len, slice_get}
+use Rattle.std.specs.List.{AllByRecursion, last_or, slice_get}
 use Rattle.raft_values.specs.declared.vote.LeaderId.{LeaderId}
 use Rattle.raft_values.specs.declared.log_id.LogId.{LogId}
 use Rattle.raft_values.specs.LogId.{next_place}
-use Rattle.raft_state.specs.LogIdList.{end_of_key, id_at, ids_of, last_id, leader_ids, IsBelowNext, PlacesRise}
+use Rattle.raft_state.specs.LogIdList.{id_at, ids_of, last_id, leader_ids, PlacesRise}
 use Rattle.raft_state.proofs.LogIdLemmas.{leader_ids-first, leader_ids-none}
 use Rattle.raft_state.proofs.LogIdListLemmas.{final, last_id-cons, last_id-ids_of}
-use Rattle.std.proofs.lemmas.Bool.{eqb-true, eq-eqb}
+use Rattle.std.proofs.lemmas.Bool.{eqb-true, eq-eqb, and_right}
 use Rattle.std.proofs.lemmas.Bool.Decides.{eqb_tells, leb_tells}
-use borrow.Author.Tests.{ltb-true, lt-ltb}
+use borrow.Author.Tests.{lt-ltb}
 use Rattle.raft_leaders.specs.Leader.{end_of, is_of_leader}
 use Rattle.raft_leaders.specs.Accepted.{if_own, last_own_below, own_at}
 
@@ -112,10 +112,6 @@ found_place (x ∷ xs) at id e =
       | false ↦ λ other is. found_place xs at id is
     ] refl e
 
-and_no : (a : Bool) → (a && false) ≡ false
-and_no true = refl
-and_no false = refl
-
 module _ (leader : LeaderId ℕ) (below : ℕ) where
   abbrev pub is_own_below : LogId ℕ → Bool
   is_own_below x = is_of_leader nat_eq leader x && nat_lt x.index below
@@ -128,7 +124,7 @@ module _ (leader : LeaderId ℕ) (below : ℕ) where
   own_fails x f =
       elim (leb_tells (suc x.index) below) [
         | inl w ↦ ap (λ b. b && nat_lt x.index below) (not_own (is_of_leader nat_eq leader x) x (f (omega (arith, w.1))))
-        | inr w ↦ ap (λ b. is_of_leader nat_eq leader x && b) w.0 ∙ and_no (is_of_leader nat_eq leader x)
+        | inr w ↦ ap (λ b. is_of_leader nat_eq leader x && b) w.0 ∙ and_right (is_of_leader nat_eq leader x) false refl
       ]
 
   -- none is the last where none stands at any place below

@@ -4,6 +4,7 @@ use Rattle.std.specs.Prelude.{Bool, true, false, not, ◌&&◌, ◌||◌, cond, 
 use Rattle.std.specs.List.{list_any}
 use Rattle.std.specs.Option.{option_or}
 use Rattle.std.proofs.Math.Bool.{true≢false}
+use Rattle.std.proofs.lemmas.List.Folds.{list_any-append}
 use Rattle.raft_values.specs.declared.log_id.LogId.{LogId}
 use Rattle.raft_values.specs.LogId.{next_place, place_of}
 use Rattle.raft_values.specs.LogIndex.{next_of}
@@ -19,9 +20,6 @@ next_is (Some id) = refl
 
 none_is_not_some : {X G : Type 0} (x : X) → None ≡ Some x → G
 none_is_not_some x e = cc e
-
-false_is_not_true : {G : Type 0} (b : Bool) → b ≡ false → b ≡ true → G
-false_is_not_true b e f = absurd (true≢false (sym f ∙ e))
 
 module _ {K V P Q : Type 0} (eq : K → K → Bool) (p : Parts K V P Q) (id : K) where
   -- somebody has an id that has a value
@@ -45,14 +43,6 @@ pub built_stays : {K V P Q : Type 0} (eq : K → K → Bool) (old new : Parts K 
     → (rises ≡ true → SetsValue eq old new id value) → (rises ≡ false → new ≡ old) → new.built_with ≡ old.built_with
 built_stays eq old new id value true f g = (f refl).built_with
 built_stays eq old new id value false f g = ap (λ p. p.built_with) (g refl)
-
-any-append : {X : Type 0} (test : X → Bool) (xs ys : List X) → list_any test (xs ++ ys) ≡ (list_any test xs || list_any test ys)
-any-append test [] ys = refl
-any-append test (x ∷ xs) ys =
-    elim (test x) as (λ b. (b || list_any test (xs ++ ys)) ≡ ((b || list_any test xs) || list_any test ys)) [
-      | true ↦ refl
-      | false ↦ any-append test xs ys
-    ]
 
 -- one more entry whose id may be left
 pub left-more : {K V : Type 0} (eq : K → K → Bool) (members learner_ids : List K) (x : K × V) (xs : List (K × V))
@@ -84,11 +74,11 @@ module _ {K : Type 0} (eq : K → K → Bool) (same : (x y : K) → eq x y ≡ t
   all_kept : {V P Q : Type 0} (p : Parts K V P Q) (members learner_ids : List K) (id : K) → has_value eq p id ≡ true
       → (has_id eq members id || has_id eq (learner_ids ++ left_ids eq p members learner_ids) id) ≡ true
   all_kept p members learner_ids id h =
-      let there : has_id eq (ids_of (p.voters ++ p.learners)) id ≡ true = has_id-ids (p.voters ++ p.learners) id ∙ any-append (λ x. eq x.0 id) p.voters p.learners ∙ h in
+      let there : has_id eq (ids_of (p.voters ++ p.learners)) id ≡ true = has_id-ids (p.voters ++ p.learners) id ∙ list_any-append (λ x. eq x.0 id) p.voters p.learners ∙ h in
       let left = left_ids eq p members learner_ids in
       elim (has_id eq members id) as (λ a. has_id eq members id ≡ a → (a || has_id eq (learner_ids ++ left) id) ≡ true) [
         | true ↦ λ a. refl
-        | false ↦ λ a. any-append (λ x. eq x id) learner_ids left ∙ elim (has_id eq learner_ids id) as (λ b. has_id eq learner_ids id ≡ b → (b || has_id eq left id) ≡ true) [
+        | false ↦ λ a. list_any-append (λ x. eq x id) learner_ids left ∙ elim (has_id eq learner_ids id) as (λ b. has_id eq learner_ids id ≡ b → (b || has_id eq left id) ≡ true) [
           | true ↦ λ b. refl
           | false ↦ λ b. has_id-filter (λ i. not (has_id eq members i) && not (has_id eq learner_ids i)) (ids_of (p.voters ++ p.learners)) id there
               (ap (λ c. not c && not (has_id eq learner_ids id)) a ∙ ap not b)

@@ -1,6 +1,6 @@
 -- The adding machine: a total below 2^64, named by its 8 bytes, the greatest first.
 use Rattle.std.specs.Prelude.{ℕ, Bool, ◌+◌, ◌%◌, ◌^◌, ◌==◌, List, [], length, if◌then◌else◌}
-use Rattle.std.specs.Int.{Width, w64, from_be_bytes, to_be_bytes}
+use Rattle.std.specs.Int.{w64, from_be_bytes, to_be_bytes}
 use Rattle.raft_node.specs.Machine.{MachineRules}
 
 -- the state of this total

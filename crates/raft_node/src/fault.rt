@@ -1,8 +1,10 @@
 //! What a node's calls refuse, and why.
 ghost use Rattle.std.specs.Prelude.{◌≡◌};
 ghost use Rattle.raft_node.specs.Fault.{number_of, name_of};
+ghost use Rattle.raft_node.specs.MembershipFault.{membership_fault_of};
 
-use raft_state::ChangeMembershipError;
+use raft_messages::is_within_limits;
+use raft_state::{BasicNode, ChangeMembershipError, Membership};
 use thiserror::Error;
 
 /// Why a membership is refused (own).
@@ -17,6 +19,24 @@ pub enum MembershipFault {
     /// More voter groups, voters, nodes or bytes of an address than a membership may have.
     #[error("the membership is past a limit")]
     PastLimit,
+}
+
+/// Why a group can't be set up with this membership, if it can't (own): it isn't valid, has no voter
+/// group or is past a limit; the first of these counts.
+pub fn membership_fault(membership: &Membership<u64, BasicNode>) -> Option<MembershipFault>
+    ensures { result ≡ membership_fault_of membership.now }
+{
+    if let Err(why) = membership.ensure_valid() {
+        return Some(MembershipFault::Invalid(why));
+    }
+    if membership.get_joint_config().is_empty() {
+        return Some(MembershipFault::NoGroup);
+    }
+    if is_within_limits(membership) {
+        None
+    } else {
+        Some(MembershipFault::PastLimit)
+    }
 }
 
 /// A refusal of a call of a node, by number and name (own). The group is as before.

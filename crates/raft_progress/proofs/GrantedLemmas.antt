@@ -9,39 +9,16 @@ use Rattle.std.specs.List.Sorted.{IsPermutation}
 use Rattle.std.proofs.lemmas.List.Sorted.{list_any-IsPermutation, IsPermutation-sym}
 use Rattle.std.proofs.Math.ListN.{set}
 use Rattle.std.proofs.lemmas.List.{get_or-set_same, take-set-le}
-use Rattle.std.proofs.Math.Bool.{true≢false}
+use Rattle.std.proofs.lemmas.Bool.{and_from, both_ways}
 use Rattle.raft_quorums.specs.Nodes.{has_node}
-use Rattle.raft_quorums.specs.QuorumLaws.{IsWithin}
-use Rattle.raft_progress.specs.Granted.{IsGreatest, IsFalling, value_of, has_reached, reached_values, IsGranted}
+use Rattle.raft_quorums.specs.QuorumLaws.{IsWithin, and_left, and_right, or_left, or_right}
+use Rattle.raft_progress.specs.Granted.{IsFalling, value_of, has_reached, reached_values, IsGranted}
 use Rattle.raft_progress.proofs.FallingLemmas.{at_any}
 use Rattle.raft_progress.proofs.OrderLemmas.{bool_cases, le_if_not_lt, lt_if_not_le, not_lt_if_le, le_if_lt, le_if_eq, eq_if_both, eq_back, le_self, eq_self, lt_le, le_lt, le_le}
 
 or_cases : {G : Type 0} (a b : Bool) → (a || b) ≡ true → (a ≡ true → G) → (b ≡ true → G) → G
 or_cases true b h f g = f refl
 or_cases false b h f g = g h
-
-or_left : (a b : Bool) → a ≡ true → (a || b) ≡ true
-or_left true b h = refl
-or_left false b h = cc h
-
-or_right : (a b : Bool) → b ≡ true → (a || b) ≡ true
-or_right true b h = refl
-or_right false b h = h
-
-and_both : (a b : Bool) → a ≡ true → b ≡ true → (a && b) ≡ true
-and_both true b h k = k
-and_both false b h k = cc h
-
-and_left : (a b : Bool) → (a && b) ≡ true → a ≡ true
-and_left true b h = refl
-and_left false b h = cc h
-
-and_right : (a b : Bool) → (a && b) ≡ true → b ≡ true
-and_right true b h = h
-and_right false b h = cc h
-
-not_both : {G : Type 0} (a : Bool) → a ≡ true → a ≡ false → G
-not_both a h k = absurd (true≢false (sym h ∙ k))
 
 false_unless : (a : Bool) → (a ≡ true → false ≡ true) → a ≡ false
 false_unless true f = sym (f refl)
@@ -98,7 +75,7 @@ module _ {X : Type 0} where
   all_filtered q t f [] e = refl
   all_filtered q t f (x ∷ xs) e =
       elim (q (f x)) as (λ b. (b ≡ true → t (f x) ≡ true) → list_all t (cond b (f x ∷ filter q (map f xs)) (filter q (map f xs))) ≡ true) [
-        | true ↦ λ k. and_both (t (f x)) (list_all t (filter q (map f xs))) (k refl) (all_filtered q t f xs e.1)
+        | true ↦ λ k. and_from (t (f x)) (list_all t (filter q (map f xs))) (k refl) (all_filtered q t f xs e.1)
         | false ↦ λ k. all_filtered q t f xs e.1
       ] e.0
 
@@ -165,7 +142,7 @@ module _ {K V P : Type 0} (eq : K → K → Bool) {cmp : P → P → Ordering} (
   above_in_front : (xs : List (K × V)) (g : P) (n : ℕ) → IsFalling cmp compared xs → RestsAt xs g n → IsWithin (has_above xs g) (has_node eq (take n xs))
   above_in_front [] g n f r id h = cc h
   above_in_front (x ∷ xs) g zero f r id h =
-      not_both (some_above (x ∷ xs) g) (above_is_some (x ∷ xs) g id h) (none_above x xs g f (r x (omega arith)))
+      absurd (both_ways (some_above (x ∷ xs) g) (none_above x xs g f (r x (omega arith))) (above_is_some (x ∷ xs) g id h))
   above_in_front (x ∷ xs) g (suc n) f r id h =
       or_cases (eq x.0 id && is_lt (cmp g (val x))) (has_above xs g id) h
       (λ k. or_left (eq x.0 id) (has_node eq (take n xs) id) (and_left (eq x.0 id) (is_lt (cmp g (val x))) k))
@@ -180,12 +157,12 @@ module _ {K V P : Type 0} (eq : K → K → Bool) {cmp : P → P → Ordering} (
   front_has_reached [] i d h f id k = absurd (omega arith)
   front_has_reached (x ∷ xs) zero d h f id k =
       or_cases (eq x.0 id) false k
-      (λ e. or_left (eq x.0 id && is_le (cmp (val x) (val x))) (has_reached eq cmp compared xs (val x) id) (and_both (eq x.0 id) (is_le (cmp (val x) (val x))) e (le_self o (val x))))
+      (λ e. or_left (eq x.0 id && is_le (cmp (val x) (val x))) (has_reached eq cmp compared xs (val x) id) (and_from (eq x.0 id) (is_le (cmp (val x) (val x))) e (le_self o (val x))))
       (λ e. cc e)
   front_has_reached (x ∷ xs) (suc i) d h f id k =
       or_cases (eq x.0 id) (has_node eq (take (suc i) xs) id) k
       (λ e. or_left (eq x.0 id && is_le (cmp (val (get_or xs i d)) (val x))) (has_reached eq cmp compared xs (val (get_or xs i d)) id)
-      (and_both (eq x.0 id) (is_le (cmp (val (get_or xs i d)) (val x))) e (all_fall x xs i d (omega arith) f)))
+      (and_from (eq x.0 id) (is_le (cmp (val (get_or xs i d)) (val x))) e (all_fall x xs i d (omega arith) f)))
       (λ e. or_right (eq x.0 id && is_le (cmp (val (get_or xs i d)) (val x))) (has_reached eq cmp compared xs (val (get_or xs i d)) id)
       (front_has_reached xs i d (omega arith) f.1 id e))
 
@@ -200,7 +177,7 @@ module _ {K V P : Type 0} (eq : K → K → Bool) {cmp : P → P → Ordering} (
   all_above_within [] g e id h = h
   all_above_within (x ∷ xs) g e id h =
       or_cases (eq x.0 id) (has_node eq xs id) h
-      (λ k. or_left (eq x.0 id && is_lt (cmp g (val x))) (has_above xs g id) (and_both (eq x.0 id) (is_lt (cmp g (val x))) k e.0))
+      (λ k. or_left (eq x.0 id && is_lt (cmp g (val x))) (has_above xs g id) (and_from (eq x.0 id) (is_lt (cmp g (val x))) k e.0))
       (λ k. or_right (eq x.0 id && is_lt (cmp g (val x))) (has_above xs g id) (all_above_within xs g e.1 id k))
 
   -- the least of those above g
@@ -212,10 +189,10 @@ module _ {K V P : Type 0} (eq : K → K → Bool) {cmp : P → P → Ordering} (
       (λ k. bool_cases (is_le (cmp (val m) (val x)))
       (λ u. f m tm l ((λ _. u), a))
       (λ u. f x t.0 k ((λ _. le_self o (val x)), every_step (val x) (val m) xs (le_if_not_le (val m) (val x) u) a)))
-      (λ k. f m tm l ((λ q. not_both (is_lt (cmp g (val x))) q k), a))))
+      (λ k. f m tm l ((λ q. absurd (both_ways (is_lt (cmp g (val x))) k q)), a))))
       (λ e. or_cases (is_lt (cmp g (val x))) (some_above xs g) h
       (λ k. f x t.0 k ((λ _. le_self o (val x)), every_none (val x) xs (none_at_all (λ (y : K × V). is_lt (cmp g (compared y.1))) xs e)))
-      (λ k. not_both (some_above xs g) k e))
+      (λ k. absurd (both_ways (some_above xs g) e k)))
     where
       le_if_not_le : (a b : P) → is_le (cmp a b) ≡ false → is_le (cmp b a) ≡ true
       le_if_not_le a b u = le_if_lt o b a (lt_if_not_le o a b u)
@@ -226,26 +203,26 @@ module _ {K V P : Type 0} (eq : K → K → Bool) {cmp : P → P → Ordering} (
 
       every_none : (p : P) (ys : List (K × V)) → AllByRecursion (λ (y : K × V). is_lt (cmp g (val y)) ≡ false) ys → AllByRecursion (λ (y : K × V). is_lt (cmp g (val y)) ≡ true → is_le (cmp p (val y)) ≡ true) ys
       every_none p [] e = tt
-      every_none p (y ∷ ys) e = ((λ k. not_both (is_lt (cmp g (val y))) k e.0), every_none p ys e.1)
+      every_none p (y ∷ ys) e = ((λ k. absurd (both_ways (is_lt (cmp g (val y))) e.0 k)), every_none p ys e.1)
 
   above_reached_along : (xs : List (K × V)) (g p : P) → AllByRecursion (λ (y : K × V). is_lt (cmp g (val y)) ≡ true → is_le (cmp p (val y)) ≡ true) xs → IsWithin (has_above xs g) (has_reached eq cmp compared xs p)
   above_reached_along [] g p e id h = h
   above_reached_along (y ∷ ys) g p e id h =
       or_cases (eq y.0 id && is_lt (cmp g (val y))) (has_above ys g id) h
-      (λ k. or_left (eq y.0 id && is_le (cmp p (val y))) (has_reached eq cmp compared ys p id) (and_both (eq y.0 id) (is_le (cmp p (val y))) (and_left (eq y.0 id) (is_lt (cmp g (val y))) k) (e.0 (and_right (eq y.0 id) (is_lt (cmp g (val y))) k))))
+      (λ k. or_left (eq y.0 id && is_le (cmp p (val y))) (has_reached eq cmp compared ys p id) (and_from (eq y.0 id) (is_le (cmp p (val y))) (and_left (eq y.0 id) (is_lt (cmp g (val y))) k) (e.0 (and_right (eq y.0 id) (is_lt (cmp g (val y))) k))))
       (λ k. or_right (eq y.0 id && is_le (cmp p (val y))) (has_reached eq cmp compared ys p id) (above_reached_along ys g p e.1 id k))
 
   -- a value above g is reached by none but those above g
   reached_is_above : (xs : List (K × V)) (g p : P) → is_lt (cmp g p) ≡ true → IsWithin (has_reached eq cmp compared xs p) (has_above xs g)
   reached_is_above xs g p l id h =
       any_wider (λ (x : K × V). eq x.0 id && is_le (cmp p (compared x.1))) (λ (x : K × V). eq x.0 id && is_lt (cmp g (compared x.1))) xs
-      (λ x k. and_both (eq x.0 id) (is_lt (cmp g (val x))) (and_left (eq x.0 id) (is_le (cmp p (val x))) k) (lt_le o g p (val x) l (and_right (eq x.0 id) (is_le (cmp p (val x))) k))) h
+      (λ x k. and_from (eq x.0 id) (is_lt (cmp g (val x))) (and_left (eq x.0 id) (is_le (cmp p (val x))) k) (lt_le o g p (val x) l (and_right (eq x.0 id) (is_le (cmp p (val x))) k))) h
 
   -- who has reached a value has reached one that is no greater
   reached_lower : (xs : List (K × V)) (p q : P) → is_le (cmp q p) ≡ true → IsWithin (has_reached eq cmp compared xs p) (has_reached eq cmp compared xs q)
   reached_lower xs p q l id h =
       any_wider (λ (x : K × V). eq x.0 id && is_le (cmp p (compared x.1))) (λ (x : K × V). eq x.0 id && is_le (cmp q (compared x.1))) xs
-      (λ x k. and_both (eq x.0 id) (is_le (cmp q (val x))) (and_left (eq x.0 id) (is_le (cmp p (val x))) k) (le_le o q p (val x) l (and_right (eq x.0 id) (is_le (cmp p (val x))) k))) h
+      (λ x k. and_from (eq x.0 id) (is_le (cmp q (val x))) (and_left (eq x.0 id) (is_le (cmp p (val x))) k) (le_le o q p (val x) l (and_right (eq x.0 id) (is_le (cmp p (val x))) k))) h
 
   module _ (accepts : (K → Bool) → Bool) (wider : (p r : K → Bool) → IsWithin p r → accepts p ≡ true → accepts r ≡ true) where
     -- those above g are no quorum, or there are none
@@ -299,21 +276,21 @@ module _ {K V P : Type 0} (eq : K → K → Bool) {cmp : P → P → Ordering} (
         | inr e ↦ or_right (is_eq (cmp d g)) (list_any (λ p. is_eq (cmp p g)) (reached_values eq cmp compared accepts xs))
             (any_filtered (reached xs) (λ p. is_eq (cmp p g)) (value_of compared) xs
             ∙ any_wider (λ (x : K × V). is_eq (cmp (val x) g)) (λ (x : K × V). reached xs (val x) && is_eq (cmp (val x) g)) xs
-            (λ x k. and_both (reached xs (val x)) (is_eq (cmp (val x) g)) (wider (has_reached eq cmp compared xs g) (has_reached eq cmp compared xs (val x)) (reached_lower xs g (val x) (le_if_eq o (val x) g k)) e.1) k) e.0)
+            (λ x k. and_from (reached xs (val x)) (is_eq (cmp (val x) g)) (wider (has_reached eq cmp compared xs g) (has_reached eq cmp compared xs (val x)) (reached_lower xs g (val x) (le_if_eq o (val x) g k)) e.1) k) e.0)
       ],
-      and_both (is_le (cmp d g)) (list_all (λ p. is_le (cmp p g)) (reached_values eq cmp compared accepts xs)) l
+      and_from (is_le (cmp d g)) (list_all (λ p. is_le (cmp p g)) (reached_values eq cmp compared accepts xs)) l
           (all_filtered (reached xs) (λ p. is_le (cmp p g)) (value_of compared) xs
           (bool_cases (accepts (has_above xs g))
           (λ k. every_not_lt g xs xs (none_at_all (λ (x : K × V). is_lt (cmp g (compared x.1))) xs (q k)))
           (λ k. every_any (λ (x : K × V). reached xs (val x) ≡ true → is_le (cmp (val x) g) ≡ true)
           (λ x r. bool_cases (is_le (cmp (val x) g)) (λ u. u)
-          (λ u. not_both (accepts (has_above xs g)) (wider (has_reached eq cmp compared xs (val x)) (has_above xs g) (reached_is_above xs g (val x) (lt_if_not_le o (val x) g u)) r) k)) xs))),
+          (λ u. absurd (both_ways (accepts (has_above xs g)) k (wider (has_reached eq cmp compared xs (val x)) (has_above xs g) (reached_is_above xs g (val x) (lt_if_not_le o (val x) g u)) r)))) xs))),
     )
 
     quiet_stop : (g : P) (ys : List (K × V)) (n : ℕ) → IsFalling cmp compared ys → RestsAt ys g n → NoQuorum ys n → Quiet g ys
     quiet_stop g ys zero f r nq a = none_where_it_rests ys g f r
     quiet_stop g ys (suc n) f r nq a =
-        not_both (accepts (has_node eq (take (suc n) ys))) (wider (has_above ys g) (has_node eq (take (suc n) ys)) (above_in_front ys g (suc n) f r) a) (nq (omega arith))
+        absurd (both_ways (accepts (has_node eq (take (suc n) ys))) (nq (omega arith)) (wider (has_above ys g) (has_node eq (take (suc n) ys)) (above_in_front ys g (suc n) f r) a))
 
     some_first : (ys : List (K × V)) (g : P) (n : ℕ) → 0 < n → n < length ys → AllByRecursion (λ (x : K × V). is_lt (cmp g (val x)) ≡ true) (take n ys) → some_above (take n ys) g ≡ true
     some_first [] g n p h e = absurd (omega arith)
@@ -367,7 +344,7 @@ module _ {K V P : Type 0} (eq : K → K → Bool) {cmp : P → P → Ordering} (
       reached_set : (g : P) → IsWithin (has_reached eq cmp compared xs g) (has_reached eq cmp compared (set xs i y) g)
       reached_set g id h =
           any_set_more (λ (x : K × V). eq x.0 id && is_le (cmp g (compared x.1))) xs i y e
-          (λ k. and_both (eq y.0 id) (is_le (cmp g (val y))) (ap (λ z. eq z id) key ∙ and_left (eq (get_or xs i e).0 id) (is_le (cmp g old)) k)
+          (λ k. and_from (eq y.0 id) (is_le (cmp g (val y))) (ap (λ z. eq z id) key ∙ and_left (eq (get_or xs i e).0 id) (is_le (cmp g old)) k)
           (le_le o g old (val y) (and_right (eq (get_or xs i e).0 id) (is_le (cmp g old)) k) rises)) h
 
       -- an update that doesn't cross what is granted
@@ -400,13 +377,13 @@ module _ {K V P : Type 0} (eq : K → K → Bool) {cmp : P → P → Ordering} (
       every_step_up : (g : P) (zs : List (K × V)) → AllByRecursion (λ (x : K × V). is_eq (cmp (val x) g) ≡ false) zs → AllByRecursion (λ (x : K × V). is_le (cmp g (val x)) ≡ true → is_lt (cmp g (val x)) ≡ true) zs
       every_step_up g [] k = tt
       every_step_up g (z ∷ zs) k =
-          ((λ l. bool_cases (is_lt (cmp g (val z))) (λ u. u) (λ u. not_both (is_eq (cmp (val z) g)) (eq_if_both o (val z) g (le_if_not_lt o g (val z) u) l) k.0)), every_step_up g zs k.1)
+          ((λ l. bool_cases (is_lt (cmp g (val z))) (λ u. u) (λ u. absurd (both_ways (is_eq (cmp (val z) g)) k.0 (eq_if_both o (val z) g (le_if_not_lt o g (val z) u) l)))), every_step_up g zs k.1)
 
       reached_above : (g : P) (zs : List (K × V)) → AllByRecursion (λ (x : K × V). is_le (cmp g (val x)) ≡ true → is_lt (cmp g (val x)) ≡ true) zs → IsWithin (has_reached eq cmp compared zs g) (has_above zs g)
       reached_above g [] k id h = h
       reached_above g (z ∷ zs) k id h =
           or_cases (eq z.0 id && is_le (cmp g (val z))) (has_reached eq cmp compared zs g id) h
-          (λ u. or_left (eq z.0 id && is_lt (cmp g (val z))) (has_above zs g id) (and_both (eq z.0 id) (is_lt (cmp g (val z))) (and_left (eq z.0 id) (is_le (cmp g (val z))) u) (k.0 (and_right (eq z.0 id) (is_le (cmp g (val z))) u))))
+          (λ u. or_left (eq z.0 id && is_lt (cmp g (val z))) (has_above zs g id) (and_from (eq z.0 id) (is_lt (cmp g (val z))) (and_left (eq z.0 id) (is_le (cmp g (val z))) u) (k.0 (and_right (eq z.0 id) (is_le (cmp g (val z))) u))))
           (λ u. or_right (eq z.0 id && is_lt (cmp g (val z))) (has_above zs g id) (reached_above g zs k.1 id u))
 
       some_above_set : (g : P) (zs : List (K × V)) (j : ℕ) → j < length zs → is_lt (cmp g (val y)) ≡ true → some_above (set zs j y) g ≡ true
@@ -421,8 +398,7 @@ module _ {K V P : Type 0} (eq : K → K → Bool) {cmp : P → P → Ordering} (
             | inr k ↦ inr (
                 let more = wider (has_reached eq cmp compared xs g) (has_reached eq cmp compared (set xs i y) g) (reached_set g) k.1 in (
                   bool_cases (some_equal (set xs i y) g) (λ u. u)
-                      (λ u. not_both (some_above (set xs i y) g) (some_above_set g xs i within l)
-                      (q (wider (has_reached eq cmp compared (set xs i y) g) (has_above (set xs i y) g) (reached_above g (set xs i y) (every_step_up g (set xs i y) (none_at_all (λ (x : K × V). is_eq (cmp (compared x.1) g)) (set xs i y) u))) more))),
+                      (λ u. absurd (both_ways (some_above (set xs i y) g) (q (wider (has_reached eq cmp compared (set xs i y) g) (has_above (set xs i y) g) (reached_above g (set xs i y) (every_step_up g (set xs i y) (none_at_all (λ (x : K × V). is_eq (cmp (compared x.1) g)) (set xs i y) u))) more)) (some_above_set g xs i within l))),
                   more,
                 ))
           ]
@@ -460,7 +436,7 @@ module _ {K V P : Type 0} (eq : K → K → Bool) {cmp : P → P → Ordering} (
   built_granted accepts ids =
       let xs = map beside ids in (
         or_left (is_eq (cmp (compared v) (compared v))) (list_any (λ p. is_eq (cmp p (compared v))) (reached_values eq cmp compared accepts xs)) (eq_self o (compared v)),
-        and_both (is_le (cmp (compared v) (compared v))) (list_all (λ p. is_le (cmp p (compared v))) (reached_values eq cmp compared accepts xs)) (le_self o (compared v))
+        and_from (is_le (cmp (compared v) (compared v))) (list_all (λ p. is_le (cmp p (compared v))) (reached_values eq cmp compared accepts xs)) (le_self o (compared v))
             (all_filtered (λ p. accepts (has_reached eq cmp compared xs p)) (λ p. is_le (cmp p (compared v))) (value_of compared) xs
             (every_beside (λ x. accepts (has_reached eq cmp compared xs (compared x.1)) ≡ true → is_le (cmp (compared x.1) (compared v)) ≡ true) (λ _ _. le_self o (compared v)) ids)),
       )

@@ -8,11 +8,11 @@ use Rattle.std.specs.List.Sorted.{IsPermutation}
 use Rattle.std.proofs.lemmas.List.Sorted.{list_any-IsPermutation, Contains-permutation, IsPermutation-refl, IsPermutation-map}
 use Rattle.std.proofs.lemmas.Map.Keys.{IsDistinct-IsPermutation}
 use Rattle.std.proofs.Math.ListN.{set}
-use Rattle.std.proofs.Math.Bool.{true≢false}
 use Rattle.std.specs.declared.cmp.Ordering.{Ordering}
 use Rattle.std.specs.Ordering.{is_eq, is_le}
 use Rattle.raft_progress.specs.Counted.{IsNoLess, lowers_value}
 use Rattle.std.specs.Cmp.{IsTotalOrder}
+use Rattle.std.proofs.lemmas.Bool.{both_ways}
 use Rattle.raft_progress.proofs.OrderLemmas.{le_if_not_lt}
 use Rattle.raft_quorums.specs.Rising.{IsBelowAll, IsRising}
 use Rattle.raft_quorums.specs.Nodes.{has_id, has_node}
@@ -20,9 +20,6 @@ use Rattle.raft_progress.proofs.ValuesLemmas.{some_of, value_if}
 use Rattle.raft_progress.proofs.FallingLemmas.{at_any}
 use Rattle.raft_progress.specs.Values.{entry_at, value_at, with_value, with_value_at}
 use Rattle.raft_progress.specs.Parts.{Parts, IsUpgraded, SetsValue, carried, ids_of, has_value, value_of, with_learner, with_voter, written}
-
-absurd_both : {G : Type 0} (b : Bool) → b ≡ true → b ≡ false → G
-absurd_both b h k = absurd (true≢false (sym h ∙ k))
 
 module _ {K V : Type 0} (eq : K → K → Bool) where
   pub ids-with_value : (xs : List (K × V)) (id : K) (v : V) → ids_of (with_value eq xs id v) ≡ ids_of xs
@@ -183,8 +180,8 @@ module _ {K V P Q : Type 0} (eq : K → K → Bool) (same : (x y : K) → eq x y
     learners = learners ∙ sym (ap (λ b. if b then old.learners else with_value eq old.learners id value) has);
     quorum_set = quorum_set;
     built_with = built_with;
-    learner_grants_nothing = λ none. absurd_both (has_node eq old.voters id) has none;
-    unknown = λ none. absurd_both (has_value eq old id) (ap (λ b. b || has_node eq old.learners id) has) none;
+    learner_grants_nothing = λ none. absurd (both_ways (has_node eq old.voters id) none has);
+    unknown = λ none. absurd (both_ways (has_value eq old id) none (ap (λ b. b || has_node eq old.learners id) has));
   }
 
   -- a learner's value is set

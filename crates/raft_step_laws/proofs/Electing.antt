@@ -2,6 +2,7 @@
 use Rattle.std.specs.Prelude.{◌≡◌, ℕ, ◌+◌, ◌==◌, ◌&&◌, Bool, true, false, List, [], ◌∷◌, Option, Some, None, cond, is_some, refl}
 use Rattle.std.specs.List.{list_any}
 use Rattle.std.proofs.Common.{sym, ap, ◌∙◌, subst}
+use Rattle.std.proofs.lemmas.Bool.{and_right}
 use Rattle.raft_values.specs.declared.vote.Vote.{Vote}
 use Rattle.raft_values.specs.declared.log_id.LogId.{LogId}
 use Rattle.raft_values.specs.LogId.{log_id_of, place_of}
@@ -39,10 +40,6 @@ use Rattle.raft_step_laws.specs.Elections.{CandidatesLack, GrantedCandidatesLead
 use Rattle.raft_step_laws.proofs.Sending.{finished_adds, idle_end}
 
 -- ---- words of roles
-
-pub and_false : (b : Bool) → (b && false) ≡ false
-and_false true = refl
-and_false false = refl
 
 granters_in : (role : Role) (granters : List ℕ) → role ≡ Candidate granters → granters ≡ granters_of role
 granters_in role granters e = sym (ap granters_of e)
@@ -281,7 +278,7 @@ module _ (own : ℕ) (s : GroupState) (now : ℕ) where
     passes q none h =
         calm_stands r q refl
         (ap (λ b. cond b (with_granter peer (granters_of s.role)) (granters_of s.role)) none)
-        (ap (λ b. is_candidate s.role && b) none ∙ and_false (is_candidate s.role))
+        (ap (λ b. is_candidate s.role && b) none ∙ and_right (is_candidate s.role) false refl)
         h
 
     granted_by : (role : Role) → s.role ≡ role → is_grant_for s.stored m.body ≡ true → Standing own s e (with_grant peer role r)

@@ -15,7 +15,8 @@ use Rattle.raft_group_step.specs.SnapshotRequest.{place_above}
 use Rattle.raft_group_step.specs.AppendRequest.{above_committed, missing_entries}
 use Rattle.raft_group_step.specs.SnapshotTrigger.{snapshot_at}
 use Rattle.raft_laws.proofs.FreshEntries.{within_is, without_is}
-use Rattle.raft_laws.proofs.Shapes.{slice_after, slice_before, slice_drop, slice_taken}
+use Rattle.raft_laws.proofs.Shapes.{slice_after, slice_drop, slice_taken}
+use Rattle.raft_laws.proofs.BallotAgreement.{slice_get-append}
 use Rattle.raft_step_laws.specs.Fitting.{AllFit, ArePlacedFrom, FitEntries, FitsLogged, FitsPayload, FitsSnapshot, FitsStored, FitsStoring}
 
 abbrev pub Fits : Entry → Type 0
@@ -26,7 +27,7 @@ Fits e = FitsPayload e.payload
 placed_none : (start : ℕ) → ArePlacedFrom start []
 placed_none start i e h = absurd (let f : None ≡ Some e = h in cc)
 
-placed_take : (k start : ℕ) (es : List Entry) → ArePlacedFrom start es → ArePlacedFrom start (take k es)
+pub placed_take : (k start : ℕ) (es : List Entry) → ArePlacedFrom start es → ArePlacedFrom start (take k es)
 placed_take k start es h i e at = h i e (slice_taken k es i e at)
 
 pub placed_drop : (k start : ℕ) (es : List Entry) → ArePlacedFrom start es → ArePlacedFrom (start + k) (drop k es)
@@ -35,7 +36,7 @@ placed_drop k start es h i e at = let p = h (k + i) e (sym (slice_drop k es i) �
 placed_append : (start : ℕ) (xs ys : List Entry) → ArePlacedFrom start xs → ArePlacedFrom (start + length xs) ys → ArePlacedFrom start (xs ++ ys)
 placed_append start xs ys h k i e at =
     ⊎_elim
-    (λ l. h i e (sym (slice_before xs ys i l) ∙ at))
+    (λ l. h i e (sym (slice_get-append xs ys i l) ∙ at))
     (λ l.
     let n : length xs + (i - length xs) ≡ i = omega arith in
     let p = k (i - length xs) e (sym (slice_after xs ys (i - length xs)) ∙ ap (slice_get (xs ++ ys)) n ∙ at) in

@@ -1,7 +1,7 @@
 -- What a leader sends at the end of an event: what it makes of its peers, and that each is served.
-use Rattle.std.specs.Prelude.{◌≡◌, ◌⊎◌, ℕ, ◌-◌, ◌==◌, ◌&&◌, ◌||◌, cond, nat_eq, nat_lt, is_none, Bool, true, false, List, [], ◌∷◌, ◌++◌, drop, take, Option, Some, None, refl}
-use Rattle.std.proofs.Common.{inl, inr, sym, ap, ◌∙◌, subst, eqb-true, append-nil, append_assoc, ⊎_elim}
-use Rattle.std.proofs.lemmas.Bool.{cond_both}
+use Rattle.std.specs.Prelude.{◌≡◌, ◌⊎◌, ℕ, ◌-◌, ◌==◌, ◌&&◌, cond, nat_eq, nat_lt, is_none, Bool, true, false, List, [], ◌∷◌, ◌++◌, drop, take, Option, Some, None, refl}
+use Rattle.std.proofs.Common.{sym, ap, ◌∙◌, subst, eqb-true, append-nil, append_assoc, ⊎_elim}
+use Rattle.std.proofs.lemmas.Bool.{cond_both, or_cases}
 use Rattle.raft_values.specs.LogId.{next_place}
 use Rattle.raft_values.specs.declared.log_id.LogId.{LogId}
 use Rattle.raft_group_step.specs.Values.{has_id}
@@ -233,11 +233,7 @@ all_served own news (k ∷ ns) lead r is n among =
     (has_request_after rest.more (peer_of one.after n)
     (subst (λ m. ServedAt r.state.stored m q) here (serve_serves own lead k r is news) one.after one.role lacked)))
     (λ t. subst (λ s. ServedAt s n (serve_all own news ns q)) one.stored (later t))
-    (or_split (nat_eq k n) (has_id ns n) among))
-  where
-    or_split : (a b : Bool) → (a || b) ≡ true → (a ≡ true) ⊎ (b ≡ true)
-    or_split true b t = inl refl
-    or_split false b t = inr t
+    (or_cases (nat_eq k n) (has_id ns n) among))
 
 -- ---- from the event's own part to the end
 

@@ -33,7 +33,7 @@ use Rattle.raft_group_step.specs.GroupStep.{begun, call_step, event_step, finish
 use Rattle.raft_laws.proofs.StepWords.{either, either_by}
 use Rattle.raft_step_laws.specs.Tokens.{HasItsOwnVote, VotesStayOwn, seeks_or_leads}
 use Rattle.raft_step_laws.proofs.Sending.{finished_adds, idle_end}
-use Rattle.raft_step_laws.proofs.Telling.{elected_leader, granted_leader}
+use Rattle.raft_step_laws.proofs.Telling.{elected_leader, granted_leader, seeks}
 
 module _ (own : ℕ) where
   -- a candidate or leader has its own vote
@@ -216,13 +216,8 @@ module _ (own : ℕ) where
   finished_mine before r h true t =
       let on = finished_adds own before r in
       record {
-        is = λ u. ap (λ (v : Vote ℕ). v.leader_id.node_id) on.vote ∙ h.is (leading_seeks r.state.role t);
+        is = λ u. ap (λ (v : Vote ℕ). v.leader_id.node_id) on.vote ∙ h.is (seeks r.state.role t);
       }
-    where
-      leading_seeks : (role : Role) → is_leader role ≡ true → seeks_or_leads role ≡ true
-      leading_seeks Follower u = absurd (let f : false ≡ true = u in cc)
-      leading_seeks (Candidate granters) u = refl
-      leading_seeks (Leader lead) u = refl
   finished_mine before r h false t = subst Mine (sym (idle_end own before r t)) h
 
   unless_refused : (s : GroupState) (e : GroupEvent) (why : Option RefusalReason) → HasItsOwnVote own s → HasItsOwnVote own (step_unless why own s e).state

@@ -3,7 +3,7 @@ use Rattle.std.specs.Prelude.{◌≡◌, ℕ, ◌+◌, ◌==◌, ◌&&◌, not, 
 use Rattle.std.specs.Bool.{beq}
 use Rattle.std.specs.List.{list_any}
 use Rattle.std.proofs.Common.{sym, ap, ap₂, ◌∙◌, subst, arith, append-nil, ne_eqb}
-use Rattle.std.proofs.lemmas.Bool.{and_parts}
+use Rattle.std.proofs.lemmas.Bool.{and_parts, and_right}
 use Rattle.std.proofs.lemmas.List.Elements.{All-cons, All-nil, All-same}
 use Rattle.raft_values.specs.declared.vote.Vote.{Vote}
 use Rattle.raft_values.specs.declared.vote.LeaderId.{LeaderId}
@@ -43,7 +43,7 @@ use Rattle.raft_laws.proofs.VoteRanks.{same_vote}
 use Rattle.raft_laws.proofs.WorldLimits.{vote_itself}
 use Rattle.raft_laws.proofs.VoteOrders.{differ_flags as never}
 use Rattle.raft_step_laws.specs.Tokens.{HasItsOwnVote, OpensWithNone, TokensGo, TokensOfSteps, TokensWaitLeading, UntoldIsAbove, WaitsAbove, WaitsLeading, brought, is_due, leads_on, seeks_or_leads}
-use Rattle.raft_step_laws.proofs.Electing.{and_false, joined_role, unless_role}
+use Rattle.raft_step_laws.proofs.Electing.{joined_role, unless_role}
 use Rattle.raft_step_laws.proofs.Sending.{finished_adds}
 use Rattle.raft_step_laws.proofs.Untold.{Without, counted_without, down_without, elect_without, finished_without, heard_without, joined_without, judged_without, offered_without, opening_without, reply_without, same_without, unless_without}
 
@@ -157,12 +157,12 @@ data Course (s : GroupState) (e : GroupEvent) (q : StepResult) : Type 0 where
   bare : Without [] q → s.untold ≡ [] → brought s e ≡ [] → Course s e q
 
 not_leading : (s t : GroupState) → is_leader t.role ≡ false → leads_on s t ≡ false
-not_leading s t e = ap (λ b. is_leader s.role && (b && vote_eq s.stored.vote t.stored.vote)) e ∙ and_false (is_leader s.role)
+not_leading s t e = ap (λ b. is_leader s.role && (b && vote_eq s.stored.vote t.stored.vote)) e ∙ and_right (is_leader s.role) false refl
 
 pub another_vote : (s t : GroupState) → vote_eq s.stored.vote t.stored.vote ≡ false → leads_on s t ≡ false
 another_vote s t e =
     ap (λ b. is_leader s.role && (is_leader t.role && b)) e
-    ∙ ap (λ b. is_leader s.role && b) (and_false (is_leader t.role)) ∙ and_false (is_leader s.role)
+    ∙ ap (λ b. is_leader s.role && b) (and_right (is_leader t.role) false refl) ∙ and_right (is_leader s.role) false refl
 
 pub next_term_differs : (v w : Vote ℕ) → w.leader_id.term ≡ v.leader_id.term + 1 → vote_eq v w ≡ false
 next_term_differs v w e =
@@ -362,7 +362,7 @@ module _ (own : ℕ) (s : GroupState) (idle : is_leader s.role ≡ false) (none 
 
 -- ---- all events
 
-seeks : (role : Role) → is_leader role ≡ true → seeks_or_leads role ≡ true
+pub seeks : (role : Role) → is_leader role ≡ true → seeks_or_leads role ≡ true
 seeks Follower t = absurd (let f : false ≡ true = t in cc)
 seeks (Candidate granters) t = absurd (let f : false ≡ true = t in cc)
 seeks (Leader lead) t = refl

@@ -56,8 +56,8 @@ impl GroupSnapshot {
         self.membership.as_ref()
     }
 
-    // That membership with its log id, lent.
-    pub(crate) fn logged_pair(&self) -> Option<LoggedPair<'_>>
+    /// That membership as a pair with its log id, lent (own).
+    pub fn logged_pair(&self) -> Option<LoggedPair<'_>>
         ensures { logged_or_none result ≡ self.now.membership }
     {
         match &self.membership {

@@ -5,7 +5,7 @@ ghost use Rattle.raft_values.specs.LogId.{next_place};
 ghost use Rattle.raft_group_step.specs.Initialize.{is_new};
 ghost use Rattle.raft_group_step.specs.Opening.{is_joined_to};
 ghost use Rattle.raft_group_step.specs.SnapshotTrigger.{snapshot_at};
-ghost use Rattle.raft_group_step.specs.StoredGroup.{end_place, entry_at, first_place, has_id_in_log, id_of};
+ghost use Rattle.raft_group_step.specs.StoredGroup.{end_place, entry_at, first_place, has_id_in_log, held, id_of};
 ghost use Rattle.raft_group_step.specs.StoredGroup.{last_id, membership_in_force, prefix_of, snapshot_last};
 ghost use Rattle.raft_messages.specs.Memberships.{logged_or_none};
 
@@ -14,7 +14,9 @@ use crate::group_snapshot::GroupSnapshot;
 use crate::places::{behind, is_purged, places_below, up_to};
 use crate::stored_group::StoredGroup;
 use raft_group_step::Entries;
-use raft_messages::{GroupEntry, LoggedPair, copies_of, copy_of_pair, last_membership};
+use raft_messages::{
+    GroupEntry, LoggedPair, copies_of, copy_of_pair, last_membership, push_copies,
+};
 use raft_state::{BasicNode, Bytes, LogId, LogIdOptionExt, Vote};
 use std::alloc::AllocError;
 
@@ -175,6 +177,18 @@ impl StoredGroup {
     {
         let below = places_below(&self.purged, place as u64) as usize;
         &self.log[below.min(self.log.len())..]
+    }
+
+    /// The list that the snapshot and the log have together (own). It is a copy, and fails for want
+    /// of memory alone.
+    pub fn held(&self) -> Result<Vec<GroupEntry>, AllocError>
+        ensures { IfOk result (λ list. list.items ≡ held self.now) }
+    {
+        let start = self.snapshot_entries();
+        let mut list = Vec::new(*self.log.allocator());
+        push_copies(&mut list, start)?;
+        push_copies(&mut list, self.log_from(start.len()))?;
+        Ok(list)
     }
 
     // The snapshot of the list up to this log id.

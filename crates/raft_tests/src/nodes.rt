@@ -2,9 +2,8 @@
 
 use crate::answers::{assert_rows, holds};
 use crate::makers::{ids, membership, nodes};
-use raft_node::{
-    AddingMachine, Fault, MembershipFault, StateMachine, is_within_limits, membership_fault,
-};
+use raft_messages::is_within_limits;
+use raft_node::{AddingMachine, Fault, MembershipFault, StateMachine, membership_fault};
 use raft_state::{BasicNode, Bytes, Membership};
 use std::alloc::{AllocError, Global};
 

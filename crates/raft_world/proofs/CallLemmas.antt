@@ -1,5 +1,5 @@
 -- What a call that isn't refused says of the group.
-use Rattle.std.specs.Prelude.{◌≡◌, ℕ, ◌<◌, ◌≤◌, ◌^◌, ◌&&◌, Bool, true, false, [], ◌∷◌, Some, None, refl}
+use Rattle.std.specs.Prelude.{◌≡◌, ℕ, ◌<◌, ◌≤◌, ◌^◌, ◌&&◌, true, false, [], ◌∷◌, Some, None}
 use Rattle.std.proofs.Common.{sym, ap, ◌∙◌, arith}
 use Rattle.raft_quorums.specs.QuorumLaws.{and_left}
 use Rattle.raft_values.specs.LogId.{next_place}
@@ -49,12 +49,3 @@ has_room_when_ready own e s h ready =
     let same : next_place (last_id e.state.state.log_ids) ≡ end_place s.stored = ap (λ ids. next_place (last_id ids)) h.knows.ids ∙ end-known s.stored h.order.placed in
     let low : end_place s.stored ≤ 2 ^ 62 = ready.places in
     omega arith
-
--- what is false and true proves anything
-pub none_both : {P : Type 0} (b : Bool) → b ≡ false → b ≡ true → P
-none_both b n y = absurd (let no : false ≡ true = sym n ∙ y in cc)
-
--- what holds in both cases of a test
-pub by_cases : {P : Type 0} (b : Bool) → (b ≡ true → P) → (b ≡ false → P) → P
-by_cases true t f = t refl
-by_cases false t f = f refl

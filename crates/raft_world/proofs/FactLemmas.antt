@@ -2,10 +2,9 @@
 use Rattle.std.specs.Prelude.{◌≡◌, ℕ, ◌+◌, ◌-◌, ◌<◌, ◌==◌, ◌^◌, ◌&&◌, ◌||◌, max, min, nat_eq, nat_lt, Bool, true, false, if◌then◌else◌, List, [], ◌∷◌, ◌++◌, map, Option, Some, None, is_some, unwrap_or, refl}
 use Rattle.std.specs.List.{list_all}
 use Rattle.std.proofs.Common.{ap, sym, ◌∙◌, subst, arith}
-use Rattle.std.proofs.lemmas.Bool.{eqb-true}
+use Rattle.std.proofs.lemmas.Bool.{eqb-true, and_from}
 use Rattle.std.proofs.lemmas.Bool.Decides.{nat_tests}
 use Rattle.std.proofs.Math.Bool.{true≢false}
-use Rattle.raft_values.specs.LogId.{next_place}
 use Rattle.raft_quorums.specs.Nodes.{has_node}
 use Rattle.raft_quorums.specs.QuorumLaws.{and_left, and_right}
 use Rattle.raft_progress.specs.declared.progress_entry.ProgressEntry.{ProgressEntry}
@@ -13,24 +12,14 @@ use Rattle.raft_progress.specs.Parts.{has_value, ids_of, value_of}
 use Rattle.raft_leaders.specs.Leader.{LeaderValue, peer_at, unknown_peer}
 use Rattle.raft_leaders.proofs.PeerLemmas.{somebody_has}
 use Rattle.raft_leaders.specs.Candidate.{CandidateValue}
-use Rattle.raft_known_state.specs.KnownState.{IsPlaced}
-use Rattle.raft_known_state.proofs.KnownStateLemmas.{end-known, last-known}
-use Rattle.raft_group_step.specs.StoredGroup.{StoredGroup, end_place, last_id}
+use Rattle.raft_group_step.specs.StoredGroup.{StoredGroup}
 use Rattle.raft_group_step.specs.Peer.{PeerState, new_peer, peer_or}
 use Rattle.raft_group_step.specs.GroupState.{Lead, Role, Follower, Candidate, Leader, is_candidate, is_leader}
 use Rattle.raft_group_step.specs.Refusal.{are_in_range, next_ids, number_limit}
 use Rattle.raft_engine.specs.Standing.{EffectiveMembership, IsBelowPeer, Leads, PeersRise, PlaysRole}
+use Rattle.raft_engine.proofs.PeersLemmas.{same_tests}
 
 -- ---- tests on lists
-
-both : (a b : Bool) → (a ≡ true → b ≡ true) → (b ≡ true → a ≡ true) → a ≡ b
-both true b f g = sym (f refl)
-both false true f g = g refl
-both false false f g = refl
-
-and_both : (a b : Bool) → a ≡ true → b ≡ true → (a && b) ≡ true
-and_both true b f g = g
-and_both false b f g = f
 
 and_moved : (a b c : Bool) → ((a && b) && c) ≡ (a && (b && c))
 and_moved true b c = refl
@@ -40,8 +29,8 @@ and_moved false b c = refl
 
 max_below : (a b limit : ℕ) → nat_lt (max a b) limit ≡ (nat_lt b limit && nat_lt a limit)
 max_below a b limit =
-    both (nat_lt (max a b) limit) (nat_lt b limit && nat_lt a limit)
-    (λ h. let m : max a b < limit = grind (arith, nat_tests, h) in and_both (nat_lt b limit) (nat_lt a limit) (let k : b < limit = omega arith in grind (arith, nat_tests, k)) (let k : a < limit = omega arith in grind (arith, nat_tests, k)))
+    same_tests (nat_lt (max a b) limit) (nat_lt b limit && nat_lt a limit)
+    (λ h. let m : max a b < limit = grind (arith, nat_tests, h) in and_from (nat_lt b limit) (nat_lt a limit) (let k : b < limit = omega arith in grind (arith, nat_tests, k)) (let k : a < limit = omega arith in grind (arith, nat_tests, k)))
     (λ h. let f : b < limit = grind (arith, nat_tests, and_left (nat_lt b limit) (nat_lt a limit) h) in
     let g : a < limit = grind (arith, nat_tests, and_right (nat_lt b limit) (nat_lt a limit) h) in
     let m : max a b < limit = omega arith in
@@ -49,7 +38,7 @@ max_below a b limit =
 
 capped_below : (n cap limit : ℕ) → limit < cap + 1 → nat_lt (min n cap) limit ≡ nat_lt n limit
 capped_below n cap limit l =
-    both (nat_lt (min n cap) limit) (nat_lt n limit)
+    same_tests (nat_lt (min n cap) limit) (nat_lt n limit)
     (λ h. let m : min n cap < limit = grind (arith, nat_tests, h) in let k : n < limit = omega arith in grind (arith, nat_tests, k))
     (λ h. let m : n < limit = grind (arith, nat_tests, h) in let k : min n cap < limit = omega arith in grind (arith, nat_tests, k))
 
@@ -126,7 +115,7 @@ module _ (limit : ℕ) (more : 1 < limit) where
       let one : nat_lt 1 limit ≡ true = grind (arith, nat_tests, more) in
       let same : (x.peer == x.peer) ≡ true = grind (arith, nat_tests) in
       let rest = peer_or (new_peer began x.peer) xs in
-      and_both (is_low x) (are_low xs) (ap (λ b. is_low (if b then x else rest)) (sym same) ∙ h x.peer)
+      and_from (is_low x) (are_low xs) (ap (λ b. is_low (if b then x else rest)) (sym same) ∙ h x.peer)
       (all_low began xs rising.1 (λ n.
       elim (x.peer == n) as (λ b. (x.peer == n) ≡ b → is_low (peer_or (new_peer began n) xs) ≡ true) [
         | true ↦ λ e. ap is_low (below_all (new_peer began n) xs rising.1 (subst (λ k. IsBelowPeer k xs) (eqb-true x.peer n e) rising.0)) ∙ one
@@ -137,7 +126,7 @@ module _ (limit : ℕ) (more : 1 < limit) where
 
   all_there : (test : ℕ → Bool) (xs : List (ℕ × ProgressEntry ℕ)) → ((n : ℕ) → test n ≡ true) → list_all test (ids_of xs) ≡ true
   all_there test [] h = refl
-  all_there test (x ∷ xs) h = and_both (test x.0) (list_all test (ids_of xs)) (h x.0) (all_there test xs h)
+  all_there test (x ∷ xs) h = and_from (test x.0) (list_all test (ids_of xs)) (h x.0) (all_there test xs h)
 
   one_there : (test : ℕ → Bool) (xs : List (ℕ × ProgressEntry ℕ)) (n : ℕ) → list_all test (ids_of xs) ≡ true → has_node nat_eq xs n ≡ true → test n ≡ true
   one_there test [] n h k = absurd (true≢false (sym k))
@@ -172,7 +161,7 @@ module _ (limit : ℕ) (more : 1 < limit) where
     -- the numbers of the entries are below the limit where those of the lead's peers are
     pub entries_low : are_below l limit (l.progress.voters ++ l.progress.learners) ≡ are_low lead.peers
     entries_low =
-        both (are_below l limit (l.progress.voters ++ l.progress.learners)) (are_low lead.peers)
+        same_tests (are_below l limit (l.progress.voters ++ l.progress.learners)) (are_low lead.peers)
         (λ all. all_low lead.began lead.peers h.rising (λ n. ap is_low (h.peers n) ∙ any_entry n all))
         (λ all. all_there (is_below l limit) (l.progress.voters ++ l.progress.learners)
         (λ n. ap is_low (sym (h.peers n)) ∙ found_low (new_peer lead.began n) lead.peers (grind (arith, nat_tests, more)) all))
@@ -217,8 +206,3 @@ module _ (own : ℕ) (s : StoredGroup) where
   range_told (Some l) None (Leader lead) greatest h g =
       sym (entries_low number_limit (omega arith) own l s lead h) ∙ sym (g number_limit (omega arith) (omega arith))
   range_told (Some l) (Some c) (Leader lead) greatest h g = absurd h
-
--- ---- the end of the log
-
-pub next_of_last : (s : StoredGroup) → IsPlaced s → next_place (last_id s) ≡ end_place s
-next_of_last s p = ap next_place (sym (last-known s p)) ∙ end-known s p

@@ -11,7 +11,7 @@ use Rattle.raft_laws.specs.declared.world_event.WorldEvent.{WorldEvent}
 use Rattle.raft_laws.specs.declared.world_event.WorldEvent.TheVariants.{Add}
 use Rattle.raft_group_step.specs.GroupEvent.{AddGroup, Open}
 use Rattle.raft_messages.specs.Messages.{message_of}
-use Rattle.raft_settled.specs.World.{led_of}
+use Rattle.raft_world.specs.Settled.{led_of}
 use Rattle.raft_laws.specs.NodeEvent.{NodeEvent, Comes, Crashes, Halts, Restarts, outcome_at, state_after}
 use Rattle.raft_laws.specs.GroupWorld.{GroupWorld, NodeState, Absent, Up, Down, Outcome, Done, Refused, Stopped, Skipped, Recorded, is_stop, new_world, state_or}
 use Rattle.raft_laws.specs.GroupRun.{Scene, Nowhere, At, group_run, history_of, led_after, outcome_of, ran, scene_of, sent_in, setup_after, stop_at}
@@ -25,6 +25,7 @@ use Rattle.raft_laws.proofs.StepOrder.{step-keeps}
 use Rattle.raft_laws.proofs.SentVotes.{sent_votes_stay}
 use Rattle.raft_laws.proofs.VotesRise.{votes_rise}
 use Rattle.raft_laws.proofs.WorldStart.{founded}
+use Rattle.raft_laws.proofs.WorldTold.{run_both}
 use Rattle.raft_world.specs.Member.{IsUp}
 use Rattle.raft_world.specs.World.{AllStoreRightly, AreMarks, AreNodes, All, Broke, HasBroken, HasMarked, HasRunEvents, IsNodeAt, IsWorldOf, KeepsTheLaws, RunEnd, StoresRightly, StoresRightlyIn, additions, begun_world, last_of, member_of, planned_of, rest_of}
 use Rattle.raft_world.specs.declared.member.Member.{Member}
@@ -33,10 +34,6 @@ use Rattle.raft_world.specs.declared.world.World.{World}
 use Rattle.raft_world.specs.declared.world.PlannedEvent.{PlannedEvent}
 
 -- ---- runs
-
-pub run_both : (es fs : List (WorldEvent × Option ℕ)) (g : GroupWorld) → group_run (es ++ fs) g ≡ group_run fs (group_run es g)
-run_both [] fs g = refl
-run_both (e ∷ es) fs g = run_both es fs (ran g e.0 e.1)
 
 -- a run goes on from a history
 pub history_after : (ids : List ℕ) (rs : List Recorded) (g : GroupWorld) (es : List (WorldEvent × Option ℕ)) → IsGroupHistory ids rs g → IsGroupHistory ids (rs ++ history_of es g) (group_run es g)

@@ -1,6 +1,6 @@
 -- What every history of a group has, as members ask it of their states.
-use Rattle.std.specs.Prelude.{◌≡◌, ℕ, suc, ◌+◌, ◌≤◌, ◌<◌, ◌^◌, Bool, true, false, List, [], ◌∷◌, filter, length, slice_get, Option, Some, None, refl}
-use Rattle.std.proofs.Common.{sym, ap, ◌∙◌, subst, arith, cond}
+use Rattle.std.specs.Prelude.{◌≡◌, ℕ, suc, ◌+◌, ◌≤◌, ◌<◌, ◌^◌, List, [], ◌∷◌, length, slice_get, Option, Some, None, refl}
+use Rattle.std.proofs.Common.{sym, ap, ◌∙◌, subst, arith}
 use Rattle.raft_values.specs.declared.log_id.LogId.{LogId}
 use Rattle.raft_values.specs.LogId.{next_place}
 use Rattle.raft_group_step.specs.Values.{Entry}
@@ -19,22 +19,15 @@ use Rattle.raft_laws.proofs.LowPlaces.{places_low}
 use Rattle.raft_laws.proofs.OpenedStates.{opened_in_order, opened_keeps, opened_low}
 use Rattle.raft_laws.proofs.ReadyStates.{purge_of_up_node, snapshot_ready, wish_covered}
 use Rattle.raft_laws.proofs.StepWords.{either}
+use Rattle.raft_engine.proofs.RoomToGrow.{fewer_filtered}
 use Rattle.raft_world.specs.Member.{IsLawful}
 use Rattle.raft_world.specs.Opening.{IsOpenable}
 
 -- ---- few members
 
-one_more : (b : Bool) (x : ℕ) (xs : List ℕ) (k : ℕ) → length xs ≤ k → length (cond b (x ∷ xs) xs) ≤ suc k
-one_more true x xs k h = omega arith
-one_more false x xs k h = omega arith
-
-filter_short : (p : ℕ → Bool) (xs : List ℕ) → length (filter p xs) ≤ length xs
-filter_short p [] = omega arith
-filter_short p (x ∷ xs) = one_more (p x) x (filter p xs) (length xs) (filter_short p xs)
-
 others_few : (own : ℕ) (st : StoredGroup) → length (ids_of (membership_in_force st)) ≤ 128 → length (other_ids own st) ≤ 2 ^ 62
 others_few own st few =
-    let fewer : length (other_ids own st) ≤ length (ids_of (membership_in_force st)) = filter_short _ (ids_of (membership_in_force st)) in
+    let fewer : length (other_ids own st) ≤ length (ids_of (membership_in_force st)) = fewer_filtered _ (ids_of (membership_in_force st)) in
     omega arith
 
 -- ---- nodes that are up

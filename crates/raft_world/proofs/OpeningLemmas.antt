@@ -5,7 +5,7 @@ use Rattle.std.proofs.Math.Seq.{take-append-add}
 use Rattle.raft_values.specs.declared.log_id.LogId.{LogId}
 use Rattle.raft_values.specs.LogId.{next_place, place_of}
 use Rattle.raft_commands.specs.Config.{config_of}
-use Rattle.raft_group_step.specs.StoredGroup.{StoredGroup, StoringCommand, StartAfter, after_storing, after_storing_all, end_place, id_at, snapshot_last}
+use Rattle.raft_group_step.specs.StoredGroup.{StoredGroup, StoringCommand, StartAfter, after_storing_all, end_place, id_at, snapshot_last}
 use Rattle.raft_group_step.specs.GroupState.{Follower, state_of}
 use Rattle.raft_group_step.specs.GroupEvent.{Open}
 use Rattle.raft_group_step.specs.StepResult.{StepResult, apply_up_to, store, unchanged}
@@ -21,6 +21,7 @@ use Rattle.raft_laws.proofs.GoingOn.{openings_go_on}
 use Rattle.raft_laws.proofs.GroupsStay.{groups_stay}
 use Rattle.raft_laws.proofs.StepMoments.{moments_of_openings}
 use Rattle.raft_laws.proofs.StepOrder.{step-keeps}
+use Rattle.raft_executor.proofs.StoringLemmas.{after_both}
 use Rattle.raft_world.specs.Member.{Engine, HasEnded, HasStopped, IsDown, IsUp}
 use Rattle.raft_world.specs.Opening.{HasOpened, IsFresh, IsOpenable, Loads, stale_end, stale_from}
 use Rattle.raft_world.specs.Running.{HasHalted, HasRun}
@@ -60,10 +61,6 @@ dropping (Some last) = StartAfter last ∷ []
 abbrev begun_with : List StoringCommand → StoredGroup → Option ℕ → StepResult
 begun_with cs kept place =
     record (unchanged (record (state_of (after_storing_all cs kept)) { committed = place; applied = place })) { commands = cs }
-
-both_stored : (a b : List StoringCommand) (s : StoredGroup) → after_storing_all (a ++ b) s ≡ after_storing_all b (after_storing_all a s)
-both_stored [] b s = refl
-both_stored (c ∷ cs) b s = both_stored cs b (after_storing c s)
 
 module _ (st : StoredGroup) where
   abbrev pub first : List StoringCommand
@@ -180,7 +177,7 @@ module _ (st : StoredGroup) where
         let whole = (step-keeps own (state_of st) Open).stored in
         ap (λ (r : StepResult). r.state.stored) (sym step_goes_on) ∙ whole
         ∙ ap (λ (r : StepResult). after_storing_all r.commands st) step_goes_on
-        ∙ both_stored (opened st).commands rest.commands st
+        ∙ after_both (opened st).commands rest.commands st
         ∙ ap (after_storing_all rest.commands) (ap (λ (r : StepResult). after_storing_all r.commands st) opened_as ∙ sym opened_stored)
 
     pub rest_begins : 0 ≡ rest.state.now
@@ -192,7 +189,7 @@ module _ (st : StoredGroup) where
         let commands : (group_step own (state_of st) Open).commands ≡ first ++ rest.commands =
         ap (λ (r : StepResult). r.commands) step_goes_on ∙ ap (λ (r : StepResult). r.commands ++ rest.commands) opened_as in
         ap (after_storing_all (take n rest.commands)) opened_stored
-        ∙ sym (both_stored first (take n rest.commands) st)
+        ∙ sym (after_both first (take n rest.commands) st)
         ∙ ap (λ cs. after_storing_all cs st) (sym (take-append-add first rest.commands n))
         ∙ ap (λ cs. after_storing_all (take (length first + n) cs) st) (sym commands)
 

@@ -134,7 +134,3 @@ nodes_same ms nodes id state same are n =
     with_step id n (n == id) state nodes (member_of n ms) refl
     (λ is. subst (IsNodeAt (member_of n ms)) (ap nodes is ∙ same) (are n))
     (λ ne. are n)
-
--- the node's state itself
-pub with_at : (id : ℕ) (state : NodeState) (nodes : ℕ → NodeState) → with_node_state id state nodes id ≡ state
-with_at id state nodes = ap (λ b. state_or b state (nodes id)) (eq-eqb id id refl)

@@ -1,6 +1,7 @@
 -- A step that is stored and sent, in part or whole.
-use Rattle.std.specs.Prelude.{◌≡◌, ℕ, zero, suc, Bool, true, false, ◌||◌, is_some, List, [], ◌∷◌, ◌++◌, take, length, Option, Some, None, Result, Ok, Err, OnErr, refl}
+use Rattle.std.specs.Prelude.{◌≡◌, ℕ, zero, suc, Bool, true, false, ◌||◌, is_some, List, [], ◌∷◌, ◌++◌, take, length, Option, Some, None, refl}
 use Rattle.std.proofs.Common.{sym, ap, ◌∙◌}
+use Rattle.std.proofs.Math.Seq.{take-length}
 use Rattle.raft_values.specs.LogId.{log_id_of}
 use Rattle.raft_group_step.specs.StoredGroup.{StoredGroup, StoringCommand, Snapshot, SetSnapshot, after_storing_all}
 use Rattle.raft_group_step.specs.StepResult.{StepResult}
@@ -119,10 +120,6 @@ take_front : (done others : List StoringCommand) → take (length done) (done ++
 take_front [] others = refl
 take_front (c ∷ cs) others = ap (λ l. c ∷ l) (take_front cs others)
 
-take_all : (cs : List StoringCommand) → take (length cs) cs ≡ cs
-take_all [] = refl
-take_all (c ∷ cs) = ap (λ l. c ∷ l) (take_all cs)
-
 -- the front of the first ones is a front
 front_of_first : (k : ℕ) (cs done others : List StoringCommand) → take k cs ≡ done ++ others → take (length done) cs ≡ done
 front_of_first k cs [] others e = refl
@@ -159,7 +156,7 @@ module _ (own : ℕ) (e : Engine) (old : StoredGroup) (r : StepResult) (given : 
       no_engine = none;
       stored =
           stored
-          ∙ ap (λ l. after_storing_all l old) (run.step.stores ∙ sym (take_all r.commands));
+          ∙ ap (λ l. after_storing_all l old) (run.step.stores ∙ sym (take-length r.commands));
       present = groups_stay (take (length r.commands) r.commands) old present;
     };
   }
@@ -203,8 +200,3 @@ no_stop (Some k) h = absurd (let no : true ≡ false = h in cc)
 pub some_stop : (stop : Option ℕ) → is_some stop ≡ true → (k : ℕ) × (stop ≡ Some k)
 some_stop None h = absurd (let no : false ≡ true = h in cc)
 some_stop (Some k) h = (k, refl)
-
--- what holds in any case holds where the call fails
-pub at_any_error : {T E P : Type 0} (r : Result T E) → P → OnErr r P
-at_any_error (Ok v) p = tt
-at_any_error (Err e) p = p

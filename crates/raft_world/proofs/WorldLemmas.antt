@@ -25,7 +25,7 @@ use Rattle.raft_laws.specs.GroupWorld.{GroupWorld, NodeState, Absent, Up, Down, 
 use Rattle.raft_laws.specs.GroupRun.{Scene, Nowhere, At, after_scene, ended, is_same_setup, led_after, led_by, outcome_in, outcome_of, ran, scene_of, scene_of_call, scene_of_delivery, sent_in, setup_after, setup_in, setup_in_call, stop_at}
 use Rattle.raft_laws.specs.NodeEvent.{NodeEvent, Comes, Crashes, Halts, Restarts, after_step, outcome_at, outcome_of_end, outcome_of_step, outcome_of_stop, state_after}
 use Rattle.raft_laws.specs.Stop.{stopped_after, unknown_at_stop}
-use Rattle.raft_settled.specs.World.{led_of}
+use Rattle.raft_world.specs.Settled.{led_of}
 use Rattle.raft_world.specs.Ending.{BreaksAt, EndsAt, HasConcluded, IsCut, IsEndOf, IsWorldBut, down_of, first_setup, set_up_with}
 use Rattle.raft_world.specs.World.{AreNodes, GoesDown, HasBroken, HasCome, HasHappened, IsMarkOf, IsPlace, IsWorldOf, Stops, addressee_of, node_of}
 use Rattle.raft_world.specs.Member.{IsAt}

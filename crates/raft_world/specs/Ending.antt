@@ -10,7 +10,7 @@ use Rattle.raft_laws.specs.GroupWorld.{GroupWorld, NodeState, Absent, Up, Down, 
 use Rattle.raft_laws.specs.GroupRun.{ended, led_by, stop_at, setup_in}
 use Rattle.raft_laws.specs.NodeEvent.{NodeEvent, outcome_at, state_after}
 use Rattle.raft_laws.specs.declared.world_event.WorldEvent.{WorldEvent}
-use Rattle.raft_settled.specs.World.{led_of}
+use Rattle.raft_world.specs.Settled.{led_of}
 use Rattle.raft_world.specs.Member.{IsAt}
 use Rattle.raft_world.specs.World.{AreNodes, IsMarkOf, IsWorldOf}
 use Rattle.raft_world.specs.declared.member.Member.{Member}

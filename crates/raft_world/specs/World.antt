@@ -17,7 +17,7 @@ use Rattle.raft_laws.specs.NodeEvent.{NodeEvent, Comes, Crashes, Halts, Restarts
 use Rattle.raft_laws.specs.StoringOrder.{StoresInOrder}
 use Rattle.raft_laws.specs.OneList.{AppliedIsHeld, CommittedIsHeld, IsGroupHistory, LeadersHold, LogIdsAgree, SnapshotsAreListed}
 use Rattle.raft_laws.specs.Settled.{IsGroupList, group_list}
-use Rattle.raft_settled.specs.World.{led_of}
+use Rattle.raft_world.specs.Settled.{led_of}
 use Rattle.raft_world.specs.Member.{IsAt}
 use Rattle.raft_world.specs.declared.member.Member.{Member}
 use Rattle.raft_world.specs.declared.world.World.{World}

@@ -12,9 +12,9 @@ ghost use Rattle.raft_world.specs.Running.{EndsTo, HasHalted, RunsTo};
 ghost use Rattle.raft_world.specs.declared.member.Ended.TheVariants.{Skipped};
 
 use crate::member::{Broken, ByteGroup, Ended, Member};
-use crate::metas::meta_of;
 use raft_conditions::{GroupCommand, changed_membership};
 use raft_engine::Engine;
+use raft_executor::meta_of;
 use raft_group_step::GroupCall;
 use raft_state::{BasicNode, Bytes, ChangeMembers, Membership};
 use raft_stored_group::StoredGroup;

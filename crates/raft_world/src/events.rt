@@ -6,19 +6,19 @@ ghost use Rattle.raft_laws.specs.GroupRun.{is_same_setup, led_by, setup_in_call}
 ghost use Rattle.raft_laws.specs.OneList.{IsGroupHistory};
 ghost use Rattle.raft_laws.specs.declared.world_event.WorldEvent.{WorldEvent as AnEvent};
 ghost use Rattle.raft_laws.specs.declared.world_event.WorldEvent.TheVariants.{Add, Ask, Crash, Deliver, Halt, Restart};
-ghost use Rattle.raft_settled.specs.World.{led_of};
+ghost use Rattle.raft_world.specs.Settled.{led_of};
 ghost use Rattle.raft_world.specs.Member.{IsAt};
 ghost use Rattle.raft_world.specs.World.{AreNodes, HasBroken, HasCome, HasHappened, IsPlace, IsWorldOf, node_of};
 ghost use Rattle.raft_world.specs.Ending.{HasConcluded, IsEndOf, IsSent, IsWorldBut, down_of, first_setup, set_up_with};
 
 use crate::member::{Broken, Ended, Member};
 use crate::places::place_of;
+use crate::settled::led_note::note;
 use crate::world::{Mark, PlannedEvent, World};
 use raft_conditions::GroupCommand;
 use raft_executor::GroupMessage;
 use raft_group_step::GroupCall;
 use raft_laws::world_event::WorldEvent;
-use raft_settled::note;
 use raft_state::{BasicNode, Membership};
 use std::alloc::AllocError;
 
@@ -69,7 +69,7 @@ impl World {
         if !member.is_leading() {
             return Ok(());
         }
-        let led = note(self.alloc, member.id, &member.stored)?;
+        let led = note(member.id, &member.stored)?;
         self.led.push(led)?;
         Ok(())
     }

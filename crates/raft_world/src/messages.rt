@@ -14,11 +14,9 @@ ghost use Rattle.raft_world.specs.Running.{EndsTo, HasHalted, RunsTo};
 ghost use Rattle.raft_world.specs.declared.member.Ended.TheVariants.{Skipped};
 
 use crate::member::{ByteGroup, Ended, Member};
-use crate::metas::meta_of;
-use crate::replies::{caller_and_answer, caller_id};
 use raft_conditions::{GroupFacts, Parties, Refusal};
 use raft_engine::{AppendEntriesRequest, Caller, Engine, RequestId};
-use raft_executor::GroupMessage;
+use raft_executor::{GroupMessage, caller_and_answer, caller_id, meta_of};
 use raft_messages::{AppendFields, MessageBody, ReplyFields, copies_of, last_sent};
 use raft_state::Vote;
 use raft_stored_group::GroupSnapshot;

@@ -7,7 +7,7 @@ ghost use Rattle.raft_group_step.specs.GroupState.{GroupState, state_of};
 ghost use Rattle.raft_group_step.specs.GroupEvent.{Open};
 ghost use Rattle.raft_group_step.specs.GroupStep.{finished};
 ghost use Rattle.raft_group_step.specs.Opening.{resume_lead};
-ghost use Rattle.raft_known_state.specs.KnownState.{IsPlaced, meta_of};
+ghost use Rattle.raft_known_state.specs.KnownState.{IsPlaced};
 ghost use Rattle.raft_laws.specs.Opened.{opened};
 ghost use Rattle.raft_world.specs.Member.{HasEnded, HasStopped, IsDown, IsUp};
 ghost use Rattle.raft_world.specs.Opening.{HasOpened, IsFresh, IsOpenable, stale_end};
@@ -15,26 +15,13 @@ ghost use Rattle.raft_world.specs.Running.{HasHalted, HasRun};
 ghost use Rattle.raft_world.specs.declared.member.Ended.TheVariants.{Skipped};
 
 use crate::member::{ByteGroup, Ended, Member};
-use crate::metas::meta_of;
 use raft_commands::EngineConfig;
 use raft_engine::{Engine, KnownState};
+use raft_executor::stored_meta;
 use raft_messages::all_go_on;
-use raft_state::{BasicNode, LogId, SnapshotMeta};
+use raft_state::{BasicNode, LogId};
 use raft_stored_group::StoredGroup;
 use std::alloc::{AllocError, Global};
-
-// What the stored snapshot covers; nothing where there is none.
-fn stored_meta(
-    alloc: Global,
-    stored: &StoredGroup,
-) -> Result<SnapshotMeta<u64, BasicNode>, AllocError>
-    ensures { IfOk result (λ meta. meta ≡ meta_of stored.now.snapshot) }
-{
-    match stored.snapshot() {
-        Some(snapshot) => meta_of(alloc, snapshot),
-        None => Ok(SnapshotMeta::default(alloc)),
-    }
-}
 
 // Whether a place stands behind the log id that 64 bits hold.
 fn has_next(last: Option<LogId<u64>>) -> bool

@@ -9,11 +9,12 @@ ghost use Rattle.raft_world.specs.World.{HasBroken, HasMarked, HasRunEvents, IsW
 
 use crate::member::Member;
 use crate::places::place_of;
+use crate::settled::group_list;
+use crate::settled::led_note::LedNote;
 use raft_conditions::Refusal;
 use raft_executor::GroupMessage;
 use raft_laws::world_event::WorldEvent;
 use raft_messages::GroupEntry;
-use raft_settled::{LedNote, group_list};
 use raft_state::{BasicNode, Membership};
 use std::alloc::{AllocError, Global};
 use std::mem;

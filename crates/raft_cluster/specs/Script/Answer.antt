@@ -6,7 +6,8 @@ use Rattle.raft_node.specs.declared.fault.Fault.{Fault}
 use Rattle.raft_node.specs.declared.fault.Fault.TheVariants as faults
 use Rattle.raft_node.specs.Adding.{adding, total_of}
 use Rattle.raft_node.specs.Fault.{number_of, name_of}
-use Rattle.raft_node.specs.Fold.{GroupEntry, fold_of}
+use Rattle.raft_group_step.specs.Values.{Entry}
+use Rattle.raft_node.specs.Fold.{fold_of}
 use Rattle.raft_cluster.specs.declared.event.EventOutcome.{EventOutcome}
 use Rattle.raft_cluster.specs.declared.event.EventOutcome.TheVariants as outcomes
 use Rattle.raft_cluster.specs.declared.event.Told.{Told}
@@ -44,7 +45,7 @@ outcome_text (outcomes.Fault why) =
 outcome_text (outcomes.Refused why) = codes "refused " ++ (label_of why ++ newline)
 
 -- the total of a group with this list, and the last place that it has run
-abbrev pub total_text : Option (List GroupEntry) → List ℕ
+abbrev pub total_text : Option (List Entry) → List ℕ
 total_text None = codes "none" ++ newline
 total_text (Some entries) =
     codes "total "

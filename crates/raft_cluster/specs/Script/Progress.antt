@@ -3,7 +3,7 @@ use Rattle.std.specs.Prelude.{ℕ, ◌+◌, ◌==◌, if◌then◌else◌, List,
 use Rattle.std.specs.Int.{w64, to_be_bytes}
 use Rattle.raft_membership.specs.declared.membership.Membership.{Membership}
 use Rattle.raft_node.specs.Adding.{adding}
-use Rattle.raft_node.specs.Fold.{GroupEntry}
+use Rattle.raft_group_step.specs.Values.{Entry}
 use Rattle.raft_cluster.specs.declared.event.ClusterEvent.{ClusterEvent}
 use Rattle.raft_cluster.specs.declared.event.ClusterEvent.TheVariants as events
 use Rattle.raft_cluster.specs.declared.script.line.Line.{Line}
@@ -48,7 +48,7 @@ happens p event cluster = (
 )
 
 -- a group's list at a node; there is none where there is no such node or group
-abbrev pub list_at : ClusterValue → ℕ → ℕ → Option (List GroupEntry)
+abbrev pub list_at : ClusterValue → ℕ → ℕ → Option (List Entry)
 list_at cluster node group =
     if node == cluster.id then list_of cluster.id group (events_of cluster.history) else None
 

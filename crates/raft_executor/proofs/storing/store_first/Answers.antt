@@ -1,5 +1,6 @@
 -- Each command takes from the room what it stores.
-use Rattle.raft_executor.proofs.StoringLemmas.{all_are_stored, at_any_error, is_part, nothing_yet, one_is_stored}
+use Rattle.raft_state.proofs.GrowthLemmas.{on_err}
+use Rattle.raft_executor.proofs.StoringLemmas.{all_are_stored, is_part, nothing_yet, one_is_stored}
 use Rattle.raft_executor.proofs.storing.store_first.Goals as goal
 
 pub loop-command-init : goal.loop-command-init
@@ -19,4 +20,4 @@ returns g c = record {
 
 pub returns-in_err-room-clause-err : goal.returns-in_err-room-clause-err
 returns-in_err-room-clause-err g c = λ x given.
-    at_any_error _ (is_part _ _ _ _ _ _ (c.loop-command.invariant x given).1 c.in_err-room.ensures.err)
+    on_err _ (is_part _ _ _ _ _ _ (c.loop-command.invariant x given).1 c.in_err-room.ensures.err)

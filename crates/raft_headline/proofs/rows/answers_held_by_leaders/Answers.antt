@@ -2,10 +2,10 @@ use Rattle.std.specs.Prelude.{◌≡◌, ◌<◌, false, refl}
 use Rattle.std.proofs.Common.{arith, subst}
 use Rattle.raft_group_step.specs.Values.{vote_lt}
 use Rattle.raft_group_step.specs.GroupState.{GroupState}
+use Rattle.raft_laws.proofs.WorldOrigins.{same_up}
 use Rattle.raft_headline.specs.Rows.{has_told, state_there}
 use Rattle.raft_headline.proofs.RowLeaders.{told_held}
 use Rattle.raft_headline.proofs.rows.answers_held_by_leaders.Goals as goal
-use Rattle.raft_headline.proofs.Same.{same_up}
 
 pub returns-clause-told : goal.returns-clause-told
 returns-clause-told c = record { teller = _; leading = record { is_up = refl; leads = refl }; held = told_held }

@@ -1,9 +1,10 @@
 -- A change that isn't refused has a membership to change, makes a valid one, and has room.
 use Rattle.std.proofs.Common.{Some, MatchOption, ap, sym, ◌∙◌, ◌≡◌, subst, false, true}
+use Rattle.std.proofs.lemmas.Bool.{both_ways}
 use Rattle.raft_group_step.specs.Values.{after_change, is_valid}
 use Rattle.raft_group_step.specs.StoredGroup.{membership_in_force}
 use Rattle.raft_messages.specs.Memberships.{logged_or_none}
-use Rattle.raft_world.proofs.CallLemmas.{change_is_valid, has_membership, has_room_when_ready, none_both}
+use Rattle.raft_world.proofs.CallLemmas.{change_is_valid, has_membership, has_room_when_ready}
 use Rattle.raft_world.proofs.calls.change.Goals as goal
 
 pub returns-in_default : goal.returns-in_default
@@ -22,7 +23,7 @@ returns-in_default-2 c = λ x own at token s same may.
 
 pub returns-then-not-has_room : goal.returns-then-not-has_room
 returns-then-not-has_room c = λ x own at token s same may.
-    none_both c.has_room.result c.if-not-has_room.true (c.has_room.ensures.1 (has_room_when_ready own _ s may.stands may.ready))
+    absurd (both_ways c.has_room.result c.if-not-has_room.true (c.has_room.ensures.1 (has_room_when_ready own _ s may.stands may.ready)))
 
 pub returns : goal.returns
 returns c = λ x own at token s same may.

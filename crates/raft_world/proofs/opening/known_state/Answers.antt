@@ -4,10 +4,8 @@ use Rattle.std.proofs.lemmas.Bool.Decides.{nat_tests}
 use Rattle.std.proofs.Math.Bool.{true≢false}
 use Rattle.raft_values.specs.LogId.{next_place}
 use Rattle.raft_group_step.specs.StoredGroup.{first_place}
-use Rattle.raft_known_state.specs.KnownState.{entry_ids}
-use Rattle.raft_engine.specs.Following.{all_go_on}
+use Rattle.raft_messages.specs.Entries.{all_go_on}
 use Rattle.raft_engine.proofs.PlacedEntries.{go_on, placed_go_on}
-use Rattle.raft_world.proofs.OrderLemmas.{entries_go_on}
 use Rattle.raft_world.proofs.opening.known_state.Goals as goal
 use Rattle.raft_world.proofs.opening.known_state.Goals.{then-not-has_next-via-then-not-has_next, then-not-has_next-via-else-not-has_next+then-not-all_go_on}
 
@@ -22,10 +20,10 @@ returns-then-not-has_next c = λ placed low.
           true≢false (sym yes ∙ sym c.has_next.ensures ∙ w.if-not-has_next.true)
       | then-not-has_next-via-else-not-has_next+then-not-all_go_on w ↦
           true≢false (sym (placed_go_on s.log (first_place s) s.purged placed (omega arith))
-          ∙ ap₂ all_go_on (sym c.purged-purged.ensures) (ap entry_ids (sym w.log.ensures)) ∙ sym (entries_go_on c.purged-purged.result w.log.result.now) ∙ sym w.all_go_on.ensures ∙ w.if-not-all_go_on.true)
+          ∙ ap₂ all_go_on (sym c.purged-purged.ensures) (sym w.log.ensures) ∙ sym w.all_go_on.ensures ∙ w.if-not-all_go_on.true)
     ]
 
 pub load-requires-clause-goes_on : goal.load-requires-clause-goes_on
 load-requires-clause-goes_on c =
-    go_on (entry_ids c.log-2.result.now) c.purged-purged.result
-    (ap (λ log. all_go_on c.purged-purged.result (entry_ids log)) (c.log-2.ensures ∙ sym c.log.ensures) ∙ sym (entries_go_on c.purged-purged.result c.log.result.now) ∙ sym c.all_go_on.ensures ∙ c.if-not-all_go_on.false)
+    go_on c.log-2.result.now c.purged-purged.result
+    (ap (λ log. all_go_on c.purged-purged.result log) (c.log-2.ensures ∙ sym c.log.ensures) ∙ sym c.all_go_on.ensures ∙ c.if-not-all_go_on.false)

@@ -7,20 +7,20 @@ use Rattle.raft_values.specs.LogId.{place_of}
 use Rattle.raft_group_step.specs.StoredGroup.{end_place}
 use Rattle.raft_group_step.specs.Frames.{with_frames}
 use Rattle.raft_group_step.specs.Lead.{commit_as_leader, purge_as_wished}
+use Rattle.raft_leaders.proofs.OwnLemmas.{none_if}
 use Rattle.raft_engine.specs.Purging.{MayBePurged}
 use Rattle.raft_engine.specs.Standing.{IsWholeStepOf, PlaysRole}
 use Rattle.raft_engine.specs.Events.{CanFinish, HasLeadRoom}
 use Rattle.raft_engine.proofs.ElectionLemmas.{known_end}
 use Rattle.raft_engine.proofs.FinishLemmas.{commit_keeps_role, commit_keeps_stored, commit_keeps_wish, finished_unled, purge_keeps_role, room_for_frames, wished_keeps}
 use Rattle.raft_engine.proofs.PurgeLemmas.{KeepsStanding, led}
-use Rattle.raft_engine.proofs.ReplicationLemmas.{none_is}
 use Rattle.raft_engine.proofs.StandingLemmas.{step_as_whole}
 use Rattle.raft_engine.proofs.engine.Engine.finish.Goals as goal
 
 pub returns-then-is_none : goal.returns-then-is_none
 returns-then-is_none g c = λ x own r step can.
     let self = c.args.self.now in
-    let none = none_is self.leader (c.is_none.ensures ∙ ap not c.if-is_none.true) in
+    let none = none_if self.leader (c.is_none.ensures ∙ ap not c.if-is_none.true) in
     let plays = subst (λ l. PlaysRole own l self.candidate r.state.stored r.state.role) none step.state.role in
     rw (finished_unled own (place_of c.args.before) self.candidate r.state.stored r plays) (step_as_whole x own self r step)
 

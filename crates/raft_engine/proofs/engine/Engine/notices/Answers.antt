@@ -4,15 +4,16 @@ use Rattle.std.specs.Prelude.{not}
 use Rattle.raft_commands.specs.declared.engine_config.EngineConfig.{EngineConfig}
 use Rattle.raft_group_step.specs.Lead.{other_ids}
 use Rattle.raft_group_step.specs.Heartbeat.{beat_as, send_notices}
+use Rattle.raft_leaders.proofs.OwnLemmas.{none_if}
 use Rattle.raft_engine.specs.Standing.{PlaysRole}
-use Rattle.raft_engine.proofs.ReplicationLemmas.{leads, none_is, some_is, untold}
+use Rattle.raft_engine.proofs.ReplicationLemmas.{leads, some_is, untold}
 use Rattle.raft_engine.proofs.engine.Engine.notices.Goals as goal
 
 pub returns-then-is_none : goal.returns-then-is_none
 returns-then-is_none g c = λ x own r step.
     let self = c.args.self.now in
     rw (untold own self.candidate r.state.stored r.state.role r
-    (subst (λ l. PlaysRole own l self.candidate r.state.stored r.state.role) (none_is self.leader (c.is_none.ensures ∙ ap not c.if-is_none.true)) step.state.role)) step
+    (subst (λ l. PlaysRole own l self.candidate r.state.stored r.state.role) (none_if self.leader (c.is_none.ensures ∙ ap not c.if-is_none.true)) step.state.role)) step
 
 pub returns : goal.returns
 returns g c = λ x own r step.

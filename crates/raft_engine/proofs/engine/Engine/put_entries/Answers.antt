@@ -9,16 +9,16 @@ use Rattle.raft_commands.specs.declared.command.Command.TheVariants.{AppendInput
 use Rattle.raft_group_step.specs.StoredGroup.{PutEntries, after_storing, end_place}
 use Rattle.raft_group_step.specs.StepResult.{is_within}
 use Rattle.raft_group_step.specs.AppendRequest.{cut_from}
-use Rattle.raft_known_state.specs.KnownState.{ArePlaced, Knows, entry_ids}
-use Rattle.raft_engine.specs.Following.{all_go_on}
+use Rattle.raft_known_state.specs.KnownState.{ArePlaced, Knows}
+use Rattle.raft_messages.specs.Entries.{all_go_on}
 use Rattle.raft_engine.proofs.PlacedEntries.{found_at, go_on}
 use Rattle.raft_engine.proofs.FollowingLemmas.{cut_ends, cut_keeps_role, known_go_on, log_stored, order_of_put, put_all_as, put_as, put_keeps_id, put_none}
 use Rattle.raft_engine.proofs.engine.Engine.put_entries.Goals as goal
 
 pub append-requires : goal.append-requires
 append-requires g c =
-    go_on (entry_ids c.as_slice-3.result.now) (last_id c.cut_from.new.self.state.state.log_ids)
-    (ap₂ all_go_on (sym c.last.ensures ∙ sym c.copied-last.ensures) (ap entry_ids (c.as_slice-3.ensures ∙ sym c.as_slice-2.ensures)) ∙ sym c.all_go_on.ensures ∙ c.if-not-all_go_on.false)
+    go_on c.as_slice-3.result.now (last_id c.cut_from.new.self.state.state.log_ids)
+    (ap₂ all_go_on (sym c.last.ensures ∙ sym c.copied-last.ensures) (c.as_slice-3.ensures ∙ sym c.as_slice-2.ensures) ∙ sym c.all_go_on.ensures ∙ c.if-not-all_go_on.false)
 
 pub returns-in_default : goal.returns-in_default
 returns-in_default g c = λ x own r place step follows placed past l.
@@ -36,7 +36,7 @@ returns-then-not-all_go_on g c = λ x own r place step follows placed past l.
     let goes = known_go_on (cut_from first.log_id.index r).state.stored c.cut_from.new.self.state.state.log_ids c.args.entries first.log_id.index
     cut.state.order.placed cut.state.knows.ids ends (subst (λ n. ArePlaced n c.args.entries) at placed) in
     let no : false ≡ true =
-    sym c.if-not-all_go_on.true ∙ c.all_go_on.ensures ∙ ap₂ all_go_on (c.copied-last.ensures ∙ c.last.ensures) (ap entry_ids c.as_slice-2.ensures) ∙ goes in
+    sym c.if-not-all_go_on.true ∙ c.all_go_on.ensures ∙ ap₂ all_go_on (c.copied-last.ensures ∙ c.last.ensures) c.as_slice-2.ensures ∙ goes in
     absurd (let none : false ≡ true = no in cc)
 
 pub returns : goal.returns

@@ -8,16 +8,17 @@ use Rattle.raft_group_step.specs.Values.{has_id}
 use Rattle.raft_group_step.specs.StoredGroup.{membership_in_force}
 use Rattle.raft_group_step.specs.Lead.{ids_of, other_ids}
 use Rattle.raft_group_step.specs.Frames.{has_grown, serve_all}
+use Rattle.raft_leaders.proofs.OwnLemmas.{none_if}
 use Rattle.raft_engine.specs.Standing.{PlaysRole}
 use Rattle.raft_engine.specs.Sending.{HasRoomFor}
-use Rattle.raft_engine.proofs.ReplicationLemmas.{all_unserved, none_is, others-members}
+use Rattle.raft_engine.proofs.ReplicationLemmas.{all_unserved, others-members}
 use Rattle.raft_engine.proofs.engine.Engine.with_frames.Goals as goal
 
 pub returns-then-is_none : goal.returns-then-is_none
 returns-then-is_none g c = λ x own r step room.
     let self = c.args.self.now in
     rw (all_unserved own (has_grown c.args.before r.state.committed) (other_ids own r.state.stored) self.candidate r.state.stored r
-    (subst (λ l. PlaysRole own l self.candidate r.state.stored r.state.role) (none_is self.leader (c.is_none.ensures ∙ ap not c.if-is_none.true)) step.state.role)) step
+    (subst (λ l. PlaysRole own l self.candidate r.state.stored r.state.role) (none_if self.leader (c.is_none.ensures ∙ ap not c.if-is_none.true)) step.state.role)) step
 
 pub returns : goal.returns
 returns g c = λ x own r step room.

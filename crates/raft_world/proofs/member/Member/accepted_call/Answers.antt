@@ -1,7 +1,7 @@
 -- The engine does what is asked, and its queue is stored and sent.
+use Rattle.std.proofs.lemmas.Bool.{both_ways}
 use Rattle.raft_group_step.specs.GroupEvent.{Call}
 use Rattle.raft_group_step.specs.GroupStep.{group_step}
-use Rattle.raft_world.proofs.CallLemmas.{none_both}
 use Rattle.raft_world.proofs.EventLemmas.{run_of_call}
 use Rattle.raft_world.proofs.member.Member.accepted_call.Goals as goal
 use Rattle.raft_world.proofs.member.Member.accepted_call.Goals.{in-TriggerSnapshot, in_default}
@@ -12,7 +12,7 @@ returns-clause-ok c = λ at s down idle moment members may.
     (run_of_call c.args.engine.now c.args.self.now.id at c.args.moment c.take_call.new.engine s c.args.call.now moment may.accepted
     (λ x. c.in_ok-take_call.ensures x c.args.self.now.id at s down.stored moment
     (elim c.match-matches.branch [
-      | in-TriggerSnapshot w ↦ none_both c.match-matches.matches c.if-matches.false w.matches-is
+      | in-TriggerSnapshot w ↦ absurd (both_ways c.match-matches.matches c.if-matches.false w.matches-is)
       | in_default w ↦ w.in_default.not-TriggerSnapshot
     ])
     may))
@@ -23,7 +23,7 @@ returns-clause-err c = λ at s down idle moment members may.
     (run_of_call c.args.engine.now c.args.self.now.id at c.args.moment c.take_call.new.engine s c.args.call.now moment may.accepted
     (λ x. c.in_ok-take_call.ensures x c.args.self.now.id at s down.stored moment
     (elim c.match-matches.branch [
-      | in-TriggerSnapshot w ↦ none_both c.match-matches.matches c.if-matches.false w.matches-is
+      | in-TriggerSnapshot w ↦ absurd (both_ways c.match-matches.matches c.if-matches.false w.matches-is)
       | in_default w ↦ w.in_default.not-TriggerSnapshot
     ])
     may))

@@ -4,7 +4,8 @@ use Rattle.std.specs.Prelude.{nat_lt}
 use Rattle.raft_values.specs.LogId.{next_place, place_of}
 use Rattle.raft_group_step.specs.StoredGroup.{StoredGroup, last_id, membership_in_force}
 use Rattle.raft_group_step.specs.Initialize.{is_new}
-use Rattle.raft_world.proofs.FactLemmas.{IsGreatest, leads_told, next_of_last, range_told, stands_told}
+use Rattle.raft_engine.proofs.SendingLemmas.{end-last}
+use Rattle.raft_world.proofs.FactLemmas.{IsGreatest, leads_told, range_told, stands_told}
 use Rattle.raft_world.proofs.member.Member.facts.Goals as goal
 use Rattle.raft_world.proofs.member.Member.facts.Goals.{in-Some, in-None}
 
@@ -13,7 +14,7 @@ returns c = λ s h stored low.
     let own = c.args.self.now.id in
     let e = c.args.engine.now in
     let last : next_place c.last_id.result ≡ next_place (last_id s.stored) = ap next_place (c.last_id.ensures ∙ ap last_id stored) in
-    let end = last ∙ next_of_last s.stored h.order.placed in
+    let end = last ∙ end-last s.stored h.order.placed in
     let greatest : IsGreatest e.leader c.match-engine.result =
     elim c.match-engine.branch [
       | in-Some w ↦

@@ -1,5 +1,6 @@
 -- A snapshot is built of what is applied, and else the engine had nothing to build.
 use Rattle.std.proofs.Common.{◌≡◌, ℕ, true, false, Some, None, option_map, sym, ap, ◌∙◌, subst}
+use Rattle.std.proofs.lemmas.Bool.{both_ways}
 use Rattle.raft_values.specs.LogId.{stands_before}
 use Rattle.raft_group_step.specs.StoredGroup.{entry_at, id_of}
 use Rattle.raft_group_step.specs.GroupState.{GroupState}
@@ -11,9 +12,9 @@ use Rattle.raft_engine.specs.Building.{covered_id}
 use Rattle.raft_engine.specs.Events.{HasTaken, MayTake}
 use Rattle.raft_engine.specs.Standing.{IsStateOf}
 use Rattle.raft_engine.proofs.BuildingLemmas.{stands_asking}
+use Rattle.raft_progress.proofs.OrderLemmas.{bool_cases}
 use Rattle.raft_world.specs.Member.{Engine, HasMembershipOfApplied, IsDown, IsIdle}
 use Rattle.raft_world.proofs.AppliedLemmas.{has_snapshot, is_of_applied, none_stands_behind}
-use Rattle.raft_world.proofs.CallLemmas.{by_cases, none_both}
 use Rattle.raft_world.proofs.EventLemmas.{run_of_call, run_of_call_with}
 use Rattle.raft_world.proofs.RunLemmas.{one_snapshot}
 use Rattle.raft_world.proofs.member.Member.snapshot_call.Goals as goal
@@ -22,8 +23,8 @@ use Rattle.raft_world.proofs.member.Member.snapshot_call.Goals.{After-drop-snaps
 pub returns-then-not-branch-clause-ok : goal.returns-then-not-branch-clause-ok
 returns-then-not-branch-clause-ok c = λ at s down idle moment members may.
     let none_past : stands_before (covered_id c.args.engine.now) c.args.engine.now.state.state.committed ≡ false =
-    by_cases (stands_before (covered_id c.args.engine.now) c.args.engine.now.state.state.committed)
-    (λ t. none_both c.in_ok-trigger_snapshot.field-0 c.if-not-branch.true (c.in_ok-trigger_snapshot.ensures.asked idle.not_building t).0)
+    bool_cases (stands_before (covered_id c.args.engine.now) c.args.engine.now.state.state.committed)
+    (λ t. absurd (both_ways c.in_ok-trigger_snapshot.field-0 c.if-not-branch.true (c.in_ok-trigger_snapshot.ensures.asked idle.not_building t).0))
     (λ f. f) in
     c.end_taken.ensures.ok s.stored (group_step c.args.self.now.id s (Call TriggerSnapshot at)) down
     (run_of_call c.args.engine.now c.args.self.now.id at c.args.moment c.trigger_snapshot.new.self s TriggerSnapshot moment may.accepted
@@ -32,8 +33,8 @@ returns-then-not-branch-clause-ok c = λ at s down idle moment members may.
 pub returns-then-not-branch-clause-err : goal.returns-then-not-branch-clause-err
 returns-then-not-branch-clause-err c = λ at s down idle moment members may.
     let none_past : stands_before (covered_id c.args.engine.now) c.args.engine.now.state.state.committed ≡ false =
-    by_cases (stands_before (covered_id c.args.engine.now) c.args.engine.now.state.state.committed)
-    (λ t. none_both c.in_ok-trigger_snapshot.field-0 c.if-not-branch.true (c.in_ok-trigger_snapshot.ensures.asked idle.not_building t).0)
+    bool_cases (stands_before (covered_id c.args.engine.now) c.args.engine.now.state.state.committed)
+    (λ t. absurd (both_ways c.in_ok-trigger_snapshot.field-0 c.if-not-branch.true (c.in_ok-trigger_snapshot.ensures.asked idle.not_building t).0))
     (λ f. f) in
     c.end_taken.ensures.err s.stored (group_step c.args.self.now.id s (Call TriggerSnapshot at)) down
     (run_of_call c.args.engine.now c.args.self.now.id at c.args.moment c.trigger_snapshot.new.self s TriggerSnapshot moment may.accepted
@@ -42,8 +43,8 @@ returns-then-not-branch-clause-err c = λ at s down idle moment members may.
 pub returns-in_default-clause-ok : goal.returns-in_default-clause-ok
 returns-in_default-clause-ok c = λ at s down idle moment members may.
     let past : stands_before (covered_id c.args.engine.now) c.args.engine.now.state.state.committed ≡ true =
-    by_cases (stands_before (covered_id c.args.engine.now) c.args.engine.now.state.state.committed) (λ t. t)
-    (λ f. none_both c.in_ok-trigger_snapshot.field-0 (c.in_ok-trigger_snapshot.ensures.none_new (one_snapshot 0) c.args.self.now.id at s may idle.not_building f).0 c.if-not-branch.false) in
+    bool_cases (stands_before (covered_id c.args.engine.now) c.args.engine.now.state.state.committed) (λ t. t)
+    (λ f. absurd (both_ways c.in_ok-trigger_snapshot.field-0 (c.in_ok-trigger_snapshot.ensures.none_new (one_snapshot 0) c.args.self.now.id at s may idle.not_building f).0 c.if-not-branch.false)) in
     let asked = (c.in_ok-trigger_snapshot.ensures.asked idle.not_building past).1 in
     let none : c.args.engine.now.state.state.committed ≡ None = sym (ap (λ (e : Engine). e.state.state.committed) asked) ∙ c.in_default.is in
     none_stands_behind (covered_id c.args.engine.now) (ap (λ o. stands_before (covered_id c.args.engine.now) o) (sym none) ∙ past)
@@ -51,8 +52,8 @@ returns-in_default-clause-ok c = λ at s down idle moment members may.
 pub returns-in_default-2-clause-ok : goal.returns-in_default-2-clause-ok
 returns-in_default-2-clause-ok c = λ at s down idle moment members may.
     let past : stands_before (covered_id c.args.engine.now) c.args.engine.now.state.state.committed ≡ true =
-    by_cases (stands_before (covered_id c.args.engine.now) c.args.engine.now.state.state.committed) (λ t. t)
-    (λ f. none_both c.in_ok-trigger_snapshot.field-0 (c.in_ok-trigger_snapshot.ensures.none_new (one_snapshot 0) c.args.self.now.id at s may idle.not_building f).0 c.if-not-branch.false) in
+    bool_cases (stands_before (covered_id c.args.engine.now) c.args.engine.now.state.state.committed) (λ t. t)
+    (λ f. absurd (both_ways c.in_ok-trigger_snapshot.field-0 (c.in_ok-trigger_snapshot.ensures.none_new (one_snapshot 0) c.args.self.now.id at s may idle.not_building f).0 c.if-not-branch.false)) in
     let asked = (c.in_ok-trigger_snapshot.ensures.asked idle.not_building past).1 in
     let is : c.args.engine.now.state.state.committed ≡ Some c.in-Some.applied = sym (ap (λ (e : Engine). e.state.state.committed) asked) ∙ c.in-Some.is in
     has_snapshot c.args.self.now.id c.args.engine.now s idle.stands c.in-Some.applied is (ap (λ o. stands_before (covered_id c.args.engine.now) o) (sym is) ∙ past)
@@ -64,8 +65,8 @@ module _ (c : After-drop-snapshot-inside-4) (at : ℕ) (s : GroupState) (down : 
   taken : HasTaken c.in-Some-2.snapshot c.args.self.now.id c.args.engine.now c.finish_building_snapshot.new.self s (Call TriggerSnapshot at)
   taken =
       let past : stands_before (covered_id c.args.engine.now) c.args.engine.now.state.state.committed ≡ true =
-      by_cases (stands_before (covered_id c.args.engine.now) c.args.engine.now.state.state.committed) (λ t. t)
-      (λ f. none_both c.in_ok-trigger_snapshot.field-0 (c.in_ok-trigger_snapshot.ensures.none_new (one_snapshot 0) c.args.self.now.id at s may idle.not_building f).0 c.if-not-branch.false) in
+      bool_cases (stands_before (covered_id c.args.engine.now) c.args.engine.now.state.state.committed) (λ t. t)
+      (λ f. absurd (both_ways c.in_ok-trigger_snapshot.field-0 (c.in_ok-trigger_snapshot.ensures.none_new (one_snapshot 0) c.args.self.now.id at s may idle.not_building f).0 c.if-not-branch.false)) in
       let asked = (c.in_ok-trigger_snapshot.ensures.asked idle.not_building past).1 in
       let is : c.args.engine.now.state.state.committed ≡ Some c.in-Some.applied = sym (ap (λ (e : Engine). e.state.state.committed) asked) ∙ c.in-Some.is in
       let found = ap (λ stored. option_map (snapshot_at stored) (id_of (entry_at stored c.in-Some.applied.index))) (sym down.stored) ∙ sym c.in_ok-snapshot.ensures ∙ c.in-Some-2.is in

@@ -1,10 +1,11 @@
 -- The engine runs the rest of the opening.
 use Rattle.std.proofs.Common.{sym, subst}
+use Rattle.raft_state.proofs.GrowthLemmas.{on_err}
 use Rattle.raft_world.specs.Opening.{HasOpened}
 use Rattle.raft_world.specs.Running.{HasRun}
 use Rattle.raft_laws.specs.Opened.{opened}
 use Rattle.raft_world.proofs.OpeningLemmas.{opened_follows, rest, rest_begins, rest_stored}
-use Rattle.raft_world.proofs.RunLemmas.{at_any_error, run_without_snapshot}
+use Rattle.raft_world.proofs.RunLemmas.{run_without_snapshot}
 use Rattle.raft_world.proofs.member.Member.start.Goals as goal
 
 pub returns-in_err-ended-clause-err : goal.returns-in_err-ended-clause-err
@@ -16,7 +17,7 @@ returns-in_err-ended-clause-err c = λ st down openable.
     run_without_snapshot own c.startup.new.self old.stored (rest st own) 0
     (λ x. c.in_ok-startup.ensures x own old has.0 has.1 openable.ready (opened_follows st))
     (rest_stored st own) (rest_begins st own) in
-    at_any_error c.from_residual-in_err-ended.result (c.in_err-ended.ensures.err old.stored (rest st own) down run)
+    on_err c.from_residual-in_err-ended.result (c.in_err-ended.ensures.err old.stored (rest st own) down run)
 
 pub returns-clause-ok : goal.returns-clause-ok
 returns-clause-ok c = λ st down openable.

@@ -7,14 +7,14 @@ use Rattle.raft_group_step.specs.StoredGroup.{Snapshot}
 use Rattle.raft_messages.specs.declared.message.Message.{Message}
 use Rattle.raft_laws.specs.GroupWorld.{NodeState, Refused, with_node_state}
 use Rattle.raft_laws.specs.GroupRun.{led_by}
-use Rattle.raft_settled.specs.World.{led_of}
+use Rattle.raft_laws.proofs.Numbers.{state_here}
+use Rattle.raft_world.specs.Settled.{led_of}
 use Rattle.raft_world.specs.Ending.{IsEndOf, IsSent}
 use Rattle.raft_world.specs.World.{IsPlace}
 use Rattle.raft_world.specs.declared.member.Ended.{Ended}
 use Rattle.raft_world.specs.declared.member.Ended.TheVariants as end_of
 use Rattle.raft_world.specs.declared.member.Member.{Member}
 use Rattle.raft_world.specs.declared.world.World.{World}
-use Rattle.raft_world.proofs.PlaceLemmas.{with_at}
 use Rattle.raft_world.proofs.WorldLemmas.{but_kept, but_set_up, concluded_done, concluded_refused, cut_done, cut_refused}
 use Rattle.raft_world.proofs.world.World.conclude.Goals as goal
 
@@ -35,7 +35,7 @@ returns-in_default c = λ g e n o state there h first is.
     let refused : o ≡ Refused (reason_of c.in-Refused.refusal) = subst (λ (x : Ended). IsEndOf x o) c.in-Refused.is is in
     let led : map led_of noted.led.items ≡ map led_of w.led.items ++ led_by n (with_node_state n state g.nodes n) = c.in_default.ensures.ok n (with_node_state n state g.nodes) there h.nodes in
     concluded_refused w g e n o state h noted c.in-Refused.refusal refused c.note_lead.ensures.members c.note_lead.ensures.messages c.note_lead.ensures.setup
-    (led ∙ ap (λ (x : NodeState). map led_of w.led.items ++ led_by n x) (with_at n state g.nodes))
+    (led ∙ ap (λ (x : NodeState). map led_of w.led.items ++ led_by n x) (state_here n state g.nodes))
 
 pub returns-in-Err-send : goal.returns-in-Err-send
 returns-in-Err-send c = λ g e n o state there h first is.
@@ -64,4 +64,4 @@ returns-in_default-send c = λ g e n o state there h first is.
     (sent.messages ∙ ap (λ (x : World). x.messages.items ++ c.in-Done.sent.items) made)
     (sent.led
     ∙ ap (λ (x : World). map led_of x.led.items ++ led_by n (with_node_state n state g.nodes n)) made
-    ∙ ap (λ (x : NodeState). map led_of w.led.items ++ led_by n x) (with_at n state g.nodes))
+    ∙ ap (λ (x : NodeState). map led_of w.led.items ++ led_by n x) (state_here n state g.nodes))

@@ -1,7 +1,7 @@
 use Rattle.std.specs.Prelude.{◌∷◌, [], ◌++◌, map}
 use Rattle.std.proofs.Common.{sym, ap, ◌∙◌}
 use Rattle.std.proofs.lemmas.List.{append-nil, map-append}
-use Rattle.raft_settled.specs.World.{led_of}
+use Rattle.raft_world.specs.Settled.{led_of}
 use Rattle.raft_laws.specs.GroupWorld.{Led}
 use Rattle.raft_world.proofs.PlaceLemmas.{named_there, node_there}
 use Rattle.raft_world.proofs.EndingLemmas.{lead_noted, no_lead}
