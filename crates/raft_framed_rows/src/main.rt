@@ -1,0 +1,15 @@
+//! Frames that come to a member of a group, a row of text each, and the frames that it answers.
+#![tactic(auto)]
+
+mod member;
+
+use member::Framed;
+use raft_rows::run;
+use std::io;
+
+fn main(rt: HostRuntime) -> io::Result<()> {
+    match Framed::new(rt.alloc()) {
+        Ok(mut framed) => run(&rt, &mut framed),
+        Err(_) => println!(rt; "no memory"),
+    }
+}
