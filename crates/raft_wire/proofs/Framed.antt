@@ -1,13 +1,13 @@
 -- The reader of frames fits their spelling, and no spelling begins another.
 use Rattle.std.proofs.Common.{◌≡◌, ℕ, zero, suc, ◌^◌, List, [], ◌∷◌, ◌++◌, Ok, refl, sym, ap, subst, ◌∙◌}
 use Rattle.std.specs.Int.{w64, to_be_bytes}
+use Rattle.raft_messages.specs.declared.message.MessageBody.TheVariants as body
 use Rattle.raft_wire.specs.declared.frame.FrameKind.{FrameKind}
 use Rattle.raft_wire.specs.declared.frame.FrameKind.TheVariants as kind
-use Rattle.raft_messages.specs.declared.message.MessageBody.TheVariants as body
 use Rattle.raft_wire.specs.declared.frame.Frame.{Frame}
 use Rattle.raft_wire.specs.Reader.{Reader, ◌>>=◌, made, number_at}
 use Rattle.raft_wire.specs.Bodies.{spelled_vote_request, FitsVoteRequest, vote_request_at, spelled_vote_reply, FitsVoteReply, vote_reply_at, spelled_append, FitsAppend, append_at, spelled_reply, FitsReply, reply_at, sent, spelled_sent, FitsSent, sent_at, FitsSnapshotReply, snapshot_reply_at}
-use Rattle.raft_wire.specs.Frames.{byte_of_kind, kind_at, FrameBody, kind_of, spelled_body, FitsBody, asks, answers_vote, appends, answers_append, sends_snapshot, answers_snapshot, body_at, spelled_rest, frame_of, rest_at, FitsFrame}
+use Rattle.raft_wire.specs.Frames.{byte_of_kind, kind_at, Body, kind_of, spelled_body, FitsBody, asks, answers_vote, appends, answers_append, sends_snapshot, answers_snapshot, body_at, spelled_rest, frame_of, rest_at, FitsFrame}
 use Rattle.raft_wire.proofs.Numbers.{IsBytes, IsBytes-rest, bind_ok, ok_is, Takes, Takes-then, wide64, number_takes, number_again}
 use Rattle.raft_wire.proofs.Fitting.{Reads}
 use Rattle.raft_wire.proofs.Bodies.{vote_request_reads, vote_reply_reads, append_reads, reply_reads, sent_reads, snapshot_reply_reads}
@@ -37,21 +37,21 @@ kind_again kind.SnapshotReply rest = refl
 
 -- ---- bodies
 
-abbrev IsBodyOf : FrameKind → FrameBody → Type 0
+abbrev IsBodyOf : FrameKind → Body → Type 0
 IsBodyOf k b = FitsBody b × (kind_of b ≡ k)
 
-abbrev TakesBody : FrameKind → List ℕ → FrameBody × List ℕ → Type 0
+abbrev TakesBody : FrameKind → List ℕ → Body × List ℕ → Type 0
 TakesBody k bytes y = Takes bytes (spelled_body y.0) y.1 × IsBodyOf k y.0
 
-module _ {A : Type 0} (k : FrameKind) (make : A → FrameBody) (reader : Reader A) (spelled : A → List ℕ) (F : A → Type 0) (r : Reads reader spelled F) where
-  kind_takes_body : ((a : A) → spelled_body (make a) ≡ spelled a) → ((a : A) → F a → IsBodyOf k (make a)) → (bytes : List ℕ) (x : FrameBody × List ℕ) → IsBytes bytes → made make reader bytes ≡ Ok x → TakesBody k bytes x
+module _ {A : Type 0} (k : FrameKind) (make : A → Body) (reader : Reader A) (spelled : A → List ℕ) (F : A → Type 0) (r : Reads reader spelled F) where
+  kind_takes_body : ((a : A) → spelled_body (make a) ≡ spelled a) → ((a : A) → F a → IsBodyOf k (make a)) → (bytes : List ℕ) (x : Body × List ℕ) → IsBytes bytes → made make reader bytes ≡ Ok x → TakesBody k bytes x
   kind_takes_body same is bytes x fits e =
       let a = bind_ok (reader bytes) (λ a. Ok (make a.0, a.1)) x e in
       let t = r.takes bytes a.0.0 a.0.1 fits a.1 in
-      let made_of : FrameBody × List ℕ = (make a.0.0, a.0.1) in
-      subst (λ (y : FrameBody × List ℕ). TakesBody k bytes y) (ok_is made_of x a.2) (subst (λ (l : List ℕ). Takes bytes l a.0.1) (sym (same a.0.0)) t.0, is a.0.0 t.1)
+      let made_of : Body × List ℕ = (make a.0.0, a.0.1) in
+      subst (λ (y : Body × List ℕ). TakesBody k bytes y) (ok_is made_of x a.2) (subst (λ (l : List ℕ). Takes bytes l a.0.1) (sym (same a.0.0)) t.0, is a.0.0 t.1)
 
-body_takes : (k : FrameKind) (bytes : List ℕ) (x : FrameBody × List ℕ) → IsBytes bytes → body_at k bytes ≡ Ok x → TakesBody k bytes x
+body_takes : (k : FrameKind) (bytes : List ℕ) (x : Body × List ℕ) → IsBytes bytes → body_at k bytes ≡ Ok x → TakesBody k bytes x
 unfolding body_at
 body_takes kind.VoteRequest bytes x fits e = kind_takes_body kind.VoteRequest asks vote_request_at spelled_vote_request FitsVoteRequest vote_request_reads (λ a. refl) (λ a h. (h, refl)) bytes x fits e
 body_takes kind.VoteReply bytes x fits e = kind_takes_body kind.VoteReply answers_vote vote_reply_at spelled_vote_reply FitsVoteReply vote_reply_reads (λ a. refl) (λ a h. (h, refl)) bytes x fits e
@@ -60,7 +60,7 @@ body_takes kind.AppendReply bytes x fits e = kind_takes_body kind.AppendReply an
 body_takes kind.Snapshot bytes x fits e = kind_takes_body kind.Snapshot sends_snapshot sent_at spelled_sent FitsSent sent_reads (λ a. refl) (λ a h. (h, refl)) bytes x fits e
 body_takes kind.SnapshotReply bytes x fits e = kind_takes_body kind.SnapshotReply answers_snapshot snapshot_reply_at spelled_reply FitsSnapshotReply snapshot_reply_reads (λ a. refl) (λ a h. (h, refl)) bytes x fits e
 
-body_again : (b : FrameBody) (rest : List ℕ) → FitsBody b → body_at (kind_of b) (spelled_body b ++ rest) ≡ Ok (b, rest)
+body_again : (b : Body) (rest : List ℕ) → FitsBody b → body_at (kind_of b) (spelled_body b ++ rest) ≡ Ok (b, rest)
 unfolding body_at
 body_again (body.VoteRequest r) rest h = rw (vote_request_reads.again r rest h) refl
 body_again (body.VoteReply r) rest h = rw (vote_reply_reads.again r rest h) refl

@@ -18,7 +18,7 @@ use Rattle.raft_wire.specs.Memberships.{Chained, FitsIds, nothing_left, FitsNode
 use Rattle.raft_wire.specs.Entries.{FitsPayload, that_place}
 use Rattle.raft_wire.specs.Writing.{is_payload_short}
 use Rattle.raft_wire.specs.Bodies.{FitsBehind, FitsLogged, is_of_snapshot}
-use Rattle.raft_wire.specs.Frames.{FrameBody, spelled_parties, spelled_body, spelled_rest, spelled_frame, rest_at, FitsBody, FitsFrame, are_consecutive, are_entries_short, is_logged_short, is_snapshot_short, fault_of_frame}
+use Rattle.raft_wire.specs.Frames.{Body, spelled_parties, spelled_body, spelled_rest, spelled_frame, rest_at, FitsBody, FitsFrame, are_consecutive, are_entries_short, is_logged_short, is_snapshot_short, fault_of_frame}
 use Rattle.raft_wire.specs.Stream.{Judged, length_in, fault_of_length, judged_frame, judged_length, judged, front}
 use Rattle.raft_wire.proofs.Numbers.{IsBytes, IsBytes-take, IsBytes-drop, wide32}
 use Rattle.raft_wire.proofs.Whole.{whole_takes, whole_again}
@@ -69,7 +69,7 @@ no_fault_of_tags : (of_snapshot : Bool) → of_snapshot ≡ true → cond of_sna
 no_fault_of_tags true p = refl
 no_fault_of_tags false p = absurd cc
 
-pub fits_within : (b : FrameBody) → FitsBody b → fault_of_frame b ≡ None
+pub fits_within : (b : Body) → FitsBody b → fault_of_frame b ≡ None
 fits_within (body.VoteRequest r) h = refl
 fits_within (body.VoteReply r) h = refl
 fits_within (body.AppendRequest m) h =

@@ -24,7 +24,7 @@ use Rattle.raft_wire.specs.Memberships.{spelled_list, spelled_id, spelled_ids, s
 use Rattle.raft_wire.specs.Entries.{spelled_text, spelled_payload, spelled_entry}
 use Rattle.raft_wire.specs.Writing.{is_payload_short}
 use Rattle.raft_wire.specs.Bodies.{spelled_id as spelled_request_id, spelled_append, spelled_result, spelled_reply, spelled_logged, spelled_snapshot, SentSnapshot, sent, spelled_sent, spelled_number}
-use Rattle.raft_wire.specs.Frames.{FrameBody, spelled_parties, spelled_body, spelled_rest, are_consecutive, are_entries_short, is_logged_short, is_snapshot_short, fault_of_entries, fault_of_snapshot, fault_of_frame}
+use Rattle.raft_wire.specs.Frames.{Body, spelled_parties, spelled_body, spelled_rest, are_consecutive, are_entries_short, is_logged_short, is_snapshot_short, fault_of_entries, fault_of_snapshot, fault_of_frame}
 
 both_true : (a b : Bool) → (a && b) ≡ true → (a ≡ true) × (b ≡ true)
 both_true true b h = (refl, h)
@@ -179,7 +179,7 @@ sent_short s h =
       logged_short meta.last_membership t.0,
     )
 
-body_short : (b : FrameBody) → fault_of_frame b ≡ None → length (spelled_body b) ≤ 16816000
+body_short : (b : Body) → fault_of_frame b ≡ None → length (spelled_body b) ≤ 16816000
 body_short (body.VoteRequest r) h = omega (arith, length-append (spelled_flag r.vote.committed) (spelled_last r.last_log_id), flag_len r.vote.committed, last_len r.last_log_id)
 body_short (body.VoteReply r) h =
     omega (arith, three (spelled_flag r.vote.committed) (spelled_flag r.vote_granted) (spelled_last r.last_log_id), flag_len r.vote.committed, flag_len r.vote_granted, last_len r.last_log_id)

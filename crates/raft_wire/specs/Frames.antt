@@ -48,10 +48,10 @@ kind_at (suc (suc (suc (suc (suc (suc (suc n)))))) ∷ rest) = Err fault.BadKind
 
 -- ---- what a frame says: what a message says whose snapshot is bytes
 
-abbrev pub FrameBody : Type 0
-FrameBody = MessageBody SnapshotBytes
+abbrev pub Body : Type 0
+Body = MessageBody SnapshotBytes
 
-abbrev pub kind_of : FrameBody → FrameKind
+abbrev pub kind_of : Body → FrameKind
 kind_of (body.VoteRequest r) = kind.VoteRequest
 kind_of (body.VoteReply r) = kind.VoteReply
 kind_of (body.AppendRequest m) = kind.Append
@@ -59,7 +59,7 @@ kind_of (body.AppendReply m) = kind.AppendReply
 kind_of (body.SnapshotRequest vote id s) = kind.Snapshot
 kind_of (body.SnapshotReply m) = kind.SnapshotReply
 
-abbrev pub spelled_body : FrameBody → List ℕ
+abbrev pub spelled_body : Body → List ℕ
 spelled_body (body.VoteRequest r) = spelled_vote_request r
 spelled_body (body.VoteReply r) = spelled_vote_reply r
 spelled_body (body.AppendRequest m) = spelled_append m
@@ -67,7 +67,7 @@ spelled_body (body.AppendReply m) = spelled_reply m
 spelled_body (body.SnapshotRequest vote id s) = spelled_sent (sent vote id s)
 spelled_body (body.SnapshotReply m) = spelled_reply m
 
-abbrev pub FitsBody : FrameBody → Type 0
+abbrev pub FitsBody : Body → Type 0
 FitsBody (body.VoteRequest r) = FitsVoteRequest r
 FitsBody (body.VoteReply r) = FitsVoteReply r
 FitsBody (body.AppendRequest m) = FitsAppend m
@@ -75,26 +75,26 @@ FitsBody (body.AppendReply m) = FitsReply m
 FitsBody (body.SnapshotRequest vote id s) = FitsSent (sent vote id s)
 FitsBody (body.SnapshotReply m) = FitsSnapshotReply m
 
-abbrev pub asks : VoteRequest ℕ → FrameBody
+abbrev pub asks : VoteRequest ℕ → Body
 asks r = body.VoteRequest r
 
-abbrev pub answers_vote : VoteResponse ℕ → FrameBody
+abbrev pub answers_vote : VoteResponse ℕ → Body
 answers_vote r = body.VoteReply r
 
-abbrev pub appends : AppendFields → FrameBody
+abbrev pub appends : AppendFields → Body
 appends m = body.AppendRequest m
 
-abbrev pub answers_append : ReplyFields → FrameBody
+abbrev pub answers_append : ReplyFields → Body
 answers_append m = body.AppendReply m
 
-abbrev pub sends_snapshot : SentSnapshot → FrameBody
+abbrev pub sends_snapshot : SentSnapshot → Body
 sends_snapshot s = body.SnapshotRequest s.vote s.number s.snapshot
 
-abbrev pub answers_snapshot : ReplyFields → FrameBody
+abbrev pub answers_snapshot : ReplyFields → Body
 answers_snapshot m = body.SnapshotReply m
 
 -- the body of a frame of this kind
-unfoldable pub body_at : FrameKind → Reader FrameBody
+unfoldable pub body_at : FrameKind → Reader Body
 body_at kind.VoteRequest bytes = made asks vote_request_at bytes
 body_at kind.VoteReply bytes = made answers_vote vote_reply_at bytes
 body_at kind.Append bytes = made appends append_at bytes
@@ -111,7 +111,7 @@ spelled_parties f =
 abbrev pub spelled_rest : Frame → List ℕ
 spelled_rest f = byte_of_kind (kind_of f.message.body) ∷ (spelled_parties f ++ spelled_body f.message.body)
 
-abbrev pub frame_of : ℕ → ℕ → ℕ → FrameBody → Frame
+abbrev pub frame_of : ℕ → ℕ → ℕ → Body → Frame
 frame_of group sender addressee said =
     record { group = group; message = record { sender = sender; addressee = addressee; body = said } }
 
@@ -166,7 +166,7 @@ fault_of_snapshot m bytes = if is_snapshot_short m bytes then None else Some fau
 abbrev pub fault_of_snapshot_reply : ReplyFields → Option FrameFault
 fault_of_snapshot_reply m = if is_of_snapshot m then None else Some fault.BadTag
 
-abbrev pub fault_of_frame : FrameBody → Option FrameFault
+abbrev pub fault_of_frame : Body → Option FrameFault
 fault_of_frame (body.VoteRequest r) = None
 fault_of_frame (body.VoteReply r) = None
 fault_of_frame (body.AppendRequest m) = fault_of_entries m.entries

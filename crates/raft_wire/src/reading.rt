@@ -24,9 +24,6 @@ use std::alloc::Global;
 /// Entries as requests have them.
 type GroupEntries = Entries<u64, BasicNode, Bytes>;
 
-/// What a frame says.
-type FrameBody = MessageBody<SnapshotBytes>;
-
 #[tactic(auto, unfolding(crate::specs::Bodies::vote_request_at))]
 fn vote_request_of(bytes: &[u8]) -> Result<(VoteRequest<u64>, &[u8]), FrameError>
     ensures { Gives (λ x. (x.0, x.1.now)) result (vote_request_at bytes.now) }
@@ -298,7 +295,11 @@ fn kind_of(bytes: &[u8]) -> Result<(FrameKind, &[u8]), FrameError>
 }
 
 #[tactic(auto, unfolding(crate::specs::Frames::body_at))]
-fn body_of(alloc: Global, kind: FrameKind, bytes: &[u8]) -> Result<(FrameBody, &[u8]), FrameError>
+fn body_of(
+    alloc: Global,
+    kind: FrameKind,
+    bytes: &[u8],
+) -> Result<(MessageBody<SnapshotBytes>, &[u8]), FrameError>
     ensures { Gives (λ x. (x.0, x.1.now)) result (body_at kind bytes.now) }
 {
     match kind {
