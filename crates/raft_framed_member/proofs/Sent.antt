@@ -26,7 +26,7 @@ one_more_sent group (x ∷ ms) [] m s all one = absurd all
 one_more_sent group (x ∷ ms) (y ∷ ss) m s all one = (all.0, one_more_sent group ms ss m s all.1 one)
 
 -- any reading of a snapshot's bytes, for messages that bring none
-unread : SnapshotBytes → Snapshot
+pub unread : SnapshotBytes → Snapshot
 unread s = record { last = s.meta.last_log_id; membership = s.meta.last_membership; «prefix» = [] }
 
 -- a frame that isn't written for a fault is of a message that is past a limit

@@ -10,6 +10,7 @@ use Rattle.raft_conditions.specs.Reason.{reason_of}
 use Rattle.raft_messages.specs.Messages.{message_as}
 use Rattle.raft_messages.specs.declared.memberships.SnapshotBytes.{SnapshotBytes}
 use Rattle.raft_step_laws.specs.Fitting.{FitsEvent}
+use Rattle.raft_wire.specs.Frames.{FitsFrame}
 use Rattle.raft_wire.specs.Stream.{Answers, Feeding, IsSpelledSo}
 use Rattle.raft_wire.specs.declared.error.FrameError.{FrameError}
 use Rattle.raft_wire.specs.declared.error.FrameError.TheVariants as frame_error
@@ -53,6 +54,12 @@ HasAnswered group own s frame now (Err error.NeedsMachine) new =
     (frame.group ≡ group) × ((carried : SnapshotBytes → Snapshot) → brings_snapshot (message_as carried frame.message).body ≡ true) × IsUp new s
 HasAnswered group own s frame now answer new =
     (m : Message) × IsFrameOf group m frame × HasTaken group own s m now answer new
+
+-- a frame that was made whole is within its limits
+abbrev pub IsFit : Result (Option Frame) FrameError → Type 0
+IsFit (Ok None) = Unit {0}
+IsFit (Ok (Some frame)) = FitsFrame frame
+IsFit (Err why) = Unit {0}
 
 -- what the feeder made of the piece, and what became of that
 abbrev pub IsAnswerTo : ℕ → ℕ → GroupState → ℕ → Result (Option Frame) FrameError → Result Outcome AnswerError → Member → Type 0

@@ -7,15 +7,16 @@ ghost use Rattle.raft_messages.specs.Messages.{message_of};
 ghost use Rattle.raft_step_laws.specs.Fitting.{FitsStored, IsCommittedWithin};
 ghost use Rattle.raft_wire.specs.Frames.{FitsFrame};
 ghost use Rattle.raft_world.specs.Member.{HasEnded, IsDown, IsLawful, IsUp};
+ghost use Rattle.raft_world.specs.declared.member.Ended.TheVariants.{Skipped};
 ghost use Rattle.raft_world.specs.declared.member.Member.{Member};
-ghost use Rattle.raft_framed_member.specs.Answers.{FitsIfTaken, HasAnswered, HasFrames, HasTaken, IsAnswered, comes};
+ghost use Rattle.raft_framed_member.specs.Answers.{FitsIfTaken, HasAnswered, HasFrames, HasTaken, IsAnswerTo, IsAnswered, IsFit, comes};
 ghost use Rattle.raft_framed_member.specs.declared.answering.Outcome.TheVariants.{Down};
 
 use crate::framing::{SendError, SentFrame, framed};
 use crate::snapshots::without_snapshot;
 use raft_conditions::Refusal;
 use raft_executor::GroupMessage;
-use raft_wire::{Feeder, Frame, FrameError};
+use raft_wire::{Fed, Feeder, Frame, FrameError};
 use raft_world::{Ended, Member};
 use std::alloc::{AllocError, Global};
 use thiserror::Error;
@@ -64,7 +65,8 @@ pub struct Answer {
 
 // The step that a message brought has ended: its frames.
 fn ended_step(alloc: Global, group: u64, ended: Ended) -> Result<Outcome, AnswerError>
-    ensures { (own : ℕ) (s : GroupState) (m : Message) (now : ℕ) (new : Member) → HasEnded own s (comes now m) None new ended → HasTaken group own s m now result new }
+    ensures taken { (own : ℕ) (s : GroupState) (m : Message) (now : ℕ) (new : Member) → HasEnded own s (comes now m) None new ended → HasTaken group own s m now result new }
+    ensures skipped { ended ≡ Skipped → result ≡ Ok Down }
 {
     match ended {
         Ended::Done(messages) => match framed(alloc, group, messages) {
@@ -118,6 +120,27 @@ fn take_frame(
     }
 }
 
+// What the feeder made of the piece comes to the member.
+fn take_fed(
+    alloc: Global,
+    group: u64,
+    member: &mut Member,
+    fed: Result<Option<Frame>, FrameError>,
+    now: u64,
+) -> Result<Outcome, AnswerError>
+    requires { IsFit fed }
+    ensures id { member.new.id ≡ member.old.id }
+    ensures up { (s : GroupState) → IsUp member.old s → IsLawful member.old.id s → IsAnswerTo group member.old.id s now fed result member.new }
+    ensures fits { (s : GroupState) → IsUp member.old s → IsLawful member.old.id s → FitsStored s.stored → IsCommittedWithin s → HasFrames result }
+    ensures down { (kept : Stored) → IsDown member.old kept → IsDown member.new kept }
+{
+    match fed {
+        Ok(None) => Ok(Outcome::Waits),
+        Ok(Some(frame)) => take_frame(alloc, group, member, frame, now),
+        Err(why) => Err(AnswerError::Stream(why)),
+    }
+}
+
 /// A piece of a peer's stream comes to the member of a group at this moment, in ticks (own). Once it
 /// makes a frame whole, the frame's message is received, and what the member's step sends is answered
 /// as frames. Whole bytes thus become what the node has stored, and bytes again.
@@ -140,14 +163,7 @@ pub fn answer_piece(
     ensures fits { (s : GroupState) → IsUp member.old s → IsLawful member.old.id s → FitsStored s.stored → IsCommittedWithin s → HasFrames result.outcome }
     ensures down { (kept : Stored) → IsDown member.old kept → IsDown member.new kept }
 {
-    let fed = feeder.feed(piece);
-    let outcome = match fed.frame {
-        Ok(None) => Ok(Outcome::Waits),
-        Ok(Some(frame)) => take_frame(alloc, group, member, frame, now),
-        Err(why) => Err(AnswerError::Stream(why)),
-    };
-    Answer {
-        used: fed.used,
-        outcome,
-    }
+    let Fed { used, frame } = feeder.feed(piece);
+    let outcome = take_fed(alloc, group, member, frame, now);
+    Answer { used, outcome }
 }
