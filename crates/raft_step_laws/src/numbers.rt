@@ -17,9 +17,9 @@ ghost use Rattle.raft_step_laws.specs.Numbers.{AreLow, BringsLowPrefix, EachPeer
 
 /// Where the terms, places and log ids of what a node has are below 2^62, so are those of what a
 /// step leaves, at its end and after any stop. So is each number of each message that it sends.
-/// The number of a leader's next request to a peer is below 2^62, or 2^62 while one is outstanding:
-/// then none is sent. It is to be known that the list of a snapshot that comes has low log ids, since
-/// no refusal looks at these. The law says so of each snapshot that is sent.
+/// The number of a leader's next request to a peer is below 2^62, or 2^62 while one is
+/// outstanding: then none is sent. It is to be known that the list of a snapshot that comes has
+/// low log ids, since no refusal looks at these. The law says so of each snapshot that is sent.
 pub fn numbers_of_steps_are_low()
     ensures { StepsSendLowNumbers }
 {}
