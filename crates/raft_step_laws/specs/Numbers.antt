@@ -33,7 +33,7 @@ pub record IsLowStored (s : StoredGroup) : Type 0 where
   pub log : All HasLowId s.log
   pub snapshot : IfSome s.snapshot IsLowSnapshot
 
--- what a peer has accepted is low, and so is the number of its next request, which may be at the limit while one is outstanding
+-- what a peer has accepted is low; the number of its next request is below the limit, or at it while one is outstanding
 pub record IsLowPeer (p : PeerState) : Type 0 where
   pub matched : AreLow (numbers_of_id p.matched)
   pub next : p.next_id ≤ number_limit

@@ -15,11 +15,11 @@ ghost use Rattle.raft_step_laws.specs.NumberRows.{sending, snapshot_of, snapshot
 ghost use Rattle.raft_step_laws.specs.NumberRows.{is_in_range, none_in_range, reply_with, request_with, snapshot_reply_with, votes_with, with_one_past};
 ghost use Rattle.raft_step_laws.specs.Numbers.{AreLow, BringsLowPrefix, EachPeer, HasLowPrefix, IsLowBody, IsLowPeer, IsLowStored, StepIsLow, StepsSendLowNumbers};
 
-/// Where the terms, places and log ids of what a node has are below 2^62, those of what a step
-/// leaves are too, at its end and after any stop, and so is each number of each message that it
-/// sends. The number of a leader's next request to a peer is below 2^62, or 2^62 while one is
-/// outstanding: then none is sent. It is to be known that the list of a snapshot that comes has low
-/// log ids, since no refusal looks at these. The law says so of each snapshot that is sent.
+/// Where the terms, places and log ids of what a node has are below 2^62, so are those of what a
+/// step leaves, at its end and after any stop. So is each number of each message that it sends.
+/// The number of a leader's next request to a peer is below 2^62, or 2^62 while one is
+/// outstanding: then none is sent. It is to be known that the list of a snapshot that comes has
+/// low log ids, since no refusal looks at these. The law says so of each snapshot that is sent.
 pub fn numbers_of_steps_are_low()
     ensures { StepsSendLowNumbers }
 {}
