@@ -358,9 +358,9 @@ fn frame_bytes(alloc: Global, frame: &Frame) -> Result<Vec<u8>, AllocError>
 }
 
 /// The one spelling of a frame (own). Refused are entries, commands, memberships and bytes of a machine
-/// past their limits (`TooLong`), then entries whose places don't follow one another (`NotRising`),
-/// a snapshot's reply that has no number, a previous log id or a conflict (`BadTag`), and then want of
-/// memory (`Memory`).
+/// past their limits (`TooLong`), then entries whose places don't follow one another (`NotRising`), a
+/// snapshot's reply without a number, with a previous log id or with a conflict (`BadTag`), and then
+/// want of memory (`Memory`).
 pub fn write_frame(alloc: Global, frame: &Frame) -> Result<Vec<u8>, FrameError>
     ensures written { Writes (fault_of_frame frame.now.message.body) (spelled_frame frame.now) result }
     ensures fits { OnOk result (FitsFrame frame.now) }
