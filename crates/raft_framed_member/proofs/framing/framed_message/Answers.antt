@@ -1,5 +1,5 @@
 -- A message that brings a snapshot isn't sent, and one without a frame is past a limit.
-use Rattle.std.specs.Prelude.{◌∷◌, [], refl}
+use Rattle.std.specs.Prelude.{refl}
 use Rattle.std.proofs.Common.{sym, ap, arith}
 use Rattle.raft_group_step.specs.Message.{Message}
 use Rattle.raft_wire.specs.Frames.{spelled_frame}
