@@ -15,8 +15,8 @@ use Rattle.raft_log_records.specs.declared.error.RecordError.{RecordError}
 use Rattle.raft_log_records.specs.Item.{Item, items_of, entry_bytes, with_bytes, with_lengths}
 use Rattle.raft_log_records.specs.Spelling.{holds_entries, block_part, signed, sealed, lengths, spell_block, spell_items, spell_parts, spell_record, record_len, IsItem}
 use Rattle.raft_log_records.specs.Batch.{IsLaid, IsRecordAt}
-use Rattle.raft_log_records.specs.Reading.{◌>>=◌, Gives, number_at, unsealed, header_at, block_at, body_at, agrees, record_at, entries_block_at}
-use Rattle.raft_log_records.proofs.Fields.{IsBytes, IsBytes-take, IsBytes-drop, bind_ok, guard_ok, guard_then, Takes-then, wide32, number_takes}
+use Rattle.raft_log_records.specs.Reading.{◌>>=◌, Gives, number_or, unsealed, head_at, header_at, block_at, body_at, agrees, record_at, entries_block_at}
+use Rattle.raft_log_records.proofs.Fields.{IsBytes, IsBytes-take, IsBytes-drop, bind_ok, guard_ok, guard_then, Takes-then, wide32, number_takes_or}
 use Rattle.raft_log_records.proofs.Laid.{fronts, block_is, laid_lengths, any_held}
 use Rattle.raft_log_records.proofs.Taken.{not_true, body_takes}
 
@@ -76,37 +76,57 @@ or_true true b h = inl refl
 or_true false true h = absurd cc
 or_true false false h = inr refl
 
-abbrev tests : ℕ × List ℕ → ℕ × List ℕ → List ℕ → Result (ℕ × ℕ) RecordFault
-tests len offset bytes =
-    cond (ltb len.0 16 || ltb 33554432 len.0) (Err fault.BadLength)
-    (cond (ltb (length bytes) len.0) (Err fault.CutShort) (cond (ltb len.0 (offset.0 + 8) || not (eqb offset.0 8 || not (ltb offset.0 12))) (Err fault.BadOffset) (Ok (len.0, offset.0))))
+abbrev tests : ℕ → ℕ → Result (ℕ × ℕ) RecordFault
+tests len offset =
+    cond (ltb len 16 || ltb 33554432 len) (Err fault.BadLength)
+    (cond (ltb len (offset + 8) || not (eqb offset 8 || not (ltb offset 12))) (Err fault.BadOffset) (Ok (len, offset)))
 
-header_takes : (bytes : List ℕ) (x : ℕ × ℕ) → IsBytes bytes → header_at bytes ≡ Ok x → HeaderTaken bytes x.0 x.1
-unfolding header_at
-header_takes bytes x fits e =
-    let a = bind_ok (number_at w32 bytes) (λ len. number_at w32 len.1 >>= λ offset. tests len offset bytes) x e in
-    let b = bind_ok (number_at w32 a.0.1) (λ offset. tests a.0 offset bytes) x a.2 in
+-- a header whose bytes may hold less than the record
+pub record HeadTaken (bytes : List ℕ) (len offset : ℕ) : Type 0 where
+  pub front : take 8 bytes ≡ to_be_bytes w32 len ++ to_be_bytes w32 offset
+  pub short : len ≤ 33554432
+  pub room : offset + 8 ≤ len
+  pub block : (offset ≡ 8) ⊎ (12 ≤ offset)
+
+head_takes : (bytes : List ℕ) (x : ℕ × ℕ) → IsBytes bytes → head_at bytes ≡ Ok x → HeadTaken bytes x.0 x.1
+unfolding head_at
+head_takes bytes x fits e =
+    let a = bind_ok (number_or fault.CutShort w32 bytes) (λ len. cond (eqb len.0 0) (Err fault.BadLength) (number_or fault.CutShort w32 len.1 >>= λ offset. tests len.0 offset.0)) x e in
+    let z = guard_then (eqb a.0.0 0) fault.BadLength (number_or fault.CutShort w32 a.0.1 >>= λ offset. tests a.0.0 offset.0) x a.2 in
+    let b = bind_ok (number_or fault.CutShort w32 a.0.1) (λ offset. tests a.0.0 offset.0) x z.1 in
     let len = a.0.0 in
     let offset = b.0.0 in
-    let t = number_takes w32 (2 ^ 32) wide32 bytes len a.0.1 fits a.1 in
-    let u = number_takes w32 (2 ^ 32) wide32 a.0.1 offset b.0.1 t.0.rest_fits b.1 in
-    let g = guard_then (ltb len 16 || ltb 33554432 len) fault.BadLength (cond (ltb (length bytes) len) (Err fault.CutShort) (cond (ltb len (offset + 8) || not (eqb offset 8 || not (ltb offset 12))) (Err fault.BadOffset) (Ok (len, offset)))) x b.2 in
-    let h = guard_then (ltb (length bytes) len) fault.CutShort (cond (ltb len (offset + 8) || not (eqb offset 8 || not (ltb offset 12))) (Err fault.BadOffset) (Ok (len, offset))) x g.1 in
-    let k = guard_ok (ltb len (offset + 8) || not (eqb offset 8 || not (ltb offset 12))) fault.BadOffset (len, offset) x h.1 in
+    let t = number_takes_or fault.CutShort w32 (2 ^ 32) wide32 bytes len a.0.1 fits a.1 in
+    let u = number_takes_or fault.CutShort w32 (2 ^ 32) wide32 a.0.1 offset b.0.1 t.0.rest_fits b.1 in
+    let g = guard_then (ltb len 16 || ltb 33554432 len) fault.BadLength (cond (ltb len (offset + 8) || not (eqb offset 8 || not (ltb offset 12))) (Err fault.BadOffset) (Ok (len, offset))) x b.2 in
+    let k = guard_ok (ltb len (offset + 8) || not (eqb offset 8 || not (ltb offset 12))) fault.BadOffset (len, offset) x g.1 in
     let both = (Takes-then bytes (to_be_bytes w32 len) a.0.1 (to_be_bytes w32 offset) b.0.1 t.0 u.0).parts in
     let lens = or_false (ltb len 16) (ltb 33554432 len) g.0 in
     let places = or_false (ltb len (offset + 8)) (not (eqb offset 8 || not (ltb offset 12))) k.0 in
     let where_block : (offset ≡ 8) ⊎ (12 ≤ offset) = ⊎_elim (λ is. inl (eqb-true _ _ is)) (λ far. inr (ltb-false _ _ far)) (or_true (eqb offset 8) (ltb offset 12) (not_true _ places.1)) in
-    subst (λ (y : ℕ × ℕ). HeaderTaken bytes y.0 y.1) k.1 (record {
+    subst (λ (y : ℕ × ℕ). HeadTaken bytes y.0 y.1) k.1 (record {
       front = ap (λ (l : List ℕ). take 8 l) both ∙ front_eight (to_be_bytes w32 len) (to_be_bytes w32 offset) b.0.1 refl refl;
       short = ltb-false _ _ lens.1;
-      within = ltb-false _ _ h.0;
       room = ltb-false _ _ places.0;
       block = where_block;
     })
   where
     front_eight : (a b rest : List ℕ) → length a ≡ 4 → length b ≡ 4 → take 8 ((a ++ b) ++ rest) ≡ a ++ b
     front_eight a b rest p q = take_at (a ++ b) rest 8 (omega (arith, length-append a b))
+
+header_takes : (bytes : List ℕ) (x : ℕ × ℕ) → IsBytes bytes → header_at bytes ≡ Ok x → HeaderTaken bytes x.0 x.1
+unfolding header_at
+header_takes bytes x fits e =
+    let a = bind_ok (head_at bytes) (λ head. cond (ltb (length bytes) head.0) (Err fault.CutShort) (Ok head)) x e in
+    let g = guard_ok (ltb (length bytes) a.0.0) fault.CutShort a.0 x a.2 in
+    let t = head_takes bytes a.0 fits a.1 in
+    subst (λ (y : ℕ × ℕ). HeaderTaken bytes y.0 y.1) g.1 (record {
+      front = t.front;
+      short = t.short;
+      within = ltb-false _ _ g.0;
+      room = t.room;
+      block = t.block;
+    })
 
 -- ---- the block of entries
 

@@ -33,13 +33,18 @@ Gives view (Err e) read = Fails e read
 
 -- ---- fields: a value and the bytes after it
 
+-- a number, or this fault where the bytes end before it does
+abbrev pub number_or : RecordFault → Width → List ℕ → Result (ℕ × List ℕ) RecordFault
+number_or wrong w bytes = if nat_lt (length bytes) (byte_len w) then Err wrong else Ok (from_be_bytes w (take (byte_len w) bytes), drop (byte_len w) bytes)
+
+-- a number of the items
 abbrev pub number_at : Width → List ℕ → Result (ℕ × List ℕ) RecordFault
-number_at w bytes = if nat_lt (length bytes) (byte_len w) then Err fault.CutShort else Ok (from_be_bytes w (take (byte_len w) bytes), drop (byte_len w) bytes)
+number_at w bytes = number_or fault.ItemsCutShort w bytes
 
 unfoldable pub string_at : List ℕ → Result (List ℕ × List ℕ) RecordFault
 string_at bytes = do
   n ← number_at w32 bytes
-  if nat_lt (length n.1) n.0 then Err fault.CutShort else Ok (take n.0 n.1, drop n.0 n.1)
+  if nat_lt (length n.1) n.0 then Err fault.ItemsCutShort else Ok (take n.0 n.1, drop n.0 n.1)
 
 unfoldable pub key_at : List ℕ → Result (List ℕ × List ℕ) RecordFault
 key_at bytes = do
@@ -47,7 +52,7 @@ key_at bytes = do
   if length key.0 == 0 then Err fault.EmptyKey else Ok key
 
 unfoldable pub status_at : List ℕ → Result (AtomicGroupStatus × List ℕ) RecordFault
-status_at [] = Err fault.CutShort
+status_at [] = Err fault.ItemsCutShort
 status_at (zero ∷ rest) = Ok (Begin, rest)
 status_at (suc zero ∷ rest) = Ok (Middle, rest)
 status_at (suc (suc zero) ∷ rest) = Ok (End, rest)
@@ -108,7 +113,7 @@ change_behind tag limit at bytes =
     else Err fault.BadTag
 
 unfoldable pub change_at : ℕ → ℕ → List ℕ → Result (Change EntryIndex × ℕ × List ℕ) RecordFault
-change_at limit at [] = Err fault.CutShort
+change_at limit at [] = Err fault.ItemsCutShort
 change_at limit at (tag ∷ rest) = change_behind tag limit at rest
 
 unfoldable pub item_at : ℕ → ℕ → List ℕ → Result (Item EntryIndex × ℕ × List ℕ) RecordFault
@@ -141,15 +146,25 @@ unsealed wrong signature bytes =
     let body = take (length bytes - 4) bytes in
     if from_be_bytes w32 (drop (length bytes - 4) bytes) == signed signature (crc32_of body) then Ok body else Err wrong
 
--- the whole length, and where the items begin
+-- the whole length and where the items begin, by the first eight bytes alone. Zero, which is no length, shows in four.
+unfoldable pub head_at : List ℕ → Result (ℕ × ℕ) RecordFault
+head_at bytes = do
+  len ← number_or fault.CutShort w32 bytes
+  if len.0 == 0 then Err fault.BadLength else do
+    offset ← number_or fault.CutShort w32 len.1
+    if nat_lt len.0 16 || nat_lt 33554432 len.0 then Err fault.BadLength
+        else if nat_lt len.0 (offset.0 + 8) || not (offset.0 == 8 || not (nat_lt offset.0 12)) then Err fault.BadOffset
+        else Ok (len.0, offset.0)
+
+-- the whole length alone
+abbrev pub len_at : List ℕ → Result ℕ RecordFault
+len_at bytes = head_at bytes >>= λ head. Ok head.0
+
+-- the same where the bytes hold the whole record
 unfoldable pub header_at : List ℕ → Result (ℕ × ℕ) RecordFault
 header_at bytes = do
-  len ← number_at w32 bytes
-  offset ← number_at w32 len.1
-  if nat_lt len.0 16 || nat_lt 33554432 len.0 then Err fault.BadLength
-      else if nat_lt (length bytes) len.0 then Err fault.CutShort
-      else if nat_lt len.0 (offset.0 + 8) || not (offset.0 == 8 || not (nat_lt offset.0 12)) then Err fault.BadOffset
-      else Ok (len.0, offset.0)
+  head ← head_at bytes
+  if nat_lt (length bytes) head.0 then Err fault.CutShort else Ok head
 
 -- the entries' bytes in the block before the items
 unfoldable pub block_at : ℕ → List ℕ → Result (List ℕ) RecordFault

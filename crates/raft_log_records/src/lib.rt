@@ -25,7 +25,7 @@ pub use error::{RecordError, RecordFault};
 pub use file_id::{FileBlockHandle, FileId, FileSeq, LogQueue};
 pub use item::{AtomicGroupStatus, EntryIndex, LogItem, LogItemContent};
 pub use message::{Message, MessageExt};
-pub use record::{LogItemBatch, MAX_RECORD_LEN, Record, read_entries_block, read_record};
+pub use record::{LogItemBatch, MAX_RECORD_LEN, Record, read_entries_block, read_record, record_len};
 pub use size::ReadableSize;
 pub use stats::GlobalStats;
 pub use version::{LogFileContext, Version};

@@ -5,12 +5,12 @@ ghost use Rattle.std.specs.List.{list_any};
 ghost use Rattle.raft_log_records.specs.Item.{Item, item_of, items_of, with_bytes};
 ghost use Rattle.raft_log_records.specs.Batch.{IsRecordAt, IsRecordChanged};
 ghost use Rattle.raft_log_records.specs.Spelling.{sealed, signed, IsSignature, holds_entries, AreItems, spell_record, record_len};
-ghost use Rattle.raft_log_records.specs.Reading.{Gives, Finds, FailsByChecksum, header_at, unsealed, block_at, agrees, record_at, entries_block_at};
+ghost use Rattle.raft_log_records.specs.Reading.{Gives, Finds, FailsByChecksum, head_at, len_at, header_at, unsealed, block_at, agrees, record_at, entries_block_at};
 
 use crate::checksum::crc32;
 use crate::error::{RecordError, RecordFault};
 use crate::item::{LogItem, LogItemContent};
-use crate::reading::{body_of, u32_at};
+use crate::reading::{body_of, u32_front};
 use std::alloc::Global;
 
 /// A record has at most so many bytes.
@@ -35,6 +35,42 @@ pub struct Record<'a> {
     pub len: u32,
 }
 
+/// What the first eight bytes of a record say: its whole length, and where its items begin.
+#[tactic(auto, unfolding(crate::specs::Reading::head_at))]
+fn head_of(bytes: &[u8]) -> Result<(u32, u32), RecordFault>
+    ensures room { IfOk result (λ x. (16 ≤ x.0) × (x.0 ≤ 33554432) × (x.1 + 8 ≤ x.0)) }
+    ensures block { IfOk result (λ x. (x.1 ≡ 8) ⊎ (12 ≤ x.1)) }
+    ensures read { result ≡ head_at bytes.now }
+{
+    let Some((len, rest)) = u32_front(bytes) else {
+        return Err(RecordFault::CutShort);
+    };
+    if len == 0 {
+        return Err(RecordFault::BadLength);
+    }
+    let Some((offset, _)) = u32_front(rest) else {
+        return Err(RecordFault::CutShort);
+    };
+    if len < 16 || MAX_RECORD_LEN < len {
+        return Err(RecordFault::BadLength);
+    }
+    if len - 8 < offset || !(offset == 8 || 12 <= offset) {
+        return Err(RecordFault::BadOffset);
+    }
+    Ok((len, offset))
+}
+
+/// How many bytes the record takes that stands at the front of some bytes, of which only the first
+/// eight count. Refused are `CutShort`, while more bytes are needed to tell, and, as by
+/// `read_record`, a length or an offset of its items that no record has: zeros after four bytes.
+pub fn record_len(bytes: &[u8]) -> Result<u32, RecordFault>
+    ensures long { IfOk result (λ len. (16 ≤ len) × (len ≤ 33554432)) }
+    ensures exact { result ≡ len_at bytes.now }
+{
+    let (len, _) = head_of(bytes)?;
+    Ok(len)
+}
+
 #[tactic(auto, unfolding(crate::specs::Reading::header_at))]
 fn header_of(bytes: &[u8]) -> Result<(u32, u32), RecordError>
     ensures within { IfOk result (λ x. x.0 ≤ length bytes.now) }
@@ -43,16 +79,9 @@ fn header_of(bytes: &[u8]) -> Result<(u32, u32), RecordError>
     ensures block { IfOk result (λ x. (x.1 ≡ 8) ⊎ (12 ≤ x.1)) }
     ensures read { Gives (λ x. x) result (header_at bytes.now) }
 {
-    let (len, rest) = u32_at(bytes)?;
-    let (offset, _) = u32_at(rest)?;
-    if len < 16 || MAX_RECORD_LEN < len {
-        return Err(RecordError::Corruption(RecordFault::BadLength));
-    }
+    let (len, offset) = head_of(bytes)?;
     if bytes.len() < len as usize {
         return Err(RecordError::Corruption(RecordFault::CutShort));
-    }
-    if len - 8 < offset || !(offset == 8 || 12 <= offset) {
-        return Err(RecordError::Corruption(RecordFault::BadOffset));
     }
     Ok((len, offset))
 }
