@@ -13,6 +13,7 @@ pub mod RecordTaken
 pub mod Again
 pub mod Placed
 pub mod RecordAgain
+pub mod Locality
 pub mod Joined
 pub mod Runs
 pub mod Messages

@@ -76,7 +76,7 @@ or_true true b h = inl refl
 or_true false true h = absurd cc
 or_true false false h = inr refl
 
-abbrev tests : ℕ → ℕ → Result (ℕ × ℕ) RecordFault
+abbrev pub tests : ℕ → ℕ → Result (ℕ × ℕ) RecordFault
 tests len offset =
     cond (ltb len 16 || ltb 33554432 len) (Err fault.BadLength)
     (cond (ltb len (offset + 8) || not (eqb offset 8 || not (ltb offset 12))) (Err fault.BadOffset) (Ok (len, offset)))
@@ -88,6 +88,28 @@ pub record HeadTaken (bytes : List ℕ) (len offset : ℕ) : Type 0 where
   pub room : offset + 8 ≤ len
   pub block : (offset ≡ 8) ⊎ (12 ≤ offset)
 
+-- what the tests of a length and an offset let pass
+pub record TestsOk (len offset : ℕ) (x : ℕ × ℕ) : Type 0 where
+  pub told : (len, offset) ≡ x
+  pub short : x.0 ≤ 33554432
+  pub room : x.1 + 8 ≤ x.0
+  pub block : (x.1 ≡ 8) ⊎ (12 ≤ x.1)
+  pub least : 8 ≤ x.1
+
+pub tests_ok : (len offset : ℕ) (x : ℕ × ℕ) → tests len offset ≡ Ok x → TestsOk len offset x
+tests_ok len offset x e =
+    let g = guard_then (ltb len 16 || ltb 33554432 len) fault.BadLength (cond (ltb len (offset + 8) || not (eqb offset 8 || not (ltb offset 12))) (Err fault.BadOffset) (Ok (len, offset))) x e in
+    let k = guard_ok (ltb len (offset + 8) || not (eqb offset 8 || not (ltb offset 12))) fault.BadOffset (len, offset) x g.1 in
+    let lens = or_false (ltb len 16) (ltb 33554432 len) g.0 in
+    let places = or_false (ltb len (offset + 8)) (not (eqb offset 8 || not (ltb offset 12))) k.0 in
+    let place : (offset ≡ 8) ⊎ (12 ≤ offset) = ⊎_elim (λ is. inl (eqb-true _ _ is)) (λ far. inr (ltb-false _ _ far)) (or_true (eqb offset 8) (ltb offset 12) (not_true _ places.1)) in
+    let made : TestsOk len offset (len, offset) = record { told = refl; short = ltb-false _ _ lens.1; room = ltb-false _ _ places.0; block = place; least = at_least place } in
+    subst (λ (y : ℕ × ℕ). TestsOk len offset y) k.1 made
+  where
+    at_least : (offset ≡ 8) ⊎ (12 ≤ offset) → 8 ≤ offset
+    at_least (inl is) = omega arith
+    at_least (inr far) = omega arith
+
 head_takes : (bytes : List ℕ) (x : ℕ × ℕ) → IsBytes bytes → head_at bytes ≡ Ok x → HeadTaken bytes x.0 x.1
 unfolding head_at
 head_takes bytes x fits e =
@@ -98,18 +120,15 @@ head_takes bytes x fits e =
     let offset = b.0.0 in
     let t = number_takes_or fault.CutShort w32 (2 ^ 32) wide32 bytes len a.0.1 fits a.1 in
     let u = number_takes_or fault.CutShort w32 (2 ^ 32) wide32 a.0.1 offset b.0.1 t.0.rest_fits b.1 in
-    let g = guard_then (ltb len 16 || ltb 33554432 len) fault.BadLength (cond (ltb len (offset + 8) || not (eqb offset 8 || not (ltb offset 12))) (Err fault.BadOffset) (Ok (len, offset))) x b.2 in
-    let k = guard_ok (ltb len (offset + 8) || not (eqb offset 8 || not (ltb offset 12))) fault.BadOffset (len, offset) x g.1 in
+    let k = tests_ok len offset x b.2 in
     let both = (Takes-then bytes (to_be_bytes w32 len) a.0.1 (to_be_bytes w32 offset) b.0.1 t.0 u.0).parts in
-    let lens = or_false (ltb len 16) (ltb 33554432 len) g.0 in
-    let places = or_false (ltb len (offset + 8)) (not (eqb offset 8 || not (ltb offset 12))) k.0 in
-    let where_block : (offset ≡ 8) ⊎ (12 ≤ offset) = ⊎_elim (λ is. inl (eqb-true _ _ is)) (λ far. inr (ltb-false _ _ far)) (or_true (eqb offset 8) (ltb offset 12) (not_true _ places.1)) in
-    subst (λ (y : ℕ × ℕ). HeadTaken bytes y.0 y.1) k.1 (record {
-      front = ap (λ (l : List ℕ). take 8 l) both ∙ front_eight (to_be_bytes w32 len) (to_be_bytes w32 offset) b.0.1 refl refl;
-      short = ltb-false _ _ lens.1;
-      room = ltb-false _ _ places.0;
-      block = where_block;
-    })
+    let front = ap (λ (l : List ℕ). take 8 l) both ∙ front_eight (to_be_bytes w32 len) (to_be_bytes w32 offset) b.0.1 refl refl in
+    record {
+      front = subst (λ (y : ℕ × ℕ). take 8 bytes ≡ to_be_bytes w32 y.0 ++ to_be_bytes w32 y.1) k.told front;
+      short = k.short;
+      room = k.room;
+      block = k.block;
+    }
   where
     front_eight : (a b rest : List ℕ) → length a ≡ 4 → length b ≡ 4 → take 8 ((a ++ b) ++ rest) ≡ a ++ b
     front_eight a b rest p q = take_at (a ++ b) rest 8 (omega (arith, length-append a b))

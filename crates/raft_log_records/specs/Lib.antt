@@ -3,6 +3,7 @@ pub mod Signature
 pub mod Item
 pub mod Spelling
 pub mod Reading
+pub mod Laws
 pub mod Batch
 pub mod BatchView
 pub mod Stats

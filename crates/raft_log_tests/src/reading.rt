@@ -5,6 +5,7 @@ use crate::messages::read_and_written;
 use crate::names::{queue, version};
 use raft_log_records::{
     FileId, LogBatch, LogFileContext, RecordError, RecordFault, read_entries_block, read_record,
+    record_len,
 };
 use raft_rows::{Answer, bytes, number};
 use std::alloc::{AllocError, Global};
@@ -93,6 +94,8 @@ pub fn read(batch: &LogBatch, alloc: Global, words: &[&str]) -> Option<Answer> {
         }
         ["refused-changes"] => Answer::shown(alloc, &refused_changes(alloc, batch.encoded_bytes())),
         ["refused-fronts"] => Answer::shown(alloc, &refused_fronts(alloc, batch.encoded_bytes())),
+        ["read-bytes", text] => record(alloc, &bytes(alloc, text).ok()?, None),
+        ["record-len", text] => Answer::shown(alloc, &record_len(&bytes(alloc, text).ok()?)),
         ["block", text] => Answer::bytes(alloc, block(alloc, &bytes(alloc, text).ok()?)),
         ["message-again", text] => {
             Answer::bytes(alloc, read_and_written(alloc, &bytes(alloc, text).ok()?))
