@@ -18,7 +18,8 @@ use Rattle.raft_log_records.specs.Item.{Item, items_of, with_bytes}
 use Rattle.raft_log_records.specs.Spelling.{holds_entries, block_of, block_part, signed, sealed, lengths, spell_block, spell_item, spell_items, spell_change, spell_record, record_len, AreItems}
 use Rattle.raft_log_records.specs.Reading.{Gives, Finds, number_or, unsealed, head_at, header_at, block_at, agrees, record_at}
 use Rattle.raft_log_records.proofs.Fields.{IsBytes, IsBytes-take, IsBytes-drop, wide32, number_again_or}
-use Rattle.raft_log_records.proofs.Again.{placed, placed_end, body_again}
+use Rattle.raft_log_records.proofs.Again.{placed_end, body_again}
+use Rattle.raft_log_records.specs.Places.{placed}
 use Rattle.raft_log_records.proofs.Placed.{placed_end_is, placed_held, none_block, placed_bytes}
 
 -- ---- a checksum fits four bytes
@@ -240,7 +241,7 @@ pub is_only : (signature : Option ℕ) (bytes : List ℕ) (r : Result Record Rec
 is_only signature bytes (Ok r) items rest h fits given are e =
     let same : read (placed 0 items, block_of items, record_len items) ≡ read (items_of r.batch.items.items, r.entries.now, r.len) = sym (record_again signature items rest bytes h fits are e) ∙ given in
     let is = read_is _ _ same in
-    (ap (λ (x : Read). with_bytes x.1 x.0) (sym is) ∙ placed_bytes items, ap (λ (x : Read). x.2) (sym is))
+    (ap (λ (x : Read). with_bytes x.1 x.0) (sym is) ∙ placed_bytes items, ap (λ (x : Read). x.2) (sym is), ap (λ (x : Read). x.0) (sym is), ap (λ (x : Read). x.1) (sym is))
   where
     read : Read → Result Read RecordFault
     read x = Ok x

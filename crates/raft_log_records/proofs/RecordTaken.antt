@@ -15,7 +15,7 @@ use Rattle.raft_log_records.specs.declared.error.RecordError.{RecordError}
 use Rattle.raft_log_records.specs.Item.{Item, items_of, entry_bytes, with_bytes, with_lengths}
 use Rattle.raft_log_records.specs.Spelling.{holds_entries, block_part, signed, sealed, lengths, spell_block, spell_items, spell_parts, spell_record, record_len, IsItem}
 use Rattle.raft_log_records.specs.Batch.{IsLaid, IsRecordAt}
-use Rattle.raft_log_records.specs.Reading.{◌>>=◌, Gives, number_or, unsealed, head_at, header_at, block_at, body_at, agrees, record_at, entries_block_at}
+use Rattle.raft_log_records.specs.Reading.{◌>>=◌, Gives, Tells, number_or, unsealed, head_at, header_at, block_at, body_at, agrees, record_at, entries_block_at}
 use Rattle.raft_log_records.proofs.Fields.{IsBytes, IsBytes-take, IsBytes-drop, bind_ok, guard_ok, guard_then, Takes-then, wide32, number_takes_or}
 use Rattle.raft_log_records.proofs.Laid.{fronts, block_is, laid_lengths, any_held}
 use Rattle.raft_log_records.proofs.Taken.{not_true, body_takes}
@@ -133,7 +133,7 @@ head_takes bytes x fits e =
     front_eight : (a b rest : List ℕ) → length a ≡ 4 → length b ≡ 4 → take 8 ((a ++ b) ++ rest) ≡ a ++ b
     front_eight a b rest p q = take_at (a ++ b) rest 8 (omega (arith, length-append a b))
 
-header_takes : (bytes : List ℕ) (x : ℕ × ℕ) → IsBytes bytes → header_at bytes ≡ Ok x → HeaderTaken bytes x.0 x.1
+pub header_takes : (bytes : List ℕ) (x : ℕ × ℕ) → IsBytes bytes → header_at bytes ≡ Ok x → HeaderTaken bytes x.0 x.1
 unfolding header_at
 header_takes bytes x fits e =
     let a = bind_ok (head_at bytes) (λ head. cond (ltb (length bytes) head.0) (Err fault.CutShort) (Ok head)) x e in
@@ -179,7 +179,7 @@ agrees_at true false e = (λ _. refl, λ f. absurd cc)
 agrees_at false true e = (λ t. absurd cc, λ _. refl)
 agrees_at false false e = absurd cc
 
-block_takes : (bytes block : List ℕ) (offset : ℕ) (items : List (Item EntryIndex)) → IsBytes bytes → offset ≤ length bytes → (offset ≡ 8) ⊎ (12 ≤ offset) → not (agrees offset items) ≡ false → block_at offset bytes ≡ Ok block
+pub block_takes : (bytes block : List ℕ) (offset : ℕ) (items : List (Item EntryIndex)) → IsBytes bytes → offset ≤ length bytes → (offset ≡ 8) ⊎ (12 ≤ offset) → not (agrees offset items) ≡ false → block_at offset bytes ≡ Ok block
     → BlockTaken bytes block offset (list_any holds_entries items)
 unfolding block_at agrees
 block_takes bytes block offset items fits within place agreed e =
@@ -278,7 +278,7 @@ pub is_found : (signature : Option ℕ) (bytes : List ℕ) (r : Result Record Re
 is_found signature bytes (Ok r) fits given = record_takes signature bytes (items_of r.batch.items.items, r.entries.now, r.len) fits given
 is_found signature bytes (Err e) fits given = tt
 
-pub block_found : (bytes : List ℕ) (r : Result (Bor (List ℕ)) RecordError) → IsBytes bytes → Gives (λ x. x.now) r (entries_block_at bytes) → IfOk r (λ entries. bytes ≡ sealed None entries.now)
+pub block_found : (bytes : List ℕ) (r : Result (Bor (List ℕ)) RecordFault) → IsBytes bytes → Tells (λ x. x.now) r (entries_block_at bytes) → IfOk r (λ entries. bytes ≡ sealed None entries.now)
 unfolding entries_block_at
 block_found bytes (Ok x) fits given =
     let g = guard_then (ltb (length bytes) 4) fault.CutShort (unsealed fault.EntriesChecksum None bytes) x.now given in

@@ -1,6 +1,8 @@
 pub mod Checksum
 pub mod Signature
 pub mod Item
+pub mod Places
+pub mod Block
 pub mod Spelling
 pub mod Reading
 pub mod Laws

@@ -1,12 +1,13 @@
 -- Reading a record from left to right, with the first fault that is met.
-use Rattle.std.specs.Prelude.{◌≡◌, ◌⊎◌, ◌+◌, ◌-◌, ℕ, zero, suc, Bool, not, ◌||◌, List, [], ◌∷◌, length, map, take}
+use Rattle.std.specs.Prelude.{◌≡◌, ◌<◌, ◌⊎◌, ◌+◌, ◌-◌, slice_index, ℕ, zero, suc, Bool, not, ◌||◌, List, [], ◌∷◌, length, map, take}
 use Rattle.std.specs.Prelude.{drop, Option, None, Result, Ok, Err, nat_lt, ◌==◌, if◌then◌else◌}
 use Rattle.std.specs.List.{list_any}
 use Rattle.std.specs.Int.{Width, w32, w64, byte_len, from_be_bytes}
 use Rattle.raft_log_records.specs.Checksum.{crc32_of}
 use Rattle.raft_log_records.specs.Item.{Change, Item, place, items_of, with_bytes}
 use Rattle.raft_log_records.specs.Item.Change.{entries, clean, compact, put, delete, mark}
-use Rattle.raft_log_records.specs.Spelling.{signed, holds_entries}
+use Rattle.raft_log_records.specs.Places.{indexed, placed}
+use Rattle.raft_log_records.specs.Spelling.{signed, holds_entries, block_of}
 use Rattle.raft_log_records.specs.declared.record.Record.{Record}
 use Rattle.raft_log_records.specs.declared.item.EntryIndex.{EntryIndex}
 use Rattle.raft_log_records.specs.declared.item.AtomicGroupStatus.{AtomicGroupStatus}
@@ -30,6 +31,15 @@ Fails (errors.Corruption f) read = read ≡ Err f
 abbrev pub Gives : {X Y : Type 0} → (X → Y) → Result X RecordError → Result Y RecordFault → Type 0
 Gives view (Ok x) read = read ≡ Ok (view x)
 Gives view (Err e) read = Fails e read
+
+-- the same of a function that needs no memory
+abbrev pub Tells : {X Y : Type 0} → (X → Y) → Result X RecordFault → Result Y RecordFault → Type 0
+Tells view (Ok x) read = read ≡ Ok (view x)
+Tells view (Err f) read = read ≡ Err f
+
+-- each is below 256
+abbrev pub AreBytes : List ℕ → Type 0
+AreBytes bytes = (i : ℕ) → slice_index bytes i < 256
 
 -- ---- fields: a value and the bytes after it
 
@@ -86,9 +96,6 @@ run_at limit at bytes = do
     entries_at count.0 first.0 limit at count.1
 
 -- ---- items
-
-abbrev pub indexed : List EntryIndex → List (ℕ × EntryIndex)
-indexed es = map (λ e. (e.index, e)) es
 
 unfoldable pub change_behind : ℕ → ℕ → ℕ → List ℕ → Result (Change EntryIndex × ℕ × List ℕ) RecordFault
 change_behind tag limit at bytes =
@@ -186,7 +193,9 @@ record_at signature bytes = do
 
 -- what reading answers where the record of these items stands at the front, unless memory runs out
 abbrev pub Finds : Result Record RecordError → List (Item (List ℕ)) → ℕ → Type 0
-Finds (Ok r) items len = (with_bytes r.entries.now (items_of r.batch.items.items) ≡ items) × (r.len ≡ len)
+Finds (Ok r) items len =
+    (with_bytes r.entries.now (items_of r.batch.items.items) ≡ items) × (r.len ≡ len)
+    × (items_of r.batch.items.items ≡ placed 0 items) × (r.entries.now ≡ block_of items)
 Finds (Err errors.Memory) items len = Unit {0}
 Finds (Err errors.TooLong) items len = ⊥
 Finds (Err (errors.Corruption f)) items len = ⊥

@@ -3,6 +3,7 @@
 
 mod atomic;
 mod batch;
+mod block;
 mod checksum;
 mod command;
 mod entries;
@@ -20,6 +21,7 @@ mod writing;
 
 pub use atomic::AtomicGroupBuilder;
 pub use batch::LogBatch;
+pub use block::EntriesBlock;
 pub use checksum::{Checksum, crc32, crc32_by_bytes, is_intact};
 pub use command::Command;
 pub use error::{RecordError, RecordFault};
