@@ -7,14 +7,13 @@ use Rattle.std.proofs.lemmas.List.{append-nil}
 use Rattle.std.proofs.lemmas.List.Concat.{flat_map-cons}
 use Rattle.raft_log_records.specs.declared.error.RecordFault.{RecordFault}
 use Rattle.raft_log_records.specs.declared.error.RecordFault.TheVariants as fault
-use Rattle.raft_log_records.specs.declared.item.EntryIndex.{EntryIndex}
 use Rattle.raft_log_records.specs.declared.item.AtomicGroupStatus.{AtomicGroupStatus}
 use Rattle.raft_log_records.specs.declared.item.AtomicGroupStatus.TheVariants.{Begin, Middle, End}
 use Rattle.raft_log_records.specs.Item.{Change, Item, place, change_map, item_map}
 use Rattle.raft_log_records.specs.Item.Change.{entries, clean, compact, put, delete, mark}
 use Rattle.raft_log_records.specs.Spelling.{spell_string, spell_entry, spell_change, spell_item, spell_items, status_byte, IsConsecutive, IsChange, IsItem, first_index, lengths}
 use Rattle.raft_log_records.specs.Reading.{◌>>=◌, number_at, status_at, entry_at, entries_at, run_at, change_behind, change_at, item_at, items_at, body_at}
-use Rattle.raft_log_records.specs.Places.{indexed, runs, run_end, placed_change, change_end, placed}
+use Rattle.raft_log_records.specs.Places.{runs, run_end, placed_change, change_end, placed}
 use Rattle.raft_log_records.proofs.Fields.{wide32, wide64, number_again, string_again, key_again}
 
 abbrev Bytes : Type 0

@@ -1,16 +1,15 @@
 -- What stands at the front of some bytes is told by them alone.
-use Rattle.std.proofs.Common.{◌≡◌, ◌⊎◌, inl, inr, ℕ, zero, suc, ◌+◌, ◌-◌, ◌<◌, ◌≤◌, Bool, true, false, not, cond, ltb, eqb, List, [], ◌∷◌, ◌++◌, length, take, drop, Option, None, Result, Ok, Err, refl, sym, ap, subst, ◌∙◌, arith, length-append, length-drop}
+use Rattle.std.proofs.Common.{◌≡◌, ◌⊎◌, inl, inr, ℕ, zero, suc, ◌+◌, ◌-◌, ◌<◌, ◌≤◌, Bool, true, false, not, cond, ltb, eqb, List, [], ◌∷◌, ◌++◌, length, take, drop, Option, None, Result, Ok, Err, refl, sym, ap, ◌∙◌, arith, length-append, length-drop}
 use Rattle.std.specs.Prelude.{◌||◌}
 use Rattle.std.specs.Int.{Width, w32, w64, byte_len, from_be_bytes}
-use Rattle.std.proofs.lemmas.Bool.{cases_lt, ltb-true, ltb-false, lt-ltb, le-ltb}
+use Rattle.std.proofs.lemmas.Bool.{cases_lt, lt-ltb, le-ltb}
 use Rattle.std.proofs.lemmas.List.{take-append-le, drop-append-le}
 use Rattle.raft_log_records.specs.declared.error.RecordFault.{RecordFault}
 use Rattle.raft_log_records.specs.declared.error.RecordFault.TheVariants as fault
 use Rattle.raft_log_records.specs.declared.item.EntryIndex.{EntryIndex}
-use Rattle.raft_log_records.specs.declared.item.AtomicGroupStatus.{AtomicGroupStatus}
 use Rattle.raft_log_records.specs.Checksum.{crc32_of}
-use Rattle.raft_log_records.specs.Item.{Change, Item, place}
-use Rattle.raft_log_records.specs.Item.Change.{entries, clean, compact, put, delete, mark}
+use Rattle.raft_log_records.specs.Item.{Item, place}
+use Rattle.raft_log_records.specs.Item.Change.{entries, compact, put, delete, mark}
 use Rattle.raft_log_records.specs.Spelling.{signed}
 use Rattle.raft_log_records.specs.Laws.{LengthsStay, LengthsNeedEight, RecordsHaveTheirLength, AnswersStay, RecordsNeedTheirLength, ZerosAreNoRecord}
 use Rattle.raft_log_records.specs.Reading.{◌>>=◌, number_or, number_at, string_at, key_at, status_at, entry_at, entries_at, run_at, change_behind, change_at, item_at, items_at, body_at, unsealed, head_at, len_at, header_at, block_at, agrees, record_at}
@@ -303,7 +302,7 @@ answers_stay signature bytes more = elim (head_stays bytes more) [
     by_head (Ok x) is same = elim (cases_lt (length bytes) x.0) [
       | inl short ↦ inl (record_is signature bytes (Ok x) is ∙ cut_is signature bytes x short)
       | inr long ↦ inr (record_is signature (bytes ++ more) (Ok x) (same ∙ is) ∙ whole_is signature (bytes ++ more) x (omega (arith, length-append bytes more))
-      ∙ head_and_more signature bytes more x (head_room bytes x is) long ∙ sym (record_is signature bytes (Ok x) is ∙ whole_is signature bytes x long))
+          ∙ head_and_more signature bytes more x (head_room bytes x is) long ∙ sym (record_is signature bytes (Ok x) is ∙ whole_is signature bytes x long))
     ]
 
 head_settled : (signature : Option ℕ) (bytes : List ℕ) (x : ℕ × ℕ) → Settled (behind_head signature bytes x)

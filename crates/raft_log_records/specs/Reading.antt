@@ -1,5 +1,5 @@
 -- Reading a record from left to right, with the first fault that is met.
-use Rattle.std.specs.Prelude.{◌≡◌, ◌<◌, ◌⊎◌, ◌+◌, ◌-◌, slice_index, ℕ, zero, suc, Bool, not, ◌||◌, List, [], ◌∷◌, length, map, take}
+use Rattle.std.specs.Prelude.{◌≡◌, ◌<◌, ◌⊎◌, ◌+◌, ◌-◌, slice_index, ℕ, zero, suc, Bool, not, ◌||◌, List, [], ◌∷◌, length, take}
 use Rattle.std.specs.Prelude.{drop, Option, None, Result, Ok, Err, nat_lt, ◌==◌, if◌then◌else◌}
 use Rattle.std.specs.List.{list_any}
 use Rattle.std.specs.Int.{Width, w32, w64, byte_len, from_be_bytes}

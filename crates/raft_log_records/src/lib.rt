@@ -29,7 +29,9 @@ pub use file_id::{FileBlockHandle, FileId, FileSeq, LogQueue};
 pub use item::{AtomicGroupStatus, EntryIndex, LogItem, LogItemContent};
 pub use laws::{lengths_are_told, records_are_told_by_their_bytes, zeros_are_no_record};
 pub use message::{Message, MessageExt};
-pub use record::{LogItemBatch, MAX_RECORD_LEN, Record, read_entries_block, read_record, record_len};
+pub use record::{
+    LogItemBatch, MAX_RECORD_LEN, Record, read_entries_block, read_record, record_len,
+};
 pub use size::ReadableSize;
 pub use stats::GlobalStats;
 pub use version::{LogFileContext, Version};

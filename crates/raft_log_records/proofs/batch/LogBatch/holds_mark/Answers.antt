@@ -1,7 +1,7 @@
-use Rattle.std.proofs.Common.{◌≡◌, sym, ap, ◌∙◌}
+use Rattle.std.proofs.Common.{sym, ap, ◌∙◌}
 use Rattle.std.specs.List.{list_any}
 use Rattle.raft_log_records.specs.declared.item.LogItem.{LogItem}
-use Rattle.raft_log_records.specs.Item.{Item, item_of, items_of, entry_bytes}
+use Rattle.raft_log_records.specs.Item.{item_of, items_of, entry_bytes}
 use Rattle.raft_log_records.specs.Spelling.{holds_mark}
 use Rattle.raft_log_records.specs.Batch.{Batch}
 use Rattle.std.proofs.Common.{List}

@@ -1,4 +1,4 @@
-use Rattle.std.proofs.Common.{◌≡◌, ◌+◌, Bool, List, length, true, false, sym, ap, ◌∙◌, arith}
+use Rattle.std.proofs.Common.{◌≡◌, ◌+◌, List, length, true, sym, ap, ◌∙◌, arith}
 use Rattle.std.specs.List.{list_any}
 use Rattle.raft_log_records.specs.declared.item.LogItem.{LogItem}
 use Rattle.raft_log_records.specs.Item.{item_of, items_of}
@@ -11,8 +11,8 @@ pub returns-then-any_entries : goal.returns-then-any_entries
 returns-then-any_entries c = λ signature bytes fits e.
     let r = c.args.self.now in
     let held : list_any holds_entries (items_of r.batch.items.items) ≡ true =
-        any_of_map holds_entries item_of r.batch.items.items ∙ sym (ap (λ (l : List LogItem). list_any (λ item. holds_entries (item_of item)) l) c.deref.ensures.value)
-        ∙ sym c.any_entries.ensures ∙ c.if-any_entries.true in
+    any_of_map holds_entries item_of r.batch.items.items ∙ sym (ap (λ (l : List LogItem). list_any (λ item. holds_entries (item_of item)) l) c.deref.ensures.value)
+    ∙ sym c.any_entries.ensures ∙ c.if-any_entries.true in
     let len : c.holding.result.len ≡ length r.entries.now + 4 = omega (arith, c.holding.ensures.len) in
     stands_in_bytes signature bytes (items_of r.batch.items.items) r.entries.now r.len c.holding.result fits e held c.holding.ensures.offset len
 
