@@ -25,7 +25,7 @@ run_has (e ∷ es) next index h a b =
     ]
 
 run_only : {E : Type 0} (es : List (ℕ × E)) (next index : ℕ) → FollowOn (λ e. e.0) next es → IsSome (entry_at es index) → (next ≤ index) × (index < next + length es)
-run_only [] next index h s = absurd (none_is (entry_at [] index) refl s)
+run_only [] next index h s = absurd cc
 run_only (e ∷ es) next index h s =
     elim (cases_eq e.0 index) [
       | inl same ↦ (omega (arith, h.0), omega (arith, h.0))
@@ -61,7 +61,7 @@ module _ {E : Type 0} (old : ℕ → Option E) (whole : HasNoHole old) where
   cut_whole : (limit : ℕ) → HasNoHole (λ index. cond (nat_lt index limit) None (old index))
   cut_whole limit low index high a b l h =
       elim (cases_lt low limit) [
-        | inl below ↦ absurd (none_is None refl (rw (lt-ltb low limit below) at l))
+        | inl below ↦ let gone = rw (lt-ltb low limit below) at l in absurd cc
         | inr above ↦
             let before : IsSome (old low) = rw (le-ltb low limit above) at l in
             let behind : IsSome (old high) = rw (le-ltb high limit (omega arith)) at h in
