@@ -8,7 +8,7 @@ use Rattle.raft_log_records.specs.Item.{Change, Item, change_map, item_map}
 use Rattle.raft_log_records.specs.Item.Change.{entries, clean, compact, put, delete, mark}
 use Rattle.raft_log_records.specs.Spelling.{first_index}
 use Rattle.raft_log_memtables.specs.Content.{GroupContent, Content, nothing, entry_at, after_change, after_item, after_batch}
-use Rattle.raft_log_memtables.specs.Replay.{Replay, mark_in, mark_of, begun_with, begun_more, after_end, after_status, after_marked, after_record, after_records, content_of}
+use Rattle.raft_log_memtables.specs.Replay.{Replay, mark_in, mark_of, begun_with, begun_more, after_end, after_status, after_marked, after_record, after_records}
 use Rattle.raft_log_memtables.specs.ContentLaws.{group_map, content_map, MapsContent, MapsReplay}
 
 abbrev run_map : {E F : Type 0} → (E → F) → List (ℕ × E) → List (ℕ × F)

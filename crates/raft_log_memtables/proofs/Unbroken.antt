@@ -1,13 +1,13 @@
 -- A batch that is taken makes no hole.
-use Rattle.std.proofs.Common.{◌≡◌, ◌⊎◌, inl, inr, ℕ, ◌+◌, ◌-◌, ◌<◌, ◌≤◌, Bool, true, false, cond, List, [], ◌∷◌, length, Option, Some, None, refl, sym, ap, subst, ◌∙◌, arith}
-use Rattle.std.specs.Prelude.{IsSome, nat_eq, nat_le, nat_lt, ◌&&◌}
+use Rattle.std.proofs.Common.{◌≡◌, inl, inr, ℕ, ◌+◌, ◌-◌, ◌<◌, ◌≤◌, Bool, true, false, cond, List, [], ◌∷◌, length, Option, Some, None, refl, subst, arith}
+use Rattle.std.specs.Prelude.{IsSome, nat_eq, nat_le, nat_lt}
 use Rattle.std.proofs.lemmas.Bool.{cases_lt, cases_eq, eq-eqb, ne_eqb, eqb-true, lt-ltb, le-ltb, le-leb, lt-leb, leb-true}
 use Rattle.raft_log_records.specs.Item.{Change, Item}
 use Rattle.raft_log_records.specs.Item.Change.{entries, clean, compact, put, delete, mark}
 use Rattle.raft_log_records.specs.Spelling.{first_index}
 use Rattle.raft_log_records.specs.Batch.{FollowOn}
 use Rattle.raft_log_memtables.specs.Content.{GroupContent, Content, entry_at, after_change, after_item, after_batch}
-use Rattle.raft_log_memtables.specs.Taken.{within, HasWithin, NoneWithin, TakesFrom, Takes, TakesEach}
+use Rattle.raft_log_memtables.specs.Taken.{TakesFrom, Takes, TakesEach}
 use Rattle.raft_log_memtables.specs.ContentLaws.{HasNoHole, HasNoHoles, IsRun, AreRuns, MakesNoHole}
 
 none_is : {E : Type 0} (o : Option E) → o ≡ None → IsSome o → ⊥

@@ -1,5 +1,5 @@
 -- Laws of the content, over any items.
-use Rattle.std.specs.Prelude.{◌≡◌, ◌≤◌, ◌+◌, ℕ, List, [], ◌∷◌, map, Option, IsSome}
+use Rattle.std.specs.Prelude.{◌≡◌, ◌≤◌, ℕ, List, [], ◌∷◌, map, Option, IsSome}
 use Rattle.std.specs.Option.{option_map}
 use Rattle.raft_log_records.specs.Item.{Change, Item, item_map}
 use Rattle.raft_log_records.specs.Item.Change.{entries, clean, compact, put, delete, mark}
