@@ -17,7 +17,7 @@ use Rattle.raft_log_records.specs.declared.file_id.FileBlockHandle.{FileBlockHan
 use Rattle.raft_log_records.specs.declared.item.EntryIndex.{EntryIndex}
 use Rattle.raft_log_records.specs.Item.{change_map}
 use Rattle.raft_log_records.specs.Item.Change.{entries, compact, put, delete}
-use Rattle.raft_log_records.specs.Reading.{indexed}
+use Rattle.raft_log_records.specs.Places.{indexed}
 use Rattle.raft_log_records.specs.Spelling.{first_index}
 use Rattle.raft_log_memtables.specs.Content.{GroupContent, entry_at, after_change, reach_of, greater_of}
 use Rattle.raft_log_memtables.specs.Entries.{entry_of, placed_in, placed_pairs, or_else}

@@ -156,3 +156,13 @@ clean_kept f (compact index) = refl
 clean_kept f (put key value) = refl
 clean_kept f (delete key) = refl
 clean_kept f (mark id status) = refl
+
+-- ---- which groups are there
+
+pub there_by : (o : Option MemTable) → (content_by o).there ≡ is_some o
+there_by None = refl
+there_by (Some t) = refl
+
+pub some_there : (o : Option MemTable) → IsSome o → (content_by o).there ≡ true
+some_there None h = h
+some_there (Some t) h = refl

@@ -9,7 +9,7 @@ use Rattle.std.proofs.Math.Seq.{drop-cons}
 use Rattle.raft_log_records.specs.declared.item.EntryIndex.{EntryIndex}
 use Rattle.raft_log_records.specs.declared.item.LogItem.{LogItem}
 use Rattle.raft_log_records.specs.Item.{Item, change_of, item_of, items_of}
-use Rattle.raft_log_records.specs.Reading.{indexed}
+use Rattle.raft_log_records.specs.Places.{indexed}
 use Rattle.raft_log_records.specs.Spelling.{first_index}
 use Rattle.raft_log_memtables.specs.Content.{GroupContent, Content, entry_at, after_change, after_item, after_batch}
 use Rattle.raft_log_memtables.specs.Taken.{within, HasWithin, NoneWithin, Takes, TakesEach}

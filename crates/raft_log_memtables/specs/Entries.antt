@@ -4,7 +4,7 @@ use Rattle.std.specs.BTreeMap.{BTreeMap, get}
 use Rattle.std.specs.Ordering.{nat_cmp}
 use Rattle.raft_log_records.specs.declared.file_id.FileBlockHandle.{FileBlockHandle}
 use Rattle.raft_log_records.specs.declared.item.EntryIndex.{EntryIndex}
-use Rattle.raft_log_records.specs.Reading.{indexed}
+use Rattle.raft_log_records.specs.Places.{indexed}
 
 -- the entry with this index
 abbrev pub entry_of : BTreeMap ℕ EntryIndex → ℕ → Option EntryIndex

@@ -9,3 +9,4 @@ pub mod Recovery
 pub mod Laws
 pub mod Taken
 pub mod Search
+pub mod ContentLaws

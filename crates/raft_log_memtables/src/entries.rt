@@ -5,7 +5,7 @@ ghost use Rattle.std.specs.Prelude.{nat_lt, if◌then◌else◌, OnOk};
 ghost use Rattle.std.specs.Bool.{OnTrue, OnFalse};
 ghost use Rattle.std.specs.BTreeMap.{btree_map_len};
 ghost use Rattle.raft_log_records.specs.Item.{change_map};
-ghost use Rattle.raft_log_records.specs.Reading.{indexed};
+ghost use Rattle.raft_log_records.specs.Places.{indexed};
 ghost use Rattle.raft_log_memtables.specs.Content.{entry_at, reach_of};
 ghost use Rattle.raft_log_memtables.specs.Entries.{entry_of, placed_in, placed_pairs, IsFirst};
 ghost use Rattle.raft_log_memtables.specs.Entries.{IsLast, HasFrom, NoneFrom, HasBefore};

@@ -9,7 +9,9 @@ mod memtables;
 mod replay;
 mod taken;
 
-pub use laws::atomic_groups_count_together;
+pub use laws::{
+    atomic_groups_count_together, batches_that_are_taken_make_no_hole, content_follows_its_entries,
+};
 pub use memtable::MemTable;
 pub use memtables::MemTables;
 pub use replay::{MemTableRecoverContext, PlacedBatch, replay_all};

@@ -5,7 +5,7 @@ ghost use Rattle.std.specs.Bool.{OnTrue, OnFalse};
 ghost use Rattle.std.specs.Option.{option_copied};
 ghost use Rattle.raft_log_records.specs.Item.{change_of};
 ghost use Rattle.raft_log_records.specs.Item.Change.{entries, compact, put, delete};
-ghost use Rattle.raft_log_records.specs.Reading.{indexed};
+ghost use Rattle.raft_log_records.specs.Places.{indexed};
 ghost use Rattle.raft_log_records.specs.Spelling.{first_index};
 ghost use Rattle.raft_log_memtables.specs.Content.{after_change, reach_after, takes_from};
 ghost use Rattle.raft_log_memtables.specs.Entries.{IsFirst, IsLast};

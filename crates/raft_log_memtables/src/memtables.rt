@@ -1,11 +1,13 @@
 //! What the log engine has of every group.
 
-ghost use Rattle.std.specs.Prelude.{◌≡◌, ℕ, Option, Some, None, IsSome, false, nat_eq};
-ghost use Rattle.std.specs.Prelude.{if◌then◌else◌, OnOk, MatchOption};
+ghost use Rattle.std.specs.Prelude.{◌≡◌, ℕ, Option, Some, None, IsSome, is_some, true, false, nat_eq};
+ghost use Rattle.std.specs.Prelude.{if◌then◌else◌, IfOk, OnOk, MatchOption};
+ghost use Rattle.std.specs.List.Sorted.{IsStrictlySortedBy};
+ghost use Rattle.std.specs.Set.{is_member};
 ghost use Rattle.std.specs.Bool.{OnTrue, OnFalse};
 ghost use Rattle.std.specs.Option.{option_copied};
-ghost use Rattle.std.specs.BTreeMap.{get};
-ghost use Rattle.std.specs.Ordering.{nat_cmp};
+ghost use Rattle.std.specs.BTreeMap.{get, keys};
+ghost use Rattle.std.specs.Ordering.{nat_cmp, eq_by_cmp};
 ghost use Rattle.raft_log_records.specs.Item.{change_of, item_of, item_map};
 ghost use Rattle.raft_log_memtables.specs.Content.{nothing, no_group, after_change, after_item};
 ghost use Rattle.raft_log_memtables.specs.Content.{after_batch, reach_after, reach_after_item};
@@ -93,6 +95,25 @@ fn apply_item(
     change_table(tables, raft_group_id, content, handle)
 }
 
+/// The least id of a group that has a memtable.
+fn first_group(tables: &TableMap) -> Option<u64>
+    ensures { IsFirst (get nat_cmp tables.now) result }
+{
+    match tables.first_key_value() {
+        Some((raft_group_id, _)) => Some(*raft_group_id),
+        None => None,
+    }
+}
+
+/// The ids of the groups that have a memtable, rising.
+fn group_ids(alloc: Global, tables: &TableMap) -> Result<Vec<u64>, AllocError>
+    ensures ids { IfOk result (λ ids. ids.items ≡ keys tables.now) }
+    ensures rising { IsStrictlySortedBy nat_cmp (keys tables.now) }
+    ensures exactly { (group : ℕ) → is_some (get nat_cmp tables.now group) ≡ is_member (eq_by_cmp nat_cmp) (keys tables.now) group }
+{
+    tables.keys().copied().collect(alloc)
+}
+
 /// What the log engine has of every group (raft-engine's `MemTables`). A group is there from any
 /// item but a `Clean` or an atomic mark until its next `Clean`.
 #[derive(Drop)]
@@ -112,6 +133,26 @@ impl MemTables {
             tables: BTreeMap::new(alloc),
             alloc,
         }
+    }
+
+    /// Whether no group is there.
+    pub fn is_empty(&self) -> bool
+        ensures yes { OnTrue result ((group : ℕ) → content_in self.now group ≡ no_group) }
+        ensures no { OnFalse result ((group : ℕ) × ((content_in self.now group).there ≡ true)) }
+    {
+        match first_group(&self.tables) {
+            Some(_) => false,
+            None => true,
+        }
+    }
+
+    /// The ids of the groups that are there, rising, and of no others.
+    pub fn groups(&self) -> Result<Vec<u64>, AllocError>
+        ensures rising { IfOk result (λ ids. IsStrictlySortedBy nat_cmp ids.items) }
+        ensures exactly { IfOk result (λ ids. (group : ℕ)
+            → (content_in self.now group).there ≡ is_member (eq_by_cmp nat_cmp) ids.items group) }
+    {
+        group_ids(self.alloc, &self.tables)
     }
 
     /// Does what the items of a batch say, whose entries lie in the block of this handle (own).

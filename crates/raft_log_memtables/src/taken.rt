@@ -5,7 +5,7 @@ ghost use Rattle.std.specs.Bool.{OnTrue, OnFalse};
 ghost use Rattle.std.specs.List.{list_any};
 ghost use Rattle.raft_log_records.specs.Item.{change_of, items_of};
 ghost use Rattle.raft_log_records.specs.Item.Change.{entries};
-ghost use Rattle.raft_log_records.specs.Reading.{indexed};
+ghost use Rattle.raft_log_records.specs.Places.{indexed};
 ghost use Rattle.raft_log_memtables.specs.Content.{after_batch};
 ghost use Rattle.raft_log_memtables.specs.MemTables.{content_in};
 ghost use Rattle.raft_log_memtables.specs.Search.{Leaves};

@@ -7,40 +7,19 @@ use Rattle.std.proofs.lemmas.List.{append-nil}
 use Rattle.std.proofs.lemmas.List.Concat.{flat_map-cons}
 use Rattle.raft_log_records.specs.declared.error.RecordFault.{RecordFault}
 use Rattle.raft_log_records.specs.declared.error.RecordFault.TheVariants as fault
-use Rattle.raft_log_records.specs.declared.item.EntryIndex.{EntryIndex}
 use Rattle.raft_log_records.specs.declared.item.AtomicGroupStatus.{AtomicGroupStatus}
 use Rattle.raft_log_records.specs.declared.item.AtomicGroupStatus.TheVariants.{Begin, Middle, End}
 use Rattle.raft_log_records.specs.Item.{Change, Item, place, change_map, item_map}
 use Rattle.raft_log_records.specs.Item.Change.{entries, clean, compact, put, delete, mark}
 use Rattle.raft_log_records.specs.Spelling.{spell_string, spell_entry, spell_change, spell_item, spell_items, status_byte, IsConsecutive, IsChange, IsItem, first_index, lengths}
-use Rattle.raft_log_records.specs.Reading.{◌>>=◌, number_at, status_at, entry_at, entries_at, run_at, indexed, change_behind, change_at, item_at, items_at, body_at}
-use Rattle.raft_log_records.specs.Batch.{runs}
+use Rattle.raft_log_records.specs.Reading.{◌>>=◌, number_at, status_at, entry_at, entries_at, run_at, change_behind, change_at, item_at, items_at, body_at}
+use Rattle.raft_log_records.specs.Places.{runs, run_end, placed_change, change_end, placed}
 use Rattle.raft_log_records.proofs.Fields.{wide32, wide64, number_again, string_again, key_again}
 
 abbrev Bytes : Type 0
 Bytes = List ℕ
 
 -- ---- where the entries lie
-
-abbrev pub run_end : ℕ → List (ℕ × List ℕ) → ℕ
-run_end at [] = at
-run_end at (e ∷ es) = run_end (at + length e.1) es
-
-abbrev pub placed_change : ℕ → Change (List ℕ) → Change EntryIndex
-placed_change at (entries es) = entries (indexed (runs at es))
-placed_change at clean = clean
-placed_change at (compact index) = compact index
-placed_change at (put key value) = put key value
-placed_change at (delete key) = delete key
-placed_change at (mark id status) = mark id status
-
-abbrev pub change_end : ℕ → Change (List ℕ) → ℕ
-change_end at (entries es) = run_end at es
-change_end at _ = at
-
-abbrev pub placed : ℕ → List (Item (List ℕ)) → List (Item EntryIndex)
-placed at [] = []
-placed at (item ∷ items) = record { group = item.group; change = placed_change at item.change } ∷ placed (change_end at item.change) items
 
 abbrev pub placed_end : ℕ → List (Item (List ℕ)) → ℕ
 placed_end at [] = at

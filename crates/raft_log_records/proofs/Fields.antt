@@ -7,7 +7,7 @@ use Rattle.std.proofs.lemmas.Nat.{be_bytes_4, be_bytes_8, from_be_bytes-to_be_by
 use Rattle.raft_log_records.specs.declared.error.RecordFault.{RecordFault}
 use Rattle.raft_log_records.specs.declared.error.RecordFault.TheVariants as fault
 use Rattle.raft_log_records.specs.Spelling.{spell_string, IsKey}
-use Rattle.raft_log_records.specs.Reading.{◌>>=◌, number_at, string_at, key_at}
+use Rattle.raft_log_records.specs.Reading.{◌>>=◌, number_or, number_at, string_at, key_at}
 
 abbrev pub IsBytes : List ℕ → Type 0
 IsBytes bytes = (i : ℕ) → get_or bytes i 0 < 256
@@ -70,30 +70,36 @@ wide64 = record {
   below = λ bytes fits. omega (arith, fits 0, fits 1, fits 2, fits 3, fits 4, fits 5, fits 6, fits 7);
 }
 
-pub number_takes : (w : Width) (limit : ℕ) (wide : IsWide w limit) (bytes : List ℕ) (n : ℕ) (rest : List ℕ) → IsBytes bytes → number_at w bytes ≡ Ok (n, rest) → Takes bytes (to_be_bytes w n) rest × (n < limit)
-number_takes w limit wide bytes n rest fits e =
-    let g = guard_ok (ltb (length bytes) (byte_len w)) fault.CutShort (from_be_bytes w (take (byte_len w) bytes), drop (byte_len w) bytes) (n, rest) e in
+pub number_takes_or : (wrong : RecordFault) (w : Width) (limit : ℕ) (wide : IsWide w limit) (bytes : List ℕ) (n : ℕ) (rest : List ℕ) → IsBytes bytes → number_or wrong w bytes ≡ Ok (n, rest) → Takes bytes (to_be_bytes w n) rest × (n < limit)
+number_takes_or wrong w limit wide bytes n rest fits e =
+    let g = guard_ok (ltb (length bytes) (byte_len w)) wrong (from_be_bytes w (take (byte_len w) bytes), drop (byte_len w) bytes) (n, rest) e in
     let long : byte_len w ≤ length bytes = ltb-false _ _ g.0 in
     let n-is : from_be_bytes w (take (byte_len w) bytes) ≡ n = ap (λ (p : ℕ × List ℕ). p.0) g.1 in
     let rest-is : drop (byte_len w) bytes ≡ rest = ap (λ (p : ℕ × List ℕ). p.1) g.1 in
     let front : to_be_bytes w n ≡ take (byte_len w) bytes = rw (← n-is) (wide.back (take (byte_len w) bytes) (omega (arith, length-take (byte_len w) bytes)) (IsBytes-take (byte_len w) bytes fits)) in
     (record { parts = rw (front, ← rest-is) (sym (take-append-drop (byte_len w) bytes)); rest_fits = rw (← rest-is) (IsBytes-drop (byte_len w) bytes fits) }, rw (← n-is) (wide.below (take (byte_len w) bytes) (IsBytes-take (byte_len w) bytes fits)))
 
-pub number_again : (w : Width) (limit : ℕ) (wide : IsWide w limit) (n : ℕ) (rest : List ℕ) → n < limit → number_at w (to_be_bytes w n ++ rest) ≡ Ok (n, rest)
-number_again w limit wide n rest lt =
+pub number_takes : (w : Width) (limit : ℕ) (wide : IsWide w limit) (bytes : List ℕ) (n : ℕ) (rest : List ℕ) → IsBytes bytes → number_at w bytes ≡ Ok (n, rest) → Takes bytes (to_be_bytes w n) rest × (n < limit)
+number_takes w limit wide bytes n rest fits e = number_takes_or fault.ItemsCutShort w limit wide bytes n rest fits e
+
+pub number_again_or : (wrong : RecordFault) (w : Width) (limit : ℕ) (wide : IsWide w limit) (n : ℕ) (rest : List ℕ) → n < limit → number_or wrong w (to_be_bytes w n ++ rest) ≡ Ok (n, rest)
+number_again_or wrong w limit wide n rest lt =
     let len = wide.len n in
     let long : ltb (length (to_be_bytes w n ++ rest)) (byte_len w) ≡ false = le-ltb _ _ (omega (arith, length-append (to_be_bytes w n) rest)) in
     rw (long, take_at (to_be_bytes w n) rest (byte_len w) len, drop_at (to_be_bytes w n) rest (byte_len w) len, wide.again n lt) refl
+
+pub number_again : (w : Width) (limit : ℕ) (wide : IsWide w limit) (n : ℕ) (rest : List ℕ) → n < limit → number_at w (to_be_bytes w n ++ rest) ≡ Ok (n, rest)
+number_again w limit wide n rest lt = number_again_or fault.ItemsCutShort w limit wide n rest lt
 
 -- ---- strings
 
 pub string_takes : (bytes text rest : List ℕ) → IsBytes bytes → string_at bytes ≡ Ok (text, rest) → Takes bytes (spell_string text) rest × (length text < 2 ^ 32)
 unfolding string_at
 string_takes bytes text rest fits e =
-    let b = bind_ok (number_at w32 bytes) (λ n. cond (ltb (length n.1) n.0) (Err fault.CutShort) (Ok (take n.0 n.1, drop n.0 n.1))) (text, rest) e in
+    let b = bind_ok (number_at w32 bytes) (λ n. cond (ltb (length n.1) n.0) (Err fault.ItemsCutShort) (Ok (take n.0 n.1, drop n.0 n.1))) (text, rest) e in
     let n = b.0 in
     let t = number_takes w32 (2 ^ 32) wide32 bytes n.0 n.1 fits b.1 in
-    let g = guard_ok (ltb (length n.1) n.0) fault.CutShort (take n.0 n.1, drop n.0 n.1) (text, rest) b.2 in
+    let g = guard_ok (ltb (length n.1) n.0) fault.ItemsCutShort (take n.0 n.1, drop n.0 n.1) (text, rest) b.2 in
     let long : n.0 ≤ length n.1 = ltb-false _ _ g.0 in
     let len : length (take n.0 n.1) ≡ n.0 = omega (arith, length-take n.0 n.1) in
     let second : Takes n.1 (take n.0 n.1) (drop n.0 n.1) = record { parts = sym (take-append-drop n.0 n.1); rest_fits = IsBytes-drop n.0 n.1 t.0.rest_fits } in

@@ -7,7 +7,7 @@ use Rattle.std.proofs.lemmas.List.Concat.{flat_map-cons}
 use Rattle.raft_log_records.specs.declared.item.EntryIndex.{EntryIndex}
 use Rattle.raft_log_records.specs.Item.{Change, Item, change_map, item_map, entry_bytes, with_bytes, with_lengths}
 use Rattle.raft_log_records.specs.Item.Change.{entries, clean, compact, put, delete, mark}
-use Rattle.raft_log_records.specs.Spelling.{entries_of, holds_entries, is_entries, lengths, block_of}
+use Rattle.raft_log_records.specs.Spelling.{entries_of, holds_entries, is_entries, holds_mark, is_mark, lengths, block_of}
 use Rattle.raft_log_records.specs.Batch.{IsRunLaid, IsLaid}
 
 pub run_rises : (at : ℕ) (es : List EntryIndex) (end : ℕ) → IsRunLaid at es end → at ≤ end
@@ -154,3 +154,15 @@ laid_stays block more at (item ∷ items) end h k =
     let up = laid_rises h.0 items end h.2 in
     let one : item_map (entry_bytes (block ++ more)) item ≡ item_map (entry_bytes block) item = ap (λ (c : Change (List ℕ)). record { group = item.group; change = c }) (change_stays block more at item.change h.0 h.1 (omega arith)) in
     ap (λ (i : Item (List ℕ)). i ∷ with_bytes (block ++ more) items) one ∙ ap (λ (l : List (Item (List ℕ))). item_map (entry_bytes block) item ∷ l) (laid_stays block more h.0 items end h.2 k)
+
+marks_map : {E F : Type 0} (f : E → F) (c : Change E) → is_mark (change_map f c) ≡ is_mark c
+marks_map f (entries es) = refl
+marks_map f clean = refl
+marks_map f (compact index) = refl
+marks_map f (put key value) = refl
+marks_map f (delete key) = refl
+marks_map f (mark id status) = refl
+
+pub any_marked : {E F : Type 0} (f : E → F) (items : List (Item E)) → list_any holds_mark (map (item_map f) items) ≡ list_any holds_mark items
+any_marked f [] = refl
+any_marked f (item ∷ items) = ap (λ (b : Bool). b || list_any holds_mark (map (item_map f) items)) (marks_map f item.change) ∙ ap (λ (b : Bool). holds_mark item || b) (any_marked f items)

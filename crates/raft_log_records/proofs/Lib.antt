@@ -13,6 +13,8 @@ pub mod RecordTaken
 pub mod Again
 pub mod Placed
 pub mod RecordAgain
+pub mod Locality
+pub mod Blocks
 pub mod Joined
 pub mod Runs
 pub mod Messages

@@ -10,7 +10,8 @@ use Rattle.raft_log_records.specs.declared.item.EntryIndex.{EntryIndex}
 use Rattle.raft_log_records.specs.declared.item.LogItem.{LogItem}
 use Rattle.raft_log_records.specs.Item.{Item, place, items_of, with_bytes}
 use Rattle.raft_log_records.specs.Spelling.{record_len}
-use Rattle.raft_log_records.specs.Batch.{Batch, IsSound, IsWriteRefusal, LogsWritten, joined, numbered, runs, run_of}
+use Rattle.raft_log_records.specs.Batch.{Batch, IsSound, IsWriteRefusal, LogsWritten, joined, numbered, run_of}
+use Rattle.raft_log_records.specs.Places.{runs}
 use Rattle.raft_log_records.proofs.Laid.{block_is}
 use Rattle.raft_log_records.proofs.Runs.{record_len_run}
 

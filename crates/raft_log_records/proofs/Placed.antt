@@ -8,9 +8,8 @@ use Rattle.raft_log_records.specs.declared.item.EntryIndex.{EntryIndex}
 use Rattle.raft_log_records.specs.Item.{Change, Item, place, change_map, entry_bytes, with_bytes}
 use Rattle.raft_log_records.specs.Item.Change.{entries, clean, compact, put, delete, mark}
 use Rattle.raft_log_records.specs.Spelling.{entries_of, holds_entries, is_entries, block_of}
-use Rattle.raft_log_records.specs.Reading.{indexed}
-use Rattle.raft_log_records.specs.Batch.{runs}
-use Rattle.raft_log_records.proofs.Again.{run_end, placed_change, change_end, placed, placed_end}
+use Rattle.raft_log_records.specs.Places.{indexed, runs, run_end, placed_change, change_end, placed}
+use Rattle.raft_log_records.proofs.Again.{placed_end}
 
 -- the bytes of an item's entries
 abbrev pub change_block : Change (List ℕ) → List ℕ
@@ -135,3 +134,19 @@ items_placed pre (item ∷ items) post =
 
 pub placed_bytes : (items : List (Item (List ℕ))) → with_bytes (block_of items) (placed 0 items) ≡ items
 placed_bytes items = ap (λ (b : List ℕ). with_bytes b (placed 0 items)) (sym (append-nil (block_of items))) ∙ items_placed [] items []
+
+-- ---- one more item
+
+pub placed_push : (at : ℕ) (items : List (Item (List ℕ))) (item : Item (List ℕ))
+    → placed at (items ++ item ∷ []) ≡ placed at items ++ record { group = item.group; change = placed_change (placed_end at items) item.change } ∷ []
+placed_push at [] item = refl
+placed_push at (i ∷ items) item = ap (λ (l : List (Item EntryIndex)). record { group = i.group; change = placed_change at i.change } ∷ l) (placed_push (change_end at i.change) items item)
+
+-- an item without entries has no place
+pub plain_placed : (at : ℕ) (f : EntryIndex → List ℕ) (c : Change EntryIndex) → is_entries c ≡ false → placed_change at (change_map f c) ≡ c
+plain_placed at f (entries es) h = absurd cc
+plain_placed at f clean h = refl
+plain_placed at f (compact index) h = refl
+plain_placed at f (put key value) h = refl
+plain_placed at f (delete key) h = refl
+plain_placed at f (mark id status) h = refl

@@ -16,9 +16,10 @@ use Rattle.raft_log_records.specs.declared.item.EntryIndex.{EntryIndex}
 use Rattle.raft_log_records.specs.Checksum.{shifted, after_byte, crc32_of}
 use Rattle.raft_log_records.specs.Item.{Item, items_of, with_bytes}
 use Rattle.raft_log_records.specs.Spelling.{holds_entries, block_of, block_part, signed, sealed, lengths, spell_block, spell_item, spell_items, spell_change, spell_record, record_len, AreItems}
-use Rattle.raft_log_records.specs.Reading.{Gives, Finds, number_at, unsealed, header_at, block_at, agrees, record_at}
-use Rattle.raft_log_records.proofs.Fields.{IsBytes, IsBytes-take, IsBytes-drop, wide32, number_again}
-use Rattle.raft_log_records.proofs.Again.{placed, placed_end, body_again}
+use Rattle.raft_log_records.specs.Reading.{Gives, Finds, number_or, unsealed, head_at, header_at, block_at, agrees, record_at}
+use Rattle.raft_log_records.proofs.Fields.{IsBytes, IsBytes-take, IsBytes-drop, wide32, number_again_or}
+use Rattle.raft_log_records.proofs.Again.{placed_end, body_again}
+use Rattle.raft_log_records.specs.Places.{placed}
 use Rattle.raft_log_records.proofs.Placed.{placed_end_is, placed_held, none_block, placed_bytes}
 
 -- ---- a checksum fits four bytes
@@ -82,7 +83,7 @@ pub record Parts (len offset : ℕ) (block body rest bytes : List ℕ) : Type 0 
   pub place : (length block ≡ 0) ⊎ (4 ≤ length block)
 
 pub header_again : (len offset : ℕ) (block body rest bytes : List ℕ) → Parts len offset block body rest bytes → header_at bytes ≡ Ok (len, offset)
-unfolding header_at
+unfolding head_at header_at
 header_again len offset block body rest bytes p =
     let more = block ++ (body ++ rest) in
     let regrouped : bytes ≡ to_be_bytes w32 len ++ (to_be_bytes w32 offset ++ more) = p.whole ∙ append_assoc (to_be_bytes w32 len) (to_be_bytes w32 offset) more in
@@ -90,6 +91,7 @@ header_again len offset block body rest bytes p =
     let fits_offset : offset < 2 ^ 32 = omega (arith, p.short, p.len_is) in
     let long : length bytes ≡ 8 + (length block + (length body + length rest)) =
     ap length regrouped ∙ omega (arith, length-append (to_be_bytes w32 len) (to_be_bytes w32 offset ++ more), length-append (to_be_bytes w32 offset) more, length-append block (body ++ rest), length-append body rest) in
+    let t0 : eqb len 0 ≡ false = ne_eqb _ _ (λ z. omega (arith, p.len_is, p.offset_is)) in
     let t1 : ltb len 16 ≡ false = le-ltb _ _ (omega (arith, p.len_is, p.offset_is, p.four)) in
     let t2 : ltb 33554432 len ≡ false = le-ltb _ _ p.short in
     let t3 : ltb (length bytes) len ≡ false = le-ltb _ _ (omega (arith, p.len_is, p.offset_is)) in
@@ -98,9 +100,9 @@ header_again len offset block body rest bytes p =
       | inl z ↦ let s : eqb offset 8 ≡ true = eq-eqb offset 8 (omega (arith, p.offset_is, z)) in ap (λ (b : Bool). b || not (ltb offset 12)) s
       | inr z ↦ let s : ltb offset 12 ≡ false = le-ltb _ _ (omega (arith, p.offset_is, z)) in ap (λ (b : Bool). eqb offset 8 || not b) s ∙ or_true (eqb offset 8)
     ] in
-    let first : number_at w32 bytes ≡ Ok (len, to_be_bytes w32 offset ++ more) = ap (λ (l : List ℕ). number_at w32 l) regrouped ∙ number_again w32 (2 ^ 32) wide32 len (to_be_bytes w32 offset ++ more) fits_len in
-    let second = number_again w32 (2 ^ 32) wide32 offset more fits_offset in
-    rw (first, second, t1, t2, t3, t4, t5) refl
+    let first : number_or fault.CutShort w32 bytes ≡ Ok (len, to_be_bytes w32 offset ++ more) = ap (λ (l : List ℕ). number_or fault.CutShort w32 l) regrouped ∙ number_again_or fault.CutShort w32 (2 ^ 32) wide32 len (to_be_bytes w32 offset ++ more) fits_len in
+    let second = number_again_or fault.CutShort w32 (2 ^ 32) wide32 offset more fits_offset in
+    rw (first, t0, second, t1, t2, t4, t5, t3) refl
   where
     or_true : (b : Bool) → (b || true) ≡ true
     or_true true = refl
@@ -239,7 +241,7 @@ pub is_only : (signature : Option ℕ) (bytes : List ℕ) (r : Result Record Rec
 is_only signature bytes (Ok r) items rest h fits given are e =
     let same : read (placed 0 items, block_of items, record_len items) ≡ read (items_of r.batch.items.items, r.entries.now, r.len) = sym (record_again signature items rest bytes h fits are e) ∙ given in
     let is = read_is _ _ same in
-    (ap (λ (x : Read). with_bytes x.1 x.0) (sym is) ∙ placed_bytes items, ap (λ (x : Read). x.2) (sym is))
+    (ap (λ (x : Read). with_bytes x.1 x.0) (sym is) ∙ placed_bytes items, ap (λ (x : Read). x.2) (sym is), ap (λ (x : Read). x.0) (sym is), ap (λ (x : Read). x.1) (sym is))
   where
     read : Read → Result Read RecordFault
     read x = Ok x

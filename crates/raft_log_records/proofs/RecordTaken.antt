@@ -15,8 +15,8 @@ use Rattle.raft_log_records.specs.declared.error.RecordError.{RecordError}
 use Rattle.raft_log_records.specs.Item.{Item, items_of, entry_bytes, with_bytes, with_lengths}
 use Rattle.raft_log_records.specs.Spelling.{holds_entries, block_part, signed, sealed, lengths, spell_block, spell_items, spell_parts, spell_record, record_len, IsItem}
 use Rattle.raft_log_records.specs.Batch.{IsLaid, IsRecordAt}
-use Rattle.raft_log_records.specs.Reading.{◌>>=◌, Gives, number_at, unsealed, header_at, block_at, body_at, agrees, record_at, entries_block_at}
-use Rattle.raft_log_records.proofs.Fields.{IsBytes, IsBytes-take, IsBytes-drop, bind_ok, guard_ok, guard_then, Takes-then, wide32, number_takes}
+use Rattle.raft_log_records.specs.Reading.{◌>>=◌, Gives, Tells, number_or, unsealed, head_at, header_at, block_at, body_at, agrees, record_at, entries_block_at}
+use Rattle.raft_log_records.proofs.Fields.{IsBytes, IsBytes-take, IsBytes-drop, bind_ok, guard_ok, guard_then, Takes-then, wide32, number_takes_or}
 use Rattle.raft_log_records.proofs.Laid.{fronts, block_is, laid_lengths, any_held}
 use Rattle.raft_log_records.proofs.Taken.{not_true, body_takes}
 
@@ -76,37 +76,76 @@ or_true true b h = inl refl
 or_true false true h = absurd cc
 or_true false false h = inr refl
 
-abbrev tests : ℕ × List ℕ → ℕ × List ℕ → List ℕ → Result (ℕ × ℕ) RecordFault
-tests len offset bytes =
-    cond (ltb len.0 16 || ltb 33554432 len.0) (Err fault.BadLength)
-    (cond (ltb (length bytes) len.0) (Err fault.CutShort) (cond (ltb len.0 (offset.0 + 8) || not (eqb offset.0 8 || not (ltb offset.0 12))) (Err fault.BadOffset) (Ok (len.0, offset.0))))
+abbrev pub tests : ℕ → ℕ → Result (ℕ × ℕ) RecordFault
+tests len offset =
+    cond (ltb len 16 || ltb 33554432 len) (Err fault.BadLength)
+    (cond (ltb len (offset + 8) || not (eqb offset 8 || not (ltb offset 12))) (Err fault.BadOffset) (Ok (len, offset)))
 
-header_takes : (bytes : List ℕ) (x : ℕ × ℕ) → IsBytes bytes → header_at bytes ≡ Ok x → HeaderTaken bytes x.0 x.1
-unfolding header_at
-header_takes bytes x fits e =
-    let a = bind_ok (number_at w32 bytes) (λ len. number_at w32 len.1 >>= λ offset. tests len offset bytes) x e in
-    let b = bind_ok (number_at w32 a.0.1) (λ offset. tests a.0 offset bytes) x a.2 in
-    let len = a.0.0 in
-    let offset = b.0.0 in
-    let t = number_takes w32 (2 ^ 32) wide32 bytes len a.0.1 fits a.1 in
-    let u = number_takes w32 (2 ^ 32) wide32 a.0.1 offset b.0.1 t.0.rest_fits b.1 in
-    let g = guard_then (ltb len 16 || ltb 33554432 len) fault.BadLength (cond (ltb (length bytes) len) (Err fault.CutShort) (cond (ltb len (offset + 8) || not (eqb offset 8 || not (ltb offset 12))) (Err fault.BadOffset) (Ok (len, offset)))) x b.2 in
-    let h = guard_then (ltb (length bytes) len) fault.CutShort (cond (ltb len (offset + 8) || not (eqb offset 8 || not (ltb offset 12))) (Err fault.BadOffset) (Ok (len, offset))) x g.1 in
-    let k = guard_ok (ltb len (offset + 8) || not (eqb offset 8 || not (ltb offset 12))) fault.BadOffset (len, offset) x h.1 in
-    let both = (Takes-then bytes (to_be_bytes w32 len) a.0.1 (to_be_bytes w32 offset) b.0.1 t.0 u.0).parts in
+-- a header whose bytes may hold less than the record
+pub record HeadTaken (bytes : List ℕ) (len offset : ℕ) : Type 0 where
+  pub front : take 8 bytes ≡ to_be_bytes w32 len ++ to_be_bytes w32 offset
+  pub short : len ≤ 33554432
+  pub room : offset + 8 ≤ len
+  pub block : (offset ≡ 8) ⊎ (12 ≤ offset)
+
+-- what the tests of a length and an offset let pass
+pub record TestsOk (len offset : ℕ) (x : ℕ × ℕ) : Type 0 where
+  pub told : (len, offset) ≡ x
+  pub short : x.0 ≤ 33554432
+  pub room : x.1 + 8 ≤ x.0
+  pub block : (x.1 ≡ 8) ⊎ (12 ≤ x.1)
+  pub least : 8 ≤ x.1
+
+pub tests_ok : (len offset : ℕ) (x : ℕ × ℕ) → tests len offset ≡ Ok x → TestsOk len offset x
+tests_ok len offset x e =
+    let g = guard_then (ltb len 16 || ltb 33554432 len) fault.BadLength (cond (ltb len (offset + 8) || not (eqb offset 8 || not (ltb offset 12))) (Err fault.BadOffset) (Ok (len, offset))) x e in
+    let k = guard_ok (ltb len (offset + 8) || not (eqb offset 8 || not (ltb offset 12))) fault.BadOffset (len, offset) x g.1 in
     let lens = or_false (ltb len 16) (ltb 33554432 len) g.0 in
     let places = or_false (ltb len (offset + 8)) (not (eqb offset 8 || not (ltb offset 12))) k.0 in
-    let where_block : (offset ≡ 8) ⊎ (12 ≤ offset) = ⊎_elim (λ is. inl (eqb-true _ _ is)) (λ far. inr (ltb-false _ _ far)) (or_true (eqb offset 8) (ltb offset 12) (not_true _ places.1)) in
-    subst (λ (y : ℕ × ℕ). HeaderTaken bytes y.0 y.1) k.1 (record {
-      front = ap (λ (l : List ℕ). take 8 l) both ∙ front_eight (to_be_bytes w32 len) (to_be_bytes w32 offset) b.0.1 refl refl;
-      short = ltb-false _ _ lens.1;
-      within = ltb-false _ _ h.0;
-      room = ltb-false _ _ places.0;
-      block = where_block;
-    })
+    let place : (offset ≡ 8) ⊎ (12 ≤ offset) = ⊎_elim (λ is. inl (eqb-true _ _ is)) (λ far. inr (ltb-false _ _ far)) (or_true (eqb offset 8) (ltb offset 12) (not_true _ places.1)) in
+    let made : TestsOk len offset (len, offset) = record { told = refl; short = ltb-false _ _ lens.1; room = ltb-false _ _ places.0; block = place; least = at_least place } in
+    subst (λ (y : ℕ × ℕ). TestsOk len offset y) k.1 made
+  where
+    at_least : (offset ≡ 8) ⊎ (12 ≤ offset) → 8 ≤ offset
+    at_least (inl is) = omega arith
+    at_least (inr far) = omega arith
+
+head_takes : (bytes : List ℕ) (x : ℕ × ℕ) → IsBytes bytes → head_at bytes ≡ Ok x → HeadTaken bytes x.0 x.1
+unfolding head_at
+head_takes bytes x fits e =
+    let a = bind_ok (number_or fault.CutShort w32 bytes) (λ len. cond (eqb len.0 0) (Err fault.BadLength) (number_or fault.CutShort w32 len.1 >>= λ offset. tests len.0 offset.0)) x e in
+    let z = guard_then (eqb a.0.0 0) fault.BadLength (number_or fault.CutShort w32 a.0.1 >>= λ offset. tests a.0.0 offset.0) x a.2 in
+    let b = bind_ok (number_or fault.CutShort w32 a.0.1) (λ offset. tests a.0.0 offset.0) x z.1 in
+    let len = a.0.0 in
+    let offset = b.0.0 in
+    let t = number_takes_or fault.CutShort w32 (2 ^ 32) wide32 bytes len a.0.1 fits a.1 in
+    let u = number_takes_or fault.CutShort w32 (2 ^ 32) wide32 a.0.1 offset b.0.1 t.0.rest_fits b.1 in
+    let k = tests_ok len offset x b.2 in
+    let both = (Takes-then bytes (to_be_bytes w32 len) a.0.1 (to_be_bytes w32 offset) b.0.1 t.0 u.0).parts in
+    let front = ap (λ (l : List ℕ). take 8 l) both ∙ front_eight (to_be_bytes w32 len) (to_be_bytes w32 offset) b.0.1 refl refl in
+    record {
+      front = subst (λ (y : ℕ × ℕ). take 8 bytes ≡ to_be_bytes w32 y.0 ++ to_be_bytes w32 y.1) k.told front;
+      short = k.short;
+      room = k.room;
+      block = k.block;
+    }
   where
     front_eight : (a b rest : List ℕ) → length a ≡ 4 → length b ≡ 4 → take 8 ((a ++ b) ++ rest) ≡ a ++ b
     front_eight a b rest p q = take_at (a ++ b) rest 8 (omega (arith, length-append a b))
+
+pub header_takes : (bytes : List ℕ) (x : ℕ × ℕ) → IsBytes bytes → header_at bytes ≡ Ok x → HeaderTaken bytes x.0 x.1
+unfolding header_at
+header_takes bytes x fits e =
+    let a = bind_ok (head_at bytes) (λ head. cond (ltb (length bytes) head.0) (Err fault.CutShort) (Ok head)) x e in
+    let g = guard_ok (ltb (length bytes) a.0.0) fault.CutShort a.0 x a.2 in
+    let t = head_takes bytes a.0 fits a.1 in
+    subst (λ (y : ℕ × ℕ). HeaderTaken bytes y.0 y.1) g.1 (record {
+      front = t.front;
+      short = t.short;
+      within = ltb-false _ _ g.0;
+      room = t.room;
+      block = t.block;
+    })
 
 -- ---- the block of entries
 
@@ -140,7 +179,7 @@ agrees_at true false e = (λ _. refl, λ f. absurd cc)
 agrees_at false true e = (λ t. absurd cc, λ _. refl)
 agrees_at false false e = absurd cc
 
-block_takes : (bytes block : List ℕ) (offset : ℕ) (items : List (Item EntryIndex)) → IsBytes bytes → offset ≤ length bytes → (offset ≡ 8) ⊎ (12 ≤ offset) → not (agrees offset items) ≡ false → block_at offset bytes ≡ Ok block
+pub block_takes : (bytes block : List ℕ) (offset : ℕ) (items : List (Item EntryIndex)) → IsBytes bytes → offset ≤ length bytes → (offset ≡ 8) ⊎ (12 ≤ offset) → not (agrees offset items) ≡ false → block_at offset bytes ≡ Ok block
     → BlockTaken bytes block offset (list_any holds_entries items)
 unfolding block_at agrees
 block_takes bytes block offset items fits within place agreed e =
@@ -239,7 +278,7 @@ pub is_found : (signature : Option ℕ) (bytes : List ℕ) (r : Result Record Re
 is_found signature bytes (Ok r) fits given = record_takes signature bytes (items_of r.batch.items.items, r.entries.now, r.len) fits given
 is_found signature bytes (Err e) fits given = tt
 
-pub block_found : (bytes : List ℕ) (r : Result (Bor (List ℕ)) RecordError) → IsBytes bytes → Gives (λ x. x.now) r (entries_block_at bytes) → IfOk r (λ entries. bytes ≡ sealed None entries.now)
+pub block_found : (bytes : List ℕ) (r : Result (Bor (List ℕ)) RecordFault) → IsBytes bytes → Tells (λ x. x.now) r (entries_block_at bytes) → IfOk r (λ entries. bytes ≡ sealed None entries.now)
 unfolding entries_block_at
 block_found bytes (Ok x) fits given =
     let g = guard_then (ltb (length bytes) 4) fault.CutShort (unsealed fault.EntriesChecksum None bytes) x.now given in

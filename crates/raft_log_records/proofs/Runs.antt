@@ -1,5 +1,5 @@
 -- A run of entries that a batch takes.
-use Rattle.std.proofs.Common.{◌≡◌, ℕ, suc, ◌+◌, ◌*◌, ◌-◌, ◌^◌, ◌<◌, ◌≤◌, Bool, true, false, List, [], ◌∷◌, ◌++◌, length, map, Err, refl, sym, ap, subst, ◌∙◌, arith, length-append}
+use Rattle.std.proofs.Common.{◌≡◌, ℕ, suc, ◌+◌, ◌*◌, ◌-◌, ◌^◌, ◌<◌, ◌≤◌, Bool, true, false, List, [], ◌∷◌, ◌++◌, length, map, Err, refl, sym, ap, subst, ◌∙◌, arith, zero-add, length-append}
 use Rattle.std.specs.Prelude.{◌||◌}
 use Rattle.std.specs.List.{flat_map, list_any, AllByRecursion}
 use Rattle.std.specs.Int.{w32, w64, to_be_bytes}
@@ -13,13 +13,13 @@ use Rattle.raft_log_records.specs.declared.item.LogItem.{LogItem}
 use Rattle.raft_log_records.specs.declared.error.RecordError.TheVariants as error
 use Rattle.raft_log_records.specs.Item.{Change, Item, item_of, items_of, change_map, item_map, entry_bytes, with_bytes, with_lengths}
 use Rattle.raft_log_records.specs.Item.Change.{entries}
-use Rattle.raft_log_records.specs.Reading.{indexed}
+use Rattle.raft_log_records.specs.Places.{indexed, runs, run_end, placed}
+use Rattle.raft_log_records.proofs.Again.{placed_end}
 use Rattle.raft_log_records.specs.Spelling.{IsItem, IsChange, IsConsecutive, FitsBytes, first_index, holds_entries, entries_of, lengths, block_of, block_part, spell_block, spell_entry, spell_item, spell_items, record_len}
-use Rattle.raft_log_records.specs.Batch.{Batch, LogsEntries, IsRunLaid, IsLaid, IsSound, joined, numbered, runs, run_of}
+use Rattle.raft_log_records.specs.Batch.{Batch, LogsEntries, IsRunLaid, IsLaid, IsSound, joined, numbered, run_of}
 use Rattle.raft_log_records.proofs.Spelled.{heads, heads_of}
 use Rattle.raft_log_records.proofs.Taken.{unindexed}
-use Rattle.raft_log_records.proofs.Again.{run_end}
-use Rattle.raft_log_records.proofs.Placed.{bytes_in, run_end_is, none_block, change_placed}
+use Rattle.raft_log_records.proofs.Placed.{bytes_in, run_end_is, placed_end_is, none_block, change_placed, placed_push}
 use Rattle.raft_log_records.proofs.Laid.{laid_push, laid_stays, block_is, laid_lengths}
 use Rattle.raft_log_records.proofs.Sound.{lengths_push, each_push, spelled_push, length-spell_items}
 
@@ -180,9 +180,16 @@ sound_run items block holds m item group first parts r is =
     let spelled = spelled_push (with_lengths (items_of items)) (run_lens group first parts) in
     let same = ap (λ (l : List (Item ℕ)). length (flat_map spell_item l)) lens in
     let counted : length (indexed (runs (length block) es)) ≡ length parts = length-map (runs (length block) es) (λ e. (e.index, e)) ∙ runs_len (length block) es ∙ numbered_len first parts in
+    let view = with_bytes block (items_of items) in
+    let end_is : placed_end 0 view ≡ length block = placed_end_is 0 view ∙ ap (λ (l : List ℕ). 0 + length l) (block_is block (items_of items) s.laid) ∙ zero-add (length block) in
     let short_run : FitsBytes (laid_run group first block parts).change = omega (arith, fits) in
     record {
       laid = subst (λ (l : List (Item EntryIndex)). IsLaid 0 l (length (block ++ joined parts))) (sym all) laid;
+      places = all
+          ∙ ap (λ (l : List (Item EntryIndex)). l ++ laid_run group first block parts ∷ []) s.places
+          ∙ ap (λ (n : ℕ). placed 0 view ++ record { group = group; change = entries (indexed (runs n es)) } ∷ []) (sym end_is)
+          ∙ sym (placed_push 0 view (run_of group first parts))
+          ∙ ap (λ (l : List (Item (List ℕ))). placed 0 l) (sym (view_run items block item group first parts s.laid is));
       each = subst (λ (l : List (Item ℕ)). AllByRecursion IsItem l) (sym lens) (each_push IsItem (with_lengths (items_of items)) (run_lens group first parts) s.each is_item);
       fits = each_push (λ i. FitsBytes (item_of i).change) items item s.fits (subst (λ (i : Item EntryIndex). FitsBytes i.change) (sym is) short_run);
       sum = omega (arith, s.sum, run_spelled group first parts);

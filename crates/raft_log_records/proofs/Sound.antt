@@ -16,6 +16,9 @@ use Rattle.raft_log_records.specs.Batch.{IsRunLaid, IsLaid, IsSound, record_of}
 use Rattle.raft_log_records.specs.BatchView.{writing_of, KeepsChecksum}
 use Rattle.raft_log_records.specs.declared.batch.BufState.{BufState}
 use Rattle.raft_log_records.specs.declared.batch.BufState.TheVariants as buf
+use Rattle.raft_log_records.specs.Places.{placed}
+use Rattle.raft_log_records.proofs.Again.{placed_end}
+use Rattle.raft_log_records.proofs.Placed.{placed_push, plain_placed}
 use Rattle.raft_log_records.proofs.Laid.{block_is, laid_lengths, any_held, laid_push, holds_map as holds_kept}
 
 pub sound_lengths : (items : List LogItem) (block : List ℕ) (holds : Bool) (n : ℕ) → IsSound items block holds n → lengths (with_bytes block (items_of items)) ≡ with_lengths (items_of items)
@@ -131,6 +134,11 @@ sound_push items block holds n item m s plain is_item fits len room =
     let whole = sound_len items block holds n s in
     let run : IsRunLaid (length block) (entries_of (item_of item).change) (length block) = subst (λ (es : List EntryIndex). IsRunLaid (length block) es (length block)) (sym (plain_entries (item_of item).change plain)) refl in
     record {
+      places = map_push item_of items item
+          ∙ ap (λ (l : List (Item EntryIndex)). l ++ item_of item ∷ []) s.places
+          ∙ ap (λ (c : Change EntryIndex). placed 0 (with_bytes block (items_of items)) ++ record { group = item.raft_group_id; change = c } ∷ []) (sym (plain_placed (placed_end 0 (with_bytes block (items_of items))) (entry_bytes []) (item_of item).change plain))
+          ∙ sym (placed_push 0 (with_bytes block (items_of items)) (item_map (entry_bytes []) (item_of item)))
+          ∙ ap (λ (l : List (Item (List ℕ))). placed 0 l) (sym (view_push items block item plain));
       laid = subst (λ (l : List (Item EntryIndex)). IsLaid 0 l (length block)) (sym (map_push item_of items item)) (laid_push 0 (items_of items) (length block) (item_of item) (length block) s.laid run);
       each = subst (λ (l : List (Item ℕ)). AllByRecursion IsItem l) (sym (lengths_push items item)) (each_push IsItem (with_lengths (items_of items)) (item_map (λ e. e.entry_len) (item_of item)) s.each is_item);
       fits = each_push (λ i. FitsBytes (item_of i).change) items item s.fits fits;

@@ -14,7 +14,8 @@ use Rattle.raft_log_records.specs.Item.{Change, Item, place, change_map, item_ma
 use Rattle.raft_log_records.specs.Item.Change.{entries, clean, compact, put, delete, mark}
 use Rattle.raft_log_records.specs.Spelling.{spell_string, spell_entry, spell_change, spell_item, spell_items, status_byte, IsConsecutive, IsChange, IsItem, entries_of, first_index}
 use Rattle.raft_log_records.specs.Batch.{IsRunLaid, IsLaid}
-use Rattle.raft_log_records.specs.Reading.{◌>>=◌, number_at, string_at, key_at, status_at, entry_at, entries_at, run_at, indexed, change_behind, change_at, item_at, items_at, body_at}
+use Rattle.raft_log_records.specs.Reading.{◌>>=◌, number_at, string_at, key_at, status_at, entry_at, entries_at, run_at, change_behind, change_at, item_at, items_at, body_at}
+use Rattle.raft_log_records.specs.Places.{indexed}
 use Rattle.raft_log_records.proofs.Spelled.{heads, heads_of, count, run_spelled}
 use Rattle.raft_log_records.proofs.Fields.{IsBytes, bind_ok, guard_ok, guard_then, ok_is, Takes, Takes-then, wide32, wide64, number_takes, string_takes, key_takes}
 

@@ -9,7 +9,8 @@ use Rattle.raft_log_records.specs.declared.error.RecordError.TheVariants as erro
 use Rattle.raft_log_records.specs.declared.item.EntryIndex.{EntryIndex}
 use Rattle.raft_log_records.specs.declared.item.LogItem.{LogItem}
 use Rattle.raft_log_records.specs.Item.Change.{entries}
-use Rattle.raft_log_records.specs.Item.{Item, place, item_of, items_of, with_lengths}
+use Rattle.raft_log_records.specs.Item.{Item, item_of, items_of, with_bytes, with_lengths}
+use Rattle.raft_log_records.specs.Places.{placed}
 use Rattle.raft_log_records.specs.Spelling.{IsItem, FitsBytes, entries_of, holds_entries, block_part, spell_item, spell_record, record_len, AreItems}
 
 -- whether it is open, or written as a record that is signed so
@@ -77,11 +78,6 @@ abbrev pub LogsEntries : Batch → ℕ → ℕ → List (List ℕ) → Batch →
 LogsEntries old group first [] new result = (new ≡ old) × (result ≡ Ok tt)
 LogsEntries old group first (e ∷ es) new result = Logs old (run_of group first (e ∷ es)) new result
 
--- where entries lie, of which the first begins at this byte of the block
-abbrev pub runs : ℕ → List (ℕ × List ℕ) → List EntryIndex
-runs at [] = []
-runs at (e ∷ es) = place e.0 at (length e.1) ∷ runs (at + length e.1) es
-
 -- What adding an item does whose length shows only once its messages are written: want of memory may come first.
 abbrev pub LogsWritten : Batch → Item (List ℕ) → Batch → Result Unit RecordError → Type 0
 LogsWritten old item new (Ok _) = (new ≡ logged old item) × (record_len (old.items ++ item ∷ []) ≤ 33554432)
@@ -123,6 +119,7 @@ IsLaid at (item ∷ items) end = (mid : ℕ) × IsRunLaid at (entries_of item.ch
 -- what holds of the program's parts of a batch
 pub record IsSound (items : List LogItem) (block : List ℕ) (holds : Bool) (items_len : ℕ) : Type 0 where
   pub laid : IsLaid 0 (items_of items) (length block)
+  pub places : items_of items ≡ placed 0 (with_bytes block (items_of items))
   pub each : AllByRecursion IsItem (with_lengths (items_of items))
   pub fits : AllByRecursion (λ item. FitsBytes (item_of item).change) items
   pub sum : items_len ≡ length (flat_map spell_item (with_lengths (items_of items)))

@@ -1,8 +1,11 @@
 pub mod Checksum
 pub mod Signature
 pub mod Item
+pub mod Places
+pub mod Block
 pub mod Spelling
 pub mod Reading
+pub mod Laws
 pub mod Batch
 pub mod BatchView
 pub mod Stats

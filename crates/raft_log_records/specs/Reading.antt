@@ -1,12 +1,13 @@
 -- Reading a record from left to right, with the first fault that is met.
-use Rattle.std.specs.Prelude.{◌≡◌, ◌⊎◌, ◌+◌, ◌-◌, ℕ, zero, suc, Bool, not, ◌||◌, List, [], ◌∷◌, length, map, take}
+use Rattle.std.specs.Prelude.{◌≡◌, ◌<◌, ◌⊎◌, ◌+◌, ◌-◌, slice_index, ℕ, zero, suc, Bool, not, ◌||◌, List, [], ◌∷◌, length, take}
 use Rattle.std.specs.Prelude.{drop, Option, None, Result, Ok, Err, nat_lt, ◌==◌, if◌then◌else◌}
 use Rattle.std.specs.List.{list_any}
 use Rattle.std.specs.Int.{Width, w32, w64, byte_len, from_be_bytes}
 use Rattle.raft_log_records.specs.Checksum.{crc32_of}
 use Rattle.raft_log_records.specs.Item.{Change, Item, place, items_of, with_bytes}
 use Rattle.raft_log_records.specs.Item.Change.{entries, clean, compact, put, delete, mark}
-use Rattle.raft_log_records.specs.Spelling.{signed, holds_entries}
+use Rattle.raft_log_records.specs.Places.{indexed, placed}
+use Rattle.raft_log_records.specs.Spelling.{signed, holds_entries, block_of}
 use Rattle.raft_log_records.specs.declared.record.Record.{Record}
 use Rattle.raft_log_records.specs.declared.item.EntryIndex.{EntryIndex}
 use Rattle.raft_log_records.specs.declared.item.AtomicGroupStatus.{AtomicGroupStatus}
@@ -31,15 +32,29 @@ abbrev pub Gives : {X Y : Type 0} → (X → Y) → Result X RecordError → Res
 Gives view (Ok x) read = read ≡ Ok (view x)
 Gives view (Err e) read = Fails e read
 
+-- the same of a function that needs no memory
+abbrev pub Tells : {X Y : Type 0} → (X → Y) → Result X RecordFault → Result Y RecordFault → Type 0
+Tells view (Ok x) read = read ≡ Ok (view x)
+Tells view (Err f) read = read ≡ Err f
+
+-- each is below 256
+abbrev pub AreBytes : List ℕ → Type 0
+AreBytes bytes = (i : ℕ) → slice_index bytes i < 256
+
 -- ---- fields: a value and the bytes after it
 
+-- a number, or this fault where the bytes end before it does
+abbrev pub number_or : RecordFault → Width → List ℕ → Result (ℕ × List ℕ) RecordFault
+number_or wrong w bytes = if nat_lt (length bytes) (byte_len w) then Err wrong else Ok (from_be_bytes w (take (byte_len w) bytes), drop (byte_len w) bytes)
+
+-- a number of the items
 abbrev pub number_at : Width → List ℕ → Result (ℕ × List ℕ) RecordFault
-number_at w bytes = if nat_lt (length bytes) (byte_len w) then Err fault.CutShort else Ok (from_be_bytes w (take (byte_len w) bytes), drop (byte_len w) bytes)
+number_at w bytes = number_or fault.ItemsCutShort w bytes
 
 unfoldable pub string_at : List ℕ → Result (List ℕ × List ℕ) RecordFault
 string_at bytes = do
   n ← number_at w32 bytes
-  if nat_lt (length n.1) n.0 then Err fault.CutShort else Ok (take n.0 n.1, drop n.0 n.1)
+  if nat_lt (length n.1) n.0 then Err fault.ItemsCutShort else Ok (take n.0 n.1, drop n.0 n.1)
 
 unfoldable pub key_at : List ℕ → Result (List ℕ × List ℕ) RecordFault
 key_at bytes = do
@@ -47,7 +62,7 @@ key_at bytes = do
   if length key.0 == 0 then Err fault.EmptyKey else Ok key
 
 unfoldable pub status_at : List ℕ → Result (AtomicGroupStatus × List ℕ) RecordFault
-status_at [] = Err fault.CutShort
+status_at [] = Err fault.ItemsCutShort
 status_at (zero ∷ rest) = Ok (Begin, rest)
 status_at (suc zero ∷ rest) = Ok (Middle, rest)
 status_at (suc (suc zero) ∷ rest) = Ok (End, rest)
@@ -82,9 +97,6 @@ run_at limit at bytes = do
 
 -- ---- items
 
-abbrev pub indexed : List EntryIndex → List (ℕ × EntryIndex)
-indexed es = map (λ e. (e.index, e)) es
-
 unfoldable pub change_behind : ℕ → ℕ → ℕ → List ℕ → Result (Change EntryIndex × ℕ × List ℕ) RecordFault
 change_behind tag limit at bytes =
     if tag == 1 then (do
@@ -108,7 +120,7 @@ change_behind tag limit at bytes =
     else Err fault.BadTag
 
 unfoldable pub change_at : ℕ → ℕ → List ℕ → Result (Change EntryIndex × ℕ × List ℕ) RecordFault
-change_at limit at [] = Err fault.CutShort
+change_at limit at [] = Err fault.ItemsCutShort
 change_at limit at (tag ∷ rest) = change_behind tag limit at rest
 
 unfoldable pub item_at : ℕ → ℕ → List ℕ → Result (Item EntryIndex × ℕ × List ℕ) RecordFault
@@ -141,15 +153,25 @@ unsealed wrong signature bytes =
     let body = take (length bytes - 4) bytes in
     if from_be_bytes w32 (drop (length bytes - 4) bytes) == signed signature (crc32_of body) then Ok body else Err wrong
 
--- the whole length, and where the items begin
+-- the whole length and where the items begin, by the first eight bytes alone. Zero, which is no length, shows in four.
+unfoldable pub head_at : List ℕ → Result (ℕ × ℕ) RecordFault
+head_at bytes = do
+  len ← number_or fault.CutShort w32 bytes
+  if len.0 == 0 then Err fault.BadLength else do
+    offset ← number_or fault.CutShort w32 len.1
+    if nat_lt len.0 16 || nat_lt 33554432 len.0 then Err fault.BadLength
+        else if nat_lt len.0 (offset.0 + 8) || not (offset.0 == 8 || not (nat_lt offset.0 12)) then Err fault.BadOffset
+        else Ok (len.0, offset.0)
+
+-- the whole length alone
+abbrev pub len_at : List ℕ → Result ℕ RecordFault
+len_at bytes = head_at bytes >>= λ head. Ok head.0
+
+-- the same where the bytes hold the whole record
 unfoldable pub header_at : List ℕ → Result (ℕ × ℕ) RecordFault
 header_at bytes = do
-  len ← number_at w32 bytes
-  offset ← number_at w32 len.1
-  if nat_lt len.0 16 || nat_lt 33554432 len.0 then Err fault.BadLength
-      else if nat_lt (length bytes) len.0 then Err fault.CutShort
-      else if nat_lt len.0 (offset.0 + 8) || not (offset.0 == 8 || not (nat_lt offset.0 12)) then Err fault.BadOffset
-      else Ok (len.0, offset.0)
+  head ← head_at bytes
+  if nat_lt (length bytes) head.0 then Err fault.CutShort else Ok head
 
 -- the entries' bytes in the block before the items
 unfoldable pub block_at : ℕ → List ℕ → Result (List ℕ) RecordFault
@@ -171,7 +193,9 @@ record_at signature bytes = do
 
 -- what reading answers where the record of these items stands at the front, unless memory runs out
 abbrev pub Finds : Result Record RecordError → List (Item (List ℕ)) → ℕ → Type 0
-Finds (Ok r) items len = (with_bytes r.entries.now (items_of r.batch.items.items) ≡ items) × (r.len ≡ len)
+Finds (Ok r) items len =
+    (with_bytes r.entries.now (items_of r.batch.items.items) ≡ items) × (r.len ≡ len)
+    × (items_of r.batch.items.items ≡ placed 0 items) × (r.entries.now ≡ block_of items)
 Finds (Err errors.Memory) items len = Unit {0}
 Finds (Err errors.TooLong) items len = ⊥
 Finds (Err (errors.Corruption f)) items len = ⊥

@@ -93,6 +93,14 @@ is_entries _ = false
 abbrev pub holds_entries : {E : Type 0} → Item E → Bool
 holds_entries item = is_entries item.change
 
+abbrev pub is_mark : {E : Type 0} → Change E → Bool
+is_mark (mark id status) = true
+is_mark _ = false
+
+-- an item is the mark of an atomic group
+abbrev pub holds_mark : {E : Type 0} → Item E → Bool
+holds_mark item = is_mark item.change
+
 abbrev pub lengths : List (Item (List ℕ)) → List (Item ℕ)
 lengths items = map (item_map length) items
 

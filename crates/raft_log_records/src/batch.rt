@@ -1,11 +1,14 @@
 //! Batches of changes, which become one record each.
 
 ghost use Rattle.std.specs.Prelude.{◌≡◌, ◌<◌, ◌≤◌, ◌+◌, ◌-◌, ◌*◌, ◌^◌, ◌++◌, ◌∷◌, ◌↔◌, []};
-ghost use Rattle.std.specs.Prelude.{length, map, IsTrue, OnOk, OnErr, IfOk};
+ghost use Rattle.std.specs.Prelude.{ℕ, Option, length, map, IsTrue, OnOk, OnErr, IfOk};
 ghost use Rattle.std.specs.Prelude.{IfErr, IfSome, IfNone, false, true};
 ghost use Rattle.raft_log_records.specs.Item.{Item, command_change, with_bytes, items_of};
 ghost use Rattle.raft_log_records.specs.Item.{item_of, item_map, entry_bytes};
-ghost use Rattle.raft_log_records.specs.Spelling.{holds_entries, IsItem, FitsBytes, spell_item};
+ghost use Rattle.raft_log_records.specs.Places.{placed};
+ghost use Rattle.raft_log_records.specs.Block.{StandsIn};
+ghost use Rattle.raft_log_records.specs.Spelling.{holds_entries, holds_mark, IsItem, FitsBytes};
+ghost use Rattle.raft_log_records.specs.Spelling.{spell_item, spell_record};
 ghost use Rattle.raft_log_records.specs.Spelling.{block_of, block_part, record_len};
 ghost use Rattle.std.specs.List.{list_any};
 ghost use Rattle.raft_log_records.specs.Item.Change.{put, delete, mark};
@@ -15,6 +18,7 @@ ghost use Rattle.raft_log_records.specs.Batch.{LogsRun, FollowOn, index_of_first
 ghost use Rattle.raft_log_records.specs.Batch.{payloads, joined};
 ghost use Rattle.raft_log_records.specs.Signature.{signature_of};
 
+use crate::block::EntriesBlock;
 use crate::command::Command;
 use crate::entries::{append_all, index_entries, total_len, write_all};
 use crate::error::RecordError;
@@ -119,6 +123,25 @@ impl LogBatch {
         }
     }
 
+    /// Where the block of entries stands in the record that the batch is written as, or none where no
+    /// item holds entries. Another signature leaves it there.
+    pub fn entries_block(&self) -> Option<EntriesBlock>
+        ensures { (signature : Option ℕ) → StandsIn (spell_record signature self.now.items) self.now.items (block_of self.now.items) result }
+    {
+        if self.holds_entries {
+            Some(EntriesBlock::holding(self.entries.len() as u64))
+        } else {
+            None
+        }
+    }
+
+    /// Whether an item is the mark of an atomic group.
+    pub fn holds_mark(&self) -> bool
+        ensures { result ≡ list_any holds_mark self.now.items }
+    {
+        any_marks(&self.items)
+    }
+
     /// Adds an item that holds no entries and takes `item_len` bytes.
     fn push(&mut self, item: LogItem, item_len: u32) -> Result<(), RecordError>
         requires plain { holds_entries (item_of item) ≡ false }
@@ -136,6 +159,18 @@ impl LogBatch {
         self.encoded.clear();
         Ok(())
     }
+}
+
+fn is_mark(item: &LogItem) -> bool
+    ensures { result ≡ holds_mark (item_of item.now) }
+{
+    matches!(item.content, LogItemContent::AtomicGroup { .. })
+}
+
+fn any_marks(items: &[LogItem]) -> bool
+    ensures { result ≡ list_any (λ item. holds_mark (item_of item)) items.now }
+{
+    items.iter().any(|item| is_mark(item))
 }
 
 /// The length of an item with these two strings, or none where it passes any record's.
@@ -271,6 +306,8 @@ impl LogBatch {
     /// empty batch (raft-engine's `drain`).
     pub fn drain(&mut self) -> LogItemBatch
         ensures items { with_bytes (block_of self.old.items) (items_of result.items.items) ≡ self.old.items }
+        // The places are those that reading the record gives.
+        ensures places { items_of result.items.items ≡ placed 0 self.old.items }
         ensures empty { self.new ≡ nothing_logged }
     {
         let alloc = *self.items.allocator();

@@ -1,7 +1,8 @@
 //! Entries on their way into a batch.
 
 ghost use Rattle.std.specs.Prelude.{◌≡◌, ◌≤◌, ◌<◌, ◌+◌, ◌*◌, ◌^◌, ◌++◌, ℕ, List, length, map, IfSome, IfNone, IfOk, IfErr, OnOk, OnErr};
-ghost use Rattle.raft_log_records.specs.Batch.{payloads, joined, numbered, runs, IsWriteRefusal};
+ghost use Rattle.raft_log_records.specs.Batch.{payloads, joined, numbered, IsWriteRefusal};
+ghost use Rattle.raft_log_records.specs.Places.{runs};
 
 use crate::error::RecordError;
 use crate::item::EntryIndex;

@@ -1,7 +1,7 @@
 //! Why a batch or its bytes are refused.
 
 ghost use Rattle.std.specs.Prelude.{◌≡◌};
-ghost use Rattle.raft_log_records.specs.declared.error.RecordError.TheVariants.{Memory};
+ghost use Rattle.raft_log_records.specs.declared.error.RecordError.TheVariants.{Memory, Corruption};
 ghost use Rattle.raft_log_records.specs.Refusal.{number_of};
 
 use std::alloc::{AllocError, AllocFailed};
@@ -10,8 +10,11 @@ use thiserror::Error;
 /// What is wrong with the bytes of a record: the first fault that is met.
 #[derive(Clone, Copy, Debug, PartialEq, Eq)]
 pub enum RecordFault {
-    /// The bytes end before the record, or its items before a field that they must have.
+    /// The bytes end before the record that they begin, or before the checksum of a block of
+    /// entries: with more bytes it may be one.
     CutShort,
+    /// The items of the record end before a field that they must have: no further bytes help.
+    ItemsCutShort,
     /// The length is one that no record has.
     BadLength,
     /// The items cannot begin where the header says.
@@ -54,6 +57,14 @@ impl RecordError {
             RecordError::TooLong => 2,
             RecordError::Corruption(_) => 3,
         }
+    }
+}
+
+impl From<RecordFault> for RecordError {
+    ghost from_gives = { λ f e. e ≡ Corruption f };
+
+    fn from(fault: RecordFault) -> RecordError {
+        RecordError::Corruption(fault)
     }
 }
 

@@ -1,12 +1,11 @@
 //! Messages: what entries and values are written as.
 
-ghost use Rattle.std.specs.Prelude.{◌≡◌, ◌++◌, ℕ, List, OnOk, OnErr, IfOk, IfSome, IsSome};
+ghost use Rattle.std.specs.Prelude.{◌≡◌, ◌++◌, ℕ, List, true, OnOk, OnErr, IfOk, IfSome, IsSome};
 
 use std::alloc::{AllocError, Global};
 
-/// A value that is written as bytes and read back (raft-engine's `Message`). Messages with the same
-/// bytes are the same message.
-pub trait Message {
+/// A value that is written as bytes and read back (raft-engine's `Message`).
+pub trait Message: PartialEq {
     /// The bytes that a message is written as.
     ghost bytes: { Self → List ℕ };
 
@@ -22,6 +21,10 @@ pub trait Message {
         Self: Sized,
         ensures found { IfOk result (λ o. IfSome o (λ m. bytes m ≡ text.now)) }
         ensures only { (m : Self) → bytes m ≡ text.now → IfOk result IsSome };
+
+    /// Messages with the same bytes are the same message: what was put is what is read back, and a
+    /// type that writes nothing has one message alone.
+    ghost one_message: { (m n : Self) → bytes m ≡ bytes n → Self.eq m n ≡ true };
 }
 
 /// Entries with indexes (raft-engine's `MessageExt`).

@@ -1,7 +1,7 @@
 //! Reading the fields and items of a record, from left to right.
 
-ghost use Rattle.std.specs.Prelude.{◌≡◌, ◌≤◌, ◌+◌, ◌<◌, ◌/◌, ◌^◌, length, min, IfOk};
-ghost use Rattle.std.specs.Int.{w32, w64};
+ghost use Rattle.std.specs.Prelude.{◌≡◌, ◌≤◌, ◌+◌, ◌<◌, ◌/◌, ◌^◌, length, take, drop, min, IfOk, MatchOption};
+ghost use Rattle.std.specs.Int.{w32, w64, from_be_bytes};
 ghost use Rattle.raft_log_records.specs.Item.{change_of, item_of, items_of};
 ghost use Rattle.raft_log_records.specs.Reading.{Gives, number_at, string_at, key_at, status_at, entry_at, entries_at, run_at, change_behind, change_at, item_at, items_at, body_at};
 
@@ -25,22 +25,32 @@ fn parts_within(count: u32, part_len: usize, bytes: &[u8]) -> usize
     (count as usize).min(bytes.len() / part_len)
 }
 
-pub fn u32_at(bytes: &[u8]) -> Result<(u32, &[u8]), RecordError>
-    ensures { Gives (λ x. (x.0, x.1.now)) result (number_at w32 bytes.now) }
+/// The number in the first four bytes and the bytes behind it, or none where they end before.
+pub fn u32_front(bytes: &[u8]) -> Option<(u32, &[u8])>
+    ensures { MatchOption result (length bytes.now < 4) (λ x. (4 ≤ length bytes.now) × (x.0 ≡ from_be_bytes w32 (take 4 bytes.now)) × (x.1.now ≡ drop 4 bytes.now)) }
 {
     if bytes.len() < 4 {
-        return Err(RecordError::Corruption(RecordFault::CutShort));
+        return None;
     }
     let (front, rest) = bytes.split_at(4);
     let number = u32::from_be_bytes([front[0], front[1], front[2], front[3]]);
-    Ok((number, rest))
+    Some((number, rest))
+}
+
+fn u32_at(bytes: &[u8]) -> Result<(u32, &[u8]), RecordError>
+    ensures { Gives (λ x. (x.0, x.1.now)) result (number_at w32 bytes.now) }
+{
+    let Some(read) = u32_front(bytes) else {
+        return Err(RecordError::Corruption(RecordFault::ItemsCutShort));
+    };
+    Ok(read)
 }
 
 fn u64_at(bytes: &[u8]) -> Result<(u64, &[u8]), RecordError>
     ensures { Gives (λ x. (x.0, x.1.now)) result (number_at w64 bytes.now) }
 {
     if bytes.len() < 8 {
-        return Err(RecordError::Corruption(RecordFault::CutShort));
+        return Err(RecordError::Corruption(RecordFault::ItemsCutShort));
     }
     let (front, rest) = bytes.split_at(8);
     let number = u64::from_be_bytes([
@@ -56,7 +66,7 @@ fn string_of(alloc: Global, bytes: &[u8]) -> Result<(Vec<u8>, &[u8]), RecordErro
     let (len, rest) = u32_at(bytes)?;
     let len = len as usize;
     if rest.len() < len {
-        return Err(RecordError::Corruption(RecordFault::CutShort));
+        return Err(RecordError::Corruption(RecordFault::ItemsCutShort));
     }
     let (text, rest) = rest.split_at(len);
     Ok((Vec::from_slice(alloc, text)?, rest))
@@ -78,7 +88,7 @@ fn status_of(bytes: &[u8]) -> Result<(AtomicGroupStatus, &[u8]), RecordError>
     ensures { Gives (λ x. (x.0, x.1.now)) result (status_at bytes.now) }
 {
     match bytes {
-        [] => Err(RecordError::Corruption(RecordFault::CutShort)),
+        [] => Err(RecordError::Corruption(RecordFault::ItemsCutShort)),
         [0, rest @ ..] => Ok((AtomicGroupStatus::Begin, rest)),
         [1, rest @ ..] => Ok((AtomicGroupStatus::Middle, rest)),
         [2, rest @ ..] => Ok((AtomicGroupStatus::End, rest)),
@@ -216,7 +226,7 @@ fn content_of(
     ensures read { Gives (λ x. (change_of x.0, x.1, x.2.now)) result (change_at limit at bytes.now) }
 {
     match bytes {
-        [] => Err(RecordError::Corruption(RecordFault::CutShort)),
+        [] => Err(RecordError::Corruption(RecordFault::ItemsCutShort)),
         [tag, rest @ ..] => content_behind(alloc, *tag, limit, at, rest),
     }
 }

@@ -1,16 +1,18 @@
 //! Reading a record: its header, its items and its block of entries, with both checksums.
 
-ghost use Rattle.std.specs.Prelude.{◌≡◌, ◌≤◌, ◌+◌, ◌⊎◌, ◌++◌, ℕ, List, length, IfOk, IsErrAnd};
+ghost use Rattle.std.specs.Prelude.{◌≡◌, ◌≤◌, ◌+◌, ◌⊎◌, ◌++◌, ℕ, List, Option, Ok, length, IfOk, IsErrAnd, MatchResult};
 ghost use Rattle.std.specs.List.{list_any};
 ghost use Rattle.raft_log_records.specs.Item.{Item, item_of, items_of, with_bytes};
 ghost use Rattle.raft_log_records.specs.Batch.{IsRecordAt, IsRecordChanged};
 ghost use Rattle.raft_log_records.specs.Spelling.{sealed, signed, IsSignature, holds_entries, AreItems, spell_record, record_len};
-ghost use Rattle.raft_log_records.specs.Reading.{Gives, Finds, FailsByChecksum, header_at, unsealed, block_at, agrees, record_at, entries_block_at};
+ghost use Rattle.raft_log_records.specs.Block.{StandsIn};
+ghost use Rattle.raft_log_records.specs.Reading.{AreBytes, Gives, Tells, Finds, FailsByChecksum, head_at, len_at, header_at, unsealed, block_at, agrees, record_at, entries_block_at};
 
+use crate::block::EntriesBlock;
 use crate::checksum::crc32;
 use crate::error::{RecordError, RecordFault};
 use crate::item::{LogItem, LogItemContent};
-use crate::reading::{body_of, u32_at};
+use crate::reading::{body_of, u32_front};
 use std::alloc::Global;
 
 /// A record has at most so many bytes.
@@ -35,6 +37,42 @@ pub struct Record<'a> {
     pub len: u32,
 }
 
+/// What the first eight bytes of a record say: its whole length, and where its items begin.
+#[tactic(auto, unfolding(crate::specs::Reading::head_at))]
+fn head_of(bytes: &[u8]) -> Result<(u32, u32), RecordFault>
+    ensures room { IfOk result (λ x. (16 ≤ x.0) × (x.0 ≤ 33554432) × (x.1 + 8 ≤ x.0)) }
+    ensures block { IfOk result (λ x. (x.1 ≡ 8) ⊎ (12 ≤ x.1)) }
+    ensures read { result ≡ head_at bytes.now }
+{
+    let Some((len, rest)) = u32_front(bytes) else {
+        return Err(RecordFault::CutShort);
+    };
+    if len == 0 {
+        return Err(RecordFault::BadLength);
+    }
+    let Some((offset, _)) = u32_front(rest) else {
+        return Err(RecordFault::CutShort);
+    };
+    if len < 16 || MAX_RECORD_LEN < len {
+        return Err(RecordFault::BadLength);
+    }
+    if len - 8 < offset || !(offset == 8 || 12 <= offset) {
+        return Err(RecordFault::BadOffset);
+    }
+    Ok((len, offset))
+}
+
+/// How many bytes the record takes that stands at the front of some bytes, of which only the first
+/// eight count. Refused are `CutShort`, while more bytes are needed to tell, and, as by
+/// `read_record`, a length or an offset of its items that no record has: zeros after four bytes.
+pub fn record_len(bytes: &[u8]) -> Result<u32, RecordFault>
+    ensures long { IfOk result (λ len. (16 ≤ len) × (len ≤ 33554432)) }
+    ensures exact { result ≡ len_at bytes.now }
+{
+    let (len, _) = head_of(bytes)?;
+    Ok(len)
+}
+
 #[tactic(auto, unfolding(crate::specs::Reading::header_at))]
 fn header_of(bytes: &[u8]) -> Result<(u32, u32), RecordError>
     ensures within { IfOk result (λ x. x.0 ≤ length bytes.now) }
@@ -43,16 +81,9 @@ fn header_of(bytes: &[u8]) -> Result<(u32, u32), RecordError>
     ensures block { IfOk result (λ x. (x.1 ≡ 8) ⊎ (12 ≤ x.1)) }
     ensures read { Gives (λ x. x) result (header_at bytes.now) }
 {
-    let (len, rest) = u32_at(bytes)?;
-    let (offset, _) = u32_at(rest)?;
-    if len < 16 || MAX_RECORD_LEN < len {
-        return Err(RecordError::Corruption(RecordFault::BadLength));
-    }
+    let (len, offset) = head_of(bytes)?;
     if bytes.len() < len as usize {
         return Err(RecordError::Corruption(RecordFault::CutShort));
-    }
-    if len - 8 < offset || !(offset == 8 || 12 <= offset) {
-        return Err(RecordError::Corruption(RecordFault::BadOffset));
     }
     Ok((len, offset))
 }
@@ -69,23 +100,23 @@ pub fn sign(signature: Option<u32>, checksum: u32) -> u32
 
 /// The bytes before a checksum of them, which is signed for a file.
 #[tactic(auto, unfolding(crate::specs::Reading::unsealed))]
-fn unseal(wrong: RecordFault, signature: Option<u32>, bytes: &[u8]) -> Result<&[u8], RecordError>
+fn unseal(wrong: RecordFault, signature: Option<u32>, bytes: &[u8]) -> Result<&[u8], RecordFault>
     requires { 4 ≤ length bytes.now }
-    ensures { Gives (λ x. x.now) result (unsealed wrong signature bytes.now) }
+    ensures { Tells (λ x. x.now) result (unsealed wrong signature bytes.now) }
 {
     let (body, sum) = bytes.split_at(bytes.len() - 4);
     let sum = u32::from_be_bytes([sum[0], sum[1], sum[2], sum[3]]);
     if sum != sign(signature, crc32(body)) {
-        return Err(RecordError::Corruption(wrong));
+        return Err(wrong);
     }
     Ok(body)
 }
 
 #[tactic(auto, unfolding(crate::specs::Reading::block_at))]
-fn block_of(offset: u32, bytes: &[u8]) -> Result<&[u8], RecordError>
+fn block_of(offset: u32, bytes: &[u8]) -> Result<&[u8], RecordFault>
     requires room { offset ≤ length bytes.now }
     requires block { (offset ≡ 8) ⊎ (12 ≤ offset) }
-    ensures { Gives (λ x. x.now) result (block_at offset bytes.now) }
+    ensures { Tells (λ x. x.now) result (block_at offset bytes.now) }
 {
     let offset = offset as usize;
     if offset == HEADER_LEN {
@@ -142,6 +173,22 @@ fn record_of(alloc: Global, bytes: &[u8], signature: Option<u32>) -> Result<Reco
     })
 }
 
+impl Record<'_> {
+    /// Where the block of entries stands in the record, or none where no item holds entries.
+    pub fn entries_block(&self) -> Option<EntriesBlock>
+        // In the bytes that the record was read from, its entries stand there.
+        ensures { (signature : Option ℕ) (bytes : List ℕ) → AreBytes bytes
+            → record_at signature bytes ≡ Ok (items_of self.now.batch.items.items, self.now.entries.now, self.now.len)
+            → StandsIn bytes (items_of self.now.batch.items.items) self.now.entries.now result }
+    {
+        if any_entries(&self.batch.items) {
+            Some(EntriesBlock::holding(self.entries.len() as u64))
+        } else {
+            None
+        }
+    }
+}
+
 /// Reads the record at the front of some bytes, in a file with this signature. Bytes may follow it.
 /// Refused are only want of memory and, as `Corruption`, bytes that do not begin with a record, by
 /// the first fault that is met.
@@ -166,19 +213,20 @@ pub fn read_record(
 
 /// The entries' bytes of a block of entries with its checksum, as a handle names it (raft-engine's
 /// `decode_entries_block`). Refused is only a block that is none.
-pub fn read_entries_block(block: &[u8]) -> Result<&[u8], RecordError>
+pub fn read_entries_block(block: &[u8]) -> Result<&[u8], RecordFault>
     ensures found { IfOk result (λ entries. block.now ≡ sealed None entries.now) }
-    ensures exact { Gives (λ x. x.now) result (entries_block_at block.now) }
+    ensures only { (entries : List ℕ) → block.now ≡ sealed None entries → MatchResult result (λ x. x.now ≡ entries) (λ _. ⊥) }
+    ensures exact { Tells (λ x. x.now) result (entries_block_at block.now) }
 {
     block_entries(block)
 }
 
 #[tactic(auto, unfolding(crate::specs::Reading::entries_block_at))]
-fn block_entries(block: &[u8]) -> Result<&[u8], RecordError>
-    ensures { Gives (λ x. x.now) result (entries_block_at block.now) }
+fn block_entries(block: &[u8]) -> Result<&[u8], RecordFault>
+    ensures { Tells (λ x. x.now) result (entries_block_at block.now) }
 {
     if block.len() < 4 {
-        return Err(RecordError::Corruption(RecordFault::CutShort));
+        return Err(RecordFault::CutShort);
     }
     unseal(RecordFault::EntriesChecksum, None, block)
 }

@@ -1,12 +1,13 @@
 //! Messages that are their own bytes.
 
 ghost use Rattle.std.specs.Prelude.{◌≡◌, length};
+ghost use Rattle.std.proofs.Common.{rules};
 
 use raft_log_records::{Message, MessageExt};
 use std::alloc::{AllocError, Global};
 
 /// A message that is its own bytes.
-#[derive(Drop)]
+#[derive(PartialEq, Drop)]
 pub struct Text {
     bytes: Vec<u8>,
 }
@@ -30,6 +31,8 @@ impl Message for Text {
         let bytes = Vec::from_slice(alloc, text)?;
         Ok(Some(Text { bytes }))
     }
+
+    ghost one_message = { Prim.search rules };
 }
 
 /// Entries whose index is their length.

@@ -4,7 +4,8 @@ use crate::checksums::compared;
 use crate::messages::read_and_written;
 use crate::names::{queue, version};
 use raft_log_records::{
-    FileId, LogBatch, LogFileContext, RecordError, RecordFault, read_entries_block, read_record,
+    EntriesBlock, FileBlockHandle, FileId, LogBatch, LogFileContext, RecordError, RecordFault,
+    read_entries_block, read_record, record_len,
 };
 use raft_rows::{Answer, bytes, number};
 use std::alloc::{AllocError, Global};
@@ -25,6 +26,21 @@ fn encoded(batch: &LogBatch, alloc: Global) -> Result<Vec<u8>, AllocError> {
     Vec::from_slice(alloc, batch.encoded_bytes())
 }
 
+/// Where the entries lie in a file in which the batch's record begins at this byte, up to 2^32.
+fn in_file(batch: &LogBatch, alloc: Global, kind: &str, seq: &str, start: &str) -> Answer {
+    let start = number(start).min(1 << 32);
+    let id = FileId::new(queue(kind), number(seq));
+    Answer::shown(alloc, &placed(batch.entries_block(), id, start))
+}
+
+fn placed(block: Option<EntriesBlock>, id: FileId, start: u64) -> Option<FileBlockHandle> {
+    let block = block?;
+    if block.offset > 8 {
+        return None;
+    }
+    Some(block.in_file(id, start))
+}
+
 /// The answer to a row that writes the batch or asks what it is written as.
 pub fn written(batch: &mut LogBatch, alloc: Global, words: &[&str]) -> Option<Answer> {
     Some(match *words {
@@ -35,6 +51,10 @@ pub fn written(batch: &mut LogBatch, alloc: Global, words: &[&str]) -> Option<An
             Answer::Word("Ok(())")
         }
         ["size"] => Answer::shown(alloc, &size(batch)),
+        ["entries-block"] => Answer::shown(alloc, &batch.entries_block()),
+        ["entries-block", kind, seq, start] => in_file(batch, alloc, kind, seq, start),
+        ["holds-mark"] => Answer::shown(alloc, &batch.holds_mark()),
+        ["drain"] => Answer::shown(alloc, &batch.drain()),
         ["bytes"] => Answer::bytes(alloc, encoded(batch, alloc)),
         _ => return None,
     })
@@ -44,6 +64,12 @@ pub fn written(batch: &mut LogBatch, alloc: Global, words: &[&str]) -> Option<An
 
 fn record(alloc: Global, bytes: &[u8], signature: Option<u32>) -> Answer {
     Answer::shown(alloc, &read_record(alloc, bytes, signature))
+}
+
+/// Where the entries stand in the record that is read.
+fn read_block(alloc: Global, bytes: &[u8]) -> Answer {
+    let block = read_record(alloc, bytes, None).map(|record| record.entries_block());
+    Answer::shown(alloc, &block)
 }
 
 /// Whether the bytes are refused as no record.
@@ -93,6 +119,9 @@ pub fn read(batch: &LogBatch, alloc: Global, words: &[&str]) -> Option<Answer> {
         }
         ["refused-changes"] => Answer::shown(alloc, &refused_changes(alloc, batch.encoded_bytes())),
         ["refused-fronts"] => Answer::shown(alloc, &refused_fronts(alloc, batch.encoded_bytes())),
+        ["read-block", text] => read_block(alloc, &bytes(alloc, text).ok()?),
+        ["read-bytes", text] => record(alloc, &bytes(alloc, text).ok()?, None),
+        ["record-len", text] => Answer::shown(alloc, &record_len(&bytes(alloc, text).ok()?)),
         ["block", text] => Answer::bytes(alloc, block(alloc, &bytes(alloc, text).ok()?)),
         ["message-again", text] => {
             Answer::bytes(alloc, read_and_written(alloc, &bytes(alloc, text).ok()?))

@@ -68,6 +68,8 @@ fn value(
 pub fn looked_up(tables: &MemTables, alloc: Global, words: &[&str]) -> Option<Answer> {
     Some(match *words {
         ["get", group, key] => Answer::found(alloc, value(tables, alloc, number(group), key)),
+        ["groups"] => Answer::shown(alloc, &tables.groups()),
+        ["is-empty"] => Answer::shown(alloc, &tables.is_empty()),
         ["has-group", group] => Answer::shown(alloc, &has_group(tables, number(group))),
         ["first", group] => Answer::shown(alloc, &first(tables, number(group))),
         ["last", group] => Answer::shown(alloc, &last(tables, number(group))),

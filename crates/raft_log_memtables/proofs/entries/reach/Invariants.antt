@@ -1,5 +1,5 @@
 use Rattle.std.proofs.Common.{◌≡◌, drop}
-use Rattle.raft_log_records.specs.Reading.{indexed}
+use Rattle.raft_log_records.specs.Places.{indexed}
 use Rattle.raft_log_memtables.specs.Content.{reach_of}
 use Rattle.raft_log_memtables.proofs.entries.reach.Given as goal
 

@@ -1,7 +1,7 @@
 use Rattle.std.proofs.Common.{List, subst}
 use Rattle.raft_log_records.specs.declared.item.EntryIndex.{EntryIndex}
 use Rattle.raft_log_records.specs.Item.Change.{entries}
-use Rattle.raft_log_records.specs.Reading.{indexed}
+use Rattle.raft_log_records.specs.Places.{indexed}
 use Rattle.raft_log_memtables.specs.Search.{Leaves}
 use Rattle.raft_log_memtables.proofs.taken.search_at.Goals as goal
 

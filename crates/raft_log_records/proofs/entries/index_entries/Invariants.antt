@@ -1,5 +1,6 @@
 use Rattle.std.proofs.Common.{◌≡◌, ◌++◌, ◌+◌, ◌<◌, ◌^◌, length, drop}
-use Rattle.raft_log_records.specs.Batch.{payloads, joined, numbered, runs}
+use Rattle.raft_log_records.specs.Batch.{payloads, joined, numbered}
+use Rattle.raft_log_records.specs.Places.{runs}
 use Rattle.raft_log_records.proofs.entries.index_entries.Given as goal
 
 abbrev pub invariant-loop-entry : goal.invariant-loop-entry

@@ -7,3 +7,8 @@ pub returns-clause-items : goal.returns-clause-items
 returns-clause-items c =
     let a = c.self.inside in
     rw (c.replace-items.ensures.value, ← c.self.view_is) (ap (λ (l : List ℕ). with_bytes l (items_of a.items.items)) (block_is a.entries.items (items_of a.items.items) c.self.invariant.sound.laid))
+
+pub returns-clause-places : goal.returns-clause-places
+returns-clause-places c =
+    let a = c.self.inside in
+    rw (c.replace-items.ensures.value, ← c.self.view_is) c.self.invariant.sound.places
