@@ -6,6 +6,7 @@ pub mod DigitLemmas
 pub mod FilesLemmas
 pub mod HeaderLemmas
 pub mod LawLemmas
+pub mod ListedLemmas
 pub mod MemoryLemmas
 pub mod NameLemmas
 pub mod NamedLemmas
