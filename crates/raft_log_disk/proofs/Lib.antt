@@ -3,6 +3,7 @@ pub mod CauseLemmas
 pub mod ChanceLemmas
 pub mod CrashLemmas
 pub mod DigitLemmas
+pub mod DiskLemmas
 pub mod FilesLemmas
 pub mod HeaderLemmas
 pub mod LawLemmas

@@ -54,7 +54,7 @@ impl Fuse {
         ensures left { self.new.calls_left ≡ self.old.calls_left }
         ensures counted { self.new.refusals ≡ min (self.old.refusals + 1) (2 ^ 64 - 1) }
     {
-        self.refusals = self.refusals.saturating_add(1);
+        let _ = self.refuse();
         IoFault::NoSpace
     }
 

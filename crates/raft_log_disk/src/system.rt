@@ -97,7 +97,7 @@ pub trait FileSystem: Send + Sync {
         ensures faulty { (meter self.new).is_faulty ≡ (meter self.old).is_faulty }
     {
         match self.reuse(from, to) {
-            Ok(()) => self.open(to, Permission::ReadWrite),
+            Ok(_) => self.open(to, Permission::ReadWrite),
             Err(fault) => Err(fault),
         }
     }
