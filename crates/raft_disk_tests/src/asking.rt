@@ -38,6 +38,10 @@ fn is_directory(files: &MemoryFileSystem, path: &str) -> bool {
     files.is_dir(path)
 }
 
+fn is_file(files: &MemoryFileSystem, path: &str) -> bool {
+    files.is_file(path)
+}
+
 fn has_metadata(files: &MemoryFileSystem, path: &str) -> bool {
     files.exists_metadata(path)
 }
@@ -65,6 +69,7 @@ pub fn asked(files: &mut MemoryFileSystem, alloc: Global, words: &[&str]) -> Opt
         }
         ["list", directory] => Answer::bytes(alloc, names(files, alloc, directory)),
         ["is-directory", path] => Answer::shown(alloc, &is_directory(files, path)),
+        ["is-file", path] => Answer::shown(alloc, &is_file(files, path)),
         ["has-metadata", path] => Answer::shown(alloc, &has_metadata(files, path)),
         ["room", directory] => Answer::shown(alloc, &room(files, directory)),
         ["load", path] => Answer::found(alloc, seen(files, alloc, path)),

@@ -4,7 +4,7 @@ use raft_log_disk::LogFileFormat;
 use raft_log_disk::number::{are_digits, digits_value, is_digit_byte};
 use raft_log_records::Version;
 use raft_rows::{Answer, bytes, number};
-use std::alloc::{AllocError, Global};
+use std::alloc::Global;
 
 /// Any word but `V2` is version 1.
 fn version(word: &str) -> Version {
@@ -15,8 +15,12 @@ fn version(word: &str) -> Version {
     }
 }
 
-fn spelled(alloc: Global, version: Version, alignment: u64) -> Result<Vec<u8>, AllocError> {
-    LogFileFormat::new(version, alignment).encode(alloc)
+fn header(alloc: Global, format: LogFileFormat) -> Answer {
+    if format.is_spellable() {
+        Answer::bytes(alloc, format.encode(alloc))
+    } else {
+        Answer::Word("no header says that")
+    }
 }
 
 fn header_at(alloc: Global, word: &str) -> Answer {
@@ -47,7 +51,7 @@ fn is_digit(text: &str) -> bool {
 pub fn read(alloc: Global, words: &[&str]) -> Option<Answer> {
     Some(match *words {
         ["header", word, alignment] => {
-            Answer::bytes(alloc, spelled(alloc, version(word), number(alignment)))
+            header(alloc, LogFileFormat::new(version(word), number(alignment)))
         }
         ["header-len", word] => Answer::shown(alloc, &LogFileFormat::encoded_len(version(word))),
         ["longest-header"] => Answer::shown(alloc, &LogFileFormat::max_encoded_len()),

@@ -7,43 +7,11 @@ use Rattle.std.proofs.lemmas.Bool.{eq-eqb, ne_eqb, eqb-true, eqb-false}
 use lib.Pointwise.{bytes_decides}
 use Rattle.raft_log_disk.specs.Text.{Text, same_text}
 use Rattle.raft_log_disk.specs.Disk.{FileState, Disk, IsIn, IsNoFile, Renames, RefusedWrite, fd_of, put, no_bytes, with_file, settled, after_create, after_write, after_sync, after_rename, renamed}
-use Rattle.raft_log_disk.specs.Image.{Image, IsOutside, IsFileImage, IsImage}
-use Rattle.raft_log_disk.proofs.LawLemmas.{still_image, image_there, is_there, synced_image_is_read}
-use Rattle.raft_log_disk.proofs.NameLemmas.{moved_there, same_text-self}
-use Rattle.raft_disk_uses.specs.Left.{Leaves, LeavesOneOf, LeavesBytes, LeavesFront, IsStill, found_at}
-
-abbrev Names : Type 0
-Names = List (Text × ℕ)
-
--- ---- names
-
-number_step : (e : Text × ℕ) (es : Names) (path : Text) (fd : ℕ) (t : Bool) → (fd_of es path ≡ Some fd → IsIn fd (map (λ (x : Text × ℕ). x.1) es)) → cond t (Some e.1) (fd_of es path) ≡ Some fd → IsIn fd (map (λ (x : Text × ℕ). x.1) (e ∷ es))
-number_step e es path fd true next h = inl cc
-number_step e es path fd false next h = inr (next h)
-
-pub number_in : (es : Names) (path : Text) (fd : ℕ) → fd_of es path ≡ Some fd → IsIn fd (map (λ (e : Text × ℕ). e.1) es)
-number_in [] path fd there = absurd cc
-number_in (e ∷ es) path fd there = number_step e es path fd (same_text e.0 path) (number_in es path fd) there
-
-pushed_step : (e : Text × ℕ) (es : Names) (path : Text) (n : ℕ) (t : Bool) → (fd_of es path ≡ None → fd_of (es ++ (path, n) ∷ []) path ≡ Some n) → cond t (Some e.1) (fd_of es path) ≡ None → cond t (Some e.1) (fd_of (es ++ (path, n) ∷ []) path) ≡ Some n
-pushed_step e es path n true next h = absurd cc
-pushed_step e es path n false next h = next h
-
-pub pushed_there : (es : Names) (path : Text) (n : ℕ) → fd_of es path ≡ None → fd_of (es ++ (path, n) ∷ []) path ≡ Some n
-pushed_there [] path n none = ap (λ t. cond t (Some n) None) (same_text-self path)
-pushed_there (e ∷ es) path n none = pushed_step e es path n (same_text e.0 path) (pushed_there es path n) none
-
-pub pushed_other : (es : Names) (path other : Text) (n : ℕ) → same_text path other ≡ false → fd_of (es ++ (path, n) ∷ []) other ≡ fd_of es other
-pushed_other [] path other n apart = ap (λ t. cond t (Some n) None) apart
-pushed_other (e ∷ es) path other n apart = ap (λ o. cond (same_text e.0 other) (Some e.1) o) (pushed_other es path other n apart)
-
--- ---- one file
-
-same_file : (n : ℕ) (f g : FileState) → (if n == n then f else g) ≡ f
-same_file n f g = ap (λ b. cond b f g) (eq-eqb n n refl)
-
-other_file : (n m : ℕ) (f g : FileState) → n ≢ m → (if n == m then f else g) ≡ g
-other_file n m f g apart = ap (λ b. cond b f g) (ne_eqb n m apart)
+use Rattle.raft_log_disk.specs.Image.{Image, IsOutside, IsFileImage, IsImage, IsStill}
+use Rattle.raft_log_disk.proofs.DiskLemmas.{same_file, other_file, number_in, pushed_there, pushed_other, still_synced, still_is_left}
+use Rattle.raft_log_disk.proofs.LawLemmas.{image_there, is_there, synced_image_is_read}
+use Rattle.raft_log_disk.proofs.NameLemmas.{moved_there}
+use Rattle.raft_disk_uses.specs.Left.{Leaves, LeavesOneOf, LeavesBytes, LeavesFront, found_at}
 
 put_behind : (old bytes : List ℕ) → put old (length old) bytes ≡ old ++ bytes
 put_behind old bytes =
@@ -58,16 +26,13 @@ leaves_none d path none = λ image is. ap (option_map image) none
 pub leaves_file : (d : Disk) (path : Text) (fd : ℕ) (bytes : List ℕ) → fd_of d.names path ≡ Some fd → IsStill (d.file fd) → (d.file fd).bytes ≡ bytes → Leaves d path (Some bytes)
 leaves_file d path fd bytes there still is = λ image leaves.
     ap (option_map image) there
-    ∙ ap (λ (l : List ℕ). Some l) (still_image (d.file fd) (image fd) still.changed (still.least ∙ ap length (sym still.kept)) (still.greatest ∙ ap length (sym still.kept)) (image_there d image d.names fd (number_in d.names path fd there) leaves) ∙ still.kept ∙ is)
+    ∙ ap (λ (l : List ℕ). Some l) (still_is_left (d.file fd) (image fd) still (image_there d image d.names fd (number_in d.names path fd there) leaves) ∙ is)
 
 pub one_is_none : (d : Disk) (path : Text) (other : Option (List ℕ)) → fd_of d.names path ≡ None → LeavesOneOf d path None other
 one_is_none d path other none = λ image is. inl (leaves_none d path none image is)
 
 pub other_is : (d : Disk) (path : Text) (one other : Option (List ℕ)) → Leaves d path other → LeavesOneOf d path one other
 other_is d path one other leaves = λ image is. inr (leaves image is)
-
-pub still_synced : (f : FileState) → IsStill (after_sync f)
-still_synced f = record { kept = refl; changed = refl; least = refl; greatest = refl }
 
 -- ---- calls
 
@@ -177,7 +142,7 @@ front_of f g to bytes still kept changed least is =
 
 pub front_same : (d : Disk) (fd : ℕ) → IsStill (d.file fd) → (IsNoFile d fd → ⊥) → LeavesFront d fd (d.file fd).bytes
 front_same d fd still there = λ image is.
-    ap (take (length (d.file fd).bytes)) (still_image (d.file fd) (image fd) still.changed (still.least ∙ ap length (sym still.kept)) (still.greatest ∙ ap length (sym still.kept)) (image_there d image d.names fd (is_there fd _ there) is) ∙ still.kept)
+    ap (take (length (d.file fd).bytes)) (still_is_left (d.file fd) (image fd) still (image_there d image d.names fd (is_there fd _ there) is))
     ∙ take_all (length (d.file fd).bytes) (d.file fd).bytes (omega arith)
 
 pub front_written : (old new : Disk) (fd at : ℕ) (bytes seen : List ℕ) → at ≡ length (old.file fd).bytes → IsStill (old.file fd) → (IsNoFile old fd → ⊥) → new ≡ with_file old fd (after_write (old.file fd) at bytes seen) → LeavesFront new fd (old.file fd).bytes

@@ -1,7 +1,7 @@
 -- What each image of a disk has under a path or a number.
 use Rattle.std.specs.Prelude.{◌≡◌, ◌⊎◌, ℕ, List, [], length, take, Option, option_map}
 use Rattle.raft_log_disk.specs.Text.{Text}
-use Rattle.raft_log_disk.specs.Disk.{FileState, Disk, IsNoFile, fd_of}
+use Rattle.raft_log_disk.specs.Disk.{Disk, IsNoFile, fd_of}
 use Rattle.raft_log_disk.specs.Image.{Image, IsImage}
 
 -- the bytes under a path, where each file has these
@@ -23,10 +23,3 @@ LeavesBytes d fd bytes = (image : Image) → IsImage d image → image fd ≡ by
 -- whatever a crash leaves, the file begins with these bytes
 abbrev pub LeavesFront : Disk → ℕ → List ℕ → Type 0
 LeavesFront d fd bytes = (image : Image) → IsImage d image → take (length bytes) (image fd) ≡ bytes
-
--- all of the file is on the disk
-pub record IsStill (f : FileState) : Type 0 where
-  pub kept : f.kept ≡ f.bytes
-  pub changed : f.changed ≡ []
-  pub least : f.least ≡ length f.bytes
-  pub greatest : f.greatest ≡ length f.bytes

@@ -2,7 +2,8 @@
 
 ghost use Rattle.std.specs.Prelude.{◌≡◌, ◌++◌, OnOk, OnErr};
 ghost use Rattle.raft_log_disk.specs.Disk.{IsNoFile};
-ghost use Rattle.raft_disk_uses.specs.Left.{LeavesBytes, LeavesFront, IsStill};
+ghost use Rattle.raft_log_disk.specs.Image.{IsStill};
+ghost use Rattle.raft_disk_uses.specs.Left.{LeavesBytes, LeavesFront};
 
 use raft_log_disk::{Fd, FileSystem, IoFault};
 

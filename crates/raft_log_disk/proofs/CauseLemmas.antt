@@ -1,6 +1,6 @@
 -- Why a call was refused.
-use Rattle.std.proofs.Common.{◌≡◌, true, false, refl, sym, ap, subst, ◌∙◌}
-use Rattle.std.specs.Prelude.{Result, Ok, Err, OnErr}
+use Rattle.std.proofs.Common.{◌≡◌, ℕ, ◌+◌, ◌-◌, ◌^◌, min, true, false, refl, sym, ap, subst, ◌∙◌}
+use Rattle.std.specs.Prelude.{Result, Ok, Err, OnErr, IsErrOf}
 use Rattle.raft_log_disk.specs.declared.fault.IoFault.{IoFault}
 use Rattle.raft_log_disk.specs.declared.fault.IoFault.TheVariants.{NotFound, NoSpace, Refused, Memory}
 use Rattle.raft_log_disk.specs.Cause.{Meter, HasCause, HasReadCause, counted}
@@ -18,14 +18,34 @@ second_cause absent gone before between after first second a b there = record {
 }
 
 -- room was missing
-pub cramped_cause : {T : Type 0} (absent cramped : Type 0) (old new : Meter) → new.refusals ≡ old.refusals → new.unreadable ≡ old.unreadable → cramped → HasCause {T = T} absent cramped old new (Err NoSpace)
-cramped_cause absent cramped old new same reads lacks = record {
+pub cramped_cause : {T : Type 0} (absent cramped : Type 0) (old new : Meter) (e : IoFault) → e ≡ NoSpace → new.refusals ≡ min (old.refusals + 1) (2 ^ 64 - 1) → new.unreadable ≡ old.unreadable → cramped → HasCause {T = T} absent cramped old new (Err e)
+cramped_cause {T = T} absent cramped old new e is same reads lacks = subst (λ x. HasCause {T = T} absent cramped old new (Err x)) (sym is) (record {
   refused = same;
   missing = λ e. refl;
   lacking = λ e. refl;
   not_found = λ e. absurd cc;
   no_space = λ e. lacks;
   reads = reads;
+})
+
+counts_alike : (S T : Type 0) (e : IoFault) (n : ℕ) → counted {T = S} (Err e) n ≡ counted {T = T} (Err e) n
+counts_alike S T Refused n = refl
+counts_alike S T NotFound n = refl
+counts_alike S T NoSpace n = refl
+counts_alike S T Memory n = refl
+
+same_fault : (S T : Type 0) (e f : IoFault) → IsErrOf {T = T} (Err e) f → IsErrOf {T = S} (Err e) f
+same_fault S T e f h = let same : e ≡ f = cc in λ i. Err (same i)
+
+-- a fault is handed on
+pub same_cause : {S T : Type 0} (absent cramped : Type 0) (old new : Meter) (e : IoFault) → HasCause {T = S} absent cramped old new (Err e) → HasCause {T = T} absent cramped old new (Err e)
+same_cause {S = S} {T = T} absent cramped old new e cause = record {
+  refused = cause.refused ∙ counts_alike S T e old.refusals;
+  missing = λ x. refl;
+  lacking = λ x. refl;
+  not_found = λ h. cause.not_found (same_fault S T e NotFound h);
+  no_space = λ h. cause.no_space (same_fault S T e NoSpace h);
+  reads = cause.reads;
 }
 
 -- a path's reads are refused

@@ -3,9 +3,11 @@ pub mod CauseLemmas
 pub mod ChanceLemmas
 pub mod CrashLemmas
 pub mod DigitLemmas
+pub mod DiskLemmas
 pub mod FilesLemmas
 pub mod HeaderLemmas
 pub mod LawLemmas
+pub mod ListedLemmas
 pub mod MemoryLemmas
 pub mod NameLemmas
 pub mod NamedLemmas

@@ -1,28 +1,30 @@
 -- Why a call is refused.
-use Rattle.std.specs.Prelude.{◌≡◌, ℕ, ◌+◌, ◌-◌, ◌^◌, min, List, Option, Some, None, Result, Ok, Err, IsErr, IsErrOf}
+use Rattle.std.specs.Prelude.{◌≡◌, ◌⊎◌, ℕ, ◌+◌, ◌-◌, ◌^◌, min, List, Option, Some, None, Result, Ok, Err, IsErr, IsErrOf, Bool, IsTrue, is_ok}
 use Rattle.raft_log_disk.specs.declared.fault.IoFault.{IoFault}
 use Rattle.raft_log_disk.specs.declared.fault.IoFault.TheVariants.{NotFound, NoSpace, Refused, Memory}
 
 -- what a file system tells of its refusals
 pub record Meter : Type 0 where
-  -- how many changing calls were refused; it stays at 2^64 - 1
+  -- how many changing calls were `Refused` or found no space; it stays at 2^64 - 1
   pub refusals : ℕ
   -- how many changing calls are taken before each is refused, if that is known
   pub calls_left : Option ℕ
   -- the paths whose reads are refused
   pub unreadable : List (List ℕ)
+  -- whether it may refuse changing calls for reasons of its own, as a real disk does
+  pub is_faulty : Bool
 
 -- one changing call fewer
 abbrev pub spent : Option ℕ → Option ℕ
 spent None = None
 spent (Some n) = Some (n - 1)
 
--- the count after a call: a refusal adds one, and the count stays at 2^64 - 1
+-- the count after a call: a refusal and want of space add one, and the count stays at 2^64 - 1
 abbrev pub counted : {T : Type 0} → Result T IoFault → ℕ → ℕ
 counted (Ok x) refusals = refusals
 counted (Err Refused) refusals = min (refusals + 1) (2 ^ 64 - 1)
 counted (Err NotFound) refusals = refusals
-counted (Err NoSpace) refusals = refusals
+counted (Err NoSpace) refusals = min (refusals + 1) (2 ^ 64 - 1)
 counted (Err Memory) refusals = refusals
 
 -- why a changing call was refused: `absent` says that what it names is not there, and `cramped`
@@ -36,10 +38,18 @@ pub record HasCause {T : Type 0} (absent cramped : Type 0) (old new : Meter) (re
   pub no_space : IsErrOf result NoSpace → cramped
   pub reads : new.unreadable ≡ old.unreadable
 
--- it is one changing call, refused where no more are taken
-pub record IsOneCall {T : Type 0} (old new : Meter) (result : Result T IoFault) : Type 0 where
+-- it is one changing call. It is refused where no more are taken, never `Ok` where `barred` holds,
+-- and `Refused` for no other reason but by a faulty file system
+pub record IsOneCall {T : Type 0} (barred : Type 0) (old new : Meter) (result : Result T IoFault) : Type 0 where
   pub left : new.calls_left ≡ spent old.calls_left
   pub blown : old.calls_left ≡ Some 0 → IsErrOf result Refused
+  pub stopped : barred → IsErr result
+  pub why : IsErrOf result Refused → (old.calls_left ≡ Some 0) ⊎ (IsTrue old.is_faulty ⊎ barred)
+  pub faulty : new.is_faulty ≡ old.is_faulty
+
+-- it is passed over, as if it had not been made
+abbrev pub IsPassedOver : {T : Type 0} → Meter → Meter → Result T IoFault → Type 0
+IsPassedOver old new result = (new ≡ old) × IsTrue (is_ok result)
 
 -- of a reading call: why it was refused
 pub record HasReadCause {T : Type 0} (absent unreadable : Type 0) (result : Result T IoFault) : Type 0 where

@@ -1,5 +1,5 @@
 -- The disk as a value: directories, names and files, and what each call makes of them.
-use Rattle.std.specs.Prelude.{◌≡◌, ◌⊎◌, ℕ, ◌+◌, ◌-◌, ◌<◌, ◌≤◌, min, max, true, List, [], ◌∷◌, ◌++◌, length, take, drop, map}
+use Rattle.std.specs.Prelude.{◌≡◌, ◌⊎◌, ℕ, ◌+◌, ◌-◌, ◌^◌, ◌<◌, ◌≤◌, min, max, true, List, [], ◌∷◌, ◌++◌, length, take, drop, map}
 use Rattle.std.specs.Prelude.{sum_by, Option, Some, None, ◌==◌, if◌then◌else◌}
 use Rattle.std.specs.Prelude.{is_some, option_to_list, replicate, Bool, not, nat_lt, ◌&&◌, IsTrue}
 use Rattle.std.specs.List.{AllByRecursion, list_any}
@@ -227,6 +227,18 @@ pub record LacksRoom (room : Text → ℕ) (d : Disk) (fd bytes : ℕ) : Type 0 
 -- no file has this number
 abbrev pub IsNoFile : Disk → ℕ → Type 0
 IsNoFile d fd = IsIn fd (map (λ e. e.1) d.names) → ⊥
+
+-- a file has this path
+abbrev pub IsFile : Disk → Text → Type 0
+IsFile d path = IsTrue (is_some (fd_of d.names path))
+
+-- no file has the first path, or the second one is in no directory that was made
+abbrev pub IsNoMove : Disk → Text → Text → Type 0
+IsNoMove d from to = (fd_of d.names from ≡ None) ⊎ (HasDirectory d.directories to → ⊥)
+
+-- no number is left for a new file, or its path is a directory
+abbrev pub IsNoNewFile : Disk → Text → Type 0
+IsNoNewFile d path = (2 ^ 64 ≤ d.next + 1) ⊎ IsIn path d.directories
 
 -- the file of this number has one of these paths
 abbrev pub HasOneOf : Disk → ℕ → List Text → Type 0

@@ -25,6 +25,13 @@ pub record IsRecoverable (f : FileState) : Type 0 where
   pub seen : IsFileImage f f.bytes
   pub synced : IsFileImage f (take f.least f.kept)
 
+-- all of the file is on the disk
+pub record IsStill (f : FileState) : Type 0 where
+  pub kept : f.kept ≡ f.bytes
+  pub changed : f.changed ≡ []
+  pub least : f.least ≡ length f.bytes
+  pub greatest : f.greatest ≡ length f.bytes
+
 -- an image: for each file's number its bytes
 abbrev pub Image : Type 0
 Image = ℕ → List ℕ

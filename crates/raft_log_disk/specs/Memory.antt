@@ -1,6 +1,6 @@
 -- What a file system in memory stands for.
 use Rattle.std.specs.Prelude.{◌≡◌, ℕ, ◌+◌, ◌-◌, ◌^◌, List, [], ◌∷◌, ◌++◌, map, take, drop, length, sum_by, Vec, String, Option}
-use Rattle.std.specs.Prelude.{Some, None, is_some, ◌==◌, if◌then◌else◌}
+use Rattle.std.specs.Prelude.{Some, None, is_some, false, ◌==◌, if◌then◌else◌}
 use Rattle.std.specs.String.{string_bytes}
 use Rattle.std.specs.declared.alloc.Global.{Global}
 use Rattle.raft_log_disk.specs.declared.memory_file.MemoryFile.{MemoryFile}
@@ -49,4 +49,4 @@ room_of [] files directory = 2 ^ 64 - 1
 room_of (s ∷ ss) files directory = if same_text (string_bytes s.directory) directory then s.bytes - used_of files directory else room_of ss files directory
 
 abbrev pub meter_of : Fuse → Meter
-meter_of f = record { refusals = f.refusals; calls_left = f.calls_left; unreadable = texts_of f.unreadable.items }
+meter_of f = record { refusals = f.refusals; calls_left = f.calls_left; unreadable = texts_of f.unreadable.items; is_faulty = false }

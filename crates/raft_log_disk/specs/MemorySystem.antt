@@ -1,5 +1,5 @@
 -- What a file system in memory shows: its disk, its refusals and its room.
-use Rattle.std.specs.Prelude.{◌≡◌, ℕ, List, [], None}
+use Rattle.std.specs.Prelude.{◌≡◌, ℕ, List, [], None, false}
 use Rattle.raft_log_disk.specs.declared.memory.MemoryFileSystem.{MemoryFileSystem}
 use Rattle.raft_log_disk.specs.Text.{Text}
 use Rattle.raft_log_disk.specs.Cause.{Meter}
@@ -23,9 +23,9 @@ used_in m directory = used_of m.files.items directory
 abbrev pub empty_disk : Disk
 empty_disk = record { directories = []; names = []; file = λ n. no_bytes; next = 1 }
 
--- no call is refused
+-- no call was refused, and none will be but for want of room
 abbrev pub full_meter : Meter
-full_meter = record { refusals = 0; calls_left = None; unreadable = [] }
+full_meter = record { refusals = 0; calls_left = None; unreadable = []; is_faulty = false }
 
 -- each file has a path and a number of its own
 pub memory_is_named : (m : MemoryFileSystem) → IsNamed (disk_in m)

@@ -46,14 +46,16 @@ pub trait CrashFiles: FileSystem {
         ensures disk { Self.FileSystem.disk self.new ≡ Self.FileSystem.disk self.old }
         ensures calls { (Self.FileSystem.meter self.new).calls_left ≡ option_map (λ n. n - 1) first_refused }
         ensures refusals { (Self.FileSystem.meter self.new).refusals ≡ (Self.FileSystem.meter self.old).refusals }
-        ensures reads { (Self.FileSystem.meter self.new).unreadable ≡ (Self.FileSystem.meter self.old).unreadable };
+        ensures reads { (Self.FileSystem.meter self.new).unreadable ≡ (Self.FileSystem.meter self.old).unreadable }
+        ensures faulty { (Self.FileSystem.meter self.new).is_faulty ≡ (Self.FileSystem.meter self.old).is_faulty };
 
     /// Refuses the reads of the files of these paths, and of no others.
     fn refuse_reads(&mut self, paths: Vec<String>)
         ensures disk { Self.FileSystem.disk self.new ≡ Self.FileSystem.disk self.old }
         ensures calls { (Self.FileSystem.meter self.new).calls_left ≡ (Self.FileSystem.meter self.old).calls_left }
         ensures refusals { (Self.FileSystem.meter self.new).refusals ≡ (Self.FileSystem.meter self.old).refusals }
-        ensures reads { (Self.FileSystem.meter self.new).unreadable ≡ map string_bytes paths.items };
+        ensures reads { (Self.FileSystem.meter self.new).unreadable ≡ map string_bytes paths.items }
+        ensures faulty { (Self.FileSystem.meter self.new).is_faulty ≡ (Self.FileSystem.meter self.old).is_faulty };
 
     /// Leaves what the choice says, which is the file system from then on, with nothing unsynced.
     /// Files keep their numbers, and the fuse stays as it is.

@@ -1,6 +1,6 @@
 //! The header of a log file.
 
-ghost use Rattle.std.specs.Prelude.{◌≡◌, ◌≤◌, ◌+◌, IfOk, length, take, drop};
+ghost use Rattle.std.specs.Prelude.{◌≡◌, ◌≤◌, ◌+◌, IfOk, IsTrue, length, take, drop};
 ghost use Rattle.std.specs.Int.{w64, from_be_bytes};
 ghost use Rattle.raft_log_disk.specs.Text.{same_text};
 ghost use Rattle.raft_log_disk.specs.Format.{magic, versioned, header_len};
@@ -62,7 +62,7 @@ fn of_version(version: u64, rest: &[u8]) -> Result<LogFileFormat, HeaderFault>
 }
 
 impl LogFileFormat {
-    ghost use Rattle.raft_log_disk.specs.Format.{header_at, spelled_header};
+    ghost use Rattle.raft_log_disk.specs.Format.{IsSpellable, header_at, spelled_header};
 
     /// A format with records at multiples of `alignment` bytes.
     pub fn new(version: Version, alignment: u64) -> LogFileFormat
@@ -89,8 +89,18 @@ impl LogFileFormat {
         }
     }
 
+    /// Whether a header can say this format: version 1 has no alignment.
+    pub fn is_spellable(&self) -> bool
+        ensures yes { IsTrue result → IsSpellable self.now }
+        ensures no { IsSpellable self.now → IsTrue result }
+    {
+        let alignment = self.alignment;
+        self.version == Version::V2 || alignment == 0
+    }
+
     /// The header's bytes.
     pub fn encode(&self, alloc: Global) -> Result<Vec<u8>, AllocError>
+        requires { IsSpellable self.now }
         ensures { IfOk result (λ v. v.items ≡ spelled_header self.now) }
     {
         let mut bytes = Vec::from_slice(alloc, MAGIC.as_slice())?;

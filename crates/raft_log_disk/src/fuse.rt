@@ -1,7 +1,7 @@
 //! When calls are refused.
 
 ghost use Rattle.std.specs.Prelude.{◌≡◌, ◌+◌, ◌-◌, ◌^◌, min, Some, IsTrue, if◌then◌else◌};
-ghost use Rattle.raft_log_disk.specs.declared.fault.IoFault.TheVariants.{NotFound, Refused};
+ghost use Rattle.raft_log_disk.specs.declared.fault.IoFault.TheVariants.{NotFound, NoSpace, Refused};
 ghost use Rattle.raft_log_disk.specs.Cause.{spent};
 
 use crate::IoFault;
@@ -11,7 +11,7 @@ use crate::IoFault;
 pub struct Fuse {
     /// How many changing calls are taken before each is refused, if there is an end.
     pub calls_left: Option<u64>,
-    /// How many were refused; it stays at 2^64 - 1.
+    /// How many were refused or found no space; it stays at 2^64 - 1.
     pub refusals: u64,
     /// The paths whose reads are refused.
     pub unreadable: Vec<String>,
@@ -46,6 +46,18 @@ impl Fuse {
         self.refusals = self.refusals.saturating_add(1);
         IoFault::Refused
     }
+
+    /// Counts a call that found no space, and answers that.
+    pub fn lack_space(&mut self) -> IoFault
+        ensures fault { result ≡ NoSpace }
+        ensures reads { self.new.unreadable ≡ self.old.unreadable }
+        ensures left { self.new.calls_left ≡ self.old.calls_left }
+        ensures counted { self.new.refusals ≡ min (self.old.refusals + 1) (2 ^ 64 - 1) }
+    {
+        let _ = self.refuse();
+        IoFault::NoSpace
+    }
+
     /// The fault of a call on a file that isn't there: a refused call stays refused.
     pub fn missing(&mut self, is_refused: bool) -> IoFault
         ensures fault { result ≡ (if is_refused then Refused else NotFound) }

@@ -1,10 +1,11 @@
 //! Tests of what a crash may leave of a file.
 
-ghost use Rattle.std.specs.Prelude.{◌≡◌, ◌<◌, ◌≤◌, IsTrue, IfOk, OnOk, IfSome, length, slice_index, take, drop};
+ghost use Rattle.std.specs.Prelude.{◌≡◌, ◌<◌, ◌≤◌, ◌==◌, IsTrue, IfOk, OnOk, IfSome, length, slice_index, take, drop};
+ghost use Rattle.std.specs.List.{list_all};
 ghost use Rattle.raft_log_records.specs.Reading.{record_at};
 ghost use Rattle.raft_log_disk.specs.Disk.{IsIn};
 ghost use Rattle.raft_log_disk.specs.Image.{IsOutside, IsFileImage};
-ghost use Rattle.raft_log_disk.specs.Chance.{Stands, IsWritten, IsHeaderWritten, AreWritten, IsGenuine, LengthIs};
+ghost use Rattle.raft_log_disk.specs.Chance.{Stands, IsWritten, IsHeaderWritten, AreWritten, IsGenuine, LengthIs, gap, padding};
 ghost use Rattle.raft_log_disk.specs.Memory.{state_of};
 ghost use Rattle.raft_log_disk.specs.Changes.{spans_of, ranges_of, undo, undone};
 
@@ -64,7 +65,8 @@ pub fn is_image(file: &MemoryFile, kept: &[u8], bytes: &[u8]) -> bool
         return false;
     }
     for (i, b) in bytes.iter().enumerate() {
-        if is_outside(i, &file.changes) && byte_at(kept, i) != *b {
+        // Most bytes are as they were, so the changes are looked through for few of them.
+        if byte_at(kept, i) != *b && is_outside(i, &file.changes) {
             return false;
         }
     }
@@ -154,26 +156,64 @@ fn next_len(
     }
 }
 
+// How far it is from a place to the next multiple of an alignment, if there is an alignment.
+fn gap(alignment: u64, at: u64) -> u64
+    ensures { result ≡ gap alignment at }
+{
+    if alignment == 0 {
+        return 0;
+    }
+    let past = at % alignment;
+    if past == 0 { 0 } else { alignment - past }
+}
+
+fn are_zeros(bytes: &[u8]) -> bool
+    ensures { result ≡ list_all (λ b. b == 0) bytes.now }
+{
+    bytes.iter().all(|b| *b == 0)
+}
+
+// The length of the padding at the front, which reading skips.
+fn padding(alignment: u64, at: usize, bytes: &[u8]) -> usize
+    ensures is { result ≡ padding alignment at bytes.now }
+    ensures within { result ≤ length bytes.now }
+{
+    let len = gap(alignment, at as u64) as usize;
+    if bytes.len() < len {
+        return 0;
+    }
+    let (front, _) = bytes.split_at(len);
+    if are_zeros(front) { len } else { 0 }
+}
+
 // Whether each record that is read from a place on was written there.
 fn are_written(
     alloc: Global,
     file: &MemoryFile,
     kept: &[u8],
+    alignment: u64,
     signature: Option<u32>,
     bytes: &[u8],
     start: usize,
 ) -> Result<bool, AllocError>
     requires kept { kept.now ≡ undone file.now.changes.items file.now.bytes.items }
     requires start { start ≤ length bytes.now }
-    ensures yes { IfOk result (λ b. IsTrue b → AreWritten (state_of file.now) signature (length bytes.now) start (drop start bytes.now)) }
-    ensures no { IfOk result (λ b. AreWritten (state_of file.now) signature (length bytes.now) start (drop start bytes.now) → IsTrue b) }
+    ensures yes { IfOk result (λ b. IsTrue b → AreWritten (state_of file.now) alignment signature (length bytes.now) start (drop start bytes.now)) }
+    ensures no { IfOk result (λ b. AreWritten (state_of file.now) alignment signature (length bytes.now) start (drop start bytes.now) → IsTrue b) }
 {
     let (_, mut rest) = bytes.split_at(start);
     let mut at = start;
     for step in 0..bytes.len() {
         let _ = step;
         let Some(len) = next_len(alloc, rest, signature)? else {
-            return Ok(true);
+            let skipped = padding(alignment, at, rest);
+            if skipped == 0 {
+                return Ok(true);
+            }
+            let (_, behind) = rest.split_at(skipped);
+            at += skipped;
+            rest = behind;
+            continue;
         };
         let (record, behind) = rest.split_at(len);
         if !is_written(file, kept, at, record) {
@@ -207,5 +247,5 @@ pub fn is_genuine(
         return Ok(false);
     }
     let signature = LogFileContext::new(id, format.version).get_signature();
-    are_written(alloc, file, kept, signature, bytes, len)
+    are_written(alloc, file, kept, format.alignment, signature, bytes, len)
 }

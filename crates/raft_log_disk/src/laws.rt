@@ -1,9 +1,9 @@
 //! Laws of every file system, and of every disk.
 
-ghost use Rattle.std.specs.Prelude.{◌≡◌, ◌++◌, ℕ, List, Ok, take};
+ghost use Rattle.std.specs.Prelude.{◌≡◌, ◌++◌, ◌∷◌, ℕ, List, Ok, take};
 ghost use Rattle.raft_log_disk.specs.declared.crash.CrashChoice.TheVariants.{Least, Most};
 ghost use Rattle.raft_log_disk.specs.declared.format.LogFileFormat.{LogFileFormat};
-ghost use Rattle.raft_log_disk.specs.Disk.{Disk, AreBytes, IsNamed, IsNoFile, with_file, after_sync};
+ghost use Rattle.raft_log_disk.specs.Disk.{Disk, AreBytes, IsIn, IsFile, IsNamed, IsNoFile, listed, with_file, after_sync};
 ghost use Rattle.raft_log_disk.specs.Format.{IsSpellable, header_at, header_len, spelled_header};
 ghost use Rattle.raft_log_disk.specs.Image.{Image, IsImage, IsImageOf};
 
@@ -23,6 +23,11 @@ pub fn least_and_most_are_images<F: FileSystem>(files: &F)
 pub fn synced_file_is_left_as_read()
     ensures { (d : Disk) (fd : ℕ) (image : Image) → (IsNoFile d fd → ⊥) →
         IsImage (with_file d fd (after_sync (d.file fd))) image → image fd ≡ (d.file fd).bytes }
+{}
+
+/// What `list` names is a file: until a call deletes or renames it, `open` finds it.
+pub fn listed_files_are_there()
+    ensures { (d : Disk) (directory name : List ℕ) → IsIn name (listed d.names directory) → IsFile d (directory ++ 47 ∷ name) }
 {}
 
 /// A header that was written is read as it was, whatever follows, and a header that is read is

@@ -23,7 +23,8 @@ pub use crash::{CrashChoice, CrashFiles, CrashRefusal, FileBytes};
 pub use fault::{Fd, IoFault, Permission};
 pub use format::{HeaderFault, LogFileFormat};
 pub use laws::{
-    headers_are_read_as_written, least_and_most_are_images, synced_file_is_left_as_read,
+    headers_are_read_as_written, least_and_most_are_images, listed_files_are_there,
+    synced_file_is_left_as_read,
 };
 pub use memory::MemoryFileSystem;
 pub use system::FileSystem;

@@ -1,9 +1,9 @@
 //! Looking up files, paths and directories.
 
-ghost use Rattle.std.specs.Prelude.{◌≡◌, ◌++◌, OnOk, option_to_list, ◌+◌, ◌-◌, length, take, drop, map, option_map, Option, IfOk, IsTrue};
+ghost use Rattle.std.specs.Prelude.{◌≡◌, ◌++◌, OnOk, option_to_list, ◌+◌, ◌-◌, length, take, drop, map, option_map, Option, IfOk, IsTrue, is_some};
 ghost use Rattle.raft_log_disk.specs.Text.{has_slash, name_in};
-ghost use Rattle.raft_log_disk.specs.Disk.{IsIn, HasDirectory};
-ghost use Rattle.raft_log_disk.specs.Memory.{texts_of, place_of, place_of_path};
+ghost use Rattle.raft_log_disk.specs.Disk.{IsIn, HasDirectory, fd_of};
+ghost use Rattle.raft_log_disk.specs.Memory.{texts_of, names_of, place_of, place_of_path};
 
 use crate::memory_file::MemoryFile;
 use std::alloc::{AllocError, Global};
@@ -30,6 +30,16 @@ pub fn find_path(files: &[MemoryFile], path: &str) -> Option<usize>
         }
     }
     None
+}
+
+/// Whether a file has this path.
+pub fn has_path(files: &[MemoryFile], path: &str) -> bool
+    ensures { result ≡ is_some (fd_of (names_of files.now) path.now) }
+{
+    match files {
+        [] => false,
+        [first, rest @ ..] => first.path.as_str() == path || has_path(rest, path),
+    }
 }
 
 pub fn is_same(a: &str, b: &str) -> bool

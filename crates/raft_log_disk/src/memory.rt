@@ -1,13 +1,13 @@
 //! A file system in memory that can be made to refuse calls.
 
-ghost use Rattle.std.specs.Prelude.{◌≡◌, ◌-◌, ◌^◌, List, ℕ, ◌<◌, IsTrue, OnOk, OnErr, MatchOption, None, length, false};
+ghost use Rattle.std.specs.Prelude.{◌≡◌, ◌-◌, ◌^◌, List, ℕ, ◌<◌, IsTrue, OnOk, OnErr, MatchOption, None, length, false, is_some};
 ghost use Rattle.raft_log_disk.specs.Text.{same_text};
 ghost use Rattle.raft_log_disk.specs.Disk.{are_named, fd_of, IsNoFile, LacksRoom};
 ghost use Rattle.raft_log_disk.specs.Memory.{names_of, room_of};
 ghost use Rattle.raft_log_disk.specs.Place.{IsPlace, IsPathPlace};
 
 use crate::fuse::Fuse;
-use crate::lookup::{find_number, find_path, name_of};
+use crate::lookup::{find_number, find_path, has_path, name_of};
 use crate::memory_file::MemoryFile;
 use crate::space::{Space, left_of};
 use std::alloc::{AllocError, Global};
@@ -51,7 +51,7 @@ impl MemoryFileSystem {
     }
 
     /// Bounds the bytes that the files of a directory may have together. A call that would pass it
-    /// answers `NoSpace` and changes nothing.
+    /// answers `NoSpace` and leaves the files as they are.
     pub fn set_space(&mut self, directory: &str, bytes: u64) -> Result<(), AllocError>
         ensures disk { disk_in self.new ≡ disk_in self.old }
         ensures meter { meter_in self.new ≡ meter_in self.old }
@@ -79,6 +79,13 @@ impl MemoryFileSystem {
         ensures { MatchOption result (fd_of (disk_in self.now).names path.now ≡ None) (IsPathPlace self.now.files.items path.now) }
     {
         find_path(&self.files, path)
+    }
+
+    /// Whether a file has this path.
+    pub(crate) fn has_file(&self, path: &str) -> bool
+        ensures { result ≡ is_some (fd_of (disk_in self.now).names path.now) }
+    {
+        has_path(&self.files, path)
     }
 
     /// Whether the file at a place is in a directory that has less room than this.

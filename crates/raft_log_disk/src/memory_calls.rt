@@ -7,6 +7,8 @@ use crate::{Fd, FileSystem, IoFault, Permission};
 use std::alloc::Global;
 
 impl FileSystem for MemoryFileSystem {
+    ghost use Rattle.std.specs.Prelude.{◌≡◌};
+    ghost use Rattle.raft_log_disk.specs.Cause.{HasCause, IsOneCall};
     ghost use Rattle.raft_log_disk.specs.MemorySystem.{disk_in, meter_in, room_in, memory_is_named};
     ghost use Rattle.raft_log_disk.specs.MemoryImages.{memory_images};
 
@@ -26,7 +28,7 @@ impl FileSystem for MemoryFileSystem {
         if self.fuse.spend() {
             return Err(self.fuse.refuse());
         }
-        if self.next == u64::MAX {
+        if self.next == u64::MAX || has_text(&self.directories, path) {
             return Err(self.fuse.refuse());
         }
         if !has_directory(&self.directories, path) {
@@ -65,17 +67,36 @@ impl FileSystem for MemoryFileSystem {
         if self.fuse.spend() {
             return Err(self.fuse.refuse());
         }
+        if has_text(&self.directories, to) {
+            return Err(self.fuse.refuse());
+        }
         let Some(i) = self.find_path(from) else {
             return Err(IoFault::NotFound);
         };
+        if !has_directory(&self.directories, to) {
+            return Err(IoFault::NotFound);
+        }
         let to = String::from_str(self.alloc, to)?;
         let front = self.files[i].front(self.alloc)?;
         self.files[i].rename(to, front);
         Ok(())
     }
 
-    fn make_dir(&mut self, path: &str) -> Result<(), IoFault> {
+    /// Nothing is kept beside a file, and yet the fuse counts the call.
+    fn delete_metadata(&mut self, path: &str) -> Result<(), IoFault>
+        ensures kept { disk_in self.new ≡ disk_in self.old }
+        ensures cause { HasCause ⊥ ⊥ (meter_in self.old) (meter_in self.new) result }
+        ensures call { IsOneCall ⊥ (meter_in self.old) (meter_in self.new) result }
+    {
+        let _ = path;
         if self.fuse.spend() {
+            return Err(self.fuse.refuse());
+        }
+        Ok(())
+    }
+
+    fn make_dir(&mut self, path: &str) -> Result<(), IoFault> {
+        if self.fuse.spend() || self.has_file(path) {
             return Err(self.fuse.refuse());
         }
         if has_text(&self.directories, path) {
@@ -104,7 +125,7 @@ impl FileSystem for MemoryFileSystem {
         }
         let growth = (at + bytes.len()).saturating_sub(self.files[i].bytes.len());
         if self.is_cramped(i, growth as u64) {
-            return Err(IoFault::NoSpace);
+            return Err(self.fuse.lack_space());
         }
         self.files[i].write(self.alloc, at, bytes)?;
         Ok(())
@@ -125,7 +146,7 @@ impl FileSystem for MemoryFileSystem {
         }
         let growth = len.saturating_sub(self.files[i].bytes.len());
         if self.is_cramped(i, growth as u64) {
-            return Err(IoFault::NoSpace);
+            return Err(self.fuse.lack_space());
         }
         self.files[i].truncate(self.alloc, len)?;
         Ok(())
@@ -149,7 +170,7 @@ impl FileSystem for MemoryFileSystem {
         }
         let growth = (at + len).saturating_sub(self.files[i].bytes.len());
         if self.is_cramped(i, growth as u64) {
-            return Err(IoFault::NoSpace);
+            return Err(self.fuse.lack_space());
         }
         self.files[i].allocate(self.alloc, at, len)?;
         Ok(())
@@ -178,6 +199,10 @@ impl FileSystem for MemoryFileSystem {
 
     fn is_dir(&self, path: &str) -> bool {
         has_text(&self.directories, path)
+    }
+
+    fn is_file(&self, path: &str) -> bool {
+        self.has_file(path)
     }
 
     fn available(&self, directory: &str) -> u64 {

@@ -1,4 +1,5 @@
 pub mod DigitLemmas
 pub mod NumberLemmas
-pub mod TableLemmas
+pub mod OpeningLemmas
 pub mod RoundTrip
+pub mod TableLemmas

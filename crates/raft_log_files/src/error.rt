@@ -1,7 +1,7 @@
 //! Why a call of the log engine is refused.
 
 ghost use Rattle.std.specs.Prelude.{◌≡◌};
-ghost use Rattle.raft_log_files.specs.Error.{io_error, number_of};
+ghost use Rattle.raft_log_files.specs.Error.{io_error, second_append_error, number_of};
 ghost use Rattle.raft_log_files.specs.declared.error.Error.TheVariants.{Memory};
 
 use raft_log_disk::{HeaderFault, IoFault};
@@ -28,7 +28,17 @@ pub enum ArgumentFault {
     TooLargeForToml,
 }
 
-/// Why settings, or a call under them, are refused.
+/// Why a call on files is refused: the file system counts a changing call so, or a read was of a
+/// name whose reads are refused.
+#[derive(Clone, Copy, Debug, PartialEq, Eq, thiserror::Error)]
+pub enum DiskRefusal {
+    #[error("the call was refused")]
+    Refused,
+    #[error("no space left in the directory")]
+    NoSpace,
+}
+
+/// Why settings, a path or a call under them are refused.
 #[derive(Clone, Copy, Debug, PartialEq, Eq, thiserror::Error)]
 pub enum OtherFault {
     #[error("purge-threshold < target-file-size")]
@@ -39,14 +49,21 @@ pub enum OtherFault {
     PrefillWithoutRecycle,
     #[error("target-file-size is 0")]
     NoTargetSize,
+    /// A path that should be a directory is a file.
+    #[error("not a directory")]
+    NotADirectory,
+    /// A file is gone that no call of ours deleted. A file that was listed, or that has a number,
+    /// stays until then: so a file system that keeps its contract gives no cause for this.
+    #[error("the file is gone")]
+    FileGone,
 }
 
 /// Why a call of the log engine is refused (raft-engine's `Error`).
 #[derive(Clone, Copy, Debug, PartialEq, Eq, thiserror::Error)]
 pub enum Error {
-    /// A call on files was refused.
+    /// A call on files was refused, or found no space where no retry is left.
     #[error("I/O error: {0}")]
-    Io(IoFault),
+    Io(DiskRefusal),
     /// Bytes of a log file are none that were written there.
     #[error("corruption: {0}")]
     Corruption(CorruptionFault),
@@ -67,6 +84,18 @@ pub enum Error {
 }
 
 impl Error {
+    /// What a call answers whose second append met a fault. The first append that finds no space
+    /// is tried once more after a rotation, whose header is part of the second append. So want of
+    /// space is `TryAgain` there; any other fault is as everywhere.
+    pub fn of_second_append(fault: IoFault) -> Error
+        ensures { result ≡ second_append_error fault }
+    {
+        match fault {
+            IoFault::NoSpace => Error::TryAgain,
+            fault => Error::from(fault),
+        }
+    }
+
     /// The number that each kind of refusal has in scripts and logs, from 1 to 8.
     pub fn number(&self) -> u8
         ensures { result ≡ number_of self.now }
@@ -106,7 +135,9 @@ impl From<IoFault> for Error {
     fn from(fault: IoFault) -> Error {
         match fault {
             IoFault::Memory => Error::Memory,
-            fault => Error::Io(fault),
+            IoFault::Refused => Error::Io(DiskRefusal::Refused),
+            IoFault::NoSpace => Error::Io(DiskRefusal::NoSpace),
+            IoFault::NotFound => Error::Other(OtherFault::FileGone),
         }
     }
 }

@@ -90,6 +90,16 @@ fn header_error(alloc: Global, bytes: &[u8]) -> Answer {
     }
 }
 
+/// Any word but these is `Refused`.
+fn fault(word: &str) -> IoFault {
+    match word {
+        "Memory" => IoFault::Memory,
+        "NoSpace" => IoFault::NoSpace,
+        "NotFound" => IoFault::NotFound,
+        _ => IoFault::Refused,
+    }
+}
+
 /// The answer to a row that asks about settings.
 pub fn asked(config: &Config, alloc: Global, words: &[&str]) -> Option<Answer> {
     Some(match *words {
@@ -109,6 +119,10 @@ pub fn asked(config: &Config, alloc: Global, words: &[&str]) -> Option<Answer> {
         ["header-error", text] => header_error(alloc, &bytes(alloc, text).ok()?),
         ["error-number", "NoSpace"] => {
             Answer::shown(alloc, &Error::from(IoFault::NoSpace).number())
+        }
+        ["error-of", word] => Answer::shown(alloc, &Error::from(fault(word))),
+        ["error-of-second-append", word] => {
+            Answer::shown(alloc, &Error::of_second_append(fault(word)))
         }
         ["error-number", "EntryNotFound"] => Answer::shown(alloc, &Error::EntryNotFound.number()),
         _ => return None,
