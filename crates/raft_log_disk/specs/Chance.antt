@@ -1,5 +1,6 @@
 -- By chance: a log file's header or record that no call wrote.
-use Rattle.std.specs.Prelude.{◌≡◌, ◌⊎◌, ℕ, zero, suc, ◌+◌, ◌-◌, ◌%◌, nat_lt, ◌==◌, if◌then◌else◌, List, length, take, drop, Option, Some, None, Result, Ok, Err, MatchOption, MatchResult}
+use Rattle.std.specs.Prelude.{◌≡◌, ◌⊎◌, ℕ, zero, suc, ◌+◌, ◌-◌, ◌%◌, nat_lt, ◌==◌, if◌then◌else◌, List, length}
+use Rattle.std.specs.Prelude.{take, drop, Option, Some, None, Result, Ok, Err, MatchOption, MatchResult}
 use Rattle.std.specs.List.{AllByRecursion, list_all}
 use Rattle.raft_log_records.specs.declared.file_id.FileId.{FileId}
 use Rattle.raft_log_records.specs.Reading.{record_at}

@@ -5,7 +5,8 @@ ghost use Rattle.std.specs.Prelude.{is_some, IsTrue, IfOk, IfErr, OnOk, OnErr, I
 ghost use Rattle.std.specs.Prelude.{◌↔◌, ◌++◌, replicate, min, ◌^◌, IsPermutation, IsSorted};
 ghost use Rattle.std.specs.String.{string_bytes, string_cmp};
 ghost use Rattle.raft_log_disk.specs.declared.fault.IoFault.TheVariants.{Memory, NotFound, Refused};
-ghost use Rattle.raft_log_disk.specs.Disk.{Disk, IsIn, HasDirectory, LacksRoom, RefusedWrite, RefusedAllocate, RefusedTruncate, IsNoFile, IsFile, IsNoMove, IsNoNewFile, HasOneOf, Deletes, Renames, IsNamed};
+ghost use Rattle.raft_log_disk.specs.Disk.{Disk, IsIn, HasDirectory, LacksRoom, RefusedWrite, RefusedAllocate, RefusedTruncate, IsNoFile, IsFile};
+ghost use Rattle.raft_log_disk.specs.Disk.{IsNoMove, IsNoNewFile, HasOneOf, Deletes, Renames, IsNamed};
 ghost use Rattle.raft_log_disk.specs.Disk.{fd_of, listed, with_file, after_create, after_make_dir, after_write, after_truncate, after_allocate, after_sync, put, resized, filled};
 ghost use Rattle.raft_log_disk.specs.Cause.{Meter, HasCause, HasReadCause, IsOneCall, IsPassedOver, UnlessRefused, spent};
 ghost use Rattle.raft_log_disk.specs.Image.{HasImages};
