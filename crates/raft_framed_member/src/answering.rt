@@ -88,7 +88,8 @@ fn take_message(
 ) -> Result<Outcome, AnswerError>
     ensures id { member.new.id ≡ member.old.id }
     ensures up { (s : GroupState) → IsUp member.old s → IsLawful member.old.id s → HasTaken group member.old.id s (message_of message.now) now result member.new }
-    ensures fits { (s : GroupState) → IsUp member.old s → IsLawful member.old.id s → FitsStored s.stored → IsCommittedWithin s → FitsIfTaken member.old.id s (comes now (message_of message.now)) → HasFrames result }
+    ensures fits { (s : GroupState) → IsUp member.old s → IsLawful member.old.id s → FitsStored s.stored → IsCommittedWithin s
+        → FitsIfTaken member.old.id s (comes now (message_of message.now)) → HasFrames result }
     ensures down { (kept : Stored) → IsDown member.old kept → (result ≡ Ok Down) × IsDown member.new kept }
 {
     match member.receive(alloc, message, now, None) {
@@ -158,7 +159,8 @@ pub fn answer_piece(
 ) -> Answer
     ensures id { member.new.id ≡ member.old.id }
     // The bytes are a frame, its message makes the group's step, and what that sends is spelled.
-    ensures up { (s : GroupState) → IsUp member.old s → IsLawful member.old.id s → IsAnswered group member.old.id s now feeder.old.feeding piece.now result feeder.new.feeding member.new }
+    ensures up { (s : GroupState) → IsUp member.old s → IsLawful member.old.id s
+        → IsAnswered group member.old.id s now feeder.old.feeding piece.now result feeder.new.feeding member.new }
     // What a step sends has frames, if what the node has is within the limits.
     ensures fits { (s : GroupState) → IsUp member.old s → IsLawful member.old.id s → FitsStored s.stored → IsCommittedWithin s → HasFrames result.outcome }
     ensures down { (kept : Stored) → IsDown member.old kept → IsDown member.new kept }

@@ -50,7 +50,10 @@ impl Framed {
     /// The piece comes at this moment.
     fn take(&mut self, alloc: Global, now: u64, piece: &[u8]) -> Answer {
         let Framed { member, feeder } = self;
-        told(alloc, answer_piece(alloc, GROUP, member, feeder, piece, now))
+        told(
+            alloc,
+            answer_piece(alloc, GROUP, member, feeder, piece, now),
+        )
     }
 }
 
@@ -66,7 +69,7 @@ impl Rows for Framed {
                 Answer::Word("()")
             }
             ["vote"] => Answer::shown(alloc, &self.member.stored().vote()),
-            ["end"] => Answer::shown(alloc, &self.member.stored().end_place()),
+            ["entries"] => Answer::shown(alloc, &self.member.stored().log().len()),
             _ => return None,
         })
     }

@@ -9,7 +9,8 @@ ghost use Rattle.raft_group_step.specs.GroupEvent.{Open};
 ghost use Rattle.raft_group_step.specs.Message.{Conflict, HeartBeat, HigherVote, Numbered, SnapshotReply, Success};
 ghost use Rattle.raft_group_step.specs.StoredGroup.{CutFrom, PutEntries, RemoveUpTo};
 ghost use Rattle.raft_group_step.specs.StepExample.{blank_at, with_log};
-ghost use Rattle.raft_step_laws.specs.Fitting.{AllFit, ArePlacedFrom, ComesWithin, FitsBody, FitsPayload, FitsRequest, FitsSnapshot, FitsSnapshotReply, FitsStored, FitsStoring, IsCommittedWithin, StepsFit};
+ghost use Rattle.raft_step_laws.specs.Fitting.{AllFit, ArePlacedFrom, ComesWithin, FitsBody, FitsPayload, FitsRequest, FitsSnapshot};
+ghost use Rattle.raft_step_laws.specs.Fitting.{FitsSnapshotReply, FitsStored, FitsStoring, IsCommittedWithin, StepsFit};
 ghost use Rattle.raft_step_laws.specs.FittingRows.{behind_a_purge, blanks_from, committed_to, groups, message_of_one, reply, request, snapshot_of};
 
 /// Where what a node has fits, and what comes to it, so does what a step stores and sends, and what is left of it at its end or
