@@ -35,7 +35,7 @@ fn in_file(batch: &LogBatch, alloc: Global, kind: &str, seq: &str, start: &str) 
 
 fn placed(block: Option<EntriesBlock>, id: FileId, start: u64) -> Option<FileBlockHandle> {
     let block = block?;
-    if block.offset > 8 {
+    if start.checked_add(block.offset).is_none() {
         return None;
     }
     Some(block.in_file(id, start))
