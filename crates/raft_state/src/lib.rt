@@ -24,9 +24,8 @@ pub use raft_quorums::{
 };
 pub use raft_state::RaftState;
 pub use raft_values::{
-    BasicNode, Bytes, CommittedLeaderId, EmptyNode, IOState, Instant, Invalid, LeaderId,
-    LogIOId, LogId, LogIdOptionExt, LogIdRange, LogIndexOptionExt, MessageSummary, Node,
-    NodeEssential, NodeId, NodeIdEssential, ServerState, TryAsRef, UTime, Validate, Vote,
-    VoteStateReader, leader_ids_by_term_and_node, log_ids_by_leader_and_index,
-    votes_by_term_node_committed,
+    BasicNode, Bytes, CommittedLeaderId, EmptyNode, IOState, Instant, Invalid, LeaderId, LogIOId,
+    LogId, LogIdOptionExt, LogIdRange, LogIndexOptionExt, MessageSummary, Node, NodeEssential,
+    NodeId, NodeIdEssential, ServerState, TryAsRef, UTime, Validate, Vote, VoteStateReader,
+    leader_ids_by_term_and_node, log_ids_by_leader_and_index, votes_by_term_node_committed,
 };
