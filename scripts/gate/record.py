@@ -15,13 +15,20 @@ def _add(sum_of, folder, files):
             sum_of.update(repr((os.path.relpath(file, folder), it.read())).encode())
 
 
+def _is_proof(crate, file):
+    return os.path.relpath(file, crate.folder).startswith("proofs/")
+
+
 def sum_of(crate, folder):
-    """Returns a sum of the crate's sources and edits, the libraries below it and the kit."""
+    """Returns a sum of the crate's sources and edits, of the contracts and definitions of the
+    libraries below it, and of the kit. Proofs below are left out: a wrong body stays wrong whatever
+    else is proved of what it calls."""
     made = hashlib.sha256(repr((FORM, kit.IDENTITY)).encode())
     for it in [*crate.below(), crate]:
         uses = sorted(dep.name for dep in it.deps)
         made.update(repr((it.name, uses, sorted(it.of_kit))).encode())
-        _add(made, it.folder, kit.rtlib.files_of(it.folder))
+        files = kit.rtlib.files_of(it.folder)
+        _add(made, it.folder, [at for at in files if it is crate or not _is_proof(it, at)])
     edits = sorted(it for it in os.listdir(folder) if it.endswith(".edit"))
     _add(made, folder, [f"{folder}/{it}" for it in edits])
     return made.hexdigest()[:32]

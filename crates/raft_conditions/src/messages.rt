@@ -65,7 +65,7 @@ impl<'a> GroupFacts<'a> {
     {
         match outcome {
             ReplyResult::HigherVote(vote) => self.is_foreign(vote),
-            ReplyResult::Success | ReplyResult::Conflict => true,
+            ReplyResult::Success | ReplyResult::PartialSuccess(_) | ReplyResult::Conflict => true,
         }
     }
 

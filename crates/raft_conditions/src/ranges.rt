@@ -41,12 +41,13 @@ pub(crate) fn is_low_request(id: &RequestId) -> bool
     }
 }
 
-// Whether the term of a vote that an answer tells is below the limit, if it tells one.
+// Whether the terms and places of a log id and of a vote that an answer tells are below the limit.
 pub(crate) fn is_low_outcome(outcome: &ReplyResult) -> bool
     ensures { result ≡ are_in_range (numbers_of_result (outcome_of outcome.now)) }
 {
     match outcome {
         ReplyResult::HigherVote(vote) => is_low(vote.leader_id.term),
+        ReplyResult::PartialSuccess(last) => is_low_id_or_none(*last),
         ReplyResult::Success | ReplyResult::Conflict => true,
     }
 }

@@ -12,6 +12,7 @@ use Rattle.raft_log_disk.proofs.DiskLemmas.{same_file, other_file, number_in, pu
 use Rattle.raft_log_disk.proofs.LawLemmas.{image_there, is_there, synced_image_is_read}
 use Rattle.raft_log_disk.proofs.NameLemmas.{moved_there}
 use Rattle.raft_disk_uses.specs.Left.{Leaves, LeavesOneOf, LeavesBytes, LeavesFront, found_at}
+use Rattle.raft_log_disk.proofs.CauseLemmas.{at_err}
 
 put_behind : (old bytes : List ℕ) → put old (length old) bytes ≡ old ++ bytes
 put_behind old bytes =
@@ -154,11 +155,6 @@ front_written old new fd at bytes seen end still there wrote = λ image is.
 pub front_refused : (old new : Disk) (fd at : ℕ) (bytes : List ℕ) → at ≡ length (old.file fd).bytes → IsStill (old.file fd) → (IsNoFile old fd → ⊥) → (new ≡ old) ⊎ RefusedWrite old new fd at bytes → LeavesFront new fd (old.file fd).bytes
 front_refused old new fd at bytes end still there (inl is) = subst (λ (d : Disk). LeavesFront d fd (old.file fd).bytes) (sym is) (front_same old fd still there)
 front_refused old new fd at bytes end still there (inr r) = front_written old new fd at bytes r.seen end still there r.files
-
--- what holds anyway, of an error
-pub whatever : {S E : Type 0} (r : Result S E) (P : Type 0) → P → OnErr r P
-whatever (Ok x) P p = tt
-whatever (Err e) P p = p
 
 -- the last call of each client
 pub appended_ok : {S E : Type 0} (r : Result S E) (old written synced : Disk) (fd at : ℕ) (bytes : List ℕ) → at ≡ length (old.file fd).bytes → (IsNoFile old fd → ⊥)

@@ -20,6 +20,7 @@ use Rattle.raft_group_step.specs.StepResult.{StepResult, append}
 use Rattle.raft_group_step.specs.MembershipStep.{append_changed, membership_step}
 use Rattle.raft_group_step.specs.Lead.{ids_of}
 use Rattle.raft_group_step.specs.Frames.{committed_id}
+use Rattle.raft_group_step.proofs.LastMembership.{last_membership-append}
 use Rattle.raft_known_state.specs.KnownState.{ArePlaced, IsPlaced, KeepsRest, Knows, entry_ids, purged_ids}
 use Rattle.raft_known_state.proofs.KnownStateLemmas.{end-known, last-known, log_whole}
 use Rattle.raft_known_state.proofs.PlacedIds.{by_order, last_of}
@@ -30,10 +31,10 @@ use Rattle.raft_commands.specs.Output.{Output}
 use Rattle.raft_engine.specs.Commands.{put_all, storing_of, sending_of}
 use Rattle.raft_engine.specs.Standing.{EffectiveMembership, Engine, Given, IsInOrder, IsStepOf, Leads, PlaysRole, peer_state}
 use Rattle.raft_engine.specs.Leading.{KnowsMembers}
-use Rattle.raft_engine.proofs.CommandLemmas.{numbers_kept, sends_same, stores_more}
+use Rattle.raft_engine.proofs.CommandLemmas.{at_once_more, numbers_kept, sends_same, stores_more}
+use Rattle.raft_engine.proofs.CommittingLemmas.{moves_kept}
 use Rattle.raft_engine.proofs.StandingLemmas.{order_kept}
 use Rattle.raft_engine.proofs.PlacedEntries.{behind, get_of_joined}
-use Rattle.raft_engine.proofs.LastMembership.{last_membership-append}
 
 -- a leader knows the members of an entry that has a membership
 pub knows_new : (l : LeaderValue ℕ EffectiveMembership) (before : Option LoggedMembership) (id : LogId ℕ) (payload : EntryPayload) (m : Membership) → Some m ≡ membership_of payload
@@ -195,6 +196,8 @@ module _ {C R : Type 0} (x : Given) (own : ℕ) (e : Engine C R) (r : StepResult
           sends = λ t upto. ap (λ q. flat_map (sending_of own t upto) q) queue ∙ sends_same e.output.queue (AppendInputEntries vote entries) own t upto r.messages (step.sends t upto) refl;
           seen = seen ∙ step.seen;
           numbers = numbers_kept x.last_sm_seq e.output e'.output (AppendInputEntries vote entries) step.numbers output refl;
+          moves = moves_kept x.committed_before e.state.state.committed e'.state.state.committed e.output.queue e'.output.queue step.moves (AppendInputEntries vote entries) queue refl rest.committed;
+          at_once = at_once_more e.output.queue (AppendInputEntries vote entries) e'.output.queue queue step.at_once tt;
         }
 
 -- ---- tokens
@@ -217,6 +220,8 @@ whatever_tokens x own e r untold step =
       sends = step.sends;
       seen = step.seen;
       numbers = step.numbers;
+      moves = step.moves;
+      at_once = step.at_once;
     }
 
 -- what a proposal's token waits for

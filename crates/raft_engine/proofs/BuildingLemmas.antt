@@ -6,27 +6,29 @@ use Rattle.raft_values.specs.declared.vote.Vote.{Vote}
 use Rattle.raft_values.specs.declared.utime.UTime.{UTime}
 use Rattle.raft_values.specs.declared.log_id.LogId.{LogId}
 use Rattle.raft_values.specs.LogId.{next_place, place_of, stands_before}
-use Rattle.raft_group_step.specs.Values.{LoggedMembership, last_membership}
 use Rattle.raft_group_step.specs.StoredGroup.{Snapshot, SetSnapshot, after_storing, first_place, membership_in_force, snapshot_last}
 use Rattle.raft_group_step.specs.GroupState.{GroupState, Role, Follower, Candidate, Leader}
 use Rattle.raft_group_step.specs.GroupEvent.{Call}
 use Rattle.raft_group_step.specs.declared.group_call.GroupCall.TheVariants.{TriggerSnapshot}
 use Rattle.raft_group_step.specs.StepResult.{StepResult, store}
-use Rattle.raft_group_step.specs.Lead.{ids_of, peer_of}
 use Rattle.raft_group_step.specs.Frames.{committed_id}
 use Rattle.raft_group_step.specs.Refusal.{range_reason, refusal_of, unknown_group}
 use Rattle.raft_group_step.specs.GroupStep.{begun, finished, group_step}
 use Rattle.raft_group_step.specs.SnapshotTrigger.{snapshot_of_applied, snapshot_trigger_step, store_snapshot_at}
+use Rattle.raft_group_step.proofs.LastMembership.{last_overlap}
 use Rattle.raft_known_state.specs.KnownState.{KeepsRest, Knows}
 use Rattle.raft_engine.specs.Numbering.{NumbersFollow}
+use Rattle.raft_engine.specs.Committing.{Moves, moves_in}
+use Rattle.raft_engine.specs.Answering.{NeedsNoOther}
+use Rattle.std.specs.List.{All}
+use Rattle.std.proofs.lemmas.List.Elements.{All-cons, All-nil}
 use Rattle.raft_engine.specs.Commands.{sent_by, stored_by}
 use Rattle.raft_engine.specs.Standing.{Engine, Given, IsInOrder, IsStateOf, IsStepOf, IsWholeStepOf, PlaysRole}
-use Rattle.raft_engine.specs.Purging.{MayBePurged}
+use Rattle.raft_engine.specs.Leading.{CountsOn}
 use Rattle.raft_engine.specs.Building.{IsSnapshotOfApplied, asking, build_command, covered_id}
 use Rattle.raft_engine.specs.Events.{CanFinish, HasLeadRoom, IsReady}
 use Rattle.raft_engine.proofs.AppendLemmas.{next_of_place}
 use Rattle.raft_engine.proofs.EventLemmas.{no_first_reason, unless_none}
-use Rattle.raft_engine.proofs.LastMembership.{last_overlap}
 use Rattle.raft_engine.proofs.PurgeLemmas.{KeepsStanding, plays_on, snapshot_known}
 
 -- a log id past all that a snapshot has
@@ -76,22 +78,8 @@ nothing_to_build own at e s h none = by_place s.applied refl
         rw has_all refl
 
 module _ (s : GroupState) (x : Snapshot) (built : IsSnapshotOfApplied s x) where
-  -- with the log from a place on that it covers, it has the membership in force
-  members_from : (n : ℕ) → n ≤ x.last.index + 1 - first_place s.stored → last_membership x.membership (drop n s.stored.log) ≡ membership_in_force s.stored
-  members_from n l =
-      ap (λ m. last_membership m (drop n s.stored.log)) built.membership
-      ∙ last_overlap n (x.last.index + 1 - first_place s.stored) (option_and_then (λ (y : Snapshot). y.membership) s.stored.snapshot) s.stored.log l
-
-  pub keeps_standing : KeepsStanding s.stored (after_storing (SetSnapshot x) s.stored)
-  keeps_standing = record { vote = refl; last = refl; members = members_from 0 (omega arith) }
-
-  -- all that it covers may be purged
-  pub may_go : (place : ℕ) → place ≤ x.last.index → MayBePurged place (after_storing (SetSnapshot x) s.stored)
-  may_go place l =
-      record {
-        within = omega arith;
-        members = members_from (place + 1 - first_place s.stored) (omega arith) ∙ sym keeps_standing.members;
-      }
+  keeps_standing : KeepsStanding s.stored (after_storing (SetSnapshot x) s.stored)
+  keeps_standing = record { vote = refl; last = refl }
 
   pub order_with : (now : ℕ) → IsInOrder s → IsInOrder (record s { stored = after_storing (SetSnapshot x) s.stored; now = now })
   order_with now o =
@@ -125,18 +113,16 @@ module _ (s : GroupState) (x : Snapshot) (built : IsSnapshotOfApplied s x) where
         let with_snapshot : HasLeadRoom own (store (SetSnapshot x) (begun at s)).state lead =
         record {
           places = room.places;
-          numbers =
-              subst (λ (m : Option LoggedMembership). (n : ℕ) → (peer_of lead n).next_id + length (filter (λ n. if n == own then false else true) (ids_of m)) ≤ 2 ^ 64)
-              (sym keeps_standing.members) room.numbers;
-          wish = λ place e. let within = ready.wish place e in let later = built.later in may_go place (omega arith);
+          numbers = room.numbers;
+          wish = λ place e. let within = ready.wish place e in let later = built.later in omega arith;
         } in
         with_snapshot
 
     module _ {C R : Type 0} (e e' : Engine C R) (h : IsStateOf own e s) where
-      pub snapshot_stored : (g : Given) → g.snapshot ≡ x → e'.seen_greater_log ≡ g.seen_greater_log → NumbersFollow g.last_sm_seq e'.output → e'.config ≡ e.config → e'.leader ≡ e.leader → e'.candidate ≡ e.candidate
+      pub snapshot_stored : (g : Given) → g.snapshot ≡ x → e'.seen_greater_log ≡ g.seen_greater_log → NumbersFollow g.last_sm_seq e'.output → e.state.state.committed ≡ g.committed_before → e'.config ≡ e.config → CountsOn (membership_in_force (after_storing (SetSnapshot x) s.stored)) e.leader e'.leader → e'.candidate ≡ e.candidate
           → Knows e'.state (after_storing (SetSnapshot x) s.stored) → KeepsRest e.state e'.state
           → (seq : ℕ) → e'.output.queue ≡ build_command seq ∷ [] → IsStepOf g own e' (store (SetSnapshot x) (begun at s))
-      snapshot_stored g is seen numbers config leader candidate knows rest seq queue =
+      snapshot_stored g is seen numbers before config leader candidate knows rest seq queue =
           record {
             state = record {
               config = config ∙ h.config;
@@ -145,14 +131,16 @@ module _ (s : GroupState) (x : Snapshot) (built : IsSnapshotOfApplied s x) where
               committed = rest.committed ∙ h.committed;
               wish = ap place_of rest.purge_upto ∙ h.wish;
               role =
-                  plays_on own e'.leader e'.candidate s.stored (after_storing (SetSnapshot x) s.stored) s.role keeps_standing
-                  (subst (λ l. PlaysRole own l e'.candidate s.stored s.role) (sym leader) (subst (λ c. PlaysRole own e.leader c s.stored s.role) (sym candidate) h.role));
+                  plays_on own e.leader e'.leader e'.candidate s.stored (after_storing (SetSnapshot x) s.stored) s.role keeps_standing leader
+                  (subst (λ c. PlaysRole own e.leader c s.stored s.role) (sym candidate) h.role);
               order = order_with (max s.now at) h.order;
             };
             stores = ap (λ (y : Snapshot). stored_by y e'.output.queue) is ∙ ap (stored_by x) queue;
             sends = λ t upto. ap (sent_by own t upto) queue;
             seen = seen;
             numbers = numbers;
+            moves = subst (λ q. Moves g.committed_before (moves_in q) e'.state.state.committed) (sym queue) (rest.committed ∙ before);
+            at_once = subst (All NeedsNoOther) (sym queue) (All-cons NeedsNoOther (build_command seq) [] tt (All-nil NeedsNoOther));
           }
 
       -- what is finished then is the group's step

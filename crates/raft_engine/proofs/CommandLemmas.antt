@@ -2,15 +2,17 @@
 use Rattle.std.specs.Prelude.{◌≡◌, ℕ, List, [], ◌∷◌, ◌++◌, Option, refl}
 use Rattle.std.proofs.Common.{ap, sym, subst, ◌∙◌, append-nil}
 use Rattle.std.proofs.lemmas.Grind.{flat_map-append}
-use Rattle.std.specs.List.{flat_map}
+use Rattle.std.specs.List.{All, flat_map}
+use Rattle.std.proofs.lemmas.List.Elements.{All-append, All-cons, All-nil}
 use Rattle.raft_values.specs.declared.log_id.LogId.{LogId}
 use Rattle.raft_group_step.specs.StoredGroup.{StoredGroup, Snapshot, StoringCommand}
 use Rattle.raft_group_step.specs.Message.{Message}
 use Rattle.raft_engine.specs.Commands.{Command, storing_of, sending_of, stored_by, sent_by}
 use Rattle.raft_commands.specs.Output.{following_seq}
+use Rattle.raft_engine.specs.Answering.{NeedsNoOther}
 use Rattle.raft_engine.specs.Numbering.{Follow, GainsNumber, KeepsNumbers, NumbersFollow, Output, number_in, numbers_in}
 
-one_more : {X A : Type 0} (f : X → List A) (queue : List X) (c : X) → flat_map f (queue ++ c ∷ []) ≡ flat_map f queue ++ f c
+pub one_more : {X A : Type 0} (f : X → List A) (queue : List X) (c : X) → flat_map f (queue ++ c ∷ []) ≡ flat_map f queue ++ f c
 one_more f queue c = flat_map-append f queue (c ∷ []) ∙ ap (λ xs. flat_map f queue ++ xs) (append-nil (f c))
 
 module _ {C R : Type 0} (queue : List (Command C R)) (c : Command C R) where
@@ -31,6 +33,10 @@ module _ {C R : Type 0} (queue : List (Command C R)) (c : Command C R) where
   -- and its number is behind theirs
   pub numbers_more : numbers_in (queue ++ c ∷ []) ≡ numbers_in queue ++ number_in c
   numbers_more = one_more number_in queue c
+
+  -- and it waits for no others than those before it
+  pub at_once_more : (new : List (Command C R)) → new ≡ queue ++ c ∷ [] → All NeedsNoOther queue → NeedsNoOther c → All NeedsNoOther new
+  at_once_more new pushed all this = subst (All NeedsNoOther) (sym pushed) (All-append NeedsNoOther queue (c ∷ []) all (All-cons NeedsNoOther c [] this (All-nil NeedsNoOther)))
 
 -- a number that is gained once others are kept is gained in all
 pub gained_after : {C R : Type 0} (a b c : Output C R) → KeepsNumbers a b → GainsNumber b c → GainsNumber a c

@@ -1,23 +1,18 @@
 -- What holds of elections that aren't refused.
-use Rattle.std.specs.Prelude.{◌≡◌, ℕ, ◌+◌, ◌≤◌, ◌<◌, ◌^◌, ◌==◌, ◌&&◌, nat_le, not, Bool, true, false, if◌then◌else◌, List, [], ◌∷◌, filter, length, Option, Some, None}
-use Rattle.std.specs.List.{list_all}
-use Rattle.std.proofs.Common.{ap, sym, ◌∙◌, subst, arith}
-use Rattle.std.proofs.lemmas.Bool.{leb-true}
-use Rattle.std.proofs.lemmas.List.{length-map}
-use Rattle.std.proofs.lemmas.List.Sums.{count_by-le-length, length-filter}
-use Rattle.raft_quorums.specs.QuorumLaws.{and_left, and_right}
-use Rattle.raft_group_step.specs.Values.{LoggedMembership, Membership, is_valid, is_voter, is_within_limits, member_ids}
+use Rattle.std.specs.Prelude.{◌≡◌, ℕ, ◌+◌, ◌<◌, ◌^◌, true, [], ◌∷◌, None}
+use Rattle.std.proofs.Common.{ap, ◌∙◌, arith}
+use Rattle.raft_group_step.specs.Values.{Membership, is_voter}
 use Rattle.raft_group_step.specs.StoredGroup.{PutEntries, end_place, membership_in_force}
 use Rattle.raft_group_step.specs.GroupState.{GroupState}
 use Rattle.raft_group_step.specs.GroupEvent.{Call}
 use Rattle.raft_group_step.specs.declared.group_call.GroupCall.TheVariants.{Initialize, Elect}
 use Rattle.raft_group_step.specs.StepResult.{StepResult, MembershipRefused, NotAllowed, NotVoter, store}
-use Rattle.raft_group_step.specs.Lead.{ids_of}
 use Rattle.raft_group_step.specs.Refusal.{is_first_membership, is_voter_in, next_term, range_reason, refusal_of, unless}
 use Rattle.raft_group_step.specs.Initialize.{initialize_step, is_new}
+use Rattle.raft_group_step.proofs.Refusals.{unless_none as passes}
 use Rattle.raft_engine.specs.Events.{CanFinish}
-use Rattle.raft_engine.proofs.EventLemmas.{no_first_reason, passes}
-use Rattle.raft_engine.proofs.InitializeLemmas.{ends_behind_first, first_entry, membership_then}
+use Rattle.raft_engine.proofs.EventLemmas.{no_first_reason}
+use Rattle.raft_engine.proofs.InitializeLemmas.{ends_behind_first, first_entry}
 use Rattle.raft_engine.proofs.NewLeadLemmas.{elect_finishes}
 use Rattle.raft_engine.proofs.RoomLemmas.{call_accepted, first_low, low_numbers, others_low}
 
@@ -36,19 +31,7 @@ module _ (own at : ℕ) (s : GroupState) (accepted : refusal_of own s (Call Elec
       let low = low_numbers s (at ∷ next_term s ∷ end_place s.stored ∷ []) electable.0 in
       first_low (next_term s) (end_place s.stored ∷ []) (others_low at (next_term s ∷ end_place s.stored ∷ []) low)
 
-  -- the node is a voter
-  pub votes_now : is_voter_in (membership_in_force s.stored) own ≡ true
-  votes_now = passes (is_voter_in (membership_in_force s.stored) own) NotVoter electable.1
-
 -- ---- a first membership
-
-few_others : (own : ℕ) (m : LoggedMembership) → length (filter (λ n. if n == own then false else true) (ids_of (Some m))) ≤ length m.membership.nodes
-few_others own m =
-    let other : ℕ → Bool = λ n. if n == own then false else true in
-    let kept = length-filter other (member_ids m.membership) in
-    let few = count_by-le-length other (member_ids m.membership) in
-    let all = length-map m.membership.nodes (λ (x : ℕ × List ℕ). x.0) in
-    omega (arith, kept, few, all)
 
 module _ (own at : ℕ) (s : GroupState) (m : Membership) (accepted : refusal_of own s (Call (Initialize m) at) ≡ None) where
   first_known : (unless (is_first_membership m) MembershipRefused ≡ None) × (unless (is_voter m own) NotVoter ≡ None) × (unless (is_new s.stored) NotAllowed ≡ None)
@@ -68,23 +51,10 @@ module _ (own at : ℕ) (s : GroupState) (m : Membership) (accepted : refusal_of
   pub votes_in_first : is_voter m own ≡ true
   votes_in_first = passes (is_voter m own) NotVoter first_known.1
 
-  few_nodes : length m.nodes ≤ 128
-  few_nodes =
-      let fits =
-      and_right (is_valid m) (is_within_limits m)
-      (and_left (is_valid m && is_within_limits m) (not (length m.configs == 0)) (passes (is_first_membership m) MembershipRefused first_known.0)) in
-      let groups = nat_le (length m.configs) 8 && list_all (λ group. nat_le (length group) 64) m.configs in
-      leb-true (length m.nodes) 128
-      (and_right groups (nat_le (length m.nodes) 128) (and_left (groups && nat_le (length m.nodes) 128) (list_all (λ (x : ℕ × List ℕ). nat_le (length x.1) 255) m.nodes) fits))
-
   -- a node that sets up the group has room to lead at once
   pub initialize_finishes : (r : StepResult) → r.state.stored ≡ s.stored → let after = initialize_step own m r in CanFinish own after.state after.state.role
   initialize_finishes r same =
       let new : is_new r.state.stored ≡ true = ap is_new same ∙ is_new_then in
       let put = store (PutEntries 0 (first_entry m ∷ [])) r in
       let ends = ends_behind_first r.state.stored new (first_entry m) in
-      let few = few_nodes in
-      let others = few_others own (record { log_id = (first_entry m).log_id; membership = m }) in
       elect_finishes own put (omega (arith, ends))
-      (subst (λ (found : Option LoggedMembership). length (filter (λ n. if n == own then false else true) (ids_of found)) ≤ 2 ^ 62) (sym (membership_then r.state.stored new m))
-      (omega (arith, few, others)))

@@ -7,22 +7,23 @@ use Rattle.raft_values.specs.Vote.{vote_of}
 use Rattle.raft_values.specs.LogId.{next_place}
 use Rattle.raft_state.specs.LogIdList.{last_id as last_known_id}
 use Rattle.raft_quorums.specs.Quorum.{is_quorum}
-use Rattle.raft_progress.specs.Parts.{SetsValue}
 use Rattle.raft_group_step.specs.Values.{has_id}
-use Rattle.raft_group_step.specs.StoredGroup.{StoredGroup, end_place, last_id}
+use Rattle.raft_group_step.specs.StoredGroup.{StoredGroup, end_place, last_id, membership_in_force}
 use Rattle.raft_group_step.specs.GroupState.{Role, Follower, Candidate, Leader}
 use Rattle.raft_group_step.specs.Message.{VoteRequest}
 use Rattle.raft_group_step.specs.declared.vote_message.VoteRequest.{VoteRequest as Request}
 use Rattle.raft_group_step.specs.StepResult.{StepResult, in_role, send, step_down, store_vote}
 use Rattle.raft_group_step.specs.Lead.{configs_in_force, lead_if, with_grant}
 use Rattle.raft_group_step.specs.Elect.{ask, elect_step, other_voters, stand}
+use Rattle.raft_group_step.proofs.Words.{ask_state}
 use Rattle.raft_commands.specs.declared.command.Command.TheVariants.{SendVote}
+use Rattle.raft_known_state.specs.KnownState.{effective_of}
 use Rattle.raft_known_state.proofs.KnownStateLemmas.{end-known}
-use Rattle.raft_leaders.specs.Candidate.{CandidateValue, CountsBy, SaysWhoGranted, any_granted}
+use Rattle.raft_leaders.specs.Candidate.{CandidateValue, with_granter}
 use Rattle.raft_leaders.specs.Leader.{LeaderValue}
 use Rattle.raft_engine.specs.Commands.{Command, message_to}
 use Rattle.raft_engine.specs.Standing.{EffectiveMembership, Engine, Given, IsStepOf, PlaysRole, Stands}
-use Rattle.raft_engine.proofs.CandidateLemmas.{stands_more}
+use Rattle.raft_engine.proofs.CandidateLemmas.{configs_are, stands_more}
 use Rattle.raft_engine.proofs.StandingLemmas.{order_kept, queued}
 
 module _ {C R : Type 0} (x : Given) (own : ℕ) (req : Request ℕ) where
@@ -39,7 +40,7 @@ module _ {C R : Type 0} (x : Given) (own : ℕ) (req : Request ℕ) where
   asked [] e r step vote last = subst (λ q. IsStepOf x own (with_queue e q) r) (sym (append-nil e.output.queue)) step
   asked (n ∷ ns) e r step vote last =
       let one : IsStepOf x own (with_queue e (e.output.queue ++ SendVote n req ∷ [])) (send own n (VoteRequest r.state.stored.vote (last_id r.state.stored)) r) =
-      queued x own e r (SendVote n req) (message_to own n (VoteRequest r.state.stored.vote (last_id r.state.stored))) step refl refl (λ s upto. rw (vote, last) refl) in
+      queued x own e r (SendVote n req) (message_to own n (VoteRequest r.state.stored.vote (last_id r.state.stored))) step refl refl tt (λ s upto. rw (vote, last) refl) in
       subst (λ q. IsStepOf x own (with_queue e q) (ask own (n ∷ ns) r)) (append_assoc e.output.queue (SendVote n req ∷ []) (requests ns))
       (asked ns (with_queue e (e.output.queue ++ SendVote n req ∷ [])) (send own n (VoteRequest r.state.stored.vote (last_id r.state.stored)) r) one vote last)
 
@@ -84,13 +85,16 @@ module _ {C R : Type 0} (x : Given) (own : ℕ) (e : Engine C R) (r : StepResult
         sends = step.sends;
         seen = step.seen;
         numbers = step.numbers;
+        moves = step.moves;
+        at_once = step.at_once;
       }
 
   -- the place after the last log id that is known
   pub known_end : next_place (last_known_id e.state.state.log_ids) ≡ end_place r.state.stored
   known_end = ap (λ ids. next_place (last_known_id ids)) step.state.knows.ids ∙ end-known r.state.stored step.state.order.placed
 
-  module _ (c c' : CandidateValue ℕ EffectiveMembership) (n : ℕ) (there : e.candidate ≡ Some c) (sets : SetsValue nat_eq c.progress c'.progress n true) (rest : c' ≡ record c { progress = c'.progress }) where
+  module _ (c c' : CandidateValue ℕ EffectiveMembership) (n : ℕ) (there : e.candidate ≡ Some c) (notes : c'.granted_by ≡ with_granter nat_eq c.granted_by n)
+      (rest : c' ≡ record c { progress = c'.progress; granted_by = c'.granted_by }) where
     stood_before : (granters : List ℕ) × (r.state.role ≡ Candidate granters) × (e.leader ≡ None) × Stands own c r.state.stored granters
     stood_before = is_standing own e.leader c r.state.stored r.state.role (subst (λ d. PlaysRole own e.leader d r.state.stored r.state.role) there step.state.role)
 
@@ -99,16 +103,15 @@ module _ {C R : Type 0} (x : Given) (own : ℕ) (e : Engine C R) (r : StepResult
         × IsStepOf x own (record e { candidate = Some c' }) (in_role (Candidate (now_granted granters n)) r)
     noted =
         let w = stood_before in
-        let stands : Stands own c' r.state.stored (now_granted w.0 n) = stands_more own c c' r.state.stored w.0 n w.3 sets rest in
+        let stands : Stands own c' r.state.stored (now_granted w.0 n) = stands_more own n c c' r.state.stored notes rest w.0 w.3 in
         (w.0, w.1, stands, stands_now (now_granted w.0 n) c' w.2 stands)
 
--- whether the granters are a quorum
-pub counted_by : (own : ℕ) (c : CandidateValue ℕ EffectiveMembership) (s : StoredGroup) (granters : List ℕ) (answer : Bool) → Stands own c s granters
-    → ((configs : List (List ℕ)) (test : ℕ → Bool) → CountsBy (λ (m : EffectiveMembership) p. is_quorum m.membership.configs p) c.progress.quorum_set configs → SaysWhoGranted nat_eq configs c.progress test
-    → any_granted c.progress.voters ≡ true → answer ≡ is_quorum configs test)
-    → answer ≡ is_quorum (configs_in_force s) (has_id granters)
-counted_by own c s granters answer stands by_groups =
-    by_groups (configs_in_force s) (has_id granters) (λ test. ap (λ l. is_quorum l test) stands.counts) stands.granted stands.begun
+-- whether the granters are a quorum of the membership in force
+pub counted_by : (own : ℕ) (c : CandidateValue ℕ EffectiveMembership) (s : StoredGroup) (granters : List ℕ) (voters : EffectiveMembership) (answer : Bool) → Stands own c s granters
+    → voters ≡ effective_of (membership_in_force s) → answer ≡ is_quorum voters.membership.configs (has_id c.granted_by) → answer ≡ is_quorum (configs_in_force s) (has_id granters)
+counted_by own c s granters voters answer stands in_force says =
+    says ∙ ap (λ l. is_quorum l (has_id c.granted_by)) (ap (λ (m : EffectiveMembership). m.membership.configs) in_force ∙ configs_are (membership_in_force s))
+    ∙ ap (λ ids. is_quorum (configs_in_force s) (has_id ids)) stands.granted
 
 -- a grant of which it is known whether it makes a quorum
 pub granted_so : (n : ℕ) (granters : List ℕ) (r : StepResult) (answer : Bool) → r.state.role ≡ Candidate granters → answer ≡ is_quorum (configs_in_force r.state.stored) (has_id (now_granted granters n))
@@ -117,11 +120,6 @@ granted_so n granters r answer standing counts =
     ap (λ b. lead_if b (in_role (Candidate (now_granted granters n)) r)) counts ∙ ap (λ role. with_grant n role r) (sym standing)
 
 -- ---- the own grant
-
--- requests leave the state
-asked_state : (own : ℕ) (ns : List ℕ) (r : StepResult) → (ask own ns r).state ≡ r.state
-asked_state own [] r = refl
-asked_state own (n ∷ ns) r = asked_state own ns (send own n (VoteRequest r.state.stored.vote (last_id r.state.stored)) r)
 
 -- and it is all the same whether they leave before or after a change of the role
 pub asked_as : (own : ℕ) (role : Role) (ns : List ℕ) (r : StepResult) → ask own ns (in_role role r) ≡ in_role role (ask own ns r)
@@ -134,7 +132,7 @@ module _ (own : ℕ) (r : StepResult) where
   own_vote = vote_of (r.state.stored.vote.leader_id.term + 1) own false
 
   pub stood_state : (stand own r).state ≡ (in_role (Candidate []) (store_vote own_vote (step_down r))).state
-  stood_state = asked_state own (other_voters own r.state.stored) (in_role (Candidate []) (store_vote own_vote (step_down r)))
+  stood_state = ask_state own (other_voters own r.state.stored) (in_role (Candidate []) (store_vote own_vote (step_down r)))
 
   -- the own grant, counted before the others are asked
   pub stood_granted : ask own (other_voters own r.state.stored) (in_role (Candidate (own ∷ [])) (store_vote own_vote (step_down r))) ≡ in_role (Candidate (own ∷ [])) (stand own r)

@@ -10,6 +10,10 @@ use Rattle.raft_group_step.specs.StepResult.{StepResult, RefusalReason, unchange
 use Rattle.raft_group_step.specs.Refusal.{first_of_reasons, refusal_of, unless}
 use Rattle.raft_group_step.specs.GroupStep.{begun, event_step, finished, step_unless}
 use Rattle.raft_engine.specs.Numbering.{Follow, numbers_in}
+use Rattle.raft_engine.specs.Committing.{Moves, moves_in}
+use Rattle.raft_engine.specs.Answering.{NeedsNoOther}
+use Rattle.std.specs.List.{All}
+use Rattle.std.proofs.lemmas.List.Elements.{All-nil}
 use Rattle.raft_engine.specs.Commands.{sent_by, stored_by}
 use Rattle.raft_engine.specs.Standing.{Engine, Given, IsInOrder, IsStateOf, IsStepOf, IsWholeStepOf, given}
 use Rattle.raft_engine.specs.Events.{HasTaken, MayTake, given_after, received, tells_greater_log}
@@ -45,6 +49,8 @@ module _ {C R : Type 0} (x : Snapshot) (own : ℕ) (e : Engine C R) (s : GroupSt
         sends = λ stored upto. ap (sent_by own stored upto) empty;
         seen = refl;
         numbers = subst (λ queue. Follow e.output.last_sm_seq (numbers_in queue) e.output.last_sm_seq) (sym empty) refl;
+        moves = subst (λ queue. Moves e.state.state.committed (moves_in queue) e.state.state.committed) (sym empty) refl;
+        at_once = subst (All NeedsNoOther) (sym empty) (All-nil NeedsNoOther);
       }
 
 -- and so as an event begins
@@ -82,6 +88,8 @@ knowing x own e r seen h =
       sends = h.sends;
       seen = refl;
       numbers = h.numbers;
+      moves = h.moves;
+      at_once = h.at_once;
     }
 
 module _ {C R : Type 0} (x : Snapshot) (own peer at : ℕ) (e e' : Engine C R) (s : GroupState) (body : MessageBody) (may : MayTake own e s (received own peer body at))
@@ -94,14 +102,14 @@ module _ {C R : Type 0} (x : Snapshot) (own peer at : ℕ) (e e' : Engine C R) (
   told_taken e'' told noted =
       event_taken x own e e'' s (received own peer body at) may
       (subst (λ y. IsWholeStepOf (given_after x e s (received own peer body at)) own y done) (sym noted)
-      (subst (λ b. IsWholeStepOf (record { snapshot = x; seen_greater_log = b || e.seen_greater_log; last_sm_seq = e.output.last_sm_seq }) own (record e' { seen_greater_log = true }) done) (sym told)
+      (subst (λ b. IsWholeStepOf (record (given x e) { seen_greater_log = b || e.seen_greater_log }) own (record e' { seen_greater_log = true }) done) (sym told)
       (knowing (given x e) own e' done true whole)))
 
   -- it has told of none
   pub untold_taken : tells_greater_log s body ≡ false → HasTaken x own e e' s (received own peer body at)
   untold_taken untold =
       event_taken x own e e' s (received own peer body at) may
-      (subst (λ b. IsWholeStepOf (record { snapshot = x; seen_greater_log = b || e.seen_greater_log; last_sm_seq = e.output.last_sm_seq }) own e' done) (sym untold) whole)
+      (subst (λ b. IsWholeStepOf (record (given x e) { seen_greater_log = b || e.seen_greater_log }) own e' done) (sym untold) whole)
 
 -- ---- what holds of an event that isn't refused
 
@@ -109,8 +117,3 @@ module _ {C R : Type 0} (x : Snapshot) (own peer at : ℕ) (e e' : Engine C R) (
 pub no_first_reason : (reason : Option RefusalReason) (rest : List (Option RefusalReason)) → first_of_reasons (reason ∷ rest) ≡ None → (reason ≡ None) × (first_of_reasons rest ≡ None)
 no_first_reason None rest e = (refl, e)
 no_first_reason (Some why) rest e = absurd (let no : Some why ≡ None = e in cc)
-
--- the test of a reason that doesn't count is passed
-pub passes : (test : Bool) (why : RefusalReason) → unless test why ≡ None → test ≡ true
-passes true why e = refl
-passes false why e = absurd (let no : Some why ≡ None = e in cc)

@@ -5,7 +5,6 @@ use Rattle.raft_values.specs.declared.log_id.LogId.{LogId}
 use Rattle.raft_values.specs.LogId.{next_place}
 use Rattle.raft_known_state.specs.KnownState.{IsPlaced}
 use Rattle.raft_leaders.specs.Candidate.{CandidateValue}
-use Rattle.raft_group_step.specs.Values.{LoggedMembership}
 use Rattle.raft_group_step.specs.StoredGroup.{StoredGroup, end_place, entry_at, id_of}
 use Rattle.raft_group_step.specs.GroupState.{GroupState, Lead, Role, Follower, Candidate, Leader}
 use Rattle.raft_group_step.specs.StepResult.{StepResult}
@@ -13,7 +12,6 @@ use Rattle.raft_group_step.specs.Peer.{is_kept_for_peers}
 use Rattle.raft_group_step.specs.Lead.{commit_as_leader, ids_of, other_ids, purge_as_wished, purge_up_to, remove_up_to, with_wish}
 use Rattle.raft_group_step.specs.Frames.{has_grown, with_frames}
 use Rattle.raft_group_step.specs.GroupStep.{finished}
-use Rattle.raft_engine.specs.Purging.{MayBePurged}
 use Rattle.raft_engine.specs.Sending.{HasRoomFor, NumbersLeft}
 use Rattle.raft_engine.specs.Standing.{EffectiveMembership, PlaysRole}
 use Rattle.raft_engine.specs.Events.{HasLeadRoom}
@@ -33,61 +31,33 @@ finished_unled own before c s r h =
 
 -- ---- committing leaves what is stored, the role and the wish
 
-pub commit_keeps_stored : (own : ℕ) (role : Role) (r : StepResult) → (commit_as_leader own role r).state.stored ≡ r.state.stored
-commit_keeps_stored own Follower r = refl
-commit_keeps_stored own (Candidate granters) r = refl
-commit_keeps_stored own (Leader lead) r = refl
-
-pub commit_keeps_role : (own : ℕ) (role : Role) (r : StepResult) → (commit_as_leader own role r).state.role ≡ r.state.role
-commit_keeps_role own Follower r = refl
-commit_keeps_role own (Candidate granters) r = refl
-commit_keeps_role own (Leader lead) r = refl
-
 pub commit_keeps_wish : (own : ℕ) (role : Role) (r : StepResult) → (commit_as_leader own role r).state.wish ≡ r.state.wish
 commit_keeps_wish own Follower r = refl
 commit_keeps_wish own (Candidate granters) r = refl
 commit_keeps_wish own (Leader lead) r = refl
 
--- ---- purging leaves the role, the end of the log and the members
+-- ---- purging leaves the role and the end of the log
 
-pub removing_keeps_role : (id : Option (LogId ℕ)) (r : StepResult) → (remove_up_to id r).state.role ≡ r.state.role
-removing_keeps_role None r = refl
-removing_keeps_role (Some id) r = refl
-
-pub purge_keeps_role : (role : Role) (wish : Option ℕ) (r : StepResult) → (purge_as_wished role wish r).state.role ≡ r.state.role
-purge_keeps_role Follower wish r = refl
-purge_keeps_role (Candidate granters) wish r = refl
-purge_keeps_role (Leader lead) None r = refl
-purge_keeps_role (Leader lead) (Some place) r =
-    elim (is_kept_for_peers place lead.peers) as (λ b. (if b then r else purge_up_to place (with_wish None r)).state.role ≡ r.state.role) [
-      | true ↦ refl
-      | false ↦ removing_keeps_role (id_of (entry_at r.state.stored place)) (with_wish None r)
-    ]
-
-pub wished_keeps : (role : Role) (wish : Option ℕ) (r : StepResult) → IsPlaced r.state.stored → ((place : ℕ) → wish ≡ Some place → MayBePurged place r.state.stored)
+pub wished_keeps : (role : Role) (wish : Option ℕ) (r : StepResult) → IsPlaced r.state.stored
     → KeepsStanding r.state.stored (purge_as_wished role wish r).state.stored
-wished_keeps Follower wish r p may = record { vote = refl; last = refl; members = refl }
-wished_keeps (Candidate granters) wish r p may = record { vote = refl; last = refl; members = refl }
-wished_keeps (Leader lead) None r p may = record { vote = refl; last = refl; members = refl }
-wished_keeps (Leader lead) (Some place) r p may =
+wished_keeps Follower wish r p = record { vote = refl; last = refl }
+wished_keeps (Candidate granters) wish r p = record { vote = refl; last = refl }
+wished_keeps (Leader lead) None r p = record { vote = refl; last = refl }
+wished_keeps (Leader lead) (Some place) r p =
     elim (is_kept_for_peers place lead.peers) as (λ b. KeepsStanding r.state.stored (if b then r else purge_up_to place (with_wish None r)).state.stored) [
-      | true ↦ record { vote = refl; last = refl; members = refl }
-      | false ↦ purge_keeps place (with_wish None r) p (may place refl)
+      | true ↦ record { vote = refl; last = refl }
+      | false ↦ purge_keeps place (with_wish None r) p
     ]
 
 -- ---- room for what is sent
 
-abbrev others_of : ℕ → Option LoggedMembership → List ℕ
-others_of own m = filter (λ n. if n == own then false else true) (ids_of m)
-
 -- a leader that had room has room for a request to each other member
 pub room_for_frames : (own : ℕ) (lead : Lead) (s s' : GroupState) → HasLeadRoom own s lead → IsPlaced s.stored → IsPlaced s'.stored → KeepsStanding s.stored s'.stored
-    → s'.role ≡ Leader lead → HasRoomFor (length (other_ids own s'.stored)) s'
+    → s'.role ≡ Leader lead → HasRoomFor (2 ^ 63) s'
 room_for_frames own lead s s' room p p' keeps role =
     let ends : end_place s'.stored ≡ end_place s.stored = sym (end-last s'.stored p') ∙ ap next_place keeps.last ∙ end-last s.stored p in
     let places = room.places in
-    let members : other_ids own s'.stored ≡ other_ids own s.stored = ap (others_of own) keeps.members in
     record {
       places = let fits : end_place s.stored < 2 ^ 64 = omega arith in subst (λ n. n < 2 ^ 64) (sym ends) fits;
-      numbers = subst (λ k. NumbersLeft k s'.role) (ap length (sym members)) (subst (NumbersLeft (length (other_ids own s.stored))) (sym role) room.numbers);
+      numbers = subst (NumbersLeft (2 ^ 63)) (sym role) (λ n. let low = room.numbers n in omega arith);
     }

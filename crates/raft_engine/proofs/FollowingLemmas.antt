@@ -20,7 +20,10 @@ use Rattle.raft_engine.specs.Numbering.{number_in}
 use Rattle.raft_engine.specs.Commands.{Command, put_all, storing_of, sending_of}
 use Rattle.raft_engine.specs.Standing.{Engine, Given, IsInOrder, IsStateOf, IsStepOf, PlaysRole}
 use Rattle.raft_messages.specs.Entries.{all_go_on}
-use Rattle.raft_engine.proofs.CommandLemmas.{numbers_gained, numbers_kept, sends_same, stores_more, stores_same}
+use Rattle.raft_engine.proofs.CommandLemmas.{at_once_more, numbers_gained, numbers_kept, sends_same, stores_more, stores_same}
+use Rattle.raft_engine.proofs.CommittingLemmas.{moves_gained, moves_kept, unmoved}
+use Rattle.raft_engine.specs.Committing.{Applies, moves_of}
+use Rattle.raft_engine.specs.Answering.{NeedsNoOther}
 use Rattle.raft_engine.proofs.StandingLemmas.{still_follows}
 use Rattle.raft_engine.proofs.PlacedEntries.{HasEntry, has_entry, id_of_place, none_behind, with_log, id_below_cut, id_before_more, end_of_cut, end_of_any_cut, taken, behind, placed_go_on}
 
@@ -145,9 +148,6 @@ either_way : (b : Bool) (c : StoringCommand) (r : StepResult) → ((if b then st
 either_way true c r = (refl, refl)
 either_way false c r = (refl, refl)
 
-pub cut_keeps_role : (place : ℕ) (r : StepResult) → (cut_from place r).state.role ≡ r.state.role
-cut_keeps_role place r = (either_way (is_some (entry_at r.state.stored place)) (CutFrom place) r).0
-
 -- past what is committed and up to its end, the log ends where it is cut
 pub cut_ends : (r : StepResult) (place : ℕ) → IsInOrder r.state → is_within place r.state.committed ≡ false → place ≤ end_place r.state.stored → end_place (cut_from place r).state.stored ≡ place
 cut_ends r place o past l =
@@ -189,9 +189,9 @@ module _ {C R : Type 0} (x : Given) (own : ℕ) (e e' : Engine C R) (r : StepRes
   -- a follower's log changes behind what is committed
   pub log_stored : (c : StoringCommand) (d : Command C R) → r.state.role ≡ Follower → Knows e'.state (after_storing c r.state.stored) → KeepsRest e.state e'.state
       → IsInOrder (with_stored r.state (after_storing c r.state.stored)) → committed_id (with_stored r.state (after_storing c r.state.stored)) ≡ committed_id r.state
-      → e'.output ≡ record e.output { queue = e.output.queue ++ d ∷ [] } → storing_of x.snapshot d ≡ c ∷ [] → number_in d ≡ []
+      → e'.output ≡ record e.output { queue = e.output.queue ++ d ∷ [] } → storing_of x.snapshot d ≡ c ∷ [] → number_in d ≡ [] → NeedsNoOther d
       → ((s : StoredGroup) (upto : Option (LogId ℕ)) → sending_of own s upto d ≡ []) → IsStepOf x own e' (store c r)
-  log_stored c d follows knows keeps order same output stores silent sends =
+  log_stored c d follows knows keeps order same output stores silent needs sends =
       let old = step.state in
       let queue = ap (λ (o : Output C (List ℕ) R ℕ (List ℕ)). o.queue) output in
       record {
@@ -208,6 +208,8 @@ module _ {C R : Type 0} (x : Given) (own : ℕ) (e e' : Engine C R) (r : StepRes
         sends = λ s upto. ap (λ q. flat_map (sending_of own s upto) q) queue ∙ sends_same e.output.queue d own s upto r.messages (step.sends s upto) (sends s upto);
         seen = seen ∙ step.seen;
         numbers = numbers_kept x.last_sm_seq e.output e'.output d step.numbers output silent;
+        moves = moves_kept x.committed_before e.state.state.committed e'.state.state.committed e.output.queue e'.output.queue step.moves d queue (unmoved d silent) keeps.committed;
+        at_once = at_once_more e.output.queue d e'.output.queue queue step.at_once needs;
       }
 
 -- nothing is committed that wasn't
@@ -236,6 +238,8 @@ none_committed x own e r place step same =
       sends = step.sends;
       seen = step.seen;
       numbers = step.numbers;
+      moves = step.moves;
+      at_once = step.at_once;
     }
 
 module _ {C R : Type 0} (x : Given) (own : ℕ) (e e' : Engine C R) (r : StepResult) (step : IsStepOf x own e r) where
@@ -243,10 +247,10 @@ module _ {C R : Type 0} (x : Given) (own : ℕ) (e e' : Engine C R) (r : StepRes
   pub more_committed : (place : ℕ) (id : LogId ℕ) (d : Command C R) → e'.config ≡ e.config → e'.seen_greater_log ≡ e.seen_greater_log → e'.leader ≡ e.leader → e'.candidate ≡ e.candidate
       → e'.state ≡ record e.state { state = record e.state.state { committed = Some id } }
       → is_within place r.state.committed ≡ false → place < end_place r.state.stored → Some id ≡ id_at r.state.stored place
-      → e'.output ≡ record { queue = e.output.queue ++ d ∷ []; last_sm_seq = following_seq e.output.last_sm_seq } → storing_of x.snapshot d ≡ [] → number_in d ≡ following_seq e.output.last_sm_seq ∷ []
+      → e'.output ≡ record { queue = e.output.queue ++ d ∷ []; last_sm_seq = following_seq e.output.last_sm_seq } → storing_of x.snapshot d ≡ [] → number_in d ≡ following_seq e.output.last_sm_seq ∷ [] → moves_of d ≡ Applies e.state.state.committed id ∷ [] → NeedsNoOther d
       → ((s : StoredGroup) (upto : Option (LogId ℕ)) → sending_of own s upto d ≡ [])
       → IsStepOf x own e' (apply_up_to (Some place) r)
-  more_committed place id d config seen leader candidate state past within found output stores next_number sends =
+  more_committed place id d config seen leader candidate state past within found output stores next_number moves needs sends =
       let old = step.state in
       let queue = ap (λ (o : Output C (List ℕ) R ℕ (List ℕ)). o.queue) output in
       let later : later_place r.state.committed (Some place) ≡ Some place = later_more r.state.committed place past in
@@ -283,4 +287,9 @@ module _ {C R : Type 0} (x : Given) (own : ℕ) (e e' : Engine C R) (r : StepRes
         sends = λ s upto. ap (λ q. flat_map (sending_of own s upto) q) queue ∙ sends_same e.output.queue d own s upto r.messages (step.sends s upto) (sends s upto);
         seen = seen ∙ step.seen;
         numbers = numbers_gained x.last_sm_seq e.output e'.output d step.numbers output next_number;
+        moves =
+            let goes_on : next_place e.state.state.committed ≤ id.index = subst (λ c. next_place c ≤ id.index) (sym old.committed) (omega arith) in
+            moves_gained x.committed_before e.state.state.committed e'.state.state.committed e.output.queue e'.output.queue step.moves d queue (Applies e.state.state.committed id) moves
+            (refl, goes_on, ap (λ (y : KnownState). y.state.committed) state);
+        at_once = at_once_more e.output.queue d e'.output.queue queue step.at_once needs;
       }

@@ -83,14 +83,6 @@ module _ (s : StoredGroup) (new : is_new s ≡ true) where
   pub room_after : (e : Entry) → end_place (after_storing (PutEntries 0 (e ∷ [])) s) < 2 ^ 63
   room_after e = let end = ends_behind_first e in omega (arith, end)
 
-  pub membership_then : (m : Membership) → membership_in_force (after_storing (PutEntries 0 (first_entry m ∷ [])) s) ≡ Some (record { log_id = log_id_of 0 0 0; membership = m })
-  membership_then m = ap (λ log. last_membership (option_and_then (λ (x : Snapshot). x.membership) s.snapshot) log) (log_after (first_entry m ∷ []))
-
-  -- the membership of the first entry is in force
-  pub votes_then : (m : Membership) (own : ℕ) → is_voter m own ≡ true → is_voter_in (membership_in_force (after_storing (PutEntries 0 (first_entry m ∷ [])) s)) own ≡ true
-  votes_then m own votes =
-      ap (λ log. is_voter_in (last_membership (option_and_then (λ (x : Snapshot). x.membership) s.snapshot) log) own) (log_after (first_entry m ∷ [])) ∙ votes
-
 -- nothing is committed in a new group
 pub none_committed : (s : GroupState) → IsInOrder s → is_new s.stored ≡ true → is_within 0 s.committed ≡ false
 none_committed s o new = ap (is_within 0) (sym o.committed ∙ no_place (committed_id s) (subst (λ n. next_place (committed_id s) ≤ n) (ends_at_start s.stored new) o.within))

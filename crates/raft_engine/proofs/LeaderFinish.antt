@@ -8,7 +8,7 @@ use Rattle.raft_values.specs.LogId.{next_place}
 use Rattle.raft_state.specs.declared.entry.EntryPayload.TheVariants.{Normal, Membership as Members}
 use Rattle.raft_group_step.specs.Values.{ChangeMembers, EntryPayload, LoggedMembership, Membership, after_change, is_valid, is_within_limits, configs_eq, membership_after, vote_eq, vote_lt}
 use Rattle.raft_group_step.specs.StoredGroup.{end_place, entry_at, first_place, id_of, membership_in_force, snapshot_last}
-use Rattle.raft_group_step.specs.Message.{ReplyFields, ReplyResult, Success, Conflict, HigherVote}
+use Rattle.raft_group_step.specs.Message.{ReplyFields, ReplyResult, Success, PartialSuccess, Conflict, HigherVote}
 use Rattle.raft_group_step.specs.Peer.{PeerState, is_answer_to, new_peer, peer_or}
 use Rattle.raft_group_step.specs.GroupState.{GroupState, Lead, Role, Follower, Candidate, Leader, is_leader}
 use Rattle.raft_group_step.specs.declared.group_call.GroupCall.TheVariants.{ChangeMembership, Propose}
@@ -22,19 +22,17 @@ use Rattle.raft_group_step.specs.Propose.{append_with_token, propose_step}
 use Rattle.raft_group_step.specs.MembershipStep.{append_changed, membership_step}
 use Rattle.raft_group_step.specs.Heartbeat.{beat_as}
 use Rattle.raft_group_step.specs.Lost.{lost_as}
-use Rattle.raft_group_step.specs.Reply.{after_answer, answered, ended, reply_step, with_higher_vote}
+use Rattle.raft_group_step.specs.Reply.{accepted_up_to, after_answer, answered, ended, is_part_of, reply_step, with_higher_vote}
 use Rattle.raft_group_step.specs.PurgeTrigger.{purge_as, purge_trigger_step, purge_within}
-use Rattle.raft_known_state.specs.KnownState.{others}
-use Rattle.raft_engine.specs.Purging.{MayBePurged}
-use Rattle.raft_engine.specs.Standing.{IsInOrder}
+use Rattle.raft_group_step.proofs.Words.{removing_keeps_role}
+use Rattle.raft_group_step.proofs.Peers.{answer_keeps_peer}
+use Rattle.raft_group_step.proofs.Refusals.{unless_none as passes}
 use Rattle.raft_engine.specs.Events.{CanFinish, HasLeadRoom, IsReady}
 use Rattle.raft_engine.proofs.AppendLemmas.{with_token}
-use Rattle.raft_engine.proofs.EventLemmas.{no_first_reason, passes}
-use Rattle.raft_engine.proofs.FinishLemmas.{removing_keeps_role}
+use Rattle.raft_engine.proofs.EventLemmas.{no_first_reason}
 use Rattle.raft_engine.proofs.ReplicationLemmas.{told_state}
-use Rattle.raft_engine.proofs.RoomLemmas.{back_low, call_accepted, first_low, front_low, lead_accepted, low_next_id, low_numbers, others_low, ready_wish, room_with_peer}
-use Rattle.raft_engine.proofs.RoomToGrow.{few_others, room_appended}
-use Rattle.raft_engine.proofs.StandingLemmas.{order_kept}
+use Rattle.raft_engine.proofs.RoomLemmas.{back_low, call_accepted, first_low, front_low, lead_accepted, low_numbers, others_low, room_kept, room_when_ready, room_with_peer}
+use Rattle.raft_engine.proofs.RoomToGrow.{room_appended}
 
 -- there is room for what a leader does after the step
 abbrev pub Finishes : ℕ → StepResult → Type 0
@@ -42,21 +40,17 @@ Finishes own r = CanFinish own r.state r.state.role
 
 -- ---- a leader appends
 
-module _ (own at token : ℕ) (s : GroupState) (lead : Lead) (is_lead : s.role ≡ Leader lead) (ready : IsReady own s) (order : IsInOrder s)
+module _ (own at token : ℕ) (s : GroupState) (lead : Lead) (is_lead : s.role ≡ Leader lead) (ready : IsReady own s)
     (range : range_reason s (at ∷ end_place s.stored ∷ []) ≡ None) where
-  -- an entry with few members, or those in force, leaves room
-  pub finish_appended : (payload : EntryPayload) → ((id : LogId ℕ) → length (others own (ids_of (membership_after (membership_in_force s.stored) id payload))) ≤ 2 ^ 62)
-      → CanFinish own (append_with_token payload token (begun at s)).state s.role
-  finish_appended payload few =
+  -- an entry leaves room
+  pub finish_appended : (payload : EntryPayload) → CanFinish own (append_with_token payload token (begun at s)).state s.role
+  finish_appended payload =
       let r = with_token token (begun at s) in
       let low : end_place s.stored < 2 ^ 62 = first_low (end_place s.stored) [] (others_low at (end_place s.stored ∷ []) (low_numbers s (at ∷ end_place s.stored ∷ []) range)) in
       subst (CanFinish own (append_with_token payload token (begun at s)).state) (sym is_lead)
-      (room_appended own r lead payload (order_kept s s.stored.vote r.state.now s.role s.renewed s.wish r.state.untold order) (omega arith)
-      (λ n. let next = low_next_id s lead (at ∷ end_place s.stored ∷ []) is_lead range n in
-      let members = few (record { leader_id = s.stored.vote.leader_id; index = end_place s.stored }) in omega arith)
-      (ready_wish own s ready))
+      (room_appended own r lead payload (omega arith) (room_kept own s r.state lead refl refl (room_when_ready own s lead (at ∷ end_place s.stored ∷ []) ready is_lead range)))
 
-module _ (own at token : ℕ) (s : GroupState) (ready : IsReady own s) (order : IsInOrder s) where
+module _ (own at token : ℕ) (s : GroupState) (ready : IsReady own s) where
   module _ (command : List ℕ) (accepted : refusal_of own s (Call (Propose command token) at) ≡ None) where
     propose_range : first_of_reasons (range_reason s (at ∷ end_place s.stored ∷ []) ∷ lead_reason s ∷ []) ≡ None
     propose_range =
@@ -71,9 +65,8 @@ module _ (own at token : ℕ) (s : GroupState) (ready : IsReady own s) (order : 
 
     pub finish_proposed : CanFinish own (propose_step command token (begun at s)).state s.role
     finish_proposed =
-        finish_appended own at token s proposes.0 proposes.1 ready order
+        finish_appended own at token s proposes.0 proposes.1 ready
         (no_first_reason (range_reason s (at ∷ end_place s.stored ∷ [])) (lead_reason s ∷ []) propose_range).0 (Normal command)
-        (λ id. ready.members)
 
   module _ (change : ChangeMembers) (m : LoggedMembership) (in_force : membership_in_force s.stored ≡ Some m)
       (accepted : refusal_of own s (Call (ChangeMembership change token) at) ≡ None) where
@@ -98,23 +91,10 @@ module _ (own at token : ℕ) (s : GroupState) (ready : IsReady own s) (order : 
     pub changes : (lead : Lead) × (s.role ≡ Leader lead)
     changes = lead_accepted s by_leader.0
 
-    fair : first_of_reasons (change_reasons m.membership changed) ≡ None
-    fair =
-        subst (λ found. first_of_reasons (reasons_of_change found change) ≡ None) in_force
-        (no_first_reason settled (reasons_of_change (membership_in_force s.stored) change) by_leader.1).1
-
-    within_limits : is_within_limits changed ≡ true
-    within_limits =
-        and_right (is_valid changed) (is_within_limits changed)
-        (passes (is_valid changed && is_within_limits changed) MembershipRefused
-        (no_first_reason (unless (is_valid changed && is_within_limits changed) MembershipRefused)
-        (unless (configs_eq m.membership.configs changed.configs) VoterChange ∷ []) fair).0)
-
     pub finish_changed : Finishes own (membership_step change token (begun at s))
     finish_changed =
-        let few = few_others own changed within_limits in
         subst (λ found. Finishes own (append_changed found change token (begun at s))) (sym in_force)
-        (finish_appended own at token s changes.0 changes.1 ready order in_range.0 (Members changed) (λ id. omega (arith, few)))
+        (finish_appended own at token s changes.0 changes.1 ready in_range.0 (Members changed))
 
 -- ---- what is known of a peer
 
@@ -147,13 +127,13 @@ lost_finishes own n (Leader lead) r e can =
 pub finish_lost : (own n : ℕ) (r : StepResult) → Finishes own r → Finishes own (lost_as n r.state.role r)
 finish_lost own n r can = lost_finishes own n r.state.role r refl can
 
-answer_keeps_peer : (p : PeerState) (reply : ReplyFields) (outcome : ReplyResult) → (after_answer p reply outcome).peer ≡ p.peer
-answer_keeps_peer p reply Success = refl
-answer_keeps_peer p reply Conflict = refl
-answer_keeps_peer p reply (HigherVote vote) = refl
-
 answer_keeps_number : (p : PeerState) (reply : ReplyFields) (outcome : ReplyResult) → (after_answer p reply outcome).next_id ≡ p.next_id
 answer_keeps_number p reply Success = refl
+answer_keeps_number p reply (PartialSuccess last) =
+    elim (is_part_of p reply last) as (λ b. (if b then accepted_up_to last p else ended p).next_id ≡ p.next_id) [
+      | true ↦ refl
+      | false ↦ refl
+    ]
 answer_keeps_number p reply Conflict = refl
 answer_keeps_number p reply (HigherVote vote) = refl
 
@@ -171,6 +151,7 @@ answer_finishes own n reply (Leader lead) r e can =
 
 judge_finishes : (own : ℕ) (outcome : ReplyResult) (r : StepResult) → Finishes own r → Finishes own (with_higher_vote outcome r)
 judge_finishes own Success r can = can
+judge_finishes own (PartialSuccess last) r can = can
 judge_finishes own Conflict r can = can
 judge_finishes own (HigherVote vote) r can =
     elim (vote_lt r.state.stored.vote vote) as (λ b. Finishes own (if b then store_vote vote (step_down r) else r)) [
@@ -219,7 +200,7 @@ module _ (own : ℕ) (r : StepResult) (ready : IsReady own r.state) where
       record {
         places = room.places;
         numbers = room.numbers;
-        wish = λ place e. ready.purges place (wish_later r.state.wish n ready.wish l place e);
+        wish = wish_later r.state.wish n ready.wish l;
       }
 
   purge_finishes : (n : ℕ) (role : Role) → r.state.role ≡ role → n < next_place (snapshot_last r.state.stored) → Finishes own r
@@ -244,10 +225,6 @@ module _ (own : ℕ) (r : StepResult) (ready : IsReady own r.state) where
   -- a purge leaves room
   pub finish_purged : (place : ℕ) → Finishes own r → Finishes own (purge_trigger_step place r)
   finish_purged place can = within_finishes place (snapshot_last r.state.stored) refl can
-
-  -- what a purge is asked for may go
-  pub purge_asked : (place : ℕ) (last : LogId ℕ) → snapshot_last r.state.stored ≡ Some last → MayBePurged (min place last.index) r.state.stored
-  purge_asked place last e = ready.purges (min place last.index) (subst (λ found. min place last.index < next_place found) (sym e) (omega arith))
 
 -- ---- what a reply says
 

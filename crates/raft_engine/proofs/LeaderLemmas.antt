@@ -27,7 +27,8 @@ use Rattle.raft_leaders.specs.Candidate.{CandidateValue}
 use Rattle.raft_commands.specs.Output.{Output}
 use Rattle.raft_engine.specs.Commands.{storing_of, sending_of}
 use Rattle.raft_engine.specs.Standing.{EffectiveMembership, Engine, Given, IsStepOf, Leads, PlaysRole, peer_state}
-use Rattle.raft_engine.proofs.CommandLemmas.{numbers_kept, sends_same, stores_more, stores_same}
+use Rattle.raft_engine.proofs.CommandLemmas.{at_once_more, numbers_kept, sends_same, stores_more, stores_same}
+use Rattle.raft_engine.proofs.CommittingLemmas.{moves_kept}
 use Rattle.raft_engine.proofs.StandingLemmas.{order_kept}
 use Rattle.raft_engine.proofs.LastIdLemmas.{last_of_leader}
 use Rattle.raft_engine.proofs.MemberLemmas.{all_with, all_alike, has_each, voter_or_learner}
@@ -43,7 +44,7 @@ module _ (k : KnownState) (s : StoredGroup) (known : Knows k s) (placed : IsPlac
   pub end_of_log : end_of keys ≡ end_place s
   end_of_log = ap (λ ids. next_place (last_id ids)) keys_are ∙ ap next_place (last_of_leader nat_cmp k.state.log_ids) ∙ ap (λ ids. next_place (last_id ids)) known.ids ∙ end-known s placed
 
-has_member : (m : Option LoggedMembership) (n : ℕ) → has_id (ids_of m) n ≡ true
+pub has_member : (m : Option LoggedMembership) (n : ℕ) → has_id (ids_of m) n ≡ true
     → (has_id (voter_ids nat_cmp (effective_of m).membership.configs) n || has_id (learner_ids nat_eq (effective_of m).membership.configs (effective_of m).membership.nodes) n) ≡ true
 has_member None n h = cc h
 has_member (Some m) n h = voter_or_learner m.membership.configs m.membership.nodes n h
@@ -120,5 +121,10 @@ module _ {C R : Type 0} (x : Given) (own : ℕ) (e e' : Engine C R) (r : StepRes
             ∙ sends_same (e.output.queue ++ SaveVote vote ∷ []) BecomeLeader own t upto r.messages (sends_same e.output.queue (SaveVote vote) own t upto r.messages (step.sends t upto) refl) refl;
         seen = seen ∙ step.seen;
         numbers = numbers_kept x.last_sm_seq voting e'.output BecomeLeader (numbers_kept x.last_sm_seq e.output voting (SaveVote vote) step.numbers refl refl) output refl;
+        moves =
+            moves_kept x.committed_before e.state.state.committed e'.state.state.committed voting.queue e'.output.queue
+            (moves_kept x.committed_before e.state.state.committed e.state.state.committed e.output.queue voting.queue step.moves (SaveVote vote) refl refl refl)
+            BecomeLeader queue refl (ap (λ (y : StateOf). y.committed) state);
+        at_once = at_once_more voting.queue BecomeLeader e'.output.queue queue (at_once_more e.output.queue (SaveVote vote) voting.queue refl step.at_once tt) tt;
       } in
       subst (λ v. IsStepOf x own e' (in_role (Leader (new_lead s)) (store_vote v r))) voted begun

@@ -1,4 +1,5 @@
 pub mod CommandLemmas
+pub mod CommittingLemmas
 pub mod StandingLemmas
 pub mod PeersLemmas
 pub mod ReplicationLemmas
@@ -28,6 +29,5 @@ pub mod NewLeadLemmas
 pub mod ElectionEvents
 pub mod OpeningLemmas
 pub mod ReceivedLemmas
-pub mod LastMembership
 pub mod BuildingLemmas
 pub mod HandlerLemmas

@@ -14,10 +14,10 @@ use Rattle.raft_group_step.specs.StepResult.{StepResult, is_within}
 use Rattle.raft_group_step.specs.Message.{last_sent}
 use Rattle.raft_group_step.specs.AppendRequest.{above_committed, cut_from, is_held, lesser_place, missing_entries, put_entries}
 use Rattle.raft_group_step.specs.Refusal.{do_follow}
+use Rattle.raft_group_step.proofs.EntryPlaces.{in_log_within}
 use Rattle.raft_known_state.specs.KnownState.{ArePlaced}
 use Rattle.raft_engine.specs.Standing.{IsInOrder}
 use Rattle.raft_engine.specs.Following.{EndsWithin, unheld_entries}
-use Rattle.raft_engine.proofs.PlacedEntries.{in_log_within}
 use Rattle.raft_engine.proofs.FollowingLemmas.{cut_ends, end_past, within_log}
 
 -- ---- entries that follow

@@ -23,9 +23,7 @@ pub ready : (own : ℕ) → IsReady own (state_of new_group)
 ready own =
     record {
       places = let l : 0 ≤ 2 ^ 62 = omega arith in l;
-      members = let l : 0 ≤ 2 ^ 62 = omega arith in l;
       wish = λ place e. absurd (none-some _ e);
-      purges = λ place l. absurd (let k : place < 0 = l in omega arith);
     }
 
 module _ {C R : Type 0} (own : ℕ) (e : Engine C R) where

@@ -1,95 +1,59 @@
 -- A lead that begins has room for the end of the event.
-use Rattle.std.specs.Prelude.{◌≡◌, ℕ, zero, suc, ◌+◌, ◌-◌, ◌≤◌, ◌^◌, ◌==◌, ◌&&◌, filter, Bool, true, false, if◌then◌else◌, List, [], ◌∷◌, ◌++◌, length, drop, Option, Some, None, option_and_then, refl}
+use Rattle.std.specs.Prelude.{◌≡◌, ℕ, ◌≤◌, ◌<◌, ◌^◌, ◌&&◌, Bool, true, false, if◌then◌else◌, List, [], ◌∷◌, ◌++◌, Some, None, refl}
 use Rattle.std.specs.List.{list_any}
 use Rattle.std.proofs.Common.{ap, sym, ◌∙◌, subst, arith, length-append}
 use Rattle.raft_values.specs.declared.vote.Vote.{Vote}
 use Rattle.raft_values.specs.declared.log_id.LogId.{LogId}
+use Rattle.raft_values.specs.LogId.{next_place}
 use Rattle.raft_state.specs.declared.entry.EntryPayload.TheVariants.{Blank}
 use Rattle.raft_quorums.specs.Quorum.{is_quorum}
-use Rattle.raft_group_step.specs.Values.{Entry, LoggedMembership, entry_of, has_id, is_written_by, last_membership, membership_after, vote_eq, vote_lt}
-use Rattle.raft_group_step.specs.StoredGroup.{StoredGroup, Snapshot, end_place, first_place, membership_in_force}
+use Rattle.raft_group_step.specs.Values.{entry_of, has_id, is_written_by, vote_eq, vote_lt}
+use Rattle.raft_group_step.specs.StoredGroup.{StoredGroup, end_place, snapshot_last}
 use Rattle.raft_group_step.specs.GroupState.{GroupState, Role, Follower, Candidate, Leader, Lead}
 use Rattle.raft_group_step.specs.StepResult.{StepResult, append, in_role, step_down, store_vote}
-use Rattle.raft_group_step.specs.Lead.{append_blank, committed_vote, configs_in_force, ids_of, lead_if, other_ids, with_grant}
+use Rattle.raft_group_step.specs.Lead.{append_blank, committed_vote, configs_in_force, lead_if, with_grant}
 use Rattle.raft_group_step.specs.Elect.{elect_step, stand}
 use Rattle.raft_group_step.specs.VoteReply.{counted, vote_reply_step}
 use Rattle.raft_known_state.proofs.KnownStateLemmas.{log_whole}
-use Rattle.raft_engine.specs.Purging.{MayBePurged}
 use Rattle.raft_engine.specs.Events.{CanFinish, HasLeadRoom, IsReady}
 use Rattle.raft_engine.proofs.ElectionLemmas.{stood_state}
 
--- ---- a blank entry changes no membership
+-- ---- a blank entry
 
-nothing_left : (n : ℕ) → drop n (let es : List Entry = [] in es) ≡ []
-nothing_left zero = refl
-nothing_left (suc n) = refl
-
-blank_changes_none : (before : Option LoggedMembership) (es : List Entry) (n : ℕ) (id : LogId ℕ)
-    → last_membership before (drop n (es ++ entry_of id Blank ∷ [])) ≡ last_membership before (drop n es)
-blank_changes_none before [] zero id = refl
-blank_changes_none before [] (suc n) id = ap (last_membership before) (nothing_left n)
-blank_changes_none before (e ∷ es) zero id = blank_changes_none (membership_after before e.log_id e.payload) es zero id
-blank_changes_none before (e ∷ es) (suc n) id = blank_changes_none before es n id
-
-module _ (s : StoredGroup) (id : LogId ℕ) where
-  abbrev pub with_blank : StoredGroup
-  with_blank = record s { log = s.log ++ entry_of id Blank ∷ [] }
-
-  pub members_under_blank : membership_in_force with_blank ≡ membership_in_force s
-  members_under_blank = blank_changes_none (option_and_then (λ (x : Snapshot). x.membership) s.snapshot) s.log 0 id
-
-  -- what may be purged still may
-  pub purges_under_blank : (place : ℕ) → MayBePurged place s → MayBePurged place with_blank
-  purges_under_blank place may =
-      record {
-        within = may.within;
-        members =
-            blank_changes_none (option_and_then (λ (x : Snapshot). x.membership) s.snapshot) s.log (place + 1 - first_place s) id
-            ∙ may.members ∙ sym members_under_blank;
-      }
-
--- and so under another vote
-purges_under_vote : (s : StoredGroup) (vote : Vote ℕ) (place : ℕ) → MayBePurged place s → MayBePurged place (record s { vote = vote })
-purges_under_vote s vote place may = record { within = may.within; members = may.members }
+abbrev pub with_blank : StoredGroup → LogId ℕ → StoredGroup
+with_blank s id = record s { log = s.log ++ entry_of id Blank ∷ [] }
 
 -- ---- a lead that begins
 
--- places and members are few, and what is wished to be purged may go
+-- places are low, and what is wished to be purged the snapshot has
 pub record MayLead (own : ℕ) (s : GroupState) : Type 0 where
   pub places : end_place s.stored ≤ 2 ^ 62
-  pub members : length (other_ids own s.stored) ≤ 2 ^ 62
-  pub wish : (place : ℕ) → s.wish ≡ Some place → MayBePurged place s.stored
+  pub wish : (place : ℕ) → s.wish ≡ Some place → place < next_place (snapshot_last s.stored)
 
 -- so may a group that is ready, at each moment
 pub ready_leads : (own now : ℕ) (s : GroupState) → IsReady own s → MayLead own (record s { now = now })
-ready_leads own now s ready = record { places = ready.places; members = ready.members; wish = λ place e. ready.purges place (ready.wish place e) }
+ready_leads own now s ready = record { places = ready.places; wish = ready.wish }
 
 -- a lead without peers
 abbrev lead_from : ℕ → Lead
 lead_from began = record { began = began; peers = [] }
-
-abbrev count_others : ℕ → Option LoggedMembership → ℕ
-count_others own m = length (filter (λ n. if n == own then false else true) (ids_of m))
 
 module _ (own began : ℕ) where
   -- of no peer anything is known yet
   pub room_at_start : (s : GroupState) → MayLead own s → HasLeadRoom own s (lead_from began)
   room_at_start s may =
       let places = may.places in
-      let members = may.members in
       record { places = omega arith; numbers = λ n. omega arith; wish = may.wish }
 
   -- and so behind a blank entry
   room_with_blank : (s : GroupState) (id : LogId ℕ) → MayLead own s → HasLeadRoom own (record s { stored = with_blank s.stored id }) (lead_from began)
   room_with_blank s id may =
       let places = may.places in
-      let members = may.members in
       let longer = length-append s.stored.log (entry_of id Blank ∷ []) in
-      let same : length (other_ids own (with_blank s.stored id)) ≡ length (other_ids own s.stored) = ap (count_others own) (members_under_blank s.stored id) in
       record {
         places = omega (arith, longer, places);
-        numbers = λ n. omega (arith, same, members);
-        wish = λ place e. purges_under_blank s.stored id place (may.wish place e);
+        numbers = λ n. omega arith;
+        wish = may.wish;
       }
 
   -- a leader that writes a blank entry, unless it has written one
@@ -98,7 +62,7 @@ module _ (own began : ℕ) where
       let led = in_role (Leader (lead_from began)) r in
       let s = r.state.stored in
       let id : LogId ℕ = record { leader_id = s.vote.leader_id; index = end_place s } in
-      let may_led : MayLead own led.state = record { places = may.places; members = may.members; wish = may.wish } in
+      let may_led : MayLead own led.state = record { places = may.places; wish = may.wish } in
       elim (list_any (is_written_by s.vote.leader_id) s.log) as (λ b. CanFinish own (if b then led else append Blank led).state (if b then led else append Blank led).state.role) [
         | true ↦ room_at_start led.state may_led
         | false ↦
@@ -113,7 +77,7 @@ lead_finishes own granters r false may = tt
 lead_finishes own granters r true may =
     let s = r.state.stored in
     blank_finishes own (end_place s) (store_vote (committed_vote s.vote) (in_role (Candidate granters) r))
-    (record { places = may.places; members = may.members; wish = λ place e. purges_under_vote s (committed_vote s.vote) place (may.wish place e) })
+    (record { places = may.places; wish = may.wish })
 
 -- a candidate that one more voter grants its vote, or a node that doesn't stand and goes on
 pub grant_finishes : (own n : ℕ) (role : Role) (r : StepResult) → r.state.role ≡ role → MayLead own r.state → CanFinish own r.state role
@@ -125,13 +89,13 @@ grant_finishes own n (Candidate granters) r e may can =
 grant_finishes own n (Leader lead) r e may can = subst (CanFinish own r.state) (sym e) can
 
 -- a node that stands for election, and leads where its own grant is a quorum
-pub elect_finishes : (own : ℕ) (r : StepResult) → end_place r.state.stored ≤ 2 ^ 62 → length (other_ids own r.state.stored) ≤ 2 ^ 62
+pub elect_finishes : (own : ℕ) (r : StepResult) → end_place r.state.stored ≤ 2 ^ 62
     → let after = elect_step own r in CanFinish own after.state after.state.role
-elect_finishes own r places members =
+elect_finishes own r places =
     let stood = stand own r in
     let may : MayLead own stood.state =
     subst (MayLead own) (sym (stood_state own r))
-    (record { places = places; members = members; wish = λ place e. absurd (let no : None ≡ Some place = e in cc) }) in
+    (record { places = places; wish = λ place e. absurd (let no : None ≡ Some place = e in cc) }) in
     grant_finishes own own stood.state.role stood refl may (subst (λ (s : GroupState). CanFinish own s s.role) (sym (stood_state own r)) tt)
 
 -- an answer to a candidate, or to a node that goes on

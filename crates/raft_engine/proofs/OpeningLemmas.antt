@@ -21,7 +21,8 @@ use Rattle.raft_engine.specs.Commands.{sending_of, storing_of}
 use Rattle.raft_engine.specs.Events.{CanFinish, IsReady}
 use Rattle.raft_engine.specs.Leading.{leads_by}
 use Rattle.raft_engine.specs.Standing.{EffectiveMembership, Engine, Given, IsStepOf, Leads, PlaysRole}
-use Rattle.raft_engine.proofs.CommandLemmas.{numbers_kept, sends_same, stores_same}
+use Rattle.raft_engine.proofs.CommandLemmas.{at_once_more, numbers_kept, sends_same, stores_same}
+use Rattle.raft_engine.proofs.CommittingLemmas.{moves_kept}
 use Rattle.raft_engine.proofs.NewLeadLemmas.{room_at_start}
 use Rattle.raft_engine.proofs.StandingLemmas.{order_kept}
 
@@ -56,6 +57,8 @@ module _ {C R : Type 0} (x : Given) (own : ℕ) (e e' : Engine C R) (r : StepRes
         sends = λ t upto. ap (λ q. flat_map (sending_of own t upto) q) queue ∙ sends_same e.output.queue BecomeLeader own t upto r.messages (step.sends t upto) refl;
         seen = seen ∙ step.seen;
         numbers = numbers_kept x.last_sm_seq e.output e'.output BecomeLeader step.numbers output refl;
+        moves = moves_kept x.committed_before e.state.state.committed e'.state.state.committed e.output.queue e'.output.queue step.moves BecomeLeader queue refl (ap (λ (y : KnownState). y.state.committed) state);
+        at_once = at_once_more e.output.queue BecomeLeader e'.output.queue queue step.at_once tt;
       }
 
 -- ---- whose vote it is
@@ -89,6 +92,6 @@ resume_finishes own s ready follows =
     elim (leads_by s.stored.vote own) as (λ b. CanFinish own (if b then led else unchanged s).state (if b then led else unchanged s).state.role) [
       | true ↦
           room_at_start own (end_place s.stored) led.state
-          (record { places = ready.places; members = ready.members; wish = λ place e. ready.purges place (ready.wish place e) })
+          (record { places = ready.places; wish = ready.wish })
       | false ↦ subst (CanFinish own s) (sym follows) tt
     ]

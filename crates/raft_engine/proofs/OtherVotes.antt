@@ -14,12 +14,7 @@ use Rattle.raft_leaders.specs.Leader.{LeaderValue}
 use Rattle.raft_engine.specs.Standing.{EffectiveMembership, Engine, Given, IsStepOf, Leads, PlaysRole, Stands}
 use Rattle.raft_engine.specs.Following.{IsVoteOfAnother}
 use Rattle.raft_group_step.specs.StoredGroup.{StoredGroup}
-
-less_is : (x y : ℕ) → x < y → nat_cmp x y ≡ Less
-less_is x y l = cond-true (nat_lt x y) _ _ (lt-ltb x y l)
-
-same_is : (x y : ℕ) → x ≡ y → nat_cmp x y ≡ Equal
-same_is x y e = cond-false (nat_lt x y) _ _ (le-ltb x y (omega arith)) ∙ cond-true (x == y) _ _ (eq-eqb x y e)
+use Rattle.raft_group_step.proofs.Votes.{less_is, not_below_itself, of_one_leader, same_is}
 
 below_by_term : (a b : Vote ℕ) → a.leader_id.term < b.leader_id.term → vote_lt a b ≡ true
 below_by_term a b l =
@@ -28,18 +23,6 @@ below_by_term a b l =
 below_by_node : (a b : Vote ℕ) → a.leader_id.term ≡ b.leader_id.term → a.leader_id.node_id < b.leader_id.node_id → vote_lt a b ≡ true
 below_by_node a b e l =
     ap₂ (λ o p. is_lt (ordering_then (ordering_then o p) (bool_cmp a.committed b.committed))) (same_is a.leader_id.term b.leader_id.term e) (less_is a.leader_id.node_id b.leader_id.node_id l)
-
-of_one_leader : (a b : Vote ℕ) → a.leader_id.term ≡ b.leader_id.term → a.leader_id.node_id ≡ b.leader_id.node_id → vote_lt a b ≡ is_lt (bool_cmp a.committed b.committed)
-of_one_leader a b e f =
-    ap₂ (λ o p. is_lt (ordering_then (ordering_then o p) (bool_cmp a.committed b.committed))) (same_is a.leader_id.term b.leader_id.term e) (same_is a.leader_id.node_id b.leader_id.node_id f)
-
--- a vote isn't below itself
-pub not_below_itself : (a : Vote ℕ) → vote_lt a a ≡ false
-not_below_itself a = of_one_leader a a refl refl ∙ flags a.committed
-  where
-    flags : (c : Bool) → is_lt (bool_cmp c c) ≡ false
-    flags true = refl
-    flags false = refl
 
 -- of two votes that aren't below one another
 pub record AreLevel (a b : Vote ℕ) : Type 0 where

@@ -19,6 +19,7 @@ use Rattle.raft_leaders.specs.Leader.{LeaderValue, peer_at, unknown_peer}
 use Rattle.raft_group_step.specs.StoredGroup.{StoredGroup}
 use Rattle.raft_group_step.specs.Peer.{PeerState, is_kept_for_peers, needs_below, new_peer, peer_or, with_peer}
 use Rattle.raft_group_step.specs.GroupState.{Lead}
+use Rattle.raft_group_step.proofs.Peers.{with_peer-found, with_peer-others}
 use Rattle.raft_engine.specs.Standing.{EffectiveMembership, IsBelowPeer, Leads, PeersRise, outstanding_of, peer_state}
 
 -- tests of which each passes where the other does
@@ -26,38 +27,6 @@ pub same_tests : (a b : Bool) → (a ≡ true → b ≡ true) → (b ≡ true �
 same_tests true b f g = sym (f refl)
 same_tests false true f g = g refl
 same_tests false false f g = refl
-
--- the peer among the others is found there
-pub with_peer-found : (p d : PeerState) (peers : List PeerState) → p.peer ≡ d.peer → peer_or d (with_peer p peers) ≡ p
-with_peer-found p d [] e = let t : (p.peer == d.peer) ≡ true = grind (arith, nat_tests, e) in rw t refl
-with_peer-found p d (x ∷ xs) e =
-    let t : (p.peer == d.peer) ≡ true = grind (arith, nat_tests, e) in
-    elim (x.peer == p.peer) as (λ b. (x.peer == p.peer) ≡ b
-    → peer_or d (if b then p ∷ xs else if nat_lt p.peer x.peer then p ∷ x ∷ xs else x ∷ with_peer p xs) ≡ p) [
-      | true ↦ λ _. rw t refl
-      | false ↦ λ f.
-          let other : (x.peer == d.peer) ≡ false = ap (λ n. x.peer == n) (sym e) ∙ f in
-          elim (nat_lt p.peer x.peer) as (λ b. peer_or d (if b then p ∷ x ∷ xs else x ∷ with_peer p xs) ≡ p) [
-            | true ↦ rw t refl
-            | false ↦ rw other (with_peer-found p d xs e)
-          ]
-    ] refl
-
--- and each other one is what it was
-pub with_peer-others : (p d : PeerState) (peers : List PeerState) → (p.peer == d.peer) ≡ false → peer_or d (with_peer p peers) ≡ peer_or d peers
-with_peer-others p d [] f = rw f refl
-with_peer-others p d (x ∷ xs) f =
-    elim (x.peer == p.peer) as (λ b. (x.peer == p.peer) ≡ b
-    → peer_or d (if b then p ∷ xs else if nat_lt p.peer x.peer then p ∷ x ∷ xs else x ∷ with_peer p xs) ≡ (if x.peer == d.peer then x else peer_or d xs)) [
-      | true ↦ λ t.
-          let other : (x.peer == d.peer) ≡ false = ap (λ n. n == d.peer) (eqb-true x.peer p.peer t) ∙ f in
-          rw (f, other) refl
-      | false ↦ λ _.
-          elim (nat_lt p.peer x.peer) as (λ b. peer_or d (if b then p ∷ x ∷ xs else x ∷ with_peer p xs) ≡ (if x.peer == d.peer then x else peer_or d xs)) [
-            | true ↦ rw f refl
-            | false ↦ ap (λ q. if x.peer == d.peer then x else q) (with_peer-others p d xs f)
-          ]
-    ] refl
 
 below-with_peer : (n : ℕ) (p : PeerState) (peers : List PeerState) → n < p.peer → IsBelowPeer n peers → IsBelowPeer n (with_peer p peers)
 below-with_peer n p [] l h = l

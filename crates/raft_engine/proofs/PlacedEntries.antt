@@ -9,6 +9,7 @@ use Rattle.raft_values.specs.LogId.{next_place}
 use Rattle.raft_state.specs.LogIdList.{AllGoOn}
 use Rattle.raft_group_step.specs.Values.{Entry}
 use Rattle.raft_group_step.specs.StoredGroup.{StoredGroup, first_place, end_place, entry_at, id_of, id_at, is_id, has_id_in_log, log_below}
+use Rattle.raft_group_step.proofs.EntryPlaces.{entry_within}
 use Rattle.raft_known_state.specs.KnownState.{ArePlaced, IsPlaced, entry_ids}
 use Rattle.raft_known_state.proofs.PlacedIds.{by_order}
 use Rattle.raft_messages.specs.Entries.{all_go_on, goes_on}
@@ -93,14 +94,6 @@ has_entry s place p l m = found (slice_get s.log (place - first_place s)) refl
         let g : e.log_id.index ≡ first_place s + (place - first_place s) = found_at s.log (first_place s) (place - first_place s) e p f in
         record { entry = e; there = entry_from s place l ∙ f; id = id_from s place l ∙ ap id_of (entry_from s place l ∙ f); index = omega arith }
 
--- an entry of the log stands between its first place and its end
-pub entry_within : (s : StoredGroup) (place : ℕ) (e : Entry) → entry_at s place ≡ Some e → (first_place s ≤ place) × (place < end_place s)
-entry_within s place e f =
-    by_order place (first_place s)
-    (λ l. let below : nat_lt place (first_place s) ≡ true = grind (arith, nat_tests, l) in
-    let none : None ≡ Some e = ap (λ b. if b then None else slice_get s.log (place - first_place s)) (sym below) ∙ f in cc)
-    (λ l. let g : place - first_place s < length s.log = some_within s.log (place - first_place s) e (sym (entry_from s place l) ∙ f) in (l, omega arith))
-
 -- behind the log there is none
 pub none_behind : (s : StoredGroup) (place : ℕ) → end_place s ≤ place → is_some (entry_at s place) ≡ false
 none_behind s place l = found (entry_at s place) refl
@@ -108,14 +101,6 @@ none_behind s place l = found (entry_at s place) refl
     found : (e : Option Entry) → entry_at s place ≡ e → is_some (entry_at s place) ≡ false
     found None f = ap is_some f
     found (Some e) f = let g : place < end_place s = (entry_within s place e f).1 in absurd (omega arith)
-
--- an entry in the log stands before its end
-pub in_log_within : (s : StoredGroup) (id : LogId ℕ) → has_id_in_log s id ≡ true → id.index < end_place s
-in_log_within s id h = found (entry_at s id.index) refl
-  where
-    found : (e : Option Entry) → entry_at s id.index ≡ e → id.index < end_place s
-    found None f = let no : false ≡ true = ap (λ x. is_id id (id_of x)) (sym f) ∙ h in cc
-    found (Some e) f = (entry_within s id.index e f).1
 
 -- the log id that was found says whether an entry stands at its place
 pub entry_of_id : (s : StoredGroup) (place : ℕ) (found : Option (LogId ℕ)) → first_place s ≤ place → found ≡ id_at s place → is_some (entry_at s place) ≡ is_some found

@@ -8,36 +8,39 @@ use Rattle.raft_values.specs.declared.vote.Vote.{Vote}
 use Rattle.raft_values.specs.declared.utime.UTime.{UTime}
 use Rattle.raft_values.specs.declared.log_id.LogId.{LogId}
 use Rattle.raft_values.specs.LogId.{next_place, place_of}
-use Rattle.raft_group_step.specs.Values.{Entry, has_id, last_membership}
+use Rattle.raft_group_step.specs.Values.{Entry}
 use Rattle.raft_group_step.specs.StoredGroup.{StoredGroup, Snapshot, RemoveUpTo, after_storing, end_place, entry_at, first_place, id_at, id_of, last_id, membership_in_force, snapshot_last}
 use Rattle.raft_group_step.specs.GroupState.{GroupState, Role, Follower, Candidate, Leader, Lead}
 use Rattle.raft_group_step.specs.StepResult.{StepResult, later_place, store, with_stored}
-use Rattle.raft_group_step.specs.Lead.{configs_of, ids_of, purge_as_wished, purge_up_to, remove_up_to, with_wish}
+use Rattle.raft_group_step.specs.Lead.{purge_as_wished, purge_up_to, remove_up_to, with_wish}
 use Rattle.raft_group_step.specs.PurgeTrigger.{purge_as, purge_trigger_step, purge_within}
 use Rattle.raft_group_step.specs.Peer.{is_kept_for_peers}
 use Rattle.raft_group_step.specs.Frames.{committed_id}
+use Rattle.raft_group_step.proofs.EntryPlaces.{entry_within}
 use Rattle.raft_known_state.specs.KnownState.{ArePlaced, IsEntryOrPast, IsPlaced, KeepsRest, Knows, SnapshotMeta, meta_of}
 use Rattle.raft_known_state.proofs.PlacedIds.{by_order}
 use Rattle.raft_commands.specs.declared.command.Command.TheVariants.{PurgeLog}
-use Rattle.raft_progress.specs.Parts.{has_value}
-use Rattle.raft_leaders.specs.Candidate.{CandidateValue, SaysWhoGranted}
+use Rattle.raft_leaders.specs.Candidate.{CandidateValue}
 use Rattle.raft_leaders.specs.Leader.{LeaderValue}
 use Rattle.raft_commands.specs.Output.{Output}
 use Rattle.raft_engine.specs.Commands.{storing_of, sending_of}
-use Rattle.raft_engine.specs.Purging.{MayBePurged}
-use Rattle.raft_engine.specs.Standing.{EffectiveMembership, Engine, Given, IsInOrder, IsStepOf, Leads, PlaysRole, Stands}
+use Rattle.raft_engine.specs.Leading.{CountsBy, CountsOn}
+use Rattle.raft_engine.specs.Standing.{EffectiveMembership, Engine, Given, IsInOrder, IsStepOf, Leads, PlaysRole, Stands, peer_state}
 use Rattle.raft_engine.proofs.AppendLemmas.{next_of_place}
-use Rattle.raft_engine.proofs.CommandLemmas.{numbers_kept, sends_same, stores_more}
+use Rattle.raft_engine.proofs.CommandLemmas.{at_once_more, numbers_kept, sends_same, stores_more}
+use Rattle.raft_engine.proofs.CommittingLemmas.{moves_kept}
 use Rattle.raft_engine.proofs.StandingLemmas.{order_kept}
-use Rattle.raft_engine.proofs.PlacedEntries.{HasEntry, dropped, entry_within, has_entry, get_of_dropped}
+use Rattle.raft_engine.proofs.PlacedEntries.{HasEntry, dropped, has_entry, get_of_dropped}
 
 -- ---- the part that a node plays
 
--- the vote, the last log id and the membership in force stay
+-- the vote and the last log id stay
 pub record KeepsStanding (s s' : StoredGroup) : Type 0 where
   pub vote : s'.vote ≡ s.vote
   pub last : last_id s' ≡ last_id s
-  pub members : membership_in_force s' ≡ membership_in_force s
+
+abbrev LeaderOf : Type 0
+LeaderOf = LeaderValue ℕ EffectiveMembership
 
 stands_on : (own : ℕ) (c : CandidateValue ℕ EffectiveMembership) (s s' : StoredGroup) (granters : List ℕ) → KeepsStanding s s' → Stands own c s granters → Stands own c s' granters
 stands_on own c s s' granters k h =
@@ -45,36 +48,36 @@ stands_on own c s s' granters k h =
       vote = h.vote ∙ sym k.vote;
       is_own = ap (λ (v : Vote ℕ). v.leader_id.node_id) k.vote ∙ h.is_own;
       uncommitted = ap (λ (v : Vote ℕ). v.committed) k.vote ∙ h.uncommitted;
-      counts = h.counts ∙ ap configs_of (sym k.members);
-      granted = subst (λ m. SaysWhoGranted nat_eq (configs_of m) c.progress (has_id granters)) (sym k.members) h.granted;
-      begun = h.begun;
+      granted = h.granted;
     }
 
-leads_on : (own : ℕ) (l : LeaderValue ℕ EffectiveMembership) (s s' : StoredGroup) (lead : Lead) → KeepsStanding s s' → Leads own l s lead → Leads own l s' lead
-leads_on own l s s' lead k h =
+leads_on : (own : ℕ) (l l' : LeaderOf) (s s' : StoredGroup) (lead : Lead) → KeepsStanding s s' → CountsBy (membership_in_force s') l l' → Leads own l s lead → Leads own l' s' lead
+leads_on own l l' s s' lead k counts h =
     record {
-      vote = h.vote ∙ sym k.vote;
+      vote = ap (λ (y : LeaderOf). y.vote) counts.rest ∙ h.vote ∙ sym k.vote;
       is_own = ap (λ (v : Vote ℕ). v.leader_id.node_id) k.vote ∙ h.is_own;
       committed = ap (λ (v : Vote ℕ). v.committed) k.vote ∙ h.committed;
-      last = h.last ∙ sym k.last;
-      began = h.began;
-      peers = h.peers;
+      last = ap (λ (y : LeaderOf). y.last_log_id) counts.rest ∙ h.last ∙ sym k.last;
+      began = ap (λ (y : LeaderOf). y.began) counts.rest ∙ h.began;
+      peers = λ n. h.peers n ∙ ap (peer_state n) (sym (counts.peers n));
       rising = h.rising;
-      members = subst (λ m. (n : ℕ) → has_id (ids_of m) n ≡ true → has_value nat_eq l.progress n ≡ true) (sym k.members) h.members;
+      members = counts.members;
     }
 
--- a node plays on where these stay
-pub plays_on : (own : ℕ) (l : Option (LeaderValue ℕ EffectiveMembership)) (c : Option (CandidateValue ℕ EffectiveMembership)) (s s' : StoredGroup) (role : Role)
-    → KeepsStanding s s' → PlaysRole own l c s role → PlaysRole own l c s' role
-plays_on own None None s s' Follower k h = tt
-plays_on own None (Some c) s s' Follower k h = absurd h
-plays_on own (Some l) c s s' Follower k h = absurd h
-plays_on own None None s s' (Candidate granters) k h = absurd h
-plays_on own None (Some c) s s' (Candidate granters) k h = stands_on own c s s' granters k h
-plays_on own (Some l) c s s' (Candidate granters) k h = absurd h
-plays_on own None c s s' (Leader lead) k h = absurd h
-plays_on own (Some l) None s s' (Leader lead) k h = leads_on own l s s' lead k h
-plays_on own (Some l) (Some c) s s' (Leader lead) k h = absurd h
+-- a node plays on where these stay, whatever membership is in force then
+pub plays_on : (own : ℕ) (l l' : Option LeaderOf) (c : Option (CandidateValue ℕ EffectiveMembership)) (s s' : StoredGroup) (role : Role)
+    → KeepsStanding s s' → CountsOn (membership_in_force s') l l' → PlaysRole own l c s role → PlaysRole own l' c s' role
+plays_on own None None None s s' Follower k o h = tt
+plays_on own None None (Some c) s s' Follower k o h = absurd h
+plays_on own None None None s s' (Candidate granters) k o h = absurd h
+plays_on own None None (Some c) s s' (Candidate granters) k o h = stands_on own c s s' granters k h
+plays_on own None None c s s' (Leader lead) k o h = absurd h
+plays_on own None (Some l') c s s' role k o h = absurd o
+plays_on own (Some l) None c s s' role k o h = absurd o
+plays_on own (Some l) (Some l') c s s' Follower k o h = absurd h
+plays_on own (Some l) (Some l') c s s' (Candidate granters) k o h = absurd h
+plays_on own (Some l) (Some l') None s s' (Leader lead) k o h = leads_on own l l' s s' lead k o h
+plays_on own (Some l) (Some l') (Some c) s s' (Leader lead) k o h = absurd h
 
 -- ---- the log without its first entries
 
@@ -173,20 +176,19 @@ is_of_entry s place id p h e =
     }
 
 module _ {C R : Type 0} (x : Given) (own : ℕ) (e e' : Engine C R) (r : StepResult) (step : IsStepOf x own e r) (place : ℕ) (upto : LogId ℕ) (entrys : IsOfEntry r.state.stored place upto) where
-  pub purged_to : MayBePurged place r.state.stored → e'.config ≡ e.config → e'.seen_greater_log ≡ e.seen_greater_log → e'.leader ≡ e.leader → e'.candidate ≡ e.candidate
+  pub purged_to : place < next_place (snapshot_last r.state.stored) → e'.config ≡ e.config → e'.seen_greater_log ≡ e.seen_greater_log
+      → CountsOn (membership_in_force (after_storing (RemoveUpTo upto) r.state.stored)) e.leader e'.leader → e'.candidate ≡ e.candidate
       → Knows e'.state (after_storing (RemoveUpTo upto) r.state.stored) → KeepsRest e.state e'.state → e'.output ≡ record e.output { queue = e.output.queue ++ PurgeLog upto ∷ [] }
       → IsStepOf x own e' (purge_up_to place r)
   purged_to may config seen leader candidate knows rest output =
       let old = step.state in
       let queue = ap (λ (o : Output C (List ℕ) R ℕ (List ℕ)). o.queue) output in
       let s = r.state.stored in
-      let covered : upto.index < next_place (snapshot_last s) = subst (λ n. n < next_place (snapshot_last s)) (sym entrys.index) may.within in
+      let covered : upto.index < next_place (snapshot_last s) = subst (λ n. n < next_place (snapshot_last s)) (sym entrys.index) may in
       let standing : KeepsStanding s (after_storing (RemoveUpTo upto) s) =
       record {
         vote = refl;
         last = last_stays s upto old.order.placed entrys.above entrys.within entrys.found;
-        members =
-            ap (λ n. last_membership (option_and_then (λ (y : Snapshot). y.membership) s.snapshot) (drop (n + 1 - first_place s) s.log)) entrys.index ∙ may.members;
       } in
       let purges : IsStepOf x own e' (store (RemoveUpTo upto) r) =
       record {
@@ -197,14 +199,16 @@ module _ {C R : Type 0} (x : Given) (own : ℕ) (e e' : Engine C R) (r : StepRes
           committed = rest.committed ∙ old.committed ∙ sym (committed_left r.state old.order upto entrys.above entrys.within entrys.found covered);
           wish = ap place_of rest.purge_upto ∙ old.wish;
           role =
-              plays_on own e'.leader e'.candidate s (after_storing (RemoveUpTo upto) s) r.state.role standing
-              (subst (λ l. PlaysRole own l e'.candidate s r.state.role) (sym leader) (subst (λ c. PlaysRole own e.leader c s r.state.role) (sym candidate) old.role));
+              plays_on own e.leader e'.leader e'.candidate s (after_storing (RemoveUpTo upto) s) r.state.role standing leader
+              (subst (λ c. PlaysRole own e.leader c s r.state.role) (sym candidate) old.role);
           order = order_left r.state old.order upto entrys.above entrys.within entrys.found covered;
         };
         stores = ap (λ q. flat_map (storing_of x.snapshot) q) queue ∙ stores_more e.output.queue (PurgeLog upto) x.snapshot r.commands (RemoveUpTo upto ∷ []) step.stores refl;
         sends = λ t places. ap (λ q. flat_map (sending_of own t places) q) queue ∙ sends_same e.output.queue (PurgeLog upto) own t places r.messages (step.sends t places) refl;
         seen = seen ∙ step.seen;
         numbers = numbers_kept x.last_sm_seq e.output e'.output (PurgeLog upto) step.numbers output refl;
+        moves = moves_kept x.committed_before e.state.state.committed e'.state.state.committed e.output.queue e'.output.queue step.moves (PurgeLog upto) queue refl rest.committed;
+        at_once = at_once_more e.output.queue (PurgeLog upto) e'.output.queue queue step.at_once tt;
       } in
       subst (IsStepOf x own e') (ap (λ found. remove_up_to found r) (sym entrys.there)) purges
 
@@ -220,10 +224,10 @@ none_to_purge place r h = ap (λ found. remove_up_to found r) (none (entry_at r.
     none None g = refl
     none (Some e) g = cc g
 
--- the vote, the last log id and the membership in force stay when the log is purged
-module _ (place : ℕ) (r : StepResult) (placed : IsPlaced r.state.stored) (may : MayBePurged place r.state.stored) where
+-- the vote and the last log id stay when the log is purged
+module _ (place : ℕ) (r : StepResult) (placed : IsPlaced r.state.stored) where
   keeps_if : (e : Option Entry) → entry_at r.state.stored place ≡ e → KeepsStanding r.state.stored (remove_up_to (id_of e) r).state.stored
-  keeps_if None f = record { vote = refl; last = refl; members = refl }
+  keeps_if None f = record { vote = refl; last = refl }
   keeps_if (Some e) f =
       let s = r.state.stored in
       let some = ap is_some f in
@@ -235,8 +239,6 @@ module _ (place : ℕ) (r : StepResult) (placed : IsPlaced r.state.stored) (may 
       (record {
         vote = refl;
         last = last_stays s has.entry.log_id placed entrys.above entrys.within entrys.found;
-        members =
-            ap (λ n. last_membership (option_and_then (λ (y : Snapshot). y.membership) s.snapshot) (drop (n + 1 - first_place s) s.log)) entrys.index ∙ may.members;
       })
 
   pub purge_keeps : KeepsStanding r.state.stored (purge_up_to place r).state.stored
@@ -264,6 +266,8 @@ wished x own e e' r step wish upto same is =
       sends = step.sends;
       seen = step.seen;
       numbers = step.numbers;
+      moves = step.moves;
+      at_once = step.at_once;
     } in
     subst (λ y. IsStepOf x own y (with_wish wish r)) (sym same) other
 

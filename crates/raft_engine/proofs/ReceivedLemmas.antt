@@ -14,11 +14,12 @@ use Rattle.raft_group_step.specs.AppendRequest.{above_committed, append_request_
 use Rattle.raft_group_step.specs.SnapshotRequest.{install_unless, offered, snapshot_request_step}
 use Rattle.raft_group_step.specs.Refusal.{do_follow, has_known_snapshot, keep_voters, is_of_leader, is_right_party, is_sound, next_blank, numbers_of, range_reason, refusal_of, unknown_group, unless}
 use Rattle.raft_group_step.specs.GroupStep.{begun}
+use Rattle.raft_group_step.proofs.Words.{cut_keeps_role, installing_keeps_role, joined_keeps_role}
+use Rattle.raft_group_step.proofs.Refusals.{unless_none as passes}
 use Rattle.raft_engine.specs.Events.{CanFinish, IsReady, received}
 use Rattle.raft_engine.specs.Following.{IsVoteOfAnother}
 use Rattle.raft_engine.specs.Standing.{Engine, Given, IsStepOf}
-use Rattle.raft_engine.proofs.EventLemmas.{no_first_reason, passes}
-use Rattle.raft_engine.proofs.FollowingLemmas.{cut_keeps_role}
+use Rattle.raft_engine.proofs.EventLemmas.{no_first_reason}
 use Rattle.raft_engine.proofs.OtherVotes.{follows_after}
 use Rattle.raft_engine.proofs.RoomLemmas.{can_finish_when_ready, room_kept}
 use Rattle.raft_engine.proofs.SnapshotLemmas.{cut_other_keeps}
@@ -74,22 +75,6 @@ sound_snapshot own peer vote id x at s e =
     of_another own peer vote another a.0
 
 -- ---- the words on a follower's log leave the role
-
-cut_at_keeps_role : (previous : Option (LogId ℕ)) (r : StepResult) → (cut_at previous r).state.role ≡ r.state.role
-cut_at_keeps_role None r = refl
-cut_at_keeps_role (Some id) r = cut_keeps_role id.index r
-
-put_keeps_role : (es : List Entry) (r : StepResult) → (put_entries es r).state.role ≡ r.state.role
-put_keeps_role [] r = refl
-put_keeps_role (e ∷ es) r = cut_keeps_role e.log_id.index r
-
-joined_keeps_role : (own peer : ℕ) (m : AppendFields) (b : Bool) (r : StepResult) → (joined own peer m b r).state.role ≡ r.state.role
-joined_keeps_role own peer m true r = put_keeps_role (missing_entries r.state.stored (above_committed r.state.committed m.entries)) r
-joined_keeps_role own peer m false r = cut_at_keeps_role m.previous r
-
-installing_keeps_role : (b : Bool) (x : Snapshot) (r : StepResult) → (install_unless b x r).state.role ≡ r.state.role
-installing_keeps_role true x r = refl
-installing_keeps_role false x r = (cut_other_keeps x.last r).0
 
 -- the node can finish what it has begun
 abbrev Finishes : ℕ → StepResult → Type 0

@@ -32,13 +32,17 @@ use Rattle.raft_progress.specs.Inflight.{request_id}
 use Rattle.raft_commands.specs.declared.command.Command.TheVariants.{Replicate}
 use Rattle.raft_group_step.specs.Lead.{ids_of, other_ids, peer_of}
 use Rattle.raft_group_step.specs.Frames.{committed_id, lacks_entries, notice, send_entries, send_request, send_snapshot, serve_all, serve_as, waiting, with_peer_state}
+use Rattle.raft_group_step.proofs.Peers.{with_peer-found, with_peer-others}
 use Rattle.raft_commands.specs.Output.{Output}
 use Rattle.raft_engine.specs.Numbering.{NumbersFollow, number_in}
 use Rattle.raft_engine.specs.Commands.{Command, message_to, request_to, result_of, sending_of, sent_by, stored_by, storing_of}
 use Rattle.raft_engine.specs.Standing.{EffectiveMembership, Engine, Given, IsStateOf, IsStepOf, IsWholeStepOf, Leads, PlaysRole, outstanding_of, peer_state}
-use Rattle.raft_engine.proofs.CommandLemmas.{numbers_kept, sends_more, stores_same}
+use Rattle.raft_engine.specs.Answering.{NeedsNoOther}
+use Rattle.std.specs.List.{All}
+use Rattle.raft_engine.proofs.CommandLemmas.{at_once_more, numbers_kept, sends_more, stores_same}
+use Rattle.raft_engine.proofs.CommittingLemmas.{moves_kept, moves_same, unmoved}
 use Rattle.raft_engine.specs.Sending.{HasPeer, HasRoomFor, NumbersLeft, request_for, waiting_for, with_known}
-use Rattle.raft_engine.proofs.PeersLemmas.{busy_has, some_outstanding, leads-set, none_outstanding, with_peer-found, with_peer-others}
+use Rattle.raft_engine.proofs.PeersLemmas.{busy_has, some_outstanding, leads-set, none_outstanding}
 use Rattle.raft_engine.proofs.SendingLemmas.{request-sent, sent_as}
 use Rattle.raft_engine.proofs.StandingLemmas.{order_kept}
 
@@ -123,32 +127,38 @@ module _ {C R : Type 0} (x : Given) (own : ℕ) (e e' : Engine C R) (r : StepRes
     sends = λ s upto. ap (λ (o : Output C (List ℕ) R ℕ (List ℕ)). sent_by own s upto o.queue) output ∙ step.sends s upto;
     seen = seen ∙ step.seen;
     numbers = subst (NumbersFollow x.last_sm_seq) (sym output) step.numbers;
+    moves = moves_same x.committed_before e.state.state.committed e'.state.state.committed e.output.queue e'.output.queue step.moves (ap (λ (o : Output C (List ℕ) R ℕ (List ℕ)). o.queue) output) (state.committed ∙ sym step.state.committed);
+    at_once = subst (λ (o : Output C (List ℕ) R ℕ (List ℕ)). All NeedsNoOther o.queue) (sym output) step.at_once;
   }
 
   -- something leaves behind the rest, by what is stored and committed at the end
   pub whole_sent : IsWholeStepOf x own e r → (c : Command C R) (more : List Message) → IsStateOf own e' r.state → e'.seen_greater_log ≡ e.seen_greater_log
-      → e'.output ≡ record e.output { queue = e.output.queue ++ c ∷ [] } → storing_of x.snapshot c ≡ [] → number_in c ≡ [] → sending_of own r.state.stored (committed_id r.state) c ≡ more
+      → e'.output ≡ record e.output { queue = e.output.queue ++ c ∷ [] } → storing_of x.snapshot c ≡ [] → number_in c ≡ [] → NeedsNoOther c → sending_of own r.state.stored (committed_id r.state) c ≡ more
       → IsWholeStepOf x own e' (record r { messages = r.messages ++ more })
-  whole_sent step c more state seen output none silent sends = record {
+  whole_sent step c more state seen output none silent needs sends = record {
     state = state;
     stores = ap (λ q. flat_map (storing_of x.snapshot) q) (ap (λ (o : Output C (List ℕ) R ℕ (List ℕ)). o.queue) output) ∙ stores_same e.output.queue c x.snapshot r.commands step.stores none;
     sends = ap (λ q. flat_map (sending_of own r.state.stored (committed_id r.state)) q) (ap (λ (o : Output C (List ℕ) R ℕ (List ℕ)). o.queue) output)
         ∙ sends_more e.output.queue c own r.state.stored (committed_id r.state) r.messages more step.sends sends;
     seen = seen ∙ step.seen;
     numbers = numbers_kept x.last_sm_seq e.output e'.output c step.numbers output silent;
+    moves = moves_kept x.committed_before e.state.state.committed e'.state.state.committed e.output.queue e'.output.queue step.moves c (ap (λ (o : Output C (List ℕ) R ℕ (List ℕ)). o.queue) output) (unmoved c silent) (state.committed ∙ sym step.state.committed);
+    at_once = at_once_more e.output.queue c e'.output.queue (ap (λ (o : Output C (List ℕ) R ℕ (List ℕ)). o.queue) output) step.at_once needs;
   }
 
   -- and what is known of a peer changes with it
   pub whole_known : IsWholeStepOf x own e r → (p : PeerState) (lead : Lead) (c : Command C R) (more : List Message) → IsStateOf own e' (with_known p lead r.state) → e'.seen_greater_log ≡ e.seen_greater_log
-      → e'.output ≡ record e.output { queue = e.output.queue ++ c ∷ [] } → storing_of x.snapshot c ≡ [] → number_in c ≡ [] → sending_of own r.state.stored (committed_id r.state) c ≡ more
+      → e'.output ≡ record e.output { queue = e.output.queue ++ c ∷ [] } → storing_of x.snapshot c ≡ [] → number_in c ≡ [] → NeedsNoOther c → sending_of own r.state.stored (committed_id r.state) c ≡ more
       → IsWholeStepOf x own e' (with_peer_state p lead (record r { messages = r.messages ++ more }))
-  whole_known step p lead c more state seen output none silent sends = record {
+  whole_known step p lead c more state seen output none silent needs sends = record {
     state = state;
     stores = ap (λ q. flat_map (storing_of x.snapshot) q) (ap (λ (o : Output C (List ℕ) R ℕ (List ℕ)). o.queue) output) ∙ stores_same e.output.queue c x.snapshot r.commands step.stores none;
     sends = ap (λ q. flat_map (sending_of own r.state.stored (committed_id r.state)) q) (ap (λ (o : Output C (List ℕ) R ℕ (List ℕ)). o.queue) output)
         ∙ sends_more e.output.queue c own r.state.stored (committed_id r.state) r.messages more step.sends sends;
     seen = seen ∙ step.seen;
     numbers = numbers_kept x.last_sm_seq e.output e'.output c step.numbers output silent;
+    moves = moves_kept x.committed_before e.state.state.committed e'.state.state.committed e.output.queue e'.output.queue step.moves c (ap (λ (o : Output C (List ℕ) R ℕ (List ℕ)). o.queue) output) (unmoved c silent) (state.committed ∙ sym step.state.committed);
+    at_once = at_once_more e.output.queue c e'.output.queue (ap (λ (o : Output C (List ℕ) R ℕ (List ℕ)). o.queue) output) step.at_once needs;
   }
 
 -- ---- notices
@@ -192,7 +202,7 @@ requested {C} {R} x own e e1 e' r n lead entry id req step peer number request s
     subst (IsWholeStepOf x own e') (sym all)
     (whole_known x own e e' r step (peer_state n (waiting_for entry next)) lead (Replicate n req) (request_to own s (committed_id r.state) n next)
     (same_state own e1 e' (with_known (peer_state n (waiting_for entry next)) lead r.state) done config leader candidate known)
-    seen (pushed ∙ ap (λ (o : Output C (List ℕ) R ℕ (List ℕ)). record o { queue = o.queue ++ Replicate n req ∷ [] }) output) refl refl (ap (request_to own s (committed_id r.state) n) request))
+    seen (pushed ∙ ap (λ (o : Output C (List ℕ) R ℕ (List ℕ)). record o { queue = o.queue ++ Replicate n req ∷ [] }) output) refl refl tt (ap (request_to own s (committed_id r.state) n) request))
 
 -- how a peer of a leader is served
 pub served : (own n : ℕ) (news busy : Bool) (lead : Lead) (role : Role) (entry : ProgressEntry ℕ) (r : StepResult) → role ≡ Leader lead → peer_of lead n ≡ peer_state n entry

@@ -3,20 +3,22 @@ use Rattle.std.specs.Prelude.{◌≡◌, ℕ, ◌+◌, ◌^◌, ◌<◌, ◌≤�
 use Rattle.std.proofs.Common.{sym, ◌∙◌, subst, arith}
 use Rattle.std.proofs.lemmas.Bool.{eqb-true, ltb-true}
 use Rattle.std.proofs.lemmas.List.Folds.{list_all-append}
+use Rattle.raft_values.specs.LogId.{next_place}
 use Rattle.raft_quorums.specs.QuorumLaws.{and_left, and_right}
-use Rattle.raft_group_step.specs.StoredGroup.{StoredGroup, end_place}
+use Rattle.raft_group_step.specs.StoredGroup.{StoredGroup, end_place, snapshot_last}
 use Rattle.raft_group_step.specs.Peer.{PeerState, new_peer, peer_or, with_peer}
 use Rattle.raft_group_step.specs.GroupState.{GroupState, Lead, Role, Follower, Candidate, Leader, is_leader}
-use Rattle.raft_group_step.specs.Lead.{other_ids, peer_of}
+use Rattle.raft_group_step.specs.Lead.{peer_of}
 use Rattle.raft_group_step.specs.Refusal.{are_in_range, first_of_reasons, is_right_party, is_sound, known_leader, lead_reason, next_blank, next_ids, number_limit, numbers_of, range_reason, reasons_of_call, refusal_of, unknown_group, unless}
 use Rattle.raft_group_step.specs.StepResult.{BreaksCondition, NotLeader, NumberAtEnd, WrongParty}
 use Rattle.raft_group_step.specs.Message.{MessageBody}
 use Rattle.raft_group_step.specs.GroupEvent.{Call, GroupCall}
-use Rattle.raft_engine.specs.Purging.{MayBePurged}
+use Rattle.raft_group_step.proofs.Words.{leads_if}
+use Rattle.raft_group_step.proofs.Peers.{with_peer-found, with_peer-others}
+use Rattle.raft_group_step.proofs.Refusals.{unless_none as passes}
 use Rattle.raft_engine.specs.Sending.{with_known}
 use Rattle.raft_engine.specs.Events.{CanFinish, HasLeadRoom, IsReady, received}
-use Rattle.raft_engine.proofs.EventLemmas.{no_first_reason, passes}
-use Rattle.raft_engine.proofs.PeersLemmas.{with_peer-found, with_peer-others}
+use Rattle.raft_engine.proofs.EventLemmas.{no_first_reason}
 
 -- ---- events that aren't refused
 
@@ -35,11 +37,6 @@ message_accepted own peer at s body h =
     let others = no_first_reason (unknown_group s) (range ∷ sound ∷ []) known.1 in
     let ranged = no_first_reason range (sound ∷ []) others.1 in
     (ranged.0, passes (is_sound own peer s.stored body) BreaksCondition (no_first_reason sound [] ranged.1).0)
-
-leads_if : (role : Role) → is_leader role ≡ true → (lead : Lead) × (role ≡ Leader lead)
-leads_if Follower h = cc h
-leads_if (Candidate granters) h = cc h
-leads_if (Leader lead) h = (lead, refl)
 
 -- who isn't refused as no leader leads
 pub lead_accepted : (s : GroupState) → lead_reason s ≡ None → (lead : Lead) × (s.role ≡ Leader lead)
@@ -86,23 +83,18 @@ low_next_id s lead ns is_lead h n =
 
 -- ---- ready states
 
--- what a ready state wishes to purge may go
-pub ready_wish : (own : ℕ) (s : GroupState) → IsReady own s → (place : ℕ) → s.wish ≡ Some place → MayBePurged place s.stored
-ready_wish own s ready place e = ready.purges place (ready.wish place e)
-
 -- a ready state stays ready at each moment
 pub ready_at : (own now : ℕ) (s : GroupState) → IsReady own s → IsReady own (record s { now = now })
-ready_at own now s ready = record { places = ready.places; members = ready.members; wish = ready.wish; purges = ready.purges }
+ready_at own now s ready = record { places = ready.places; wish = ready.wish }
 
 -- a leader whose state is ready has room
 pub room_when_ready : (own : ℕ) (s : GroupState) (lead : Lead) (ns : List ℕ) → IsReady own s → s.role ≡ Leader lead → range_reason s ns ≡ None → HasLeadRoom own s lead
 room_when_ready own s lead ns ready is_lead h =
     let places = ready.places in
-    let members = ready.members in
     record {
       places = omega arith;
       numbers = λ n. let low = low_next_id s lead ns is_lead h n in omega arith;
-      wish = ready_wish own s ready;
+      wish = ready.wish;
     }
 
 finish_as : (own : ℕ) (s : GroupState) (role : Role) → ((lead : Lead) → role ≡ Leader lead → HasLeadRoom own s lead) → CanFinish own s role
@@ -125,8 +117,8 @@ pub room_kept : (own : ℕ) (s s' : GroupState) (lead : Lead) → s'.stored ≡ 
 room_kept own s s' lead stored wish room =
     record {
       places = subst (λ (y : StoredGroup). end_place y < 2 ^ 63) (sym stored) room.places;
-      numbers = subst (λ (y : StoredGroup). (n : ℕ) → (peer_of lead n).next_id + length (other_ids own y) ≤ 2 ^ 64) (sym stored) room.numbers;
-      wish = λ place e. subst (MayBePurged place) (sym stored) (room.wish place (sym wish ∙ e));
+      numbers = room.numbers;
+      wish = λ place e. subst (λ (y : StoredGroup). place < next_place (snapshot_last y)) (sym stored) (room.wish place (sym wish ∙ e));
     }
 
 -- so it is in each role
@@ -148,11 +140,11 @@ room_with_peer own s lead p same room =
     record {
       places = room.places;
       numbers = λ n.
-          elim (p.peer == n) as (λ b. (p.peer == n) ≡ b → (peer_or (new_peer lead.began n) (with_peer p lead.peers)).next_id + length (other_ids own s.stored) ≤ 2 ^ 64) [
+          elim (p.peer == n) as (λ b. (p.peer == n) ≡ b → (peer_or (new_peer lead.began n) (with_peer p lead.peers)).next_id ≤ 2 ^ 63) [
             | true ↦ λ t.
                 let here : p.peer ≡ n = eqb-true p.peer n t in
                 let found : peer_or (new_peer lead.began n) (with_peer p lead.peers) ≡ p = with_peer-found p (new_peer lead.began n) lead.peers here in
-                let some : (peer_of lead p.peer).next_id + length (other_ids own s.stored) ≤ 2 ^ 64 = room.numbers p.peer in
+                let some : (peer_of lead p.peer).next_id ≤ 2 ^ 63 = room.numbers p.peer in
                 rw found (omega (arith, some, same))
             | false ↦ λ f. rw (with_peer-others p (new_peer lead.began n) lead.peers f) (room.numbers n)
           ] refl;

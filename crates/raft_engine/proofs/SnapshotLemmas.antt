@@ -16,38 +16,34 @@ use Rattle.raft_group_step.specs.SnapshotRequest.{cut_other, install_unless, pla
 use Rattle.raft_group_step.specs.Frames.{committed_id}
 use Rattle.raft_group_step.specs.GroupState.{Follower}
 use Rattle.raft_group_step.specs.StepResult.{StepResult, apply_up_to, is_within, later_place, store}
+use Rattle.raft_group_step.proofs.Refusals.{past_above}
+use Rattle.raft_group_step.proofs.Votes.{leader_eq_same}
+use Rattle.raft_group_step.proofs.EntryPlaces.{entry_within}
 use Rattle.raft_known_state.specs.KnownState.{ArePlaced, IsEntryOrPast, KeepsRest, KnownState, Knows}
 use Rattle.raft_commands.specs.Output.{Output, following_seq}
 use Rattle.raft_engine.specs.Numbering.{number_in}
 use Rattle.raft_engine.specs.Commands.{Command, sending_of, snapshot_result, storing_of}
 use Rattle.raft_engine.specs.Standing.{Engine, Given, IsInOrder, IsStepOf, PlaysRole}
-use Rattle.raft_engine.proofs.CommandLemmas.{numbers_gained, numbers_kept, sends_same, stores_more}
+use Rattle.raft_engine.proofs.CommandLemmas.{at_once_more, numbers_gained, numbers_kept, sends_same, stores_more}
+use Rattle.raft_engine.proofs.CommittingLemmas.{moves_gained, moves_kept, unmoved}
+use Rattle.raft_engine.specs.Committing.{Installs, moves_of}
+use Rattle.raft_engine.specs.Answering.{NeedsNoOther}
 use Rattle.raft_engine.proofs.StandingLemmas.{still_follows}
-use Rattle.raft_engine.proofs.PlacedEntries.{dropped, entry_within}
+use Rattle.raft_engine.proofs.PlacedEntries.{dropped}
 use Rattle.raft_engine.proofs.FollowingLemmas.{above_first, cut_ends, later_more, past_committed}
 
 -- ---- another entry at the snapshot's place
-
-leader_same : (a b : LeaderId ℕ) → leader_eq a b ≡ true → a ≡ b
-leader_same a b h =
-    let p = and_parts (a.term == b.term) (a.node_id == b.node_id) h in
-    let made : ℕ → ℕ → LeaderId ℕ = λ t n. record { term = t; node_id = n } in
-    ap₂ made (eqb-true a.term b.term p.0) (eqb-true a.node_id b.node_id p.1)
 
 id_same : (a b : LogId ℕ) → log_id_eq a b ≡ true → a ≡ b
 id_same a b h =
     let p = and_parts (leader_eq a.leader_id b.leader_id) (a.index == b.index) h in
     let made : LeaderId ℕ → ℕ → LogId ℕ = λ l i. record { leader_id = l; index = i } in
-    ap₂ made (leader_same a.leader_id b.leader_id p.0) (eqb-true a.index b.index p.1)
+    ap₂ made (leader_eq_same a.leader_id b.leader_id p.0) (eqb-true a.index b.index p.1)
 
 -- the place above all that is committed is that after it
 pub above_is_next : (c : Option (LogId ℕ)) (o : Option ℕ) → place_of c ≡ o → place_above o ≡ next_place c
 above_is_next None o e = ap place_above (sym e)
 above_is_next (Some id) o e = ap place_above (sym e)
-
-pub past_above : (o : Option ℕ) → is_within (place_above o) o ≡ false
-past_above None = refl
-past_above (Some a) = grind (arith, nat_tests)
 
 cut_either_way : (a b c : Bool) (d : StoringCommand) (r : StepResult)
     → ((if a then r else if b then if c then store d r else r else r).state.role ≡ r.state.role) × ((if a then r else if b then if c then store d r else r else r).state.committed ≡ r.state.committed)
@@ -125,10 +121,10 @@ module _ {C R : Type 0} (g : Given) (own : ℕ) (e e' : Engine C R) (r : StepRes
       (dropped r.state.stored.log (first_place r.state.stored) (last.index + 1 - first_place r.state.stored) step.state.order.placed)
 
   pub installed : (k : KnownState) (c d : Command C R) → Knows k (after_snapshot g.snapshot last r.state.stored) → KeepsRest e.state k → e'.state ≡ record k { state = record k.state { committed = Some last } }
-      → e'.output ≡ record { queue = (e.output.queue ++ c ∷ []) ++ d ∷ []; last_sm_seq = following_seq e.output.last_sm_seq } → storing_of g.snapshot c ≡ SetSnapshot g.snapshot ∷ [] → storing_of g.snapshot d ≡ RemoveUpTo last ∷ [] → number_in c ≡ following_seq e.output.last_sm_seq ∷ [] → number_in d ≡ []
+      → e'.output ≡ record { queue = (e.output.queue ++ c ∷ []) ++ d ∷ []; last_sm_seq = following_seq e.output.last_sm_seq } → storing_of g.snapshot c ≡ SetSnapshot g.snapshot ∷ [] → storing_of g.snapshot d ≡ RemoveUpTo last ∷ [] → number_in c ≡ following_seq e.output.last_sm_seq ∷ [] → number_in d ≡ [] → moves_of c ≡ Installs (Some last) ∷ [] → NeedsNoOther c → NeedsNoOther d
       → ((s : StoredGroup) (upto : Option (LogId ℕ)) → sending_of own s upto c ≡ []) → ((s : StoredGroup) (upto : Option (LogId ℕ)) → sending_of own s upto d ≡ [])
       → IsStepOf g own e' (apply_up_to (Some last.index) (store (RemoveUpTo last) (store (SetSnapshot g.snapshot) r)))
-  installed k c d knows keeps state output stores-c stores-d number-c number-d sends-c sends-d =
+  installed k c d knows keeps state output stores-c stores-d number-c number-d moves-c needs-c needs-d sends-c sends-d =
       let old = step.state in
       let queue = ap (λ (o : Output C (List ℕ) R ℕ (List ℕ)). o.queue) output in
       let middle : Output C (List ℕ) R ℕ (List ℕ) = record { queue = e.output.queue ++ c ∷ []; last_sm_seq = following_seq e.output.last_sm_seq } in
@@ -170,4 +166,11 @@ module _ {C R : Type 0} (g : Given) (own : ℕ) (e e' : Engine C R) (r : StepRes
             (sends_same e.output.queue c own s upto r.messages (step.sends s upto) (sends-c s upto)) (sends-d s upto);
         seen = seen ∙ step.seen;
         numbers = numbers_kept g.last_sm_seq middle e'.output d (numbers_gained g.last_sm_seq e.output middle c step.numbers refl number-c) output number-d;
+        moves =
+            let before : next_place (committed_id r.state) ≤ last.index = past_committed (committed_id r.state) r.state.committed last.index old.order.committed past in
+            let goes_on : next_place e.state.state.committed < last.index + 1 = subst (λ y. next_place y < last.index + 1) (sym old.committed) (omega arith) in
+            moves_kept g.committed_before (Some last) e'.state.state.committed middle.queue e'.output.queue
+            (moves_gained g.committed_before e.state.state.committed (Some last) e.output.queue middle.queue step.moves c refl (Installs (Some last)) moves-c (goes_on, refl))
+            d queue (unmoved d number-d) (ap (λ (y : KnownState). y.state.committed) state);
+        at_once = at_once_more middle.queue d e'.output.queue queue (at_once_more e.output.queue c middle.queue refl step.at_once needs-c) needs-d;
       }

@@ -14,12 +14,14 @@ use Rattle.raft_commands.specs.declared.command.Command.TheVariants.{SaveVote}
 use Rattle.raft_known_state.specs.KnownState.{KnownState, Knows}
 use Rattle.raft_leaders.specs.Candidate.{CandidateValue}
 use Rattle.raft_leaders.specs.Leader.{LeaderValue}
-use Rattle.std.specs.List.{flat_map}
+use Rattle.std.specs.List.{All, flat_map}
+use Rattle.raft_engine.specs.Answering.{NeedsNoOther}
 use Rattle.raft_commands.specs.Output.{Output}
 use Rattle.raft_engine.specs.Numbering.{NumbersFollow, number_in}
 use Rattle.raft_engine.specs.Commands.{Command, storing_of, sending_of, stored_by, sent_by}
 use Rattle.raft_engine.specs.Standing.{EffectiveMembership, Engine, Given, IsInOrder, IsStepOf, IsWholeStepOf, PlaysRole}
-use Rattle.raft_engine.proofs.CommandLemmas.{numbers_kept, sends_more, sends_same, stores_more, stores_same}
+use Rattle.raft_engine.proofs.CommandLemmas.{at_once_more, numbers_kept, sends_more, sends_same, stores_more, stores_same}
+use Rattle.raft_engine.proofs.CommittingLemmas.{moves_kept, moves_same, unmoved}
 
 abbrev StateOf : Type 0
 StateOf = RaftState ℕ (List ℕ) ℕ
@@ -62,6 +64,8 @@ module _ {C R : Type 0} (x : Given) (own : ℕ) (e e' : Engine C R) (r : StepRes
         sends = λ s upto. ap (λ q. flat_map (sending_of own s upto) q) queue ∙ sends_same e.output.queue (SaveVote vote) own s upto r.messages (step.sends s upto) refl;
         seen = seen ∙ step.seen;
         numbers = numbers_kept x.last_sm_seq e.output e'.output (SaveVote vote) step.numbers output refl;
+        moves = moves_kept x.committed_before e.state.state.committed e'.state.state.committed e.output.queue e'.output.queue step.moves (SaveVote vote) queue refl (ap (λ (y : StateOf). y.committed) state);
+        at_once = at_once_more e.output.queue (SaveVote vote) e'.output.queue queue step.at_once tt;
       }
 
   -- the vote in force is heard of at this moment
@@ -90,13 +94,17 @@ module _ {C R : Type 0} (x : Given) (own : ℕ) (e e' : Engine C R) (r : StepRes
         sends = λ s upto. ap (λ (o : Output C (List ℕ) R ℕ (List ℕ)). sent_by own s upto o.queue) output ∙ step.sends s upto;
         seen = seen ∙ step.seen;
         numbers = subst (NumbersFollow x.last_sm_seq) (sym output) step.numbers;
+        moves =
+            moves_same x.committed_before e.state.state.committed e'.state.state.committed e.output.queue e'.output.queue step.moves
+            (ap (λ (o : Output C (List ℕ) R ℕ (List ℕ)). o.queue) output) (ap (λ (y : KnownState). y.state.committed) state);
+        at_once = subst (λ (o : Output C (List ℕ) R ℕ (List ℕ)). All NeedsNoOther o.queue) (sym output) step.at_once;
       }
 
   -- what is sent and stores nothing goes behind the rest
   pub sent_more : (c : Command C R) (more : List Message) → e'.config ≡ e.config → e'.seen_greater_log ≡ e.seen_greater_log → e'.leader ≡ e.leader → e'.candidate ≡ e.candidate → e'.state ≡ e.state
-      → e'.output ≡ record e.output { queue = e.output.queue ++ c ∷ [] } → storing_of x.snapshot c ≡ [] → number_in c ≡ [] → ((s : StoredGroup) (upto : Option (LogId ℕ)) → sending_of own s upto c ≡ more)
+      → e'.output ≡ record e.output { queue = e.output.queue ++ c ∷ [] } → storing_of x.snapshot c ≡ [] → number_in c ≡ [] → NeedsNoOther c → ((s : StoredGroup) (upto : Option (LogId ℕ)) → sending_of own s upto c ≡ more)
       → IsStepOf x own e' (record r { messages = r.messages ++ more })
-  sent_more c more config seen leader candidate state output none silent sends =
+  sent_more c more config seen leader candidate state output none silent needs sends =
       let old = step.state in
       let queue = ap (λ (o : Output C (List ℕ) R ℕ (List ℕ)). o.queue) output in
       record {
@@ -113,16 +121,18 @@ module _ {C R : Type 0} (x : Given) (own : ℕ) (e e' : Engine C R) (r : StepRes
         sends = λ s upto. ap (λ q. flat_map (sending_of own s upto) q) queue ∙ sends_more e.output.queue c own s upto r.messages more (step.sends s upto) (sends s upto);
         seen = seen ∙ step.seen;
         numbers = numbers_kept x.last_sm_seq e.output e'.output c step.numbers output silent;
+        moves = moves_kept x.committed_before e.state.state.committed e'.state.state.committed e.output.queue e'.output.queue step.moves c queue (unmoved c silent) (ap (λ (y : KnownState). y.state.committed) state);
+        at_once = at_once_more e.output.queue c e'.output.queue queue step.at_once needs;
       }
 
 -- the same queue with a message more
-pub queued : {C R : Type 0} (x : Given) (own : ℕ) (e : Engine C R) (r : StepResult) (c : Command C R) (more : List Message) → IsStepOf x own e r → storing_of x.snapshot c ≡ [] → number_in c ≡ []
+pub queued : {C R : Type 0} (x : Given) (own : ℕ) (e : Engine C R) (r : StepResult) (c : Command C R) (more : List Message) → IsStepOf x own e r → storing_of x.snapshot c ≡ [] → number_in c ≡ [] → NeedsNoOther c
     → ((s : StoredGroup) (upto : Option (LogId ℕ)) → sending_of own s upto c ≡ more)
     → IsStepOf x own (record e { output = record e.output { queue = e.output.queue ++ c ∷ [] } }) (record r { messages = r.messages ++ more })
-queued x own e r c more step none silent sends =
-    sent_more x own e (record e { output = record e.output { queue = e.output.queue ++ c ∷ [] } }) r step c more refl refl refl refl refl refl none silent sends
+queued x own e r c more step none silent needs sends =
+    sent_more x own e (record e { output = record e.output { queue = e.output.queue ++ c ∷ [] } }) r step c more refl refl refl refl refl refl none silent needs sends
 
 -- a step whose messages have what is stored later has what is stored now
 pub step_as_whole : {C R : Type 0} (x : Given) (own : ℕ) (e : Engine C R) (r : StepResult) → IsStepOf x own e r → IsWholeStepOf x own e r
 step_as_whole x own e r step =
-    record { state = step.state; stores = step.stores; sends = step.sends r.state.stored (committed_id r.state); seen = step.seen; numbers = step.numbers }
+    record { state = step.state; stores = step.stores; sends = step.sends r.state.stored (committed_id r.state); seen = step.seen; numbers = step.numbers; moves = step.moves; at_once = step.at_once }

@@ -1,8 +1,8 @@
 -- Snapshots that a node builds of what is applied.
-use Rattle.std.specs.Prelude.{◌≡◌, ◌≤◌, ℕ, ◌+◌, ◌++◌, ◌∷◌, [], Bool, true, Option, Some}
+use Rattle.std.specs.Prelude.{◌≡◌, ◌≤◌, ℕ, ◌++◌, ◌∷◌, [], Bool, true, Option, Some}
 use Rattle.raft_values.specs.declared.log_id.LogId.{LogId}
 use Rattle.raft_values.specs.LogId.{next_place}
-use Rattle.raft_group_step.specs.StoredGroup.{Snapshot, CutFrom, after_storing, entry_at, id_of, membership_in_force, snapshot_last}
+use Rattle.raft_group_step.specs.StoredGroup.{Snapshot, entry_at, id_of, snapshot_last}
 use Rattle.raft_group_step.specs.GroupState.{GroupState}
 use Rattle.raft_group_step.specs.SnapshotTrigger.{snapshot_at}
 use Rattle.raft_commands.specs.declared.command.Command.TheVariants.{StateMachine}
@@ -11,14 +11,12 @@ use Rattle.raft_commands.specs.Output.{following_seq}
 use Rattle.raft_engine.specs.Commands.{Command}
 use Rattle.raft_engine.specs.Standing.{Engine}
 
--- the snapshot of all that is applied, which goes past the last one: its membership is that in
--- force up to there
+-- the snapshot of all that is applied, which goes past the last one
 pub record IsSnapshotOfApplied (s : GroupState) (x : Snapshot) : Type 0 where
   pub applied : s.applied ≡ Some x.last.index
   pub entry : id_of (entry_at s.stored x.last.index) ≡ Some x.last
   pub later : next_place (snapshot_last s.stored) ≤ x.last.index
   pub covers : x ≡ snapshot_at s.stored x.last
-  pub membership : x.membership ≡ membership_in_force (after_storing (CutFrom (x.last.index + 1)) s.stored)
 
 module _ {C R : Type 0} where
   -- the order to build a snapshot, under this number

@@ -9,11 +9,11 @@ use Rattle.raft_progress.specs.declared.inflight.Inflight.TheVariants.{None as N
 use Rattle.raft_group_step.specs.declared.request_id.RequestId.{RequestId as RequestIdOf}
 use Rattle.raft_group_step.specs.declared.request_id.RequestId.TheVariants.{HeartBeat as NoNumber, AppendEntries as AppendNumber, Snapshot as SnapshotNumber}
 use Rattle.raft_group_step.specs.declared.append_entries.AppendEntriesResponse.{AppendEntriesResponse}
-use Rattle.raft_group_step.specs.declared.append_entries.AppendEntriesResponse.TheVariants.{Success as Accepted, PartialSuccess, Conflict as Differs, HigherVote as HasHigherVote}
+use Rattle.raft_group_step.specs.declared.append_entries.AppendEntriesResponse.TheVariants.{Success as Accepted, PartialSuccess as AcceptedPart, Conflict as Differs, HigherVote as HasHigherVote}
 use Rattle.raft_group_step.specs.declared.snapshot_message.SnapshotResponse.{SnapshotResponse}
 use Rattle.raft_group_step.specs.Values.{Entry, vote_lt}
 use Rattle.raft_group_step.specs.StoredGroup.{StoredGroup, StoringCommand, SetVote, PutEntries, CutFrom, RemoveUpTo, SetSnapshot, Snapshot, first_place}
-use Rattle.raft_group_step.specs.Message.{Message, MessageBody, RequestId, HeartBeat, Numbered, ReplyResult, Success, Conflict, HigherVote}
+use Rattle.raft_group_step.specs.Message.{Message, MessageBody, RequestId, HeartBeat, Numbered, ReplyResult, Success, PartialSuccess, Conflict, HigherVote}
 use Rattle.raft_group_step.specs.Message.{VoteRequest, VoteReply, AppendRequest, AppendReply, SnapshotRequest, SnapshotReply}
 use Rattle.raft_commands.specs.declared.caller.Caller.{Caller}
 use Rattle.raft_commands.specs.declared.command.Command.{Command as CommandOf}
@@ -45,7 +45,7 @@ number_of (SnapshotNumber id) = Numbered id
 -- what came of an append request
 abbrev pub result_of : AppendEntriesResponse ℕ → ReplyResult
 result_of Accepted = Success
-result_of (PartialSuccess last) = Success
+result_of (AcceptedPart last) = PartialSuccess last
 result_of Differs = Conflict
 result_of (HasHigherVote vote) = HigherVote vote
 

@@ -1,22 +1,21 @@
 -- When an engine may be handed an event, and what it has done of the event then.
-use Rattle.std.specs.Prelude.{◌≡◌, ℕ, ◌+◌, ◌≤◌, ◌<◌, ◌^◌, ◌&&◌, ◌||◌, not, Bool, false, [], length, Some, None}
+use Rattle.std.specs.Prelude.{◌≡◌, ℕ, ◌+◌, ◌≤◌, ◌<◌, ◌^◌, ◌&&◌, ◌||◌, not, Bool, false, [], Some, None}
 use Rattle.raft_values.specs.LogId.{next_place}
 use Rattle.raft_group_step.specs.StoredGroup.{Snapshot, end_place, last_id, snapshot_last}
 use Rattle.raft_group_step.specs.Values.{last_id_lt, vote_eq}
 use Rattle.raft_group_step.specs.GroupState.{GroupState, Lead, Role, Follower, Candidate, Leader, is_candidate}
 use Rattle.raft_group_step.specs.GroupEvent.{GroupEvent, AddGroup, Call, Receive, Open}
 use Rattle.raft_group_step.specs.Message.{MessageBody, VoteRequest, VoteReply, AppendRequest, AppendReply, SnapshotRequest, SnapshotReply}
-use Rattle.raft_group_step.specs.Lead.{other_ids, peer_of}
+use Rattle.raft_group_step.specs.Lead.{peer_of}
 use Rattle.raft_group_step.specs.Refusal.{refusal_of}
 use Rattle.raft_group_step.specs.GroupStep.{group_step}
-use Rattle.raft_engine.specs.Purging.{MayBePurged}
-use Rattle.raft_engine.specs.Standing.{Engine, Given, IsStateOf, IsWholeStepOf}
+use Rattle.raft_engine.specs.Standing.{Engine, Given, IsStateOf, IsWholeStepOf, given}
 
--- places and numbers of requests fit, and what a leader wishes to purge may go
+-- places and numbers of requests fit, and what a leader wishes to purge the snapshot has
 pub record HasLeadRoom (own : ℕ) (s : GroupState) (lead : Lead) : Type 0 where
   pub places : end_place s.stored < 2 ^ 63
-  pub numbers : (n : ℕ) → (peer_of lead n).next_id + length (other_ids own s.stored) ≤ 2 ^ 64
-  pub wish : (place : ℕ) → s.wish ≡ Some place → MayBePurged place s.stored
+  pub numbers : (n : ℕ) → (peer_of lead n).next_id ≤ 2 ^ 63
+  pub wish : (place : ℕ) → s.wish ≡ Some place → place < next_place (snapshot_last s.stored)
 
 -- a leader has room for what it does at the end of an event
 abbrev pub CanFinish : ℕ → GroupState → Role → Type 0
@@ -24,13 +23,11 @@ CanFinish own s Follower = Unit {0}
 CanFinish own s (Candidate granters) = Unit {0}
 CanFinish own s (Leader lead) = HasLeadRoom own s lead
 
--- what a group's states have beside their order: places and members are few, and a snapshot has the
--- memberships of the log that it covers
+-- what a group's states have beside their order: places are low, and what is wished to be purged the
+-- snapshot has
 pub record IsReady (own : ℕ) (s : GroupState) : Type 0 where
   pub places : end_place s.stored ≤ 2 ^ 62
-  pub members : length (other_ids own s.stored) ≤ 2 ^ 62
   pub wish : (place : ℕ) → s.wish ≡ Some place → place < next_place (snapshot_last s.stored)
-  pub purges : (place : ℕ) → place < next_place (snapshot_last s.stored) → MayBePurged place s.stored
 
 -- a message of the peer to this node comes
 abbrev pub received : ℕ → ℕ → MessageBody → ℕ → GroupEvent
@@ -63,7 +60,7 @@ module _ {C R : Type 0} where
 
   -- what the engine knew as an event began, and whether a greater log was told of up to its end
   abbrev pub given_after : Snapshot → Engine C R → GroupState → GroupEvent → Given
-  given_after x e s event = record { snapshot = x; seen_greater_log = seen_after s event e.seen_greater_log; last_sm_seq = e.output.last_sm_seq }
+  given_after x e s event = record (given x e) { seen_greater_log = seen_after s event e.seen_greater_log }
 
   -- the engine, which was e, has done what the group step does at the event
   abbrev pub HasTaken : Snapshot → ℕ → Engine C R → Engine C R → GroupState → GroupEvent → Type 0

@@ -12,13 +12,16 @@ use Rattle.raft_group_step.specs.StoredGroup.{StoredGroup, Snapshot, first_place
 use Rattle.raft_group_step.specs.Peer.{PeerState, Outstanding}
 use Rattle.raft_group_step.specs.GroupState.{GroupState, Role, Follower, Candidate, Leader, Lead}
 use Rattle.raft_group_step.specs.StepResult.{StepResult}
-use Rattle.raft_group_step.specs.Lead.{configs_in_force, peer_of, ids_of}
+use Rattle.raft_group_step.specs.Lead.{peer_of, ids_of}
 use Rattle.raft_group_step.specs.Frames.{committed_id}
 use Rattle.raft_known_state.specs.KnownState.{Knows, IsPlaced}
 use Rattle.raft_commands.specs.Config.{config_of}
-use Rattle.raft_leaders.specs.Candidate.{CandidateValue, SaysWhoGranted, any_granted}
+use Rattle.raft_leaders.specs.Candidate.{CandidateValue}
 use Rattle.raft_leaders.specs.Leader.{LeaderValue, peer_at}
 use Rattle.raft_engine.specs.Numbering.{NumbersFollow}
+use Rattle.raft_engine.specs.Committing.{Moves, moves_in}
+use Rattle.raft_engine.specs.Answering.{NeedsNoOther}
+use Rattle.std.specs.List.{All}
 use Rattle.raft_engine.specs.declared.engine.Engine.{Engine as EngineOf}
 use Rattle.raft_engine.specs.Commands.{stored_by, sent_by}
 use Rattle.std.specs.Prelude.{nat_eq}
@@ -59,10 +62,8 @@ pub record Stands (own : ℕ) (c : CandidateValue ℕ EffectiveMembership) (s : 
   pub vote : c.vote ≡ s.vote
   pub is_own : s.vote.leader_id.node_id ≡ own
   pub uncommitted : s.vote.committed ≡ false
-  pub counts : c.progress.quorum_set.membership.configs ≡ configs_in_force s
-  pub granted : SaysWhoGranted nat_eq (configs_in_force s) c.progress (has_id granters)
-  -- the own grant counted at once
-  pub begun : any_granted c.progress.voters ≡ true
+  -- all that granted, voters or not: who is a voter may change
+  pub granted : c.granted_by ≡ granters
 
 -- a leader under an own committed vote, with what it knows of each peer
 pub record Leads (own : ℕ) (l : LeaderValue ℕ EffectiveMembership) (s : StoredGroup) (lead : Lead) : Type 0 where
@@ -101,16 +102,23 @@ abbrev pub Engine : Type 0 → Type 0 → Type 0
 Engine C R = EngineOf C (List ℕ) R ℕ (List ℕ)
 
 -- what the words of a step don't decide: the snapshot that a command of its queue stores, whether a node told of a log that is
--- greater than the own one, and the last number of a command of the state machine as the step began
+-- greater than the own one, and as the step began the last number of a command of the state machine and what was committed
 pub record Given : Type 0 where
   pub snapshot : Snapshot
   pub seen_greater_log : Bool
   pub last_sm_seq : ℕ
+  pub committed_before : Option (LogId ℕ)
 
 module _ {C R : Type 0} where
   -- a snapshot, and what the engine knows as a step begins
   abbrev pub given : Snapshot → Engine C R → Given
-  given x e = record { snapshot = x; seen_greater_log = e.seen_greater_log; last_sm_seq = e.output.last_sm_seq }
+  given x e =
+      record {
+        snapshot = x;
+        seen_greater_log = e.seen_greater_log;
+        last_sm_seq = e.output.last_sm_seq;
+        committed_before = e.state.state.committed;
+      }
 
   -- the engine of this node stands for the group's state
   pub record IsStateOf (own : ℕ) (e : Engine C R) (s : GroupState) : Type 0 where
@@ -129,6 +137,8 @@ module _ {C R : Type 0} where
     pub sends : (s : StoredGroup) (upto : Option (LogId ℕ)) → sent_by own s upto e.output.queue ≡ r.messages
     pub seen : e.seen_greater_log ≡ x.seen_greater_log
     pub numbers : NumbersFollow x.last_sm_seq e.output
+    pub moves : Moves x.committed_before (moves_in e.output.queue) e.state.state.committed
+    pub at_once : All NeedsNoOther e.output.queue
 
   -- the same once the event is over: what is sent has what is stored and committed then
   pub record IsWholeStepOf (x : Given) (own : ℕ) (e : Engine C R) (r : StepResult) : Type 0 where
@@ -137,3 +147,5 @@ module _ {C R : Type 0} where
     pub sends : sent_by own r.state.stored (committed_id r.state) e.output.queue ≡ r.messages
     pub seen : e.seen_greater_log ≡ x.seen_greater_log
     pub numbers : NumbersFollow x.last_sm_seq e.output
+    pub moves : Moves x.committed_before (moves_in e.output.queue) e.state.state.committed
+    pub at_once : All NeedsNoOther e.output.queue

@@ -12,6 +12,7 @@ ghost use Rattle.raft_engine.specs.Events.{HasTaken, IsReady, MayTake};
 ghost use Rattle.raft_engine.specs.Standing.{IsStateOf};
 
 use crate::engine::Engine;
+use crate::leader_handler::count_by;
 use raft_commands::RaftTypeConfig;
 use raft_state::{BasicNode, Bytes, SnapshotMeta};
 use std::alloc::AllocError;
@@ -54,6 +55,8 @@ impl<C: RaftTypeConfig<NodeId = u64, Node = BasicNode, D = Bytes>> Engine<C> {
         if !is_updated {
             return Ok(());
         }
+        let membership = self.state.effective_membership();
+        count_by(self.alloc, &mut self.leader, membership)?;
         self.finish(before)
     }
 }

@@ -4,7 +4,7 @@ ghost use Rattle.raft_values.specs.LogId.{next_place};
 ghost use Rattle.raft_state.specs.LogIdList.{last_id};
 ghost use Rattle.raft_membership.specs.declared.error.InitializeError.TheVariants.{NotAllowed as IsNotAllowed, NotInMembers as IsNotInMembers};
 ghost use Rattle.raft_group_step.specs.Values.{ChangeMembers, LoggedMembership, after_change, is_voter};
-ghost use Rattle.raft_group_step.specs.StoredGroup.{Snapshot, end_place, membership_in_force, last_id as last_stored_id};
+ghost use Rattle.raft_group_step.specs.StoredGroup.{Snapshot, end_place, membership_in_force, snapshot_last, last_id as last_stored_id};
 ghost use Rattle.raft_group_step.specs.Initialize.{is_new};
 ghost use Rattle.raft_group_step.specs.GroupState.{GroupState, Follower};
 ghost use Rattle.raft_group_step.specs.GroupEvent.{Call};
@@ -17,7 +17,6 @@ ghost use Rattle.raft_group_step.specs.Opening.{resume_lead};
 ghost use Rattle.raft_known_state.specs.KnownState.{meta_of};
 ghost use Rattle.raft_engine.specs.Events.{HasTaken, IsReady, MayTake, received};
 ghost use Rattle.raft_engine.specs.Following.{SpellsAppend, SpellsAppendReply, SpellsSnapshotReply};
-ghost use Rattle.raft_engine.specs.Purging.{MayBePurged};
 ghost use Rattle.raft_engine.specs.Sending.{reply_of};
 ghost use Rattle.raft_engine.specs.Standing.{Given, IsStateOf, IsStepOf, IsWholeStepOf, given};
 
@@ -245,7 +244,7 @@ impl<C: RaftTypeConfig<NodeId = u64, Node = BasicNode, D = Bytes>> Engine<C> {
     /// What a leader is still to purge goes, once no request needs it (openraft).
     pub fn try_purge_log(&mut self) -> Result<(), AllocError>
         ensures { (x : Given) (own : ℕ) (r : StepResult) → IsStepOf x own self.old r → end_place r.state.stored < 2 ^ 64
-            → ((place : ℕ) → r.state.wish ≡ Some place → MayBePurged place r.state.stored)
+            → ((place : ℕ) → r.state.wish ≡ Some place → place < next_place (snapshot_last r.state.stored))
             → OnOk result (IsStepOf x own self.new (purge_as_wished r.state.role r.state.wish r)) }
     {
         self.log_handler().purge_log()

@@ -2,19 +2,16 @@
 ghost use Rattle.std.specs.Prelude.{◌≡◌, ◌+◌, ◌<◌, ◌^◌, ◌↔◌, OnOk, IfOk, IsTrue, true, false, List, ℕ, ◌∷◌, []};
 ghost use Rattle.raft_values.specs.LogId.{next_place};
 ghost use Rattle.raft_state.specs.LogIdList.{last_id as last_known_id};
-ghost use Rattle.raft_group_step.specs.Values.{is_voter};
-ghost use Rattle.raft_group_step.specs.StoredGroup.{StoredGroup, end_place, last_id, membership_in_force};
+ghost use Rattle.raft_group_step.specs.StoredGroup.{StoredGroup, end_place, last_id};
 ghost use Rattle.raft_group_step.specs.GroupState.{GroupState, Candidate as Standing, is_candidate};
 ghost use Rattle.raft_group_step.specs.Message.{VoteReply};
 ghost use Rattle.raft_group_step.specs.StepResult.{StepResult, in_role, step_down};
-ghost use Rattle.raft_group_step.specs.Refusal.{is_voter_in};
 ghost use Rattle.raft_group_step.specs.Lead.{begin_lead, with_grant};
 ghost use Rattle.raft_group_step.specs.Elect.{ask, elect_step, stand};
 ghost use Rattle.raft_group_step.specs.Initialize.{initialize_step, is_new};
 ghost use Rattle.raft_group_step.specs.VoteReply.{vote_reply_step};
 ghost use Rattle.raft_engine.specs.Standing.{Given, IsStateOf, IsStepOf, Stands};
 ghost use Rattle.raft_engine.specs.Events.{tells_greater_log};
-ghost use Rattle.raft_known_state.specs.KnownState.{Knows};
 
 use crate::engine::Engine;
 use crate::orders::is_behind;
@@ -65,14 +62,13 @@ impl<C: RaftTypeConfig<NodeId = u64, Node = BasicNode, D = Bytes>> Engine<C> {
         vote: Vote<u64>,
         now: u64,
     ) -> Result<Candidate<u64, EffectiveMembership<u64, BasicNode>>, AllocError>
-        ensures { (s : StoredGroup) → Knows self.now.state s → vote.leader_id.node_id ≡ self.now.config.id → vote.committed ≡ false
-            → is_voter_in (membership_in_force s) self.now.config.id ≡ true
+        ensures { (s : StoredGroup) → vote.leader_id.node_id ≡ self.now.config.id → vote.committed ≡ false
             → IfOk result (λ c. Stands self.now.config.id c (record s { vote = vote }) (self.now.config.id ∷ [])) }
     {
         let last = self.state.last_log_id();
         let membership = self.state.effective_membership().clone()?;
         let mut candidate = Candidate::new(self.alloc, now, vote, last, membership, &[])?;
-        candidate.grant_by(&self.config.id);
+        candidate.grant_by(&self.config.id)?;
         Ok(candidate)
     }
 
@@ -86,7 +82,8 @@ impl<C: RaftTypeConfig<NodeId = u64, Node = BasicNode, D = Bytes>> Engine<C> {
         }
     }
 
-    // A candidate notes that this node has granted its vote. Once a quorum has, it leads.
+    // A candidate notes that this node has granted its vote. Once a quorum has of those who are the
+    // voters now, it leads.
     pub(crate) fn with_grant(&mut self, n: u64, now: u64) -> Result<(), AllocError>
         ensures { (x : Given) (own : _) (r : StepResult) → IsStepOf x own self.old r → r.state.now ≡ now
             → (is_candidate r.state.role ≡ true → end_place r.state.stored < 2 ^ 63)
@@ -95,7 +92,8 @@ impl<C: RaftTypeConfig<NodeId = u64, Node = BasicNode, D = Bytes>> Engine<C> {
         let Some(candidate) = &mut self.candidate else {
             return Ok(());
         };
-        let is_quorum = candidate.grant_by(&n);
+        candidate.grant_by(&n)?;
+        let is_quorum = candidate.is_granted_by(self.state.effective_membership());
         if is_quorum && self.has_room() {
             return self.establish_handler().establish(now);
         }
@@ -105,7 +103,7 @@ impl<C: RaftTypeConfig<NodeId = u64, Node = BasicNode, D = Bytes>> Engine<C> {
     // The node votes for itself in the next term, and asks the other voters.
     fn stand(&mut self, now: u64) -> Result<(), AllocError>
         ensures { (x : Given) (own : _) (r : StepResult) → IsStepOf x own self.old r → r.state.now ≡ now
-            → r.state.stored.vote.leader_id.term + 1 < 2 ^ 64 → is_voter_in (membership_in_force r.state.stored) own ≡ true
+            → r.state.stored.vote.leader_id.term + 1 < 2 ^ 64
             → OnOk result (IsStepOf x own self.new (in_role (Standing (own ∷ [])) (stand own r))) }
     {
         let own = self.config.id;
@@ -124,7 +122,6 @@ impl<C: RaftTypeConfig<NodeId = u64, Node = BasicNode, D = Bytes>> Engine<C> {
     pub(crate) fn elect_part(&mut self, now: u64) -> Result<(), AllocError>
         ensures { (x : Given) (own : _) (r : StepResult) → IsStepOf x own self.old r → r.state.now ≡ now
             → r.state.stored.vote.leader_id.term + 1 < 2 ^ 64 → end_place r.state.stored < 2 ^ 63
-            → is_voter_in (membership_in_force r.state.stored) own ≡ true
             → OnOk result (IsStepOf x own self.new (elect_step own r)) }
     {
         self.stand(now)?;
@@ -165,7 +162,7 @@ impl<C: RaftTypeConfig<NodeId = u64, Node = BasicNode, D = Bytes>> Engine<C> {
         now: u64,
     ) -> Result<(), AllocError>
         ensures { (x : Given) (own : _) (r : StepResult) → IsStepOf x own self.old r → r.state.now ≡ now
-            → is_new r.state.stored ≡ true → is_voter membership own ≡ true
+            → is_new r.state.stored ≡ true
             → OnOk result (IsStepOf x own self.new (initialize_step own membership r)) }
     {
         self.step_down();

@@ -11,10 +11,10 @@ ghost use Rattle.raft_group_step.specs.StepResult.{StepResult, append};
 ghost use Rattle.raft_group_step.specs.Lead.{append_blank, begin_lead, commit_as_leader, new_lead};
 ghost use Rattle.raft_group_step.specs.Opening.{resume_lead};
 ghost use Rattle.raft_group_step.specs.Heartbeat.{beat_as};
-ghost use Rattle.raft_known_state.specs.KnownState.{IsPlaced, Knows};
+ghost use Rattle.raft_known_state.specs.KnownState.{IsPlaced, Knows, effective_of};
 ghost use Rattle.raft_leaders.specs.Leader.{id_of_leader, peer_at};
 ghost use Rattle.raft_engine.specs.Standing.{Given, IsStepOf, Leads};
-ghost use Rattle.raft_engine.specs.Leading.{KnowsMembers, leads_by};
+ghost use Rattle.raft_engine.specs.Leading.{CountsOn, KnowsMembers, leads_by};
 ghost use Rattle.std.specs.Prelude.{nat_eq};
 ghost use Rattle.std.specs.Option.{option_copied};
 
@@ -74,6 +74,22 @@ fn count_by_entry(
     let learner_ids = membership.learner_ids()?;
     let effective = EffectiveMembership::new(Some(entry.log_id), membership.clone()?);
     leader.change_membership(alloc, effective, learner_ids.as_slice())
+}
+
+// A leader counts by this membership, if there is a leader. What is known of each peer stays.
+pub(crate) fn count_by(
+    alloc: Global,
+    leader: &mut Option<Leader<u64, EffectiveMembership<u64, BasicNode>>>,
+    membership: &EffectiveMembership<u64, BasicNode>,
+) -> Result<(), AllocError>
+    ensures { (m : Option LoggedMembership) → membership.now ≡ effective_of m → OnOk result (CountsOn m leader.old leader.new) }
+{
+    let Some(leader) = leader else {
+        return Ok(());
+    };
+    let learner_ids = membership.membership().learner_ids()?;
+    leader.change_membership(alloc, membership.clone()?, learner_ids.as_slice())?;
+    Ok(())
 }
 
 /// Writes and speaks for a node that leads (openraft).

@@ -1,7 +1,6 @@
 //! The log is purged, no further than the snapshot goes.
 ghost use Rattle.std.specs.Prelude.{◌≡◌, ◌<◌, ◌≤◌, ◌^◌, ℕ, OnOk, min, nat_lt, if◌then◌else◌, Some};
 ghost use Rattle.raft_values.specs.LogId.{next_place, place_of};
-ghost use Rattle.raft_values.specs.declared.log_id.LogId.{LogId};
 ghost use Rattle.raft_group_step.specs.StoredGroup.{end_place, first_place, snapshot_last};
 ghost use Rattle.raft_group_step.specs.GroupState.{Lead, Leader as Leading};
 ghost use Rattle.raft_group_step.specs.StepResult.{StepResult, is_within, later_place};
@@ -9,10 +8,10 @@ ghost use Rattle.raft_group_step.specs.Lead.{purge_as_wished, purge_up_to, with_
 ghost use Rattle.raft_group_step.specs.AppendRequest.{lesser_place};
 ghost use Rattle.raft_group_step.specs.PurgeTrigger.{purge_trigger_step};
 ghost use Rattle.raft_engine.specs.Standing.{Given, IsStepOf};
-ghost use Rattle.raft_engine.specs.Purging.{MayBePurged};
 ghost use Rattle.raft_engine.specs.Building.{covered_id};
 
 use crate::engine::Engine;
+use crate::leader_handler::count_by;
 use raft_commands::{Command, RaftTypeConfig};
 use raft_state::{BasicNode, Bytes, LogId};
 use std::alloc::AllocError;
@@ -50,10 +49,8 @@ impl<'x, C: RaftTypeConfig<NodeId = u64, Node = BasicNode, D = Bytes>> LogHandle
     pub fn update_purge_upto(&mut self, place: u64) -> Result<(), AllocError>
         ensures same_engine { self.new.engine.ghost_name ≡ self.old.engine.ghost_name }
         ensures within { (x : Given) (own : _) (r : StepResult) → IsStepOf x own self.old.engine.now r → end_place r.state.stored < 2 ^ 64
-            → ((last : LogId ℕ) → snapshot_last r.state.stored ≡ Some last → MayBePurged (min place last.index) r.state.stored)
             → OnOk result (self.new.engine.now.state.state.purged_next ≤ next_place (covered_id self.new.engine.now)) }
         ensures step { (x : Given) (own : _) (r : StepResult) → IsStepOf x own self.old.engine.now r → end_place r.state.stored < 2 ^ 64
-            → ((last : LogId ℕ) → snapshot_last r.state.stored ≡ Some last → MayBePurged (min place last.index) r.state.stored)
             → OnOk result (IsStepOf x own self.new.engine.now (purge_trigger_step place r)) }
     {
         self.engine.purge_trigger(place)
@@ -64,10 +61,10 @@ impl<'x, C: RaftTypeConfig<NodeId = u64, Node = BasicNode, D = Bytes>> LogHandle
     pub fn purge_log(&mut self) -> Result<(), AllocError>
         ensures same_engine { self.new.engine.ghost_name ≡ self.old.engine.ghost_name }
         ensures within { (x : Given) (own : _) (r : StepResult) → IsStepOf x own self.old.engine.now r → end_place r.state.stored < 2 ^ 64
-            → ((place : ℕ) → r.state.wish ≡ Some place → MayBePurged place r.state.stored)
+            → ((place : ℕ) → r.state.wish ≡ Some place → place < next_place (snapshot_last r.state.stored))
             → OnOk result (self.new.engine.now.state.state.purged_next ≤ next_place (covered_id self.new.engine.now)) }
         ensures step { (x : Given) (own : _) (r : StepResult) → IsStepOf x own self.old.engine.now r → end_place r.state.stored < 2 ^ 64
-            → ((place : ℕ) → r.state.wish ≡ Some place → MayBePurged place r.state.stored)
+            → ((place : ℕ) → r.state.wish ≡ Some place → place < next_place (snapshot_last r.state.stored))
             → OnOk result (IsStepOf x own self.new.engine.now (purge_as_wished r.state.role r.state.wish r)) }
     {
         self.engine.purge_as_wished()
@@ -75,10 +72,11 @@ impl<'x, C: RaftTypeConfig<NodeId = u64, Node = BasicNode, D = Bytes>> LogHandle
 }
 
 impl<C: RaftTypeConfig<NodeId = u64, Node = BasicNode, D = Bytes>> Engine<C> {
-    // The log is removed up to its entry at the place, if it has one there.
+    // The log is removed up to its entry at the place, if it has one there. The membership in force
+    // may change by it: where the log has none left, the snapshot's is in force, whatever it is.
     pub(crate) fn purge_up_to(&mut self, place: u64) -> Result<(), AllocError>
         ensures { (x : Given) (own : _) (r : StepResult) → IsStepOf x own self.old r → end_place r.state.stored < 2 ^ 64
-            → MayBePurged place r.state.stored → OnOk result (IsStepOf x own self.new (purge_up_to place r)) }
+            → place < next_place (snapshot_last r.state.stored) → OnOk result (IsStepOf x own self.new (purge_up_to place r)) }
     {
         if !self.state.has_entry_at(place) {
             return Ok(());
@@ -90,6 +88,8 @@ impl<C: RaftTypeConfig<NodeId = u64, Node = BasicNode, D = Bytes>> Engine<C> {
             return Ok(());
         }
         self.state.purge(&upto)?;
+        let membership = self.state.effective_membership();
+        count_by(self.alloc, &mut self.leader, membership)?;
         self.output.push_command(Command::PurgeLog { upto })
     }
 
@@ -111,7 +111,6 @@ impl<C: RaftTypeConfig<NodeId = u64, Node = BasicNode, D = Bytes>> Engine<C> {
     // no request needs what goes.
     pub(crate) fn purge_trigger(&mut self, place: u64) -> Result<(), AllocError>
         ensures { (x : Given) (own : _) (r : StepResult) → IsStepOf x own self.old r → end_place r.state.stored < 2 ^ 64
-            → ((last : LogId ℕ) → snapshot_last r.state.stored ≡ Some last → MayBePurged (min place last.index) r.state.stored)
             → OnOk result (IsStepOf x own self.new (purge_trigger_step place r)) }
     {
         let Some(last) = self.state.state.snapshot_meta.last_log_id else {
@@ -128,7 +127,7 @@ impl<C: RaftTypeConfig<NodeId = u64, Node = BasicNode, D = Bytes>> Engine<C> {
     // What a leader is still to purge goes, once no request needs it.
     pub(crate) fn purge_as_wished(&mut self) -> Result<(), AllocError>
         ensures { (x : Given) (own : _) (r : StepResult) → IsStepOf x own self.old r → end_place r.state.stored < 2 ^ 64
-            → ((place : ℕ) → r.state.wish ≡ Some place → MayBePurged place r.state.stored)
+            → ((place : ℕ) → r.state.wish ≡ Some place → place < next_place (snapshot_last r.state.stored))
             → OnOk result (IsStepOf x own self.new (purge_as_wished r.state.role r.state.wish r)) }
     {
         let Some(wish) = self.state.state.purge_upto else {

@@ -1,10 +1,10 @@
 //! Replication: what a leader sends to its peers, and what it learns from them.
-ghost use Rattle.std.specs.Prelude.{◌≡◌, ◌↔◌, ℕ, ◌+◌, ◌-◌, ◌*◌, ◌/◌, ◌^◌, ◌<◌, ◌≤◌, IsTrue, min, true, take, drop, length, OnOk, Some};
+ghost use Rattle.std.specs.Prelude.{◌≡◌, ◌↔◌, ℕ, ◌+◌, ◌-◌, ◌*◌, ◌/◌, ◌^◌, ◌<◌, ◌≤◌, IsTrue, min, nat_le, true, take, drop, length, OnOk, Some};
 ghost use Rattle.std.specs.List.{list_all};
 ghost use Rattle.raft_values.specs.LogId.{next_place};
 ghost use Rattle.raft_state.specs.LogIdList.{last_id};
 ghost use Rattle.raft_group_step.specs.Values.{has_id};
-ghost use Rattle.raft_group_step.specs.StoredGroup.{StoredGroup, end_place, first_place, id_before, membership_in_force};
+ghost use Rattle.raft_group_step.specs.StoredGroup.{StoredGroup, end_place, first_place, id_before, membership_in_force, snapshot_last};
 ghost use Rattle.raft_group_step.specs.Message.{Numbered, last_sent, request_id_eq};
 ghost use Rattle.raft_group_step.specs.Peer.{is_answer_to, is_kept_for_peers, needs_below};
 ghost use Rattle.raft_group_step.specs.GroupState.{GroupState, Lead, Leader as LeaderRole};
@@ -12,12 +12,11 @@ ghost use Rattle.raft_group_step.specs.StepResult.{StepResult, send};
 ghost use Rattle.raft_group_step.specs.Lead.{commit_as_leader, ids_of, other_ids, peer_of, purge_as_wished};
 ghost use Rattle.raft_group_step.specs.Frames.{entries_in_request, has_grown, lacks_entries, notice, request_start, send_request, serve_all, serve_as, with_frames};
 ghost use Rattle.raft_group_step.specs.Heartbeat.{beat_as, send_notices};
-ghost use Rattle.raft_group_step.specs.Reply.{after_answer, answered, reply_step};
+ghost use Rattle.raft_group_step.specs.Reply.{accepted_up_to, after_answer, answered, reply_step};
 ghost use Rattle.raft_group_step.specs.Lost.{lost_as};
 ghost use Rattle.raft_known_state.specs.KnownState.{IsPlaced, Knows};
 ghost use Rattle.raft_engine.specs.Commands.{number_of, result_of};
 ghost use Rattle.raft_engine.specs.Standing.{Given, IsStateOf, IsStepOf, IsWholeStepOf, outstanding_of, peer_state};
-ghost use Rattle.raft_engine.specs.Purging.{MayBePurged};
 ghost use Rattle.raft_engine.specs.Sending.{HasPeer, HasRoomFor, reply_of, request_for, with_known};
 
 use crate::engine::Engine;
@@ -92,6 +91,28 @@ fn is_unknown(entry: &ProgressEntry<u64>, place: u64) -> bool
     }
 }
 
+// Whether the first log id stands no further than the second; none stands before all.
+fn is_at_most(id: &Option<LogId<u64>>, other: &Option<LogId<u64>>) -> bool
+    ensures { result ≡ nat_le (next_place id.now) (next_place other.now) }
+{
+    match (id, other) {
+        (None, _) => true,
+        (Some(_), None) => false,
+        (Some(id), Some(other)) => id.index <= other.index,
+    }
+}
+
+// What is known of the peer once it has accepted all up to this log id.
+fn accepted_up_to(entry: &ProgressEntry<u64>, last: Option<LogId<u64>>) -> ProgressEntry<u64>
+    ensures { (n : ℕ) → next_place last < 2 ^ 64 → peer_state n result ≡ accepted_up_to last (peer_state n entry.now) }
+{
+    let mut entry = *entry;
+    entry.inflight = Inflight::None;
+    entry.matching = last;
+    entry.searching_end = entry.searching_end.max(place_after(&last));
+    entry
+}
+
 // What is known of the peer after an answer to its request.
 fn after_answer(
     entry: &ProgressEntry<u64>,
@@ -101,23 +122,25 @@ fn after_answer(
     ensures { (n : ℕ) → next_place reply.now.last < 2 ^ 64
         → peer_state n result ≡ after_answer (peer_state n entry.now) (reply_of reply.now outcome.now) (result_of outcome.now) }
 {
-    let mut entry = *entry;
-    entry.inflight = Inflight::None;
+    let mut after = *entry;
+    after.inflight = Inflight::None;
     match outcome {
-        AppendEntriesResponse::Success | AppendEntriesResponse::PartialSuccess(_) => {
-            entry.matching = reply.last;
-            entry.searching_end = entry.searching_end.max(place_after(&reply.last));
+        AppendEntriesResponse::Success => return accepted_up_to(entry, reply.last),
+        AppendEntriesResponse::PartialSuccess(last) => {
+            if is_at_most(&entry.matching, last) && is_at_most(last, &reply.last) {
+                return accepted_up_to(entry, *last);
+            }
         }
         AppendEntriesResponse::Conflict => {
             if let Some(previous) = reply.previous
-                && is_unknown(&entry, previous.index)
+                && is_unknown(&after, previous.index)
             {
-                entry.searching_end = previous.index;
+                after.searching_end = previous.index;
             }
         }
         AppendEntriesResponse::HigherVote(_) => {}
     }
-    entry
+    after
 }
 
 // Whether an append request is on its way whose previous place is below this one, or none.
@@ -144,7 +167,7 @@ impl<'x, C: RaftTypeConfig<NodeId = u64, Node = BasicNode, D = Bytes>> Replicati
     /// and has none on its way, else a notice where more is committed than this place.
     pub fn initiate_replication(&mut self, committed_before: Option<u64>) -> Result<(), AllocError>
         ensures same_engine { self.new.engine.ghost_name ≡ self.old.engine.ghost_name }
-        ensures step { (x : Given) (own : ℕ) (r : StepResult) → IsWholeStepOf x own self.old.engine.now r → HasRoomFor (length (other_ids own r.state.stored)) r.state
+        ensures step { (x : Given) (own : ℕ) (r : StepResult) → IsWholeStepOf x own self.old.engine.now r → HasRoomFor (2 ^ 63) r.state
             → OnOk result (IsWholeStepOf x own self.new.engine.now (with_frames own committed_before r)) }
     {
         self.engine.with_frames(committed_before)
@@ -188,7 +211,7 @@ impl<'x, C: RaftTypeConfig<NodeId = u64, Node = BasicNode, D = Bytes>> Replicati
     pub fn try_purge_log(&mut self) -> Result<(), AllocError>
         ensures same_engine { self.new.engine.ghost_name ≡ self.old.engine.ghost_name }
         ensures step { (x : Given) (own : ℕ) (r : StepResult) → IsStepOf x own self.old.engine.now r → end_place r.state.stored < 2 ^ 64
-            → ((place : ℕ) → r.state.wish ≡ Some place → MayBePurged place r.state.stored)
+            → ((place : ℕ) → r.state.wish ≡ Some place → place < next_place (snapshot_last r.state.stored))
             → OnOk result (IsStepOf x own self.new.engine.now (purge_as_wished r.state.role r.state.wish r)) }
     {
         self.engine.purge_as_wished()
@@ -264,15 +287,18 @@ impl<C: RaftTypeConfig<NodeId = u64, Node = BasicNode, D = Bytes>> Engine<C> {
         Inflight::Logs { id, log_id_range }
     }
 
-    // This is known of the peer from now on.
-    fn set_peer(&mut self, n: u64, entry: ProgressEntry<u64>)
+    // This is known of the peer from now on, if the leader keeps something of it. Answers whether it
+    // does, as of each member, and of each peer that a request is on its way to.
+    fn set_peer(&mut self, n: u64, entry: ProgressEntry<u64>) -> bool
+        ensures there { (own : ℕ) (s : GroupState) (lead : Lead) → IsStateOf own self.old s → s.role ≡ LeaderRole lead → HasPeer n self.old.leader → result ≡ true }
         ensures known { (own : ℕ) (s : GroupState) (lead : Lead) → IsStateOf own self.old s → s.role ≡ LeaderRole lead → HasPeer n self.old.leader
             → IsStateOf own self.new (with_known (peer_state n entry) lead s) }
         ensures rest { (self.new.output ≡ self.old.output) × (self.new.seen_greater_log ≡ self.old.seen_greater_log) }
     {
-        if let Some(leader) = &mut self.leader {
-            leader.set_peer(&n, entry);
-        }
+        let Some(leader) = &mut self.leader else {
+            return false;
+        };
+        leader.set_peer(&n, entry)
     }
 
     // The peer gets its next request.
@@ -285,7 +311,10 @@ impl<C: RaftTypeConfig<NodeId = u64, Node = BasicNode, D = Bytes>> Engine<C> {
         let mut sent = *entry;
         sent.curr_inflight_id = entry.curr_inflight_id.saturating_add(1);
         sent.inflight = req;
-        self.set_peer(n, sent);
+        // A request whose number can't be noted isn't sent.
+        if !self.set_peer(n, sent) {
+            return Ok(());
+        }
         self.output
             .push_command(Command::Replicate { target: n, req })
     }
@@ -327,7 +356,7 @@ impl<C: RaftTypeConfig<NodeId = u64, Node = BasicNode, D = Bytes>> Engine<C> {
     // A leader serves these members in turn.
     fn serve_all(&mut self, ids: &[u64], has_news: bool) -> Result<(), AllocError>
         ensures { (x : Given) (own : ℕ) (r : StepResult) → IsWholeStepOf x own self.old r
-            → list_all (has_id (ids_of (membership_in_force r.state.stored))) ids.now ≡ true → HasRoomFor (length ids.now) r.state
+            → list_all (has_id (ids_of (membership_in_force r.state.stored))) ids.now ≡ true → HasRoomFor (2 ^ 63) r.state
             → OnOk result (IsWholeStepOf x own self.new (serve_all own has_news ids.now r)) }
     {
         for n in ids {
@@ -338,7 +367,7 @@ impl<C: RaftTypeConfig<NodeId = u64, Node = BasicNode, D = Bytes>> Engine<C> {
 
     // What a leader sends when the event is over; before: what was committed as it began.
     pub(crate) fn with_frames(&mut self, before: Option<u64>) -> Result<(), AllocError>
-        ensures { (x : Given) (own : ℕ) (r : StepResult) → IsWholeStepOf x own self.old r → HasRoomFor (length (other_ids own r.state.stored)) r.state
+        ensures { (x : Given) (own : ℕ) (r : StepResult) → IsWholeStepOf x own self.old r → HasRoomFor (2 ^ 63) r.state
             → OnOk result (IsWholeStepOf x own self.new (with_frames own before r)) }
     {
         if self.leader.is_none() {

@@ -2,6 +2,7 @@
 ghost use Rattle.std.specs.Prelude.{◌≡◌};
 ghost use Rattle.raft_values.specs.LogId.{log_id_of};
 
+use crate::events::snapshot_meta;
 use raft_commands::{EngineConfig, RaftTypeConfig};
 use raft_engine::{Caller, Engine, KnownState, RequestId};
 use raft_rows::number;
@@ -76,11 +77,29 @@ fn had_led(alloc: Global) -> Result<KnownState<u64, BasicNode>, AllocError> {
     KnownState::load(alloc, Vote::new_committed(4, 1), None, meta, &[first])
 }
 
-/// The engine of a node that begins so: with a `new` group, after it `had-led`, or with nothing
-/// known.
+// A node that stopped between storing a snapshot and purging: its log has node 1 alone, and the
+// snapshot node 2 too.
+fn had_stopped(alloc: Global) -> Result<KnownState<u64, BasicNode>, AllocError> {
+    let first = Entry {
+        log_id: log_id(0, 0),
+        payload: EntryPayload::Membership(members(alloc, &[1], &[1])?),
+    };
+    let second = Entry {
+        log_id: log_id(1, 1),
+        payload: EntryPayload::Blank,
+    };
+    let meta = snapshot_meta(log_id(1, 1), members(alloc, &[1], &[1, 2])?);
+    let mut known = KnownState::load(alloc, Vote::new(1, 1), None, meta, &[first, second])?;
+    known.state.committed = Some(log_id(1, 1));
+    Ok(known)
+}
+
+/// The engine of a node that begins so: with a `new` group, after it `had-led` or `had-stopped`, or
+/// with nothing known.
 pub fn begin(alloc: Global, how: &str, id: u64) -> Result<NumberedEngine, AllocError> {
     match how {
         "new-group" => Engine::for_new_group(alloc, id),
+        "had-stopped" => { Ok(Engine::new(alloc, had_stopped(alloc)?, EngineConfig::new(id))) }
         "had-led" => Ok(Engine::new(alloc, had_led(alloc)?, EngineConfig::new(id))),
         _ => Ok(Engine::new(alloc, nothing_known(alloc)?, EngineConfig::new(id))),
     }

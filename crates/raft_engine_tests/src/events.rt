@@ -73,6 +73,14 @@ fn is_accepted(engine: &mut NumberedEngine) -> bool {
         .is_ok()
 }
 
+// Node 2 has the set-up's entry alone.
+fn is_accepted_in_part(engine: &mut NumberedEngine) -> bool {
+    let outcome = AppendEntriesResponse::PartialSuccess(Some(log_id(0, 0)));
+    engine
+        .handle_replication_resp(2, &accepted(), &outcome, 7)
+        .is_ok()
+}
+
 fn is_asked_for_vote(engine: &mut NumberedEngine) -> bool {
     let asked = Vote::new(1, 1);
     let req = VoteRequest::new(asked, None);
@@ -95,6 +103,7 @@ fn is_done(engine: &mut NumberedEngine, name: &str) -> Option<bool> {
         "be-granted-by-2" => is_granted(engine),
         "be-refused-by-3" => is_refused(engine, None),
         "be-accepted-by-2" => is_accepted(engine),
+        "be-accepted-in-part-by-2" => is_accepted_in_part(engine),
         "be-asked-for-vote" => is_asked_for_vote(engine),
         _ => return None,
     })

@@ -3,8 +3,9 @@
 use crate::engines::Numbered;
 use crate::groups::{blank, log_id};
 use raft_commands::{Command, EngineOutput};
-use raft_executor::{messages, sent, store, store_first};
+use raft_executor::{Sender, messages, sent, store, store_first};
 use raft_group_step::{Entries, VoteRequest};
+use raft_group_storage::ONLY_GROUP;
 use raft_rows::{Answer, number};
 use raft_state::Vote;
 use raft_stored_group::StoredGroup;
@@ -38,13 +39,23 @@ fn store_queue(
     alloc: Global,
     limit: Option<u64>,
 ) -> Result<(), AllocError> {
-    store_first(&queue(alloc)?, limit, None, group)
+    store_first(&queue(alloc)?, limit, None, group, ONLY_GROUP)
+}
+
+// Node 1 with what it has stored.
+fn sender(group: &StoredGroup) -> Sender {
+    Sender {
+        own: 1,
+        vote: group.vote(),
+        committed: None,
+    }
 }
 
 // Senders and addressees of the queue's messages.
-fn parties(group: &StoredGroup, alloc: Global) -> Result<Vec<(u64, u64)>, AllocError> {
+fn parties(group: &mut StoredGroup, alloc: Global) -> Result<Vec<(u64, u64)>, AllocError> {
     let mut parties = Vec::new(alloc);
-    for message in messages(alloc, 1, &queue(alloc)?, group, None)?.as_slice() {
+    let sender = sender(group);
+    for message in messages(alloc, &sender, &queue(alloc)?, group, ONLY_GROUP)?.as_slice() {
         parties.push((message.sender, message.addressee))?;
     }
     Ok(parties)
@@ -57,12 +68,13 @@ fn purge(place: u64) -> Command<Numbered> {
 }
 
 fn store_purge(group: &mut StoredGroup, place: u64) -> Result<(), AllocError> {
-    store(&purge(place), None, group)
+    store(&purge(place), None, group, ONLY_GROUP)
 }
 
 // Whether a purge sends something.
-fn is_purge_sent(group: &StoredGroup, alloc: Global, place: u64) -> Result<bool, AllocError> {
-    Ok(sent(alloc, 1, &purge(place), group, None)?.is_some())
+fn is_purge_sent(group: &mut StoredGroup, alloc: Global, place: u64) -> Result<bool, AllocError> {
+    let sender = sender(group);
+    Ok(sent(alloc, &sender, &purge(place), group, ONLY_GROUP)?.is_some())
 }
 
 /// The answer to a row that executes commands.

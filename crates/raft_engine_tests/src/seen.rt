@@ -1,6 +1,7 @@
 //! What is seen of an engine.
 
 use crate::engines::NumberedEngine;
+use raft_commands::Command;
 use raft_rows::Answer;
 use raft_state::{LogId, LogIdOptionExt, Vote};
 use std::alloc::Global;
@@ -34,6 +35,28 @@ fn take_work(engine: &mut NumberedEngine) -> bool {
     has_work
 }
 
+// How many requests wait to be sent.
+fn count_requests(engine: &NumberedEngine) -> usize {
+    let mut count: usize = 0;
+    for command in engine.output.iter_commands() {
+        if matches!(command, Command::Replicate { .. }) {
+            count = count.saturating_add(1);
+        }
+    }
+    count
+}
+
+// How many notices wait to be sent.
+fn count_notices(engine: &NumberedEngine) -> usize {
+    let mut count: usize = 0;
+    for command in engine.output.iter_commands() {
+        if matches!(command, Command::ReplicateCommitted { .. }) {
+            count = count.saturating_add(1);
+        }
+    }
+    count
+}
+
 // The answer to a question of yes or no.
 fn is_so(engine: &mut NumberedEngine, question: &str) -> Option<bool> {
     Some(match question {
@@ -56,6 +79,8 @@ pub fn seen(engine: &mut NumberedEngine, alloc: Global, question: &str) -> Optio
         "committed" => Answer::shown(alloc, &engine.state.state.committed),
         "first-place" => Answer::shown(alloc, &engine.state.first_place()),
         "last" => Answer::shown(alloc, &last(engine)),
+        "requests" => Answer::shown(alloc, &count_requests(engine)),
+        "notices" => Answer::shown(alloc, &count_notices(engine)),
         _ => Answer::truth(is_so(engine, question)?),
     })
 }

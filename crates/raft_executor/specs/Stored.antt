@@ -1,5 +1,5 @@
--- Which commands store a snapshot, and how many commands are stored.
-use Rattle.std.specs.Prelude.{ℕ, ◌-◌, ◌≡◌, Bool, true, false, ◌||◌, List, [], ◌∷◌, ◌++◌, take, Option, Some, None}
+-- Which commands store a snapshot, how many commands are stored, and what is left where a call fails.
+use Rattle.std.specs.Prelude.{ℕ, ◌+◌, ◌-◌, ◌≡◌, Bool, true, false, ◌||◌, List, [], ◌∷◌, take, Option, Some, None}
 use Rattle.raft_commands.specs.declared.command.Command.TheVariants.{BecomeLeader, QuitLeader, AppendInputEntries, ReplicateCommitted, Commit}
 use Rattle.raft_commands.specs.declared.command.Command.TheVariants.{Replicate, RebuildReplicationStreams, SaveVote, SendVote, PurgeLog}
 use Rattle.raft_commands.specs.declared.command.Command.TheVariants.{DeleteConflictLog, StateMachine, Respond}
@@ -7,6 +7,7 @@ use Rattle.raft_commands.specs.declared.sm.CommandPayload.{CommandPayload}
 use Rattle.raft_commands.specs.declared.sm.CommandPayload.TheVariants.{BuildSnapshot, GetSnapshot, BeginReceivingSnapshot, InstallFullSnapshot, Apply}
 use Rattle.raft_group_step.specs.StoredGroup.{Snapshot, StoredGroup, StoringCommand, after_storing_all}
 use Rattle.raft_engine.specs.Commands.{Command}
+use Rattle.raft_group_storage.specs.Keeping.{MayStore, Shows, StandsOrNone}
 
 -- so many commands from the first on, or all of them
 abbrev pub first_of : Option ℕ → List StoringCommand → List StoringCommand
@@ -48,13 +49,26 @@ module _ {C R : Type 0} where
   queue_has_snapshot [] = false
   queue_has_snapshot (c ∷ cs) = has_snapshot c || queue_has_snapshot cs
 
--- where a snapshot is stored, it is the one that is given
-abbrev pub IsGiven : Bool → Option Snapshot → Snapshot → Type 0
-IsGiven is_stored given x = is_stored ≡ true → given ≡ Some x
+-- where a snapshot is stored, what is given stands for it
+abbrev pub IsGiven : {X : Type 0} → (X → Snapshot → Type 0) → Bool → Option X → Snapshot → Type 0
+IsGiven stands is_stored given x = is_stored ≡ true → StandsOrNone stands given (Some x)
 
--- some of the commands from the first one on are stored, and the others aren't
-pub record IsPartStored (commands : List StoringCommand) (old new : StoredGroup) : Type 0 where
-  pub done : List StoringCommand
-  pub others : List StoringCommand
-  pub listed : commands ≡ done ++ others
-  pub stored : new ≡ after_storing_all done old
+-- a call that succeeded stored these commands in the group
+abbrev pub StoresAll : Shows → Shows → ℕ → List StoringCommand → Type 0
+StoresAll old new group commands = (s : StoredGroup) → old group (s ∷ []) → new group (after_storing_all commands s ∷ [])
+
+-- one that failed stored them or not
+abbrev pub MayStoreAll : Shows → Shows → ℕ → List StoringCommand → Type 0
+MayStoreAll old new group commands = (s : StoredGroup) → old group (s ∷ []) → new group (s ∷ after_storing_all commands s ∷ [])
+
+-- they are one command, and a call that failed stored it or not
+pub record FailsAtOne (old new : Shows) (group : ℕ) (commands : List StoringCommand) : Type 0 where
+  pub command : StoringCommand
+  pub is : commands ≡ command ∷ []
+  pub may_store : MayStore old new group command
+
+-- one that failed did so at one of the commands: those before it are stored, it may be, and the others aren't
+abbrev pub FailsAmong : Shows → Shows → ℕ → List StoringCommand → Type 0
+FailsAmong old new group commands =
+    (s : StoredGroup) → old group (s ∷ [])
+    → (number : ℕ) × new group (after_storing_all (take number commands) s ∷ after_storing_all (take (number + 1) commands) s ∷ [])

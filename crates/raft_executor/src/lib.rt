@@ -11,5 +11,5 @@ pub mod storing;
 pub use message::{GroupBody, GroupMessage};
 pub use metas::{meta_of, stored_meta};
 pub use replies::{caller_and_answer, caller_id};
-pub use sending::{messages, sent};
+pub use sending::{Sender, messages, sent};
 pub use storing::{store, store_first};

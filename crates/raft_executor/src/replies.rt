@@ -23,6 +23,7 @@ fn answer(outcome: &ReplyResult) -> AppendEntriesResponse<u64>
 {
     match outcome {
         ReplyResult::Success => AppendEntriesResponse::Success,
+        ReplyResult::PartialSuccess(last) => AppendEntriesResponse::PartialSuccess(*last),
         ReplyResult::Conflict => AppendEntriesResponse::Conflict,
         ReplyResult::HigherVote(vote) => AppendEntriesResponse::HigherVote(*vote),
     }

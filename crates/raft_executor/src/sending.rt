@@ -1,19 +1,34 @@
 //! What commands send.
-ghost use Rattle.std.specs.Prelude.{◌≡◌, ◌++◌, IfOk, OnOk, map};
+ghost use Rattle.std.specs.Prelude.{◌≡◌, ◌++◌, Some, IfOk, OnOk, List, [], ◌∷◌};
 ghost use Rattle.raft_group_step.specs.Values.{vote_lt};
-ghost use Rattle.raft_engine.specs.Commands.{answer_of, message_to, number_of, request_to, result_of, sending_of, sent_by, snapshot_reply_to, snapshot_result, snapshot_to};
+ghost use Rattle.raft_group_step.specs.Message.{Message as Said, SnapshotReply};
+ghost use Rattle.raft_progress.specs.declared.inflight.Inflight.TheVariants.{Logs};
+ghost use Rattle.raft_group_step.specs.StoredGroup.{StoredGroup};
+ghost use Rattle.raft_engine.specs.Commands.{answer_of, number_of, request_to, result_of, sending_of, sent_by, snapshot_reply_to, snapshot_result, snapshot_to};
 ghost use Rattle.raft_engine.specs.Sending.{reply_of};
-ghost use Rattle.raft_messages.specs.Messages.{body_of, message_of, messages_of, outcome_of, reply_fields_of, request_id_of};
+ghost use Rattle.raft_messages.specs.Messages.{outcome_of, reply_fields_of, request_id_of};
+ghost use Rattle.raft_group_storage.specs.Keeping.{KeepsAll};
+ghost use Rattle.raft_executor.specs.Said.{SaysAll, SaysBody, listed};
 
-use crate::message::{GroupBody, GroupMessage};
 use raft_commands::{Caller, Command, EngineOutput, RaftTypeConfig, Respond};
 use raft_group_step::{AppendEntriesResponse, Entries, RequestId as CallerId, SnapshotResponse};
-use raft_messages::{AppendFields, MessageBody, ReplyFields, ReplyResult, RequestId};
+use raft_group_storage::GroupStorage;
+use raft_messages::{AppendFields, Message, MessageBody, ReplyFields, ReplyResult, RequestId};
 use raft_progress::Inflight;
-use raft_state::{BasicNode, Bytes, LogId, Vote};
-use raft_stored_group::StoredGroup;
+use raft_state::{BasicNode, Bytes, LogId, LogIdRange, Vote};
 use raft_values::vote::votes_by_term_node_committed;
 use std::alloc::{AllocError, Global};
+
+/// The node that sends, as its messages leave (own).
+#[derive(Clone, Copy, Debug)]
+pub struct Sender {
+    /// Its id.
+    pub own: u64,
+    /// The vote that it has stored.
+    pub vote: Vote<u64>,
+    /// The last log id that it has committed, if there is one.
+    pub committed: Option<LogId<u64>>,
+}
 
 // Whether the first vote is below the second.
 fn is_lower(vote: &Vote<u64>, other: &Vote<u64>) -> bool
@@ -23,10 +38,10 @@ fn is_lower(vote: &Vote<u64>, other: &Vote<u64>) -> bool
 }
 
 // The node says this to the peer.
-fn message(own: u64, peer: u64, body: GroupBody) -> Option<GroupMessage>
-    ensures { messages_of result ≡ message_to own peer (body_of body) }
+fn message<X>(own: u64, peer: u64, body: MessageBody<X>) -> Option<Message<X>>
+    ensures { result ≡ Some (record { sender = own; addressee = peer; body = body }) }
 {
-    Some(GroupMessage {
+    Some(Message {
         sender: own,
         addressee: peer,
         body,
@@ -50,9 +65,8 @@ fn outcome(answer: &AppendEntriesResponse<u64>) -> ReplyResult
     ensures { outcome_of result ≡ result_of answer.now }
 {
     match answer {
-        AppendEntriesResponse::Success | AppendEntriesResponse::PartialSuccess(_) => {
-            ReplyResult::Success
-        }
+        AppendEntriesResponse::Success => ReplyResult::Success,
+        AppendEntriesResponse::PartialSuccess(last) => ReplyResult::PartialSuccess(*last),
         AppendEntriesResponse::Conflict => ReplyResult::Conflict,
         AppendEntriesResponse::HigherVote(vote) => ReplyResult::HigherVote(*vote),
     }
@@ -83,24 +97,24 @@ fn reply(request: &Caller<u64>, answer: &AppendEntriesResponse<u64>) -> ReplyFie
 }
 
 // The answer to a snapshot. It repeats no log id before the snapshot.
-fn snapshot_reply(request: &Caller<u64>, answer: &SnapshotResponse<u64>) -> GroupBody
-    ensures { body_of result ≡ snapshot_reply_to request.now (snapshot_result request.now.vote answer.now) }
+fn snapshot_reply(request: &Caller<u64>, answer: &SnapshotResponse<u64>) -> ReplyFields
+    ensures { SnapshotReply (reply_fields_of result) ≡ snapshot_reply_to request.now (snapshot_result request.now.vote answer.now) }
 {
-    MessageBody::SnapshotReply(ReplyFields {
+    ReplyFields {
         vote: request.vote,
         id: request_id(&request.id),
         previous: None,
         last: request.last,
         outcome: snapshot_outcome(&request.vote, answer),
-    })
+    }
 }
 
 // The answer to a peer's request.
-fn answer<C: RaftTypeConfig<NodeId = u64, Node = BasicNode, D = Bytes>>(
+fn answer<C: RaftTypeConfig<NodeId = u64, Node = BasicNode, D = Bytes>, S: GroupStorage>(
     own: u64,
     respond: &Respond<C>,
-) -> Option<GroupMessage>
-    ensures { messages_of result ≡ answer_of own respond.now }
+) -> Option<Message<S::Snapshot>>
+    ensures { SaysAll S.stands (listed result) (answer_of own respond.now) }
 {
     match respond {
         Respond::Vote(s) => message(own, s.tx.peer, MessageBody::VoteReply(s.value)),
@@ -109,72 +123,104 @@ fn answer<C: RaftTypeConfig<NodeId = u64, Node = BasicNode, D = Bytes>>(
             message(own, s.tx.peer, body)
         }
         Respond::InstallFullSnapshot(s) => {
-            message(own, s.tx.peer, snapshot_reply(&s.tx, &s.value))
+            let body = MessageBody::SnapshotReply(snapshot_reply(&s.tx, &s.value));
+            message(own, s.tx.peer, body)
         }
         Respond::InstallSnapshot(_) | Respond::Initialize(_) => None,
     }
 }
 
 // The stored snapshot, sent under this number.
-fn snapshot(
-    own: u64,
+fn snapshot<S: GroupStorage>(
+    alloc: Global,
+    sender: &Sender,
     peer: u64,
     id: u64,
-    stored: &StoredGroup,
-) -> Result<Option<GroupMessage>, AllocError>
-    ensures { IfOk result (λ sent. messages_of sent ≡ snapshot_to own peer id stored.now stored.now.snapshot) }
+    storage: &mut S,
+    group: u64,
+) -> Result<Option<Message<S::Snapshot>>, S::Fault>
+    ensures well { S.is_well storage.old → OnOk result (S.is_well storage.new) }
+    ensures ok { (s : StoredGroup) → S.is_well storage.old → S.shows storage.old group (s ∷ []) → sender.now.vote ≡ s.vote
+        → IfOk result (λ sent. SaysAll S.stands (listed sent) (snapshot_to sender.now.own peer id s s.snapshot)) }
+    ensures kept { KeepsAll (S.shows storage.old) (S.shows storage.new) }
 {
-    match stored.snapshot() {
+    match storage.snapshot(alloc, group)? {
         Some(snapshot) => {
             let body = MessageBody::SnapshotRequest {
-                vote: stored.vote(),
+                vote: sender.vote,
                 id,
-                snapshot: snapshot.clone()?,
+                snapshot,
             };
-            Ok(message(own, peer, body))
+            Ok(message(sender.own, peer, body))
         }
         None => Ok(None),
     }
 }
 
+// Entries to a peer, under this number.
+fn entries<S: GroupStorage>(
+    alloc: Global,
+    sender: &Sender,
+    peer: u64,
+    request: (u64, LogIdRange<u64>),
+    storage: &mut S,
+    group: u64,
+) -> Result<Option<Message<S::Snapshot>>, S::Fault>
+    ensures well { S.is_well storage.old → OnOk result (S.is_well storage.new) }
+    ensures ok { (s : StoredGroup) → S.is_well storage.old → S.shows storage.old group (s ∷ []) → sender.now.vote ≡ s.vote
+        → IfOk result (λ sent. SaysAll S.stands (listed sent) (request_to sender.now.own s sender.now.committed peer (Logs request.0 request.1))) }
+    ensures kept { KeepsAll (S.shows storage.old) (S.shows storage.new) }
+{
+    let (id, range) = request;
+    let request = AppendFields {
+        vote: sender.vote,
+        id: RequestId::Numbered { id },
+        previous: range.prev,
+        committed: sender.committed,
+        entries: storage.entries_between(alloc, group, range.prev, range.last)?,
+    };
+    Ok(message(sender.own, peer, MessageBody::AppendRequest(request)))
+}
+
 // A request to a peer, with what is stored and committed as it leaves.
-fn request(
-    own: u64,
-    stored: &StoredGroup,
-    committed: Option<LogId<u64>>,
+fn request<S: GroupStorage>(
+    alloc: Global,
+    sender: &Sender,
     peer: u64,
     inflight: &Inflight<u64>,
-) -> Result<Option<GroupMessage>, AllocError>
-    ensures { IfOk result (λ sent. messages_of sent ≡ request_to own stored.now committed peer inflight.now) }
+    storage: &mut S,
+    group: u64,
+) -> Result<Option<Message<S::Snapshot>>, S::Fault>
+    ensures well { S.is_well storage.old → OnOk result (S.is_well storage.new) }
+    ensures ok { (s : StoredGroup) → S.is_well storage.old → S.shows storage.old group (s ∷ []) → sender.now.vote ≡ s.vote
+        → IfOk result (λ sent. SaysAll S.stands (listed sent) (request_to sender.now.own s sender.now.committed peer inflight.now)) }
+    ensures kept { KeepsAll (S.shows storage.old) (S.shows storage.new) }
 {
     match inflight {
         Inflight::None => Ok(None),
         Inflight::Logs { id, log_id_range } => {
-            let previous = log_id_range.prev;
-            let request = AppendFields {
-                vote: stored.vote(),
-                id: RequestId::Numbered { id: *id },
-                previous,
-                committed,
-                entries: stored.entries_between(previous, log_id_range.last)?,
-            };
-            Ok(message(own, peer, MessageBody::AppendRequest(request)))
+            entries(alloc, sender, peer, (*id, *log_id_range), storage, group)
         }
-        Inflight::Snapshot { id, .. } => snapshot(own, peer, *id, stored),
+        Inflight::Snapshot { id, .. } => snapshot(alloc, sender, peer, *id, storage, group),
     }
 }
 
 /// The message that the node sends for the command, if it sends one (own): a request has what is
-/// stored as it leaves, and what is committed. It fails for want of memory alone.
-pub fn sent<C: RaftTypeConfig<NodeId = u64, Node = BasicNode, D = Bytes>>(
+/// stored as it leaves, and what is committed. It stores nothing, and fails where a read does, or
+/// for want of memory.
+pub fn sent<C: RaftTypeConfig<NodeId = u64, Node = BasicNode, D = Bytes>, S: GroupStorage>(
     alloc: Global,
-    own: u64,
+    sender: &Sender,
     command: &Command<C>,
-    stored: &StoredGroup,
-    committed: Option<LogId<u64>>,
-) -> Result<Option<GroupMessage>, AllocError>
-    ensures { IfOk result (λ sent. messages_of sent ≡ sending_of own stored.now committed command.now) }
+    storage: &mut S,
+    group: u64,
+) -> Result<Option<Message<S::Snapshot>>, S::Fault>
+    ensures well { S.is_well storage.old → OnOk result (S.is_well storage.new) }
+    ensures ok { (s : StoredGroup) → S.is_well storage.old → S.shows storage.old group (s ∷ []) → sender.now.vote ≡ s.vote
+        → IfOk result (λ sent. SaysAll S.stands (listed sent) (sending_of sender.now.own s sender.now.committed command.now)) }
+    ensures kept { KeepsAll (S.shows storage.old) (S.shows storage.new) }
 {
+    let own = sender.own;
     match command {
         Command::ReplicateCommitted {
             target,
@@ -191,46 +237,65 @@ pub fn sent<C: RaftTypeConfig<NodeId = u64, Node = BasicNode, D = Bytes>>(
             };
             Ok(message(own, *target, MessageBody::AppendRequest(request)))
         }
-        Command::Replicate { target, req } => request(own, stored, committed, *target, req),
+        Command::Replicate { target, req } => {
+            request(alloc, sender, *target, req, storage, group)
+        }
         Command::SendVote { target, vote_req } => {
             Ok(message(own, *target, MessageBody::VoteRequest(*vote_req)))
         }
-        Command::Respond { resp, .. } => Ok(answer(own, resp)),
+        Command::Respond { resp, .. } => Ok(answer::<C, S>(own, resp)),
         _ => Ok(None),
     }
 }
 
-// The command's message goes behind the others.
-fn push_sent<C: RaftTypeConfig<NodeId = u64, Node = BasicNode, D = Bytes>>(
-    alloc: Global,
-    own: u64,
-    command: &Command<C>,
-    stored: &StoredGroup,
-    committed: Option<LogId<u64>>,
-    all: &mut Vec<GroupMessage>,
-) -> Result<(), AllocError>
-    ensures { OnOk result (map message_of all.new.items ≡ map message_of all.old.items ++ sending_of own stored.now committed command.now) }
+// The message, if there is one, goes behind the others.
+fn push<X: Drop>(all: &mut Vec<Message<X>>, message: Option<Message<X>>) -> Result<(), AllocError>
+    ensures { OnOk result (all.new.items ≡ all.old.items ++ listed message) }
 {
-    if let Some(message) = sent(alloc, own, command, stored, committed)? {
+    if let Some(message) = message {
         all.push(message)?;
     }
     Ok(())
 }
 
-/// The messages that the node sends for the queue's commands, in its order (own).
-pub fn messages<C: RaftTypeConfig<NodeId = u64, Node = BasicNode, D = Bytes>>(
+// The command's message goes behind the others.
+fn push_sent<C: RaftTypeConfig<NodeId = u64, Node = BasicNode, D = Bytes>, S: GroupStorage>(
     alloc: Global,
-    own: u64,
+    sender: &Sender,
+    command: &Command<C>,
+    storage: &mut S,
+    group: u64,
+    all: &mut Vec<Message<S::Snapshot>>,
+) -> Result<(), S::Fault>
+    ensures well { S.is_well storage.old → OnOk result (S.is_well storage.new) }
+    ensures ok { (s : StoredGroup) (before : List Said) → S.is_well storage.old → S.shows storage.old group (s ∷ []) → sender.now.vote ≡ s.vote
+        → SaysAll S.stands all.old.items before
+        → OnOk result (SaysAll S.stands all.new.items (before ++ sending_of sender.now.own s sender.now.committed command.now)) }
+    ensures kept { KeepsAll (S.shows storage.old) (S.shows storage.new) }
+{
+    let message = sent(alloc, sender, command, storage, group)?;
+    push(all, message)?;
+    Ok(())
+}
+
+/// The messages that the node sends for the queue's commands, in its order (own). It stores nothing,
+/// and fails where a read does, or for want of memory.
+pub fn messages<C: RaftTypeConfig<NodeId = u64, Node = BasicNode, D = Bytes>, S: GroupStorage>(
+    alloc: Global,
+    sender: &Sender,
     queue: &EngineOutput<C>,
-    stored: &StoredGroup,
-    committed: Option<LogId<u64>>,
-) -> Result<Vec<GroupMessage>, AllocError>
-    ensures { IfOk result (λ sent. map message_of sent.items ≡ sent_by own stored.now committed queue.now.queue) }
+    storage: &mut S,
+    group: u64,
+) -> Result<Vec<Message<S::Snapshot>>, S::Fault>
+    ensures well { S.is_well storage.old → OnOk result (S.is_well storage.new) }
+    ensures ok { (s : StoredGroup) → S.is_well storage.old → S.shows storage.old group (s ∷ []) → sender.now.vote ≡ s.vote
+        → IfOk result (λ sent. SaysAll S.stands sent.items (sent_by sender.now.own s sender.now.committed queue.now.queue)) }
+    ensures kept { KeepsAll (S.shows storage.old) (S.shows storage.new) }
 {
     let mut all = Vec::new(alloc);
     let mut left = queue.iter_commands();
     while let Some(command) = left.next() {
-        push_sent(alloc, own, command, stored, committed, &mut all)?;
+        push_sent(alloc, sender, command, storage, group, &mut all)?;
     }
     Ok(all)
 }

@@ -1,70 +1,82 @@
 //! What commands store.
-ghost use Rattle.std.specs.Prelude.{◌≡◌, Some, IfOk, OnOk, OnErr, if◌then◌else◌, length};
+ghost use Rattle.std.specs.Prelude.{◌≡◌, IfOk, OnOk, OnErr, if◌then◌else◌, length};
 ghost use Rattle.std.specs.Option.{option_copied};
-ghost use Rattle.raft_group_step.specs.StoredGroup.{SetSnapshot, Snapshot, after_storing, after_storing_all};
+ghost use Rattle.raft_group_step.specs.StoredGroup.{SetSnapshot, Snapshot};
 ghost use Rattle.raft_engine.specs.Commands.{put_all, storing_of, stored_by};
-ghost use Rattle.raft_executor.specs.Stored.{IsGiven, IsPartStored, first_of, has_snapshot, queue_has_snapshot, room_after};
+ghost use Rattle.raft_group_storage.specs.Keeping.{KeepsOthers, MayStore, StandsOrNone, Stores};
+ghost use Rattle.raft_executor.specs.Stored.{FailsAmong, FailsAtOne, IsGiven, MayStoreAll, StoresAll, first_of, has_snapshot, queue_has_snapshot, room_after};
 
 use raft_commands::sm::CommandPayload;
 use raft_commands::{Command, EngineOutput, RaftTypeConfig};
 use raft_group_step::Entries;
+use raft_group_storage::GroupStorage;
 use raft_state::{BasicNode, Bytes};
-use raft_stored_group::{GroupSnapshot, StoredGroup};
-use std::alloc::AllocError;
 
 // The entries are stored from the place of the first one on.
-fn store_entries(
+fn store_entries<S: GroupStorage>(
     entries: &Entries<u64, BasicNode, Bytes>,
-    stored: &mut StoredGroup,
-) -> Result<(), AllocError>
-    ensures ok { OnOk result (stored.new ≡ after_storing_all (put_all entries.now) stored.old) }
-    ensures err { OnErr result (stored.new ≡ stored.old) }
+    storage: &mut S,
+    group: u64,
+) -> Result<(), S::Fault>
+    ensures well { S.is_well storage.old → OnOk result (S.is_well storage.new) }
+    ensures ok { S.is_well storage.old → OnOk result (StoresAll (S.shows storage.old) (S.shows storage.new) group (put_all entries.now)) }
+    ensures err { S.is_well storage.old → OnErr result (MayStoreAll (S.shows storage.old) (S.shows storage.new) group (put_all entries.now)) }
+    ensures others { KeepsOthers (S.shows storage.old) (S.shows storage.new) group }
 {
     match entries.as_slice().first() {
-        Some(entry) => stored.put_entries(entry.log_id.index, entries.as_slice()),
+        Some(entry) => storage.put_entries(group, entry.log_id.index, entries.as_slice()),
         None => Ok(()),
     }
 }
 
 // A copy of the snapshot takes the place of the one before.
-fn store_snapshot(
-    snapshot: Option<&GroupSnapshot>,
-    stored: &mut StoredGroup,
-) -> Result<(), AllocError>
-    ensures ok { (x : Snapshot) → option_copied snapshot.entry ≡ Some x → OnOk result (stored.new ≡ after_storing (SetSnapshot x) stored.old) }
-    ensures err { OnErr result (stored.new ≡ stored.old) }
+fn store_snapshot<S: GroupStorage>(
+    snapshot: Option<&S::Snapshot>,
+    storage: &mut S,
+    group: u64,
+) -> Result<(), S::Fault>
+    ensures well { S.is_well storage.old → OnOk result (S.is_well storage.new) }
+    ensures ok { (x : Snapshot) → StandsOrNone S.stands (option_copied snapshot.entry) (Some x) → S.is_well storage.old
+        → OnOk result (Stores (S.shows storage.old) (S.shows storage.new) group (SetSnapshot x)) }
+    ensures err { (x : Snapshot) → StandsOrNone S.stands (option_copied snapshot.entry) (Some x) → S.is_well storage.old
+        → OnErr result (MayStore (S.shows storage.old) (S.shows storage.new) group (SetSnapshot x)) }
+    ensures others { KeepsOthers (S.shows storage.old) (S.shows storage.new) group }
 {
-    if let Some(snapshot) = snapshot {
-        stored.set_snapshot(snapshot.clone()?);
+    match snapshot {
+        Some(snapshot) => storage.set_snapshot(group, snapshot),
+        None => Ok(()),
     }
-    Ok(())
 }
 
-/// What the command stores is stored (own). The snapshot is the one that the command builds or
-/// installs; a command that does neither needs none. Without memory the group stays as it was.
-pub fn store<C: RaftTypeConfig<NodeId = u64, Node = BasicNode, D = Bytes>>(
+/// What the command stores is stored in the group (own). The snapshot is the one that the command
+/// builds or installs; a command that does neither needs none. Where it fails, the command is stored
+/// or not, and other groups are as they were.
+pub fn store<C: RaftTypeConfig<NodeId = u64, Node = BasicNode, D = Bytes>, S: GroupStorage>(
     command: &Command<C>,
-    snapshot: Option<&GroupSnapshot>,
-    stored: &mut StoredGroup,
-) -> Result<(), AllocError>
-    ensures ok { (x : Snapshot) → IsGiven (has_snapshot command.now) (option_copied snapshot.entry) x
-        → OnOk result (stored.new ≡ after_storing_all (storing_of x command.now) stored.old) }
-    ensures err { OnErr result (stored.new ≡ stored.old) }
+    snapshot: Option<&S::Snapshot>,
+    storage: &mut S,
+    group: u64,
+) -> Result<(), S::Fault>
+    ensures well { S.is_well storage.old → OnOk result (S.is_well storage.new) }
+    ensures ok { (x : Snapshot) → IsGiven S.stands (has_snapshot command.now) (option_copied snapshot.entry) x → S.is_well storage.old
+        → OnOk result (StoresAll (S.shows storage.old) (S.shows storage.new) group (storing_of x command.now)) }
+    ensures err { (x : Snapshot) → IsGiven S.stands (has_snapshot command.now) (option_copied snapshot.entry) x → S.is_well storage.old
+        → OnErr result (MayStoreAll (S.shows storage.old) (S.shows storage.new) group (storing_of x command.now)) }
+    ensures others { KeepsOthers (S.shows storage.old) (S.shows storage.new) group }
 {
     match command {
-        Command::AppendInputEntries { entries, .. } => store_entries(entries, stored)?,
-        Command::SaveVote { vote } => stored.set_vote(*vote),
-        Command::PurgeLog { upto } => stored.remove_up_to(*upto),
-        Command::DeleteConflictLog { since } => stored.cut_from(since.index),
+        Command::AppendInputEntries { entries, .. } => store_entries(entries, storage, group),
+        Command::SaveVote { vote } => storage.set_vote(group, *vote),
+        Command::PurgeLog { upto } => storage.remove_up_to(group, *upto),
+        Command::DeleteConflictLog { since } => storage.cut_from(group, since.index),
         Command::StateMachine { command } => match &command.payload {
             CommandPayload::BuildSnapshot | CommandPayload::InstallFullSnapshot { .. } => {
-                store_snapshot(snapshot, stored)?;
+                store_snapshot(snapshot, storage, group)
             }
-            _ => {}
+            _ => Ok(()),
         },
-        _ => {}
+        _ => Ok(()),
     }
-    Ok(())
 }
 
 // Whether the command stores something.
@@ -87,51 +99,59 @@ fn stores<C: RaftTypeConfig<NodeId = u64, Node = BasicNode, D = Bytes>>(
 }
 
 // What the command stores is stored where there is room, and how much room is left.
-fn store_within<C: RaftTypeConfig<NodeId = u64, Node = BasicNode, D = Bytes>>(
+fn store_within<C: RaftTypeConfig<NodeId = u64, Node = BasicNode, D = Bytes>, S: GroupStorage>(
     command: &Command<C>,
     room: Option<u64>,
-    snapshot: Option<&GroupSnapshot>,
-    stored: &mut StoredGroup,
-) -> Result<Option<u64>, AllocError>
-    ensures ok { (x : Snapshot) → IsGiven (has_snapshot command.now) (option_copied snapshot.entry) x
-        → IfOk result (λ rest. (rest ≡ room_after room (length (storing_of x command.now)))
-        × (stored.new ≡ after_storing_all (first_of room (storing_of x command.now)) stored.old)) }
-    ensures err { OnErr result (stored.new ≡ stored.old) }
+    snapshot: Option<&S::Snapshot>,
+    storage: &mut S,
+    group: u64,
+) -> Result<Option<u64>, S::Fault>
+    ensures well { S.is_well storage.old → OnOk result (S.is_well storage.new) }
+    ensures room { (x : Snapshot) → IfOk result (λ rest. rest ≡ room_after room (length (storing_of x command.now))) }
+    ensures ok { (x : Snapshot) → IsGiven S.stands (has_snapshot command.now) (option_copied snapshot.entry) x → S.is_well storage.old
+        → OnOk result (StoresAll (S.shows storage.old) (S.shows storage.new) group (first_of room (storing_of x command.now))) }
+    ensures err { (x : Snapshot) → IsGiven S.stands (has_snapshot command.now) (option_copied snapshot.entry) x → S.is_well storage.old
+        → OnErr result (FailsAtOne (S.shows storage.old) (S.shows storage.new) group (first_of room (storing_of x command.now))) }
+    ensures others { KeepsOthers (S.shows storage.old) (S.shows storage.new) group }
 {
     if !stores(command) {
         return Ok(room);
     }
     match room {
         None => {
-            store(command, snapshot, stored)?;
+            store(command, snapshot, storage, group)?;
             Ok(None)
         }
         Some(0) => Ok(room),
         Some(count) => {
-            store(command, snapshot, stored)?;
+            store(command, snapshot, storage, group)?;
             Ok(Some(count - 1))
         }
     }
 }
 
-/// What the queue's commands store is stored, in its order: so much of it from the first on, or
-/// all (own). The snapshot is the one that a command builds or installs. Without memory some of it
-/// is stored, from the first on.
-pub fn store_first<C: RaftTypeConfig<NodeId = u64, Node = BasicNode, D = Bytes>>(
+/// What the queue's commands store is stored in the group, in its order: so much of it from the
+/// first on, or all (own). The snapshot is the one that a command builds or installs. Where it fails,
+/// the commands before the one that failed are stored, that one is or not, and the others aren't.
+/// Other groups are as they were.
+pub fn store_first<C: RaftTypeConfig<NodeId = u64, Node = BasicNode, D = Bytes>, S: GroupStorage>(
     queue: &EngineOutput<C>,
     limit: Option<u64>,
-    snapshot: Option<&GroupSnapshot>,
-    stored: &mut StoredGroup,
-) -> Result<(), AllocError>
-    ensures ok { (x : Snapshot) → IsGiven (queue_has_snapshot queue.now.queue) (option_copied snapshot.entry) x
-        → OnOk result (stored.new ≡ after_storing_all (first_of limit (stored_by x queue.now.queue)) stored.old) }
-    ensures err { (x : Snapshot) → IsGiven (queue_has_snapshot queue.now.queue) (option_copied snapshot.entry) x
-        → OnErr result (IsPartStored (first_of limit (stored_by x queue.now.queue)) stored.old stored.new) }
+    snapshot: Option<&S::Snapshot>,
+    storage: &mut S,
+    group: u64,
+) -> Result<(), S::Fault>
+    ensures well { S.is_well storage.old → OnOk result (S.is_well storage.new) }
+    ensures ok { (x : Snapshot) → IsGiven S.stands (queue_has_snapshot queue.now.queue) (option_copied snapshot.entry) x → S.is_well storage.old
+        → OnOk result (StoresAll (S.shows storage.old) (S.shows storage.new) group (first_of limit (stored_by x queue.now.queue))) }
+    ensures err { (x : Snapshot) → IsGiven S.stands (queue_has_snapshot queue.now.queue) (option_copied snapshot.entry) x → S.is_well storage.old
+        → OnErr result (FailsAmong (S.shows storage.old) (S.shows storage.new) group (first_of limit (stored_by x queue.now.queue))) }
+    ensures others { KeepsOthers (S.shows storage.old) (S.shows storage.new) group }
 {
     let mut room = limit;
     let mut left = queue.iter_commands();
     while let Some(command) = left.next() {
-        room = store_within(command, room, snapshot, stored)?;
+        room = store_within(command, room, snapshot, storage, group)?;
     }
     Ok(())
 }

@@ -10,27 +10,28 @@ use Rattle.raft_values.specs.LogId.{next_place}
 use Rattle.raft_state.specs.declared.entry.EntryPayload.TheVariants.{Blank, Normal, Membership as Members}
 use Rattle.raft_group_step.specs.Values.{Entry, EntryPayload, leader_lt}
 use Rattle.raft_group_step.specs.StoredGroup.{Snapshot, membership_in_force}
-use Rattle.raft_group_step.specs.Message.{AppendRequest, Conflict as HasConflict, HigherVote as HasHigherVote, Numbered as IsNumbered, Success as Accepted}
+use Rattle.raft_group_step.specs.Message.{AppendRequest, Conflict as HasConflict, HigherVote as HasHigherVote, Numbered as IsNumbered, PartialSuccess as AcceptedPart, Success as Accepted}
 use Rattle.raft_group_step.specs.GroupState.{GroupState}
 use Rattle.raft_group_step.specs.GroupEvent.{Receive}
 use Rattle.raft_group_step.specs.Refusal.{do_follow, is_of_leader, is_sound, keep_voters, reasons_of, refusal_of}
 use Rattle.raft_group_step.specs.StepResult.{BreaksCondition}
-use Rattle.raft_laws.proofs.StepCalls.{no_reason, unless_none}
+use Rattle.raft_group_step.proofs.Refusals.{unless_none}
+use Rattle.raft_laws.proofs.StepCalls.{no_reason}
 use Rattle.raft_messages.specs.Messages.{append_fields_of, body_as, message_as, outcome_of, reply_fields_of, request_id_of}
 use Rattle.raft_messages.specs.declared.memberships.SnapshotBytes.{SnapshotBytes}
 use Rattle.raft_messages.specs.declared.message.AppendFields.{AppendFields}
 use Rattle.raft_messages.specs.declared.message.ReplyFields.{ReplyFields}
 use Rattle.raft_messages.specs.declared.message.ReplyResult.{ReplyResult}
-use Rattle.raft_messages.specs.declared.message.ReplyResult.TheVariants.{Success, Conflict, HigherVote}
+use Rattle.raft_messages.specs.declared.message.ReplyResult.TheVariants.{Success, PartialSuccess, Conflict, HigherVote}
 use Rattle.raft_messages.specs.declared.message.RequestId.{RequestId}
 use Rattle.raft_messages.specs.declared.message.RequestId.TheVariants.{HeartBeat, Numbered}
 use Rattle.raft_messages.specs.declared.message.Message.{Message as Sent}
 use Rattle.raft_messages.specs.declared.message.MessageBody.{MessageBody}
 use Rattle.raft_messages.specs.declared.message.MessageBody.TheVariants as body
-use Rattle.raft_step_laws.specs.Fitting.{ArePlacedFrom, FitEntries, FitsBody, FitsPayload, FitsRequest, FitsSnapshotReply}
-use Rattle.raft_wire.specs.Bodies.{is_conflict, is_of_snapshot, has_number}
+use Rattle.raft_step_laws.specs.Fitting.{ArePlacedFrom, FitEntries, FitsBody, FitsPayload, FitsRequest, FitsSnapshotReply, IsWhole}
+use Rattle.raft_wire.specs.Bodies.{is_conflict, is_of_snapshot, is_spelled, has_number}
 use Rattle.raft_wire.specs.Entries.{follows}
-use Rattle.raft_wire.specs.Frames.{are_consecutive, are_entries_short, fault_of_entries, fault_of_frame}
+use Rattle.raft_wire.specs.Frames.{are_consecutive, are_entries_short, fault_of_entries, fault_of_frame, fault_of_reply}
 use Rattle.raft_wire.specs.Writing.{is_payload_short}
 use Rattle.raft_wire.specs.declared.error.FrameFault.{FrameFault}
 use Rattle.raft_wire.specs.declared.error.FrameFault.TheVariants as fault
@@ -93,12 +94,28 @@ numbered (Numbered id) n e = refl
 
 agrees : (outcome : ReplyResult) → (outcome_of outcome ≡ HasConflict → ⊥) → is_conflict outcome ≡ false
 agrees Success unlike = refl
+agrees (PartialSuccess last) unlike = refl
 agrees Conflict unlike = absurd (unlike refl)
 agrees (HigherVote vote) unlike = refl
 
-without_fault : (of_snapshot : Bool) (why : FrameFault) → of_snapshot ≡ true → cond of_snapshot None (Some why) ≡ None
-without_fault true why t = refl
-without_fault false why t = absurd cc
+spelled : (outcome : ReplyResult) → IsWhole (outcome_of outcome) → is_spelled outcome ≡ true
+spelled Success w = refl
+spelled (PartialSuccess last) w = absurd w
+spelled Conflict w = refl
+spelled (HigherVote vote) w = refl
+
+whole : (outcome : ReplyResult) → is_spelled outcome ≡ true → IsWhole (outcome_of outcome)
+whole Success t = tt
+whole (PartialSuccess last) t = absurd cc
+whole Conflict t = tt
+whole (HigherVote vote) t = tt
+
+without_fault : (b : Bool) (first why : Option FrameFault) → b ≡ true → first ≡ None → cond b first why ≡ None
+without_fault true first why t e = e
+without_fault false first why t e = absurd cc
+
+reply_spelled : (m : ReplyFields) → IsWhole (outcome_of m.outcome) → fault_of_reply m ≡ None
+reply_spelled m w = without_fault (is_spelled m.outcome) None (Some fault.BadTag) (spelled m.outcome w) refl
 
 reply_fits : (m : ReplyFields) → FitsSnapshotReply (reply_fields_of m) → is_of_snapshot m ≡ true
 reply_fits m f =
@@ -111,9 +128,9 @@ pub fits_frame : (carried : SnapshotBytes → Snapshot) (b : MessageBody Snapsho
 fits_frame carried (body.VoteRequest r) bare f = refl
 fits_frame carried (body.VoteReply r) bare f = refl
 fits_frame carried (body.AppendRequest m) bare f = request_fits m f
-fits_frame carried (body.AppendReply m) bare f = refl
+fits_frame carried (body.AppendReply m) bare f = reply_spelled m f
 fits_frame carried (body.SnapshotRequest vote id s) bare f = absurd cc
-fits_frame carried (body.SnapshotReply m) bare f = without_fault (is_of_snapshot m) fault.BadTag (reply_fits m f)
+fits_frame carried (body.SnapshotReply m) bare f = without_fault (is_of_snapshot m) (fault_of_reply m) (Some fault.BadTag) (reply_fits m f) (reply_spelled m f.whole)
 
 -- ---- what a frame brings
 
@@ -123,6 +140,7 @@ has_numbered (Numbered id) t = (id, refl)
 
 no_conflict : (outcome : ReplyResult) → is_conflict outcome ≡ false → outcome_of outcome ≡ HasConflict → ⊥
 no_conflict Success t e = absurd (let f : Accepted ≡ HasConflict = e in cc)
+no_conflict (PartialSuccess last) t e = absurd (let f : AcceptedPart last ≡ HasConflict = e in cc)
 no_conflict Conflict t e = absurd cc
 no_conflict (HigherVote vote) t e = absurd (let f : HasHigherVote vote ≡ HasConflict = e in cc)
 
@@ -130,12 +148,15 @@ none_is : (o : Option (LogId ℕ)) → is_none o ≡ true → o ≡ None
 none_is None t = refl
 none_is (Some id) t = absurd cc
 
-of_snapshot : (b : Bool) → cond b None (Some fault.BadTag) ≡ None → b ≡ true
-of_snapshot true e = refl
-of_snapshot false e = absurd cc
+without : (b : Bool) (first : Option FrameFault) → cond b first (Some fault.BadTag) ≡ None → (b ≡ true) × (first ≡ None)
+without true first e = (refl, e)
+without false first e = absurd cc
 
-reply_is : (m : ReplyFields) → is_of_snapshot m ≡ true → FitsSnapshotReply (reply_fields_of m)
-reply_is m t =
+reply_whole : (m : ReplyFields) → fault_of_reply m ≡ None → IsWhole (outcome_of m.outcome)
+reply_whole m e = whole m.outcome (without (is_spelled m.outcome) None e).0
+
+reply_is : (m : ReplyFields) → is_of_snapshot m ≡ true → fault_of_reply m ≡ None → FitsSnapshotReply (reply_fields_of m)
+reply_is m t e =
     let both = and_parts (has_number m.id && is_none m.previous) (not (is_conflict m.outcome)) t in
     let left = and_parts (has_number m.id) (is_none m.previous) both.0 in
     let id = has_numbered m.id left.0 in
@@ -144,6 +165,7 @@ reply_is m t =
       numbered = id.1;
       previous = none_is m.previous left.1;
       agrees = no_conflict m.outcome (not-true (is_conflict m.outcome) both.1);
+      whole = reply_whole m e;
     }
 
 -- entries that follow the previous one stand at their places
@@ -195,6 +217,6 @@ brought_fits own s now carried m bare right taken =
     go (body.VoteRequest r) bare right sound = tt
     go (body.VoteReply r) bare right sound = tt
     go (body.AppendRequest a) bare right sound = request_is own m.sender s a sound right
-    go (body.AppendReply a) bare right sound = tt
+    go (body.AppendReply a) bare right sound = reply_whole a right
     go (body.SnapshotRequest vote id x) bare right sound = absurd cc
-    go (body.SnapshotReply a) bare right sound = reply_is a (of_snapshot (is_of_snapshot a) right)
+    go (body.SnapshotReply a) bare right sound = let w = without (is_of_snapshot a) (fault_of_reply a) right in reply_is a w.0 w.1

@@ -12,6 +12,16 @@ use Rattle.raft_headline.specs.Seen.{Seen, Passed, Own, Halted, Crashed, aside, 
 use Rattle.raft_headline.specs.Machines.{MachinesMoveIn, Replicas}
 use Rattle.raft_headline.specs.Replaying.{FilteredHistoriesReplay, HaltStep, IsSaid, IsStep, IsThere, OwnStep, ReplaysWith, Says, StepsTo, is_opening, takes_number, with_number}
 
+-- an event that stopped was not turned away
+pub stopped_stays : (o : ClusterOutcome) → is_stopped o ≡ true → is_turned_away o ≡ false
+stopped_stays (Done said) f = refl
+stopped_stays (Opened parts) f = refl
+stopped_stays (Refused why) f = refl
+stopped_stays (Stopped unknown) f = refl
+stopped_stays Fused f = refl
+stopped_stays PassedOver f = refl
+stopped_stays TurnedAway f = absurd (let g : false ≡ true = f in cc)
+
 -- ---- what is filtered twice
 
 filter_twice : {A : Type 0} (p : A → Bool) (xs : List A) → filter p (filter p xs) ≡ filter p xs
@@ -111,15 +121,6 @@ module _ (h : ℕ) where
       go : (b : Bool) → is_stopped o ≡ b → (away : Bool) → seen_unless away (seen_of h e at o) ≡ Halted n → is_stopped o ≡ true
       go b q true f = passed f
       go b q false f = by_event e b q f
-
-  stopped_stays : (o : ClusterOutcome) → is_stopped o ≡ true → is_turned_away o ≡ false
-  stopped_stays (Done said) f = refl
-  stopped_stays (Opened parts) f = refl
-  stopped_stays (Refused why) f = refl
-  stopped_stays (Stopped unknown) f = refl
-  stopped_stays Fused f = refl
-  stopped_stays PassedOver f = refl
-  stopped_stays TurnedAway f = absurd (let g : false ≡ true = f in cc)
 
   abbrev halt_record : ℕ → Recorded → Recorded
   halt_record n r = record { event = Halt n; node = n; outcome = own_outcome h r.outcome }

@@ -8,7 +8,7 @@ use Rattle.raft_values.specs.LogId.{log_id_of, place_of}
 use Rattle.raft_state.specs.declared.entry.EntryPayload.TheVariants.{Membership as Members}
 use Rattle.raft_group_step.specs.Values.{ChangeMembers, Entry, LoggedMembership, entry_of, has_id}
 use Rattle.raft_group_step.specs.StoredGroup.{StoredGroup, Snapshot, StoringCommand, CutFrom, PutEntries, SetVote, StartAfter, entry_at, id_of, snapshot_last}
-use Rattle.raft_group_step.specs.Message.{MessageBody, VoteRequest, VoteReply, AppendRequest, AppendReply, SnapshotRequest, SnapshotReply, AppendFields, ReplyFields, ReplyResult, Success, Conflict, HigherVote}
+use Rattle.raft_group_step.specs.Message.{MessageBody, VoteRequest, VoteReply, AppendRequest, AppendReply, SnapshotRequest, SnapshotReply, AppendFields, ReplyFields, ReplyResult, Success, PartialSuccess, Conflict, HigherVote}
 use Rattle.raft_group_step.specs.Peer.{PeerState}
 use Rattle.raft_group_step.specs.GroupState.{GroupState, Lead, Role, Follower, Candidate, Leader, state_of}
 use Rattle.raft_group_step.specs.declared.group_call.GroupCall.TheVariants.{Initialize, Elect, Propose, ChangeMembership, Heartbeat, Lost, TriggerSnapshot, TriggerPurge}
@@ -29,8 +29,8 @@ use Rattle.raft_group_step.specs.SnapshotTrigger.{snapshot_at, snapshot_of_appli
 use Rattle.raft_group_step.specs.PurgeTrigger.{purge_as, purge_within}
 use Rattle.raft_group_step.specs.Opening.{drop_stale_log, opening_step}
 use Rattle.raft_group_step.specs.GroupStep.{call_step, finished, message_step}
+use Rattle.raft_group_step.proofs.Words.{either}
 use Rattle.raft_laws.proofs.BallotSafe.{Among}
-use Rattle.raft_laws.proofs.StepWords.{either}
 use Rattle.raft_headline.specs.Machines.{snapshot_in, snapshots_of, with_snapshot}
 
 -- ---- places
@@ -213,6 +213,7 @@ module _ (c : ℕ) (P : Snapshot → Type 0) where
 
   higher-applies : (o : ReplyResult) (r : StepResult) → Applies r → Applies (with_higher_vote o r)
   higher-applies Success r h = h
+  higher-applies (PartialSuccess last) r h = h
   higher-applies Conflict r h = h
   higher-applies (HigherVote v) r h = greater-applies v r h
 

@@ -21,6 +21,7 @@ use Rattle.raft_headline.specs.Seen.{Seen, Passed, Halted, aside, own_or_aside, 
 use Rattle.raft_headline.specs.Machines.{Replicas}
 use Rattle.raft_headline.specs.Replaying.{CrashStep, HaltStep, IsThere, SaysCrash, OwnStep, ReplaysFor, ReplaysWith, Says, SaysEnd, StepsTo, is_opening}
 use Rattle.raft_headline.specs.Stops.{StopsStay, is_of_group, is_opened, is_passed, node_at, node_in, opens, opens_by}
+use Rattle.raft_headline.proofs.Filtering.{stopped_stays}
 use Rattle.raft_headline.proofs.Splitting.{split}
 
 -- ---- a node that is down
@@ -183,19 +184,10 @@ module _ (rules : MachineRules) (h : ℕ) where
         own_stops (event.Restart n) r k old new n t s (λ m at_node e. let f : At n Restarts ≡ At m at_node = e in let same : n ≡ m = cc in sym same)
     event_stops (Halt n) s = aside_stops n s
 
-    not_away : (o : ClusterOutcome) → is_stopped o ≡ true → is_turned_away o ≡ false
-    not_away (Done said) q = refl
-    not_away (Opened parts) q = refl
-    not_away (Refused why) q = refl
-    not_away (Stopped unknown) q = refl
-    not_away Fused q = refl
-    not_away PassedOver q = refl
-    not_away TurnedAway q = absurd (let f : false ≡ true = q in cc)
-
     -- its node is down
     pub stop_goes_down : Steps (seen_by h r) → DownAt new.world (node_at r)
     stop_goes_down s =
-        event_stops r.event (subst (λ b. Steps (seen_unless b (seen_of h r.event r.node r.outcome))) (not_away r.outcome t) s)
+        event_stops r.event (subst (λ b. Steps (seen_unless b (seen_of h r.event r.node r.outcome))) (stopped_stays r.outcome t) s)
 
   -- ---- and stays so
 

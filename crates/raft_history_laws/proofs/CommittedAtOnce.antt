@@ -9,6 +9,7 @@ use Rattle.raft_group_step.specs.StepResult.{RefusalReason, StepResult, is_withi
 use Rattle.raft_group_step.specs.Lead.{configs_in_force}
 use Rattle.raft_group_step.specs.Refusal.{refusal_of}
 use Rattle.raft_group_step.specs.GroupStep.{event_step, group_step, step_unless}
+use Rattle.raft_group_step.proofs.EntryPlaces.{entry_within}
 use Rattle.raft_laws.specs.BallotWorld.{BallotEvent, BallotWorld, ballot_start}
 use Rattle.raft_laws.specs.BallotRanks.{ballot_group}
 use Rattle.raft_laws.specs.GroupWorld.{NodeState, Absent, Up, Down, state_or}
@@ -30,7 +31,7 @@ use Rattle.raft_laws.proofs.FreshEntries.{without_is}
 use Rattle.raft_step_laws.specs.Commits.{CommitsAll, PurgeKeepsVoters, has_quorum_at}
 use Rattle.raft_step_laws.specs.Fitting.{IsCommittedWithin}
 use Rattle.raft_step_laws.proofs.Committing.{commits_at_once}
-use Rattle.raft_step_laws.proofs.FitWords.{entry_place, entry_within}
+use Rattle.raft_step_laws.proofs.FitWords.{entry_place}
 use Rattle.raft_step_laws.proofs.Sending.{finished_adds}
 use Rattle.raft_history_laws.specs.AnsweredCommits.{LeadersCommitAtOnce, WaitingLackQuorums}
 use Rattle.raft_history_laws.specs.WaitingTokens.{IsWaiting}

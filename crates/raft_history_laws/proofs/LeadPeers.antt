@@ -6,15 +6,15 @@ use Rattle.raft_values.specs.declared.log_id.LogId.{LogId}
 use Rattle.raft_values.specs.declared.vote.Vote.{Vote}
 use Rattle.raft_values.specs.LogId.{next_place}
 use Rattle.raft_group_step.specs.Values.{vote_eq}
-use Rattle.raft_group_step.specs.Message.{MessageBody, VoteRequest, VoteReply, AppendRequest, AppendReply, SnapshotRequest, SnapshotReply, ReplyFields, ReplyResult, Success, Conflict, HigherVote}
+use Rattle.raft_group_step.specs.Message.{MessageBody, VoteRequest, VoteReply, AppendRequest, AppendReply, SnapshotRequest, SnapshotReply, ReplyFields, ReplyResult, Success, PartialSuccess, Conflict, HigherVote}
 use Rattle.raft_group_step.specs.Peer.{Outstanding, PeerState, is_answer_to, new_peer}
 use Rattle.raft_group_step.specs.GroupState.{GroupState}
 use Rattle.raft_group_step.specs.GroupEvent.{GroupEvent, AddGroup, Call, Receive, Open}
-use Rattle.raft_group_step.specs.Reply.{after_answer, ended}
+use Rattle.raft_group_step.specs.Reply.{accepted_up_to, after_answer, ended, is_part_of}
 use Rattle.raft_step_laws.specs.Commits.{reaches}
 use Rattle.raft_step_laws.specs.PeerStates.{loses, peer_after_event, peer_after_message, peer_after_reply, peer_after_sending}
 use Rattle.raft_step_laws.proofs.PeerLists.{cond_same}
-use Rattle.raft_history_laws.specs.KnownPeers.{accepted_by_event, accepted_by_message, accepted_by_reply, accepted_in, answered_in, one_reaches, peer_after_lead}
+use Rattle.raft_history_laws.specs.KnownPeers.{accepted_by_event, accepted_by_message, accepted_by_reply, accepted_in, answered_in, in_list, one_reaches, peer_after_lead}
 use Rattle.raft_history_laws.specs.Leads.{LeadEvent}
 use Rattle.raft_history_laws.proofs.PeersInOrder.{IsAnswered, is_answered}
 
@@ -82,7 +82,7 @@ new_unmoved s Open b n = refl
 
 reply_accepts_none : (v : Vote ℕ) (reply : ReplyFields) (b n : ℕ) → accepted_by_reply v reply (new_peer b n) ≡ []
 reply_accepts_none v reply b n =
-    ap (λ t. cond t (accepted_in reply.outcome reply.last) []) (and_right (vote_eq reply.vote v) false refl)
+    ap (λ t. cond t (accepted_in (new_peer b n) reply reply.outcome) []) (and_right (vote_eq reply.vote v) false refl)
 
 message_accepts_none : (v : Vote ℕ) (m : MessageBody) (b n : ℕ) → accepted_by_message v m (new_peer b n) ≡ []
 message_accepts_none v (VoteRequest w last) b n = refl
@@ -131,7 +131,7 @@ module _ (place : ℕ) (p : PeerState) (h : Follows p) where
   none_reaches : (q : PeerState) → q.matched ≡ p.matched → reaches q.matched place ≡ (reaches p.matched place || one_reaches place [])
   none_reaches q e = ap (λ o. reaches o place) e ∙ or_none (reaches p.matched place)
 
-  success_reaches : (last : Option (LogId ℕ)) → next_place p.matched ≤ next_place last → reaches last place ≡ (reaches p.matched place || one_reaches place (accepted_in Success last))
+  success_reaches : (last : Option (LogId ℕ)) → next_place p.matched ≤ next_place last → reaches last place ≡ (reaches p.matched place || one_reaches place (in_list last))
   success_reaches None l = go p.matched l
     where
       go : (o : Option (LogId ℕ)) → next_place o ≤ 0 → false ≡ (reaches o place || false)
@@ -139,15 +139,22 @@ module _ (place : ℕ) (p : PeerState) (h : Follows p) where
       go (Some id) k = absurd (omega arith)
   success_reaches (Some id) l = later_reaches place p.matched id l
 
-  outcome_reaches : (reply : ReplyFields) → next_place p.matched ≤ next_place reply.last → (o : ReplyResult) → reaches (after_answer p reply o).matched place ≡ (reaches p.matched place || one_reaches place (accepted_in o reply.last))
+  outcome_reaches : (reply : ReplyFields) → next_place p.matched ≤ next_place reply.last → (o : ReplyResult) → reaches (after_answer p reply o).matched place ≡ (reaches p.matched place || one_reaches place (accepted_in p reply o))
   outcome_reaches reply l Success = success_reaches reply.last l
+  outcome_reaches reply l (PartialSuccess last) = go (is_part_of p reply last) refl
+    where
+      go : (b : Bool) → is_part_of p reply last ≡ b → reaches (cond b (accepted_up_to last p) (ended p)).matched place ≡ (reaches p.matched place || one_reaches place (cond b (in_list last) []))
+      go true t =
+          let low = leb-true (next_place p.matched) (next_place last) (and_parts (nat_le (next_place p.matched) (next_place last)) (nat_le (next_place last) (next_place reply.last)) t).0 in
+          success_reaches last low
+      go false t = or_none (reaches p.matched place)
   outcome_reaches reply l Conflict = or_none (reaches p.matched place)
   outcome_reaches reply l (HigherVote v) = or_none (reaches p.matched place)
 
   reply_reaches : (v : Vote ℕ) (reply : ReplyFields) → reaches (peer_after_reply v reply p).matched place ≡ (reaches p.matched place || one_reaches place (accepted_by_reply v reply p))
   reply_reaches v reply = go (vote_eq reply.vote v && is_answer_to reply p.outstanding) refl
     where
-      go : (b : Bool) → (vote_eq reply.vote v && is_answer_to reply p.outstanding) ≡ b → reaches (cond b (after_answer p reply reply.outcome) p).matched place ≡ (reaches p.matched place || one_reaches place (cond b (accepted_in reply.outcome reply.last) []))
+      go : (b : Bool) → (vote_eq reply.vote v && is_answer_to reply p.outstanding) ≡ b → reaches (cond b (after_answer p reply reply.outcome) p).matched place ≡ (reaches p.matched place || one_reaches place (cond b (accepted_in p reply reply.outcome) []))
       go true t =
           let a : IsAnswered reply p = is_answered reply p (and_parts (vote_eq reply.vote v) (is_answer_to reply p.outstanding) t).1 in
           let low = h a.request a.outstanding in

@@ -11,6 +11,8 @@ use Rattle.raft_group_step.specs.declared.group_call.GroupCall.TheVariants.{Init
 use Rattle.raft_group_step.specs.GroupEvent.{GroupCall, Call}
 use Rattle.raft_group_step.specs.StepResult.{NotLeader}
 use Rattle.raft_group_step.specs.Refusal.{known_leader, reasons_of, refusal_of}
+use Rattle.raft_group_step.proofs.Words.{leads_if}
+use Rattle.raft_group_step.proofs.Refusals.{unless_none}
 use Rattle.raft_laws.specs.BallotLists.{AgreeBelow}
 use Rattle.raft_laws.specs.BallotWorld.{BallotEvent, BallotWorld}
 use Rattle.raft_laws.specs.BallotRanks.{rank_of, ballot_entry, ballot_log, ballot_group}
@@ -21,7 +23,7 @@ use Rattle.raft_laws.proofs.BallotStep.{Later}
 use Rattle.raft_laws.proofs.Shapes.{Good, joined_end, joined_held, slice_drop}
 use Rattle.raft_laws.proofs.Standing.{BodyFits, RoleFits, append-of}
 use Rattle.raft_laws.proofs.Ids.{ballot_at, size_same}
-use Rattle.raft_laws.proofs.StepCalls.{leads_on, no_reason, unless_none}
+use Rattle.raft_laws.proofs.StepCalls.{no_reason}
 use Rattle.raft_laws.proofs.StepFits.{NodeFits, world_after}
 use Rattle.raft_laws.proofs.WorldFits.{LedFits, WorldFits, after_safe, lead_list}
 use Rattle.raft_laws.proofs.Counts.{contains_at}
@@ -121,10 +123,10 @@ taken_leads n s (Initialize first) now t e = absurd (let no : false ≡ true = t
 taken_leads n s Elect now t e = absurd (let no : false ≡ true = t in cc)
 taken_leads n s (Propose command token) now t e =
     let passed = (no_reason (reasons_of n s (Call (Propose command token) now)) e).1 in
-    leads_on s.role (unless_none (is_leader s.role) (NotLeader (known_leader s.stored.vote)) passed.1.1.0)
+    leads_if s.role (unless_none (is_leader s.role) (NotLeader (known_leader s.stored.vote)) passed.1.1.0)
 taken_leads n s (ChangeMembership change token) now t e =
     let passed = (no_reason (reasons_of n s (Call (ChangeMembership change token) now)) e).1 in
-    leads_on s.role (unless_none (is_leader s.role) (NotLeader (known_leader s.stored.vote)) passed.1.0)
+    leads_if s.role (unless_none (is_leader s.role) (NotLeader (known_leader s.stored.vote)) passed.1.0)
 taken_leads n s Heartbeat now t e = absurd (let no : false ≡ true = t in cc)
 taken_leads n s (Lost peer) now t e = absurd (let no : false ≡ true = t in cc)
 taken_leads n s TriggerSnapshot now t e = absurd (let no : false ≡ true = t in cc)

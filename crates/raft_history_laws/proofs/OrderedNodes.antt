@@ -13,6 +13,7 @@ use Rattle.raft_group_step.specs.Lead.{other_ids, peer_of}
 use Rattle.raft_group_step.specs.Frames.{has_grown}
 use Rattle.raft_group_step.specs.Refusal.{refusal_of}
 use Rattle.raft_group_step.specs.GroupStep.{event_step, finished, group_step, step_unless}
+use Rattle.raft_group_step.proofs.Words.{leads_if}
 use Rattle.raft_laws.specs.BallotWorld.{BallotEvent, BallotNode, ballot_start}
 use Rattle.raft_laws.specs.BallotRanks.{ballot_group, rank_of}
 use Rattle.raft_laws.specs.GroupWorld.{GroupWorld, NodeState, Absent, Up, Down, Recorded, new_world, state_or}
@@ -24,7 +25,6 @@ use Rattle.raft_laws.proofs.BallotSettling.{run_append}
 use Rattle.raft_laws.proofs.BallotStep.{Later}
 use Rattle.raft_laws.proofs.Shapes.{joined_end}
 use Rattle.raft_laws.proofs.Standing.{UpFits}
-use Rattle.raft_laws.proofs.StepCalls.{leads_on as leading}
 use Rattle.raft_laws.proofs.StepDispatch.{opening_fits, step_fits}
 use Rattle.raft_laws.proofs.StepFits.{EventFits, NodeFits, StepEnd, world_after}
 use Rattle.raft_laws.proofs.VoteRanks.{vote_eq_same}
@@ -110,7 +110,7 @@ module _ (own : ℕ) (s : GroupState) (e : GroupEvent) (mine : HasItsOwnVote own
     finished_in_order : RoleInOrder r.state.stored r.state.role
     finished_in_order lead is =
         let on = finished_adds own s.committed q in
-        let a = leading q.state.role (sym on.leads ∙ ap is_leader is) in
+        let a = leads_if q.state.role (sym on.leads ∙ ap is_leader is) in
         let sends = finished_sends own s.committed a.0 q a.1 in
         let p = settled own q in
         let all = known_in_order a.0 sends.after a.1 sends.role sends.began (peers_then own s e mine passed a.0 a.1) in

@@ -9,21 +9,21 @@ use Rattle.raft_values.specs.declared.vote.Vote.{Vote}
 use Rattle.raft_values.specs.LogId.{next_place}
 use Rattle.raft_group_step.specs.Values.{Entry, last_id_eq, leader_eq, vote_eq}
 use Rattle.raft_group_step.specs.StoredGroup.{Snapshot, StoredGroup, end_place, first_place, id_before}
-use Rattle.raft_group_step.specs.Message.{MessageBody, VoteRequest, VoteReply, AppendRequest, AppendReply, SnapshotRequest, SnapshotReply, Numbered, ReplyFields, ReplyResult, Success, Conflict, HigherVote, last_sent, request_id_eq}
+use Rattle.raft_group_step.specs.Message.{MessageBody, VoteRequest, VoteReply, AppendRequest, AppendReply, SnapshotRequest, SnapshotReply, Numbered, ReplyFields, ReplyResult, Success, PartialSuccess, Conflict, HigherVote, last_sent, request_id_eq}
 use Rattle.raft_group_step.specs.Peer.{Outstanding, PeerState, is_answer_to, new_peer, with_peer}
 use Rattle.raft_group_step.specs.GroupState.{GroupState, Lead, Role, Follower, Candidate, Leader}
 use Rattle.raft_group_step.specs.GroupEvent.{GroupEvent, AddGroup, Call, Receive, Open}
 use Rattle.raft_group_step.specs.StepResult.{StepResult, send}
 use Rattle.raft_group_step.specs.Lead.{peer_of}
 use Rattle.raft_group_step.specs.Frames.{entries_in_request, lacks_entries, notice, request_start, send_entries, send_request, send_snapshot, serve, serve_all, serve_as, waiting}
-use Rattle.raft_group_step.specs.Reply.{after_answer, ended, search_after}
-use Rattle.raft_laws.proofs.StepWords.{either, either_by}
+use Rattle.raft_group_step.specs.Reply.{accepted_up_to, after_answer, ended, is_part_of, search_after}
+use Rattle.raft_group_step.proofs.Words.{either, either_by}
+use Rattle.raft_group_step.proofs.Peers.{with_peer-found, with_peer-others}
 use Rattle.raft_laws.proofs.TrackReplies.{peer_of_is}
 use Rattle.raft_step_laws.specs.Fitting.{ArePlacedFrom, FitsStored}
 use Rattle.raft_step_laws.specs.PeerStates.{loses, peer_after_event, peer_after_message, peer_after_reply}
 use Rattle.raft_step_laws.proofs.FitWords.{StandFrom, before_next, placed_drop, placed_stand, placed_take}
 use Rattle.raft_step_laws.proofs.LeaderSends.{same_lead}
-use Rattle.raft_step_laws.proofs.PeerLists.{set_found, set_others}
 
 -- where the leader's log ends here
 pub record IsInOrder (end : ℕ) (p : PeerState) : Type 0 where
@@ -107,8 +107,9 @@ search_in_order end p (Some previous) h l =
     (λ t. let low = leb-true (next_place p.matched) previous.index t in (low, omega arith))
     (λ t. (h.accepted, h.within))
 
-answer_in_order : (end : ℕ) (p : PeerState) (reply : ReplyFields) → IsAnswered reply p → IsInOrder end p → (o : ReplyResult) → IsInOrder end (after_answer p reply o)
-answer_in_order end p reply a h Success =
+-- what the peer has accepted ends within its request
+accepted_in_order : (end : ℕ) (p : PeerState) (reply : ReplyFields) → IsAnswered reply p → IsInOrder end p → (upto : Option (LogId ℕ)) → next_place upto ≤ next_place reply.last → IsInOrder end (accepted_up_to upto p)
+accepted_in_order end p reply a h upto top =
     let last = a.last in
     let low = h.within in
     let high = h.ends a.request a.outstanding in
@@ -119,6 +120,15 @@ answer_in_order end p reply a h Success =
       ends = λ o e. none_out o e;
       begins = λ o e. none_out o e;
     }
+
+answer_in_order : (end : ℕ) (p : PeerState) (reply : ReplyFields) → IsAnswered reply p → IsInOrder end p → (o : ReplyResult) → IsInOrder end (after_answer p reply o)
+answer_in_order end p reply a h Success = accepted_in_order end p reply a h reply.last (omega arith)
+answer_in_order end p reply a h (PartialSuccess upto) =
+    cond_both (is_part_of p reply upto) (accepted_up_to upto p) (ended p) (IsInOrder end)
+    (λ t.
+    let part = and_parts (nat_le (next_place p.matched) (next_place upto)) (nat_le (next_place upto) (next_place reply.last)) t in
+    accepted_in_order end p reply a h upto (leb-true (next_place upto) (next_place reply.last) part.1))
+    (λ t. ended_in_order end p h)
 answer_in_order end p reply a h Conflict =
     let previous = a.previous in
     let high = h.begins a.request a.outstanding in
@@ -193,8 +203,8 @@ module _ (own : ℕ) (lead : Lead) (n : ℕ) (r : StepResult) (is : r.state.role
       subst (λ (l : Lead). IsInOrder (end_place st) (peer_of l k)) same (go (w.peer == k) refl)
     where
       go : (b : Bool) → (w.peer == k) ≡ b → IsInOrder (end_place st) (peer_of (record lead { peers = with_peer w lead.peers }) k)
-      go true t = subst (IsInOrder (end_place st)) (sym (set_found w (new_peer lead.began k) lead.peers (eqb-true w.peer k t))) ok
-      go false t = subst (IsInOrder (end_place st)) (sym (set_others w (new_peer lead.began k) lead.peers t)) (h k)
+      go true t = subst (IsInOrder (end_place st)) (sym (with_peer-found w (new_peer lead.began k) lead.peers (eqb-true w.peer k t))) ok
+      go false t = subst (IsInOrder (end_place st)) (sym (with_peer-others w (new_peer lead.began k) lead.peers t)) (h k)
 
   entries_waiting : lacks_entries st p ≡ true → IsInOrder (end_place st) (waiting p (id_before st (request_start st p)) (last_sent (id_before st (request_start st p)) (take entries_in_request (drop (request_start st p - first_place st) st.log))) false)
   entries_waiting lacks =

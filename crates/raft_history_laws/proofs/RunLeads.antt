@@ -11,6 +11,7 @@ use Rattle.raft_group_step.specs.StepResult.{RefusalReason, StepResult}
 use Rattle.raft_group_step.specs.Lead.{configs_in_force, peer_of}
 use Rattle.raft_group_step.specs.Refusal.{refusal_of}
 use Rattle.raft_group_step.specs.GroupStep.{group_step, step_unless}
+use Rattle.raft_group_step.proofs.Words.{leads_if}
 use Rattle.raft_laws.specs.declared.world_event.WorldEvent.{WorldEvent}
 use Rattle.raft_laws.specs.GroupWorld.{GroupWorld, NodeState, Absent, Up, Down, Outcome, Recorded, is_stop, new_world, state_or}
 use Rattle.raft_laws.specs.NodeEvent.{NodeEvent, Comes, Crashes, Halts, Restarts, after_step, outcome_at, outcome_of_end, outcome_of_step, state_after}
@@ -19,7 +20,6 @@ use Rattle.raft_laws.specs.OneList.{AreNodeIds, IsGroupHistory}
 use Rattle.raft_laws.specs.Origins.{Events}
 use Rattle.raft_laws.proofs.BallotAgreement.{with_value_cases}
 use Rattle.raft_laws.proofs.Runs.{run-replays}
-use Rattle.raft_laws.proofs.StepCalls.{leads_on as leading}
 use Rattle.raft_laws.proofs.StepFits.{world_after}
 use Rattle.raft_laws.proofs.StepMoments.{step_goes}
 use Rattle.raft_laws.proofs.VoteOrders.{differ_flags as never}
@@ -114,7 +114,7 @@ module _ (own : ℕ) (s : GroupState) (e : GroupEvent) (mine : HasItsOwnVote own
     knows_then true keeps = go (is_leader s.role) refl
       where
         go : (b : Bool) → is_leader s.role ≡ b → KnowsBy r.state lead' (events ++ x ∷ [])
-        go true leads = let was = leading s.role leads in goes_on keeps was.0 was.1
+        go true leads = let was = leads_if s.role leads in goes_on keeps was.0 was.1
         go false idle = never (keeps_its_lead s e r.state) keeps (keeps_none s e r.state idle)
     knows_then false none = begins_anew none
 

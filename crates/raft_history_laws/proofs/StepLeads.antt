@@ -9,7 +9,7 @@ use Rattle.raft_state.specs.declared.entry.EntryPayload.TheVariants.{Blank}
 use Rattle.raft_quorums.specs.Quorum.{is_quorum}
 use Rattle.raft_group_step.specs.Values.{entry_of, has_id, is_written_by, vote_eq, vote_lt}
 use Rattle.raft_group_step.specs.StoredGroup.{StoredGroup, Snapshot, end_place, entry_at, first_place, id_of, snapshot_last}
-use Rattle.raft_group_step.specs.Message.{AppendFields, MessageBody, ReplyFields, ReplyResult, Success, Conflict, HigherVote}
+use Rattle.raft_group_step.specs.Message.{AppendFields, MessageBody, ReplyFields, ReplyResult, Success, PartialSuccess, Conflict, HigherVote}
 use Rattle.raft_group_step.specs.Peer.{PeerState, is_answer_to}
 use Rattle.raft_group_step.specs.GroupState.{GroupState, Lead, Role, Follower, Candidate, Leader, is_leader}
 use Rattle.raft_group_step.specs.StepResult.{StepResult, append, in_role, is_within, later_place, renew, send, step_down, store_vote, take_over}
@@ -25,10 +25,9 @@ use Rattle.raft_group_step.specs.Heartbeat.{beat_as, send_notices}
 use Rattle.raft_group_step.specs.Lost.{lost_as}
 use Rattle.raft_group_step.specs.SnapshotTrigger.{snapshot_of_applied, store_snapshot_at}
 use Rattle.raft_group_step.specs.PurgeTrigger.{purge_as, purge_within}
+use Rattle.raft_group_step.proofs.Words.{either, installing_keeps_role, joined_keeps_role}
 use Rattle.raft_laws.proofs.BallotAgreement.{same_some}
 use Rattle.raft_laws.proofs.StepTokens.{Quiet, joined_quiet, same_quiet, unless_quiet}
-use Rattle.raft_laws.proofs.StepWords.{either}
-use Rattle.raft_step_laws.proofs.Electing.{joined_role, unless_role}
 use Rattle.raft_history_laws.proofs.TakenEntries.{put_end}
 
 -- where a leader's lead began
@@ -180,6 +179,7 @@ module _ (s : GroupState) (others : is_leader s.role ≡ false → s.untold ≡ 
 
   higher_kept : (o : ReplyResult) (q : StepResult) → Kept q → Kept (with_higher_vote o q)
   higher_kept Success q h = h
+  higher_kept (PartialSuccess last) q h = h
   higher_kept Conflict q h = h
   higher_kept (HigherVote v) q h = greater_kept v q h
 
@@ -217,7 +217,7 @@ module _ (s : GroupState) (others : is_leader s.role ≡ false → s.untold ≡ 
       let taken = take_over a.vote q in
       let quiet = kept_quiet taken (ap began_of (f refl)) (take_over_kept a.vote q h) in
       let b = is_held taken.state.stored taken.state.committed a.previous in
-      inl (without_follower (joined own peer a b taken) (joined_quiet own peer a b taken quiet) (joined_role own peer a b taken ∙ f refl))
+      inl (without_follower (joined own peer a b taken) (joined_quiet own peer a b taken quiet) (joined_keeps_role own peer a b taken ∙ f refl))
 
   pub offered_kept : (own peer : ℕ) (v : Vote ℕ) (id : ℕ) (x : Snapshot) (b : Bool) (q : StepResult) → (b ≡ false → (take_over v q).state.role ≡ Follower) → Kept q → Kept (offered own peer v id x b q)
   offered_kept own peer v id x true q f h = send_kept own peer _ q h
@@ -228,7 +228,7 @@ module _ (s : GroupState) (others : is_leader s.role ≡ false → s.untold ≡ 
       inl
       (without_follower (offered own peer v id x false q)
       (same_quiet (install_unless b x taken) (offered own peer v id x false q) refl refl (unless_quiet b x taken quiet))
-      (unless_role b x taken ∙ f refl))
+      (installing_keeps_role b x taken ∙ f refl))
 
   -- ---- calls that leave the lead alone
 

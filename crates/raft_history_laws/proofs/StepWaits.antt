@@ -21,19 +21,20 @@ use Rattle.raft_group_step.specs.MembershipStep.{append_changed}
 use Rattle.raft_group_step.specs.Opening.{drop_stale_log, is_joined_to, opening_step}
 use Rattle.raft_group_step.specs.Refusal.{do_follow, has_known_snapshot, is_of_leader, is_settled_membership, is_sound, keep_voters, known_leader, reasons_of, refusal_of}
 use Rattle.raft_group_step.specs.GroupStep.{begun, call_step, event_step, finished, group_step, message_step, step_unless}
+use Rattle.raft_group_step.proofs.Words.{either}
+use Rattle.raft_group_step.proofs.Refusals.{unless_none}
 use Rattle.raft_laws.specs.BallotWorld.{BallotEvent, BallotWorld}
 use Rattle.raft_laws.proofs.BallotAgreement.{same_some}
 use Rattle.raft_laws.proofs.Shapes.{joined_end, joined_held}
 use Rattle.raft_laws.proofs.Standing.{BodyFits, RoleFits}
-use Rattle.raft_laws.proofs.StepCalls.{no_reason, unless_none}
+use Rattle.raft_laws.proofs.StepCalls.{no_reason}
 use Rattle.raft_laws.proofs.StepDispatch.{begins, event_ends, finished_ends}
 use Rattle.raft_laws.proofs.StepFits.{EventFits, NodeFits, StopFits, world_after}
 use Rattle.raft_laws.proofs.StepMessages.{message_passed, of_leader}
 use Rattle.raft_laws.proofs.StepOpening.{opening_ends, opening_wish}
-use Rattle.raft_laws.proofs.StepTokens.{Quiet, apply_quiet, same_quiet}
+use Rattle.raft_laws.proofs.StepTokens.{Quiet, apply_quiet, drop_quiet, same_quiet}
 use Rattle.raft_laws.proofs.StepTold.{token_at}
 use Rattle.raft_laws.proofs.StepWishes.{Wished}
-use Rattle.raft_laws.proofs.StepWords.{either}
 use Rattle.raft_laws.proofs.Tracking.{Tracks}
 use Rattle.raft_laws.proofs.TrackElections.{Ends}
 use Rattle.raft_laws.proofs.TrackVotes.{took_over}
@@ -131,11 +132,6 @@ module _ (s : GroupState) (others : is_leader s.role ≡ false → s.untold ≡ 
     body_kept peer ne (SnapshotReply reply) fits sound = reply_kept s others peer reply (begun now s) (inr (first_going now))
 
 -- ---- openings
-
-drop_quiet : (last : Option (LogId ℕ)) (r : StepResult) → Quiet r → Quiet (drop_stale_log last r)
-drop_quiet None r h = h
-drop_quiet (Some last) r h =
-    either Quiet (is_joined_to r.state.stored last) r (store (StartAfter last) r) h (same_quiet r (store (StartAfter last) r) refl refl h)
 
 drop_role : (last : Option (LogId ℕ)) (r : StepResult) → (drop_stale_log last r).state.role ≡ r.state.role
 drop_role None r = refl

@@ -13,6 +13,7 @@ use Rattle.raft_group_step.specs.Lead.{commit_as_leader, purge_as_wished, purge_
 use Rattle.raft_group_step.specs.MembershipStep.{append_changed}
 use Rattle.raft_group_step.specs.Refusal.{refusal_of}
 use Rattle.raft_group_step.specs.GroupStep.{begun, call_step, event_step, finished, group_step, step_unless}
+use Rattle.raft_group_step.proofs.Words.{either}
 use Rattle.raft_laws.specs.BallotWorld.{BallotEvent}
 use Rattle.raft_laws.specs.Origins.{changed_entry, entry_of_call}
 use Rattle.raft_laws.proofs.BallotAgreement.{same_some}
@@ -22,7 +23,6 @@ use Rattle.raft_laws.proofs.StepCommits.{frames_same}
 use Rattle.raft_laws.proofs.StepDispatch.{event_ends}
 use Rattle.raft_laws.proofs.StepOrder.{step-keeps}
 use Rattle.raft_laws.proofs.StepWishes.{Wished}
-use Rattle.raft_laws.proofs.StepWords.{either}
 use Rattle.raft_laws.proofs.TrackElections.{Ends}
 use Rattle.raft_history_laws.specs.NotedIds.{is_noted}
 use Rattle.raft_history_laws.proofs.StepEnds.{commit_same, finished_held, finished_vote}

@@ -18,6 +18,7 @@ use Rattle.raft_laws.specs.GroupRun.{Scene, Nowhere, At, Replays, after_scene, h
 use Rattle.raft_laws.specs.OneList.{AreNodeIds, IsGroupHistory}
 use Rattle.raft_laws.specs.Settled.{group_list}
 use Rattle.raft_laws.proofs.BallotSafe.{Among}
+use Rattle.raft_laws.proofs.WorldTokens.{done_told}
 use Rattle.raft_laws.proofs.Committed.{committed_agrees}
 use Rattle.raft_laws.proofs.GroupList.{Goes, goes_on}
 use Rattle.raft_laws.proofs.HeldLists.{at_node, node_holds}
@@ -61,9 +62,6 @@ skipped sent told unknown e = cc
 refused : (sent : List Message) (told : List Untold) (unknown : List ℕ) (why : RefusalReason) → Done sent told unknown ≡ Refused why → ⊥
 refused sent told unknown why e = cc
 
-same_told : (sent sent' : List Message) (told told' : List Untold) (unknown unknown' : List ℕ) → Done sent told unknown ≡ Done sent' told' unknown' → told ≡ told'
-same_told sent sent' told told' unknown unknown' e = cc
-
 none_told : (x : Untold) (told : List Untold) → told ≡ [] → Contains told x → ⊥
 none_told x told e c = let l = c.1 in let n = ap length e in omega arith
 
@@ -75,7 +73,7 @@ told_in Skipped = []
 
 -- what a step that runs to its end tells
 end_told : (sent : List Message) (told : List Untold) (unknown : List ℕ) (r : StepResult) (o : Option RefusalReason) → Done sent told unknown ≡ outcome_of_end r o → told ≡ r.told
-end_told sent told unknown r None e = same_told sent r.messages told r.told unknown r.unknown e
+end_told sent told unknown r None e = done_told sent r.messages told r.told unknown r.unknown e
 end_told sent told unknown r (Some why) e = absurd (refused sent told unknown why e)
 
 opening_told : (n : ℕ) (stored : StoredGroup) → (group_step n (state_of stored) Open).told ≡ []

@@ -5,8 +5,10 @@ use Rattle.raft_values.specs.declared.log_id.LogId.{LogId}
 use Rattle.raft_values.specs.declared.vote.Vote.{Vote}
 use Rattle.raft_quorums.specs.Quorum.{is_quorum}
 use Rattle.raft_group_step.specs.Values.{vote_eq}
-use Rattle.raft_group_step.specs.Message.{MessageBody, VoteRequest, VoteReply, AppendRequest, AppendReply, SnapshotRequest, SnapshotReply, ReplyFields, ReplyResult, Success, Conflict, HigherVote}
+use Rattle.raft_group_step.specs.Message.{MessageBody, VoteRequest, VoteReply, AppendRequest, AppendReply, SnapshotRequest, SnapshotReply}
+use Rattle.raft_group_step.specs.Message.{ReplyFields, ReplyResult, Success, PartialSuccess, Conflict, HigherVote}
 use Rattle.raft_group_step.specs.Peer.{PeerState, is_answer_to, new_peer}
+use Rattle.raft_group_step.specs.Reply.{is_part_of}
 use Rattle.raft_group_step.specs.GroupState.{GroupState, Lead, Leader}
 use Rattle.raft_group_step.specs.GroupEvent.{GroupEvent, AddGroup, Call, Receive, Open}
 use Rattle.raft_group_step.specs.Lead.{configs_in_force, peer_of}
@@ -33,17 +35,22 @@ PeerStatesReplay =
 
 -- ---- what a peer has answered with success
 
-abbrev pub accepted_in : ReplyResult → Option (LogId ℕ) → List (LogId ℕ)
-accepted_in Success None = []
-accepted_in Success (Some id) = id ∷ []
-accepted_in Conflict last = []
-accepted_in (HigherVote vote) last = []
+abbrev pub in_list : Option (LogId ℕ) → List (LogId ℕ)
+in_list None = []
+in_list (Some id) = id ∷ []
 
--- the last log id of a reply that answers the outstanding request under the leader's vote, and says Success
+-- the last log id of the request, or the part of it that the reply names
+abbrev pub accepted_in : PeerState → ReplyFields → ReplyResult → List (LogId ℕ)
+accepted_in p reply Success = in_list reply.last
+accepted_in p reply (PartialSuccess last) = if is_part_of p reply last then in_list last else []
+accepted_in p reply Conflict = []
+accepted_in p reply (HigherVote vote) = []
+
+-- the log id up to which a reply accepts the outstanding request, if it answers that under the leader's vote
 abbrev pub accepted_by_reply : Vote ℕ → ReplyFields → PeerState → List (LogId ℕ)
 accepted_by_reply vote reply p =
     if vote_eq reply.vote vote && is_answer_to reply p.outstanding
-    then accepted_in reply.outcome reply.last else []
+    then accepted_in p reply reply.outcome else []
 
 abbrev pub accepted_by_message : Vote ℕ → MessageBody → PeerState → List (LogId ℕ)
 accepted_by_message vote (VoteRequest v last) p = []

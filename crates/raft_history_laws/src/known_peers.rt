@@ -4,7 +4,7 @@
 ghost use Rattle.std.specs.Prelude.{◌≡◌, true, [], ◌∷◌, Some, None};
 ghost use Rattle.raft_values.specs.LogId.{log_id_of};
 ghost use Rattle.raft_values.specs.Vote.{vote_of};
-ghost use Rattle.raft_group_step.specs.Message.{Conflict, HigherVote, Success};
+ghost use Rattle.raft_group_step.specs.Message.{Conflict, HigherVote, PartialSuccess, Success};
 ghost use Rattle.raft_laws.specs.ConflictRun.{until_committed_anew};
 ghost use Rattle.raft_laws.specs.CrashRuns.{late_replies};
 ghost use Rattle.raft_laws.specs.Example.{three, to_their_end};
@@ -44,9 +44,12 @@ pub fn events_of_leads()
 {}
 
 /// A reply counts as accepted up to its last log id where it says success, and its sender, vote,
-/// number and log ids are those of the outstanding request.
+/// number and log ids are those of the outstanding request. A partial success counts up to the log
+/// id that it names, if that lies within the request.
 pub fn replies_that_are_counted()
     ensures success { counted 1 (vote_of 2 2 true) 1 last Success ≡ log_id_of 2 2 3 ∷ [] }
+    ensures part { counted 1 (vote_of 2 2 true) 1 last (PartialSuccess (Some (log_id_of 2 2 2))) ≡ log_id_of 2 2 2 ∷ [] }
+    ensures past_it { counted 1 (vote_of 2 2 true) 1 last (PartialSuccess (Some (log_id_of 2 2 4))) ≡ [] }
     ensures conflict { counted 1 (vote_of 2 2 true) 1 last Conflict ≡ [] }
     ensures refused { counted 1 (vote_of 2 2 true) 1 last (HigherVote (vote_of 3 3 true)) ≡ [] }
     ensures anothers { counted 3 (vote_of 2 2 true) 1 last Success ≡ [] }

@@ -9,11 +9,12 @@ use Rattle.raft_group_step.specs.StoredGroup.{StoredGroup, first_place, id_of, i
 use Rattle.raft_group_step.specs.StepResult.{is_within}
 use Rattle.raft_group_step.specs.SnapshotRequest.{place_above}
 use Rattle.raft_group_step.specs.AppendRequest.{above_committed, missing_entries}
+use Rattle.raft_group_step.proofs.Votes.{leader_eq_same}
 use Rattle.raft_laws.specs.BallotLogs.{BallotEntry, holds_before}
 use Rattle.raft_laws.specs.BallotRanks.{rank_of, ballot_entry, ballot_log}
 use Rattle.raft_laws.proofs.BallotAgreement.{some_at, same_some}
 use Rattle.raft_laws.proofs.BallotAppends.{agreeing, drop_past}
-use Rattle.raft_laws.proofs.VoteRanks.{leader_eq_same, leader_eq_from, rank_leader}
+use Rattle.raft_laws.proofs.VoteRanks.{leader_eq_from, rank_leader}
 use Rattle.raft_laws.proofs.Shapes.{Good, Joined, good_drop, joined_at, joined_below}
 use Rattle.raft_laws.proofs.Ids.{size_same, ballot_at}
 

@@ -10,8 +10,9 @@ use Rattle.raft_group_step.specs.Values.{Entry, last_membership}
 use Rattle.raft_group_step.specs.StoredGroup.{StoredGroup, Snapshot, CutFrom, after_storing, end_place, entry_at, first_place, has_id_in_log, id_of, is_id, membership_in_force, prefix_of, snapshot_last}
 use Rattle.raft_group_step.specs.SnapshotTrigger.{snapshot_at}
 use Rattle.raft_group_step.specs.Opening.{is_joined_to}
+use Rattle.raft_group_step.proofs.LastMembership.{last_overlap}
 use Rattle.raft_laws.proofs.Shapes.{Joined, joined_at, joined_cut, joined_held}
-use Rattle.raft_laws.proofs.Memberships.{in_force, last_overlap}
+use Rattle.raft_laws.proofs.Memberships.{in_force}
 use Rattle.raft_laws.proofs.Standing.{SnapshotFits}
 
 -- a snapshot's list ends with its last log id

@@ -1,24 +1,25 @@
 -- A leader commits entries of its own leader id alone, over every history.
-use Rattle.std.specs.Prelude.{◌≡◌, ◌⊎◌, ℕ, ◌+◌, ◌<◌, ◌≤◌, ◌^◌, ◌==◌, ◌&&◌, cond, Bool, true, false, List, [], ◌∷◌, ◌++◌, length, slice_get, Option, Some, None, is_some, option_map, refl}
+use Rattle.std.specs.Prelude.{◌≡◌, ◌⊎◌, ℕ, ◌+◌, ◌<◌, ◌≤◌, ◌^◌, ◌==◌, ◌&&◌, Bool, true, false, List, [], ◌∷◌, ◌++◌, length, slice_get, Option, Some, None, option_map, refl}
 use Rattle.std.proofs.Common.{inl, inr, sym, ap, ◌∙◌, subst, arith, take_all, ⊎_elim, eqb-true, ltb-true}
 use Rattle.std.proofs.lemmas.Bool.{and_parts}
 use Rattle.raft_values.specs.declared.vote.Vote.{Vote}
 use Rattle.raft_values.specs.declared.log_id.LogId.{LogId}
 use Rattle.raft_values.specs.LogId.{place_of}
-use Rattle.raft_group_step.specs.Values.{Membership, Entry, vote_lt}
-use Rattle.raft_group_step.specs.StoredGroup.{StoredGroup, StoringCommand, CutFrom, Snapshot, after_storing_all, entry_at, first_place, has_id_in_log, held, membership_in_force, prefix_of, snapshot_last}
+use Rattle.raft_group_step.specs.Values.{Membership, vote_lt}
+use Rattle.raft_group_step.specs.StoredGroup.{StoredGroup, StoringCommand, Snapshot, after_storing_all, first_place, held, membership_in_force, prefix_of, snapshot_last}
 use Rattle.raft_group_step.specs.Message.{MessageBody, VoteRequest, VoteReply, AppendRequest, AppendReply, SnapshotRequest, SnapshotReply, AppendFields}
 use Rattle.raft_group_step.specs.GroupState.{GroupState, Role, Follower, Candidate, Leader, is_leader, state_of}
 use Rattle.raft_group_step.specs.GroupEvent.{GroupEvent, AddGroup, Call, Receive, Open}
-use Rattle.raft_group_step.specs.StepResult.{RefusalReason, StepResult, is_within, refused_step, renew, step_down, store, store_vote, take_over}
+use Rattle.raft_group_step.specs.StepResult.{RefusalReason, StepResult, is_within, refused_step, renew, step_down, store_vote, take_over}
 use Rattle.raft_group_step.specs.Lead.{commit_as_leader, purge_as_wished, purge_up_to, with_wish}
 use Rattle.raft_group_step.specs.Peer.{is_kept_for_peers}
 use Rattle.raft_group_step.specs.Frames.{has_grown}
 use Rattle.raft_group_step.specs.VoteRequest.{may_grant}
-use Rattle.raft_group_step.specs.AppendRequest.{above_committed, cut_at, cut_from, heard, is_held, joined, missing_entries, put_entries}
-use Rattle.raft_group_step.specs.SnapshotRequest.{cut_other, install_unless, offered, place_above}
+use Rattle.raft_group_step.specs.AppendRequest.{heard, is_held}
+use Rattle.raft_group_step.specs.SnapshotRequest.{offered, place_above}
 use Rattle.raft_group_step.specs.Refusal.{do_follow, has_known_snapshot, is_of_leader, is_sound, keep_voters, refusal_of}
 use Rattle.raft_group_step.specs.GroupStep.{begun, event_step, finished, group_step, message_step, step_unless}
+use Rattle.raft_group_step.proofs.Words.{either, either_by, commit_keeps_role, removing_keeps_role, installing_keeps_role, joined_keeps_role}
 use Rattle.raft_laws.specs.BallotWorld.{BallotWorld, BallotEvent}
 use Rattle.raft_laws.specs.declared.world_event.WorldEvent.{WorldEvent}
 use Rattle.raft_laws.specs.GroupWorld.{GroupWorld, NodeState, Absent, Up, Down, Outcome, is_stop, new_world, state_or}
@@ -32,14 +33,13 @@ use Rattle.raft_laws.proofs.VoteRanks.{same_vote}
 use Rattle.raft_laws.proofs.Shapes.{joined_at, joined_held}
 use Rattle.raft_laws.proofs.Standing.{RoleFits, SnapshotFits}
 use Rattle.raft_laws.proofs.TrackVotes.{stranger_follows}
-use Rattle.raft_laws.proofs.StepWords.{either, either_by}
 use Rattle.raft_laws.proofs.StepOrder.{step-keeps}
 use Rattle.raft_laws.proofs.StepFits.{EventFits, NodeFits, StopFits, world_after}
 use Rattle.raft_laws.proofs.StepMessages.{message_passed, of_leader}
 use Rattle.raft_laws.proofs.StepDispatch.{event_ends}
 use Rattle.raft_laws.proofs.StepClaims.{Claims, CommandWithin, Known, counted_claims, judged_claims, reply_claims, sent_claims}
-use Rattle.raft_laws.proofs.StepCommits.{Commits, frames_same, removed_role}
-use Rattle.raft_laws.proofs.StepLimits.{StateClaims, StepClaims, begun_claims, commit_role, event_claims, finished_claims, opening_limits, refused_claims}
+use Rattle.raft_laws.proofs.StepCommits.{Commits, frames_same}
+use Rattle.raft_laws.proofs.StepLimits.{StateClaims, StepClaims, begun_claims, event_claims, finished_claims, opening_limits, refused_claims}
 use Rattle.raft_laws.proofs.WorldSteps.{MayCome, MayHappen}
 use Rattle.raft_laws.proofs.WorldFits.{NodeStateFits, WorldFits}
 use Rattle.raft_laws.proofs.WorldRuns.{Matches, MayTakePlace, SetUpWith, may_take_place, setup_stays}
@@ -68,33 +68,6 @@ follows own w v r role other low =
     stranger_follows own w r.state.stored.vote (held r.state.stored) r.state.role role
     (λ e. other (ap (λ (x : Vote ℕ). x.leader_id.node_id) same ∙ e)))
 
-cut_role : (place : ℕ) (r : StepResult) → (cut_from place r).state.role ≡ r.state.role
-cut_role place r =
-    either (λ q. q.state.role ≡ r.state.role) (is_some (entry_at r.state.stored place)) (store (CutFrom place) r) r refl refl
-
-cut_at_role : (id : Option (LogId ℕ)) (r : StepResult) → (cut_at id r).state.role ≡ r.state.role
-cut_at_role None r = refl
-cut_at_role (Some id) r = cut_role id.index r
-
-put_role : (es : List Entry) (r : StepResult) → (put_entries es r).state.role ≡ r.state.role
-put_role [] r = refl
-put_role (e ∷ es) r = cut_role e.log_id.index r
-
-joined_role : (own peer : ℕ) (a : AppendFields) (b : Bool) (r : StepResult) → (joined own peer a b r).state.role ≡ r.state.role
-joined_role own peer a true r = put_role (missing_entries r.state.stored (above_committed r.state.committed a.entries)) r
-joined_role own peer a false r = cut_at_role a.previous r
-
-cut_other_role : (last : LogId ℕ) (r : StepResult) → (cut_other last r).state.role ≡ r.state.role
-cut_other_role last r =
-    let cut = cut_from (place_above r.state.committed) r in
-    let there = is_some (entry_at r.state.stored last.index) in
-    either (λ q. q.state.role ≡ r.state.role) (has_id_in_log r.state.stored last) r (cond there cut r) refl
-    (either (λ q. q.state.role ≡ r.state.role) there cut r (cut_role (place_above r.state.committed) r) refl)
-
-unless_role : (b : Bool) (x : Snapshot) (r : StepResult) → (install_unless b x r).state.role ≡ r.state.role
-unless_role true x r = refl
-unless_role false x r = cut_other_role x.last r
-
 module _ (limit : ℕ) where
   -- no more is committed than the limit, or the node doesn't lead
   abbrev Quiet : StepResult → Type 0
@@ -104,13 +77,13 @@ module _ (limit : ℕ) where
   heard_quiet own peer a true r h f = inl (sent_claims limit Unasked own peer _ r tt h)
   heard_quiet own peer a false r h f =
       let taken = take_over a.vote r in
-      inr (ap is_leader (joined_role own peer a (is_held taken.state.stored taken.state.committed a.previous) taken ∙ f refl))
+      inr (ap is_leader (joined_keeps_role own peer a (is_held taken.state.stored taken.state.committed a.previous) taken ∙ f refl))
 
   offered_quiet : (own peer : ℕ) (v : Vote ℕ) (id : ℕ) (x : Snapshot) (b : Bool) (r : StepResult) → Claims limit Unasked r → (b ≡ false → (take_over v r).state.role ≡ Follower) → Quiet (offered own peer v id x b r)
   offered_quiet own peer v id x true r h f = inl (sent_claims limit Unasked own peer _ r tt h)
   offered_quiet own peer v id x false r h f =
       let taken = take_over v r in
-      inr (ap is_leader (unless_role (is_within x.last.index taken.state.committed) x taken ∙ f refl))
+      inr (ap is_leader (installing_keeps_role (is_within x.last.index taken.state.committed) x taken ∙ f refl))
 
   module _ (own peer : ℕ) (stranger : peer ≡ own → ⊥) (w : BallotWorld) (r : StepResult) (role : RoleFits own w r.state.stored.vote (held r.state.stored) r.state.role) (h : Claims limit Unasked r) where
     body_quiet : (b : MessageBody) → is_sound own peer r.state.stored b ≡ true → Quiet (message_step own peer b r)
@@ -121,12 +94,12 @@ module _ (limit : ℕ) where
         let two = and_parts (is_of_leader peer a.vote) (do_follow a.vote a.previous a.entries) one.0 in
         let led = of_leader peer stranger a.vote two.0 in
         heard_quiet own peer a (vote_lt a.vote r.state.stored.vote) r h (follows own w a.vote r role led.1)
-    body_quiet (AppendReply reply) sound = inl (reply_claims limit Unasked peer reply r (λ a id e. tt) h)
+    body_quiet (AppendReply reply) sound = inl (reply_claims limit Unasked peer reply r (λ id e. tt) h)
     body_quiet (SnapshotRequest v id x) sound =
         let parts = and_parts (is_of_leader peer v) (has_known_snapshot (membership_in_force r.state.stored) x.membership) sound in
         let led = of_leader peer stranger v parts.0 in
         offered_quiet own peer v id x (vote_lt v r.state.stored.vote) r h (follows own w v r role led.1)
-    body_quiet (SnapshotReply reply) sound = inl (reply_claims limit Unasked peer reply r (λ a id e. tt) h)
+    body_quiet (SnapshotReply reply) sound = inl (reply_claims limit Unasked peer reply r (λ id e. tt) h)
 
 -- ---- words of places and states
 
@@ -176,13 +149,13 @@ purged_leads (Leader lead) (Some place) r =
     let none = with_wish None r in
     either (λ q. is_leader q.state.role ≡ is_leader r.state.role) (is_kept_for_peers place lead.peers) r (purge_up_to place none)
     refl
-    (ap is_leader (removed_role _ none))
+    (ap is_leader (removing_keeps_role _ none))
 
 finished_leads : (own : ℕ) (committed : Option ℕ) (r : StepResult) → is_leader (finished own committed r).state.role ≡ is_leader r.state.role
 finished_leads own committed r =
     let r1 = commit_as_leader own r.state.role r in
     let r2 = purge_as_wished r1.state.role r1.state.wish r1 in
-    (frames_same own committed r2).2 ∙ purged_leads r1.state.role r1.state.wish r1 ∙ ap is_leader (commit_role 0 Unasked own r.state.role r)
+    (frames_same own committed r2).2 ∙ purged_leads r1.state.role r1.state.wish r1 ∙ ap is_leader (commit_keeps_role own r.state.role r)
 
 module _ (m : Membership) (some : 0 < length m.configs) (own : ℕ) (before : List BallotEvent) where
   abbrev world : BallotWorld

@@ -13,8 +13,8 @@ use Rattle.raft_group_step.specs.StepResult.{NumberAtEnd, is_within}
 use Rattle.raft_group_step.specs.SnapshotRequest.{place_above}
 use Rattle.raft_group_step.specs.AppendRequest.{above_committed, missing_entries}
 use Rattle.raft_group_step.specs.Refusal.{are_in_range, do_follow, next_ids, number_limit, numbers_of_entries, range_reason}
+use Rattle.raft_group_step.proofs.Refusals.{unless_none}
 use Rattle.raft_laws.proofs.FreshEntries.{within_is, without_is}
-use Rattle.raft_laws.proofs.StepCalls.{unless_none}
 use Rattle.raft_laws.proofs.StepEntries.{Each}
 use Rattle.raft_laws.proofs.LowGroups.{IsLowEntry}
 

@@ -1,58 +1,14 @@
 -- The last membership of a list, seen through a snapshot and a log that overlap.
-use Rattle.std.specs.Prelude.{◌≡◌, ℕ, zero, suc, ◌≤◌, List, [], ◌∷◌, ◌++◌, length, take, drop, ◌+◌, Option, Some, None, option_and_then, refl}
-use Rattle.std.proofs.Common.{sym, ap, ◌∙◌, arith, take-append-drop}
+use Rattle.std.specs.Prelude.{◌≡◌, ℕ, List, [], ◌∷◌, ◌++◌, length, drop, ◌+◌, Option, Some, None, option_and_then, refl}
+use Rattle.std.proofs.Common.{sym, ap, ◌∙◌}
 use Rattle.raft_values.specs.declared.log_id.LogId.{LogId}
 use Rattle.raft_group_step.specs.Values.{Membership}
 use Rattle.raft_group_step.specs.Values.{Entry, EntryPayload, LoggedMembership, membership_after, last_membership}
 use Rattle.raft_state.specs.declared.entry.EntryPayload.TheVariants.{Blank, Normal, Membership as Members}
 use Rattle.raft_group_step.specs.StoredGroup.{StoredGroup, Snapshot, first_place, prefix_of, membership_in_force}
+use Rattle.raft_group_step.proofs.LastMembership.{last_membership-append, last_overlap}
 use Rattle.raft_laws.proofs.BallotAgreement.{same_some}
 use Rattle.raft_laws.proofs.Shapes.{Good, Joined, good_drop}
-
-pub last_append : (b : Option LoggedMembership) (xs ys : List Entry) → last_membership b (xs ++ ys) ≡ last_membership (last_membership b xs) ys
-last_append b [] ys = refl
-last_append b (x ∷ xs) ys = last_append (membership_after b x.log_id x.payload) xs ys
-
--- a list has a membership of its own, or leaves the one before it
-data Decides (xs : List Entry) : Type 0 where
-  own : ((b c : Option LoggedMembership) → last_membership b xs ≡ last_membership c xs) → Decides xs
-  none : ((b : Option LoggedMembership) → last_membership b xs ≡ b) → Decides xs
-
-by_payload : (id : LogId ℕ) (p : EntryPayload) (xs : List Entry) → Decides xs → Decides (record { log_id = id; payload = p } ∷ xs)
-by_payload id p xs (own f) = own (λ b c. f (membership_after b id p) (membership_after c id p))
-by_payload id Blank xs (none f) = none f
-by_payload id (Normal command) xs (none f) = none f
-by_payload id (Members m) xs (none f) = own (λ b c. refl)
-
-decides : (xs : List Entry) → Decides xs
-decides [] = none (λ b. refl)
-decides (x ∷ xs) = by_payload x.log_id x.payload xs (decides xs)
-
-twice : (b : Option LoggedMembership) (xs : List Entry) → last_membership (last_membership b xs) xs ≡ last_membership b xs
-twice b xs = go (decides xs)
-  where
-    go : Decides xs → last_membership (last_membership b xs) xs ≡ last_membership b xs
-    go (own f) = f (last_membership b xs) b
-    go (none f) = f (last_membership b xs)
-
-overlap : (f : ℕ) (b : Option LoggedMembership) (xs : List Entry) → last_membership (last_membership b xs) (drop f xs) ≡ last_membership b xs
-overlap zero b xs = twice b xs
-overlap (suc f) b [] = refl
-overlap (suc f) b (x ∷ xs) = overlap f (membership_after b x.log_id x.payload) xs
-
-drop_split : (f k : ℕ) (xs : List Entry) → f ≤ k → drop f xs ≡ drop f (take k xs) ++ drop k xs
-drop_split zero k xs l = sym (take-append-drop k xs)
-drop_split (suc f) zero xs l = absurd (omega arith)
-drop_split (suc f) (suc k) [] l = refl
-drop_split (suc f) (suc k) (x ∷ xs) l = drop_split f k xs (omega arith)
-
-pub last_overlap : (f k : ℕ) (b : Option LoggedMembership) (xs : List Entry) → f ≤ k → last_membership (last_membership b (take k xs)) (drop f xs) ≡ last_membership b xs
-last_overlap f k b xs l =
-    ap (last_membership (last_membership b (take k xs))) (drop_split f k xs l)
-    ∙ last_append (last_membership b (take k xs)) (drop f (take k xs)) (drop k xs)
-    ∙ ap (λ c. last_membership c (drop k xs)) (overlap f b (take k xs))
-    ∙ sym (last_append b (take k xs) (drop k xs))
-    ∙ ap (last_membership b) (take-append-drop k xs)
 
 -- where there was a membership, there is one
 some_after : (x : LoggedMembership) (id : LogId ℕ) (p : EntryPayload) → (y : LoggedMembership) × (membership_after (Some x) id p ≡ Some y)
@@ -73,7 +29,7 @@ HasMembership xs = (x : LoggedMembership) × (last_membership None xs ≡ Some x
 pub has_more : (xs ys : List Entry) → HasMembership xs → HasMembership (xs ++ ys)
 has_more xs ys h =
     let more = still_some h.0 ys in
-    (more.0, last_append None xs ys ∙ ap (λ b. last_membership b ys) h.1 ∙ more.1)
+    (more.0, last_membership-append None xs ys ∙ ap (λ b. last_membership b ys) h.1 ∙ more.1)
 
 -- the last membership of a good list keeps the group's voters
 voters_after : (m : Membership) (b : Option LoggedMembership) → ((y : LoggedMembership) → b ≡ Some y → y.membership.configs ≡ m.configs) → (id : LogId ℕ) (p : EntryPayload) → ((y : Membership) → p ≡ Members y → y.configs ≡ m.configs) → (x : LoggedMembership) → membership_after b id p ≡ Some x → x.membership.configs ≡ m.configs

@@ -9,6 +9,7 @@ use Rattle.raft_group_step.specs.StoredGroup.{StoredGroup, Snapshot, StartAfter,
 use Rattle.raft_group_step.specs.GroupState.{GroupState, state_of}
 use Rattle.raft_group_step.specs.StepResult.{StepResult, unchanged}
 use Rattle.raft_group_step.specs.Opening.{drop_stale_log, is_joined_to}
+use Rattle.raft_group_step.proofs.Words.{either, either_by}
 use Rattle.raft_laws.specs.BallotWorld.{BallotNode}
 use Rattle.raft_laws.specs.GroupWorld.{Down}
 use Rattle.raft_laws.specs.VotesRise.{stored_of}
@@ -26,7 +27,6 @@ use Rattle.raft_laws.proofs.Shapes.{joined_end, slice_drop, slice_taken}
 use Rattle.raft_laws.proofs.Standing.{UpFits}
 use Rattle.raft_laws.proofs.StepEntries.{StoredEach}
 use Rattle.raft_laws.proofs.StepOpening.{opened_up}
-use Rattle.raft_laws.proofs.StepWords.{either, either_by}
 use Rattle.raft_laws.proofs.WorldStart.{founded}
 use Rattle.raft_laws.proofs.WrittenMembers.{IsFewEntry}
 

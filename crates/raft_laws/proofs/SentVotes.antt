@@ -8,7 +8,7 @@ use Rattle.raft_values.specs.LogId.{log_id_of}
 use Rattle.raft_group_step.specs.Values.{Entry, LoggedMembership, ChangeMembers, entry_of, has_id, vote_lt}
 use Rattle.raft_state.specs.declared.entry.EntryPayload.TheVariants.{Blank, Membership as Members}
 use Rattle.raft_group_step.specs.StoredGroup.{StoredGroup, Snapshot, CutFrom, PutEntries, StartAfter, entry_at, id_of, snapshot_last}
-use Rattle.raft_group_step.specs.Message.{Message, MessageBody, VoteRequest, VoteReply, AppendRequest, AppendReply, SnapshotRequest, SnapshotReply, AppendFields, ReplyFields, ReplyResult, Success, Conflict, HigherVote}
+use Rattle.raft_group_step.specs.Message.{Message, MessageBody, VoteRequest, VoteReply, AppendRequest, AppendReply, SnapshotRequest, SnapshotReply, AppendFields, ReplyFields, ReplyResult, Success, PartialSuccess, Conflict, HigherVote}
 use Rattle.raft_group_step.specs.Peer.{PeerState}
 use Rattle.raft_group_step.specs.GroupState.{GroupState, Lead, Role, Follower, Candidate, Leader, state_of}
 use Rattle.raft_group_step.specs.declared.group_call.GroupCall.TheVariants.{Initialize, Elect, Propose, ChangeMembership, Heartbeat, Lost, TriggerSnapshot, TriggerPurge}
@@ -30,6 +30,8 @@ use Rattle.raft_group_step.specs.PurgeTrigger.{purge_as, purge_within}
 use Rattle.raft_group_step.specs.Opening.{drop_stale_log, resume_lead}
 use Rattle.raft_group_step.specs.Refusal.{refusal_of}
 use Rattle.raft_group_step.specs.GroupStep.{begun, call_step, event_step, finished, group_step, message_step, step_unless}
+use Rattle.raft_group_step.proofs.Words.{either, either_by}
+use Rattle.raft_group_step.proofs.Votes.{not_below_itself}
 use Rattle.raft_laws.specs.declared.world_event.WorldEvent.{WorldEvent}
 use Rattle.raft_laws.specs.GroupWorld.{GroupWorld, NodeState, Absent, Up, Down, Outcome, Recorded, is_stop, new_world, state_or}
 use Rattle.raft_laws.specs.NodeEvent.{NodeEvent, Comes, Crashes, Halts, Restarts, after_step, outcome_at, outcome_of_end, outcome_of_stop, state_after}
@@ -37,9 +39,8 @@ use Rattle.raft_laws.specs.GroupRun.{Scene, Nowhere, At, Replays, after_scene, h
 use Rattle.raft_laws.specs.VotesRise.{SentVoteKept, SentVotesStay, own_vote, stored_of}
 use Rattle.raft_laws.proofs.BallotSafe.{Among, among_at}
 use Rattle.raft_laws.proofs.Counts.{contains_at}
-use Rattle.raft_laws.proofs.StepWords.{either, either_by}
 use Rattle.raft_laws.proofs.VoteOrders.{committed_not_below, later_term_not_below, not_below}
-use Rattle.raft_laws.proofs.VotesRise.{not_below_again, not_below_itself, scene_gives}
+use Rattle.raft_laws.proofs.VotesRise.{not_below_again, scene_gives}
 use Rattle.raft_laws.proofs.WorldRuns.{among_either}
 
 -- each of the messages is this node's, and tells a vote as its own that isn't above this one
@@ -243,6 +244,7 @@ module _ (own : ℕ) where
 
   higher-tells : (o : ReplyResult) (r : StepResult) → Tells r → Tells (with_higher_vote o r)
   higher-tells Success r h = h
+  higher-tells (PartialSuccess last) r h = h
   higher-tells Conflict r h = h
   higher-tells (HigherVote v) r h = greater-tells v r h
 

@@ -9,20 +9,21 @@ use Rattle.raft_values.specs.declared.vote.Vote.{Vote}
 use Rattle.raft_values.specs.declared.log_id.LogId.{LogId}
 use Rattle.raft_quorums.specs.Quorum.{is_quorum as is_quorum_of}
 use Rattle.raft_group_step.specs.Values.{Membership, Entry, EntryPayload, is_written_by, leader_eq, vote_eq}
-use Rattle.raft_group_step.specs.Message.{MessageBody, VoteRequest, VoteReply, AppendRequest, AppendReply, SnapshotRequest, SnapshotReply, ReplyFields, ReplyResult, Success, Conflict, HigherVote}
+use Rattle.raft_group_step.specs.Message.{MessageBody, VoteRequest, VoteReply, AppendRequest, AppendReply, SnapshotRequest, SnapshotReply, ReplyFields, ReplyResult, Success, PartialSuccess, Conflict, HigherVote}
+use Rattle.raft_group_step.proofs.Votes.{leader_eq_same}
 use Rattle.raft_laws.specs.BallotLists.{AgreeBelow}
 use Rattle.raft_laws.specs.BallotLogs.{BallotEntry}
 use Rattle.raft_laws.specs.BallotWorld.{BallotWorld, BallotEvent, ballot_accepted, is_of, is_ballot_settled}
 use Rattle.raft_laws.specs.BallotSettled.{ballot_list}
 use Rattle.raft_laws.specs.BallotRanks.{rank_of, ballot_entry, ballot_log, ballot_group}
 use Rattle.raft_laws.specs.GroupWorld.{GroupWorld, Led}
-use Rattle.raft_laws.specs.Settled.{body_accepts, count_to_last, has_accepted_some, has_led_with, has_replied, is_accepted_by_quorum, is_at_or_after, is_last, is_success, setup_configs, settled_part}
+use Rattle.raft_laws.specs.Settled.{accepted_last, body_accepts, count_to_last, has_accepted_some, has_led_with, has_replied, is_accepted_by_quorum, is_at_or_after, is_last, setup_configs, settled_part}
 use Rattle.raft_laws.proofs.BallotAgreement.{agree_cons, agree_less, agree_none, agree_sym, agree_trans, same_some, some_at}
 use Rattle.raft_laws.proofs.BallotFacts.{accepts as accepts_by}
 use Rattle.raft_laws.proofs.BallotQuorums.{quorum_more}
 use Rattle.raft_laws.proofs.BallotSafe.{Among}
 use Rattle.raft_laws.proofs.BallotSettling.{settled_on_list}
-use Rattle.raft_laws.proofs.VoteRanks.{leader_eq_same, rank_leader, vote_eq_same}
+use Rattle.raft_laws.proofs.VoteRanks.{rank_leader, vote_eq_same}
 use Rattle.raft_laws.proofs.Shapes.{Good, good_take}
 use Rattle.raft_laws.proofs.Standing.{BodyFits, RepliesFit}
 use Rattle.raft_laws.proofs.Ids.{ballot_at, size_same}
@@ -57,11 +58,16 @@ module _ (m : Membership) (b : BallotWorld) (w : GroupWorld) (fits : WorldFits m
       subst (λ (x : Vote ℕ). ballot_accepted b.replies (rank_of x.leader_id) i n ≡ true) (vote_eq_same r.vote vote v)
       (accepted_from b.replies (rank_of r.vote.leader_id) n (id.index + 1) i (omega arith) (f id e))
 
-  reply_accepts : (r : ReplyFields) (o : ReplyResult) → RepliesFit b n r o → (is_success o && vote_eq r.vote vote && is_last passes r.last) ≡ true → Accepts
+  accepts_none : (b : Bool) → (b && false) ≡ true → Accepts
+  accepts_none true t = absurd (let g : false ≡ true = t in cc)
+  accepts_none false t = absurd (let g : false ≡ true = t in cc)
+
+  reply_accepts : (r : ReplyFields) (o : ReplyResult) → RepliesFit b n r o → (vote_eq r.vote vote && is_last passes (accepted_last o r.last)) ≡ true → Accepts
   reply_accepts r Success f t =
       let p = and_parts (vote_eq r.vote vote) (is_last passes r.last) t in last_accepts r p.0 f r.last refl p.1
-  reply_accepts r Conflict f t = absurd (let g : false ≡ true = t in cc)
-  reply_accepts r (HigherVote v) f t = absurd (let g : false ≡ true = t in cc)
+  reply_accepts r (PartialSuccess last) f t = absurd f
+  reply_accepts r Conflict f t = accepts_none (vote_eq r.vote vote) t
+  reply_accepts r (HigherVote v) f t = accepts_none (vote_eq r.vote vote) t
 
   message_accepts : (x : MessageBody) → BodyFits m b n x → body_accepts vote passes x ≡ true → Accepts
   message_accepts (VoteRequest v last) f t = absurd (let g : false ≡ true = t in cc)

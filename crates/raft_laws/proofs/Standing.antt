@@ -7,7 +7,7 @@ use Rattle.raft_values.specs.LogId.{next_place}
 use Rattle.raft_group_step.specs.Values.{Membership}
 use Rattle.raft_group_step.specs.Values.{Entry, last_membership}
 use Rattle.raft_group_step.specs.StoredGroup.{StoredGroup, Snapshot, prefix_of, held}
-use Rattle.raft_group_step.specs.Message.{Message, MessageBody, VoteRequest, VoteReply, AppendRequest, AppendReply, SnapshotRequest, SnapshotReply, AppendFields, ReplyFields, ReplyResult, Success, Conflict, HigherVote}
+use Rattle.raft_group_step.specs.Message.{Message, MessageBody, VoteRequest, VoteReply, AppendRequest, AppendReply, SnapshotRequest, SnapshotReply, AppendFields, ReplyFields, ReplyResult, Success, PartialSuccess, Conflict, HigherVote}
 use Rattle.raft_group_step.specs.Peer.{PeerState, Outstanding}
 use Rattle.raft_group_step.specs.GroupState.{GroupState, Role, Follower, Candidate, Leader}
 use Rattle.raft_group_step.specs.SnapshotRequest.{place_above}
@@ -121,10 +121,11 @@ RoleFits own w vote xs (Leader lead) =
     OwnVote own vote true × HasMembership xs
     × ((p : PeerState) → Among p lead.peers → PeerFits w.replies (rank_of vote.leader_id) xs p)
 
--- the last place that a reply tells is accepted there
+-- the last place that a reply tells is accepted there; no node tells of a part
 abbrev pub RepliesFit : BallotWorld → ℕ → ReplyFields → ReplyResult → Type 0
 RepliesFit w sender r Success =
     (id : LogId ℕ) → r.last ≡ Some id → Among (reply-of (rank_of r.vote.leader_id) sender (id.index + 1)) w.replies
+RepliesFit w sender r (PartialSuccess last) = ⊥
 RepliesFit w sender r Conflict = Unit {0}
 RepliesFit w sender r (HigherVote vote) = vote.leader_id.node_id < 2 ^ 64
 
@@ -161,6 +162,7 @@ MessageFits m w x = BodyFits m w x.sender x.body
 module _ {n : ℕ} {w w' : BallotWorld} (e : Extends n w w') where
   pub replies_on : (sender : ℕ) (r : ReplyFields) (o : ReplyResult) → RepliesFit w sender r o → RepliesFit w' sender r o
   replies_on sender r Success h = λ id q. e.replies _ (h id q)
+  replies_on sender r (PartialSuccess last) h = absurd h
   replies_on sender r Conflict h = tt
   replies_on sender r (HigherVote vote) h = h
 

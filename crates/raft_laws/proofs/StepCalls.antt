@@ -1,5 +1,5 @@
 -- What is asked of a node that is up, followed by the ballot machine to the call's own end.
-use Rattle.std.specs.Prelude.{◌≡◌, ℕ, ◌<◌, ◌≤◌, ◌^◌, min, nat_lt, Bool, true, false, List, [], ◌∷◌, length, slice_get, Option, Some, None, option_map, refl}
+use Rattle.std.specs.Prelude.{◌≡◌, ℕ, ◌<◌, ◌≤◌, ◌^◌, min, nat_lt, true, false, List, [], ◌∷◌, length, slice_get, Option, Some, None, option_map, refl}
 use Rattle.std.proofs.Common.{sym, ap, ◌∙◌, subst, arith}
 use Rattle.std.proofs.lemmas.Bool.{ltb-false}
 use Rattle.std.proofs.lemmas.Option.{slice_get_within}
@@ -17,13 +17,14 @@ use Rattle.raft_group_step.specs.MembershipStep.{append_changed}
 use Rattle.raft_group_step.specs.PurgeTrigger.{purge_as, purge_within}
 use Rattle.raft_group_step.specs.SnapshotTrigger.{snapshot_at, store_snapshot_at, snapshot_of_applied}
 use Rattle.raft_group_step.specs.GroupStep.{begun, call_step}
-use Rattle.raft_group_step.specs.Refusal.{unless, first_of_reasons, known_leader, is_voter_in, reasons_of, reasons_of_call, reasons_of_change, refusal_of}
+use Rattle.raft_group_step.specs.Refusal.{first_of_reasons, known_leader, is_voter_in, reasons_of, reasons_of_call, reasons_of_change, refusal_of}
+use Rattle.raft_group_step.proofs.Words.{either_by, leads_if}
+use Rattle.raft_group_step.proofs.Refusals.{unless_none}
 use Rattle.raft_laws.specs.BallotWorld.{BallotWorld, BallotEvent}
 use Rattle.raft_laws.proofs.BallotOthers.{extends_refl}
 use Rattle.raft_laws.proofs.Shapes.{joined_held, joined_at}
 use Rattle.raft_laws.proofs.Memberships.{HasMembership, in_force, last_voters}
 use Rattle.raft_laws.proofs.Standing.{RoleFits}
-use Rattle.raft_laws.proofs.StepWords.{either_by}
 use Rattle.raft_laws.proofs.StepFits.{CallFits, WishFits}
 use Rattle.raft_laws.proofs.StepWishes.{Wished, elect_wish, beat_wish, longer_wish, lost_wish, purge_within_wish}
 use Rattle.raft_laws.proofs.Tracking.{Tracks, track_same}
@@ -43,15 +44,6 @@ pub no_reason : (os : List (Option RefusalReason)) → first_of_reasons os ≡ N
 no_reason [] e = tt
 no_reason (None ∷ os) e = (refl, no_reason os e)
 no_reason (Some why ∷ os) e = absurd (let f : None ≡ Some why = sym e in cc)
-
-pub unless_none : (b : Bool) (why : RefusalReason) → unless b why ≡ None → b ≡ true
-unless_none true why e = refl
-unless_none false why e = absurd (let f : None ≡ Some why = sym e in cc)
-
-pub leads_on : (role : Role) → is_leader role ≡ true → (lead : Lead) × (role ≡ Leader lead)
-leads_on Follower e = absurd (let f : false ≡ true = e in cc)
-leads_on (Candidate granters) e = absurd (let f : false ≡ true = e in cc)
-leads_on (Leader lead) e = (lead, refl)
 
 known_voter : (o : Option LoggedMembership) (own : ℕ) → is_voter_in o own ≡ true → (x : LoggedMembership) × (o ≡ Some x)
 known_voter None own e = absurd (let f : false ≡ true = e in cc)
@@ -159,12 +151,12 @@ module _ {m : Membership} {some : 0 < length m.configs} {own : ℕ} {before : Li
     elect_wish own r,
   )
   call_goes_on (Propose command token) fits passed =
-      let lead = leads_on s.role (unless_none (is_leader s.role) (NotLeader (known_leader s.stored.vote)) passed.1.1.0) in (
+      let lead = leads_if s.role (unless_none (is_leader s.role) (NotLeader (known_leader s.stored.vote)) passed.1.1.0) in (
         token_ends w r t lead.0 (Normal command) token (λ x e. absurd (normal_differs command x e)) lead.1 (leading w r t role lead.0 lead.1),
         wish,
       )
   call_goes_on (ChangeMembership change token) fits passed =
-      let lead = leads_on s.role (unless_none (is_leader s.role) (NotLeader (known_leader s.stored.vote)) passed.1.0) in
+      let lead = leads_if s.role (unless_none (is_leader s.role) (NotLeader (known_leader s.stored.vote)) passed.1.0) in
       changed_goes w r t role wish lead.0 lead.1 (membership_in_force s.stored) refl change token passed.1.1.1
   call_goes_on Heartbeat fits passed = (heartbeat_ends w r t s.role refl role, beat_wish own s.role r wish)
   call_goes_on (Lost peer) fits passed = (lost_ends w r t peer s.role refl role, lost_wish peer s.role r wish)

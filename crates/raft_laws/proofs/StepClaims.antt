@@ -3,7 +3,7 @@
 use Rattle.std.specs.Prelude.{◌≡◌, ℕ, ◌+◌, ◌≤◌, ◌&&◌, ◌==◌, min, nat_lt, cond, Bool, true, false, List, [], ◌∷◌, ◌++◌, length, take, Option, Some, None, is_none, is_some, refl}
 use Rattle.std.specs.List.{list_any}
 use Rattle.std.proofs.Common.{sym, ap, ◌∙◌, subst, arith, ⊎_elim, length-take}
-use Rattle.std.proofs.lemmas.Bool.{and_parts}
+use Rattle.std.proofs.lemmas.Bool.{and_parts, cond_both}
 use Rattle.raft_values.specs.declared.vote.Vote.{Vote}
 use Rattle.raft_values.specs.declared.log_id.LogId.{LogId}
 use Rattle.raft_values.specs.LogId.{next_place, place_of}
@@ -12,7 +12,7 @@ use Rattle.raft_quorums.specs.Quorum.{is_quorum}
 use Rattle.raft_state.specs.declared.entry.EntryPayload.TheVariants.{Blank, Membership as Members}
 use Rattle.raft_group_step.specs.Values.{after_change, ChangeMembers, Entry, EntryPayload, has_id, is_written_by, LoggedMembership, vote_eq, vote_lt}
 use Rattle.raft_group_step.specs.StoredGroup.{StoringCommand, MakeGroup, SetVote, PutEntries, CutFrom, RemoveUpTo, SetSnapshot, StartAfter, Snapshot, after_storing, prefix_of, snapshot_last, end_place, entry_at, first_place, has_id_in_log, id_of, held}
-use Rattle.raft_group_step.specs.Message.{Message, MessageBody, VoteRequest, VoteReply, AppendRequest, AppendReply, SnapshotRequest, SnapshotReply, AppendFields, ReplyFields, ReplyResult, Success, Conflict, HigherVote, last_sent}
+use Rattle.raft_group_step.specs.Message.{Message, MessageBody, VoteRequest, VoteReply, AppendRequest, AppendReply, SnapshotRequest, SnapshotReply, AppendFields, ReplyFields, ReplyResult, Success, PartialSuccess, Conflict, HigherVote, last_sent}
 use Rattle.raft_group_step.specs.Peer.{PeerState, is_answer_to, is_kept_for_peers, new_peer, with_peer}
 use Rattle.raft_group_step.specs.GroupState.{Lead, Role, Follower, Candidate, Leader}
 use Rattle.raft_group_step.specs.StepResult.{StepResult, append, apply_up_to, in_role, is_within, later_place, renew, send, step_down, store, store_vote, take_over}
@@ -25,15 +25,16 @@ use Rattle.raft_group_step.specs.VoteRequest.{judged}
 use Rattle.raft_group_step.specs.VoteReply.{counted, take_over_greater}
 use Rattle.raft_group_step.specs.AppendRequest.{above_committed, cut_at, cut_from, heard, joined, lesser_place, missing_entries, put_entries}
 use Rattle.raft_group_step.specs.SnapshotRequest.{cut_other, install, install_unless, offered, place_above}
-use Rattle.raft_group_step.specs.Reply.{after_answer, answered, ended, reply_step, with_higher_vote}
+use Rattle.raft_group_step.specs.Reply.{accepted_up_to, after_answer, answered, ended, is_part_of, reply_step, with_higher_vote}
 use Rattle.raft_group_step.specs.Heartbeat.{beat_as, send_notices}
 use Rattle.raft_group_step.specs.Lost.{lost_as}
 use Rattle.raft_group_step.specs.PurgeTrigger.{purge_as, purge_within}
 use Rattle.raft_group_step.specs.SnapshotTrigger.{snapshot_at, snapshot_of_applied, store_snapshot_at}
 use Rattle.raft_group_step.specs.Opening.{drop_stale_log, is_joined_to, resume_lead}
+use Rattle.raft_group_step.proofs.Words.{either, either_by}
+use Rattle.raft_laws.specs.Settled.{accepted_last}
 use Rattle.raft_laws.proofs.BallotSafe.{Among}
 use Rattle.raft_laws.proofs.VoteRanks.{vote_eq_same}
-use Rattle.raft_laws.proofs.StepWords.{either, either_by}
 use Rattle.raft_laws.proofs.Tracking.{among_last}
 use Rattle.raft_laws.proofs.TrackReplies.{peer_of_is, peer_or_is, with_peer_is}
 
@@ -257,15 +258,23 @@ module _ (limit : ℕ) (Replied : Vote ℕ → ℕ → LogId ℕ → Type 0) whe
   -- a reply, which was sent
   higher_claims : (o : ReplyResult) (r : StepResult) → Claims r → Claims (with_higher_vote o r)
   higher_claims Success r h = h
+  higher_claims (PartialSuccess last) r h = h
   higher_claims Conflict r h = h
   higher_claims (HigherVote v) r h = greater_claims v r h
 
   abbrev pub ReplyKnown : ℕ → ReplyFields → Type 0
-  ReplyKnown peer reply = reply.outcome ≡ Success → (id : LogId ℕ) → reply.last ≡ Some id → Replied reply.vote peer id
+  ReplyKnown peer reply =
+      (id : LogId ℕ) → accepted_last reply.outcome reply.last ≡ Some id → Replied reply.vote peer id
 
-  answer_known : (peer : ℕ) (reply : ReplyFields) (vote : Vote ℕ) (lead : Lead) → reply.vote ≡ vote → Known Replied vote (Leader lead) → (o : ReplyResult) → (o ≡ Success → (id : LogId ℕ) → reply.last ≡ Some id → Replied reply.vote peer id) → (id : LogId ℕ) → (after_answer (peer_of lead peer) reply o).matched ≡ Some id → Replied vote (after_answer (peer_of lead peer) reply o).peer id
+  answer_known : (peer : ℕ) (reply : ReplyFields) (vote : Vote ℕ) (lead : Lead) → reply.vote ≡ vote → Known Replied vote (Leader lead) → (o : ReplyResult) → ((id : LogId ℕ) → accepted_last o reply.last ≡ Some id → Replied reply.vote peer id) → (id : LogId ℕ) → (after_answer (peer_of lead peer) reply o).matched ≡ Some id → Replied vote (after_answer (peer_of lead peer) reply o).peer id
   answer_known peer reply vote lead same h Success k id e =
-      subst (λ n. Replied vote n id) (sym (peer_of_is lead peer)) (subst (λ (v : Vote ℕ). Replied v peer id) same (k refl id e))
+      subst (λ n. Replied vote n id) (sym (peer_of_is lead peer)) (subst (λ (v : Vote ℕ). Replied v peer id) same (k id e))
+  answer_known peer reply vote lead same h (PartialSuccess last) k id e =
+      cond_both (is_part_of (peer_of lead peer) reply last) (accepted_up_to last (peer_of lead peer)) (ended (peer_of lead peer))
+      (λ q. q.matched ≡ Some id → Replied vote q.peer id)
+      (λ t e. subst (λ n. Replied vote n id) (sym (peer_of_is lead peer)) (subst (λ (v : Vote ℕ). Replied v peer id) same (k id e)))
+      (λ t e. known_peer vote lead peer h id e)
+      e
   answer_known peer reply vote lead same h Conflict k id e = known_peer vote lead peer h id e
   answer_known peer reply vote lead same h (HigherVote v) k id e = known_peer vote lead peer h id e
 

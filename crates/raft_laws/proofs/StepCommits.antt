@@ -14,15 +14,16 @@ use Rattle.raft_group_step.specs.StepResult.{StepResult, apply_up_to, is_within,
 use Rattle.raft_group_step.specs.SnapshotRequest.{place_above}
 use Rattle.raft_group_step.specs.Lead.{commit_as_leader, configs_in_force, has_accepted, last_place, may_be_committed, other_ids, peer_of, purge_as_wished, purge_up_to, remove_up_to, with_wish}
 use Rattle.raft_group_step.specs.Frames.{committed_id, has_grown, lacks_entries, notice, send_entries, send_request, send_snapshot, serve_all, serve_as, with_frames}
+use Rattle.raft_group_step.proofs.Words.{either, removing_keeps_role}
+use Rattle.raft_group_step.proofs.Votes.{leader_eq_same}
 use Rattle.raft_laws.specs.BallotWorld.{BallotWorld, BallotEvent}
 use Rattle.raft_laws.specs.BallotRanks.{rank_of, ballot_entry}
 use Rattle.raft_laws.proofs.BallotAgreement.{same_some}
 use Rattle.raft_laws.proofs.BallotSafe.{Among}
-use Rattle.raft_laws.proofs.VoteRanks.{leader_eq_same, rank_leader}
+use Rattle.raft_laws.proofs.VoteRanks.{rank_leader}
 use Rattle.raft_laws.proofs.Shapes.{Good, Joined, joined_at, joined_below, joined_held, joined_removed, slice_drop}
 use Rattle.raft_laws.proofs.Standing.{HasId, RoleFits, UpFits}
 use Rattle.raft_laws.proofs.Ids.{ballot_at}
-use Rattle.raft_laws.proofs.StepWords.{either}
 use Rattle.raft_laws.proofs.Tracking.{Tracks, among_last, reached_safe}
 use Rattle.raft_laws.proofs.TrackElections.{configs_are}
 use Rattle.raft_laws.proofs.TrackReplies.{peer_of_fits, peer_of_is}
@@ -132,10 +133,6 @@ removed_place : (o : Option (LogId ℕ)) (r : StepResult) → (remove_up_to o r)
 removed_place None r = refl
 removed_place (Some id) r = refl
 
-pub removed_role : (o : Option (LogId ℕ)) (r : StepResult) → (remove_up_to o r).state.role ≡ r.state.role
-removed_role None r = refl
-removed_role (Some id) r = refl
-
 removed_commands : (o : Option (LogId ℕ)) (r : StepResult) (c : StoringCommand) → Among c (remove_up_to o r).commands → Among c r.commands ⊎ ((id : LogId ℕ) × (c ≡ RemoveUpTo id))
 removed_commands None r c a = inl a
 removed_commands (Some id) r c a = ⊎_elim (λ b. inl b) (λ e. inr (id, e)) (among_last c (RemoveUpTo id) r.commands a)
@@ -153,7 +150,7 @@ module _ (m : Membership) (w : BallotWorld) (own : ℕ) (r : StepResult) (u : Up
         vote = removed_vote o none;
         held' = purged_held m r.state.stored u.list u.fits.good u.joined none refl place (h place e) o refl;
         committed = removed_place o none;
-        leads = ap is_leader (removed_role o none);
+        leads = ap is_leader (removing_keeps_role o none);
         commands = removed_commands o none;
       })
 

@@ -11,10 +11,10 @@ use Rattle.raft_group_step.specs.Lead.{commit_as_leader, other_ids, purge_as_wis
 use Rattle.raft_group_step.specs.Frames.{has_grown}
 use Rattle.raft_group_step.specs.Refusal.{refusal_of}
 use Rattle.raft_group_step.specs.GroupStep.{begun, event_step, finished, step_unless}
+use Rattle.raft_group_step.proofs.Words.{either_by}
 use Rattle.raft_laws.specs.BallotWorld.{BallotWorld, BallotEvent}
 use Rattle.raft_laws.proofs.BallotOthers.{extends_refl}
 use Rattle.raft_laws.proofs.Standing.{LeadKept, lead_same, MessageFits, RoleFits, up_down}
-use Rattle.raft_laws.proofs.StepWords.{either_by}
 use Rattle.raft_laws.proofs.StepFits.{world_after, NodeFits, StopFits, EventFits, Later, StepStop, StepEnd, StepFits, OpeningFits}
 use Rattle.raft_laws.proofs.StepWishes.{Wished, committed_wish, purged_wish, frames_wish}
 use Rattle.raft_laws.proofs.StepOpening.{nothing_yet, not_yet, opening_ends, opening_wish}

@@ -19,6 +19,7 @@ use Rattle.raft_group_step.specs.Frames.{committed_id, with_frames}
 use Rattle.raft_group_step.specs.Opening.{drop_stale_log, opening_step}
 use Rattle.raft_group_step.specs.Refusal.{refusal_of}
 use Rattle.raft_group_step.specs.GroupStep.{begun, call_step, event_step, finished, group_step, message_step, step_unless}
+use Rattle.raft_group_step.proofs.Words.{commit_keeps_role, commit_keeps_stored}
 use Rattle.raft_laws.specs.BallotWorld.{BallotWorld, BallotEvent}
 use Rattle.raft_laws.proofs.BallotSafe.{Among}
 use Rattle.raft_laws.proofs.Standing.{BodyFits, SnapshotFits, UpFits}
@@ -124,16 +125,6 @@ module _ (limit : ℕ) (Replied : Vote ℕ → ℕ → LogId ℕ → Type 0) whe
   commit_claims own (Candidate granters) r limit' le l h = more_claims limit Replied r limit' le h
   commit_claims own (Leader lead) r limit' le l h = let k = more_claims limit Replied r limit' le h in (l, k.1, k.2, k.3, k.4)
 
-  commit_stored : (own : ℕ) (role : Role) (r : StepResult) → (commit_as_leader own role r).state.stored ≡ r.state.stored
-  commit_stored own Follower r = refl
-  commit_stored own (Candidate granters) r = refl
-  commit_stored own (Leader lead) r = refl
-
-  pub commit_role : (own : ℕ) (role : Role) (r : StepResult) → (commit_as_leader own role r).state.role ≡ r.state.role
-  commit_role own Follower r = refl
-  commit_role own (Candidate granters) r = refl
-  commit_role own (Leader lead) r = refl
-
   commit_commands : (own : ℕ) (role : Role) (r : StepResult) → (commit_as_leader own role r).commands ≡ r.commands
   commit_commands own Follower r = refl
   commit_commands own (Candidate granters) r = refl
@@ -161,9 +152,9 @@ module _ (limit : ℕ) (Replied : Vote ℕ → ℕ → LogId ℕ → Type 0) whe
             inr
             (record {
               entry = x.entry;
-              leads = (frames_same own committed r2).2 ∙ purged.leads ∙ ap is_leader (commit_role own r.state.role r) ∙ x.leads;
+              leads = (frames_same own committed r2).2 ∙ purged.leads ∙ ap is_leader (commit_keeps_role own r.state.role r) ∙ x.leads;
               place = place ∙ x.place;
-              there = ap (λ l. slice_get l x.entry.log_id.index) (ap held (frames_same own committed r2).0 ∙ purged.held' ∙ ap held (commit_stored own r.state.role r)) ∙ x.there;
+              there = ap (λ l. slice_get l x.entry.log_id.index) (ap held (frames_same own committed r2).0 ∙ purged.held' ∙ ap held (commit_keeps_stored own r.state.role r)) ∙ x.there;
               written = x.written ∙ ap (λ (v : Vote ℕ). v.leader_id) (sym vote);
               test = x.test;
               quorum = x.quorum;
@@ -197,7 +188,7 @@ module _ (limit : ℕ) (Replied : Vote ℕ → ℕ → LogId ℕ → Type 0) whe
       place = (frames_same own committed r2).1 ∙ purged.committed
 
       vote : end.state.stored.vote ≡ r.state.stored.vote
-      vote = (frames_same own committed r2).3 ∙ purged.vote ∙ ap (λ (st : StoredGroup). st.vote) (commit_stored own r.state.role r)
+      vote = (frames_same own committed r2).3 ∙ purged.vote ∙ ap (λ (st : StoredGroup). st.vote) (commit_keeps_stored own r.state.role r)
 
       limit' : ℕ
       limit' = max limit (place_above r1.state.committed)

@@ -12,12 +12,13 @@ use Rattle.raft_group_step.specs.VoteRequest.{may_grant}
 use Rattle.raft_group_step.specs.GroupStep.{begun, message_step}
 use Rattle.raft_group_step.specs.GroupEvent.{Receive}
 use Rattle.raft_group_step.specs.Refusal.{do_follow, has_known_snapshot, is_foreign, is_foreign_result, is_of_leader, is_right_party, is_sound, keep_voters, reasons_of, refusal_of}
+use Rattle.raft_group_step.proofs.Refusals.{unless_none}
 use Rattle.raft_laws.specs.BallotWorld.{BallotWorld, BallotEvent}
 use Rattle.raft_laws.proofs.FreshEntries.{without_is}
 use Rattle.raft_laws.proofs.Standing.{BodyFits, MessageFits, RoleFits}
 use Rattle.raft_laws.proofs.StepFits.{WishFits}
 use Rattle.raft_laws.proofs.StepWishes.{judged_wish, counted_wish, heard_wish, offered_wish, reply_wish}
-use Rattle.raft_laws.proofs.StepCalls.{Goes, no_reason, unless_none}
+use Rattle.raft_laws.proofs.StepCalls.{Goes, no_reason}
 use Rattle.raft_laws.proofs.Tracking.{Tracks}
 use Rattle.raft_laws.proofs.TrackAppendRequest.{append_request_ends}
 use Rattle.raft_laws.proofs.TrackSnapshotRequest.{snapshot_request_ends}

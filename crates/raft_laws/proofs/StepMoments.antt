@@ -8,7 +8,7 @@ use Rattle.raft_values.specs.LogId.{log_id_of, place_of}
 use Rattle.raft_state.specs.declared.entry.EntryPayload.TheVariants.{Blank, Membership as Members}
 use Rattle.raft_group_step.specs.Values.{ChangeMembers, Entry, LoggedMembership, entry_of, has_id}
 use Rattle.raft_group_step.specs.StoredGroup.{CutFrom, PutEntries, Snapshot, StartAfter, snapshot_last}
-use Rattle.raft_group_step.specs.Message.{AppendFields, ReplyFields, ReplyResult, Success, Conflict, HigherVote, MessageBody, VoteRequest, VoteReply, AppendRequest, AppendReply, SnapshotRequest, SnapshotReply}
+use Rattle.raft_group_step.specs.Message.{AppendFields, ReplyFields, ReplyResult, Success, PartialSuccess, Conflict, HigherVote, MessageBody, VoteRequest, VoteReply, AppendRequest, AppendReply, SnapshotRequest, SnapshotReply}
 use Rattle.raft_group_step.specs.Peer.{PeerState}
 use Rattle.raft_group_step.specs.GroupState.{GroupState, Lead, Role, Follower, Candidate, Leader, state_of}
 use Rattle.raft_group_step.specs.declared.group_call.GroupCall.TheVariants.{Initialize, Elect, Propose, ChangeMembership, Heartbeat, Lost, TriggerSnapshot, TriggerPurge}
@@ -30,9 +30,9 @@ use Rattle.raft_group_step.specs.PurgeTrigger.{purge_as, purge_within}
 use Rattle.raft_group_step.specs.Opening.{drop_stale_log, resume_lead}
 use Rattle.raft_group_step.specs.Refusal.{refusal_of}
 use Rattle.raft_group_step.specs.GroupStep.{begun, call_step, event_step, finished, message_step, step_unless}
+use Rattle.raft_group_step.proofs.Words.{either}
 use Rattle.raft_laws.specs.Moments.{MomentsOfCalls, MomentsOfMessages, MomentsOfOpenings}
 use Rattle.raft_laws.specs.Refusals.{RefusalsAreTold}
-use Rattle.raft_laws.proofs.StepWords.{either}
 
 -- the moment is this one, and nothing was refused
 pub record Goes (now : ℕ) (r : StepResult) : Type 0 where
@@ -129,6 +129,7 @@ module _ (now : ℕ) where
 
   higher_goes : (o : ReplyResult) (r : StepResult) → Goes now r → Goes now (with_higher_vote o r)
   higher_goes Success r h = h
+  higher_goes (PartialSuccess last) r h = h
   higher_goes Conflict r h = h
   higher_goes (HigherVote vote) r h = greater_goes vote r h
 

@@ -12,6 +12,7 @@ use Rattle.raft_group_step.specs.StepResult.{StepResult, unchanged, store, in_ro
 use Rattle.raft_group_step.specs.SnapshotRequest.{place_above}
 use Rattle.raft_group_step.specs.Lead.{new_lead}
 use Rattle.raft_group_step.specs.Opening.{is_joined_to, drop_stale_log, resume_lead, opening_step}
+use Rattle.raft_group_step.proofs.Words.{either, either_by}
 use Rattle.raft_laws.specs.BallotWorld.{BallotNode, BallotWorld, BallotEvent, ForgetCommitted, forgotten}
 use Rattle.raft_laws.proofs.BallotAgreement.{same_some, with_value_same}
 use Rattle.raft_laws.proofs.BallotAppends.{drop_past}
@@ -20,7 +21,6 @@ use Rattle.raft_laws.proofs.BallotOthers.{Extends}
 use Rattle.raft_laws.proofs.VoteRanks.{leader_eq_from}
 use Rattle.raft_laws.proofs.Shapes.{Joined, Stale, joined_held, joined_at, slice_take}
 use Rattle.raft_laws.proofs.Standing.{HasId, SnapshotFits, StoredFits, DownFits, UpFits, LeadKept, lead_same, RoleFits, OwnVote}
-use Rattle.raft_laws.proofs.StepWords.{either, either_by}
 use Rattle.raft_laws.proofs.Tracking.{Reached, MayStop, Tracks, reached_next, step_extends, stops_store, track_same}
 use Rattle.raft_laws.proofs.TrackElections.{Ends}
 use Rattle.raft_laws.proofs.StepFits.{world_after}

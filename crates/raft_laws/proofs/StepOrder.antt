@@ -1,5 +1,5 @@
 -- Each kind of event keeps what is stored in line with the commands.
-use Rattle.std.specs.Prelude.{◌≡◌, ℕ, ◌+◌, nat_le, not, cond, Bool, true, false, List, [], ◌∷◌, Option, Some, None, refl}
+use Rattle.std.specs.Prelude.{◌≡◌, ℕ, ◌+◌, not, cond, Bool, true, false, List, [], ◌∷◌, Option, Some, None, refl}
 use Rattle.raft_values.specs.declared.vote.Vote.{Vote}
 use Rattle.raft_values.specs.Vote.{vote_of}
 use Rattle.raft_values.specs.declared.log_id.LogId.{LogId}
@@ -8,7 +8,7 @@ use Rattle.raft_group_step.specs.Values.{Entry, EntryPayload, entry_of, LoggedMe
 use Rattle.raft_state.specs.declared.entry.EntryPayload.TheVariants.{Membership as Members}
 use Rattle.raft_group_step.specs.Values.{ChangeMembers}
 use Rattle.raft_group_step.specs.StoredGroup.{has_id_in_log, StoredGroup, Snapshot, MakeGroup, PutEntries, CutFrom, RemoveUpTo, SetSnapshot}
-use Rattle.raft_group_step.specs.Message.{AppendFields, ReplyFields, ReplyResult, Success, Conflict, HigherVote, MessageBody, VoteRequest, VoteReply, AppendRequest, AppendReply, SnapshotRequest, SnapshotReply}
+use Rattle.raft_group_step.specs.Message.{AppendFields, ReplyFields, ReplyResult, Success, PartialSuccess, Conflict, HigherVote, MessageBody, VoteRequest, VoteReply, AppendRequest, AppendReply, SnapshotRequest, SnapshotReply}
 use Rattle.raft_group_step.specs.GroupState.{GroupState, Lead, Role, Follower, Candidate, Leader, state_of}
 use Rattle.raft_group_step.specs.declared.group_call.GroupCall.TheVariants.{Initialize, Elect, Propose, ChangeMembership, Heartbeat, Lost, TriggerSnapshot, TriggerPurge}
 use Rattle.raft_group_step.specs.GroupEvent.{GroupCall, GroupEvent, AddGroup, Call, Receive, Open}
@@ -29,10 +29,12 @@ use Rattle.raft_group_step.specs.PurgeTrigger.{purge_as, purge_within}
 use Rattle.raft_group_step.specs.Opening.{drop_stale_log, resume_lead}
 use Rattle.raft_group_step.specs.GroupStep.{begun, message_step, call_step, event_step, step_unless, group_step}
 use Rattle.raft_group_step.specs.Refusal.{refusal_of}
+use Rattle.raft_group_step.proofs.Words.{either, either_by, take_over_keeps_committed}
+use Rattle.raft_group_step.proofs.Refusals.{past_above}
 use Rattle.raft_laws.specs.StoringOrder.{StoresInOrder}
-use Rattle.raft_laws.proofs.StepWords.{either, either_by, same, store-keeps, store_vote-keeps, step_down-keeps, take_over-keeps, append-keeps, with_grant-keeps, remove-keeps, finished-keeps}
-use Rattle.std.proofs.Common.{sym, ◌∙◌, ap, subst, arith, leb-true}
-use Rattle.std.proofs.lemmas.Bool.{or_parts, false_from_ne_true}
+use Rattle.raft_laws.proofs.StepWords.{same, store-keeps, store_vote-keeps, step_down-keeps, take_over-keeps, append-keeps, with_grant-keeps, remove-keeps, finished-keeps}
+use Rattle.std.proofs.Common.{sym, ◌∙◌, ap, subst, arith}
+use Rattle.std.proofs.lemmas.Bool.{or_parts}
 use Rattle.raft_laws.proofs.VoteOrders.{not_below, later_term_not_below}
 
 -- each of the entries stands above the place
@@ -56,17 +58,7 @@ missing-above committed s (e ∷ es) h = go (has_id_in_log s e.log_id) (missing-
     go true rest = rest
     go false rest = h
 
-place_above_is : (committed : Option ℕ) → is_within (place_above committed) committed ≡ false
-place_above_is None = refl
-place_above_is (Some place) = gtb place
-  where
-    gtb : (n : ℕ) → nat_le (n + 1) n ≡ false
-    gtb n = false_from_ne_true _ (λ t. let l = leb-true (n + 1) n t in omega arith)
-
 module _ (committed : Option ℕ) (s : StoredGroup) where
-  take_over_committed : (vote : Vote ℕ) (r : StepResult) → (take_over vote r).state.committed ≡ r.state.committed
-  take_over_committed vote r = either (λ x. x.state.committed ≡ r.state.committed) _ _ _ refl refl
-
   ask-keeps : (own : ℕ) (ns : List ℕ) (r : StepResult) → StoresInOrder committed s r → StoresInOrder committed s (ask own ns r)
   ask-keeps own [] r h = h
   ask-keeps own (n ∷ ns) r h = ask-keeps own ns _ (same committed s r _ refl refl h)
@@ -120,13 +112,13 @@ module _ (committed : Option ℕ) (s : StoredGroup) where
   heard-keeps own peer m true r h c = same committed s r _ refl refl h
   heard-keeps own peer m false r h c =
       joined-keeps own peer m _ (take_over m.vote r) (take_over-keeps committed s m.vote r h)
-      (take_over_committed m.vote r ∙ c) refl
+      (take_over_keeps_committed m.vote r ∙ c) refl
 
   cut_other-keeps : (last : LogId ℕ) (r : StepResult) → StoresInOrder committed s r → r.state.committed ≡ committed → StoresInOrder committed s (cut_other last r)
   cut_other-keeps last r h c =
       either (StoresInOrder committed s) _ _ _ h
       (either (StoresInOrder committed s) _ _ _ (cut_from-keeps (place_above r.state.committed) r h
-      (ap (λ x. is_within (place_above x) committed) c ∙ place_above_is committed)) h)
+      (ap (λ x. is_within (place_above x) committed) c ∙ past_above committed)) h)
 
   install-keeps : (x : Snapshot) (r : StepResult) → StoresInOrder committed s r → r.state.committed ≡ committed → StoresInOrder committed s (install x r)
   install-keeps x r h c =
@@ -142,10 +134,11 @@ module _ (committed : Option ℕ) (s : StoredGroup) where
   offered-keeps own peer v id x true r h c = same committed s r _ refl refl h
   offered-keeps own peer v id x false r h c =
       same committed s (install_unless _ x (take_over v r)) _ refl refl
-      (install_unless-keeps _ x (take_over v r) (take_over-keeps committed s v r h) (take_over_committed v r ∙ c))
+      (install_unless-keeps _ x (take_over v r) (take_over-keeps committed s v r h) (take_over_keeps_committed v r ∙ c))
 
   higher-keeps : (o : ReplyResult) (r : StepResult) → StoresInOrder committed s r → StoresInOrder committed s (with_higher_vote o r)
   higher-keeps Success r h = h
+  higher-keeps (PartialSuccess last) r h = h
   higher-keeps Conflict r h = h
   higher-keeps (HigherVote v) r h = greater-keeps v r h
 

@@ -10,7 +10,7 @@ use Rattle.raft_quorums.specs.Quorum.{is_quorum}
 use Rattle.raft_state.specs.declared.entry.EntryPayload.TheVariants.{Blank, Membership as Members}
 use Rattle.raft_group_step.specs.Values.{ChangeMembers, Entry, EntryPayload, entry_of, has_id, LoggedMembership, Membership, vote_eq, vote_lt}
 use Rattle.raft_group_step.specs.StoredGroup.{StoredGroup, Snapshot, MakeGroup, SetVote, PutEntries, CutFrom, RemoveUpTo, SetSnapshot, StartAfter, end_place, entry_at, first_place, has_id_in_log, id_of, membership_in_force, snapshot_last}
-use Rattle.raft_group_step.specs.Message.{AppendFields, ReplyFields, ReplyResult, Success, Conflict, HigherVote, MessageBody, VoteRequest, VoteReply, AppendRequest, AppendReply, SnapshotRequest, SnapshotReply}
+use Rattle.raft_group_step.specs.Message.{AppendFields, ReplyFields, ReplyResult, Success, PartialSuccess, Conflict, HigherVote, MessageBody, VoteRequest, VoteReply, AppendRequest, AppendReply, SnapshotRequest, SnapshotReply}
 use Rattle.raft_group_step.specs.GroupState.{GroupState, Lead, Role, Follower, Candidate, Leader, is_candidate, state_of}
 use Rattle.raft_group_step.specs.declared.group_call.GroupCall.TheVariants.{Initialize, Elect, Propose, ChangeMembership, Heartbeat, Lost, TriggerSnapshot, TriggerPurge}
 use Rattle.raft_group_step.specs.GroupEvent.{GroupCall, GroupEvent, AddGroup, Call, Receive, Open}
@@ -33,11 +33,11 @@ use Rattle.raft_group_step.specs.Opening.{drop_stale_log, resume_lead}
 use Rattle.raft_group_step.specs.Initialize.{initialize_step, is_new}
 use Rattle.raft_group_step.specs.GroupStep.{begun, call_step, event_step, finished, group_step, message_step, step_unless}
 use Rattle.raft_group_step.specs.Refusal.{do_follow, is_sound, is_of_leader, keep_voters, next_blank, next_term, numbers_of, numbers_of_entries, numbers_of_id, numbers_of_request, reasons_of, reasons_of_call, refusal_of}
-use Rattle.raft_laws.proofs.StepWords.{either}
-use Rattle.raft_laws.proofs.StepCalls.{NoReason, no_reason, unless_none}
+use Rattle.raft_group_step.proofs.Words.{either, ask_state, cut_keeps_first}
+use Rattle.raft_group_step.proofs.Refusals.{unless_none}
+use Rattle.raft_laws.proofs.StepCalls.{NoReason, no_reason}
 use Rattle.raft_laws.proofs.StepCommits.{frames_same}
 use Rattle.raft_laws.proofs.StepMessages.{message_passed}
-use Rattle.raft_laws.proofs.TrackElections.{ask_state}
 use Rattle.raft_laws.proofs.StepEntries.{Each}
 use Rattle.raft_laws.proofs.LowGroups.{Low, StaysLow, low_id, put_end, same_low, store_low}
 use Rattle.raft_laws.proofs.LowNumbers.{IsLow, StandAbove, StandFrom, above_stand, entries_low, follow_stand, low_parts, missing_stand, passed_low, stand_each, stand_end}
@@ -132,9 +132,6 @@ module _ (start : StoredGroup) where
   cut_low : (i : ℕ) (r : StepResult) → Stays r → Stays (cut_from i r)
   cut_low i r h = either Stays _ _ _ (store_low start (CutFrom i) r h tt) h
 
-  cut_begins : (i : ℕ) (r : StepResult) → first_place (cut_from i r).state.stored ≡ first_place r.state.stored
-  cut_begins i r = either (λ q. first_place q.state.stored ≡ first_place r.state.stored) _ _ _ refl refl
-
   cut_at_low : (id : Option (LogId ℕ)) (r : StepResult) → Stays r → Stays (cut_at id r)
   cut_at_low None r h = h
   cut_at_low (Some id) r h = cut_low id.index r h
@@ -143,7 +140,7 @@ module _ (start : StoredGroup) where
   put_low [] r h k = h
   put_low (e ∷ es) r h k =
       let cut = cut_from e.log_id.index r in
-      let begins = cut_begins e.log_id.index r in
+      let begins = cut_keeps_first e.log_id.index r in
       let ends = stand_end k.0 (e ∷ es) (omega (arith, k.2.1)) k.2 in
       store_low start (PutEntries e.log_id.index (e ∷ es)) cut (cut_low e.log_id.index r h)
       (omega (arith, begins, ends, k.1, k.2.0), stand_each k.0 (e ∷ es) k.2)
@@ -168,6 +165,7 @@ module _ (start : StoredGroup) where
 
   higher_low : (o : ReplyResult) (r : StepResult) → Stays r → Stays (with_higher_vote o r)
   higher_low Success r h = h
+  higher_low (PartialSuccess last) r h = h
   higher_low Conflict r h = h
   higher_low (HigherVote v) r h = greater_low v r h
 

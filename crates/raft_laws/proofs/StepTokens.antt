@@ -9,7 +9,7 @@ use Rattle.raft_state.specs.declared.entry.EntryPayload.TheVariants.{Blank}
 use Rattle.std.specs.List.{list_any}
 use Rattle.raft_quorums.specs.Quorum.{is_quorum}
 use Rattle.raft_group_step.specs.Values.{Entry, has_id, is_written_by, Membership, vote_eq}
-use Rattle.raft_group_step.specs.StoredGroup.{StoredGroup, Snapshot, RemoveUpTo, SetSnapshot, CutFrom, entry_at, first_place, held, id_of, prefix_of, snapshot_last}
+use Rattle.raft_group_step.specs.StoredGroup.{StoredGroup, Snapshot, RemoveUpTo, SetSnapshot, StartAfter, CutFrom, entry_at, first_place, held, id_of, prefix_of, snapshot_last}
 use Rattle.raft_group_step.specs.Message.{AppendFields, ReplyFields}
 use Rattle.raft_group_step.specs.Peer.{PeerState, is_answer_to, with_peer}
 use Rattle.raft_group_step.specs.GroupState.{Lead, Role, Follower, Candidate, Leader, Untold, is_leader}
@@ -24,11 +24,12 @@ use Rattle.raft_group_step.specs.Heartbeat.{beat_as, send_notices}
 use Rattle.raft_group_step.specs.Lost.{lost_as}
 use Rattle.raft_group_step.specs.SnapshotTrigger.{snapshot_of_applied, store_snapshot_at}
 use Rattle.raft_group_step.specs.PurgeTrigger.{purge_as, purge_within}
+use Rattle.raft_group_step.specs.Opening.{drop_stale_log, is_joined_to}
+use Rattle.raft_group_step.proofs.Words.{either, either_by}
 use Rattle.raft_laws.specs.BallotWorld.{BallotWorld, BallotEvent}
 use Rattle.raft_laws.proofs.BallotAgreement.{some_at}
 use Rattle.raft_laws.proofs.Shapes.{joined_at, joined_below}
 use Rattle.raft_laws.proofs.Standing.{RoleFits}
-use Rattle.raft_laws.proofs.StepWords.{either, either_by}
 use Rattle.raft_laws.proofs.Tracking.{Tracks}
 use Rattle.raft_laws.proofs.TrackCalls.{same_held as shot_held, snapshot_next}
 use Rattle.raft_laws.proofs.TrackPurges.{same_held as purged_held}
@@ -239,3 +240,10 @@ unless_quiet true x r h = h
 unless_quiet false x r h =
     apply_quiet (Some x.last.index) (store (RemoveUpTo x.last) (store (SetSnapshot x) (cut_other x.last r)))
     (same_quiet (cut_other x.last r) _ refl refl (cut_other_quiet x.last r h))
+
+-- ---- openings
+
+pub drop_quiet : (last : Option (LogId ℕ)) (r : StepResult) → Quiet r → Quiet (drop_stale_log last r)
+drop_quiet None r h = h
+drop_quiet (Some last) r h =
+    either Quiet (is_joined_to r.state.stored last) r (store (StartAfter last) r) h (same_quiet r (store (StartAfter last) r) refl refl h)

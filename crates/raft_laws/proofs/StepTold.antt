@@ -9,8 +9,8 @@ use Rattle.raft_values.specs.declared.log_id.LogId.{LogId}
 use Rattle.raft_values.specs.LogId.{log_id_of, place_of}
 use Rattle.raft_state.specs.declared.entry.EntryPayload.TheVariants.{Normal, Membership as Members}
 use Rattle.raft_group_step.specs.Values.{after_change, ChangeMembers, Entry, EntryPayload, entry_of, LoggedMembership, Membership, vote_eq, vote_lt}
-use Rattle.raft_group_step.specs.StoredGroup.{StoredGroup, Snapshot, PutEntries, StartAfter, end_place, held, membership_in_force, snapshot_last}
-use Rattle.raft_group_step.specs.Message.{MessageBody, VoteRequest, VoteReply, AppendRequest, AppendReply, SnapshotRequest, SnapshotReply, AppendFields, ReplyFields, ReplyResult, Success, Conflict, HigherVote}
+use Rattle.raft_group_step.specs.StoredGroup.{StoredGroup, Snapshot, PutEntries, end_place, held, membership_in_force, snapshot_last}
+use Rattle.raft_group_step.specs.Message.{MessageBody, VoteRequest, VoteReply, AppendRequest, AppendReply, SnapshotRequest, SnapshotReply, AppendFields, ReplyFields, ReplyResult, Success, PartialSuccess, Conflict, HigherVote}
 use Rattle.raft_group_step.specs.Peer.{is_kept_for_peers}
 use Rattle.raft_group_step.specs.GroupState.{GroupState, Lead, Role, Follower, Candidate, Leader, Untold, is_leader, state_of}
 use Rattle.raft_group_step.specs.declared.group_call.GroupCall.TheVariants.{Initialize, Elect, Propose, ChangeMembership, Heartbeat, Lost, TriggerSnapshot, TriggerPurge}
@@ -24,24 +24,25 @@ use Rattle.raft_group_step.specs.SnapshotRequest.{offered}
 use Rattle.raft_group_step.specs.Reply.{reply_step, with_higher_vote}
 use Rattle.raft_group_step.specs.Propose.{append_with_token}
 use Rattle.raft_group_step.specs.MembershipStep.{append_changed}
-use Rattle.raft_group_step.specs.Opening.{drop_stale_log, is_joined_to, opening_step}
+use Rattle.raft_group_step.specs.Opening.{drop_stale_log, opening_step}
 use Rattle.raft_group_step.specs.Refusal.{do_follow, has_known_snapshot, is_of_leader, is_sound, keep_voters, known_leader, reasons_of, reasons_of_call, reasons_of_change, refusal_of}
 use Rattle.raft_group_step.specs.GroupStep.{begun, call_step, event_step, finished, group_step, message_step, step_unless}
+use Rattle.raft_group_step.proofs.Words.{either, leads_if}
+use Rattle.raft_group_step.proofs.Refusals.{unless_none}
 use Rattle.raft_laws.specs.BallotWorld.{BallotWorld, BallotEvent}
 use Rattle.raft_laws.proofs.Shapes.{joined_end, joined_held, slice_after}
 use Rattle.raft_laws.proofs.Standing.{BodyFits, OwnVote, RoleFits}
-use Rattle.raft_laws.proofs.StepCalls.{NoReason, change_keeps, leading, leads_on, no_reason, normal_differs, unless_none}
+use Rattle.raft_laws.proofs.StepCalls.{NoReason, change_keeps, leading, no_reason, normal_differs}
 use Rattle.raft_laws.proofs.StepMessages.{message_passed, of_leader}
 use Rattle.raft_laws.proofs.StepWishes.{Wished, committed_wish}
 use Rattle.raft_laws.proofs.TrackCommits.{commit_ends}
 use Rattle.raft_laws.proofs.TrackElections.{Ends}
 use Rattle.raft_laws.proofs.TrackVotes.{took_over}
 use Rattle.raft_laws.proofs.StepEntries.{Each, each_append, each_filter, each_more}
-use Rattle.raft_laws.proofs.StepTokens.{Quiet, SameTokens, apply_quiet, same_quiet, answered_same, beat_same, elect_quiet, frames_same, grant_quiet, joined_quiet, lost_same, purge_same, purge_within_same, same_refl, same_trans, snapshot_same, unless_quiet}
+use Rattle.raft_laws.proofs.StepTokens.{Quiet, SameTokens, apply_quiet, drop_quiet, same_quiet, answered_same, beat_same, elect_quiet, frames_same, grant_quiet, joined_quiet, lost_same, purge_same, purge_within_same, same_refl, same_trans, snapshot_same, unless_quiet}
 use Rattle.raft_laws.proofs.StepFits.{EventFits, NodeFits, StopFits, world_after}
 use Rattle.raft_laws.proofs.StepDispatch.{begins, event_ends}
 use Rattle.raft_laws.proofs.StepOpening.{opening_ends, opening_wish}
-use Rattle.raft_laws.proofs.StepWords.{either}
 use Rattle.raft_laws.proofs.Tracking.{Tracks, track_same}
 use Rattle.raft_laws.proofs.TrackWrites.{below_stays, write_held}
 
@@ -176,6 +177,7 @@ module _ (Q : Untold → Entry → Type 0) where
 
   higher_holds : (o : ReplyResult) (r : StepResult) → Holding r → Holding (with_higher_vote o r)
   higher_holds Success r h = h
+  higher_holds (PartialSuccess last) r h = h
   higher_holds Conflict r h = h
   higher_holds (HigherVote v) r h = greater_holds v r h
 
@@ -290,10 +292,10 @@ module _ (Q : Untold → Entry → Type 0) where
         quiet_holds (elect_quiet own (store (PutEntries 0 (entry_of (log_id_of 0 0 0) (Members first) ∷ [])) r) refl)
     call_holds Elect passed wanted = quiet_holds (elect_quiet own r refl)
     call_holds (Propose command token) passed wanted =
-        let lead = leads_on s.role (unless_none (is_leader s.role) (NotLeader (known_leader s.stored.vote)) passed.1.1.0) in
+        let lead = leads_if s.role (unless_none (is_leader s.role) (NotLeader (known_leader s.stored.vote)) passed.1.1.0) in
         token_holds w r t (leading w r t role lead.0 lead.1).0 (Normal command) token (λ x e. absurd (normal_differs command x e)) (ap is_leader lead.1) wanted holds
     call_holds (ChangeMembership change token) passed wanted =
-        let lead = leads_on s.role (unless_none (is_leader s.role) (NotLeader (known_leader s.stored.vote)) passed.1.0) in
+        let lead = leads_if s.role (unless_none (is_leader s.role) (NotLeader (known_leader s.stored.vote)) passed.1.0) in
         changed_holds lead.0 lead.1 (membership_in_force s.stored) refl change token passed.1.1.1 wanted
     call_holds Heartbeat passed wanted = holding_on (beat_same own s.role r) holds
     call_holds (Lost peer) passed wanted = holding_on (lost_same peer s.role r refl) holds
@@ -327,11 +329,6 @@ module _ (Q : Untold → Entry → Type 0) where
         let led = of_leader peer ne v parts.0 in
         offered_holds peer v id x (vote_lt v s.stored.vote) (follows v fits.bound led.1)
     body_holds peer ne (SnapshotReply reply) fits sound = reply_holds peer reply r holds
-
-  drop_quiet : (last : Option (LogId ℕ)) (r : StepResult) → Quiet r → Quiet (drop_stale_log last r)
-  drop_quiet None r h = h
-  drop_quiet (Some last) r h =
-      either Quiet (is_joined_to r.state.stored last) r (store (StartAfter last) r) h (same_quiet r (store (StartAfter last) r) refl refl h)
 
   opening_quiet : (own : ℕ) (st : StoredGroup) → Quiet (opening_step own st)
   opening_quiet own st =

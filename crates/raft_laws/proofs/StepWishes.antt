@@ -6,7 +6,7 @@ use Rattle.raft_values.specs.declared.log_id.LogId.{LogId}
 use Rattle.raft_quorums.specs.Quorum.{is_quorum}
 use Rattle.raft_group_step.specs.Values.{ChangeMembers, Entry, has_id, LoggedMembership}
 use Rattle.raft_group_step.specs.StoredGroup.{Snapshot, CutFrom, prefix_of, entry_at, has_id_in_log}
-use Rattle.raft_group_step.specs.Message.{AppendFields, ReplyFields, ReplyResult, Success, Conflict, HigherVote}
+use Rattle.raft_group_step.specs.Message.{AppendFields, ReplyFields, ReplyResult, Success, PartialSuccess, Conflict, HigherVote}
 use Rattle.raft_group_step.specs.Peer.{PeerState}
 use Rattle.raft_group_step.specs.GroupState.{Lead, Role, Follower, Candidate, Leader}
 use Rattle.raft_group_step.specs.StepResult.{StepResult, in_role, send, store, step_down, take_over, later_place, is_within}
@@ -22,10 +22,9 @@ use Rattle.raft_group_step.specs.MembershipStep.{append_changed}
 use Rattle.raft_group_step.specs.Heartbeat.{send_notices, beat_as}
 use Rattle.raft_group_step.specs.Lost.{lost_as}
 use Rattle.raft_group_step.specs.PurgeTrigger.{purge_as, purge_within}
-use Rattle.raft_laws.proofs.StepWords.{either}
+use Rattle.raft_group_step.proofs.Words.{either, ask_state, take_over_keeps_committed}
 use Rattle.raft_laws.proofs.StepFits.{WishFits}
 use Rattle.raft_laws.proofs.BallotAgreement.{same_some}
-use Rattle.raft_laws.proofs.TrackElections.{ask_state}
 
 abbrev pub Wished : StepResult → Type 0
 Wished r = WishFits r.state
@@ -97,6 +96,7 @@ heard_wish own peer a false r h = joined_wish own peer a _ (take_over a.vote r) 
 
 higher_wish : (o : ReplyResult) (r : StepResult) → Wished r → Wished (with_higher_vote o r)
 higher_wish Success r h = h
+higher_wish (PartialSuccess last) r h = h
 higher_wish Conflict r h = h
 higher_wish (HigherVote v) r h = greater_wish v r h
 
@@ -145,9 +145,6 @@ unless_wish false x r l h = install_wish x r (l refl) h
 take_over_same : (v : Vote ℕ) (r : StepResult) → (take_over v r).state.stored.snapshot ≡ r.state.stored.snapshot
 take_over_same v r = either (λ q. q.state.stored.snapshot ≡ r.state.stored.snapshot) _ _ _ refl refl
 
-take_over_place : (v : Vote ℕ) (r : StepResult) → (take_over v r).state.committed ≡ r.state.committed
-take_over_place v r = either (λ q. q.state.committed ≡ r.state.committed) _ _ _ refl refl
-
 -- a snapshot that is installed goes past what is committed
 pub offered_wish : (own peer : ℕ) (v : Vote ℕ) (id : ℕ) (x : Snapshot) (b : Bool) (r : StepResult) → (is_within x.last.index r.state.committed ≡ false → length (prefix_of r.state.stored.snapshot) ≤ length x.«prefix») → Wished r → Wished (offered own peer v id x b r)
 offered_wish own peer v id x true r l h = h
@@ -155,7 +152,7 @@ offered_wish own peer v id x false r l h =
     unless_wish (is_within x.last.index (take_over v r).state.committed) x (take_over v r)
     (λ e.
     subst (λ o. length (prefix_of o) ≤ length x.«prefix») (sym (take_over_same v r))
-    (l (ap (is_within x.last.index) (sym (take_over_place v r)) ∙ e)))
+    (l (ap (is_within x.last.index) (sym (take_over_keeps_committed v r)) ∙ e)))
     (take_over_wish v r h)
 
 -- ---- calls

@@ -1,5 +1,5 @@
 -- Each word by which steps are put together keeps what is stored in line with the commands.
-use Rattle.std.specs.Prelude.{◌≡◌, ℕ, Bool, true, false, if◌then◌else◌, List, [], ◌∷◌, ◌++◌, Option, Some, None, refl}
+use Rattle.std.specs.Prelude.{◌≡◌, ℕ, Bool, true, false, List, [], ◌∷◌, ◌++◌, Option, Some, None, refl}
 use Rattle.std.proofs.Common.{sym, ◌∙◌, ap, subst}
 use Rattle.raft_group_step.specs.StoredGroup.{StoredGroup, Snapshot, StoringCommand, SetVote, after_storing, after_storing_all}
 use Rattle.raft_group_step.specs.GroupState.{Lead, Role, Follower, Candidate, Leader}
@@ -13,22 +13,13 @@ use Rattle.raft_group_step.specs.Peer.{PeerState}
 use Rattle.raft_group_step.specs.GroupStep.{finished}
 use Rattle.raft_group_step.specs.Lead.{other_ids, remove_up_to, with_wish, append_blank, committed_vote, begin_lead, lead_if, with_grant, commit_as_leader, purge_as_wished}
 use Rattle.raft_group_step.specs.Frames.{with_frames, has_grown, send_request, serve, serve_all, serve_as}
+use Rattle.raft_group_step.proofs.Words.{either, either_by}
 use Rattle.raft_laws.specs.StoringOrder.{StoresInOrder, KeepsVoteAndCommitted, AllKeep}
 use Rattle.raft_laws.proofs.VoteOrders.{not_below, committed_not_below}
 
 pub all-append : (cs : List StoringCommand) (c : StoringCommand) (s : StoredGroup) → after_storing_all (cs ++ c ∷ []) s ≡ after_storing c (after_storing_all cs s)
 all-append [] c s = refl
 all-append (x ∷ cs) c s = all-append cs c (after_storing x s)
-
--- whichever it is
-pub either : (P : StepResult → Type 0) (b : Bool) (x y : StepResult) → P x → P y → P (if b then x else y)
-either P true x y h k = h
-either P false x y h k = k
-
--- the same, where each may use what was tested
-pub either_by : (P : StepResult → Type 0) (b : Bool) (x y : StepResult) → (b ≡ true → P x) → (b ≡ false → P y) → P (if b then x else y)
-either_by P true x y h k = h refl
-either_by P false x y h k = k refl
 
 module _ (committed : Option ℕ) where
   all-keep : (cs : List StoringCommand) (c : StoringCommand) (s : StoredGroup) → AllKeep committed s cs → KeepsVoteAndCommitted committed (after_storing_all cs s) c → AllKeep committed s (cs ++ c ∷ [])

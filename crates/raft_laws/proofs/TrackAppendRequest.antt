@@ -9,13 +9,13 @@ use Rattle.raft_group_step.specs.Message.{AppendFields, Conflict, last_sent}
 use Rattle.raft_group_step.specs.GroupState.{Follower}
 use Rattle.raft_group_step.specs.StepResult.{StepResult, store, take_over}
 use Rattle.raft_group_step.specs.AppendRequest.{is_held, cut_from, cut_at, above_committed, missing_entries, lesser_place, reply_append, joined, heard, append_request_step}
+use Rattle.raft_group_step.proofs.Words.{either_by}
 use Rattle.raft_laws.specs.BallotWorld.{BallotWorld, BallotEvent, taken, cut_before}
 use Rattle.raft_laws.specs.BallotRanks.{rank_of, ballot_log}
 use Rattle.raft_laws.proofs.BallotOthers.{Extends, extends_refl}
 use Rattle.raft_laws.proofs.Shapes.{joined_held}
 use Rattle.raft_laws.proofs.Ids.{size_same}
 use Rattle.raft_laws.proofs.Standing.{RoleFits, AppendFits, append-of, reply-of, id_rank}
-use Rattle.raft_laws.proofs.StepWords.{either_by}
 use Rattle.raft_laws.proofs.Tracking.{Tracks, track_send}
 use Rattle.raft_laws.proofs.TrackVotes.{took_over}
 use Rattle.raft_laws.proofs.TrackElections.{Ends, ends_from}

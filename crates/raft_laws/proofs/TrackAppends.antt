@@ -12,6 +12,7 @@ use Rattle.raft_group_step.specs.Message.{Message, AppendFields, last_sent}
 use Rattle.raft_group_step.specs.StepResult.{StepResult, store, with_stored, apply_up_to, later_place, is_within}
 use Rattle.raft_group_step.specs.SnapshotRequest.{place_above}
 use Rattle.raft_group_step.specs.AppendRequest.{is_held, cut_from, above_committed, missing_entries, put_entries, lesser_place}
+use Rattle.raft_group_step.proofs.Words.{either_by}
 use Rattle.raft_laws.specs.BallotLogs.{BallotEntry, holds_before, put_from}
 use Rattle.raft_laws.specs.BallotLogs.{cut_from as cut_log_from}
 use Rattle.raft_laws.specs.BallotWorld.{BallotNode, BallotAppend, BallotWorld, BallotEvent, TakeEntries, CutForEntries, CutForConflict, can_raise, taken, cut, cut_before, append_comes, cut_comes, conflict_comes, ballot_step}
@@ -25,7 +26,6 @@ use Rattle.raft_laws.proofs.Shapes.{Good, Joined, good_drop, joined_at, joined_c
 use Rattle.raft_laws.proofs.FreshEntries.{within_is, without_is, above_is, has_id_is, has_id_place, missing_is, holds_at}
 use Rattle.raft_laws.proofs.Ids.{size_same, ballot_at}
 use Rattle.raft_laws.proofs.Standing.{up_down, LeadKept, lead_other, StoredFits, UpFits, DownFits, MessageFits, AppendFits, append-of, id_rank, message_on}
-use Rattle.raft_laws.proofs.StepWords.{either_by}
 use Rattle.raft_laws.proofs.Tracking.{Tracks, Reached, MayStop, index_of, reached_next, reached_safe, step_extends, stored_next, stops_store, track_on, track_event}
 use Rattle.raft_laws.proofs.TrackWrites.{put_fits, cut_fits}
 

@@ -18,13 +18,13 @@ use Rattle.raft_group_step.specs.Lost.{lost_as}
 use Rattle.raft_group_step.specs.Propose.{append_with_token}
 use Rattle.raft_group_step.specs.SnapshotTrigger.{snapshot_at, store_snapshot_at, snapshot_of_applied}
 use Rattle.raft_group_step.specs.SnapshotRequest.{place_above}
+use Rattle.raft_group_step.proofs.Words.{either_by}
 use Rattle.raft_laws.specs.BallotWorld.{BallotWorld, BallotEvent, written}
 use Rattle.raft_laws.specs.BallotRanks.{rank_of}
 use Rattle.raft_laws.proofs.BallotAgreement.{same_some, some_at}
 use Rattle.raft_laws.proofs.BallotOthers.{extends_refl}
 use Rattle.raft_laws.proofs.Shapes.{Joined, joined_held, joined_at, joined_snapshot, slice_take}
 use Rattle.raft_laws.proofs.Standing.{SnapshotFits, UpFits, lead_same, PeerFits, RoleFits}
-use Rattle.raft_laws.proofs.StepWords.{either_by}
 use Rattle.raft_laws.proofs.Tracking.{Tracks, track_same, track_store}
 use Rattle.raft_laws.proofs.TrackWrites.{write_tracks, write_extends, write_fits}
 use Rattle.raft_laws.proofs.TrackElections.{Ends}

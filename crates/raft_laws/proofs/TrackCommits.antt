@@ -12,6 +12,7 @@ use Rattle.raft_group_step.specs.GroupState.{Lead, Role, Follower, Candidate, Le
 use Rattle.raft_group_step.specs.StepResult.{StepResult, apply_up_to, later_place, is_within}
 use Rattle.raft_group_step.specs.SnapshotRequest.{place_above}
 use Rattle.raft_group_step.specs.Lead.{configs_in_force, peer_of, has_accepted, may_be_committed, last_place, commit_as_leader}
+use Rattle.raft_group_step.proofs.Votes.{leader_eq_same}
 use Rattle.raft_laws.specs.BallotWorld.{BallotReply, BallotWorld, BallotEvent, CommitPlace, is_of, ballot_accepted, is_ballot_leader, is_ballot_settled, committed_to, ballot_start, ballot_step, ballot_run}
 use Rattle.raft_laws.specs.BallotRanks.{rank_of, owner_of, ballot_entry, ballot_group}
 use Rattle.raft_laws.specs.CommitsOwn.{CommitsOwn}
@@ -20,7 +21,7 @@ use Rattle.raft_laws.proofs.BallotQuorums.{quorum_more}
 use Rattle.raft_laws.proofs.BallotSafe.{Among}
 use Rattle.raft_laws.proofs.BallotOthers.{Extends, extends_refl}
 use Rattle.raft_laws.proofs.BallotOrigins.{own_accepted}
-use Rattle.raft_laws.proofs.VoteRanks.{leader_eq_same, owner_is}
+use Rattle.raft_laws.proofs.VoteRanks.{owner_is}
 use Rattle.raft_laws.proofs.Shapes.{slice_drop}
 use Rattle.raft_laws.proofs.Ids.{ballot_at}
 use Rattle.raft_laws.proofs.Standing.{UpFits, RoleFits, reply-of, message_on, role_on}

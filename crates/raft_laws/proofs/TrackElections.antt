@@ -15,6 +15,7 @@ use Rattle.raft_group_step.specs.StepResult.{StepResult, store, store_vote, step
 use Rattle.raft_group_step.specs.Lead.{configs_of, configs_in_force, committed_vote, new_lead, begin_lead, lead_if, with_grant}
 use Rattle.raft_group_step.specs.Elect.{other_voters, ask, stand, elect_step}
 use Rattle.raft_group_step.specs.Initialize.{is_new, initialize_step}
+use Rattle.raft_group_step.proofs.Words.{either_by, ask_state}
 use Rattle.raft_laws.specs.BallotLogs.{LogEnd}
 use Rattle.raft_laws.specs.BallotQuorum.{is_quorum}
 use Rattle.raft_laws.specs.BallotWorld.{FoundGroup, founded, is_empty, BallotRequest, BallotGrant, BallotWorld, BallotEvent, StandForElection, WinElection, has_granted, is_ballot_candidate, elected, won, written, ballot_step}
@@ -29,7 +30,6 @@ use Rattle.raft_laws.proofs.Shapes.{Good, Joined, joined_held, joined_end, joine
 use Rattle.raft_laws.proofs.Memberships.{HasMembership, in_force, last_voters}
 use Rattle.raft_laws.proofs.Standing.{UpFits, lead_young, RoleFits, OwnVote, request-of, grant-of, id_rank}
 use Rattle.raft_laws.proofs.Ids.{log_end_is}
-use Rattle.raft_laws.proofs.StepWords.{either_by}
 use Rattle.raft_laws.proofs.Tracking.{Tracks, among_last, track_event, track_same, track_send, step_extends}
 use Rattle.raft_laws.proofs.TrackVotes.{voted, up_node}
 use Rattle.raft_laws.proofs.TrackWrites.{put_fits, good_one, write_tracks, write_extends, write_fits}
@@ -65,10 +65,6 @@ pub record Ends (m : Membership) (some : 0 < length m.configs) (own : ℕ) (befo
   pub extends : Extends own w world
   pub tracks : Tracks m some own before base world q
   pub role : RoleFits own world q.state.stored.vote (held q.state.stored) q.state.role
-
-pub ask_state : (own : ℕ) (ns : List ℕ) (r : StepResult) → (ask own ns r).state ≡ r.state
-ask_state own [] r = refl
-ask_state own (n ∷ ns) r = ask_state own ns _
 
 -- the voter groups of a membership's entry
 abbrev pub configs-in : EntryPayload → List (List ℕ)

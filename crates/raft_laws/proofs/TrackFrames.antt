@@ -16,6 +16,7 @@ use Rattle.raft_group_step.specs.Lead.{peer_of, other_ids}
 use Rattle.raft_group_step.specs.Frames.{committed_id, notice, request_start, waiting, send_entries, send_snapshot, send_request, serve, serve_as, serve_all, lacks_entries, entries_in_request}
 use Rattle.raft_group_step.specs.Heartbeat.{send_notices, beat_as}
 use Rattle.raft_group_step.specs.SnapshotRequest.{place_above}
+use Rattle.raft_group_step.proofs.Words.{either_by}
 use Rattle.raft_laws.specs.BallotLogs.{BallotEntry, ballot_of, ballot_before}
 use Rattle.raft_laws.specs.BallotWorld.{BallotWorld, BallotEvent, SendEntries, is_ballot_leader, sent, ballot_step}
 use Rattle.raft_laws.specs.BallotRanks.{rank_of, ballot_entry, ballot_log, ballot_group}
@@ -26,7 +27,6 @@ use Rattle.raft_laws.proofs.Shapes.{Good, good_none, good_take, good_drop, joine
 use Rattle.raft_laws.proofs.Ids.{before, id_at_is, size_same, ballot_at}
 use Rattle.raft_laws.proofs.Standing.{HasId, PeerFits, RoleFits, OwnVote, AppendFits, InstallFits, append-of, reply-of, id_rank, message_on, peer_on}
 use Rattle.raft_laws.proofs.BallotAppends.{drop_past}
-use Rattle.raft_laws.proofs.StepWords.{either_by}
 use Rattle.raft_laws.proofs.Tracking.{Tracks, track_on, track_same, track_send, reached_next, reached_safe, step_extends}
 use Rattle.raft_laws.proofs.TrackWrites.{leads}
 use Rattle.raft_laws.proofs.TrackElections.{Ends, ends_from}

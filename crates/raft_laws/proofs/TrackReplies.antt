@@ -8,7 +8,7 @@ use Rattle.raft_values.specs.declared.vote.LeaderId.{LeaderId}
 use Rattle.raft_values.specs.LogId.{next_place}
 use Rattle.raft_group_step.specs.Values.{Membership, Entry, vote_eq, vote_lt, leader_eq, last_id_lt, last_id_eq}
 use Rattle.raft_group_step.specs.StoredGroup.{StoredGroup, last_id, held}
-use Rattle.raft_group_step.specs.Message.{ReplyFields, ReplyResult, Success, Conflict, HigherVote}
+use Rattle.raft_group_step.specs.Message.{ReplyFields, ReplyResult, Success, PartialSuccess, Conflict, HigherVote}
 use Rattle.raft_group_step.specs.Peer.{PeerState, Outstanding, new_peer, peer_or, with_peer, is_answer_to}
 use Rattle.raft_group_step.specs.GroupState.{Lead, Role, Follower, Candidate, Leader}
 use Rattle.raft_group_step.specs.StepResult.{StepResult, store_vote, step_down}
@@ -18,14 +18,15 @@ use Rattle.raft_group_step.specs.VoteRequest.{may_grant, is_under_lease, judged,
 use Rattle.raft_group_step.specs.VoteReply.{take_over_greater, counted, vote_reply_step}
 use Rattle.raft_group_step.specs.Reply.{after_answer, answered, with_higher_vote, reply_step}
 use Rattle.raft_group_step.specs.Refusal.{is_foreign, is_foreign_result}
+use Rattle.raft_group_step.proofs.Words.{either_by}
+use Rattle.raft_group_step.proofs.Votes.{leader_eq_same}
 use Rattle.raft_laws.specs.BallotWorld.{BallotReply, BallotWorld, BallotEvent, raised}
 use Rattle.raft_laws.specs.BallotRanks.{rank_of}
 use Rattle.raft_laws.proofs.BallotSafe.{Among}
 use Rattle.raft_laws.proofs.BallotOthers.{extends_refl}
-use Rattle.raft_laws.proofs.VoteRanks.{vote_eq_same, leader_eq_same, rank_rises}
+use Rattle.raft_laws.proofs.VoteRanks.{vote_eq_same, rank_rises}
 use Rattle.raft_laws.proofs.Shapes.{joined_held}
 use Rattle.raft_laws.proofs.Standing.{replies_on, PeerFits, RoleFits, RepliesFit, request-of, grant-of, reply-of, id_rank}
-use Rattle.raft_laws.proofs.StepWords.{either_by}
 use Rattle.raft_laws.proofs.Tracking.{Tracks, track_same, track_send}
 use Rattle.raft_laws.proofs.TrackVotes.{grant_tracks, raise_tracks'}
 use Rattle.raft_laws.proofs.TrackElections.{Ends, ends_from, grant_ends}
@@ -167,6 +168,7 @@ module _ {m : Membership} {some : 0 < length m.configs} {own : ℕ} {before : Li
           );
           outstanding = λ o id e q. absurd (let f : None ≡ Some o = e in cc);
         }
+    after_fits lead h (PartialSuccess last) fits t = absurd fits
     after_fits lead h Conflict fits t =
         let p = peer_of_fits w.replies (rank_of r.state.stored.vote.leader_id) (held r.state.stored) lead peer h in
         record { matched = λ id e. p.matched id e; outstanding = λ o id e q. absurd (let f : None ≡ Some o = e in cc) }
@@ -199,6 +201,7 @@ module _ {m : Membership} {some : 0 < length m.configs} {own : ℕ} {before : Li
 
   higher_ends : (peer : ℕ) (reply : ReplyFields) (o : ReplyResult) → RepliesFit w peer reply o → is_foreign_result own r.state.stored.vote o ≡ true → Ends m some own before base w (with_higher_vote o r)
   higher_ends peer reply Success fits foreign = stays
+  higher_ends peer reply (PartialSuccess last) fits foreign = stays
   higher_ends peer reply Conflict fits foreign = stays
   higher_ends peer reply (HigherVote v) fits foreign = greater_ends v fits foreign
 

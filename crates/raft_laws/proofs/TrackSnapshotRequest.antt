@@ -12,6 +12,7 @@ use Rattle.raft_group_step.specs.GroupState.{Follower}
 use Rattle.raft_group_step.specs.StepResult.{StepResult, store, take_over, apply_up_to, is_within}
 use Rattle.raft_group_step.specs.AppendRequest.{above_committed, missing_entries, put_entries, lesser_place}
 use Rattle.raft_group_step.specs.SnapshotRequest.{place_above, cut_other, install, install_unless, reply_snapshot, offered, snapshot_request_step}
+use Rattle.raft_group_step.proofs.Words.{either_by}
 use Rattle.raft_laws.specs.BallotWorld.{BallotWorld, BallotEvent, taken, dropped}
 use Rattle.raft_laws.specs.BallotRanks.{rank_of, ballot_log}
 use Rattle.raft_laws.proofs.BallotAgreement.{same_some, some_at, with_value_same}
@@ -22,7 +23,6 @@ use Rattle.raft_laws.proofs.Shapes.{joined_held, joined_at}
 use Rattle.raft_laws.proofs.FreshEntries.{within_is, without_is, above_is}
 use Rattle.raft_laws.proofs.Ids.{size_same}
 use Rattle.raft_laws.proofs.Standing.{RoleFits, AppendFits, InstallFits, append-of, reply-of}
-use Rattle.raft_laws.proofs.StepWords.{either_by}
 use Rattle.raft_laws.proofs.Tracking.{Tracks, track_on, track_send}
 use Rattle.raft_laws.proofs.TrackVotes.{took_over}
 use Rattle.raft_laws.proofs.TrackElections.{Ends, ends_from}

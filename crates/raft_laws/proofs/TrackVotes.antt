@@ -13,17 +13,18 @@ use Rattle.raft_group_step.specs.Values.{Entry}
 use Rattle.raft_group_step.specs.StoredGroup.{StoredGroup, SetVote, after_storing, last_id, end_place}
 use Rattle.raft_group_step.specs.GroupState.{GroupState, Role, Follower, Candidate, Leader}
 use Rattle.raft_group_step.specs.StepResult.{StepResult, renew, store_vote, step_down, take_over, with_stored}
+use Rattle.raft_group_step.proofs.Words.{either_by}
+use Rattle.raft_group_step.proofs.Votes.{less_is}
 use Rattle.raft_laws.specs.BallotLogs.{is_at_least}
 use Rattle.raft_laws.specs.BallotWorld.{BallotNode, BallotRequest, BallotWorld, BallotEvent, RaiseVote, TakeRequest, can_grant, raised, granted, request_comes, ballot_step}
 use Rattle.raft_laws.specs.BallotRanks.{rank_of, owner_of, ballot_group}
 use Rattle.raft_laws.proofs.BallotAgreement.{with_value_same}
 use Rattle.raft_laws.proofs.BallotSafe.{Among}
 use Rattle.raft_laws.proofs.BallotOthers.{Extends, extends_refl}
-use Rattle.raft_laws.proofs.VoteOrders.{LeaderOrder, below, equal, above, leader_order, less_is, differ_flags}
+use Rattle.raft_laws.proofs.VoteOrders.{LeaderOrder, below, equal, above, leader_order, differ_flags}
 use Rattle.raft_laws.proofs.VoteRanks.{rank_below, rank_same, owner_other, rank_rises, rank_rises_strictly, same_vote}
 use Rattle.raft_laws.proofs.Ids.{log_end_is, before, end_is}
 use Rattle.raft_laws.proofs.Standing.{message_on, lead_other, UpFits, RoleFits, request-of, grant-of, id_rank}
-use Rattle.raft_laws.proofs.StepWords.{either_by}
 use Rattle.raft_laws.proofs.Tracking.{Tracks, track_event, track_on, track_same, reached_next, step_extends, index_of, up_same}
 
 -- the node with another vote

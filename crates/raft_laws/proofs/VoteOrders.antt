@@ -1,7 +1,7 @@
 -- The order of votes, in the words of numbers.
-use Rattle.std.specs.Prelude.{◌≡◌, ℕ, ◌<◌, ◌==◌, nat_lt, Bool, true, false, refl}
-use Rattle.std.proofs.Common.{sym, ap, ap₂, ◌∙◌, ⊎_elim, arith, lt-ltb, le-ltb, eq-eqb, ne_eqb}
-use Rattle.std.proofs.lemmas.Bool.{cases_order, cond-true, cond-false}
+use Rattle.std.specs.Prelude.{◌≡◌, ℕ, ◌<◌, Bool, true, false, refl}
+use Rattle.std.proofs.Common.{sym, ap, ap₂, ◌∙◌, ⊎_elim, arith}
+use Rattle.std.proofs.lemmas.Bool.{cases_order}
 use Rattle.std.specs.declared.cmp.Ordering.{Ordering}
 use Rattle.std.specs.declared.cmp.Ordering.TheVariants.{Less, Equal, Greater}
 use Rattle.std.specs.Ordering.{nat_cmp, bool_cmp, ordering_then, is_lt}
@@ -9,15 +9,7 @@ use Rattle.raft_values.specs.declared.vote.LeaderId.{LeaderId}
 use Rattle.raft_values.specs.declared.vote.Vote.{Vote}
 use Rattle.raft_values.specs.Vote.{leader_cmp}
 use Rattle.raft_group_step.specs.Values.{vote_lt}
-
-pub less_is : (x y : ℕ) → x < y → nat_cmp x y ≡ Less
-less_is x y l = cond-true (nat_lt x y) _ _ (lt-ltb x y l)
-
-pub same_is : (x y : ℕ) → x ≡ y → nat_cmp x y ≡ Equal
-same_is x y e = cond-false (nat_lt x y) _ _ (le-ltb x y (omega arith)) ∙ cond-true (x == y) _ _ (eq-eqb x y e)
-
-pub greater_is : (x y : ℕ) → y < x → nat_cmp x y ≡ Greater
-greater_is x y l = cond-false (nat_lt x y) _ _ (le-ltb x y (omega arith)) ∙ cond-false (x == y) _ _ (ne_eqb x y (λ e. omega arith))
+use Rattle.raft_group_step.proofs.Votes.{greater_is, less_is, same_is}
 
 -- the first leader comes before the second
 pub data LeaderBelow (a b : LeaderId ℕ) : Type 0 where

@@ -1,11 +1,12 @@
 -- Leaders as numbers stand in the order of leaders.
 use Rattle.std.specs.Prelude.{◌≡◌, ℕ, ◌+◌, ◌*◌, ◌%◌, ◌^◌, ◌<◌, ◌≤◌, ◌==◌, Bool, true, false, refl}
 use Rattle.std.specs.Bool.{beq}
-use Rattle.std.proofs.Common.{sym, ap, ap₂, ◌∙◌, ⊎_elim, arith, lt-ltb, le-ltb, eq-eqb, eqb-true}
+use Rattle.std.proofs.Common.{sym, ap, ap₂, ◌∙◌, ⊎_elim, arith, lt-ltb, le-ltb, eq-eqb}
 use Rattle.std.proofs.lemmas.Bool.{and_parts, and_from, cond-true, cond-false, cases_lt}
 use Rattle.raft_values.specs.declared.vote.LeaderId.{LeaderId}
 use Rattle.raft_values.specs.declared.vote.Vote.{Vote}
 use Rattle.raft_group_step.specs.Values.{leader_eq, vote_eq, vote_lt}
+use Rattle.raft_group_step.proofs.Votes.{leader_eq_same, same_leader}
 use Rattle.raft_laws.specs.BallotRanks.{rank_of, owner_of}
 use Rattle.raft_laws.proofs.VoteOrders.{LeaderBelow, by_term, by_node, VoteOrder, lower, earlier, level, later, higher, vote_order, differ_flags}
 
@@ -16,23 +17,12 @@ rank_below a b h (by_node e l) = omega arith
 pub rank_same : (a b : LeaderId ℕ) → a.term ≡ b.term → a.node_id ≡ b.node_id → rank_of a ≡ rank_of b
 rank_same a b e f = ap₂ (λ t n. t * 2 ^ 64 + n) e f
 
-abbrev leader-of : ℕ → ℕ → LeaderId ℕ
-leader-of t n = record { term = t; node_id = n }
-
-pub same_leader : (a b : LeaderId ℕ) → a.term ≡ b.term → a.node_id ≡ b.node_id → a ≡ b
-same_leader a b e f = ap₂ leader-of e f
-
 -- equal numbers are of equal leaders
 pub rank_leader : (a b : LeaderId ℕ) → a.node_id < 2 ^ 64 → b.node_id < 2 ^ 64 → rank_of a ≡ rank_of b → a ≡ b
 rank_leader a b h k e =
     let t : a.term ≡ b.term = omega arith in
     let n : a.node_id ≡ b.node_id = omega arith in
     same_leader a b t n
-
-pub leader_eq_same : (a b : LeaderId ℕ) → leader_eq a b ≡ true → a ≡ b
-leader_eq_same a b h =
-    let p = and_parts (a.term == b.term) (a.node_id == b.node_id) h in
-    same_leader a b (eqb-true a.term b.term p.0) (eqb-true a.node_id b.node_id p.1)
 
 pub leader_eq_from : (a b : LeaderId ℕ) → a ≡ b → leader_eq a b ≡ true
 leader_eq_from a b e =

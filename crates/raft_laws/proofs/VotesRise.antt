@@ -8,6 +8,7 @@ use Rattle.raft_group_step.specs.StoredGroup.{StoredGroup, StoringCommand, MakeG
 use Rattle.raft_group_step.specs.GroupState.{GroupState, state_of}
 use Rattle.raft_group_step.specs.GroupEvent.{GroupEvent, Open}
 use Rattle.raft_group_step.specs.GroupStep.{group_step}
+use Rattle.raft_group_step.proofs.Votes.{not_below_itself}
 use Rattle.raft_laws.specs.GroupWorld.{GroupWorld, NodeState, Absent, Up, Down, Recorded, Outcome, is_stop, state_or}
 use Rattle.raft_laws.specs.declared.world_event.WorldEvent.{WorldEvent}
 use Rattle.raft_laws.specs.NodeEvent.{NodeEvent, Comes, Crashes, Halts, Restarts, after_step, state_after}
@@ -63,9 +64,6 @@ is_at_most a b t = go (vote_order a b)
     go (level e f p o) = let x = ap flag p in inr (sym e, inr (sym f, omega arith))
     go (later e f p q o) = let x = ap flag p in let y = ap flag q in inr (sym e, inr (sym f, omega arith))
     go (higher l o) = leader_at_most b a l
-
-pub not_below_itself : (a : Vote ℕ) → vote_lt a a ≡ false
-not_below_itself a = false_from_ne_true (vote_lt a a) (λ t. let h = is_below a a t in omega (arith, h))
 
 pub not_below_again : (a b c : Vote ℕ) → vote_lt b a ≡ false → vote_lt c b ≡ false → vote_lt c a ≡ false
 not_below_again a b c h k =

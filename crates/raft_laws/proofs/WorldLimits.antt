@@ -8,17 +8,18 @@ use Rattle.raft_values.specs.declared.vote.Vote.{Vote}
 use Rattle.raft_values.specs.declared.log_id.LogId.{LogId}
 use Rattle.raft_group_step.specs.Values.{leader_eq, log_id_eq, vote_eq}
 use Rattle.raft_group_step.specs.StoredGroup.{prefix_of}
-use Rattle.raft_group_step.specs.Message.{Message, MessageBody, VoteRequest, VoteReply, AppendRequest, AppendReply, SnapshotRequest, SnapshotReply, ReplyFields, ReplyResult, Success}
+use Rattle.raft_group_step.specs.Message.{Message, MessageBody, VoteRequest, VoteReply, AppendRequest, AppendReply, SnapshotRequest, SnapshotReply, ReplyFields}
 use Rattle.raft_group_step.specs.GroupState.{Role, Follower, Candidate, Leader}
 use Rattle.raft_group_step.specs.GroupEvent.{GroupCall}
+use Rattle.raft_group_step.proofs.Votes.{leader_eq_same}
 use Rattle.raft_laws.specs.declared.world_event.WorldEvent.{WorldEvent}
 use Rattle.raft_laws.specs.declared.world_event.WorldEvent.TheVariants.{Add, Ask, Deliver, Crash, Halt, Restart}
 use Rattle.raft_laws.specs.GroupWorld.{GroupWorld, NodeState, Absent, Up, Down}
 use Rattle.raft_laws.specs.NodeEvent.{NodeEvent, Comes, Crashes, Halts, Restarts}
 use Rattle.raft_laws.specs.GroupRun.{Scene, Nowhere, At, is_same_setup, scene_of, scene_of_call, scene_of_delivery, setup_in_call}
-use Rattle.raft_laws.specs.Settled.{accepts, body_accepts, group_list, has_replied, is_last, is_success}
+use Rattle.raft_laws.specs.Settled.{accepted_last, accepts, body_accepts, group_list, has_replied, is_last}
 use Rattle.raft_laws.proofs.BallotSafe.{Among, among_at}
-use Rattle.raft_laws.proofs.VoteRanks.{leader_eq_from, leader_eq_same}
+use Rattle.raft_laws.proofs.VoteRanks.{leader_eq_from}
 use Rattle.raft_laws.proofs.StepClaims.{ClaimWithin, Known}
 use Rattle.raft_laws.proofs.StepLimits.{BodyKnown, EventClaims, StateClaims}
 use Rattle.raft_laws.proofs.Counts.{among_any, any_among}
@@ -65,7 +66,10 @@ module _ (vote : Vote ℕ) (p q : LogId ℕ → Bool) (wider : (id : LogId ℕ) 
   last_wider (Some id) t = wider id t
 
   reply_wider : (r : ReplyFields) → accepts vote p r ≡ true → accepts vote q r ≡ true
-  reply_wider r t = let a = and_parts _ (is_last p r.last) t in and_from _ (is_last q r.last) a.0 (last_wider r.last a.1)
+  reply_wider r t =
+      let upto = accepted_last r.outcome r.last in
+      let a = and_parts (vote_eq r.vote vote) (is_last p upto) t in
+      and_from (vote_eq r.vote vote) (is_last q upto) a.0 (last_wider upto a.1)
 
   body_wider : (b : MessageBody) → body_accepts vote p b ≡ true → body_accepts vote q b ≡ true
   body_wider (VoteRequest v last) t = t
@@ -98,24 +102,23 @@ module _ (w : GroupWorld) (limits : WorldLimits w) where
   abbrev limit : ℕ
   limit = length (group_list w)
 
-  reply_known : (x : Message) (r : ReplyFields) → ((id : LogId ℕ) → body_accepts r.vote (λ other. log_id_eq other id) x.body ≡ accepts r.vote (λ other. log_id_eq other id) r) → Among x w.messages → (o : ReplyResult) → r.outcome ≡ o → r.outcome ≡ Success → (id : LogId ℕ) → r.last ≡ Some id → replied w r.vote x.sender id
-  reply_known x r is a o e done id last =
+  reply_known : (x : Message) (r : ReplyFields) → ((id : LogId ℕ) → body_accepts r.vote (λ other. log_id_eq other id) x.body ≡ accepts r.vote (λ other. log_id_eq other id) r) → Among x w.messages → (id : LogId ℕ) → accepted_last r.outcome r.last ≡ Some id → replied w r.vote x.sender id
+  reply_known x r is a id last =
       among_any (λ (y : Message). (y.sender == x.sender) && body_accepts r.vote (λ other. log_id_eq other id) y.body) w.messages x a
       (and_from (x.sender == x.sender) _ (eq-eqb x.sender x.sender refl) (is id ∙ accepted))
     where
       accepted : accepts r.vote (λ other. log_id_eq other id) r ≡ true
       accepted =
-          and_from _ (is_last (λ other. log_id_eq other id) r.last)
-          (and_from _ (vote_eq r.vote r.vote) (ap is_success done) (vote_itself r.vote))
+          and_from (vote_eq r.vote r.vote) (is_last (λ other. log_id_eq other id) (accepted_last r.outcome r.last)) (vote_itself r.vote)
           (ap (is_last (λ other. log_id_eq other id)) last ∙ itself id)
 
   body_known : (x : Message) → Among x w.messages → (b : MessageBody) → x.body ≡ b → BodyKnown (replied w) x.sender b
   body_known x a (VoteRequest v last) e = tt
   body_known x a (VoteReply v granted last) e = tt
   body_known x a (AppendRequest f) e = tt
-  body_known x a (AppendReply r) e = reply_known x r (λ id. ap (body_accepts r.vote (λ other. log_id_eq other id)) e) a r.outcome refl
+  body_known x a (AppendReply r) e = reply_known x r (λ id. ap (body_accepts r.vote (λ other. log_id_eq other id)) e) a
   body_known x a (SnapshotRequest v id y) e = tt
-  body_known x a (SnapshotReply r) e = reply_known x r (λ id. ap (body_accepts r.vote (λ other. log_id_eq other id)) e) a r.outcome refl
+  body_known x a (SnapshotReply r) e = reply_known x r (λ id. ap (body_accepts r.vote (λ other. log_id_eq other id)) e) a
 
   abbrev pub ComesKnown : NodeEvent → Type 0
   ComesKnown (Comes e) = EventClaims limit (replied w) e

@@ -28,6 +28,10 @@ use Rattle.raft_laws.proofs.WorldFits.{NodeStateFits, WorldFits}
 use Rattle.raft_laws.proofs.WorldSteps.{MayCome, MayHappen}
 use Rattle.raft_laws.proofs.WorldRuns.{SetUpWith, call_happens, group_happens, message_happens}
 
+-- an outcome that tells these tells no others
+pub done_told : (sent sent' : List Message) (told told' : List Untold) (unknown unknown' : List ℕ) → Done sent told unknown ≡ Done sent' told' unknown' → told ≡ told'
+done_told sent sent' told told' unknown unknown' e = cc
+
 module _ (Q : Untold → Entry → Type 0) where
   abbrev pub NodeTokens : NodeState → Type 0
   NodeTokens Absent = Unit {0}
@@ -56,9 +60,6 @@ module _ (Q : Untold → Entry → Type 0) where
 
   stopped_none : (these : List ℕ) (sent : List Message) (told : List Untold) (unknown : List ℕ) → Stopped these ≡ Done sent told unknown → told ≡ []
   stopped_none these sent told unknown e = cc
-
-  done_told : (sent sent' : List Message) (told told' : List Untold) (unknown unknown' : List ℕ) → Done sent told unknown ≡ Done sent' told' unknown' → told ≡ told'
-  done_told sent sent' told told' unknown unknown' e = cc
 
   refused_none : (why : RefusalReason) (sent : List Message) (told : List Untold) (unknown : List ℕ) → Refused why ≡ Done sent told unknown → told ≡ []
   refused_none why sent told unknown e = cc

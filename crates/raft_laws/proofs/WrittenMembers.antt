@@ -11,9 +11,10 @@ use Rattle.raft_group_step.specs.declared.group_call.GroupCall.TheVariants.{Init
 use Rattle.raft_group_step.specs.GroupEvent.{GroupCall, Call}
 use Rattle.raft_group_step.specs.StepResult.{MembershipRefused}
 use Rattle.raft_group_step.specs.Refusal.{is_first_membership, reasons_of, reasons_of_call, reasons_of_change, refusal_of}
+use Rattle.raft_group_step.proofs.Refusals.{unless_none}
 use Rattle.raft_laws.specs.Origins.{changed_entry, entry_of_call}
 use Rattle.raft_laws.proofs.BallotAgreement.{same_some}
-use Rattle.raft_laws.proofs.StepCalls.{NoReason, no_reason, unless_none}
+use Rattle.raft_laws.proofs.StepCalls.{NoReason, no_reason}
 
 -- the membership has no more nodes than one may have
 abbrev pub IsFew : Membership → Type 0

@@ -1,12 +1,11 @@
 //! A node that stands for election.
-ghost use Rattle.std.specs.Prelude.{◌≡◌, ◌++◌, Bool, true, false, List, IfOk, map};
+ghost use Rattle.std.specs.Prelude.{◌≡◌, ◌++◌, Bool, true, false, [], IfOk, OnOk, OnErr, map};
 ghost use Rattle.std.specs.List.{list_any};
 ghost use Rattle.std.specs.Option.{option_copied};
 ghost use Rattle.raft_quorums.specs.Nodes.{has_id};
-ghost use Rattle.raft_quorums.specs.Quorum.{is_quorum};
 ghost use Rattle.raft_progress.specs.Parts.{SetsValue};
 ghost use Rattle.raft_progress.specs.Values.{are_distinct};
-ghost use Rattle.raft_leaders.specs.Candidate.{CountsBy, SaysWhoGranted, any_granted, granting_ids, is_granted_by_quorum};
+ghost use Rattle.raft_leaders.specs.Candidate.{granting_ids, is_granted_by_quorum, with_granter};
 
 use crate::granters::Granters;
 use raft_progress::VecProgress;
@@ -15,14 +14,16 @@ use std::alloc::{AllocError, Global};
 use std::fmt::{self, Display};
 use std::marker::Model;
 
-/// A node that stands for election: its vote, and who has granted it (openraft). Contracts see
-/// its fields, and the progress as its parts.
+/// A node that stands for election: its vote, and who has granted it (openraft; that it keeps the
+/// ids of those who are no voters too is own). Contracts see its fields, and the progress as its
+/// parts.
 #[derive(Debug, Drop)]
 pub struct Candidate<NID: NodeId, QS: QuorumSet<NID>> {
     starting_time: u64,
     vote: Vote<NID>,
     last_log_id: Option<LogId<NID>>,
     progress: VecProgress<NID, bool, bool, QS>,
+    granted_by: Vec<NID>,
 }
 
 impl<NID: NodeId, QS: QuorumSet<NID>> Model for Candidate<NID, QS> {
@@ -40,11 +41,23 @@ impl<NID: NodeId, QS: QuorumSet<NID>> Model for Candidate<NID, QS> {
       vote = c.vote;
       last_log_id = c.last_log_id;
       progress = c.progress;
+      granted_by = c.granted_by.items;
     } };
 
     ghost invariant = { λ c. IsCounted NID.eq bool_cmp (λ b. b) QS.accepts c.progress
         × (c.progress.built_with ≡ false)
         × IsDistinct NID.eq (ids_of c.progress.voters) };
+}
+
+// Puts the id behind the others, unless it is among them. Without memory nothing is changed.
+fn push_granter<NID: NodeId>(ids: &mut Vec<NID>, id: NID) -> Result<(), AllocError>
+    ensures ok { OnOk result (ids.new.items ≡ with_granter NID.eq ids.old.items id) }
+    ensures err { OnErr result (ids.new.items ≡ ids.old.items) }
+{
+    if !ids.contains(&id) {
+        ids.push(id)?;
+    }
+    Ok(())
 }
 
 impl<NID: NodeId, QS: QuorumSet<NID> + Drop> Candidate<NID, QS> {
@@ -66,6 +79,7 @@ impl<NID: NodeId, QS: QuorumSet<NID> + Drop> Candidate<NID, QS> {
         ensures quorum_set { IfOk result (λ c. c.progress.quorum_set ≡ quorum_set) }
         ensures voters { IfOk result (λ c. c.progress.voters ≡ map (λ id. (id, false)) (QS.members quorum_set)) }
         ensures learners { IfOk result (λ c. c.progress.learners ≡ map (λ id. (id, false)) learner_ids.now) }
+        ensures granted_by { IfOk result (λ c. c.granted_by ≡ []) }
     {
         let progress = VecProgress::new(alloc, quorum_set, learner_ids, false)?;
         Ok(Candidate {
@@ -73,6 +87,7 @@ impl<NID: NodeId, QS: QuorumSet<NID> + Drop> Candidate<NID, QS> {
             vote,
             last_log_id,
             progress,
+            granted_by: Vec::new(alloc),
         })
     }
 
@@ -104,19 +119,28 @@ impl<NID: NodeId, QS: QuorumSet<NID> + Drop> Candidate<NID, QS> {
         &self.progress
     }
 
-    /// Notes that this id has granted the vote, and answers whether a quorum has: some voter, and
-    /// those who have are a quorum. An id that nobody has changes nothing (openraft, which stops
-    /// there).
-    pub fn grant_by(&mut self, target: &NID) -> bool
-        ensures sets { SetsValue NID.eq self.old.progress self.new.progress target.now true }
-        ensures rest { self.new ≡ record self.old { progress = self.new.progress } }
-        ensures granted { result ≡ is_granted_by_quorum NID.eq QS.accepts self.new.progress }
-        ensures by_groups { (configs : List (List NID)) (test : NID → Bool) → CountsBy QS.accepts self.new.progress.quorum_set configs
-            → SaysWhoGranted NID.eq configs self.new.progress test → any_granted self.new.progress.voters ≡ true → result ≡ is_quorum configs test }
+    /// Notes that this id has granted the vote, and answers whether a quorum has of those who were
+    /// the voters as it stood: some voter, and those who have are a quorum (openraft, which stops
+    /// at an id that nobody has). Without memory nothing is changed.
+    pub fn grant_by(&mut self, target: &NID) -> Result<bool, AllocError>
+        ensures sets { OnOk result (SetsValue NID.eq self.old.progress self.new.progress target.now true) }
+        ensures notes { OnOk result (self.new.granted_by ≡ with_granter NID.eq self.old.granted_by target.now) }
+        ensures rest { self.new ≡ record self.old { progress = self.new.progress; granted_by = self.new.granted_by } }
+        ensures granted { IfOk result (λ granted. granted ≡ is_granted_by_quorum NID.eq QS.accepts self.new.progress) }
+        ensures err { OnErr result (self.new ≡ self.old) }
     {
+        push_granter(&mut self.granted_by, *target)?;
         // What is granted is the same whether somebody has the id or nobody.
         let _ = self.progress.update(target, true);
-        *self.progress.granted()
+        Ok(*self.progress.granted())
+    }
+
+    /// Whether all who have granted the vote are a quorum of these voters, which may be others than
+    /// those as it stood (own): of the membership in force, say, which a purge may change.
+    pub fn is_granted_by<VS: QuorumSet<NID>>(&self, voters: &VS) -> bool
+        ensures { result ≡ VS.accepts voters.now (has_id NID.eq self.now.granted_by) }
+    {
+        voters.is_quorum(&self.granted_by)
     }
 
     /// The ids that have granted the vote, voters first, then learners (openraft).

@@ -5,7 +5,7 @@ use Rattle.std.specs.List.{AllByRecursion}
 use Rattle.std.specs.String.{string_bytes}
 use Rattle.std.specs.declared.alloc.Global.{Global}
 use Rattle.std.proofs.lemmas.List.{take_more}
-use Rattle.std.proofs.lemmas.Bool.{eq-eqb, ne_eqb, eqb-false}
+use Rattle.std.proofs.lemmas.Bool.{eq-eqb, ne_eqb, eqb-false, or_parts}
 use Rattle.raft_log_disk.specs.declared.memory_file.MemoryFile.{MemoryFile}
 use Rattle.raft_log_disk.specs.declared.crash.CrashChoice.{CrashChoice}
 use Rattle.raft_log_disk.specs.Text.{Text}
@@ -41,14 +41,10 @@ abbrev IsAmong : MemoryFile → List MemoryFile → Type 0
 IsAmong f [] = ⊥
 IsAmong f (g ∷ gs) = (f ≡ g) ⊎ IsAmong f gs
 
-neither : (a b : Bool) → (a || b) ≡ false → (a ≡ false) × (b ≡ false)
-neither true b e = absurd cc
-neither false b e = (refl, e)
-
 among_other : (f : MemoryFile) (fs : List MemoryFile) (n : ℕ) → has_number (names_of fs) n ≡ false → IsAmong f fs → f.number ≢ n
 among_other f [] n none there same = there
-among_other f (g ∷ gs) n none (inl is) same = eqb-false g.number n (neither (g.number == n) (has_number (names_of gs) n) none).0 (ap (λ (h : MemoryFile). h.number) (sym is) ∙ same)
-among_other f (g ∷ gs) n none (inr there) same = among_other f gs n (neither (g.number == n) (has_number (names_of gs) n) none).1 there same
+among_other f (g ∷ gs) n none (inl is) same = eqb-false g.number n (or_parts (g.number == n) (has_number (names_of gs) n) none).0 (ap (λ (h : MemoryFile). h.number) (sym is) ∙ same)
+among_other f (g ∷ gs) n none (inr there) same = among_other f gs n (or_parts (g.number == n) (has_number (names_of gs) n) none).1 there same
 
 -- each file is that of its number
 pub file_among : (f : MemoryFile) (fs : List MemoryFile) (next : ℕ) → are_named (names_of fs) next ≡ true → IsAmong f fs → file_of fs f.number ≡ state_of f
@@ -141,7 +137,3 @@ are_genuine choice directories fs ts next h same genuine = genuine_back choice d
 
 pub not_genuine : (choice : CrashChoice) (directories : List (String Global)) (fs ts : List MemoryFile) (next : ℕ) → are_named (names_of fs) next ≡ true → ts ≡ fs → (AreGenuine choice ts → ⊥) → IsGenuineImage (disk_of directories fs next) (image_in choice fs) → ⊥
 not_genuine choice directories fs ts next h same none genuine = none (subst (AreGenuine choice) (sym same) (genuine_over choice directories fs next h genuine))
-
-pub on_ok : {T E : Type 0} (r : Result T E) (P Q : Type 0) → (P → Q) → OnOk r P → OnOk r Q
-on_ok (Ok x) P Q f p = f p
-on_ok (Err e) P Q f p = tt

@@ -3,7 +3,7 @@ use Rattle.std.proofs.Common.{◌≡◌, ◌≢◌, ◌⊎◌, inl, inr, ℕ, ze
 use Rattle.std.specs.declared.alloc.Global.{Global}
 use Rattle.std.specs.Prelude.{String, MatchOption, option_to_list, map, slice_set, ◌||◌, ◌==◌, remove, replicate}
 use Rattle.std.specs.String.{string_bytes}
-use Rattle.std.proofs.lemmas.Bool.{eq-eqb, ne_eqb, eqb-true, eqb-false}
+use Rattle.std.proofs.lemmas.Bool.{eq-eqb, ne_eqb, eqb-true, eqb-false, or_parts}
 use Rattle.raft_log_disk.specs.declared.memory_file.MemoryFile.{MemoryFile}
 use Rattle.raft_log_disk.specs.Text.{Text, same_text}
 use Rattle.raft_log_disk.specs.Disk.{FileState, Disk, IsIn, IsNoFile, after_create, listed, HasOneOf, are_named, fd_of, without, moved, no_bytes, with_file, after_write, after_allocate, after_truncate, Torn, PartlyTruncated, RefusedWrite, RefusedAllocate, RefusedTruncate}
@@ -77,20 +77,16 @@ absent fs number none there = absent_from fs number 0 none there
 
 -- ---- by path
 
-neither : (a b : Bool) → (a || b) ≡ false → (a ≡ false) × (b ≡ false)
-neither true b e = absurd cc
-neither false b e = (refl, e)
-
 no_file : (fs : List MemoryFile) (n : ℕ) → has_number (names_of fs) n ≡ false → file_of fs n ≡ no_bytes
 no_file [] n none = refl
 no_file (f ∷ fs) n none =
-    let h = neither (f.number == n) (has_number (names_of fs) n) none in
+    let h = or_parts (f.number == n) (has_number (names_of fs) n) none in
     ap (λ b. cond b (state_of f) (file_of fs n)) (ne_eqb n f.number (λ e. eqb-false f.number n h.0 (sym e))) ∙ no_file fs n h.1
 
 other_number : (fs : List MemoryFile) (a k : ℕ) (d : MemoryFile) → has_number (names_of fs) a ≡ false → k < length fs → (get_or fs k d).number ≢ a
 other_number [] a k d none lt = absurd (omega arith)
-other_number (f ∷ fs) a zero d none lt = eqb-false f.number a (neither (f.number == a) (has_number (names_of fs) a) none).0
-other_number (f ∷ fs) a (suc k) d none lt = other_number fs a k d (neither (f.number == a) (has_number (names_of fs) a) none).1 (omega arith)
+other_number (f ∷ fs) a zero d none lt = eqb-false f.number a (or_parts (f.number == a) (has_number (names_of fs) a) none).0
+other_number (f ∷ fs) a (suc k) d none lt = other_number fs a k d (or_parts (f.number == a) (has_number (names_of fs) a) none).1 (omega arith)
 
 gone_step : (b : Bool) (n : ℕ) (f : MemoryFile) (fs : List MemoryFile) → eqb n f.number ≡ b → has_number (names_of fs) f.number ≡ false → file_of fs n ≡ cond b no_bytes (cond b (state_of f) (file_of fs n))
 gone_step true n f fs e none = no_file fs n (ap (has_number (names_of fs)) (eqb-true n f.number e) ∙ none)
@@ -211,7 +207,7 @@ still_pushed fs gs f path next h is n p none = ap (λ (es : List (Text × ℕ)).
 file_pushed : (fs : List MemoryFile) (f : MemoryFile) (n : ℕ) → has_number (names_of fs) f.number ≡ false → state_of f ≡ no_bytes → file_of (fs ++ f ∷ []) n ≡ cond (eqb n f.number) no_bytes (file_of fs n)
 file_pushed [] f n none is = ap (λ g. cond (eqb n f.number) g no_bytes) is
 file_pushed (g ∷ fs) f n none is =
-    let h = neither (g.number == f.number) (has_number (names_of fs) f.number) none in
+    let h = or_parts (g.number == f.number) (has_number (names_of fs) f.number) none in
     ap (λ x. cond (eqb n g.number) (state_of g) x) (file_pushed fs f n h.1 is) ∙ swap n g.number f.number (state_of g) no_bytes (file_of fs n) (eqb-false g.number f.number h.0)
 
 pub created : (directories : List (String Global)) (fs gs : List MemoryFile) (f : MemoryFile) (path : Text) (next : ℕ) → are_named (names_of fs) next ≡ true → gs ≡ fs ++ f ∷ [] → f.number ≡ next → string_bytes f.path ≡ path → state_of f ≡ no_bytes

@@ -1,7 +1,7 @@
 -- A header that was written is read as it was, and what is read is spelled so.
 use Rattle.std.proofs.Common.{◌≡◌, ◌⊎◌, inl, inr, ℕ, zero, suc, ◌+◌, ◌^◌, ◌<◌, ◌≤◌, Bool, true, false, cond, not, nat_lt, eqb, List, [], ◌∷◌, ◌++◌, length, get_or, take, drop, Result, Ok, Err, refl, sym, ap, subst, ◌∙◌, arith, append_assoc}
 use Rattle.std.specs.Int.{w64, from_be_bytes, to_be_bytes}
-use Rattle.std.proofs.lemmas.Bool.{le-ltb, ltb-false, eqb-true}
+use Rattle.std.proofs.lemmas.Bool.{le-ltb, ltb-false, eqb-true, not-false}
 use Rattle.std.proofs.lemmas.Nat.{be_bytes_8, from_be_bytes-to_be_bytes_8}
 use Rattle.std.proofs.lemmas.List.{length-append, length-drop, length-take-le, take_at, drop_at, drop-drop}
 use Rattle.std.proofs.Math.Seq.{take-add}
@@ -80,10 +80,6 @@ abbrev AreRead : ℕ → List ℕ → LogFileFormat → Type 0
 AreRead v rest f = ((v ≡ 1) × (f ≡ record { version = V1; alignment = 0 }))
     ⊎ ((v ≡ 2) × (8 ≤ length rest) × (f ≡ record { version = V2; alignment = from_be_bytes w64 (take 8 rest) }))
 
-unless : (b : Bool) → not b ≡ false → b ≡ true
-unless true e = refl
-unless false e = absurd cc
-
 version_read : (b : Bool) (v : ℕ) (rest : List ℕ) (f : LogFileFormat) → eqb v 1 ≡ b
     → cond b (Ok (record { version = V1; alignment = 0 })) (cond (not (eqb v 2)) (Err BadVersion)
     (cond (nat_lt (length rest) 8) (Err CutShort) (Ok (record { version = V2; alignment = from_be_bytes w64 (take 8 rest) })))) ≡ Ok f
@@ -92,7 +88,7 @@ version_read true v rest f is e = inl (eqb-true v 1 is, cc)
 version_read false v rest f is e =
     let g = guard_then (not (eqb v 2)) BadVersion _ f e in
     let h = guard_then (nat_lt (length rest) 8) CutShort _ f g.1 in
-    inr (eqb-true v 2 (unless (eqb v 2) g.0), ltb-false _ _ h.0, cc)
+    inr (eqb-true v 2 (not-false (eqb v 2) g.0), ltb-false _ _ h.0, cc)
 
 each_byte : (bytes : List ℕ) → AreBytes bytes → (i : ℕ) → get_or bytes i 0 < 256
 each_byte [] fits i = omega arith
@@ -143,7 +139,7 @@ header_spelled bytes f fits e =
     let g = guard_then (nat_lt (length bytes) 61) CutShort _ f e in
     let h = guard_then (not (same_text (take 53 bytes) magic)) NoHeader _ f g.1 in
     let long : 61 ≤ length bytes = ltb-false _ _ g.0 in
-    let text : take 53 bytes ≡ magic = (bytes_decides (take 53 bytes) magic).0 (unless _ h.0) in
+    let text : take 53 bytes ≡ magic = (bytes_decides (take 53 bytes) magic).0 (not-false _ h.0) in
     elim (version_read _ (from_be_bytes w64 (take 8 (drop 53 bytes))) (drop 61 bytes) f refl h.1) [
       | inl w ↦ subst (IsSpelled bytes) (sym w.1) (first_spelled bytes fits long text w.0)
       | inr w ↦ subst (IsSpelled bytes) (sym w.2) (second_spelled bytes _ fits long text w.0 w.1 refl)

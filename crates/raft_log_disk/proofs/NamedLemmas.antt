@@ -2,7 +2,7 @@
 use Rattle.std.proofs.Common.{◌≡◌, ◌≢◌, ◌⊎◌, inl, inr, ℕ, ◌+◌, ◌<◌, ◌≤◌, Bool, true, false, cond, eqb, List, [], ◌∷◌, ◌++◌, Option, Some, None, refl, sym, ap, subst, ◌∙◌, arith}
 use Rattle.std.specs.Prelude.{not, nat_lt, ◌&&◌, ◌||◌, is_some, map, ◌==◌}
 use Rattle.std.specs.List.{list_any}
-use Rattle.std.proofs.lemmas.Bool.{eq-eqb, ne_eqb, eqb-true, eqb-false, ltb-true, lt-ltb}
+use Rattle.std.proofs.lemmas.Bool.{eq-eqb, ne_eqb, eqb-true, eqb-false, ltb-true, lt-ltb, or_parts, and_parts}
 use Rattle.std.proofs.lemmas.List.Folds.{list_any-append}
 use lib.Pointwise.{bytes_decides}
 use Rattle.raft_log_disk.specs.Text.{Text, same_text}
@@ -14,11 +14,6 @@ Names = List (Text × ℕ)
 -- a number is among the names
 abbrev pub has_number : Names → ℕ → Bool
 has_number es n = list_any (λ other. other.1 == n) es
-
-both : (a b : Bool) → (a && b) ≡ true → (a ≡ true) × (b ≡ true)
-both true true e = (refl, refl)
-both true false e = absurd cc
-both false b e = absurd cc
 
 is_false : (b : Bool) → not b ≡ true → b ≡ false
 is_false true e = absurd cc
@@ -37,9 +32,9 @@ pub record IsNamedFirst (e : Text × ℕ) (es : Names) (next : ℕ) : Type 0 whe
 
 pub named_first : (e : Text × ℕ) (es : Names) (next : ℕ) → are_named (e ∷ es) next ≡ true → IsNamedFirst e es next
 named_first e es next h =
-    let a = both (nat_lt e.1 next) (not (has_number es e.1) && (not (is_some (fd_of es e.0)) && are_named es next)) h in
-    let b = both (not (has_number es e.1)) (not (is_some (fd_of es e.0)) && are_named es next) a.1 in
-    let d = both (not (is_some (fd_of es e.0))) (are_named es next) b.1 in
+    let a = and_parts (nat_lt e.1 next) (not (has_number es e.1) && (not (is_some (fd_of es e.0)) && are_named es next)) h in
+    let b = and_parts (not (has_number es e.1)) (not (is_some (fd_of es e.0)) && are_named es next) a.1 in
+    let d = and_parts (not (is_some (fd_of es e.0))) (are_named es next) b.1 in
     record { below = a.0; number = is_false (has_number es e.1) b.0; path = is_none (fd_of es e.0) d.0; others = d.1 }
 
 pub named_join : (e : Text × ℕ) (es : Names) (next : ℕ) → IsNamedFirst e es next → are_named (e ∷ es) next ≡ true
@@ -103,10 +98,6 @@ without_none (e ∷ es) path asked none =
     let f = first_other e es asked none in
     none_step (same_text e.0 path) e es (without es path) asked f.0 f.1 (without_none es path asked f.1)
 
-neither : (a b : Bool) → (a || b) ≡ false → (a ≡ false) × (b ≡ false)
-neither true b e = absurd cc
-neither false b e = (refl, e)
-
 number_step : (t : Bool) (e : Text × ℕ) (es rest : Names) (n : ℕ) → (e.1 == n) ≡ false → has_number es n ≡ false → has_number rest n ≡ false → has_number (cond t es (e ∷ rest)) n ≡ false
 number_step true e es rest n other none next = none
 number_step false e es rest n other none next = ap (λ t. t || has_number rest n) other ∙ next
@@ -114,7 +105,7 @@ number_step false e es rest n other none next = ap (λ t. t || has_number rest n
 without_number : (es : Names) (path : Text) (n : ℕ) → has_number es n ≡ false → has_number (without es path) n ≡ false
 without_number [] path n none = refl
 without_number (e ∷ es) path n none =
-    let f = neither (e.1 == n) (has_number es n) none in
+    let f = or_parts (e.1 == n) (has_number es n) none in
     number_step (same_text e.0 path) e es (without es path) n f.0 f.1 (without_number es path n f.1)
 
 named_step : (t : Bool) (e : Text × ℕ) (es rest : Names) (next : ℕ) → are_named es next ≡ true → are_named (e ∷ rest) next ≡ true → are_named (cond t es (e ∷ rest)) next ≡ true
@@ -151,7 +142,7 @@ moved_number_step false e es rest to n other none next = ap (λ t. t || has_numb
 moved_number : (es : Names) (from to : Text) (n : ℕ) → has_number es n ≡ false → has_number (moved es from to) n ≡ false
 moved_number [] from to n none = refl
 moved_number (e ∷ es) from to n none =
-    let f = neither (e.1 == n) (has_number es n) none in
+    let f = or_parts (e.1 == n) (has_number es n) none in
     moved_number_step (same_text e.0 from) e es (moved es from to) to n f.0 f.1 (moved_number es from to n f.1)
 
 moved_step : (t : Bool) (e : Text × ℕ) (es rest : Names) (to : Text) (next : ℕ) → are_named ((to, e.1) ∷ es) next ≡ true → are_named (e ∷ rest) next ≡ true → are_named (cond t ((to, e.1) ∷ es) (e ∷ rest)) next ≡ true
@@ -185,8 +176,8 @@ next_free (e ∷ es) next h =
 
 pub in_other : (e : Text × ℕ) (es : Names) (n : ℕ) → has_number es n ≡ false → IsIn e es → e.1 ≢ n
 in_other e [] n none there same = there
-in_other e (x ∷ es) n none (inl is) same = eqb-false x.1 n (neither (x.1 == n) (has_number es n) none).0 (ap (λ (y : Text × ℕ). y.1) (sym is) ∙ same)
-in_other e (x ∷ es) n none (inr there) same = in_other e es n (neither (x.1 == n) (has_number es n) none).1 there same
+in_other e (x ∷ es) n none (inl is) same = eqb-false x.1 n (or_parts (x.1 == n) (has_number es n) none).0 (ap (λ (y : Text × ℕ). y.1) (sym is) ∙ same)
+in_other e (x ∷ es) n none (inr there) same = in_other e es n (or_parts (x.1 == n) (has_number es n) none).1 there same
 
 pub number_in : (path : Text) (n : ℕ) (es : Names) → IsIn (path, n) es → IsIn n (map (λ (e : Text × ℕ). e.1) es)
 number_in path n [] there = there

@@ -4,3 +4,6 @@ pub mod Folds
 pub mod Taking
 pub mod Mapped
 pub mod Unbroken
+pub mod Fetching
+pub mod Counting
+pub mod Scanning

@@ -10,3 +10,6 @@ pub mod Laws
 pub mod Taken
 pub mod Search
 pub mod ContentLaws
+pub mod Fetch
+pub mod Scan
+pub mod KeyRange

@@ -10,6 +10,7 @@ ghost use Rattle.raft_log_memtables.specs.Content.{entry_at, reach_of};
 ghost use Rattle.raft_log_memtables.specs.Entries.{entry_of, placed_in, placed_pairs, IsFirst};
 ghost use Rattle.raft_log_memtables.specs.Entries.{IsLast, HasFrom, NoneFrom, HasBefore};
 ghost use Rattle.raft_log_memtables.specs.Entries.{NoneBefore, or_else};
+ghost use Rattle.raft_log_memtables.specs.Fetch.{count_before};
 ghost use Rattle.raft_log_memtables.specs.Taken.{within, HasWithin, NoneWithin};
 
 use raft_log_records::{EntryIndex, FileBlockHandle};
@@ -156,4 +157,11 @@ pub fn reach(before: Option<u64>, more: &[EntryIndex]) -> Option<u64>
         };
     }
     reached
+}
+
+/// How many entries are there before an index.
+pub fn count_before(entries: &EntryMap, limit: u64) -> u64
+    ensures { result ≡ count_before (entry_of entries.now) limit }
+{
+    entries.range(..limit).count() as u64
 }

@@ -3,12 +3,15 @@
 #![tactic(auto)]
 
 mod entries;
+mod fetch;
+mod keys;
 mod laws;
 mod memtable;
 mod memtables;
 mod replay;
 mod taken;
 
+pub use fetch::FetchError;
 pub use laws::{
     atomic_groups_count_together, batches_that_are_taken_make_no_hole, content_follows_its_entries,
 };

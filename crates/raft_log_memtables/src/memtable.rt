@@ -16,6 +16,7 @@ ghost use Rattle.raft_log_memtables.specs.MemTable.{only_there, placed_change, i
 use crate::entries::{
     EntryMap, add_placed, cut_before, cut_from, first_of, has_within, last_of, reach,
 };
+use crate::keys::KeyMap;
 use raft_log_records::{Command, EntryIndex, FileBlockHandle, LogItemContent};
 use std::alloc::{AllocError, Global};
 use std::collections::BTreeMap;
@@ -24,8 +25,8 @@ use std::collections::BTreeMap;
 /// and its keys with their values.
 #[derive(Drop)]
 pub struct MemTable {
-    entries: EntryMap,
-    keys: BTreeMap<Vec<u8>, Vec<u8>>,
+    pub(crate) entries: EntryMap,
+    pub(crate) keys: KeyMap,
     /// The greatest index that entries ever had since the group was last cleaned.
     reached: Option<u64>,
 }

@@ -119,7 +119,7 @@ fn group_ids(alloc: Global, tables: &TableMap) -> Result<Vec<u64>, AllocError>
 #[derive(Drop)]
 pub struct MemTables {
     tables: TableMap,
-    alloc: Global,
+    pub(crate) alloc: Global,
 }
 
 impl MemTables {

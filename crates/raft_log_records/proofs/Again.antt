@@ -14,7 +14,8 @@ use Rattle.raft_log_records.specs.Item.Change.{entries, clean, compact, put, del
 use Rattle.raft_log_records.specs.Spelling.{spell_string, spell_entry, spell_change, spell_item, spell_items, status_byte, IsConsecutive, IsChange, IsItem, first_index, lengths}
 use Rattle.raft_log_records.specs.Reading.{◌>>=◌, number_at, status_at, entry_at, entries_at, run_at, change_behind, change_at, item_at, items_at, body_at}
 use Rattle.raft_log_records.specs.Places.{runs, run_end, placed_change, change_end, placed}
-use Rattle.raft_log_records.proofs.Fields.{wide32, wide64, number_again, string_again, key_again}
+use Rattle.raft_bytes.proofs.Numbers.{number_again, wide32, wide64}
+use Rattle.raft_log_records.proofs.Fields.{string_again, key_again}
 
 abbrev Bytes : Type 0
 Bytes = List ℕ
@@ -53,7 +54,7 @@ entry_again next limit at len rest a b c =
     let fits : ltb (limit - at) len ≡ false = le-ltb _ _ (omega arith) in
     let regrouped = append_assoc (to_be_bytes w64 next) (to_be_bytes w32 len) rest in
     ap (λ l. number_at w64 l >>= λ index. number_at w32 index.1 >>= λ len. cond (not (eqb index.0 next)) (Err fault.NotConsecutive) (cond (ltb (limit - at) len.0) (Err fault.EntriesLength) (Ok (place index.0 at len.0, len.1)))) regrouped
-    ∙ rw (number_again w64 (2 ^ 64) wide64 next (to_be_bytes w32 len ++ rest) a, number_again w32 (2 ^ 32) wide32 len rest b, same, fits) refl
+    ∙ rw (number_again fault.ItemsCutShort w64 (2 ^ 64) wide64 next (to_be_bytes w32 len ++ rest) a, number_again fault.ItemsCutShort w32 (2 ^ 32) wide32 len rest b, same, fits) refl
 
 entries_again : (es : List (ℕ × List ℕ)) (next limit at : ℕ) (rest : List ℕ) → IsConsecutive next (heads es) → run_end at es ≤ limit
     → entries_at (length es) next limit at (flat_map spell_entry (heads es) ++ rest) ≡ Ok (runs at es, run_end at es, rest)
@@ -76,7 +77,7 @@ number_twice first (e ∷ es) rest some h =
     let behind = to_be_bytes w32 e.1 ++ (flat_map spell_entry es ++ rest) in
     let regrouped : flat_map spell_entry (e ∷ es) ++ rest ≡ to_be_bytes w64 e.0 ++ behind =
     ap (λ (l : List ℕ). l ++ rest) (flat_map-cons spell_entry e es) ∙ append_assoc (spell_entry e) (flat_map spell_entry es) rest ∙ append_assoc (to_be_bytes w64 e.0) (to_be_bytes w32 e.1) (flat_map spell_entry es ++ rest) in
-    (behind, ap (λ (l : List ℕ). number_at w64 l) regrouped ∙ number_again w64 (2 ^ 64) wide64 e.0 behind h.1 ∙ ap (λ (n : ℕ). first_read n behind) h.0)
+    (behind, ap (λ (l : List ℕ). number_at w64 l) regrouped ∙ number_again fault.ItemsCutShort w64 (2 ^ 64) wide64 e.0 behind h.1 ∙ ap (λ (n : ℕ). first_read n behind) h.0)
   where
     first_read : ℕ → List ℕ → Result (ℕ × List ℕ) RecordFault
     first_read n r = Ok (n, r)
@@ -92,7 +93,7 @@ run_again es limit at rest h k =
     let again = entries_again es (first_index (heads es)) limit at rest h.2 k in
     let counted : entries_at (length (heads es)) (first_index (heads es)) limit at behind ≡ Ok (runs at es, run_end at es, rest) = ap (λ (n : ℕ). entries_at n (first_index (heads es)) limit at behind) len ∙ again in
     ap (run_at limit at) (append_assoc (to_be_bytes w32 (length (heads es))) (flat_map spell_entry (heads es)) rest)
-    ∙ rw (number_again w32 (2 ^ 32) wide32 (length (heads es)) behind h.1, some, twice.1, counted) refl
+    ∙ rw (number_again fault.ItemsCutShort w32 (2 ^ 32) wide32 (length (heads es)) behind h.1, some, twice.1, counted) refl
   where
     heads_len : (es : List (ℕ × List ℕ)) → length (heads es) ≡ length es
     heads_len [] = refl
@@ -114,14 +115,14 @@ change_again : (c : Change (List ℕ)) (limit at : ℕ) (rest : List ℕ) → Is
 unfolding change_at change_behind
 change_again (entries es) limit at rest h k = rw (run_again es limit at rest h k) refl
 change_again clean limit at rest h k = refl
-change_again (compact index) limit at rest h k = rw (number_again w64 (2 ^ 64) wide64 index rest h) refl
+change_again (compact index) limit at rest h k = rw (number_again fault.ItemsCutShort w64 (2 ^ 64) wide64 index rest h) refl
 change_again (put key value) limit at rest h k =
     let regrouped = append_assoc (spell_string key) (spell_string value) rest in
     rw (regrouped, key_again key (spell_string value ++ rest) h.0, string_again value rest h.1) refl
 change_again (delete key) limit at rest h k = rw (key_again key rest h) refl
 change_again (mark id status) limit at rest h k =
     let regrouped = append_assoc (to_be_bytes w64 id) (status_byte status ∷ []) rest in
-    ap (λ (l : List ℕ). change_behind 6 limit at l) regrouped ∙ rw (number_again w64 (2 ^ 64) wide64 id (status_byte status ∷ rest) h, status_again status rest) refl
+    ap (λ (l : List ℕ). change_behind 6 limit at l) regrouped ∙ rw (number_again fault.ItemsCutShort w64 (2 ^ 64) wide64 id (status_byte status ∷ rest) h, status_again status rest) refl
 
 item_again : (item : Item (List ℕ)) (limit at : ℕ) (rest : List ℕ) → IsItem (item_map length item) → change_end at item.change ≤ limit
     → item_at limit at (spell_item (item_map length item) ++ rest) ≡ Ok (record { group = item.group; change = placed_change at item.change }, change_end at item.change, rest)
@@ -129,7 +130,7 @@ unfolding item_at
 item_again item limit at rest h k =
     let behind = spell_change (change_map length item.change) ++ rest in
     ap (item_at limit at) (append_assoc (to_be_bytes w64 item.group) (spell_change (change_map length item.change)) rest)
-    ∙ rw (number_again w64 (2 ^ 64) wide64 item.group behind h.group, change_again item.change limit at rest h.change k) refl
+    ∙ rw (number_again fault.ItemsCutShort w64 (2 ^ 64) wide64 item.group behind h.group, change_again item.change limit at rest h.change k) refl
 
 items_again : (items : List (Item (List ℕ))) (limit at : ℕ) (rest : List ℕ) → AllByRecursion IsItem (lengths items) → placed_end at items ≤ limit
     → items_at (length (lengths items)) limit at (flat_map spell_item (lengths items) ++ rest) ≡ Ok (placed at items, placed_end at items, rest)
@@ -151,4 +152,4 @@ body_again items limit h fits end =
     let whole : items_at (length (lengths items)) limit 0 (flat_map spell_item (lengths items)) ≡ Ok (placed 0 items, placed_end 0 items, []) =
     ap (items_at (length (lengths items)) limit 0) (sym (append-nil (flat_map spell_item (lengths items)))) ∙ all in
     let same : eqb (placed_end 0 items) limit ≡ true = eq-eqb _ _ end in
-    rw (number_again w32 (2 ^ 32) wide32 (length (lengths items)) (flat_map spell_item (lengths items)) fits, whole, same) refl
+    rw (number_again fault.ItemsCutShort w32 (2 ^ 32) wide32 (length (lengths items)) (flat_map spell_item (lengths items)) fits, whole, same) refl

@@ -15,17 +15,16 @@ use Rattle.raft_log_records.specs.Item.{Item}
 use Rattle.raft_log_records.specs.Spelling.{holds_entries, block_of, block_part, sealed, lengths, spell_block, spell_items, spell_record}
 use Rattle.raft_log_records.specs.Block.{bytes_at, StandsIn}
 use Rattle.raft_log_records.specs.Reading.{◌>>=◌, Tells, unsealed, header_at, block_at, body_at, agrees, record_at, entries_block_at}
-use Rattle.raft_log_records.proofs.Fields.{IsBytes, bind_ok, guard_then, ok_is}
+use Rattle.raft_bytes.specs.Bytes.{AreBytes}
+use Rattle.raft_bytes.proofs.Bytes.{bind_ok, guard_then, ok_is}
 use Rattle.raft_log_records.proofs.RecordTaken.{header_takes, block_takes}
 use Rattle.raft_log_records.proofs.RecordAgain.{front_bytes, unsealed_again}
+use Rattle.raft_log_records.proofs.Fields.{eight}
 
 length-sealed : (block : List ℕ) → length (sealed None block) ≡ length block + 4
 length-sealed block = length-append block (to_be_bytes w32 (crc32_of block))
 
 -- ---- in a batch's record
-
-eight : (a b : List ℕ) → length a ≡ 4 → length b ≡ 4 → length (a ++ b) ≡ 8
-eight a b p q = omega (arith, length-append a b)
 
 batch_block : (signature : Option ℕ) (items : List (Item (List ℕ))) (len : ℕ) → list_any holds_entries items ≡ true → len ≡ length (block_of items) + 4 → bytes_at 8 len (spell_record signature items) ≡ sealed None (block_of items)
 unfolding spell_record
@@ -53,7 +52,7 @@ held_part : (holds : Bool) (block part : List ℕ) → holds ≡ true → block_
 held_part true block part h e = e
 held_part false block part h e = absurd cc
 
-read_block : (signature : Option ℕ) (bytes : List ℕ) (x : Read) → IsBytes bytes → record_at signature bytes ≡ Ok x → list_any holds_entries x.0 ≡ true → bytes_at 8 (length x.1 + 4) bytes ≡ sealed None x.1
+read_block : (signature : Option ℕ) (bytes : List ℕ) (x : Read) → AreBytes bytes → record_at signature bytes ≡ Ok x → list_any holds_entries x.0 ≡ true → bytes_at 8 (length x.1 + 4) bytes ≡ sealed None x.1
 unfolding record_at
 read_block signature bytes x fits e held =
     let h = bind_ok (header_at bytes) (λ header. unsealed fault.ItemsChecksum signature (take (header.0 - header.1) (drop header.1 bytes)) >>= λ body. body_at (header.1 - 12) body >>= λ items.
@@ -73,14 +72,14 @@ read_block signature bytes x fits e held =
     let stands : bytes_at 8 (length k.0 + 4) bytes ≡ sealed None k.0 = ap (λ (n : ℕ). take n (drop 8 bytes)) (sym long) ∙ sym part in
     subst (λ (y : Read). bytes_at 8 (length y.1 + 4) bytes ≡ sealed None y.1) is stands
 
-pub stands_in_bytes : (signature : Option ℕ) (bytes : List ℕ) (items : List (Item EntryIndex)) (entries : List ℕ) (len : ℕ) (b : EntriesBlock) → IsBytes bytes → record_at signature bytes ≡ Ok (items, entries, len)
+pub stands_in_bytes : (signature : Option ℕ) (bytes : List ℕ) (items : List (Item EntryIndex)) (entries : List ℕ) (len : ℕ) (b : EntriesBlock) → AreBytes bytes → record_at signature bytes ≡ Ok (items, entries, len)
     → list_any holds_entries items ≡ true → b.offset ≡ 8 → b.len ≡ length entries + 4 → StandsIn bytes items entries (Some b)
 stands_in_bytes signature bytes items entries len b fits e held o l =
     (held, o, ap (λ (n : ℕ). bytes_at n b.len bytes) o ∙ ap (λ (n : ℕ). bytes_at 8 n bytes) l ∙ read_block signature bytes (items, entries, len) fits e held)
 
 -- ---- a block that is read alone
 
-pub block_only : (bytes : List ℕ) (r : Result (Bor (List ℕ)) RecordFault) (entries : List ℕ) → IsBytes bytes → Tells (λ x. x.now) r (entries_block_at bytes) → bytes ≡ sealed None entries → MatchResult r (λ x. x.now ≡ entries) (λ _. ⊥)
+pub block_only : (bytes : List ℕ) (r : Result (Bor (List ℕ)) RecordFault) (entries : List ℕ) → AreBytes bytes → Tells (λ x. x.now) r (entries_block_at bytes) → bytes ≡ sealed None entries → MatchResult r (λ x. x.now ≡ entries) (λ _. ⊥)
 unfolding entries_block_at
 block_only bytes r entries fits given e = by_result r given
   where
@@ -93,7 +92,7 @@ block_only bytes r entries fits given e = by_result r given
     found : cond (ltb (length bytes) 4) (Err fault.CutShort) (unsealed fault.EntriesChecksum None bytes) ≡ answered entries
     found =
         let long : ltb (length bytes) 4 ≡ false = le-ltb _ _ (omega (arith, ap length e, length-sealed entries)) in
-        let fit : IsBytes entries = front_bytes entries (to_be_bytes w32 (crc32_of entries)) (subst IsBytes e fits) in
+        let fit : AreBytes entries = front_bytes entries (to_be_bytes w32 (crc32_of entries)) (subst AreBytes e fits) in
         rw (long, e, unsealed_again fault.EntriesChecksum None entries tt fit) refl
 
     same : (x y : List ℕ) → answered x ≡ answered y → x ≡ y

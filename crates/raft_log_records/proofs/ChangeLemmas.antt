@@ -11,7 +11,7 @@ use Rattle.std.proofs.Math.Nat.{pow-suc, pow-le-pow_right}
 
 -- ---- one bit
 
-shifted_fits : (a : ℕ) → a < 2 ^ 32 → shifted a < 2 ^ 32
+pub shifted_fits : (a : ℕ) → a < 2 ^ 32 → shifted a < 2 ^ 32
 shifted_fits a h = elim (cases_eq (a % 2) 0) [
   | inl even ↦ rw (shifted-even a even) (omega arith)
   | inr odd ↦ rw (shifted-odd a (omega arith)) (xor_of_32 (a / 2) polynomial (omega arith) (omega arith))

@@ -10,7 +10,7 @@ use Rattle.raft_log_records.specs.Checksum.{crc32_of, IsChangedRun}
 use Rattle.raft_log_records.specs.Spelling.{signed, sealed}
 use Rattle.raft_log_records.specs.Reading.{unsealed}
 use Rattle.raft_log_records.proofs.ChangeLemmas.{crc32_of-IsChangedRun}
-use Rattle.raft_log_records.proofs.Fields.{IsBytes}
+use Rattle.raft_bytes.specs.Bytes.{AreBytes}
 use Rattle.raft_log_records.proofs.RecordAgain.{crc_fits, signed_fits, front_bytes, back_bytes}
 use Rattle.raft_log_records.proofs.RegisterLemmas.{same_from_xor}
 
@@ -33,7 +33,7 @@ joint (y ∷ a) b (z ∷ front) back x e =
     ]
 
 -- the bytes with another one in its place
-pub other_byte : (front back : List ℕ) (x y : ℕ) → x < 256 → IsBytes (front ++ y ∷ back) → IsBytes (front ++ x ∷ back)
+pub other_byte : (front back : List ℕ) (x y : ℕ) → x < 256 → AreBytes (front ++ y ∷ back) → AreBytes (front ++ x ∷ back)
 other_byte [] back x y l h zero = l
 other_byte [] back x y l h (suc i) = h (suc i)
 other_byte (z ∷ front) back x y l h zero = h 0
@@ -67,7 +67,7 @@ refused_unless wrong signature body tail four h = unsealed_is wrong signature bo
     by_test false k = rw k refl
 
 -- a changed byte of bytes with their checksum, or of the checksum
-pub changed_seal : (wrong : RecordFault) (signature : Option ℕ) (body front back : List ℕ) (x y : ℕ) → IfSome signature (λ s. s < 2 ^ 32) → IsBytes (front ++ y ∷ back) → x < 256 → y ≢ x
+pub changed_seal : (wrong : RecordFault) (signature : Option ℕ) (body front back : List ℕ) (x y : ℕ) → IfSome signature (λ s. s < 2 ^ 32) → AreBytes (front ++ y ∷ back) → x < 256 → y ≢ x
     → sealed signature body ≡ front ++ x ∷ back → unsealed wrong signature (front ++ y ∷ back) ≡ Err wrong
 changed_seal wrong signature body front back x y s fits byte other e = elim (joint body tail front back x e) [
   | inl p ↦ in_sum p.0 p.1 p.2
@@ -80,8 +80,8 @@ changed_seal wrong signature body front back x y s fits byte other e = elim (joi
     tail : List ℕ
     tail = to_be_bytes w32 sum
 
-    body_bytes : IsBytes body
-    body_bytes = front_bytes body tail (subst IsBytes (sym e) (other_byte front back x y byte fits))
+    body_bytes : AreBytes body
+    body_bytes = front_bytes body tail (subst AreBytes (sym e) (other_byte front back x y byte fits))
 
     sum_is : from_be_bytes w32 tail ≡ sum
     sum_is = from_be_bytes-to_be_bytes_4 sum (signed_fits signature (crc32_of body) s (crc_fits body body_bytes))
@@ -89,7 +89,7 @@ changed_seal wrong signature body front back x y s fits byte other e = elim (joi
     in_body : (g : List ℕ) → body ≡ front ++ x ∷ g → back ≡ g ++ tail → unsealed wrong signature (front ++ y ∷ back) ≡ Err wrong
     in_body g is rest =
         let whole : front ++ y ∷ back ≡ (front ++ y ∷ g) ++ tail = ap (λ l. front ++ y ∷ l) rest ∙ sym (append_assoc front (y ∷ g) tail) in
-        let new_bytes : IsBytes (front ++ y ∷ g) = front_bytes (front ++ y ∷ g) tail (subst IsBytes whole fits) in
+        let new_bytes : AreBytes (front ++ y ∷ g) = front_bytes (front ++ y ∷ g) tail (subst AreBytes whole fits) in
         let change : IsChangedRun body (front ++ y ∷ g) = record {
           front = front;
           run = x ∷ [];
@@ -108,7 +108,7 @@ changed_seal wrong signature body front back x y s fits byte other e = elim (joi
     in_sum : (f : List ℕ) → front ≡ body ++ f → tail ≡ f ++ x ∷ back → unsealed wrong signature (front ++ y ∷ back) ≡ Err wrong
     in_sum f is rest =
         let whole : front ++ y ∷ back ≡ body ++ (f ++ y ∷ back) = ap (λ l. l ++ y ∷ back) is ∙ append_assoc body f (y ∷ back) in
-        let new_bytes : IsBytes (f ++ y ∷ back) = back_bytes body (f ++ y ∷ back) (subst IsBytes whole fits) in
+        let new_bytes : AreBytes (f ++ y ∷ back) = back_bytes body (f ++ y ∷ back) (subst AreBytes whole fits) in
         let four : length (f ++ y ∷ back) ≡ 4 = omega (arith, length-append f (y ∷ back), length-append f (x ∷ back), ap length rest) in
         ap (λ l. unsealed wrong signature l) whole
         ∙ refused_unless wrong signature body (f ++ y ∷ back) four

@@ -14,7 +14,7 @@ use Rattle.raft_log_records.specs.Spelling.{signed}
 use Rattle.raft_log_records.specs.Laws.{LengthsStay, LengthsNeedEight, RecordsHaveTheirLength, AnswersStay, RecordsNeedTheirLength, ZerosAreNoRecord}
 use Rattle.raft_log_records.specs.Reading.{◌>>=◌, number_or, number_at, string_at, key_at, status_at, entry_at, entries_at, run_at, change_behind, change_at, item_at, items_at, body_at, unsealed, head_at, len_at, header_at, block_at, agrees, record_at}
 use Rattle.raft_log_records.specs.Places.{indexed}
-use Rattle.raft_log_records.proofs.Fields.{bind_ok, guard_ok, guard_then, ok_is}
+use Rattle.raft_bytes.proofs.Bytes.{bind_ok, guard_ok, guard_then, ok_is}
 use Rattle.raft_log_records.proofs.RecordTaken.{tests, tests_ok}
 
 -- ---- an answer that isn't for want of bytes

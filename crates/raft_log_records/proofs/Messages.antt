@@ -1,11 +1,15 @@
 -- Messages that are written into a block, one after the other.
-use Rattle.std.proofs.Common.{◌≡◌, ℕ, suc, ◌+◌, ◌-◌, ◌*◌, ◌<◌, ◌≤◌, Bool, List, [], ◌∷◌, ◌++◌, length, get_or, map, take, drop, sym, ap, subst, ◌∙◌, append_assoc, append-nil, add-one, arith, length-append}
+use Rattle.std.proofs.Common.{◌≡◌, ℕ, suc, ◌+◌, ◌-◌, ◌*◌, ◌<◌, ◌≤◌, ◌⊎◌, inl, inr, ⊎_elim, Bool, true, false, List, [], ◌∷◌, ◌++◌, length, get_or, map, take, drop, refl, sym, ap, subst, ◌∙◌, append_assoc, append-nil, add-one, arith, length-append}
 use Rattle.std.proofs.Math.Seq.{take-suc, drop-cons}
 use Rattle.std.proofs.lemmas.List.{map_push, take-map, take-append-drop, take-append-le, take_all}
 use Rattle.std.proofs.lemmas.Grind.{flat_map-append}
-use Rattle.std.specs.Prelude.{Err}
+use Rattle.std.specs.Prelude.{Err, ◌&&◌}
+use Rattle.std.specs.List.{list_all}
 use Rattle.raft_log_records.specs.declared.error.RecordError.{RecordError}
 use Rattle.raft_log_records.specs.declared.error.RecordError.TheVariants as error
+use Rattle.raft_log_records.specs.declared.error.WriteError.{WriteError}
+use Rattle.raft_log_records.specs.declared.error.WriteError.TheVariants as write_error
+use Rattle.raft_log_records.specs.Refusal.{IsWriteError, record_error}
 use Rattle.raft_log_records.specs.declared.item.EntryIndex.{EntryIndex}
 use Rattle.raft_log_records.specs.declared.item.LogItem.{LogItem}
 use Rattle.raft_log_records.specs.Item.{Item, place, items_of, with_bytes}
@@ -110,8 +114,43 @@ run_within items block holds m group first parts s =
     let b = ap length (block_is block (items_of items) s.laid) in
     omega arith
 
-pub refused_write : (batch new : Batch) (item : Item (List ℕ)) (len : ℕ) (e : RecordError) → IsWriteRefusal len e → new ≡ batch → (33554432 < len → 33554432 < record_len (batch.items ++ item ∷ []))
-    → LogsWritten batch item new (Err e)
-refused_write batch new item len error.Memory r same long = same
-refused_write batch new item len error.TooLong r same long = (same, long r)
-refused_write batch new item len (error.Corruption fault) r same long = r
+pub refused_write : (batch new : Batch) (item : Item (List ℕ)) (fit : Bool) (len : ℕ) (e : RecordError) → IsWriteRefusal fit len e → new ≡ batch → (33554432 < len → 33554432 < record_len (batch.items ++ item ∷ []))
+    → LogsWritten batch item fit new (Err e)
+refused_write batch new item fit len error.Memory r same long = same
+refused_write batch new item fit len error.TooLong r same long = (same, ⊎_elim (λ past. inl past) (λ more. inr (long more)) r)
+refused_write batch new item fit len (error.Corruption fault) r same long = r
+
+-- ---- messages within the limits of their type
+
+module _ {X : Type 0} (q : X → Bool) where
+  all_of_two : (xs ys : List X) → list_all q (xs ++ ys) ≡ (list_all q xs && list_all q ys)
+  all_of_two [] ys = refl
+  all_of_two (x ∷ xs) ys = by_first (q x) (all_of_two xs ys)
+    where
+      by_first : (b : Bool) → list_all q (xs ++ ys) ≡ (list_all q xs && list_all q ys) → (b && list_all q (xs ++ ys)) ≡ ((b && list_all q xs) && list_all q ys)
+      by_first true h = h
+      by_first false h = refl
+
+  pub all_more : (xs : List X) (k : ℕ) (x : X) → k < length xs → x ≡ get_or xs k x → q x ≡ true → list_all q (take k xs) ≡ true → list_all q (take (k + 1) xs) ≡ true
+  all_more xs k x h is one before =
+      let step : take (suc k) xs ≡ take k xs ++ x ∷ [] = take-suc xs k x h ∙ ap (λ (y : X). take k xs ++ y ∷ []) (sym is) in
+      ap (λ (n : ℕ). list_all q (take n xs)) (add-one k) ∙ ap (list_all q) step ∙ all_of_two (take k xs) (x ∷ []) ∙ ap (λ (b : Bool). b && (q x && true)) before ∙ ap (λ (b : Bool). b && true) one
+
+  never_both : (b : Bool) → (b && false) ≡ false
+  never_both true = refl
+  never_both false = refl
+
+  -- one that isn't
+  pub one_past : (xs : List X) (k : ℕ) (x : X) → k < length xs → x ≡ get_or xs k x → q x ≡ false → list_all q xs ≡ false
+  one_past xs k x h is past =
+      let rest : drop k xs ≡ x ∷ drop (suc k) xs = drop-cons xs k x h ∙ ap (λ (y : X). y ∷ drop (suc k) xs) (sym is) in
+      ap (list_all q) (sym (take-append-drop k xs)) ∙ all_of_two (take k xs) (drop k xs) ∙ ap (λ (l : List X). list_all q (take k xs) && list_all q l) rest
+      ∙ ap (λ (b : Bool). list_all q (take k xs) && (b && list_all q (drop (suc k) xs))) past ∙ never_both (list_all q (take k xs))
+
+  pub all_at_end : (xs : List X) (k : ℕ) → length xs ≤ k → list_all q (take k xs) ≡ true → list_all q xs ≡ true
+  all_at_end xs k h all = ap (list_all q) (sym (take_all k xs h)) ∙ all
+
+-- why one isn't written is why the batch is refused
+pub refused_one : (fit all : Bool) (len : ℕ) (w : WriteError) → IsWriteError fit w → (fit ≡ false → all ≡ false) → IsWriteRefusal all len (record_error w)
+refused_one fit all len write_error.Memory h past = tt
+refused_one fit all len write_error.TooLong h past = inl (past h)

@@ -1,9 +1,10 @@
 -- Entries placed in their block one after the other have their bytes.
-use Rattle.std.proofs.Common.{◌≡◌, ℕ, ◌+◌, Bool, true, false, List, [], ◌∷◌, ◌++◌, length, map, take, refl, sym, ap, ◌∙◌, append_assoc, arith, length-append}
+use Rattle.std.proofs.Common.{◌≡◌, ℕ, ◌+◌, Bool, false, List, [], ◌∷◌, ◌++◌, length, map, take, refl, sym, ap, ◌∙◌, append_assoc, arith, length-append}
 use Rattle.std.specs.Prelude.{◌||◌}
 use Rattle.std.specs.List.{flat_map, list_any}
 use Rattle.std.proofs.lemmas.List.{append-nil, take_at, drop_at}
 use Rattle.std.proofs.lemmas.List.Concat.{flat_map-cons}
+use Rattle.std.proofs.lemmas.Bool.{or_parts}
 use Rattle.raft_log_records.specs.declared.item.EntryIndex.{EntryIndex}
 use Rattle.raft_log_records.specs.Item.{Change, Item, place, change_map, entry_bytes, with_bytes}
 use Rattle.raft_log_records.specs.Item.Change.{entries, clean, compact, put, delete, mark}
@@ -60,10 +61,6 @@ placed_held at (item ∷ items) =
     ap (λ (b : Bool). b || list_any holds_entries (placed (change_end at item.change) items)) (kept at item.change)
     ∙ ap (λ (b : Bool). holds_entries item || b) (placed_held (change_end at item.change) items)
 
-or_none : (a b : Bool) → (a || b) ≡ false → (a ≡ false) × (b ≡ false)
-or_none true b h = absurd cc
-or_none false b h = (refl, h)
-
 nothing_in : (c : Change (List ℕ)) → is_entries c ≡ false → change_block c ≡ []
 nothing_in (entries es) h = absurd cc
 nothing_in clean h = refl
@@ -75,7 +72,7 @@ nothing_in (mark id status) h = refl
 pub none_block : (items : List (Item (List ℕ))) → list_any holds_entries items ≡ false → block_of items ≡ []
 none_block [] h = refl
 none_block (item ∷ items) h =
-    let both = or_none (holds_entries item) (list_any holds_entries items) h in
+    let both = or_parts (holds_entries item) (list_any holds_entries items) h in
     block_cons item items ∙ ap (λ (l : List ℕ). l ++ block_of items) (nothing_in item.change both.0) ∙ none_block items both.1
 
 -- ---- their bytes

@@ -1,9 +1,9 @@
 -- A record that is spelled is read again, whatever follows it.
-use Rattle.std.proofs.Common.{◌≡◌, ◌⊎◌, inl, inr, ℕ, suc, ◌+◌, ◌-◌, ◌^◌, ◌<◌, ◌≤◌, ◌/◌, ◌%◌, Bool, true, false, not, cond, ltb, eqb, List, [], ◌∷◌, ◌++◌, length, take, drop, Option, Some, None, Result, Ok, Err, refl, sym, ap, subst, ◌∙◌, append_assoc, arith, length-append}
+use Rattle.std.proofs.Common.{◌≡◌, ◌⊎◌, inl, inr, ℕ, suc, ◌+◌, ◌-◌, ◌^◌, ◌<◌, ◌≤◌, Bool, true, false, not, cond, ltb, eqb, List, [], ◌∷◌, ◌++◌, length, take, drop, Option, Some, None, Result, Ok, Err, refl, sym, ap, subst, ◌∙◌, append_assoc, arith, length-append}
 use Rattle.std.specs.Prelude.{◌||◌, IfSome, fold}
 use Rattle.std.specs.List.{list_any, flat_map}
 use Rattle.std.specs.Int.{w32, w64, from_be_bytes, to_be_bytes}
-use Rattle.std.proofs.lemmas.Bool.{cases_eq, eq-eqb, ne_eqb, le-ltb}
+use Rattle.std.proofs.lemmas.Bool.{eq-eqb, ne_eqb, le-ltb, or_right}
 use Rattle.std.proofs.lemmas.Nat.{from_be_bytes-to_be_bytes_4, xor_of_32}
 use Rattle.std.proofs.lemmas.List.{take_at, drop_at}
 use Rattle.std.proofs.lemmas.List.Concat.{flat_map-cons}
@@ -13,36 +13,30 @@ use Rattle.raft_log_records.specs.declared.error.RecordError.{RecordError}
 use Rattle.raft_log_records.specs.declared.error.RecordError.TheVariants as error
 use Rattle.raft_log_records.specs.declared.record.Record.{Record}
 use Rattle.raft_log_records.specs.declared.item.EntryIndex.{EntryIndex}
-use Rattle.raft_log_records.specs.Checksum.{shifted, after_byte, crc32_of}
+use Rattle.raft_log_records.specs.Checksum.{after_byte, crc32_of}
 use Rattle.raft_log_records.specs.Item.{Item, items_of, with_bytes}
 use Rattle.raft_log_records.specs.Spelling.{holds_entries, block_of, block_part, signed, sealed, lengths, spell_block, spell_item, spell_items, spell_change, spell_record, record_len, AreItems}
 use Rattle.raft_log_records.specs.Reading.{Gives, Finds, number_or, unsealed, head_at, header_at, block_at, agrees, record_at}
-use Rattle.raft_log_records.proofs.Fields.{IsBytes, IsBytes-take, IsBytes-drop, wide32, number_again_or}
+use Rattle.raft_bytes.specs.Bytes.{AreBytes}
+use Rattle.raft_bytes.proofs.Bytes.{AreBytes-take, AreBytes-drop}
+use Rattle.raft_bytes.proofs.Numbers.{number_again, wide32}
 use Rattle.raft_log_records.proofs.Again.{placed_end, body_again}
 use Rattle.raft_log_records.specs.Places.{placed}
 use Rattle.raft_log_records.proofs.Placed.{placed_end_is, placed_held, none_block, placed_bytes}
+use Rattle.raft_log_records.proofs.Fields.{eight}
+use Rattle.raft_log_records.proofs.ChangeLemmas.{shifted_fits}
 
 -- ---- a checksum fits four bytes
-
-half_small : (c : ℕ) → c < 2 ^ 32 → c / 2 < 2 ^ 32
-half_small c h = omega arith
-
-shifted_fits : (c : ℕ) → c < 2 ^ 32 → shifted c < 2 ^ 32
-unfolding shifted
-shifted_fits c h = elim (cases_eq (c % 2) 0) [
-  | inl e ↦ rw (eq-eqb _ _ e) (half_small c h)
-  | inr e ↦ rw (ne_eqb _ _ e) (xor_of_32 (c / 2) 3988292384 (half_small c h) (omega arith))
-]
 
 byte_fits : (c b : ℕ) → c < 2 ^ 32 → b < 2 ^ 32 → after_byte c b < 2 ^ 32
 unfolding after_byte
 byte_fits c b h k = shifted_fits _ (shifted_fits _ (shifted_fits _ (shifted_fits _ (shifted_fits _ (shifted_fits _ (shifted_fits _ (shifted_fits _ (xor_of_32 c b h k))))))))
 
-folds_fit : (bytes : List ℕ) (c : ℕ) → IsBytes bytes → c < 2 ^ 32 → fold after_byte c bytes < 2 ^ 32
+folds_fit : (bytes : List ℕ) (c : ℕ) → AreBytes bytes → c < 2 ^ 32 → fold after_byte c bytes < 2 ^ 32
 folds_fit [] c h k = k
 folds_fit (b ∷ bytes) c h k = folds_fit bytes (after_byte c b) (λ i. h (suc i)) (byte_fits c b k (omega (arith, h 0)))
 
-pub crc_fits : (bytes : List ℕ) → IsBytes bytes → crc32_of bytes < 2 ^ 32
+pub crc_fits : (bytes : List ℕ) → AreBytes bytes → crc32_of bytes < 2 ^ 32
 unfolding crc32_of
 crc_fits bytes h = xor_of_32 _ _ (folds_fit bytes 4294967295 h (omega arith)) (omega arith)
 
@@ -50,7 +44,7 @@ pub signed_fits : (signature : Option ℕ) (sum : ℕ) → IfSome signature (λ 
 signed_fits None sum h k = k
 signed_fits (Some s) sum h k = xor_of_32 sum s k h
 
-pub unsealed_again : (wrong : RecordFault) (signature : Option ℕ) (body : List ℕ) → IfSome signature (λ s. s < 2 ^ 32) → IsBytes body → unsealed wrong signature (sealed signature body) ≡ Ok body
+pub unsealed_again : (wrong : RecordFault) (signature : Option ℕ) (body : List ℕ) → IfSome signature (λ s. s < 2 ^ 32) → AreBytes body → unsealed wrong signature (sealed signature body) ≡ Ok body
 unfolding unsealed
 unsealed_again wrong signature body h fits = with_sum (to_be_bytes w32 sum) refl (from_be_bytes-to_be_bytes_4 sum (signed_fits signature (crc32_of body) h (crc_fits body fits)))
   where
@@ -98,15 +92,11 @@ header_again len offset block body rest bytes p =
     let t4 : ltb len (offset + 8) ≡ false = le-ltb _ _ (omega (arith, p.len_is, p.four)) in
     let t5 : (eqb offset 8 || not (ltb offset 12)) ≡ true = elim p.place [
       | inl z ↦ let s : eqb offset 8 ≡ true = eq-eqb offset 8 (omega (arith, p.offset_is, z)) in ap (λ (b : Bool). b || not (ltb offset 12)) s
-      | inr z ↦ let s : ltb offset 12 ≡ false = le-ltb _ _ (omega (arith, p.offset_is, z)) in ap (λ (b : Bool). eqb offset 8 || not b) s ∙ or_true (eqb offset 8)
+      | inr z ↦ let s : ltb offset 12 ≡ false = le-ltb _ _ (omega (arith, p.offset_is, z)) in ap (λ (b : Bool). eqb offset 8 || not b) s ∙ or_right (eqb offset 8) true refl
     ] in
-    let first : number_or fault.CutShort w32 bytes ≡ Ok (len, to_be_bytes w32 offset ++ more) = ap (λ (l : List ℕ). number_or fault.CutShort w32 l) regrouped ∙ number_again_or fault.CutShort w32 (2 ^ 32) wide32 len (to_be_bytes w32 offset ++ more) fits_len in
-    let second = number_again_or fault.CutShort w32 (2 ^ 32) wide32 offset more fits_offset in
+    let first : number_or fault.CutShort w32 bytes ≡ Ok (len, to_be_bytes w32 offset ++ more) = ap (λ (l : List ℕ). number_or fault.CutShort w32 l) regrouped ∙ number_again fault.CutShort w32 (2 ^ 32) wide32 len (to_be_bytes w32 offset ++ more) fits_len in
+    let second = number_again fault.CutShort w32 (2 ^ 32) wide32 offset more fits_offset in
     rw (first, t0, second, t1, t2, t4, t5, t3) refl
-  where
-    or_true : (b : Bool) → (b || true) ≡ true
-    or_true true = refl
-    or_true false = refl
 
 -- the parts lie where the header says
 pub block_lies : (len offset : ℕ) (block body rest bytes : List ℕ) → Parts len offset block body rest bytes → take (offset - 8) (drop 8 bytes) ≡ block
@@ -122,13 +112,10 @@ body_lies len offset block body rest bytes p =
     let regrouped : bytes ≡ (head_of len offset ++ block) ++ (body ++ rest) = p.whole ∙ sym (append_assoc (head_of len offset) block (body ++ rest)) in
     let behind : drop offset bytes ≡ body ++ rest = ap (λ (l : List ℕ). drop offset l) regrouped ∙ drop_at (head_of len offset ++ block) (body ++ rest) offset front in
     ap (λ (l : List ℕ). take (len - offset) l) behind ∙ ap (λ (k : ℕ). take k (body ++ rest)) n ∙ take_at body rest (length body) refl
-  where
-    eight : (a b : List ℕ) → length a ≡ 4 → length b ≡ 4 → length (a ++ b) ≡ 8
-    eight a b p q = omega (arith, length-append a b)
 
 -- ---- what stands in them
 
-block_again : (offset : ℕ) (items : List (Item (List ℕ))) (bytes : List ℕ) → IsBytes (block_of items) → offset ≡ 8 + length (spell_block items) → take (offset - 8) (drop 8 bytes) ≡ spell_block items → block_at offset bytes ≡ Ok (block_of items)
+block_again : (offset : ℕ) (items : List (Item (List ℕ))) (bytes : List ℕ) → AreBytes (block_of items) → offset ≡ 8 + length (spell_block items) → take (offset - 8) (drop 8 bytes) ≡ spell_block items → block_at offset bytes ≡ Ok (block_of items)
 unfolding block_at
 block_again offset items bytes fits is lies = by_test (list_any holds_entries items) refl
   where
@@ -174,18 +161,18 @@ limit_is items = placed_end_is 0 items ∙ by_test (list_any holds_entries items
 
 -- ---- bytes of parts
 
-pub front_bytes : (a b : List ℕ) → IsBytes (a ++ b) → IsBytes a
-front_bytes a b h = subst IsBytes (take_at a b (length a) refl) (IsBytes-take (length a) (a ++ b) h)
+pub front_bytes : (a b : List ℕ) → AreBytes (a ++ b) → AreBytes a
+front_bytes a b h = subst AreBytes (take_at a b (length a) refl) (AreBytes-take (length a) (a ++ b) h)
 
-pub back_bytes : (a b : List ℕ) → IsBytes (a ++ b) → IsBytes b
-back_bytes a b h = subst IsBytes (drop_at a b (length a) refl) (IsBytes-drop (length a) (a ++ b) h)
+pub back_bytes : (a b : List ℕ) → AreBytes (a ++ b) → AreBytes b
+back_bytes a b h = subst AreBytes (drop_at a b (length a) refl) (AreBytes-drop (length a) (a ++ b) h)
 
-pub block_bytes : (items : List (Item (List ℕ))) → IsBytes (spell_block items) → IsBytes (block_of items)
+pub block_bytes : (items : List (Item (List ℕ))) → AreBytes (spell_block items) → AreBytes (block_of items)
 block_bytes items h = by_test (list_any holds_entries items) refl
   where
-    by_test : (b : Bool) → list_any holds_entries items ≡ b → IsBytes (block_of items)
-    by_test true k = front_bytes (block_of items) (to_be_bytes w32 (crc32_of (block_of items))) (subst IsBytes (ap (λ (b : Bool). block_part b (block_of items)) k) h)
-    by_test false k = subst IsBytes (sym (none_block items k)) (λ i. omega arith)
+    by_test : (b : Bool) → list_any holds_entries items ≡ b → AreBytes (block_of items)
+    by_test true k = front_bytes (block_of items) (to_be_bytes w32 (crc32_of (block_of items))) (subst AreBytes (ap (λ (b : Bool). block_part b (block_of items)) k) h)
+    by_test false k = subst AreBytes (sym (none_block items k)) (λ i. omega arith)
 
 item_long : (item : Item ℕ) → 8 ≤ length (spell_item item)
 item_long item = omega (arith, length-append (to_be_bytes w64 item.group) (spell_change item.change))
@@ -206,7 +193,7 @@ block_place items = by_test (list_any holds_entries items) refl
 abbrev Read : Type 0
 Read = List (Item EntryIndex) × List ℕ × ℕ
 
-pub record_again : (signature : Option ℕ) (items : List (Item (List ℕ))) (rest bytes : List ℕ) → IfSome signature (λ s. s < 2 ^ 32) → IsBytes bytes → AreItems items → bytes ≡ spell_record signature items ++ rest
+pub record_again : (signature : Option ℕ) (items : List (Item (List ℕ))) (rest bytes : List ℕ) → IfSome signature (λ s. s < 2 ^ 32) → AreBytes bytes → AreItems items → bytes ≡ spell_record signature items ++ rest
     → record_at signature bytes ≡ Ok (placed 0 items, block_of items, record_len items)
 unfolding record_at record_len spell_record
 record_again signature items rest bytes h fits are e =
@@ -223,7 +210,7 @@ record_again signature items rest bytes h fits are e =
       four = omega (arith, length-append body (to_be_bytes w32 (signed signature (crc32_of body))), length-append (to_be_bytes w32 (length (lengths items))) (flat_map spell_item (lengths items)));
       place = block_place items;
     } in
-    let behind = back_bytes (head_of len offset) (block ++ (sealed_body ++ rest)) (subst IsBytes p.whole fits) in
+    let behind = back_bytes (head_of len offset) (block ++ (sealed_body ++ rest)) (subst AreBytes p.whole fits) in
     let block_fits = block_bytes items (front_bytes block (sealed_body ++ rest) behind) in
     let body_fits = front_bytes body (to_be_bytes w32 (signed signature (crc32_of body))) (front_bytes sealed_body rest (back_bytes block (sealed_body ++ rest) behind)) in
     let counted : length (lengths items) < 2 ^ 32 = omega (arith, count_small (lengths items), are.short, length-append (to_be_bytes w32 (length (lengths items))) (flat_map spell_item (lengths items))) in
@@ -235,7 +222,7 @@ record_again signature items rest bytes h fits are e =
     let lies = body_lies len offset block sealed_body rest bytes p in
     rw (r1, lies, r2, r3, r4, r5) refl
 
-pub is_only : (signature : Option ℕ) (bytes : List ℕ) (r : Result Record RecordError) (items : List (Item (List ℕ))) (rest : List ℕ) → IfSome signature (λ s. s < 2 ^ 32) → IsBytes bytes
+pub is_only : (signature : Option ℕ) (bytes : List ℕ) (r : Result Record RecordError) (items : List (Item (List ℕ))) (rest : List ℕ) → IfSome signature (λ s. s < 2 ^ 32) → AreBytes bytes
     → Gives (λ r. (items_of r.batch.items.items, r.entries.now, r.len)) r (record_at signature bytes) → AreItems items → bytes ≡ spell_record signature items ++ rest
     → Finds r items (record_len items)
 is_only signature bytes (Ok r) items rest h fits given are e =

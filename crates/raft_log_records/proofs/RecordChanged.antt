@@ -15,10 +15,11 @@ use Rattle.raft_log_records.specs.Item.{Item, items_of}
 use Rattle.raft_log_records.specs.Batch.{IsRecordChanged}
 use Rattle.raft_log_records.specs.Spelling.{holds_entries, block_of, block_part, signed, sealed, lengths, spell_block, spell_item, spell_items, spell_record, record_len, AreItems}
 use Rattle.raft_log_records.specs.Reading.{Gives, FailsByChecksum, unsealed, block_at, record_at}
-use Rattle.raft_log_records.proofs.Fields.{IsBytes}
+use Rattle.raft_bytes.specs.Bytes.{AreBytes}
 use Rattle.raft_log_records.proofs.Again.{body_again}
 use Rattle.raft_log_records.proofs.Changed.{joint, changed_seal}
 use Rattle.raft_log_records.proofs.RecordAgain.{Parts, head_of, header_again, block_lies, body_lies, agreed_again, limit_is, unsealed_again, count_small, block_place, front_bytes, back_bytes}
+use Rattle.raft_log_records.proofs.Fields.{eight}
 
 length_kept : (f g : List ℕ) (x y : ℕ) → length (f ++ y ∷ g) ≡ length (f ++ x ∷ g)
 length_kept f g x y = omega (arith, length-append f (y ∷ g), length-append f (x ∷ g))
@@ -29,23 +30,20 @@ regroup_items head block f back rest y = simp append_assoc
 regroup_block : (head f g body rest : List ℕ) (y : ℕ) → ((head ++ f) ++ y ∷ (g ++ body)) ++ rest ≡ head ++ ((f ++ y ∷ g) ++ (body ++ rest))
 regroup_block head f g body rest y = simp append_assoc
 
-eight : (a b : List ℕ) → length a ≡ 4 → length b ≡ 4 → length (a ++ b) ≡ 8
-eight a b p q = omega (arith, length-append a b)
-
 -- the items, or their checksum
-items_changed : (signature : Option ℕ) (body f back : List ℕ) (x y len offset : ℕ) (block rest bytes : List ℕ) → IfSome signature (λ s. s < 2 ^ 32) → IsBytes bytes → x < 256 → y ≢ x
+items_changed : (signature : Option ℕ) (body f back : List ℕ) (x y len offset : ℕ) (block rest bytes : List ℕ) → IfSome signature (λ s. s < 2 ^ 32) → AreBytes bytes → x < 256 → y ≢ x
     → sealed signature body ≡ f ++ x ∷ back → Parts len offset block (f ++ y ∷ back) rest bytes → record_at signature bytes ≡ Err fault.ItemsChecksum
 unfolding record_at
 items_changed signature body f back x y len offset block rest bytes s fits byte other e p =
-    let behind = back_bytes (head_of len offset) (block ++ ((f ++ y ∷ back) ++ rest)) (subst IsBytes p.whole fits) in
-    let new_bytes : IsBytes (f ++ y ∷ back) = front_bytes (f ++ y ∷ back) rest (back_bytes block ((f ++ y ∷ back) ++ rest) behind) in
+    let behind = back_bytes (head_of len offset) (block ++ ((f ++ y ∷ back) ++ rest)) (subst AreBytes p.whole fits) in
+    let new_bytes : AreBytes (f ++ y ∷ back) = front_bytes (f ++ y ∷ back) rest (back_bytes block ((f ++ y ∷ back) ++ rest) behind) in
     let r1 = header_again len offset block (f ++ y ∷ back) rest bytes p in
     let lies = body_lies len offset block (f ++ y ∷ back) rest bytes p in
     let r2 = changed_seal fault.ItemsChecksum signature body f back x y s new_bytes byte other e in
     rw (r1, lies, r2) refl
 
 -- the entries, or their checksum
-changed_block : (offset : ℕ) (items : List (Item (List ℕ))) (f g bytes : List ℕ) (x y : ℕ) → IsBytes (f ++ y ∷ g) → x < 256 → y ≢ x → spell_block items ≡ f ++ x ∷ g → offset ≡ 8 + length (f ++ y ∷ g)
+changed_block : (offset : ℕ) (items : List (Item (List ℕ))) (f g bytes : List ℕ) (x y : ℕ) → AreBytes (f ++ y ∷ g) → x < 256 → y ≢ x → spell_block items ≡ f ++ x ∷ g → offset ≡ 8 + length (f ++ y ∷ g)
     → take (offset - 8) (drop 8 bytes) ≡ f ++ y ∷ g → block_at offset bytes ≡ Err fault.EntriesChecksum
 unfolding block_at
 changed_block offset items f g bytes x y fits byte other e is lies = by_test (list_any holds_entries items) refl
@@ -59,7 +57,7 @@ changed_block offset items f g bytes x y fits byte other e is lies = by_test (li
         let none : [] ≡ f ++ x ∷ g = sym (ap (λ (b : Bool). block_part b (block_of items)) h) ∙ e in
         absurd (omega (arith, ap length none, length-append f (x ∷ g)))
 
-entries_changed : (signature : Option ℕ) (items : List (Item (List ℕ))) (f g : List ℕ) (x y : ℕ) (rest bytes : List ℕ) → IfSome signature (λ s. s < 2 ^ 32) → IsBytes bytes → x < 256 → y ≢ x → AreItems items
+entries_changed : (signature : Option ℕ) (items : List (Item (List ℕ))) (f g : List ℕ) (x y : ℕ) (rest bytes : List ℕ) → IfSome signature (λ s. s < 2 ^ 32) → AreBytes bytes → x < 256 → y ≢ x → AreItems items
     → spell_block items ≡ f ++ x ∷ g → Parts (12 + length (spell_block items) + length (spell_items (lengths items))) (8 + length (spell_block items)) (f ++ y ∷ g) (sealed signature (spell_items (lengths items))) rest bytes
     → record_at signature bytes ≡ Err fault.EntriesChecksum
 unfolding record_at record_len
@@ -69,7 +67,7 @@ entries_changed signature items f g x y rest bytes h fits byte other are e p =
     let sealed_body = sealed signature body in
     let len = 12 + length (spell_block items) + length body in
     let offset = 8 + length (spell_block items) in
-    let behind = back_bytes (head_of len offset) (block ++ (sealed_body ++ rest)) (subst IsBytes p.whole fits) in
+    let behind = back_bytes (head_of len offset) (block ++ (sealed_body ++ rest)) (subst AreBytes p.whole fits) in
     let new_bytes = front_bytes block (sealed_body ++ rest) behind in
     let body_fits = front_bytes body (to_be_bytes w32 (signed signature (crc32_of body))) (front_bytes sealed_body rest (back_bytes block (sealed_body ++ rest) behind)) in
     let counted : length (lengths items) < 2 ^ 32 = omega (arith, count_small (lengths items), are.short, length-append (to_be_bytes w32 (length (lengths items))) (flat_map spell_item (lengths items))) in
@@ -81,7 +79,7 @@ entries_changed signature items f g x y rest bytes h fits byte other are e p =
     let lies = body_lies len offset block sealed_body rest bytes p in
     rw (r1, lies, r2, r3, r4, r5) refl
 
-pub change_noticed : (signature : Option ℕ) (items : List (Item (List ℕ))) (front back rest bytes : List ℕ) (x y : ℕ) → IfSome signature (λ s. s < 2 ^ 32) → IsBytes bytes → AreItems items
+pub change_noticed : (signature : Option ℕ) (items : List (Item (List ℕ))) (front back rest bytes : List ℕ) (x y : ℕ) → IfSome signature (λ s. s < 2 ^ 32) → AreBytes bytes → AreItems items
     → spell_record signature items ≡ front ++ x ∷ back → 8 ≤ length front → x < 256 → y ≢ x → bytes ≡ (front ++ y ∷ back) ++ rest
     → (record_at signature bytes ≡ Err fault.ItemsChecksum) ⊎ (record_at signature bytes ≡ Err fault.EntriesChecksum)
 unfolding record_len spell_record
@@ -137,7 +135,7 @@ change_noticed signature items front back rest bytes x y h fits are spelled behi
 abbrev Read : Type 0
 Read = List (Item EntryIndex) × List ℕ × ℕ
 
-pub is_noticed : (signature : Option ℕ) (bytes : List ℕ) (r : Result Record RecordError) (items : List (Item (List ℕ))) → IfSome signature (λ s. s < 2 ^ 32) → IsBytes bytes
+pub is_noticed : (signature : Option ℕ) (bytes : List ℕ) (r : Result Record RecordError) (items : List (Item (List ℕ))) → IfSome signature (λ s. s < 2 ^ 32) → AreBytes bytes
     → Gives (λ r. (items_of r.batch.items.items, r.entries.now, r.len)) r (record_at signature bytes) → AreItems items → IsRecordChanged signature items bytes → IsErrAnd r FailsByChecksum
 is_noticed signature bytes r items h fits given are k =
     by_result r given (change_noticed signature items k.front k.back k.rest bytes k.byte k.other h fits are k.spelled k.behind k.is_byte k.changed k.bytes_are)

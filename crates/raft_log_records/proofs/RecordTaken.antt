@@ -4,7 +4,7 @@ use Rattle.std.specs.Prelude.{◌||◌, IfOk}
 use Rattle.std.proofs.Common.{Bor}
 use Rattle.std.specs.List.{list_any, AllByRecursion}
 use Rattle.std.specs.Int.{w32, from_be_bytes, to_be_bytes}
-use Rattle.std.proofs.lemmas.Bool.{ltb-false, eqb-true, eq-eqb, ne_eqb}
+use Rattle.std.proofs.lemmas.Bool.{ltb-false, eqb-true, eq-eqb, ne_eqb, or_parts, not-false}
 use Rattle.std.proofs.lemmas.List.{take-append-drop, drop-drop, take_at}
 use Rattle.raft_log_records.specs.declared.error.RecordFault.{RecordFault}
 use Rattle.raft_log_records.specs.declared.error.RecordFault.TheVariants as fault
@@ -16,9 +16,11 @@ use Rattle.raft_log_records.specs.Item.{Item, items_of, entry_bytes, with_bytes,
 use Rattle.raft_log_records.specs.Spelling.{holds_entries, block_part, signed, sealed, lengths, spell_block, spell_items, spell_parts, spell_record, record_len, IsItem}
 use Rattle.raft_log_records.specs.Batch.{IsLaid, IsRecordAt}
 use Rattle.raft_log_records.specs.Reading.{◌>>=◌, Gives, Tells, number_or, unsealed, head_at, header_at, block_at, body_at, agrees, record_at, entries_block_at}
-use Rattle.raft_log_records.proofs.Fields.{IsBytes, IsBytes-take, IsBytes-drop, bind_ok, guard_ok, guard_then, Takes-then, wide32, number_takes_or}
+use Rattle.raft_bytes.specs.Bytes.{AreBytes}
+use Rattle.raft_bytes.proofs.Bytes.{AreBytes-take, AreBytes-drop, bind_ok, guard_ok, guard_then, Takes-then}
+use Rattle.raft_bytes.proofs.Numbers.{number_takes, wide32}
 use Rattle.raft_log_records.proofs.Laid.{fronts, block_is, laid_lengths, any_held}
-use Rattle.raft_log_records.proofs.Taken.{not_true, body_takes}
+use Rattle.raft_log_records.proofs.Taken.{body_takes}
 
 -- ---- a record of items that lie in a block
 
@@ -47,16 +49,16 @@ or_else : {A : Type 0} (b : Bool) (d : RecordFault) (x y : A) → cond b (Ok x) 
 or_else true d x y e = (refl, cc)
 or_else false d x y e = absurd cc
 
-pub unsealed_takes : (wrong : RecordFault) (signature : Option ℕ) (bytes body : List ℕ) → IsBytes bytes → 4 ≤ length bytes → unsealed wrong signature bytes ≡ Ok body → (bytes ≡ sealed signature body) × IsBytes body
+pub unsealed_takes : (wrong : RecordFault) (signature : Option ℕ) (bytes body : List ℕ) → AreBytes bytes → 4 ≤ length bytes → unsealed wrong signature bytes ≡ Ok body → (bytes ≡ sealed signature body) × AreBytes body
 unfolding unsealed
 unsealed_takes wrong signature bytes body fits long e =
     let n = length bytes - 4 in
     let g = or_else (eqb (from_be_bytes w32 (drop n bytes)) (signed signature (crc32_of (take n bytes)))) wrong (take n bytes) body e in
     let tail : length (drop n bytes) ≡ 4 = omega (arith, length-drop n bytes) in
-    let back : to_be_bytes w32 (from_be_bytes w32 (drop n bytes)) ≡ drop n bytes = wide32.back (drop n bytes) tail (IsBytes-drop n bytes fits) in
+    let back : to_be_bytes w32 (from_be_bytes w32 (drop n bytes)) ≡ drop n bytes = wide32.back (drop n bytes) tail (AreBytes-drop n bytes fits) in
     let sum : from_be_bytes w32 (drop n bytes) ≡ signed signature (crc32_of (take n bytes)) = eqb-true _ _ g.0 in
     let whole : bytes ≡ sealed signature (take n bytes) = sym (take-append-drop n bytes) ∙ ap (λ (l : List ℕ). take n bytes ++ l) (sym back ∙ ap (λ (s : ℕ). to_be_bytes w32 s) sum) in
-    subst (λ (b : List ℕ). (bytes ≡ sealed signature b) × IsBytes b) g.1 (whole, IsBytes-take n bytes fits)
+    subst (λ (b : List ℕ). (bytes ≡ sealed signature b) × AreBytes b) g.1 (whole, AreBytes-take n bytes fits)
 
 -- ---- the header
 
@@ -66,10 +68,6 @@ pub record HeaderTaken (bytes : List ℕ) (len offset : ℕ) : Type 0 where
   pub within : len ≤ length bytes
   pub room : offset + 8 ≤ len
   pub block : (offset ≡ 8) ⊎ (12 ≤ offset)
-
-or_false : (a b : Bool) → (a || b) ≡ false → (a ≡ false) × (b ≡ false)
-or_false true b h = absurd cc
-or_false false b h = (refl, h)
 
 or_true : (a b : Bool) → (a || not b) ≡ true → (a ≡ true) ⊎ (b ≡ false)
 or_true true b h = inl refl
@@ -100,9 +98,9 @@ pub tests_ok : (len offset : ℕ) (x : ℕ × ℕ) → tests len offset ≡ Ok x
 tests_ok len offset x e =
     let g = guard_then (ltb len 16 || ltb 33554432 len) fault.BadLength (cond (ltb len (offset + 8) || not (eqb offset 8 || not (ltb offset 12))) (Err fault.BadOffset) (Ok (len, offset))) x e in
     let k = guard_ok (ltb len (offset + 8) || not (eqb offset 8 || not (ltb offset 12))) fault.BadOffset (len, offset) x g.1 in
-    let lens = or_false (ltb len 16) (ltb 33554432 len) g.0 in
-    let places = or_false (ltb len (offset + 8)) (not (eqb offset 8 || not (ltb offset 12))) k.0 in
-    let place : (offset ≡ 8) ⊎ (12 ≤ offset) = ⊎_elim (λ is. inl (eqb-true _ _ is)) (λ far. inr (ltb-false _ _ far)) (or_true (eqb offset 8) (ltb offset 12) (not_true _ places.1)) in
+    let lens = or_parts (ltb len 16) (ltb 33554432 len) g.0 in
+    let places = or_parts (ltb len (offset + 8)) (not (eqb offset 8 || not (ltb offset 12))) k.0 in
+    let place : (offset ≡ 8) ⊎ (12 ≤ offset) = ⊎_elim (λ is. inl (eqb-true _ _ is)) (λ far. inr (ltb-false _ _ far)) (or_true (eqb offset 8) (ltb offset 12) (not-false _ places.1)) in
     let made : TestsOk len offset (len, offset) = record { told = refl; short = ltb-false _ _ lens.1; room = ltb-false _ _ places.0; block = place; least = at_least place } in
     subst (λ (y : ℕ × ℕ). TestsOk len offset y) k.1 made
   where
@@ -110,7 +108,7 @@ tests_ok len offset x e =
     at_least (inl is) = omega arith
     at_least (inr far) = omega arith
 
-head_takes : (bytes : List ℕ) (x : ℕ × ℕ) → IsBytes bytes → head_at bytes ≡ Ok x → HeadTaken bytes x.0 x.1
+head_takes : (bytes : List ℕ) (x : ℕ × ℕ) → AreBytes bytes → head_at bytes ≡ Ok x → HeadTaken bytes x.0 x.1
 unfolding head_at
 head_takes bytes x fits e =
     let a = bind_ok (number_or fault.CutShort w32 bytes) (λ len. cond (eqb len.0 0) (Err fault.BadLength) (number_or fault.CutShort w32 len.1 >>= λ offset. tests len.0 offset.0)) x e in
@@ -118,8 +116,8 @@ head_takes bytes x fits e =
     let b = bind_ok (number_or fault.CutShort w32 a.0.1) (λ offset. tests a.0.0 offset.0) x z.1 in
     let len = a.0.0 in
     let offset = b.0.0 in
-    let t = number_takes_or fault.CutShort w32 (2 ^ 32) wide32 bytes len a.0.1 fits a.1 in
-    let u = number_takes_or fault.CutShort w32 (2 ^ 32) wide32 a.0.1 offset b.0.1 t.0.rest_fits b.1 in
+    let t = number_takes fault.CutShort w32 (2 ^ 32) wide32 bytes len a.0.1 fits a.1 in
+    let u = number_takes fault.CutShort w32 (2 ^ 32) wide32 a.0.1 offset b.0.1 t.0.rest_fits b.1 in
     let k = tests_ok len offset x b.2 in
     let both = (Takes-then bytes (to_be_bytes w32 len) a.0.1 (to_be_bytes w32 offset) b.0.1 t.0 u.0).parts in
     let front = ap (λ (l : List ℕ). take 8 l) both ∙ front_eight (to_be_bytes w32 len) (to_be_bytes w32 offset) b.0.1 refl refl in
@@ -133,7 +131,7 @@ head_takes bytes x fits e =
     front_eight : (a b rest : List ℕ) → length a ≡ 4 → length b ≡ 4 → take 8 ((a ++ b) ++ rest) ≡ a ++ b
     front_eight a b rest p q = take_at (a ++ b) rest 8 (omega (arith, length-append a b))
 
-pub header_takes : (bytes : List ℕ) (x : ℕ × ℕ) → IsBytes bytes → header_at bytes ≡ Ok x → HeaderTaken bytes x.0 x.1
+pub header_takes : (bytes : List ℕ) (x : ℕ × ℕ) → AreBytes bytes → header_at bytes ≡ Ok x → HeaderTaken bytes x.0 x.1
 unfolding header_at
 header_takes bytes x fits e =
     let a = bind_ok (head_at bytes) (λ head. cond (ltb (length bytes) head.0) (Err fault.CutShort) (Ok head)) x e in
@@ -162,11 +160,11 @@ plain_part bytes block offset holds is none e =
       len = omega (arith, ap length e);
     }
 
-held_part : (bytes block : List ℕ) (offset : ℕ) (holds : Bool) → IsBytes bytes → offset ≤ length bytes → 12 ≤ offset → holds ≡ true → unsealed fault.EntriesChecksum None (take (offset - 8) (drop 8 bytes)) ≡ Ok block → BlockTaken bytes block offset holds
+held_part : (bytes block : List ℕ) (offset : ℕ) (holds : Bool) → AreBytes bytes → offset ≤ length bytes → 12 ≤ offset → holds ≡ true → unsealed fault.EntriesChecksum None (take (offset - 8) (drop 8 bytes)) ≡ Ok block → BlockTaken bytes block offset holds
 held_part bytes block offset holds fits within far some e =
     let part = take (offset - 8) (drop 8 bytes) in
     let long : length part ≡ offset - 8 = omega (arith, length-take (offset - 8) (drop 8 bytes), length-drop 8 bytes) in
-    let t = unsealed_takes fault.EntriesChecksum None part block (IsBytes-take (offset - 8) (drop 8 bytes) (IsBytes-drop 8 bytes fits)) (omega arith) e in
+    let t = unsealed_takes fault.EntriesChecksum None part block (AreBytes-take (offset - 8) (drop 8 bytes) (AreBytes-drop 8 bytes fits)) (omega arith) e in
     let more = length-append block (to_be_bytes w32 (crc32_of block)) in
     record {
       part = ap (λ (b : Bool). block_part b block) some ∙ sym t.0;
@@ -179,7 +177,7 @@ agrees_at true false e = (λ _. refl, λ f. absurd cc)
 agrees_at false true e = (λ t. absurd cc, λ _. refl)
 agrees_at false false e = absurd cc
 
-pub block_takes : (bytes block : List ℕ) (offset : ℕ) (items : List (Item EntryIndex)) → IsBytes bytes → offset ≤ length bytes → (offset ≡ 8) ⊎ (12 ≤ offset) → not (agrees offset items) ≡ false → block_at offset bytes ≡ Ok block
+pub block_takes : (bytes block : List ℕ) (offset : ℕ) (items : List (Item EntryIndex)) → AreBytes bytes → offset ≤ length bytes → (offset ≡ 8) ⊎ (12 ≤ offset) → not (agrees offset items) ≡ false → block_at offset bytes ≡ Ok block
     → BlockTaken bytes block offset (list_any holds_entries items)
 unfolding block_at agrees
 block_takes bytes block offset items fits within place agreed e =
@@ -222,7 +220,7 @@ parts_of bytes len offset a b =
     ∙ ap (λ (l : List ℕ). take 8 bytes ++ l) (sym second)
     ∙ ap (λ (l : List ℕ). take 8 bytes ++ (take (offset - 8) (drop 8 bytes) ++ take (len - offset) l)) (drop-drop (offset - 8) 8 bytes ∙ ap (λ (n : ℕ). drop n bytes) m)
 
-pub record_takes : (signature : Option ℕ) (bytes : List ℕ) (x : Read) → IsBytes bytes → record_at signature bytes ≡ Ok x → IsRecordAt signature bytes (with_bytes x.1 x.0) x.2
+pub record_takes : (signature : Option ℕ) (bytes : List ℕ) (x : Read) → AreBytes bytes → record_at signature bytes ≡ Ok x → IsRecordAt signature bytes (with_bytes x.1 x.0) x.2
 unfolding record_at record_len
 record_takes signature bytes x fits e =
     let h = bind_ok (header_at bytes) (λ header. unsealed fault.ItemsChecksum signature (take (header.0 - header.1) (drop header.1 bytes)) >>= λ body. body_at (header.1 - 12) body >>= λ items.
@@ -238,7 +236,7 @@ record_takes signature bytes x fits e =
     let eight : 8 ≤ offset = least offset header.block in
     let sealed_part = take (len - offset) (drop offset bytes) in
     let sealed_len : length sealed_part ≡ len - offset = omega (arith, length-take (len - offset) (drop offset bytes), length-drop offset bytes, header.within, header.room) in
-    let body = unsealed_takes fault.ItemsChecksum signature sealed_part b.0 (IsBytes-take (len - offset) (drop offset bytes) (IsBytes-drop offset bytes fits)) (omega (arith, header.room)) b.1 in
+    let body = unsealed_takes fault.ItemsChecksum signature sealed_part b.0 (AreBytes-take (len - offset) (drop offset bytes) (AreBytes-drop offset bytes fits)) (omega (arith, header.room)) b.1 in
     let taken = body_takes (offset - 12) b.0 i.0 body.1 i.1 in
     let block = block_takes bytes k.0 offset i.0 fits (omega (arith, header.within, header.room)) header.block g.0 k.1 in
     let laid : IsLaid 0 i.0 (length k.0) = subst (λ (n : ℕ). IsLaid 0 i.0 n) (sym block.len) taken.laid in
@@ -273,12 +271,12 @@ record_takes signature bytes x fits e =
     done_is : (x y : Read) → answered x ≡ answered y → x ≡ y
     done_is x y e = cc
 
-pub is_found : (signature : Option ℕ) (bytes : List ℕ) (r : Result Record RecordError) → IsBytes bytes → Gives (λ r. (items_of r.batch.items.items, r.entries.now, r.len)) r (record_at signature bytes)
+pub is_found : (signature : Option ℕ) (bytes : List ℕ) (r : Result Record RecordError) → AreBytes bytes → Gives (λ r. (items_of r.batch.items.items, r.entries.now, r.len)) r (record_at signature bytes)
     → IfOk r (λ r. IsRecordAt signature bytes (with_bytes r.entries.now (items_of r.batch.items.items)) r.len)
 is_found signature bytes (Ok r) fits given = record_takes signature bytes (items_of r.batch.items.items, r.entries.now, r.len) fits given
 is_found signature bytes (Err e) fits given = tt
 
-pub block_found : (bytes : List ℕ) (r : Result (Bor (List ℕ)) RecordFault) → IsBytes bytes → Tells (λ x. x.now) r (entries_block_at bytes) → IfOk r (λ entries. bytes ≡ sealed None entries.now)
+pub block_found : (bytes : List ℕ) (r : Result (Bor (List ℕ)) RecordFault) → AreBytes bytes → Tells (λ x. x.now) r (entries_block_at bytes) → IfOk r (λ entries. bytes ≡ sealed None entries.now)
 unfolding entries_block_at
 block_found bytes (Ok x) fits given =
     let g = guard_then (ltb (length bytes) 4) fault.CutShort (unsealed fault.EntriesChecksum None bytes) x.now given in

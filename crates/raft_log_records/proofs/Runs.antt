@@ -7,6 +7,7 @@ use Rattle.std.proofs.lemmas.List.{map_push, append-nil, length-map}
 use Rattle.std.proofs.lemmas.List.Folds.{list_any-append}
 use Rattle.std.proofs.lemmas.List.Concat.{flat_map-cons}
 use Rattle.std.proofs.lemmas.Grind.{flat_map-append}
+use Rattle.std.proofs.lemmas.Bool.{or_right}
 use Rattle.raft_log_records.specs.Checksum.{crc32_of}
 use Rattle.raft_log_records.specs.declared.item.EntryIndex.{EntryIndex}
 use Rattle.raft_log_records.specs.declared.item.LogItem.{LogItem}
@@ -69,11 +70,7 @@ run_spelled group first parts =
     omega (arith, heads_len hs, length-append (to_be_bytes w64 group) (1 ∷ (to_be_bytes w32 (length hs) ++ flat_map spell_entry hs)), length-append (to_be_bytes w32 (length hs)) (flat_map spell_entry hs))
 
 held_last : {E : Type 0} (items : List (Item E)) (item : Item E) → holds_entries item ≡ true → list_any holds_entries (items ++ item ∷ []) ≡ true
-held_last items item h = list_any-append holds_entries items (item ∷ []) ∙ ap (λ (b : Bool). list_any holds_entries items || (b || false)) h ∙ or_true (list_any holds_entries items)
-  where
-    or_true : (b : Bool) → (b || true) ≡ true
-    or_true true = refl
-    or_true false = refl
+held_last items item h = list_any-append holds_entries items (item ∷ []) ∙ ap (λ (b : Bool). list_any holds_entries items || (b || false)) h ∙ or_right (list_any holds_entries items) true refl
 
 -- the record with a run of entries, whose block has a checksum
 pub record_len_run : (items : List (Item (List ℕ))) (group first : ℕ) (parts : List (List ℕ))

@@ -1,5 +1,5 @@
 -- A batch, as its callers see it.
-use Rattle.std.specs.Prelude.{◌≡◌, ◌≢◌, ◌<◌, ◌≤◌, ◌+◌, ℕ, Bool, List, [], ◌∷◌, ◌++◌, length, map, take, Option}
+use Rattle.std.specs.Prelude.{◌≡◌, ◌≢◌, ◌<◌, ◌≤◌, ◌+◌, ◌⊎◌, ℕ, Bool, true, false, List, [], ◌∷◌, ◌++◌, length, map, take, Option}
 use Rattle.std.specs.Prelude.{None, Result, Ok, Err}
 use Rattle.std.specs.Prelude.{Vec}
 use Rattle.std.specs.declared.alloc.Global.{Global}
@@ -78,17 +78,18 @@ abbrev pub LogsEntries : Batch → ℕ → ℕ → List (List ℕ) → Batch →
 LogsEntries old group first [] new result = (new ≡ old) × (result ≡ Ok tt)
 LogsEntries old group first (e ∷ es) new result = Logs old (run_of group first (e ∷ es)) new result
 
--- What adding an item does whose length shows only once its messages are written: want of memory may come first.
-abbrev pub LogsWritten : Batch → Item (List ℕ) → Batch → Result Unit RecordError → Type 0
-LogsWritten old item new (Ok _) = (new ≡ logged old item) × (record_len (old.items ++ item ∷ []) ≤ 33554432)
-LogsWritten old item new (Err error.Memory) = new ≡ old
-LogsWritten old item new (Err error.TooLong) = (new ≡ old) × (33554432 < record_len (old.items ++ item ∷ []))
-LogsWritten old item new (Err (error.Corruption fault)) = ⊥
+-- What adding an item does whose messages are written first: want of memory may come before all else. `fit` says whether
+-- each message is within the limits of its type; where one isn't, the item is refused.
+abbrev pub LogsWritten : Batch → Item (List ℕ) → Bool → Batch → Result Unit RecordError → Type 0
+LogsWritten old item fit new (Ok _) = (fit ≡ true) × (new ≡ logged old item) × (record_len (old.items ++ item ∷ []) ≤ 33554432)
+LogsWritten old item fit new (Err error.Memory) = new ≡ old
+LogsWritten old item fit new (Err error.TooLong) = (new ≡ old) × ((fit ≡ false) ⊎ (33554432 < record_len (old.items ++ item ∷ [])))
+LogsWritten old item fit new (Err (error.Corruption fault)) = ⊥
 
 -- the same for entries of a group. None change nothing.
-abbrev pub LogsRun : Batch → ℕ → ℕ → List (List ℕ) → Batch → Result Unit RecordError → Type 0
-LogsRun old group first [] new result = (new ≡ old) × (result ≡ Ok tt)
-LogsRun old group first (part ∷ parts) new result = LogsWritten old (run_of group first (part ∷ parts)) new result
+abbrev pub LogsRun : Batch → ℕ → ℕ → List (List ℕ) → Bool → Batch → Result Unit RecordError → Type 0
+LogsRun old group first [] fit new result = (new ≡ old) × (result ≡ Ok tt)
+LogsRun old group first (part ∷ parts) fit new result = LogsWritten old (run_of group first (part ∷ parts)) fit new result
 
 -- the indexes of entries follow one another
 abbrev pub FollowOn : {E : Type 0} → (E → ℕ) → ℕ → List E → Type 0
@@ -100,11 +101,11 @@ abbrev pub index_of_first : {E : Type 0} → (E → ℕ) → List E → ℕ
 index_of_first index_of [] = 0
 index_of_first index_of (e ∷ es) = index_of e
 
--- why entries are not written: want of memory, or more bytes than a record has
-abbrev pub IsWriteRefusal : ℕ → RecordError → Type 0
-IsWriteRefusal len error.Memory = Unit {0}
-IsWriteRefusal len error.TooLong = 33554432 < len
-IsWriteRefusal len (error.Corruption fault) = ⊥
+-- why entries are not written: want of memory, one past a limit of its type, or more bytes than a record has
+abbrev pub IsWriteRefusal : Bool → ℕ → RecordError → Type 0
+IsWriteRefusal fit len error.Memory = Unit {0}
+IsWriteRefusal fit len error.TooLong = (fit ≡ false) ⊎ (33554432 < len)
+IsWriteRefusal fit len (error.Corruption fault) = ⊥
 
 -- ---- how the entries of the program's items lie in the block, one after the other
 

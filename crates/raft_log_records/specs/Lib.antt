@@ -1,3 +1,4 @@
+pub use Rattle.raft_bytes.specs.Bytes
 pub mod Checksum
 pub mod Signature
 pub mod Item

@@ -1,8 +1,9 @@
 -- Reading a record from left to right, with the first fault that is met.
-use Rattle.std.specs.Prelude.{◌≡◌, ◌<◌, ◌⊎◌, ◌+◌, ◌-◌, slice_index, ℕ, zero, suc, Bool, not, ◌||◌, List, [], ◌∷◌, length, take}
+use Rattle.std.specs.Prelude.{◌≡◌, ◌⊎◌, ◌+◌, ◌-◌, ℕ, zero, suc, Bool, not, ◌||◌, List, [], ◌∷◌, length, take}
 use Rattle.std.specs.Prelude.{drop, Option, None, Result, Ok, Err, nat_lt, ◌==◌, if◌then◌else◌}
 use Rattle.std.specs.List.{list_any}
-use Rattle.std.specs.Int.{Width, w32, w64, byte_len, from_be_bytes}
+use Rattle.std.specs.Int.{Width, w32, w64, from_be_bytes}
+pub use Rattle.raft_bytes.specs.Bytes.{AreBytes, ◌>>=◌, number_or}
 use Rattle.raft_log_records.specs.Checksum.{crc32_of}
 use Rattle.raft_log_records.specs.Item.{Change, Item, place, items_of, with_bytes}
 use Rattle.raft_log_records.specs.Item.Change.{entries, clean, compact, put, delete, mark}
@@ -16,11 +17,6 @@ use Rattle.raft_log_records.specs.declared.error.RecordFault.{RecordFault}
 use Rattle.raft_log_records.specs.declared.error.RecordFault.TheVariants as fault
 use Rattle.raft_log_records.specs.declared.error.RecordError.{RecordError}
 use Rattle.raft_log_records.specs.declared.error.RecordError.TheVariants as errors
-
-infixl 10 ◌>>=◌
-abbrev pub ◌>>=◌ : {A B : Type 0} → Result A RecordFault → (A → Result B RecordFault) → Result B RecordFault
-(Ok x) >>= f = f x
-(Err e) >>= f = Err e
 
 -- What a function returned, seen by view, is what reading gives, unless memory ran out.
 abbrev pub Fails : {Y : Type 0} → RecordError → Result Y RecordFault → Type 0
@@ -37,15 +33,7 @@ abbrev pub Tells : {X Y : Type 0} → (X → Y) → Result X RecordFault → Res
 Tells view (Ok x) read = read ≡ Ok (view x)
 Tells view (Err f) read = read ≡ Err f
 
--- each is below 256
-abbrev pub AreBytes : List ℕ → Type 0
-AreBytes bytes = (i : ℕ) → slice_index bytes i < 256
-
 -- ---- fields: a value and the bytes after it
-
--- a number, or this fault where the bytes end before it does
-abbrev pub number_or : RecordFault → Width → List ℕ → Result (ℕ × List ℕ) RecordFault
-number_or wrong w bytes = if nat_lt (length bytes) (byte_len w) then Err wrong else Ok (from_be_bytes w (take (byte_len w) bytes), drop (byte_len w) bytes)
 
 -- a number of the items
 abbrev pub number_at : Width → List ℕ → Result (ℕ × List ℕ) RecordFault

@@ -10,7 +10,7 @@ ghost use Rattle.raft_log_records.specs.Block.{StandsIn};
 ghost use Rattle.raft_log_records.specs.Spelling.{holds_entries, holds_mark, IsItem, FitsBytes};
 ghost use Rattle.raft_log_records.specs.Spelling.{spell_item, spell_record};
 ghost use Rattle.raft_log_records.specs.Spelling.{block_of, block_part, record_len};
-ghost use Rattle.std.specs.List.{list_any};
+ghost use Rattle.std.specs.List.{list_all, list_any};
 ghost use Rattle.raft_log_records.specs.Item.Change.{put, delete, mark};
 ghost use Rattle.raft_log_records.specs.Batch.{nothing_logged, logged, encoded_of, populated};
 ghost use Rattle.raft_log_records.specs.Batch.{signed_again, Logs, LogsEntries, LogsWritten};
@@ -402,7 +402,8 @@ impl LogBatch {
 
 impl LogBatch {
     /// Adds entries of a group (raft-engine's `add_entries`), whose indexes follow one another. None
-    /// change nothing.
+    /// change nothing. After an `Err` the batch is as it was: `TooLong` where its record would be, or
+    /// where an entry is past a limit of its type.
     pub fn add_entries<M: MessageExt>(
         &mut self,
         raft_group_id: u64,
@@ -410,7 +411,7 @@ impl LogBatch {
     ) -> Result<(), RecordError>
         requires in_turn { FollowOn M.index_of (index_of_first M.index_of entries.now) entries.now }
         requires indexes { index_of_first M.index_of entries.now + length entries.now < 2 ^ 64 }
-        ensures { LogsRun self.old raft_group_id (index_of_first M.index_of entries.now) (map M.Entry.bytes entries.now) self.new result }
+        ensures { LogsRun self.old raft_group_id (index_of_first M.index_of entries.now) (map M.Entry.bytes entries.now) (list_all M.Entry.fits entries.now) self.new result }
     {
         match entries {
             [] => Ok(()),
@@ -427,7 +428,7 @@ impl LogBatch {
     ) -> Result<(), RecordError>
         requires some { 0 < length entries.now }
         requires indexes { first + length entries.now < 2 ^ 64 }
-        ensures { LogsWritten self.old (run_of raft_group_id first (map T.bytes entries.now)) self.new result }
+        ensures { LogsWritten self.old (run_of raft_group_id first (map T.bytes entries.now)) (list_all T.fits entries.now) self.new result }
     {
         let room = MAX_RECORD_LEN - self.record_len();
         let checksum_len = self.block_checksum_len();
@@ -462,7 +463,8 @@ impl LogBatch {
     }
 
     /// Sets a key of a group to a message's bytes (raft-engine's `put_message`). The key may not be
-    /// empty.
+    /// empty. After an `Err` the batch is as it was: `TooLong` where its record would be, or where the
+    /// message is past a limit of its type.
     pub fn put_message<S: Message>(
         &mut self,
         raft_group_id: u64,
@@ -470,7 +472,7 @@ impl LogBatch {
         message: &S,
     ) -> Result<(), RecordError>
         requires { 0 < length key.items }
-        ensures { LogsWritten self.old (record { group = raft_group_id; change = put key.items (S.bytes message.now) }) self.new result }
+        ensures { LogsWritten self.old (record { group = raft_group_id; change = put key.items (S.bytes message.now) }) (S.fits message.now) self.new result }
     {
         let mut value = Vec::new(*self.items.allocator());
         message.write(&mut value)?;

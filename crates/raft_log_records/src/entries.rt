@@ -1,6 +1,7 @@
 //! Entries on their way into a batch.
 
-ghost use Rattle.std.specs.Prelude.{◌≡◌, ◌≤◌, ◌<◌, ◌+◌, ◌*◌, ◌^◌, ◌++◌, ℕ, List, length, map, IfSome, IfNone, IfOk, IfErr, OnOk, OnErr};
+ghost use Rattle.std.specs.Prelude.{◌≡◌, ◌≤◌, ◌<◌, ◌+◌, ◌*◌, ◌^◌, ◌++◌, ℕ, List, length, map, true, IfSome, IfNone, IfOk, IfErr, OnOk, OnErr};
+ghost use Rattle.std.specs.List.{list_all};
 ghost use Rattle.raft_log_records.specs.Batch.{payloads, joined, numbered, IsWriteRefusal};
 ghost use Rattle.raft_log_records.specs.Places.{runs};
 
@@ -72,7 +73,7 @@ pub fn append_all(out: &mut Vec<u8>, entries: &[Vec<u8>]) -> Result<(), AllocErr
 }
 
 /// Writes all entries behind what is there, and answers where they lie. The bytes and the lengths of
-/// the entries are bounded as a record's are.
+/// the entries are bounded as a record's are. An entry past a limit of its type is `TooLong` too.
 pub fn write_all<T: Message>(
     alloc: Global,
     first: u64,
@@ -85,7 +86,8 @@ pub fn write_all<T: Message>(
     ensures places { IfOk result (λ v. v.items ≡ runs (length out.old.items) (numbered first (map T.bytes entries.now))) }
     ensures short { OnOk result (length out.new.items + 12 * length entries.now ≤ 33554432) }
     ensures stays { OnErr result ((more : List ℕ) × (out.new.items ≡ out.old.items ++ more)) }
-    ensures long { IfErr result (IsWriteRefusal (length out.old.items + 12 * length entries.now + length (joined (map T.bytes entries.now)))) }
+    ensures fit { OnOk result (list_all T.fits entries.now ≡ true) }
+    ensures long { IfErr result (IsWriteRefusal (list_all T.fits entries.now) (length out.old.items + 12 * length entries.now + length (joined (map T.bytes entries.now)))) }
 {
     let mut indexes = Vec::with_capacity(alloc, entries.len().min(MOST_ENTRIES))?;
     let mut index = first;

@@ -2,7 +2,8 @@
 
 ghost use Rattle.std.specs.Prelude.{◌≡◌};
 ghost use Rattle.raft_log_records.specs.declared.error.RecordError.TheVariants.{Memory, Corruption};
-ghost use Rattle.raft_log_records.specs.Refusal.{number_of};
+ghost use Rattle.raft_log_records.specs.declared.error.WriteError.TheVariants as write_error;
+ghost use Rattle.raft_log_records.specs.Refusal.{number_of, record_error};
 
 use std::alloc::{AllocError, AllocFailed};
 use thiserror::Error;
@@ -40,8 +41,9 @@ pub enum RecordFault {
 pub enum RecordError {
     #[error("out of memory")]
     Memory,
-    /// The batch would have a record of more than 33,554,432 bytes.
-    #[error("batch is longer than a record may be")]
+    /// The batch would have a record of more than 33,554,432 bytes, or a message is past a limit of
+    /// its type.
+    #[error("batch or message is longer than it may be")]
     TooLong,
     #[error("corrupt record: {0:?}")]
     Corruption(RecordFault),
@@ -81,5 +83,42 @@ impl<T: Drop> From<AllocFailed<T>> for RecordError {
 
     fn from(_e: AllocFailed<T>) -> RecordError {
         RecordError::Memory
+    }
+}
+
+/// Why a message is not written (own).
+#[derive(Clone, Copy, Debug, PartialEq, Eq, Error)]
+pub enum WriteError {
+    #[error("out of memory")]
+    Memory,
+    /// The message is past a limit of its type, so that no bytes stand for it.
+    #[error("message is past a limit of its type")]
+    TooLong,
+}
+
+impl From<AllocError> for WriteError {
+    ghost from_gives = { λ _ e. e ≡ write_error.Memory };
+
+    fn from(_e: AllocError) -> WriteError {
+        WriteError::Memory
+    }
+}
+
+impl<T: Drop> From<AllocFailed<T>> for WriteError {
+    ghost from_gives = { λ _ e. e ≡ write_error.Memory };
+
+    fn from(_e: AllocFailed<T>) -> WriteError {
+        WriteError::Memory
+    }
+}
+
+impl From<WriteError> for RecordError {
+    ghost from_gives = { λ w e. e ≡ record_error w };
+
+    fn from(error: WriteError) -> RecordError {
+        match error {
+            WriteError::Memory => RecordError::Memory,
+            WriteError::TooLong => RecordError::TooLong,
+        }
     }
 }

@@ -1,4 +1,4 @@
-//! Batches of the log engine, their bytes as records, their checksum, and the memtables that they fill.
+//! Batches of the log engine, their bytes as records, and their checksum.
 #![tactic(auto)]
 
 mod atomic;
@@ -24,7 +24,7 @@ pub use batch::LogBatch;
 pub use block::EntriesBlock;
 pub use checksum::{Checksum, crc32, crc32_by_bytes, is_intact};
 pub use command::Command;
-pub use error::{RecordError, RecordFault};
+pub use error::{RecordError, RecordFault, WriteError};
 pub use file_id::{FileBlockHandle, FileId, FileSeq, LogQueue};
 pub use item::{AtomicGroupStatus, EntryIndex, LogItem, LogItemContent};
 pub use laws::{lengths_are_told, records_are_told_by_their_bytes, zeros_are_no_record};

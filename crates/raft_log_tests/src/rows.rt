@@ -3,6 +3,7 @@
 use crate::batches::{batched, marked};
 use crate::checksums::summed;
 use crate::names::{counted, measured, named};
+use crate::ranges::ranged;
 use crate::reading::{read, written};
 use crate::settings::{asked, set};
 use crate::tables::{Tables, changed, looked_up};
@@ -54,6 +55,9 @@ impl Calls {
             return Some(answer);
         }
         if let Some(answer) = looked_up(&self.tables.tables, alloc, words) {
+            return Some(answer);
+        }
+        if let Some(answer) = ranged(&self.tables.tables, alloc, words) {
             return Some(answer);
         }
         if let Some(answer) = set(&mut self.config, alloc, words) {

@@ -19,6 +19,8 @@ pub enum RequestId {
 pub enum ReplyResult {
     /// All that the request brought is there.
     Success,
+    /// What the request brought is there up to this log id. It is read, and never sent.
+    PartialSuccess(Option<LogId<u64>>),
     /// The log doesn't have the entry before the request's.
     Conflict,
     /// The node has this vote, which is greater than the request's.

@@ -25,9 +25,14 @@ fn last(candidate: &NumberedCandidate) -> Option<LogId<u64>> {
     candidate.last_log_id().copied()
 }
 
-// Whether a quorum has granted the vote once this node has.
+// Whether a quorum has granted the vote once this node has, if there is memory.
 fn grant(candidate: &mut NumberedCandidate, id: u64) -> bool {
-    candidate.grant_by(&id)
+    matches!(candidate.grant_by(&id), Ok(true))
+}
+
+// Whether all who have granted are a quorum of these voters.
+fn is_granted_by(candidate: &NumberedCandidate, voters: &IdSet<u64>) -> bool {
+    candidate.is_granted_by(voters)
 }
 
 // Whether this node has granted the vote, if somebody has the id.
@@ -56,6 +61,10 @@ fn of_candidate(
         ["stands-behind"] => Answer::shown(alloc, &last(candidate)),
         ["grant", id] => Answer::truth(grant(candidate, number(id))),
         ["has-granted", id] => Answer::shown(alloc, &has_granted(candidate, number(id))),
+        ["granted-by-quorum-of", voters] => {
+            let voters = IdSet::from_slice(alloc, &ids(alloc, voters).ok()?).ok()?;
+            Answer::truth(is_granted_by(candidate, &voters))
+        }
         ["granters"] => Answer::shown(alloc, &granters(alloc, candidate)),
         _ => return None,
     })

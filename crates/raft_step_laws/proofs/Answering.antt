@@ -13,7 +13,7 @@ use Rattle.raft_group_step.specs.VoteRequest.{is_under_lease, judged, may_grant}
 use Rattle.raft_group_step.specs.AppendRequest.{cut_at, cut_from, heard, is_held, joined, put_entries}
 use Rattle.raft_group_step.specs.SnapshotRequest.{cut_other, install_unless, offered, place_above}
 use Rattle.raft_group_step.specs.GroupStep.{begun, event_step, finished, message_step, step_unless}
-use Rattle.raft_laws.proofs.StepWords.{either, either_by}
+use Rattle.raft_group_step.proofs.Words.{either, either_by}
 use Rattle.raft_laws.proofs.VoteRanks.{same_vote}
 use Rattle.raft_step_laws.specs.Replies.{IsAnswered, RepliesTo, RequestsAreAnswered, is_request}
 use Rattle.raft_step_laws.proofs.Sending.{finished_adds}

@@ -17,15 +17,15 @@ use Rattle.raft_group_step.specs.GroupEvent.{GroupEvent}
 use Rattle.raft_group_step.specs.StepResult.{StepResult, is_within, later_place}
 use Rattle.raft_group_step.specs.Lead.{commit_as_leader, configs_in_force, has_accepted, may_be_committed, peer_of, purge_as_wished, purge_up_to, remove_up_to, with_wish}
 use Rattle.raft_group_step.specs.GroupStep.{event_step, finished, group_step, step_unless}
+use Rattle.raft_group_step.proofs.Words.{either, commit_keeps_stored, leads_if}
+use Rattle.raft_group_step.proofs.EntryPlaces.{entry_within}
 use Rattle.raft_laws.proofs.Counts.{at_contains, contains_at}
 use Rattle.raft_laws.proofs.Shapes.{slice_drop}
-use Rattle.raft_laws.proofs.StepCalls.{leads_on as leading}
 use Rattle.raft_laws.proofs.StepTokens.{frames_same}
-use Rattle.raft_laws.proofs.StepWords.{either}
 use Rattle.raft_step_laws.specs.Commits.{CommitsAll, CommitsAtOnce, TokensAreToldAtOnce, has_quorum_at, reaches}
 use Rattle.raft_step_laws.specs.Fitting.{ArePlacedFrom}
 use Rattle.raft_step_laws.proofs.FitSteps.{event_fits, steps_fit}
-use Rattle.raft_step_laws.proofs.FitWords.{StandFrom, entry_place, entry_within, placed_stand}
+use Rattle.raft_step_laws.proofs.FitWords.{StandFrom, entry_place, placed_stand}
 use Rattle.raft_step_laws.proofs.LeaderSends.{finished_sends, matched_after, same_lead, settled}
 use Rattle.raft_step_laws.proofs.Sending.{finished_adds}
 use Rattle.raft_step_laws.proofs.Telling.{purged_untouched, untold_above}
@@ -94,11 +94,6 @@ module _ (own : ℕ) (r : StepResult) (a : Lead) (placed : ArePlacedFrom (first_
 
 -- ---- the end of an event
 
-commit_stored : (own : ℕ) (role : Role) (r : StepResult) → (commit_as_leader own role r).state.stored ≡ r.state.stored
-commit_stored own Follower r = refl
-commit_stored own (Candidate granters) r = refl
-commit_stored own (Leader lead) r = refl
-
 -- a purge takes entries from the log, and brings none
 abbrev NoneNew : StoredGroup → StepResult → Type 0
 NoneNew base q = (x : Entry) (j : ℕ) → slice_get q.state.stored.log j ≡ Some x → (k : ℕ) × (slice_get base.log k ≡ Some x)
@@ -123,7 +118,7 @@ settled_none_new : (own : ℕ) (r : StepResult) → NoneNew r.state.stored (sett
 settled_none_new own r =
     let committed = commit_as_leader own r.state.role r in
     purged_none_new r.state.stored committed.state.role committed.state.wish committed
-    (λ x j at. (j, ap (λ (s : StoredGroup). slice_get s.log j) (sym (commit_stored own r.state.role r)) ∙ at))
+    (λ x j at. (j, ap (λ (s : StoredGroup). slice_get s.log j) (sym (commit_keeps_stored own r.state.role r)) ∙ at))
 
 finished_committed : (own : ℕ) (before : Option ℕ) (r : StepResult) → (finished own before r).state.committed ≡ (commit_as_leader own r.state.role r).state.committed
 finished_committed own before r =
@@ -143,7 +138,7 @@ module _ (own : ℕ) (s : GroupState) (e : GroupEvent) (placed : ArePlacedFrom (
   commits : configs_in_force end.state.stored ≡ configs_in_force q.state.stored → (lead : Lead) → end.state.role ≡ Leader lead → CommitsAll own end.state lead
   commits voters lead is x there mine many =
       let on = finished_adds own s.committed q in
-      let a = leading q.state.role (sym on.leads ∙ ap is_leader is) in
+      let a = leads_if q.state.role (sym on.leads ∙ ap is_leader is) in
       let h = finished_sends own s.committed a.0 q a.1 in
       let after : h.after ≡ lead = same_lead h.after lead (sym h.role ∙ is) in
       let same : (n : ℕ) → (peer_of lead n).matched ≡ (peer_of a.0 n).matched =

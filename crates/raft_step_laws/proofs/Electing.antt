@@ -9,20 +9,20 @@ use Rattle.raft_values.specs.LogId.{log_id_of, place_of}
 use Rattle.raft_values.specs.Vote.{vote_of}
 use Rattle.raft_quorums.specs.Quorum.{is_quorum}
 use Rattle.raft_state.specs.declared.entry.EntryPayload.TheVariants.{Blank, Membership as Members}
-use Rattle.raft_group_step.specs.Values.{ChangeMembers, Entry, LoggedMembership, entry_of, has_id, is_written_by, vote_eq, vote_lt}
-use Rattle.raft_group_step.specs.StoredGroup.{Snapshot, PutEntries, entry_at, has_id_in_log, id_of, log_below, membership_in_force, snapshot_last}
-use Rattle.raft_group_step.specs.Message.{Message, MessageBody, VoteRequest, VoteReply, AppendRequest, AppendReply, SnapshotRequest, SnapshotReply, AppendFields, ReplyFields, ReplyResult, Success, Conflict, HigherVote}
+use Rattle.raft_group_step.specs.Values.{ChangeMembers, LoggedMembership, entry_of, has_id, is_written_by, vote_eq, vote_lt}
+use Rattle.raft_group_step.specs.StoredGroup.{Snapshot, PutEntries, entry_at, id_of, log_below, membership_in_force, snapshot_last}
+use Rattle.raft_group_step.specs.Message.{Message, MessageBody, VoteRequest, VoteReply, AppendRequest, AppendReply, SnapshotRequest, SnapshotReply, AppendFields, ReplyFields, ReplyResult, Success, PartialSuccess, Conflict, HigherVote}
 use Rattle.raft_group_step.specs.Peer.{is_answer_to}
 use Rattle.raft_group_step.specs.GroupState.{GroupState, Lead, Role, Follower, Candidate, Leader, is_candidate, is_leader, state_of}
 use Rattle.raft_group_step.specs.declared.group_call.GroupCall.TheVariants.{Initialize, Elect, Propose, ChangeMembership, Heartbeat, Lost, TriggerSnapshot, TriggerPurge}
 use Rattle.raft_group_step.specs.GroupEvent.{GroupCall, GroupEvent, AddGroup, Call, Receive, Open}
 use Rattle.raft_group_step.specs.StepResult.{RefusalReason, StepResult, append, in_role, is_within, renew, step_down, store, store_vote, take_over, unchanged, apply_up_to}
-use Rattle.raft_group_step.specs.Lead.{begin_lead, committed_vote, configs_in_force, lead_if, new_lead, other_ids, peer_of, remove_up_to, with_grant}
+use Rattle.raft_group_step.specs.Lead.{begin_lead, committed_vote, configs_in_force, lead_if, new_lead, other_ids, peer_of, with_grant}
 use Rattle.raft_group_step.specs.Elect.{ask, elect_step, other_voters}
 use Rattle.raft_group_step.specs.VoteRequest.{judged, may_grant}
 use Rattle.raft_group_step.specs.VoteReply.{counted, take_over_greater}
-use Rattle.raft_group_step.specs.AppendRequest.{cut_at, cut_from, heard, is_held, joined, put_entries}
-use Rattle.raft_group_step.specs.SnapshotRequest.{cut_other, install_unless, offered, place_above}
+use Rattle.raft_group_step.specs.AppendRequest.{heard, is_held}
+use Rattle.raft_group_step.specs.SnapshotRequest.{offered}
 use Rattle.raft_group_step.specs.Reply.{answered, reply_step, with_higher_vote}
 use Rattle.raft_group_step.specs.MembershipStep.{append_changed}
 use Rattle.raft_group_step.specs.Heartbeat.{beat_as, send_notices}
@@ -32,9 +32,8 @@ use Rattle.raft_group_step.specs.PurgeTrigger.{purge_as, purge_within}
 use Rattle.raft_group_step.specs.Opening.{drop_stale_log, is_joined_to, opening_step}
 use Rattle.raft_group_step.specs.Refusal.{refusal_of}
 use Rattle.raft_group_step.specs.GroupStep.{begun, call_step, event_step, finished, message_step, step_unless}
-use Rattle.raft_laws.proofs.Memberships.{last_append}
-use Rattle.raft_laws.proofs.StepWords.{either}
-use Rattle.raft_laws.proofs.TrackElections.{ask_state}
+use Rattle.raft_group_step.proofs.LastMembership.{last_membership-append}
+use Rattle.raft_group_step.proofs.Words.{either, ask_state, installing_keeps_role, joined_keeps_role, removing_keeps_role}
 use Rattle.raft_laws.proofs.VoteOrders.{differ_flags as never}
 use Rattle.raft_step_laws.specs.Elections.{CandidatesLack, GrantedCandidatesLead, GrantersReplay, LacksAQuorum, configs_counted, counts_a_grant, granters_after, granters_of, is_grant_for, stands_in_call, with_granter}
 use Rattle.raft_step_laws.proofs.Sending.{finished_adds, idle_end}
@@ -79,41 +78,17 @@ took_calm v r = either (Calm r) (vote_lt r.state.stored.vote v) (store_vote v (s
 greater_calm : (v : Vote ℕ) (r : StepResult) → Calm r (take_over_greater v r)
 greater_calm v r = either (Calm r) (vote_lt r.state.stored.vote v) (store_vote v (step_down r)) r (gone refl) (same refl)
 
-cut_role : (i : ℕ) (r : StepResult) → SameRole r (cut_from i r)
-cut_role i r = either (SameRole r) (is_some (entry_at r.state.stored i)) _ r refl refl
-
-cut_at_role : (id : Option (LogId ℕ)) (r : StepResult) → SameRole r (cut_at id r)
-cut_at_role None r = refl
-cut_at_role (Some id) r = cut_role id.index r
-
-put_role : (es : List Entry) (r : StepResult) → SameRole r (put_entries es r)
-put_role [] r = refl
-put_role (e ∷ es) r = cut_role e.log_id.index r
-
-pub joined_role : (own peer : ℕ) (m : AppendFields) (b : Bool) (r : StepResult) → SameRole r (joined own peer m b r)
-joined_role own peer m true r = put_role _ r
-joined_role own peer m false r = cut_at_role m.previous r
-
-other_role : (last : LogId ℕ) (r : StepResult) → SameRole r (cut_other last r)
-other_role last r =
-    either (SameRole r) (has_id_in_log r.state.stored last) r _ refl
-    (either (SameRole r) (is_some (entry_at r.state.stored last.index)) _ r (cut_role (place_above r.state.committed) r) refl)
-
-pub unless_role : (b : Bool) (x : Snapshot) (r : StepResult) → SameRole r (install_unless b x r)
-unless_role true x r = refl
-unless_role false x r = other_role x.last r
-
 heard_calm : (own peer : ℕ) (m : AppendFields) (b : Bool) (r : StepResult) → Calm r (heard own peer m b r)
 heard_calm own peer m true r = same refl
 heard_calm own peer m false r =
     let taken = take_over m.vote r in
-    calm_then (took_calm m.vote r) (joined_role own peer m (is_held taken.state.stored taken.state.committed m.previous) taken)
+    calm_then (took_calm m.vote r) (joined_keeps_role own peer m (is_held taken.state.stored taken.state.committed m.previous) taken)
 
 offered_calm : (own peer : ℕ) (v : Vote ℕ) (id : ℕ) (x : Snapshot) (b : Bool) (r : StepResult) → Calm r (offered own peer v id x b r)
 offered_calm own peer v id x true r = same refl
 offered_calm own peer v id x false r =
     let taken = take_over v r in
-    calm_then (took_calm v r) (unless_role (is_within x.last.index taken.state.committed) x taken)
+    calm_then (took_calm v r) (installing_keeps_role (is_within x.last.index taken.state.committed) x taken)
 
 judged_calm : (own peer : ℕ) (v : Vote ℕ) (b : Bool) (r : StepResult) → Calm r (judged own peer v b r)
 judged_calm own peer v true r = calm_then {r = judged own peer v true r} (took_calm v r) refl
@@ -121,6 +96,7 @@ judged_calm own peer v false r = same refl
 
 higher_calm : (o : ReplyResult) (r : StepResult) → Calm r (with_higher_vote o r)
 higher_calm Success r = same refl
+higher_calm (PartialSuccess last) r = same refl
 higher_calm Conflict r = same refl
 higher_calm (HigherVote v) r = greater_calm v r
 
@@ -171,13 +147,9 @@ pub snapshot_role : (applied : Option ℕ) (r : StepResult) → SameRole r (snap
 snapshot_role None r = refl
 snapshot_role (Some a) r = either (SameRole r) _ r _ refl (shot_role (id_of (entry_at r.state.stored a)) r)
 
-remove_role : (id : Option (LogId ℕ)) (r : StepResult) → SameRole r (remove_up_to id r)
-remove_role None r = refl
-remove_role (Some id) r = refl
-
 purge_role : (place : ℕ) (role : Role) (r : StepResult) → SameRole r (purge_as place role r)
-purge_role place Follower r = remove_role (id_of (entry_at r.state.stored place)) r
-purge_role place (Candidate granters) r = remove_role (id_of (entry_at r.state.stored place)) r
+purge_role place Follower r = removing_keeps_role (id_of (entry_at r.state.stored place)) r
+purge_role place (Candidate granters) r = removing_keeps_role (id_of (entry_at r.state.stored place)) r
 purge_role place (Leader lead) r = either (SameRole r) _ r _ refl refl
 
 pub within_role : (place : ℕ) (last : Option (LogId ℕ)) (r : StepResult) → SameRole r (purge_within place last r)
@@ -256,7 +228,7 @@ module _ (own : ℕ) (s : GroupState) (now : ℕ) where
   call_stands (Initialize m) =
       let es = entry_of (log_id_of 0 0 0) (Members m) ∷ [] in
       let put = store (PutEntries 0 es) r in
-      elected_stands (Initialize m) refl put (ap configs_in (last_append _ (log_below s.stored 0) es))
+      elected_stands (Initialize m) refl put (ap configs_in (last_membership-append _ (log_below s.stored 0) es))
     where
       configs_in : Option LoggedMembership → List (List ℕ)
       configs_in None = []

@@ -3,7 +3,7 @@ use Rattle.std.specs.Prelude.{◌≡◌, ℕ, ◌+◌, ◌-◌, ◌≤◌, ◌==
 use Rattle.std.specs.List.{list_any}
 use Rattle.std.proofs.Common.{sym, ap, ◌∙◌, subst, arith, eqb-true, leb-true}
 use Rattle.std.proofs.lemmas.Bool.{and_parts}
-use Rattle.std.proofs.lemmas.List.{length-take}
+use Rattle.std.proofs.lemmas.List.{length-take, length-take-le}
 use Rattle.std.proofs.lemmas.List.Elements.{All-append, All-cons, All-drop, All-filter, All-nil, All-tail, All-take}
 use Rattle.std.proofs.lemmas.Option.{slice_get_within}
 use Rattle.raft_values.specs.declared.vote.Vote.{Vote}
@@ -14,7 +14,7 @@ use Rattle.raft_quorums.specs.Quorum.{is_quorum}
 use Rattle.raft_state.specs.declared.entry.EntryPayload.TheVariants.{Blank, Normal, Membership as Members}
 use Rattle.raft_group_step.specs.Values.{after_change, ChangeMembers, Entry, EntryPayload, LoggedMembership, entry_of, has_id, is_valid, is_within_limits, is_written_by, vote_eq, vote_lt}
 use Rattle.raft_group_step.specs.StoredGroup.{Snapshot, StoredGroup, StoringCommand, MakeGroup, SetVote, PutEntries, CutFrom, RemoveUpTo, SetSnapshot, StartAfter, after_storing, after_storing_all, end_place, entry_at, first_place, has_id_in_log, id_before, id_of, membership_in_force, snapshot_last}
-use Rattle.raft_group_step.specs.Message.{AppendFields, Message, Numbered, RequestId, MessageBody, VoteRequest, VoteReply, AppendRequest, AppendReply, SnapshotRequest, SnapshotReply, ReplyFields, ReplyResult, Success, Conflict, HigherVote}
+use Rattle.raft_group_step.specs.Message.{AppendFields, Message, Numbered, RequestId, MessageBody, VoteRequest, VoteReply, AppendRequest, AppendReply, SnapshotRequest, SnapshotReply, ReplyFields, ReplyResult, Success, PartialSuccess, Conflict, HigherVote}
 use Rattle.raft_group_step.specs.Peer.{PeerState, is_answer_to, is_kept_for_peers}
 use Rattle.raft_group_step.specs.GroupState.{GroupState, Lead, Role, Follower, Candidate, Leader, state_of}
 use Rattle.raft_group_step.specs.declared.group_call.GroupCall.TheVariants.{Initialize, Elect, Propose, ChangeMembership, Heartbeat, Lost, TriggerSnapshot, TriggerPurge}
@@ -38,12 +38,15 @@ use Rattle.raft_group_step.specs.Opening.{drop_stale_log, is_joined_to, resume_l
 use Rattle.raft_group_step.specs.Initialize.{is_new}
 use Rattle.raft_group_step.specs.Refusal.{command_limit, is_first_membership, reasons_of, reasons_of_call, reasons_of_change, refusal_of}
 use Rattle.raft_group_step.specs.GroupStep.{begun, call_step, event_step, finished, group_step, message_step, step_unless}
+use Rattle.raft_group_step.proofs.Words.{either, either_by, cut_keeps_first}
+use Rattle.raft_group_step.proofs.Refusals.{unless_none}
+use Rattle.raft_group_step.proofs.EntryPlaces.{entry_within, in_log_within}
 use Rattle.raft_laws.proofs.FreshEntries.{within_is, without_is}
 use Rattle.raft_laws.proofs.Shapes.{slice_drop, slice_taken}
-use Rattle.raft_laws.proofs.StepCalls.{NoReason, no_reason, unless_none}
-use Rattle.raft_laws.proofs.StepWords.{all-append, either, either_by}
+use Rattle.raft_laws.proofs.StepCalls.{NoReason, no_reason}
+use Rattle.raft_laws.proofs.StepWords.{all-append}
 use Rattle.raft_step_laws.specs.Fitting.{AllFit, ComesWithin, FitEntries, FitsBody, FitsEvent, FitsPayload, FitsRequest, FitsSnapshot, FitsStored, FitsStoring, IsCommittedWithin, StepsFit}
-use Rattle.raft_step_laws.proofs.FitWords.{Fits, StandWithin, above_within, all_fit, before_next, built_fits, entry_place, entry_within, in_log_within, missing_within, placed_one, placed_stand, some_entry, stand_placed, stop_fits, stored_fits}
+use Rattle.raft_step_laws.proofs.FitWords.{Fits, StandWithin, above_within, all_fit, before_next, built_fits, entry_place, missing_within, no_entry, placed_one, placed_stand, some_entry, stand_placed, stop_fits, stored_fits}
 
 abbrev FitsMessage : Message → Type 0
 FitsMessage m = FitsBody m.body
@@ -112,8 +115,7 @@ module _ (base : StoredGroup) where
       let e = entry_of (record { leader_id = st.vote.leader_id; index = end_place st }) p in
       stores (PutEntries (end_place st) (e ∷ [])) r h
       (record {
-        above = omega arith;
-        within = omega arith;
+        at_end = refl;
         count = omega arith;
         entries = All-cons Fits e [] k (All-nil Fits);
         placed = placed_one (end_place st) e refl;
@@ -172,27 +174,20 @@ module _ (base : StoredGroup) where
   cut_at_keeps None r h = h
   cut_at_keeps (Some id) r h = cut id.index r h
 
-  cut_first : (i : ℕ) (r : StepResult) → first_place (cut_from i r).state.stored ≡ first_place r.state.stored
-  cut_first i r =
-      either (λ q. first_place q.state.stored ≡ first_place r.state.stored) (is_some (entry_at r.state.stored i)) (store (CutFrom i) r) r refl refl
-
-  -- the log reaches the place from which it was cut
-  cut_reaches : (i : ℕ) (r : StepResult) → first_place r.state.stored ≤ i → i ≤ end_place r.state.stored → i ≤ end_place (cut_from i r).state.stored
-  cut_reaches i r low high =
-      either_by (λ q. i ≤ end_place q.state.stored) (is_some (entry_at r.state.stored i)) (store (CutFrom i) r) r
-      (λ t. let l = length-take (i - first_place r.state.stored) r.state.stored.log in omega arith)
-      (λ t. high)
+  -- the log ends at the place from which it was cut
+  cut_ends : (i : ℕ) (r : StepResult) → first_place r.state.stored ≤ i → i ≤ end_place r.state.stored → i ≡ end_place (cut_from i r).state.stored
+  cut_ends i r low high =
+      either_by (λ q. i ≡ end_place q.state.stored) (is_some (entry_at r.state.stored i)) (store (CutFrom i) r) r
+      (λ t. let l = length-take-le (i - first_place r.state.stored) r.state.stored.log (omega (arith, high)) in omega arith)
+      (λ t. let past = no_entry r.state.stored i t low in omega arith)
 
   put : (es : List Entry) (r : StepResult) → Keeps r → StandWithin (first_place r.state.stored) (end_place r.state.stored) es → FitEntries es → length es ≤ 64 → Keeps (put_entries es r)
   put [] r h k f l = h
   put (e ∷ es) r h k f l =
       let i = e.log_id.index in
-      let first = cut_first i r in
-      let reaches = cut_reaches i r k.0 k.1 in
       stores (PutEntries i (e ∷ es)) (cut_from i r) (cut i r h)
       (record {
-        above = omega (arith, first, k.0);
-        within = reaches;
+        at_end = cut_ends i r k.0 k.1;
         count = l;
         entries = f;
         placed = stand_placed i (e ∷ es) k.2;
@@ -273,7 +268,7 @@ module _ (base : StoredGroup) where
   other_first : (last : LogId ℕ) (r : StepResult) → first_place (cut_other last r).state.stored ≡ first_place r.state.stored
   other_first last r =
       either (λ q. first_place q.state.stored ≡ first_place r.state.stored) (has_id_in_log r.state.stored last) r _ refl
-      (either (λ q. first_place q.state.stored ≡ first_place r.state.stored) (is_some (entry_at r.state.stored last.index)) _ r (cut_first (place_above r.state.committed) r) refl)
+      (either (λ q. first_place q.state.stored ≡ first_place r.state.stored) (is_some (entry_at r.state.stored last.index)) _ r (cut_keeps_first (place_above r.state.committed) r) refl)
 
   installed : (b : Bool) (x : Snapshot) (r : StepResult) → is_within x.last.index r.state.committed ≡ b → Keeps r → IsCommittedWithin r.state → FitsSnapshot x → Keeps (install_unless b x r)
   installed true x r t h c f = h
@@ -288,12 +283,12 @@ module _ (base : StoredGroup) where
 
   offered_keeps : (own peer : ℕ) (v : Vote ℕ) (id : ℕ) (x : Snapshot) (b : Bool) (r : StepResult) → Keeps r → IsCommittedWithin r.state → FitsSnapshot x → Keeps (offered own peer v id x b r)
   offered_keeps own peer v id x true r h c f =
-      sends own peer _ r h (record { number = id; numbered = refl; previous = refl; agrees = λ e. absurd (let f : HigherVote r.state.stored.vote ≡ Conflict = e in cc) })
+      sends own peer _ r h (record { number = id; numbered = refl; previous = refl; agrees = λ e. absurd (let f : HigherVote r.state.stored.vote ≡ Conflict = e in cc); whole = tt })
   offered_keeps own peer v id x false r h c f =
       let taken = take_over v r in
       let b = is_within x.last.index taken.state.committed in
       sends own peer _ (install_unless b x taken) (installed b x taken refl (took v r h) (took_within v r c) f)
-      (record { number = id; numbered = refl; previous = refl; agrees = λ e. absurd (let f : Success ≡ Conflict = e in cc) })
+      (record { number = id; numbered = refl; previous = refl; agrees = λ e. absurd (let f : Success ≡ Conflict = e in cc); whole = tt })
 
   -- ---- replies
 
@@ -305,6 +300,7 @@ module _ (base : StoredGroup) where
 
   higher : (o : ReplyResult) (r : StepResult) → Keeps r → Keeps (with_higher_vote o r)
   higher Success r h = h
+  higher (PartialSuccess last) r h = h
   higher Conflict r h = h
   higher (HigherVote v) r h = greater v r h
 
@@ -469,8 +465,7 @@ module _ (base : StoredGroup) where
       elected own (store (PutEntries 0 (e ∷ [])) r)
       (stores (PutEntries 0 (e ∷ [])) r h
       (record {
-        above = omega (arith, k.1);
-        within = omega arith;
+        at_end = sym k.1;
         count = omega arith;
         entries = All-cons Fits e [] k.0 (All-nil Fits);
         placed = placed_one 0 e refl;

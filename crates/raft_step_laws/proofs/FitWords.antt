@@ -1,19 +1,19 @@
 -- Entries at their places, and storing commands that fit.
 use Rattle.std.specs.Prelude.{◌≡◌, ℕ, zero, suc, ◌+◌, ◌-◌, ◌<◌, ◌≤◌, ◌==◌, cond, not, nat_lt, is_some, Bool, true, false, List, [], ◌∷◌, ◌++◌, drop, length, slice_get, take, Option, Some, None, IfSome, refl}
 use Rattle.std.proofs.Common.{sym, ap, ◌∙◌, subst, arith, eq-eqb, eqb-true, ltb-true, ⊎_elim}
-use Rattle.std.proofs.lemmas.Bool.{cases_lt, cond_both, ltb-false}
+use Rattle.std.proofs.lemmas.Bool.{cases_lt, cond_both}
 use Rattle.std.proofs.lemmas.List.{length-take-le}
 use Rattle.std.proofs.lemmas.List.Elements.{All-append, All-drop, All-head, All-nil, All-tail, All-take}
-use Rattle.std.proofs.lemmas.Option.{slice_get_within}
 use Rattle.raft_values.specs.declared.log_id.LogId.{LogId}
 use Rattle.raft_values.specs.LogId.{next_place}
 use Rattle.raft_state.specs.declared.entry.EntryPayload.TheVariants.{Blank, Normal, Membership as Members}
 use Rattle.raft_group_step.specs.Values.{Entry, EntryPayload, LoggedMembership, last_membership, membership_after}
-use Rattle.raft_group_step.specs.StoredGroup.{Snapshot, StoredGroup, StoringCommand, MakeGroup, SetVote, PutEntries, CutFrom, RemoveUpTo, SetSnapshot, StartAfter, after_storing, after_storing_all, end_place, entry_at, first_place, has_id_in_log, held, id_at, id_before, id_of, is_id, prefix_of}
+use Rattle.raft_group_step.specs.StoredGroup.{Snapshot, StoredGroup, StoringCommand, MakeGroup, SetVote, PutEntries, CutFrom, RemoveUpTo, SetSnapshot, StartAfter, after_storing, after_storing_all, end_place, entry_at, first_place, has_id_in_log, held, id_at, id_before, id_of, prefix_of}
 use Rattle.raft_group_step.specs.StepResult.{is_within}
 use Rattle.raft_group_step.specs.SnapshotRequest.{place_above}
 use Rattle.raft_group_step.specs.AppendRequest.{above_committed, missing_entries}
 use Rattle.raft_group_step.specs.SnapshotTrigger.{snapshot_at}
+use Rattle.raft_group_step.proofs.EntryPlaces.{entry_within, in_log_within}
 use Rattle.raft_laws.proofs.FreshEntries.{within_is, without_is}
 use Rattle.raft_laws.proofs.Shapes.{slice_after, slice_drop, slice_taken}
 use Rattle.raft_laws.proofs.BallotAgreement.{slice_get-append}
@@ -71,15 +71,6 @@ stand_placed k (e ∷ es) h (suc i) x at = let p = stand_placed (k + 1) es h.1 i
 
 -- ---- entries in the log
 
-pub entry_within : (st : StoredGroup) (i : ℕ) (e : Entry) → entry_at st i ≡ Some e → (first_place st ≤ i) × (i < end_place st) × (slice_get st.log (i - first_place st) ≡ Some e)
-entry_within st i e =
-    cond_both (nat_lt i (first_place st)) None (slice_get st.log (i - first_place st)) (λ o. o ≡ Some e → (first_place st ≤ i) × (i < end_place st) × (slice_get st.log (i - first_place st) ≡ Some e))
-    (λ t h. absurd (let f : None ≡ Some e = h in cc))
-    (λ t h.
-    let low = ltb-false i (first_place st) t in
-    let high = slice_get_within st.log (i - first_place st) e h in
-    (omega (arith, low), omega (arith, low, high), h))
-
 pub some_entry : (o : Option Entry) → is_some o ≡ true → (e : Entry) × (o ≡ Some e)
 some_entry None t = absurd (let f : false ≡ true = t in cc)
 some_entry (Some e) t = (e, refl)
@@ -95,13 +86,6 @@ no_entry st i =
     past_end k [] f = omega arith
     past_end zero (x ∷ xs) f = absurd (let g : true ≡ false = f in cc)
     past_end (suc k) (x ∷ xs) f = let p = past_end k xs f in omega arith
-
-pub in_log_within : (st : StoredGroup) (id : LogId ℕ) → has_id_in_log st id ≡ true → id.index < end_place st
-in_log_within st id t = go (entry_at st id.index) refl t
-  where
-    go : (o : Option Entry) → entry_at st id.index ≡ o → is_id id (id_of o) ≡ true → id.index < end_place st
-    go None is f = absurd (let g : false ≡ true = f in cc)
-    go (Some e) is f = (entry_within st id.index e is).1
 
 -- an entry in the log has its place
 pub entry_place : (st : StoredGroup) → FitsStored st → (i : ℕ) (e : Entry) → entry_at st i ≡ Some e → e.log_id.index ≡ i
@@ -175,12 +159,13 @@ stored_fits (SetVote vote) st h k = record { entries = h.entries; placed = h.pla
 stored_fits (PutEntries place es) st h k =
     let from = first_place st in
     let kept = take (place - from) st.log in
-    let size : length kept ≡ place - from = length-take-le (place - from) st.log (omega (arith, k.within)) in
+    let end = k.at_end in
+    let size : length kept ≡ place - from = length-take-le (place - from) st.log (omega arith) in
     record {
       entries = All-append Fits kept es (All-take Fits (place - from) st.log h.entries) k.entries;
       placed =
           placed_append from kept es (placed_take (place - from) from st.log h.placed)
-          (λ i e at. let p = k.placed i e at in omega (arith, k.above, size));
+          (λ i e at. let p = k.placed i e at in omega (arith, end, size));
       snapshot = h.snapshot;
     }
 stored_fits (CutFrom place) st h k =

@@ -1,5 +1,5 @@
 -- What a leader sends at the end of an event: what it makes of its peers, and that each is served.
-use Rattle.std.specs.Prelude.{◌≡◌, ◌⊎◌, ℕ, ◌-◌, ◌==◌, ◌&&◌, cond, nat_eq, nat_lt, is_none, Bool, true, false, List, [], ◌∷◌, ◌++◌, drop, take, Option, Some, None, refl}
+use Rattle.std.specs.Prelude.{◌≡◌, ℕ, ◌-◌, ◌==◌, ◌&&◌, cond, nat_eq, nat_lt, is_none, Bool, true, false, List, [], ◌∷◌, ◌++◌, drop, take, Option, Some, None, refl}
 use Rattle.std.proofs.Common.{sym, ap, ◌∙◌, subst, eqb-true, append-nil, append_assoc, ⊎_elim}
 use Rattle.std.proofs.lemmas.Bool.{cond_both, or_cases}
 use Rattle.raft_values.specs.LogId.{next_place}
@@ -13,12 +13,11 @@ use Rattle.raft_group_step.specs.StepResult.{StepResult, send}
 use Rattle.raft_group_step.specs.Lead.{commit_as_leader, other_ids, peer_of, purge_as_wished, purge_up_to, remove_up_to, with_wish}
 use Rattle.raft_group_step.specs.Frames.{committed_id, entries_in_request, has_grown, lacks_entries, notice, request_start, send_entries, send_request, send_snapshot, serve, serve_all, serve_as, waiting}
 use Rattle.raft_group_step.specs.GroupStep.{finished}
-use Rattle.raft_laws.proofs.StepWords.{either, either_by}
-use Rattle.raft_laws.proofs.StepCommits.{removed_role}
-use Rattle.raft_laws.proofs.StepLimits.{commit_role}
+use Rattle.raft_group_step.proofs.Words.{either, either_by, commit_keeps_role, purge_keeps_role}
+use Rattle.raft_group_step.proofs.Peers.{with_peer-found, with_peer-others}
 use Rattle.raft_laws.proofs.TrackReplies.{peer_of_is}
 use Rattle.raft_step_laws.specs.PeerStates.{after_body, peer_after_sending}
-use Rattle.raft_step_laws.proofs.PeerLists.{body_has, body_matched, cond_same, sending_joins, set_found, set_others}
+use Rattle.raft_step_laws.proofs.PeerLists.{body_has, body_matched, cond_same, sending_joins}
 
 -- ---- what a leader sends at the end of an event
 
@@ -63,9 +62,9 @@ set_peer lead n w own b is made m =
     cond_both ((peer_of lead n).peer == (peer_of lead m).peer) (after_body b (peer_of lead m)) (peer_of lead m) (λ q. peer_of (record lead { peers = with_peer w lead.peers }) m ≡ q)
     (λ t.
     let same : n ≡ m = sym (peer_of_is lead n) ∙ eqb-true (peer_of lead n).peer (peer_of lead m).peer t ∙ peer_of_is lead m in
-    set_found w (new_peer lead.began m) lead.peers (is ∙ same) ∙ sym made ∙ ap (λ k. after_body b (peer_of lead k)) same)
+    with_peer-found w (new_peer lead.began m) lead.peers (is ∙ same) ∙ sym made ∙ ap (λ k. after_body b (peer_of lead k)) same)
     (λ f.
-    set_others w (new_peer lead.began m) lead.peers
+    with_peer-others w (new_peer lead.began m) lead.peers
     (ap (λ k. k == m) is ∙ ap (λ k. k == m) (sym (peer_of_is lead n)) ∙ ap (λ k. (peer_of lead n).peer == k) (sym (peer_of_is lead m)) ∙ f))
 
 module _ (own : ℕ) (lead : Lead) (n : ℕ) (r : StepResult) (is : r.state.role ≡ Leader lead) where
@@ -181,7 +180,7 @@ module _ (own : ℕ) (lead : Lead) (n : ℕ) (r : StepResult) (is : r.state.role
   set_served : (w : PeerState) (q : StepResult) → w.peer ≡ n → HasRequest w → q.state.role ≡ Leader (record lead { peers = with_peer w lead.peers }) → ServedAt st n q
   set_served w q at has f after g lacks =
       let same : record lead { peers = with_peer w lead.peers } ≡ after = same_lead (record lead { peers = with_peer w lead.peers }) after (sym f ∙ g) in
-      let found : peer_of after n ≡ w = ap (λ l. peer_of l n) (sym same) ∙ set_found w (new_peer lead.began n) lead.peers at in
+      let found : peer_of after n ≡ w = ap (λ l. peer_of l n) (sym same) ∙ with_peer-found w (new_peer lead.began n) lead.peers at in
       subst HasRequest (sym found) has
 
   request_serves : (o : Option Snapshot) → ServedAt st n (send_request own (peer_of lead n) lead o r)
@@ -246,15 +245,6 @@ removed_messages : (id : Option (LogId ℕ)) (r : StepResult) → (remove_up_to 
 removed_messages None r = refl
 removed_messages (Some id) r = refl
 
-purge_role : (role : Role) (wish : Option ℕ) (r : StepResult) → (purge_as_wished role wish r).state.role ≡ r.state.role
-purge_role Follower wish r = refl
-purge_role (Candidate granters) wish r = refl
-purge_role (Leader lead) None r = refl
-purge_role (Leader lead) (Some place) r =
-    let wished = with_wish None r in
-    either (λ q. q.state.role ≡ r.state.role) (is_kept_for_peers place lead.peers) r (purge_up_to place wished)
-    refl (removed_role (id_of (entry_at r.state.stored place)) wished)
-
 purge_messages : (role : Role) (wish : Option ℕ) (r : StepResult) → (purge_as_wished role wish r).messages ≡ r.messages
 purge_messages Follower wish r = refl
 purge_messages (Candidate granters) wish r = refl
@@ -272,7 +262,7 @@ settled own r =
 pub settled_role : (own : ℕ) (r : StepResult) → (settled own r).state.role ≡ r.state.role
 settled_role own r =
     let committed = commit_as_leader own r.state.role r in
-    purge_role committed.state.role committed.state.wish committed ∙ commit_role 0 (λ v n id. Unit {0}) own r.state.role r
+    purge_keeps_role committed.state.role committed.state.wish committed ∙ commit_keeps_role own r.state.role r
 
 pub settled_messages : (own : ℕ) (r : StepResult) → (settled own r).messages ≡ r.messages
 settled_messages own r =

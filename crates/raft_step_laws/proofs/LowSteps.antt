@@ -2,7 +2,7 @@
 use Rattle.std.specs.Prelude.{◌≡◌, ℕ, ◌+◌, ◌-◌, ◌<◌, ◌==◌, ◌&&◌, cond, is_none, is_some, nat_lt, not, Bool, true, false, List, [], ◌∷◌, ◌++◌, drop, take, Option, Some, None, All, IfSome, map, option_map, refl}
 use Rattle.std.specs.List.{list_any}
 use Rattle.std.proofs.Common.{sym, subst, arith, eqb-true}
-use Rattle.std.proofs.lemmas.Bool.{and_parts}
+use Rattle.std.proofs.lemmas.Bool.{and_parts, cond_both}
 use Rattle.std.proofs.lemmas.List.Elements.{All-cons, All-drop, All-filter, All-head, All-nil, All-push, All-tail, All-take, All-weaker}
 use Rattle.raft_values.specs.declared.vote.Vote.{Vote}
 use Rattle.raft_values.specs.Vote.{vote_of}
@@ -12,7 +12,7 @@ use Rattle.raft_quorums.specs.Quorum.{is_quorum}
 use Rattle.raft_state.specs.declared.entry.EntryPayload.TheVariants.{Blank, Normal, Membership as Members}
 use Rattle.raft_group_step.specs.Values.{after_change, ChangeMembers, Entry, EntryPayload, LoggedMembership, Membership, entry_of, has_id, is_written_by, vote_eq, vote_lt}
 use Rattle.raft_group_step.specs.StoredGroup.{Snapshot, StoringCommand, MakeGroup, SetVote, PutEntries, CutFrom, RemoveUpTo, SetSnapshot, StartAfter, end_place, entry_at, first_place, has_id_in_log, id_before, id_of, last_id, membership_in_force, snapshot_last}
-use Rattle.raft_group_step.specs.Message.{AppendFields, Message, HeartBeat, Numbered, MessageBody, VoteRequest, VoteReply, AppendRequest, AppendReply, SnapshotRequest, SnapshotReply, ReplyFields, ReplyResult, Success, Conflict, HigherVote, last_sent}
+use Rattle.raft_group_step.specs.Message.{AppendFields, Message, HeartBeat, Numbered, MessageBody, VoteRequest, VoteReply, AppendRequest, AppendReply, SnapshotRequest, SnapshotReply, ReplyFields, ReplyResult, Success, PartialSuccess, Conflict, HigherVote, last_sent}
 use Rattle.raft_group_step.specs.Peer.{Outstanding, PeerState, is_answer_to, is_kept_for_peers, new_peer}
 use Rattle.raft_group_step.specs.GroupState.{GroupState, Lead, Role, Follower, Candidate, Leader, is_candidate, state_of}
 use Rattle.raft_group_step.specs.declared.group_call.GroupCall.TheVariants.{Initialize, Elect, Propose, ChangeMembership, Heartbeat, Lost, TriggerSnapshot, TriggerPurge}
@@ -25,7 +25,7 @@ use Rattle.raft_group_step.specs.VoteRequest.{judged, may_grant}
 use Rattle.raft_group_step.specs.VoteReply.{counted, take_over_greater}
 use Rattle.raft_group_step.specs.AppendRequest.{above_committed, cut_at, cut_from, heard, is_held, joined, missing_entries, put_entries}
 use Rattle.raft_group_step.specs.SnapshotRequest.{cut_other, install_unless, offered, place_above}
-use Rattle.raft_group_step.specs.Reply.{after_answer, answered, ended, reply_step, with_higher_vote}
+use Rattle.raft_group_step.specs.Reply.{accepted_up_to, after_answer, answered, ended, is_part_of, reply_step, with_higher_vote}
 use Rattle.raft_group_step.specs.Propose.{append_with_token}
 use Rattle.raft_group_step.specs.MembershipStep.{append_changed}
 use Rattle.raft_group_step.specs.Heartbeat.{beat_as, send_notices}
@@ -36,9 +36,9 @@ use Rattle.raft_group_step.specs.Opening.{drop_stale_log, is_joined_to, resume_l
 use Rattle.raft_group_step.specs.Initialize.{initialize_step, is_new}
 use Rattle.raft_group_step.specs.Refusal.{are_in_range, next_blank, next_ids, next_term, number_limit, numbers_of, numbers_of_id, numbers_of_membership, numbers_of_result, range_reason, reasons_of, reasons_of_call, refusal_of}
 use Rattle.raft_group_step.specs.GroupStep.{begun, call_step, event_step, finished, group_step, message_step, step_unless}
-use Rattle.raft_laws.proofs.StepCalls.{NoReason, no_reason, unless_none}
-use Rattle.raft_laws.proofs.StepWords.{either, either_by}
-use Rattle.raft_laws.proofs.TrackElections.{ask_state}
+use Rattle.raft_group_step.proofs.Words.{either, either_by, ask_state}
+use Rattle.raft_group_step.proofs.Refusals.{unless_none}
+use Rattle.raft_laws.proofs.StepCalls.{NoReason, no_reason}
 use Rattle.raft_laws.proofs.LowGroups.{put_end}
 use Rattle.raft_laws.proofs.StepPlaces.{HasRoom}
 use Rattle.raft_step_laws.specs.Numbers.{AreLow, BringsLowPrefix, EachPeer, HasLowId, HasLowPrefix, IsLowBody, IsLowPeer, IsLowSnapshot, IsLowStored, StepsSendLowNumbers}
@@ -241,6 +241,7 @@ module _ (Q : PeerState → Type 0) where
 
   higher : (o : ReplyResult) (r : StepResult) → Keeps r → AreLow (numbers_of_result o) → Keeps (with_higher_vote o r)
   higher Success r h k = h
+  higher (PartialSuccess last) r h k = h
   higher Conflict r h k = h
   higher (HigherVote v) r h k = greater v r h (All-head IsLow v.leader_id.term [] k)
 
@@ -328,10 +329,14 @@ new_low began n = record { matched = none_low; next = omega arith }
 known_peer : (lead : Lead) (n : ℕ) → All HasRoomForOne lead.peers → HasRoomForOne (peer_of lead n)
 known_peer lead n h = found_peer HasRoomForOne (new_peer lead.began n) lead.peers (new_low lead.began n) h
 
-after_answer_low : (p : PeerState) (m : ReplyFields) (o : ReplyResult) → HasRoomForOne p → LowReply m → HasRoomForOne (after_answer p m o)
-after_answer_low p m Success h k = record { matched = k.last; next = h.next }
-after_answer_low p m Conflict h k = record { matched = h.matched; next = h.next }
-after_answer_low p m (HigherVote v) h k = record { matched = h.matched; next = h.next }
+after_answer_low : (p : PeerState) (m : ReplyFields) (o : ReplyResult) → HasRoomForOne p → LowReply m → AreLow (numbers_of_result o) → HasRoomForOne (after_answer p m o)
+after_answer_low p m Success h k l = record { matched = k.last; next = h.next }
+after_answer_low p m (PartialSuccess last) h k l =
+    cond_both (is_part_of p m last) (accepted_up_to last p) (ended p) HasRoomForOne
+    (λ t. record { matched = l; next = h.next })
+    (λ t. record { matched = h.matched; next = h.next })
+after_answer_low p m Conflict h k l = record { matched = h.matched; next = h.next }
+after_answer_low p m (HigherVote v) h k l = record { matched = h.matched; next = h.next }
 
 abbrev EventKeeps : StepResult → Type 0
 EventKeeps r = Keeps HasRoomForOne r
@@ -343,7 +348,7 @@ answered_keeps peer m (Leader lead) r h ps k =
     let p = after_answer (peer_of lead peer) m m.outcome in
     either EventKeeps (vote_eq m.vote r.state.stored.vote && is_answer_to m (peer_of lead peer).outstanding) (with_peer_state p lead r) r
     (recast HasRoomForOne r (with_peer_state p lead r) refl refl refl
-    (put_peer HasRoomForOne p lead.peers (after_answer_low (peer_of lead peer) m m.outcome (known_peer lead peer ps) k) ps) h)
+    (put_peer HasRoomForOne p lead.peers (after_answer_low (peer_of lead peer) m m.outcome (known_peer lead peer ps) k k.outcome) ps) h)
     h
 
 replied_keeps : (peer : ℕ) (m : ReplyFields) (r : StepResult) → EventKeeps r → LowReply m → EventKeeps (reply_step peer m r)

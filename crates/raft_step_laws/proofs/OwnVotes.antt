@@ -9,7 +9,7 @@ use Rattle.raft_values.specs.LogId.{log_id_of, place_of}
 use Rattle.raft_state.specs.declared.entry.EntryPayload.TheVariants.{Membership as Members}
 use Rattle.raft_group_step.specs.Values.{ChangeMembers, Entry, LoggedMembership, entry_of, vote_eq, vote_lt}
 use Rattle.raft_group_step.specs.StoredGroup.{Snapshot, CutFrom, PutEntries, StartAfter, entry_at, first_place, has_id_in_log, id_of, membership_in_force, snapshot_last}
-use Rattle.raft_group_step.specs.Message.{MessageBody, VoteRequest, VoteReply, AppendRequest, AppendReply, SnapshotRequest, SnapshotReply, AppendFields, ReplyFields, ReplyResult, Success, Conflict, HigherVote}
+use Rattle.raft_group_step.specs.Message.{MessageBody, VoteRequest, VoteReply, AppendRequest, AppendReply, SnapshotRequest, SnapshotReply, AppendFields, ReplyFields, ReplyResult, Success, PartialSuccess, Conflict, HigherVote}
 use Rattle.raft_group_step.specs.Peer.{is_answer_to}
 use Rattle.raft_group_step.specs.GroupState.{GroupState, Lead, Role, Follower, Candidate, Leader, is_leader, state_of}
 use Rattle.raft_group_step.specs.declared.group_call.GroupCall.TheVariants.{Initialize, Elect, Propose, ChangeMembership, Heartbeat, Lost, TriggerSnapshot, TriggerPurge}
@@ -30,7 +30,7 @@ use Rattle.raft_group_step.specs.PurgeTrigger.{purge_as, purge_within}
 use Rattle.raft_group_step.specs.Opening.{drop_stale_log, is_joined_to, opening_step}
 use Rattle.raft_group_step.specs.Refusal.{refusal_of}
 use Rattle.raft_group_step.specs.GroupStep.{begun, call_step, event_step, finished, message_step, step_unless}
-use Rattle.raft_laws.proofs.StepWords.{either, either_by}
+use Rattle.raft_group_step.proofs.Words.{either, either_by}
 use Rattle.raft_step_laws.specs.Tokens.{HasItsOwnVote, VotesStayOwn, seeks_or_leads}
 use Rattle.raft_step_laws.proofs.Sending.{finished_adds, idle_end}
 use Rattle.raft_step_laws.proofs.Telling.{elected_leader, granted_leader, seeks}
@@ -120,6 +120,7 @@ module _ (own : ℕ) where
 
   higher_mine : (o : ReplyResult) (r : StepResult) → Mine r → Mine (with_higher_vote o r)
   higher_mine Success r h = h
+  higher_mine (PartialSuccess last) r h = h
   higher_mine Conflict r h = h
   higher_mine (HigherVote v) r h = greater_mine v r h
 

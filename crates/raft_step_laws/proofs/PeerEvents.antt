@@ -9,7 +9,7 @@ use Rattle.raft_values.specs.LogId.{log_id_of}
 use Rattle.raft_state.specs.declared.entry.EntryPayload.TheVariants.{Membership as Members}
 use Rattle.raft_group_step.specs.Values.{ChangeMembers, LoggedMembership, entry_of, vote_eq, vote_lt}
 use Rattle.raft_group_step.specs.StoredGroup.{Snapshot, PutEntries, membership_in_force, snapshot_last}
-use Rattle.raft_group_step.specs.Message.{Message, MessageBody, VoteRequest, VoteReply, AppendRequest, AppendReply, SnapshotRequest, SnapshotReply, AppendFields, ReplyFields, ReplyResult, Success, Conflict, HigherVote}
+use Rattle.raft_group_step.specs.Message.{Message, MessageBody, VoteRequest, VoteReply, AppendRequest, AppendReply, SnapshotRequest, SnapshotReply, AppendFields, ReplyFields, ReplyResult, Success, PartialSuccess, Conflict, HigherVote}
 use Rattle.raft_group_step.specs.Peer.{Outstanding, PeerState, is_answer_to, new_peer, peer_or, with_peer}
 use Rattle.raft_group_step.specs.GroupState.{GroupState, Lead, Role, Follower, Candidate, Leader, is_leader}
 use Rattle.raft_group_step.specs.declared.group_call.GroupCall.TheVariants.{Initialize, Elect, Propose, ChangeMembership, Heartbeat, Lost, TriggerSnapshot, TriggerPurge}
@@ -22,14 +22,15 @@ use Rattle.raft_group_step.specs.VoteRequest.{judged, may_grant}
 use Rattle.raft_group_step.specs.VoteReply.{counted, take_over_greater}
 use Rattle.raft_group_step.specs.AppendRequest.{heard, is_held, joined}
 use Rattle.raft_group_step.specs.SnapshotRequest.{offered}
-use Rattle.raft_group_step.specs.Reply.{after_answer, answered, ended, with_higher_vote}
+use Rattle.raft_group_step.specs.Reply.{accepted_up_to, after_answer, answered, ended, is_part_of, with_higher_vote}
 use Rattle.raft_group_step.specs.MembershipStep.{append_changed}
 use Rattle.raft_group_step.specs.Lost.{lost_as}
 use Rattle.raft_group_step.specs.Opening.{opening_step}
 use Rattle.raft_group_step.specs.Refusal.{do_follow, has_known_snapshot, is_of_leader, is_sound, keep_voters, refusal_of}
 use Rattle.raft_group_step.specs.GroupStep.{begun, call_step, event_step, finished, message_step, step_unless}
+use Rattle.raft_group_step.proofs.Words.{either, either_by, installing_keeps_role, joined_keeps_role}
+use Rattle.raft_group_step.proofs.Peers.{with_peer-found, with_peer-others, answer_keeps_peer}
 use Rattle.raft_laws.proofs.StepMessages.{message_passed, of_leader}
-use Rattle.raft_laws.proofs.StepWords.{either, either_by}
 use Rattle.raft_laws.proofs.TrackReplies.{peer_of_is}
 use Rattle.raft_laws.proofs.VoteRanks.{same_vote}
 use Rattle.raft_laws.proofs.WorldLimits.{vote_itself}
@@ -37,9 +38,9 @@ use Rattle.raft_laws.proofs.VoteOrders.{differ_flags as never}
 use Rattle.raft_step_laws.specs.PeerStates.{LeadsBeginAnew, PeersReplay, keeps_its_lead, peer_after_event, peer_after_message, peer_after_reply, peer_after_sending}
 use Rattle.raft_step_laws.specs.Elections.{stands_in_call}
 use Rattle.raft_step_laws.specs.Tokens.{HasItsOwnVote, leads_on, seeks_or_leads}
-use Rattle.raft_step_laws.proofs.Electing.{Opened, Standing, beat_role, begins, changed_role, event_stands, follows, idles, joined_role, lacks, leads_yet, opened_role, snapshot_role, stands_on, unless_role, waits, wins, within_role}
+use Rattle.raft_step_laws.proofs.Electing.{Opened, Standing, beat_role, begins, changed_role, event_stands, follows, idles, lacks, leads_yet, opened_role, snapshot_role, stands_on, waits, wins, within_role}
 use Rattle.raft_step_laws.proofs.LeaderSends.{Sends, finished_sends, same_lead, settled, settled_messages}
-use Rattle.raft_step_laws.proofs.PeerLists.{cond_same, sending_joins, set_found, set_others, unnumbered_all}
+use Rattle.raft_step_laws.proofs.PeerLists.{cond_same, sending_joins, unnumbered_all}
 use Rattle.raft_step_laws.proofs.Sending.{finished_adds}
 use Rattle.raft_step_laws.proofs.Unnumbered.{event_unnumbered}
 use Rattle.raft_step_laws.proofs.Telling.{another_vote, beat_stays, elected_leader, next_term_differs, snapshot_stays, within_stays}
@@ -73,11 +74,6 @@ none_outstanding : (o : Option Outstanding) → is_some o ≡ false → o ≡ No
 none_outstanding None f = refl
 none_outstanding (Some x) f = absurd (let g : true ≡ false = f in cc)
 
-answer_peer : (p : PeerState) (m : ReplyFields) (o : ReplyResult) → (after_answer p m o).peer ≡ p.peer
-answer_peer p m Success = refl
-answer_peer p m Conflict = refl
-answer_peer p m (HigherVote v) = refl
-
 changed_vote : (o : Option LoggedMembership) (change : ChangeMembers) (token : ℕ) (r : StepResult) → (append_changed o change token r).state.stored.vote ≡ r.state.stored.vote
 changed_vote None change token r = refl
 changed_vote (Some m) change token r = refl
@@ -105,9 +101,9 @@ module _ (own : ℕ) (s : GroupState) (lead : Lead) (is : s.role ≡ Leader lead
       cond_both (peer == (peer_of lead n).peer) (f (peer_of lead n)) (peer_of lead n) (λ q. peer_of (record lead { peers = with_peer w lead.peers }) n ≡ q)
       (λ t.
       let same : peer ≡ n = eqb-true peer (peer_of lead n).peer t ∙ peer_of_is lead n in
-      set_found w (new_peer lead.began n) lead.peers (at ∙ same) ∙ made ∙ ap (λ k. f (peer_of lead k)) same)
+      with_peer-found w (new_peer lead.began n) lead.peers (at ∙ same) ∙ made ∙ ap (λ k. f (peer_of lead k)) same)
       (λ t.
-      set_others w (new_peer lead.began n) lead.peers
+      with_peer-others w (new_peer lead.began n) lead.peers
       (ap (λ k. k == n) at ∙ ap (λ k. peer == k) (sym (peer_of_is lead n)) ∙ t))
 
   -- or nothing came of it
@@ -239,7 +235,7 @@ module _ (own : ℕ) (s : GroupState) (lead : Lead) (is : s.role ≡ Leader lead
       heard_comes a false low mine other =
           let taken = take_over a.vote r in
           let b = is_held taken.state.stored taken.state.committed a.previous in
-          gone (AppendRequest a) (joined own peer a b taken) (joined_role own peer a b taken ∙ follows_other a.vote mine other low)
+          gone (AppendRequest a) (joined own peer a b taken) (joined_keeps_role own peer a b taken ∙ follows_other a.vote mine other low)
 
       offered_comes : (v : Vote ℕ) (id : ℕ) (y : Snapshot) (b : Bool) → vote_lt v s.stored.vote ≡ b → s.stored.vote.leader_id.node_id ≡ own → (v.leader_id.node_id ≡ own → ⊥) → Does (SnapshotRequest v id y) (offered own peer v id y b r)
       offered_comes v id y true low mine other =
@@ -247,7 +243,7 @@ module _ (own : ℕ) (s : GroupState) (lead : Lead) (is : s.role ≡ Leader lead
       offered_comes v id y false low mine other =
           let taken = take_over v r in
           let b = is_within y.last.index taken.state.committed in
-          gone (SnapshotRequest v id y) (offered own peer v id y false r) (unless_role b y taken ∙ follows_other v mine other low)
+          gone (SnapshotRequest v id y) (offered own peer v id y false r) (installing_keeps_role b y taken ∙ follows_other v mine other low)
 
       judged_comes : (v : Vote ℕ) (last : Option (LogId ℕ)) (b : Bool) → Does (VoteRequest v last) (judged own peer v b r)
       judged_comes v last true =
@@ -284,7 +280,7 @@ module _ (own : ℕ) (s : GroupState) (lead : Lead) (is : s.role ≡ Leader lead
               role = refl;
               began = refl;
               peers = λ n.
-                  set_by peer w (peer_after_reply s.stored.vote m) (answer_peer p m m.outcome ∙ peer_of_is lead peer)
+                  set_by peer w (peer_after_reply s.stored.vote m) (answer_keeps_peer p m m.outcome ∙ peer_of_is lead peer)
                   (sym (cond-true (vote_eq m.vote s.stored.vote && is_answer_to m p.outstanding) w p t)) n
                   ∙ by_body is_body n;
               keeps = on_true s (with_peer_state w lead r).state leads refl refl;
@@ -308,6 +304,7 @@ module _ (own : ℕ) (s : GroupState) (lead : Lead) (is : s.role ≡ Leader lead
         -- a greater vote ends the lead, whatever it answers
         judged_by : (o : ReplyResult) → let q = with_higher_vote o r in Does body (answered peer m q.state.role q)
         judged_by Success = unjudged
+        judged_by (PartialSuccess last) = unjudged
         judged_by Conflict = unjudged
         judged_by (HigherVote v) =
             either (λ q. Does body (answered peer m q.state.role q)) (vote_lt s.stored.vote v) (store_vote v (step_down r)) r

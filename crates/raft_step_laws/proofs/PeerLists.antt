@@ -1,10 +1,10 @@
 -- A leader's peers by their ids, and what sending makes of each.
-use Rattle.std.specs.Prelude.{◌≡◌, ◌⊎◌, ℕ, ◌==◌, nat_lt, cond, Bool, true, false, List, [], ◌∷◌, ◌++◌, Some, None, refl}
-use Rattle.std.proofs.Common.{inl, inr, sym, ap, ◌∙◌, subst, arith, eqb-true, eq-eqb, ⊎_elim}
-use Rattle.std.proofs.lemmas.Bool.{cond_both, cond-true, cond-false}
+use Rattle.std.specs.Prelude.{◌≡◌, ◌⊎◌, ℕ, ◌==◌, cond, Bool, true, false, List, [], ◌∷◌, ◌++◌, Some, None, refl}
+use Rattle.std.proofs.Common.{inl, inr, sym, ap, ◌∙◌, subst, arith, eqb-true, ⊎_elim}
+use Rattle.std.proofs.lemmas.Bool.{cond_both}
 use Rattle.std.proofs.lemmas.List.Elements.{Contains-append_right}
 use Rattle.raft_group_step.specs.Message.{Message, MessageBody, VoteRequest, VoteReply, AppendRequest, AppendReply, SnapshotRequest, SnapshotReply, AppendFields, RequestId, HeartBeat, Numbered}
-use Rattle.raft_group_step.specs.Peer.{Outstanding, PeerState, peer_or, with_peer}
+use Rattle.raft_group_step.specs.Peer.{Outstanding, PeerState}
 use Rattle.raft_step_laws.specs.PeerStates.{after_append, after_body, peer_after_sending}
 use Rattle.raft_step_laws.specs.Serving.{IsSent, number_of_id, request_number}
 
@@ -14,40 +14,6 @@ cond_same true x = refl
 cond_same false x = refl
 
 -- ---- the peer that is set is found, and each other one is what it was
-
-pub set_found : (p d : PeerState) (ps : List PeerState) → p.peer ≡ d.peer → peer_or d (with_peer p ps) ≡ p
-set_found p d [] e = cond-true (p.peer == d.peer) p d (eq-eqb p.peer d.peer e)
-set_found p d (x ∷ xs) e = go (set_found p d xs e)
-  where
-    first : (rest : List PeerState) → peer_or d (p ∷ rest) ≡ p
-    first rest = cond-true (p.peer == d.peer) p (peer_or d rest) (eq-eqb p.peer d.peer e)
-
-    go : peer_or d (with_peer p xs) ≡ p → peer_or d (with_peer p (x ∷ xs)) ≡ p
-    go rest =
-        cond_both (x.peer == p.peer) (p ∷ xs) (cond (nat_lt p.peer x.peer) (p ∷ x ∷ xs) (x ∷ with_peer p xs)) (λ ps. peer_or d ps ≡ p)
-        (λ t. first xs)
-        (λ f.
-        cond_both (nat_lt p.peer x.peer) (p ∷ x ∷ xs) (x ∷ with_peer p xs) (λ ps. peer_or d ps ≡ p)
-        (λ t. first (x ∷ xs))
-        (λ g. cond-false (x.peer == d.peer) x (peer_or d (with_peer p xs)) (ap (λ n. x.peer == n) (sym e) ∙ f) ∙ rest))
-
-pub set_others : (p d : PeerState) (ps : List PeerState) → (p.peer == d.peer) ≡ false → peer_or d (with_peer p ps) ≡ peer_or d ps
-set_others p d [] e = cond-false (p.peer == d.peer) p d e
-set_others p d (x ∷ xs) e = go (set_others p d xs e)
-  where
-    first : (rest : List PeerState) → peer_or d (p ∷ rest) ≡ peer_or d rest
-    first rest = cond-false (p.peer == d.peer) p (peer_or d rest) e
-
-    go : peer_or d (with_peer p xs) ≡ peer_or d xs → peer_or d (with_peer p (x ∷ xs)) ≡ peer_or d (x ∷ xs)
-    go rest =
-        cond_both (x.peer == p.peer) (p ∷ xs) (cond (nat_lt p.peer x.peer) (p ∷ x ∷ xs) (x ∷ with_peer p xs)) (λ ps. peer_or d ps ≡ peer_or d (x ∷ xs))
-        (λ t.
-        first xs
-        ∙ sym (cond-false (x.peer == d.peer) x (peer_or d xs) (ap (λ n. n == d.peer) (eqb-true x.peer p.peer t) ∙ e)))
-        (λ f.
-        cond_both (nat_lt p.peer x.peer) (p ∷ x ∷ xs) (x ∷ with_peer p xs) (λ ps. peer_or d ps ≡ peer_or d (x ∷ xs))
-        (λ t. first (x ∷ xs))
-        (λ g. ap (λ q. cond (x.peer == d.peer) x q) rest))
 
 -- ---- what is sent, in two parts
 

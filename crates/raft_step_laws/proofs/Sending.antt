@@ -13,7 +13,7 @@ use Rattle.raft_group_step.specs.StepResult.{StepResult, send}
 use Rattle.raft_group_step.specs.Lead.{commit_as_leader, other_ids, peer_of, purge_as_wished, purge_up_to, remove_up_to, with_wish}
 use Rattle.raft_group_step.specs.Frames.{has_grown, lacks_entries, notice, send_entries, send_request, send_snapshot, serve_all, serve_as, with_frames}
 use Rattle.raft_group_step.specs.GroupStep.{finished}
-use Rattle.raft_laws.proofs.StepWords.{either}
+use Rattle.raft_group_step.proofs.Words.{either}
 use Rattle.raft_step_laws.specs.Replies.{is_request}
 use Rattle.raft_step_laws.specs.Taking.{is_removal}
 

@@ -4,17 +4,17 @@ use Rattle.std.proofs.Common.{inl, inr, sym, ap, ◌∙◌, subst, ⊎_elim}
 use Rattle.std.proofs.lemmas.Bool.{cond_both}
 use Rattle.raft_values.specs.declared.vote.Vote.{Vote}
 use Rattle.raft_group_step.specs.Values.{has_id, vote_eq}
-use Rattle.raft_group_step.specs.Message.{MessageBody, VoteRequest, VoteReply, AppendRequest, AppendReply, SnapshotRequest, SnapshotReply, ReplyFields, ReplyResult, Success, Conflict, HigherVote}
+use Rattle.raft_group_step.specs.Message.{MessageBody, VoteRequest, VoteReply, AppendRequest, AppendReply, SnapshotRequest, SnapshotReply, ReplyFields, ReplyResult, Success, PartialSuccess, Conflict, HigherVote}
 use Rattle.raft_group_step.specs.Peer.{Outstanding, PeerState, is_answer_to, new_peer}
 use Rattle.raft_group_step.specs.GroupState.{GroupState, Lead, Leader, is_leader}
 use Rattle.raft_group_step.specs.GroupEvent.{GroupEvent, AddGroup, Call, Receive, Open}
 use Rattle.raft_group_step.specs.StepResult.{StepResult}
 use Rattle.raft_group_step.specs.Lead.{other_ids, peer_of}
 use Rattle.raft_group_step.specs.Frames.{lacks_entries}
-use Rattle.raft_group_step.specs.Reply.{after_answer, ended}
+use Rattle.raft_group_step.specs.Reply.{accepted_up_to, after_answer, ended, is_part_of}
 use Rattle.raft_group_step.specs.Refusal.{refusal_of}
 use Rattle.raft_group_step.specs.GroupStep.{event_step, finished, group_step, step_unless}
-use Rattle.raft_laws.proofs.StepCalls.{leads_on as leading}
+use Rattle.raft_group_step.proofs.Words.{leads_if}
 use Rattle.raft_laws.proofs.TrackReplies.{peer_of_is}
 use Rattle.raft_laws.proofs.VoteOrders.{differ_flags as never}
 use Rattle.raft_step_laws.specs.PeerStates.{keeps_its_lead, loses, peer_after_event, peer_after_message, peer_after_reply}
@@ -38,6 +38,10 @@ unchanged_from p = (λ o e. e, refl)
 
 answer_from : (p : PeerState) (m : ReplyFields) (o : ReplyResult) → FromPeer p (after_answer p m o)
 answer_from p m Success = (λ o e. absurd (let f : None ≡ Some o = e in cc), refl)
+answer_from p m (PartialSuccess last) =
+    cond_both (is_part_of p m last) (accepted_up_to last p) (ended p) (FromPeer p)
+    (λ t. (λ o e. absurd (let f : None ≡ Some o = e in cc), refl))
+    (λ t. (λ o e. absurd (let f : None ≡ Some o = e in cc), refl))
 answer_from p m Conflict = (λ o e. absurd (let f : None ≡ Some o = e in cc), refl)
 answer_from p m (HigherVote v) = (λ o e. absurd (let f : None ≡ Some o = e in cc), refl)
 
@@ -76,7 +80,7 @@ module _ (own : ℕ) (s : GroupState) (e : GroupEvent) (mine : HasItsOwnVote own
   since_before : (o : Outstanding) → (peer_of lead n).outstanding ≡ Some o → keeps_its_lead s e r.state ≡ true → (b : Bool) → is_leader s.role ≡ b → Since o
   since_before o f keeps false idle = never (keeps_its_lead s e r.state) keeps (keeps_none s e r.state idle)
   since_before o f keeps true leads =
-      let was = leading s.role leads in
+      let was = leads_if s.role leads in
       let p = peer_of was.0 n in
       let came = peer_after_event s e p in
       let from = event_from s e p in
@@ -112,7 +116,7 @@ module _ (own : ℕ) (s : GroupState) (e : GroupEvent) where
 
   requested : Requested end
   requested lead is n among lacks =
-      let a = leading q.state.role (sym (finished_adds own s.committed q).leads ∙ ap is_leader is) in
+      let a = leads_if q.state.role (sym (finished_adds own s.committed q).leads ∙ ap is_leader is) in
       let same : end.state.stored ≡ (settled own q).state.stored = (finished_sends own s.committed a.0 q a.1).stored in
       finished_serves own s.committed a.0 q a.1 n
       (ap (λ st. has_id (other_ids own st) n) (sym same) ∙ among)

@@ -13,7 +13,7 @@ use Rattle.raft_quorums.specs.Quorum.{is_quorum}
 use Rattle.raft_state.specs.declared.entry.EntryPayload.TheVariants.{Blank, Membership as Members}
 use Rattle.raft_group_step.specs.Values.{ChangeMembers, LoggedMembership, entry_of, has_id, is_written_by, vote_eq, vote_lt}
 use Rattle.raft_group_step.specs.StoredGroup.{Snapshot, PutEntries, entry_at, first_place, id_of, membership_in_force, snapshot_last}
-use Rattle.raft_group_step.specs.Message.{Message, MessageBody, VoteRequest, VoteReply, AppendRequest, AppendReply, SnapshotRequest, SnapshotReply, AppendFields, ReplyFields, ReplyResult, Success, Conflict, HigherVote}
+use Rattle.raft_group_step.specs.Message.{Message, MessageBody, VoteRequest, VoteReply, AppendRequest, AppendReply, SnapshotRequest, SnapshotReply, AppendFields, ReplyFields, ReplyResult, Success, PartialSuccess, Conflict, HigherVote}
 use Rattle.raft_group_step.specs.Peer.{is_answer_to, is_kept_for_peers}
 use Rattle.raft_group_step.specs.GroupState.{GroupState, Lead, Role, Follower, Candidate, Leader, Untold, is_leader}
 use Rattle.raft_group_step.specs.declared.group_call.GroupCall.TheVariants.{Initialize, Elect, Propose, ChangeMembership, Heartbeat, Lost, TriggerSnapshot, TriggerPurge}
@@ -34,16 +34,15 @@ use Rattle.raft_group_step.specs.SnapshotTrigger.{snapshot_of_applied, store_sna
 use Rattle.raft_group_step.specs.PurgeTrigger.{purge_as, purge_within}
 use Rattle.raft_group_step.specs.Refusal.{do_follow, has_known_snapshot, is_of_leader, is_settled_membership, is_sound, keep_voters, known_leader, reasons_of, reasons_of_call, refusal_of}
 use Rattle.raft_group_step.specs.GroupStep.{begun, call_step, event_step, finished, group_step, message_step, step_unless}
-use Rattle.raft_laws.proofs.StepCalls.{NoReason, no_reason, unless_none}
+use Rattle.raft_group_step.proofs.Words.{either, either_by, ask_state, installing_keeps_role, joined_keeps_role}
+use Rattle.raft_group_step.proofs.Refusals.{unless_none}
+use Rattle.raft_laws.proofs.StepCalls.{NoReason, no_reason}
 use Rattle.raft_laws.proofs.StepMessages.{message_passed, of_leader}
 use Rattle.raft_laws.proofs.StepTokens.{frames_same}
-use Rattle.raft_laws.proofs.StepWords.{either, either_by}
-use Rattle.raft_laws.proofs.TrackElections.{ask_state}
 use Rattle.raft_laws.proofs.VoteRanks.{same_vote}
 use Rattle.raft_laws.proofs.WorldLimits.{vote_itself}
 use Rattle.raft_laws.proofs.VoteOrders.{differ_flags as never}
 use Rattle.raft_step_laws.specs.Tokens.{HasItsOwnVote, OpensWithNone, TokensGo, TokensOfSteps, TokensWaitLeading, UntoldIsAbove, WaitsAbove, WaitsLeading, brought, is_due, leads_on, seeks_or_leads}
-use Rattle.raft_step_laws.proofs.Electing.{joined_role, unless_role}
 use Rattle.raft_step_laws.proofs.Sending.{finished_adds}
 use Rattle.raft_step_laws.proofs.Untold.{Without, counted_without, down_without, elect_without, finished_without, heard_without, joined_without, judged_without, offered_without, opening_without, reply_without, same_without, unless_without}
 
@@ -277,7 +276,7 @@ module _ (own : ℕ) (s : GroupState) (is : is_leader s.role ≡ true) where
         let way = gave_way a.vote mine other low in
         let b = is_held taken.state.stored taken.state.committed a.previous in
         over (joined_without (tokens_of s.untold) own peer a b taken way.tokens)
-        (not_leading s (joined own peer a b taken).state (ap is_leader (joined_role own peer a b taken ∙ way.follows)))
+        (not_leading s (joined own peer a b taken).state (ap is_leader (joined_keeps_role own peer a b taken ∙ way.follows)))
 
     offered_course : (v : Vote ℕ) (id : ℕ) (x : Snapshot) (b : Bool) → vote_lt v s.stored.vote ≡ b → s.stored.vote.leader_id.node_id ≡ own → (v.leader_id.node_id ≡ own → ⊥) → Course s e (offered own peer v id x b r)
     offered_course v id x true low mine other = sent_course peer _ r (stays_on now r refl (stays_refl r))
@@ -287,7 +286,7 @@ module _ (own : ℕ) (s : GroupState) (is : is_leader s.role ≡ true) where
         let b = is_within x.last.index taken.state.committed in
         sent_course peer _ (install_unless b x taken)
         (over (unless_without (tokens_of s.untold) b x taken way.tokens)
-        (not_leading s (install_unless b x taken).state (ap is_leader (unless_role b x taken ∙ way.follows))))
+        (not_leading s (install_unless b x taken).state (ap is_leader (installing_keeps_role b x taken ∙ way.follows))))
 
     -- a reply whose greater vote is taken over counts no more
     answered_course : (a : ReplyFields) (q : StepResult) → Course s e q → Course s e (answered peer a q.state.role q)
@@ -310,6 +309,7 @@ module _ (own : ℕ) (s : GroupState) (is : is_leader s.role ≡ true) where
 
     higher_course : (o : ReplyResult) → Course s e (with_higher_vote o r)
     higher_course Success = stays_on now r refl (stays_refl r)
+    higher_course (PartialSuccess last) = stays_on now r refl (stays_refl r)
     higher_course Conflict = stays_on now r refl (stays_refl r)
     higher_course (HigherVote v) = greater_course v
 

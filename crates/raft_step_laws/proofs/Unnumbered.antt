@@ -9,7 +9,7 @@ use Rattle.raft_quorums.specs.Quorum.{is_quorum}
 use Rattle.raft_state.specs.declared.entry.EntryPayload.TheVariants.{Blank, Membership as Members}
 use Rattle.raft_group_step.specs.Values.{ChangeMembers, Entry, LoggedMembership, entry_of, has_id, is_written_by, vote_eq, vote_lt}
 use Rattle.raft_group_step.specs.StoredGroup.{Snapshot, CutFrom, PutEntries, StartAfter, entry_at, first_place, has_id_in_log, id_of, membership_in_force, snapshot_last}
-use Rattle.raft_group_step.specs.Message.{MessageBody, VoteRequest, VoteReply, AppendRequest, AppendReply, SnapshotRequest, SnapshotReply, AppendFields, ReplyFields, ReplyResult, Success, Conflict, HigherVote}
+use Rattle.raft_group_step.specs.Message.{MessageBody, VoteRequest, VoteReply, AppendRequest, AppendReply, SnapshotRequest, SnapshotReply, AppendFields, ReplyFields, ReplyResult, Success, PartialSuccess, Conflict, HigherVote}
 use Rattle.raft_group_step.specs.Peer.{is_answer_to}
 use Rattle.raft_group_step.specs.GroupState.{GroupState, Lead, Role, Follower, Candidate, Leader, state_of}
 use Rattle.raft_group_step.specs.declared.group_call.GroupCall.TheVariants.{Initialize, Elect, Propose, ChangeMembership, Heartbeat, Lost, TriggerSnapshot, TriggerPurge}
@@ -29,7 +29,7 @@ use Rattle.raft_group_step.specs.SnapshotTrigger.{snapshot_of_applied, store_sna
 use Rattle.raft_group_step.specs.PurgeTrigger.{purge_as, purge_within}
 use Rattle.raft_group_step.specs.Opening.{drop_stale_log, is_joined_to, opening_step}
 use Rattle.raft_group_step.specs.GroupStep.{begun, call_step, event_step, message_step}
-use Rattle.raft_laws.proofs.StepWords.{either}
+use Rattle.raft_group_step.proofs.Words.{either}
 use Rattle.raft_step_laws.specs.Serving.{request_number}
 use Rattle.raft_step_laws.proofs.PeerLists.{AllUnnumbered, unnumbered_more}
 
@@ -134,6 +134,7 @@ answered_plain peer m (Leader lead) r h =
 
 higher_plain : (o : ReplyResult) (r : StepResult) → Plain r → Plain (with_higher_vote o r)
 higher_plain Success r h = h
+higher_plain (PartialSuccess last) r h = h
 higher_plain Conflict r h = h
 higher_plain (HigherVote v) r h = greater_plain v r h
 

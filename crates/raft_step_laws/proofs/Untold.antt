@@ -9,7 +9,7 @@ use Rattle.raft_state.specs.declared.entry.EntryPayload.TheVariants.{Blank}
 use Rattle.std.specs.List.{list_any}
 use Rattle.raft_group_step.specs.Values.{Entry, has_id, is_written_by, vote_eq, vote_lt}
 use Rattle.raft_group_step.specs.StoredGroup.{Snapshot, CutFrom, RemoveUpTo, SetSnapshot, StartAfter, entry_at, has_id_in_log, id_of, snapshot_last}
-use Rattle.raft_group_step.specs.Message.{AppendFields, ReplyFields, ReplyResult, Success, Conflict, HigherVote}
+use Rattle.raft_group_step.specs.Message.{AppendFields, ReplyFields, ReplyResult, Success, PartialSuccess, Conflict, HigherVote}
 use Rattle.raft_group_step.specs.Peer.{is_answer_to, is_kept_for_peers}
 use Rattle.raft_group_step.specs.GroupState.{GroupState, Role, Follower, Candidate, Leader, Untold, state_of}
 use Rattle.raft_group_step.specs.StepResult.{StepResult, append, apply_up_to, in_role, is_within, later_place, renew, step_down, store, store_vote, take_over, tokens_of, unchanged}
@@ -22,7 +22,7 @@ use Rattle.raft_group_step.specs.SnapshotRequest.{cut_other, install_unless, off
 use Rattle.raft_group_step.specs.Reply.{answered, reply_step, with_higher_vote}
 use Rattle.raft_group_step.specs.Opening.{drop_stale_log, is_joined_to, opening_step}
 use Rattle.raft_group_step.specs.GroupStep.{finished}
-use Rattle.raft_laws.proofs.StepWords.{either}
+use Rattle.raft_group_step.proofs.Words.{either}
 use Rattle.raft_laws.proofs.StepTokens.{frames_same}
 use Rattle.raft_step_laws.proofs.Sending.{finished_adds}
 
@@ -161,6 +161,7 @@ module _ (lost : List ℕ) where
 
   higher_without : (o : ReplyResult) (r : StepResult) → Without r → Without (with_higher_vote o r)
   higher_without Success r h = h
+  higher_without (PartialSuccess last) r h = h
   higher_without Conflict r h = h
   higher_without (HigherVote v) r h = greater_without v r h
 

@@ -6,7 +6,7 @@ use Rattle.raft_group_step.specs.Values.{Entry, EntryPayload, LoggedMembership, 
 use Rattle.raft_group_step.specs.StoredGroup.{Snapshot, StoredGroup, after_storing, end_place, first_place}
 use Rattle.raft_group_step.specs.StoredGroup.{StoringCommand, MakeGroup, SetVote, PutEntries, CutFrom, RemoveUpTo, SetSnapshot, StartAfter}
 use Rattle.raft_group_step.specs.Message.{AppendFields, Message, MessageBody, VoteRequest, VoteReply, AppendRequest, AppendReply, SnapshotRequest, SnapshotReply}
-use Rattle.raft_group_step.specs.Message.{Conflict, Numbered, ReplyFields}
+use Rattle.raft_group_step.specs.Message.{Conflict, HigherVote, Numbered, PartialSuccess, ReplyFields, ReplyResult, Success}
 use Rattle.raft_group_step.specs.GroupState.{GroupState}
 use Rattle.raft_group_step.specs.GroupEvent.{GroupEvent, AddGroup, Call, Receive, Open}
 use Rattle.raft_group_step.specs.StepResult.{StepResult}
@@ -56,18 +56,26 @@ pub record FitsRequest (m : AppendFields) : Type 0 where
   pub entries : FitEntries m.entries
   pub placed : ArePlacedFrom (next_place m.previous) m.entries
 
--- the reply to a snapshot has its request's number and no previous log id, and tells of no conflict
+-- the reply tells of no part of its request: a partial success is read, and never sent
+abbrev pub IsWhole : ReplyResult → Type 0
+IsWhole Success = Unit {0}
+IsWhole (PartialSuccess last) = ⊥
+IsWhole Conflict = Unit {0}
+IsWhole (HigherVote vote) = Unit {0}
+
+-- the reply to a snapshot has its request's number and no previous log id, and tells of no conflict and of no part
 pub record FitsSnapshotReply (m : ReplyFields) : Type 0 where
   pub number : ℕ
   pub numbered : m.id ≡ Numbered number
   pub previous : m.previous ≡ None
   pub agrees : m.outcome ≡ Conflict → ⊥
+  pub whole : IsWhole m.outcome
 
 abbrev pub FitsBody : MessageBody → Type 0
 FitsBody (VoteRequest vote last) = Unit {0}
 FitsBody (VoteReply vote granted last) = Unit {0}
 FitsBody (AppendRequest m) = FitsRequest m
-FitsBody (AppendReply m) = Unit {0}
+FitsBody (AppendReply m) = IsWhole m.outcome
 FitsBody (SnapshotRequest vote id snapshot) = FitsSnapshot snapshot
 FitsBody (SnapshotReply m) = FitsSnapshotReply m
 
@@ -87,10 +95,9 @@ ComesWithin s Open = Unit {0}
 
 -- ---- what is stored
 
--- at most 64 entries are put, at their places, inside the log or right behind it
+-- at most 64 entries are put, at their places, right behind the log: so a put never shortens it
 pub record FitsPut (s : StoredGroup) (place : ℕ) (es : List Entry) : Type 0 where
-  pub above : first_place s ≤ place
-  pub within : place ≤ end_place s
+  pub at_end : place ≡ end_place s
   pub count : length es ≤ 64
   pub entries : FitEntries es
   pub placed : ArePlacedFrom place es

@@ -6,7 +6,7 @@ ghost use Rattle.raft_values.specs.LogId.{log_id_of};
 ghost use Rattle.raft_values.specs.Vote.{vote_of};
 ghost use Rattle.raft_state.specs.declared.entry.EntryPayload.TheVariants.{Membership as Members, Normal};
 ghost use Rattle.raft_group_step.specs.GroupEvent.{Open};
-ghost use Rattle.raft_group_step.specs.Message.{Conflict, HeartBeat, HigherVote, Numbered, SnapshotReply, Success};
+ghost use Rattle.raft_group_step.specs.Message.{AppendReply, Conflict, HeartBeat, HigherVote, Numbered, PartialSuccess, SnapshotReply, Success};
 ghost use Rattle.raft_group_step.specs.StoredGroup.{CutFrom, PutEntries, RemoveUpTo};
 ghost use Rattle.raft_group_step.specs.StepExample.{blank_at, with_log};
 ghost use Rattle.raft_step_laws.specs.Fitting.{AllFit, ArePlacedFrom, ComesWithin, FitsBody, FitsPayload, FitsRequest, FitsSnapshot};
@@ -15,8 +15,8 @@ ghost use Rattle.raft_step_laws.specs.FittingRows.{behind_a_purge, blanks_from, 
 
 /// Where what a node has fits, and what comes to it, so does what a step stores and sends, and what is left of it at its end or
 /// after a stop. A command has at most 65,536 bytes, a membership is within its limits. A request has at most 64 entries, which
-/// follow the previous one. A snapshot's reply has a number and no previous log id. At most 64 entries are put at a time, at their places, inside the log or right behind it; the log
-/// is cut inside, and its front never comes back.
+/// follow the previous one. A snapshot's reply has a number and no previous log id. At most 64 entries are put at a time, at their
+/// places, right behind the log; the log is cut inside, and its front never comes back.
 pub fn steps_fit()
     ensures { StepsFit }
 {}
@@ -47,19 +47,19 @@ pub fn snapshot_replies_that_fit()
     ensures notice { FitsSnapshotReply (reply HeartBeat None Success) → ⊥ }
     ensures previous { FitsSnapshotReply (reply (Numbered 3) (Some (log_id_of 1 1 1)) Success) → ⊥ }
     ensures conflict { FitsSnapshotReply (reply (Numbered 3) None Conflict) → ⊥ }
+    ensures part { FitsBody (AppendReply (reply (Numbered 3) None (PartialSuccess (Some (log_id_of 1 1 1))))) → ⊥ }
     ensures body { FitsBody (SnapshotReply (reply (Numbered 3) None Conflict)) → ⊥ }
 {}
 
-/// Entries are put inside the log or right behind it, at their places; the log is cut where it has an entry, and its front
-/// never comes back.
+/// Entries are put right behind the log, at their places; the log is cut where it has an entry, and its front never comes back.
 pub fn commands_that_fit()
     ensures behind { FitsStoring behind_a_purge (PutEntries 4 (blank_at 4 ∷ [])) }
-    ensures inside { FitsStoring behind_a_purge (PutEntries 3 (blank_at 3 ∷ [])) }
+    ensures inside { FitsStoring behind_a_purge (PutEntries 3 (blank_at 3 ∷ [])) → ⊥ }
     ensures gap { FitsStoring behind_a_purge (PutEntries 5 (blank_at 5 ∷ [])) → ⊥ }
     ensures purged { FitsStoring behind_a_purge (PutEntries 1 (blank_at 1 ∷ [])) → ⊥ }
-    ensures elsewhere { FitsStoring behind_a_purge (PutEntries 3 (blank_at 4 ∷ [])) → ⊥ }
-    ensures many { FitsStoring behind_a_purge (PutEntries 2 (blanks_from 2 65)) → ⊥ }
-    ensures wide { FitsStoring behind_a_purge (PutEntries 2 (record (blank_at 2) { payload = Members (groups 9) } ∷ [])) → ⊥ }
+    ensures elsewhere { FitsStoring behind_a_purge (PutEntries 4 (blank_at 5 ∷ [])) → ⊥ }
+    ensures many { FitsStoring behind_a_purge (PutEntries 4 (blanks_from 4 65)) → ⊥ }
+    ensures wide { FitsStoring behind_a_purge (PutEntries 4 (record (blank_at 4) { payload = Members (groups 9) } ∷ [])) → ⊥ }
     ensures cut { FitsStoring behind_a_purge (CutFrom 3) }
     ensures cut_behind { FitsStoring behind_a_purge (CutFrom 4) → ⊥ }
     ensures cut_before { FitsStoring behind_a_purge (CutFrom 1) → ⊥ }

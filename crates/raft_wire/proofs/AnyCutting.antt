@@ -14,13 +14,10 @@ use Rattle.raft_wire.specs.Frames.{rest_at}
 use Rattle.raft_wire.specs.Stream.{Judged, Feeding, fresh, stopped, holding, Answers, length_in, fault_of_length, judged_frame, judged_length, judged, front}
 use Rattle.raft_wire.specs.Cuts.{Says, Call, Runs, taken_by, said_first, said_by, CallsSayTheStream, StreamsSayOneThing, CutsDontMatter}
 use Rattle.raft_wire.proofs.Streams.{has_length, empty_waits}
-use Rattle.raft_wire.proofs.Fronts.{same_judged, length_found}
+use Rattle.raft_wire.proofs.Fronts.{same_judged, length_found, some_judged}
 use Rattle.raft_wire.proofs.StreamProofs.{stays, some_none, frame_waits, long_enough}
 
 -- ---- what is found is found in just the bytes that it takes
-
-abbrev judged_of : Result Frame FrameFault → ℕ → Option Judged
-judged_of r k = Some (r, k)
 
 abbrev number_in : List ℕ → Option ℕ
 number_in l = Some (from_be_bytes w32 l)
@@ -31,7 +28,7 @@ length_taken s t n some le h =
     let same : take 4 (take t s) ≡ take 4 s = take-take 4 t s some in
     long_enough (take t s) long ∙ ap (λ (l : List ℕ). number_in l) same ∙ sym (long_enough s (omega arith)) ∙ h
 
-frame_judged_so : (s : List ℕ) (n : ℕ) → n + 4 ≤ length s → judged_frame s n ≡ judged_of (all_of rest_at (take n (drop 4 s))) (n + 4)
+frame_judged_so : (s : List ℕ) (n : ℕ) → n + 4 ≤ length s → judged_frame s n ≡ some_judged (all_of rest_at (take n (drop 4 s))) (n + 4)
 frame_judged_so s n le = let b : ltb (length s) (n + 4) ≡ false = le-ltb _ _ le in rw b refl
 
 frame_within : (s : List ℕ) (n : ℕ) (r : Result Frame FrameFault) (t : ℕ) → n + 4 ≤ length s → judged_frame s n ≡ Some (r, t) → (t ≡ n + 4) × (t ≤ length s) × (judged_frame (take t s) n ≡ Some (r, t))
@@ -42,7 +39,7 @@ frame_within s n r t le h =
     let four : 4 + n ≡ t = omega arith in
     let bytes : take n (drop 4 (take t s)) ≡ take n (drop 4 s) =
     ap (λ (k : ℕ). take n (drop 4 (take k s))) (sym four) ∙ ap (take n) (drop-take 4 n s) ∙ take-take n n (drop 4 s) (omega arith) in
-    (sym t_is, omega arith, frame_judged_so (take t s) n (omega arith) ∙ ap (λ (l : List ℕ). judged_of (all_of rest_at l) (n + 4)) bytes ∙ sym (frame_judged_so s n le) ∙ h)
+    (sym t_is, omega arith, frame_judged_so (take t s) n (omega arith) ∙ ap (λ (l : List ℕ). some_judged (all_of rest_at l) (n + 4)) bytes ∙ sym (frame_judged_so s n le) ∙ h)
 
 frame_taken : (s : List ℕ) (n : ℕ) (r : Result Frame FrameFault) (t : ℕ) → judged_frame s n ≡ Some (r, t) → (t ≡ n + 4) × (t ≤ length s) × (judged_frame (take t s) n ≡ Some (r, t))
 frame_taken s n r t h = elim (cases_lt (length s) (n + 4)) [

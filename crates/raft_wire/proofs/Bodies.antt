@@ -11,7 +11,7 @@ use Rattle.raft_messages.specs.declared.memberships.SnapshotBytes.{SnapshotBytes
 use Rattle.raft_messages.specs.declared.message.RequestId.{RequestId}
 use Rattle.raft_messages.specs.declared.message.RequestId.TheVariants.{HeartBeat, Numbered}
 use Rattle.raft_messages.specs.declared.message.ReplyResult.{ReplyResult}
-use Rattle.raft_messages.specs.declared.message.ReplyResult.TheVariants.{Success, Conflict, HigherVote}
+use Rattle.raft_messages.specs.declared.message.ReplyResult.TheVariants.{Success, PartialSuccess, Conflict, HigherVote}
 use Rattle.raft_messages.specs.declared.message.AppendFields.{AppendFields}
 use Rattle.raft_messages.specs.declared.message.ReplyFields.{ReplyFields}
 use Rattle.raft_wire.specs.declared.error.FrameFault.{FrameFault}
@@ -25,7 +25,8 @@ use Rattle.raft_wire.specs.Bodies.{number_of_id, id_of_number, spelled_id, FitsI
 use Rattle.raft_wire.specs.Bodies.{spelled_result, FitsResult, higher_vote, result_at, spelled_reply, FitsReply, reply_of, reply_at}
 use Rattle.raft_wire.specs.Bodies.{has_number, is_conflict, FitsSnapshotReply, none_at, numbered_at, snapshot_result_at, snapshot_reply_at}
 use Rattle.raft_wire.specs.Bodies.{spelled_logged, FitsLogged, logged_of, logged_at, spelled_snapshot, FitsSnapshot, snapshot_of, snapshot_at, SentSnapshot, spelled_sent, FitsSent, sent_of, sent_at}
-use Rattle.raft_wire.proofs.Numbers.{IsBytes, IsBytes-rest, bind_ok, ok_is, Takes, Takes-behind}
+use Rattle.raft_bytes.specs.Bytes.{AreBytes}
+use Rattle.raft_bytes.proofs.Bytes.{AreBytes-rest, bind_ok, ok_is, Takes, Takes-behind}
 use Rattle.raft_wire.proofs.Fitting.{Reads, fits_as, both_reads, made_reads, tested_reads, u64_reads, flag_reads, Anything, option_reads, text_reads}
 use Rattle.raft_wire.proofs.Lists.{counted_reads}
 use Rattle.raft_wire.proofs.Values.{vote_reads, log_id_reads, last_reads, membership_reads, entry_reads}
@@ -44,12 +45,12 @@ module _ {A : Type 0} (mark : ℕ) (reader : Reader A) (spelled : A → List ℕ
   passed_then true d x y e = (refl, e)
   passed_then false d x y e = absurd cc
 
-  marked_takes : (bytes : List ℕ) (x : A × List ℕ) → IsBytes bytes → marked_at mark reader bytes ≡ Ok x → Takes bytes (mark ∷ spelled x.0) x.1 × F x.0
+  marked_takes : (bytes : List ℕ) (x : A × List ℕ) → AreBytes bytes → marked_at mark reader bytes ≡ Ok x → Takes bytes (mark ∷ spelled x.0) x.1 × F x.0
   unfolding marked_at
   marked_takes [] x fits e = absurd cc
   marked_takes (b ∷ bytes) x fits e =
       let g = passed_then (eqb b mark) fault.BadTag (reader bytes) x e in
-      let t = r.takes bytes x.0 x.1 (IsBytes-rest b bytes fits) g.1 in
+      let t = r.takes bytes x.0 x.1 (AreBytes-rest b bytes fits) g.1 in
       let same : b ≡ mark = eqb-true _ _ g.0 in
       (subst (λ (m : ℕ). Takes (b ∷ bytes) (m ∷ spelled x.0) x.1) same (Takes-behind b bytes (spelled x.0) x.1 t.0), t.1)
 
@@ -132,20 +133,21 @@ append_reads =
     (λ (m : AppendFields). FitsVote m.vote × (FitsId m.id × (FitsLast m.previous × (FitsLast m.committed × ((length m.entries ≤ 64) × Chained FitsBehind that_place None m.entries))))) FitsAppend whole
     (λ m h. record { vote = h.0; id = h.1.0; previous = h.1.1.0; committed = h.1.1.1.0; count = h.1.1.1.1.0; entries = h.1.1.1.1.1 }) (λ m h. (h.vote, (h.id, (h.previous, (h.committed, (h.count, h.entries))))))
 
-result_takes : (bytes : List ℕ) (x : ReplyResult × List ℕ) → IsBytes bytes → result_at bytes ≡ Ok x → Takes bytes (spelled_result x.0) x.1 × FitsResult x.0
+result_takes : (bytes : List ℕ) (x : ReplyResult × List ℕ) → AreBytes bytes → result_at bytes ≡ Ok x → Takes bytes (spelled_result x.0) x.1 × FitsResult x.0
 unfolding result_at
 result_takes [] x fits e = absurd cc
-result_takes (zero ∷ bytes) x fits e = subst (λ (y : ReplyResult × List ℕ). Takes (0 ∷ bytes) (spelled_result y.0) y.1 × FitsResult y.0) (ok_is (Success, bytes) x e) (record { parts = refl; rest_fits = IsBytes-rest 0 bytes fits }, tt)
-result_takes (suc zero ∷ bytes) x fits e = subst (λ (y : ReplyResult × List ℕ). Takes (1 ∷ bytes) (spelled_result y.0) y.1 × FitsResult y.0) (ok_is (Conflict, bytes) x e) (record { parts = refl; rest_fits = IsBytes-rest 1 bytes fits }, tt)
+result_takes (zero ∷ bytes) x fits e = subst (λ (y : ReplyResult × List ℕ). Takes (0 ∷ bytes) (spelled_result y.0) y.1 × FitsResult y.0) (ok_is (Success, bytes) x e) (record { parts = refl; rest_fits = AreBytes-rest 0 bytes fits }, tt)
+result_takes (suc zero ∷ bytes) x fits e = subst (λ (y : ReplyResult × List ℕ). Takes (1 ∷ bytes) (spelled_result y.0) y.1 × FitsResult y.0) (ok_is (Conflict, bytes) x e) (record { parts = refl; rest_fits = AreBytes-rest 1 bytes fits }, tt)
 result_takes (suc (suc zero) ∷ bytes) x fits e =
     let a = bind_ok (vote_at bytes) (λ a. Ok (higher_vote a.0, a.1)) x e in
-    let t = vote_reads.takes bytes a.0.0 a.0.1 (IsBytes-rest 2 bytes fits) a.1 in
+    let t = vote_reads.takes bytes a.0.0 a.0.1 (AreBytes-rest 2 bytes fits) a.1 in
     subst (λ (y : ReplyResult × List ℕ). Takes (2 ∷ bytes) (spelled_result y.0) y.1 × FitsResult y.0) (ok_is (HigherVote a.0.0, a.0.1) x a.2) (Takes-behind 2 bytes (spelled_vote a.0.0) a.0.1 t.0, t.1)
 result_takes (suc (suc (suc b)) ∷ bytes) x fits e = absurd cc
 
 result_again : (r : ReplyResult) (rest : List ℕ) → FitsResult r → result_at (spelled_result r ++ rest) ≡ Ok (r, rest)
 unfolding result_at
 result_again Success rest h = refl
+result_again (PartialSuccess last) rest h = absurd h
 result_again Conflict rest h = refl
 result_again (HigherVote vote) rest h = rw (vote_reads.again vote rest h) refl
 
@@ -171,11 +173,11 @@ reply_reads =
 abbrev IsNone : Option (LogId ℕ) → Type 0
 IsNone last = is_none last ≡ true
 
-none_takes : (bytes : List ℕ) (x : Option (LogId ℕ) × List ℕ) → IsBytes bytes → none_at bytes ≡ Ok x → Takes bytes (spelled_last x.0) x.1 × IsNone x.0
+none_takes : (bytes : List ℕ) (x : Option (LogId ℕ) × List ℕ) → AreBytes bytes → none_at bytes ≡ Ok x → Takes bytes (spelled_last x.0) x.1 × IsNone x.0
 unfolding none_at
 none_takes [] x fits e = absurd cc
 none_takes (zero ∷ bytes) x fits e =
-    subst (λ (y : Option (LogId ℕ) × List ℕ). Takes (0 ∷ bytes) (spelled_last y.0) y.1 × IsNone y.0) (ok_is (None, bytes) x e) (record { parts = refl; rest_fits = IsBytes-rest 0 bytes fits }, refl)
+    subst (λ (y : Option (LogId ℕ) × List ℕ). Takes (0 ∷ bytes) (spelled_last y.0) y.1 × IsNone y.0) (ok_is (None, bytes) x e) (record { parts = refl; rest_fits = AreBytes-rest 0 bytes fits }, refl)
 none_takes (suc b ∷ bytes) x fits e = absurd cc
 
 none_again : (last : Option (LogId ℕ)) (rest : List ℕ) → IsNone last → none_at (spelled_last last ++ rest) ≡ Ok (last, rest)

@@ -1,5 +1,5 @@
 -- What a feeder holds and answers.
-use Rattle.std.proofs.Common.{◌≡◌, ℕ, zero, suc, ◌+◌, ◌<◌, ◌≤◌, true, false, cond, ltb, Bool, List, [], ◌∷◌, ◌++◌, length, Option, Some, None, Result, Ok, Err, refl, sym, ap, subst, ◌∙◌, arith, inl, inr, length-append}
+use Rattle.std.proofs.Common.{◌≡◌, ℕ, ◌+◌, ◌<◌, ◌≤◌, true, false, cond, ltb, Bool, List, [], ◌++◌, length, Option, Some, None, Result, Ok, Err, refl, sym, ap, subst, ◌∙◌, arith, inl, inr, length-append}
 use Rattle.std.specs.Prelude.{IsOk, is_ok}
 use Rattle.std.proofs.lemmas.Bool.{cases_lt, ltb-false}
 use Rattle.std.proofs.Math.Seq.{take-append-add}
@@ -7,7 +7,9 @@ use Rattle.raft_wire.specs.declared.error.FrameFault.TheVariants as fault
 use Rattle.raft_wire.specs.declared.error.FrameError.{FrameError}
 use Rattle.raft_wire.specs.declared.error.FrameError.TheVariants as errors
 use Rattle.raft_wire.specs.declared.frame.Frame.{Frame}
-use Rattle.raft_wire.specs.Stream.{AreBytes, length_in, fault_of_length, IsIdleSmall, HoldsRightly, IsSpelledSo}
+use Rattle.raft_bytes.specs.Bytes.{AreBytes}
+use Rattle.raft_bytes.proofs.Bytes.{AreBytes-joined}
+use Rattle.raft_wire.specs.Stream.{length_in, fault_of_length, IsIdleSmall, HoldsRightly, IsSpelledSo}
 use Rattle.raft_wire.specs.Wanted.{Takes}
 use Rattle.raft_wire.proofs.Streams.{not_there, empty_waits, still_waits}
 use Rattle.raft_wire.proofs.StreamProofs.{long_enough}
@@ -31,16 +33,11 @@ no_length_yet s h = elim (cases_lt (length s) 4) [
 
 -- ---- what is held
 
-bytes_joined : (a b : List ℕ) → AreBytes a → AreBytes b → AreBytes (a ++ b)
-bytes_joined [] b ha hb i = hb i
-bytes_joined (x ∷ a) b ha hb zero = ha 0
-bytes_joined (x ∷ a) b ha hb (suc i) = bytes_joined a b (λ j. ha (suc j)) hb i
-
 pub no_bytes : (s : List ℕ) → s ≡ [] → AreBytes s
 no_bytes s e = subst AreBytes (sym e) (λ i. omega arith)
 
 still_bytes : (held piece : List ℕ) (used : ℕ) (answer : Result (Option Frame) FrameError) (new : List ℕ) → AreBytes held → AreBytes piece → Takes held piece used answer new → AreBytes new
-still_bytes held piece used (Ok None) new a b t = subst AreBytes (sym t.2) (bytes_joined held piece a b)
+still_bytes held piece used (Ok None) new a b t = subst AreBytes (sym t.2) (AreBytes-joined held piece a b)
 still_bytes held piece used (Ok (Some frame)) new a b t = no_bytes new t.2
 still_bytes held piece used (Err (errors.Fault why)) new a b t = no_bytes new t.2
 still_bytes held piece used (Err errors.StreamFailed) new a b t = absurd t
@@ -65,6 +62,6 @@ module _ (held piece : List ℕ) (used : ℕ) (answer : Result (Option Frame) Fr
 pub spelled_so : (held piece : List ℕ) (used : ℕ) (answer : Result (Option Frame) FrameError) (new : List ℕ) → AreBytes held → AreBytes piece → Takes held piece used answer new → IsSpelledSo held piece used answer
 spelled_so held piece used (Ok None) new a b t = tt
 spelled_so held piece used (Ok (Some frame)) new a b t =
-    let found = front_found (held ++ piece) frame (length held + used) (bytes_joined held piece a b) t.0 in
+    let found = front_found (held ++ piece) frame (length held + used) (AreBytes-joined held piece a b) t.0 in
     (found.0, sym (take-append-add held piece used) ∙ found.1)
 spelled_so held piece used (Err why) new a b t = tt

@@ -10,10 +10,12 @@ use Rattle.raft_wire.specs.declared.error.FrameFault.TheVariants as fault
 use Rattle.raft_wire.specs.Reader.{Reader, ◌>>=◌, both, made, tested, number_at, piece_at, count_at, text_at}
 use Rattle.raft_wire.specs.Fields.{spelled_flag, flag_at, spelled_option, option_at}
 use Rattle.raft_wire.specs.Entries.{spelled_text}
-use Rattle.raft_wire.proofs.Numbers.{IsBytes, IsBytes-drop, IsBytes-rest, bind_ok, guard_ok, passed_ok, ok_is, Takes, Takes-then, Takes-behind, IsWide, wide32, wide64, number_takes, number_again}
+use Rattle.raft_bytes.specs.Bytes.{AreBytes}
+use Rattle.raft_bytes.proofs.Bytes.{AreBytes-drop, AreBytes-rest, bind_ok, guard_ok, passed_ok, ok_is, Takes, Takes-then, Takes-behind}
+use Rattle.raft_bytes.proofs.Numbers.{IsWide, number_again, number_takes, wide32, wide64}
 
 pub record Reads {A : Type 0} (reader : Reader A) (spelled : A → List ℕ) (Fits : A → Type 0) : Type 0 where
-  pub takes : (bytes : List ℕ) (a : A) (rest : List ℕ) → IsBytes bytes → reader bytes ≡ Ok (a, rest) → Takes bytes (spelled a) rest × Fits a
+  pub takes : (bytes : List ℕ) (a : A) (rest : List ℕ) → AreBytes bytes → reader bytes ≡ Ok (a, rest) → Takes bytes (spelled a) rest × Fits a
   pub again : (a : A) (rest : List ℕ) → Fits a → reader (spelled a ++ rest) ≡ Ok (a, rest)
 
 -- the same reader and spelling, with another word for what fits
@@ -62,8 +64,8 @@ tested_reads {A} wrong test reader spelled F r = record {
 
 pub number_reads : (w : Width) (limit : ℕ) → IsWide w limit → Reads (number_at w) (to_be_bytes w) (λ n. n < limit)
 number_reads w limit wide = record {
-  takes = λ bytes n rest fits e. number_takes w limit wide bytes n rest fits e;
-  again = λ n rest h. number_again w limit wide n rest h;
+  takes = λ bytes n rest fits e. number_takes fault.CutShort w limit wide bytes n rest fits e;
+  again = λ n rest h. number_again fault.CutShort w limit wide n rest h;
 }
 
 pub u64_reads : Reads (number_at w64) (to_be_bytes w64) (λ n. n < 2 ^ 64)
@@ -71,11 +73,11 @@ u64_reads = number_reads w64 (2 ^ 64) wide64
 
 -- ---- tags
 
-flag_takes : (bytes : List ℕ) (x : Bool × List ℕ) → IsBytes bytes → flag_at bytes ≡ Ok x → Takes bytes (spelled_flag x.0) x.1
+flag_takes : (bytes : List ℕ) (x : Bool × List ℕ) → AreBytes bytes → flag_at bytes ≡ Ok x → Takes bytes (spelled_flag x.0) x.1
 unfolding flag_at
 flag_takes [] x fits e = absurd cc
-flag_takes (zero ∷ bytes) x fits e = subst (λ (y : Bool × List ℕ). Takes (0 ∷ bytes) (spelled_flag y.0) y.1) (ok_is (false, bytes) x e) (record { parts = refl; rest_fits = IsBytes-rest 0 bytes fits })
-flag_takes (suc zero ∷ bytes) x fits e = subst (λ (y : Bool × List ℕ). Takes (1 ∷ bytes) (spelled_flag y.0) y.1) (ok_is (true, bytes) x e) (record { parts = refl; rest_fits = IsBytes-rest 1 bytes fits })
+flag_takes (zero ∷ bytes) x fits e = subst (λ (y : Bool × List ℕ). Takes (0 ∷ bytes) (spelled_flag y.0) y.1) (ok_is (false, bytes) x e) (record { parts = refl; rest_fits = AreBytes-rest 0 bytes fits })
+flag_takes (suc zero ∷ bytes) x fits e = subst (λ (y : Bool × List ℕ). Takes (1 ∷ bytes) (spelled_flag y.0) y.1) (ok_is (true, bytes) x e) (record { parts = refl; rest_fits = AreBytes-rest 1 bytes fits })
 flag_takes (suc (suc b) ∷ bytes) x fits e = absurd cc
 
 flag_again : (flag : Bool) (rest : List ℕ) → flag_at (spelled_flag flag ++ rest) ≡ Ok (flag, rest)
@@ -93,14 +95,14 @@ flag_reads = record {
 }
 
 module _ {A : Type 0} (reader : Reader A) (spelled : A → List ℕ) (F : A → Type 0) (r : Reads reader spelled F) where
-  option_takes : (bytes : List ℕ) (x : Option A × List ℕ) → IsBytes bytes → option_at reader bytes ≡ Ok x → Takes bytes (spelled_option spelled x.0) x.1 × IfSome x.0 F
+  option_takes : (bytes : List ℕ) (x : Option A × List ℕ) → AreBytes bytes → option_at reader bytes ≡ Ok x → Takes bytes (spelled_option spelled x.0) x.1 × IfSome x.0 F
   unfolding option_at
   option_takes [] x fits e = absurd cc
   option_takes (zero ∷ bytes) x fits e =
-      subst (λ (y : Option A × List ℕ). Takes (0 ∷ bytes) (spelled_option spelled y.0) y.1 × IfSome y.0 F) (ok_is (None, bytes) x e) (record { parts = refl; rest_fits = IsBytes-rest 0 bytes fits }, tt)
+      subst (λ (y : Option A × List ℕ). Takes (0 ∷ bytes) (spelled_option spelled y.0) y.1 × IfSome y.0 F) (ok_is (None, bytes) x e) (record { parts = refl; rest_fits = AreBytes-rest 0 bytes fits }, tt)
   option_takes (suc zero ∷ bytes) x fits e =
       let a = bind_ok (reader bytes) (λ a. Ok (Some a.0, a.1)) x e in
-      let t = r.takes bytes a.0.0 a.0.1 (IsBytes-rest 1 bytes fits) a.1 in
+      let t = r.takes bytes a.0.0 a.0.1 (AreBytes-rest 1 bytes fits) a.1 in
       subst (λ (y : Option A × List ℕ). Takes (1 ∷ bytes) (spelled_option spelled y.0) y.1 × IfSome y.0 F) (ok_is (Some a.0.0, a.0.1) x a.2) (Takes-behind 1 bytes (spelled a.0.0) a.0.1 t.0, t.1)
   option_takes (suc (suc b) ∷ bytes) x fits e = absurd cc
 
@@ -117,12 +119,12 @@ module _ {A : Type 0} (reader : Reader A) (spelled : A → List ℕ) (F : A → 
 
 -- ---- lengths
 
-pub piece_takes : (n : ℕ) (bytes : List ℕ) (x : List ℕ × List ℕ) → IsBytes bytes → piece_at n bytes ≡ Ok x → Takes bytes x.0 x.1 × (length x.0 ≡ n)
+pub piece_takes : (n : ℕ) (bytes : List ℕ) (x : List ℕ × List ℕ) → AreBytes bytes → piece_at n bytes ≡ Ok x → Takes bytes x.0 x.1 × (length x.0 ≡ n)
 unfolding piece_at
 piece_takes n bytes x fits e =
     let g = guard_ok (ltb (length bytes) n) fault.CutShort (take n bytes, drop n bytes) x e in
     let long : n ≤ length bytes = ltb-false _ _ g.0 in
-    subst (λ (y : List ℕ × List ℕ). Takes bytes y.0 y.1 × (length y.0 ≡ n)) g.1 (record { parts = sym (take-append-drop n bytes); rest_fits = IsBytes-drop n bytes fits }, omega (arith, length-take n bytes))
+    subst (λ (y : List ℕ × List ℕ). Takes bytes y.0 y.1 × (length y.0 ≡ n)) g.1 (record { parts = sym (take-append-drop n bytes); rest_fits = AreBytes-drop n bytes fits }, omega (arith, length-take n bytes))
 
 pub piece_again : (piece rest : List ℕ) → piece_at (length piece) (piece ++ rest) ≡ Ok (piece, rest)
 unfolding piece_at
@@ -130,12 +132,12 @@ piece_again piece rest =
     let long : ltb (length (piece ++ rest)) (length piece) ≡ false = le-ltb _ _ (omega (arith, length-append piece rest)) in
     rw (long, take_at piece rest (length piece) refl, drop_at piece rest (length piece) refl) refl
 
-pub count_takes : (limit : ℕ) (bytes : List ℕ) (x : ℕ × List ℕ) → IsBytes bytes → count_at limit bytes ≡ Ok x → Takes bytes (to_be_bytes w32 x.0) x.1 × (x.0 ≤ limit)
+pub count_takes : (limit : ℕ) (bytes : List ℕ) (x : ℕ × List ℕ) → AreBytes bytes → count_at limit bytes ≡ Ok x → Takes bytes (to_be_bytes w32 x.0) x.1 × (x.0 ≤ limit)
 unfolding count_at
 count_takes limit bytes x fits e =
     let a = bind_ok (number_at w32 bytes) (λ n. cond (ltb limit n.0) (Err fault.TooLong) (Ok n)) x e in
     let g = guard_ok (ltb limit a.0.0) fault.TooLong a.0 x a.2 in
-    let t = number_takes w32 (2 ^ 32) wide32 bytes a.0.0 a.0.1 fits a.1 in
+    let t = number_takes fault.CutShort w32 (2 ^ 32) wide32 bytes a.0.0 a.0.1 fits a.1 in
     let short : a.0.0 ≤ limit = ltb-false _ _ g.0 in
     subst (λ (y : ℕ × List ℕ). Takes bytes (to_be_bytes w32 y.0) y.1 × (y.0 ≤ limit)) g.1 (t.0, short)
 
@@ -143,9 +145,9 @@ pub count_again : (limit n : ℕ) (rest : List ℕ) → limit < 2 ^ 32 → n ≤
 unfolding count_at
 count_again limit n rest small le =
     let short : ltb limit n ≡ false = le-ltb _ _ le in
-    rw (number_again w32 (2 ^ 32) wide32 n rest (omega arith), short) refl
+    rw (number_again fault.CutShort w32 (2 ^ 32) wide32 n rest (omega arith), short) refl
 
-text_takes : (limit : ℕ) (bytes : List ℕ) (x : List ℕ × List ℕ) → IsBytes bytes → text_at limit bytes ≡ Ok x → Takes bytes (spelled_text x.0) x.1 × (length x.0 ≤ limit)
+text_takes : (limit : ℕ) (bytes : List ℕ) (x : List ℕ × List ℕ) → AreBytes bytes → text_at limit bytes ≡ Ok x → Takes bytes (spelled_text x.0) x.1 × (length x.0 ≤ limit)
 unfolding text_at
 text_takes limit bytes x fits e =
     let n = bind_ok (count_at limit bytes) (λ n. piece_at n.0 n.1) x e in

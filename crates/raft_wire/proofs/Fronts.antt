@@ -1,9 +1,9 @@
 -- What stands at the front of a stream, and the spelling of frames.
-use Rattle.std.proofs.Common.{◌≡◌, ℕ, ◌+◌, ◌≤◌, Bool, true, false, not, ◌&&◌, cond, ltb, nat_le, List, [], ◌∷◌, ◌++◌, length, take, drop, Option, Some, None, Result, Ok, Err, refl, sym, ap, ◌∙◌, append_assoc, arith, length-append}
+use Rattle.std.proofs.Common.{◌≡◌, ℕ, ◌+◌, ◌≤◌, Bool, true, false, not, cond, ltb, nat_le, List, [], ◌∷◌, ◌++◌, length, take, drop, Option, Some, None, Result, Ok, Err, refl, sym, ap, ◌∙◌, append_assoc, arith, length-append}
 use Rattle.std.specs.Prelude.{IfSome}
 use Rattle.std.specs.List.{list_all}
 use Rattle.std.specs.Int.{w32, from_be_bytes, to_be_bytes}
-use Rattle.std.proofs.lemmas.Bool.{ltb-false, le-ltb, le-leb}
+use Rattle.std.proofs.lemmas.Bool.{ltb-false, le-ltb, le-leb, and_from}
 use Rattle.std.proofs.lemmas.List.{take_at, drop_at, length-take-le}
 use Rattle.std.proofs.Math.Seq.{take-add}
 use Rattle.std.proofs.lemmas.List.{length-drop}
@@ -17,10 +17,15 @@ use Rattle.raft_wire.specs.Reader.{all_of}
 use Rattle.raft_wire.specs.Memberships.{Chained, FitsIds, nothing_left, FitsNode, that_node, FitsMembership}
 use Rattle.raft_wire.specs.Entries.{FitsPayload, that_place}
 use Rattle.raft_wire.specs.Writing.{is_payload_short}
-use Rattle.raft_wire.specs.Bodies.{FitsBehind, FitsLogged, is_of_snapshot}
-use Rattle.raft_wire.specs.Frames.{Body, spelled_parties, spelled_body, spelled_rest, spelled_frame, rest_at, FitsBody, FitsFrame, are_consecutive, are_entries_short, is_logged_short, is_snapshot_short, fault_of_frame}
+use Rattle.raft_messages.specs.declared.message.ReplyFields.{ReplyFields}
+use Rattle.raft_messages.specs.declared.message.ReplyResult.{ReplyResult}
+use Rattle.raft_messages.specs.declared.message.ReplyResult.TheVariants.{Success, PartialSuccess, Conflict, HigherVote}
+use Rattle.raft_wire.specs.Bodies.{FitsBehind, FitsLogged, FitsReply, FitsResult, is_of_snapshot, is_spelled}
+use Rattle.raft_wire.specs.Frames.{Body, spelled_parties, spelled_body, spelled_rest, spelled_frame, rest_at, FitsBody, FitsFrame, are_consecutive, are_entries_short, is_logged_short, is_snapshot_short, fault_of_frame, fault_of_reply}
 use Rattle.raft_wire.specs.Stream.{Judged, length_in, fault_of_length, judged_frame, judged_length, judged, front}
-use Rattle.raft_wire.proofs.Numbers.{IsBytes, IsBytes-take, IsBytes-drop, wide32}
+use Rattle.raft_bytes.specs.Bytes.{AreBytes}
+use Rattle.raft_bytes.proofs.Bytes.{AreBytes-take, AreBytes-drop}
+use Rattle.raft_bytes.proofs.Numbers.{wide32}
 use Rattle.raft_wire.proofs.Whole.{whole_takes, whole_again}
 use Rattle.raft_wire.proofs.Framed.{rest_reads}
 use Rattle.raft_wire.proofs.Lengths.{rest_short}
@@ -28,20 +33,15 @@ use Rattle.raft_wire.proofs.Streams.{has_length, front_frame}
 
 -- ---- a value that fits is within its limits
 
-both_hold : (a b : Bool) → a ≡ true → b ≡ true → (a && b) ≡ true
-both_hold true true p q = refl
-both_hold true false p q = q
-both_hold false b p q = p
-
 chain_passes : {A : Type 0} (Is : Option ℕ → A → Type 0) (left : A → Option ℕ) (test : A → Bool) → ((last : Option ℕ) (a : A) → Is last a → test a ≡ true) → (last : Option ℕ) (xs : List A) → Chained Is left last xs → list_all test xs ≡ true
 chain_passes Is left test each last [] h = refl
-chain_passes Is left test each last (x ∷ xs) h = both_hold (test x) (list_all test xs) (each last x h.0) (chain_passes Is left test each (left x) xs h.1)
+chain_passes Is left test each last (x ∷ xs) h = and_from (test x) (list_all test xs) (each last x h.0) (chain_passes Is left test each (left x) xs h.1)
 
 membership_within : (m : Membership) → FitsMembership m → is_within_limits m ≡ true
 membership_within m h =
     let groups = chain_passes (λ _ ids. FitsIds ids) nothing_left (λ (group : List ℕ). nat_le (length group) 64) (λ last ids fits. le-leb _ _ fits.0) None m.configs h.groups in
     let nodes = chain_passes FitsNode that_node (λ (x : ℕ × List ℕ). nat_le (length x.1) 255) (λ last node fits. le-leb _ _ (omega (arith, fits.1.length))) None m.nodes h.nodes in
-    both_hold _ _ (both_hold _ _ (both_hold _ _ (le-leb _ _ h.group_count) groups) (le-leb _ _ h.node_count)) nodes
+    and_from _ _ (and_from _ _ (and_from _ _ (le-leb _ _ h.group_count) groups) (le-leb _ _ h.node_count)) nodes
 
 payload_within : (payload : EntryPayload) → FitsPayload payload → is_payload_short payload ≡ true
 payload_within Blank h = refl
@@ -50,7 +50,7 @@ payload_within (Members m) h = membership_within m h
 
 consecutive : (last : Option ℕ) (es : List Entry) → Chained FitsBehind that_place last es → are_consecutive last es ≡ true
 consecutive last [] h = refl
-consecutive last (e ∷ es) h = both_hold _ _ h.0.1 (consecutive (Some e.log_id.index) es h.1)
+consecutive last (e ∷ es) h = and_from _ _ h.0.1 (consecutive (Some e.log_id.index) es h.1)
 
 logged_within : (m : Option LoggedMembership) → IfSome m FitsLogged → is_logged_short m ≡ true
 logged_within None h = refl
@@ -69,18 +69,31 @@ no_fault_of_tags : (of_snapshot : Bool) → of_snapshot ≡ true → cond of_sna
 no_fault_of_tags true p = refl
 no_fault_of_tags false p = absurd cc
 
+result_spelled : (r : ReplyResult) → FitsResult r → is_spelled r ≡ true
+result_spelled Success h = refl
+result_spelled (PartialSuccess last) h = absurd h
+result_spelled Conflict h = refl
+result_spelled (HigherVote vote) h = refl
+
+no_fault_of_reply : (m : ReplyFields) → FitsReply m → fault_of_reply m ≡ None
+no_fault_of_reply m h = no_fault_of_tags (is_spelled m.outcome) (result_spelled m.outcome h.outcome)
+
+no_fault_of_snapshot_reply : (m : ReplyFields) (of_snapshot : Bool) → of_snapshot ≡ true → FitsReply m → cond of_snapshot (fault_of_reply m) (Some fault.BadTag) ≡ None
+no_fault_of_snapshot_reply m true p h = no_fault_of_reply m h
+no_fault_of_snapshot_reply m false p h = absurd cc
+
 pub fits_within : (b : Body) → FitsBody b → fault_of_frame b ≡ None
 fits_within (body.VoteRequest r) h = refl
 fits_within (body.VoteReply r) h = refl
 fits_within (body.AppendRequest m) h =
     let es = m.entries in
     let payloads = chain_passes FitsBehind that_place (λ (e : Entry). is_payload_short e.payload) (λ last e fits. payload_within e.payload fits.0.payload) None es h.entries in
-    nothing_wrong (are_entries_short es) (are_consecutive None es) (both_hold _ _ (le-leb _ _ h.count) payloads) (consecutive None es h.entries)
-fits_within (body.AppendReply m) h = refl
+    nothing_wrong (are_entries_short es) (are_consecutive None es) (and_from _ _ (le-leb _ _ h.count) payloads) (consecutive None es h.entries)
+fits_within (body.AppendReply m) h = no_fault_of_reply m h
 fits_within (body.SnapshotRequest vote id s) h =
     let m = s.meta.last_membership in
-    nothing_long (is_snapshot_short m s.bytes) (both_hold _ _ (logged_within m h.snapshot.membership) (le-leb _ _ h.snapshot.bytes))
-fits_within (body.SnapshotReply m) h = no_fault_of_tags (is_of_snapshot m) h.of_snapshot
+    nothing_long (is_snapshot_short m s.bytes) (and_from _ _ (logged_within m h.snapshot.membership) (le-leb _ _ h.snapshot.bytes))
+fits_within (body.SnapshotReply m) h = no_fault_of_snapshot_reply m (is_of_snapshot m) h.of_snapshot h.reply
 
 -- ---- a frame at the front
 
@@ -90,7 +103,7 @@ is_right n a b =
     let y : ltb 17825788 n ≡ false = le-ltb _ _ b in
     rw (x, y) refl
 
-abbrev some_judged : Result Frame FrameFault → ℕ → Option Judged
+abbrev pub some_judged : Result Frame FrameFault → ℕ → Option Judged
 some_judged r i = Some (r, i)
 
 as_judged : (r t : Result Frame FrameFault) (i j : ℕ) → r ≡ t → i ≡ j → some_judged r i ≡ some_judged t j
@@ -120,10 +133,10 @@ pub length_found : (s : List ℕ) (l : Option ℕ) (j : Judged) → length_in s 
 length_found s None j e h = absurd cc
 length_found s (Some n) j e h = (n, e, h)
 
-abbrev refused_by : FrameFault → Result Frame FrameFault
+abbrev pub refused_by : FrameFault → Result Frame FrameFault
 refused_by why = Err why
 
-abbrev found_as : Frame → Result Frame FrameFault
+abbrev pub found_as : Frame → Result Frame FrameFault
 found_as f = Ok f
 
 abbrev one_judged : Judged → Option Judged
@@ -145,25 +158,25 @@ frame_whole false r k f t h =
     let same = same_judged (r, k) (Ok f, t) h in
     (refl, ap (λ (j : Judged). j.0) same, ap (λ (j : Judged). j.1) same)
 
-length_spelled : (s : List ℕ) (n : ℕ) → IsBytes s → length_in s ≡ Some n → take 4 s ≡ to_be_bytes w32 n
+length_spelled : (s : List ℕ) (n : ℕ) → AreBytes s → length_in s ≡ Some n → take 4 s ≡ to_be_bytes w32 n
 length_spelled s n fits h =
     let some = has_length s n h in
     let there : ltb (length s) 4 ≡ false = le-ltb _ _ some in
     let is : Some (from_be_bytes w32 (take 4 s)) ≡ Some n = sym (in_four there) ∙ h in
     let number : from_be_bytes w32 (take 4 s) ≡ n = cc in
-    sym (wide32.back (take 4 s) (length-take-le 4 s some) (IsBytes-take 4 s fits)) ∙ ap (to_be_bytes w32) number
+    sym (wide32.back (take 4 s) (length-take-le 4 s some) (AreBytes-take 4 s fits)) ∙ ap (to_be_bytes w32) number
   where
     in_four : ltb (length s) 4 ≡ false → length_in s ≡ Some (from_be_bytes w32 (take 4 s))
     in_four t = rw t refl
 
-pub front_found : (s : List ℕ) (f : Frame) (t : ℕ) → IsBytes s → front s ≡ Some (Ok f, t) → FitsFrame f × (take t s ≡ spelled_frame f)
+pub front_found : (s : List ℕ) (f : Frame) (t : ℕ) → AreBytes s → front s ≡ Some (Ok f, t) → FitsFrame f × (take t s ≡ spelled_frame f)
 unfolding front
 front_found s f t fits h =
     let l = length_found s (length_in s) (Ok f, t) refl h in
     let j = frame_judged s l.0 (fault_of_length l.0) f t l.2 in
     let w = frame_whole (ltb (length s) (l.0 + 4)) (all_of rest_at (take l.0 (drop 4 s))) (l.0 + 4) f t j in
     let long : l.0 + 4 ≤ length s = ltb-false _ _ w.0 in
-    let read = whole_takes rest_at spelled_rest FitsFrame rest_reads (take l.0 (drop 4 s)) f (IsBytes-take l.0 (drop 4 s) (IsBytes-drop 4 s fits)) w.1 in
+    let read = whole_takes rest_at spelled_rest FitsFrame rest_reads (take l.0 (drop 4 s)) f (AreBytes-take l.0 (drop 4 s) (AreBytes-drop 4 s fits)) w.1 in
     let size : length (take l.0 (drop 4 s)) ≡ l.0 = length-take-le l.0 (drop 4 s) (omega (arith, length-drop 4 s)) in
     let n_is : l.0 ≡ length (spelled_rest f) = sym size ∙ ap length read.1 in
     let four : take 4 s ≡ to_be_bytes w32 (length (spelled_rest f)) = length_spelled s l.0 fits l.1 ∙ ap (to_be_bytes w32) n_is in

@@ -1,8 +1,8 @@
 -- Lists whose items fit, and which are in order, fit as a whole.
-use Rattle.std.proofs.Common.{◌≡◌, ℕ, ◌<◌, ◌≤◌, ◌^◌, Bool, true, false, not, cond, length, refl, Result, Ok, Err, List, [], ◌∷◌, map, Option, Some, None, sym, arith}
+use Rattle.std.proofs.Common.{◌≡◌, ℕ, ◌<◌, ◌≤◌, ◌^◌, Bool, true, false, not, cond, length, refl, List, [], ◌∷◌, map, Option, Some, None, sym, arith}
 use Rattle.std.specs.declared.cmp.Ordering.TheVariants.{Less}
 use Rattle.std.specs.Ordering.{nat_cmp}
-use Rattle.std.specs.Prelude.{OnOk, nat_le, ◌&&◌}
+use Rattle.std.specs.Prelude.{nat_le, ◌&&◌}
 use Rattle.std.specs.List.{All, AllWithin, list_all}
 use Rattle.std.proofs.lemmas.Cmp.{ranked}
 use Rattle.std.proofs.lemmas.Bool.{and_parts}
@@ -80,7 +80,3 @@ append_fits m right vote id previous committed each =
     let es = m.entries in
     let parts = right_entries (are_entries_short es) (are_consecutive None es) right in
     record { vote = vote; id = id; previous = previous; committed = committed; count = few (length es) (list_all (λ e. is_payload_short e.payload) es) parts.0; entries = entries_fit None es parts.1 each }
-
-pub on_ok : {T E : Type 0} (r : Result T E) (P Q : Type 0) → (P → Q) → OnOk r P → OnOk r Q
-on_ok (Ok x) P Q f h = f h
-on_ok (Err e) P Q f h = tt

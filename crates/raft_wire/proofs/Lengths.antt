@@ -2,7 +2,7 @@
 use Rattle.std.proofs.Common.{◌≡◌, ℕ, ◌+◌, ◌*◌, ◌<◌, ◌≤◌, Bool, true, false, not, ◌&&◌, cond, nat_le, List, [], ◌∷◌, ◌++◌, length, Option, Some, None, refl, ap, arith, length-append}
 use Rattle.std.specs.List.{flat_map, list_all}
 use Rattle.std.specs.Int.{w32, w64, to_be_bytes}
-use Rattle.std.proofs.lemmas.Bool.{leb-true}
+use Rattle.std.proofs.lemmas.Bool.{leb-true, and_parts}
 use Rattle.std.proofs.lemmas.List.Concat.{flat_map-cons}
 use Rattle.std.proofs.Math.Nat.{suc-mul}
 use Rattle.raft_values.specs.declared.vote.Vote.{Vote}
@@ -12,7 +12,7 @@ use Rattle.raft_group_step.specs.Values.{Membership, Entry, EntryPayload, Logged
 use Rattle.raft_messages.specs.declared.message.RequestId.{RequestId}
 use Rattle.raft_messages.specs.declared.message.RequestId.TheVariants.{HeartBeat, Numbered}
 use Rattle.raft_messages.specs.declared.message.ReplyResult.{ReplyResult}
-use Rattle.raft_messages.specs.declared.message.ReplyResult.TheVariants.{Success, Conflict, HigherVote}
+use Rattle.raft_messages.specs.declared.message.ReplyResult.TheVariants.{Success, PartialSuccess, Conflict, HigherVote}
 use Rattle.raft_messages.specs.declared.message.AppendFields.{AppendFields}
 use Rattle.raft_messages.specs.declared.message.ReplyFields.{ReplyFields}
 use Rattle.raft_messages.specs.declared.message.MessageBody.TheVariants as body
@@ -26,17 +26,13 @@ use Rattle.raft_wire.specs.Writing.{is_payload_short}
 use Rattle.raft_wire.specs.Bodies.{spelled_id as spelled_request_id, spelled_append, spelled_result, spelled_reply, spelled_logged, spelled_snapshot, SentSnapshot, sent, spelled_sent, spelled_number}
 use Rattle.raft_wire.specs.Frames.{Body, spelled_parties, spelled_body, spelled_rest, are_consecutive, are_entries_short, is_logged_short, is_snapshot_short, fault_of_entries, fault_of_snapshot, fault_of_frame}
 
-both_true : (a b : Bool) → (a && b) ≡ true → (a ≡ true) × (b ≡ true)
-both_true true b h = (refl, h)
-both_true false b h = absurd cc
-
 -- ---- lists
 
 module _ {A : Type 0} (spelled : A → List ℕ) (test : A → Bool) (most : ℕ) (each : (a : A) → test a ≡ true → length (spelled a) ≤ most) where
   all_short : (xs : List A) → list_all test xs ≡ true → length (flat_map spelled xs) ≤ length xs * most
   all_short [] h = omega arith
   all_short (x ∷ xs) h =
-      let t = both_true (test x) (list_all test xs) h in
+      let t = and_parts (test x) (list_all test xs) h in
       let first = each x t.0 in
       let others = all_short xs t.1 in
       omega (arith, ap length (flat_map-cons spelled x xs), length-append (spelled x) (flat_map spelled xs), suc-mul (length xs) most)
@@ -57,9 +53,9 @@ node_short node h =
 
 membership_short : (m : Membership) → is_within_limits m ≡ true → length (spelled_membership m) ≤ 37928
 membership_short m h =
-    let a = both_true (nat_le (length m.configs) 8 && list_all (λ (group : List ℕ). nat_le (length group) 64) m.configs && nat_le (length m.nodes) 128) (list_all (λ (x : ℕ × List ℕ). nat_le (length x.1) 255) m.nodes) h in
-    let b = both_true (nat_le (length m.configs) 8 && list_all (λ (group : List ℕ). nat_le (length group) 64) m.configs) (nat_le (length m.nodes) 128) a.0 in
-    let c = both_true (nat_le (length m.configs) 8) (list_all (λ (group : List ℕ). nat_le (length group) 64) m.configs) b.0 in
+    let a = and_parts (nat_le (length m.configs) 8 && list_all (λ (group : List ℕ). nat_le (length group) 64) m.configs && nat_le (length m.nodes) 128) (list_all (λ (x : ℕ × List ℕ). nat_le (length x.1) 255) m.nodes) h in
+    let b = and_parts (nat_le (length m.configs) 8 && list_all (λ (group : List ℕ). nat_le (length group) 64) m.configs) (nat_le (length m.nodes) 128) a.0 in
+    let c = and_parts (nat_le (length m.configs) 8) (list_all (λ (group : List ℕ). nat_le (length group) 64) m.configs) b.0 in
     let few_groups : length m.configs ≤ 8 = leb-true _ _ c.0 in
     let few_nodes : length m.nodes ≤ 128 = leb-true _ _ b.1 in
     let groups = all_short spelled_ids (λ (group : List ℕ). nat_le (length group) 64) 516 group_short m.configs c.1 in
@@ -105,6 +101,7 @@ id_len (Numbered id) = omega arith
 
 result_len : (r : ReplyResult) → length (spelled_result r) ≤ 18
 result_len Success = omega arith
+result_len (PartialSuccess last) = omega arith
 result_len Conflict = omega arith
 result_len (HigherVote vote) = omega (arith, vote_len vote)
 
@@ -124,7 +121,7 @@ snapshot_is_short m bytes h = none_where (is_snapshot_short m bytes) h
 
 entries_short : (es : List Entry) → are_entries_short es ≡ true → length (spelled_list spelled_entry es) ≤ 4196164
 entries_short es h =
-    let t = both_true (nat_le (length es) 64) (list_all (λ (e : Entry). is_payload_short e.payload) es) h in
+    let t = and_parts (nat_le (length es) 64) (list_all (λ (e : Entry). is_payload_short e.payload) es) h in
     let few : length es ≤ 64 = leb-true _ _ t.0 in
     let all = all_short spelled_entry (λ (e : Entry). is_payload_short e.payload) 65565 entry_short es t.1 in
     omega (arith, length-append (to_be_bytes w32 (length es)) (flat_map spelled_entry es))
@@ -167,7 +164,7 @@ sent_short : (s : SentSnapshot) → is_snapshot_short s.snapshot.meta.last_membe
 sent_short s h =
     let meta = s.snapshot.meta in
     let bytes = s.snapshot.bytes in
-    let t = both_true (is_logged_short meta.last_membership) (nat_le (length bytes) 16777216) h in
+    let t = and_parts (is_logged_short meta.last_membership) (nat_le (length bytes) 16777216) h in
     let short : length bytes ≤ 16777216 = leb-true _ _ t.1 in
     omega (
       arith,

@@ -1,4 +1,3 @@
-pub mod Numbers
 pub mod Fitting
 pub mod Lists
 pub mod Values

@@ -9,11 +9,12 @@ use Rattle.raft_wire.specs.declared.error.FrameError.{FrameError}
 use Rattle.raft_wire.specs.declared.error.FrameError.TheVariants as errors
 use Rattle.raft_wire.specs.Reader.{Reader, ◌>>=◌, Fails, many_at, count_at, counted_at}
 use Rattle.raft_wire.specs.Memberships.{Chained, spelled_list}
-use Rattle.raft_wire.proofs.Numbers.{IsBytes, bind_ok, ok_is, Takes, Takes-then}
+use Rattle.raft_bytes.specs.Bytes.{AreBytes}
+use Rattle.raft_bytes.proofs.Bytes.{bind_ok, ok_is, Takes, Takes-then}
 use Rattle.raft_wire.proofs.Fitting.{Reads, count_takes, count_again}
 
 module _ {A : Type 0} (one : Option ℕ → Reader A) (left : A → Option ℕ) (spelled : A → List ℕ) (F : Option ℕ → A → Type 0) (r : (last : Option ℕ) → Reads (one last) spelled (F last)) where
-  many_take : (n : ℕ) (last : Option ℕ) (bytes : List ℕ) (x : List A × List ℕ) → IsBytes bytes → many_at one left n last bytes ≡ Ok x → Takes bytes (flat_map spelled x.0) x.1 × (length x.0 ≡ n) × Chained F left last x.0
+  many_take : (n : ℕ) (last : Option ℕ) (bytes : List ℕ) (x : List A × List ℕ) → AreBytes bytes → many_at one left n last bytes ≡ Ok x → Takes bytes (flat_map spelled x.0) x.1 × (length x.0 ≡ n) × Chained F left last x.0
   unfolding many_at
   many_take zero last bytes x fits e =
       subst (λ (y : List A × List ℕ). Takes bytes (flat_map spelled y.0) y.1 × (length y.0 ≡ 0) × Chained F left last y.0) (ok_is ([], bytes) x e) (record { parts = refl; rest_fits = fits }, refl, tt)
@@ -33,7 +34,7 @@ module _ {A : Type 0} (one : Option ℕ → Reader A) (left : A → Option ℕ) 
       let regrouped : flat_map spelled (x ∷ xs) ++ rest ≡ spelled x ++ (flat_map spelled xs ++ rest) = ap (λ (l : List ℕ). l ++ rest) (flat_map-cons spelled x xs) ∙ append_assoc (spelled x) (flat_map spelled xs) rest in
       ap (many_at one left (suc (length xs)) last) regrouped ∙ rw ((r last).again x (flat_map spelled xs ++ rest) h.0, many_again xs (left x) rest h.1) refl
 
-  counted_takes : (limit : ℕ) (bytes : List ℕ) (x : List A × List ℕ) → IsBytes bytes → counted_at one left limit bytes ≡ Ok x → Takes bytes (spelled_list spelled x.0) x.1 × ((length x.0 ≤ limit) × Chained F left None x.0)
+  counted_takes : (limit : ℕ) (bytes : List ℕ) (x : List A × List ℕ) → AreBytes bytes → counted_at one left limit bytes ≡ Ok x → Takes bytes (spelled_list spelled x.0) x.1 × ((length x.0 ≤ limit) × Chained F left None x.0)
   unfolding counted_at
   counted_takes limit bytes x fits e =
       let n = bind_ok (count_at limit bytes) (λ count. many_at one left count.0 None count.1) x e in

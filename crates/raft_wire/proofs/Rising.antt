@@ -8,7 +8,7 @@ use Rattle.raft_quorums.specs.Rising.{IsBelowAll, IsRising, IsRisingByFirst}
 use Rattle.raft_wire.specs.declared.error.FrameFault.TheVariants as fault
 use Rattle.raft_wire.specs.Reader.{Reader, ◌>>=◌, number_at, many_at}
 use Rattle.raft_wire.specs.Memberships.{Chained, is_above, IsAbove, id_above, that_id, address_at, node_above, that_node}
-use Rattle.raft_wire.proofs.Numbers.{bind_ok, passed_ok, ok_is}
+use Rattle.raft_bytes.proofs.Bytes.{bind_ok, passed_ok, ok_is}
 use Rattle.raft_wire.proofs.Values.{above}
 
 -- what holds of each value that is read holds in a list that is read

@@ -10,12 +10,12 @@ use Rattle.raft_wire.specs.Entries.{spelled_entry, FitsEntry, entry_at}
 use Rattle.raft_wire.specs.Frames.{spelled_frame, rest_at}
 use Rattle.raft_wire.specs.Stream.{Judged, length_in, fault_of_length, judged_frame, judged_length, judged, front}
 use Rattle.raft_wire.specs.StreamLaws.{FoundIsSpelled, SpelledIsFound, RefusedIsNoFrame, FoundStays, WaitsOnlySoLong, NoFrameBeginsAnother, NoEntryBeginsAnother, FramesAreShort}
-use Rattle.raft_wire.proofs.Numbers.{ok_is}
+use Rattle.raft_bytes.proofs.Bytes.{ok_is}
 use Rattle.raft_wire.proofs.Fitting.{Reads}
 use Rattle.raft_wire.proofs.Values.{entry_alone_reads}
 use Rattle.raft_wire.proofs.Lengths.{rest_short}
-use Rattle.raft_wire.proofs.Streams.{same_length, has_length, front_fault, front_frame}
-use Rattle.raft_wire.proofs.Fronts.{fits_within, front_again, front_found, same_judged, length_found}
+use Rattle.raft_wire.proofs.Streams.{not_there, same_length, has_length, front_fault, front_frame}
+use Rattle.raft_wire.proofs.Fronts.{fits_within, front_again, front_found, same_judged, length_found, refused_by, found_as}
 
 pub found_is_spelled : FoundIsSpelled
 found_is_spelled = λ stream frame taken bytes h. front_found stream frame taken bytes h
@@ -31,14 +31,8 @@ frames_short = λ frame h. rest_short frame (fits_within frame.message.body h.bo
 abbrev no_judged : Option Judged
 no_judged = None
 
-abbrev no_length : Option ℕ
-no_length = None
-
 pub some_none : (j : Judged) → no_judged ≡ Some j → ⊥
 some_none j e = absurd cc
-
-no_number : (n : ℕ) → no_length ≡ Some n → ⊥
-no_number n e = absurd cc
 
 pub frame_waits : (s : List ℕ) (n : ℕ) → length s < n + 4 → judged_frame s n ≡ None
 frame_waits s n lt = let t : ltb (length s) (n + 4) ≡ true = lt-ltb _ _ lt in rw t refl
@@ -78,13 +72,7 @@ found_stays = λ stream more found h. stays stream more found h
 
 -- ---- what a fault says
 
-abbrev refused : FrameFault → Result Frame FrameFault
-refused why = Err why
-
-abbrev whole : Frame → Result Frame FrameFault
-whole frame = Ok frame
-
-not_both : (why : FrameFault) (frame : Frame) → refused why ≡ whole frame → ⊥
+not_both : (why : FrameFault) (frame : Frame) → refused_by why ≡ found_as frame → ⊥
 not_both why frame e = absurd cc
 
 pub refused_is_no_frame : RefusedIsNoFrame
@@ -108,7 +96,7 @@ waits_with s n None l f h = elim (cases_lt (length s) (n + 4)) [
 waits_for : (s : List ℕ) (l : Option ℕ) → length_in s ≡ l → front s ≡ None → Waits s
 waits_for s None e h = elim (cases_lt (length s) 4) [
   | inl lt ↦ inl lt
-  | inr le ↦ absurd (no_number (from_be_bytes w32 (take 4 s)) (sym e ∙ long_enough s le))
+  | inr le ↦ absurd (not_there (from_be_bytes w32 (take 4 s)) (sym e ∙ long_enough s le))
 ]
 waits_for s (Some n) e h = waits_with s n (fault_of_length n) e refl h
 

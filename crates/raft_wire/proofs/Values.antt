@@ -15,7 +15,8 @@ use Rattle.raft_wire.specs.Fields.{spelled_flag, flag_at, spelled_vote, FitsVote
 use Rattle.raft_wire.specs.Memberships.{Chained, spelled_list, is_above, IsAbove, FitsId, spelled_id, id_above, that_id, spelled_ids, FitsIds, ids_at, nothing_left}
 use Rattle.raft_wire.specs.Memberships.{spelled_address, FitsAddress, address_at, spelled_node, FitsNode, node_above, that_node, spelled_membership, FitsMembership, membership_of, membership_at}
 use Rattle.raft_wire.specs.Entries.{spelled_text, spelled_payload, FitsPayload, normal_of, members_of, payload_at, spelled_entry, FitsEntry, follows, entry_of, entry_behind, entry_at}
-use Rattle.raft_wire.proofs.Numbers.{IsBytes, IsBytes-rest, bind_ok, passed_ok, ok_is, Takes, Takes-behind}
+use Rattle.raft_bytes.specs.Bytes.{AreBytes}
+use Rattle.raft_bytes.proofs.Bytes.{AreBytes-rest, bind_ok, passed_ok, ok_is, Takes, Takes-behind}
 use Rattle.raft_wire.proofs.Fitting.{Reads, fits_as, both_reads, made_reads, tested_reads, u64_reads, flag_reads, Anything, option_reads, piece_takes, piece_again, text_reads}
 use Rattle.raft_wire.proofs.Lists.{counted_reads}
 
@@ -68,13 +69,13 @@ ids_reads = counted_reads id_above that_id spelled_id FitsId id_reads 64 (omega 
 
 -- ---- nodes
 
-address_takes : (bytes : List ℕ) (x : List ℕ × List ℕ) → IsBytes bytes → address_at bytes ≡ Ok x → Takes bytes (spelled_address x.0) x.1 × FitsAddress x.0
+address_takes : (bytes : List ℕ) (x : List ℕ × List ℕ) → AreBytes bytes → address_at bytes ≡ Ok x → Takes bytes (spelled_address x.0) x.1 × FitsAddress x.0
 unfolding address_at
 address_takes [] x fits e = absurd cc
 address_takes (n ∷ bytes) x fits e =
     let a = bind_ok (piece_at n bytes) (λ a. cond (is_utf8 a.0) (Ok a) (Err fault.NotUtf8)) x e in
     let g = passed_ok (is_utf8 a.0.0) fault.NotUtf8 a.0 x a.2 in
-    let t = piece_takes n bytes a.0 (IsBytes-rest n bytes fits) a.1 in
+    let t = piece_takes n bytes a.0 (AreBytes-rest n bytes fits) a.1 in
     let small : n < 256 = fits 0 in
     let whole = Takes-behind n bytes a.0.0 a.0.1 t.0 in
     let counted : Takes (n ∷ bytes) (spelled_address a.0.0) a.0.1 = subst (λ (k : ℕ). Takes (n ∷ bytes) (k ∷ a.0.0) a.0.1) (sym t.1) whole in
@@ -115,18 +116,18 @@ membership_reads =
 command_reads : Reads (text_at 65536) spelled_text (λ command. length command ≤ 65536)
 command_reads = text_reads 65536 (omega arith)
 
-payload_takes : (bytes : List ℕ) (x : EntryPayload × List ℕ) → IsBytes bytes → payload_at bytes ≡ Ok x → Takes bytes (spelled_payload x.0) x.1 × FitsPayload x.0
+payload_takes : (bytes : List ℕ) (x : EntryPayload × List ℕ) → AreBytes bytes → payload_at bytes ≡ Ok x → Takes bytes (spelled_payload x.0) x.1 × FitsPayload x.0
 unfolding payload_at
 payload_takes [] x fits e = absurd cc
 payload_takes (zero ∷ bytes) x fits e =
-    subst (λ (y : EntryPayload × List ℕ). Takes (0 ∷ bytes) (spelled_payload y.0) y.1 × FitsPayload y.0) (ok_is (Blank, bytes) x e) (record { parts = refl; rest_fits = IsBytes-rest 0 bytes fits }, tt)
+    subst (λ (y : EntryPayload × List ℕ). Takes (0 ∷ bytes) (spelled_payload y.0) y.1 × FitsPayload y.0) (ok_is (Blank, bytes) x e) (record { parts = refl; rest_fits = AreBytes-rest 0 bytes fits }, tt)
 payload_takes (suc zero ∷ bytes) x fits e =
     let a = bind_ok (text_at 65536 bytes) (λ a. Ok (normal_of a.0, a.1)) x e in
-    let t = command_reads.takes bytes a.0.0 a.0.1 (IsBytes-rest 1 bytes fits) a.1 in
+    let t = command_reads.takes bytes a.0.0 a.0.1 (AreBytes-rest 1 bytes fits) a.1 in
     subst (λ (y : EntryPayload × List ℕ). Takes (1 ∷ bytes) (spelled_payload y.0) y.1 × FitsPayload y.0) (ok_is (Normal a.0.0, a.0.1) x a.2) (Takes-behind 1 bytes (spelled_text a.0.0) a.0.1 t.0, t.1)
 payload_takes (suc (suc zero) ∷ bytes) x fits e =
     let a = bind_ok (membership_at bytes) (λ a. Ok (members_of a.0, a.1)) x e in
-    let t = membership_reads.takes bytes a.0.0 a.0.1 (IsBytes-rest 2 bytes fits) a.1 in
+    let t = membership_reads.takes bytes a.0.0 a.0.1 (AreBytes-rest 2 bytes fits) a.1 in
     subst (λ (y : EntryPayload × List ℕ). Takes (2 ∷ bytes) (spelled_payload y.0) y.1 × FitsPayload y.0) (ok_is (Members a.0.0, a.0.1) x a.2) (Takes-behind 2 bytes (spelled_membership a.0.0) a.0.1 t.0, t.1)
 payload_takes (suc (suc (suc b)) ∷ bytes) x fits e = absurd cc
 

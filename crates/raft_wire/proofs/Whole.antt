@@ -7,11 +7,12 @@ use Rattle.raft_wire.specs.declared.error.FrameFault.{FrameFault}
 use Rattle.raft_wire.specs.declared.error.FrameFault.TheVariants as fault
 use Rattle.raft_wire.specs.declared.error.FrameError.{FrameError}
 use Rattle.raft_wire.specs.Reader.{Reader, Gives, all_of}
-use Rattle.raft_wire.proofs.Numbers.{IsBytes, bind_ok, passed_ok}
+use Rattle.raft_bytes.specs.Bytes.{AreBytes}
+use Rattle.raft_bytes.proofs.Bytes.{bind_ok, passed_ok}
 use Rattle.raft_wire.proofs.Fitting.{Reads}
 
 module _ {A : Type 0} (reader : Reader A) (spelled : A → List ℕ) (Fits : A → Type 0) (r : Reads reader spelled Fits) where
-  pub whole_takes : (bytes : List ℕ) (a : A) → IsBytes bytes → all_of reader bytes ≡ Ok a → Fits a × (bytes ≡ spelled a)
+  pub whole_takes : (bytes : List ℕ) (a : A) → AreBytes bytes → all_of reader bytes ≡ Ok a → Fits a × (bytes ≡ spelled a)
   unfolding all_of
   whole_takes bytes a fits e =
       let x = bind_ok (reader bytes) (λ x. cond (eqb (length x.1) 0) (Ok x.0) (Err fault.TrailingBytes)) a e in
@@ -28,7 +29,7 @@ module _ {A : Type 0} (reader : Reader A) (spelled : A → List ℕ) (Fits : A �
       rw alone refl
 
   -- what a reader of the code found, and what it finds
-  pub is_found : (bytes : List ℕ) (found : Result A FrameError) → IsBytes bytes → Gives (λ a. a) found (all_of reader bytes) → IfOk found (λ a. Fits a × (bytes ≡ spelled a))
+  pub is_found : (bytes : List ℕ) (found : Result A FrameError) → AreBytes bytes → Gives (λ a. a) found (all_of reader bytes) → IfOk found (λ a. Fits a × (bytes ≡ spelled a))
   is_found bytes (Ok a) fits given = whole_takes bytes a fits given
   is_found bytes (Err e) fits given = tt
 

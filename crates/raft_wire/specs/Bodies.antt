@@ -12,7 +12,7 @@ use Rattle.raft_messages.specs.declared.memberships.SnapshotBytes.{SnapshotBytes
 use Rattle.raft_messages.specs.declared.message.RequestId.{RequestId}
 use Rattle.raft_messages.specs.declared.message.RequestId.TheVariants.{HeartBeat, Numbered}
 use Rattle.raft_messages.specs.declared.message.ReplyResult.{ReplyResult}
-use Rattle.raft_messages.specs.declared.message.ReplyResult.TheVariants.{Success, Conflict, HigherVote}
+use Rattle.raft_messages.specs.declared.message.ReplyResult.TheVariants.{Success, PartialSuccess, Conflict, HigherVote}
 use Rattle.raft_messages.specs.declared.message.AppendFields.{AppendFields}
 use Rattle.raft_messages.specs.declared.message.ReplyFields.{ReplyFields}
 use Rattle.raft_wire.specs.declared.error.FrameFault.TheVariants as fault
@@ -111,13 +111,22 @@ append_at = made append_of (both vote_at (both id_at (both last_at (both last_at
 
 -- ---- replies
 
+-- a partial success has no spelling
+abbrev pub is_spelled : ReplyResult → Bool
+is_spelled Success = true
+is_spelled (PartialSuccess last) = false
+is_spelled Conflict = true
+is_spelled (HigherVote vote) = true
+
 abbrev pub spelled_result : ReplyResult → List ℕ
 spelled_result Success = 0 ∷ []
+spelled_result (PartialSuccess last) = []
 spelled_result Conflict = 1 ∷ []
 spelled_result (HigherVote vote) = 2 ∷ spelled_vote vote
 
 abbrev pub FitsResult : ReplyResult → Type 0
 FitsResult Success = Unit {0}
+FitsResult (PartialSuccess last) = ⊥
 FitsResult Conflict = Unit {0}
 FitsResult (HigherVote vote) = FitsVote vote
 
@@ -157,6 +166,7 @@ has_number (Numbered id) = true
 
 abbrev pub is_conflict : ReplyResult → Bool
 is_conflict Success = false
+is_conflict (PartialSuccess last) = false
 is_conflict Conflict = true
 is_conflict (HigherVote vote) = false
 

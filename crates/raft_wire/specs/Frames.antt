@@ -22,7 +22,7 @@ use Rattle.raft_wire.specs.Entries.{follows}
 use Rattle.raft_wire.specs.Bodies.{spelled_vote_request, FitsVoteRequest, vote_request_at, spelled_vote_reply}
 use Rattle.raft_wire.specs.Bodies.{FitsVoteReply, vote_reply_at, spelled_append, FitsAppend, append_at}
 use Rattle.raft_wire.specs.Bodies.{spelled_reply, FitsReply, reply_at, SentSnapshot, sent, spelled_sent, FitsSent, sent_at}
-use Rattle.raft_wire.specs.Bodies.{is_of_snapshot, FitsSnapshotReply, snapshot_reply_at}
+use Rattle.raft_wire.specs.Bodies.{is_of_snapshot, is_spelled, FitsSnapshotReply, snapshot_reply_at}
 
 -- ---- kinds
 
@@ -162,14 +162,18 @@ is_snapshot_short m bytes = is_logged_short m && nat_le (length bytes) 16777216
 abbrev pub fault_of_snapshot : Option LoggedMembership → List ℕ → Option FrameFault
 fault_of_snapshot m bytes = if is_snapshot_short m bytes then None else Some fault.TooLong
 
--- a reply that a snapshot can't have: a tag of it would have a value that it can't have
+-- a tag of the reply would have a value that it can't have: a partial success has none
+abbrev pub fault_of_reply : ReplyFields → Option FrameFault
+fault_of_reply m = if is_spelled m.outcome then None else Some fault.BadTag
+
+-- the same of a reply that a snapshot can't have
 abbrev pub fault_of_snapshot_reply : ReplyFields → Option FrameFault
-fault_of_snapshot_reply m = if is_of_snapshot m then None else Some fault.BadTag
+fault_of_snapshot_reply m = if is_of_snapshot m then fault_of_reply m else Some fault.BadTag
 
 abbrev pub fault_of_frame : Body → Option FrameFault
 fault_of_frame (body.VoteRequest r) = None
 fault_of_frame (body.VoteReply r) = None
 fault_of_frame (body.AppendRequest m) = fault_of_entries m.entries
-fault_of_frame (body.AppendReply m) = None
+fault_of_frame (body.AppendReply m) = fault_of_reply m
 fault_of_frame (body.SnapshotRequest vote id s) = fault_of_snapshot s.meta.last_membership s.bytes
 fault_of_frame (body.SnapshotReply m) = fault_of_snapshot_reply m

@@ -1,3 +1,4 @@
+pub use Rattle.raft_bytes.specs.Bytes
 pub mod Numbers
 pub mod Reader
 pub mod Fields

@@ -2,16 +2,13 @@
 -- first fault.
 use Rattle.std.specs.Prelude.{◌≡◌, ℕ, zero, suc, Bool, ◌==◌, List, [], ◌∷◌, length, take, drop}
 use Rattle.std.specs.Prelude.{Option, None, Result, Ok, Err, nat_lt, if◌then◌else◌}
-use Rattle.std.specs.Int.{Width, w32, byte_len, from_be_bytes}
+use Rattle.std.specs.Int.{Width, w32}
+pub use Rattle.raft_bytes.specs.Bytes.{◌>>=◌}
+use Rattle.raft_bytes.specs.Bytes.{number_or}
 use Rattle.raft_wire.specs.declared.error.FrameFault.{FrameFault}
 use Rattle.raft_wire.specs.declared.error.FrameFault.TheVariants as fault
 use Rattle.raft_wire.specs.declared.error.FrameError.{FrameError}
 use Rattle.raft_wire.specs.declared.error.FrameError.TheVariants as errors
-
-infixl 10 ◌>>=◌
-abbrev pub ◌>>=◌ : {A B : Type 0} → Result A FrameFault → (A → Result B FrameFault) → Result B FrameFault
-(Ok x) >>= f = f x
-(Err e) >>= f = Err e
 
 -- What a function returned, seen by view, is what reading gives, unless memory ran out.
 abbrev pub Fails : {Y : Type 0} → FrameError → Result Y FrameFault → Type 0
@@ -58,9 +55,7 @@ many_at one left (suc n) last bytes = do
 -- ---- numbers and lengths
 
 abbrev pub number_at : Width → Reader ℕ
-number_at w bytes =
-    if nat_lt (length bytes) (byte_len w) then Err fault.CutShort
-    else Ok (from_be_bytes w (take (byte_len w) bytes), drop (byte_len w) bytes)
+number_at w bytes = number_or fault.CutShort w bytes
 
 abbrev pub byte_at : Reader ℕ
 byte_at [] = Err fault.CutShort

@@ -1,7 +1,8 @@
 -- What stands at the front of a stream of frames, and what a feeder answers.
-use Rattle.std.specs.Prelude.{◌≡◌, ◌≤◌, ◌<◌, ◌+◌, ℕ, Bool, true, false, List, [], ◌++◌, length, take, drop, get_or}
+use Rattle.std.specs.Prelude.{◌≡◌, ◌≤◌, ◌+◌, ℕ, Bool, true, false, List, [], ◌++◌, length, take, drop}
 use Rattle.std.specs.Prelude.{nat_lt, Option, Some, None, Result, Ok, Err, if◌then◌else◌}
 use Rattle.std.specs.Int.{w32, from_be_bytes}
+pub use Rattle.raft_bytes.specs.Bytes.{AreBytes}
 use Rattle.raft_wire.specs.declared.error.FrameFault.{FrameFault}
 use Rattle.raft_wire.specs.declared.error.FrameFault.TheVariants as fault
 use Rattle.raft_wire.specs.declared.error.FrameError.{FrameError}
@@ -9,10 +10,6 @@ use Rattle.raft_wire.specs.declared.error.FrameError.TheVariants as errors
 use Rattle.raft_wire.specs.declared.frame.Frame.{Frame}
 use Rattle.raft_wire.specs.Reader.{all_of}
 use Rattle.raft_wire.specs.Frames.{rest_at, spelled_frame, FitsFrame}
-
--- each item is a byte
-abbrev pub AreBytes : List ℕ → Type 0
-AreBytes bytes = (i : ℕ) → get_or bytes i 0 < 256
 
 -- a frame or the first fault, and how many bytes it takes
 abbrev pub Judged : Type 0

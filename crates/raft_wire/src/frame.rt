@@ -63,6 +63,6 @@ pub(crate) fn is_conflict(outcome: ReplyResult) -> bool
 {
     match outcome {
         ReplyResult::Conflict => true,
-        ReplyResult::Success | ReplyResult::HigherVote(_) => false,
+        ReplyResult::Success | ReplyResult::PartialSuccess(_) | ReplyResult::HigherVote(_) => false,
     }
 }

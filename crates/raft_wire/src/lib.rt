@@ -21,5 +21,6 @@ pub use laws::{
     frames_are_short, no_spelling_begins_another, refused_streams_begin_no_frame,
     spelled_frames_are_found,
 };
+pub use raft_group_step::SnapshotMeta;
 pub use snapshots::{read_snapshot_body, write_snapshot_body};
 pub use writing::write_frame;

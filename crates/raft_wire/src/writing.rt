@@ -8,13 +8,13 @@ ghost use Rattle.raft_wire.specs.Entries.{spelled_entry, FitsEntry};
 ghost use Rattle.raft_wire.specs.Writing.{Writes, is_payload_short};
 ghost use Rattle.raft_wire.specs.Bodies.{spelled_vote_request, spelled_vote_reply, spelled_id, spelled_number};
 ghost use Rattle.raft_wire.specs.Bodies.{spelled_append, spelled_result, spelled_reply, spelled_logged};
-ghost use Rattle.raft_wire.specs.Bodies.{snapshot_with, spelled_snapshot, sent, spelled_sent, is_of_snapshot};
+ghost use Rattle.raft_wire.specs.Bodies.{snapshot_with, spelled_snapshot, sent, spelled_sent, is_of_snapshot, is_spelled};
 ghost use Rattle.raft_wire.specs.Bodies.{FitsVoteRequest, FitsVoteReply, FitsId, FitsAppend, FitsResult, FitsReply};
 ghost use Rattle.raft_wire.specs.Bodies.{FitsLogged, FitsSnapshot, FitsSent};
 ghost use Rattle.raft_wire.specs.Fields.{spelled_option};
 ghost use Rattle.raft_wire.specs.Frames.{byte_of_kind, spelled_parties, spelled_body, spelled_rest, spelled_frame};
 ghost use Rattle.raft_wire.specs.Frames.{are_consecutive, are_entries_short, is_logged_short, is_snapshot_short};
-ghost use Rattle.raft_wire.specs.Frames.{fault_of_entries, fault_of_snapshot, fault_of_snapshot_reply, fault_of_frame};
+ghost use Rattle.raft_wire.specs.Frames.{fault_of_entries, fault_of_reply, fault_of_snapshot, fault_of_snapshot_reply, fault_of_frame};
 ghost use Rattle.raft_wire.specs.Frames.{FitsBody, FitsFrame};
 ghost use Rattle.raft_wire.specs.Stream.{AreFoundAs};
 
@@ -96,11 +96,23 @@ fn put_append(out: &mut Vec<u8>, request: &AppendFields) -> Result<(), AllocErro
     put_entries(out, request.entries.as_slice())
 }
 
+// Whether what came of a request has a spelling.
+fn is_spelled(outcome: &ReplyResult) -> bool
+    ensures { result ≡ is_spelled outcome.now }
+{
+    match outcome {
+        ReplyResult::PartialSuccess(_) => false,
+        ReplyResult::Success | ReplyResult::Conflict | ReplyResult::HigherVote(_) => true,
+    }
+}
+
 fn put_result(out: &mut Vec<u8>, outcome: &ReplyResult) -> Result<(), AllocError>
+    requires { is_spelled outcome.now ≡ true }
     ensures items { OnOk result (out.new.items ≡ out.old.items ++ spelled_result outcome.now) }
     ensures fits { OnOk result (FitsResult outcome.now) }
 {
     match outcome {
+        ReplyResult::PartialSuccess(_) => Ok(()),
         ReplyResult::Success => Ok(out.push(0)?),
         ReplyResult::Conflict => Ok(out.push(1)?),
         ReplyResult::HigherVote(vote) => {
@@ -111,6 +123,7 @@ fn put_result(out: &mut Vec<u8>, outcome: &ReplyResult) -> Result<(), AllocError
 }
 
 fn put_reply(out: &mut Vec<u8>, reply: &ReplyFields) -> Result<(), AllocError>
+    requires { is_spelled reply.now.outcome ≡ true }
     ensures items { OnOk result (out.new.items ≡ out.old.items ++ spelled_reply reply.now) }
     ensures fits { OnOk result (FitsReply reply.now) }
 {
@@ -258,11 +271,21 @@ fn is_of_snapshot(reply: &ReplyFields) -> bool
     has_number(reply.id) && reply.previous.is_none() && !is_conflict(reply.outcome)
 }
 
+fn fault_of_reply(reply: &ReplyFields) -> Option<FrameFault>
+    ensures { result ≡ fault_of_reply reply.now }
+{
+    if is_spelled(&reply.outcome) {
+        None
+    } else {
+        Some(FrameFault::BadTag)
+    }
+}
+
 fn fault_of_snapshot_reply(reply: &ReplyFields) -> Option<FrameFault>
     ensures { result ≡ fault_of_snapshot_reply reply.now }
 {
     if is_of_snapshot(reply) {
-        None
+        fault_of_reply(reply)
     } else {
         Some(FrameFault::BadTag)
     }
@@ -275,7 +298,7 @@ fn fault_of(body: &MessageBody<SnapshotBytes>) -> Option<FrameFault>
         MessageBody::VoteRequest(_) => None,
         MessageBody::VoteReply(_) => None,
         MessageBody::AppendRequest(request) => fault_of_entries(request.entries.as_slice()),
-        MessageBody::AppendReply(_) => None,
+        MessageBody::AppendReply(reply) => fault_of_reply(reply),
         MessageBody::SnapshotRequest { snapshot, .. } => {
             fault_of_snapshot(&snapshot.meta, &snapshot.bytes)
         }
@@ -359,8 +382,8 @@ fn frame_bytes(alloc: Global, frame: &Frame) -> Result<Vec<u8>, AllocError>
 
 /// The one spelling of a frame (own). Refused are entries, commands, memberships and bytes of a machine
 /// past their limits (`TooLong`), then entries whose places don't follow one another (`NotRising`), a
-/// snapshot's reply without a number, with a previous log id or with a conflict (`BadTag`), and then
-/// want of memory (`Memory`).
+/// snapshot's reply without a number, with a previous log id or with a conflict, or a partial success
+/// in any reply (`BadTag`), and then want of memory (`Memory`).
 pub fn write_frame(alloc: Global, frame: &Frame) -> Result<Vec<u8>, FrameError>
     ensures written { Writes (fault_of_frame frame.now.message.body) (spelled_frame frame.now) result }
     ensures fits { OnOk result (FitsFrame frame.now) }

@@ -1,11 +1,9 @@
 //! Stored entries that are read and written.
 
 use crate::calls::{are, entry_of, written_entry};
-use crate::texts::EntryText;
 use raft_messages::is_within_limits;
 use raft_rows::Answer;
 use raft_state::{BasicNode, EntryPayload, Membership};
-use raft_wire::FrameError;
 use std::alloc::Global;
 
 fn is_short(membership: &Membership<u64, BasicNode>) -> bool {
@@ -33,10 +31,7 @@ fn written_again(alloc: Global, bytes: &[u8]) -> Answer {
 
 /// The entry that the bytes are.
 fn shown(alloc: Global, bytes: &[u8]) -> Answer {
-    match entry_of(alloc, bytes) {
-        Ok(entry) => Answer::shown(alloc, &Ok::<_, FrameError>(EntryText(&entry))),
-        Err(error) => Answer::shown(alloc, &Err::<(), _>(error)),
-    }
+    Answer::shown(alloc, &entry_of(alloc, bytes))
 }
 
 /// What is found in bytes that are to be an entry, by name. An entry is written as its bytes.

@@ -1,14 +1,12 @@
 //! Frames that are read and written, and streams that fail.
 
 use crate::calls::{fed_at_once, feed, has_failed, reset, written};
-use crate::texts::FrameText;
 use raft_rows::{Answer, bytes};
 use raft_wire::{Fed, Feeder, Frame, FrameError, FrameKind};
 use std::alloc::Global;
 
 fn shown(alloc: Global, fed: Fed) -> Answer {
     let Fed { used, frame } = fed;
-    let frame = frame.map(|frame| frame.map(FrameText));
     Answer::shown(alloc, &(used, frame))
 }
 

@@ -11,7 +11,6 @@ mod frames;
 mod rooms;
 mod rows;
 mod snapshots;
-mod texts;
 
 use raft_rows::run;
 use rows::Calls;

@@ -12,7 +12,7 @@ use Rattle.raft_engine.specs.Building.{IsSnapshotOfApplied, covered_id}
 use Rattle.raft_engine.specs.Standing.{IsStateOf}
 use Rattle.raft_engine.proofs.PlacedEntries.{HasEntry, has_entry}
 use Rattle.raft_engine.proofs.PurgeLemmas.{snapshot_known}
-use Rattle.raft_world.specs.Member.{Engine, HasMembershipOfApplied}
+use Rattle.raft_world.specs.Member.{Engine}
 
 past_next : (known : Option (LogId ℕ)) (id : LogId ℕ) → stands_before known (Some id) ≡ true → next_place known ≤ id.index
 past_next None id h = omega arith
@@ -49,8 +49,8 @@ module _ (own : ℕ) (e : Engine) (s : GroupState) (h : IsStateOf own e s) (appl
   pub has_snapshot : option_map (snapshot_at s.stored) (id_of (entry_at s.stored applied.index)) ≡ None → ⊥
   has_snapshot none = absurd (let no : None ≡ Some (snapshot_at s.stored entry.entry.log_id) = sym none ∙ built_of in cc)
 
-  pub is_of_applied : HasMembershipOfApplied s → (x : Snapshot) → option_map (snapshot_at s.stored) (id_of (entry_at s.stored applied.index)) ≡ Some x → IsSnapshotOfApplied s x
-  is_of_applied members x found =
+  pub is_of_applied : (x : Snapshot) → option_map (snapshot_at s.stored) (id_of (entry_at s.stored applied.index)) ≡ Some x → IsSnapshotOfApplied s x
+  is_of_applied x found =
       let same : x ≡ snapshot_at s.stored entry.entry.log_id = (let both : Some x ≡ Some (snapshot_at s.stored entry.entry.log_id) = sym found ∙ built_of in cc) in
       let id = entry.entry.log_id in
       let applied_there : s.applied ≡ Some id.index = at_place ∙ ap Some (sym entry.index) in
@@ -62,5 +62,4 @@ module _ (own : ℕ) (e : Engine) (s : GroupState) (h : IsStateOf own e s) (appl
         entry = entry_there;
         later = later_there;
         covers = refl;
-        membership = members id applied_there entry_there later_there;
       })

@@ -11,10 +11,11 @@ use Rattle.raft_group_step.specs.GroupEvent.{Call}
 use Rattle.raft_group_step.specs.declared.group_call.GroupCall.TheVariants.{ChangeMembership}
 use Rattle.raft_group_step.specs.Refusal.{first_of_reasons, is_settled_membership, lead_reason, range_reason, reasons_of_change, refusal_of, unless}
 use Rattle.raft_group_step.specs.StepResult.{InProgress, MembershipRefused, VoterChange}
+use Rattle.raft_group_step.proofs.Refusals.{unless_none as passes}
 use Rattle.raft_known_state.proofs.KnownStateLemmas.{end-known}
 use Rattle.raft_engine.specs.Events.{IsReady}
 use Rattle.raft_engine.specs.Standing.{IsStateOf}
-use Rattle.raft_engine.proofs.EventLemmas.{no_first_reason, passes}
+use Rattle.raft_engine.proofs.EventLemmas.{no_first_reason}
 use Rattle.raft_engine.proofs.RoomLemmas.{call_accepted}
 use Rattle.raft_world.specs.Member.{Engine}
 

@@ -1,34 +1,24 @@
 -- What every history of a group has, as members ask it of their states.
-use Rattle.std.specs.Prelude.{◌≡◌, ℕ, suc, ◌+◌, ◌≤◌, ◌<◌, ◌^◌, List, [], ◌∷◌, length, slice_get, Option, Some, None, refl}
-use Rattle.std.proofs.Common.{sym, ap, ◌∙◌, subst, arith}
+use Rattle.std.specs.Prelude.{◌≡◌, ℕ, suc, ◌+◌, List, [], ◌∷◌, slice_get, Option, Some, None, refl}
+use Rattle.std.proofs.Common.{sym, ap, ◌∙◌, arith}
 use Rattle.raft_values.specs.declared.log_id.LogId.{LogId}
 use Rattle.raft_values.specs.LogId.{next_place}
 use Rattle.raft_group_step.specs.Values.{Entry}
-use Rattle.raft_group_step.specs.StoredGroup.{StoredGroup, Snapshot, first_place, membership_in_force, snapshot_last}
+use Rattle.raft_group_step.specs.StoredGroup.{StoredGroup, Snapshot, first_place, snapshot_last}
 use Rattle.raft_group_step.specs.GroupState.{GroupState, state_of}
-use Rattle.raft_group_step.specs.Lead.{ids_of, other_ids}
 use Rattle.raft_group_step.specs.StepResult.{StepResult, unchanged}
 use Rattle.raft_group_step.specs.Opening.{drop_stale_log, is_joined_to}
+use Rattle.raft_group_step.proofs.Words.{either}
 use Rattle.raft_known_state.specs.KnownState.{ArePlaced}
 use Rattle.raft_laws.specs.GroupWorld.{GroupWorld, Up, Down, Recorded}
 use Rattle.raft_laws.specs.OneList.{IsGroupHistory}
 use Rattle.raft_laws.specs.Opened.{opened}
 use Rattle.raft_laws.specs.VotesRise.{stored_of}
-use Rattle.raft_laws.proofs.FewMembers.{members_few}
 use Rattle.raft_laws.proofs.LowPlaces.{places_low}
-use Rattle.raft_laws.proofs.OpenedStates.{opened_in_order, opened_keeps, opened_low}
-use Rattle.raft_laws.proofs.ReadyStates.{purge_of_up_node, snapshot_ready, wish_covered}
-use Rattle.raft_laws.proofs.StepWords.{either}
-use Rattle.raft_engine.proofs.RoomToGrow.{fewer_filtered}
+use Rattle.raft_laws.proofs.OpenedStates.{opened_in_order, opened_low}
+use Rattle.raft_laws.proofs.ReadyStates.{wish_covered}
 use Rattle.raft_world.specs.Member.{IsLawful}
 use Rattle.raft_world.specs.Opening.{IsOpenable}
-
--- ---- few members
-
-others_few : (own : ℕ) (st : StoredGroup) → length (ids_of (membership_in_force st)) ≤ 128 → length (other_ids own st) ≤ 2 ^ 62
-others_few own st few =
-    let fewer : length (other_ids own st) ≤ length (ids_of (membership_in_force st)) = fewer_filtered _ (ids_of (membership_in_force st)) in
-    omega arith
 
 -- ---- nodes that are up
 
@@ -36,11 +26,8 @@ pub lawful_at : (ids : List ℕ) (rs : List Recorded) (g : GroupWorld) → IsGro
 lawful_at ids rs g h n s is = record {
   ready = record {
     places = places_low ids rs g h n s.stored (ap stored_of is);
-    members = others_few n s.stored (members_few ids rs g h n s.stored (ap stored_of is));
     wish = wish_covered ids rs g h n s is;
-    purges = λ place below. record { within = below; members = purge_of_up_node ids rs g h n s is place below };
   };
-  snapshots = snapshot_ready ids rs g h n s is;
 }
 
 -- ---- nodes that are down
@@ -78,11 +65,6 @@ openable_at ids rs g h n st is =
       reaches = order.reaches;
       ready = record {
         places = opened_low ids rs g h n st is;
-        members = others_few n now order.members;
         wish = λ place e. no_wish _ place (opening_has_no_wish st (snapshot_last st)) e;
-        purges = λ place below. record {
-          within = below;
-          members = opened_keeps ids rs g h n st is place (subst (λ o. place < next_place o) last_is below);
-        };
       };
     }

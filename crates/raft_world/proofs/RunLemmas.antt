@@ -2,6 +2,7 @@
 use Rattle.std.specs.Prelude.{◌≡◌, ℕ, zero, suc, Bool, true, false, ◌||◌, is_some, List, [], ◌∷◌, ◌++◌, take, length, Option, Some, None, refl}
 use Rattle.std.proofs.Common.{sym, ap, ◌∙◌}
 use Rattle.std.proofs.Math.Seq.{take-length}
+use Rattle.raft_values.specs.declared.log_id.LogId.{LogId}
 use Rattle.raft_values.specs.LogId.{log_id_of}
 use Rattle.raft_group_step.specs.StoredGroup.{StoredGroup, StoringCommand, Snapshot, SetSnapshot, after_storing_all}
 use Rattle.raft_group_step.specs.StepResult.{StepResult}
@@ -12,11 +13,11 @@ use Rattle.raft_commands.specs.declared.sm.CommandPayload.{CommandPayload}
 use Rattle.raft_commands.specs.declared.sm.CommandPayload.TheVariants.{BuildSnapshot, GetSnapshot, BeginReceivingSnapshot, InstallFullSnapshot, Apply}
 use Rattle.raft_engine.specs.Commands.{Command, storing_of, storing_of_machine, stored_by, sent_by}
 use Rattle.raft_engine.specs.Standing.{IsWholeStepOf}
-use Rattle.raft_executor.specs.Stored.{IsGiven, IsPartStored, first_of, has_snapshot, machine_has_snapshot, queue_has_snapshot}
+use Rattle.raft_executor.specs.Stored.{first_of, has_snapshot, machine_has_snapshot, queue_has_snapshot}
 use Rattle.raft_laws.specs.Stop.{stopped_after}
 use Rattle.raft_laws.proofs.GroupsStay.{groups_stay}
 use Rattle.raft_world.specs.Member.{Engine, IsDown, IsIdle, IsUp}
-use Rattle.raft_world.specs.Running.{HasHalted, IsRun}
+use Rattle.raft_world.specs.Running.{HasHalted, IsGiven, IsRun}
 use Rattle.raft_world.specs.declared.member.Member.{Member}
 
 -- ---- a queue that stores the same whatever the snapshot stores none
@@ -95,19 +96,19 @@ two_differ : one_snapshot 0 ≡ one_snapshot 1 → ⊥
 two_differ e = absurd (let no : zero ≡ suc zero = ap (λ (x : Snapshot). x.last.index) e in cc)
 
 -- a step that its engine has done whatever the snapshot stores none
-pub no_snapshot_stored : {own : ℕ} {seen : Bool} {last : ℕ} (e : Engine) (r : StepResult) → ((x : Snapshot) → IsWholeStepOf (record { snapshot = x; seen_greater_log = seen; last_sm_seq = last }) own e r) → queue_has_snapshot e.output.queue ≡ false
+pub no_snapshot_stored : {own : ℕ} {seen : Bool} {last : ℕ} {committed : Option (LogId ℕ)} (e : Engine) (r : StepResult) → ((x : Snapshot) → IsWholeStepOf (record { snapshot = x; seen_greater_log = seen; last_sm_seq = last; committed_before = committed }) own e r) → queue_has_snapshot e.output.queue ≡ false
 no_snapshot_stored e r h =
     no_snapshot (one_snapshot 0) (one_snapshot 1) two_differ e.output.queue ((h (one_snapshot 0)).stores ∙ sym (h (one_snapshot 1)).stores)
 
 -- so no snapshot need be given for it
-pub none_given : {own : ℕ} {seen : Bool} {last : ℕ} (e : Engine) (r : StepResult) → ((x : Snapshot) → IsWholeStepOf (record { snapshot = x; seen_greater_log = seen; last_sm_seq = last }) own e r) → (x : Snapshot) → IsGiven (queue_has_snapshot e.output.queue) None x
+pub none_given : {own : ℕ} {seen : Bool} {last : ℕ} {committed : Option (LogId ℕ)} (e : Engine) (r : StepResult) → ((x : Snapshot) → IsWholeStepOf (record { snapshot = x; seen_greater_log = seen; last_sm_seq = last; committed_before = committed }) own e r) → (x : Snapshot) → IsGiven (queue_has_snapshot e.output.queue) None x
 none_given e r h x = λ has. absurd (let no : false ≡ true = sym (no_snapshot_stored e r h) ∙ has in cc)
 
 -- a step that its engine has done whatever the snapshot is run with none
-pub run_without_snapshot : {seen : Bool} {last : ℕ} (own : ℕ) (e : Engine) (old : StoredGroup) (r : StepResult) (at : ℕ) → ((x : Snapshot) → IsWholeStepOf (record { snapshot = x; seen_greater_log = seen; last_sm_seq = last }) own e r)
+pub run_without_snapshot : {seen : Bool} {last : ℕ} {committed : Option (LogId ℕ)} (own : ℕ) (e : Engine) (old : StoredGroup) (r : StepResult) (at : ℕ) → ((x : Snapshot) → IsWholeStepOf (record { snapshot = x; seen_greater_log = seen; last_sm_seq = last; committed_before = committed }) own e r)
     → r.state.stored ≡ after_storing_all r.commands old → at ≡ r.state.now → IsRun own e old r None at
-run_without_snapshot {seen} {last} own e old r at h stored moment = record {
-  taken = record { snapshot = one_snapshot 0; seen_greater_log = seen; last_sm_seq = last };
+run_without_snapshot {seen} {last} {committed} own e old r at h stored moment = record {
+  taken = record { snapshot = one_snapshot 0; seen_greater_log = seen; last_sm_seq = last; committed_before = committed };
   step = h (one_snapshot 0);
   is_given = none_given e r h (one_snapshot 0);
   stored = stored;
@@ -116,35 +117,30 @@ run_without_snapshot {seen} {last} own e old r at h stored moment = record {
 
 -- ---- what is stored of a step
 
-take_front : (done others : List StoringCommand) → take (length done) (done ++ others) ≡ done
-take_front [] others = refl
-take_front (c ∷ cs) others = ap (λ l. c ∷ l) (take_front cs others)
-
 -- the front of the first ones is a front
-front_of_first : (k : ℕ) (cs done others : List StoringCommand) → take k cs ≡ done ++ others → take (length done) cs ≡ done
-front_of_first k cs [] others e = refl
-front_of_first zero cs (d ∷ ds) others e = absurd (let no : [] ≡ d ∷ (ds ++ others) = e in cc)
-front_of_first (suc k) [] (d ∷ ds) others e = absurd (let no : [] ≡ d ∷ (ds ++ others) = e in cc)
-front_of_first (suc k) (c ∷ cs) (d ∷ ds) others e =
-    let same : c ≡ d = cc e in
-    let rest : take k cs ≡ ds ++ others = cc e in
-    ap (λ x. x ∷ take (length ds) cs) same ∙ ap (λ l. d ∷ l) (front_of_first k cs ds others rest)
+front_of_first : (number limit : ℕ) (cs : List StoringCommand) → (k : ℕ) × (take number (take limit cs) ≡ take k cs)
+front_of_first zero limit cs = (0, refl)
+front_of_first (suc n) zero cs = (0, refl)
+front_of_first (suc n) (suc limit) [] = (0, refl)
+front_of_first (suc n) (suc limit) (c ∷ cs) =
+    let rest = front_of_first n limit cs in (suc rest.0, ap (λ l. c ∷ l) rest.1)
 
-front_stored : (stop : Option ℕ) (cs done others : List StoringCommand) → first_of stop cs ≡ done ++ others → take (length done) cs ≡ done
-front_stored None cs done others e = ap (take (length done)) e ∙ take_front done others
-front_stored (Some k) cs done others e = front_of_first k cs done others e
+front_stored : (number : ℕ) (stop : Option ℕ) (cs : List StoringCommand) → (k : ℕ) × (take number (first_of stop cs) ≡ take k cs)
+front_stored number None cs = (number, refl)
+front_stored number (Some limit) cs = front_of_first number limit cs
 
 module _ (own : ℕ) (e : Engine) (old : StoredGroup) (r : StepResult) (given : Option Snapshot) (at : ℕ) (run : IsRun own e old r given at) (present : old.present ≡ true) where
-  -- the number of those that were stored
-  pub halted_within : (m : Member) → m.engine ≡ None → (stop : Option ℕ) → IsPartStored (first_of stop (stored_by run.taken.snapshot e.output.queue)) old m.stored → HasHalted old r m
-  halted_within m none stop part =
-      let commands : first_of stop r.commands ≡ part.done ++ part.others = ap (first_of stop) (sym run.step.stores) ∙ part.listed in
+  -- so many of the first ones were stored
+  pub halted_within : (m : Member) → m.engine ≡ None → (stop : Option ℕ) (number : ℕ)
+      → m.stored ≡ after_storing_all (take number (first_of stop (stored_by run.taken.snapshot e.output.queue))) old → HasHalted old r m
+  halted_within m none stop number stored =
+      let front = front_stored number stop r.commands in
       record {
-        number = length part.done;
+        number = front.0;
         down = record {
           no_engine = none;
-          stored = part.stored ∙ ap (λ l. after_storing_all l old) (sym (front_stored stop r.commands part.done part.others commands));
-          present = groups_stay (take (length part.done) r.commands) old present;
+          stored = stored ∙ ap (λ l. after_storing_all l old) (ap (λ l. take number (first_of stop l)) run.step.stores ∙ front.1);
+          present = groups_stay (take front.0 r.commands) old present;
         };
       }
 

@@ -7,7 +7,6 @@ use Rattle.raft_group_step.specs.GroupState.{GroupState}
 use Rattle.raft_group_step.specs.GroupEvent.{GroupEvent}
 use Rattle.raft_group_step.specs.GroupStep.{group_step}
 use Rattle.raft_group_step.specs.Refusal.{refusal_of}
-use Rattle.raft_group_step.specs.SnapshotTrigger.{snapshot_at}
 use Rattle.raft_conditions.specs.Reason.{reason_of}
 use Rattle.raft_engine.specs.Building.{is_building}
 use Rattle.raft_engine.specs.Events.{IsReady}
@@ -52,17 +51,9 @@ IsAt m Absent = ⊥
 IsAt m (Up s) = IsUp m s
 IsAt m (Down stored) = IsDown m stored
 
--- a snapshot of what is applied has the membership in force up to there
-abbrev pub HasMembershipOfApplied : GroupState → Type 0
-HasMembershipOfApplied s =
-    (last : LogId ℕ) → s.applied ≡ Some last.index → id_of (entry_at s.stored last.index) ≡ Some last
-    → next_place (snapshot_last s.stored) ≤ last.index
-    → (snapshot_at s.stored last).membership ≡ membership_in_force (after_storing (CutFrom (last.index + 1)) s.stored)
-
 -- what each state of a run has, beside what its engine knows
 pub record IsLawful (own : ℕ) (s : GroupState) : Type 0 where
   pub ready : IsReady own s
-  pub snapshots : HasMembershipOfApplied s
 
 -- the event isn't refused; it stopped after some of its storing commands, and the member is down
 pub record HasStopped (own : ℕ) (s : GroupState) (event : GroupEvent) (m : Member) : Type 0 where

@@ -1,17 +1,21 @@
 -- How a step runs at a member, while its engine is taken out.
-use Rattle.std.specs.Prelude.{◌≡◌, ℕ, map, Option, Some, None, Result, Ok, Err}
+use Rattle.std.specs.Prelude.{◌≡◌, ℕ, Bool, true, map, Option, Some, None, Result, Ok, Err}
 use Rattle.raft_group_step.specs.StoredGroup.{StoredGroup, Snapshot, after_storing_all}
 use Rattle.raft_group_step.specs.GroupState.{GroupState}
 use Rattle.raft_group_step.specs.GroupEvent.{GroupEvent}
 use Rattle.raft_group_step.specs.StepResult.{StepResult}
 use Rattle.raft_engine.specs.Standing.{Given, IsWholeStepOf}
 use Rattle.raft_messages.specs.Messages.{message_of}
-use Rattle.raft_executor.specs.Stored.{IsGiven, queue_has_snapshot}
+use Rattle.raft_executor.specs.Stored.{queue_has_snapshot}
 use Rattle.raft_laws.specs.Stop.{stopped_after}
 use Rattle.raft_world.specs.Member.{Engine, HasEnded, IsDown, IsUp}
 use Rattle.raft_world.specs.declared.member.Member.{Member}
 use Rattle.raft_world.specs.declared.member.Ended.{Ended}
 use Rattle.raft_world.specs.declared.member.Ended.TheVariants as ended
+
+-- where a snapshot is stored, it is the one that is given
+abbrev pub IsGiven : Bool → Option Snapshot → Snapshot → Type 0
+IsGiven is_stored given x = is_stored ≡ true → given ≡ Some x
 
 -- the engine has done the step, which begins with this stored, and the snapshot that its queue stores is given
 pub record IsRun (own : ℕ) (e : Engine) (old : StoredGroup) (r : StepResult) (given : Option Snapshot) (at : ℕ) : Type 0 where

@@ -7,7 +7,7 @@ ghost use Rattle.raft_group_step.specs.Values.{ChangeMembers};
 ghost use Rattle.raft_group_step.specs.declared.group_call.GroupCall.TheVariants.{ChangeMembership, Initialize, Propose, TriggerSnapshot};
 ghost use Rattle.raft_engine.specs.Events.{HasTaken, MayTake};
 ghost use Rattle.raft_group_step.specs.GroupStep.{group_step};
-ghost use Rattle.raft_world.specs.Member.{HasBrokenOff, HasEnded, HasMembershipOfApplied, IsDown, IsIdle, IsLawful, IsUp};
+ghost use Rattle.raft_world.specs.Member.{HasBrokenOff, HasEnded, IsDown, IsIdle, IsLawful, IsUp};
 ghost use Rattle.raft_world.specs.Running.{EndsTo, HasHalted, RunsTo};
 ghost use Rattle.raft_world.specs.declared.member.Ended.TheVariants.{Skipped};
 
@@ -101,10 +101,10 @@ impl Member {
         stop: Option<u64>,
     ) -> Result<Ended, AllocError>
         ensures id { self.new.id ≡ self.old.id }
-        ensures ok { (at : ℕ) (s : GroupState) → IsDown self.old s.stored → IsIdle self.old.id engine.old s → moment ≡ max s.now at → HasMembershipOfApplied s
+        ensures ok { (at : ℕ) (s : GroupState) → IsDown self.old s.stored → IsIdle self.old.id engine.old s → moment ≡ max s.now at
             → MayTake self.old.id engine.old s (Call TriggerSnapshot at)
             → RunsTo s.stored (group_step self.old.id s (Call TriggerSnapshot at)) stop engine.new self.new result }
-        ensures err { (at : ℕ) (s : GroupState) → IsDown self.old s.stored → IsIdle self.old.id engine.old s → moment ≡ max s.now at → HasMembershipOfApplied s
+        ensures err { (at : ℕ) (s : GroupState) → IsDown self.old s.stored → IsIdle self.old.id engine.old s → moment ≡ max s.now at
             → MayTake self.old.id engine.old s (Call TriggerSnapshot at)
             → OnErr result (HasHalted s.stored (group_step self.old.id s (Call TriggerSnapshot at)) self.new) }
     {
@@ -131,10 +131,10 @@ impl Member {
         stop: Option<u64>,
     ) -> Result<Ended, AllocError>
         ensures id { self.new.id ≡ self.old.id }
-        ensures ok { (at : ℕ) (s : GroupState) → IsDown self.old s.stored → IsIdle self.old.id engine.old s → moment ≡ max s.now at → HasMembershipOfApplied s
+        ensures ok { (at : ℕ) (s : GroupState) → IsDown self.old s.stored → IsIdle self.old.id engine.old s → moment ≡ max s.now at
             → MayTake self.old.id engine.old s (Call call.now at)
             → RunsTo s.stored (group_step self.old.id s (Call call.now at)) stop engine.new self.new result }
-        ensures err { (at : ℕ) (s : GroupState) → IsDown self.old s.stored → IsIdle self.old.id engine.old s → moment ≡ max s.now at → HasMembershipOfApplied s
+        ensures err { (at : ℕ) (s : GroupState) → IsDown self.old s.stored → IsIdle self.old.id engine.old s → moment ≡ max s.now at
             → MayTake self.old.id engine.old s (Call call.now at)
             → OnErr result (HasHalted s.stored (group_step self.old.id s (Call call.now at)) self.new) }
     {

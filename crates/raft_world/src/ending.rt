@@ -10,7 +10,8 @@ ghost use Rattle.raft_world.specs.Running.{HasHalted, IsRun, RunsTo, left_by};
 
 use crate::member::{ByteGroup, Ended, Member};
 use raft_engine::Engine;
-use raft_executor::{messages, store_first};
+use raft_executor::{Sender, messages, store_first};
+use raft_group_storage::ONLY_GROUP;
 use raft_stored_group::GroupSnapshot;
 use std::alloc::{AllocError, Global};
 
@@ -58,12 +59,16 @@ impl Member {
         ensures err { (old : Stored) (r : StepResult) → IsDown self.old old → IsRun self.old.id engine.old old r (option_copied snapshot.entry) moment
             → OnErr result (HasHalted old r self.new) }
     {
-        store_first(&engine.output, stop, snapshot, &mut self.stored)?;
+        store_first(&engine.output, stop, snapshot, &mut self.stored, ONLY_GROUP)?;
         if stop.is_some() {
             return Ok(Ended::Stopped);
         }
-        let committed = engine.state.state.committed;
-        let sent = messages(alloc, self.id, &engine.output, &self.stored, committed)?;
+        let sender = Sender {
+            own: self.id,
+            vote: self.stored.vote(),
+            committed: engine.state.state.committed,
+        };
+        let sent = messages(alloc, &sender, &engine.output, &mut self.stored, ONLY_GROUP)?;
         self.moment = moment;
         come_to_rest(engine);
         Ok(Ended::Done(sent))

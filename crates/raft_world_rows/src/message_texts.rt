@@ -38,6 +38,7 @@ impl Display for OutcomeText {
     fn fmt<W: fmt::Write>(&self, f: &mut fmt::Formatter<W>) -> fmt::Result {
         match self.0 {
             ReplyResult::Success => f.write_str("success"),
+            ReplyResult::PartialSuccess(last) => write!(f, "part {}", IdText(last)),
             ReplyResult::Conflict => f.write_str("conflict"),
             ReplyResult::HigherVote(vote) => write!(f, "higher {}", VoteText(vote)),
         }

@@ -3,7 +3,7 @@ ghost use Rattle.std.specs.Prelude.{◌≡◌, ◌==◌, ◌&&◌, None, map};
 ghost use Rattle.std.specs.List.{list_any};
 ghost use Rattle.raft_group_step.specs.Values.{vote_eq};
 ghost use Rattle.raft_messages.specs.Messages.{body_of, message_of, outcome_of, reply_fields_of};
-ghost use Rattle.raft_laws.specs.Settled.{accepts, body_accepts, has_accepted_some, is_at_or_after, is_last, is_success};
+ghost use Rattle.raft_laws.specs.Settled.{accepted_last, accepts, body_accepts, has_accepted_some, is_at_or_after, is_last};
 ghost use Rattle.raft_world.specs.Settled.{has_later, is_led_with, is_reply, led_of, world_of};
 
 use crate::settled::led_note::LedNote;
@@ -28,13 +28,14 @@ fn is_last(leader: &LeaderId<u64>, place: u64, last: &Option<LogId<u64>>) -> boo
     }
 }
 
-// Whether all of the request is there.
-fn is_success(outcome: &ReplyResult) -> bool
-    ensures { result ≡ is_success (outcome_of outcome.now) }
+// The log id up to which the answer accepts the request, if it accepts any.
+fn accepted_last(reply: &ReplyFields) -> Option<LogId<u64>>
+    ensures { result ≡ accepted_last (outcome_of reply.now.outcome) reply.now.last }
 {
-    match outcome {
-        ReplyResult::Success => true,
-        ReplyResult::Conflict | ReplyResult::HigherVote(_) => false,
+    match reply.outcome {
+        ReplyResult::Success => reply.last,
+        ReplyResult::PartialSuccess(upto) => upto,
+        ReplyResult::Conflict | ReplyResult::HigherVote(_) => None,
     }
 }
 
@@ -45,13 +46,11 @@ fn is_same_vote(vote: &Vote<u64>, other: &Vote<u64>) -> bool
     *vote == *other
 }
 
-// Whether the answer accepts, under the vote, a request that ends at the place or after it.
+// Whether the answer accepts, under the vote, all up to the place or one after it.
 fn accepts(vote: &Vote<u64>, place: u64, reply: &ReplyFields) -> bool
     ensures { result ≡ accepts vote.now (is_at_or_after vote.now.leader_id place) (reply_fields_of reply.now) }
 {
-    is_success(&reply.outcome)
-        && is_same_vote(&reply.vote, vote)
-        && is_last(&vote.leader_id, place, &reply.last)
+    is_same_vote(&reply.vote, vote) && is_last(&vote.leader_id, place, &accepted_last(reply))
 }
 
 // Whether it is an answer that accepts.

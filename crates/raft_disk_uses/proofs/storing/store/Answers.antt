@@ -1,15 +1,16 @@
 use Rattle.std.proofs.Common.{◌≡◌, ◌⊎◌, inl, inr, ◌≤◌, ℕ, List, Some, arith}
-use Rattle.raft_disk_uses.proofs.StoreLemmas.{none_created, none_written, none_same, none_with, one_is_none, drafted, stored_ok, stored_err, whatever, untouched_with, untouched_create, untouched_last, untouched_then}
+use Rattle.raft_log_disk.proofs.CauseLemmas.{at_err}
+use Rattle.raft_disk_uses.proofs.StoreLemmas.{none_created, none_written, none_same, none_with, one_is_none, drafted, stored_ok, stored_err, untouched_with, untouched_create, untouched_last, untouched_then}
 use Rattle.raft_disk_uses.proofs.storing.store.Goals as goal
 
 pub returns-in_err-fd-clause-err : goal.returns-in_err-fd-clause-err
-returns-in_err-fd-clause-err g c = whatever _ _ (one_is_none (g.F.FileSystem.disk c.create.new.self) c.args.path.now (Some c.args.bytes.now) (none_created (g.F.FileSystem.disk c.args.files.now) (g.F.FileSystem.disk c.create.new.self) c.args.draft.now c.args.path.now c.requires.path c.requires.apart c.in_err-fd.ensures.err))
+returns-in_err-fd-clause-err g c = at_err _ _ (one_is_none (g.F.FileSystem.disk c.create.new.self) c.args.path.now (Some c.args.bytes.now) (none_created (g.F.FileSystem.disk c.args.files.now) (g.F.FileSystem.disk c.create.new.self) c.args.draft.now c.args.path.now c.requires.path c.requires.apart c.in_err-fd.ensures.err))
 
 pub returns-in_err-write_at-clause-err : goal.returns-in_err-write_at-clause-err
-returns-in_err-write_at-clause-err g c = whatever _ _ (one_is_none (g.F.FileSystem.disk c.write_at.new.self) c.args.path.now (Some c.args.bytes.now) (none_written (g.F.FileSystem.disk c.create.new.self) (g.F.FileSystem.disk c.write_at.new.self) c.in_ok-fd.fd.0 0 c.args.bytes.now c.args.path.now (none_created (g.F.FileSystem.disk c.args.files.now) (g.F.FileSystem.disk c.create.new.self) c.args.draft.now c.args.path.now c.requires.path c.requires.apart (inr c.in_ok-fd.ensures.ok.1)) c.in_err-write_at.ensures.err))
+returns-in_err-write_at-clause-err g c = at_err _ _ (one_is_none (g.F.FileSystem.disk c.write_at.new.self) c.args.path.now (Some c.args.bytes.now) (none_written (g.F.FileSystem.disk c.create.new.self) (g.F.FileSystem.disk c.write_at.new.self) c.in_ok-fd.fd.0 0 c.args.bytes.now c.args.path.now (none_created (g.F.FileSystem.disk c.args.files.now) (g.F.FileSystem.disk c.create.new.self) c.args.draft.now c.args.path.now c.requires.path c.requires.apart (inr c.in_ok-fd.ensures.ok.1)) c.in_err-write_at.ensures.err))
 
 pub returns-in_err-sync-clause-err : goal.returns-in_err-sync-clause-err
-returns-in_err-sync-clause-err g c = whatever _ _ (one_is_none (g.F.FileSystem.disk c.sync.new.self) c.args.path.now (Some c.args.bytes.now) (none_same (g.F.FileSystem.disk c.write_at.new.self) (g.F.FileSystem.disk c.sync.new.self) c.args.path.now (none_with (g.F.FileSystem.disk c.create.new.self) (g.F.FileSystem.disk c.write_at.new.self) c.in_ok-fd.fd.0 _ c.args.path.now (none_created (g.F.FileSystem.disk c.args.files.now) (g.F.FileSystem.disk c.create.new.self) c.args.draft.now c.args.path.now c.requires.path c.requires.apart (inr c.in_ok-fd.ensures.ok.1)) c.in_ok-write_at.ensures.ok) c.in_err-sync.ensures.err))
+returns-in_err-sync-clause-err g c = at_err _ _ (one_is_none (g.F.FileSystem.disk c.sync.new.self) c.args.path.now (Some c.args.bytes.now) (none_same (g.F.FileSystem.disk c.write_at.new.self) (g.F.FileSystem.disk c.sync.new.self) c.args.path.now (none_with (g.F.FileSystem.disk c.create.new.self) (g.F.FileSystem.disk c.write_at.new.self) c.in_ok-fd.fd.0 _ c.args.path.now (none_created (g.F.FileSystem.disk c.args.files.now) (g.F.FileSystem.disk c.create.new.self) c.args.draft.now c.args.path.now c.requires.path c.requires.apart (inr c.in_ok-fd.ensures.ok.1)) c.in_ok-write_at.ensures.ok) c.in_err-sync.ensures.err))
 
 pub rename-requires : goal.rename-requires
 rename-requires g c = (drafted (g.F.FileSystem.disk c.args.files.now) (g.F.FileSystem.disk c.create.new.self) (g.F.FileSystem.disk c.write_at.new.self) (g.F.FileSystem.disk c.sync.new.self) c.args.draft.now c.args.path.now c.in_ok-fd.fd.0 c.args.bytes.now c.requires.draft c.requires.path c.requires.apart c.in_ok-fd.ensures.ok.0 c.in_ok-fd.ensures.ok.1 c.in_ok-write_at.ensures.ok c.in_ok-sync.ensures.ok).free

@@ -12,5 +12,5 @@ returns g c = λ x own r m step spells.
     let body = AppendReply (record { vote = m.vote; id = m.id; previous = m.previous; last = last_sent m.previous m.entries; outcome = result_of c.args.resp }) in
     on_ok_weaker c.push_command.result
     (λ h. sent_more x own c.args.self.now _ r step (Respond None (AppendEntries c.new.result)) (message_to own c.args.tx.peer body)
-    refl refl refl refl refl h refl refl (λ s upto. rw (c.new.ensures, spells.vote, spells.id, spells.previous, spells.last) refl))
+    refl refl refl refl refl h refl refl refl (λ s upto. rw (c.new.ensures, spells.vote, spells.id, spells.previous, spells.last) refl))
     c.push_command.ensures.ok

@@ -1,4 +1,4 @@
--- The membership is appended, which has few nodes, so there is room for what a leader finishes.
+-- The membership is appended, and there is room for what a leader finishes.
 use Rattle.std.proofs.lemmas.Result.{on_ok_weaker}
 use Rattle.raft_group_step.specs.declared.group_call.GroupCall.TheVariants.{ChangeMembership}
 use Rattle.raft_group_step.specs.GroupEvent.{Call}
@@ -13,7 +13,7 @@ pub returns : goal.returns
 returns g c = λ x own at token s m change in_force is may.
     let old = c.args.self.now in
     let event = Call (ChangeMembership change token) at in
-    let lead = changes own at token s may.ready may.stands.order change m in_force may.accepted in
+    let lead = changes own at token s may.ready change m in_force may.accepted in
     let step = c.in_ok-membership_part.ensures (given x old) own (begun at s) lead.0 token m change (step_begun x own at old s may.stands may.empty) lead.1 in_force is in
     on_ok_weaker c.finish.result (event_taken x own old c.finish.new.self s event may)
-    (c.finish.ensures (given x old) own (membership_step change token (begun at s)) step (finish_changed own at token s may.ready may.stands.order change m in_force may.accepted))
+    (c.finish.ensures (given x old) own (membership_step change token (begun at s)) step (finish_changed own at token s may.ready change m in_force may.accepted))

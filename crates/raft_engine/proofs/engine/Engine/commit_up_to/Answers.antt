@@ -27,5 +27,5 @@ returns-clause-step g c = λ x own r step within.
     (λ h. rw c.in-Some.is
     (more_committed x own c.args.self.now _ r step c.in-Some.place c.in-Some-get_log_id.upto commit refl refl refl refl refl past (within c.in-Some.place c.in-Some.is)
     (sym c.in-Some-get_log_id.is ∙ c.get_log_id.ensures r.state.stored step.state.knows order.placed)
-    (h ∙ ap (λ (o : Output _ _ _ _ _). record o { queue = o.queue ++ commit ∷ [] }) c.next_sm_seq-seq.ensures.rest) refl (ap (λ n. n ∷ []) c.next_sm_seq-seq.ensures.value) (λ s upto. refl)))
+    (h ∙ ap (λ (o : Output _ _ _ _ _). record o { queue = o.queue ++ commit ∷ [] }) c.next_sm_seq-seq.ensures.rest) refl (ap (λ n. n ∷ []) c.next_sm_seq-seq.ensures.value) refl tt (λ s upto. refl)))
     c.push_command.ensures.ok

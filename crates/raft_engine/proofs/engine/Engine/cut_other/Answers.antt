@@ -7,10 +7,10 @@ use Rattle.raft_group_step.specs.StoredGroup.{entry_at, has_id_in_log}
 use Rattle.raft_group_step.specs.StepResult.{is_within}
 use Rattle.raft_group_step.specs.AppendRequest.{cut_from}
 use Rattle.raft_group_step.specs.SnapshotRequest.{place_above}
+use Rattle.raft_group_step.proofs.Refusals.{past_above}
 use Rattle.raft_engine.specs.Standing.{IsStepOf}
 use Rattle.raft_engine.proofs.PlacedEntries.{entry_of_id}
 use Rattle.raft_engine.proofs.FollowingLemmas.{above_first, committed_place, past_committed}
-use Rattle.raft_engine.proofs.SnapshotLemmas.{past_above}
 use Rattle.raft_engine.proofs.engine.Engine.cut_other.Goals as goal
 use Rattle.raft_engine.proofs.engine.Engine.cut_other.Goals.{then-has_log_id-via-then-has_log_id, then-has_log_id-via-else-has_log_id+then-is_none}
 

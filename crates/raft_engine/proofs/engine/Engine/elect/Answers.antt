@@ -5,7 +5,7 @@ use Rattle.raft_group_step.specs.GroupEvent.{Call}
 use Rattle.raft_group_step.specs.declared.group_call.GroupCall.TheVariants.{Elect}
 use Rattle.raft_group_step.specs.Elect.{elect_step}
 use Rattle.raft_group_step.specs.GroupStep.{begun}
-use Rattle.raft_engine.proofs.ElectionEvents.{term_left, votes_now}
+use Rattle.raft_engine.proofs.ElectionEvents.{term_left}
 use Rattle.raft_engine.specs.Standing.{given}
 use Rattle.raft_engine.proofs.EventLemmas.{event_taken, step_begun}
 use Rattle.raft_engine.proofs.NewLeadLemmas.{elect_finishes}
@@ -18,6 +18,6 @@ returns g c = λ x own at s now may.
     let places = may.ready.places in
     let stood =
     c.in_ok-elect_part.ensures (given x e) own (begun at s) (step_begun x own at e s may.stands may.empty) (sym now)
-    (omega (arith, term)) (omega (arith, places)) (votes_now own at s may.accepted) in
+    (omega (arith, term)) (omega (arith, places)) in
     on_ok_weaker c.finish.result (λ h. event_taken x own e c.finish.new.self s (Call Elect at) may h)
-    (c.finish.ensures (given x e) own (elect_step own (begun at s)) stood (elect_finishes own (begun at s) places may.ready.members))
+    (c.finish.ensures (given x e) own (elect_step own (begun at s)) stood (elect_finishes own (begun at s) places))

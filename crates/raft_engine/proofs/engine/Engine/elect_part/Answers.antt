@@ -13,8 +13,8 @@ use Rattle.raft_engine.proofs.ElectionLemmas.{elected, stood_state}
 use Rattle.raft_engine.proofs.engine.Engine.elect_part.Goals as goal
 
 pub returns : goal.returns
-returns g c = λ x own r step now fits room votes.
-    let stood = c.in_ok-stand.ensures x own r step now fits votes in
+returns g c = λ x own r step now fits room.
+    let stood = c.in_ok-stand.ensures x own r step now fits in
     let same : c.stand.new.self.config.id ≡ own = ap (λ (y : EngineConfig ℕ). y.id) stood.state.config in
     let asked = in_role (Candidate (own ∷ [])) (stand own r) in
     on_ok_weaker c.with_grant.result

@@ -3,16 +3,16 @@ use Rattle.std.proofs.Common.{◌≡◌, ◌<◌, ◌^◌, ◌∙◌, ℕ, ap, s
 use Rattle.std.specs.Prelude.{Some}
 use Rattle.std.specs.Option.{is_some}
 use Rattle.std.proofs.Math.Bool.{true≢false}
-use Rattle.raft_values.specs.LogId.{place_of}
-use Rattle.raft_group_step.specs.StoredGroup.{end_place}
+use Rattle.raft_values.specs.LogId.{next_place, place_of}
+use Rattle.raft_group_step.specs.StoredGroup.{end_place, snapshot_last}
 use Rattle.raft_group_step.specs.Frames.{with_frames}
 use Rattle.raft_group_step.specs.Lead.{commit_as_leader, purge_as_wished}
+use Rattle.raft_group_step.proofs.Words.{commit_keeps_role, commit_keeps_stored, purge_keeps_role}
 use Rattle.raft_leaders.proofs.OwnLemmas.{none_if}
-use Rattle.raft_engine.specs.Purging.{MayBePurged}
 use Rattle.raft_engine.specs.Standing.{IsWholeStepOf, PlaysRole}
 use Rattle.raft_engine.specs.Events.{CanFinish, HasLeadRoom}
 use Rattle.raft_engine.proofs.ElectionLemmas.{known_end}
-use Rattle.raft_engine.proofs.FinishLemmas.{commit_keeps_role, commit_keeps_stored, commit_keeps_wish, finished_unled, purge_keeps_role, room_for_frames, wished_keeps}
+use Rattle.raft_engine.proofs.FinishLemmas.{commit_keeps_wish, finished_unled, room_for_frames, wished_keeps}
 use Rattle.raft_engine.proofs.PurgeLemmas.{KeepsStanding, led}
 use Rattle.raft_engine.proofs.StandingLemmas.{step_as_whole}
 use Rattle.raft_engine.proofs.engine.Engine.finish.Goals as goal
@@ -41,14 +41,14 @@ returns g c = λ x own r step can.
     let commits = c.in_ok-commit_as_leader.ensures x own r step in
     let committed = commit_as_leader own r.state.role r in
     let stored = commit_keeps_stored own r.state.role r in
-    let may : (place : ℕ) → committed.state.wish ≡ Some place → MayBePurged place committed.state.stored =
-    λ place e. subst (MayBePurged place) (sym stored) (room.wish place (sym (commit_keeps_wish own r.state.role r) ∙ e)) in
+    let may : (place : ℕ) → committed.state.wish ≡ Some place → place < next_place (snapshot_last committed.state.stored) =
+    λ place e. subst (λ s. place < next_place (snapshot_last s)) (sym stored) (room.wish place (sym (commit_keeps_wish own r.state.role r) ∙ e)) in
     let places = room.places in
     let fits : end_place committed.state.stored < 2 ^ 64 =
     let l : end_place r.state.stored < 2 ^ 64 = omega arith in subst (λ s. end_place s < 2 ^ 64) (sym stored) l in
     let purges = c.in_ok-purge_as_wished.ensures x own committed commits fits may in
     let purged = purge_as_wished committed.state.role committed.state.wish committed in
-    let keeps = wished_keeps committed.state.role committed.state.wish committed commits.state.order.placed may in
+    let keeps = wished_keeps committed.state.role committed.state.wish committed commits.state.order.placed in
     let role = purge_keeps_role committed.state.role committed.state.wish committed ∙ commit_keeps_role own r.state.role r ∙ lead.1 in
     subst (λ b. OnOk c.with_frames.result (IsWholeStepOf x own c.with_frames.new.self (with_frames own b purged))) c.index.ensures
     (c.with_frames.ensures x own purged (step_as_whole x own c.purge_as_wished.new.self purged purges)

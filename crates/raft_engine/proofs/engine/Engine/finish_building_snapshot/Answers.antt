@@ -1,11 +1,12 @@
 use Rattle.std.proofs.Common.{◌∙◌, [], ◌∷◌, ◌++◌, ap, refl, rules, subst, sym}
 use Rattle.std.proofs.lemmas.Result.{on_ok_weaker}
-use Rattle.raft_group_step.specs.StoredGroup.{SetSnapshot}
+use Rattle.raft_group_step.specs.StoredGroup.{SetSnapshot, after_storing, membership_in_force}
 use Rattle.raft_group_step.specs.StepResult.{store}
 use Rattle.raft_group_step.specs.GroupStep.{begun}
 use Rattle.raft_known_state.specs.KnownState.{KeepsRest, Knows}
 use Rattle.raft_commands.specs.Output.{following_seq}
 use Rattle.raft_engine.specs.Building.{build_command}
+use Rattle.raft_engine.specs.Leading.{CountsOn}
 use Rattle.raft_engine.specs.Numbering.{Follow, NumbersFollow, numbers_in}
 use Rattle.raft_engine.specs.Standing.{Engine, IsStepOf, given}
 use Rattle.raft_engine.proofs.BuildingLemmas.{build_taken, builder_finishes, snapshot_stored, trigger_in_range}
@@ -29,10 +30,14 @@ returns-clause-built g c = λ own at before s x asked empty stands ready accepte
     let knows = c.in_ok-is_updated.ensures.known s.stored x (subst (λ e. Knows e.state s.stored) (sym c.snapshot_handler.ensures.value) known) meta c.if-not-is_updated.false in
     let kept : KeepsRest lent.state lent_back.state = subst (λ e. KeepsRest e.state lent_back.state) c.snapshot_handler.ensures.value c.in_ok-is_updated.ensures.rest.0 in
     let after = store (SetSnapshot x) (begun at s) in
-    let step = snapshot_stored s x built own at e (record lent { state = lent_back.state }) stands (given x before) refl (ap (λ (y : Engine _ _). y.seen_greater_log) asked) numbers refl refl refl knows
-    (record { vote = kept.vote; committed = kept.committed; purge_upto = kept.purge_upto }) seq queue in
     let same = c.in_ok-is_updated.ensures.rest.1 ∙ ap (λ (e : Engine _ _). record e { state = lent_back.state }) c.snapshot_handler.ensures.value in
+    let group = after_storing (SetSnapshot x) s.stored in
+    let counted = c.in_ok-count_by.ensures (membership_in_force group) (c.effective_membership-membership.ensures group (subst (λ (y : Engine _ _). Knows y.state group) {x = lent_back} {y = c.self-1.given.0} (search rules) knows)) in
+    let back : CountsOn (membership_in_force group) lent_back.leader c.count_by.new.leader = subst (λ (y : Engine _ _). CountsOn (membership_in_force group) y.leader c.count_by.new.leader) {x = c.self-1.given.0} {y = lent_back} (search rules) counted in
+    let leader : CountsOn (membership_in_force group) e.leader c.count_by.new.leader = subst (λ (y : Engine _ _). CountsOn (membership_in_force group) y.leader c.count_by.new.leader) same back in
+    let step = snapshot_stored s x built own at e (record lent { state = lent_back.state; leader = c.count_by.new.leader }) stands (given x before) refl (ap (λ (y : Engine _ _). y.seen_greater_log) asked) numbers (ap (λ (y : Engine _ _). y.state.state.committed) asked) refl leader refl knows
+    (record { vote = kept.vote; committed = kept.committed; purge_upto = kept.purge_upto }) seq queue in
     let can = builder_finishes s x built own at ready s.role (can_finish_when_ready own s (at ∷ []) ready (trigger_in_range own at s accepted)) in
     on_ok_weaker c.finish.result
     (build_taken s x built own at e c.finish.new.self stands (given x before) accepted)
-    (c.finish.ensures (given x before) own after (subst (λ e. IsStepOf (given x before) own e after) (search rules) (subst (λ e. IsStepOf (given x before) own e after) (sym same) step)) can)
+    (c.finish.ensures (given x before) own after (subst (λ e. IsStepOf (given x before) own e after) (search rules) (subst (λ e. IsStepOf (given x before) own (record e { leader = c.count_by.new.leader }) after) (sym same) step)) can)

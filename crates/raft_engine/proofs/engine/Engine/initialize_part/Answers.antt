@@ -6,11 +6,11 @@ use Rattle.raft_group_step.specs.StepResult.{step_down, store}
 use Rattle.raft_group_step.specs.AppendRequest.{put_entries}
 use Rattle.raft_known_state.specs.KnownState.{ArePlaced}
 use Rattle.raft_engine.specs.Standing.{IsStepOf}
-use Rattle.raft_engine.proofs.InitializeLemmas.{none_committed, put_first, elect_once, first_entry, first_is, room_after, votes_then, first_term}
+use Rattle.raft_engine.proofs.InitializeLemmas.{none_committed, put_first, elect_once, first_entry, first_is, room_after, first_term}
 use Rattle.raft_engine.proofs.engine.Engine.initialize_part.Goals as goal
 
 pub returns : goal.returns
-returns g c = λ x own r step now new votes.
+returns g c = λ x own r step now new.
     let m = c.args.membership in
     let down = c.step_down.ensures x own r step in
     let first = first_is c.new-log_id.result c.new.result m c.new-entries.result c.push.new.self c.new-log_id.ensures c.new.ensures.term c.new.ensures.node c.new-entries.ensures c.in_ok-push.ensures.ok in
@@ -21,4 +21,4 @@ returns g c = λ x own r step now new votes.
     on_ok_weaker c.elect_part.result
     (λ h. subst (IsStepOf x own c.elect_part.new.self) (elect_once own (PutEntries 0 (first_entry m ∷ [])) r) h)
     (c.elect_part.ensures x own put stored now (let term = first_term r.state.stored new in omega (arith, term))
-    (room_after r.state.stored new (first_entry m)) (votes_then r.state.stored new m own votes))
+    (room_after r.state.stored new (first_entry m)))

@@ -1,7 +1,7 @@
 -- The entry at the place goes, and those before it.
 use Rattle.std.proofs.Common.{◌≡◌, ◌<◌, ◌∙◌, sym, subst, refl, arith}
 use Rattle.std.proofs.lemmas.Result.{on_ok_weaker}
-use Rattle.raft_group_step.specs.StoredGroup.{end_place}
+use Rattle.raft_group_step.specs.StoredGroup.{RemoveUpTo, after_storing, end_place, membership_in_force}
 use Rattle.raft_engine.specs.Standing.{IsStepOf}
 use Rattle.raft_engine.proofs.PurgeLemmas.{is_of_entry, none_to_purge, purged_to}
 use Rattle.raft_engine.proofs.engine.Engine.purge_up_to.Goals as goal
@@ -13,9 +13,11 @@ returns g c = λ x own r step fits may.
     let placed = step.state.order.placed in
     let some = sym (c.has_entry_at.ensures s knows placed) ∙ c.if-not-has_entry_at.false in
     let entrys = is_of_entry s c.args.place c.in-Some.upto placed some (c.in-Some.ensures s knows placed) in
+    let purged = c.in_ok-purge.ensures.known s knows placed entrys.above entrys.is_entrys in
     on_ok_weaker c.push_command.result
-    (λ h. purged_to x own c.args.self.now _ r step c.args.place c.in-Some.upto entrys may refl refl refl refl
-    (c.in_ok-purge.ensures.known s knows placed entrys.above entrys.is_entrys) c.in_ok-purge.ensures.rest h)
+    (λ h. purged_to x own c.args.self.now _ r step c.args.place c.in-Some.upto entrys may refl refl
+    (c.in_ok-count_by.ensures (membership_in_force (after_storing (RemoveUpTo c.in-Some.upto) s)) (c.effective_membership-membership.ensures (after_storing (RemoveUpTo c.in-Some.upto) s) purged)) refl
+    purged c.in_ok-purge.ensures.rest h)
     c.push_command.ensures.ok
 
 pub returns-then-not-has_entry_at : goal.returns-then-not-has_entry_at

@@ -1,11 +1,16 @@
 -- The request leaves, and the peer's entry waits for its answer.
-use Rattle.std.proofs.Common.{◌+◌, ◌≤◌, ◌^◌, refl, subst, arith}
+use Rattle.std.proofs.Common.{◌+◌, ◌≤◌, ◌^◌, ◌∙◌, refl, subst, sym, arith}
+use Rattle.std.proofs.Math.Bool.{true≢false}
 use Rattle.std.proofs.lemmas.Result.{on_ok_weaker}
 use Rattle.raft_group_step.specs.Peer.{PeerState}
 use Rattle.raft_group_step.specs.Lead.{peer_of}
 use Rattle.raft_engine.specs.Sending.{NumbersLeft}
 use Rattle.raft_engine.proofs.ReplicationLemmas.{requested}
 use Rattle.raft_engine.proofs.engine.Engine.send_request.Goals as goal
+
+pub returns-then-not-set_peer : goal.returns-then-not-set_peer
+returns-then-not-set_peer g c = λ x own r lead step is_lead has e room m.
+    absurd (true≢false (sym (c.set_peer.ensures.there own r.state lead step.state is_lead has) ∙ c.if-not-set_peer.true))
 
 pub returns : goal.returns
 returns g c = λ x own r lead step is_lead has e room m.

@@ -1,13 +1,11 @@
 -- The next term's vote is stored, the own grant is noted, and the other voters are asked.
-use Rattle.std.proofs.Common.{◌≡◌, ◌∙◌, ap, sym, subst, refl, true, false, ℕ, ◌+◌, ◌∷◌, [], arith}
+use Rattle.std.proofs.Common.{◌≡◌, ◌∙◌, ap, sym, subst, refl, false, ℕ, ◌+◌, ◌∷◌, [], arith}
 use Rattle.std.proofs.lemmas.Result.{on_ok_weaker}
 use Rattle.raft_values.specs.declared.vote.Vote.{Vote}
 use Rattle.raft_values.specs.Vote.{vote_of}
 use Rattle.raft_commands.specs.declared.engine_config.EngineConfig.{EngineConfig}
 use Rattle.raft_group_step.specs.declared.vote_message.VoteRequest.{VoteRequest}
-use Rattle.raft_group_step.specs.StoredGroup.{membership_in_force}
 use Rattle.raft_group_step.specs.GroupState.{Candidate}
-use Rattle.raft_group_step.specs.Refusal.{is_voter_in}
 use Rattle.raft_group_step.specs.StepResult.{in_role, step_down, store_vote}
 use Rattle.raft_group_step.specs.Elect.{other_voters}
 use Rattle.raft_engine.specs.Standing.{IsStepOf, Stands}
@@ -15,7 +13,7 @@ use Rattle.raft_engine.proofs.ElectionLemmas.{has_asked, has_stood, own_vote}
 use Rattle.raft_engine.proofs.engine.Engine.stand.Goals as goal
 
 pub returns : goal.returns
-returns g c = λ x own r step now fits votes.
+returns g c = λ x own r step now fits.
     let id : c.args.self.now.config.id ≡ own = ap (λ (y : EngineConfig ℕ). y.id) step.state.config in
     let down = c.step_down.ensures x own r step in
     let vote = c.new-vote.result in
@@ -28,8 +26,7 @@ returns g c = λ x own r step now fits votes.
     let s = record r.state.stored { vote = vote } in
     let stands : Stands own c.in_ok-candidate.candidate s (own ∷ []) =
     subst (λ n. Stands n c.in_ok-candidate.candidate s (n ∷ [])) same
-    (c.in_ok-candidate.ensures s stored.state.knows (ap (λ (v : Vote ℕ). v.leader_id.node_id) vote_is ∙ sym same) (ap (λ (v : Vote ℕ). v.committed) vote_is)
-    (subst (λ n. is_voter_in (membership_in_force r.state.stored) n ≡ true) (sym same) votes)) in
+    (c.in_ok-candidate.ensures s (ap (λ (v : Vote ℕ). v.leader_id.node_id) vote_is ∙ sym same) (ap (λ (v : Vote ℕ). v.committed) vote_is)) in
     let voters = c.as_slice.ensures.value ∙ c.in_ok-voters.ensures s stored.state.knows ∙ ap (λ n. other_voters n r.state.stored) id in
     on_ok_weaker c.ask.result
     (λ h. subst (IsStepOf x own c.ask.new.self) (has_asked own r vote c.as_slice.result.now vote_is voters) h)

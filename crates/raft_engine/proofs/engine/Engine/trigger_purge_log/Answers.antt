@@ -10,7 +10,7 @@ use Rattle.raft_group_step.specs.Refusal.{range_reason}
 use Rattle.raft_group_step.specs.StoredGroup.{end_place}
 use Rattle.raft_engine.specs.Standing.{IsStepOf, given}
 use Rattle.raft_engine.proofs.EventLemmas.{event_taken, no_first_reason, step_begun}
-use Rattle.raft_engine.proofs.LeaderFinish.{finish_purged, purge_asked}
+use Rattle.raft_engine.proofs.LeaderFinish.{finish_purged}
 use Rattle.raft_engine.proofs.RoomLemmas.{call_accepted, can_finish_when_ready, finish_at, ready_at}
 use Rattle.raft_engine.proofs.engine.Engine.trigger_purge_log.Goals as goal
 
@@ -27,7 +27,7 @@ returns g c = λ x own at s may.
     let can = finish_at own r.state.now s (can_finish_when_ready own s (at ∷ []) may.ready range) in
     let step =
     c.in_ok-update_purge_upto.ensures.step (given x old) own r
-    (subst (λ e. IsStepOf (given x old) own e r) (sym c.log_handler.ensures.value) (step_begun x own at old s may.stands may.empty)) fits (purge_asked own r ready place) in
+    (subst (λ e. IsStepOf (given x old) own e r) (sym c.log_handler.ensures.value) (step_begun x own at old s may.stands may.empty)) fits in
     on_ok_weaker c.finish.result (event_taken x own old c.finish.new.self s event may)
     (c.finish.ensures (given x old) own (purge_trigger_step place r)
     (subst (λ e. IsStepOf (given x old) own e (purge_trigger_step place r)) (search rules) step) (finish_purged own r ready place can))

@@ -1,5 +1,5 @@
 -- The members that are served are the others.
-use Rattle.std.proofs.Common.{◌≡◌, ◌∙◌, ap, sym, subst, true, length}
+use Rattle.std.proofs.Common.{◌≡◌, ◌∙◌, ap, sym, subst, true}
 use Rattle.std.specs.List.{list_all}
 use Rattle.std.specs.Prelude.{not}
 use Rattle.raft_commands.specs.declared.engine_config.EngineConfig.{EngineConfig}
@@ -10,7 +10,6 @@ use Rattle.raft_group_step.specs.Lead.{ids_of, other_ids}
 use Rattle.raft_group_step.specs.Frames.{has_grown, serve_all}
 use Rattle.raft_leaders.proofs.OwnLemmas.{none_if}
 use Rattle.raft_engine.specs.Standing.{PlaysRole}
-use Rattle.raft_engine.specs.Sending.{HasRoomFor}
 use Rattle.raft_engine.proofs.ReplicationLemmas.{all_unserved, others-members}
 use Rattle.raft_engine.proofs.engine.Engine.with_frames.Goals as goal
 
@@ -28,5 +27,4 @@ returns g c = λ x own r step room.
     c.has_grown.ensures ∙ ap (has_grown c.args.before) (c.index-committed.ensures ∙ ap place_of step.state.committed ∙ step.state.order.committed) in
     rw (ap (λ b. serve_all own b (other_ids own r.state.stored) r) (sym news) ∙ ap (λ ns. serve_all own c.has_grown.result ns r) (sym others))
     (c.serve_all.ensures x own r step
-    (subst (λ ns. list_all (has_id (ids_of (membership_in_force r.state.stored))) ns ≡ true) (sym others) (others-members own r.state.stored))
-    (subst (λ ns. HasRoomFor (length ns) r.state) (sym others) room))
+    (subst (λ ns. list_all (has_id (ids_of (membership_in_force r.state.stored))) ns ≡ true) (sym others) (others-members own r.state.stored)) room)

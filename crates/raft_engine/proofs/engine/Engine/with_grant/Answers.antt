@@ -14,9 +14,11 @@ use Rattle.raft_engine.proofs.engine.Engine.with_grant.Goals.{else-is_quorum-via
 pub returns-then-has_room : goal.returns-then-has_room
 returns-then-has_room g c = λ x own r step now room.
     let n = c.args.n in
-    let w = noted x own c.args.self.now r step c.in-Some.candidate c.grant_by-is_quorum.new.self n c.in-Some.is c.grant_by-is_quorum.ensures.sets c.grant_by-is_quorum.ensures.rest in
+    let w = noted x own c.args.self.now r step c.in-Some.candidate c.grant_by.new.self n c.in-Some.is c.in_ok-grant_by.ensures.notes c.grant_by.ensures.rest in
     let stood = in_role (Candidate (now_granted w.0 n)) r in
-    let same = granted_so n w.0 r c.grant_by-is_quorum.result w.1 (counted_by own c.grant_by-is_quorum.new.self r.state.stored (now_granted w.0 n) c.grant_by-is_quorum.result w.2 c.grant_by-is_quorum.ensures.by_groups) in
+    let in_force = c.effective_membership.ensures r.state.stored step.state.knows in
+    let counted = counted_by own c.grant_by.new.self r.state.stored (now_granted w.0 n) c.effective_membership.result.now c.is_granted_by-is_quorum.result w.2 in_force c.is_granted_by-is_quorum.ensures in
+    let same = granted_so n w.0 r c.is_granted_by-is_quorum.result w.1 counted in
     on_ok_weaker c.establish.result
     (λ h. subst (λ e. IsStepOf x own e (with_grant n r.state.role r)) (search rules) (subst (IsStepOf x own c.establish.new.self.engine.now) (ap (λ b. lead_if b stood) (sym c.if-is_quorum.true) ∙ same) h))
     (c.establish.ensures.step x own stood (now_granted w.0 n) (subst (λ e. IsStepOf x own e stood) (sym c.establish_handler.ensures.value) w.3) refl now)
@@ -24,9 +26,11 @@ returns-then-has_room g c = λ x own r step now room.
 pub returns : goal.returns
 returns g c = λ x own r step now room.
     let n = c.args.n in
-    let w = noted x own c.args.self.now r step c.in-Some.candidate c.grant_by-is_quorum.new.self n c.in-Some.is c.grant_by-is_quorum.ensures.sets c.grant_by-is_quorum.ensures.rest in
+    let w = noted x own c.args.self.now r step c.in-Some.candidate c.grant_by.new.self n c.in-Some.is c.in_ok-grant_by.ensures.notes c.grant_by.ensures.rest in
     let stood = in_role (Candidate (now_granted w.0 n)) r in
-    let same = granted_so n w.0 r c.grant_by-is_quorum.result w.1 (counted_by own c.grant_by-is_quorum.new.self r.state.stored (now_granted w.0 n) c.grant_by-is_quorum.result w.2 c.grant_by-is_quorum.ensures.by_groups) in
+    let in_force = c.effective_membership.ensures r.state.stored step.state.knows in
+    let counted = counted_by own c.grant_by.new.self r.state.stored (now_granted w.0 n) c.effective_membership.result.now c.is_granted_by-is_quorum.result w.2 in_force c.is_granted_by-is_quorum.ensures in
+    let same = granted_so n w.0 r c.is_granted_by-is_quorum.result w.1 counted in
     elim c.else-is_quorum.branch [
       | else-is_quorum-via-then-is_quorum+else-has_room v ↦
           absurd (true≢false (sym (v.has_room.ensures.1 (subst (λ place. place < 9223372036854775808) (sym (known_end x own c.args.self.now r step)) (room (ap is_candidate w.1)))) ∙ v.if-has_room.false))

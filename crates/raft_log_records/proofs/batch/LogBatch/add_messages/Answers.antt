@@ -1,4 +1,4 @@
-use Rattle.std.proofs.Common.{◌≡◌, ◌≤◌, ◌+◌, ◌*◌, ◌++◌, ◌∷◌, [], ℕ, List, length, map, refl, sym, ap, subst, ◌∙◌, arith, length-append}
+use Rattle.std.proofs.Common.{◌≡◌, ◌≤◌, ◌+◌, ◌*◌, ◌++◌, ◌∷◌, [], ℕ, List, length, map, refl, sym, ap, subst, ◌∙◌, arith, length-append, inr}
 use Rattle.std.specs.List.{list_any}
 use Rattle.std.proofs.lemmas.List.{length-map}
 use Rattle.raft_log_records.specs.declared.item.LogItem.{LogItem}
@@ -22,7 +22,7 @@ returns-in-Err g c =
     (run_within a.items.items a.entries.items a.holds_entries a.items_len c.args.raft_group_id c.args.first parts c.self.invariant.sound) in
     let kept = cut_back a.entries.items c.write_all.new.out.items c.truncate.new.self.items c.len-at.result (omega (arith, c.len-at.ensures)) c.in-Err.ensures.stays c.truncate.ensures.items in
     let same = ap (λ (b : List ℕ). record { items = with_bytes b (items_of a.items.items); writing = writing_of a.buf_state }) kept ∙ c.self.view_is in
-    refused_write c.args.self.now _ run _ c.in-Err.e c.in-Err.ensures.long same (λ h. omega (arith, h, least, count))
+    refused_write c.args.self.now _ run _ _ c.in-Err.e c.in-Err.ensures.long same (λ h. omega (arith, h, least, count))
 
 pub returns-then-room-run_len : goal.returns-then-room-run_len
 returns-then-room-run_len g c =
@@ -34,7 +34,7 @@ returns-then-room-run_len g c =
     let sum = length-append a.entries.items (joined parts) in
     let kept = cut_back a.entries.items c.write_all.new.out.items c.truncate-then-room-run_len.new.self.items c.len-at.result (omega (arith, c.len-at.ensures)) (joined parts, c.in-Ok.ensures.bytes) c.truncate-then-room-run_len.ensures.items in
     let same = ap (λ (b : List ℕ). record { items = with_bytes b (items_of a.items.items); writing = writing_of a.buf_state }) kept ∙ c.self.view_is in
-    (same, omega (arith, longer, count, grown, sum, c.record_len-room.ensures.len, c.record_len-room.ensures.short, c.block_checksum_len-checksum_len.ensures.len, c.len-at.ensures, c.len.ensures, c.if-room-run_len.true))
+    (same, inr (omega (arith, longer, count, grown, sum, c.record_len-room.ensures.len, c.record_len-room.ensures.short, c.block_checksum_len-checksum_len.ensures.len, c.len-at.ensures, c.len.ensures, c.if-room-run_len.true)))
 
 pub invariant_of-self-2 : goal.invariant_of-self-2
 invariant_of-self-2 g c =
@@ -71,6 +71,7 @@ returns g c =
     let short : record_len (c.args.self.now.items ++ run_of c.args.raft_group_id c.args.first parts ∷ []) ≤ 33554432 = omega (arith, longer, count, grown, sum, c.record_len-room.ensures.len, c.record_len-room.ensures.short, c.block_checksum_len-checksum_len.ensures.len, c.len-at.ensures, c.len.ensures, c.if-room-run_len.false) in
     let item : LogItem = record { raft_group_id = c.args.raft_group_id; content = content.EntryIndexes c.in-Ok.indexes } in
     let is = indexes_are c.args.raft_group_id c.args.first (length a.entries.items) a.entries.items parts c.in-Ok.indexes.items c.in-Ok.ensures.places refl in (
+      c.in-Ok.ensures.fit,
       ap (λ (l : List (Item (List ℕ))). record { items = l; writing = open_still }) (run_viewed a.items.items c.push.new.self.items a.entries.items c.write_all.new.out.items item c.args.raft_group_id c.args.first parts c.self.invariant.sound.laid is c.in-Ok-push.ensures.items c.in-Ok.ensures.bytes)
           ∙ ap (λ (b : Batch). record { items = b.items ++ run_of c.args.raft_group_id c.args.first parts ∷ []; writing = open_still }) c.self.view_is,
       short,

@@ -7,7 +7,7 @@ use Rattle.raft_world.proofs.member.Member.accepted_call.Goals as goal
 use Rattle.raft_world.proofs.member.Member.accepted_call.Goals.{in-TriggerSnapshot, in_default}
 
 pub returns-clause-ok : goal.returns-clause-ok
-returns-clause-ok c = λ at s down idle moment members may.
+returns-clause-ok c = λ at s down idle moment may.
     c.end_taken.ensures.ok s.stored (group_step c.args.self.now.id s (Call c.args.call.now at)) down
     (run_of_call c.args.engine.now c.args.self.now.id at c.args.moment c.take_call.new.engine s c.args.call.now moment may.accepted
     (λ x. c.in_ok-take_call.ensures x c.args.self.now.id at s down.stored moment
@@ -18,7 +18,7 @@ returns-clause-ok c = λ at s down idle moment members may.
     may))
 
 pub returns-clause-err : goal.returns-clause-err
-returns-clause-err c = λ at s down idle moment members may.
+returns-clause-err c = λ at s down idle moment may.
     c.end_taken.ensures.err s.stored (group_step c.args.self.now.id s (Call c.args.call.now at)) down
     (run_of_call c.args.engine.now c.args.self.now.id at c.args.moment c.take_call.new.engine s c.args.call.now moment may.accepted
     (λ x. c.in_ok-take_call.ensures x c.args.self.now.id at s down.stored moment

@@ -13,7 +13,7 @@ use Rattle.raft_engine.specs.Events.{HasTaken, MayTake}
 use Rattle.raft_engine.specs.Standing.{IsStateOf}
 use Rattle.raft_engine.proofs.BuildingLemmas.{stands_asking}
 use Rattle.raft_progress.proofs.OrderLemmas.{bool_cases}
-use Rattle.raft_world.specs.Member.{Engine, HasMembershipOfApplied, IsDown, IsIdle}
+use Rattle.raft_world.specs.Member.{Engine, IsDown, IsIdle}
 use Rattle.raft_world.proofs.AppliedLemmas.{has_snapshot, is_of_applied, none_stands_behind}
 use Rattle.raft_world.proofs.EventLemmas.{run_of_call, run_of_call_with}
 use Rattle.raft_world.proofs.RunLemmas.{one_snapshot}
@@ -21,7 +21,7 @@ use Rattle.raft_world.proofs.member.Member.snapshot_call.Goals as goal
 use Rattle.raft_world.proofs.member.Member.snapshot_call.Goals.{After-drop-snapshot-inside-4}
 
 pub returns-then-not-branch-clause-ok : goal.returns-then-not-branch-clause-ok
-returns-then-not-branch-clause-ok c = λ at s down idle moment members may.
+returns-then-not-branch-clause-ok c = λ at s down idle moment may.
     let none_past : stands_before (covered_id c.args.engine.now) c.args.engine.now.state.state.committed ≡ false =
     bool_cases (stands_before (covered_id c.args.engine.now) c.args.engine.now.state.state.committed)
     (λ t. absurd (both_ways c.in_ok-trigger_snapshot.field-0 c.if-not-branch.true (c.in_ok-trigger_snapshot.ensures.asked idle.not_building t).0))
@@ -31,7 +31,7 @@ returns-then-not-branch-clause-ok c = λ at s down idle moment members may.
     (λ x. (c.in_ok-trigger_snapshot.ensures.none_new x c.args.self.now.id at s may idle.not_building none_past).1))
 
 pub returns-then-not-branch-clause-err : goal.returns-then-not-branch-clause-err
-returns-then-not-branch-clause-err c = λ at s down idle moment members may.
+returns-then-not-branch-clause-err c = λ at s down idle moment may.
     let none_past : stands_before (covered_id c.args.engine.now) c.args.engine.now.state.state.committed ≡ false =
     bool_cases (stands_before (covered_id c.args.engine.now) c.args.engine.now.state.state.committed)
     (λ t. absurd (both_ways c.in_ok-trigger_snapshot.field-0 c.if-not-branch.true (c.in_ok-trigger_snapshot.ensures.asked idle.not_building t).0))
@@ -41,7 +41,7 @@ returns-then-not-branch-clause-err c = λ at s down idle moment members may.
     (λ x. (c.in_ok-trigger_snapshot.ensures.none_new x c.args.self.now.id at s may idle.not_building none_past).1))
 
 pub returns-in_default-clause-ok : goal.returns-in_default-clause-ok
-returns-in_default-clause-ok c = λ at s down idle moment members may.
+returns-in_default-clause-ok c = λ at s down idle moment may.
     let past : stands_before (covered_id c.args.engine.now) c.args.engine.now.state.state.committed ≡ true =
     bool_cases (stands_before (covered_id c.args.engine.now) c.args.engine.now.state.state.committed) (λ t. t)
     (λ f. absurd (both_ways c.in_ok-trigger_snapshot.field-0 (c.in_ok-trigger_snapshot.ensures.none_new (one_snapshot 0) c.args.self.now.id at s may idle.not_building f).0 c.if-not-branch.false)) in
@@ -50,7 +50,7 @@ returns-in_default-clause-ok c = λ at s down idle moment members may.
     none_stands_behind (covered_id c.args.engine.now) (ap (λ o. stands_before (covered_id c.args.engine.now) o) (sym none) ∙ past)
 
 pub returns-in_default-2-clause-ok : goal.returns-in_default-2-clause-ok
-returns-in_default-2-clause-ok c = λ at s down idle moment members may.
+returns-in_default-2-clause-ok c = λ at s down idle moment may.
     let past : stands_before (covered_id c.args.engine.now) c.args.engine.now.state.state.committed ≡ true =
     bool_cases (stands_before (covered_id c.args.engine.now) c.args.engine.now.state.state.committed) (λ t. t)
     (λ f. absurd (both_ways c.in_ok-trigger_snapshot.field-0 (c.in_ok-trigger_snapshot.ensures.none_new (one_snapshot 0) c.args.self.now.id at s may idle.not_building f).0 c.if-not-branch.false)) in
@@ -61,7 +61,7 @@ returns-in_default-2-clause-ok c = λ at s down idle moment members may.
 
 -- the snapshot that was built
 module _ (c : After-drop-snapshot-inside-4) (at : ℕ) (s : GroupState) (down : IsDown c.args.self.now s.stored) (idle : IsIdle c.args.self.now.id c.args.engine.now s)
-    (members : HasMembershipOfApplied s) (may : MayTake c.args.self.now.id c.args.engine.now s (Call TriggerSnapshot at)) where
+    (may : MayTake c.args.self.now.id c.args.engine.now s (Call TriggerSnapshot at)) where
   taken : HasTaken c.in-Some-2.snapshot c.args.self.now.id c.args.engine.now c.finish_building_snapshot.new.self s (Call TriggerSnapshot at)
   taken =
       let past : stands_before (covered_id c.args.engine.now) c.args.engine.now.state.state.committed ≡ true =
@@ -73,14 +73,14 @@ module _ (c : After-drop-snapshot-inside-4) (at : ℕ) (s : GroupState) (down : 
       c.in_ok-finish_building_snapshot.ensures.built c.args.self.now.id at c.args.engine.now s c.in-Some-2.snapshot asked idle.empty
       (subst (λ e. IsStateOf c.args.self.now.id e s) (sym asked) (stands_asking c.args.self.now.id c.args.engine.now s idle.stands))
       may.ready may.accepted c.in_ok-meta_of.ensures
-      (is_of_applied c.args.self.now.id c.args.engine.now s idle.stands c.in-Some.applied is (ap (λ o. stands_before (covered_id c.args.engine.now) o) (sym is) ∙ past) members c.in-Some-2.snapshot found)
+      (is_of_applied c.args.self.now.id c.args.engine.now s idle.stands c.in-Some.applied is (ap (λ o. stands_before (covered_id c.args.engine.now) o) (sym is) ∙ past) c.in-Some-2.snapshot found)
 
 pub returns-clause-ok : goal.returns-clause-ok
-returns-clause-ok c = λ at s down idle moment members may.
+returns-clause-ok c = λ at s down idle moment may.
     c.end_taken-2.ensures.ok s.stored (group_step c.args.self.now.id s (Call TriggerSnapshot at)) down
-    (run_of_call_with c.args.engine.now c.args.self.now.id at c.args.moment c.finish_building_snapshot.new.self s TriggerSnapshot c.in-Some-2.snapshot moment may.accepted (taken c at s down idle members may))
+    (run_of_call_with c.args.engine.now c.args.self.now.id at c.args.moment c.finish_building_snapshot.new.self s TriggerSnapshot c.in-Some-2.snapshot moment may.accepted (taken c at s down idle may))
 
 pub returns-clause-err : goal.returns-clause-err
-returns-clause-err c = λ at s down idle moment members may.
+returns-clause-err c = λ at s down idle moment may.
     c.end_taken-2.ensures.err s.stored (group_step c.args.self.now.id s (Call TriggerSnapshot at)) down
-    (run_of_call_with c.args.engine.now c.args.self.now.id at c.args.moment c.finish_building_snapshot.new.self s TriggerSnapshot c.in-Some-2.snapshot moment may.accepted (taken c at s down idle members may))
+    (run_of_call_with c.args.engine.now c.args.self.now.id at c.args.moment c.finish_building_snapshot.new.self s TriggerSnapshot c.in-Some-2.snapshot moment may.accepted (taken c at s down idle may))

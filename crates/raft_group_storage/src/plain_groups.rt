@@ -1,0 +1,142 @@
+//! Any number of groups, kept in memory.
+ghost use Rattle.std.specs.Prelude.{◌≡◌, []};
+
+use crate::loaded_group::{LoadedGroup, loaded};
+use crate::storage::GroupStorage;
+use raft_group_step::Entries;
+use raft_messages::{GroupEntry, copies_of};
+use raft_state::{BasicNode, Bytes, LogId, Vote};
+use raft_stored_group::{GroupSnapshot, StoredGroup};
+use std::alloc::{AllocError, Global};
+use std::collections::BTreeMap;
+use std::marker::Model;
+
+/// Groups by their ids (own). Contracts see a list of pairs, an id and what is stored of its group.
+/// Of an id that isn't there nothing is stored.
+#[derive(Debug, Drop)]
+pub struct PlainGroups {
+    alloc: Global,
+    groups: BTreeMap<u64, StoredGroup>,
+}
+
+impl Model for PlainGroups {
+    ghost use Rattle.std.specs.Prelude.{ℕ, List};
+    ghost use Rattle.raft_group_step.specs.StoredGroup.{StoredGroup as Stored};
+
+    ghost Value = { List (ℕ × Stored) };
+
+    ghost view = { λ x. x.groups.entries };
+}
+
+impl PlainGroups {
+    /// No group. Takes no memory (own).
+    pub fn new(alloc: Global) -> PlainGroups
+        ensures { result ≡ [] }
+    {
+        PlainGroups {
+            alloc,
+            groups: BTreeMap::new(alloc),
+        }
+    }
+}
+
+impl GroupStorage for PlainGroups {
+    type Snapshot = GroupSnapshot;
+
+    type Fault = AllocError;
+
+    ghost use Rattle.raft_group_storage.specs.Plain.{IsAmong, among_shows_more};
+    ghost use Rattle.std.specs.Prelude.{◌≡◌};
+
+    ghost is_well = { λ x. Unit {0} };
+
+    ghost shows = { λ x group parts. IsAmong x group parts };
+
+    ghost stands = { λ x y. x ≡ y };
+
+    ghost shows_more = { λ x. among_shows_more x };
+
+    fn make_group(&mut self, group: u64) -> Result<(), AllocError> {
+        let none = StoredGroup::new(self.alloc);
+        self.groups.entry(group)?.or_insert(none).make_group();
+        Ok(())
+    }
+
+    fn set_vote(&mut self, group: u64, vote: Vote<u64>) -> Result<(), AllocError> {
+        let none = StoredGroup::new(self.alloc);
+        self.groups.entry(group)?.or_insert(none).set_vote(vote);
+        Ok(())
+    }
+
+    fn put_entries(
+        &mut self,
+        group: u64,
+        place: u64,
+        entries: &[GroupEntry],
+    ) -> Result<(), AllocError> {
+        let none = StoredGroup::new(self.alloc);
+        self.groups
+            .entry(group)?
+            .or_insert(none)
+            .put_entries(place, entries)
+    }
+
+    fn cut_from(&mut self, group: u64, place: u64) -> Result<(), AllocError> {
+        let none = StoredGroup::new(self.alloc);
+        self.groups.entry(group)?.or_insert(none).cut_from(place);
+        Ok(())
+    }
+
+    fn remove_up_to(&mut self, group: u64, id: LogId<u64>) -> Result<(), AllocError> {
+        let none = StoredGroup::new(self.alloc);
+        self.groups.entry(group)?.or_insert(none).remove_up_to(id);
+        Ok(())
+    }
+
+    fn set_snapshot(&mut self, group: u64, snapshot: &GroupSnapshot) -> Result<(), AllocError> {
+        let copy = snapshot.clone()?;
+        let none = StoredGroup::new(self.alloc);
+        self.groups.entry(group)?.or_insert(none).set_snapshot(copy);
+        Ok(())
+    }
+
+    fn start_after(&mut self, group: u64, id: LogId<u64>) -> Result<(), AllocError> {
+        let none = StoredGroup::new(self.alloc);
+        self.groups.entry(group)?.or_insert(none).start_after(id);
+        Ok(())
+    }
+
+    fn entries_between(
+        &mut self,
+        alloc: Global,
+        group: u64,
+        prev: Option<LogId<u64>>,
+        last: Option<LogId<u64>>,
+    ) -> Result<Entries<u64, BasicNode, Bytes>, AllocError> {
+        match self.groups.get(&group) {
+            Some(stored) => copies_of(alloc, stored.between(prev, last)),
+            None => Ok(Entries::new(alloc)),
+        }
+    }
+
+    fn snapshot(
+        &mut self,
+        _alloc: Global,
+        group: u64,
+    ) -> Result<Option<GroupSnapshot>, AllocError> {
+        match self.groups.get(&group) {
+            Some(stored) => match stored.snapshot() {
+                Some(snapshot) => Ok(Some(snapshot.clone()?)),
+                None => Ok(None),
+            },
+            None => Ok(None),
+        }
+    }
+
+    fn load(&mut self, alloc: Global, group: u64) -> Result<LoadedGroup, AllocError> {
+        match self.groups.get(&group) {
+            Some(stored) => loaded(alloc, stored),
+            None => loaded(alloc, &StoredGroup::new(alloc)),
+        }
+    }
+}
