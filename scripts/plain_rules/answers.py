@@ -15,11 +15,12 @@ class Answering:
     def __init__(self):
         self.begin(())
 
-    def begin(self, ids, is_patient=False):
+    def begin(self, ids, kind="world"):
         """Another world of these nodes, which have the group. Events of a patient one have no
-        answer."""
+        answer, and to nodes of a hostile one any message may come."""
         self.world = World.new(ids, True)
-        self.is_patient = is_patient
+        self.world.is_hostile = kind == "hostile"
+        self.is_patient = kind == "patient"
         self.number = 0
         self.next = 0
         self.settled = ()
@@ -65,8 +66,8 @@ class Answering:
         words = line.split()
         if not words or words[0] == "#":
             return ""
-        if words[0] in ("world", "patient"):
-            self.begin(tuple(map(int, words[1:])), words[0] == "patient")
+        if words[0] in ("world", "patient", "hostile"):
+            self.begin(tuple(map(int, words[1:])), words[0])
             return " ".join(words) + "\n"
         asked = {"show": lambda: self.text, "list": self.list, "last": self.last}
         if words[0] in asked:

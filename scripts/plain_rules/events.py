@@ -29,4 +29,4 @@ class Event:
 CALLS = ("setup", "elect", "propose", "change", "beat", "lost", "snapshot", "purge")
 
 # What else may happen.
-OTHERS = ("add", "deliver", "crash", "halt", "restart")
+OTHERS = ("add", "deliver", "receive", "crash", "halt", "restart")

@@ -7,11 +7,13 @@ from typing import List
 from plain_rules import seen, worked
 from plain_rules.answers import Answering
 from plain_rules.choices import COURSES, Chooser
+from plain_rules.hostile import Liar
 from plain_rules.text import event_text
 
 HEAD = """\
 # Events of worlds, which scripts/expected_worlds writes. An event reads: verb, node (`deliver`:
 # number of the message), moment, after how many storing commands it stops, and what is asked for.
+# `receive` hands a node of a hostile world a message, which may be a lie.
 # `list` asks for the group's list, and `show` for the text that the last answer has the checksum
 # of.
 """
@@ -82,6 +84,19 @@ class Expected:
         self.put("show")
         return seen.count_world(marks, world, int(self.answers[-2].split()[1]))
 
+    def put_hostile(self, name, course, seed):
+        """A random world in which peers lie, and what came about in it."""
+        self.put(f"# hostile {name}, seed {seed}")
+        self.put("hostile " + " ".join(map(str, course.ids)))
+        liar = Liar(course, seed, self.answering.world)
+        came = Counter()
+        for _ in range(course.events):
+            event = liar.choose()
+            answer = self.put(event_text(event))
+            came.update(seen.lie_of(event, answer.split()[1]))
+        self.put("show")
+        return came
+
     def put_list(self, title):
         """The group's list, which each node that is up has to have as far as it knows it to be
         committed."""
@@ -109,7 +124,8 @@ def patient_lines():
 
 
 def expected():
-    """The worked runs, the random worlds, and a run that goes on after want of memory."""
+    """The worked runs, the random worlds, honest and hostile ones, and a run that goes on after want
+    of memory."""
     made = Expected()
     runs = worked.read_runs()
     made.faults += worked.all_faults(runs)
@@ -121,6 +137,11 @@ def expected():
         for seed in range(course.seed, course.seed + 5):
             came.update(made.put_random(name, course, seed))
         made.faults += seen.faults_of(name, came)
+    lies = Counter()
+    for name, course in COURSES.items():
+        for seed in range(course.seed, course.seed + 5):
+            lies.update(made.put_hostile(name, course, seed))
+    made.faults += seen.lies_missed(lies)
     made.put("# want of memory")
     made.put("patient 1 2 3")
     for line in patient_lines():

@@ -5,7 +5,8 @@ from dataclasses import replace
 
 from plain_rules import stored as storing
 from plain_rules.membership import after_change, is_quorum
-from plain_rules.messages import CONFLICT, SUCCESS, Append, HigherVote, Offer, last_sent
+from plain_rules.messages import CONFLICT, SUCCESS, Append, HigherVote, Offer, PartialSuccess
+from plain_rules.messages import last_sent
 from plain_rules.state import Outstanding
 from plain_rules.values import Command, Members, is_within, next_place, place_of
 
@@ -43,12 +44,24 @@ def search_after(peer, previous):
     return peer.search
 
 
+def accepted_up_to(peer, last):
+    """The peer has accepted all up to the log id."""
+    return replace(peer, matched=last, search=max(peer.search, next_place(last)))
+
+
+def is_part_of(peer, reply, last):
+    """The log id stands neither below what the peer has accepted nor behind the request."""
+    return peer.next() <= next_place(last) <= next_place(reply.last)
+
+
 def after_answer(peer, reply):
-    """The peer after the answer to its outstanding request."""
+    """The peer after the answer to its outstanding request. A partial success counts up to the log
+    id that it names."""
     peer = peer.ended()
     if reply.outcome == SUCCESS:
-        search = max(peer.search, next_place(reply.last))
-        return replace(peer, matched=reply.last, search=search)
+        return accepted_up_to(peer, reply.last)
+    if isinstance(reply.outcome, PartialSuccess) and is_part_of(peer, reply, reply.outcome.last):
+        return accepted_up_to(peer, reply.outcome.last)
     if reply.outcome == CONFLICT:
         return replace(peer, search=search_after(peer, reply.previous))
     return peer

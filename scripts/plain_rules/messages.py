@@ -18,6 +18,13 @@ class HigherVote:
 
 
 @dataclass(frozen=True)
+class PartialSuccess:
+    """The node has accepted the request up to this log id. No node says so."""
+
+    last: Optional[Id]
+
+
+@dataclass(frozen=True)
 class VoteRequest:
     """A candidate asks for a vote, with its last log id."""
 
@@ -48,8 +55,8 @@ class Append:
 
 @dataclass(frozen=True)
 class Reply:
-    """A reply repeats what the request was, and says what came of it: success, conflict or a higher
-    vote."""
+    """A reply repeats what the request was, and says what came of it: success, in whole or in part,
+    conflict or a higher vote."""
 
     vote: Vote
     number: Optional[int]

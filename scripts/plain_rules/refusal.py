@@ -1,7 +1,8 @@
 """When an event is refused. The reasons are tried in a fixed order."""
 
 from plain_rules import membership as members
-from plain_rules.messages import Append, HigherVote, Offer, Reply, VoteReply, VoteRequest
+from plain_rules.messages import Append, HigherVote, Offer, PartialSuccess, Reply
+from plain_rules.messages import VoteReply, VoteRequest
 from plain_rules.values import NO_VOTE, Members, is_within, next_place
 
 # Terms, places, moments and request numbers are below this.
@@ -91,7 +92,9 @@ def is_id_low(log_id):
 
 
 def is_outcome_low(outcome):
-    """The term of the vote in an outcome is low, if there is one."""
+    """The vote or log id in an outcome is low, if there is one."""
+    if isinstance(outcome, PartialSuccess):
+        return is_id_low(outcome.last)
     return not isinstance(outcome, HigherVote) or is_low(outcome.vote.term)
 
 

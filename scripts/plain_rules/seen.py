@@ -2,7 +2,7 @@
 
 from collections import Counter
 
-from plain_rules.messages import Append, Reply, SnapshotReply, VoteReply
+from plain_rules.messages import Append, PartialSuccess, Reply, SnapshotReply, VoteReply
 from plain_rules.messages import CONFLICT, SUCCESS
 
 # More often than these has to come about in the five worlds of each course.
@@ -29,6 +29,39 @@ LEAST = {
 
 # What else has to come about at all, by course: a request with as many entries as can be.
 ALSO = {"busy": {"full request": 0}}
+
+
+# More often than these a lie has to be taken, refused or stopped at in all hostile worlds.
+LEAST_LIES = {
+    "done": 1000,
+    "refused": 100,
+    "stopped": 40,
+    "PartialSuccess done": 80,
+    "Offer done": 15,
+    "Offer refused": 20,
+    "Append done": 200,
+    "Append refused": 80,
+    "AppendReply done": 200,
+    "VoteReply done": 100,
+    "VoteRequest done": 100,
+}
+
+
+def lie_of(event, mark):
+    """What a lie says, and what became of it; of another event nothing."""
+    if event.verb != "receive":
+        return []
+    body = event.what.body
+    said = [f"{type(body).__name__} {mark}", mark]
+    if isinstance(body, Reply) and isinstance(body.outcome, PartialSuccess):
+        said.append(f"PartialSuccess {mark}")
+    return said
+
+
+def lies_missed(seen):
+    """Which lies came about too seldom."""
+    rare = [what for what, least in LEAST_LIES.items() if seen[what] <= least]
+    return [f"hostile worlds: {what}: {seen[what]} times alone" for what in rare]
 
 
 def count_message(seen, body):

@@ -4,9 +4,10 @@ import zlib
 
 from plain_rules.events import Change, Event
 from plain_rules.membership import CHANGES_OF_IDS, Membership
-from plain_rules.messages import Append, AppendReply, HigherVote, Offer
+from plain_rules.messages import Append, AppendReply, HigherVote, Message, Offer, PartialSuccess
 from plain_rules.messages import SnapshotReply, VoteReply, VoteRequest
-from plain_rules.values import Blank, Command
+from plain_rules.stored import Snapshot
+from plain_rules.values import Blank, Command, Entry, Id, Members, Vote
 
 
 def or_dash(value, text=str):
@@ -90,7 +91,9 @@ def kind_of(body):
 
 
 def outcome_text(outcome):
-    """`success`, `conflict`, or the higher vote."""
+    """`success`, `conflict`, the part, or the higher vote."""
+    if isinstance(outcome, PartialSuccess):
+        return f"part {id_text(outcome.last)}"
     return f"higher {vote_text(outcome.vote)}" if isinstance(outcome, HigherVote) else outcome
 
 
@@ -170,6 +173,8 @@ def what_text(what):
         return membership_text(what)
     if isinstance(what, Change):
         return change_text(what)
+    if isinstance(what, Message):
+        return message_text(what).strip()
     return data_text(what) if isinstance(what, bytes) else str(what)
 
 
@@ -210,6 +215,105 @@ def read_data(text):
     return bytes.fromhex(byte.strip("-")) * int(count or 1)
 
 
+# ---- messages that are read
+
+
+def read_vote(word):
+    """A vote."""
+    term, node = word.rstrip("+").split(".")
+    return Vote(int(term), int(node), word.endswith("+"))
+
+
+def read_id(word):
+    """A log id, if there is one."""
+    return None if word == "-" else Id(*map(int, word.split(".")))
+
+
+def read_number(word):
+    """The number of a request, if it has one."""
+    return None if word == "-" else int(word)
+
+
+def read_payload(word):
+    """What an entry asks for."""
+    if word == "blank":
+        return Blank()
+    return Members(read_membership(word)) if ";" in word else Command(bytes.fromhex(word))
+
+
+def read_entries(words):
+    """How many there are, then each in brackets."""
+    count = int(next(words))
+    return tuple(
+        Entry(read_id(next(words)[1:]), read_payload(next(words)[:-1])) for _ in range(count)
+    )
+
+
+def read_snapshot(words):
+    """A snapshot: its last log id, its last membership and its entries."""
+    last, of_membership = read_id(next(words)), read_id(skip(words, 1))
+    membership = None
+    if of_membership is not None:
+        membership = (of_membership, read_membership(next(words)))
+    next(words)
+    return Snapshot(last, membership, read_entries(words))
+
+
+def skip(words, count):
+    """The word behind so many."""
+    for _ in range(count):
+        next(words)
+    return next(words)
+
+
+def read_outcome(words):
+    """What came of a request."""
+    kind = next(words)
+    if kind == "part":
+        return PartialSuccess(read_id(next(words)))
+    return HigherVote(read_vote(next(words))) if kind == "higher" else kind
+
+
+def read_reply(reply, vote, words):
+    """A reply: what the request was, and what came of it."""
+    ids = (read_number(skip(words, 1)), read_id(skip(words, 1)), read_id(skip(words, 1)))
+    return reply(vote, *ids, read_outcome(words))
+
+
+def read_append(vote, words):
+    """Entries behind a log id, and how far the sender has committed."""
+    ids = (read_number(skip(words, 1)), read_id(skip(words, 1)), read_id(skip(words, 1)))
+    next(words)
+    return Append(vote, *ids, read_entries(words))
+
+
+# How what a message says behind its kind and vote is read.
+BODY_READERS = {
+    "ask": lambda vote, words: VoteRequest(vote, read_id(skip(words, 1))),
+    "grant": lambda vote, words: VoteReply(vote, True, read_id(skip(words, 1))),
+    "deny": lambda vote, words: VoteReply(vote, False, read_id(skip(words, 1))),
+    "append": read_append,
+    "notice": read_append,
+    "reply": lambda vote, words: read_reply(AppendReply, vote, words),
+    "snapshot": lambda vote, words: Offer(vote, int(skip(words, 1)), read_snapshot(after(words))),
+    "answer": lambda vote, words: read_reply(SnapshotReply, vote, words),
+}
+
+
+def after(words):
+    """The words behind the next one."""
+    next(words)
+    return words
+
+
+def read_message(*words):
+    """The message on a line."""
+    rest = iter(words)
+    sender, _, addressee = next(rest).partition(">")
+    kind, vote = next(rest), read_vote(next(rest))
+    return Message(int(sender), int(addressee), BODY_READERS[kind](vote, rest))
+
+
 # How what a call asks for is read.
 READERS = {
     "setup": read_membership,
@@ -217,6 +321,7 @@ READERS = {
     "change": read_change,
     "lost": int,
     "purge": int,
+    "receive": read_message,
 }
 
 

@@ -121,11 +121,13 @@ def stopped_after(count, before, commands):
 @dataclass
 class World:
     """The nodes, the messages, numbered from 0 in the order of sending, what the group was set up
-    with, and the notes of those that led."""
+    with, and the notes of those that led. To nodes of a hostile world any message may come, and
+    any set-up."""
 
     members: List[Member]
     messages: List[Message] = field(default_factory=list)
     setup: Optional[Membership] = None
+    is_hostile: bool = False
     led: List[Led] = field(default_factory=list)
 
     @staticmethod
@@ -182,9 +184,11 @@ class World:
                 return SKIPPED
             message = self.messages[event.target]
             return self.happen_at(message.addressee, event, message)
-        if event.verb == "setup" and self.setup not in (None, event.what):
+        is_free = self.is_hostile or event.verb != "setup" or self.setup in (None, event.what)
+        if not is_free:
             return SKIPPED
-        mark = self.happen_at(event.target, event)
+        message = event.what if event.verb == "receive" else None
+        mark = self.happen_at(event.target, event, message)
         if event.verb == "setup" and self.setup is None and mark in (DONE, STOPPED):
             self.setup = event.what
         return mark

@@ -1,13 +1,15 @@
 //! The answers to lines.
 use crate::entry_texts::{EntriesText, PayloadText};
 use crate::fault::Fault;
+use crate::hostile::HostileWorld;
 use crate::message_texts::{MessageText, kind_of};
-use crate::patience::{leads, run_patiently};
+use crate::nodes::Nodes;
+use crate::patience::run_patiently;
 use crate::reading::{read_event, read_ids, read_target};
 use crate::world_texts::{MarkText, MemberText};
 use raft_executor::GroupMessage;
 use raft_log_records::crc32;
-use raft_world::{Mark, World};
+use raft_world::World;
 use std::alloc::{AllocError, Global};
 
 /// A world that answers lines.
@@ -15,7 +17,7 @@ use std::alloc::{AllocError, Global};
 pub struct Answering {
     alloc: Global,
     ids: Vec<u64>,
-    world: World,
+    nodes: Nodes,
     // Whether an event is asked for once more where it found no memory.
     is_patient: bool,
     // How many events there were, and the number of the next message in its turn.
@@ -27,17 +29,17 @@ pub struct Answering {
 }
 
 // The messages from a number on.
-fn sent_from(world: &World, number: usize) -> &[GroupMessage] {
-    world.messages().get(number..).unwrap_or(&[])
+fn sent_from(nodes: &Nodes, number: usize) -> &[GroupMessage] {
+    nodes.messages().get(number..).unwrap_or(&[])
 }
 
 // What was sent from a number on, and all nodes.
-fn put_world(text: &mut String, world: &World, ids: &[u64], sent: usize) -> Result<(), AllocError> {
-    for message in sent_from(world, sent) {
+fn put_world(text: &mut String, nodes: &Nodes, ids: &[u64], sent: usize) -> Result<(), AllocError> {
+    for message in sent_from(nodes, sent) {
         write!(text, "{}", MessageText(message))?;
     }
     for id in ids {
-        if let Some(member) = world.member(*id) {
+        if let Some(member) = nodes.member(*id) {
             write!(text, "{}", MemberText(member))?;
         }
     }
@@ -45,15 +47,11 @@ fn put_world(text: &mut String, world: &World, ids: &[u64], sent: usize) -> Resu
 }
 
 // The kinds of the messages from a number on, with their addressees.
-fn put_kinds(text: &mut String, world: &World, sent: usize) -> Result<(), AllocError> {
-    for message in sent_from(world, sent) {
+fn put_kinds(text: &mut String, nodes: &Nodes, sent: usize) -> Result<(), AllocError> {
+    for message in sent_from(nodes, sent) {
         write!(text, " {}>{}", kind_of(&message.body), message.addressee)?;
     }
     Ok(())
-}
-
-fn last_mark(world: &World) -> Mark {
-    world.marks().last().copied().unwrap_or(Mark::Skipped)
 }
 
 impl Answering {
@@ -62,7 +60,7 @@ impl Answering {
         Ok(Answering {
             alloc,
             ids: Vec::new(alloc),
-            world: World::new(alloc, &[])?,
+            nodes: Nodes::World(World::new(alloc, &[])?),
             is_patient: false,
             count: 0,
             next: 0,
@@ -77,10 +75,13 @@ impl Answering {
     }
 
     // Another world.
-    fn begin(&mut self, line: &str, is_patient: bool) -> Result<(), Fault> {
-        self.is_patient = is_patient;
+    fn begin(&mut self, line: &str, kind: &str) -> Result<(), Fault> {
+        self.is_patient = kind == "patient";
         self.ids = read_ids(self.alloc, line)?;
-        self.world = World::new(self.alloc, &self.ids)?;
+        self.nodes = match kind {
+            "hostile" => Nodes::Hostile(HostileWorld::new(self.alloc, &self.ids)?),
+            _ => Nodes::World(World::new(self.alloc, &self.ids)?),
+        };
         self.count = 0;
         self.next = 0;
         writeln!(self.told, "{line}")?;
@@ -90,19 +91,23 @@ impl Answering {
     // What was sent from a number on and all nodes become the text, and its checksum is told.
     fn tell(&mut self, sent: usize) -> Result<(), AllocError> {
         self.text.clear();
-        put_world(&mut self.text, &self.world, &self.ids, sent)?;
-        let mark = MarkText(last_mark(&self.world));
+        put_world(&mut self.text, &self.nodes, &self.ids, sent)?;
+        let mark = MarkText(self.nodes.mark());
         write!(self.told, "{} {mark}", self.count)?;
-        put_kinds(&mut self.told, &self.world, sent)?;
+        put_kinds(&mut self.told, &self.nodes, sent)?;
         writeln!(self.told, " {:08x}", crc32(self.text.as_bytes()))
     }
 
     fn run(&mut self, line: &str) -> Result<(), Fault> {
+        let world = match &mut self.nodes {
+            Nodes::World(world) => world,
+            Nodes::Hostile(world) => return world.run(line, self.count),
+        };
         let planned = [read_event(self.alloc, line, self.next, self.count)?];
         if self.is_patient {
-            return run_patiently(self.alloc, &mut self.world, &self.ids, &planned);
+            return run_patiently(self.alloc, world, &self.ids, &planned);
         }
-        match self.world.run(&planned) {
+        match world.run(&planned) {
             1 => Ok(()),
             _ => Err(Fault::Memory),
         }
@@ -110,7 +115,7 @@ impl Answering {
 
     fn happen(&mut self, line: &str) -> Result<(), Fault> {
         self.count = self.count.saturating_add(1);
-        let sent = self.world.messages().len();
+        let sent = self.nodes.messages().len();
         self.run(line)?;
         if !self.is_patient {
             self.tell(sent)?;
@@ -120,7 +125,7 @@ impl Answering {
 
     // The next message is delivered, if there is one.
     fn deliver(&mut self, line: &str) -> Result<(), Fault> {
-        let end = self.world.messages().len() as u64;
+        let end = self.nodes.messages().len() as u64;
         self.happen(line)?;
         self.next = self.next.saturating_add(1).min(end);
         Ok(())
@@ -128,7 +133,12 @@ impl Answering {
 
     // A node stands for election, unless it leads.
     fn lead(&mut self, line: &str) -> Result<(), Fault> {
-        if leads(&self.world, read_target(line)?) {
+        let target = read_target(line)?;
+        if self
+            .nodes
+            .member(target)
+            .is_some_and(|member| member.is_leading())
+        {
             return Ok(());
         }
         self.happen(line)
@@ -136,7 +146,7 @@ impl Answering {
 
     // The group's list becomes the text, and its checksum is told.
     fn list(&mut self) -> Result<(), AllocError> {
-        let list = self.world.list()?;
+        let list = self.nodes.list()?;
         self.text.clear();
         writeln!(self.text, "{}", EntriesText(&list))?;
         let sum = crc32(self.text.as_bytes());
@@ -145,7 +155,7 @@ impl Answering {
 
     // The last entry of the group's list.
     fn last(&mut self) -> Result<(), AllocError> {
-        let list = self.world.list()?;
+        let list = self.nodes.list()?;
         match list.last() {
             None => writeln!(self.told, "last -"),
             Some(entry) => writeln!(self.told, "last {}", PayloadText(&entry.payload)),
@@ -156,8 +166,7 @@ impl Answering {
         self.told.clear();
         match line.split_whitespace().next() {
             None | Some("#") => Ok(()),
-            Some("world") => self.begin(line, false),
-            Some("patient") => self.begin(line, true),
+            Some(kind @ ("world" | "patient" | "hostile")) => self.begin(line, kind),
             Some("list") => Ok(self.list()?),
             Some("last") => Ok(self.last()?),
             Some("show") => Ok(self.told.push_str(self.text.as_str())?),

@@ -10,6 +10,8 @@
 //!   `next` delivers the next message in its turn, and `lead` elects where the node doesn't lead;
 //! - `list`: how many entries the group's list has, and the checksum of their text;
 //! - `last`: what the list's last entry asks for;
+//! - `hostile 1 2 3`: another world, to whose nodes any message may come, and any set-up. There
+//!   `receive` hands a node a message that may be a lie, in the words in which messages are printed;
 //! - `show`: the text of which the last answer has the checksum alone;
 //! - `patient 1 2 3`: another world, whose events have no answer. One that finds no memory stops,
 //!   its node is down, all else is as it was, and once the node is opened again the run goes on. So
@@ -19,7 +21,10 @@
 mod answers;
 mod entry_texts;
 mod fault;
+mod hostile;
+mod message_reading;
 mod message_texts;
+mod nodes;
 mod patience;
 mod reading;
 mod values;

@@ -42,14 +42,6 @@ fn is_up(world: &World, node: u64) -> bool {
     }
 }
 
-/// Whether the node leads.
-pub fn leads(world: &World, node: u64) -> bool {
-    match world.member(node) {
-        None => false,
-        Some(member) => member.is_leading(),
-    }
-}
-
 // The node is opened, and the event is run.
 fn run_again(world: &mut World, node: u64, planned: &[PlannedEvent; 1]) -> Result<(), Fault> {
     let event = WorldEvent::Restart { node };

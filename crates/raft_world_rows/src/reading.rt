@@ -13,11 +13,13 @@ type Change = ChangeMembers<u64, BasicNode>;
 
 type Call = GroupCall<u64, BasicNode, Bytes>;
 
-type Words<'a> = SplitWhitespace<'a>;
+/// The words of a line that aren't read yet.
+pub type Words<'a> = SplitWhitespace<'a>;
 
 // ---- words
 
-fn word<'a>(words: &mut Words<'a>) -> Result<&'a str, Fault> {
+/// The next word.
+pub fn word<'a>(words: &mut Words<'a>) -> Result<&'a str, Fault> {
     words.next().ok_or(Fault::Line)
 }
 
@@ -26,12 +28,13 @@ pub fn number_in(word: &str) -> Result<u64, Fault> {
     word.parse().map_err(|_| Fault::Line)
 }
 
-fn number(words: &mut Words) -> Result<u64, Fault> {
+/// The number that the next word is.
+pub fn number(words: &mut Words) -> Result<u64, Fault> {
     number_in(word(words)?)
 }
 
-// After how many storing commands the event stops, if it does.
-fn stop_in(word: &str) -> Result<Option<u64>, Fault> {
+/// After how many storing commands the event stops, if it does.
+pub fn stop_in(word: &str) -> Result<Option<u64>, Fault> {
     match word {
         "-" => Ok(None),
         word => Ok(Some(number_in(word)?)),
@@ -55,7 +58,8 @@ fn byte_in(pair: &[u8]) -> Result<u8, Fault> {
     }
 }
 
-fn bytes_in(alloc: Global, text: &str) -> Result<Vec<u8>, Fault> {
+/// The bytes of which a text has two digits each.
+pub fn bytes_in(alloc: Global, text: &str) -> Result<Vec<u8>, Fault> {
     let mut bytes = Vec::new(alloc);
     for pair in text.as_bytes().chunks(2) {
         bytes.push(byte_in(pair)?)?;
@@ -107,7 +111,8 @@ fn groups_in(alloc: Global, text: &str) -> Result<VoterGroups<u64>, Fault> {
     Ok(groups)
 }
 
-fn membership_in(alloc: Global, text: &str) -> Result<Membership<u64, BasicNode>, Fault> {
+/// A membership: voter groups, then nodes.
+pub fn membership_in(alloc: Global, text: &str) -> Result<Membership<u64, BasicNode>, Fault> {
     let (groups, nodes) = text.split_once(';').ok_or(Fault::Line)?;
     let groups = groups_in(alloc, groups)?;
     Ok(Membership::from_parts(groups, nodes_in(alloc, nodes)?))
