@@ -44,8 +44,8 @@ placed_end_rises at (item ∷ items) = omega (arith, change_end_rises at item.ch
 
 -- ---- entries
 
-abbrev heads : List (ℕ × List ℕ) → List (ℕ × ℕ)
-heads es = map {A = ℕ × List ℕ} {B = ℕ × ℕ} (λ e. (e.0, length e.1)) es
+abbrev pub heads_in : List (ℕ × List ℕ) → List (ℕ × ℕ)
+heads_in es = map {A = ℕ × List ℕ} {B = ℕ × ℕ} (λ e. (e.0, length e.1)) es
 
 entry_again : (next limit at len : ℕ) (rest : List ℕ) → next < 2 ^ 64 → len < 2 ^ 32 → at + len ≤ limit → entry_at next limit at (spell_entry (next, len) ++ rest) ≡ Ok (place next at len, rest)
 unfolding entry_at
@@ -56,15 +56,15 @@ entry_again next limit at len rest a b c =
     ap (λ l. number_at w64 l >>= λ index. number_at w32 index.1 >>= λ len. cond (not (eqb index.0 next)) (Err fault.NotConsecutive) (cond (ltb (limit - at) len.0) (Err fault.EntriesLength) (Ok (place index.0 at len.0, len.1)))) regrouped
     ∙ rw (number_again fault.ItemsCutShort w64 (2 ^ 64) wide64 next (to_be_bytes w32 len ++ rest) a, number_again fault.ItemsCutShort w32 (2 ^ 32) wide32 len rest b, same, fits) refl
 
-entries_again : (es : List (ℕ × List ℕ)) (next limit at : ℕ) (rest : List ℕ) → IsConsecutive next (heads es) → run_end at es ≤ limit
-    → entries_at (length es) next limit at (flat_map spell_entry (heads es) ++ rest) ≡ Ok (runs at es, run_end at es, rest)
+entries_again : (es : List (ℕ × List ℕ)) (next limit at : ℕ) (rest : List ℕ) → IsConsecutive next (heads_in es) → run_end at es ≤ limit
+    → entries_at (length es) next limit at (flat_map spell_entry (heads_in es) ++ rest) ≡ Ok (runs at es, run_end at es, rest)
 unfolding entries_at
 entries_again [] next limit at rest h k = refl
 entries_again (e ∷ es) next limit at rest h k =
     let up = run_end_rises (at + length e.1) es in
-    let behind = flat_map spell_entry (heads es) ++ rest in
-    let regrouped : flat_map spell_entry (heads (e ∷ es)) ++ rest ≡ spell_entry (next, length e.1) ++ behind =
-    ap (λ (l : List ℕ). l ++ rest) (flat_map-cons spell_entry (e.0, length e.1) (heads es)) ∙ append_assoc (spell_entry (e.0, length e.1)) (flat_map spell_entry (heads es)) rest
+    let behind = flat_map spell_entry (heads_in es) ++ rest in
+    let regrouped : flat_map spell_entry (heads_in (e ∷ es)) ++ rest ≡ spell_entry (next, length e.1) ++ behind =
+    ap (λ (l : List ℕ). l ++ rest) (flat_map-cons spell_entry (e.0, length e.1) (heads_in es)) ∙ append_assoc (spell_entry (e.0, length e.1)) (flat_map spell_entry (heads_in es)) rest
     ∙ ap (λ (n : ℕ). spell_entry (n, length e.1) ++ behind) h.0 in
     let first = entry_again next limit at (length e.1) behind (omega (arith, h.0, h.1)) h.2 (omega arith) in
     let others = entries_again es (next + 1) limit (at + length e.1) rest h.3 k in
@@ -82,20 +82,20 @@ number_twice first (e ∷ es) rest some h =
     first_read : ℕ → List ℕ → Result (ℕ × List ℕ) RecordFault
     first_read n r = Ok (n, r)
 
-run_again : (es : List (ℕ × List ℕ)) (limit at : ℕ) (rest : List ℕ) → IsChange (entries (heads es)) → run_end at es ≤ limit
-    → run_at limit at ((to_be_bytes w32 (length (heads es)) ++ flat_map spell_entry (heads es)) ++ rest) ≡ Ok (runs at es, run_end at es, rest)
+run_again : (es : List (ℕ × List ℕ)) (limit at : ℕ) (rest : List ℕ) → IsChange (entries (heads_in es)) → run_end at es ≤ limit
+    → run_at limit at ((to_be_bytes w32 (length (heads_in es)) ++ flat_map spell_entry (heads_in es)) ++ rest) ≡ Ok (runs at es, run_end at es, rest)
 unfolding run_at
 run_again es limit at rest h k =
-    let behind = flat_map spell_entry (heads es) ++ rest in
+    let behind = flat_map spell_entry (heads_in es) ++ rest in
     let len = heads_len es in
-    let some : eqb (length (heads es)) 0 ≡ false = ne_eqb _ _ (λ e. omega (arith, h.0)) in
-    let twice = number_twice (first_index (heads es)) (heads es) rest h.0 h.2 in
-    let again = entries_again es (first_index (heads es)) limit at rest h.2 k in
-    let counted : entries_at (length (heads es)) (first_index (heads es)) limit at behind ≡ Ok (runs at es, run_end at es, rest) = ap (λ (n : ℕ). entries_at n (first_index (heads es)) limit at behind) len ∙ again in
-    ap (run_at limit at) (append_assoc (to_be_bytes w32 (length (heads es))) (flat_map spell_entry (heads es)) rest)
-    ∙ rw (number_again fault.ItemsCutShort w32 (2 ^ 32) wide32 (length (heads es)) behind h.1, some, twice.1, counted) refl
+    let some : eqb (length (heads_in es)) 0 ≡ false = ne_eqb _ _ (λ e. omega (arith, h.0)) in
+    let twice = number_twice (first_index (heads_in es)) (heads_in es) rest h.0 h.2 in
+    let again = entries_again es (first_index (heads_in es)) limit at rest h.2 k in
+    let counted : entries_at (length (heads_in es)) (first_index (heads_in es)) limit at behind ≡ Ok (runs at es, run_end at es, rest) = ap (λ (n : ℕ). entries_at n (first_index (heads_in es)) limit at behind) len ∙ again in
+    ap (run_at limit at) (append_assoc (to_be_bytes w32 (length (heads_in es))) (flat_map spell_entry (heads_in es)) rest)
+    ∙ rw (number_again fault.ItemsCutShort w32 (2 ^ 32) wide32 (length (heads_in es)) behind h.1, some, twice.1, counted) refl
   where
-    heads_len : (es : List (ℕ × List ℕ)) → length (heads es) ≡ length es
+    heads_len : (es : List (ℕ × List ℕ)) → length (heads_in es) ≡ length es
     heads_len [] = refl
     heads_len (e ∷ es) = ap suc (heads_len es)
 

@@ -1,5 +1,5 @@
 -- A run of entries that a batch takes.
-use Rattle.std.proofs.Common.{◌≡◌, ℕ, suc, ◌+◌, ◌*◌, ◌-◌, ◌^◌, ◌<◌, ◌≤◌, Bool, true, false, List, [], ◌∷◌, ◌++◌, length, map, Err, refl, sym, ap, subst, ◌∙◌, arith, zero-add, length-append}
+use Rattle.std.proofs.Common.{◌≡◌, ℕ, suc, ◌+◌, ◌*◌, ◌-◌, ◌^◌, ◌<◌, ◌≤◌, Bool, true, false, List, [], ◌∷◌, ◌++◌, length, Err, refl, sym, ap, subst, ◌∙◌, arith, zero-add, length-append}
 use Rattle.std.specs.Prelude.{◌||◌}
 use Rattle.std.specs.List.{flat_map, list_any, AllByRecursion}
 use Rattle.std.specs.Int.{w32, w64, to_be_bytes}
@@ -15,7 +15,7 @@ use Rattle.raft_log_records.specs.declared.error.RecordError.TheVariants as erro
 use Rattle.raft_log_records.specs.Item.{Change, Item, item_of, items_of, change_map, item_map, entry_bytes, with_bytes, with_lengths}
 use Rattle.raft_log_records.specs.Item.Change.{entries}
 use Rattle.raft_log_records.specs.Places.{indexed, runs, run_end, placed}
-use Rattle.raft_log_records.proofs.Again.{placed_end}
+use Rattle.raft_log_records.proofs.Again.{heads_in, placed_end}
 use Rattle.raft_log_records.specs.Spelling.{IsItem, IsChange, IsConsecutive, FitsBytes, first_index, holds_entries, entries_of, lengths, block_of, block_part, spell_block, spell_entry, spell_item, spell_items, record_len}
 use Rattle.raft_log_records.specs.Batch.{Batch, LogsEntries, IsRunLaid, IsLaid, IsSound, joined, numbered, run_of}
 use Rattle.raft_log_records.proofs.Spelled.{heads, heads_of}
@@ -31,9 +31,6 @@ numbered_bytes first (b ∷ parts) = ap (λ (l : List (List ℕ)). b ∷ l) (num
 numbered_len : (first : ℕ) (parts : List (List ℕ)) → length (numbered first parts) ≡ length parts
 numbered_len first [] = refl
 numbered_len first (b ∷ parts) = ap suc (numbered_len (first + 1) parts)
-
-abbrev heads_in : List (ℕ × List ℕ) → List (ℕ × ℕ)
-heads_in es = map {A = ℕ × List ℕ} {B = ℕ × ℕ} (λ e. (e.0, length e.1)) es
 
 run_heads : (at : ℕ) (es : List (ℕ × List ℕ)) → heads_of (runs at es) ≡ heads_in es
 run_heads at [] = refl
