@@ -9,7 +9,7 @@ use Rattle.raft_laws.specs.BallotLists.{AgreeBelow}
 use Rattle.raft_laws.proofs.BallotAgreement.{agree_less}
 use Rattle.raft_laws.proofs.Committed.{same_front}
 use Rattle.raft_laws.proofs.Shapes.{slice_take}
-use Rattle.raft_headline.specs.Machines.{Standing, answer_on, run_on}
+use Rattle.raft_node.specs.Telling.{Standing, answer_on, run_on}
 
 state_from_both : (rules : MachineRules) (state : List ℕ) (place : ℕ) (xs ys : List Entry) → state_from rules state place (xs ++ ys) ≡ state_from rules (state_from rules state place xs) (place + length xs) ys
 state_from_both rules state place [] ys =

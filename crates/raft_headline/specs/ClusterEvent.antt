@@ -4,6 +4,7 @@ use Rattle.std.specs.List.{find}
 use Rattle.raft_group_step.specs.Message.{Message}
 use Rattle.raft_group_step.specs.GroupEvent.{GroupCall}
 use Rattle.raft_group_step.specs.StepResult.{RefusalReason}
+use Rattle.raft_node.specs.declared.telling.Told.{Told}
 
 -- messages are numbered for each group, from 0 in the order of sending
 pub data ClusterEvent : Type 0 where
@@ -18,12 +19,6 @@ pub data ClusterEvent : Type 0 where
   Reopen : (node : ℕ) → ClusterEvent
   -- an event of others stopped the node. Only a history that is filtered to a group has it
   Halt : (node : ℕ) → ClusterEvent
-
--- a token that was told, with its place and the machine's answer
-pub record Told : Type 0 where
-  pub token : ℕ
-  pub place : ℕ
-  pub answer : List ℕ
 
 -- a group's token that stays unknown
 pub record Unknown : Type 0 where

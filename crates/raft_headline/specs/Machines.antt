@@ -14,24 +14,8 @@ use Rattle.raft_laws.specs.NodeEvent.{NodeEvent, Comes, Crashes, Halts, Restarts
 use Rattle.raft_laws.specs.GroupRun.{Scene, Nowhere, At}
 use Rattle.raft_laws.specs.OneList.{applied_list}
 use Rattle.raft_node.specs.Machine.{MachineRules}
+use Rattle.raft_node.specs.Telling.{Standing, answer_on, run_on}
 use Rattle.raft_node.specs.Fold.{answer_to_payload, state_from}
-
--- ---- a machine that runs on
-
--- the state of a machine that has run so many entries of the list
-pub record Standing : Type 0 where
-  pub state : List ℕ
-  pub count : ℕ
-
--- the state once it has run the rest of this list, too
-abbrev pub run_on : MachineRules → Standing → List Entry → List ℕ
-run_on rules at es = state_from rules at.state at.count (drop at.count es)
-
--- its answer as it runs the entry at a place. There is none where it has run that before, or doesn't come so far
-abbrev pub answer_on : MachineRules → Standing → List Entry → ℕ → Option (List ℕ)
-answer_on rules at es place =
-    if nat_lt place at.count then None
-    else option_map (λ (e : Entry). answer_to_payload rules (run_on rules at (take place es)) place e.payload) (slice_get es place)
 
 -- ---- snapshots
 

@@ -8,23 +8,13 @@ use Rattle.raft_laws.specs.GroupWorld.{Outcome, is_stop}
 use Rattle.raft_laws.specs.GroupWorld.{Done as Ended, Refused as Declined, Stopped as Broken, Skipped}
 use Rattle.raft_laws.specs.GroupRun.{Scene, Nowhere, At, happens, outcome_of, scene_of}
 use Rattle.raft_node.specs.Machine.{MachineRules}
-use Rattle.raft_headline.specs.ClusterEvent.{ClusterOutcome, Done, Opened, Refused, Stopped, Fused, PassedOver, TurnedAway, Recorded, Said, Told, is_stopped, said_of, silent}
+use Rattle.raft_node.specs.Telling.{AreToldAs}
+use Rattle.raft_headline.specs.ClusterEvent.{ClusterOutcome, Done, Opened, Refused, Stopped, Fused, PassedOver, TurnedAway, Recorded, Said, is_stopped, said_of, silent}
+use Rattle.raft_node.specs.declared.telling.Told.{Told}
 use Rattle.raft_headline.specs.Seen.{Seen, Passed, Own, Halted, Crashed, own_part, own_tokens, seen_by}
 use Rattle.raft_headline.specs.Machines.{MachinesMoveIn, Replicas, StandsStill}
 
 -- ---- what an outcome says of a group
-
--- the token is told at its place, with the machine's answer as it runs the entry there
-pub record IsToldAs (answers : ℕ → Option (List ℕ)) (t : Told) (x : Untold) : Type 0 where
-  pub token : t.token ≡ x.token
-  pub place : t.place ≡ x.place
-  pub answer : answers x.place ≡ Some t.answer
-
-abbrev pub AreToldAs : (ℕ → Option (List ℕ)) → List Told → List Untold → Type 0
-AreToldAs answers [] [] = Unit {0}
-AreToldAs answers [] (x ∷ xs) = ⊥
-AreToldAs answers (t ∷ ts) [] = ⊥
-AreToldAs answers (t ∷ ts) (x ∷ xs) = IsToldAs answers t x × AreToldAs answers ts xs
 
 pub record IsSaid (answers : ℕ → Option (List ℕ)) (said : Said) (messages : List Message) (tells : List Untold) (lost : List ℕ) : Type 0 where
   pub sent : said.sent ≡ messages

@@ -13,7 +13,8 @@ use Rattle.raft_laws.specs.Stop.{token_of_call}
 use Rattle.raft_history_laws.specs.NotedIds.{is_noted, next_id}
 use Rattle.raft_node.specs.Machine.{MachineRules}
 use Rattle.raft_headline.specs.ClusterEvent.{ClusterEvent, AddGroup, Ask, Deliver, ResetPeer, Clean, Crash, Reopen, Halt, ClusterOutcome, Done}
-use Rattle.raft_headline.specs.ClusterEvent.{Opened, Refused, Stopped, Fused, PassedOver, TurnedAway, Recorded, Said, Told, said_of, silent}
+use Rattle.raft_headline.specs.ClusterEvent.{Opened, Refused, Stopped, Fused, PassedOver, TurnedAway, Recorded, Said, said_of, silent}
+use Rattle.raft_node.specs.declared.telling.Told.{Told}
 use Rattle.raft_node.specs.Fold.{answer_at}
 use Rattle.raft_headline.specs.Machines.{Replicas, new_replicas}
 use Rattle.raft_headline.specs.OwnEvents.{own_events, own_number}

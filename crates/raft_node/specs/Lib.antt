@@ -3,3 +3,4 @@ pub mod Fault
 pub mod Fold
 pub mod Machine
 pub mod MembershipFault
+pub mod Telling

@@ -4,7 +4,9 @@
 mod adding;
 mod fault;
 mod machine;
+mod telling;
 
 pub use adding::AddingMachine;
 pub use fault::{Fault, MembershipFault, membership_fault};
 pub use machine::StateMachine;
+pub use telling::{Told, Untold, run_entries};

@@ -2,9 +2,12 @@
 
 use crate::answers::{assert_rows, holds};
 use crate::makers::{ids, membership, nodes};
-use raft_messages::is_within_limits;
-use raft_node::{AddingMachine, Fault, MembershipFault, StateMachine, membership_fault};
-use raft_state::{BasicNode, Bytes, Membership};
+use raft_messages::{GroupEntry, GroupPayload, is_within_limits};
+use raft_node::{
+    AddingMachine, Fault, MembershipFault, StateMachine, Told, Untold, membership_fault,
+    run_entries,
+};
+use raft_state::{BasicNode, Bytes, EntryPayload, LeaderId, LogId, Membership};
 use std::alloc::{AllocError, Global};
 
 // Runs a number through a machine, by its bound alone.
@@ -38,6 +41,38 @@ fn a_machine_adds(alloc: Global) -> Result<bool, AllocError> {
             & holds(runs(&mut machine, alloc, 4, b"seven", &[]))
             & (machine.total() == 12),
     )
+}
+
+// A blank, then two commands from place 2 on. The first and the second token wait for them, and a
+// third one for a place that isn't run yet.
+fn a_machine_runs_entries(alloc: Global) -> Result<bool, AllocError> {
+    let mut machine = AddingMachine::new(alloc)?;
+    let mut entries = Vec::new(alloc);
+    entries.push(entry_of(1, EntryPayload::Blank))?;
+    entries.push(entry_of(2, EntryPayload::Normal(Bytes::from_slice(alloc, &FIVE)?)))?;
+    entries.push(entry_of(3, EntryPayload::Normal(Bytes::from_slice(alloc, &SEVEN)?)))?;
+    let waiting = [Untold { token: 9, place: 2 }, Untold { token: 8, place: 3 }];
+    let told = run_entries(alloc, &mut machine, 1, &entries, &waiting)?;
+    Ok((machine.total() == 12) & are_told(&told))
+}
+
+fn entry_of(index: u64, payload: GroupPayload) -> GroupEntry {
+    GroupEntry {
+        log_id: LogId::new(LeaderId::new(1, 1), index),
+        payload,
+    }
+}
+
+// Token 9 at place 2 by five, and token 8 at place 3 by twelve.
+fn are_told(told: &[Told]) -> bool {
+    match told {
+        [first, second] => is_told(first, 9, 2, &FIVE) & is_told(second, 8, 3, &TWELVE),
+        _ => false,
+    }
+}
+
+fn is_told(told: &Told, token: u64, place: u64, answer: &[u8]) -> bool {
+    (told.token == token) & (told.place == place) & (told.answer.as_slice() == answer)
 }
 
 fn restores(machine: &mut AddingMachine, bytes: &[u8], total: u64) -> bool {
@@ -122,6 +157,10 @@ fn nodes_of_groups(rt: HostRuntime) {
     let rows = [
         ("a machine adds", holds(a_machine_adds(alloc))),
         ("a machine is restored", holds(a_machine_is_restored(alloc))),
+        (
+            "a machine runs entries",
+            holds(a_machine_runs_entries(alloc)),
+        ),
         ("a machine goes round", holds(a_machine_goes_round(alloc))),
         (
             "faults have their numbers and names",
