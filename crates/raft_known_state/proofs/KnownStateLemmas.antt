@@ -375,6 +375,20 @@ end_known found s ids e f p = place_next found ∙ ap next_place (e ∙ ap last_
 
 -- ---- what is known after each storing command
 
+-- as many as before are those of before
+pub none_more : {X : Type 0} (xs more : List X) → length (xs ++ more) ≡ length xs → xs ++ more ≡ xs
+none_more xs [] h = append-nil xs
+none_more xs (x ∷ more) h = absurd (omega (arith, length-append xs (x ∷ more), h))
+
+-- where no membership is added the one in force is the last one already
+pub stays_forced : (k k' : KnownState) (s : StoredGroup) (ids : List (LogId ℕ)) → Knows k s → k'.state ≡ record k.state { log_ids = ids } → k'.memberships.items ≡ k.memberships.items
+    → k' ≡ with_force k' (force_of k')
+stays_forced k k' s ids known e f =
+    ap (with_force k')
+    (ap (λ (y : StateOf). y.membership_state.effective) e ∙ known.in_force ∙ sym (force_known k s known.snapshot known.memberships)
+    ∙ ap (λ ms. last_else (force_of_snapshot k.state.snapshot_meta) ms) (sym f)
+    ∙ ap (λ (y : StateOf). last_else (force_of_snapshot y.snapshot_meta) k'.memberships.items) (sym e))
+
 module _ (k k' k'' : KnownState) (s : StoredGroup) (old : Knows k s) (forced : k'' ≡ with_force k' (force_of k')) where
   again : (s' : StoredGroup) → k'.state.vote.value ≡ s'.vote → k'.state.log_ids ≡ stored_ids s' → k'.state.purged_next ≡ first_place s'
       → k'.state.snapshot_meta ≡ meta_of s'.snapshot → k'.memberships.items ≡ memberships_in s'.log → Knows k'' s'

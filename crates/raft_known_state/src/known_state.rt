@@ -248,7 +248,12 @@ impl KnownState<u64, BasicNode> {
         ensures rest { OnOk result (KeepsRest self.old self.new) }
     {
         self.state.extend_log_ids(entries)?;
+        let count = self.memberships.len();
         push_memberships(&mut self.memberships, entries)?;
+        // Without another membership the one in force stays, and nothing is copied.
+        if self.memberships.len() == count {
+            return Ok(());
+        }
         self.refresh_membership()
     }
 

@@ -13,7 +13,7 @@ use Rattle.raft_quorums.specs.QuorumLaws.{IsWithin}
 use Rattle.raft_progress.specs.declared.progress_entry.ProgressEntry.{ProgressEntry}
 use Rattle.raft_progress.specs.Values.{entry_at, value_at}
 use Rattle.raft_leaders.specs.Leader.{LeaderValue, peer_at, unknown_peer}
-use Rattle.raft_leaders.specs.Accepted.{Covers, IsAcceptedEnd, IsReached, has_accepted}
+use Rattle.raft_leaders.specs.Accepted.{IsAcceptedEnd, IsOutside, IsReached, IsRefused, has_accepted}
 
 reaches_lower : (m : Option (LogId ℕ)) (place at : ℕ) → place ≤ at → reaches m at ≡ true → reaches m place ≡ true
 reaches_lower None place at h k = k
@@ -58,6 +58,16 @@ module _ (P : Option (LogId ℕ) → Type 0) where
       (at_id leader.progress.voters n (left_part leader.progress.voters leader.progress.learners h))
       (at_id leader.progress.learners n (right_part leader.progress.voters leader.progress.learners h))
 
+-- no peer's log ends within the bounds
+abbrev pub AllOutside : ℕ → ℕ → Entries → Type 0
+AllOutside low high entries = AllByRecursion (λ (x : ℕ × ProgressEntry ℕ). IsOutside low high (place_of x.1.matching)) entries
+
+-- the place below the end that stands there is below this one, if a quorum has accepted it
+abbrev pub Covers : {Q : Type 0} → ℕ → LeaderValue ℕ Q → ((ℕ → Bool) → Bool) → ℕ → ℕ → Option ℕ → Type 0
+Covers own leader accepts end reached None = Unit {0}
+Covers own leader accepts end reached (Some place) =
+    place < end → accepts (has_accepted own leader end place) ≡ true → place < reached
+
 module _ {Q : Type 0} (own : ℕ) (leader : LeaderValue ℕ Q) (accepts : (ℕ → Bool) → Bool)
     (superset : (p r : ℕ → Bool) → IsWithin p r → accepts p ≡ true → accepts r ≡ true) (end : ℕ) where
   abbrev accepted : ℕ → Bool
@@ -76,9 +86,31 @@ module _ {Q : Type 0} (own : ℕ) (leader : LeaderValue ℕ Q) (accepts : (ℕ �
   pub reached_behind : (at : ℕ) → accepted at ≡ true → IsReached own leader accepts end (at + 1)
   reached_behind at h place below = superset (has_accepted own leader end at) (has_accepted own leader end place) (lower place at (omega arith)) h
 
-  pub covers_more : (reached more : ℕ) (at : Option ℕ) → reached ≤ more → Covers own leader accepts end reached at → Covers own leader accepts end more at
-  covers_more reached more None h c = tt
-  covers_more reached more (Some place) h c = λ below a. let l : place < reached = c below a in omega arith
+  -- and none from one on that it hasn't accepted
+  pub refused_from : (at : ℕ) → accepted at ≡ false → IsRefused own leader accepts end at
+  refused_from at h place above below =
+      elim (accepted place) as (λ a. accepted place ≡ a → a ≡ false) [
+        | true ↦ λ a. absurd (true≢false (sym (superset (has_accepted own leader end place) (has_accepted own leader end at) (lower at place above) a) ∙ h))
+        | false ↦ λ a. refl
+      ] refl
+
+  module _ (reached refused : ℕ) (high : IsRefused own leader accepts end refused) where
+    -- a place that isn't between what is reached and what is refused
+    covers_outside : (at : Option ℕ) → IsOutside reached refused at → Covers own leader accepts end reached at
+    covers_outside None h = tt
+    covers_outside (Some place) h = λ below a.
+        elim (leb_tells (suc place) reached) [
+          | inl w ↦ omega (arith, w.1)
+          | inr w ↦ elim (leb_tells (suc place) refused) [
+            | inl v ↦ absurd (h (omega (arith, w.1)) (omega (arith, v.1)))
+            | inr v ↦ absurd (true≢false (sym a ∙ high place (omega (arith, v.1)) below))
+          ]
+        ]
+
+    pub all_outside : (xs : Entries) → AllOutside reached refused xs
+        → AllMatching (λ m. Covers own leader accepts end reached (place_of m)) xs
+    all_outside [] h = tt
+    all_outside (x ∷ xs) h = (covers_outside (place_of x.1.matching) h.0, all_outside xs h.1)
 
   module _ (reached place : ℕ) where
     abbrev Covered : ℕ → Type 0
@@ -142,3 +174,12 @@ module _ {Q : Type 0} (own : ℕ) (leader : LeaderValue ℕ Q) (accepts : (ℕ �
           | false ↦ λ a. sym w.0
         ] refl
       ]
+
+  -- so it is where no log ends between what is reached and what is refused
+  pub accepted_between : (reached refused : ℕ) → refused < end → IsReached own leader accepts end reached → IsRefused own leader accepts end refused
+      → AllOutside reached refused (leader.progress.voters ++ leader.progress.learners)
+      → IsAcceptedEnd own leader accepts end reached
+  accepted_between reached refused within low high h =
+      accepted_just reached low
+      (λ below a. absurd (true≢false (sym a ∙ high (end - 1) (omega arith) below)))
+      (all_outside reached refused high (leader.progress.voters ++ leader.progress.learners) h)

@@ -1,18 +1,20 @@
--- The last of the leader's own log ids, found from the end of a list whose places rise by one.
-use Rattle.std.proofs.Common.{◌≡◌, ℕ, zero, suc, ◌+◌, ◌-◌, ◌<◌, ◌≤◌, List, [], ◌∷◌, ◌++◌, length, refl, ap, sym, ◌∙◌, subst, arith, inl, inr}
-use Rattle.std.specs.Prelude.{Bool, true, false, ◌==◌, ◌&&◌, nat_eq, nat_lt, cond, if◌then◌else◌, filter, Option, Some, None, is_some}
-use Rattle.std.specs.List.{AllByRecursion, last_or, slice_get}
+-- The last of the leader's own log ids, found from the last key on.
+use Rattle.std.proofs.Common.{◌≡◌, ℕ, zero, suc, ◌+◌, ◌-◌, ◌<◌, ◌≤◌, List, [], ◌∷◌, ◌++◌, length, get_or, drop, refl, ap, sym, ◌∙◌, subst, arith, inl, inr}
+use Rattle.std.specs.Prelude.{Bool, true, false, ◌&&◌, nat_eq, nat_lt, cond, filter, Option, Some, None, is_some}
+use Rattle.std.specs.List.{AllByRecursion, last_or}
 use Rattle.raft_values.specs.declared.vote.LeaderId.{LeaderId}
 use Rattle.raft_values.specs.declared.log_id.LogId.{LogId}
 use Rattle.raft_values.specs.LogId.{next_place}
-use Rattle.raft_state.specs.LogIdList.{id_at, ids_of, last_id, leader_ids, PlacesRise}
+use Rattle.raft_state.specs.LogIdList.{IsBelowNext, end_of_key, ids_of, last_id, leader_ids, PlacesRise}
 use Rattle.raft_state.proofs.LogIdLemmas.{leader_ids-first, leader_ids-none}
 use Rattle.raft_state.proofs.LogIdListLemmas.{final, last_id-cons, last_id-ids_of}
-use Rattle.std.proofs.lemmas.Bool.{eqb-true, eq-eqb, and_right}
-use Rattle.std.proofs.lemmas.Bool.Decides.{eqb_tells, leb_tells}
+use Rattle.std.proofs.lemmas.Bool.{and_right}
+use Rattle.std.proofs.lemmas.Bool.Decides.{leb_tells}
+use Rattle.std.proofs.lemmas.List.{append-nil, drop_more}
+use Rattle.std.proofs.lemmas.List.Elements.{filter-append}
 use borrow.Author.Tests.{lt-ltb}
 use Rattle.raft_leaders.specs.Leader.{end_of, is_of_leader}
-use Rattle.raft_leaders.specs.Accepted.{if_own, last_own_below, own_at}
+use Rattle.raft_leaders.specs.Accepted.{last_own_below}
 
 module _ {K : Type 0} where
   -- the places rise by one from this one on
@@ -54,113 +56,153 @@ filter-agrees p r P same [] h = refl
 filter-agrees p r P same (x ∷ xs) h =
     ap (λ b. cond b (x ∷ filter p xs) (filter p xs)) (same x h.0) ∙ ap (λ l. cond (r x) (x ∷ l) l) (filter-agrees p r P same xs h.1)
 
-some_is : {X : Type 0} (x y : X) → Some x ≡ Some y → x ≡ y
-some_is x y e = cc e
+-- ---- the last own log id among those that a key tells
 
 last_of_more : {X : Type 0} (o : Option X) (xs : List X) (y : X) → last_or None xs ≡ Some y → last_or o xs ≡ Some y
 last_of_more o [] y h = cc h
 last_of_more o (x ∷ xs) y h = h
 
-module _ (test : LogId ℕ → Bool) where
-  -- none of those from a place on passes, so none at all
-  pub none_passes : (xs : List (LogId ℕ)) (place : ℕ) → RisesFrom place xs → AllByRecursion (λ x. test x ≡ false) xs → filter test xs ≡ []
-  none_passes [] place h k = refl
-  none_passes (x ∷ xs) place h k = ap (λ b. cond b (x ∷ filter test xs) (filter test xs)) k.0 ∙ none_passes xs (place + 1) h.1 k.1
+last_behind : {X : Type 0} (o : Option X) (xs ys : List X) (y : X) → last_or None ys ≡ Some y → last_or o (xs ++ ys) ≡ Some y
+last_behind o [] ys y h = last_of_more o ys y h
+last_behind o (x ∷ xs) ys y h = last_behind (Some x) xs ys y h
 
-  -- each passes only at or below a place
-  abbrev pub PassesUpTo : ℕ → LogId ℕ → Type 0
-  PassesUpTo at x = at < x.index → test x ≡ false
+last_before : {X : Type 0} (xs ys : List X) → ys ≡ [] → last_or None (xs ++ ys) ≡ last_or None xs
+last_before xs ys h = ap (λ l. last_or None (xs ++ l)) h ∙ ap (last_or None) (append-nil xs)
 
-  none_behind : (xs : List (LogId ℕ)) (place at : ℕ) → RisesFrom place xs → at < place → AllByRecursion (PassesUpTo at) xs → AllByRecursion (λ x. test x ≡ false) xs
-  none_behind [] place at h l k = tt
-  none_behind (x ∷ xs) place at h l k = (k.0 (let e : x.index ≡ place = h.0 in omega arith), none_behind xs (place + 1) at h.1 (omega arith) k.1)
+none_before : {X : Type 0} (test : X → Bool) (xs ys : List X) → filter test xs ≡ [] → filter test ys ≡ [] → filter test (xs ++ ys) ≡ []
+none_before test xs ys h k = filter-append test xs ys ∙ ap (λ l. l ++ filter test ys) h ∙ k
 
-  -- the one at a place is the last that passes, where none behind it does
-  pub last_passing : (xs : List (LogId ℕ)) (place at : ℕ) (id : LogId ℕ) → RisesFrom place xs → id_at xs at ≡ Some id → test id ≡ true → AllByRecursion (PassesUpTo at) xs
-      → last_or None (filter test xs) ≡ Some id
-  last_passing [] place at id h e t k = cc e
-  last_passing (x ∷ xs) place at id h e t k =
-      elim (x.index == at) as (λ b. (x.index == at) ≡ b → cond b (Some x) (id_at xs at) ≡ Some id → last_or None (cond (test x) (x ∷ filter test xs) (filter test xs)) ≡ Some id) [
-        | true ↦ λ here is.
-            let at_place : x.index ≡ at = eqb-true x.index at here in
-            let one : x ≡ id = some_is x id is in
-            let rest : filter test xs ≡ [] = none_passes xs (place + 1) h.1 (none_behind xs (place + 1) at h.1 (let e : x.index ≡ place = h.0 in omega arith) k.1) in
-            ap (λ b. last_or None (cond b (x ∷ filter test xs) (filter test xs))) (ap test one ∙ t) ∙ ap (λ l. last_or (Some x) l) rest ∙ ap Some one
-        | false ↦ λ other is. elim (test x) as (λ b. last_or None (cond b (x ∷ filter test xs) (filter test xs)) ≡ Some id) [
-          | true ↦ last_of_more (Some x) (filter test xs) id (last_passing xs (place + 1) at id h.1 is t k.1)
-          | false ↦ last_passing xs (place + 1) at id h.1 is t k.1
-        ]
-      ] refl e
+-- a key's log ids end past it
+end_past : (key : LogId ℕ) (rest : List (LogId ℕ)) → IsBelowNext key rest → key.index < end_of_key key rest
+end_past key [] h = omega arith
+end_past key (next ∷ rest) h = h
 
--- what holds of each log id that stands at its place holds of all
-all_at : (D : LogId ℕ → Type 0) (xs : List (LogId ℕ)) (place : ℕ) → RisesFrom place xs
-    → ((at : ℕ) (x : LogId ℕ) → place ≤ at → id_at xs at ≡ Some x → x.index ≡ at → D x) → AllByRecursion D xs
-all_at D [] place h f = tt
-all_at D (x ∷ xs) place h f = (
-  f place x (omega arith) (ap (λ b. cond b (Some x) (id_at xs place)) (eq-eqb x.index place h.0)) h.0,
-  all_at D xs (place + 1) h.1 (λ at y l e i. f at y (omega arith) (elim (eqb_tells x.index at) [
-    | inl w ↦ absurd (let here : x.index ≡ at = w.1 in let start : x.index ≡ place = h.0 in omega arith)
-    | inr w ↦ ap (λ b. cond b (Some x) (id_at xs at)) w.0 ∙ e
-  ]) i),
-)
+pub end_is_next : (key : LogId ℕ) (rest : List (LogId ℕ)) (d : LogId ℕ) → 1 ≤ length rest → end_of_key key rest ≡ (get_or rest 0 d).index
+end_is_next key [] d h = absurd (omega arith)
+end_is_next key (next ∷ rest) d h = refl
 
-found_place : (xs : List (LogId ℕ)) (at : ℕ) (id : LogId ℕ) → id_at xs at ≡ Some id → id.index ≡ at
-found_place [] at id e = cc e
-found_place (x ∷ xs) at id e =
-    elim (x.index == at) as (λ b. (x.index == at) ≡ b → cond b (Some x) (id_at xs at) ≡ Some id → id.index ≡ at) [
-      | true ↦ λ here is. ap (λ (y : LogId ℕ). y.index) (sym (some_is x id is)) ∙ eqb-true x.index at here
-      | false ↦ λ other is. found_place xs at id is
-    ] refl e
+-- where a next key stands, it stands above
+pub next_above : (key : LogId ℕ) (rest : List (LogId ℕ)) (d : LogId ℕ) → 1 ≤ length rest → IsBelowNext key rest → key.index < (get_or rest 0 d).index
+next_above key [] d h k = absurd (omega arith)
+next_above key (next ∷ rest) d h k = k
+
+-- each key stands below the next one
+pub key_apart : (keys : List (LogId ℕ)) (at : ℕ) (d : LogId ℕ) → at < length keys → PlacesRise keys
+    → IsBelowNext (get_or keys at d) (drop (at + 1) keys)
+key_apart [] at d l h = absurd (omega arith)
+key_apart (key ∷ keys) zero d l h = h.0
+key_apart (key ∷ keys) (suc at) d l h =
+    let more : suc at + 1 ≡ suc (at + 1) = omega arith in
+    rw more (key_apart keys at d (omega arith) h.1)
+
+last_is_some : {X : Type 0} (x : X) (xs : List X) → last_or (Some x) xs ≡ None → ⊥
+last_is_some x [] h = cc h
+last_is_some x (y ∷ ys) h = last_is_some y ys h
+
+none_if_last : {X : Type 0} (xs : List X) → last_or None xs ≡ None → xs ≡ []
+none_if_last [] h = refl
+none_if_last (x ∷ xs) h = absurd (last_is_some x xs h)
 
 module _ (leader : LeaderId ℕ) (below : ℕ) where
   abbrev pub is_own_below : LogId ℕ → Bool
   is_own_below x = is_of_leader nat_eq leader x && nat_lt x.index below
 
-  not_own : (a : Bool) (x : LogId ℕ) → (if a then Some x else None) ≡ None → a ≡ false
-  not_own true x e = cc e
-  not_own false x e = refl
+  abbrev id_of : LeaderId ℕ → ℕ → LogId ℕ
+  id_of own place = record { leader_id = own; index = place }
 
-  own_fails : (x : LogId ℕ) → (x.index < below → if_own leader (Some x) ≡ None) → is_own_below x ≡ false
-  own_fails x f =
-      elim (leb_tells (suc x.index) below) [
-        | inl w ↦ ap (λ b. b && nat_lt x.index below) (not_own (is_of_leader nat_eq leader x) x (f (omega (arith, w.1))))
-        | inr w ↦ ap (λ b. is_of_leader nat_eq leader x && b) w.0 ∙ and_right (is_of_leader nat_eq leader x) false refl
+  -- none of one leader's log ids where none of their places passes
+  none_of_run : (own : LeaderId ℕ) (n from to : ℕ) → to ≡ from + n → ((place : ℕ) → from ≤ place → place < to → is_own_below (id_of own place) ≡ false)
+      → filter is_own_below (leader_ids own from to) ≡ []
+  none_of_run own zero from to e f = ap (filter is_own_below) (leader_ids-none own from to (omega arith))
+  none_of_run own (suc n) from to e f =
+      ap (filter is_own_below) (leader_ids-first own from to (omega arith))
+      ∙ ap (λ b. cond b (id_of own from ∷ filter is_own_below (leader_ids own (from + 1) to)) (filter is_own_below (leader_ids own (from + 1) to))) (f from (omega arith) (omega arith))
+      ∙ none_of_run own n (from + 1) to (omega arith) (λ place l m. f place (omega arith) m)
+
+  past_below : (own : LeaderId ℕ) (place : ℕ) → below ≤ place → is_own_below (id_of own place) ≡ false
+  past_below own place h =
+      elim (leb_tells (suc place) below) [
+        | inl w ↦ absurd (omega (arith, w.1))
+        | inr w ↦ ap (λ b. is_of_leader nat_eq leader (id_of own place) && b) w.0 ∙ and_right (is_of_leader nat_eq leader (id_of own place)) false refl
       ]
 
-  -- none is the last where none stands at any place below
-  pub none_own : (xs : List (LogId ℕ)) (first : ℕ) → RisesFrom first xs → ((place : ℕ) → first ≤ place → place < below → own_at leader xs place ≡ None)
-      → None ≡ last_own_below leader below xs
-  none_own xs first h f =
-      ap (λ l. last_or None l)
-      (sym (none_passes is_own_below xs first h
-      (all_at (λ x. is_own_below x ≡ false) xs first h (λ at x l e i. own_fails x (λ k. ap (if_own leader) (sym e) ∙ f at l (let j : x.index ≡ at = i in omega arith))))))
+  -- the last of one leader's own is the last one below
+  last_of_run : (o : Option (LogId ℕ)) (own : LeaderId ℕ) (n from to last : ℕ) → is_of_leader nat_eq leader (id_of own 0) ≡ true
+      → to ≡ from + n → from ≤ last → last < to → last < below → ((place : ℕ) → last < place → place < to → below ≤ place)
+      → last_or o (filter is_own_below (leader_ids own from to)) ≡ Some (id_of own last)
+  last_of_run o own zero from to last mine e l m k f = absurd (omega arith)
+  last_of_run o own (suc n) from to last mine e l m k f =
+      let rest = filter is_own_below (leader_ids own (from + 1) to) in
+      let passes : is_own_below (id_of own from) ≡ true = ap (λ b. b && nat_lt from below) mine ∙ lt-ltb from below (omega arith) in
+      ap (λ l. last_or o (filter is_own_below l)) (leader_ids-first own from to (omega arith))
+      ∙ ap (λ b. last_or o (cond b (id_of own from ∷ rest) rest)) passes
+      ∙ elim (leb_tells last from) [
+        | inl w ↦
+            let here : from ≡ last = omega (arith, w.1) in
+            ap (last_or (Some (id_of own from))) (none_of_run own n (from + 1) to (omega arith) (λ place a b. past_below own place (f place (omega arith) b)))
+            ∙ ap (λ place. Some (id_of own place)) here
+        | inr w ↦ last_of_run (Some (id_of own from)) own n (from + 1) to last mine (omega arith) (omega (arith, w.1)) m k f
+      ]
 
-  own_is : (a : Bool) (x : LogId ℕ) → is_some (if a then Some x else None) ≡ true → a ≡ true
-  own_is true x e = refl
-  own_is false x e = cc e
+  -- none of the key's where it is another's, or stands no lower
+  pub none_under : (key : LogId ℕ) (rest : List (LogId ℕ)) → IsBelowNext key rest → is_of_leader nat_eq leader key ≡ false
+      → None ≡ last_own_below leader below (leader_ids key.leader_id key.index (end_of_key key rest))
+  none_under key rest h other =
+      sym (ap (last_or None) (none_of_run key.leader_id (end_of_key key rest - key.index) key.index (end_of_key key rest) (let l = end_past key rest h in omega arith) (λ place l m. ap (λ b. b && nat_lt place below) other)))
 
-  -- the first one found from the end is the last
-  pub first_from_end : (xs : List (LogId ℕ)) (first at : ℕ) → RisesFrom first xs → at < below → ((place : ℕ) → at < place → place < below → own_at leader xs place ≡ None)
-      → is_some (own_at leader xs at) ≡ true → own_at leader xs at ≡ last_own_below leader below xs
-  first_from_end xs first at h l f =
-      elim (id_at xs at) as (λ o. id_at xs at ≡ o → is_some (if_own leader o) ≡ true → if_own leader o ≡ last_own_below leader below xs) [
-        | None ↦ λ e k. cc k
-        | Some id ↦ λ e k.
-            let mine = own_is (is_of_leader nat_eq leader id) id k in
-            let there : id.index ≡ at = found_place xs at id e in
-            let passes : is_own_below id ≡ true = ap (λ b. b && nat_lt id.index below) mine ∙ lt-ltb id.index below (omega arith) in
-            ap (λ b. if b then Some id else None) mine
-            ∙ sym (last_passing is_own_below xs first at id h e passes
-            (all_at (PassesUpTo is_own_below at) xs first h (λ place x m n i. λ past. own_fails x (λ k2. ap (if_own leader) (sym n) ∙ f place (let j : x.index ≡ place = i in omega arith) (let j : x.index ≡ place = i in omega arith)))))
-      ] refl
+  pub none_at : (key : LogId ℕ) (rest : List (LogId ℕ)) → IsBelowNext key rest → below ≤ key.index
+      → None ≡ last_own_below leader below (leader_ids key.leader_id key.index (end_of_key key rest))
+  none_at key rest h past =
+      sym (ap (last_or None) (none_of_run key.leader_id (end_of_key key rest - key.index) key.index (end_of_key key rest) (let l = end_past key rest h in omega arith) (λ place l m. past_below key.leader_id place (omega arith))))
+
+  -- the last of the key's that stands below
+  pub some_under : (key : LogId ℕ) (rest : List (LogId ℕ)) (last : ℕ) → is_of_leader nat_eq leader key ≡ true → key.index ≤ last → last < end_of_key key rest → last < below
+      → ((place : ℕ) → last < place → place < end_of_key key rest → below ≤ place)
+      → Some (id_of key.leader_id last) ≡ last_own_below leader below (leader_ids key.leader_id key.index (end_of_key key rest))
+  some_under key rest last mine l m k f =
+      sym (last_of_run None key.leader_id (end_of_key key rest - key.index) key.index (end_of_key key rest) last mine (omega arith) l m k f)
+
+  -- ---- and among those that all keys tell
+
+  abbrev pub told : List (LogId ℕ) → ℕ → LogId ℕ → List (LogId ℕ)
+  told keys at d = leader_ids (get_or keys at d).leader_id (get_or keys at d).index (end_of_key (get_or keys at d) (drop (at + 1) keys))
+
+  pub with_key : (keys : List (LogId ℕ)) (at : ℕ) (d : LogId ℕ) → at < length keys → ids_of (drop at keys) ≡ told keys at d ++ ids_of (drop (at + 1) keys)
+  with_key keys at d l = ap ids_of (drop_more keys at d l)
+
+  -- none so far, and none of this key's
+  pub none_more : (keys : List (LogId ℕ)) (at : ℕ) (d : LogId ℕ) → at < length keys → filter is_own_below (ids_of (drop (at + 1) keys)) ≡ []
+      → last_own_below leader below (told keys at d) ≡ None → filter is_own_below (ids_of (drop at keys)) ≡ []
+  none_more keys at d l h e =
+      ap (filter is_own_below) (with_key keys at d l) ∙ none_before is_own_below (told keys at d) (ids_of (drop (at + 1) keys)) (none_if_last (filter is_own_below (told keys at d)) e) h
+
+  -- what is last from a key on is last of all
+  from_key : (keys : List (LogId ℕ)) (at : ℕ) (id : LogId ℕ) → last_own_below leader below (ids_of (drop at keys)) ≡ Some id → last_own_below leader below (ids_of keys) ≡ Some id
+  from_key keys zero id h = h
+  from_key [] (suc at) id h = h
+  from_key (key ∷ keys) (suc at) id h =
+      ap (last_or None) (filter-append is_own_below (leader_ids key.leader_id key.index (end_of_key key keys)) (ids_of keys))
+      ∙ last_behind None (filter is_own_below (leader_ids key.leader_id key.index (end_of_key key keys))) (filter is_own_below (ids_of keys)) id (from_key keys at id h)
+
+  -- the last of this key's, where none stands behind it
+  pub last_found : (keys : List (LogId ℕ)) (at : ℕ) (d id : LogId ℕ) → at < length keys → filter is_own_below (ids_of (drop (at + 1) keys)) ≡ []
+      → last_own_below leader below (told keys at d) ≡ Some id → last_own_below leader below (ids_of keys) ≡ Some id
+  last_found keys at d id l h e =
+      from_key keys at id
+      (ap (λ ids. last_or None (filter is_own_below ids)) (with_key keys at d l)
+      ∙ ap (last_or None) (filter-append is_own_below (told keys at d) (ids_of (drop (at + 1) keys)))
+      ∙ last_before (filter is_own_below (told keys at d)) (filter is_own_below (ids_of (drop (at + 1) keys))) h
+      ∙ e)
+
+  -- what is found so is the last of all
+  pub found_is : (keys : List (LogId ℕ)) (at : ℕ) (d : LogId ℕ) (o : Option (LogId ℕ)) → at < length keys → filter is_own_below (ids_of (drop (at + 1) keys)) ≡ []
+      → is_some o ≡ true → o ≡ last_own_below leader below (told keys at d) → o ≡ last_own_below leader below (ids_of keys)
+  found_is keys at d None l h k e = cc k
+  found_is keys at d (Some id) l h k e = sym (last_found keys at d id l h (sym e))
 
 pub none_if : {X : Type 0} (o : Option X) → is_some o ≡ false → o ≡ None
 none_if None e = refl
 none_if (Some x) e = cc e
-
-pub rises_of_keys : (keys : List (LogId ℕ)) (first : LogId ℕ) → PlacesRise keys → slice_get keys 0 ≡ Some first → RisesFrom first.index (ids_of keys)
-rises_of_keys [] first h e = cc e
-rises_of_keys (key ∷ keys) first h e = subst (λ (k : LogId ℕ). RisesFrom k.index (ids_of (key ∷ keys))) (some_is key first e) (full_rises key keys h)
 
 -- the log ids of a list are those that its keys stand for, so they rise by one
 pub rises_or_none : (keys ids : List (LogId ℕ)) → PlacesRise keys → ids_of keys ≡ ids → AllByRecursion (λ x. x.index < end_of ids) ids

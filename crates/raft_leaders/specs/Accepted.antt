@@ -1,10 +1,9 @@
 -- Which log ids a leader may commit: its own ones, up to which a quorum has accepted its log.
-use Rattle.std.specs.Prelude.{◌≡◌, ℕ, ◌<◌, ◌==◌, ◌&&◌, nat_eq, nat_lt, Bool, true, if◌then◌else◌, filter, List, Option, Some, None}
+use Rattle.std.specs.Prelude.{◌≡◌, ℕ, ◌<◌, ◌≤◌, ◌==◌, ◌&&◌, nat_eq, nat_lt, Bool, true, false, if◌then◌else◌, filter, List, Option, Some, None}
 use Rattle.std.specs.List.{last_or}
 use Rattle.raft_values.specs.declared.log_id.LogId.{LogId}
 use Rattle.raft_values.specs.LogId.{reaches}
 use Rattle.raft_values.specs.declared.vote.LeaderId.{LeaderId}
-use Rattle.raft_state.specs.LogIdList.{id_at}
 use Rattle.raft_leaders.specs.Leader.{LeaderValue, end_of, is_of_leader, peer_at}
 
 module _ {Q : Type 0} (own : ℕ) (leader : LeaderValue ℕ Q) where
@@ -31,22 +30,21 @@ module _ {Q : Type 0} (own : ℕ) (leader : LeaderValue ℕ Q) where
   abbrev pub IsReached : ((ℕ → Bool) → Bool) → ℕ → ℕ → Type 0
   IsReached accepts end reached = (place : ℕ) → place < reached → accepts (has_accepted end place) ≡ true
 
-  -- the place below the end that stands there is below this one, if a quorum has accepted it
-  abbrev pub Covers : ((ℕ → Bool) → Bool) → ℕ → ℕ → Option ℕ → Type 0
-  Covers accepts end reached None = Unit {0}
-  Covers accepts end reached (Some place) =
-      place < end → accepts (has_accepted end place) ≡ true → place < reached
+  -- a quorum has accepted none of the places from this one on, of those below the end
+  abbrev pub IsRefused : ((ℕ → Bool) → Bool) → ℕ → ℕ → Type 0
+  IsRefused accepts end refused = (place : ℕ) → refused ≤ place → place < end → accepts (has_accepted end place) ≡ false
+
+-- the place doesn't stand within these bounds
+abbrev pub IsOutside : ℕ → ℕ → Option ℕ → Type 0
+IsOutside low high None = Unit {0}
+IsOutside low high (Some place) = low ≤ place → place < high → ⊥
+
+-- a least and a greatest place within these bounds, or none
+abbrev pub IsSpan : ℕ → ℕ → Option (ℕ × ℕ) → Type 0
+IsSpan low high None = Unit {0}
+IsSpan low high (Some span) = (low ≤ span.0) × (span.0 ≤ span.1) × (span.1 < high)
 
 -- the last of the leader's own log ids below a place
 abbrev pub last_own_below : LeaderId ℕ → ℕ → List (LogId ℕ) → Option (LogId ℕ)
 last_own_below leader below ids =
     last_or None (filter (λ id. is_of_leader nat_eq leader id && nat_lt id.index below) ids)
-
--- the log id, if it is the leader's own
-abbrev pub if_own : LeaderId ℕ → Option (LogId ℕ) → Option (LogId ℕ)
-if_own leader None = None
-if_own leader (Some id) = if is_of_leader nat_eq leader id then Some id else None
-
--- the log id at the place, if it is the leader's own
-abbrev pub own_at : LeaderId ℕ → List (LogId ℕ) → ℕ → Option (LogId ℕ)
-own_at leader ids place = if_own leader (id_at ids place)

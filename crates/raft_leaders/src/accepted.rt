@@ -1,12 +1,13 @@
 //! What a leader may commit.
-ghost use Rattle.std.specs.Prelude.{◌≡◌, ◌+◌, ◌<◌, ◌≤◌, ◌^◌, true, false, Some, None, IfSome, IfNone};
+ghost use Rattle.std.specs.Prelude.{◌≡◌, ℕ, ◌<◌, ◌≤◌, ◌^◌, ◌++◌, None, IfSome, IfNone};
 ghost use Rattle.std.specs.List.{AllByRecursion};
 ghost use Rattle.raft_values.specs.LogId.{place_of};
-ghost use Rattle.raft_leaders.specs.Accepted.{Covers, IsAcceptedEnd, IsReached, greatest_accepted, has_accepted, last_own_below, own_at};
+ghost use Rattle.raft_state.specs.LogIdList.{IsBelowNext, end_of_key, leader_ids};
+ghost use Rattle.raft_leaders.specs.Accepted.{IsAcceptedEnd, IsOutside, IsSpan, greatest_accepted, has_accepted, last_own_below};
 ghost use Rattle.raft_leaders.specs.Leader.{end_of};
 
 use crate::leader::Leader;
-use raft_state::{HasId, LeaderId, LogId, LogIdList, QuorumSet};
+use raft_state::{HasId, LeaderId, LogId, LogIdList, LogIdOptionExt, QuorumSet};
 
 // Who has accepted all up to a place.
 #[derive(Drop)]
@@ -50,32 +51,42 @@ fn is_accepted<QS: QuorumSet<u64> + Drop, VS: QuorumSet<u64>>(
     voters.is_quorum(&acceptors)
 }
 
-// The end of what a quorum has accepted, as far as it was known before and by what one peer has.
-fn raised<QS: QuorumSet<u64> + Drop, VS: QuorumSet<u64>>(
-    leader: &Leader<u64, QS>,
-    own: u64,
-    end: u64,
-    voters: &VS,
-    reached: u64,
-    matching: Option<LogId<u64>>,
-) -> u64
-    requires { reached ≤ end }
-    ensures within { result ≤ end }
-    ensures grows { reached ≤ result }
-    ensures reached { IsReached own leader.now (VS.accepts voters.now) end reached → IsReached own leader.now (VS.accepts voters.now) end result }
-    ensures covers { Covers own leader.now (VS.accepts voters.now) end result (place_of matching) }
+// The least and the greatest place so far, and with this one, if it stands within the bounds.
+fn widened(span: Option<(u64, u64)>, low: u64, high: u64, place: Option<u64>) -> Option<(u64, u64)>
+    ensures within { IsSpan low high span → IsSpan low high result }
+    ensures none { IfNone result ((span ≡ None) × IsOutside low high place) }
 {
-    let Some(last) = matching else {
-        return reached;
+    let Some(place) = place else {
+        return span;
     };
-    let raises = reached <= last.index && last.index < end;
-    if raises && is_accepted(leader, own, end, last.index, voters) {
-        return last.index + 1;
+    if place < low || high <= place {
+        return span;
     }
-    reached
+    match span {
+        None => Some((place, place)),
+        Some((least, greatest)) => Some((least.min(place), greatest.max(place))),
+    }
+}
+
+// The middle of the places within the bounds at which a peer's log ends.
+fn middle_end<QS: QuorumSet<u64> + Drop>(
+    leader: &Leader<u64, QS>,
+    low: u64,
+    high: u64,
+) -> Option<u64>
+    ensures within { IfSome result (λ place. (low ≤ place) × (place < high)) }
+    ensures none { IfNone result (AllByRecursion (λ x. IsOutside low high (place_of x.1.matching)) (leader.now.progress.voters ++ leader.now.progress.learners)) }
+{
+    let mut span = None;
+    for entry in leader.progress().iter() {
+        span = widened(span, low, high, entry.1.matching.index());
+    }
+    let (least, greatest) = span?;
+    Some(least + (greatest - least) / 2)
 }
 
 // The place behind the greatest one below the end that a quorum has accepted; 0 if there is none.
+// Half of the places at which the peers' logs end are left each time.
 fn accepted_end<QS: QuorumSet<u64> + Drop, VS: QuorumSet<u64>>(
     leader: &Leader<u64, QS>,
     own: u64,
@@ -84,29 +95,54 @@ fn accepted_end<QS: QuorumSet<u64> + Drop, VS: QuorumSet<u64>>(
 ) -> u64
     ensures { IsAcceptedEnd own leader.now (VS.accepts voters.now) end result }
 {
-    if end > 0 && is_accepted(leader, own, end, end - 1, voters) {
+    if end == 0 || is_accepted(leader, own, end, end - 1, voters) {
         return end;
     }
     let mut reached = 0;
-    for entry in leader.progress().iter() {
-        reached = raised(leader, own, end, voters, reached, entry.1.matching);
+    let mut refused = end - 1;
+    'halving: while let Some(place) = middle_end(leader, reached, refused) {
+        if is_accepted(leader, own, end, place, voters) {
+            reached = place + 1;
+        } else {
+            refused = place;
+        }
     }
     reached
 }
 
-// The log id at the place, if it is the leader's own.
-fn own_at(log_ids: &LogIdList<u64>, place: u64, leader_id: LeaderId<u64>) -> Option<LogId<u64>>
-    ensures { result ≡ own_at leader_id log_ids.now place }
+// The last log id below the place of those that the key tells: they end at the next key, or right
+// behind the last one.
+fn last_under(key: &LogId<u64>, rest: &[LogId<u64>], below: u64) -> LogId<u64>
+    requires next { IsBelowNext key.now rest.now }
+    requires some { key.now.index < below }
+    ensures leader { result.leader_id ≡ key.now.leader_id }
+    ensures within { (key.now.index ≤ result.index) × (result.index < end_of_key key.now rest.now) × (result.index < below) }
+    ensures last { (place : ℕ) → result.index < place → place < end_of_key key.now rest.now → below ≤ place }
 {
-    let id = log_ids.get(place)?;
-    if id.leader_id == leader_id {
-        Some(id)
-    } else {
-        None
+    match rest {
+        [] => *key,
+        [next, ..] if next.index < below => LogId::new(key.leader_id, next.index - 1),
+        [_, ..] => LogId::new(key.leader_id, below - 1),
     }
 }
 
-// The last of the leader's own log ids below the place.
+// The same, if the leader wrote what the key tells.
+fn own_under(
+    key: &LogId<u64>,
+    rest: &[LogId<u64>],
+    below: u64,
+    leader_id: LeaderId<u64>,
+) -> Option<LogId<u64>>
+    requires { IsBelowNext key.now rest.now }
+    ensures { result ≡ last_own_below leader_id below (leader_ids key.now.leader_id key.now.index (end_of_key key.now rest.now)) }
+{
+    if key.leader_id == leader_id && key.index < below {
+        return Some(last_under(key, rest, below));
+    }
+    None
+}
+
+// The last of the leader's own log ids below the place, found from the last key on.
 fn last_own_below(
     log_ids: &LogIdList<u64>,
     below: u64,
@@ -114,12 +150,10 @@ fn last_own_below(
 ) -> Option<LogId<u64>>
     ensures { result ≡ last_own_below leader_id below log_ids.now }
 {
-    let first = log_ids.key_log_ids().first()?.index;
-    if below <= first {
-        return None;
-    }
-    for back in 0..below - first {
-        let own = own_at(log_ids, below - 1 - back, leader_id);
+    let keys = log_ids.key_log_ids();
+    for back in 0..keys.len() {
+        let at = keys.len() - 1 - back;
+        let own = own_under(&keys[at], &keys[at + 1..], below, leader_id);
         if own.is_some() {
             return own;
         }

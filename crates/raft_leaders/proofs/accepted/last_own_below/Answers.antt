@@ -1,42 +1,46 @@
--- The last of the leader's own is the first one found from the end.
-use Rattle.std.proofs.Common.{◌≡◌, ◌∙◌, ◌+◌, ◌-◌, ◌<◌, ◌≤◌, ap, sym, subst, arith, inl, inr}
-use Rattle.std.specs.Prelude.{None, is_some, true}
-use Rattle.std.proofs.lemmas.Bool.Decides.{leb_tells}
-use Rattle.raft_leaders.specs.Accepted.{own_at}
-use Rattle.raft_leaders.proofs.OwnLemmas.{RisesFrom, none_own, first_from_end, none_if, rises_of_keys}
+-- The last of the leader's own is the last one that a key tells, from the last key on.
+use Rattle.std.proofs.Common.{◌≡◌, ◌∙◌, ◌+◌, ◌-◌, ◌<◌, ap, sym, subst, arith, length, drop, get_or}
+use Rattle.std.specs.Prelude.{filter, []}
+use Rattle.raft_values.specs.LogId.{log_id_of}
+use Rattle.raft_state.specs.LogIdList.{IsBelowNext, end_of_key, ids_of, leader_ids}
+use Rattle.raft_state.proofs.KeyTestLemmas.{rest_whole}
+use Rattle.raft_leaders.specs.Accepted.{last_own_below}
+use Rattle.raft_leaders.proofs.OwnLemmas.{is_own_below, found_is, key_apart, none_if, none_more}
 use Rattle.raft_leaders.proofs.accepted.last_own_below.Goals as goal
 
-pub returns-then-below-first : goal.returns-then-below-first
-returns-then-below-first c =
-    let first = c.in_ok-first.field-0.now in
-    let rise : RisesFrom first.index c.args.log_ids.now =
-    subst (RisesFrom first.index) c.key_log_ids.ensures.ids (rises_of_keys c.key_log_ids.result.now first c.key_log_ids.ensures.order.0 (sym c.in_ok-first.ensures.value)) in
-    none_own c.args.leader_id c.args.below c.args.log_ids.now first.index rise (λ place l m. absurd (omega (arith, c.if-below-first.true)))
-
-pub loop-back-preserved : goal.loop-back-preserved
-loop-back-preserved c = λ place l m.
-    elim (leb_tells c.args.below (place + c.loop-back.back)) [
-      | inl w ↦ c.loop-back.invariant place l w.1
-      | inr w ↦
-          let here : c.args.below - 1 - c.loop-back.back ≡ place = omega (arith, w.1) in
-          ap (own_at c.args.leader_id c.args.log_ids.now) (sym here) ∙ sym c.own_at-own.ensures ∙ none_if c.own_at-own.result (sym c.is_some.ensures ∙ c.if-is_some.false)
-    ]
+pub own_under-own-requires : goal.own_under-own-requires
+own_under-own-requires c =
+    let keys = c.key_log_ids-keys.result.now in
+    let at = length keys - 1 - c.loop-back.back in
+    let within : at < length keys = omega (arith, c.loop-back-test.true) in
+    subst (IsBelowNext (get_or keys at (log_id_of 0 0 0))) (sym (rest_whole keys (at + 1))) (key_apart keys at (log_id_of 0 0 0) within c.key_log_ids-keys.ensures.order.0)
 
 pub returns-then-is_some : goal.returns-then-is_some
 returns-then-is_some c =
-    let first = c.in_ok-first.field-0.now in
-    let at = c.args.below - 1 - c.loop-back.back in
-    let rise : RisesFrom first.index c.args.log_ids.now =
-    subst (RisesFrom first.index) c.key_log_ids.ensures.ids (rises_of_keys c.key_log_ids.result.now first c.key_log_ids.ensures.order.0 (sym c.in_ok-first.ensures.value)) in
-    c.own_at-own.ensures
-    ∙ first_from_end c.args.leader_id c.args.below c.args.log_ids.now first.index at rise (omega (arith, c.if-below-first.false, c.loop-back-test.true))
-    (λ place l m. c.loop-back.invariant place m (omega (arith, c.loop-back-test.true)))
-    (ap is_some (sym c.own_at-own.ensures) ∙ sym c.is_some.ensures ∙ c.if-is_some.true)
+    let keys = c.key_log_ids-keys.result.now in
+    let at = length keys - 1 - c.loop-back.back in
+    let d = log_id_of 0 0 0 in
+    let key = get_or keys at d in
+    let within : at < length keys = omega (arith, c.loop-back-test.true) in
+    let here : length keys - c.loop-back.back ≡ at + 1 = omega (arith, c.loop-back-test.true) in
+    let none : filter (is_own_below c.args.leader_id c.args.below) (ids_of (drop (at + 1) keys)) ≡ [] =
+    subst (λ n. filter (is_own_below c.args.leader_id c.args.below) (ids_of (drop n keys)) ≡ []) here c.loop-back.invariant in
+    found_is c.args.leader_id c.args.below keys at d c.own_under-own.result within none (sym c.is_some.ensures ∙ c.if-is_some.true)
+    (c.own_under-own.ensures ∙ ap (λ rest. last_own_below c.args.leader_id c.args.below (leader_ids key.leader_id key.index (end_of_key key rest))) (rest_whole keys (at + 1)))
+    ∙ ap (last_own_below c.args.leader_id c.args.below) c.key_log_ids-keys.ensures.ids
 
-pub returns : goal.returns
-returns c =
-    let first = c.in_ok-first.field-0.now in
-    let rise : RisesFrom first.index c.args.log_ids.now =
-    subst (RisesFrom first.index) c.key_log_ids.ensures.ids (rises_of_keys c.key_log_ids.result.now first c.key_log_ids.ensures.order.0 (sym c.in_ok-first.ensures.value)) in
-    none_own c.args.leader_id c.args.below c.args.log_ids.now first.index rise
-    (λ place l m. c.loop-back.invariant place m (omega (arith, c.loop-back-test.false)))
+pub loop-back-preserved : goal.loop-back-preserved
+loop-back-preserved c =
+    let keys = c.key_log_ids-keys.result.now in
+    let at = length keys - 1 - c.loop-back.back in
+    let d = log_id_of 0 0 0 in
+    let key = get_or keys at d in
+    let within : at < length keys = omega (arith, c.loop-back-test.true) in
+    let here : length keys - c.loop-back.back ≡ at + 1 = omega (arith, c.loop-back-test.true) in
+    let back : length keys - (c.loop-back.back + 1) ≡ at = omega arith in
+    let none : filter (is_own_below c.args.leader_id c.args.below) (ids_of (drop (at + 1) keys)) ≡ [] =
+    subst (λ n. filter (is_own_below c.args.leader_id c.args.below) (ids_of (drop n keys)) ≡ []) here c.loop-back.invariant in
+    subst (λ n. filter (is_own_below c.args.leader_id c.args.below) (ids_of (drop n keys)) ≡ []) (sym back)
+    (none_more c.args.leader_id c.args.below keys at d within none
+    (sym (c.own_under-own.ensures ∙ ap (λ rest. last_own_below c.args.leader_id c.args.below (leader_ids key.leader_id key.index (end_of_key key rest))) (rest_whole keys (at + 1)))
+    ∙ none_if c.own_under-own.result (sym c.is_some.ensures ∙ c.if-is_some.false)))
