@@ -1,4 +1,4 @@
-//! The end of an event: a leader commits, purges as wished, and sends.
+//! The end of an event: a leader commits, purges as wished, and sends; the node's part is noted.
 ghost use Rattle.std.specs.Prelude.{◌≡◌, OnOk};
 ghost use Rattle.raft_values.specs.LogId.{place_of};
 ghost use Rattle.raft_group_step.specs.StepResult.{StepResult};
@@ -12,6 +12,13 @@ use raft_state::{BasicNode, Bytes, LogId, LogIdOptionExt};
 use std::alloc::AllocError;
 
 impl<C: RaftTypeConfig<NodeId = u64, Node = BasicNode, D = Bytes>> Engine<C> {
+    // The part that the node plays is noted: the step is whole then, but for what a leader sends.
+    fn note_part(&mut self)
+        ensures { (x : Given) (own : _) (r : StepResult) → IsStepOf x own self.old r → IsWholeStepOf x own self.new r }
+    {
+        self.server_state_handler().update_server_state_if_changed();
+    }
+
     // Then a leader commits, purges as wished, and sends; before: what was committed as the event
     // began.
     pub(crate) fn finish(&mut self, before: Option<LogId<u64>>) -> Result<(), AllocError>
@@ -19,6 +26,7 @@ impl<C: RaftTypeConfig<NodeId = u64, Node = BasicNode, D = Bytes>> Engine<C> {
             → OnOk result (IsWholeStepOf x own self.new (finished own (place_of before) r)) }
     {
         if self.leader.is_none() {
+            self.note_part();
             return Ok(());
         }
         if !self.has_room() {
@@ -26,6 +34,7 @@ impl<C: RaftTypeConfig<NodeId = u64, Node = BasicNode, D = Bytes>> Engine<C> {
         }
         self.commit_as_leader()?;
         self.purge_as_wished()?;
+        self.note_part();
         self.with_frames(before.index())
     }
 }
