@@ -1,10 +1,12 @@
 //! The end of an event: a leader commits, purges as wished, and sends; the node's part is noted.
-ghost use Rattle.std.specs.Prelude.{◌≡◌, OnOk};
+ghost use Rattle.std.specs.Prelude.{◌≡◌, OnOk, ℕ, [], false};
 ghost use Rattle.raft_values.specs.LogId.{place_of};
+ghost use Rattle.raft_group_step.specs.GroupState.{GroupState};
 ghost use Rattle.raft_group_step.specs.StepResult.{StepResult};
 ghost use Rattle.raft_group_step.specs.GroupStep.{finished};
+ghost use Rattle.raft_engine.specs.Building.{with_building};
 ghost use Rattle.raft_engine.specs.Events.{CanFinish};
-ghost use Rattle.raft_engine.specs.Standing.{Given, IsStepOf, IsWholeStepOf};
+ghost use Rattle.raft_engine.specs.Standing.{Given, IsStateOf, IsStepOf, IsWholeStepOf};
 
 use crate::engine::Engine;
 use raft_commands::RaftTypeConfig;
@@ -36,5 +38,15 @@ impl<C: RaftTypeConfig<NodeId = u64, Node = BasicNode, D = Bytes>> Engine<C> {
         self.purge_as_wished()?;
         self.note_part();
         self.with_frames(before.index())
+    }
+
+    /// The runtime has done what the queue asks for, or has given it up (own): nothing is queued
+    /// any more, and no snapshot is being built. Then the engine may take the next event.
+    pub fn end_event(&mut self)
+        ensures ends { self.new ≡ record (with_building false self.old) { output = record self.old.output { queue = [] } } }
+        ensures stands { (own : ℕ) (s : GroupState) → IsStateOf own self.old s → IsStateOf own self.new s }
+    {
+        self.output.clear();
+        self.state.state.io_state.set_building_snapshot(false);
     }
 }
