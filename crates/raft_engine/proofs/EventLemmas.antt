@@ -90,6 +90,7 @@ knowing x own e r seen h =
       numbers = h.numbers;
       moves = h.moves;
       at_once = h.at_once;
+      part = h.part;
     }
 
 module _ {C R : Type 0} (x : Snapshot) (own peer at : ℕ) (e e' : Engine C R) (s : GroupState) (body : MessageBody) (may : MayTake own e s (received own peer body at))

@@ -31,3 +31,4 @@ pub mod OpeningLemmas
 pub mod ReceivedLemmas
 pub mod BuildingLemmas
 pub mod HandlerLemmas
+pub mod ServerStateLemmas

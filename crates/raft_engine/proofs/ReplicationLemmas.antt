@@ -17,6 +17,8 @@ use Rattle.raft_leaders.specs.Candidate.{CandidateValue}
 use Rattle.raft_leaders.specs.Leader.{LeaderValue, peer_at}
 use Rattle.raft_values.specs.LogId.{place_of}
 use Rattle.raft_known_state.specs.KnownState.{KnownState, Knows}
+use Rattle.raft_group_step.specs.Refusal.{is_voter_in}
+use Rattle.raft_engine.specs.ServerStates.{part_in}
 use Rattle.raft_group_step.specs.StoredGroup.{StoredGroup, end_place, first_place, membership_in_force}
 use Rattle.raft_group_step.specs.Peer.{is_answer_to, new_peer, peer_or, with_peer}
 use Rattle.raft_group_step.specs.GroupState.{GroupState, Lead, Role, Follower, Candidate, Leader}
@@ -133,9 +135,10 @@ module _ {C R : Type 0} (x : Given) (own : ℕ) (e e' : Engine C R) (r : StepRes
 
   -- something leaves behind the rest, by what is stored and committed at the end
   pub whole_sent : IsWholeStepOf x own e r → (c : Command C R) (more : List Message) → IsStateOf own e' r.state → e'.seen_greater_log ≡ e.seen_greater_log
+      → e'.state ≡ e.state
       → e'.output ≡ record e.output { queue = e.output.queue ++ c ∷ [] } → storing_of x.snapshot c ≡ [] → number_in c ≡ [] → NeedsNoOther c → sending_of own r.state.stored (committed_id r.state) c ≡ more
       → IsWholeStepOf x own e' (record r { messages = r.messages ++ more })
-  whole_sent step c more state seen output none silent needs sends = record {
+  whole_sent step c more state seen same output none silent needs sends = record {
     state = state;
     stores = ap (λ q. flat_map (storing_of x.snapshot) q) (ap (λ (o : Output C (List ℕ) R ℕ (List ℕ)). o.queue) output) ∙ stores_same e.output.queue c x.snapshot r.commands step.stores none;
     sends = ap (λ q. flat_map (sending_of own r.state.stored (committed_id r.state)) q) (ap (λ (o : Output C (List ℕ) R ℕ (List ℕ)). o.queue) output)
@@ -144,13 +147,15 @@ module _ {C R : Type 0} (x : Given) (own : ℕ) (e e' : Engine C R) (r : StepRes
     numbers = numbers_kept x.last_sm_seq e.output e'.output c step.numbers output silent;
     moves = moves_kept x.committed_before e.state.state.committed e'.state.state.committed e.output.queue e'.output.queue step.moves c (ap (λ (o : Output C (List ℕ) R ℕ (List ℕ)). o.queue) output) (unmoved c silent) (state.committed ∙ sym step.state.committed);
     at_once = at_once_more e.output.queue c e'.output.queue (ap (λ (o : Output C (List ℕ) R ℕ (List ℕ)). o.queue) output) step.at_once needs;
+    part = ap (λ (y : KnownState). y.state.server_state) same ∙ step.part;
   }
 
   -- and what is known of a peer changes with it
   pub whole_known : IsWholeStepOf x own e r → (p : PeerState) (lead : Lead) (c : Command C R) (more : List Message) → IsStateOf own e' (with_known p lead r.state) → e'.seen_greater_log ≡ e.seen_greater_log
+      → e'.state ≡ e.state → r.state.role ≡ Leader lead
       → e'.output ≡ record e.output { queue = e.output.queue ++ c ∷ [] } → storing_of x.snapshot c ≡ [] → number_in c ≡ [] → NeedsNoOther c → sending_of own r.state.stored (committed_id r.state) c ≡ more
       → IsWholeStepOf x own e' (with_peer_state p lead (record r { messages = r.messages ++ more }))
-  whole_known step p lead c more state seen output none silent needs sends = record {
+  whole_known step p lead c more state seen same is_lead output none silent needs sends = record {
     state = state;
     stores = ap (λ q. flat_map (storing_of x.snapshot) q) (ap (λ (o : Output C (List ℕ) R ℕ (List ℕ)). o.queue) output) ∙ stores_same e.output.queue c x.snapshot r.commands step.stores none;
     sends = ap (λ q. flat_map (sending_of own r.state.stored (committed_id r.state)) q) (ap (λ (o : Output C (List ℕ) R ℕ (List ℕ)). o.queue) output)
@@ -159,6 +164,7 @@ module _ {C R : Type 0} (x : Given) (own : ℕ) (e e' : Engine C R) (r : StepRes
     numbers = numbers_kept x.last_sm_seq e.output e'.output c step.numbers output silent;
     moves = moves_kept x.committed_before e.state.state.committed e'.state.state.committed e.output.queue e'.output.queue step.moves c (ap (λ (o : Output C (List ℕ) R ℕ (List ℕ)). o.queue) output) (unmoved c silent) (state.committed ∙ sym step.state.committed);
     at_once = at_once_more e.output.queue c e'.output.queue (ap (λ (o : Output C (List ℕ) R ℕ (List ℕ)). o.queue) output) step.at_once needs;
+    part = ap (λ (y : KnownState). y.state.server_state) same ∙ step.part ∙ ap (λ role. part_in role (is_voter_in (membership_in_force r.state.stored) own)) is_lead;
   }
 
 -- ---- notices
@@ -186,11 +192,11 @@ by_no_lead P f g own (Some c) s (Leader lead) h = absurd h
 
 -- a request leaves, and the peer's entry waits for its answer
 pub requested : {C R : Type 0} (x : Given) (own : ℕ) (e e1 e' : Engine C R) (r : StepResult) (n : ℕ) (lead : Lead) (entry : ProgressEntry ℕ) (id : ℕ) (req : Inflight ℕ)
-    → IsWholeStepOf x own e r → peer_of lead n ≡ peer_state n entry → id ≡ entry.curr_inflight_id + 1 → req ≡ request_for r.state.stored (peer_state n entry) r.state.stored.snapshot
+    → IsWholeStepOf x own e r → r.state.role ≡ Leader lead → e1.state ≡ e.state → peer_of lead n ≡ peer_state n entry → id ≡ entry.curr_inflight_id + 1 → req ≡ request_for r.state.stored (peer_state n entry) r.state.stored.snapshot
     → IsStateOf own e1 (with_known (peer_state n (record entry { curr_inflight_id = id; inflight = req })) lead r.state) → e1.output ≡ e.output → e'.seen_greater_log ≡ e.seen_greater_log
     → e'.config ≡ e1.config → e'.leader ≡ e1.leader → e'.candidate ≡ e1.candidate → e'.state ≡ e1.state → e'.output ≡ record e1.output { queue = e1.output.queue ++ Replicate n req ∷ [] }
     → IsWholeStepOf x own e' (send_request own (peer_of lead n) lead r.state.stored.snapshot r)
-requested {C} {R} x own e e1 e' r n lead entry id req step peer number request state output seen config leader candidate known pushed =
+requested {C} {R} x own e e1 e' r n lead entry id req step is_lead same peer number request state output seen config leader candidate known pushed =
     let s = r.state.stored in
     let next = request_for s (peer_state n entry) s.snapshot in
     let waits : record entry { curr_inflight_id = id; inflight = req } ≡ waiting_for entry next =
@@ -202,7 +208,7 @@ requested {C} {R} x own e e1 e' r n lead entry id req step peer number request s
     subst (IsWholeStepOf x own e') (sym all)
     (whole_known x own e e' r step (peer_state n (waiting_for entry next)) lead (Replicate n req) (request_to own s (committed_id r.state) n next)
     (same_state own e1 e' (with_known (peer_state n (waiting_for entry next)) lead r.state) done config leader candidate known)
-    seen (pushed ∙ ap (λ (o : Output C (List ℕ) R ℕ (List ℕ)). record o { queue = o.queue ++ Replicate n req ∷ [] }) output) refl refl tt (ap (request_to own s (committed_id r.state) n) request))
+    seen (known ∙ same) is_lead (pushed ∙ ap (λ (o : Output C (List ℕ) R ℕ (List ℕ)). record o { queue = o.queue ++ Replicate n req ∷ [] }) output) refl refl tt (ap (request_to own s (committed_id r.state) n) request))
 
 -- how a peer of a leader is served
 pub served : (own n : ℕ) (news busy : Bool) (lead : Lead) (role : Role) (entry : ProgressEntry ℕ) (r : StepResult) → role ≡ Leader lead → peer_of lead n ≡ peer_state n entry

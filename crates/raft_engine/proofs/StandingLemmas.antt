@@ -5,17 +5,19 @@ use Rattle.raft_values.specs.declared.vote.Vote.{Vote}
 use Rattle.raft_values.specs.declared.log_id.LogId.{LogId}
 use Rattle.raft_values.specs.LogId.{place_of}
 use Rattle.raft_state.specs.declared.raft_state.RaftState.{RaftState}
-use Rattle.raft_group_step.specs.StoredGroup.{StoredGroup, SetVote, after_storing}
+use Rattle.raft_group_step.specs.StoredGroup.{StoredGroup, SetVote, after_storing, membership_in_force}
 use Rattle.raft_group_step.specs.GroupState.{GroupState, Role, Follower, Candidate, Leader, Untold}
 use Rattle.raft_group_step.specs.StepResult.{StepResult, store_vote, renew}
 use Rattle.raft_group_step.specs.Message.{Message}
 use Rattle.raft_group_step.specs.Frames.{committed_id}
+use Rattle.raft_group_step.specs.Refusal.{is_voter_in}
 use Rattle.raft_commands.specs.declared.command.Command.TheVariants.{SaveVote}
 use Rattle.raft_known_state.specs.KnownState.{KnownState, Knows}
 use Rattle.raft_leaders.specs.Candidate.{CandidateValue}
 use Rattle.raft_leaders.specs.Leader.{LeaderValue}
 use Rattle.std.specs.List.{All, flat_map}
 use Rattle.raft_engine.specs.Answering.{NeedsNoOther}
+use Rattle.raft_engine.specs.ServerStates.{part_in}
 use Rattle.raft_commands.specs.Output.{Output}
 use Rattle.raft_engine.specs.Numbering.{NumbersFollow, number_in}
 use Rattle.raft_engine.specs.Commands.{Command, storing_of, sending_of, stored_by, sent_by}
@@ -133,6 +135,7 @@ queued x own e r c more step none silent needs sends =
     sent_more x own e (record e { output = record e.output { queue = e.output.queue ++ c ∷ [] } }) r step c more refl refl refl refl refl refl none silent needs sends
 
 -- a step whose messages have what is stored later has what is stored now
-pub step_as_whole : {C R : Type 0} (x : Given) (own : ℕ) (e : Engine C R) (r : StepResult) → IsStepOf x own e r → IsWholeStepOf x own e r
-step_as_whole x own e r step =
-    record { state = step.state; stores = step.stores; sends = step.sends r.state.stored (committed_id r.state); seen = step.seen; numbers = step.numbers; moves = step.moves; at_once = step.at_once }
+pub step_as_whole : {C R : Type 0} (x : Given) (own : ℕ) (e : Engine C R) (r : StepResult) → IsStepOf x own e r
+    → e.state.state.server_state ≡ part_in r.state.role (is_voter_in (membership_in_force r.state.stored) own) → IsWholeStepOf x own e r
+step_as_whole x own e r step part =
+    record { state = step.state; stores = step.stores; sends = step.sends r.state.stored (committed_id r.state); seen = step.seen; numbers = step.numbers; moves = step.moves; at_once = step.at_once; part = part }

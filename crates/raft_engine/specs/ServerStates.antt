@@ -1,11 +1,14 @@
 -- The part that a node plays in its group.
-use Rattle.std.specs.Prelude.{Bool, true, false, nat_eq}
+use Rattle.std.specs.Prelude.{ℕ, List, Bool, true, false, nat_eq}
 use Rattle.std.specs.Option.{is_some}
 use Rattle.raft_values.specs.declared.server_state.ServerState.{ServerState}
 use Rattle.raft_values.specs.declared.server_state.ServerState.TheVariants.{Learner as Learns, Follower as Follows, Candidate as Stands, Leader as Leads}
 use Rattle.raft_membership.specs.Membership.{is_voter}
 use Rattle.raft_group_step.specs.GroupState.{Role, Follower, Candidate, Leader}
-use Rattle.raft_engine.specs.Standing.{Engine}
+use Rattle.raft_engine.specs.declared.engine.Engine.{Engine as EngineOf}
+
+abbrev Engine : Type 0 → Type 0 → Type 0
+Engine C R = EngineOf C (List ℕ) R ℕ (List ℕ)
 
 -- one that neither leads nor stands
 abbrev pub part_without_lead : Bool → ServerState

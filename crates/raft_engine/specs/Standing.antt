@@ -14,6 +14,7 @@ use Rattle.raft_group_step.specs.GroupState.{GroupState, Role, Follower, Candida
 use Rattle.raft_group_step.specs.StepResult.{StepResult}
 use Rattle.raft_group_step.specs.Lead.{peer_of, ids_of}
 use Rattle.raft_group_step.specs.Frames.{committed_id}
+use Rattle.raft_group_step.specs.Refusal.{is_voter_in}
 use Rattle.raft_known_state.specs.KnownState.{Knows, IsPlaced}
 use Rattle.raft_commands.specs.Config.{config_of}
 use Rattle.raft_leaders.specs.Candidate.{CandidateValue}
@@ -21,6 +22,7 @@ use Rattle.raft_leaders.specs.Leader.{LeaderValue, peer_at}
 use Rattle.raft_engine.specs.Numbering.{NumbersFollow}
 use Rattle.raft_engine.specs.Committing.{Moves, moves_in}
 use Rattle.raft_engine.specs.Answering.{NeedsNoOther}
+use Rattle.raft_engine.specs.ServerStates.{part_in}
 use Rattle.std.specs.List.{All}
 use Rattle.raft_engine.specs.declared.engine.Engine.{Engine as EngineOf}
 use Rattle.raft_engine.specs.Commands.{stored_by, sent_by}
@@ -140,7 +142,8 @@ module _ {C R : Type 0} where
     pub moves : Moves x.committed_before (moves_in e.output.queue) e.state.state.committed
     pub at_once : All NeedsNoOther e.output.queue
 
-  -- the same once the event is over: what is sent has what is stored and committed then
+  -- the same once the event is over: what is sent has what is stored and committed then, and the part is noted that the node
+  -- plays: it leads, stands for election, follows as a voter, or else learns
   pub record IsWholeStepOf (x : Given) (own : ℕ) (e : Engine C R) (r : StepResult) : Type 0 where
     pub state : IsStateOf own e r.state
     pub stores : stored_by x.snapshot e.output.queue ≡ r.commands
@@ -149,3 +152,4 @@ module _ {C R : Type 0} where
     pub numbers : NumbersFollow x.last_sm_seq e.output
     pub moves : Moves x.committed_before (moves_in e.output.queue) e.state.state.committed
     pub at_once : All NeedsNoOther e.output.queue
+    pub part : e.state.state.server_state ≡ part_in r.state.role (is_voter_in (membership_in_force r.state.stored) own)

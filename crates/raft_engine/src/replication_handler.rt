@@ -294,6 +294,7 @@ impl<C: RaftTypeConfig<NodeId = u64, Node = BasicNode, D = Bytes>> Engine<C> {
         ensures known { (own : ℕ) (s : GroupState) (lead : Lead) → IsStateOf own self.old s → s.role ≡ LeaderRole lead → HasPeer n self.old.leader
             → IsStateOf own self.new (with_known (peer_state n entry) lead s) }
         ensures rest { (self.new.output ≡ self.old.output) × (self.new.seen_greater_log ≡ self.old.seen_greater_log) }
+        ensures same { self.new.state ≡ self.old.state }
     {
         let Some(leader) = &mut self.leader else {
             return false;

@@ -428,6 +428,14 @@ module _ (k k' k'' : KnownState) (s : StoredGroup) (old : Knows k s) (forced : k
       (ap (λ (y : StateOf). y.purged_next) e) (ap (λ (y : StateOf). y.snapshot_meta) e ∙ old.snapshot)
       (f ∙ ap (drop_below (upto.index + 1)) old.memberships ∙ memberships_above s.log (upto.index + 1) (first_place s) p)
 
+-- entries behind all of the log are its last ones
+pub grown_log : (s : StoredGroup) (es : List Entry) → record s { log = log_below s (end_place s) ++ es } ≡ record s { log = s.log ++ es }
+grown_log s es = ap (λ log. record s { log = log ++ es }) (log_whole s)
+
+-- a log without entries stands at its places
+pub empty_placed : (s : StoredGroup) → s.log ≡ [] → IsPlaced s
+empty_placed s e = subst (ArePlaced (first_place s)) (sym e) tt
+
 -- ---- what is known of a group that is read
 
 purged_end : (purged_id : Option (LogId ℕ)) → EndsBefore (last_id (purged_ids purged_id)) (next_place purged_id)

@@ -1,5 +1,5 @@
 //! What a node knows of its stored group.
-ghost use Rattle.std.specs.Prelude.{◌≡◌, ◌≤◌, ◌<◌, ◌+◌, ◌^◌, ◌++◌, OnOk, IfOk, Some, None, ℕ, length, take, drop};
+ghost use Rattle.std.specs.Prelude.{◌≡◌, ◌≤◌, ◌<◌, ◌+◌, ◌^◌, ◌++◌, OnOk, IfOk, Some, None, [], ℕ, length, take, drop};
 ghost use Rattle.std.specs.Ordering.{nat_cmp};
 ghost use Rattle.raft_values.specs.LogId.{next_place};
 ghost use Rattle.raft_state.specs.LogIdList.{AllGoOn, last_id};
@@ -84,6 +84,23 @@ fn count_below(memberships: &[EffectiveMembership<u64, BasicNode>], place: u64) 
 }
 
 impl KnownState<u64, BasicNode> {
+    /// What is known of a stored group with this vote and snapshot, of which the log up to the
+    /// purge point is gone and no entry was read yet (own). With `append` a log is read entry by
+    /// entry, or by blocks: then as much is known as `load` knows of the whole.
+    pub fn begin(
+        alloc: Global,
+        vote: Vote<u64>,
+        purged: Option<LogId<u64>>,
+        snapshot: SnapshotMeta<u64, BasicNode>,
+    ) -> Result<KnownState<u64, BasicNode>, AllocError>
+        requires { next_place purged < 2 ^ 64 }
+        ensures known { (s : StoredGroup) → s.vote ≡ vote → s.purged ≡ purged → snapshot ≡ meta_of s.snapshot → s.log ≡ []
+            → IfOk result (λ k. Knows k s) }
+        ensures fresh { IfOk result (λ k. (k.state.vote.utime ≡ None) × (k.state.committed ≡ None) × (k.state.purge_upto ≡ None)) }
+    {
+        KnownState::load(alloc, vote, purged, snapshot, &[])
+    }
+
     /// What is known of a stored group with this vote, of which the log up to the purge point is
     /// gone and these entries stand above it (openraft reads it from the log's store).
     pub fn load(
@@ -240,11 +257,14 @@ impl KnownState<u64, BasicNode> {
         self.state.vote.update(now, vote);
     }
 
-    /// The entries stand behind the log's last one. After an error nothing is promised.
+    /// The entries stand behind the log's last one, as they are written or read. After an error
+    /// nothing is promised.
     pub fn append(&mut self, entries: &[Entry<u64, BasicNode, Bytes>]) -> Result<(), AllocError>
         requires { AllGoOn (last_id self.old.state.log_ids) (entry_ids entries.now) }
         ensures known { (s : StoredGroup) → Knows self.old s → IsPlaced s → ArePlaced (end_place s) entries.now
             → OnOk result (Knows self.new (after_storing (PutEntries (end_place s) entries.now) s)) }
+        ensures grown { (s : StoredGroup) → Knows self.old s → IsPlaced s → ArePlaced (end_place s) entries.now
+            → OnOk result (Knows self.new (record s { log = s.log ++ entries.now })) }
         ensures rest { OnOk result (KeepsRest self.old self.new) }
     {
         self.state.extend_log_ids(entries)?;

@@ -14,7 +14,6 @@ use Rattle.raft_engine.specs.Events.{CanFinish, HasLeadRoom}
 use Rattle.raft_engine.proofs.ElectionLemmas.{known_end}
 use Rattle.raft_engine.proofs.FinishLemmas.{commit_keeps_wish, finished_unled, room_for_frames, wished_keeps}
 use Rattle.raft_engine.proofs.PurgeLemmas.{KeepsStanding, led}
-use Rattle.raft_engine.proofs.StandingLemmas.{step_as_whole}
 use Rattle.raft_engine.proofs.engine.Engine.finish.Goals as goal
 
 pub returns-then-is_none : goal.returns-then-is_none
@@ -22,7 +21,7 @@ returns-then-is_none g c = λ x own r step can.
     let self = c.args.self.now in
     let none = none_if self.leader (c.is_none.ensures ∙ ap not c.if-is_none.true) in
     let plays = subst (λ l. PlaysRole own l self.candidate r.state.stored r.state.role) none step.state.role in
-    rw (finished_unled own (place_of c.args.before) self.candidate r.state.stored r plays) (step_as_whole x own self r step)
+    rw (finished_unled own (place_of c.args.before) self.candidate r.state.stored r plays) (c.note_part.ensures x own r step)
 
 pub returns-then-not-has_room : goal.returns-then-not-has_room
 returns-then-not-has_room g c = λ x own r step can.
@@ -51,6 +50,6 @@ returns g c = λ x own r step can.
     let keeps = wished_keeps committed.state.role committed.state.wish committed commits.state.order.placed in
     let role = purge_keeps_role committed.state.role committed.state.wish committed ∙ commit_keeps_role own r.state.role r ∙ lead.1 in
     subst (λ b. OnOk c.with_frames.result (IsWholeStepOf x own c.with_frames.new.self (with_frames own b purged))) c.index.ensures
-    (c.with_frames.ensures x own purged (step_as_whole x own c.purge_as_wished.new.self purged purges)
+    (c.with_frames.ensures x own purged (c.note_part-2.ensures x own purged purges)
     (room_for_frames own lead.0 r.state purged.state room step.state.order.placed purges.state.order.placed
     (subst (λ s. KeepsStanding s purged.state.stored) stored keeps) role))

@@ -25,6 +25,6 @@ returns-clause-whole g c = λ x own r lead step e.
     let command = ReplicateCommitted c.args.n c.vote_ref.result.now c.args.entry.now.matching self.state.state.committed in
     on_ok_weaker c.push_command.result
     (λ h. whole_sent x own self _ r step command (message_to own c.args.n (notice r.state (peer_of lead c.args.n)))
-    (same_state own self _ r.state step.state refl refl refl refl) refl h refl refl tt
+    (same_state own self _ r.state step.state refl refl refl refl) refl refl h refl refl tt
     (noticed own c.args.n r.state lead c.args.entry.now c.vote_ref.result.now self.state.state.committed e (c.vote_ref.ensures ∙ step.state.knows.vote) step.state.committed))
     c.push_command.ensures.ok

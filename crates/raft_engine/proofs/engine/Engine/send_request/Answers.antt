@@ -18,7 +18,7 @@ returns g c = λ x own r lead step is_lead has e room m.
     let left : (peer_of lead c.args.n).next_id + 1 ≤ 2 ^ 64 = subst (NumbersLeft 1) is_lead room.numbers c.args.n in
     let fits : entry.curr_inflight_id + 1 + 1 ≤ 2 ^ 64 = subst (λ (p : PeerState). p.next_id + 1 ≤ 2 ^ 64) e left in
     on_ok_weaker c.push_command.result
-    (λ h. requested x own c.args.self.now c.set_peer.new.self (record c.set_peer.new.self { output = c.push_command.new.self }) r c.args.n lead entry c.saturating_add.result c.next_request-req.result step e
+    (λ h. requested x own c.args.self.now c.set_peer.new.self (record c.set_peer.new.self { output = c.push_command.new.self }) r c.args.n lead entry c.saturating_add.result c.next_request-req.result step is_lead c.set_peer.ensures.same e
     (omega (arith, c.saturating_add.ensures)) (c.next_request-req.ensures own c.args.n r.state step.state room.places m (omega arith))
     (c.set_peer.ensures.known own r.state lead step.state is_lead has) c.set_peer.ensures.rest.0 c.set_peer.ensures.rest.1 refl refl refl refl h)
     c.push_command.ensures.ok
