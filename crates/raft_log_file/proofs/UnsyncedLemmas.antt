@@ -41,7 +41,7 @@ in_append [] ys x h = inr h
 in_append (s ∷ xs) ys x (inl e) = inl (inl e)
 in_append (s ∷ xs) ys x (inr h) = ⊎_elim (λ here. inl (inr here)) (λ there. inr there) (in_append xs ys x h)
 
-abbrev AllBefore : ℕ → List Span → Type 0
+abbrev pub AllBefore : ℕ → List Span → Type 0
 AllBefore n spans = AllByRecursion (λ s. s.0 < n) spans
 
 in_before : (n : ℕ) (spans : List Span) (x : Span) → AllBefore n spans → IsIn x spans → x.0 < n
@@ -49,7 +49,7 @@ in_before n [] x all there = absurd there
 in_before n (s ∷ spans) x all (inl e) = omega (arith, all.0, ap (λ (y : Span). y.0) e)
 in_before n (s ∷ spans) x all (inr there) = in_before n spans x all.1 there
 
-before_push : (n m : ℕ) (spans : List Span) (x : Span) → AllBefore n spans → n ≤ m → x.0 < m → AllBefore m (spans ++ x ∷ [])
+pub before_push : (n m : ℕ) (spans : List Span) (x : Span) → AllBefore n spans → n ≤ m → x.0 < m → AllBefore m (spans ++ x ∷ [])
 before_push n m [] x all le lt = (lt, tt)
 before_push n m (s ∷ spans) x all le lt = (omega (arith, all.0, le), before_push n m spans x all.1 le lt)
 
@@ -57,7 +57,7 @@ record_long : (k : Batch) → 12 ≤ record_len k
 unfolding record_len
 record_long k = omega arith
 
-spelled_long : (signature : Option ℕ) (k : Batch) → 12 ≤ length (spell_record signature k)
+pub spelled_long : (signature : Option ℕ) (k : Batch) → 12 ≤ length (spell_record signature k)
 spelled_long signature k = omega (arith, length-spelled signature k, record_long k)
 
 places_from : (signature : Option ℕ) (at : ℕ) (us : List Batch) (x : Span) → IsIn x (places signature at us) → at ≤ x.0
@@ -248,15 +248,15 @@ places_push signature at (u ∷ us) p =
     ap (λ (l : List Span). (at, spell_record signature u) ∷ l) (places_push signature (at + length (spell_record signature u)) us p
     ∙ ap (λ n. places signature (at + length (spell_record signature u)) us ++ (n, spell_record signature p) ∷ []) (omega (arith, length-append (spell_record signature u) (spelled_batches signature us))))
 
-batches_push : (us : List Batch) (p : Batch) → AreBatches us → AreItems p → AreBatches (us ++ p ∷ [])
+pub batches_push : (us : List Batch) (p : Batch) → AreBatches us → AreItems p → AreBatches (us ++ p ∷ [])
 batches_push [] p all are = (are, tt)
 batches_push (u ∷ us) p all are = (all.0, batches_push us p all.1 are)
 
-outside_push : (i : ℕ) (ranges : List (ℕ × ℕ)) (r : ℕ × ℕ) → IsOutside i ranges → (i < r.0) ⊎ (r.1 ≤ i) → IsOutside i (ranges ++ r ∷ [])
+pub outside_push : (i : ℕ) (ranges : List (ℕ × ℕ)) (r : ℕ × ℕ) → IsOutside i ranges → (i < r.0) ⊎ (r.1 ≤ i) → IsOutside i (ranges ++ r ∷ [])
 outside_push i [] r out beside = (beside, tt)
 outside_push i (x ∷ ranges) r out beside = (out.0, outside_push i ranges r out.1 beside)
 
-text_length : (id : FileId) (format : LogFileFormat) (ks us : List Batch) → length (file_text id format (ks ++ us)) ≡ length (file_text id format ks) + length (spelled_batches (signature_of format.version id.seq) us)
+pub text_length : (id : FileId) (format : LogFileFormat) (ks us : List Batch) → length (file_text id format (ks ++ us)) ≡ length (file_text id format ks) + length (spelled_batches (signature_of format.version id.seq) us)
 text_length id format ks us =
     let signature : Option ℕ = signature_of format.version id.seq in
     omega (
@@ -317,7 +317,7 @@ synced_batches_begin id format ks f spellable plain are is = record {
       absurd (omega (arith, ap length stands, length-take (length bytes) (drop at f.bytes), length-drop at f.bytes, ap length is, past, some));
 }
 
-header_some : (v : Version) → 0 < header_len v
+pub header_some : (v : Version) → 0 < header_len v
 header_some V1 = omega arith
 header_some V2 = omega arith
 

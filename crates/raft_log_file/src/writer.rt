@@ -3,6 +3,7 @@
 ghost use Rattle.std.specs.Prelude.{◌≡◌, ◌⊎◌, ◌+◌, ◌-◌, ◌<◌, ◌≤◌, ◌^◌, ◌++◌, min, max, ℕ, List, [], length, take, IfOk, OnOk, OnErr, IsErrOf, IsTrue};
 ghost use Rattle.raft_log_disk.specs.declared.fault.IoFault.TheVariants.{NotFound, NoSpace, Refused};
 ghost use Rattle.raft_log_disk.specs.Disk.{Disk, IsNoFile, with_file, after_sync};
+ghost use Rattle.raft_log_disk.specs.Cause.{UnlessRefused};
 ghost use Rattle.raft_log_disk.specs.Format.{IsSpellable, header_len, spelled_header};
 ghost use Rattle.raft_log_file.specs.Writer.{IsWriter, IsReady, IsAppended, IsCut, IsOpened, IsClosed, IsCounted};
 
@@ -67,7 +68,8 @@ impl LogFileWriter {
     }
 
     /// Appends bytes. `target_size` is a hint: room is made ahead up to it. After an `Err` the
-    /// offset is where it was, and the bytes may stand there in part.
+    /// offset is where it was. The bytes may stand there in part, but only where the write was
+    /// `Refused`: without space none of them was written.
     pub fn write<F: FileSystem>(
         &mut self,
         files: &mut F,
@@ -80,6 +82,7 @@ impl LogFileWriter {
         ensures file { self.new.fd ≡ self.old.fd }
         ensures ok { OnOk result (self.new.offset ≡ self.old.offset + length bytes.now) }
         ensures err { OnErr result (self.new.offset ≡ self.old.offset) }
+        ensures unwritten { UnlessRefused result (IsReady self.old (F.disk files.old) (F.disk files.new) (min (self.old.offset + length bytes.now) (2 ^ 64 - 1)) target_size) }
         ensures counted { IsCounted (F.meter files.old) (F.meter files.new) result }
         ensures not_found { IsErrOf result NotFound → IsNoFile (F.disk files.old) self.old.fd.0 }
     {

@@ -15,6 +15,9 @@ pub enum CorruptionFault {
     Header(HeaderFault),
     #[error("no record: {0:?}")]
     Record(RecordFault),
+    /// A block is asked for in a file that its queue doesn't have.
+    #[error("no such file in the queue")]
+    NoSuchFile,
 }
 
 /// What is wrong with an argument.
@@ -56,6 +59,12 @@ pub enum OtherFault {
     /// stays until then: so a file system that keeps its contract gives no cause for this.
     #[error("the file is gone")]
     FileGone,
+    /// A queue has used each number that a file can have.
+    #[error("no file number is left")]
+    NoFileNumber,
+    /// A number that no file of the queue has.
+    #[error("file number out of range")]
+    NumberOutOfSpan,
 }
 
 /// Why a call of the log engine is refused (raft-engine's `Error`).
