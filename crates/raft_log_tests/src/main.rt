@@ -6,6 +6,7 @@ mod batches;
 mod checksums;
 mod messages;
 mod names;
+mod opening;
 mod ranges;
 mod reading;
 mod rows;

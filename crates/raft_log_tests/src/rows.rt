@@ -3,6 +3,7 @@
 use crate::batches::{batched, marked};
 use crate::checksums::summed;
 use crate::names::{counted, measured, named};
+use crate::opening::listed;
 use crate::ranges::ranged;
 use crate::reading::{read, written};
 use crate::settings::{asked, set};
@@ -75,6 +76,9 @@ impl Calls {
             return Some(answer);
         }
         if let Some(answer) = measured(alloc, words) {
+            return Some(answer);
+        }
+        if let Some(answer) = listed(alloc, words) {
             return Some(answer);
         }
         summed(alloc, words)

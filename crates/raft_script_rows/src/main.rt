@@ -6,12 +6,18 @@
 //! - `comment N SCRIPT`: `nodes 1|`, then N times `#`, then the script;
 //! - `pieces N READ ROOM SCRIPT`: the reader and the writer take N bytes at a time and are
 //!   interrupted before each; the reader fails behind READ bytes and the writer without ROOM;
+//! - `flushes N SCRIPT`: the reader gives N bytes at a time, and each flush is written as `~`;
+//! - `reads N LENGTH`: `nodes 1|` and a comment of so many bytes, by a reader that gives N bytes at
+//!   a time: how many were asked for at most, and how many were given;
+//! - `events EVENT|EVENT|..`: events that a cluster runs at once, without a script;
 //! - `status`: the exit status of a script that finds no memory.
 #![tactic(auto)]
 
 mod broken;
+mod clusters;
 
-use broken::{Piecewise, Stubborn};
+use broken::{Flushed, Piecewise, Stubborn};
+use clusters::run_events;
 use percent_encoding::percent_decode;
 use raft_cluster::{ScriptEnd, run_script};
 use std::alloc::{AllocError, Global};
@@ -68,6 +74,26 @@ fn run_in_pieces(rt: &HostRuntime, line: &str, words: &str) -> io::Result<()> {
     print_end(rt, line, end, writer.written())
 }
 
+fn run_flushed(rt: &HostRuntime, line: &str, words: &str) -> io::Result<()> {
+    let (piece, text) = number_of(words);
+    let script = bytes_of(rt.alloc(), text)?;
+    let mut reader = Piecewise::new(script.as_slice(), piece, usize::MAX);
+    let mut writer = Flushed::new(rt.alloc());
+    let end = run_script(rt.alloc(), &mut reader, &mut writer);
+    print_end(rt, line, end, writer.written())
+}
+
+fn run_counted(rt: &HostRuntime, line: &str, words: &str) -> io::Result<()> {
+    let (piece, rest) = number_of(words);
+    let (length, _) = number_of(rest);
+    let script = with_comment(rt.alloc(), length, &[])?;
+    let mut reader = Piecewise::new(script.as_slice(), piece, usize::MAX);
+    let mut writer = Vec::new(rt.alloc());
+    let end = run_script(rt.alloc(), &mut reader, &mut writer);
+    let (given, most) = (reader.given(), reader.most());
+    println!(rt; "{line} -> {end:?} {given} of at most {most}")
+}
+
 fn answer(rt: &HostRuntime, line: &str) -> io::Result<()> {
     let (call, words) = line.split_once(' ').unwrap_or((line, ""));
     match call {
@@ -79,6 +105,9 @@ fn answer(rt: &HostRuntime, line: &str) -> io::Result<()> {
             run(rt, line, script.as_slice())
         }
         "pieces" => run_in_pieces(rt, line, words),
+        "flushes" => run_flushed(rt, line, words),
+        "reads" => run_counted(rt, line, words),
+        "events" => println!(rt; "{line} -> {}", run_events(rt.alloc(), words)?),
         "status" => println!(rt; "{line} -> {}", ScriptEnd::Memory.status()),
         _ => println!(rt; "{line} -> no row"),
     }

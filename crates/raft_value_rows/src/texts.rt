@@ -52,7 +52,6 @@ fn print_error(rt: &impl Print, name: &str) -> io::Result<()> {
             last_log_id: None,
             vote: Vote::new(1, 2),
         })),
-        "fault" => rt.println(Fault::Membership(MembershipFault::PastLimit)),
         "peer" => rt.println(ProgressEntry::<u64> {
             matching: None,
             curr_inflight_id: 0,
@@ -60,8 +59,34 @@ fn print_error(rt: &impl Print, name: &str) -> io::Result<()> {
             searching_end: 7,
         }),
         "invalid_progress" => rt.println(InvalidProgress::Inflight(Invalid::Range)),
-        _ => print_value(rt, name),
+        _ => match fault_named(name) {
+            Some(fault) => rt.println(fault),
+            None => print_value(rt, name),
+        },
     }
+}
+
+fn membership_fault_named(name: &str) -> Option<MembershipFault> {
+    Some(match name {
+        "past_limit" => MembershipFault::PastLimit,
+        "no_group" => MembershipFault::NoGroup,
+        "invalid" => MembershipFault::Invalid(ChangeMembershipError::EmptyMembership(
+            EmptyMembership {},
+        )),
+        _ => return None,
+    })
+}
+
+fn fault_named(name: &str) -> Option<Fault> {
+    Some(match name {
+        "not_leader" => Fault::NotLeader { leader: Some(3) },
+        "unknown_group" => Fault::UnknownGroup,
+        "group_exists" => Fault::GroupExists,
+        "set_up_before" => Fault::NotAllowed,
+        "not_voter" => Fault::NotVoter,
+        "command_too_long" => Fault::CommandTooLong,
+        _ => return membership_fault_named(name).map(Fault::Membership),
+    })
 }
 
 fn print_progress(rt: &impl Print, alloc: Global) -> io::Result<()> {

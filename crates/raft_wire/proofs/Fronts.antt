@@ -145,7 +145,7 @@ one_judged j = Some j
 pub same_judged : (i j : Judged) → one_judged i ≡ one_judged j → i ≡ j
 same_judged i j e = cc
 
-not_refused : (why : FrameFault) (f : Frame) → refused_by why ≡ found_as f → ⊥
+pub not_refused : (why : FrameFault) (f : Frame) → refused_by why ≡ found_as f → ⊥
 not_refused why f e = absurd cc
 
 frame_judged : (s : List ℕ) (n : ℕ) (why : Option FrameFault) (f : Frame) (t : ℕ) → judged_length s n why ≡ Some (Ok f, t) → judged_frame s n ≡ Some (Ok f, t)

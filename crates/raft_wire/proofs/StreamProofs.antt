@@ -15,7 +15,7 @@ use Rattle.raft_wire.proofs.Fitting.{Reads}
 use Rattle.raft_wire.proofs.Values.{entry_alone_reads}
 use Rattle.raft_wire.proofs.Lengths.{rest_short}
 use Rattle.raft_wire.proofs.Streams.{not_there, same_length, has_length, front_fault, front_frame}
-use Rattle.raft_wire.proofs.Fronts.{fits_within, front_again, front_found, same_judged, length_found, refused_by, found_as}
+use Rattle.raft_wire.proofs.Fronts.{fits_within, front_again, front_found, same_judged, length_found, not_refused, refused_by, found_as}
 
 pub found_is_spelled : FoundIsSpelled
 found_is_spelled = λ stream frame taken bytes h. front_found stream frame taken bytes h
@@ -72,14 +72,11 @@ found_stays = λ stream more found h. stays stream more found h
 
 -- ---- what a fault says
 
-not_both : (why : FrameFault) (frame : Frame) → refused_by why ≡ found_as frame → ⊥
-not_both why frame e = absurd cc
-
 pub refused_is_no_frame : RefusedIsNoFrame
 refused_is_no_frame = λ stream more rest why taken frame h fits e.
     let there = stays stream more (Err why, taken) h in
     let found = ap front e ∙ front_again frame rest fits in
-    not_both why frame (ap (λ (j : Judged). j.0) (same_judged (Err why, taken) (Ok frame, length (spelled_frame frame)) (sym there ∙ found)))
+    not_refused why frame (ap (λ (j : Judged). j.0) (same_judged (Err why, taken) (Ok frame, length (spelled_frame frame)) (sym there ∙ found)))
 
 -- ---- waiting
 

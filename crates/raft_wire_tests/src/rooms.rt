@@ -28,6 +28,14 @@ fn is_small(room: usize, come: usize, len: usize) -> bool {
     room <= MAX_IDLE_ROOM || room <= len.min(come.saturating_mul(4))
 }
 
+/// Whether the block before and the one after, which both stand while bytes are moved, are together
+/// at most a quarter more than the frame, or what idle feeders have.
+fn is_small_step(before: usize, after: usize, len: usize) -> bool {
+    after <= before
+        || after <= MAX_IDLE_ROOM
+        || before.saturating_add(after) <= len.saturating_add(len / 4)
+}
+
 /// How many bytes are taken of a frame in pieces, whether the feeder always had little memory, and
 /// whether it gave that back in the end.
 fn rooms(alloc: Global, frame: &[u8], size: usize) -> (usize, bool, bool) {
@@ -35,8 +43,11 @@ fn rooms(alloc: Global, frame: &[u8], size: usize) -> (usize, bool, bool) {
     let mut taken: usize = 0;
     let mut small = room_of(&feeder) == 0;
     for piece in frame.chunks(size.max(1)) {
+        let before = room_of(&feeder);
         taken = taken.saturating_add(feed(&mut feeder, piece).used);
-        small = small && is_small(room_of(&feeder), taken, frame.len());
+        let after = room_of(&feeder);
+        small = small && is_small(after, taken, frame.len());
+        small = small && is_small_step(before, after, frame.len());
     }
     (taken, small, room_of(&feeder) <= MAX_IDLE_ROOM)
 }
