@@ -17,9 +17,10 @@ pub struct HostileWorld {
     mark: Mark,
 }
 
-// Where a member stands.
-fn place_of(members: &[Member], node: u64) -> Option<usize> {
-    members.iter().position(|member| member.id == node)
+// The member with the id, if there is one.
+fn member_of(members: &mut [Member], node: u64) -> Option<&mut Member> {
+    let place = members.iter().position(|member| member.id == node)?;
+    members.get_mut(place)
 }
 
 // A member is asked for something.
@@ -97,10 +98,10 @@ impl HostileWorld {
         now: u64,
         stop: Option<u64>,
     ) -> Result<Mark, Fault> {
-        let Some(place) = place_of(self.members.as_slice(), node) else {
+        let Some(member) = member_of(&mut self.members, node) else {
             return Ok(Mark::Skipped);
         };
-        let ended = self.members[place].receive(self.alloc, message, now, stop)?;
+        let ended = member.receive(self.alloc, message, now, stop)?;
         Ok(self.conclude(ended)?)
     }
 
@@ -109,21 +110,21 @@ impl HostileWorld {
         let Some(message) = self.messages.get(number as usize) else {
             return Ok(Mark::Skipped);
         };
-        let Some(place) = place_of(self.members.as_slice(), message.addressee) else {
+        let Some(member) = member_of(&mut self.members, message.addressee) else {
             return Ok(Mark::Skipped);
         };
-        let ended = self.members[place].receive(self.alloc, message, now, stop)?;
+        let ended = member.receive(self.alloc, message, now, stop)?;
         Ok(self.conclude(ended)?)
     }
 
     // What happens to a member.
     fn happen_at(
         &mut self,
-        place: usize,
+        node: u64,
         event: &WorldEvent,
         stop: Option<u64>,
     ) -> Result<Mark, Fault> {
-        let Some(member) = self.members.get_mut(place) else {
+        let Some(member) = member_of(&mut self.members, node) else {
             return Ok(Mark::Skipped);
         };
         let ended = match event {
@@ -148,10 +149,7 @@ impl HostileWorld {
             | WorldEvent::Halt { node }
             | WorldEvent::Restart { node } => *node,
         };
-        match place_of(self.members.as_slice(), node) {
-            None => Ok(Mark::Skipped),
-            Some(place) => self.happen_at(place, &planned.event, planned.stop),
-        }
+        self.happen_at(node, &planned.event, planned.stop)
     }
 
     // The message on a line comes to the node that it names.
