@@ -1,11 +1,12 @@
 //! What snapshots cover, as an engine is told of it.
 ghost use Rattle.std.specs.Prelude.{◌≡◌, IfOk, Some};
-ghost use Rattle.raft_messages.specs.Memberships.{logged_or_none};
+ghost use Rattle.raft_group_step.specs.StoredGroup.{Snapshot};
+ghost use Rattle.raft_messages.specs.Memberships.{logged_or_none, snapshot_of};
 ghost use Rattle.raft_known_state.specs.KnownState.{last_membership_of, meta_of};
 
-use raft_messages::LoggedPair;
+use raft_messages::{LoggedPair, SnapshotHead};
 use raft_state::{BasicNode, SnapshotMeta, StoredMembership};
-use raft_stored_group::{GroupSnapshot, StoredGroup};
+use raft_stored_group::StoredGroup;
 use std::alloc::{AllocError, Global};
 
 // A copy of the membership, or the one without voter groups, nodes and log id.
@@ -23,16 +24,17 @@ fn stored_membership(
     }
 }
 
-/// What the snapshot covers (own). It is a copy, and fails for want of memory alone.
+/// What a snapshot with this head covers, as an engine is told of it (own). It is a copy, and fails
+/// for want of memory alone.
 pub fn meta_of(
     alloc: Global,
-    snapshot: &GroupSnapshot,
+    head: SnapshotHead,
 ) -> Result<SnapshotMeta<u64, BasicNode>, AllocError>
-    ensures { IfOk result (λ meta. meta ≡ meta_of (Some snapshot.now)) }
+    ensures { (x : Snapshot) → snapshot_of head.entry x.«prefix» ≡ x → IfOk result (λ meta. meta ≡ meta_of (Some x)) }
 {
     Ok(SnapshotMeta {
-        last_log_id: Some(snapshot.last()),
-        last_membership: stored_membership(alloc, snapshot.logged_pair())?,
+        last_log_id: Some(head.last),
+        last_membership: stored_membership(alloc, head.membership)?,
     })
 }
 
@@ -45,7 +47,7 @@ pub fn stored_meta(
     ensures { IfOk result (λ meta. meta ≡ meta_of stored.now.snapshot) }
 {
     match stored.snapshot() {
-        Some(snapshot) => meta_of(alloc, snapshot),
+        Some(snapshot) => meta_of(alloc, snapshot.head()),
         None => Ok(SnapshotMeta::default(alloc)),
     }
 }

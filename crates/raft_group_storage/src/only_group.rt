@@ -2,7 +2,7 @@
 use crate::loaded_group::{LoadedGroup, loaded};
 use crate::storage::GroupStorage;
 use raft_group_step::Entries;
-use raft_messages::{GroupEntry, copies_of};
+use raft_messages::{GroupEntry, SnapshotHead, copies_of};
 use raft_state::{BasicNode, Bytes, LogId, Vote};
 use raft_stored_group::{GroupSnapshot, StoredGroup};
 use std::alloc::{AllocError, Global};
@@ -99,6 +99,10 @@ impl GroupStorage for StoredGroup {
             Some(snapshot) => Ok(Some(snapshot.clone()?)),
             None => Ok(None),
         }
+    }
+
+    fn head(snapshot: &GroupSnapshot) -> SnapshotHead<'_> {
+        snapshot.head()
     }
 
     fn load(&mut self, alloc: Global, _group: u64) -> Result<LoadedGroup, AllocError> {

@@ -4,7 +4,7 @@ ghost use Rattle.std.specs.Prelude.{◌≡◌, []};
 use crate::loaded_group::{LoadedGroup, loaded};
 use crate::storage::GroupStorage;
 use raft_group_step::Entries;
-use raft_messages::{GroupEntry, copies_of};
+use raft_messages::{GroupEntry, SnapshotHead, copies_of};
 use raft_state::{BasicNode, Bytes, LogId, Vote};
 use raft_stored_group::{GroupSnapshot, StoredGroup};
 use std::alloc::{AllocError, Global};
@@ -131,6 +131,10 @@ impl GroupStorage for PlainGroups {
             },
             None => Ok(None),
         }
+    }
+
+    fn head(snapshot: &GroupSnapshot) -> SnapshotHead<'_> {
+        snapshot.head()
     }
 
     fn load(&mut self, alloc: Global, group: u64) -> Result<LoadedGroup, AllocError> {

@@ -4,10 +4,11 @@ ghost use Rattle.raft_group_step.specs.StoredGroup.{Snapshot, StoredGroup};
 ghost use Rattle.raft_group_step.specs.StoredGroup.{CutFrom, MakeGroup, PutEntries, RemoveUpTo, SetSnapshot, SetVote, StartAfter};
 ghost use Rattle.raft_group_storage.specs.Keeping.{KeepsAll, KeepsOthers, MayStore, ShowsMore, StandsOrNone, Stores, entries_of};
 ghost use Rattle.raft_group_storage.specs.Loaded.{IsLoaded};
+ghost use Rattle.raft_messages.specs.Memberships.{snapshot_of};
 
 use crate::loaded_group::LoadedGroup;
 use raft_group_step::Entries;
-use raft_messages::GroupEntry;
+use raft_messages::{GroupEntry, SnapshotHead};
 use raft_state::{BasicNode, Bytes, LogId, Vote};
 use std::alloc::{AllocError, Global};
 
@@ -103,6 +104,10 @@ pub trait GroupStorage: Drop {
         ensures well { is_well self.old → OnOk result (is_well self.new) }
         ensures ok { (s : StoredGroup) → is_well self.old → shows self.old group (s ∷ []) → IfOk result (λ copy. StandsOrNone stands copy s.snapshot) }
         ensures kept { KeepsAll (shows self.old) (shows self.new) };
+
+    /// What a snapshot covers, lent (own).
+    fn head(snapshot: &Self::Snapshot) -> SnapshotHead<'_>
+        ensures { (x : Snapshot) → stands snapshot.now x → snapshot_of result x.«prefix» ≡ x };
 
     /// A copy of what is stored of the group, but for what its snapshot has (own): a node opens the
     /// group with it.

@@ -11,26 +11,25 @@ ghost use Rattle.raft_world.specs.Member.{HasBrokenOff, HasEnded, IsDown, IsIdle
 ghost use Rattle.raft_world.specs.Running.{EndsTo, HasHalted, RunsTo};
 ghost use Rattle.raft_world.specs.declared.member.Ended.TheVariants.{Skipped};
 
+use crate::facts::{facts_of, membership_in_force};
 use crate::member::{Broken, ByteGroup, Ended, Member};
 use raft_conditions::{GroupCommand, changed_membership};
 use raft_engine::Engine;
 use raft_executor::meta_of;
 use raft_group_step::GroupCall;
 use raft_state::{BasicNode, Bytes, ChangeMembers, Membership};
-use raft_stored_group::StoredGroup;
 use std::alloc::{AllocError, Global};
 
 // The leader takes what the change makes of the membership in force.
 fn change(
     alloc: Global,
-    stored: &StoredGroup,
     change: &ChangeMembers<u64, BasicNode>,
     engine: &mut Engine<ByteGroup>,
 ) -> Result<(), AllocError>
-    ensures { (x : Snapshot) (own at token : ℕ) (s : GroupState) → stored.now ≡ s.stored → MayTake own engine.old s (Call (ChangeMembership change.now token) at)
+    ensures { (x : Snapshot) (own at token : ℕ) (s : GroupState) → MayTake own engine.old s (Call (ChangeMembership change.now token) at)
         → OnOk result (HasTaken x own engine.old engine.new s (Call (ChangeMembership change.now token) at)) }
 {
-    let Some((_, old)) = stored.membership_in_force() else {
+    let Some((_, old)) = membership_in_force(&engine.state) else {
         return Ok(());
     };
     let Some(new) = changed_membership(alloc, old, change)? else {
@@ -70,12 +69,11 @@ fn propose(command: &Bytes, engine: &mut Engine<ByteGroup>) -> Result<(), AllocE
 // The engine does what the call asks, but for a snapshot, at this moment.
 fn take_call(
     alloc: Global,
-    stored: &StoredGroup,
     call: &GroupCommand,
     moment: u64,
     engine: &mut Engine<ByteGroup>,
 ) -> Result<(), AllocError>
-    ensures { (x : Snapshot) (own at : ℕ) (s : GroupState) → stored.now ≡ s.stored → moment ≡ max s.now at → (call.now ≡ TriggerSnapshot → ⊥)
+    ensures { (x : Snapshot) (own at : ℕ) (s : GroupState) → moment ≡ max s.now at → (call.now ≡ TriggerSnapshot → ⊥)
         → MayTake own engine.old s (Call call.now at)
         → OnOk result (HasTaken x own engine.old engine.new s (Call call.now at)) }
 {
@@ -83,7 +81,7 @@ fn take_call(
         GroupCall::Initialize { membership } => initialize(membership, moment, engine),
         GroupCall::Elect => engine.elect(moment),
         GroupCall::Propose { command, .. } => propose(command, engine),
-        GroupCall::ChangeMembership { change, .. } => self::change(alloc, stored, change, engine),
+        GroupCall::ChangeMembership { change, .. } => self::change(alloc, change, engine),
         GroupCall::Heartbeat => engine.send_heartbeat(),
         GroupCall::Lost { peer } => engine.handle_lost(*peer),
         GroupCall::TriggerSnapshot => Ok(()),
@@ -117,7 +115,7 @@ impl Member {
         let Some(snapshot) = self.stored.snapshot_at(applied.index)? else {
             return Ok(Ended::Skipped);
         };
-        engine.finish_building_snapshot(meta_of(alloc, &snapshot)?)?;
+        engine.finish_building_snapshot(meta_of(alloc, snapshot.head())?)?;
         self.end_taken(alloc, engine, Some(&snapshot), moment, stop)
     }
 
@@ -141,7 +139,7 @@ impl Member {
         if matches!(call, GroupCall::TriggerSnapshot) {
             return self.snapshot_call(alloc, engine, moment, stop);
         }
-        take_call(alloc, &self.stored, call, moment, engine)?;
+        take_call(alloc, call, moment, engine)?;
         self.end_taken(alloc, engine, None, moment, stop)
     }
 
@@ -160,7 +158,7 @@ impl Member {
         ensures err { (s : GroupState) → IsDown self.old s.stored → self.old.moment ≡ s.now → IsIdle self.old.id engine.old s → IsLawful self.old.id s
             → IfErr result (HasBrokenOff self.old.id s (Call call.now now) self.new) }
     {
-        let refusal = match self.facts(engine).call_refusal(alloc, call, now) {
+        let refusal = match facts_of(self.id, engine).call_refusal(alloc, call, now) {
             Ok(refusal) => refusal,
             Err(refused) => return Err(Broken::Unjudged(refused)),
         };

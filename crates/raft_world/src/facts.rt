@@ -1,17 +1,19 @@
 //! The facts of the group at a member, by which its events are judged.
-ghost use Rattle.std.specs.Prelude.{◌≡◌, ◌<◌, ◌+◌, ◌^◌, ◌++◌, ℕ, nat_eq, nat_lt};
+ghost use Rattle.std.specs.Prelude.{◌≡◌, ◌<◌, ◌+◌, ◌^◌, ◌++◌, ℕ, nat_eq, nat_lt, true};
 ghost use Rattle.std.specs.List.{list_all};
 ghost use Rattle.raft_values.specs.LogId.{next_place};
 ghost use Rattle.raft_progress.specs.Parts.{ids_of};
 ghost use Rattle.raft_leaders.specs.Leader.{peer_at};
-ghost use Rattle.raft_group_step.specs.StoredGroup.{end_place};
+ghost use Rattle.raft_group_step.specs.StoredGroup.{StoredGroup, end_place, membership_in_force};
 ghost use Rattle.raft_group_step.specs.GroupState.{GroupState};
 ghost use Rattle.raft_conditions.specs.Facts.{IsFactsOf};
 ghost use Rattle.raft_engine.specs.Standing.{IsStateOf};
+ghost use Rattle.raft_known_state.specs.KnownState.{Knows};
+ghost use Rattle.raft_messages.specs.Memberships.{logged_or_none};
 
-use crate::member::{ByteGroup, Member};
-use raft_conditions::GroupFacts;
-use raft_engine::{Engine, Leader};
+use crate::member::ByteGroup;
+use raft_conditions::{GroupFacts, LoggedPair};
+use raft_engine::{Engine, KnownState, Leader};
 use raft_state::{BasicNode, EffectiveMembership, LogId, LogIdOptionExt};
 
 type GroupLeader = Leader<u64, EffectiveMembership<u64, BasicNode>>;
@@ -39,26 +41,36 @@ fn place_behind(last: Option<LogId<u64>>) -> u64
     }
 }
 
-impl Member {
-    // The facts of the group, while the engine is out of the member.
-    pub(crate) fn facts(&self, engine: &Engine<ByteGroup>) -> GroupFacts<'_>
-        ensures { (s : GroupState) → IsStateOf self.now.id engine.now s → self.now.stored ≡ s.stored → end_place s.stored < 2 ^ 64
-            → IsFactsOf self.now.id result s }
-    {
-        GroupFacts {
-            own: self.id,
-            present: self.stored.is_present(),
-            vote: self.stored.vote(),
-            membership: self.stored.membership_in_force(),
-            is_new: self.stored.is_new(),
-            is_leader: engine.leader.is_some(),
-            is_candidate: engine.candidate.is_some(),
-            end: place_behind(self.stored.last_id()),
-            committed: engine.state.state.committed.index(),
-            greatest_next_id: match &engine.leader {
-                Some(leader) => greatest_next_id(leader),
-                None => 0,
-            },
-        }
+// The membership in force, lent, with the log id of its entry, if an entry has one.
+pub(crate) fn membership_in_force(known: &KnownState<u64, BasicNode>) -> Option<LoggedPair<'_>>
+    ensures { (s : StoredGroup) → Knows known.now s → logged_or_none result ≡ membership_in_force s }
+{
+    let effective = known.effective_membership();
+    match effective.log_id() {
+        Some(log_id) => Some((*log_id, effective.membership())),
+        None => None,
+    }
+}
+
+// The facts of a group that the node has, by which an event is judged: what its engine knows of
+// it, so that no log is walked.
+pub(crate) fn facts_of(own: u64, engine: &Engine<ByteGroup>) -> GroupFacts<'_>
+    ensures { (s : GroupState) → IsStateOf own engine.now s → s.stored.present ≡ true → end_place s.stored < 2 ^ 64 → IsFactsOf own result s }
+{
+    let known = &engine.state;
+    GroupFacts {
+        own,
+        present: true,
+        vote: *known.state.vote.get(),
+        membership: membership_in_force(known),
+        is_new: known.is_new(),
+        is_leader: engine.leader.is_some(),
+        is_candidate: engine.candidate.is_some(),
+        end: place_behind(known.last_log_id()),
+        committed: known.state.committed.index(),
+        greatest_next_id: match &engine.leader {
+            Some(leader) => greatest_next_id(leader),
+            None => 0,
+        },
     }
 }

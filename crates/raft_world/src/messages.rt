@@ -13,6 +13,7 @@ ghost use Rattle.raft_world.specs.Member.{HasEnded, HasStopped, IsDown, IsIdle, 
 ghost use Rattle.raft_world.specs.Running.{EndsTo, HasHalted, RunsTo};
 ghost use Rattle.raft_world.specs.declared.member.Ended.TheVariants.{Skipped};
 
+use crate::facts::facts_of;
 use crate::member::{ByteGroup, Ended, Member};
 use raft_conditions::{GroupFacts, Parties, Refusal};
 use raft_engine::{AppendEntriesRequest, Caller, Engine, RequestId};
@@ -141,7 +142,7 @@ fn take_snapshot(
         previous: None,
         last: Some(last),
     };
-    engine.handle_install_full_snapshot(vote, meta_of(alloc, snapshot)?, caller, moment)
+    engine.handle_install_full_snapshot(vote, meta_of(alloc, snapshot.head())?, caller, moment)
 }
 
 impl Member {
@@ -185,7 +186,7 @@ impl Member {
         ensures err { (s : GroupState) → IsDown self.old s.stored → self.old.moment ≡ s.now → IsIdle self.old.id engine.old s → IsLawful self.old.id s
             → OnErr result (HasStopped self.old.id s (Receive message.now.sender (message_of message.now) now) self.new) }
     {
-        match message_refusal(&self.facts(engine), message, now) {
+        match message_refusal(&facts_of(self.id, engine), message, now) {
             Some(refusal) => Ok(Ended::Refused(refusal)),
             None => {
                 let moment = self.moment.max(now);

@@ -10,7 +10,7 @@ pub returns-clause-ok : goal.returns-clause-ok
 returns-clause-ok c = λ at s down idle moment may.
     c.end_taken.ensures.ok s.stored (group_step c.args.self.now.id s (Call c.args.call.now at)) down
     (run_of_call c.args.engine.now c.args.self.now.id at c.args.moment c.take_call.new.engine s c.args.call.now moment may.accepted
-    (λ x. c.in_ok-take_call.ensures x c.args.self.now.id at s down.stored moment
+    (λ x. c.in_ok-take_call.ensures x c.args.self.now.id at s moment
     (elim c.match-matches.branch [
       | in-TriggerSnapshot w ↦ absurd (both_ways c.match-matches.matches c.if-matches.false w.matches-is)
       | in_default w ↦ w.in_default.not-TriggerSnapshot
@@ -21,7 +21,7 @@ pub returns-clause-err : goal.returns-clause-err
 returns-clause-err c = λ at s down idle moment may.
     c.end_taken.ensures.err s.stored (group_step c.args.self.now.id s (Call c.args.call.now at)) down
     (run_of_call c.args.engine.now c.args.self.now.id at c.args.moment c.take_call.new.engine s c.args.call.now moment may.accepted
-    (λ x. c.in_ok-take_call.ensures x c.args.self.now.id at s down.stored moment
+    (λ x. c.in_ok-take_call.ensures x c.args.self.now.id at s moment
     (elim c.match-matches.branch [
       | in-TriggerSnapshot w ↦ absurd (both_ways c.match-matches.matches c.if-matches.false w.matches-is)
       | in_default w ↦ w.in_default.not-TriggerSnapshot

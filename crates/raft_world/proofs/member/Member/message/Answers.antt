@@ -11,7 +11,7 @@ use Rattle.raft_world.proofs.member.Member.message.Goals as goal
 pub returns-in-Some-clause-ok : goal.returns-in-Some-clause-ok
 returns-in-Some-clause-ok c = λ s down moment idle lawful.
     let low : end_place s.stored ≤ 2 ^ 62 = lawful.ready.places in
-    let facts = c.facts.ensures s idle.stands down.stored (omega arith) in
+    let facts = c.facts_of.ensures s idle.stands down.present (omega arith) in
     let refused : refusal_of c.args.self.now.id s (Receive c.args.message.now.sender (message_of c.args.message.now) c.args.now) ≡ Some (reason_of c.in-Some.refusal) =
     sym (c.message_refusal.ensures c.args.self.now.id s facts) ∙ ap (option_map reason_of) c.in-Some.is in
     (refused, up_again c.args.self.now c.args.engine.now s down moment idle)

@@ -72,7 +72,7 @@ module _ (c : After-drop-snapshot-inside-4) (at : ℕ) (s : GroupState) (down : 
       let found = ap (λ stored. option_map (snapshot_at stored) (id_of (entry_at stored c.in-Some.applied.index))) (sym down.stored) ∙ sym c.in_ok-snapshot.ensures ∙ c.in-Some-2.is in
       c.in_ok-finish_building_snapshot.ensures.built c.args.self.now.id at c.args.engine.now s c.in-Some-2.snapshot asked idle.empty
       (subst (λ e. IsStateOf c.args.self.now.id e s) (sym asked) (stands_asking c.args.self.now.id c.args.engine.now s idle.stands))
-      may.ready may.accepted c.in_ok-meta_of.ensures
+      may.ready may.accepted (c.in_ok-meta_of.ensures c.in-Some-2.snapshot c.head.ensures)
       (is_of_applied c.args.self.now.id c.args.engine.now s idle.stands c.in-Some.applied is (ap (λ o. stands_before (covered_id c.args.engine.now) o) (sym is) ∙ past) c.in-Some-2.snapshot found)
 
 pub returns-clause-ok : goal.returns-clause-ok
