@@ -35,6 +35,10 @@ use Rattle.raft_engine.proofs.CommandLemmas.{at_once_more, numbers_kept, sends_s
 use Rattle.raft_engine.proofs.CommittingLemmas.{moves_kept}
 use Rattle.raft_engine.proofs.StandingLemmas.{order_kept}
 use Rattle.raft_engine.proofs.PlacedEntries.{behind, get_of_joined}
+use Rattle.raft_engine.specs.Standing.{basis_before}
+use Rattle.raft_engine.proofs.OrderingLemmas.{rests_stored}
+use Rattle.raft_engine.proofs.TurnLemmas.{turns_kept}
+use Rattle.raft_group_step.specs.GroupState.{is_leader}
 
 -- a leader knows the members of an entry that has a membership
 pub knows_new : (l : LeaderValue ℕ EffectiveMembership) (before : Option LoggedMembership) (id : LogId ℕ) (payload : EntryPayload) (m : Membership) → Some m ≡ membership_of payload
@@ -165,12 +169,12 @@ module _ {C R : Type 0} (x : Given) (own : ℕ) (e : Engine C R) (r : StepResult
         }
 
   module _ (e' : Engine C R) (payload : EntryPayload) (l' : LeaderValue ℕ EffectiveMembership) (vote : Vote ℕ) (entries : List Entry) (id : LogId ℕ) where
-    pub appended : e'.config ≡ e.config → e'.seen_greater_log ≡ e.seen_greater_log → e'.leader ≡ Some l' → e'.candidate ≡ e.candidate → id ≡ id_of_leader l.vote.leader_id (next_place l.last_log_id) → entries ≡ entry_of id payload ∷ []
+    pub appended : e'.config ≡ e.config → e'.seen_greater_log ≡ e.seen_greater_log → e'.leader ≡ Some l' → e'.candidate ≡ e.candidate → id ≡ id_of_leader l.vote.leader_id (next_place l.last_log_id) → entries ≡ entry_of id payload ∷ [] → vote ≡ l.vote
         → ((s : StoredGroup) → Knows e.state s → IsPlaced s → ArePlaced (end_place s) entries → Knows e'.state (after_storing (PutEntries (end_place s) entries) s))
         → KeepsRest e.state e'.state → l'.vote ≡ l.vote → l'.last_log_id ≡ Some id → l'.began ≡ l.began → ((n : ℕ) → peer_at nat_eq l' n ≡ peer_at nat_eq l n)
         → ((before : Option LoggedMembership) → KnowsMembers l before → KnowsMembers l' (membership_after before id payload))
         → e'.output ≡ record e.output { queue = e.output.queue ++ AppendInputEntries vote entries ∷ [] } → IsStepOf x own e' (append payload r)
-    appended config seen leader candidate id_is entries_are known rest voted last began peers members output =
+    appended config seen leader candidate id_is entries_are under known rest voted last began peers members output =
         let old = step.state in
         let queue = ap (λ (o : Output C (List ℕ) R ℕ (List ℕ)). o.queue) output in
         let s = r.state.stored in
@@ -198,6 +202,8 @@ module _ {C R : Type 0} (x : Given) (own : ℕ) (e : Engine C R) (r : StepResult
           numbers = numbers_kept x.last_sm_seq e.output e'.output (AppendInputEntries vote entries) step.numbers output refl;
           moves = moves_kept x.committed_before e.state.state.committed e'.state.state.committed e.output.queue e'.output.queue step.moves (AppendInputEntries vote entries) queue refl rest.committed;
           at_once = at_once_more e.output.queue (AppendInputEntries vote entries) e'.output.queue queue step.at_once tt;
+          rests = rests_stored own x.snapshot (basis_before x) e.output.queue e'.output.queue r.state.stored e.state.state.committed step.rests (AppendInputEntries vote entries) (sym (under ∙ leads_now.vote)) queue e'.state.state.committed (PutEntries (end_place s) (put payload)) (ap put_all puts) refl rest.committed;
+          turns = turns_kept x.turn_before e.output.queue e'.output.queue (is_leader r.state.role) step.turns (AppendInputEntries vote entries) queue refl;
         }
 
 -- ---- tokens
@@ -222,6 +228,8 @@ whatever_tokens x own e r untold step =
       numbers = step.numbers;
       moves = step.moves;
       at_once = step.at_once;
+      rests = step.rests;
+      turns = step.turns;
     }
 
 -- what a proposal's token waits for

@@ -30,6 +30,12 @@ use Rattle.raft_engine.specs.Events.{CanFinish, HasLeadRoom, IsReady}
 use Rattle.raft_engine.proofs.AppendLemmas.{next_of_place}
 use Rattle.raft_engine.proofs.EventLemmas.{no_first_reason, unless_none}
 use Rattle.raft_engine.proofs.PurgeLemmas.{KeepsStanding, plays_on, snapshot_known}
+use Rattle.raft_engine.specs.Standing.{basis_before}
+use Rattle.raft_engine.specs.Ordering.{AllRest}
+use Rattle.raft_engine.specs.Turns.{Turns, turn_of, turns_in}
+use Rattle.raft_engine.proofs.TurnLemmas.{fits_now}
+use Rattle.raft_group_step.specs.GroupState.{is_leader}
+use Rattle.std.proofs.Common.{ap₂}
 
 -- a log id past all that a snapshot has
 pub stands_past : (known : Option (LogId ℕ)) (last : LogId ℕ) → next_place known ≤ last.index → stands_before known (Some last) ≡ true
@@ -119,10 +125,10 @@ module _ (s : GroupState) (x : Snapshot) (built : IsSnapshotOfApplied s x) where
         with_snapshot
 
     module _ {C R : Type 0} (e e' : Engine C R) (h : IsStateOf own e s) where
-      pub snapshot_stored : (g : Given) → g.snapshot ≡ x → e'.seen_greater_log ≡ g.seen_greater_log → NumbersFollow g.last_sm_seq e'.output → e.state.state.committed ≡ g.committed_before → e'.config ≡ e.config → CountsOn (membership_in_force (after_storing (SetSnapshot x) s.stored)) e.leader e'.leader → e'.candidate ≡ e.candidate
+      pub snapshot_stored : (g : Given) → g.snapshot ≡ x → e'.seen_greater_log ≡ g.seen_greater_log → NumbersFollow g.last_sm_seq e'.output → e.state.state.committed ≡ g.committed_before → g.stored_before ≡ s.stored → g.turn_before ≡ turn_of (is_leader s.role) → e'.config ≡ e.config → CountsOn (membership_in_force (after_storing (SetSnapshot x) s.stored)) e.leader e'.leader → e'.candidate ≡ e.candidate
           → Knows e'.state (after_storing (SetSnapshot x) s.stored) → KeepsRest e.state e'.state
           → (seq : ℕ) → e'.output.queue ≡ build_command seq ∷ [] → IsStepOf g own e' (store (SetSnapshot x) (begun at s))
-      snapshot_stored g is seen numbers before config leader candidate knows rest seq queue =
+      snapshot_stored g is seen numbers before begins turn config leader candidate knows rest seq queue =
           record {
             state = record {
               config = config ∙ h.config;
@@ -141,6 +147,10 @@ module _ (s : GroupState) (x : Snapshot) (built : IsSnapshotOfApplied s x) where
             numbers = numbers;
             moves = subst (λ q. Moves g.committed_before (moves_in q) e'.state.state.committed) (sym queue) (rest.committed ∙ before);
             at_once = subst (All NeedsNoOther) (sym queue) (All-cons NeedsNoOther (build_command seq) [] tt (All-nil NeedsNoOther));
+            rests =
+                subst (λ q. AllRest own g.snapshot (basis_before g) q (record { stored = after_storing (SetSnapshot x) s.stored; committed = e'.state.state.committed })) (sym queue)
+                (tt, ap₂ (λ y k. record { stored = y; committed = k }) (ap (λ y. after_storing (SetSnapshot y) s.stored) (sym is) ∙ ap (after_storing (SetSnapshot g.snapshot)) (sym begins)) (rest.committed ∙ before));
+            turns = subst (λ q. Turns g.turn_before (turns_in q) (is_leader s.role)) (sym queue) (subst (λ t. Turns t [] (is_leader s.role)) (sym turn) (fits_now (is_leader s.role)));
           }
 
       -- what is finished then is the group's step

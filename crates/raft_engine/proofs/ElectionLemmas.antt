@@ -25,6 +25,8 @@ use Rattle.raft_engine.specs.Commands.{Command, message_to}
 use Rattle.raft_engine.specs.Standing.{EffectiveMembership, Engine, Given, IsStepOf, PlaysRole, Stands}
 use Rattle.raft_engine.proofs.CandidateLemmas.{configs_are, stands_more}
 use Rattle.raft_engine.proofs.StandingLemmas.{order_kept, queued}
+use Rattle.raft_engine.proofs.TurnLemmas.{turns_same, unled_role}
+use Rattle.raft_group_step.specs.GroupState.{is_leader}
 
 module _ {C R : Type 0} (x : Given) (own : ℕ) (req : Request ℕ) where
   -- a request to each of these
@@ -40,7 +42,7 @@ module _ {C R : Type 0} (x : Given) (own : ℕ) (req : Request ℕ) where
   asked [] e r step vote last = subst (λ q. IsStepOf x own (with_queue e q) r) (sym (append-nil e.output.queue)) step
   asked (n ∷ ns) e r step vote last =
       let one : IsStepOf x own (with_queue e (e.output.queue ++ SendVote n req ∷ [])) (send own n (VoteRequest r.state.stored.vote (last_id r.state.stored)) r) =
-      queued x own e r (SendVote n req) (message_to own n (VoteRequest r.state.stored.vote (last_id r.state.stored))) step refl refl tt (λ s upto. rw (vote, last) refl) in
+      queued x own e r (SendVote n req) (message_to own n (VoteRequest r.state.stored.vote (last_id r.state.stored))) step refl refl tt (vote, last) refl (λ s upto. rw (vote, last) refl) in
       subst (λ q. IsStepOf x own (with_queue e q) (ask own (n ∷ ns) r)) (append_assoc e.output.queue (SendVote n req ∷ []) (requests ns))
       (asked ns (with_queue e (e.output.queue ++ SendVote n req ∷ [])) (send own n (VoteRequest r.state.stored.vote (last_id r.state.stored)) r) one vote last)
 
@@ -87,6 +89,8 @@ module _ {C R : Type 0} (x : Given) (own : ℕ) (e : Engine C R) (r : StepResult
         numbers = step.numbers;
         moves = step.moves;
         at_once = step.at_once;
+        rests = step.rests;
+        turns = turns_same x.turn_before e.output.queue e.output.queue (is_leader r.state.role) step.turns false refl (sym (unled_role own e.candidate r.state.stored r.state.role (subst (λ l. PlaysRole own l e.candidate r.state.stored r.state.role) alone old.role)));
       }
 
   -- the place after the last log id that is known

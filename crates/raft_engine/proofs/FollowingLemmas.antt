@@ -26,6 +26,13 @@ use Rattle.raft_engine.specs.Committing.{Applies, moves_of}
 use Rattle.raft_engine.specs.Answering.{NeedsNoOther}
 use Rattle.raft_engine.proofs.StandingLemmas.{still_follows}
 use Rattle.raft_engine.proofs.PlacedEntries.{HasEntry, has_entry, id_of_place, none_behind, with_log, id_below_cut, id_before_more, end_of_cut, end_of_any_cut, taken, behind, placed_go_on}
+use Rattle.raft_engine.specs.Standing.{basis_before, basis_of}
+use Rattle.raft_engine.specs.Ordering.{RestsOn, committed_by}
+use Rattle.raft_engine.specs.Turns.{turns_of}
+use Rattle.raft_engine.proofs.OrderingLemmas.{rests_pushed, rests_stored}
+use Rattle.raft_engine.proofs.TurnLemmas.{turns_kept}
+use Rattle.raft_group_step.specs.GroupState.{is_leader}
+use Rattle.raft_group_step.specs.StoredGroup.{after_storing_all}
 
 -- ---- places
 
@@ -189,9 +196,9 @@ module _ {C R : Type 0} (x : Given) (own : ℕ) (e e' : Engine C R) (r : StepRes
   -- a follower's log changes behind what is committed
   pub log_stored : (c : StoringCommand) (d : Command C R) → r.state.role ≡ Follower → Knows e'.state (after_storing c r.state.stored) → KeepsRest e.state e'.state
       → IsInOrder (with_stored r.state (after_storing c r.state.stored)) → committed_id (with_stored r.state (after_storing c r.state.stored)) ≡ committed_id r.state
-      → e'.output ≡ record e.output { queue = e.output.queue ++ d ∷ [] } → storing_of x.snapshot d ≡ c ∷ [] → number_in d ≡ [] → NeedsNoOther d
+      → e'.output ≡ record e.output { queue = e.output.queue ++ d ∷ [] } → storing_of x.snapshot d ≡ c ∷ [] → number_in d ≡ [] → NeedsNoOther d → RestsOn own (basis_of e r.state) d → turns_of d ≡ []
       → ((s : StoredGroup) (upto : Option (LogId ℕ)) → sending_of own s upto d ≡ []) → IsStepOf x own e' (store c r)
-  log_stored c d follows knows keeps order same output stores silent needs sends =
+  log_stored c d follows knows keeps order same output stores silent needs on turnless sends =
       let old = step.state in
       let queue = ap (λ (o : Output C (List ℕ) R ℕ (List ℕ)). o.queue) output in
       record {
@@ -210,6 +217,8 @@ module _ {C R : Type 0} (x : Given) (own : ℕ) (e e' : Engine C R) (r : StepRes
         numbers = numbers_kept x.last_sm_seq e.output e'.output d step.numbers output silent;
         moves = moves_kept x.committed_before e.state.state.committed e'.state.state.committed e.output.queue e'.output.queue step.moves d queue (unmoved d silent) keeps.committed;
         at_once = at_once_more e.output.queue d e'.output.queue queue step.at_once needs;
+        rests = rests_stored own x.snapshot (basis_before x) e.output.queue e'.output.queue r.state.stored e.state.state.committed step.rests d on queue e'.state.state.committed c stores silent keeps.committed;
+        turns = turns_kept x.turn_before e.output.queue e'.output.queue (is_leader r.state.role) step.turns d queue turnless;
       }
 
 -- nothing is committed that wasn't
@@ -240,6 +249,8 @@ none_committed x own e r place step same =
       numbers = step.numbers;
       moves = step.moves;
       at_once = step.at_once;
+      rests = step.rests;
+      turns = step.turns;
     }
 
 module _ {C R : Type 0} (x : Given) (own : ℕ) (e e' : Engine C R) (r : StepResult) (step : IsStepOf x own e r) where
@@ -247,10 +258,10 @@ module _ {C R : Type 0} (x : Given) (own : ℕ) (e e' : Engine C R) (r : StepRes
   pub more_committed : (place : ℕ) (id : LogId ℕ) (d : Command C R) → e'.config ≡ e.config → e'.seen_greater_log ≡ e.seen_greater_log → e'.leader ≡ e.leader → e'.candidate ≡ e.candidate
       → e'.state ≡ record e.state { state = record e.state.state { committed = Some id } }
       → is_within place r.state.committed ≡ false → place < end_place r.state.stored → Some id ≡ id_at r.state.stored place
-      → e'.output ≡ record { queue = e.output.queue ++ d ∷ []; last_sm_seq = following_seq e.output.last_sm_seq } → storing_of x.snapshot d ≡ [] → number_in d ≡ following_seq e.output.last_sm_seq ∷ [] → moves_of d ≡ Applies e.state.state.committed id ∷ [] → NeedsNoOther d
+      → e'.output ≡ record { queue = e.output.queue ++ d ∷ []; last_sm_seq = following_seq e.output.last_sm_seq } → storing_of x.snapshot d ≡ [] → number_in d ≡ following_seq e.output.last_sm_seq ∷ [] → moves_of d ≡ Applies e.state.state.committed id ∷ [] → NeedsNoOther d → RestsOn own (basis_of e r.state) d → committed_by d e.state.state.committed ≡ Some id → turns_of d ≡ []
       → ((s : StoredGroup) (upto : Option (LogId ℕ)) → sending_of own s upto d ≡ [])
       → IsStepOf x own e' (apply_up_to (Some place) r)
-  more_committed place id d config seen leader candidate state past within found output stores next_number moves needs sends =
+  more_committed place id d config seen leader candidate state past within found output stores next_number moves needs on commits turnless sends =
       let old = step.state in
       let queue = ap (λ (o : Output C (List ℕ) R ℕ (List ℕ)). o.queue) output in
       let later : later_place r.state.committed (Some place) ≡ Some place = later_more r.state.committed place past in
@@ -292,4 +303,6 @@ module _ {C R : Type 0} (x : Given) (own : ℕ) (e e' : Engine C R) (r : StepRes
             moves_gained x.committed_before e.state.state.committed e'.state.state.committed e.output.queue e'.output.queue step.moves d queue (Applies e.state.state.committed id) moves
             (refl, goes_on, ap (λ (y : KnownState). y.state.committed) state);
         at_once = at_once_more e.output.queue d e'.output.queue queue step.at_once needs;
+        rests = rests_pushed own x.snapshot (basis_before x) e.output.queue e'.output.queue r.state.stored e.state.state.committed step.rests d on queue r.state.stored e'.state.state.committed (sym (ap (λ cs. after_storing_all cs r.state.stored) stores)) (ap (λ (y : KnownState). y.state.committed) state ∙ sym commits);
+        turns = turns_kept x.turn_before e.output.queue e'.output.queue (is_leader r.state.role) step.turns d queue turnless;
       }

@@ -1,7 +1,7 @@
 -- How a lead begins.
 use Rattle.std.specs.Prelude.{◌≡◌, ℕ, true, ◌||◌, nat_eq, List, [], ◌∷◌, ◌++◌, Option, Some, None, unwrap_or, Result, Ok, Err, IfOk, refl}
 use Rattle.std.specs.Ordering.{nat_cmp}
-use Rattle.std.proofs.Common.{sym, ap, ◌∙◌, subst}
+use Rattle.std.proofs.Common.{sym, ap, ◌∙◌, subst, false}
 use Rattle.raft_values.specs.declared.vote.Vote.{Vote}
 use Rattle.raft_values.specs.declared.log_id.LogId.{LogId}
 use Rattle.raft_values.specs.LogId.{next_place}
@@ -32,6 +32,10 @@ use Rattle.raft_engine.proofs.CommittingLemmas.{moves_kept}
 use Rattle.raft_engine.proofs.StandingLemmas.{order_kept}
 use Rattle.raft_engine.proofs.LastIdLemmas.{last_of_leader}
 use Rattle.raft_engine.proofs.MemberLemmas.{all_with, all_alike, has_each, voter_or_learner}
+use Rattle.raft_engine.specs.Standing.{basis_before}
+use Rattle.raft_engine.proofs.OrderingLemmas.{rests_kept, rests_stored}
+use Rattle.raft_engine.proofs.TurnLemmas.{begun_turns}
+use Rattle.raft_group_step.specs.GroupState.{is_leader}
 
 abbrev StateOf : Type 0
 StateOf = RaftState ℕ (List ℕ) ℕ
@@ -91,11 +95,11 @@ stands_own own (Some l) c s granters h = absurd h
 
 module _ {C R : Type 0} (x : Given) (own : ℕ) (e e' : Engine C R) (r : StepResult) (step : IsStepOf x own e r) (l : LeaderValue ℕ EffectiveMembership) (vote : Vote ℕ) where
   -- the lead of a committed vote that is stored
-  pub lead_begun : vote ≡ committed_vote r.state.stored.vote → e'.config ≡ e.config → e'.seen_greater_log ≡ e.seen_greater_log → e'.leader ≡ Some l → e'.candidate ≡ None
+  pub lead_begun : is_leader r.state.role ≡ false → vote ≡ committed_vote r.state.stored.vote → e'.config ≡ e.config → e'.seen_greater_log ≡ e.seen_greater_log → e'.leader ≡ Some l → e'.candidate ≡ None
       → Knows e'.state (after_storing (SetVote vote) r.state.stored) → e'.state.state ≡ record e.state.state { vote = record { value = vote; utime = Some r.state.now } }
       → e'.output ≡ record e.output { queue = (e.output.queue ++ SaveVote vote ∷ []) ++ BecomeLeader ∷ [] } → Leads own l (record r.state.stored { vote = vote }) (new_lead r.state.stored)
       → IsStepOf x own e' (in_role (Leader (new_lead r.state.stored)) (store_vote (committed_vote r.state.stored.vote) r))
-  lead_begun voted config seen leader candidate knows state output leads =
+  lead_begun unled voted config seen leader candidate knows state output leads =
       let old = step.state in
       let queue = ap (λ (o : Output C (List ℕ) R ℕ (List ℕ)). o.queue) output in
       let voting : Output C (List ℕ) R ℕ (List ℕ) = record e.output { queue = e.output.queue ++ SaveVote vote ∷ [] } in
@@ -126,5 +130,10 @@ module _ {C R : Type 0} (x : Given) (own : ℕ) (e e' : Engine C R) (r : StepRes
             (moves_kept x.committed_before e.state.state.committed e.state.state.committed e.output.queue voting.queue step.moves (SaveVote vote) refl refl refl)
             BecomeLeader queue refl (ap (λ (y : StateOf). y.committed) state);
         at_once = at_once_more voting.queue BecomeLeader e'.output.queue queue (at_once_more e.output.queue (SaveVote vote) voting.queue refl step.at_once tt) tt;
+        rests =
+            rests_kept own x.snapshot (basis_before x) voting.queue e'.output.queue (record s { vote = vote }) e.state.state.committed
+            (rests_stored own x.snapshot (basis_before x) e.output.queue voting.queue s e.state.state.committed step.rests (SaveVote vote) tt refl e.state.state.committed (SetVote vote) refl refl refl)
+            BecomeLeader (leads.is_own, leads.committed) queue e'.state.state.committed refl refl (ap (λ (y : StateOf). y.committed) state);
+        turns = begun_turns x.turn_before e.output.queue voting.queue e'.output.queue (is_leader r.state.role) step.turns (SaveVote vote) BecomeLeader refl queue refl refl unled;
       } in
       subst (λ v. IsStepOf x own e' (in_role (Leader (new_lead s)) (store_vote v r))) voted begun

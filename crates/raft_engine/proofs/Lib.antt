@@ -1,5 +1,7 @@
 pub mod CommandLemmas
 pub mod CommittingLemmas
+pub mod OrderingLemmas
+pub mod TurnLemmas
 pub mod StandingLemmas
 pub mod PeersLemmas
 pub mod ReplicationLemmas

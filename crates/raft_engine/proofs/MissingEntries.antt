@@ -1,5 +1,5 @@
 -- The entries of a request that the log lacks: which they are, and where the log ends with them.
-use Rattle.std.specs.Prelude.{◌≡◌, ℕ, suc, ◌+◌, ◌-◌, ◌<◌, ◌≤◌, ◌||◌, min, Bool, true, false, List, [], ◌∷◌, length, Option, Some, None, refl}
+use Rattle.std.specs.Prelude.{◌≡◌, ℕ, suc, ◌+◌, ◌-◌, ◌<◌, ◌≤◌, ◌||◌, min, Bool, true, false, if◌then◌else◌, is_some, List, [], ◌∷◌, length, Option, Some, None, refl}
 use Rattle.std.proofs.Common.{sym, ap, ◌∙◌, subst, arith, length-append, eqb-true}
 use Rattle.std.proofs.lemmas.Bool.{and_parts}
 use Rattle.std.proofs.lemmas.Bool.Decides.{nat_tests}
@@ -8,17 +8,24 @@ use Rattle.raft_values.specs.declared.vote.Vote.{Vote}
 use Rattle.raft_values.specs.declared.log_id.LogId.{LogId}
 use Rattle.raft_values.specs.LogId.{next_place, place_of}
 use Rattle.raft_group_step.specs.Values.{Entry}
-use Rattle.raft_group_step.specs.StoredGroup.{StoredGroup, PutEntries, after_storing, first_place, end_place, has_id_in_log, log_below}
+use Rattle.raft_group_step.specs.StoredGroup.{StoredGroup, CutFrom, PutEntries, after_storing, entry_at, first_place, end_place, has_id_in_log, log_below}
 use Rattle.raft_group_step.specs.GroupState.{GroupState}
-use Rattle.raft_group_step.specs.StepResult.{StepResult, is_within}
+use Rattle.raft_group_step.specs.StepResult.{StepResult, is_within, store}
 use Rattle.raft_group_step.specs.Message.{last_sent}
-use Rattle.raft_group_step.specs.AppendRequest.{above_committed, cut_from, is_held, lesser_place, missing_entries, put_entries}
+use Rattle.raft_group_step.specs.AppendRequest.{above_committed, cut_at, cut_from, is_held, lesser_place, missing_entries, put_entries}
 use Rattle.raft_group_step.specs.Refusal.{do_follow}
 use Rattle.raft_group_step.proofs.EntryPlaces.{in_log_within}
 use Rattle.raft_known_state.specs.KnownState.{ArePlaced}
 use Rattle.raft_engine.specs.Standing.{IsInOrder}
 use Rattle.raft_engine.specs.Following.{EndsWithin, unheld_entries}
+use Rattle.raft_engine.specs.Ordering.{EndsBefore}
+use Rattle.raft_known_state.proofs.PlacedIds.{by_order}
+use Rattle.raft_engine.proofs.PlacedEntries.{none_behind}
 use Rattle.raft_engine.proofs.FollowingLemmas.{cut_ends, end_past, within_log}
+
+-- a cut leaves the vote in force
+cut_keeps_vote : (place : ℕ) (r : StepResult) → (cut_from place r).state.stored.vote ≡ r.state.stored.vote
+cut_keeps_vote place r = elim (is_some (entry_at r.state.stored place)) as (λ b. (if b then store (CutFrom place) r else r).state.stored.vote ≡ r.state.stored.vote) [ true ↦ refl | false ↦ refl ]
 
 -- ---- entries that follow
 
@@ -153,15 +160,44 @@ lesser_within (Some a) None s l p e = cc
 lesser_within (Some a) (Some id) s l p e =
     let same : min a id.index ≡ p = cc in let k : id.index + 1 ≤ end_place s = l in omega arith
 
--- once the missing entries are put, the log has the place up to which the request says all is committed
-pub request_within : (r : StepResult) (vote : Vote ℕ) (previous : Option (LogId ℕ)) (es : List Entry) (said : Option ℕ) → IsInOrder r.state → do_follow vote previous es ≡ true → is_held r.state.stored r.state.committed previous ≡ true
-    → EndsWithin (lesser_place said (place_of (last_sent previous es))) (put_entries (missing_entries r.state.stored (above_committed r.state.committed es)) r).state.stored
-request_within r vote previous es said o follow held =
+-- once the missing entries are put, the log goes as far as the request's
+pub request_reaches : (r : StepResult) (vote : Vote ℕ) (previous : Option (LogId ℕ)) (es : List Entry) → IsInOrder r.state → do_follow vote previous es ≡ true → is_held r.state.stored r.state.committed previous ≡ true
+    → next_place (last_sent previous es) ≤ end_place (put_entries (missing_entries r.state.stored (above_committed r.state.committed es)) r).state.stored
+request_reaches r vote previous es o follow held =
     let placed = placed_after vote es previous follow in
     let b : Begin r.state o es (next_place previous) = begin r.state o es (next_place previous) placed (previous_within r.state o previous held) in
     let missing = missing_are r.state.stored es r.state.committed (next_place previous) placed in
     let reached = put_reaches (unheld_entries r.state.stored r.state.committed es) b.start r o b.placed b.past b.within in
     let ends = ends_at es previous placed in
     let far : next_place (last_sent previous es) ≤ end_place (put_entries (unheld_entries r.state.stored r.state.committed es) r).state.stored = let reach = b.reach in omega arith in
+    subst (λ xs. next_place (last_sent previous es) ≤ end_place (put_entries xs r).state.stored) missing far
+
+-- and it has the place up to which the request says all is committed
+pub request_within : (r : StepResult) (vote : Vote ℕ) (previous : Option (LogId ℕ)) (es : List Entry) (said : Option ℕ) → IsInOrder r.state → do_follow vote previous es ≡ true → is_held r.state.stored r.state.committed previous ≡ true
+    → EndsWithin (lesser_place said (place_of (last_sent previous es))) (put_entries (missing_entries r.state.stored (above_committed r.state.committed es)) r).state.stored
+request_within r vote previous es said o follow held =
     lesser_within said (last_sent previous es) (put_entries (missing_entries r.state.stored (above_committed r.state.committed es)) r).state.stored
-    (subst (λ xs. next_place (last_sent previous es) ≤ end_place (put_entries xs r).state.stored) missing far)
+    (request_reaches r vote previous es o follow held)
+
+-- the entries leave the vote in force
+pub put_keeps_vote : (es : List Entry) (r : StepResult) → (put_entries es r).state.stored.vote ≡ r.state.stored.vote
+put_keeps_vote [] r = refl
+put_keeps_vote (e ∷ es) r = cut_keeps_vote e.log_id.index r
+
+-- ---- the log id that the log doesn't have
+
+-- once the log is cut at it, it ends there at the latest
+pub cut_before : (r : StepResult) (previous : Option (LogId ℕ)) → IsInOrder r.state → is_held r.state.stored r.state.committed previous ≡ false → EndsBefore previous (cut_at previous r).state.stored
+cut_before r None o h = cc h
+cut_before r (Some id) o h = by_within (is_within id.index r.state.committed) refl
+  where
+    by_within : (b : Bool) → is_within id.index r.state.committed ≡ b → end_place (cut_from id.index r).state.stored ≤ id.index
+    by_within true f = let no : true ≡ false = ap (λ b. b || has_id_in_log r.state.stored id) (sym f) ∙ h in cc no
+    by_within false f =
+        by_order id.index (end_place r.state.stored)
+        (λ m. let at : end_place (cut_from id.index r).state.stored ≡ id.index = cut_ends r id.index o f (omega arith) in omega arith)
+        (λ m. let none : is_some (entry_at r.state.stored id.index) ≡ false = none_behind r.state.stored id.index m in rw none m)
+
+pub cut_at_keeps_vote : (previous : Option (LogId ℕ)) (r : StepResult) → (cut_at previous r).state.stored.vote ≡ r.state.stored.vote
+cut_at_keeps_vote None r = refl
+cut_at_keeps_vote (Some id) r = cut_keeps_vote id.index r

@@ -25,6 +25,9 @@ use Rattle.raft_engine.proofs.CommandLemmas.{at_once_more, numbers_kept, sends_s
 use Rattle.raft_engine.proofs.CommittingLemmas.{moves_kept}
 use Rattle.raft_engine.proofs.NewLeadLemmas.{room_at_start}
 use Rattle.raft_engine.proofs.StandingLemmas.{order_kept}
+use Rattle.raft_engine.specs.Standing.{basis_before}
+use Rattle.raft_engine.specs.Turns.{MayLead, Turns, turns_in}
+use Rattle.raft_engine.proofs.OrderingLemmas.{rests_kept}
 
 -- a follower doesn't stand
 pub stands_nowhere : (own : ℕ) (l : Option (LeaderValue ℕ EffectiveMembership)) (c : Option (CandidateValue ℕ EffectiveMembership)) (s : StoredGroup) (role : Role)
@@ -35,9 +38,9 @@ stands_nowhere own (Some l) (Some c) s role e h = absurd (subst (PlaysRole own (
 
 module _ {C R : Type 0} (x : Given) (own : ℕ) (e e' : Engine C R) (r : StepResult) (step : IsStepOf x own e r) (l : LeaderValue ℕ EffectiveMembership) where
   -- the lead begins, and nothing is stored
-  pub lead_resumed : e'.config ≡ e.config → e'.seen_greater_log ≡ e.seen_greater_log → e'.leader ≡ Some l → e'.candidate ≡ None → e'.state ≡ e.state → e'.output ≡ record e.output { queue = e.output.queue ++ BecomeLeader ∷ [] }
+  pub lead_resumed : e.output.queue ≡ [] → x.turn_before ≡ MayLead → r.state.role ≡ Follower → e'.config ≡ e.config → e'.seen_greater_log ≡ e.seen_greater_log → e'.leader ≡ Some l → e'.candidate ≡ None → e'.state ≡ e.state → e'.output ≡ record e.output { queue = e.output.queue ++ BecomeLeader ∷ [] }
       → Leads own l r.state.stored (new_lead r.state.stored) → IsStepOf x own e' (in_role (Leader (new_lead r.state.stored)) r)
-  lead_resumed config seen leader candidate state output leads =
+  lead_resumed empty turn follows config seen leader candidate state output leads =
       let old = step.state in
       let queue = ap (λ (o : Output C (List ℕ) R ℕ (List ℕ)). o.queue) output in
       let s = r.state.stored in
@@ -59,6 +62,8 @@ module _ {C R : Type 0} (x : Given) (own : ℕ) (e e' : Engine C R) (r : StepRes
         numbers = numbers_kept x.last_sm_seq e.output e'.output BecomeLeader step.numbers output refl;
         moves = moves_kept x.committed_before e.state.state.committed e'.state.state.committed e.output.queue e'.output.queue step.moves BecomeLeader queue refl (ap (λ (y : KnownState). y.state.committed) state);
         at_once = at_once_more e.output.queue BecomeLeader e'.output.queue queue step.at_once tt;
+        rests = rests_kept own x.snapshot (basis_before x) e.output.queue e'.output.queue r.state.stored e.state.state.committed step.rests BecomeLeader (leads.is_own, leads.committed) queue e'.state.state.committed refl refl (ap (λ (y : KnownState). y.state.committed) state);
+        turns = subst (λ q. Turns x.turn_before (turns_in q) true) (sym (queue ∙ ap (λ q. q ++ BecomeLeader ∷ []) empty)) (turn, refl);
       }
 
 -- ---- whose vote it is

@@ -26,6 +26,7 @@ below_by_node a b e l =
 
 -- of two votes that aren't below one another
 pub record AreLevel (a b : Vote ℕ) : Type 0 where
+  pub term : a.leader_id.term ≡ b.leader_id.term
   pub node : a.leader_id.node_id ≡ b.leader_id.node_id
   pub committed : a.committed ≡ b.committed
 
@@ -33,7 +34,7 @@ pub are_level : (a b : Vote ℕ) → vote_lt a b ≡ false → vote_lt b a ≡ f
 are_level a b h k =
     ⊎_elim
     (λ e. ⊎_elim
-    (λ f. record { node = f; committed = flags a.committed b.committed (sym (of_one_leader a b e f) ∙ h) (sym (of_one_leader b a (sym e) (sym f)) ∙ k) })
+    (λ f. record { term = e; node = f; committed = flags a.committed b.committed (sym (of_one_leader a b e f) ∙ h) (sym (of_one_leader b a (sym e) (sym f)) ∙ k) })
     (⊎_elim (λ l. absurd (both_ways (vote_lt a b) h (below_by_node a b e l))) (λ l. absurd (both_ways (vote_lt b a) k (below_by_node b a (sym e) l))))
     (cases_order a.leader_id.node_id b.leader_id.node_id))
     (⊎_elim (λ l. absurd (both_ways (vote_lt a b) h (below_by_term a b l))) (λ l. absurd (both_ways (vote_lt b a) k (below_by_term b a l))))
@@ -72,3 +73,13 @@ not_below_after vote r no_lower = by_test (vote_lt r.state.stored.vote vote)
     by_test : (b : Bool) → vote_lt vote (if b then store_vote vote (step_down r) else renew r).state.stored.vote ≡ false
     by_test true = not_below_itself vote
     by_test false = no_lower
+
+-- and it is in force itself
+pub in_force_after : (vote : Vote ℕ) (r : StepResult) → vote_lt vote r.state.stored.vote ≡ false → (take_over vote r).state.stored.vote ≡ vote
+in_force_after vote r no_lower = by_test (vote_lt r.state.stored.vote vote) refl
+  where
+    by_test : (b : Bool) → vote_lt r.state.stored.vote vote ≡ b → (if b then store_vote vote (step_down r) else renew r).state.stored.vote ≡ vote
+    by_test true f = refl
+    by_test false f =
+        let level = are_level r.state.stored.vote vote f no_lower in
+        ap₂ (λ l c. record { leader_id = l; committed = c }) (ap₂ (λ t n. record { term = t; node_id = n }) level.term level.node) level.committed

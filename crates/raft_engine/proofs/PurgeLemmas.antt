@@ -31,6 +31,10 @@ use Rattle.raft_engine.proofs.CommandLemmas.{at_once_more, numbers_kept, sends_s
 use Rattle.raft_engine.proofs.CommittingLemmas.{moves_kept}
 use Rattle.raft_engine.proofs.StandingLemmas.{order_kept}
 use Rattle.raft_engine.proofs.PlacedEntries.{HasEntry, dropped, has_entry, get_of_dropped}
+use Rattle.raft_engine.specs.Standing.{basis_before}
+use Rattle.raft_engine.proofs.OrderingLemmas.{rests_stored}
+use Rattle.raft_engine.proofs.TurnLemmas.{turns_kept}
+use Rattle.raft_group_step.specs.GroupState.{is_leader}
 
 -- ---- the part that a node plays
 
@@ -209,6 +213,8 @@ module _ {C R : Type 0} (x : Given) (own : ℕ) (e e' : Engine C R) (r : StepRes
         numbers = numbers_kept x.last_sm_seq e.output e'.output (PurgeLog upto) step.numbers output refl;
         moves = moves_kept x.committed_before e.state.state.committed e'.state.state.committed e.output.queue e'.output.queue step.moves (PurgeLog upto) queue refl rest.committed;
         at_once = at_once_more e.output.queue (PurgeLog upto) e'.output.queue queue step.at_once tt;
+        rests = rests_stored own x.snapshot (basis_before x) e.output.queue e'.output.queue r.state.stored e.state.state.committed step.rests (PurgeLog upto) covered queue e'.state.state.committed (RemoveUpTo upto) refl refl rest.committed;
+        turns = turns_kept x.turn_before e.output.queue e'.output.queue (is_leader r.state.role) step.turns (PurgeLog upto) queue refl;
       } in
       subst (IsStepOf x own e') (ap (λ found. remove_up_to found r) (sym entrys.there)) purges
 
@@ -268,6 +274,8 @@ wished x own e e' r step wish upto same is =
       numbers = step.numbers;
       moves = step.moves;
       at_once = step.at_once;
+      rests = step.rests;
+      turns = step.turns;
     } in
     subst (λ y. IsStepOf x own y (with_wish wish r)) (sym same) other
 

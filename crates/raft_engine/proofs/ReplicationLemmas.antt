@@ -47,6 +47,12 @@ use Rattle.raft_engine.specs.Sending.{HasPeer, HasRoomFor, NumbersLeft, request_
 use Rattle.raft_engine.proofs.PeersLemmas.{busy_has, some_outstanding, leads-set, none_outstanding}
 use Rattle.raft_engine.proofs.SendingLemmas.{request-sent, sent_as}
 use Rattle.raft_engine.proofs.StandingLemmas.{order_kept}
+use Rattle.raft_engine.specs.Standing.{basis_before, basis_of}
+use Rattle.raft_engine.specs.Ordering.{IsStoredRequest, RestsOn}
+use Rattle.raft_engine.specs.Turns.{Turns, turns_in, turns_of}
+use Rattle.raft_engine.proofs.OrderingLemmas.{rests_kept, rests_same}
+use Rattle.raft_engine.proofs.TurnLemmas.{turns_kept, turns_same}
+use Rattle.raft_group_step.specs.GroupState.{is_leader}
 
 -- one that leads is no candidate
 pub leads-alone : (own : ℕ) (l : LeaderValue ℕ EffectiveMembership) (c : Option (CandidateValue ℕ EffectiveMembership)) (s : StoredGroup) (role : Role) (lead : Lead)
@@ -121,9 +127,9 @@ module _ {C R : Type 0} (own : ℕ) (e e' : Engine C R) (s : GroupState) where
 
 module _ {C R : Type 0} (x : Given) (own : ℕ) (e e' : Engine C R) (r : StepResult) where
   -- what is known of a peer changes, and nothing is stored or sent
-  pub known_step : IsStepOf x own e r → (p : PeerState) (lead : Lead) → IsStateOf own e' (with_known p lead r.state) → e'.output ≡ e.output → e'.seen_greater_log ≡ e.seen_greater_log
+  pub known_step : IsStepOf x own e r → (p : PeerState) (lead : Lead) → r.state.role ≡ Leader lead → IsStateOf own e' (with_known p lead r.state) → e'.output ≡ e.output → e'.seen_greater_log ≡ e.seen_greater_log
       → IsStepOf x own e' (with_peer_state p lead r)
-  known_step step p lead state output seen = record {
+  known_step step p lead is_lead state output seen = record {
     state = state;
     stores = ap (λ (o : Output C (List ℕ) R ℕ (List ℕ)). stored_by x.snapshot o.queue) output ∙ step.stores;
     sends = λ s upto. ap (λ (o : Output C (List ℕ) R ℕ (List ℕ)). sent_by own s upto o.queue) output ∙ step.sends s upto;
@@ -131,14 +137,16 @@ module _ {C R : Type 0} (x : Given) (own : ℕ) (e e' : Engine C R) (r : StepRes
     numbers = subst (NumbersFollow x.last_sm_seq) (sym output) step.numbers;
     moves = moves_same x.committed_before e.state.state.committed e'.state.state.committed e.output.queue e'.output.queue step.moves (ap (λ (o : Output C (List ℕ) R ℕ (List ℕ)). o.queue) output) (state.committed ∙ sym step.state.committed);
     at_once = subst (λ (o : Output C (List ℕ) R ℕ (List ℕ)). All NeedsNoOther o.queue) (sym output) step.at_once;
+    rests = rests_same own x.snapshot (basis_before x) e.output.queue e'.output.queue r.state.stored e.state.state.committed step.rests e'.state.state.committed (ap (λ (o : Output C (List ℕ) R ℕ (List ℕ)). o.queue) output) (state.committed ∙ sym step.state.committed);
+    turns = turns_same x.turn_before e.output.queue e'.output.queue (is_leader r.state.role) step.turns true (ap (λ (o : Output C (List ℕ) R ℕ (List ℕ)). o.queue) output) (sym (ap is_leader is_lead));
   }
 
   -- something leaves behind the rest, by what is stored and committed at the end
   pub whole_sent : IsWholeStepOf x own e r → (c : Command C R) (more : List Message) → IsStateOf own e' r.state → e'.seen_greater_log ≡ e.seen_greater_log
       → e'.state ≡ e.state
-      → e'.output ≡ record e.output { queue = e.output.queue ++ c ∷ [] } → storing_of x.snapshot c ≡ [] → number_in c ≡ [] → NeedsNoOther c → sending_of own r.state.stored (committed_id r.state) c ≡ more
+      → e'.output ≡ record e.output { queue = e.output.queue ++ c ∷ [] } → storing_of x.snapshot c ≡ [] → number_in c ≡ [] → NeedsNoOther c → RestsOn own (basis_of e r.state) c → turns_of c ≡ [] → sending_of own r.state.stored (committed_id r.state) c ≡ more
       → IsWholeStepOf x own e' (record r { messages = r.messages ++ more })
-  whole_sent step c more state seen same output none silent needs sends = record {
+  whole_sent step c more state seen same output none silent needs on turnless sends = record {
     state = state;
     stores = ap (λ q. flat_map (storing_of x.snapshot) q) (ap (λ (o : Output C (List ℕ) R ℕ (List ℕ)). o.queue) output) ∙ stores_same e.output.queue c x.snapshot r.commands step.stores none;
     sends = ap (λ q. flat_map (sending_of own r.state.stored (committed_id r.state)) q) (ap (λ (o : Output C (List ℕ) R ℕ (List ℕ)). o.queue) output)
@@ -147,15 +155,17 @@ module _ {C R : Type 0} (x : Given) (own : ℕ) (e e' : Engine C R) (r : StepRes
     numbers = numbers_kept x.last_sm_seq e.output e'.output c step.numbers output silent;
     moves = moves_kept x.committed_before e.state.state.committed e'.state.state.committed e.output.queue e'.output.queue step.moves c (ap (λ (o : Output C (List ℕ) R ℕ (List ℕ)). o.queue) output) (unmoved c silent) (state.committed ∙ sym step.state.committed);
     at_once = at_once_more e.output.queue c e'.output.queue (ap (λ (o : Output C (List ℕ) R ℕ (List ℕ)). o.queue) output) step.at_once needs;
+    rests = rests_kept own x.snapshot (basis_before x) e.output.queue e'.output.queue r.state.stored e.state.state.committed step.rests c on (ap (λ (o : Output C (List ℕ) R ℕ (List ℕ)). o.queue) output) e'.state.state.committed none silent (state.committed ∙ sym step.state.committed);
+    turns = turns_kept x.turn_before e.output.queue e'.output.queue (is_leader r.state.role) step.turns c (ap (λ (o : Output C (List ℕ) R ℕ (List ℕ)). o.queue) output) turnless;
     part = ap (λ (y : KnownState). y.state.server_state) same ∙ step.part;
   }
 
   -- and what is known of a peer changes with it
-  pub whole_known : IsWholeStepOf x own e r → (p : PeerState) (lead : Lead) (c : Command C R) (more : List Message) → IsStateOf own e' (with_known p lead r.state) → e'.seen_greater_log ≡ e.seen_greater_log
-      → e'.state ≡ e.state → r.state.role ≡ Leader lead
-      → e'.output ≡ record e.output { queue = e.output.queue ++ c ∷ [] } → storing_of x.snapshot c ≡ [] → number_in c ≡ [] → NeedsNoOther c → sending_of own r.state.stored (committed_id r.state) c ≡ more
+  pub whole_known : IsWholeStepOf x own e r → (p : PeerState) (lead : Lead) (c : Command C R) (more : List Message) → r.state.role ≡ Leader lead → IsStateOf own e' (with_known p lead r.state) → e'.seen_greater_log ≡ e.seen_greater_log
+      → e'.state ≡ e.state
+      → e'.output ≡ record e.output { queue = e.output.queue ++ c ∷ [] } → storing_of x.snapshot c ≡ [] → number_in c ≡ [] → NeedsNoOther c → RestsOn own (basis_of e r.state) c → turns_of c ≡ [] → sending_of own r.state.stored (committed_id r.state) c ≡ more
       → IsWholeStepOf x own e' (with_peer_state p lead (record r { messages = r.messages ++ more }))
-  whole_known step p lead c more state seen same is_lead output none silent needs sends = record {
+  whole_known step p lead c more is_lead state seen same output none silent needs on turnless sends = record {
     state = state;
     stores = ap (λ q. flat_map (storing_of x.snapshot) q) (ap (λ (o : Output C (List ℕ) R ℕ (List ℕ)). o.queue) output) ∙ stores_same e.output.queue c x.snapshot r.commands step.stores none;
     sends = ap (λ q. flat_map (sending_of own r.state.stored (committed_id r.state)) q) (ap (λ (o : Output C (List ℕ) R ℕ (List ℕ)). o.queue) output)
@@ -165,6 +175,8 @@ module _ {C R : Type 0} (x : Given) (own : ℕ) (e e' : Engine C R) (r : StepRes
     moves = moves_kept x.committed_before e.state.state.committed e'.state.state.committed e.output.queue e'.output.queue step.moves c (ap (λ (o : Output C (List ℕ) R ℕ (List ℕ)). o.queue) output) (unmoved c silent) (state.committed ∙ sym step.state.committed);
     at_once = at_once_more e.output.queue c e'.output.queue (ap (λ (o : Output C (List ℕ) R ℕ (List ℕ)). o.queue) output) step.at_once needs;
     part = ap (λ (y : KnownState). y.state.server_state) same ∙ step.part ∙ ap (λ role. part_in role (is_voter_in (membership_in_force r.state.stored) own)) is_lead;
+    rests = rests_kept own x.snapshot (basis_before x) e.output.queue e'.output.queue r.state.stored e.state.state.committed step.rests c on (ap (λ (o : Output C (List ℕ) R ℕ (List ℕ)). o.queue) output) e'.state.state.committed none silent (state.committed ∙ sym step.state.committed);
+    turns = subst (λ b. Turns x.turn_before (turns_in e'.output.queue) b) (ap is_leader is_lead) (turns_kept x.turn_before e.output.queue e'.output.queue (is_leader r.state.role) step.turns c (ap (λ (o : Output C (List ℕ) R ℕ (List ℕ)). o.queue) output) turnless);
   }
 
 -- ---- notices
@@ -192,11 +204,11 @@ by_no_lead P f g own (Some c) s (Leader lead) h = absurd h
 
 -- a request leaves, and the peer's entry waits for its answer
 pub requested : {C R : Type 0} (x : Given) (own : ℕ) (e e1 e' : Engine C R) (r : StepResult) (n : ℕ) (lead : Lead) (entry : ProgressEntry ℕ) (id : ℕ) (req : Inflight ℕ)
-    → IsWholeStepOf x own e r → r.state.role ≡ Leader lead → e1.state ≡ e.state → peer_of lead n ≡ peer_state n entry → id ≡ entry.curr_inflight_id + 1 → req ≡ request_for r.state.stored (peer_state n entry) r.state.stored.snapshot
+    → IsWholeStepOf x own e r → r.state.role ≡ Leader lead → e1.state ≡ e.state → IsStoredRequest r.state.stored req → peer_of lead n ≡ peer_state n entry → id ≡ entry.curr_inflight_id + 1 → req ≡ request_for r.state.stored (peer_state n entry) r.state.stored.snapshot
     → IsStateOf own e1 (with_known (peer_state n (record entry { curr_inflight_id = id; inflight = req })) lead r.state) → e1.output ≡ e.output → e'.seen_greater_log ≡ e.seen_greater_log
     → e'.config ≡ e1.config → e'.leader ≡ e1.leader → e'.candidate ≡ e1.candidate → e'.state ≡ e1.state → e'.output ≡ record e1.output { queue = e1.output.queue ++ Replicate n req ∷ [] }
     → IsWholeStepOf x own e' (send_request own (peer_of lead n) lead r.state.stored.snapshot r)
-requested {C} {R} x own e e1 e' r n lead entry id req step is_lead same peer number request state output seen config leader candidate known pushed =
+requested {C} {R} x own e e1 e' r n lead entry id req step is_lead same whole peer number request state output seen config leader candidate known pushed =
     let s = r.state.stored in
     let next = request_for s (peer_state n entry) s.snapshot in
     let waits : record entry { curr_inflight_id = id; inflight = req } ≡ waiting_for entry next =
@@ -206,9 +218,9 @@ requested {C} {R} x own e e1 e' r n lead entry id req step is_lead same peer num
     let all : send_request own (peer_of lead n) lead s.snapshot r ≡ sent_as own n entry lead r next =
     ap (λ p. send_request own p lead s.snapshot r) peer ∙ request-sent own n entry lead r s.snapshot step.state.order.placed refl in
     subst (IsWholeStepOf x own e') (sym all)
-    (whole_known x own e e' r step (peer_state n (waiting_for entry next)) lead (Replicate n req) (request_to own s (committed_id r.state) n next)
+    (whole_known x own e e' r step (peer_state n (waiting_for entry next)) lead (Replicate n req) (request_to own s (committed_id r.state) n next) is_lead
     (same_state own e1 e' (with_known (peer_state n (waiting_for entry next)) lead r.state) done config leader candidate known)
-    seen (known ∙ same) is_lead (pushed ∙ ap (λ (o : Output C (List ℕ) R ℕ (List ℕ)). record o { queue = o.queue ++ Replicate n req ∷ [] }) output) refl refl tt (ap (request_to own s (committed_id r.state) n) request))
+    seen (known ∙ same) (pushed ∙ ap (λ (o : Output C (List ℕ) R ℕ (List ℕ)). record o { queue = o.queue ++ Replicate n req ∷ [] }) output) refl refl tt whole refl (ap (request_to own s (committed_id r.state) n) request))
 
 -- how a peer of a leader is served
 pub served : (own n : ℕ) (news busy : Bool) (lead : Lead) (role : Role) (entry : ProgressEntry ℕ) (r : StepResult) → role ≡ Leader lead → peer_of lead n ≡ peer_state n entry

@@ -1,5 +1,5 @@
 -- Which entries go to a peer, by the log ids before and at their end.
-use Rattle.std.specs.Prelude.{◌≡◌, ℕ, zero, suc, ◌+◌, ◌-◌, ◌<◌, ◌≤◌, ◌==◌, min, nat_lt, true, false, if◌then◌else◌, List, [], ◌∷◌, ◌++◌, length, take, drop, Option, Some, None, refl}
+use Rattle.std.specs.Prelude.{◌≡◌, ℕ, zero, suc, ◌+◌, ◌-◌, ◌<◌, ◌≤◌, ◌==◌, min, nat_lt, true, false, if◌then◌else◌, List, [], ◌∷◌, ◌++◌, length, take, drop, Option, Some, None, option_map, refl}
 use Rattle.std.specs.List.{slice_get}
 use Rattle.std.proofs.Common.{ap, sym, ◌∙◌, subst, arith}
 use Rattle.std.proofs.lemmas.Bool.Decides.{nat_tests}
@@ -28,7 +28,8 @@ use Rattle.raft_group_step.specs.Frames.{committed_id, entries_in_request, reque
 use Rattle.raft_known_state.specs.KnownState.{meta_of}
 use Rattle.raft_engine.specs.Standing.{peer_state}
 use Rattle.raft_engine.specs.Sending.{logs_for, request_for, waiting_for}
-use Rattle.raft_engine.proofs.PlacedEntries.{dropped, found_at, get_of_dropped, taken}
+use Rattle.raft_engine.specs.Ordering.{IsStoredRequest}
+use Rattle.raft_engine.proofs.PlacedEntries.{dropped, found_at, get_of_dropped, some_within, taken}
 
 -- ---- entries at their places
 
@@ -130,6 +131,35 @@ module _ (s : StoredGroup) (start n : ℕ) (l : first_place s ≤ start) where
   none-sent m =
       let none : drop (start - first_place s) s.log ≡ [] = drop_all (start - first_place s) s.log (omega arith) in
       sym (ap (last_sent (id_before s start)) (ap (take n) none ∙ take_all n [] (omega arith)))
+
+-- and what is sent is stored
+pub sent-stored : (s : StoredGroup) (start n : ℕ) → IsPlaced s → first_place s ≤ start
+    → next_place (last_sent (id_before s start) (take n (drop (start - first_place s) s.log))) ≤ end_place s
+sent-stored s start n p l =
+    by_order (end_place s) start
+    (λ m. subst (λ id. next_place id ≤ end_place s) (none-sent s start n l (omega arith)) (nothing (slice_get s.log (start - 1 - first_place s)) refl m))
+    (λ m.
+    let before : next_place (id_before s start) ≡ start = next_before s start p l m in
+    let here : first_place s + (start - first_place s) ≡ start = omega arith in
+    let rest = drop (start - first_place s) s.log in
+    let placed : ArePlaced start rest = subst (λ k. ArePlaced k rest) here (dropped s.log (first_place s) (start - first_place s) p) in
+    let after : next_place (last_sent (id_before s start) (take n rest)) ≡ start + length (take n rest) = next_sent (take n rest) start (id_before s start) (taken rest start n placed) before in
+    let all : length rest ≡ length s.log - (start - first_place s) = length-drop (start - first_place s) s.log in
+    omega (arith, length-take n rest))
+  where
+    nothing : (e : Option Entry) → slice_get s.log (start - 1 - first_place s) ≡ e → end_place s < start → next_place (id_before s start) ≤ end_place s
+    nothing None f m =
+        let none : id_before s start ≡ None = before-entry s start (omega arith) ∙ ap id_of f in subst (λ id. next_place id ≤ end_place s) (sym none) (omega arith)
+    nothing (Some e) f m = let within : start - 1 - first_place s < length s.log = some_within s.log (start - 1 - first_place s) e f in absurd (omega arith)
+
+-- a request has what is stored
+pub stored-request : (s : StoredGroup) (p : PeerState) (o : Option Snapshot) → IsPlaced s → s.snapshot ≡ o → IsStoredRequest s (request_for s p o)
+stored-request s p None placed e = sent-stored s (request_start s p) entries_in_request placed (omega arith)
+stored-request s p (Some x) placed e =
+    elim (nat_lt p.search (first_place s)) as (λ b. IsStoredRequest s (if b then SnapshotInFlight p.next_id (Some x.last) else logs_for s p)) [
+      | true ↦ sym (ap (option_map (λ (y : Snapshot). y.last)) e)
+      | false ↦ sent-stored s (request_start s p) entries_in_request placed (omega arith)
+    ]
 
 -- ---- a request as it leaves
 

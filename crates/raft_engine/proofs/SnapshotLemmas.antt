@@ -31,6 +31,13 @@ use Rattle.raft_engine.specs.Answering.{NeedsNoOther}
 use Rattle.raft_engine.proofs.StandingLemmas.{still_follows}
 use Rattle.raft_engine.proofs.PlacedEntries.{dropped}
 use Rattle.raft_engine.proofs.FollowingLemmas.{above_first, cut_ends, later_more, past_committed}
+use Rattle.raft_engine.specs.Standing.{basis_before, basis_of}
+use Rattle.raft_engine.specs.Ordering.{RestsOn, committed_by}
+use Rattle.raft_engine.specs.Turns.{turns_of}
+use Rattle.raft_engine.proofs.OrderingLemmas.{rests_pushed, rests_stored}
+use Rattle.raft_engine.proofs.TurnLemmas.{turns_kept}
+use Rattle.raft_group_step.specs.GroupState.{is_leader}
+use Rattle.raft_group_step.specs.StoredGroup.{after_storing_all}
 
 -- ---- another entry at the snapshot's place
 
@@ -80,6 +87,15 @@ cut_vote false true true at r = refl
 cut_vote false true false at r = refl
 cut_vote false false c at r = refl
 
+-- what a snapshot covers is committed once it is installed, and where it isn't all of it was
+pub install_reaches : (b : Bool) (x : Snapshot) (r : StepResult) → is_within x.last.index r.state.committed ≡ b → is_within x.last.index (install_unless b x r).state.committed ≡ true
+install_reaches true x r h = h
+install_reaches false x r h = reaches (cut_other x.last r).state.committed
+  where
+    reaches : (c : Option ℕ) → is_within x.last.index (later_place c (Some x.last.index)) ≡ true
+    reaches None = grind (arith, nat_tests)
+    reaches (Some a) = grind (arith, nat_tests)
+
 pub install_keeps_vote : (b : Bool) (x : Snapshot) (r : StepResult) → (install_unless b x r).state.stored.vote ≡ r.state.stored.vote
 install_keeps_vote true x r = refl
 install_keeps_vote false x r =
@@ -121,10 +137,10 @@ module _ {C R : Type 0} (g : Given) (own : ℕ) (e e' : Engine C R) (r : StepRes
       (dropped r.state.stored.log (first_place r.state.stored) (last.index + 1 - first_place r.state.stored) step.state.order.placed)
 
   pub installed : (k : KnownState) (c d : Command C R) → Knows k (after_snapshot g.snapshot last r.state.stored) → KeepsRest e.state k → e'.state ≡ record k { state = record k.state { committed = Some last } }
-      → e'.output ≡ record { queue = (e.output.queue ++ c ∷ []) ++ d ∷ []; last_sm_seq = following_seq e.output.last_sm_seq } → storing_of g.snapshot c ≡ SetSnapshot g.snapshot ∷ [] → storing_of g.snapshot d ≡ RemoveUpTo last ∷ [] → number_in c ≡ following_seq e.output.last_sm_seq ∷ [] → number_in d ≡ [] → moves_of c ≡ Installs (Some last) ∷ [] → NeedsNoOther c → NeedsNoOther d
+      → e'.output ≡ record { queue = (e.output.queue ++ c ∷ []) ++ d ∷ []; last_sm_seq = following_seq e.output.last_sm_seq } → storing_of g.snapshot c ≡ SetSnapshot g.snapshot ∷ [] → storing_of g.snapshot d ≡ RemoveUpTo last ∷ [] → number_in c ≡ following_seq e.output.last_sm_seq ∷ [] → number_in d ≡ [] → moves_of c ≡ Installs (Some last) ∷ [] → NeedsNoOther c → NeedsNoOther d → RestsOn own (basis_of e r.state) c → committed_by c e.state.state.committed ≡ Some last → RestsOn own (record { stored = after_storing (SetSnapshot g.snapshot) r.state.stored; committed = Some last }) d → turns_of c ≡ [] → turns_of d ≡ []
       → ((s : StoredGroup) (upto : Option (LogId ℕ)) → sending_of own s upto c ≡ []) → ((s : StoredGroup) (upto : Option (LogId ℕ)) → sending_of own s upto d ≡ [])
       → IsStepOf g own e' (apply_up_to (Some last.index) (store (RemoveUpTo last) (store (SetSnapshot g.snapshot) r)))
-  installed k c d knows keeps state output stores-c stores-d number-c number-d moves-c needs-c needs-d sends-c sends-d =
+  installed k c d knows keeps state output stores-c stores-d number-c number-d moves-c needs-c needs-d on-c commits-c on-d turnless-c turnless-d sends-c sends-d =
       let old = step.state in
       let queue = ap (λ (o : Output C (List ℕ) R ℕ (List ℕ)). o.queue) output in
       let middle : Output C (List ℕ) R ℕ (List ℕ) = record { queue = e.output.queue ++ c ∷ []; last_sm_seq = following_seq e.output.last_sm_seq } in
@@ -173,4 +189,12 @@ module _ {C R : Type 0} (g : Given) (own : ℕ) (e e' : Engine C R) (r : StepRes
             (moves_gained g.committed_before e.state.state.committed (Some last) e.output.queue middle.queue step.moves c refl (Installs (Some last)) moves-c (goes_on, refl))
             d queue (unmoved d number-d) (ap (λ (y : KnownState). y.state.committed) state);
         at_once = at_once_more middle.queue d e'.output.queue queue (at_once_more e.output.queue c middle.queue refl step.at_once needs-c) needs-d;
+        rests =
+            rests_stored own g.snapshot (basis_before g) middle.queue e'.output.queue (after_storing (SetSnapshot g.snapshot) r.state.stored) (Some last)
+            (rests_pushed own g.snapshot (basis_before g) e.output.queue middle.queue r.state.stored e.state.state.committed step.rests c on-c refl (after_storing (SetSnapshot g.snapshot) r.state.stored) (Some last)
+            (sym (ap (λ cs. after_storing_all cs r.state.stored) stores-c)) (sym commits-c))
+            d on-d queue e'.state.state.committed (RemoveUpTo last) stores-d number-d (ap (λ (y : KnownState). y.state.committed) state);
+        turns =
+            turns_kept g.turn_before middle.queue e'.output.queue (is_leader r.state.role)
+            (turns_kept g.turn_before e.output.queue middle.queue (is_leader r.state.role) step.turns c refl turnless-c) d queue turnless-d;
       }

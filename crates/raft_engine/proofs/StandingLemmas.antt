@@ -1,17 +1,17 @@
 -- What changes of an engine leave of the state and step that it stands for.
-use Rattle.std.specs.Prelude.{◌≡◌, ℕ, List, [], ◌∷◌, ◌++◌, Option, Some, None, refl}
+use Rattle.std.specs.Prelude.{◌≡◌, ℕ, List, [], ◌∷◌, ◌++◌, Option, Some, None, is_some, true, false, refl}
 use Rattle.std.proofs.Common.{ap, sym, ◌∙◌, subst}
 use Rattle.raft_values.specs.declared.vote.Vote.{Vote}
 use Rattle.raft_values.specs.declared.log_id.LogId.{LogId}
 use Rattle.raft_values.specs.LogId.{place_of}
 use Rattle.raft_state.specs.declared.raft_state.RaftState.{RaftState}
 use Rattle.raft_group_step.specs.StoredGroup.{StoredGroup, SetVote, after_storing, membership_in_force}
-use Rattle.raft_group_step.specs.GroupState.{GroupState, Role, Follower, Candidate, Leader, Untold}
-use Rattle.raft_group_step.specs.StepResult.{StepResult, store_vote, renew}
+use Rattle.raft_group_step.specs.GroupState.{GroupState, Role, Follower, Candidate, Leader, Untold, is_leader}
+use Rattle.raft_group_step.specs.StepResult.{StepResult, store_vote, renew, step_down}
 use Rattle.raft_group_step.specs.Message.{Message}
 use Rattle.raft_group_step.specs.Frames.{committed_id}
 use Rattle.raft_group_step.specs.Refusal.{is_voter_in}
-use Rattle.raft_commands.specs.declared.command.Command.TheVariants.{SaveVote}
+use Rattle.raft_commands.specs.declared.command.Command.TheVariants.{QuitLeader, SaveVote}
 use Rattle.raft_known_state.specs.KnownState.{KnownState, Knows}
 use Rattle.raft_leaders.specs.Candidate.{CandidateValue}
 use Rattle.raft_leaders.specs.Leader.{LeaderValue}
@@ -21,9 +21,13 @@ use Rattle.raft_engine.specs.ServerStates.{part_in}
 use Rattle.raft_commands.specs.Output.{Output}
 use Rattle.raft_engine.specs.Numbering.{NumbersFollow, number_in}
 use Rattle.raft_engine.specs.Commands.{Command, storing_of, sending_of, stored_by, sent_by}
-use Rattle.raft_engine.specs.Standing.{EffectiveMembership, Engine, Given, IsInOrder, IsStepOf, IsWholeStepOf, PlaysRole}
+use Rattle.raft_engine.specs.Standing.{EffectiveMembership, Engine, Given, IsInOrder, IsStateOf, IsStepOf, IsWholeStepOf, PlaysRole, basis_before, basis_of}
+use Rattle.raft_engine.specs.Ordering.{RestsOn}
+use Rattle.raft_engine.specs.Turns.{turns_of}
 use Rattle.raft_engine.proofs.CommandLemmas.{at_once_more, numbers_kept, sends_more, sends_same, stores_more, stores_same}
 use Rattle.raft_engine.proofs.CommittingLemmas.{moves_kept, moves_same, unmoved}
+use Rattle.raft_engine.proofs.OrderingLemmas.{rests_kept, rests_same, rests_stored}
+use Rattle.raft_engine.proofs.TurnLemmas.{ended_turns, led_role, turns_kept, turns_same, unled_role, voted_turns}
 
 abbrev StateOf : Type 0
 StateOf = RaftState ℕ (List ℕ) ℕ
@@ -68,6 +72,8 @@ module _ {C R : Type 0} (x : Given) (own : ℕ) (e e' : Engine C R) (r : StepRes
         numbers = numbers_kept x.last_sm_seq e.output e'.output (SaveVote vote) step.numbers output refl;
         moves = moves_kept x.committed_before e.state.state.committed e'.state.state.committed e.output.queue e'.output.queue step.moves (SaveVote vote) queue refl (ap (λ (y : StateOf). y.committed) state);
         at_once = at_once_more e.output.queue (SaveVote vote) e'.output.queue queue step.at_once tt;
+        rests = rests_stored own x.snapshot (basis_before x) e.output.queue e'.output.queue r.state.stored e.state.state.committed step.rests (SaveVote vote) tt queue e'.state.state.committed (SetVote vote) refl refl (ap (λ (y : StateOf). y.committed) state);
+        turns = voted_turns x.turn_before e.output.queue e'.output.queue (is_leader r.state.role) step.turns (SaveVote vote) queue refl (ap is_leader follows);
       }
 
   -- the vote in force is heard of at this moment
@@ -100,13 +106,15 @@ module _ {C R : Type 0} (x : Given) (own : ℕ) (e e' : Engine C R) (r : StepRes
             moves_same x.committed_before e.state.state.committed e'.state.state.committed e.output.queue e'.output.queue step.moves
             (ap (λ (o : Output C (List ℕ) R ℕ (List ℕ)). o.queue) output) (ap (λ (y : KnownState). y.state.committed) state);
         at_once = subst (λ (o : Output C (List ℕ) R ℕ (List ℕ)). All NeedsNoOther o.queue) (sym output) step.at_once;
+        rests = rests_same own x.snapshot (basis_before x) e.output.queue e'.output.queue r.state.stored e.state.state.committed step.rests e'.state.state.committed (ap (λ (o : Output C (List ℕ) R ℕ (List ℕ)). o.queue) output) (ap (λ (y : KnownState). y.state.committed) state);
+        turns = turns_same x.turn_before e.output.queue e'.output.queue (is_leader r.state.role) step.turns (is_leader r.state.role) (ap (λ (o : Output C (List ℕ) R ℕ (List ℕ)). o.queue) output) refl;
       }
 
   -- what is sent and stores nothing goes behind the rest
   pub sent_more : (c : Command C R) (more : List Message) → e'.config ≡ e.config → e'.seen_greater_log ≡ e.seen_greater_log → e'.leader ≡ e.leader → e'.candidate ≡ e.candidate → e'.state ≡ e.state
-      → e'.output ≡ record e.output { queue = e.output.queue ++ c ∷ [] } → storing_of x.snapshot c ≡ [] → number_in c ≡ [] → NeedsNoOther c → ((s : StoredGroup) (upto : Option (LogId ℕ)) → sending_of own s upto c ≡ more)
+      → e'.output ≡ record e.output { queue = e.output.queue ++ c ∷ [] } → storing_of x.snapshot c ≡ [] → number_in c ≡ [] → NeedsNoOther c → RestsOn own (basis_of e r.state) c → turns_of c ≡ [] → ((s : StoredGroup) (upto : Option (LogId ℕ)) → sending_of own s upto c ≡ more)
       → IsStepOf x own e' (record r { messages = r.messages ++ more })
-  sent_more c more config seen leader candidate state output none silent needs sends =
+  sent_more c more config seen leader candidate state output none silent needs on turnless sends =
       let old = step.state in
       let queue = ap (λ (o : Output C (List ℕ) R ℕ (List ℕ)). o.queue) output in
       record {
@@ -125,17 +133,82 @@ module _ {C R : Type 0} (x : Given) (own : ℕ) (e e' : Engine C R) (r : StepRes
         numbers = numbers_kept x.last_sm_seq e.output e'.output c step.numbers output silent;
         moves = moves_kept x.committed_before e.state.state.committed e'.state.state.committed e.output.queue e'.output.queue step.moves c queue (unmoved c silent) (ap (λ (y : KnownState). y.state.committed) state);
         at_once = at_once_more e.output.queue c e'.output.queue queue step.at_once needs;
+        rests = rests_kept own x.snapshot (basis_before x) e.output.queue e'.output.queue r.state.stored e.state.state.committed step.rests c on queue e'.state.state.committed none silent (ap (λ (y : KnownState). y.state.committed) state);
+        turns = turns_kept x.turn_before e.output.queue e'.output.queue (is_leader r.state.role) step.turns c queue turnless;
       }
 
+module _ {C R : Type 0} (x : Given) (own : ℕ) (e e' : Engine C R) (r : StepResult) (step : IsStepOf x own e r) (config : e'.config ≡ e.config) (seen : e'.seen_greater_log ≡ e.seen_greater_log)
+    (leader : e'.leader ≡ None) (candidate : e'.candidate ≡ None) (state : e'.state ≡ record e.state { state = record e.state.state { purge_upto = None } }) where
+  -- a node that follows from now on
+  follows_now : IsStateOf own e' (step_down r).state
+  follows_now =
+      let old = step.state in
+      record {
+        config = config ∙ old.config;
+        knows = record {
+          vote = ap (λ (y : KnownState). y.state.vote.value) state ∙ old.knows.vote;
+          ids = ap (λ (y : KnownState). y.state.log_ids) state ∙ old.knows.ids;
+          purged = ap (λ (y : KnownState). y.state.purged_next) state ∙ old.knows.purged;
+          snapshot = ap (λ (y : KnownState). y.state.snapshot_meta) state ∙ old.knows.snapshot;
+          memberships = ap (λ (y : KnownState). y.memberships.items) state ∙ old.knows.memberships;
+          in_force = ap (λ (y : KnownState). y.state.membership_state.effective) state ∙ old.knows.in_force;
+        };
+        renewed = ap (λ (y : KnownState). y.state.vote.utime) state ∙ old.renewed;
+        committed = ap (λ (y : KnownState). y.state.committed) state ∙ old.committed;
+        wish = ap (λ (y : KnownState). place_of y.state.purge_upto) state;
+        role = subst (λ l. PlaysRole own l e'.candidate r.state.stored Follower) (sym leader) (subst (λ c. PlaysRole own None c r.state.stored Follower) (sym candidate) tt);
+        order = order_kept r.state r.state.stored.vote r.state.now Follower r.state.renewed None [] old.order;
+      }
+
+  -- one that didn't lead tells of nothing
+  pub stepped_down : is_some e.leader ≡ false → e'.output ≡ e.output → IsStepOf x own e' (step_down r)
+  stepped_down none output =
+      let queue = ap (λ (o : Output C (List ℕ) R ℕ (List ℕ)). o.queue) output in
+      record {
+        state = follows_now;
+        stores = ap (λ q. stored_by x.snapshot q) queue ∙ step.stores;
+        sends = λ s upto. ap (λ q. sent_by own s upto q) queue ∙ step.sends s upto;
+        seen = seen ∙ step.seen;
+        numbers = subst (NumbersFollow x.last_sm_seq) (sym output) step.numbers;
+        moves = moves_same x.committed_before e.state.state.committed e'.state.state.committed e.output.queue e'.output.queue step.moves queue (ap (λ (y : KnownState). y.state.committed) state);
+        at_once = subst (λ q. All NeedsNoOther q) (sym queue) step.at_once;
+        rests = rests_same own x.snapshot (basis_before x) e.output.queue e'.output.queue r.state.stored e.state.state.committed step.rests e'.state.state.committed queue (ap (λ (y : KnownState). y.state.committed) state);
+        turns = turns_same x.turn_before e.output.queue e'.output.queue (is_leader r.state.role) step.turns false queue (sym (role_without e.leader step.state.role none));
+      }
+    where
+      role_without : (l : Option (LeaderValue ℕ EffectiveMembership)) → PlaysRole own l e.candidate r.state.stored r.state.role → is_some l ≡ false → is_leader r.state.role ≡ false
+      role_without None plays h = unled_role own e.candidate r.state.stored r.state.role plays
+      role_without (Some l) plays h = cc h
+
+  -- one that led tells that its lead has ended
+  pub lead_ended : is_some e.leader ≡ true → e'.output ≡ record e.output { queue = e.output.queue ++ QuitLeader ∷ [] } → IsStepOf x own e' (step_down r)
+  lead_ended some output =
+      let queue = ap (λ (o : Output C (List ℕ) R ℕ (List ℕ)). o.queue) output in
+      record {
+        state = follows_now;
+        stores = ap (λ q. flat_map (storing_of x.snapshot) q) queue ∙ stores_same e.output.queue QuitLeader x.snapshot r.commands step.stores refl;
+        sends = λ s upto. ap (λ q. flat_map (sending_of own s upto) q) queue ∙ sends_same e.output.queue QuitLeader own s upto r.messages (step.sends s upto) refl;
+        seen = seen ∙ step.seen;
+        numbers = numbers_kept x.last_sm_seq e.output e'.output QuitLeader step.numbers output refl;
+        moves = moves_kept x.committed_before e.state.state.committed e'.state.state.committed e.output.queue e'.output.queue step.moves QuitLeader queue refl (ap (λ (y : KnownState). y.state.committed) state);
+        at_once = at_once_more e.output.queue QuitLeader e'.output.queue queue step.at_once tt;
+        rests = rests_kept own x.snapshot (basis_before x) e.output.queue e'.output.queue r.state.stored e.state.state.committed step.rests QuitLeader tt queue e'.state.state.committed refl refl (ap (λ (y : KnownState). y.state.committed) state);
+        turns = ended_turns x.turn_before e.output.queue e'.output.queue (is_leader r.state.role) step.turns queue (role_with e.leader step.state.role some);
+      }
+    where
+      role_with : (l : Option (LeaderValue ℕ EffectiveMembership)) → PlaysRole own l e.candidate r.state.stored r.state.role → is_some l ≡ true → is_leader r.state.role ≡ true
+      role_with None plays h = cc h
+      role_with (Some l) plays h = led_role own l e.candidate r.state.stored r.state.role plays
+
 -- the same queue with a message more
-pub queued : {C R : Type 0} (x : Given) (own : ℕ) (e : Engine C R) (r : StepResult) (c : Command C R) (more : List Message) → IsStepOf x own e r → storing_of x.snapshot c ≡ [] → number_in c ≡ [] → NeedsNoOther c
+pub queued : {C R : Type 0} (x : Given) (own : ℕ) (e : Engine C R) (r : StepResult) (c : Command C R) (more : List Message) → IsStepOf x own e r → storing_of x.snapshot c ≡ [] → number_in c ≡ [] → NeedsNoOther c → RestsOn own (basis_of e r.state) c → turns_of c ≡ []
     → ((s : StoredGroup) (upto : Option (LogId ℕ)) → sending_of own s upto c ≡ more)
     → IsStepOf x own (record e { output = record e.output { queue = e.output.queue ++ c ∷ [] } }) (record r { messages = r.messages ++ more })
-queued x own e r c more step none silent needs sends =
-    sent_more x own e (record e { output = record e.output { queue = e.output.queue ++ c ∷ [] } }) r step c more refl refl refl refl refl refl none silent needs sends
+queued x own e r c more step none silent needs on turnless sends =
+    sent_more x own e (record e { output = record e.output { queue = e.output.queue ++ c ∷ [] } }) r step c more refl refl refl refl refl refl none silent needs on turnless sends
 
 -- a step whose messages have what is stored later has what is stored now
 pub step_as_whole : {C R : Type 0} (x : Given) (own : ℕ) (e : Engine C R) (r : StepResult) → IsStepOf x own e r
     → e.state.state.server_state ≡ part_in r.state.role (is_voter_in (membership_in_force r.state.stored) own) → IsWholeStepOf x own e r
 step_as_whole x own e r step part =
-    record { state = step.state; stores = step.stores; sends = step.sends r.state.stored (committed_id r.state); seen = step.seen; numbers = step.numbers; moves = step.moves; at_once = step.at_once; part = part }
+    record { state = step.state; stores = step.stores; sends = step.sends r.state.stored (committed_id r.state); seen = step.seen; numbers = step.numbers; moves = step.moves; at_once = step.at_once; rests = step.rests; turns = step.turns; part = part }

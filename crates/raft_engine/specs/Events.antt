@@ -60,7 +60,7 @@ module _ {C R : Type 0} where
 
   -- what the engine knew as an event began, and whether a greater log was told of up to its end
   abbrev pub given_after : Snapshot → Engine C R → GroupState → GroupEvent → Given
-  given_after x e s event = record (given x e) { seen_greater_log = seen_after s event e.seen_greater_log }
+  given_after x e s event = record (given x e s) { seen_greater_log = seen_after s event e.seen_greater_log }
 
   -- the engine, which was e, has done what the group step does at the event
   abbrev pub HasTaken : Snapshot → ℕ → Engine C R → Engine C R → GroupState → GroupEvent → Type 0

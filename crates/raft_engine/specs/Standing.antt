@@ -10,7 +10,7 @@ use Rattle.raft_progress.specs.Parts.{has_value}
 use Rattle.raft_group_step.specs.Values.{has_id}
 use Rattle.raft_group_step.specs.StoredGroup.{StoredGroup, Snapshot, first_place, end_place, snapshot_last, membership_in_force, last_id}
 use Rattle.raft_group_step.specs.Peer.{PeerState, Outstanding}
-use Rattle.raft_group_step.specs.GroupState.{GroupState, Role, Follower, Candidate, Leader, Lead}
+use Rattle.raft_group_step.specs.GroupState.{GroupState, Role, Follower, Candidate, Leader, Lead, is_leader}
 use Rattle.raft_group_step.specs.StepResult.{StepResult}
 use Rattle.raft_group_step.specs.Lead.{peer_of, ids_of}
 use Rattle.raft_group_step.specs.Frames.{committed_id}
@@ -23,6 +23,8 @@ use Rattle.raft_engine.specs.Numbering.{NumbersFollow}
 use Rattle.raft_engine.specs.Committing.{Moves, moves_in}
 use Rattle.raft_engine.specs.Answering.{NeedsNoOther}
 use Rattle.raft_engine.specs.ServerStates.{part_in}
+use Rattle.raft_engine.specs.Ordering.{AllRest, Basis}
+use Rattle.raft_engine.specs.Turns.{MayLead, Turn, Turns, turn_of, turns_in}
 use Rattle.std.specs.List.{All}
 use Rattle.raft_engine.specs.declared.engine.Engine.{Engine as EngineOf}
 use Rattle.raft_engine.specs.Commands.{stored_by, sent_by}
@@ -104,23 +106,40 @@ abbrev pub Engine : Type 0 → Type 0 → Type 0
 Engine C R = EngineOf C (List ℕ) R ℕ (List ℕ)
 
 -- what the words of a step don't decide: the snapshot that a command of its queue stores, whether a node told of a log that is
--- greater than the own one, and as the step began the last number of a command of the state machine and what was committed
+-- greater than the own one, and as the step began the last number of a command of the state machine, what was stored and
+-- committed, and whether a lead was told of
 pub record Given : Type 0 where
   pub snapshot : Snapshot
   pub seen_greater_log : Bool
   pub last_sm_seq : ℕ
+  pub stored_before : StoredGroup
   pub committed_before : Option (LogId ℕ)
+  pub turn_before : Turn
+
+-- what was stored and committed as the step began
+abbrev pub basis_before : Given → Basis
+basis_before x = record { stored = x.stored_before; committed = x.committed_before }
 
 module _ {C R : Type 0} where
   -- a snapshot, and what the engine knows as a step begins
-  abbrev pub given : Snapshot → Engine C R → Given
-  given x e =
+  abbrev pub given : Snapshot → Engine C R → GroupState → Given
+  given x e s =
       record {
         snapshot = x;
         seen_greater_log = e.seen_greater_log;
         last_sm_seq = e.output.last_sm_seq;
+        stored_before = s.stored;
         committed_before = e.state.state.committed;
+        turn_before = turn_of (is_leader s.role);
       }
+
+  -- the same as a node starts: a lead may begin under the vote that is stored
+  abbrev pub given_at_start : Snapshot → Engine C R → GroupState → Given
+  given_at_start x e s = record (given x e s) { turn_before = MayLead }
+
+  -- what is stored by the step's state, and committed as far as the engine knows
+  abbrev pub basis_of : Engine C R → GroupState → Basis
+  basis_of e s = record { stored = s.stored; committed = e.state.state.committed }
 
   -- the engine of this node stands for the group's state
   pub record IsStateOf (own : ℕ) (e : Engine C R) (s : GroupState) : Type 0 where
@@ -141,6 +160,8 @@ module _ {C R : Type 0} where
     pub numbers : NumbersFollow x.last_sm_seq e.output
     pub moves : Moves x.committed_before (moves_in e.output.queue) e.state.state.committed
     pub at_once : All NeedsNoOther e.output.queue
+    pub rests : AllRest own x.snapshot (basis_before x) e.output.queue (basis_of e r.state)
+    pub turns : Turns x.turn_before (turns_in e.output.queue) (is_leader r.state.role)
 
   -- the same once the event is over: what is sent has what is stored and committed then, and the part is noted that the node
   -- plays: it leads, stands for election, follows as a voter, or else learns
@@ -153,3 +174,5 @@ module _ {C R : Type 0} where
     pub moves : Moves x.committed_before (moves_in e.output.queue) e.state.state.committed
     pub at_once : All NeedsNoOther e.output.queue
     pub part : e.state.state.server_state ≡ part_in r.state.role (is_voter_in (membership_in_force r.state.stored) own)
+    pub rests : AllRest own x.snapshot (basis_before x) e.output.queue (basis_of e r.state)
+    pub turns : Turns x.turn_before (turns_in e.output.queue) (is_leader r.state.role)

@@ -18,7 +18,7 @@ ghost use Rattle.raft_known_state.specs.KnownState.{meta_of};
 ghost use Rattle.raft_engine.specs.Events.{HasTaken, IsReady, MayTake, received};
 ghost use Rattle.raft_engine.specs.Following.{SpellsAppend, SpellsAppendReply, SpellsSnapshotReply};
 ghost use Rattle.raft_engine.specs.Sending.{reply_of};
-ghost use Rattle.raft_engine.specs.Standing.{Given, IsStateOf, IsStepOf, IsWholeStepOf, given};
+ghost use Rattle.raft_engine.specs.Standing.{Given, IsStateOf, IsStepOf, IsWholeStepOf, given_at_start};
 
 use crate::engine::Engine;
 use raft_commands::{Caller, RaftTypeConfig};
@@ -33,7 +33,7 @@ impl<C: RaftTypeConfig<NodeId = u64, Node = BasicNode, D = Bytes>> Engine<C> {
     /// its own, and else follows.
     pub fn startup(&mut self) -> Result<(), AllocError>
         ensures { (x : Snapshot) (own : ℕ) (s : GroupState) → IsStateOf own self.old s → self.old.output.queue ≡ [] → IsReady own s → s.role ≡ Follower
-            → OnOk result (IsWholeStepOf (given x self.old) own self.new (finished own None (resume_lead own (unchanged s)))) }
+            → OnOk result (IsWholeStepOf (given_at_start x self.old s) own self.new (finished own None (resume_lead own (unchanged s)))) }
     {
         self.resume_lead()?;
         self.finish(None)
@@ -250,10 +250,11 @@ impl<C: RaftTypeConfig<NodeId = u64, Node = BasicNode, D = Bytes>> Engine<C> {
         self.log_handler().purge_log()
     }
 
-    /// The node leads no more (openraft). Tokens that are to be told stay unknown.
-    pub fn leader_step_down(&mut self)
-        ensures { (x : Given) (own : ℕ) (r : StepResult) → IsStepOf x own self.old r → IsStepOf x own self.new (step_down r) }
+    /// The node leads no more (openraft), and the runtime is told so. Tokens that are to be told stay
+    /// unknown.
+    pub fn leader_step_down(&mut self) -> Result<(), AllocError>
+        ensures { (x : Given) (own : ℕ) (r : StepResult) → IsStepOf x own self.old r → OnOk result (IsStepOf x own self.new (step_down r)) }
     {
-        self.vote_handler().become_following();
+        self.vote_handler().become_following()
     }
 }

@@ -107,7 +107,7 @@ impl<C: RaftTypeConfig<NodeId = u64, Node = BasicNode, D = Bytes>> Engine<C> {
             → OnOk result (IsStepOf x own self.new (in_role (Standing (own ∷ [])) (stand own r))) }
     {
         let own = self.config.id;
-        self.step_down();
+        self.step_down()?;
         let term = self.state.state.vote_ref().leader_id.term.saturating_add(1);
         let vote = Vote::new(term, own);
         self.store_vote(vote, now)?;
@@ -165,13 +165,12 @@ impl<C: RaftTypeConfig<NodeId = u64, Node = BasicNode, D = Bytes>> Engine<C> {
             → is_new r.state.stored ≡ true
             → OnOk result (IsStepOf x own self.new (initialize_step own membership r)) }
     {
-        self.step_down();
-        let vote = *self.state.state.vote_ref();
+        self.step_down()?;
         let log_id = LogId::new(LeaderId::new(0, 0), 0);
         let payload = EntryPayload::Membership(membership);
         let mut entries = Entries::new(self.alloc);
         entries.push(Entry { log_id, payload })?;
-        self.put_entries(entries, vote)?;
+        self.put_entries(entries)?;
         self.elect_part(now)
     }
 }

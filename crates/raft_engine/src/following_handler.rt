@@ -11,7 +11,8 @@ ghost use Rattle.raft_group_step.specs.SnapshotRequest.{install_unless};
 ghost use Rattle.raft_known_state.specs.KnownState.{ArePlaced, IsPlaced, Knows, meta_of};
 ghost use Rattle.raft_engine.specs.Commands.{result_of};
 ghost use Rattle.raft_engine.specs.Numbering.{KeepsNumbers, NumbersRise};
-ghost use Rattle.raft_engine.specs.Standing.{Given, IsStepOf};
+ghost use Rattle.raft_engine.specs.Standing.{Given, IsStepOf, basis_of};
+ghost use Rattle.raft_engine.specs.Ordering.{OutcomeRestsOn};
 ghost use Rattle.raft_engine.specs.Following.{EndsWithin, IsVoteOfAnother, SpellsAppend, SpellsAppendReply, unheld_entries};
 
 use crate::engine::Engine;
@@ -21,7 +22,7 @@ use raft_group_step::{AppendEntriesRequest, AppendEntriesResponse, Entries};
 use raft_known_state::KnownState;
 use raft_messages::all_go_on;
 use raft_state::{
-    BasicNode, Bytes, Entry, LogId, LogIdOptionExt, RaftLogId, SnapshotMeta, Vote, VoteStateReader,
+    BasicNode, Bytes, Entry, LogId, LogIdOptionExt, RaftLogId, SnapshotMeta, VoteStateReader,
 };
 use std::alloc::AllocError;
 
@@ -79,15 +80,14 @@ impl<'x, C: RaftTypeConfig<NodeId = u64, Node = BasicNode, D = Bytes>> Following
     /// where another entry stands; the one before them is committed or in the log.
     pub fn append_entries(
         &mut self,
-        vote: Vote<u64>,
         entries: Entries<u64, BasicNode, Bytes>,
     ) -> Result<(), AllocError>
         ensures same_engine { self.new.engine.ghost_name ≡ self.old.engine.ghost_name }
-        ensures step { (x : Given) (own : _) (r : StepResult) (previous : _) → IsStepOf x own self.old.engine.now r → r.state.role ≡ Follower
+        ensures step { (x : Given) (own : _) (r : StepResult) (vote : _) (previous : _) → IsStepOf x own self.old.engine.now r → r.state.role ≡ Follower
             → do_follow vote previous entries ≡ true → is_held r.state.stored r.state.committed previous ≡ true
             → OnOk result (IsStepOf x own self.new.engine.now (put_entries (missing_entries r.state.stored (above_committed r.state.committed entries)) r)) }
     {
-        self.engine.put_missing(entries, vote)
+        self.engine.put_missing(entries)
     }
 
     /// All up to the place is committed (openraft), if it is above what is.
@@ -177,12 +177,11 @@ impl<C: RaftTypeConfig<NodeId = u64, Node = BasicNode, D = Bytes>> Engine<C> {
         }
     }
 
-    // The entries are appended, after the log was shortened where another entry stands. Entries
-    // that don't go on behind the log are left out; such a request is refused before.
+    // The entries are appended under the vote in force, after the log was shortened where another
+    // entry stands. Entries that don't go on behind the log are left out; such a request is refused before.
     pub(crate) fn put_entries(
         &mut self,
         entries: Entries<u64, BasicNode, Bytes>,
-        vote: Vote<u64>,
     ) -> Result<(), AllocError>
         ensures { (x : Given) (own : _) (r : StepResult) (place : ℕ) → IsStepOf x own self.old r → r.state.role ≡ Follower
             → ArePlaced place entries → is_within place r.state.committed ≡ false → place ≤ end_place r.state.stored
@@ -197,24 +196,21 @@ impl<C: RaftTypeConfig<NodeId = u64, Node = BasicNode, D = Bytes>> Engine<C> {
             return Ok(());
         }
         self.state.append(entries.as_slice())?;
+        let vote = *self.state.state.vote_ref();
         self.output
             .push_command(Command::AppendInputEntries { vote, entries })
     }
 
     // The entries from the first one on that the log doesn't have are appended.
-    fn put_missing(
-        &mut self,
-        entries: Entries<u64, BasicNode, Bytes>,
-        vote: Vote<u64>,
-    ) -> Result<(), AllocError>
-        ensures { (x : Given) (own : _) (r : StepResult) (previous : _) → IsStepOf x own self.old r → r.state.role ≡ Follower
+    fn put_missing(&mut self, entries: Entries<u64, BasicNode, Bytes>) -> Result<(), AllocError>
+        ensures { (x : Given) (own : _) (r : StepResult) (vote : _) (previous : _) → IsStepOf x own self.old r → r.state.role ≡ Follower
             → do_follow vote previous entries ≡ true → is_held r.state.stored r.state.committed previous ≡ true
             → OnOk result (IsStepOf x own self.new (put_entries (missing_entries r.state.stored (above_committed r.state.committed entries)) r)) }
     {
         let mut missing = entries;
         let held = count_held(&self.state, missing.as_slice());
         missing.drop_first(held);
-        self.put_entries(missing, vote)
+        self.put_entries(missing)
     }
 
     // The leader gets this answer.
@@ -223,7 +219,7 @@ impl<C: RaftTypeConfig<NodeId = u64, Node = BasicNode, D = Bytes>> Engine<C> {
         resp: AppendEntriesResponse<u64>,
         tx: Caller<u64>,
     ) -> Result<(), AllocError>
-        ensures { (x : Given) (own : _) (r : StepResult) (m : AppendFields) → IsStepOf x own self.old r → SpellsAppendReply tx m
+        ensures { (x : Given) (own : _) (r : StepResult) (m : AppendFields) → IsStepOf x own self.old r → SpellsAppendReply tx m → OutcomeRestsOn (basis_of self.old r.state) tx resp
             → OnOk result (IsStepOf x own self.new (reply_append own tx.peer m (result_of resp) r)) }
     {
         let resp = Respond::AppendEntries(ValueSender::new(resp, tx));
@@ -238,14 +234,14 @@ impl<C: RaftTypeConfig<NodeId = u64, Node = BasicNode, D = Bytes>> Engine<C> {
         tx: Caller<u64>,
     ) -> Result<(), AllocError>
         ensures { (x : Given) (own : _) (r : StepResult) (m : AppendFields) → IsStepOf x own self.old r → r.state.role ≡ Follower
-            → SpellsAppend req m → SpellsAppendReply tx m → do_follow m.vote m.previous m.entries ≡ true
+            → r.state.stored.vote ≡ m.vote → SpellsAppend req m → SpellsAppendReply tx m → do_follow m.vote m.previous m.entries ≡ true
             → OnOk result (IsStepOf x own self.new (joined own tx.peer m (is_held r.state.stored r.state.committed m.previous) r)) }
     {
         if !is_held(&self.state, req.prev_log_id) {
             self.cut_at(req.prev_log_id)?;
             return self.answer_append(AppendEntriesResponse::Conflict, tx);
         }
-        self.put_missing(req.entries, req.vote)?;
+        self.put_missing(req.entries)?;
         self.commit_up_to(lesser_place(req.leader_commit, tx.last))?;
         self.answer_append(AppendEntriesResponse::Success, tx)
     }

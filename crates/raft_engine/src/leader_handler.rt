@@ -1,5 +1,5 @@
 //! Leading: how a lead begins, and what a leader writes.
-ghost use Rattle.std.specs.Prelude.{◌≡◌, ◌+◌, ◌<◌, ◌^◌, ℕ, OnOk, IfOk, IsTrue, ◌↔◌, true, Some, None, List, Option};
+ghost use Rattle.std.specs.Prelude.{◌≡◌, ◌+◌, ◌<◌, ◌^◌, ℕ, OnOk, IfOk, IsTrue, ◌↔◌, true, Some, None, List, [], Option};
 ghost use Rattle.raft_values.specs.LogId.{next_place};
 ghost use Rattle.raft_state.specs.LogIdList.{last_id};
 ghost use Rattle.raft_group_step.specs.Values.{ChangeMembers, LoggedMembership, after_change, membership_after};
@@ -14,6 +14,7 @@ ghost use Rattle.raft_group_step.specs.Heartbeat.{beat_as};
 ghost use Rattle.raft_known_state.specs.KnownState.{IsPlaced, Knows, effective_of};
 ghost use Rattle.raft_leaders.specs.Leader.{id_of_leader, peer_at};
 ghost use Rattle.raft_engine.specs.Standing.{Given, IsStepOf, Leads};
+ghost use Rattle.raft_engine.specs.Turns.{MayLead};
 ghost use Rattle.raft_engine.specs.Leading.{CountsOn, KnowsMembers, leads_by};
 ghost use Rattle.std.specs.Prelude.{nat_eq};
 ghost use Rattle.std.specs.Option.{option_copied};
@@ -202,7 +203,8 @@ impl<C: RaftTypeConfig<NodeId = u64, Node = BasicNode, D = Bytes>> Engine<C> {
 
     // The node leads on under a committed vote of its own, and writes nothing.
     pub(crate) fn resume_lead(&mut self) -> Result<(), AllocError>
-        ensures { (x : Given) (own : _) (r : StepResult) → IsStepOf x own self.old r → r.state.role ≡ Following → end_place r.state.stored < 2 ^ 63
+        ensures { (x : Given) (own : _) (r : StepResult) → IsStepOf x own self.old r → self.old.output.queue ≡ [] → x.turn_before ≡ MayLead → r.state.role ≡ Following
+            → end_place r.state.stored < 2 ^ 63
             → OnOk result (IsStepOf x own self.new (resume_lead own r)) }
     {
         let vote = *self.state.state.vote_ref();

@@ -9,7 +9,8 @@ ghost use Rattle.raft_known_state.specs.KnownState.{IsEntryOrPast, KeepsRest, Kn
 ghost use Rattle.raft_engine.specs.Building.{asking, covered_id, is_building};
 ghost use Rattle.raft_engine.specs.Commands.{snapshot_result};
 ghost use Rattle.raft_engine.specs.Numbering.{GainsNumber, KeepsNumbers, NumbersRise};
-ghost use Rattle.raft_engine.specs.Standing.{Given, IsStepOf};
+ghost use Rattle.raft_engine.specs.Standing.{Given, IsStepOf, basis_of};
+ghost use Rattle.raft_engine.specs.Ordering.{InstallRestsOn};
 ghost use Rattle.raft_engine.specs.Following.{IsVoteOfAnother, SpellsSnapshotReply};
 
 use crate::engine::Engine;
@@ -136,6 +137,7 @@ impl<C: RaftTypeConfig<NodeId = u64, Node = BasicNode, D = Bytes>> Engine<C> {
     // The leader gets the node's vote for an answer.
     fn answer_snapshot(&mut self, tx: Caller<u64>) -> Result<(), AllocError>
         ensures { (x : Given) (own : _) (r : StepResult) (id : ℕ) → IsStepOf x own self.old r → SpellsSnapshotReply tx id x.snapshot
+            → InstallRestsOn (basis_of self.old r.state) tx r.state.stored.vote
             → OnOk result (IsStepOf x own self.new (reply_snapshot own tx.peer tx.vote id x.snapshot (snapshot_result tx.vote (record { vote = r.state.stored.vote })) r)) }
     {
         let resp = SnapshotResponse::new(*self.state.state.vote_ref());

@@ -48,23 +48,27 @@ impl<'x, C: RaftTypeConfig<NodeId = u64, Node = BasicNode, D = Bytes>> VoteHandl
         self.engine.take_over_greater(vote, now)
     }
 
-    /// The node neither stands nor leads any more (openraft).
-    pub fn become_following(&mut self)
+    /// The node neither stands nor leads any more (openraft), and a lead that ends is told of.
+    pub fn become_following(&mut self) -> Result<(), AllocError>
         ensures same_engine { self.new.engine.ghost_name ≡ self.old.engine.ghost_name }
-        ensures step { (x : Given) (own : _) (r : StepResult) → IsStepOf x own self.old.engine.now r → IsStepOf x own self.new.engine.now (step_down r) }
+        ensures step { (x : Given) (own : _) (r : StepResult) → IsStepOf x own self.old.engine.now r → OnOk result (IsStepOf x own self.new.engine.now (step_down r)) }
     {
-        self.engine.step_down();
+        self.engine.step_down()
     }
 }
 
 impl<C: RaftTypeConfig<NodeId = u64, Node = BasicNode, D = Bytes>> Engine<C> {
-    // The node neither stands nor leads any more.
-    pub(crate) fn step_down(&mut self)
-        ensures { (x : Given) (own : _) (r : StepResult) → IsStepOf x own self.old r → IsStepOf x own self.new (step_down r) }
+    // The node neither stands nor leads any more. The runtime is told of a lead that ends.
+    pub(crate) fn step_down(&mut self) -> Result<(), AllocError>
+        ensures { (x : Given) (own : _) (r : StepResult) → IsStepOf x own self.old r → OnOk result (IsStepOf x own self.new (step_down r)) }
     {
+        if self.leader.is_some() {
+            self.output.push_command(Command::QuitLeader)?;
+        }
         self.leader = None;
         self.candidate = None;
         self.state.state.purge_upto = None;
+        Ok(())
     }
 
     // The vote is stored, and heard of at this moment.
@@ -83,7 +87,7 @@ impl<C: RaftTypeConfig<NodeId = u64, Node = BasicNode, D = Bytes>> Engine<C> {
             → OnOk result (IsStepOf x own self.new (take_over vote r)) }
     {
         if is_lower(self.state.state.vote_ref(), &vote) {
-            self.step_down();
+            self.step_down()?;
             return self.store_vote(vote, now);
         }
         self.state.state.vote.touch(now);
@@ -96,7 +100,7 @@ impl<C: RaftTypeConfig<NodeId = u64, Node = BasicNode, D = Bytes>> Engine<C> {
             → OnOk result (IsStepOf x own self.new (take_over_greater vote r)) }
     {
         if is_lower(self.state.state.vote_ref(), &vote) {
-            self.step_down();
+            self.step_down()?;
             return self.store_vote(vote, now);
         }
         Ok(())

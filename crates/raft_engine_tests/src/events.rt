@@ -43,8 +43,7 @@ fn tries_to_purge(engine: &mut NumberedEngine) -> bool {
 }
 
 fn steps_down(engine: &mut NumberedEngine) -> bool {
-    engine.leader_step_down();
-    true
+    engine.leader_step_down().is_ok()
 }
 
 fn forgets(engine: &mut NumberedEngine) -> bool {

@@ -4,15 +4,11 @@ use crate::engines::{NumberedEngine, log_id, members};
 use crate::events::snapshot_meta;
 use raft_engine::Entries;
 use raft_rows::{Answer, number};
-use raft_state::{BasicNode, Bytes, Entry, EntryPayload, Membership, Vote};
+use raft_state::{BasicNode, Bytes, Entry, EntryPayload, Membership};
 use std::alloc::{AllocError, Global};
 
 fn appends(engine: &mut NumberedEngine, entries: Entries<u64, BasicNode, Bytes>) -> bool {
-    engine.leader.is_none()
-        && engine
-            .following_handler()
-            .append_entries(Vote::new_committed(1, 1), entries)
-            .is_ok()
+    engine.leader.is_none() && engine.following_handler().append_entries(entries).is_ok()
 }
 
 fn commits(engine: &mut NumberedEngine, place: u64) -> bool {

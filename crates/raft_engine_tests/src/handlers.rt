@@ -17,8 +17,8 @@ fn hears_of(engine: &mut NumberedEngine, vote: Vote<u64>) -> bool {
     engine.vote_handler().update_greater_vote(vote, 6).is_ok()
 }
 
-fn becomes_following(engine: &mut NumberedEngine) {
-    engine.vote_handler().become_following();
+fn becomes_following(engine: &mut NumberedEngine) -> bool {
+    engine.vote_handler().become_following().is_ok()
 }
 
 /// The answer to a row about the handler of votes.
@@ -31,10 +31,7 @@ pub fn voted(engine: &mut NumberedEngine, alloc: Global, words: &[&str]) -> Opti
         ["hear", term, node] => {
             Answer::truth(hears_of(engine, Vote::new(number(term), number(node))))
         }
-        ["follow"] => {
-            becomes_following(engine);
-            Answer::Word("()")
-        }
+        ["follow"] => Answer::truth(becomes_following(engine)),
         _ => return None,
     })
 }

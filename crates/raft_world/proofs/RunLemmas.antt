@@ -13,6 +13,7 @@ use Rattle.raft_commands.specs.declared.sm.CommandPayload.{CommandPayload}
 use Rattle.raft_commands.specs.declared.sm.CommandPayload.TheVariants.{BuildSnapshot, GetSnapshot, BeginReceivingSnapshot, InstallFullSnapshot, Apply}
 use Rattle.raft_engine.specs.Commands.{Command, storing_of, storing_of_machine, stored_by, sent_by}
 use Rattle.raft_engine.specs.Standing.{IsWholeStepOf}
+use Rattle.raft_engine.specs.Turns.{Turn}
 use Rattle.raft_executor.specs.Stored.{first_of, has_snapshot, machine_has_snapshot, queue_has_snapshot}
 use Rattle.raft_laws.specs.Stop.{stopped_after}
 use Rattle.raft_laws.proofs.GroupsStay.{groups_stay}
@@ -96,19 +97,19 @@ two_differ : one_snapshot 0 ≡ one_snapshot 1 → ⊥
 two_differ e = absurd (let no : zero ≡ suc zero = ap (λ (x : Snapshot). x.last.index) e in cc)
 
 -- a step that its engine has done whatever the snapshot stores none
-pub no_snapshot_stored : {own : ℕ} {seen : Bool} {last : ℕ} {committed : Option (LogId ℕ)} (e : Engine) (r : StepResult) → ((x : Snapshot) → IsWholeStepOf (record { snapshot = x; seen_greater_log = seen; last_sm_seq = last; committed_before = committed }) own e r) → queue_has_snapshot e.output.queue ≡ false
+pub no_snapshot_stored : {own : ℕ} {seen : Bool} {last : ℕ} {before : StoredGroup} {committed : Option (LogId ℕ)} {turn : Turn} (e : Engine) (r : StepResult) → ((x : Snapshot) → IsWholeStepOf (record { snapshot = x; seen_greater_log = seen; last_sm_seq = last; stored_before = before; committed_before = committed; turn_before = turn }) own e r) → queue_has_snapshot e.output.queue ≡ false
 no_snapshot_stored e r h =
     no_snapshot (one_snapshot 0) (one_snapshot 1) two_differ e.output.queue ((h (one_snapshot 0)).stores ∙ sym (h (one_snapshot 1)).stores)
 
 -- so no snapshot need be given for it
-pub none_given : {own : ℕ} {seen : Bool} {last : ℕ} {committed : Option (LogId ℕ)} (e : Engine) (r : StepResult) → ((x : Snapshot) → IsWholeStepOf (record { snapshot = x; seen_greater_log = seen; last_sm_seq = last; committed_before = committed }) own e r) → (x : Snapshot) → IsGiven (queue_has_snapshot e.output.queue) None x
+pub none_given : {own : ℕ} {seen : Bool} {last : ℕ} {before : StoredGroup} {committed : Option (LogId ℕ)} {turn : Turn} (e : Engine) (r : StepResult) → ((x : Snapshot) → IsWholeStepOf (record { snapshot = x; seen_greater_log = seen; last_sm_seq = last; stored_before = before; committed_before = committed; turn_before = turn }) own e r) → (x : Snapshot) → IsGiven (queue_has_snapshot e.output.queue) None x
 none_given e r h x = λ has. absurd (let no : false ≡ true = sym (no_snapshot_stored e r h) ∙ has in cc)
 
 -- a step that its engine has done whatever the snapshot is run with none
-pub run_without_snapshot : {seen : Bool} {last : ℕ} {committed : Option (LogId ℕ)} (own : ℕ) (e : Engine) (old : StoredGroup) (r : StepResult) (at : ℕ) → ((x : Snapshot) → IsWholeStepOf (record { snapshot = x; seen_greater_log = seen; last_sm_seq = last; committed_before = committed }) own e r)
+pub run_without_snapshot : {seen : Bool} {last : ℕ} {before : StoredGroup} {committed : Option (LogId ℕ)} {turn : Turn} (own : ℕ) (e : Engine) (old : StoredGroup) (r : StepResult) (at : ℕ) → ((x : Snapshot) → IsWholeStepOf (record { snapshot = x; seen_greater_log = seen; last_sm_seq = last; stored_before = before; committed_before = committed; turn_before = turn }) own e r)
     → r.state.stored ≡ after_storing_all r.commands old → at ≡ r.state.now → IsRun own e old r None at
-run_without_snapshot {seen} {last} {committed} own e old r at h stored moment = record {
-  taken = record { snapshot = one_snapshot 0; seen_greater_log = seen; last_sm_seq = last; committed_before = committed };
+run_without_snapshot {seen} {last} {before} {committed} {turn} own e old r at h stored moment = record {
+  taken = record { snapshot = one_snapshot 0; seen_greater_log = seen; last_sm_seq = last; stored_before = before; committed_before = committed; turn_before = turn };
   step = h (one_snapshot 0);
   is_given = none_given e r h (one_snapshot 0);
   stored = stored;

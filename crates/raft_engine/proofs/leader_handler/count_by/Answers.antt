@@ -1,6 +1,6 @@
 -- Each node of the membership is a voter or a learner, and what is known of each peer stays.
 use Rattle.std.proofs.Common.{◌∙◌, ap, subst, sym, Some}
-use Rattle.std.specs.Prelude.{ℕ, nat_eq, ◌||◌, List}
+use Rattle.std.specs.Prelude.{nat_eq, ◌||◌}
 use Rattle.std.specs.Ordering.{nat_cmp}
 use Rattle.raft_quorums.specs.Nodes.{has_id}
 use Rattle.raft_membership.specs.Membership.{voter_ids, learner_ids}

@@ -1,5 +1,5 @@
 -- What a leader knows of a peer after a whole or a partial success.
-use Rattle.std.specs.Prelude.{◌≡◌, ◌<◌, ◌^◌, if◌then◌else◌, nat_le, true}
+use Rattle.std.specs.Prelude.{◌≡◌, if◌then◌else◌, nat_le, true}
 use Rattle.std.proofs.Common.{sym, ap, ◌∙◌, arith, leb-true}
 use Rattle.std.proofs.lemmas.Bool.{and_from}
 use Rattle.raft_values.specs.LogId.{next_place}

@@ -15,5 +15,5 @@ returns g c = λ x own r step.
     let vote = c.vote_ref.ensures ∙ step.state.knows.vote in
     on_ok_weaker c.push_command.result
     (λ h. sent_more x own c.args.self.now _ r step (Respond None (ToVote c.new.result)) (message_to own c.args.tx.peer (VoteReply r.state.stored.vote c.args.granted (last_id r.state.stored)))
-    refl refl refl refl refl h refl refl refl (λ s upto. rw (c.new.ensures, c.new-resp.ensures, vote, last) refl))
+    refl refl refl refl refl h refl refl refl (rw (c.new.ensures, c.new-resp.ensures, vote, last) (refl, refl)) refl (λ s upto. rw (c.new.ensures, c.new-resp.ensures, vote, last) refl))
     c.push_command.ensures.ok

@@ -29,7 +29,7 @@ returns g c = λ x own r lead step leads.
     let entries = c.in_ok-push.ensures.ok ∙ ap (λ es. es ++ entry_of id c.args.payload ∷ []) c.new-entries.ensures in
     on_ok_weaker c.push_command.result
     (λ h. appended x own c.args.self.now r step lead leads l c.in-Some.is _ c.args.payload c.count_by_entry.new.leader c.vote_ref-vote.result.now c.push.new.self id
-    refl refl refl refl c.next_log_id-log_id.ensures.id entries
+    refl refl refl refl c.next_log_id-log_id.ensures.id entries (c.vote_ref-vote.ensures ∙ ap (λ (y : LeaderOf). y.vote) given)
     (λ s k p q. subst (λ es. Knows c.append.new.self (after_storing (PutEntries (end_place s) es) s)) c.as_slice.ensures
     (c.in_ok-append.ensures.known s k p (subst (ArePlaced (end_place s)) (sym c.as_slice.ensures) q)))
     c.in_ok-append.ensures.rest

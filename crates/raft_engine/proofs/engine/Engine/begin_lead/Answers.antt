@@ -6,7 +6,7 @@ use Rattle.raft_commands.specs.Output.{Output}
 use Rattle.raft_commands.specs.declared.command.Command.TheVariants.{BecomeLeader}
 use Rattle.raft_group_step.specs.Lead.{committed_vote, new_lead}
 use Rattle.raft_group_step.specs.StepResult.{in_role, store_vote}
-use Rattle.raft_group_step.specs.GroupState.{Leader}
+use Rattle.raft_group_step.specs.GroupState.{Leader, is_leader}
 use Rattle.raft_known_state.specs.KnownState.{KnownState}
 use Rattle.raft_engine.specs.Standing.{PlaysRole}
 use Rattle.raft_engine.proofs.LeaderLemmas.{lead_begun, stands_own}
@@ -21,7 +21,7 @@ returns g c = λ x own r granters step stands now.
     let is_own = ap (λ (v : Vote ℕ). v.leader_id.node_id) mine ∙ stands_own own old.leader old.candidate s granters (subst (λ role. PlaysRole own old.leader old.candidate s role) stands step.state.role) in
     let leads = c.in_ok-leader.ensures own s step.state.knows step.state.order.placed is_own refl in
     c.append_blank.ensures x own (in_role (Leader (new_lead s)) (store_vote (committed_vote s.vote) r)) (new_lead s)
-    (lead_begun x own old _ r step c.in_ok-leader.leader (record c.vote_ref-vote.result.now { committed = true }) voted refl refl refl refl
+    (lead_begun x own old _ r step c.in_ok-leader.leader (record c.vote_ref-vote.result.now { committed = true }) (ap is_leader stands) voted refl refl refl refl
     (c.save_vote.ensures.known s step.state.knows)
     (ap (λ (y : KnownState). y.state) c.save_vote.ensures.rest ∙ ap (λ t. record old.state.state { vote = record { value = record c.vote_ref-vote.result.now { committed = true }; utime = Some t } }) (sym now))
     (c.in_ok-push_command-2.ensures.ok ∙ ap (λ (o : Output _ _ _ _ _). record o { queue = o.queue ++ BecomeLeader ∷ [] }) c.in_ok-push_command.ensures.ok)

@@ -14,6 +14,6 @@ returns g c = λ x own at token s m change in_force is may.
     let old = c.args.self.now in
     let event = Call (ChangeMembership change token) at in
     let lead = changes own at token s may.ready change m in_force may.accepted in
-    let step = c.in_ok-membership_part.ensures (given x old) own (begun at s) lead.0 token m change (step_begun x own at old s may.stands may.empty) lead.1 in_force is in
+    let step = c.in_ok-membership_part.ensures (given x old s) own (begun at s) lead.0 token m change (step_begun x own at old s may.stands may.empty) lead.1 in_force is in
     on_ok_weaker c.finish.result (event_taken x own old c.finish.new.self s event may)
-    (c.finish.ensures (given x old) own (membership_step change token (begun at s)) step (finish_changed own at token s may.ready change m in_force may.accepted))
+    (c.finish.ensures (given x old s) own (membership_step change token (begun at s)) step (finish_changed own at token s may.ready change m in_force may.accepted))

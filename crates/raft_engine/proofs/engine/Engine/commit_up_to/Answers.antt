@@ -1,11 +1,12 @@
 -- The place has an entry, and it is committed.
-use Rattle.std.proofs.Common.{◌≡◌, ◌++◌, ◌∙◌, ap, sym, refl, false, None}
+use Rattle.std.proofs.Common.{◌≡◌, ◌<◌, ◌++◌, ◌∙◌, ap, sym, subst, refl, false, None}
 use Rattle.std.specs.Prelude.{Some, [], ◌∷◌}
 use Rattle.std.proofs.lemmas.Result.{on_ok_weaker}
 use Rattle.raft_commands.specs.declared.command.Command.TheVariants.{Commit}
 use Rattle.raft_commands.specs.Output.{Output}
+use Rattle.raft_group_step.specs.StoredGroup.{end_place, id_at}
 use Rattle.raft_group_step.specs.StepResult.{is_within}
-use Rattle.raft_engine.proofs.PlacedEntries.{has_entry}
+use Rattle.raft_engine.proofs.PlacedEntries.{has_entry, id_of_place}
 use Rattle.raft_engine.proofs.FollowingLemmas.{above_first, committed_place, more_committed}
 use Rattle.raft_engine.proofs.engine.Engine.commit_up_to.Goals as goal
 
@@ -22,10 +23,12 @@ returns-clause-step g c = λ x own r step within.
     let order = step.state.order in
     let past : is_within c.in-Some.place r.state.committed ≡ false =
     ap (is_within c.in-Some.place) (sym (committed_place own c.args.self.now r.state step.state)) ∙ sym c.is_committed.ensures ∙ c.if-is_committed.false in
+    let found : Some c.in-Some-get_log_id.upto ≡ id_at r.state.stored c.in-Some.place = sym c.in-Some-get_log_id.is ∙ c.get_log_id.ensures r.state.stored step.state.knows order.placed in
     let commit = Commit c.next_sm_seq-seq.result c.args.self.now.state.state.committed c.in-Some-get_log_id.upto in
     on_ok_weaker c.push_command.result
     (λ h. rw c.in-Some.is
     (more_committed x own c.args.self.now _ r step c.in-Some.place c.in-Some-get_log_id.upto commit refl refl refl refl refl past (within c.in-Some.place c.in-Some.is)
-    (sym c.in-Some-get_log_id.is ∙ c.get_log_id.ensures r.state.stored step.state.knows order.placed)
-    (h ∙ ap (λ (o : Output _ _ _ _ _). record o { queue = o.queue ++ commit ∷ [] }) c.next_sm_seq-seq.ensures.rest) refl (ap (λ n. n ∷ []) c.next_sm_seq-seq.ensures.value) refl tt (λ s upto. refl)))
+    found
+    (h ∙ ap (λ (o : Output _ _ _ _ _). record o { queue = o.queue ++ commit ∷ [] }) c.next_sm_seq-seq.ensures.rest) refl (ap (λ n. n ∷ []) c.next_sm_seq-seq.ensures.value) refl tt
+    (subst (λ n. n < end_place r.state.stored) (sym (id_of_place r.state.stored c.in-Some.place c.in-Some-get_log_id.upto order.placed (above_first r.state order c.in-Some.place past) found)) (within c.in-Some.place c.in-Some.is)) refl refl (λ s upto. refl)))
     c.push_command.ensures.ok

@@ -28,5 +28,5 @@ returns-clause-step g c = λ x own r step follows past.
     (log_stored x own c.args.self.now _ r step refl refl refl refl (CutFrom c.args.place) (DeleteConflictLog c.in-Some.since) follows
     (c.in_ok-truncate.ensures.known r.state.stored step.state.knows order.placed first) c.in_ok-truncate.ensures.rest
     (order_of_cut r.state order c.args.place past) (cut_keeps_id r.state order c.args.place past)
-    h (ap (λ n. CutFrom n ∷ []) at) refl tt (λ s upto. refl)))
+    h (ap (λ n. CutFrom n ∷ []) at) refl tt tt refl (λ s upto. refl)))
     c.push_command.ensures.ok

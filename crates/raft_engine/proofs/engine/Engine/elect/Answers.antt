@@ -17,7 +17,7 @@ returns g c = λ x own at s now may.
     let term = term_left own at s may.accepted in
     let places = may.ready.places in
     let stood =
-    c.in_ok-elect_part.ensures (given x e) own (begun at s) (step_begun x own at e s may.stands may.empty) (sym now)
+    c.in_ok-elect_part.ensures (given x e s) own (begun at s) (step_begun x own at e s may.stands may.empty) (sym now)
     (omega (arith, term)) (omega (arith, places)) in
     on_ok_weaker c.finish.result (λ h. event_taken x own e c.finish.new.self s (Call Elect at) may h)
-    (c.finish.ensures (given x e) own (elect_step own (begun at s)) stood (elect_finishes own (begun at s) places))
+    (c.finish.ensures (given x e s) own (elect_step own (begun at s)) stood (elect_finishes own (begun at s) places))

@@ -17,6 +17,6 @@ returns g c = λ x own at s m now says repeats may.
     let sound = sound_append own peer m at s may.accepted in
     on_ok_weaker c.finish.result
     (event_taken x own c.args.self.now c.finish.new.self s (received own peer (AppendRequest m) at) may)
-    (c.finish.ensures (given x c.args.self.now) own (append_request_step own peer m (begun at s))
-    (c.in_ok-append_request.ensures (given x c.args.self.now) own (begun at s) m step (sym now) says repeats sound.0 sound.1)
-    (append_request_finishes own peer (begun at s) can (given x c.args.self.now) c.args.self.now step m sound.0))
+    (c.finish.ensures (given x c.args.self.now s) own (append_request_step own peer m (begun at s))
+    (c.in_ok-append_request.ensures (given x c.args.self.now s) own (begun at s) m step (sym now) says repeats sound.0 sound.1)
+    (append_request_finishes own peer (begun at s) can (given x c.args.self.now s) c.args.self.now step m sound.0))

@@ -25,15 +25,15 @@ returns g c =
           let range = (message_accepted own peer at s (AppendReply reply) may.accepted).0 in
           let numbers = at ∷ numbers_of_reply reply ++ next_blank s in
           let can = finish_at own (begun at s).state.now s (can_finish_when_ready own s numbers may.ready range) in
-          let step = c.in_ok-answered.ensures (given x old) own (begun at s) (step_begun x own at old s may.stands may.empty) (sym now) (reply_fits at s reply range) in
+          let step = c.in_ok-answered.ensures (given x old s) own (begun at s) (step_begun x own at old s may.stands may.empty) (sym now) (reply_fits at s reply range) in
           on_ok_weaker c.finish.result (event_taken x own old c.finish.new.self s event may)
-          (c.finish.ensures (given x old) own (reply_step peer reply (begun at s)) step (finish_answered own peer reply (begun at s) can));
+          (c.finish.ensures (given x old s) own (reply_step peer reply (begun at s)) step (finish_answered own peer reply (begun at s) can));
       snapshot = λ x own at s now may.
           let event = received own peer (SnapshotReply reply) at in
           let range = (message_accepted own peer at s (SnapshotReply reply) may.accepted).0 in
           let numbers = at ∷ numbers_of_reply reply ++ next_blank s in
           let can = finish_at own (begun at s).state.now s (can_finish_when_ready own s numbers may.ready range) in
-          let step = c.in_ok-answered.ensures (given x old) own (begun at s) (step_begun x own at old s may.stands may.empty) (sym now) (reply_fits at s reply range) in
+          let step = c.in_ok-answered.ensures (given x old s) own (begun at s) (step_begun x own at old s may.stands may.empty) (sym now) (reply_fits at s reply range) in
           on_ok_weaker c.finish.result (event_taken x own old c.finish.new.self s event may)
-          (c.finish.ensures (given x old) own (reply_step peer reply (begun at s)) step (finish_answered own peer reply (begun at s) can));
+          (c.finish.ensures (given x old s) own (reply_step peer reply (begun at s)) step (finish_answered own peer reply (begun at s) can));
     }

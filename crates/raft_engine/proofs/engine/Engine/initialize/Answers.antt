@@ -28,9 +28,9 @@ returns-clause-taken g c = λ x own at s now may.
     let e = c.args.self.now in
     let m = c.args.membership in
     let stood =
-    c.in_ok-initialize_part.ensures (given x e) own (begun at s) (step_begun x own at e s may.stands may.empty) (sym now)
+    c.in_ok-initialize_part.ensures (given x e s) own (begun at s) (step_begun x own at e s may.stands may.empty) (sym now)
     (is_new_then own at s m may.accepted) in (
       refl,
       event_taken x own e c.finish.new.self s (Call (Initialize m) at) may
-          (c.in_ok-finish.ensures (given x e) own (initialize_step own m (begun at s)) stood (initialize_finishes own at s m may.accepted (begun at s) refl)),
+          (c.in_ok-finish.ensures (given x e s) own (initialize_step own m (begun at s)) stood (initialize_finishes own at s m may.accepted (begun at s) refl)),
     )

@@ -1,5 +1,7 @@
-use Rattle.std.proofs.Common.{◌≡◌, ◌∙◌, ap₂, sym, subst, true, false}
-use Rattle.raft_values.specs.LogId.{place_of}
+use Rattle.std.proofs.Common.{◌≡◌, ◌≤◌, ◌∙◌, ap₂, sym, subst, true, false}
+use Rattle.raft_values.specs.LogId.{next_place, place_of}
+use Rattle.raft_group_step.specs.StoredGroup.{end_place}
+use Rattle.raft_engine.specs.Ordering.{EndsBefore}
 use Rattle.raft_group_step.specs.StepResult.{apply_up_to}
 use Rattle.raft_group_step.specs.AppendRequest.{above_committed, cut_at, is_held, lesser_place, missing_entries, put_entries}
 use Rattle.raft_group_step.specs.Refusal.{do_follow}
@@ -7,27 +9,28 @@ use Rattle.raft_group_step.specs.Message.{last_sent}
 use Rattle.raft_engine.specs.Standing.{IsStepOf}
 use Rattle.raft_engine.specs.Following.{EndsWithin}
 use Rattle.raft_engine.proofs.FollowingLemmas.{committed_place}
-use Rattle.raft_engine.proofs.MissingEntries.{request_within}
+use Rattle.raft_engine.proofs.MissingEntries.{cut_at_keeps_vote, cut_before, put_keeps_vote, request_reaches, request_within}
 use Rattle.raft_engine.proofs.engine.Engine.join_entries.Goals as goal
 
 pub returns-then-not-is_held : goal.returns-then-not-is_held
-returns-then-not-is_held g c = λ x own r m step follows says repeats follow.
+returns-then-not-is_held g c = λ x own r m step follows voted says repeats follow.
     let test : is_held r.state.stored r.state.committed m.previous ≡ false =
     ap₂ (is_held r.state.stored) (sym (committed_place own c.args.self.now r.state step.state)) (sym says.previous)
     ∙ sym (c.is_held.ensures r.state.stored step.state.knows step.state.order.placed) ∙ c.if-not-is_held.true in
     let cut = c.in_ok-cut_at.ensures x own r step follows (subst (λ p. is_held r.state.stored r.state.committed p ≡ false) (sym says.previous) test) in
     rw test
-    (c.answer_append.ensures x own (cut_at m.previous r) m (subst (λ p. IsStepOf x own c.cut_at.new.self (cut_at p r)) says.previous cut) repeats)
+    (c.answer_append.ensures x own (cut_at m.previous r) m (subst (λ p. IsStepOf x own c.cut_at.new.self (cut_at p r)) says.previous cut) repeats
+    (cut_at_keeps_vote m.previous r ∙ voted ∙ sym repeats.vote, subst (λ p. EndsBefore p (cut_at m.previous r).state.stored) (sym repeats.previous) (cut_before r m.previous step.state.order test)))
 
 pub returns : goal.returns
-returns g c = λ x own r m step follows says repeats follow.
+returns g c = λ x own r m step follows voted says repeats follow.
     let s = r.state.stored in
     let test : is_held s r.state.committed m.previous ≡ true =
     ap₂ (is_held s) (sym (committed_place own c.args.self.now r.state step.state)) (sym says.previous)
     ∙ sym (c.is_held.ensures s step.state.knows step.state.order.placed) ∙ c.if-not-is_held.false in
     let said : do_follow c.args.req.vote m.previous c.args.req.entries ≡ true =
     subst (λ v. do_follow v m.previous c.args.req.entries ≡ true) (sym says.vote) (subst (λ es. do_follow m.vote m.previous es ≡ true) (sym says.entries) follow) in
-    let put = c.in_ok-put_missing.ensures x own r m.previous step follows said test in
+    let put = c.in_ok-put_missing.ensures x own r c.args.req.vote m.previous step follows said test in
     let joined = subst (λ es. IsStepOf x own c.put_missing.new.self (put_entries (missing_entries s (above_committed r.state.committed es)) r)) says.entries put in
     let after = put_entries (missing_entries s (above_committed r.state.committed m.entries)) r in
     let upto : c.lesser_place.result ≡ lesser_place (place_of m.committed) (place_of (last_sent m.previous m.entries)) =
@@ -36,4 +39,7 @@ returns g c = λ x own r m step follows says repeats follow.
     let committed = c.in_ok-commit_up_to.ensures.step x own after joined (subst (λ p. EndsWithin p after.state.stored) (sym upto) within) in
     rw test
     (c.answer_append-2.ensures x own (apply_up_to (lesser_place (place_of m.committed) (place_of (last_sent m.previous m.entries))) after) m
-    (subst (λ p. IsStepOf x own c.commit_up_to.new.self (apply_up_to p after)) upto committed) repeats)
+    (subst (λ p. IsStepOf x own c.commit_up_to.new.self (apply_up_to p after)) upto committed) repeats (
+      put_keeps_vote (missing_entries s (above_committed r.state.committed m.entries)) r ∙ voted ∙ sym repeats.vote,
+      subst (λ id. next_place id ≤ end_place after.state.stored) (sym repeats.last) (request_reaches r m.vote m.previous m.entries step.state.order follow test),
+    ))

@@ -26,5 +26,5 @@ returns g c = λ x own r step.
     let known : peer_of led.0 c.args.peer ≡ peer_state c.args.peer entry = led.2.peers c.args.peer ∙ ap (peer_state c.args.peer) (sym c.peer-entry.ensures) in
     let busy : is_none (request_id entry.inflight) ≡ false = sym c.is_none.ensures ∙ c.if-is_none.false in
     rw (lost-is c.args.peer led.0 r.state.role entry r led.1 known true busy)
-    (known_step x own self c.set_peer.new.self r step (peer_state c.args.peer (record entry { inflight = Nothing })) led.0
+    (known_step x own self c.set_peer.new.self r step (peer_state c.args.peer (record entry { inflight = Nothing })) led.0 led.1
     (c.set_peer.ensures.known own r.state led.0 step.state led.1 (known-busy c.in-Some.leader self.leader c.args.peer entry c.in-Some.is c.peer-entry.ensures busy)) c.set_peer.ensures.rest.0 c.set_peer.ensures.rest.1)

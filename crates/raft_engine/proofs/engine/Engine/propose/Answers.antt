@@ -15,6 +15,6 @@ returns g c = λ x own at token s may.
     let command = c.args.command in
     let event = Call (Propose command token) at in
     let lead = proposes own at token s may.ready command may.accepted in
-    let step = c.in_ok-propose_part.ensures (given x old) own (begun at s) lead.0 token (step_begun x own at old s may.stands may.empty) lead.1 in
+    let step = c.in_ok-propose_part.ensures (given x old s) own (begun at s) lead.0 token (step_begun x own at old s may.stands may.empty) lead.1 in
     on_ok_weaker c.finish.result (event_taken x own old c.finish.new.self s event may)
-    (c.finish.ensures (given x old) own (propose_step command token (begun at s)) step (finish_proposed own at token s may.ready command may.accepted))
+    (c.finish.ensures (given x old s) own (propose_step command token (begun at s)) step (finish_proposed own at token s may.ready command may.accepted))

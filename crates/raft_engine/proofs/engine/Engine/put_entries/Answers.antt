@@ -56,8 +56,8 @@ returns g c = λ x own r place step follows placed past l.
     (c.in_ok-append.ensures.known after.state.stored cut.state.knows cut.state.order.placed (subst (ArePlaced (end_place after.state.stored)) (sym c.as_slice-3.ensures) at_end))) in
     on_ok_weaker c.push_command.result
     (λ h. rw (put_as c.args.entries first found r)
-    (log_stored x own c.cut_from.new.self _ after cut refl refl refl refl (PutEntries first.log_id.index c.args.entries) (AppendInputEntries c.args.vote c.args.entries)
+    (log_stored x own c.cut_from.new.self _ after cut refl refl refl refl (PutEntries first.log_id.index c.args.entries) (AppendInputEntries c.vote_ref-vote.result.now c.args.entries)
     (cut_keeps_role first.log_id.index r ∙ follows) known c.in_ok-append.ensures.rest
     (order_of_put after.state cut.state.order c.args.entries at_end first.log_id.index ends) (put_keeps_id after.state cut.state.order c.args.entries at_end first.log_id.index ends)
-    h (put_all_as c.args.entries first found) refl tt (λ s upto. refl)))
+    h (put_all_as c.args.entries first found) refl tt (sym (c.vote_ref-vote.ensures ∙ known.vote)) refl (λ s upto. refl)))
     c.push_command.ensures.ok

@@ -11,11 +11,11 @@ use Rattle.raft_engine.proofs.MissingEntries.{begin, missing_are, placed_after, 
 use Rattle.raft_engine.proofs.engine.Engine.put_missing.Goals as goal
 
 pub returns : goal.returns
-returns g c = λ x own r previous step follows follow held.
+returns g c = λ x own r vote previous step follows follow held.
     let s = r.state.stored in
     let es = c.args.entries in
     let order = step.state.order in
-    let placed = placed_after c.args.vote es previous follow in
+    let placed = placed_after vote es previous follow in
     let start = begin r.state order es (next_place previous) placed (previous_within r.state order previous held) in
     let left : c.drop_first.new.self ≡ unheld_entries s r.state.committed es =
     c.drop_first.ensures ∙ ap (drop c.count_held-held.result) (sym c.as_slice.ensures)

@@ -1,4 +1,4 @@
-use Rattle.std.proofs.Common.{◌≡◌, ◌++◌, ◌∙◌, ap, append-nil, refl, sym}
+use Rattle.std.proofs.Common.{◌≡◌, ◌<◌, ◌+◌, ◌++◌, ◌∙◌, ℕ, ap, append-nil, refl, subst, sym, arith}
 use Rattle.std.specs.Prelude.{Some, [], ◌∷◌}
 use Rattle.std.proofs.lemmas.Result.{on_ok_weaker}
 use Rattle.raft_commands.specs.Output.{Output}
@@ -7,6 +7,8 @@ use Rattle.raft_commands.specs.declared.command.Command.TheVariants.{PurgeLog, S
 use Rattle.raft_group_step.specs.StoredGroup.{SetSnapshot, after_storing}
 use Rattle.raft_known_state.specs.KnownState.{SnapshotMeta}
 use Rattle.raft_engine.specs.Numbering.{numbers_in}
+use Rattle.raft_engine.specs.Ordering.{committed_by_machine}
+use Rattle.raft_values.specs.declared.log_id.LogId.{LogId}
 use Rattle.raft_engine.specs.Committing.{Installs, moves_of_machine}
 use Rattle.raft_engine.proofs.CommandLemmas.{numbers_more}
 use Rattle.raft_engine.proofs.FollowingLemmas.{above_first}
@@ -29,7 +31,10 @@ returns-clause-step g c = λ x own r step follows meta is_last past there.
     (rw (c.with_seq-command.ensures, c.install_full_snapshot.ensures) refl) refl
     (ap (λ n. n ∷ []) (ap (λ (y : MachineCommand _ _ _ _ _). y.seq) c.with_seq-command.ensures ∙ c.next_sm_seq-seq.ensures.value)) refl
     (ap (λ (y : MachineCommand _ _ _ _ _). moves_of_machine y.payload) c.with_seq-command.ensures ∙ ap (λ (y : MachineCommand _ _ _ _ _). moves_of_machine y.payload) c.install_full_snapshot.ensures
-    ∙ ap (λ id. Installs id ∷ []) covers) tt tt (λ s upto. refl) (λ s upto. refl))
+    ∙ ap (λ id. Installs id ∷ []) covers) tt tt tt
+    (ap (λ (y : MachineCommand _ _ _ _ _). committed_by_machine y.payload c.args.self.now.state.state.committed) c.with_seq-command.ensures
+    ∙ ap (λ (y : MachineCommand _ _ _ _ _). committed_by_machine y.payload c.args.self.now.state.state.committed) c.install_full_snapshot.ensures ∙ covers)
+    (subst (λ (id : LogId ℕ). id.index < x.snapshot.last.index + 1) (sym is_last) (omega arith)) refl refl (λ s upto. refl) (λ s upto. refl))
     c.push_command-2.ensures.ok
 
 pub returns-clause-numbers : goal.returns-clause-numbers

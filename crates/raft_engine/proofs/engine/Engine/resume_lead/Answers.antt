@@ -11,7 +11,7 @@ use Rattle.raft_engine.proofs.engine.Engine.resume_lead.Goals as goal
 use Rattle.raft_engine.proofs.engine.Engine.resume_lead.Goals.{then-not-leads_on-via-then-not-leads_on, then-not-leads_on-via-else-not-leads_on+then-not-has_room}
 
 pub returns-then-not-leads_on : goal.returns-then-not-leads_on
-returns-then-not-leads_on g c = λ x own r step follows room.
+returns-then-not-leads_on g c = λ x own r step empty turn follows room.
     let e = c.args.self.now in
     let mine = own_vote_known x own e r c.vote_ref.result.now c.leads_under-leads_on.result step c.vote_ref.ensures c.leads_under-leads_on.ensures in
     elim c.then-not-leads_on.branch [
@@ -21,7 +21,7 @@ returns-then-not-leads_on g c = λ x own r step follows room.
     ]
 
 pub returns : goal.returns
-returns g c = λ x own r step follows room.
+returns g c = λ x own r step empty turn follows room.
     let e = c.args.self.now in
     let s = r.state.stored in
     let vote = c.vote_ref.result.now in
@@ -34,6 +34,6 @@ returns g c = λ x own r step follows room.
     on_ok_weaker c.push_command.result
     (λ pushed.
     subst (IsStepOf x own _) (leads_on own r mine)
-    (lead_resumed x own e _ r step c.in_ok-leader.leader refl refl refl
+    (lead_resumed x own e _ r step c.in_ok-leader.leader empty turn follows refl refl refl
     (stands_nowhere own e.leader e.candidate s r.state.role follows step.state.role) refl pushed leads))
     c.push_command.ensures.ok

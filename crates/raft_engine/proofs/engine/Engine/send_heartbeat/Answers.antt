@@ -18,6 +18,6 @@ returns g c = λ x own at s may.
     let event = Call Heartbeat at in
     let range = (no_first_reason (range_reason s (at ∷ [])) (lead_reason s ∷ []) (call_accepted own at s Heartbeat may.accepted)).0 in
     let can = finish_at own (begun at s).state.now s (can_finish_when_ready own s (at ∷ []) may.ready range) in
-    let step = c.in_ok-notices.ensures (given x old) own (begun at s) (step_begun x own at old s may.stands may.empty) in
+    let step = c.in_ok-notices.ensures (given x old s) own (begun at s) (step_begun x own at old s may.stands may.empty) in
     on_ok_weaker c.finish.result (event_taken x own old c.finish.new.self s event may)
-    (c.finish.ensures (given x old) own (heartbeat_step own (begun at s)) step (finish_beat own (begun at s) can))
+    (c.finish.ensures (given x old s) own (heartbeat_step own (begun at s)) step (finish_beat own (begun at s) can))

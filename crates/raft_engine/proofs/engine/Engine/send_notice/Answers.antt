@@ -1,5 +1,5 @@
 -- A notice leaves behind the rest.
-use Rattle.std.proofs.Common.{◌∙◌, refl}
+use Rattle.std.proofs.Common.{◌∙◌, refl, sym}
 use Rattle.std.proofs.lemmas.Result.{on_ok_weaker}
 use Rattle.raft_group_step.specs.Lead.{peer_of}
 use Rattle.raft_group_step.specs.Frames.{notice}
@@ -15,7 +15,7 @@ returns-clause-step g c = λ x own r lead step e.
     let command = ReplicateCommitted c.args.n c.vote_ref.result.now c.args.entry.now.matching self.state.state.committed in
     on_ok_weaker c.push_command.result
     (λ h. sent_more x own self _ r step command (message_to own c.args.n (notice r.state (peer_of lead c.args.n))) refl refl refl refl refl
-    h refl refl tt
+    h refl refl tt (sym (c.vote_ref.ensures ∙ step.state.knows.vote), refl) refl
     (λ s upto. noticed own c.args.n r.state lead c.args.entry.now c.vote_ref.result.now self.state.state.committed e (c.vote_ref.ensures ∙ step.state.knows.vote) step.state.committed))
     c.push_command.ensures.ok
 
@@ -25,6 +25,6 @@ returns-clause-whole g c = λ x own r lead step e.
     let command = ReplicateCommitted c.args.n c.vote_ref.result.now c.args.entry.now.matching self.state.state.committed in
     on_ok_weaker c.push_command.result
     (λ h. whole_sent x own self _ r step command (message_to own c.args.n (notice r.state (peer_of lead c.args.n)))
-    (same_state own self _ r.state step.state refl refl refl refl) refl refl h refl refl tt
+    (same_state own self _ r.state step.state refl refl refl refl) refl refl h refl refl tt (sym (c.vote_ref.ensures ∙ step.state.knows.vote), refl) refl
     (noticed own c.args.n r.state lead c.args.entry.now c.vote_ref.result.now self.state.state.committed e (c.vote_ref.ensures ∙ step.state.knows.vote) step.state.committed))
     c.push_command.ensures.ok

@@ -15,7 +15,7 @@ use Rattle.raft_engine.proofs.engine.Engine.stand.Goals as goal
 pub returns : goal.returns
 returns g c = λ x own r step now fits.
     let id : c.args.self.now.config.id ≡ own = ap (λ (y : EngineConfig ℕ). y.id) step.state.config in
-    let down = c.step_down.ensures x own r step in
+    let down = c.in_ok-step_down.ensures x own r step in
     let vote = c.new-vote.result in
     let before : c.vote_ref.result.now.leader_id.term ≡ r.state.stored.vote.leader_id.term = ap (λ (v : Vote ℕ). v.leader_id.term) (c.vote_ref.ensures ∙ down.state.knows.vote) in
     let term : c.saturating_add-term.result ≡ r.state.stored.vote.leader_id.term + 1 = omega (arith, c.saturating_add-term.ensures, before, fits) in

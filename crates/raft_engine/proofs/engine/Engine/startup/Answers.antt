@@ -1,9 +1,9 @@
 -- A lead that goes on has room for the end of the event.
-use Rattle.std.proofs.Common.{arith}
+use Rattle.std.proofs.Common.{refl, arith}
 use Rattle.raft_group_step.specs.Opening.{resume_lead}
 use Rattle.raft_group_step.specs.StepResult.{unchanged}
-use Rattle.raft_engine.specs.Standing.{given}
-use Rattle.raft_engine.proofs.EventLemmas.{step_unchanged}
+use Rattle.raft_engine.specs.Standing.{given_at_start}
+use Rattle.raft_engine.proofs.EventLemmas.{step_at_start}
 use Rattle.raft_engine.proofs.OpeningLemmas.{resume_finishes}
 use Rattle.raft_engine.proofs.engine.Engine.startup.Goals as goal
 
@@ -11,5 +11,5 @@ pub returns : goal.returns
 returns g c = λ x own s stands empty ready follows.
     let e = c.args.self.now in
     let places = ready.places in
-    let resumed = c.in_ok-resume_lead.ensures (given x e) own (unchanged s) (step_unchanged x own e s stands empty) follows (omega (arith, places)) in
-    c.finish.ensures (given x e) own (resume_lead own (unchanged s)) resumed (resume_finishes own s ready follows)
+    let resumed = c.in_ok-resume_lead.ensures (given_at_start x e s) own (unchanged s) (step_at_start x own e s stands empty follows) empty refl follows (omega (arith, places)) in
+    c.finish.ensures (given_at_start x e s) own (resume_lead own (unchanged s)) resumed (resume_finishes own s ready follows)

@@ -26,7 +26,7 @@ returns-then-is_answer_to g c = λ x own r step fits.
     ap (λ b. b && is_answer_to reply (outstanding_of entry.inflight)) votes ∙ repeats in
     rw (answer-is c.args.peer led.0 r.state.role entry r led.1 known reply true test
     ∙ ap (λ p. with_peer_state p led.0 r) (sym (c.after_answer.ensures c.args.peer fits)))
-    (known_step x own self c.set_peer.new.self r step (peer_state c.args.peer c.after_answer.result) led.0
+    (known_step x own self c.set_peer.new.self r step (peer_state c.args.peer c.after_answer.result) led.0 led.1
     (c.set_peer.ensures.known own r.state led.0 step.state led.1
     (known-busy c.in-Some.leader self.leader c.args.peer entry c.in-Some.is c.peer-entry.ensures (answered_busy reply entry.inflight repeats))) c.set_peer.ensures.rest.0 c.set_peer.ensures.rest.1)
 

@@ -7,7 +7,7 @@ pub returns-then-is_lower : goal.returns-then-is_lower
 returns-then-is_lower g c = λ x own r step now.
     let greater : vote_lt r.state.stored.vote c.args.vote ≡ true =
     ap (λ v. vote_lt v c.args.vote) (sym (c.vote_ref.ensures ∙ step.state.knows.vote)) ∙ sym c.is_lower.ensures ∙ c.if-is_lower.true in
-    rw greater (c.store_vote.ensures x own (step_down r) (c.step_down.ensures x own r step) refl now)
+    rw greater (c.store_vote.ensures x own (step_down r) (c.in_ok-step_down.ensures x own r step) refl now)
 
 pub returns : goal.returns
 returns g c = λ x own r step now.

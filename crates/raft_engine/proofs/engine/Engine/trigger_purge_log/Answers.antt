@@ -26,8 +26,8 @@ returns g c = λ x own at s may.
     let range = (no_first_reason (range_reason s (at ∷ [])) [] (call_accepted own at s (TriggerPurge place) may.accepted)).0 in
     let can = finish_at own r.state.now s (can_finish_when_ready own s (at ∷ []) may.ready range) in
     let step =
-    c.in_ok-update_purge_upto.ensures.step (given x old) own r
-    (subst (λ e. IsStepOf (given x old) own e r) (sym c.log_handler.ensures.value) (step_begun x own at old s may.stands may.empty)) fits in
+    c.in_ok-update_purge_upto.ensures.step (given x old s) own r
+    (subst (λ e. IsStepOf (given x old s) own e r) (sym c.log_handler.ensures.value) (step_begun x own at old s may.stands may.empty)) fits in
     on_ok_weaker c.finish.result (event_taken x own old c.finish.new.self s event may)
-    (c.finish.ensures (given x old) own (purge_trigger_step place r)
-    (subst (λ e. IsStepOf (given x old) own e (purge_trigger_step place r)) (search rules) step) (finish_purged own r ready place can))
+    (c.finish.ensures (given x old s) own (purge_trigger_step place r)
+    (subst (λ e. IsStepOf (given x old s) own e (purge_trigger_step place r)) (search rules) step) (finish_purged own r ready place can))
