@@ -1,0 +1,283 @@
+-- A new file: its name, its header, and the pipe that goes on with it.
+use Rattle.std.proofs.Common.{◌≡◌, ◌≢◌, ◌⊎◌, inl, inr, ℕ, ◌+◌, ◌-◌, ◌<◌, ◌≤◌, ◌^◌, min, Bool, true, false, cond, nat_lt, List, [], ◌∷◌, ◌++◌, length, get_or, drop, Option, Some, None, refl, sym, ap, subst, ◌∙◌, arith, append_assoc, length-append}
+use Rattle.std.specs.Prelude.{Result, Ok, Err, Vec, ◌==◌, ◌&&◌}
+use Rattle.std.specs.declared.alloc.Global.{Global}
+use Rattle.std.specs.List.{AllByRecursion}
+use Rattle.std.proofs.lemmas.Bool.{eq-eqb, lt-ltb}
+use Rattle.std.proofs.lemmas.List.{drop_at, length-drop, length-replicate}
+use Rattle.std.proofs.Math.Seq.{get_or-append_seam}
+use lib.Pointwise.{bytes_decides}
+use Rattle.raft_log_records.specs.declared.file_id.FileId.{FileId}
+use Rattle.raft_log_records.specs.declared.file_id.LogQueue.{LogQueue}
+use Rattle.raft_log_records.specs.declared.file_id.LogQueue.TheVariants.{Append, Rewrite}
+use Rattle.raft_log_disk.specs.declared.fault.IoFault.{IoFault}
+use Rattle.raft_log_disk.specs.declared.format.LogFileFormat.{LogFileFormat}
+use Rattle.raft_log_disk.specs.Text.{Text, same_text}
+use Rattle.raft_log_disk.specs.Name.{file_id_of, log_file_of, queued, suffix_of}
+use Rattle.raft_log_disk.specs.Disk.{Disk, FileState, IsIn, after_create, after_sync, after_write, fd_of, filled, no_bytes, put}
+use Rattle.raft_log_disk.specs.Format.{spelled_header}
+use Rattle.raft_log_disk.proofs.DiskLemmas.{other_file, pushed_other, same_file}
+use Rattle.raft_log_files.specs.FileName.{IsFileSeq, log_file_name, suffixed}
+use Rattle.raft_log_files.proofs.DigitLemmas.{name_split}
+use Rattle.raft_log_file.specs.declared.writer.LogFileWriter.{LogFileWriter}
+use Rattle.raft_log_file.specs.Writer.{IsOpened, IsReady, IsWriter, MakesRoom, writer_at}
+use Rattle.raft_log_file.proofs.HeaderLemmas.{length-header}
+use Rattle.raft_log_pipe.specs.declared.file.File.{File}
+use Rattle.raft_log_pipe.specs.declared.pipe.SinglePipe.{SinglePipe}
+use Rattle.raft_log_pipe.specs.Begun.{Changes, IsBegun}
+use Rattle.raft_log_pipe.specs.Placing.{Creates, IsCreated}
+use Rattle.raft_log_pipe.specs.Stored.{IsStored}
+use Rattle.raft_log_pipe.specs.Pipe.{Numbered, id_of, AreConsecutive, Holds, HoldsIn, IsLast, IsNamedSo, IsPipe, IsPlain, LeavesIn}
+use Rattle.raft_log_pipe.proofs.StoredLemmas.{stored_begun}
+use Rattle.raft_log_pipe.proofs.PipeLemmas.{AreSame, Keeps, changes, changes_on, file_beside, file_there, holds_beside, holds_leaves, holds_next, names_kept, stays}
+use Rattle.raft_log_pipe.proofs.ChangeLemmas.{appended_changes}
+
+-- ---- names
+
+suffix_len : (queue : LogQueue) → length (suffix_of queue) ≡ 8
+suffix_len Append = refl
+suffix_len Rewrite = refl
+
+queued_so : (queue : LogQueue) (seq : ℕ) → queued (suffix_of queue) seq ≡ Some (id_of queue seq)
+queued_so Append seq = refl
+queued_so Rewrite seq = refl
+
+id_said : (id : FileId) (name : Text) → IsFileSeq id.seq → name ≡ suffixed id.seq (suffix_of id.queue) → (length name ≡ 24) × (file_id_of name ≡ Some id)
+id_said id name below is =
+    let s = name_split id.seq (suffix_of id.queue) name below is in
+    let long : length name ≡ 24 = omega (arith, s.0.long, ap length s.0.behind, suffix_len id.queue, length-drop 16 name) in (
+      long,
+      (λ i. cond (both (eq-eqb (length name) 24 long) s.0.front i) (queued (s.0.behind i) (s.1 i)) None) ∙ queued_so id.queue id.seq,
+    )
+  where
+    both : {a b : Bool} → a ≡ true → b ≡ true → (a && b) ≡ true
+    both x y = (λ i. x i && y i)
+
+-- the path of a log file in a directory says which it is
+pub path_says : (directory name path : Text) (id : FileId) → IsFileSeq id.seq → name ≡ log_file_name id → path ≡ directory ++ 47 ∷ name → log_file_of path ≡ Some id
+path_says directory name path id below is path_is =
+    let said = id_said id name below is in
+    let n : ℕ = length directory in
+    let long : length path ≡ n + 25 = omega (arith, ap length path_is, length-append directory (47 ∷ name), said.0) in
+    let before : length path - 25 ≡ n = omega (arith, long) in
+    let slash : get_or path (length path - 25) 0 ≡ 47 = (λ i. get_or (path_is i) (before i) 0) ∙ get_or-append_seam directory 47 name 0 in
+    let start : length path - 24 ≡ length (directory ++ 47 ∷ []) = omega (arith, long, length-append directory (47 ∷ [])) in
+    let behind : drop (length path - 24) path ≡ name = (λ i. drop (start i) ((path_is ∙ sym (append_assoc directory (47 ∷ []) name)) i)) ∙ drop_at (directory ++ 47 ∷ []) name (length (directory ++ 47 ∷ [])) refl in
+    let test : (nat_lt 24 (length path) && (get_or path (length path - 25) 0 == 47)) ≡ true = (λ i. lt-ltb 24 (length path) (omega (arith, long)) i && eq-eqb (get_or path (length path - 25) 0) 47 slash i) in
+    (λ i. cond (test i) (file_id_of (behind i)) None) ∙ said.1
+
+-- so it is not there yet
+pub free_path : (d : Disk) (id : FileId) (path : Text) → IsLast d id.queue (id.seq - 1) → 0 < id.seq → log_file_of path ≡ Some id → fd_of d.names path ≡ None
+free_path d id path last some says = last path id.seq (omega (arith, some)) says
+
+-- a file was perhaps made under it
+pub perhaps_created : (d e : Disk) (id : FileId) (path : Text) → log_file_of path ≡ Some id → fd_of d.names path ≡ None → (e ≡ d) ⊎ (e ≡ after_create d path) → (e ≡ d) ⊎ Creates d e id
+perhaps_created d e id path says none (inl same) = inl same
+perhaps_created d e id path says none (inr made) = inr (path, says, none, made)
+
+-- ---- what a new file leaves of the others
+
+in_push : (names : List (List ℕ × ℕ)) (x y : List ℕ × ℕ) → IsIn x names → IsIn x (names ++ y ∷ [])
+in_push (n ∷ names) x y (inl e) = inl e
+in_push (n ∷ names) x y (inr there) = inr (in_push names x y there)
+in_push [] x y there = absurd there
+
+in_last : (names : List (List ℕ × ℕ)) (y : List ℕ × ℕ) → IsIn y (names ++ y ∷ [])
+in_last [] y = inl refl
+in_last (n ∷ names) y = inr (in_last names y)
+
+created_keeps : (d e : Disk) (id : FileId) → Creates d e id → Keeps d e
+created_keeps d e id (path, says, none, is) x there = subst (λ (y : Disk). IsIn x y.names) (sym is) (in_push d.names x (path, d.next) there)
+
+created_beside : (d e : Disk) (id : FileId) (n : ℕ) → Creates d e id → n ≢ d.next → e.file n ≡ d.file n
+created_beside d e id n (path, says, none, is) apart = ap (λ (y : Disk). y.file n) is ∙ other_file n d.next no_bytes (d.file n) apart
+
+pub created_here : (d e : Disk) (id : FileId) → Creates d e id → e.file d.next ≡ no_bytes
+created_here d e id (path, says, none, is) = ap (λ (y : Disk). y.file d.next) is ∙ same_file d.next no_bytes (d.file d.next)
+
+-- the disk but for a file that was made, and for that file
+pub record IsMade (d g : Disk) (id : FileId) : Type 0 where
+  pub between : Disk
+  pub creates : Creates d between id
+  pub change : Changes between g d.next
+
+pub made_alone : (d e : Disk) (id : FileId) → Creates d e id → IsMade d e id
+made_alone d e id creates = record { between = e; creates = creates; change = stays e e d.next refl }
+
+made_beside : (d g : Disk) (id : FileId) (n : ℕ) → IsMade d g id → n < d.next → g.file n ≡ d.file n
+made_beside d g id n made below =
+    let apart : n ≢ d.next = λ e. absurd (omega (arith, below, e)) in
+    file_beside made.between g d.next n made.change apart ∙ created_beside d made.between id n made.creates apart
+
+made_keeps : (d g : Disk) (id : FileId) → IsMade d g id → Keeps d g
+made_keeps d g id made x there = names_kept made.between g d.next made.change x (created_keeps d made.between id made.creates x there)
+
+made_same : (d g : Disk) (id : FileId) (fd : ℕ) (fs : List File) → IsMade d g id → AllByRecursion (λ f. (f.handle.0 < d.next) × (f.handle.0 ≢ fd)) fs → AreSame d g fs
+made_same d g id fd [] made all = tt
+made_same d g id fd (f ∷ fs) made all = (made_beside d g id f.handle.0 made all.0.0, made_same d g id fd fs made all.1)
+
+-- a pipe holds what it held
+pub made_holds : (p : SinglePipe) (d g : Disk) (id : FileId) → IsPipe p d → IsMade d g id → (s u : Numbered) → Holds p d s u → Holds p g s u
+made_holds p d g id pipe made s u h =
+    holds_beside p.queue p.older.items p.active p.writer.offset d g s u (made_keeps d g id made) (made_same d g id p.active.handle.0 p.older.items made pipe.apart)
+    (made_beside d g id p.active.handle.0 made pipe.there) h
+
+pub made_leaves : (p : SinglePipe) (d g : Disk) (id : FileId) → IsPipe p d → IsMade d g id → (s : Numbered) → Holds p d s [] → LeavesIn p.queue (p.older.items ++ p.active ∷ []) g s []
+made_leaves p d g id pipe made s h = holds_leaves p.queue p.older.items p.active p.writer.offset g s [] (made_holds p d g id pipe made s [] h)
+
+pub made_writer : (p : SinglePipe) (d g : Disk) (id : FileId) → IsPipe p d → IsMade d g id → IsWriter p.writer g
+made_writer p d g id pipe made =
+    let fd : p.writer.fd.0 ≡ p.active.handle.0 = ap (λ h. h.0) pipe.handle in
+    let same : g.file p.writer.fd.0 ≡ d.file p.writer.fd.0 = made_beside d g id p.writer.fd.0 made (omega (arith, fd, pipe.there)) in
+    record {
+      offset = pipe.writer.offset;
+      reached = pipe.writer.reached;
+      long = omega (arith, pipe.writer.long, ap (λ (f : FileState). length f.bytes) same);
+    }
+
+-- ---- the header of a new file
+
+pub opened_changes : (d e : Disk) (fd : ℕ) (format : LogFileFormat) (r : Result LogFileWriter IoFault) → IsOpened d e fd format true r → Changes d e fd
+opened_changes d e fd format (Ok w) (inl (long, not_reset, same, at)) = absurd cc
+opened_changes d e fd format (Ok w) (inr (begins, a, at)) = appended_changes (writer_at fd 0 (length (d.file fd).bytes)) d e (spelled_header format) 0 (Ok tt) a
+opened_changes d e fd format (Err x) (inl same) = stays d e fd same
+opened_changes d e fd format (Err x) (inr (begins, a)) = appended_changes (writer_at fd 0 (length (d.file fd).bytes)) d e (spelled_header format) 0 (Err x) a
+
+-- a file that has only room
+record IsBare (header : List ℕ) (f : FileState) : Type 0 where
+  pub short : length f.bytes ≤ length header
+  pub earlier : f.earlier ≡ []
+  pub later : f.later ≡ []
+
+bare_room : (header : List ℕ) (e b : Disk) (fd at len : ℕ) → e.file fd ≡ no_bytes → at + len ≤ length header → MakesRoom e b fd at len → IsBare header (b.file fd)
+bare_room header e b fd at len none le (inl is) =
+    subst (IsBare header) (sym (file_there e b fd _ is)) (record {
+      short = omega (arith, le, ap (λ (f : FileState). length (filled f.bytes (at + len))) none, length-zeros (at + len));
+      earlier = ap (λ (f : FileState). f.earlier) none;
+      later = ap (λ (f : FileState). f.later) none;
+    })
+  where
+    length-zeros : (n : ℕ) → length (filled [] n) ≡ n
+    length-zeros n =
+        let none : ℕ = 0 in
+        let long : length (filled [] n) ≡ n - 0 = length-replicate (n - 0) none in
+        omega (arith, long)
+bare_room header e b fd at len none le (inr (inl same)) =
+    subst (IsBare header) (sym (ap (λ (y : Disk). y.file fd) same ∙ none)) (record { short = omega arith; earlier = refl; later = refl })
+bare_room header e b fd at len none le (inr (inr refused)) =
+    subst (IsBare header) (sym (file_there e b fd _ refused.files)) (record {
+      short = omega (arith, le, refused.torn.no_longer, ap (λ (f : FileState). length f.bytes) none);
+      earlier = ap (λ (f : FileState). f.earlier) none;
+      later = ap (λ (f : FileState). f.later) none;
+    })
+
+bare_ready : (header : List ℕ) (e b : Disk) (fd end : ℕ) → e.file fd ≡ no_bytes → end ≤ length header → IsReady (writer_at fd 0 (length (e.file fd).bytes)) e b end 0 → IsBare header (b.file fd)
+bare_ready header e b fd end none le (inl (short, same)) =
+    subst (IsBare header) (sym (ap (λ (y : Disk). y.file fd) same ∙ none)) (record { short = omega arith; earlier = refl; later = refl })
+bare_ready header e b fd end none le (inr (long, room)) =
+    let empty : length (e.file fd).bytes ≡ 0 = ap (λ (f : FileState). length f.bytes) none in
+    bare_room header e b fd _ _ none (omega (arith, empty, le)) room
+
+-- once its header is on the disk it has no batches
+pub begun_stored : (e g : Disk) (f : File) (queue : LogQueue) (w : LogFileWriter) → e.file f.handle.0 ≡ no_bytes → IsPlain f.format → IsBegun e g f (Ok w)
+    → IsStored (id_of queue f.seq) f.format [] [] w.offset (g.file f.handle.0)
+begun_stored e g f queue w none plain (between, a, synced, writer, fd, offset) =
+    let n : ℕ = f.handle.0 in
+    let header : List ℕ = spelled_header f.format in
+    let bare = bare_ready header e a.between n (min (0 + length header) (2 ^ 64 - 1)) none (omega arith) a.ready in
+    let is : g.file n ≡ after_sync (after_write (a.between.file n) 0 header (put (a.between.file n).bytes 0 header)) = file_there between g n _ synced ∙ ap after_sync (file_there a.between between n _ a.writes) in
+    subst (λ m. IsStored (id_of queue f.seq) f.format [] [] m (g.file n)) (length-header f.format ∙ sym offset)
+    (subst (IsStored (id_of queue f.seq) f.format [] [] (length header)) (sym is)
+    (stored_begun (id_of queue f.seq) f.format (a.between.file n) header plain.0 plain.1 refl bare.short bare.earlier bare.later))
+
+pub begun_changes : (e g : Disk) (f : File) (w : LogFileWriter) → IsBegun e g f (Ok w) → Changes e g f.handle.0
+begun_changes e g f w (between, a, synced, writer, fd, offset) =
+    changes_on e between g f.handle.0 (appended_changes (writer_at f.handle.0 0 (length (e.file f.handle.0).bytes)) e between (spelled_header f.format) 0 (Ok tt) a) (changes between g f.handle.0 _ synced)
+
+-- ---- going on
+
+made_of : (d e g : Disk) (id : FileId) (n : ℕ) → n ≡ d.next → Creates d e id → Changes e g n → IsMade d g id
+made_of d e g id n is creates change = record { between = e; creates = creates; change = subst (Changes e g) is change }
+
+-- the file was made, and then its header written, in part at least
+pub made_begun : (d e g : Disk) (f : File) (id : FileId) → IsCreated d e id (Ok f) → Changes e g f.handle.0 → IsMade d g id
+made_begun d e g f id (handle, creates) change = made_of d e g id f.handle.0 handle creates change
+
+pub made_refused : (d e : Disk) (id : FileId) (x : IoFault) → IsCreated d e id (Err x) → (e ≡ d) ⊎ IsMade d e id
+made_refused d e id x (inl same) = inl same
+made_refused d e id x (inr creates) = inr (made_alone d e id creates)
+
+pub named_new : (d e g : Disk) (f : File) (id : FileId) → IsCreated d e id (Ok f) → Changes e g f.handle.0 → IsNamedSo g id f.handle.0
+named_new d e g f id (handle, (path, says, none, is)) change =
+    (path, names_kept e g f.handle.0 change (path, f.handle.0) (subst (λ (y : Disk). IsIn (path, f.handle.0) y.names) (sym is) (subst (λ n. IsIn (path, f.handle.0) (d.names ++ (path, n) ∷ [])) handle (in_last d.names (path, f.handle.0)))), says)
+
+-- the batches of a pipe that goes on with a new file
+pub next_holds : (p : SinglePipe) (d e g : Disk) (f : File) (w : LogFileWriter) (id : FileId) → IsPipe p d → id ≡ id_of p.queue f.seq → IsPlain f.format → IsCreated d e id (Ok f) → IsBegun e g f (Ok w)
+    → (s : Numbered) → Holds p d s [] → HoldsIn p.queue (p.older.items ++ p.active ∷ []) f w.offset g s []
+next_holds p d e g f w id pipe is plain created begun s h =
+    let change = begun_changes e g f w begun in
+    let made = made_begun d e g f id created change in
+    let empty : e.file f.handle.0 ≡ no_bytes = subst (λ n. e.file n ≡ no_bytes) (sym created.0) (created_here d e id created.1) in
+    holds_next p.queue p.older.items p.active f p.writer.offset w.offset g s (made_holds p d g id pipe made s [] h)
+    (subst (λ (x : FileId). IsNamedSo g x f.handle.0) is (named_new d e g f id created change))
+    (begun_stored e g f p.queue w empty plain begun)
+
+-- ---- the pipe can be used
+
+consecutive_push : (fs : List File) (f : File) → AreConsecutive fs f.seq → AreConsecutive (fs ++ f ∷ []) (f.seq + 1)
+consecutive_push fs f all = pushed fs f.seq all refl
+  where
+    pushed : (gs : List File) (last : ℕ) → AreConsecutive gs last → (last ≡ f.seq) → AreConsecutive (gs ++ f ∷ []) (last + 1)
+    pushed [] last all is = (omega (arith, is), tt)
+    pushed (g ∷ gs) last all is = (omega (arith, all.0, length-append gs (f ∷ [])), pushed gs last all.1 is)
+
+some_is : (a b : FileId) → (let x : Option FileId = Some a in x ≡ Some b) → a ≡ b
+some_is a b e = cc
+
+apart_paths : (path other : Text) (id : FileId) (queue : LogQueue) (seq : ℕ) (b : Bool) → same_text path other ≡ b → log_file_of path ≡ Some id → log_file_of other ≡ Some (id_of queue seq) → id.seq < seq → b ≡ false
+apart_paths path other id queue seq false is says tells lt = refl
+apart_paths path other id queue seq true is says tells lt =
+    let same : path ≡ other = (bytes_decides path other).0 is in
+    let ids : id ≡ id_of queue seq = some_is id (id_of queue seq) (sym says ∙ ap log_file_of same ∙ tells) in
+    absurd (omega (arith, lt, ap (λ (x : FileId). x.seq) ids))
+
+pub next_last : (d e g : Disk) (f : File) (id : FileId) (queue : LogQueue) (last : ℕ) → IsLast d queue last → last < id.seq → id.seq ≡ f.seq → IsCreated d e id (Ok f) → Changes e g f.handle.0 → IsLast g queue f.seq
+next_last d e g f id queue last free below same (handle, (path, says, none, is)) change other seq lt tells =
+    ap (λ (y : Disk). fd_of y.names other) change ∙ ap (λ (y : Disk). fd_of y.names other) is
+    ∙ pushed_other d.names path other d.next (apart_paths path other id queue seq (same_text path other) refl says tells (omega (arith, lt, same)))
+    ∙ free other seq (omega (arith, below, same, lt)) tells
+
+all_next : (n m fd : ℕ) (fs : List File) (f : File) → AllByRecursion (λ x. (x.handle.0 < n) × (x.handle.0 ≢ fd)) fs → f.handle.0 < n → n < m → AllByRecursion (λ x. (x.handle.0 < m) × (x.handle.0 ≢ n)) (fs ++ f ∷ [])
+all_next n m fd [] f all below more = ((omega (arith, below, more), λ e. absurd (omega (arith, below, e))), tt)
+all_next n m fd (g ∷ fs) f all below more = ((omega (arith, all.0.0, more), λ e. absurd (omega (arith, all.0.0, e))), all_next n m fd fs f all.1 below more)
+
+-- the pipe goes on with a new file
+abbrev pub with_next : SinglePipe → Vec File Global → File → LogFileWriter → SinglePipe
+with_next p older f w = record {
+  alloc = p.alloc;
+  queue = p.queue;
+  paths = p.paths;
+  default_format = p.default_format;
+  target_file_size = p.target_file_size;
+  older = older;
+  active = f;
+  writer = w;
+}
+
+pub next_pipe : (p : SinglePipe) (d e g : Disk) (older : Vec File Global) (f : File) (w : LogFileWriter) (id : FileId) → IsPipe p d → older.items ≡ p.older.items ++ p.active ∷ [] → id.queue ≡ p.queue → id.seq ≡ f.seq → f.seq ≡ p.active.seq + 1
+    → IsCreated d e id (Ok f) → IsBegun e g f (Ok w) → IsPipe (with_next p older f w) g
+next_pipe p d e g older f w id pipe is queue same next created begun =
+    let change = begun_changes e g f w begun in
+    let number : g.next ≡ d.next + 1 = ap (λ (y : Disk). y.next) change ∙ ap (λ (y : Disk). y.next) created.1.3 in
+    record {
+      writer = begun.3;
+      handle = begun.4;
+      plain = pipe.plain;
+      paths = pipe.paths;
+      numbers = subst (λ (l : List File). AreConsecutive l f.seq) (sym is) (subst (AreConsecutive (p.older.items ++ p.active ∷ [])) (sym next) (consecutive_push p.older.items p.active pipe.numbers));
+      last = next_last d e g f id p.queue p.active.seq pipe.last (omega (arith, same, next)) same created change;
+      there = omega (arith, number, created.0);
+      apart = subst (λ (l : List File). AllByRecursion (λ x. (x.handle.0 < g.next) × (x.handle.0 ≢ f.handle.0)) l) (sym is)
+          (subst (λ n. AllByRecursion (λ x. (x.handle.0 < g.next) × (x.handle.0 ≢ n)) (p.older.items ++ p.active ∷ [])) (sym created.0)
+          (all_next d.next g.next p.active.handle.0 p.older.items p.active pipe.apart pipe.there (omega (arith, number))));
+    }

@@ -1,0 +1,26 @@
+use Rattle.raft_log_disk.proofs.CauseLemmas.{at_err}
+use Rattle.raft_log_pipe.proofs.ExitLemmas.{again_err, again_ok, put_after, still_before, unless_no_space, unput_after, unput_from}
+use Rattle.raft_log_pipe.proofs.pipe.SinglePipe.append.Goals as goal
+
+pub returns-in_err-make_room-clause-err : goal.returns-in_err-make_room-clause-err
+returns-in_err-make_room-clause-err g c = at_err _ _ (unput_from c.args.self.now c.make_room.new.self (g.F.FileSystem.disk c.args.files.now) (g.F.FileSystem.disk c.make_room.new.files) c.args.batch.now.items c.in_err-make_room.ensures.err)
+
+pub returns-in-Ok-clause-ok : goal.returns-in-Ok-clause-ok
+returns-in-Ok-clause-ok g c =
+    put_after c.args.self.now c.make_room.new.self (g.F.FileSystem.disk c.args.files.now) (g.F.FileSystem.disk c.make_room.new.files) c.put.new.self (g.F.FileSystem.disk c.put.new.files) c.in-Ok.handle c.args.batch.now.items
+    c.in_ok-make_room.ensures.ok c.in-Ok.ensures.ok.0 c.in-Ok.ensures.ok.1
+
+pub returns-in-Err-NoSpace-clause-ok : goal.returns-in-Err-NoSpace-clause-ok
+returns-in-Err-NoSpace-clause-ok g c =
+    again_ok c.put_again.result c.args.self.now c.put.new.self (g.F.FileSystem.disk c.args.files.now) (g.F.FileSystem.disk c.put.new.files) c.put_again.new.self (g.F.FileSystem.disk c.put_again.new.files) c.args.batch.now.items c.put.new.batch.items
+    (still_before c.args.self.now c.make_room.new.self c.put.new.self (g.F.FileSystem.disk c.args.files.now) (g.F.FileSystem.disk c.make_room.new.files) (g.F.FileSystem.disk c.put.new.files) c.in_ok-make_room.ensures.ok (unless_no_space c.in-Err-NoSpace.field-0 _ c.in-Err-NoSpace.field-0-is c.in-Err-NoSpace.ensures.unwritten)) c.in-Err-NoSpace.ensures.batch.0 c.put_again.ensures.ok
+
+pub returns-in-Err-NoSpace-clause-err : goal.returns-in-Err-NoSpace-clause-err
+returns-in-Err-NoSpace-clause-err g c =
+    again_err c.put_again.result c.args.self.now c.put.new.self (g.F.FileSystem.disk c.args.files.now) (g.F.FileSystem.disk c.put.new.files) c.put_again.new.self (g.F.FileSystem.disk c.put_again.new.files) c.args.batch.now.items c.put.new.batch.items
+    (still_before c.args.self.now c.make_room.new.self c.put.new.self (g.F.FileSystem.disk c.args.files.now) (g.F.FileSystem.disk c.make_room.new.files) (g.F.FileSystem.disk c.put.new.files) c.in_ok-make_room.ensures.ok (unless_no_space c.in-Err-NoSpace.field-0 _ c.in-Err-NoSpace.field-0-is c.in-Err-NoSpace.ensures.unwritten)) c.in-Err-NoSpace.ensures.batch.0 c.put_again.ensures.err
+
+pub returns-in-Err-clause-err : goal.returns-in-Err-clause-err
+returns-in-Err-clause-err g c =
+    unput_after c.args.self.now c.make_room.new.self (g.F.FileSystem.disk c.args.files.now) (g.F.FileSystem.disk c.make_room.new.files) c.put.new.self (g.F.FileSystem.disk c.put.new.files) c.make_room.new.self.active.seq c.args.batch.now.items
+    c.in_ok-make_room.ensures.ok c.in-Err.ensures.err

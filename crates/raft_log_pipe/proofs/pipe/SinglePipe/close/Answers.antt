@@ -1,0 +1,20 @@
+use Rattle.std.proofs.Common.{Ok, Err}
+use Rattle.raft_log_disk.proofs.CauseLemmas.{at_err}
+use Rattle.raft_log_pipe.proofs.ChangeLemmas.{closed_changes, closed_holds, pipe_on, unclosed_leaves}
+use Rattle.raft_log_pipe.proofs.pipe.SinglePipe.close.Goals as goal
+
+pub returns-in_err-close-clause-pipe : goal.returns-in_err-close-clause-pipe
+returns-in_err-close-clause-pipe g c =
+    pipe_on c.args.self.now c.close.new.self _ _ c.requires c.in_err-close.ensures.writer c.in_err-close.ensures.same.0
+    (closed_changes c.args.self.now.writer _ _ (Err c.in_err-close.field-0.0) c.in_err-close.ensures.closes)
+
+pub returns-in_err-close-clause-err : goal.returns-in_err-close-clause-err
+returns-in_err-close-clause-err g c = at_err _ _ (unclosed_leaves c.args.self.now _ _ c.in_err-close.field-0.0 c.requires c.in_err-close.ensures.closes)
+
+pub returns-clause-pipe : goal.returns-clause-pipe
+returns-clause-pipe g c =
+    pipe_on c.args.self.now c.close.new.self _ _ c.requires c.in_ok-close.ensures.writer c.in_ok-close.ensures.same.0
+    (closed_changes c.args.self.now.writer _ _ (Ok tt) c.in_ok-close.ensures.closes)
+
+pub returns-clause-ok : goal.returns-clause-ok
+returns-clause-ok g c = closed_holds c.args.self.now _ _ _ c.requires c.in_ok-close.ensures.closes c.in_ok-close.ensures.same.1

@@ -1,0 +1,17 @@
+use Rattle.std.proofs.Common.{sym, subst, ◌∙◌}
+use Rattle.raft_log_pipe.specs.Pipe.{IsPlain}
+use Rattle.raft_log_pipe.proofs.ExitLemmas.{first_holds, first_pipe, last_for}
+use Rattle.raft_log_pipe.proofs.pipe.SinglePipe.create.Goals as goal
+
+pub returns-clause-pipe : goal.returns-clause-pipe
+returns-clause-pipe g c =
+    first_pipe _ _ _ _ _ (λ i. record { queue = c.new-id.ensures.queue i; seq = sym c.in_ok-file.ensures.file.0 i }) (c.in_ok-file.ensures.file.0 ∙ c.new-id.ensures.seq) c.new.ensures.items
+    c.requires.paths c.requires.plain c.requires.none c.in_ok-file.ensures.created c.in_ok-writer.ensures.begun
+
+pub returns-clause-holds : goal.returns-clause-holds
+returns-clause-holds g c =
+    first_holds c.args.queue _ c.in_ok-file.file c.in_ok-writer.writer _ _ _ _ (λ i. record { queue = c.new-id.ensures.queue i; seq = sym c.in_ok-file.ensures.file.0 i }) c.new.ensures.items
+    (subst IsPlain (sym c.in_ok-file.ensures.file.1) c.requires.plain) c.in_ok-file.ensures.created c.in_ok-writer.ensures.begun
+
+pub new_file-requires-clause-last : goal.new_file-requires-clause-last
+new_file-requires-clause-last g c κs within = last_for (g.F.FileSystem.disk c.args.files.now) _ c.args.queue 0 c.requires.none c.new-id.ensures.queue c.new-id.ensures.seq

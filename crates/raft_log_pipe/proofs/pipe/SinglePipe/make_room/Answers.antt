@@ -1,0 +1,5 @@
+use Rattle.raft_log_pipe.proofs.ExitLemmas.{rotated_ok}
+use Rattle.raft_log_pipe.proofs.pipe.SinglePipe.make_room.Goals as goal
+
+pub returns-clause-ok : goal.returns-clause-ok
+returns-clause-ok g c = rotated_ok c.rotate.result c.args.self.now c.rotate.new.self (g.F.FileSystem.disk c.args.files.now) (g.F.FileSystem.disk c.rotate.new.files) c.rotate.ensures.ok

@@ -1,0 +1,42 @@
+use Rattle.std.proofs.Common.{◌≡◌, ap, ◌∙◌, length, Ok, Err}
+use Rattle.raft_log_records.specs.declared.file_id.FileBlockHandle.{FileBlockHandle}
+use Rattle.raft_log_records.specs.Signature.{signature_of}
+use Rattle.raft_log_records.specs.Spelling.{spell_record}
+use Rattle.raft_log_pipe.proofs.ChangeLemmas.{appended_changes, by_fault, pipe_on, put_holds, ready_holds, record_is, unput_leaves}
+use Rattle.raft_log_pipe.proofs.pipe.SinglePipe.put.Goals as goal
+
+pub returns-in-Err-clause-pipe : goal.returns-in-Err-clause-pipe
+returns-in-Err-clause-pipe g c =
+    pipe_on c.args.self.now c.write.new.self _ _ c.requires.pipe c.in-Err.ensures.writer c.in-Err.ensures.file
+    (appended_changes c.args.self.now.writer _ _ _ _ (Err c.in-Err.fault) c.in-Err.ensures.writes)
+
+pub returns-in-Err-clause-err : goal.returns-in-Err-clause-err
+returns-in-Err-clause-err g c =
+    let signature : signature_of c.new-context.result.version c.new-context.result.id.seq ≡ signature_of c.args.self.now.active.format.version c.args.self.now.active.seq
+    = λ i. signature_of (c.new-context.ensures.version i) (((λ j. (c.new-context.ensures.id j).seq) ∙ c.new-id.ensures.seq) i) in
+    (unput_leaves c.args.self.now _ _ _ _ _ c.in-Err.fault c.requires.pipe c.requires.items
+    (record_is c.args.batch.now _ _ _ _ c.requires.populated c.prepare_write.ensures c.encoded_bytes-bytes.ensures signature)
+    c.in-Err.ensures.writes)
+
+pub returns-in-Err-clause-unwritten : goal.returns-in-Err-clause-unwritten
+returns-in-Err-clause-unwritten g c =
+    by_fault FileBlockHandle c.in-Err.fault _ _ (λ ready. ready_holds c.args.self.now _ _ _ _ _ c.requires.pipe ready c.in-Err.ensures.err) c.in-Err.ensures.unwritten
+
+pub returns-clause-pipe : goal.returns-clause-pipe
+returns-clause-pipe g c =
+    pipe_on c.args.self.now c.write.new.self _ _ c.requires.pipe c.in_default.ensures.writer c.in_default.ensures.file
+    (appended_changes c.args.self.now.writer _ _ _ _ (Ok tt) c.in_default.ensures.writes)
+
+pub returns-clause-ok : goal.returns-clause-ok
+returns-clause-ok g c =
+    let signature : signature_of c.new-context.result.version c.new-context.result.id.seq ≡ signature_of c.args.self.now.active.format.version c.args.self.now.active.seq
+    = λ i. signature_of (c.new-context.ensures.version i) (((λ j. (c.new-context.ensures.id j).seq) ∙ c.new-id.ensures.seq) i) in
+    let text : c.encoded_bytes-bytes.result.now ≡ spell_record (signature_of c.args.self.now.active.format.version c.args.self.now.active.seq) c.args.batch.now.items
+    = record_is c.args.batch.now _ _ _ _ c.requires.populated c.prepare_write.ensures c.encoded_bytes-bytes.ensures signature in (
+      record {
+        id = λ i. record { queue = c.new-id.ensures.queue i; seq = c.new-id.ensures.seq i };
+        offset = c.offset-offset.ensures;
+        len = ap length text;
+      },
+      put_holds c.args.self.now _ _ _ _ _ _ c.requires.pipe c.requires.items text c.in_default.ensures.writes c.in_default.ensures.ok,
+    )

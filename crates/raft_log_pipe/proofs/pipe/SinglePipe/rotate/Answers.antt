@@ -1,0 +1,11 @@
+use Rattle.raft_log_disk.proofs.CauseLemmas.{at_err}
+use Rattle.raft_log_pipe.proofs.ExitLemmas.{then_holds, then_leaves}
+use Rattle.raft_log_pipe.proofs.pipe.SinglePipe.rotate.Goals as goal
+
+pub returns-in_err-go_on-clause-err : goal.returns-in_err-go_on-clause-err
+returns-in_err-go_on-clause-err g c =
+    at_err _ _ (then_leaves c.args.self.now c.finish.new.self c.go_on.new.self (g.F.FileSystem.disk c.args.files.now) (g.F.FileSystem.disk c.finish.new.files) (g.F.FileSystem.disk c.go_on.new.files) c.in_ok-finish.ensures.ok c.in_err-go_on.ensures.err)
+
+pub returns-clause-ok : goal.returns-clause-ok
+returns-clause-ok g c =
+    then_holds c.args.self.now c.finish.new.self c.go_on.new.self (g.F.FileSystem.disk c.args.files.now) (g.F.FileSystem.disk c.finish.new.files) (g.F.FileSystem.disk c.go_on.new.files) c.in_ok-finish.ensures.ok c.in_ok-go_on.ensures.ok

@@ -1,0 +1,118 @@
+-- A pipe: files of one queue with rising numbers, of which the last one is written. Above it there are batches with the
+-- numbers of their files, and no bytes.
+use Rattle.std.specs.Prelude.{◌≡◌, ◌≢◌, ℕ, ◌+◌, ◌-◌, ◌<◌, List, [], ◌∷◌, ◌++◌, length, map, take, Option, Some, None}
+use Rattle.std.specs.List.{AllByRecursion}
+use Rattle.raft_log_records.specs.declared.file_id.FileId.{FileId}
+use Rattle.raft_log_records.specs.declared.file_id.LogQueue.{LogQueue}
+use Rattle.raft_log_records.specs.Batch.Writing.{written}
+use Rattle.raft_log_records.specs.Batch as batch
+use Rattle.raft_log_disk.specs.declared.format.LogFileFormat.{LogFileFormat}
+use Rattle.raft_log_disk.specs.Disk.{Disk, IsIn, fd_of}
+use Rattle.raft_log_disk.specs.Name.{log_file_of}
+use Rattle.raft_log_disk.specs.Format.{IsSpellable}
+use Rattle.raft_log_disk.specs.Image.{Image, IsImage}
+use Rattle.raft_log_disk.specs.Chance.{IsGenuineImage}
+use Rattle.raft_log_file.specs.Laws.{Batch}
+use Rattle.raft_log_file.specs.Unsynced.{ReadsAs}
+use Rattle.raft_log_file.specs.Writer.{IsWriter}
+use Rattle.raft_log_pipe.specs.declared.file.File.{File}
+use Rattle.raft_log_pipe.specs.declared.pipe.SinglePipe.{SinglePipe}
+use Rattle.raft_log_pipe.specs.Stored.{IsStored}
+
+-- batches with the numbers of their files
+abbrev pub Numbered : Type 0
+Numbered = List (ℕ × Batch)
+
+-- the batches of one file
+abbrev pub numbered : ℕ → List Batch → Numbered
+numbered seq ks = map (λ k. (seq, k)) ks
+
+-- the log file of a number
+abbrev pub id_of : LogQueue → ℕ → FileId
+id_of queue seq = record { queue = queue; seq = seq }
+
+-- ---- what a pipe holds
+
+-- the file of this number on the disk has a path that says this log file
+abbrev pub IsNamedSo : Disk → FileId → ℕ → Type 0
+IsNamedSo d id fd = (path : List ℕ) × IsIn (path, fd) d.names × (log_file_of path ≡ Some id)
+
+-- a file that is written no more: its batches are on the disk
+pub record IsOlder (queue : LogQueue) (d : Disk) (f : File) (ks : List Batch) : Type 0 where
+  pub offset : ℕ
+  pub named : IsNamedSo d (id_of queue f.seq) f.handle.0
+  pub stored : IsStored (id_of queue f.seq) f.format ks [] offset (d.file f.handle.0)
+
+-- the batches of such files, one file after the other
+abbrev pub AreOlder : LogQueue → Disk → List File → Numbered → Type 0
+AreOlder queue d [] bs = bs ≡ []
+AreOlder queue d (f ∷ fs) bs = (ks : List Batch) × (rest : Numbered) × (bs ≡ numbered f.seq ks ++ rest) × IsOlder queue d f ks × AreOlder queue d fs rest
+
+-- Files and the last one of them, which is written up to an offset: their batches on the disk, and those that were written
+-- since the last sync
+pub record HoldsIn (queue : LogQueue) (fs : List File) (active : File) (offset : ℕ) (d : Disk) (synced unsynced : Numbered) : Type 0 where
+  pub before : Numbered
+  pub ks : List Batch
+  pub us : List Batch
+  pub synced_are : synced ≡ before ++ numbered active.seq ks
+  pub unsynced_are : unsynced ≡ numbered active.seq us
+  pub olders : AreOlder queue d fs before
+  pub named : IsNamedSo d (id_of queue active.seq) active.handle.0
+  pub stored : IsStored (id_of queue active.seq) active.format ks us offset (d.file active.handle.0)
+
+-- the pipe's batches: those on the disk, and those that were written since its last sync
+abbrev pub Holds : SinglePipe → Disk → Numbered → Numbered → Type 0
+Holds p d synced unsynced = HoldsIn p.queue p.older.items p.active p.writer.offset d synced unsynced
+
+-- ---- what a crash leaves
+
+-- what an image of files reads as
+abbrev pub ImageReads : LogQueue → List File → Image → Numbered → Type 0
+ImageReads queue [] image bs = bs ≡ []
+ImageReads queue (f ∷ fs) image bs =
+    (ks : List Batch) × (rest : Numbered) × (bs ≡ numbered f.seq ks ++ rest) × ReadsAs (id_of queue f.seq) ks (image f.handle.0)
+    × ImageReads queue fs image rest
+
+-- whatever a crash leaves, files read as these batches and a front of the others, unless bytes that nobody wrote pass as
+-- records
+abbrev pub LeavesIn : LogQueue → List File → Disk → Numbered → Numbered → Type 0
+LeavesIn queue fs d synced unsynced = (image : Image) → IsImage d image → IsGenuineImage d image → (k : ℕ) × ImageReads queue fs image (synced ++ take k unsynced)
+
+-- the same of the files of a pipe
+abbrev pub Leaves : SinglePipe → Disk → Numbered → Numbered → Type 0
+Leaves p d synced unsynced = LeavesIn p.queue (p.older.items ++ p.active ∷ []) d synced unsynced
+
+-- ---- a pipe that can be used
+
+-- no file of the queue has a greater number
+abbrev pub IsLast : Disk → LogQueue → ℕ → Type 0
+IsLast d queue last = (path : List ℕ) (seq : ℕ) → last < seq → log_file_of path ≡ Some (id_of queue seq) → fd_of d.names path ≡ None
+
+-- the numbers of files follow one another up to the last
+abbrev pub AreConsecutive : List File → ℕ → Type 0
+AreConsecutive [] last = Unit {0}
+AreConsecutive (f ∷ fs) last = (f.seq + length fs + 1 ≡ last) × AreConsecutive fs last
+
+-- a format without alignment
+abbrev pub IsPlain : LogFileFormat → Type 0
+IsPlain format = IsSpellable format × (format.alignment ≡ 0)
+
+pub record IsPipe (p : SinglePipe) (d : Disk) : Type 0 where
+  pub writer : IsWriter p.writer d
+  pub handle : p.writer.fd ≡ p.active.handle
+  pub plain : IsPlain p.default_format
+  pub paths : 0 < length p.paths.items
+  pub numbers : AreConsecutive p.older.items p.active.seq
+  pub last : IsLast d p.queue p.active.seq
+  pub there : p.active.handle.0 < d.next
+  pub apart : AllByRecursion (λ f. (f.handle.0 < d.next) × (f.handle.0 ≢ p.active.handle.0)) p.older.items
+
+-- the number of the first file
+abbrev pub first_of : SinglePipe → ℕ
+first_of p = p.active.seq - length p.older.items
+
+-- ---- batches that are written
+
+-- the batch is written as a record
+abbrev pub IsPopulated : batch.Batch → Type 0
+IsPopulated b = (signature : Option ℕ) × (b.writing ≡ written signature)

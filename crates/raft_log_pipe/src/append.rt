@@ -1,0 +1,120 @@
+//! Appends to a pipe.
+
+ghost use Rattle.std.specs.Prelude.{◌≡◌, ◌⊎◌, ◌+◌, ◌-◌, ◌<◌, ◌≤◌, ◌^◌, ◌++◌, ◌∷◌, [], length, min, IfOk, OnOk, OnErr};
+ghost use Rattle.raft_log_records.specs.Spelling.{AreItems};
+ghost use Rattle.raft_log_disk.specs.Cause.{UnlessRefused};
+ghost use Rattle.raft_log_file.specs.Writer.{IsWriter};
+ghost use Rattle.raft_log_pipe.specs.Pipe.{IsPipe, IsPopulated, Holds, Leaves, Numbered};
+ghost use Rattle.raft_log_pipe.specs.Appending.{IsHandle, Appends, LeavesAppended};
+
+use crate::pipe::SinglePipe;
+use raft_log_files::{Error, FileSystem, IoFault};
+use raft_log_records::{FileBlockHandle, FileId, LogBatch, LogFileContext};
+
+impl SinglePipe {
+    /// Appends a batch to the last file.
+    fn put<F: FileSystem>(
+        &mut self,
+        files: &mut F,
+        batch: &mut LogBatch,
+    ) -> Result<FileBlockHandle, IoFault>
+        requires pipe { IsPipe self.old (F.disk files.old) }
+        requires populated { IsPopulated batch.old }
+        requires items { AreItems batch.old.items }
+        ensures pipe { IsPipe self.new (F.disk files.new) }
+        ensures same { (self.new.active ≡ self.old.active) × (self.new.older ≡ self.old.older) × (self.new.queue ≡ self.old.queue) }
+        ensures batch { (batch.new.items ≡ batch.old.items) × IsPopulated batch.new }
+        ensures ok { IfOk result (λ h. IsHandle self.old batch.old.items h × ((synced : Numbered) (unsynced : Numbered) → Holds self.old (F.disk files.old) synced unsynced
+            → Holds self.new (F.disk files.new) synced (unsynced ++ (self.old.active.seq, batch.old.items) ∷ []))) }
+        ensures err { OnErr result ((synced : Numbered) (unsynced : Numbered) → Holds self.old (F.disk files.old) synced unsynced
+            → Leaves self.new (F.disk files.new) synced (unsynced ++ (self.old.active.seq, batch.old.items) ∷ [])) }
+        ensures unwritten { UnlessRefused result ((synced : Numbered) (unsynced : Numbered) → Holds self.old (F.disk files.old) synced unsynced
+            → Holds self.new (F.disk files.new) synced unsynced) }
+    {
+        let id = FileId::new(self.queue, self.active.seq);
+        let context = LogFileContext::new(id, self.active.format.version);
+        batch.prepare_write(&context);
+        let offset = self.writer.offset();
+        let bytes = batch.encoded_bytes();
+        if let Err(fault) = self.writer.write(files, bytes, self.target_file_size) {
+            return Err(fault);
+        }
+        Ok(FileBlockHandle {
+            id,
+            offset,
+            len: bytes.len() as u64,
+        })
+    }
+
+    /// Goes on with a new file where the last one has reached the target size.
+    fn make_room<F: FileSystem>(&mut self, files: &mut F) -> Result<(), Error>
+        requires pipe { IsPipe self.old (F.disk files.old) }
+        ensures pipe { OnOk result (IsPipe self.new (F.disk files.new)) }
+        ensures writer { IsWriter self.new.writer (F.disk files.new) }
+        ensures queue { self.new.queue ≡ self.old.queue }
+        ensures ok { OnOk result ((synced : Numbered) (unsynced : Numbered) → Holds self.old (F.disk files.old) synced unsynced
+            → Holds self.new (F.disk files.new) synced unsynced ⊎ Holds self.new (F.disk files.new) (synced ++ unsynced) []) }
+        ensures err { OnErr result ((synced : Numbered) (unsynced : Numbered) → Holds self.old (F.disk files.old) synced unsynced → Leaves self.new (F.disk files.new) synced unsynced) }
+    {
+        if self.writer.offset() < self.target_file_size {
+            return Ok(());
+        }
+        self.rotate(files)
+    }
+
+    /// Appends a batch, written as a record, and answers where the record stands. It goes to the
+    /// last file, or to a new one where that has reached the target size. Where there is no space
+    /// the file is rotated and the batch appended once more; then `TryAgain` tells of want of space.
+    pub fn append<F: FileSystem>(
+        &mut self,
+        files: &mut F,
+        batch: &mut LogBatch,
+    ) -> Result<FileBlockHandle, Error>
+        requires pipe { IsPipe self.old (F.disk files.old) }
+        requires populated { IsPopulated batch.old }
+        requires items { AreItems batch.old.items }
+        ensures pipe { OnOk result (IsPipe self.new (F.disk files.new)) }
+        ensures writer { IsWriter self.new.writer (F.disk files.new) }
+        ensures queue { self.new.queue ≡ self.old.queue }
+        ensures batch { batch.new.items ≡ batch.old.items }
+        ensures ok { IfOk result (λ h. Appends self.old (F.disk files.old) self.new (F.disk files.new) h.id.seq batch.old.items) }
+        ensures err { OnErr result ((synced : Numbered) (unsynced : Numbered) → Holds self.old (F.disk files.old) synced unsynced
+            → LeavesAppended self.new (F.disk files.new) synced unsynced batch.old.items) }
+    {
+        self.make_room(files)?;
+        match self.put(files, batch) {
+            Ok(handle) => Ok(handle),
+            Err(IoFault::NoSpace) => self.put_again(files, batch),
+            Err(fault) => Err(Error::from(fault)),
+        }
+    }
+
+    /// Appends a batch once more, to a new file: the append before found no space, and what it left
+    /// is cut away.
+    fn put_again<F: FileSystem>(
+        &mut self,
+        files: &mut F,
+        batch: &mut LogBatch,
+    ) -> Result<FileBlockHandle, Error>
+        requires pipe { IsPipe self.old (F.disk files.old) }
+        requires populated { IsPopulated batch.old }
+        requires items { AreItems batch.old.items }
+        ensures pipe { OnOk result (IsPipe self.new (F.disk files.new)) }
+        ensures writer { IsWriter self.new.writer (F.disk files.new) }
+        ensures queue { self.new.queue ≡ self.old.queue }
+        ensures batch { batch.new.items ≡ batch.old.items }
+        ensures ok { IfOk result (λ h. Appends self.old (F.disk files.old) self.new (F.disk files.new) h.id.seq batch.old.items) }
+        ensures err { OnErr result ((synced : Numbered) (unsynced : Numbered) → Holds self.old (F.disk files.old) synced unsynced
+            → LeavesAppended self.new (F.disk files.new) synced unsynced batch.old.items) }
+    {
+        self.finish(files)?;
+        match self.go_on(files) {
+            Ok(()) => {}
+            Err(fault) => return Err(Error::of_second_append(fault)),
+        }
+        match self.put(files, batch) {
+            Ok(handle) => Ok(handle),
+            Err(fault) => Err(Error::of_second_append(fault)),
+        }
+    }
+}

@@ -1,0 +1,13 @@
+//! One queue of log files: batches are appended to the last one, and read by their handles.
+#![tactic(auto)]
+
+mod append;
+mod file;
+mod laws;
+mod opening;
+mod pipe;
+mod rotate;
+
+pub use file::{File, Paths};
+pub use laws::pipes_leave_a_front;
+pub use pipe::SinglePipe;

@@ -1,0 +1,73 @@
+//! A pipe, and what it tells of its files.
+
+ghost use Rattle.std.specs.Prelude.{◌≡◌, ◌+◌, ◌-◌, ◌*◌, ◌/◌, ◌≤◌, ◌^◌, ◌++◌, [], min, length, OnOk, OnErr};
+ghost use Rattle.raft_log_pipe.specs.Pipe.{IsPipe, Holds, Numbered, first_of};
+
+use crate::file::{File, Paths};
+use raft_log_file::LogFileWriter;
+use raft_log_files::{Error, FileSystem, LogFileFormat};
+use raft_log_records::{FileSeq, LogQueue};
+use std::alloc::Global;
+
+/// The log files of one queue, in order (raft-engine's `SinglePipe`). The file system is passed to
+/// each call. After an `Err` of a changing call the files are opened again before more is written.
+#[derive(Debug, Drop)]
+pub struct SinglePipe {
+    pub(crate) alloc: Global,
+    pub(crate) queue: LogQueue,
+    pub(crate) paths: Paths,
+    /// The format of new files.
+    pub(crate) default_format: LogFileFormat,
+    /// A file that has so many bytes is written no more.
+    pub(crate) target_file_size: u64,
+    /// All files but the last.
+    pub(crate) older: Vec<File>,
+    /// The last file, which is written.
+    pub(crate) active: File,
+    pub(crate) writer: LogFileWriter,
+}
+
+impl SinglePipe {
+    /// How many files there are.
+    fn count(&self) -> u64
+        ensures { result ≡ length self.now.older.items + 1 }
+    {
+        self.older.len() as u64 + 1
+    }
+
+    /// The numbers of the first file and of the last.
+    pub fn file_span(&self) -> (FileSeq, FileSeq)
+        ensures first { result.0 ≡ first_of self.now }
+        ensures last { result.1 ≡ self.now.active.seq }
+    {
+        let older = self.older.len() as u64;
+        (self.active.seq.saturating_sub(older), self.active.seq)
+    }
+
+    /// The number of the file before which so many per cent of the files lie.
+    pub fn file_at(&self, percent: u64) -> FileSeq
+        requires { percent ≤ 100 }
+        ensures { result ≡ min (first_of self.now + min ((length self.now.older.items + 1) * percent) (2 ^ 64 - 1) / 100) (2 ^ 64 - 1) }
+    {
+        let (first, _) = self.file_span();
+        first.saturating_add(self.count().saturating_mul(percent) / 100)
+    }
+
+    /// The bytes of all files, each taken as long as the target size.
+    pub fn total_size(&self) -> u64
+        ensures { result ≡ min ((length self.now.older.items + 1) * self.now.target_file_size) (2 ^ 64 - 1) }
+    {
+        self.count().saturating_mul(self.target_file_size)
+    }
+
+    /// After it, a crash leaves what was appended.
+    pub fn sync<F: FileSystem>(&mut self, files: &mut F) -> Result<(), Error>
+        requires { IsPipe self.old (F.disk files.old) }
+        ensures pipe { IsPipe self.new (F.disk files.new) }
+        ensures ok { OnOk result ((synced : Numbered) (unsynced : Numbered) → Holds self.old (F.disk files.old) synced unsynced → Holds self.new (F.disk files.new) (synced ++ unsynced) []) }
+        ensures err { OnErr result ((synced : Numbered) (unsynced : Numbered) → Holds self.old (F.disk files.old) synced unsynced → Holds self.new (F.disk files.new) synced unsynced) }
+    {
+        self.writer.sync(files)?;
+        Ok(())
+    }
+}

@@ -1,0 +1,99 @@
+//! Rotation: the last file is cut and synced, and a new one goes on.
+
+ghost use Rattle.std.specs.Prelude.{◌≡◌, ◌+◌, ◌-◌, ◌<◌, ◌++◌, ◌∷◌, [], IfOk, OnOk, OnErr};
+ghost use Rattle.raft_log_file.specs.Writer.{IsWriter};
+ghost use Rattle.raft_log_files.specs.FileName.{IsFileSeq};
+ghost use Rattle.raft_log_pipe.specs.Pipe.{IsPipe, IsPlain, Holds, Leaves, Numbered};
+ghost use Rattle.raft_log_pipe.specs.Begun.{IsBegun};
+
+use crate::file::{File, new_file};
+use crate::pipe::SinglePipe;
+use raft_log_file::{LogFileWriter, build_file_writer};
+use raft_log_files::{Error, FileSystem, IoFault, LogFileFormat, OtherFault, is_file_seq};
+use raft_log_records::FileId;
+use std::alloc::Global;
+
+/// Writes and syncs the header of a file that is to begin.
+pub(crate) fn begin_file<F: FileSystem>(
+    files: &mut F,
+    alloc: Global,
+    file: File,
+) -> Result<LogFileWriter, IoFault>
+    requires { IsPlain file.format }
+    ensures begun { IsBegun (F.disk files.old) (F.disk files.new) file result }
+{
+    let writer = match build_file_writer(files, alloc, file.handle, file.format, true) {
+        Ok(writer) => writer,
+        Err(fault) => return Err(fault),
+    };
+    if let Err(fault) = writer.sync(files) {
+        return Err(fault);
+    }
+    Ok(writer)
+}
+
+impl SinglePipe {
+    /// Cuts and syncs the last file, so that all that was appended is on the disk.
+    pub fn close<F: FileSystem>(&mut self, files: &mut F) -> Result<(), Error>
+        requires { IsPipe self.old (F.disk files.old) }
+        ensures pipe { IsPipe self.new (F.disk files.new) }
+        ensures same { (self.new.active ≡ self.old.active) × (self.new.older ≡ self.old.older) × (self.new.queue ≡ self.old.queue) }
+        ensures ok { OnOk result ((synced : Numbered) (unsynced : Numbered) → Holds self.old (F.disk files.old) synced unsynced → Holds self.new (F.disk files.new) (synced ++ unsynced) []) }
+        ensures err { OnErr result ((synced : Numbered) (unsynced : Numbered) → Holds self.old (F.disk files.old) synced unsynced → Leaves self.new (F.disk files.new) synced unsynced) }
+    {
+        self.writer.close(files)?;
+        Ok(())
+    }
+
+    /// Cuts and syncs the last file, if there is a number for another one.
+    pub(crate) fn finish<F: FileSystem>(&mut self, files: &mut F) -> Result<(), Error>
+        requires { IsPipe self.old (F.disk files.old) }
+        ensures pipe { IsPipe self.new (F.disk files.new) }
+        ensures number { OnOk result (IsFileSeq (self.old.active.seq + 1)) }
+        ensures same { (self.new.active ≡ self.old.active) × (self.new.older ≡ self.old.older) × (self.new.queue ≡ self.old.queue) }
+        ensures ok { OnOk result ((synced : Numbered) (unsynced : Numbered) → Holds self.old (F.disk files.old) synced unsynced → Holds self.new (F.disk files.new) (synced ++ unsynced) []) }
+        ensures err { OnErr result ((synced : Numbered) (unsynced : Numbered) → Holds self.old (F.disk files.old) synced unsynced → Leaves self.new (F.disk files.new) synced unsynced) }
+    {
+        if !is_file_seq(self.active.seq.saturating_add(1)) {
+            return Err(Error::Other(OtherFault::NoFileNumber));
+        }
+        self.close(files)
+    }
+
+    /// Goes on with a new file, of the next number.
+    pub(crate) fn go_on<F: FileSystem>(&mut self, files: &mut F) -> Result<(), IoFault>
+        requires pipe { IsPipe self.old (F.disk files.old) }
+        requires number { IsFileSeq (self.old.active.seq + 1) }
+        ensures pipe { OnOk result (IsPipe self.new (F.disk files.new)) }
+        ensures writer { IsWriter self.new.writer (F.disk files.new) }
+        ensures next { OnOk result ((self.new.active.seq ≡ self.old.active.seq + 1) × (self.new.older.items ≡ self.old.older.items ++ self.old.active ∷ [])) }
+        ensures queue { self.new.queue ≡ self.old.queue }
+        ensures ok { OnOk result ((synced : Numbered) → Holds self.old (F.disk files.old) synced [] → Holds self.new (F.disk files.new) synced []) }
+        ensures err { OnErr result ((synced : Numbered) → Holds self.old (F.disk files.old) synced [] → Leaves self.new (F.disk files.new) synced []) }
+    {
+        let id = FileId::new(self.queue, self.active.seq + 1);
+        let format = self.default_format;
+        let target_size = self.target_file_size;
+        let file = new_file(files, self.alloc, &self.paths, id, format, target_size)?;
+        let writer = begin_file(files, self.alloc, file)?;
+        self.older.push(self.active)?;
+        self.active = file;
+        self.writer = writer;
+        Ok(())
+    }
+
+    /// Goes on with a new file. All that was appended is on the disk then.
+    pub fn rotate<F: FileSystem>(&mut self, files: &mut F) -> Result<(), Error>
+        requires pipe { IsPipe self.old (F.disk files.old) }
+        ensures pipe { OnOk result (IsPipe self.new (F.disk files.new)) }
+        ensures writer { IsWriter self.new.writer (F.disk files.new) }
+        ensures next { OnOk result ((self.new.active.seq ≡ self.old.active.seq + 1) × (self.new.older.items ≡ self.old.older.items ++ self.old.active ∷ [])) }
+        ensures queue { self.new.queue ≡ self.old.queue }
+        ensures ok { OnOk result ((synced : Numbered) (unsynced : Numbered) → Holds self.old (F.disk files.old) synced unsynced → Holds self.new (F.disk files.new) (synced ++ unsynced) []) }
+        ensures err { OnErr result ((synced : Numbered) (unsynced : Numbered) → Holds self.old (F.disk files.old) synced unsynced → Leaves self.new (F.disk files.new) synced unsynced) }
+    {
+        self.finish(files)?;
+        self.go_on(files)?;
+        Ok(())
+    }
+}
