@@ -6,7 +6,7 @@ use Rattle.std.specs.String.{string_bytes}
 use Rattle.std.proofs.lemmas.Bool.{eq-eqb, ne_eqb, eqb-true, eqb-false, or_parts}
 use Rattle.raft_log_disk.specs.declared.memory_file.MemoryFile.{MemoryFile}
 use Rattle.raft_log_disk.specs.Text.{Text, same_text}
-use Rattle.raft_log_disk.specs.Disk.{FileState, Disk, IsIn, IsNoFile, after_create, listed, HasOneOf, are_named, fd_of, without, moved, no_bytes, with_file, after_write, after_allocate, after_truncate, Torn, PartlyTruncated, RefusedWrite, RefusedAllocate, RefusedTruncate}
+use Rattle.raft_log_disk.specs.Disk.{FileState, Disk, IsIn, IsNoFile, after_create, listed, HasOneOf, are_named, fd_of, without, moved, no_bytes, with_file, after_write, after_allocate, after_truncate, Torn, PartlyFilled, PartlyTruncated, RefusedWrite, RefusedAllocate, RefusedTruncate}
 use Rattle.raft_log_disk.specs.Memory.{state_of, names_of, texts_of, file_of, disk_of, place_of, place_of_path}
 use Rattle.raft_log_disk.specs.Place.{IsPlace, IsPathPlace}
 use Rattle.raft_log_disk.proofs.NamedLemmas.{IsNamedFirst, named_first, named_push, named_without, named_moved, next_free, has_number, number_in, one_path}
@@ -279,6 +279,12 @@ no_path directories fs next number paths none one = none (number_in one.0 number
 unseen : (at end : ℕ) (bytes : List ℕ) → Torn at end bytes bytes
 unseen at end bytes = record { before = refl; after = refl; no_shorter = omega arith; no_longer = omega arith; fits = λ h. h }
 
+unfilled : (end : ℕ) (bytes : List ℕ) → PartlyFilled end bytes bytes
+unfilled end bytes = record { no_shorter = omega arith; no_longer = omega arith; front = sym (ap (λ n. bytes ++ replicate n 0) none ∙ append-nil bytes) }
+  where
+    none : length bytes - length bytes ≡ 0
+    none = omega arith
+
 uncut : (len : ℕ) (bytes : List ℕ) → PartlyTruncated len bytes bytes
 uncut len bytes = record {
   no_shorter = omega arith;
@@ -301,7 +307,7 @@ pub refused_allocate_noted : (directories : List (String Global)) (fs : List Mem
     → state_of s ≡ after_allocate (state_of old) at len old.bytes.items → RefusedAllocate (disk_of directories fs next) (disk_of directories (slice_set fs i s) next) number at len
 refused_allocate_noted directories fs number i next at len old s p is n q made = record {
   seen = (file_of fs number).bytes;
-  torn = unseen at (at + len) (file_of fs number).bytes;
+  part = unfilled (at + len) (file_of fs number).bytes;
   files = file_changed (λ f. after_allocate f at len f.bytes) directories fs number i next old s p is n q made;
 }
 

@@ -150,13 +150,19 @@ renamed f = record {
   brought = take 69 f.bytes;
 }
 
--- what a read sees after a refused change of a range: anything there, and the bytes around it
+-- what a read sees after a refused write: anything in its range, and the bytes around it
 pub record Torn (at end : ℕ) (old new : List ℕ) : Type 0 where
   pub before : take at new ≡ take at old
   pub after : drop end new ≡ drop end old
   pub no_shorter : length old ≤ length new
   pub no_longer : length new ≤ max (length old) end
   pub fits : AreBytes old → AreBytes new
+
+-- after a refused allocation: zeros stand behind the bytes, some of the way
+pub record PartlyFilled (end : ℕ) (old new : List ℕ) : Type 0 where
+  pub no_shorter : length old ≤ length new
+  pub no_longer : length new ≤ max (length old) end
+  pub front : new ≡ filled old (length new)
 
 -- and after a refused cut or lengthening: it came some of the way
 pub record PartlyTruncated (len : ℕ) (old new : List ℕ) : Type 0 where
@@ -204,7 +210,7 @@ pub record RefusedWrite (old new : Disk) (fd at : ℕ) (bytes : List ℕ) : Type
 
 pub record RefusedAllocate (old new : Disk) (fd at len : ℕ) : Type 0 where
   pub seen : List ℕ
-  pub torn : Torn at (at + len) (old.file fd).bytes seen
+  pub part : PartlyFilled (at + len) (old.file fd).bytes seen
   pub files : new ≡ with_file old fd (after_allocate (old.file fd) at len seen)
 
 pub record RefusedTruncate (old new : Disk) (fd len : ℕ) : Type 0 where

@@ -1,12 +1,13 @@
 -- Several records that were written and not synced: a crash leaves a front of them.
 use Rattle.std.proofs.Common.{◌≡◌, ◌⊎◌, inl, inr, ⊎_elim, ℕ, zero, suc, ◌+◌, ◌-◌, ◌^◌, ◌<◌, ◌≤◌, Bool, true, false, cond, nat_lt, List, [], ◌∷◌, ◌++◌, length, get_or, take, drop, Option, Some, None, Result, Ok, Err, refl, sym, ap, subst, ◌∙◌, arith, append_assoc, length-append, length-take, length-drop, take-append-drop, add-zero, ext_get_or}
-use Rattle.std.specs.Prelude.{IfSome, MatchResult, ◌==◌}
+use Rattle.std.specs.Prelude.{IfSome, MatchResult, replicate, ◌==◌}
 use Rattle.std.specs.List.{AllByRecursion, list_all, flat_map}
-use Rattle.std.proofs.lemmas.List.{append-nil, get_or-take, take_all, take_at, drop_at}
+use Rattle.std.proofs.lemmas.List.{append-nil, get_or-take, take_all, take_at, drop_at, length-replicate, replicate-append-replicate}
 use Rattle.std.proofs.lemmas.List.Concat.{flat_map-append}
 use Rattle.raft_log_records.specs.Item.{with_bytes}
 use Rattle.raft_log_records.specs.declared.item.EntryIndex.{EntryIndex}
 use Rattle.raft_log_records.specs.declared.error.RecordFault.{RecordFault}
+use Rattle.raft_log_records.specs.declared.error.RecordFault.TheVariants.{BadLength}
 use Rattle.raft_log_records.specs.declared.version.Version.{Version}
 use Rattle.raft_log_records.specs.declared.version.Version.TheVariants.{V1, V2}
 use Rattle.raft_log_records.specs.declared.file_id.FileId.{FileId}
@@ -16,6 +17,7 @@ use Rattle.raft_log_records.specs.Signature.{signature_of}
 use Rattle.raft_log_records.specs.Spelling.{AreItems, block_of, record_len, spell_block, spell_items, lengths, spell_record}
 use Rattle.raft_bytes.specs.Bytes.{AreBytes}
 use Rattle.raft_bytes.proofs.Bytes.{AreBytes-drop}
+use Rattle.raft_log_records.proofs.Locality.{zeros_are_no_record}
 use Rattle.raft_log_records.proofs.Placed.{placed_bytes}
 use Rattle.raft_log_records.proofs.RecordAgain.{back_bytes, record_again}
 use Rattle.raft_log_disk.specs.declared.format.LogFileFormat.{LogFileFormat}
@@ -26,7 +28,7 @@ use Rattle.raft_log_disk.specs.Chance.{AreWritten, IsGenuine, IsHeaderWritten, I
 use Rattle.raft_log_disk.proofs.ChanceLemmas.{step}
 use Rattle.raft_log_file.specs.Reading.{Reading, batch_at, contents, file_reading, read_from, read_or, stopped, with_batch}
 use Rattle.raft_log_file.specs.Laws.{Batch, AreBatches, ReadsFront, file_text, spelled_batches}
-use Rattle.raft_log_file.specs.Unsynced.{IsUnsynced, ReadsAs, RecycledFilesBegin, RoomStaysUnread, SyncedBatchesBegin, UnsyncedBatchesAreAFront, UnsyncedBatchesGrow, places}
+use Rattle.raft_log_file.specs.Unsynced.{IsRecord, IsUnsynced, ReadsAs, RecycledFilesBegin, RoomStaysUnread, SyncedBatchesBegin, UnsyncedBatchesAreAFront, UnsyncedBatchesGrow, places}
 use Rattle.raft_log_file.proofs.HeaderLemmas.{length-header}
 use Rattle.raft_log_file.proofs.LawLemmas.{header_read, length-spelled, signature_fits, written_batches_are_read}
 use Rattle.raft_log_file.proofs.WalkLemmas.{Read, from_end, from_fault, from_found, record_sized}
@@ -67,10 +69,37 @@ places_from signature at (u ∷ us) x (inr there) = omega (arith, places_from si
 
 -- ---- the walk behind the synced batches
 
--- no span that began before, and no earlier one that is kept, begins at this place or behind it
-record IsClear (f : FileState) (older : List Span) (at : ℕ) : Type 0 where
+-- no span that began before, and no earlier record that is kept, begins at this place or behind it
+record IsClear (f : FileState) (signature : Option ℕ) (older : List Span) (at : ℕ) : Type 0 where
   pub before : AllBefore at older
-  pub earlier : (n : ℕ) (bytes : List ℕ) → at ≤ n → 0 < length bytes → IsIn (n, bytes) f.earlier → Stands f.kept n bytes → ⊥
+  pub earlier : (n : ℕ) (bytes : List ℕ) → at ≤ n → IsRecord signature bytes → IsIn (n, bytes) f.earlier → Stands f.kept n bytes → ⊥
+
+-- a record that is read at the front of some bytes
+pub record_here : (signature : Option ℕ) (tail : List ℕ) (read : Read) → record_at signature tail ≡ Ok read → IsRecord signature (take read.2 tail)
+record_here signature tail read is =
+    let sized = record_sized signature tail read is in
+    record {
+      read = read;
+      rest = drop read.2 tail;
+      is = ap (record_at signature) (take-append-drop read.2 tail) ∙ is;
+      len = omega (arith, length-take read.2 tail, sized.within);
+    }
+
+-- it takes eight bytes at least
+pub record_some : (signature : Option ℕ) (bytes : List ℕ) → IsRecord signature bytes → 8 ≤ length bytes
+record_some signature bytes r = omega (arith, r.len, (record_sized signature (bytes ++ r.rest) r.read r.is).least)
+
+-- zeros are none
+pub zeros_no_record : (signature : Option ℕ) (n : ℕ) → IsRecord signature (replicate n 0) → ⊥
+zeros_no_record signature n r =
+    let none : ℕ = 0 in
+    let long : 4 + (n - 4) ≡ n = omega (arith, record_some signature (replicate n 0) r, length-replicate n none) in
+    let split : replicate n none ≡ none ∷ none ∷ none ∷ none ∷ replicate (n - 4) none = ap (λ m. replicate m none) (sym long) ∙ sym (replicate-append-replicate 4 (n - 4) none) in
+    let bad : record_at signature (replicate n 0 ++ r.rest) ≡ Err BadLength = ap (λ (l : List ℕ). record_at signature (l ++ r.rest)) split ∙ (zeros_are_no_record signature (replicate (n - 4) 0 ++ r.rest)).1 in
+    two r.read BadLength (sym r.is ∙ bad)
+  where
+    two : (x : Read) (f : RecordFault) → (let r : Result Read RecordFault = Ok x in r ≡ Err f) → ⊥
+    two x f e = cc
 
 no_gap : (o n : ℕ) (s z : Bool) → n ≡ o → cond s o (cond z n o) ≡ o
 no_gap o n true z is = refl
@@ -85,7 +114,7 @@ none_read signature at [] f is = ap (λ (r : Reading). contents r.batches) (from
 none_read signature at (b ∷ bytes) f is = ap (λ (r : Reading). contents r.batches) (from_fault 0 signature at (b ∷ bytes) f (omega arith) is (no_padding at (b ∷ bytes)))
 
 -- the batch that was written at this place, if one was
-written_here : (f : FileState) (signature : Option ℕ) (older : List Span) (at : ℕ) (us : List Batch) (bytes : List ℕ) → f.later ≡ older ++ places signature at us → IsClear f older at → 0 < length bytes → IsWritten f at bytes
+written_here : (f : FileState) (signature : Option ℕ) (older : List Span) (at : ℕ) (us : List Batch) (bytes : List ℕ) → f.later ≡ older ++ places signature at us → IsClear f signature older at → IsRecord signature bytes → IsWritten f at bytes
     → IsIn (at, bytes) (places signature at us)
 written_here f signature older at us bytes later clear some (inl there) =
     ⊎_elim (λ old. absurd (omega (arith, in_before at older (at, bytes) clear.before old))) (λ new. new) (in_append older (places signature at us) (at, bytes) (subst (IsIn (at, bytes)) later there))
@@ -128,7 +157,7 @@ walked f signature (suc i) at tail read is short walk =
     (on.0, (i, omega (arith, length-drop read.2 tail, sized.least, short), on.1))
 
 abbrev FrontsOf : FileState → Option ℕ → List Batch → Type 0
-FrontsOf f signature us = (older : List Span) (j at : ℕ) (tail : List ℕ) → AreBytes tail → f.later ≡ older ++ places signature at us → IsClear f older at → AreWritten f 0 signature j at tail → length tail ≤ j → Front signature at us tail
+FrontsOf f signature us = (older : List Span) (j at : ℕ) (tail : List ℕ) → AreBytes tail → f.later ≡ older ++ places signature at us → IsClear f signature older at → AreWritten f 0 signature j at tail → length tail ≤ j → Front signature at us tail
 
 front_none : (f : FileState) (signature : Option ℕ) → FrontsOf f signature []
 front_none f signature older j at tail fits later clear walk short = by_result (record_at signature tail) refl
@@ -136,9 +165,8 @@ front_none f signature older j at tail fits later clear walk short = by_result (
     by_result : (r : Result Read RecordFault) → record_at signature tail ≡ r → Front signature at [] tail
     by_result (Err e) is = (0, none_read signature at tail e is)
     by_result (Ok read) is =
-        let sized = record_sized signature tail read is in
         let w = walked f signature j at tail read is short walk in
-        absurd (written_here f signature older at [] (take read.2 tail) later clear (omega (arith, length-take read.2 tail, sized.least, sized.within)) w.0)
+        absurd (written_here f signature older at [] (take read.2 tail) later clear (record_here signature tail read is) w.0)
 
 front_more : (f : FileState) (signature : Option ℕ) (u : Batch) (us : List Batch) → IfSome signature (λ s. s < 2 ^ 32) → AreItems u → FrontsOf f signature us → FrontsOf f signature (u ∷ us)
 front_more f signature u us s are next older j at tail fits later clear walk short = by_result (record_at signature tail) refl
@@ -148,15 +176,14 @@ front_more f signature u us s are next older j at tail fits later clear walk sho
     by_result (Ok read) is =
         let n : ℕ = read.2 in
         let spell : List ℕ = spell_record signature u in
-        let sized = record_sized signature tail read is in
         let w = walked f signature j at tail read is short walk in
-        let here = written_here f signature older at (u ∷ us) (take n tail) later clear (omega (arith, length-take n tail, sized.least, sized.within)) w.0 in
+        let here = written_here f signature older at (u ∷ us) (take n tail) later clear (record_here signature tail read is) w.0 in
         let same : read ≡ (placed 0 u, block_of u, record_len u) = same_read signature u tail read s fits are is (same_bytes signature at u us (take n tail) here) in
         let len : n ≡ length spell = ap (λ (x : Read). x.2) same ∙ sym (length-spelled signature u) in
         let long = spelled_long signature u in
         let behind : f.later ≡ (older ++ (at, spell) ∷ []) ++ places signature (at + n) us
         = later ∙ sym (append_assoc older ((at, spell) ∷ []) (places signature (at + length spell) us)) ∙ ap (λ m. (older ++ (at, spell) ∷ []) ++ places signature (at + m) us) (sym len) in
-        let past : IsClear f (older ++ (at, spell) ∷ []) (at + n) = record {
+        let past : IsClear f signature (older ++ (at, spell) ∷ []) (at + n) = record {
           before = before_push at (at + n) older (at, spell) clear.before (omega arith) (omega (arith, len, long));
           earlier = λ m bytes after some there stands. clear.earlier m bytes (omega (arith, after)) some there stands;
         } in
@@ -314,7 +341,7 @@ synced_batches_begin id format ks f spellable plain are is = record {
   later = refl;
   before = tt;
   earlier = λ at bytes past some there stands.
-      absurd (omega (arith, ap length stands, length-take (length bytes) (drop at f.bytes), length-drop at f.bytes, ap length is, past, some));
+      absurd (omega (arith, ap length stands, length-take (length bytes) (drop at f.bytes), length-drop at f.bytes, ap length is, past, record_some (signature_of format.version id.seq) bytes some));
 }
 
 pub header_some : (v : Version) → 0 < header_len v

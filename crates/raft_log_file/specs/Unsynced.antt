@@ -1,6 +1,9 @@
 -- Batches of a file that were written since its last sync: a crash leaves a front of them.
-use Rattle.std.specs.Prelude.{◌≡◌, ℕ, ◌+◌, ◌<◌, ◌≤◌, List, [], ◌∷◌, ◌++◌, length, take, Option, Result, MatchResult}
+use Rattle.std.specs.Prelude.{◌≡◌, ℕ, ◌+◌, ◌<◌, ◌≤◌, List, [], ◌∷◌, ◌++◌, length, take, Option, Result, Ok, MatchResult}
 use Rattle.std.specs.List.{AllByRecursion}
+use Rattle.raft_log_records.specs.declared.item.EntryIndex.{EntryIndex}
+use Rattle.raft_log_records.specs.Item.{Item}
+use Rattle.raft_log_records.specs.Reading.{record_at}
 use Rattle.raft_log_records.specs.declared.file_id.FileId.{FileId}
 use Rattle.raft_log_records.specs.Signature.{signature_of}
 use Rattle.raft_log_records.specs.Spelling.{AreItems, spell_record}
@@ -17,9 +20,16 @@ abbrev pub places : Option ℕ → ℕ → List Batch → List (ℕ × List ℕ)
 places signature at [] = []
 places signature at (u ∷ us) = (at, spell_record signature u) ∷ places signature (at + length (spell_record signature u)) us
 
+-- bytes that are a record, as one reads it at the front of more
+pub record IsRecord (signature : Option ℕ) (bytes : List ℕ) : Type 0 where
+  pub read : List (Item EntryIndex) × List ℕ × ℕ
+  pub rest : List ℕ
+  pub is : record_at signature (bytes ++ rest) ≡ Ok read
+  pub len : length bytes ≡ read.2
+
 -- The file begins with the batches ks, all of them on the disk. The writes behind them are the records of the batches us,
--- one behind the other; what else stands there, as in a recycled file or where room was made, is anything. Records follow
--- one another without padding
+-- one behind the other; what else stands there, as in a recycled file or where room was made, is anything but a record that
+-- was written just there since the file got its name. Records follow one another without padding
 pub record IsUnsynced (id : FileId) (format : LogFileFormat) (ks us : List Batch) (f : FileState) : Type 0 where
   pub spellable : IsSpellable format
   pub plain : format.alignment ≡ 0
@@ -31,7 +41,8 @@ pub record IsUnsynced (id : FileId) (format : LogFileFormat) (ks us : List Batch
   pub older : List (ℕ × List ℕ)
   pub later : f.later ≡ older ++ places (signature_of format.version id.seq) (length (file_text id format ks)) us
   pub before : AllByRecursion (λ s. s.0 < length (file_text id format ks)) older
-  pub earlier : (at : ℕ) (bytes : List ℕ) → length (file_text id format ks) ≤ at → 0 < length bytes → IsIn (at, bytes) f.earlier → Stands f.kept at bytes → ⊥
+  pub earlier : (at : ℕ) (bytes : List ℕ) → length (file_text id format ks) ≤ at → IsRecord (signature_of format.version id.seq) bytes → IsIn (at, bytes) f.earlier
+      → Stands f.kept at bytes → ⊥
 
 -- the bytes of a file read as these batches
 abbrev pub ReadsAs : FileId → List Batch → List ℕ → Type 0

@@ -1,5 +1,5 @@
 -- What a writer makes of the last file of a pipe.
-use Rattle.std.proofs.Common.{◌≡◌, ◌≢◌, inl, inr, ℕ, ◌+◌, ◌<◌, ◌≤◌, List, [], ◌∷◌, ◌++◌, length, take, refl, sym, ap, subst, ◌∙◌, arith, Option}
+use Rattle.std.proofs.Common.{◌≡◌, ◌≢◌, inl, inr, ℕ, ◌+◌, ◌<◌, ◌≤◌, List, [], ◌∷◌, ◌++◌, length, refl, sym, ap, subst, ◌∙◌, arith, Option}
 use Rattle.std.specs.Prelude.{Result, Ok, Err}
 use Rattle.std.specs.List.{AllByRecursion}
 use Rattle.std.proofs.lemmas.List.{map-append}
@@ -22,8 +22,8 @@ use Rattle.raft_log_pipe.specs.declared.pipe.SinglePipe.{SinglePipe}
 use Rattle.raft_log_pipe.specs.Begun.{Changes}
 use Rattle.raft_log_pipe.specs.Stored.{IsStored}
 use Rattle.raft_log_pipe.specs.Pipe.{Numbered, numbered, id_of, HoldsIn, Holds, IsPipe, IsPopulated, LeavesIn, IsLast}
-use Rattle.raft_log_pipe.proofs.StoredLemmas.{front_filled, front_resized, front_torn, stored_cut, stored_more, stored_room, stored_synced, stored_within}
-use Rattle.raft_log_pipe.proofs.PipeLemmas.{AreApart, changes, changes_on, file_there, holds_leaves, holds_on, holds_synced, leaves_more, leaves_on, stays}
+use Rattle.raft_log_pipe.proofs.StoredLemmas.{stored_cut, stored_more, stored_room, stored_synced, stored_within}
+use Rattle.raft_log_pipe.proofs.PipeLemmas.{AreApart, changes, changes_on, file_there, holds_leaves, holds_on, holds_synced, leaves_more, leaves_on, named_on, names_kept, stays}
 
 -- ---- cuts
 
@@ -45,13 +45,12 @@ cuts_stored : (id : FileId) (format : LogFileFormat) (ks us : List Batch) (offse
     → IsStored id format ks us offset (e.file fd)
 cuts_stored id format ks us offset (Ok u) d e fd s is =
     subst (IsStored id format ks us offset) (sym (file_there d e fd _ is))
-    (stored_cut id format ks us offset (d.file fd) (resized (d.file fd).bytes offset) s (front_resized offset offset (d.file fd).bytes (stored_within id format ks us offset (d.file fd) s) (omega arith)))
+    (stored_cut id format ks us offset offset (d.file fd) (resized (d.file fd).bytes offset) s (omega arith) refl)
 cuts_stored id format ks us offset (Err x) d e fd s (inl same) = subst (λ (y : Disk). IsStored id format ks us offset (y.file fd)) (sym same) s
 cuts_stored id format ks us offset (Err x) d e fd s (inr refused) =
     let le = stored_within id format ks us offset (d.file fd) s in
     subst (IsStored id format ks us offset) (sym (file_there d e fd _ refused.files))
-    (stored_cut id format ks us offset (d.file fd) refused.seen s
-    (ap (take offset) refused.part.front ∙ front_resized offset (length refused.seen) (d.file fd).bytes le (omega (arith, refused.part.no_shorter, le))))
+    (stored_cut id format ks us offset (length refused.seen) (d.file fd) refused.seen s (omega (arith, refused.part.no_shorter, le)) refused.part.front)
 
 cut_stored : (id : FileId) (format : LogFileFormat) (ks us : List Batch) (w : LogFileWriter) (r : Result (Unit {0}) IoFault) (d e : Disk) → IsStored id format ks us w.offset (d.file w.fd.0) → IsCut w r d e
     → IsStored id format ks us w.offset (e.file w.fd.0)
@@ -84,11 +83,11 @@ room_stored : (id : FileId) (format : LogFileFormat) (ks us : List Batch) (offse
     → IsStored id format ks us offset (e.file fd)
 room_stored id format ks us offset d e fd at len s le (inl is) =
     subst (IsStored id format ks us offset) (sym (file_there d e fd _ is))
-    (stored_room id format ks us offset (d.file fd) at len (filled (d.file fd).bytes (at + len)) s le (front_filled offset (at + len) (d.file fd).bytes (stored_within id format ks us offset (d.file fd) s)))
+    (stored_room id format ks us offset (d.file fd) at len (at + len) (filled (d.file fd).bytes (at + len)) s le refl)
 room_stored id format ks us offset d e fd at len s le (inr (inl same)) = subst (λ (y : Disk). IsStored id format ks us offset (y.file fd)) (sym same) s
 room_stored id format ks us offset d e fd at len s le (inr (inr refused)) =
     subst (IsStored id format ks us offset) (sym (file_there d e fd _ refused.files))
-    (stored_room id format ks us offset (d.file fd) at len refused.seen s le (front_torn offset at (d.file fd).bytes refused.seen le refused.torn.before))
+    (stored_room id format ks us offset (d.file fd) at len (length refused.seen) refused.seen s le refused.part.front)
 
 ready_stored : (id : FileId) (format : LogFileFormat) (ks us : List Batch) (w : LogFileWriter) (d e : Disk) (end target : ℕ) → IsWriter w d → IsStored id format ks us w.offset (d.file w.fd.0) → IsReady w d e end target
     → IsStored id format ks us w.offset (e.file w.fd.0)
@@ -141,7 +140,9 @@ pipe_on p w d e pipe writer same change =
       plain = pipe.plain;
       paths = pipe.paths;
       numbers = pipe.numbers;
-      last = subst (λ (y : Disk). IsLast y p.queue p.active.seq) (sym change) pipe.last;
+      last = subst (λ (y : Disk). IsLast y p.paths.items p.queue p.active.seq) (sym change) pipe.last;
+      named = named_on d e (id_of p.queue p.active.seq) p.active.handle.0 (names_kept d e p.writer.fd.0 change) pipe.named;
+      placed = pipe.placed;
       there = subst (λ n. p.active.handle.0 < n) next pipe.there;
       apart = subst (λ n. AllByRecursion (λ f. (f.handle.0 < n) × (f.handle.0 ≢ p.active.handle.0)) p.older.items) next pipe.apart;
     }

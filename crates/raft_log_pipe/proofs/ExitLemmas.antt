@@ -1,6 +1,7 @@
 -- What the calls of a pipe make of what it held before: one call after another.
-use Rattle.std.proofs.Common.{◌≡◌, ◌≢◌, ◌⊎◌, inl, inr, ⊎_elim, ℕ, ◌+◌, ◌-◌, ◌<◌, List, [], ◌∷◌, ◌++◌, length, Some, refl, sym, ap, subst, ◌∙◌, arith}
-use Rattle.std.specs.Prelude.{Result, Ok, Err, IfOk, OnOk, OnErr}
+use Rattle.std.proofs.Common.{◌≡◌, ◌≢◌, ◌⊎◌, inl, inr, ⊎_elim, ℕ, ◌+◌, ◌-◌, ◌<◌, List, [], ◌∷◌, ◌++◌, length, refl, sym, ap, subst, ◌∙◌, arith}
+use Rattle.std.specs.Prelude.{Result, Ok, Err, IfOk, OnOk, OnErr, String}
+use Rattle.std.specs.declared.alloc.Global.{Global}
 use Rattle.std.proofs.lemmas.List.{append-nil}
 use Rattle.raft_log_records.specs.declared.file_id.FileId.{FileId}
 use Rattle.raft_log_records.specs.declared.file_id.FileBlockHandle.{FileBlockHandle}
@@ -10,7 +11,7 @@ use Rattle.raft_log_disk.specs.declared.fault.IoFault.TheVariants.{NoSpace}
 use Rattle.raft_log_disk.specs.Cause.{UnlessRefused}
 use Rattle.std.specs.List.{AllByRecursion}
 use Rattle.raft_log_disk.specs.Disk.{Disk, no_bytes}
-use Rattle.raft_log_disk.specs.Name.{log_file_of}
+use Rattle.raft_log_disk.specs.Format.{spelled_header}
 use Rattle.raft_log_files.specs.declared.error.Error.{Error}
 use Rattle.raft_log_file.specs.Laws.{Batch}
 use Rattle.raft_log_file.specs.declared.writer.LogFileWriter.{LogFileWriter}
@@ -20,16 +21,16 @@ use Rattle.raft_log_pipe.specs.declared.pipe.SinglePipe.{SinglePipe}
 use Rattle.raft_log_pipe.specs.Appending.{Appends, IsHandle, LeavesAppended}
 use Rattle.raft_log_pipe.specs.Begun.{IsBegun}
 use Rattle.raft_log_pipe.specs.Placing.{IsCreated}
-use Rattle.raft_log_pipe.specs.Pipe.{Numbered, id_of, AreConsecutive, Holds, HoldsIn, IsLast, IsNamedSo, IsPipe, IsPlain, Leaves, LeavesIn}
+use Rattle.raft_log_pipe.specs.Pipe.{Numbered, id_of, AreConsecutive, HasPath, Holds, HoldsIn, IsLast, IsNamedSo, IsPipe, IsPlain, Leaves, LeavesIn}
 use Rattle.raft_log_pipe.proofs.PipeLemmas.{holds_leaves, leaves_less, leaves_more}
-use Rattle.raft_log_pipe.proofs.NextLemmas.{IsMade, begun_changes, begun_stored, created_here, made_alone, made_leaves, made_writer, named_new, next_holds, next_last}
+use Rattle.raft_log_pipe.proofs.NextLemmas.{IsMade, begun_changes, begun_stored, created_here, made_alone, made_leaves, made_writer, named_new, new_empty, next_holds, next_last}
 
 -- ---- a new file
 
 -- the number that follows the last one
-pub last_for : (d : Disk) (id : FileId) (queue : LogQueue) (last : ℕ) → IsLast d queue last → id.queue ≡ queue → id.seq ≡ last + 1 → IsLast d id.queue (id.seq - 1)
-last_for d id queue last l same next path seq lt says =
-    l path seq (omega (arith, lt, next)) (subst (λ (q : LogQueue). log_file_of path ≡ Some (id_of q seq)) same says)
+pub last_for : (d : Disk) (dirs : List (String Global)) (id : FileId) (queue : LogQueue) (last : ℕ) → IsLast d dirs queue last → id.queue ≡ queue → id.seq ≡ last + 1 → IsLast d dirs id.queue (id.seq - 1)
+last_for d dirs id queue last l same next path seq lt number has =
+    l path seq (omega (arith, lt, next)) number (subst (λ (q : LogQueue). HasPath dirs (id_of q seq) path) same has)
 
 -- a file that was perhaps made changes nothing of the pipe
 pub refused_writer : (p : SinglePipe) (d e : Disk) (id : FileId) (x : IoFault) → IsPipe p d → IsCreated d e id (Err x) → IsWriter p.writer e
@@ -131,9 +132,9 @@ rotated_ok (Err x) old new d e all = tt
 
 -- ---- the first file of a queue
 
-pub first_pipe : (p : SinglePipe) (d e g : Disk) (id : FileId) → id ≡ id_of p.queue p.active.seq → p.active.seq ≡ 1 → p.older.items ≡ [] → 0 < length p.paths.items → IsPlain p.default_format → IsLast d p.queue 0
-    → IsCreated d e id (Ok p.active) → IsBegun e g p.active (Ok p.writer) → IsPipe p g
-first_pipe p d e g id is first none paths plain last created begun =
+pub first_pipe : (p : SinglePipe) (d e g : Disk) (id : FileId) → id ≡ id_of p.queue p.active.seq → p.active.seq ≡ 1 → p.older.items ≡ [] → 0 < length p.paths.items → IsPlain p.default_format → IsLast d p.paths.items p.queue 0
+    → IsCreated d e id (Ok p.active) → IsBegun e g p.active (Ok p.writer) → p.active.path_id < length p.paths.items → IsPipe p g
+first_pipe p d e g id is first none paths plain last created begun place =
     let change = begun_changes e g p.active p.writer begun in
     let number : g.next ≡ d.next + 1 = ap (λ (y : Disk). y.next) change ∙ ap (λ (y : Disk). y.next) created.1.3 in
     let seq : id.seq ≡ p.active.seq = ap (λ (x : FileId). x.seq) is in
@@ -143,7 +144,9 @@ first_pipe p d e g id is first none paths plain last created begun =
       plain = plain;
       paths = paths;
       numbers = subst (λ (l : List File). AreConsecutive l p.active.seq) (sym none) tt;
-      last = next_last d e g p.active id p.queue 0 last (omega (arith, seq, first)) seq created change;
+      last = next_last d e g p.paths.items p.active id p.queue 0 last (omega (arith, seq, first)) seq created change;
+      named = subst (λ (x : FileId). IsNamedSo g x p.active.handle.0) is (named_new d e g p.active id created change);
+      placed = subst (λ (l : List File). AllByRecursion (λ x. x.path_id < length p.paths.items) (l ++ p.active ∷ [])) (sym none) (place, tt);
       there = omega (arith, number, created.0);
       apart = subst (λ (l : List File). AllByRecursion (λ x. (x.handle.0 < g.next) × (x.handle.0 ≢ p.active.handle.0)) l) (sym none) tt;
     }
@@ -152,7 +155,7 @@ pub first_holds : (queue : LogQueue) (older : List File) (f : File) (w : LogFile
     → HoldsIn queue older f w.offset g [] []
 first_holds queue older f w d e g id is none plain created begun =
     let change = begun_changes e g f w begun in
-    let empty : e.file f.handle.0 ≡ no_bytes = subst (λ n. e.file n ≡ no_bytes) (sym created.0) (created_here d e id created.1) in
+    let empty = new_empty (spelled_header f.format) (e.file f.handle.0) (subst (λ n. e.file n ≡ no_bytes) (sym created.0) (created_here d e id created.1)) in
     subst (λ (l : List File). HoldsIn queue l f w.offset g [] []) (sym none) (record {
       before = [];
       ks = [];

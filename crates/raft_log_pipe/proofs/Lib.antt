@@ -3,3 +3,8 @@ pub mod NextLemmas
 pub mod PipeLemmas
 pub mod StoredLemmas
 pub mod ExitLemmas
+pub mod OpenLemmas
+pub mod BlockLemmas
+pub mod PurgeLemmas
+pub mod ReadLemmas
+pub mod GiveUpLemmas

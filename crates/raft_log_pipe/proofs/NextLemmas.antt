@@ -1,6 +1,7 @@
 -- A new file: its name, its header, and the pipe that goes on with it.
-use Rattle.std.proofs.Common.{◌≡◌, ◌≢◌, ◌⊎◌, inl, inr, ℕ, ◌+◌, ◌-◌, ◌<◌, ◌≤◌, ◌^◌, min, Bool, true, false, cond, nat_lt, List, [], ◌∷◌, ◌++◌, length, get_or, drop, Option, Some, None, refl, sym, ap, subst, ◌∙◌, arith, append_assoc, length-append}
-use Rattle.std.specs.Prelude.{Result, Ok, Err, Vec, ◌==◌, ◌&&◌}
+use Rattle.std.proofs.Common.{◌≡◌, ◌≢◌, ◌⊎◌, inl, inr, ⊎_elim, ℕ, zero, suc, ◌+◌, ◌-◌, ◌<◌, ◌≤◌, ◌^◌, min, max, Bool, true, false, cond, nat_lt, List, [], ◌∷◌, ◌++◌, length, get_or, drop, Option, Some, None, refl, sym, ap, subst, ◌∙◌, arith, append_assoc, length-append}
+use Rattle.std.specs.Prelude.{Result, Ok, Err, String, Vec, replicate, ◌==◌, ◌&&◌}
+use Rattle.std.specs.String.{string_bytes}
 use Rattle.std.specs.declared.alloc.Global.{Global}
 use Rattle.std.specs.List.{AllByRecursion}
 use Rattle.std.proofs.lemmas.Bool.{eq-eqb, lt-ltb}
@@ -15,20 +16,22 @@ use Rattle.raft_log_disk.specs.declared.format.LogFileFormat.{LogFileFormat}
 use Rattle.raft_log_disk.specs.Text.{Text, same_text}
 use Rattle.raft_log_disk.specs.Name.{file_id_of, log_file_of, queued, suffix_of}
 use Rattle.raft_log_disk.specs.Disk.{Disk, FileState, IsIn, after_create, after_sync, after_write, fd_of, filled, no_bytes, put}
-use Rattle.raft_log_disk.specs.Format.{spelled_header}
+use Rattle.raft_log_records.specs.declared.version.Version.{Version}
+use Rattle.raft_log_records.specs.declared.version.Version.TheVariants.{V1, V2}
+use Rattle.raft_log_disk.specs.Format.{header_len, spelled_header}
 use Rattle.raft_log_disk.proofs.DiskLemmas.{other_file, pushed_other, same_file}
 use Rattle.raft_log_files.specs.FileName.{IsFileSeq, log_file_name, suffixed}
 use Rattle.raft_log_files.proofs.DigitLemmas.{name_split}
 use Rattle.raft_log_file.specs.declared.writer.LogFileWriter.{LogFileWriter}
-use Rattle.raft_log_file.specs.Writer.{IsOpened, IsReady, IsWriter, MakesRoom, writer_at}
+use Rattle.raft_log_file.specs.Writer.{IsAppended, IsOpened, IsReady, IsWriter, MakesRoom, Writes, writer_at}
 use Rattle.raft_log_file.proofs.HeaderLemmas.{length-header}
 use Rattle.raft_log_pipe.specs.declared.file.File.{File}
 use Rattle.raft_log_pipe.specs.declared.pipe.SinglePipe.{SinglePipe}
 use Rattle.raft_log_pipe.specs.Begun.{Changes, IsBegun}
 use Rattle.raft_log_pipe.specs.Placing.{Creates, IsCreated}
 use Rattle.raft_log_pipe.specs.Stored.{IsStored}
-use Rattle.raft_log_pipe.specs.Pipe.{Numbered, id_of, AreConsecutive, Holds, HoldsIn, IsLast, IsNamedSo, IsPipe, IsPlain, LeavesIn}
-use Rattle.raft_log_pipe.proofs.StoredLemmas.{stored_begun}
+use Rattle.raft_log_pipe.specs.Pipe.{Numbered, id_of, AreConsecutive, HasPath, Holds, HoldsIn, IsLast, IsNamedSo, IsPipe, IsPlain, LeavesIn}
+use Rattle.raft_log_pipe.proofs.StoredLemmas.{IsNew, stored_begun}
 use Rattle.raft_log_pipe.proofs.PipeLemmas.{AreSame, Keeps, changes, changes_on, file_beside, file_there, holds_beside, holds_leaves, holds_next, names_kept, stays}
 use Rattle.raft_log_pipe.proofs.ChangeLemmas.{appended_changes}
 
@@ -66,9 +69,20 @@ path_says directory name path id below is path_is =
     let test : (nat_lt 24 (length path) && (get_or path (length path - 25) 0 == 47)) ≡ true = (λ i. lt-ltb 24 (length path) (omega (arith, long)) i && eq-eqb (get_or path (length path - 25) 0) 47 slash i) in
     (λ i. cond (test i) (file_id_of (behind i)) None) ∙ said.1
 
+-- so does each path of it in one of these directories
+pub has_path_says : (dirs : List (String Global)) (id : FileId) (path : Text) → IsFileSeq id.seq → HasPath dirs id path → log_file_of path ≡ Some id
+has_path_says [] id path below has = absurd has
+has_path_says (dir ∷ dirs) id path below (inl is) = path_says (string_bytes dir) (log_file_name id) path id below refl is
+has_path_says (dir ∷ dirs) id path below (inr has) = has_path_says dirs id path below has
+
+pub path_at : (dirs : List (String Global)) (i : ℕ) (dir : String Global) (id : FileId) (path : Text) → i < length dirs → dir ≡ get_or dirs i dir → path ≡ string_bytes dir ++ 47 ∷ log_file_name id → HasPath dirs id path
+path_at [] i dir id path within at is = absurd (omega (arith, within))
+path_at (first ∷ dirs) zero dir id path within at is = inl (is ∙ ap (λ (s : String Global). string_bytes s ++ 47 ∷ log_file_name id) at)
+path_at (first ∷ dirs) (suc i) dir id path within at is = inr (path_at dirs i dir id path (omega (arith, within)) at is)
+
 -- so it is not there yet
-pub free_path : (d : Disk) (id : FileId) (path : Text) → IsLast d id.queue (id.seq - 1) → 0 < id.seq → log_file_of path ≡ Some id → fd_of d.names path ≡ None
-free_path d id path last some says = last path id.seq (omega (arith, some)) says
+pub free_path : (d : Disk) (dirs : List (String Global)) (id : FileId) (path : Text) → IsLast d dirs id.queue (id.seq - 1) → (0 < id.seq) × IsFileSeq id.seq → HasPath dirs id path → fd_of d.names path ≡ None
+free_path d dirs id path last number has = last path id.seq (omega (arith, number.0)) number.1 has
 
 -- a file was perhaps made under it
 pub perhaps_created : (d e : Disk) (id : FileId) (path : Text) → log_file_of path ≡ Some id → fd_of d.names path ≡ None → (e ≡ d) ⊎ (e ≡ after_create d path) → (e ≡ d) ⊎ Creates d e id
@@ -143,52 +157,83 @@ opened_changes d e fd format (Ok w) (inr (begins, a, at)) = appended_changes (wr
 opened_changes d e fd format (Err x) (inl same) = stays d e fd same
 opened_changes d e fd format (Err x) (inr (begins, a)) = appended_changes (writer_at fd 0 (length (d.file fd).bytes)) d e (spelled_header format) 0 (Err x) a
 
--- a file that has only room
-record IsBare (header : List ℕ) (f : FileState) : Type 0 where
-  pub short : length f.bytes ≤ length header
-  pub earlier : f.earlier ≡ []
-  pub later : f.later ≡ []
+-- room that is made for a header ends with it
+header_room : (size end : ℕ) → size < end → size + (size + max (end - size) (min 2097152 (0 - size)) - size) ≡ end
+header_room size end lt = omega (arith, lt)
 
-bare_room : (header : List ℕ) (e b : Disk) (fd at len : ℕ) → e.file fd ≡ no_bytes → at + len ≤ length header → MakesRoom e b fd at len → IsBare header (b.file fd)
-bare_room header e b fd at len none le (inl is) =
-    subst (IsBare header) (sym (file_there e b fd _ is)) (record {
-      short = omega (arith, le, ap (λ (f : FileState). length (filled f.bytes (at + len))) none, length-zeros (at + len));
-      earlier = ap (λ (f : FileState). f.earlier) none;
-      later = ap (λ (f : FileState). f.later) none;
-    })
+new_room : (header : List ℕ) (e b : Disk) (fd at len : ℕ) → IsNew header (e.file fd) → at + len ≤ length header → MakesRoom e b fd at len → IsNew header (b.file fd)
+new_room header e b fd at len new le (inl is) =
+    subst (IsNew header) (sym (file_there e b fd _ is))
+    (⊎_elim (λ none. inl none) (λ short. inr (omega (arith, short, le, length-filled (e.file fd).bytes (at + len)))) new)
   where
-    length-zeros : (n : ℕ) → length (filled [] n) ≡ n
-    length-zeros n =
+    length-filled : (bytes : List ℕ) (n : ℕ) → length (filled bytes n) ≡ length bytes + (n - length bytes)
+    length-filled bytes n =
         let none : ℕ = 0 in
-        let long : length (filled [] n) ≡ n - 0 = length-replicate (n - 0) none in
-        omega (arith, long)
-bare_room header e b fd at len none le (inr (inl same)) =
-    subst (IsBare header) (sym (ap (λ (y : Disk). y.file fd) same ∙ none)) (record { short = omega arith; earlier = refl; later = refl })
-bare_room header e b fd at len none le (inr (inr refused)) =
-    subst (IsBare header) (sym (file_there e b fd _ refused.files)) (record {
-      short = omega (arith, le, refused.torn.no_longer, ap (λ (f : FileState). length f.bytes) none);
-      earlier = ap (λ (f : FileState). f.earlier) none;
-      later = ap (λ (f : FileState). f.later) none;
-    })
+        length-append bytes (replicate (n - length bytes) none) ∙ ap (λ m. length bytes + m) (length-replicate (n - length bytes) none)
+new_room header e b fd at len new le (inr (inl same)) = subst (λ (y : Disk). IsNew header (y.file fd)) (sym same) new
+new_room header e b fd at len new le (inr (inr refused)) =
+    subst (IsNew header) (sym (file_there e b fd _ refused.files)) (⊎_elim (λ none. inl none) (λ short. inr (omega (arith, short, le, refused.part.no_longer))) new)
 
-bare_ready : (header : List ℕ) (e b : Disk) (fd end : ℕ) → e.file fd ≡ no_bytes → end ≤ length header → IsReady (writer_at fd 0 (length (e.file fd).bytes)) e b end 0 → IsBare header (b.file fd)
-bare_ready header e b fd end none le (inl (short, same)) =
-    subst (IsBare header) (sym (ap (λ (y : Disk). y.file fd) same ∙ none)) (record { short = omega arith; earlier = refl; later = refl })
-bare_ready header e b fd end none le (inr (long, room)) =
-    let empty : length (e.file fd).bytes ≡ 0 = ap (λ (f : FileState). length f.bytes) none in
-    bare_room header e b fd _ _ none (omega (arith, empty, le)) room
+new_ready : (header : List ℕ) (e b : Disk) (fd end : ℕ) → IsNew header (e.file fd) → end ≤ length header → IsReady (writer_at fd 0 (length (e.file fd).bytes)) e b end 0 → IsNew header (b.file fd)
+new_ready header e b fd end new le (inl (short, same)) = subst (λ (y : Disk). IsNew header (y.file fd)) (sym same) new
+new_ready header e b fd end new le (inr (long, room)) = new_room header e b fd _ _ new (omega (arith, header_room (length (e.file fd).bytes) end long, le)) room
 
 -- once its header is on the disk it has no batches
-pub begun_stored : (e g : Disk) (f : File) (queue : LogQueue) (w : LogFileWriter) → e.file f.handle.0 ≡ no_bytes → IsPlain f.format → IsBegun e g f (Ok w)
+pub begun_stored : (e g : Disk) (f : File) (queue : LogQueue) (w : LogFileWriter) → IsNew (spelled_header f.format) (e.file f.handle.0) → IsPlain f.format → IsBegun e g f (Ok w)
     → IsStored (id_of queue f.seq) f.format [] [] w.offset (g.file f.handle.0)
-begun_stored e g f queue w none plain (between, a, synced, writer, fd, offset) =
+begun_stored e g f queue w new plain (between, a, synced, writer, fd, offset) =
     let n : ℕ = f.handle.0 in
     let header : List ℕ = spelled_header f.format in
-    let bare = bare_ready header e a.between n (min (0 + length header) (2 ^ 64 - 1)) none (omega arith) a.ready in
+    let bare = new_ready header e a.between n (min (0 + length header) (2 ^ 64 - 1)) new (omega arith) a.ready in
     let is : g.file n ≡ after_sync (after_write (a.between.file n) 0 header (put (a.between.file n).bytes 0 header)) = file_there between g n _ synced ∙ ap after_sync (file_there a.between between n _ a.writes) in
     subst (λ m. IsStored (id_of queue f.seq) f.format [] [] m (g.file n)) (length-header f.format ∙ sym offset)
     (subst (IsStored (id_of queue f.seq) f.format [] [] (length header)) (sym is)
-    (stored_begun (id_of queue f.seq) f.format (a.between.file n) header plain.0 plain.1 refl bare.short bare.earlier bare.later))
+    (stored_begun (id_of queue f.seq) f.format (a.between.file n) header plain.0 plain.1 refl bare))
+
+pub new_empty : (header : List ℕ) (f : FileState) → f ≡ no_bytes → IsNew header f
+new_empty header f is = inl (ap (λ (x : FileState). x.earlier) is, ap (λ (x : FileState). x.later) is)
+
+-- a crash leaves no more than the header of a file that begins, or what it left before
+abbrev IsShort : Disk → Disk → ℕ → Type 0
+IsShort d e fd = (e.file fd).greatest ≤ max (d.file fd).greatest 69
+
+header_short : (format : LogFileFormat) → length (spelled_header format) ≤ 69
+header_short format = omega (arith, length-header format, by_version format.version)
+  where
+    by_version : (v : Version) → header_len v ≤ 69
+    by_version V1 = omega arith
+    by_version V2 = omega arith
+
+greatest_is : (e : Disk) (fd : ℕ) (f : FileState) → e.file fd ≡ f → (e.file fd).greatest ≡ f.greatest
+greatest_is e fd f is = ap (λ (x : FileState). x.greatest) is
+
+short_room : (d e : Disk) (fd at len : ℕ) → at + len ≤ 69 → MakesRoom d e fd at len → IsShort d e fd
+short_room d e fd at len le (inl is) = omega (arith, le, greatest_is e fd _ (file_there d e fd _ is))
+short_room d e fd at len le (inr (inl same)) = omega (arith, ap (λ (y : Disk). (y.file fd).greatest) same)
+short_room d e fd at len le (inr (inr refused)) = omega (arith, le, greatest_is e fd _ (file_there d e fd _ refused.files))
+
+short_ready : (d e : Disk) (fd end : ℕ) → end ≤ 69 → IsReady (writer_at fd 0 (length (d.file fd).bytes)) d e end 0 → IsShort d e fd
+short_ready d e fd end le (inl (short, same)) = omega (arith, ap (λ (y : Disk). (y.file fd).greatest) same)
+short_ready d e fd end le (inr (long, room)) = short_room d e fd _ _ (omega (arith, header_room (length (d.file fd).bytes) end long, le)) room
+
+short_writes : (r : Result (Unit {0}) IoFault) (d e : Disk) (fd : ℕ) (text : List ℕ) → length text ≤ 69 → Writes r d e fd 0 text → IsShort d e fd
+short_writes (Ok u) d e fd text le is = omega (arith, le, greatest_is e fd _ (file_there d e fd _ is))
+short_writes (Err x) d e fd text le (inl same) = omega (arith, ap (λ (y : Disk). (y.file fd).greatest) same)
+short_writes (Err x) d e fd text le (inr refused) = omega (arith, le, greatest_is e fd _ (file_there d e fd _ refused.files))
+
+short_appended : (r : Result (Unit {0}) IoFault) (d e : Disk) (fd : ℕ) (format : LogFileFormat) → IsAppended (writer_at fd 0 (length (d.file fd).bytes)) d e (spelled_header format) 0 r → IsShort d e fd
+short_appended r d e fd format a =
+    let le = header_short format in
+    omega (arith, short_ready d a.between fd _ (omega (arith, le)) a.ready, short_writes r a.between e fd (spelled_header format) le a.writes)
+
+pub opened_short : (d e : Disk) (fd : ℕ) (format : LogFileFormat) (r : Result LogFileWriter IoFault) → IsOpened d e fd format true r → IsShort d e fd
+opened_short d e fd format (Ok w) (inl (long, not_reset, same, at)) = absurd cc
+opened_short d e fd format (Ok w) (inr (begins, a, at)) = short_appended (Ok tt) d e fd format a
+opened_short d e fd format (Err x) (inl same) = omega (arith, ap (λ (y : Disk). (y.file fd).greatest) same)
+opened_short d e fd format (Err x) (inr (begins, a)) = short_appended (Err x) d e fd format a
+
+pub unsynced_short : (d e g : Disk) (fd : ℕ) → IsShort d e fd → g ≡ e → IsShort d g fd
+unsynced_short d e g fd short same = omega (arith, short, ap (λ (y : Disk). (y.file fd).greatest) same)
 
 pub begun_changes : (e g : Disk) (f : File) (w : LogFileWriter) → IsBegun e g f (Ok w) → Changes e g f.handle.0
 begun_changes e g f w (between, a, synced, writer, fd, offset) =
@@ -217,7 +262,7 @@ pub next_holds : (p : SinglePipe) (d e g : Disk) (f : File) (w : LogFileWriter) 
 next_holds p d e g f w id pipe is plain created begun s h =
     let change = begun_changes e g f w begun in
     let made = made_begun d e g f id created change in
-    let empty : e.file f.handle.0 ≡ no_bytes = subst (λ n. e.file n ≡ no_bytes) (sym created.0) (created_here d e id created.1) in
+    let empty = new_empty (spelled_header f.format) (e.file f.handle.0) (subst (λ n. e.file n ≡ no_bytes) (sym created.0) (created_here d e id created.1)) in
     holds_next p.queue p.older.items p.active f p.writer.offset w.offset g s (made_holds p d g id pipe made s [] h)
     (subst (λ (x : FileId). IsNamedSo g x f.handle.0) is (named_new d e g f id created change))
     (begun_stored e g f p.queue w empty plain begun)
@@ -231,7 +276,7 @@ consecutive_push fs f all = pushed fs f.seq all refl
     pushed [] last all is = (omega (arith, is), tt)
     pushed (g ∷ gs) last all is = (omega (arith, all.0, length-append gs (f ∷ [])), pushed gs last all.1 is)
 
-some_is : (a b : FileId) → (let x : Option FileId = Some a in x ≡ Some b) → a ≡ b
+pub some_is : (a b : FileId) → (let x : Option FileId = Some a in x ≡ Some b) → a ≡ b
 some_is a b e = cc
 
 apart_paths : (path other : Text) (id : FileId) (queue : LogQueue) (seq : ℕ) (b : Bool) → same_text path other ≡ b → log_file_of path ≡ Some id → log_file_of other ≡ Some (id_of queue seq) → id.seq < seq → b ≡ false
@@ -241,15 +286,20 @@ apart_paths path other id queue seq true is says tells lt =
     let ids : id ≡ id_of queue seq = some_is id (id_of queue seq) (sym says ∙ ap log_file_of same ∙ tells) in
     absurd (omega (arith, lt, ap (λ (x : FileId). x.seq) ids))
 
-pub next_last : (d e g : Disk) (f : File) (id : FileId) (queue : LogQueue) (last : ℕ) → IsLast d queue last → last < id.seq → id.seq ≡ f.seq → IsCreated d e id (Ok f) → Changes e g f.handle.0 → IsLast g queue f.seq
-next_last d e g f id queue last free below same (handle, (path, says, none, is)) change other seq lt tells =
+pub next_last : (d e g : Disk) (dirs : List (String Global)) (f : File) (id : FileId) (queue : LogQueue) (last : ℕ) → IsLast d dirs queue last → last < id.seq → id.seq ≡ f.seq → IsCreated d e id (Ok f) → Changes e g f.handle.0 → IsLast g dirs queue f.seq
+next_last d e g dirs f id queue last free below same (handle, (path, says, none, is)) change other seq lt number has =
+    let tells = has_path_says dirs (id_of queue seq) other number has in
     ap (λ (y : Disk). fd_of y.names other) change ∙ ap (λ (y : Disk). fd_of y.names other) is
     ∙ pushed_other d.names path other d.next (apart_paths path other id queue seq (same_text path other) refl says tells (omega (arith, lt, same)))
-    ∙ free other seq (omega (arith, below, same, lt)) tells
+    ∙ free other seq (omega (arith, below, same, lt)) number has
 
 all_next : (n m fd : ℕ) (fs : List File) (f : File) → AllByRecursion (λ x. (x.handle.0 < n) × (x.handle.0 ≢ fd)) fs → f.handle.0 < n → n < m → AllByRecursion (λ x. (x.handle.0 < m) × (x.handle.0 ≢ n)) (fs ++ f ∷ [])
 all_next n m fd [] f all below more = ((omega (arith, below, more), λ e. absurd (omega (arith, below, e))), tt)
 all_next n m fd (g ∷ fs) f all below more = ((omega (arith, all.0.0, more), λ e. absurd (omega (arith, all.0.0, e))), all_next n m fd fs f all.1 below more)
+
+all_push : (n : ℕ) (fs : List File) (f : File) → AllByRecursion (λ x. x.path_id < n) fs → f.path_id < n → AllByRecursion (λ x. x.path_id < n) (fs ++ f ∷ [])
+all_push n [] f all one = (one, tt)
+all_push n (g ∷ fs) f all one = (all.0, all_push n fs f all.1 one)
 
 -- the pipe goes on with a new file
 abbrev pub with_next : SinglePipe → Vec File Global → File → LogFileWriter → SinglePipe
@@ -265,8 +315,8 @@ with_next p older f w = record {
 }
 
 pub next_pipe : (p : SinglePipe) (d e g : Disk) (older : Vec File Global) (f : File) (w : LogFileWriter) (id : FileId) → IsPipe p d → older.items ≡ p.older.items ++ p.active ∷ [] → id.queue ≡ p.queue → id.seq ≡ f.seq → f.seq ≡ p.active.seq + 1
-    → IsCreated d e id (Ok f) → IsBegun e g f (Ok w) → IsPipe (with_next p older f w) g
-next_pipe p d e g older f w id pipe is queue same next created begun =
+    → IsCreated d e id (Ok f) → IsBegun e g f (Ok w) → f.path_id < length p.paths.items → IsPipe (with_next p older f w) g
+next_pipe p d e g older f w id pipe is queue same next created begun place =
     let change = begun_changes e g f w begun in
     let number : g.next ≡ d.next + 1 = ap (λ (y : Disk). y.next) change ∙ ap (λ (y : Disk). y.next) created.1.3 in
     record {
@@ -275,7 +325,9 @@ next_pipe p d e g older f w id pipe is queue same next created begun =
       plain = pipe.plain;
       paths = pipe.paths;
       numbers = subst (λ (l : List File). AreConsecutive l f.seq) (sym is) (subst (AreConsecutive (p.older.items ++ p.active ∷ [])) (sym next) (consecutive_push p.older.items p.active pipe.numbers));
-      last = next_last d e g f id p.queue p.active.seq pipe.last (omega (arith, same, next)) same created change;
+      last = next_last d e g p.paths.items f id p.queue p.active.seq pipe.last (omega (arith, same, next)) same created change;
+      named = subst (λ (x : FileId). IsNamedSo g x f.handle.0) (λ i. record { queue = queue i; seq = same i }) (named_new d e g f id created change);
+      placed = subst (λ (l : List File). AllByRecursion (λ x. x.path_id < length p.paths.items) (l ++ f ∷ [])) (sym is) (all_push (length p.paths.items) (p.older.items ++ p.active ∷ []) f pipe.placed place);
       there = omega (arith, number, created.0);
       apart = subst (λ (l : List File). AllByRecursion (λ x. (x.handle.0 < g.next) × (x.handle.0 ≢ f.handle.0)) l) (sym is)
           (subst (λ n. AllByRecursion (λ x. (x.handle.0 < g.next) × (x.handle.0 ≢ n)) (p.older.items ++ p.active ∷ [])) (sym created.0)

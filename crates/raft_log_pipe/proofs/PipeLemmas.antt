@@ -18,7 +18,7 @@ use Rattle.raft_log_file.proofs.UnsyncedLemmas.{unsynced_batches_are_a_front}
 use Rattle.raft_log_pipe.specs.declared.file.File.{File}
 use Rattle.raft_log_pipe.specs.Stored.{IsStored}
 use Rattle.raft_log_pipe.specs.Begun.{Changes}
-use Rattle.raft_log_pipe.specs.Pipe.{Numbered, numbered, id_of, IsNamedSo, IsOlder, AreOlder, HoldsIn, ImageReads, LeavesIn}
+use Rattle.raft_log_pipe.specs.Pipe.{Numbered, numbered, id_of, FileReads, IsBlank, IsNamedSo, IsOlder, AreOlder, HoldsIn, ImageReads, LeavesIn}
 
 -- ---- one file of a disk
 
@@ -52,7 +52,7 @@ Keeps d e = (x : List ℕ × ℕ) → IsIn x d.names → IsIn x e.names
 pub names_kept : (d e : Disk) (fd : ℕ) → Changes d e fd → Keeps d e
 names_kept d e fd change x there = subst (λ (y : Disk). IsIn x y.names) (sym change) there
 
-named_on : (d e : Disk) (id : FileId) (fd : ℕ) → Keeps d e → IsNamedSo d id fd → IsNamedSo e id fd
+pub named_on : (d e : Disk) (id : FileId) (fd : ℕ) → Keeps d e → IsNamedSo d id fd → IsNamedSo e id fd
 named_on d e id fd keeps named = (named.0, keeps (named.0, fd) named.1, named.2)
 
 -- the files are as they were
@@ -63,10 +63,10 @@ older_on : (queue : LogQueue) (d e : Disk) (f : File) (ks : List Batch) → Keep
 older_on queue d e f ks keeps same o = record {
   offset = o.offset;
   named = named_on d e (id_of queue f.seq) f.handle.0 keeps o.named;
-  stored = subst (IsStored (id_of queue f.seq) f.format ks [] o.offset) (sym same) o.stored;
+  stored = subst (λ (x : FileState). IsStored (id_of queue f.seq) f.format ks [] o.offset x ⊎ IsBlank f.format ks x) (sym same) o.stored;
 }
 
-olders_on : (queue : LogQueue) (d e : Disk) (fs : List File) (bs : Numbered) → Keeps d e → AreSame d e fs → AreOlder queue d fs bs → AreOlder queue e fs bs
+pub olders_on : (queue : LogQueue) (d e : Disk) (fs : List File) (bs : Numbered) → Keeps d e → AreSame d e fs → AreOlder queue d fs bs → AreOlder queue e fs bs
 olders_on queue d e [] bs keeps same o = o
 olders_on queue d e (f ∷ fs) bs keeps same (ks, rest, is, o, os) = (ks, rest, is, older_on queue d e f ks keeps same.0 o, olders_on queue d e fs rest keeps same.1 os)
 
@@ -136,7 +136,7 @@ holds_next queue fs active next offset to d s h named stored =
       olders = subst (AreOlder queue d (fs ++ active ∷ [])) (sym h.synced_are) (olders_push queue d fs active h.before h.ks h.olders (record {
         offset = offset;
         named = h.named;
-        stored = subst (λ (l : List Batch). IsStored (id_of queue active.seq) active.format h.ks l offset (d.file active.handle.0)) none h.stored;
+        stored = inl (subst (λ (l : List Batch). IsStored (id_of queue active.seq) active.format h.ks l offset (d.file active.handle.0)) none h.stored);
       }));
       named = named;
       stored = stored;
@@ -166,18 +166,23 @@ take_none : {X : Type 0} (k : ℕ) → (let none : List X = [] in take k none �
 take_none zero = refl
 take_none (suc k) = refl
 
-older_read : (queue : LogQueue) (d : Disk) (image : Image) (f : File) (ks : List Batch) → IsImage d image → IsGenuineImage d image → IsOlder queue d f ks → ReadsAs (id_of queue f.seq) ks (image f.handle.0)
-older_read queue d image f ks are genuine o =
-    let id : FileId = id_of queue f.seq in
-    let front = unsynced_batches_are_a_front id f.format ks [] (d.file f.handle.0) (image f.handle.0) o.stored.unsynced
-    (image_there d image id f.handle.0 o.named are) (genuine_there d image id f.handle.0 o.named genuine) in
-    subst (λ (l : List Batch). ReadsAs id l (image f.handle.0)) (ap (λ (l : List Batch). ks ++ l) (take_none front.0) ∙ append-nil ks) front.1
+older_read : (queue : LogQueue) (d : Disk) (image : Image) (f : File) (ks : List Batch) → IsImage d image → IsGenuineImage d image → IsOlder queue d f ks → FileReads (id_of queue f.seq) ks (image f.handle.0)
+older_read queue d image f ks are genuine o = by_stored o.stored
+  where
+    by_stored : IsStored (id_of queue f.seq) f.format ks [] o.offset (d.file f.handle.0) ⊎ IsBlank f.format ks (d.file f.handle.0) → FileReads (id_of queue f.seq) ks (image f.handle.0)
+    by_stored (inl s) =
+        let front = unsynced_batches_are_a_front (id_of queue f.seq) f.format ks [] (d.file f.handle.0) (image f.handle.0) s.unsynced
+        (image_there d image (id_of queue f.seq) f.handle.0 o.named are) (genuine_there d image (id_of queue f.seq) f.handle.0 o.named genuine) in
+        inl (subst (λ (l : List Batch). ReadsAs (id_of queue f.seq) l (image f.handle.0)) (ap (λ (l : List Batch). ks ++ l) (take_none front.0) ∙ append-nil ks) front.1)
+    by_stored (inr blank) =
+        let left = image_there d image (id_of queue f.seq) f.handle.0 o.named are in
+        inr (blank.none, omega (arith, left.no_longer, blank.short))
 
 olders_read : (queue : LogQueue) (d : Disk) (image : Image) (fs : List File) (bs : Numbered) → IsImage d image → IsGenuineImage d image → AreOlder queue d fs bs → ImageReads queue fs image bs
 olders_read queue d image [] bs are genuine os = os
 olders_read queue d image (f ∷ fs) bs are genuine (ks, rest, is, o, os) = (ks, rest, is, older_read queue d image f ks are genuine o, olders_read queue d image fs rest are genuine os)
 
-reads_push : (queue : LogQueue) (fs : List File) (f : File) (image : Image) (bs : Numbered) (ks : List Batch) → ImageReads queue fs image bs → ReadsAs (id_of queue f.seq) ks (image f.handle.0)
+reads_push : (queue : LogQueue) (fs : List File) (f : File) (image : Image) (bs : Numbered) (ks : List Batch) → ImageReads queue fs image bs → FileReads (id_of queue f.seq) ks (image f.handle.0)
     → ImageReads queue (fs ++ f ∷ []) image (bs ++ numbered f.seq ks)
 reads_push queue [] f image bs ks os o = (ks, [], ap (λ (l : Numbered). l ++ numbered f.seq ks) os ∙ sym (append-nil (numbered f.seq ks)), o, refl)
 reads_push queue (g ∷ fs) f image bs ks (js, rest, is, o, os) last =
@@ -195,7 +200,7 @@ leaves_last queue fs active d before s u ks us synced unsynced olders named last
     let whole : before ++ numbered active.seq (ks ++ take k us) ≡ s ++ take k u
     = ap (λ (l : Numbered). before ++ l) (map-append (λ (b : Batch). (active.seq, b)) ks (take k us)) ∙ sym (append_assoc before (numbered active.seq ks) (numbered active.seq (take k us)))
     ∙ (λ i. sym synced i ++ sym (take-map (λ (b : Batch). (active.seq, b)) k us) i) ∙ ap (λ (l : Numbered). s ++ take k l) (sym unsynced) in
-    (k, subst (ImageReads queue (fs ++ active ∷ []) image) whole (reads_push queue fs active image before (ks ++ take k us) (olders_read queue d image fs before are genuine olders) front.1))
+    (k, subst (ImageReads queue (fs ++ active ∷ []) image) whole (reads_push queue fs active image before (ks ++ take k us) (olders_read queue d image fs before are genuine olders) (inl front.1)))
 
 pub holds_leaves : (queue : LogQueue) (fs : List File) (active : File) (offset : ℕ) (d : Disk) (s u : Numbered) → HoldsIn queue fs active offset d s u → LeavesIn queue (fs ++ active ∷ []) d s u
 holds_leaves queue fs active offset d s u h = leaves_last queue fs active d h.before s u h.ks h.us h.synced_are h.unsynced_are h.olders h.named h.stored.unsynced

@@ -6,6 +6,7 @@ use Rattle.raft_log_records.specs.Spelling.{spell_record}
 use Rattle.raft_log_disk.specs.Disk.{Disk}
 use Rattle.raft_log_file.specs.Laws.{Batch}
 use Rattle.raft_log_pipe.specs.declared.pipe.SinglePipe.{SinglePipe}
+use Rattle.raft_log_pipe.specs.Blocks.{IsRecordOf}
 use Rattle.raft_log_pipe.specs.Pipe.{Holds, Leaves, Numbered, id_of}
 
 -- the handle of a batch that goes behind the last one
@@ -22,3 +23,7 @@ Appends old d new d1 seq items = (synced unsynced : Numbered) → Holds old d sy
 -- after an append that was refused a crash leaves the batches of before, or these and the new one, in a file of some number
 abbrev pub LeavesAppended : SinglePipe → Disk → Numbered → Numbered → Batch → Type 0
 LeavesAppended p d synced unsynced items = (seq : ℕ) × Leaves p d synced (unsynced ++ (seq, items) ∷ [])
+
+-- the handle is that of the batch, behind all that were there before
+abbrev pub Stands : SinglePipe → Disk → SinglePipe → Batch → FileBlockHandle → Type 0
+Stands old d new items h = (synced unsynced : Numbered) → Holds old d synced unsynced → IsRecordOf new.queue new.active (synced ++ unsynced) items h

@@ -1,17 +1,21 @@
 -- A pipe: files of one queue with rising numbers, of which the last one is written. Above it there are batches with the
 -- numbers of their files, and no bytes.
-use Rattle.std.specs.Prelude.{◌≡◌, ◌≢◌, ℕ, ◌+◌, ◌-◌, ◌<◌, List, [], ◌∷◌, ◌++◌, length, map, take, Option, Some, None}
+use Rattle.std.specs.Prelude.{◌≡◌, ◌≢◌, ◌⊎◌, ℕ, ◌+◌, ◌-◌, ◌<◌, ◌≤◌, List, [], ◌∷◌, ◌++◌, length, map, take, Option, Some, None, String}
 use Rattle.std.specs.List.{AllByRecursion}
+use Rattle.std.specs.String.{string_bytes}
+use Rattle.std.specs.declared.alloc.Global.{Global}
 use Rattle.raft_log_records.specs.declared.file_id.FileId.{FileId}
 use Rattle.raft_log_records.specs.declared.file_id.LogQueue.{LogQueue}
 use Rattle.raft_log_records.specs.Batch.Writing.{written}
 use Rattle.raft_log_records.specs.Batch as batch
 use Rattle.raft_log_disk.specs.declared.format.LogFileFormat.{LogFileFormat}
-use Rattle.raft_log_disk.specs.Disk.{Disk, IsIn, fd_of}
+use Rattle.raft_log_disk.specs.Text.{Text}
+use Rattle.raft_log_disk.specs.Disk.{Disk, FileState, IsIn, fd_of}
 use Rattle.raft_log_disk.specs.Name.{log_file_of}
 use Rattle.raft_log_disk.specs.Format.{IsSpellable}
 use Rattle.raft_log_disk.specs.Image.{Image, IsImage}
 use Rattle.raft_log_disk.specs.Chance.{IsGenuineImage}
+use Rattle.raft_log_files.specs.FileName.{IsFileSeq, log_file_name}
 use Rattle.raft_log_file.specs.Laws.{Batch}
 use Rattle.raft_log_file.specs.Unsynced.{ReadsAs}
 use Rattle.raft_log_file.specs.Writer.{IsWriter}
@@ -31,17 +35,28 @@ numbered seq ks = map (λ k. (seq, k)) ks
 abbrev pub id_of : LogQueue → ℕ → FileId
 id_of queue seq = record { queue = queue; seq = seq }
 
+-- a format without alignment
+abbrev pub IsPlain : LogFileFormat → Type 0
+IsPlain format = IsSpellable format × (format.alignment ≡ 0)
+
 -- ---- what a pipe holds
 
 -- the file of this number on the disk has a path that says this log file
 abbrev pub IsNamedSo : Disk → FileId → ℕ → Type 0
 IsNamedSo d id fd = (path : List ℕ) × IsIn (path, fd) d.names × (log_file_of path ≡ Some id)
 
--- a file that is written no more: its batches are on the disk
+-- a file that has no bytes and no batches, and of which a crash leaves no record
+pub record IsBlank (format : LogFileFormat) (ks : List Batch) (f : FileState) : Type 0 where
+  pub none : ks ≡ []
+  pub bytes : f.bytes ≡ []
+  pub short : f.greatest ≤ 69
+  pub plain : IsPlain format
+
+-- a file that is written no more: its batches are on the disk, or it is blank
 pub record IsOlder (queue : LogQueue) (d : Disk) (f : File) (ks : List Batch) : Type 0 where
   pub offset : ℕ
   pub named : IsNamedSo d (id_of queue f.seq) f.handle.0
-  pub stored : IsStored (id_of queue f.seq) f.format ks [] offset (d.file f.handle.0)
+  pub stored : IsStored (id_of queue f.seq) f.format ks [] offset (d.file f.handle.0) ⊎ IsBlank f.format ks (d.file f.handle.0)
 
 -- the batches of such files, one file after the other
 abbrev pub AreOlder : LogQueue → Disk → List File → Numbered → Type 0
@@ -66,11 +81,15 @@ Holds p d synced unsynced = HoldsIn p.queue p.older.items p.active p.writer.offs
 
 -- ---- what a crash leaves
 
+-- a file's bytes read as these batches, or there are none and the bytes are no more than a header
+abbrev pub FileReads : FileId → List Batch → List ℕ → Type 0
+FileReads id ks bytes = ReadsAs id ks bytes ⊎ ((ks ≡ []) × (length bytes ≤ 69))
+
 -- what an image of files reads as
 abbrev pub ImageReads : LogQueue → List File → Image → Numbered → Type 0
 ImageReads queue [] image bs = bs ≡ []
 ImageReads queue (f ∷ fs) image bs =
-    (ks : List Batch) × (rest : Numbered) × (bs ≡ numbered f.seq ks ++ rest) × ReadsAs (id_of queue f.seq) ks (image f.handle.0)
+    (ks : List Batch) × (rest : Numbered) × (bs ≡ numbered f.seq ks ++ rest) × FileReads (id_of queue f.seq) ks (image f.handle.0)
     × ImageReads queue fs image rest
 
 -- whatever a crash leaves, files read as these batches and a front of the others, unless bytes that nobody wrote pass as
@@ -84,18 +103,19 @@ Leaves p d synced unsynced = LeavesIn p.queue (p.older.items ++ p.active ∷ [])
 
 -- ---- a pipe that can be used
 
--- no file of the queue has a greater number
-abbrev pub IsLast : Disk → LogQueue → ℕ → Type 0
-IsLast d queue last = (path : List ℕ) (seq : ℕ) → last < seq → log_file_of path ≡ Some (id_of queue seq) → fd_of d.names path ≡ None
+-- the path of a log file in one of these directories
+abbrev pub HasPath : List (String Global) → FileId → Text → Type 0
+HasPath [] id path = ⊥
+HasPath (dir ∷ dirs) id path = (path ≡ string_bytes dir ++ 47 ∷ log_file_name id) ⊎ HasPath dirs id path
+
+-- in these directories no file of the queue has a greater number
+abbrev pub IsLast : Disk → List (String Global) → LogQueue → ℕ → Type 0
+IsLast d dirs queue last = (path : List ℕ) (seq : ℕ) → last < seq → IsFileSeq seq → HasPath dirs (id_of queue seq) path → fd_of d.names path ≡ None
 
 -- the numbers of files follow one another up to the last
 abbrev pub AreConsecutive : List File → ℕ → Type 0
 AreConsecutive [] last = Unit {0}
 AreConsecutive (f ∷ fs) last = (f.seq + length fs + 1 ≡ last) × AreConsecutive fs last
-
--- a format without alignment
-abbrev pub IsPlain : LogFileFormat → Type 0
-IsPlain format = IsSpellable format × (format.alignment ≡ 0)
 
 pub record IsPipe (p : SinglePipe) (d : Disk) : Type 0 where
   pub writer : IsWriter p.writer d
@@ -103,7 +123,9 @@ pub record IsPipe (p : SinglePipe) (d : Disk) : Type 0 where
   pub plain : IsPlain p.default_format
   pub paths : 0 < length p.paths.items
   pub numbers : AreConsecutive p.older.items p.active.seq
-  pub last : IsLast d p.queue p.active.seq
+  pub last : IsLast d p.paths.items p.queue p.active.seq
+  pub named : IsNamedSo d (id_of p.queue p.active.seq) p.active.handle.0
+  pub placed : AllByRecursion (λ f. f.path_id < length p.paths.items) (p.older.items ++ p.active ∷ [])
   pub there : p.active.handle.0 < d.next
   pub apart : AllByRecursion (λ f. (f.handle.0 < d.next) × (f.handle.0 ≢ p.active.handle.0)) p.older.items
 

@@ -5,7 +5,7 @@ ghost use Rattle.raft_log_records.specs.Spelling.{AreItems};
 ghost use Rattle.raft_log_disk.specs.Cause.{UnlessRefused};
 ghost use Rattle.raft_log_file.specs.Writer.{IsWriter};
 ghost use Rattle.raft_log_pipe.specs.Pipe.{IsPipe, IsPopulated, Holds, Leaves, Numbered};
-ghost use Rattle.raft_log_pipe.specs.Appending.{IsHandle, Appends, LeavesAppended};
+ghost use Rattle.raft_log_pipe.specs.Appending.{IsHandle, Appends, LeavesAppended, Stands};
 
 use crate::pipe::SinglePipe;
 use raft_log_files::{Error, FileSystem, IoFault};
@@ -26,6 +26,7 @@ impl SinglePipe {
         ensures batch { (batch.new.items ≡ batch.old.items) × IsPopulated batch.new }
         ensures ok { IfOk result (λ h. IsHandle self.old batch.old.items h × ((synced : Numbered) (unsynced : Numbered) → Holds self.old (F.disk files.old) synced unsynced
             → Holds self.new (F.disk files.new) synced (unsynced ++ (self.old.active.seq, batch.old.items) ∷ []))) }
+        ensures stands { IfOk result (Stands self.old (F.disk files.old) self.new batch.old.items) }
         ensures err { OnErr result ((synced : Numbered) (unsynced : Numbered) → Holds self.old (F.disk files.old) synced unsynced
             → Leaves self.new (F.disk files.new) synced (unsynced ++ (self.old.active.seq, batch.old.items) ∷ [])) }
         ensures unwritten { UnlessRefused result ((synced : Numbered) (unsynced : Numbered) → Holds self.old (F.disk files.old) synced unsynced
@@ -78,6 +79,7 @@ impl SinglePipe {
         ensures queue { self.new.queue ≡ self.old.queue }
         ensures batch { batch.new.items ≡ batch.old.items }
         ensures ok { IfOk result (λ h. Appends self.old (F.disk files.old) self.new (F.disk files.new) h.id.seq batch.old.items) }
+        ensures stands { IfOk result (Stands self.old (F.disk files.old) self.new batch.old.items) }
         ensures err { OnErr result ((synced : Numbered) (unsynced : Numbered) → Holds self.old (F.disk files.old) synced unsynced
             → LeavesAppended self.new (F.disk files.new) synced unsynced batch.old.items) }
     {
@@ -90,7 +92,7 @@ impl SinglePipe {
     }
 
     /// Appends a batch once more, to a new file: the append before found no space, and what it left
-    /// is cut away.
+    /// is cut away. Without space again that file is ended too.
     fn put_again<F: FileSystem>(
         &mut self,
         files: &mut F,
@@ -104,6 +106,7 @@ impl SinglePipe {
         ensures queue { self.new.queue ≡ self.old.queue }
         ensures batch { batch.new.items ≡ batch.old.items }
         ensures ok { IfOk result (λ h. Appends self.old (F.disk files.old) self.new (F.disk files.new) h.id.seq batch.old.items) }
+        ensures stands { IfOk result (Stands self.old (F.disk files.old) self.new batch.old.items) }
         ensures err { OnErr result ((synced : Numbered) (unsynced : Numbered) → Holds self.old (F.disk files.old) synced unsynced
             → LeavesAppended self.new (F.disk files.new) synced unsynced batch.old.items) }
     {
@@ -114,7 +117,25 @@ impl SinglePipe {
         }
         match self.put(files, batch) {
             Ok(handle) => Ok(handle),
-            Err(fault) => Err(Error::of_second_append(fault)),
+            Err(IoFault::NoSpace) => Err(self.give_up(files)),
+            Err(fault) => Err(Error::from(fault)),
+        }
+    }
+
+    /// Ends the file in which the second append found no space, and goes on with a new one: the
+    /// next append begins there.
+    fn give_up<F: FileSystem>(&mut self, files: &mut F) -> Error
+        requires { IsPipe self.old (F.disk files.old) }
+        ensures writer { IsWriter self.new.writer (F.disk files.new) }
+        ensures queue { self.new.queue ≡ self.old.queue }
+        ensures leaves { (synced : Numbered) (unsynced : Numbered) → Holds self.old (F.disk files.old) synced unsynced → Leaves self.new (F.disk files.new) synced unsynced }
+    {
+        if let Err(error) = self.finish(files) {
+            return error;
+        }
+        match self.go_on(files) {
+            Ok(()) => Error::TryAgain,
+            Err(fault) => Error::of_second_append(fault),
         }
     }
 }

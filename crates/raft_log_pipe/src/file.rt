@@ -77,9 +77,10 @@ pub(crate) fn new_file<F: FileSystem>(
 ) -> Result<File, IoFault>
     requires paths { 0 < length paths.now }
     requires number { (0 < id.seq) × IsFileSeq id.seq }
-    requires last { IsLast (F.disk files.old) id.queue (id.seq - 1) }
+    requires last { IsLast (F.disk files.old) paths.now id.queue (id.seq - 1) }
     ensures created { IsCreated (F.disk files.old) (F.disk files.new) id result }
     ensures file { IfOk result (λ f. (f.seq ≡ id.seq) × (f.format ≡ format) × (f.path_id ≡ path_chosen (F.room files.old) target_size paths.now)) }
+    ensures within { IfOk result (λ f. f.path_id < length paths.now) }
 {
     let path_id = find_available_dir(files, paths, target_size);
     let path = id.build_file_path(alloc, paths[path_id].as_str())?;

@@ -6,6 +6,8 @@ mod file;
 mod laws;
 mod opening;
 mod pipe;
+mod purging;
+mod reading;
 mod rotate;
 
 pub use file::{File, Paths};

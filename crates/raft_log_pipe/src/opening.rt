@@ -1,16 +1,70 @@
-//! A queue that has no files yet.
+//! Opening the files of a queue, and a queue that has none yet.
 
-ghost use Rattle.std.specs.Prelude.{◌≡◌, ◌<◌, [], length, IfOk};
-ghost use Rattle.raft_log_pipe.specs.Pipe.{IsPipe, IsPlain, IsLast, Holds};
+ghost use Rattle.std.specs.Prelude.{◌≡◌, ◌<◌, ◌++◌, ◌∷◌, [], length, IfOk, OnErr};
+ghost use Rattle.raft_log_pipe.specs.Begun.{Changes};
+ghost use Rattle.raft_log_pipe.specs.Found.{IsFound, IsResumed, KeepsButHeader};
+ghost use Rattle.raft_log_pipe.specs.Pipe.{IsPipe, IsPlain, IsLast, Holds, Numbered};
 
-use crate::file::{Paths, new_file};
+use crate::file::{File, Paths, new_file};
 use crate::pipe::SinglePipe;
 use crate::rotate::begin_file;
-use raft_log_files::{DEFAULT_FIRST_FILE_SEQ, Error, FileSystem, LogFileFormat};
+use raft_log_file::{LogFileWriter, build_file_writer};
+use raft_log_files::{DEFAULT_FIRST_FILE_SEQ, Error, FileSystem, IoFault, LogFileFormat};
 use raft_log_records::{FileId, LogQueue};
 use std::alloc::Global;
 
+/// A writer of the last file that was found. One that has no bytes gets its header, on the disk.
+fn resume_file<F: FileSystem>(
+    files: &mut F,
+    alloc: Global,
+    file: File,
+) -> Result<LogFileWriter, IoFault>
+    requires { IsPlain file.format }
+    ensures resumed { IsResumed (F.disk files.old) (F.disk files.new) file result }
+{
+    if files.file_size(file.handle)? == 0 {
+        return begin_file(files, alloc, file);
+    }
+    build_file_writer(files, alloc, file.handle, file.format, false)
+}
+
 impl SinglePipe {
+    /// Opens a queue whose files were found (raft-engine's `SinglePipe::open`): one at least, in
+    /// the order of their numbers. The last one is written on.
+    pub fn open<F: FileSystem>(
+        files: &mut F,
+        alloc: Global,
+        queue: LogQueue,
+        paths: Paths,
+        default_format: LogFileFormat,
+        target_file_size: u64,
+        mut found: Vec<File>,
+    ) -> Result<SinglePipe, Error>
+        requires paths { 0 < length paths.items }
+        requires plain { IsPlain default_format }
+        requires found { (bs : Numbered) × IsFound queue paths.items (F.disk files.old) found.items bs }
+        ensures pipe { IfOk result (λ p. IsPipe p (F.disk files.new)) }
+        ensures files { IfOk result (λ p. (p.queue ≡ queue) × (p.older.items ++ p.active ∷ [] ≡ found.items)) }
+        ensures holds { IfOk result (λ p. (bs : Numbered) → IsFound queue paths.items (F.disk files.old) found.items bs → Holds p (F.disk files.new) bs []) }
+        ensures changes { IfOk result (λ p. Changes (F.disk files.old) (F.disk files.new) p.active.handle.0) }
+        ensures err { OnErr result (KeepsButHeader (F.disk files.old) (F.disk files.new) found.items) }
+    {
+        let Some(active) = found.pop() else {
+            unreachable!()
+        };
+        let writer = resume_file(files, alloc, active)?;
+        Ok(SinglePipe {
+            alloc,
+            queue,
+            paths,
+            default_format,
+            target_file_size,
+            older: found,
+            active,
+            writer,
+        })
+    }
+
     /// Makes the first file of a queue that has none, with its header on the disk.
     pub fn create<F: FileSystem>(
         files: &mut F,
@@ -22,7 +76,7 @@ impl SinglePipe {
     ) -> Result<SinglePipe, Error>
         requires paths { 0 < length paths.items }
         requires plain { IsPlain default_format }
-        requires none { IsLast (F.disk files.old) queue 0 }
+        requires none { IsLast (F.disk files.old) paths.items queue 0 }
         ensures pipe { IfOk result (λ p. IsPipe p (F.disk files.new)) }
         ensures holds { IfOk result (λ p. Holds p (F.disk files.new) [] []) }
         ensures first { IfOk result (λ p. (p.queue ≡ queue) × (p.active.seq ≡ 1) × (p.older.items ≡ [])) }

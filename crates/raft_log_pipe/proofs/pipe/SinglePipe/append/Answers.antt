@@ -1,5 +1,7 @@
 use Rattle.raft_log_disk.proofs.CauseLemmas.{at_err}
 use Rattle.raft_log_pipe.proofs.ExitLemmas.{again_err, again_ok, put_after, still_before, unless_no_space, unput_after, unput_from}
+use Rattle.std.proofs.Common.{refl}
+use Rattle.raft_log_pipe.proofs.BlockLemmas.{stands_after, stands_ok}
 use Rattle.raft_log_pipe.proofs.pipe.SinglePipe.append.Goals as goal
 
 pub returns-in_err-make_room-clause-err : goal.returns-in_err-make_room-clause-err
@@ -24,3 +26,13 @@ pub returns-in-Err-clause-err : goal.returns-in-Err-clause-err
 returns-in-Err-clause-err g c =
     unput_after c.args.self.now c.make_room.new.self (g.F.FileSystem.disk c.args.files.now) (g.F.FileSystem.disk c.make_room.new.files) c.put.new.self (g.F.FileSystem.disk c.put.new.files) c.make_room.new.self.active.seq c.args.batch.now.items
     c.in_ok-make_room.ensures.ok c.in-Err.ensures.err
+
+pub returns-in-Ok-clause-stands : goal.returns-in-Ok-clause-stands
+returns-in-Ok-clause-stands g c =
+    stands_after c.args.self.now c.make_room.new.self (g.F.FileSystem.disk c.args.files.now) (g.F.FileSystem.disk c.make_room.new.files) c.put.new.self c.args.batch.now.items c.args.batch.now.items c.in-Ok.handle
+    c.in_ok-make_room.ensures.ok refl c.in-Ok.ensures.stands
+
+pub returns-in-Err-NoSpace-clause-stands : goal.returns-in-Err-NoSpace-clause-stands
+returns-in-Err-NoSpace-clause-stands g c =
+    stands_ok c.put_again.result c.args.self.now c.put.new.self (g.F.FileSystem.disk c.args.files.now) (g.F.FileSystem.disk c.put.new.files) c.put_again.new.self c.args.batch.now.items c.put.new.batch.items
+    (still_before c.args.self.now c.make_room.new.self c.put.new.self (g.F.FileSystem.disk c.args.files.now) (g.F.FileSystem.disk c.make_room.new.files) (g.F.FileSystem.disk c.put.new.files) c.in_ok-make_room.ensures.ok (unless_no_space c.in-Err-NoSpace.field-0 _ c.in-Err-NoSpace.field-0-is c.in-Err-NoSpace.ensures.unwritten)) c.in-Err-NoSpace.ensures.batch.0 c.put_again.ensures.stands

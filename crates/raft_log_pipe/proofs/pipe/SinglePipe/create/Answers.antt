@@ -1,5 +1,7 @@
-use Rattle.std.proofs.Common.{sym, subst, ◌∙◌}
-use Rattle.raft_log_pipe.specs.Pipe.{IsPlain}
+use Rattle.std.proofs.Common.{◌-◌, ◌<◌, List, length, sym, subst, ◌∙◌}
+use Rattle.std.specs.Prelude.{String}
+use Rattle.std.specs.declared.alloc.Global.{Global}
+use Rattle.raft_log_pipe.specs.Pipe.{IsLast, IsPlain}
 use Rattle.raft_log_pipe.proofs.ExitLemmas.{first_holds, first_pipe, last_for}
 use Rattle.raft_log_pipe.proofs.pipe.SinglePipe.create.Goals as goal
 
@@ -7,6 +9,7 @@ pub returns-clause-pipe : goal.returns-clause-pipe
 returns-clause-pipe g c =
     first_pipe _ _ _ _ _ (λ i. record { queue = c.new-id.ensures.queue i; seq = sym c.in_ok-file.ensures.file.0 i }) (c.in_ok-file.ensures.file.0 ∙ c.new-id.ensures.seq) c.new.ensures.items
     c.requires.paths c.requires.plain c.requires.none c.in_ok-file.ensures.created c.in_ok-writer.ensures.begun
+    (subst (λ (l : List (String Global)). c.in_ok-file.file.path_id < length l) c.deref.ensures.value c.in_ok-file.ensures.within)
 
 pub returns-clause-holds : goal.returns-clause-holds
 returns-clause-holds g c =
@@ -14,4 +17,6 @@ returns-clause-holds g c =
     (subst IsPlain (sym c.in_ok-file.ensures.file.1) c.requires.plain) c.in_ok-file.ensures.created c.in_ok-writer.ensures.begun
 
 pub new_file-requires-clause-last : goal.new_file-requires-clause-last
-new_file-requires-clause-last g c κs within = last_for (g.F.FileSystem.disk c.args.files.now) _ c.args.queue 0 c.requires.none c.new-id.ensures.queue c.new-id.ensures.seq
+new_file-requires-clause-last g c κs within =
+    subst (λ (l : List (String Global)). IsLast (g.F.FileSystem.disk c.args.files.now) l c.new-id.result.queue (c.new-id.result.seq - 1)) (sym c.deref.ensures.value)
+    (last_for (g.F.FileSystem.disk c.args.files.now) c.args.paths.items c.new-id.result c.args.queue 0 c.requires.none c.new-id.ensures.queue c.new-id.ensures.seq)

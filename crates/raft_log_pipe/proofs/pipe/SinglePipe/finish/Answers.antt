@@ -1,5 +1,16 @@
+use Rattle.std.proofs.Common.{◌^◌, ◌<◌, arith}
+use Rattle.std.specs.Prelude.{Result, Ok, Err, OnOk}
 use Rattle.raft_log_pipe.proofs.PipeLemmas.{holds_leaves}
 use Rattle.raft_log_pipe.proofs.pipe.SinglePipe.finish.Goals as goal
+
+pub returns-clause-number : goal.returns-clause-number
+returns-clause-number g c =
+    let there : c.saturating_add.result < 10 ^ 16 = c.is_file_seq.ensures.0 c.if-not-is_file_seq.false in
+    on_ok c.close.result (omega (arith, there, c.saturating_add.ensures))
+  where
+    on_ok : {T E P : Type 0} (r : Result T E) → P → OnOk r P
+    on_ok (Ok x) p = p
+    on_ok (Err x) p = tt
 
 pub returns-then-not-is_file_seq-clause-err : goal.returns-then-not-is_file_seq-clause-err
 returns-then-not-is_file_seq-clause-err g c = λ s u h. holds_leaves c.args.self.now.queue c.args.self.now.older.items c.args.self.now.active c.args.self.now.writer.offset (g.F.FileSystem.disk c.args.files.now) s u h

@@ -1,6 +1,8 @@
-use Rattle.std.proofs.Common.{sym, subst, ◌∙◌}
+use Rattle.std.proofs.Common.{◌-◌, ◌<◌, List, length, sym, subst, ◌∙◌}
+use Rattle.std.specs.Prelude.{String}
+use Rattle.std.specs.declared.alloc.Global.{Global}
 use Rattle.raft_log_disk.proofs.CauseLemmas.{at_err}
-use Rattle.raft_log_pipe.specs.Pipe.{IsPlain}
+use Rattle.raft_log_pipe.specs.Pipe.{IsLast, IsPlain}
 use Rattle.raft_log_pipe.proofs.ExitLemmas.{last_for, pushed_holds, refused_leaves, refused_writer, unpushed_leaves}
 use Rattle.raft_log_pipe.proofs.NextLemmas.{begun_changes, made_begun, made_leaves, made_writer, next_pipe}
 use Rattle.raft_log_pipe.proofs.pipe.SinglePipe.go_on.Goals as goal
@@ -13,11 +15,11 @@ returns-in_err-file-clause-err g c = at_err _ _ (refused_leaves c.args.self.now 
 
 pub returns-in_err-writer-clause-writer : goal.returns-in_err-writer-clause-writer
 returns-in_err-writer-clause-writer g c =
-    made_writer c.args.self.now _ _ _ c.requires.pipe (made_begun _ _ _ c.in_ok-file.file _ c.in_ok-file.ensures.created c.in_err-writer.ensures.begun)
+    made_writer c.args.self.now _ _ _ c.requires.pipe (made_begun _ _ _ c.in_ok-file.file _ c.in_ok-file.ensures.created c.in_err-writer.ensures.begun.0)
 
 pub returns-in_err-writer-clause-err : goal.returns-in_err-writer-clause-err
 returns-in_err-writer-clause-err g c =
-    at_err _ _ (made_leaves c.args.self.now _ _ _ c.requires.pipe (made_begun _ _ _ c.in_ok-file.file _ c.in_ok-file.ensures.created c.in_err-writer.ensures.begun))
+    at_err _ _ (made_leaves c.args.self.now _ _ _ c.requires.pipe (made_begun _ _ _ c.in_ok-file.file _ c.in_ok-file.ensures.created c.in_err-writer.ensures.begun.0))
 
 pub returns-in_err-push-clause-writer : goal.returns-in_err-push-clause-writer
 returns-in_err-push-clause-writer g c =
@@ -31,6 +33,7 @@ pub returns-clause-pipe : goal.returns-clause-pipe
 returns-clause-pipe g c =
     next_pipe c.args.self.now _ _ _ _ _ _ _ c.requires.pipe c.in_ok-push.ensures.items c.new-id.ensures.queue (sym c.in_ok-file.ensures.file.0) (c.in_ok-file.ensures.file.0 ∙ c.new-id.ensures.seq)
     c.in_ok-file.ensures.created c.in_ok-writer.ensures.begun
+    (subst (λ (l : List (String Global)). c.in_ok-file.file.path_id < length l) c.deref.ensures.value c.in_ok-file.ensures.within)
 
 pub returns-clause-ok : goal.returns-clause-ok
 returns-clause-ok g c =
@@ -38,4 +41,6 @@ returns-clause-ok g c =
     (subst IsPlain (sym c.in_ok-file.ensures.file.1) c.requires.pipe.plain) c.in_ok-file.ensures.created c.in_ok-writer.ensures.begun
 
 pub new_file-requires-clause-last : goal.new_file-requires-clause-last
-new_file-requires-clause-last g c κs within = last_for (g.F.FileSystem.disk c.args.files.now) _ c.args.self.now.queue c.args.self.now.active.seq c.requires.pipe.last c.new-id.ensures.queue c.new-id.ensures.seq
+new_file-requires-clause-last g c κs within =
+    subst (λ (l : List (String Global)). IsLast (g.F.FileSystem.disk c.args.files.now) l c.new-id.result.queue (c.new-id.result.seq - 1)) (sym c.deref.ensures.value)
+    (last_for (g.F.FileSystem.disk c.args.files.now) c.args.self.now.paths.items c.new-id.result c.args.self.now.queue c.args.self.now.active.seq c.requires.pipe.last c.new-id.ensures.queue c.new-id.ensures.seq)

@@ -3,6 +3,7 @@ use Rattle.raft_log_records.specs.declared.file_id.FileBlockHandle.{FileBlockHan
 use Rattle.raft_log_records.specs.Signature.{signature_of}
 use Rattle.raft_log_records.specs.Spelling.{spell_record}
 use Rattle.raft_log_pipe.proofs.ChangeLemmas.{appended_changes, by_fault, pipe_on, put_holds, ready_holds, record_is, unput_leaves}
+use Rattle.raft_log_pipe.proofs.BlockLemmas.{record_here}
 use Rattle.raft_log_pipe.proofs.pipe.SinglePipe.put.Goals as goal
 
 pub returns-in-Err-clause-pipe : goal.returns-in-Err-clause-pipe
@@ -40,3 +41,6 @@ returns-clause-ok g c =
       },
       put_holds c.args.self.now _ _ _ _ _ _ c.requires.pipe c.requires.items text c.in_default.ensures.writes c.in_default.ensures.ok,
     )
+
+pub returns-clause-stands : goal.returns-clause-stands
+returns-clause-stands g c = λ s u h. record_here c.args.self.now (g.F.FileSystem.disk c.args.files.now) c.args.batch.now.items _ s u c.requires.pipe (returns-clause-ok g c).0 h

@@ -1,5 +1,8 @@
 use Rattle.raft_log_disk.proofs.CauseLemmas.{at_err}
-use Rattle.raft_log_pipe.proofs.ExitLemmas.{all_or, put_after, then_holds, then_leaves, unput_after, unput_from}
+use Rattle.raft_log_pipe.proofs.ExitLemmas.{all_or, put_after, then_holds, then_leaves, unless_no_space, unput_after, unput_from}
+use Rattle.std.proofs.Common.{refl}
+use Rattle.raft_log_pipe.proofs.BlockLemmas.{stands_after}
+use Rattle.raft_log_pipe.proofs.GiveUpLemmas.{given_up}
 use Rattle.raft_log_pipe.proofs.pipe.SinglePipe.put_again.Goals as goal
 
 pub returns-in_err-finish-clause-err : goal.returns-in_err-finish-clause-err
@@ -23,3 +26,16 @@ returns-in-Err-put-clause-err g c =
     (all_or c.args.self.now c.go_on.new.self (g.F.FileSystem.disk c.args.files.now) (g.F.FileSystem.disk c.go_on.new.files)
     (then_holds c.args.self.now c.finish.new.self c.go_on.new.self (g.F.FileSystem.disk c.args.files.now) (g.F.FileSystem.disk c.finish.new.files) (g.F.FileSystem.disk c.go_on.new.files) c.in_ok-finish.ensures.ok c.in-Ok.ensures.ok))
     c.in-Err-put.ensures.err
+
+pub returns-in-Ok-put-clause-stands : goal.returns-in-Ok-put-clause-stands
+returns-in-Ok-put-clause-stands g c =
+    stands_after c.args.self.now c.go_on.new.self (g.F.FileSystem.disk c.args.files.now) (g.F.FileSystem.disk c.go_on.new.files) c.put.new.self c.args.batch.now.items c.args.batch.now.items c.in-Ok-put.handle
+    (all_or c.args.self.now c.go_on.new.self (g.F.FileSystem.disk c.args.files.now) (g.F.FileSystem.disk c.go_on.new.files)
+    (then_holds c.args.self.now c.finish.new.self c.go_on.new.self (g.F.FileSystem.disk c.args.files.now) (g.F.FileSystem.disk c.finish.new.files) (g.F.FileSystem.disk c.go_on.new.files) c.in_ok-finish.ensures.ok c.in-Ok.ensures.ok))
+    refl c.in-Ok-put.ensures.stands
+
+pub returns-in-Err-NoSpace-clause-err : goal.returns-in-Err-NoSpace-clause-err
+returns-in-Err-NoSpace-clause-err g c =
+    given_up c.args.self.now c.go_on.new.self c.put.new.self c.give_up.new.self (g.F.FileSystem.disk c.args.files.now) (g.F.FileSystem.disk c.go_on.new.files) (g.F.FileSystem.disk c.put.new.files) (g.F.FileSystem.disk c.give_up.new.files) c.args.batch.now.items
+    (then_holds c.args.self.now c.finish.new.self c.go_on.new.self (g.F.FileSystem.disk c.args.files.now) (g.F.FileSystem.disk c.finish.new.files) (g.F.FileSystem.disk c.go_on.new.files) c.in_ok-finish.ensures.ok c.in-Ok.ensures.ok)
+    (unless_no_space c.in-Err-NoSpace.field-0 _ c.in-Err-NoSpace.field-0-is c.in-Err-NoSpace.ensures.unwritten) c.give_up.ensures.leaves

@@ -1,0 +1,12 @@
+use Rattle.raft_log_pipe.proofs.ExitLemmas.{then_holds, then_leaves}
+use Rattle.raft_log_pipe.proofs.GiveUpLemmas.{ended_leaves}
+use Rattle.raft_log_pipe.proofs.pipe.SinglePipe.give_up.Goals as goal
+
+pub returns-in-Ok-clause-leaves : goal.returns-in-Ok-clause-leaves
+returns-in-Ok-clause-leaves g c =
+    ended_leaves c.args.self.now c.go_on.new.self (g.F.FileSystem.disk c.args.files.now) (g.F.FileSystem.disk c.go_on.new.files)
+    (then_holds c.args.self.now c.finish.new.self c.go_on.new.self (g.F.FileSystem.disk c.args.files.now) (g.F.FileSystem.disk c.finish.new.files) (g.F.FileSystem.disk c.go_on.new.files) c.in_default.ensures.ok c.in-Ok.ensures.ok)
+
+pub returns-in-Err-go_on-clause-leaves : goal.returns-in-Err-go_on-clause-leaves
+returns-in-Err-go_on-clause-leaves g c =
+    then_leaves c.args.self.now c.finish.new.self c.go_on.new.self (g.F.FileSystem.disk c.args.files.now) (g.F.FileSystem.disk c.finish.new.files) (g.F.FileSystem.disk c.go_on.new.files) c.in_default.ensures.ok c.in-Err-go_on.ensures.err

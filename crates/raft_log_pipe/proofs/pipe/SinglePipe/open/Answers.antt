@@ -1,0 +1,20 @@
+use Rattle.raft_log_pipe.proofs.OpenLemmas.{found_so, opened_holds, opened_pipe, resumed_on}
+use Rattle.raft_log_pipe.proofs.pipe.SinglePipe.open.Goals as goal
+
+pub returns-clause-pipe : goal.returns-clause-pipe
+returns-clause-pipe g c =
+    let met = g.met.F.FileSystem g.world.𝓛 g.world.𝓜 g.world.𝓡 ((λ s x. x), (λ x. x), (λ x. x), λ x. x) in
+    opened_pipe _ (g.F.FileSystem.disk c.args.files.now) _ c.requires.found.0 (met.is_named c.args.files.now)
+    (found_so c.args.queue c.args.paths.items (g.F.FileSystem.disk c.args.files.now) c.args.found.items c.pop.new.self.items c.in-Some.active c.requires.found.0 c.in-Some.ensures.items c.requires.found.1)
+    c.in_ok-writer.ensures.resumed c.requires.paths c.requires.plain
+
+pub returns-clause-holds : goal.returns-clause-holds
+returns-clause-holds g c =
+    let met = g.met.F.FileSystem g.world.𝓛 g.world.𝓜 g.world.𝓡 ((λ s x. x), (λ x. x), (λ x. x), λ x. x) in
+    λ bs found. opened_holds c.args.queue c.args.paths.items _ c.in-Some.active c.in_ok-writer.writer (g.F.FileSystem.disk c.args.files.now) _ bs (met.is_named c.args.files.now)
+    (found_so c.args.queue c.args.paths.items (g.F.FileSystem.disk c.args.files.now) c.args.found.items c.pop.new.self.items c.in-Some.active bs c.in-Some.ensures.items found) c.in_ok-writer.ensures.resumed
+
+pub returns-clause-changes : goal.returns-clause-changes
+returns-clause-changes g c =
+    let so = found_so c.args.queue c.args.paths.items (g.F.FileSystem.disk c.args.files.now) c.args.found.items c.pop.new.self.items c.in-Some.active c.requires.found.0 c.in-Some.ensures.items c.requires.found.1 in
+    (resumed_on (g.F.FileSystem.disk c.args.files.now) _ c.args.queue c.in-Some.active so.ks c.in_ok-writer.writer so.whole c.in_ok-writer.ensures.resumed).change

@@ -1,0 +1,71 @@
+use Rattle.std.proofs.Common.{◌≡◌, ◌^◌, ◌<◌, List, ◌∷◌, ◌++◌, Some, inr, refl, sym, ap, arith, ◌∙◌}
+use Rattle.raft_log_disk.specs.Name.{log_file_of}
+use Rattle.raft_log_files.specs.FileName.{log_file_name}
+use Rattle.raft_log_pipe.specs.declared.file.File.{File}
+use Rattle.raft_log_pipe.specs.Pipe.{id_of}
+use Rattle.raft_log_pipe.proofs.NextLemmas.{path_says}
+use Rattle.raft_log_pipe.proofs.PurgeLemmas.{deleted_none, first_gone, first_number, first_placed, holds_all, purged, removed_first, with_older}
+use Rattle.raft_log_pipe.proofs.pipe.SinglePipe.purge_first.Goals as goal
+
+pub build_file_path-requires : goal.build_file_path-requires
+build_file_path-requires g c = omega (arith, (first_number c.args.self.now (g.F.FileSystem.disk c.args.files.now) c.index-file.result.now c.requires.pipe c.requires.some c.index-file.ensures).0, c.new-id.ensures.seq)
+
+pub returns-in_err-path-clause-holds : goal.returns-in_err-path-clause-holds
+returns-in_err-path-clause-holds g c = holds_all c.args.self.now (g.F.FileSystem.disk c.args.files.now) (g.F.FileSystem.disk c.args.files.now) c.requires.pipe refl
+
+pub returns-in_err-delete-clause-pipe : goal.returns-in_err-delete-clause-pipe
+returns-in_err-delete-clause-pipe g c =
+    let met = g.met.F.FileSystem g.world.𝓛 g.world.𝓜 g.world.𝓡 ((λ s x. x), (λ x. x), (λ x. x), λ x. x) in
+    let number : c.new-id.result.seq < 10 ^ 16 = omega (arith, (first_number c.args.self.now (g.F.FileSystem.disk c.args.files.now) c.index-file.result.now c.requires.pipe c.requires.some c.index-file.ensures).0, c.new-id.ensures.seq) in
+    let says : log_file_of c.as_str-2.result.now ≡ Some (id_of c.args.self.now.queue c.index-file.result.now.seq)
+    = path_says _ _ _ c.new-id.result number refl (c.as_str-2.ensures.value ∙ c.in_ok-path.ensures) ∙ (λ i. Some (record { queue = c.new-id.ensures.queue i; seq = c.new-id.ensures.seq i })) in
+    (purged c.args.self.now c.remove.new.self c.index-file.result.now (g.F.FileSystem.disk c.args.files.now) (g.F.FileSystem.disk c.delete.new.self) c.as_str-2.result.now (met.is_named c.args.files.now) c.requires.pipe c.requires.some c.index-file.ensures c.remove.ensures.items says c.in_err-delete.ensures.err).pipe
+
+pub returns-clause-pipe : goal.returns-clause-pipe
+returns-clause-pipe g c =
+    let met = g.met.F.FileSystem g.world.𝓛 g.world.𝓜 g.world.𝓡 ((λ s x. x), (λ x. x), (λ x. x), λ x. x) in
+    let number : c.new-id.result.seq < 10 ^ 16 = omega (arith, (first_number c.args.self.now (g.F.FileSystem.disk c.args.files.now) c.index-file.result.now c.requires.pipe c.requires.some c.index-file.ensures).0, c.new-id.ensures.seq) in
+    let says : log_file_of c.as_str-2.result.now ≡ Some (id_of c.args.self.now.queue c.index-file.result.now.seq)
+    = path_says _ _ _ c.new-id.result number refl (c.as_str-2.ensures.value ∙ c.in_ok-path.ensures) ∙ (λ i. Some (record { queue = c.new-id.ensures.queue i; seq = c.new-id.ensures.seq i })) in
+    (purged c.args.self.now c.remove.new.self c.index-file.result.now (g.F.FileSystem.disk c.args.files.now) (g.F.FileSystem.disk c.delete.new.self) c.as_str-2.result.now (met.is_named c.args.files.now) c.requires.pipe c.requires.some c.index-file.ensures c.remove.ensures.items says (inr c.in_ok-delete.ensures.ok)).pipe
+
+pub returns-in_err-delete-clause-holds : goal.returns-in_err-delete-clause-holds
+returns-in_err-delete-clause-holds g c =
+    let met = g.met.F.FileSystem g.world.𝓛 g.world.𝓜 g.world.𝓡 ((λ s x. x), (λ x. x), (λ x. x), λ x. x) in
+    let number : c.new-id.result.seq < 10 ^ 16 = omega (arith, (first_number c.args.self.now (g.F.FileSystem.disk c.args.files.now) c.index-file.result.now c.requires.pipe c.requires.some c.index-file.ensures).0, c.new-id.ensures.seq) in
+    let says : log_file_of c.as_str-2.result.now ≡ Some (id_of c.args.self.now.queue c.index-file.result.now.seq)
+    = path_says _ _ _ c.new-id.result number refl (c.as_str-2.ensures.value ∙ c.in_ok-path.ensures) ∙ (λ i. Some (record { queue = c.new-id.ensures.queue i; seq = c.new-id.ensures.seq i })) in
+    (purged c.args.self.now c.remove.new.self c.index-file.result.now (g.F.FileSystem.disk c.args.files.now) (g.F.FileSystem.disk c.delete.new.self) c.as_str-2.result.now (met.is_named c.args.files.now) c.requires.pipe c.requires.some c.index-file.ensures c.remove.ensures.items says c.in_err-delete.ensures.err).holds
+
+pub returns-clause-holds : goal.returns-clause-holds
+returns-clause-holds g c =
+    let met = g.met.F.FileSystem g.world.𝓛 g.world.𝓜 g.world.𝓡 ((λ s x. x), (λ x. x), (λ x. x), λ x. x) in
+    let number : c.new-id.result.seq < 10 ^ 16 = omega (arith, (first_number c.args.self.now (g.F.FileSystem.disk c.args.files.now) c.index-file.result.now c.requires.pipe c.requires.some c.index-file.ensures).0, c.new-id.ensures.seq) in
+    let says : log_file_of c.as_str-2.result.now ≡ Some (id_of c.args.self.now.queue c.index-file.result.now.seq)
+    = path_says _ _ _ c.new-id.result number refl (c.as_str-2.ensures.value ∙ c.in_ok-path.ensures) ∙ (λ i. Some (record { queue = c.new-id.ensures.queue i; seq = c.new-id.ensures.seq i })) in
+    (purged c.args.self.now c.remove.new.self c.index-file.result.now (g.F.FileSystem.disk c.args.files.now) (g.F.FileSystem.disk c.delete.new.self) c.as_str-2.result.now (met.is_named c.args.files.now) c.requires.pipe c.requires.some c.index-file.ensures c.remove.ensures.items says (inr c.in_ok-delete.ensures.ok)).holds
+
+pub returns-in_err-delete-clause-keeps : goal.returns-in_err-delete-clause-keeps
+returns-in_err-delete-clause-keeps g c =
+    let met = g.met.F.FileSystem g.world.𝓛 g.world.𝓜 g.world.𝓡 ((λ s x. x), (λ x. x), (λ x. x), λ x. x) in
+    let number : c.new-id.result.seq < 10 ^ 16 = omega (arith, (first_number c.args.self.now (g.F.FileSystem.disk c.args.files.now) c.index-file.result.now c.requires.pipe c.requires.some c.index-file.ensures).0, c.new-id.ensures.seq) in
+    let says : log_file_of c.as_str-2.result.now ≡ Some (id_of c.args.self.now.queue c.index-file.result.now.seq)
+    = path_says _ _ _ c.new-id.result number refl (c.as_str-2.ensures.value ∙ c.in_ok-path.ensures) ∙ (λ i. Some (record { queue = c.new-id.ensures.queue i; seq = c.new-id.ensures.seq i })) in
+    (purged c.args.self.now c.remove.new.self c.index-file.result.now (g.F.FileSystem.disk c.args.files.now) (g.F.FileSystem.disk c.delete.new.self) c.as_str-2.result.now (met.is_named c.args.files.now) c.requires.pipe c.requires.some c.index-file.ensures c.remove.ensures.items says c.in_err-delete.ensures.err).keeps
+
+pub returns-clause-keeps : goal.returns-clause-keeps
+returns-clause-keeps g c =
+    let met = g.met.F.FileSystem g.world.𝓛 g.world.𝓜 g.world.𝓡 ((λ s x. x), (λ x. x), (λ x. x), λ x. x) in
+    let number : c.new-id.result.seq < 10 ^ 16 = omega (arith, (first_number c.args.self.now (g.F.FileSystem.disk c.args.files.now) c.index-file.result.now c.requires.pipe c.requires.some c.index-file.ensures).0, c.new-id.ensures.seq) in
+    let says : log_file_of c.as_str-2.result.now ≡ Some (id_of c.args.self.now.queue c.index-file.result.now.seq)
+    = path_says _ _ _ c.new-id.result number refl (c.as_str-2.ensures.value ∙ c.in_ok-path.ensures) ∙ (λ i. Some (record { queue = c.new-id.ensures.queue i; seq = c.new-id.ensures.seq i })) in
+    (purged c.args.self.now c.remove.new.self c.index-file.result.now (g.F.FileSystem.disk c.args.files.now) (g.F.FileSystem.disk c.delete.new.self) c.as_str-2.result.now (met.is_named c.args.files.now) c.requires.pipe c.requires.some c.index-file.ensures c.remove.ensures.items says (inr c.in_ok-delete.ensures.ok)).keeps
+
+pub returns-clause-gone : goal.returns-clause-gone
+returns-clause-gone g c =
+    let met = g.met.F.FileSystem g.world.𝓛 g.world.𝓜 g.world.𝓡 ((λ s x. x), (λ x. x), (λ x. x), λ x. x) in
+    first_gone c.args.self.now (with_older c.args.self.now c.remove.new.self) c.index-file.result.now c.index.result.now (g.F.FileSystem.disk c.delete.new.self) c.as_str-2.result.now
+    (removed_first c.args.self.now.older.items c.index-file.result.now c.requires.some c.index-file.ensures ∙ ap (λ (l : List File). c.index-file.result.now ∷ l) (sym c.remove.ensures.items))
+    (first_placed c.args.self.now (g.F.FileSystem.disk c.args.files.now) c.index-file.result.now c.requires.pipe c.requires.some c.index-file.ensures) c.index.ensures
+    (c.as_str-2.ensures.value ∙ c.in_ok-path.ensures ∙ (λ i. c.as_str.ensures.value i ++ 47 ∷ log_file_name (record { queue = c.new-id.ensures.queue i; seq = c.new-id.ensures.seq i })))
+    (deleted_none (g.F.FileSystem.disk c.args.files.now) (g.F.FileSystem.disk c.delete.new.self) c.as_str-2.result.now (met.is_named c.args.files.now) c.in_ok-delete.ensures.ok)

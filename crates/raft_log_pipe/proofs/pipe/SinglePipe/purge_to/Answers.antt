@@ -1,0 +1,59 @@
+use Rattle.std.proofs.Common.{inl, refl, subst, arith, ◌∙◌}
+use Rattle.raft_log_records.specs.declared.file_id.LogQueue.{LogQueue}
+use Rattle.raft_log_pipe.specs.Pipe.{first_of}
+use Rattle.raft_log_pipe.specs.Purging.{KeepsFrom}
+use Rattle.raft_log_pipe.proofs.PurgeLemmas.{first_more, first_or_more, goes_on, gone_on, holds_all, in_files, none_gone, rest_on, same_keeps}
+use Rattle.raft_log_pipe.proofs.pipe.SinglePipe.purge_to.Goals as goal
+
+pub returns-in_default-clause-holds : goal.returns-in_default-clause-holds
+returns-in_default-clause-holds g c = holds_all c.args.self.now (g.F.FileSystem.disk c.args.files.now) (g.F.FileSystem.disk c.args.files.now) c.requires.pipe refl
+
+pub loop-gone-init : goal.loop-gone-init
+loop-gone-init g c =
+    let within = in_files c.args.self.now (g.F.FileSystem.disk c.args.files.now) c.in-Some.file c.args.seq c.requires.pipe c.in-Some.ensures.found.0 c.in-Some.ensures.found.1 in
+    record {
+      pipe = c.requires.pipe;
+      count = omega arith;
+      span = omega (arith, within.0, within.1, c.in-Some.ensures.found.1, c.file_span-first.ensures.first);
+      active = refl;
+      queue = refl;
+      paths = refl;
+      holds = holds_all c.args.self.now (g.F.FileSystem.disk c.args.files.now) (g.F.FileSystem.disk c.args.files.now) c.requires.pipe refl;
+      keeps = same_keeps c.args.self.now.queue (first_of c.args.self.now) (g.F.FileSystem.disk c.args.files.now) (g.F.FileSystem.disk c.args.files.now) refl;
+      gone = none_gone c.args.self.now (g.F.FileSystem.disk c.args.files.now);
+    }
+
+pub returns-in_err-purge_first-clause-holds : goal.returns-in_err-purge_first-clause-holds
+returns-in_err-purge_first-clause-holds g c =
+    rest_on c.args.self.now c.loop-gone.self c.purge_first.new.self (g.F.FileSystem.disk c.args.files.now) (g.F.FileSystem.disk c.loop-gone.files) (g.F.FileSystem.disk c.purge_first.new.files)
+    (first_or_more c.loop-gone.self c.purge_first.new.self (g.F.FileSystem.disk c.loop-gone.files) c.loop-gone.invariant.pipe c.in_err-purge_first.ensures.same.0 c.in_err-purge_first.ensures.err)
+    c.loop-gone.invariant.holds c.in_err-purge_first.ensures.holds
+
+pub returns-in_err-purge_first-clause-keeps : goal.returns-in_err-purge_first-clause-keeps
+returns-in_err-purge_first-clause-keeps g c =
+    goes_on c.args.self.now c.loop-gone.self c.purge_first.new.self (g.F.FileSystem.disk c.args.files.now) (g.F.FileSystem.disk c.loop-gone.files) (g.F.FileSystem.disk c.purge_first.new.files)
+    c.loop-gone.invariant.pipe c.in_err-purge_first.ensures.pipe
+    (first_or_more c.loop-gone.self c.purge_first.new.self (g.F.FileSystem.disk c.loop-gone.files) c.loop-gone.invariant.pipe c.in_err-purge_first.ensures.same.0 c.in_err-purge_first.ensures.err)
+    c.loop-gone.invariant.queue c.loop-gone.invariant.keeps c.in_err-purge_first.ensures.keeps
+
+pub loop-gone-preserved : goal.loop-gone-preserved
+loop-gone-preserved g c =
+    let more = first_more c.loop-gone.self c.purge_first.new.self (g.F.FileSystem.disk c.loop-gone.files) (g.F.FileSystem.disk c.purge_first.new.files) c.loop-gone.invariant.pipe c.in_ok-purge_first.ensures.same.0
+    c.in_ok-purge_first.ensures.ok in
+    let le = first_or_more c.loop-gone.self c.purge_first.new.self (g.F.FileSystem.disk c.loop-gone.files) c.loop-gone.invariant.pipe c.in_ok-purge_first.ensures.same.0 (inl c.in_ok-purge_first.ensures.ok) in
+    record {
+      pipe = c.in_ok-purge_first.ensures.pipe;
+      count = omega (arith, more, c.loop-gone.invariant.count);
+      span = c.loop-gone.invariant.span;
+      active = c.in_ok-purge_first.ensures.same.0 ∙ c.loop-gone.invariant.active;
+      queue = c.in_ok-purge_first.ensures.same.1 ∙ c.loop-gone.invariant.queue;
+      paths = c.in_ok-purge_first.ensures.same.2 ∙ c.loop-gone.invariant.paths;
+      holds = rest_on c.args.self.now c.loop-gone.self c.purge_first.new.self (g.F.FileSystem.disk c.args.files.now) (g.F.FileSystem.disk c.loop-gone.files) (g.F.FileSystem.disk c.purge_first.new.files) le
+          c.loop-gone.invariant.holds c.in_ok-purge_first.ensures.holds;
+      keeps = goes_on c.args.self.now c.loop-gone.self c.purge_first.new.self (g.F.FileSystem.disk c.args.files.now) (g.F.FileSystem.disk c.loop-gone.files) (g.F.FileSystem.disk c.purge_first.new.files)
+          c.loop-gone.invariant.pipe c.in_ok-purge_first.ensures.pipe le c.loop-gone.invariant.queue c.loop-gone.invariant.keeps c.in_ok-purge_first.ensures.keeps;
+      gone = gone_on c.args.self.now c.loop-gone.self c.purge_first.new.self (first_of c.purge_first.new.self) (g.F.FileSystem.disk c.loop-gone.files) (g.F.FileSystem.disk c.purge_first.new.files)
+          c.loop-gone.invariant.queue c.loop-gone.invariant.paths
+          (subst (λ (x : LogQueue). KeepsFrom x (first_of c.purge_first.new.self) (g.F.FileSystem.disk c.loop-gone.files) (g.F.FileSystem.disk c.purge_first.new.files)) c.loop-gone.invariant.queue c.in_ok-purge_first.ensures.keeps)
+          c.loop-gone.invariant.gone c.in_ok-purge_first.ensures.gone;
+    }

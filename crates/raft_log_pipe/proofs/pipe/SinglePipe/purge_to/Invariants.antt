@@ -1,0 +1,17 @@
+use Rattle.std.proofs.Common.{◌≡◌, ◌+◌, ◌≤◌}
+use Rattle.raft_log_pipe.specs.Pipe.{IsPipe, first_of}
+use Rattle.raft_log_pipe.specs.Purging.{AreGone, HoldsRest, KeepsFrom}
+use Rattle.raft_log_pipe.proofs.pipe.SinglePipe.purge_to.Given as goal
+
+abbrev pub invariant-loop-gone : goal.invariant-loop-gone
+invariant-loop-gone g l = record {
+  pipe : IsPipe l.self (g.F.FileSystem.disk l.files);
+  count : first_of l.self ≡ first_of l.initial.self + l._gone;
+  span : first_of l.initial.self + l.count ≤ l.initial.self.active.seq;
+  active : l.self.active ≡ l.initial.self.active;
+  queue : l.self.queue ≡ l.initial.self.queue;
+  paths : l.self.paths ≡ l.initial.self.paths;
+  holds : HoldsRest l.initial.self (g.F.FileSystem.disk l.initial.files) l.self (g.F.FileSystem.disk l.files);
+  keeps : KeepsFrom l.initial.self.queue (first_of l.self) (g.F.FileSystem.disk l.initial.files) (g.F.FileSystem.disk l.files);
+  gone : AreGone l.initial.self l.self (g.F.FileSystem.disk l.files);
+}

@@ -1,0 +1,62 @@
+//! Files whose batches are needed no more go, the first ones first.
+
+ghost use Rattle.std.specs.Prelude.{◌≡◌, ◌⊎◌, ◌↔◌, ◌∷◌, ◌+◌, ◌-◌, ◌<◌, ◌≤◌, length, IfOk, OnOk, OnErr, IsErrOf};
+ghost use Rattle.raft_log_files.specs.declared.error.Error.TheVariants.{Other};
+ghost use Rattle.raft_log_files.specs.declared.error.OtherFault.TheVariants.{NumberOutOfSpan};
+ghost use Rattle.raft_log_pipe.specs.declared.file.File.{File};
+ghost use Rattle.raft_log_pipe.specs.Blocks.{IsOutOfSpan};
+ghost use Rattle.raft_log_pipe.specs.Pipe.{IsPipe, first_of};
+ghost use Rattle.raft_log_pipe.specs.Purging.{AreGone, HoldsRest, KeepsFrom};
+
+use crate::pipe::SinglePipe;
+use raft_log_files::{Error, FileNameExt, FileSystem, OtherFault};
+use raft_log_records::{FileId, FileSeq};
+
+impl SinglePipe {
+    /// Lets the first file go. After an `Err` the pipe has it or not, and on the disk it may be
+    /// left.
+    fn purge_first<F: FileSystem>(&mut self, files: &mut F) -> Result<(), Error>
+        requires pipe { IsPipe self.old (F.disk files.old) }
+        requires some { 0 < length self.old.older.items }
+        ensures pipe { IsPipe self.new (F.disk files.new) }
+        ensures same { (self.new.active ≡ self.old.active) × (self.new.queue ≡ self.old.queue) × (self.new.paths ≡ self.old.paths) }
+        ensures ok { OnOk result (length self.new.older.items + 1 ≡ length self.old.older.items) }
+        ensures err { OnErr result ((length self.new.older.items + 1 ≡ length self.old.older.items) ⊎ (length self.new.older.items ≡ length self.old.older.items)) }
+        ensures gone { OnOk result (AreGone self.old self.new (F.disk files.new)) }
+        ensures told { IsErrOf result (Other NumberOutOfSpan) → ⊥ }
+        ensures holds { HoldsRest self.old (F.disk files.old) self.new (F.disk files.new) }
+        ensures keeps { KeepsFrom self.old.queue (first_of self.new) (F.disk files.old) (F.disk files.new) }
+    {
+        let file = self.older[0];
+        let id = FileId::new(self.queue, file.seq);
+        let path = id.build_file_path(self.alloc, self.paths[file.path_id].as_str())?;
+        let _ = self.older.remove(0);
+        files.delete(path.as_str())?;
+        Ok(())
+    }
+
+    /// Lets the files before a number go, and answers how many went (raft-engine's `purge_to`). A
+    /// number that no file has is `Other`, and changes nothing. After another `Err` some of them
+    /// have gone, the first ones.
+    pub fn purge_to<F: FileSystem>(&mut self, files: &mut F, seq: FileSeq) -> Result<u64, Error>
+        requires pipe { IsPipe self.old (F.disk files.old) }
+        ensures pipe { IsPipe self.new (F.disk files.new) }
+        ensures same { (self.new.active ≡ self.old.active) × (self.new.queue ≡ self.old.queue) }
+        ensures ok { IfOk result (λ n. (first_of self.new ≡ seq) × (first_of self.old + n ≡ seq)) }
+        ensures out { IsOutOfSpan self.old seq → IsErrOf result (Other NumberOutOfSpan) × (self.new ≡ self.old) × (F.disk files.new ≡ F.disk files.old) }
+        ensures within { IsErrOf result (Other NumberOutOfSpan) → IsOutOfSpan self.old seq }
+        ensures gone { OnOk result (AreGone self.old self.new (F.disk files.new)) }
+        ensures holds { HoldsRest self.old (F.disk files.old) self.new (F.disk files.new) }
+        ensures keeps { KeepsFrom self.old.queue (first_of self.new) (F.disk files.old) (F.disk files.new) }
+    {
+        let Some(file) = self.file_of(seq) else {
+            return Err(Error::Other(OtherFault::NumberOutOfSpan));
+        };
+        let (first, _) = self.file_span();
+        let count = file.seq - first;
+        for _gone in 0..count {
+            self.purge_first(files)?;
+        }
+        Ok(count)
+    }
+}
