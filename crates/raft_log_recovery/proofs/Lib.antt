@@ -1,0 +1,5 @@
+pub mod ScanLemmas
+pub mod DirectoryLemmas
+pub mod ReadLemmas
+pub mod RepairLemmas
+pub mod ReplayLemmas

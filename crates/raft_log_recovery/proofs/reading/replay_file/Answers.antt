@@ -1,0 +1,31 @@
+use Rattle.std.proofs.Common.{◌≡◌, ℕ, Ok, Err, ap, rules, subst, ◌∙◌}
+use Rattle.raft_log_disk.specs.declared.fault.Fd.{Fd}
+use Rattle.raft_log_disk.specs.Format.{header_len}
+use Rattle.raft_log_files.specs.declared.error.CorruptionFault.TheVariants.{Header}
+use Rattle.raft_log_files.specs.declared.error.Error.{Error}
+use Rattle.raft_log_files.specs.declared.error.Error.TheVariants.{Corruption}
+use Rattle.raft_log_file.specs.Errors.{Parses}
+use Rattle.raft_log_file.specs.Reader.{held_bytes, left}
+use Rattle.raft_log_file.specs.Reading.{read_behind}
+use Rattle.raft_log_recovery.proofs.ReplayLemmas.{all_placed, nothing_placed}
+use Rattle.raft_log_recovery.proofs.reading.replay_file.Goals as goal
+
+pub returns-in-Err-Corruption-Header-clause-replayed : goal.returns-in-Err-Corruption-Header-clause-replayed
+returns-in-Err-Corruption-Header-clause-replayed g c =
+    let d = g.F.FileSystem.disk c.args.files.now in
+    let m = g.F.FileSystem.meter c.args.files.now in
+    let fd : c.build_file_reader-reader.result.fd.0 ≡ c.args.fd.0 = ap (λ (x : Fd). x.0) c.build_file_reader-reader.ensures in
+    let whole : c.in-Err-Corruption-Header.field-0 ≡ Corruption (Header c.in-Err-Corruption-Header.fault) = first_of (search rules, cc) in
+    nothing_placed (g.M.ReplayMachine.has_replayed c.args.machine.now) c.args.id (d.file c.args.fd.0).bytes c.in-Err-Corruption-Header.fault
+    (subst (λ (n : ℕ). Parses d m n (Err (Corruption (Header c.in-Err-Corruption-Header.fault)))) fd
+    (subst (λ (e : Error). Parses d m c.build_file_reader-reader.result.fd.0 (Err e)) whole c.in-Err-Corruption-Header.ensures))
+
+pub returns-clause-replayed : goal.returns-clause-replayed
+returns-clause-replayed g c =
+    let d = g.F.FileSystem.disk c.args.files.now in
+    let fd : c.build_file_reader-reader.result.fd.0 ≡ c.args.fd.0 = ap (λ (x : Fd). x.0) c.build_file_reader-reader.ensures in
+    all_placed (g.M.ReplayMachine.has_replayed c.args.machine.now) (g.M.ReplayMachine.has_replayed c.replay_left.new.machine) c.args.id (d.file c.args.fd.0).bytes c.in-Ok.format (left c.open.new.self d) (held_bytes c.open.new.self d)
+    (subst (λ (n : ℕ). Parses d (g.F.FileSystem.meter c.args.files.now) n (Ok c.in-Ok.format)) fd c.in-Ok.ensures)
+    (c.in_ok-open.ensures.held ∙ ap (λ (n : ℕ). (d.file n).bytes) fd)
+    (c.in_ok-open.ensures.ok ∙ ap (λ (n : ℕ). read_behind c.args.id c.in-Ok.format (header_len c.in-Ok.format.version) (d.file n).bytes) fd)
+    c.in_ok-fault.ensures.replayed

@@ -1,0 +1,13 @@
+use Rattle.std.proofs.Common.{refl}
+use Rattle.raft_log_disk.proofs.CauseLemmas.{at_err}
+use Rattle.raft_log_recovery.proofs.RepairLemmas.{stopped_same}
+use Rattle.raft_log_recovery.proofs.ReplayLemmas.{file_fits}
+use Rattle.raft_log_recovery.proofs.recover.recover_file.Goals as goal
+
+pub returns-in_err-read-clause-err : goal.returns-in_err-read-clause-err
+returns-in_err-read-clause-err g c = at_err _ _ (stopped_same (g.F.FileSystem.disk c.args.files.now) _ c.args.id c.args.fd.0 refl)
+
+pub repair-requires-clause-fits : goal.repair-requires-clause-fits
+repair-requires-clause-fits g c κs within =
+    let met = g.met.F.FileSystem g.world.𝓛 g.world.𝓜 g.world.𝓡 ((λ s x. x), (λ x. x), (λ x. x), λ x. x) in
+    file_fits (g.F.FileSystem.disk c.args.files.now) c.args.fd.0 (met.has_images c.args.files.now) c.requires

@@ -1,0 +1,15 @@
+//! Opening log files that are there: which of them count, and what each is cut to.
+#![tactic(auto)]
+
+mod builder;
+mod directories;
+mod machine;
+mod reading;
+mod recover;
+mod repair;
+mod scan;
+
+pub use builder::DualPipesBuilder;
+pub use machine::{Factory, NewMachine, ReplayMachine};
+pub use recover::recover_file;
+pub use scan::{FileKind, FileName};
