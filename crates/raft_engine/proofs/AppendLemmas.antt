@@ -187,7 +187,7 @@ module _ {C R : Type 0} (x : Given) (own : ℕ) (e : Engine C R) (r : StepResult
                 (known s old.knows old.order.placed (subst (ArePlaced (end_place s)) (sym puts) (placed_put payload)));
             renewed = ap (λ (v : UTime (Vote ℕ) ℕ). v.utime) rest.vote ∙ old.renewed;
             committed = rest.committed ∙ old.committed ∙ sym (committed_grown r.state (put payload) old.order);
-            wish = ap place_of rest.purge_upto ∙ old.wish;
+            wish = ap place_of rest.wish ∙ old.wish;
             role =
                 subst (λ o. PlaysRole own o e'.candidate (grown_by s (put payload)) r.state.role) (sym leader)
                 (subst (λ c. PlaysRole own (Some l') c (grown_by s (put payload)) r.state.role) (sym candidate)

@@ -54,7 +54,7 @@ stands_asking own e s h =
     let old = h.knows in
     record {
       config = h.config;
-      knows = record { vote = old.vote; ids = old.ids; purged = old.purged; snapshot = old.snapshot; memberships = old.memberships; in_force = old.in_force };
+      knows = record { vote = old.vote; ids = old.ids; purged = old.purged; snapshot = old.snapshot; memberships = old.memberships; in_force = old.in_force; last_committed = old.last_committed; goal = old.goal };
       renewed = h.renewed;
       committed = h.committed;
       wish = h.wish;
@@ -135,7 +135,7 @@ module _ (s : GroupState) (x : Snapshot) (built : IsSnapshotOfApplied s x) where
               knows = knows;
               renewed = ap (λ (v : UTime (Vote ℕ) ℕ). v.utime) rest.vote ∙ h.renewed;
               committed = rest.committed ∙ h.committed;
-              wish = ap place_of rest.purge_upto ∙ h.wish;
+              wish = ap place_of rest.wish ∙ h.wish;
               role =
                   plays_on own e.leader e'.leader e'.candidate s.stored (after_storing (SetSnapshot x) s.stored) s.role keeps_standing leader
                   (subst (λ c. PlaysRole own e.leader c s.stored s.role) (sym candidate) h.role);

@@ -12,7 +12,7 @@ use Rattle.raft_group_step.specs.GroupState.{GroupState, Follower}
 use Rattle.raft_group_step.specs.StepResult.{StepResult, store, with_stored, later_place, is_within, apply_up_to}
 use Rattle.raft_group_step.specs.AppendRequest.{cut_from, put_entries}
 use Rattle.raft_group_step.specs.Frames.{committed_id}
-use Rattle.raft_known_state.specs.KnownState.{KnownState, Knows, KeepsRest, ArePlaced, IsPlaced, stored_ids}
+use Rattle.raft_known_state.specs.KnownState.{KnownState, Knows, KeepsRest, ArePlaced, IsPlaced, stored_ids, with_committed}
 use Rattle.raft_known_state.proofs.PlacedIds.{by_order}
 use Rattle.raft_known_state.proofs.KnownStateLemmas.{end-known, log_whole}
 use Rattle.raft_commands.specs.Output.{Output, following_seq}
@@ -207,7 +207,7 @@ module _ {C R : Type 0} (x : Given) (own : ℕ) (e e' : Engine C R) (r : StepRes
           knows = knows;
           renewed = ap (λ v. v.utime) keeps.vote ∙ old.renewed;
           committed = keeps.committed ∙ old.committed ∙ sym same;
-          wish = ap place_of keeps.purge_upto ∙ old.wish;
+          wish = ap place_of keeps.wish ∙ old.wish;
           role = role_kept (after_storing c r.state.stored) follows;
           order = order;
         };
@@ -256,12 +256,12 @@ none_committed x own e r place step same =
 module _ {C R : Type 0} (x : Given) (own : ℕ) (e e' : Engine C R) (r : StepResult) (step : IsStepOf x own e r) where
   -- an entry above what is committed is committed
   pub more_committed : (place : ℕ) (id : LogId ℕ) (d : Command C R) → e'.config ≡ e.config → e'.seen_greater_log ≡ e.seen_greater_log → e'.leader ≡ e.leader → e'.candidate ≡ e.candidate
-      → e'.state ≡ record e.state { state = record e.state.state { committed = Some id } }
+      → Knows e'.state r.state.stored → e'.state ≡ with_committed e.state (Some id) e'.state.state.membership_state
       → is_within place r.state.committed ≡ false → place < end_place r.state.stored → Some id ≡ id_at r.state.stored place
       → e'.output ≡ record { queue = e.output.queue ++ d ∷ []; last_sm_seq = following_seq e.output.last_sm_seq } → storing_of x.snapshot d ≡ [] → number_in d ≡ following_seq e.output.last_sm_seq ∷ [] → moves_of d ≡ Applies e.state.state.committed id ∷ [] → NeedsNoOther d → RestsOn own (basis_of e r.state) d → committed_by d e.state.state.committed ≡ Some id → turns_of d ≡ []
       → ((s : StoredGroup) (upto : Option (LogId ℕ)) → sending_of own s upto d ≡ [])
       → IsStepOf x own e' (apply_up_to (Some place) r)
-  more_committed place id d config seen leader candidate state past within found output stores next_number moves needs on commits turnless sends =
+  more_committed place id d config seen leader candidate knows state past within found output stores next_number moves needs on commits turnless sends =
       let old = step.state in
       let queue = ap (λ (o : Output C (List ℕ) R ℕ (List ℕ)). o.queue) output in
       let later : later_place r.state.committed (Some place) ≡ Some place = later_more r.state.committed place past in
@@ -273,17 +273,10 @@ module _ {C R : Type 0} (x : Given) (own : ℕ) (e e' : Engine C R) (r : StepRes
       record {
         state = record {
           config = config ∙ old.config;
-          knows = record {
-            vote = ap (λ (y : KnownState). y.state.vote.value) state ∙ old.knows.vote;
-            ids = ap (λ (y : KnownState). y.state.log_ids) state ∙ old.knows.ids;
-            purged = ap (λ (y : KnownState). y.state.purged_next) state ∙ old.knows.purged;
-            snapshot = ap (λ (y : KnownState). y.state.snapshot_meta) state ∙ old.knows.snapshot;
-            memberships = ap (λ (y : KnownState). y.memberships.items) state ∙ old.knows.memberships;
-            in_force = ap (λ (y : KnownState). y.state.membership_state.effective) state ∙ old.knows.in_force;
-          };
+          knows = knows;
           renewed = ap (λ (y : KnownState). y.state.vote.utime) state ∙ old.renewed;
           committed = ap (λ (y : KnownState). y.state.committed) state ∙ sym now_id;
-          wish = ap (λ (y : KnownState). place_of y.state.purge_upto) state ∙ old.wish;
+          wish = ap (λ (y : KnownState). place_of y.wish) state ∙ old.wish;
           role = subst (λ l. PlaysRole own l e'.candidate r.state.stored r.state.role) (sym leader) (subst (λ c. PlaysRole own e.leader c r.state.stored r.state.role) (sym candidate) old.role);
           order = record {
             placed = old.order.placed;

@@ -96,10 +96,10 @@ stands_own own (Some l) c s granters h = absurd h
 module _ {C R : Type 0} (x : Given) (own : ℕ) (e e' : Engine C R) (r : StepResult) (step : IsStepOf x own e r) (l : LeaderValue ℕ EffectiveMembership) (vote : Vote ℕ) where
   -- the lead of a committed vote that is stored
   pub lead_begun : is_leader r.state.role ≡ false → vote ≡ committed_vote r.state.stored.vote → e'.config ≡ e.config → e'.seen_greater_log ≡ e.seen_greater_log → e'.leader ≡ Some l → e'.candidate ≡ None
-      → Knows e'.state (after_storing (SetVote vote) r.state.stored) → e'.state.state ≡ record e.state.state { vote = record { value = vote; utime = Some r.state.now } }
+      → Knows e'.state (after_storing (SetVote vote) r.state.stored) → e'.state.state ≡ record e.state.state { vote = record { value = vote; utime = Some r.state.now } } → e'.state.wish ≡ e.state.wish
       → e'.output ≡ record e.output { queue = (e.output.queue ++ SaveVote vote ∷ []) ++ BecomeLeader ∷ [] } → Leads own l (record r.state.stored { vote = vote }) (new_lead r.state.stored)
       → IsStepOf x own e' (in_role (Leader (new_lead r.state.stored)) (store_vote (committed_vote r.state.stored.vote) r))
-  lead_begun unled voted config seen leader candidate knows state output leads =
+  lead_begun unled voted config seen leader candidate knows state wish output leads =
       let old = step.state in
       let queue = ap (λ (o : Output C (List ℕ) R ℕ (List ℕ)). o.queue) output in
       let voting : Output C (List ℕ) R ℕ (List ℕ) = record e.output { queue = e.output.queue ++ SaveVote vote ∷ [] } in
@@ -115,7 +115,7 @@ module _ {C R : Type 0} (x : Given) (own : ℕ) (e e' : Engine C R) (r : StepRes
           knows = knows;
           renewed = ap (λ (y : StateOf). y.vote.utime) state;
           committed = ap (λ (y : StateOf). y.committed) state ∙ old.committed;
-          wish = ap (λ (y : StateOf). place_of y.purge_upto) state ∙ old.wish;
+          wish = ap place_of wish ∙ old.wish;
           role = role;
           order = order_kept r.state vote r.state.now (Leader (new_lead s)) (Some r.state.now) r.state.wish r.state.untold old.order;
         };

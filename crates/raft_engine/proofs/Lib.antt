@@ -6,6 +6,7 @@ pub mod StandingLemmas
 pub mod PeersLemmas
 pub mod ReplicationLemmas
 pub mod SendingLemmas
+pub mod ValidLemmas
 pub mod VoteLemmas
 pub mod MemberLemmas
 pub mod LastIdLemmas
@@ -34,3 +35,7 @@ pub mod ReceivedLemmas
 pub mod BuildingLemmas
 pub mod HandlerLemmas
 pub mod ServerStateLemmas
+pub mod GapLemmas
+pub mod AlternatingLemmas
+pub mod ForwardLemmas
+pub mod ClockLemmas

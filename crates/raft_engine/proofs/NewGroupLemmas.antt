@@ -29,7 +29,7 @@ ready own =
 module _ {C R : Type 0} (own : ℕ) (e : Engine C R) where
   -- it knows nothing but the group
   pub stands : e.config ≡ config_of own → Knows e.state new_group → e.state.state.vote.utime ≡ None → e.state.state.committed ≡ None
-      → e.state.state.purge_upto ≡ None → e.leader ≡ None → e.candidate ≡ None → IsStateOf own e (state_of new_group)
+      → e.state.wish ≡ None → e.leader ≡ None → e.candidate ≡ None → IsStateOf own e (state_of new_group)
   stands config knows renewed committed wish leader candidate =
       record {
         config = config;

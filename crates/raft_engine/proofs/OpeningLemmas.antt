@@ -50,7 +50,7 @@ module _ {C R : Type 0} (x : Given) (own : ℕ) (e e' : Engine C R) (r : StepRes
           knows = subst (λ k. Knows k s) (sym state) old.knows;
           renewed = ap (λ (y : KnownState). y.state.vote.utime) state ∙ old.renewed;
           committed = ap (λ (y : KnownState). y.state.committed) state ∙ old.committed;
-          wish = ap (λ (y : KnownState). place_of y.state.purge_upto) state ∙ old.wish;
+          wish = ap (λ (y : KnownState). place_of y.wish) state ∙ old.wish;
           role =
               subst (λ o. PlaysRole own o e'.candidate s (Leader (new_lead s))) (sym leader)
               (subst (λ c. PlaysRole own (Some l) c s (Leader (new_lead s))) (sym candidate) leads);

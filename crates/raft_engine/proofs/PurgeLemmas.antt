@@ -17,7 +17,7 @@ use Rattle.raft_group_step.specs.PurgeTrigger.{purge_as, purge_trigger_step, pur
 use Rattle.raft_group_step.specs.Peer.{is_kept_for_peers}
 use Rattle.raft_group_step.specs.Frames.{committed_id}
 use Rattle.raft_group_step.proofs.EntryPlaces.{entry_within}
-use Rattle.raft_known_state.specs.KnownState.{ArePlaced, IsEntryOrPast, IsPlaced, KeepsRest, Knows, SnapshotMeta, meta_of}
+use Rattle.raft_known_state.specs.KnownState.{ArePlaced, IsEntryOrPast, IsPlaced, KeepsRest, KnownState, Knows, SnapshotMeta, meta_of, with_goal}
 use Rattle.raft_known_state.proofs.PlacedIds.{by_order}
 use Rattle.raft_commands.specs.declared.command.Command.TheVariants.{PurgeLog}
 use Rattle.raft_leaders.specs.Candidate.{CandidateValue}
@@ -201,7 +201,7 @@ module _ {C R : Type 0} (x : Given) (own : ℕ) (e e' : Engine C R) (r : StepRes
           knows = knows;
           renewed = ap (λ (v : UTime (Vote ℕ) ℕ). v.utime) rest.vote ∙ old.renewed;
           committed = rest.committed ∙ old.committed ∙ sym (committed_left r.state old.order upto entrys.above entrys.within entrys.found covered);
-          wish = ap place_of rest.purge_upto ∙ old.wish;
+          wish = ap place_of rest.wish ∙ old.wish;
           role =
               plays_on own e.leader e'.leader e'.candidate s (after_storing (RemoveUpTo upto) s) r.state.role standing leader
               (subst (λ c. PlaysRole own e.leader c s r.state.role) (sym candidate) old.role);
@@ -253,15 +253,15 @@ module _ (place : ℕ) (r : StepResult) (placed : IsPlaced r.state.stored) where
 -- ---- what a leader is still to purge
 
 -- another wish
-pub wished : {C R : Type 0} (x : Given) (own : ℕ) (e e' : Engine C R) (r : StepResult) → IsStepOf x own e r → (wish : Option ℕ) (upto : Option (LogId ℕ))
-    → e' ≡ record e { state = record e.state { state = record e.state.state { purge_upto = upto } } } → place_of upto ≡ wish → IsStepOf x own e' (with_wish wish r)
-wished x own e e' r step wish upto same is =
+pub wished : {C R : Type 0} (x : Given) (own : ℕ) (e e' : Engine C R) (r : StepResult) → IsStepOf x own e r → (wish : Option ℕ) (wished_id upto : Option (LogId ℕ))
+    → e' ≡ record e { state = with_goal e.state wished_id upto } → Knows (with_goal e.state wished_id upto) r.state.stored → place_of wished_id ≡ wish → IsStepOf x own e' (with_wish wish r)
+wished x own e e' r step wish wished_id upto same knows is =
     let old = step.state in
-    let other : IsStepOf x own (record e { state = record e.state { state = record e.state.state { purge_upto = upto } } }) (with_wish wish r) =
+    let other : IsStepOf x own (record e { state = with_goal e.state wished_id upto }) (with_wish wish r) =
     record {
       state = record {
         config = old.config;
-        knows = record { vote = old.knows.vote; ids = old.knows.ids; purged = old.knows.purged; snapshot = old.knows.snapshot; memberships = old.knows.memberships; in_force = old.knows.in_force };
+        knows = knows;
         renewed = old.renewed;
         committed = old.committed;
         wish = is;
@@ -353,14 +353,14 @@ module _ (wish : Option ℕ) (r : StepResult) where
 
 module _ {C R : Type 0} (x : Given) (own : ℕ) (e : Engine C R) (r : StepResult) (step : IsStepOf x own e r) where
   -- nothing is wished for
-  pub nothing_wished : e.state.state.purge_upto ≡ None → purge_as_wished r.state.role r.state.wish r ≡ r
+  pub nothing_wished : e.state.wish ≡ None → purge_as_wished r.state.role r.state.wish r ≡ r
   nothing_wished none = no_wish r.state.wish r r.state.role (sym step.state.wish ∙ ap place_of none)
 
   -- others than leaders purge nothing
   pub others_wait : is_some e.leader ≡ false → purge_as_wished r.state.role r.state.wish r ≡ r
   others_wait none = not_led_waits r.state.wish r own e.leader e.candidate r.state.stored r.state.role none step.state.role
 
-  module _ (upto : LogId ℕ) (wishes : e.state.state.purge_upto ≡ Some upto) (some : is_some e.leader ≡ true) where
+  module _ (upto : LogId ℕ) (wishes : e.state.wish ≡ Some upto) (some : is_some e.leader ≡ true) where
     pub wish_is : r.state.wish ≡ Some upto.index
     wish_is = sym step.state.wish ∙ ap place_of wishes
 

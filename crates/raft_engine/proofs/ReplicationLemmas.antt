@@ -82,7 +82,7 @@ module _ {C R : Type 0} (own : ℕ) (e e' : Engine C R) (s : GroupState) (lead :
         knows = subst (λ k. Knows k s.stored) (sym state) old.knows;
         renewed = ap (λ (y : KnownState). y.state.vote.utime) state ∙ old.renewed;
         committed = ap (λ (y : KnownState). y.state.committed) state ∙ old.committed;
-        wish = ap (λ (y : KnownState). place_of y.state.purge_upto) state ∙ old.wish;
+        wish = ap (λ (y : KnownState). place_of y.wish) state ∙ old.wish;
         role = subst (λ x. PlaysRole own x e'.candidate s.stored (Leader (record lead { peers = with_peer (peer_state n entry) lead.peers }))) (sym leader)
             (plays own l' e'.candidate s.stored (record lead { peers = with_peer (peer_state n entry) lead.peers }) (candidate ∙ alone.0)
             (leads-set l l' n entry has sets rest own s.stored lead alone.1));
@@ -120,7 +120,7 @@ module _ {C R : Type 0} (own : ℕ) (e e' : Engine C R) (s : GroupState) where
         knows = subst (λ k. Knows k s.stored) (sym state) old.knows;
         renewed = ap (λ (y : KnownState). y.state.vote.utime) state ∙ old.renewed;
         committed = ap (λ (y : KnownState). y.state.committed) state ∙ old.committed;
-        wish = ap (λ (y : KnownState). place_of y.state.purge_upto) state ∙ old.wish;
+        wish = ap (λ (y : KnownState). place_of y.wish) state ∙ old.wish;
         role = subst (λ l. PlaysRole own l e'.candidate s.stored s.role) (sym leader) (subst (λ d. PlaysRole own e.leader d s.stored s.role) (sym candidate) old.role);
         order = old.order;
       }

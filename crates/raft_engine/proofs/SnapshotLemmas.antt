@@ -19,7 +19,7 @@ use Rattle.raft_group_step.specs.StepResult.{StepResult, apply_up_to, is_within,
 use Rattle.raft_group_step.proofs.Refusals.{past_above}
 use Rattle.raft_group_step.proofs.Votes.{leader_eq_same}
 use Rattle.raft_group_step.proofs.EntryPlaces.{entry_within}
-use Rattle.raft_known_state.specs.KnownState.{ArePlaced, IsEntryOrPast, KeepsRest, KnownState, Knows}
+use Rattle.raft_known_state.specs.KnownState.{ArePlaced, IsEntryOrPast, KeepsRest, KnownState, Knows, with_committed}
 use Rattle.raft_commands.specs.Output.{Output, following_seq}
 use Rattle.raft_engine.specs.Numbering.{number_in}
 use Rattle.raft_engine.specs.Commands.{Command, sending_of, snapshot_result, storing_of}
@@ -112,7 +112,7 @@ says_success asked vote h = rw h refl
 
 -- what two changes keep in turn
 pub both_keep : (a b c : KnownState) → KeepsRest a b → KeepsRest b c → KeepsRest a c
-both_keep a b c k l = record { vote = l.vote ∙ k.vote; committed = l.committed ∙ k.committed; purge_upto = l.purge_upto ∙ k.purge_upto }
+both_keep a b c k l = record { vote = l.vote ∙ k.vote; committed = l.committed ∙ k.committed; wish = l.wish ∙ k.wish }
 
 -- what is stored with the snapshot, without what it covers
 abbrev pub after_snapshot : Snapshot → LogId ℕ → StoredGroup → StoredGroup
@@ -136,7 +136,7 @@ module _ {C R : Type 0} (g : Given) (own : ℕ) (e e' : Engine C R) (r : StepRes
       subst (λ n. ArePlaced n (drop (last.index + 1 - first_place r.state.stored) r.state.stored.log)) at
       (dropped r.state.stored.log (first_place r.state.stored) (last.index + 1 - first_place r.state.stored) step.state.order.placed)
 
-  pub installed : (k : KnownState) (c d : Command C R) → Knows k (after_snapshot g.snapshot last r.state.stored) → KeepsRest e.state k → e'.state ≡ record k { state = record k.state { committed = Some last } }
+  pub installed : (k : KnownState) (c d : Command C R) → Knows e'.state (after_snapshot g.snapshot last r.state.stored) → KeepsRest e.state k → e'.state ≡ with_committed k (Some last) e'.state.state.membership_state
       → e'.output ≡ record { queue = (e.output.queue ++ c ∷ []) ++ d ∷ []; last_sm_seq = following_seq e.output.last_sm_seq } → storing_of g.snapshot c ≡ SetSnapshot g.snapshot ∷ [] → storing_of g.snapshot d ≡ RemoveUpTo last ∷ [] → number_in c ≡ following_seq e.output.last_sm_seq ∷ [] → number_in d ≡ [] → moves_of c ≡ Installs (Some last) ∷ [] → NeedsNoOther c → NeedsNoOther d → RestsOn own (basis_of e r.state) c → committed_by c e.state.state.committed ≡ Some last → RestsOn own (record { stored = after_storing (SetSnapshot g.snapshot) r.state.stored; committed = Some last }) d → turns_of c ≡ [] → turns_of d ≡ []
       → ((s : StoredGroup) (upto : Option (LogId ℕ)) → sending_of own s upto c ≡ []) → ((s : StoredGroup) (upto : Option (LogId ℕ)) → sending_of own s upto d ≡ [])
       → IsStepOf g own e' (apply_up_to (Some last.index) (store (RemoveUpTo last) (store (SetSnapshot g.snapshot) r)))
@@ -149,17 +149,10 @@ module _ {C R : Type 0} (g : Given) (own : ℕ) (e e' : Engine C R) (r : StepRes
       record {
         state = record {
           config = config ∙ old.config;
-          knows = record {
-            vote = ap (λ (y : KnownState). y.state.vote.value) state ∙ knows.vote;
-            ids = ap (λ (y : KnownState). y.state.log_ids) state ∙ knows.ids;
-            purged = ap (λ (y : KnownState). y.state.purged_next) state ∙ knows.purged;
-            snapshot = ap (λ (y : KnownState). y.state.snapshot_meta) state ∙ knows.snapshot;
-            memberships = ap (λ (y : KnownState). y.memberships.items) state ∙ knows.memberships;
-            in_force = ap (λ (y : KnownState). y.state.membership_state.effective) state ∙ knows.in_force;
-          };
+          knows = knows;
           renewed = ap (λ (y : KnownState). y.state.vote.utime) state ∙ ap (λ v. v.utime) keeps.vote ∙ old.renewed;
           committed = ap (λ (y : KnownState). y.state.committed) state ∙ sym now_id;
-          wish = ap (λ (y : KnownState). place_of y.state.purge_upto) state ∙ ap place_of keeps.purge_upto ∙ old.wish;
+          wish = ap (λ (y : KnownState). place_of y.wish) state ∙ ap place_of keeps.wish ∙ old.wish;
           role =
               still_follows own e'.leader e'.candidate r.state.stored (after_snapshot g.snapshot last r.state.stored) r.state.role follows
               (subst (λ l. PlaysRole own l e'.candidate r.state.stored r.state.role) (sym leader) (subst (λ y. PlaysRole own e.leader y r.state.stored r.state.role) (sym candidate) old.role));

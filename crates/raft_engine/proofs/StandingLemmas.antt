@@ -12,10 +12,11 @@ use Rattle.raft_group_step.specs.Message.{Message}
 use Rattle.raft_group_step.specs.Frames.{committed_id}
 use Rattle.raft_group_step.specs.Refusal.{is_voter_in}
 use Rattle.raft_commands.specs.declared.command.Command.TheVariants.{QuitLeader, SaveVote}
-use Rattle.raft_known_state.specs.KnownState.{KnownState, Knows}
+use Rattle.raft_known_state.specs.KnownState.{KnownState, Knows, committed_membership, with_goal}
 use Rattle.raft_leaders.specs.Candidate.{CandidateValue}
 use Rattle.raft_leaders.specs.Leader.{LeaderValue}
 use Rattle.std.specs.List.{All, flat_map}
+use Rattle.std.specs.Option.{option_or}
 use Rattle.raft_engine.specs.Answering.{NeedsNoOther}
 use Rattle.raft_engine.specs.ServerStates.{part_in}
 use Rattle.raft_commands.specs.Output.{Output}
@@ -50,9 +51,9 @@ still_follows own l c s s' (Leader lead) e h = cc
 module _ {C R : Type 0} (x : Given) (own : ℕ) (e e' : Engine C R) (r : StepResult) (step : IsStepOf x own e r) where
   -- a follower's vote is stored
   pub vote_stored : (vote : Vote ℕ) → r.state.role ≡ Follower → e'.config ≡ e.config → e'.seen_greater_log ≡ e.seen_greater_log → e'.leader ≡ e.leader → e'.candidate ≡ e.candidate
-      → Knows e'.state (after_storing (SetVote vote) r.state.stored) → e'.state.state ≡ record e.state.state { vote = record { value = vote; utime = Some r.state.now } }
+      → Knows e'.state (after_storing (SetVote vote) r.state.stored) → e'.state.state ≡ record e.state.state { vote = record { value = vote; utime = Some r.state.now } } → e'.state.wish ≡ e.state.wish
       → e'.output ≡ record e.output { queue = e.output.queue ++ SaveVote vote ∷ [] } → IsStepOf x own e' (store_vote vote r)
-  vote_stored vote follows config seen leader candidate knows state output =
+  vote_stored vote follows config seen leader candidate knows state wish output =
       let old = step.state in
       let queue = ap (λ (o : Output C (List ℕ) R ℕ (List ℕ)). o.queue) output in
       record {
@@ -61,7 +62,7 @@ module _ {C R : Type 0} (x : Given) (own : ℕ) (e e' : Engine C R) (r : StepRes
           knows = knows;
           renewed = ap (λ (y : StateOf). y.vote.utime) state;
           committed = ap (λ (y : StateOf). y.committed) state ∙ old.committed;
-          wish = ap (λ (y : StateOf). place_of y.purge_upto) state ∙ old.wish;
+          wish = ap place_of wish ∙ old.wish;
           role = still_follows own e'.leader e'.candidate r.state.stored (record r.state.stored { vote = vote }) r.state.role follows
               (subst (λ l. PlaysRole own l e'.candidate r.state.stored r.state.role) (sym leader) (subst (λ c. PlaysRole own e.leader c r.state.stored r.state.role) (sym candidate) old.role));
           order = order_kept r.state vote r.state.now r.state.role (Some r.state.now) r.state.wish r.state.untold old.order;
@@ -91,10 +92,14 @@ module _ {C R : Type 0} (x : Given) (own : ℕ) (e e' : Engine C R) (r : StepRes
             snapshot = ap (λ (y : KnownState). y.state.snapshot_meta) state ∙ old.knows.snapshot;
             memberships = ap (λ (y : KnownState). y.memberships.items) state ∙ old.knows.memberships;
             in_force = ap (λ (y : KnownState). y.state.membership_state.effective) state ∙ old.knows.in_force;
+            last_committed =
+                ap (λ (y : KnownState). y.state.membership_state.committed) state ∙ old.knows.last_committed
+                ∙ ap (λ (y : KnownState). committed_membership r.state.stored y.state.committed) (sym state);
+            goal = ap (λ (y : KnownState). y.state.purge_upto) state ∙ old.knows.goal ∙ ap (λ (y : KnownState). option_or y.wish r.state.stored.purged) (sym state);
           };
           renewed = ap (λ (y : KnownState). y.state.vote.utime) state;
           committed = ap (λ (y : KnownState). y.state.committed) state ∙ old.committed;
-          wish = ap (λ (y : KnownState). place_of y.state.purge_upto) state ∙ old.wish;
+          wish = ap (λ (y : KnownState). place_of y.wish) state ∙ old.wish;
           role = subst (λ l. PlaysRole own l e'.candidate r.state.stored r.state.role) (sym leader) (subst (λ c. PlaysRole own e.leader c r.state.stored r.state.role) (sym candidate) old.role);
           order = order_kept r.state r.state.stored.vote r.state.now r.state.role (Some r.state.now) r.state.wish r.state.untold old.order;
         };
@@ -123,7 +128,7 @@ module _ {C R : Type 0} (x : Given) (own : ℕ) (e e' : Engine C R) (r : StepRes
           knows = subst (λ k. Knows k r.state.stored) (sym state) old.knows;
           renewed = ap (λ (y : KnownState). y.state.vote.utime) state ∙ old.renewed;
           committed = ap (λ (y : KnownState). y.state.committed) state ∙ old.committed;
-          wish = ap (λ (y : KnownState). place_of y.state.purge_upto) state ∙ old.wish;
+          wish = ap (λ (y : KnownState). place_of y.wish) state ∙ old.wish;
           role = subst (λ l. PlaysRole own l e'.candidate r.state.stored r.state.role) (sym leader) (subst (λ d. PlaysRole own e.leader d r.state.stored r.state.role) (sym candidate) old.role);
           order = old.order;
         };
@@ -138,24 +143,17 @@ module _ {C R : Type 0} (x : Given) (own : ℕ) (e e' : Engine C R) (r : StepRes
       }
 
 module _ {C R : Type 0} (x : Given) (own : ℕ) (e e' : Engine C R) (r : StepResult) (step : IsStepOf x own e r) (config : e'.config ≡ e.config) (seen : e'.seen_greater_log ≡ e.seen_greater_log)
-    (leader : e'.leader ≡ None) (candidate : e'.candidate ≡ None) (state : e'.state ≡ record e.state { state = record e.state.state { purge_upto = None } }) where
+    (leader : e'.leader ≡ None) (candidate : e'.candidate ≡ None) (upto : Option (LogId ℕ)) (knows : Knows e'.state r.state.stored) (state : e'.state ≡ with_goal e.state None upto) where
   -- a node that follows from now on
   follows_now : IsStateOf own e' (step_down r).state
   follows_now =
       let old = step.state in
       record {
         config = config ∙ old.config;
-        knows = record {
-          vote = ap (λ (y : KnownState). y.state.vote.value) state ∙ old.knows.vote;
-          ids = ap (λ (y : KnownState). y.state.log_ids) state ∙ old.knows.ids;
-          purged = ap (λ (y : KnownState). y.state.purged_next) state ∙ old.knows.purged;
-          snapshot = ap (λ (y : KnownState). y.state.snapshot_meta) state ∙ old.knows.snapshot;
-          memberships = ap (λ (y : KnownState). y.memberships.items) state ∙ old.knows.memberships;
-          in_force = ap (λ (y : KnownState). y.state.membership_state.effective) state ∙ old.knows.in_force;
-        };
+        knows = knows;
         renewed = ap (λ (y : KnownState). y.state.vote.utime) state ∙ old.renewed;
         committed = ap (λ (y : KnownState). y.state.committed) state ∙ old.committed;
-        wish = ap (λ (y : KnownState). place_of y.state.purge_upto) state;
+        wish = ap (λ (y : KnownState). place_of y.wish) state;
         role = subst (λ l. PlaysRole own l e'.candidate r.state.stored Follower) (sym leader) (subst (λ c. PlaysRole own None c r.state.stored Follower) (sym candidate) tt);
         order = order_kept r.state r.state.stored.vote r.state.now Follower r.state.renewed None [] old.order;
       }

@@ -147,7 +147,7 @@ module _ {C R : Type 0} where
     pub knows : Knows e.state s.stored
     pub renewed : e.state.state.vote.utime ≡ s.renewed
     pub committed : e.state.state.committed ≡ committed_id s
-    pub wish : place_of e.state.state.purge_upto ≡ s.wish
+    pub wish : place_of e.state.wish ≡ s.wish
     pub role : PlaysRole own e.leader e.candidate s.stored s.role
     pub order : IsInOrder s
 

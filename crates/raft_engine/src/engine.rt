@@ -1,13 +1,30 @@
 //! The engine of a group at a node.
-ghost use Rattle.std.specs.Prelude.{◌≡◌, true, false, [], None};
+ghost use Rattle.std.specs.Prelude.{◌≡◌, true, false, [], None, IfErr, IfOk};
+ghost use Rattle.std.specs.Result.{is_ok};
 ghost use Rattle.std.specs.Borrow.{sem};
 ghost use Rattle.std.specs.Option.{option_copied, option_copied_mut};
+ghost use Rattle.raft_commands.specs.Config.{config_of};
+ghost use Rattle.raft_engine.specs.Settings.{has_rules_numbers};
 
+use crate::error::CallError;
 use raft_commands::{EngineConfig, EngineOutput, RaftTypeConfig};
 use raft_known_state::KnownState;
 use raft_leaders::{Candidate, Leader};
-use raft_state::EffectiveMembership;
+use raft_state::{EffectiveMembership, NodeId};
 use std::alloc::Global;
+
+// Whether the config asks for the numbers that the rules of a group have.
+fn has_rules_numbers<NID: NodeId>(config: &EngineConfig<NID>) -> bool
+    ensures { result ≡ has_rules_numbers config.now }
+{
+    let rules = EngineConfig::new(config.id);
+    config.max_in_snapshot_log_to_keep == rules.max_in_snapshot_log_to_keep
+        && config.purge_batch_size == rules.purge_batch_size
+        && config.max_payload_entries == rules.max_payload_entries
+        && config.timer_config.election_timeout == rules.timer_config.election_timeout
+        && config.timer_config.smaller_log_timeout == rules.timer_config.smaller_log_timeout
+        && config.timer_config.leader_lease == rules.timer_config.leader_lease
+}
 
 /// The engine of a group at a node (openraft): what is known of the group, what part the node
 /// plays, and what its runtime is to do.
@@ -30,22 +47,40 @@ pub struct Engine<C: RaftTypeConfig> {
 }
 
 impl<C: RaftTypeConfig> Engine<C> {
+    ghost use Rattle.raft_engine.specs.declared.error.CallError.TheVariants.{OtherConfig as AsksForOther};
+    ghost use Rattle.raft_engine.specs.Beginning.{BeginsWith};
     ghost use Rattle.raft_engine.specs.Lending.{LendsCandidate};
 
     /// The engine of a node that knows this of its group, and neither stands nor leads (openraft).
-    /// Takes no memory.
+    /// Takes no memory. The rules of a group have one number for each setting, so a config that asks
+    /// for another is refused.
     pub fn new(
         alloc: Global,
         init_state: KnownState<C::NodeId, C::Node>,
         config: EngineConfig<C::NodeId>,
+    ) -> Result<Engine<C>, CallError>
+        ensures which { is_ok result ≡ has_rules_numbers config }
+        ensures refused { IfErr result (λ e. e ≡ AsksForOther) }
+        ensures made { IfOk result (λ e. (e.config ≡ config_of config.id) × BeginsWith init_state e) }
+    {
+        if !has_rules_numbers(&config) {
+            return Err(CallError::OtherConfig);
+        }
+        Ok(Engine::of_node(alloc, init_state, config.id))
+    }
+
+    /// The engine at the node with this id, by the numbers that the rules have (own). Takes no
+    /// memory.
+    pub fn of_node(
+        alloc: Global,
+        init_state: KnownState<C::NodeId, C::Node>,
+        id: C::NodeId,
     ) -> Engine<C>
-        ensures config { result.config ≡ config }
-        ensures state { result.state ≡ init_state }
-        ensures follows { (result.leader ≡ None) × (result.candidate ≡ None) × (result.seen_greater_log ≡ false) }
-        ensures output { result.output ≡ record { queue = []; last_sm_seq = 0 } }
+        ensures config { result.config ≡ config_of id }
+        ensures begins { BeginsWith init_state result }
     {
         Engine {
-            config,
+            config: EngineConfig::new(id),
             state: init_state,
             seen_greater_log: false,
             leader: None,

@@ -1,5 +1,6 @@
 //! What the engine is asked for: each call does what the group step does at its event.
-ghost use Rattle.std.specs.Prelude.{◌≡◌, ◌<◌, ◌+◌, ◌^◌, ℕ, OnOk, IfOk, max, [], None, Some, Ok, Err, true, false};
+ghost use Rattle.std.specs.Prelude.{◌≡◌, ◌<◌, ◌+◌, ◌^◌, ℕ, OnOk, IfOk, max, [], None, Some, Ok, Err, true, false, is_some, nat_eq};
+ghost use Rattle.std.specs.Result.{is_ok};
 ghost use Rattle.raft_values.specs.LogId.{next_place};
 ghost use Rattle.raft_state.specs.LogIdList.{last_id};
 ghost use Rattle.raft_membership.specs.declared.error.InitializeError.TheVariants.{NotAllowed as IsNotAllowed, NotInMembers as IsNotInMembers};
@@ -16,15 +17,20 @@ ghost use Rattle.raft_group_step.specs.GroupStep.{finished};
 ghost use Rattle.raft_group_step.specs.Opening.{resume_lead};
 ghost use Rattle.raft_known_state.specs.KnownState.{meta_of};
 ghost use Rattle.raft_engine.specs.Events.{HasTaken, IsReady, MayTake, received};
-ghost use Rattle.raft_engine.specs.Following.{SpellsAppend, SpellsAppendReply, SpellsSnapshotReply};
+ghost use Rattle.raft_engine.specs.Following.{SpellsAppend, SpellsAppendReply, SpellsSnapshotReply, follow_one_another};
+ghost use Rattle.raft_engine.specs.Forwarding.{forward_of};
+ghost use Rattle.raft_engine.specs.declared.error.CallError.TheVariants.{GapInEntries as HasGap};
 ghost use Rattle.raft_engine.specs.Sending.{reply_of};
 ghost use Rattle.raft_engine.specs.Standing.{Given, IsStateOf, IsStepOf, IsWholeStepOf, given_at_start};
 
 use crate::engine::Engine;
+use crate::error::CallError;
+use crate::following_handler::follow_one_another;
 use raft_commands::{Caller, RaftTypeConfig};
 use raft_group_step::{AppendEntriesRequest, AppendEntriesResponse, VoteRequest, VoteResponse};
 use raft_state::{
-    BasicNode, Bytes, InitializeError, Membership, NotAllowed, NotInMembers, SnapshotMeta, Vote,
+    BasicNode, Bytes, ForwardToLeader, InitializeError, Membership, NotAllowed, NotInMembers,
+    SnapshotMeta, Vote,
 };
 use std::alloc::AllocError;
 
@@ -126,20 +132,27 @@ impl<C: RaftTypeConfig<NodeId = u64, Node = BasicNode, D = Bytes>> Engine<C> {
     }
 
     /// A leader sends entries, or says what is committed, at this moment, in ticks (openraft).
-    /// The answer to it is queued.
+    /// The answer to it is queued. Entries that don't follow one another and the log id before them
+    /// are refused, and the engine stays as it is (own; openraft asserts).
     pub fn handle_append_entries(
         &mut self,
         req: AppendEntriesRequest<u64, BasicNode, Bytes>,
         tx: Caller<u64>,
         now: u64,
-    ) -> Result<(), AllocError>
-        ensures { (x : Snapshot) (own at : ℕ) (s : GroupState) (m : AppendFields) → now ≡ max s.now at
+    ) -> Result<Result<(), CallError>, AllocError>
+        ensures which { IfOk result (λ answer. is_ok answer ≡ follow_one_another req.prev_log_id req.entries) }
+        ensures gap { follow_one_another req.prev_log_id req.entries ≡ false → (result ≡ Ok (Err HasGap)) × (self.new ≡ self.old) }
+        ensures taken { (x : Snapshot) (own at : ℕ) (s : GroupState) (m : AppendFields) → now ≡ max s.now at
             → SpellsAppend req m → SpellsAppendReply tx m → MayTake own self.old s (received own tx.peer (AppendRequest m) at)
-            → OnOk result (HasTaken x own self.old self.new s (received own tx.peer (AppendRequest m) at)) }
+            → IfOk result (λ answer. (answer ≡ Ok tt) × HasTaken x own self.old self.new s (received own tx.peer (AppendRequest m) at)) }
     {
+        if !follow_one_another(req.prev_log_id, req.entries.as_slice()) {
+            return Ok(Err(CallError::GapInEntries));
+        }
         let before = self.state.state.committed;
         self.append_request(req, tx, now)?;
-        self.finish(before)
+        self.finish(before)?;
+        Ok(Ok(()))
     }
 
     /// A leader sends its whole snapshot at this moment, in ticks (openraft). The answer to it is
@@ -162,51 +175,85 @@ impl<C: RaftTypeConfig<NodeId = u64, Node = BasicNode, D = Bytes>> Engine<C> {
     }
 
     /// A leader takes a command, of at most 65,536 bytes (own; openraft's leader handler). Whose
-    /// command it is the runtime keeps.
-    pub fn propose(&mut self, command: Bytes) -> Result<(), AllocError>
+    /// command it is the runtime keeps. A node that doesn't lead names who does, and stays as it is.
+    pub fn propose(
+        &mut self,
+        command: Bytes,
+    ) -> Result<Result<(), ForwardToLeader<u64, BasicNode>>, AllocError>
         requires { next_place (last_id self.old.state.state.log_ids) < 2 ^ 63 }
-        ensures { (x : Snapshot) (own at token : ℕ) (s : GroupState) → MayTake own self.old s (Call (Propose command token) at)
-            → OnOk result (HasTaken x own self.old self.new s (Call (Propose command token) at)) }
+        ensures which { IfOk result (λ answer. is_ok answer ≡ is_some self.old.leader) }
+        ensures elsewhere { self.old.leader ≡ None → (self.new ≡ self.old) × IfOk result (λ answer. answer ≡ Err (forward_of nat_eq self.old.state)) }
+        ensures taken { (x : Snapshot) (own at token : ℕ) (s : GroupState) → MayTake own self.old s (Call (Propose command token) at)
+            → IfOk result (λ answer. (answer ≡ Ok tt) × HasTaken x own self.old self.new s (Call (Propose command token) at)) }
     {
+        if let Some(forward) = self.led_elsewhere() {
+            return Ok(Err(forward?));
+        }
         let before = self.state.state.committed;
         self.propose_part(command)?;
-        self.finish(before)
+        self.finish(before)?;
+        Ok(Ok(()))
     }
 
     /// A leader takes the membership that a change of the one in force makes (own; openraft's
-    /// leader handler).
+    /// leader handler). A node that doesn't lead names who does, and stays as it is.
     pub fn change_membership(
         &mut self,
         changed: Membership<u64, BasicNode>,
-    ) -> Result<(), AllocError>
+    ) -> Result<Result<(), ForwardToLeader<u64, BasicNode>>, AllocError>
         requires { next_place (last_id self.old.state.state.log_ids) < 2 ^ 63 }
-        ensures { (x : Snapshot) (own at token : ℕ) (s : GroupState) (m : LoggedMembership) (change : ChangeMembers)
+        ensures which { IfOk result (λ answer. is_ok answer ≡ is_some self.old.leader) }
+        ensures elsewhere { self.old.leader ≡ None → (self.new ≡ self.old) × IfOk result (λ answer. answer ≡ Err (forward_of nat_eq self.old.state)) }
+        ensures taken { (x : Snapshot) (own at token : ℕ) (s : GroupState) (m : LoggedMembership) (change : ChangeMembers)
             → membership_in_force s.stored ≡ Some m → changed ≡ after_change m.membership change → MayTake own self.old s (Call (ChangeMembership change token) at)
-            → OnOk result (HasTaken x own self.old self.new s (Call (ChangeMembership change token) at)) }
+            → IfOk result (λ answer. (answer ≡ Ok tt) × HasTaken x own self.old self.new s (Call (ChangeMembership change token) at)) }
     {
+        if let Some(forward) = self.led_elsewhere() {
+            return Ok(Err(forward?));
+        }
         let before = self.state.state.committed;
         self.membership_part(changed)?;
-        self.finish(before)
+        self.finish(before)?;
+        Ok(Ok(()))
     }
 
-    /// A leader says to every other node that it leads on (own; openraft's leader handler).
-    pub fn send_heartbeat(&mut self) -> Result<(), AllocError>
-        ensures { (x : Snapshot) (own at : ℕ) (s : GroupState) → MayTake own self.old s (Call Heartbeat at)
-            → OnOk result (HasTaken x own self.old self.new s (Call Heartbeat at)) }
+    /// A leader says to every other node that it leads on (own; openraft's leader handler). A node
+    /// that doesn't lead names who does, and stays as it is.
+    pub fn send_heartbeat(
+        &mut self,
+    ) -> Result<Result<(), ForwardToLeader<u64, BasicNode>>, AllocError>
+        ensures which { IfOk result (λ answer. is_ok answer ≡ is_some self.old.leader) }
+        ensures elsewhere { self.old.leader ≡ None → (self.new ≡ self.old) × IfOk result (λ answer. answer ≡ Err (forward_of nat_eq self.old.state)) }
+        ensures taken { (x : Snapshot) (own at : ℕ) (s : GroupState) → MayTake own self.old s (Call Heartbeat at)
+            → IfOk result (λ answer. (answer ≡ Ok tt) × HasTaken x own self.old self.new s (Call Heartbeat at)) }
     {
+        if let Some(forward) = self.led_elsewhere() {
+            return Ok(Err(forward?));
+        }
         let before = self.state.state.committed;
         self.notices()?;
-        self.finish(before)
+        self.finish(before)?;
+        Ok(Ok(()))
     }
 
-    /// The request on its way to the peer counts as failed (own; openraft's replication handler).
-    pub fn handle_lost(&mut self, peer: u64) -> Result<(), AllocError>
-        ensures { (x : Snapshot) (own at : ℕ) (s : GroupState) → MayTake own self.old s (Call (Lost peer) at)
-            → OnOk result (HasTaken x own self.old self.new s (Call (Lost peer) at)) }
+    /// The request on its way to the peer counts as failed (own; openraft's replication handler). A
+    /// node that doesn't lead names who does, and stays as it is.
+    pub fn handle_lost(
+        &mut self,
+        peer: u64,
+    ) -> Result<Result<(), ForwardToLeader<u64, BasicNode>>, AllocError>
+        ensures which { IfOk result (λ answer. is_ok answer ≡ is_some self.old.leader) }
+        ensures elsewhere { self.old.leader ≡ None → (self.new ≡ self.old) × IfOk result (λ answer. answer ≡ Err (forward_of nat_eq self.old.state)) }
+        ensures taken { (x : Snapshot) (own at : ℕ) (s : GroupState) → MayTake own self.old s (Call (Lost peer) at)
+            → IfOk result (λ answer. (answer ≡ Ok tt) × HasTaken x own self.old self.new s (Call (Lost peer) at)) }
     {
+        if let Some(forward) = self.led_elsewhere() {
+            return Ok(Err(forward?));
+        }
         let before = self.state.state.committed;
         self.lost(peer);
-        self.finish(before)
+        self.finish(before)?;
+        Ok(Ok(()))
     }
 
     /// A peer answers a leader's append request or snapshot at this moment, in ticks (own;

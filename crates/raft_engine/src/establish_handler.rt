@@ -1,5 +1,5 @@
 //! Elections: a node stands, asks the others, and counts who grants.
-ghost use Rattle.std.specs.Prelude.{◌≡◌, ◌+◌, ◌<◌, ◌^◌, ◌↔◌, OnOk, IfOk, IsTrue, true, false, List, ℕ, ◌∷◌, []};
+ghost use Rattle.std.specs.Prelude.{◌≡◌, ◌+◌, ◌<◌, ◌^◌, ◌↔◌, OnOk, IfOk, Ok, Err, None, IsTrue, true, false, List, ℕ, ◌∷◌, []};
 ghost use Rattle.raft_values.specs.LogId.{next_place};
 ghost use Rattle.raft_state.specs.LogIdList.{last_id as last_known_id};
 ghost use Rattle.raft_group_step.specs.StoredGroup.{StoredGroup, end_place, last_id};
@@ -12,8 +12,10 @@ ghost use Rattle.raft_group_step.specs.Initialize.{initialize_step, is_new};
 ghost use Rattle.raft_group_step.specs.VoteReply.{vote_reply_step};
 ghost use Rattle.raft_engine.specs.Standing.{Given, IsStateOf, IsStepOf, Stands};
 ghost use Rattle.raft_engine.specs.Events.{tells_greater_log};
+ghost use Rattle.raft_engine.specs.declared.error.CallError.TheVariants.{NotStanding as StandsNot};
 
 use crate::engine::Engine;
+use crate::error::CallError;
 use crate::orders::is_behind;
 use raft_commands::{Command, RaftTypeConfig};
 use raft_group_step::{Entries, VoteRequest, VoteResponse};
@@ -31,14 +33,20 @@ pub struct EstablishHandler<'x, C: RaftTypeConfig> {
 
 impl<'x, C: RaftTypeConfig<NodeId = u64, Node = BasicNode, D = Bytes>> EstablishHandler<'x, C> {
     /// A quorum has granted the candidate's vote at this moment, in ticks (openraft): the node leads,
-    /// and writes a blank entry unless it has written an entry under the vote.
-    pub fn establish(&mut self, now: u64) -> Result<(), AllocError>
+    /// and writes a blank entry unless it has written an entry under the vote. A node that doesn't
+    /// stand for election is refused.
+    pub fn establish(&mut self, now: u64) -> Result<Result<(), CallError>, AllocError>
         requires { next_place (last_known_id self.old.engine.now.state.state.log_ids) < 2 ^ 63 }
         ensures same_engine { self.new.engine.ghost_name ≡ self.old.engine.ghost_name }
+        ensures idle { self.old.engine.now.candidate ≡ None → (result ≡ Ok (Err StandsNot)) × (self.new.engine.now ≡ self.old.engine.now) }
         ensures step { (x : Given) (own : _) (r : StepResult) (granters : List ℕ) → IsStepOf x own self.old.engine.now r → r.state.role ≡ Standing granters → r.state.now ≡ now
-            → OnOk result (IsStepOf x own self.new.engine.now (begin_lead r)) }
+            → IfOk result (λ answer. (answer ≡ Ok tt) × IsStepOf x own self.new.engine.now (begin_lead r)) }
     {
-        self.engine.begin_lead(now)
+        if self.engine.candidate.is_none() {
+            return Ok(Err(CallError::NotStanding));
+        }
+        self.engine.begin_lead(now)?;
+        Ok(Ok(()))
     }
 }
 
@@ -95,7 +103,7 @@ impl<C: RaftTypeConfig<NodeId = u64, Node = BasicNode, D = Bytes>> Engine<C> {
         candidate.grant_by(&n)?;
         let is_quorum = candidate.is_granted_by(self.state.effective_membership());
         if is_quorum && self.has_room() {
-            return self.establish_handler().establish(now);
+            return self.begin_lead(now);
         }
         Ok(())
     }

@@ -1,5 +1,5 @@
 //! Following: entries and places that a leader sends.
-ghost use Rattle.std.specs.Prelude.{◌≡◌, ◌≢◌, ◌≤◌, ◌<◌, ◌^◌, ℕ, OnOk, true, false, length, drop, Some, None};
+ghost use Rattle.std.specs.Prelude.{◌≡◌, ◌≢◌, ◌≤◌, ◌<◌, ◌^◌, ◌==◌, ℕ, OnOk, IfOk, Ok, Err, true, false, length, drop, nat_le, Some, None};
 ghost use Rattle.raft_values.specs.LogId.{next_place, place_of};
 ghost use Rattle.raft_group_step.specs.StoredGroup.{StoredGroup, end_place};
 ghost use Rattle.raft_group_step.specs.GroupState.{Follower};
@@ -11,11 +11,14 @@ ghost use Rattle.raft_group_step.specs.SnapshotRequest.{install_unless};
 ghost use Rattle.raft_known_state.specs.KnownState.{ArePlaced, IsPlaced, Knows, meta_of};
 ghost use Rattle.raft_engine.specs.Commands.{result_of};
 ghost use Rattle.raft_engine.specs.Numbering.{KeepsNumbers, NumbersRise};
-ghost use Rattle.raft_engine.specs.Standing.{Given, IsStepOf, basis_of};
+ghost use Rattle.raft_engine.specs.Standing.{Given, IsStateOf, IsStepOf, basis_of};
 ghost use Rattle.raft_engine.specs.Ordering.{OutcomeRestsOn};
-ghost use Rattle.raft_engine.specs.Following.{EndsWithin, IsVoteOfAnother, SpellsAppend, SpellsAppendReply, unheld_entries};
+ghost use Rattle.raft_engine.specs.Following.{EndsWithin, IsVoteOfAnother, SpellsAppend, SpellsAppendReply, follow_one_another, is_behind_log, join_log, unheld_entries};
+ghost use Rattle.raft_engine.specs.declared.error.CallError.TheVariants.{GapInEntries as HasGap, LacksEntry as HasNone, CutsCommitted as WouldCut};
+ghost use Rattle.raft_group_step.specs.GroupState.{GroupState};
 
 use crate::engine::Engine;
+use crate::error::CallError;
 use crate::orders::is_lower;
 use raft_commands::{Caller, Command, RaftTypeConfig, Respond, ValueSender};
 use raft_group_step::{AppendEntriesRequest, AppendEntriesResponse, Entries};
@@ -59,6 +62,66 @@ fn count_held(known: &KnownState<u64, BasicNode>, entries: &[Entry<u64, BasicNod
     entries.len()
 }
 
+// Whether the place is the one behind the log id, or the first one behind none.
+fn is_next(previous: &Option<LogId<u64>>, place: u64) -> bool
+    ensures { result ≡ (place == next_place previous.now) }
+{
+    match previous {
+        None => place == 0,
+        Some(previous) => previous.index < place && place - previous.index == 1,
+    }
+}
+
+// Whether the place is at most the one behind the log id, or the first one behind none.
+fn is_at_most_next(last: &Option<LogId<u64>>, place: u64) -> bool
+    ensures { result ≡ nat_le place (next_place last.now) }
+{
+    match last {
+        None => place == 0,
+        Some(last) => place.saturating_sub(1) <= last.index,
+    }
+}
+
+// Whether the entries follow the log id and one another, place by place.
+pub(crate) fn follow_one_another(
+    previous: Option<LogId<u64>>,
+    entries: &[Entry<u64, BasicNode, Bytes>],
+) -> bool
+    ensures { result ≡ follow_one_another previous entries.now }
+{
+    let mut previous = previous;
+    for entry in entries {
+        if !is_next(&previous, entry.log_id.index) {
+            return false;
+        }
+        previous = Some(entry.log_id);
+    }
+    true
+}
+
+// Whether the entries follow one another, and the first stands at most right behind the log id.
+fn join_log(last: &Option<LogId<u64>>, entries: &[Entry<u64, BasicNode, Bytes>]) -> bool
+    ensures { result ≡ join_log (next_place last.now) entries.now }
+{
+    match entries {
+        [] => true,
+        [first, rest @ ..] => {
+            is_at_most_next(last, first.log_id.index)
+                && follow_one_another(Some(first.log_id), rest)
+        }
+    }
+}
+
+// Whether the place is behind the log id's, or there is none.
+fn is_past(last: &Option<LogId<u64>>, place: u64) -> bool
+    ensures { result ≡ nat_le (next_place last.now) place }
+{
+    match last {
+        None => true,
+        Some(last) => last.index < place,
+    }
+}
+
 // The lesser of the two places, none where there is none.
 fn lesser_place(a: Option<LogId<u64>>, b: Option<LogId<u64>>) -> Option<u64>
     ensures { result ≡ lesser_place (place_of a) (place_of b) }
@@ -77,37 +140,61 @@ pub struct FollowingHandler<'x, C: RaftTypeConfig> {
 
 impl<'x, C: RaftTypeConfig<NodeId = u64, Node = BasicNode, D = Bytes>> FollowingHandler<'x, C> {
     /// The entries that the log doesn't have are appended (openraft), after the log was shortened
-    /// where another entry stands; the one before them is committed or in the log.
+    /// where another entry stands; the one before them is committed or in the log. Entries that don't
+    /// follow one another, or begin behind the log's end, are refused.
     pub fn append_entries(
         &mut self,
         entries: Entries<u64, BasicNode, Bytes>,
-    ) -> Result<(), AllocError>
+    ) -> Result<Result<(), CallError>, AllocError>
         ensures same_engine { self.new.engine.ghost_name ≡ self.old.engine.ghost_name }
+        ensures gap { (own : ℕ) (s : GroupState) → IsStateOf own self.old.engine.now s → join_log (end_place s.stored) entries ≡ false
+            → (result ≡ Ok (Err HasGap)) × (self.new.engine.now ≡ self.old.engine.now) }
         ensures step { (x : Given) (own : _) (r : StepResult) (vote : _) (previous : _) → IsStepOf x own self.old.engine.now r → r.state.role ≡ Follower
             → do_follow vote previous entries ≡ true → is_held r.state.stored r.state.committed previous ≡ true
-            → OnOk result (IsStepOf x own self.new.engine.now (put_entries (missing_entries r.state.stored (above_committed r.state.committed entries)) r)) }
+            → IfOk result (λ answer. (answer ≡ Ok tt)
+            × IsStepOf x own self.new.engine.now (put_entries (missing_entries r.state.stored (above_committed r.state.committed entries)) r)) }
     {
-        self.engine.put_missing(entries)
+        if !self.engine.is_joined_by(entries.as_slice()) {
+            return Ok(Err(CallError::GapInEntries));
+        }
+        self.engine.put_missing(entries)?;
+        Ok(Ok(()))
     }
 
-    /// All up to the place is committed (openraft), if it is above what is.
-    pub fn commit_entries(&mut self, leader_committed: Option<u64>) -> Result<(), AllocError>
+    /// All up to the place is committed (openraft), if it is above what is. A place behind the log's
+    /// end is refused.
+    pub fn commit_entries(
+        &mut self,
+        leader_committed: Option<u64>,
+    ) -> Result<Result<(), CallError>, AllocError>
         ensures same_engine { self.new.engine.ghost_name ≡ self.old.engine.ghost_name }
+        ensures lacks { (own place : ℕ) (s : GroupState) → IsStateOf own self.old.engine.now s → leader_committed ≡ Some place → end_place s.stored ≤ place
+            → (result ≡ Ok (Err HasNone)) × (self.new.engine.now ≡ self.old.engine.now) }
         ensures numbers { OnOk result (NumbersRise self.old.engine.now.output self.new.engine.now.output) }
         ensures step { (x : Given) (own : _) (r : StepResult) → IsStepOf x own self.old.engine.now r → EndsWithin leader_committed r.state.stored
-            → OnOk result (IsStepOf x own self.new.engine.now (apply_up_to leader_committed r)) }
+            → IfOk result (λ answer. (answer ≡ Ok tt) × IsStepOf x own self.new.engine.now (apply_up_to leader_committed r)) }
     {
-        self.engine.commit_up_to(leader_committed)
+        if self.engine.ends_before(leader_committed) {
+            return Ok(Err(CallError::LacksEntry));
+        }
+        self.engine.commit_up_to(leader_committed)?;
+        Ok(Ok(()))
     }
 
-    /// The log is shortened from the place on (openraft), where it has an entry there that isn't
-    /// committed.
-    pub fn truncate_logs(&mut self, since: u64) -> Result<(), AllocError>
+    /// The log is shortened from the place on (openraft), where it has an entry there. A place that
+    /// is committed is refused.
+    pub fn truncate_logs(&mut self, since: u64) -> Result<Result<(), CallError>, AllocError>
         ensures same_engine { self.new.engine.ghost_name ≡ self.old.engine.ghost_name }
+        ensures committed { is_within since (place_of self.old.engine.now.state.state.committed) ≡ true
+            → (result ≡ Ok (Err WouldCut)) × (self.new.engine.now ≡ self.old.engine.now) }
         ensures step { (x : Given) (own : _) (r : StepResult) → IsStepOf x own self.old.engine.now r → r.state.role ≡ Follower
-            → is_within since r.state.committed ≡ false → OnOk result (IsStepOf x own self.new.engine.now (cut_from since r)) }
+            → is_within since r.state.committed ≡ false → IfOk result (λ answer. (answer ≡ Ok tt) × IsStepOf x own self.new.engine.now (cut_from since r)) }
     {
-        self.engine.cut_from(since)
+        if is_committed(&self.engine.state, since) {
+            return Ok(Err(CallError::CutsCommitted));
+        }
+        self.engine.cut_from(since)?;
+        Ok(Ok(()))
     }
 
     /// The snapshot is installed (openraft), unless all of it is committed; the log that it covers
@@ -127,6 +214,23 @@ impl<'x, C: RaftTypeConfig<NodeId = u64, Node = BasicNode, D = Bytes>> Following
 }
 
 impl<C: RaftTypeConfig<NodeId = u64, Node = BasicNode, D = Bytes>> Engine<C> {
+    // Whether the entries follow one another, and begin in the log or right behind it.
+    fn is_joined_by(&self, entries: &[Entry<u64, BasicNode, Bytes>]) -> bool
+        ensures { (s : StoredGroup) → Knows self.now.state s → IsPlaced s → result ≡ join_log (end_place s) entries.now }
+    {
+        join_log(&self.state.last_log_id(), entries)
+    }
+
+    // Whether the log ends before the place, if there is one.
+    fn ends_before(&self, place: Option<u64>) -> bool
+        ensures { (s : StoredGroup) → Knows self.now.state s → IsPlaced s → result ≡ is_behind_log (end_place s) place }
+    {
+        match place {
+            None => false,
+            Some(place) => is_past(&self.state.last_log_id(), place),
+        }
+    }
+
     // All up to the place is committed, if it is above what is.
     pub(crate) fn commit_up_to(&mut self, place: Option<u64>) -> Result<(), AllocError>
         ensures numbers { OnOk result (NumbersRise self.old.output self.new.output) }
@@ -143,7 +247,7 @@ impl<C: RaftTypeConfig<NodeId = u64, Node = BasicNode, D = Bytes>> Engine<C> {
             return Ok(());
         };
         let already_committed = self.state.state.committed;
-        self.state.state.committed = Some(upto);
+        self.state.commit(Some(upto))?;
         let seq = self.output.next_sm_seq();
         self.output.push_command(Command::Commit {
             seq,

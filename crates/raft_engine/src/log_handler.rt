@@ -101,10 +101,11 @@ impl<C: RaftTypeConfig<NodeId = u64, Node = BasicNode, D = Bytes>> Engine<C> {
         if place < self.state.first_place() {
             return;
         }
-        if reaches(&self.state.state.purge_upto, place) {
+        if reaches(&self.state.wish, place) {
             return;
         }
-        self.state.state.purge_upto = self.state.get_log_id(place);
+        let wish = self.state.get_log_id(place);
+        self.state.set_wish(wish);
     }
 
     // The log is to be purged up to the place, as far as the snapshot goes: a leader does so once
@@ -130,7 +131,7 @@ impl<C: RaftTypeConfig<NodeId = u64, Node = BasicNode, D = Bytes>> Engine<C> {
             → ((place : ℕ) → r.state.wish ≡ Some place → place < next_place (snapshot_last r.state.stored))
             → OnOk result (IsStepOf x own self.new (purge_as_wished r.state.role r.state.wish r)) }
     {
-        let Some(wish) = self.state.state.purge_upto else {
+        let Some(wish) = self.state.wish else {
             return Ok(());
         };
         if self.leader.is_none() {
@@ -139,7 +140,7 @@ impl<C: RaftTypeConfig<NodeId = u64, Node = BasicNode, D = Bytes>> Engine<C> {
         if self.is_kept(wish.index) {
             return Ok(());
         }
-        self.state.state.purge_upto = None;
+        self.state.set_wish(None);
         self.purge_up_to(wish.index)
     }
 }

@@ -6,7 +6,7 @@ ghost use Rattle.raft_group_step.specs.Refusal.{refusal_of};
 ghost use Rattle.raft_engine.specs.Events.{MayTake};
 
 use crate::engine::Engine;
-use raft_commands::{EngineConfig, RaftTypeConfig};
+use raft_commands::RaftTypeConfig;
 use raft_known_state::KnownState;
 use raft_state::{BasicNode, Bytes, SnapshotMeta, Vote};
 use std::alloc::{AllocError, Global};
@@ -20,6 +20,6 @@ impl<C: RaftTypeConfig<NodeId = u64, Node = BasicNode, D = Bytes>> Engine<C> {
     {
         let meta = SnapshotMeta::default(alloc);
         let known = KnownState::load(alloc, Vote::new(0, 0), None, meta, &[])?;
-        Ok(Engine::new(alloc, known, EngineConfig::new(id)))
+        Ok(Engine::of_node(alloc, known, id))
     }
 }

@@ -113,7 +113,7 @@ impl<C: RaftTypeConfig<NodeId = u64, Node = BasicNode, D = Bytes>> Engine<C> {
         let command = sm::Command::install_full_snapshot(copy).with_seq(seq);
         self.output.push_command(Command::StateMachine { command })?;
         self.state.purge(&last)?;
-        self.state.state.committed = Some(last);
+        self.state.commit(Some(last))?;
         self.output.push_command(Command::PurgeLog { upto: last })
     }
 

@@ -62,12 +62,12 @@ impl<C: RaftTypeConfig<NodeId = u64, Node = BasicNode, D = Bytes>> Engine<C> {
     pub(crate) fn step_down(&mut self) -> Result<(), AllocError>
         ensures { (x : Given) (own : _) (r : StepResult) → IsStepOf x own self.old r → OnOk result (IsStepOf x own self.new (step_down r)) }
     {
+        self.state.set_wish(None);
         if self.leader.is_some() {
             self.output.push_command(Command::QuitLeader)?;
         }
         self.leader = None;
         self.candidate = None;
-        self.state.state.purge_upto = None;
         Ok(())
     }
 

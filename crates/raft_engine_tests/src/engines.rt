@@ -4,7 +4,7 @@ ghost use Rattle.raft_values.specs.LogId.{log_id_of};
 
 use crate::events::snapshot_meta;
 use raft_commands::{EngineConfig, RaftTypeConfig};
-use raft_engine::{Caller, Engine, KnownState, RequestId};
+use raft_engine::{CallError, Caller, Engine, KnownState, RequestId};
 use raft_rows::number;
 use raft_state::{
     BasicNode, Bytes, Entry, EntryPayload, IdSet, LeaderId, LogId, Membership, NodeMap,
@@ -90,7 +90,7 @@ fn had_stopped(alloc: Global) -> Result<KnownState<u64, BasicNode>, AllocError> 
     };
     let meta = snapshot_meta(log_id(1, 1), members(alloc, &[1], &[1, 2])?);
     let mut known = KnownState::load(alloc, Vote::new(1, 1), None, meta, &[first, second])?;
-    known.state.committed = Some(log_id(1, 1));
+    known.commit(Some(log_id(1, 1)))?;
     Ok(known)
 }
 
@@ -99,10 +99,22 @@ fn had_stopped(alloc: Global) -> Result<KnownState<u64, BasicNode>, AllocError> 
 pub fn begin(alloc: Global, how: &str, id: u64) -> Result<NumberedEngine, AllocError> {
     match how {
         "new-group" => Engine::for_new_group(alloc, id),
-        "had-stopped" => { Ok(Engine::new(alloc, had_stopped(alloc)?, EngineConfig::new(id))) }
-        "had-led" => Ok(Engine::new(alloc, had_led(alloc)?, EngineConfig::new(id))),
-        _ => Ok(Engine::new(alloc, nothing_known(alloc)?, EngineConfig::new(id))),
+        "had-stopped" => Ok(Engine::of_node(alloc, had_stopped(alloc)?, id)),
+        "had-led" => Ok(Engine::of_node(alloc, had_led(alloc)?, id)),
+        _ => Ok(Engine::of_node(alloc, nothing_known(alloc)?, id)),
     }
+}
+
+/// What comes of a config with so many entries a request.
+pub fn told_of_config(alloc: Global, entries: u64) -> Option<Result<(), CallError>> {
+    let mut config = EngineConfig::new(1);
+    config.max_payload_entries = entries;
+    let made: Result<NumberedEngine, CallError> = Engine::new(
+        alloc,
+        nothing_known(alloc).ok()?,
+        config,
+    );
+    Some(made.map(|_engine| ()))
 }
 
 /// Node 2 has accepted the entries up to place 1 of a leader's first request.

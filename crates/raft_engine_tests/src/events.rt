@@ -1,14 +1,15 @@
 //! Events of an engine.
 ghost use Rattle.std.specs.Prelude.{◌≡◌, Some};
 
-use crate::engines::{NumberedEngine, accepted, log_id, members, numbers};
+use crate::engines::{NumberedEngine, accepted, log_id, members, numbers, told_of_config};
 use raft_engine::{
-    AppendEntriesRequest, AppendEntriesResponse, Caller, Entries, VoteRequest, VoteResponse,
+    AppendEntriesRequest, AppendEntriesResponse, CallError, Caller, Entries, VoteRequest,
+    VoteResponse,
 };
 use raft_rows::{Answer, number};
 use raft_state::{
-    BasicNode, Bytes, Entry, EntryPayload, LeaderId, LogId, Membership, SnapshotMeta,
-    StoredMembership, Vote,
+    BasicNode, Bytes, Entry, EntryPayload, ForwardToLeader, LeaderId, LogId, Membership,
+    SnapshotMeta, StoredMembership, Vote,
 };
 use std::alloc::{AllocError, Global};
 
@@ -27,11 +28,11 @@ fn stands(engine: &mut NumberedEngine) -> bool {
 }
 
 fn beats(engine: &mut NumberedEngine) -> bool {
-    engine.send_heartbeat().is_ok()
+    matches!(engine.send_heartbeat(), Ok(Ok(())))
 }
 
 fn is_lost(engine: &mut NumberedEngine) -> bool {
-    engine.handle_lost(3).is_ok()
+    matches!(engine.handle_lost(3), Ok(Ok(())))
 }
 
 fn is_purge_asked(engine: &mut NumberedEngine) -> bool {
@@ -115,11 +116,11 @@ fn is_set_up(engine: &mut NumberedEngine, first: Members) -> bool {
 }
 
 fn changes(engine: &mut NumberedEngine, members: Members) -> bool {
-    engine.has_room() && engine.change_membership(members).is_ok()
+    engine.has_room() && matches!(engine.change_membership(members), Ok(Ok(())))
 }
 
 fn proposes(engine: &mut NumberedEngine, command: Bytes) -> bool {
-    engine.has_room() && engine.propose(command).is_ok()
+    engine.has_room() && matches!(engine.propose(command), Ok(Ok(())))
 }
 
 // The first membership of a group, as a leader sends it.
@@ -137,7 +138,62 @@ fn first_request(alloc: Global, members: Members) -> Result<Request, AllocError>
 }
 
 fn follows(engine: &mut NumberedEngine, req: Request) -> bool {
-    engine.handle_append_entries(req, accepted(), 6).is_ok()
+    matches!(engine.handle_append_entries(req, accepted(), 6), Ok(Ok(())))
+}
+
+// ---- refusals
+
+type Forwarded = Option<Result<(), ForwardToLeader<u64, BasicNode>>>;
+
+fn told_of_command(engine: &mut NumberedEngine, command: Bytes) -> Forwarded {
+    if !engine.has_room() {
+        return None;
+    }
+    engine.propose(command).ok()
+}
+
+fn told_of_members(engine: &mut NumberedEngine, members: Members) -> Forwarded {
+    if !engine.has_room() {
+        return None;
+    }
+    engine.change_membership(members).ok()
+}
+
+fn told_of_beat(engine: &mut NumberedEngine) -> Forwarded {
+    engine.send_heartbeat().ok()
+}
+
+fn told_of_loss(engine: &mut NumberedEngine) -> Forwarded {
+    engine.handle_lost(3).ok()
+}
+
+// A leader's entries, of which the one at place 1 is missing.
+fn told_of_gap(engine: &mut NumberedEngine, mut req: Request) -> Option<Result<(), CallError>> {
+    let entry = Entry {
+        log_id: log_id(1, 2),
+        payload: EntryPayload::Blank,
+    };
+    req.entries.push(entry).ok()?;
+    engine.handle_append_entries(req, accepted(), 6).ok()
+}
+
+/// The answer to a row about a call that may be refused.
+pub fn refused(engine: &mut NumberedEngine, alloc: Global, words: &[&str]) -> Option<Answer> {
+    Some(match words {
+        ["propose"] => Answer::shown(alloc, &told_of_command(engine, Bytes::new(alloc))),
+        ["change"] => {
+            let learners = members(alloc, &[1], &[1, 2]).ok()?;
+            Answer::shown(alloc, &told_of_members(engine, learners))
+        }
+        ["beat"] => Answer::shown(alloc, &told_of_beat(engine)),
+        ["lose-3"] => Answer::shown(alloc, &told_of_loss(engine)),
+        ["config", entries] => Answer::shown(alloc, &told_of_config(alloc, number(entries))),
+        ["follow-with-gap"] => {
+            let req = first_request(alloc, members(alloc, &[1, 3], &[1, 3]).ok()?).ok()?;
+            Answer::shown(alloc, &told_of_gap(engine, req))
+        }
+        _ => return None,
+    })
 }
 
 // Whether there was memory for an event with these members.

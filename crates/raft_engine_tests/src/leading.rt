@@ -1,8 +1,8 @@
 //! Handlers of leaders.
 
 use crate::engines::{Numbered, NumberedEngine, accepted};
-use raft_engine::{AppendEntriesResponse, LeaderHandler, Rejected};
-use raft_rows::Answer;
+use raft_engine::{AppendEntriesResponse, CallError, LeaderHandler, Rejected};
+use raft_rows::{Answer, number};
 use raft_state::{BasicNode, EntryPayload, ForwardToLeader};
 use std::alloc::Global;
 
@@ -38,9 +38,17 @@ fn writes_entry(engine: &mut NumberedEngine) -> bool {
         .is_ok()
 }
 
+// What comes of a quorum's grants.
+fn told_of_quorum(engine: &mut NumberedEngine) -> Option<Result<(), CallError>> {
+    if !engine.has_room() {
+        return None;
+    }
+    engine.establish_handler().establish(6).ok()
+}
+
 // A quorum has granted the vote.
 fn is_established(engine: &mut NumberedEngine) -> bool {
-    engine.has_room() && engine.establish_handler().establish(6).is_ok()
+    told_of_quorum(engine) == Some(Ok(()))
 }
 
 fn is_accepted(engine: &mut NumberedEngine) -> bool {
@@ -81,6 +89,26 @@ fn tries_to_purge(engine: &mut NumberedEngine) -> bool {
     engine.leader.is_some() && engine.replication_handler().try_purge_log().is_ok()
 }
 
+// Whether the leader has a clock for node 2, which has followed it at this moment.
+fn hears(engine: &mut NumberedEngine, moment: u64) -> Option<bool> {
+    if engine.leader.is_none() {
+        return None;
+    }
+    Some(engine.replication_handler().update_leader_clock(2, moment))
+}
+
+/// The answer to a row about a leader's clock.
+pub fn timed(engine: &mut NumberedEngine, alloc: Global, words: &[&str]) -> Option<Answer> {
+    Some(match *words {
+        ["hear-of-2-at", moment] => Answer::shown(alloc, &hears(engine, number(moment))),
+        ["quorum-heard-at", now] => {
+            let moment = engine.last_quorum_acked_time(number(now));
+            Answer::shown(alloc, &moment)
+        }
+        _ => return None,
+    })
+}
+
 /// The answer to a row about the handlers of leaders.
 pub fn led(engine: &mut NumberedEngine, alloc: Global, words: &[&str]) -> Option<Answer> {
     let [name] = *words else { return None };
@@ -88,6 +116,7 @@ pub fn led(engine: &mut NumberedEngine, alloc: Global, words: &[&str]) -> Option
         "lead-or-forward" => return Some(Answer::shown(alloc, &leads_or_forwards(engine))),
         "write" => writes_entry(engine),
         "establish" => is_established(engine),
+        "told-of-quorum" => return Some(Answer::shown(alloc, &told_of_quorum(engine))),
         "be-accepted-by-2" => is_accepted(engine),
         "commit" => commits(engine),
         "lose-3" => is_lost(engine),

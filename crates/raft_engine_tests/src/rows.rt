@@ -1,12 +1,12 @@
 //! Which call the words of a row name.
 
 use crate::engines::{NumberedEngine, begin};
-use crate::events::{happened, snapped};
+use crate::events::{happened, refused, snapped};
 use crate::executing::executed;
 use crate::following::followed;
 use crate::groups::{changed, read};
 use crate::handlers::{played, shortened, voted};
-use crate::leading::led;
+use crate::leading::{led, timed};
 use crate::seen::seen;
 use raft_rows::{Answer, Rows, number};
 use raft_stored_group::StoredGroup;
@@ -43,11 +43,13 @@ impl Rows for Calls {
         match *topic {
             "engine" => self.begin(alloc, words),
             "event" => happened(&mut self.engine, alloc, words),
+            "refused" => refused(&mut self.engine, alloc, words),
             "snapshot" => snapped(&mut self.engine, alloc, words),
             "votes" => voted(&mut self.engine, alloc, words),
             "log" => shortened(&mut self.engine, alloc, words),
             "part" => played(&mut self.engine, alloc, words),
             "leader" => led(&mut self.engine, alloc, words),
+            "clock" => timed(&mut self.engine, alloc, words),
             "follower" => followed(&mut self.engine, alloc, words),
             "store" => changed(&mut self.group, alloc, words),
             "stored" => read(&self.group, alloc, words),

@@ -3,7 +3,7 @@
 use crate::engines::NumberedEngine;
 use raft_commands::Command;
 use raft_rows::Answer;
-use raft_state::{LogId, LogIdOptionExt, Vote};
+use raft_state::{Invalid, LogId, LogIdOptionExt, Vote};
 use std::alloc::Global;
 
 fn is_candidate(engine: &NumberedEngine) -> bool {
@@ -22,6 +22,22 @@ fn vote(engine: &NumberedEngine) -> Vote<u64> {
 // The place up to which all is committed.
 fn committed_place(engine: &NumberedEngine) -> Option<u64> {
     engine.state.state.committed.index()
+}
+
+// The place of the last committed membership.
+fn committed_members(engine: &NumberedEngine) -> Option<u64> {
+    engine.state.committed_membership().log_id().index()
+}
+
+// Whether a change may begin: no membership waits for a quorum.
+fn may_change(engine: &NumberedEngine) -> bool {
+    let memberships = &engine.state.state.membership_state;
+    memberships.ensure_committed().is_ok()
+}
+
+// What is wrong with what the engine knows of its group.
+fn fault(engine: &NumberedEngine) -> Option<Invalid> {
+    engine.validate().err()
 }
 
 fn last(engine: &NumberedEngine) -> Option<LogId<u64>> {
@@ -65,6 +81,7 @@ fn is_so(engine: &mut NumberedEngine, question: &str) -> Option<bool> {
         "lends-candidate" => lends_candidate(engine),
         "has-no-work" => engine.output.is_empty(),
         "take-work" => take_work(engine),
+        "may-change" => may_change(engine),
         "knows-greater-log" => engine.is_there_greater_log(),
         _ => return None,
     })
@@ -77,6 +94,9 @@ pub fn seen(engine: &mut NumberedEngine, alloc: Global, question: &str) -> Optio
         "vote" => Answer::shown(alloc, &vote(engine)),
         "committed-place" => Answer::shown(alloc, &committed_place(engine)),
         "committed" => Answer::shown(alloc, &engine.state.state.committed),
+        "committed-members" => Answer::shown(alloc, &committed_members(engine)),
+        "purge-goal" => Answer::shown(alloc, &engine.state.state.purge_upto.index()),
+        "fault" => Answer::shown(alloc, &fault(engine)),
         "first-place" => Answer::shown(alloc, &engine.state.first_place()),
         "last" => Answer::shown(alloc, &last(engine)),
         "requests" => Answer::shown(alloc, &count_requests(engine)),

@@ -1,7 +1,7 @@
 -- What is known of a stored group follows its storing commands.
-use Rattle.std.specs.Prelude.{◌≡◌, ℕ, zero, suc, ◌+◌, ◌-◌, ◌<◌, ◌≤◌, ◌==◌, nat_lt, if◌then◌else◌, true, false, List, [], ◌∷◌, ◌++◌, length, take, drop, Option, Some, None, option_and_then, refl}
+use Rattle.std.specs.Prelude.{OnOk, Result, Ok, Err, ◌≡◌, ℕ, zero, suc, ◌+◌, ◌-◌, ◌<◌, ◌≤◌, ◌==◌, nat_lt, if◌then◌else◌, true, false, List, [], ◌∷◌, ◌++◌, length, take, drop, Option, Some, None, option_and_then, refl}
 use Rattle.std.specs.List.{slice_get, take-map}
-use Rattle.std.specs.Option.{option_eq, is_some}
+use Rattle.std.specs.Option.{option_eq, option_or, is_some}
 use Rattle.std.proofs.Common.{sym, ap, ◌∙◌, subst, arith, append_assoc, append-nil, length-append, get_or}
 use Rattle.std.proofs.lemmas.Bool.Decides.{nat_tests}
 use Rattle.std.proofs.lemmas.Option.{slice_get-map, slice_get_read}
@@ -13,12 +13,14 @@ use Rattle.raft_values.specs.LogId.{next_place, place_of}
 use Rattle.raft_values.specs.LogIndex.{next_of}
 use Rattle.raft_state.specs.declared.raft_state.RaftState.{RaftState}
 use Rattle.raft_state.specs.LogIdList.{last_id, id_at, extended, truncated, purged, or_alone}
+use Rattle.raft_state.specs.State.{last_purged}
 use Rattle.raft_state.specs.declared.entry.EntryPayload.TheVariants.{Blank, Normal, Membership as Members}
 use Rattle.raft_state.specs.Payload.{membership_of}
 use Rattle.raft_group_step.specs.Values.{Entry, EntryPayload, Membership, LoggedMembership, log_id_eq, last_membership, membership_after}
 use Rattle.raft_group_step.specs.StoredGroup.{StoredGroup, Snapshot, first_place, end_place, entry_at, id_of, is_id, has_id_in_log, log_below, membership_in_force}
 use Rattle.raft_group_step.specs.StoredGroup.{id_at as id_at_place, last_id as last_stored_id}
-use Rattle.raft_known_state.specs.KnownState.{KnownState, EffectiveMembership, SnapshotMeta, Knows, ArePlaced, IsPlaced, purged_ids, entry_ids, stored_ids, memberships_in, with_membership_of, effective_of, last_membership_of, meta_of, take_below, drop_below, last_else, force_of, force_of_snapshot, with_force, IsEntryOrPast}
+use Rattle.raft_known_state.specs.KnownState.{KnownState, EffectiveMembership, SnapshotMeta, Knows, ArePlaced, IsPlaced, purged_ids, entry_ids, stored_ids, memberships_in, with_membership_of, effective_of, last_membership_of, meta_of, take_below, drop_below, last_else, force_of, force_of_snapshot, IsEntryOrPast}
+use Rattle.raft_known_state.specs.KnownState.{AreNoted, MembershipState, committed_membership, committed_of, with_committed, with_goal, with_members}
 use Rattle.raft_known_state.proofs.PlacedIds.{by_order, Placed, EndsBefore, extended-placed, truncated-placed, from_place-placed, below_first, id_at-placed, ends-placed}
 
 -- a state as contracts see it
@@ -352,18 +354,62 @@ pub none_found : (s : StoredGroup) (id : LogId ℕ) → id.index < first_place s
 none_found s id l =
     let below : nat_lt id.index (first_place s) ≡ true = grind (arith, nat_tests, l) in rw below refl
 
--- what is known anew, once a membership is in force
+-- what is known gives the last committed membership
+pub committed_known : (k : KnownState) (s : StoredGroup) → k.state.snapshot_meta ≡ meta_of s.snapshot → k.memberships.items ≡ memberships_in s.log → committed_of k ≡ committed_membership s k.state.committed
+committed_known k s e f =
+    ap (λ meta. last_else (force_of_snapshot meta) (take_below (next_place k.state.committed) k.memberships.items)) e
+    ∙ ap (λ ms. last_else (force_of_snapshot (meta_of s.snapshot)) (take_below (next_place k.state.committed) ms)) f
+
+-- what is known anew, once both memberships are noted
 pub knows_again : (k : KnownState) (s : StoredGroup) → k.state.vote.value ≡ s.vote → k.state.log_ids ≡ stored_ids s → k.state.purged_next ≡ first_place s
-    → k.state.snapshot_meta ≡ meta_of s.snapshot → k.memberships.items ≡ memberships_in s.log → k.state.membership_state.effective ≡ force_of k → Knows k s
-knows_again k s vote ids purged_at snapshot memberships effective =
+    → k.state.snapshot_meta ≡ meta_of s.snapshot → k.memberships.items ≡ memberships_in s.log → k.state.purge_upto ≡ option_or k.wish s.purged → AreNoted k → Knows k s
+knows_again k s vote ids purged_at snapshot memberships goal noted =
     record {
       vote = vote;
       ids = ids;
       purged = purged_at;
       snapshot = snapshot;
       memberships = memberships;
-      in_force = effective ∙ force_known k s snapshot memberships;
+      in_force = noted.0 ∙ force_known k s snapshot memberships;
+      last_committed = noted.1 ∙ committed_known k s snapshot memberships;
+      goal = goal;
     }
+
+-- what is known of a stored group is noted
+pub noted_known : (k : KnownState) (s : StoredGroup) → Knows k s → AreNoted k
+noted_known k s old =
+    (old.in_force ∙ sym (force_known k s old.snapshot old.memberships), old.last_committed ∙ sym (committed_known k s old.snapshot old.memberships))
+
+-- and stays so where the memberships stay
+pub noted_still : (k k' : KnownState) → AreNoted k → k'.state.membership_state ≡ k.state.membership_state → k'.state.snapshot_meta ≡ k.state.snapshot_meta
+    → k'.state.committed ≡ k.state.committed → k'.memberships.items ≡ k.memberships.items → AreNoted k'
+noted_still k k' noted both meta committed items =
+    let force : force_of k' ≡ force_of k = ap (λ m. last_else (force_of_snapshot m) k'.memberships.items) meta ∙ ap (last_else (force_of_snapshot k.state.snapshot_meta)) items in
+    let upto : committed_of k' ≡ committed_of k =
+    ap (λ m. last_else (force_of_snapshot m) (take_below (next_place k'.state.committed) k'.memberships.items)) meta
+    ∙ ap (λ (c : Option (LogId ℕ)). last_else (force_of_snapshot k.state.snapshot_meta) (take_below (next_place c) k'.memberships.items)) committed
+    ∙ ap (λ ms. last_else (force_of_snapshot k.state.snapshot_meta) (take_below (next_place k.state.committed) ms)) items in (
+      ap (λ (b : MembershipState). b.effective) both ∙ noted.0 ∙ sym force,
+      ap (λ (b : MembershipState). b.committed) both ∙ noted.1 ∙ sym upto,
+    )
+
+-- both memberships are noted once they are found anew
+pub refreshed : (k k' : KnownState) → k' ≡ with_members k (record { committed = committed_of k; effective = force_of k }) → AreNoted k' × (k' ≡ with_members k k'.state.membership_state)
+refreshed k k' e =
+    let both : MembershipState = record { committed = committed_of k; effective = force_of k } in (
+      subst AreNoted (sym e) (refl, refl),
+      e ∙ ap (λ (y : KnownState). with_members k y.state.membership_state) (sym e),
+    )
+
+-- both memberships are noted where they changed, and else as before
+pub both_ok : {T E A B P : Type 0} (r : Result T E) → OnOk r A → OnOk r B → (A → B → P) → OnOk r P
+both_ok (Ok x) a b f = f a b
+both_ok (Err e) a b f = tt
+
+-- nothing added leaves a list as it was
+pub none_added : (ms more : List EffectiveMembership) → length (ms ++ more) ≡ length ms → ms ++ more ≡ ms
+none_added ms [] e = append-nil ms
+none_added ms (m ∷ more) e = let all : length (ms ++ m ∷ more) ≡ length ms + length (m ∷ more) = length-append ms (m ∷ more) in absurd (omega arith)
 
 place_next : (found : Option (LogId ℕ)) → next_of (place_of found) ≡ next_place found
 place_next None = refl
@@ -375,51 +421,43 @@ end_known found s ids e f p = place_next found ∙ ap next_place (e ∙ ap last_
 
 -- ---- what is known after each storing command
 
--- as many as before are those of before
-pub none_more : {X : Type 0} (xs more : List X) → length (xs ++ more) ≡ length xs → xs ++ more ≡ xs
-none_more xs [] h = append-nil xs
-none_more xs (x ∷ more) h = absurd (omega (arith, length-append xs (x ∷ more), h))
-
--- where no membership is added the one in force is the last one already
-pub stays_forced : (k k' : KnownState) (s : StoredGroup) (ids : List (LogId ℕ)) → Knows k s → k'.state ≡ record k.state { log_ids = ids } → k'.memberships.items ≡ k.memberships.items
-    → k' ≡ with_force k' (force_of k')
-stays_forced k k' s ids known e f =
-    ap (with_force k')
-    (ap (λ (y : StateOf). y.membership_state.effective) e ∙ known.in_force ∙ sym (force_known k s known.snapshot known.memberships)
-    ∙ ap (λ ms. last_else (force_of_snapshot k.state.snapshot_meta) ms) (sym f)
-    ∙ ap (λ (y : StateOf). last_else (force_of_snapshot y.snapshot_meta) k'.memberships.items) (sym e))
-
-module _ (k k' k'' : KnownState) (s : StoredGroup) (old : Knows k s) (forced : k'' ≡ with_force k' (force_of k')) where
+module _ (k k' k'' : KnownState) (s : StoredGroup) (old : Knows k s) (noted : AreNoted k'') (both : k'' ≡ with_members k' k''.state.membership_state) where
   again : (s' : StoredGroup) → k'.state.vote.value ≡ s'.vote → k'.state.log_ids ≡ stored_ids s' → k'.state.purged_next ≡ first_place s'
-      → k'.state.snapshot_meta ≡ meta_of s'.snapshot → k'.memberships.items ≡ memberships_in s'.log → Knows k'' s'
-  again s' vote ids at snapshot memberships =
-      subst (λ x. Knows x s') (sym forced) (knows_again (with_force k' (force_of k')) s' vote ids at snapshot memberships refl)
+      → k'.state.snapshot_meta ≡ meta_of s'.snapshot → k'.memberships.items ≡ memberships_in s'.log → k'.state.purge_upto ≡ option_or k'.wish s'.purged → Knows k'' s'
+  again s' vote ids at snapshot memberships goal =
+      knows_again k'' s' (ap (λ (y : KnownState). y.state.vote.value) both ∙ vote) (ap (λ (y : KnownState). y.state.log_ids) both ∙ ids)
+      (ap (λ (y : KnownState). y.state.purged_next) both ∙ at) (ap (λ (y : KnownState). y.state.snapshot_meta) both ∙ snapshot)
+      (ap (λ (y : KnownState). y.memberships.items) both ∙ memberships)
+      (ap (λ (y : KnownState). y.state.purge_upto) both ∙ goal ∙ ap (λ (y : KnownState). option_or y.wish s'.purged) (sym both)) noted
 
   pub saved : (x : Snapshot) → k' ≡ record k { state = record k.state { snapshot_meta = meta_of (Some x) } } → Knows k'' (record s { snapshot = Some x })
   saved x e =
       again (record s { snapshot = Some x }) (ap (λ (y : KnownState). y.state.vote.value) e ∙ old.vote) (ap (λ (y : KnownState). y.state.log_ids) e ∙ old.ids)
       (ap (λ (y : KnownState). y.state.purged_next) e ∙ old.purged) (ap (λ (y : KnownState). y.state.snapshot_meta) e) (ap (λ (y : KnownState). y.memberships.items) e ∙ old.memberships)
+      (ap (λ (y : KnownState). y.state.purge_upto) e ∙ old.goal ∙ ap (λ (y : KnownState). option_or y.wish s.purged) (sym e))
 
-  pub cut : (p : IsPlaced s) (at : ℕ) → first_place s ≤ at → k'.state ≡ record k.state { log_ids = truncated k.state.log_ids at } → k'.memberships.items ≡ take_below at k.memberships.items
+  pub cut : (p : IsPlaced s) (at : ℕ) → first_place s ≤ at → k'.wish ≡ k.wish → k'.state ≡ record k.state { log_ids = truncated k.state.log_ids at } → k'.memberships.items ≡ take_below at k.memberships.items
       → Knows k'' (record s { log = log_below s at })
-  cut p at l e f =
+  cut p at l w e f =
       again (record s { log = log_below s at }) (ap (λ (y : StateOf). y.vote.value) e ∙ old.vote)
       (ap (λ (y : StateOf). y.log_ids) e ∙ ap (λ ids. truncated ids at) old.ids ∙ truncated_ids s.purged s.log at p l)
       (ap (λ (y : StateOf). y.purged_next) e ∙ old.purged) (ap (λ (y : StateOf). y.snapshot_meta) e ∙ old.snapshot)
       (f ∙ ap (take_below at) old.memberships ∙ memberships_below s.log at (first_place s) p)
+      (ap (λ (y : StateOf). y.purge_upto) e ∙ old.goal ∙ ap (λ wish. option_or wish s.purged) (sym w))
 
-  pub put : (p : IsPlaced s) (es : List Entry) → ArePlaced (end_place s) es → k'.state ≡ record k.state { log_ids = extended k.state.log_ids (entry_ids es) } → k'.memberships.items ≡ k.memberships.items ++ memberships_in es
+  pub put : (p : IsPlaced s) (es : List Entry) → ArePlaced (end_place s) es → k'.wish ≡ k.wish → k'.state ≡ record k.state { log_ids = extended k.state.log_ids (entry_ids es) } → k'.memberships.items ≡ k.memberships.items ++ memberships_in es
       → Knows k'' (record s { log = log_below s (end_place s) ++ es })
-  put p es q e f =
+  put p es q w e f =
       again (record s { log = log_below s (end_place s) ++ es }) (ap (λ (y : StateOf). y.vote.value) e ∙ old.vote)
       (ap (λ (y : StateOf). y.log_ids) e ∙ ap (λ ids. extended ids (entry_ids es)) old.ids ∙ appended_ids s es p q)
       (ap (λ (y : StateOf). y.purged_next) e ∙ old.purged) (ap (λ (y : StateOf). y.snapshot_meta) e ∙ old.snapshot)
       (f ∙ ap (λ ms. ms ++ memberships_in es) old.memberships ∙ sym (memberships-append s.log es) ∙ ap (λ log. memberships_in (log ++ es)) (sym (log_whole s)))
+      (ap (λ (y : StateOf). y.purge_upto) e ∙ old.goal ∙ ap (λ wish. option_or wish s.purged) (sym w))
 
-  pub removed : (p : IsPlaced s) (upto : LogId ℕ) → first_place s ≤ upto.index → IsEntryOrPast s upto
-      → k'.state ≡ record k.state { log_ids = purged k.state.log_ids upto; purged_next = upto.index + 1 } → k'.memberships.items ≡ drop_below (upto.index + 1) k.memberships.items
+  pub removed : (p : IsPlaced s) (upto : LogId ℕ) → first_place s ≤ upto.index → IsEntryOrPast s upto → k'.wish ≡ k.wish
+      → k'.state ≡ record k.state { log_ids = purged k.state.log_ids upto; purged_next = upto.index + 1; purge_upto = option_or k.wish (Some upto) } → k'.memberships.items ≡ drop_below (upto.index + 1) k.memberships.items
       → Knows k'' (record s { purged = Some upto; log = drop (upto.index + 1 - first_place s) s.log })
-  removed p upto l h e f =
+  removed p upto l h w e f =
       let within : nat_lt upto.index (first_place s) ≡ false = grind (arith, nat_tests, l) in
       let there : (x : Entry) → slice_get s.log (upto.index - first_place s) ≡ Some x → x.log_id ≡ upto =
       λ x g. h x (ap (λ b. if b then None else slice_get s.log (upto.index - first_place s)) within ∙ g) in
@@ -427,6 +465,7 @@ module _ (k k' k'' : KnownState) (s : StoredGroup) (old : Knows k s) (forced : k
       (ap (λ (y : StateOf). y.log_ids) e ∙ ap (λ ids. purged ids upto) old.ids ∙ purged_ids-known s.purged s.log upto p l there)
       (ap (λ (y : StateOf). y.purged_next) e) (ap (λ (y : StateOf). y.snapshot_meta) e ∙ old.snapshot)
       (f ∙ ap (drop_below (upto.index + 1)) old.memberships ∙ memberships_above s.log (upto.index + 1) (first_place s) p)
+      (ap (λ (y : StateOf). y.purge_upto) e ∙ ap (λ wish. option_or wish (Some upto)) (sym w))
 
 -- entries behind all of the log are its last ones
 pub grown_log : (s : StoredGroup) (es : List Entry) → record s { log = log_below s (end_place s) ++ es } ≡ record s { log = s.log ++ es }
@@ -438,13 +477,16 @@ empty_placed s e = subst (ArePlaced (first_place s)) (sym e) tt
 
 -- ---- what is known of a group that is read
 
-purged_end : (purged_id : Option (LogId ℕ)) → EndsBefore (last_id (purged_ids purged_id)) (next_place purged_id)
-purged_end None = tt
-purged_end (Some id) = refl
+-- of a log without entries the purge point is the last log id
+pub last_of_purged : (purged_id : Option (LogId ℕ)) → last_id (purged_ids purged_id) ≡ purged_id
+last_of_purged None = refl
+last_of_purged (Some id) = refl
 
--- the log ids of what is read
-pub read_ids : (purged_id : Option (LogId ℕ)) (log : List Entry) → ArePlaced (next_place purged_id) log → extended (purged_ids purged_id) (entry_ids log) ≡ purged_ids purged_id ++ entry_ids log
-read_ids purged_id log p = extended-placed (purged_ids purged_id) (entry_ids log) (next_place purged_id) (purged_end purged_id) (ids_placed log (next_place purged_id) p)
+-- entries right behind the purge point
+pub placed_behind : (s : StoredGroup) (es : List Entry) → s.log ≡ es → IsPlaced s → ArePlaced (end_place (record s { log = [] })) es
+placed_behind s es e p =
+    let at : first_place s ≡ first_place s + 0 = omega arith in
+    subst (λ n. ArePlaced n es) at (subst (ArePlaced (first_place s)) e p)
 
 -- a state of which only the log above the purge point isn't known yet
 pub record HasRead (state : StateOf) (vote : Vote ℕ) (purged_id : Option (LogId ℕ)) (snapshot : SnapshotMeta) : Type 0 where
@@ -452,15 +494,63 @@ pub record HasRead (state : StateOf) (vote : Vote ℕ) (purged_id : Option (LogI
   pub ids : state.log_ids ≡ purged_ids purged_id
   pub at : state.purged_next ≡ next_place purged_id
   pub meta : state.snapshot_meta ≡ snapshot
+  pub goal : state.purge_upto ≡ purged_id
 
--- with the log and its memberships all is known
-pub read : (state : StateOf) (k k' : KnownState) (s : StoredGroup) → HasRead state s.vote s.purged (meta_of s.snapshot) → IsPlaced s
-    → k.state ≡ record state { log_ids = extended state.log_ids (entry_ids s.log) } → k.memberships.items ≡ memberships_in s.log → k' ≡ with_force k (force_of k) → Knows k' s
-read state k k' s before p e f forced =
-    subst (λ x. Knows x s) (sym forced)
-    (knows_again (with_force k (force_of k)) s
+-- of a log that has no entry yet all is known
+pub read : (state : StateOf) (k k' : KnownState) (s : StoredGroup) → HasRead state s.vote s.purged (meta_of s.snapshot) → s.log ≡ []
+    → k.state ≡ state → k.memberships.items ≡ [] → k.wish ≡ None → k' ≡ with_members k (record { committed = committed_of k; effective = force_of k }) → Knows k' s
+read state k k' s before empty e f none both =
+    let ids : stored_ids s ≡ purged_ids s.purged = ap (λ log. purged_ids s.purged ++ entry_ids log) empty ∙ append-nil (purged_ids s.purged) in
+    subst (λ x. Knows x s) (sym both)
+    (knows_again (with_members k (record { committed = committed_of k; effective = force_of k })) s
     (ap (λ (y : StateOf). y.vote.value) e ∙ before.vote_is)
-    (ap (λ (y : StateOf). y.log_ids) e ∙ ap (λ ids. extended ids (entry_ids s.log)) before.ids ∙ read_ids s.purged s.log p)
+    (ap (λ (y : StateOf). y.log_ids) e ∙ before.ids ∙ sym ids)
     (ap (λ (y : StateOf). y.purged_next) e ∙ before.at)
     (ap (λ (y : StateOf). y.snapshot_meta) e ∙ before.meta)
-    f refl)
+    (f ∙ ap memberships_in (sym empty))
+    (ap (λ (y : StateOf). y.purge_upto) e ∙ before.goal ∙ ap (λ wish. option_or wish s.purged) (sym none)) (refl, refl))
+
+-- ---- what is committed
+
+-- with another place committed, both memberships noted
+pub committed_on : (k k' : KnownState) (s : StoredGroup) (upto : Option (LogId ℕ)) → Knows k s → AreNoted k' → k' ≡ with_committed k upto k'.state.membership_state → Knows k' s
+committed_on k k' s upto old noted both =
+    knows_again k' s (ap (λ (y : KnownState). y.state.vote.value) both ∙ old.vote) (ap (λ (y : KnownState). y.state.log_ids) both ∙ old.ids)
+    (ap (λ (y : KnownState). y.state.purged_next) both ∙ old.purged) (ap (λ (y : KnownState). y.state.snapshot_meta) both ∙ old.snapshot)
+    (ap (λ (y : KnownState). y.memberships.items) both ∙ old.memberships)
+    (ap (λ (y : KnownState). y.state.purge_upto) both ∙ old.goal ∙ ap (λ (y : KnownState). option_or y.wish s.purged) (sym both)) noted
+
+-- as many memberships are committed as before
+pub noted_upto : (k : KnownState) (upto : Option (LogId ℕ)) (n m : ℕ) → AreNoted k → take n k.memberships.items ≡ take_below (next_place k.state.committed) k.memberships.items
+    → take m k.memberships.items ≡ take_below (next_place upto) k.memberships.items → m ≡ n → AreNoted (with_committed k upto k.state.membership_state)
+noted_upto k upto n m noted e f same = (
+  noted.0,
+  noted.1 ∙ ap (last_else (force_of_snapshot k.state.snapshot_meta)) (sym e ∙ ap (λ j. take j k.memberships.items) (sym same) ∙ f),
+)
+
+-- ---- up to where the log is to be purged
+
+-- the last purged log id is the first one of all
+first_known : (purged_id : Option (LogId ℕ)) (log : List Entry) → last_purged (next_place purged_id) (purged_ids purged_id ++ entry_ids log) ≡ purged_id
+first_known None log = refl
+first_known (Some id) log = let at : id.index + 1 ≡ suc id.index = omega arith in ap (λ n. last_purged n (id ∷ entry_ids log)) at
+
+pub purged_known : (k : KnownState) (s : StoredGroup) → Knows k s → last_purged k.state.purged_next k.state.log_ids ≡ s.purged
+purged_known k s old =
+    ap (λ n. last_purged n k.state.log_ids) old.purged ∙ ap (last_purged (first_place s)) old.ids ∙ first_known s.purged s.log
+
+-- with another wish
+pub wished_for : (k k' : KnownState) (s : StoredGroup) (wish upto : Option (LogId ℕ)) → Knows k s → k' ≡ with_goal k wish upto → upto ≡ option_or wish s.purged → Knows k' s
+wished_for k k' s wish upto old same goal =
+    let other : Knows (with_goal k wish upto) s =
+    record {
+      vote = old.vote;
+      ids = old.ids;
+      purged = old.purged;
+      snapshot = old.snapshot;
+      memberships = old.memberships;
+      in_force = old.in_force;
+      last_committed = old.last_committed;
+      goal = goal;
+    } in
+    subst (λ x. Knows x s) (sym same) other

@@ -1,8 +1,11 @@
 -- What a node knows of its stored group: log ids in place of entries, and the memberships.
 use Rattle.std.specs.Prelude.{◌≡◌, ℕ, suc, Bool, true, false, nat_lt, nat_le, ◌==◌, ◌&&◌, filter, if◌then◌else◌, List, [], ◌∷◌, ◌++◌, map, Option, Some, None}
+use Rattle.std.specs.Option.{option_or}
 use Rattle.raft_values.specs.declared.vote.LeaderId.{LeaderId}
 use Rattle.raft_values.specs.declared.log_id.LogId.{LogId}
+use Rattle.raft_values.specs.LogId.{next_place}
 use Rattle.raft_membership.specs.declared.effective_membership.EffectiveMembership.{EffectiveMembership as EffectiveMembershipOf}
+use Rattle.raft_membership.specs.declared.membership_state.MembershipState.{MembershipState as MembershipStateOf}
 use Rattle.raft_membership.specs.declared.stored_membership.StoredMembership.{StoredMembership as StoredMembershipOf}
 use Rattle.raft_membership.specs.declared.snapshot_meta.SnapshotMeta.{SnapshotMeta as SnapshotMetaOf}
 use Rattle.raft_state.specs.declared.entry.EntryPayload.TheVariants.{Blank, Normal, Membership as Members}
@@ -18,6 +21,9 @@ SnapshotMeta = SnapshotMetaOf ℕ (List ℕ)
 
 abbrev pub KnownState : Type 0
 KnownState = KnownStateOf ℕ (List ℕ)
+
+abbrev pub MembershipState : Type 0
+MembershipState = MembershipStateOf ℕ (List ℕ)
 
 -- no voter groups and no nodes
 abbrev pub no_membership : Membership
@@ -69,15 +75,6 @@ ArePlaced place (e ∷ es) = (e.log_id.index ≡ place) × ArePlaced (suc place)
 abbrev pub IsPlaced : StoredGroup → Type 0
 IsPlaced s = ArePlaced (first_place s) s.log
 
--- this is known of the stored group
-pub record Knows (k : KnownState) (s : StoredGroup) : Type 0 where
-  pub vote : k.state.vote.value ≡ s.vote
-  pub ids : k.state.log_ids ≡ stored_ids s
-  pub purged : k.state.purged_next ≡ first_place s
-  pub snapshot : k.state.snapshot_meta ≡ meta_of s.snapshot
-  pub memberships : k.memberships.items ≡ memberships_in s.log
-  pub in_force : k.state.membership_state.effective ≡ effective_of (membership_in_force s)
-
 -- the log id stands below the place; none stands below each
 abbrev pub is_below : ℕ → Option (LogId ℕ) → Bool
 is_below place None = true
@@ -88,24 +85,46 @@ abbrev pub take_below : ℕ → List EffectiveMembership → List EffectiveMembe
 take_below place [] = []
 take_below place (m ∷ ms) = if is_below place m.log_id then m ∷ take_below place ms else []
 
--- the memberships from the first one on that isn't below the place
-abbrev pub drop_below : ℕ → List EffectiveMembership → List EffectiveMembership
-drop_below place [] = []
-drop_below place (m ∷ ms) = if is_below place m.log_id then drop_below place ms else m ∷ ms
+-- the last of these, or else this one
+abbrev pub last_else : EffectiveMembership → List EffectiveMembership → EffectiveMembership
+last_else m [] = m
+last_else m (x ∷ xs) = last_else x xs
 
 -- the snapshot's membership
 abbrev pub force_of_snapshot : SnapshotMeta → EffectiveMembership
 force_of_snapshot meta =
     record { log_id = meta.last_membership.log_id; membership = meta.last_membership.membership }
 
--- the last of these, or else this one
-abbrev pub last_else : EffectiveMembership → List EffectiveMembership → EffectiveMembership
-last_else m [] = m
-last_else m (x ∷ xs) = last_else x xs
+-- the last membership of the log at or below the committed log id, or else the snapshot's
+abbrev pub committed_membership : StoredGroup → Option (LogId ℕ) → EffectiveMembership
+committed_membership s committed =
+    last_else (force_of_snapshot (meta_of s.snapshot)) (take_below (next_place committed) (memberships_in s.log))
+
+-- this is known of the stored group
+pub record Knows (k : KnownState) (s : StoredGroup) : Type 0 where
+  pub vote : k.state.vote.value ≡ s.vote
+  pub ids : k.state.log_ids ≡ stored_ids s
+  pub purged : k.state.purged_next ≡ first_place s
+  pub snapshot : k.state.snapshot_meta ≡ meta_of s.snapshot
+  pub memberships : k.memberships.items ≡ memberships_in s.log
+  pub in_force : k.state.membership_state.effective ≡ effective_of (membership_in_force s)
+  pub last_committed : k.state.membership_state.committed ≡ committed_membership s k.state.committed
+  -- up to where a leader is still to purge, or else up to where the log is purged
+  pub goal : k.state.purge_upto ≡ option_or k.wish s.purged
+
+-- the memberships from the first one on that isn't below the place
+abbrev pub drop_below : ℕ → List EffectiveMembership → List EffectiveMembership
+drop_below place [] = []
+drop_below place (m ∷ ms) = if is_below place m.log_id then drop_below place ms else m ∷ ms
 
 -- the last membership of the log, or else the snapshot's
 abbrev pub force_of : KnownState → EffectiveMembership
 force_of k = last_else (force_of_snapshot k.state.snapshot_meta) k.memberships.items
+
+-- the last membership of the log at or below the committed log id, or else the snapshot's
+abbrev pub committed_of : KnownState → EffectiveMembership
+committed_of k =
+    last_else (force_of_snapshot k.state.snapshot_meta) (take_below (next_place k.state.committed) k.memberships.items)
 
 -- a membership of an entry, as one that is in force
 abbrev pub logged_as_effective : LoggedMembership → EffectiveMembership
@@ -124,12 +143,22 @@ abbrev pub stands_under : ℕ → LogId ℕ → Option (LogId ℕ) → Bool
 stands_under place key None = nat_le place key.index
 stands_under place key (Some next) = nat_lt place next.index
 
--- this membership is in force
-abbrev pub with_force : KnownState → EffectiveMembership → KnownState
-with_force k m =
-    record k {
-      state = record k.state { membership_state = record k.state.membership_state { effective = m } };
-    }
+-- both memberships are noted
+abbrev pub AreNoted : KnownState → Type 0
+AreNoted k =
+    (k.state.membership_state.effective ≡ force_of k) × (k.state.membership_state.committed ≡ committed_of k)
+
+-- nothing but the two memberships changes
+abbrev pub with_members : KnownState → MembershipState → KnownState
+with_members k both = record k { state = record k.state { membership_state = both } }
+
+-- all up to here is committed, and nothing else but the two memberships changes
+abbrev pub with_committed : KnownState → Option (LogId ℕ) → MembershipState → KnownState
+with_committed k upto both = record k { state = record k.state { committed = upto; membership_state = both } }
+
+-- this is wished for, and nothing else changes but up to where the log is to be purged
+abbrev pub with_goal : KnownState → Option (LogId ℕ) → Option (LogId ℕ) → KnownState
+with_goal k wish upto = record k { state = record k.state { purge_upto = upto }; wish = wish }
 
 -- the log id is that of the log's entry at its place, or no entry stands there
 abbrev pub IsEntryOrPast : StoredGroup → LogId ℕ → Type 0
@@ -139,4 +168,4 @@ IsEntryOrPast s id = (e : Entry) → entry_at s id.index ≡ Some e → e.log_id
 pub record KeepsRest (old new : KnownState) : Type 0 where
   pub vote : new.state.vote ≡ old.state.vote
   pub committed : new.state.committed ≡ old.state.committed
-  pub purge_upto : new.state.purge_upto ≡ old.state.purge_upto
+  pub wish : new.wish ≡ old.wish

@@ -1,5 +1,5 @@
 //! What a node knows of its stored group.
-ghost use Rattle.std.specs.Prelude.{◌≡◌, ◌≤◌, ◌<◌, ◌+◌, ◌^◌, ◌++◌, OnOk, IfOk, Some, None, [], ℕ, length, take, drop};
+ghost use Rattle.std.specs.Prelude.{◌≡◌, ◌≤◌, ◌<◌, ◌+◌, ◌^◌, ◌++◌, OnOk, IfOk, Some, None, ℕ, length, take, drop, [], false};
 ghost use Rattle.std.specs.Ordering.{nat_cmp};
 ghost use Rattle.raft_values.specs.LogId.{next_place};
 ghost use Rattle.raft_state.specs.LogIdList.{AllGoOn, last_id};
@@ -12,14 +12,15 @@ ghost use Rattle.raft_group_step.specs.Values.{is_written_by};
 ghost use Rattle.raft_group_step.specs.Initialize.{is_new};
 ghost use Rattle.raft_group_step.specs.Lead.{other_ids};
 ghost use Rattle.raft_group_step.specs.Elect.{other_voters};
-ghost use Rattle.raft_known_state.specs.KnownState.{ArePlaced, IsEntryOrPast, IsPlaced, KeepsRest, Knows, entry_ids, force_of, is_below};
-ghost use Rattle.raft_known_state.specs.KnownState.{memberships_in, meta_of, effective_of, logged_as_effective, drop_below, take_below, with_force};
+ghost use Rattle.raft_known_state.specs.KnownState.{AreNoted, ArePlaced, IsEntryOrPast, IsPlaced, KeepsRest, Knows, entry_ids, force_of, is_below};
+ghost use Rattle.raft_known_state.specs.KnownState.{memberships_in, meta_of, effective_of, logged_as_effective, drop_below, take_below, purged_ids};
+ghost use Rattle.raft_known_state.specs.KnownState.{committed_membership, committed_of, force_of_snapshot, last_else, with_committed, with_goal, with_members};
 
 use crate::key_leaders::has_leader_from;
 use crate::member_ids::{ids_of_others, voters_of_others};
 use raft_state::{
-    BasicNode, Bytes, EffectiveMembership, Entry, LeaderId, LogId, LogIdOptionExt, MembershipState,
-    Node, NodeId, RaftPayload, RaftState, SnapshotMeta, UTime, Vote,
+    BasicNode, Bytes, EffectiveMembership, Entry, LeaderId, LogId, LogIdOptionExt, LogStateReader,
+    MembershipState, Node, NodeId, RaftPayload, RaftState, SnapshotMeta, UTime, Vote,
 };
 use std::alloc::{AllocError, Global};
 
@@ -31,6 +32,8 @@ pub struct KnownState<NID: NodeId, N: Node> {
     pub state: RaftState<NID, N, u64>,
     /// The memberships of the log above the purge point, by rising place.
     pub memberships: Vec<EffectiveMembership<NID, N>>,
+    /// Up to where a leader is still to purge, once no request needs what goes.
+    pub wish: Option<LogId<NID>>,
 }
 
 // Whether the log id stands below the place; none stands below each.
@@ -83,10 +86,37 @@ fn count_below(memberships: &[EffectiveMembership<u64, BasicNode>], place: u64) 
     memberships.len()
 }
 
+// Whether the log id stands at or below the committed one; none stands below each.
+fn is_committed(log_id: &Option<LogId<u64>>, committed: &Option<LogId<u64>>) -> bool
+    ensures { result ≡ is_below (next_place committed.now) log_id.now }
+{
+    match (log_id, committed) {
+        (None, _) => true,
+        (Some(_), None) => false,
+        (Some(log_id), Some(committed)) => log_id.index <= committed.index,
+    }
+}
+
+// How many of the memberships are committed.
+fn count_committed(
+    memberships: &[EffectiveMembership<u64, BasicNode>],
+    committed: &Option<LogId<u64>>,
+) -> usize
+    ensures below { take result memberships.now ≡ take_below (next_place committed.now) memberships.now }
+    ensures within { result ≤ length memberships.now }
+{
+    for (at, membership) in memberships.iter().enumerate() {
+        if !is_committed(membership.log_id(), committed) {
+            return at;
+        }
+    }
+    memberships.len()
+}
+
 impl KnownState<u64, BasicNode> {
     /// What is known of a stored group with this vote and snapshot, of which the log up to the
-    /// purge point is gone and no entry was read yet (own). With `append` a log is read entry by
-    /// entry, or by blocks: then as much is known as `load` knows of the whole.
+    /// purge point is gone and no entry was read yet (own): `append` adds entries, so that a long
+    /// log is read by blocks.
     pub fn begin(
         alloc: Global,
         vote: Vote<u64>,
@@ -96,9 +126,24 @@ impl KnownState<u64, BasicNode> {
         requires { next_place purged < 2 ^ 64 }
         ensures known { (s : StoredGroup) → s.vote ≡ vote → s.purged ≡ purged → snapshot ≡ meta_of s.snapshot → s.log ≡ []
             → IfOk result (λ k. Knows k s) }
-        ensures fresh { IfOk result (λ k. (k.state.vote.utime ≡ None) × (k.state.committed ≡ None) × (k.state.purge_upto ≡ None)) }
+        ensures ids { IfOk result (λ k. k.state.log_ids ≡ purged_ids purged) }
+        ensures fresh { IfOk result (λ k. (k.state.vote.utime ≡ None) × (k.state.committed ≡ None) × (k.wish ≡ None)) }
     {
-        KnownState::load(alloc, vote, purged, snapshot, &[])
+        let mut state = RaftState::default(alloc);
+        state.vote = UTime::without_utime(vote);
+        state.snapshot_meta = snapshot;
+        state.purge_upto = purged;
+        if let Some(purged) = purged {
+            state.purge_log(&purged)?;
+        }
+        let memberships = Vec::new(alloc);
+        let mut known = KnownState {
+            state,
+            memberships,
+            wish: None,
+        };
+        known.refresh_memberships()?;
+        Ok(known)
     }
 
     /// What is known of a stored group with this vote, of which the log up to the purge point is
@@ -114,39 +159,45 @@ impl KnownState<u64, BasicNode> {
         requires goes_on { AllGoOn purged (entry_ids entries.now) }
         ensures known { (s : StoredGroup) → s.vote ≡ vote → s.purged ≡ purged → snapshot ≡ meta_of s.snapshot → s.log ≡ entries.now → IsPlaced s
             → IfOk result (λ k. Knows k s) }
-        ensures fresh { IfOk result (λ k. (k.state.vote.utime ≡ None) × (k.state.committed ≡ None) × (k.state.purge_upto ≡ None)) }
+        ensures fresh { IfOk result (λ k. (k.state.vote.utime ≡ None) × (k.state.committed ≡ None) × (k.wish ≡ None)) }
     {
-        let mut state = RaftState::default(alloc);
-        state.vote = UTime::without_utime(vote);
-        state.snapshot_meta = snapshot;
-        if let Some(purged) = purged {
-            state.purge_log(&purged)?;
-        }
-        state.extend_log_ids(entries)?;
-        let mut memberships = Vec::new(alloc);
-        push_memberships(&mut memberships, entries)?;
-        let mut known = KnownState { state, memberships };
-        known.refresh_membership()?;
+        let mut known = KnownState::begin(alloc, vote, purged, snapshot)?;
+        known.append(entries)?;
         Ok(known)
     }
 
-    // The last membership of the log, or else the snapshot's.
-    fn membership_in_force(&self) -> Result<EffectiveMembership<u64, BasicNode>, AllocError>
-        ensures { IfOk result (λ m. m ≡ force_of self.now) }
+    // The last of the first memberships, so many of them, or else the snapshot's.
+    fn last_among(&self, count: usize) -> Result<EffectiveMembership<u64, BasicNode>, AllocError>
+        requires { count ≤ length self.now.memberships.items }
+        ensures { IfOk result (λ m. m ≡ last_else (force_of_snapshot self.now.state.snapshot_meta) (take count self.now.memberships.items)) }
     {
-        match self.memberships.last() {
+        let (first, _) = self.memberships.as_slice().split_at(count);
+        match first.last() {
             Some(last) => last.clone(),
             None => as_effective(&self.state.snapshot_meta),
         }
     }
 
-    // That membership is in force from now on.
-    fn refresh_membership(&mut self) -> Result<(), AllocError>
-        ensures { OnOk result (self.new ≡ with_force self.old (force_of self.old)) }
+    // The last membership of the log is in force from now on, and the last one of the committed log
+    // is the committed one; where the log has none, the snapshot's is.
+    fn refresh_memberships(&mut self) -> Result<(), AllocError>
+        ensures { OnOk result (self.new ≡ with_members self.old (record { committed = committed_of self.old; effective = force_of self.old })) }
     {
-        let effective = self.membership_in_force()?;
-        let committed = self.state.membership_state.committed().clone()?;
+        let count = count_committed(self.memberships.as_slice(), &self.state.committed);
+        let committed = self.last_among(count)?;
+        let effective = self.last_among(self.memberships.len())?;
         self.state.membership_state = MembershipState::new(committed, effective);
+        Ok(())
+    }
+
+    // The same where the memberships changed; else both are noted already.
+    fn refresh_if(&mut self, changed: bool) -> Result<(), AllocError>
+        ensures noted { (changed ≡ false → AreNoted self.old) → OnOk result (AreNoted self.new) }
+        ensures rest { OnOk result (self.new ≡ with_members self.old self.new.state.membership_state) }
+    {
+        if changed {
+            return self.refresh_memberships();
+        }
         Ok(())
     }
 
@@ -217,6 +268,14 @@ impl KnownState<u64, BasicNode> {
         self.state.membership_state.effective()
     }
 
+    /// The last committed membership (openraft): the last one of the log at or below the committed
+    /// place, or else the snapshot's.
+    pub fn committed_membership(&self) -> &EffectiveMembership<u64, BasicNode>
+        ensures { (s : StoredGroup) → Knows self.now s → result.now ≡ committed_membership s self.now.state.committed }
+    {
+        self.state.membership_state.committed()
+    }
+
     /// The membership in force, committed or not, if an entry has one (own).
     pub fn membership(&self) -> Option<&EffectiveMembership<u64, BasicNode>>
         ensures { (s : StoredGroup) → Knows self.now s → option_copied result ≡ option_map logged_as_effective (membership_in_force s) }
@@ -257,6 +316,18 @@ impl KnownState<u64, BasicNode> {
         self.state.vote.update(now, vote);
     }
 
+    /// All up to the log id is committed (openraft), and with it the memberships of the log up to
+    /// there; without one nothing is. After an error nothing is promised.
+    pub fn commit(&mut self, upto: Option<LogId<u64>>) -> Result<(), AllocError>
+        ensures known { (s : StoredGroup) → Knows self.old s → OnOk result (Knows self.new s) }
+        ensures rest { OnOk result (self.new ≡ with_committed self.old upto self.new.state.membership_state) }
+    {
+        let before = count_committed(self.memberships.as_slice(), &self.state.committed);
+        self.state.committed = upto;
+        let now = count_committed(self.memberships.as_slice(), &self.state.committed);
+        self.refresh_if(now != before)
+    }
+
     /// The entries stand behind the log's last one, as they are written or read. After an error
     /// nothing is promised.
     pub fn append(&mut self, entries: &[Entry<u64, BasicNode, Bytes>]) -> Result<(), AllocError>
@@ -268,13 +339,10 @@ impl KnownState<u64, BasicNode> {
         ensures rest { OnOk result (KeepsRest self.old self.new) }
     {
         self.state.extend_log_ids(entries)?;
-        let count = self.memberships.len();
+        let before = self.memberships.len();
         push_memberships(&mut self.memberships, entries)?;
-        // Without another membership the one in force stays, and nothing is copied.
-        if self.memberships.len() == count {
-            return Ok(());
-        }
-        self.refresh_membership()
+        let is_grown = self.memberships.len() != before;
+        self.refresh_if(is_grown)
     }
 
     /// The log is shortened from the place on, which is above the purge point. After an error
@@ -286,8 +354,19 @@ impl KnownState<u64, BasicNode> {
     {
         self.state.log_ids.truncate(since);
         let kept = count_below(self.memberships.as_slice(), since);
+        let is_shortened = kept < self.memberships.len();
         self.memberships.truncate(kept);
-        self.refresh_membership()
+        self.refresh_if(is_shortened)
+    }
+
+    /// Up to where a leader is still to purge, if anywhere: so far the log is to be purged then
+    /// (openraft's `purge_upto`), and else as far as it is.
+    pub fn set_wish(&mut self, wish: Option<LogId<u64>>)
+        ensures known { (s : StoredGroup) → Knows self.old s → Knows self.new s }
+        ensures rest { self.new ≡ with_goal self.old wish self.new.state.purge_upto }
+    {
+        self.wish = wish;
+        self.state.purge_upto = wish.or(self.state.last_purged_log_id().copied());
     }
 
     /// The log is purged up to the log id: that of its entry there, or one past its end. After an
@@ -300,11 +379,12 @@ impl KnownState<u64, BasicNode> {
         ensures rest { OnOk result (KeepsRest self.old self.new) }
     {
         self.state.purge_log(upto)?;
+        self.state.purge_upto = self.wish.or(Some(*upto));
         let gone = count_below(self.memberships.as_slice(), upto.index + 1);
         self.memberships.rotate_left(gone);
         let left = self.memberships.len() - gone;
         self.memberships.truncate(left);
-        self.refresh_membership()
+        self.refresh_if(gone > 0)
     }
 
     /// A snapshot is stored. After an error nothing is promised.
@@ -314,6 +394,6 @@ impl KnownState<u64, BasicNode> {
         ensures rest { OnOk result (KeepsRest self.old self.new) }
     {
         self.state.snapshot_meta = meta;
-        self.refresh_membership()
+        self.refresh_memberships()
     }
 }

@@ -8,8 +8,8 @@ use crate::words::{log_id, vote};
 use raft_known_state::KnownState;
 use raft_rows::{Answer, number};
 use raft_state::{
-    BasicNode, Bytes, Entry, EntryPayload, IdSet, LeaderId, LogId, Membership, NodeMap, RaftState,
-    SnapshotMeta, StoredMembership, Vote, VoterGroups,
+    BasicNode, Bytes, Entry, EntryPayload, IdSet, LeaderId, LogId, LogIdOptionExt, Membership,
+    NodeMap, RaftState, SnapshotMeta, StoredMembership, Vote, VoterGroups,
 };
 use std::alloc::{AllocError, Global};
 
@@ -64,6 +64,7 @@ pub fn new_group(alloc: Global) -> Known
     KnownState {
         state: RaftState::default(alloc),
         memberships: Vec::new(alloc),
+        wish: None,
     }
 }
 
@@ -100,6 +101,11 @@ fn place_in_force(known: &Known) -> Option<u64> {
     Some(id.index)
 }
 
+// The place of the entry whose membership is the last committed one.
+fn committed_place(known: &Known) -> Option<u64> {
+    known.committed_membership().log_id().index()
+}
+
 fn node_count(known: &Known) -> usize {
     known.effective_membership().nodes().len()
 }
@@ -131,6 +137,8 @@ fn peopled(known: &Known, alloc: Global, words: &[&str]) -> Option<Answer> {
         }
         ["has-membership"] => Answer::truth(known.membership().is_some()),
         ["place-in-force"] => Answer::shown(alloc, &place_in_force(known)),
+        ["committed-place"] => Answer::shown(alloc, &committed_place(known)),
+        ["purge-goal"] => Answer::shown(alloc, &known.state.purge_upto),
         ["nodes"] => Answer::shown(alloc, &node_count(known)),
         ["others", own] => Answer::shown(alloc, &known.other_ids(alloc, number(own))),
         ["other-voters", own] => Answer::shown(alloc, &known.other_voters(alloc, number(own))),
@@ -148,6 +156,17 @@ fn save_vote(known: &mut Known, now: u64, vote: Vote<u64>) -> Option<u64> {
 
 fn cut(known: &mut Known, place: u64) -> Result<(), AllocError> {
     known.truncate(place)
+}
+
+// All up to this place is committed.
+fn commit(known: &mut Known, place: u64) -> Result<(), AllocError> {
+    known.commit(Some(id(1, place)))
+}
+
+// This is still to be purged, or nothing is.
+fn wish(known: &mut Known, wish: Option<LogId<u64>>) -> Result<(), AllocError> {
+    known.set_wish(wish);
+    Ok(())
 }
 
 fn purge_first(known: &mut Known) -> Result<(), AllocError> {
@@ -178,6 +197,9 @@ pub fn known_of(known: &mut Known, alloc: Global, words: &[&str]) -> Option<Answ
         ["group", name] => replace(known, alloc, name),
         ["cut", place] => cut(known, number(place)),
         ["purge-first"] => purge_first(known),
+        ["commit", place] => commit(known, number(place)),
+        ["wish", place] => wish(known, Some(id(1, number(place)))),
+        ["end-wish"] => wish(known, None),
         ["save-snapshot"] => save_snapshot(known, alloc),
         ["save-vote", now, word] => {
             return Some(Answer::shown(alloc, &save_vote(known, number(now), vote(word))));

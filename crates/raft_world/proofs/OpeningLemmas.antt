@@ -12,7 +12,7 @@ use Rattle.raft_group_step.specs.StepResult.{StepResult, apply_up_to, store, unc
 use Rattle.raft_group_step.specs.Opening.{drop_stale_log, is_joined_to, resume_lead}
 use Rattle.raft_group_step.specs.GroupStep.{finished, group_step}
 use Rattle.raft_group_step.specs.Frames.{committed_id}
-use Rattle.raft_known_state.specs.KnownState.{IsPlaced, KnownState, Knows}
+use Rattle.raft_known_state.specs.KnownState.{IsPlaced, KnownState, Knows, with_committed}
 use Rattle.raft_engine.specs.Standing.{IsInOrder, IsStateOf, PlaysRole}
 use Rattle.raft_laws.specs.GoingOn.{behind}
 use Rattle.raft_laws.specs.Opened.{opened}
@@ -124,28 +124,16 @@ module _ (st : StoredGroup) where
         }
 
     module _ (k : KnownState) (found : Option (LogId ℕ)) (e : Engine) (loads : Loads k (opened st).state.stored) (last : found ≡ snapshot_last (opened st).state.stored)
-        (config : e.config ≡ config_of own) (no_lead : e.leader ≡ None) (no_candidate : e.candidate ≡ None) (known : e.state ≡ record k { state = record k.state { committed = found } }) where
-      opened_known : Knows (record k { state = record k.state { committed = found } }) (opened st).state.stored
-      opened_known =
-          let old = loads.knows in
-          record {
-            vote = old.vote;
-            ids = old.ids;
-            purged = old.purged;
-            snapshot = old.snapshot;
-            memberships = old.memberships;
-            in_force = old.in_force;
-          }
-
+        (config : e.config ≡ config_of own) (no_lead : e.leader ≡ None) (no_candidate : e.candidate ≡ None) (knows : Knows e.state (opened st).state.stored) (known : e.state ≡ with_committed k found e.state.state.membership_state) where
       opened_stands : IsStateOf own e (opened st).state
       opened_stands =
           let s = (opened st).state in
           record {
             config = config;
-            knows = subst (λ x. Knows x s.stored) (sym known) opened_known;
+            knows = knows;
             renewed = ap (λ (x : KnownState). x.state.vote.utime) known ∙ loads.renewed ∙ sym (ap (λ (r : StepResult). r.state.renewed) opened_as);
             committed = ap (λ (x : KnownState). x.state.committed) known ∙ last ∙ sym id_committed;
-            wish = ap (λ (x : KnownState). place_of x.state.purge_upto) known ∙ ap place_of loads.wish ∙ sym (ap (λ (r : StepResult). r.state.wish) opened_as);
+            wish = ap (λ (x : KnownState). place_of x.wish) known ∙ ap place_of loads.wish ∙ sym (ap (λ (r : StepResult). r.state.wish) opened_as);
             role =
                 subst (λ role. PlaysRole own e.leader e.candidate s.stored role) (sym opened_follows)
                 (subst (λ l. PlaysRole own l e.candidate s.stored Follower) (sym no_lead)
@@ -156,11 +144,11 @@ module _ (st : StoredGroup) where
     -- what is known of what is stored makes such an engine
     pub has_opened : (now : StoredGroup) (o : Option KnownState) (k : KnownState) (found : Option (LogId ℕ)) (e : Engine) → now ≡ (opened st).state.stored
         → (IsPlaced now → end_place now < 2 ^ 64 → IsFresh now o) → o ≡ Some k → found ≡ snapshot_last now → e.config ≡ config_of own → e.leader ≡ None → e.candidate ≡ None
-        → e.state ≡ record k { state = record k.state { committed = found } } → e.output.queue ≡ [] → HasOpened own (opened st).state (Some e)
-    has_opened now o k found e same fresh there last config no_lead no_candidate known queue =
+        → ((y : StoredGroup) → Knows k y → Knows e.state y) → e.state ≡ with_committed k found e.state.state.membership_state → e.output.queue ≡ [] → HasOpened own (opened st).state (Some e)
+    has_opened now o k found e same fresh there last config no_lead no_candidate knows known queue =
         let low : end_place now < 2 ^ 64 = let l = openable.ready.places in let n : end_place now ≡ end_place (opened st).state.stored = ap end_place same in omega arith in
         let loads : Loads k now = subst (IsFresh now) there (fresh (subst IsPlaced (sym same) openable.placed) low) in
-        (opened_stands k found e (subst (Loads k) same loads) (last ∙ ap snapshot_last same) config no_lead no_candidate known, queue)
+        (opened_stands k found e (subst (Loads k) same loads) (last ∙ ap snapshot_last same) config no_lead no_candidate (knows (opened st).state.stored (subst (Knows k) same loads.knows)) known, queue)
 
   -- ---- the step of an opening
 

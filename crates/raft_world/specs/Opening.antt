@@ -24,7 +24,7 @@ pub record Loads (k : KnownState) (stored : StoredGroup) : Type 0 where
   pub knows : Knows k stored
   pub renewed : k.state.vote.utime ≡ None
   pub committed : k.state.committed ≡ None
-  pub wish : k.state.purge_upto ≡ None
+  pub wish : k.wish ≡ None
 
 -- there is such a known state
 abbrev pub IsFresh : StoredGroup → Option KnownState → Type 0

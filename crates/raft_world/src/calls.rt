@@ -4,7 +4,7 @@ ghost use Rattle.raft_group_step.specs.StoredGroup.{Snapshot, StoredGroup as Sto
 ghost use Rattle.raft_group_step.specs.GroupState.{GroupState};
 ghost use Rattle.raft_group_step.specs.GroupEvent.{Call};
 ghost use Rattle.raft_group_step.specs.Values.{ChangeMembers};
-ghost use Rattle.raft_group_step.specs.declared.group_call.GroupCall.TheVariants.{ChangeMembership, Initialize, Propose, TriggerSnapshot};
+ghost use Rattle.raft_group_step.specs.declared.group_call.GroupCall.TheVariants.{ChangeMembership, Heartbeat, Initialize, Lost, Propose, TriggerSnapshot};
 ghost use Rattle.raft_engine.specs.Events.{HasTaken, MayTake};
 ghost use Rattle.raft_group_step.specs.GroupStep.{group_step};
 ghost use Rattle.raft_world.specs.Member.{HasBrokenOff, HasEnded, IsDown, IsIdle, IsLawful, IsUp};
@@ -38,7 +38,8 @@ fn change(
     if !engine.has_room() {
         return Ok(());
     }
-    engine.change_membership(new)
+    let _answer = engine.change_membership(new)?;
+    Ok(())
 }
 
 // The group is set up with this membership.
@@ -63,7 +64,26 @@ fn propose(command: &Bytes, engine: &mut Engine<ByteGroup>) -> Result<(), AllocE
     if !engine.has_room() {
         return Ok(());
     }
-    engine.propose(command.clone()?)
+    let _answer = engine.propose(command.clone()?)?;
+    Ok(())
+}
+
+// The leader says that it leads on.
+fn beat(engine: &mut Engine<ByteGroup>) -> Result<(), AllocError>
+    ensures { (x : Snapshot) (own at : ℕ) (s : GroupState) → MayTake own engine.old s (Call Heartbeat at)
+        → OnOk result (HasTaken x own engine.old engine.new s (Call Heartbeat at)) }
+{
+    let _answer = engine.send_heartbeat()?;
+    Ok(())
+}
+
+// The leader's request to the peer counts as failed.
+fn lose(peer: u64, engine: &mut Engine<ByteGroup>) -> Result<(), AllocError>
+    ensures { (x : Snapshot) (own at : ℕ) (s : GroupState) → MayTake own engine.old s (Call (Lost peer) at)
+        → OnOk result (HasTaken x own engine.old engine.new s (Call (Lost peer) at)) }
+{
+    let _answer = engine.handle_lost(peer)?;
+    Ok(())
 }
 
 // The engine does what the call asks, but for a snapshot, at this moment.
@@ -82,8 +102,8 @@ fn take_call(
         GroupCall::Elect => engine.elect(moment),
         GroupCall::Propose { command, .. } => propose(command, engine),
         GroupCall::ChangeMembership { change, .. } => self::change(alloc, change, engine),
-        GroupCall::Heartbeat => engine.send_heartbeat(),
-        GroupCall::Lost { peer } => engine.handle_lost(*peer),
+        GroupCall::Heartbeat => beat(engine),
+        GroupCall::Lost { peer } => lose(*peer, engine),
         GroupCall::TriggerSnapshot => Ok(()),
         GroupCall::TriggerPurge { place } => engine.trigger_purge_log(*place),
     }

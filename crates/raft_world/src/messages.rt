@@ -73,7 +73,8 @@ fn take_request(
         entries: copies_of(alloc, request.entries.as_slice())?,
         leader_commit: request.committed,
     };
-    engine.handle_append_entries(copy, caller, moment)
+    let _answer = engine.handle_append_entries(copy, caller, moment)?;
+    Ok(())
 }
 
 // A peer's answer to an append request or a snapshot is handed to the engine.

@@ -15,7 +15,6 @@ ghost use Rattle.raft_world.specs.Running.{HasHalted, HasRun};
 ghost use Rattle.raft_world.specs.declared.member.Ended.TheVariants.{Skipped};
 
 use crate::member::{ByteGroup, Ended, Member};
-use raft_commands::EngineConfig;
 use raft_engine::{Engine, KnownState};
 use raft_executor::stored_meta;
 use raft_messages::all_go_on;
@@ -60,8 +59,8 @@ fn opened_engine(
     let Some(known) = known_state(alloc, stored)? else {
         return Ok(None);
     };
-    let mut engine = Engine::new(alloc, known, EngineConfig::new(id));
-    engine.state.state.committed = stored.snapshot_last();
+    let mut engine = Engine::of_node(alloc, known, id);
+    engine.state.commit(stored.snapshot_last())?;
     Ok(Some(engine))
 }
 

@@ -29,6 +29,6 @@ pub returns : goal.returns
 returns c = λ x own at token s may.
     let known : membership_in_force s.stored ≡ Some (record { log_id = c.in-Some.field-0-0; membership = c.in-Some.old.now }) =
     sym (c.membership_in_force.ensures s.stored may.stands.knows) ∙ ap logged_or_none c.in-Some.is in
-    c.change_membership.ensures x own at token s _ c.args.change.now known
+    (c.in_ok-_answer.ensures.taken x own at token s _ c.args.change.now known
     (subst (λ o. MatchOption o (is_valid (after_change c.in-Some.old.now c.args.change.now) ≡ false) (λ new. new ≡ after_change c.in-Some.old.now c.args.change.now)) c.in-Some-2.is c.in_ok-new.ensures)
-    may
+    may).1

@@ -5,7 +5,7 @@ use Rattle.raft_world.proofs.messages.take_request.Goals as goal
 
 pub returns : goal.returns
 returns c = λ x own at s moment may.
-    c.handle_append_entries.ensures x own at s _ moment
+    (c.in_ok-_answer.ensures.taken x own at s _ moment
     (record { vote = refl; previous = refl; entries = c.in_ok-copies_of.ensures ∙ c.as_slice-2.ensures; committed = refl })
     (record { vote = refl; id = c.caller_id.ensures; previous = refl; last = c.last_sent.ensures ∙ ap (last_sent c.args.request.now.previous) c.as_slice.ensures })
-    may
+    may).1

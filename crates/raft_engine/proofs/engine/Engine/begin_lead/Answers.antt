@@ -24,5 +24,6 @@ returns g c = λ x own r granters step stands now.
     (lead_begun x own old _ r step c.in_ok-leader.leader (record c.vote_ref-vote.result.now { committed = true }) (ap is_leader stands) voted refl refl refl refl
     (c.save_vote.ensures.known s step.state.knows)
     (ap (λ (y : KnownState). y.state) c.save_vote.ensures.rest ∙ ap (λ t. record old.state.state { vote = record { value = record c.vote_ref-vote.result.now { committed = true }; utime = Some t } }) (sym now))
+    (ap (λ (y : KnownState). y.wish) c.save_vote.ensures.rest)
     (c.in_ok-push_command-2.ensures.ok ∙ ap (λ (o : Output _ _ _ _ _). record o { queue = o.queue ++ BecomeLeader ∷ [] }) c.in_ok-push_command.ensures.ok)
     leads) refl

@@ -1,5 +1,6 @@
 -- The membership is appended, and there is room for what a leader finishes.
-use Rattle.std.proofs.lemmas.Result.{on_ok_weaker}
+use Rattle.std.proofs.Common.{refl}
+use Rattle.raft_engine.proofs.ForwardLemmas.{must_lead, unled}
 use Rattle.raft_group_step.specs.declared.group_call.GroupCall.TheVariants.{ChangeMembership}
 use Rattle.raft_group_step.specs.GroupEvent.{Call}
 use Rattle.raft_group_step.specs.GroupStep.{begun}
@@ -9,11 +10,19 @@ use Rattle.raft_engine.proofs.EventLemmas.{event_taken, step_begun}
 use Rattle.raft_engine.proofs.LeaderFinish.{changes, finish_changed}
 use Rattle.raft_engine.proofs.engine.Engine.change_membership.Goals as goal
 
-pub returns : goal.returns
-returns g c = λ x own at token s m change in_force is may.
+pub returns-clause-taken : goal.returns-clause-taken
+returns-clause-taken g c = λ x own at token s m change in_force is may.
     let old = c.args.self.now in
     let event = Call (ChangeMembership change token) at in
     let lead = changes own at token s may.ready change m in_force may.accepted in
-    let step = c.in_ok-membership_part.ensures (given x old s) own (begun at s) lead.0 token m change (step_begun x own at old s may.stands may.empty) lead.1 in_force is in
-    on_ok_weaker c.finish.result (event_taken x own old c.finish.new.self s event may)
-    (c.finish.ensures (given x old s) own (membership_step change token (begun at s)) step (finish_changed own at token s may.ready change m in_force may.accepted))
+    let step = c.in_ok-membership_part.ensures (given x old s) own (begun at s) lead.0 token m change (step_begun x own at old s may.stands may.empty) lead.1 in_force is in (
+      refl,
+      event_taken x own old c.finish.new.self s event may
+          (c.in_ok-finish.ensures (given x old s) own (membership_step change token (begun at s)) step (finish_changed own at token s may.ready change m in_force may.accepted)),
+    )
+
+pub returns-in-Some-clause-taken : goal.returns-in-Some-clause-taken
+returns-in-Some-clause-taken g c = λ x own at token s m change in_force is may.
+    let old = c.args.self.now in
+    let lead = changes own at token s may.ready change m in_force may.accepted in
+    must_lead own old s lead.0 may.stands lead.1 (unled old.leader c.in-Some.ensures.leads)

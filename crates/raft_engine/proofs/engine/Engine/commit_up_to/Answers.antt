@@ -27,7 +27,7 @@ returns-clause-step g c = λ x own r step within.
     let commit = Commit c.next_sm_seq-seq.result c.args.self.now.state.state.committed c.in-Some-get_log_id.upto in
     on_ok_weaker c.push_command.result
     (λ h. rw c.in-Some.is
-    (more_committed x own c.args.self.now _ r step c.in-Some.place c.in-Some-get_log_id.upto commit refl refl refl refl refl past (within c.in-Some.place c.in-Some.is)
+    (more_committed x own c.args.self.now _ r step c.in-Some.place c.in-Some-get_log_id.upto commit refl refl refl refl (c.in_ok-commit.ensures.known r.state.stored step.state.knows) c.in_ok-commit.ensures.rest past (within c.in-Some.place c.in-Some.is)
     found
     (h ∙ ap (λ (o : Output _ _ _ _ _). record o { queue = o.queue ++ commit ∷ [] }) c.next_sm_seq-seq.ensures.rest) refl (ap (λ n. n ∷ []) c.next_sm_seq-seq.ensures.value) refl tt
     (subst (λ n. n < end_place r.state.stored) (sym (id_of_place r.state.stored c.in-Some.place c.in-Some-get_log_id.upto order.placed (above_first r.state order c.in-Some.place past) found)) (within c.in-Some.place c.in-Some.is)) refl refl (λ s upto. refl)))

@@ -26,7 +26,7 @@ returns-clause-built g c = λ own at before s x asked empty stands ready accepte
     record e { state = record e.state { state = record e.state.state { io_state = c.set_building_snapshot.new.self } } } in
     let lent_back = c.update_snapshot.new.self.engine.now in
     let known : Knows lent.state s.stored =
-    record { vote = old.vote; ids = old.ids; purged = old.purged; snapshot = old.snapshot; memberships = old.memberships; in_force = old.in_force } in
+    record { vote = old.vote; ids = old.ids; purged = old.purged; snapshot = old.snapshot; memberships = old.memberships; in_force = old.in_force; last_committed = old.last_committed; goal = old.goal } in
     let knows = c.in_ok-is_updated.ensures.known s.stored x (subst (λ e. Knows e.state s.stored) (sym c.snapshot_handler.ensures.value) known) meta c.if-not-is_updated.false in
     let kept : KeepsRest lent.state lent_back.state = subst (λ e. KeepsRest e.state lent_back.state) c.snapshot_handler.ensures.value c.in_ok-is_updated.ensures.rest.0 in
     let after = store (SetSnapshot x) (begun at s) in
@@ -36,7 +36,7 @@ returns-clause-built g c = λ own at before s x asked empty stands ready accepte
     let back : CountsOn (membership_in_force group) lent_back.leader c.count_by.new.leader = subst (λ (y : Engine _ _). CountsOn (membership_in_force group) y.leader c.count_by.new.leader) {x = c.self-1.given.0} {y = lent_back} (search rules) counted in
     let leader : CountsOn (membership_in_force group) e.leader c.count_by.new.leader = subst (λ (y : Engine _ _). CountsOn (membership_in_force group) y.leader c.count_by.new.leader) same back in
     let step = snapshot_stored s x built own at e (record lent { state = lent_back.state; leader = c.count_by.new.leader }) stands (given x before s) refl (ap (λ (y : Engine _ _). y.seen_greater_log) asked) numbers (ap (λ (y : Engine _ _). y.state.state.committed) asked) refl refl refl leader refl knows
-    (record { vote = kept.vote; committed = kept.committed; purge_upto = kept.purge_upto }) seq queue in
+    (record { vote = kept.vote; committed = kept.committed; wish = kept.wish }) seq queue in
     let can = builder_finishes s x built own at ready s.role (can_finish_when_ready own s (at ∷ []) ready (trigger_in_range own at s accepted)) in
     on_ok_weaker c.finish.result
     (build_taken s x built own at e c.finish.new.self stands (given x before s) accepted)

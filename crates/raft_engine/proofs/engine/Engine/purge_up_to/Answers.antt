@@ -3,7 +3,7 @@ use Rattle.std.proofs.Common.{◌≡◌, ◌<◌, ◌∙◌, sym, subst, refl, a
 use Rattle.std.proofs.lemmas.Result.{on_ok_weaker}
 use Rattle.raft_group_step.specs.StoredGroup.{RemoveUpTo, after_storing, end_place, membership_in_force}
 use Rattle.raft_engine.specs.Standing.{IsStepOf}
-use Rattle.raft_engine.proofs.PurgeLemmas.{is_of_entry, none_to_purge, purged_to}
+use Rattle.raft_engine.proofs.PurgeLemmas.{has_its_id, is_of_entry, none_to_purge, purged_to}
 use Rattle.raft_engine.proofs.engine.Engine.purge_up_to.Goals as goal
 
 pub returns : goal.returns
@@ -23,6 +23,13 @@ returns g c = λ x own r step fits may.
 pub returns-then-not-has_entry_at : goal.returns-then-not-has_entry_at
 returns-then-not-has_entry_at g c = λ x own r step fits may.
     subst (IsStepOf x own c.args.self.now) (sym (none_to_purge c.args.place r (sym (c.has_entry_at.ensures r.state.stored step.state.knows step.state.order.placed) ∙ c.if-not-has_entry_at.true))) step
+
+pub returns-in_default : goal.returns-in_default
+returns-in_default g c = λ x own r step fits may.
+    let s = r.state.stored in
+    let placed = step.state.order.placed in
+    let some = sym (c.has_entry_at.ensures s step.state.knows placed) ∙ c.if-not-has_entry_at.false in
+    has_its_id s c.args.place placed some (c.in_default.ensures s step.state.knows placed)
 
 pub returns-then-upto : goal.returns-then-upto
 returns-then-upto g c = λ x own r step fits may.

@@ -25,7 +25,7 @@ returns-clause-step g c = λ x own r step follows meta is_last past there.
     let command = c.with_seq-command.result in
     let covers : c.in_ok-copy.copy.last_log_id ≡ Some c.args.last = ap (λ (m : SnapshotMeta). m.last_log_id) (c.in_ok-copy.ensures.cases ∙ meta) ∙ ap Some (sym is_last) in
     on_ok_weaker c.push_command-2.result
-    (λ h. installed x own c.args.self.now _ r step refl refl refl refl follows c.args.last is_last past c.purge.new.self (StateMachine command) (PurgeLog c.args.last) purged keeps refl
+    (λ h. installed x own c.args.self.now _ r step refl refl refl refl follows c.args.last is_last past c.purge.new.self (StateMachine command) (PurgeLog c.args.last) (c.in_ok-commit.ensures.known _ purged) keeps c.in_ok-commit.ensures.rest
     (h ∙ ap (λ (o : Output _ _ _ _ _). record o { queue = o.queue ++ PurgeLog c.args.last ∷ [] }) c.in_ok-push_command.ensures.ok
     ∙ ap (λ (o : Output _ _ _ _ _). record o { queue = (o.queue ++ StateMachine command ∷ []) ++ PurgeLog c.args.last ∷ [] }) c.next_sm_seq-seq.ensures.rest)
     (rw (c.with_seq-command.ensures, c.install_full_snapshot.ensures) refl) refl

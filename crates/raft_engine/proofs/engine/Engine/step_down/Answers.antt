@@ -6,7 +6,10 @@ use Rattle.raft_engine.proofs.engine.Engine.step_down.Goals.{then-is_some+in_ok-
 
 pub returns : goal.returns
 returns g c = λ x own r step.
+    let upto = c.set_wish.new.self.state.purge_upto in
+    let knows = c.set_wish.ensures.known r.state.stored step.state.knows in
+    let wish = c.set_wish.ensures.rest in
     elim c.if-is_some.branch [
-      | then-is_some+in_ok-push_command w ↦ rw w.self-is (lead_ended x own c.args.self.now _ r step refl refl refl refl refl (sym c.is_some.ensures ∙ w.if-is_some.true) w.in_ok-push_command.ensures.ok)
-      | else-is_some w ↦ rw w.self-is (stepped_down x own c.args.self.now _ r step refl refl refl refl refl (sym c.is_some.ensures ∙ w.if-is_some.false) refl)
+      | then-is_some+in_ok-push_command w ↦ rw w.self-is (lead_ended x own c.args.self.now _ r step refl refl refl refl upto knows wish (sym c.is_some.ensures ∙ w.if-is_some.true) w.in_ok-push_command.ensures.ok)
+      | else-is_some w ↦ rw w.self-is (stepped_down x own c.args.self.now _ r step refl refl refl refl upto knows wish (sym c.is_some.ensures ∙ w.if-is_some.false) refl)
     ]

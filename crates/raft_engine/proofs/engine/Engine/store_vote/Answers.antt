@@ -10,5 +10,5 @@ returns g c = λ x own r step follows now.
     on_ok_weaker c.push_command.result
     (λ h. vote_stored x own c.args.self.now _ r step c.args.vote follows refl refl refl refl (c.save_vote.ensures.known r.state.stored step.state.knows)
     (ap (λ (y : KnownState). y.state) c.save_vote.ensures.rest ∙ ap (λ t. record c.args.self.now.state.state { vote = record { value = c.args.vote; utime = Some t } }) (sym now))
-    h)
+    (ap (λ (y : KnownState). y.wish) c.save_vote.ensures.rest) h)
     c.push_command.ensures.ok

@@ -1,11 +1,11 @@
 -- A candidate notes the grant. With a quorum it leads, since its log has room then.
-use Rattle.std.proofs.Common.{◌∙◌, rules, ap, sym, subst, refl}
+use Rattle.std.proofs.Common.{◌∙◌, ap, sym, subst, refl}
 use Rattle.std.specs.Prelude.{◌<◌}
 use Rattle.std.proofs.Math.Bool.{true≢false}
 use Rattle.std.proofs.lemmas.Result.{on_ok_weaker}
 use Rattle.raft_group_step.specs.GroupState.{Candidate, is_candidate}
 use Rattle.raft_group_step.specs.StepResult.{in_role}
-use Rattle.raft_group_step.specs.Lead.{lead_if, with_grant}
+use Rattle.raft_group_step.specs.Lead.{lead_if}
 use Rattle.raft_engine.specs.Standing.{IsStepOf}
 use Rattle.raft_engine.proofs.ElectionLemmas.{noted, counted_by, granted_so, known_end, now_granted}
 use Rattle.raft_engine.proofs.engine.Engine.with_grant.Goals as goal
@@ -19,9 +19,9 @@ returns-then-has_room g c = λ x own r step now room.
     let in_force = c.effective_membership.ensures r.state.stored step.state.knows in
     let counted = counted_by own c.grant_by.new.self r.state.stored (now_granted w.0 n) c.effective_membership.result.now c.is_granted_by-is_quorum.result w.2 in_force c.is_granted_by-is_quorum.ensures in
     let same = granted_so n w.0 r c.is_granted_by-is_quorum.result w.1 counted in
-    on_ok_weaker c.establish.result
-    (λ h. subst (λ e. IsStepOf x own e (with_grant n r.state.role r)) (search rules) (subst (IsStepOf x own c.establish.new.self.engine.now) (ap (λ b. lead_if b stood) (sym c.if-is_quorum.true) ∙ same) h))
-    (c.establish.ensures.step x own stood (now_granted w.0 n) (subst (λ e. IsStepOf x own e stood) (sym c.establish_handler.ensures.value) w.3) refl now)
+    on_ok_weaker c.begin_lead.result
+    (λ h. subst (IsStepOf x own c.begin_lead.new.self) (ap (λ b. lead_if b stood) (sym c.if-is_quorum.true) ∙ same) h)
+    (c.begin_lead.ensures x own stood (now_granted w.0 n) w.3 refl now)
 
 pub returns : goal.returns
 returns g c = λ x own r step now room.

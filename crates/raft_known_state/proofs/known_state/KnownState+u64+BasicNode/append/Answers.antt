@@ -1,33 +1,25 @@
-use Rattle.std.proofs.Common.{◌≡◌, ◌∙◌, ap, sym, subst, arith, length}
+-- The log ids and the memberships of the entries come behind the others.
+use Rattle.std.proofs.Common.{◌≡◌, ◌∙◌, ap, sym, subst, length, refl, arith}
+use Rattle.std.proofs.lemmas.Bool.Decides.{nat_tests}
 use Rattle.std.proofs.lemmas.Result.{on_ok_weaker}
 use Rattle.raft_known_state.specs.KnownState.{KnownState, Knows, memberships_in}
-use Rattle.raft_known_state.proofs.KnownStateLemmas.{grown_log, none_more, put, stays_forced}
+use Rattle.raft_known_state.proofs.KnownStateLemmas.{StateOf, both_ok, grown_log, none_added, noted_known, noted_still, put}
 use Rattle.raft_known_state.proofs.known_state.KnownState+u64+BasicNode.append.Goals as goal
 
 pub returns-clause-known : goal.returns-clause-known
-returns-clause-known c = λ s k p q. on_ok_weaker c.refresh_membership.result (λ h. put c.args.self.now _ c.refresh_membership.new.self s k h p c.args.entries.now q c.in_ok-extend_log_ids.ensures.ok c.in_ok-push_memberships.ensures) c.refresh_membership.ensures
+returns-clause-known c = λ s k p q.
+    let old = c.args.self.now in
+    let now : KnownState = record { state = c.extend_log_ids.new.self; memberships = c.push_memberships.new.memberships; wish = old.wish } in
+    let same = c.in_ok-extend_log_ids.ensures.ok in
+    let more = c.in_ok-push_memberships.ensures in
+    both_ok c.refresh_if.result
+    (c.refresh_if.ensures.noted
+    (λ h. noted_still old now (noted_known old s k) (ap (λ (y : StateOf). y.membership_state) same) (ap (λ (y : StateOf). y.snapshot_meta) same) (ap (λ (y : StateOf). y.committed) same)
+    (more ∙ none_added old.memberships.items (memberships_in c.args.entries.now)
+    (ap length (sym more) ∙ (let many : length now.memberships.items ≡ length old.memberships.items = grind (arith, nat_tests, h, c.len.ensures, c.len-before.ensures) in many)))))
+    c.refresh_if.ensures.rest
+    (λ noted both. put old now c.refresh_if.new.self s k noted both p c.args.entries.now q refl same more)
 
 pub returns-clause-grown : goal.returns-clause-grown
-returns-clause-grown c = λ s k p q. on_ok_weaker c.refresh_membership.result
-    (λ h. subst (Knows c.refresh_membership.new.self) (grown_log s c.args.entries.now)
-    (put c.args.self.now _ c.refresh_membership.new.self s k h p c.args.entries.now q c.in_ok-extend_log_ids.ensures.ok c.in_ok-push_memberships.ensures))
-    c.refresh_membership.ensures
-
-pub returns-then-len-count-clause-known : goal.returns-then-len-count-clause-known
-returns-then-len-count-clause-known c = λ s k p q.
-    let now : KnownState = record { state = c.extend_log_ids.new.self; memberships = c.push_memberships.new.memberships } in
-    let before = c.args.self.now.memberships.items in
-    let many : length now.memberships.items ≡ length before = omega (arith, c.len.ensures, c.len-count.ensures, c.if-len-count.true) in
-    let same : now.memberships.items ≡ before =
-    c.in_ok-push_memberships.ensures ∙ none_more before (memberships_in c.args.entries.now) (ap length (sym c.in_ok-push_memberships.ensures) ∙ many) in
-    put c.args.self.now now now s k (stays_forced c.args.self.now now s _ k c.in_ok-extend_log_ids.ensures.ok same) p c.args.entries.now q c.in_ok-extend_log_ids.ensures.ok c.in_ok-push_memberships.ensures
-
-pub returns-then-len-count-clause-grown : goal.returns-then-len-count-clause-grown
-returns-then-len-count-clause-grown c = λ s k p q.
-    let now : KnownState = record { state = c.extend_log_ids.new.self; memberships = c.push_memberships.new.memberships } in
-    let before = c.args.self.now.memberships.items in
-    let many : length now.memberships.items ≡ length before = omega (arith, c.len.ensures, c.len-count.ensures, c.if-len-count.true) in
-    let same : now.memberships.items ≡ before =
-    c.in_ok-push_memberships.ensures ∙ none_more before (memberships_in c.args.entries.now) (ap length (sym c.in_ok-push_memberships.ensures) ∙ many) in
-    subst (Knows now) (grown_log s c.args.entries.now)
-    (put c.args.self.now now now s k (stays_forced c.args.self.now now s _ k c.in_ok-extend_log_ids.ensures.ok same) p c.args.entries.now q c.in_ok-extend_log_ids.ensures.ok c.in_ok-push_memberships.ensures)
+returns-clause-grown c = λ s k p q.
+    on_ok_weaker c.refresh_if.result (subst (Knows c.refresh_if.new.self) (grown_log s c.args.entries.now)) (returns-clause-known c s k p q)

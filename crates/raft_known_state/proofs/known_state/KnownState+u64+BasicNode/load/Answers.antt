@@ -1,32 +1,13 @@
--- What is read is known: the purge point first, then the log and its memberships.
-use Rattle.std.proofs.Common.{◌++◌, ◌∙◌, ap, sym}
-use Rattle.raft_values.specs.LogId.{next_place}
-use Rattle.raft_state.specs.LogIdList.{purged, extended}
-use Rattle.raft_known_state.specs.KnownState.{purged_ids, entry_ids, memberships_in, meta_of}
-use Rattle.raft_known_state.proofs.KnownStateLemmas.{StateOf, HasRead, read}
+-- The head is known first, and then the log behind it.
+use Rattle.std.proofs.Common.{ap, subst, sym, refl, []}
+use Rattle.raft_group_step.specs.StoredGroup.{StoredGroup}
+use Rattle.raft_known_state.specs.KnownState.{Knows}
+use Rattle.raft_known_state.proofs.KnownStateLemmas.{placed_behind}
 use Rattle.raft_known_state.proofs.known_state.KnownState+u64+BasicNode.load.Goals as goal
-use Rattle.raft_known_state.proofs.known_state.KnownState+u64+BasicNode.load.Goals.{in-Some+in_ok-purge_log, in_default}
 
 pub returns-clause-known : goal.returns-clause-known
 returns-clause-known c = λ s vote gone snapshot log p.
-    let before : HasRead c.match-purged.state s.vote s.purged (meta_of s.snapshot) =
-    elim c.match-purged.branch [
-      | in-Some+in_ok-purge_log w ↦
-          (let all = w.state-is ∙ w.in_ok-purge_log.ensures.ok in record {
-            vote_is = ap (λ (y : StateOf). y.vote.value) all ∙ ap (λ t. t.value) c.without_utime-state.ensures ∙ sym vote;
-            ids = ap (λ (y : StateOf). y.log_ids) all ∙ ap (λ ids. purged ids w.in-Some.purged) c.default-state.ensures.log.0 ∙ ap purged_ids (sym (gone ∙ w.in-Some.is));
-            at = ap (λ (y : StateOf). y.purged_next) all ∙ ap next_place (sym (gone ∙ w.in-Some.is));
-            meta = ap (λ (y : StateOf). y.snapshot_meta) all ∙ snapshot;
-          })
-      | in_default w ↦
-          (record {
-            vote_is = ap (λ (y : StateOf). y.vote.value) w.state-is ∙ ap (λ t. t.value) c.without_utime-state.ensures ∙ sym vote;
-            ids = ap (λ (y : StateOf). y.log_ids) w.state-is ∙ c.default-state.ensures.log.0 ∙ ap purged_ids (sym (gone ∙ w.in_default.is));
-            at = ap (λ (y : StateOf). y.purged_next) w.state-is ∙ c.default-state.ensures.log.1 ∙ ap next_place (sym (gone ∙ w.in_default.is));
-            meta = ap (λ (y : StateOf). y.snapshot_meta) w.state-is ∙ snapshot;
-          })
-    ] in
-    read c.match-purged.state (record { state = c.extend_log_ids.new.self; memberships = c.push_memberships.new.memberships }) c.refresh_membership.new.self s before p
-    (c.in_ok-extend_log_ids.ensures.ok ∙ ap (λ es. record c.match-purged.state { log_ids = extended c.match-purged.state.log_ids (entry_ids es) }) (sym log))
-    (c.in_ok-push_memberships.ensures ∙ ap (λ ms. ms ++ memberships_in c.args.entries.now) c.new-memberships.ensures.items ∙ ap memberships_in (sym log))
-    c.in_ok-refresh_membership.ensures
+    let head : StoredGroup = record s { log = [] } in
+    let known = c.in_ok-known.ensures.known head vote gone snapshot refl in
+    subst (Knows c.append.new.self) (ap (λ es. record s { log = es }) (sym log))
+    (c.in_ok-append.ensures.grown head known tt (placed_behind s c.args.entries.now log p))

@@ -1,0 +1,54 @@
+//! Lets a leader take so many commands that the instructions and allocations of one can be counted.
+//!
+//! Each line of the input is a task such as `3 0 100 1000`: how many voters the group has, how many
+//! learners, how many entries its log before, and how many commands the leader takes, one after the
+//! other, each with all messages up to the last answer. Its answer is how many entries are committed,
+//! and how many messages were sent.
+#![tactic(auto)]
+
+mod cluster;
+mod node;
+mod setup;
+
+use crate::cluster::Cluster;
+use crate::setup::Task;
+use std::alloc::{AllocError, Global};
+use std::io;
+
+fn parse(line: &str) -> Option<Task> {
+    let mut words = line.split_whitespace();
+    Some(Task {
+        voters: words.next()?.parse().ok()?,
+        learners: words.next()?.parse().ok()?,
+        entries: words.next()?.parse().ok()?,
+        commands: words.next()?.parse().ok()?,
+    })
+}
+
+fn run(alloc: Global, task: Task) -> Result<Cluster, AllocError> {
+    let mut cluster = Cluster::new(alloc, &task)?;
+    cluster.elect(alloc)?;
+    for _ in 0..task.commands {
+        cluster.propose(alloc)?;
+    }
+    Ok(cluster)
+}
+
+fn main(rt: HostRuntime) -> io::Result<()> {
+    for line in rt.lines(rt.alloc()) {
+        let line = line?;
+        let Some(task) = parse(line.as_str()) else {
+            println!(rt; "{line}: no task")?;
+            continue;
+        };
+        match run(rt.alloc(), task) {
+            Ok(cluster) => {
+                let committed = cluster.count_committed();
+                let sent = cluster.sent;
+                println!(rt; "{line}: committed={committed} sent={sent}")?
+            }
+            Err(error) => println!(rt; "{line}: {error}")?,
+        }
+    }
+    Ok(())
+}

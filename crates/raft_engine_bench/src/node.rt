@@ -1,0 +1,146 @@
+//! A node of the group.
+
+use crate::setup::{Task, engine, stored};
+use raft_commands::RaftTypeConfig;
+use raft_engine::{AppendEntriesRequest, Caller, Engine};
+use raft_executor::{GroupMessage, Sender, caller_and_answer, caller_id, messages, store_first};
+use raft_group_storage::ONLY_GROUP;
+use raft_messages::{AppendFields, MessageBody, last_sent};
+use raft_state::{BasicNode, Bytes};
+use raft_stored_group::StoredGroup;
+use std::alloc::{AllocError, Global};
+
+/// A group whose nodes are numbers, and whose commands are bytes.
+#[derive(Clone, Copy, Debug)]
+pub struct Numbered;
+
+impl RaftTypeConfig for Numbered {
+    type D = Bytes;
+
+    type R = Bytes;
+
+    type NodeId = u64;
+
+    type Node = BasicNode;
+}
+
+/// A node of the group: its engine, and what it has stored.
+#[derive(Debug, Drop)]
+pub struct GroupNode {
+    id: u64,
+    stored: StoredGroup,
+    engine: Option<Engine<Numbered>>,
+}
+
+// A leader's request.
+fn take_request(
+    engine: &mut Engine<Numbered>,
+    peer: u64,
+    request: AppendFields,
+) -> Result<(), AllocError> {
+    let caller = Caller {
+        peer,
+        vote: request.vote,
+        id: caller_id(&request.id),
+        previous: request.previous,
+        last: last_sent(request.previous, request.entries.as_slice()),
+    };
+    let req = AppendEntriesRequest {
+        vote: request.vote,
+        prev_log_id: request.previous,
+        entries: request.entries,
+        leader_commit: request.committed,
+    };
+    // (a leader's entries follow one another)
+    let _answer = engine.handle_append_entries(req, caller, 5)?;
+    Ok(())
+}
+
+// A message is handed to the engine.
+fn take(engine: &mut Engine<Numbered>, message: GroupMessage) -> Result<(), AllocError> {
+    let peer = message.sender;
+    match message.body {
+        MessageBody::VoteRequest(asked) => {
+            let caller = Caller::new(peer, asked.vote);
+            engine.handle_vote_req(&asked, caller, 5)
+        }
+        MessageBody::VoteReply(answer) => engine.handle_vote_resp(peer, &answer, 5),
+        MessageBody::AppendRequest(request) => take_request(engine, peer, request),
+        MessageBody::AppendReply(reply) => {
+            let (caller, answer) = caller_and_answer(peer, &reply);
+            engine.handle_replication_resp(peer, &caller, &answer, 5)
+        }
+        MessageBody::SnapshotReply(_) | MessageBody::SnapshotRequest { .. } => Ok(()),
+    }
+}
+
+impl GroupNode {
+    /// The node with what each one has stored.
+    pub fn new(alloc: Global, id: u64, task: &Task) -> Result<GroupNode, AllocError> {
+        let stored = stored(alloc, task)?;
+        let engine = engine(alloc, id, &stored)?;
+        Ok(GroupNode { id, stored, engine })
+    }
+
+    // The queue is stored, and what it sends is handed out.
+    fn end(&mut self, alloc: Global) -> Result<Vec<GroupMessage>, AllocError> {
+        let Some(engine) = &mut self.engine else {
+            return Ok(Vec::new(alloc));
+        };
+        store_first(&engine.output, None, None, &mut self.stored, ONLY_GROUP)?;
+        let sender = Sender {
+            own: self.id,
+            vote: self.stored.vote(),
+            committed: engine.state.state.committed,
+        };
+        let sent = messages(alloc, &sender, &engine.output, &mut self.stored, ONLY_GROUP)?;
+        engine.output.clear();
+        Ok(sent)
+    }
+
+    /// The node stands for election. Its questions are handed out.
+    pub fn elect(&mut self, alloc: Global) -> Result<Vec<GroupMessage>, AllocError> {
+        if let Some(engine) = &mut self.engine {
+            engine.elect(5)?;
+        }
+        self.end(alloc)
+    }
+
+    /// The node takes the command. What it sends is handed out.
+    pub fn propose(
+        &mut self,
+        alloc: Global,
+        command: Bytes,
+    ) -> Result<Vec<GroupMessage>, AllocError> {
+        if let Some(engine) = &mut self.engine {
+            if engine.has_room() {
+                // (a node that doesn't lead takes nothing)
+                let _answer = engine.propose(command)?;
+            }
+        }
+        self.end(alloc)
+    }
+
+    /// The message comes to the node. What it sends is handed out.
+    pub fn receive(
+        &mut self,
+        alloc: Global,
+        message: GroupMessage,
+    ) -> Result<Vec<GroupMessage>, AllocError> {
+        if let Some(engine) = &mut self.engine {
+            take(engine, message)?;
+        }
+        self.end(alloc)
+    }
+
+    /// How many entries are committed, as far as the node knows.
+    pub fn count_committed(&self) -> u64 {
+        match &self.engine {
+            None => 0,
+            Some(engine) => match engine.state.state.committed {
+                None => 0,
+                Some(committed) => committed.index.saturating_add(1),
+            },
+        }
+    }
+}
