@@ -15,7 +15,7 @@ use Rattle.raft_wire.proofs.Fitting.{Reads}
 use Rattle.raft_wire.proofs.Values.{entry_alone_reads}
 use Rattle.raft_wire.proofs.Lengths.{rest_short}
 use Rattle.raft_wire.proofs.Streams.{not_there, same_length, has_length, front_fault, front_frame}
-use Rattle.raft_wire.proofs.Fronts.{fits_within, front_again, front_found, same_judged, length_found, not_refused, refused_by, found_as}
+use Rattle.raft_wire.proofs.Fronts.{fits_within, front_again, front_found, same_judged, length_found, not_refused}
 
 pub found_is_spelled : FoundIsSpelled
 found_is_spelled = λ stream frame taken bytes h. front_found stream frame taken bytes h

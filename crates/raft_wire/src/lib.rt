@@ -10,6 +10,7 @@ mod laws;
 mod memberships;
 mod reading;
 mod snapshots;
+mod stored;
 mod writing;
 
 pub use entries::{read_entry, write_entry};
@@ -23,4 +24,5 @@ pub use laws::{
 };
 pub use raft_group_step::SnapshotMeta;
 pub use snapshots::{read_snapshot_body, write_snapshot_body};
+pub use stored::{read_log_id, read_place, read_vote, write_log_id, write_place, write_vote};
 pub use writing::write_frame;

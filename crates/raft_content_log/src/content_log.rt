@@ -1,0 +1,68 @@
+//! What is asked of a log.
+ghost use Rattle.std.specs.Prelude.{◌≡◌, ℕ, List, OnOk, OnErr, IfOk, option_map};
+ghost use Rattle.raft_content_log.specs.Leaving.{AgreesElsewhere, AreEntries, IsWritten};
+ghost use Rattle.raft_content_log.specs.Leaving.{LeavesElsewhere, LeavesNoMore, MayBeWritten};
+ghost use Rattle.raft_log_memtables.specs.Content.{Content, after_batch};
+ghost use Rattle.raft_log_memtables.specs.Taken.{TakesEach};
+ghost use Rattle.raft_log_records.specs.Batch.{nothing_logged, payloads};
+
+use raft_log_records::LogBatch;
+use std::alloc::AllocError;
+
+/// A log of batches (own). It is seen as the content that its calls answer, and as those that a
+/// crash may leave. Once a call has failed, the next ones are promised nothing but to leave alone
+/// the groups that they don't name.
+pub trait ContentLog: Drop {
+    /// Why a call fails. Want of memory is one of the reasons.
+    type Fault: From<AllocError> + Drop;
+
+    /// No call has failed since the log was opened.
+    ghost is_sound: { Self → Type 0 };
+
+    /// What its calls answer.
+    ghost answers: { Self → Content (List ℕ) };
+
+    /// A crash may leave what reads as this content.
+    ghost leaves: { Self → Content (List ℕ) → Type 0 };
+
+    /// Writes a batch, whole or not at all, and syncs it (own). It may be refused where its entries
+    /// don't begin inside their group's list or at its end; nothing is promised of such a batch but
+    /// that it leaves other groups alone. After an `Ok` the batch is empty.
+    fn write(&mut self, batch: &mut LogBatch) -> Result<(), Self::Fault>
+        ensures ok { is_sound self.old → TakesEach batch.old.items (answers self.old)
+            → OnOk result (IsWritten (answers self.new) (leaves self.new) (after_batch batch.old.items (answers self.old))) }
+        ensures err { is_sound self.old → TakesEach batch.old.items (answers self.old)
+            → OnErr result (MayBeWritten (is_sound self.new) (answers self.new) (leaves self.new) (answers self.old) (after_batch batch.old.items (answers self.old))) }
+        ensures sound { is_sound self.old → OnOk result (is_sound self.new) }
+        ensures emptied { OnOk result (batch.new ≡ nothing_logged) }
+        // The two others hold of each call, whatever it answers and whether one had failed before.
+        ensures others { LeavesElsewhere batch.old.items (leaves self.old) (leaves self.new) }
+        ensures others_answered { is_sound self.new → is_sound self.old × AgreesElsewhere batch.old.items (answers self.new) (answers self.old) };
+
+    /// The value of a key of a group, if it is there (own).
+    fn get(&mut self, group: u64, key: &[u8]) -> Result<Option<Vec<u8>>, Self::Fault>
+        ensures value { is_sound self.old → IfOk result (λ found. option_map (λ v. v.items) found ≡ (answers self.old group).value key.now) }
+        ensures sound { is_sound self.old → OnOk result (is_sound self.new) }
+        ensures kept { is_sound self.new → is_sound self.old × (answers self.new ≡ answers self.old) }
+        ensures left { LeavesNoMore (leaves self.old) (leaves self.new) };
+
+    /// A group's entries from an index on up to another one, which is left out (own). It fails where
+    /// one of them isn't there.
+    fn fetch_entries_to(
+        &mut self,
+        group: u64,
+        begin: u64,
+        end: u64,
+    ) -> Result<Vec<Vec<u8>>, Self::Fault>
+        ensures entries { is_sound self.old → IfOk result (λ found. AreEntries (answers self.old group).entry begin end (payloads found.items)) }
+        ensures sound { is_sound self.old → OnOk result (is_sound self.new) }
+        ensures kept { is_sound self.new → is_sound self.old × (answers self.new ≡ answers self.old) }
+        ensures left { LeavesNoMore (leaves self.old) (leaves self.new) };
+
+    /// Whether the log has something of a group (own).
+    fn is_there(&mut self, group: u64) -> Result<bool, Self::Fault>
+        ensures there { is_sound self.old → IfOk result (λ there. there ≡ (answers self.old group).there) }
+        ensures sound { is_sound self.old → OnOk result (is_sound self.new) }
+        ensures kept { is_sound self.new → is_sound self.old × (answers self.new ≡ answers self.old) }
+        ensures left { LeavesNoMore (leaves self.old) (leaves self.new) };
+}

@@ -1,0 +1,9 @@
+//! What a store of groups asks of a log, over its content, and a log that keeps this in memory.
+#![tactic(auto)]
+
+pub mod content_log;
+pub mod plain_log;
+pub mod uses;
+
+pub use content_log::ContentLog;
+pub use plain_log::{PlainFault, PlainLog};

@@ -1,0 +1,5 @@
+pub mod Carrying
+pub mod Logs
+pub mod Reach
+pub mod Spelled
+pub mod Storing

@@ -1,0 +1,127 @@
+-- One batch of a group's changes: what is shown after it, and of the other groups.
+use Rattle.std.proofs.Common.{◌≡◌, ◌≢◌, inl, inr, ℕ, Bool, cond, List, [], ◌∷◌, refl, ap, sym, subst, ◌∙◌, eq-eqb}
+use Rattle.std.specs.Prelude.{Result, Ok, Err, OnErr, OnOk}
+use Rattle.raft_group_step.specs.StoredGroup.{StoredGroup}
+use Rattle.raft_log_records.specs.Item.{Change, Item}
+use Rattle.raft_log_memtables.specs.Content.{Content, GroupContent, after_batch, after_change, after_item}
+use Rattle.raft_log_memtables.specs.Taken.{TakesEach}
+use Rattle.raft_content_log.specs.Leaving.{AgreesElsewhere, IsEither, IsUnnamed, IsWritten, Leaves, LeavesElsewhere, LeavesNoMore, MayBeWritten}
+use Rattle.raft_group_storage.specs.Keeping.{IsOneOf}
+use Rattle.raft_node.specs.Machine.{MachineRules}
+use Rattle.raft_store.specs.Batches.{Carries, ShowsIn, TakesChanges, after_changes, of_group}
+use Rattle.raft_store.specs.Reading.{Holds, HoldsOne}
+
+-- ---- the items of one group
+
+item_at : (group : ℕ) (change : Change (List ℕ)) (content : Content (List ℕ)) → after_item (record { group = group; change = change }) content group ≡ after_change change (content group)
+item_at group change content = ap (λ (b : Bool). cond b (after_change change (content group)) (content group)) (eq-eqb group group refl)
+
+changes_at : (group : ℕ) (changes : List (Change (List ℕ))) (content : Content (List ℕ)) → after_batch (of_group group changes) content group ≡ after_changes changes (content group)
+changes_at group [] content = refl
+changes_at group (change ∷ changes) content =
+    changes_at group changes (after_item (record { group = group; change = change }) content) ∙ ap (after_changes changes) (item_at group change content)
+
+takes_each : (group : ℕ) (changes : List (Change (List ℕ))) (content : Content (List ℕ)) → TakesChanges changes (content group) → TakesEach (of_group group changes) content
+takes_each group [] content takes = tt
+takes_each group (change ∷ changes) content takes =
+    (takes.0, takes_each group changes (after_item (record { group = group; change = change }) content) (subst (TakesChanges changes) (sym (item_at group change content)) takes.1))
+
+unnamed : (group other : ℕ) (changes : List (Change (List ℕ))) → other ≢ group → IsUnnamed (of_group group changes) other
+unnamed group other [] ne = tt
+unnamed group other (change ∷ changes) ne = (λ same. ne (sym same), unnamed group other changes ne)
+
+-- ---- parts
+
+pub only_one : (rules : MachineRules) (g : GroupContent (List ℕ)) (s : StoredGroup) → HoldsOne rules g (s ∷ []) → Holds rules g s
+only_one rules g s (inl h) = h
+only_one rules g s (inr none) = absurd none
+
+one_of_either : (rules : MachineRules) (before after content : Content (List ℕ)) (group : ℕ) (s t : StoredGroup) → Holds rules (before group) s → Holds rules (after group) t → IsEither before after content → HoldsOne rules (content group) (s ∷ t ∷ [])
+one_of_either rules before after content group s t old new (inl same) = inl (subst (λ (c : Content (List ℕ)). Holds rules (c group) s) (sym same) old)
+one_of_either rules before after content group s t old new (inr same) = inr (inl (subst (λ (c : Content (List ℕ)). Holds rules (c group) t) (sym same) new))
+
+-- ---- a write
+
+module _ (rules : MachineRules) (items : List (Item (List ℕ))) (group : ℕ) (changes : List (Change (List ℕ))) (are : items ≡ of_group group changes) (old : Content (List ℕ)) where
+  module _ (s t : StoredGroup) (carries : Carries rules changes s t) (held : Holds rules (old group) s) where
+    pub taken : TakesEach items old
+    taken = subst (λ (l : List (Item (List ℕ))). TakesEach l old) (sym are) (takes_each group changes old (carries.takes (old group) held))
+
+    held_after : Holds rules (after_batch items old group) t
+    held_after = subst (λ (g : GroupContent (List ℕ)). Holds rules g t) (sym (ap (λ (l : List (Item (List ℕ))). after_batch l old group) are ∙ changes_at group changes old)) (carries.holds (old group) held)
+
+    pub shown_after : (sound : Type 0) (answered : Content (List ℕ)) (leaves : Leaves) → IsWritten answered leaves (after_batch items old) → ShowsIn rules sound answered leaves group (t ∷ [])
+    shown_after sound answered leaves written = record {
+      answered = λ is. inl (subst (λ (c : Content (List ℕ)). Holds rules (c group) t) (sym written.answers) held_after);
+      left = λ content is. inl (subst (λ (c : Content (List ℕ)). Holds rules (c group) t) (sym (written.leaves_only content is)) held_after);
+    }
+
+    pub shown_either : (sound : Type 0) (answered : Content (List ℕ)) (leaves : Leaves) → MayBeWritten sound answered leaves old (after_batch items old) → ShowsIn rules sound answered leaves group (s ∷ t ∷ [])
+    shown_either sound answered leaves written = record {
+      answered = λ is. one_of_either rules old (after_batch items old) answered group s t held held_after (written.answers is);
+      left = λ content is. one_of_either rules old (after_batch items old) content group s t held held_after (written.leaves_either content is);
+    }
+
+-- the others
+pub others_shown : (rules : MachineRules) (items : List (Item (List ℕ))) (group : ℕ) (changes : List (Change (List ℕ))) (sound_old sound_new : Type 0) (old new : Content (List ℕ)) (leaves_old leaves_new : Leaves)
+    → items ≡ of_group group changes → (sound_new → sound_old × AgreesElsewhere items new old) → LeavesElsewhere items leaves_old leaves_new
+    → (other : ℕ) (parts : List StoredGroup) → other ≢ group → ShowsIn rules sound_old old leaves_old other parts → ShowsIn rules sound_new new leaves_new other parts
+others_shown rules items group changes sound_old sound_new old new leaves_old leaves_new are answered left other parts ne shown =
+    let un : IsUnnamed items other = subst (λ (l : List (Item (List ℕ))). IsUnnamed l other) (sym are) (unnamed group other changes ne) in
+    record {
+      answered = λ is. subst (λ (g : GroupContent (List ℕ)). HoldsOne rules g parts) (sym ((answered is).1 other un)) (shown.answered (answered is).0);
+      left = λ content is.
+          let before = left content is in
+          subst (λ (g : GroupContent (List ℕ)). HoldsOne rules g parts) (sym (before.2 other un)) (shown.left before.0 before.1);
+    }
+
+-- ---- a read
+
+pub still_shown : (rules : MachineRules) (sound_old sound_new : Type 0) (old new : Content (List ℕ)) (leaves_old leaves_new : Leaves)
+    → (sound_new → sound_old × (new ≡ old)) → LeavesNoMore leaves_old leaves_new
+    → (group : ℕ) (parts : List StoredGroup) → ShowsIn rules sound_old old leaves_old group parts → ShowsIn rules sound_new new leaves_new group parts
+still_shown rules sound_old sound_new old new leaves_old leaves_new kept less group parts shown = record {
+  answered = λ is. subst (λ (c : Content (List ℕ)). HoldsOne rules (c group) parts) (sym (kept is).1) (shown.answered (kept is).0);
+  left = λ content is. shown.left content (less content is);
+}
+
+-- ---- more parts
+
+holds_among : (rules : MachineRules) (g : GroupContent (List ℕ)) (s : StoredGroup) (more : List StoredGroup) → IsOneOf more s → Holds rules g s → HoldsOne rules g more
+holds_among rules g s [] none h = absurd none
+holds_among rules g s (x ∷ xs) (inl same) h = inl (subst (Holds rules g) same h)
+holds_among rules g s (x ∷ xs) (inr is) h = inr (holds_among rules g s xs is h)
+
+one_of_more : (rules : MachineRules) (g : GroupContent (List ℕ)) (parts more : List StoredGroup) → ((s : StoredGroup) → IsOneOf parts s → IsOneOf more s) → HoldsOne rules g parts → HoldsOne rules g more
+one_of_more rules g [] more wider none = absurd none
+one_of_more rules g (s ∷ ss) more wider (inl h) = holds_among rules g s more (wider s (inl refl)) h
+one_of_more rules g (s ∷ ss) more wider (inr h) = one_of_more rules g ss more (λ x is. wider x (inr is)) h
+
+pub shows_more : (rules : MachineRules) (sound : Type 0) (answered : Content (List ℕ)) (leaves : Leaves) (group : ℕ) (parts more : List StoredGroup)
+    → ((s : StoredGroup) → IsOneOf parts s → IsOneOf more s) → ShowsIn rules sound answered leaves group parts → ShowsIn rules sound answered leaves group more
+shows_more rules sound answered leaves group parts more wider shown = record {
+  answered = λ is. one_of_more rules (answered group) parts more wider (shown.answered is);
+  left = λ content is. one_of_more rules (content group) parts more wider (shown.left content is);
+}
+
+-- the part alone is one of two
+pub shows_either : (rules : MachineRules) (sound : Type 0) (answered : Content (List ℕ)) (leaves : Leaves) (group : ℕ) (s t : StoredGroup)
+    → ShowsIn rules sound answered leaves group (s ∷ []) → ShowsIn rules sound answered leaves group (s ∷ t ∷ [])
+shows_either rules sound answered leaves group s t shown = record {
+  answered = λ is. inl (only_one rules (answered group) s (shown.answered is));
+  left = λ content is. inl (only_one rules (content group) s (shown.left content is));
+}
+
+-- ---- what holds of each part, at an exit
+
+pub on_ok_all : {T E S : Type 0} (P Q : S → Type 0) (r : Result T E) → ((s : S) → P s → OnOk r (Q s)) → OnOk r ((s : S) → P s → Q s)
+on_ok_all P Q (Ok v) so = so
+on_ok_all P Q (Err e) so = tt
+
+pub on_err_all : {T E S : Type 0} (P Q : S → Type 0) (r : Result T E) → ((s : S) → P s → OnErr r (Q s)) → OnErr r ((s : S) → P s → Q s)
+on_err_all P Q (Ok v) so = tt
+on_err_all P Q (Err e) so = so
+
+pub on_err_any : {T E : Type 0} (P : Type 0) (r : Result T E) → P → OnErr r P
+on_err_any P (Ok v) p = tt
+on_err_any P (Err e) p = p

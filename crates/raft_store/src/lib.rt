@@ -1,0 +1,10 @@
+//! A node's groups in a log.
+#![tactic(auto)]
+
+mod batches;
+mod fault;
+mod places;
+mod store;
+
+pub use fault::{StoreFault, StoreRefusal};
+pub use store::Store;

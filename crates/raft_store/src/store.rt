@@ -1,0 +1,218 @@
+//! A node's groups in a log.
+ghost use Rattle.std.specs.Prelude.{◌≡◌, ◌+◌, ◌-◌, ◌<◌, ◌^◌, ℕ, List, [], ◌∷◌, IfOk, OnOk, OnErr, min, max, option_map};
+ghost use Rattle.raft_group_step.specs.StoredGroup.{Snapshot, StoredGroup, end_place, first_place};
+ghost use Rattle.raft_group_step.specs.StoredGroup.{CutFrom, MakeGroup, PutEntries, RemoveUpTo, SetSnapshot, SetVote, StartAfter};
+ghost use Rattle.raft_group_storage.specs.Keeping.{KeepsAll, KeepsOthers, MayStore, Stores};
+ghost use Rattle.raft_log_records.specs.Item.{Change};
+ghost use Rattle.raft_store.specs.Batches.{Carries, ShowsBy, of_group};
+ghost use Rattle.raft_store.specs.Reading.{StandsFor};
+
+use crate::batches::{
+    end_batch, entry_batch, make_batch, removal_batch, snapshot_batch, start_batch, vote_batch,
+};
+use crate::fault::StoreFault;
+use crate::places::{Bounds, end_of, first_of};
+use raft_content_log::ContentLog;
+use raft_log_records::LogBatch;
+use raft_messages::{GroupEntry, SnapshotBytes};
+use raft_node::StateMachine;
+use raft_state::{LogId, Vote};
+use std::alloc::Global;
+use std::marker::PhantomData;
+
+/// A node's groups in a log (own). Each call that stores writes one synced batch, of one group.
+/// Snapshots are those of the machine.
+#[derive(Drop)]
+pub struct Store<M: StateMachine, L: ContentLog> {
+    alloc: Global,
+    log: L,
+    of: PhantomData<M>,
+}
+
+impl<M: StateMachine, L: ContentLog> Store<M, L> {
+    /// The groups that the log has. Takes no memory (own).
+    pub fn new(alloc: Global, log: L) -> Store<M, L>
+        ensures { result.log ≡ log }
+    {
+        Store {
+            alloc,
+            log,
+            of: PhantomData,
+        }
+    }
+
+    // Writes a batch of one group's changes.
+    fn store(&mut self, batch: &mut LogBatch) -> Result<(), StoreFault<L::Fault>>
+        ensures well { L.is_sound self.old.log → OnOk result (L.is_sound self.new.log) }
+        ensures ok { (group : ℕ) (changes : List (Change (List ℕ))) (s t : StoredGroup) → batch.old.items ≡ of_group group changes → Carries M.rules changes s t
+            → L.is_sound self.old.log → ShowsBy M.rules L.is_sound L.answers L.leaves self.old.log group (s ∷ [])
+            → OnOk result (ShowsBy M.rules L.is_sound L.answers L.leaves self.new.log group (t ∷ [])) }
+        ensures err { (group : ℕ) (changes : List (Change (List ℕ))) (s t : StoredGroup) → batch.old.items ≡ of_group group changes → Carries M.rules changes s t
+            → L.is_sound self.old.log → ShowsBy M.rules L.is_sound L.answers L.leaves self.old.log group (s ∷ [])
+            → OnErr result (ShowsBy M.rules L.is_sound L.answers L.leaves self.new.log group (s ∷ t ∷ [])) }
+        ensures others { (group : ℕ) (changes : List (Change (List ℕ))) → batch.old.items ≡ of_group group changes
+            → KeepsOthers (ShowsBy M.rules L.is_sound L.answers L.leaves self.old.log) (ShowsBy M.rules L.is_sound L.answers L.leaves self.new.log) group }
+    {
+        match self.log.write(batch) {
+            Ok(()) => Ok(()),
+            Err(fault) => Err(StoreFault::Log(fault)),
+        }
+    }
+
+    /// The node has the group from now on (own).
+    pub fn make_group(&mut self, group: u64) -> Result<(), StoreFault<L::Fault>>
+        ensures well { L.is_sound self.old.log → OnOk result (L.is_sound self.new.log) }
+        ensures ok { L.is_sound self.old.log
+            → OnOk result (Stores (ShowsBy M.rules L.is_sound L.answers L.leaves self.old.log)
+            (ShowsBy M.rules L.is_sound L.answers L.leaves self.new.log) group MakeGroup) }
+        ensures err { L.is_sound self.old.log
+            → OnErr result (MayStore (ShowsBy M.rules L.is_sound L.answers L.leaves self.old.log)
+            (ShowsBy M.rules L.is_sound L.answers L.leaves self.new.log) group MakeGroup) }
+        ensures others { KeepsOthers (ShowsBy M.rules L.is_sound L.answers L.leaves self.old.log)
+            (ShowsBy M.rules L.is_sound L.answers L.leaves self.new.log) group }
+    {
+        let mut batch = make_batch(self.alloc, group)?;
+        self.store(&mut batch)
+    }
+
+    /// The vote takes the place of the one before (own).
+    pub fn set_vote(&mut self, group: u64, vote: Vote<u64>) -> Result<(), StoreFault<L::Fault>>
+        ensures well { L.is_sound self.old.log → OnOk result (L.is_sound self.new.log) }
+        ensures ok { L.is_sound self.old.log
+            → OnOk result (Stores (ShowsBy M.rules L.is_sound L.answers L.leaves self.old.log)
+            (ShowsBy M.rules L.is_sound L.answers L.leaves self.new.log) group (SetVote vote)) }
+        ensures err { L.is_sound self.old.log
+            → OnErr result (MayStore (ShowsBy M.rules L.is_sound L.answers L.leaves self.old.log)
+            (ShowsBy M.rules L.is_sound L.answers L.leaves self.new.log) group (SetVote vote)) }
+        ensures others { KeepsOthers (ShowsBy M.rules L.is_sound L.answers L.leaves self.old.log)
+            (ShowsBy M.rules L.is_sound L.answers L.leaves self.new.log) group }
+    {
+        let mut batch = vote_batch(self.alloc, group, vote)?;
+        self.store(&mut batch)
+    }
+
+    /// A copy of the snapshot takes the place of the one before (own).
+    pub fn set_snapshot(
+        &mut self,
+        group: u64,
+        snapshot: &SnapshotBytes,
+    ) -> Result<(), StoreFault<L::Fault>>
+        ensures well { L.is_sound self.old.log → OnOk result (L.is_sound self.new.log) }
+        ensures ok { (x : Snapshot) → L.is_sound self.old.log → StandsFor M.rules snapshot.now x
+            → OnOk result (Stores (ShowsBy M.rules L.is_sound L.answers L.leaves self.old.log)
+            (ShowsBy M.rules L.is_sound L.answers L.leaves self.new.log) group (SetSnapshot x)) }
+        ensures err { (x : Snapshot) → L.is_sound self.old.log → StandsFor M.rules snapshot.now x
+            → OnErr result (MayStore (ShowsBy M.rules L.is_sound L.answers L.leaves self.old.log)
+            (ShowsBy M.rules L.is_sound L.answers L.leaves self.new.log) group (SetSnapshot x)) }
+        ensures others { KeepsOthers (ShowsBy M.rules L.is_sound L.answers L.leaves self.old.log)
+            (ShowsBy M.rules L.is_sound L.answers L.leaves self.new.log) group }
+    {
+        let mut batch = snapshot_batch(self.alloc, group, snapshot)?;
+        self.store(&mut batch)
+    }
+
+    // The value of a key of the group.
+    fn get(&mut self, group: u64, key: &[u8]) -> Result<Option<Vec<u8>>, StoreFault<L::Fault>>
+        ensures value { L.is_sound self.old.log → IfOk result (λ found. option_map (λ v. v.items) found ≡ (L.answers self.old.log group).value key.now) }
+        ensures well { L.is_sound self.old.log → OnOk result (L.is_sound self.new.log) }
+        ensures steady { L.is_sound self.new.log → L.is_sound self.old.log × (L.answers self.new.log ≡ L.answers self.old.log) }
+        ensures kept { KeepsAll (ShowsBy M.rules L.is_sound L.answers L.leaves self.old.log) (ShowsBy M.rules L.is_sound L.answers L.leaves self.new.log) }
+    {
+        match self.log.get(group, key) {
+            Ok(value) => Ok(value),
+            Err(fault) => Err(StoreFault::Log(fault)),
+        }
+    }
+
+    // Where the group's log begins and ends.
+    fn bounds(&mut self, group: u64) -> Result<Bounds, StoreFault<L::Fault>>
+        ensures first { (s : StoredGroup) → L.is_sound self.old.log → ShowsBy M.rules L.is_sound L.answers L.leaves self.old.log group (s ∷ [])
+            → IfOk result (λ b. b.first ≡ first_place s) }
+        ensures end { (s : StoredGroup) → L.is_sound self.old.log → ShowsBy M.rules L.is_sound L.answers L.leaves self.old.log group (s ∷ [])
+            → IfOk result (λ b. b.end ≡ end_place s) }
+        ensures well { L.is_sound self.old.log → OnOk result (L.is_sound self.new.log) }
+        ensures kept { KeepsAll (ShowsBy M.rules L.is_sound L.answers L.leaves self.old.log) (ShowsBy M.rules L.is_sound L.answers L.leaves self.new.log) }
+    {
+        let purged_value = self.get(group, b"purged")?;
+        let end_value = self.get(group, b"end")?;
+        let first = first_of(purged_value)?;
+        let end = end_of(end_value)?;
+        Ok(Bounds { first, end })
+    }
+
+    /// Copies of the entries stand from the place on, and whatever stood there before is gone (own).
+    pub fn put_entries(
+        &mut self,
+        group: u64,
+        place: u64,
+        entries: &[GroupEntry],
+    ) -> Result<(), StoreFault<L::Fault>>
+        ensures well { L.is_sound self.old.log → OnOk result (L.is_sound self.new.log) }
+        ensures ok { L.is_sound self.old.log
+            → OnOk result (Stores (ShowsBy M.rules L.is_sound L.answers L.leaves self.old.log)
+            (ShowsBy M.rules L.is_sound L.answers L.leaves self.new.log) group (PutEntries place entries.now)) }
+        ensures err { L.is_sound self.old.log
+            → OnErr result (MayStore (ShowsBy M.rules L.is_sound L.answers L.leaves self.old.log)
+            (ShowsBy M.rules L.is_sound L.answers L.leaves self.new.log) group (PutEntries place entries.now)) }
+        ensures others { KeepsOthers (ShowsBy M.rules L.is_sound L.answers L.leaves self.old.log)
+            (ShowsBy M.rules L.is_sound L.answers L.leaves self.new.log) group }
+    {
+        let bounds = self.bounds(group)?;
+        bounds.check_place(place)?;
+        let mut batch = entry_batch(self.alloc, group, place, entries)?;
+        self.store(&mut batch)
+    }
+
+    /// The log ends below the place (own).
+    pub fn cut_from(&mut self, group: u64, place: u64) -> Result<(), StoreFault<L::Fault>>
+        ensures well { L.is_sound self.old.log → OnOk result (L.is_sound self.new.log) }
+        ensures ok { L.is_sound self.old.log
+            → OnOk result (Stores (ShowsBy M.rules L.is_sound L.answers L.leaves self.old.log)
+            (ShowsBy M.rules L.is_sound L.answers L.leaves self.new.log) group (CutFrom place)) }
+        ensures err { L.is_sound self.old.log
+            → OnErr result (MayStore (ShowsBy M.rules L.is_sound L.answers L.leaves self.old.log)
+            (ShowsBy M.rules L.is_sound L.answers L.leaves self.new.log) group (CutFrom place)) }
+        ensures others { KeepsOthers (ShowsBy M.rules L.is_sound L.answers L.leaves self.old.log)
+            (ShowsBy M.rules L.is_sound L.answers L.leaves self.new.log) group }
+    {
+        let bounds = self.bounds(group)?;
+        let mut batch = end_batch(self.alloc, group, bounds.cut_end(place))?;
+        self.store(&mut batch)
+    }
+
+    /// The log is empty, and goes on right behind the log id (own).
+    pub fn start_after(&mut self, group: u64, id: LogId<u64>) -> Result<(), StoreFault<L::Fault>>
+        ensures well { L.is_sound self.old.log → OnOk result (L.is_sound self.new.log) }
+        ensures ok { L.is_sound self.old.log
+            → OnOk result (Stores (ShowsBy M.rules L.is_sound L.answers L.leaves self.old.log)
+            (ShowsBy M.rules L.is_sound L.answers L.leaves self.new.log) group (StartAfter id)) }
+        ensures err { L.is_sound self.old.log
+            → OnErr result (MayStore (ShowsBy M.rules L.is_sound L.answers L.leaves self.old.log)
+            (ShowsBy M.rules L.is_sound L.answers L.leaves self.new.log) group (StartAfter id)) }
+        ensures others { KeepsOthers (ShowsBy M.rules L.is_sound L.answers L.leaves self.old.log)
+            (ShowsBy M.rules L.is_sound L.answers L.leaves self.new.log) group }
+    {
+        let bounds = self.bounds(group)?;
+        bounds.check_purge(id)?;
+        let mut batch = start_batch(self.alloc, group, id)?;
+        self.store(&mut batch)
+    }
+
+    /// The log is purged up to and with the log id's place (own).
+    pub fn remove_up_to(&mut self, group: u64, id: LogId<u64>) -> Result<(), StoreFault<L::Fault>>
+        ensures well { L.is_sound self.old.log → OnOk result (L.is_sound self.new.log) }
+        ensures ok { L.is_sound self.old.log
+            → OnOk result (Stores (ShowsBy M.rules L.is_sound L.answers L.leaves self.old.log)
+            (ShowsBy M.rules L.is_sound L.answers L.leaves self.new.log) group (RemoveUpTo id)) }
+        ensures err { L.is_sound self.old.log
+            → OnErr result (MayStore (ShowsBy M.rules L.is_sound L.answers L.leaves self.old.log)
+            (ShowsBy M.rules L.is_sound L.answers L.leaves self.new.log) group (RemoveUpTo id)) }
+        ensures others { KeepsOthers (ShowsBy M.rules L.is_sound L.answers L.leaves self.old.log)
+            (ShowsBy M.rules L.is_sound L.answers L.leaves self.new.log) group }
+    {
+        let bounds = self.bounds(group)?;
+        bounds.check_purge(id)?;
+        let mut batch = removal_batch(self.alloc, group, id, bounds.end)?;
+        self.store(&mut batch)
+    }
+}
