@@ -1,5 +1,4 @@
 """The kit's own scripts, which know how a crate is checked, and what try_edits asks of them."""
-import functools
 import importlib.machinery
 import importlib.util
 import os
@@ -41,29 +40,17 @@ def functions(crate):
     return source.functions, {name: [it[0] for it in found] for name, found in source.declared.items()}
 
 
-def _newest(folder):
-    times = [os.path.getmtime(it) for it in rtlib.files_of(folder)]
-    return max(times, default=0)
-
-
-@functools.lru_cache(maxsize=None)
 def _is_of_ci(crate):
-    """Returns whether rt ci built the library from these sources. It leaves no stamp, so the
-    times of the files tell, of this library and of those below it."""
-    made = f"{crate.rlib}/format"
-    if not os.path.isfile(made) or os.path.exists(f"{crate.folder}/out/rlib/stamp"):
-        return False
-    sources = max(_newest(it.folder) for it in [crate, *crate.below()])
-    below = [os.path.getmtime(f"{it.rlib}/format") for it in crate.below() if _is_of_ci(it)]
-    return len(below) == len(crate.below()) and max([sources, *below]) < os.path.getmtime(made)
+    """Returns whether rt ci left the library here. It leaves no stamp."""
+    has_stamp = os.path.exists(f"{crate.folder}/out/rlib/stamp")
+    return os.path.isfile(f"{crate.rlib}/format") and not has_stamp
 
 
-def build_below(crate):
-    """Builds the libraries below the crate where they aren't. Returns what went wrong, or None."""
-    if all(map(_is_of_ci, crate.below())):
-        return None
+def build_below(crate, after_ci):
+    """Builds the libraries below the crate where they aren't. after_ci: whether rt ci has just passed
+    here, so that what it built serves. Returns what went wrong, or None."""
     for it in crate.below():
-        if it.is_built():
+        if it.is_built() or after_ci and _is_of_ci(it):
             continue
         print(f"building the library {it.name}", flush=True)
         how = {"cwd": it.folder, "stdin": subprocess.DEVNULL, "stdout": subprocess.PIPE}

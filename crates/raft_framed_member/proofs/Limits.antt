@@ -13,7 +13,7 @@ use Rattle.raft_group_step.specs.StoredGroup.{Snapshot, membership_in_force}
 use Rattle.raft_group_step.specs.Message.{AppendRequest, Conflict as HasConflict, HigherVote as HasHigherVote, Numbered as IsNumbered, PartialSuccess as AcceptedPart, Success as Accepted}
 use Rattle.raft_group_step.specs.GroupState.{GroupState}
 use Rattle.raft_group_step.specs.GroupEvent.{Receive}
-use Rattle.raft_group_step.specs.Refusal.{do_follow, is_of_leader, is_sound, keep_voters, reasons_of, refusal_of}
+use Rattle.raft_group_step.specs.Refusal.{do_follow, is_of_leader, is_payload_short, is_sound, keep_voters, reasons_of, refusal_of}
 use Rattle.raft_group_step.specs.StepResult.{BreaksCondition}
 use Rattle.raft_group_step.proofs.Refusals.{unless_none}
 use Rattle.raft_laws.proofs.StepCalls.{no_reason}
@@ -28,11 +28,10 @@ use Rattle.raft_messages.specs.declared.message.RequestId.TheVariants.{HeartBeat
 use Rattle.raft_messages.specs.declared.message.Message.{Message as Sent}
 use Rattle.raft_messages.specs.declared.message.MessageBody.{MessageBody}
 use Rattle.raft_messages.specs.declared.message.MessageBody.TheVariants as body
-use Rattle.raft_step_laws.specs.Fitting.{ArePlacedFrom, FitEntries, FitsBody, FitsPayload, FitsRequest, FitsSnapshotReply, IsWhole}
+use Rattle.raft_step_laws.specs.Fitting.{ArePlacedFrom, FitEntries, IsBodyBounded, IsPayloadBounded, FitsRequest, IsSnapshotReplyBounded, IsWhole}
 use Rattle.raft_wire.specs.Bodies.{is_conflict, is_of_snapshot, is_spelled, has_number}
 use Rattle.raft_wire.specs.Entries.{follows}
 use Rattle.raft_wire.specs.Frames.{are_consecutive, are_entries_short, fault_of_entries, fault_of_frame, fault_of_reply}
-use Rattle.raft_wire.specs.Writing.{is_payload_short}
 use Rattle.raft_wire.specs.declared.error.FrameFault.{FrameFault}
 use Rattle.raft_wire.specs.declared.error.FrameFault.TheVariants as fault
 use Rattle.raft_wire.proofs.Lengths.{entries_are_short}
@@ -40,33 +39,23 @@ use Rattle.raft_framed_member.specs.Framed.{brings_snapshot}
 
 -- ---- entries
 
-payload_short : (p : EntryPayload) → FitsPayload p → is_payload_short p ≡ true
-payload_short Blank f = refl
-payload_short (Normal command) f = le-leb (length command) 65536 f
-payload_short (Members m) f = f
-
-short_payload : (p : EntryPayload) → is_payload_short p ≡ true → FitsPayload p
-short_payload Blank f = tt
-short_payload (Normal command) f = leb-true (length command) 65536 f
-short_payload (Members m) f = f
-
 abbrev is_short : Entry → Bool
 is_short e = is_payload_short e.payload
 
 abbrev Fits : Entry → Type 0
-Fits e = FitsPayload e.payload
+Fits e = IsPayloadBounded e.payload
 
 all_short : (es : List Entry) → FitEntries es → list_all is_short es ≡ true
 all_short [] f = refl
 all_short (e ∷ es) f =
-    and_from (is_short e) (list_all is_short es) (payload_short e.payload (f 0 e (omega arith)))
+    and_from (is_short e) (list_all is_short es) (f 0 e (omega arith))
     (all_short es (λ i d l. f (suc i) d (omega arith)))
 
 short_all : (es : List Entry) → list_all is_short es ≡ true → FitEntries es
 short_all [] t = All-nil Fits
 short_all (e ∷ es) t =
     let both = and_parts (is_short e) (list_all is_short es) t in
-    All-cons Fits e es (short_payload e.payload both.0) (short_all es both.1)
+    All-cons Fits e es both.0 (short_all es both.1)
 
 placed_rise : (last : Option ℕ) (start : ℕ) (es : List Entry) → follows last start ≡ true → ArePlacedFrom start es → are_consecutive last es ≡ true
 placed_rise last start [] t p = refl
@@ -117,14 +106,14 @@ without_fault false first why t e = absurd cc
 reply_spelled : (m : ReplyFields) → IsWhole (outcome_of m.outcome) → fault_of_reply m ≡ None
 reply_spelled m w = without_fault (is_spelled m.outcome) None (Some fault.BadTag) (spelled m.outcome w) refl
 
-reply_fits : (m : ReplyFields) → FitsSnapshotReply (reply_fields_of m) → is_of_snapshot m ≡ true
+reply_fits : (m : ReplyFields) → IsSnapshotReplyBounded (reply_fields_of m) → is_of_snapshot m ≡ true
 reply_fits m f =
     and_from (has_number m.id && is_none m.previous) (not (is_conflict m.outcome))
     (and_from (has_number m.id) (is_none m.previous) (numbered m.id f.number f.numbered) (ap is_none f.previous))
     (ap not (agrees m.outcome f.agrees))
 
 -- a message that fits, and brings no snapshot, has a frame
-pub fits_frame : (carried : SnapshotBytes → Snapshot) (b : MessageBody SnapshotBytes) → brings_snapshot (body_as carried b) ≡ false → FitsBody (body_as carried b) → fault_of_frame b ≡ None
+pub fits_frame : (carried : SnapshotBytes → Snapshot) (b : MessageBody SnapshotBytes) → brings_snapshot (body_as carried b) ≡ false → IsBodyBounded (body_as carried b) → fault_of_frame b ≡ None
 fits_frame carried (body.VoteRequest r) bare f = refl
 fits_frame carried (body.VoteReply r) bare f = refl
 fits_frame carried (body.AppendRequest m) bare f = request_fits m f
@@ -155,7 +144,7 @@ without false first e = absurd cc
 reply_whole : (m : ReplyFields) → fault_of_reply m ≡ None → IsWhole (outcome_of m.outcome)
 reply_whole m e = whole m.outcome (without (is_spelled m.outcome) None e).0
 
-reply_is : (m : ReplyFields) → is_of_snapshot m ≡ true → fault_of_reply m ≡ None → FitsSnapshotReply (reply_fields_of m)
+reply_is : (m : ReplyFields) → is_of_snapshot m ≡ true → fault_of_reply m ≡ None → IsSnapshotReplyBounded (reply_fields_of m)
 reply_is m t e =
     let both = and_parts (has_number m.id && is_none m.previous) (not (is_conflict m.outcome)) t in
     let left = and_parts (has_number m.id) (is_none m.previous) both.0 in
@@ -209,11 +198,11 @@ request_is own peer s m sound right =
     }
 
 -- a message that isn't refused, and that a frame without a snapshot brings, is within the limits
-pub brought_fits : (own : ℕ) (s : GroupState) (now : ℕ) (carried : SnapshotBytes → Snapshot) (m : Sent SnapshotBytes) → brings_snapshot (body_as carried m.body) ≡ false → fault_of_frame m.body ≡ None → refusal_of own s (Receive m.sender (message_as carried m) now) ≡ None → FitsBody (body_as carried m.body)
+pub brought_fits : (own : ℕ) (s : GroupState) (now : ℕ) (carried : SnapshotBytes → Snapshot) (m : Sent SnapshotBytes) → brings_snapshot (body_as carried m.body) ≡ false → fault_of_frame m.body ≡ None → refusal_of own s (Receive m.sender (message_as carried m) now) ≡ None → IsBodyBounded (body_as carried m.body)
 brought_fits own s now carried m bare right taken =
     go m.body bare right (unless_none (is_sound own m.sender s.stored (body_as carried m.body)) BreaksCondition (no_reason (reasons_of own s (Receive m.sender (message_as carried m) now)) taken).1.1.1.0)
   where
-    go : (b : MessageBody SnapshotBytes) → brings_snapshot (body_as carried b) ≡ false → fault_of_frame b ≡ None → is_sound own m.sender s.stored (body_as carried b) ≡ true → FitsBody (body_as carried b)
+    go : (b : MessageBody SnapshotBytes) → brings_snapshot (body_as carried b) ≡ false → fault_of_frame b ≡ None → is_sound own m.sender s.stored (body_as carried b) ≡ true → IsBodyBounded (body_as carried b)
     go (body.VoteRequest r) bare right sound = tt
     go (body.VoteReply r) bare right sound = tt
     go (body.AppendRequest a) bare right sound = request_is own m.sender s a sound right

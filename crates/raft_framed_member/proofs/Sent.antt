@@ -7,7 +7,7 @@ use Rattle.raft_group_step.specs.Message.{Message}
 use Rattle.raft_messages.specs.Messages.{body_as}
 use Rattle.raft_messages.specs.declared.memberships.SnapshotBytes.{SnapshotBytes}
 use Rattle.raft_messages.specs.declared.message.MessageBody.{MessageBody as Body}
-use Rattle.raft_step_laws.specs.Fitting.{FitsBody}
+use Rattle.raft_step_laws.specs.Fitting.{IsBodyBounded}
 use Rattle.raft_wire.specs.Frames.{fault_of_frame}
 use Rattle.raft_wire.specs.Writing.{Writes}
 use Rattle.raft_wire.specs.declared.error.FrameError.{FrameError}
@@ -36,7 +36,7 @@ not_written m b bytes (frame_error.Fault f) says bare wrong = (
   (0, omega arith, refl),
   λ fits.
       let is = says unread in
-      let right = fits_frame unread b (ap brings_snapshot is ∙ bare) (subst FitsBody (sym is) fits) in
+      let right = fits_frame unread b (ap brings_snapshot is ∙ bare) (subst IsBodyBounded (sym is) fits) in
       absurd (let e : None ≡ Some f = sym right ∙ wrong in cc),
 )
 not_written m b bytes frame_error.StreamFailed says bare wrong = absurd wrong

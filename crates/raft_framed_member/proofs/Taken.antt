@@ -9,7 +9,7 @@ use Rattle.raft_group_step.specs.GroupStep.{group_step}
 use Rattle.raft_group_step.specs.Refusal.{refusal_of}
 use Rattle.raft_messages.specs.Messages.{message_as}
 use Rattle.raft_messages.specs.declared.memberships.SnapshotBytes.{SnapshotBytes}
-use Rattle.raft_step_laws.specs.Fitting.{FitsBody, FitsStored, IsCommittedWithin}
+use Rattle.raft_step_laws.specs.Fitting.{IsBodyBounded, FitsStored, IsCommittedWithin}
 use Rattle.raft_step_laws.proofs.FitSteps.{steps_fit}
 use Rattle.raft_wire.specs.Frames.{FitsFrame}
 use Rattle.raft_wire.specs.Stream.{IsSpelledSo}
@@ -32,7 +32,7 @@ use Rattle.raft_framed_member.proofs.Sent.{unread}
 pub brought_event : (own : ℕ) (s : GroupState) (now : ℕ) (frame : Frame) (m : Message) → ((carried : SnapshotBytes → Snapshot) → message_as carried frame.message ≡ m) → brings_snapshot m.body ≡ false → FitsFrame frame → FitsIfTaken own s (comes now m)
 brought_event own s now frame m says bare fits taken =
     let is = says unread in
-    subst (λ (x : Message). FitsBody x.body) is
+    subst (λ (x : Message). IsBodyBounded x.body) is
     (brought_fits own s now unread frame.message (ap (λ (x : Message). brings_snapshot x.body) is ∙ bare) (fits_within frame.message.body fits.body)
     (subst (λ (x : Message). refusal_of own s (comes now x) ≡ None) (sym is) taken))
 
@@ -46,7 +46,7 @@ frames_fit group own s m now (Err error.Memory) new fits within event h = tt
 frames_fit group own s m now (Err (error.Unsent send_error.NeedsMachine)) new fits within event h = tt
 frames_fit group own s m now (Err (error.Unsent (send_error.Frame (frame_error.Fault fault)))) new fits within event h =
     let sent = steps_fit own s (comes now m) fits within (event h.0) in
-    h.1.2 (All-contains (λ (x : Message). FitsBody x.body) (group_step own s (comes now m)).messages h.1.0 sent.messages h.1.1)
+    h.1.2 (All-contains (λ (x : Message). IsBodyBounded x.body) (group_step own s (comes now m)).messages h.1.0 sent.messages h.1.1)
 frames_fit group own s m now (Err (error.Unsent (send_error.Frame frame_error.StreamFailed))) new fits within event h = tt
 frames_fit group own s m now (Err (error.Unsent (send_error.Frame frame_error.Memory))) new fits within event h = tt
 

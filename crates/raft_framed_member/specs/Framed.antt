@@ -4,7 +4,7 @@ use Rattle.raft_group_step.specs.StoredGroup.{Snapshot}
 use Rattle.raft_group_step.specs.Message.{Message, MessageBody, VoteRequest, VoteReply, AppendRequest, AppendReply, SnapshotRequest, SnapshotReply}
 use Rattle.raft_messages.specs.Messages.{message_as}
 use Rattle.raft_messages.specs.declared.memberships.SnapshotBytes.{SnapshotBytes}
-use Rattle.raft_step_laws.specs.Fitting.{FitsBody}
+use Rattle.raft_step_laws.specs.Fitting.{IsBodyBounded}
 use Rattle.raft_wire.specs.Frames.{FitsFrame, spelled_frame}
 use Rattle.raft_wire.specs.declared.error.FrameError.TheVariants as frame_error
 use Rattle.raft_wire.specs.declared.frame.Frame.{Frame}
@@ -45,6 +45,6 @@ abbrev pub AreNotSent : List Message → SendError → Type 0
 AreNotSent ms send_error.NeedsMachine =
     (m : Message) × Contains ms m × (brings_snapshot m.body ≡ true)
 AreNotSent ms (send_error.Frame (frame_error.Fault fault)) =
-    (m : Message) × Contains ms m × (FitsBody m.body → ⊥)
+    (m : Message) × Contains ms m × (IsBodyBounded m.body → ⊥)
 AreNotSent ms (send_error.Frame frame_error.StreamFailed) = ⊥
 AreNotSent ms (send_error.Frame frame_error.Memory) = Unit {0}

@@ -31,7 +31,7 @@ use Rattle.raft_laws.proofs.WorldSteps.{MayHappen}
 use Rattle.raft_laws.proofs.WorldRuns.{MayTakePlace, among_either}
 use Rattle.raft_laws.proofs.HeldLists.{at_node}
 use Rattle.raft_laws.proofs.WorldStart.{founded}
-use Rattle.raft_step_laws.specs.Fitting.{ComesWithin, FitsBody, FitsEvent, FitsPayload, FitsStored, IsCommittedWithin, StepFits}
+use Rattle.raft_step_laws.specs.Fitting.{ComesWithin, IsBodyBounded, FitsEvent, IsPayloadBounded, FitsStored, IsCommittedWithin, StepFits}
 use Rattle.raft_step_laws.proofs.FitSteps.{steps_fit}
 use Rattle.raft_history_laws.specs.Limits.{CommittedIsWithin, MessagesFit, StoredPartsFit}
 use Rattle.raft_history_laws.proofs.Along.{along}
@@ -77,7 +77,7 @@ FitsScene (At n e) = FitsNodeEvent e
 
 -- all that was sent fits
 abbrev pub AllSentFit : List Message → Type 0
-AllSentFit ms = (x : Message) → Among x ms → FitsBody x.body
+AllSentFit ms = (x : Message) → Among x ms → IsBodyBounded x.body
 
 call_fits : (b : Bool) (n : ℕ) (call : GroupCall) (now : ℕ) → FitsScene (scene_of_call b n call now)
 call_fits true n call now = tt
@@ -115,7 +115,7 @@ module _ (s : GroupState) (r : StepResult) (h : StepFits s r) where
   ends None =
       record {
         stored = h.stored;
-        sent = λ y a. All-contains (λ (z : Message). FitsBody z.body) r.messages y h.messages (among_contains r.messages y a);
+        sent = λ y a. All-contains (λ (z : Message). IsBodyBounded z.body) r.messages y h.messages (among_contains r.messages y a);
       }
   ends (Some why) = nothing_sent (outcome_of_end r (Some why)) (Up r.state) refl h.stored
 
@@ -160,7 +160,7 @@ scene_stored m some before w fits e stopped k (At i at_node) f h =
 no_group_fits : FitsStored no_group
 no_group_fits =
     record {
-      entries = All-nil (λ (e : Entry). FitsPayload e.payload);
+      entries = All-nil (λ (e : Entry). IsPayloadBounded e.payload);
       placed = λ i e at. absurd (let f : None ≡ Some e = at in cc);
       snapshot = tt;
     }

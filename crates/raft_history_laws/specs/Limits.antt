@@ -6,7 +6,7 @@ use Rattle.raft_group_step.specs.GroupState.{GroupState}
 use Rattle.raft_laws.specs.GroupWorld.{GroupWorld, Recorded, Up}
 use Rattle.raft_laws.specs.VotesRise.{stored_of}
 use Rattle.raft_laws.specs.OneList.{IsGroupHistory}
-use Rattle.raft_step_laws.specs.Fitting.{FitsBody, FitsStored, IsCommittedWithin}
+use Rattle.raft_step_laws.specs.Fitting.{IsBodyBounded, FitsStored, IsCommittedWithin}
 
 -- what each node has stored fits, whether it is up or down
 abbrev pub StoredPartsFit : Type 0
@@ -24,4 +24,4 @@ CommittedIsWithin =
 abbrev pub MessagesFit : Type 0
 MessagesFit =
     (ids : List ℕ) (rs : List Recorded) (end : GroupWorld) → IsGroupHistory ids rs end
-    → (m : Message) → Contains end.messages m → FitsBody m.body
+    → (m : Message) → Contains end.messages m → IsBodyBounded m.body

@@ -7,6 +7,7 @@ use Rattle.raft_values.specs.declared.log_id.LogId.{LogId}
 use Rattle.raft_state.specs.LogIdList.{leader_ids, last_id, ids_between, appended, extended, AllGoOn, GoesOn, AreOfLeader, HaveOneLeader, PlacesRise, ids_of}
 use Rattle.raft_state.proofs.LogIdLemmas.{leader_ids-join, leader_ids-first}
 use Rattle.raft_state.proofs.LogIdListLemmas.{final, last_id-cons, last_id-ids_of}
+use Rattle.raft_state.proofs.KeyCountLemmas.{get_or-final}
 
 module _ {K : Type 0} where
   final_push : (x : LogId K) (ids : List (LogId K)) (id : LogId K) → final x (ids ++ id ∷ []) ≡ id
@@ -68,10 +69,6 @@ module _ {K : Type 0} where
   pub next_goes_on : (last : Option (LogId K)) (more : List (LogId K)) (i : ℕ) (d : LogId K) → i < length more → AllGoOn last (drop i more)
       → GoesOn last (get_or more i d) × AllGoOn (Some (get_or more i d)) (drop (i + 1) more)
   next_goes_on last more i d h on = subst (AllGoOn last) (drop_more more i d h) on
-
-  get_or-final : (x : LogId K) (xs : List (LogId K)) (d : LogId K) → get_or (x ∷ xs) (length xs) d ≡ final x xs
-  get_or-final x [] d = refl
-  get_or-final x (y ∷ ys) d = get_or-final y ys d
 
   -- the first and the last of log ids of one leader tell all, and the last one goes on from the first
   pub ends-extend : (ids : List (LogId K)) (last : Option (LogId K)) (more : List (LogId K)) (x z : LogId K) → 1 < length more

@@ -4,10 +4,10 @@ use Rattle.std.specs.Prelude.{Some, None}
 use Rattle.raft_values.specs.declared.log_id.LogId.{LogId}
 use Rattle.raft_state.specs.LogIdList.{ids_of, id_at, last_id, truncated, purged, or_alone, PlacesRise, Reaches}
 use Rattle.raft_state.proofs.LogIdListLemmas.{final, last_id-cons, ids_of-first}
-use Rattle.raft_state.proofs.KeyCutLemmas.{id_by, id_at-before, id_at-behind, id_at-inside, id_at-last, truncated-before, truncated-behind, truncated-pair, truncated-front, from_place-before, from_place-behind, from_place-inside}
+use Rattle.raft_state.proofs.KeyCutLemmas.{id_by, id_at-before, id_at-behind, id_at-inside, id_at-last, truncated-behind, truncated-pair, truncated-front, from_place-before, from_place-behind, from_place-inside}
 
 module _ {K : Type 0} where
-  get_or-final : (key : LogId K) (keys : List (LogId K)) (d : LogId K) → get_or (key ∷ keys) (length keys) d ≡ final key keys
+  pub get_or-final : (key : LogId K) (keys : List (LogId K)) (d : LogId K) → get_or (key ∷ keys) (length keys) d ≡ final key keys
   get_or-final key [] d = refl
   get_or-final key (next ∷ keys) d = get_or-final next keys d
 
@@ -37,9 +37,6 @@ module _ {K : Type 0} where
   id_at-past_counted [] key index h l e f = absurd (omega arith)
   id_at-past_counted (first ∷ keys) key index h l e f =
       id_at-behind first keys index h (subst (λ (x : LogId K). x.index < index) (last_key first keys key e) f)
-
-  pub truncated-none_counted : (keys : List (LogId K)) (at : ℕ) → PlacesRise keys → ((d : LogId K) → 0 < length keys → at ≤ (get_or keys 0 d).index) → truncated (ids_of keys) at ≡ []
-  truncated-none_counted = truncated-before
 
   pub truncated-all_counted : (keys : List (LogId K)) (at : ℕ) → PlacesRise keys → 0 < length keys → ((k : ℕ) (d : LogId K) → k < length keys → (get_or keys k d).index < at) → truncated (ids_of keys) at ≡ ids_of keys
   truncated-all_counted [] at h l b = absurd (omega arith)

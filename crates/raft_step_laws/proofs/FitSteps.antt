@@ -1,7 +1,7 @@
 -- What a step stores and sends fits the limits, where what the node has and is sent does.
 use Rattle.std.specs.Prelude.{◌≡◌, ℕ, ◌+◌, ◌-◌, ◌≤◌, ◌==◌, ◌&&◌, ◌||◌, cond, is_none, is_some, nat_le, nat_lt, not, Bool, true, false, List, [], ◌∷◌, ◌++◌, drop, filter, length, take, Option, Some, None, All, IfSome, IsTrue, refl}
 use Rattle.std.specs.List.{list_any}
-use Rattle.std.proofs.Common.{sym, ap, ◌∙◌, subst, arith, eqb-true, leb-true}
+use Rattle.std.proofs.Common.{sym, ap, ◌∙◌, subst, arith, eqb-true}
 use Rattle.std.proofs.lemmas.Bool.{and_parts}
 use Rattle.std.proofs.lemmas.List.{length-take, length-take-le}
 use Rattle.std.proofs.lemmas.List.Elements.{All-append, All-cons, All-drop, All-filter, All-nil, All-tail, All-take}
@@ -45,14 +45,14 @@ use Rattle.raft_laws.proofs.FreshEntries.{within_is, without_is}
 use Rattle.raft_laws.proofs.Shapes.{slice_drop, slice_taken}
 use Rattle.raft_laws.proofs.StepCalls.{NoReason, no_reason}
 use Rattle.raft_laws.proofs.StepWords.{all-append}
-use Rattle.raft_step_laws.specs.Fitting.{AllFit, ComesWithin, FitEntries, FitsBody, FitsEvent, FitsPayload, FitsRequest, FitsSnapshot, FitsStored, FitsStoring, IsCommittedWithin, StepsFit}
+use Rattle.raft_step_laws.specs.Fitting.{AllFit, ComesWithin, FitEntries, IsBodyBounded, FitsEvent, IsPayloadBounded, FitsRequest, IsSnapshotBounded, FitsStored, FitsStoring, IsCommittedWithin, StepsFit}
 use Rattle.raft_step_laws.proofs.FitWords.{Fits, StandWithin, above_within, all_fit, before_next, built_fits, entry_place, missing_within, no_entry, placed_one, placed_stand, some_entry, stand_placed, stop_fits, stored_fits}
 
 abbrev FitsMessage : Message → Type 0
-FitsMessage m = FitsBody m.body
+FitsMessage m = IsBodyBounded m.body
 
 -- a notice has no entries
-notice_fits : (s : GroupState) (p : PeerState) → FitsBody (notice s p)
+notice_fits : (s : GroupState) (p : PeerState) → IsBodyBounded (notice s p)
 notice_fits s p =
     record { count = omega arith; entries = All-nil Fits; placed = λ i e at. absurd (let f : None ≡ Some e = at in cc) }
 
@@ -82,7 +82,7 @@ module _ (base : StoredGroup) where
         messages = h.messages;
       }
 
-  sends : (own peer : ℕ) (b : MessageBody) (r : StepResult) → Keeps r → FitsBody b → Keeps (send own peer b r)
+  sends : (own peer : ℕ) (b : MessageBody) (r : StepResult) → Keeps r → IsBodyBounded b → Keeps (send own peer b r)
   sends own peer b r h k =
       record {
         now = h.now;
@@ -109,7 +109,7 @@ module _ (base : StoredGroup) where
   greater v r h = either Keeps (vote_lt r.state.stored.vote v) (store_vote v (step_down r)) r (down v r h) h
 
   -- an entry at the log's end
-  appended : (p : EntryPayload) (r : StepResult) → Keeps r → FitsPayload p → Keeps (append p r)
+  appended : (p : EntryPayload) (r : StepResult) → Keeps r → IsPayloadBounded p → Keeps (append p r)
   appended p r h k =
       let st = r.state.stored in
       let e = entry_of (record { leader_id = st.vote.leader_id; index = end_place st }) p in
@@ -270,7 +270,7 @@ module _ (base : StoredGroup) where
       either (λ q. first_place q.state.stored ≡ first_place r.state.stored) (has_id_in_log r.state.stored last) r _ refl
       (either (λ q. first_place q.state.stored ≡ first_place r.state.stored) (is_some (entry_at r.state.stored last.index)) _ r (cut_keeps_first (place_above r.state.committed) r) refl)
 
-  installed : (b : Bool) (x : Snapshot) (r : StepResult) → is_within x.last.index r.state.committed ≡ b → Keeps r → IsCommittedWithin r.state → FitsSnapshot x → Keeps (install_unless b x r)
+  installed : (b : Bool) (x : Snapshot) (r : StepResult) → is_within x.last.index r.state.committed ≡ b → Keeps r → IsCommittedWithin r.state → IsSnapshotBounded x → Keeps (install_unless b x r)
   installed true x r t h c f = h
   installed false x r t h c f =
       let cleared = cut_other x.last r in
@@ -281,7 +281,7 @@ module _ (base : StoredGroup) where
       same removed (apply_up_to (Some x.last.index) removed) refl refl refl
       (stores (RemoveUpTo x.last) set (stores (SetSnapshot x) cleared (other x.last r h) f) (omega (arith, first, past, c.begins)))
 
-  offered_keeps : (own peer : ℕ) (v : Vote ℕ) (id : ℕ) (x : Snapshot) (b : Bool) (r : StepResult) → Keeps r → IsCommittedWithin r.state → FitsSnapshot x → Keeps (offered own peer v id x b r)
+  offered_keeps : (own peer : ℕ) (v : Vote ℕ) (id : ℕ) (x : Snapshot) (b : Bool) (r : StepResult) → Keeps r → IsCommittedWithin r.state → IsSnapshotBounded x → Keeps (offered own peer v id x b r)
   offered_keeps own peer v id x true r h c f =
       sends own peer _ r h (record { number = id; numbered = refl; previous = refl; agrees = λ e. absurd (let f : HigherVote r.state.stored.vote ≡ Conflict = e in cc); whole = tt })
   offered_keeps own peer v id x false r h c f =
@@ -310,7 +310,7 @@ module _ (base : StoredGroup) where
 
   -- ---- calls
 
-  tokened : (p : EntryPayload) (token : ℕ) (r : StepResult) → Keeps r → FitsPayload p → Keeps (append_with_token p token r)
+  tokened : (p : EntryPayload) (token : ℕ) (r : StepResult) → Keeps r → IsPayloadBounded p → Keeps (append_with_token p token r)
   tokened p token r h k = appended p _ (same r _ refl refl refl h) k
 
   abbrev ChangeFits : Option LoggedMembership → ChangeMembers → Type 0
@@ -409,7 +409,7 @@ module _ (base : StoredGroup) where
       go (Some x) e =
           either Keeps (nat_lt p.search (first_place r.state.stored)) (send_snapshot own p lead x r) (send_entries own p lead r)
           (same _ (send_snapshot own p lead x r) refl refl refl
-          (sends own p.peer (SnapshotRequest r.state.stored.vote p.next_id x) r h (subst (λ y. IfSome y FitsSnapshot) e h.now.snapshot)))
+          (sends own p.peer (SnapshotRequest r.state.stored.vote p.next_id x) r h (subst (λ y. IfSome y IsSnapshotBounded) e h.now.snapshot)))
           entries
 
   serve_keeps : (own : ℕ) (b : Bool) (p : PeerState) (lead : Lead) (r : StepResult) → Keeps r → Keeps (serve own b p lead r)
@@ -478,7 +478,7 @@ module _ (base : StoredGroup) where
   call_keeps own TriggerSnapshot r h k = snapshot_keeps r.state.applied r h
   call_keeps own (TriggerPurge place) r h k = within_keeps place (snapshot_last r.state.stored) r h
 
-  body_keeps : (own peer : ℕ) (b : MessageBody) (r : StepResult) → Keeps r → IsCommittedWithin r.state → FitsBody b → Keeps (message_step own peer b r)
+  body_keeps : (own peer : ℕ) (b : MessageBody) (r : StepResult) → Keeps r → IsCommittedWithin r.state → IsBodyBounded b → Keeps (message_step own peer b r)
   body_keeps own peer (VoteRequest v last) r h c f = judged_keeps own peer v (may_grant r.state v last) r h
   body_keeps own peer (VoteReply v granted last) r h c f = counted_keeps peer (granted && vote_eq v r.state.stored.vote) v r h
   body_keeps own peer (AppendRequest m) r h c f = heard_keeps own peer m (vote_lt m.vote r.state.stored.vote) r h c f
@@ -504,7 +504,7 @@ call_passed own s now (Initialize m) passed =
     ((and_parts (is_valid m) (is_within_limits m) limits).1, eqb-true (end_place s.stored) 0 one.1)
 call_passed own s now Elect passed = tt
 call_passed own s now (Propose command token) passed =
-    leb-true (length command) command_limit (unless_none (nat_le (length command) command_limit) CommandTooLong passed.0)
+    unless_none (nat_le (length command) command_limit) CommandTooLong passed.0
 call_passed own s now (ChangeMembership change token) passed = change_fits (membership_in_force s.stored) change passed.1.1.1 s.stored
 call_passed own s now Heartbeat passed = tt
 call_passed own s now (Lost peer) passed = tt

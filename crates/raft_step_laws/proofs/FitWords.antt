@@ -17,10 +17,10 @@ use Rattle.raft_group_step.proofs.EntryPlaces.{entry_within, in_log_within}
 use Rattle.raft_laws.proofs.FreshEntries.{within_is, without_is}
 use Rattle.raft_laws.proofs.Shapes.{slice_after, slice_drop, slice_taken}
 use Rattle.raft_laws.proofs.BallotAgreement.{slice_get-append}
-use Rattle.raft_step_laws.specs.Fitting.{AllFit, ArePlacedFrom, FitEntries, FitsLogged, FitsPayload, FitsSnapshot, FitsStored, FitsStoring}
+use Rattle.raft_step_laws.specs.Fitting.{AllFit, ArePlacedFrom, FitEntries, IsLoggedBounded, IsPayloadBounded, IsSnapshotBounded, FitsStored, FitsStoring}
 
 abbrev pub Fits : Entry → Type 0
-Fits e = FitsPayload e.payload
+Fits e = IsPayloadBounded e.payload
 
 -- ---- entries at their places
 
@@ -127,17 +127,17 @@ before_next st h i low high =
 
 -- ---- the memberships of entries that fit
 
-pub logged_fits : (before : Option LoggedMembership) (es : List Entry) → FitsLogged before → FitEntries es → FitsLogged (last_membership before es)
+pub logged_fits : (before : Option LoggedMembership) (es : List Entry) → IsLoggedBounded before → FitEntries es → IsLoggedBounded (last_membership before es)
 logged_fits before [] h k = h
 logged_fits before (e ∷ es) h k =
     logged_fits (membership_after before e.log_id e.payload) es (after e.payload (All-head Fits e es k)) (All-tail Fits e es k)
   where
-    after : (p : EntryPayload) → FitsPayload p → FitsLogged (membership_after before e.log_id p)
+    after : (p : EntryPayload) → IsPayloadBounded p → IsLoggedBounded (membership_after before e.log_id p)
     after Blank f = h
     after (Normal command) f = h
     after (Members m) f = f
 
-prefix_fits : (o : Option Snapshot) → IfSome o FitsSnapshot → FitEntries (prefix_of o)
+prefix_fits : (o : Option Snapshot) → IfSome o IsSnapshotBounded → FitEntries (prefix_of o)
 prefix_fits None h = All-nil Fits
 prefix_fits (Some x) h = h.entries
 
@@ -146,7 +146,7 @@ held_fits st h =
     All-append Fits (prefix_of st.snapshot) _ (prefix_fits st.snapshot h.snapshot)
     (All-drop Fits (length (prefix_of st.snapshot) - first_place st) st.log h.entries)
 
-pub built_fits : (st : StoredGroup) (id : LogId ℕ) → FitsStored st → FitsSnapshot (snapshot_at st id)
+pub built_fits : (st : StoredGroup) (id : LogId ℕ) → FitsStored st → IsSnapshotBounded (snapshot_at st id)
 built_fits st id h =
     let xs = All-take Fits (id.index + 1) (held st) (held_fits st h) in
     record { entries = xs; membership = logged_fits None (take (id.index + 1) (held st)) tt xs }

@@ -1,8 +1,8 @@
 -- What a step stores and sends fits the limits, where what the node has and is sent does.
 use Rattle.std.specs.Prelude.{◌≡◌, ℕ, ◌+◌, ◌<◌, ◌≤◌, List, [], ◌∷◌, length, slice_get, Option, Some, None, IsTrue, All, IfSome}
 use Rattle.raft_values.specs.LogId.{next_place}
-use Rattle.raft_state.specs.declared.entry.EntryPayload.TheVariants.{Blank, Normal, Membership as Members}
 use Rattle.raft_group_step.specs.Values.{Entry, EntryPayload, LoggedMembership, is_within_limits}
+use Rattle.raft_group_step.specs.Refusal.{is_payload_short}
 use Rattle.raft_group_step.specs.StoredGroup.{Snapshot, StoredGroup, after_storing, end_place, first_place}
 use Rattle.raft_group_step.specs.StoredGroup.{StoringCommand, MakeGroup, SetVote, PutEntries, CutFrom, RemoveUpTo, SetSnapshot, StartAfter}
 use Rattle.raft_group_step.specs.Message.{AppendFields, Message, MessageBody, VoteRequest, VoteReply, AppendRequest, AppendReply, SnapshotRequest, SnapshotReply}
@@ -17,13 +17,11 @@ use Rattle.raft_laws.specs.Stop.{stopped_after}
 -- ---- entries
 
 -- a command has at most 65,536 bytes, and a membership is within its limits
-abbrev pub FitsPayload : EntryPayload → Type 0
-FitsPayload Blank = Unit {0}
-FitsPayload (Normal command) = length command ≤ 65536
-FitsPayload (Members m) = IsTrue (is_within_limits m)
+abbrev pub IsPayloadBounded : EntryPayload → Type 0
+IsPayloadBounded p = IsTrue (is_payload_short p)
 
 abbrev pub FitEntries : List Entry → Type 0
-FitEntries es = All (λ (e : Entry). FitsPayload e.payload) es
+FitEntries es = All (λ (e : Entry). IsPayloadBounded e.payload) es
 
 -- the entries have the places from this one on, one after the other
 abbrev pub ArePlacedFrom : ℕ → List Entry → Type 0
@@ -31,17 +29,17 @@ ArePlacedFrom start es = (i : ℕ) (e : Entry) → slice_get es i ≡ Some e →
 
 -- ---- what a node has
 
-abbrev pub FitsLogged : Option LoggedMembership → Type 0
-FitsLogged m = IfSome m (λ (x : LoggedMembership). IsTrue (is_within_limits x.membership))
+abbrev pub IsLoggedBounded : Option LoggedMembership → Type 0
+IsLoggedBounded m = IfSome m (λ (x : LoggedMembership). IsTrue (is_within_limits x.membership))
 
-pub record FitsSnapshot (x : Snapshot) : Type 0 where
+pub record IsSnapshotBounded (x : Snapshot) : Type 0 where
   pub entries : FitEntries x.«prefix»
-  pub membership : FitsLogged x.membership
+  pub membership : IsLoggedBounded x.membership
 
 pub record FitsStored (s : StoredGroup) : Type 0 where
   pub entries : FitEntries s.log
   pub placed : ArePlacedFrom (first_place s) s.log
-  pub snapshot : IfSome s.snapshot FitsSnapshot
+  pub snapshot : IfSome s.snapshot IsSnapshotBounded
 
 -- what is committed reaches up to the log's front at least, and no further than its end
 pub record IsCommittedWithin (s : GroupState) : Type 0 where
@@ -64,26 +62,26 @@ IsWhole Conflict = Unit {0}
 IsWhole (HigherVote vote) = Unit {0}
 
 -- the reply to a snapshot has its request's number and no previous log id, and tells of no conflict and of no part
-pub record FitsSnapshotReply (m : ReplyFields) : Type 0 where
+pub record IsSnapshotReplyBounded (m : ReplyFields) : Type 0 where
   pub number : ℕ
   pub numbered : m.id ≡ Numbered number
   pub previous : m.previous ≡ None
   pub agrees : m.outcome ≡ Conflict → ⊥
   pub whole : IsWhole m.outcome
 
-abbrev pub FitsBody : MessageBody → Type 0
-FitsBody (VoteRequest vote last) = Unit {0}
-FitsBody (VoteReply vote granted last) = Unit {0}
-FitsBody (AppendRequest m) = FitsRequest m
-FitsBody (AppendReply m) = IsWhole m.outcome
-FitsBody (SnapshotRequest vote id snapshot) = FitsSnapshot snapshot
-FitsBody (SnapshotReply m) = FitsSnapshotReply m
+abbrev pub IsBodyBounded : MessageBody → Type 0
+IsBodyBounded (VoteRequest vote last) = Unit {0}
+IsBodyBounded (VoteReply vote granted last) = Unit {0}
+IsBodyBounded (AppendRequest m) = FitsRequest m
+IsBodyBounded (AppendReply m) = IsWhole m.outcome
+IsBodyBounded (SnapshotRequest vote id snapshot) = IsSnapshotBounded snapshot
+IsBodyBounded (SnapshotReply m) = IsSnapshotReplyBounded m
 
 -- what comes in a message fits
 abbrev pub FitsEvent : GroupEvent → Type 0
 FitsEvent AddGroup = Unit {0}
 FitsEvent (Call call now) = Unit {0}
-FitsEvent (Receive peer m now) = FitsBody m.body
+FitsEvent (Receive peer m now) = IsBodyBounded m.body
 FitsEvent Open = Unit {0}
 
 -- and what is committed is within the log as a message comes
@@ -108,7 +106,7 @@ FitsStoring s (SetVote vote) = Unit {0}
 FitsStoring s (PutEntries place es) = FitsPut s place es
 FitsStoring s (CutFrom place) = (first_place s ≤ place) × (place < end_place s)
 FitsStoring s (RemoveUpTo id) = first_place s ≤ id.index + 1
-FitsStoring s (SetSnapshot snapshot) = FitsSnapshot snapshot
+FitsStoring s (SetSnapshot snapshot) = IsSnapshotBounded snapshot
 FitsStoring s (StartAfter id) = Unit {0}
 
 -- each of these commands, in their order
@@ -121,7 +119,7 @@ AllFit s (c ∷ cs) = FitsStoring s c × AllFit (after_storing c s) cs
 -- what a step stores and sends, what is left at its end, and what a stop leaves after any number of its commands
 pub record StepFits (s : GroupState) (r : StepResult) : Type 0 where
   pub commands : AllFit s.stored r.commands
-  pub messages : All (λ (m : Message). FitsBody m.body) r.messages
+  pub messages : All (λ (m : Message). IsBodyBounded m.body) r.messages
   pub stored : FitsStored r.state.stored
   pub stops : (k : ℕ) → FitsStored (stopped_after k s.stored r)
 

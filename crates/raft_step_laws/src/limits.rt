@@ -9,8 +9,8 @@ ghost use Rattle.raft_group_step.specs.GroupEvent.{Open};
 ghost use Rattle.raft_group_step.specs.Message.{AppendReply, Conflict, HeartBeat, HigherVote, Numbered, PartialSuccess, SnapshotReply, Success};
 ghost use Rattle.raft_group_step.specs.StoredGroup.{CutFrom, PutEntries, RemoveUpTo};
 ghost use Rattle.raft_group_step.specs.StepExample.{blank_at, with_log};
-ghost use Rattle.raft_step_laws.specs.Fitting.{AllFit, ArePlacedFrom, ComesWithin, FitsBody, FitsPayload, FitsRequest, FitsSnapshot};
-ghost use Rattle.raft_step_laws.specs.Fitting.{FitsSnapshotReply, FitsStored, FitsStoring, IsCommittedWithin, StepsFit};
+ghost use Rattle.raft_step_laws.specs.Fitting.{AllFit, ArePlacedFrom, ComesWithin, IsBodyBounded, IsPayloadBounded, FitsRequest, IsSnapshotBounded};
+ghost use Rattle.raft_step_laws.specs.Fitting.{IsSnapshotReplyBounded, FitsStored, FitsStoring, IsCommittedWithin, StepsFit};
 ghost use Rattle.raft_step_laws.specs.FittingRows.{behind_a_purge, blanks_from, committed_to, groups, message_of_one, reply, request, snapshot_of};
 
 /// Where what a node has fits, and what comes to it, so does what a step stores and sends, and what is left of it at its end or
@@ -23,11 +23,11 @@ pub fn steps_fit()
 
 /// Eight voter groups are within the limits, nine are not.
 pub fn payloads_that_fit()
-    ensures eight { FitsPayload (Members (groups 8)) }
-    ensures nine { FitsPayload (Members (groups 9)) → ⊥ }
-    ensures command { FitsPayload (Normal (5 ∷ [])) }
-    ensures snapshot { FitsSnapshot (snapshot_of (groups 8)) }
-    ensures wide_snapshot { FitsSnapshot (snapshot_of (groups 9)) → ⊥ }
+    ensures eight { IsPayloadBounded (Members (groups 8)) }
+    ensures nine { IsPayloadBounded (Members (groups 9)) → ⊥ }
+    ensures command { IsPayloadBounded (Normal (5 ∷ [])) }
+    ensures snapshot { IsSnapshotBounded (snapshot_of (groups 8)) }
+    ensures wide_snapshot { IsSnapshotBounded (snapshot_of (groups 9)) → ⊥ }
 {}
 
 /// A request's entries follow its previous log id, without a gap, and are 64 at most.
@@ -42,13 +42,13 @@ pub fn requests_that_fit()
 
 /// A snapshot's reply has a number and no previous log id, and tells of success or of a greater vote.
 pub fn snapshot_replies_that_fit()
-    ensures success { FitsSnapshotReply (reply (Numbered 3) None Success) }
-    ensures greater { FitsSnapshotReply (reply (Numbered 3) None (HigherVote (vote_of 2 3 true))) }
-    ensures notice { FitsSnapshotReply (reply HeartBeat None Success) → ⊥ }
-    ensures previous { FitsSnapshotReply (reply (Numbered 3) (Some (log_id_of 1 1 1)) Success) → ⊥ }
-    ensures conflict { FitsSnapshotReply (reply (Numbered 3) None Conflict) → ⊥ }
-    ensures part { FitsBody (AppendReply (reply (Numbered 3) None (PartialSuccess (Some (log_id_of 1 1 1))))) → ⊥ }
-    ensures body { FitsBody (SnapshotReply (reply (Numbered 3) None Conflict)) → ⊥ }
+    ensures success { IsSnapshotReplyBounded (reply (Numbered 3) None Success) }
+    ensures greater { IsSnapshotReplyBounded (reply (Numbered 3) None (HigherVote (vote_of 2 3 true))) }
+    ensures notice { IsSnapshotReplyBounded (reply HeartBeat None Success) → ⊥ }
+    ensures previous { IsSnapshotReplyBounded (reply (Numbered 3) (Some (log_id_of 1 1 1)) Success) → ⊥ }
+    ensures conflict { IsSnapshotReplyBounded (reply (Numbered 3) None Conflict) → ⊥ }
+    ensures part { IsBodyBounded (AppendReply (reply (Numbered 3) None (PartialSuccess (Some (log_id_of 1 1 1))))) → ⊥ }
+    ensures body { IsBodyBounded (SnapshotReply (reply (Numbered 3) None Conflict)) → ⊥ }
 {}
 
 /// Entries are put right behind the log, at their places; the log is cut where it has an entry, and its front never comes back.

@@ -16,7 +16,7 @@ use Rattle.raft_wire.specs.declared.frame.Frame.{Frame}
 use Rattle.raft_wire.specs.Reader.{all_of}
 use Rattle.raft_wire.specs.Memberships.{Chained, FitsIds, nothing_left, FitsNode, that_node, FitsMembership}
 use Rattle.raft_wire.specs.Entries.{FitsPayload, that_place}
-use Rattle.raft_wire.specs.Writing.{is_payload_short}
+use Rattle.raft_group_step.specs.Refusal.{is_payload_short}
 use Rattle.raft_messages.specs.declared.message.ReplyFields.{ReplyFields}
 use Rattle.raft_messages.specs.declared.message.ReplyResult.{ReplyResult}
 use Rattle.raft_messages.specs.declared.message.ReplyResult.TheVariants.{Success, PartialSuccess, Conflict, HigherVote}

@@ -15,7 +15,7 @@ use Rattle.raft_wire.specs.Memberships.{Chained, FitsId as FitsIdAbove, that_id,
 use Rattle.raft_wire.specs.Entries.{FitsEntry, that_place}
 use Rattle.raft_wire.specs.Bodies.{FitsBehind, FitsId, FitsAppend}
 use Rattle.raft_wire.specs.Fields.{FitsVote, FitsLast}
-use Rattle.raft_wire.specs.Writing.{is_payload_short}
+use Rattle.raft_group_step.specs.Refusal.{is_payload_short}
 use Rattle.raft_wire.specs.declared.error.FrameFault.TheVariants as fault
 use Rattle.raft_wire.specs.Frames.{are_consecutive, are_entries_short, fault_of_entries}
 

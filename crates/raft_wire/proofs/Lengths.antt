@@ -22,7 +22,7 @@ use Rattle.raft_wire.specs.declared.frame.Frame.{Frame}
 use Rattle.raft_wire.specs.Fields.{spelled_flag, spelled_vote, spelled_log_id, spelled_last, spelled_option}
 use Rattle.raft_wire.specs.Memberships.{spelled_list, spelled_id, spelled_ids, spelled_address, spelled_node, spelled_membership}
 use Rattle.raft_wire.specs.Entries.{spelled_text, spelled_payload, spelled_entry}
-use Rattle.raft_wire.specs.Writing.{is_payload_short}
+use Rattle.raft_group_step.specs.Refusal.{is_payload_short}
 use Rattle.raft_wire.specs.Bodies.{spelled_id as spelled_request_id, spelled_append, spelled_result, spelled_reply, spelled_logged, spelled_snapshot, SentSnapshot, sent, spelled_sent, spelled_number}
 use Rattle.raft_wire.specs.Frames.{Body, spelled_parties, spelled_body, spelled_rest, are_consecutive, are_entries_short, is_logged_short, is_snapshot_short, fault_of_entries, fault_of_snapshot, fault_of_frame}
 

@@ -16,7 +16,7 @@ use Rattle.raft_wire.specs.declared.error.FrameFault.TheVariants as fault
 use Rattle.raft_wire.specs.declared.frame.Frame.{Frame}
 use Rattle.raft_wire.specs.declared.frame.FrameKind.{FrameKind}
 use Rattle.raft_wire.specs.declared.frame.FrameKind.TheVariants as kind
-use Rattle.raft_wire.specs.Writing.{is_payload_short}
+use Rattle.raft_group_step.specs.Refusal.{is_payload_short}
 use Rattle.raft_wire.specs.Reader.{Reader, ◌>>=◌, made, number_at}
 use Rattle.raft_wire.specs.Entries.{follows}
 use Rattle.raft_wire.specs.Bodies.{spelled_vote_request, FitsVoteRequest, vote_request_at, spelled_vote_reply}

@@ -1,9 +1,9 @@
 -- What a call that writes answers.
-use Rattle.std.specs.Prelude.{◌≡◌, ℕ, nat_le, Bool, true, List, length, Option, Some, None, Result, Ok, Err}
+use Rattle.std.specs.Prelude.{◌≡◌, ℕ, List, Option, Some, None, Result, Ok, Err}
 use Rattle.std.specs.Prelude.{Vec, if◌then◌else◌}
 use Rattle.std.specs.declared.alloc.Global.{Global}
-use Rattle.raft_state.specs.declared.entry.EntryPayload.TheVariants.{Blank, Normal, Membership as Members}
-use Rattle.raft_group_step.specs.Values.{Entry, EntryPayload, is_within_limits}
+use Rattle.raft_group_step.specs.Refusal.{is_payload_short}
+use Rattle.raft_group_step.specs.Values.{Entry}
 use Rattle.raft_wire.specs.declared.error.FrameFault.{FrameFault}
 use Rattle.raft_wire.specs.declared.error.FrameFault.TheVariants as fault
 use Rattle.raft_wire.specs.declared.error.FrameError.{FrameError}
@@ -17,11 +17,6 @@ Writes wrong bytes (Err (errors.Fault f)) = wrong ≡ Some f
 Writes wrong bytes (Err errors.StreamFailed) = ⊥
 
 -- ---- entries
-
-abbrev pub is_payload_short : EntryPayload → Bool
-is_payload_short Blank = true
-is_payload_short (Normal command) = nat_le (length command) 65536
-is_payload_short (Members m) = is_within_limits m
 
 -- a command or membership past its limits
 abbrev pub fault_of_entry : Entry → Option FrameFault

@@ -4,7 +4,8 @@ ghost use Rattle.raft_group_step.specs.Values.{Entry as EntryValue};
 ghost use Rattle.raft_wire.specs.Reader.{Gives, all_of, text_at};
 ghost use Rattle.raft_wire.specs.Entries.{payload_at, follows, entry_behind, entry_at};
 ghost use Rattle.raft_wire.specs.Entries.{spelled_payload, spelled_entry, FitsPayload, FitsEntry};
-ghost use Rattle.raft_wire.specs.Writing.{Writes, is_payload_short, fault_of_entry};
+ghost use Rattle.raft_group_step.specs.Refusal.{is_payload_short};
+ghost use Rattle.raft_wire.specs.Writing.{Writes, fault_of_entry};
 
 use crate::error::{FrameError, FrameFault};
 use crate::fields::{log_id_of, put_log_id, put_text, text_of};

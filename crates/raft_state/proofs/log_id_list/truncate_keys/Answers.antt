@@ -1,14 +1,14 @@
 use Rattle.std.proofs.Common.{◌≡◌, ℕ, ◌-◌, ◌<◌, ◌≤◌, List, length, get_or, sym, ◌∙◌, arith, ap, subst}
 use Rattle.raft_values.specs.declared.log_id.LogId.{LogId}
 use Rattle.raft_state.specs.LogIdList.{ids_of}
-use Rattle.raft_state.proofs.KeyCutLemmas.{id_by}
-use Rattle.raft_state.proofs.KeyCountLemmas.{truncated-none_counted, truncated-all_counted, truncated-pair_counted, truncated-front_counted}
+use Rattle.raft_state.proofs.KeyCutLemmas.{id_by, truncated-before}
+use Rattle.raft_state.proofs.KeyCountLemmas.{truncated-all_counted, truncated-pair_counted, truncated-front_counted}
 use Rattle.raft_state.proofs.KeyRestLemmas.{AreKeys-take, AreKeys-pair}
 use Rattle.raft_state.proofs.log_id_list.truncate_keys.Goals as goal
 
 pub returns-then-at-eq0-clause-ids : goal.returns-then-at-eq0-clause-ids
 returns-then-at-eq0-clause-ids g c =
-    ap ids_of c.clear.ensures.items ∙ sym (truncated-none_counted c.args.keys.now.items c.args.at c.requires.0 (λ d h. omega arith))
+    ap ids_of c.clear.ensures.items ∙ sym (truncated-before c.args.keys.now.items c.args.at c.requires.0 (λ d h. omega arith))
 
 -- the key at the count is above the place right below
 above-place : {K : Type 0} (keys : List (LogId K)) (count at : ℕ) → ((d : LogId K) → count < length keys → at - 1 < (get_or keys count d).index) → count < length keys
@@ -20,7 +20,7 @@ returns-then-count-eq0-clause-ids g c =
     let said = rw c.as_slice.ensures.value at c.count_up_to-count.ensures in
     let none = rw c.if-count-eq0.true at said.above in
     ap ids_of c.clear-then-count-eq0.ensures.items
-    ∙ sym (truncated-none_counted c.args.keys.now.items c.args.at c.requires.0 (λ d h. let more = none d h in omega (arith, more)))
+    ∙ sym (truncated-before c.args.keys.now.items c.args.at c.requires.0 (λ d h. let more = none d h in omega (arith, more)))
 
 pub returns-then-count-len-clause-ids : goal.returns-then-count-len-clause-ids
 returns-then-count-len-clause-ids g c =
