@@ -17,7 +17,7 @@ use Rattle.raft_laws.specs.GroupWorld.{GroupWorld, NodeState, Absent, Up, Down, 
 use Rattle.raft_laws.specs.NodeEvent.{NodeEvent, Comes, Crashes, Halts, Restarts, after_step, outcome_at, outcome_of_end, outcome_of_step, outcome_of_stop, state_after}
 use Rattle.raft_laws.specs.GroupRun.{Scene, Nowhere, At, Replays, after_scene, is_same_setup, outcome_in, scene_of, scene_of_call, scene_of_delivery, sent_in, setup_in_call, stop_at}
 use Rattle.raft_laws.specs.VotesRise.{stored_of}
-use Rattle.raft_laws.specs.OneList.{AreNodeIds}
+use Rattle.raft_laws.specs.OneList.{AreNodeIds, IsGroupHistory}
 use Rattle.raft_laws.proofs.BallotAgreement.{same_some}
 use Rattle.raft_laws.proofs.BallotSafe.{Among, among_at}
 use Rattle.raft_laws.proofs.BallotSettling.{all_commits}
@@ -33,7 +33,7 @@ use Rattle.raft_laws.proofs.HeldLists.{at_node}
 use Rattle.raft_laws.proofs.WorldStart.{founded}
 use Rattle.raft_step_laws.specs.Fitting.{ComesWithin, IsBodyBounded, FitsEvent, IsPayloadBounded, FitsStored, IsCommittedWithin, StepFits}
 use Rattle.raft_step_laws.proofs.FitSteps.{steps_fit}
-use Rattle.raft_history_laws.specs.Limits.{CommittedIsWithin, MessagesFit, StoredPartsFit}
+use Rattle.raft_history_laws.specs.Limits.{CommandsFit, CommittedIsWithin, MessagesFit, OpeningsFit, StoredPartsFit, WasSent}
 use Rattle.raft_history_laws.proofs.Along.{along}
 use Rattle.raft_history_laws.proofs.AlongNodes.{may_follow}
 use Rattle.raft_history_laws.proofs.Later.{one_node}
@@ -191,6 +191,30 @@ pub messages_fit : MessagesFit
 messages_fit ids rs end h y within =
     let k = contains_at end.messages y within in
     (world_stored ids h.node_ids rs end h.replays).messages y (among_at end.messages k.0 y k.1)
+
+-- ---- what a node stores
+
+event_fits : (ids : List ℕ) (rs : List Recorded) (end : GroupWorld) → IsGroupHistory ids rs end → (e : GroupEvent) → WasSent end.messages e → FitsEvent e
+event_fits ids rs end h AddGroup was = tt
+event_fits ids rs end h (Call call now) was = tt
+event_fits ids rs end h (Receive peer m now) was = messages_fit ids rs end h m was
+event_fits ids rs end h Open was = tt
+
+comes : (s : GroupState) (e : GroupEvent) → IsCommittedWithin s → ComesWithin s e
+comes s AddGroup is = tt
+comes s (Call call now) is = tt
+comes s (Receive peer m now) is = is
+comes s Open is = tt
+
+pub commands_fit : CommandsFit
+commands_fit ids rs end h n s e up was =
+    let stored = stored_parts_fit ids rs end h n s.stored (ap stored_of up) in
+    let come = comes s e (committed_within ids rs end h n s up) in
+    (steps_fit n s e stored come (event_fits ids rs end h e was)).commands
+
+pub openings_fit : OpeningsFit
+openings_fit ids rs end h n stored down =
+    (steps_fit n (state_of stored) Open (stored_parts_fit ids rs end h n stored (ap stored_of down)) tt tt).commands
 
 -- ---- what each event keeps at its node, where what is stored and what comes fits
 

@@ -5,7 +5,7 @@ ghost use Rattle.std.specs.Prelude.{◌≡◌, [], ◌∷◌};
 ghost use Rattle.raft_laws.specs.Example.{run_of, three, to_their_end};
 ghost use Rattle.raft_laws.specs.SnapshotRun.{until_installed};
 ghost use Rattle.raft_laws.specs.ThreeNodes.{until_proposed, until_told};
-ghost use Rattle.raft_history_laws.specs.Limits.{CommittedIsWithin, MessagesFit, StoredPartsFit};
+ghost use Rattle.raft_history_laws.specs.Limits.{CommandsFit, CommittedIsWithin, MessagesFit, OpeningsFit, StoredPartsFit};
 ghost use Rattle.raft_history_laws.specs.LimitsRun.{bounds_after, sizes_in};
 
 /// Whatever happens, what each node has stored is within the limits, whether it is up or down:
@@ -16,6 +16,13 @@ pub fn histories_fit()
     ensures stored { StoredPartsFit }
     ensures committed { CommittedIsWithin }
     ensures sent { MessagesFit }
+{}
+
+/// Whatever comes to a node, or opens it, what it stores fits what it has stored: entries are put right behind the log, at their
+/// places and at most 64 at a time, so no put shortens a log; a cut begins inside the log, and its front never comes back.
+pub fn stored_commands_fit()
+    ensures commands { CommandsFit }
+    ensures openings { OpeningsFit }
 {}
 
 /// What is committed lies within the log: below its end while a command waits, at its end once that
