@@ -126,7 +126,7 @@ module _ (base : StoredGroup) where
       let v = committed_vote r.state.stored.vote in
       let q = in_role (Leader (new_lead r.state.stored)) (store_vote v r) in
       let k = same (store_vote v r) q refl refl refl (voted v r h) in
-      either Keeps (list_any (is_written_by q.state.stored.vote.leader_id) q.state.stored.log) q (append Blank q) k (appended Blank q k tt)
+      either Keeps (list_any (is_written_by q.state.stored.vote.leader_id) q.state.stored.log) q (append Blank q) k (appended Blank q k refl)
 
   led : (b : Bool) (r : StepResult) → Keeps r → Keeps (lead_if b r)
   led true r h = began r h
@@ -450,9 +450,9 @@ module _ (base : StoredGroup) where
 
   -- what a call that isn't refused brings fits
   abbrev CallFits : GroupState → GroupCall → Type 0
-  CallFits s (Initialize m) = IsTrue (is_within_limits m) × (end_place s.stored ≡ 0)
+  CallFits s (Initialize m) = IsPayloadBounded (Members m) × (end_place s.stored ≡ 0)
   CallFits s Elect = Unit {0}
-  CallFits s (Propose command token) = length command ≤ 65536
+  CallFits s (Propose command token) = IsPayloadBounded (Normal command)
   CallFits s (ChangeMembership change token) = ChangeFits (membership_in_force s.stored) change
   CallFits s Heartbeat = Unit {0}
   CallFits s (Lost peer) = Unit {0}

@@ -22,7 +22,7 @@ use Rattle.raft_group_step.specs.VoteRequest.{judged, may_grant}
 use Rattle.raft_group_step.specs.VoteReply.{counted, take_over_greater}
 use Rattle.raft_group_step.specs.AppendRequest.{heard, is_held, joined}
 use Rattle.raft_group_step.specs.SnapshotRequest.{offered}
-use Rattle.raft_group_step.specs.Reply.{accepted_up_to, after_answer, answered, ended, is_part_of, with_higher_vote}
+use Rattle.raft_group_step.specs.Reply.{after_answer, answered, ended, with_higher_vote}
 use Rattle.raft_group_step.specs.MembershipStep.{append_changed}
 use Rattle.raft_group_step.specs.Lost.{lost_as}
 use Rattle.raft_group_step.specs.Opening.{opening_step}
