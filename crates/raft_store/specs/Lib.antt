@@ -1,3 +1,4 @@
 pub mod Keys
 pub mod Reading
 pub mod Batches
+pub mod Faults

@@ -4,6 +4,8 @@
 mod batches;
 mod fault;
 mod places;
+mod readings;
+mod reads;
 mod store;
 
 pub use fault::{StoreFault, StoreRefusal};

@@ -1,0 +1,77 @@
+//! What the values of a group's keys, and the bytes of its entries, read as.
+ghost use Rattle.std.specs.Prelude.{◌≡◌, ℕ, List, Option, MatchResult, map, option_map};
+ghost use Rattle.std.specs.List.{AllByRecursion};
+ghost use Rattle.raft_values.specs.declared.log_id.LogId.{LogId as LogIdOf};
+ghost use Rattle.raft_values.specs.declared.vote.Vote.{Vote as VoteOf};
+ghost use Rattle.raft_group_step.specs.Values.{Entry};
+ghost use Rattle.raft_group_step.specs.StoredGroup.{Snapshot};
+ghost use Rattle.raft_group_storage.specs.Keeping.{StandsOrNone};
+ghost use Rattle.raft_log_records.specs.Batch.{payloads};
+ghost use Rattle.raft_node.specs.Machine.{MachineRules};
+ghost use Rattle.raft_wire.specs.Entries.{FitsEntry, spelled_entry};
+ghost use Rattle.raft_wire.specs.Fields.{FitsLast, spelled_log_id};
+ghost use Rattle.raft_store.specs.Faults.{IsRead};
+ghost use Rattle.raft_store.specs.Reading.{HoldsEnd, HoldsSnapshot, HoldsVote, StandsFor};
+ghost use Rattle.raft_store.specs.declared.fault.StoreRefusal.TheVariants as refusal;
+
+use crate::fault::StoreRefusal;
+use raft_messages::{GroupEntry, SnapshotBytes};
+use raft_state::{LogId, Vote};
+use raft_wire::{read_entry, read_log_id, read_place, read_snapshot_body, read_vote};
+use std::alloc::Global;
+
+/// The vote, by the value of its key.
+pub fn vote_of(value: Option<Vec<u8>>) -> Result<Vote<u64>, StoreRefusal>
+    ensures { (vote : VoteOf ℕ) → HoldsVote (option_map (λ v. v.items) value) vote → IsRead result vote }
+{
+    match value {
+        None => Ok(Vote::new(0, 0)),
+        Some(bytes) => Ok(read_vote(&bytes)?),
+    }
+}
+
+/// The log id up to which the log is purged, by the value of its key.
+pub fn purged_of(value: Option<Vec<u8>>) -> Result<Option<LogId<u64>>, StoreRefusal>
+    ensures { (id : Option (LogIdOf ℕ)) → FitsLast id → option_map (λ v. v.items) value ≡ option_map spelled_log_id id → IsRead result id }
+{
+    match value {
+        None => Ok(None),
+        Some(bytes) => Ok(Some(read_log_id(&bytes)?)),
+    }
+}
+
+/// The place behind the log's last entry, by the value of its key.
+pub fn end_of(value: Option<Vec<u8>>) -> Result<u64, StoreRefusal>
+    ensures { (end : ℕ) → HoldsEnd (option_map (λ v. v.items) value) end → IsRead result end }
+{
+    match value {
+        None => Ok(0),
+        Some(bytes) => Ok(read_place(&bytes)?),
+    }
+}
+
+/// The snapshot, by the value of its key.
+pub fn snapshot_of(
+    alloc: Global,
+    value: Option<Vec<u8>>,
+) -> Result<Option<SnapshotBytes>, StoreRefusal>
+    ensures { (rules : MachineRules) (x : Option Snapshot) → HoldsSnapshot rules (option_map (λ v. v.items) value) x
+        → MatchResult result (λ found. StandsOrNone (StandsFor rules) found x) (λ refused. refused ≡ refusal.Memory) }
+{
+    match value {
+        None => Ok(None),
+        Some(bytes) => Ok(Some(read_snapshot_body(alloc, &bytes)?)),
+    }
+}
+
+/// Entries, by the bytes of each.
+pub fn entries_of(alloc: Global, all: &[Vec<u8>]) -> Result<Vec<GroupEntry>, StoreRefusal>
+    ensures { (entries : List Entry) → AllByRecursion FitsEntry entries → payloads all.now ≡ map spelled_entry entries
+        → MatchResult result (λ found. found.items ≡ entries) (λ refused. refused ≡ refusal.Memory) }
+{
+    let mut entries = Vec::with_capacity(alloc, all.len())?;
+    for bytes in all {
+        entries.push(read_entry(alloc, bytes)?)?;
+    }
+    Ok(entries)
+}
