@@ -2,3 +2,4 @@ pub mod Keys
 pub mod Reading
 pub mod Batches
 pub mod Faults
+pub mod Showing

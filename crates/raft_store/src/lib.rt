@@ -3,6 +3,7 @@
 
 mod batches;
 mod fault;
+mod group_storage;
 mod places;
 mod readings;
 mod reads;
