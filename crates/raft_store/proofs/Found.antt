@@ -44,6 +44,9 @@ pub record IsAt (all : List (Vec ℕ Global)) (es : List Entry) (i : ℕ) (v : V
   pub bytes : v.items ≡ spelled_entry entry
   pub next : take (suc i) es ≡ take i es ++ entry ∷ []
 
+behind_one : (b : Vec ℕ Global) (bs : List (Vec ℕ Global)) (e : Entry) (es : List Entry) (i : ℕ) (v : Vec ℕ Global) → IsAt bs es i v → IsAt (b ∷ bs) (e ∷ es) (suc i) v
+behind_one b bs e es i v at = record { entry = at.entry; fits = at.fits; bytes = at.bytes; next = ap (λ (l : List Entry). e ∷ l) at.next }
+
 pub entry_is_at : (all : List (Vec ℕ Global)) (es : List Entry) (i : ℕ) (v : Vec ℕ Global) → AllByRecursion FitsEntry es → payloads all ≡ map spelled_entry es
     → i < length all → v ≡ get_or all i v → IsAt all es i v
 entry_is_at [] es i v fits same inside is = absurd (omega arith)
@@ -51,8 +54,7 @@ entry_is_at (b ∷ bs) [] i v fits same inside is = absurd cc
 entry_is_at (b ∷ bs) (e ∷ es) zero v fits same inside is = record { entry = e; fits = fits.0; bytes = cc; next = refl }
 entry_is_at (b ∷ bs) (e ∷ es) (suc i) v fits same inside is =
     let rest : payloads bs ≡ map spelled_entry es = cc in
-    let at : IsAt bs es i v = entry_is_at bs es i v fits.1 rest (omega arith) is in
-    record { entry = at.entry; fits = at.fits; bytes = at.bytes; next = ap (λ (l : List Entry). e ∷ l) at.next }
+    behind_one b bs e es i v (entry_is_at bs es i v fits.1 rest (omega arith) is)
 
 -- ---- a log's entries
 

@@ -25,11 +25,11 @@ pub enum StoreRefusal {
     /// A batch longer than a record may be.
     #[error("the batch is longer than it may be")]
     TooLong,
-    /// A value that is past a limit, or a stored one that isn't readable.
+    /// A value that is past a limit, or stored bytes that aren't one, by their fault.
     #[error("a value isn't written or read: {0}")]
     Value(FrameFault),
-    /// A stored end that lies below the purge point.
-    #[error("the stored end lies below the purge point")]
+    /// A stored end below the log's first place.
+    #[error("the stored end lies below the log's first place")]
     BadEnd,
 }
 

@@ -143,8 +143,8 @@ impl<M: StateMachine, L: ContentLog> Store<M, L> {
         Ok(entries_of(alloc, &bytes)?)
     }
 
-    /// A copy of the snapshot, if there is one (own). At a store that is well no stored value is
-    /// refused.
+    /// A copy of the snapshot, if there is one (own). Stored bytes that aren't one are refused
+    /// (`Value`); where the store is well there are none.
     pub fn snapshot(
         &mut self,
         alloc: Global,
@@ -162,8 +162,8 @@ impl<M: StateMachine, L: ContentLog> Store<M, L> {
     }
 
     /// Copies of the log's entries above the first log id, up to the second (own). Where the first
-    /// is below the purge point, they are as many of the log's first entries. At a store that is
-    /// well no stored value is refused.
+    /// is below the purge point, they are as many of the log's first entries. Stored bytes that
+    /// aren't readable are refused (`Value`, `BadEnd`); where the store is well there are none.
     pub fn entries_between(
         &mut self,
         alloc: Global,
@@ -183,8 +183,8 @@ impl<M: StateMachine, L: ContentLog> Store<M, L> {
         Ok(as_sent(alloc, entries)?)
     }
 
-    /// A copy of what is stored of the group, but for what its snapshot has (own). At a store that
-    /// is well no stored value is refused.
+    /// A copy of what is stored of the group, but for what its snapshot has (own). Stored bytes that
+    /// aren't readable are refused (`Value`, `BadEnd`); where the store is well there are none.
     pub fn load(&mut self, alloc: Global, group: u64) -> Result<LoadedGroup, StoreFault<L::Fault>>
         ensures well { L.is_sound self.old.log → OnOk result (L.is_sound self.new.log) }
         ensures ok { (s : StoredGroup) → L.is_sound self.old.log → ShowsBy M.rules L.is_sound L.answers L.leaves self.old.log group (s ∷ [])
