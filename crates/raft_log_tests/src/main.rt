@@ -1,5 +1,5 @@
 //! Calls of the log's crates, a row of text each, and what they answer: batches and their records,
-//! memtables and replay, names and settings.
+//! memtables and replay, a log in memory, names and settings.
 #![tactic(auto)]
 
 mod batches;
@@ -7,6 +7,7 @@ mod checksums;
 mod messages;
 mod names;
 mod opening;
+mod plain_logs;
 mod ranges;
 mod reading;
 mod rows;

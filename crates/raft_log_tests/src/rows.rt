@@ -4,10 +4,12 @@ use crate::batches::{batched, marked};
 use crate::checksums::summed;
 use crate::names::{counted, measured, named};
 use crate::opening::listed;
+use crate::plain_logs::{logged, new_log};
 use crate::ranges::ranged;
 use crate::reading::{read, written};
 use crate::settings::{asked, set};
 use crate::tables::{Tables, changed, looked_up};
+use raft_content_log::PlainLog;
 use raft_log_files::Config;
 use raft_log_memtables::MemTables;
 use raft_log_records::{GlobalStats, LogBatch};
@@ -19,6 +21,7 @@ use std::alloc::Global;
 pub struct Calls {
     batch: LogBatch,
     tables: Tables,
+    log: PlainLog,
     stats: GlobalStats,
     config: Config,
 }
@@ -31,6 +34,7 @@ impl Calls {
                 tables: MemTables::new(alloc),
                 records: Vec::new(alloc),
             },
+            log: new_log(alloc),
             stats: GlobalStats::new(),
             config: Config::default(alloc),
         }
@@ -50,7 +54,7 @@ impl Calls {
         read(&self.batch, alloc, words)
     }
 
-    /// The answer to a row about memtables or settings.
+    /// The answer to a row about memtables, a log of them or settings.
     fn of_others(&mut self, alloc: Global, words: &[&str]) -> Option<Answer> {
         if let Some(answer) = changed(&mut self.tables, &mut self.batch, alloc, words) {
             return Some(answer);
@@ -59,6 +63,9 @@ impl Calls {
             return Some(answer);
         }
         if let Some(answer) = ranged(&self.tables.tables, alloc, words) {
+            return Some(answer);
+        }
+        if let Some(answer) = logged(&mut self.log, &mut self.batch, alloc, words) {
             return Some(answer);
         }
         if let Some(answer) = set(&mut self.config, alloc, words) {

@@ -1,4 +1,5 @@
 pub mod Carrying
+pub mod Found
 pub mod Logs
 pub mod Reach
 pub mod Spelled

@@ -1,6 +1,6 @@
 -- Entries that stand under their places: fronts, ends and changes of them.
 use Rattle.std.proofs.Common.{◌≡◌, ◌<◌, ◌≤◌, ◌+◌, ℕ, zero, suc, Bool, true, false, cond, List, [], ◌∷◌, ◌++◌, length, map, take, drop, Option, Some, None, refl, ap, subst, ◌∙◌, arith, eq-eqb}
-use Rattle.std.specs.Prelude.{nat_eq, IsSome}
+use Rattle.std.specs.Prelude.{nat_eq, IsSome, slice_get}
 use Rattle.std.specs.List.{AllByRecursion}
 use Rattle.std.proofs.lemmas.Bool.{ne_eqb}
 use Rattle.raft_group_step.specs.Values.{Entry}
@@ -67,3 +67,23 @@ pub numbered_none : (place : ℕ) (parts : List (List ℕ)) (i : ℕ) → place 
 numbered_none place [] i past = refl
 numbered_none place (part ∷ parts) i past =
     not_here place part (entry_at (numbered (place + 1) parts) i) i (λ same. absurd (omega arith)) ∙ numbered_none (place + 1) parts i (omega arith)
+
+-- ---- entries that are read
+
+pub log_fits : (entry : Cells) (place : ℕ) (es : List Entry) → HoldsLog entry place es → AllByRecursion FitsEntry es
+log_fits entry place [] h = tt
+log_fits entry place (e ∷ es) h = (h.1, log_fits entry (place + 1) es h.2)
+
+-- what is found at the places of a log are its entries' bytes
+pub log_found : (entry : Cells) (place : ℕ) (es : List Entry) (found : List (List ℕ)) → HoldsLog entry place es → length found ≡ length es
+    → ((i : ℕ) → i < length es → slice_get found i ≡ entry (place + i)) → found ≡ map spelled_entry es
+log_found entry place [] [] h len each = refl
+log_found entry place [] (bytes ∷ rest) h len each = absurd (omega arith)
+log_found entry place (e ∷ es) [] h len each = absurd (omega arith)
+log_found entry place (e ∷ es) (bytes ∷ rest) h len each =
+    let here : place + 0 ≡ place = omega arith in
+    let first : Some bytes ≡ Some (spelled_entry e) = each 0 (omega arith) ∙ ap entry here ∙ h.0 in
+    let others : rest ≡ map spelled_entry es =
+    log_found entry (place + 1) es rest h.2 (omega arith)
+    (λ i lt. let next : place + suc i ≡ place + 1 + i = omega arith in each (suc i) (omega arith) ∙ ap entry next) in
+    cc

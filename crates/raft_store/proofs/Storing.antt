@@ -6,7 +6,6 @@ use Rattle.raft_log_records.specs.Item.{Change, Item}
 use Rattle.raft_log_memtables.specs.Content.{Content, GroupContent, after_batch, after_change, after_item}
 use Rattle.raft_log_memtables.specs.Taken.{TakesEach}
 use Rattle.raft_content_log.specs.Leaving.{AgreesElsewhere, IsEither, IsUnnamed, IsWritten, Leaves, LeavesElsewhere, LeavesNoMore, MayBeWritten}
-use Rattle.raft_group_storage.specs.Keeping.{IsOneOf}
 use Rattle.raft_node.specs.Machine.{MachineRules}
 use Rattle.raft_store.specs.Batches.{Carries, ShowsIn, TakesChanges, after_changes, of_group}
 use Rattle.raft_store.specs.Reading.{Holds, HoldsOne}
@@ -86,23 +85,6 @@ still_shown rules sound_old sound_new old new leaves_old leaves_new kept less gr
 }
 
 -- ---- more parts
-
-holds_among : (rules : MachineRules) (g : GroupContent (List ℕ)) (s : StoredGroup) (more : List StoredGroup) → IsOneOf more s → Holds rules g s → HoldsOne rules g more
-holds_among rules g s [] none h = absurd none
-holds_among rules g s (x ∷ xs) (inl same) h = inl (subst (Holds rules g) same h)
-holds_among rules g s (x ∷ xs) (inr is) h = inr (holds_among rules g s xs is h)
-
-one_of_more : (rules : MachineRules) (g : GroupContent (List ℕ)) (parts more : List StoredGroup) → ((s : StoredGroup) → IsOneOf parts s → IsOneOf more s) → HoldsOne rules g parts → HoldsOne rules g more
-one_of_more rules g [] more wider none = absurd none
-one_of_more rules g (s ∷ ss) more wider (inl h) = holds_among rules g s more (wider s (inl refl)) h
-one_of_more rules g (s ∷ ss) more wider (inr h) = one_of_more rules g ss more (λ x is. wider x (inr is)) h
-
-pub shows_more : (rules : MachineRules) (sound : Type 0) (answered : Content (List ℕ)) (leaves : Leaves) (group : ℕ) (parts more : List StoredGroup)
-    → ((s : StoredGroup) → IsOneOf parts s → IsOneOf more s) → ShowsIn rules sound answered leaves group parts → ShowsIn rules sound answered leaves group more
-shows_more rules sound answered leaves group parts more wider shown = record {
-  answered = λ is. one_of_more rules (answered group) parts more wider (shown.answered is);
-  left = λ content is. one_of_more rules (content group) parts more wider (shown.left content is);
-}
 
 -- the part alone is one of two
 pub shows_either : (rules : MachineRules) (sound : Type 0) (answered : Content (List ℕ)) (leaves : Leaves) (group : ℕ) (s t : StoredGroup)

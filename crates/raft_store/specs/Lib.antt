@@ -1,3 +1,5 @@
 pub mod Keys
 pub mod Reading
 pub mod Batches
+pub mod Faults
+pub mod Showing

@@ -1,6 +1,7 @@
 //! Why a store's calls fail.
 ghost use Rattle.raft_store.specs.declared.fault.StoreRefusal.TheVariants as refusal;
 ghost use Rattle.raft_store.specs.declared.fault.StoreFault.TheVariants.{Refused};
+ghost use Rattle.raft_store.specs.Faults.{refusal_of};
 
 use raft_log_records::RecordError;
 use raft_wire::{FrameError, FrameFault};
@@ -24,11 +25,11 @@ pub enum StoreRefusal {
     /// A batch longer than a record may be.
     #[error("the batch is longer than it may be")]
     TooLong,
-    /// A value that is past a limit, or a stored one that isn't readable.
+    /// A value that is past a limit, or stored bytes that aren't one, by their fault.
     #[error("a value isn't written or read: {0}")]
     Value(FrameFault),
-    /// A stored end that lies below the purge point.
-    #[error("the stored end lies below the purge point")]
+    /// A stored end below the log's first place.
+    #[error("the stored end lies below the log's first place")]
     BadEnd,
 }
 
@@ -62,6 +63,10 @@ impl From<RecordError> for StoreRefusal {
 }
 
 impl From<FrameError> for StoreRefusal {
+    ghost from_gives = { λ error e. e ≡ refusal_of error };
+
+    ghost use Rattle.std.specs.Prelude.{◌≡◌};
+
     fn from(error: FrameError) -> StoreRefusal {
         match error {
             FrameError::Fault(fault) => StoreRefusal::Value(fault),
@@ -80,12 +85,20 @@ pub enum StoreFault<F> {
 }
 
 impl<F> From<StoreRefusal> for StoreFault<F> {
+    ghost from_gives = { λ refused fault. fault ≡ Refused refused };
+
+    ghost use Rattle.std.specs.Prelude.{◌≡◌};
+
     fn from(refusal: StoreRefusal) -> StoreFault<F> {
         StoreFault::Refused(refusal)
     }
 }
 
 impl<F> From<AllocError> for StoreFault<F> {
+    ghost from_gives = { λ _ fault. fault ≡ Refused refusal.Memory };
+
+    ghost use Rattle.std.specs.Prelude.{◌≡◌};
+
     fn from(_e: AllocError) -> StoreFault<F> {
         StoreFault::Refused(StoreRefusal::Memory)
     }

@@ -3,7 +3,10 @@
 
 mod batches;
 mod fault;
+mod group_storage;
 mod places;
+mod readings;
+mod reads;
 mod store;
 
 pub use fault::{StoreFault, StoreRefusal};

@@ -1,24 +1,52 @@
 //! Where a stored log begins and ends.
-ghost use Rattle.std.specs.Prelude.{◌≡◌, ◌≤◌, ◌+◌, ℕ, Option, IfOk, OnOk, max, min, option_map};
-ghost use Rattle.raft_values.specs.declared.log_id.LogId.{LogId as LogIdOf};
+ghost use Rattle.std.specs.Prelude.{◌≡◌, ◌<◌, ◌≤◌, ◌+◌, ◌-◌, ◌^◌, List, IfOk, OnOk, OnErr, max, min, length, take, drop};
 ghost use Rattle.raft_values.specs.LogId.{next_place};
-ghost use Rattle.raft_wire.specs.Fields.{FitsLast, spelled_log_id};
-ghost use Rattle.raft_store.specs.Reading.{HoldsEnd};
+ghost use Rattle.raft_group_step.specs.Values.{Entry};
 
 use crate::fault::StoreRefusal;
 use raft_state::LogId;
-use raft_wire::{read_log_id, read_place};
+use std::ops::Range;
 
 /// Where a log begins and ends.
 #[derive(Clone, Copy, Debug)]
 pub struct Bounds {
+    /// The log id up to which it is purged, if it is.
+    pub purged: Option<LogId<u64>>,
     /// The place of its first entry.
     pub first: u64,
     /// The place behind its last one.
     pub end: u64,
 }
 
+// How many places stand above the first log id, up to the second: 2^64 - 1 in place of 2^64.
+fn places_between(from: Option<LogId<u64>>, to: Option<LogId<u64>>) -> u64
+    ensures { result ≡ min (next_place to - next_place from) (2 ^ 64 - 1) }
+{
+    match (from, to) {
+        (_, None) => 0,
+        (None, Some(to)) => to.index.saturating_add(1),
+        (Some(from), Some(to)) => to.index.saturating_sub(from.index),
+    }
+}
+
 impl Bounds {
+    /// Those of a log that is purged up to the log id and ends before the place. Refuses an end
+    /// below the first place.
+    pub fn new(purged: Option<LogId<u64>>, end: u64) -> Result<Bounds, StoreRefusal>
+        ensures purged { IfOk result (λ b. b.purged ≡ purged) }
+        ensures first { IfOk result (λ b. b.first ≡ next_place purged) }
+        ensures end { IfOk result (λ b. b.end ≡ end) }
+        ensures ordered { OnOk result (next_place purged ≤ end) }
+        ensures refused { OnErr result (end < next_place purged) }
+    {
+        let first = match purged {
+            None => 0,
+            Some(id) if id.index < end => id.index + 1,
+            Some(_) => return Err(StoreRefusal::BadEnd),
+        };
+        Ok(Bounds { purged, first, end })
+    }
+
     /// Refuses entries that would begin at a place below the log's first one, or past its end.
     pub fn check_place(&self, place: u64) -> Result<(), StoreRefusal>
         ensures low { OnOk result (self.now.first ≤ place) }
@@ -46,28 +74,30 @@ impl Bounds {
     {
         self.first.max(self.end.min(place))
     }
-}
 
-/// The place behind the log's last entry, by the value of its key.
-pub fn end_of(value: Option<Vec<u8>>) -> Result<u64, StoreRefusal>
-    ensures { (end : ℕ) → HoldsEnd (option_map (λ v. v.items) value) end → IfOk result (λ found. found ≡ end) }
-{
-    match value {
-        None => Ok(0),
-        Some(bytes) => Ok(read_place(&bytes)?),
+    /// The places of the log's entries.
+    pub fn all(&self) -> Range<u64>
+        ensures { result ≡ record { start = self.now.first; end = self.now.end } }
+    {
+        self.first..self.end
     }
-}
 
-/// The place of the log's first entry, by the value of the purge point's key.
-pub fn first_of(value: Option<Vec<u8>>) -> Result<u64, StoreRefusal>
-    ensures { (id : Option (LogIdOf ℕ)) → FitsLast id → option_map (λ v. v.items) value ≡ option_map spelled_log_id id → IfOk result (λ found. found ≡ next_place id) }
-{
-    let Some(bytes) = value else {
-        return Ok(0);
-    };
-    let id = read_log_id(&bytes)?;
-    match id.index.checked_add(1) {
-        Some(first) => Ok(first),
-        None => Err(StoreRefusal::NoPlace),
+    /// The places of the log's entries above the first log id, up to the second. Where the first is
+    /// below the purge point, they are as many of the log's first places.
+    pub fn between(&self, prev: Option<LogId<u64>>, last: Option<LogId<u64>>) -> Range<u64>
+        ensures low { self.now.first ≤ result.start }
+        ensures high { result.end ≤ max self.now.end result.start }
+        // The entries there are those that are asked for.
+        ensures these { (log : List Entry) → self.now.end ≡ self.now.first + length log
+            → take (result.end - result.start) (drop (result.start - self.now.first) log)
+            ≡ take (next_place last - next_place prev) (drop (next_place prev - self.now.first) log) }
+    {
+        let start = match prev {
+            None => self.first,
+            Some(prev) => self.first.max(prev.index.saturating_add(1)),
+        };
+        let room = self.end.saturating_sub(start);
+        let count = places_between(prev, last).min(room);
+        start..start + count
     }
 }

@@ -1,8 +1,8 @@
 //! A node's groups in a log.
-ghost use Rattle.std.specs.Prelude.{◌≡◌, ◌+◌, ◌-◌, ◌<◌, ◌^◌, ℕ, List, [], ◌∷◌, IfOk, OnOk, OnErr, min, max, option_map};
-ghost use Rattle.raft_group_step.specs.StoredGroup.{Snapshot, StoredGroup, end_place, first_place};
+ghost use Rattle.std.specs.Prelude.{◌≡◌, ℕ, List, [], ◌∷◌, OnOk, OnErr};
+ghost use Rattle.raft_group_step.specs.StoredGroup.{Snapshot, StoredGroup};
 ghost use Rattle.raft_group_step.specs.StoredGroup.{CutFrom, MakeGroup, PutEntries, RemoveUpTo, SetSnapshot, SetVote, StartAfter};
-ghost use Rattle.raft_group_storage.specs.Keeping.{KeepsAll, KeepsOthers, MayStore, Stores};
+ghost use Rattle.raft_group_storage.specs.Keeping.{KeepsOthers, MayStore, Stores};
 ghost use Rattle.raft_log_records.specs.Item.{Change};
 ghost use Rattle.raft_store.specs.Batches.{Carries, ShowsBy, of_group};
 ghost use Rattle.raft_store.specs.Reading.{StandsFor};
@@ -11,7 +11,6 @@ use crate::batches::{
     end_batch, entry_batch, make_batch, removal_batch, snapshot_batch, start_batch, vote_batch,
 };
 use crate::fault::StoreFault;
-use crate::places::{Bounds, end_of, first_of};
 use raft_content_log::ContentLog;
 use raft_log_records::LogBatch;
 use raft_messages::{GroupEntry, SnapshotBytes};
@@ -25,7 +24,7 @@ use std::marker::PhantomData;
 #[derive(Drop)]
 pub struct Store<M: StateMachine, L: ContentLog> {
     alloc: Global,
-    log: L,
+    pub(crate) log: L,
     of: PhantomData<M>,
 }
 
@@ -109,35 +108,6 @@ impl<M: StateMachine, L: ContentLog> Store<M, L> {
     {
         let mut batch = snapshot_batch(self.alloc, group, snapshot)?;
         self.store(&mut batch)
-    }
-
-    // The value of a key of the group.
-    fn get(&mut self, group: u64, key: &[u8]) -> Result<Option<Vec<u8>>, StoreFault<L::Fault>>
-        ensures value { L.is_sound self.old.log → IfOk result (λ found. option_map (λ v. v.items) found ≡ (L.answers self.old.log group).value key.now) }
-        ensures well { L.is_sound self.old.log → OnOk result (L.is_sound self.new.log) }
-        ensures steady { L.is_sound self.new.log → L.is_sound self.old.log × (L.answers self.new.log ≡ L.answers self.old.log) }
-        ensures kept { KeepsAll (ShowsBy M.rules L.is_sound L.answers L.leaves self.old.log) (ShowsBy M.rules L.is_sound L.answers L.leaves self.new.log) }
-    {
-        match self.log.get(group, key) {
-            Ok(value) => Ok(value),
-            Err(fault) => Err(StoreFault::Log(fault)),
-        }
-    }
-
-    // Where the group's log begins and ends.
-    fn bounds(&mut self, group: u64) -> Result<Bounds, StoreFault<L::Fault>>
-        ensures first { (s : StoredGroup) → L.is_sound self.old.log → ShowsBy M.rules L.is_sound L.answers L.leaves self.old.log group (s ∷ [])
-            → IfOk result (λ b. b.first ≡ first_place s) }
-        ensures end { (s : StoredGroup) → L.is_sound self.old.log → ShowsBy M.rules L.is_sound L.answers L.leaves self.old.log group (s ∷ [])
-            → IfOk result (λ b. b.end ≡ end_place s) }
-        ensures well { L.is_sound self.old.log → OnOk result (L.is_sound self.new.log) }
-        ensures kept { KeepsAll (ShowsBy M.rules L.is_sound L.answers L.leaves self.old.log) (ShowsBy M.rules L.is_sound L.answers L.leaves self.new.log) }
-    {
-        let purged_value = self.get(group, b"purged")?;
-        let end_value = self.get(group, b"end")?;
-        let first = first_of(purged_value)?;
-        let end = end_of(end_value)?;
-        Ok(Bounds { first, end })
     }
 
     /// Copies of the entries stand from the place on, and whatever stood there before is gone (own).

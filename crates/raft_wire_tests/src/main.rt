@@ -3,6 +3,7 @@
 //! `scripts/wire_rows` writes `stdin` and `stdout` by the format, and by a judge of its own.
 #![tactic(auto)]
 
+mod alone;
 mod calls;
 mod changing;
 mod cutting;

@@ -1,5 +1,6 @@
 //! Which call the words of a row name.
 
+use crate::alone::alone;
 use crate::calls::new_feeder;
 use crate::changing::changed;
 use crate::cutting::pieced;
@@ -43,6 +44,9 @@ impl Calls {
             return Some(answer);
         }
         if let Some(answer) = stored(&self.bytes, alloc, words) {
+            return Some(answer);
+        }
+        if let Some(answer) = alone(&self.bytes, alloc, words) {
             return Some(answer);
         }
         if let Some(answer) = kept(&self.bytes, alloc, words) {

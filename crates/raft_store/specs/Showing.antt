@@ -1,0 +1,26 @@
+-- Where a log shows one of these parts, it shows one of more.
+use Rattle.std.specs.Prelude.{ℕ, List, [], ◌∷◌}
+use Rattle.std.proofs.Common.{inl, inr, refl, subst}
+use Rattle.raft_group_step.specs.StoredGroup.{StoredGroup}
+use Rattle.raft_log_memtables.specs.Content.{Content, GroupContent}
+use Rattle.raft_content_log.specs.Leaving.{Leaves}
+use Rattle.raft_group_storage.specs.Keeping.{IsOneOf, ShowsMore}
+use Rattle.raft_node.specs.Machine.{MachineRules}
+use Rattle.raft_store.specs.Reading.{Holds, HoldsOne}
+use Rattle.raft_store.specs.Batches.{ShowsBy}
+
+holds_among : (rules : MachineRules) (g : GroupContent (List ℕ)) (s : StoredGroup) (more : List StoredGroup) → IsOneOf more s → Holds rules g s → HoldsOne rules g more
+holds_among rules g s [] none h = absurd none
+holds_among rules g s (x ∷ xs) (inl same) h = inl (subst (Holds rules g) same h)
+holds_among rules g s (x ∷ xs) (inr is) h = inr (holds_among rules g s xs is h)
+
+one_of_more : (rules : MachineRules) (g : GroupContent (List ℕ)) (parts more : List StoredGroup) → ((s : StoredGroup) → IsOneOf parts s → IsOneOf more s) → HoldsOne rules g parts → HoldsOne rules g more
+one_of_more rules g [] more wider none = absurd none
+one_of_more rules g (s ∷ ss) more wider (inl h) = holds_among rules g s more (wider s (inl refl)) h
+one_of_more rules g (s ∷ ss) more wider (inr h) = one_of_more rules g ss more (λ x is. wider x (inr is)) h
+
+pub shows_more : {X : Type 0} (rules : MachineRules) (sound : X → Type 0) (answers : X → Content (List ℕ)) (leaves : X → Leaves) (log : X) → ShowsMore (ShowsBy rules sound answers leaves log)
+shows_more rules sound answers leaves log group parts more wider shown = record {
+  answered = λ is. one_of_more rules (answers log group) parts more wider (shown.answered is);
+  left = λ content is. one_of_more rules (content group) parts more wider (shown.left content is);
+}

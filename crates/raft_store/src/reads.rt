@@ -1,0 +1,209 @@
+//! What a log holds of a group.
+ghost use Rattle.std.specs.Prelude.{◌≡◌, ◌-◌, ◌≤◌, ℕ, List, [], ◌∷◌, IfOk, IfErr, MatchResult, OnOk, drop, max, option_map, take};
+ghost use Rattle.raft_content_log.specs.Leaving.{AreEntries};
+ghost use Rattle.raft_group_step.specs.StoredGroup.{StoredGroup, end_place, first_place};
+ghost use Rattle.raft_group_storage.specs.Keeping.{KeepsAll, StandsOrNone, entries_of};
+ghost use Rattle.raft_group_storage.specs.Loaded.{IsLoaded};
+ghost use Rattle.raft_log_records.specs.Batch.{payloads};
+ghost use Rattle.raft_store.specs.Batches.{ShowsBy};
+ghost use Rattle.raft_store.specs.Faults.{IsLogOrMemory};
+ghost use Rattle.raft_store.specs.Reading.{StandsFor};
+
+use crate::fault::StoreFault;
+use crate::places::Bounds;
+use crate::readings::{end_of, entries_of, purged_of, snapshot_of, vote_of};
+use crate::store::Store;
+use raft_content_log::ContentLog;
+use raft_group_step::{Entries, SnapshotMeta};
+use raft_group_storage::LoadedGroup;
+use raft_messages::{GroupEntry, SnapshotBytes};
+use raft_node::StateMachine;
+use raft_state::{BasicNode, Bytes, LogId, Vote};
+use std::alloc::{AllocError, Global};
+use std::ops::Range;
+
+// What the snapshot covers, if there is one.
+fn head_of(snapshot: Option<SnapshotBytes>) -> Option<SnapshotMeta<u64, BasicNode>>
+    ensures { result ≡ option_map (λ x. x.meta) snapshot }
+{
+    match snapshot {
+        Some(snapshot) => Some(snapshot.meta),
+        None => None,
+    }
+}
+
+// The entries as requests have them.
+fn as_sent(
+    alloc: Global,
+    entries: Vec<GroupEntry>,
+) -> Result<Entries<u64, BasicNode, Bytes>, AllocError>
+    ensures { IfOk result (λ sent. sent ≡ entries.items) }
+{
+    let mut sent = Entries::new(alloc);
+    for entry in entries {
+        sent.push(entry)?;
+    }
+    Ok(sent)
+}
+
+impl<M: StateMachine, L: ContentLog> Store<M, L> {
+    // The value of a key of the group.
+    fn get(&mut self, group: u64, key: &[u8]) -> Result<Option<Vec<u8>>, StoreFault<L::Fault>>
+        ensures value { L.is_sound self.old.log → IfOk result (λ found. option_map (λ v. v.items) found ≡ (L.answers self.old.log group).value key.now) }
+        ensures cause { IfErr result IsLogOrMemory }
+        ensures well { L.is_sound self.old.log → OnOk result (L.is_sound self.new.log) }
+        ensures steady { L.is_sound self.new.log → L.is_sound self.old.log × (L.answers self.new.log ≡ L.answers self.old.log) }
+        ensures kept { KeepsAll (ShowsBy M.rules L.is_sound L.answers L.leaves self.old.log) (ShowsBy M.rules L.is_sound L.answers L.leaves self.new.log) }
+    {
+        match self.log.get(group, key) {
+            Ok(value) => Ok(value),
+            Err(fault) => Err(StoreFault::Log(fault)),
+        }
+    }
+
+    // The bytes of the group's entries from a place on up to another one, which is left out.
+    fn fetch(
+        &mut self,
+        group: u64,
+        begin: u64,
+        end: u64,
+    ) -> Result<Vec<Vec<u8>>, StoreFault<L::Fault>>
+        ensures entries { L.is_sound self.old.log → IfOk result (λ found. AreEntries (L.answers self.old.log group).entry begin end (payloads found.items)) }
+        ensures cause { IfErr result IsLogOrMemory }
+        ensures well { L.is_sound self.old.log → OnOk result (L.is_sound self.new.log) }
+        ensures kept { KeepsAll (ShowsBy M.rules L.is_sound L.answers L.leaves self.old.log) (ShowsBy M.rules L.is_sound L.answers L.leaves self.new.log) }
+    {
+        match self.log.fetch_entries_to(group, begin, end) {
+            Ok(bytes) => Ok(bytes),
+            Err(fault) => Err(StoreFault::Log(fault)),
+        }
+    }
+
+    // Where the group's log begins and ends.
+    pub(crate) fn bounds(&mut self, group: u64) -> Result<Bounds, StoreFault<L::Fault>>
+        ensures purged { (s : StoredGroup) → L.is_sound self.old.log → ShowsBy M.rules L.is_sound L.answers L.leaves self.old.log group (s ∷ [])
+            → IfOk result (λ b. b.purged ≡ s.purged) }
+        ensures first { (s : StoredGroup) → L.is_sound self.old.log → ShowsBy M.rules L.is_sound L.answers L.leaves self.old.log group (s ∷ [])
+            → IfOk result (λ b. b.first ≡ first_place s) }
+        ensures end { (s : StoredGroup) → L.is_sound self.old.log → ShowsBy M.rules L.is_sound L.answers L.leaves self.old.log group (s ∷ [])
+            → IfOk result (λ b. b.end ≡ end_place s) }
+        ensures cause { (s : StoredGroup) → L.is_sound self.old.log → ShowsBy M.rules L.is_sound L.answers L.leaves self.old.log group (s ∷ [])
+            → IfErr result IsLogOrMemory }
+        ensures well { L.is_sound self.old.log → OnOk result (L.is_sound self.new.log) }
+        ensures kept { KeepsAll (ShowsBy M.rules L.is_sound L.answers L.leaves self.old.log) (ShowsBy M.rules L.is_sound L.answers L.leaves self.new.log) }
+    {
+        let purged_value = self.get(group, b"purged")?;
+        let end_value = self.get(group, b"end")?;
+        let purged = purged_of(purged_value)?;
+        let end = end_of(end_value)?;
+        Ok(Bounds::new(purged, end)?)
+    }
+
+    // Whether the node has the group.
+    fn is_present(&mut self, group: u64) -> Result<bool, StoreFault<L::Fault>>
+        ensures ok { (s : StoredGroup) → L.is_sound self.old.log → ShowsBy M.rules L.is_sound L.answers L.leaves self.old.log group (s ∷ [])
+            → IfOk result (λ there. there ≡ s.present) }
+        ensures cause { IfErr result IsLogOrMemory }
+        ensures well { L.is_sound self.old.log → OnOk result (L.is_sound self.new.log) }
+        ensures kept { KeepsAll (ShowsBy M.rules L.is_sound L.answers L.leaves self.old.log) (ShowsBy M.rules L.is_sound L.answers L.leaves self.new.log) }
+    {
+        Ok(self.get(group, b"group")?.is_some())
+    }
+
+    // The vote.
+    fn vote(&mut self, group: u64) -> Result<Vote<u64>, StoreFault<L::Fault>>
+        ensures ok { (s : StoredGroup) → L.is_sound self.old.log → ShowsBy M.rules L.is_sound L.answers L.leaves self.old.log group (s ∷ [])
+            → IfOk result (λ vote. vote ≡ s.vote) }
+        ensures cause { (s : StoredGroup) → L.is_sound self.old.log → ShowsBy M.rules L.is_sound L.answers L.leaves self.old.log group (s ∷ [])
+            → IfErr result IsLogOrMemory }
+        ensures well { L.is_sound self.old.log → OnOk result (L.is_sound self.new.log) }
+        ensures kept { KeepsAll (ShowsBy M.rules L.is_sound L.answers L.leaves self.old.log) (ShowsBy M.rules L.is_sound L.answers L.leaves self.new.log) }
+    {
+        let value = self.get(group, b"vote")?;
+        Ok(vote_of(value)?)
+    }
+
+    // The entries at these places of the log.
+    fn entries(
+        &mut self,
+        alloc: Global,
+        group: u64,
+        places: Range<u64>,
+    ) -> Result<Vec<GroupEntry>, StoreFault<L::Fault>>
+        ensures read { (s : StoredGroup) → L.is_sound self.old.log → ShowsBy M.rules L.is_sound L.answers L.leaves self.old.log group (s ∷ [])
+            → first_place s ≤ places.start → places.end ≤ max (end_place s) places.start
+            → MatchResult result (λ found. found.items ≡ take (places.end - places.start) (drop (places.start - first_place s) s.log)) IsLogOrMemory }
+        ensures well { L.is_sound self.old.log → OnOk result (L.is_sound self.new.log) }
+        ensures kept { KeepsAll (ShowsBy M.rules L.is_sound L.answers L.leaves self.old.log) (ShowsBy M.rules L.is_sound L.answers L.leaves self.new.log) }
+    {
+        if places.is_empty() {
+            return Ok(Vec::new(alloc));
+        }
+        let bytes = self.fetch(group, places.start, places.end)?;
+        Ok(entries_of(alloc, &bytes)?)
+    }
+
+    /// A copy of the snapshot, if there is one (own). Stored bytes that aren't one are refused
+    /// (`Value`); where the store is well there are none.
+    pub fn snapshot(
+        &mut self,
+        alloc: Global,
+        group: u64,
+    ) -> Result<Option<SnapshotBytes>, StoreFault<L::Fault>>
+        ensures well { L.is_sound self.old.log → OnOk result (L.is_sound self.new.log) }
+        ensures ok { (s : StoredGroup) → L.is_sound self.old.log → ShowsBy M.rules L.is_sound L.answers L.leaves self.old.log group (s ∷ [])
+            → IfOk result (λ copy. StandsOrNone (StandsFor M.rules) copy s.snapshot) }
+        ensures cause { (s : StoredGroup) → L.is_sound self.old.log → ShowsBy M.rules L.is_sound L.answers L.leaves self.old.log group (s ∷ [])
+            → IfErr result IsLogOrMemory }
+        ensures kept { KeepsAll (ShowsBy M.rules L.is_sound L.answers L.leaves self.old.log) (ShowsBy M.rules L.is_sound L.answers L.leaves self.new.log) }
+    {
+        let value = self.get(group, b"snapshot")?;
+        Ok(snapshot_of(alloc, value)?)
+    }
+
+    /// Copies of the log's entries above the first log id, up to the second (own). Where the first
+    /// is below the purge point, they are as many of the log's first entries. Stored bytes that
+    /// aren't readable are refused (`Value`, `BadEnd`); where the store is well there are none.
+    pub fn entries_between(
+        &mut self,
+        alloc: Global,
+        group: u64,
+        prev: Option<LogId<u64>>,
+        last: Option<LogId<u64>>,
+    ) -> Result<Entries<u64, BasicNode, Bytes>, StoreFault<L::Fault>>
+        ensures well { L.is_sound self.old.log → OnOk result (L.is_sound self.new.log) }
+        ensures ok { (s : StoredGroup) → L.is_sound self.old.log → ShowsBy M.rules L.is_sound L.answers L.leaves self.old.log group (s ∷ [])
+            → IfOk result (λ copies. copies ≡ entries_of s prev last) }
+        ensures cause { (s : StoredGroup) → L.is_sound self.old.log → ShowsBy M.rules L.is_sound L.answers L.leaves self.old.log group (s ∷ [])
+            → IfErr result IsLogOrMemory }
+        ensures kept { KeepsAll (ShowsBy M.rules L.is_sound L.answers L.leaves self.old.log) (ShowsBy M.rules L.is_sound L.answers L.leaves self.new.log) }
+    {
+        let bounds = self.bounds(group)?;
+        let entries = self.entries(alloc, group, bounds.between(prev, last))?;
+        Ok(as_sent(alloc, entries)?)
+    }
+
+    /// A copy of what is stored of the group, but for what its snapshot has (own). Stored bytes that
+    /// aren't readable are refused (`Value`, `BadEnd`); where the store is well there are none.
+    pub fn load(&mut self, alloc: Global, group: u64) -> Result<LoadedGroup, StoreFault<L::Fault>>
+        ensures well { L.is_sound self.old.log → OnOk result (L.is_sound self.new.log) }
+        ensures ok { (s : StoredGroup) → L.is_sound self.old.log → ShowsBy M.rules L.is_sound L.answers L.leaves self.old.log group (s ∷ [])
+            → IfOk result (λ loaded. IsLoaded loaded s) }
+        ensures cause { (s : StoredGroup) → L.is_sound self.old.log → ShowsBy M.rules L.is_sound L.answers L.leaves self.old.log group (s ∷ [])
+            → IfErr result IsLogOrMemory }
+        ensures kept { KeepsAll (ShowsBy M.rules L.is_sound L.answers L.leaves self.old.log) (ShowsBy M.rules L.is_sound L.answers L.leaves self.new.log) }
+    {
+        let bounds = self.bounds(group)?;
+        let present = self.is_present(group)?;
+        let vote = self.vote(group)?;
+        let snapshot = self.snapshot(alloc, group)?;
+        let log = self.entries(alloc, group, bounds.all())?;
+        Ok(LoadedGroup {
+            present,
+            vote,
+            snapshot: head_of(snapshot),
+            purged: bounds.purged,
+            log,
+        })
+    }
+}
