@@ -1,3 +1,4 @@
 pub mod Scan
 pub mod Repair
 pub mod Replay
+pub mod Queue

@@ -4,6 +4,7 @@
 mod builder;
 mod directories;
 mod machine;
+mod queue;
 mod reading;
 mod recover;
 mod repair;
