@@ -73,7 +73,7 @@ file_ends id bytes = by_header (header_at bytes) refl
 
 -- ---- what stands in a front
 
-each_byte : (bytes : List ℕ) → AreBytes bytes → (i : ℕ) → get_or bytes i 0 < 256
+pub each_byte : (bytes : List ℕ) → AreBytes bytes → (i : ℕ) → get_or bytes i 0 < 256
 each_byte [] fits i = omega arith
 each_byte (b ∷ bytes) fits zero = fits.0
 each_byte (b ∷ bytes) fits (suc i) = each_byte bytes fits.1 i

@@ -6,3 +6,5 @@ pub mod ReplayLemmas
 pub mod EndLemmas
 pub mod QueueLemmas
 pub mod FoundLemmas
+pub mod SpelledLemmas
+pub mod OpeningLemmas

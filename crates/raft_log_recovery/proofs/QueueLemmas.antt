@@ -34,7 +34,7 @@ same_path true e es path fd same next there = let n : e.1 ≡ fd = cc in inl (λ
 same_path false e es path fd same next there = inr (next there)
 
 -- a path that is found is among the names
-found_in : (es : List (Text × ℕ)) (path : Text) (fd : ℕ) → fd_of es path ≡ Some fd → IsIn (path, fd) es
+pub found_in : (es : List (Text × ℕ)) (path : Text) (fd : ℕ) → fd_of es path ≡ Some fd → IsIn (path, fd) es
 found_in [] path fd there = absurd cc
 found_in (e ∷ es) path fd there = same_path (same_text e.0 path) e es path fd refl (found_in es path fd) there
 
@@ -276,7 +276,17 @@ replays_file P Q R directories queue count old cur new done behind fs name f nam
 same_number : (n m : ℕ) → (let o : Option ℕ = Some n in o ≡ Some m) → n ≡ m
 same_number n m e = cc
 
-left_done : (directories : List Text) (queue : LogQueue) (old cur : Disk) (done : List FileName) (fs : List File) (name : FileName) (fd : ℕ) → AreRecovered directories queue old cur done fs → IsIn name done → IsFileOf old directories queue name fd
+-- a file of before is whole with the batches that it read as
+pub left_bytes : (directories : List Text) (queue : LogQueue) (old cur : Disk) (done : List FileName) (fs : List File) (name : FileName) (fd : ℕ) → AreRecovered directories queue old cur done fs → IsIn name done → IsFileOf old directories queue name fd
+    → batches_in (id_of queue name.seq) (old.file fd).bytes ≡ batches_in (id_of queue name.seq) (cur.file fd).bytes
+left_bytes directories queue old cur done fs name fd so among there =
+    let found = open_file_of (IsRecovered queue old cur) old directories queue done fs name so.opened so.each among in
+    let same : found.0.handle.0 ≡ fd = same_number found.0.handle.0 fd (sym found.1.there ∙ there) in
+    subst (λ n. batches_in (id_of queue name.seq) (old.file n).bytes ≡ batches_in (id_of queue name.seq) (cur.file n).bytes) same
+    (subst (λ n. batches_in (id_of queue n) (old.file found.0.handle.0).bytes ≡ batches_in (id_of queue n) (cur.file found.0.handle.0).bytes) found.1.seq
+    (sym (whole_batches (id_of queue found.0.seq) (cur.file found.0.handle.0) (batches_in (id_of queue found.0.seq) (old.file found.0.handle.0).bytes) found.2.whole)))
+
+pub left_done : (directories : List Text) (queue : LogQueue) (old cur : Disk) (done : List FileName) (fs : List File) (name : FileName) (fd : ℕ) → AreRecovered directories queue old cur done fs → IsIn name done → IsFileOf old directories queue name fd
     → LeavesBatches (id_of queue name.seq) (cur.file fd) (batches_in (id_of queue name.seq) (old.file fd).bytes)
 left_done directories queue old cur done fs name fd so among there =
     let found = open_file_of (IsRecovered queue old cur) old directories queue done fs name so.opened so.each among in

@@ -2,3 +2,4 @@ pub mod Scan
 pub mod Repair
 pub mod Replay
 pub mod Queue
+pub mod Opening
