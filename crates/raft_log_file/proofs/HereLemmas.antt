@@ -1,5 +1,10 @@
 -- The record at a place of a file, by the bytes that the buffer holds.
-use Rattle.std.proofs.Common.{◌≡◌, ◌⊎◌, inl, inr, ℕ, ◌+◌, ◌-◌, ◌<◌, ◌≤◌, ◌^◌, Bool, true, false, List, [], ◌∷◌, length, take, drop, Option, Some, None, Result, Ok, Err, refl, sym, ap, subst, ◌∙◌, arith, length-drop, length-take}
+use Rattle.std.proofs.Common.{◌≡◌, ◌⊎◌, inl, inr, ℕ, zero, suc, ◌+◌, ◌-◌, ◌<◌, ◌≤◌, ◌^◌, Bool, true, false, List, [], ◌∷◌, ◌++◌, length, take, drop, Option, Some, None, Result, Ok, Err, refl, sym, ap, subst, ◌∙◌, arith, length-append, length-drop, length-take}
+use Rattle.std.specs.Prelude.{replicate}
+use Rattle.std.proofs.lemmas.List.{length-replicate}
+use Rattle.raft_bytes.proofs.Bytes.{AreBytes-joined, AreBytes-take}
+use Rattle.raft_log_records.specs.declared.error.RecordFault.TheVariants as fault
+use Rattle.raft_log_records.proofs.Locality.{answers_stay, records_have_their_length}
 use Rattle.std.specs.List.{list_any}
 use Rattle.raft_log_records.specs.declared.item.EntryIndex.{EntryIndex}
 use Rattle.raft_log_records.specs.declared.block.EntriesBlock.{EntriesBlock}
@@ -9,7 +14,7 @@ use Rattle.raft_log_records.specs.Block.{StandsIn, bytes_at}
 use Rattle.raft_log_records.specs.Spelling.{sealed, holds_entries}
 use Rattle.raft_log_records.specs.Reading.{AreBytes, len_at, record_at}
 use Rattle.raft_log_file.specs.Reader.{HoldsBytes, Front, block_len}
-use Rattle.raft_log_file.proofs.WalkLemmas.{Read, fault_told, len_front, record_front}
+use Rattle.raft_log_file.proofs.WalkLemmas.{Read, fault_told, len_front, record_front, record_sized}
 
 -- what eight bytes tell of the length is told of all that follow
 pub here_told : (bytes front buffer : List ℕ) (b v u : ℕ) (r : Result ℕ RecordFault) → v ≡ u → Front 8 bytes buffer b v → front ≡ take 8 (drop (v - b) buffer) → r ≡ len_at front → len_at (drop u bytes) ≡ r
@@ -62,13 +67,57 @@ block_none items entries len n (Some block) is told signature bytes fits read no
     clash b is not_so = let e : true ≡ false = sym is ∙ not_so in cc
 block_none items entries len n None is told signature bytes fits read none = is
 
+zeros_fit : (n : ℕ) → AreBytes (replicate n 0)
+zeros_fit zero i = omega arith
+zeros_fit (suc n) zero = omega arith
+zeros_fit (suc n) (suc i) = zeros_fit n i
+
+-- a block that stands there whatever follows the record lies within the record
+block_within : (items : List (Item EntryIndex)) (entries : List ℕ) (len n : ℕ) (o : Option EntriesBlock) (signature : Option ℕ) (bytes : List ℕ) → n ≡ block_len o → Told items entries len o
+    → AreBytes bytes → record_at signature bytes ≡ Ok (items, entries, len) → n + 8 ≤ len
+block_within items entries len n None signature bytes is told fits read = omega (arith, is, (record_sized signature bytes (items, entries, len) read).least)
+block_within items entries len n (Some block) signature bytes is told fits read =
+    let sized = record_sized signature bytes (items, entries, len) read in
+    let front : List ℕ = take len bytes in
+    let again : record_at signature front ≡ Ok (items, entries, len) = record_front signature bytes len (records_have_their_length signature bytes (items, entries, len) read) sized.least ∙ read in
+    let zeros : List ℕ = replicate block.len 0 in
+    let few : AreBytes front = AreBytes-take len bytes fits in
+    let t = told signature front few again in
+    let w = told signature (front ++ zeros) (AreBytes-joined front zeros few (zeros_fit block.len)) (stays front zeros again) in
+    omega (
+      arith,
+      is,
+      ap length (t.2 ∙ sym w.2),
+      t.1,
+      sized.least,
+      sized.within,
+      length-take len bytes,
+      length-take block.len (drop block.offset front),
+      length-drop block.offset front,
+      length-take block.len (drop block.offset (front ++ zeros)),
+      length-drop block.offset (front ++ zeros),
+      length-append front zeros,
+      length-replicate {A = ℕ} block.len 0,
+    )
+  where
+    never : (read : Read) → (let r : Result Read RecordFault = Ok read in r ≡ Err fault.CutShort) → ⊥
+    never read e = cc
+
+    stays : (front more : List ℕ) → record_at signature front ≡ Ok (items, entries, len) → record_at signature (front ++ more) ≡ Ok (items, entries, len)
+    stays front more again = elim (answers_stay signature front more) [
+      | inl cut ↦ absurd (never (items, entries, len) (sym again ∙ cut))
+      | inr same ↦ same ∙ again
+    ]
+
 pub record IsTold (items : List (Item EntryIndex)) (entries : List ℕ) (len n : ℕ) : Type 0 where
+  pub within : n + 8 ≤ len
   pub stands : (signature : Option ℕ) (bytes : List ℕ) → AreBytes bytes → record_at signature bytes ≡ Ok (items, entries, len) → list_any holds_entries items ≡ true → bytes_at 8 n bytes ≡ sealed None entries
   pub none : list_any holds_entries items ≡ false → n ≡ 0
 
 pub block_told : (items : List (Item EntryIndex)) (entries : List ℕ) (len n : ℕ) (o : Option EntriesBlock) (signature : Option ℕ) (bytes : List ℕ) → n ≡ block_len o → Told items entries len o
     → AreBytes bytes → record_at signature bytes ≡ Ok (items, entries, len) → IsTold items entries len n
 block_told items entries len n o signature bytes is told fits read = record {
+  within = block_within items entries len n o signature bytes is told fits read;
   stands = block_stands items entries len n o is told;
   none = block_none items entries len n o is told signature bytes fits read;
 }

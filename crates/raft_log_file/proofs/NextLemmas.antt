@@ -44,6 +44,8 @@ found_behind id format bytes v read is =
 
 file_block : (signature : Option ℕ) (bytes entries : List ℕ) (v : ℕ) (b : ReadBatch) → record_at signature (drop v bytes) ≡ Ok (items_of b.batch.items.items, entries, b.len) → b.offset ≡ v → IsBlock b entries → IsFileBlock bytes b entries
 file_block signature bytes entries v b read at block = record {
+  offset = block.offset;
+  within = block.within;
   stands = λ fits any.
       ap (λ n. bytes_at n b.block.len bytes) (block.offset ∙ ap (λ n. n + 8) at)
       ∙ ap (take b.block.len) (sym (drop-drop 8 v bytes))

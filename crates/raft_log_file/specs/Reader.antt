@@ -70,6 +70,7 @@ block_len (Some block) = block.len
 -- the block of a batch behind the first bytes of its record: its entries with their checksum stand there, if an item holds any
 pub record IsBlock (b : ReadBatch) (entries : List ℕ) : Type 0 where
   pub offset : b.block.offset ≡ b.offset + 8
+  pub within : b.block.len + 8 ≤ b.len
   pub stands : (signature : Option ℕ) (bytes : List ℕ) → AreBytes bytes → record_at signature bytes ≡ Ok (items_of b.batch.items.items, entries, b.len)
       → list_any holds_entries (items_of b.batch.items.items) ≡ true → bytes_at 8 b.block.len bytes ≡ sealed None entries
   pub none : list_any holds_entries (items_of b.batch.items.items) ≡ false → b.block.len ≡ 0
@@ -86,8 +87,10 @@ abbrev pub FindsHere : Result ReadBatch RecordFault → Result (List (Item Entry
 FindsHere (Ok b) read offset = (entries : List ℕ) × (read ≡ Ok (items_of b.batch.items.items, entries, b.len)) × (b.offset ≡ offset) × IsBlock b entries
 FindsHere (Err f) read offset = read ≡ Err f
 
--- the block of a batch in its file: its entries with their checksum, if an item holds any
+-- the block of a batch in its file, within its record: its entries with their checksum, if an item holds any
 pub record IsFileBlock (bytes : List ℕ) (b : ReadBatch) (entries : List ℕ) : Type 0 where
+  pub offset : b.block.offset ≡ b.offset + 8
+  pub within : b.block.len + 8 ≤ b.len
   pub stands : AreBytes bytes → list_any holds_entries (items_of b.batch.items.items) ≡ true → bytes_at b.block.offset b.block.len bytes ≡ sealed None entries
   pub none : list_any holds_entries (items_of b.batch.items.items) ≡ false → b.block.len ≡ 0
 

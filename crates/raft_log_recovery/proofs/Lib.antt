@@ -3,3 +3,8 @@ pub mod DirectoryLemmas
 pub mod ReadLemmas
 pub mod RepairLemmas
 pub mod ReplayLemmas
+pub mod EndLemmas
+pub mod QueueLemmas
+pub mod FoundLemmas
+pub mod SpelledLemmas
+pub mod OpeningLemmas

@@ -47,7 +47,7 @@ fault_in_front signature bytes n f is = elim (answers_stay signature (take n byt
 -- ---- padding
 
 -- the length of padding, if there is any: zeros up to the next multiple
-record IsPadding (alignment at : ℕ) (bytes : List ℕ) : Type 0 where
+pub record IsPadding (alignment at : ℕ) (bytes : List ℕ) : Type 0 where
   pub is_gap : padding alignment at bytes ≡ gap alignment at
   pub within : gap alignment at ≤ length bytes
   pub zeros : list_all (λ b. eqb b 0) (take (gap alignment at) bytes) ≡ true
@@ -62,7 +62,7 @@ padding_by alignment at bytes false true short all = inr (record {
   zeros = all;
 })
 
-padding_cases : (alignment at : ℕ) (bytes : List ℕ) → (padding alignment at bytes ≡ 0) ⊎ IsPadding alignment at bytes
+pub padding_cases : (alignment at : ℕ) (bytes : List ℕ) → (padding alignment at bytes ≡ 0) ⊎ IsPadding alignment at bytes
 padding_cases alignment at bytes = padding_by alignment at bytes (ltb (length bytes) (gap alignment at)) (list_all (λ b. eqb b 0) (take (gap alignment at) bytes)) refl refl
 
 -- padding that lies in a front is padding there

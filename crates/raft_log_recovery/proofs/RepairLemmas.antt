@@ -2,11 +2,12 @@
 use Rattle.std.proofs.Common.{◌≡◌, inl, inr, ℕ, ◌+◌, ◌-◌, ◌<◌, ◌≤◌, min, max, Bool, true, false, cond, List, [], ◌∷◌, ◌++◌, length, get_or, take, drop, Option, Some, None, Result, Ok, Err, refl, sym, ap, subst, ◌∙◌, arith, append_assoc, length-take, length-drop, take-append-drop, ext_get_or}
 use Rattle.std.specs.Prelude.{MatchResult, OnErr, OnOk, replicate, ◌==◌}
 use Rattle.std.proofs.lemmas.Bool.{eqb-true}
-use Rattle.std.proofs.lemmas.List.{append-nil, drop_at, drop-drop, drop-take, get_or-take, take-take}
+use Rattle.std.proofs.lemmas.List.{append-nil, drop_at, drop-drop, drop-take, get_or-take, take-take, take_all}
 use Rattle.raft_log_records.specs.declared.file_id.FileId.{FileId}
 use Rattle.raft_log_records.specs.declared.error.RecordFault.{RecordFault}
 use Rattle.raft_log_records.specs.Reading.{record_at}
 use Rattle.raft_log_records.specs.Signature.{signature_of}
+use Rattle.raft_log_records.specs.declared.version.Version.TheVariants.{V1}
 use Rattle.raft_log_disk.specs.declared.format.LogFileFormat.{LogFileFormat}
 use Rattle.raft_log_disk.specs.declared.format.HeaderFault.{HeaderFault}
 use Rattle.raft_log_disk.specs.Disk.{AreBytes, Disk, FileState, IsIn, after_sync, after_truncate, resized, with_file}
@@ -22,7 +23,7 @@ use Rattle.raft_log_file.specs.Reading.{FileBatch, Reading, file_reading, read_b
 use Rattle.raft_log_file.proofs.HeaderLemmas.{length-header}
 use Rattle.raft_log_file.proofs.LawLemmas.{header_read}
 use Rattle.raft_log_file.proofs.WalkLemmas.{Read}
-use Rattle.raft_log_recovery.specs.Repair.{IsAtRest, IsRepaired, IsStopped, IsWhole, LeavesBatches, Settles, batches_in, cut_to, end_in, fault_in, record_fault}
+use Rattle.raft_log_recovery.specs.Repair.{IsAtRest, IsRepaired, IsStopped, IsWhole, LeavesBatches, Settles, batches_in, cut_to, end_in, fault_in, format_in, record_fault}
 use Rattle.raft_log_recovery.proofs.ReadLemmas.{cut_whole, reads_alike, record_stays}
 
 -- ---- a file by its header
@@ -44,7 +45,7 @@ no_reading id bytes f is = ap (λ h. read_or (λ (x : LogFileFormat). Ok (read_b
 abbrev pub batches_by : Result Reading HeaderFault → List FileBatch
 batches_by r = read_or (λ (x : Reading). x.batches) (λ (f : HeaderFault). []) r
 
-abbrev end_by : Result Reading HeaderFault → ℕ
+abbrev pub end_by : Result Reading HeaderFault → ℕ
 end_by r = read_or (λ (x : Reading). x.to) (λ (f : HeaderFault). 0) r
 
 -- ---- what a crash leaves
@@ -56,7 +57,7 @@ same_here d n fd false is = refl
 no_change : (d : Disk) (fd : ℕ) → d ≡ with_file d fd (d.file fd)
 no_change d fd = λ i. record { directories = d.directories; names = d.names; file = λ n. sym (same_here d n fd (n == fd) refl) i; next = d.next }
 
-leaves_same : (id : FileId) (f : FileState) → IsAtRest f → LeavesBatches id f (batches_in id f.bytes)
+pub leaves_same : (id : FileId) (f : FileState) → IsAtRest f → LeavesBatches id f (batches_in id f.bytes)
 leaves_same id f rest bytes image genuine = ap (batches_in id) (still_is_left f bytes rest.still image)
 
 -- what lies before the cut is as it was
@@ -251,6 +252,55 @@ faultless_is_whole id f fits none = by_header (header_at f.bytes) refl
         (subst (ReadsWhole f.bytes (batches_in id f.bytes)) (sym reads)
         (sym (ap batches_by reads), no, omega (arith, cut.ended no, length-drop hl f.bytes, header_within f.bytes format fits is)))
 
+-- ---- where whole records end
+
+pub end_within : (id : FileId) (bytes : List ℕ) → AreBytes bytes → end_in id bytes ≤ length bytes
+end_within id bytes fits = by_header (header_at bytes) refl
+  where
+    by_header : (r : Result LogFileFormat HeaderFault) → header_at bytes ≡ r → end_in id bytes ≤ length bytes
+    by_header (Err e) is = omega (arith, ap end_by (no_reading id bytes e is))
+    by_header (Ok format) is =
+        let hl : ℕ = header_len format.version in
+        let body : List ℕ = drop hl bytes in
+        let cut = cut_whole format.alignment (signature_of format.version id.seq) (length body) hl body (omega arith) in
+        omega (arith, ap end_by (reading_of id bytes format is), cut.within, length-drop hl bytes, header_within bytes format fits is)
+
+-- at the end of a file without a fault
+end_all : (id : FileId) (bytes : List ℕ) → AreBytes bytes → fault_in id bytes ≡ None → end_in id bytes ≡ length bytes
+end_all id bytes fits none = by_header (header_at bytes) refl
+  where
+    by_header : (r : Result LogFileFormat HeaderFault) → header_at bytes ≡ r → end_in id bytes ≡ length bytes
+    by_header (Err e) is = absurd (some_none (Header e) (sym (ap fault_by (no_reading id bytes e is)) ∙ none))
+    by_header (Ok format) is =
+        let hl : ℕ = header_len format.version in
+        let body : List ℕ = drop hl bytes in
+        let reads = reading_of id bytes format is in
+        let cut = cut_whole format.alignment (signature_of format.version id.seq) (length body) hl body (omega arith) in
+        let ended = cut.ended (no_record _ (sym (ap fault_by reads) ∙ none)) in
+        omega (arith, ap end_by reads, ended, length-drop hl bytes, header_within bytes format fits is)
+
+-- the header is as it was
+pub format_front : (id : FileId) (bytes : List ℕ) → AreBytes bytes → format_in (take (end_in id bytes) bytes) ≡ format_in bytes
+format_front id bytes fits = by_header (header_at bytes) refl
+  where
+    by_header : (r : Result LogFileFormat HeaderFault) → header_at bytes ≡ r → format_in (take (end_in id bytes) bytes) ≡ format_in bytes
+    by_header (Err e) is = ap (λ n. format_in (take n bytes)) (ap end_by (no_reading id bytes e is)) ∙ sym (ap (λ h. read_or (λ (x : LogFileFormat). x) (λ (f : HeaderFault). record { version = V1; alignment = 0 }) h) is)
+    by_header (Ok format) is =
+        let hl : ℕ = header_len format.version in
+        let body : List ℕ = drop hl bytes in
+        let cut = cut_whole format.alignment (signature_of format.version id.seq) (length body) hl body (omega arith) in
+        let m : ℕ = end_in id bytes - hl in
+        let both : end_in id bytes ≡ hl + m = omega (arith, ap end_by (reading_of id bytes format is), cut.least) in
+        let parts : take (end_in id bytes) bytes ≡ spelled_header format ++ take m body = sym (take-append-drop hl (take (end_in id bytes) bytes))
+        ∙ (λ i. (take-take hl (end_in id bytes) bytes (omega (arith, both)) ∙ (header_spelled bytes format fits is).front) i ++ (ap (λ n. drop hl (take n bytes)) both ∙ drop-take hl m bytes) i) in
+        let told : header_at (take (end_in id bytes) bytes) ≡ Ok format = ap header_at parts ∙ headed bytes (take m body) format fits is in
+        ap (λ h. read_or (λ (x : LogFileFormat). x) (λ (f : HeaderFault). record { version = V1; alignment = 0 }) h) (told ∙ sym is)
+
+front_resized : (bytes : List ℕ) (to : ℕ) → to ≤ length bytes → resized bytes to ≡ take to bytes
+front_resized bytes to within =
+    let none : to - length bytes ≡ 0 = omega (arith, within) in
+    ap (λ (k : ℕ). take to bytes ++ replicate k 0) none ∙ append-nil (take to bytes)
+
 -- ---- the exits of a repair
 
 -- what is cut, by the fault
@@ -262,12 +312,18 @@ settled_whole : (id : FileId) (f : FileState) (cut : Option ℕ) → AreBytes f.
 settled_whole id f None fits by = faultless_is_whole id f fits (by.none refl)
 settled_whole id f (Some to) fits by = cut_is_whole id f to fits (by.some to refl)
 
+settled_front : (id : FileId) (f : FileState) (cut : Option ℕ) → AreBytes f.bytes → IsCutBy id f cut → (cut_to cut f).bytes ≡ take (end_in id f.bytes) f.bytes
+settled_front id f None fits by = sym (ap (λ n. take n f.bytes) (end_all id f.bytes fits (by.none refl)) ∙ take_all (length f.bytes) f.bytes (omega arith))
+settled_front id f (Some to) fits by =
+    let place : to ≡ end_in id f.bytes = by.some to refl in
+    front_resized f.bytes to (omega (arith, place, end_within id f.bytes fits)) ∙ ap (λ n. take n f.bytes) place
+
 pub stopped_same : (d e : Disk) (id : FileId) (fd : ℕ) → e ≡ d → IsStopped d e id fd
 stopped_same d e id fd is = record { state = d.file fd; files = is ∙ no_change d fd; leaves = leaves_same id (d.file fd) }
 
 -- so after the cut and the sync
 pub settled_ok : (r : Result (Unit {0}) Error) (d e : Disk) (id : FileId) (fd : ℕ) (cut : Option ℕ) → AreBytes (d.file fd).bytes → IsCutBy id (d.file fd) cut → Settles r d e fd cut → OnOk r (IsRepaired d e id fd)
-settled_ok (Ok u) d e id fd cut fits by is = record { state = after_sync (cut_to cut (d.file fd)); files = is; whole = settled_whole id (d.file fd) cut fits by }
+settled_ok (Ok u) d e id fd cut fits by is = record { state = after_sync (cut_to cut (d.file fd)); files = is; front = settled_front id (d.file fd) cut fits by; whole = settled_whole id (d.file fd) cut fits by }
 settled_ok (Err x) d e id fd cut fits by is = tt
 
 pub settled_err : (r : Result (Unit {0}) Error) (d e : Disk) (id : FileId) (fd : ℕ) (cut : Option ℕ) → IsCutBy id (d.file fd) cut → Settles r d e fd cut → OnErr r (IsStopped d e id fd)

@@ -60,7 +60,7 @@ pub given_of : (id : FileId) (bytes : List ℕ) (b : ReadBatch) (before after : 
 given_of id bytes b before after (entries, is, block) = record {
   batch = batch_of b entries;
   is = is;
-  placed = record { items = refl; file = refl; stands = block.stands; none = block.none };
+  placed = record { items = refl; file = refl; offset = block.offset; within = block.within; stands = block.stands; none = block.none };
 }
 
 -- what a file has are bytes

@@ -30,7 +30,7 @@ named_so kind n name below is =
     let same : same_text (drop 16 name) (suffix_in kind) ≡ true = (bytes_decides (drop 16 name) (suffix_in kind)).1 s.0.behind in
     (λ i. cond (both s.0.front same i) (Some (s.1 i)) None)
 
-some_suffix : (kind : FileKind) → 0 < length (suffix_in kind)
+pub some_suffix : (kind : FileKind) → 0 < length (suffix_in kind)
 some_suffix (Log Append) = omega arith
 some_suffix (Log Rewrite) = omega arith
 some_suffix Reserved = omega arith

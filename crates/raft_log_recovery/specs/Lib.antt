@@ -1,3 +1,5 @@
 pub mod Scan
 pub mod Repair
 pub mod Replay
+pub mod Queue
+pub mod Opening

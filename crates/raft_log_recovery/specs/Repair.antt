@@ -1,8 +1,10 @@
 -- One file that is read whole and, by the mode, cut to what was read.
-use Rattle.std.specs.Prelude.{◌≡◌, ◌⊎◌, ℕ, List, [], length, Bool, true, Option, Some, None, Result, Ok, Err, MatchResult}
+use Rattle.std.specs.Prelude.{◌≡◌, ◌⊎◌, ℕ, List, [], length, Bool, true, Option, Some, None, Result, Ok, Err, MatchResult, take}
 use Rattle.raft_log_records.specs.declared.file_id.FileId.{FileId}
 use Rattle.raft_log_records.specs.declared.error.RecordFault.{RecordFault}
+use Rattle.raft_log_records.specs.declared.version.Version.TheVariants.{V1}
 use Rattle.raft_log_disk.specs.declared.format.HeaderFault.{HeaderFault}
+use Rattle.raft_log_disk.specs.declared.format.LogFileFormat.{LogFileFormat}
 use Rattle.raft_log_disk.specs.Format.{header_at}
 use Rattle.raft_log_disk.specs.Disk.{Disk, FileState, AreBytes, after_sync, after_truncate, resized, with_file}
 use Rattle.raft_log_disk.specs.Image.{IsFileImage, IsStill}
@@ -31,6 +33,10 @@ fault_in id bytes = read_or (λ r. record_fault r.fault) (λ f. Some (Header f))
 abbrev pub end_in : FileId → List ℕ → ℕ
 end_in id bytes = read_or (λ r. r.to) (λ _. 0) (file_reading id bytes)
 
+-- what its header says: version 1 where the header is broken
+abbrev pub format_in : List ℕ → LogFileFormat
+format_in bytes = read_or (λ format. format) (λ _. record { version = V1; alignment = 0 }) (header_at bytes)
+
 -- a test: the mode cuts a file with a fault
 abbrev pub cuts_faults : RecoveryMode → Bool → Bool
 cuts_faults AbsoluteConsistency is_last = Bool.false
@@ -57,10 +63,11 @@ pub record IsWhole (id : FileId) (f : FileState) (batches : List FileBatch) : Ty
   pub later : f.later ≡ []
   pub reads : MatchResult (file_reading id f.bytes) (λ r. (r.batches ≡ batches) × (r.fault ≡ None) × (r.to ≡ length f.bytes)) (λ _. (batches ≡ []) × (f.bytes ≡ []))
 
--- the file alone changed, and is whole with the batches that it read as
+-- the file alone changed: it was cut where its whole records end, and is whole with the batches that it read as
 pub record IsRepaired (old new : Disk) (id : FileId) (fd : ℕ) : Type 0 where
   pub state : FileState
   pub files : new ≡ with_file old fd state
+  pub front : state.bytes ≡ take (end_in id (old.file fd).bytes) (old.file fd).bytes
   pub whole : IsWhole id state (batches_in id (old.file fd).bytes)
 
 -- the file alone changed, and a crash leaves the batches that it read as, if it was at rest

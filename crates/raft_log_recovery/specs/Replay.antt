@@ -1,5 +1,5 @@
 -- What a machine is given of log files: their batches in order, each with its file and its block.
-use Rattle.std.specs.Prelude.{◌≡◌, ℕ, List, [], ◌∷◌, true, false, None}
+use Rattle.std.specs.Prelude.{◌≡◌, ◌≤◌, ◌+◌, ℕ, List, [], ◌∷◌, true, false, None}
 use Rattle.std.specs.List.{list_any}
 use Rattle.raft_log_records.specs.declared.item.EntryIndex.{EntryIndex}
 use Rattle.raft_log_records.specs.declared.file_id.FileId.{FileId}
@@ -15,10 +15,13 @@ pub record Placed : Type 0 where
   pub handle : FileBlockHandle
   pub items : List (Item EntryIndex)
 
--- it is this batch of the file: its entries with their checksum stand there, if an item holds any
+-- it is this batch of the file, and the block lies within its record: its entries with their checksum stand there, if an
+-- item holds any
 pub record IsPlaced (id : FileId) (bytes : List ℕ) (batch : FileBatch) (placed : Placed) : Type 0 where
   pub items : placed.items ≡ batch.items
   pub file : placed.handle.id ≡ id
+  pub offset : placed.handle.offset ≡ batch.at + 8
+  pub within : placed.handle.len + 8 ≤ batch.len
   pub stands : AreBytes bytes → list_any holds_entries batch.items ≡ true → bytes_at placed.handle.offset placed.handle.len bytes ≡ sealed None batch.entries
   pub none : list_any holds_entries batch.items ≡ false → placed.handle.len ≡ 0
 

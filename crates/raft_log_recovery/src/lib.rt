@@ -4,12 +4,14 @@
 mod builder;
 mod directories;
 mod machine;
+mod opening;
+mod queue;
 mod reading;
 mod recover;
 mod repair;
 mod scan;
 
 pub use builder::DualPipesBuilder;
-pub use machine::{Factory, NewMachine, ReplayMachine};
+pub use machine::{DefaultMachineFactory, Factory, NewMachine, ReplayMachine};
 pub use recover::recover_file;
 pub use scan::{FileKind, FileName};

@@ -41,3 +41,22 @@ pub trait Factory<M: ReplayMachine> {
     fn new_target(&self) -> M
         ensures { M.has_replayed result [] };
 }
+
+/// Makes new machines (raft-engine's `DefaultMachineFactory`).
+#[derive(Drop)]
+pub struct DefaultMachineFactory {
+    pub(crate) alloc: Global,
+}
+
+impl DefaultMachineFactory {
+    /// A factory whose machines take their memory here.
+    pub fn new(alloc: Global) -> DefaultMachineFactory {
+        DefaultMachineFactory { alloc }
+    }
+}
+
+impl<M: NewMachine> Factory<M> for DefaultMachineFactory {
+    fn new_target(&self) -> M {
+        M::new_machine(self.alloc)
+    }
+}

@@ -1,10 +1,8 @@
 //! A whole log file, read into a machine.
 
-ghost use Rattle.std.specs.Prelude.{◌≡◌, ◌++◌, List, Option, Some, Ok, Err, IfOk, IfErr, OnOk, MatchResult};
-ghost use Rattle.raft_log_records.specs.declared.version.Version.TheVariants.{V1};
-ghost use Rattle.raft_log_disk.specs.Format.{header_at};
+ghost use Rattle.std.specs.Prelude.{◌≡◌, ◌++◌, List, Option, Some, Ok, Err, IfOk, IfErr, OnOk};
 ghost use Rattle.raft_log_file.specs.Reader.{IsReader, held_bytes, left};
-ghost use Rattle.raft_log_recovery.specs.Repair.{batches_in, end_in, fault_in};
+ghost use Rattle.raft_log_recovery.specs.Repair.{batches_in, end_in, fault_in, format_in};
 ghost use Rattle.raft_log_recovery.specs.Replay.{Placed, ArePlaced};
 
 use crate::machine::ReplayMachine;
@@ -64,8 +62,7 @@ pub(crate) fn replay_file<F: FileSystem, M: ReplayMachine>(
 ) -> Result<ReadFile, Error>
     ensures to { IfOk result (λ read. read.end.to ≡ end_in id ((F.disk files.now).file fd.0).bytes) }
     ensures fault { IfOk result (λ read. read.end.fault ≡ fault_in id ((F.disk files.now).file fd.0).bytes) }
-    ensures format { IfOk result (λ read. MatchResult (header_at ((F.disk files.now).file fd.0).bytes) (λ format. read.format ≡ format)
-        (λ _. (read.format.version ≡ V1) × (read.format.alignment ≡ 0))) }
+    ensures format { IfOk result (λ read. read.format ≡ format_in ((F.disk files.now).file fd.0).bytes) }
     ensures replayed { OnOk result ((placed : List Placed) → M.has_replayed machine.old placed
         → (more : List Placed) × M.has_replayed machine.new (placed ++ more)
         × ArePlaced id ((F.disk files.now).file fd.0).bytes (batches_in id ((F.disk files.now).file fd.0).bytes) more) }

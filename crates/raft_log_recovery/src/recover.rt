@@ -1,9 +1,9 @@
 //! One log file of a queue: read whole into a machine, and repaired.
 
-ghost use Rattle.std.specs.Prelude.{◌≡◌, ◌++◌, false, List, Option, Some, IsErr, OnOk, OnErr};
+ghost use Rattle.std.specs.Prelude.{◌≡◌, ◌++◌, false, List, Option, Some, IfOk, IsErr, OnOk, OnErr};
 ghost use Rattle.raft_log_disk.specs.Disk.{IsNoFile};
 ghost use Rattle.raft_log_files.specs.declared.error.CorruptionFault.{CorruptionFault};
-ghost use Rattle.raft_log_recovery.specs.Repair.{IsRepaired, IsStopped, batches_in, cuts_faults, fault_in};
+ghost use Rattle.raft_log_recovery.specs.Repair.{IsRepaired, IsStopped, batches_in, cuts_faults, fault_in, format_in};
 ghost use Rattle.raft_log_recovery.specs.Replay.{Placed, ArePlaced};
 
 use crate::machine::ReplayMachine;
@@ -30,7 +30,8 @@ pub fn recover_file<F: FileSystem, M: ReplayMachine>(
     ensures ok { OnOk result (IsRepaired (F.disk files.old) (F.disk files.new) id fd.0) }
     ensures replayed { OnOk result ((placed : List Placed) → M.has_replayed machine.old placed
         → (more : List Placed) × M.has_replayed machine.new (placed ++ more)
-        × ArePlaced id ((F.disk files.old).file fd.0).bytes (batches_in id ((F.disk files.old).file fd.0).bytes) more) }
+        × ArePlaced id ((F.disk files.new).file fd.0).bytes (batches_in id ((F.disk files.old).file fd.0).bytes) more) }
+    ensures format { IfOk result (λ format. format ≡ format_in ((F.disk files.old).file fd.0).bytes) }
     ensures err { OnErr result (IsStopped (F.disk files.old) (F.disk files.new) id fd.0) }
     ensures refused { (f : CorruptionFault) → fault_in id ((F.disk files.old).file fd.0).bytes ≡ Some f → cuts_faults config.now.mode is_last ≡ false
         → IsErr result × (F.disk files.new ≡ F.disk files.old) }

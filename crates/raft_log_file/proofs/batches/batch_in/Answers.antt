@@ -15,4 +15,4 @@ returns c =
     let signed : c.get_signature.result ≡ signature_of c.args.file.format.version c.args.file.id.seq
     = c.get_signature.ensures ∙ (λ i. signature_of (c.new-context.ensures.version i) (c.new-context.ensures.id i).seq) in
     let told = block_told _ _ _ c.len_of.result c.entries_block.result _ _ c.len_of.ensures c.entries_block.ensures (λ i. omega (arith, c.type_inv.bytes i)) c.in_ok-record.ensures.exact in
-    (c.in_ok-record.record.entries.now, ap (λ (s : Option ℕ). record_at s c.args.bytes.now) (sym signed) ∙ c.in_ok-record.ensures.exact, refl, record { offset = refl; stands = told.stands; none = told.none })
+    (c.in_ok-record.record.entries.now, ap (λ (s : Option ℕ). record_at s c.args.bytes.now) (sym signed) ∙ c.in_ok-record.ensures.exact, refl, record { offset = refl; within = told.within; stands = told.stands; none = told.none })

@@ -1,5 +1,6 @@
 use Rattle.std.proofs.Common.{refl}
 use Rattle.raft_log_disk.proofs.CauseLemmas.{at_err}
+use Rattle.raft_log_recovery.proofs.EndLemmas.{repaired_placed}
 use Rattle.raft_log_recovery.proofs.RepairLemmas.{stopped_same}
 use Rattle.raft_log_recovery.proofs.ReplayLemmas.{file_fits}
 use Rattle.raft_log_recovery.proofs.recover.recover_file.Goals as goal
@@ -11,3 +12,9 @@ pub repair-requires-clause-fits : goal.repair-requires-clause-fits
 repair-requires-clause-fits g c κs within =
     let met = g.met.F.FileSystem g.world.𝓛 g.world.𝓜 g.world.𝓡 ((λ s x. x), (λ x. x), (λ x. x), λ x. x) in
     file_fits (g.F.FileSystem.disk c.args.files.now) c.args.fd.0 (met.has_images c.args.files.now) c.requires
+
+pub returns-clause-replayed : goal.returns-clause-replayed
+returns-clause-replayed g c =
+    let met = g.met.F.FileSystem g.world.𝓛 g.world.𝓜 g.world.𝓡 ((λ s x. x), (λ x. x), (λ x. x), λ x. x) in
+    repaired_placed (g.M.ReplayMachine.has_replayed c.args.machine.now) (g.M.ReplayMachine.has_replayed c.replay_file.new.machine) (g.F.FileSystem.disk c.args.files.now) _ c.args.id c.args.fd.0
+    (file_fits (g.F.FileSystem.disk c.args.files.now) c.args.fd.0 (met.has_images c.args.files.now) c.requires) c.in_ok-repair.ensures.ok c.in_ok-read.ensures.replayed

@@ -1,0 +1,98 @@
+use Rattle.std.proofs.Common.{◌≡◌, List, length, map, string_bytes, sym, ap, subst, ◌∙◌, arith}
+use Rattle.std.specs.Prelude.{◌==◌, vec_len}
+use Rattle.std.proofs.lemmas.Bool.{eqb-false, eqb-true}
+use Rattle.std.specs.List.{list_all}
+use Rattle.raft_log_disk.specs.Text.{Text}
+use Rattle.raft_log_disk.proofs.CauseLemmas.{at_err}
+use Rattle.raft_log_recovery.specs.declared.scan.FileKind.TheVariants.{Log}
+use Rattle.raft_log_recovery.specs.declared.scan.FileName.{FileName}
+use Rattle.raft_log_recovery.specs.Opening.{batches_of}
+use Rattle.raft_log_recovery.specs.Queue.{AreLeft, AreRecovered, directories_in, names_in}
+use Rattle.raft_log_recovery.specs.Scan.{AreFound}
+use Rattle.raft_log_recovery.proofs.OpeningLemmas.{created_gives, err_on, no_names, none_last, opened_changes, opened_gives, opened_left, recovered_found, recovered_left}
+use Rattle.raft_log_recovery.proofs.builder.DualPipesBuilder.open_queue.Goals as goal
+
+pub returns-then-not-are_plain-clause-err : goal.returns-then-not-are_plain-clause-err
+returns-then-not-are_plain-clause-err g c =
+    recovered_left (directories_in c.args.self.now) c.args.config.now.queue (g.F.FileSystem.disk c.args.files.now) (g.F.FileSystem.disk c.recover_queue.new.files) (names_in c.args.self.now c.args.config.now.queue) c.in_ok-recovered.recovered.items c.in_ok-recovered.ensures.ok
+
+pub returns-in_err-paths-clause-err : goal.returns-in_err-paths-clause-err
+returns-in_err-paths-clause-err g c =
+    at_err _ _ (recovered_left (directories_in c.args.self.now) c.args.config.now.queue (g.F.FileSystem.disk c.args.files.now) (g.F.FileSystem.disk c.recover_queue.new.files) (names_in c.args.self.now c.args.config.now.queue)
+    c.in_ok-recovered.recovered.items c.in_ok-recovered.ensures.ok)
+
+pub create-requires-clause-none : goal.create-requires-clause-none
+create-requires-clause-none g c κs within =
+    let queue = c.args.config.now.queue in
+    let names : List FileName = names_in c.args.self.now queue in
+    let old = g.F.FileSystem.disk c.args.files.now in
+    let said : map string_bytes c.in_ok-paths.paths.items ≡ directories_in c.args.self.now = c.in_ok-paths.ensures ∙ ap (map string_bytes) c.deref-2.ensures.value in
+    let none = no_names old (directories_in c.args.self.now) queue names c.in_ok-recovered.recovered.items c.in_ok-recovered.ensures.ok.opened
+    (omega (arith, ap length c.deref.ensures.value, c.deref.ensures.len, eqb-true (vec_len c.in_ok-recovered.recovered) 0 (sym c.is_empty.ensures ∙ c.if-is_empty.true))) in
+    none_last queue c.in_ok-paths.paths.items old (g.F.FileSystem.disk c.recover_queue.new.files) names c.in_ok-recovered.ensures.only.names_stay (subst (λ (l : List Text). AreFound old (Log queue) l names) (sym said) c.requires.found)
+    (ap length none)
+
+pub returns-then-is_empty-clause-replayed : goal.returns-then-is_empty-clause-replayed
+returns-then-is_empty-clause-replayed g c =
+    created_gives c.create.result (g.M.ReplayMachine.has_replayed c.args.machine.now) (g.M.ReplayMachine.has_replayed c.recover_queue.new.machine) (directories_in c.args.self.now) c.args.config.now.queue (g.F.FileSystem.disk c.args.files.now)
+    (g.F.FileSystem.disk c.recover_queue.new.files) (g.F.FileSystem.disk c.create.new.files) (names_in c.args.self.now c.args.config.now.queue) c.in_ok-recovered.recovered.items c.in_ok-recovered.ensures.ok
+    (omega (arith, ap length c.deref.ensures.value, c.deref.ensures.len, eqb-true (vec_len c.in_ok-recovered.recovered) 0 (sym c.is_empty.ensures ∙ c.if-is_empty.true)))
+    c.in_ok-recovered.ensures.replayed c.create.ensures.holds
+
+pub returns-then-is_empty-clause-only : goal.returns-then-is_empty-clause-only
+returns-then-is_empty-clause-only g c =
+    let queue = c.args.config.now.queue in
+    let none = no_names (g.F.FileSystem.disk c.args.files.now) (directories_in c.args.self.now) queue (names_in c.args.self.now queue) c.in_ok-recovered.recovered.items c.in_ok-recovered.ensures.ok.opened
+    (omega (arith, ap length c.deref.ensures.value, c.deref.ensures.len, eqb-true (vec_len c.in_ok-recovered.recovered) 0 (sym c.is_empty.ensures ∙ c.if-is_empty.true))) in
+    λ some. absurd (omega (arith, some, ap length none))
+
+pub returns-then-is_empty-clause-err : goal.returns-then-is_empty-clause-err
+returns-then-is_empty-clause-err g c =
+    let queue = c.args.config.now.queue in
+    let none = no_names (g.F.FileSystem.disk c.args.files.now) (directories_in c.args.self.now) queue (names_in c.args.self.now queue) c.in_ok-recovered.recovered.items c.in_ok-recovered.ensures.ok.opened
+    (omega (arith, ap length c.deref.ensures.value, c.deref.ensures.len, eqb-true (vec_len c.in_ok-recovered.recovered) 0 (sym c.is_empty.ensures ∙ c.if-is_empty.true))) in
+    at_err _ _ (subst (λ (l : List FileName). AreLeft (directories_in c.args.self.now) queue l (g.F.FileSystem.disk c.args.files.now) (g.F.FileSystem.disk c.create.new.files)) (sym none) (λ name fd there. absurd there))
+
+pub open-requires-clause-found : goal.open-requires-clause-found
+open-requires-clause-found g c κs within =
+    let met = g.met.F.FileSystem g.world.𝓛 g.world.𝓜 g.world.𝓡 ((λ s x. x), (λ x. x), (λ x. x), λ x. x) in
+    let queue = c.args.config.now.queue in
+    let names : List FileName = names_in c.args.self.now queue in
+    let old = g.F.FileSystem.disk c.args.files.now in
+    let mid = g.F.FileSystem.disk c.recover_queue.new.files in
+    let said : map string_bytes c.in_ok-paths.paths.items ≡ directories_in c.args.self.now = c.in_ok-paths.ensures ∙ ap (map string_bytes) c.deref-2.ensures.value in (
+      batches_of queue old c.in_ok-recovered.recovered.items,
+      recovered_found queue c.in_ok-paths.paths.items old mid names c.in_ok-recovered.recovered.items (subst (λ (l : List Text). AreFound old (Log queue) l names) (sym said) c.requires.found)
+          (subst (λ (l : List Text). AreRecovered l queue old mid names c.in_ok-recovered.recovered.items) (sym said) c.in_ok-recovered.ensures.ok)
+          (ap (list_all (λ f. f.format.alignment == 0)) (sym c.deref.ensures.value) ∙ sym c.are_plain.ensures ∙ c.if-not-are_plain.false)
+          (met.has_images c.recover_queue.new.files)
+          (omega (arith, ap length c.deref.ensures.value, c.deref.ensures.len, eqb-false (vec_len c.in_ok-recovered.recovered) 0 (sym c.is_empty.ensures ∙ c.if-is_empty.false))),
+    )
+
+pub returns-clause-replayed : goal.returns-clause-replayed
+returns-clause-replayed g c =
+    let met = g.met.F.FileSystem g.world.𝓛 g.world.𝓜 g.world.𝓡 ((λ s x. x), (λ x. x), (λ x. x), λ x. x) in
+    let queue = c.args.config.now.queue in
+    let names : List FileName = names_in c.args.self.now queue in
+    let old = g.F.FileSystem.disk c.args.files.now in
+    let mid = g.F.FileSystem.disk c.recover_queue.new.files in
+    let said : map string_bytes c.in_ok-paths.paths.items ≡ directories_in c.args.self.now = c.in_ok-paths.ensures ∙ ap (map string_bytes) c.deref-2.ensures.value in
+    opened_gives c.open.result (g.M.ReplayMachine.has_replayed c.args.machine.now) (g.M.ReplayMachine.has_replayed c.recover_queue.new.machine) queue c.in_ok-paths.paths.items (directories_in c.args.self.now) old mid
+    (g.F.FileSystem.disk c.open.new.files) names c.in_ok-recovered.recovered.items said (subst (λ (l : List Text). AreFound old (Log queue) l names) (sym said) c.requires.found)
+    (subst (λ (l : List Text). AreRecovered l queue old mid names c.in_ok-recovered.recovered.items) (sym said) c.in_ok-recovered.ensures.ok)
+    (ap (list_all (λ f. f.format.alignment == 0)) (sym c.deref.ensures.value) ∙ sym c.are_plain.ensures ∙ c.if-not-are_plain.false)
+    (met.has_images c.recover_queue.new.files)
+    (omega (arith, ap length c.deref.ensures.value, c.deref.ensures.len, eqb-false (vec_len c.in_ok-recovered.recovered) 0 (sym c.is_empty.ensures ∙ c.if-is_empty.false))) c.in_ok-recovered.ensures.replayed
+    c.open.ensures.files c.open.ensures.holds
+
+pub returns-clause-only : goal.returns-clause-only
+returns-clause-only g c =
+    λ some. opened_changes c.open.result (directories_in c.args.self.now) c.args.config.now.queue (g.F.FileSystem.disk c.args.files.now) (g.F.FileSystem.disk c.recover_queue.new.files) (g.F.FileSystem.disk c.open.new.files)
+    (names_in c.args.self.now c.args.config.now.queue) c.in_ok-recovered.recovered.items c.in_ok-recovered.ensures.ok c.open.ensures.files c.open.ensures.changes c.open.ensures.err
+
+pub returns-clause-err : goal.returns-clause-err
+returns-clause-err g c =
+    err_on c.open.result _ _
+    (opened_left (directories_in c.args.self.now) c.args.config.now.queue (g.F.FileSystem.disk c.args.files.now) (g.F.FileSystem.disk c.recover_queue.new.files) (g.F.FileSystem.disk c.open.new.files)
+    (names_in c.args.self.now c.args.config.now.queue) c.in_ok-recovered.recovered.items c.in_ok-recovered.ensures.ok)
+    c.open.ensures.err

@@ -1,0 +1,82 @@
+//! From recovered files to a pipe.
+
+ghost use Rattle.std.specs.Prelude.{◌≡◌, ◌++◌, ◌<◌, ◌==◌, List, length, map, string_bytes, IfOk, IsErr, OnErr};
+ghost use Rattle.std.specs.List.{list_all};
+ghost use Rattle.raft_log_files.specs.Settings.{settings_of};
+ghost use Rattle.raft_log_pipe.specs.Pipe.{IsPipe};
+ghost use Rattle.raft_log_recovery.specs.declared.scan.FileKind.TheVariants.{Log};
+ghost use Rattle.raft_log_recovery.specs.Scan.{AreFound, directories_of};
+ghost use Rattle.raft_log_recovery.specs.Replay.{Placed};
+ghost use Rattle.raft_log_recovery.specs.Queue.{AnyRefused, AreLeft, KeepsRefused, OnlyChanges, directories_in, names_in};
+ghost use Rattle.raft_log_recovery.specs.Opening.{IsPipeWith};
+
+use crate::builder::DualPipesBuilder;
+use crate::machine::ReplayMachine;
+use raft_log_files::{
+    CorruptionFault, Error, FileSystem, HeaderFault, LogFileFormat, RecoveryConfig,
+};
+use raft_log_pipe::{File, Paths, SinglePipe};
+use std::alloc::{AllocError, Global};
+
+/// The directories of a pipe.
+fn paths_of(alloc: Global, directories: &[String]) -> Result<Paths, AllocError>
+    ensures { IfOk result (λ v. map string_bytes v.items ≡ map string_bytes directories.now) }
+{
+    let mut paths = Vec::new(alloc);
+    for directory in directories {
+        paths.push(String::from_str(alloc, directory.as_str())?)?;
+    }
+    Ok(paths)
+}
+
+/// Whether the records of all files follow one another without padding.
+fn are_plain(found: &[File]) -> bool
+    ensures { result ≡ list_all (λ f. f.format.alignment == 0) found.now }
+{
+    found.iter().all(|file| file.format.alignment == 0)
+}
+
+impl DualPipesBuilder {
+    /// Recovers the files of a queue that `scan` found, as `recover_queue` does, and opens the pipe
+    /// over them. A queue that has no files begins with its first one. A file whose header says an
+    /// alignment isn't written on: it is `Corruption`, as of a version that the log doesn't write.
+    pub fn open_queue<F: FileSystem, M: ReplayMachine>(
+        &self,
+        files: &mut F,
+        config: &RecoveryConfig,
+        machine: &mut M,
+    ) -> Result<SinglePipe, Error>
+        requires found { AreFound (F.disk files.old) (Log config.now.queue) (directories_in self.now) (names_in self.now config.now.queue) }
+        requires directories { directories_in self.now ≡ directories_of (settings_of self.now.config) }
+        ensures pipe { IfOk result (λ p. IsPipe p (F.disk files.new)) }
+        ensures queue { IfOk result (λ p. p.queue ≡ config.now.queue) }
+        ensures replayed { IfOk result (λ p. (placed : List Placed) → M.has_replayed machine.old placed
+            → (more : List Placed) × M.has_replayed machine.new (placed ++ more)
+            × IsPipeWith (directories_in self.now) config.now.queue (names_in self.now config.now.queue) (F.disk files.old) (F.disk files.new) p more) }
+        ensures only { 0 < length (names_in self.now config.now.queue) → OnlyChanges (directories_in self.now) config.now.queue (names_in self.now config.now.queue) (F.disk files.old) (F.disk files.new) }
+        ensures err { OnErr result (AreLeft (directories_in self.now) config.now.queue (names_in self.now config.now.queue) (F.disk files.old) (F.disk files.new)) }
+        ensures refused { AnyRefused config.now.mode (directories_in self.now) config.now.queue (names_in self.now config.now.queue) (F.disk files.old) → IsErr result }
+        ensures kept { OnErr result (KeepsRefused config.now.mode (directories_in self.now) config.now.queue (names_in self.now config.now.queue) (F.disk files.old) (F.disk files.new)) }
+    {
+        let recovered = self.recover_queue(files, config, machine)?;
+        if !are_plain(&recovered) {
+            return Err(Error::Corruption(CorruptionFault::Header(HeaderFault::BadVersion)));
+        }
+        let paths = paths_of(self.alloc, &self.directories)?;
+        let queue = config.queue;
+        let format = LogFileFormat::new(self.config.format_version, 0);
+        let target_size = self.config.target_file_size.0;
+        if recovered.is_empty() {
+            return SinglePipe::create(files, self.alloc, queue, paths, format, target_size);
+        }
+        SinglePipe::open(
+            files,
+            self.alloc,
+            queue,
+            paths,
+            format,
+            target_size,
+            recovered,
+        )
+    }
+}
