@@ -122,6 +122,19 @@ fn with_left_ids<NID: NodeId, V: Copy + Borrow<P>, P: Copy + Ord, QS: QuorumSet<
     Ok(ids)
 }
 
+// The learner ids, and behind them the ids that have a value and are no longer in the quorum set.
+fn kept_ids<NID: NodeId, V: Copy + Borrow<P>, P: Copy + Ord, QS: QuorumSet<NID> + Drop>(
+    alloc: Global,
+    progress: &VecProgress<NID, V, P, QS>,
+    quorum_set: &QS,
+    learner_ids: &[NID],
+) -> Result<Vec<NID>, AllocError>
+    ensures { IfOk result (λ ids. ids.items ≡ learner_ids.now ++ left_ids NID.eq progress.now (QS.members quorum_set.now) learner_ids.now) }
+{
+    let members = quorum_set.ids(alloc)?;
+    with_left_ids(alloc, progress, members.as_slice(), learner_ids)
+}
+
 // The progress of another quorum set, where whoever has a value keeps it.
 fn carry_over<NID: NodeId, V: Copy + Borrow<P>, P: Copy + Ord, QS: QuorumSet<NID> + Drop>(
     alloc: Global,
@@ -135,9 +148,23 @@ fn carry_over<NID: NodeId, V: Copy + Borrow<P>, P: Copy + Ord, QS: QuorumSet<NID
     ensures built_with { IfOk result (λ p. p.built_with ≡ V.borrowed default_value) }
     ensures counted { IfOk result (λ p. IsCounted NID.eq P.cmp V.borrowed QS.accepts p) }
 {
-    let members = quorum_set.ids(alloc)?;
-    let ids = with_left_ids(alloc, progress, members.as_slice(), learner_ids)?;
+    let ids = kept_ids(alloc, progress, &quorum_set, learner_ids)?;
     progress.upgrade_quorum_set(alloc, quorum_set, ids.as_slice(), default_value)
+}
+
+// The same by rising id, so that a peer is found by halving. What is granted isn't counted.
+fn carry_over_by_id<NID: NodeId, V: Copy + Borrow<P>, P: Copy + Ord, QS: QuorumSet<NID> + Drop>(
+    alloc: Global,
+    progress: &VecProgress<NID, V, P, QS>,
+    quorum_set: QS,
+    learner_ids: &[NID],
+    default_value: V,
+) -> Result<VecProgress<NID, V, P, QS>, AllocError>
+    ensures { IfOk result (λ p. IsUpgraded NID.eq progress.now p quorum_set (QS.members quorum_set)
+        (learner_ids.now ++ left_ids NID.eq progress.now (QS.members quorum_set) learner_ids.now) default_value) }
+{
+    let ids = kept_ids(alloc, progress, &quorum_set, learner_ids)?;
+    progress.upgrade_by_id(alloc, quorum_set, ids.as_slice(), default_value)
 }
 
 impl<NID: NodeId, QS: QuorumSet<NID> + Drop> Leader<NID, QS> {
@@ -308,7 +335,7 @@ impl<NID: NodeId, QS: QuorumSet<NID> + Clone + Drop> Leader<NID, QS> {
     {
         let clock_set = quorum_set.clone()?;
         let unknown = ProgressEntry::empty(self.began());
-        let progress = carry_over(alloc, &self.progress, quorum_set, learner_ids, unknown)?;
+        let progress = carry_over_by_id(alloc, &self.progress, quorum_set, learner_ids, unknown)?;
         self.clock_progress = carry_over(
             alloc,
             &self.clock_progress,

@@ -9,7 +9,7 @@ use raft_leaders::{Leader, greatest_accepted};
 use raft_progress::ProgressEntry;
 use raft_rows::{Answer, number};
 use raft_state::{
-    EmptyNode, Entry, EntryPayload, IdSet, LeaderId, LogId, LogIdList, Vote, are_keys,
+    EmptyNode, Entry, EntryPayload, IdSet, Joint, LeaderId, LogId, LogIdList, Vote, are_keys,
 };
 use std::alloc::{AllocError, Global};
 
@@ -184,9 +184,9 @@ fn ends_early(log_ids: &LogIdList<u64>) -> bool
     }
 }
 
-// The log ids of the keys (1, 1, 1), (2, 2, 4), (2, 2, 6), if there is memory.
-fn own_log_ids(alloc: Global) -> Option<LogIdList<u64>> {
-    let keys = [id(1, 1, 1), id(2, 2, 4), id(2, 2, 6)];
+// The log ids of the keys (1, 1, 1), (2, 2, 4) and (2, 2, last), if there is memory.
+fn own_log_ids(alloc: Global, last: u64) -> Option<LogIdList<u64>> {
+    let keys = [id(1, 1, 1), id(2, 2, 4), id(2, 2, last)];
     if are_keys(&keys) {
         LogIdList::new(alloc, &keys).ok()
     } else {
@@ -196,7 +196,7 @@ fn own_log_ids(alloc: Global) -> Option<LogIdList<u64>> {
 
 // The greatest log id that node 2 may commit as the leader of the voters 1 to 3.
 fn accepted(leader: &NumberedLeader, alloc: Global) -> Option<Option<LogId<u64>>> {
-    let log_ids = own_log_ids(alloc)?;
+    let log_ids = own_log_ids(alloc, 6)?;
     let voters = IdSet::from_slice(alloc, &[1, 2, 3]).ok()?;
     if !ends_early(&log_ids) {
         return None;
@@ -204,11 +204,62 @@ fn accepted(leader: &NumberedLeader, alloc: Global) -> Option<Option<LogId<u64>>
     Some(greatest_accepted(leader, 2, &log_ids, &voters))
 }
 
+// Whether the leader knows peers 1 to 64, of which each then matches up to a place below 91.
+fn spread(leader: &mut NumberedLeader) -> bool {
+    let mut all_known = true;
+    for peer in 1..65u64 {
+        let entry = ProgressEntry::new(Some(id(2, 2, peer * 37 % 91)));
+        all_known &= leader.set_peer(&peer, entry);
+    }
+    all_known
+}
+
+// The quorum set of these two groups, such as `1..41` and `25..65`.
+fn joint(
+    alloc: Global,
+    first: &str,
+    second: &str,
+) -> Result<Joint<u64, IdSet<u64>, Vec<IdSet<u64>>>, AllocError> {
+    let first = IdSet::from_slice(alloc, &ids(alloc, first)?)?;
+    let second = IdSet::from_slice(alloc, &ids(alloc, second)?)?;
+    let mut groups = Vec::new(alloc);
+    groups.push(first)?;
+    groups.push(second)?;
+    Ok(Joint::new(groups))
+}
+
+// The greatest log id that node 2 may commit, of a log up to place 90, where both groups count.
+fn accepted_by(
+    leader: &NumberedLeader,
+    alloc: Global,
+    first: &str,
+    second: &str,
+) -> Option<Option<LogId<u64>>> {
+    let log_ids = own_log_ids(alloc, 90)?;
+    let voters = joint(alloc, first, second).ok()?;
+    if !ends_early(&log_ids) {
+        return None;
+    }
+    Some(greatest_accepted(leader, 2, &log_ids, &voters))
+}
+
+// The answer to a row about what may be committed.
+fn of_accepted(leader: &mut NumberedLeader, alloc: Global, words: &[&str]) -> Option<Answer> {
+    Some(match *words {
+        ["accepted"] => Answer::shown(alloc, &accepted(leader, alloc)?),
+        ["accepted-by", first, second] => {
+            Answer::shown(alloc, &accepted_by(leader, alloc, first, second)?)
+        }
+        ["spread"] => Answer::truth(spread(leader)),
+        _ => return None,
+    })
+}
+
 // ---- rows
 
 fn of_leader(leader: &mut NumberedLeader, alloc: Global, words: &[&str]) -> Option<Answer> {
-    if let ["accepted"] = *words {
-        return Some(Answer::shown(alloc, &accepted(leader, alloc)?));
+    if let Some(answer) = of_accepted(leader, alloc, words) {
+        return Some(answer);
     }
     if let Some(answer) = of_lead(leader, alloc, words) {
         return Some(answer);

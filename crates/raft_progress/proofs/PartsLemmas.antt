@@ -1,8 +1,8 @@
 -- Values beside distinct ids, and a value that is set.
-use Rattle.std.proofs.Common.{◌≡◌, ℕ, zero, suc, ◌<◌, List, [], ◌∷◌, map, length, get_or, refl, ap, sym, ◌∙◌, subst, arith}
-use Rattle.std.specs.Prelude.{Bool, true, false, ◌||◌, cond, if◌then◌else◌, Option, Some, None, unwrap_or, Result, Ok, Err, OnOk}
+use Rattle.std.proofs.Common.{◌≡◌, ℕ, zero, suc, ◌+◌, ◌<◌, List, [], ◌∷◌, map, length, get_or, refl, ap, sym, ◌∙◌, subst, arith}
+use Rattle.std.specs.Prelude.{Bool, true, false, not, ◌||◌, cond, nat_lt, if◌then◌else◌, Option, Some, None, unwrap_or, Result, Ok, Err, OnOk}
 use Rattle.std.specs.Option.{option_or}
-use Rattle.std.specs.List.{AllByRecursion, Contains}
+use Rattle.std.specs.List.{AllByRecursion, Contains, position, position_or_len}
 use Rattle.std.specs.List.{IsDistinct}
 use Rattle.std.specs.List.Sorted.{IsPermutation}
 use Rattle.std.proofs.lemmas.List.Sorted.{list_any-IsPermutation, Contains-permutation, IsPermutation-refl, IsPermutation-map}
@@ -13,6 +13,7 @@ use Rattle.std.specs.Ordering.{is_eq, is_le}
 use Rattle.raft_progress.specs.Counted.{IsNoLess, lowers_value}
 use Rattle.std.specs.Cmp.{IsTotalOrder}
 use Rattle.std.proofs.lemmas.Bool.{both_ways}
+use borrow.Author.Tests.{lt-ltb}
 use Rattle.raft_progress.proofs.OrderLemmas.{le_if_not_lt}
 use Rattle.raft_quorums.specs.Rising.{IsBelowAll, IsRising}
 use Rattle.raft_quorums.specs.Nodes.{has_id, has_node}
@@ -124,6 +125,21 @@ module _ {K V : Type 0} (eq : K → K → Bool) where
     found_there (x ∷ xs) (suc k) d id a h e =
         let apart : eq x.0 id ≡ false = ap (eq x.0) (sym (same (get_or xs k d).0 id e)) ∙ apart_at x.0 xs k d a.0 (omega arith) in
         ap (λ b. value_if b x (entry_at eq xs id)) apart ∙ found_there xs k d id a.1 (omega arith) e
+
+    first_there : (xs : List (K × V)) (k : ℕ) (d : K × V) (id : K) → IsDistinct eq (ids_of xs) → k < length xs → eq (get_or xs k d).0 id ≡ true → position_or_len (λ (x : K × V). eq x.0 id) xs ≡ k
+    unfolding IsDistinct
+    first_there [] k d id a h e = absurd (omega arith)
+    first_there (x ∷ xs) zero d id a h e = ap (λ b. cond (not b) (1 + position_or_len (λ (x : K × V). eq x.0 id) xs) 0) e
+    first_there (x ∷ xs) (suc k) d id a h e =
+        let apart : eq x.0 id ≡ false = ap (eq x.0) (sym (same (get_or xs k d).0 id e)) ∙ apart_at x.0 xs k d a.0 (omega arith) in
+        let rest : position_or_len (λ (x : K × V). eq x.0 id) xs ≡ k = first_there xs k d id a.1 (omega arith) e in
+        ap (λ b. cond (not b) (1 + position_or_len (λ (x : K × V). eq x.0 id) xs) 0) apart ∙ omega (arith, rest)
+
+    -- among distinct ids it is the index of its id
+    pub place_there : (xs : List (K × V)) (k : ℕ) (id : K) → IsDistinct eq (ids_of xs) → k < length xs → ((d : K × V) → eq (get_or xs k d).0 id ≡ true) → Some k ≡ position (λ (x : K × V). eq x.0 id) xs
+    place_there xs k id a h e =
+        let at : position_or_len (λ (x : K × V). eq x.0 id) xs ≡ k = some_of xs k h (λ d. first_there xs k d id a h (e d)) in
+        sym (ap (λ n. cond (nat_lt n (length xs)) (Some n) None) at ∙ ap (λ b. cond b (Some k) None) (lt-ltb k (length xs) h))
 
     -- entries with distinct ids give the same values in whatever order they stand
     pub value_at-moved : (xs ys : List (K × V)) (id : K) → IsPermutation xs ys → IsDistinct eq (ids_of ys) → value_at eq ys id ≡ value_at eq xs id

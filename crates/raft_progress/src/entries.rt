@@ -1,8 +1,9 @@
 //! Values beside ids, in a list.
 ghost use Rattle.std.specs.Prelude.{◌≡◌, ◌<◌, true, false, length, Some, None, IfSome, IfNone, IfOk, map, is_some, slice_set, slice_index_or};
-ghost use Rattle.std.specs.List.{position};
+ghost use Rattle.std.specs.List.{IsDistinct, position};
 ghost use Rattle.std.specs.Option.{option_copied};
 ghost use Rattle.raft_quorums.specs.Nodes.{has_node};
+ghost use Rattle.raft_progress.specs.Parts.{ids_of};
 ghost use Rattle.raft_progress.specs.Values.{value_at, with_value};
 
 use raft_state::NodeId;
@@ -25,6 +26,21 @@ pub(crate) fn place<ID: NodeId, V>(entries: &[(ID, V)], id: &ID) -> Option<usize
     match first_place(entries, id) {
         Some(at) => Some(at),
         None => None,
+    }
+}
+
+// The same among distinct ids. It is found by halving where the ids rise, and else one by one.
+pub(crate) fn distinct_place<ID: NodeId, V>(entries: &[(ID, V)], id: &ID) -> Option<usize>
+    requires { IsDistinct ID.eq (ids_of entries.now) }
+    ensures has { has_node ID.eq entries.now id.now ≡ is_some result }
+    ensures within { IfSome result (λ at. at < length entries.now) }
+    ensures value { IfSome result (λ at. (x : ID × V) → value_at ID.eq entries.now id.now ≡ Some (slice_index_or entries.now at x).1) }
+    ensures with_value { IfSome result (λ at. (x : ID × V) (v : V) → with_value ID.eq entries.now id.now v ≡ slice_set entries.now at ((slice_index_or entries.now at x).0, v)) }
+    ensures without { IfNone result ((v : V) → with_value ID.eq entries.now id.now v ≡ entries.now) }
+{
+    match entries.binary_search_by_key(id, |entry| entry.0) {
+        Ok(at) => Some(at),
+        Err(_) => place(entries, id),
     }
 }
 

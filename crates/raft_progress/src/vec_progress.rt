@@ -13,7 +13,7 @@ ghost use Rattle.raft_progress.specs.Parts.{IsUpgraded, SetsValue, carried, has_
 ghost use Rattle.raft_progress.specs.Values.{are_distinct, rises_above, value_at};
 
 use crate::borrow::Borrow;
-use crate::entries::{beside, place, set_value, value_in};
+use crate::entries::{beside, distinct_place, place, set_value, value_in};
 use crate::front::{granted_by, is_below, push_falling, raise};
 use crate::iter::Iter;
 use raft_state::{NodeId, QuorumSet};
@@ -23,7 +23,8 @@ use std::marker::Model;
 
 /// The progress of all peers (openraft). Contracts see its quorum set, the value that it was last
 /// built with, what is granted, and the values of voters and learners beside their ids. The
-/// voters stand in falling order of their values, as long as none is changed by `get_mut`.
+/// voters stand in falling order of their values, as long as none is changed by `get_mut`; those
+/// of `new`, which are all equal, and of `upgrade_by_id` stand by rising id until one rises.
 #[derive(Debug, Drop)]
 pub struct VecProgress<ID: PartialEq, V, P, QS> {
     quorum_set: QS,
@@ -137,8 +138,9 @@ impl<ID: NodeId, V: Copy + Borrow<P>, P: Copy + Ord, QS: QuorumSet<ID> + Drop> V
     pub fn try_get(&self, id: &ID) -> Option<&V>
         ensures { option_copied result ≡ value_of ID.eq self.now id.now }
     {
-        match value_in(self.voters.as_slice(), id) {
-            Some(value) => Some(value),
+        let voters = self.voters.as_slice();
+        match distinct_place(voters, id) {
+            Some(at) => Some(&voters[at].1),
             None => value_in(self.learners.as_slice(), id),
         }
     }
@@ -181,7 +183,7 @@ impl<ID: NodeId, V: Copy + Borrow<P>, P: Copy + Ord, QS: QuorumSet<ID> + Drop> V
         ensures counted { (value : V) → IsSamePart V.borrowed (value_at ID.eq self.old.voters id.now) value
             → IsCounted ID.eq P.cmp V.borrowed QS.accepts self.old → IsCounted ID.eq P.cmp V.borrowed QS.accepts (written ID.eq self.old id.now value) }
     {
-        match place(self.voters.as_slice(), id) {
+        match distinct_place(self.voters.as_slice(), id) {
             Some(at) => Some(self.voter_mut(at)),
             None => match place(self.learners.as_slice(), id) {
                 Some(at) => Some(self.learner_mut(at)),
@@ -323,6 +325,32 @@ impl<ID: NodeId, V: Copy + Borrow<P>, P: Copy + Ord, QS: QuorumSet<ID> + Drop> V
         Ok(VecProgress {
             quorum_set,
             built_with,
+            granted,
+            voters,
+            learners,
+        })
+    }
+
+    /// The same with the voters by rising id, where each is found by halving as long as values are
+    /// changed by `get_mut` alone. What is granted isn't counted (own).
+    pub fn upgrade_by_id(
+        &self,
+        alloc: Global,
+        quorum_set: QS,
+        learner_ids: &[ID],
+        default_value: V,
+    ) -> Result<VecProgress<ID, V, P, QS>, AllocError>
+        ensures upgraded { IfOk result (λ p. IsUpgraded ID.eq self.now p quorum_set (QS.members quorum_set) learner_ids.now default_value) }
+        ensures voters { IfOk result (λ p. p.voters ≡ map (carried ID.eq self.now default_value) (QS.members quorum_set)) }
+        ensures built_with { IfOk result (λ p. (p.built_with ≡ V.borrowed default_value) × (p.granted ≡ V.borrowed default_value)) }
+    {
+        let ids = quorum_set.ids(alloc)?;
+        let voters = self.carry(alloc, ids.as_slice(), default_value)?;
+        let learners = self.carry(alloc, learner_ids, default_value)?;
+        let granted = *default_value.borrow();
+        Ok(VecProgress {
+            quorum_set,
+            built_with: granted,
             granted,
             voters,
             learners,

@@ -13,7 +13,7 @@ returns-clause-progress g c =
     let learner_ids = c.args.learner_ids.now in
     rw (← c.self.view_is)
     (subst (λ v. IsUpgraded eq old c.in_ok-progress.progress c.args.quorum_set members (learner_ids ++ left_ids eq old members learner_ids) v)
-    (c.empty-unknown.ensures ∙ ap unknown_peer (c.began.ensures ∙ ap (λ l. l.began) (sym c.self.view_is))) c.in_ok-progress.ensures.upgraded)
+    (c.empty-unknown.ensures ∙ ap unknown_peer (c.began.ensures ∙ ap (λ l. l.began) (sym c.self.view_is))) c.in_ok-progress.ensures)
 
 pub returns-clause-peers : goal.returns-clause-peers
 returns-clause-peers g c =
@@ -24,4 +24,4 @@ returns-clause-peers g c =
     rw (← c.self.view_is)
     (λ id. values_stay eq g.met.NID.NodeIdEssential.equal_is_same old c.in_ok-progress.progress c.args.quorum_set members learner_ids (unknown_peer c.self.inside.began)
     (subst (λ v. IsUpgraded eq old c.in_ok-progress.progress c.args.quorum_set members (learner_ids ++ left_ids eq old members learner_ids) v)
-    (c.empty-unknown.ensures ∙ ap unknown_peer (c.began.ensures ∙ ap (λ l. l.began) (sym c.self.view_is))) c.in_ok-progress.ensures.upgraded) id)
+    (c.empty-unknown.ensures ∙ ap unknown_peer (c.began.ensures ∙ ap (λ l. l.began) (sym c.self.view_is))) c.in_ok-progress.ensures) id)
