@@ -1,6 +1,6 @@
 -- Where the records of a pipe's batches stand, and what is read there.
 use Rattle.std.proofs.Common.{◌≡◌, ◌≢◌, ◌⊎◌, inl, inr, ⊎_elim, ℕ, zero, suc, ◌+◌, ◌-◌, ◌<◌, ◌≤◌, Bool, true, false, cond, List, [], ◌∷◌, ◌++◌, length, get_or, take, drop, Option, refl, sym, ap, subst, ◌∙◌, arith, append_assoc, length-append, length-drop, take-append-drop}
-use Rattle.std.specs.Prelude.{Result, Ok, Err, IfOk, ◌==◌}
+use Rattle.std.specs.Prelude.{Result, Ok, Err, IfOk, OnOk, ◌==◌}
 use Rattle.raft_log_files.specs.declared.error.Error.{Error}
 use Rattle.std.proofs.lemmas.Bool.{eq-eqb, ne_eqb}
 use Rattle.std.proofs.lemmas.List.{append-nil, drop-append-le, take-append-le}
@@ -18,7 +18,7 @@ use Rattle.raft_log_file.specs.Laws.{Batch, file_text, spelled_batches}
 use Rattle.raft_log_pipe.specs.declared.file.File.{File}
 use Rattle.raft_log_pipe.specs.declared.pipe.SinglePipe.{SinglePipe}
 use Rattle.raft_log_pipe.specs.Appending.{IsHandle, Stands}
-use Rattle.raft_log_pipe.specs.Blocks.{AreOfBlock, AreOfFile, IsOutOfSpan, IsRecordOf, files_of, of_file, record_in}
+use Rattle.raft_log_pipe.specs.Blocks.{AreOfBlock, AreOfFile, IsOutOfSpan, IsRecordOf, KeepsFiles, files_of, of_file, record_in}
 use Rattle.raft_log_pipe.specs.Stored.{IsStored}
 use Rattle.raft_log_pipe.specs.Pipe.{Numbered, numbered, id_of, first_of, AreConsecutive, AreOlder, Holds, IsOlder, IsPipe}
 
@@ -110,6 +110,24 @@ pub is_older : (fs : List File) (f g : File) → IsIn f fs → IsIn f (fs ++ g �
 is_older [] f g there = absurd there
 is_older (x ∷ fs) f g (inl same) = inl same
 is_older (x ∷ fs) f g (inr there) = inr (is_older fs f g there)
+
+-- files that stay: those of the same pipe, and where another one goes on
+pub same_files : (old new : SinglePipe) → new.active ≡ old.active → new.older ≡ old.older → KeepsFiles old new
+same_files old new active older f there = subst (λ (l : List File). IsIn f l) (λ i. (sym older i).items ++ sym active i ∷ []) there
+
+pub more_files : (old new : SinglePipe) → new.older.items ≡ old.older.items ++ old.active ∷ [] → KeepsFiles old new
+more_files old new is f there = is_older new.older.items f new.active (subst (λ (l : List File). IsIn f l) (sym is) there)
+
+pub next_files : (r : Result (Unit {0}) Error) (old new : SinglePipe) → OnOk r ((new.active.seq ≡ old.active.seq + 1) × (new.older.items ≡ old.older.items ++ old.active ∷ [])) → OnOk r (KeepsFiles old new)
+next_files (Ok u) old new next = more_files old new next.1
+next_files (Err e) old new next = tt
+
+pub then_files : (old p new : SinglePipe) → KeepsFiles old p → KeepsFiles p new → KeepsFiles old new
+then_files old p new one other f there = other f (one f there)
+
+pub after_files : (r : Result FileBlockHandle Error) (old p new : SinglePipe) → KeepsFiles old p → OnOk r (KeepsFiles p new) → OnOk r (KeepsFiles old new)
+after_files (Ok h) old p new one other = then_files old p new one other
+after_files (Err e) old p new one other = tt
 
 pub older_below : (fs : List File) (last : ℕ) (f : File) → AreConsecutive fs last → IsIn f fs → (f.seq < last) × (last ≤ f.seq + length fs)
 older_below [] last f numbers there = absurd there

@@ -19,6 +19,10 @@ use Rattle.raft_log_pipe.specs.Pipe.{Numbered, id_of, first_of, Holds}
 abbrev pub files_of : SinglePipe → List File
 files_of p = p.older.items ++ p.active ∷ []
 
+-- the files of before are files of it still
+abbrev pub KeepsFiles : SinglePipe → SinglePipe → Type 0
+KeepsFiles old new = (f : File) → IsIn f (files_of old) → IsIn f (files_of new)
+
 -- no file of the pipe has this number
 abbrev pub IsOutOfSpan : SinglePipe → ℕ → Type 0
 IsOutOfSpan p seq = (seq < first_of p) ⊎ (p.active.seq < seq)

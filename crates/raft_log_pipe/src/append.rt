@@ -6,6 +6,7 @@ ghost use Rattle.raft_log_disk.specs.Cause.{UnlessRefused};
 ghost use Rattle.raft_log_file.specs.Writer.{IsWriter};
 ghost use Rattle.raft_log_pipe.specs.Pipe.{IsPipe, IsPopulated, Holds, Leaves, Numbered};
 ghost use Rattle.raft_log_pipe.specs.Appending.{IsHandle, Appends, LeavesAppended, Stands};
+ghost use Rattle.raft_log_pipe.specs.Blocks.{KeepsFiles};
 
 use crate::pipe::SinglePipe;
 use raft_log_files::{Error, FileSystem, IoFault};
@@ -53,6 +54,7 @@ impl SinglePipe {
         ensures pipe { OnOk result (IsPipe self.new (F.disk files.new)) }
         ensures writer { IsWriter self.new.writer (F.disk files.new) }
         ensures queue { self.new.queue ≡ self.old.queue }
+        ensures files { OnOk result (KeepsFiles self.old self.new) }
         ensures ok { OnOk result ((synced : Numbered) (unsynced : Numbered) → Holds self.old (F.disk files.old) synced unsynced
             → Holds self.new (F.disk files.new) synced unsynced ⊎ Holds self.new (F.disk files.new) (synced ++ unsynced) []) }
         ensures err { OnErr result ((synced : Numbered) (unsynced : Numbered) → Holds self.old (F.disk files.old) synced unsynced → Leaves self.new (F.disk files.new) synced unsynced) }
@@ -78,6 +80,7 @@ impl SinglePipe {
         ensures writer { IsWriter self.new.writer (F.disk files.new) }
         ensures queue { self.new.queue ≡ self.old.queue }
         ensures batch { batch.new.items ≡ batch.old.items }
+        ensures files { OnOk result (KeepsFiles self.old self.new) }
         ensures ok { IfOk result (λ h. Appends self.old (F.disk files.old) self.new (F.disk files.new) h.id.seq batch.old.items) }
         ensures stands { IfOk result (Stands self.old (F.disk files.old) self.new batch.old.items) }
         ensures err { OnErr result ((synced : Numbered) (unsynced : Numbered) → Holds self.old (F.disk files.old) synced unsynced
@@ -105,6 +108,7 @@ impl SinglePipe {
         ensures writer { IsWriter self.new.writer (F.disk files.new) }
         ensures queue { self.new.queue ≡ self.old.queue }
         ensures batch { batch.new.items ≡ batch.old.items }
+        ensures files { OnOk result (KeepsFiles self.old self.new) }
         ensures ok { IfOk result (λ h. Appends self.old (F.disk files.old) self.new (F.disk files.new) h.id.seq batch.old.items) }
         ensures stands { IfOk result (Stands self.old (F.disk files.old) self.new batch.old.items) }
         ensures err { OnErr result ((synced : Numbered) (unsynced : Numbered) → Holds self.old (F.disk files.old) synced unsynced

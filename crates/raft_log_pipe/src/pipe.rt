@@ -64,6 +64,7 @@ impl SinglePipe {
     pub fn sync<F: FileSystem>(&mut self, files: &mut F) -> Result<(), Error>
         requires { IsPipe self.old (F.disk files.old) }
         ensures pipe { IsPipe self.new (F.disk files.new) }
+        ensures same { (self.new.active ≡ self.old.active) × (self.new.older ≡ self.old.older) × (self.new.queue ≡ self.old.queue) }
         ensures ok { OnOk result ((synced : Numbered) (unsynced : Numbered) → Holds self.old (F.disk files.old) synced unsynced → Holds self.new (F.disk files.new) (synced ++ unsynced) []) }
         ensures err { OnErr result ((synced : Numbered) (unsynced : Numbered) → Holds self.old (F.disk files.old) synced unsynced → Holds self.new (F.disk files.new) synced unsynced) }
     {

@@ -11,7 +11,7 @@ use Rattle.raft_log_records.specs.declared.item.LogItem.{LogItem}
 use Rattle.raft_log_records.specs.Checksum.{crc32_of}
 use Rattle.raft_log_records.specs.Item.{Change, Item, item_of, items_of, change_map, item_map, entry_bytes, with_bytes, with_lengths}
 use Rattle.raft_log_records.specs.Item.Change.{entries, clean, compact, put, delete, mark}
-use Rattle.raft_log_records.specs.Spelling.{IsItem, FitsBytes, is_entries, holds_entries, entries_of, lengths, block_of, block_part, spell_block, spell_item, spell_items, spell_string, spell_change, spell_parts, spell_record, record_len, signed}
+use Rattle.raft_log_records.specs.Spelling.{IsItem, FitsBytes, is_entries, holds_entries, entries_of, lengths, block_of, block_part, spell_block, spell_item, spell_items, spell_string, spell_change, spell_parts, spell_record, record_len, signed, AreItems}
 use Rattle.raft_log_records.specs.Batch.{IsRunLaid, IsLaid, IsSound, record_of}
 use Rattle.raft_log_records.specs.BatchView.{writing_of, KeepsChecksum}
 use Rattle.raft_log_records.specs.declared.batch.BufState.{BufState}
@@ -47,6 +47,13 @@ sound_len items block holds n s =
     let b = ap (λ (l : List (Item ℕ)). length (spell_items l)) (sound_lengths items block holds n s) in
     let c = length-spell_items (with_lengths (items_of items)) in
     omega (arith, s.sum)
+
+-- what a batch holds has a record
+pub sound_items : (items : List LogItem) (block : List ℕ) (holds : Bool) (n : ℕ) → IsSound items block holds n → AreItems (with_bytes block (items_of items))
+sound_items items block holds n s = record {
+  each = subst (AllByRecursion IsItem) (sym (sound_lengths items block holds n s)) s.each;
+  short = omega (arith, s.short, sound_len items block holds n s);
+}
 
 pub sound_len_held : (items : List LogItem) (block : List ℕ) (holds : Bool) (n : ℕ) → IsSound items block holds n → holds ≡ true → record_len (with_bytes block (items_of items)) ≡ 20 + n + length block
 sound_len_held items block holds n s h =

@@ -7,7 +7,7 @@ ghost use Rattle.raft_log_records.specs.Item.{Item, command_change, with_bytes, 
 ghost use Rattle.raft_log_records.specs.Item.{item_of, item_map, entry_bytes};
 ghost use Rattle.raft_log_records.specs.Places.{placed};
 ghost use Rattle.raft_log_records.specs.Block.{StandsIn};
-ghost use Rattle.raft_log_records.specs.Spelling.{holds_entries, holds_mark, IsItem, FitsBytes};
+ghost use Rattle.raft_log_records.specs.Spelling.{holds_entries, holds_mark, AreItems, IsItem, FitsBytes};
 ghost use Rattle.raft_log_records.specs.Spelling.{spell_item, spell_record};
 ghost use Rattle.raft_log_records.specs.Spelling.{block_of, block_part, record_len};
 ghost use Rattle.std.specs.List.{list_all, list_any};
@@ -262,6 +262,7 @@ impl LogBatch {
     pub fn finish_populate(&mut self) -> Result<usize, RecordError>
         ensures ok { OnOk result (self.new ≡ populated self.old.items) }
         ensures len { IfOk result (λ n. n ≡ length (encoded_of self.new)) }
+        ensures items { AreItems self.new.items }
         ensures err { IfErr result (λ e. (e ≡ RecordError.Memory) × (self.new ≡ self.old)) }
     {
         if self.is_empty() {

@@ -1,7 +1,7 @@
 use Rattle.raft_log_disk.proofs.CauseLemmas.{at_err}
 use Rattle.raft_log_pipe.proofs.ExitLemmas.{again_err, again_ok, put_after, still_before, unless_no_space, unput_after, unput_from}
 use Rattle.std.proofs.Common.{refl}
-use Rattle.raft_log_pipe.proofs.BlockLemmas.{stands_after, stands_ok}
+use Rattle.raft_log_pipe.proofs.BlockLemmas.{after_files, same_files, stands_after, stands_ok, then_files}
 use Rattle.raft_log_pipe.proofs.pipe.SinglePipe.append.Goals as goal
 
 pub returns-in_err-make_room-clause-err : goal.returns-in_err-make_room-clause-err
@@ -36,3 +36,13 @@ pub returns-in-Err-NoSpace-clause-stands : goal.returns-in-Err-NoSpace-clause-st
 returns-in-Err-NoSpace-clause-stands g c =
     stands_ok c.put_again.result c.args.self.now c.put.new.self (g.F.FileSystem.disk c.args.files.now) (g.F.FileSystem.disk c.put.new.files) c.put_again.new.self c.args.batch.now.items c.put.new.batch.items
     (still_before c.args.self.now c.make_room.new.self c.put.new.self (g.F.FileSystem.disk c.args.files.now) (g.F.FileSystem.disk c.make_room.new.files) (g.F.FileSystem.disk c.put.new.files) c.in_ok-make_room.ensures.ok (unless_no_space c.in-Err-NoSpace.field-0 _ c.in-Err-NoSpace.field-0-is c.in-Err-NoSpace.ensures.unwritten)) c.in-Err-NoSpace.ensures.batch.0 c.put_again.ensures.stands
+
+pub returns-in-Ok-clause-files : goal.returns-in-Ok-clause-files
+returns-in-Ok-clause-files g c =
+    then_files c.args.self.now c.make_room.new.self c.put.new.self c.in_ok-make_room.ensures.files (same_files c.make_room.new.self c.put.new.self c.in-Ok.ensures.same.0 c.in-Ok.ensures.same.1)
+
+pub returns-in-Err-NoSpace-clause-files : goal.returns-in-Err-NoSpace-clause-files
+returns-in-Err-NoSpace-clause-files g c =
+    after_files c.put_again.result c.args.self.now c.put.new.self c.put_again.new.self
+    (then_files c.args.self.now c.make_room.new.self c.put.new.self c.in_ok-make_room.ensures.files (same_files c.make_room.new.self c.put.new.self c.in-Err-NoSpace.ensures.same.0 c.in-Err-NoSpace.ensures.same.1))
+    c.put_again.ensures.files

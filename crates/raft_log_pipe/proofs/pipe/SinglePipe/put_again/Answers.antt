@@ -1,7 +1,7 @@
 use Rattle.raft_log_disk.proofs.CauseLemmas.{at_err}
 use Rattle.raft_log_pipe.proofs.ExitLemmas.{all_or, put_after, then_holds, then_leaves, unless_no_space, unput_after, unput_from}
 use Rattle.std.proofs.Common.{refl}
-use Rattle.raft_log_pipe.proofs.BlockLemmas.{stands_after}
+use Rattle.raft_log_pipe.proofs.BlockLemmas.{more_files, same_files, stands_after, then_files}
 use Rattle.raft_log_pipe.proofs.GiveUpLemmas.{given_up}
 use Rattle.raft_log_pipe.proofs.pipe.SinglePipe.put_again.Goals as goal
 
@@ -39,3 +39,9 @@ returns-in-Err-NoSpace-clause-err g c =
     given_up c.args.self.now c.go_on.new.self c.put.new.self c.give_up.new.self (g.F.FileSystem.disk c.args.files.now) (g.F.FileSystem.disk c.go_on.new.files) (g.F.FileSystem.disk c.put.new.files) (g.F.FileSystem.disk c.give_up.new.files) c.args.batch.now.items
     (then_holds c.args.self.now c.finish.new.self c.go_on.new.self (g.F.FileSystem.disk c.args.files.now) (g.F.FileSystem.disk c.finish.new.files) (g.F.FileSystem.disk c.go_on.new.files) c.in_ok-finish.ensures.ok c.in-Ok.ensures.ok)
     (unless_no_space c.in-Err-NoSpace.field-0 _ c.in-Err-NoSpace.field-0-is c.in-Err-NoSpace.ensures.unwritten) c.give_up.ensures.leaves
+
+pub returns-in-Ok-put-clause-files : goal.returns-in-Ok-put-clause-files
+returns-in-Ok-put-clause-files g c =
+    then_files c.args.self.now c.finish.new.self c.put.new.self (same_files c.args.self.now c.finish.new.self c.in_ok-finish.ensures.same.0 c.in_ok-finish.ensures.same.1)
+    (then_files c.finish.new.self c.go_on.new.self c.put.new.self (more_files c.finish.new.self c.go_on.new.self c.in-Ok.ensures.next.1)
+    (same_files c.go_on.new.self c.put.new.self c.in-Ok-put.ensures.same.0 c.in-Ok-put.ensures.same.1))

@@ -1,9 +1,9 @@
-use Rattle.std.proofs.Common.{◌≡◌, ℕ, List, None, ◌∙◌, ap, sym, arith, length}
+use Rattle.std.proofs.Common.{◌≡◌, ℕ, List, None, ◌∙◌, ap, subst, sym, arith, length}
 use Rattle.raft_log_records.specs.declared.item.LogItem.{LogItem}
 use Rattle.raft_log_records.specs.Item.{items_of, with_bytes, with_lengths}
-use Rattle.raft_log_records.specs.Spelling.{block_part, spell_items, spell_parts, record_len}
+use Rattle.raft_log_records.specs.Spelling.{AreItems, block_part, spell_items, spell_parts, record_len}
 use Rattle.raft_log_records.specs.Batch.{Batch}
-use Rattle.raft_log_records.proofs.Sound.{sound_len, sound_spelled}
+use Rattle.raft_log_records.proofs.Sound.{sound_items, sound_len, sound_spelled}
 use Rattle.raft_log_records.proofs.batch.LogBatch.finish_populate.Goals as goal
 
 pub write_record-requires-clause-room : goal.write_record-requires-clause-room
@@ -36,3 +36,14 @@ returns-clause-len c =
     ∙ ap (λ (l : List LogItem). spell_parts None (block_part a.holds_entries a.entries.items) (spell_items (with_lengths (items_of l)))) c.deref.ensures.value
     ∙ sym (sound_spelled None a.items.items a.entries.items a.holds_entries a.items_len c.self.invariant.sound) in
     omega (arith, c.len.ensures, ap length bytes)
+
+pub returns-then-is_empty-clause-items : goal.returns-then-is_empty-clause-items
+returns-then-is_empty-clause-items c = let a = c.self.inside in sound_items a.items.items a.entries.items a.holds_entries a.items_len c.self.invariant.sound
+
+pub returns-in_err-encoded-clause-items : goal.returns-in_err-encoded-clause-items
+returns-in_err-encoded-clause-items c =
+    let a = c.self.inside in
+    subst (λ (b : Batch). AreItems b.items) c.self.view_is (sound_items a.items.items a.entries.items a.holds_entries a.items_len c.self.invariant.sound)
+
+pub returns-clause-items : goal.returns-clause-items
+returns-clause-items c = let a = c.self.inside in sound_items a.items.items a.entries.items a.holds_entries a.items_len c.self.invariant.sound
