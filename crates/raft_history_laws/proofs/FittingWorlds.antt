@@ -1,34 +1,32 @@
 -- What nodes have stored and what was sent fits, along every history; and what holds of each node along such worlds.
 use Rattle.std.specs.Prelude.{◌≡◌, ℕ, ◌<◌, Bool, true, false, List, [], length, slice_get, Option, Some, None, refl}
-use Rattle.std.proofs.Common.{sym, ap, ◌∙◌, subst, arith, ⊎_elim}
-use Rattle.std.proofs.lemmas.List.Elements.{All-contains, All-nil}
+use Rattle.std.proofs.Common.{sym, ap, ◌∙◌, subst, arith}
+use Rattle.std.proofs.lemmas.List.Elements.{All-nil}
 use Rattle.raft_group_step.specs.Values.{Entry, Membership, has_id}
 use Rattle.raft_group_step.specs.StoredGroup.{StoredGroup}
 use Rattle.raft_group_step.specs.Message.{Message}
 use Rattle.raft_group_step.specs.GroupState.{GroupState, no_group, state_of}
 use Rattle.raft_group_step.specs.GroupEvent.{GroupCall, GroupEvent, AddGroup, Call, Receive, Open}
-use Rattle.raft_group_step.specs.StepResult.{RefusalReason, StepResult}
+use Rattle.raft_group_step.specs.StepResult.{StepResult}
 use Rattle.raft_group_step.specs.GroupStep.{group_step}
 use Rattle.raft_laws.specs.BallotWorld.{BallotEvent}
 use Rattle.raft_laws.specs.BallotRanks.{ballot_group}
 use Rattle.raft_laws.specs.declared.world_event.WorldEvent.{WorldEvent}
 use Rattle.raft_laws.specs.declared.world_event.WorldEvent.TheVariants.{Add, Ask, Crash, Deliver, Halt, Restart}
 use Rattle.raft_laws.specs.GroupWorld.{GroupWorld, NodeState, Absent, Up, Down, Outcome, Recorded, is_stop, new_world, state_or}
-use Rattle.raft_laws.specs.NodeEvent.{NodeEvent, Comes, Crashes, Halts, Restarts, after_step, outcome_at, outcome_of_end, outcome_of_step, outcome_of_stop, state_after}
+use Rattle.raft_laws.specs.NodeEvent.{NodeEvent, Comes, Crashes, Halts, Restarts, after_step, outcome_at, outcome_of_step, state_after}
 use Rattle.raft_laws.specs.GroupRun.{Scene, Nowhere, At, Replays, after_scene, is_same_setup, outcome_in, scene_of, scene_of_call, scene_of_delivery, sent_in, setup_in_call, stop_at}
 use Rattle.raft_laws.specs.VotesRise.{stored_of}
 use Rattle.raft_laws.specs.OneList.{AreNodeIds, IsGroupHistory}
 use Rattle.raft_laws.proofs.BallotAgreement.{same_some}
-use Rattle.raft_laws.proofs.BallotSafe.{Among, among_at}
+use Rattle.raft_laws.proofs.BallotSafe.{among_at}
 use Rattle.raft_laws.proofs.BallotSettling.{all_commits}
-use Rattle.raft_laws.proofs.Counts.{among_contains, contains_at}
+use Rattle.raft_laws.proofs.Counts.{contains_at}
 use Rattle.raft_laws.proofs.Ids.{size_same}
 use Rattle.raft_laws.proofs.Shapes.{joined_end}
 use Rattle.raft_laws.proofs.Standing.{UpFits}
 use Rattle.raft_laws.proofs.StepFits.{NodeFits, world_after}
 use Rattle.raft_laws.proofs.WorldFits.{NodeStateFits, WorldFits}
-use Rattle.raft_laws.proofs.WorldSteps.{MayHappen}
-use Rattle.raft_laws.proofs.WorldRuns.{MayTakePlace, among_either}
 use Rattle.raft_laws.proofs.HeldLists.{at_node}
 use Rattle.raft_laws.proofs.WorldStart.{founded}
 use Rattle.raft_step_laws.specs.Fitting.{ComesWithin, IsBodyBounded, FitsEvent, IsPayloadBounded, FitsStored, IsCommittedWithin, StepFits}
@@ -98,7 +96,7 @@ NodeStored Absent = Unit {0}
 NodeStored (Up s) = FitsStored s.stored
 NodeStored (Down stored) = FitsStored stored
 
-NodeLeaves : Outcome → NodeState → Type 0
+abbrev NodeLeaves : Outcome → NodeState → Type 0
 NodeLeaves = Leaves NodeStored IsBodyBounded
 
 quiet : (o : Outcome) (x : NodeState) → sent_in o ≡ [] → NodeStored x → NodeLeaves o x

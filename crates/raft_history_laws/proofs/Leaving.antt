@@ -8,7 +8,8 @@ use Rattle.raft_group_step.specs.GroupEvent.{GroupEvent}
 use Rattle.raft_group_step.specs.StepResult.{RefusalReason, StepResult}
 use Rattle.raft_laws.specs.declared.world_event.WorldEvent.{WorldEvent}
 use Rattle.raft_laws.specs.GroupWorld.{GroupWorld, NodeState, Up, Down, Outcome}
-use Rattle.raft_laws.specs.NodeEvent.{NodeEvent, after_step, outcome_at, outcome_of_end, outcome_of_step, outcome_of_stop, state_after, stopped_after}
+use Rattle.raft_laws.specs.NodeEvent.{NodeEvent, after_step, outcome_at, outcome_of_end, outcome_of_step, outcome_of_stop, state_after}
+use Rattle.raft_laws.specs.Stop.{stopped_after}
 use Rattle.raft_laws.specs.GroupRun.{At, after_scene, outcome_in, sent_in, stop_at}
 use Rattle.raft_laws.proofs.BallotSafe.{Among}
 use Rattle.raft_laws.proofs.Counts.{among_contains}

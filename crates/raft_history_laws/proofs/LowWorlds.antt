@@ -1,25 +1,24 @@
 -- The numbers that nodes have stored and that were sent are below the limit, along every history.
 use Rattle.std.specs.Prelude.{◌≡◌, ℕ, Bool, true, false, List, [], slice_get, Option, Some, None, refl}
-use Rattle.std.proofs.Common.{sym, subst, arith, ⊎_elim}
-use Rattle.std.proofs.lemmas.List.Elements.{All-contains, All-nil}
+use Rattle.std.proofs.Common.{sym, subst, arith}
+use Rattle.std.proofs.lemmas.List.Elements.{All-nil}
 use Rattle.raft_group_step.specs.Values.{has_id}
 use Rattle.raft_group_step.specs.StoredGroup.{StoredGroup}
 use Rattle.raft_group_step.specs.Message.{Message}
 use Rattle.raft_group_step.specs.GroupState.{GroupState, no_group, state_of}
 use Rattle.raft_group_step.specs.GroupEvent.{GroupCall, GroupEvent, Open}
-use Rattle.raft_group_step.specs.StepResult.{RefusalReason, StepResult}
+use Rattle.raft_group_step.specs.StepResult.{StepResult}
 use Rattle.raft_group_step.specs.Refusal.{numbers_of}
 use Rattle.raft_group_step.specs.GroupStep.{group_step}
 use Rattle.raft_laws.specs.declared.world_event.WorldEvent.{WorldEvent}
 use Rattle.raft_laws.specs.declared.world_event.WorldEvent.TheVariants.{Add, Ask, Crash, Deliver, Halt, Restart}
 use Rattle.raft_laws.specs.GroupWorld.{GroupWorld, NodeState, Absent, Up, Down, Outcome, Recorded, is_stop, new_world, state_or}
-use Rattle.raft_laws.specs.NodeEvent.{NodeEvent, Comes, Crashes, Halts, Restarts, after_step, outcome_at, outcome_of_end, outcome_of_step, outcome_of_stop, state_after}
+use Rattle.raft_laws.specs.NodeEvent.{NodeEvent, Comes, Crashes, Halts, Restarts, after_step, outcome_at, outcome_of_step, state_after}
 use Rattle.raft_laws.specs.GroupRun.{Scene, Nowhere, At, Replays, after_scene, is_same_setup, outcome_in, scene_of, scene_of_call, scene_of_delivery, sent_in, setup_in_call, stop_at}
 use Rattle.raft_laws.specs.VotesRise.{stored_of}
 use Rattle.raft_laws.proofs.BallotAgreement.{same_some}
-use Rattle.raft_laws.proofs.BallotSafe.{Among, among_at}
-use Rattle.raft_laws.proofs.Counts.{among_contains, contains_at}
-use Rattle.raft_laws.proofs.WorldRuns.{among_either}
+use Rattle.raft_laws.proofs.BallotSafe.{among_at}
+use Rattle.raft_laws.proofs.Counts.{contains_at}
 use Rattle.raft_step_laws.specs.Numbers.{BringsLowPrefix, EachPeer, HasLowId, IsLowBody, IsLowPeer, IsLowStored, StepIsLow}
 use Rattle.raft_step_laws.proofs.LowWords.{low_range, none_low}
 use Rattle.raft_step_laws.proofs.LowSteps.{steps_send_low}
@@ -62,7 +61,7 @@ NodeIsLow Absent = Unit {0}
 NodeIsLow (Up s) = IsLowStored s.stored × EachPeer IsLowPeer s.role
 NodeIsLow (Down stored) = IsLowStored stored
 
-NodeLeaves : Outcome → NodeState → Type 0
+abbrev NodeLeaves : Outcome → NodeState → Type 0
 NodeLeaves = Leaves NodeIsLow IsLowBody
 
 quiet : (o : Outcome) (x : NodeState) → sent_in o ≡ [] → NodeIsLow x → NodeLeaves o x
