@@ -1,0 +1,6 @@
+pub mod Appended
+pub mod Batches
+pub mod EntryReads
+pub mod Fetched
+pub mod Clauses
+pub mod Tables

@@ -1,0 +1,13 @@
+//! The log engine over one queue of log files.
+#![tactic(auto)]
+
+mod appending;
+mod blocks;
+mod calls;
+mod engine;
+mod fault;
+mod memory;
+mod writing;
+
+pub use engine::Engine;
+pub use fault::EngineFault;
