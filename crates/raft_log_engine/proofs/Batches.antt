@@ -2,7 +2,7 @@
 use Rattle.std.proofs.Common.{◌≡◌, ℕ, Bool, true, false, List, [], ◌∷◌, ◌++◌, map, Option, None, refl, sym, ap, ◌∙◌}
 use Rattle.std.specs.Prelude.{◌||◌}
 use Rattle.std.specs.List.{list_any}
-use Rattle.std.proofs.lemmas.Bool.{false≢true}
+use Rattle.std.proofs.lemmas.Bool.{false≢true, or_parts}
 use Rattle.std.proofs.lemmas.List.{map-append}
 use Rattle.raft_log_records.specs.declared.item.AtomicGroupStatus.{AtomicGroupStatus}
 use Rattle.raft_log_records.specs.Item.{Change}
@@ -16,10 +16,6 @@ use Rattle.raft_log_engine.specs.Held.{content_of_batches}
 
 -- ---- a batch without marks counts at once
 
-or_false : (a b : Bool) → (a || b) ≡ false → (a ≡ false) × (b ≡ false)
-or_false true b h = absurd (false≢true (sym h))
-or_false false b h = (refl, h)
-
 plain_change : (change : Change (List ℕ)) (o : Option (ℕ × AtomicGroupStatus)) → is_mark change ≡ false → mark_in change o ≡ o
 plain_change (entries es) o h = refl
 plain_change clean o h = refl
@@ -31,7 +27,7 @@ plain_change (mark id status) o h = absurd (false≢true (sym h))
 unmarked : (items : Batch) → list_any holds_mark items ≡ false → mark_of items ≡ None
 unmarked [] h = refl
 unmarked (item ∷ items) h =
-    let both = or_false (is_mark item.change) (list_any holds_mark items) h in
+    let both = or_parts (is_mark item.change) (list_any holds_mark items) h in
     plain_change item.change (mark_of items) both.0 ∙ unmarked items both.1
 
 abbrev Replayed : Type 0

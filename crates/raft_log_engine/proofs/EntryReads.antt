@@ -9,13 +9,14 @@ use Rattle.raft_log_records.specs.declared.file_id.FileBlockHandle.{FileBlockHan
 use Rattle.raft_log_records.specs.declared.item.EntryIndex.{EntryIndex}
 use Rattle.raft_log_records.specs.Checksum.{crc32_of}
 use Rattle.raft_log_records.specs.Item.{entry_bytes}
-use Rattle.raft_log_records.specs.Spelling.{block_of, sealed}
+use Rattle.raft_log_records.specs.Spelling.{block_of, sealed, signed}
 use Rattle.raft_log_disk.specs.Disk.{Disk, IsIn}
 use Rattle.raft_log_pipe.specs.declared.file.File.{File}
 use Rattle.raft_log_pipe.specs.declared.pipe.SinglePipe.{SinglePipe}
 use Rattle.raft_log_pipe.specs.Blocks.{AreOfFile, IsOutOfSpan, files_of}
 use Rattle.raft_log_pipe.specs.Pipe.{Numbered, AreConsecutive, Holds, IsPipe, first_of}
 use Rattle.raft_log_pipe.proofs.BlockLemmas.{blocks_are, one_file}
+use Rattle.raft_log_pipe.proofs.NextLemmas.{consecutive_push}
 use Rattle.raft_log_engine.specs.Held.{ReadsEntries, block_in, bytes_on, bytes_placed, file_in, unsealed_bytes}
 
 -- ---- the file of a number
@@ -55,13 +56,9 @@ in_span (f ∷ fs) last seq numbers low high = by_test (λ apart. in_span fs las
     by_test rest (inl same_number) = first_found seq f fs same_number.1
     by_test rest (inr other) = later_found seq f fs other.1 (rest other.1)
 
-all_consecutive : (fs : List File) (g : File) → AreConsecutive fs g.seq → AreConsecutive (fs ++ g ∷ []) (g.seq + 1)
-all_consecutive [] g numbers = (omega arith, tt)
-all_consecutive (f ∷ fs) g numbers = (omega (arith, numbers.0, length-append fs (g ∷ [])), all_consecutive fs g numbers.1)
-
 not_out : (p : SinglePipe) (d : Disk) (seq : ℕ) → IsPipe p d → (IsOutOfSpan p seq → ⊥) → IsFound seq (files_of p)
 not_out p d seq pipe within =
-    in_span (files_of p) (p.active.seq + 1) seq (all_consecutive p.older.items p.active pipe.numbers)
+    in_span (files_of p) (p.active.seq + 1) seq (consecutive_push p.older.items p.active pipe.numbers)
     (omega (arith, length-append p.older.items (p.active ∷ []), low)) (omega (arith, high))
   where
     low : p.active.seq ≤ seq + length p.older.items
@@ -72,13 +69,13 @@ not_out p d seq pipe within =
 
 -- ---- blocks
 
-length-sealed_block : (block : List ℕ) → length (sealed None block) ≡ length block + 4
-length-sealed_block block = length-append block (to_be_bytes w32 (crc32_of block))
+pub length-sealed : (signature : Option ℕ) (block : List ℕ) → length (sealed signature block) ≡ length block + 4
+length-sealed signature block = length-append block (to_be_bytes w32 (signed signature (crc32_of block)))
 
 unsealed_is : (block bytes : List ℕ) → bytes ≡ sealed None block → unsealed_bytes bytes ≡ block
 unsealed_is block bytes is =
     ap unsealed_bytes is
-    ∙ ap (λ (n : ℕ). take n (sealed None block)) (omega (arith, length-sealed_block block))
+    ∙ ap (λ (n : ℕ). take n (sealed None block)) (omega (arith, length-sealed None block))
     ∙ take_at block (to_be_bytes w32 (crc32_of block)) (length block) refl
 
 -- bytes of the file that is found

@@ -28,9 +28,10 @@ use Rattle.raft_log_memtables.specs.Entries.{placed_in}
 use Rattle.raft_log_memtables.specs.MemTable.{batch_items}
 use Rattle.raft_log_memtables.specs.MemTables.{content_in}
 use Rattle.raft_log_memtables.proofs.Mapped.{batch_mapped}
+use Rattle.raft_content_log.proofs.Written.{ReadsAll, items_seen}
 use Rattle.raft_log_engine.specs.Held.{IsKept, IsPlace, IsTabled, LiesIn, ReadsEntries, content_of_batches, seen_on, bytes_on}
 use Rattle.raft_log_engine.proofs.Batches.{one_more_batch}
-use Rattle.raft_log_engine.proofs.EntryReads.{disk_reads}
+use Rattle.raft_log_engine.proofs.EntryReads.{disk_reads, length-sealed}
 
 -- without batches the tables are empty
 pub none_tabled : (p : SinglePipe) (tables : MemTables) → content_in tables ≡ nothing → IsTabled p [] tables
@@ -58,9 +59,6 @@ more_lies p q bs seq items keeps queue e bytes lies = record {
   bytes_are = lies.bytes_are;
 }
 
-length-sealed_block : (signature : Option ℕ) (block : List ℕ) → length (sealed signature block) ≡ length block + 4
-length-sealed_block signature block = length-append block (to_be_bytes w32 (signed signature (crc32_of block)))
-
 record_longer : (signature : Option ℕ) (items : Batch) → list_any holds_entries items ≡ true → length (block_of items) + 16 ≤ length (spell_record signature items)
 unfolding spell_record
 record_longer signature items holds =
@@ -70,11 +68,11 @@ record_longer signature items holds =
     let two : List ℕ = to_be_bytes w32 (8 + length block) in
     let a : length (one ++ (two ++ (block ++ sealed signature body))) ≡ 4 + length (two ++ (block ++ sealed signature body)) = length-append one (two ++ (block ++ sealed signature body)) in
     let b : length (two ++ (block ++ sealed signature body)) ≡ 4 + length (block ++ sealed signature body) = length-append two (block ++ sealed signature body) in
-    omega (arith, a, b, length-append block (sealed signature body), length-sealed_block signature body, ap (λ (x : Bool). length (block_part x (block_of items))) holds, length-sealed_block None (block_of items))
+    omega (arith, a, b, length-append block (sealed signature body), length-sealed signature body, ap (λ (x : Bool). length (block_part x (block_of items))) holds, length-sealed None (block_of items))
 
 short_enough : (signature : Option ℕ) (items : Batch) (len : ℕ) → list_any holds_entries items ≡ true → take len (drop 8 (spell_record signature items)) ≡ sealed None (block_of items) → 8 + len ≤ length (spell_record signature items)
 short_enough signature items len holds is =
-    omega (arith, record_longer signature items holds, ap length is, length-sealed_block None (block_of items), length-take len (drop 8 (spell_record signature items)), length-drop 8 (spell_record signature items))
+    omega (arith, record_longer signature items holds, ap length is, length-sealed None (block_of items), length-take len (drop 8 (spell_record signature items)), length-drop 8 (spell_record signature items))
 
 -- the entries of the new batch lie in it
 new_lies : (q : SinglePipe) (bs : Numbered) (seq : ℕ) (items : Batch) (h place : FileBlockHandle) (block : EntriesBlock) → IsRecordOf q.queue q.active bs items h → seq ≡ h.id.seq → IsPlace h block place
@@ -101,38 +99,6 @@ new_lies q bs seq items h place block at number is stands e =
       stands = sealed_there;
       bytes_are = refl;
     }
-
--- ---- the items of a batch, seen by where their entries lie
-
-abbrev run_map : {E F : Type 0} → (E → F) → List (ℕ × E) → List (ℕ × F)
-run_map f es = map (λ e. (e.0, f e.1)) es
-
-module _ (read : EntryIndex → List ℕ) (place : FileBlockHandle) (block : List ℕ) where
-  abbrev ReadsAll : Bool → Type 0
-  ReadsAll holds = holds ≡ true → (e : EntryIndex) → read (placed_in place e) ≡ entry_bytes block e
-
-  run_seen : ReadsAll true → (es : List (ℕ × EntryIndex)) → run_map read (run_map (placed_in place) es) ≡ run_map (entry_bytes block) es
-  run_seen same [] = refl
-  run_seen same (e ∷ es) = λ i. (e.0, same refl e.1 i) ∷ run_seen same es i
-
-  change_seen : (change : Change EntryIndex) → ReadsAll (is_entries change) → change_map read (change_map (placed_in place) change) ≡ change_map (entry_bytes block) change
-  change_seen (entries es) same = ap entries (run_seen same es)
-  change_seen clean same = refl
-  change_seen (compact limit) same = refl
-  change_seen (put key value) same = refl
-  change_seen (delete key) same = refl
-  change_seen (mark id status) same = refl
-
-  or_true : (a b : Bool) → b ≡ true → (a || b) ≡ true
-  or_true true b h = refl
-  or_true false b h = h
-
-  items_seen : (items : List (Item EntryIndex)) → ReadsAll (list_any holds_entries items) → map (item_map read) (map (item_map (placed_in place)) items) ≡ with_bytes block items
-  items_seen [] same = refl
-  items_seen (item ∷ items) same = λ i. record {
-    group = item.group;
-    change = change_seen item.change (λ h. same (ap (λ (b : Bool). b || list_any holds_entries items) h)) i;
-  } ∷ items_seen items (λ h. same (or_true (is_entries item.change) (list_any holds_entries items) h)) i
 
 -- ---- one more batch
 

@@ -106,7 +106,7 @@ no_gap o n true z is = refl
 no_gap o n false true is = is
 no_gap o n false false is = refl
 
-no_padding : (at : ℕ) (bytes : List ℕ) → padding 0 at bytes ≡ 0
+pub no_padding : (at : ℕ) (bytes : List ℕ) → padding 0 at bytes ≡ 0
 no_padding at bytes = no_gap 0 (gap 0 at) (nat_lt (length bytes) (gap 0 at)) (list_all (λ b. b == 0) (take (gap 0 at) bytes)) refl
 
 none_read : (signature : Option ℕ) (at : ℕ) (bytes : List ℕ) (f : RecordFault) → record_at signature bytes ≡ Err f → contents (read_from 0 signature at bytes).batches ≡ []
@@ -147,7 +147,7 @@ one_more signature at n u us tail read is same len (k, rest) = (
     with_items x = with_bytes x.1 x.0
 
 -- what follows of a walk that finds a record
-walked : (f : FileState) (signature : Option ℕ) (j at : ℕ) (tail : List ℕ) (read : Read) → record_at signature tail ≡ Ok read → length tail ≤ j → AreWritten f 0 signature j at tail
+pub walked : (f : FileState) (signature : Option ℕ) (j at : ℕ) (tail : List ℕ) (read : Read) → record_at signature tail ≡ Ok read → length tail ≤ j → AreWritten f 0 signature j at tail
     → IsWritten f at (take read.2 tail) × ((i : ℕ) × (length (drop read.2 tail) ≤ i) × AreWritten f 0 signature i (at + read.2) (drop read.2 tail))
 walked f signature zero at tail read is short walk = let sized = record_sized signature tail read is in absurd (omega (arith, sized.least, sized.within, short))
 walked f signature (suc i) at tail read is short walk =
@@ -224,12 +224,12 @@ image_front f text bytes kept least outside image =
     get_or-take at bytes i 0 below ∙ image.same i (omega (arith, below, low, least)) (outside i below) ∙ sym (get_or-take at f.kept i 0 below) ∙ ap (λ (l : List ℕ). get_or l i 0) kept) in
     sym (take-append-drop at bytes) ∙ ap (λ (l : List ℕ). l ++ drop at bytes) front
 
-each_byte : (bytes : List ℕ) → AllByRecursion (λ b. b < 256) bytes → AreBytes bytes
+pub each_byte : (bytes : List ℕ) → AllByRecursion (λ b. b < 256) bytes → AreBytes bytes
 each_byte [] fits i = omega arith
 each_byte (b ∷ bytes) fits zero = fits.0
 each_byte (b ∷ bytes) fits (suc i) = each_byte bytes fits.1 i
 
-told_of : {X E : Type 0} (r : Result X E) (x : X) (P : X → Type 0) (Q : E → Type 0) → r ≡ Ok x → MatchResult r P Q → P x
+pub told_of : {X E : Type 0} (r : Result X E) (x : X) (P : X → Type 0) (Q : E → Type 0) → r ≡ Ok x → MatchResult r P Q → P x
 told_of (Ok y) x P Q is h = let same : y ≡ x = cc in subst P same h
 told_of (Err e) x P Q is h = absurd cc
 

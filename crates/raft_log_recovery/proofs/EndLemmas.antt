@@ -73,11 +73,6 @@ file_ends id bytes = by_header (header_at bytes) refl
 
 -- ---- what stands in a front
 
-pub each_byte : (bytes : List ℕ) → AreBytes bytes → (i : ℕ) → get_or bytes i 0 < 256
-each_byte [] fits i = omega arith
-each_byte (b ∷ bytes) fits zero = fits.0
-each_byte (b ∷ bytes) fits (suc i) = each_byte bytes fits.1 i
-
 stands_front : (bytes : List ℕ) (offset len to : ℕ) → offset + len ≤ to → bytes_at offset len (take to bytes) ≡ bytes_at offset len bytes
 stands_front bytes offset len to within =
     let k : ℕ = to - offset in
