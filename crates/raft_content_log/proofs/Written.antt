@@ -1,5 +1,5 @@
 -- A batch whose entries' block is kept, and whose items the tables have, is in the content.
-use Rattle.std.proofs.Common.{◌≡◌, ◌+◌, ◌<◌, ◌||◌, ℕ, Bool, true, false, List, [], ◌∷◌, ◌++◌, length, map, Option, Some, None, Vec, Global, refl, ap, ◌∙◌, sym, append_assoc}
+use Rattle.std.proofs.Common.{◌≡◌, ◌||◌, ℕ, Bool, true, false, List, [], ◌∷◌, ◌++◌, length, map, Option, Some, Vec, Global, refl, ap, ◌∙◌, sym, append_assoc}
 use Rattle.std.specs.Option.{option_map}
 use Rattle.std.specs.List.{list_any, slice_get}
 use Rattle.raft_log_records.specs.declared.file_id.FileBlockHandle.{FileBlockHandle}
@@ -9,7 +9,7 @@ use Rattle.raft_log_records.specs.Item.{Change, Item, change_map, item_map, item
 use Rattle.raft_log_records.specs.Item.Change.{entries, clean, compact, put, delete, mark}
 use Rattle.raft_log_records.specs.Spelling.{block_of, holds_entries, is_entries}
 use Rattle.raft_log_memtables.specs.declared.memtables.MemTables.{MemTables}
-use Rattle.raft_log_memtables.specs.Content.{GroupContent, Content, after_batch}
+use Rattle.raft_log_memtables.specs.Content.{Content, after_batch}
 use Rattle.raft_log_memtables.specs.ContentLaws.{content_map}
 use Rattle.raft_log_memtables.specs.Entries.{placed_in}
 use Rattle.raft_log_memtables.specs.MemTable.{batch_items}
@@ -24,7 +24,8 @@ module _ (f : EntryIndex → List ℕ) (handle : FileBlockHandle) (block : List 
   abbrev pub ReadsAll : Bool → Type 0
   ReadsAll holds = holds ≡ true → (e : EntryIndex) → f (placed_in handle e) ≡ entry_bytes block e
 
-  run_seen : ReadsAll true → (es : List (ℕ × EntryIndex)) → map (λ e. (e.0, f e.1)) (map (λ e. (e.0, placed_in handle e.1)) es) ≡ map (λ e. (e.0, entry_bytes block e.1)) es
+  run_seen : ReadsAll true → (es : List (ℕ × EntryIndex))
+      → map {B = ℕ × List ℕ} (λ e. (e.0, f e.1)) (map {B = ℕ × EntryIndex} (λ e. (e.0, placed_in handle e.1)) es) ≡ map {B = ℕ × List ℕ} (λ e. (e.0, entry_bytes block e.1)) es
   run_seen same [] = refl
   run_seen same (e ∷ es) = λ i. (e.0, same refl e.1 i) ∷ run_seen same es i
 
