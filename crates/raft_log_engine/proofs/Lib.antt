@@ -3,4 +3,5 @@ pub mod Batches
 pub mod EntryReads
 pub mod Fetched
 pub mod Clauses
+pub mod Opened
 pub mod Tables

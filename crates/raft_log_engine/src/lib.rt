@@ -7,7 +7,9 @@ mod calls;
 mod engine;
 mod fault;
 mod memory;
+mod opening;
 mod writing;
 
 pub use engine::Engine;
 pub use fault::EngineFault;
+pub use opening::NotOpened;
