@@ -1,11 +1,10 @@
 -- Several records that were written and not synced: a crash leaves a front of them.
-use Rattle.std.proofs.Common.{◌≡◌, ◌⊎◌, inl, inr, ⊎_elim, ℕ, zero, suc, ◌+◌, ◌-◌, ◌^◌, ◌<◌, ◌≤◌, Bool, true, false, cond, nat_lt, List, [], ◌∷◌, ◌++◌, length, get_or, take, drop, Option, Some, None, Result, Ok, Err, refl, sym, ap, subst, ◌∙◌, arith, append_assoc, length-append, length-take, length-drop, take-append-drop, add-zero, ext_get_or}
+use Rattle.std.proofs.Common.{◌≡◌, ◌⊎◌, inl, inr, ⊎_elim, ℕ, zero, suc, ◌+◌, ◌-◌, ◌^◌, ◌<◌, ◌≤◌, Bool, true, false, cond, nat_lt, List, [], ◌∷◌, ◌++◌, length, get_or, take, drop, Option, Some, Result, Ok, Err, refl, sym, ap, subst, ◌∙◌, arith, append_assoc, length-append, length-take, length-drop, take-append-drop, add-zero, ext_get_or}
 use Rattle.std.specs.Prelude.{IfSome, MatchResult, replicate, ◌==◌}
-use Rattle.std.specs.List.{AllByRecursion, list_all, flat_map}
+use Rattle.std.specs.List.{AllByRecursion, list_all}
 use Rattle.std.proofs.lemmas.List.{append-nil, get_or-take, take_all, take_at, drop_at, length-replicate, replicate-append-replicate}
 use Rattle.std.proofs.lemmas.List.Concat.{flat_map-append}
 use Rattle.raft_log_records.specs.Item.{with_bytes}
-use Rattle.raft_log_records.specs.declared.item.EntryIndex.{EntryIndex}
 use Rattle.raft_log_records.specs.declared.error.RecordFault.{RecordFault}
 use Rattle.raft_log_records.specs.declared.error.RecordFault.TheVariants.{BadLength}
 use Rattle.raft_log_records.specs.declared.version.Version.{Version}
@@ -14,21 +13,21 @@ use Rattle.raft_log_records.specs.declared.file_id.FileId.{FileId}
 use Rattle.raft_log_records.specs.Places.{placed}
 use Rattle.raft_log_records.specs.Reading.{record_at}
 use Rattle.raft_log_records.specs.Signature.{signature_of}
-use Rattle.raft_log_records.specs.Spelling.{AreItems, block_of, record_len, spell_block, spell_items, lengths, spell_record}
+use Rattle.raft_log_records.specs.Spelling.{AreItems, block_of, record_len, spell_record}
 use Rattle.raft_bytes.specs.Bytes.{AreBytes}
 use Rattle.raft_bytes.proofs.Bytes.{AreBytes-drop}
 use Rattle.raft_log_records.proofs.Locality.{zeros_are_no_record}
 use Rattle.raft_log_records.proofs.Placed.{placed_bytes}
 use Rattle.raft_log_records.proofs.RecordAgain.{back_bytes, record_again}
 use Rattle.raft_log_disk.specs.declared.format.LogFileFormat.{LogFileFormat}
-use Rattle.raft_log_disk.specs.Disk.{FileState, IsIn, after_allocate, after_sync, after_write}
-use Rattle.raft_log_disk.specs.Format.{IsSpellable, header_at, header_len, spelled_header}
+use Rattle.raft_log_disk.specs.Disk.{FileState, IsIn}
+use Rattle.raft_log_disk.specs.Format.{header_at, header_len, spelled_header}
 use Rattle.raft_log_disk.specs.Image.{IsFileImage, IsOutside}
-use Rattle.raft_log_disk.specs.Chance.{AreWritten, IsGenuine, IsHeaderWritten, IsWritten, LengthIs, Stands, gap, padding}
+use Rattle.raft_log_disk.specs.Chance.{AreWritten, IsHeaderWritten, IsWritten, LengthIs, Stands, gap, padding}
 use Rattle.raft_log_disk.proofs.ChanceLemmas.{step}
-use Rattle.raft_log_file.specs.Reading.{Reading, batch_at, contents, file_reading, read_from, read_or, stopped, with_batch}
+use Rattle.raft_log_file.specs.Reading.{Reading, contents, file_reading, read_from}
 use Rattle.raft_log_file.specs.Laws.{Batch, AreBatches, ReadsFront, file_text, spelled_batches}
-use Rattle.raft_log_file.specs.Unsynced.{IsRecord, IsUnsynced, ReadsAs, RecycledFilesBegin, RoomStaysUnread, SyncedBatchesBegin, UnsyncedBatchesAreAFront, UnsyncedBatchesGrow, places}
+use Rattle.raft_log_file.specs.Unsynced.{IsRecord, ReadsAs, RecycledFilesBegin, RoomStaysUnread, SyncedBatchesBegin, UnsyncedBatchesAreAFront, UnsyncedBatchesGrow, places}
 use Rattle.raft_log_file.proofs.HeaderLemmas.{length-header}
 use Rattle.raft_log_file.proofs.LawLemmas.{header_read, length-spelled, signature_fits, written_batches_are_read}
 use Rattle.raft_log_file.proofs.WalkLemmas.{Read, from_end, from_fault, from_found, record_sized}
