@@ -15,6 +15,7 @@ use Rattle.raft_log_disk.specs.Chance.{gap}
 use Rattle.raft_log_disk.specs.Format.{header_at, header_len}
 use Rattle.raft_log_disk.proofs.DiskLemmas.{same_file}
 use Rattle.raft_log_file.specs.Reading.{FileBatch, Reading, read_from}
+use Rattle.raft_log_file.proofs.UnsyncedLemmas.{each_byte}
 use Rattle.raft_log_file.proofs.WalkLemmas.{Read, from_end, from_fault, from_found, from_padding, record_sized}
 use Rattle.raft_log_recovery.specs.Repair.{IsRepaired, batches_in, end_in}
 use Rattle.raft_log_recovery.specs.Replay.{ArePlaced, IsPlaced, Placed}
