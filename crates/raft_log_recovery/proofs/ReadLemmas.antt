@@ -8,8 +8,7 @@ use Rattle.raft_log_records.specs.declared.error.RecordFault.TheVariants as faul
 use Rattle.raft_log_records.specs.Reading.{record_at}
 use Rattle.raft_log_records.proofs.Locality.{answers_stay, records_have_their_length}
 use Rattle.raft_log_disk.specs.Disk.{FileState}
-use Rattle.raft_log_disk.specs.Chance.{AreWritten, IsWritten, LengthIs, gap, padding}
-use Rattle.raft_log_disk.proofs.ChanceLemmas.{step}
+use Rattle.raft_log_disk.specs.Chance.{AreWritten, IsWritten, gap, padding}
 use Rattle.raft_log_file.specs.Reading.{FileBatch, Reading, batch_at, read_from, stopped, with_batch}
 use Rattle.raft_log_file.proofs.UnsyncedLemmas.{no_padding, walked}
 use Rattle.raft_log_file.proofs.WalkLemmas.{Read, from_end, from_fault, from_found, from_padding, record_front, record_sized}
