@@ -37,12 +37,12 @@ pub record HoldsFound (directories : List Text) (made new : Disk) (names : List 
   pub opened : AreOpen made directories Append names files
   pub holds : Holds pipe new (batches_of Append made files) []
 
--- Whatever a crash leaves of each file that was at rest reads as the same batches, or all files are whole with the batches
--- that they read as
+-- Nothing changed but that directories are made; or files were found, and whatever a crash leaves of each that was at rest
+-- reads as the same batches; or all of them are whole with the batches that they read as
 abbrev pub IsLeftByOpening : List Text → Disk → Disk → Type 0
 IsLeftByOpening directories d new =
-    (made : Disk) × OnlyMakes directories d made
-    × ((names : List FileName) → AreFound made (Log Append) directories names → AreLeft directories Append names made new ⊎ HoldsFound directories made new names)
+    OnlyMakes directories d new
+    ⊎ ((made : Disk) × (names : List FileName) × AreFoundIn directories d made names × (AreLeft directories Append names made new ⊎ HoldsFound directories made new names))
 
 -- the pipe holds just those batches, and the tables have their content
 pub record IsRecoveredAs (directories : List Text) (d new : Disk) (p : SinglePipe) (tables : MemTables) : Type 0 where
