@@ -1,5 +1,5 @@
 -- The tables of a recovery have the content of the batches that the files read as.
-use Rattle.std.proofs.Common.{◌≡◌, ℕ, Bool, true, false, List, [], ◌∷◌, ◌++◌, map, refl, sym, ap, subst, ◌∙◌, append_assoc}
+use Rattle.std.proofs.Common.{◌≡◌, ℕ, List, [], ◌∷◌, ◌++◌, map, refl, sym, ap, subst, ◌∙◌, append_assoc}
 use Rattle.std.proofs.Common.{inl, inr}
 use Rattle.std.specs.List.{list_any}
 use Rattle.std.proofs.lemmas.List.{map-append}
@@ -12,6 +12,7 @@ use Rattle.raft_log_records.specs.declared.file_id.LogQueue.TheVariants.{Append}
 use Rattle.raft_log_disk.specs.Text.{Text}
 use Rattle.raft_log_disk.specs.Disk.{Disk, IsIn}
 use Rattle.raft_log_file.specs.Laws.{Batch}
+use Rattle.raft_log_files.specs.declared.recovery.RecoveryMode.{RecoveryMode}
 use Rattle.raft_log_pipe.specs.declared.file.File.{File}
 use Rattle.raft_log_pipe.specs.declared.pipe.SinglePipe.{SinglePipe}
 use Rattle.raft_log_pipe.specs.Blocks.{files_of}
@@ -28,12 +29,12 @@ use Rattle.raft_content_log.proofs.Written.{items_seen}
 use Rattle.raft_log_recovery.specs.declared.scan.FileKind.TheVariants.{Log}
 use Rattle.raft_log_recovery.specs.declared.builder.DualPipesBuilder.{DualPipesBuilder}
 use Rattle.raft_log_recovery.specs.Scan.{AreFound, OnlyMakes}
-use Rattle.raft_log_recovery.specs.Queue.{AreLeft, directories_in, names_in}
+use Rattle.raft_log_recovery.specs.Queue.{AnyRefused, AreLeft, directories_in, names_in}
 use Rattle.raft_log_recovery.specs.Opening.{AreAllGot, AreGot, IsGot, IsPipeWith, batches_of, said_in}
 use Rattle.raft_log_recovery.specs.Replay.{Placed}
 use Rattle.raft_log_replay.specs.Batches.{content_over, records_in}
 use Rattle.raft_log_engine.specs.Opening.{AreFoundIn, HoldsFound, IsRecoveredAs}
-use Rattle.raft_log_engine.specs.Held.{IsTabled, ReadsEntries, content_of_batches}
+use Rattle.raft_log_engine.specs.Held.{IsTabled, ReadsEntries}
 
 -- the batches of a file, without its number
 unnumbered : (seq : ℕ) (ks : List Batch) → map (λ (b : ℕ × Batch). b.1) (numbered seq ks) ≡ ks
@@ -110,6 +111,12 @@ module _ (D said : List Text) (same : D ≡ said) (b : DualPipesBuilder) (at : d
       subst (λ (x : List Text). AreLeft x Append b.append_file_names.items made new) (at ∙ same)
       (subst (λ (x : LogQueue). AreLeft (directories_in b) x (names_in b x) made new) is left)
 
+  pub refused_in : (mode wanted : RecoveryMode) → mode ≡ wanted → AnyRefused wanted said Append b.append_file_names.items made → AnyRefused mode (directories_in b) q (names_in b q) made
+  refused_in mode wanted alike any =
+      subst (λ (x : LogQueue). AnyRefused mode (directories_in b) x (names_in b x) made) (sym is)
+      (subst (λ (x : List Text). AnyRefused mode x Append b.append_file_names.items made) (sym (at ∙ same))
+      (subst (λ (x : RecoveryMode). AnyRefused x said Append b.append_file_names.items made) (sym alike) any))
+
   module _ (new : Disk) (p : SinglePipe) (more : List Placed) (all : IsPipeWith (directories_in b) q (names_in b q) made new p more) where
     with_files : IsPipeWith said Append b.append_file_names.items made new p more
     with_files =
@@ -119,8 +126,9 @@ module _ (D said : List Text) (same : D ≡ said) (b : DualPipesBuilder) (at : d
     pub holds_found : IsPipe p new → HoldsFound said made new b.append_file_names.items
     holds_found pipe = record { pipe = p; files = with_files.files; is_pipe = pipe; opened = with_files.pipe.opened; holds = with_files.pipe.holds }
 
-    pub recovered_as : (d : Disk) (tables : MemTables) → AreFoundIn said d made b.append_file_names.items → IsPipe p new → p.queue ≡ q → content_in tables ≡ content_over nothing more → IsRecoveredAs said d new p tables
-    recovered_as d tables found pipe queue content =
+    pub recovered_as : (mode : RecoveryMode) (d : Disk) (tables : MemTables) → AreFoundIn said d made b.append_file_names.items → (AnyRefused mode said Append b.append_file_names.items made → ⊥) → IsPipe p new → p.queue ≡ q
+        → content_in tables ≡ content_over nothing more → IsRecoveredAs mode said d new p tables
+    recovered_as mode d tables found passed pipe queue content =
         let files : List File = with_files.files in
         let got = subst (λ (x : LogQueue). AreAllGot x made [] files more) (sym (queue ∙ is)) with_files.got in
         record {
@@ -129,6 +137,7 @@ module _ (D said : List Text) (same : D ≡ said) (b : DualPipesBuilder) (at : d
           files = files;
           found = found;
           opened = with_files.pipe.opened;
+          passed = passed;
           kept = record {
             pipe = pipe;
             holds = with_files.pipe.holds;

@@ -27,7 +27,8 @@ pub struct NotOpened<F> {
 
 /// How the append queue is recovered by these settings.
 fn recovery_of(config: &Config) -> RecoveryConfig
-    ensures { result.queue ≡ Append }
+    ensures queue { result.queue ≡ Append }
+    ensures mode { result.mode ≡ config.now.recovery_mode }
 {
     RecoveryConfig {
         queue: LogQueue::Append,
@@ -43,7 +44,7 @@ fn recovered<F: FileSystem>(
     alloc: Global,
     config: Config,
 ) -> Result<(SinglePipe, MemTables), EngineFault>
-    ensures ok { IfOk result (λ found. IsRecoveredAs (directories_of (settings_of config)) (F.disk files.old) (F.disk files.new) found.0 found.1) }
+    ensures ok { IfOk result (λ found. IsRecoveredAs config.recovery_mode (directories_of (settings_of config)) (F.disk files.old) (F.disk files.new) found.0 found.1) }
     ensures err { OnErr result (IsLeftByOpening (directories_of (settings_of config)) (F.disk files.old) (F.disk files.new)) }
 {
     let recovery = recovery_of(&config);
@@ -61,7 +62,7 @@ impl<F: FileSystem + Drop> Engine<F> {
     /// away or refused, as `recovery_mode` says. A refusal hands the files back.
     pub fn open(mut files: F, alloc: Global, config: Config) -> Result<Engine<F>, NotOpened<F>>
         ensures sound { IfOk result IsSound }
-        ensures answers { IfOk result (λ e. IsFoundContent (directories_of (settings_of config)) (F.disk files) (answers_on F.disk e)) }
+        ensures answers { IfOk result (λ e. IsFoundContent config.recovery_mode (directories_of (settings_of config)) (F.disk files) (answers_on F.disk e)) }
         ensures err { IfErr result (λ refused. IsLeftByOpening (directories_of (settings_of config)) (F.disk files) (F.disk refused.files)) }
     {
         match recovered(&mut files, alloc, config) {

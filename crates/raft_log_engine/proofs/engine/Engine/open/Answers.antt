@@ -13,5 +13,6 @@ returns-in-Ok-clause-answers g c =
       files = is.files;
       found = is.found;
       opened = is.opened;
+      passed = is.passed;
       is = answered (g.F.FileSystem.disk c.recovered.new.files) c.in-Ok.append c.in-Ok.tables (batches_of Append is.made is.files) is.kept;
     }
