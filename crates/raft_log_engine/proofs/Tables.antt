@@ -1,6 +1,5 @@
 -- The tables have the content of the batches, also with one more batch.
-use Rattle.std.proofs.Common.{◌≡◌, ℕ, ◌+◌, ◌≤◌, Bool, true, false, List, [], ◌∷◌, ◌++◌, length, map, take, drop, Option, Some, None, refl, sym, ap, subst, ◌∙◌, arith, append_assoc, length-append, length-take, length-drop}
-use Rattle.std.specs.Prelude.{◌||◌}
+use Rattle.std.proofs.Common.{◌≡◌, ℕ, ◌+◌, ◌≤◌, Bool, true, false, List, [], ◌∷◌, ◌++◌, length, take, drop, Option, Some, None, refl, sym, ap, subst, ◌∙◌, arith, append_assoc, length-append, length-take, length-drop}
 use Rattle.std.specs.Int.{w32, to_be_bytes}
 use Rattle.std.specs.List.{list_any}
 use Rattle.std.proofs.lemmas.Bool.{false≢true}
@@ -9,11 +8,9 @@ use Rattle.raft_log_records.specs.declared.file_id.FileBlockHandle.{FileBlockHan
 use Rattle.raft_log_records.specs.declared.item.EntryIndex.{EntryIndex}
 use Rattle.raft_log_records.specs.declared.record.LogItemBatch.{LogItemBatch}
 use Rattle.raft_log_records.specs.Block.{StandsIn}
-use Rattle.raft_log_records.specs.Checksum.{crc32_of}
-use Rattle.raft_log_records.specs.Item.{Change, Item, change_map, item_map, items_of, with_bytes, entry_bytes}
-use Rattle.raft_log_records.specs.Item.Change.{entries, clean, compact, put, delete, mark}
+use Rattle.raft_log_records.specs.Item.{items_of, with_bytes, entry_bytes}
 use Rattle.raft_log_records.specs.Signature.{signature_of}
-use Rattle.raft_log_records.specs.Spelling.{block_of, block_part, holds_entries, holds_mark, is_entries, lengths, sealed, signed, spell_block, spell_items, spell_record}
+use Rattle.raft_log_records.specs.Spelling.{block_of, block_part, holds_entries, holds_mark, lengths, sealed, spell_block, spell_items, spell_record}
 use Rattle.raft_log_records.proofs.Laid.{any_held}
 use Rattle.raft_log_disk.specs.Disk.{Disk}
 use Rattle.raft_log_file.specs.Laws.{Batch}
