@@ -1,5 +1,5 @@
 -- What an engine's calls leave, from what it holds.
-use Rattle.std.proofs.Common.{◌≡◌, inl, inr, ⊎_elim, ℕ, zero, suc, Bool, true, false, List, [], ◌∷◌, ◌++◌, take, refl, sym, ap, ◌∙◌}
+use Rattle.std.proofs.Common.{◌≡◌, inl, inr, ⊎_elim, ℕ, zero, suc, Bool, true, false, List, [], ◌∷◌, ◌++◌, take, refl, sym, ap, subst, ◌∙◌}
 use Rattle.std.proofs.lemmas.Bool.{false≢true}
 use Rattle.std.proofs.lemmas.List.{append-nil}
 use Rattle.std.proofs.Math.Seq.{take-nil}
@@ -141,6 +141,25 @@ module _ {F : Type 0} (disk : F → Disk) (old : Parts F) where
     pub placed : (b : EntriesBlock) → block ≡ Some b → IsPlace h b place
     pub applied : content_in tables ≡ after_batch (batch_items place drained) (content_in old.tables)
     pub read : with_bytes (block_of items) (items_of drained.items.items) ≡ items
+
+  pub done_from : (files : F) (p : SinglePipe) (tables : MemTables) (items given : Batch) (h : FileBlockHandle) (block : Option EntriesBlock) (drained : LogItemBatch) → items ≡ given → list_any holds_mark given ≡ false
+      → IsPipe p (disk files) → KeepsFiles old.append p → p.queue ≡ old.append.queue → ((s : Numbered) → Holds old.append (disk old.files) s [] → Holds p (disk files) (s ++ (h.id.seq, items) ∷ []) [])
+      → ((s : Numbered) → Holds old.append (disk old.files) s [] → IsRecordOf p.queue p.active s items h) → ((signature : Option ℕ) → StandsIn (spell_record signature items) items (block_of items) block)
+      → (place : FileBlockHandle) × ((b : EntriesBlock) → block ≡ Some b → IsPlace h b place) × (content_in tables ≡ after_batch (batch_items place drained) (content_in old.tables))
+      → with_bytes (block_of given) (items_of drained.items.items) ≡ given → IsDone files p tables items h block drained
+  done_from files p tables items given h block drained same plain pipe keeps queue holds stands block_stands applied read = record {
+    plain = ap (list_any holds_mark) same ∙ plain;
+    pipe = pipe;
+    keeps = keeps;
+    queue = queue;
+    holds = holds;
+    stands = stands;
+    block_stands = block_stands;
+    place = applied.0;
+    placed = applied.1;
+    applied = applied.2;
+    read = subst (λ (l : Batch). with_bytes (block_of l) (items_of drained.items.items) ≡ l) (sym same) read;
+  }
 
   pub done_kept : (kept : KeptBy) (files : F) (p : SinglePipe) (tables : MemTables) (items : Batch) (h : FileBlockHandle) (block : Option EntriesBlock) (drained : LogItemBatch) → IsDone files p tables items h block drained
       → IsKept (disk files) p tables (kept.0 ++ (h.id.seq, items) ∷ [])

@@ -1,7 +1,8 @@
 //! Writes and reads of an engine.
-ghost use Rattle.std.specs.Prelude.{◌≡◌, IfOk, OnOk, OnErr, option_map};
+ghost use Rattle.std.specs.Prelude.{◌≡◌, true, Err, IfOk, OnOk, OnErr, option_map};
 ghost use Rattle.raft_content_log.specs.Leaving.{AgreesElsewhere, AreEntries, IsWritten, LeavesElsewhere, MayBeWritten};
 ghost use Rattle.raft_log_engine.specs.Left.{IsSound, answers_on, leaves_on};
+ghost use Rattle.raft_log_engine.specs.declared.fault.EngineFault.TheVariants.{Stopped};
 ghost use Rattle.raft_log_memtables.specs.Content.{after_batch};
 ghost use Rattle.raft_log_records.specs.Batch.{nothing_logged, payloads};
 
@@ -23,6 +24,7 @@ impl<F: FileSystem + Drop> Engine<F> {
             (answers_on F.disk self.old) (after_batch batch.old.items (answers_on F.disk self.old))) }
         ensures sound { IsSound self.old → OnOk result (IsSound self.new) }
         ensures emptied { OnOk result (batch.new ≡ nothing_logged) }
+        ensures stopped { self.old.is_stopped ≡ true → result ≡ Err Stopped }
         ensures others { LeavesElsewhere batch.old.items (leaves_on F.disk self.old) (leaves_on F.disk self.new) }
         ensures others_answered { IsSound self.new → IsSound self.old × AgreesElsewhere batch.old.items (answers_on F.disk self.new) (answers_on F.disk self.old) }
     {
@@ -52,7 +54,8 @@ impl<F: FileSystem + Drop> Engine<F> {
 
     /// The value of a key of a group, if it is there.
     pub fn get(&self, group: u64, key: &[u8]) -> Result<Option<Vec<u8>>, EngineFault>
-        ensures { IfOk result (λ found. option_map (λ v. v.items) found ≡ (answers_on F.disk self.now group).value key.now) }
+        ensures found { IfOk result (λ found. option_map (λ v. v.items) found ≡ (answers_on F.disk self.now group).value key.now) }
+        ensures stopped { self.now.is_stopped ≡ true → result ≡ Err Stopped }
     {
         if self.is_stopped {
             return Err(EngineFault::Stopped);
@@ -71,7 +74,8 @@ impl<F: FileSystem + Drop> Engine<F> {
         begin: u64,
         end: u64,
     ) -> Result<Vec<Vec<u8>>, EngineFault>
-        ensures { IfOk result (λ found. AreEntries (answers_on F.disk self.now group).entry begin end (payloads found.items)) }
+        ensures found { IfOk result (λ found. AreEntries (answers_on F.disk self.now group).entry begin end (payloads found.items)) }
+        ensures stopped { self.now.is_stopped ≡ true → result ≡ Err Stopped }
     {
         if self.is_stopped {
             return Err(EngineFault::Stopped);
@@ -89,7 +93,8 @@ impl<F: FileSystem + Drop> Engine<F> {
 
     /// Whether the engine has something of a group (own).
     pub fn is_there(&self, group: u64) -> Result<bool, EngineFault>
-        ensures { IfOk result (λ there. there ≡ (answers_on F.disk self.now group).there) }
+        ensures there { IfOk result (λ there. there ≡ (answers_on F.disk self.now group).there) }
+        ensures stopped { self.now.is_stopped ≡ true → result ≡ Err Stopped }
     {
         if self.is_stopped {
             return Err(EngineFault::Stopped);

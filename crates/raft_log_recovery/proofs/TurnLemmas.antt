@@ -108,6 +108,9 @@ module _ (t : Turn) where
     pub format : f.format ≡ format_in (t.cur.file f.handle.0).bytes
     pub fits : AreBytes (t.cur.file f.handle.0).bytes
 
+  pub done_of : (handle : Fd) (format : LogFileFormat) (new : Disk) → handle.0 ≡ t.fd → IsRepaired t.cur new t.id handle.0 → format ≡ format_in (t.cur.file handle.0).bytes → AreBytes (t.cur.file handle.0).bytes → IsDone (file_at handle format) new
+  done_of handle format new same repaired reads fits = record { seq = refl; place = refl; handle = same; repaired = repaired; format = reads; fits = fits }
+
   module _ (f : File) (new : Disk) (done : IsDone f new) where
     step : IsStep t.directories t.queue t.cur new here f
     step = record {

@@ -14,13 +14,18 @@ holds_among rules g s [] none h = absurd none
 holds_among rules g s (x ∷ xs) (inl same) h = inl (subst (Holds rules g) same h)
 holds_among rules g s (x ∷ xs) (inr is) h = inr (holds_among rules g s xs is h)
 
-one_of_more : (rules : MachineRules) (g : GroupContent (List ℕ)) (parts more : List StoredGroup) → ((s : StoredGroup) → IsOneOf parts s → IsOneOf more s) → HoldsOne rules g parts → HoldsOne rules g more
+-- each of these parts is one of more
+abbrev AreAmong : List StoredGroup → List StoredGroup → Type 0
+AreAmong parts more = (s : StoredGroup) → IsOneOf parts s → IsOneOf more s
+
+one_of_more : (rules : MachineRules) (g : GroupContent (List ℕ)) (parts more : List StoredGroup) → AreAmong parts more → HoldsOne rules g parts → HoldsOne rules g more
 one_of_more rules g [] more wider none = absurd none
 one_of_more rules g (s ∷ ss) more wider (inl h) = holds_among rules g s more (wider s (inl refl)) h
 one_of_more rules g (s ∷ ss) more wider (inr h) = one_of_more rules g ss more (λ x is. wider x (inr is)) h
 
-pub shows_more : {X : Type 0} (rules : MachineRules) (sound : X → Type 0) (answers : X → Content (List ℕ)) (leaves : X → Leaves) (log : X) → ShowsMore (ShowsBy rules sound answers leaves log)
-shows_more rules sound answers leaves log group parts more wider shown = record {
-  answered = λ is. one_of_more rules (answers log group) parts more wider (shown.answered is);
-  left = λ content is. one_of_more rules (content group) parts more wider (shown.left content is);
-}
+module _ {X : Type 0} (rules : MachineRules) (sound : X → Type 0) (answers : X → Content (List ℕ)) where
+  pub shows_more : (leaves : X → Leaves) (log : X) → ShowsMore (ShowsBy rules sound answers leaves log)
+  shows_more leaves log group parts more wider shown = record {
+    answered = λ is. one_of_more rules (answers log group) parts more wider (shown.answered is);
+    left = λ content is. one_of_more rules (content group) parts more wider (shown.left content is);
+  }

@@ -7,7 +7,7 @@ use Rattle.raft_log_disk.proofs.CauseLemmas.{at_err}
 use Rattle.raft_log_recovery.specs.Queue.{AreRecovered}
 use Rattle.raft_log_recovery.proofs.QueueLemmas.{NoneRefused, Replays, kept_at, left_at, none_left, number_here, only_between}
 use Rattle.raft_log_recovery.proofs.ReplayLemmas.{file_fits}
-use Rattle.raft_log_recovery.proofs.TurnLemmas.{IsDone, Turn, done_kept, done_left, done_none, done_only, done_recovered, done_replays, file_at, is_file, stopped_kept, stopped_left, stopped_only, turn_of}
+use Rattle.raft_log_recovery.proofs.TurnLemmas.{Turn, done_kept, done_left, done_none, done_of, done_only, done_recovered, done_replays, file_at, is_file, stopped_kept, stopped_left, stopped_only, turn_of}
 use Rattle.raft_log_recovery.proofs.queue.recover_each.Goals as goal
 
 pub open_file-requires-clause-seq : goal.open_file-requires-clause-seq
@@ -78,14 +78,7 @@ returns-in_err-push-clause-only g c =
     let t : Turn = turn_of (g.F.FileSystem.disk c.args.files.now) (met.is_named c.args.files.now) c.args.config.now.mode c.args.config.now.queue c.args.directories.now c.args.names.now c.requires c.loop-name.name-index c.loop-name-test.true
     (g.F.FileSystem.disk c.loop-name.files) (g.F.FileSystem.disk c.open_file.new.files) c.loop-name.recovered.items c.in_ok-fd.fd.0 c.new-id.result c.open_file.ensures.kept c.loop-name.invariant.so c.in_ok-fd.ensures.ok (λ j. record { queue = c.new-id.ensures.queue j; seq = c.new-id.ensures.seq j }) in
     let f : File = file_at t c.in_ok-fd.fd c.in_ok-format.format in
-    let done : IsDone t f (g.F.FileSystem.disk c.recover_file.new.files) = record {
-      seq = refl;
-      place = refl;
-      handle = refl;
-      repaired = c.in_ok-format.ensures.ok;
-      format = c.in_ok-format.ensures.format;
-      fits = file_fits t.cur t.fd (met.has_images c.open_file.new.files) (is_file t);
-    } in
+    let done = done_of t c.in_ok-fd.fd c.in_ok-format.format (g.F.FileSystem.disk c.recover_file.new.files) refl c.in_ok-format.ensures.ok c.in_ok-format.ensures.format (file_fits t.cur t.fd (met.has_images c.open_file.new.files) (is_file t)) in
     done_only t f (g.F.FileSystem.disk c.recover_file.new.files) done
 
 pub returns-in_err-push-clause-err : goal.returns-in_err-push-clause-err
@@ -94,14 +87,7 @@ returns-in_err-push-clause-err g c =
     let t : Turn = turn_of (g.F.FileSystem.disk c.args.files.now) (met.is_named c.args.files.now) c.args.config.now.mode c.args.config.now.queue c.args.directories.now c.args.names.now c.requires c.loop-name.name-index c.loop-name-test.true
     (g.F.FileSystem.disk c.loop-name.files) (g.F.FileSystem.disk c.open_file.new.files) c.loop-name.recovered.items c.in_ok-fd.fd.0 c.new-id.result c.open_file.ensures.kept c.loop-name.invariant.so c.in_ok-fd.ensures.ok (λ j. record { queue = c.new-id.ensures.queue j; seq = c.new-id.ensures.seq j }) in
     let f : File = file_at t c.in_ok-fd.fd c.in_ok-format.format in
-    let done : IsDone t f (g.F.FileSystem.disk c.recover_file.new.files) = record {
-      seq = refl;
-      place = refl;
-      handle = refl;
-      repaired = c.in_ok-format.ensures.ok;
-      format = c.in_ok-format.ensures.format;
-      fits = file_fits t.cur t.fd (met.has_images c.open_file.new.files) (is_file t);
-    } in
+    let done = done_of t c.in_ok-fd.fd c.in_ok-format.format (g.F.FileSystem.disk c.recover_file.new.files) refl c.in_ok-format.ensures.ok c.in_ok-format.ensures.format (file_fits t.cur t.fd (met.has_images c.open_file.new.files) (is_file t)) in
     at_err _ _ (done_left t f (g.F.FileSystem.disk c.recover_file.new.files) done)
 
 pub returns-in_err-push-clause-kept : goal.returns-in_err-push-clause-kept
@@ -110,14 +96,7 @@ returns-in_err-push-clause-kept g c =
     let t : Turn = turn_of (g.F.FileSystem.disk c.args.files.now) (met.is_named c.args.files.now) c.args.config.now.mode c.args.config.now.queue c.args.directories.now c.args.names.now c.requires c.loop-name.name-index c.loop-name-test.true
     (g.F.FileSystem.disk c.loop-name.files) (g.F.FileSystem.disk c.open_file.new.files) c.loop-name.recovered.items c.in_ok-fd.fd.0 c.new-id.result c.open_file.ensures.kept c.loop-name.invariant.so c.in_ok-fd.ensures.ok (λ j. record { queue = c.new-id.ensures.queue j; seq = c.new-id.ensures.seq j }) in
     let f : File = file_at t c.in_ok-fd.fd c.in_ok-format.format in
-    let done : IsDone t f (g.F.FileSystem.disk c.recover_file.new.files) = record {
-      seq = refl;
-      place = refl;
-      handle = refl;
-      repaired = c.in_ok-format.ensures.ok;
-      format = c.in_ok-format.ensures.format;
-      fits = file_fits t.cur t.fd (met.has_images c.open_file.new.files) (is_file t);
-    } in
+    let done = done_of t c.in_ok-fd.fd c.in_ok-format.format (g.F.FileSystem.disk c.recover_file.new.files) refl c.in_ok-format.ensures.ok c.in_ok-format.ensures.format (file_fits t.cur t.fd (met.has_images c.open_file.new.files) (is_file t)) in
     at_err _ _ (done_kept t f (g.F.FileSystem.disk c.recover_file.new.files) done c.len.result (c.len.ensures ∙ c.loop-name.invariant.count) (λ fault is refused. false≢true (c.in_ok-format.ensures.refused fault is refused).0) c.loop-name.invariant.none)
 
 pub loop-name-preserved : goal.loop-name-preserved
@@ -126,14 +105,7 @@ loop-name-preserved g c =
     let t : Turn = turn_of (g.F.FileSystem.disk c.args.files.now) (met.is_named c.args.files.now) c.args.config.now.mode c.args.config.now.queue c.args.directories.now c.args.names.now c.requires c.loop-name.name-index c.loop-name-test.true
     (g.F.FileSystem.disk c.loop-name.files) (g.F.FileSystem.disk c.open_file.new.files) c.loop-name.recovered.items c.in_ok-fd.fd.0 c.new-id.result c.open_file.ensures.kept c.loop-name.invariant.so c.in_ok-fd.ensures.ok (λ j. record { queue = c.new-id.ensures.queue j; seq = c.new-id.ensures.seq j }) in
     let f : File = file_at t c.in_ok-fd.fd c.in_ok-format.format in
-    let done : IsDone t f (g.F.FileSystem.disk c.recover_file.new.files) = record {
-      seq = refl;
-      place = refl;
-      handle = refl;
-      repaired = c.in_ok-format.ensures.ok;
-      format = c.in_ok-format.ensures.format;
-      fits = file_fits t.cur t.fd (met.has_images c.open_file.new.files) (is_file t);
-    } in
+    let done = done_of t c.in_ok-fd.fd c.in_ok-format.format (g.F.FileSystem.disk c.recover_file.new.files) refl c.in_ok-format.ensures.ok c.in_ok-format.ensures.format (file_fits t.cur t.fd (met.has_images c.open_file.new.files) (is_file t)) in
     let pushed : c.push.new.self.items ≡ c.loop-name.recovered.items ++ f ∷ [] = c.in_ok-push.ensures.items in
     record {
       count = omega (arith, c.in_ok-push.ensures.len, c.loop-name.invariant.count);

@@ -1,12 +1,10 @@
-use Rattle.std.proofs.Common.{◌≡◌, false, sym, ap, subst, ◌∙◌, inr}
+use Rattle.std.proofs.Common.{◌≡◌, false, ap, ◌∙◌, inr}
 use Rattle.std.specs.List.{list_any}
-use Rattle.raft_log_records.specs.Item.{items_of, with_bytes}
-use Rattle.raft_log_records.specs.Spelling.{block_of, holds_mark}
-use Rattle.raft_log_file.specs.Laws.{Batch}
+use Rattle.raft_log_records.specs.Spelling.{holds_mark}
 use Rattle.raft_log_engine.specs.Held.{seen_on}
 use Rattle.raft_log_engine.specs.Left.{answers_on}
 use Rattle.raft_log_disk.proofs.CauseLemmas.{at_err}
-use Rattle.raft_log_engine.proofs.Clauses.{IsDone, agrees, append_failed, apply_failed, done_kept, done_seen, done_written, empty_written, others, parts, refused}
+use Rattle.raft_log_engine.proofs.Clauses.{agrees, append_failed, apply_failed, done_from, done_kept, done_seen, done_written, empty_written, others, parts, refused}
 use Rattle.raft_log_engine.proofs.engine.Engine.write.Goals as goal
 
 pub returns-then-is_empty-clause-ok : goal.returns-then-is_empty-clause-ok
@@ -44,75 +42,27 @@ returns-in-Err-apply-clause-others g c =
 pub invariant_of-self-in_default : goal.invariant_of-self-in_default
 invariant_of-self-in_default g c =
     let same : c.prepare.new.batch.items ≡ c.args.batch.now.items = c.in_ok-items.ensures.same in
-    let plain : list_any holds_mark c.prepare.new.batch.items ≡ false = ap (list_any holds_mark) same ∙ c.in_ok-items.ensures.plain in
-    let done : IsDone (g.F.FileSystem.disk) (parts c.self.inside.files c.self.inside.append c.self.inside.tables c.self.inside.is_stopped) c.append_synced.new.files c.append_synced.new.pipe c.apply.new.tables c.prepare.new.batch.items c.in-Ok.written c.entries_block-block.result c.in_ok-items.items = record {
-      plain = plain;
-      pipe = c.in-Ok.ensures.pipe;
-      keeps = c.in-Ok.ensures.files;
-      queue = c.in-Ok.ensures.queue;
-      holds = c.in-Ok.ensures.ok;
-      stands = c.in-Ok.ensures.stands;
-      block_stands = c.entries_block-block.ensures;
-      place = c.in_default.ensures.0;
-      placed = c.in_default.ensures.1;
-      applied = c.in_default.ensures.2;
-      read = subst (λ (l : Batch). with_bytes (block_of l) (items_of c.in_ok-items.items.items.items) ≡ l) (sym same) c.in_ok-items.ensures.read;
-    } in
+    let done = done_from (g.F.FileSystem.disk) (parts c.self.inside.files c.self.inside.append c.self.inside.tables c.self.inside.is_stopped) c.append_synced.new.files c.append_synced.new.pipe c.apply.new.tables c.prepare.new.batch.items c.args.batch.now.items c.in-Ok.written
+    c.entries_block-block.result c.in_ok-items.items same c.in_ok-items.ensures.plain c.in-Ok.ensures.pipe c.in-Ok.ensures.files c.in-Ok.ensures.queue c.in-Ok.ensures.ok c.in-Ok.ensures.stands c.entries_block-block.ensures c.in_default.ensures c.in_ok-items.ensures.read in
     λ sound. (_, done_kept (g.F.FileSystem.disk) (parts c.self.inside.files c.self.inside.append c.self.inside.tables c.self.inside.is_stopped) (c.self.invariant c.if-self.false) c.append_synced.new.files c.append_synced.new.pipe c.apply.new.tables c.prepare.new.batch.items c.in-Ok.written c.entries_block-block.result c.in_ok-items.items done)
 
 pub returns-clause-ok : goal.returns-clause-ok
 returns-clause-ok g c =
     let same : c.prepare.new.batch.items ≡ c.args.batch.now.items = c.in_ok-items.ensures.same in
-    let plain : list_any holds_mark c.prepare.new.batch.items ≡ false = ap (list_any holds_mark) same ∙ c.in_ok-items.ensures.plain in
-    let done : IsDone (g.F.FileSystem.disk) (parts c.self.inside.files c.self.inside.append c.self.inside.tables c.self.inside.is_stopped) c.append_synced.new.files c.append_synced.new.pipe c.apply.new.tables c.prepare.new.batch.items c.in-Ok.written c.entries_block-block.result c.in_ok-items.items = record {
-      plain = plain;
-      pipe = c.in-Ok.ensures.pipe;
-      keeps = c.in-Ok.ensures.files;
-      queue = c.in-Ok.ensures.queue;
-      holds = c.in-Ok.ensures.ok;
-      stands = c.in-Ok.ensures.stands;
-      block_stands = c.entries_block-block.ensures;
-      place = c.in_default.ensures.0;
-      placed = c.in_default.ensures.1;
-      applied = c.in_default.ensures.2;
-      read = subst (λ (l : Batch). with_bytes (block_of l) (items_of c.in_ok-items.items.items.items) ≡ l) (sym same) c.in_ok-items.ensures.read;
-    } in
+    let done = done_from (g.F.FileSystem.disk) (parts c.self.inside.files c.self.inside.append c.self.inside.tables c.self.inside.is_stopped) c.append_synced.new.files c.append_synced.new.pipe c.apply.new.tables c.prepare.new.batch.items c.args.batch.now.items c.in-Ok.written
+    c.entries_block-block.result c.in_ok-items.items same c.in_ok-items.ensures.plain c.in-Ok.ensures.pipe c.in-Ok.ensures.files c.in-Ok.ensures.queue c.in-Ok.ensures.ok c.in-Ok.ensures.stands c.entries_block-block.ensures c.in_default.ensures c.in_ok-items.ensures.read in
     rw (← c.self.view_is, ← same) (λ sound. done_written (g.F.FileSystem.disk) (parts c.self.inside.files c.self.inside.append c.self.inside.tables c.self.inside.is_stopped) (c.self.invariant c.if-self.false) c.append_synced.new.files c.append_synced.new.pipe c.apply.new.tables c.self.inside.is_stopped c.prepare.new.batch.items c.in-Ok.written c.entries_block-block.result c.in_ok-items.items done)
 
 pub returns-clause-others : goal.returns-clause-others
 returns-clause-others g c =
     let same : c.prepare.new.batch.items ≡ c.args.batch.now.items = c.in_ok-items.ensures.same in
-    let plain : list_any holds_mark c.prepare.new.batch.items ≡ false = ap (list_any holds_mark) same ∙ c.in_ok-items.ensures.plain in
-    let done : IsDone (g.F.FileSystem.disk) (parts c.self.inside.files c.self.inside.append c.self.inside.tables c.self.inside.is_stopped) c.append_synced.new.files c.append_synced.new.pipe c.apply.new.tables c.prepare.new.batch.items c.in-Ok.written c.entries_block-block.result c.in_ok-items.items = record {
-      plain = plain;
-      pipe = c.in-Ok.ensures.pipe;
-      keeps = c.in-Ok.ensures.files;
-      queue = c.in-Ok.ensures.queue;
-      holds = c.in-Ok.ensures.ok;
-      stands = c.in-Ok.ensures.stands;
-      block_stands = c.entries_block-block.ensures;
-      place = c.in_default.ensures.0;
-      placed = c.in_default.ensures.1;
-      applied = c.in_default.ensures.2;
-      read = subst (λ (l : Batch). with_bytes (block_of l) (items_of c.in_ok-items.items.items.items) ≡ l) (sym same) c.in_ok-items.ensures.read;
-    } in
+    let done = done_from (g.F.FileSystem.disk) (parts c.self.inside.files c.self.inside.append c.self.inside.tables c.self.inside.is_stopped) c.append_synced.new.files c.append_synced.new.pipe c.apply.new.tables c.prepare.new.batch.items c.args.batch.now.items c.in-Ok.written
+    c.entries_block-block.result c.in_ok-items.items same c.in_ok-items.ensures.plain c.in-Ok.ensures.pipe c.in-Ok.ensures.files c.in-Ok.ensures.queue c.in-Ok.ensures.ok c.in-Ok.ensures.stands c.entries_block-block.ensures c.in_default.ensures c.in_ok-items.ensures.read in
     rw (← c.self.view_is, ← same) (others (g.F.FileSystem.disk) (parts c.self.inside.files c.self.inside.append c.self.inside.tables c.self.inside.is_stopped) (c.self.invariant c.if-self.false) c.if-self.false c.prepare.new.batch.items _ (λ left may. inr ((done_written (g.F.FileSystem.disk) (parts c.self.inside.files c.self.inside.append c.self.inside.tables c.self.inside.is_stopped) (c.self.invariant c.if-self.false) c.append_synced.new.files c.append_synced.new.pipe c.apply.new.tables c.self.inside.is_stopped c.prepare.new.batch.items c.in-Ok.written c.entries_block-block.result c.in_ok-items.items done).leaves_only left may)))
 
 pub returns-clause-others_answered : goal.returns-clause-others_answered
 returns-clause-others_answered g c =
     let same : c.prepare.new.batch.items ≡ c.args.batch.now.items = c.in_ok-items.ensures.same in
-    let plain : list_any holds_mark c.prepare.new.batch.items ≡ false = ap (list_any holds_mark) same ∙ c.in_ok-items.ensures.plain in
-    let done : IsDone (g.F.FileSystem.disk) (parts c.self.inside.files c.self.inside.append c.self.inside.tables c.self.inside.is_stopped) c.append_synced.new.files c.append_synced.new.pipe c.apply.new.tables c.prepare.new.batch.items c.in-Ok.written c.entries_block-block.result c.in_ok-items.items = record {
-      plain = plain;
-      pipe = c.in-Ok.ensures.pipe;
-      keeps = c.in-Ok.ensures.files;
-      queue = c.in-Ok.ensures.queue;
-      holds = c.in-Ok.ensures.ok;
-      stands = c.in-Ok.ensures.stands;
-      block_stands = c.entries_block-block.ensures;
-      place = c.in_default.ensures.0;
-      placed = c.in_default.ensures.1;
-      applied = c.in_default.ensures.2;
-      read = subst (λ (l : Batch). with_bytes (block_of l) (items_of c.in_ok-items.items.items.items) ≡ l) (sym same) c.in_ok-items.ensures.read;
-    } in
+    let done = done_from (g.F.FileSystem.disk) (parts c.self.inside.files c.self.inside.append c.self.inside.tables c.self.inside.is_stopped) c.append_synced.new.files c.append_synced.new.pipe c.apply.new.tables c.prepare.new.batch.items c.args.batch.now.items c.in-Ok.written
+    c.entries_block-block.result c.in_ok-items.items same c.in_ok-items.ensures.plain c.in-Ok.ensures.pipe c.in-Ok.ensures.files c.in-Ok.ensures.queue c.in-Ok.ensures.ok c.in-Ok.ensures.stands c.entries_block-block.ensures c.in_default.ensures c.in_ok-items.ensures.read in
     rw (← c.self.view_is, ← same) (λ sound. (c.if-self.false, agrees c.prepare.new.batch.items (answers_on (g.F.FileSystem.disk) (parts c.self.inside.files c.self.inside.append c.self.inside.tables c.self.inside.is_stopped)) (seen_on (g.F.FileSystem.disk c.append_synced.new.files) c.append_synced.new.pipe c.apply.new.tables) (done_seen (g.F.FileSystem.disk) (parts c.self.inside.files c.self.inside.append c.self.inside.tables c.self.inside.is_stopped) (c.self.invariant c.if-self.false) c.append_synced.new.files c.append_synced.new.pipe c.apply.new.tables c.prepare.new.batch.items c.in-Ok.written c.entries_block-block.result c.in_ok-items.items done)))
