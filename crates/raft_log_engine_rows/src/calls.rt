@@ -53,14 +53,14 @@ fn step<F: FileSystem + Drop>(
 }
 
 /// What each step told.
-pub fn steps<F: FileSystem + Drop>(
-    mut engine: Engine<F>,
+pub fn steps_on<F: FileSystem + Drop>(
+    engine: &mut Engine<F>,
     alloc: Global,
     words: &[&str],
 ) -> Result<Vec<Told>, AllocError> {
     let mut all = Vec::new(alloc);
     for word in words {
-        match step(&mut engine, alloc, word) {
+        match step(engine, alloc, word) {
             Ok(told) => all.push(told)?,
             Err(fault) => all.push(Told::Refused(fault))?,
         }

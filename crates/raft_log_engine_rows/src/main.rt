@@ -3,6 +3,7 @@
 
 mod batches;
 mod calls;
+mod reopening;
 mod rows;
 
 use raft_rows::run;

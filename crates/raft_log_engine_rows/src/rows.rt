@@ -4,7 +4,8 @@ ghost use Rattle.std.specs.Prelude.{◌≡◌, ◌<◌, [], length, IfOk};
 ghost use Rattle.raft_log_disk.specs.MemorySystem.{disk_in};
 ghost use Rattle.raft_log_pipe.specs.Pipe.{IsLast};
 
-use crate::calls::{Told, steps};
+use crate::calls::{Told, steps_on};
+use crate::reopening::reopened;
 use raft_log_engine::{Engine, EngineFault};
 use raft_log_files::{Error, FileSystem, IoFault, LogFileFormat, MemoryFileSystem};
 use raft_log_pipe::Paths;
@@ -53,8 +54,8 @@ fn told(
     }
     let paths = paths_of(alloc)?;
     let format = LogFileFormat::new(Version::V2, 0);
-    let engine = Engine::create(files, alloc, paths, format, target_size)?;
-    Ok(steps(engine, alloc, words)?)
+    let mut engine = Engine::create(files, alloc, paths, format, target_size)?;
+    Ok(steps_on(&mut engine, alloc, words)?)
 }
 
 impl Rows for Calls {
@@ -62,6 +63,9 @@ impl Rows for Calls {
         Some(match words {
             ["engine", target_size, space, steps @ ..] => {
                 Answer::shown(alloc, &told(alloc, number(target_size), space, steps))
+            }
+            ["reopened", how, target_size, steps @ ..] => {
+                Answer::shown(alloc, &reopened(alloc, number(target_size), how, steps))
             }
             _ => return None,
         })
