@@ -39,7 +39,8 @@ may_take own e s event idle lawful accepted = record {
 }
 
 -- nothing was stored yet
-pub halted_at_once : (is_well : Type 0) (shown : List StoredGroup → Type 0) (own : ℕ) (s : GroupState) (event : GroupEvent) → More is_well shown → (m : Member) → m.engine ≡ None → shown (s.stored ∷ [])
+pub halted_at_once : (is_well : Type 0) (shown : List StoredGroup → Type 0) (own : ℕ) (s : GroupState) (event : GroupEvent) → More is_well shown
+    → (m : Member) → m.engine ≡ None → shown (s.stored ∷ [])
     → HasHalted shown s.stored (group_step own s event) m
 halted_at_once is_well shown own s event more m none stored = record {
   number = 0;
@@ -49,7 +50,8 @@ halted_at_once is_well shown own s event more m none stored = record {
 
 module _ {X : Type 0} (stands : X → Snapshot → Type 0) (is_well : Type 0) (shown : List StoredGroup → Type 0) (own : ℕ) (s : GroupState) (event : GroupEvent) where
   -- an event that isn't refused ends as its step does
-  pub ended_as_run : (stop : Option ℕ) (m : Member) (end : Ended X) → refusal_of own s event ≡ None → HasRun stands is_well shown s.stored (group_step own s event) stop m end → HasEnded stands is_well shown own s event stop m end
+  pub ended_as_run : (stop : Option ℕ) (m : Member) (end : Ended X) → refusal_of own s event ≡ None
+      → HasRun stands is_well shown s.stored (group_step own s event) stop m end → HasEnded stands is_well shown own s event stop m end
   ended_as_run stop m (ended.Done sent) accepted h = (h.0, accepted, h.1, h.2)
   ended_as_run stop m (ended.Refused why) accepted h = absurd h
   ended_as_run stop m ended.Stopped accepted h = (accepted, h)
@@ -79,7 +81,8 @@ module _ {X : Type 0} (stands : X → Snapshot → Type 0) where
       (is ∙ sym (moments_of_messages own s peer (record { sender = peer; addressee = own; body = body }) at accepted))
 
   -- the engine has done a call with the snapshot that is given
-  pub run_of_call_with : (before : Engine) (own at moment : ℕ) (e : Engine) (s : GroupState) (call : GroupCall) (given : X) (x : Snapshot) → stands given x → moment ≡ max s.now at → refusal_of own s (Call call at) ≡ None
+  pub run_of_call_with : (before : Engine) (own at moment : ℕ) (e : Engine) (s : GroupState) (call : GroupCall) (given : X) (x : Snapshot)
+      → stands given x → moment ≡ max s.now at → refusal_of own s (Call call at) ≡ None
       → HasTaken x own before e s (Call call at) → IsRun stands own e s.stored (group_step own s (Call call at)) (Some given) moment
   run_of_call_with before own at moment e s call given x said is accepted h = record {
     taken = given_after x before s (Call call at);
@@ -90,7 +93,8 @@ module _ {X : Type 0} (stands : X → Snapshot → Type 0) where
   }
 
   -- the engine was handed a message with the snapshot that is given
-  pub run_of_message_with : (before : Engine) (own peer at moment : ℕ) (e : Engine) (s : GroupState) (body : MessageBody) (given : X) (x : Snapshot) → stands given x → moment ≡ max s.now at → refusal_of own s (received own peer body at) ≡ None
+  pub run_of_message_with : (before : Engine) (own peer at moment : ℕ) (e : Engine) (s : GroupState) (body : MessageBody) (given : X) (x : Snapshot)
+      → stands given x → moment ≡ max s.now at → refusal_of own s (received own peer body at) ≡ None
       → HasTaken x own before e s (received own peer body at) → IsRun stands own e s.stored (group_step own s (received own peer body at)) (Some given) moment
   run_of_message_with before own peer at moment e s body given x said is accepted h = record {
     taken = given_after x before s (received own peer body at);
@@ -120,7 +124,8 @@ pub refused_state : (own : ℕ) (s : GroupState) (event : GroupEvent) (why : Ref
 refused_state own s event why e = ap (λ reason. step_unless reason own s event) e
 
 -- the member is up again with the engine that was taken out
-pub up_again : (is_well : Type 0) (shown : List StoredGroup → Type 0) (m : Member) (e : Engine) (s : GroupState) → IsDown is_well shown m s.stored → m.moment ≡ s.now → IsIdle m.id e s → IsUp is_well shown (record m { engine = Some e }) s
+pub up_again : (is_well : Type 0) (shown : List StoredGroup → Type 0) (m : Member) (e : Engine) (s : GroupState) → IsDown is_well shown m s.stored
+    → m.moment ≡ s.now → IsIdle m.id e s → IsUp is_well shown (record m { engine = Some e }) s
 up_again is_well shown m e s down moment idle = record {
   engine = e;
   has_engine = refl;
