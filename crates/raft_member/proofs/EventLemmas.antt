@@ -1,9 +1,9 @@
 -- Events that come to a member.
-use Rattle.std.specs.Prelude.{◌≡◌, ◌==◌, ◌&&◌, ◌++◌, not, ℕ, max, true, List, [], ◌∷◌, Option, Some, None, Result, Ok, Err, refl}
-use Rattle.std.proofs.Common.{sym, ap, ap₂, ◌∙◌}
+use Rattle.std.specs.Prelude.{◌≡◌, ◌<◌, ◌≤◌, ◌^◌, ◌==◌, ◌&&◌, ◌++◌, not, ℕ, max, true, List, [], ◌∷◌, Option, Some, None, Result, Ok, Err, refl}
+use Rattle.std.proofs.Common.{sym, ap, ap₂, ◌∙◌, arith}
 use Rattle.std.proofs.lemmas.Bool.{eqb-true}
 use Rattle.raft_quorums.specs.QuorumLaws.{and_left, and_right}
-use Rattle.raft_group_step.specs.StoredGroup.{Snapshot, StoredGroup}
+use Rattle.raft_group_step.specs.StoredGroup.{Snapshot, StoredGroup, end_place}
 use Rattle.raft_group_step.specs.GroupState.{GroupState}
 use Rattle.raft_group_step.specs.GroupEvent.{GroupCall, GroupEvent, Call, Receive}
 use Rattle.raft_group_step.specs.GroupStep.{group_step, step_unless}
@@ -28,6 +28,10 @@ use Rattle.raft_member.proofs.RunLemmas.{More, run_without_snapshot, shown_first
 module _ (shown : List StoredGroup → Type 0) (own : ℕ) (s : GroupState) (event : GroupEvent) where
   pub stopped_as_halted : (m : Member) → refusal_of own s event ≡ None → HasHalted shown s.stored (group_step own s event) m → HasStopped shown own s event m
   stopped_as_halted m accepted h = record { taken = accepted; number = h.number; no_engine = h.no_engine; stored = h.stored }
+
+-- there is room behind the log
+pub has_room_behind : (own : ℕ) (s : GroupState) → IsLawful own s → end_place s.stored < 2 ^ 64
+has_room_behind own s lawful = let low : end_place s.stored ≤ 2 ^ 62 = lawful.ready.places in omega arith
 
 -- an engine that waits may take such an event
 pub may_take : (own : ℕ) (e : Engine) (s : GroupState) (event : GroupEvent) → IsIdle own e s → IsLawful own s → refusal_of own s event ≡ None → MayTake own e s event
