@@ -1,6 +1,6 @@
 -- Events that come to a member.
-use Rattle.std.specs.Prelude.{◌≡◌, ◌<◌, ◌≤◌, ◌^◌, ◌==◌, ◌&&◌, ◌++◌, not, ℕ, max, true, List, [], ◌∷◌, Option, Some, None, Result, Ok, Err, refl}
-use Rattle.std.proofs.Common.{sym, ap, ap₂, ◌∙◌, arith}
+use Rattle.std.specs.Prelude.{◌≡◌, ◌<◌, ◌≤◌, ◌^◌, ◌==◌, ◌&&◌, ◌++◌, not, ℕ, max, List, [], ◌∷◌, Option, Some, None, Result, Ok, Err, refl}
+use Rattle.std.proofs.Common.{sym, ap, ◌∙◌, arith}
 use Rattle.std.proofs.lemmas.Bool.{eqb-true}
 use Rattle.raft_quorums.specs.QuorumLaws.{and_left, and_right}
 use Rattle.raft_group_step.specs.StoredGroup.{Snapshot, StoredGroup, end_place}
@@ -13,7 +13,6 @@ use Rattle.raft_group_step.specs.StepResult.{BreaksCondition, RefusalReason, Wro
 use Rattle.raft_group_step.proofs.Refusals.{unless_none as passes}
 use Rattle.raft_engine.proofs.EventLemmas.{no_first_reason}
 use Rattle.raft_engine.specs.Events.{HasTaken, MayTake, given_after, received}
-use Rattle.raft_executor.specs.Stored.{IsGiven}
 use Rattle.raft_laws.proofs.StepMoments.{moments_of_calls, moments_of_messages}
 use Rattle.raft_laws.proofs.StepOrder.{step-keeps}
 use Rattle.raft_member.specs.Member.{Engine, HasEnded, HasStopped, IsDown, IsIdle, IsLawful, IsUp}

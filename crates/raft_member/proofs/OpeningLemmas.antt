@@ -153,9 +153,11 @@ module _ (st : StoredGroup) where
         → ((y : StoredGroup) → Knows k y → Knows e.state y) → e.state ≡ with_committed k found e.state.state.membership_state → e.output.queue ≡ [] → HasOpened own (opened st).state (Some e)
     has_opened now o k found e same fresh there last config no_lead no_candidate knows known queue =
         let low : end_place now < 2 ^ 64 = let l = openable.ready.places in let n : end_place now ≡ end_place (opened st).state.stored = ap end_place same in omega arith in
-        let loads : Loads k now = subst (IsFresh now) there (fresh (subst IsPlaced (sym same) openable.placed) low) in
-        (opened_stands k found e (subst (Loads k) same loads) (last ∙ ap snapshot_last same) config no_lead no_candidate
-        (knows (opened st).state.stored (subst (Knows k) same loads.knows)) known, queue)
+        let loads : Loads k now = subst (IsFresh now) there (fresh (subst IsPlaced (sym same) openable.placed) low) in (
+          opened_stands k found e (subst (Loads k) same loads) (last ∙ ap snapshot_last same) config no_lead no_candidate
+              (knows (opened st).state.stored (subst (Knows k) same loads.knows)) known,
+          queue,
+        )
 
   -- ---- the step of an opening
 

@@ -1,5 +1,5 @@
 -- The engine is handed what the answer says.
-use Rattle.std.proofs.Common.{◌≡◌, OnOk, sym, subst}
+use Rattle.std.proofs.Common.{OnOk, sym, subst}
 use Rattle.raft_group_step.specs.Message.{AppendReply, ReplyFields, SnapshotReply}
 use Rattle.raft_engine.specs.Events.{HasTaken, MayTake, received}
 use Rattle.raft_member.proofs.messages.take_reply.Goals as goal

@@ -1,5 +1,5 @@
 -- What is told covers what the stored snapshot does.
-use Rattle.std.proofs.Common.{◌≡◌, IfOk, Option, Some, ap, refl, subst, ◌∙◌}
+use Rattle.std.proofs.Common.{◌≡◌, IfOk, Option, ap, refl, subst, ◌∙◌}
 use Rattle.std.specs.Option.{option_copied}
 use Rattle.raft_group_step.specs.StoredGroup.{Snapshot}
 use Rattle.raft_group_storage.specs.Loaded.{IsHead}

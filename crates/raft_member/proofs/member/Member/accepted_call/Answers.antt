@@ -1,9 +1,7 @@
 -- The engine does what is asked, and its queue is stored and sent.
-use Rattle.std.proofs.Common.{◌≡◌, sym, subst}
 use Rattle.std.proofs.lemmas.Bool.{both_ways}
 use Rattle.raft_group_step.specs.GroupEvent.{Call}
 use Rattle.raft_group_step.specs.GroupStep.{group_step}
-use Rattle.raft_group_step.specs.declared.group_call.GroupCall.TheVariants.{TriggerSnapshot}
 use Rattle.raft_member.proofs.EventLemmas.{run_of_call}
 use Rattle.raft_member.proofs.member.Member.accepted_call.Goals as goal
 use Rattle.raft_member.proofs.member.Member.accepted_call.Goals.{in-TriggerSnapshot, in_default}

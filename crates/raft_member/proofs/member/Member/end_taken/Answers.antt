@@ -1,5 +1,5 @@
 -- What was stored is the front of what the step stores, and all of it where it ran to its end.
-use Rattle.std.proofs.Common.{◌≡◌, List, [], ◌∷◌, refl, None, Option, ℕ, sym, subst, ◌∙◌}
+use Rattle.std.proofs.Common.{List, [], ◌∷◌, refl, None, Option, ℕ, sym, subst, ◌∙◌}
 use Rattle.raft_group_step.specs.Message.{Message}
 use Rattle.raft_group_step.specs.StoredGroup.{after_storing_all}
 use Rattle.raft_engine.specs.Commands.{stored_by}

@@ -1,5 +1,5 @@
 -- What is opened has ended as the step of the opening says.
-use Rattle.std.proofs.Common.{◌≡◌, ◌∙◌, ◌<◌, ℕ, List, [], ◌∷◌, Option, refl, sym, subst, arith}
+use Rattle.std.proofs.Common.{◌≡◌, ◌∙◌, ◌<◌, ℕ, List, [], ◌∷◌, Option, sym, subst, arith}
 use Rattle.std.specs.Prelude.{None, Some, length}
 use Rattle.std.proofs.lemmas.Result.{IfOk-weaker, on_err_weaker}
 use Rattle.raft_values.specs.declared.log_id.LogId.{LogId}

@@ -1,19 +1,17 @@
 -- A snapshot of what is applied was built, or the engine has none to build.
-use Rattle.std.proofs.Common.{◌≡◌, ℕ, true, false, Option, Some, None, sym, ap, ◌∙◌, subst}
+use Rattle.std.proofs.Common.{◌≡◌, true, false, Option, None, sym, ap, subst}
 use Rattle.std.specs.Option.{option_copied}
 use Rattle.std.proofs.lemmas.Bool.{both_ways}
 use Rattle.raft_values.specs.LogId.{stands_before}
-use Rattle.raft_group_step.specs.GroupState.{GroupState}
 use Rattle.raft_group_step.specs.GroupEvent.{Call}
 use Rattle.raft_group_step.specs.GroupStep.{group_step}
 use Rattle.raft_group_step.specs.declared.group_call.GroupCall.TheVariants.{TriggerSnapshot}
 use Rattle.raft_engine.specs.Building.{covered_id}
-use Rattle.raft_engine.specs.Events.{HasTaken, MayTake}
+use Rattle.raft_engine.specs.Events.{HasTaken}
 use Rattle.raft_engine.specs.Standing.{IsStateOf}
 use Rattle.raft_engine.proofs.BuildingLemmas.{stands_asking}
 use Rattle.raft_progress.proofs.OrderLemmas.{bool_cases}
-use Rattle.raft_state.proofs.GrowthLemmas.{on_err}
-use Rattle.raft_member.specs.Member.{Engine, IsBuilt, IsIdle}
+use Rattle.raft_member.specs.Member.{Engine, IsBuilt}
 use Rattle.raft_member.proofs.AppliedLemmas.{has_one}
 use Rattle.raft_member.proofs.EventLemmas.{run_of_call, run_of_call_with}
 use Rattle.raft_member.proofs.RunLemmas.{one_snapshot}

@@ -5,7 +5,7 @@ use Rattle.raft_laws.specs.Opened.{opened}
 use Rattle.raft_member.specs.Opening.{HasOpened}
 use Rattle.raft_member.specs.Running.{HasRun}
 use Rattle.raft_member.proofs.OpeningLemmas.{opened_follows, rest, rest_begins, rest_stored}
-use Rattle.raft_member.proofs.RunLemmas.{run_without_snapshot, shown_first}
+use Rattle.raft_member.proofs.RunLemmas.{run_without_snapshot}
 use Rattle.raft_member.proofs.member.Member.start.Goals as goal
 
 pub returns-in_err-ended-clause-err : goal.returns-in_err-ended-clause-err
