@@ -1,15 +1,15 @@
 -- A batch whose entries' block is kept, and whose items the tables have, is in the content.
-use Rattle.std.proofs.Common.{◌≡◌, ◌+◌, ◌<◌, ℕ, List, [], ◌∷◌, ◌++◌, length, map, Option, Some, None, Vec, Global, refl, ap, ◌∙◌, sym, append_assoc}
+use Rattle.std.proofs.Common.{◌≡◌, ◌||◌, ℕ, Bool, true, false, List, [], ◌∷◌, ◌++◌, length, map, Option, Some, Vec, Global, refl, ap, ◌∙◌, sym, append_assoc}
 use Rattle.std.specs.Option.{option_map}
-use Rattle.std.specs.List.{slice_get}
+use Rattle.std.specs.List.{list_any, slice_get}
 use Rattle.raft_log_records.specs.declared.file_id.FileBlockHandle.{FileBlockHandle}
 use Rattle.raft_log_records.specs.declared.item.EntryIndex.{EntryIndex}
 use Rattle.raft_log_records.specs.declared.record.LogItemBatch.{LogItemBatch}
 use Rattle.raft_log_records.specs.Item.{Change, Item, change_map, item_map, items_of, with_bytes, entry_bytes}
 use Rattle.raft_log_records.specs.Item.Change.{entries, clean, compact, put, delete, mark}
-use Rattle.raft_log_records.specs.Spelling.{block_of}
+use Rattle.raft_log_records.specs.Spelling.{block_of, holds_entries, is_entries}
 use Rattle.raft_log_memtables.specs.declared.memtables.MemTables.{MemTables}
-use Rattle.raft_log_memtables.specs.Content.{GroupContent, Content, after_batch}
+use Rattle.raft_log_memtables.specs.Content.{Content, after_batch}
 use Rattle.raft_log_memtables.specs.ContentLaws.{content_map}
 use Rattle.raft_log_memtables.specs.Entries.{placed_in}
 use Rattle.raft_log_memtables.specs.MemTable.{batch_items}
@@ -19,25 +19,34 @@ use Rattle.raft_content_log.specs.Plain.{bytes_of_block, bytes_in, seen_in}
 
 -- ---- items, seen by their places in a new block
 
-abbrev run_map : {E F : Type 0} → (E → F) → List (ℕ × E) → List (ℕ × F)
-run_map f es = map (λ e. (e.0, f e.1)) es
+module _ (f : EntryIndex → List ℕ) (handle : FileBlockHandle) (block : List ℕ) where
+  -- if there are entries, each is read from the block
+  abbrev pub ReadsAll : Bool → Type 0
+  ReadsAll holds = holds ≡ true → (e : EntryIndex) → f (placed_in handle e) ≡ entry_bytes block e
 
-module _ (f : EntryIndex → List ℕ) (handle : FileBlockHandle) (block : List ℕ) (same : (e : EntryIndex) → f (placed_in handle e) ≡ entry_bytes block e) where
-  run_seen : (es : List (ℕ × EntryIndex)) → run_map f (run_map (placed_in handle) es) ≡ run_map (entry_bytes block) es
-  run_seen [] = refl
-  run_seen (e ∷ es) = λ i. (e.0, same e.1 i) ∷ run_seen es i
+  run_seen : ReadsAll true → (es : List (ℕ × EntryIndex))
+      → map {B = ℕ × List ℕ} (λ e. (e.0, f e.1)) (map {B = ℕ × EntryIndex} (λ e. (e.0, placed_in handle e.1)) es) ≡ map {B = ℕ × List ℕ} (λ e. (e.0, entry_bytes block e.1)) es
+  run_seen same [] = refl
+  run_seen same (e ∷ es) = λ i. (e.0, same refl e.1 i) ∷ run_seen same es i
 
-  change_seen : (change : Change EntryIndex) → change_map f (change_map (placed_in handle) change) ≡ change_map (entry_bytes block) change
-  change_seen (entries es) = ap entries (run_seen es)
-  change_seen clean = refl
-  change_seen (compact limit) = refl
-  change_seen (put key value) = refl
-  change_seen (delete key) = refl
-  change_seen (mark id status) = refl
+  change_seen : (change : Change EntryIndex) → ReadsAll (is_entries change) → change_map f (change_map (placed_in handle) change) ≡ change_map (entry_bytes block) change
+  change_seen (entries es) same = ap entries (run_seen same es)
+  change_seen clean same = refl
+  change_seen (compact limit) same = refl
+  change_seen (put key value) same = refl
+  change_seen (delete key) same = refl
+  change_seen (mark id status) same = refl
 
-  items_seen : (items : List (Item EntryIndex)) → map (item_map f) (map (item_map (placed_in handle)) items) ≡ with_bytes block items
-  items_seen [] = refl
-  items_seen (item ∷ items) = λ i. record { group = item.group; change = change_seen item.change i } ∷ items_seen items i
+  or_true : (a b : Bool) → b ≡ true → (a || b) ≡ true
+  or_true true b h = refl
+  or_true false b h = h
+
+  pub items_seen : (items : List (Item EntryIndex)) → ReadsAll (list_any holds_entries items) → map (item_map f) (map (item_map (placed_in handle)) items) ≡ with_bytes block items
+  items_seen [] same = refl
+  items_seen (item ∷ items) same = λ i. record {
+    group = item.group;
+    change = change_seen item.change (λ h. same (ap (λ (b : Bool). b || list_any holds_entries items) h)) i;
+  } ∷ items_seen items (λ h. same (or_true (is_entries item.change) (list_any holds_entries items) h)) i
 
 -- ---- the new block is found behind the others
 
@@ -72,7 +81,7 @@ module _ (blocks blocks_new : List (Vec ℕ Global)) (block : Vec ℕ Global) (i
       let f : EntryIndex → List ℕ = bytes_in (blocks ++ block ∷ more) in
       ap (content_map f) applied
       ∙ sym (batch_mapped f (batch_items handle drained) (content_in tables))
-      ∙ ap (λ (l : List (Item (List ℕ))). after_batch l (content_map f (content_in tables))) (items_seen f handle block.items (placed_seen blocks block handle seq more) (items_of drained.items.items))
+      ∙ ap (λ (l : List (Item (List ℕ))). after_batch l (content_map f (content_in tables))) (items_seen f handle block.items (items_of drained.items.items) (λ _. placed_seen blocks block handle seq more))
       ∙ ap (λ (l : List ℕ). after_batch (with_bytes l (items_of drained.items.items)) (content_map f (content_in tables))) (is_block ∙ ap block_of (sym kept))
       ∙ ap (λ (l : List (Item (List ℕ))). after_batch l (content_map f (content_in tables))) (is_drained ∙ kept)
       ∙ ap (after_batch items) (content_lies blocks (block ∷ more) tables lies)

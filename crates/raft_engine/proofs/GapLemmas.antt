@@ -28,12 +28,9 @@ pub joins : (vote : Vote ℕ) (es : List Entry) (previous : Option (LogId ℕ)) 
 joins vote [] previous end h l = refl
 joins vote (e ∷ es) previous end h l =
     let placed = placed_after vote (e ∷ es) previous h in
-    let reaches : nat_le e.log_id.index end ≡ true = at_most (e.log_id.index) end (let at : e.log_id.index ≡ next_place previous = placed.0 in omega arith) in
+    let reaches : nat_le e.log_id.index end ≡ true = (let at : e.log_id.index ≡ next_place previous = placed.0 in grind (arith, nat_tests)) in
     rw (reaches, rest vote previous h) refl
   where
-    at_most : (a b : ℕ) → a ≤ b → nat_le a b ≡ true
-    at_most a b k = grind (arith, nat_tests)
-
     rest : (vote : Vote ℕ) (previous : Option (LogId ℕ)) → do_follow vote previous (e ∷ es) ≡ true → follow_one_another (Some e.log_id) es ≡ true
     rest vote None k = without_gap vote es (Some e.log_id) (and_parts _ _ k).1
     rest vote (Some id) k = without_gap vote es (Some e.log_id) (and_parts _ _ k).1

@@ -48,7 +48,3 @@ one_not_sent front back m send_error.NeedsMachine (x, there, brings) = (x, Conta
 one_not_sent front back m (send_error.Frame (frame_error.Fault f)) (x, there, fits) = (x, Contains-append_right front (m ∷ back) x (Contains-append_left (m ∷ []) back x there), fits)
 one_not_sent front back m (send_error.Frame frame_error.StreamFailed) h = absurd h
 one_not_sent front back m (send_error.Frame frame_error.Memory) h = tt
-
-pub nothing_left : {X : Type 0} (l : List X) → length l ≡ 0 → l ≡ []
-nothing_left [] h = refl
-nothing_left (x ∷ xs) h = absurd (omega arith)

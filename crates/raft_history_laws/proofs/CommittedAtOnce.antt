@@ -35,7 +35,8 @@ use Rattle.raft_step_laws.proofs.FitWords.{entry_place}
 use Rattle.raft_step_laws.proofs.Sending.{finished_adds}
 use Rattle.raft_history_laws.specs.AnsweredCommits.{LeadersCommitAtOnce, WaitingLackQuorums}
 use Rattle.raft_history_laws.specs.WaitingTokens.{IsWaiting}
-use Rattle.raft_history_laws.proofs.FittingWorlds.{FittingKeep, along_fitting, comes_within, is_within_log, stored_parts_fit}
+use Rattle.raft_history_laws.proofs.AlongNodes.{NodesKeepGiven, along_given}
+use Rattle.raft_history_laws.proofs.FittingWorlds.{FitsAt, all_fits, comes_within, is_within_log, stored_parts_fit}
 use Rattle.raft_history_laws.proofs.WaitingTokens.{waits_own}
 
 -- ---- a leader has the voter groups of the group in force
@@ -90,9 +91,9 @@ stops_commit : (n : ℕ) (stopped : Bool) (k : ℕ) (s : GroupState) (r : StepRe
 stops_commit n true k s r h = tt
 stops_commit n false k s r h = h
 
-nodes_commit : FittingKeep NodeCommits
-nodes_commit m some before n e stopped k Absent fits may stored f h = tt
-nodes_commit m some before n (Comes e) stopped k (Up s) fits may stored f h =
+nodes_commit : NodesKeepGiven FitsAt NodeCommits
+nodes_commit m some before n e stopped k Absent fits may given h = tt
+nodes_commit m some before n (Comes e) stopped k (Up s) fits may given h =
     stops_commit n stopped k s (group_step n s e)
     (⊎_elim
     (λ event_fits. go event_fits (refusal_of n s e) refl)
@@ -106,16 +107,16 @@ nodes_commit m some before n (Comes e) stopped k (Up s) fits may stored f h =
         let part = event_ends m some n before fits.0 s e fits.1 event_fits passed in
         let end = step_fits m some n fits.0 before s e fits.1 event_fits in
         let voters = keeps_voters m some n before s e passed s.stored (world_after m before) part.0 end lead is in
-        commits_at_once n s e stored (comes_within m some before n s fits.1 e) f passed voters lead is
-nodes_commit m some before n Restarts stopped k (Up s) fits may stored f h = h
-nodes_commit m some before n other stopped k (Up s) fits may stored f h = tt
-nodes_commit m some before n Restarts stopped k (Down st) fits may stored f h =
+        commits_at_once n s e given.0 (comes_within m some before n s fits.1 e) given.1 passed voters lead is
+nodes_commit m some before n Restarts stopped k (Up s) fits may given h = h
+nodes_commit m some before n other stopped k (Up s) fits may given h = tt
+nodes_commit m some before n Restarts stopped k (Down st) fits may given h =
     let s = state_of st in
     let part = opening_ends m some n before st fits.1.down fits.1.lead in
     let end = opening_fits m some n fits.0 before st fits.1 in
     stops_commit n stopped k s (group_step n s Open)
-    (λ lead is. commits_at_once n s Open stored tt tt refl (keeps_voters m some n before s Open refl st (world_after m before) part end lead is) lead is)
-nodes_commit m some before n other stopped k (Down st) fits may stored f h = tt
+    (λ lead is. commits_at_once n s Open given.0 tt tt refl (keeps_voters m some n before s Open refl st (world_after m before) part end lead is) lead is)
+nodes_commit m some before n other stopped k (Down st) fits may given h = tt
 
 start_commits : (n : ℕ) (b : Bool) → NodeCommits n (state_or b (Up (state_of no_group)) Absent)
 start_commits n true = follower_commits n no_group
@@ -123,7 +124,7 @@ start_commits n false = tt
 
 pub leaders_commit : LeadersCommitAtOnce
 leaders_commit ids rs end h n s lead up leads =
-    let commits : AllCommitted n s = subst (NodeCommits n) up (along_fitting NodeCommits nodes_commit ids h.node_ids start_commits rs end h.replays n) in
+    let commits : AllCommitted n s = subst (NodeCommits n) up (along_given FitsAt NodeCommits nodes_commit ids h.node_ids (all_fits ids h.node_ids) start_commits rs end h.replays n) in
     commits lead leads
 
 -- ---- no token waits for what is committed

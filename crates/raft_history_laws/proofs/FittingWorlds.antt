@@ -1,42 +1,40 @@
 -- What nodes have stored and what was sent fits, along every history; and what holds of each node along such worlds.
 use Rattle.std.specs.Prelude.{◌≡◌, ℕ, ◌<◌, Bool, true, false, List, [], length, slice_get, Option, Some, None, refl}
-use Rattle.std.proofs.Common.{sym, ap, ◌∙◌, subst, arith, ⊎_elim}
-use Rattle.std.proofs.lemmas.List.Elements.{All-contains, All-nil}
+use Rattle.std.proofs.Common.{sym, ap, ◌∙◌, subst, arith}
+use Rattle.std.proofs.lemmas.List.Elements.{All-nil}
 use Rattle.raft_group_step.specs.Values.{Entry, Membership, has_id}
 use Rattle.raft_group_step.specs.StoredGroup.{StoredGroup}
 use Rattle.raft_group_step.specs.Message.{Message}
 use Rattle.raft_group_step.specs.GroupState.{GroupState, no_group, state_of}
 use Rattle.raft_group_step.specs.GroupEvent.{GroupCall, GroupEvent, AddGroup, Call, Receive, Open}
-use Rattle.raft_group_step.specs.StepResult.{RefusalReason, StepResult}
+use Rattle.raft_group_step.specs.StepResult.{StepResult}
 use Rattle.raft_group_step.specs.GroupStep.{group_step}
 use Rattle.raft_laws.specs.BallotWorld.{BallotEvent}
 use Rattle.raft_laws.specs.BallotRanks.{ballot_group}
 use Rattle.raft_laws.specs.declared.world_event.WorldEvent.{WorldEvent}
 use Rattle.raft_laws.specs.declared.world_event.WorldEvent.TheVariants.{Add, Ask, Crash, Deliver, Halt, Restart}
 use Rattle.raft_laws.specs.GroupWorld.{GroupWorld, NodeState, Absent, Up, Down, Outcome, Recorded, is_stop, new_world, state_or}
-use Rattle.raft_laws.specs.NodeEvent.{NodeEvent, Comes, Crashes, Halts, Restarts, after_step, outcome_at, outcome_of_end, outcome_of_step, outcome_of_stop, state_after}
+use Rattle.raft_laws.specs.NodeEvent.{NodeEvent, Comes, Crashes, Halts, Restarts, after_step, outcome_at, outcome_of_step, state_after}
 use Rattle.raft_laws.specs.GroupRun.{Scene, Nowhere, At, Replays, after_scene, is_same_setup, outcome_in, scene_of, scene_of_call, scene_of_delivery, sent_in, setup_in_call, stop_at}
 use Rattle.raft_laws.specs.VotesRise.{stored_of}
 use Rattle.raft_laws.specs.OneList.{AreNodeIds, IsGroupHistory}
 use Rattle.raft_laws.proofs.BallotAgreement.{same_some}
-use Rattle.raft_laws.proofs.BallotSafe.{Among, among_at}
+use Rattle.raft_laws.proofs.BallotSafe.{among_at}
 use Rattle.raft_laws.proofs.BallotSettling.{all_commits}
-use Rattle.raft_laws.proofs.Counts.{among_contains, contains_at}
+use Rattle.raft_laws.proofs.Counts.{contains_at}
 use Rattle.raft_laws.proofs.Ids.{size_same}
 use Rattle.raft_laws.proofs.Shapes.{joined_end}
 use Rattle.raft_laws.proofs.Standing.{UpFits}
 use Rattle.raft_laws.proofs.StepFits.{NodeFits, world_after}
 use Rattle.raft_laws.proofs.WorldFits.{NodeStateFits, WorldFits}
-use Rattle.raft_laws.proofs.WorldSteps.{MayHappen}
-use Rattle.raft_laws.proofs.WorldRuns.{MayTakePlace, among_either}
 use Rattle.raft_laws.proofs.HeldLists.{at_node}
 use Rattle.raft_laws.proofs.WorldStart.{founded}
 use Rattle.raft_step_laws.specs.Fitting.{ComesWithin, IsBodyBounded, FitsEvent, IsPayloadBounded, FitsStored, IsCommittedWithin, StepFits}
 use Rattle.raft_step_laws.proofs.FitSteps.{steps_fit}
 use Rattle.raft_history_laws.specs.Limits.{CommandsFit, CommittedIsWithin, MessagesFit, OpeningsFit, StoredPartsFit, WasSent}
 use Rattle.raft_history_laws.proofs.Along.{along}
-use Rattle.raft_history_laws.proofs.AlongNodes.{may_follow}
-use Rattle.raft_history_laws.proofs.Later.{one_node}
+use Rattle.raft_history_laws.proofs.AlongNodes.{GivenIn, IsGivenAlong, may_follow}
+use Rattle.raft_history_laws.proofs.Leaving.{AllSent, Leaves, StepLeaves, WorldHas, nothing_sent, step_leaves, world_after_event}
 
 -- ---- what is committed is within the log
 
@@ -75,15 +73,11 @@ abbrev pub FitsScene : Scene → Type 0
 FitsScene Nowhere = Unit {0}
 FitsScene (At n e) = FitsNodeEvent e
 
--- all that was sent fits
-abbrev pub AllSentFit : List Message → Type 0
-AllSentFit ms = (x : Message) → Among x ms → IsBodyBounded x.body
-
 call_fits : (b : Bool) (n : ℕ) (call : GroupCall) (now : ℕ) → FitsScene (scene_of_call b n call now)
 call_fits true n call now = tt
 call_fits false n call now = tt
 
-pub scene_fits : (w : GroupWorld) → AllSentFit w.messages → (e : WorldEvent) → FitsScene (scene_of w e)
+pub scene_fits : (w : GroupWorld) → AllSent IsBodyBounded w.messages → (e : WorldEvent) → FitsScene (scene_of w e)
 scene_fits w h (Add n) = tt
 scene_fits w h (Ask n call now) = call_fits (is_same_setup w.setup (setup_in_call call)) n call now
 scene_fits w h (Deliver number now) = go (slice_get w.messages number) refl
@@ -102,60 +96,42 @@ NodeStored Absent = Unit {0}
 NodeStored (Up s) = FitsStored s.stored
 NodeStored (Down stored) = FitsStored stored
 
--- what an event leaves and sends
-record Leaves (o : Outcome) (x : NodeState) : Type 0 where
-  stored : NodeStored x
-  sent : AllSentFit (sent_in o)
+abbrev NodeLeaves : Outcome → NodeState → Type 0
+NodeLeaves = Leaves NodeStored IsBodyBounded
 
-nothing_sent : (o : Outcome) (x : NodeState) → sent_in o ≡ [] → NodeStored x → Leaves o x
-nothing_sent o x e h = record { stored = h; sent = λ y a. absurd (subst (λ ms. Among y ms) e a) }
+quiet : (o : Outcome) (x : NodeState) → sent_in o ≡ [] → NodeStored x → NodeLeaves o x
+quiet = nothing_sent NodeStored IsBodyBounded
 
-module _ (s : GroupState) (r : StepResult) (h : StepFits s r) where
-  ends : (why : Option RefusalReason) → Leaves (outcome_of_end r why) (Up r.state)
-  ends None =
-      record {
-        stored = h.stored;
-        sent = λ y a. All-contains (λ (z : Message). IsBodyBounded z.body) r.messages y h.messages (among_contains r.messages y a);
-      }
-  ends (Some why) = nothing_sent (outcome_of_end r (Some why)) (Up r.state) refl h.stored
+leaves_fitting : (s : GroupState) (r : StepResult) → StepFits s r → StepLeaves NodeStored IsBodyBounded s r
+leaves_fitting s r h = record { ended = h.stored; stopped = h.stops; sent = h.messages }
 
-  stops : (k : ℕ) (e : GroupEvent) (why : Option RefusalReason) → Leaves (outcome_of_stop s e r why) (after_step (Some k) s r)
-  stops k e None = nothing_sent (outcome_of_stop s e r None) (after_step (Some k) s r) refl (h.stops k)
-  stops k e (Some why) = nothing_sent (outcome_of_stop s e r (Some why)) (after_step (Some k) s r) refl (h.stops k)
+step_fits_on : (s : GroupState) (r : StepResult) → StepFits s r → (stopped : Bool) (k : ℕ) (e : GroupEvent) → NodeLeaves (outcome_of_step stopped s e r) (after_step (stop_at stopped k) s r)
+step_fits_on s r h = step_leaves NodeStored IsBodyBounded s r (leaves_fitting s r h)
 
-  step_leaves : (stopped : Bool) (k : ℕ) (e : GroupEvent) → Leaves (outcome_of_step stopped s e r) (after_step (stop_at stopped k) s r)
-  step_leaves true k e = stops k e r.refused
-  step_leaves false k e = ends r.refused
-
-node_leaves : (m : Membership) (some : 0 < length m.configs) (before : List BallotEvent) (n : ℕ) (e : NodeEvent) (stopped : Bool) (k : ℕ) (x : NodeState) → NodeStateFits m (world_after m before) n x → FitsNodeEvent e → NodeStored x → Leaves (outcome_at n e stopped x) (state_after n e (stop_at stopped k) x)
-node_leaves m some before n e stopped k Absent fits f h = nothing_sent (outcome_at n e stopped Absent) Absent refl tt
+node_leaves : (m : Membership) (some : 0 < length m.configs) (before : List BallotEvent) (n : ℕ) (e : NodeEvent) (stopped : Bool) (k : ℕ) (x : NodeState) → NodeStateFits m (world_after m before) n x → FitsNodeEvent e → NodeStored x → NodeLeaves (outcome_at n e stopped x) (state_after n e (stop_at stopped k) x)
+node_leaves m some before n e stopped k Absent fits f h = quiet (outcome_at n e stopped Absent) Absent refl tt
 node_leaves m some before n (Comes e) stopped k (Up s) fits f h =
-    step_leaves s (group_step n s e) (steps_fit n s e h (comes_within m some before n s fits.1 e) f) stopped k e
-node_leaves m some before n Crashes stopped k (Up s) fits f h = nothing_sent (outcome_at n Crashes stopped (Up s)) (Down s.stored) refl h
-node_leaves m some before n Halts stopped k (Up s) fits f h = nothing_sent (outcome_at n Halts stopped (Up s)) (Down s.stored) refl h
-node_leaves m some before n Restarts stopped k (Up s) fits f h = nothing_sent (outcome_at n Restarts stopped (Up s)) (Up s) refl h
-node_leaves m some before n (Comes e) stopped k (Down stored) fits f h = nothing_sent (outcome_at n (Comes e) stopped (Down stored)) (Down stored) refl h
-node_leaves m some before n Crashes stopped k (Down stored) fits f h = nothing_sent (outcome_at n Crashes stopped (Down stored)) (Down stored) refl h
-node_leaves m some before n Halts stopped k (Down stored) fits f h = nothing_sent (outcome_at n Halts stopped (Down stored)) (Down stored) refl h
+    step_fits_on s (group_step n s e) (steps_fit n s e h (comes_within m some before n s fits.1 e) f) stopped k e
+node_leaves m some before n Crashes stopped k (Up s) fits f h = quiet (outcome_at n Crashes stopped (Up s)) (Down s.stored) refl h
+node_leaves m some before n Halts stopped k (Up s) fits f h = quiet (outcome_at n Halts stopped (Up s)) (Down s.stored) refl h
+node_leaves m some before n Restarts stopped k (Up s) fits f h = quiet (outcome_at n Restarts stopped (Up s)) (Up s) refl h
+node_leaves m some before n (Comes e) stopped k (Down stored) fits f h = quiet (outcome_at n (Comes e) stopped (Down stored)) (Down stored) refl h
+node_leaves m some before n Crashes stopped k (Down stored) fits f h = quiet (outcome_at n Crashes stopped (Down stored)) (Down stored) refl h
+node_leaves m some before n Halts stopped k (Down stored) fits f h = quiet (outcome_at n Halts stopped (Down stored)) (Down stored) refl h
 node_leaves m some before n Restarts stopped k (Down stored) fits f h =
-    step_leaves (state_of stored) (group_step n (state_of stored) Open) (steps_fit n (state_of stored) Open h tt tt) stopped k Open
+    step_fits_on (state_of stored) (group_step n (state_of stored) Open) (steps_fit n (state_of stored) Open h tt tt) stopped k Open
 
 -- ---- along every history
 
-pub record WorldStored (w : GroupWorld) : Type 0 where
-  pub nodes : (n : ℕ) → NodeStored (w.nodes n)
-  pub messages : AllSentFit w.messages
+abbrev pub WorldStored : GroupWorld → Type 0
+WorldStored = WorldHas NodeStored IsBodyBounded
 
 scene_stored : (m : Membership) (some : 0 < length m.configs) (before : List BallotEvent) (w : GroupWorld) (fits : WorldFits m (world_after m before) w) (e : WorldEvent) (stopped : Bool) (k : ℕ) (scene : Scene) → FitsScene scene → WorldStored w → WorldStored (after_scene w e (outcome_in w stopped scene) (stop_at stopped k) scene)
 scene_stored m some before w fits e stopped k Nowhere f h = h
 scene_stored m some before w fits e stopped k (At i at_node) f h =
-    let state = state_after i at_node (stop_at stopped k) (w.nodes i) in
-    let o = outcome_at i at_node stopped (w.nodes i) in
-    let left = node_leaves m some before i at_node stopped k (w.nodes i) (fits.nodes i) f (h.nodes i) in
-    record {
-      nodes = λ n. one_node (λ (j : ℕ) (y : NodeState). NodeStored y) i n state w.nodes (λ same. left.stored) (λ other. h.nodes n);
-      messages = λ y a. ⊎_elim (λ old. h.messages y old) (λ new. left.sent y new) (among_either y w.messages (sent_in o) a);
-    }
+    world_after_event NodeStored IsBodyBounded w e stopped k i at_node
+    (node_leaves m some before i at_node stopped k (w.nodes i) (fits.nodes i) f (h.nodes i))
+    h
 
 no_group_fits : FitsStored no_group
 no_group_fits =
@@ -216,30 +192,17 @@ pub openings_fit : OpeningsFit
 openings_fit ids rs end h n stored down =
     (steps_fit n (state_of stored) Open (stored_parts_fit ids rs end h n stored (ap stored_of down)) tt tt).commands
 
--- ---- what each event keeps at its node, where what is stored and what comes fits
+-- ---- what is given of each event and its node
 
-abbrev pub FittingKeep : (ℕ → NodeState → Type 0) → Type 0
-FittingKeep N =
-    (m : Membership) → 0 < length m.configs → (before : List BallotEvent) (n : ℕ) (e : NodeEvent) (stopped : Bool) (k : ℕ) (x : NodeState)
-    → NodeStateFits m (world_after m before) n x → MayHappen m (world_after m before) n e x
-    → NodeStored x → FitsNodeEvent e
-    → N n x → N n (state_after n e (stop_at stopped k) x)
+-- what the node has stored and what comes fits
+abbrev pub FitsAt : NodeEvent → NodeState → Type 0
+FitsAt e x = NodeStored x × FitsNodeEvent e
 
-module _ (N : ℕ → NodeState → Type 0) (keep : FittingKeep N) where
-  fitting_scene : (m : Membership) (some : 0 < length m.configs) (before : List BallotEvent) (w : GroupWorld) (fits : WorldFits m (world_after m before) w) (e : WorldEvent) (stopped : Bool) (k : ℕ) (scene : Scene) → MayTakePlace m some w before fits scene → WorldStored w → FitsScene scene → ((n : ℕ) → N n (w.nodes n)) → (n : ℕ) → N n ((after_scene w e (outcome_in w stopped scene) (stop_at stopped k) scene).nodes n)
-  fitting_scene m some before w fits e stopped k Nowhere may stored f h n = h n
-  fitting_scene m some before w fits e stopped k (At i at_node) may stored f h n =
-      let state = state_after i at_node (stop_at stopped k) (w.nodes i) in
-      one_node N i n state w.nodes
-      (λ same. subst (λ j. N j state) (sym same) (keep m some before i at_node stopped k (w.nodes i) (fits.nodes i) may (stored.nodes i) f (h i)))
-      (λ other. h n)
+fits_in : (w : GroupWorld) → WorldStored w → (scene : Scene) → FitsScene scene → GivenIn FitsAt w scene
+fits_in w stored Nowhere fits = tt
+fits_in w stored (At n e) fits = (stored.nodes n, fits)
 
-  pub along_fitting : (ids : List ℕ) → AreNodeIds ids → ((n : ℕ) (b : Bool) → N n (state_or b (Up (state_of no_group)) Absent)) → (rs : List Recorded) (end : GroupWorld) → Replays (new_world ids) rs end → (n : ℕ) → N n (end.nodes n)
-  along_fitting ids small start rs end run =
-      along ids (λ (w : GroupWorld). (n : ℕ) → N n (w.nodes n))
-      (λ early w past r k is h.
-      let f = may_follow ids small early w past r k is in
-      let stored = world_stored ids small early w past in
-      subst (λ o. (n : ℕ) → N n ((after_scene w r.event o (stop_at (is_stop r.outcome) k) (scene_of w r.event)).nodes n)) (sym is)
-      (fitting_scene f.membership f.some f.first.before w f.first.fits r.event (is_stop r.outcome) k (scene_of w r.event) f.may stored (scene_fits w stored.messages r.event) h))
-      (λ n. start n (has_id ids n)) rs end run
+pub all_fits : (ids : List ℕ) → AreNodeIds ids → IsGivenAlong FitsAt ids
+all_fits ids small early w past e =
+    let stored = world_stored ids small early w past in
+    fits_in w stored (scene_of w e) (scene_fits w stored.messages e)

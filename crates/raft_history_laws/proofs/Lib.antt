@@ -11,6 +11,7 @@ pub mod StepLeads
 pub mod StepWaits
 pub mod SmallIds
 pub mod AlongNodes
+pub mod Leaving
 pub mod WaitingTokens
 pub mod SettledNotes
 pub mod StepCommitted

@@ -1,31 +1,30 @@
 -- The numbers that nodes have stored and that were sent are below the limit, along every history.
 use Rattle.std.specs.Prelude.{◌≡◌, ℕ, Bool, true, false, List, [], slice_get, Option, Some, None, refl}
-use Rattle.std.proofs.Common.{sym, subst, arith, ⊎_elim}
-use Rattle.std.proofs.lemmas.List.Elements.{All-contains, All-nil}
+use Rattle.std.proofs.Common.{sym, subst, arith}
+use Rattle.std.proofs.lemmas.List.Elements.{All-nil}
 use Rattle.raft_group_step.specs.Values.{has_id}
 use Rattle.raft_group_step.specs.StoredGroup.{StoredGroup}
 use Rattle.raft_group_step.specs.Message.{Message}
 use Rattle.raft_group_step.specs.GroupState.{GroupState, no_group, state_of}
 use Rattle.raft_group_step.specs.GroupEvent.{GroupCall, GroupEvent, Open}
-use Rattle.raft_group_step.specs.StepResult.{RefusalReason, StepResult}
+use Rattle.raft_group_step.specs.StepResult.{StepResult}
 use Rattle.raft_group_step.specs.Refusal.{numbers_of}
 use Rattle.raft_group_step.specs.GroupStep.{group_step}
 use Rattle.raft_laws.specs.declared.world_event.WorldEvent.{WorldEvent}
 use Rattle.raft_laws.specs.declared.world_event.WorldEvent.TheVariants.{Add, Ask, Crash, Deliver, Halt, Restart}
 use Rattle.raft_laws.specs.GroupWorld.{GroupWorld, NodeState, Absent, Up, Down, Outcome, Recorded, is_stop, new_world, state_or}
-use Rattle.raft_laws.specs.NodeEvent.{NodeEvent, Comes, Crashes, Halts, Restarts, after_step, outcome_at, outcome_of_end, outcome_of_step, outcome_of_stop, state_after}
+use Rattle.raft_laws.specs.NodeEvent.{NodeEvent, Comes, Crashes, Halts, Restarts, after_step, outcome_at, outcome_of_step, state_after}
 use Rattle.raft_laws.specs.GroupRun.{Scene, Nowhere, At, Replays, after_scene, is_same_setup, outcome_in, scene_of, scene_of_call, scene_of_delivery, sent_in, setup_in_call, stop_at}
 use Rattle.raft_laws.specs.VotesRise.{stored_of}
 use Rattle.raft_laws.proofs.BallotAgreement.{same_some}
-use Rattle.raft_laws.proofs.BallotSafe.{Among, among_at}
-use Rattle.raft_laws.proofs.Counts.{among_contains, contains_at}
-use Rattle.raft_laws.proofs.WorldRuns.{among_either}
+use Rattle.raft_laws.proofs.BallotSafe.{among_at}
+use Rattle.raft_laws.proofs.Counts.{contains_at}
 use Rattle.raft_step_laws.specs.Numbers.{BringsLowPrefix, EachPeer, HasLowId, IsLowBody, IsLowPeer, IsLowStored, StepIsLow}
 use Rattle.raft_step_laws.proofs.LowWords.{low_range, none_low}
 use Rattle.raft_step_laws.proofs.LowSteps.{steps_send_low}
 use Rattle.raft_history_laws.specs.Numbers.{NextNumbersAreLow, SentNumbersAreInRange, SentNumbersAreLow, StoredNumbersAreLow}
 use Rattle.raft_history_laws.proofs.Along.{along}
-use Rattle.raft_history_laws.proofs.Later.{one_node}
+use Rattle.raft_history_laws.proofs.Leaving.{AllSent, Leaves, StepLeaves, WorldHas, nothing_sent, step_leaves, world_after_event}
 
 -- ---- events that bring low numbers
 
@@ -39,14 +38,11 @@ abbrev SceneIsLow : Scene → Type 0
 SceneIsLow Nowhere = Unit {0}
 SceneIsLow (At n e) = BringsLow e
 
-abbrev AllSentLow : List Message → Type 0
-AllSentLow ms = (x : Message) → Among x ms → IsLowBody x.body
-
 call_low : (b : Bool) (n : ℕ) (call : GroupCall) (now : ℕ) → SceneIsLow (scene_of_call b n call now)
 call_low true n call now = tt
 call_low false n call now = tt
 
-scene_low : (w : GroupWorld) → AllSentLow w.messages → (e : WorldEvent) → SceneIsLow (scene_of w e)
+scene_low : (w : GroupWorld) → AllSent IsLowBody w.messages → (e : WorldEvent) → SceneIsLow (scene_of w e)
 scene_low w h (Add n) = tt
 scene_low w h (Ask n call now) = call_low (is_same_setup w.setup (setup_in_call call)) n call now
 scene_low w h (Deliver number now) = go (slice_get w.messages number) refl
@@ -65,59 +61,39 @@ NodeIsLow Absent = Unit {0}
 NodeIsLow (Up s) = IsLowStored s.stored × EachPeer IsLowPeer s.role
 NodeIsLow (Down stored) = IsLowStored stored
 
--- what an event leaves and sends
-record Leaves (o : Outcome) (x : NodeState) : Type 0 where
-  node : NodeIsLow x
-  sent : AllSentLow (sent_in o)
+abbrev NodeLeaves : Outcome → NodeState → Type 0
+NodeLeaves = Leaves NodeIsLow IsLowBody
 
-nothing_sent : (o : Outcome) (x : NodeState) → sent_in o ≡ [] → NodeIsLow x → Leaves o x
-nothing_sent o x e h = record { node = h; sent = λ y a. absurd (subst (λ ms. Among y ms) e a) }
+quiet : (o : Outcome) (x : NodeState) → sent_in o ≡ [] → NodeIsLow x → NodeLeaves o x
+quiet = nothing_sent NodeIsLow IsLowBody
 
-module _ (s : GroupState) (r : StepResult) (h : StepIsLow s r) where
-  ends : (why : Option RefusalReason) → Leaves (outcome_of_end r why) (Up r.state)
-  ends None =
-      record {
-        node = (h.stored, h.peers);
-        sent = λ y a. All-contains (λ (z : Message). IsLowBody z.body) r.messages y h.messages (among_contains r.messages y a);
-      }
-  ends (Some why) = nothing_sent (outcome_of_end r (Some why)) (Up r.state) refl (h.stored, h.peers)
+leaves_low : (s : GroupState) (r : StepResult) → StepIsLow s r → StepLeaves NodeIsLow IsLowBody s r
+leaves_low s r h = record { ended = (h.stored, h.peers); stopped = h.stops; sent = h.messages }
 
-  stops : (k : ℕ) (e : GroupEvent) (why : Option RefusalReason) → Leaves (outcome_of_stop s e r why) (after_step (Some k) s r)
-  stops k e None = nothing_sent (outcome_of_stop s e r None) (after_step (Some k) s r) refl (h.stops k)
-  stops k e (Some why) = nothing_sent (outcome_of_stop s e r (Some why)) (after_step (Some k) s r) refl (h.stops k)
+step_is_low : (s : GroupState) (r : StepResult) → StepIsLow s r → (stopped : Bool) (k : ℕ) (e : GroupEvent) → NodeLeaves (outcome_of_step stopped s e r) (after_step (stop_at stopped k) s r)
+step_is_low s r h = step_leaves NodeIsLow IsLowBody s r (leaves_low s r h)
 
-  step_leaves : (stopped : Bool) (k : ℕ) (e : GroupEvent) → Leaves (outcome_of_step stopped s e r) (after_step (stop_at stopped k) s r)
-  step_leaves true k e = stops k e r.refused
-  step_leaves false k e = ends r.refused
-
-node_leaves : (n : ℕ) (e : NodeEvent) (stopped : Bool) (k : ℕ) (x : NodeState) → BringsLow e → NodeIsLow x → Leaves (outcome_at n e stopped x) (state_after n e (stop_at stopped k) x)
-node_leaves n e stopped k Absent f h = nothing_sent (outcome_at n e stopped Absent) Absent refl tt
-node_leaves n (Comes e) stopped k (Up s) f h = step_leaves s (group_step n s e) (steps_send_low n s e h.0 h.1 f) stopped k e
-node_leaves n Crashes stopped k (Up s) f h = nothing_sent (outcome_at n Crashes stopped (Up s)) (Down s.stored) refl h.0
-node_leaves n Halts stopped k (Up s) f h = nothing_sent (outcome_at n Halts stopped (Up s)) (Down s.stored) refl h.0
-node_leaves n Restarts stopped k (Up s) f h = nothing_sent (outcome_at n Restarts stopped (Up s)) (Up s) refl h
-node_leaves n (Comes e) stopped k (Down stored) f h = nothing_sent (outcome_at n (Comes e) stopped (Down stored)) (Down stored) refl h
-node_leaves n Crashes stopped k (Down stored) f h = nothing_sent (outcome_at n Crashes stopped (Down stored)) (Down stored) refl h
-node_leaves n Halts stopped k (Down stored) f h = nothing_sent (outcome_at n Halts stopped (Down stored)) (Down stored) refl h
+node_leaves : (n : ℕ) (e : NodeEvent) (stopped : Bool) (k : ℕ) (x : NodeState) → BringsLow e → NodeIsLow x → NodeLeaves (outcome_at n e stopped x) (state_after n e (stop_at stopped k) x)
+node_leaves n e stopped k Absent f h = quiet (outcome_at n e stopped Absent) Absent refl tt
+node_leaves n (Comes e) stopped k (Up s) f h = step_is_low s (group_step n s e) (steps_send_low n s e h.0 h.1 f) stopped k e
+node_leaves n Crashes stopped k (Up s) f h = quiet (outcome_at n Crashes stopped (Up s)) (Down s.stored) refl h.0
+node_leaves n Halts stopped k (Up s) f h = quiet (outcome_at n Halts stopped (Up s)) (Down s.stored) refl h.0
+node_leaves n Restarts stopped k (Up s) f h = quiet (outcome_at n Restarts stopped (Up s)) (Up s) refl h
+node_leaves n (Comes e) stopped k (Down stored) f h = quiet (outcome_at n (Comes e) stopped (Down stored)) (Down stored) refl h
+node_leaves n Crashes stopped k (Down stored) f h = quiet (outcome_at n Crashes stopped (Down stored)) (Down stored) refl h
+node_leaves n Halts stopped k (Down stored) f h = quiet (outcome_at n Halts stopped (Down stored)) (Down stored) refl h
 node_leaves n Restarts stopped k (Down stored) f h =
-    step_leaves (state_of stored) (group_step n (state_of stored) Open) (steps_send_low n (state_of stored) Open h tt tt) stopped k Open
+    step_is_low (state_of stored) (group_step n (state_of stored) Open) (steps_send_low n (state_of stored) Open h tt tt) stopped k Open
 
 -- ---- along every history
 
-record WorldIsLow (w : GroupWorld) : Type 0 where
-  nodes : (n : ℕ) → NodeIsLow (w.nodes n)
-  messages : AllSentLow w.messages
+abbrev WorldIsLow : GroupWorld → Type 0
+WorldIsLow = WorldHas NodeIsLow IsLowBody
 
 scene_keeps : (w : GroupWorld) (e : WorldEvent) (stopped : Bool) (k : ℕ) (scene : Scene) → SceneIsLow scene → WorldIsLow w → WorldIsLow (after_scene w e (outcome_in w stopped scene) (stop_at stopped k) scene)
 scene_keeps w e stopped k Nowhere f h = h
 scene_keeps w e stopped k (At i at_node) f h =
-    let state = state_after i at_node (stop_at stopped k) (w.nodes i) in
-    let o = outcome_at i at_node stopped (w.nodes i) in
-    let left = node_leaves i at_node stopped k (w.nodes i) f (h.nodes i) in
-    record {
-      nodes = λ n. one_node (λ (j : ℕ) (y : NodeState). NodeIsLow y) i n state w.nodes (λ same. left.node) (λ other. h.nodes n);
-      messages = λ y a. ⊎_elim (λ old. h.messages y old) (λ new. left.sent y new) (among_either y w.messages (sent_in o) a);
-    }
+    world_after_event NodeIsLow IsLowBody w e stopped k i at_node (node_leaves i at_node stopped k (w.nodes i) f (h.nodes i)) h
 
 no_group_low : IsLowStored no_group
 no_group_low = record { vote = omega arith; purged = none_low; log = All-nil HasLowId; snapshot = tt }

@@ -37,7 +37,8 @@ use Rattle.raft_step_laws.proofs.LeaderSends.{finished_sends, same_lead, settled
 use Rattle.raft_step_laws.proofs.PeerEvents.{PeersThen, known, peers_then, unknown}
 use Rattle.raft_step_laws.proofs.Sending.{finished_adds}
 use Rattle.raft_history_laws.proofs.CommittedAtOnce.{node_then}
-use Rattle.raft_history_laws.proofs.FittingWorlds.{FittingKeep, along_fitting, comes_within}
+use Rattle.raft_history_laws.proofs.AlongNodes.{NodesKeepGiven, along_given}
+use Rattle.raft_history_laws.proofs.FittingWorlds.{FitsAt, all_fits, comes_within}
 use Rattle.raft_history_laws.proofs.NotedIds.{leads_all_at}
 use Rattle.raft_history_laws.proofs.PeersInOrder.{AllInOrder, CoversFront, IsInOrder, RoleInOrder, all_serve_in_order, event_in_order, longer_in_order, new_in_order}
 use Rattle.raft_history_laws.proofs.ServedNodes.{has_own_vote, opens_own_vote}
@@ -187,19 +188,19 @@ opened_ordered m some own before st fits stored =
           (λ lead lead' a b keeps. absurd (let no : Follower ≡ Leader lead = a in cc));
     }
 
-nodes_ordered : FittingKeep NodeOrdered
-nodes_ordered m some before n e stopped k Absent fits may stored f h = tt
-nodes_ordered m some before n (Comes e) stopped k (Up s) fits may stored f h =
+nodes_ordered : NodesKeepGiven FitsAt NodeOrdered
+nodes_ordered m some before n e stopped k Absent fits may given h = tt
+nodes_ordered m some before n (Comes e) stopped k (Up s) fits may given h =
     stops_ordered n stopped k s (group_step n s e)
     (⊎_elim
-    (λ event_fits. event_ordered m some n fits.0 before s e fits.1 event_fits stored f h (comes_wait m some n fits.0 before s e fits.1 may h.waits))
+    (λ event_fits. event_ordered m some n fits.0 before s e fits.1 event_fits given.0 given.1 h (comes_wait m some n fits.0 before s e fits.1 may h.waits))
     (λ no. subst (λ o. OrderedNode (step_unless o n s e).state) (sym no.1) h)
     may)
-nodes_ordered m some before n Restarts stopped k (Up s) fits may stored f h = h
-nodes_ordered m some before n other stopped k (Up s) fits may stored f h = tt
-nodes_ordered m some before n Restarts stopped k (Down st) fits may stored f h =
-    stops_ordered n stopped k (state_of st) (group_step n (state_of st) Open) (opened_ordered m some n before st fits stored)
-nodes_ordered m some before n other stopped k (Down st) fits may stored f h = tt
+nodes_ordered m some before n Restarts stopped k (Up s) fits may given h = h
+nodes_ordered m some before n other stopped k (Up s) fits may given h = tt
+nodes_ordered m some before n Restarts stopped k (Down st) fits may given h =
+    stops_ordered n stopped k (state_of st) (group_step n (state_of st) Open) (opened_ordered m some n before st fits given.0)
+nodes_ordered m some before n other stopped k (Down st) fits may given h = tt
 
 start_ordered : (n : ℕ) (b : Bool) → NodeOrdered n (state_or b (Up (state_of no_group)) Absent)
 start_ordered n true =
@@ -208,5 +209,5 @@ start_ordered n false = tt
 
 pub peers_in_order : (ids : List ℕ) → AreNodeIds ids → (rs : List Recorded) (end : GroupWorld) → Replays (new_world ids) rs end → (n : ℕ) (s : GroupState) → end.nodes n ≡ Up s → RoleInOrder s.stored s.role
 peers_in_order ids small rs end run n s up =
-    let node : OrderedNode s = subst (NodeOrdered n) up (along_fitting NodeOrdered nodes_ordered ids small start_ordered rs end run n) in
+    let node : OrderedNode s = subst (NodeOrdered n) up (along_given FitsAt NodeOrdered nodes_ordered ids small (all_fits ids small) start_ordered rs end run n) in
     node.order

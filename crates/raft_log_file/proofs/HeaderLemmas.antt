@@ -1,5 +1,5 @@
 -- The header of a file is told by as many bytes as the longest one has.
-use Rattle.std.proofs.Common.{◌≡◌, ◌⊎◌, inl, inr, ℕ, ◌+◌, ◌-◌, ◌<◌, ◌≤◌, cond, not, nat_lt, eqb, List, length, take, drop, Result, Ok, Err, refl, sym, ap, ◌∙◌, arith, length-drop}
+use Rattle.std.proofs.Common.{◌≡◌, ◌⊎◌, inl, inr, ℕ, ◌<◌, ◌≤◌, cond, not, nat_lt, eqb, List, length, take, drop, Result, Ok, Err, refl, sym, ap, ◌∙◌, arith, length-drop}
 use Rattle.std.proofs.lemmas.Bool.{le-ltb, cases_lt}
 use Rattle.std.proofs.lemmas.List.{take-take, drop-take, take_all, length-take-le}
 use Rattle.std.specs.Int.{w64, from_be_bytes}

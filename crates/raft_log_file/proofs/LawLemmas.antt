@@ -1,28 +1,24 @@
 -- What a file of written batches reads as.
-use Rattle.std.proofs.Common.{◌≡◌, ◌⊎◌, inl, inr, ℕ, ◌+◌, ◌^◌, ◌<◌, ◌≤◌, List, [], ◌∷◌, ◌++◌, length, get_or, take, drop, Option, Some, None, Result, Ok, Err, refl, sym, ap, subst, ◌∙◌, arith, append_assoc, length-append, add-zero, add_assoc}
+use Rattle.std.proofs.Common.{◌≡◌, ℕ, ◌+◌, ◌^◌, ◌<◌, List, [], ◌∷◌, ◌++◌, length, drop, Option, Ok, refl, sym, ap, subst, ◌∙◌, arith, append_assoc, length-append, add-zero}
 use Rattle.std.specs.Prelude.{IfSome, MatchResult}
 use Rattle.std.specs.Int.{w32, to_be_bytes}
 use Rattle.std.proofs.lemmas.List.{drop_at}
-use Rattle.raft_log_records.specs.declared.item.EntryIndex.{EntryIndex}
 use Rattle.raft_log_records.specs.declared.version.Version.{Version}
 use Rattle.raft_log_records.specs.declared.version.Version.TheVariants.{V1, V2}
 use Rattle.raft_log_records.specs.declared.file_id.FileId.{FileId}
 use Rattle.raft_log_records.specs.Checksum.{crc32_of}
-use Rattle.raft_log_records.specs.Item.{Item}
 use Rattle.raft_log_records.specs.Places.{placed}
-use Rattle.raft_log_records.specs.Reading.{record_at}
 use Rattle.raft_log_records.specs.Signature.{signature_of}
 use Rattle.raft_log_records.specs.Spelling.{AreItems, block_of, lengths, record_len, sealed, signed, spell_block, spell_items, spell_record}
 use Rattle.raft_bytes.specs.Bytes.{AreBytes}
 use Rattle.raft_log_records.proofs.Placed.{placed_bytes}
 use Rattle.raft_log_records.proofs.RecordAgain.{back_bytes, record_again}
 use Rattle.raft_log_disk.specs.declared.format.LogFileFormat.{LogFileFormat}
-use Rattle.raft_log_disk.specs.Disk.{FileState, after_sync}
+use Rattle.raft_log_disk.specs.Disk.{after_sync}
 use Rattle.raft_log_disk.specs.Format.{IsSpellable, header_at, header_len, spelled_header}
-use Rattle.raft_log_disk.specs.Image.{IsStill, IsFileImage}
 use Rattle.raft_log_disk.proofs.DiskLemmas.{still_synced, still_is_left}
 use Rattle.raft_log_disk.proofs.HeaderLemmas.{header_again}
-use Rattle.raft_log_file.specs.Reading.{Reading, batch_at, contents, file_reading, read_behind, read_from, read_or, with_batch}
+use Rattle.raft_log_file.specs.Reading.{Reading, batch_at, contents, file_reading, read_from, with_batch}
 use Rattle.raft_log_file.specs.Laws.{Batch, AreBatches, ReadsFront, SyncedFilesReadTheSame, StillFilesReadTheSame, WrittenBatchesAreRead, file_text, spelled_batches}
 use Rattle.raft_log_file.proofs.HeaderLemmas.{length-header}
 use Rattle.raft_log_file.proofs.WalkLemmas.{from_found}

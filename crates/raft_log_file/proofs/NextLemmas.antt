@@ -1,6 +1,6 @@
 -- One step of a reader: a batch, padding, the end or a fault.
-use Rattle.std.proofs.Common.{◌≡◌, ◌⊎◌, inl, inr, ℕ, ◌+◌, ◌-◌, ◌<◌, ◌≤◌, Bool, true, false, cond, ltb, eqb, List, [], ◌∷◌, length, take, drop, Option, Some, None, Result, Ok, Err, refl, sym, ap, subst, ◌∙◌, arith, length-drop}
-use Rattle.std.specs.Prelude.{nat_lt, ◌==◌}
+use Rattle.std.proofs.Common.{◌≡◌, ℕ, ◌+◌, ◌<◌, ◌≤◌, Bool, true, false, cond, ltb, List, [], length, take, drop, Option, Some, None, Ok, Err, refl, sym, ap, subst, ◌∙◌, arith, length-drop}
+use Rattle.std.specs.Prelude.{◌==◌}
 use Rattle.std.specs.List.{list_all}
 use Rattle.std.proofs.lemmas.Bool.{ltb-false}
 use Rattle.std.proofs.lemmas.List.{drop-drop}
@@ -15,7 +15,7 @@ use Rattle.raft_log_disk.specs.declared.format.LogFileFormat.{LogFileFormat}
 use Rattle.raft_log_disk.specs.Chance.{gap, padding}
 use Rattle.raft_log_file.specs.declared.batches.ReadBatch.{ReadBatch}
 use Rattle.raft_log_file.specs.Reading.{Reading, stopped, with_batch, batch_at, read_from, read_behind}
-use Rattle.raft_log_file.specs.Reader.{HoldsBytes, IsBlock, IsFileBlock, FindsHere, Next, Stops, batch_of}
+use Rattle.raft_log_file.specs.Reader.{HoldsBytes, IsBlock, IsFileBlock, FindsHere, Next}
 use Rattle.raft_log_file.proofs.WalkLemmas.{Read, record_sized, from_found, from_end, from_fault, from_padding}
 
 abbrev Signed : FileId → LogFileFormat → Option ℕ

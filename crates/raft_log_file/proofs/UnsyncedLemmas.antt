@@ -1,11 +1,10 @@
 -- Several records that were written and not synced: a crash leaves a front of them.
-use Rattle.std.proofs.Common.{◌≡◌, ◌⊎◌, inl, inr, ⊎_elim, ℕ, zero, suc, ◌+◌, ◌-◌, ◌^◌, ◌<◌, ◌≤◌, Bool, true, false, cond, nat_lt, List, [], ◌∷◌, ◌++◌, length, get_or, take, drop, Option, Some, None, Result, Ok, Err, refl, sym, ap, subst, ◌∙◌, arith, append_assoc, length-append, length-take, length-drop, take-append-drop, add-zero, ext_get_or}
+use Rattle.std.proofs.Common.{◌≡◌, ◌⊎◌, inl, inr, ⊎_elim, ℕ, zero, suc, ◌+◌, ◌-◌, ◌^◌, ◌<◌, ◌≤◌, Bool, true, false, cond, nat_lt, List, [], ◌∷◌, ◌++◌, length, get_or, take, drop, Option, Some, Result, Ok, Err, refl, sym, ap, subst, ◌∙◌, arith, append_assoc, length-append, length-take, length-drop, take-append-drop, add-zero, ext_get_or}
 use Rattle.std.specs.Prelude.{IfSome, MatchResult, replicate, ◌==◌}
-use Rattle.std.specs.List.{AllByRecursion, list_all, flat_map}
+use Rattle.std.specs.List.{AllByRecursion, list_all}
 use Rattle.std.proofs.lemmas.List.{append-nil, get_or-take, take_all, take_at, drop_at, length-replicate, replicate-append-replicate}
 use Rattle.std.proofs.lemmas.List.Concat.{flat_map-append}
 use Rattle.raft_log_records.specs.Item.{with_bytes}
-use Rattle.raft_log_records.specs.declared.item.EntryIndex.{EntryIndex}
 use Rattle.raft_log_records.specs.declared.error.RecordFault.{RecordFault}
 use Rattle.raft_log_records.specs.declared.error.RecordFault.TheVariants.{BadLength}
 use Rattle.raft_log_records.specs.declared.version.Version.{Version}
@@ -14,21 +13,21 @@ use Rattle.raft_log_records.specs.declared.file_id.FileId.{FileId}
 use Rattle.raft_log_records.specs.Places.{placed}
 use Rattle.raft_log_records.specs.Reading.{record_at}
 use Rattle.raft_log_records.specs.Signature.{signature_of}
-use Rattle.raft_log_records.specs.Spelling.{AreItems, block_of, record_len, spell_block, spell_items, lengths, spell_record}
+use Rattle.raft_log_records.specs.Spelling.{AreItems, block_of, record_len, spell_record}
 use Rattle.raft_bytes.specs.Bytes.{AreBytes}
 use Rattle.raft_bytes.proofs.Bytes.{AreBytes-drop}
 use Rattle.raft_log_records.proofs.Locality.{zeros_are_no_record}
 use Rattle.raft_log_records.proofs.Placed.{placed_bytes}
 use Rattle.raft_log_records.proofs.RecordAgain.{back_bytes, record_again}
 use Rattle.raft_log_disk.specs.declared.format.LogFileFormat.{LogFileFormat}
-use Rattle.raft_log_disk.specs.Disk.{FileState, IsIn, after_allocate, after_sync, after_write}
-use Rattle.raft_log_disk.specs.Format.{IsSpellable, header_at, header_len, spelled_header}
+use Rattle.raft_log_disk.specs.Disk.{FileState, IsIn}
+use Rattle.raft_log_disk.specs.Format.{header_at, header_len, spelled_header}
 use Rattle.raft_log_disk.specs.Image.{IsFileImage, IsOutside}
-use Rattle.raft_log_disk.specs.Chance.{AreWritten, IsGenuine, IsHeaderWritten, IsWritten, LengthIs, Stands, gap, padding}
+use Rattle.raft_log_disk.specs.Chance.{AreWritten, IsHeaderWritten, IsWritten, LengthIs, Stands, gap, padding}
 use Rattle.raft_log_disk.proofs.ChanceLemmas.{step}
-use Rattle.raft_log_file.specs.Reading.{Reading, batch_at, contents, file_reading, read_from, read_or, stopped, with_batch}
+use Rattle.raft_log_file.specs.Reading.{Reading, contents, file_reading, read_from}
 use Rattle.raft_log_file.specs.Laws.{Batch, AreBatches, ReadsFront, file_text, spelled_batches}
-use Rattle.raft_log_file.specs.Unsynced.{IsRecord, IsUnsynced, ReadsAs, RecycledFilesBegin, RoomStaysUnread, SyncedBatchesBegin, UnsyncedBatchesAreAFront, UnsyncedBatchesGrow, places}
+use Rattle.raft_log_file.specs.Unsynced.{IsRecord, ReadsAs, RecycledFilesBegin, RoomStaysUnread, SyncedBatchesBegin, UnsyncedBatchesAreAFront, UnsyncedBatchesGrow, places}
 use Rattle.raft_log_file.proofs.HeaderLemmas.{length-header}
 use Rattle.raft_log_file.proofs.LawLemmas.{header_read, length-spelled, signature_fits, written_batches_are_read}
 use Rattle.raft_log_file.proofs.WalkLemmas.{Read, from_end, from_fault, from_found, record_sized}
@@ -106,7 +105,7 @@ no_gap o n true z is = refl
 no_gap o n false true is = is
 no_gap o n false false is = refl
 
-no_padding : (at : ℕ) (bytes : List ℕ) → padding 0 at bytes ≡ 0
+pub no_padding : (at : ℕ) (bytes : List ℕ) → padding 0 at bytes ≡ 0
 no_padding at bytes = no_gap 0 (gap 0 at) (nat_lt (length bytes) (gap 0 at)) (list_all (λ b. b == 0) (take (gap 0 at) bytes)) refl
 
 none_read : (signature : Option ℕ) (at : ℕ) (bytes : List ℕ) (f : RecordFault) → record_at signature bytes ≡ Err f → contents (read_from 0 signature at bytes).batches ≡ []
@@ -147,7 +146,7 @@ one_more signature at n u us tail read is same len (k, rest) = (
     with_items x = with_bytes x.1 x.0
 
 -- what follows of a walk that finds a record
-walked : (f : FileState) (signature : Option ℕ) (j at : ℕ) (tail : List ℕ) (read : Read) → record_at signature tail ≡ Ok read → length tail ≤ j → AreWritten f 0 signature j at tail
+pub walked : (f : FileState) (signature : Option ℕ) (j at : ℕ) (tail : List ℕ) (read : Read) → record_at signature tail ≡ Ok read → length tail ≤ j → AreWritten f 0 signature j at tail
     → IsWritten f at (take read.2 tail) × ((i : ℕ) × (length (drop read.2 tail) ≤ i) × AreWritten f 0 signature i (at + read.2) (drop read.2 tail))
 walked f signature zero at tail read is short walk = let sized = record_sized signature tail read is in absurd (omega (arith, sized.least, sized.within, short))
 walked f signature (suc i) at tail read is short walk =
@@ -224,12 +223,12 @@ image_front f text bytes kept least outside image =
     get_or-take at bytes i 0 below ∙ image.same i (omega (arith, below, low, least)) (outside i below) ∙ sym (get_or-take at f.kept i 0 below) ∙ ap (λ (l : List ℕ). get_or l i 0) kept) in
     sym (take-append-drop at bytes) ∙ ap (λ (l : List ℕ). l ++ drop at bytes) front
 
-each_byte : (bytes : List ℕ) → AllByRecursion (λ b. b < 256) bytes → AreBytes bytes
+pub each_byte : (bytes : List ℕ) → AllByRecursion (λ b. b < 256) bytes → AreBytes bytes
 each_byte [] fits i = omega arith
 each_byte (b ∷ bytes) fits zero = fits.0
 each_byte (b ∷ bytes) fits (suc i) = each_byte bytes fits.1 i
 
-told_of : {X E : Type 0} (r : Result X E) (x : X) (P : X → Type 0) (Q : E → Type 0) → r ≡ Ok x → MatchResult r P Q → P x
+pub told_of : {X E : Type 0} (r : Result X E) (x : X) (P : X → Type 0) (Q : E → Type 0) → r ≡ Ok x → MatchResult r P Q → P x
 told_of (Ok y) x P Q is h = let same : y ≡ x = cc in subst P same h
 told_of (Err e) x P Q is h = absurd cc
 

@@ -1,23 +1,20 @@
 -- What a file reads as, step by step, and by how many of its bytes each step is told.
-use Rattle.std.proofs.Common.{◌≡◌, ◌≢◌, ◌⊎◌, inl, inr, ℕ, zero, suc, ◌+◌, ◌-◌, ◌<◌, ◌≤◌, Bool, true, false, cond, ltb, eqb, List, [], ◌∷◌, length, take, drop, Option, Some, None, Result, Ok, Err, refl, sym, ap, subst, ◌∙◌, arith, length-drop, length-take, take-append-drop, add-one}
+use Rattle.std.proofs.Common.{◌≡◌, ◌≢◌, ◌⊎◌, inl, inr, ℕ, zero, suc, ◌+◌, ◌-◌, ◌<◌, ◌≤◌, Bool, true, false, cond, ltb, eqb, List, [], ◌∷◌, length, take, drop, Option, Some, None, Result, Ok, Err, refl, sym, ap, ◌∙◌, arith, length-drop, length-take, take-append-drop}
 use Rattle.std.specs.Prelude.{◌==◌, if◌then◌else◌}
-use Rattle.std.proofs.lemmas.Bool.{eq-eqb, ne_eqb, eqb-true, eqb-false, ltb-false}
-use Rattle.std.proofs.lemmas.List.{take_all, drop-drop}
+use Rattle.std.proofs.lemmas.Bool.{eq-eqb, ne_eqb, eqb-false, ltb-false}
+use Rattle.std.proofs.lemmas.List.{take_all}
 use Rattle.raft_log_records.specs.declared.item.EntryIndex.{EntryIndex}
 use Rattle.raft_log_records.specs.declared.error.RecordFault.{RecordFault}
 use Rattle.raft_log_records.specs.declared.error.RecordFault.TheVariants as fault
-use Rattle.raft_log_records.specs.declared.file_id.FileId.{FileId}
 use Rattle.raft_log_records.specs.Item.{Item}
 use Rattle.std.specs.Int.{w32}
 use Rattle.std.specs.Prelude.{not}
 use Rattle.raft_log_records.specs.Reading.{◌>>=◌, number_or, unsealed, body_at, agrees, block_at, head_at, len_at, header_at, record_at}
 use Rattle.raft_bytes.proofs.Bytes.{bind_ok, guard_ok, guard_then}
 use Rattle.raft_log_records.proofs.RecordTaken.{tests, tests_ok}
-use Rattle.raft_log_records.specs.Signature.{signature_of}
 use Rattle.raft_log_records.proofs.Locality.{lengths_stay, lengths_need_eight, answers_stay, records_need_their_length, records_have_their_length}
-use Rattle.raft_log_disk.specs.declared.format.LogFileFormat.{LogFileFormat}
 use Rattle.raft_log_disk.specs.Chance.{padding}
-use Rattle.raft_log_file.specs.Reading.{FileBatch, Reading, stopped, with_batch, batch_at, read_or, read_steps, read_from, read_behind}
+use Rattle.raft_log_file.specs.Reading.{stopped, with_batch, batch_at, read_steps, read_from}
 
 abbrev pub Read : Type 0
 Read = List (Item EntryIndex) × List ℕ × ℕ

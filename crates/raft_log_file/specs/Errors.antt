@@ -7,9 +7,8 @@ use Rattle.raft_log_disk.specs.declared.format.LogFileFormat.{LogFileFormat}
 use Rattle.raft_log_disk.specs.declared.format.HeaderFault.TheVariants.{CutShort}
 use Rattle.raft_log_disk.specs.Format.{header_at, header_len}
 use Rattle.raft_log_files.specs.declared.error.Error.{Error}
-use Rattle.raft_log_files.specs.declared.error.Error.TheVariants.{Io, Corruption, Memory, Other, InvalidArgument, TryAgain, EntryCompacted, EntryNotFound}
-use Rattle.raft_log_files.specs.declared.error.DiskRefusal.TheVariants.{Refused, NoSpace}
-use Rattle.raft_log_files.specs.declared.error.OtherFault.{OtherFault}
+use Rattle.raft_log_files.specs.declared.error.Error.TheVariants.{Io, Corruption, Memory, Other}
+use Rattle.raft_log_files.specs.declared.error.DiskRefusal.TheVariants.{Refused}
 use Rattle.raft_log_files.specs.declared.error.OtherFault.TheVariants.{FileGone}
 use Rattle.raft_log_files.specs.declared.error.CorruptionFault.TheVariants.{Header, Record}
 

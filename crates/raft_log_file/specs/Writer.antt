@@ -1,13 +1,11 @@
 -- What a writer makes of its file.
 use Rattle.std.specs.Prelude.{◌≡◌, ◌⊎◌, ℕ, ◌+◌, ◌-◌, ◌<◌, ◌≤◌, ◌^◌, min, max, List, length, Result, Ok, Err, IsErrOf, IsTrue, Bool, false}
-use Rattle.raft_log_records.specs.declared.version.Version.{Version}
 use Rattle.raft_log_disk.specs.declared.fault.IoFault.{IoFault}
 use Rattle.raft_log_disk.specs.declared.fault.IoFault.TheVariants.{NoSpace, Refused}
 use Rattle.raft_log_disk.specs.declared.format.LogFileFormat.{LogFileFormat}
-use Rattle.raft_log_disk.specs.declared.fault.Fd.{Fd}
 use Rattle.raft_log_disk.specs.Format.{header_len, spelled_header}
 use Rattle.raft_log_disk.specs.Cause.{Meter}
-use Rattle.raft_log_disk.specs.Disk.{FileState, Disk, RefusedWrite, RefusedAllocate, RefusedTruncate, with_file, after_write, after_allocate, after_truncate, after_sync, put, filled, resized}
+use Rattle.raft_log_disk.specs.Disk.{Disk, RefusedWrite, RefusedAllocate, RefusedTruncate, with_file, after_write, after_allocate, after_truncate, after_sync, put, filled, resized}
 use Rattle.raft_log_file.specs.declared.writer.LogFileWriter.{LogFileWriter}
 
 -- the file reaches as far as the writer takes it to

@@ -45,6 +45,9 @@ queued_so : (queue : LogQueue) (seq : ℕ) → queued (suffix_of queue) seq ≡ 
 queued_so Append seq = refl
 queued_so Rewrite seq = refl
 
+pub both : {a b : Bool} → a ≡ true → b ≡ true → (a && b) ≡ true
+both x y = (λ i. x i && y i)
+
 id_said : (id : FileId) (name : Text) → IsFileSeq id.seq → name ≡ suffixed id.seq (suffix_of id.queue) → (length name ≡ 24) × (file_id_of name ≡ Some id)
 id_said id name below is =
     let s = name_split id.seq (suffix_of id.queue) name below is in
@@ -52,9 +55,6 @@ id_said id name below is =
       long,
       (λ i. cond (both (eq-eqb (length name) 24 long) s.0.front i) (queued (s.0.behind i) (s.1 i)) None) ∙ queued_so id.queue id.seq,
     )
-  where
-    both : {a b : Bool} → a ≡ true → b ≡ true → (a && b) ≡ true
-    both x y = (λ i. x i && y i)
 
 -- the path of a log file in a directory says which it is
 pub path_says : (directory name path : Text) (id : FileId) → IsFileSeq id.seq → name ≡ log_file_name id → path ≡ directory ++ 47 ∷ name → log_file_of path ≡ Some id
@@ -269,7 +269,7 @@ next_holds p d e g f w id pipe is plain created begun s h =
 
 -- ---- the pipe can be used
 
-consecutive_push : (fs : List File) (f : File) → AreConsecutive fs f.seq → AreConsecutive (fs ++ f ∷ []) (f.seq + 1)
+pub consecutive_push : (fs : List File) (f : File) → AreConsecutive fs f.seq → AreConsecutive (fs ++ f ∷ []) (f.seq + 1)
 consecutive_push fs f all = pushed fs f.seq all refl
   where
     pushed : (gs : List File) (last : ℕ) → AreConsecutive gs last → (last ≡ f.seq) → AreConsecutive (gs ++ f ∷ []) (last + 1)

@@ -54,11 +54,11 @@ without_in : (es : Names) (x : Text × ℕ) (path : Text) → IsIn x (without es
 without_in [] x path there = there
 without_in (e ∷ es) x path there = left_step (same_text e.0 path) e x es (without es path) (without_in es x path) there
 
+pub same_number : (m n : ℕ) → (let o : Option ℕ = Some m in o ≡ Some n) → m ≡ n
+same_number m n e = cc
+
 found_step : (b : Bool) (e : Text × ℕ) (es : Names) (path : Text) (fd : ℕ) → (fd_of es path ≡ Some fd → (other : Text) × IsIn (other, fd) es) → cond b (Some e.1) (fd_of es path) ≡ Some fd → (other : Text) × IsIn (other, fd) (e ∷ es)
 found_step true e es path fd next is = (e.0, inl (ap (λ (n : ℕ). (e.0, n)) (same_number fd e.1 (sym is))))
-  where
-    same_number : (m n : ℕ) → (let o : Option ℕ = Some m in o ≡ Some n) → m ≡ n
-    same_number m n e = cc
 found_step false e es path fd next is = let one = next is in (one.0, inr one.1)
 
 fd_there : (es : Names) (path : Text) (fd : ℕ) → fd_of es path ≡ Some fd → (other : Text) × IsIn (other, fd) es
@@ -70,9 +70,6 @@ apart_step : (b : Bool) (e x : Text × ℕ) (es : Names) (path : Text) (next fd 
 apart_step true e x es path next fd named is there on =
     let first : e.1 ≡ fd = same_number e.1 fd is in
     subst (λ n. x.1 ≢ n) first (in_other x es e.1 (named_first e es next named).number there)
-  where
-    same_number : (m n : ℕ) → (let o : Option ℕ = Some m in o ≡ Some n) → m ≡ n
-    same_number m n e = cc
 apart_step false e x es path next fd named is (inl same) on =
     let one = fd_there es path fd is in
     λ n. in_other (one.0, fd) es e.1 (named_first e es next named).number one.1 (sym n ∙ ap (λ (y : Text × ℕ). y.1) same)
@@ -96,9 +93,6 @@ is_found (e ∷ es) path fd there none = not_step (same_text e.0 path) e es path
 same_path_step : (b : Bool) (e : Text × ℕ) (es : Names) (path : Text) (fd : ℕ) → same_text e.0 path ≡ b → (fd_of es path ≡ Some fd → IsIn (path, fd) es) → cond b (Some e.1) (fd_of es path) ≡ Some fd → IsIn (path, fd) (e ∷ es)
 same_path_step true e es path fd is next found =
     inl (λ i. (sym ((bytes_decides e.0 path).0 is) i, same_number fd e.1 (sym found) i))
-  where
-    same_number : (m n : ℕ) → (let o : Option ℕ = Some m in o ≡ Some n) → m ≡ n
-    same_number m n e = cc
 same_path_step false e es path fd is next found = inr (next found)
 
 found_in : (es : Names) (path : Text) (fd : ℕ) → fd_of es path ≡ Some fd → IsIn (path, fd) es

@@ -1,5 +1,5 @@
 -- The batches of a file lie before the place where reading ended, so a cut there leaves them.
-use Rattle.std.proofs.Common.{◌≡◌, inl, inr, ℕ, zero, suc, ◌+◌, ◌-◌, ◌<◌, ◌≤◌, Bool, true, false, eqb, List, [], ◌∷◌, ◌++◌, length, get_or, take, drop, Option, Result, Ok, Err, refl, sym, ap, subst, ◌∙◌, arith, length-drop}
+use Rattle.std.proofs.Common.{◌≡◌, inl, inr, ℕ, zero, suc, ◌+◌, ◌-◌, ◌<◌, ◌≤◌, Bool, true, false, eqb, List, [], ◌∷◌, ◌++◌, length, take, drop, Option, Result, Ok, Err, refl, sym, ap, subst, ◌∙◌, arith, length-drop}
 use Rattle.std.specs.List.{AllByRecursion}
 use Rattle.std.proofs.lemmas.Bool.{eqb-true, eqb-false}
 use Rattle.std.proofs.lemmas.List.{drop-take, take-take}
@@ -15,6 +15,7 @@ use Rattle.raft_log_disk.specs.Chance.{gap}
 use Rattle.raft_log_disk.specs.Format.{header_at, header_len}
 use Rattle.raft_log_disk.proofs.DiskLemmas.{same_file}
 use Rattle.raft_log_file.specs.Reading.{FileBatch, Reading, read_from}
+use Rattle.raft_log_file.proofs.UnsyncedLemmas.{each_byte}
 use Rattle.raft_log_file.proofs.WalkLemmas.{Read, from_end, from_fault, from_found, from_padding, record_sized}
 use Rattle.raft_log_recovery.specs.Repair.{IsRepaired, batches_in, end_in}
 use Rattle.raft_log_recovery.specs.Replay.{ArePlaced, IsPlaced, Placed}
@@ -72,11 +73,6 @@ file_ends id bytes = by_header (header_at bytes) refl
         (batches_end format.alignment (signature_of format.version id.seq) (length body) hl body (omega arith)))
 
 -- ---- what stands in a front
-
-pub each_byte : (bytes : List ℕ) → AreBytes bytes → (i : ℕ) → get_or bytes i 0 < 256
-each_byte [] fits i = omega arith
-each_byte (b ∷ bytes) fits zero = fits.0
-each_byte (b ∷ bytes) fits (suc i) = each_byte bytes fits.1 i
 
 stands_front : (bytes : List ℕ) (offset len to : ℕ) → offset + len ≤ to → bytes_at offset len (take to bytes) ≡ bytes_at offset len bytes
 stands_front bytes offset len to within =

@@ -5,6 +5,7 @@ pub mod RepairLemmas
 pub mod ReplayLemmas
 pub mod EndLemmas
 pub mod QueueLemmas
+pub mod TurnLemmas
 pub mod FoundLemmas
 pub mod SpelledLemmas
 pub mod OpeningLemmas

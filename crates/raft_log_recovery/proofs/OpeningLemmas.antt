@@ -1,5 +1,5 @@
 -- Recovered files are files that a pipe opens, with the batches that were replayed.
-use Rattle.std.proofs.Common.{◌≡◌, inl, inr, ⊎_elim, ℕ, zero, suc, ◌+◌, ◌-◌, ◌<◌, ◌≤◌, true, false, cond, eqb, Bool, List, [], ◌∷◌, ◌++◌, length, get_or, take, drop, map, Option, None, Result, Ok, Err, refl, sym, ap, subst, ◌∙◌, append_assoc, arith, length-append, length-drop}
+use Rattle.std.proofs.Common.{◌≡◌, inl, inr, ⊎_elim, ℕ, zero, suc, ◌+◌, ◌-◌, ◌<◌, ◌≤◌, true, false, cond, eqb, Bool, List, [], ◌∷◌, ◌++◌, length, get_or, take, drop, map, Option, None, Result, Ok, Err, refl, sym, ap, subst, ◌∙◌, append_assoc, arith, length-append, length-drop, length-take}
 use Rattle.std.specs.Prelude.{IfOk, OnErr, String, ◌==◌}
 use Rattle.std.specs.List.{flat_map}
 use Rattle.std.specs.String.{string_bytes}
@@ -22,7 +22,7 @@ use Rattle.raft_log_disk.proofs.RecoverableLemmas.{bytes_dropped}
 use Rattle.raft_log_records.specs.Block.{bytes_at}
 use Rattle.raft_log_records.specs.Item.{entry_bytes, with_bytes}
 use Rattle.raft_log_records.specs.Signature.{signature_of}
-use Rattle.raft_log_records.specs.Spelling.{record_len, sealed, spell_record}
+use Rattle.raft_log_records.specs.Spelling.{sealed, spell_record}
 use Rattle.raft_log_records.proofs.Laid.{any_held}
 use Rattle.raft_log_disk.specs.declared.format.LogFileFormat.{LogFileFormat}
 use Rattle.raft_log_disk.specs.Disk.{AreBytes, Disk, FileState, IsIn, fd_of}
@@ -31,6 +31,8 @@ use Rattle.raft_log_disk.specs.Text.{Text}
 use Rattle.raft_log_file.specs.Laws.{Batch, file_text, spelled_batches}
 use Rattle.raft_log_file.specs.Reading.{FileBatch, Reading, contents, read_from}
 use Rattle.raft_log_file.proofs.HeaderLemmas.{length-header}
+use Rattle.raft_log_file.proofs.UnsyncedLemmas.{each_byte, spelled_long}
+use Rattle.raft_log_pipe.proofs.BlockLemmas.{is_last, of_file-append}
 use Rattle.raft_log_pipe.specs.declared.file.File.{File}
 use Rattle.raft_log_pipe.specs.declared.pipe.SinglePipe.{SinglePipe}
 use Rattle.raft_log_pipe.specs.Blocks.{files_of, of_file}
@@ -38,18 +40,18 @@ use Rattle.raft_log_pipe.specs.Begun.{Changes}
 use Rattle.raft_log_pipe.specs.Found.{KeepsButHeader}
 use Rattle.raft_log_pipe.specs.Found as found
 use Rattle.raft_log_pipe.proofs.PipeLemmas.{file_beside}
+use Rattle.raft_log_pipe.proofs.PurgeLemmas.{same_number}
 use Rattle.raft_log_file.proofs.WalkLemmas.{Read, from_end, from_fault, from_padding}
 use Rattle.raft_log_pipe.specs.Pipe.{AreConsecutive, AreOlder, Holds, IsLast, IsNamedSo, IsOlder, Numbered, id_of, numbered}
 use Rattle.raft_log_recovery.specs.declared.scan.FileName.{FileName}
-use Rattle.raft_log_recovery.specs.Opening.{AreAllGot, AreGot, IsGot, IsPipeWith, batches_of, said_in}
+use Rattle.raft_log_recovery.specs.Opening.{AnyAligned, AreAllGot, AreGot, IsGot, IsPipeWith, batches_of, said_in}
 use Rattle.raft_log_recovery.specs.Queue.{AreLeft, AreNumbered, AreOpen, AreRecovered, AreReplayed, IsFileOf, IsRecovered, OnlyChanges, path_of}
 use Rattle.raft_log_recovery.specs.Scan.{AreFound}
 use Rattle.raft_log_recovery.specs.declared.scan.FileKind.TheVariants.{Log}
 use Rattle.raft_log_recovery.specs.Repair.{LeavesBatches, batches_in, format_in}
 use Rattle.raft_log_recovery.specs.Replay.{ArePlaced, IsPlaced, Placed}
-use Rattle.raft_log_recovery.proofs.EndLemmas.{each_byte}
 use Rattle.raft_log_recovery.proofs.FoundLemmas.{found_last, found_numbered, last_found, none_found}
-use Rattle.raft_log_recovery.proofs.QueueLemmas.{file_is, file_named, left_bytes, left_done, whole_batches}
+use Rattle.raft_log_recovery.proofs.QueueLemmas.{file_is, file_named, left_bytes, left_done, open_file_of, whole_batches}
 use Rattle.raft_log_recovery.proofs.ReadLemmas.{IsPadding, padding_cases}
 use Rattle.raft_log_recovery.proofs.RepairLemmas.{batches_by, no_reading, reading_of}
 use Rattle.raft_log_recovery.proofs.ReplayLemmas.{file_fits}
@@ -165,14 +167,6 @@ files_found queue dirs old mid (f ∷ fs) some ready row placed last =
 
 -- ---- the batches that a machine got
 
-of_step : (b : Bool) (k : Batch) (xs ys zs : List Batch) → zs ≡ xs ++ ys → cond b (k ∷ zs) zs ≡ cond b (k ∷ xs) xs ++ ys
-of_step true k xs ys zs is = ap (λ (l : List Batch). k ∷ l) is
-of_step false k xs ys zs is = is
-
-of_both : (seq : ℕ) (xs ys : Numbered) → of_file seq (xs ++ ys) ≡ of_file seq xs ++ of_file seq ys
-of_both seq [] ys = refl
-of_both seq (x ∷ xs) ys = of_step (x.0 == seq) x.1 (of_file seq xs) (of_file seq ys) (of_file seq (xs ++ ys)) (of_both seq xs ys)
-
 -- batches of files with smaller numbers are none of this one
 abbrev AreBelow : ℕ → Numbered → Type 0
 AreBelow seq bs = AllByRecursion (λ b. b.0 < seq) bs
@@ -238,7 +232,7 @@ all_got queue f bytes before kb at (b ∷ bs) ps fits of place is places (p, res
       are,
       one_got queue f bytes behind before kb at b p fits of place is places.0 placed,
       all_got queue f bytes (before ++ (f.seq, k) ∷ []) (kb ++ k ∷ []) (at + b.len) bs rest fits
-          (of_both f.seq before ((f.seq, k) ∷ []) ∙ (λ i. of i ++ cond (eq-eqb f.seq f.seq refl i) (k ∷ []) []))
+          (of_file-append f.seq before ((f.seq, k) ∷ []) ∙ (λ i. of i ++ cond (eq-eqb f.seq f.seq refl i) (k ∷ []) []))
           (omega (arith, place, places.0.len, ap length more, length-append (file_text id f.format kb) (spell_record signature k)))
           (is ∙ sym (append_assoc (file_text id f.format kb) (spell_record signature k) behind) ∙ ap (λ (l : List ℕ). l ++ behind) (sym more))
           places.1 others,
@@ -388,15 +382,11 @@ none_last queue dirs old mid names same are none path seq greater below has =
 
 -- ---- after the opening
 
-in_end : (older : List File) (active : File) → IsIn active (older ++ active ∷ [])
-in_end [] active = inl refl
-in_end (f ∷ older) active = inr (in_end older active)
-
 -- the last file alone changed since
 pub opened_only : (directories : List Text) (queue : LogQueue) (old mid new : Disk) (names : List FileName) (fs older : List File) (active : File) → AreRecovered directories queue old mid names fs → fs ≡ older ++ active ∷ []
     → Changes mid new active.handle.0 → OnlyChanges directories queue names old new
 opened_only directories queue old mid new names fs older active so is change =
-    let n = open_name old directories queue names fs active so.opened (subst (IsIn active) (sym is) (in_end older active)) in
+    let n = open_name old directories queue names fs active so.opened (subst (IsIn active) (sym is) (is_last older active)) in
     record {
       directories_stay = ap (λ (d : Disk). d.directories) change ∙ so.only.directories_stay;
       names_stay = ap (λ (d : Disk). d.names) change ∙ so.only.names_stay;
@@ -408,15 +398,10 @@ opened_only directories queue old mid new names fs older active so is change =
 pub recovered_left : (directories : List Text) (queue : LogQueue) (old mid : Disk) (names : List FileName) (fs : List File) → AreRecovered directories queue old mid names fs → AreLeft directories queue names old mid
 recovered_left directories queue old mid names fs so name fd among there rest = left_done directories queue old mid names fs name fd so among there
 
--- a record has twelve bytes at least
-record_long : (items : Batch) → 12 ≤ record_len items
-unfolding record_len
-record_long items = omega arith
-
 never_read : (signature : Option ℕ) (bytes : List ℕ) (read : Read) → AreBytes bytes → length bytes < 12 → record_at signature bytes ≡ Ok read → ⊥
 never_read signature bytes read fits short is =
     let t = record_takes signature bytes read (each_byte bytes fits) is in
-    omega (arith, t.within, t.whole, record_long (with_bytes read.1 read.0), short)
+    omega (arith, t.within, ap length t.spelled, length-take read.2 bytes, spelled_long signature (with_bytes read.1 read.0), short)
 
 short_step : (alignment : ℕ) (signature : Option ℕ) (k at : ℕ) (bytes : List ℕ) (r : Result Read RecordFault) → ((to : ℕ) (l : List ℕ) → AreBytes l → length l ≤ k → length l < 12 → (read_from alignment signature to l).batches ≡ []) → AreBytes bytes
     → 0 < length bytes → length bytes ≤ suc k → length bytes < 12 → record_at signature bytes ≡ r → (read_from alignment signature at bytes).batches ≡ []
@@ -540,3 +525,19 @@ pub opened_changes : {E : Type 0} (r : Result SinglePipe E) (directories : List 
     → IfOk r (λ p. (p.queue ≡ queue) × (files_of p ≡ fs)) → IfOk r (λ p. Changes mid new p.active.handle.0) → OnErr r (KeepsButHeader mid new fs) → OnlyChanges directories queue names old new
 opened_changes (Ok p) directories queue old mid new names fs so files change err = opened_only directories queue old mid new names fs p.older.items p.active so (sym files.1) change
 opened_changes (Err e) directories queue old mid new names fs so files change err = kept_only directories queue old mid new names fs so err
+
+-- none of the files has an alignment
+each_pair : {X : Type 0} (P Q : X → Type 0) (xs : List X) → AllByRecursion P xs → AllByRecursion Q xs → AllByRecursion (λ x. P x × Q x) xs
+each_pair P Q [] ps qs = tt
+each_pair P Q (x ∷ xs) ps qs = ((ps.0, qs.0), each_pair P Q xs ps.1 qs.1)
+
+pub none_aligned : (directories : List Text) (queue : LogQueue) (old mid : Disk) (names : List FileName) (fs : List File) → AreRecovered directories queue old mid names fs → list_all (λ f. f.format.alignment == 0) fs ≡ true
+    → AnyAligned directories queue names old → ⊥
+none_aligned directories queue old mid names fs so plain (name, fd, among, there, any) =
+    let found = open_file_of (λ f. IsRecovered queue old mid f × (f.format.alignment ≡ 0)) old directories queue names fs name so.opened
+    (each_pair (IsRecovered queue old mid) (λ f. f.format.alignment ≡ 0) fs so.each (plain_each fs plain)) among in
+    let same : found.0.handle.0 ≡ fd = same_number found.0.handle.0 fd (sym found.1.there ∙ there) in
+    any (ap (λ n. (format_in (old.file n).bytes).alignment) (sym same) ∙ ap (λ (x : LogFileFormat). x.alignment) (sym found.2.0.header) ∙ found.2.1)
+
+pub none_named : (directories : List Text) (queue : LogQueue) (names : List FileName) (d : Disk) → names ≡ [] → AnyAligned directories queue names d → ⊥
+none_named directories queue names d none (name, fd, among, there, any) = subst (IsIn name) none among

@@ -1,5 +1,5 @@
 -- Files of a queue that are recovered one after the other.
-use Rattle.std.proofs.Common.{◌≡◌, ◌≢◌, ◌⊎◌, inl, inr, ⊎_elim, ℕ, suc, ◌+◌, ◌<◌, ◌≤◌, Bool, true, false, cond, List, [], ◌∷◌, ◌++◌, length, get_or, take, drop, Option, Some, None, Result, Ok, Err, refl, sym, ap, subst, ◌∙◌, append_assoc, arith, drop-cons, length-append, length-take, take-append-drop}
+use Rattle.std.proofs.Common.{◌≡◌, ◌≢◌, ◌⊎◌, inl, inr, ⊎_elim, ℕ, suc, ◌+◌, ◌<◌, ◌≤◌, Bool, true, false, cond, List, [], ◌∷◌, ◌++◌, length, get_or, take, drop, Some, None, Result, Ok, Err, refl, sym, ap, subst, ◌∙◌, append_assoc, arith, drop-cons, length-append, length-take, take-append-drop}
 use Rattle.std.specs.Prelude.{MatchResult, ◌==◌}
 use Rattle.std.specs.List.{AllByRecursion}
 use Rattle.std.proofs.lemmas.Bool.{cases_lt, eq-eqb, eqb-true, eqb-false, ne_eqb}
@@ -21,6 +21,7 @@ use Rattle.raft_log_pipe.specs.Pipe.{IsNamedSo, id_of}
 use Rattle.raft_log_pipe.proofs.NextLemmas.{path_says}
 use Rattle.raft_log_pipe.proofs.OpenLemmas.{named_apart}
 use Rattle.raft_log_pipe.proofs.PipeLemmas.{changes, file_beside, file_there}
+use Rattle.raft_log_pipe.proofs.PurgeLemmas.{same_number}
 use Rattle.raft_log_recovery.specs.declared.scan.FileName.{FileName}
 use Rattle.raft_log_recovery.specs.Repair.{IsAtRest, IsRepaired, IsStopped, IsWhole, LeavesBatches, batches_in, cuts_faults, fault_in, format_in}
 use Rattle.raft_log_recovery.specs.Replay.{ArePlaced, Placed}
@@ -120,7 +121,7 @@ open_each P d directories queue (name ∷ names) fs (first, rest, is, here, othe
     (subst (IsIn f) is there)
 
 -- each name has its file
-open_file_of : (P : File → Type 0) (d : Disk) (directories : List Text) (queue : LogQueue) (names : List FileName) (fs : List File) (name : FileName) → AreOpen d directories queue names fs → AllByRecursion P fs → IsIn name names
+pub open_file_of : (P : File → Type 0) (d : Disk) (directories : List Text) (queue : LogQueue) (names : List FileName) (fs : List File) (name : FileName) → AreOpen d directories queue names fs → AllByRecursion P fs → IsIn name names
     → (f : File) × IsOpen d directories queue name f × P f
 open_file_of P d directories queue [] fs name are all there = absurd there
 open_file_of P d directories queue (n ∷ names) fs name (first, rest, is, here, others) all (inl same) =
@@ -137,6 +138,7 @@ recovered_on queue old cur new [] same all = tt
 recovered_on queue old cur new (f ∷ fs) same all =
     let here : cur.file f.handle.0 ≡ new.file f.handle.0 = sym (same f (inl refl)) in (
       record {
+        header = all.0.header;
         whole = subst (λ (x : FileState). IsWhole (id_of queue f.seq) x (batches_in (id_of queue f.seq) (old.file f.handle.0).bytes)) here all.0.whole;
         format = all.0.format ∙ ap (λ (x : FileState). format_in x.bytes) here;
       },
@@ -207,6 +209,7 @@ stepped directories queue count old cur new done behind name f named are only st
     record {
       opened = record { seq = step.opened.seq; place = step.opened.place; there = there };
       recovered = record {
+        header = step.format ∙ ap (λ (x : FileState). format_in x.bytes) same;
         whole = subst (λ n. IsWhole (id_of queue n) (new.file fd) (batches_in (id_of queue n) (old.file fd).bytes)) (sym step.opened.seq) whole;
         format = step.format ∙ sym (format_front id (cur.file fd).bytes step.fits) ∙ ap format_in (sym (ap (λ (x : FileState). x.bytes) now ∙ step.repaired.front));
       };
@@ -272,9 +275,6 @@ replays_file P Q R directories queue count old cur new done behind fs name f nam
     )
 
 -- ---- refusals
-
-same_number : (n m : ℕ) → (let o : Option ℕ = Some n in o ≡ Some m) → n ≡ m
-same_number n m e = cc
 
 -- a file of before is whole with the batches that it read as
 pub left_bytes : (directories : List Text) (queue : LogQueue) (old cur : Disk) (done : List FileName) (fs : List File) (name : FileName) (fd : ℕ) → AreRecovered directories queue old cur done fs → IsIn name done → IsFileOf old directories queue name fd

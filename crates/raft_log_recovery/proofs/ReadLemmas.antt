@@ -8,9 +8,9 @@ use Rattle.raft_log_records.specs.declared.error.RecordFault.TheVariants as faul
 use Rattle.raft_log_records.specs.Reading.{record_at}
 use Rattle.raft_log_records.proofs.Locality.{answers_stay, records_have_their_length}
 use Rattle.raft_log_disk.specs.Disk.{FileState}
-use Rattle.raft_log_disk.specs.Chance.{AreWritten, IsWritten, LengthIs, gap, padding}
-use Rattle.raft_log_disk.proofs.ChanceLemmas.{step}
+use Rattle.raft_log_disk.specs.Chance.{AreWritten, IsWritten, gap, padding}
 use Rattle.raft_log_file.specs.Reading.{FileBatch, Reading, batch_at, read_from, stopped, with_batch}
+use Rattle.raft_log_file.proofs.UnsyncedLemmas.{no_padding, walked}
 use Rattle.raft_log_file.proofs.WalkLemmas.{Read, from_end, from_fault, from_found, from_padding, record_front, record_sized}
 
 abbrev Taken : Type 0
@@ -72,9 +72,6 @@ padding_in_front alignment at n bytes p long =
     let there : ltb (length (take n bytes)) g ≡ false = le-ltb (length (take n bytes)) g (omega (arith, length-take n bytes, p.within, long)) in
     let same : list_all (λ b. eqb b 0) (take g (take n bytes)) ≡ true = ap (list_all (λ b. eqb b 0)) (take-take g n bytes long) ∙ p.zeros in
     λ i. cond (there i) 0 (cond (same i) g 0)
-
-pub no_padding : (at : ℕ) (bytes : List ℕ) → padding 0 at bytes ≡ 0
-no_padding at bytes = elim (padding_cases 0 at bytes) [ inl none ↦ none | inr p ↦ p.is_gap ]
 
 -- ---- a cut where reading ended
 
@@ -182,16 +179,6 @@ abbrev ReadsAlike : FileState → Option ℕ → ℕ → List ℕ → Type 0
 ReadsAlike f signature at bytes =
     (j : ℕ) (tail : List ℕ) → let r : Reading = read_from 0 signature at bytes in let c : List ℕ = take (r.to - at) bytes ++ tail in AreWritten f 0 signature j at c → length c ≤ j
     → ((read : Read) → record_at signature tail ≡ Ok read → IsWritten f r.to (take read.2 tail) → ⊥) → (read_from 0 signature at c).batches ≡ r.batches
-
--- what follows of a walk that finds a record
-walked : (f : FileState) (signature : Option ℕ) (j at : ℕ) (tail : List ℕ) (read : Read) → record_at signature tail ≡ Ok read → length tail ≤ j → AreWritten f 0 signature j at tail
-    → IsWritten f at (take read.2 tail) × ((i : ℕ) × (length (drop read.2 tail) ≤ i) × AreWritten f 0 signature i (at + read.2) (drop read.2 tail))
-walked f signature zero at tail read is short walk = let sized = record_sized signature tail read is in absurd (omega (arith, sized.least, sized.within, short))
-walked f signature (suc i) at tail read is short walk =
-    let sized = record_sized signature tail read is in
-    let read_so : LengthIs (record_at signature tail) (Some read.2) = subst (λ r. LengthIs r (Some read.2)) (sym is) refl in
-    let on = (step f 0 signature i at read.2 tail read_so).on walk in
-    (on.0, (i, omega (arith, length-drop read.2 tail, sized.least, short), on.1))
 
 none_behind : (f : FileState) (signature : Option ℕ) (j at : ℕ) (tail : List ℕ) (t : Taken) → record_at signature tail ≡ t → AreWritten f 0 signature j at tail → length tail ≤ j
     → ((read : Read) → record_at signature tail ≡ Ok read → IsWritten f at (take read.2 tail) → ⊥) → (read_from 0 signature at tail).batches ≡ []

@@ -1,7 +1,6 @@
 -- What a crash leaves of a file while it is repaired, and what it is then.
-use Rattle.std.proofs.Common.{◌≡◌, inl, inr, ℕ, ◌+◌, ◌-◌, ◌<◌, ◌≤◌, min, max, Bool, true, false, cond, List, [], ◌∷◌, ◌++◌, length, get_or, take, drop, Option, Some, None, Result, Ok, Err, refl, sym, ap, subst, ◌∙◌, arith, append_assoc, length-take, length-drop, take-append-drop, ext_get_or}
-use Rattle.std.specs.Prelude.{MatchResult, OnErr, OnOk, replicate, ◌==◌}
-use Rattle.std.proofs.lemmas.Bool.{eqb-true}
+use Rattle.std.proofs.Common.{◌≡◌, inl, inr, ℕ, ◌+◌, ◌-◌, ◌<◌, ◌≤◌, min, max, List, [], ◌∷◌, ◌++◌, length, get_or, take, drop, Option, Some, None, Result, Ok, Err, refl, sym, ap, subst, ◌∙◌, arith, append_assoc, length-take, length-drop, take-append-drop, ext_get_or}
+use Rattle.std.specs.Prelude.{MatchResult, OnErr, OnOk, replicate}
 use Rattle.std.proofs.lemmas.List.{append-nil, drop_at, drop-drop, drop-take, get_or-take, take-take, take_all}
 use Rattle.raft_log_records.specs.declared.file_id.FileId.{FileId}
 use Rattle.raft_log_records.specs.declared.error.RecordFault.{RecordFault}
@@ -22,7 +21,9 @@ use Rattle.raft_log_files.specs.declared.error.Error.{Error}
 use Rattle.raft_log_file.specs.Reading.{FileBatch, Reading, file_reading, read_behind, read_from, read_or}
 use Rattle.raft_log_file.proofs.HeaderLemmas.{length-header}
 use Rattle.raft_log_file.proofs.LawLemmas.{header_read}
+use Rattle.raft_log_file.proofs.UnsyncedLemmas.{told_of}
 use Rattle.raft_log_file.proofs.WalkLemmas.{Read}
+use Rattle.raft_log_pipe.proofs.PipeLemmas.{no_change}
 use Rattle.raft_log_recovery.specs.Repair.{IsAtRest, IsRepaired, IsStopped, IsWhole, LeavesBatches, Settles, batches_in, cut_to, end_in, fault_in, format_in, record_fault}
 use Rattle.raft_log_recovery.proofs.ReadLemmas.{cut_whole, reads_alike, record_stays}
 
@@ -50,13 +51,6 @@ end_by r = read_or (λ (x : Reading). x.to) (λ (f : HeaderFault). 0) r
 
 -- ---- what a crash leaves
 
-same_here : (d : Disk) (n fd : ℕ) (b : Bool) → (n == fd) ≡ b → cond b (d.file fd) (d.file n) ≡ d.file n
-same_here d n fd true is = ap d.file (sym (eqb-true n fd is))
-same_here d n fd false is = refl
-
-no_change : (d : Disk) (fd : ℕ) → d ≡ with_file d fd (d.file fd)
-no_change d fd = λ i. record { directories = d.directories; names = d.names; file = λ n. sym (same_here d n fd (n == fd) refl) i; next = d.next }
-
 pub leaves_same : (id : FileId) (f : FileState) → IsAtRest f → LeavesBatches id f (batches_in id f.bytes)
 leaves_same id f rest bytes image genuine = ap (batches_in id) (still_is_left f bytes rest.still image)
 
@@ -70,10 +64,6 @@ cut_front f to seen c still within image =
     = subst (λ (l : List (ℕ × ℕ)). IsOutside i (l ++ (min to (length f.bytes), max to (length f.bytes)) ∷ [])) (sym still.changed) (inl (omega (arith, below, within)), tt) in
     get_or-take to c i 0 below ∙ image.same i (omega (arith, below, long)) out ∙ ap (λ (l : List ℕ). get_or l i 0) still.kept ∙ sym (get_or-take to f.bytes i 0 below)) in
     sym (take-append-drop to c) ∙ ap (λ (l : List ℕ). l ++ drop to c) front
-
-told_of : {X E : Type 0} (r : Result X E) (x : X) (P : X → Type 0) (Q : E → Type 0) → r ≡ Ok x → MatchResult r P Q → P x
-told_of (Ok y) x P Q is h = let same : y ≡ x = cc in subst P same h
-told_of (Err e) x P Q is h = absurd cc
 
 fault_of : {X E : Type 0} (r : Result X E) (e : E) (P : X → Type 0) (Q : E → Type 0) → r ≡ Err e → MatchResult r P Q → Q e
 fault_of (Ok y) e P Q is h = absurd cc

@@ -13,15 +13,13 @@ use Rattle.raft_log_disk.specs.Text.{Text, same_text}
 use Rattle.raft_log_disk.specs.Name.{is_digit, value_of, suffix_of}
 use Rattle.raft_log_files.specs.FileName.{reserved_name, suffixed}
 use Rattle.raft_log_files.proofs.DigitLemmas.{IsSplit, name_found, name_split}
+use Rattle.raft_log_pipe.proofs.NextLemmas.{both}
 use Rattle.raft_log_recovery.specs.declared.scan.FileKind.{FileKind}
 use Rattle.raft_log_recovery.specs.declared.scan.FileKind.TheVariants.{Log, Reserved}
 use Rattle.raft_log_recovery.specs.declared.scan.FileName.{FileName}
 use Rattle.raft_log_recovery.specs.Scan.{file_named, files_named, seq_at, seq_in, suffix_in}
 
 -- ---- names
-
-both : {a b : Bool} → a ≡ true → b ≡ true → (a && b) ≡ true
-both x y = (λ i. x i && y i)
 
 -- a name of sixteen digits and the suffix has its number
 pub named_so : (kind : FileKind) (n : ℕ) (name : Text) → n < 10 ^ 16 → name ≡ suffixed n (suffix_in kind) → seq_in kind name ≡ Some n

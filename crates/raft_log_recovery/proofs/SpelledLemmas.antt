@@ -22,14 +22,13 @@ use Rattle.raft_log_disk.proofs.HeaderLemmas.{header_spelled}
 use Rattle.raft_log_file.specs.Laws.{AreBatches, Batch, file_text, spelled_batches}
 use Rattle.raft_log_file.specs.Reading.{FileBatch, Reading, batch_at, contents, read_behind, read_from, read_or, with_batch}
 use Rattle.raft_log_file.proofs.LawLemmas.{signature_fits}
+use Rattle.raft_log_file.proofs.UnsyncedLemmas.{each_byte, no_padding}
 use Rattle.raft_log_file.proofs.WalkLemmas.{Read, from_end, from_fault, from_found, record_sized}
 use Rattle.raft_log_pipe.specs.Found as found
 use Rattle.raft_log_pipe.specs.Pipe.{IsPlain}
 use Rattle.raft_log_pipe.specs.Stored.{IsStored}
 use Rattle.raft_log_pipe.proofs.StoredLemmas.{stored_whole}
 use Rattle.raft_log_recovery.specs.Repair.{IsWhole, format_in}
-use Rattle.raft_log_recovery.proofs.EndLemmas.{each_byte}
-use Rattle.raft_log_recovery.proofs.ReadLemmas.{no_padding}
 use Rattle.raft_log_recovery.proofs.RepairLemmas.{no_reading, reading_of}
 
 abbrev Taken : Type 0

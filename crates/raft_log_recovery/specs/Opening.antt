@@ -1,5 +1,5 @@
 -- A queue whose files were recovered, opened as a pipe: it holds just the batches that a machine has replayed.
-use Rattle.std.specs.Prelude.{◌≡◌, List, [], ◌∷◌, ◌++◌, take, drop, true, false, None}
+use Rattle.std.specs.Prelude.{◌≡◌, ◌≢◌, ℕ, List, [], ◌∷◌, ◌++◌, take, drop, true, false, None}
 use Rattle.std.specs.List.{list_any}
 use Rattle.raft_log_records.specs.declared.file_id.LogQueue.{LogQueue}
 use Rattle.raft_log_records.specs.Item.{with_bytes}
@@ -13,9 +13,14 @@ use Rattle.raft_log_pipe.specs.declared.pipe.SinglePipe.{SinglePipe}
 use Rattle.raft_log_pipe.specs.Blocks.{IsBlockOf, files_of, record_in}
 use Rattle.raft_log_pipe.specs.Pipe.{Holds, Numbered, id_of, numbered}
 use Rattle.raft_log_recovery.specs.declared.scan.FileName.{FileName}
-use Rattle.raft_log_recovery.specs.Queue.{AreOpen}
-use Rattle.raft_log_recovery.specs.Repair.{batches_in}
+use Rattle.raft_log_recovery.specs.Queue.{AreOpen, IsFileOf}
+use Rattle.raft_log_recovery.specs.Repair.{batches_in, format_in}
 use Rattle.raft_log_recovery.specs.Replay.{Placed}
+
+-- the header of one of the files says an alignment
+abbrev pub AnyAligned : List Text → LogQueue → List FileName → Disk → Type 0
+AnyAligned directories queue names d =
+    (name : FileName) × (fd : ℕ) × IsIn name names × IsFileOf d directories queue name fd × ((format_in (d.file fd).bytes).alignment ≢ 0)
 
 -- what the batches of a file say
 abbrev pub said_in : LogQueue → Disk → File → List Batch

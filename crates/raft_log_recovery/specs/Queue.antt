@@ -57,8 +57,9 @@ abbrev pub AreOpen : Disk → List Text → LogQueue → List FileName → List 
 AreOpen d directories queue [] fs = fs ≡ []
 AreOpen d directories queue (name ∷ names) fs = (f : File) × (rest : List File) × (fs ≡ f ∷ rest) × IsOpen d directories queue name f × AreOpen d directories queue names rest
 
--- the file is whole with the batches that it read as, and has the format that its header says
+-- the file is whole with the batches that it read as, and has the format that its header says, as it said before
 pub record IsRecovered (queue : LogQueue) (old new : Disk) (f : File) : Type 0 where
+  pub header : f.format ≡ format_in (old.file f.handle.0).bytes
   pub whole : IsWhole (id_of queue f.seq) (new.file f.handle.0) (batches_in (id_of queue f.seq) (old.file f.handle.0).bytes)
   pub format : f.format ≡ format_in (new.file f.handle.0).bytes
 
@@ -75,6 +76,10 @@ pub record OnlyChanges (directories : List Text) (queue : LogQueue) (names : Lis
   pub names_stay : new.names ≡ old.names
   pub next : new.next ≡ old.next
   pub files : (fd : ℕ) → ((name : FileName) → IsIn name names → IsFileOf old directories queue name fd → ⊥) → new.file fd ≡ old.file fd
+
+-- where there are such files, nothing else changes
+abbrev pub ChangesAtMost : List Text → LogQueue → List FileName → Disk → Disk → Type 0
+ChangesAtMost directories queue names old new = 0 < length names → OnlyChanges directories queue names old new
 
 -- Files were found, opened and recovered in their order, and no other file changed
 pub record AreRecovered (directories : List Text) (queue : LogQueue) (old new : Disk) (names : List FileName) (fs : List File) : Type 0 where

@@ -1,14 +1,14 @@
 //! From recovered files to a pipe.
 
-ghost use Rattle.std.specs.Prelude.{◌≡◌, ◌++◌, ◌<◌, ◌==◌, List, length, map, string_bytes, IfOk, IsErr, OnErr};
+ghost use Rattle.std.specs.Prelude.{◌≡◌, ◌++◌, ◌==◌, List, map, string_bytes, IfOk, IsErr, OnErr};
 ghost use Rattle.std.specs.List.{list_all};
 ghost use Rattle.raft_log_files.specs.Settings.{settings_of};
 ghost use Rattle.raft_log_pipe.specs.Pipe.{IsPipe};
 ghost use Rattle.raft_log_recovery.specs.declared.scan.FileKind.TheVariants.{Log};
 ghost use Rattle.raft_log_recovery.specs.Scan.{AreFound, directories_of};
 ghost use Rattle.raft_log_recovery.specs.Replay.{Placed};
-ghost use Rattle.raft_log_recovery.specs.Queue.{AnyRefused, AreLeft, KeepsRefused, OnlyChanges, directories_in, names_in};
-ghost use Rattle.raft_log_recovery.specs.Opening.{IsPipeWith};
+ghost use Rattle.raft_log_recovery.specs.Queue.{AnyRefused, AreLeft, ChangesAtMost, KeepsRefused, directories_in, names_in};
+ghost use Rattle.raft_log_recovery.specs.Opening.{AnyAligned, IsPipeWith};
 
 use crate::builder::DualPipesBuilder;
 use crate::machine::ReplayMachine;
@@ -53,9 +53,10 @@ impl DualPipesBuilder {
         ensures replayed { IfOk result (λ p. (placed : List Placed) → M.has_replayed machine.old placed
             → (more : List Placed) × M.has_replayed machine.new (placed ++ more)
             × IsPipeWith (directories_in self.now) config.now.queue (names_in self.now config.now.queue) (F.disk files.old) (F.disk files.new) p more) }
-        ensures only { 0 < length (names_in self.now config.now.queue) → OnlyChanges (directories_in self.now) config.now.queue (names_in self.now config.now.queue) (F.disk files.old) (F.disk files.new) }
+        ensures only { ChangesAtMost (directories_in self.now) config.now.queue (names_in self.now config.now.queue) (F.disk files.old) (F.disk files.new) }
         ensures err { OnErr result (AreLeft (directories_in self.now) config.now.queue (names_in self.now config.now.queue) (F.disk files.old) (F.disk files.new)) }
         ensures refused { AnyRefused config.now.mode (directories_in self.now) config.now.queue (names_in self.now config.now.queue) (F.disk files.old) → IsErr result }
+        ensures aligned { AnyAligned (directories_in self.now) config.now.queue (names_in self.now config.now.queue) (F.disk files.old) → IsErr result }
         ensures kept { OnErr result (KeepsRefused config.now.mode (directories_in self.now) config.now.queue (names_in self.now config.now.queue) (F.disk files.old) (F.disk files.new)) }
     {
         let recovered = self.recover_queue(files, config, machine)?;

@@ -4,18 +4,15 @@ use Rattle.std.specs.List.{AllByRecursion}
 use Rattle.std.proofs.lemmas.List.{map-append, take_more}
 use Rattle.raft_group_step.specs.Values.{Entry}
 use Rattle.raft_log_records.specs.Batch.{payloads}
+use Rattle.raft_log_records.proofs.Sound.{each_push}
 use Rattle.raft_wire.specs.Entries.{FitsEntry, spelled_entry}
-
-all_joined : {A : Type 0} (P : A → Type 0) (xs : List A) (y : A) → AllByRecursion P xs → P y → AllByRecursion P (xs ++ y ∷ [])
-all_joined P [] y h p = (p, tt)
-all_joined P (x ∷ xs) y h p = (h.0, all_joined P xs y h.1 p)
 
 module _ (es : List Entry) (i : ℕ) (e : Entry) (inside : i < length es) (is : e ≡ get_or es i e) where
   front : take (i + 1) es ≡ take i es ++ e ∷ []
   front = take_more es i e inside ∙ ap (λ (x : Entry). take i es ++ x ∷ []) (sym is)
 
   pub fits_more : AllByRecursion FitsEntry (take i es) → FitsEntry e → AllByRecursion FitsEntry (take (i + 1) es)
-  fits_more fits fit = subst (AllByRecursion FitsEntry) (sym front) (all_joined FitsEntry (take i es) e fits fit)
+  fits_more fits fit = subst (AllByRecursion FitsEntry) (sym front) (each_push FitsEntry (take i es) e fits fit)
 
   pub spelled_more : (all new : List (Vec ℕ Global)) (v : Vec ℕ Global) → payloads all ≡ map spelled_entry (take i es) → new ≡ all ++ v ∷ [] → v.items ≡ spelled_entry e
       → payloads new ≡ map spelled_entry (take (i + 1) es)

@@ -1,10 +1,10 @@
 -- Each message goes behind the others; the first that isn't sent is one of them.
 use Rattle.std.proofs.Common.{◌≡◌, ◌∷◌, [], ◌++◌, cond, length, map, sym, ap, subst, ◌∙◌, append_assoc, append-nil, arith}
-use Rattle.std.proofs.lemmas.List.{map-append}
+use Rattle.std.proofs.lemmas.List.{map-append, nil_from_length}
 use Rattle.std.specs.Vec.Iter.{into_iter_items}
 use Rattle.raft_messages.specs.Messages.{message_of}
 use Rattle.raft_framed_member.specs.Framed.{AreNotSent, AreSentAs}
-use Rattle.raft_framed_member.proofs.Sent.{nothing_left, one_more_sent, one_not_sent}
+use Rattle.raft_framed_member.proofs.Sent.{one_more_sent, one_not_sent}
 use Rattle.raft_framed_member.proofs.framing.framed.Goals as goal
 
 pub loop-message-preserved : goal.loop-message-preserved
@@ -38,6 +38,6 @@ pub returns-clause-ok : goal.returns-clause-ok
 returns-clause-ok c =
     let at = c.loop-message in
     let none = c.in-None.ensures.steps in
-    let empty : into_iter_items at.message-iterator ≡ [] = nothing_left _ (sym at.invariant.1 ∙ none.0) in
+    let empty : into_iter_items at.message-iterator ≡ [] = nil_from_length _ (sym at.invariant.1 ∙ none.0) in
     let all = sym (append-nil at.yielded) ∙ rw empty at at.invariant.0 ∙ c.into_iter-message-iterator.ensures.into_iter_gives.0 in
     subst (λ ms. AreSentAs c.args.group (map message_of ms) at.sent.items) all at.invariant.2

@@ -1,5 +1,5 @@
-use Rattle.std.proofs.Common.{Ok, ◌∙◌, ap, sym, arith}
-use Rattle.raft_log_file.proofs.HereLemmas.{here_told, here_len, here_fault, here_record, here_fits}
+use Rattle.std.proofs.Common.{◌∙◌, arith}
+use Rattle.raft_log_file.proofs.HereLemmas.{here_len, here_fault, here_record, here_fits}
 use Rattle.raft_log_file.proofs.batches.LogItemBatchFileReader.record_here.Goals as goal
 
 pub returns-in-Err-clause-ok : goal.returns-in-Err-clause-ok

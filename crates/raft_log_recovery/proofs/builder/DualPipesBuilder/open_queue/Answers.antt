@@ -9,7 +9,7 @@ use Rattle.raft_log_recovery.specs.declared.scan.FileName.{FileName}
 use Rattle.raft_log_recovery.specs.Opening.{batches_of}
 use Rattle.raft_log_recovery.specs.Queue.{AreLeft, AreRecovered, directories_in, names_in}
 use Rattle.raft_log_recovery.specs.Scan.{AreFound}
-use Rattle.raft_log_recovery.proofs.OpeningLemmas.{created_gives, err_on, no_names, none_last, opened_changes, opened_gives, opened_left, recovered_found, recovered_left}
+use Rattle.raft_log_recovery.proofs.OpeningLemmas.{created_gives, err_on, no_names, none_aligned, none_last, none_named, opened_changes, opened_gives, opened_left, recovered_found, recovered_left}
 use Rattle.raft_log_recovery.proofs.builder.DualPipesBuilder.open_queue.Goals as goal
 
 pub returns-then-not-are_plain-clause-err : goal.returns-then-not-are_plain-clause-err
@@ -96,3 +96,15 @@ returns-clause-err g c =
     (opened_left (directories_in c.args.self.now) c.args.config.now.queue (g.F.FileSystem.disk c.args.files.now) (g.F.FileSystem.disk c.recover_queue.new.files) (g.F.FileSystem.disk c.open.new.files)
     (names_in c.args.self.now c.args.config.now.queue) c.in_ok-recovered.recovered.items c.in_ok-recovered.ensures.ok)
     c.open.ensures.err
+
+pub returns-then-is_empty-clause-aligned : goal.returns-then-is_empty-clause-aligned
+returns-then-is_empty-clause-aligned g c =
+    let queue = c.args.config.now.queue in
+    let none = no_names (g.F.FileSystem.disk c.args.files.now) (directories_in c.args.self.now) queue (names_in c.args.self.now queue) c.in_ok-recovered.recovered.items c.in_ok-recovered.ensures.ok.opened
+    (omega (arith, ap length c.deref.ensures.value, c.deref.ensures.len, eqb-true (vec_len c.in_ok-recovered.recovered) 0 (sym c.is_empty.ensures ∙ c.if-is_empty.true))) in
+    λ any. absurd (none_named (directories_in c.args.self.now) queue (names_in c.args.self.now queue) (g.F.FileSystem.disk c.args.files.now) none any)
+
+pub returns-clause-aligned : goal.returns-clause-aligned
+returns-clause-aligned g c =
+    λ any. absurd (none_aligned (directories_in c.args.self.now) c.args.config.now.queue (g.F.FileSystem.disk c.args.files.now) (g.F.FileSystem.disk c.recover_queue.new.files) (names_in c.args.self.now c.args.config.now.queue)
+    c.in_ok-recovered.recovered.items c.in_ok-recovered.ensures.ok (ap (list_all (λ f. f.format.alignment == 0)) (sym c.deref.ensures.value) ∙ sym c.are_plain.ensures ∙ c.if-not-are_plain.false) any)

@@ -1,0 +1,101 @@
+-- Entries are read as their bytes.
+use Rattle.std.proofs.Common.{◌≡◌, ◌≢◌, ◌⊎◌, inl, inr, ℕ, ◌+◌, ◌<◌, ◌≤◌, Bool, true, false, cond, List, [], ◌∷◌, length, take, drop, Option, Some, None, refl, sym, ap, ◌∙◌, arith, length-append}
+use Rattle.std.specs.Prelude.{◌==◌}
+use Rattle.std.specs.Int.{w32, to_be_bytes}
+use Rattle.std.proofs.lemmas.Bool.{eq-eqb}
+use Rattle.std.proofs.lemmas.Bool.Decides.{eqb_tells}
+use Rattle.std.proofs.lemmas.List.{append-nil, take_at}
+use Rattle.raft_log_records.specs.declared.file_id.FileBlockHandle.{FileBlockHandle}
+use Rattle.raft_log_records.specs.declared.item.EntryIndex.{EntryIndex}
+use Rattle.raft_log_records.specs.Checksum.{crc32_of}
+use Rattle.raft_log_records.specs.Item.{entry_bytes}
+use Rattle.raft_log_records.specs.Spelling.{block_of, sealed, signed}
+use Rattle.raft_log_disk.specs.Disk.{Disk, IsIn}
+use Rattle.raft_log_pipe.specs.declared.file.File.{File}
+use Rattle.raft_log_pipe.specs.declared.pipe.SinglePipe.{SinglePipe}
+use Rattle.raft_log_pipe.specs.Blocks.{AreOfFile, IsOutOfSpan, files_of}
+use Rattle.raft_log_pipe.specs.Pipe.{Numbered, AreConsecutive, Holds, IsPipe, first_of}
+use Rattle.raft_log_pipe.proofs.BlockLemmas.{blocks_are, one_file}
+use Rattle.raft_log_pipe.proofs.NextLemmas.{consecutive_push}
+use Rattle.raft_log_engine.specs.Held.{ReadsEntries, block_in, bytes_on, bytes_placed, file_in, unsealed_bytes}
+
+-- ---- the file of a number
+
+record IsFound (seq : ℕ) (fs : List File) : Type 0 where
+  pub file : File
+  pub is : file_in seq fs ≡ Some file
+  pub among : IsIn file fs
+  pub number : file.seq ≡ seq
+
+later_found : (seq : ℕ) (f : File) (fs : List File) → f.seq ≢ seq → IsFound seq fs → IsFound seq (f ∷ fs)
+later_found seq f fs apart found = by_test (eqb_tells f.seq seq)
+  where
+    by_test : ((f.seq == seq) ≡ true) × (f.seq ≡ seq) ⊎ ((f.seq == seq) ≡ false) × (f.seq ≢ seq) → IsFound seq (f ∷ fs)
+    by_test (inl same_number) = absurd (apart same_number.1)
+    by_test (inr other) = record { file = found.file; is = ap (λ (b : Bool). cond b (Some f) (file_in seq fs)) other.0 ∙ found.is; among = inr found.among; number = found.number }
+
+first_found : (seq : ℕ) (f : File) (fs : List File) → f.seq ≡ seq → IsFound seq (f ∷ fs)
+first_found seq f fs same = record { file = f; is = ap (λ (b : Bool). cond b (Some f) (file_in seq fs)) (eq-eqb f.seq seq same); among = inl refl; number = same }
+
+-- one that is among the files
+found : (seq : ℕ) (fs : List File) (g : File) → IsIn g fs → g.seq ≡ seq → IsFound seq fs
+found seq [] g there same = absurd there
+found seq (f ∷ fs) g there same = by_test (λ later. found seq fs g later same) (eqb_tells f.seq seq) there
+  where
+    by_test : (IsIn g fs → IsFound seq fs) → ((f.seq == seq) ≡ true) × (f.seq ≡ seq) ⊎ ((f.seq == seq) ≡ false) × (f.seq ≢ seq) → IsIn g (f ∷ fs) → IsFound seq (f ∷ fs)
+    by_test rest (inl same_number) here = first_found seq f fs same_number.1
+    by_test rest (inr other) (inl is) = absurd (other.1 (ap (λ (x : File). x.seq) (sym is) ∙ same))
+    by_test rest (inr other) (inr later) = later_found seq f fs other.1 (rest later)
+
+-- one of a number in the span
+in_span : (fs : List File) (last seq : ℕ) → AreConsecutive fs last → last ≤ seq + length fs → seq < last → IsFound seq fs
+in_span [] last seq numbers low high = absurd (omega (arith, low, high))
+in_span (f ∷ fs) last seq numbers low high = by_test (λ apart. in_span fs last seq numbers.1 (omega (arith, low, numbers.0, apart)) high) (eqb_tells f.seq seq)
+  where
+    by_test : (f.seq ≢ seq → IsFound seq fs) → ((f.seq == seq) ≡ true) × (f.seq ≡ seq) ⊎ ((f.seq == seq) ≡ false) × (f.seq ≢ seq) → IsFound seq (f ∷ fs)
+    by_test rest (inl same_number) = first_found seq f fs same_number.1
+    by_test rest (inr other) = later_found seq f fs other.1 (rest other.1)
+
+not_out : (p : SinglePipe) (d : Disk) (seq : ℕ) → IsPipe p d → (IsOutOfSpan p seq → ⊥) → IsFound seq (files_of p)
+not_out p d seq pipe within =
+    in_span (files_of p) (p.active.seq + 1) seq (consecutive_push p.older.items p.active pipe.numbers)
+    (omega (arith, length-append p.older.items (p.active ∷ []), low)) (omega (arith, high))
+  where
+    low : p.active.seq ≤ seq + length p.older.items
+    low = omega (arith, λ (h : seq < first_of p). within (inl h))
+
+    high : seq ≤ p.active.seq
+    high = omega (arith, λ (h : p.active.seq < seq). within (inr h))
+
+-- ---- blocks
+
+pub length-sealed : (signature : Option ℕ) (block : List ℕ) → length (sealed signature block) ≡ length block + 4
+length-sealed signature block = length-append block (to_be_bytes w32 (signed signature (crc32_of block)))
+
+unsealed_is : (block bytes : List ℕ) → bytes ≡ sealed None block → unsealed_bytes bytes ≡ block
+unsealed_is block bytes is =
+    ap unsealed_bytes is
+    ∙ ap (λ (n : ℕ). take n (sealed None block)) (omega (arith, length-sealed None block))
+    ∙ take_at block (to_be_bytes w32 (crc32_of block)) (length block) refl
+
+-- bytes of the file that is found
+block_is : (p : SinglePipe) (d : Disk) (h : FileBlockHandle) (bytes block : List ℕ) → (f : IsFound h.id.seq (files_of p)) → AreOfFile p d h bytes → bytes ≡ sealed None block → block_in d h (file_in h.id.seq (files_of p)) ≡ block
+block_is p d h bytes block f are is =
+    ap (λ (o : Option File). block_in d h o) f.is ∙ ap unsealed_bytes (sym (are f.file f.among f.number)) ∙ unsealed_is block bytes is
+
+-- what is read of an entry
+pub entry_read : (p : SinglePipe) (d : Disk) (e : EntryIndex) (h : FileBlockHandle) (bytes block : List ℕ) → IsPipe p d → e.entries ≡ Some h → AreOfFile p d h bytes → (IsOutOfSpan p h.id.seq → ⊥) → bytes ≡ sealed None block
+    → entry_bytes block e ≡ bytes_on d p e
+entry_read p d e h bytes block pipe place are within is =
+    sym (ap (λ (o : Option FileBlockHandle). bytes_placed d p e o) place ∙ ap (λ (l : List ℕ). entry_bytes l e) (block_is p d h bytes block (not_out p d h.id.seq pipe within) are is))
+
+-- entries that lie in batches of the pipe are read as their bytes
+pub disk_reads : (p : SinglePipe) (d : Disk) (bs : Numbered) → IsPipe p d → Holds p d bs [] → ReadsEntries p bs (bytes_on d p)
+disk_reads p d bs pipe holds e bytes lies =
+    let h : FileBlockHandle = lies.handle in
+    let there : List ℕ = take h.len (drop h.offset (d.file lies.file.handle.0).bytes) in
+    let are : AreOfFile p d h there = λ f among number. ap (λ (x : File). take h.len (drop h.offset (d.file x.handle.0).bytes)) (one_file p d lies.file f pipe lies.among among (sym lies.block.seq ∙ sym number)) in
+    let is : there ≡ sealed None (block_of lies.items) = blocks_are p d h there pipe are bs [] lies.before lies.after lies.file lies.items 8 holds (append-nil bs ∙ lies.split) lies.among lies.block ∙ lies.stands in
+    ap (λ (o : Option FileBlockHandle). bytes_placed d p e o) lies.place
+    ∙ ap (λ (l : List ℕ). entry_bytes l e) (block_is p d h there (block_of lies.items) (found h.id.seq (files_of p) lies.file lies.among (sym lies.block.seq)) are is)
+    ∙ sym lies.bytes_are

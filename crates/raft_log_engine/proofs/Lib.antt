@@ -1,0 +1,7 @@
+pub mod Appended
+pub mod Batches
+pub mod EntryReads
+pub mod Fetched
+pub mod Clauses
+pub mod Opened
+pub mod Tables

@@ -1,0 +1,123 @@
+-- The tables have the content of the batches, also with one more batch.
+use Rattle.std.proofs.Common.{◌≡◌, ℕ, ◌+◌, ◌≤◌, Bool, true, false, List, [], ◌∷◌, ◌++◌, length, take, drop, Option, Some, None, refl, sym, ap, subst, ◌∙◌, arith, append_assoc, length-append, length-take, length-drop}
+use Rattle.std.specs.Int.{w32, to_be_bytes}
+use Rattle.std.specs.List.{list_any}
+use Rattle.std.proofs.lemmas.Bool.{false≢true}
+use Rattle.raft_log_records.specs.declared.block.EntriesBlock.{EntriesBlock}
+use Rattle.raft_log_records.specs.declared.file_id.FileBlockHandle.{FileBlockHandle}
+use Rattle.raft_log_records.specs.declared.item.EntryIndex.{EntryIndex}
+use Rattle.raft_log_records.specs.declared.record.LogItemBatch.{LogItemBatch}
+use Rattle.raft_log_records.specs.Block.{StandsIn}
+use Rattle.raft_log_records.specs.Item.{items_of, with_bytes, entry_bytes}
+use Rattle.raft_log_records.specs.Signature.{signature_of}
+use Rattle.raft_log_records.specs.Spelling.{block_of, block_part, holds_entries, holds_mark, lengths, sealed, spell_block, spell_items, spell_record}
+use Rattle.raft_log_records.proofs.Laid.{any_held}
+use Rattle.raft_log_disk.specs.Disk.{Disk}
+use Rattle.raft_log_file.specs.Laws.{Batch}
+use Rattle.raft_log_pipe.specs.declared.pipe.SinglePipe.{SinglePipe}
+use Rattle.raft_log_pipe.specs.Blocks.{IsBlockOf, IsRecordOf, KeepsFiles}
+use Rattle.raft_log_pipe.specs.Pipe.{Numbered}
+use Rattle.raft_log_pipe.proofs.BlockLemmas.{is_last}
+use Rattle.raft_log_memtables.specs.declared.memtables.MemTables.{MemTables}
+use Rattle.raft_log_memtables.specs.Content.{after_batch, nothing}
+use Rattle.raft_log_memtables.specs.ContentLaws.{content_map}
+use Rattle.raft_log_memtables.specs.Entries.{placed_in}
+use Rattle.raft_log_memtables.specs.MemTable.{batch_items}
+use Rattle.raft_log_memtables.specs.MemTables.{content_in}
+use Rattle.raft_log_memtables.proofs.Mapped.{batch_mapped}
+use Rattle.raft_content_log.proofs.Written.{ReadsAll, items_seen}
+use Rattle.raft_log_engine.specs.Held.{IsKept, IsPlace, IsTabled, LiesIn, ReadsEntries, content_of_batches, seen_on, bytes_on}
+use Rattle.raft_log_engine.proofs.Batches.{one_more_batch}
+use Rattle.raft_log_engine.proofs.EntryReads.{disk_reads, length-sealed}
+
+-- without batches the tables are empty
+pub none_tabled : (p : SinglePipe) (tables : MemTables) → content_in tables ≡ nothing → IsTabled p [] tables
+none_tabled p tables none read reads = ap (content_map read) none
+
+-- what calls answer is the content of the batches
+pub answered : (d : Disk) (p : SinglePipe) (tables : MemTables) (bs : Numbered) → IsKept d p tables bs → seen_on d p tables ≡ content_of_batches bs
+answered d p tables bs kept = kept.tabled (bytes_on d p) (disk_reads p d bs kept.pipe kept.holds)
+
+-- ---- where entries lie
+
+-- the entries of before stay where they are
+more_lies : (p q : SinglePipe) (bs : Numbered) (seq : ℕ) (items : Batch) → KeepsFiles p q → q.queue ≡ p.queue → (e : EntryIndex) (bytes : List ℕ) → LiesIn p bs e bytes → LiesIn q (bs ++ (seq, items) ∷ []) e bytes
+more_lies p q bs seq items keeps queue e bytes lies = record {
+  handle = lies.handle;
+  file = lies.file;
+  before = lies.before;
+  items = lies.items;
+  after = lies.after ++ (seq, items) ∷ [];
+  place = lies.place;
+  among = keeps lies.file lies.among;
+  split = ap (λ (l : Numbered). l ++ (seq, items) ∷ []) lies.split ∙ append_assoc lies.before ((lies.file.seq, lies.items) ∷ lies.after) ((seq, items) ∷ []);
+  block = subst (λ x. IsBlockOf x lies.file lies.before lies.items 8 lies.handle) (sym queue) lies.block;
+  stands = lies.stands;
+  bytes_are = lies.bytes_are;
+}
+
+record_longer : (signature : Option ℕ) (items : Batch) → list_any holds_entries items ≡ true → length (block_of items) + 16 ≤ length (spell_record signature items)
+unfolding spell_record
+record_longer signature items holds =
+    let block : List ℕ = spell_block items in
+    let body : List ℕ = spell_items (lengths items) in
+    let one : List ℕ = to_be_bytes w32 (12 + length block + length body) in
+    let two : List ℕ = to_be_bytes w32 (8 + length block) in
+    let a : length (one ++ (two ++ (block ++ sealed signature body))) ≡ 4 + length (two ++ (block ++ sealed signature body)) = length-append one (two ++ (block ++ sealed signature body)) in
+    let b : length (two ++ (block ++ sealed signature body)) ≡ 4 + length (block ++ sealed signature body) = length-append two (block ++ sealed signature body) in
+    omega (arith, a, b, length-append block (sealed signature body), length-sealed signature body, ap (λ (x : Bool). length (block_part x (block_of items))) holds, length-sealed None (block_of items))
+
+short_enough : (signature : Option ℕ) (items : Batch) (len : ℕ) → list_any holds_entries items ≡ true → take len (drop 8 (spell_record signature items)) ≡ sealed None (block_of items) → 8 + len ≤ length (spell_record signature items)
+short_enough signature items len holds is =
+    omega (arith, record_longer signature items holds, ap length is, length-sealed None (block_of items), length-take len (drop 8 (spell_record signature items)), length-drop 8 (spell_record signature items))
+
+-- the entries of the new batch lie in it
+new_lies : (q : SinglePipe) (bs : Numbered) (seq : ℕ) (items : Batch) (h place : FileBlockHandle) (block : EntriesBlock) → IsRecordOf q.queue q.active bs items h → seq ≡ h.id.seq → IsPlace h block place
+    → ((signature : Option ℕ) → StandsIn (spell_record signature items) items (block_of items) (Some block)) → (e : EntryIndex) → LiesIn q (bs ++ (seq, items) ∷ []) (placed_in place e) (entry_bytes (block_of items) e)
+new_lies q bs seq items h place block at number is stands e =
+    let signature : Option ℕ = signature_of q.active.format.version q.active.seq in
+    let here = stands signature in
+    let sealed_there : take place.len (drop 8 (spell_record signature items)) ≡ sealed None (block_of items) =
+    (λ i. take (is.2 i) (drop 8 (spell_record signature items))) ∙ sym (ap (λ (n : ℕ). take block.len (drop n (spell_record signature items))) here.1) ∙ here.2 in
+    record {
+      handle = place;
+      file = q.active;
+      before = bs;
+      items = items;
+      after = [];
+      place = refl;
+      among = is_last q.older.items q.active;
+      split = ap (λ (n : ℕ). bs ++ (n, items) ∷ []) (number ∙ at.block.seq);
+      block = record {
+        seq = ap (λ i. i.seq) is.0 ∙ at.block.seq;
+        offset = omega (arith, is.1, here.1, at.block.offset);
+        within = short_enough signature items place.len here.0 sealed_there;
+      };
+      stands = sealed_there;
+      bytes_are = refl;
+    }
+
+-- ---- one more batch
+
+-- where a batch stands that has its record at this place
+pub record IsPut (q : SinglePipe) (bs : Numbered) (items : Batch) (h : FileBlockHandle) (block : Option EntriesBlock) (place : FileBlockHandle) : Type 0 where
+  pub at : IsRecordOf q.queue q.active bs items h
+  pub stands : (signature : Option ℕ) → StandsIn (spell_record signature items) items (block_of items) block
+  pub is : (b : EntriesBlock) → block ≡ Some b → IsPlace h b place
+
+put_reads : (q : SinglePipe) (bs : Numbered) (seq : ℕ) (items : Batch) (h place : FileBlockHandle) (block : Option EntriesBlock) → IsPut q bs items h block place → seq ≡ h.id.seq
+    → (read : EntryIndex → List ℕ) → ReadsEntries q (bs ++ (seq, items) ∷ []) read → ReadsAll read place (block_of items) (list_any holds_entries items)
+put_reads q bs seq items h place (Some b) here number read reads holds e = reads (placed_in place e) (entry_bytes (block_of items) e) (new_lies q bs seq items h place b here.at number (here.is b refl) here.stands e)
+put_reads q bs seq items h place None here number read reads holds e = absurd (false≢true (sym (here.stands None) ∙ holds))
+
+pub more_tabled : (p q : SinglePipe) (bs : Numbered) (seq : ℕ) (items : Batch) (h place : FileBlockHandle) (block : Option EntriesBlock) (drained : LogItemBatch) (old new : MemTables) → KeepsFiles p q → q.queue ≡ p.queue
+    → IsPut q bs items h block place → seq ≡ h.id.seq → with_bytes (block_of items) (items_of drained.items.items) ≡ items → content_in new ≡ after_batch (batch_items place drained) (content_in old) → list_any holds_mark items ≡ false
+    → IsTabled p bs old → IsTabled q (bs ++ (seq, items) ∷ []) new
+more_tabled p q bs seq items h place block drained old new keeps queue here number is applied plain tabled read reads =
+    let some : list_any holds_entries (items_of drained.items.items) ≡ list_any holds_entries items = sym (any_held (entry_bytes (block_of items)) (items_of drained.items.items)) ∙ ap (list_any holds_entries) is in
+    ap (content_map read) applied
+    ∙ sym (batch_mapped read (batch_items place drained) (content_in old))
+    ∙ ap (λ (l : Batch). after_batch l (content_map read (content_in old)))
+    (items_seen read place (block_of items) (items_of drained.items.items) (λ held. put_reads q bs seq items h place block here number read reads (sym some ∙ held)) ∙ is)
+    ∙ ap (after_batch items) (tabled read (λ e bytes lies. reads e bytes (more_lies p q bs seq items keeps queue e bytes lies)))
+    ∙ sym (one_more_batch bs seq items plain)

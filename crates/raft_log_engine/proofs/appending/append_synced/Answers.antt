@@ -1,0 +1,27 @@
+use Rattle.raft_log_disk.proofs.CauseLemmas.{at_err}
+use Rattle.raft_log_pipe.proofs.BlockLemmas.{same_files, then_files}
+use Rattle.raft_log_engine.proofs.Appended.{appended_stands, appended_synced, appended_unsynced, first_refused}
+use Rattle.raft_log_engine.proofs.appending.append_synced.Goals as goal
+
+pub returns-in_err-sync-clause-err : goal.returns-in_err-sync-clause-err
+returns-in_err-sync-clause-err g c =
+    at_err _ _ (appended_unsynced c.args.pipe.now c.append.new.self c.sync.new.self (g.F.FileSystem.disk c.args.files.now) (g.F.FileSystem.disk c.append.new.files) (g.F.FileSystem.disk c.sync.new.files) c.in_ok-handle.handle.id.seq c.args.batch.now.items
+    c.in_ok-handle.ensures.ok c.in_err-sync.ensures.err)
+
+pub returns-clause-ok : goal.returns-clause-ok
+returns-clause-ok g c =
+    appended_synced c.args.pipe.now c.append.new.self c.sync.new.self (g.F.FileSystem.disk c.args.files.now) (g.F.FileSystem.disk c.append.new.files) (g.F.FileSystem.disk c.sync.new.files) c.in_ok-handle.handle.id.seq c.args.batch.now.items
+    c.in_ok-handle.ensures.ok c.in_ok-sync.ensures.ok
+
+pub returns-clause-stands : goal.returns-clause-stands
+returns-clause-stands g c =
+    appended_stands c.args.pipe.now c.append.new.self c.sync.new.self (g.F.FileSystem.disk c.args.files.now) c.args.batch.now.items c.in_ok-handle.handle
+    c.in_ok-handle.ensures.stands c.in_ok-sync.ensures.same.2 c.in_ok-sync.ensures.same.0
+
+pub returns-in_err-handle-clause-err : goal.returns-in_err-handle-clause-err
+returns-in_err-handle-clause-err g c =
+    at_err _ _ (first_refused c.args.pipe.now c.append.new.self (g.F.FileSystem.disk c.args.files.now) (g.F.FileSystem.disk c.append.new.files) c.args.batch.now.items c.in_err-handle.ensures.err)
+
+pub returns-clause-files : goal.returns-clause-files
+returns-clause-files g c =
+    then_files c.args.pipe.now c.append.new.self c.sync.new.self c.in_ok-handle.ensures.files (same_files c.append.new.self c.sync.new.self c.in_ok-sync.ensures.same.0 c.in_ok-sync.ensures.same.1)

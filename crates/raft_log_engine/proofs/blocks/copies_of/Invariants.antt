@@ -1,0 +1,8 @@
+-- The entries so far are copied.
+use Rattle.std.proofs.Common.{◌≡◌, map, take}
+use Rattle.raft_log_records.specs.Batch.{payloads}
+use Rattle.raft_log_engine.specs.Held.{bytes_on}
+use Rattle.raft_log_engine.proofs.blocks.copies_of.Given as goal
+
+abbrev pub invariant-loop-place : goal.invariant-loop-place
+invariant-loop-place g l = payloads l.copies.items ≡ map (bytes_on (g.F.FileSystem.disk l.files) l.pipe) (take l.place-index l.places)

@@ -1,0 +1,95 @@
+-- What an engine over one queue holds: batches in files, and tables of where their entries lie.
+use Rattle.std.specs.Prelude.{◌≡◌, ℕ, ◌+◌, ◌-◌, Bool, false, List, [], ◌∷◌, ◌++◌, length, map, take, drop, Option, Some, None, ◌==◌, if◌then◌else◌}
+use Rattle.raft_log_records.specs.declared.block.EntriesBlock.{EntriesBlock}
+use Rattle.raft_log_records.specs.declared.file_id.FileBlockHandle.{FileBlockHandle}
+use Rattle.raft_log_records.specs.declared.item.EntryIndex.{EntryIndex}
+use Rattle.raft_log_records.specs.Item.{entry_bytes}
+use Rattle.raft_log_records.specs.Spelling.{block_of, sealed}
+use Rattle.raft_log_disk.specs.Disk.{Disk, IsIn}
+use Rattle.raft_log_file.specs.Laws.{Batch}
+use Rattle.raft_log_pipe.specs.declared.file.File.{File}
+use Rattle.raft_log_pipe.specs.declared.pipe.SinglePipe.{SinglePipe}
+use Rattle.raft_log_pipe.specs.Blocks.{IsBlockOf, files_of, record_in}
+use Rattle.raft_log_pipe.specs.Pipe.{Numbered, Holds, IsPipe}
+use Rattle.raft_log_memtables.specs.declared.memtables.MemTables.{MemTables}
+use Rattle.raft_log_memtables.specs.Content.{Content}
+use Rattle.raft_log_memtables.specs.ContentLaws.{content_map}
+use Rattle.raft_log_memtables.specs.MemTables.{content_in}
+use Rattle.raft_log_memtables.specs.Replay.{content_of}
+
+-- what contracts see of an engine
+pub record Parts (F : Type 0) : Type 0 where
+  pub files : F
+  pub append : SinglePipe
+  pub tables : MemTables
+  -- a write failed, and nothing more is answered
+  pub is_stopped : Bool
+
+-- the content of batches, in their order
+abbrev pub content_of_batches : Numbered → Content (List ℕ)
+content_of_batches bs = content_of (map (λ b. b.1) bs)
+
+-- ---- what calls answer: the tables, with the bytes of entries as they stand on the disk
+
+-- the file of a number
+abbrev pub file_in : ℕ → List File → Option File
+file_in seq [] = None
+file_in seq (f ∷ fs) = if f.seq == seq then Some f else file_in seq fs
+
+-- bytes without the checksum at their end
+abbrev pub unsealed_bytes : List ℕ → List ℕ
+unsealed_bytes bytes = take (length bytes - 4) bytes
+
+-- a block of entries in its file, none where there is no file
+abbrev pub block_in : Disk → FileBlockHandle → Option File → List ℕ
+block_in d h None = []
+block_in d h (Some f) = unsealed_bytes (take h.len (drop h.offset (d.file f.handle.0).bytes))
+
+abbrev pub bytes_placed : Disk → SinglePipe → EntryIndex → Option FileBlockHandle → List ℕ
+bytes_placed d p e None = []
+bytes_placed d p e (Some h) = entry_bytes (block_in d h (file_in h.id.seq (files_of p))) e
+
+-- the bytes of an entry on the disk
+abbrev pub bytes_on : Disk → SinglePipe → EntryIndex → List ℕ
+bytes_on d p e = bytes_placed d p e e.entries
+
+abbrev pub seen_on : Disk → SinglePipe → MemTables → Content (List ℕ)
+seen_on d p tables = content_map (bytes_on d p) (content_in tables)
+
+-- ---- what ties the tables to the batches
+
+-- the block of a record's entries, in the file of the record
+abbrev pub IsPlace : FileBlockHandle → EntriesBlock → FileBlockHandle → Type 0
+IsPlace written block place = (place.id ≡ written.id) × (place.offset ≡ written.offset + block.offset) × (place.len ≡ block.len)
+
+-- the entry lies in the block of one of these batches, in a file of the pipe, and has these bytes there
+pub record LiesIn (p : SinglePipe) (bs : Numbered) (e : EntryIndex) (bytes : List ℕ) : Type 0 where
+  pub handle : FileBlockHandle
+  pub file : File
+  pub before : Numbered
+  pub items : Batch
+  pub after : Numbered
+  pub place : e.entries ≡ Some handle
+  pub among : IsIn file (files_of p)
+  pub split : bs ≡ before ++ (file.seq, items) ∷ after
+  pub block : IsBlockOf p.queue file before items 8 handle
+  pub stands : take handle.len (drop 8 (record_in file items)) ≡ sealed None (block_of items)
+  pub bytes_are : bytes ≡ entry_bytes (block_of items) e
+
+-- each entry that lies there is read as its bytes
+abbrev pub ReadsEntries : SinglePipe → Numbered → (EntryIndex → List ℕ) → Type 0
+ReadsEntries p bs read = (e : EntryIndex) (bytes : List ℕ) → LiesIn p bs e bytes → read e ≡ bytes
+
+-- however such entries are read, the tables have the content of the batches
+abbrev pub IsTabled : SinglePipe → Numbered → MemTables → Type 0
+IsTabled p bs tables = (read : EntryIndex → List ℕ) → ReadsEntries p bs read → content_map read (content_in tables) ≡ content_of_batches bs
+
+-- the files have these batches, all of them on the disk, and the tables their content
+pub record IsKept (d : Disk) (p : SinglePipe) (tables : MemTables) (bs : Numbered) : Type 0 where
+  pub pipe : IsPipe p d
+  pub holds : Holds p d bs []
+  pub tabled : IsTabled p bs tables
+
+-- so it is unless a write has failed
+abbrev pub IsEngine : Disk → SinglePipe → MemTables → Bool → Type 0
+IsEngine d p tables is_stopped = is_stopped ≡ false → (bs : Numbered) × IsKept d p tables bs

@@ -1,0 +1,73 @@
+//! An engine over one queue of files.
+ghost use Rattle.std.specs.Prelude.{◌≡◌, ◌<◌, false, length, IfOk};
+ghost use Rattle.raft_log_engine.specs.Held.{seen_on};
+ghost use Rattle.raft_log_memtables.specs.Content.{nothing};
+ghost use Rattle.raft_log_pipe.specs.Pipe.{IsLast, IsPlain};
+ghost use Rattle.raft_log_records.specs.declared.file_id.LogQueue.TheVariants.{Append};
+
+use crate::fault::EngineFault;
+use raft_log_files::{FileSystem, LogFileFormat};
+use raft_log_memtables::MemTables;
+use raft_log_pipe::{Paths, SinglePipe};
+use raft_log_records::LogQueue;
+use std::alloc::Global;
+use std::marker::Model;
+
+/// A log engine over one queue of files (raft-engine's `Engine`): its batches are on the disk, and
+/// where their entries lie is in memory. After a write that failed it answers nothing more.
+#[derive(Drop)]
+pub struct Engine<F: FileSystem> {
+    pub(crate) alloc: Global,
+    pub(crate) files: F,
+    pub(crate) append: SinglePipe,
+    pub(crate) tables: MemTables,
+    /// A write failed.
+    pub(crate) is_stopped: bool,
+}
+
+impl<F: FileSystem> Model for Engine<F> {
+    ghost use Rattle.raft_log_engine.specs.Held.{Parts, IsEngine};
+    ghost use Rattle.raft_log_memtables.specs.contracts.memtables.MemTables.{the_row};
+    ghost use Rattle.std.specs.Coded.{codes};
+
+    ghost Value = { Parts F };
+
+    ghost coded = { Prim.hlevel (codes, the_row.coded) };
+
+    ghost view = { λ e. record { files = e.files; append = e.append; tables = e.tables; is_stopped = e.is_stopped } };
+
+    ghost invariant = { λ e. IsEngine (F.disk e.files) e.append e.tables e.is_stopped };
+}
+
+impl<F: FileSystem + Drop> Engine<F> {
+    /// Makes the first file of an engine that has none, in the first of these directories with room.
+    pub fn create(
+        mut files: F,
+        alloc: Global,
+        paths: Paths,
+        format: LogFileFormat,
+        target_file_size: u64,
+    ) -> Result<Engine<F>, EngineFault>
+        requires paths { 0 < length paths.items }
+        requires plain { IsPlain format }
+        requires none { IsLast (F.disk files) paths.items Append 0 }
+        ensures sound { IfOk result (λ e. e.is_stopped ≡ false) }
+        ensures answers { IfOk result (λ e. seen_on (F.disk e.files) e.append e.tables ≡ nothing) }
+    {
+        let append = SinglePipe::create(
+            &mut files,
+            alloc,
+            LogQueue::Append,
+            paths,
+            format,
+            target_file_size,
+        )?;
+        Ok(Engine {
+            alloc,
+            files,
+            append,
+            tables: MemTables::new(alloc),
+            is_stopped: false,
+        })
+    }
+}

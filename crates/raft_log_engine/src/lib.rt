@@ -1,0 +1,15 @@
+//! The log engine over one queue of log files.
+#![tactic(auto)]
+
+mod appending;
+mod blocks;
+mod calls;
+mod engine;
+mod fault;
+mod memory;
+mod opening;
+mod writing;
+
+pub use engine::Engine;
+pub use fault::EngineFault;
+pub use opening::NotOpened;

@@ -1,0 +1,87 @@
+//! Opening an engine with the files that are there.
+ghost use Rattle.std.specs.Prelude.{◌≡◌, IfOk, IfErr, OnErr};
+ghost use Rattle.raft_log_engine.specs.Left.{IsSound, answers_on};
+ghost use Rattle.raft_log_engine.specs.Opening.{IsFoundContent, IsLeftByOpening, IsRecoveredAs};
+ghost use Rattle.raft_log_records.specs.declared.file_id.LogQueue.TheVariants.{Append};
+ghost use Rattle.raft_log_files.specs.Settings.{settings_of};
+ghost use Rattle.raft_log_recovery.specs.Scan.{directories_of};
+
+use crate::engine::Engine;
+use crate::fault::EngineFault;
+use raft_log_files::{Config, FileSystem, RecoveryConfig};
+use raft_log_memtables::MemTables;
+use raft_log_pipe::SinglePipe;
+use raft_log_records::LogQueue;
+use raft_log_recovery::{DualPipesBuilder, NewMachine};
+use raft_log_replay::ReplayedBatches;
+use std::alloc::Global;
+
+/// An engine that wasn't opened (own): why, and its files.
+#[derive(Drop)]
+pub struct NotOpened<F> {
+    /// Why.
+    pub fault: EngineFault,
+    /// The files, handed back.
+    pub files: F,
+}
+
+/// How the append queue is recovered by these settings.
+fn recovery_of(config: &Config) -> RecoveryConfig
+    ensures queue { result.queue ≡ Append }
+    ensures mode { result.mode ≡ config.now.recovery_mode }
+{
+    RecoveryConfig {
+        queue: LogQueue::Append,
+        mode: config.recovery_mode,
+        concurrency: 1,
+        read_block_size: config.recovery_read_block_size.0,
+    }
+}
+
+/// The pipe over the files that are there, and the tables of their batches.
+fn recovered<F: FileSystem>(
+    files: &mut F,
+    alloc: Global,
+    config: Config,
+) -> Result<(SinglePipe, MemTables), EngineFault>
+    ensures ok { IfOk result (λ found. IsRecoveredAs config.recovery_mode (directories_of (settings_of config)) (F.disk files.old) (F.disk files.new) found.0 found.1) }
+    ensures err { OnErr result (IsLeftByOpening (directories_of (settings_of config)) (F.disk files.old) (F.disk files.new)) }
+{
+    let recovery = recovery_of(&config);
+    let mut builder = DualPipesBuilder::new(alloc, config);
+    builder.scan(files)?;
+    let mut machine = ReplayedBatches::new_machine(alloc);
+    let pipe = builder.open_queue(files, &recovery, &mut machine)?;
+    let tables = machine.finish(alloc, MemTables::new(alloc))?;
+    Ok((pipe, tables))
+}
+
+impl<F: FileSystem + Drop> Engine<F> {
+    /// Opens the engine with the files that are there, or makes its first one (raft-engine's `open`,
+    /// of the append queue alone): what the files read as is its content. A fault in a file is cut
+    /// away or refused, as `recovery_mode` says. A refusal hands the files back.
+    pub fn open(mut files: F, alloc: Global, config: Config) -> Result<Engine<F>, NotOpened<F>>
+        ensures sound { IfOk result IsSound }
+        ensures answers { IfOk result (λ e. IsFoundContent config.recovery_mode (directories_of (settings_of config)) (F.disk files) (answers_on F.disk e)) }
+        ensures err { IfErr result (λ refused. IsLeftByOpening (directories_of (settings_of config)) (F.disk files) (F.disk refused.files)) }
+    {
+        match recovered(&mut files, alloc, config) {
+            Ok((append, tables)) => Ok(Engine {
+                alloc,
+                files,
+                append,
+                tables,
+                is_stopped: false,
+            }),
+            Err(fault) => Err(NotOpened { fault, files }),
+        }
+    }
+
+    /// The files, handed back (raft-engine's `close`, which has nothing to write). An engine is
+    /// opened again with them.
+    pub fn close(self) -> F
+        ensures { result ≡ self.files }
+    {
+        self.files
+    }
+}

@@ -1,0 +1,15 @@
+//! A log engine over files in memory, a row of text each: what its calls answer.
+#![tactic(auto)]
+
+mod batches;
+mod calls;
+mod reopening;
+mod rows;
+
+use raft_rows::run;
+use rows::Calls;
+use std::io;
+
+fn main(rt: HostRuntime) -> io::Result<()> {
+    run(&rt, &mut Calls)
+}

@@ -1,0 +1,73 @@
+//! Which calls the words of a row name.
+
+ghost use Rattle.std.specs.Prelude.{◌≡◌, ◌<◌, [], length, IfOk};
+ghost use Rattle.raft_log_disk.specs.MemorySystem.{disk_in};
+ghost use Rattle.raft_log_pipe.specs.Pipe.{IsLast};
+
+use crate::calls::{Told, steps_on};
+use crate::reopening::reopened;
+use raft_log_engine::{Engine, EngineFault};
+use raft_log_files::{Error, FileSystem, IoFault, LogFileFormat, MemoryFileSystem};
+use raft_log_pipe::Paths;
+use raft_log_records::Version;
+use raft_rows::{Answer, Rows, number};
+use std::alloc::{AllocError, Global};
+
+/// Each row has files of its own.
+#[derive(Drop)]
+pub struct Calls;
+
+fn directory<F: FileSystem>(files: &mut F) -> Result<(), IoFault>
+    ensures { (F.disk files.new).names ≡ (F.disk files.old).names }
+{
+    files.make_dir("main")
+}
+
+/// Makes the directory of so many bytes; of any number where the word is `any`.
+fn bounded(files: &mut MemoryFileSystem, space: &str) -> Result<(), IoFault>
+    ensures { (disk_in files.new).names ≡ (disk_in files.old).names }
+{
+    directory(files)?;
+    if space != "any" {
+        files.set_space("main", number(space))?;
+    }
+    Ok(())
+}
+
+fn paths_of(alloc: Global) -> Result<Paths, AllocError>
+    ensures { IfOk result (λ v. 0 < length v.items) }
+{
+    let mut paths = Vec::new(alloc);
+    paths.push(String::from_str(alloc, "main")?)?;
+    Ok(paths)
+}
+
+fn told(
+    alloc: Global,
+    target_size: u64,
+    space: &str,
+    words: &[&str],
+) -> Result<Vec<Told>, EngineFault> {
+    let mut files = MemoryFileSystem::new(alloc);
+    if let Err(fault) = bounded(&mut files, space) {
+        return Err(EngineFault::Log(Error::from(fault)));
+    }
+    let paths = paths_of(alloc)?;
+    let format = LogFileFormat::new(Version::V2, 0);
+    let mut engine = Engine::create(files, alloc, paths, format, target_size)?;
+    Ok(steps_on(&mut engine, alloc, words)?)
+}
+
+impl Rows for Calls {
+    fn answer(&mut self, alloc: Global, words: &[&str]) -> Option<Answer> {
+        Some(match words {
+            ["engine", target_size, space, steps @ ..] => {
+                Answer::shown(alloc, &told(alloc, number(target_size), space, steps))
+            }
+            ["reopened", how, target_size, steps @ ..] => {
+                Answer::shown(alloc, &reopened(alloc, number(target_size), how, steps))
+            }
+            _ => return None,
+        })
+    }
+}
