@@ -73,7 +73,7 @@ fn take_frame<S: GroupStorage<Snapshot = SnapshotBytes>>(
     frame: &Frame,
     now: u64,
 ) -> Result<Outcome, AnswerError<S::Fault>>
-    ensures { IsFrameTaken S.stands
+    ensures takes { IsFrameTaken S.stands
         (record { own = groups.old.id; members = get nat_cmp groups.old.members; is_well = S.is_well groups.old.storage; shows = S.shows groups.old.storage })
         (record { own = groups.new.id; members = get nat_cmp groups.new.members; is_well = S.is_well groups.new.storage; shows = S.shows groups.new.storage })
         frame.now now result }
@@ -93,7 +93,7 @@ fn take_from<S: GroupStorage<Snapshot = SnapshotBytes>>(
     frame: &Frame,
     now: u64,
 ) -> Result<Outcome, AnswerError<S::Fault>>
-    ensures { IsFrom peer groups.old groups.new (IsFrameTaken S.stands
+    ensures takes { IsFrom peer groups.old groups.new (IsFrameTaken S.stands
         (record { own = groups.old.id; members = get nat_cmp groups.old.members; is_well = S.is_well groups.old.storage; shows = S.shows groups.old.storage })
         (record { own = groups.new.id; members = get nat_cmp groups.new.members; is_well = S.is_well groups.new.storage; shows = S.shows groups.new.storage })
         frame.now now result) frame.now result }
@@ -122,7 +122,7 @@ pub fn answer_piece<S: GroupStorage<Snapshot = SnapshotBytes>>(
     piece: &[u8],
     now: u64,
 ) -> Answer<S::Fault>
-    ensures { IsAnswered peer groups.old groups.new (λ frame. IsFrameTaken S.stands
+    ensures answers { IsAnswered peer groups.old groups.new (λ frame. IsFrameTaken S.stands
         (record { own = groups.old.id; members = get nat_cmp groups.old.members; is_well = S.is_well groups.old.storage; shows = S.shows groups.old.storage })
         (record { own = groups.new.id; members = get nat_cmp groups.new.members; is_well = S.is_well groups.new.storage; shows = S.shows groups.new.storage })
         frame now result.outcome) feeder.old.feeding piece.now result feeder.new.feeding }

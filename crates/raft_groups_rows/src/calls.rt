@@ -28,9 +28,7 @@ pub fn call(alloc: Global, words: &[&str]) -> Option<GroupCommand> {
         ["elect"] => Some(GroupCall::Elect),
         ["propose", word] => proposal(alloc, word).ok(),
         ["beat"] => Some(GroupCall::Heartbeat),
-        ["lost", peer] => Some(GroupCall::Lost {
-            peer: number(peer),
-        }),
+        ["lost", peer] => Some(GroupCall::Lost { peer: number(peer) }),
         _ => None,
     }
 }

@@ -1,5 +1,5 @@
-//! Nodes with many groups, each node over one store in memory, and the messages between them: a call
-//! a row.
+//! Nodes with many groups, each node over one log of files in memory, and the frames between them: a
+//! call a row.
 #![tactic(auto)]
 
 mod calls;

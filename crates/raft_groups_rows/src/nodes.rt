@@ -1,21 +1,27 @@
-//! Nodes, and the messages that they sent.
+//! Nodes on files, and the frames that they sent.
 
-use raft_content_log::PlainLog;
-use raft_groups::Groups;
-use raft_messages::{Message, SnapshotBytes};
+use raft_framed_groups::GroupFrame;
+use raft_groups::{Groups, GroupsFault};
+use raft_log_disk::{CrashChoice, CrashFiles};
+use raft_log_engine::{Engine, EngineFault};
+use raft_log_files::{Config, MemoryFileSystem};
+use raft_log_records::ReadableSize;
 use raft_node::AddingMachine;
-use raft_store::Store;
+use raft_store::{Store, StoreFault};
 use std::alloc::{AllocError, Global};
 use std::collections::BTreeMap;
 
 /// Where a node keeps its groups.
-pub type Kept = Store<AddingMachine, PlainLog>;
+pub type Kept = Store<AddingMachine, Engine<MemoryFileSystem>>;
 
-/// A message, and the group that it is of.
+/// Why a node's groups don't take an event.
+pub type Fault = GroupsFault<StoreFault<EngineFault>>;
+
+/// A frame, and the node that sent it.
 #[derive(Debug, Drop)]
 pub struct Sent {
-    pub group: u64,
-    pub message: Message<SnapshotBytes>,
+    pub sender: u64,
+    pub frame: GroupFrame,
 }
 
 /// Nodes by their ids, and what was sent.
@@ -23,6 +29,22 @@ pub struct Sent {
 pub struct Nodes {
     pub nodes: BTreeMap<u64, Groups<Kept>>,
     pub sent: Vec<Sent>,
+}
+
+// A log of small files.
+fn config_of(alloc: Global) -> Result<Config, AllocError> {
+    let mut config = Config::default(alloc);
+    config.dir = String::from_str(alloc, "raft")?;
+    config.target_file_size = ReadableSize(256);
+    Ok(config)
+}
+
+// The node over these files, which has none of its groups open.
+fn node_on(files: MemoryFileSystem, alloc: Global, id: u64) -> Result<Groups<Kept>, EngineFault> {
+    match Engine::open(files, alloc, config_of(alloc)?) {
+        Ok(log) => Ok(Groups::new(alloc, id, Store::new(alloc, log))),
+        Err(refused) => Err(refused.fault),
+    }
 }
 
 impl Nodes {
@@ -33,20 +55,26 @@ impl Nodes {
         }
     }
 
-    /// A node that keeps nothing.
-    pub fn begin(&mut self, alloc: Global, id: u64) -> Result<(), AllocError> {
-        let store = Store::new(alloc, PlainLog::new(alloc));
-        self.nodes.insert(id, Groups::new(alloc, id, store))?;
+    /// A node without files.
+    pub fn begin(&mut self, alloc: Global, id: u64) -> Result<(), EngineFault> {
+        let node = node_on(MemoryFileSystem::new(alloc), alloc, id)?;
+        self.nodes.insert(id, node)?;
         Ok(())
     }
 
-    /// The node stops, and has nothing but what it keeps.
-    pub fn stop(&mut self, alloc: Global, id: u64) -> Result<bool, AllocError> {
+    /// The node's machine stops, and the node begins again with what a crash leaves of its files.
+    pub fn crash(
+        &mut self,
+        alloc: Global,
+        id: u64,
+        choice: &CrashChoice,
+    ) -> Result<bool, EngineFault> {
         let Some(groups) = self.nodes.remove(&id) else {
             return Ok(false);
         };
-        let groups = Groups::new(alloc, id, groups.into_storage());
-        self.nodes.insert(id, groups)?;
-        Ok(true)
+        let mut files = groups.into_storage().into_log().close();
+        let is_crashed = files.crash(choice).is_ok();
+        self.nodes.insert(id, node_on(files, alloc, id)?)?;
+        Ok(is_crashed)
     }
 }

@@ -40,6 +40,13 @@ impl<M: StateMachine, L: ContentLog> Store<M, L> {
         }
     }
 
+    /// The log, handed back (own). A node that stops closes it.
+    pub fn into_log(self) -> L
+        ensures { result ≡ self.log }
+    {
+        self.log
+    }
+
     // Writes a batch of one group's changes.
     fn store(&mut self, batch: &mut LogBatch) -> Result<(), StoreFault<L::Fault>>
         ensures well { L.is_sound self.old.log → OnOk result (L.is_sound self.new.log) }
