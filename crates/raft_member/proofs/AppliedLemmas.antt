@@ -23,7 +23,8 @@ pub none_stands_behind : (known : Option (LogId ℕ)) → stands_before known No
 none_stands_behind None h = absurd (let no : false ≡ true = h in cc)
 none_stands_behind (Some last) h = absurd (let no : false ≡ true = h in cc)
 
-module _ (own : ℕ) (e : Engine) (s : GroupState) (h : IsStateOf own e s) (applied : LogId ℕ) (is : e.state.state.committed ≡ Some applied) (past : stands_before (covered_id e) (Some applied) ≡ true) where
+module _ (own : ℕ) (e : Engine) (s : GroupState) (h : IsStateOf own e s) (applied : LogId ℕ)
+    (is : e.state.state.committed ≡ Some applied) (past : stands_before (covered_id e) (Some applied) ≡ true) where
   known : committed_id s ≡ Some applied
   known = sym h.committed ∙ is
 

@@ -41,7 +41,9 @@ module _ (own at token : ℕ) (s : GroupState) (change : ChangeMembers) (accepte
   change_is_valid m e =
       let new = after_change m.membership change in
       let here : first_of_reasons (reasons_of_change (Some m) change) ≡ None = ap (λ o. first_of_reasons (reasons_of_change o change)) (sym e) ∙ judged in
-      let tests : (is_valid new && is_within_limits new) ≡ true = passes (is_valid new && is_within_limits new) MembershipRefused (no_first_reason (unless (is_valid new && is_within_limits new) MembershipRefused) (unless (configs_eq m.membership.configs new.configs) VoterChange ∷ []) here).0 in
+      let tests : (is_valid new && is_within_limits new) ≡ true =
+      passes (is_valid new && is_within_limits new) MembershipRefused
+      (no_first_reason (unless (is_valid new && is_within_limits new) MembershipRefused) (unless (configs_eq m.membership.configs new.configs) VoterChange ∷ []) here).0 in
       and_left (is_valid new) (is_within_limits new) tests
 
 -- an engine that may take an event has room

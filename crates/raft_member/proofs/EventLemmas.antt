@@ -1,9 +1,9 @@
 -- Events that come to a member.
-use Rattle.std.specs.Prelude.{◌≡◌, ◌==◌, ◌&&◌, ◌++◌, not, ℕ, max, true, List, [], ◌∷◌, Option, Some, None, Result, Ok, Err, refl}
-use Rattle.std.proofs.Common.{sym, ap, ap₂, ◌∙◌}
+use Rattle.std.specs.Prelude.{◌≡◌, ◌<◌, ◌≤◌, ◌^◌, ◌==◌, ◌&&◌, ◌++◌, not, ℕ, max, true, List, [], ◌∷◌, Option, Some, None, Result, Ok, Err, refl}
+use Rattle.std.proofs.Common.{sym, ap, ap₂, ◌∙◌, arith}
 use Rattle.std.proofs.lemmas.Bool.{eqb-true}
 use Rattle.raft_quorums.specs.QuorumLaws.{and_left, and_right}
-use Rattle.raft_group_step.specs.StoredGroup.{Snapshot, StoredGroup}
+use Rattle.raft_group_step.specs.StoredGroup.{Snapshot, StoredGroup, end_place}
 use Rattle.raft_group_step.specs.GroupState.{GroupState}
 use Rattle.raft_group_step.specs.GroupEvent.{GroupCall, GroupEvent, Call, Receive}
 use Rattle.raft_group_step.specs.GroupStep.{group_step, step_unless}
@@ -12,11 +12,11 @@ use Rattle.raft_group_step.specs.Refusal.{is_right_party, is_sound, next_blank, 
 use Rattle.raft_group_step.specs.StepResult.{BreaksCondition, RefusalReason, WrongParty, refused_step}
 use Rattle.raft_group_step.proofs.Refusals.{unless_none as passes}
 use Rattle.raft_engine.proofs.EventLemmas.{no_first_reason}
-use Rattle.raft_engine.specs.Events.{HasTaken, given_after, received}
+use Rattle.raft_engine.specs.Events.{HasTaken, MayTake, given_after, received}
 use Rattle.raft_executor.specs.Stored.{IsGiven}
 use Rattle.raft_laws.proofs.StepMoments.{moments_of_calls, moments_of_messages}
 use Rattle.raft_laws.proofs.StepOrder.{step-keeps}
-use Rattle.raft_member.specs.Member.{Engine, HasEnded, HasStopped, IsDown, IsIdle, IsUp}
+use Rattle.raft_member.specs.Member.{Engine, HasEnded, HasStopped, IsDown, IsIdle, IsLawful, IsUp}
 use Rattle.raft_member.specs.Running.{EndsTo, HasHalted, HasRun, IsRun, RunsTo, left_by}
 use Rattle.raft_member.specs.declared.member.Member.{Member}
 use Rattle.raft_member.specs.declared.member.Ended.{Ended}
@@ -29,8 +29,22 @@ module _ (shown : List StoredGroup → Type 0) (own : ℕ) (s : GroupState) (eve
   pub stopped_as_halted : (m : Member) → refusal_of own s event ≡ None → HasHalted shown s.stored (group_step own s event) m → HasStopped shown own s event m
   stopped_as_halted m accepted h = record { taken = accepted; number = h.number; no_engine = h.no_engine; stored = h.stored }
 
+-- there is room behind the log
+pub has_room_behind : (own : ℕ) (s : GroupState) → IsLawful own s → end_place s.stored < 2 ^ 64
+has_room_behind own s lawful = let low : end_place s.stored ≤ 2 ^ 62 = lawful.ready.places in omega arith
+
+-- an engine that waits may take such an event
+pub may_take : (own : ℕ) (e : Engine) (s : GroupState) (event : GroupEvent) → IsIdle own e s → IsLawful own s → refusal_of own s event ≡ None → MayTake own e s event
+may_take own e s event idle lawful accepted = record {
+  stands = idle.stands;
+  empty = idle.empty;
+  ready = lawful.ready;
+  accepted = accepted;
+}
+
 -- nothing was stored yet
-pub halted_at_once : (is_well : Type 0) (shown : List StoredGroup → Type 0) (own : ℕ) (s : GroupState) (event : GroupEvent) → More is_well shown → (m : Member) → m.engine ≡ None → shown (s.stored ∷ [])
+pub halted_at_once : (is_well : Type 0) (shown : List StoredGroup → Type 0) (own : ℕ) (s : GroupState) (event : GroupEvent) → More is_well shown
+    → (m : Member) → m.engine ≡ None → shown (s.stored ∷ [])
     → HasHalted shown s.stored (group_step own s event) m
 halted_at_once is_well shown own s event more m none stored = record {
   number = 0;
@@ -40,7 +54,8 @@ halted_at_once is_well shown own s event more m none stored = record {
 
 module _ {X : Type 0} (stands : X → Snapshot → Type 0) (is_well : Type 0) (shown : List StoredGroup → Type 0) (own : ℕ) (s : GroupState) (event : GroupEvent) where
   -- an event that isn't refused ends as its step does
-  pub ended_as_run : (stop : Option ℕ) (m : Member) (end : Ended X) → refusal_of own s event ≡ None → HasRun stands is_well shown s.stored (group_step own s event) stop m end → HasEnded stands is_well shown own s event stop m end
+  pub ended_as_run : (stop : Option ℕ) (m : Member) (end : Ended X) → refusal_of own s event ≡ None
+      → HasRun stands is_well shown s.stored (group_step own s event) stop m end → HasEnded stands is_well shown own s event stop m end
   ended_as_run stop m (ended.Done sent) accepted h = (h.0, accepted, h.1, h.2)
   ended_as_run stop m (ended.Refused why) accepted h = absurd h
   ended_as_run stop m ended.Stopped accepted h = (accepted, h)
@@ -70,7 +85,8 @@ module _ {X : Type 0} (stands : X → Snapshot → Type 0) where
       (is ∙ sym (moments_of_messages own s peer (record { sender = peer; addressee = own; body = body }) at accepted))
 
   -- the engine has done a call with the snapshot that is given
-  pub run_of_call_with : (before : Engine) (own at moment : ℕ) (e : Engine) (s : GroupState) (call : GroupCall) (given : X) (x : Snapshot) → stands given x → moment ≡ max s.now at → refusal_of own s (Call call at) ≡ None
+  pub run_of_call_with : (before : Engine) (own at moment : ℕ) (e : Engine) (s : GroupState) (call : GroupCall) (given : X) (x : Snapshot)
+      → stands given x → moment ≡ max s.now at → refusal_of own s (Call call at) ≡ None
       → HasTaken x own before e s (Call call at) → IsRun stands own e s.stored (group_step own s (Call call at)) (Some given) moment
   run_of_call_with before own at moment e s call given x said is accepted h = record {
     taken = given_after x before s (Call call at);
@@ -81,7 +97,8 @@ module _ {X : Type 0} (stands : X → Snapshot → Type 0) where
   }
 
   -- the engine was handed a message with the snapshot that is given
-  pub run_of_message_with : (before : Engine) (own peer at moment : ℕ) (e : Engine) (s : GroupState) (body : MessageBody) (given : X) (x : Snapshot) → stands given x → moment ≡ max s.now at → refusal_of own s (received own peer body at) ≡ None
+  pub run_of_message_with : (before : Engine) (own peer at moment : ℕ) (e : Engine) (s : GroupState) (body : MessageBody) (given : X) (x : Snapshot)
+      → stands given x → moment ≡ max s.now at → refusal_of own s (received own peer body at) ≡ None
       → HasTaken x own before e s (received own peer body at) → IsRun stands own e s.stored (group_step own s (received own peer body at)) (Some given) moment
   run_of_message_with before own peer at moment e s body given x said is accepted h = record {
     taken = given_after x before s (received own peer body at);
@@ -111,7 +128,8 @@ pub refused_state : (own : ℕ) (s : GroupState) (event : GroupEvent) (why : Ref
 refused_state own s event why e = ap (λ reason. step_unless reason own s event) e
 
 -- the member is up again with the engine that was taken out
-pub up_again : (is_well : Type 0) (shown : List StoredGroup → Type 0) (m : Member) (e : Engine) (s : GroupState) → IsDown is_well shown m s.stored → m.moment ≡ s.now → IsIdle m.id e s → IsUp is_well shown (record m { engine = Some e }) s
+pub up_again : (is_well : Type 0) (shown : List StoredGroup → Type 0) (m : Member) (e : Engine) (s : GroupState) → IsDown is_well shown m s.stored
+    → m.moment ≡ s.now → IsIdle m.id e s → IsUp is_well shown (record m { engine = Some e }) s
 up_again is_well shown m e s down moment idle = record {
   engine = e;
   has_engine = refl;

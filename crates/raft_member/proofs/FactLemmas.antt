@@ -1,5 +1,6 @@
 -- The numbers of a leader's next requests, and what the facts of a group rest on.
-use Rattle.std.specs.Prelude.{◌≡◌, ℕ, ◌+◌, ◌-◌, ◌<◌, ◌==◌, ◌^◌, ◌&&◌, ◌||◌, max, min, nat_eq, nat_lt, Bool, true, false, if◌then◌else◌, List, [], ◌∷◌, ◌++◌, map, Option, Some, None, is_some, unwrap_or, refl}
+use Rattle.std.specs.Prelude.{◌≡◌, ℕ, ◌+◌, ◌-◌, ◌<◌, ◌==◌, ◌^◌, ◌&&◌, ◌||◌, max, min, nat_eq, nat_lt, Bool, true, false, if◌then◌else◌}
+use Rattle.std.specs.Prelude.{List, [], ◌∷◌, ◌++◌, map, Option, Some, None, is_some, unwrap_or, refl}
 use Rattle.std.specs.List.{list_all}
 use Rattle.std.proofs.Common.{ap, sym, ◌∙◌, subst, arith}
 use Rattle.std.proofs.lemmas.Bool.{eqb-true, and_from}
@@ -33,7 +34,8 @@ and_moved false b c = refl
 max_below : (a b limit : ℕ) → nat_lt (max a b) limit ≡ (nat_lt b limit && nat_lt a limit)
 max_below a b limit =
     same_tests (nat_lt (max a b) limit) (nat_lt b limit && nat_lt a limit)
-    (λ h. let m : max a b < limit = grind (arith, nat_tests, h) in and_from (nat_lt b limit) (nat_lt a limit) (let k : b < limit = omega arith in grind (arith, nat_tests, k)) (let k : a < limit = omega arith in grind (arith, nat_tests, k)))
+    (λ h. let m : max a b < limit = grind (arith, nat_tests, h) in
+    and_from (nat_lt b limit) (nat_lt a limit) (let k : b < limit = omega arith in grind (arith, nat_tests, k)) (let k : a < limit = omega arith in grind (arith, nat_tests, k)))
     (λ h. let f : b < limit = grind (arith, nat_tests, and_left (nat_lt b limit) (nat_lt a limit) h) in
     let g : a < limit = grind (arith, nat_tests, and_right (nat_lt b limit) (nat_lt a limit) h) in
     let m : max a b < limit = omega arith in

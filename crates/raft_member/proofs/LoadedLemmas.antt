@@ -26,7 +26,8 @@ head_of covered (Some y) h = record { snapshot = y; is = refl; last = h.0; membe
 abbrev snapshot_with : LogId ℕ → Option LoggedMembership → List Entry → Snapshot
 snapshot_with last membership entries = record { last = last; membership = membership; «prefix» = entries }
 
-pub head_says : (head : SnapshotHead) (covered : SnapshotMeta ℕ (List ℕ)) (x : Option Snapshot) (h : IsHeadOf covered x) → head.last ≡ covered.last_log_id → logged_or_none head.membership ≡ covered.last_membership
+pub head_says : (head : SnapshotHead) (covered : SnapshotMeta ℕ (List ℕ)) (x : Option Snapshot) (h : IsHeadOf covered x)
+    → head.last ≡ covered.last_log_id → logged_or_none head.membership ≡ covered.last_membership
     → snapshot_of head h.snapshot.«prefix» ≡ h.snapshot
 head_says head covered x h last membership =
     ap (λ (id : LogId ℕ). snapshot_with id (logged_or_none head.membership) h.snapshot.«prefix») (last ∙ h.last)

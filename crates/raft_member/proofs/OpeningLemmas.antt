@@ -95,7 +95,8 @@ module _ (st : StoredGroup) where
       by_stale (Some last) = refl
 
   -- a member that has stored this is down with it
-  pub opened_down : (is_well : Type 0) (shown : List StoredGroup → Type 0) (m : Member) → m.engine ≡ None → is_well → st.present ≡ true → shown (after_storing_all first st ∷ []) → IsDown is_well shown m (opened st).state.stored
+  pub opened_down : (is_well : Type 0) (shown : List StoredGroup → Type 0) (m : Member) → m.engine ≡ None → is_well → st.present ≡ true
+      → shown (after_storing_all first st ∷ []) → IsDown is_well shown m (opened st).state.stored
   opened_down is_well shown m none well present stored = record {
     no_engine = none;
     well = well;
@@ -128,7 +129,8 @@ module _ (st : StoredGroup) where
         }
 
     module _ (k : KnownState) (found : Option (LogId ℕ)) (e : Engine) (loads : Loads k (opened st).state.stored) (last : found ≡ snapshot_last (opened st).state.stored)
-        (config : e.config ≡ config_of own) (no_lead : e.leader ≡ None) (no_candidate : e.candidate ≡ None) (knows : Knows e.state (opened st).state.stored) (known : e.state ≡ with_committed k found e.state.state.membership_state) where
+        (config : e.config ≡ config_of own) (no_lead : e.leader ≡ None) (no_candidate : e.candidate ≡ None)
+        (knows : Knows e.state (opened st).state.stored) (known : e.state ≡ with_committed k found e.state.state.membership_state) where
       opened_stands : IsStateOf own e (opened st).state
       opened_stands =
           let s = (opened st).state in
@@ -152,7 +154,8 @@ module _ (st : StoredGroup) where
     has_opened now o k found e same fresh there last config no_lead no_candidate knows known queue =
         let low : end_place now < 2 ^ 64 = let l = openable.ready.places in let n : end_place now ≡ end_place (opened st).state.stored = ap end_place same in omega arith in
         let loads : Loads k now = subst (IsFresh now) there (fresh (subst IsPlaced (sym same) openable.placed) low) in
-        (opened_stands k found e (subst (Loads k) same loads) (last ∙ ap snapshot_last same) config no_lead no_candidate (knows (opened st).state.stored (subst (Knows k) same loads.knows)) known, queue)
+        (opened_stands k found e (subst (Loads k) same loads) (last ∙ ap snapshot_last same) config no_lead no_candidate
+        (knows (opened st).state.stored (subst (Knows k) same loads.knows)) known, queue)
 
   -- ---- the step of an opening
 
@@ -209,7 +212,8 @@ module _ (st : StoredGroup) where
         stored = shown_first is_well shown more _ _ _ refl stored;
       }
 
-      pub stopped_in_first : More is_well shown → (m : Member) → m.engine ≡ None → (last : LogId ℕ) → stale_end st ≡ Some last → shown (st ∷ after_storing (StartAfter last) st ∷ []) → HasStopped shown own (state_of st) Open m
+      pub stopped_in_first : More is_well shown → (m : Member) → m.engine ≡ None → (last : LogId ℕ) → stale_end st ≡ Some last
+          → shown (st ∷ after_storing (StartAfter last) st ∷ []) → HasStopped shown own (state_of st) Open m
       stopped_in_first more m none last is stored = record {
         taken = refl;
         number = 0;

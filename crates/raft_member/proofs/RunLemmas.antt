@@ -98,17 +98,26 @@ two_differ : one_snapshot 0 ≡ one_snapshot 1 → ⊥
 two_differ e = absurd (let no : zero ≡ suc zero = ap (λ (x : Snapshot). x.last.index) e in cc)
 
 -- a step that its engine has done whatever the snapshot stores none
-pub no_snapshot_stored : {own : ℕ} {seen : Bool} {last : ℕ} {before : StoredGroup} {committed : Option (LogId ℕ)} {turn : Turn} (e : Engine) (r : StepResult) → ((x : Snapshot) → IsWholeStepOf (record { snapshot = x; seen_greater_log = seen; last_sm_seq = last; stored_before = before; committed_before = committed; turn_before = turn }) own e r) → queue_has_snapshot e.output.queue ≡ false
+pub no_snapshot_stored : {own : ℕ} {seen : Bool} {last : ℕ} {before : StoredGroup} {committed : Option (LogId ℕ)} {turn : Turn} (e : Engine) (r : StepResult)
+    → ((x : Snapshot) → IsWholeStepOf (record { snapshot = x; seen_greater_log = seen; last_sm_seq = last;
+      stored_before = before; committed_before = committed; turn_before = turn }) own e r)
+    → queue_has_snapshot e.output.queue ≡ false
 no_snapshot_stored e r h =
     no_snapshot (one_snapshot 0) (one_snapshot 1) two_differ e.output.queue ((h (one_snapshot 0)).stores ∙ sym (h (one_snapshot 1)).stores)
 
 module _ {X : Type 0} (stands : X → Snapshot → Type 0) where
   -- so no snapshot need be given for it
-  pub none_given : {own : ℕ} {seen : Bool} {last : ℕ} {before : StoredGroup} {committed : Option (LogId ℕ)} {turn : Turn} (e : Engine) (r : StepResult) → ((x : Snapshot) → IsWholeStepOf (record { snapshot = x; seen_greater_log = seen; last_sm_seq = last; stored_before = before; committed_before = committed; turn_before = turn }) own e r) → (x : Snapshot) → IsGiven stands (queue_has_snapshot e.output.queue) None x
+  pub none_given : {own : ℕ} {seen : Bool} {last : ℕ} {before : StoredGroup} {committed : Option (LogId ℕ)} {turn : Turn} (e : Engine) (r : StepResult)
+      → ((x : Snapshot) → IsWholeStepOf (record { snapshot = x; seen_greater_log = seen; last_sm_seq = last;
+        stored_before = before; committed_before = committed; turn_before = turn }) own e r)
+      → (x : Snapshot) → IsGiven stands (queue_has_snapshot e.output.queue) None x
   none_given e r h x = λ has. absurd (let no : false ≡ true = sym (no_snapshot_stored e r h) ∙ has in cc)
 
   -- a step that its engine has done whatever the snapshot is run with none
-  pub run_without_snapshot : {seen : Bool} {last : ℕ} {before : StoredGroup} {committed : Option (LogId ℕ)} {turn : Turn} (own : ℕ) (e : Engine) (old : StoredGroup) (r : StepResult) (at : ℕ) → ((x : Snapshot) → IsWholeStepOf (record { snapshot = x; seen_greater_log = seen; last_sm_seq = last; stored_before = before; committed_before = committed; turn_before = turn }) own e r)
+  pub run_without_snapshot : {seen : Bool} {last : ℕ} {before : StoredGroup} {committed : Option (LogId ℕ)} {turn : Turn}
+      (own : ℕ) (e : Engine) (old : StoredGroup) (r : StepResult) (at : ℕ)
+      → ((x : Snapshot) → IsWholeStepOf (record { snapshot = x; seen_greater_log = seen; last_sm_seq = last;
+        stored_before = before; committed_before = committed; turn_before = turn }) own e r)
       → r.state.stored ≡ after_storing_all r.commands old → at ≡ r.state.now → IsRun stands own e old r None at
   run_without_snapshot {seen} {last} {before} {committed} {turn} own e old r at h stored moment = record {
     taken = record { snapshot = one_snapshot 0; seen_greater_log = seen; last_sm_seq = last; stored_before = before; committed_before = committed; turn_before = turn };

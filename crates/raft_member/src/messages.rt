@@ -106,7 +106,8 @@ fn take_message<X>(
     moment: u64,
     engine: &mut Engine<ByteGroup>,
 ) -> Result<(), AllocError>
-    ensures { (carried : X → Snapshot) (x : Snapshot) (own at : ℕ) (s : GroupState) → moment ≡ max s.now at → ((vote : _) (id : ℕ) (y : X) → message.now.body ≡ SendsSnapshot vote id y → ⊥)
+    ensures { (carried : X → Snapshot) (x : Snapshot) (own at : ℕ) (s : GroupState) → moment ≡ max s.now at
+        → ((vote : _) (id : ℕ) (y : X) → message.now.body ≡ SendsSnapshot vote id y → ⊥)
         → MayTake own engine.old s (received own message.now.sender (body_as carried message.now.body) at)
         → OnOk result (HasTaken x own engine.old engine.new s (received own message.now.sender (body_as carried message.now.body) at)) }
 {

@@ -163,10 +163,14 @@ impl Member {
     ) -> Result<Ended<S::Snapshot>, S::Fault>
         ensures id { self.new.id ≡ self.old.id }
         ensures well { S.is_well storage.old → OnOk result (S.is_well storage.new) }
-        ensures ok { (st : Stored) → IsLoaded loaded.now (opened st).state.stored → IsDown (S.is_well storage.old) (S.shows storage.old group) self.old (opened st).state.stored → IsOpenable self.old.id st
-            → IfOk result (HasRun S.stands (S.is_well storage.new) (S.shows storage.new group) (opened st).state.stored (finished self.old.id None (resume_lead self.old.id (unchanged (opened st).state))) stop self.new) }
-        ensures err { (st : Stored) → IsLoaded loaded.now (opened st).state.stored → IsDown (S.is_well storage.old) (S.shows storage.old group) self.old (opened st).state.stored → IsOpenable self.old.id st
-            → OnErr result (HasHalted (S.shows storage.new group) (opened st).state.stored (finished self.old.id None (resume_lead self.old.id (unchanged (opened st).state))) self.new) }
+        ensures ok { (st : Stored) → IsLoaded loaded.now (opened st).state.stored
+            → IsDown (S.is_well storage.old) (S.shows storage.old group) self.old (opened st).state.stored → IsOpenable self.old.id st
+            → IfOk result (HasRun S.stands (S.is_well storage.new) (S.shows storage.new group) (opened st).state.stored
+            (finished self.old.id None (resume_lead self.old.id (unchanged (opened st).state))) stop self.new) }
+        ensures err { (st : Stored) → IsLoaded loaded.now (opened st).state.stored
+            → IsDown (S.is_well storage.old) (S.shows storage.old group) self.old (opened st).state.stored → IsOpenable self.old.id st
+            → OnErr result (HasHalted (S.shows storage.new group) (opened st).state.stored
+            (finished self.old.id None (resume_lead self.old.id (unchanged (opened st).state))) self.new) }
         ensures others { KeepsOthers (S.shows storage.old) (S.shows storage.new) group }
     {
         let Some(mut engine) = opened_engine(alloc, self.id, loaded)? else {

@@ -17,7 +17,8 @@ returns-in_default-2 c = λ x own at token s may.
     let known : membership_in_force s.stored ≡ Some (record { log_id = c.in-Some.field-0-0; membership = c.in-Some.old.now }) =
     sym (c.membership_in_force.ensures s.stored may.stands.knows) ∙ ap logged_or_none c.in-Some.is in
     let invalid : is_valid (after_change c.in-Some.old.now c.args.change.now) ≡ false =
-    subst (λ o. MatchOption o (is_valid (after_change c.in-Some.old.now c.args.change.now) ≡ false) (λ new. new ≡ after_change c.in-Some.old.now c.args.change.now)) c.in_default-2.is c.in_ok-new.ensures in
+    subst (λ o. MatchOption o (is_valid (after_change c.in-Some.old.now c.args.change.now) ≡ false) (λ new. new ≡ after_change c.in-Some.old.now c.args.change.now))
+    c.in_default-2.is c.in_ok-new.ensures in
     let valid = change_is_valid own at token s c.args.change.now may.accepted _ known in
     absurd (let no : false ≡ true = sym invalid ∙ valid in cc)
 
@@ -30,5 +31,6 @@ returns c = λ x own at token s may.
     let known : membership_in_force s.stored ≡ Some (record { log_id = c.in-Some.field-0-0; membership = c.in-Some.old.now }) =
     sym (c.membership_in_force.ensures s.stored may.stands.knows) ∙ ap logged_or_none c.in-Some.is in
     (c.in_ok-_answer.ensures.taken x own at token s _ c.args.change.now known
-    (subst (λ o. MatchOption o (is_valid (after_change c.in-Some.old.now c.args.change.now) ≡ false) (λ new. new ≡ after_change c.in-Some.old.now c.args.change.now)) c.in-Some-2.is c.in_ok-new.ensures)
+    (subst (λ o. MatchOption o (is_valid (after_change c.in-Some.old.now c.args.change.now) ≡ false) (λ new. new ≡ after_change c.in-Some.old.now c.args.change.now))
+    c.in-Some-2.is c.in_ok-new.ensures)
     may).1

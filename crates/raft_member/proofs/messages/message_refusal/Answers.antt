@@ -20,7 +20,8 @@ returns-in-SnapshotRequest g c = λ y brings own s facts.
     subst (λ body. option_map reason_of c.snapshot_request_refusal.result
     ≡ refusal_of own s (Receive c.args.message.now.sender (record { sender = c.args.message.now.sender; addressee = c.args.message.now.addressee; body = body_as (λ x. y) body }) c.args.now))
     (sym c.in-SnapshotRequest.is)
-    (subst (λ z. option_map reason_of c.snapshot_request_refusal.result
-    ≡ refusal_of own s (Receive c.args.message.now.sender (record { sender = c.args.message.now.sender; addressee = c.args.message.now.addressee; body = SnapshotRequest c.in-SnapshotRequest.vote c.in-SnapshotRequest.id z }) c.args.now))
+    (subst (λ z. let body = SnapshotRequest c.in-SnapshotRequest.vote c.in-SnapshotRequest.id z in
+    option_map reason_of c.snapshot_request_refusal.result
+    ≡ refusal_of own s (Receive c.args.message.now.sender (record { sender = c.args.message.now.sender; addressee = c.args.message.now.addressee; body = body }) c.args.now))
     (c.head.ensures y (subst (λ body. Brings g.S.GroupStorage.stands body y) c.in-SnapshotRequest.is brings))
     (c.snapshot_request_refusal.ensures.refusal y.«prefix» own s facts))

@@ -15,7 +15,8 @@ returns-in-SnapshotRequest-clause-ok g c = λ y at s brings down moment may.
     let stands = g.S.GroupStorage.stands in
     let said = subst (λ body. Brings stands body y) c.in-SnapshotRequest.is brings in
     c.end_taken.ensures.ok s.stored (group_step own s (received own peer (body_as (λ x. y) c.args.message.now.body) at)) down
-    (run_of_message_with stands c.args.engine.now own peer at c.args.moment c.take_snapshot.new.engine s (body_as (λ x. y) c.args.message.now.body) c.in-SnapshotRequest.snapshot y said moment may.accepted
+    (run_of_message_with stands c.args.engine.now own peer at c.args.moment c.take_snapshot.new.engine s (body_as (λ x. y) c.args.message.now.body)
+    c.in-SnapshotRequest.snapshot y said moment may.accepted
     (subst (λ body. HasTaken y own c.args.engine.now c.take_snapshot.new.engine s (received own peer (body_as (λ x. y) body) at)) (sym c.in-SnapshotRequest.is)
     (c.in_ok-take_snapshot.ensures y own at s said moment
     (subst (λ body. MayTake own c.args.engine.now s (received own peer (body_as (λ x. y) body) at)) c.in-SnapshotRequest.is may))))
@@ -27,7 +28,8 @@ returns-in-SnapshotRequest-clause-err g c = λ y at s brings down moment may.
     let stands = g.S.GroupStorage.stands in
     let said = subst (λ body. Brings stands body y) c.in-SnapshotRequest.is brings in
     c.end_taken.ensures.err s.stored (group_step own s (received own peer (body_as (λ x. y) c.args.message.now.body) at)) down
-    (run_of_message_with stands c.args.engine.now own peer at c.args.moment c.take_snapshot.new.engine s (body_as (λ x. y) c.args.message.now.body) c.in-SnapshotRequest.snapshot y said moment may.accepted
+    (run_of_message_with stands c.args.engine.now own peer at c.args.moment c.take_snapshot.new.engine s (body_as (λ x. y) c.args.message.now.body)
+    c.in-SnapshotRequest.snapshot y said moment may.accepted
     (subst (λ body. HasTaken y own c.args.engine.now c.take_snapshot.new.engine s (received own peer (body_as (λ x. y) body) at)) (sym c.in-SnapshotRequest.is)
     (c.in_ok-take_snapshot.ensures y own at s said moment
     (subst (λ body. MayTake own c.args.engine.now s (received own peer (body_as (λ x. y) body) at)) c.in-SnapshotRequest.is may))))
@@ -52,12 +54,14 @@ pub returns-in_err-take_snapshot-clause-err : goal.returns-in_err-take_snapshot-
 returns-in_err-take_snapshot-clause-err g c = λ y at s brings down moment may.
     let own = c.args.self.now.id in
     on_err _
-    (halted_at_once (g.S.GroupStorage.is_well c.args.storage.now) (g.S.GroupStorage.shows c.args.storage.now c.args.group) own s (received own c.args.message.now.sender (body_as (λ x. y) c.args.message.now.body) at)
+    (halted_at_once (g.S.GroupStorage.is_well c.args.storage.now) (g.S.GroupStorage.shows c.args.storage.now c.args.group) own s
+    (received own c.args.message.now.sender (body_as (λ x. y) c.args.message.now.body) at)
     (g.met.S.GroupStorage.shows_more c.args.storage.now c.args.group) c.args.self.now down.no_engine down.stored)
 
 pub returns-in_err-take_message-clause-err : goal.returns-in_err-take_message-clause-err
 returns-in_err-take_message-clause-err g c = λ y at s brings down moment may.
     let own = c.args.self.now.id in
     on_err _
-    (halted_at_once (g.S.GroupStorage.is_well c.args.storage.now) (g.S.GroupStorage.shows c.args.storage.now c.args.group) own s (received own c.args.message.now.sender (body_as (λ x. y) c.args.message.now.body) at)
+    (halted_at_once (g.S.GroupStorage.is_well c.args.storage.now) (g.S.GroupStorage.shows c.args.storage.now c.args.group) own s
+    (received own c.args.message.now.sender (body_as (λ x. y) c.args.message.now.body) at)
     (g.met.S.GroupStorage.shows_more c.args.storage.now c.args.group) c.args.self.now down.no_engine down.stored)

@@ -19,7 +19,8 @@ use Rattle.raft_member.proofs.member.Member.open.Goals as goal
 use Rattle.raft_member.proofs.member.Member.open.Goals.{in-Some-stop, in-None}
 
 -- what is shown, and loaded, once the first commands are stored
-shown_with : (shown : List StoredGroup → Type 0) (st : StoredGroup) (o : Option (LogId ℕ)) → stale_end st ≡ o → shown (after_storing_all (dropping o) st ∷ []) → shown (after_storing_all (first st) st ∷ [])
+shown_with : (shown : List StoredGroup → Type 0) (st : StoredGroup) (o : Option (LogId ℕ)) → stale_end st ≡ o
+    → shown (after_storing_all (dropping o) st ∷ []) → shown (after_storing_all (first st) st ∷ [])
 shown_with shown st o is h = subst (λ (x : Option (LogId ℕ)). shown (after_storing_all (dropping x) st ∷ [])) (sym is) h
 
 loaded_with : (loaded : LoadedGroup) (st : StoredGroup) (o : Option (LogId ℕ)) → stale_end st ≡ o → IsLoaded loaded (after_storing_all (dropping o) st) → IsLoaded loaded (opened st).state.stored
@@ -31,7 +32,8 @@ pub returns-in_err-loaded-clause-err : goal.returns-in_err-loaded-clause-err
 returns-in_err-loaded-clause-err g c = λ st down openable.
     let after = c.load.new.self in
     on_err _
-    (stopped_at_first st c.args.self.now.id (g.S.GroupStorage.is_well after) (g.S.GroupStorage.shows after c.args.group) (g.met.S.GroupStorage.shows_more after c.args.group) c.args.self.now down.no_engine
+    (stopped_at_first st c.args.self.now.id (g.S.GroupStorage.is_well after) (g.S.GroupStorage.shows after c.args.group)
+    (g.met.S.GroupStorage.shows_more after c.args.group) c.args.self.now down.no_engine
     (c.load.ensures.kept c.args.group _ down.stored))
 
 pub returns-in_default-clause-ok : goal.returns-in_default-clause-ok
@@ -73,7 +75,8 @@ returns-in_err-start_after-clause-err g c = λ st down openable.
     let loaded = c.in_ok-loaded.ensures.ok st down.well down.stored in
     let some : stale_end st ≡ Some c.in-Some.last = sym (c.stale_end.ensures st loaded) ∙ c.in-Some.is in
     on_err _
-    (stopped_in_first st c.args.self.now.id (g.S.GroupStorage.is_well after) (g.S.GroupStorage.shows after c.args.group) (g.met.S.GroupStorage.shows_more after c.args.group) c.args.self.now down.no_engine
+    (stopped_in_first st c.args.self.now.id (g.S.GroupStorage.is_well after) (g.S.GroupStorage.shows after c.args.group)
+    (g.met.S.GroupStorage.shows_more after c.args.group) c.args.self.now down.no_engine
     c.in-Some.last some (c.in_err-start_after.ensures.err (c.in_ok-loaded.ensures.well down.well) st (c.load.ensures.kept c.args.group _ down.stored)))
 
 pub returns-clause-ok : goal.returns-clause-ok
@@ -101,7 +104,8 @@ returns-clause-ok g c = λ st down openable.
     let start = c.start-2.ensures.ok st (loaded_with c.starting_after-loaded.result st (Some c.in-Some.last) some (c.starting_after-loaded.ensures st loaded)) begun openable in
     let is_well = g.S.GroupStorage.is_well after in
     let shown_after = g.S.GroupStorage.shows after c.args.group in
-    IfOk-weaker c.start-2.result (HasRun stands is_well shown_after (opened st).state.stored (rest st own) c.match-stop.stop_later m) (HasEnded stands is_well shown_after own (state_of st) Open stop m)
+    IfOk-weaker c.start-2.result (HasRun stands is_well shown_after (opened st).state.stored (rest st own) c.match-stop.stop_later m)
+    (HasEnded stands is_well shown_after own (state_of st) Open stop m)
     (ended_of_run st own is_well shown_after stands stop c.match-stop.stop_later (subst (λ o. Leaves (length (dropping o)) stop c.match-stop.stop_later) (sym some) leaves) m) start
 
 pub returns-clause-err : goal.returns-clause-err

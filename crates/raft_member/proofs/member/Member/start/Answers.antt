@@ -28,5 +28,7 @@ returns-clause-ok g c = λ st loaded down openable.
     run_without_snapshot g.S.GroupStorage.stands own c.startup.new.self old.stored (rest st own) 0
     (λ x. c.in_ok-startup.ensures x own old has.0 has.1 openable.ready (opened_follows st))
     (rest_stored st own) (rest_begins st own) in
-    subst (λ m. HasRun g.S.GroupStorage.stands (g.S.GroupStorage.is_well c.end_without_snapshot.new.storage) (g.S.GroupStorage.shows c.end_without_snapshot.new.storage c.args.group) old.stored (rest st own) c.args.stop m c.in_ok-ended.ended) (sym c.put_back.ensures)
+    let is_well = g.S.GroupStorage.is_well c.end_without_snapshot.new.storage in
+    let shown = g.S.GroupStorage.shows c.end_without_snapshot.new.storage c.args.group in
+    subst (λ m. HasRun g.S.GroupStorage.stands is_well shown old.stored (rest st own) c.args.stop m c.in_ok-ended.ended) (sym c.put_back.ensures)
     (c.in_ok-ended.ensures.ok old.stored (rest st own) down run)
