@@ -1,5 +1,5 @@
 -- What a piece of a peer's stream does to a node, and what it is answered.
-use Rattle.std.specs.Prelude.{◌≡◌, ◌⊎◌, ℕ, List, Option, Some, None, Result, Ok, Err}
+use Rattle.std.specs.Prelude.{◌≡◌, ◌⊎◌, ℕ, Bool, true, false, List, Option, Some, None, Result, Ok, Err}
 use Rattle.std.specs.List.{AllZip}
 use Rattle.raft_group_step.specs.Message.{Message as Said}
 use Rattle.raft_group_step.specs.StoredGroup.{Snapshot, StoredGroup}
@@ -15,6 +15,7 @@ use Rattle.raft_member.specs.declared.member.Ended.{Ended}
 use Rattle.raft_member.specs.declared.member.Ended.TheVariants as ended
 use Rattle.raft_member.specs.declared.member.Member.{Member}
 use Rattle.raft_groups.specs.Faults.{HasMet}
+use Rattle.raft_groups.specs.declared.fault.GroupsFault.TheVariants as groups_fault
 use Rattle.raft_groups.specs.Standing.{HasMember, StandsAs}
 use Rattle.raft_wire.specs.Frames.{FitsFrame}
 use Rattle.raft_wire.specs.Stream.{Answers, Feeding, IsSpelledSo}
@@ -43,13 +44,10 @@ IsOutcomeOf group ended.Skipped answer = answer ≡ Ok outcome.Down
 
 -- ---- a frame that came
 
--- the message comes from its sender at this moment
-abbrev pub comes : ℕ → Said → GroupEvent
-comes now m = Receive m.sender m now
-
--- a node: which members it has, whether its storage is well, and what that shows
+-- a node: whether it has failed, which members it has, whether its storage is well, and what that shows
 pub record Node : Type 1 where
   pub own : ℕ
+  pub has_failed : Bool
   pub members : ℕ → Option Member
   pub is_well : Type 0
   pub shows : ℕ → List StoredGroup → Type 0
@@ -58,12 +56,12 @@ pub record Node : Type 1 where
 abbrev pub Stands : Node → ℕ → NodeState → Type 0
 Stands n = StandsAs n.own n.members n.is_well n.shows
 
--- the group's member was in this state, and took its step at the message, or refused it; or the step met a fault
-abbrev pub IsTaken : {F : Type 0} → (SnapshotBytes → Snapshot → Type 0) → Node → ℕ → GroupState → Said → ℕ → Result Outcome (AnswerError F) → Type 0
-IsTaken stands n group s m now (Err (error.Groups fault)) =
-    HasMet (λ met. HasMember n.own n.members group (λ member. HasStopped (n.shows group) n.own s (comes now m) member)) fault
-IsTaken stands n group s m now answer =
-    (end : Ended SnapshotBytes) × HasMember n.own n.members group (λ member. HasEnded stands n.is_well (n.shows group) n.own s (comes now m) None member end)
+-- the group's member was in this state, and took its step at the event, or refused it; or the step met a fault
+abbrev pub IsTaken : {F : Type 0} → (SnapshotBytes → Snapshot → Type 0) → Node → ℕ → GroupState → GroupEvent → Result Outcome (AnswerError F) → Type 0
+IsTaken stands n group s event (Err (error.Groups fault)) =
+    HasMet (λ met. HasMember n.own n.members group (λ member. HasStopped (n.shows group) n.own s event member)) fault
+IsTaken stands n group s event answer =
+    (end : Ended SnapshotBytes) × HasMember n.own n.members group (λ member. HasEnded stands n.is_well (n.shows group) n.own s event None member end)
     × IsOutcomeOf group end answer
 
 -- the groups met no fault
@@ -71,11 +69,14 @@ abbrev pub IsNoFault : {F : Type 0} → Result Outcome (AnswerError F) → Type 
 IsNoFault (Err (error.Groups fault)) = ⊥
 IsNoFault answer = Unit {0}
 
--- the frame's group took its message, whatever that says, and the others stay
+-- the frame's group took its message, whatever that says, and the others stay; a node that has failed and a group that isn't
+-- there are refused
 pub record IsFrameTaken {F : Type 0} (stands : SnapshotBytes → Snapshot → Type 0) (old new : Node) (frame : Frame) (now : ℕ) (answer : Result Outcome (AnswerError F)) : Type 0 where
-  pub taken : (m : Said) (s : GroupState) → Says stands frame.message m → Stands old frame.group (Up s) → IsLawful old.own s → IsTaken stands new frame.group s m now answer
+  pub taken : (m : Said) (s : GroupState) → old.has_failed ≡ false → Says stands frame.message m → Stands old frame.group (Up s) → IsLawful old.own s → IsTaken stands new frame.group s (Receive frame.message.sender m now) answer
   pub others : (other : ℕ) (x : NodeState) → (other ≡ frame.group → ⊥) → Stands old other x → IsNoFault answer → Stands new other x
   pub kept : KeepsOthers old.shows new.shows frame.group
+  pub failed : old.has_failed ≡ true → answer ≡ Err (error.Groups groups_fault.Failed)
+  pub unknown : old.has_failed ≡ false → old.members frame.group ≡ None → answer ≡ Err (error.Groups groups_fault.UnknownGroup)
 
 -- ---- a piece of a stream
 

@@ -2,8 +2,7 @@
 use Rattle.std.specs.Prelude.{◌≡◌, ℕ, List, Option, Some, Contains}
 use Rattle.raft_messages.specs.declared.message.Message.{Message}
 use Rattle.raft_messages.specs.declared.memberships.SnapshotBytes.{SnapshotBytes}
-use Rattle.raft_wire.specs.Frames.{FitsFrame, spelled_frame}
-use Rattle.raft_wire.specs.Writing.{fault_of_frame}
+use Rattle.raft_wire.specs.Frames.{FitsFrame, fault_of_frame, spelled_frame}
 use Rattle.raft_wire.specs.declared.error.FrameError.{FrameError}
 use Rattle.raft_wire.specs.declared.error.FrameError.TheVariants as frame_error
 use Rattle.raft_wire.specs.declared.frame.Frame.{Frame}
@@ -22,7 +21,7 @@ pub record IsFramed (own_group : ℕ) (m : Message SnapshotBytes) (sent : GroupF
 
 -- the message has no frame, by this fault, or memory is lacking
 abbrev pub IsNotFramed : ℕ → Message SnapshotBytes → FrameError → Type 0
-IsNotFramed group m (frame_error.Fault f) = fault_of_frame (frame_with group m) ≡ Some f
+IsNotFramed group m (frame_error.Fault f) = fault_of_frame m.body ≡ Some f
 IsNotFramed group m frame_error.StreamFailed = ⊥
 IsNotFramed group m frame_error.Memory = Unit {0}
 

@@ -74,8 +74,8 @@ fn take_frame<S: GroupStorage<Snapshot = SnapshotBytes>>(
     now: u64,
 ) -> Result<Outcome, AnswerError<S::Fault>>
     ensures takes { IsFrameTaken S.stands
-        (record { own = groups.old.id; members = get nat_cmp groups.old.members; is_well = S.is_well groups.old.storage; shows = S.shows groups.old.storage })
-        (record { own = groups.new.id; members = get nat_cmp groups.new.members; is_well = S.is_well groups.new.storage; shows = S.shows groups.new.storage })
+        (record { own = groups.old.id; has_failed = groups.old.has_failed; members = get nat_cmp groups.old.members; is_well = S.is_well groups.old.storage; shows = S.shows groups.old.storage })
+        (record { own = groups.old.id; has_failed = groups.new.has_failed; members = get nat_cmp groups.new.members; is_well = S.is_well groups.new.storage; shows = S.shows groups.new.storage })
         frame.now now result }
     ensures id { groups.new.id ≡ groups.old.id }
 {
@@ -94,8 +94,8 @@ fn take_from<S: GroupStorage<Snapshot = SnapshotBytes>>(
     now: u64,
 ) -> Result<Outcome, AnswerError<S::Fault>>
     ensures takes { IsFrom peer groups.old groups.new (IsFrameTaken S.stands
-        (record { own = groups.old.id; members = get nat_cmp groups.old.members; is_well = S.is_well groups.old.storage; shows = S.shows groups.old.storage })
-        (record { own = groups.new.id; members = get nat_cmp groups.new.members; is_well = S.is_well groups.new.storage; shows = S.shows groups.new.storage })
+        (record { own = groups.old.id; has_failed = groups.old.has_failed; members = get nat_cmp groups.old.members; is_well = S.is_well groups.old.storage; shows = S.shows groups.old.storage })
+        (record { own = groups.old.id; has_failed = groups.new.has_failed; members = get nat_cmp groups.new.members; is_well = S.is_well groups.new.storage; shows = S.shows groups.new.storage })
         frame.now now result) frame.now result }
     ensures id { groups.new.id ≡ groups.old.id }
 {
@@ -123,8 +123,8 @@ pub fn answer_piece<S: GroupStorage<Snapshot = SnapshotBytes>>(
     now: u64,
 ) -> Answer<S::Fault>
     ensures answers { IsAnswered peer groups.old groups.new (λ frame. IsFrameTaken S.stands
-        (record { own = groups.old.id; members = get nat_cmp groups.old.members; is_well = S.is_well groups.old.storage; shows = S.shows groups.old.storage })
-        (record { own = groups.new.id; members = get nat_cmp groups.new.members; is_well = S.is_well groups.new.storage; shows = S.shows groups.new.storage })
+        (record { own = groups.old.id; has_failed = groups.old.has_failed; members = get nat_cmp groups.old.members; is_well = S.is_well groups.old.storage; shows = S.shows groups.old.storage })
+        (record { own = groups.old.id; has_failed = groups.new.has_failed; members = get nat_cmp groups.new.members; is_well = S.is_well groups.new.storage; shows = S.shows groups.new.storage })
         frame now result.outcome) feeder.old.feeding piece.now result feeder.new.feeding }
     ensures id { groups.new.id ≡ groups.old.id }
 {
