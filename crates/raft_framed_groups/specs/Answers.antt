@@ -69,10 +69,15 @@ abbrev pub IsNoFault : {F : Type 0} → Result Outcome (AnswerError F) → Type 
 IsNoFault (Err (error.Groups fault)) = ⊥
 IsNoFault answer = Unit {0}
 
--- the frame's group took its message, whatever that says, and the others stay; a node that has failed and a group that isn't
--- there are refused
+-- whatever the frame's message says, its group takes that, if it is up in a lawful state and the node hasn't failed
+abbrev pub TakesMessage : {F : Type 0} → (SnapshotBytes → Snapshot → Type 0) → Node → Node → Frame → ℕ → Result Outcome (AnswerError F) → Type 0
+TakesMessage stands old new frame now answer =
+    (m : Said) (s : GroupState) → old.has_failed ≡ false → Says stands frame.message m → Stands old frame.group (Up s) → IsLawful old.own s
+    → IsTaken stands new frame.group s (Receive frame.message.sender m now) answer
+
+-- the frame's group took its message, and the others stay; a node that has failed and a group that isn't there are refused
 pub record IsFrameTaken {F : Type 0} (stands : SnapshotBytes → Snapshot → Type 0) (old new : Node) (frame : Frame) (now : ℕ) (answer : Result Outcome (AnswerError F)) : Type 0 where
-  pub taken : (m : Said) (s : GroupState) → old.has_failed ≡ false → Says stands frame.message m → Stands old frame.group (Up s) → IsLawful old.own s → IsTaken stands new frame.group s (Receive frame.message.sender m now) answer
+  pub taken : TakesMessage stands old new frame now answer
   pub others : (other : ℕ) (x : NodeState) → (other ≡ frame.group → ⊥) → Stands old other x → IsNoFault answer → Stands new other x
   pub kept : KeepsOthers old.shows new.shows frame.group
   pub failed : old.has_failed ≡ true → answer ≡ Err (error.Groups groups_fault.Failed)
