@@ -172,7 +172,7 @@ last_of e (y ∷ es) place previous p =
 
 -- entries that stand where the log ends are in it once they are put there
 get_behind : (xs ys : List Entry) (i n : ℕ) → i ≡ length xs + n → slice_get (xs ++ ys) i ≡ slice_get ys n
-get_behind [] ys i n e = ap (slice_get ys) e
+get_behind [] ys i n e = let same : i ≡ n = omega (arith, e) in ap (slice_get ys) same
 get_behind (x ∷ xs) ys zero n e = absurd (omega (arith, e))
 get_behind (x ∷ xs) ys (suc i) n e = get_behind xs ys i n (omega (arith, e))
 
