@@ -10,6 +10,7 @@ use Rattle.raft_group_step.specs.declared.append_entries.AppendEntriesResponse.T
 use Rattle.raft_group_step.specs.Values.{vote_lt}
 use Rattle.raft_group_step.specs.StoredGroup.{StoredGroup, Snapshot, after_storing_all, end_place, has_id_in_log, last_id, snapshot_last}
 use Rattle.raft_group_step.specs.AppendRequest.{is_held}
+use Rattle.raft_known_state.specs.KnownState.{ArePlaced}
 use Rattle.raft_commands.specs.declared.caller.Caller.{Caller}
 use Rattle.raft_commands.specs.declared.command.Command.TheVariants.{BecomeLeader, QuitLeader, AppendInputEntries, ReplicateCommitted, Commit}
 use Rattle.raft_commands.specs.declared.command.Command.TheVariants.{Replicate, RebuildReplicationStreams, SaveVote, SendVote, PurgeLog}
@@ -59,11 +60,12 @@ module _ {C R : Type 0} where
   AnswerRestsOn b (ToSnapshot s) = InstallRestsOn b s.tx s.value.vote
   AnswerRestsOn b (ToInitialize s) = ⊥
 
-  -- what a command rests on: the vote in force, the log, the snapshot, and what is committed, at its place of the queue
+  -- what a command rests on: the vote in force, the log, the snapshot, and what is committed, at its place of the queue. Entries
+  -- stand behind the log, and a cut behind what is committed
   abbrev pub RestsOn : ℕ → Basis → Command C R → Type 0
   RestsOn own b BecomeLeader = (b.stored.vote.leader_id.node_id ≡ own) × (b.stored.vote.committed ≡ true)
   RestsOn own b QuitLeader = Unit {0}
-  RestsOn own b (AppendInputEntries vote entries) = b.stored.vote ≡ vote
+  RestsOn own b (AppendInputEntries vote entries) = (b.stored.vote ≡ vote) × ArePlaced (end_place b.stored) entries
   RestsOn own b (ReplicateCommitted target vote matching committed) = (b.stored.vote ≡ vote) × (b.committed ≡ committed)
   RestsOn own b (Commit seq behind upto) = has_id_in_log b.stored upto ≡ true
   RestsOn own b (Replicate target request) = IsStoredRequest b.stored request
@@ -71,7 +73,7 @@ module _ {C R : Type 0} where
   RestsOn own b (SaveVote vote) = Unit {0}
   RestsOn own b (SendVote target request) = (b.stored.vote ≡ request.vote) × (last_id b.stored ≡ request.last_log_id)
   RestsOn own b (PurgeLog upto) = upto.index < next_place (snapshot_last b.stored)
-  RestsOn own b (DeleteConflictLog since) = Unit {0}
+  RestsOn own b (DeleteConflictLog since) = next_place b.committed ≤ since.index
   RestsOn own b (StateMachine command) = Unit {0}
   RestsOn own b (Respond condition answer) = AnswerRestsOn b answer
 
