@@ -16,6 +16,7 @@ use Rattle.raft_group_step.specs.Message.{last_sent}
 use Rattle.raft_group_step.specs.AppendRequest.{above_committed, cut_at, cut_from, is_held, lesser_place, missing_entries, put_entries}
 use Rattle.raft_group_step.specs.Refusal.{do_follow}
 use Rattle.raft_group_step.proofs.EntryPlaces.{in_log_within}
+use Rattle.raft_group_step.proofs.Words.{cut_keeps_first}
 use Rattle.raft_known_state.specs.KnownState.{ArePlaced}
 use Rattle.raft_engine.specs.Standing.{IsInOrder}
 use Rattle.raft_engine.specs.Following.{EndsWithin, unheld_entries}
@@ -183,10 +184,6 @@ put_has s es place n e l ends there index =
     in_log_of_entry (after_storing (PutEntries place es) s) e
     (entry_from (after_storing (PutEntries place es) s) e.log_id.index (omega (arith, index))
     ∙ get_behind (log_below s place) es (e.log_id.index - first_place s) n (omega (arith, count, index)) ∙ there)
-
--- a cut leaves the purge point
-cut_keeps_first : (place : ℕ) (r : StepResult) → first_place (cut_from place r).state.stored ≡ first_place r.state.stored
-cut_keeps_first place r = elim (is_some (entry_at r.state.stored place)) as (λ b. first_place (if b then store (CutFrom place) r else r).state.stored ≡ first_place r.state.stored) [ true ↦ refl | false ↦ refl ]
 
 held_in_log : (s : StoredGroup) (committed : Option ℕ) (last : Option (LogId ℕ)) (id : LogId ℕ) → last ≡ Some id → has_id_in_log s id ≡ true → is_held s committed last ≡ true
 held_in_log s committed last id e h = ap (is_held s committed) e ∙ or_right (is_within id.index committed) (has_id_in_log s id) h

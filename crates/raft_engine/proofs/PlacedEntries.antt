@@ -7,7 +7,7 @@ use Rattle.std.proofs.lemmas.List.{length-take}
 use Rattle.raft_values.specs.declared.log_id.LogId.{LogId}
 use Rattle.raft_values.specs.LogId.{next_place}
 use Rattle.raft_state.specs.LogIdList.{AllGoOn}
-use Rattle.raft_group_step.specs.Values.{Entry, leader_eq, log_id_eq}
+use Rattle.raft_group_step.specs.Values.{Entry, log_id_eq}
 use Rattle.raft_group_step.specs.StoredGroup.{StoredGroup, first_place, end_place, entry_at, id_of, id_at, is_id, has_id_in_log, log_below}
 use Rattle.raft_group_step.proofs.EntryPlaces.{entry_within}
 use Rattle.raft_known_state.specs.KnownState.{ArePlaced, IsPlaced, entry_ids}
@@ -77,12 +77,9 @@ entry_from s place l = let below : nat_lt place (first_place s) ≡ false = grin
 pub id_from : (s : StoredGroup) (place : ℕ) → first_place s ≤ place → id_at s place ≡ id_of (entry_at s place)
 id_from s place l = let above : (place + 1 == first_place s) ≡ false = grind (arith, nat_tests, l) in rw above refl
 
-same_id : (id : LogId ℕ) → log_id_eq id id ≡ true
-same_id id = grind (arith, nat_tests)
-
 -- the log id of an entry at its place is in the log
 pub in_log_of_entry : (s : StoredGroup) (e : Entry) → entry_at s e.log_id.index ≡ Some e → has_id_in_log s e.log_id ≡ true
-in_log_of_entry s e f = ap (λ o. is_id e.log_id (id_of o)) f ∙ same_id e.log_id
+in_log_of_entry s e f = let same : log_id_eq e.log_id e.log_id ≡ true = grind (arith, nat_tests) in ap (λ o. is_id e.log_id (id_of o)) f ∙ same
 
 -- the log has this entry at the place
 pub record HasEntry (s : StoredGroup) (place : ℕ) : Type 0 where

@@ -1,10 +1,10 @@
 -- The place has an entry, and it is committed.
-use Rattle.std.proofs.Common.{◌≡◌, ◌<◌, ◌++◌, ◌∙◌, ap, sym, subst, refl, false, None}
+use Rattle.std.proofs.Common.{◌≡◌, ◌++◌, ◌∙◌, ap, sym, refl, false, None}
 use Rattle.std.specs.Prelude.{Some, [], ◌∷◌}
 use Rattle.std.proofs.lemmas.Result.{on_ok_weaker}
 use Rattle.raft_commands.specs.declared.command.Command.TheVariants.{Commit}
 use Rattle.raft_commands.specs.Output.{Output}
-use Rattle.raft_group_step.specs.StoredGroup.{end_place, id_at}
+use Rattle.raft_group_step.specs.StoredGroup.{id_at}
 use Rattle.raft_group_step.specs.StepResult.{is_within}
 use Rattle.raft_engine.proofs.PlacedEntries.{has_entry, in_log_of_id}
 use Rattle.raft_engine.proofs.FollowingLemmas.{above_first, committed_place, more_committed}
