@@ -7,7 +7,7 @@ use Rattle.raft_values.specs.declared.log_id.LogId.{LogId}
 use Rattle.raft_values.specs.LogId.{next_place, place_of}
 use Rattle.raft_state.specs.LogIdList.{last_id}
 use Rattle.raft_group_step.specs.Values.{Entry}
-use Rattle.raft_group_step.specs.StoredGroup.{StoredGroup, StoringCommand, CutFrom, PutEntries, after_storing, first_place, end_place, entry_at, id_at, log_below, snapshot_last}
+use Rattle.raft_group_step.specs.StoredGroup.{StoredGroup, StoringCommand, PutEntries, after_storing, first_place, end_place, entry_at, id_at, log_below, snapshot_last}
 use Rattle.raft_group_step.specs.GroupState.{GroupState, Follower}
 use Rattle.raft_group_step.specs.StepResult.{StepResult, store, with_stored, later_place, is_within, apply_up_to}
 use Rattle.raft_group_step.specs.AppendRequest.{cut_from, put_entries}

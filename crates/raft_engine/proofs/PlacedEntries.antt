@@ -7,7 +7,7 @@ use Rattle.std.proofs.lemmas.List.{length-take}
 use Rattle.raft_values.specs.declared.log_id.LogId.{LogId}
 use Rattle.raft_values.specs.LogId.{next_place}
 use Rattle.raft_state.specs.LogIdList.{AllGoOn}
-use Rattle.raft_group_step.specs.Values.{Entry}
+use Rattle.raft_group_step.specs.Values.{Entry, log_id_eq}
 use Rattle.raft_group_step.specs.StoredGroup.{StoredGroup, first_place, end_place, entry_at, id_of, id_at, is_id, has_id_in_log, log_below}
 use Rattle.raft_group_step.proofs.EntryPlaces.{entry_within}
 use Rattle.raft_known_state.specs.KnownState.{ArePlaced, IsPlaced, entry_ids}
@@ -70,12 +70,16 @@ some_within (y ∷ es) (suc n) e f = let g : n < length es = some_within es n e 
 
 -- ---- a stored group
 
-entry_from : (s : StoredGroup) (place : ℕ) → first_place s ≤ place → entry_at s place ≡ slice_get s.log (place - first_place s)
+pub entry_from : (s : StoredGroup) (place : ℕ) → first_place s ≤ place → entry_at s place ≡ slice_get s.log (place - first_place s)
 entry_from s place l = let below : nat_lt place (first_place s) ≡ false = grind (arith, nat_tests, l) in rw below refl
 
 -- above the purge point the log id is that of the entry
 pub id_from : (s : StoredGroup) (place : ℕ) → first_place s ≤ place → id_at s place ≡ id_of (entry_at s place)
 id_from s place l = let above : (place + 1 == first_place s) ≡ false = grind (arith, nat_tests, l) in rw above refl
+
+-- the log id of an entry at its place is in the log
+pub in_log_of_entry : (s : StoredGroup) (e : Entry) → entry_at s e.log_id.index ≡ Some e → has_id_in_log s e.log_id ≡ true
+in_log_of_entry s e f = let same : log_id_eq e.log_id e.log_id ≡ true = grind (arith, nat_tests) in ap (λ o. is_id e.log_id (id_of o)) f ∙ same
 
 -- the log has this entry at the place
 pub record HasEntry (s : StoredGroup) (place : ℕ) : Type 0 where
@@ -121,6 +125,13 @@ id_of_place s place id p l f = found (entry_at s place) refl
         let within = entry_within s place e g in
         let at : e.log_id.index ≡ first_place s + (place - first_place s) = found_at s.log (first_place s) (place - first_place s) e p (sym (entry_from s place l) ∙ g) in
         ap (λ (i : LogId ℕ). i.index) same ∙ (let k : first_place s ≤ place = within.0 in omega arith)
+
+-- a log id that was found is in the log
+pub in_log_of_id : (s : StoredGroup) (place : ℕ) (id : LogId ℕ) → IsPlaced s → first_place s ≤ place → place < end_place s → Some id ≡ id_at s place → has_id_in_log s id ≡ true
+in_log_of_id s place id p l m f =
+    let h = has_entry s place p l m in
+    let same : id ≡ h.entry.log_id = let both : Some id ≡ Some h.entry.log_id = f ∙ h.id in cc in
+    subst (λ (i : LogId ℕ). has_id_in_log s i ≡ true) (sym same) (in_log_of_entry s h.entry (ap (entry_at s) h.index ∙ h.there))
 
 -- ---- a log that is shortened, or grows
 

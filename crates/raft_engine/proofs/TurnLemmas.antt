@@ -1,7 +1,7 @@
 -- Leads that begin and end, as the queue grows.
 use Rattle.std.specs.Prelude.{◌≡◌, ◌≢◌, ℕ, Bool, true, false, List, [], ◌∷◌, ◌++◌, Option, Some, None, refl}
 use Rattle.std.proofs.Common.{ap, sym, subst, ◌∙◌, append-nil}
-use Rattle.raft_commands.specs.declared.command.Command.TheVariants.{BecomeLeader, QuitLeader, SaveVote}
+use Rattle.raft_commands.specs.declared.command.Command.TheVariants.{QuitLeader}
 use Rattle.raft_group_step.specs.StoredGroup.{StoredGroup}
 use Rattle.raft_group_step.specs.GroupState.{Role, Follower, Candidate, Leader, is_leader}
 use Rattle.raft_leaders.specs.Candidate.{CandidateValue}

@@ -2,13 +2,15 @@
 use Rattle.std.specs.Prelude.{◌≡◌, ◌<◌, ◌≤◌, ℕ, false, true, List, [], ◌∷◌, Option, Some, None}
 use Rattle.raft_values.specs.declared.vote.Vote.{Vote}
 use Rattle.raft_values.specs.declared.log_id.LogId.{LogId}
-use Rattle.raft_values.specs.LogId.{next_place}
+use Rattle.raft_values.specs.LogId.{next_place, place_of}
 use Rattle.raft_progress.specs.declared.inflight.Inflight.{Inflight}
 use Rattle.raft_progress.specs.declared.inflight.Inflight.TheVariants.{None as Nothing, Logs, Snapshot as SnapshotInFlight}
 use Rattle.raft_group_step.specs.declared.append_entries.AppendEntriesResponse.{AppendEntriesResponse}
 use Rattle.raft_group_step.specs.declared.append_entries.AppendEntriesResponse.TheVariants.{Success as Accepted, PartialSuccess as AcceptedPart, Conflict as Differs, HigherVote as HasHigherVote}
 use Rattle.raft_group_step.specs.Values.{vote_lt}
-use Rattle.raft_group_step.specs.StoredGroup.{StoredGroup, Snapshot, after_storing_all, end_place, last_id, snapshot_last}
+use Rattle.raft_group_step.specs.StoredGroup.{StoredGroup, Snapshot, after_storing_all, end_place, has_id_in_log, last_id, snapshot_last}
+use Rattle.raft_group_step.specs.AppendRequest.{is_held}
+use Rattle.raft_known_state.specs.KnownState.{ArePlaced}
 use Rattle.raft_commands.specs.declared.caller.Caller.{Caller}
 use Rattle.raft_commands.specs.declared.command.Command.TheVariants.{BecomeLeader, QuitLeader, AppendInputEntries, ReplicateCommitted, Commit}
 use Rattle.raft_commands.specs.declared.command.Command.TheVariants.{Replicate, RebuildReplicationStreams, SaveVote, SendVote, PurgeLog}
@@ -36,10 +38,10 @@ abbrev pub EndsBefore : Option (LogId ℕ) → StoredGroup → Type 0
 EndsBefore None s = ⊥
 EndsBefore (Some id) s = end_place s ≤ id.index
 
--- an acceptance rests on the leader's vote and the log up to the last entry, a conflict on the vote and the cut, a refusal on the
--- vote that it tells. A part is never accepted
+-- an acceptance rests on the leader's vote, and on the request's last entry: it is committed, or in the log. A conflict rests on
+-- the vote and the cut, a refusal on the vote that it tells. A part is never accepted
 abbrev pub OutcomeRestsOn : Basis → Caller ℕ → AppendEntriesResponse ℕ → Type 0
-OutcomeRestsOn b tx Accepted = (b.stored.vote ≡ tx.vote) × (next_place tx.last ≤ end_place b.stored)
+OutcomeRestsOn b tx Accepted = (b.stored.vote ≡ tx.vote) × (is_held b.stored (place_of b.committed) tx.last ≡ true)
 OutcomeRestsOn b tx (AcceptedPart last) = ⊥
 OutcomeRestsOn b tx Differs = (b.stored.vote ≡ tx.vote) × EndsBefore tx.previous b.stored
 OutcomeRestsOn b tx (HasHigherVote vote) = b.stored.vote ≡ vote
@@ -58,19 +60,20 @@ module _ {C R : Type 0} where
   AnswerRestsOn b (ToSnapshot s) = InstallRestsOn b s.tx s.value.vote
   AnswerRestsOn b (ToInitialize s) = ⊥
 
-  -- what a command rests on: the vote in force, the log, the snapshot, and what is committed, at its place of the queue
+  -- what a command rests on: the vote in force, the log, the snapshot, and what is committed, at its place of the queue. Entries
+  -- stand behind the log, and a cut behind what is committed
   abbrev pub RestsOn : ℕ → Basis → Command C R → Type 0
   RestsOn own b BecomeLeader = (b.stored.vote.leader_id.node_id ≡ own) × (b.stored.vote.committed ≡ true)
   RestsOn own b QuitLeader = Unit {0}
-  RestsOn own b (AppendInputEntries vote entries) = b.stored.vote ≡ vote
+  RestsOn own b (AppendInputEntries vote entries) = (b.stored.vote ≡ vote) × ArePlaced (end_place b.stored) entries
   RestsOn own b (ReplicateCommitted target vote matching committed) = (b.stored.vote ≡ vote) × (b.committed ≡ committed)
-  RestsOn own b (Commit seq behind upto) = upto.index < end_place b.stored
+  RestsOn own b (Commit seq behind upto) = has_id_in_log b.stored upto ≡ true
   RestsOn own b (Replicate target request) = IsStoredRequest b.stored request
   RestsOn own b (RebuildReplicationStreams targets) = Unit {0}
   RestsOn own b (SaveVote vote) = Unit {0}
   RestsOn own b (SendVote target request) = (b.stored.vote ≡ request.vote) × (last_id b.stored ≡ request.last_log_id)
   RestsOn own b (PurgeLog upto) = upto.index < next_place (snapshot_last b.stored)
-  RestsOn own b (DeleteConflictLog since) = Unit {0}
+  RestsOn own b (DeleteConflictLog since) = next_place b.committed ≤ since.index
   RestsOn own b (StateMachine command) = Unit {0}
   RestsOn own b (Respond condition answer) = AnswerRestsOn b answer
 

@@ -1,12 +1,12 @@
 -- The place has an entry, and it is committed.
-use Rattle.std.proofs.Common.{◌≡◌, ◌<◌, ◌++◌, ◌∙◌, ap, sym, subst, refl, false, None}
+use Rattle.std.proofs.Common.{◌≡◌, ◌++◌, ◌∙◌, ap, sym, refl, false, None}
 use Rattle.std.specs.Prelude.{Some, [], ◌∷◌}
 use Rattle.std.proofs.lemmas.Result.{on_ok_weaker}
 use Rattle.raft_commands.specs.declared.command.Command.TheVariants.{Commit}
 use Rattle.raft_commands.specs.Output.{Output}
-use Rattle.raft_group_step.specs.StoredGroup.{end_place, id_at}
+use Rattle.raft_group_step.specs.StoredGroup.{id_at}
 use Rattle.raft_group_step.specs.StepResult.{is_within}
-use Rattle.raft_engine.proofs.PlacedEntries.{has_entry, id_of_place}
+use Rattle.raft_engine.proofs.PlacedEntries.{has_entry, in_log_of_id}
 use Rattle.raft_engine.proofs.FollowingLemmas.{above_first, committed_place, more_committed}
 use Rattle.raft_engine.proofs.engine.Engine.commit_up_to.Goals as goal
 
@@ -30,5 +30,5 @@ returns-clause-step g c = λ x own r step within.
     (more_committed x own c.args.self.now _ r step c.in-Some.place c.in-Some-get_log_id.upto commit refl refl refl refl (c.in_ok-commit.ensures.known r.state.stored step.state.knows) c.in_ok-commit.ensures.rest past (within c.in-Some.place c.in-Some.is)
     found
     (h ∙ ap (λ (o : Output _ _ _ _ _). record o { queue = o.queue ++ commit ∷ [] }) c.next_sm_seq-seq.ensures.rest) refl (ap (λ n. n ∷ []) c.next_sm_seq-seq.ensures.value) refl tt
-    (subst (λ n. n < end_place r.state.stored) (sym (id_of_place r.state.stored c.in-Some.place c.in-Some-get_log_id.upto order.placed (above_first r.state order c.in-Some.place past) found)) (within c.in-Some.place c.in-Some.is)) refl refl (λ s upto. refl)))
+    (in_log_of_id r.state.stored c.in-Some.place c.in-Some-get_log_id.upto order.placed (above_first r.state order c.in-Some.place past) (within c.in-Some.place c.in-Some.is) found) refl refl (λ s upto. refl)))
     c.push_command.ensures.ok

@@ -1,15 +1,14 @@
-use Rattle.std.proofs.Common.{◌≡◌, ◌≤◌, ◌∙◌, ap₂, sym, subst, true, false}
-use Rattle.raft_values.specs.LogId.{next_place, place_of}
-use Rattle.raft_group_step.specs.StoredGroup.{end_place}
+use Rattle.std.proofs.Common.{◌≡◌, ◌∙◌, ap, ap₂, sym, subst, true, false}
+use Rattle.raft_values.specs.LogId.{place_of}
 use Rattle.raft_engine.specs.Ordering.{EndsBefore}
-use Rattle.raft_group_step.specs.StepResult.{apply_up_to}
+use Rattle.raft_group_step.specs.StepResult.{apply_up_to, later_place}
 use Rattle.raft_group_step.specs.AppendRequest.{above_committed, cut_at, is_held, lesser_place, missing_entries, put_entries}
 use Rattle.raft_group_step.specs.Refusal.{do_follow}
 use Rattle.raft_group_step.specs.Message.{last_sent}
 use Rattle.raft_engine.specs.Standing.{IsStepOf}
 use Rattle.raft_engine.specs.Following.{EndsWithin}
 use Rattle.raft_engine.proofs.FollowingLemmas.{committed_place}
-use Rattle.raft_engine.proofs.MissingEntries.{cut_at_keeps_vote, cut_before, put_keeps_vote, request_reaches, request_within}
+use Rattle.raft_engine.proofs.MissingEntries.{cut_at_keeps_vote, cut_before, put_keeps_committed, put_keeps_vote, request_held, request_within}
 use Rattle.raft_engine.proofs.engine.Engine.join_entries.Goals as goal
 
 pub returns-then-not-is_held : goal.returns-then-not-is_held
@@ -33,13 +32,13 @@ returns g c = λ x own r m step follows voted says repeats follow.
     let put = c.in_ok-put_missing.ensures x own r c.args.req.vote m.previous step follows said test in
     let joined = subst (λ es. IsStepOf x own c.put_missing.new.self (put_entries (missing_entries s (above_committed r.state.committed es)) r)) says.entries put in
     let after = put_entries (missing_entries s (above_committed r.state.committed m.entries)) r in
-    let upto : c.lesser_place.result ≡ lesser_place (place_of m.committed) (place_of (last_sent m.previous m.entries)) =
-    c.lesser_place.ensures ∙ ap₂ (λ a b. lesser_place (place_of a) (place_of b)) says.committed repeats.last in
+    let said = lesser_place (place_of m.committed) (place_of (last_sent m.previous m.entries)) in
+    let upto : c.lesser_place.result ≡ said = c.lesser_place.ensures ∙ ap₂ (λ a b. lesser_place (place_of a) (place_of b)) says.committed repeats.last in
     let within = request_within r m.vote m.previous m.entries (place_of m.committed) step.state.order follow test in
-    let committed = c.in_ok-commit_up_to.ensures.step x own after joined (subst (λ p. EndsWithin p after.state.stored) (sym upto) within) in
+    let done = subst (λ p. IsStepOf x own c.commit_up_to.new.self (apply_up_to p after)) upto (c.in_ok-commit_up_to.ensures.step x own after joined (subst (λ p. EndsWithin p after.state.stored) (sym upto) within)) in
+    let committed = committed_place own c.commit_up_to.new.self (apply_up_to said after).state done.state ∙ ap (λ before. later_place before said) (put_keeps_committed (missing_entries s (above_committed r.state.committed m.entries)) r) in
     rw test
-    (c.answer_append-2.ensures x own (apply_up_to (lesser_place (place_of m.committed) (place_of (last_sent m.previous m.entries))) after) m
-    (subst (λ p. IsStepOf x own c.commit_up_to.new.self (apply_up_to p after)) upto committed) repeats (
+    (c.answer_append-2.ensures x own (apply_up_to said after) m done repeats (
       put_keeps_vote (missing_entries s (above_committed r.state.committed m.entries)) r ∙ voted ∙ sym repeats.vote,
-      subst (λ id. next_place id ≤ end_place after.state.stored) (sym repeats.last) (request_reaches r m.vote m.previous m.entries step.state.order follow test),
+      ap₂ (is_held after.state.stored) committed repeats.last ∙ request_held r m.vote m.previous m.entries said step.state.order follow test,
     ))

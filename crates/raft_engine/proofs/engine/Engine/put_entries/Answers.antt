@@ -59,5 +59,5 @@ returns g c = λ x own r place step follows placed past l.
     (log_stored x own c.cut_from.new.self _ after cut refl refl refl refl (PutEntries first.log_id.index c.args.entries) (AppendInputEntries c.vote_ref-vote.result.now c.args.entries)
     (cut_keeps_role first.log_id.index r ∙ follows) known c.in_ok-append.ensures.rest
     (order_of_put after.state cut.state.order c.args.entries at_end first.log_id.index ends) (put_keeps_id after.state cut.state.order c.args.entries at_end first.log_id.index ends)
-    h (put_all_as c.args.entries first found) refl tt (sym (c.vote_ref-vote.ensures ∙ known.vote)) refl (λ s upto. refl)))
+    h (put_all_as c.args.entries first found) refl tt (sym (c.vote_ref-vote.ensures ∙ known.vote), at_end) refl (λ s upto. refl)))
     c.push_command.ensures.ok
