@@ -42,15 +42,12 @@ fn stopped(engine: Engine<MemoryFileSystem>, how: &str) -> Result<MemoryFileSyst
     }
 }
 
-/// Where the steps stop.
-fn parts<'a, 'b>(words: &'b [&'a str]) -> (&'b [&'a str], &'b [&'a str]) {
-    match words.iter().position(|word| *word == "stop") {
-        Some(at) => {
-            let (before, behind) = words.split_at(at);
-            (before, behind.get(1..).unwrap_or(&[]))
-        }
-        None => (words, &[]),
-    }
+/// How many steps come before the stop.
+fn steps_before(words: &[&str]) -> usize {
+    words
+        .iter()
+        .position(|word| *word == "stop")
+        .unwrap_or(words.len())
 }
 
 /// Opens an engine without files, takes the steps up to the word `stop`, opens it again and takes
@@ -61,11 +58,12 @@ pub fn reopened(
     how: &str,
     words: &[&str],
 ) -> Result<Both, EngineFault> {
-    let (before, behind) = parts(words);
+    let stop = steps_before(words);
     let mut engine = opened(MemoryFileSystem::new(alloc), alloc, target_size)?;
-    let first = steps_on(&mut engine, alloc, before)?;
+    let first = steps_on(&mut engine, alloc, words.get(..stop).unwrap_or(&[]))?;
     let files = stopped(engine, how)?;
     let mut engine = opened(files, alloc, target_size)?;
-    let second = steps_on(&mut engine, alloc, behind)?;
+    let behind = stop.saturating_add(1);
+    let second = steps_on(&mut engine, alloc, words.get(behind..).unwrap_or(&[]))?;
     Ok((first, second))
 }

@@ -1,0 +1,110 @@
+-- What a piece of a peer's stream does to a node, and what it is answered.
+use Rattle.std.specs.Prelude.{◌≡◌, ◌⊎◌, ℕ, Bool, true, false, List, Option, Some, None, Result, Ok, Err}
+use Rattle.std.specs.List.{AllZip}
+use Rattle.raft_group_step.specs.Message.{Message as Said}
+use Rattle.raft_group_step.specs.StoredGroup.{Snapshot, StoredGroup}
+use Rattle.raft_group_step.specs.GroupState.{GroupState}
+use Rattle.raft_group_step.specs.GroupEvent.{GroupEvent, Receive}
+use Rattle.raft_group_storage.specs.Keeping.{KeepsOthers}
+use Rattle.raft_messages.specs.declared.memberships.SnapshotBytes.{SnapshotBytes}
+use Rattle.raft_messages.specs.declared.message.Message.{Message as Sent}
+use Rattle.raft_executor.specs.Said.{Says}
+use Rattle.raft_laws.specs.GroupWorld.{NodeState, Up}
+use Rattle.raft_member.specs.Member.{HasEnded, HasStopped, IsLawful}
+use Rattle.raft_member.specs.declared.member.Ended.{Ended}
+use Rattle.raft_member.specs.declared.member.Ended.TheVariants as ended
+use Rattle.raft_member.specs.declared.member.Member.{Member}
+use Rattle.raft_groups.specs.Faults.{HasMet}
+use Rattle.raft_groups.specs.declared.fault.GroupsFault.TheVariants as groups_fault
+use Rattle.raft_groups.specs.Standing.{HasMember, StandsAs}
+use Rattle.raft_wire.specs.Frames.{FitsFrame}
+use Rattle.raft_wire.specs.Stream.{Answers, Feeding, IsSpelledSo}
+use Rattle.raft_wire.specs.declared.error.FrameError.{FrameError}
+use Rattle.raft_wire.specs.declared.frame.Frame.{Frame}
+use Rattle.raft_framed_groups.specs.Frames.{AnyNotFramed, IsFramed}
+use Rattle.raft_framed_groups.specs.declared.answering.Answer.{Answer}
+use Rattle.raft_framed_groups.specs.declared.answering.AnswerError.{AnswerError}
+use Rattle.raft_framed_groups.specs.declared.answering.AnswerError.TheVariants as error
+use Rattle.raft_framed_groups.specs.declared.answering.Outcome.{Outcome}
+use Rattle.raft_framed_groups.specs.declared.answering.Outcome.TheVariants as outcome
+
+-- what a step sends is answered as frames, or one of its messages has none
+abbrev pub IsSentAs : {F : Type 0} → ℕ → List (Sent SnapshotBytes) → Result Outcome (AnswerError F) → Type 0
+IsSentAs group messages (Ok (outcome.Sent sent)) = AllZip (IsFramed group) messages sent.items
+IsSentAs group messages (Ok other) = ⊥
+IsSentAs group messages (Err (error.Unsent why)) = AnyNotFramed group messages why
+IsSentAs group messages (Err other) = ⊥
+
+-- an event that ended so is answered so
+abbrev pub IsOutcomeOf : {F : Type 0} → ℕ → Ended SnapshotBytes → Result Outcome (AnswerError F) → Type 0
+IsOutcomeOf group (ended.Done messages) answer = IsSentAs group messages.items answer
+IsOutcomeOf group (ended.Refused why) answer = answer ≡ Ok (outcome.Refused why)
+IsOutcomeOf group ended.Stopped answer = answer ≡ Ok outcome.Down
+IsOutcomeOf group ended.Skipped answer = answer ≡ Ok outcome.Down
+
+-- ---- a frame that came
+
+-- a node: whether it has failed, which members it has, whether its storage is well, and what that shows
+pub record Node : Type 1 where
+  pub own : ℕ
+  pub has_failed : Bool
+  pub members : ℕ → Option Member
+  pub is_well : Type 0
+  pub shows : ℕ → List StoredGroup → Type 0
+
+-- what the node is in a group
+abbrev pub Stands : Node → ℕ → NodeState → Type 0
+Stands n = StandsAs n.own n.members n.is_well n.shows
+
+-- the group's member was in this state, and took its step at the event, or refused it; or the step met a fault
+abbrev pub IsTaken : {F : Type 0} → (SnapshotBytes → Snapshot → Type 0) → Node → ℕ → GroupState → GroupEvent → Result Outcome (AnswerError F) → Type 0
+IsTaken stands n group s event (Err (error.Groups fault)) =
+    HasMet (λ met. HasMember n.own n.members group (λ member. HasStopped (n.shows group) n.own s event member)) fault
+IsTaken stands n group s event answer =
+    (end : Ended SnapshotBytes) × HasMember n.own n.members group (λ member. HasEnded stands n.is_well (n.shows group) n.own s event None member end)
+    × IsOutcomeOf group end answer
+
+-- the groups met no fault
+abbrev pub IsNoFault : {F : Type 0} → Result Outcome (AnswerError F) → Type 0
+IsNoFault (Err (error.Groups fault)) = ⊥
+IsNoFault answer = Unit {0}
+
+-- whatever the frame's message says, its group takes that, if it is up in a lawful state and the node hasn't failed
+abbrev pub TakesMessage : {F : Type 0} → (SnapshotBytes → Snapshot → Type 0) → Node → Node → Frame → ℕ → Result Outcome (AnswerError F) → Type 0
+TakesMessage stands old new frame now answer =
+    (m : Said) (s : GroupState) → old.has_failed ≡ false → Says stands frame.message m → Stands old frame.group (Up s) → IsLawful old.own s
+    → IsTaken stands new frame.group s (Receive frame.message.sender m now) answer
+
+-- the frame's group took its message, and the others stay; a node that has failed and a group that isn't there are refused
+pub record IsFrameTaken {F : Type 0} (stands : SnapshotBytes → Snapshot → Type 0) (old new : Node) (frame : Frame) (now : ℕ) (answer : Result Outcome (AnswerError F)) : Type 0 where
+  pub taken : TakesMessage stands old new frame now answer
+  pub others : (other : ℕ) (x : NodeState) → (other ≡ frame.group → ⊥) → Stands old other x → IsNoFault answer → Stands new other x
+  pub kept : KeepsOthers old.shows new.shows frame.group
+  pub failed : old.has_failed ≡ true → answer ≡ Err (error.Groups groups_fault.Failed)
+  pub unknown : old.has_failed ≡ false → old.members frame.group ≡ None → answer ≡ Err (error.Groups groups_fault.UnknownGroup)
+
+-- ---- a piece of a stream
+
+-- a frame that was made whole is within its limits
+abbrev pub IsFit : Result (Option Frame) FrameError → Type 0
+IsFit (Ok None) = Unit {0}
+IsFit (Ok (Some frame)) = FitsFrame frame
+IsFit (Err why) = Unit {0}
+
+-- a frame that says another sender changes nothing, and another one is taken so
+abbrev pub IsFrom : {G F : Type 0} → ℕ → G → G → Type 0 → Frame → Result Outcome (AnswerError F) → Type 0
+IsFrom peer old new taken frame answer =
+    ((frame.message.sender ≡ peer → ⊥) × (answer ≡ Err (error.OtherSender frame.message.sender)) × (new ≡ old)) ⊎ ((frame.message.sender ≡ peer) × taken)
+
+-- what the feeder made of the piece, and what became of that
+abbrev pub IsAnswerTo : {G F : Type 0} → ℕ → G → G → (Frame → Type 0) → Result (Option Frame) FrameError → Result Outcome (AnswerError F) → Type 0
+IsAnswerTo peer old new taken (Ok None) answer = (answer ≡ Ok outcome.Waits) × (new ≡ old)
+IsAnswerTo peer old new taken (Ok (Some frame)) answer = IsFrom peer old new (taken frame) frame answer
+IsAnswerTo peer old new taken (Err why) answer = (answer ≡ Err (error.Stream why)) × (new ≡ old)
+
+-- The piece was fed, and its bytes up to the end of a frame are the one spelling of what is answered
+pub record IsAnswered {G F : Type 0} (peer : ℕ) (old new : G) (taken : Frame → Type 0) (fed : Feeding) (piece : List ℕ) (answer : Answer F) (feeding : Feeding) : Type 0 where
+  pub frame : Result (Option Frame) FrameError
+  pub feeds : Answers fed piece answer.used frame feeding
+  pub spelled : IsSpelledSo fed.held piece answer.used frame
+  pub answers : IsAnswerTo peer old new taken frame answer.outcome

@@ -1,0 +1,138 @@
+//! A piece of a peer's stream comes to a node.
+ghost use Rattle.std.specs.Prelude.{◌≡◌};
+ghost use Rattle.std.specs.Ordering.{nat_cmp};
+ghost use Rattle.std.specs.BTreeMap.{get};
+ghost use Rattle.raft_framed_groups.specs.Answers.{IsAnswered, IsFrameTaken, IsFrom, IsOutcomeOf};
+
+use crate::frames::{GroupFrame, frames_of};
+use raft_conditions::Refusal;
+use raft_group_storage::GroupStorage;
+use raft_groups::{Groups, GroupsFault};
+use raft_member::Ended;
+use raft_messages::SnapshotBytes;
+use raft_wire::{Fed, Feeder, Frame, FrameError};
+use std::alloc::Global;
+
+/// What a piece of a peer's stream did (own).
+#[derive(Debug, Drop)]
+pub enum Outcome {
+    /// No frame is whole yet, and the node is as before.
+    Waits,
+    /// A group took its step, and sends these frames.
+    Sent(Vec<GroupFrame>),
+    /// The group refuses the message, and is as before.
+    Refused(Refusal<u64>),
+    /// The group's member is down, and stays as it is.
+    Down,
+}
+
+/// Why a piece has no answer (own).
+#[derive(Debug, Drop)]
+pub enum AnswerError<F> {
+    /// The stream is refused, or memory is lacking for what comes: the node is as before.
+    Stream(FrameError),
+    /// The frame's sender is this node and not the peer: the node is as before.
+    OtherSender(u64),
+    /// The node's groups don't take it.
+    Groups(GroupsFault<F>),
+    /// The group took its step, and what it sends is lost.
+    Unsent(FrameError),
+}
+
+/// What became of a piece (own).
+#[derive(Debug, Drop)]
+pub struct Answer<F> {
+    /// How many bytes of the piece were taken.
+    pub used: usize,
+    /// What they did.
+    pub outcome: Result<Outcome, AnswerError<F>>,
+}
+
+// What an event that has ended sends.
+fn outcome_of<F: Drop>(
+    alloc: Global,
+    group: u64,
+    ended: Ended<SnapshotBytes>,
+) -> Result<Outcome, AnswerError<F>>
+    ensures { IsOutcomeOf group ended result }
+{
+    match ended {
+        Ended::Done(messages) => match frames_of(alloc, group, messages) {
+            Ok(sent) => Ok(Outcome::Sent(sent)),
+            Err(why) => Err(AnswerError::Unsent(why)),
+        },
+        Ended::Refused(why) => Ok(Outcome::Refused(why)),
+        Ended::Stopped | Ended::Skipped => Ok(Outcome::Down),
+    }
+}
+
+// The frame's message comes to its group.
+fn take_frame<S: GroupStorage<Snapshot = SnapshotBytes>>(
+    alloc: Global,
+    groups: &mut Groups<S>,
+    frame: &Frame,
+    now: u64,
+) -> Result<Outcome, AnswerError<S::Fault>>
+    ensures takes { IsFrameTaken S.stands
+        (record { own = groups.old.id; has_failed = groups.old.has_failed; members = get nat_cmp groups.old.members; is_well = S.is_well groups.old.storage; shows = S.shows groups.old.storage })
+        (record { own = groups.old.id; has_failed = groups.new.has_failed; members = get nat_cmp groups.new.members; is_well = S.is_well groups.new.storage; shows = S.shows groups.new.storage })
+        frame.now now result }
+    ensures id { groups.new.id ≡ groups.old.id }
+{
+    match groups.receive(frame.group, &frame.message, now) {
+        Ok(ended) => outcome_of(alloc, frame.group, ended),
+        Err(fault) => Err(AnswerError::Groups(fault)),
+    }
+}
+
+// A frame of the peer comes.
+fn take_from<S: GroupStorage<Snapshot = SnapshotBytes>>(
+    alloc: Global,
+    groups: &mut Groups<S>,
+    peer: u64,
+    frame: &Frame,
+    now: u64,
+) -> Result<Outcome, AnswerError<S::Fault>>
+    ensures takes { IsFrom peer groups.old groups.new (IsFrameTaken S.stands
+        (record { own = groups.old.id; has_failed = groups.old.has_failed; members = get nat_cmp groups.old.members; is_well = S.is_well groups.old.storage; shows = S.shows groups.old.storage })
+        (record { own = groups.old.id; has_failed = groups.new.has_failed; members = get nat_cmp groups.new.members; is_well = S.is_well groups.new.storage; shows = S.shows groups.new.storage })
+        frame.now now result) frame.now result }
+    ensures id { groups.new.id ≡ groups.old.id }
+{
+    let sender = frame.message.sender;
+    if sender != peer {
+        return Err(AnswerError::OtherSender(sender));
+    }
+    take_frame(alloc, groups, frame, now)
+}
+
+/// A piece of a peer's stream comes to a node at this moment, in ticks (own). Once it makes a frame
+/// whole, the frame's message comes to its group, and what the group's step sends is answered as
+/// frames. Whole bytes thus become what the node has stored, and bytes again.
+///
+/// An error says what it leaves: a refused stream and a frame of another sender leave the node as
+/// before (`Stream`, `OtherSender`); so do a group that isn't there and a node that has failed, and a
+/// fault inside the step fails the node (`Groups`); behind the step only what it sends is lost
+/// (`Unsent`).
+pub fn answer_piece<S: GroupStorage<Snapshot = SnapshotBytes>>(
+    alloc: Global,
+    groups: &mut Groups<S>,
+    feeder: &mut Feeder,
+    peer: u64,
+    piece: &[u8],
+    now: u64,
+) -> Answer<S::Fault>
+    ensures answers { IsAnswered peer groups.old groups.new (λ frame. IsFrameTaken S.stands
+        (record { own = groups.old.id; has_failed = groups.old.has_failed; members = get nat_cmp groups.old.members; is_well = S.is_well groups.old.storage; shows = S.shows groups.old.storage })
+        (record { own = groups.old.id; has_failed = groups.new.has_failed; members = get nat_cmp groups.new.members; is_well = S.is_well groups.new.storage; shows = S.shows groups.new.storage })
+        frame now result.outcome) feeder.old.feeding piece.now result feeder.new.feeding }
+    ensures id { groups.new.id ≡ groups.old.id }
+{
+    let Fed { used, frame } = feeder.feed(piece);
+    let outcome = match frame {
+        Ok(None) => Ok(Outcome::Waits),
+        Ok(Some(frame)) => take_from(alloc, groups, peer, &frame, now),
+        Err(why) => Err(AnswerError::Stream(why)),
+    };
+    Answer { used, outcome }
+}

@@ -1,0 +1,9 @@
+pub mod RunLemmas
+pub mod EventLemmas
+pub mod CallLemmas
+pub mod HistoryLemmas
+pub mod AppliedLemmas
+pub mod FactLemmas
+pub mod OpeningLemmas
+pub mod MessageLemmas
+pub mod LoadedLemmas

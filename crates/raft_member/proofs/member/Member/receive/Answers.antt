@@ -1,0 +1,53 @@
+-- What the message says is what it says with the snapshot that its own stands for.
+use Rattle.std.proofs.Common.{◌≡◌, Some, sym, ◌∙◌, subst}
+use Rattle.raft_state.proofs.GrowthLemmas.{on_err}
+use Rattle.raft_messages.specs.Messages.{message_as}
+use Rattle.raft_group_step.specs.GroupEvent.{Receive}
+use Rattle.raft_group_step.specs.Message.{Message as Said}
+use Rattle.raft_member.specs.Member.{Engine, HasEnded, HasStopped, IsIdle}
+use Rattle.raft_member.specs.declared.member.Member.{Member}
+use Rattle.raft_member.proofs.MessageLemmas.{said_as}
+use Rattle.raft_member.proofs.member.Member.receive.Goals as goal
+
+pub returns-in_err-ended-clause-err : goal.returns-in_err-ended-clause-err
+returns-in_err-ended-clause-err g c = λ m s says up lawful.
+    let own = c.args.self.now.id in
+    let peer = c.args.message.now.sender in
+    let shown = g.S.GroupStorage.shows c.message.new.storage c.args.group in
+    let said = said_as g.S.GroupStorage.stands c.args.message.now m says in
+    let both : Some up.engine ≡ Some c.in-Some.engine = sym up.has_engine ∙ sym c.take.ensures.value ∙ c.in-Some.is in
+    let same : up.engine ≡ c.in-Some.engine = cc in
+    let idle = subst (λ (e : Engine). IsIdle own e s) same up.idle in
+    on_err _
+    (subst (λ (x : Said). HasStopped shown own s (Receive peer x c.args.now) c.message.new.self) said.2
+    (c.in_err-ended.ensures.err said.0 s said.1
+    (record {
+      no_engine = c.take.ensures.after;
+      well = up.well;
+      stored = up.stored;
+      present = up.present;
+    })
+    up.moment idle lawful))
+
+pub returns-clause-ok : goal.returns-clause-ok
+returns-clause-ok g c = λ m s says up lawful.
+    let own = c.args.self.now.id in
+    let peer = c.args.message.now.sender in
+    let stands = g.S.GroupStorage.stands in
+    let is_well = g.S.GroupStorage.is_well c.message.new.storage in
+    let shown = g.S.GroupStorage.shows c.message.new.storage c.args.group in
+    let said = said_as stands c.args.message.now m says in
+    let both : Some up.engine ≡ Some c.in-Some.engine = sym up.has_engine ∙ sym c.take.ensures.value ∙ c.in-Some.is in
+    let same : up.engine ≡ c.in-Some.engine = cc in
+    let idle = subst (λ (e : Engine). IsIdle own e s) same up.idle in
+    let event = Receive peer (message_as (λ x. said.0) c.args.message.now) c.args.now in
+    subst (λ (x : Said). HasEnded stands is_well shown own s (Receive peer x c.args.now) c.args.stop c.put_back.new.self c.in_ok-ended.ended) said.2
+    (subst (λ (left : Member). HasEnded stands is_well shown own s event c.args.stop left c.in_ok-ended.ended) (sym c.put_back.ensures)
+    (c.in_ok-ended.ensures.ok said.0 s said.1
+    (record {
+      no_engine = c.take.ensures.after;
+      well = up.well;
+      stored = up.stored;
+      present = up.present;
+    })
+    up.moment idle lawful))

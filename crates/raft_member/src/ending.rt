@@ -1,0 +1,107 @@
+//! The end of an event: what the queue asks for is stored and sent.
+ghost use Rattle.std.specs.Prelude.{◌≡◌, ℕ, None, OnErr, OnOk};
+ghost use Rattle.std.specs.Option.{option_copied};
+ghost use Rattle.raft_group_step.specs.StoredGroup.{StoredGroup as Stored};
+ghost use Rattle.raft_group_step.specs.GroupState.{GroupState};
+ghost use Rattle.raft_group_step.specs.StepResult.{StepResult};
+ghost use Rattle.raft_engine.specs.Standing.{IsStateOf};
+ghost use Rattle.raft_group_storage.specs.Keeping.{KeepsOthers};
+ghost use Rattle.raft_member.specs.Member.{IsDown, IsIdle};
+ghost use Rattle.raft_member.specs.Running.{HasHalted, IsRun, RunsTo, left_by};
+
+use crate::member::{ByteGroup, Ended, Member};
+use raft_engine::Engine;
+use raft_executor::{Sender, messages, store_first};
+use raft_group_storage::GroupStorage;
+use std::alloc::Global;
+
+// The engine has nothing left to do.
+fn come_to_rest(engine: &mut Engine<ByteGroup>)
+    ensures { (own : ℕ) (s : GroupState) → IsStateOf own engine.old s → IsIdle own engine.new s }
+{
+    engine.output.clear();
+    engine.state.state.io_state.set_building_snapshot(false);
+}
+
+// The engine with nothing left to do.
+pub(crate) fn at_rest(engine: Engine<ByteGroup>) -> Engine<ByteGroup>
+    ensures { (own : ℕ) (s : GroupState) → IsStateOf own engine s → IsIdle own result s }
+{
+    let mut engine = engine;
+    come_to_rest(&mut engine);
+    engine
+}
+
+impl Member {
+    // The engine that was taken out for an event goes back, unless the event stopped.
+    pub(crate) fn put_back<X>(&mut self, engine: Engine<ByteGroup>, ended: &Ended<X>)
+        ensures { self.new ≡ left_by ended.now engine self.old }
+    {
+        match ended {
+            Ended::Done(_) | Ended::Refused(_) => self.engine = Some(engine),
+            Ended::Stopped | Ended::Skipped => {}
+        }
+    }
+
+    // The step is done: what the queue asks for is stored in its order, and sent. The snapshot is
+    // the one that a command stores.
+    pub(crate) fn end_taken<S: GroupStorage>(
+        &mut self,
+        alloc: Global,
+        engine: &mut Engine<ByteGroup>,
+        snapshot: Option<&S::Snapshot>,
+        moment: u64,
+        stop: Option<u64>,
+        storage: &mut S,
+        group: u64,
+    ) -> Result<Ended<S::Snapshot>, S::Fault>
+        ensures id { self.new.id ≡ self.old.id }
+        ensures well { S.is_well storage.old → OnOk result (S.is_well storage.new) }
+        ensures ok { (old : Stored) (r : StepResult) → IsDown (S.is_well storage.old) (S.shows storage.old group) self.old old
+            → IsRun S.stands self.old.id engine.old old r (option_copied snapshot.entry) moment
+            → RunsTo S.stands (S.is_well storage.new) (S.shows storage.new group) old r stop engine.new self.new result }
+        ensures err { (old : Stored) (r : StepResult) → IsDown (S.is_well storage.old) (S.shows storage.old group) self.old old
+            → IsRun S.stands self.old.id engine.old old r (option_copied snapshot.entry) moment
+            → OnErr result (HasHalted (S.shows storage.new group) old r self.new) }
+        ensures others { KeepsOthers (S.shows storage.old) (S.shows storage.new) group }
+    {
+        store_first(&engine.output, stop, snapshot, storage, group)?;
+        if stop.is_some() {
+            return Ok(Ended::Stopped);
+        }
+        let sender = Sender {
+            own: self.id,
+            vote: *engine.state.state.vote.get(),
+            committed: engine.state.state.committed,
+        };
+        let sent = messages(alloc, &sender, &engine.output, storage, group)?;
+        self.moment = moment;
+        come_to_rest(engine);
+        Ok(Ended::Done(sent))
+    }
+
+    // The step is done, and none of its commands stores a snapshot.
+    pub(crate) fn end_without_snapshot<S: GroupStorage>(
+        &mut self,
+        alloc: Global,
+        engine: &mut Engine<ByteGroup>,
+        moment: u64,
+        stop: Option<u64>,
+        storage: &mut S,
+        group: u64,
+    ) -> Result<Ended<S::Snapshot>, S::Fault>
+        ensures id { self.new.id ≡ self.old.id }
+        ensures well { S.is_well storage.old → OnOk result (S.is_well storage.new) }
+        ensures ok { (old : Stored) (r : StepResult) → IsDown (S.is_well storage.old) (S.shows storage.old group) self.old old
+            → IsRun S.stands self.old.id engine.old old r None moment
+            → RunsTo S.stands (S.is_well storage.new) (S.shows storage.new group) old r stop engine.new self.new result }
+        ensures err { (old : Stored) (r : StepResult) → IsDown (S.is_well storage.old) (S.shows storage.old group) self.old old
+            → IsRun S.stands self.old.id engine.old old r None moment
+            → OnErr result (HasHalted (S.shows storage.new group) old r self.new) }
+        ensures others { KeepsOthers (S.shows storage.old) (S.shows storage.new) group }
+    {
+        // Its type says which snapshots there would be.
+        let none: Option<S::Snapshot> = None;
+        self.end_taken(alloc, engine, none.as_ref(), moment, stop, storage, group)
+    }
+}

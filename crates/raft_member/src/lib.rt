@@ -1,0 +1,12 @@
+//! A member of a group at a node, over any storage: what comes to it is judged, done by its engine,
+//! stored and sent.
+#![tactic(auto)]
+
+mod calls;
+mod ending;
+mod facts;
+pub mod member;
+mod messages;
+mod opening;
+
+pub use member::{Broken, ByteGroup, Ended, Member};

@@ -1,0 +1,136 @@
+//! A member of a group: it is up with an engine, or down.
+ghost use Rattle.std.specs.Prelude.{◌≡◌, ℕ, IfOk, OnOk, OnErr, None, Some, true, false, is_some, ◌∷◌, []};
+ghost use Rattle.std.specs.Option.{option_copied};
+ghost use Rattle.raft_group_step.specs.StoredGroup.{StoredGroup as Stored, MakeGroup, after_storing};
+ghost use Rattle.raft_group_step.specs.GroupState.{GroupState, is_leader, no_group, state_of};
+ghost use Rattle.raft_group_storage.specs.Keeping.{KeepsOthers};
+ghost use Rattle.raft_member.specs.Member.{IsIdle, IsUp};
+
+use crate::ending::at_rest;
+use raft_commands::RaftTypeConfig;
+use raft_conditions::Refusal;
+use raft_engine::Engine;
+use raft_group_storage::GroupStorage;
+use raft_messages::Message;
+use raft_state::{BasicNode, Bytes};
+use std::alloc::{AllocError, Global};
+
+/// A group whose nodes are numbers, and whose commands and answers are bytes (own).
+#[derive(Clone, Copy, Debug)]
+pub struct ByteGroup;
+
+impl RaftTypeConfig for ByteGroup {
+    type D = Bytes;
+
+    type R = Bytes;
+
+    type NodeId = u64;
+
+    type Node = BasicNode;
+}
+
+/// How an event ended that came to a member (own).
+#[derive(Debug, Drop)]
+pub enum Ended<X> {
+    /// It ran to its end, and sent these messages.
+    Done(Vec<Message<X>>),
+    /// It was refused, and the member is as before.
+    Refused(Refusal<u64>),
+    /// It stopped after the storing commands that it was given, and the member is down.
+    Stopped,
+    /// Nothing happened: the member was down, or up where it was to be opened.
+    Skipped,
+}
+
+/// How far an event came that met a fault (own): its member is down.
+#[derive(Debug, Drop)]
+pub enum Broken<F> {
+    /// Want of memory: it isn't known whether the event is refused, and nothing of it was begun.
+    Unjudged(AllocError),
+    /// It wasn't refused. Some of its storing commands are done, from the first on, and the one
+    /// that failed is or isn't.
+    Begun(F),
+}
+
+/// A member of a group at a node (own): it is up with an engine, or down. What the node has stored
+/// of the group stands elsewhere (`GroupStorage`), and is handed in with each event.
+#[derive(Debug, Drop)]
+pub struct Member {
+    /// The node's id.
+    pub id: u64,
+    /// The engine of a member that is up.
+    pub engine: Option<Engine<ByteGroup>>,
+    /// The last moment that was handed in since the opening, in ticks.
+    pub moment: u64,
+}
+
+impl Member {
+    /// A member that has the group, which is made by this, and nothing in it (own). Where it fails,
+    /// the group is made or not.
+    pub fn new<S: GroupStorage>(
+        alloc: Global,
+        id: u64,
+        storage: &mut S,
+        group: u64,
+    ) -> Result<Member, S::Fault>
+        ensures well { S.is_well storage.old → OnOk result (S.is_well storage.new) }
+        ensures ok { S.is_well storage.old → S.shows storage.old group (no_group ∷ [])
+            → IfOk result (λ m. (m.id ≡ id) × IsUp (S.is_well storage.new) (S.shows storage.new group) m (state_of (record no_group { present = true }))) }
+        ensures err { (kept : Stored) → S.is_well storage.old → S.shows storage.old group (kept ∷ [])
+            → OnErr result (S.shows storage.new group (kept ∷ after_storing MakeGroup kept ∷ [])) }
+        ensures others { KeepsOthers (S.shows storage.old) (S.shows storage.new) group }
+    {
+        let engine = Engine::for_new_group(alloc, id)?;
+        storage.make_group(group)?;
+        Ok(Member {
+            id,
+            engine: Some(at_rest(engine)),
+            moment: 0,
+        })
+    }
+
+    /// A member that is down (own). Takes no memory.
+    pub fn down(id: u64) -> Member
+        ensures id { result.id ≡ id }
+        ensures engine { result.engine ≡ None }
+    {
+        Member {
+            id,
+            engine: None,
+            moment: 0,
+        }
+    }
+
+    /// Whether the member is up (own).
+    pub fn is_up(&self) -> bool
+        ensures { result ≡ is_some self.now.engine }
+    {
+        self.engine.is_some()
+    }
+
+    /// The engine of a member that is up, lent (own).
+    pub fn engine(&self) -> Option<&Engine<ByteGroup>>
+        ensures { option_copied result ≡ self.now.engine }
+    {
+        self.engine.as_ref()
+    }
+
+    /// Whether the member leads (own).
+    pub fn is_leading(&self) -> bool
+        ensures up { (e : _) (s : GroupState) → self.now.engine ≡ Some e → IsIdle self.now.id e s → result ≡ is_leader s.role }
+        ensures down { self.now.engine ≡ None → result ≡ false }
+    {
+        match &self.engine {
+            Some(engine) => engine.leader.is_some(),
+            None => false,
+        }
+    }
+
+    /// The member goes down (own).
+    pub fn crash(&mut self)
+        ensures id { self.new.id ≡ self.old.id }
+        ensures down { self.new.engine ≡ None }
+    {
+        self.engine = None;
+    }
+}
