@@ -70,8 +70,9 @@ impl<S: GroupStorage> Groups<S> {
         self.members.get(&group)
     }
 
-    /// The node has a new group from now on, with nothing in it (own). At a fault, want of memory
-    /// included, the group is stored or not, and the node has failed.
+    /// The node has a new group from now on, with nothing in it (own). A group that the storage has
+    /// is to be opened, not added: this call looks among the members alone. At a fault, want of
+    /// memory included, the group is stored or not, and the node has failed.
     pub fn add_group(&mut self, group: u64) -> Result<(), GroupsFault<S::Fault>>
         ensures failed { self.old.has_failed ≡ true → (result ≡ Err Failed) × (self.new ≡ self.old) }
         ensures exists { self.old.has_failed ≡ false → is_some (get nat_cmp self.old.members group) ≡ true
