@@ -1,36 +1,66 @@
 """The file scripts/edits/TRIED: for each crate whose edits were all refused, the sum of what that
 rests on."""
+import functools
 import hashlib
 import os
+import re
 
 import kit
 
 # Raise this where the way in which edits are judged changes, so that all are tried anew.
-FORM = 1
+FORM = 2
+COMMENT = re.compile(rb"(?m)^[ \t]*(//|-- ).*\n")
 
 
-def _add(sum_of, folder, files):
-    for file in files:
-        with open(file, "rb") as it:
-            sum_of.update(repr((os.path.relpath(file, folder), it.read())).encode())
+def _text(file):
+    with open(file, "rb") as it:
+        return it.read()
 
 
-def _is_proof(crate, file):
-    return os.path.relpath(file, crate.folder).startswith("proofs/")
+def _of_file(folder, file, text):
+    """Returns the file's name and text as one."""
+    return repr((os.path.relpath(file, folder), text)).encode()
+
+
+def _unseen(functions, text):
+    """Returns the places in a file's text of what no caller's proof reads: bodies, and functions of
+    the crate's own. A law has no body, and a constant function's may be computed with."""
+    for f in functions:
+        is_constant = re.search(rb"\bconst\s*$", text[f.first : f.start])
+        if not f.is_pub:
+            yield f.first, f.end
+        elif f.has_body and text[f.opens : f.end].strip(b"{} \n") and not is_constant:
+            yield f.opens, f.end
+
+
+@functools.lru_cache(None)
+def _seen_above(crate):
+    """Returns what the crates above see of the crate: its contracts and definitions. Proofs and
+    bodies are left out: a wrong body stays wrong whatever else is proved of what it calls."""
+    found, functions = b"", kit.functions(crate)[0]
+    for file in kit.rtlib.files_of(crate.folder):
+        if os.path.relpath(file, crate.folder).startswith("proofs/"):
+            continue
+        text, here = _text(file), [f for f in functions if f"{crate.folder}/{f.file}" == file]
+        for first, end in sorted(_unseen(here, text), reverse=True):
+            text = text[:first] + b";" + text[end:]
+        found += _of_file(crate.folder, file, COMMENT.sub(b"", text))
+    return found
 
 
 def sum_of(crate, folder):
-    """Returns a sum of the crate's sources and edits, of the contracts and definitions of the
-    libraries below it, and of the kit. Proofs below are left out: a wrong body stays wrong whatever
-    else is proved of what it calls."""
-    made = hashlib.sha256(repr((FORM, kit.IDENTITY)).encode())
+    """Returns a sum of the crate's sources and edits, of what it sees of the libraries below it,
+    and of the kit's logic. The kit's letter is left out: its tools change with it, not what is true."""
+    made = hashlib.sha256(repr((FORM, kit.IDENTITY.partition(" ")[2])).encode())
     for it in [*crate.below(), crate]:
         uses = sorted(dep.name for dep in it.deps)
         made.update(repr((it.name, uses, sorted(it.of_kit))).encode())
-        files = kit.rtlib.files_of(it.folder)
-        _add(made, it.folder, [at for at in files if it is crate or not _is_proof(it, at)])
-    edits = sorted(it for it in os.listdir(folder) if it.endswith(".edit"))
-    _add(made, folder, [f"{folder}/{it}" for it in edits])
+        if it is not crate:
+            made.update(_seen_above(it))
+    for file in kit.rtlib.files_of(crate.folder):
+        made.update(_of_file(crate.folder, file, _text(file)))
+    for it in sorted(it for it in os.listdir(folder) if it.endswith(".edit")):
+        made.update(_of_file(folder, f"{folder}/{it}", _text(f"{folder}/{it}")))
     return made.hexdigest()[:32]
 
 
