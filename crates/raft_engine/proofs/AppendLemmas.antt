@@ -22,7 +22,7 @@ use Rattle.raft_group_step.specs.Lead.{ids_of}
 use Rattle.raft_group_step.specs.Frames.{committed_id}
 use Rattle.raft_group_step.proofs.LastMembership.{last_membership-append}
 use Rattle.raft_known_state.specs.KnownState.{ArePlaced, IsPlaced, KeepsRest, Knows, entry_ids, purged_ids}
-use Rattle.raft_known_state.proofs.KnownStateLemmas.{end-known, last-known, log_whole}
+use Rattle.raft_known_state.proofs.KnownStateLemmas.{behind, end-known, last-known, log_whole}
 use Rattle.raft_known_state.proofs.PlacedIds.{by_order, last_of}
 use Rattle.raft_commands.specs.declared.command.Command.TheVariants.{AppendInputEntries}
 use Rattle.raft_leaders.specs.Candidate.{CandidateValue}
@@ -34,7 +34,7 @@ use Rattle.raft_engine.specs.Leading.{KnowsMembers}
 use Rattle.raft_engine.proofs.CommandLemmas.{at_once_more, numbers_kept, sends_same, stores_more}
 use Rattle.raft_engine.proofs.CommittingLemmas.{moves_kept}
 use Rattle.raft_engine.proofs.StandingLemmas.{order_kept}
-use Rattle.raft_engine.proofs.PlacedEntries.{behind, get_of_joined}
+use Rattle.raft_engine.proofs.PlacedEntries.{get_of_joined}
 use Rattle.raft_engine.specs.Standing.{basis_before}
 use Rattle.raft_engine.proofs.OrderingLemmas.{rests_stored}
 use Rattle.raft_engine.proofs.TurnLemmas.{turns_kept}

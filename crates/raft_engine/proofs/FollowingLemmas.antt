@@ -14,7 +14,7 @@ use Rattle.raft_group_step.specs.AppendRequest.{cut_from, put_entries}
 use Rattle.raft_group_step.specs.Frames.{committed_id}
 use Rattle.raft_known_state.specs.KnownState.{KnownState, Knows, KeepsRest, ArePlaced, IsPlaced, stored_ids, with_committed}
 use Rattle.raft_known_state.proofs.PlacedIds.{by_order}
-use Rattle.raft_known_state.proofs.KnownStateLemmas.{end-known, log_whole}
+use Rattle.raft_known_state.proofs.KnownStateLemmas.{behind, end-known, log_whole}
 use Rattle.raft_commands.specs.Output.{Output, following_seq}
 use Rattle.raft_engine.specs.Numbering.{number_in}
 use Rattle.raft_engine.specs.Commands.{Command, put_all, storing_of, sending_of}
@@ -25,7 +25,7 @@ use Rattle.raft_engine.proofs.CommittingLemmas.{moves_gained, moves_kept, unmove
 use Rattle.raft_engine.specs.Committing.{Applies, moves_of}
 use Rattle.raft_engine.specs.Answering.{NeedsNoOther}
 use Rattle.raft_engine.proofs.StandingLemmas.{still_follows}
-use Rattle.raft_engine.proofs.PlacedEntries.{HasEntry, has_entry, id_of_place, none_behind, with_log, id_below_cut, id_before_more, end_of_cut, end_of_any_cut, taken, behind, placed_go_on}
+use Rattle.raft_engine.proofs.PlacedEntries.{HasEntry, has_entry, id_of_place, none_behind, with_log, id_below_cut, id_before_more, end_of_cut, end_of_any_cut, taken, placed_go_on}
 use Rattle.raft_engine.specs.Standing.{basis_before, basis_of}
 use Rattle.raft_engine.specs.Ordering.{RestsOn, committed_by}
 use Rattle.raft_engine.specs.Turns.{turns_of}

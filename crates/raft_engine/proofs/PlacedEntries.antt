@@ -36,11 +36,6 @@ dropped (e ∷ es) place zero p = let same : place ≡ place + 0 = omega arith i
 dropped (e ∷ es) place (suc n) p =
     let same : suc place + n ≡ place + suc n = omega arith in subst (λ k. ArePlaced k (drop n es)) same (dropped es (suc place) n p.1)
 
-pub behind : (es more : List Entry) (place : ℕ) → ArePlaced place es → ArePlaced (place + length es) more → ArePlaced place (es ++ more)
-behind [] more place p q = let same : place + 0 ≡ place = omega arith in subst (λ k. ArePlaced k more) same q
-behind (e ∷ es) more place p q =
-    let same : place + length (e ∷ es) ≡ suc place + length es = omega arith in (p.0, behind es more (suc place) p.1 (subst (λ k. ArePlaced k more) same q))
-
 pub get_of_taken : (es : List Entry) (n i : ℕ) → i < n → slice_get (take n es) i ≡ slice_get es i
 get_of_taken es zero i l = absurd (omega arith)
 get_of_taken [] (suc n) i l = refl

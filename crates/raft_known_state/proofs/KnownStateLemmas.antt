@@ -20,7 +20,8 @@ use Rattle.raft_group_step.specs.Values.{Entry, EntryPayload, Membership, Logged
 use Rattle.raft_group_step.specs.StoredGroup.{StoredGroup, Snapshot, first_place, end_place, entry_at, id_of, is_id, has_id_in_log, log_below, membership_in_force}
 use Rattle.raft_group_step.specs.StoredGroup.{id_at as id_at_place, last_id as last_stored_id}
 use Rattle.raft_known_state.specs.KnownState.{KnownState, EffectiveMembership, SnapshotMeta, Knows, ArePlaced, IsPlaced, purged_ids, entry_ids, stored_ids, memberships_in, with_membership_of, effective_of, last_membership_of, meta_of, take_below, drop_below, last_else, force_of, force_of_snapshot, IsEntryOrPast}
-use Rattle.raft_known_state.specs.KnownState.{AreNoted, MembershipState, committed_membership, committed_of, with_committed, with_goal, with_members}
+use Rattle.raft_known_state.specs.KnownState.{AreInOrder, AreNoted, MembershipState, committed_membership, committed_of, with_committed, with_goal, with_members}
+use Rattle.raft_known_state.proofs.OrderLemmas.{placed_in_order}
 use Rattle.raft_known_state.proofs.PlacedIds.{by_order, Placed, EndsBefore, extended-placed, truncated-placed, from_place-placed, below_first, id_at-placed, ends-placed}
 
 -- a state as contracts see it
@@ -354,6 +355,22 @@ pub none_found : (s : StoredGroup) (id : LogId ℕ) → id.index < first_place s
 none_found s id l =
     let below : nat_lt id.index (first_place s) ≡ true = grind (arith, nat_tests, l) in rw below refl
 
+-- the memberships of a placed log are in order
+pub known_in_order : (k : KnownState) (s : StoredGroup) → Knows k s → IsPlaced s → AreInOrder k.memberships.items
+known_in_order k s old p = subst AreInOrder (sym old.memberships) (placed_in_order s.log (first_place s) (ids_placed s.log (first_place s) p))
+
+-- entries go on where others end
+pub behind : (es more : List Entry) (place : ℕ) → ArePlaced place es → ArePlaced (place + length es) more → ArePlaced place (es ++ more)
+behind [] more place p q = let same : place + 0 ≡ place = omega arith in subst (λ k. ArePlaced k more) same q
+behind (e ∷ es) more place p q =
+    let same : place + length (e ∷ es) ≡ suc place + length es = omega arith in (p.0, behind es more (suc place) p.1 (subst (λ k. ArePlaced k more) same q))
+
+-- and so they are with those of entries behind it
+pub grown_in_order : (k : KnownState) (s : StoredGroup) (es : List Entry) → Knows k s → IsPlaced s → ArePlaced (end_place s) es → AreInOrder (k.memberships.items ++ memberships_in es)
+grown_in_order k s es old p q =
+    subst AreInOrder (memberships-append s.log es ∙ ap (λ ms. ms ++ memberships_in es) (sym old.memberships))
+    (placed_in_order (s.log ++ es) (first_place s) (ids_placed (s.log ++ es) (first_place s) (behind s.log es (first_place s) p q)))
+
 -- what is known gives the last committed membership
 pub committed_known : (k : KnownState) (s : StoredGroup) → k.state.snapshot_meta ≡ meta_of s.snapshot → k.memberships.items ≡ memberships_in s.log → committed_of k ≡ committed_membership s k.state.committed
 committed_known k s e f =
@@ -391,14 +408,6 @@ noted_still k k' noted both meta committed items =
     ∙ ap (λ ms. last_else (force_of_snapshot k.state.snapshot_meta) (take_below (next_place k.state.committed) ms)) items in (
       ap (λ (b : MembershipState). b.effective) both ∙ noted.0 ∙ sym force,
       ap (λ (b : MembershipState). b.committed) both ∙ noted.1 ∙ sym upto,
-    )
-
--- both memberships are noted once they are found anew
-pub refreshed : (k k' : KnownState) → k' ≡ with_members k (record { committed = committed_of k; effective = force_of k }) → AreNoted k' × (k' ≡ with_members k k'.state.membership_state)
-refreshed k k' e =
-    let both : MembershipState = record { committed = committed_of k; effective = force_of k } in (
-      subst AreNoted (sym e) (refl, refl),
-      e ∙ ap (λ (y : KnownState). with_members k y.state.membership_state) (sym e),
     )
 
 -- both memberships are noted where they changed, and else as before
@@ -498,17 +507,17 @@ pub record HasRead (state : StateOf) (vote : Vote ℕ) (purged_id : Option (LogI
 
 -- of a log that has no entry yet all is known
 pub read : (state : StateOf) (k k' : KnownState) (s : StoredGroup) → HasRead state s.vote s.purged (meta_of s.snapshot) → s.log ≡ []
-    → k.state ≡ state → k.memberships.items ≡ [] → k.wish ≡ None → k' ≡ with_members k (record { committed = committed_of k; effective = force_of k }) → Knows k' s
-read state k k' s before empty e f none both =
+    → k.state ≡ state → k.memberships.items ≡ [] → k.wish ≡ None → AreNoted k' → k' ≡ with_members k k'.state.membership_state → Knows k' s
+read state k k' s before empty e f none noted both =
     let ids : stored_ids s ≡ purged_ids s.purged = ap (λ log. purged_ids s.purged ++ entry_ids log) empty ∙ append-nil (purged_ids s.purged) in
-    subst (λ x. Knows x s) (sym both)
-    (knows_again (with_members k (record { committed = committed_of k; effective = force_of k })) s
-    (ap (λ (y : StateOf). y.vote.value) e ∙ before.vote_is)
-    (ap (λ (y : StateOf). y.log_ids) e ∙ before.ids ∙ sym ids)
-    (ap (λ (y : StateOf). y.purged_next) e ∙ before.at)
-    (ap (λ (y : StateOf). y.snapshot_meta) e ∙ before.meta)
-    (f ∙ ap memberships_in (sym empty))
-    (ap (λ (y : StateOf). y.purge_upto) e ∙ before.goal ∙ ap (λ wish. option_or wish s.purged) (sym none)) (refl, refl))
+    knows_again k' s
+    (ap (λ (y : KnownState). y.state.vote.value) both ∙ ap (λ (y : StateOf). y.vote.value) e ∙ before.vote_is)
+    (ap (λ (y : KnownState). y.state.log_ids) both ∙ ap (λ (y : StateOf). y.log_ids) e ∙ before.ids ∙ sym ids)
+    (ap (λ (y : KnownState). y.state.purged_next) both ∙ ap (λ (y : StateOf). y.purged_next) e ∙ before.at)
+    (ap (λ (y : KnownState). y.state.snapshot_meta) both ∙ ap (λ (y : StateOf). y.snapshot_meta) e ∙ before.meta)
+    (ap (λ (y : KnownState). y.memberships.items) both ∙ f ∙ ap memberships_in (sym empty))
+    (ap (λ (y : KnownState). y.state.purge_upto) both ∙ ap (λ (y : StateOf). y.purge_upto) e ∙ before.goal
+    ∙ ap (λ wish. option_or wish s.purged) (sym none) ∙ ap (λ (y : KnownState). option_or y.wish s.purged) (sym both)) noted
 
 -- ---- what is committed
 

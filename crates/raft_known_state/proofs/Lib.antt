@@ -2,3 +2,4 @@ mod KeyLeaderLemmas
 pub mod KnownStateLemmas
 mod MemberIdLemmas
 pub mod PlacedIds
+pub mod OrderLemmas

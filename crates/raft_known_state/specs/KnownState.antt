@@ -1,5 +1,6 @@
 -- What a node knows of its stored group: log ids in place of entries, and the memberships.
 use Rattle.std.specs.Prelude.{◌≡◌, ℕ, suc, Bool, true, false, nat_lt, nat_le, ◌==◌, ◌&&◌, filter, if◌then◌else◌, List, [], ◌∷◌, ◌++◌, map, Option, Some, None}
+use Rattle.std.specs.List.Sorted.{IsNonDecreasingBy}
 use Rattle.std.specs.Option.{option_or}
 use Rattle.raft_values.specs.declared.vote.LeaderId.{LeaderId}
 use Rattle.raft_values.specs.declared.log_id.LogId.{LogId}
@@ -79,6 +80,10 @@ IsPlaced s = ArePlaced (first_place s) s.log
 abbrev pub is_below : ℕ → Option (LogId ℕ) → Bool
 is_below place None = true
 is_below place (Some id) = nat_lt id.index place
+
+-- the places of the memberships don't fall; those without a log id come first
+abbrev pub AreInOrder : List EffectiveMembership → Type 0
+AreInOrder ms = IsNonDecreasingBy (λ m. next_place m.log_id) ms
 
 -- the memberships before the first one that isn't below the place
 abbrev pub take_below : ℕ → List EffectiveMembership → List EffectiveMembership

@@ -12,7 +12,7 @@ ghost use Rattle.raft_group_step.specs.Values.{is_written_by};
 ghost use Rattle.raft_group_step.specs.Initialize.{is_new};
 ghost use Rattle.raft_group_step.specs.Lead.{other_ids};
 ghost use Rattle.raft_group_step.specs.Elect.{other_voters};
-ghost use Rattle.raft_known_state.specs.KnownState.{AreNoted, ArePlaced, IsEntryOrPast, IsPlaced, KeepsRest, Knows, entry_ids, force_of, is_below};
+ghost use Rattle.raft_known_state.specs.KnownState.{AreInOrder, AreNoted, ArePlaced, IsEntryOrPast, IsPlaced, KeepsRest, Knows, entry_ids, force_of, is_below};
 ghost use Rattle.raft_known_state.specs.KnownState.{memberships_in, meta_of, effective_of, logged_as_effective, drop_below, take_below, purged_ids};
 ghost use Rattle.raft_known_state.specs.KnownState.{committed_membership, committed_of, force_of_snapshot, last_else, with_committed, with_goal, with_members};
 
@@ -72,18 +72,13 @@ fn push_memberships(
     Ok(())
 }
 
-// How many of the memberships stand below the place.
+// How many of the memberships stand below the place, where they are in order: found by halving.
 fn count_below(memberships: &[EffectiveMembership<u64, BasicNode>], place: u64) -> usize
-    ensures below { take result memberships.now ≡ take_below place memberships.now }
-    ensures above { drop result memberships.now ≡ drop_below place memberships.now }
+    ensures below { AreInOrder memberships.now → take result memberships.now ≡ take_below place memberships.now }
+    ensures above { AreInOrder memberships.now → drop result memberships.now ≡ drop_below place memberships.now }
     ensures within { result ≤ length memberships.now }
 {
-    for (at, membership) in memberships.iter().enumerate() {
-        if !stands_below(membership.log_id(), place) {
-            return at;
-        }
-    }
-    memberships.len()
+    memberships.partition_point(|membership| stands_below(membership.log_id(), place))
 }
 
 // Whether the log id stands at or below the committed one; none stands below each.
@@ -97,20 +92,15 @@ fn is_committed(log_id: &Option<LogId<u64>>, committed: &Option<LogId<u64>>) -> 
     }
 }
 
-// How many of the memberships are committed.
+// How many of the memberships are committed, where they are in order: found by halving.
 fn count_committed(
     memberships: &[EffectiveMembership<u64, BasicNode>],
     committed: &Option<LogId<u64>>,
 ) -> usize
-    ensures below { take result memberships.now ≡ take_below (next_place committed.now) memberships.now }
+    ensures below { AreInOrder memberships.now → take result memberships.now ≡ take_below (next_place committed.now) memberships.now }
     ensures within { result ≤ length memberships.now }
 {
-    for (at, membership) in memberships.iter().enumerate() {
-        if !is_committed(membership.log_id(), committed) {
-            return at;
-        }
-    }
-    memberships.len()
+    memberships.partition_point(|membership| is_committed(membership.log_id(), committed))
 }
 
 impl KnownState<u64, BasicNode> {
@@ -178,10 +168,19 @@ impl KnownState<u64, BasicNode> {
         }
     }
 
+    // The memberships of a log are in order, since its log ids are. Their list tells so by itself:
+    // nothing is read.
+    fn show_order(&self)
+        ensures { (s : StoredGroup) → Knows self.now s → AreInOrder self.now.memberships.items }
+    {
+        let _ = self.state.log_ids.key_log_ids();
+    }
+
     // The last membership of the log is in force from now on, and the last one of the committed log
     // is the committed one; where the log has none, the snapshot's is.
     fn refresh_memberships(&mut self) -> Result<(), AllocError>
-        ensures { OnOk result (self.new ≡ with_members self.old (record { committed = committed_of self.old; effective = force_of self.old })) }
+        ensures noted { AreInOrder self.old.memberships.items → OnOk result (AreNoted self.new) }
+        ensures rest { OnOk result (self.new ≡ with_members self.old self.new.state.membership_state) }
     {
         let count = count_committed(self.memberships.as_slice(), &self.state.committed);
         let committed = self.last_among(count)?;
@@ -192,7 +191,7 @@ impl KnownState<u64, BasicNode> {
 
     // The same where the memberships changed; else both are noted already.
     fn refresh_if(&mut self, changed: bool) -> Result<(), AllocError>
-        ensures noted { (changed ≡ false → AreNoted self.old) → OnOk result (AreNoted self.new) }
+        ensures noted { AreInOrder self.old.memberships.items → (changed ≡ false → AreNoted self.old) → OnOk result (AreNoted self.new) }
         ensures rest { OnOk result (self.new ≡ with_members self.old self.new.state.membership_state) }
     {
         if changed {
@@ -322,6 +321,7 @@ impl KnownState<u64, BasicNode> {
         ensures known { (s : StoredGroup) → Knows self.old s → OnOk result (Knows self.new s) }
         ensures rest { OnOk result (self.new ≡ with_committed self.old upto self.new.state.membership_state) }
     {
+        self.show_order();
         let before = count_committed(self.memberships.as_slice(), &self.state.committed);
         self.state.committed = upto;
         let now = count_committed(self.memberships.as_slice(), &self.state.committed);
@@ -393,6 +393,7 @@ impl KnownState<u64, BasicNode> {
             → OnOk result (Knows self.new (after_storing (SetSnapshot x) s)) }
         ensures rest { OnOk result (KeepsRest self.old self.new) }
     {
+        self.show_order();
         self.state.snapshot_meta = meta;
         self.refresh_memberships()
     }

@@ -2,7 +2,9 @@
 use Rattle.std.proofs.Common.{◌≡◌, ◌≢◌, ℕ, zero, suc, ◌+◌, ◌-◌, ◌<◌, ◌≤◌, true, false, List, [], ◌∷◌, ◌++◌, length, set, get_or, take, drop, refl, ap, sym, subst, ◌∙◌, arith, append-nil, append_assoc}
 use Rattle.std.specs.Prelude.{Some, None, ◌==◌, nat_lt, nat_le}
 use Rattle.std.specs.List.{filter, find}
+use Rattle.std.specs.List.Sorted.{IsNonDecreasingBy}
 use Rattle.std.proofs.lemmas.Bool.Decides.{nat_tests}
+use Rattle.std.proofs.lemmas.List.{get_or_default}
 use Rattle.std.proofs.lemmas.List.Elements.{filter-append}
 use Rattle.std.proofs.lemmas.List.Folds.{find-append}
 use Rattle.raft_values.specs.declared.vote.LeaderId.{LeaderId}
@@ -44,6 +46,14 @@ module _ {K : Type 0} where
   first-below key [] (suc i) found h l e = absurd (omega arith)
   first-below key (next ∷ keys) (suc i) found h l e =
       let later = first-below next keys i found h.1 (omega arith) e in omega (arith, later)
+
+  -- rising places don't fall
+  pub places-non_decreasing : (keys : List (LogId K)) → PlacesRise keys → IsNonDecreasingBy (λ (x : LogId K). x.index) keys
+  places-non_decreasing [] h i j d l m = absurd (omega arith)
+  places-non_decreasing (key ∷ keys) h zero j d l m =
+      first-below key keys j (get_or (key ∷ keys) j d) h m (get_or_default (key ∷ keys) j d (get_or (key ∷ keys) j d) m)
+  places-non_decreasing (key ∷ keys) h (suc i) zero d l m = absurd (omega arith)
+  places-non_decreasing (key ∷ keys) h (suc i) (suc j) d l m = places-non_decreasing keys h.1 i j d (omega arith) (omega arith)
 
   pub first-below-final : (key : LogId K) (keys : List (LogId K)) → PlacesRise (key ∷ keys) → key.index ≤ (final key keys).index
   first-below-final key [] h = omega arith

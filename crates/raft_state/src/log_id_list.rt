@@ -34,18 +34,13 @@ impl<NID: NodeId> Model for LogIdList<NID> {
     ghost invariant = { λ s. AreKeys NID.cmp s.key_log_ids.items };
 }
 
-// How many of the keys stand at the place or below it.
+// How many of the keys stand at the place or below it, where their places rise: found by halving.
 fn count_up_to<NID: NodeId>(keys: &[LogId<NID>], index: u64) -> usize
     ensures within { result ≤ length keys.now }
-    ensures below { (k : ℕ) (d : _) → k < result → (slice_index_or keys.now k d).index ≤ index }
-    ensures above { (d : _) → result < length keys.now → index < (slice_index_or keys.now result d).index }
+    ensures below { PlacesRise keys.now → (k : ℕ) (d : _) → k < result → (slice_index_or keys.now k d).index ≤ index }
+    ensures above { PlacesRise keys.now → (d : _) → result < length keys.now → index < (slice_index_or keys.now result d).index }
 {
-    for (at, key) in keys.iter().enumerate() {
-        if key.index > index {
-            return at;
-        }
-    }
-    keys.len()
+    keys.partition_point(|key| key.index <= index)
 }
 
 // Whether the last two keys have one leader: then the last one begins no leader.

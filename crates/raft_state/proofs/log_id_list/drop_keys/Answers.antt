@@ -11,7 +11,7 @@ use Rattle.raft_state.proofs.log_id_list.drop_keys.Goals as goal
 pub returns-then-count-eq0-clause-ids : goal.returns-then-count-eq0-clause-ids
 returns-then-count-eq0-clause-ids g c =
     let said = rw c.as_slice.ensures.value at c.count_up_to-count.ensures in
-    let none = rw c.if-count-eq0.true at said.above in
+    let none = rw c.if-count-eq0.true at said.above c.requires.keys.0 in
     sym (purged-none_counted c.args.keys.now.items c.args.upto.now c.requires.keys.0 c.requires.reaches none)
 
 -- a rotation and a cut leave the rest, whose first one was set
@@ -38,16 +38,16 @@ kept : (g : given.Over) (c : goal.After-truncate g)
 kept g c =
     let said = rw c.as_slice.ensures.value at c.count_up_to-count.ensures in
     AreKeys-rest g.NID.Ord.cmp c.args.keys.now.items c.count_up_to-count.result c.index-key.result.now c.args.upto.now.index c.requires.keys
-    (omega arith) said.within c.index-key.ensures said.above
+    (omega arith) said.within c.index-key.ensures (said.above c.requires.keys.0)
 
 pub returns-clause-ids : goal.returns-clause-ids
 returns-clause-ids g c =
     let said = rw c.as_slice.ensures.value at c.count_up_to-count.ensures in
     let low : c.index-key.result.now.index ≤ c.args.upto.now.index =
-    subst (λ (x : LogId _). x.index ≤ c.args.upto.now.index) (sym c.index-key.ensures) (said.below (c.count_up_to-count.result - 1) c.index-key.result.now (omega arith)) in
+    subst (λ (x : LogId _). x.index ≤ c.args.upto.now.index) (sym c.index-key.ensures) (said.below c.requires.keys.0 (c.count_up_to-count.result - 1) c.index-key.result.now (omega arith)) in
     ap ids_of (left g c)
     ∙ sym (purged-inside_counted c.args.keys.now.items c.count_up_to-count.result c.index-key.result.now c.args.upto.now c.requires.keys.0 c.requires.reaches
-    (omega arith) said.within c.index-key.ensures low said.above (kept g c).0)
+    (omega arith) said.within c.index-key.ensures low (said.above c.requires.keys.0) (kept g c).0)
 
 pub returns-clause-keys : goal.returns-clause-keys
 returns-clause-keys g c = rw (left g c) (kept g c)

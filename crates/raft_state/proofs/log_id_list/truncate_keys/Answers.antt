@@ -18,7 +18,7 @@ above-place keys count at above h d = let more = above d h in omega (arith, more
 pub returns-then-count-eq0-clause-ids : goal.returns-then-count-eq0-clause-ids
 returns-then-count-eq0-clause-ids g c =
     let said = rw c.as_slice.ensures.value at c.count_up_to-count.ensures in
-    let none = rw c.if-count-eq0.true at said.above in
+    let none = rw c.if-count-eq0.true at said.above c.requires.0 in
     ap ids_of c.clear-then-count-eq0.ensures.items
     ∙ sym (truncated-before c.args.keys.now.items c.args.at c.requires.0 (λ d h. let more = none d h in omega (arith, more)))
 
@@ -28,7 +28,7 @@ returns-then-count-len-clause-ids g c =
     let long : length c.args.keys.now.items ≡ c.count_up_to-count.result =
     ap length (sym c.as_slice.ensures.value) ∙ c.as_slice.ensures.len ∙ sym c.len.ensures ∙ sym c.if-count-len.true in
     sym (truncated-all_counted c.args.keys.now.items c.args.at c.requires.0 (omega arith)
-    (λ k d h. let low = said.below k d (omega arith) in omega (arith, low)))
+    (λ k d h. let low = said.below c.requires.0 k d (omega arith) in omega (arith, low)))
 
 -- the key is one of those up to the place
 low : {K : Type 0} (keys : List (LogId K)) (count : ℕ) (key : LogId K) (index : ℕ) → ((k : ℕ) (d : LogId K) → k < count → (get_or keys k d).index ≤ index)
@@ -44,7 +44,7 @@ returns-then-key-at-clause-ids g c =
     let inside : c.count_up_to-count.result < length c.args.keys.now.items = omega arith in
     rw (c.truncate.ensures.items, c.new.ensures)
     (truncated-pair_counted c.args.keys.now.items c.count_up_to-count.result c.index-key.result.now c.args.at c.requires.0 (omega arith) inside
-    c.index-key.ensures (omega arith) (above-place c.args.keys.now.items c.count_up_to-count.result c.args.at said.above inside))
+    c.index-key.ensures (omega arith) (above-place c.args.keys.now.items c.count_up_to-count.result c.args.at (said.above c.requires.0) inside))
 
 pub returns-then-key-at-clause-keys : goal.returns-then-key-at-clause-keys
 returns-then-key-at-clause-keys g c =
@@ -65,10 +65,10 @@ returns-clause-ids g c =
     let within : c.count_up_to-count.result ≤ length c.args.keys.now.items = said.within in
     let inside : c.count_up_to-count.result < length c.args.keys.now.items = omega arith in
     let at_most : c.index-key.result.now.index ≤ c.args.at - 1 =
-    low c.args.keys.now.items c.count_up_to-count.result c.index-key.result.now (c.args.at - 1) said.below (omega arith) c.index-key.ensures in
+    low c.args.keys.now.items c.count_up_to-count.result c.index-key.result.now (c.args.at - 1) (said.below c.requires.0) (omega arith) c.index-key.ensures in
     rw c.truncate-2.ensures.items
     (truncated-front_counted c.args.keys.now.items c.count_up_to-count.result c.index-key.result.now c.args.at c.requires.0 (omega arith) inside
-    c.index-key.ensures (omega arith) (above-place c.args.keys.now.items c.count_up_to-count.result c.args.at said.above inside))
+    c.index-key.ensures (omega arith) (above-place c.args.keys.now.items c.count_up_to-count.result c.args.at (said.above c.requires.0) inside))
 
 pub returns-clause-keys : goal.returns-clause-keys
 returns-clause-keys g c =

@@ -2,8 +2,8 @@
 use Rattle.std.proofs.Common.{◌≡◌, ◌∙◌, ap, sym, subst, length, refl, arith}
 use Rattle.std.proofs.lemmas.Bool.Decides.{nat_tests}
 use Rattle.std.proofs.lemmas.Result.{on_ok_weaker}
-use Rattle.raft_known_state.specs.KnownState.{KnownState, Knows, memberships_in}
-use Rattle.raft_known_state.proofs.KnownStateLemmas.{StateOf, both_ok, grown_log, none_added, noted_known, noted_still, put}
+use Rattle.raft_known_state.specs.KnownState.{AreInOrder, KnownState, Knows, memberships_in}
+use Rattle.raft_known_state.proofs.KnownStateLemmas.{StateOf, both_ok, grown_in_order, grown_log, none_added, noted_known, noted_still, put}
 use Rattle.raft_known_state.proofs.known_state.KnownState+u64+BasicNode.append.Goals as goal
 
 pub returns-clause-known : goal.returns-clause-known
@@ -13,7 +13,7 @@ returns-clause-known c = λ s k p q.
     let same = c.in_ok-extend_log_ids.ensures.ok in
     let more = c.in_ok-push_memberships.ensures in
     both_ok c.refresh_if.result
-    (c.refresh_if.ensures.noted
+    (c.refresh_if.ensures.noted (subst AreInOrder (sym more) (grown_in_order old s c.args.entries.now k p q))
     (λ h. noted_still old now (noted_known old s k) (ap (λ (y : StateOf). y.membership_state) same) (ap (λ (y : StateOf). y.snapshot_meta) same) (ap (λ (y : StateOf). y.committed) same)
     (more ∙ none_added old.memberships.items (memberships_in c.args.entries.now)
     (ap length (sym more) ∙ (let many : length now.memberships.items ≡ length old.memberships.items = grind (arith, nat_tests, h, c.len.ensures, c.len-before.ensures) in many)))))

@@ -1,8 +1,9 @@
 -- What is read is known: the purge point, and no entry yet.
-use Rattle.std.proofs.Common.{◌∙◌, ap, sym, refl, None}
+use Rattle.std.proofs.Common.{◌∙◌, ap, sym, subst, refl, None}
 use Rattle.raft_values.specs.LogId.{next_place}
 use Rattle.raft_state.specs.LogIdList.{purged}
-use Rattle.raft_known_state.specs.KnownState.{purged_ids, meta_of}
+use Rattle.raft_known_state.specs.KnownState.{AreInOrder, purged_ids, meta_of}
+use Rattle.raft_known_state.proofs.OrderLemmas.{none_in_order}
 use Rattle.raft_known_state.proofs.KnownStateLemmas.{StateOf, HasRead, read}
 use Rattle.raft_known_state.proofs.known_state.KnownState+u64+BasicNode.begin.Goals as goal
 use Rattle.raft_known_state.proofs.known_state.KnownState+u64+BasicNode.begin.Goals.{in-Some+in_ok-purge_log, in_default}
@@ -29,4 +30,5 @@ returns-clause-known c = λ s vote gone snapshot log.
           })
     ] in
     read c.match-purged.state (record { state = c.match-purged.state; memberships = c.new-memberships.result; wish = None }) c.refresh_memberships.new.self s before log refl
-    c.new-memberships.ensures.items refl c.in_ok-refresh_memberships.ensures
+    c.new-memberships.ensures.items refl
+    (c.in_ok-refresh_memberships.ensures.noted (subst AreInOrder (sym c.new-memberships.ensures.items) none_in_order)) c.in_ok-refresh_memberships.ensures.rest

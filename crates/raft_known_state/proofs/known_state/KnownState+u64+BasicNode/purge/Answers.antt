@@ -1,9 +1,11 @@
 -- The log ids are purged, and of the memberships those in front are gone.
 use Rattle.std.proofs.Common.{◌≡◌, ◌≤◌, ◌+◌, ◌-◌, ◌∙◌, ap, sym, subst, take, drop, length, vec_len, refl, arith}
 use Rattle.std.proofs.lemmas.Bool.Decides.{nat_tests}
+use Rattle.std.proofs.lemmas.List.Sorted.{IsNonDecreasingBy-drop}
+use Rattle.raft_values.specs.LogId.{next_place}
 use Rattle.raft_state.specs.LogIdList.{purged}
-use Rattle.raft_known_state.specs.KnownState.{KnownState, drop_below}
-use Rattle.raft_known_state.proofs.KnownStateLemmas.{StateOf, both_ok, front_gone, noted_known, noted_still, removed}
+use Rattle.raft_known_state.specs.KnownState.{AreInOrder, KnownState, drop_below}
+use Rattle.raft_known_state.proofs.KnownStateLemmas.{StateOf, both_ok, front_gone, known_in_order, noted_known, noted_still, removed}
 use Rattle.raft_known_state.proofs.known_state.KnownState+u64+BasicNode.purge.Goals as goal
 
 pub returns-clause-known : goal.returns-clause-known
@@ -20,12 +22,14 @@ returns-clause-known c = λ s k p l t.
     (subst (λ ms. gone ≤ length ms) c.as_slice.ensures.value c.count_below-gone.ensures.within)
     (c.len.ensures ∙ whole ∙ ap length c.rotate_left.ensures.items) in
     let same = c.in_ok-purge_log.ensures.ok in
+    let order = known_in_order old s k p in
     both_ok c.refresh_if.result
     (c.refresh_if.ensures.noted
+    (subst AreInOrder (sym left) (IsNonDecreasingBy-drop (λ m. next_place m.log_id) gone old.memberships.items order))
     (λ h. noted_still old now (noted_known old s k) (ap (λ (y : StateOf). y.membership_state) same) (ap (λ (y : StateOf). y.snapshot_meta) same) (ap (λ (y : StateOf). y.committed) same)
     (left ∙ (let none : gone ≡ 0 = grind (arith, nat_tests, h) in ap (λ n. drop n old.memberships.items) none))))
     c.refresh_if.ensures.rest
     (λ noted both. removed old now c.refresh_if.new.self s k noted both p upto l t refl
     (ap (λ (y : StateOf). record y { purge_upto = c.or-self.result }) same
     ∙ ap (λ goal. record old.state { log_ids = purged old.state.log_ids upto; purged_next = upto.index + 1; purge_upto = goal }) c.or-self.ensures)
-    (left ∙ ap (drop gone) (sym c.as_slice.ensures.value) ∙ c.count_below-gone.ensures.above ∙ ap (drop_below (upto.index + 1)) c.as_slice.ensures.value))
+    (left ∙ ap (drop gone) (sym c.as_slice.ensures.value) ∙ c.count_below-gone.ensures.above (subst AreInOrder (sym c.as_slice.ensures.value) order) ∙ ap (drop_below (upto.index + 1)) c.as_slice.ensures.value))
