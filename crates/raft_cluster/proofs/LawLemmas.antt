@@ -3,9 +3,9 @@ use Rattle.std.proofs.Common.{◌≡◌, ℕ, zero, suc, ◌<◌, ◌==◌, ◌�
 use Rattle.std.proofs.lemmas.Bool.{eqb-true, eqb-false, eq-eqb}
 use Rattle.raft_membership.specs.declared.membership.Membership.{Membership as RaftMembership}
 use Rattle.raft_state.specs.declared.entry.EntryPayload.TheVariants.{Blank, Normal, Membership}
-use Rattle.raft_node.specs.Machine.{MachineRules}
+use Rattle.raft_machines.specs.Machine.{MachineRules}
 use Rattle.raft_group_step.specs.Values.{Entry, EntryPayload}
-use Rattle.raft_node.specs.Fold.{fold_of, answer_in}
+use Rattle.raft_machines.specs.Fold.{fold_of, answer_in}
 use Rattle.raft_cluster.specs.declared.event.ClusterEvent.{ClusterEvent}
 use Rattle.raft_cluster.specs.declared.event.ClusterEvent.TheVariants.{AddGroup, Initialize, Propose}
 use Rattle.raft_cluster.specs.declared.event.EventOutcome.{EventOutcome}

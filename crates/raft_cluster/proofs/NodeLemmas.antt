@@ -7,16 +7,16 @@ use Rattle.std.proofs.lemmas.Grind.{common_steps}
 use Rattle.std.proofs.lemmas.Option.{slice_get_past, slice_get_read, get_or_from_slice_get}
 use Rattle.std.proofs.lemmas.List.Folds.{find-append, find_at, find-set, find_past}
 use Rattle.std.proofs.lemmas.List.Quantifiers.{position-Some}
-use Rattle.raft_node.specs.Machine.{MachineRules}
+use Rattle.raft_machines.specs.Machine.{MachineRules}
 use Rattle.raft_group_step.specs.Values.{Entry}
-use Rattle.raft_node.specs.Fold.{fold_of}
+use Rattle.raft_machines.specs.Fold.{fold_of}
 use Rattle.raft_cluster.specs.declared.event.ClusterEvent.{ClusterEvent}
 use Rattle.raft_cluster.specs.declared.event.ClusterEvent.TheVariants.{AddGroup, Initialize, Propose}
 use Rattle.raft_cluster.specs.declared.event.Told.{Told}
 use Rattle.raft_cluster.specs.declared.event.EventOutcome.{EventOutcome}
 use Rattle.raft_cluster.specs.declared.event.EventOutcome.TheVariants.{Done, Fault, Refused}
 use Rattle.raft_cluster.specs.declared.event.Refusal.TheVariants.{NoNode}
-use Rattle.raft_node.specs.declared.fault.Fault.TheVariants.{UnknownGroup}
+use Rattle.raft_machines.specs.declared.fault.Fault.TheVariants.{UnknownGroup}
 use Rattle.raft_membership.specs.declared.membership.Membership.{Membership}
 use Rattle.raft_cluster.specs.Event.{node_of, group_of}
 use Rattle.raft_cluster.specs.Group.{GroupValue, list_in}

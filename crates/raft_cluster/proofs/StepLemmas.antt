@@ -2,9 +2,9 @@
 use Rattle.std.proofs.Common.{◌≡◌, ℕ, ◌==◌, Bool, true, false, not, nat_eq, nat_lt, List, [], ◌∷◌, length, Option, Some, None, refl, ◌∙◌, sym, subst, arith}
 use Rattle.std.proofs.lemmas.Bool.{ne_eqb, true≢false}
 use Rattle.raft_membership.specs.declared.membership.Membership.{Membership}
-use Rattle.raft_node.specs.declared.fault.MembershipFault.{MembershipFault}
-use Rattle.raft_node.specs.Machine.{MachineRules}
-use Rattle.raft_node.specs.MembershipFault.{membership_fault_of}
+use Rattle.raft_machines.specs.declared.fault.MembershipFault.{MembershipFault}
+use Rattle.raft_machines.specs.Machine.{MachineRules}
+use Rattle.raft_machines.specs.MembershipFault.{membership_fault_of}
 use Rattle.raft_group_step.specs.Values.{Entry}
 use Rattle.raft_cluster.specs.declared.event.ClusterEvent.{ClusterEvent}
 use Rattle.raft_cluster.specs.declared.event.ClusterEvent.TheVariants.{AddGroup, Initialize, Propose}

@@ -6,12 +6,12 @@ use Rattle.raft_state.specs.declared.entry.EntryPayload.TheVariants.{Blank, Norm
 use Rattle.raft_membership.specs.declared.membership.Membership.{Membership as RaftMembership}
 use Rattle.raft_values.specs.LogId.{log_id_of}
 use Rattle.raft_membership.specs.Membership.{is_voter}
-use Rattle.raft_node.specs.declared.fault.Fault.TheVariants.{NotLeader, UnknownGroup, GroupExists, NotAllowed, NotVoter, Membership as BadMembership, CommandTooLong}
-use Rattle.raft_node.specs.declared.fault.MembershipFault.{MembershipFault}
-use Rattle.raft_node.specs.Machine.{MachineRules}
+use Rattle.raft_machines.specs.declared.fault.Fault.TheVariants.{NotLeader, UnknownGroup, GroupExists, NotAllowed, NotVoter, Membership as BadMembership, CommandTooLong}
+use Rattle.raft_machines.specs.declared.fault.MembershipFault.{MembershipFault}
+use Rattle.raft_machines.specs.Machine.{MachineRules}
 use Rattle.raft_group_step.specs.Values.{Entry, EntryPayload}
-use Rattle.raft_node.specs.Fold.{fold_of}
-use Rattle.raft_node.specs.MembershipFault.{membership_fault_of}
+use Rattle.raft_machines.specs.Fold.{fold_of}
+use Rattle.raft_machines.specs.MembershipFault.{membership_fault_of}
 use Rattle.raft_cluster.specs.declared.event.ClusterEvent.{ClusterEvent}
 use Rattle.raft_cluster.specs.declared.event.ClusterEvent.TheVariants.{AddGroup, Initialize, Propose}
 use Rattle.raft_cluster.specs.declared.event.EventOutcome.{EventOutcome}

@@ -1,9 +1,9 @@
 -- What a history that replays promises of each group, in the words of a user.
 use Rattle.std.specs.Prelude.{◌≡◌, ℕ, suc, ◌<◌, ◌==◌, Bool, true, false, List, [], ◌∷◌, length, slice_get, take, Some}
 use Rattle.raft_state.specs.declared.entry.EntryPayload.TheVariants.{Blank, Normal, Membership}
-use Rattle.raft_node.specs.Machine.{MachineRules}
+use Rattle.raft_machines.specs.Machine.{MachineRules}
 use Rattle.raft_group_step.specs.Values.{Entry, EntryPayload}
-use Rattle.raft_node.specs.Fold.{answer_at}
+use Rattle.raft_machines.specs.Fold.{answer_at}
 use Rattle.raft_cluster.specs.declared.event.ClusterEvent.{ClusterEvent}
 use Rattle.raft_cluster.specs.declared.event.ClusterEvent.TheVariants.{AddGroup, Initialize, Propose}
 use Rattle.raft_cluster.specs.declared.event.EventOutcome.{EventOutcome}

@@ -3,7 +3,7 @@ ghost use Rattle.std.specs.Prelude.{◌≡◌, [], ◌∷◌, IfOk, vec_capacity
 ghost use Rattle.raft_cluster.specs.Event.{label_of, node_of};
 ghost use Rattle.raft_cluster.specs.Cluster.{told_in};
 
-use raft_node::Fault;
+use raft_machines::Fault;
 use raft_state::{BasicNode, Bytes, Membership};
 use std::alloc::{AllocError, Global};
 use std::marker::Model;

@@ -1,10 +1,10 @@
 //! One group at a node: its list, and the machine that has run it.
 ghost use Rattle.std.specs.Prelude.{◌≡◌, ◌∷◌, ◌++◌, [], length, IfOk, OnOk, OnErr};
-ghost use Rattle.raft_node.specs.Fold.{fold_of};
+ghost use Rattle.raft_machines.specs.Fold.{fold_of};
 ghost use Rattle.raft_cluster.specs.GroupStep.{set_up_list, with_command};
 
 use raft_messages::GroupEntry;
-use raft_node::StateMachine;
+use raft_machines::StateMachine;
 use raft_state::{BasicNode, Bytes, EntryPayload, LeaderId, LogId, Membership};
 use std::alloc::{AllocError, Global};
 use std::marker::Model;
@@ -22,7 +22,7 @@ pub struct Group<M: StateMachine> {
 
 impl<M: StateMachine> Model for Group<M> {
     ghost use Rattle.std.specs.Prelude.{◌≡◌};
-    ghost use Rattle.raft_node.specs.Fold.{fold_of};
+    ghost use Rattle.raft_machines.specs.Fold.{fold_of};
     ghost use Rattle.raft_cluster.specs.Group.{GroupValue};
 
     ghost Value = { GroupValue };

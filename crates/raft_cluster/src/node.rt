@@ -2,7 +2,7 @@
 ghost use Rattle.std.specs.Prelude.{◌≡◌, ◌<◌, ◌∷◌, ◌++◌, [], length, IfOk, IfSome, OnErr, ◌==◌, position, Some, None};
 ghost use Rattle.std.specs.List.{find};
 ghost use Rattle.std.specs.Option.{option_map, option_copied};
-ghost use Rattle.raft_node.specs.Fold.{fold_of};
+ghost use Rattle.raft_machines.specs.Fold.{fold_of};
 ghost use Rattle.raft_cluster.specs.Group.{list_in};
 ghost use Rattle.raft_cluster.specs.Node.{IsNodeStep, last_place};
 ghost use Rattle.raft_cluster.specs.declared.event.ClusterEvent.TheVariants.{AddGroup, Initialize, Propose};
@@ -11,7 +11,7 @@ use crate::event::{ClusterEvent, EventOutcome, Refusal, Told, ToldList, ToldRoom
 use crate::group::Group;
 use crate::refusal::{command_refusal, set_up_refusal};
 use raft_messages::GroupEntry;
-use raft_node::{Fault, StateMachine};
+use raft_machines::{Fault, StateMachine};
 use raft_state::{BasicNode, Bytes, Membership};
 use std::alloc::{AllocError, Global};
 use std::marker::Model;

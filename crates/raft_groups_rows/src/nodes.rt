@@ -6,7 +6,7 @@ use raft_log_disk::{CrashChoice, CrashFiles};
 use raft_log_engine::{Engine, EngineFault};
 use raft_log_files::{Config, MemoryFileSystem};
 use raft_log_records::ReadableSize;
-use raft_node::AddingMachine;
+use raft_machines::AddingMachine;
 use raft_store::{Store, StoreFault};
 use std::alloc::{AllocError, Global};
 use std::collections::BTreeMap;

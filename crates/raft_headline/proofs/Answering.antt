@@ -19,7 +19,7 @@ use Rattle.raft_step_laws.proofs.Telling.{tokens_go}
 use Rattle.raft_history_laws.proofs.RunLeads.{waiting_lack_answers}
 use Rattle.raft_history_laws.proofs.ServedNodes.{has_own_vote}
 use Rattle.raft_history_laws.proofs.WaitingTokens.{waits_own}
-use Rattle.raft_node.specs.Machine.{MachineRules}
+use Rattle.raft_machines.specs.Machine.{MachineRules}
 use Rattle.raft_headline.specs.ClusterEvent.{Recorded}
 use Rattle.raft_headline.specs.Machines.{Replicas, new_replicas}
 use Rattle.raft_headline.specs.OwnEvents.{own_events}

@@ -18,7 +18,7 @@ use Rattle.raft_laws.specs.VotesRise.{stored_of}
 use Rattle.raft_group_step.specs.StoredGroup.{Snapshot}
 use Rattle.raft_laws.proofs.Histories.{histories-join}
 use Rattle.raft_laws.proofs.Runs.{scene-tells-stop}
-use Rattle.raft_node.specs.Machine.{MachineRules}
+use Rattle.raft_machines.specs.Machine.{MachineRules}
 use Rattle.raft_headline.specs.ClusterEvent.{Recorded, is_stopped}
 use Rattle.raft_headline.specs.Seen.{Seen, Passed, Own, Halted, Crashed, seen_by}
 use Rattle.raft_headline.specs.Machines.{Built, MachinesMove, MachinesMoveIn, Replicas, StandsStill, turn_of}

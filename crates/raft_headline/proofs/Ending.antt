@@ -20,14 +20,14 @@ use Rattle.raft_history_laws.specs.TokenEnds.{EndsAt, IsBrought, Names, NamesUnl
 use Rattle.raft_history_laws.proofs.EndedOnce.{tokens_end_once}
 use Rattle.raft_history_laws.proofs.RunLedgers.{ends_are_named, ledgers_have_the_untold}
 use Rattle.raft_history_laws.proofs.WaitingTokens.{waits_own}
-use Rattle.raft_node.specs.Machine.{MachineRules}
+use Rattle.raft_machines.specs.Machine.{MachineRules}
 use Rattle.raft_headline.specs.ClusterEvent.{ClusterEvent, AddGroup, Ask, Deliver, ResetPeer, Clean, Crash, Reopen, Halt, ClusterOutcome, Done, Opened, Refused, Stopped, Fused, PassedOver, TurnedAway, Recorded, Said, is_stopped, is_turned_away, said_of}
-use Rattle.raft_node.specs.declared.telling.Told.{Told}
+use Rattle.raft_machines.specs.declared.telling.Told.{Told}
 use Rattle.raft_headline.specs.Seen.{Seen, Passed, Own, Halted, Crashed, own_or_aside, seen_by, seen_of, seen_unless}
 use Rattle.raft_headline.specs.Machines.{Replicas, new_replicas}
 use Rattle.raft_headline.specs.OwnEvents.{own_event, own_events, own_number}
 use Rattle.raft_headline.specs.Replaying.{ReplaysWith, Says, StepsTo, is_opening}
-use Rattle.raft_node.specs.Telling.{AreToldAs}
+use Rattle.raft_machines.specs.Telling.{AreToldAs}
 use Rattle.raft_headline.specs.Told.{is_taken, said_in}
 use Rattle.raft_headline.specs.Tokens.{EndedOnce, EndsIn, IsAccountedFor, IsEndedBy, IsLost, IsNamedUnknown, IsToldThere, TokensEnd, WaitsOn, loses_silently, named_unknown}
 use Rattle.raft_headline.proofs.Headlines.{group_history}

@@ -6,7 +6,7 @@ use Rattle.raft_laws.specs.declared.world_event.WorldEvent.{WorldEvent}
 use Rattle.raft_laws.specs.GroupWorld.{Outcome, is_stop}
 use Rattle.raft_laws.specs.GroupWorld.{Done as Ended, Refused as Declined, Stopped as Broken, Skipped}
 use Rattle.raft_laws.specs.GroupRun.{happens, outcome_of, scene_of}
-use Rattle.raft_node.specs.Machine.{MachineRules}
+use Rattle.raft_machines.specs.Machine.{MachineRules}
 use Rattle.raft_headline.specs.ClusterEvent.{ClusterEvent, AddGroup, Ask, Deliver, ResetPeer, Clean, Crash, Reopen, Halt, ClusterOutcome, Done, Opened, Refused, Stopped, Fused, PassedOver, TurnedAway, Recorded, Said, Unknown, is_stopped, is_turned_away, said_of, said_or}
 use Rattle.raft_headline.specs.Seen.{Seen, Passed, Own, Halted, Crashed, aside, kept_before, own_or_aside, own_outcome, own_part, own_parts, own_tokens, own_unknown, seen_by, seen_of, seen_unless}
 use Rattle.raft_headline.specs.Machines.{MachinesMoveIn, Replicas}

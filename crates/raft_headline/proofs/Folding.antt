@@ -3,13 +3,13 @@ use Rattle.std.specs.Prelude.{◌≡◌, ℕ, ◌+◌, ◌<◌, ◌≤◌, nat_l
 use Rattle.std.proofs.Common.{sym, ap, ◌∙◌, arith, ltb-false, length-take-le, take-append-drop, take-take}
 use Rattle.std.proofs.lemmas.Option.{slice_get_within}
 use Rattle.raft_group_step.specs.Values.{Entry}
-use Rattle.raft_node.specs.Machine.{MachineRules}
-use Rattle.raft_node.specs.Fold.{after_payload, answer_in, answer_to_payload, fold_of, state_from, answer_at}
+use Rattle.raft_machines.specs.Machine.{MachineRules}
+use Rattle.raft_machines.specs.Fold.{after_payload, answer_in, answer_to_payload, fold_of, state_from, answer_at}
 use Rattle.raft_laws.specs.BallotLists.{AgreeBelow}
 use Rattle.raft_laws.proofs.BallotAgreement.{agree_less}
 use Rattle.raft_laws.proofs.Committed.{same_front}
 use Rattle.raft_laws.proofs.Shapes.{slice_take}
-use Rattle.raft_node.specs.Telling.{Standing, answer_on, run_on}
+use Rattle.raft_machines.specs.Telling.{Standing, answer_on, run_on}
 
 state_from_both : (rules : MachineRules) (state : List ℕ) (place : ℕ) (xs ys : List Entry) → state_from rules state place (xs ++ ys) ≡ state_from rules (state_from rules state place xs) (place + length xs) ys
 state_from_both rules state place [] ys =

@@ -14,7 +14,7 @@ use Rattle.raft_laws.specs.GroupRun.{At, Replays, after_scene, happens, outcome_
 use Rattle.raft_laws.specs.OneList.{AreNodeIds, IsGroupHistory}
 use Rattle.raft_laws.proofs.StepMoments.{refusals_told}
 use Rattle.raft_laws.proofs.Numbers.{state_here}
-use Rattle.raft_node.specs.Machine.{MachineRules}
+use Rattle.raft_machines.specs.Machine.{MachineRules}
 use Rattle.raft_headline.specs.ClusterEvent.{ClusterEvent, Done, PassedOver, Recorded, Refused, Said, is_stopped, is_turned_away}
 use Rattle.raft_headline.specs.Seen.{Own, seen_by, seen_of, seen_unless}
 use Rattle.raft_headline.specs.Machines.{Replicas, new_replicas}

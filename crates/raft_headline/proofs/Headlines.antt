@@ -12,9 +12,9 @@ use Rattle.raft_laws.specs.OneList.{AreNodeIds, IsGroupHistory, applied_list}
 use Rattle.raft_laws.specs.Settled.{group_list}
 use Rattle.raft_laws.specs.VotesRise.{stored_of}
 use Rattle.raft_laws.proofs.Committed.{same_front, snapshot_front}
-use Rattle.raft_node.specs.Machine.{MachineRules}
+use Rattle.raft_machines.specs.Machine.{MachineRules}
 use Rattle.raft_headline.specs.ClusterEvent.{Recorded}
-use Rattle.raft_node.specs.Fold.{fold_of}
+use Rattle.raft_machines.specs.Fold.{fold_of}
 use Rattle.raft_headline.specs.Machines.{Replicas, new_replicas}
 use Rattle.raft_headline.specs.Replaying.{ReplaysFor}
 use Rattle.raft_headline.specs.Headline.{AppliedAreFronts, ListGrows, SnapshotsAreFronts}

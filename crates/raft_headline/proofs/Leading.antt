@@ -6,7 +6,7 @@ use Rattle.raft_laws.specs.OneList.{AreNodeIds, IsLeading}
 use Rattle.raft_laws.specs.Settled.{group_list}
 use Rattle.raft_history_laws.specs.ToldAnswers.{IsToldUnder}
 use Rattle.raft_history_laws.proofs.ToldAnswers.{leaders_hold_told}
-use Rattle.raft_node.specs.Machine.{MachineRules}
+use Rattle.raft_machines.specs.Machine.{MachineRules}
 use Rattle.raft_headline.specs.ClusterEvent.{Recorded}
 use Rattle.raft_headline.specs.Machines.{Replicas}
 use Rattle.raft_headline.specs.Replaying.{IsThere, OwnStep}

@@ -11,7 +11,7 @@ use Rattle.raft_laws.specs.Origins.{Events, IsAskedAt}
 use Rattle.raft_laws.specs.Settled.{group_list}
 use Rattle.raft_laws.proofs.Counts.{at_contains}
 use Rattle.raft_laws.proofs.WorldOrigins.{entries_were_asked_for, one_place_for_an_event}
-use Rattle.raft_node.specs.Machine.{MachineRules}
+use Rattle.raft_machines.specs.Machine.{MachineRules}
 use Rattle.raft_headline.specs.ClusterEvent.{Recorded}
 use Rattle.raft_headline.specs.Machines.{Replicas, new_replicas}
 use Rattle.raft_headline.specs.OwnEvents.{own_events, own_number}

@@ -23,7 +23,7 @@ use Rattle.raft_laws.proofs.WorldOrigins.{same_up}
 use Rattle.raft_laws.proofs.BallotAgreement.{same_some}
 use Rattle.raft_history_laws.specs.NotedIds.{IsNotedAt, IsOrigin, is_noted, next_id}
 use Rattle.raft_history_laws.proofs.LastNoted.{origin_is_last}
-use Rattle.raft_node.specs.Machine.{MachineRules}
+use Rattle.raft_machines.specs.Machine.{MachineRules}
 use Rattle.raft_headline.specs.ClusterEvent.{ClusterEvent, AddGroup, Ask, Deliver, ResetPeer, Clean, Crash, Reopen, Halt, ClusterOutcome, Done, Opened, Refused, Stopped, Fused, PassedOver, TurnedAway, Recorded, is_stopped, is_turned_away}
 use Rattle.raft_headline.specs.Seen.{Seen, Passed, Own, Halted, Crashed, own_or_aside, seen_by, seen_of, seen_unless}
 use Rattle.raft_headline.specs.Machines.{Replicas, new_replicas}

@@ -8,7 +8,7 @@ use Rattle.raft_laws.specs.GroupWorld.{Done as Ended, Refused as Declined, Stopp
 use Rattle.raft_laws.specs.GroupRun.{after_scene, group_run, happens, outcome_of, ran, scene_of, stop_at}
 use Rattle.raft_laws.specs.Origins.{Events, world_before}
 use Rattle.raft_laws.proofs.WorldTold.{run_both}
-use Rattle.raft_node.specs.Machine.{MachineRules}
+use Rattle.raft_machines.specs.Machine.{MachineRules}
 use Rattle.raft_headline.specs.ClusterEvent.{ClusterOutcome, Done, Opened, Refused, Stopped, Fused, PassedOver, TurnedAway, Recorded, is_stopped}
 use Rattle.raft_headline.specs.Seen.{Seen, Passed, Own, Halted, Crashed, seen_by}
 use Rattle.raft_headline.specs.Machines.{Replicas, new_replicas}

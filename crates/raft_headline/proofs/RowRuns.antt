@@ -16,7 +16,7 @@ use Rattle.raft_laws.specs.OneVoter.{one}
 use Rattle.raft_laws.specs.NodeEvent.{Crashes}
 use Rattle.raft_headline.specs.ClusterEvent.{AddGroup, Done, Opened, PassedOver, Recorded, Refused, Reopen, Stopped, is_stopped, silent}
 use Rattle.raft_headline.specs.Machines.{GivesRightly, MachinesMove, MachinesMoveIn, Replicas, StandsAt, Turn, asked_by, brought_by, given_of, machines_after, new_replicas, turn_of}
-use Rattle.raft_node.specs.Telling.{answer_on, run_on}
+use Rattle.raft_machines.specs.Telling.{answer_on, run_on}
 use Rattle.raft_headline.specs.Happened.{Happened}
 use Rattle.raft_headline.specs.Replaying.{CrashStep, IsThere, OwnStep, ReplaysWith, Says, is_opening}
 use Rattle.raft_headline.specs.Rows.{LeadsTo, asks_seven, at_one, at_the_end, before_told, behind_told, collecting, history, noted_again, proposes, set_up, tells, told_at, told_event, unknown_of, until_stopped}

@@ -8,7 +8,7 @@ use Rattle.raft_laws.specs.GroupWorld.{Done as Ended, Refused as Declined, Stopp
 use Rattle.raft_laws.specs.OneList.{AreNodeIds}
 use Rattle.raft_step_laws.specs.Serving.{IsSent}
 use Rattle.raft_history_laws.proofs.ServedNodes.{lacking_are_sent}
-use Rattle.raft_node.specs.Machine.{MachineRules}
+use Rattle.raft_machines.specs.Machine.{MachineRules}
 use Rattle.raft_headline.specs.ClusterEvent.{ClusterOutcome, Done, Opened, Refused, Stopped, Fused, PassedOver, TurnedAway, Recorded}
 use Rattle.raft_headline.specs.Machines.{Replicas}
 use Rattle.raft_headline.specs.Replaying.{Says, is_opening}

@@ -15,7 +15,7 @@ use Rattle.raft_laws.specs.NodeEvent.{NodeEvent, Comes, Crashes, Halts, Restarts
 use Rattle.raft_laws.specs.GroupRun.{Scene, Nowhere, At, after_scene, is_same_setup, outcome_in, outcome_of, scene_of, scene_of_call, scene_of_delivery, setup_in_call, stop_at}
 use Rattle.raft_laws.specs.Stop.{unknown_at_stop}
 use Rattle.raft_laws.proofs.StepMoments.{refusals_told}
-use Rattle.raft_node.specs.Machine.{MachineRules}
+use Rattle.raft_machines.specs.Machine.{MachineRules}
 use Rattle.raft_headline.specs.ClusterEvent.{ClusterEvent, AddGroup, Ask, Deliver, ResetPeer, Clean, Crash, Reopen, Halt, ClusterOutcome, Done, Opened, Refused, Stopped, Fused, PassedOver, TurnedAway, Recorded, is_stopped, is_turned_away}
 use Rattle.raft_headline.specs.Seen.{Seen, Passed, Halted, aside, own_or_aside, seen_by, seen_of, seen_unless}
 use Rattle.raft_headline.specs.Machines.{Replicas}

@@ -23,7 +23,7 @@ use Rattle.raft_step_laws.specs.Elections.{configs_counted, counts_a_grant, gran
 use Rattle.raft_step_laws.proofs.Answering.{requests_answered}
 use Rattle.raft_step_laws.proofs.Electing.{granted_lead}
 use Rattle.raft_history_laws.proofs.TakenNodes.{take_commands}
-use Rattle.raft_node.specs.Machine.{MachineRules}
+use Rattle.raft_machines.specs.Machine.{MachineRules}
 use Rattle.raft_headline.specs.ClusterEvent.{Ask, ClusterOutcome, Deliver, Done, Opened, Refused, Stopped, Fused, PassedOver, TurnedAway, Recorded, Said, is_stopped, is_turned_away}
 use Rattle.raft_headline.specs.Seen.{Own, own_or_aside, seen_by, seen_of, seen_unless}
 use Rattle.raft_headline.specs.Machines.{Replicas}

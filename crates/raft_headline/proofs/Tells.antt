@@ -19,15 +19,15 @@ use Rattle.raft_laws.specs.Settled.{group_list}
 use Rattle.raft_laws.proofs.Counts.{at_contains, contains_at}
 use Rattle.raft_laws.proofs.WorldOrigins.{run_more}
 use Rattle.raft_laws.proofs.WorldTold.{told_tokens_stand}
-use Rattle.raft_node.specs.Machine.{MachineRules}
+use Rattle.raft_machines.specs.Machine.{MachineRules}
 use Rattle.raft_headline.specs.ClusterEvent.{ClusterEvent, AddGroup, Ask, Deliver, ResetPeer, Clean, Crash, Reopen, Halt, ClusterOutcome, Done, Opened, Refused, Stopped, Fused, PassedOver, TurnedAway, Recorded, Said, is_stopped, is_turned_away, said_of}
-use Rattle.raft_node.specs.declared.telling.Told.{Told}
+use Rattle.raft_machines.specs.declared.telling.Told.{Told}
 use Rattle.raft_headline.specs.Seen.{Own, own_or_aside, seen_by, seen_of, seen_unless}
-use Rattle.raft_node.specs.Fold.{answer_at}
+use Rattle.raft_machines.specs.Fold.{answer_at}
 use Rattle.raft_headline.specs.Machines.{Replicas, new_replicas}
 use Rattle.raft_headline.specs.OwnEvents.{own_event, own_events}
 use Rattle.raft_headline.specs.Replaying.{OwnStep, ReplaysWith, Says, StepsTo, is_opening}
-use Rattle.raft_node.specs.Telling.{AreToldAs, IsToldAs}
+use Rattle.raft_machines.specs.Telling.{AreToldAs, IsToldAs}
 use Rattle.raft_headline.specs.Told.{IsToldRightly, ToldStand, said_at_opening, said_by, said_if}
 use Rattle.raft_headline.proofs.AsGroup.{Led, Stepped, led, own_answers, own_stepped}
 use Rattle.raft_headline.proofs.Folding.{AnswersFold, answer_front}

@@ -23,10 +23,10 @@ use Rattle.raft_laws.proofs.BallotSafe.{Among}
 use Rattle.raft_laws.proofs.Counts.{among_contains, contains_at, among_front, among_behind, contains_among}
 use Rattle.raft_laws.proofs.WorldRuns.{among_either}
 use Rattle.raft_laws.proofs.BallotSafe.{among_at}
-use Rattle.raft_node.specs.Machine.{MachineRules}
-use Rattle.raft_node.specs.Fold.{answer_at, fold_of}
+use Rattle.raft_machines.specs.Machine.{MachineRules}
+use Rattle.raft_machines.specs.Fold.{answer_at, fold_of}
 use Rattle.raft_headline.specs.Machines.{Built, GivesRightly, HasBytes, KeepsItsLaw, MachinesMove, Replicas, StandsAt, TakesTurn, Turn, asked_by, brought_by, given_of, snapshots_of, turn_of}
-use Rattle.raft_node.specs.Telling.{Standing, answer_on, run_on}
+use Rattle.raft_machines.specs.Telling.{Standing, answer_on, run_on}
 use Rattle.raft_headline.proofs.Folding.{AnswersFold, agree_take, answer_front, answers_fold, run_on_fold}
 use Rattle.raft_headline.proofs.NodeFacts.{applied_committed, applied_front, applied_size, applied_within, applied_stays, placed_log, prefix_applied, snapshot_size}
 use Rattle.raft_headline.proofs.StepRuns.{all_among, left_stored, open_applies, snapshot_after, snapshot_or, step_applies, stored_among}

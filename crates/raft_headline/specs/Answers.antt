@@ -6,9 +6,9 @@ use Rattle.raft_laws.specs.GroupWorld.{Up, new_world}
 use Rattle.raft_step_laws.specs.Tokens.{brought, leads_on}
 use Rattle.raft_history_laws.specs.KnownPeers.{has_answered_quorum}
 use Rattle.raft_history_laws.specs.Leads.{leads_of}
-use Rattle.raft_node.specs.Machine.{MachineRules}
+use Rattle.raft_machines.specs.Machine.{MachineRules}
 use Rattle.raft_headline.specs.ClusterEvent.{Done, Recorded, Said}
-use Rattle.raft_node.specs.declared.telling.Told.{Told}
+use Rattle.raft_machines.specs.declared.telling.Told.{Told}
 use Rattle.raft_headline.specs.Machines.{Replicas, new_replicas}
 use Rattle.raft_headline.specs.Happened.{ComesTo, Happened}
 use Rattle.raft_headline.specs.OwnEvents.{own_events}

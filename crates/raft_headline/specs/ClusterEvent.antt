@@ -4,7 +4,7 @@ use Rattle.std.specs.List.{find}
 use Rattle.raft_group_step.specs.Message.{Message}
 use Rattle.raft_group_step.specs.GroupEvent.{GroupCall}
 use Rattle.raft_group_step.specs.StepResult.{RefusalReason}
-use Rattle.raft_node.specs.declared.telling.Told.{Told}
+use Rattle.raft_machines.specs.declared.telling.Told.{Told}
 
 -- messages are numbered for each group, from 0 in the order of sending
 pub data ClusterEvent : Type 0 where

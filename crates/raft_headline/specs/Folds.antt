@@ -2,10 +2,10 @@
 use Rattle.std.specs.Prelude.{◌≡◌, ℕ, List, slice_get, Some, Contains}
 use Rattle.raft_laws.specs.OneList.{AreNodeIds}
 use Rattle.raft_laws.specs.Settled.{group_list}
-use Rattle.raft_node.specs.Machine.{MachineRules}
+use Rattle.raft_machines.specs.Machine.{MachineRules}
 use Rattle.raft_headline.specs.ClusterEvent.{Recorded}
-use Rattle.raft_node.specs.declared.telling.Told.{Told}
-use Rattle.raft_node.specs.Fold.{answer_at}
+use Rattle.raft_machines.specs.declared.telling.Told.{Told}
+use Rattle.raft_machines.specs.Fold.{answer_at}
 use Rattle.raft_headline.specs.Machines.{Replicas, new_replicas}
 use Rattle.raft_headline.specs.Replaying.{ReplaysFor}
 use Rattle.raft_headline.specs.Told.{said_by}

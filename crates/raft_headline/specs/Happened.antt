@@ -6,7 +6,7 @@ use Rattle.raft_laws.specs.declared.world_event.WorldEvent.{WorldEvent}
 use Rattle.raft_laws.specs.GroupWorld.{Up}
 use Rattle.raft_laws.specs.NodeEvent.{Comes}
 use Rattle.raft_laws.specs.GroupRun.{At, scene_of}
-use Rattle.raft_node.specs.Machine.{MachineRules}
+use Rattle.raft_machines.specs.Machine.{MachineRules}
 use Rattle.raft_headline.specs.ClusterEvent.{Recorded}
 use Rattle.raft_headline.specs.Seen.{Own, seen_by}
 use Rattle.raft_headline.specs.Machines.{Replicas, new_replicas}

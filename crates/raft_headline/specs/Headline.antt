@@ -9,9 +9,9 @@ use Rattle.raft_laws.specs.GroupWorld.{Up}
 use Rattle.raft_laws.specs.OneList.{AreNodeIds, LeadersHold}
 use Rattle.raft_laws.specs.Settled.{IsGroupList, group_list}
 use Rattle.raft_laws.specs.VotesRise.{stored_of}
-use Rattle.raft_node.specs.Machine.{MachineRules}
+use Rattle.raft_machines.specs.Machine.{MachineRules}
 use Rattle.raft_headline.specs.ClusterEvent.{Recorded}
-use Rattle.raft_node.specs.Fold.{fold_of}
+use Rattle.raft_machines.specs.Fold.{fold_of}
 use Rattle.raft_headline.specs.Machines.{Built, HasBytes, Replicas, new_replicas}
 use Rattle.raft_headline.specs.Replaying.{ReplaysFor}
 use Rattle.raft_headline.specs.Told.{EntriesHaveOrigins, ToldStand}

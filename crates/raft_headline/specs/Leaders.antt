@@ -7,9 +7,9 @@ use Rattle.raft_group_step.specs.GroupState.{GroupState}
 use Rattle.raft_laws.specs.GroupWorld.{GroupWorld}
 use Rattle.raft_laws.specs.OneList.{IsLeading}
 use Rattle.raft_laws.specs.Settled.{group_list}
-use Rattle.raft_node.specs.Machine.{MachineRules}
+use Rattle.raft_machines.specs.Machine.{MachineRules}
 use Rattle.raft_headline.specs.ClusterEvent.{Recorded}
-use Rattle.raft_node.specs.declared.telling.Told.{Told}
+use Rattle.raft_machines.specs.declared.telling.Told.{Told}
 use Rattle.raft_headline.specs.Machines.{Replicas}
 use Rattle.raft_headline.specs.Told.{said_by}
 use Rattle.raft_headline.specs.Happened.{Happened}

@@ -13,9 +13,9 @@ use Rattle.raft_laws.specs.GroupWorld.{GroupWorld, NodeState, Absent, Up, Down, 
 use Rattle.raft_laws.specs.NodeEvent.{NodeEvent, Comes, Crashes, Halts, Restarts}
 use Rattle.raft_laws.specs.GroupRun.{Scene, Nowhere, At}
 use Rattle.raft_laws.specs.OneList.{applied_list}
-use Rattle.raft_node.specs.Machine.{MachineRules}
-use Rattle.raft_node.specs.Telling.{Standing, answer_on, run_on}
-use Rattle.raft_node.specs.Fold.{answer_to_payload, state_from}
+use Rattle.raft_machines.specs.Machine.{MachineRules}
+use Rattle.raft_machines.specs.Telling.{Standing, answer_on, run_on}
+use Rattle.raft_machines.specs.Fold.{answer_to_payload, state_from}
 
 -- ---- snapshots
 

@@ -4,7 +4,7 @@ use Rattle.raft_laws.specs.declared.world_event.WorldEvent.TheVariants as event
 use Rattle.raft_laws.specs.GroupWorld.{new_world}
 use Rattle.raft_laws.specs.GroupRun.{group_run, stop_at}
 use Rattle.raft_laws.specs.Origins.{Events}
-use Rattle.raft_node.specs.Machine.{MachineRules}
+use Rattle.raft_machines.specs.Machine.{MachineRules}
 use Rattle.raft_headline.specs.ClusterEvent.{ClusterOutcome, Recorded, is_stopped}
 use Rattle.raft_headline.specs.Seen.{Seen, Passed, Own, Halted, Crashed, seen_by}
 use Rattle.raft_headline.specs.Machines.{Replicas, new_replicas}

@@ -13,10 +13,10 @@ use Rattle.raft_laws.specs.Example.{add, membership_of, run_of}
 use Rattle.raft_laws.specs.LawRuns.{blank_at, state_in}
 use Rattle.raft_laws.specs.OriginRun.{command_at}
 use Rattle.raft_laws.specs.OneVoter.{one}
-use Rattle.raft_node.specs.Machine.{MachineRules}
+use Rattle.raft_machines.specs.Machine.{MachineRules}
 use Rattle.raft_headline.specs.ClusterEvent.{ClusterEvent, AddGroup, Ask, Crash, Reopen}
 use Rattle.raft_headline.specs.ClusterEvent.{ClusterOutcome, Done, Opened, Refused, Stopped, Fused, PassedOver, TurnedAway, Recorded, Said, Unknown, silent}
-use Rattle.raft_node.specs.declared.telling.Told.{Told}
+use Rattle.raft_machines.specs.declared.telling.Told.{Told}
 use Rattle.raft_headline.specs.Machines.{Replicas, new_replicas}
 use Rattle.raft_headline.specs.Replaying.{ReplaysWith}
 

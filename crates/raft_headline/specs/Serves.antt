@@ -8,7 +8,7 @@ use Rattle.raft_laws.specs.NodeEvent.{NodeEvent}
 use Rattle.raft_laws.specs.GroupRun.{At, scene_of}
 use Rattle.raft_step_laws.specs.Serving.{IsSent, waited_for}
 use Rattle.raft_history_laws.specs.ServedPeers.{LacksEntries, ServesPeers, waited_in}
-use Rattle.raft_node.specs.Machine.{MachineRules}
+use Rattle.raft_machines.specs.Machine.{MachineRules}
 use Rattle.raft_headline.specs.ClusterEvent.{ClusterOutcome, Done, Opened, Refused, Stopped, Fused, PassedOver, TurnedAway, Recorded, Said}
 use Rattle.raft_headline.specs.Seen.{Own, seen_by}
 use Rattle.raft_headline.specs.Machines.{Replicas}

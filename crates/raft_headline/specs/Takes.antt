@@ -11,7 +11,7 @@ use Rattle.raft_step_laws.specs.Elections.{LacksAQuorum, configs_counted, counts
 use Rattle.raft_step_laws.specs.Taking.{HasRoom}
 use Rattle.raft_history_laws.specs.TakenCommands.{HasTaken}
 use Rattle.raft_step_laws.specs.Replies.{RepliesTo, is_request}
-use Rattle.raft_node.specs.Machine.{MachineRules}
+use Rattle.raft_machines.specs.Machine.{MachineRules}
 use Rattle.raft_headline.specs.ClusterEvent.{Ask, Deliver, Done, Recorded, Said, is_stopped, is_turned_away}
 use Rattle.raft_headline.specs.Machines.{Replicas}
 use Rattle.raft_headline.specs.Happened.{ComesTo, Happened}

@@ -6,9 +6,9 @@ use Rattle.raft_laws.specs.GroupWorld.{Up, new_world}
 use Rattle.raft_laws.specs.Origins.{Events}
 use Rattle.raft_laws.specs.Stop.{token_of_call}
 use Rattle.raft_history_laws.specs.TokenEnds.{EndsAt, IsBrought, Numbered}
-use Rattle.raft_node.specs.Machine.{MachineRules}
+use Rattle.raft_machines.specs.Machine.{MachineRules}
 use Rattle.raft_headline.specs.ClusterEvent.{Ask, ClusterOutcome, Done, Opened, Refused, Stopped, Fused, PassedOver, TurnedAway, Recorded, said_of}
-use Rattle.raft_node.specs.declared.telling.Told.{Told}
+use Rattle.raft_machines.specs.declared.telling.Told.{Told}
 use Rattle.raft_headline.specs.Seen.{Seen, Passed, Own, Halted, Crashed, own_tokens, seen_by}
 use Rattle.raft_headline.specs.Machines.{Replicas, new_replicas}
 use Rattle.raft_headline.specs.OwnEvents.{own_events, own_number}

@@ -11,11 +11,11 @@ use Rattle.raft_laws.specs.Origins.{world_before}
 use Rattle.raft_laws.specs.Settled.{group_list}
 use Rattle.raft_laws.specs.Stop.{token_of_call}
 use Rattle.raft_history_laws.specs.NotedIds.{is_noted, next_id}
-use Rattle.raft_node.specs.Machine.{MachineRules}
+use Rattle.raft_machines.specs.Machine.{MachineRules}
 use Rattle.raft_headline.specs.ClusterEvent.{ClusterEvent, AddGroup, Ask, Deliver, ResetPeer, Clean, Crash, Reopen, Halt, ClusterOutcome, Done}
 use Rattle.raft_headline.specs.ClusterEvent.{Opened, Refused, Stopped, Fused, PassedOver, TurnedAway, Recorded, Said, said_of, silent}
-use Rattle.raft_node.specs.declared.telling.Told.{Told}
-use Rattle.raft_node.specs.Fold.{answer_at}
+use Rattle.raft_machines.specs.declared.telling.Told.{Told}
+use Rattle.raft_machines.specs.Fold.{answer_at}
 use Rattle.raft_headline.specs.Machines.{Replicas, new_replicas}
 use Rattle.raft_headline.specs.OwnEvents.{own_events, own_number}
 use Rattle.raft_headline.specs.Replaying.{ReplaysWith}

@@ -2,7 +2,7 @@
 
 use crate::number_of;
 use raft_cluster::{Cluster, ClusterEvent, EventOutcome, Recorded, Told};
-use raft_node::AddingMachine;
+use raft_machines::AddingMachine;
 use raft_state::{BasicNode, Bytes, Membership};
 use std::alloc::{AllocError, Global};
 

@@ -13,7 +13,7 @@ use Rattle.raft_messages.specs.declared.memberships.SnapshotBytes.{SnapshotBytes
 use Rattle.raft_wire.specs.Fields.{FitsLogId, FitsVote}
 use Rattle.raft_wire.specs.Entries.{FitsEntry, spelled_entry}
 use Rattle.raft_wire.specs.Bodies.{FitsSnapshot}
-use Rattle.raft_node.specs.Machine.{MachineRules}
+use Rattle.raft_machines.specs.Machine.{MachineRules}
 use Rattle.raft_log_records.specs.Item.{Change}
 use Rattle.raft_log_records.specs.Batch.{numbered}
 use Rattle.raft_log_memtables.specs.Content.{GroupContent, entry_at}

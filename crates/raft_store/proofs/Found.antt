@@ -12,7 +12,7 @@ use Rattle.raft_wire.specs.Entries.{FitsEntry, spelled_entry}
 use Rattle.raft_wire.specs.Reader.{Fails}
 use Rattle.raft_wire.specs.declared.error.FrameError.{FrameError}
 use Rattle.raft_wire.specs.declared.error.FrameError.TheVariants as errors
-use Rattle.raft_node.specs.Machine.{MachineRules}
+use Rattle.raft_machines.specs.Machine.{MachineRules}
 use Rattle.raft_store.specs.Faults.{IsLogOrMemory, refusal_of}
 use Rattle.raft_store.specs.Reading.{Holds}
 use Rattle.raft_store.specs.declared.fault.StoreFault.{StoreFault}

@@ -6,7 +6,7 @@ use Rattle.raft_log_records.specs.Item.{Change, Item}
 use Rattle.raft_log_memtables.specs.Content.{Content, GroupContent, after_batch, after_change, after_item}
 use Rattle.raft_log_memtables.specs.Taken.{TakesEach}
 use Rattle.raft_content_log.specs.Leaving.{AgreesElsewhere, IsEither, IsUnnamed, IsWritten, Leaves, LeavesElsewhere, LeavesNoMore, MayBeWritten}
-use Rattle.raft_node.specs.Machine.{MachineRules}
+use Rattle.raft_machines.specs.Machine.{MachineRules}
 use Rattle.raft_store.specs.Batches.{Carries, ShowsIn, TakesChanges, after_changes, of_group}
 use Rattle.raft_store.specs.Reading.{Holds, HoldsOne}
 

@@ -11,7 +11,7 @@ use Rattle.raft_log_records.specs.Batch.{numbered}
 use Rattle.raft_log_memtables.specs.Content.{Content, GroupContent, after_change}
 use Rattle.raft_log_memtables.specs.Taken.{Takes}
 use Rattle.raft_content_log.specs.Leaving.{Leaves}
-use Rattle.raft_node.specs.Machine.{MachineRules}
+use Rattle.raft_machines.specs.Machine.{MachineRules}
 use Rattle.raft_messages.specs.declared.memberships.SnapshotBytes.{SnapshotBytes}
 use Rattle.raft_wire.specs.Fields.{spelled_log_id, spelled_vote}
 use Rattle.raft_wire.specs.Entries.{spelled_entry}

@@ -10,8 +10,8 @@ use Rattle.raft_wire.specs.Fields.{FitsLast, FitsVote, spelled_log_id, spelled_v
 use Rattle.raft_wire.specs.Entries.{FitsEntry, spelled_entry}
 use Rattle.raft_wire.specs.Bodies.{FitsSnapshot, spelled_snapshot}
 use Rattle.raft_log_memtables.specs.Content.{GroupContent}
-use Rattle.raft_node.specs.Machine.{MachineRules}
-use Rattle.raft_node.specs.Fold.{fold_of}
+use Rattle.raft_machines.specs.Machine.{MachineRules}
+use Rattle.raft_machines.specs.Fold.{fold_of}
 use Rattle.raft_store.specs.Keys.{end_key, group_key, purged_key, snapshot_key, vote_key}
 
 -- A snapshot with a machine's bytes stands for one with entries: it covers the same, and its bytes restore the state that

@@ -5,7 +5,7 @@ use Rattle.raft_group_step.specs.StoredGroup.{StoredGroup}
 use Rattle.raft_log_memtables.specs.Content.{Content, GroupContent}
 use Rattle.raft_content_log.specs.Leaving.{Leaves}
 use Rattle.raft_group_storage.specs.Keeping.{IsOneOf, ShowsMore}
-use Rattle.raft_node.specs.Machine.{MachineRules}
+use Rattle.raft_machines.specs.Machine.{MachineRules}
 use Rattle.raft_store.specs.Reading.{Holds, HoldsOne}
 use Rattle.raft_store.specs.Batches.{ShowsBy}
 

@@ -7,7 +7,7 @@ ghost use Rattle.raft_group_step.specs.Values.{Entry};
 ghost use Rattle.raft_group_step.specs.StoredGroup.{Snapshot};
 ghost use Rattle.raft_group_storage.specs.Keeping.{StandsOrNone};
 ghost use Rattle.raft_log_records.specs.Batch.{payloads};
-ghost use Rattle.raft_node.specs.Machine.{MachineRules};
+ghost use Rattle.raft_machines.specs.Machine.{MachineRules};
 ghost use Rattle.raft_wire.specs.Bodies.{spelled_snapshot};
 ghost use Rattle.raft_wire.specs.Entries.{FitsEntry, spelled_entry};
 ghost use Rattle.raft_wire.specs.Fields.{FitsLast, spelled_log_id};

@@ -17,7 +17,7 @@ use raft_content_log::ContentLog;
 use raft_group_step::{Entries, SnapshotMeta};
 use raft_group_storage::LoadedGroup;
 use raft_messages::{GroupEntry, SnapshotBytes};
-use raft_node::StateMachine;
+use raft_machines::StateMachine;
 use raft_state::{BasicNode, Bytes, LogId, Vote};
 use std::alloc::{AllocError, Global};
 use std::ops::Range;

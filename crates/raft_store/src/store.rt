@@ -14,7 +14,7 @@ use crate::fault::StoreFault;
 use raft_content_log::ContentLog;
 use raft_log_records::LogBatch;
 use raft_messages::{GroupEntry, SnapshotBytes};
-use raft_node::StateMachine;
+use raft_machines::StateMachine;
 use raft_state::{LogId, Vote};
 use std::alloc::Global;
 use std::marker::PhantomData;

@@ -3,7 +3,7 @@
 use crate::calls::{between, covered, kept, loaded, stored};
 use raft_content_log::uses::put_key;
 use raft_content_log::{PlainFault, PlainLog};
-use raft_node::AddingMachine;
+use raft_machines::AddingMachine;
 use raft_rows::{Answer, Rows, bytes, number};
 use raft_store::Store;
 use std::alloc::Global;

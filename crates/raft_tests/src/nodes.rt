@@ -3,7 +3,7 @@
 use crate::answers::{assert_rows, holds};
 use crate::makers::{ids, membership, nodes};
 use raft_messages::{GroupEntry, GroupPayload, is_within_limits};
-use raft_node::{
+use raft_machines::{
     AddingMachine, Fault, MembershipFault, StateMachine, Told, Untold, membership_fault,
     run_entries,
 };

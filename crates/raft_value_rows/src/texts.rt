@@ -1,6 +1,6 @@
 //! How values are told.
 
-use raft_node::{Fault, MembershipFault};
+use raft_machines::{Fault, MembershipFault};
 use raft_progress::{Inflight, InvalidProgress, ProgressEntry, VecProgress};
 use raft_state::{
     BasicNode, ChangeMembershipError, EmptyMembership, EmptyNode, Entry, EntryPayload, InProgress,

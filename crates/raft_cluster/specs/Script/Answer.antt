@@ -2,12 +2,12 @@
 use Rattle.std.specs.Prelude.{ℕ, ◌==◌, List, [], ◌∷◌, ◌++◌, length, Option, Some, None, if◌then◌else◌, codes}
 use Rattle.std.specs.List.{flat_map}
 use Rattle.std.specs.Fmt.{decimal}
-use Rattle.raft_node.specs.declared.fault.Fault.{Fault}
-use Rattle.raft_node.specs.declared.fault.Fault.TheVariants as faults
-use Rattle.raft_node.specs.Adding.{adding, total_of}
-use Rattle.raft_node.specs.Fault.{number_of, name_of}
+use Rattle.raft_machines.specs.declared.fault.Fault.{Fault}
+use Rattle.raft_machines.specs.declared.fault.Fault.TheVariants as faults
+use Rattle.raft_machines.specs.Adding.{adding, total_of}
+use Rattle.raft_machines.specs.Fault.{number_of, name_of}
 use Rattle.raft_group_step.specs.Values.{Entry}
-use Rattle.raft_node.specs.Fold.{fold_of}
+use Rattle.raft_machines.specs.Fold.{fold_of}
 use Rattle.raft_cluster.specs.declared.event.EventOutcome.{EventOutcome}
 use Rattle.raft_cluster.specs.declared.event.EventOutcome.TheVariants as outcomes
 use Rattle.raft_cluster.specs.declared.event.Told.{Told}

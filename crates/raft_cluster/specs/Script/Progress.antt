@@ -2,7 +2,7 @@
 use Rattle.std.specs.Prelude.{ℕ, ◌+◌, ◌==◌, if◌then◌else◌, List, [], ◌∷◌, ◌++◌, Option, Some, None, codes}
 use Rattle.std.specs.Int.{w64, to_be_bytes}
 use Rattle.raft_membership.specs.declared.membership.Membership.{Membership}
-use Rattle.raft_node.specs.Adding.{adding}
+use Rattle.raft_machines.specs.Adding.{adding}
 use Rattle.raft_group_step.specs.Values.{Entry}
 use Rattle.raft_cluster.specs.declared.event.ClusterEvent.{ClusterEvent}
 use Rattle.raft_cluster.specs.declared.event.ClusterEvent.TheVariants as events

@@ -3,7 +3,7 @@ ghost use Rattle.std.specs.Prelude.{◌≡◌, IfOk, string_bytes};
 ghost use Rattle.raft_cluster.specs.Script.Answer.{value_of, number_or_dash, told_text, outcome_text};
 
 use crate::event::{EventOutcome, Told};
-use raft_node::Fault;
+use raft_machines::Fault;
 use std::alloc::{AllocError, Global};
 
 /// The total that an answer of 8 bytes is, the greatest byte first.

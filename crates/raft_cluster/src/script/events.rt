@@ -1,6 +1,6 @@
 //! Lines that are calls of a cluster.
 ghost use Rattle.std.specs.Prelude.{◌≡◌, IfOk, string_bytes};
-ghost use Rattle.raft_node.specs.Adding.{adding};
+ghost use Rattle.raft_machines.specs.Adding.{adding};
 ghost use Rattle.raft_cluster.specs.History.{events_of, outcome_after};
 ghost use Rattle.raft_cluster.specs.Script.Answer.{outcome_text, total_text};
 ghost use Rattle.raft_cluster.specs.Script.Progress.{cluster_after, list_at, one_voter, command_of};
@@ -8,7 +8,7 @@ ghost use Rattle.raft_cluster.specs.Script.Progress.{cluster_after, list_at, one
 use crate::cluster::Cluster;
 use crate::event::ClusterEvent;
 use crate::script::answer::{number_or_dash, outcome_text};
-use raft_node::AddingMachine;
+use raft_machines::AddingMachine;
 use raft_state::{BasicNode, Bytes, Membership};
 use std::alloc::{AllocError, Global};
 

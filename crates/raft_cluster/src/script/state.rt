@@ -8,7 +8,7 @@ use crate::cluster::Cluster;
 use crate::event::ClusterEvent;
 use crate::script::events::{NODE, command_of, happen, one_voter, total};
 use crate::script::line::Line;
-use raft_node::AddingMachine;
+use raft_machines::AddingMachine;
 use std::alloc::{AllocError, Global};
 use std::marker::Model;
 

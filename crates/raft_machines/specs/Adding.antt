@@ -1,7 +1,7 @@
 -- The adding machine: a total below 2^64, named by its 8 bytes, the greatest first.
 use Rattle.std.specs.Prelude.{ℕ, Bool, ◌+◌, ◌%◌, ◌^◌, ◌==◌, List, [], length, if◌then◌else◌}
 use Rattle.std.specs.Int.{w64, from_be_bytes, to_be_bytes}
-use Rattle.raft_node.specs.Machine.{MachineRules}
+use Rattle.raft_machines.specs.Machine.{MachineRules}
 
 -- the state of this total
 abbrev pub state_of_total : ℕ → List ℕ

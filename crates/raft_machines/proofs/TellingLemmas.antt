@@ -9,12 +9,12 @@ use Rattle.std.proofs.lemmas.List.{append-nil, append_assoc, drop-take, length-t
 use Rattle.std.proofs.lemmas.Option.{get_or_from_slice_get, slice_get-map, slice_get_past, slice_get_read, slice_get_within}
 use Rattle.raft_group_step.specs.Values.{Entry}
 use Rattle.raft_group_step.specs.GroupState.{Untold}
-use Rattle.raft_node.specs.declared.telling.Told.{Told}
-use Rattle.raft_node.specs.declared.telling.Untold.{Untold as AnUntold}
-use Rattle.raft_node.specs.Machine.{MachineRules}
-use Rattle.raft_node.specs.Fold.{after_payload, answer_to_payload, state_from}
-use Rattle.raft_node.proofs.FoldLemmas.{state_from-append}
-use Rattle.raft_node.specs.Telling.{AreToldAs, IsToldAs, Standing, WaitFrom, answer_on, run_on, told_at, untold_of}
+use Rattle.raft_machines.specs.declared.telling.Told.{Told}
+use Rattle.raft_machines.specs.declared.telling.Untold.{Untold as AnUntold}
+use Rattle.raft_machines.specs.Machine.{MachineRules}
+use Rattle.raft_machines.specs.Fold.{after_payload, answer_to_payload, state_from}
+use Rattle.raft_machines.proofs.FoldLemmas.{state_from-append}
+use Rattle.raft_machines.specs.Telling.{AreToldAs, IsToldAs, Standing, WaitFrom, answer_on, run_on, told_at, untold_of}
 
 -- those that waited for places below this one are told, and the others wait for it or for later ones
 pub record AreToldUpTo (answers : ℕ → Option (List ℕ)) (waiting : List Untold) (place end : ℕ) (told : List Told) : Type 0 where

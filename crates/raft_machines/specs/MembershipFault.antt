@@ -4,8 +4,8 @@ use Rattle.std.specs.Ordering.{nat_cmp}
 use Rattle.raft_membership.specs.declared.error.ChangeMembershipError.{ChangeMembershipError}
 use Rattle.raft_membership.specs.Validity.{validity_fault}
 use Rattle.raft_group_step.specs.Values.{Membership, is_within_limits}
-use Rattle.raft_node.specs.declared.fault.MembershipFault.{MembershipFault}
-use Rattle.raft_node.specs.declared.fault.MembershipFault.TheVariants.{Invalid, NoGroup, PastLimit}
+use Rattle.raft_machines.specs.declared.fault.MembershipFault.{MembershipFault}
+use Rattle.raft_machines.specs.declared.fault.MembershipFault.TheVariants.{Invalid, NoGroup, PastLimit}
 
 abbrev pub limit_fault : Bool → Option MembershipFault
 limit_fault true = None

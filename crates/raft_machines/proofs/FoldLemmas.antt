@@ -1,8 +1,8 @@
 -- The fold over a list that got one entry more.
 use Rattle.std.proofs.Common.{◌≡◌, ℕ, ◌+◌, List, [], ◌∷◌, ◌++◌, length, ap, ◌∙◌, arith}
-use Rattle.raft_node.specs.Machine.{MachineRules}
+use Rattle.raft_machines.specs.Machine.{MachineRules}
 use Rattle.raft_group_step.specs.Values.{Entry}
-use Rattle.raft_node.specs.Fold.{after_payload, state_from, fold_of}
+use Rattle.raft_machines.specs.Fold.{after_payload, state_from, fold_of}
 
 -- one entry more is one step more
 pub state_from-append : (rules : MachineRules) (state : List ℕ) (place : ℕ) (xs : List Entry) (e : Entry)

@@ -1,7 +1,7 @@
 -- The numbers and names of refusals.
 use Rattle.std.specs.Prelude.{ℕ, List, codes}
-use Rattle.raft_node.specs.declared.fault.Fault.{Fault}
-use Rattle.raft_node.specs.declared.fault.Fault.TheVariants.{NotLeader, UnknownGroup, GroupExists, NotAllowed, NotVoter, Membership, CommandTooLong}
+use Rattle.raft_machines.specs.declared.fault.Fault.{Fault}
+use Rattle.raft_machines.specs.declared.fault.Fault.TheVariants.{NotLeader, UnknownGroup, GroupExists, NotAllowed, NotVoter, Membership, CommandTooLong}
 
 abbrev pub number_of : Fault → ℕ
 number_of (NotLeader leader) = 1

@@ -1,8 +1,8 @@
 //! A machine that runs a group's entries, and what it answers to whom waits for them.
 ghost use Rattle.std.specs.Prelude.{◌≡◌, ◌+◌, ◌<◌, ◌^◌, ◌++◌, List, IfOk, OnOk, OnErr, drop, length, slice_get};
 ghost use Rattle.raft_group_step.specs.Values.{Entry};
-ghost use Rattle.raft_node.specs.Fold.{after_payload, answer_to_payload, state_from};
-ghost use Rattle.raft_node.specs.Telling.{AreToldAs, WaitFrom, answer_on, told_at, untold_of};
+ghost use Rattle.raft_machines.specs.Fold.{after_payload, answer_to_payload, state_from};
+ghost use Rattle.raft_machines.specs.Telling.{AreToldAs, WaitFrom, answer_on, told_at, untold_of};
 
 use crate::StateMachine;
 use raft_messages::{GroupEntry, GroupPayload};

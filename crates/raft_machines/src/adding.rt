@@ -1,6 +1,6 @@
 //! A machine that adds up its commands.
 ghost use Rattle.std.specs.Prelude.{◌≡◌};
-ghost use Rattle.raft_node.specs.Adding.{adding, state_of_total};
+ghost use Rattle.raft_machines.specs.Adding.{adding, state_of_total};
 
 use crate::StateMachine;
 use raft_state::Bytes;

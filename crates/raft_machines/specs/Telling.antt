@@ -2,10 +2,10 @@
 use Rattle.std.specs.Prelude.{◌≡◌, ◌==◌, ℕ, ◌+◌, ◌≤◌, nat_lt, if◌then◌else◌, List, [], ◌∷◌, map, take, drop, slice_get, Option, Some, None, option_map}
 use Rattle.raft_group_step.specs.Values.{Entry}
 use Rattle.raft_group_step.specs.GroupState.{Untold}
-use Rattle.raft_node.specs.declared.telling.Told.{Told}
-use Rattle.raft_node.specs.declared.telling.Untold.{Untold as AnUntold}
-use Rattle.raft_node.specs.Machine.{MachineRules}
-use Rattle.raft_node.specs.Fold.{answer_to_payload, state_from}
+use Rattle.raft_machines.specs.declared.telling.Told.{Told}
+use Rattle.raft_machines.specs.declared.telling.Untold.{Untold as AnUntold}
+use Rattle.raft_machines.specs.Machine.{MachineRules}
+use Rattle.raft_machines.specs.Fold.{answer_to_payload, state_from}
 
 -- the state of a machine that has run so many entries of the list
 pub record Standing : Type 0 where

@@ -2,10 +2,10 @@ use Rattle.std.proofs.Common.{◌≡◌, ◌+◌, ◌-◌, ◌++◌, ◌≤◌, 
 use Rattle.std.proofs.lemmas.List.{length-drop}
 use Rattle.std.proofs.lemmas.Option.{slice_get-get_or}
 use Rattle.raft_group_step.specs.Values.{Entry}
-use Rattle.raft_node.specs.Fold.{after_payload}
-use Rattle.raft_node.specs.Telling.{Standing, answer_on, told_at, untold_of}
-use Rattle.raft_node.proofs.TellingLemmas.{AreToldUpTo, all_told, answered_here, one_run, told_here}
-use Rattle.raft_node.proofs.telling.run_entries.Goals as goal
+use Rattle.raft_machines.specs.Fold.{after_payload}
+use Rattle.raft_machines.specs.Telling.{Standing, answer_on, told_at, untold_of}
+use Rattle.raft_machines.proofs.TellingLemmas.{AreToldUpTo, all_told, answered_here, one_run, told_here}
+use Rattle.raft_machines.proofs.telling.run_entries.Goals as goal
 
 pub loop-index-preserved : goal.loop-index-preserved
 loop-index-preserved g c =

@@ -1,10 +1,10 @@
 -- The machine has run the entries so far, and told whom waited for these.
 use Rattle.std.proofs.Common.{◌≡◌, ◌+◌, List, take, drop, length}
 use Rattle.raft_group_step.specs.Values.{Entry}
-use Rattle.raft_node.specs.Fold.{state_from}
-use Rattle.raft_node.specs.Telling.{WaitFrom, answer_on, untold_of}
-use Rattle.raft_node.proofs.TellingLemmas.{AreToldUpTo}
-use Rattle.raft_node.proofs.telling.run_entries.Given as goal
+use Rattle.raft_machines.specs.Fold.{state_from}
+use Rattle.raft_machines.specs.Telling.{WaitFrom, answer_on, untold_of}
+use Rattle.raft_machines.proofs.TellingLemmas.{AreToldUpTo}
+use Rattle.raft_machines.proofs.telling.run_entries.Given as goal
 
 abbrev pub invariant-loop-index : goal.invariant-loop-index
 invariant-loop-index g l =

@@ -1,7 +1,7 @@
 //! What a node's calls refuse, and why.
 ghost use Rattle.std.specs.Prelude.{◌≡◌};
-ghost use Rattle.raft_node.specs.Fault.{number_of, name_of};
-ghost use Rattle.raft_node.specs.MembershipFault.{membership_fault_of};
+ghost use Rattle.raft_machines.specs.Fault.{number_of, name_of};
+ghost use Rattle.raft_machines.specs.MembershipFault.{membership_fault_of};
 
 use raft_messages::is_within_limits;
 use raft_state::{BasicNode, ChangeMembershipError, Membership};
