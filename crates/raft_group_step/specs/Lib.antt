@@ -1,3 +1,4 @@
+pub mod Limits
 pub mod Values
 pub mod StoredGroup
 pub mod Message

@@ -1,6 +1,7 @@
 -- A leader takes each command within the limits, in every world of a group.
 use Rattle.std.specs.Prelude.{◌≡◌, ℕ, ◌≤◌, ◌⊎◌, true, List, [], ◌∷◌, Some, None, length, IsTrue}
 use Rattle.raft_state.specs.declared.entry.EntryPayload.TheVariants.{Normal}
+use Rattle.raft_group_step.specs.Limits.{command_limit}
 use Rattle.raft_group_step.specs.StoredGroup.{end_place, entry_at}
 use Rattle.raft_group_step.specs.GroupState.{GroupState, Lead, Leader, is_leader}
 use Rattle.raft_group_step.specs.declared.group_call.GroupCall.TheVariants.{Propose}
@@ -26,12 +27,12 @@ pub record Takes (own : ℕ) (s : GroupState) (command : List ℕ) (token now : 
   pub stores : StoresNext s.stored (next_entry s.stored (Normal command)) (group_step own s (Call (Propose command token) now))
   pub then_has : HasTaken s (group_step own s (Call (Propose command token) now)).state command
 
--- so does each node that leads, with a command of at most 65,536 bytes, as long as no number is at its end
+-- so does each node that leads, with a command within its limit, as long as no number is at its end
 abbrev pub LeadersTakeCommands : Type 0
 LeadersTakeCommands =
     (ids : List ℕ) (rs : List Recorded) (end : GroupWorld) → IsGroupHistory ids rs end
     → (n : ℕ) (s : GroupState) (lead : Lead) → end.nodes n ≡ Up s → s.role ≡ Leader lead
-    → (command : List ℕ) (token now : ℕ) → length command ≤ 65536 → HasRoom s lead now
+    → (command : List ℕ) (token now : ℕ) → length command ≤ command_limit → HasRoom s lead now
     → Takes n s command token now
 
 -- so the event that asks for it stops, or leaves a node that has taken it
@@ -41,5 +42,5 @@ ProposalsAreTaken =
     → IsGroupHistory ids rs middle → Replays middle (last ∷ []) end
     → (n : ℕ) (s : GroupState) (lead : Lead) → middle.nodes n ≡ Up s → s.role ≡ Leader lead
     → (command : List ℕ) (token now : ℕ) → last.event ≡ Ask n (Propose command token) now
-    → length command ≤ 65536 → HasRoom s lead now
+    → length command ≤ command_limit → HasRoom s lead now
     → (is_stop last.outcome ≡ true) ⊎ ((t : GroupState) × (end.nodes n ≡ Up t) × HasTaken s t command)

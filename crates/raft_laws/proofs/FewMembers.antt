@@ -4,6 +4,7 @@ use Rattle.std.proofs.Common.{sym, subst, arith}
 use Rattle.std.proofs.lemmas.List.{length-map}
 use Rattle.raft_values.specs.declared.log_id.LogId.{LogId}
 use Rattle.raft_state.specs.declared.entry.EntryPayload.TheVariants.{Blank, Normal, Membership as Members}
+use Rattle.raft_group_step.specs.Limits.{node_limit}
 use Rattle.raft_group_step.specs.Values.{Entry, EntryPayload, LoggedMembership, Membership, has_id, last_membership, membership_after}
 use Rattle.raft_group_step.specs.StoredGroup.{StoredGroup, Snapshot, membership_in_force, prefix_of}
 use Rattle.raft_group_step.specs.GroupState.{no_group, state_of}
@@ -69,11 +70,11 @@ snapshot_few : (o : Option Snapshot) → ((x : Snapshot) → o ≡ Some x → Sn
 snapshot_few None f h = tt
 snapshot_few (Some x) f h = subst IsFewOption (sym (f x refl).membership) (last_few None x.«prefix» tt h)
 
-ids_few : (o : Option LoggedMembership) → IsFewOption o → length (ids_of o) ≤ 128
+ids_few : (o : Option LoggedMembership) → IsFewOption o → length (ids_of o) ≤ node_limit
 ids_few None h = omega arith
 ids_few (Some m) h = let size = length-map m.membership.nodes (λ x. x.0) in omega (arith, h)
 
-pub stored_few : (st : StoredGroup) → ((x : Snapshot) → st.snapshot ≡ Some x → SnapshotFits x) → StoredEach IsFewEntry st → length (ids_of (membership_in_force st)) ≤ 128
+pub stored_few : (st : StoredGroup) → ((x : Snapshot) → st.snapshot ≡ Some x → SnapshotFits x) → StoredEach IsFewEntry st → length (ids_of (membership_in_force st)) ≤ node_limit
 stored_few st f h =
     ids_few (membership_in_force st)
     (last_few (option_and_then (λ (x : Snapshot). x.membership) st.snapshot) st.log (snapshot_few st.snapshot f h.1) h.0)

@@ -4,6 +4,7 @@ use Rattle.std.specs.List.{list_all}
 use Rattle.std.proofs.Common.{subst, leb-true}
 use Rattle.std.proofs.lemmas.Bool.{and_parts}
 use Rattle.raft_state.specs.declared.entry.EntryPayload.TheVariants.{Blank, Normal, Membership as Members}
+use Rattle.raft_group_step.specs.Limits.{address_limit, node_limit, voter_group_limit, voter_limit}
 use Rattle.raft_group_step.specs.Values.{after_change, ChangeMembers, Entry, EntryPayload, is_valid, is_within_limits, LoggedMembership, Membership}
 use Rattle.raft_group_step.specs.StoredGroup.{StoredGroup, membership_in_force}
 use Rattle.raft_group_step.specs.GroupState.{GroupState}
@@ -18,7 +19,7 @@ use Rattle.raft_laws.proofs.StepCalls.{NoReason, no_reason}
 
 -- the membership has no more nodes than one may have
 abbrev pub IsFew : Membership → Type 0
-IsFew m = length m.nodes ≤ 128
+IsFew m = length m.nodes ≤ node_limit
 
 abbrev pub IsFewPayload : EntryPayload → Type 0
 IsFewPayload Blank = Unit {0}
@@ -31,10 +32,10 @@ IsFewEntry e = IsFewPayload e.payload
 
 few_within : (m : Membership) → is_within_limits m ≡ true → IsFew m
 few_within m t =
-    let groups = nat_le (length m.configs) 8 && list_all (λ group. nat_le (length group) 64) m.configs in
-    let addresses = list_all (λ (x : ℕ × List ℕ). nat_le (length x.1) 255) m.nodes in
-    let most = and_parts (groups && nat_le (length m.nodes) 128) addresses t in
-    leb-true (length m.nodes) 128 (and_parts groups (nat_le (length m.nodes) 128) most.0).1
+    let groups = nat_le (length m.configs) voter_group_limit && list_all (λ group. nat_le (length group) voter_limit) m.configs in
+    let addresses = list_all (λ (x : ℕ × List ℕ). nat_le (length x.1) address_limit) m.nodes in
+    let most = and_parts (groups && nat_le (length m.nodes) node_limit) addresses t in
+    leb-true (length m.nodes) node_limit (and_parts groups (nat_le (length m.nodes) node_limit) most.0).1
 
 first_few : (m : Membership) → is_first_membership m ≡ true → IsFew m
 first_few m t =

@@ -1,5 +1,6 @@
 -- How many nodes a group has along a history.
 use Rattle.std.specs.Prelude.{◌≡◌, ℕ, ◌≤◌, List, length, Some}
+use Rattle.raft_group_step.specs.Limits.{node_limit}
 use Rattle.raft_group_step.specs.StoredGroup.{StoredGroup, membership_in_force}
 use Rattle.raft_group_step.specs.Lead.{ids_of}
 use Rattle.raft_laws.specs.GroupWorld.{GroupWorld, Recorded}
@@ -11,4 +12,4 @@ abbrev pub MembersAreFew : Type 0
 MembersAreFew =
     (ids : List ℕ) (rs : List Recorded) (end : GroupWorld) → IsGroupHistory ids rs end
     → (n : ℕ) (st : StoredGroup) → stored_of (end.nodes n) ≡ Some st
-    → length (ids_of (membership_in_force st)) ≤ 128
+    → length (ids_of (membership_in_force st)) ≤ node_limit

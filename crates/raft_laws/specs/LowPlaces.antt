@@ -1,5 +1,6 @@
 -- Places along a history.
-use Rattle.std.specs.Prelude.{◌≡◌, ℕ, ◌≤◌, ◌^◌, List, Some}
+use Rattle.std.specs.Prelude.{◌≡◌, ℕ, ◌≤◌, List, Some}
+use Rattle.raft_group_step.specs.Limits.{number_limit}
 use Rattle.raft_group_step.specs.StoredGroup.{StoredGroup, end_place}
 use Rattle.raft_laws.specs.GroupWorld.{GroupWorld, Recorded}
 use Rattle.raft_laws.specs.OneList.{IsGroupHistory}
@@ -9,4 +10,4 @@ use Rattle.raft_laws.specs.VotesRise.{stored_of}
 abbrev pub PlacesAreLow : Type 0
 PlacesAreLow =
     (ids : List ℕ) (rs : List Recorded) (end : GroupWorld) → IsGroupHistory ids rs end
-    → (n : ℕ) (st : StoredGroup) → stored_of (end.nodes n) ≡ Some st → end_place st ≤ 2 ^ 62
+    → (n : ℕ) (st : StoredGroup) → stored_of (end.nodes n) ≡ Some st → end_place st ≤ number_limit

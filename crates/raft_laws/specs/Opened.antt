@@ -1,7 +1,8 @@
 -- What a node that was down is opened with has what an engine asks of the states that it stands for.
-use Rattle.std.specs.Prelude.{◌≡◌, ℕ, ◌+◌, ◌-◌, ◌<◌, ◌≤◌, ◌^◌, List, drop, length, slice_get, Some, option_and_then}
+use Rattle.std.specs.Prelude.{◌≡◌, ℕ, ◌+◌, ◌-◌, ◌<◌, ◌≤◌, List, drop, length, slice_get, Some, option_and_then}
 use Rattle.raft_values.specs.declared.log_id.LogId.{LogId}
 use Rattle.raft_values.specs.LogId.{next_place, place_of}
+use Rattle.raft_group_step.specs.Limits.{node_limit, number_limit}
 use Rattle.raft_group_step.specs.Values.{Entry, last_membership}
 use Rattle.raft_group_step.specs.StoredGroup.{StoredGroup, Snapshot, end_place, first_place, id_at, membership_in_force, snapshot_last}
 use Rattle.raft_group_step.specs.Lead.{ids_of}
@@ -21,7 +22,7 @@ abbrev pub OpenedPlacesAreLow : Type 0
 OpenedPlacesAreLow =
     (ids : List ℕ) (rs : List Recorded) (end : GroupWorld) → IsGroupHistory ids rs end
     → (n : ℕ) (st : StoredGroup) → end.nodes n ≡ Down st
-    → end_place (opened st).state.stored ≤ 2 ^ 62
+    → end_place (opened st).state.stored ≤ number_limit
 
 -- a log without what the snapshot has, up to any place, keeps the membership in force. The log as it was stored need not do so
 -- where it doesn't belong to the snapshot
@@ -41,7 +42,7 @@ pub record IsInOrder (now : StoredGroup) : Type 0 where
   -- the log has the snapshot's last entry, or it is the last one that was purged
   pub joined : (last : LogId ℕ) → snapshot_last now ≡ Some last → id_at now last.index ≡ Some last
   pub reaches : next_place (snapshot_last now) ≤ end_place now
-  pub members : length (ids_of (membership_in_force now)) ≤ 128
+  pub members : length (ids_of (membership_in_force now)) ≤ node_limit
 
 -- what a node is opened with is in order, whatever the node stopped in
 abbrev pub OpenedStatesAreInOrder : Type 0

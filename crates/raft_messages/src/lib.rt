@@ -13,6 +13,7 @@ pub use entries::{
 pub use limits::{
     MAX_ADDRESS_BYTES, MAX_COMMAND_BYTES, MAX_ENTRIES, MAX_NODES, MAX_SNAPSHOT_BYTES,
     MAX_VOTER_GROUPS, MAX_VOTERS, NUMBER_LIMIT, is_first_membership, is_valid, is_within_limits,
+    limits_in_code,
 };
 pub use memberships::{
     LoggedPair, SnapshotBytes, SnapshotHead, copy_of_pair, last_membership, membership_after,

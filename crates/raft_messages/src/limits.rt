@@ -1,6 +1,8 @@
 //! Which memberships, commands, requests and numbers may be.
 ghost use Rattle.std.specs.Prelude.{◌≡◌, length, nat_le, ℕ, List};
 ghost use Rattle.std.specs.List.{list_all};
+ghost use Rattle.raft_group_step.specs.Limits.{number_limit, command_limit, entries_in_request, snapshot_limit};
+ghost use Rattle.raft_group_step.specs.Limits.{voter_group_limit, voter_limit, node_limit, address_limit};
 ghost use Rattle.raft_group_step.specs.Refusal.{is_first_membership};
 ghost use Rattle.raft_group_step.specs.Values.{is_valid, is_within_limits};
 
@@ -30,16 +32,28 @@ pub const MAX_SNAPSHOT_BYTES: usize = 16_777_216;
 /// Terms, places, moments and the numbers of requests are below this.
 pub const NUMBER_LIMIT: u64 = 1 << 62;
 
+/// The limits in code are those of the definitions (own).
+pub fn limits_in_code()
+    ensures command { MAX_COMMAND_BYTES ≡ command_limit }
+    ensures groups { MAX_VOTER_GROUPS ≡ voter_group_limit }
+    ensures voters { MAX_VOTERS ≡ voter_limit }
+    ensures nodes { MAX_NODES ≡ node_limit }
+    ensures address { MAX_ADDRESS_BYTES ≡ address_limit }
+    ensures entries { MAX_ENTRIES ≡ entries_in_request }
+    ensures snapshot { MAX_SNAPSHOT_BYTES ≡ snapshot_limit }
+    ensures numbers { NUMBER_LIMIT ≡ number_limit }
+{}
+
 // Whether each voter group has at most so many voters as it may have.
 fn are_groups_short(groups: &[IdSet<u64>]) -> bool
-    ensures { result ≡ list_all (λ (group : List ℕ). nat_le (length group) 64) groups.now }
+    ensures { result ≡ list_all (λ (group : List ℕ). nat_le (length group) voter_limit) groups.now }
 {
     groups.iter().all(|group| group.len() <= MAX_VOTERS)
 }
 
 // Whether each address has at most so many bytes as it may have.
 fn are_addresses_short(nodes: &[(u64, BasicNode)]) -> bool
-    ensures { result ≡ list_all (λ (node : ℕ × List ℕ). nat_le (length node.1) 255) nodes.now }
+    ensures { result ≡ list_all (λ (node : ℕ × List ℕ). nat_le (length node.1) address_limit) nodes.now }
 {
     nodes
         .iter()

@@ -1,6 +1,7 @@
 -- What a step stores and sends fits the limits, where what the node has and is sent does.
 use Rattle.std.specs.Prelude.{◌≡◌, ℕ, ◌+◌, ◌<◌, ◌≤◌, List, [], ◌∷◌, length, slice_get, Option, Some, None, IsTrue, All, IfSome}
 use Rattle.raft_values.specs.LogId.{next_place}
+use Rattle.raft_group_step.specs.Limits.{entries_in_request}
 use Rattle.raft_group_step.specs.Values.{Entry, EntryPayload, LoggedMembership, is_within_limits}
 use Rattle.raft_group_step.specs.Refusal.{is_payload_short}
 use Rattle.raft_group_step.specs.StoredGroup.{Snapshot, StoredGroup, after_storing, end_place, first_place}
@@ -16,7 +17,7 @@ use Rattle.raft_laws.specs.Stop.{stopped_after}
 
 -- ---- entries
 
--- a command has at most 65,536 bytes, and a membership is within its limits
+-- a command is within its limit, and a membership within its own
 abbrev pub IsPayloadBounded : EntryPayload → Type 0
 IsPayloadBounded p = IsTrue (is_payload_short p)
 
@@ -48,9 +49,9 @@ pub record IsCommittedWithin (s : GroupState) : Type 0 where
 
 -- ---- what is sent
 
--- at most 64 entries a request, which follow the previous one
+-- few entries a request, which follow the previous one
 pub record FitsRequest (m : AppendFields) : Type 0 where
-  pub count : length m.entries ≤ 64
+  pub count : length m.entries ≤ entries_in_request
   pub entries : FitEntries m.entries
   pub placed : ArePlacedFrom (next_place m.previous) m.entries
 
@@ -93,10 +94,10 @@ ComesWithin s Open = Unit {0}
 
 -- ---- what is stored
 
--- at most 64 entries are put, at their places, right behind the log: so a put never shortens it
+-- as many entries as a request has are put at most, at their places, right behind the log: so a put never shortens it
 pub record FitsPut (s : StoredGroup) (place : ℕ) (es : List Entry) : Type 0 where
   pub at_end : place ≡ end_place s
-  pub count : length es ≤ 64
+  pub count : length es ≤ entries_in_request
   pub entries : FitEntries es
   pub placed : ArePlacedFrom place es
 

@@ -1,6 +1,7 @@
 -- A leader takes each command within the limits.
-use Rattle.std.specs.Prelude.{◌≡◌, ℕ, ◌<◌, ◌≤◌, ◌^◌, Bool, true, false, List, [], ◌∷◌, Some, None, length, All}
+use Rattle.std.specs.Prelude.{◌≡◌, ℕ, ◌<◌, ◌≤◌, Bool, true, false, List, [], ◌∷◌, Some, None, length, All}
 use Rattle.raft_state.specs.declared.entry.EntryPayload.TheVariants.{Normal}
+use Rattle.raft_group_step.specs.Limits.{command_limit, number_limit}
 use Rattle.raft_group_step.specs.Values.{Entry}
 use Rattle.raft_group_step.specs.StoredGroup.{StoredGroup, StoringCommand, MakeGroup, SetVote, PutEntries, CutFrom, RemoveUpTo, SetSnapshot, StartAfter, after_storing, end_place, entry_at}
 use Rattle.raft_group_step.specs.Peer.{PeerState}
@@ -14,15 +15,15 @@ use Rattle.raft_laws.specs.Origins.{next_entry}
 
 -- no number is at its end: the moment, the next place, and the number of the next request to each peer that the lead knows
 pub record HasRoom (s : GroupState) (lead : Lead) (now : ℕ) : Type 0 where
-  pub moment : now < 2 ^ 62
-  pub place : end_place s.stored < 2 ^ 62
-  pub requests : All (λ (p : PeerState). p.next_id < 2 ^ 62) lead.peers
+  pub moment : now < number_limit
+  pub place : end_place s.stored < number_limit
+  pub requests : All (λ (p : PeerState). p.next_id < number_limit) lead.peers
 
 -- a leader refuses no command within the limits
 abbrev pub LeadersTake : Type 0
 LeadersTake =
     (own : ℕ) (s : GroupState) (lead : Lead) (command : List ℕ) (token now : ℕ)
-    → s.stored.present ≡ true → s.role ≡ Leader lead → length command ≤ 65536 → HasRoom s lead now
+    → s.stored.present ≡ true → s.role ≡ Leader lead → length command ≤ command_limit → HasRoom s lead now
     → refusal_of own s (Call (Propose command token) now) ≡ None
 
 -- the log's front goes

@@ -1,0 +1,34 @@
+-- How large numbers, commands, requests, memberships and snapshots may be.
+use Rattle.std.specs.Prelude.{ℕ, ◌^◌}
+
+-- terms, places, moments and request numbers are below this
+abbrev pub number_limit : ℕ
+number_limit = 2 ^ 62
+
+-- a command has at most so many bytes
+abbrev pub command_limit : ℕ
+command_limit = 65536
+
+-- at most so many entries go in one request
+abbrev pub entries_in_request : ℕ
+entries_in_request = 64
+
+-- a membership has at most so many voter groups
+abbrev pub voter_group_limit : ℕ
+voter_group_limit = 8
+
+-- a voter group has at most so many voters
+abbrev pub voter_limit : ℕ
+voter_limit = 64
+
+-- a membership has at most so many nodes
+abbrev pub node_limit : ℕ
+node_limit = 128
+
+-- an address has at most so many bytes
+abbrev pub address_limit : ℕ
+address_limit = 255
+
+-- a snapshot has at most so many bytes of the machine
+abbrev pub snapshot_limit : ℕ
+snapshot_limit = 16777216
