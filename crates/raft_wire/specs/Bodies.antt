@@ -7,6 +7,7 @@ use Rattle.raft_values.specs.declared.log_id.LogId.{LogId}
 use Rattle.raft_group_step.specs.declared.vote_message.VoteRequest.{VoteRequest}
 use Rattle.raft_group_step.specs.declared.vote_message.VoteResponse.{VoteResponse}
 use Rattle.raft_group_step.specs.declared.snapshot_message.SnapshotMeta.{SnapshotMeta as SnapshotMetaOf}
+use Rattle.raft_group_step.specs.Limits.{entries_in_request, snapshot_limit}
 use Rattle.raft_group_step.specs.Values.{Membership, Entry, LoggedMembership}
 use Rattle.raft_messages.specs.declared.memberships.SnapshotBytes.{SnapshotBytes}
 use Rattle.raft_messages.specs.declared.message.RequestId.{RequestId}
@@ -97,14 +98,14 @@ pub record FitsAppend (m : AppendFields) : Type 0 where
   pub id : FitsId m.id
   pub previous : FitsLast m.previous
   pub committed : FitsLast m.committed
-  pub count : length m.entries ≤ 64
+  pub count : length m.entries ≤ entries_in_request
   pub entries : Chained FitsBehind that_place None m.entries
 
 abbrev pub append_of : Vote ℕ × (RequestId × (Option (LogId ℕ) × (Option (LogId ℕ) × List Entry))) → AppendFields
 append_of x = record { vote = x.0; id = x.1.0; previous = x.1.1.0; committed = x.1.1.1.0; entries = x.1.1.1.1 }
 
 abbrev pub entries_at : Reader (List Entry)
-entries_at = counted_at entry_behind that_place 64
+entries_at = counted_at entry_behind that_place entries_in_request
 
 unfoldable pub append_at : Reader AppendFields
 append_at = made append_of (both vote_at (both id_at (both last_at (both last_at entries_at))))
@@ -223,13 +224,13 @@ spelled_snapshot s =
 pub record FitsSnapshot (s : SnapshotBytes) : Type 0 where
   pub last : FitsLogId s.meta.last_log_id
   pub membership : IfSome s.meta.last_membership FitsLogged
-  pub bytes : length s.bytes ≤ 16777216
+  pub bytes : length s.bytes ≤ snapshot_limit
 
 abbrev pub snapshot_of : LogId ℕ × (Option LoggedMembership × List ℕ) → SnapshotBytes
 snapshot_of x = snapshot_with (record { last_log_id = x.0; last_membership = x.1.0 }) x.1.1
 
 unfoldable pub snapshot_at : Reader SnapshotBytes
-snapshot_at = made snapshot_of (both log_id_at (both (option_at logged_at) (text_at 16777216)))
+snapshot_at = made snapshot_of (both log_id_at (both (option_at logged_at) (text_at snapshot_limit)))
 
 -- a snapshot that is sent, with the leader's vote and the number of the request
 pub record SentSnapshot : Type 0 where

@@ -5,6 +5,7 @@ use Rattle.std.specs.Int.{w32, to_be_bytes}
 use Rattle.raft_values.specs.declared.log_id.LogId.{LogId}
 use Rattle.raft_state.specs.declared.entry.EntryPayload.TheVariants.{Blank, Normal, Membership as Members}
 use Rattle.raft_wire.specs.declared.error.FrameFault.TheVariants as fault
+use Rattle.raft_group_step.specs.Limits.{command_limit}
 use Rattle.raft_group_step.specs.Values.{Membership, Entry, EntryPayload}
 use Rattle.raft_wire.specs.Reader.{Reader, both, made, tested, text_at}
 use Rattle.raft_wire.specs.Fields.{spelled_log_id, FitsLogId, log_id_at}
@@ -14,7 +15,7 @@ use Rattle.raft_wire.specs.Memberships.{spelled_membership, FitsMembership, memb
 abbrev pub spelled_text : List ℕ → List ℕ
 spelled_text bytes = to_be_bytes w32 (length bytes) ++ bytes
 
--- ---- what an entry asks for: a tag, and what belongs to it. A command has at most 65,536 bytes
+-- ---- what an entry asks for: a tag, and what belongs to it
 
 abbrev pub spelled_payload : EntryPayload → List ℕ
 spelled_payload Blank = 0 ∷ []
@@ -23,7 +24,7 @@ spelled_payload (Members m) = 2 ∷ spelled_membership m
 
 abbrev pub FitsPayload : EntryPayload → Type 0
 FitsPayload Blank = Unit {0}
-FitsPayload (Normal command) = length command ≤ 65536
+FitsPayload (Normal command) = length command ≤ command_limit
 FitsPayload (Members m) = FitsMembership m
 
 abbrev pub normal_of : List ℕ → EntryPayload
@@ -35,7 +36,7 @@ members_of m = Members m
 unfoldable pub payload_at : Reader EntryPayload
 payload_at [] = Err fault.CutShort
 payload_at (zero ∷ rest) = Ok (Blank, rest)
-payload_at (suc zero ∷ rest) = made normal_of (text_at 65536) rest
+payload_at (suc zero ∷ rest) = made normal_of (text_at command_limit) rest
 payload_at (suc (suc zero) ∷ rest) = made members_of membership_at rest
 payload_at (suc (suc (suc b)) ∷ rest) = Err fault.BadTag
 

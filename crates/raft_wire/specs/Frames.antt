@@ -5,6 +5,7 @@ use Rattle.std.specs.List.{list_all}
 use Rattle.std.specs.Int.{w32, w64, to_be_bytes}
 use Rattle.raft_group_step.specs.declared.vote_message.VoteRequest.{VoteRequest}
 use Rattle.raft_group_step.specs.declared.vote_message.VoteResponse.{VoteResponse}
+use Rattle.raft_group_step.specs.Limits.{entries_in_request, snapshot_limit}
 use Rattle.raft_group_step.specs.Values.{Entry, LoggedMembership, is_within_limits}
 use Rattle.raft_messages.specs.declared.memberships.SnapshotBytes.{SnapshotBytes}
 use Rattle.raft_messages.specs.declared.message.AppendFields.{AppendFields}
@@ -143,7 +144,7 @@ are_consecutive last [] = true
 are_consecutive last (e ∷ es) = follows last e.log_id.index && are_consecutive (Some e.log_id.index) es
 
 abbrev pub are_entries_short : List Entry → Bool
-are_entries_short es = nat_le (length es) 64 && list_all (λ e. is_payload_short e.payload) es
+are_entries_short es = nat_le (length es) entries_in_request && list_all (λ e. is_payload_short e.payload) es
 
 abbrev pub is_logged_short : Option LoggedMembership → Bool
 is_logged_short None = true
@@ -157,7 +158,7 @@ fault_of_entries es =
     else None
 
 abbrev pub is_snapshot_short : Option LoggedMembership → List ℕ → Bool
-is_snapshot_short m bytes = is_logged_short m && nat_le (length bytes) 16777216
+is_snapshot_short m bytes = is_logged_short m && nat_le (length bytes) snapshot_limit
 
 abbrev pub fault_of_snapshot : Option LoggedMembership → List ℕ → Option FrameFault
 fault_of_snapshot m bytes = if is_snapshot_short m bytes then None else Some fault.TooLong

@@ -3,6 +3,7 @@ use Rattle.std.specs.Prelude.{ℕ, ◌<◌, ◌≤◌, ◌^◌, nat_lt, Bool, tr
 use Rattle.std.specs.List.{flat_map}
 use Rattle.std.specs.Str.{IsUtf8, is_utf8}
 use Rattle.std.specs.Int.{w32, w64, to_be_bytes}
+use Rattle.raft_group_step.specs.Limits.{voter_group_limit, voter_limit, node_limit}
 use Rattle.raft_group_step.specs.Values.{Membership}
 use Rattle.raft_wire.specs.declared.error.FrameFault.TheVariants as fault
 use Rattle.raft_wire.specs.Reader.{Reader, ◌>>=◌, both, made, tested, number_at, byte_at, piece_at, counted_at}
@@ -42,16 +43,16 @@ id_above last = tested fault.NotRising (is_above last) (number_at w64)
 abbrev pub that_id : ℕ → Option ℕ
 that_id id = Some id
 
--- ---- voter groups: at most 64 ids, rising
+-- ---- voter groups: ids, rising
 
 abbrev pub spelled_ids : List ℕ → List ℕ
 spelled_ids ids = spelled_list spelled_id ids
 
 abbrev pub FitsIds : List ℕ → Type 0
-FitsIds ids = (length ids ≤ 64) × Chained FitsId that_id None ids
+FitsIds ids = (length ids ≤ voter_limit) × Chained FitsId that_id None ids
 
 unfoldable pub ids_at : Reader (List ℕ)
-ids_at = counted_at id_above that_id 64
+ids_at = counted_at id_above that_id voter_limit
 
 -- a group leaves nothing for the next
 abbrev pub nothing_left : List ℕ → Option ℕ
@@ -83,15 +84,15 @@ node_above last = both (id_above last) address_at
 abbrev pub that_node : ℕ × List ℕ → Option ℕ
 that_node node = Some node.0
 
--- ---- memberships: at most 8 groups, at most 128 nodes
+-- ---- memberships: voter groups and nodes
 
 abbrev pub spelled_membership : Membership → List ℕ
 spelled_membership m = spelled_list spelled_ids m.configs ++ spelled_list spelled_node m.nodes
 
 pub record FitsMembership (m : Membership) : Type 0 where
-  pub group_count : length m.configs ≤ 8
+  pub group_count : length m.configs ≤ voter_group_limit
   pub groups : Chained (λ _ ids. FitsIds ids) nothing_left None m.configs
-  pub node_count : length m.nodes ≤ 128
+  pub node_count : length m.nodes ≤ node_limit
   pub nodes : Chained FitsNode that_node None m.nodes
 
 abbrev pub membership_of : List (List ℕ) × List (ℕ × List ℕ) → Membership
@@ -99,4 +100,5 @@ membership_of x = record { configs = x.0; nodes = x.1 }
 
 unfoldable pub membership_at : Reader Membership
 membership_at =
-    made membership_of (both (counted_at (λ _. ids_at) nothing_left 8) (counted_at node_above that_node 128))
+    made membership_of
+    (both (counted_at (λ _. ids_at) nothing_left voter_group_limit) (counted_at node_above that_node node_limit))

@@ -21,10 +21,19 @@ Judged = Result Frame FrameFault × ℕ
 abbrev pub length_in : List ℕ → Option ℕ
 length_in bytes = if nat_lt (length bytes) 4 then None else Some (from_be_bytes w32 (take 4 bytes))
 
--- a frame has 25 to 17,825,788 bytes behind its length
+-- how many bytes the shortest frame has behind its length, and the longest one
+abbrev pub shortest_frame : ℕ
+shortest_frame = 25
+
+abbrev pub longest_frame : ℕ
+longest_frame = 17825788
+
+-- a frame is neither shorter nor longer
 abbrev pub fault_of_length : ℕ → Option FrameFault
 fault_of_length n =
-    if nat_lt n 25 then Some fault.CutShort else if nat_lt 17825788 n then Some fault.TooLong else None
+    if nat_lt n shortest_frame then Some fault.CutShort
+    else if nat_lt longest_frame n then Some fault.TooLong
+    else None
 
 -- ---- the front
 
@@ -61,9 +70,12 @@ abbrev pub whole_of : Option ℕ → ℕ
 whole_of None = 4
 whole_of (Some n) = n + 4
 
--- who holds nothing has memory for 64 KiB at most
+-- who holds nothing has memory for at most so many bytes
+abbrev pub idle_room : ℕ
+idle_room = 65536
+
 abbrev pub IsIdleSmall : List ℕ → ℕ → Type 0
-IsIdleSmall held room = held ≡ [] → room ≤ 65536
+IsIdleSmall held room = held ≡ [] → room ≤ idle_room
 
 -- a feeder: what it holds of a stream, and for how many bytes it has memory
 pub record FeederValue : Type 0 where

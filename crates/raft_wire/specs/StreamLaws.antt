@@ -5,7 +5,7 @@ use Rattle.raft_wire.specs.declared.error.FrameFault.{FrameFault}
 use Rattle.raft_wire.specs.declared.frame.Frame.{Frame}
 use Rattle.raft_wire.specs.Entries.{spelled_entry, FitsEntry}
 use Rattle.raft_wire.specs.Frames.{spelled_rest, spelled_frame, FitsFrame}
-use Rattle.raft_wire.specs.Stream.{AreBytes, Judged, length_in, fault_of_length, front}
+use Rattle.raft_wire.specs.Stream.{AreBytes, Judged, length_in, longest_frame, fault_of_length, front}
 
 -- a frame that stands at the front is spelled so, each byte of it
 abbrev pub FoundIsSpelled : Type 0
@@ -47,6 +47,6 @@ NoEntryBeginsAnother =
     (a b : Entry) (x y : List ℕ) → FitsEntry a → FitsEntry b → spelled_entry a ++ x ≡ spelled_entry b ++ y
     → (a ≡ b) × (x ≡ y)
 
--- the longest frame has 17,825,792 bytes with its length
+-- no frame is longer than the longest one
 abbrev pub FramesAreShort : Type 0
-FramesAreShort = (frame : Frame) → FitsFrame frame → length (spelled_rest frame) ≤ 17825788
+FramesAreShort = (frame : Frame) → FitsFrame frame → length (spelled_rest frame) ≤ longest_frame

@@ -7,18 +7,18 @@ use Rattle.raft_wire.specs.declared.feeder.Wanted.TheVariants as wanted
 use Rattle.raft_wire.specs.declared.frame.Frame.{Frame}
 use Rattle.raft_wire.specs.Reader.{all_of}
 use Rattle.raft_wire.specs.Frames.{rest_at}
-use Rattle.raft_wire.specs.Stream.{front, length_in, whole_of}
+use Rattle.raft_wire.specs.Stream.{front, length_in, longest_frame, whole_of}
 
 -- more bytes up to so many, or so many bytes of the piece up to a wrong length or to the end of a frame
 abbrev pub IsWanted : List ℕ → List ℕ → Wanted → Type 0
 IsWanted held piece (wanted.More whole) =
     (front (held ++ piece) ≡ None) × (whole ≡ whole_of (length_in (held ++ piece))) × (length (held ++ piece) ≤ whole)
-    × (whole ≤ 17825792)
+    × (whole ≤ longest_frame + 4)
 IsWanted held piece (wanted.Fault why used) =
     (front (held ++ piece) ≡ Some (Err why, length held + used)) × (used ≤ length piece)
 IsWanted held piece (wanted.Frame used) =
     (front (held ++ piece) ≡ Some (all_of rest_at (drop 4 (held ++ take used piece)), length held + used))
-    × (used ≤ length piece) × (4 ≤ length (held ++ take used piece)) × (length (held ++ take used piece) ≤ 17825792)
+    × (used ≤ length piece) × (4 ≤ length (held ++ take used piece)) × (length (held ++ take used piece) ≤ longest_frame + 4)
 
 -- what is held after a frame was read: as before without memory, else nothing
 abbrev pub HeldAfter : List ℕ → Result Frame FrameError → List ℕ → Type 0

@@ -1,5 +1,6 @@
 //! Entries, read from the front of bytes and written behind others, and alone as they are stored.
 ghost use Rattle.std.specs.Prelude.{◌≡◌, ◌++◌, true, OnOk, IfOk};
+ghost use Rattle.raft_group_step.specs.Limits.{command_limit};
 ghost use Rattle.raft_group_step.specs.Values.{Entry as EntryValue};
 ghost use Rattle.raft_wire.specs.Reader.{Gives, all_of, text_at};
 ghost use Rattle.raft_wire.specs.Entries.{payload_at, follows, entry_behind, entry_at};
@@ -15,7 +16,7 @@ use raft_state::{Bytes, EntryPayload};
 use std::alloc::{AllocError, Global};
 
 fn command_of(alloc: Global, bytes: &[u8]) -> Result<(Bytes, &[u8]), FrameError>
-    ensures { Gives (λ x. (x.0, x.1.now)) result (text_at 65536 bytes.now) }
+    ensures { Gives (λ x. (x.0, x.1.now)) result (text_at command_limit bytes.now) }
 {
     let (text, rest) = text_of(MAX_COMMAND_BYTES, bytes)?;
     Ok((Bytes::from_slice(alloc, text)?, rest))

@@ -3,7 +3,7 @@ ghost use Rattle.std.specs.Prelude.{◌≡◌, ◌≤◌, ◌<◌, ◌+◌, ◌*
 ghost use Rattle.std.specs.Prelude.{take, drop, get_or, length, min, max, vec_len, vec_capacity};
 ghost use Rattle.raft_wire.specs.Reader.{Gives, all_of};
 ghost use Rattle.raft_wire.specs.Frames.{rest_at};
-ghost use Rattle.raft_wire.specs.Stream.{length_in, fault_of_length, front, whole_of};
+ghost use Rattle.raft_wire.specs.Stream.{length_in, fault_of_length, front, idle_room, longest_frame, whole_of};
 ghost use Rattle.raft_wire.specs.Stream.{fresh, Answers, IsSpelledSo, IsIdleSmall, HoldsRightly};
 ghost use Rattle.raft_wire.specs.Wanted.{IsWanted, HeldAfter, Takes, IfFrame};
 
@@ -111,9 +111,9 @@ fn brought_by(held: &[u8], piece: &[u8]) -> Wanted
 // what an idle feeder has: the old block and the new one together are at most that much more.
 fn room_for(needed: usize, whole: usize) -> usize
     requires needed { needed ≤ whole }
-    requires whole { whole ≤ 17825792 }
+    requires whole { whole ≤ longest_frame + 4 }
     ensures enough { needed ≤ result }
-    ensures within { result ≤ max 65536 (min (4 * needed) whole) }
+    ensures within { result ≤ max idle_room (min (4 * needed) whole) }
 {
     if whole <= MAX_IDLE_ROOM || whole <= 4 * needed {
         return whole;
@@ -130,13 +130,13 @@ fn room_for(needed: usize, whole: usize) -> usize
 // Makes room for so many more bytes, of so many in the end.
 fn make_room(held: &mut Vec<u8>, more: usize, whole: usize) -> Result<(), AllocError>
     requires more { vec_len held.old + more ≤ whole }
-    requires whole { whole ≤ 17825792 }
+    requires whole { whole ≤ longest_frame + 4 }
     ensures items { held.new.items ≡ held.old.items }
     ensures len { vec_len held.new ≡ vec_len held.old }
     ensures room { OnOk result (vec_len held.new + more ≤ vec_capacity held.new) }
     ensures same { OnErr result (vec_capacity held.new ≡ vec_capacity held.old) }
     ensures within { vec_capacity held.new
-        ≤ max (vec_capacity held.old) (max 65536 (min (4 * (vec_len held.old + more)) whole)) }
+        ≤ max (vec_capacity held.old) (max idle_room (min (4 * (vec_len held.old + more)) whole)) }
 {
     if more <= held.capacity() - held.len() {
         return Ok(());
@@ -148,7 +148,7 @@ fn make_room(held: &mut Vec<u8>, more: usize, whole: usize) -> Result<(), AllocE
 // Holds the piece too, of so many bytes in the end.
 fn hold(held: &mut Vec<u8>, piece: &[u8], whole: usize) -> Result<(), AllocError>
     requires more { length (held.old.items ++ piece.now) ≤ whole }
-    requires whole { whole ≤ 17825792 }
+    requires whole { whole ≤ longest_frame + 4 }
     requires idle { IsIdleSmall held.old.items (vec_capacity held.old) }
     ensures ok { OnOk result (held.new.items ≡ held.old.items ++ piece.now) }
     ensures err { OnErr result (held.new.items ≡ held.old.items) }
@@ -164,7 +164,7 @@ fn hold(held: &mut Vec<u8>, piece: &[u8], whole: usize) -> Result<(), AllocError
 // Holds nothing more, and gives back memory past what an idle feeder has.
 fn let_go(held: &mut Vec<u8>)
     ensures items { held.new.items ≡ [] }
-    ensures room { vec_capacity held.new ≤ 65536 }
+    ensures room { vec_capacity held.new ≤ idle_room }
 {
     held.clear();
     if MAX_IDLE_ROOM < held.capacity() {
@@ -177,7 +177,7 @@ fn let_go(held: &mut Vec<u8>)
 // Reads the frame that is held and these bytes, of which the first four are its length.
 fn read_held(held: &mut Vec<u8>, bytes: &[u8]) -> Result<Frame, FrameError>
     requires length { 4 ≤ length (held.old.items ++ bytes.now) }
-    requires whole { length (held.old.items ++ bytes.now) ≤ 17825792 }
+    requires whole { length (held.old.items ++ bytes.now) ≤ longest_frame + 4 }
     requires idle { IsIdleSmall held.old.items (vec_capacity held.old) }
     ensures held { HeldAfter held.old.items result held.new.items }
     ensures read { Gives (λ x. x) result (all_of rest_at (drop 4 (held.old.items ++ bytes.now))) }
@@ -271,7 +271,7 @@ fn take_frame(held: &mut Vec<u8>, piece: &[u8], used: usize) -> Fed
     requires frame { front (held.old.items ++ piece.now) ≡ Some (all_of rest_at (drop 4 (held.old.items ++ take used piece.now)), length held.old.items + used) }
     requires within { used ≤ length piece.now }
     requires length { 4 ≤ length (held.old.items ++ take used piece.now) }
-    requires whole { length (held.old.items ++ take used piece.now) ≤ 17825792 }
+    requires whole { length (held.old.items ++ take used piece.now) ≤ longest_frame + 4 }
     requires idle { IsIdleSmall held.old.items (vec_capacity held.old) }
     ensures taken { Takes held.old.items piece.now result.used result.frame held.new.items }
     ensures idle { IsIdleSmall held.new.items (vec_capacity held.new) }
@@ -347,7 +347,7 @@ impl Feeder {
     /// Begins a new stream.
     pub fn reset(&mut self)
         ensures fresh { self.new.feeding ≡ fresh }
-        ensures room { self.new.room ≤ 65536 }
+        ensures room { self.new.room ≤ idle_room }
     {
         let_go(&mut self.held);
         self.failed = false;

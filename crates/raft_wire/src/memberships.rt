@@ -1,5 +1,6 @@
 //! Memberships, read from the front of bytes and written behind others.
 ghost use Rattle.std.specs.Prelude.{◌≡◌, ◌++◌, ◌≤◌, ◌<◌, ◌^◌, ℕ, List, None, true, length, OnOk, All};
+ghost use Rattle.raft_group_step.specs.Limits.{address_limit, node_limit, voter_group_limit, voter_limit};
 ghost use Rattle.raft_group_step.specs.Values.{is_within_limits};
 ghost use Rattle.raft_wire.specs.Reader.{Gives, many_at, counted_at};
 ghost use Rattle.raft_wire.specs.Memberships.{id_above, that_id, ids_at, nothing_left, is_above, address_at};
@@ -141,7 +142,7 @@ pub(crate) fn membership_of(
 // ---- writing
 
 fn put_ids(out: &mut Vec<u8>, ids: &[u64]) -> Result<(), AllocError>
-    requires count { length ids.now ≤ 64 }
+    requires count { length ids.now ≤ voter_limit }
     requires rising { IsRising nat_cmp ids.now }
     ensures items { OnOk result (out.new.items ≡ out.old.items ++ spelled_ids ids.now) }
     ensures fits { OnOk result (FitsIds ids.now) }
@@ -154,8 +155,8 @@ fn put_ids(out: &mut Vec<u8>, ids: &[u64]) -> Result<(), AllocError>
 }
 
 fn put_groups(out: &mut Vec<u8>, groups: &[IdSet<u64>]) -> Result<(), AllocError>
-    requires count { length groups.now ≤ 8 }
-    requires each { All (λ group. length group ≤ 64) groups.now }
+    requires count { length groups.now ≤ voter_group_limit }
+    requires each { All (λ group. length group ≤ voter_limit) groups.now }
     ensures items { OnOk result (out.new.items ≡ out.old.items ++ spelled_list spelled_ids groups.now) }
     ensures fits { OnOk result (Chained (λ _ ids. FitsIds ids) nothing_left None groups.now) }
 {
@@ -167,7 +168,7 @@ fn put_groups(out: &mut Vec<u8>, groups: &[IdSet<u64>]) -> Result<(), AllocError
 }
 
 fn put_node(out: &mut Vec<u8>, id: u64, node: &BasicNode) -> Result<(), AllocError>
-    requires { length node.now ≤ 255 }
+    requires { length node.now ≤ address_limit }
     ensures items { OnOk result (out.new.items ≡ out.old.items ++ spelled_node (id, node.now)) }
     ensures fits { OnOk result ((id < 2 ^ 64) × FitsAddress node.now) }
 {
@@ -178,8 +179,8 @@ fn put_node(out: &mut Vec<u8>, id: u64, node: &BasicNode) -> Result<(), AllocErr
 }
 
 fn put_nodes(out: &mut Vec<u8>, nodes: &[(u64, BasicNode)]) -> Result<(), AllocError>
-    requires count { length nodes.now ≤ 128 }
-    requires each { All (λ (node : ℕ × List ℕ). length node.1 ≤ 255) nodes.now }
+    requires count { length nodes.now ≤ node_limit }
+    requires each { All (λ (node : ℕ × List ℕ). length node.1 ≤ address_limit) nodes.now }
     requires rising { IsRisingByFirst nat_cmp nodes.now }
     ensures items { OnOk result (out.new.items ≡ out.old.items ++ spelled_list spelled_node nodes.now) }
     ensures fits { OnOk result (Chained FitsNode that_node None nodes.now) }
