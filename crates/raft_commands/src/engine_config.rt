@@ -3,6 +3,7 @@ ghost use Rattle.std.specs.Prelude.{◌≡◌};
 ghost use Rattle.raft_commands.specs.Config.{config_of};
 
 use crate::time_state;
+use raft_messages::MAX_ENTRIES;
 use raft_values::node::{NodeId, default_id};
 
 /// What an engine is set up with (openraft).
@@ -22,7 +23,7 @@ pub struct EngineConfig<NID: NodeId> {
 
 impl<NID: NodeId> EngineConfig<NID> {
     /// What the node with this id is set up with where nothing else is asked for: a lease of 150
-    /// ticks, and 64 entries a request (own; openraft has 300 entries).
+    /// ticks, and `MAX_ENTRIES` entries a request (own; openraft has 300).
     pub fn new(id: NID) -> EngineConfig<NID>
         ensures { result ≡ config_of id }
     {
@@ -30,7 +31,7 @@ impl<NID: NodeId> EngineConfig<NID> {
             id,
             max_in_snapshot_log_to_keep: 1000,
             purge_batch_size: 256,
-            max_payload_entries: 64,
+            max_payload_entries: MAX_ENTRIES as u64,
             timer_config: time_state::Config::default(),
         }
     }

@@ -4,8 +4,8 @@ use crate::store::Store;
 use raft_content_log::ContentLog;
 use raft_group_step::Entries;
 use raft_group_storage::{GroupStorage, LoadedGroup};
-use raft_messages::{GroupEntry, SnapshotBytes, SnapshotHead};
 use raft_machines::StateMachine;
+use raft_messages::{GroupEntry, SnapshotBytes, SnapshotHead};
 use raft_state::{BasicNode, Bytes, LogId, Vote};
 use std::alloc::Global;
 

@@ -2,11 +2,11 @@
 
 use crate::answers::{assert_rows, holds};
 use crate::makers::{ids, membership, nodes};
-use raft_messages::{GroupEntry, GroupPayload, is_within_limits};
 use raft_machines::{
     AddingMachine, Fault, MembershipFault, StateMachine, Told, Untold, membership_fault,
     run_entries,
 };
+use raft_messages::{GroupEntry, GroupPayload, is_within_limits};
 use raft_state::{BasicNode, Bytes, EntryPayload, LeaderId, LogId, Membership};
 use std::alloc::{AllocError, Global};
 
