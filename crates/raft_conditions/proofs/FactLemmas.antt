@@ -1,5 +1,5 @@
 -- What the facts of a group say of it.
-use Rattle.std.proofs.Common.{◌≡◌, ℕ, ◌+◌, ◌&&◌, ◌||◌, not, Bool, true, List, [], ◌∷◌, Option, Some, None, option_map, refl, ap, sym, ◌∙◌, IfNone, IfOk, Result, Ok, Err}
+use Rattle.std.proofs.Common.{◌≡◌, ℕ, ◌+◌, ◌&&◌, ◌||◌, not, Bool, true, List, [], ◌∷◌, Option, Some, None, option_map, refl, ap, sym, ◌∙◌, IfNone}
 use Rattle.raft_quorums.specs.QuorumLaws.{and_left, and_right}
 use Rattle.raft_conditions.specs.declared.facts.GroupFacts.{GroupFacts}
 use Rattle.raft_conditions.specs.declared.refusal.Refusal.{Refusal}
@@ -8,7 +8,7 @@ use Rattle.raft_messages.specs.Memberships.{logged_or_none}
 use Rattle.raft_conditions.specs.Reason.{reason_of}
 use Rattle.raft_conditions.specs.ByFacts.{AreLow, HasRoom, call_reason_by, call_reasons_by, has_room, is_low, is_settled_by, next_term_by, lead_reason_by, range_reason_by}
 use Rattle.raft_conditions.proofs.RangeLemmas.{in_range-append, low_number, low_numbers}
-use Rattle.raft_group_step.specs.Values.{ChangeMembers, is_voter, LoggedMembership}
+use Rattle.raft_group_step.specs.Values.{is_voter, LoggedMembership}
 use Rattle.raft_group_step.specs.GroupEvent.{GroupCall, Call}
 use Rattle.raft_group_step.specs.GroupState.{GroupState, is_leader}
 use Rattle.raft_group_step.specs.StoredGroup.{membership_in_force}
@@ -116,10 +116,3 @@ pub call_judged : (f : GroupFacts) (now : ℕ) (call : GroupCall) (r : Option (R
 call_judged f now call r present e =
     λ own s h. e ∙ ap (λ b. first_of_reasons (unless b UnknownGroup ∷ call_reasons_by f now call)) (sym present)
     ∙ call_refused h now call
-
--- so is a change that is judged without want of memory
-pub change_judged : {E : Type 0} (f : GroupFacts) (now : ℕ) (change : ChangeMembers) (token : ℕ) (r : Result (Option (Refusal ℕ)) E) → f.present ≡ true
-    → IfOk r (λ refusal. (token : ℕ) → option_map reason_of refusal ≡ call_reason_by f now (ChangeMembership change token))
-    → IfOk r (λ refusal. IsRefusalOf f (Call (ChangeMembership change token) now) refusal)
-change_judged f now change token (Ok refusal) present e = call_judged f now (ChangeMembership change token) refusal present (e token)
-change_judged f now change token (Err why) present e = tt

@@ -1,3 +1,5 @@
 pub mod RangeLemmas
 pub mod FactLemmas
 pub mod ChangeLemmas
+pub mod SizeLemmas
+pub mod FitLemmas

@@ -83,18 +83,6 @@ call_reasons_by f now (TriggerPurge place) = range_reason_by f (now ∷ []) ∷ 
 abbrev pub call_reason_by : GroupFacts → ℕ → GroupCall → Option RefusalReason
 call_reason_by f now call = first_of_reasons (call_reasons_by f now call)
 
--- a change is to be judged by the new membership
-abbrev pub IsChangeTried : GroupFacts → ℕ → GroupCall → Type 0
-IsChangeTried f now (Initialize m) = ⊥
-IsChangeTried f now Elect = ⊥
-IsChangeTried f now (Propose command token) = ⊥
-IsChangeTried f now (ChangeMembership change token) =
-    (f.present ≡ true) × (first_of_reasons (early_reasons_by f now) ≡ None)
-IsChangeTried f now Heartbeat = ⊥
-IsChangeTried f now (Lost peer) = ⊥
-IsChangeTried f now TriggerSnapshot = ⊥
-IsChangeTried f now (TriggerPurge place) = ⊥
-
 -- ---- messages
 
 abbrev pub is_right_party_by : GroupFacts → Parties → Bool

@@ -2,3 +2,4 @@ pub mod Reason
 pub mod Messages
 pub mod Facts
 pub mod ByFacts
+pub mod Fitting

@@ -1,15 +1,15 @@
 //! When a call is refused.
-ghost use Rattle.std.specs.Prelude.{◌≡◌, ◌∷◌, ◌+◌, ◌<◌, ◌^◌, ◌&&◌, [], ℕ, Option, option_map, IfNone, IfOk, IfErr, OnErr, true, None};
+ghost use Rattle.std.specs.Prelude.{◌≡◌, ◌∷◌, ◌+◌, ◌<◌, ◌^◌, ◌&&◌, [], ℕ, Option, option_map, IfNone, IfOk, IsOk, true, None};
 ghost use Rattle.raft_group_step.specs.GroupEvent.{AddGroup, Call, GroupCall};
 ghost use Rattle.raft_group_step.specs.Refusal.{are_in_range, first_of_reasons, is_voter_in, known_leader, reasons_of_change};
 ghost use Rattle.raft_group_step.specs.declared.group_call.GroupCall.TheVariants.{Initialize, Elect, Propose, ChangeMembership, Heartbeat, TriggerSnapshot};
-ghost use Rattle.raft_conditions.specs.ByFacts.{AreLow, IsChangeTried, call_numbers, call_reason_by, early_reasons_by, is_low, is_settled_by, lead_reason_by, next_term_by};
+ghost use Rattle.raft_conditions.specs.ByFacts.{AreLow, call_numbers, call_reason_by, early_reasons_by, is_low, is_settled_by, lead_reason_by, next_term_by};
 ghost use Rattle.raft_conditions.specs.Facts.{IsRefusalOf};
 ghost use Rattle.raft_messages.specs.Memberships.{logged_or_none};
 ghost use Rattle.raft_conditions.specs.Reason.{reason_of};
 
-use crate::change::change_refusal;
 use crate::facts::{GroupCommand, GroupFacts};
+use crate::judging::change_refusal;
 use crate::ranges::is_low;
 use crate::refusal::Refusal;
 use raft_group_step::GroupCall;
@@ -159,48 +159,42 @@ impl<'a> GroupFacts<'a> {
     }
 
     // Why the membership in force isn't changed so.
-    fn membership_refusal(
-        &self,
-        alloc: Global,
-        change: &ChangeMembers<u64, BasicNode>,
-    ) -> Result<Option<Refusal<u64>>, AllocError>
-        ensures { IfOk result (λ refusal. option_map reason_of refusal ≡ first_of_reasons (reasons_of_change (logged_or_none self.now.membership) change.now)) }
+    fn membership_refusal(&self, change: &ChangeMembers<u64, BasicNode>) -> Option<Refusal<u64>>
+        ensures { option_map reason_of result ≡ first_of_reasons (reasons_of_change (logged_or_none self.now.membership) change.now) }
     {
         match self.membership {
-            None => Ok(None),
-            Some((_, membership)) => change_refusal(alloc, membership, change),
+            None => None,
+            Some((_, membership)) => change_refusal(membership, change),
         }
     }
 
     // Why a change isn't taken.
     fn change_call_refusal(
         &self,
-        alloc: Global,
         change: &ChangeMembers<u64, BasicNode>,
         now: u64,
-    ) -> Result<Option<Refusal<u64>>, AllocError>
-        ensures reason { IfOk result (λ refusal. (token : ℕ) → option_map reason_of refusal ≡ call_reason_by self.now now (ChangeMembership change.now token)) }
-        ensures numbers { IfOk result (λ refusal. IfNone refusal (AreLow (now ∷ self.now.greatest_next_id ∷ self.now.end ∷ []))) }
-        ensures memory { OnErr result (first_of_reasons (early_reasons_by self.now now) ≡ None) }
+    ) -> Option<Refusal<u64>>
+        ensures reason { (token : ℕ) → option_map reason_of result ≡ call_reason_by self.now now (ChangeMembership change.now token) }
+        ensures numbers { IfNone result (AreLow (now ∷ self.now.greatest_next_id ∷ self.now.end ∷ [])) }
     {
         match self.early_refusal(now) {
-            Some(refusal) => Ok(Some(refusal)),
-            None => self.membership_refusal(alloc, change),
+            Some(refusal) => Some(refusal),
+            None => self.membership_refusal(change),
         }
     }
 
-    /// Why a call is refused, if it is: the group isn't there, or the reason of its kind. An error is
-    /// want of memory; it comes only where a leader's membership is to be changed and no reason
-    /// before the new membership's holds.
+    /// Why a call is refused, if it is: the group isn't there, or the reason of its kind. It takes
+    /// no memory, also where the membership is to be changed, so there is never an error: want of
+    /// memory can only come behind every refusal.
     pub fn call_refusal(
         &self,
-        alloc: Global,
+        _alloc: Global,
         call: &GroupCommand,
         now: u64,
     ) -> Result<Option<Refusal<u64>>, AllocError>
         ensures refusal { IfOk result (λ refusal. IsRefusalOf self.now (Call call.now now) refusal) }
         ensures numbers { IfOk result (λ refusal. IfNone refusal (AreLow (now ∷ self.now.greatest_next_id ∷ call_numbers self.now call.now))) }
-        ensures memory { OnErr result (IsChangeTried self.now now call.now) }
+        ensures memory { IsOk result }
     {
         if !self.present {
             return Ok(Some(Refusal::UnknownGroup));
@@ -209,9 +203,7 @@ impl<'a> GroupFacts<'a> {
             GroupCall::Initialize { membership } => Ok(self.initialize_refusal(membership, now)),
             GroupCall::Elect => Ok(self.elect_refusal(now)),
             GroupCall::Propose { command, .. } => Ok(self.propose_refusal(command, now)),
-            GroupCall::ChangeMembership { change, .. } => {
-                self.change_call_refusal(alloc, change, now)
-            }
+            GroupCall::ChangeMembership { change, .. } => Ok(self.change_call_refusal(change, now)),
             GroupCall::Heartbeat | GroupCall::Lost { .. } => Ok(self.leader_call_refusal(now)),
             GroupCall::TriggerSnapshot | GroupCall::TriggerPurge { .. } => {
                 Ok(self.trigger_refusal(now))

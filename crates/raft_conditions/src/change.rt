@@ -1,14 +1,10 @@
-//! When a change of the membership is refused.
-ghost use Rattle.std.specs.Prelude.{◌≡◌, ◌∷◌, [], IfOk, false, MatchOption, nat_eq, not, option_map};
+//! What a change makes of a membership.
+ghost use Rattle.std.specs.Prelude.{◌≡◌, ◌∷◌, [], IfOk, false, MatchOption, nat_eq, not};
 ghost use Rattle.std.specs.Ordering.{nat_cmp};
 ghost use Rattle.raft_quorums.specs.Nodes.{has_id};
 ghost use Rattle.raft_quorums.specs.Rising.{IsRisingByFirst};
-ghost use Rattle.raft_group_step.specs.Refusal.{change_reasons, first_of_reasons};
 ghost use Rattle.raft_group_step.specs.Values.{after_change, is_valid};
-ghost use Rattle.raft_conditions.specs.Reason.{reason_of};
 
-use crate::refusal::Refusal;
-use raft_messages::{is_valid, is_within_limits};
 use raft_state::{
     BasicNode, ChangeMembers, ChangeMembershipError, HasId, IdSet, Membership, NodeMap, VoterGroups,
 };
@@ -114,22 +110,6 @@ fn copied_change(change: &Change) -> Result<Change, AllocError>
     })
 }
 
-// Why the new membership doesn't follow the old one.
-fn step_refusal(
-    old: &Membership<u64, BasicNode>,
-    new: &Membership<u64, BasicNode>,
-) -> Option<Refusal<u64>>
-    ensures { option_map reason_of result ≡ first_of_reasons (change_reasons old.now new.now) }
-{
-    if !is_valid(new) || !is_within_limits(new) {
-        return Some(Refusal::MembershipRefused);
-    }
-    if old.get_joint_config() != new.get_joint_config() {
-        return Some(Refusal::VoterChange);
-    }
-    None
-}
-
 /// What the change makes of the membership (own): nothing where that wouldn't be valid. An error is
 /// want of memory.
 pub fn changed_membership(
@@ -147,20 +127,5 @@ pub fn changed_membership(
         Ok(new) => Ok(Some(new)),
         Err(ChangeMembershipError::Memory(refused)) => Err(refused),
         Err(_) => Ok(None),
-    }
-}
-
-/// Why the membership isn't changed so, if it isn't: the new one isn't valid or past a limit, or has
-/// other voter groups. An error is want of memory.
-pub(crate) fn change_refusal(
-    alloc: Global,
-    old: &Membership<u64, BasicNode>,
-    change: &Change,
-) -> Result<Option<Refusal<u64>>, AllocError>
-    ensures { IfOk result (λ refusal. option_map reason_of refusal ≡ first_of_reasons (change_reasons old.now (after_change old.now change.now))) }
-{
-    match changed_membership(alloc, old, change)? {
-        Some(new) => Ok(step_refusal(old, &new)),
-        None => Ok(Some(Refusal::MembershipRefused)),
     }
 }

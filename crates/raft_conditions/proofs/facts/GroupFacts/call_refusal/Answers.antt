@@ -1,9 +1,9 @@
 -- The reasons of a command and of a change, whatever their tokens.
-use Rattle.std.proofs.Common.{IfOk, sym, subst}
+use Rattle.std.proofs.Common.{sym, subst}
 use Rattle.raft_group_step.specs.GroupEvent.{Call, GroupCall}
-use Rattle.raft_group_step.specs.declared.group_call.GroupCall.TheVariants.{Propose}
+use Rattle.raft_group_step.specs.declared.group_call.GroupCall.TheVariants.{ChangeMembership, Propose}
 use Rattle.raft_conditions.specs.Facts.{IsRefusalOf}
-use Rattle.raft_conditions.proofs.FactLemmas.{call_judged, change_judged}
+use Rattle.raft_conditions.proofs.FactLemmas.{call_judged}
 use Rattle.raft_conditions.proofs.facts.GroupFacts.call_refusal.Goals as goal
 
 pub returns-in-Propose-clause-refusal : goal.returns-in-Propose-clause-refusal
@@ -15,7 +15,7 @@ returns-in-Propose-clause-refusal c =
 
 pub returns-in-ChangeMembership-clause-refusal : goal.returns-in-ChangeMembership-clause-refusal
 returns-in-ChangeMembership-clause-refusal c =
-    subst (λ (call : GroupCall). IfOk c.change_call_refusal.result (λ refusal. IsRefusalOf c.args.self.now (Call call c.args.now) refusal))
+    subst (λ (call : GroupCall). IsRefusalOf c.args.self.now (Call call c.args.now) c.change_call_refusal.result)
     (sym c.in-ChangeMembership.is)
-    (change_judged c.args.self.now c.args.now c.in-ChangeMembership.change c.in-ChangeMembership.token c.change_call_refusal.result
-    c.if-not-self.false c.change_call_refusal.ensures.reason)
+    (call_judged c.args.self.now c.args.now (ChangeMembership c.in-ChangeMembership.change c.in-ChangeMembership.token) c.change_call_refusal.result
+    c.if-not-self.false (c.change_call_refusal.ensures.reason c.in-ChangeMembership.token))
