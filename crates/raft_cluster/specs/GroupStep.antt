@@ -9,6 +9,7 @@ use Rattle.raft_membership.specs.Membership.{is_voter}
 use Rattle.raft_machines.specs.declared.fault.Fault.TheVariants.{NotLeader, UnknownGroup, GroupExists, NotAllowed, NotVoter, Membership as BadMembership, CommandTooLong}
 use Rattle.raft_machines.specs.declared.fault.MembershipFault.{MembershipFault}
 use Rattle.raft_machines.specs.Machine.{MachineRules}
+use Rattle.raft_group_step.specs.Limits.{command_limit}
 use Rattle.raft_group_step.specs.Values.{Entry, EntryPayload}
 use Rattle.raft_machines.specs.Fold.{fold_of}
 use Rattle.raft_machines.specs.MembershipFault.{membership_fault_of}
@@ -76,7 +77,7 @@ set_up_refusal own membership (Some entries) =
 abbrev pub command_refusal : List ℕ → Option (List Entry) → Option EventOutcome
 command_refusal command None = Some (Refused_by_node UnknownGroup)
 command_refusal command (Some entries) =
-    command_reasons (nat_lt 65536 (length command)) (length entries == 0)
+    command_reasons (nat_lt command_limit (length command)) (length entries == 0)
 
 abbrev pub call_refusal : ℕ → Option (List Entry) → ClusterEvent → Option EventOutcome
 call_refusal own list (AddGroup node group) = add_refusal list

@@ -7,8 +7,8 @@ ghost use Rattle.raft_cluster.specs.Cluster.{recorded_after, history_after, grou
 
 use crate::event::{ClusterEvent, Recorded, SentFrame, Told};
 use crate::node::Node;
-use raft_messages::GroupEntry;
 use raft_machines::StateMachine;
+use raft_messages::GroupEntry;
 use std::alloc::{AllocError, Global};
 use std::marker::Model;
 

@@ -3,8 +3,8 @@ ghost use Rattle.std.specs.Prelude.{◌≡◌, ◌∷◌, ◌++◌, [], length, 
 ghost use Rattle.raft_machines.specs.Fold.{fold_of};
 ghost use Rattle.raft_cluster.specs.GroupStep.{set_up_list, with_command};
 
-use raft_messages::GroupEntry;
 use raft_machines::StateMachine;
+use raft_messages::GroupEntry;
 use raft_state::{BasicNode, Bytes, EntryPayload, LeaderId, LogId, Membership};
 use std::alloc::{AllocError, Global};
 use std::marker::Model;

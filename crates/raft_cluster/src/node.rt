@@ -10,8 +10,8 @@ ghost use Rattle.raft_cluster.specs.declared.event.ClusterEvent.TheVariants.{Add
 use crate::event::{ClusterEvent, EventOutcome, Refusal, Told, ToldList, ToldRoom};
 use crate::group::Group;
 use crate::refusal::{command_refusal, set_up_refusal};
-use raft_messages::GroupEntry;
 use raft_machines::{Fault, StateMachine};
+use raft_messages::GroupEntry;
 use raft_state::{BasicNode, Bytes, Membership};
 use std::alloc::{AllocError, Global};
 use std::marker::Model;

@@ -6,8 +6,8 @@ ghost use Rattle.raft_membership.specs.Membership.{is_voter};
 ghost use Rattle.raft_cluster.specs.GroupStep.{set_up_refusal, command_refusal, names_other};
 
 use crate::event::{EventOutcome, Refusal};
-use raft_messages::{GroupEntry, MAX_COMMAND_BYTES};
 use raft_machines::{Fault, membership_fault};
+use raft_messages::{GroupEntry, MAX_COMMAND_BYTES};
 use raft_state::{BasicNode, Bytes, Membership};
 
 // Whether a voter group has this node.

@@ -1,6 +1,7 @@
 -- A leader that doesn't stop takes commands; requests are replied to; a candidate that was granted leads.
 use Rattle.std.specs.Prelude.{◌≡◌, ℕ, ◌≤◌, true, false, List, ◌∷◌, length, slice_get, Some, All}
 use Rattle.raft_quorums.specs.Quorum.{is_quorum}
+use Rattle.raft_group_step.specs.Limits.{command_limit}
 use Rattle.raft_group_step.specs.Values.{has_id}
 use Rattle.raft_group_step.specs.Message.{Message, MessageBody}
 use Rattle.raft_group_step.specs.GroupState.{GroupState, Lead, Leader, is_leader}
@@ -26,14 +27,14 @@ pub record IsTaken (n : ℕ) (s : GroupState) (command : List ℕ) (r : Recorded
   pub is_up : new.world.nodes n ≡ Up state
   pub has : HasTaken s state command
 
--- so does each node that leads, with a command of at most 65,536 bytes, where no number is at its end, unless the event stops
+-- so does each node that leads, with a command within its limit, where no number is at its end, unless the event stops
 -- or didn't come to its node
 abbrev pub CommandsAreTaken : MachineRules → List ℕ → ℕ → List Recorded → Replicas → Type 0
 CommandsAreTaken rules ids h history end =
     (r : Recorded) (old new : Replicas) → Happened rules ids h history end r old new
     → (n : ℕ) (s : GroupState) (lead : Lead) → old.world.nodes n ≡ Up s → s.role ≡ Leader lead
     → (command : List ℕ) (token now : ℕ) → r.event ≡ Ask n h (Propose command token) now
-    → length command ≤ 65536 → HasRoom s lead now
+    → length command ≤ command_limit → HasRoom s lead now
     → is_turned_away r.outcome ≡ false → is_stopped r.outcome ≡ false
     → IsTaken n s command r new
 

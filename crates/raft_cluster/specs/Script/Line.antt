@@ -69,9 +69,13 @@ abbrev pub said_by : List ℕ → Option Line
 said_by [] = Some Skipped
 said_by (byte ∷ bytes) = if byte == 35 then Some Skipped else said_by_words (words_of (byte ∷ bytes))
 
--- what a line says: nothing if it is longer than 65,536 bytes or no text
+-- the longest line has so many bytes
+abbrev pub longest_line : ℕ
+longest_line = 65536
+
+-- what a line says: nothing if it is longer or no text
 unfoldable pub line_of : List ℕ → Option Line
-line_of line = if nat_lt 65536 (length line) || not (is_utf8 line) then None else said_by line
+line_of line = if nat_lt longest_line (length line) || not (is_utf8 line) then None else said_by line
 
 -- the words after the one that a space ends
 abbrev pub words_after : Option (List ℕ) → List (List ℕ)
