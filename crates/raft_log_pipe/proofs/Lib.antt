@@ -8,3 +8,4 @@ pub mod BlockLemmas
 pub mod PurgeLemmas
 pub mod ReadLemmas
 pub mod GiveUpLemmas
+pub mod AloneLemmas

@@ -148,13 +148,13 @@ holds_next queue fs active next offset to d s h named stored =
 
 -- ---- what a crash leaves
 
-in_all : {X : Type 0} (P : X → Type 0) (xs : List X) (x : X) → AllByRecursion P xs → IsIn x xs → P x
+pub in_all : {X : Type 0} (P : X → Type 0) (xs : List X) (x : X) → AllByRecursion P xs → IsIn x xs → P x
 in_all P [] x all there = absurd there
 in_all P (y ∷ xs) x all (inl e) = subst P (sym e) all.0
 in_all P (y ∷ xs) x all (inr there) = in_all P xs x all.1 there
 
 -- a file's image is an image of the file, and nothing passes by chance in it
-image_there : (d : Disk) (image : Image) (id : FileId) (fd : ℕ) → IsNamedSo d id fd → IsImage d image → IsFileImage (d.file fd) (image fd)
+pub image_there : (d : Disk) (image : Image) (id : FileId) (fd : ℕ) → IsNamedSo d id fd → IsImage d image → IsFileImage (d.file fd) (image fd)
 image_there d image id fd named are = in_all (λ (e : List ℕ × ℕ). IsFileImage (d.file e.1) (image e.1)) d.names (named.0, fd) are named.1
 
 genuine_there : (d : Disk) (image : Image) (id : FileId) (fd : ℕ) → IsNamedSo d id fd → IsGenuineImage d image → IsGenuine id (d.file fd) (image fd)
@@ -178,7 +178,7 @@ older_read queue d image f ks are genuine o = by_stored o.stored
         let left = image_there d image (id_of queue f.seq) f.handle.0 o.named are in
         inr (blank.none, omega (arith, left.no_longer, blank.short))
 
-olders_read : (queue : LogQueue) (d : Disk) (image : Image) (fs : List File) (bs : Numbered) → IsImage d image → IsGenuineImage d image → AreOlder queue d fs bs → ImageReads queue fs image bs
+pub olders_read : (queue : LogQueue) (d : Disk) (image : Image) (fs : List File) (bs : Numbered) → IsImage d image → IsGenuineImage d image → AreOlder queue d fs bs → ImageReads queue fs image bs
 olders_read queue d image [] bs are genuine os = os
 olders_read queue d image (f ∷ fs) bs are genuine (ks, rest, is, o, os) = (ks, rest, is, older_read queue d image f ks are genuine o, olders_read queue d image fs rest are genuine os)
 

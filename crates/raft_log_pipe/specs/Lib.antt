@@ -6,3 +6,4 @@ pub mod Blocks
 pub mod Appending
 pub mod Found
 pub mod Purging
+pub mod Alone

@@ -4,6 +4,7 @@ ghost use Rattle.std.specs.Prelude.{◌≡◌, ◌⊎◌, ◌+◌, ◌-◌, ◌<
 ghost use Rattle.raft_log_records.specs.Spelling.{AreItems};
 ghost use Rattle.raft_log_disk.specs.Cause.{UnlessRefused};
 ghost use Rattle.raft_log_file.specs.Writer.{IsWriter};
+ghost use Rattle.raft_log_pipe.specs.Alone.{IsAlone, IsNearlyAlone};
 ghost use Rattle.raft_log_pipe.specs.Pipe.{IsPipe, IsPopulated, Holds, Leaves, Numbered};
 ghost use Rattle.raft_log_pipe.specs.Appending.{IsHandle, Appends, LeavesAppended, Stands};
 ghost use Rattle.raft_log_pipe.specs.Blocks.{KeepsFiles};
@@ -24,6 +25,8 @@ impl SinglePipe {
         requires items { AreItems batch.old.items }
         ensures pipe { IsPipe self.new (F.disk files.new) }
         ensures same { (self.new.active ≡ self.old.active) × (self.new.older ≡ self.old.older) × (self.new.queue ≡ self.old.queue) }
+        ensures paths { self.new.paths ≡ self.old.paths }
+        ensures names { (F.disk files.new).names ≡ (F.disk files.old).names }
         ensures batch { (batch.new.items ≡ batch.old.items) × IsPopulated batch.new }
         ensures ok { IfOk result (λ h. IsHandle self.old batch.old.items h × ((synced : Numbered) (unsynced : Numbered) → Holds self.old (F.disk files.old) synced unsynced
             → Holds self.new (F.disk files.new) synced (unsynced ++ (self.old.active.seq, batch.old.items) ∷ []))) }
@@ -54,6 +57,9 @@ impl SinglePipe {
         ensures pipe { OnOk result (IsPipe self.new (F.disk files.new)) }
         ensures writer { IsWriter self.new.writer (F.disk files.new) }
         ensures queue { self.new.queue ≡ self.old.queue }
+        ensures paths { self.new.paths ≡ self.old.paths }
+        ensures alone { OnOk result (IsAlone self.old (F.disk files.old) → IsAlone self.new (F.disk files.new)) }
+        ensures nearly { OnErr result (IsAlone self.old (F.disk files.old) → IsNearlyAlone self.new (F.disk files.new)) }
         ensures files { OnOk result (KeepsFiles self.old self.new) }
         ensures ok { OnOk result ((synced : Numbered) (unsynced : Numbered) → Holds self.old (F.disk files.old) synced unsynced
             → Holds self.new (F.disk files.new) synced unsynced ⊎ Holds self.new (F.disk files.new) (synced ++ unsynced) []) }
@@ -79,6 +85,9 @@ impl SinglePipe {
         ensures pipe { OnOk result (IsPipe self.new (F.disk files.new)) }
         ensures writer { IsWriter self.new.writer (F.disk files.new) }
         ensures queue { self.new.queue ≡ self.old.queue }
+        ensures paths { self.new.paths ≡ self.old.paths }
+        ensures alone { OnOk result (IsAlone self.old (F.disk files.old) → IsAlone self.new (F.disk files.new)) }
+        ensures nearly { OnErr result (IsAlone self.old (F.disk files.old) → IsNearlyAlone self.new (F.disk files.new)) }
         ensures batch { batch.new.items ≡ batch.old.items }
         ensures files { OnOk result (KeepsFiles self.old self.new) }
         ensures ok { IfOk result (λ h. Appends self.old (F.disk files.old) self.new (F.disk files.new) h.id.seq batch.old.items) }
@@ -107,6 +116,9 @@ impl SinglePipe {
         ensures pipe { OnOk result (IsPipe self.new (F.disk files.new)) }
         ensures writer { IsWriter self.new.writer (F.disk files.new) }
         ensures queue { self.new.queue ≡ self.old.queue }
+        ensures paths { self.new.paths ≡ self.old.paths }
+        ensures alone { OnOk result (IsAlone self.old (F.disk files.old) → IsAlone self.new (F.disk files.new)) }
+        ensures nearly { OnErr result (IsAlone self.old (F.disk files.old) → IsNearlyAlone self.new (F.disk files.new)) }
         ensures batch { batch.new.items ≡ batch.old.items }
         ensures files { OnOk result (KeepsFiles self.old self.new) }
         ensures ok { IfOk result (λ h. Appends self.old (F.disk files.old) self.new (F.disk files.new) h.id.seq batch.old.items) }
@@ -132,6 +144,8 @@ impl SinglePipe {
         requires { IsPipe self.old (F.disk files.old) }
         ensures writer { IsWriter self.new.writer (F.disk files.new) }
         ensures queue { self.new.queue ≡ self.old.queue }
+        ensures paths { self.new.paths ≡ self.old.paths }
+        ensures nearly { IsAlone self.old (F.disk files.old) → IsNearlyAlone self.new (F.disk files.new) }
         ensures leaves { (synced : Numbered) (unsynced : Numbered) → Holds self.old (F.disk files.old) synced unsynced → Leaves self.new (F.disk files.new) synced unsynced }
     {
         if let Err(error) = self.finish(files) {

@@ -1,7 +1,8 @@
 //! Files of a pipe, and where a new one goes.
 
-ghost use Rattle.std.specs.Prelude.{◌≡◌, ◌<◌, ◌+◌, ◌-◌, ◌^◌, length, IfOk, IfSome};
+ghost use Rattle.std.specs.Prelude.{◌≡◌, ◌<◌, ◌+◌, ◌-◌, ◌^◌, length, map, string_bytes, IfOk, IfSome};
 ghost use Rattle.raft_log_files.specs.FileName.{IsFileSeq};
+ghost use Rattle.raft_log_pipe.specs.Alone.{IsMadeIn};
 ghost use Rattle.raft_log_pipe.specs.Pipe.{IsLast};
 ghost use Rattle.raft_log_pipe.specs.Placing.{first_with_room, path_chosen, IsCreated};
 
@@ -79,6 +80,7 @@ pub(crate) fn new_file<F: FileSystem>(
     requires number { (0 < id.seq) × IsFileSeq id.seq }
     requires last { IsLast (F.disk files.old) paths.now id.queue (id.seq - 1) }
     ensures created { IsCreated (F.disk files.old) (F.disk files.new) id result }
+    ensures made { IsMadeIn (F.disk files.old) (F.disk files.new) (map string_bytes paths.now) id result }
     ensures file { IfOk result (λ f. (f.seq ≡ id.seq) × (f.format ≡ format) × (f.path_id ≡ path_chosen (F.room files.old) target_size paths.now)) }
     ensures within { IfOk result (λ f. f.path_id < length paths.now) }
 {

@@ -1,6 +1,7 @@
 //! Opening the files of a queue, and a queue that has none yet.
 
-ghost use Rattle.std.specs.Prelude.{◌≡◌, ◌<◌, ◌++◌, ◌∷◌, [], length, IfOk, OnErr};
+ghost use Rattle.std.specs.Prelude.{◌≡◌, ◌<◌, ◌++◌, ◌∷◌, [], length, map, string_bytes, IfOk, OnErr};
+ghost use Rattle.raft_log_pipe.specs.Alone.{AreDistinct, AreLast, IsAlone, IsVacant};
 ghost use Rattle.raft_log_pipe.specs.Begun.{Changes};
 ghost use Rattle.raft_log_pipe.specs.Found.{IsFound, IsResumed, KeepsButHeader};
 ghost use Rattle.raft_log_pipe.specs.Pipe.{IsPipe, IsPlain, IsLast, Holds, Numbered};
@@ -46,6 +47,8 @@ impl SinglePipe {
         ensures pipe { IfOk result (λ p. IsPipe p (F.disk files.new)) }
         ensures files { IfOk result (λ p. (p.queue ≡ queue) × (p.older.items ++ p.active ∷ [] ≡ found.items)) }
         ensures holds { IfOk result (λ p. (bs : Numbered) → IsFound queue paths.items (F.disk files.old) found.items bs → Holds p (F.disk files.new) bs []) }
+        ensures paths { IfOk result (λ p. p.paths ≡ paths) }
+        ensures alone { IfOk result (λ p. AreLast (F.disk files.old).names (map string_bytes paths.items) queue found.items → IsAlone p (F.disk files.new)) }
         ensures changes { IfOk result (λ p. Changes (F.disk files.old) (F.disk files.new) p.active.handle.0) }
         ensures err { OnErr result (KeepsButHeader (F.disk files.old) (F.disk files.new) found.items) }
     {
@@ -78,6 +81,8 @@ impl SinglePipe {
         requires plain { IsPlain default_format }
         requires none { IsLast (F.disk files.old) paths.items queue 0 }
         ensures pipe { IfOk result (λ p. IsPipe p (F.disk files.new)) }
+        ensures paths { IfOk result (λ p. p.paths ≡ paths) }
+        ensures alone { IfOk result (λ p. AreDistinct (map string_bytes paths.items) → IsVacant (F.disk files.old).names (map string_bytes paths.items) queue → IsAlone p (F.disk files.new)) }
         ensures holds { IfOk result (λ p. Holds p (F.disk files.new) [] []) }
         ensures first { IfOk result (λ p. (p.queue ≡ queue) × (p.active.seq ≡ 1) × (p.older.items ≡ [])) }
     {

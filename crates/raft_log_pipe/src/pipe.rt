@@ -65,6 +65,8 @@ impl SinglePipe {
         requires { IsPipe self.old (F.disk files.old) }
         ensures pipe { IsPipe self.new (F.disk files.new) }
         ensures same { (self.new.active ≡ self.old.active) × (self.new.older ≡ self.old.older) × (self.new.queue ≡ self.old.queue) }
+        ensures paths { self.new.paths ≡ self.old.paths }
+        ensures names { (F.disk files.new).names ≡ (F.disk files.old).names }
         ensures ok { OnOk result ((synced : Numbered) (unsynced : Numbered) → Holds self.old (F.disk files.old) synced unsynced → Holds self.new (F.disk files.new) (synced ++ unsynced) []) }
         ensures err { OnErr result ((synced : Numbered) (unsynced : Numbered) → Holds self.old (F.disk files.old) synced unsynced → Holds self.new (F.disk files.new) synced unsynced) }
     {

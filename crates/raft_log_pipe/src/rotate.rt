@@ -4,6 +4,7 @@ ghost use Rattle.std.specs.Prelude.{◌≡◌, ◌+◌, ◌-◌, ◌<◌, ◌++�
 ghost use Rattle.raft_log_file.specs.Writer.{IsWriter};
 ghost use Rattle.raft_log_files.specs.FileName.{IsFileSeq};
 ghost use Rattle.raft_log_pipe.specs.Pipe.{IsPipe, IsPlain, Holds, Leaves, Numbered};
+ghost use Rattle.raft_log_pipe.specs.Alone.{IsAlone, IsNearlyAlone};
 ghost use Rattle.raft_log_pipe.specs.Begun.{IsBegun};
 
 use crate::file::{File, new_file};
@@ -38,6 +39,8 @@ impl SinglePipe {
         requires { IsPipe self.old (F.disk files.old) }
         ensures pipe { IsPipe self.new (F.disk files.new) }
         ensures same { (self.new.active ≡ self.old.active) × (self.new.older ≡ self.old.older) × (self.new.queue ≡ self.old.queue) }
+        ensures paths { self.new.paths ≡ self.old.paths }
+        ensures names { (F.disk files.new).names ≡ (F.disk files.old).names }
         ensures ok { OnOk result ((synced : Numbered) (unsynced : Numbered) → Holds self.old (F.disk files.old) synced unsynced → Holds self.new (F.disk files.new) (synced ++ unsynced) []) }
         ensures err { OnErr result ((synced : Numbered) (unsynced : Numbered) → Holds self.old (F.disk files.old) synced unsynced → Leaves self.new (F.disk files.new) synced unsynced) }
     {
@@ -51,6 +54,8 @@ impl SinglePipe {
         ensures pipe { IsPipe self.new (F.disk files.new) }
         ensures number { OnOk result (IsFileSeq (self.old.active.seq + 1)) }
         ensures same { (self.new.active ≡ self.old.active) × (self.new.older ≡ self.old.older) × (self.new.queue ≡ self.old.queue) }
+        ensures paths { self.new.paths ≡ self.old.paths }
+        ensures names { (F.disk files.new).names ≡ (F.disk files.old).names }
         ensures ok { OnOk result ((synced : Numbered) (unsynced : Numbered) → Holds self.old (F.disk files.old) synced unsynced → Holds self.new (F.disk files.new) (synced ++ unsynced) []) }
         ensures err { OnErr result ((synced : Numbered) (unsynced : Numbered) → Holds self.old (F.disk files.old) synced unsynced → Leaves self.new (F.disk files.new) synced unsynced) }
     {
@@ -68,6 +73,9 @@ impl SinglePipe {
         ensures writer { IsWriter self.new.writer (F.disk files.new) }
         ensures next { OnOk result ((self.new.active.seq ≡ self.old.active.seq + 1) × (self.new.older.items ≡ self.old.older.items ++ self.old.active ∷ [])) }
         ensures queue { self.new.queue ≡ self.old.queue }
+        ensures paths { self.new.paths ≡ self.old.paths }
+        ensures alone { OnOk result (IsAlone self.old (F.disk files.old) → IsAlone self.new (F.disk files.new)) }
+        ensures nearly { OnErr result (IsAlone self.old (F.disk files.old) → IsNearlyAlone self.new (F.disk files.new)) }
         ensures ok { OnOk result ((synced : Numbered) → Holds self.old (F.disk files.old) synced [] → Holds self.new (F.disk files.new) synced []) }
         ensures err { OnErr result ((synced : Numbered) → Holds self.old (F.disk files.old) synced [] → Leaves self.new (F.disk files.new) synced []) }
     {
@@ -89,6 +97,9 @@ impl SinglePipe {
         ensures writer { IsWriter self.new.writer (F.disk files.new) }
         ensures next { OnOk result ((self.new.active.seq ≡ self.old.active.seq + 1) × (self.new.older.items ≡ self.old.older.items ++ self.old.active ∷ [])) }
         ensures queue { self.new.queue ≡ self.old.queue }
+        ensures paths { self.new.paths ≡ self.old.paths }
+        ensures alone { OnOk result (IsAlone self.old (F.disk files.old) → IsAlone self.new (F.disk files.new)) }
+        ensures nearly { OnErr result (IsAlone self.old (F.disk files.old) → IsNearlyAlone self.new (F.disk files.new)) }
         ensures ok { OnOk result ((synced : Numbered) (unsynced : Numbered) → Holds self.old (F.disk files.old) synced unsynced → Holds self.new (F.disk files.new) (synced ++ unsynced) []) }
         ensures err { OnErr result ((synced : Numbered) (unsynced : Numbered) → Holds self.old (F.disk files.old) synced unsynced → Leaves self.new (F.disk files.new) synced unsynced) }
     {

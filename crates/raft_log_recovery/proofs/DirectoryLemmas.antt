@@ -6,17 +6,13 @@ use Rattle.raft_log_disk.specs.Text.{Text}
 use Rattle.raft_log_disk.specs.Disk.{Disk, IsFile, IsIn}
 use Rattle.raft_log_disk.specs.Cause.{Meter}
 use Rattle.raft_log_files.specs.declared.error.Error.{Error}
+use Rattle.raft_log_pipe.proofs.AloneLemmas.{in_either}
 use Rattle.raft_log_recovery.specs.Scan.{AllMade, AnyFile, IsScanFault, OnlyMakes}
 
 in_left : (x : Text) (xs ys : List Text) → IsIn x xs → IsIn x (xs ++ ys)
 in_left x [] ys there = absurd there
 in_left x (y ∷ xs) ys (inl is) = inl is
 in_left x (y ∷ xs) ys (inr there) = inr (in_left x xs ys there)
-
-in_either : (x : Text) (xs ys : List Text) → IsIn x (xs ++ ys) → IsIn x xs ⊎ IsIn x ys
-in_either x [] ys there = inr there
-in_either x (y ∷ xs) ys (inl is) = inl (inl is)
-in_either x (y ∷ xs) ys (inr there) = elim (in_either x xs ys there) [ inl a ↦ inl (inr a) | inr b ↦ inr b ]
 
 -- no directory is made
 pub makes_none : (ds : List Text) (d e : Disk) → e ≡ d → OnlyMakes ds d e

@@ -24,7 +24,7 @@ use Rattle.raft_log_recovery.specs.declared.scan.FileKind.TheVariants.{Log, Rese
 use Rattle.raft_log_recovery.specs.declared.scan.FileName.{FileName}
 use Rattle.raft_log_recovery.specs.Queue.{AreNumbered, IsFollowed}
 use Rattle.raft_log_recovery.specs.Scan.{AreFound, AreInDirectories, files_named, seq_at, seq_in, suffix_in}
-use Rattle.raft_log_recovery.proofs.QueueLemmas.{found_in}
+use Rattle.raft_log_pipe.proofs.AloneLemmas.{found_in, in_first, in_second}
 use Rattle.raft_log_recovery.proofs.ScanLemmas.{named_so, some_suffix}
 
 -- ---- all of a list
@@ -127,41 +127,32 @@ suffix_slash (Log Append) = refl
 suffix_slash (Log Rewrite) = refl
 suffix_slash Reserved = refl
 
-name_slash : (kind : FileKind) (n : ℕ) (name : Text) → IsFileSeq n → name ≡ suffixed n (suffix_in kind) → has_slash name ≡ false
+pub name_slash : (kind : FileKind) (n : ℕ) (name : Text) → IsFileSeq n → name ≡ suffixed n (suffix_in kind) → has_slash name ≡ false
 name_slash kind n name below is =
     let s = name_split n (suffix_in kind) name below is in
     ap has_slash (sym (take-append-drop 16 name)) ∙ list_any-append (λ (b : ℕ). b == 47) (take 16 name) (drop 16 name)
     ∙ (λ i. digits_slash (take 16 name) s.0.front i || (ap has_slash s.0.behind ∙ suffix_slash kind) i)
 
-in_both : {X : Type 0} (x : X) (xs ys : List X) → IsIn x ys → IsIn x (xs ++ ys)
-in_both x [] ys there = there
-in_both x (y ∷ xs) ys there = inr (in_both x xs ys there)
-
-in_one : {X : Type 0} (x : X) (xs ys : List X) → IsIn x xs → IsIn x (xs ++ ys)
-in_one x [] ys there = absurd there
-in_one x (y ∷ xs) ys (inl is) = inl is
-in_one x (y ∷ xs) ys (inr there) = inr (in_one x xs ys there)
-
 -- a file of a directory is listed there
-in_listed : (es : List (Text × ℕ)) (directory name path : Text) (fd : ℕ) → name_in directory path ≡ Some name → IsIn (path, fd) es → IsIn name (listed es directory)
+pub in_listed : (es : List (Text × ℕ)) (directory name path : Text) (fd : ℕ) → name_in directory path ≡ Some name → IsIn (path, fd) es → IsIn name (listed es directory)
 in_listed [] directory name path fd named there = absurd there
 in_listed (e ∷ es) directory name path fd named (inl is) =
     let same : name_in directory e.0 ≡ Some name = ap (λ (x : Text × ℕ). name_in directory x.0) (sym is) ∙ named in
     subst (λ (o : Option Text). IsIn name (option_to_list o ++ listed es directory)) (sym same) (inl refl)
-in_listed (e ∷ es) directory name path fd named (inr there) = in_both name (option_to_list (name_in directory e.0)) (listed es directory) (in_listed es directory name path fd named there)
+in_listed (e ∷ es) directory name path fd named (inr there) = in_second name (option_to_list (name_in directory e.0)) (listed es directory) (in_listed es directory name path fd named there)
 
-contained : {X : Type 0} (x : X) (xs : List X) → IsIn x xs → Contains xs x
+pub contained : {X : Type 0} (x : X) (xs : List X) → IsIn x xs → Contains xs x
 contained x [] there = absurd there
 contained x (y ∷ xs) (inl is) = (0, omega arith, sym is)
 contained x (y ∷ xs) (inr there) = let c = contained x xs there in (suc c.0, omega (arith, c.1), c.2)
 
-in_contained : {X : Type 0} (x : X) (xs : List X) → Contains xs x → IsIn x xs
+pub in_contained : {X : Type 0} (x : X) (xs : List X) → Contains xs x → IsIn x xs
 in_contained x [] c = absurd (omega (arith, c.1))
 in_contained x (y ∷ xs) (zero, within, is) = inl (sym is)
 in_contained x (y ∷ xs) (suc k, within, is) = inr (in_contained x xs (k, omega (arith, within), is))
 
 -- and is among the files of these names
-in_files : (kind : FileKind) (path_id n : ℕ) (name : Text) (names : List Text) → seq_in kind name ≡ Some n → IsIn name names → IsIn (record { seq = n; path_id = path_id }) (files_named kind path_id names)
+pub in_files : (kind : FileKind) (path_id n : ℕ) (name : Text) (names : List Text) → seq_in kind name ≡ Some n → IsIn name names → IsIn (record { seq = n; path_id = path_id }) (files_named kind path_id names)
 in_files kind path_id n name [] is there = absurd there
 in_files kind path_id n name (other ∷ names) is (inl same) =
     let said : seq_in kind other ≡ Some n = ap (seq_in kind) (sym same) ∙ is in
@@ -184,10 +175,10 @@ path_found d queue seq path_id fd (dir ∷ dirs) found path below (names, others
     let listed_in : IsIn name (listed d.names directory) = in_listed d.names directory name path fd named (found_in d.names path fd there) in
     let among : IsIn name names = in_contained name names (Contains-permutation (listed d.names directory) names name same (contained name (listed d.names directory) listed_in)) in
     let file : FileName = record { seq = seq; path_id = path_id } in
-    (file, subst (IsIn file) (sym is) (in_one file (files_named (Log queue) path_id names) others (in_files (Log queue) path_id seq name names (named_so (Log queue) seq name below refl) among)), refl)
+    (file, subst (IsIn file) (sym is) (in_first file (files_named (Log queue) path_id names) others (in_files (Log queue) path_id seq name names (named_so (Log queue) seq name below refl) among)), refl)
 path_found d queue seq path_id fd (dir ∷ dirs) found path below (names, others, same, is, rest) (inr has) there =
     let f = path_found d queue seq (path_id + 1) fd dirs others path below rest has there in
-    (f.0, subst (IsIn f.0) (sym is) (in_both f.0 (files_named (Log queue) path_id names) others f.1), f.2)
+    (f.0, subst (IsIn f.0) (sym is) (in_second f.0 (files_named (Log queue) path_id names) others f.1), f.2)
 
 -- so none of them has a greater number than all that were found
 pub found_last : (d : Disk) (queue : LogQueue) (dirs : List (String Global)) (found : List FileName) (bound : ℕ) (are : AreFound d (Log queue) (map string_bytes dirs) found) → ((f : FileName) → IsIn f are.sorted → f.seq ≤ bound) → IsLast d dirs queue bound

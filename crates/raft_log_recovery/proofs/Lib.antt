@@ -9,3 +9,7 @@ pub mod TurnLemmas
 pub mod FoundLemmas
 pub mod SpelledLemmas
 pub mod OpeningLemmas
+pub mod RunLemmas
+pub mod ImageLemmas
+pub mod AloneLemmas
+pub mod CrashLemmas

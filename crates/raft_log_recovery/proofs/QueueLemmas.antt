@@ -18,6 +18,7 @@ use Rattle.raft_log_files.specs.FileName.{IsFileSeq, log_file_name}
 use Rattle.raft_log_file.specs.Reading.{FileBatch, Reading, file_reading}
 use Rattle.raft_log_pipe.specs.declared.file.File.{File}
 use Rattle.raft_log_pipe.specs.Pipe.{IsNamedSo, id_of}
+use Rattle.raft_log_pipe.proofs.AloneLemmas.{found_in, in_either, in_first, in_second}
 use Rattle.raft_log_pipe.proofs.NextLemmas.{path_says}
 use Rattle.raft_log_pipe.proofs.OpenLemmas.{named_apart}
 use Rattle.raft_log_pipe.proofs.PipeLemmas.{changes, file_beside, file_there}
@@ -29,15 +30,6 @@ use Rattle.raft_log_recovery.specs.Queue.{AnyRefused, AreLeft, AreNumbered, AreO
 use Rattle.raft_log_recovery.proofs.RepairLemmas.{batches_by, format_front, leaves_same}
 
 -- ---- names
-
-same_path : (b : Bool) (e : Text × ℕ) (es : List (Text × ℕ)) (path : Text) (fd : ℕ) → same_text e.0 path ≡ b → (fd_of es path ≡ Some fd → IsIn (path, fd) es) → cond b (Some e.1) (fd_of es path) ≡ Some fd → IsIn (path, fd) (e ∷ es)
-same_path true e es path fd same next there = let n : e.1 ≡ fd = cc in inl (λ i. (sym ((bytes_decides e.0 path).0 same) i, sym n i))
-same_path false e es path fd same next there = inr (next there)
-
--- a path that is found is among the names
-pub found_in : (es : List (Text × ℕ)) (path : Text) (fd : ℕ) → fd_of es path ≡ Some fd → IsIn (path, fd) es
-found_in [] path fd there = absurd cc
-found_in (e ∷ es) path fd there = same_path (same_text e.0 path) e es path fd refl (found_in es path fd) there
 
 -- a file that was found is named so
 pub file_named : (d : Disk) (directories : List Text) (queue : LogQueue) (name : FileName) (fd : ℕ) → IsFileSeq name.seq → IsFileOf d directories queue name fd → IsNamedSo d (id_of queue name.seq) fd
@@ -54,20 +46,6 @@ in_middle : (before behind : List FileName) (name : FileName) → IsIn name (bef
 in_middle [] behind name = inl refl
 in_middle (n ∷ before) behind name = inr (in_middle before behind name)
 
-in_either : (before behind : List FileName) (name : FileName) → IsIn name (before ++ behind) → IsIn name before ⊎ IsIn name behind
-in_either [] behind name there = inr there
-in_either (n ∷ before) behind name (inl is) = inl (inl is)
-in_either (n ∷ before) behind name (inr there) = ⊎_elim (λ a. inl (inr a)) (λ b. inr b) (in_either before behind name there)
-
-in_front : (before behind : List FileName) (name : FileName) → IsIn name before → IsIn name (before ++ behind)
-in_front [] behind name there = absurd there
-in_front (n ∷ before) behind name (inl is) = inl is
-in_front (n ∷ before) behind name (inr there) = inr (in_front before behind name there)
-
-in_back : (before behind : List FileName) (name : FileName) → IsIn name behind → IsIn name (before ++ behind)
-in_back [] behind name there = there
-in_back (n ∷ before) behind name there = inr (in_back before behind name there)
-
 -- numbers rise
 later : (count : ℕ) (name : FileName) (names : List FileName) → IsFollowed name names → AreNumbered count names → (other : FileName) → IsIn other names → name.seq < other.seq
 later count name [] follows are other there = absurd there
@@ -77,7 +55,7 @@ later count name (n ∷ names) follows are other (inr there) = omega (arith, fol
 earlier : (count : ℕ) (before behind : List FileName) → AreNumbered count (before ++ behind) → (other name : FileName) → IsIn other before → IsIn name behind → other.seq < name.seq
 earlier count [] behind are other name there here = absurd there
 earlier count (n ∷ before) behind are other name (inl is) here =
-    omega (arith, ap (λ (f : FileName). f.seq) is, later count n (before ++ behind) are.2 are.3 name (in_back before behind name here))
+    omega (arith, ap (λ (f : FileName). f.seq) is, later count n (before ++ behind) are.2 are.3 name (in_second name before behind here))
 earlier count (n ∷ before) behind are other name (inr there) here = earlier count before behind are.3 other name there here
 
 pub number_of : (count : ℕ) (names : List FileName) → AreNumbered count names → (name : FileName) → IsIn name names → IsFileSeq name.seq × (name.path_id < count)
@@ -90,8 +68,8 @@ apart : (d : Disk) (directories : List Text) (queue : LogQueue) (count : ℕ) (b
     → IsFileOf d directories queue other n → IsFileOf d directories queue name fd → n ≢ fd
 apart d directories queue count before behind other name n fd named are there here one two same =
     let below = earlier count before behind are other name there here in
-    let first = file_named d directories queue other n (number_of count (before ++ behind) are other (in_front before behind other there)).0 one in
-    let last = file_named d directories queue name fd (number_of count (before ++ behind) are name (in_back before behind name here)).0 two in
+    let first = file_named d directories queue other n (number_of count (before ++ behind) are other (in_first other before behind there)).0 one in
+    let last = file_named d directories queue name fd (number_of count (before ++ behind) are name (in_second name before behind here)).0 two in
     absurd (omega (arith, below, named_apart d queue other.seq name.seq fd named (subst (IsNamedSo d (id_of queue other.seq)) same first) last))
 
 -- ---- what is whole
@@ -172,7 +150,7 @@ changed_more directories queue old cur new done name fd state only there is = re
   next = ap (λ (d : Disk). d.next) is ∙ only.next;
   files = λ n none.
       file_beside cur new fd n (changes cur new fd state is) (λ same. none name (in_middle done [] name) (subst (IsFileOf old directories queue name) (sym same) there))
-      ∙ only.files n (λ other among. none other (in_front done (name ∷ []) other among));
+      ∙ only.files n (λ other among. none other (in_first other done (name ∷ []) among));
 }
 
 pub changed_none : (directories : List Text) (queue : LogQueue) (d e : Disk) → e ≡ d → OnlyChanges directories queue [] d e
@@ -188,7 +166,7 @@ changed_front directories queue old new done behind only = record {
   directories_stay = only.directories_stay;
   names_stay = only.names_stay;
   next = only.next;
-  files = λ fd none. only.files fd (λ other among. none other (in_front done behind other among));
+  files = λ fd none. only.files fd (λ other among. none other (in_first other done behind among));
 }
 
 -- a step recovers its file, which was as it was before
@@ -301,7 +279,7 @@ left_same id f g same rest = subst (λ (x : FileState). LeavesBatches id x (batc
 -- between two files
 pub left_between : (directories : List Text) (queue : LogQueue) (count : ℕ) (old cur : Disk) (done behind : List FileName) (fs : List File) → IsNamed old → AreNumbered count (done ++ behind) → AreRecovered directories queue old cur done fs
     → AreLeft directories queue (done ++ behind) old cur
-left_between directories queue count old cur done behind fs named are so name fd among there rest = elim (in_either done behind name among) [
+left_between directories queue count old cur done behind fs named are so name fd among there rest = elim (in_either name done behind among) [
   | inl before ↦ left_done directories queue old cur done fs name fd so before there
   | inr after ↦ left_same (id_of queue name.seq) (old.file fd) (cur.file fd) (untouched directories queue count old cur done behind name fd named are so.only after there) rest
 ]
@@ -321,7 +299,7 @@ kept_behind directories queue count old cur new done behind name fd state named 
 pub left_within : (directories : List Text) (queue : LogQueue) (count : ℕ) (old cur new : Disk) (done behind : List FileName) (fs : List File) (name : FileName) (fd : ℕ) → IsNamed old → AreNumbered count (done ++ name ∷ behind)
     → AreRecovered directories queue old cur done fs → IsFileOf cur directories queue name fd → IsStopped cur new (id_of queue name.seq) fd → AreLeft directories queue (done ++ name ∷ behind) old new
 left_within directories queue count old cur new done behind fs name fd named are so is_cur stopped other n among there rest =
-    elim (in_either done (name ∷ behind) other among) [
+    elim (in_either other done (name ∷ behind) among) [
       | inl before ↦ subst (λ (x : FileState). LeavesBatches (id_of queue other.seq) x (batches_in (id_of queue other.seq) (old.file n).bytes))
           (sym (beside (apart old directories queue count done (name ∷ behind) other name n fd named are before (inl refl) there is_old))) (left_done directories queue old cur done fs other n so before there)
       | inr after ↦ by_place after
@@ -362,7 +340,7 @@ same_tails x y xs ys is = (cc, cc)
 
 -- what lies behind a place lies behind each place before it
 split_in : (done behind before tail : List FileName) (x : FileName) → done ++ behind ≡ before ++ tail → length done ≤ length before → IsIn x tail → IsIn x behind
-split_in [] behind before tail x is le there = subst (IsIn x) (sym is) (in_back before tail x there)
+split_in [] behind before tail x is le there = subst (IsIn x) (sym is) (in_second x before tail there)
 split_in (d ∷ done) behind [] tail x is le there = absurd (omega (arith, le))
 split_in (d ∷ done) behind (b ∷ before) tail x is le there = split_in done behind before tail x (same_tails d b (done ++ behind) (before ++ tail) is).1 (omega (arith, le)) there
 

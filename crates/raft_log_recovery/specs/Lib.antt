@@ -3,3 +3,4 @@ pub mod Repair
 pub mod Replay
 pub mod Queue
 pub mod Opening
+pub mod Crashed

@@ -3,6 +3,7 @@
 
 mod builder;
 mod directories;
+mod laws;
 mod machine;
 mod opening;
 mod queue;
@@ -12,6 +13,7 @@ mod repair;
 mod scan;
 
 pub use builder::DualPipesBuilder;
+pub use laws::{any_fault_is_tolerated, crashed_pipes_are_found, one_directory_is_enough};
 pub use machine::{DefaultMachineFactory, Factory, NewMachine, ReplayMachine};
 pub use recover::recover_file;
 pub use scan::{FileKind, FileName};

@@ -3,6 +3,7 @@
 ghost use Rattle.std.specs.Prelude.{◌≡◌, ◌++◌, ◌==◌, List, map, string_bytes, IfOk, IsErr, OnErr};
 ghost use Rattle.std.specs.List.{list_all};
 ghost use Rattle.raft_log_files.specs.Settings.{settings_of};
+ghost use Rattle.raft_log_pipe.specs.Alone.{IsAlone, IsOnce, directories_of_pipe};
 ghost use Rattle.raft_log_pipe.specs.Pipe.{IsPipe};
 ghost use Rattle.raft_log_recovery.specs.declared.scan.FileKind.TheVariants.{Log};
 ghost use Rattle.raft_log_recovery.specs.Scan.{AreFound, directories_of};
@@ -50,6 +51,8 @@ impl DualPipesBuilder {
         requires directories { directories_in self.now ≡ directories_of (settings_of self.now.config) }
         ensures pipe { IfOk result (λ p. IsPipe p (F.disk files.new)) }
         ensures queue { IfOk result (λ p. p.queue ≡ config.now.queue) }
+        ensures paths { IfOk result (λ p. directories_of_pipe p ≡ directories_in self.now) }
+        ensures alone { IfOk result (λ p. IsOnce (F.disk files.old).names (directories_in self.now) config.now.queue → IsAlone p (F.disk files.new)) }
         ensures replayed { IfOk result (λ p. (placed : List Placed) → M.has_replayed machine.old placed
             → (more : List Placed) × M.has_replayed machine.new (placed ++ more)
             × IsPipeWith (directories_in self.now) config.now.queue (names_in self.now config.now.queue) (F.disk files.old) (F.disk files.new) p more) }

@@ -1,7 +1,9 @@
 use Rattle.raft_log_disk.proofs.CauseLemmas.{at_err}
+use Rattle.raft_log_pipe.specs.Alone.{IsAlone, IsNearlyAlone}
 use Rattle.raft_log_pipe.proofs.ExitLemmas.{again_err, again_ok, put_after, still_before, unless_no_space, unput_after, unput_from}
 use Rattle.std.proofs.Common.{refl}
 use Rattle.raft_log_pipe.proofs.BlockLemmas.{after_files, same_files, stands_after, stands_ok, then_files}
+use Rattle.raft_log_pipe.proofs.AloneLemmas.{alone_on, err_after, nearly_on, ok_after}
 use Rattle.raft_log_pipe.proofs.pipe.SinglePipe.append.Goals as goal
 
 pub returns-in_err-make_room-clause-err : goal.returns-in_err-make_room-clause-err
@@ -46,3 +48,19 @@ returns-in-Err-NoSpace-clause-files g c =
     after_files c.put_again.result c.args.self.now c.put.new.self c.put_again.new.self
     (then_files c.args.self.now c.make_room.new.self c.put.new.self c.in_ok-make_room.ensures.files (same_files c.make_room.new.self c.put.new.self c.in-Err-NoSpace.ensures.same.0 c.in-Err-NoSpace.ensures.same.1))
     c.put_again.ensures.files
+
+pub returns-in-Ok-clause-alone : goal.returns-in-Ok-clause-alone
+returns-in-Ok-clause-alone g c = λ alone. alone_on c.make_room.new.self c.put.new.self (g.F.FileSystem.disk c.make_room.new.files) (g.F.FileSystem.disk c.put.new.files) c.in-Ok.ensures.same c.in-Ok.ensures.paths c.in-Ok.ensures.names (c.in_ok-make_room.ensures.alone alone)
+
+pub returns-in-Err-NoSpace-clause-alone : goal.returns-in-Err-NoSpace-clause-alone
+returns-in-Err-NoSpace-clause-alone g c =
+    ok_after (IsAlone c.args.self.now (g.F.FileSystem.disk c.args.files.now)) (IsAlone c.put.new.self (g.F.FileSystem.disk c.put.new.files)) (IsAlone c.put_again.new.self (g.F.FileSystem.disk c.put_again.new.files)) c.put_again.result
+    (λ alone. alone_on c.make_room.new.self c.put.new.self (g.F.FileSystem.disk c.make_room.new.files) (g.F.FileSystem.disk c.put.new.files) c.in-Err-NoSpace.ensures.same c.in-Err-NoSpace.ensures.paths c.in-Err-NoSpace.ensures.names (c.in_ok-make_room.ensures.alone alone)) c.put_again.ensures.alone
+
+pub returns-in-Err-NoSpace-clause-nearly : goal.returns-in-Err-NoSpace-clause-nearly
+returns-in-Err-NoSpace-clause-nearly g c =
+    err_after (IsAlone c.args.self.now (g.F.FileSystem.disk c.args.files.now)) (IsAlone c.put.new.self (g.F.FileSystem.disk c.put.new.files)) (IsNearlyAlone c.put_again.new.self (g.F.FileSystem.disk c.put_again.new.files)) c.put_again.result
+    (λ alone. alone_on c.make_room.new.self c.put.new.self (g.F.FileSystem.disk c.make_room.new.files) (g.F.FileSystem.disk c.put.new.files) c.in-Err-NoSpace.ensures.same c.in-Err-NoSpace.ensures.paths c.in-Err-NoSpace.ensures.names (c.in_ok-make_room.ensures.alone alone)) c.put_again.ensures.nearly
+
+pub returns-in-Err-clause-nearly : goal.returns-in-Err-clause-nearly
+returns-in-Err-clause-nearly g c = λ alone. nearly_on c.make_room.new.self c.put.new.self (g.F.FileSystem.disk c.make_room.new.files) (g.F.FileSystem.disk c.put.new.files) c.in-Err.ensures.same c.in-Err.ensures.paths c.in-Err.ensures.names (c.in_ok-make_room.ensures.alone alone)

@@ -1,4 +1,5 @@
-use Rattle.std.proofs.Common.{Ok, Err}
+use Rattle.std.proofs.Common.{Ok, Err, ap}
+use Rattle.raft_log_disk.specs.Disk.{Disk}
 use Rattle.raft_log_disk.proofs.CauseLemmas.{at_err}
 use Rattle.raft_log_pipe.proofs.ChangeLemmas.{closed_changes, closed_holds, pipe_on, unclosed_leaves}
 use Rattle.raft_log_pipe.proofs.pipe.SinglePipe.close.Goals as goal
@@ -18,3 +19,9 @@ returns-clause-pipe g c =
 
 pub returns-clause-ok : goal.returns-clause-ok
 returns-clause-ok g c = closed_holds c.args.self.now _ _ _ c.requires c.in_ok-close.ensures.closes c.in_ok-close.ensures.same.1
+
+pub returns-in_err-close-clause-names : goal.returns-in_err-close-clause-names
+returns-in_err-close-clause-names g c = ap (λ (y : Disk). y.names) (closed_changes c.args.self.now.writer _ _ (Err c.in_err-close.field-0.0) c.in_err-close.ensures.closes)
+
+pub returns-clause-names : goal.returns-clause-names
+returns-clause-names g c = ap (λ (y : Disk). y.names) (closed_changes c.args.self.now.writer _ _ (Ok tt) c.in_ok-close.ensures.closes)

@@ -1,8 +1,13 @@
-use Rattle.std.proofs.Common.{◌-◌, ◌<◌, List, length, sym, subst, ◌∙◌}
-use Rattle.std.specs.Prelude.{String}
+use Rattle.std.proofs.Common.{◌-◌, ◌<◌, List, length, map, sym, ap, subst, ◌∙◌, arith}
+use Rattle.std.specs.Prelude.{String, Ok}
+use Rattle.std.specs.String.{string_bytes}
 use Rattle.std.specs.declared.alloc.Global.{Global}
+use Rattle.raft_log_disk.specs.Disk.{Disk}
+use Rattle.raft_log_pipe.specs.Alone.{IsMadeIn}
 use Rattle.raft_log_pipe.specs.Pipe.{IsLast, IsPlain}
+use Rattle.raft_log_pipe.proofs.NextLemmas.{begun_changes}
 use Rattle.raft_log_pipe.proofs.ExitLemmas.{first_holds, first_pipe, last_for}
+use Rattle.raft_log_pipe.proofs.AloneLemmas.{first_alone}
 use Rattle.raft_log_pipe.proofs.pipe.SinglePipe.create.Goals as goal
 
 pub returns-clause-pipe : goal.returns-clause-pipe
@@ -20,3 +25,10 @@ pub new_file-requires-clause-last : goal.new_file-requires-clause-last
 new_file-requires-clause-last g c κs within =
     subst (λ (l : List (String Global)). IsLast (g.F.FileSystem.disk c.args.files.now) l c.new-id.result.queue (c.new-id.result.seq - 1)) (sym c.deref.ensures.value)
     (last_for (g.F.FileSystem.disk c.args.files.now) c.args.paths.items c.new-id.result c.args.queue 0 c.requires.none c.new-id.ensures.queue c.new-id.ensures.seq)
+
+pub returns-clause-alone : goal.returns-clause-alone
+returns-clause-alone g c =
+    first_alone (map string_bytes c.args.paths.items) c.args.queue c.new.result.items c.in_ok-file.file (g.F.FileSystem.disk c.args.files.now) (g.F.FileSystem.disk c.new_file.new.files) (g.F.FileSystem.disk c.begin_file.new.files) c.new-id.result (λ i. record { queue = c.new-id.ensures.queue i; seq = sym c.in_ok-file.ensures.file.0 i })
+    (omega (arith, c.new-id.ensures.seq)) c.new.ensures.items
+    (subst (λ (l : List (String Global)). IsMadeIn (g.F.FileSystem.disk c.args.files.now) (g.F.FileSystem.disk c.new_file.new.files) (map string_bytes l) c.new-id.result (Ok c.in_ok-file.file)) c.deref.ensures.value c.in_ok-file.ensures.made)
+    (ap (λ (y : Disk). y.names) (begun_changes (g.F.FileSystem.disk c.new_file.new.files) (g.F.FileSystem.disk c.begin_file.new.files) c.in_ok-file.file c.in_ok-writer.writer c.in_ok-writer.ensures.begun))

@@ -1,5 +1,6 @@
 use Rattle.raft_log_pipe.proofs.ExitLemmas.{then_holds, then_leaves}
 use Rattle.raft_log_pipe.proofs.GiveUpLemmas.{ended_leaves}
+use Rattle.raft_log_pipe.proofs.AloneLemmas.{alone_on, nearly, nearly_on}
 use Rattle.raft_log_pipe.proofs.pipe.SinglePipe.give_up.Goals as goal
 
 pub returns-in-Ok-clause-leaves : goal.returns-in-Ok-clause-leaves
@@ -10,3 +11,14 @@ returns-in-Ok-clause-leaves g c =
 pub returns-in-Err-go_on-clause-leaves : goal.returns-in-Err-go_on-clause-leaves
 returns-in-Err-go_on-clause-leaves g c =
     then_leaves c.args.self.now c.finish.new.self c.go_on.new.self (g.F.FileSystem.disk c.args.files.now) (g.F.FileSystem.disk c.finish.new.files) (g.F.FileSystem.disk c.go_on.new.files) c.in_default.ensures.ok c.in-Err-go_on.ensures.err
+
+pub returns-in-Err-clause-nearly : goal.returns-in-Err-clause-nearly
+returns-in-Err-clause-nearly g c = nearly_on c.args.self.now c.finish.new.self (g.F.FileSystem.disk c.args.files.now) (g.F.FileSystem.disk c.finish.new.files) c.in-Err.ensures.same c.in-Err.ensures.paths c.in-Err.ensures.names
+
+pub returns-in-Ok-clause-nearly : goal.returns-in-Ok-clause-nearly
+returns-in-Ok-clause-nearly g c =
+    λ alone. nearly c.go_on.new.self (g.F.FileSystem.disk c.go_on.new.files) (c.in-Ok.ensures.alone (alone_on c.args.self.now c.finish.new.self (g.F.FileSystem.disk c.args.files.now) (g.F.FileSystem.disk c.finish.new.files) c.in_default.ensures.same c.in_default.ensures.paths c.in_default.ensures.names alone))
+
+pub returns-in-Err-go_on-clause-nearly : goal.returns-in-Err-go_on-clause-nearly
+returns-in-Err-go_on-clause-nearly g c =
+    λ alone. c.in-Err-go_on.ensures.nearly (alone_on c.args.self.now c.finish.new.self (g.F.FileSystem.disk c.args.files.now) (g.F.FileSystem.disk c.finish.new.files) c.in_default.ensures.same c.in_default.ensures.paths c.in_default.ensures.names alone)

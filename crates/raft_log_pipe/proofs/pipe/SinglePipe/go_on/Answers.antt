@@ -1,10 +1,15 @@
-use Rattle.std.proofs.Common.{◌-◌, ◌<◌, List, length, sym, subst, ◌∙◌}
-use Rattle.std.specs.Prelude.{String}
+use Rattle.std.proofs.Common.{◌-◌, ◌<◌, List, length, map, sym, ap, subst, ◌∙◌}
+use Rattle.std.specs.Prelude.{String, Ok, Err}
+use Rattle.std.specs.String.{string_bytes}
 use Rattle.std.specs.declared.alloc.Global.{Global}
+use Rattle.raft_log_disk.specs.Disk.{Disk}
 use Rattle.raft_log_disk.proofs.CauseLemmas.{at_err}
+use Rattle.raft_log_files.specs.FileName.{IsFileSeq}
+use Rattle.raft_log_pipe.specs.Alone.{IsMadeIn}
 use Rattle.raft_log_pipe.specs.Pipe.{IsLast, IsPlain}
 use Rattle.raft_log_pipe.proofs.ExitLemmas.{last_for, pushed_holds, refused_leaves, refused_writer, unpushed_leaves}
 use Rattle.raft_log_pipe.proofs.NextLemmas.{begun_changes, made_begun, made_leaves, made_writer, next_pipe}
+use Rattle.raft_log_pipe.proofs.AloneLemmas.{next_alone, refused_nearly, unbegun_nearly, unpushed_nearly}
 use Rattle.raft_log_pipe.proofs.pipe.SinglePipe.go_on.Goals as goal
 
 pub returns-in_err-file-clause-writer : goal.returns-in_err-file-clause-writer
@@ -23,7 +28,7 @@ returns-in_err-writer-clause-err g c =
 
 pub returns-in_err-push-clause-writer : goal.returns-in_err-push-clause-writer
 returns-in_err-push-clause-writer g c =
-    made_writer c.args.self.now _ _ _ c.requires.pipe (made_begun _ _ _ c.in_ok-file.file _ c.in_ok-file.ensures.created (begun_changes _ _ c.in_ok-file.file c.in_ok-writer.writer c.in_ok-writer.ensures.begun))
+    made_writer c.args.self.now _ _ _ c.requires.pipe (made_begun _ _ _ c.in_ok-file.file _ c.in_ok-file.ensures.created (begun_changes (g.F.FileSystem.disk c.new_file.new.files) (g.F.FileSystem.disk c.begin_file.new.files) c.in_ok-file.file c.in_ok-writer.writer c.in_ok-writer.ensures.begun))
 
 pub returns-in_err-push-clause-err : goal.returns-in_err-push-clause-err
 returns-in_err-push-clause-err g c =
@@ -44,3 +49,29 @@ pub new_file-requires-clause-last : goal.new_file-requires-clause-last
 new_file-requires-clause-last g c κs within =
     subst (λ (l : List (String Global)). IsLast (g.F.FileSystem.disk c.args.files.now) l c.new-id.result.queue (c.new-id.result.seq - 1)) (sym c.deref.ensures.value)
     (last_for (g.F.FileSystem.disk c.args.files.now) c.args.self.now.paths.items c.new-id.result c.args.self.now.queue c.args.self.now.active.seq c.requires.pipe.last c.new-id.ensures.queue c.new-id.ensures.seq)
+
+pub returns-in_err-file-clause-nearly : goal.returns-in_err-file-clause-nearly
+returns-in_err-file-clause-nearly g c =
+    at_err _ _ (refused_nearly c.args.self.now (g.F.FileSystem.disk c.args.files.now) (g.F.FileSystem.disk c.new_file.new.files) c.new-id.result c.in_err-file.field-0.0 c.new-id.ensures.seq (subst IsFileSeq (sym c.new-id.ensures.seq) c.requires.number) c.new-id.ensures.queue
+    (subst (λ (l : List (String Global)). IsMadeIn (g.F.FileSystem.disk c.args.files.now) (g.F.FileSystem.disk c.new_file.new.files) (map string_bytes l) c.new-id.result (Err c.in_err-file.field-0.0)) c.deref.ensures.value c.in_err-file.ensures.made))
+
+pub returns-in_err-writer-clause-nearly : goal.returns-in_err-writer-clause-nearly
+returns-in_err-writer-clause-nearly g c =
+    at_err _ _ (unbegun_nearly c.args.self.now (g.F.FileSystem.disk c.args.files.now) (g.F.FileSystem.disk c.new_file.new.files) (g.F.FileSystem.disk c.begin_file.new.files) c.new-id.result c.in_ok-file.file (c.in_ok-file.ensures.file.0 ∙ c.new-id.ensures.seq) (subst IsFileSeq (sym c.new-id.ensures.seq) c.requires.number)
+    (λ i. record { queue = c.new-id.ensures.queue i; seq = sym c.in_ok-file.ensures.file.0 i })
+    (subst (λ (l : List (String Global)). IsMadeIn (g.F.FileSystem.disk c.args.files.now) (g.F.FileSystem.disk c.new_file.new.files) (map string_bytes l) c.new-id.result (Ok c.in_ok-file.file)) c.deref.ensures.value c.in_ok-file.ensures.made)
+    c.in_err-writer.ensures.begun.0 c.in_err-writer.ensures.begun.1)
+
+pub returns-in_err-push-clause-nearly : goal.returns-in_err-push-clause-nearly
+returns-in_err-push-clause-nearly g c =
+    at_err _ _ (unpushed_nearly c.args.self.now (g.F.FileSystem.disk c.args.files.now) (g.F.FileSystem.disk c.new_file.new.files) (g.F.FileSystem.disk c.begin_file.new.files) c.push.new.self c.new-id.result c.in_ok-file.file c.in_ok-writer.writer c.in_err-push.ensures.items (c.in_ok-file.ensures.file.0 ∙ c.new-id.ensures.seq)
+    (subst IsFileSeq (sym c.new-id.ensures.seq) c.requires.number) (λ i. record { queue = c.new-id.ensures.queue i; seq = sym c.in_ok-file.ensures.file.0 i }) (subst IsPlain (sym c.in_ok-file.ensures.file.1) c.requires.pipe.plain)
+    (subst (λ (l : List (String Global)). IsMadeIn (g.F.FileSystem.disk c.args.files.now) (g.F.FileSystem.disk c.new_file.new.files) (map string_bytes l) c.new-id.result (Ok c.in_ok-file.file)) c.deref.ensures.value c.in_ok-file.ensures.made)
+    c.in_ok-writer.ensures.begun)
+
+pub returns-clause-alone : goal.returns-clause-alone
+returns-clause-alone g c =
+    next_alone c.args.self.now (g.F.FileSystem.disk c.args.files.now) (g.F.FileSystem.disk c.new_file.new.files) (g.F.FileSystem.disk c.begin_file.new.files) c.push.new.self c.in_ok-file.file c.in_ok-writer.writer c.new-id.result c.in_ok-push.ensures.items (c.in_ok-file.ensures.file.0 ∙ c.new-id.ensures.seq) (subst IsFileSeq (sym c.new-id.ensures.seq) c.requires.number)
+    (λ i. record { queue = c.new-id.ensures.queue i; seq = sym c.in_ok-file.ensures.file.0 i })
+    (subst (λ (l : List (String Global)). IsMadeIn (g.F.FileSystem.disk c.args.files.now) (g.F.FileSystem.disk c.new_file.new.files) (map string_bytes l) c.new-id.result (Ok c.in_ok-file.file)) c.deref.ensures.value c.in_ok-file.ensures.made)
+    (ap (λ (y : Disk). y.names) (begun_changes (g.F.FileSystem.disk c.new_file.new.files) (g.F.FileSystem.disk c.begin_file.new.files) c.in_ok-file.file c.in_ok-writer.writer c.in_ok-writer.ensures.begun))

@@ -1,6 +1,7 @@
 use Rattle.std.proofs.Common.{◌≡◌, ap, ◌∙◌, length, Ok, Err}
 use Rattle.raft_log_records.specs.declared.file_id.FileBlockHandle.{FileBlockHandle}
 use Rattle.raft_log_records.specs.Signature.{signature_of}
+use Rattle.raft_log_disk.specs.Disk.{Disk}
 use Rattle.raft_log_records.specs.Spelling.{spell_record}
 use Rattle.raft_log_pipe.proofs.ChangeLemmas.{appended_changes, by_fault, pipe_on, put_holds, ready_holds, record_is, unput_leaves}
 use Rattle.raft_log_pipe.proofs.BlockLemmas.{record_here}
@@ -44,3 +45,9 @@ returns-clause-ok g c =
 
 pub returns-clause-stands : goal.returns-clause-stands
 returns-clause-stands g c = λ s u h. record_here c.args.self.now (g.F.FileSystem.disk c.args.files.now) c.args.batch.now.items _ s u c.requires.pipe (returns-clause-ok g c).0 h
+
+pub returns-in-Err-clause-names : goal.returns-in-Err-clause-names
+returns-in-Err-clause-names g c = ap (λ (y : Disk). y.names) (appended_changes c.args.self.now.writer _ _ _ _ (Err c.in-Err.fault) c.in-Err.ensures.writes)
+
+pub returns-clause-names : goal.returns-clause-names
+returns-clause-names g c = ap (λ (y : Disk). y.names) (appended_changes c.args.self.now.writer _ _ _ _ (Ok tt) c.in_default.ensures.writes)

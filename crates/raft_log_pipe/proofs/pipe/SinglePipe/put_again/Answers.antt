@@ -3,6 +3,7 @@ use Rattle.raft_log_pipe.proofs.ExitLemmas.{all_or, put_after, then_holds, then_
 use Rattle.std.proofs.Common.{refl}
 use Rattle.raft_log_pipe.proofs.BlockLemmas.{more_files, same_files, stands_after, then_files}
 use Rattle.raft_log_pipe.proofs.GiveUpLemmas.{given_up}
+use Rattle.raft_log_pipe.proofs.AloneLemmas.{alone_on, nearly_on}
 use Rattle.raft_log_pipe.proofs.pipe.SinglePipe.put_again.Goals as goal
 
 pub returns-in_err-finish-clause-err : goal.returns-in_err-finish-clause-err
@@ -45,3 +46,24 @@ returns-in-Ok-put-clause-files g c =
     then_files c.args.self.now c.finish.new.self c.put.new.self (same_files c.args.self.now c.finish.new.self c.in_ok-finish.ensures.same.0 c.in_ok-finish.ensures.same.1)
     (then_files c.finish.new.self c.go_on.new.self c.put.new.self (more_files c.finish.new.self c.go_on.new.self c.in-Ok.ensures.next.1)
     (same_files c.go_on.new.self c.put.new.self c.in-Ok-put.ensures.same.0 c.in-Ok-put.ensures.same.1))
+
+pub returns-in_err-finish-clause-nearly : goal.returns-in_err-finish-clause-nearly
+returns-in_err-finish-clause-nearly g c = at_err _ _ (nearly_on c.args.self.now c.finish.new.self (g.F.FileSystem.disk c.args.files.now) (g.F.FileSystem.disk c.finish.new.files) c.in_err-finish.ensures.same c.in_err-finish.ensures.paths c.in_err-finish.ensures.names)
+
+pub returns-in-Err-clause-nearly : goal.returns-in-Err-clause-nearly
+returns-in-Err-clause-nearly g c = λ alone. c.in-Err.ensures.nearly (alone_on c.args.self.now c.finish.new.self (g.F.FileSystem.disk c.args.files.now) (g.F.FileSystem.disk c.finish.new.files) c.in_ok-finish.ensures.same c.in_ok-finish.ensures.paths c.in_ok-finish.ensures.names alone)
+
+pub returns-in-Ok-put-clause-alone : goal.returns-in-Ok-put-clause-alone
+returns-in-Ok-put-clause-alone g c =
+    λ alone. alone_on c.go_on.new.self c.put.new.self (g.F.FileSystem.disk c.go_on.new.files) (g.F.FileSystem.disk c.put.new.files) c.in-Ok-put.ensures.same c.in-Ok-put.ensures.paths c.in-Ok-put.ensures.names
+    (c.in-Ok.ensures.alone (alone_on c.args.self.now c.finish.new.self (g.F.FileSystem.disk c.args.files.now) (g.F.FileSystem.disk c.finish.new.files) c.in_ok-finish.ensures.same c.in_ok-finish.ensures.paths c.in_ok-finish.ensures.names alone))
+
+pub returns-in-Err-put-clause-nearly : goal.returns-in-Err-put-clause-nearly
+returns-in-Err-put-clause-nearly g c =
+    λ alone. nearly_on c.go_on.new.self c.put.new.self (g.F.FileSystem.disk c.go_on.new.files) (g.F.FileSystem.disk c.put.new.files) c.in-Err-put.ensures.same c.in-Err-put.ensures.paths c.in-Err-put.ensures.names
+    (c.in-Ok.ensures.alone (alone_on c.args.self.now c.finish.new.self (g.F.FileSystem.disk c.args.files.now) (g.F.FileSystem.disk c.finish.new.files) c.in_ok-finish.ensures.same c.in_ok-finish.ensures.paths c.in_ok-finish.ensures.names alone))
+
+pub returns-in-Err-NoSpace-clause-nearly : goal.returns-in-Err-NoSpace-clause-nearly
+returns-in-Err-NoSpace-clause-nearly g c =
+    λ alone. c.give_up.ensures.nearly (alone_on c.go_on.new.self c.put.new.self (g.F.FileSystem.disk c.go_on.new.files) (g.F.FileSystem.disk c.put.new.files) c.in-Err-NoSpace.ensures.same c.in-Err-NoSpace.ensures.paths c.in-Err-NoSpace.ensures.names
+    (c.in-Ok.ensures.alone (alone_on c.args.self.now c.finish.new.self (g.F.FileSystem.disk c.args.files.now) (g.F.FileSystem.disk c.finish.new.files) c.in_ok-finish.ensures.same c.in_ok-finish.ensures.paths c.in_ok-finish.ensures.names alone)))

@@ -10,6 +10,7 @@ use Rattle.raft_log_recovery.specs.Opening.{batches_of}
 use Rattle.raft_log_recovery.specs.Queue.{AreLeft, AreRecovered, directories_in, names_in}
 use Rattle.raft_log_recovery.specs.Scan.{AreFound}
 use Rattle.raft_log_recovery.proofs.OpeningLemmas.{created_gives, err_on, no_names, none_aligned, none_last, none_named, opened_changes, opened_gives, opened_left, recovered_found, recovered_left}
+use Rattle.raft_log_recovery.proofs.AloneLemmas.{created_alone, found_alone, paths_are}
 use Rattle.raft_log_recovery.proofs.builder.DualPipesBuilder.open_queue.Goals as goal
 
 pub returns-then-not-are_plain-clause-err : goal.returns-then-not-are_plain-clause-err
@@ -108,3 +109,34 @@ pub returns-clause-aligned : goal.returns-clause-aligned
 returns-clause-aligned g c =
     λ any. absurd (none_aligned (directories_in c.args.self.now) c.args.config.now.queue (g.F.FileSystem.disk c.args.files.now) (g.F.FileSystem.disk c.recover_queue.new.files) (names_in c.args.self.now c.args.config.now.queue)
     c.in_ok-recovered.recovered.items c.in_ok-recovered.ensures.ok (ap (list_all (λ f. f.format.alignment == 0)) (sym c.deref.ensures.value) ∙ sym c.are_plain.ensures ∙ c.if-not-are_plain.false) any)
+
+pub returns-then-is_empty-clause-paths : goal.returns-then-is_empty-clause-paths
+returns-then-is_empty-clause-paths g c =
+    let said : map string_bytes c.in_ok-paths.paths.items ≡ directories_in c.args.self.now = c.in_ok-paths.ensures ∙ ap (map string_bytes) c.deref-2.ensures.value in
+    paths_are c.create.result c.in_ok-paths.paths (directories_in c.args.self.now) said c.create.ensures.paths
+
+pub returns-clause-paths : goal.returns-clause-paths
+returns-clause-paths g c =
+    let said : map string_bytes c.in_ok-paths.paths.items ≡ directories_in c.args.self.now = c.in_ok-paths.ensures ∙ ap (map string_bytes) c.deref-2.ensures.value in
+    paths_are c.open.result c.in_ok-paths.paths (directories_in c.args.self.now) said c.open.ensures.paths
+
+pub returns-then-is_empty-clause-alone : goal.returns-then-is_empty-clause-alone
+returns-then-is_empty-clause-alone g c =
+    let queue = c.args.config.now.queue in
+    let names : List FileName = names_in c.args.self.now queue in
+    let old = g.F.FileSystem.disk c.args.files.now in
+    let said : map string_bytes c.in_ok-paths.paths.items ≡ directories_in c.args.self.now = c.in_ok-paths.ensures ∙ ap (map string_bytes) c.deref-2.ensures.value in
+    let none = no_names old (directories_in c.args.self.now) queue names c.in_ok-recovered.recovered.items c.in_ok-recovered.ensures.ok.opened
+    (omega (arith, ap length c.deref.ensures.value, c.deref.ensures.len, eqb-true (vec_len c.in_ok-recovered.recovered) 0 (sym c.is_empty.ensures ∙ c.if-is_empty.true))) in
+    created_alone c.create.result old (g.F.FileSystem.disk c.recover_queue.new.files) (g.F.FileSystem.disk c.create.new.files) queue (map string_bytes c.in_ok-paths.paths.items) (directories_in c.args.self.now) names said
+    c.in_ok-recovered.ensures.only.names_stay c.requires.found none c.create.ensures.alone
+
+pub returns-clause-alone : goal.returns-clause-alone
+returns-clause-alone g c =
+    let met = g.met.F.FileSystem g.world.𝓛 g.world.𝓜 g.world.𝓡 ((λ s x. x), (λ x. x), (λ x. x), λ x. x) in
+    let queue = c.args.config.now.queue in
+    let old = g.F.FileSystem.disk c.args.files.now in
+    let said : map string_bytes c.in_ok-paths.paths.items ≡ directories_in c.args.self.now = c.in_ok-paths.ensures ∙ ap (map string_bytes) c.deref-2.ensures.value in
+    found_alone c.open.result old (g.F.FileSystem.disk c.recover_queue.new.files) (g.F.FileSystem.disk c.open.new.files) queue (map string_bytes c.in_ok-paths.paths.items) (directories_in c.args.self.now)
+    (names_in c.args.self.now queue) c.in_ok-recovered.recovered.items said (met.is_named c.args.files.now) c.in_ok-recovered.ensures.only.names_stay c.requires.found c.in_ok-recovered.ensures.ok.opened
+    (omega (arith, ap length c.deref.ensures.value, c.deref.ensures.len, eqb-false (vec_len c.in_ok-recovered.recovered) 0 (sym c.is_empty.ensures ∙ c.if-is_empty.false))) c.open.ensures.alone
