@@ -4,8 +4,8 @@ use crate::store::Store;
 use raft_content_log::ContentLog;
 use raft_group_step::Entries;
 use raft_group_storage::{GroupStorage, LoadedGroup};
-use raft_messages::{GroupEntry, SnapshotBytes, SnapshotHead};
 use raft_machines::StateMachine;
+use raft_messages::{GroupEntry, SnapshotBytes, SnapshotHead};
 use raft_state::{BasicNode, Bytes, LogId, Vote};
 use std::alloc::Global;
 
@@ -93,5 +93,9 @@ impl<M: StateMachine, L: ContentLog> GroupStorage for Store<M, L> {
 
     fn load(&mut self, alloc: Global, group: u64) -> Result<LoadedGroup, StoreFault<L::Fault>> {
         Store::load(self, alloc, group)
+    }
+
+    fn groups(&mut self, alloc: Global) -> Result<Vec<u64>, StoreFault<L::Fault>> {
+        Store::groups(self, alloc)
     }
 }

@@ -13,8 +13,8 @@ use crate::batches::{
 use crate::fault::StoreFault;
 use raft_content_log::ContentLog;
 use raft_log_records::LogBatch;
-use raft_messages::{GroupEntry, SnapshotBytes};
 use raft_machines::StateMachine;
+use raft_messages::{GroupEntry, SnapshotBytes};
 use raft_state::{LogId, Vote};
 use std::alloc::Global;
 use std::marker::PhantomData;
