@@ -1,8 +1,11 @@
 //! What is asked of a log.
-ghost use Rattle.std.specs.Prelude.{◌≡◌, ℕ, List, OnOk, OnErr, IfOk, option_map};
+ghost use Rattle.std.specs.Prelude.{◌≡◌, ℕ, List, OnOk, OnErr, IfOk, false, option_map};
+ghost use Rattle.std.specs.List.Sorted.{IsStrictlySortedBy};
+ghost use Rattle.std.specs.Ordering.{eq_by_cmp, nat_cmp};
+ghost use Rattle.std.specs.Set.{is_member};
 ghost use Rattle.raft_content_log.specs.Leaving.{AgreesElsewhere, AreEntries, IsWritten};
 ghost use Rattle.raft_content_log.specs.Leaving.{LeavesElsewhere, LeavesNoMore, MayBeWritten};
-ghost use Rattle.raft_log_memtables.specs.Content.{Content, after_batch};
+ghost use Rattle.raft_log_memtables.specs.Content.{Content, after_batch, no_group};
 ghost use Rattle.raft_log_memtables.specs.Taken.{TakesEach};
 ghost use Rattle.raft_log_records.specs.Batch.{nothing_logged, payloads};
 
@@ -55,6 +58,15 @@ pub trait ContentLog: Drop {
         end: u64,
     ) -> Result<Vec<Vec<u8>>, Self::Fault>
         ensures entries { is_sound self.old → IfOk result (λ found. AreEntries (answers self.old group).entry begin end (payloads found.items)) }
+        ensures sound { is_sound self.old → OnOk result (is_sound self.new) }
+        ensures kept { is_sound self.new → is_sound self.old × (answers self.new ≡ answers self.old) }
+        ensures left { LeavesNoMore (leaves self.old) (leaves self.new) };
+
+    /// The ids of the groups that the log has something of, rising (own).
+    fn groups(&mut self) -> Result<Vec<u64>, Self::Fault>
+        ensures rising { IfOk result (λ ids. IsStrictlySortedBy nat_cmp ids.items) }
+        ensures there { is_sound self.old → IfOk result (λ ids. (group : ℕ) → (answers self.old group).there ≡ is_member (eq_by_cmp nat_cmp) ids.items group) }
+        ensures none { is_sound self.old → OnOk result ((group : ℕ) → (answers self.old group).there ≡ false → answers self.old group ≡ no_group) }
         ensures sound { is_sound self.old → OnOk result (is_sound self.new) }
         ensures kept { is_sound self.new → is_sound self.old × (answers self.new ≡ answers self.old) }
         ensures left { LeavesNoMore (leaves self.old) (leaves self.new) };

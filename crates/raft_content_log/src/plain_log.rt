@@ -201,6 +201,14 @@ impl ContentLog for PlainLog {
         copies_of(self.alloc, &self.blocks, &places)
     }
 
+    #[tactic(auto, unfolding(raft_log_memtables::specs::MemTables::content_in))]
+    fn groups(&mut self) -> Result<Vec<u64>, PlainFault> {
+        if self.is_lost {
+            return Err(PlainFault::Lost);
+        }
+        Ok(self.tables.groups()?)
+    }
+
     fn is_there(&mut self, group: u64) -> Result<bool, PlainFault> {
         if self.is_lost {
             return Err(PlainFault::Lost);

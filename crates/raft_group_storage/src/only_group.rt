@@ -108,4 +108,12 @@ impl GroupStorage for StoredGroup {
     fn load(&mut self, alloc: Global, _group: u64) -> Result<LoadedGroup, AllocError> {
         loaded(alloc, self)
     }
+
+    fn groups(&mut self, alloc: Global) -> Result<Vec<u64>, AllocError> {
+        if self.is_present() {
+            Ok(Vec::from_slice(alloc, &[ONLY_GROUP])?)
+        } else {
+            Ok(Vec::new(alloc))
+        }
+    }
 }

@@ -1,5 +1,10 @@
 //! Any number of groups, kept in memory.
-ghost use Rattle.std.specs.Prelude.{◌≡◌, []};
+ghost use Rattle.std.specs.Prelude.{◌≡◌, ℕ, [], IfOk, filter, is_some};
+ghost use Rattle.std.specs.BTreeMap.{get, keys};
+ghost use Rattle.std.specs.List.Sorted.{IsStrictlySortedBy};
+ghost use Rattle.std.specs.Ordering.{eq_by_cmp, nat_cmp};
+ghost use Rattle.std.specs.Set.{is_member};
+ghost use Rattle.raft_group_storage.specs.Plain.{stored_in};
 
 use crate::loaded_group::{LoadedGroup, loaded};
 use crate::storage::GroupStorage;
@@ -26,6 +31,29 @@ impl Model for PlainGroups {
     ghost Value = { List (ℕ × Stored) };
 
     ghost view = { λ x. x.groups.entries };
+}
+
+// Whether something is stored of the group, and it is present.
+fn is_present(groups: &BTreeMap<u64, StoredGroup>, group: u64) -> bool
+    ensures { result ≡ (stored_in groups.now.entries group).present }
+{
+    match groups.get(&group) {
+        Some(stored) => stored.is_present(),
+        None => false,
+    }
+}
+
+// The ids of the groups that are present, rising.
+fn present_ids(alloc: Global, groups: &BTreeMap<u64, StoredGroup>) -> Result<Vec<u64>, AllocError>
+    ensures ids { IfOk result (λ ids. ids.items ≡ filter (λ group. (stored_in groups.now.entries group).present) (keys groups.now)) }
+    ensures rising { IsStrictlySortedBy nat_cmp (keys groups.now) }
+    ensures exactly { (group : ℕ) → is_some (get nat_cmp groups.now group) ≡ is_member (eq_by_cmp nat_cmp) (keys groups.now) group }
+{
+    groups
+        .keys()
+        .copied()
+        .filter(|group| is_present(groups, *group))
+        .collect(alloc)
 }
 
 impl PlainGroups {
@@ -142,5 +170,9 @@ impl GroupStorage for PlainGroups {
             Some(stored) => loaded(alloc, stored),
             None => loaded(alloc, &StoredGroup::new(alloc)),
         }
+    }
+
+    fn groups(&mut self, alloc: Global) -> Result<Vec<u64>, AllocError> {
+        present_ids(alloc, &self.groups)
     }
 }

@@ -1,5 +1,8 @@
 //! What is asked of where groups are kept.
 ghost use Rattle.std.specs.Prelude.{◌≡◌, ℕ, IfOk, OnOk, OnErr, [], ◌∷◌, List};
+ghost use Rattle.std.specs.List.Sorted.{IsStrictlySortedBy};
+ghost use Rattle.std.specs.Ordering.{eq_by_cmp, nat_cmp};
+ghost use Rattle.std.specs.Set.{is_member};
 ghost use Rattle.raft_group_step.specs.StoredGroup.{Snapshot, StoredGroup};
 ghost use Rattle.raft_group_step.specs.StoredGroup.{CutFrom, MakeGroup, PutEntries, RemoveUpTo, SetSnapshot, SetVote, StartAfter};
 ghost use Rattle.raft_group_storage.specs.Keeping.{KeepsAll, KeepsOthers, MayStore, ShowsMore, StandsOrNone, Stores, entries_of};
@@ -114,6 +117,14 @@ pub trait GroupStorage: Drop {
     fn load(&mut self, alloc: Global, group: u64) -> Result<LoadedGroup, Self::Fault>
         ensures well { is_well self.old → OnOk result (is_well self.new) }
         ensures ok { (s : StoredGroup) → is_well self.old → shows self.old group (s ∷ []) → IfOk result (λ loaded. IsLoaded loaded s) }
+        ensures kept { KeepsAll (shows self.old) (shows self.new) };
+
+    /// The ids of the groups that the node has, rising (own): a node that starts opens these.
+    fn groups(&mut self, alloc: Global) -> Result<Vec<u64>, Self::Fault>
+        ensures well { is_well self.old → OnOk result (is_well self.new) }
+        ensures rising { is_well self.old → IfOk result (λ ids. IsStrictlySortedBy nat_cmp ids.items) }
+        ensures ok { (group : ℕ) (s : StoredGroup) → is_well self.old → shows self.old group (s ∷ [])
+            → IfOk result (λ ids. is_member (eq_by_cmp nat_cmp) ids.items group ≡ s.present) }
         ensures kept { KeepsAll (shows self.old) (shows self.new) };
 
     /// Where one of these is shown, one of more is.

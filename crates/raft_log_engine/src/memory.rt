@@ -40,4 +40,8 @@ impl ContentLog for Engine<MemoryFileSystem> {
     fn is_there(&mut self, group: u64) -> Result<bool, EngineFault> {
         Engine::is_there(self, group)
     }
+
+    fn groups(&mut self) -> Result<Vec<u64>, EngineFault> {
+        self.raft_groups()
+    }
 }

@@ -4,3 +4,4 @@ pub mod Logs
 pub mod Reach
 pub mod Spelled
 pub mod Storing
+pub mod Named

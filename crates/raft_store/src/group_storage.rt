@@ -94,4 +94,8 @@ impl<M: StateMachine, L: ContentLog> GroupStorage for Store<M, L> {
     fn load(&mut self, alloc: Global, group: u64) -> Result<LoadedGroup, StoreFault<L::Fault>> {
         Store::load(self, alloc, group)
     }
+
+    fn groups(&mut self, alloc: Global) -> Result<Vec<u64>, StoreFault<L::Fault>> {
+        Store::groups(self, alloc)
+    }
 }

@@ -1,5 +1,9 @@
 //! What a log holds of a group.
-ghost use Rattle.std.specs.Prelude.{◌≡◌, ◌-◌, ◌≤◌, ℕ, List, [], ◌∷◌, IfOk, IfErr, MatchResult, OnOk, drop, max, option_map, take};
+ghost use Rattle.std.specs.Prelude.{◌≡◌, ◌-◌, ◌≤◌, ℕ, List, [], ◌∷◌, IfOk, IfErr, MatchResult, OnOk, ◌++◌, drop, false, filter, is_some, max, option_map, take};
+ghost use Rattle.std.specs.List.Sorted.{IsStrictlySortedBy};
+ghost use Rattle.std.specs.Ordering.{eq_by_cmp, nat_cmp};
+ghost use Rattle.std.specs.Set.{is_member};
+ghost use Rattle.raft_log_memtables.specs.Content.{no_group};
 ghost use Rattle.raft_content_log.specs.Leaving.{AreEntries};
 ghost use Rattle.raft_group_step.specs.StoredGroup.{StoredGroup, end_place, first_place};
 ghost use Rattle.raft_group_storage.specs.Keeping.{KeepsAll, StandsOrNone, entries_of};
@@ -7,6 +11,7 @@ ghost use Rattle.raft_group_storage.specs.Loaded.{IsLoaded};
 ghost use Rattle.raft_log_records.specs.Batch.{payloads};
 ghost use Rattle.raft_store.specs.Batches.{ShowsBy};
 ghost use Rattle.raft_store.specs.Faults.{IsLogOrMemory};
+ghost use Rattle.raft_store.specs.Keys.{group_key};
 ghost use Rattle.raft_store.specs.Reading.{StandsFor};
 
 use crate::fault::StoreFault;
@@ -44,6 +49,14 @@ fn as_sent(
         sent.push(entry)?;
     }
     Ok(sent)
+}
+
+// One id more.
+fn push_id(ids: &mut Vec<u64>, id: u64) -> Result<(), AllocError>
+    ensures { OnOk result (ids.new.items ≡ ids.old.items ++ id ∷ []) }
+{
+    ids.push(id)?;
+    Ok(())
 }
 
 impl<M: StateMachine, L: ContentLog> Store<M, L> {
@@ -103,8 +116,10 @@ impl<M: StateMachine, L: ContentLog> Store<M, L> {
     fn is_present(&mut self, group: u64) -> Result<bool, StoreFault<L::Fault>>
         ensures ok { (s : StoredGroup) → L.is_sound self.old.log → ShowsBy M.rules L.is_sound L.answers L.leaves self.old.log group (s ∷ [])
             → IfOk result (λ there. there ≡ s.present) }
+        ensures by_key { L.is_sound self.old.log → IfOk result (λ there. there ≡ is_some ((L.answers self.old.log group).value group_key)) }
         ensures cause { IfErr result IsLogOrMemory }
         ensures well { L.is_sound self.old.log → OnOk result (L.is_sound self.new.log) }
+        ensures steady { L.is_sound self.new.log → L.is_sound self.old.log × (L.answers self.new.log ≡ L.answers self.old.log) }
         ensures kept { KeepsAll (ShowsBy M.rules L.is_sound L.answers L.leaves self.old.log) (ShowsBy M.rules L.is_sound L.answers L.leaves self.new.log) }
     {
         Ok(self.get(group, b"group")?.is_some())
@@ -205,5 +220,51 @@ impl<M: StateMachine, L: ContentLog> Store<M, L> {
             purged: bounds.purged,
             log,
         })
+    }
+
+    /// The ids of the groups that the node has, rising (own).
+    pub fn groups(&mut self, alloc: Global) -> Result<Vec<u64>, StoreFault<L::Fault>>
+        ensures well { L.is_sound self.old.log → OnOk result (L.is_sound self.new.log) }
+        ensures rising { L.is_sound self.old.log → IfOk result (λ ids. IsStrictlySortedBy nat_cmp ids.items) }
+        ensures ok { (group : ℕ) (s : StoredGroup) → L.is_sound self.old.log → ShowsBy M.rules L.is_sound L.answers L.leaves self.old.log group (s ∷ [])
+            → IfOk result (λ ids. is_member (eq_by_cmp nat_cmp) ids.items group ≡ s.present) }
+        ensures kept { KeepsAll (ShowsBy M.rules L.is_sound L.answers L.leaves self.old.log) (ShowsBy M.rules L.is_sound L.answers L.leaves self.new.log) }
+    {
+        let logged = self.logged_groups()?;
+        self.made_among(alloc, logged)
+    }
+
+    // Those of these groups that the node has.
+    fn made_among(
+        &mut self,
+        alloc: Global,
+        groups: Vec<u64>,
+    ) -> Result<Vec<u64>, StoreFault<L::Fault>>
+        ensures ids { L.is_sound self.old.log → IfOk result (λ ids. ids.items ≡ filter (λ group. is_some ((L.answers self.old.log group).value group_key)) groups.items) }
+        ensures well { L.is_sound self.old.log → OnOk result (L.is_sound self.new.log) }
+        ensures kept { KeepsAll (ShowsBy M.rules L.is_sound L.answers L.leaves self.old.log) (ShowsBy M.rules L.is_sound L.answers L.leaves self.new.log) }
+    {
+        let mut made = Vec::new(alloc);
+        for group in groups {
+            if self.is_present(group)? {
+                push_id(&mut made, group)?;
+            }
+        }
+        Ok(made)
+    }
+
+    // The ids of the groups that the log has something of.
+    fn logged_groups(&mut self) -> Result<Vec<u64>, StoreFault<L::Fault>>
+        ensures rising { IfOk result (λ ids. IsStrictlySortedBy nat_cmp ids.items) }
+        ensures there { L.is_sound self.old.log → IfOk result (λ ids. (group : ℕ) → (L.answers self.old.log group).there ≡ is_member (eq_by_cmp nat_cmp) ids.items group) }
+        ensures none { L.is_sound self.old.log → OnOk result ((group : ℕ) → (L.answers self.old.log group).there ≡ false → L.answers self.old.log group ≡ no_group) }
+        ensures well { L.is_sound self.old.log → OnOk result (L.is_sound self.new.log) }
+        ensures steady { L.is_sound self.new.log → L.is_sound self.old.log × (L.answers self.new.log ≡ L.answers self.old.log) }
+        ensures kept { KeepsAll (ShowsBy M.rules L.is_sound L.answers L.leaves self.old.log) (ShowsBy M.rules L.is_sound L.answers L.leaves self.new.log) }
+    {
+        match self.log.groups() {
+            Ok(groups) => Ok(groups),
+            Err(fault) => Err(StoreFault::Log(fault)),
+        }
     }
 }
