@@ -1,0 +1,5 @@
+pub mod EventLemmas
+pub mod LineLemmas
+pub mod NumberLemmas
+pub mod SaidLemmas
+pub mod WordLemmas
