@@ -1,17 +1,17 @@
 -- One step keeps places low, and what a leader is still to purge within the snapshot, at any state in order.
-use Rattle.std.specs.Prelude.{◌≡◌, ℕ, suc, ◌+◌, ◌<◌, ◌≤◌, ◌^◌, ◌&&◌, ◌==◌, nat_lt, List, [], ◌∷◌, length, Option, Some, None, option_map, refl}
-use Rattle.std.proofs.Common.{sym, ap, ◌∙◌, subst, arith}
+use Rattle.std.specs.Prelude.{◌≡◌, ℕ, ◌<◌, ◌≤◌, ◌&&◌, ◌==◌, nat_lt, [], ◌∷◌, Option, Some, None, option_map, refl}
+use Rattle.std.proofs.Common.{◌∙◌, arith}
 use Rattle.std.proofs.lemmas.Bool.{ltb-false}
 use Rattle.raft_values.specs.declared.log_id.LogId.{LogId}
 use Rattle.raft_values.specs.LogId.{log_id_of, next_place}
 use Rattle.raft_state.specs.declared.entry.EntryPayload.TheVariants.{Membership as Members}
 use Rattle.raft_group_step.specs.Values.{Entry, entry_of}
-use Rattle.raft_group_step.specs.StoredGroup.{StoredGroup, Snapshot, MakeGroup, PutEntries, entry_at, id_of, membership_in_force, snapshot_last}
+use Rattle.raft_group_step.specs.StoredGroup.{StoredGroup, Snapshot, PutEntries, entry_at, id_of, membership_in_force, snapshot_last}
 use Rattle.raft_group_step.specs.Message.{MessageBody, VoteRequest, VoteReply, AppendRequest, AppendReply, SnapshotRequest, SnapshotReply}
 use Rattle.raft_group_step.specs.GroupState.{GroupState, state_of}
 use Rattle.raft_group_step.specs.declared.group_call.GroupCall.TheVariants.{Initialize, Elect, Propose, ChangeMembership, Heartbeat, Lost, TriggerSnapshot, TriggerPurge}
 use Rattle.raft_group_step.specs.GroupEvent.{GroupCall, GroupEvent, AddGroup, Call, Receive, Open}
-use Rattle.raft_group_step.specs.StepResult.{RefusalReason, StepResult, is_within, store, unchanged}
+use Rattle.raft_group_step.specs.StepResult.{RefusalReason, StepResult, store, unchanged}
 use Rattle.raft_group_step.specs.VoteRequest.{may_grant}
 use Rattle.raft_group_step.specs.Lead.{commit_as_leader, purge_as_wished}
 use Rattle.raft_group_step.specs.Opening.{drop_stale_log, is_joined_to, opening_step, resume_lead}

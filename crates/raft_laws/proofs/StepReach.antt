@@ -1,11 +1,11 @@
 -- What a leader is still to purge lies within its snapshot, however far that reaches, after each kind of event.
-use Rattle.std.specs.Prelude.{◌≡◌, ℕ, ◌+◌, ◌<◌, ◌≤◌, ◌&&◌, min, cond, Bool, true, false, List, [], ◌∷◌, ◌++◌, length, Option, Some, None, is_none, is_some, option_map, refl}
+use Rattle.std.specs.Prelude.{◌≡◌, ℕ, ◌+◌, ◌<◌, ◌≤◌, ◌&&◌, min, cond, Bool, true, false, List, [], ◌∷◌, ◌++◌, Option, Some, None, is_none, is_some, option_map, refl}
 use Rattle.std.proofs.Common.{sym, ap, ◌∙◌, subst, arith}
 use Rattle.raft_values.specs.declared.vote.Vote.{Vote}
 use Rattle.raft_values.specs.declared.log_id.LogId.{LogId}
 use Rattle.raft_quorums.specs.Quorum.{is_quorum}
 use Rattle.raft_group_step.specs.Values.{ChangeMembers, Entry, has_id, LoggedMembership}
-use Rattle.raft_group_step.specs.StoredGroup.{Snapshot, CutFrom, prefix_of, entry_at, has_id_in_log}
+use Rattle.raft_group_step.specs.StoredGroup.{Snapshot, CutFrom, entry_at, has_id_in_log}
 use Rattle.raft_group_step.specs.Message.{AppendFields, ReplyFields, ReplyResult, Success, PartialSuccess, Conflict, HigherVote}
 use Rattle.raft_group_step.specs.Peer.{PeerState}
 use Rattle.raft_group_step.specs.GroupState.{GroupState, Lead, Role, Follower, Candidate, Leader}

@@ -1,30 +1,24 @@
 -- What a leader is still to purge lies within its snapshot's list, after each kind of event.
-use Rattle.std.specs.Prelude.{◌≡◌, ℕ, ◌+◌, ◌<◌, ◌≤◌, ◌&&◌, min, cond, Bool, true, false, List, [], ◌∷◌, ◌++◌, length, Option, Some, None, is_none, is_some, option_map, refl}
-use Rattle.std.proofs.Common.{sym, ap, ◌∙◌, subst, arith}
+use Rattle.std.specs.Prelude.{◌≡◌, ℕ, ◌+◌, ◌<◌, ◌≤◌, Bool, false, length, Option, Some, None, option_map}
 use Rattle.raft_values.specs.declared.vote.Vote.{Vote}
-use Rattle.raft_values.specs.declared.log_id.LogId.{LogId}
-use Rattle.raft_quorums.specs.Quorum.{is_quorum}
-use Rattle.raft_group_step.specs.Values.{ChangeMembers, Entry, has_id, LoggedMembership}
-use Rattle.raft_group_step.specs.StoredGroup.{Snapshot, CutFrom, prefix_of, entry_at, has_id_in_log}
-use Rattle.raft_group_step.specs.Message.{AppendFields, ReplyFields, ReplyResult, Success, PartialSuccess, Conflict, HigherVote}
-use Rattle.raft_group_step.specs.Peer.{PeerState}
-use Rattle.raft_group_step.specs.GroupState.{Lead, Role, Follower, Candidate, Leader}
-use Rattle.raft_group_step.specs.StepResult.{StepResult, in_role, send, store, step_down, take_over, later_place, is_within}
-use Rattle.raft_group_step.specs.Lead.{configs_in_force, other_ids, remove_up_to, with_wish, begin_lead, lead_if, with_grant, commit_as_leader, purge_as_wished}
-use Rattle.raft_group_step.specs.Frames.{lacks_entries, notice, send_request, serve, serve_as, serve_all, with_frames, has_grown}
-use Rattle.raft_group_step.specs.Elect.{elect_step, stand, other_voters}
+use Rattle.raft_group_step.specs.Values.{ChangeMembers, LoggedMembership}
+use Rattle.raft_group_step.specs.StoredGroup.{Snapshot, prefix_of}
+use Rattle.raft_group_step.specs.Message.{AppendFields, ReplyFields}
+use Rattle.raft_group_step.specs.GroupState.{Role}
+use Rattle.raft_group_step.specs.StepResult.{StepResult, step_down, take_over, is_within}
+use Rattle.raft_group_step.specs.Lead.{commit_as_leader, purge_as_wished}
+use Rattle.raft_group_step.specs.Frames.{with_frames}
+use Rattle.raft_group_step.specs.Elect.{elect_step}
 use Rattle.raft_group_step.specs.VoteRequest.{judged}
-use Rattle.raft_group_step.specs.VoteReply.{take_over_greater, counted}
-use Rattle.raft_group_step.specs.AppendRequest.{cut_from, cut_at, put_entries, joined, heard}
-use Rattle.raft_group_step.specs.SnapshotRequest.{place_above, cut_other, install, install_unless, offered}
-use Rattle.raft_group_step.specs.Reply.{answered, with_higher_vote, reply_step}
+use Rattle.raft_group_step.specs.VoteReply.{counted}
+use Rattle.raft_group_step.specs.AppendRequest.{heard}
+use Rattle.raft_group_step.specs.SnapshotRequest.{offered}
+use Rattle.raft_group_step.specs.Reply.{reply_step}
 use Rattle.raft_group_step.specs.MembershipStep.{append_changed}
-use Rattle.raft_group_step.specs.Heartbeat.{send_notices, beat_as}
+use Rattle.raft_group_step.specs.Heartbeat.{beat_as}
 use Rattle.raft_group_step.specs.Lost.{lost_as}
-use Rattle.raft_group_step.specs.PurgeTrigger.{purge_as, purge_within}
-use Rattle.raft_group_step.proofs.Words.{either, ask_state, take_over_keeps_committed}
+use Rattle.raft_group_step.specs.PurgeTrigger.{purge_within}
 use Rattle.raft_laws.proofs.StepFits.{WishFits}
-use Rattle.raft_laws.proofs.BallotAgreement.{same_some}
 use Rattle.raft_laws.proofs.StepReach as reached
 
 abbrev size_of : Option Snapshot → ℕ
