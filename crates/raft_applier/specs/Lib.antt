@@ -1,0 +1,5 @@
+pub mod Applied
+pub mod Building
+pub mod Following
+pub mod Running
+pub mod Seen

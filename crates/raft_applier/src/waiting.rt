@@ -1,0 +1,33 @@
+//! Those that wait to be told.
+ghost use Rattle.std.specs.Prelude.{◌≡◌, IfOk, count_by, map};
+ghost use Rattle.raft_values.specs.LogId.{reaches};
+ghost use Rattle.raft_applier.specs.Running.{is_same_lead};
+
+use raft_machines::Untold;
+use raft_state::{LogId, Vote};
+use raft_values::log_id_option_ext::reaches;
+use std::alloc::{AllocError, Global};
+
+// Whether a node that led under the first vote leads on, under the same one.
+pub(crate) fn leads_on(before: Option<Vote<u64>>, now: Option<Vote<u64>>) -> bool
+    ensures { result ≡ is_same_lead before now }
+{
+    match (before, now) {
+        (Some(before), Some(now)) => before == now,
+        _ => false,
+    }
+}
+
+// How many wait for places up to that of the log id.
+pub(crate) fn due_count(waiting: &[Untold], upto: &Option<LogId<u64>>) -> usize
+    ensures { result ≡ count_by (λ x. reaches upto.now x.place) waiting.now }
+{
+    waiting.iter().filter(|x| reaches(upto, x.place)).count()
+}
+
+// The tokens of those that wait.
+pub(crate) fn tokens_of(alloc: Global, waiting: &[Untold]) -> Result<Vec<u64>, AllocError>
+    ensures { IfOk result (λ tokens. tokens.items ≡ map (λ x. x.token) waiting.now) }
+{
+    waiting.iter().map(|x| x.token).collect(alloc)
+}
