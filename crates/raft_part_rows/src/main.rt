@@ -8,6 +8,7 @@
 mod calls_refused;
 mod candidates;
 mod commands;
+mod copies;
 mod groups;
 mod known_states;
 mod leaders;

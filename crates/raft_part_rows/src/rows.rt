@@ -3,6 +3,7 @@
 use crate::calls_refused::{call_refused, change_refused};
 use crate::candidates::{Standing, stood};
 use crate::commands::{configured, told_of_command};
+use crate::copies::copied_of;
 use crate::known_states::{Known, known_of, new_group};
 use crate::leaders::{Leading, led};
 use crate::machines::told_of_machine;
@@ -48,6 +49,7 @@ fn plain(topic: &str, alloc: Global, words: &[&str]) -> Option<Answer> {
         "judged" => judged(alloc, words),
         "message" => responded(alloc, words),
         "made" => copied_or_sent(alloc, words),
+        "copy" => copied_of(alloc, words),
         "command" => told_of_command(alloc, words),
         "config" => configured(alloc, words),
         "machine" => told_of_machine(alloc, words),
