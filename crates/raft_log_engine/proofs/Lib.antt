@@ -5,3 +5,4 @@ pub mod Fetched
 pub mod Clauses
 pub mod Opened
 pub mod Tables
+pub mod Reopened

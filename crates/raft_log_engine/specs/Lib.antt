@@ -1,3 +1,4 @@
 pub mod Held
 pub mod Left
 pub mod Opening
+pub mod Reopened

@@ -5,6 +5,7 @@ ghost use Rattle.std.specs.Ordering.{eq_by_cmp, nat_cmp};
 ghost use Rattle.std.specs.Set.{is_member};
 ghost use Rattle.raft_content_log.specs.Leaving.{AgreesElsewhere, AreEntries, IsWritten, LeavesElsewhere, MayBeWritten};
 ghost use Rattle.raft_log_engine.specs.Left.{IsSound, answers_on, leaves_on};
+ghost use Rattle.raft_log_engine.specs.Reopened.{OpensAs, OpensAsEither, StandsAlone, directories_of_engine};
 ghost use Rattle.raft_log_engine.specs.declared.fault.EngineFault.TheVariants.{Stopped};
 ghost use Rattle.raft_log_memtables.specs.Content.{after_batch, no_group};
 ghost use Rattle.raft_log_records.specs.Batch.{nothing_logged, payloads};
@@ -26,6 +27,11 @@ impl<F: FileSystem + Drop> Engine<F> {
         ensures err { IsSound self.old → OnErr result (MayBeWritten (IsSound self.new) (answers_on F.disk self.new) (leaves_on F.disk self.new)
             (answers_on F.disk self.old) (after_batch batch.old.items (answers_on F.disk self.old))) }
         ensures sound { IsSound self.old → OnOk result (IsSound self.new) }
+        ensures paths { self.new.append.paths ≡ self.old.append.paths }
+        ensures alone { StandsAlone F.disk self.old → OnOk result (StandsAlone F.disk self.new) }
+        ensures opens { IsSound self.old → StandsAlone F.disk self.old → OnOk result (OpensAs (directories_of_engine self.new) (F.disk self.new.files) (answers_on F.disk self.new)) }
+        ensures opens_either { IsSound self.old → StandsAlone F.disk self.old → OnErr result (OpensAsEither (directories_of_engine self.new) (F.disk self.new.files)
+            (answers_on F.disk self.old) (after_batch batch.old.items (answers_on F.disk self.old))) }
         ensures emptied { OnOk result (batch.new ≡ nothing_logged) }
         ensures stopped { self.old.is_stopped ≡ true → result ≡ Err Stopped }
         ensures others { LeavesElsewhere batch.old.items (leaves_on F.disk self.old) (leaves_on F.disk self.new) }

@@ -1,6 +1,8 @@
 //! An engine over one queue of files.
-ghost use Rattle.std.specs.Prelude.{◌≡◌, ◌<◌, false, length, IfOk};
+ghost use Rattle.std.specs.Prelude.{◌≡◌, ◌<◌, false, length, map, string_bytes, IfOk};
 ghost use Rattle.raft_log_engine.specs.Held.{seen_on};
+ghost use Rattle.raft_log_engine.specs.Reopened.{StandsAlone};
+ghost use Rattle.raft_log_pipe.specs.Alone.{AreDistinct, IsVacant};
 ghost use Rattle.raft_log_memtables.specs.Content.{nothing};
 ghost use Rattle.raft_log_pipe.specs.Pipe.{IsLast, IsPlain};
 ghost use Rattle.raft_log_records.specs.declared.file_id.LogQueue.TheVariants.{Append};
@@ -53,6 +55,7 @@ impl<F: FileSystem + Drop> Engine<F> {
         requires none { IsLast (F.disk files) paths.items Append 0 }
         ensures sound { IfOk result (λ e. e.is_stopped ≡ false) }
         ensures answers { IfOk result (λ e. seen_on (F.disk e.files) e.append e.tables ≡ nothing) }
+        ensures alone { IfOk result (λ e. AreDistinct (map string_bytes paths.items) → IsVacant (F.disk files).names (map string_bytes paths.items) Append → StandsAlone F.disk e) }
     {
         let append = SinglePipe::create(
             &mut files,

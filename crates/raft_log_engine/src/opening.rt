@@ -2,6 +2,8 @@
 ghost use Rattle.std.specs.Prelude.{◌≡◌, IfOk, IfErr, OnErr};
 ghost use Rattle.raft_log_engine.specs.Left.{IsSound, answers_on};
 ghost use Rattle.raft_log_engine.specs.Opening.{IsFoundContent, IsLeftByOpening, IsRecoveredAs};
+ghost use Rattle.raft_log_engine.specs.Reopened.{OpensAs, StandsAlone, directories_of_engine};
+ghost use Rattle.raft_log_pipe.specs.Alone.{IsAlone, IsOnce, directories_of_pipe};
 ghost use Rattle.raft_log_records.specs.declared.file_id.LogQueue.TheVariants.{Append};
 ghost use Rattle.raft_log_files.specs.Settings.{settings_of};
 ghost use Rattle.raft_log_recovery.specs.Scan.{directories_of};
@@ -45,6 +47,9 @@ fn recovered<F: FileSystem>(
     config: Config,
 ) -> Result<(SinglePipe, MemTables), EngineFault>
     ensures ok { IfOk result (λ found. IsRecoveredAs config.recovery_mode (directories_of (settings_of config)) (F.disk files.old) (F.disk files.new) found.0 found.1) }
+    ensures queue { IfOk result (λ found. found.0.queue ≡ Append) }
+    ensures paths { IfOk result (λ found. directories_of_pipe found.0 ≡ directories_of (settings_of config)) }
+    ensures alone { IfOk result (λ found. IsOnce (F.disk files.old).names (directories_of (settings_of config)) Append → IsAlone found.0 (F.disk files.new)) }
     ensures err { OnErr result (IsLeftByOpening (directories_of (settings_of config)) (F.disk files.old) (F.disk files.new)) }
 {
     let recovery = recovery_of(&config);
@@ -63,6 +68,9 @@ impl<F: FileSystem + Drop> Engine<F> {
     pub fn open(mut files: F, alloc: Global, config: Config) -> Result<Engine<F>, NotOpened<F>>
         ensures sound { IfOk result IsSound }
         ensures answers { IfOk result (λ e. IsFoundContent config.recovery_mode (directories_of (settings_of config)) (F.disk files) (answers_on F.disk e)) }
+        ensures directories { IfOk result (λ e. directories_of_engine e ≡ directories_of (settings_of config)) }
+        ensures alone { IfOk result (λ e. IsOnce (F.disk files).names (directories_of (settings_of config)) Append → StandsAlone F.disk e) }
+        ensures opens { IfOk result (λ e. StandsAlone F.disk e → OpensAs (directories_of_engine e) (F.disk e.files) (answers_on F.disk e)) }
         ensures err { IfErr result (λ refused. IsLeftByOpening (directories_of (settings_of config)) (F.disk files) (F.disk refused.files)) }
     {
         match recovered(&mut files, alloc, config) {
@@ -80,7 +88,8 @@ impl<F: FileSystem + Drop> Engine<F> {
     /// The files, handed back (raft-engine's `close`, which has nothing to write). An engine is
     /// opened again with them.
     pub fn close(self) -> F
-        ensures { result ≡ self.files }
+        ensures files { result ≡ self.files }
+        ensures opens { IsSound self → StandsAlone F.disk self → OpensAs (directories_of_engine self) (F.disk result) (answers_on F.disk self) }
     {
         self.files
     }

@@ -1,4 +1,6 @@
 use Rattle.raft_log_disk.proofs.CauseLemmas.{at_err}
+use Rattle.raft_log_pipe.specs.Alone.{IsAlone, IsNearlyAlone}
+use Rattle.raft_log_pipe.proofs.AloneLemmas.{alone_on, nearly_on}
 use Rattle.raft_log_pipe.proofs.BlockLemmas.{same_files, then_files}
 use Rattle.raft_log_engine.proofs.Appended.{appended_stands, appended_synced, appended_unsynced, first_refused}
 use Rattle.raft_log_engine.proofs.appending.append_synced.Goals as goal
@@ -25,3 +27,12 @@ returns-in_err-handle-clause-err g c =
 pub returns-clause-files : goal.returns-clause-files
 returns-clause-files g c =
     then_files c.args.pipe.now c.append.new.self c.sync.new.self c.in_ok-handle.ensures.files (same_files c.append.new.self c.sync.new.self c.in_ok-sync.ensures.same.0 c.in_ok-sync.ensures.same.1)
+
+pub returns-in_err-sync-clause-nearly : goal.returns-in_err-sync-clause-nearly
+returns-in_err-sync-clause-nearly g c =
+    at_err _ (IsAlone c.args.pipe.now (g.F.FileSystem.disk c.args.files.now) → IsNearlyAlone c.sync.new.self (g.F.FileSystem.disk c.sync.new.files))
+    (λ alone. nearly_on c.append.new.self c.sync.new.self (g.F.FileSystem.disk c.append.new.files) (g.F.FileSystem.disk c.sync.new.files) c.in_err-sync.ensures.same c.in_err-sync.ensures.paths c.in_err-sync.ensures.names (c.in_ok-handle.ensures.alone alone))
+
+pub returns-clause-alone : goal.returns-clause-alone
+returns-clause-alone g c =
+    λ alone. alone_on c.append.new.self c.sync.new.self (g.F.FileSystem.disk c.append.new.files) (g.F.FileSystem.disk c.sync.new.files) c.in_ok-sync.ensures.same c.in_ok-sync.ensures.paths c.in_ok-sync.ensures.names (c.in_ok-handle.ensures.alone alone)

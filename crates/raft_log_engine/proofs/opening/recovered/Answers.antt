@@ -8,7 +8,9 @@ use Rattle.raft_log_memtables.specs.Content.{nothing}
 use Rattle.raft_log_recovery.specs.Scan.{OnlyMakes, directories_of}
 use Rattle.raft_log_replay.specs.Batches.{content_over, placed_in}
 use Rattle.raft_log_engine.specs.Opening.{IsLeftByOpening}
+use Rattle.raft_log_recovery.specs.Queue.{directories_in}
 use Rattle.raft_log_engine.proofs.Opened.{found_in, holds_found, opened_left, recovered_as, refused_in}
+use Rattle.raft_log_engine.proofs.Reopened.{once_there}
 use Rattle.raft_log_engine.proofs.opening.recovered.Goals as goal
 
 pub returns-in_err-scan-clause-err : goal.returns-in_err-scan-clause-err
@@ -60,3 +62,16 @@ returns-clause-ok g c =
     (c.in_ok-tables.ensures.content
     ∙ ap (λ x. content_over x (placed_in c.open_queue.new.machine)) c.new.ensures.content
     ∙ ap (content_over nothing) all.1)
+
+pub returns-clause-queue : goal.returns-clause-queue
+returns-clause-queue g c = c.in_ok-pipe.ensures.queue ∙ c.recovery_of-recovery.ensures.queue
+
+pub returns-clause-paths : goal.returns-clause-paths
+returns-clause-paths g c = c.in_ok-pipe.ensures.paths ∙ c.in_ok-scan.ensures.directories ∙ ap (λ (k : Config). directories_of (settings_of k)) c.new-builder.ensures.config
+
+pub returns-clause-alone : goal.returns-clause-alone
+returns-clause-alone g c =
+    let same = ap (λ (k : Config). directories_of (settings_of k)) c.new-builder.ensures.config in
+    let b = c.scan.new.self in
+    λ once. c.in_ok-pipe.ensures.alone (once_there (g.F.FileSystem.disk c.args.files.now) (g.F.FileSystem.disk c.scan.new.files) _ _ (directories_in b) c.recovery_of-recovery.result.queue c.in_ok-scan.ensures.only
+    (c.in_ok-scan.ensures.directories ∙ same) c.recovery_of-recovery.ensures.queue once)

@@ -16,3 +16,10 @@ invariant_of-result g c = λ sound. (
 
 pub returns-clause-answers : goal.returns-clause-answers
 returns-clause-answers g c = ap (content_map (bytes_on (g.F.FileSystem.disk c.create.new.files) c.in_ok-append.append)) c.new.ensures.content
+
+pub returns-clause-alone : goal.returns-clause-alone
+returns-clause-alone g c =
+    λ distinct vacant. record {
+      queue = c.in_ok-append.ensures.first.0;
+      alone = c.in_ok-append.ensures.alone distinct vacant;
+    }

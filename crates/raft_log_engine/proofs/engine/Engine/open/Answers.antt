@@ -1,4 +1,5 @@
 -- What calls answer is the content of the batches that the files read as.
+use Rattle.raft_log_engine.proofs.Reopened.{kept_opens}
 use Rattle.raft_log_engine.proofs.Tables.{answered}
 use Rattle.raft_log_recovery.specs.Opening.{batches_of}
 use Rattle.raft_log_records.specs.declared.file_id.LogQueue.TheVariants.{Append}
@@ -16,3 +17,12 @@ returns-in-Ok-clause-answers g c =
       passed = is.passed;
       is = answered (g.F.FileSystem.disk c.recovered.new.files) c.in-Ok.append c.in-Ok.tables (batches_of Append is.made is.files) is.kept;
     }
+
+pub returns-in-Ok-clause-alone : goal.returns-in-Ok-clause-alone
+returns-in-Ok-clause-alone g c = λ once. record { queue = c.in-Ok.ensures.queue; alone = c.in-Ok.ensures.alone once }
+
+pub returns-in-Ok-clause-opens : goal.returns-in-Ok-clause-opens
+returns-in-Ok-clause-opens g c =
+    let met = g.met.F.FileSystem g.world.𝓛 g.world.𝓜 g.world.𝓡 ((λ s x. x), (λ x. x), (λ x. x), λ x. x) in
+    let is = c.in-Ok.ensures.ok in
+    λ alone. kept_opens (g.F.FileSystem.disk c.recovered.new.files) c.in-Ok.append c.in-Ok.tables (batches_of Append is.made is.files) (met.is_named c.recovered.new.files) alone.queue alone.alone is.kept
