@@ -4,4 +4,6 @@ pub mod EntryReads
 pub mod Fetched
 pub mod Clauses
 pub mod Opened
+mod Seen
 pub mod Tables
+mod Visits

@@ -1,3 +1,6 @@
+pub mod Blocks
 pub mod Held
 pub mod Left
 pub mod Opening
+pub mod Reads
+pub mod Scanning
