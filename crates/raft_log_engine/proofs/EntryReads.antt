@@ -83,11 +83,18 @@ block_is : (p : SinglePipe) (d : Disk) (h : FileBlockHandle) (bytes block : List
 block_is p d h bytes block f are is =
     ap (λ (o : Option File). block_in d h o) f.is ∙ ap unsealed_bytes (sym (are f.file f.among f.number)) ∙ unsealed_is block bytes is
 
--- what is read of an entry
-pub entry_read : (p : SinglePipe) (d : Disk) (e : EntryIndex) (h : FileBlockHandle) (bytes block : List ℕ) → IsPipe p d → e.entries ≡ Some h → AreOfFile p d h bytes → (IsOutOfSpan p h.id.seq → ⊥) → bytes ≡ sealed None block
-    → entry_bytes block e ≡ bytes_on d p e
-entry_read p d e h bytes block pipe place are within is =
-    sym (ap (λ (o : Option FileBlockHandle). bytes_placed d p e o) place ∙ ap (λ (l : List ℕ). entry_bytes l e) (block_is p d h bytes block (not_out p d h.id.seq pipe within) are is))
+-- a block that is read, without its checksum
+pub block_read : (p : SinglePipe) (d : Disk) (h : FileBlockHandle) (bytes block kept : List ℕ) → IsPipe p d → AreOfFile p d h bytes → (IsOutOfSpan p h.id.seq → ⊥) → bytes ≡ sealed None block → kept ≡ take (length block) bytes
+    → kept ≡ block_in d h (file_in h.id.seq (files_of p))
+block_read p d h bytes block kept pipe are within is cut =
+    cut
+    ∙ ap (λ (l : List ℕ). take (length block) l) is
+    ∙ take_at block (to_be_bytes w32 (crc32_of block)) (length block) refl
+    ∙ sym (block_is p d h bytes block (not_out p d h.id.seq pipe within) are is)
+
+-- what is read of an entry in its block
+pub entry_read : (p : SinglePipe) (d : Disk) (e : EntryIndex) (h : FileBlockHandle) (block bytes : List ℕ) → e.entries ≡ Some h → block ≡ block_in d h (file_in h.id.seq (files_of p)) → bytes ≡ entry_bytes block e → bytes ≡ bytes_on d p e
+entry_read p d e h block bytes place read is = is ∙ ap (λ (l : List ℕ). entry_bytes l e) read ∙ sym (ap (λ (o : Option FileBlockHandle). bytes_placed d p e o) place)
 
 -- entries that lie in batches of the pipe are read as their bytes
 pub disk_reads : (p : SinglePipe) (d : Disk) (bs : Numbered) → IsPipe p d → Holds p d bs [] → ReadsEntries p bs (bytes_on d p)

@@ -4,5 +4,7 @@ pub mod EntryReads
 pub mod Fetched
 pub mod Clauses
 pub mod Opened
+mod Seen
 pub mod Tables
 pub mod Reopened
+mod Visits

@@ -1,6 +1,7 @@
 //! Entries and their blocks.
 ghost use Rattle.std.specs.Prelude.{◌≡◌, IfOk, IfSome, None, map};
 ghost use Rattle.raft_content_log.specs.Leaving.{AreEntries};
+ghost use Rattle.raft_log_engine.specs.Blocks.{IsReadAs};
 ghost use Rattle.raft_log_engine.specs.Held.{bytes_on, seen_on};
 ghost use Rattle.raft_log_pipe.specs.Pipe.{IsPipe};
 ghost use Rattle.raft_log_records.specs.Batch.{encoded_of, payloads};
@@ -12,7 +13,8 @@ use raft_log_files::{CorruptionFault, Error, FileSystem};
 use raft_log_memtables::{FetchError, MemTables};
 use raft_log_pipe::SinglePipe;
 use raft_log_records::{
-    EntryIndex, LogBatch, LogItemBatch, RecordError, RecordFault, read_entries_block, read_record,
+    EntryIndex, FileBlockHandle, LogBatch, LogItemBatch, RecordError, RecordFault,
+    read_entries_block, read_record,
 };
 use std::alloc::Global;
 
@@ -53,8 +55,80 @@ fn bytes_of(entries: &[u8], place: EntryIndex) -> Option<&[u8]>
     Some(&rest[..rest.len().min(place.entry_len as usize)])
 }
 
-/// A copy of an entry's bytes, from its block. The block's checksum is checked.
-fn copy_of<F: FileSystem>(
+/// The entries of a block, without its checksum.
+#[derive(Drop)]
+pub(crate) struct Block {
+    handle: FileBlockHandle,
+    entries: Vec<u8>,
+}
+
+/// Reads a block, and checks its checksum.
+fn read_block<F: FileSystem>(
+    files: &F,
+    pipe: &SinglePipe,
+    handle: FileBlockHandle,
+) -> Result<Block, EngineFault>
+    requires { IsPipe pipe.now (F.disk files.now) }
+    ensures handle { IfOk result (λ block. block.handle ≡ handle) }
+    ensures read { IfOk result (IsReadAs (F.disk files.now) pipe.now) }
+{
+    let mut bytes = pipe.read_bytes(files, handle)?;
+    let len = match read_entries_block(&bytes) {
+        Ok(entries) => entries.len(),
+        Err(fault) => return Err(corrupt(fault)),
+    };
+    bytes.truncate(len);
+    Ok(Block {
+        handle,
+        entries: bytes,
+    })
+}
+
+/// A block: the one that was read last, or read from its file.
+fn block_at<F: FileSystem>(
+    files: &F,
+    pipe: &SinglePipe,
+    last: Option<Block>,
+    handle: FileBlockHandle,
+) -> Result<Block, EngineFault>
+    requires pipe { IsPipe pipe.now (F.disk files.now) }
+    requires last { IfSome last (IsReadAs (F.disk files.now) pipe.now) }
+    ensures handle { IfOk result (λ block. block.handle ≡ handle) }
+    ensures read { IfOk result (IsReadAs (F.disk files.now) pipe.now) }
+{
+    match last {
+        Some(block) if block.handle == handle => Ok(block),
+        _ => read_block(files, pipe, handle),
+    }
+}
+
+/// A copy of an entry's bytes, and its block, which may be the one that was read last.
+#[tactic(auto, using(crate::proofs::EntryReads::entry_read))]
+fn copy_with<F: FileSystem>(
+    alloc: Global,
+    files: &F,
+    pipe: &SinglePipe,
+    last: Option<Block>,
+    place: EntryIndex,
+) -> Result<(Vec<u8>, Block), EngineFault>
+    requires pipe { IsPipe pipe.now (F.disk files.now) }
+    requires last { IfSome last (IsReadAs (F.disk files.now) pipe.now) }
+    ensures copied { IfOk result (λ r. r.0.items ≡ bytes_on (F.disk files.now) pipe.now place) }
+    ensures read { IfOk result (λ r. IsReadAs (F.disk files.now) pipe.now r.1) }
+{
+    let Some(handle) = place.entries else {
+        return Err(EngineFault::Log(Error::EntryNotFound));
+    };
+    let block = block_at(files, pipe, last, handle)?;
+    let Some(bytes) = bytes_of(&block.entries, place) else {
+        return Err(corrupt(RecordFault::EntriesLength));
+    };
+    let copy = Vec::from_slice(alloc, bytes)?;
+    Ok((copy, block))
+}
+
+/// A copy of an entry's bytes, from its block in a file.
+pub(crate) fn copy_of<F: FileSystem>(
     alloc: Global,
     files: &F,
     pipe: &SinglePipe,
@@ -63,21 +137,11 @@ fn copy_of<F: FileSystem>(
     requires { IsPipe pipe.now (F.disk files.now) }
     ensures { IfOk result (λ v. v.items ≡ bytes_on (F.disk files.now) pipe.now place) }
 {
-    let Some(handle) = place.entries else {
-        return Err(EngineFault::Log(Error::EntryNotFound));
-    };
-    let block = pipe.read_bytes(files, handle)?;
-    let entries = match read_entries_block(&block) {
-        Ok(entries) => entries,
-        Err(fault) => return Err(corrupt(fault)),
-    };
-    match bytes_of(entries, place) {
-        Some(bytes) => Ok(Vec::from_slice(alloc, bytes)?),
-        None => Err(corrupt(RecordFault::EntriesLength)),
-    }
+    let (copy, _) = copy_with(alloc, files, pipe, None, place)?;
+    Ok(copy)
 }
 
-/// Copies of entries' bytes.
+/// Copies of entries' bytes. A block is read once for neighbours that lie in it.
 fn copies_of<F: FileSystem>(
     alloc: Global,
     files: &F,
@@ -88,8 +152,11 @@ fn copies_of<F: FileSystem>(
     ensures { IfOk result (λ found. payloads found.items ≡ map (bytes_on (F.disk files.now) pipe.now) places.now) }
 {
     let mut copies = Vec::new(alloc);
+    let mut last = None;
     for place in places {
-        copies.push(copy_of(alloc, files, pipe, *place)?)?;
+        let (copy, block) = copy_with(alloc, files, pipe, last.take(), *place)?;
+        copies.push(copy)?;
+        last = Some(block);
     }
     Ok(copies)
 }

@@ -1,13 +1,10 @@
 //! Writes and reads of an engine.
 ghost use Rattle.std.specs.Prelude.{◌≡◌, ℕ, true, false, Err, IfOk, OnOk, OnErr, option_map};
-ghost use Rattle.std.specs.List.Sorted.{IsStrictlySortedBy};
-ghost use Rattle.std.specs.Ordering.{eq_by_cmp, nat_cmp};
-ghost use Rattle.std.specs.Set.{is_member};
 ghost use Rattle.raft_content_log.specs.Leaving.{AgreesElsewhere, AreEntries, IsWritten, LeavesElsewhere, MayBeWritten};
 ghost use Rattle.raft_log_engine.specs.Left.{IsSound, answers_on, leaves_on};
 ghost use Rattle.raft_log_engine.specs.Reopened.{OpensAs, OpensAsEither, StandsAlone, directories_of_engine};
 ghost use Rattle.raft_log_engine.specs.declared.fault.EngineFault.TheVariants.{Stopped};
-ghost use Rattle.raft_log_memtables.specs.Content.{after_batch, no_group};
+ghost use Rattle.raft_log_memtables.specs.Content.{after_batch};
 ghost use Rattle.raft_log_records.specs.Batch.{nothing_logged, payloads};
 
 use crate::appending::append_synced;
@@ -109,20 +106,5 @@ impl<F: FileSystem + Drop> Engine<F> {
             return Err(EngineFault::Stopped);
         }
         Ok(self.tables.has_group(group))
-    }
-
-    /// The ids of the groups that the engine has something of, rising (raft-engine's
-    /// `raft_groups`).
-    #[tactic(auto, unfolding(raft_log_memtables::specs::MemTables::content_in))]
-    pub fn raft_groups(&self) -> Result<Vec<u64>, EngineFault>
-        ensures rising { IfOk result (λ ids. IsStrictlySortedBy nat_cmp ids.items) }
-        ensures there { IfOk result (λ ids. (group : ℕ) → (answers_on F.disk self.now group).there ≡ is_member (eq_by_cmp nat_cmp) ids.items group) }
-        ensures none { OnOk result ((group : ℕ) → (answers_on F.disk self.now group).there ≡ false → answers_on F.disk self.now group ≡ no_group) }
-        ensures stopped { self.now.is_stopped ≡ true → result ≡ Err Stopped }
-    {
-        if self.is_stopped {
-            return Err(EngineFault::Stopped);
-        }
-        Ok(self.tables.groups()?)
     }
 }

@@ -4,10 +4,13 @@
 mod appending;
 mod blocks;
 mod calls;
+mod compaction;
 mod engine;
 mod fault;
 mod memory;
 mod opening;
+mod reads;
+mod scans;
 mod writing;
 
 pub use engine::Engine;

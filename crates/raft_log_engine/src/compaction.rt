@@ -1,0 +1,50 @@
+//! Compaction of a group.
+ghost use Rattle.std.specs.Prelude.{◌≡◌, ◌∷◌, [], true, Err, IfOk, OnOk, OnErr};
+ghost use Rattle.raft_content_log.specs.Leaving.{AgreesElsewhere, IsWritten, LeavesElsewhere, MayBeWritten};
+ghost use Rattle.raft_log_engine.specs.Left.{IsSound, answers_on, leaves_on};
+ghost use Rattle.raft_log_engine.specs.Reads.{compaction};
+ghost use Rattle.raft_log_engine.specs.declared.fault.EngineFault.TheVariants.{Stopped};
+ghost use Rattle.raft_log_memtables.specs.Content.{after_batch};
+ghost use Rattle.raft_log_memtables.specs.Fetch.{count_before};
+
+use crate::blocks::of_record;
+use crate::engine::Engine;
+use crate::fault::EngineFault;
+use raft_log_files::FileSystem;
+use raft_log_records::{Command, LogBatch};
+use std::alloc::Global;
+
+/// A batch that compacts a group.
+fn compaction_of(alloc: Global, group: u64, index: u64) -> Result<LogBatch, EngineFault>
+    ensures { IfOk result (λ batch. batch.items ≡ compaction group index ∷ []) }
+{
+    let mut batch = LogBatch::new(alloc);
+    match batch.add_command(group, Command::Compact { index }) {
+        Ok(()) => Ok(batch),
+        Err(error) => Err(of_record(error)),
+    }
+}
+
+impl<F: FileSystem + Drop> Engine<F> {
+    /// Removes a group's entries before an index, by a batch that is written and synced, and answers
+    /// how many they were (raft-engine's `compact_to`, which takes them for as many as the indexes
+    /// between, and passes over a group without entries: here it is there from then on).
+    pub fn compact_to(&mut self, group: u64, index: u64) -> Result<u64, EngineFault>
+        ensures count { IfOk result (λ count. count ≡ count_before (answers_on F.disk self.old group).entry index) }
+        ensures ok { IsSound self.old → OnOk result (IsWritten (answers_on F.disk self.new) (leaves_on F.disk self.new) (after_batch (compaction group index ∷ []) (answers_on F.disk self.old))) }
+        ensures err { IsSound self.old → OnErr result (MayBeWritten (IsSound self.new) (answers_on F.disk self.new) (leaves_on F.disk self.new)
+            (answers_on F.disk self.old) (after_batch (compaction group index ∷ []) (answers_on F.disk self.old))) }
+        ensures sound { IsSound self.old → OnOk result (IsSound self.new) }
+        ensures stopped { self.old.is_stopped ≡ true → result ≡ Err Stopped }
+        ensures others { LeavesElsewhere (compaction group index ∷ []) (leaves_on F.disk self.old) (leaves_on F.disk self.new) }
+        ensures others_answered { IsSound self.new → IsSound self.old × AgreesElsewhere (compaction group index ∷ []) (answers_on F.disk self.new) (answers_on F.disk self.old) }
+    {
+        if self.is_stopped {
+            return Err(EngineFault::Stopped);
+        }
+        let mut batch = compaction_of(self.alloc, group, index)?;
+        let count = self.tables.count_before(group, index);
+        self.write(&mut batch)?;
+        Ok(count)
+    }
+}
