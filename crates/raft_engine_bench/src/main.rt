@@ -2,8 +2,9 @@
 //!
 //! Each line of the input is a task such as `3 0 100 1000`: how many voters the group has, how many
 //! learners, how many entries its log before, and how many commands the leader takes, one after the
-//! other, each with all messages up to the last answer. Its answer is how many entries are committed,
-//! and how many messages were sent.
+//! other, each with all messages up to the last answer. Two more words may follow: how many leaders
+//! wrote the entries before, one after the other, and how many of these have a membership; 1 where
+//! there is none. The answer is how many entries are committed, and how many messages were sent.
 #![tactic(auto)]
 
 mod cluster;
@@ -15,6 +16,14 @@ use crate::setup::Task;
 use std::alloc::{AllocError, Global};
 use std::io;
 
+// The number that the word spells, or 1 where there is no word.
+fn word_or_one(word: Option<&str>) -> Option<u64> {
+    match word {
+        None => Some(1),
+        Some(word) => word.parse().ok(),
+    }
+}
+
 fn parse(line: &str) -> Option<Task> {
     let mut words = line.split_whitespace();
     Some(Task {
@@ -22,6 +31,8 @@ fn parse(line: &str) -> Option<Task> {
         learners: words.next()?.parse().ok()?,
         entries: words.next()?.parse().ok()?,
         commands: words.next()?.parse().ok()?,
+        leaders: word_or_one(words.next())?,
+        memberships: word_or_one(words.next())?,
     })
 }
 

@@ -1,11 +1,12 @@
 //! What a group begins with.
+ghost use Rattle.std.specs.Prelude.{◌<◌};
 
 use crate::node::Numbered;
 use raft_engine::{Engine, KnownState};
 use raft_messages::{GroupEntry, all_go_on};
 use raft_state::{
-    BasicNode, Entry, EntryPayload, IdSet, LeaderId, LogId, Membership, NodeMap, SnapshotMeta,
-    Vote, VoterGroups,
+    BasicNode, Bytes, Entry, EntryPayload, IdSet, LeaderId, LogId, Membership, NodeMap,
+    SnapshotMeta, Vote, VoterGroups,
 };
 use raft_stored_group::StoredGroup;
 use std::alloc::{AllocError, Global};
@@ -21,6 +22,10 @@ pub struct Task {
     pub entries: u64,
     /// How many commands the leader takes.
     pub commands: u64,
+    /// How many leaders wrote the entries before, one after the other.
+    pub leaders: u64,
+    /// How many of the entries before have a membership.
+    pub memberships: u64,
 }
 
 impl Task {
@@ -30,7 +35,7 @@ impl Task {
     }
 }
 
-// The group's only membership.
+// The same membership each time.
 fn membership(alloc: Global, task: &Task) -> Result<Membership<u64, BasicNode>, AllocError> {
     let mut voters = IdSet::new(alloc);
     for at in 0..task.voters {
@@ -45,7 +50,35 @@ fn membership(alloc: Global, task: &Task) -> Result<Membership<u64, BasicNode>, 
     Ok(Membership::from_parts(groups, nodes))
 }
 
-// The set-up's entry, and behind it blank ones of another leader's term.
+// How many entries go by until the next one of so many begins.
+fn stretch(entries: u64, count: u64) -> u64
+    ensures { 0 < result }
+{
+    if count == 0 {
+        return 1;
+    }
+    (entries / count).max(1)
+}
+
+// The leader that wrote the entry.
+fn leader(task: &Task, index: u64) -> LeaderId<u64> {
+    let run = stretch(task.entries, task.leaders);
+    LeaderId::new((index / run).saturating_add(1), 2)
+}
+
+// What the entry has: nothing, or a membership.
+fn payload(
+    alloc: Global,
+    task: &Task,
+    index: u64,
+) -> Result<EntryPayload<u64, BasicNode, Bytes>, AllocError> {
+    if index % stretch(task.entries, task.memberships) == 0 {
+        return Ok(EntryPayload::Membership(membership(alloc, task)?));
+    }
+    Ok(EntryPayload::Blank)
+}
+
+// The set-up's entry, and behind it blank ones and memberships of other leaders' terms.
 fn entries(alloc: Global, task: &Task) -> Result<Vec<GroupEntry>, AllocError> {
     let mut entries = Vec::new(alloc);
     entries.push(Entry {
@@ -54,8 +87,8 @@ fn entries(alloc: Global, task: &Task) -> Result<Vec<GroupEntry>, AllocError> {
     })?;
     for index in 1..task.entries {
         entries.push(Entry {
-            log_id: LogId::new(LeaderId::new(1, 2), index),
-            payload: EntryPayload::Blank,
+            log_id: LogId::new(leader(task, index), index),
+            payload: payload(alloc, task, index)?,
         })?;
     }
     Ok(entries)
@@ -65,7 +98,8 @@ fn entries(alloc: Global, task: &Task) -> Result<Vec<GroupEntry>, AllocError> {
 pub fn stored(alloc: Global, task: &Task) -> Result<StoredGroup, AllocError> {
     let mut stored = StoredGroup::new(alloc);
     stored.make_group();
-    stored.set_vote(Vote::new(1, 2));
+    let last = leader(task, task.entries.saturating_sub(1));
+    stored.set_vote(Vote::new(last.term, 2));
     let entries = entries(alloc, task)?;
     stored.put_entries(0, entries.as_slice())?;
     Ok(stored)
