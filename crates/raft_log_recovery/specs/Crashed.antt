@@ -39,7 +39,9 @@ OpensWith directories queue d synced unsynced =
 
 -- so it is of a pipe whose files are the last ones of its queue
 abbrev pub CrashedPipesAreFound : Type 0
-CrashedPipesAreFound = (p : SinglePipe) (d : Disk) (synced unsynced : Numbered) → IsNamed d → IsNearlyAlone p d → Leaves p d synced unsynced → OpensWith (directories_of_pipe p) p.queue d synced unsynced
+CrashedPipesAreFound =
+    (p : SinglePipe) (d : Disk) (synced unsynced : Numbered) → IsNamed d → IsNearlyAlone p d → Leaves p d synced unsynced
+    → OpensWith (directories_of_pipe p) p.queue d synced unsynced
 
 -- ---- what clients need of openings
 
