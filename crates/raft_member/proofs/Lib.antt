@@ -7,3 +7,4 @@ pub mod FactLemmas
 pub mod OpeningLemmas
 pub mod MessageLemmas
 pub mod LoadedLemmas
+pub mod ReadyLemmas

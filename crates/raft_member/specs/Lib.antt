@@ -1,3 +1,4 @@
 pub mod Member
 pub mod Running
 pub mod Opening
+pub mod Ready

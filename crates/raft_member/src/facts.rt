@@ -52,9 +52,9 @@ pub(crate) fn membership_in_force(known: &KnownState<u64, BasicNode>) -> Option<
     }
 }
 
-// The facts of a group that the node has, by which an event is judged: what its engine knows of
-// it, so that no log is walked.
-pub(crate) fn facts_of(own: u64, engine: &Engine<ByteGroup>) -> GroupFacts<'_>
+/// The facts of a group that the node `own` has, by which its events are judged (own): what its
+/// engine knows of it, so that no log is walked and nothing is read. They are lent from the engine.
+pub fn facts_of(own: u64, engine: &Engine<ByteGroup>) -> GroupFacts<'_>
     ensures { (s : GroupState) → IsStateOf own engine.now s → s.stored.present ≡ true → end_place s.stored < 2 ^ 64 → IsFactsOf own result s }
 {
     let known = &engine.state;

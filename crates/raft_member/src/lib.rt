@@ -8,5 +8,8 @@ mod facts;
 pub mod member;
 mod messages;
 mod opening;
+mod ready;
 
+pub use facts::facts_of;
 pub use member::{Broken, ByteGroup, Ended, Member};
+pub use ready::ready_states_stay_ready;
