@@ -1,5 +1,5 @@
 -- The reasons of refusals, told by the facts of a group alone.
-use Rattle.std.specs.Prelude.{◌≡◌, ℕ, Bool, true, false, ◌+◌, ◌<◌, ◌^◌, ◌==◌, ◌&&◌, ◌||◌, not, nat_lt, nat_le, length, List, [], ◌∷◌, Option, Some, None}
+use Rattle.std.specs.Prelude.{◌≡◌, ℕ, Bool, true, false, ◌+◌, ◌<◌, ◌==◌, ◌&&◌, ◌||◌, not, nat_lt, nat_le, length, List, [], ◌∷◌, Option, Some, None}
 use Rattle.raft_values.specs.declared.vote.Vote.{Vote}
 use Rattle.raft_values.specs.declared.log_id.LogId.{LogId}
 use Rattle.raft_conditions.specs.declared.facts.GroupFacts.{GroupFacts}
@@ -20,10 +20,10 @@ is_low n = nat_lt n number_limit
 abbrev pub is_low_id : LogId ℕ → Bool
 is_low_id id = is_low id.leader_id.term && is_low id.index
 
--- each of the numbers is below 2 ^ 62
+-- each of the numbers is below the limit
 abbrev pub AreLow : List ℕ → Type 0
 AreLow [] = Unit {0}
-AreLow (n ∷ ns) = (n < 2 ^ 62) × AreLow ns
+AreLow (n ∷ ns) = (n < number_limit) × AreLow ns
 
 -- ---- calls
 
@@ -94,7 +94,7 @@ has_room f = (not f.is_candidate || is_low f.end) && is_low f.greatest_next_id
 
 -- the numbers that an event may be answered with are low
 abbrev pub HasRoom : GroupFacts → Type 0
-HasRoom f = (f.is_candidate ≡ true → f.end < 2 ^ 62) × (f.greatest_next_id < 2 ^ 62)
+HasRoom f = (f.is_candidate ≡ true → f.end < number_limit) × (f.greatest_next_id < number_limit)
 
 -- the entry's place follows, its leader is none lower, and none is above the vote's
 abbrev pub follows : Vote ℕ → Option (LogId ℕ) → LogId ℕ → Bool

@@ -4,6 +4,7 @@ use Rattle.std.specs.List.{list_all, list_any}
 use Rattle.std.specs.Cmp.Lexicographic.{pointwise}
 use Rattle.raft_quorums.specs.Quorum.{last_config}
 use Rattle.raft_membership.specs.MembershipChange.{without_ids}
+use Rattle.raft_group_step.specs.Limits.{address_limit, node_limit, voter_group_limit, voter_limit}
 use Rattle.raft_group_step.specs.Refusal.{first_of_reasons, unless}
 use Rattle.raft_group_step.specs.StepResult.{RefusalReason, MembershipRefused, VoterChange}
 use Rattle.raft_group_step.specs.Values.{configs_eq}
@@ -22,13 +23,13 @@ abbrev pub goal_of : Goal → List ℕ
 goal_of (Just newcomers) = ids_of newcomers
 goal_of (Stayers group leavers) = without_ids nat_eq group.now leavers.now
 
--- the group has somebody, at most 64 voters, and each of them is known
+-- the group has somebody, not too many, and each of them is known
 abbrev pub is_fit_group : (ℕ → Bool) → List ℕ → Bool
-is_fit_group known group = not (length group == 0) && nat_le (length group) 64 && list_all known group
+is_fit_group known group = not (length group == 0) && nat_le (length group) voter_limit && list_all known group
 
--- there are at most 8 groups, and each is fit
+-- there are not too many groups, and each is fit
 abbrev pub are_fit_groups : (ℕ → Bool) → List (List ℕ) → Bool
-are_fit_groups known configs = nat_le (length configs) 8 && list_all (is_fit_group known) configs
+are_fit_groups known configs = nat_le (length configs) voter_group_limit && list_all (is_fit_group known) configs
 
 -- the last group, if there is one, is fit
 abbrev pub is_last_fit : (ℕ → Bool) → List (List ℕ) → Bool
@@ -38,13 +39,13 @@ is_last_fit known configs = length configs == 0 || is_fit_group known (last_conf
 abbrev pub is_there : List ℕ → List (List ℕ) → Bool
 is_there goal configs = list_any (λ group. pointwise nat_eq group goal) configs
 
--- the address has at most 255 bytes
+-- the address is short enough
 abbrev pub is_short_node : ℕ × List ℕ → Bool
-is_short_node node = nat_le (length node.1) 255
+is_short_node node = nat_le (length node.1) address_limit
 
--- there are at most 128 nodes, and each address is short
+-- there are not too many nodes, and each address is short
 abbrev pub are_fit_nodes : List (ℕ × List ℕ) → Bool
-are_fit_nodes nodes = nat_le (length nodes) 128 && list_all is_short_node nodes
+are_fit_nodes nodes = nat_le (length nodes) node_limit && list_all is_short_node nodes
 
 -- why these voter groups don't follow the old ones, where these nodes are known
 abbrev pub reason_of_step : (ℕ → Bool) → List (List ℕ) → List (List ℕ) → Bool → Option RefusalReason

@@ -6,6 +6,7 @@ ghost use Rattle.raft_quorums.specs.Nodes.{has_id, has_node, with_new_nodes, wit
 ghost use Rattle.raft_quorums.specs.Quorum.{last_config};
 ghost use Rattle.raft_quorums.specs.Rising.{IsRising};
 ghost use Rattle.raft_membership.specs.MembershipChange.{without_nodes};
+ghost use Rattle.raft_group_step.specs.Limits.{address_limit, node_limit};
 ghost use Rattle.raft_conditions.specs.Fitting.{are_fit_groups, are_fit_nodes, is_fit_group, is_last_fit, is_short_node};
 
 use crate::goal::are_ids_in;
@@ -110,7 +111,7 @@ pub(crate) fn is_last_fit<S: HasId<u64>>(groups: &[IdSet<u64>], nodes: &S) -> bo
 
 // Whether the address has at most so many bytes as it may have.
 fn is_short(node: &BasicNode) -> bool
-    ensures { result ≡ nat_le (length node.now) 255 }
+    ensures { result ≡ nat_le (length node.now) address_limit }
 {
     node.addr.len() <= MAX_ADDRESS_BYTES
 }
@@ -159,7 +160,7 @@ fn count_left(nodes: &[(u64, BasicNode)], ids: &IdSet<u64>) -> usize
 
 // Whether both together are few enough.
 fn are_few(nodes: &[(u64, BasicNode)], others: &[(u64, BasicNode)]) -> bool
-    ensures { result ≡ nat_le (length nodes.now + count_by (λ x. not (has_node nat_eq nodes.now x.0)) others.now) 128 }
+    ensures { result ≡ nat_le (length nodes.now + count_by (λ x. not (has_node nat_eq nodes.now x.0)) others.now) node_limit }
 {
     nodes.len() <= MAX_NODES && count_new(nodes, others) <= MAX_NODES - nodes.len()
 }
@@ -173,7 +174,7 @@ pub(crate) fn are_fit_nodes(nodes: &[(u64, BasicNode)]) -> bool
 
 // Whether nodes are within the limits that have these and the new ones of the others.
 fn are_few_and_short(nodes: &[(u64, BasicNode)], others: &[(u64, BasicNode)]) -> bool
-    ensures { result ≡ (nat_le (length nodes.now + count_by (λ x. not (has_node nat_eq nodes.now x.0)) others.now) 128
+    ensures { result ≡ (nat_le (length nodes.now + count_by (λ x. not (has_node nat_eq nodes.now x.0)) others.now) node_limit
         && (list_all is_short_node nodes.now && list_all (λ x. has_node nat_eq nodes.now x.0 || is_short_node x) others.now)) }
 {
     are_few(nodes, others) && (are_short(nodes) && are_short_or_among(others, nodes))
@@ -181,7 +182,7 @@ fn are_few_and_short(nodes: &[(u64, BasicNode)], others: &[(u64, BasicNode)]) ->
 
 // The same where the others take the place of those with their ids.
 fn are_few_and_short_with(nodes: &[(u64, BasicNode)], others: &[(u64, BasicNode)]) -> bool
-    ensures { result ≡ (nat_le (length nodes.now + count_by (λ x. not (has_node nat_eq nodes.now x.0)) others.now) 128
+    ensures { result ≡ (nat_le (length nodes.now + count_by (λ x. not (has_node nat_eq nodes.now x.0)) others.now) node_limit
         && (list_all (λ x. has_node nat_eq others.now x.0 || is_short_node x) nodes.now && list_all is_short_node others.now)) }
 {
     are_few(nodes, others) && (are_short_or_among(nodes, others) && are_short(others))
@@ -189,7 +190,7 @@ fn are_few_and_short_with(nodes: &[(u64, BasicNode)], others: &[(u64, BasicNode)
 
 // Whether those that are left are few enough, and short.
 fn are_left_short(nodes: &[(u64, BasicNode)], ids: &IdSet<u64>) -> bool
-    ensures { result ≡ (nat_le (count_by (λ x. not (has_id nat_eq ids.now x.0)) nodes.now) 128
+    ensures { result ≡ (nat_le (count_by (λ x. not (has_id nat_eq ids.now x.0)) nodes.now) node_limit
         && list_all (λ x. has_id nat_eq ids.now x.0 || is_short_node x) nodes.now) }
 {
     count_left(nodes, ids) <= MAX_NODES && are_short_or_gone(nodes, ids)

@@ -5,6 +5,7 @@ ghost use Rattle.std.specs.List.{list_all};
 ghost use Rattle.std.specs.Cmp.Lexicographic.{pointwise};
 ghost use Rattle.raft_quorums.specs.Nodes.{has_id, with_ids};
 ghost use Rattle.raft_quorums.specs.Quorum.{last_config, next_configs};
+ghost use Rattle.raft_group_step.specs.Limits.{voter_limit};
 ghost use Rattle.raft_group_step.specs.Refusal.{change_reasons, first_of_reasons, unless};
 ghost use Rattle.raft_group_step.specs.StepResult.{MembershipRefused, VoterChange};
 ghost use Rattle.raft_group_step.specs.Values.{after_change};
@@ -63,7 +64,7 @@ fn is_step_fit<S: HasId<u64>>(groups: &[IdSet<u64>], goal: &Goal, nodes: &S) -> 
 
 // Whether there is room in the group for those who are new there.
 fn has_room(group: &[u64], newcomers: &Newcomers) -> bool
-    ensures { result ≡ nat_le (length group.now + count_by (λ id. not (has_id nat_eq group.now id)) (ids_of newcomers.now)) 64 }
+    ensures { result ≡ nat_le (length group.now + count_by (λ id. not (has_id nat_eq group.now id)) (ids_of newcomers.now)) voter_limit }
 {
     group.len() <= MAX_VOTERS && newcomers.count_new(group) <= MAX_VOTERS - group.len()
 }
@@ -71,7 +72,7 @@ fn has_room(group: &[u64], newcomers: &Newcomers) -> bool
 // Whether the group with the newcomers can be a voter group where the nodes are these.
 fn is_wider_fit<S: HasId<u64>>(group: &[u64], newcomers: &Newcomers, nodes: &S) -> bool
     ensures { result ≡ (is_fit_group (S.has nodes.now) group.now && list_all (S.has nodes.now) (ids_of newcomers.now)
-        && nat_le (length group.now + count_by (λ id. not (has_id nat_eq group.now id)) (ids_of newcomers.now)) 64) }
+        && nat_le (length group.now + count_by (λ id. not (has_id nat_eq group.now id)) (ids_of newcomers.now)) voter_limit) }
 {
     is_fit_group(group, nodes) && newcomers.are_in(nodes) && has_room(group, newcomers)
 }

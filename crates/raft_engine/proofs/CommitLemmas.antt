@@ -1,19 +1,21 @@
 -- What a leader may commit is the greatest of its own entries up to which a quorum has accepted its log.
-use Rattle.std.specs.Prelude.{◌≡◌, ℕ, suc, ◌+◌, ◌*◌, ◌<◌, ◌≤◌, ◌==◌, ◌&&◌, nat_eq, nat_lt, Bool, true, false, not, cond, if◌then◌else◌, count_by, filter, List, [], ◌∷◌, ◌++◌, length, Option, Some, None, option_map, refl}
+use Rattle.std.specs.Prelude.{◌≡◌, ℕ, suc, ◌+◌, ◌-◌, ◌*◌, ◌^◌, ◌<◌, ◌≤◌, ◌==◌, ◌&&◌, min, nat_eq, nat_le, nat_lt, Bool, true, false, not, cond, if◌then◌else◌, count_by, filter, List, [], ◌∷◌, ◌++◌, length, Option, Some, None, option_map, refl}
 use Rattle.std.specs.List.{fold, last_or, list_all}
 use Rattle.std.proofs.Common.{sym, ap, ◌∙◌, subst, arith}
+use Rattle.std.proofs.lemmas.Bool.{leb-true, leb-false, le-leb}
 use Rattle.raft_values.specs.declared.vote.Vote.{Vote}
 use Rattle.raft_values.specs.declared.log_id.LogId.{LogId}
 use Rattle.raft_values.specs.LogId.{next_place, place_of, reaches}
+use Rattle.raft_state.specs.LogIdList.{last_id}
 use Rattle.raft_quorums.specs.Quorum.{is_majority, is_quorum}
 use Rattle.raft_group_step.specs.Values.{Entry, leader_eq}
-use Rattle.raft_group_step.specs.StoredGroup.{StoredGroup, end_place, membership_in_force}
+use Rattle.raft_group_step.specs.StoredGroup.{StoredGroup, end_place, first_place, membership_in_force}
 use Rattle.raft_group_step.specs.Peer.{PeerState}
 use Rattle.raft_group_step.specs.GroupState.{GroupState, Role, Follower, Candidate, Leader, Lead, Untold}
 use Rattle.raft_group_step.specs.StepResult.{StepResult, apply_up_to, is_within, later_place}
 use Rattle.raft_group_step.specs.Lead.{commit_as_leader, configs_in_force, has_accepted, last_place, may_be_committed}
 use Rattle.raft_group_step.specs.Frames.{committed_id}
-use Rattle.raft_known_state.specs.KnownState.{IsPlaced, effective_of, entry_ids, purged_ids, stored_ids}
+use Rattle.raft_known_state.specs.KnownState.{ArePlaced, IsPlaced, effective_of, entry_ids, purged_ids, stored_ids}
 use Rattle.raft_known_state.proofs.PlacedIds.{Placed}
 use Rattle.raft_known_state.proofs.KnownStateLemmas.{end-known, start_of, stored_end, stored_placed}
 use Rattle.raft_leaders.specs.Accepted.{greatest_accepted, has_accepted as has_accepted_by, may_be_committed as may_be_committed_by}
@@ -87,6 +89,49 @@ module _ (test : LogId ℕ → Bool) where
           | false ↦ later_last log None refl
         ]
 
+  module _ (c : Option ℕ) (from : ℕ) (within : (n : ℕ) → n < from → is_within n c ≡ true) where
+    abbrev passes : Entry → Bool
+    passes y = test y.log_id
+
+    abbrev passes_from : Entry → Bool
+    passes_from y = nat_le from y.log_id.index && test y.log_id
+
+    -- entries that stand from the place on all count
+    all_from : (log : List Entry) (place : ℕ) → ArePlaced place log → from ≤ place → filter passes_from log ≡ filter passes log
+    all_from [] place p l = refl
+    all_from (x ∷ log) place p l =
+        ap (λ b. cond (b && test x.log_id) (x ∷ filter passes_from log) (filter passes_from log)) (le-leb from x.log_id.index (let at : x.log_id.index ≡ place = p.0 in omega arith))
+        ∙ ap (λ ys. cond (test x.log_id) (x ∷ ys) ys) (all_from log (suc place) p.1 (omega arith))
+
+    covers : (x : Entry) → nat_le from x.log_id.index ≡ false → later_place c (Some x.log_id.index) ≡ later_place c None
+    covers x f =
+        let low : x.log_id.index < from = leb-false from x.log_id.index f in
+        later_same c (Some x.log_id.index) (λ p e. let same : x.log_id.index ≡ p = cc e in subst (λ n. is_within n c ≡ true) same (within x.log_id.index low))
+        ∙ sym (later_same c None (λ p e. cc e))
+
+    -- where all below the place is committed, those before it count for nothing
+    later_from : (log : List Entry) (place : ℕ) → ArePlaced place log → (d : Option Entry) → later_place c (entrys_place d) ≡ later_place c None
+        → later_place c (entrys_place (last_or d (filter passes log))) ≡ later_place c (entrys_place (last_or None (filter passes_from log)))
+    later_from [] place p d h = h
+    later_from (x ∷ log) place p d h =
+        elim (nat_le from x.log_id.index) as (λ b. nat_le from x.log_id.index ≡ b → later_place c (entrys_place (last_or d (cond (test x.log_id) (x ∷ filter passes log) (filter passes log))))
+        ≡ later_place c (entrys_place (last_or None (cond (b && test x.log_id) (x ∷ filter passes_from log) (filter passes_from log))))) [
+          | true ↦ λ t.
+              let up : from ≤ x.log_id.index = leb-true from x.log_id.index t in
+              let at : x.log_id.index ≡ place = p.0 in
+              elim (test x.log_id) as (λ b. later_place c (entrys_place (last_or d (cond b (x ∷ filter passes log) (filter passes log))))
+              ≡ later_place c (entrys_place (last_or None (cond b (x ∷ filter passes_from log) (filter passes_from log))))) [
+                | true ↦ ap (λ ys. later_place c (entrys_place (last_or (Some x) ys))) (sym (all_from log (suc place) p.1 (omega arith)))
+                | false ↦ later_from log (suc place) p.1 d h
+              ]
+          | false ↦ λ f.
+              elim (test x.log_id) as (λ b. later_place c (entrys_place (last_or d (cond b (x ∷ filter passes log) (filter passes log))))
+              ≡ later_place c (entrys_place (last_or None (filter passes_from log)))) [
+                | true ↦ later_from log (suc place) p.1 (Some x) (covers x f)
+                | false ↦ later_from log (suc place) p.1 d h
+              ]
+        ] refl
+
   abbrev IsBelow : ℕ → Option (LogId ℕ) → Type 0
   IsBelow end None = Unit {0}
   IsBelow end (Some id) = id.index < end
@@ -138,8 +183,18 @@ purged_within s o id e = by_test (is_within id.index s.committed) refl
         let b = o.snapshot in absurd (omega arith)
 
 module _ {C R : Type 0} (x : Given) (own : ℕ) (e : Engine C R) (r : StepResult) (step : IsStepOf x own e r) where
+  -- what is looked at begins behind what is committed
+  pub from_is : (from : ℕ) → from ≡ min (next_place e.state.state.committed) (2 ^ 64 - 1) → next_place (last_id e.state.state.log_ids) < 2 ^ 63 → from ≡ next_place (committed_id r.state)
+  from_is from is low =
+      let same : next_place e.state.state.committed ≡ next_place (committed_id r.state) = ap next_place step.state.committed in
+      let end : next_place (last_id e.state.state.log_ids) ≡ end_place r.state.stored =
+      ap (λ ids. next_place (last_id ids)) step.state.knows.ids ∙ end-known r.state.stored step.state.order.placed in
+      let within : next_place (committed_id r.state) ≤ end_place r.state.stored = step.state.order.within in
+      omega (arith, is, same, end, within, low)
+
   module _ (l : LeaderValue ℕ EffectiveMembership) (led : e.leader ≡ Some l) (voters : EffectiveMembership) (in_force : voters ≡ effective_of (membership_in_force r.state.stored))
-      (found : Option (LogId ℕ)) (greatest : found ≡ greatest_accepted own l (is_quorum voters.membership.configs) e.state.state.log_ids) where
+      (from : ℕ) (behind : from ≡ next_place (committed_id r.state))
+      (found : Option (LogId ℕ)) (greatest : found ≡ greatest_accepted own l (is_quorum voters.membership.configs) from e.state.state.log_ids) where
     leads : (lead : Lead) × (r.state.role ≡ Leader lead) × Leads own l r.state.stored lead
     leads = lead_of own l e.candidate r.state.stored r.state.role (subst (λ o. PlaysRole own o e.candidate r.state.stored r.state.role) led step.state.role)
 
@@ -161,19 +216,34 @@ module _ {C R : Type 0} (x : Given) (own : ℕ) (e : Engine C R) (r : StepResult
         (ap (λ (m : EffectiveMembership). m.membership.configs) in_force ∙ configs_are (membership_in_force r.state.stored))
         ∙ quorum_same (has_accepted_by own l (end_of (stored_ids r.state.stored)) id.index) (has_accepted own r.state.stored leads.0 id.index) (accepted_same id.index) (configs_in_force r.state.stored))
 
-    found_is : found ≡ last_or None (filter may_commit (stored_ids r.state.stored))
+    abbrev may_commit_from : LogId ℕ → Bool
+    may_commit_from id = nat_le from id.index && may_commit id
+
+    found_is : found ≡ last_or None (filter may_commit_from (stored_ids r.state.stored))
     found_is =
-        greatest ∙ ap (greatest_accepted own l (is_quorum voters.membership.configs)) step.state.knows.ids
+        greatest ∙ ap (greatest_accepted own l (is_quorum voters.membership.configs) from) step.state.knows.ids
         ∙ ap (last_or None)
-        (filter_same (may_be_committed_by own l (is_quorum voters.membership.configs) (end_of (stored_ids r.state.stored))) may_commit test_same (stored_ids r.state.stored))
+        (filter_same (λ id. nat_le from id.index && may_be_committed_by own l (is_quorum voters.membership.configs) (end_of (stored_ids r.state.stored)) id) may_commit_from
+        (λ id. ap (λ b. nat_le from id.index && b) (test_same id)) (stored_ids r.state.stored))
 
     -- the place is in the log
     pub found_within : EndsWithin (place_of found) r.state.stored
-    found_within = λ p at. stored_below may_commit r.state.stored step.state.order.placed p (ap place_of (sym found_is) ∙ at)
+    found_within = λ p at. stored_below may_commit_from r.state.stored step.state.order.placed p (ap place_of (sym found_is) ∙ at)
+
+    within_committed : (n : ℕ) → n < from → is_within n r.state.committed ≡ true
+    within_committed n low =
+        elim (is_within n r.state.committed) as (λ b. is_within n r.state.committed ≡ b → b ≡ true) [
+          | true ↦ λ t. refl
+          | false ↦ λ f.
+              let past : next_place (committed_id r.state) ≤ n = past_committed (committed_id r.state) r.state.committed n step.state.order.committed f in
+              absurd (omega (arith, behind))
+        ] refl
 
     -- and all up to it is what the leader may commit
     pub commits : apply_up_to (place_of found) r ≡ commit_as_leader own r.state.role r
     commits =
         applied_alike (place_of found) (last_place (filter (may_be_committed own r.state.stored leads.0) r.state.stored.log)) r
-        (ap (λ o. later_place r.state.committed (place_of o)) found_is ∙ later_stored may_commit r.state.committed r.state.stored.purged r.state.stored.log (purged_within r.state step.state.order))
+        (ap (λ o. later_place r.state.committed (place_of o)) found_is
+        ∙ later_stored may_commit_from r.state.committed r.state.stored.purged r.state.stored.log (purged_within r.state step.state.order)
+        ∙ sym (later_from may_commit r.state.committed from within_committed r.state.stored.log (first_place r.state.stored) step.state.order.placed None refl))
         ∙ sym (ap (λ role. commit_as_leader own role r) leads.1)

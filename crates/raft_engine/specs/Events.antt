@@ -1,6 +1,7 @@
 -- When an engine may be handed an event, and what it has done of the event then.
 use Rattle.std.specs.Prelude.{◌≡◌, ℕ, ◌+◌, ◌≤◌, ◌<◌, ◌^◌, ◌&&◌, ◌||◌, not, Bool, false, [], Some, None}
 use Rattle.raft_values.specs.LogId.{next_place}
+use Rattle.raft_group_step.specs.Limits.{number_limit}
 use Rattle.raft_group_step.specs.StoredGroup.{Snapshot, end_place, last_id, snapshot_last}
 use Rattle.raft_group_step.specs.Values.{last_id_lt, vote_eq}
 use Rattle.raft_group_step.specs.GroupState.{GroupState, Lead, Role, Follower, Candidate, Leader, is_candidate}
@@ -26,7 +27,7 @@ CanFinish own s (Leader lead) = HasLeadRoom own s lead
 -- what a group's states have beside their order: places are low, and what is wished to be purged the
 -- snapshot has
 pub record IsReady (own : ℕ) (s : GroupState) : Type 0 where
-  pub places : end_place s.stored ≤ 2 ^ 62
+  pub places : end_place s.stored ≤ number_limit
   pub wish : (place : ℕ) → s.wish ≡ Some place → place < next_place (snapshot_last s.stored)
 
 -- a message of the peer to this node comes

@@ -20,6 +20,7 @@ ghost use Rattle.std.specs.Prelude.{nat_eq};
 ghost use Rattle.std.specs.Option.{option_copied};
 
 use crate::engine::Engine;
+use crate::replication_handler::place_after;
 use raft_commands::{Command, RaftTypeConfig};
 use raft_group_step::Entries;
 use raft_leaders::{Leader, greatest_accepted};
@@ -239,7 +240,8 @@ impl<C: RaftTypeConfig<NodeId = u64, Node = BasicNode, D = Bytes>> Engine<C> {
         self.append(EntryPayload::Membership(changed))
     }
 
-    // The greatest place that a leader may commit is committed, if it is above what is.
+    // The greatest place that a leader may commit is committed, if it is above what is. So the log
+    // is read from there on alone.
     pub(crate) fn commit_as_leader(&mut self) -> Result<(), AllocError>
         requires { next_place (last_id self.old.state.state.log_ids) < 2 ^ 63 }
         ensures { (x : Given) (own : _) (r : StepResult) → IsStepOf x own self.old r
@@ -250,7 +252,8 @@ impl<C: RaftTypeConfig<NodeId = u64, Node = BasicNode, D = Bytes>> Engine<C> {
         };
         let voters = self.state.state.membership_state.effective();
         let log_ids = &self.state.state.log_ids;
-        let greatest = greatest_accepted(leader, self.config.id, log_ids, voters);
+        let from = place_after(&self.state.state.committed);
+        let greatest = greatest_accepted(leader, self.config.id, log_ids, from, voters);
         self.commit_up_to(greatest.index())
     }
 }

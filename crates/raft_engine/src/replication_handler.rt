@@ -27,7 +27,7 @@ use raft_state::{BasicNode, Bytes, LogId, LogIdOptionExt, LogIdRange};
 use std::alloc::AllocError;
 
 // The place after the log id, or the greatest number if that is less.
-fn place_after(log_id: &Option<LogId<u64>>) -> u64
+pub(crate) fn place_after(log_id: &Option<LogId<u64>>) -> u64
     ensures { result ≡ min (next_place log_id.now) (2 ^ 64 - 1) }
 {
     match log_id {

@@ -58,11 +58,41 @@ impl Cluster {
         Ok(())
     }
 
-    /// The first node is elected, and all others get what they lack.
-    pub fn elect(&mut self, alloc: Global) -> Result<(), AllocError> {
+    // The messages that are on their way come, and those that they call for wait.
+    fn deliver_some(&mut self, alloc: Global) -> Result<(), AllocError> {
+        for _ in 0..self.mail.len() {
+            let Some(message) = self.mail.pop_front() else {
+                return Ok(());
+            };
+            self.deliver(alloc, message)?;
+        }
+        Ok(())
+    }
+
+    // The first node leads, once the questions and the answers have come.
+    fn grant(&mut self, alloc: Global) -> Result<(), AllocError> {
         if let Some(node) = self.nodes.get_mut(0) {
             let sent = node.elect(alloc)?;
             self.send(sent)?;
+        }
+        self.deliver_some(alloc)?;
+        self.deliver_some(alloc)
+    }
+
+    // The first node says that it leads on, and no message comes.
+    fn beat(&mut self, alloc: Global) -> Result<(), AllocError> {
+        if let Some(node) = self.nodes.get_mut(0) {
+            let sent = node.beat(alloc)?;
+            self.send(sent)?;
+        }
+        Ok(())
+    }
+
+    /// The first node is elected, sends so many heartbeats, and then all others get what they lack.
+    pub fn elect(&mut self, alloc: Global, beats: u64) -> Result<(), AllocError> {
+        self.grant(alloc)?;
+        for _ in 0..beats {
+            self.beat(alloc)?;
         }
         self.deliver_all(alloc)
     }

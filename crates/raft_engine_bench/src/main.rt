@@ -2,9 +2,10 @@
 //!
 //! Each line of the input is a task such as `3 0 100 1000`: how many voters the group has, how many
 //! learners, how many entries its log before, and how many commands the leader takes, one after the
-//! other, each with all messages up to the last answer. Two more words may follow: how many leaders
+//! other, each with all messages up to the last answer. Three more words may follow: how many leaders
 //! wrote the entries before, one after the other, and how many of these have a membership; 1 where
-//! there is none. The answer is how many entries are committed, and how many messages were sent.
+//! there is none; and how many heartbeats the leader sends before an entry of its own comes to
+//! anybody, or none. The answer is how many entries are committed, and how many messages were sent.
 #![tactic(auto)]
 
 mod cluster;
@@ -16,10 +17,10 @@ use crate::setup::Task;
 use std::alloc::{AllocError, Global};
 use std::io;
 
-// The number that the word spells, or 1 where there is no word.
-fn word_or_one(word: Option<&str>) -> Option<u64> {
+// The number that the word spells, or this one where there is no word.
+fn word_or(word: Option<&str>, number: u64) -> Option<u64> {
     match word {
-        None => Some(1),
+        None => Some(number),
         Some(word) => word.parse().ok(),
     }
 }
@@ -31,14 +32,15 @@ fn parse(line: &str) -> Option<Task> {
         learners: words.next()?.parse().ok()?,
         entries: words.next()?.parse().ok()?,
         commands: words.next()?.parse().ok()?,
-        leaders: word_or_one(words.next())?,
-        memberships: word_or_one(words.next())?,
+        leaders: word_or(words.next(), 1)?,
+        memberships: word_or(words.next(), 1)?,
+        beats: word_or(words.next(), 0)?,
     })
 }
 
 fn run(alloc: Global, task: Task) -> Result<Cluster, AllocError> {
     let mut cluster = Cluster::new(alloc, &task)?;
-    cluster.elect(alloc)?;
+    cluster.elect(alloc, task.beats)?;
     for _ in 0..task.commands {
         cluster.propose(alloc)?;
     }

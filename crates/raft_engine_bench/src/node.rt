@@ -106,6 +106,15 @@ impl GroupNode {
         self.end(alloc)
     }
 
+    /// The node says that it leads on, if it leads. What it sends is handed out.
+    pub fn beat(&mut self, alloc: Global) -> Result<Vec<GroupMessage>, AllocError> {
+        if let Some(engine) = &mut self.engine {
+            // (a node that doesn't lead sends nothing)
+            let _answer = engine.send_heartbeat()?;
+        }
+        self.end(alloc)
+    }
+
     /// The node takes the command. What it sends is handed out.
     pub fn propose(
         &mut self,

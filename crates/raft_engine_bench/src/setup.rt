@@ -26,6 +26,8 @@ pub struct Task {
     pub leaders: u64,
     /// How many of the entries before have a membership.
     pub memberships: u64,
+    /// How many heartbeats the leader sends before one of its entries comes to anybody.
+    pub beats: u64,
 }
 
 impl Task {

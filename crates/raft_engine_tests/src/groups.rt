@@ -1,8 +1,9 @@
 //! Stored groups.
 
+use raft_executor::{meta_of, stored_meta};
 use raft_messages::GroupEntry;
 use raft_rows::{Answer, number};
-use raft_state::{Entry, EntryPayload, LeaderId, LogId, Vote};
+use raft_state::{BasicNode, Entry, EntryPayload, LeaderId, LogId, SnapshotMeta, Vote};
 use raft_stored_group::{GroupSnapshot, StoredGroup};
 use std::alloc::{AllocError, Global};
 
@@ -124,12 +125,32 @@ fn is_so(group: &StoredGroup, question: &str) -> Option<bool> {
     })
 }
 
+// The last log id that an engine is told of, and whether it is told of a membership.
+fn shown_meta(meta: SnapshotMeta<u64, BasicNode>) -> (Option<LogId<u64>>, bool) {
+    let has_members = meta.last_membership.log_id().is_some();
+    (meta.last_log_id, has_members)
+}
+
+// What an engine is told of the snapshot.
+fn meta(snapshot: &GroupSnapshot, alloc: Global) -> Result<(Option<LogId<u64>>, bool), AllocError> {
+    Ok(shown_meta(meta_of(alloc, snapshot.head())?))
+}
+
+// What an engine is told of what is stored.
+fn meta_stored(
+    group: &StoredGroup,
+    alloc: Global,
+) -> Result<(Option<LogId<u64>>, bool), AllocError> {
+    Ok(shown_meta(stored_meta(alloc, group)?))
+}
+
 // What is in the snapshot, if there is one.
 fn of_snapshot(snapshot: &GroupSnapshot, alloc: Global, question: &str) -> Option<Answer> {
     Some(match question {
         "last" => Answer::shown(alloc, &snapshot.last()),
         "length" => Answer::shown(alloc, &snapshot.prefix().len()),
         "has-members" => Answer::truth(snapshot.membership().is_some()),
+        "meta" => Answer::shown(alloc, &meta(snapshot, alloc)),
         _ => return None,
     })
 }
@@ -142,6 +163,7 @@ fn told(group: &StoredGroup, alloc: Global, question: &str) -> Option<Answer> {
         "length" => Answer::shown(alloc, &length(group)),
         "purged" => Answer::shown(alloc, &group.purged()),
         "snapshot-last" => Answer::shown(alloc, &group.snapshot_last()),
+        "meta" => Answer::shown(alloc, &meta_stored(group, alloc)),
         "begins-at-zero" => Answer::truth(begins_at_zero(alloc)),
         _ => Answer::truth(is_so(group, question)?),
     })

@@ -99,6 +99,7 @@ pub fn seen(engine: &mut NumberedEngine, alloc: Global, question: &str) -> Optio
         "fault" => Answer::shown(alloc, &fault(engine)),
         "first-place" => Answer::shown(alloc, &engine.state.first_place()),
         "last" => Answer::shown(alloc, &last(engine)),
+        "forward" => Answer::shown(alloc, &engine.forward_to_leader()),
         "requests" => Answer::shown(alloc, &count_requests(engine)),
         "notices" => Answer::shown(alloc, &count_notices(engine)),
         _ => Answer::truth(is_so(engine, question)?),

@@ -1,11 +1,12 @@
 //! A piece of a peer's stream comes to a node.
 ghost use Rattle.std.specs.Prelude.{◌≡◌};
+ghost use Rattle.std.specs.Option.{option_copied};
 ghost use Rattle.std.specs.Ordering.{nat_cmp};
 ghost use Rattle.std.specs.BTreeMap.{get};
-ghost use Rattle.raft_framed_groups.specs.Answers.{IsAnswered, IsFrameTaken, IsFrom, IsOutcomeOf};
+ghost use Rattle.raft_framed_groups.specs.Answers.{IsAnswered, IsAsked, IsFrameTaken, IsFrom, IsOutcomeOf, IsTurnedAway, is_right_party};
 
 use crate::frames::{GroupFrame, frames_of};
-use raft_conditions::Refusal;
+use raft_conditions::{GroupCommand, Refusal};
 use raft_group_storage::GroupStorage;
 use raft_groups::{Groups, GroupsFault};
 use raft_member::Ended;
@@ -31,8 +32,8 @@ pub enum Outcome {
 pub enum AnswerError<F> {
     /// The stream is refused, or memory is lacking for what comes: the node is as before.
     Stream(FrameError),
-    /// The frame's sender is this node and not the peer: the node is as before.
-    OtherSender(u64),
+    /// The frame isn't the peer's own, or isn't for this node: the node is as before.
+    WrongParty,
     /// The node's groups don't take it.
     Groups(GroupsFault<F>),
     /// The group took its step, and what it sends is lost.
@@ -66,6 +67,31 @@ fn outcome_of<F: Drop>(
     }
 }
 
+/// One of the groups is asked for something at this moment, in ticks (own), and what its step sends
+/// is answered as frames. Where a snapshot is to be built, that of what is applied is handed in,
+/// `built`. A group that isn't there and a node that has failed leave all as it was, and a fault
+/// inside the step fails the node (`Groups`); behind the step only what it sends is lost (`Unsent`).
+pub fn ask_group<S: GroupStorage<Snapshot = SnapshotBytes>>(
+    alloc: Global,
+    groups: &mut Groups<S>,
+    group: u64,
+    call: &GroupCommand,
+    built: Option<&SnapshotBytes>,
+    now: u64,
+) -> Result<Outcome, AnswerError<S::Fault>>
+    ensures asked { IsAsked S.stands
+        (record { own = groups.old.id; has_failed = groups.old.has_failed; members = get nat_cmp groups.old.members; is_well = S.is_well groups.old.storage; shows = S.shows groups.old.storage })
+        (record { own = groups.old.id; has_failed = groups.new.has_failed; members = get nat_cmp groups.new.members; is_well = S.is_well groups.new.storage; shows = S.shows groups.new.storage })
+        group call.now (option_copied built.entry) now result }
+    ensures same { IsTurnedAway result → groups.new ≡ groups.old }
+    ensures id { groups.new.id ≡ groups.old.id }
+{
+    match groups.ask(group, call, built, now) {
+        Ok(ended) => outcome_of(alloc, group, ended),
+        Err(fault) => Err(AnswerError::Groups(fault)),
+    }
+}
+
 // The frame's message comes to its group.
 fn take_frame<S: GroupStorage<Snapshot = SnapshotBytes>>(
     alloc: Global,
@@ -77,6 +103,7 @@ fn take_frame<S: GroupStorage<Snapshot = SnapshotBytes>>(
         (record { own = groups.old.id; has_failed = groups.old.has_failed; members = get nat_cmp groups.old.members; is_well = S.is_well groups.old.storage; shows = S.shows groups.old.storage })
         (record { own = groups.old.id; has_failed = groups.new.has_failed; members = get nat_cmp groups.new.members; is_well = S.is_well groups.new.storage; shows = S.shows groups.new.storage })
         frame.now now result }
+    ensures same { IsTurnedAway result → groups.new ≡ groups.old }
     ensures id { groups.new.id ≡ groups.old.id }
 {
     match groups.receive(frame.group, &frame.message, now) {
@@ -85,23 +112,34 @@ fn take_frame<S: GroupStorage<Snapshot = SnapshotBytes>>(
     }
 }
 
-// A frame of the peer comes.
-fn take_from<S: GroupStorage<Snapshot = SnapshotBytes>>(
+// Whether the frame is the peer's own, and for this node.
+fn is_right_party(own: u64, peer: u64, frame: &Frame) -> bool
+    ensures { result ≡ is_right_party own peer frame.now }
+{
+    let message = &frame.message;
+    message.sender == peer && message.sender != own && message.addressee == own
+}
+
+/// A whole frame of a peer comes to a node at this moment, in ticks (own): its message comes to its
+/// group, and what the group's step sends is answered as frames. One that isn't the peer's own, or
+/// isn't for this node, is refused before its group is looked for (`WrongParty`); the other errors
+/// are `answer_piece`'s.
+pub fn receive_frame<S: GroupStorage<Snapshot = SnapshotBytes>>(
     alloc: Global,
     groups: &mut Groups<S>,
     peer: u64,
     frame: &Frame,
     now: u64,
 ) -> Result<Outcome, AnswerError<S::Fault>>
-    ensures takes { IsFrom peer groups.old groups.new (IsFrameTaken S.stands
+    ensures takes { IsFrom (is_right_party groups.old.id peer frame.now) groups.old groups.new (IsFrameTaken S.stands
         (record { own = groups.old.id; has_failed = groups.old.has_failed; members = get nat_cmp groups.old.members; is_well = S.is_well groups.old.storage; shows = S.shows groups.old.storage })
         (record { own = groups.old.id; has_failed = groups.new.has_failed; members = get nat_cmp groups.new.members; is_well = S.is_well groups.new.storage; shows = S.shows groups.new.storage })
-        frame.now now result) frame.now result }
+        frame.now now result) result }
+    ensures same { IsTurnedAway result → groups.new ≡ groups.old }
     ensures id { groups.new.id ≡ groups.old.id }
 {
-    let sender = frame.message.sender;
-    if sender != peer {
-        return Err(AnswerError::OtherSender(sender));
+    if !is_right_party(groups.id, peer, frame) {
+        return Err(AnswerError::WrongParty);
     }
     take_frame(alloc, groups, frame, now)
 }
@@ -110,8 +148,8 @@ fn take_from<S: GroupStorage<Snapshot = SnapshotBytes>>(
 /// whole, the frame's message comes to its group, and what the group's step sends is answered as
 /// frames. Whole bytes thus become what the node has stored, and bytes again.
 ///
-/// An error says what it leaves: a refused stream and a frame of another sender leave the node as
-/// before (`Stream`, `OtherSender`); so do a group that isn't there and a node that has failed, and a
+/// An error says what it leaves: a refused stream and a frame of another party leave the node as
+/// before (`Stream`, `WrongParty`); so do a group that isn't there and a node that has failed, and a
 /// fault inside the step fails the node (`Groups`); behind the step only what it sends is lost
 /// (`Unsent`).
 pub fn answer_piece<S: GroupStorage<Snapshot = SnapshotBytes>>(
@@ -122,7 +160,7 @@ pub fn answer_piece<S: GroupStorage<Snapshot = SnapshotBytes>>(
     piece: &[u8],
     now: u64,
 ) -> Answer<S::Fault>
-    ensures answers { IsAnswered peer groups.old groups.new (λ frame. IsFrameTaken S.stands
+    ensures answers { IsAnswered groups.old.id peer groups.old groups.new (λ frame. IsFrameTaken S.stands
         (record { own = groups.old.id; has_failed = groups.old.has_failed; members = get nat_cmp groups.old.members; is_well = S.is_well groups.old.storage; shows = S.shows groups.old.storage })
         (record { own = groups.old.id; has_failed = groups.new.has_failed; members = get nat_cmp groups.new.members; is_well = S.is_well groups.new.storage; shows = S.shows groups.new.storage })
         frame now result.outcome) feeder.old.feeding piece.now result feeder.new.feeding }
@@ -131,7 +169,7 @@ pub fn answer_piece<S: GroupStorage<Snapshot = SnapshotBytes>>(
     let Fed { used, frame } = feeder.feed(piece);
     let outcome = match frame {
         Ok(None) => Ok(Outcome::Waits),
-        Ok(Some(frame)) => take_from(alloc, groups, peer, &frame, now),
+        Ok(Some(frame)) => receive_frame(alloc, groups, peer, &frame, now),
         Err(why) => Err(AnswerError::Stream(why)),
     };
     Answer { used, outcome }

@@ -4,5 +4,5 @@
 mod answering;
 mod frames;
 
-pub use answering::{Answer, AnswerError, Outcome, answer_piece};
+pub use answering::{Answer, AnswerError, Outcome, answer_piece, ask_group, receive_frame};
 pub use frames::{GroupFrame, frames_of};

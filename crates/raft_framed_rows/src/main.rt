@@ -1,9 +1,9 @@
-//! Frames that come to a member of a group, a row of text each, and the frames that it answers.
+//! Frames that come to a node with one group, a row of text each, and the frames that it answers.
 #![tactic(auto)]
 
-mod member;
+mod node;
 
-use member::Framed;
+use node::Framed;
 use raft_rows::run;
 use std::io;
 

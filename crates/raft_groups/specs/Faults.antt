@@ -1,6 +1,7 @@
 -- How an event ended that a node's groups didn't take.
-use Rattle.std.specs.Prelude.{◌≡◌, Bool, true, false, Result, Ok, Err}
+use Rattle.std.specs.Prelude.{◌≡◌, Bool, true, Result, Ok, Err}
 use Rattle.raft_member.specs.declared.member.Broken.{Broken}
+use Rattle.raft_member.specs.declared.member.Broken.TheVariants as broken
 use Rattle.raft_groups.specs.declared.fault.GroupsFault.{GroupsFault}
 use Rattle.raft_groups.specs.declared.fault.GroupsFault.TheVariants as groups_fault
 
@@ -10,6 +11,27 @@ HasMet P groups_fault.Failed = ⊥
 HasMet P groups_fault.UnknownGroup = ⊥
 HasMet P groups_fault.GroupExists = ⊥
 HasMet P (groups_fault.Stopped met) = P met
+
+-- the event was begun before it met the fault, and this holds
+abbrev pub HasBegun : {F : Type 0} → Type 0 → Broken F → Type 0
+HasBegun P (broken.Unjudged met) = ⊥
+HasBegun P (broken.Begun met) = P
+
+-- nothing of the event came to a group
+abbrev pub IsTurnedAway : {T F : Type 0} → Result T (GroupsFault F) → Type 0
+IsTurnedAway (Ok x) = ⊥
+IsTurnedAway (Err groups_fault.Failed) = Unit {0}
+IsTurnedAway (Err groups_fault.UnknownGroup) = Unit {0}
+IsTurnedAway (Err groups_fault.GroupExists) = Unit {0}
+IsTurnedAway (Err (groups_fault.Stopped met)) = ⊥
+
+-- it is refused for this reason, unless the storage met a fault as it was asked
+abbrev pub IsRefusedAs : {T F : Type 0} → GroupsFault F → Result T (GroupsFault F) → Type 0
+IsRefusedAs why (Ok x) = ⊥
+IsRefusedAs why (Err groups_fault.Failed) = groups_fault.Failed ≡ why
+IsRefusedAs why (Err groups_fault.UnknownGroup) = groups_fault.UnknownGroup ≡ why
+IsRefusedAs why (Err groups_fault.GroupExists) = groups_fault.GroupExists ≡ why
+IsRefusedAs why (Err (groups_fault.Stopped met)) = Unit {0}
 
 -- the node has failed once an event met a fault, and else goes on as before
 abbrev pub GoesOn : {T F : Type 0} → Bool → Result T (GroupsFault F) → Bool → Type 0

@@ -3,16 +3,16 @@ ghost use Rattle.std.specs.Prelude.{◌≡◌, ℕ, Err, IfOk, IfErr, OnOk, OnEr
 ghost use Rattle.std.specs.Option.{option_copied};
 ghost use Rattle.std.specs.Ordering.{nat_cmp};
 ghost use Rattle.std.specs.BTreeMap.{get};
-ghost use Rattle.raft_group_step.specs.StoredGroup.{MakeGroup, after_storing};
+ghost use Rattle.raft_group_step.specs.StoredGroup.{MakeGroup, StoredGroup as Stored, after_storing};
 ghost use Rattle.raft_group_step.specs.GroupState.{GroupState, no_group, state_of};
 ghost use Rattle.raft_group_step.specs.GroupEvent.{Call, Receive};
 ghost use Rattle.raft_group_step.specs.Message.{Message as Said};
 ghost use Rattle.raft_group_step.specs.declared.group_call.GroupCall.TheVariants.{TriggerSnapshot};
 ghost use Rattle.raft_executor.specs.Said.{Says};
-ghost use Rattle.raft_group_storage.specs.Keeping.{KeepsOthers};
+ghost use Rattle.raft_group_storage.specs.Keeping.{KeepsAll, KeepsOthers};
 ghost use Rattle.raft_laws.specs.GroupWorld.{NodeState, Absent, Up};
 ghost use Rattle.raft_member.specs.Member.{HasBrokenOff, HasEnded, HasStopped, IsBuilt, IsLawful};
-ghost use Rattle.raft_groups.specs.Faults.{GoesOn, HasMet};
+ghost use Rattle.raft_groups.specs.Faults.{GoesOn, HasBegun, HasMet, IsRefusedAs, IsTurnedAway};
 ghost use Rattle.raft_groups.specs.Standing.{HasMember, StandsAs};
 ghost use Rattle.raft_groups.specs.declared.fault.GroupsFault.TheVariants.{Failed, GroupExists, UnknownGroup};
 
@@ -71,12 +71,17 @@ impl<S: GroupStorage> Groups<S> {
     }
 
     /// The node has a new group from now on, with nothing in it (own). A group that the storage has
-    /// is to be opened, not added: this call looks among the members alone. At a fault, want of
-    /// memory included, the group is stored or not, and the node has failed.
+    /// is there already, also where it wasn't opened. At a fault, want of memory included, the group
+    /// is stored or not, and the node has failed.
     pub fn add_group(&mut self, group: u64) -> Result<(), GroupsFault<S::Fault>>
         ensures failed { self.old.has_failed ≡ true → (result ≡ Err Failed) × (self.new ≡ self.old) }
         ensures exists { self.old.has_failed ≡ false → is_some (get nat_cmp self.old.members group) ≡ true
             → (result ≡ Err GroupExists) × (self.new ≡ self.old) }
+        ensures stored { (st : Stored) → self.old.has_failed ≡ false → get nat_cmp self.old.members group ≡ None
+            → S.is_well self.old.storage → S.shows self.old.storage group (st ∷ []) → st.present ≡ true → IsRefusedAs GroupExists result }
+        ensures refused { (other : ℕ) (x : NodeState) → result ≡ Err GroupExists
+            → StandsAs self.old.id (get nat_cmp self.old.members) (S.is_well self.old.storage) (S.shows self.old.storage) other x
+            → StandsAs self.old.id (get nat_cmp self.new.members) (S.is_well self.new.storage) (S.shows self.new.storage) other x }
         ensures ok { self.old.has_failed ≡ false → StandsAs self.old.id (get nat_cmp self.old.members) (S.is_well self.old.storage) (S.shows self.old.storage) group Absent
             → OnOk result (StandsAs self.old.id (get nat_cmp self.new.members) (S.is_well self.new.storage) (S.shows self.new.storage) group (Up (state_of (record no_group { present = true })))) }
         ensures err { self.old.has_failed ≡ false → StandsAs self.old.id (get nat_cmp self.old.members) (S.is_well self.old.storage) (S.shows self.old.storage) group Absent
@@ -94,13 +99,36 @@ impl<S: GroupStorage> Groups<S> {
         if self.members.contains_key(&group) {
             return Err(GroupsFault::GroupExists);
         }
-        match self.make_member(group) {
-            Ok(()) => Ok(()),
+        match self.make_if_new(group) {
+            Ok(true) => Ok(()),
+            Ok(false) => Err(GroupsFault::GroupExists),
             Err(met) => {
                 self.has_failed = true;
                 Err(GroupsFault::Stopped(Broken::Begun(met)))
             }
         }
+    }
+
+    // The group is made, unless it is stored already: whether it was.
+    fn make_if_new(&mut self, group: u64) -> Result<bool, S::Fault>
+        ensures ok { S.is_well self.old.storage → S.shows self.old.storage group (no_group ∷ [])
+            → IfOk result (λ made. (made ≡ true) × StandsAs self.old.id (get nat_cmp self.new.members) (S.is_well self.new.storage) (S.shows self.new.storage) group (Up (state_of (record no_group { present = true })))) }
+        ensures stored { (st : Stored) → S.is_well self.old.storage → S.shows self.old.storage group (st ∷ []) → st.present ≡ true → IfOk result (λ made. made ≡ false) }
+        ensures err { S.is_well self.old.storage → S.shows self.old.storage group (no_group ∷ [])
+            → OnErr result (S.shows self.new.storage group (no_group ∷ after_storing MakeGroup no_group ∷ [])) }
+        ensures well { S.is_well self.old.storage → OnOk result (S.is_well self.new.storage) }
+        ensures same { (other : ℕ) → IfOk result (λ made. made ≡ false → get nat_cmp self.new.members other ≡ get nat_cmp self.old.members other) }
+        ensures kept_all { IfOk result (λ made. made ≡ false → KeepsAll (S.shows self.old.storage) (S.shows self.new.storage)) }
+        ensures others { (other : ℕ) → (other ≡ group → ⊥) → get nat_cmp self.new.members other ≡ get nat_cmp self.old.members other }
+        ensures kept { KeepsOthers (S.shows self.old.storage) (S.shows self.new.storage) group }
+        ensures id { self.new.id ≡ self.old.id }
+        ensures flag { self.new.has_failed ≡ self.old.has_failed }
+    {
+        if self.storage.load(self.alloc, group)?.present {
+            return Ok(false);
+        }
+        self.make_member(group)?;
+        Ok(true)
     }
 
     // The group is stored, and its member is there.
@@ -161,6 +189,7 @@ impl<S: GroupStorage> Groups<S> {
             → StandsAs self.old.id (get nat_cmp self.old.members) (S.is_well self.old.storage) (S.shows self.old.storage) other x
             → OnOk result (StandsAs self.old.id (get nat_cmp self.new.members) (S.is_well self.new.storage) (S.shows self.new.storage) other x) }
         ensures kept { KeepsOthers (S.shows self.old.storage) (S.shows self.new.storage) group }
+        ensures same { IsTurnedAway result → self.new ≡ self.old }
         ensures id { self.new.id ≡ self.old.id }
         ensures goes_on { GoesOn self.old.has_failed result self.new.has_failed }
     {
@@ -197,11 +226,12 @@ impl<S: GroupStorage> Groups<S> {
         ensures err { (m : Said) (s : GroupState) → self.old.has_failed ≡ false → Says S.stands message.now m
             → StandsAs self.old.id (get nat_cmp self.old.members) (S.is_well self.old.storage) (S.shows self.old.storage) group (Up s) → IsLawful self.old.id s
             → IfErr result (HasMet (λ met. HasMember self.old.id (get nat_cmp self.new.members) group
-            (λ member. HasStopped (S.shows self.new.storage group) self.old.id s (Receive message.now.sender m now) member))) }
+            (λ member. HasBegun (HasStopped (S.shows self.new.storage group) self.old.id s (Receive message.now.sender m now) member) met))) }
         ensures others { (other : ℕ) (x : NodeState) → (other ≡ group → ⊥)
             → StandsAs self.old.id (get nat_cmp self.old.members) (S.is_well self.old.storage) (S.shows self.old.storage) other x
             → OnOk result (StandsAs self.old.id (get nat_cmp self.new.members) (S.is_well self.new.storage) (S.shows self.new.storage) other x) }
         ensures kept { KeepsOthers (S.shows self.old.storage) (S.shows self.new.storage) group }
+        ensures same { IsTurnedAway result → self.new ≡ self.old }
         ensures id { self.new.id ≡ self.old.id }
         ensures goes_on { GoesOn self.old.has_failed result self.new.has_failed }
     {

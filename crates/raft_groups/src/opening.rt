@@ -9,10 +9,10 @@ ghost use Rattle.raft_group_storage.specs.Keeping.{KeepsOthers};
 ghost use Rattle.raft_laws.specs.GroupWorld.{NodeState};
 ghost use Rattle.raft_member.specs.Member.{HasEnded};
 ghost use Rattle.raft_member.specs.Opening.{IsOpenable};
-ghost use Rattle.raft_groups.specs.Faults.{GoesOn, HasMet};
+ghost use Rattle.raft_groups.specs.Faults.{GoesOn, HasMet, IsRefusedAs};
 ghost use Rattle.raft_groups.specs.Opening.{IsLeftByOpening};
 ghost use Rattle.raft_groups.specs.Standing.{HasMember, StandsAs};
-ghost use Rattle.raft_groups.specs.declared.fault.GroupsFault.TheVariants.{Failed, GroupExists};
+ghost use Rattle.raft_groups.specs.declared.fault.GroupsFault.TheVariants.{Failed, GroupExists, UnknownGroup};
 
 use crate::fault::GroupsFault;
 use crate::groups::Groups;
@@ -58,7 +58,7 @@ impl<S: GroupStorage> Groups<S> {
             → IfOk result (λ ended. HasMember self.old.id (get nat_cmp self.new.members) group
             (λ m. HasEnded S.stands (S.is_well self.new.storage) (S.shows self.new.storage group) self.old.id (state_of st) Open None m ended)) }
         ensures unknown { (st : Stored) → self.old.has_failed ≡ false → get nat_cmp self.old.members group ≡ None
-            → S.is_well self.old.storage → S.shows self.old.storage group (st ∷ []) → st.present ≡ false → OnOk result ⊥ }
+            → S.is_well self.old.storage → S.shows self.old.storage group (st ∷ []) → st.present ≡ false → IsRefusedAs UnknownGroup result }
         ensures err { (st : Stored) → self.old.has_failed ≡ false → get nat_cmp self.old.members group ≡ None
             → S.is_well self.old.storage → S.shows self.old.storage group (st ∷ []) → st.present ≡ true → IsOpenable self.old.id st
             → IfErr result (HasMet (λ met. IsLeftByOpening (S.shows self.new.storage group) self.old.id st)) }

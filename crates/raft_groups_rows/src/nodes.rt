@@ -72,7 +72,7 @@ impl Nodes {
         let Some(groups) = self.nodes.remove(&id) else {
             return Ok(false);
         };
-        let mut files = groups.into_storage().into_log().close();
+        let mut files = groups.into_storage().into_log().abandon();
         let is_crashed = files.crash(choice).is_ok();
         self.nodes.insert(id, node_on(files, alloc, id)?)?;
         Ok(is_crashed)

@@ -1,5 +1,5 @@
 -- What a quorum has accepted ends where a peer's log or the leader's own does.
-use Rattle.std.proofs.Common.{◌≡◌, ℕ, suc, ◌+◌, ◌-◌, ◌<◌, ◌≤◌, List, [], ◌∷◌, ◌++◌, refl, sym, ◌∙◌, arith, inl, inr}
+use Rattle.std.proofs.Common.{◌≡◌, ℕ, suc, ◌+◌, ◌<◌, ◌≤◌, List, [], ◌∷◌, ◌++◌, refl, sym, ◌∙◌, arith, inl, inr}
 use Rattle.std.specs.Prelude.{Bool, true, false, ◌==◌, nat_eq, nat_lt, cond, if◌then◌else◌, Option, Some, None, unwrap_or}
 use Rattle.std.specs.List.{AllByRecursion}
 use Rattle.std.specs.Option.{option_map, option_or}
@@ -13,7 +13,7 @@ use Rattle.raft_quorums.specs.QuorumLaws.{IsWithin}
 use Rattle.raft_progress.specs.declared.progress_entry.ProgressEntry.{ProgressEntry}
 use Rattle.raft_progress.specs.Values.{entry_at, value_at}
 use Rattle.raft_leaders.specs.Leader.{LeaderValue, peer_at, unknown_peer}
-use Rattle.raft_leaders.specs.Accepted.{IsAcceptedEnd, IsOutside, IsReached, IsRefused, has_accepted}
+use Rattle.raft_leaders.specs.Accepted.{IsAcceptedEnd, IsOutside, has_accepted}
 
 reaches_lower : (m : Option (LogId ℕ)) (place at : ℕ) → place ≤ at → reaches m at ≡ true → reaches m place ≡ true
 reaches_lower None place at h k = k
@@ -62,14 +62,22 @@ module _ (P : Option (LogId ℕ) → Type 0) where
 abbrev pub AllOutside : ℕ → ℕ → Entries → Type 0
 AllOutside low high entries = AllByRecursion (λ (x : ℕ × ProgressEntry ℕ). IsOutside low high (place_of x.1.matching)) entries
 
--- the place below the end that stands there is below this one, if a quorum has accepted it
-abbrev pub Covers : {Q : Type 0} → ℕ → LeaderValue ℕ Q → ((ℕ → Bool) → Bool) → ℕ → ℕ → Option ℕ → Type 0
-Covers own leader accepts end reached None = Unit {0}
-Covers own leader accepts end reached (Some place) =
-    place < end → accepts (has_accepted own leader end place) ≡ true → place < reached
+-- nor within closer bounds
+closer : (low high below : ℕ) (place : Option ℕ) → below ≤ high → IsOutside low high place → IsOutside low below place
+closer low high below None l h = tt
+closer low high below (Some place) l h = λ a b. h a (omega arith)
+
+-- one more log that ends in none of these bounds
+pub one_outside : (low high below : ℕ) (x : ℕ × ProgressEntry ℕ) (xs : Entries) → below ≤ high → IsOutside low high (place_of x.1.matching)
+    → AllOutside low below xs → AllOutside low below (x ∷ xs)
+one_outside low high below x xs l h k = (closer low high below (place_of x.1.matching) l h, k)
+
+-- a quorum has accepted all places from the one on and below the other
+abbrev pub IsReached : {Q : Type 0} → ℕ → LeaderValue ℕ Q → ((ℕ → Bool) → Bool) → ℕ → ℕ → ℕ → Type 0
+IsReached own leader accepts from end reached = (place : ℕ) → from ≤ place → place < reached → accepts (has_accepted own leader end place) ≡ true
 
 module _ {Q : Type 0} (own : ℕ) (leader : LeaderValue ℕ Q) (accepts : (ℕ → Bool) → Bool)
-    (superset : (p r : ℕ → Bool) → IsWithin p r → accepts p ≡ true → accepts r ≡ true) (end : ℕ) where
+    (superset : (p r : ℕ → Bool) → IsWithin p r → accepts p ≡ true → accepts r ≡ true) (from end : ℕ) where
   abbrev accepted : ℕ → Bool
   accepted place = accepts (has_accepted own leader end place)
 
@@ -83,103 +91,52 @@ module _ {Q : Type 0} (own : ℕ) (leader : LeaderValue ℕ Q) (accepts : (ℕ �
       ] k
 
   -- so a quorum has accepted all places up to one that it has accepted
-  pub reached_behind : (at : ℕ) → accepted at ≡ true → IsReached own leader accepts end (at + 1)
-  reached_behind at h place below = superset (has_accepted own leader end at) (has_accepted own leader end place) (lower place at (omega arith)) h
+  pub reached_behind : (at : ℕ) → accepted at ≡ true → IsReached own leader accepts from end (at + 1)
+  reached_behind at h place above below = superset (has_accepted own leader end at) (has_accepted own leader end place) (lower place at (omega arith)) h
 
-  -- and none from one on that it hasn't accepted
-  pub refused_from : (at : ℕ) → accepted at ≡ false → IsRefused own leader accepts end at
-  refused_from at h place above below =
-      elim (accepted place) as (λ a. accepted place ≡ a → a ≡ false) [
-        | true ↦ λ a. absurd (true≢false (sym (superset (has_accepted own leader end place) (has_accepted own leader end at) (lower at place above) a) ∙ h))
-        | false ↦ λ a. refl
-      ] refl
+  -- what is reached ends where the log does
+  pub accepted_all : (reached : ℕ) → end ≤ reached → IsReached own leader accepts from end reached → IsAcceptedEnd own leader accepts from end reached
+  accepted_all reached l low place above below = low place above (omega arith) ∙ sym (lt-ltb place reached (omega arith))
 
-  module _ (reached refused : ℕ) (high : IsRefused own leader accepts end refused) where
-    -- a place that isn't between what is reached and what is refused
-    covers_outside : (at : Option ℕ) → IsOutside reached refused at → Covers own leader accepts end reached at
-    covers_outside None h = tt
-    covers_outside (Some place) h = λ below a.
-        elim (leb_tells (suc place) reached) [
-          | inl w ↦ omega (arith, w.1)
-          | inr w ↦ elim (leb_tells (suc place) refused) [
-            | inl v ↦ absurd (h (omega (arith, w.1)) (omega (arith, v.1)))
-            | inr v ↦ absurd (true≢false (sym a ∙ high place (omega (arith, v.1)) below))
-          ]
-        ]
-
-    pub all_outside : (xs : Entries) → AllOutside reached refused xs
-        → AllMatching (λ m. Covers own leader accepts end reached (place_of m)) xs
-    all_outside [] h = tt
-    all_outside (x ∷ xs) h = (covers_outside (place_of x.1.matching) h.0, all_outside xs h.1)
-
-  module _ (reached place : ℕ) where
-    abbrev Covered : ℕ → Type 0
-    Covered at = Covers own leader accepts end reached (Some at)
-
-    -- who matches up to the place matches up to this one too
-    abbrev IsMet : ℕ → Option (LogId ℕ) → Type 0
-    IsMet at m = reaches m place ≡ true → reaches m at ≡ true
-
-    step : (m : Option (LogId ℕ)) (at : ℕ) → place ≤ at → Covers own leader accepts end reached (place_of m) → Covered at
-        → (least : ℕ) × (place ≤ least) × (least ≤ at) × IsMet least m × Covered least
-    step None at h c b = (at, h, (omega arith), (λ k. k), b)
-    step (Some id) at h c b =
+  module _ (reached at : ℕ) where
+    -- who has accepted all up to a place between these has accepted all up to the second one, where no log ends between
+    matches_on : (m : Option (LogId ℕ)) (place : ℕ) → reached ≤ place → IsOutside reached at (place_of m) → reaches m place ≡ true → reaches m at ≡ true
+    matches_on None place l h k = k
+    matches_on (Some id) place l h k =
+        let up : place ≤ id.index = leb-true place id.index k in
         elim (leb_tells at id.index) [
-          | inl w ↦ (at, h, (omega arith), (λ k. w.0), b)
-          | inr w ↦ elim (leb_tells place id.index) [
-            | inl v ↦ (id.index, v.1, (omega arith), (λ k. le-leb id.index id.index (omega arith)), c)
-            | inr v ↦ (at, h, (omega arith), (λ k. absurd (true≢false (sym k ∙ v.0))), b)
-          ]
+          | inl w ↦ w.0
+          | inr w ↦ absurd (h (omega arith) (omega (arith, w.1)))
         ]
 
-    all_lower : (xs : Entries) (at least : ℕ) → least ≤ at → AllMatching (IsMet at) xs → AllMatching (IsMet least) xs
-    all_lower [] at least h k = tt
-    all_lower (x ∷ xs) at least h k = ((λ r. reaches_lower x.1.matching least at h (k.0 r)), all_lower xs at least h k.1)
+    all_on : (place : ℕ) → reached ≤ place → (xs : Entries) → AllOutside reached at xs → AllMatching (λ m. reaches m place ≡ true → reaches m at ≡ true) xs
+    all_on place l [] h = tt
+    all_on place l (x ∷ xs) h = (matches_on x.1.matching place l h.0, all_on place l xs h.1)
 
-    -- the least place at or above this one at which a log ends: the same have accepted it
-    least_end : (last : ℕ) → place ≤ last → Covered last → (xs : Entries) → AllMatching (λ m. Covers own leader accepts end reached (place_of m)) xs
-        → (least : ℕ) × (place ≤ least) × (least ≤ last) × AllMatching (IsMet least) xs × Covered least
-    least_end last h b [] k = (last, h, (omega arith), tt, b)
-    least_end last h b (x ∷ xs) k =
-        let w = least_end last h b xs k.1 in
-        let s = step x.1.matching w.0 w.1 k.0 w.4 in
-        (s.0, s.1, (let l : s.0 ≤ w.0 = s.2 in let m : w.0 ≤ last = w.2 in omega arith), (s.3, all_lower xs w.0 s.0 s.2 w.3), s.4)
-
-    met : (at : ℕ) → at < end → AllMatching (IsMet at) (leader.progress.voters ++ leader.progress.learners) → IsWithin (has_accepted own leader end place) (has_accepted own leader end at)
-    met at below h n k =
+    met : (place : ℕ) → reached ≤ place → at < end → AllOutside reached at (leader.progress.voters ++ leader.progress.learners)
+        → IsWithin (has_accepted own leader end place) (has_accepted own leader end at)
+    met place l below h n k =
         elim (n == own) as (λ b. (if b then nat_lt place end else reaches (peer_at nat_eq leader n).matching place) ≡ true
         → (if b then nat_lt at end else reaches (peer_at nat_eq leader n).matching at) ≡ true) [
-          | true ↦ λ l. lt-ltb at end below
-          | false ↦ λ l. of_peer (IsMet at) leader n (λ r. r) h l
+          | true ↦ λ r. lt-ltb at end below
+          | false ↦ λ r. of_peer (λ m. reaches m place ≡ true → reaches m at ≡ true) leader n (λ t. t) (all_on place l (leader.progress.voters ++ leader.progress.learners) h) r
         ] k
 
-    not_accepted : place < end → reached ≤ place → Covered (end - 1)
-        → AllMatching (λ m. Covers own leader accepts end reached (place_of m)) (leader.progress.voters ++ leader.progress.learners) → accepted place ≡ true → false ≡ true
-    not_accepted below past b h a =
-        let w = least_end (end - 1) (omega arith) b (leader.progress.voters ++ leader.progress.learners) h in
-        let up : place ≤ w.0 = w.1 in
-        let down : w.0 ≤ end - 1 = w.2 in
-        let within : w.0 < end = omega arith in
-        let l : w.0 < reached = w.4 within (superset (has_accepted own leader end place) (has_accepted own leader end w.0) (met w.0 within w.3) a) in
-        absurd (omega arith)
-
-  -- a quorum has accepted just what is reached, where that covers each log's end
-  pub accepted_just : (reached : ℕ) → IsReached own leader accepts end reached → Covers own leader accepts end reached (Some (end - 1))
-      → AllMatching (λ m. Covers own leader accepts end reached (place_of m)) (leader.progress.voters ++ leader.progress.learners) → IsAcceptedEnd own leader accepts end reached
-  accepted_just reached low b h place below =
-      elim (leb_tells (suc place) reached) [
-        | inl w ↦ low place (omega (arith, w.1)) ∙ sym (lt-ltb place reached (omega (arith, w.1)))
-        | inr w ↦ elim (accepted place) as (λ a. accepted place ≡ a → a ≡ nat_lt place reached) [
-          | true ↦ λ a. absurd (true≢false (sym (not_accepted reached place below (omega (arith, w.1)) b h a)))
-          | false ↦ λ a. sym w.0
-        ] refl
-      ]
-
-  -- so it is where no log ends between what is reached and what is refused
-  pub accepted_between : (reached refused : ℕ) → refused < end → IsReached own leader accepts end reached → IsRefused own leader accepts end refused
-      → AllOutside reached refused (leader.progress.voters ++ leader.progress.learners)
-      → IsAcceptedEnd own leader accepts end reached
-  accepted_between reached refused within low high h =
-      accepted_just reached low
-      (λ below a. absurd (true≢false (sym a ∙ high (end - 1) (omega arith) below)))
-      (all_outside reached refused high (leader.progress.voters ++ leader.progress.learners) h)
+    -- so a quorum has accepted none from what is reached on, where it hasn't accepted the next place at which a log ends
+    pub accepted_none : reached ≤ at → at < end → AllOutside reached at (leader.progress.voters ++ leader.progress.learners) → accepted at ≡ false
+        → IsReached own leader accepts from end reached → IsAcceptedEnd own leader accepts from end reached
+    accepted_none b within h refused low place above below =
+        elim (leb_tells (suc place) reached) [
+          | inl w ↦ low place above (omega (arith, w.1)) ∙ sym (lt-ltb place reached (omega (arith, w.1)))
+          | inr w ↦ elim (accepted place) as (λ a. accepted place ≡ a → a ≡ nat_lt place reached) [
+            | true ↦ λ a. absurd (true≢false (sym (up (omega (arith, w.1)) a) ∙ refused))
+            | false ↦ λ a. sym w.0
+          ] refl
+        ]
+      where
+        up : reached ≤ place → accepted place ≡ true → accepted at ≡ true
+        up l a =
+            elim (leb_tells place at) [
+              | inl w ↦ superset (has_accepted own leader end place) (has_accepted own leader end at) (met place l within h) a
+              | inr w ↦ superset (has_accepted own leader end place) (has_accepted own leader end at) (lower at place (omega (arith, w.1))) a
+            ]

@@ -1,6 +1,6 @@
 -- The last of the leader's own log ids, found from the last key on.
 use Rattle.std.proofs.Common.{◌≡◌, ℕ, zero, suc, ◌+◌, ◌-◌, ◌<◌, ◌≤◌, List, [], ◌∷◌, ◌++◌, length, get_or, drop, refl, ap, sym, ◌∙◌, subst, arith, inl, inr}
-use Rattle.std.specs.Prelude.{Bool, true, false, ◌&&◌, nat_eq, nat_lt, cond, filter, Option, Some, None, is_some}
+use Rattle.std.specs.Prelude.{Bool, true, false, ◌&&◌, nat_eq, nat_le, nat_lt, cond, filter, Option, Some, None, is_some}
 use Rattle.std.specs.List.{AllByRecursion, last_or}
 use Rattle.raft_values.specs.declared.vote.LeaderId.{LeaderId}
 use Rattle.raft_values.specs.declared.log_id.LogId.{LogId}
@@ -8,13 +8,13 @@ use Rattle.raft_values.specs.LogId.{next_place}
 use Rattle.raft_state.specs.LogIdList.{IsBelowNext, end_of_key, ids_of, last_id, leader_ids, PlacesRise}
 use Rattle.raft_state.proofs.LogIdLemmas.{leader_ids-first, leader_ids-none}
 use Rattle.raft_state.proofs.LogIdListLemmas.{final, last_id-cons, last_id-ids_of}
-use Rattle.std.proofs.lemmas.Bool.{and_right}
+use Rattle.std.proofs.lemmas.Bool.{and_right, le-leb}
 use Rattle.std.proofs.lemmas.Bool.Decides.{leb_tells}
 use Rattle.std.proofs.lemmas.List.{append-nil, drop_more}
 use Rattle.std.proofs.lemmas.List.Elements.{filter-append}
 use borrow.Author.Tests.{lt-ltb}
 use Rattle.raft_leaders.specs.Leader.{end_of, is_of_leader}
-use Rattle.raft_leaders.specs.Accepted.{last_own_below}
+use Rattle.raft_leaders.specs.Accepted.{last_own_within}
 
 module _ {K : Type 0} where
   -- the places rise by one from this one on
@@ -103,64 +103,118 @@ none_if_last : {X : Type 0} (xs : List X) → last_or None xs ≡ None → xs �
 none_if_last [] h = refl
 none_if_last (x ∷ xs) h = absurd (last_is_some x xs h)
 
-module _ (leader : LeaderId ℕ) (below : ℕ) where
-  abbrev pub is_own_below : LogId ℕ → Bool
-  is_own_below x = is_of_leader nat_eq leader x && nat_lt x.index below
+-- a key ends no higher than any key behind it
+end_within : (key : LogId ℕ) (keys : List (LogId ℕ)) (at : ℕ) (d : LogId ℕ) → at < length keys → PlacesRise keys → end_of_key key keys ≤ (get_or keys at d).index
+end_within key [] at d l h = absurd (omega arith)
+end_within key (next ∷ keys) zero d l h = omega arith
+end_within key (next ∷ keys) (suc at) d l h =
+    let more : end_of_key next keys ≤ (get_or keys at d).index = end_within next keys at d (omega arith) h.1 in
+    let past : next.index ≤ end_of_key next keys = past_key next keys h.0 in
+    let on : next.index ≤ (get_or keys at d).index = omega arith in on
+  where
+    past_key : (key : LogId ℕ) (rest : List (LogId ℕ)) → IsBelowNext key rest → key.index ≤ end_of_key key rest
+    past_key key rest h = let l = end_past key rest h in omega arith
+
+module _ (leader : LeaderId ℕ) (from below : ℕ) where
+  abbrev pub is_own_within : LogId ℕ → Bool
+  is_own_within x = is_of_leader nat_eq leader x && (nat_le from x.index && nat_lt x.index below)
 
   abbrev id_of : LeaderId ℕ → ℕ → LogId ℕ
   id_of own place = record { leader_id = own; index = place }
 
   -- none of one leader's log ids where none of their places passes
-  none_of_run : (own : LeaderId ℕ) (n from to : ℕ) → to ≡ from + n → ((place : ℕ) → from ≤ place → place < to → is_own_below (id_of own place) ≡ false)
-      → filter is_own_below (leader_ids own from to) ≡ []
-  none_of_run own zero from to e f = ap (filter is_own_below) (leader_ids-none own from to (omega arith))
-  none_of_run own (suc n) from to e f =
-      ap (filter is_own_below) (leader_ids-first own from to (omega arith))
-      ∙ ap (λ b. cond b (id_of own from ∷ filter is_own_below (leader_ids own (from + 1) to)) (filter is_own_below (leader_ids own (from + 1) to))) (f from (omega arith) (omega arith))
-      ∙ none_of_run own n (from + 1) to (omega arith) (λ place l m. f place (omega arith) m)
+  none_of_run : (own : LeaderId ℕ) (n start to : ℕ) → to ≡ start + n → ((place : ℕ) → start ≤ place → place < to → is_own_within (id_of own place) ≡ false)
+      → filter is_own_within (leader_ids own start to) ≡ []
+  none_of_run own zero start to e f = ap (filter is_own_within) (leader_ids-none own start to (omega arith))
+  none_of_run own (suc n) start to e f =
+      ap (filter is_own_within) (leader_ids-first own start to (omega arith))
+      ∙ ap (λ b. cond b (id_of own start ∷ filter is_own_within (leader_ids own (start + 1) to)) (filter is_own_within (leader_ids own (start + 1) to))) (f start (omega arith) (omega arith))
+      ∙ none_of_run own n (start + 1) to (omega arith) (λ place l m. f place (omega arith) m)
 
-  past_below : (own : LeaderId ℕ) (place : ℕ) → below ≤ place → is_own_below (id_of own place) ≡ false
+  past_below : (own : LeaderId ℕ) (place : ℕ) → below ≤ place → is_own_within (id_of own place) ≡ false
   past_below own place h =
       elim (leb_tells (suc place) below) [
         | inl w ↦ absurd (omega (arith, w.1))
-        | inr w ↦ ap (λ b. is_of_leader nat_eq leader (id_of own place) && b) w.0 ∙ and_right (is_of_leader nat_eq leader (id_of own place)) false refl
+        | inr w ↦ ap (λ b. is_of_leader nat_eq leader (id_of own place) && (nat_le from place && b)) w.0
+            ∙ ap (λ b. is_of_leader nat_eq leader (id_of own place) && b) (and_right (nat_le from place) false refl)
+            ∙ and_right (is_of_leader nat_eq leader (id_of own place)) false refl
       ]
+
+  before_from : (own : LeaderId ℕ) (place : ℕ) → place < from → is_own_within (id_of own place) ≡ false
+  before_from own place h =
+      elim (leb_tells from place) [
+        | inl w ↦ absurd (omega (arith, w.1))
+        | inr w ↦ ap (λ b. is_of_leader nat_eq leader (id_of own place) && (b && nat_lt place below)) w.0
+            ∙ and_right (is_of_leader nat_eq leader (id_of own place)) false refl
+      ]
+
+  -- nor of any log ids where the bounds are none
+  pub none_between : below ≤ from → (xs : List (LogId ℕ)) → filter is_own_within xs ≡ []
+  none_between h [] = refl
+  none_between h (x ∷ xs) =
+      ap (λ b. cond b (x ∷ filter is_own_within xs) (filter is_own_within xs))
+      (elim (leb_tells from x.index) as (λ w. is_own_within x ≡ false) [
+        | inl w ↦ past_below x.leader_id x.index (omega (arith, w.1))
+        | inr w ↦ before_from x.leader_id x.index (omega (arith, w.1))
+      ])
+      ∙ none_between h xs
 
   -- the last of one leader's own is the last one below
-  last_of_run : (o : Option (LogId ℕ)) (own : LeaderId ℕ) (n from to last : ℕ) → is_of_leader nat_eq leader (id_of own 0) ≡ true
-      → to ≡ from + n → from ≤ last → last < to → last < below → ((place : ℕ) → last < place → place < to → below ≤ place)
-      → last_or o (filter is_own_below (leader_ids own from to)) ≡ Some (id_of own last)
-  last_of_run o own zero from to last mine e l m k f = absurd (omega arith)
-  last_of_run o own (suc n) from to last mine e l m k f =
-      let rest = filter is_own_below (leader_ids own (from + 1) to) in
-      let passes : is_own_below (id_of own from) ≡ true = ap (λ b. b && nat_lt from below) mine ∙ lt-ltb from below (omega arith) in
-      ap (λ l. last_or o (filter is_own_below l)) (leader_ids-first own from to (omega arith))
-      ∙ ap (λ b. last_or o (cond b (id_of own from ∷ rest) rest)) passes
-      ∙ elim (leb_tells last from) [
+  last_of_run : (o : Option (LogId ℕ)) (own : LeaderId ℕ) (n start to last : ℕ) → is_of_leader nat_eq leader (id_of own 0) ≡ true
+      → to ≡ start + n → start ≤ last → last < to → from ≤ last → last < below → ((place : ℕ) → last < place → place < to → below ≤ place)
+      → last_or o (filter is_own_within (leader_ids own start to)) ≡ Some (id_of own last)
+  last_of_run o own zero start to last mine e l m j k f = absurd (omega arith)
+  last_of_run o own (suc n) start to last mine e l m j k f =
+      let rest = filter is_own_within (leader_ids own (start + 1) to) in
+      ap (λ l. last_or o (filter is_own_within l)) (leader_ids-first own start to (omega arith))
+      ∙ elim (leb_tells last start) [
         | inl w ↦
-            let here : from ≡ last = omega (arith, w.1) in
-            ap (last_or (Some (id_of own from))) (none_of_run own n (from + 1) to (omega arith) (λ place a b. past_below own place (f place (omega arith) b)))
+            let here : start ≡ last = omega (arith, w.1) in
+            let passes : is_own_within (id_of own start) ≡ true =
+            ap (λ b. b && (nat_le from start && nat_lt start below)) mine ∙ ap (λ b. b && nat_lt start below) (le-leb from start (omega arith)) ∙ lt-ltb start below (omega arith) in
+            ap (λ b. last_or o (cond b (id_of own start ∷ rest) rest)) passes
+            ∙ ap (last_or (Some (id_of own start))) (none_of_run own n (start + 1) to (omega arith) (λ place a b. past_below own place (f place (omega arith) b)))
             ∙ ap (λ place. Some (id_of own place)) here
-        | inr w ↦ last_of_run (Some (id_of own from)) own n (from + 1) to last mine (omega arith) (omega (arith, w.1)) m k f
+        | inr w ↦
+            elim (is_own_within (id_of own start)) as (λ b. last_or o (cond b (id_of own start ∷ rest) rest) ≡ Some (id_of own last)) [
+              | true ↦ last_of_run (Some (id_of own start)) own n (start + 1) to last mine (omega arith) (omega (arith, w.1)) m j k f
+              | false ↦ last_of_run o own n (start + 1) to last mine (omega arith) (omega (arith, w.1)) m j k f
+            ]
       ]
 
-  -- none of the key's where it is another's, or stands no lower
+  -- none of the key's where none of its places passes
+  none_told : (key : LogId ℕ) (rest : List (LogId ℕ)) → IsBelowNext key rest
+      → ((place : ℕ) → key.index ≤ place → place < end_of_key key rest → is_own_within (id_of key.leader_id place) ≡ false)
+      → None ≡ last_own_within leader from below (leader_ids key.leader_id key.index (end_of_key key rest))
+  none_told key rest h f =
+      sym (ap (last_or None) (none_of_run key.leader_id (end_of_key key rest - key.index) key.index (end_of_key key rest) (let l = end_past key rest h in omega arith) f))
+
+  -- as where it is another's, stands no lower, or ends below
   pub none_under : (key : LogId ℕ) (rest : List (LogId ℕ)) → IsBelowNext key rest → is_of_leader nat_eq leader key ≡ false
-      → None ≡ last_own_below leader below (leader_ids key.leader_id key.index (end_of_key key rest))
-  none_under key rest h other =
-      sym (ap (last_or None) (none_of_run key.leader_id (end_of_key key rest - key.index) key.index (end_of_key key rest) (let l = end_past key rest h in omega arith) (λ place l m. ap (λ b. b && nat_lt place below) other)))
+      → None ≡ last_own_within leader from below (leader_ids key.leader_id key.index (end_of_key key rest))
+  none_under key rest h other = none_told key rest h (λ place l m. ap (λ b. b && (nat_le from place && nat_lt place below)) other)
 
   pub none_at : (key : LogId ℕ) (rest : List (LogId ℕ)) → IsBelowNext key rest → below ≤ key.index
-      → None ≡ last_own_below leader below (leader_ids key.leader_id key.index (end_of_key key rest))
-  none_at key rest h past =
-      sym (ap (last_or None) (none_of_run key.leader_id (end_of_key key rest - key.index) key.index (end_of_key key rest) (let l = end_past key rest h in omega arith) (λ place l m. past_below key.leader_id place (omega arith))))
+      → None ≡ last_own_within leader from below (leader_ids key.leader_id key.index (end_of_key key rest))
+  none_at key rest h past = none_told key rest h (λ place l m. past_below key.leader_id place (omega arith))
+
+  pub none_up_to : (key : LogId ℕ) (rest : List (LogId ℕ)) (last : ℕ) → IsBelowNext key rest → last < from
+      → ((place : ℕ) → last < place → place < end_of_key key rest → below ≤ place)
+      → None ≡ last_own_within leader from below (leader_ids key.leader_id key.index (end_of_key key rest))
+  none_up_to key rest last h l f =
+      none_told key rest h
+      (λ place a b.
+      elim (leb_tells place last) [
+        | inl w ↦ before_from key.leader_id place (omega (arith, w.1))
+        | inr w ↦ past_below key.leader_id place (f place (omega (arith, w.1)) b)
+      ])
 
   -- the last of the key's that stands below
-  pub some_under : (key : LogId ℕ) (rest : List (LogId ℕ)) (last : ℕ) → is_of_leader nat_eq leader key ≡ true → key.index ≤ last → last < end_of_key key rest → last < below
+  pub some_under : (key : LogId ℕ) (rest : List (LogId ℕ)) (last : ℕ) → is_of_leader nat_eq leader key ≡ true → key.index ≤ last → last < end_of_key key rest → from ≤ last → last < below
       → ((place : ℕ) → last < place → place < end_of_key key rest → below ≤ place)
-      → Some (id_of key.leader_id last) ≡ last_own_below leader below (leader_ids key.leader_id key.index (end_of_key key rest))
-  some_under key rest last mine l m k f =
-      sym (last_of_run None key.leader_id (end_of_key key rest - key.index) key.index (end_of_key key rest) last mine (omega arith) l m k f)
+      → Some (id_of key.leader_id last) ≡ last_own_within leader from below (leader_ids key.leader_id key.index (end_of_key key rest))
+  some_under key rest last mine l m j k f =
+      sym (last_of_run None key.leader_id (end_of_key key rest - key.index) key.index (end_of_key key rest) last mine (omega arith) l m j k f)
 
   -- ---- and among those that all keys tell
 
@@ -171,34 +225,45 @@ module _ (leader : LeaderId ℕ) (below : ℕ) where
   with_key keys at d l = ap ids_of (drop_more keys at d l)
 
   -- none so far, and none of this key's
-  pub none_more : (keys : List (LogId ℕ)) (at : ℕ) (d : LogId ℕ) → at < length keys → filter is_own_below (ids_of (drop (at + 1) keys)) ≡ []
-      → last_own_below leader below (told keys at d) ≡ None → filter is_own_below (ids_of (drop at keys)) ≡ []
+  pub none_more : (keys : List (LogId ℕ)) (at : ℕ) (d : LogId ℕ) → at < length keys → filter is_own_within (ids_of (drop (at + 1) keys)) ≡ []
+      → last_own_within leader from below (told keys at d) ≡ None → filter is_own_within (ids_of (drop at keys)) ≡ []
   none_more keys at d l h e =
-      ap (filter is_own_below) (with_key keys at d l) ∙ none_before is_own_below (told keys at d) (ids_of (drop (at + 1) keys)) (none_if_last (filter is_own_below (told keys at d)) e) h
+      ap (filter is_own_within) (with_key keys at d l) ∙ none_before is_own_within (told keys at d) (ids_of (drop (at + 1) keys)) (none_if_last (filter is_own_within (told keys at d)) e) h
 
   -- what is last from a key on is last of all
-  from_key : (keys : List (LogId ℕ)) (at : ℕ) (id : LogId ℕ) → last_own_below leader below (ids_of (drop at keys)) ≡ Some id → last_own_below leader below (ids_of keys) ≡ Some id
+  from_key : (keys : List (LogId ℕ)) (at : ℕ) (id : LogId ℕ) → last_own_within leader from below (ids_of (drop at keys)) ≡ Some id → last_own_within leader from below (ids_of keys) ≡ Some id
   from_key keys zero id h = h
   from_key [] (suc at) id h = h
   from_key (key ∷ keys) (suc at) id h =
-      ap (last_or None) (filter-append is_own_below (leader_ids key.leader_id key.index (end_of_key key keys)) (ids_of keys))
-      ∙ last_behind None (filter is_own_below (leader_ids key.leader_id key.index (end_of_key key keys))) (filter is_own_below (ids_of keys)) id (from_key keys at id h)
+      ap (last_or None) (filter-append is_own_within (leader_ids key.leader_id key.index (end_of_key key keys)) (ids_of keys))
+      ∙ last_behind None (filter is_own_within (leader_ids key.leader_id key.index (end_of_key key keys))) (filter is_own_within (ids_of keys)) id (from_key keys at id h)
 
   -- the last of this key's, where none stands behind it
-  pub last_found : (keys : List (LogId ℕ)) (at : ℕ) (d id : LogId ℕ) → at < length keys → filter is_own_below (ids_of (drop (at + 1) keys)) ≡ []
-      → last_own_below leader below (told keys at d) ≡ Some id → last_own_below leader below (ids_of keys) ≡ Some id
+  pub last_found : (keys : List (LogId ℕ)) (at : ℕ) (d id : LogId ℕ) → at < length keys → filter is_own_within (ids_of (drop (at + 1) keys)) ≡ []
+      → last_own_within leader from below (told keys at d) ≡ Some id → last_own_within leader from below (ids_of keys) ≡ Some id
   last_found keys at d id l h e =
       from_key keys at id
-      (ap (λ ids. last_or None (filter is_own_below ids)) (with_key keys at d l)
-      ∙ ap (last_or None) (filter-append is_own_below (told keys at d) (ids_of (drop (at + 1) keys)))
-      ∙ last_before (filter is_own_below (told keys at d)) (filter is_own_below (ids_of (drop (at + 1) keys))) h
+      (ap (λ ids. last_or None (filter is_own_within ids)) (with_key keys at d l)
+      ∙ ap (last_or None) (filter-append is_own_within (told keys at d) (ids_of (drop (at + 1) keys)))
+      ∙ last_before (filter is_own_within (told keys at d)) (filter is_own_within (ids_of (drop (at + 1) keys))) h
       ∙ e)
 
   -- what is found so is the last of all
-  pub found_is : (keys : List (LogId ℕ)) (at : ℕ) (d : LogId ℕ) (o : Option (LogId ℕ)) → at < length keys → filter is_own_below (ids_of (drop (at + 1) keys)) ≡ []
-      → is_some o ≡ true → o ≡ last_own_below leader below (told keys at d) → o ≡ last_own_below leader below (ids_of keys)
+  pub found_is : (keys : List (LogId ℕ)) (at : ℕ) (d : LogId ℕ) (o : Option (LogId ℕ)) → at < length keys → filter is_own_within (ids_of (drop (at + 1) keys)) ≡ []
+      → is_some o ≡ true → o ≡ last_own_within leader from below (told keys at d) → o ≡ last_own_within leader from below (ids_of keys)
   found_is keys at d None l h k e = cc k
   found_is keys at d (Some id) l h k e = sym (last_found keys at d id l h (sym e))
+
+  -- none stands before a key that stands no higher than the first place
+  pub none_before_key : (keys : List (LogId ℕ)) (at : ℕ) (d : LogId ℕ) → at < length keys → PlacesRise keys → (get_or keys at d).index ≤ from
+      → filter is_own_within (ids_of (drop at keys)) ≡ [] → filter is_own_within (ids_of keys) ≡ []
+  none_before_key [] at d l h low none = absurd (omega arith)
+  none_before_key (key ∷ keys) zero d l h low none = none
+  none_before_key (key ∷ keys) (suc at) d l h low none =
+      let end : end_of_key key keys ≤ (get_or keys at d).index = end_within key keys at d (omega arith) h.1 in
+      none_before is_own_within (leader_ids key.leader_id key.index (end_of_key key keys)) (ids_of keys)
+      (none_of_run key.leader_id (end_of_key key keys - key.index) key.index (end_of_key key keys) (let l = end_past key keys h.0 in omega arith) (λ place a b. before_from key.leader_id place (omega arith)))
+      (none_before_key keys at d (omega arith) h.1 low none)
 
 pub none_if : {X : Type 0} (o : Option X) → is_some o ≡ false → o ≡ None
 none_if None e = refl

@@ -3,7 +3,7 @@ ghost use Rattle.std.specs.Prelude.{◌≡◌, ℕ, ◌<◌, ◌≤◌, ◌^◌,
 ghost use Rattle.std.specs.List.{AllByRecursion};
 ghost use Rattle.raft_values.specs.LogId.{place_of};
 ghost use Rattle.raft_state.specs.LogIdList.{IsBelowNext, end_of_key, leader_ids};
-ghost use Rattle.raft_leaders.specs.Accepted.{IsAcceptedEnd, IsOutside, IsSpan, greatest_accepted, has_accepted, last_own_below};
+ghost use Rattle.raft_leaders.specs.Accepted.{IsAcceptedEnd, IsOutside, greatest_accepted, has_accepted, last_own_within};
 ghost use Rattle.raft_leaders.specs.Leader.{end_of};
 
 use crate::leader::Leader;
@@ -51,61 +51,52 @@ fn is_accepted<QS: QuorumSet<u64> + Drop, VS: QuorumSet<u64>>(
     voters.is_quorum(&acceptors)
 }
 
-// The least and the greatest place so far, and with this one, if it stands within the bounds.
-fn widened(span: Option<(u64, u64)>, low: u64, high: u64, place: Option<u64>) -> Option<(u64, u64)>
-    ensures within { IsSpan low high span → IsSpan low high result }
-    ensures none { IfNone result ((span ≡ None) × IsOutside low high place) }
+// The lower one of the two places; the second one counts if it stands from the bound on.
+fn lower_end(least: u64, from: u64, place: Option<u64>) -> u64
+    requires { from ≤ least }
+    ensures within { (from ≤ result) × (result ≤ least) }
+    ensures outside { IsOutside from result place }
 {
-    let Some(place) = place else {
-        return span;
-    };
-    if place < low || high <= place {
-        return span;
-    }
-    match span {
-        None => Some((place, place)),
-        Some((least, greatest)) => Some((least.min(place), greatest.max(place))),
+    match place {
+        Some(place) if from <= place => least.min(place),
+        _ => least,
     }
 }
 
-// The middle of the places within the bounds at which a peer's log ends.
-fn middle_end<QS: QuorumSet<u64> + Drop>(
-    leader: &Leader<u64, QS>,
-    low: u64,
-    high: u64,
-) -> Option<u64>
-    ensures within { IfSome result (λ place. (low ≤ place) × (place < high)) }
-    ensures none { IfNone result (AllByRecursion (λ x. IsOutside low high (place_of x.1.matching)) (leader.now.progress.voters ++ leader.now.progress.learners)) }
+// The first place, from this one on, at which a log ends: a peer's, or the leader's own.
+fn next_end<QS: QuorumSet<u64> + Drop>(leader: &Leader<u64, QS>, end: u64, from: u64) -> Option<u64>
+    ensures within { IfSome result (λ place. (from ≤ place) × (place < end)) }
+    ensures outside { IfSome result (λ place. AllByRecursion (λ x. IsOutside from place (place_of x.1.matching)) (leader.now.progress.voters ++ leader.now.progress.learners)) }
+    ensures none { IfNone result (end ≤ from) }
 {
-    let mut span = None;
+    if end <= from {
+        return None;
+    }
+    let mut least = end - 1;
     for entry in leader.progress().iter() {
-        span = widened(span, low, high, entry.1.matching.index());
+        least = lower_end(least, from, entry.1.matching.index());
     }
-    let (least, greatest) = span?;
-    Some(least + (greatest - least) / 2)
+    Some(least)
 }
 
-// The place behind the greatest one below the end that a quorum has accepted; 0 if there is none.
-// Half of the places at which the peers' logs end are left each time.
+// The place behind the greatest one below the end, from a place on, that a quorum has accepted; that
+// place if there is none. It goes up by the ends of the peers' logs: between two of them a quorum has
+// accepted all or none.
 fn accepted_end<QS: QuorumSet<u64> + Drop, VS: QuorumSet<u64>>(
     leader: &Leader<u64, QS>,
     own: u64,
+    from: u64,
     end: u64,
     voters: &VS,
 ) -> u64
-    ensures { IsAcceptedEnd own leader.now (VS.accepts voters.now) end result }
+    ensures { IsAcceptedEnd own leader.now (VS.accepts voters.now) from end result }
 {
-    if end == 0 || is_accepted(leader, own, end, end - 1, voters) {
-        return end;
-    }
-    let mut reached = 0;
-    let mut refused = end - 1;
-    'halving: while let Some(place) = middle_end(leader, reached, refused) {
-        if is_accepted(leader, own, end, place, voters) {
-            reached = place + 1;
-        } else {
-            refused = place;
+    let mut reached = from;
+    'climbing: while let Some(place) = next_end(leader, end, reached) {
+        if !is_accepted(leader, own, end, place, voters) {
+            return reached;
         }
+        reached = place + 1;
     }
     reached
 }
@@ -126,36 +117,49 @@ fn last_under(key: &LogId<u64>, rest: &[LogId<u64>], below: u64) -> LogId<u64>
     }
 }
 
-// The same, if the leader wrote what the key tells.
-fn own_under(
+// The same, if the leader wrote what the key tells, and the log id stands from the place on.
+fn own_within(
     key: &LogId<u64>,
     rest: &[LogId<u64>],
+    from: u64,
     below: u64,
     leader_id: LeaderId<u64>,
 ) -> Option<LogId<u64>>
     requires { IsBelowNext key.now rest.now }
-    ensures { result ≡ last_own_below leader_id below (leader_ids key.now.leader_id key.now.index (end_of_key key.now rest.now)) }
+    ensures { result ≡ last_own_within leader_id from below (leader_ids key.now.leader_id key.now.index (end_of_key key.now rest.now)) }
 {
-    if key.leader_id == leader_id && key.index < below {
-        return Some(last_under(key, rest, below));
+    if key.leader_id != leader_id {
+        return None;
     }
-    None
+    if below <= key.index {
+        return None;
+    }
+    let last = last_under(key, rest, below);
+    if last.index < from {
+        return None;
+    }
+    Some(last)
 }
 
-// The last of the leader's own log ids below the place, found from the last key on.
-fn last_own_below(
+// The last of the leader's own log ids from the one place on and below the other, found from the last
+// key on. No key before one that stands no higher than the first place is read.
+fn last_own_within(
     log_ids: &LogIdList<u64>,
+    from: u64,
     below: u64,
     leader_id: LeaderId<u64>,
 ) -> Option<LogId<u64>>
-    ensures { result ≡ last_own_below leader_id below log_ids.now }
+    ensures { result ≡ last_own_within leader_id from below log_ids.now }
 {
     let keys = log_ids.key_log_ids();
     for back in 0..keys.len() {
         let at = keys.len() - 1 - back;
-        let own = own_under(&keys[at], &keys[at + 1..], below, leader_id);
+        let own = own_within(&keys[at], &keys[at + 1..], from, below, leader_id);
         if own.is_some() {
             return own;
+        }
+        if keys[at].index <= from {
+            return None;
         }
     }
     None
@@ -173,20 +177,25 @@ fn end_of_log(log_ids: &LogIdList<u64>) -> u64
     }
 }
 
-/// The greatest of these log ids that a leader may commit: its own ones, up to which a quorum has
-/// accepted its log; none if there is no such one (openraft, which compares log ids in place of
-/// places). The leader has accepted what it has, and a peer up to where it matches. `own` is the
-/// leader's node id, the log ids are its log's, and the voters those of the membership in force.
+/// The greatest of these log ids, from a place on, that a leader may commit: its own ones, up to which
+/// a quorum has accepted its log; none if there is no such one (openraft, which compares log ids in
+/// place of places). The leader has accepted what it has, and a peer up to where it matches. `own` is
+/// the leader's node id, the log ids are its log's, and the voters those of the membership in force.
+/// What it costs doesn't depend on the log below the place.
 pub fn greatest_accepted<QS: QuorumSet<u64> + Drop, VS: QuorumSet<u64>>(
     leader: &Leader<u64, QS>,
     own: u64,
     log_ids: &LogIdList<u64>,
+    from: u64,
     voters: &VS,
 ) -> Option<LogId<u64>>
     requires { end_of log_ids.now < 2 ^ 64 }
-    ensures { result ≡ greatest_accepted own leader.now (VS.accepts voters.now) log_ids.now }
+    ensures { result ≡ greatest_accepted own leader.now (VS.accepts voters.now) from log_ids.now }
 {
     let end = end_of_log(log_ids);
-    let reached = accepted_end(leader, own, end, voters);
-    last_own_below(log_ids, reached, leader.vote_ref().leader_id)
+    let reached = accepted_end(leader, own, from, end, voters);
+    if reached <= from {
+        return None;
+    }
+    last_own_within(log_ids, from, reached, leader.vote_ref().leader_id)
 }

@@ -1,7 +1,7 @@
 -- What an engine's calls leave, from what it holds.
-use Rattle.std.proofs.Common.{◌≡◌, inl, inr, ⊎_elim, ℕ, zero, suc, Bool, true, false, List, [], ◌∷◌, ◌++◌, take, refl, sym, ap, subst, ◌∙◌}
+use Rattle.std.proofs.Common.{◌≡◌, inl, inr, ⊎_elim, ℕ, zero, suc, Bool, true, false, List, [], ◌∷◌, ◌++◌, take, drop, refl, sym, ap, subst, ◌∙◌, append_assoc}
 use Rattle.std.proofs.lemmas.Bool.{false≢true}
-use Rattle.std.proofs.lemmas.List.{append-nil}
+use Rattle.std.proofs.lemmas.List.{append-nil, take-append-drop}
 use Rattle.std.proofs.Math.Seq.{take-nil}
 use Rattle.std.specs.Prelude.{Option, Some}
 use Rattle.std.specs.List.{list_any}
@@ -9,12 +9,13 @@ use Rattle.raft_log_records.specs.declared.block.EntriesBlock.{EntriesBlock}
 use Rattle.raft_log_records.specs.declared.file_id.FileBlockHandle.{FileBlockHandle}
 use Rattle.raft_log_records.specs.declared.record.LogItemBatch.{LogItemBatch}
 use Rattle.raft_log_records.specs.Block.{StandsIn}
-use Rattle.raft_log_records.specs.Item.{items_of, with_bytes}
-use Rattle.raft_log_records.specs.Spelling.{block_of, holds_mark, spell_record}
+use Rattle.raft_log_records.specs.Item.{items_of, with_bytes, with_lengths}
+use Rattle.raft_log_records.specs.Spelling.{block_of, holds_mark, lengths, spell_record}
 use Rattle.raft_log_disk.specs.Disk.{Disk}
 use Rattle.raft_log_file.specs.Laws.{Batch}
 use Rattle.raft_log_pipe.specs.declared.pipe.SinglePipe.{SinglePipe}
-use Rattle.raft_log_pipe.specs.Blocks.{IsRecordOf, KeepsFiles}
+use Rattle.raft_log_pipe.specs.Appending.{LeavesAppended, Stands}
+use Rattle.raft_log_pipe.specs.Blocks.{KeepsFiles}
 use Rattle.raft_log_pipe.specs.Pipe.{Numbered, Holds, IsPipe, Leaves}
 use Rattle.raft_log_pipe.proofs.PipeLemmas.{holds_leaves}
 use Rattle.raft_log_memtables.specs.declared.memtables.MemTables.{MemTables}
@@ -23,45 +24,46 @@ use Rattle.raft_log_memtables.specs.MemTable.{batch_items}
 use Rattle.raft_log_memtables.specs.MemTables.{content_in}
 use Rattle.raft_content_log.specs.Leaving.{AgreesElsewhere, IsEither, IsWritten, LeavesElsewhere, MayBeWritten}
 use Rattle.raft_content_log.proofs.Elsewhere.{unnamed_stays}
-use Rattle.raft_log_engine.specs.Held.{IsKept, IsPlace, Parts, content_of_batches, seen_on}
+use Rattle.raft_log_engine.specs.Held.{HoldsBatches, HoldsMore, IsHeld, IsKept, IsPlace, IsTabled, Parts, content_of_batches, seen_on}
 use Rattle.raft_log_engine.specs.Left.{IsAccount, IsSound, MayLeave, answers_on, leaves_on}
 use Rattle.raft_log_engine.proofs.Batches.{one_more_batch}
-use Rattle.raft_log_engine.proofs.Tables.{answered, more_tabled}
+use Rattle.raft_log_engine.proofs.Appended.{all_more, both_parts, more_leaves}
+use Rattle.raft_log_engine.proofs.Tables.{answered, held_answered, held_kept, kept_held, more_tabled}
 
 abbrev Seen : Type 0
 Seen = Content (List ℕ)
 
--- ---- an engine that no write has stopped
+-- ---- an engine that no write has stopped, and of which each write was synced
 
-module _ (d : Disk) (p : SinglePipe) (tables : MemTables) (is_stopped : Bool) (bs : Numbered) (kept : IsKept d p tables bs) where
+module _ (d : Disk) (p : SinglePipe) (tables : MemTables) (is_stopped wrote_unsynced : Bool) (bs : Numbered) (kept : IsKept d p tables bs) where
   account : IsAccount d p is_stopped (seen_on d p tables) bs []
   account = record { leaves = holds_leaves p.queue p.older.items p.active p.writer.offset d bs [] kept.holds; answers = λ _. sym (answered d p tables bs kept) }
 
   -- it leaves what it answers, and nothing else
-  pub only_left : (left : Seen) → MayLeave d p is_stopped (seen_on d p tables) left → left ≡ seen_on d p tables
-  only_left left may =
-      let front = may bs [] account in
+  pub only_left : wrote_unsynced ≡ false → (left : Seen) → MayLeave d p is_stopped wrote_unsynced (seen_on d p tables) left → left ≡ seen_on d p tables
+  only_left all left may =
+      let front = may all bs [] account in
       front.1 ∙ ap (λ (l : Numbered). content_of_batches (bs ++ l)) (take-nil front.0) ∙ ap content_of_batches (append-nil bs) ∙ sym (answered d p tables bs kept)
 
-  pub is_left : is_stopped ≡ false → MayLeave d p is_stopped (seen_on d p tables) (seen_on d p tables)
-  is_left sound synced unsynced a = (0, sym (a.answers sound) ∙ ap content_of_batches (sym (append-nil synced)))
+  pub is_left : is_stopped ≡ false → MayLeave d p is_stopped wrote_unsynced (seen_on d p tables) (seen_on d p tables)
+  is_left sound all synced unsynced a = (0, sym (a.answers sound) ∙ ap content_of_batches (sym (append-nil synced)))
 
   -- nothing was written
-  pub unwritten : (items : Batch) → MayBeWritten (is_stopped ≡ false) (seen_on d p tables) (MayLeave d p is_stopped (seen_on d p tables)) (seen_on d p tables) (after_batch items (seen_on d p tables))
-  unwritten items = record { answers = λ _. inl refl; leaves_either = λ left may. inl (only_left left may) }
+  pub unwritten : (sound : Type 0) → wrote_unsynced ≡ false → (items : Batch) → MayBeWritten sound (seen_on d p tables) (MayLeave d p is_stopped wrote_unsynced (seen_on d p tables)) (seen_on d p tables) (after_batch items (seen_on d p tables))
+  unwritten sound all items = record { answers = λ _. inl refl; leaves_either = λ left may. inl (only_left all left may) }
 
-  pub written : (content : Seen) → seen_on d p tables ≡ content → IsWritten (seen_on d p tables) (MayLeave d p is_stopped (seen_on d p tables)) content
-  written content is = record { answers = is; leaves_only = λ left may. only_left left may ∙ is }
+  pub written : wrote_unsynced ≡ false → (content : Seen) → seen_on d p tables ≡ content → IsWritten (seen_on d p tables) (MayLeave d p is_stopped wrote_unsynced (seen_on d p tables)) content
+  written all content is = record { answers = is; leaves_only = λ left may. only_left all left may ∙ is }
 
 -- ---- one that a write stopped
 
 -- by an account of it, it leaves one of two
-pub torn : (d : Disk) (p : SinglePipe) (seen before content : Seen) (synced unsynced : Numbered) → Leaves p d synced unsynced → ((k : ℕ) → IsEither before content (content_of_batches (synced ++ take k unsynced)))
-    → MayBeWritten (true ≡ false) seen (MayLeave d p true seen) before content
-torn d p seen before content synced unsynced leaves fronts = record {
-  answers = λ sound. absurd (false≢true (sym sound));
+pub torn : (d : Disk) (p : SinglePipe) (wrote_unsynced : Bool) (sound : Type 0) → (sound → ⊥) → wrote_unsynced ≡ false → (seen before content : Seen) (synced unsynced : Numbered) → Leaves p d synced unsynced
+    → ((k : ℕ) → IsEither before content (content_of_batches (synced ++ take k unsynced))) → MayBeWritten sound seen (MayLeave d p true wrote_unsynced seen) before content
+torn d p wrote_unsynced sound stopped all seen before content synced unsynced leaves fronts = record {
+  answers = λ goes_on. absurd (stopped goes_on);
   leaves_either = λ left may.
-      let front = may synced unsynced (record { leaves = leaves; answers = λ sound. absurd (false≢true (sym sound)) }) in
+      let front = may all synced unsynced (record { leaves = leaves; answers = λ goes_on. absurd (false≢true (sym goes_on)) }) in
       ⊎_elim (λ (is : content_of_batches (synced ++ take front.0 unsynced) ≡ before). inl (front.1 ∙ is)) (λ (is : content_of_batches (synced ++ take front.0 unsynced) ≡ content). inr (front.1 ∙ is)) (fronts front.0);
 }
 
@@ -70,9 +72,6 @@ pub last_or_not : (bs : Numbered) (seq : ℕ) (items : Batch) (before content : 
     → (k : ℕ) → IsEither before content (content_of_batches (bs ++ take k ((seq, items) ∷ [])))
 last_or_not bs seq items before content old new zero = inl (ap content_of_batches (append-nil bs) ∙ old)
 last_or_not bs seq items before content old new (suc k) = inr (ap (λ (l : Numbered). content_of_batches (bs ++ (seq, items) ∷ l)) (take-nil k) ∙ new)
-
-pub all_there : (bs : Numbered) (before content : Seen) → content_of_batches bs ≡ content → (k : ℕ) → IsEither before content (content_of_batches (bs ++ take k []))
-all_there bs before content new k = inr (ap (λ (l : Numbered). content_of_batches (bs ++ l)) (take-nil k) ∙ ap content_of_batches (append-nil bs) ∙ new)
 
 -- ---- groups that no item names
 
@@ -86,96 +85,146 @@ leaves_elsewhere items old new before is either left may = (before, is, elsewher
 pub agrees : (items : Batch) (before now : Seen) → now ≡ after_batch items before → AgreesElsewhere items now before
 agrees items before now is = elsewhere items before now (inr is)
 
+-- where a write wasn't synced each content may be left
+pub any_elsewhere : (items : Batch) (old new : Seen → Type 0) → ((left : Seen) → old left) → LeavesElsewhere items old new
+any_elsewhere items old new any left may = (left, any left, λ group un. refl)
+
 -- ---- the exits of a write
 
-abbrev pub parts : {F : Type 0} → F → SinglePipe → MemTables → Bool → Parts F
-parts files p tables is_stopped = record { files = files; append = p; tables = tables; is_stopped = is_stopped }
+abbrev pub parts : {F : Type 0} → F → SinglePipe → MemTables → Bool → Bool → Parts F
+parts files p tables is_stopped wrote_unsynced = record { files = files; append = p; tables = tables; is_stopped = is_stopped; wrote_unsynced = wrote_unsynced }
 
 module _ {F : Type 0} (disk : F → Disk) (old : Parts F) where
   abbrev pub KeptBy : Type 0
   KeptBy = (bs : Numbered) × IsKept (disk old.files) old.append old.tables bs
 
+  abbrev pub HeldBy : Type 0
+  HeldBy = HoldsBatches (disk old.files) old.append old.tables old.wrote_unsynced
+
+  -- where each write was synced
+  pub kept_by : HeldBy → old.wrote_unsynced ≡ false → KeptBy
+  kept_by held all = (held.synced, held_kept (disk old.files) old.append old.tables held.synced held.unsynced held.held (held.none all))
+
   -- nothing was to be written
-  pub empty_written : KeptBy → (items : Batch) → items ≡ [] → IsWritten (answers_on disk old) (leaves_on disk old) (after_batch items (answers_on disk old))
-  empty_written kept items none = written (disk old.files) old.append old.tables old.is_stopped kept.0 kept.1 (after_batch items (answers_on disk old)) (ap (λ (l : Batch). after_batch l (answers_on disk old)) (sym none))
+  pub empty_written : KeptBy → old.wrote_unsynced ≡ false → (items : Batch) → items ≡ [] → IsWritten (answers_on disk old) (leaves_on disk old) (after_batch items (answers_on disk old))
+  empty_written kept all items none = written (disk old.files) old.append old.tables old.is_stopped old.wrote_unsynced kept.0 kept.1 all (after_batch items (answers_on disk old)) (ap (λ (l : Batch). after_batch l (answers_on disk old)) (sym none))
 
-  pub refused : KeptBy → (items : Batch) → MayBeWritten (IsSound old) (answers_on disk old) (leaves_on disk old) (answers_on disk old) (after_batch items (answers_on disk old))
-  refused kept items = unwritten (disk old.files) old.append old.tables old.is_stopped kept.0 kept.1 items
+  pub refused : KeptBy → old.wrote_unsynced ≡ false → (items : Batch) → MayBeWritten (IsSound old) (answers_on disk old) (leaves_on disk old) (answers_on disk old) (after_batch items (answers_on disk old))
+  refused kept all items = unwritten (disk old.files) old.append old.tables old.is_stopped old.wrote_unsynced kept.0 kept.1 (IsSound old) all items
 
-  pub others : KeptBy → IsSound old → (items : Batch) (leaves : Seen → Type 0) → ((left : Seen) → leaves left → IsEither (answers_on disk old) (after_batch items (answers_on disk old)) left) → LeavesElsewhere items (leaves_on disk old) leaves
-  others kept sound items leaves either =
-      leaves_elsewhere items (leaves_on disk old) leaves (answers_on disk old) (is_left (disk old.files) old.append old.tables old.is_stopped kept.0 kept.1 sound) either
+  -- other groups, where the write leaves one of two contents if each write was synced
+  pub others : HeldBy → old.is_stopped ≡ false → (items : Batch) (leaves : Seen → Type 0)
+      → (old.wrote_unsynced ≡ false → (left : Seen) → leaves left → IsEither (answers_on disk old) (after_batch items (answers_on disk old)) left) → LeavesElsewhere items (leaves_on disk old) leaves
+  others held goes_on items leaves either = by_flag old.wrote_unsynced refl
+    where
+      by_flag : (b : Bool) → old.wrote_unsynced ≡ b → LeavesElsewhere items (leaves_on disk old) leaves
+      by_flag true is = any_elsewhere items (leaves_on disk old) leaves (λ left all. absurd (false≢true (sym all ∙ is)))
+      by_flag false is =
+          let kept = kept_by held is in
+          leaves_elsewhere items (leaves_on disk old) leaves (answers_on disk old) (is_left (disk old.files) old.append old.tables old.is_stopped old.wrote_unsynced kept.0 kept.1 goes_on) (either is)
 
-  more : (kept : KeptBy) (seq : ℕ) (items : Batch) → list_any holds_mark items ≡ false → content_of_batches (kept.0 ++ (seq, items) ∷ []) ≡ after_batch items (answers_on disk old)
-  more kept seq items plain = one_more_batch kept.0 seq items plain ∙ ap (after_batch items) (sym (answered (disk old.files) old.append old.tables kept.0 kept.1))
+  pub more : (s u : Numbered) (seq : ℕ) (items : Batch) → IsHeld (disk old.files) old.append old.tables s u → list_any holds_mark items ≡ false
+      → content_of_batches (s ++ (u ++ (seq, items) ∷ [])) ≡ after_batch items (answers_on disk old)
+  more s u seq items held plain =
+      ap content_of_batches (sym (append_assoc s u ((seq, items) ∷ [])))
+      ∙ one_more_batch (s ++ u) seq items plain
+      ∙ ap (after_batch items) (sym (held_answered (disk old.files) old.append old.tables s u held))
 
-  -- the append or the sync failed
-  pub append_failed : KeptBy → (files : F) (p : SinglePipe) (seen : Seen) (items : Batch) → list_any holds_mark items ≡ false
-      → ((s : Numbered) → Holds old.append (disk old.files) s [] → (seq : ℕ) × Leaves p (disk files) s ((seq, items) ∷ []))
-      → MayBeWritten (true ≡ false) seen (MayLeave (disk files) p true seen) (answers_on disk old) (after_batch items (answers_on disk old))
-  append_failed kept files p seen items plain leaves =
-      let left = leaves kept.0 kept.1.holds in
-      torn (disk files) p seen (answers_on disk old) (after_batch items (answers_on disk old)) kept.0 ((left.0, items) ∷ []) left.1
-      (last_or_not kept.0 left.0 items (answers_on disk old) (after_batch items (answers_on disk old)) (sym (answered (disk old.files) old.append old.tables kept.0 kept.1)) (more kept left.0 items plain))
+  -- the append or what follows it failed
+  pub failed : KeptBy → old.wrote_unsynced ≡ false → (files : F) (p : SinglePipe) (tables : MemTables) (seen : Seen) (items : Batch) → list_any holds_mark items ≡ false
+      → ((s u : Numbered) → Holds old.append (disk old.files) s u → LeavesAppended p (disk files) s u items)
+      → MayBeWritten (IsSound (parts files p tables true old.wrote_unsynced)) seen (MayLeave (disk files) p true old.wrote_unsynced seen) (answers_on disk old) (after_batch items (answers_on disk old))
+  failed kept all files p tables seen items plain leaves =
+      let left = leaves kept.0 [] kept.1.holds in
+      torn (disk files) p old.wrote_unsynced (IsSound (parts files p tables true old.wrote_unsynced)) (λ sound. false≢true (sym sound.goes_on)) all seen (answers_on disk old) (after_batch items (answers_on disk old))
+      kept.0 ((left.0, items) ∷ []) left.1
+      (last_or_not kept.0 left.0 items (answers_on disk old) (after_batch items (answers_on disk old)) (sym (answered (disk old.files) old.append old.tables kept.0 kept.1))
+      (more kept.0 [] left.0 items (kept_held (disk old.files) old.append old.tables kept.0 kept.1) plain))
 
-  -- what is on the disk did not come into the tables
-  pub apply_failed : KeptBy → (files : F) (p : SinglePipe) (seen : Seen) (seq : ℕ) (items : Batch) → list_any holds_mark items ≡ false
-      → ((s : Numbered) → Holds old.append (disk old.files) s [] → Holds p (disk files) (s ++ (seq, items) ∷ []) [])
-      → MayBeWritten (true ≡ false) seen (MayLeave (disk files) p true seen) (answers_on disk old) (after_batch items (answers_on disk old))
-  apply_failed kept files p seen seq items plain holds =
-      let all : Numbered = kept.0 ++ (seq, items) ∷ [] in
-      torn (disk files) p seen (answers_on disk old) (after_batch items (answers_on disk old)) all []
-      (holds_leaves p.queue p.older.items p.active p.writer.offset (disk files) all [] (holds kept.0 kept.1.holds))
-      (all_there all (answers_on disk old) (after_batch items (answers_on disk old)) (more kept seq items plain))
+  -- what was appended did not come into the tables
+  pub put_leaves : (files : F) (p : SinglePipe) (sync : Bool) (seq : ℕ) (items : Batch) → ((s u : Numbered) → Holds old.append (disk old.files) s u → HoldsMore p (disk files) sync s (u ++ (seq, items) ∷ []))
+      → (s u : Numbered) → Holds old.append (disk old.files) s u → LeavesAppended p (disk files) s u items
+  put_leaves files p sync seq items puts s u holds = (seq, more_leaves p (disk files) sync s (u ++ (seq, items) ∷ []) (puts s u holds))
 
   -- all was done
-  pub record IsDone (files : F) (p : SinglePipe) (tables : MemTables) (items : Batch) (h : FileBlockHandle) (block : Option EntriesBlock) (drained : LogItemBatch) : Type 0 where
+  pub record IsDone (files : F) (p : SinglePipe) (tables : MemTables) (sync : Bool) (items : Batch) (h : FileBlockHandle) (block : Option EntriesBlock) (drained : LogItemBatch) : Type 0 where
     pub plain : list_any holds_mark items ≡ false
     pub pipe : IsPipe p (disk files)
     pub keeps : KeepsFiles old.append p
     pub queue : p.queue ≡ old.append.queue
-    pub holds : (s : Numbered) → Holds old.append (disk old.files) s [] → Holds p (disk files) (s ++ (h.id.seq, items) ∷ []) []
-    pub stands : (s : Numbered) → Holds old.append (disk old.files) s [] → IsRecordOf p.queue p.active s items h
+    pub puts : (s u : Numbered) → Holds old.append (disk old.files) s u → HoldsMore p (disk files) sync s (u ++ (h.id.seq, items) ∷ [])
+    pub stands : Stands old.append (disk old.files) p items h
     pub block_stands : (signature : Option ℕ) → StandsIn (spell_record signature items) items (block_of items) block
     pub place : FileBlockHandle
     pub placed : (b : EntriesBlock) → block ≡ Some b → IsPlace h b place
     pub applied : content_in tables ≡ after_batch (batch_items place drained) (content_in old.tables)
     pub read : with_bytes (block_of items) (items_of drained.items.items) ≡ items
+    pub lengths_are : with_lengths (items_of drained.items.items) ≡ lengths items
 
-  pub done_from : (files : F) (p : SinglePipe) (tables : MemTables) (items given : Batch) (h : FileBlockHandle) (block : Option EntriesBlock) (drained : LogItemBatch) → items ≡ given → list_any holds_mark given ≡ false
-      → IsPipe p (disk files) → KeepsFiles old.append p → p.queue ≡ old.append.queue → ((s : Numbered) → Holds old.append (disk old.files) s [] → Holds p (disk files) (s ++ (h.id.seq, items) ∷ []) [])
-      → ((s : Numbered) → Holds old.append (disk old.files) s [] → IsRecordOf p.queue p.active s items h) → ((signature : Option ℕ) → StandsIn (spell_record signature items) items (block_of items) block)
+  pub done_from : (files : F) (p : SinglePipe) (tables : MemTables) (sync : Bool) (items given : Batch) (h : FileBlockHandle) (block : Option EntriesBlock) (drained : LogItemBatch) → items ≡ given → list_any holds_mark given ≡ false
+      → IsPipe p (disk files) → KeepsFiles old.append p → p.queue ≡ old.append.queue
+      → ((s u : Numbered) → Holds old.append (disk old.files) s u → HoldsMore p (disk files) sync s (u ++ (h.id.seq, items) ∷ [])) → Stands old.append (disk old.files) p items h
+      → ((signature : Option ℕ) → StandsIn (spell_record signature items) items (block_of items) block)
       → (place : FileBlockHandle) × ((b : EntriesBlock) → block ≡ Some b → IsPlace h b place) × (content_in tables ≡ after_batch (batch_items place drained) (content_in old.tables))
-      → with_bytes (block_of given) (items_of drained.items.items) ≡ given → IsDone files p tables items h block drained
-  done_from files p tables items given h block drained same plain pipe keeps queue holds stands block_stands applied read = record {
+      → with_bytes (block_of given) (items_of drained.items.items) ≡ given → with_lengths (items_of drained.items.items) ≡ lengths given → IsDone files p tables sync items h block drained
+  done_from files p tables sync items given h block drained same plain pipe keeps queue puts stands block_stands applied read lens = record {
     plain = ap (list_any holds_mark) same ∙ plain;
     pipe = pipe;
     keeps = keeps;
     queue = queue;
-    holds = holds;
+    puts = puts;
     stands = stands;
     block_stands = block_stands;
     place = applied.0;
     placed = applied.1;
     applied = applied.2;
     read = subst (λ (l : Batch). with_bytes (block_of l) (items_of drained.items.items) ≡ l) (sym same) read;
+    lengths_are = subst (λ (l : Batch). with_lengths (items_of drained.items.items) ≡ lengths l) (sym same) lens;
   }
 
-  pub done_kept : (kept : KeptBy) (files : F) (p : SinglePipe) (tables : MemTables) (items : Batch) (h : FileBlockHandle) (block : Option EntriesBlock) (drained : LogItemBatch) → IsDone files p tables items h block drained
-      → IsKept (disk files) p tables (kept.0 ++ (h.id.seq, items) ∷ [])
-  done_kept kept files p tables items h block drained is = record {
-    pipe = is.pipe;
-    holds = is.holds kept.0 kept.1.holds;
-    tabled = more_tabled old.append p kept.0 h.id.seq items h is.place block drained old.tables tables is.keeps is.queue
-        (record { at = is.stands kept.0 kept.1.holds; stands = is.block_stands; is = is.placed }) refl is.read is.applied is.plain kept.1.tabled;
-  }
+  module _ (files : F) (p : SinglePipe) (tables : MemTables) (sync : Bool) (items : Batch) (h : FileBlockHandle) (block : Option EntriesBlock) (drained : LogItemBatch) (is : IsDone files p tables sync items h block drained) where
+    -- with the new batch the tables have the content of all
+    done_tabled : (s u : Numbered) → IsHeld (disk old.files) old.append old.tables s u → IsTabled p (s ++ (u ++ (h.id.seq, items) ∷ [])) tables
+    done_tabled s u held =
+        subst (λ (l : Numbered). IsTabled p l tables) (append_assoc s u ((h.id.seq, items) ∷ []))
+        (more_tabled old.append p (s ++ u) h.id.seq items h is.place block drained old.tables tables is.keeps is.queue
+        (record { at = is.stands s u held.holds; stands = is.block_stands; is = is.placed }) refl is.read is.lengths_are is.applied is.plain held.tabled)
 
-  pub done_seen : (kept : KeptBy) (files : F) (p : SinglePipe) (tables : MemTables) (items : Batch) (h : FileBlockHandle) (block : Option EntriesBlock) (drained : LogItemBatch) → IsDone files p tables items h block drained
-      → seen_on (disk files) p tables ≡ after_batch items (answers_on disk old)
-  done_seen kept files p tables items h block drained is =
-      answered (disk files) p tables (kept.0 ++ (h.id.seq, items) ∷ []) (done_kept kept files p tables items h block drained is) ∙ more kept h.id.seq items is.plain
+    pub done_held : (s u : Numbered) → (held : IsHeld (disk old.files) old.append old.tables s u) → (m : HoldsMore p (disk files) sync s (u ++ (h.id.seq, items) ∷ []))
+        → IsHeld (disk files) p tables (s ++ take m.count (u ++ (h.id.seq, items) ∷ [])) (drop m.count (u ++ (h.id.seq, items) ∷ []))
+    done_held s u held m = record {
+      pipe = is.pipe;
+      holds = m.holds;
+      tabled = subst (λ (l : Numbered). IsTabled p l tables) (sym (both_parts m.count s (u ++ (h.id.seq, items) ∷ []))) (done_tabled s u held);
+    }
 
-  pub done_written : (kept : KeptBy) (files : F) (p : SinglePipe) (tables : MemTables) (is_stopped : Bool) (items : Batch) (h : FileBlockHandle) (block : Option EntriesBlock) (drained : LogItemBatch) → IsDone files p tables items h block drained
-      → IsWritten (seen_on (disk files) p tables) (MayLeave (disk files) p is_stopped (seen_on (disk files) p tables)) (after_batch items (answers_on disk old))
-  done_written kept files p tables is_stopped items h block drained is =
-      written (disk files) p tables is_stopped (kept.0 ++ (h.id.seq, items) ∷ []) (done_kept kept files p tables items h block drained is) (after_batch items (answers_on disk old)) (done_seen kept files p tables items h block drained is)
+    -- so with a sync all are on the disk
+    pub done_kept : sync ≡ true → (s u : Numbered) → IsHeld (disk old.files) old.append old.tables s u → IsKept (disk files) p tables (s ++ (u ++ (h.id.seq, items) ∷ []))
+    done_kept synced s u held = record {
+      pipe = is.pipe;
+      holds = all_more p (disk files) s (u ++ (h.id.seq, items) ∷ []) (subst (λ (b : Bool). HoldsMore p (disk files) b s (u ++ (h.id.seq, items) ∷ [])) synced (is.puts s u held.holds));
+      tabled = done_tabled s u held;
+    }
+
+    pub done_batches : HeldBy → (wrote_unsynced : Bool) → (wrote_unsynced ≡ false → (sync ≡ true) × (old.wrote_unsynced ≡ false)) → HoldsBatches (disk files) p tables wrote_unsynced
+    done_batches held wrote_unsynced none =
+        let m = is.puts held.synced held.unsynced held.held.holds in
+        record {
+          synced = held.synced ++ take m.count (held.unsynced ++ (h.id.seq, items) ∷ []);
+          unsynced = drop m.count (held.unsynced ++ (h.id.seq, items) ∷ []);
+          held = done_held held.synced held.unsynced held.held m;
+          none = λ all. m.none (none all).0;
+        }
+
+    pub done_seen : HeldBy → seen_on (disk files) p tables ≡ after_batch items (answers_on disk old)
+    done_seen held =
+        let l : Numbered = held.unsynced ++ (h.id.seq, items) ∷ [] in
+        let m = is.puts held.synced held.unsynced held.held.holds in
+        held_answered (disk files) p tables (held.synced ++ take m.count l) (drop m.count l) (done_held held.synced held.unsynced held.held m)
+        ∙ ap content_of_batches (both_parts m.count held.synced l)
+        ∙ more held.synced held.unsynced h.id.seq items held.held is.plain
+
+    pub done_written : HeldBy → sync ≡ true → (is_stopped wrote_unsynced : Bool) → wrote_unsynced ≡ false
+        → IsWritten (seen_on (disk files) p tables) (MayLeave (disk files) p is_stopped wrote_unsynced (seen_on (disk files) p tables)) (after_batch items (answers_on disk old))
+    done_written held synced is_stopped wrote_unsynced all =
+        written (disk files) p tables is_stopped wrote_unsynced (held.synced ++ (held.unsynced ++ (h.id.seq, items) ∷ [])) (done_kept synced held.synced held.unsynced held.held) all (after_batch items (answers_on disk old)) (done_seen held)

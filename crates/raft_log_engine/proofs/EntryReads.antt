@@ -1,10 +1,10 @@
 -- Entries are read as their bytes.
-use Rattle.std.proofs.Common.{◌≡◌, ◌≢◌, ◌⊎◌, inl, inr, ℕ, ◌+◌, ◌<◌, ◌≤◌, Bool, true, false, cond, List, [], ◌∷◌, length, take, drop, Option, Some, None, refl, sym, ap, ◌∙◌, arith, length-append}
+use Rattle.std.proofs.Common.{◌≡◌, ◌≢◌, ◌⊎◌, inl, inr, ℕ, ◌+◌, ◌<◌, ◌≤◌, Bool, true, false, cond, List, [], ◌∷◌, ◌++◌, length, take, drop, Option, Some, None, refl, sym, ap, ◌∙◌, arith, length-append}
 use Rattle.std.specs.Prelude.{◌==◌}
 use Rattle.std.specs.Int.{w32, to_be_bytes}
 use Rattle.std.proofs.lemmas.Bool.{eq-eqb}
 use Rattle.std.proofs.lemmas.Bool.Decides.{eqb_tells}
-use Rattle.std.proofs.lemmas.List.{append-nil, take_at}
+use Rattle.std.proofs.lemmas.List.{take_at}
 use Rattle.raft_log_records.specs.declared.file_id.FileBlockHandle.{FileBlockHandle}
 use Rattle.raft_log_records.specs.declared.item.EntryIndex.{EntryIndex}
 use Rattle.raft_log_records.specs.Checksum.{crc32_of}
@@ -97,12 +97,12 @@ pub entry_read : (p : SinglePipe) (d : Disk) (e : EntryIndex) (h : FileBlockHand
 entry_read p d e h block bytes place read is = is ∙ ap (λ (l : List ℕ). entry_bytes l e) read ∙ sym (ap (λ (o : Option FileBlockHandle). bytes_placed d p e o) place)
 
 -- entries that lie in batches of the pipe are read as their bytes
-pub disk_reads : (p : SinglePipe) (d : Disk) (bs : Numbered) → IsPipe p d → Holds p d bs [] → ReadsEntries p bs (bytes_on d p)
-disk_reads p d bs pipe holds e bytes lies =
+pub disk_reads : (p : SinglePipe) (d : Disk) (s u : Numbered) → IsPipe p d → Holds p d s u → ReadsEntries p (s ++ u) (bytes_on d p)
+disk_reads p d s u pipe holds e bytes lies =
     let h : FileBlockHandle = lies.handle in
     let there : List ℕ = take h.len (drop h.offset (d.file lies.file.handle.0).bytes) in
     let are : AreOfFile p d h there = λ f among number. ap (λ (x : File). take h.len (drop h.offset (d.file x.handle.0).bytes)) (one_file p d lies.file f pipe lies.among among (sym lies.block.seq ∙ sym number)) in
-    let is : there ≡ sealed None (block_of lies.items) = blocks_are p d h there pipe are bs [] lies.before lies.after lies.file lies.items 8 holds (append-nil bs ∙ lies.split) lies.among lies.block ∙ lies.stands in
+    let is : there ≡ sealed None (block_of lies.items) = blocks_are p d h there pipe are s u lies.before lies.after lies.file lies.items 8 holds lies.split lies.among lies.block ∙ lies.stands in
     ap (λ (o : Option FileBlockHandle). bytes_placed d p e o) lies.place
     ∙ ap (λ (l : List ℕ). entry_bytes l e) (block_is p d h there (block_of lies.items) (found h.id.seq (files_of p) lies.file lies.among (sym lies.block.seq)) are is)
     ∙ sym lies.bytes_are

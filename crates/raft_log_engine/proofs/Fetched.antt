@@ -1,29 +1,84 @@
 -- Entries of a range, from where they lie.
-use Rattle.std.proofs.Common.{◌≡◌, ℕ, ◌+◌, ◌-◌, ◌<◌, Bool, true, false, List, [], length, map, Option, None, Vec, Global, refl, ap, ◌∙◌, arith}
+use Rattle.std.proofs.Common.{◌≡◌, ◌⊎◌, inl, inr, ℕ, zero, suc, ◌+◌, ◌-◌, ◌<◌, ◌≤◌, Bool, true, false, List, [], ◌∷◌, ◌++◌, length, map, Option, Some, None, Vec, Global, refl, sym, ap, subst, ◌∙◌, arith, length-append}
+use Rattle.std.proofs.lemmas.Bool.{cases_lt}
 use Rattle.std.proofs.lemmas.List.{length-map}
-use Rattle.std.proofs.lemmas.Option.{slice_get-map}
-use Rattle.std.specs.Prelude.{Result, Ok, Err, IfOk}
+use Rattle.std.proofs.lemmas.List.Sums.{sum_by-append, sum_by-cons}
+use Rattle.std.proofs.lemmas.Option.{slice_get-map, slice_get_within}
+use Rattle.std.specs.Prelude.{Result, Ok, Err, IfOk, sum_by}
 use Rattle.std.specs.List.{slice_get}
 use Rattle.std.specs.Option.{option_map}
 use Rattle.raft_log_records.specs.declared.item.EntryIndex.{EntryIndex}
 use Rattle.raft_log_records.specs.Batch.{payloads}
-use Rattle.raft_log_memtables.specs.Fetch.{AreFetched, IsInside}
-use Rattle.raft_content_log.specs.Leaving.{AreEntries}
+use Rattle.raft_log_memtables.specs.Content.{GroupContent}
+use Rattle.raft_log_memtables.specs.ContentLaws.{group_map}
+use Rattle.raft_log_memtables.specs.Fetch.{AreFetched, Fits, IsInside}
 use Rattle.raft_log_engine.specs.declared.fault.EngineFault.{EngineFault}
+use Rattle.raft_log_engine.specs.Reads.{AreRead, FitsIn, HasRead}
 
-abbrev Fetched : (ℕ → Option EntryIndex) → ℕ → ℕ → Bool → List EntryIndex → Type 0
-Fetched entry begin end there es = there ≡ true → begin < end → IsInside entry begin end × AreFetched entry begin end None es
+-- places that are read with the lengths that they say
+abbrev AreLong : (EntryIndex → List ℕ) → List EntryIndex → Type 0
+AreLong read es = (i : ℕ) (e : EntryIndex) → slice_get es i ≡ Some e → length (read e) ≡ e.entry_len
 
-each_of : (read : EntryIndex → List ℕ) (there : Bool) (entry : ℕ → Option EntryIndex) (begin end : ℕ) (es : List EntryIndex) → Fetched entry begin end there es → (there ≡ false → es ≡ []) → length es ≡ end - begin
-    → (i : ℕ) → i < end - begin → slice_get (map read es) i ≡ option_map read (entry (begin + i))
-each_of read true entry begin end es some unknown len i lt = slice_get-map read es i ∙ ap (option_map read) ((some refl (omega (arith, lt))).1.each i (omega (arith, lt, len)))
-each_of read false entry begin end es some unknown len i lt = absurd (omega (arith, lt, len, ap length (unknown refl)))
+long_sum : (read : EntryIndex → List ℕ) (es : List EntryIndex) → AreLong read es → sum_by length (map read es) ≡ sum_by (λ e. e.entry_len) es
+long_sum read [] long = refl
+long_sum read (e ∷ es) long =
+    sum_by-cons length (read e) (map read es)
+    ∙ (λ i. long 0 e refl i + long_sum read es (λ k x is. long (suc k) x is) i)
+    ∙ sym (sum_by-cons (λ (x : EntryIndex). x.entry_len) e es)
 
-pub fetched : (r : Result (Vec (Vec ℕ Global) Global) EngineFault) (read : EntryIndex → List ℕ) (there : Bool) (entry : ℕ → Option EntryIndex) (begin end : ℕ) (es : List EntryIndex)
-    → Fetched entry begin end there es → (there ≡ false → es ≡ []) → length es ≡ end - begin → IfOk r (λ found. payloads found.items ≡ map read es)
-    → IfOk r (λ found. AreEntries (λ i. option_map read (entry i)) begin end (payloads found.items))
-fetched (Err e) read there entry begin end es some unknown len copied = tt
-fetched (Ok found) read there entry begin end es some unknown len copied = record {
-  len = ap length copied ∙ length-map es read ∙ len;
-  each = λ i lt. ap (λ (l : List (List ℕ)). slice_get l i) copied ∙ each_of read there entry begin end es some unknown len i lt;
+fits_in : (read : EntryIndex → List ℕ) (size : Option ℕ) (es : List EntryIndex) → AreLong read es → Fits size es → FitsIn size (map read es)
+fits_in read None es long fits = tt
+fits_in read (Some most) es long fits = subst (λ (n : ℕ). n ≤ most) (sym (long_sum read es long)) fits
+
+passes : (read : EntryIndex → List ℕ) (size : Option ℕ) (es : List EntryIndex) (next : EntryIndex) → AreLong read es → length (read next) ≡ next.entry_len → FitsIn size (map read es ++ read next ∷ []) → Fits size (es ++ next ∷ [])
+passes read None es next long last fits = tt
+passes read (Some most) es next long last fits =
+    omega (arith, fits, last, long_sum read es long, sum_by-append length (map read es) (read next ∷ []), sum_by-append (λ (e : EntryIndex). e.entry_len) es (next ∷ []))
+
+are_read : (read : EntryIndex → List ℕ) (entry : ℕ → Option EntryIndex) (begin end : ℕ) (size : Option ℕ) (es : List EntryIndex) → ((i : ℕ) (e : EntryIndex) → entry i ≡ Some e → length (read e) ≡ e.entry_len)
+    → AreFetched entry begin end size es → AreRead (λ i. option_map read (entry i)) begin end size (map read es)
+are_read read entry begin end size es measured f =
+    let len : length (map read es) ≡ length es = length-map es read in
+    let long : AreLong read es = λ i e is. measured (begin + i) e (sym (f.each i (slice_get_within es i e is)) ∙ is) in
+    record {
+      each = λ i lt. slice_get-map read es i ∙ ap (option_map read) (f.each i (omega (arith, lt, len)));
+      short = omega (arith, len, f.short);
+      fit = λ lt. fits_in read size es long (f.fit (omega (arith, lt, len)));
+      all = λ lt.
+          let some = f.all (omega (arith, lt, len)) in
+          let next = some.1 in (
+            omega (arith, len, some.0),
+            (
+              read next.0,
+              ap (λ (n : ℕ). option_map read (entry (begin + n))) len ∙ ap (option_map read) next.1,
+              λ fits. next.2 (passes read size es next.0 long (measured (begin + length es) next.0 next.1) fits),
+            ),
+          );
+    }
+
+-- a range without an index
+none_read : (entry : ℕ → Option (List ℕ)) (begin end : ℕ) (size : Option ℕ) → end ≤ begin → AreRead entry begin end size []
+none_read entry begin end size none = record {
+  each = λ i lt. absurd (omega (arith, lt));
+  short = omega arith;
+  fit = λ lt. absurd (omega (arith, lt));
+  all = λ lt. absurd (omega (arith, lt, none));
 }
+
+pub has_read : (read : EntryIndex → List ℕ) (group : GroupContent EntryIndex) (begin end : ℕ) (size : Option ℕ) (es : List EntryIndex) → ((i : ℕ) (e : EntryIndex) → group.entry i ≡ Some e → length (read e) ≡ e.entry_len)
+    → (group.there ≡ true → begin < end → IsInside group.entry begin end × AreFetched group.entry begin end size es) → (end ≤ begin → es ≡ []) → (group.there ≡ false → es ≡ [])
+    → HasRead (group_map read group) begin end size (map read es)
+has_read read group begin end size es measured some none unknown = record {
+  there = λ there. by_test there (cases_lt begin end);
+  unknown = λ unknown_group. ap (map read) (unknown unknown_group);
+}
+  where
+    by_test : group.there ≡ true → (begin < end) ⊎ (end ≤ begin) → AreRead (λ i. option_map read (group.entry i)) begin end size (map read es)
+    by_test there (inl lt) = are_read read group.entry begin end size es measured (some there lt).1
+    by_test there (inr ge) = subst (λ (l : List EntryIndex). AreRead (λ i. option_map read (group.entry i)) begin end size (map read l)) (sym (none ge)) (none_read (λ i. option_map read (group.entry i)) begin end size ge)
+
+-- copies of what lies there
+pub copied : (r : Result (Vec (Vec ℕ Global) Global) EngineFault) (read : EntryIndex → List ℕ) (group : GroupContent EntryIndex) (begin end : ℕ) (size : Option ℕ) (es : List EntryIndex)
+    → IfOk r (λ found. payloads found.items ≡ map read es) → HasRead (group_map read group) begin end size (map read es) → IfOk r (λ found. HasRead (group_map read group) begin end size (payloads found.items))
+copied (Err e) read group begin end size es are has = tt
+copied (Ok found) read group begin end size es are has = subst (λ (l : List (List ℕ)). HasRead (group_map read group) begin end size l) (sym are) has

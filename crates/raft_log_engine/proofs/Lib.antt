@@ -8,3 +8,5 @@ mod Seen
 pub mod Tables
 pub mod Reopened
 mod Visits
+pub mod Since
+pub mod Synced

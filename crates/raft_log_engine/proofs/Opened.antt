@@ -1,11 +1,11 @@
 -- The tables of a recovery have the content of the batches that the files read as.
-use Rattle.std.proofs.Common.{◌≡◌, ℕ, List, [], ◌∷◌, ◌++◌, map, refl, sym, ap, subst, ◌∙◌, append_assoc}
+use Rattle.std.proofs.Common.{◌≡◌, ℕ, List, [], ◌∷◌, ◌++◌, length, map, refl, sym, ap, subst, ◌∙◌, append_assoc}
 use Rattle.std.proofs.Common.{inl, inr}
 use Rattle.std.specs.List.{list_any}
 use Rattle.std.proofs.lemmas.List.{map-append}
 use Rattle.raft_log_records.specs.declared.item.EntryIndex.{EntryIndex}
 use Rattle.raft_log_records.specs.Item.{Item, item_map, entry_bytes}
-use Rattle.raft_log_records.specs.Spelling.{block_of, holds_entries}
+use Rattle.raft_log_records.specs.Spelling.{block_of, holds_entries, lengths}
 use Rattle.raft_log_records.proofs.Laid.{any_held}
 use Rattle.raft_log_records.specs.declared.file_id.LogQueue.{LogQueue}
 use Rattle.raft_log_records.specs.declared.file_id.LogQueue.TheVariants.{Append}
@@ -35,70 +35,92 @@ use Rattle.raft_log_recovery.specs.Replay.{Placed}
 use Rattle.raft_log_replay.specs.Batches.{content_over, records_in}
 use Rattle.raft_log_engine.specs.Opening.{AreFoundIn, HoldsFound, IsRecoveredAs}
 use Rattle.raft_log_engine.specs.Held.{IsTabled, ReadsEntries}
+use Rattle.raft_log_engine.proofs.Tables.{put_lengths}
 
--- the batches of a file, without its number
-unnumbered : (seq : ℕ) (ks : List Batch) → map (λ (b : ℕ × Batch). b.1) (numbered seq ks) ≡ ks
-unnumbered seq [] = refl
-unnumbered seq (k ∷ ks) = λ i. k ∷ unnumbered seq ks i
+-- a machine got a batch of the file
+abbrev GotAs : {X : Type 0} → SinglePipe → Numbered → (EntryIndex → X) → (Batch → List (Item X)) → Type 0
+GotAs p bs f out = (file : File) (before after : Numbered) (items : Batch) (placed : Placed) → IsIn file (files_of p) → bs ≡ before ++ (file.seq, items) ∷ after → IsGot p.queue file before items placed
+    → map (item_map f) (items_in placed.handle placed.items) ≡ out items
 
-module _ (p : SinglePipe) (bs : Numbered) (read : EntryIndex → List ℕ) (reads : ReadsEntries p bs read) where
-  -- the batches as they are read
-  abbrev seen : List Placed → List Batch
-  seen all = map (λ (items : List (Item EntryIndex)). map (item_map read) items) (records_in all)
+-- batches that a machine got, of which each entry is seen in some way
+module _ {X : Type 0} (p : SinglePipe) (bs : Numbered) (f : EntryIndex → X) (out : Batch → List (Item X)) (one : GotAs p bs f out) where
+  abbrev seen : List Placed → List (List (Item X))
+  seen all = map (λ (items : List (Item EntryIndex)). map (item_map f) items) (records_in all)
 
-  seen_one : (f : File) (before after : Numbered) (items : Batch) (placed : Placed) → IsIn f (files_of p) → bs ≡ before ++ (f.seq, items) ∷ after → IsGot p.queue f before items placed
-      → map (item_map read) (items_in placed.handle placed.items) ≡ items
-  seen_one f before after items placed among split got =
-      let some : list_any holds_entries placed.items ≡ list_any holds_entries items = sym (any_held (entry_bytes (block_of items)) placed.items) ∙ ap (list_any holds_entries) got.items_are in
-      items_seen read placed.handle (block_of items) placed.items
-      (λ held e.
-      reads (placed_in placed.handle e) (entry_bytes (block_of items) e) (record {
-        handle = placed.handle;
-        file = f;
-        before = before;
-        items = items;
-        after = after;
-        place = refl;
-        among = among;
-        split = split;
-        block = got.block;
-        stands = got.stands (sym some ∙ held);
-        bytes_are = refl;
-      }))
-      ∙ got.items_are
-
-  seen_file : (f : File) (before after : Numbered) (ks : List Batch) (all : List Placed) → IsIn f (files_of p) → bs ≡ before ++ (numbered f.seq ks ++ after) → AreGot p.queue f before ks all → seen all ≡ ks
-  seen_file f before after [] all among split none = ap seen none
-  seen_file f before after (k ∷ ks) all among split got =
+  seen_file : (file : File) (before after : Numbered) (ks : List Batch) (all : List Placed) → IsIn file (files_of p) → bs ≡ before ++ (numbered file.seq ks ++ after) → AreGot p.queue file before ks all → seen all ≡ map out ks
+  seen_file file before after [] all among split none = ap seen none
+  seen_file file before after (k ∷ ks) all among split got =
       let placed : Placed = got.0 in
       let rest : List Placed = got.1 in
-      let first = seen_one f before (numbered f.seq ks ++ after) k placed among split got.3 in
-      let others = seen_file f (before ++ (f.seq, k) ∷ []) after ks rest among (split ∙ sym (append_assoc before ((f.seq, k) ∷ []) (numbered f.seq ks ++ after))) got.4 in
+      let first = one file before (numbered file.seq ks ++ after) k placed among split got.3 in
+      let others = seen_file file (before ++ (file.seq, k) ∷ []) after ks rest among (split ∙ sym (append_assoc before ((file.seq, k) ∷ []) (numbered file.seq ks ++ after))) got.4 in
       ap seen got.2 ∙ (λ i. first i ∷ others i)
 
   seen_append : (first rest : List Placed) → seen (first ++ rest) ≡ seen first ++ seen rest
   seen_append [] rest = refl
-  seen_append (x ∷ first) rest = λ i. map (item_map read) (items_in x.handle x.items) ∷ seen_append first rest i
+  seen_append (x ∷ first) rest = λ i. map (item_map f) (items_in x.handle x.items) ∷ seen_append first rest i
 
-  pub seen_all : (d : Disk) (before : Numbered) (fs : List File) (all : List Placed) → ((f : File) → IsIn f fs → IsIn f (files_of p)) → bs ≡ before ++ batches_of p.queue d fs
-      → AreAllGot p.queue d before fs all → seen all ≡ map (λ (b : ℕ × Batch). b.1) (batches_of p.queue d fs)
+  outs : (seq : ℕ) (ks : List Batch) → map out ks ≡ map (λ (b : ℕ × Batch). out b.1) (numbered seq ks)
+  outs seq [] = refl
+  outs seq (k ∷ ks) = λ i. out k ∷ outs seq ks i
+
+  pub seen_all : (d : Disk) (before : Numbered) (fs : List File) (all : List Placed) → ((file : File) → IsIn file fs → IsIn file (files_of p)) → bs ≡ before ++ batches_of p.queue d fs
+      → AreAllGot p.queue d before fs all → seen all ≡ map (λ (b : ℕ × Batch). out b.1) (batches_of p.queue d fs)
   seen_all d before [] all among split none = ap seen none
-  seen_all d before (f ∷ fs) all among split got =
+  seen_all d before (file ∷ fs) all among split got =
       let first : List Placed = got.0 in
       let rest : List Placed = got.1 in
-      let ks : List Batch = said_in p.queue d f in
+      let ks : List Batch = said_in p.queue d file in
       let behind : Numbered = batches_of p.queue d fs in
-      let one = seen_file f before behind ks first (among f (inl refl)) split got.3 in
-      let others = seen_all d (before ++ numbered f.seq ks) fs rest (λ g there. among g (inr there)) (split ∙ sym (append_assoc before (numbered f.seq ks) behind)) got.4 in
-      ap seen got.2 ∙ seen_append first rest ∙ (λ i. one i ++ others i)
-      ∙ sym (map-append (λ (b : ℕ × Batch). b.1) (numbered f.seq ks) behind ∙ ap (λ (l : List Batch). l ++ map (λ (b : ℕ × Batch). b.1) behind) (unnumbered f.seq ks))
+      let one_file = seen_file file before behind ks first (among file (inl refl)) split got.3 in
+      let others = seen_all d (before ++ numbered file.seq ks) fs rest (λ g there. among g (inr there)) (split ∙ sym (append_assoc before (numbered file.seq ks) behind)) got.4 in
+      ap seen got.2 ∙ seen_append first rest ∙ (λ i. one_file i ++ others i)
+      ∙ sym (map-append (λ (b : ℕ × Batch). out b.1) (numbered file.seq ks) behind ∙ ap (λ (l : List (List (Item X))). l ++ map (λ (b : ℕ × Batch). out b.1) behind) (sym (outs file.seq ks)))
+
+-- by their bytes
+seen_bytes : (p : SinglePipe) (bs : Numbered) (read : EntryIndex → List ℕ) → ReadsEntries p bs read → GotAs p bs read (λ items. items)
+seen_bytes p bs read reads f before after items placed among split got =
+    let some : list_any holds_entries placed.items ≡ list_any holds_entries items = sym (any_held (entry_bytes (block_of items)) placed.items) ∙ ap (list_any holds_entries) got.items_are in
+    items_seen read placed.handle (block_of items) placed.items
+    (λ held e.
+    reads (placed_in placed.handle e) (entry_bytes (block_of items) e) (record {
+      handle = placed.handle;
+      file = f;
+      before = before;
+      items = items;
+      after = after;
+      place = refl;
+      among = among;
+      split = split;
+      block = got.block;
+      stands = got.stands (sym some ∙ held);
+      bytes_are = refl;
+    }))
+    ∙ got.items_are
+
+-- by their lengths
+seen_lengths : (p : SinglePipe) (bs : Numbered) → GotAs p bs (λ e. e.entry_len) lengths
+seen_lengths p bs f before after items placed among split got = put_lengths placed.handle placed.items ∙ got.lengths_are
+
+map_twice : (bs : Numbered) → map (λ (b : ℕ × Batch). lengths b.1) bs ≡ map lengths (map (λ (b : ℕ × Batch). b.1) bs)
+map_twice [] = refl
+map_twice (b ∷ bs) = λ i. lengths b.1 ∷ map_twice bs i
 
 pub found_tabled : (d : Disk) (p : SinglePipe) (fs : List File) (all : List Placed) (tables : MemTables) → ((f : File) → IsIn f fs → IsIn f (files_of p)) → AreAllGot p.queue d [] fs all
     → content_in tables ≡ content_over nothing all → IsTabled p (batches_of p.queue d fs) tables
-found_tabled d p fs all tables among got is read reads =
-    ap (content_map read) is
-    ∙ sym (maps_replay read (records_in all))
-    ∙ ap content_of (seen_all p (batches_of p.queue d fs) read reads d [] fs all among refl got)
+found_tabled d p fs all tables among got is =
+    let bs : Numbered = batches_of p.queue d fs in
+    record {
+      content = λ read reads.
+          ap (content_map read) is
+          ∙ sym (maps_replay read (records_in all))
+          ∙ ap content_of (seen_all p bs read (λ items. items) (seen_bytes p bs read reads) d [] fs all among refl got);
+      lengths =
+          ap (content_map (λ e. e.entry_len)) is
+          ∙ sym (maps_replay (λ e. e.entry_len) (records_in all))
+          ∙ ap content_of (seen_all p bs (λ e. e.entry_len) lengths (seen_lengths p bs) d [] fs all among refl got ∙ map_twice bs)
+          ∙ maps_replay length (map (λ (b : ℕ × Batch). b.1) bs);
+    }
 
 -- ---- the steps of an opening, where the directories are said in another way
 

@@ -1,14 +1,17 @@
 -- The tables have the content of the batches, also with one more batch.
-use Rattle.std.proofs.Common.{◌≡◌, ℕ, ◌+◌, ◌≤◌, Bool, true, false, List, [], ◌∷◌, ◌++◌, length, take, drop, Option, Some, None, refl, sym, ap, subst, ◌∙◌, arith, append_assoc, length-append, length-take, length-drop}
+use Rattle.std.proofs.Common.{◌≡◌, ℕ, ◌+◌, ◌≤◌, Bool, true, false, List, [], ◌∷◌, ◌++◌, length, map, take, drop, Option, Some, None, refl, sym, ap, subst, ◌∙◌, arith, append_assoc, length-append, length-take, length-drop}
 use Rattle.std.specs.Int.{w32, to_be_bytes}
 use Rattle.std.specs.List.{list_any}
+use Rattle.std.specs.Option.{option_map}
 use Rattle.std.proofs.lemmas.Bool.{false≢true}
+use Rattle.std.proofs.lemmas.List.{append-nil}
 use Rattle.raft_log_records.specs.declared.block.EntriesBlock.{EntriesBlock}
 use Rattle.raft_log_records.specs.declared.file_id.FileBlockHandle.{FileBlockHandle}
 use Rattle.raft_log_records.specs.declared.item.EntryIndex.{EntryIndex}
 use Rattle.raft_log_records.specs.declared.record.LogItemBatch.{LogItemBatch}
 use Rattle.raft_log_records.specs.Block.{StandsIn}
-use Rattle.raft_log_records.specs.Item.{items_of, with_bytes, entry_bytes}
+use Rattle.raft_log_records.specs.Item.{Change, Item, change_map, entry_bytes, item_map, items_of, with_bytes, with_lengths}
+use Rattle.raft_log_records.specs.Item.Change.{entries, clean, compact, put, delete, mark}
 use Rattle.raft_log_records.specs.Signature.{signature_of}
 use Rattle.raft_log_records.specs.Spelling.{block_of, block_part, holds_entries, holds_mark, lengths, sealed, spell_block, spell_items, spell_record}
 use Rattle.raft_log_records.proofs.Laid.{any_held}
@@ -16,27 +19,41 @@ use Rattle.raft_log_disk.specs.Disk.{Disk}
 use Rattle.raft_log_file.specs.Laws.{Batch}
 use Rattle.raft_log_pipe.specs.declared.pipe.SinglePipe.{SinglePipe}
 use Rattle.raft_log_pipe.specs.Blocks.{IsBlockOf, IsRecordOf, KeepsFiles}
-use Rattle.raft_log_pipe.specs.Pipe.{Numbered}
-use Rattle.raft_log_pipe.proofs.BlockLemmas.{is_last}
+use Rattle.raft_log_pipe.specs.Pipe.{Holds, IsPipe, Numbered}
+use Rattle.raft_log_pipe.proofs.BlockLemmas.{is_last, same_files}
 use Rattle.raft_log_memtables.specs.declared.memtables.MemTables.{MemTables}
-use Rattle.raft_log_memtables.specs.Content.{after_batch, nothing}
+use Rattle.raft_log_memtables.specs.Content.{Content, after_batch, nothing}
 use Rattle.raft_log_memtables.specs.ContentLaws.{content_map}
 use Rattle.raft_log_memtables.specs.Entries.{placed_in}
-use Rattle.raft_log_memtables.specs.MemTable.{batch_items}
+use Rattle.raft_log_memtables.specs.MemTable.{batch_items, items_in}
 use Rattle.raft_log_memtables.specs.MemTables.{content_in}
 use Rattle.raft_log_memtables.proofs.Mapped.{batch_mapped}
 use Rattle.raft_content_log.proofs.Written.{ReadsAll, items_seen}
-use Rattle.raft_log_engine.specs.Held.{IsKept, IsPlace, IsTabled, LiesIn, ReadsEntries, content_of_batches, seen_on, bytes_on}
+use Rattle.raft_log_engine.specs.Held.{AreMeasured, IsHeld, IsKept, IsPlace, IsTabled, LiesIn, ReadsEntries, content_of_batches, seen_on, bytes_on}
 use Rattle.raft_log_engine.proofs.Batches.{one_more_batch}
 use Rattle.raft_log_engine.proofs.EntryReads.{disk_reads, length-sealed}
 
 -- without batches the tables are empty
 pub none_tabled : (p : SinglePipe) (tables : MemTables) → content_in tables ≡ nothing → IsTabled p [] tables
-none_tabled p tables none read reads = ap (content_map read) none
+none_tabled p tables none = record { content = λ read reads. ap (content_map read) none; lengths = ap (content_map (λ e. e.entry_len)) none }
 
 -- what calls answer is the content of the batches
+pub held_answered : (d : Disk) (p : SinglePipe) (tables : MemTables) (s u : Numbered) → IsHeld d p tables s u → seen_on d p tables ≡ content_of_batches (s ++ u)
+held_answered d p tables s u held = held.tabled.content (bytes_on d p) (disk_reads p d s u held.pipe held.holds)
+
+-- batches that are all on the disk
+pub kept_held : (d : Disk) (p : SinglePipe) (tables : MemTables) (bs : Numbered) → IsKept d p tables bs → IsHeld d p tables bs []
+kept_held d p tables bs kept = record { pipe = kept.pipe; holds = kept.holds; tabled = subst (λ (l : Numbered). IsTabled p l tables) (sym (append-nil bs)) kept.tabled }
+
+pub held_kept : (d : Disk) (p : SinglePipe) (tables : MemTables) (s u : Numbered) → IsHeld d p tables s u → u ≡ [] → IsKept d p tables s
+held_kept d p tables s u held none = record {
+  pipe = held.pipe;
+  holds = subst (λ (l : Numbered). Holds p d s l) none held.holds;
+  tabled = subst (λ (l : Numbered). IsTabled p l tables) (ap (λ (l : Numbered). s ++ l) none ∙ append-nil s) held.tabled;
+}
+
 pub answered : (d : Disk) (p : SinglePipe) (tables : MemTables) (bs : Numbered) → IsKept d p tables bs → seen_on d p tables ≡ content_of_batches bs
-answered d p tables bs kept = kept.tabled (bytes_on d p) (disk_reads p d bs kept.pipe kept.holds)
+answered d p tables bs kept = held_answered d p tables bs [] (kept_held d p tables bs kept) ∙ ap content_of_batches (append-nil bs)
 
 -- ---- where entries lie
 
@@ -54,6 +71,34 @@ more_lies p q bs seq items keeps queue e bytes lies = record {
   block = subst (λ x. IsBlockOf x lies.file lies.before lies.items 8 lies.handle) (sym queue) lies.block;
   stands = lies.stands;
   bytes_are = lies.bytes_are;
+}
+
+-- in the same files entries lie where they lay
+same_lies : (p q : SinglePipe) (bs : Numbered) → KeepsFiles p q → q.queue ≡ p.queue → (e : EntryIndex) (bytes : List ℕ) → LiesIn p bs e bytes → LiesIn q bs e bytes
+same_lies p q bs keeps queue e bytes lies = record {
+  handle = lies.handle;
+  file = lies.file;
+  before = lies.before;
+  items = lies.items;
+  after = lies.after;
+  place = lies.place;
+  among = keeps lies.file lies.among;
+  split = lies.split;
+  block = subst (λ x. IsBlockOf x lies.file lies.before lies.items 8 lies.handle) (sym queue) lies.block;
+  stands = lies.stands;
+  bytes_are = lies.bytes_are;
+}
+
+-- batches that a sync brought onto the disk
+pub synced_kept : (d e : Disk) (p q : SinglePipe) (tables : MemTables) (s u : Numbered) → IsHeld d p tables s u → IsPipe q e → (q.active ≡ p.active) × (q.older ≡ p.older) × (q.queue ≡ p.queue)
+    → ((x y : Numbered) → Holds p d x y → Holds q e (x ++ y) []) → IsKept e q tables (s ++ u)
+synced_kept d e p q tables s u held pipe same syncs = record {
+  pipe = pipe;
+  holds = syncs s u held.holds;
+  tabled = record {
+    content = λ read reads. held.tabled.content read (λ entry bytes lies. reads entry bytes (same_lies p q (s ++ u) (same_files p q same.0 same.1) same.2 entry bytes lies));
+    lengths = held.tabled.lengths;
+  };
 }
 
 record_longer : (signature : Option ℕ) (items : Batch) → list_any holds_entries items ≡ true → length (block_of items) + 16 ≤ length (spell_record signature items)
@@ -97,6 +142,24 @@ new_lies q bs seq items h place block at number is stands e =
       bytes_are = refl;
     }
 
+-- ---- the lengths of entries in a block
+
+pub put_lengths : (h : FileBlockHandle) (items : List (Item EntryIndex)) → map (item_map (λ e. e.entry_len)) (items_in h items) ≡ with_lengths items
+put_lengths h [] = refl
+put_lengths h (item ∷ items) = λ i. record { group = item.group; change = change_put item.change i } ∷ put_lengths h items i
+  where
+    run_put : (es : List (ℕ × EntryIndex)) → map {A = ℕ × EntryIndex} {B = ℕ × ℕ} (λ e. (e.0, e.1.entry_len)) (map {A = ℕ × EntryIndex} {B = ℕ × EntryIndex} (λ e. (e.0, placed_in h e.1)) es) ≡ map {A = ℕ × EntryIndex} {B = ℕ × ℕ} (λ e. (e.0, e.1.entry_len)) es
+    run_put [] = refl
+    run_put (e ∷ es) = λ i. (e.0, e.1.entry_len) ∷ run_put es i
+
+    change_put : (c : Change EntryIndex) → change_map (λ e. e.entry_len) (change_map (placed_in h) c) ≡ change_map (λ e. e.entry_len) c
+    change_put (entries es) = ap entries (run_put es)
+    change_put clean = refl
+    change_put (compact index) = refl
+    change_put (put key value) = refl
+    change_put (delete key) = refl
+    change_put (mark id status) = refl
+
 -- ---- one more batch
 
 -- where a batch stands that has its record at this place
@@ -111,13 +174,36 @@ put_reads q bs seq items h place (Some b) here number read reads holds e = reads
 put_reads q bs seq items h place None here number read reads holds e = absurd (false≢true (sym (here.stands None) ∙ holds))
 
 pub more_tabled : (p q : SinglePipe) (bs : Numbered) (seq : ℕ) (items : Batch) (h place : FileBlockHandle) (block : Option EntriesBlock) (drained : LogItemBatch) (old new : MemTables) → KeepsFiles p q → q.queue ≡ p.queue
-    → IsPut q bs items h block place → seq ≡ h.id.seq → with_bytes (block_of items) (items_of drained.items.items) ≡ items → content_in new ≡ after_batch (batch_items place drained) (content_in old) → list_any holds_mark items ≡ false
+    → IsPut q bs items h block place → seq ≡ h.id.seq → with_bytes (block_of items) (items_of drained.items.items) ≡ items → with_lengths (items_of drained.items.items) ≡ lengths items → content_in new ≡ after_batch (batch_items place drained) (content_in old) → list_any holds_mark items ≡ false
     → IsTabled p bs old → IsTabled q (bs ++ (seq, items) ∷ []) new
-more_tabled p q bs seq items h place block drained old new keeps queue here number is applied plain tabled read reads =
+more_tabled p q bs seq items h place block drained old new keeps queue here number is lens applied plain tabled =
     let some : list_any holds_entries (items_of drained.items.items) ≡ list_any holds_entries items = sym (any_held (entry_bytes (block_of items)) (items_of drained.items.items)) ∙ ap (list_any holds_entries) is in
-    ap (content_map read) applied
-    ∙ sym (batch_mapped read (batch_items place drained) (content_in old))
-    ∙ ap (λ (l : Batch). after_batch l (content_map read (content_in old)))
-    (items_seen read place (block_of items) (items_of drained.items.items) (λ held. put_reads q bs seq items h place block here number read reads (sym some ∙ held)) ∙ is)
-    ∙ ap (after_batch items) (tabled read (λ e bytes lies. reads e bytes (more_lies p q bs seq items keeps queue e bytes lies)))
-    ∙ sym (one_more_batch bs seq items plain)
+    record {
+      content = λ read reads.
+          ap (content_map read) applied
+          ∙ sym (batch_mapped read (batch_items place drained) (content_in old))
+          ∙ ap (λ (l : Batch). after_batch l (content_map read (content_in old)))
+          (items_seen read place (block_of items) (items_of drained.items.items) (λ held. put_reads q bs seq items h place block here number read reads (sym some ∙ held)) ∙ is)
+          ∙ ap (after_batch items) (tabled.content read (λ e bytes lies. reads e bytes (more_lies p q bs seq items keeps queue e bytes lies)))
+          ∙ sym (one_more_batch bs seq items plain);
+      lengths =
+          ap (content_map (λ e. e.entry_len)) applied
+          ∙ sym (batch_mapped (λ e. e.entry_len) (batch_items place drained) (content_in old))
+          ∙ ap (λ (l : List (Item ℕ)). after_batch l (content_map (λ e. e.entry_len) (content_in old))) (put_lengths place (items_of drained.items.items) ∙ lens)
+          ∙ ap (after_batch (lengths items)) tabled.lengths
+          ∙ batch_mapped length items (content_of_batches bs)
+          ∙ ap (content_map length) (sym (one_more_batch bs seq items plain));
+    }
+
+-- ---- lengths of entries
+
+one_length : (o : Option EntryIndex) (c : Option (List ℕ)) (e : EntryIndex) (bytes : EntryIndex → List ℕ) → option_map (λ x. x.entry_len) o ≡ option_map length c → option_map bytes o ≡ c → o ≡ Some e → length (bytes e) ≡ e.entry_len
+one_length o c e bytes lens are is =
+    let both : Some (e.entry_len) ≡ Some (length (bytes e)) =
+    ap (option_map (λ (x : EntryIndex). x.entry_len)) (sym is) ∙ lens ∙ ap (option_map length) (sym are) ∙ ap (λ (x : Option EntryIndex). option_map length (option_map bytes x)) is in
+    cc
+
+pub measured : (d : Disk) (p : SinglePipe) (tables : MemTables) (s u : Numbered) → IsHeld d p tables s u → AreMeasured d p tables
+measured d p tables s u held group index e is =
+    let c : Content (List ℕ) = content_of_batches (s ++ u) in
+    one_length ((content_in tables group).entry index) ((c group).entry index) e (bytes_on d p) (λ i. (held.tabled.lengths i group).entry index) (λ i. (held_answered d p tables s u held i group).entry index) is

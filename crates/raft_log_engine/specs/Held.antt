@@ -1,5 +1,5 @@
 -- What an engine over one queue holds: batches in files, and tables of where their entries lie.
-use Rattle.std.specs.Prelude.{◌≡◌, ℕ, ◌+◌, ◌-◌, Bool, false, List, [], ◌∷◌, ◌++◌, length, map, take, drop, Option, Some, None, ◌==◌, if◌then◌else◌}
+use Rattle.std.specs.Prelude.{◌≡◌, ℕ, ◌+◌, ◌-◌, Bool, true, false, List, [], ◌∷◌, ◌++◌, length, map, take, drop, Option, Some, None, ◌==◌, if◌then◌else◌}
 use Rattle.raft_log_records.specs.declared.block.EntriesBlock.{EntriesBlock}
 use Rattle.raft_log_records.specs.declared.file_id.FileBlockHandle.{FileBlockHandle}
 use Rattle.raft_log_records.specs.declared.item.EntryIndex.{EntryIndex}
@@ -24,6 +24,8 @@ pub record Parts (F : Type 0) : Type 0 where
   pub tables : MemTables
   -- a write failed, and nothing more is answered
   pub is_stopped : Bool
+  -- a write wasn't synced
+  pub wrote_unsynced : Bool
 
 -- the content of batches, in their order
 abbrev pub content_of_batches : Numbered → Content (List ℕ)
@@ -80,16 +82,41 @@ pub record LiesIn (p : SinglePipe) (bs : Numbered) (e : EntryIndex) (bytes : Lis
 abbrev pub ReadsEntries : SinglePipe → Numbered → (EntryIndex → List ℕ) → Type 0
 ReadsEntries p bs read = (e : EntryIndex) (bytes : List ℕ) → LiesIn p bs e bytes → read e ≡ bytes
 
--- however such entries are read, the tables have the content of the batches
-abbrev pub IsTabled : SinglePipe → Numbered → MemTables → Type 0
-IsTabled p bs tables = (read : EntryIndex → List ℕ) → ReadsEntries p bs read → content_map read (content_in tables) ≡ content_of_batches bs
+-- however such entries are read, the tables have the content of the batches, and the lengths of its entries
+pub record IsTabled (p : SinglePipe) (bs : Numbered) (tables : MemTables) : Type 0 where
+  pub content : (read : EntryIndex → List ℕ) → ReadsEntries p bs read → content_map read (content_in tables) ≡ content_of_batches bs
+  pub lengths : content_map (λ e. e.entry_len) (content_in tables) ≡ content_map length (content_of_batches bs)
 
--- the files have these batches, all of them on the disk, and the tables their content
+-- entries are as long on the disk as the tables say
+abbrev pub AreMeasured : Disk → SinglePipe → MemTables → Type 0
+AreMeasured d p tables = (group index : ℕ) (e : EntryIndex) → (content_in tables group).entry index ≡ Some e → length (bytes_on d p e) ≡ e.entry_len
+
+-- the files have these batches, the first ones of them on the disk, and the tables the content of all
+pub record IsHeld (d : Disk) (p : SinglePipe) (tables : MemTables) (synced unsynced : Numbered) : Type 0 where
+  pub pipe : IsPipe p d
+  pub holds : Holds p d synced unsynced
+  pub tabled : IsTabled p (synced ++ unsynced) tables
+
+-- the same of batches that are all on the disk
 pub record IsKept (d : Disk) (p : SinglePipe) (tables : MemTables) (bs : Numbered) : Type 0 where
   pub pipe : IsPipe p d
   pub holds : Holds p d bs []
   pub tabled : IsTabled p bs tables
 
--- so it is unless a write has failed
-abbrev pub IsEngine : Disk → SinglePipe → MemTables → Bool → Type 0
-IsEngine d p tables is_stopped = is_stopped ≡ false → (bs : Numbered) × IsKept d p tables bs
+-- so it is unless a write has failed. All batches are on the disk unless a write wasn't synced
+pub record HoldsBatches (d : Disk) (p : SinglePipe) (tables : MemTables) (wrote_unsynced : Bool) : Type 0 where
+  pub synced : Numbered
+  pub unsynced : Numbered
+  pub held : IsHeld d p tables synced unsynced
+  pub none : wrote_unsynced ≡ false → unsynced ≡ []
+
+abbrev pub IsEngine : Disk → SinglePipe → MemTables → Bool → Bool → Type 0
+IsEngine d p tables is_stopped wrote_unsynced = is_stopped ≡ false → HoldsBatches d p tables wrote_unsynced
+
+-- ---- what an append makes of batches that are not on the disk
+
+-- so many of these batches came behind the synced ones onto the disk, and all where that is asked for
+pub record HoldsMore (p : SinglePipe) (d : Disk) (all : Bool) (synced unsynced : Numbered) : Type 0 where
+  pub count : ℕ
+  pub holds : Holds p d (synced ++ take count unsynced) (drop count unsynced)
+  pub none : all ≡ true → drop count unsynced ≡ []

@@ -12,21 +12,22 @@ pub record IsAccount (d : Disk) (p : SinglePipe) (is_stopped : Bool) (answered :
   pub leaves : Leaves p d synced unsynced
   pub answers : is_stopped ≡ false → content_of_batches synced ≡ answered
 
--- by each account the content is that of the first batches and a front of the others
-abbrev pub MayLeave : Disk → SinglePipe → Bool → Content (List ℕ) → Content (List ℕ) → Type 0
-MayLeave d p is_stopped answered content =
-    (synced unsynced : Numbered) → IsAccount d p is_stopped answered synced unsynced → (k : ℕ) × (content ≡ content_of_batches (synced ++ take k unsynced))
+-- where each write was synced: by each account the content is that of the first batches and a front of the others
+abbrev pub MayLeave : Disk → SinglePipe → Bool → Bool → Content (List ℕ) → Content (List ℕ) → Type 0
+MayLeave d p is_stopped wrote_unsynced answered content =
+    wrote_unsynced ≡ false → (synced unsynced : Numbered) → IsAccount d p is_stopped answered synced unsynced → (k : ℕ) × (content ≡ content_of_batches (synced ++ take k unsynced))
 
 -- ---- an engine by its parts, where `disk` says what its file system has
 
--- no write has failed
-abbrev pub IsSound : {F : Type 0} → Parts F → Type 0
-IsSound e = e.is_stopped ≡ false
+-- no write has failed, and each was synced
+pub record IsSound {F : Type 0} (e : Parts F) : Type 0 where
+  pub goes_on : e.is_stopped ≡ false
+  pub synced : e.wrote_unsynced ≡ false
 
 -- what its calls answer
 abbrev pub answers_on : {F : Type 0} → (F → Disk) → Parts F → Content (List ℕ)
 answers_on disk e = seen_on (disk e.files) e.append e.tables
 
--- what a crash may leave of it
+-- what a crash may leave of it, where each write was synced. Of others `OpensAsFront` tells
 abbrev pub leaves_on : {F : Type 0} → (F → Disk) → Parts F → Content (List ℕ) → Type 0
-leaves_on disk e content = MayLeave (disk e.files) e.append e.is_stopped (answers_on disk e) content
+leaves_on disk e content = MayLeave (disk e.files) e.append e.is_stopped e.wrote_unsynced (answers_on disk e) content

@@ -5,3 +5,4 @@ pub mod Opening
 pub mod Reads
 pub mod Scanning
 pub mod Reopened
+pub mod Since

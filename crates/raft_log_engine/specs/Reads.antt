@@ -1,7 +1,8 @@
 -- What reads of an engine answer, and why they are refused.
-use Rattle.std.specs.Prelude.{◌≡◌, ◌⊎◌, ℕ, Bool, true, List, [], ◌∷◌, Option, Some, None}
+use Rattle.std.specs.Prelude.{◌≡◌, ◌⊎◌, ◌+◌, ◌-◌, ◌<◌, ◌≤◌, ℕ, Bool, true, false, List, [], ◌∷◌, ◌++◌, length, slice_get, sum_by, Option, Some, None}
 use Rattle.raft_log_files.specs.declared.error.Error.TheVariants.{Memory}
 use Rattle.raft_log_files.specs.Error as log_error
+use Rattle.raft_log_memtables.specs.Content.{GroupContent}
 use Rattle.raft_log_records.specs.Item.{Item}
 use Rattle.raft_log_records.specs.Item.Change.{compact}
 use Rattle.raft_log_engine.specs.declared.fault.EngineFault.{EngineFault}
@@ -37,6 +38,24 @@ IsUnread fits bytes (Some value) = IsNoMessage fits bytes value
 -- why a message isn't read
 abbrev pub IsMessageFault : {S : Type 0} → (S → Bool) → (S → List ℕ) → Option (List ℕ) → Bool → EngineFault → Type 0
 IsMessageFault fits bytes value is_stopped e = IsTableFault is_stopped e ⊎ ((e ≡ NotAMessage) × IsUnread fits bytes value)
+
+-- bytes that are no more than this, if there is a limit
+abbrev pub FitsIn : Option ℕ → List (List ℕ) → Type 0
+FitsIn None found = Unit {0}
+FitsIn (Some most) found = sum_by length found ≤ most
+
+-- These are the entries from `begin` on. They end before `end`, or before the first one that would pass the size, but not
+-- before the second one
+pub record AreRead (entry : ℕ → Option (List ℕ)) (begin end : ℕ) (size : Option ℕ) (found : List (List ℕ)) : Type 0 where
+  pub each : (i : ℕ) → i < length found → slice_get found i ≡ entry (begin + i)
+  pub short : length found ≤ end - begin
+  pub fit : 1 < length found → FitsIn size found
+  pub all : length found < end - begin → (0 < length found) × ((next : List ℕ) × (entry (begin + length found) ≡ Some next) × (FitsIn size (found ++ next ∷ []) → ⊥))
+
+-- entries of a group; one that isn't there has none
+pub record HasRead (group : GroupContent (List ℕ)) (begin end : ℕ) (size : Option ℕ) (found : List (List ℕ)) : Type 0 where
+  pub there : group.there ≡ true → AreRead group.entry begin end size found
+  pub unknown : group.there ≡ false → found ≡ []
 
 -- the item that compacts a group
 abbrev pub compaction : ℕ → ℕ → Item (List ℕ)

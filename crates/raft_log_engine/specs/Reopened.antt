@@ -1,16 +1,18 @@
 -- What an opening of an engine's files answers, after a crash or without one.
-use Rattle.std.specs.Prelude.{◌≡◌, ℕ, List}
+use Rattle.std.specs.Prelude.{◌≡◌, ℕ, List, take}
 use Rattle.raft_log_records.specs.declared.file_id.LogQueue.TheVariants.{Append}
 use Rattle.raft_log_disk.specs.Disk.{Disk}
 use Rattle.raft_log_disk.specs.Image.{Image}
 use Rattle.raft_log_disk.specs.Text.{Text}
 use Rattle.raft_log_files.specs.declared.recovery.RecoveryMode.{RecoveryMode}
+use Rattle.raft_log_file.specs.Laws.{Batch}
 use Rattle.raft_log_pipe.specs.Alone.{IsAlone, directories_of_pipe}
 use Rattle.raft_log_memtables.specs.Content.{Content}
 use Rattle.raft_log_recovery.specs.Crashed.{IsCrashed}
 use Rattle.raft_content_log.specs.Leaving.{IsEither}
 use Rattle.raft_log_engine.specs.Held.{Parts}
 use Rattle.raft_log_engine.specs.Opening.{IsFoundContent}
+use Rattle.raft_log_engine.specs.Since.{after_batches}
 
 -- whatever a crash leaves of a disk, an opening of it answers this content, in each mode, unless bytes that nobody wrote pass
 -- as records
@@ -21,6 +23,12 @@ OpensAs directories d content = (image : Image) (e : Disk) (mode : RecoveryMode)
 abbrev pub OpensAsEither : List Text → Disk → Content (List ℕ) → Content (List ℕ) → Type 0
 OpensAsEither directories d before content =
     (image : Image) (e : Disk) (mode : RecoveryMode) (found : Content (List ℕ)) → IsCrashed d image e → IsFoundContent mode directories e found → IsEither before content found
+
+-- or this content with a front of these batches
+abbrev pub OpensAsFront : List Text → Disk → Content (List ℕ) → List Batch → Type 0
+OpensAsFront directories d before batches =
+    (image : Image) (e : Disk) (mode : RecoveryMode) (found : Content (List ℕ)) → IsCrashed d image e → IsFoundContent mode directories e found
+    → (k : ℕ) × (found ≡ after_batches (take k batches) before)
 
 -- where an engine's files lie
 abbrev pub directories_of_engine : {F : Type 0} → Parts F → List Text

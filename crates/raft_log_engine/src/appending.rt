@@ -1,19 +1,22 @@
-//! An append that is synced.
+//! An append, and a sync behind it.
 ghost use Rattle.std.specs.Prelude.{◌≡◌, ◌++◌, ◌∷◌, [], ℕ, IfOk, OnOk, OnErr};
+ghost use Rattle.raft_log_engine.specs.Held.{HoldsMore};
 ghost use Rattle.raft_log_pipe.specs.Alone.{IsAlone, IsNearlyAlone};
-ghost use Rattle.raft_log_pipe.specs.Blocks.{IsRecordOf, KeepsFiles};
-ghost use Rattle.raft_log_pipe.specs.Pipe.{Holds, IsPipe, IsPopulated, Leaves, Numbered};
+ghost use Rattle.raft_log_pipe.specs.Appending.{LeavesAppended, Stands};
+ghost use Rattle.raft_log_pipe.specs.Blocks.{KeepsFiles};
+ghost use Rattle.raft_log_pipe.specs.Pipe.{Holds, IsPipe, IsPopulated, Numbered};
 ghost use Rattle.raft_log_records.specs.Spelling.{AreItems};
 
 use raft_log_files::{Error, FileSystem};
 use raft_log_pipe::SinglePipe;
 use raft_log_records::{FileBlockHandle, LogBatch};
 
-/// Appends a batch to a pipe that is synced, and syncs it.
-pub(crate) fn append_synced<F: FileSystem>(
+/// Appends a batch to a pipe, and syncs the pipe where that is asked for.
+pub(crate) fn append_batch<F: FileSystem>(
     files: &mut F,
     pipe: &mut SinglePipe,
     batch: &mut LogBatch,
+    sync: bool,
 ) -> Result<FileBlockHandle, Error>
     requires pipe { IsPipe pipe.old (F.disk files.old) }
     requires populated { IsPopulated batch.old }
@@ -24,14 +27,16 @@ pub(crate) fn append_synced<F: FileSystem>(
     ensures alone { OnOk result (IsAlone pipe.old (F.disk files.old) → IsAlone pipe.new (F.disk files.new)) }
     ensures nearly { OnErr result (IsAlone pipe.old (F.disk files.old) → IsNearlyAlone pipe.new (F.disk files.new)) }
     ensures files { OnOk result (KeepsFiles pipe.old pipe.new) }
-    ensures ok { IfOk result (λ h. (synced : Numbered) → Holds pipe.old (F.disk files.old) synced []
-        → Holds pipe.new (F.disk files.new) (synced ++ (h.id.seq, batch.old.items) ∷ []) []) }
-    ensures stands { IfOk result (λ h. (synced : Numbered) → Holds pipe.old (F.disk files.old) synced []
-        → IsRecordOf pipe.new.queue pipe.new.active synced batch.old.items h) }
-    ensures err { OnErr result ((synced : Numbered) → Holds pipe.old (F.disk files.old) synced []
-        → (seq : ℕ) × Leaves pipe.new (F.disk files.new) synced ((seq, batch.old.items) ∷ [])) }
+    ensures ok { IfOk result (λ h. (synced unsynced : Numbered) → Holds pipe.old (F.disk files.old) synced unsynced
+        → HoldsMore pipe.new (F.disk files.new) sync synced (unsynced ++ (h.id.seq, batch.old.items) ∷ [])) }
+    ensures stands { IfOk result (Stands pipe.old (F.disk files.old) pipe.new batch.old.items) }
+    ensures err { OnErr result ((synced unsynced : Numbered) → Holds pipe.old (F.disk files.old) synced unsynced
+        → LeavesAppended pipe.new (F.disk files.new) synced unsynced batch.old.items) }
 {
     let handle = pipe.append(files, batch)?;
+    if !sync {
+        return Ok(handle);
+    }
     pipe.sync(files)?;
     Ok(handle)
 }

@@ -1,16 +1,15 @@
 //! Entries and their blocks.
 ghost use Rattle.std.specs.Prelude.{◌≡◌, IfOk, IfSome, None, map};
-ghost use Rattle.raft_content_log.specs.Leaving.{AreEntries};
 ghost use Rattle.raft_log_engine.specs.Blocks.{IsReadAs};
-ghost use Rattle.raft_log_engine.specs.Held.{bytes_on, seen_on};
+ghost use Rattle.raft_log_engine.specs.Held.{bytes_on};
 ghost use Rattle.raft_log_pipe.specs.Pipe.{IsPipe};
 ghost use Rattle.raft_log_records.specs.Batch.{encoded_of, payloads};
-ghost use Rattle.raft_log_records.specs.Item.{entry_bytes, items_of, with_bytes};
-ghost use Rattle.raft_log_records.specs.Spelling.{AreItems, block_of, spell_record};
+ghost use Rattle.raft_log_records.specs.Item.{entry_bytes, items_of, with_bytes, with_lengths};
+ghost use Rattle.raft_log_records.specs.Spelling.{AreItems, block_of, lengths, spell_record};
 
 use crate::fault::EngineFault;
 use raft_log_files::{CorruptionFault, Error, FileSystem};
-use raft_log_memtables::{FetchError, MemTables};
+use raft_log_memtables::FetchError;
 use raft_log_pipe::SinglePipe;
 use raft_log_records::{
     EntryIndex, FileBlockHandle, LogBatch, LogItemBatch, RecordError, RecordFault,
@@ -35,7 +34,8 @@ pub(crate) fn of_record(error: RecordError) -> EngineFault {
 pub(crate) fn items_of(alloc: Global, batch: &LogBatch) -> Result<LogItemBatch, EngineFault>
     requires items { AreItems batch.now.items }
     requires written { encoded_of batch.now ≡ spell_record None batch.now.items }
-    ensures { IfOk result (λ read. with_bytes (block_of batch.now.items) (items_of read.items.items) ≡ batch.now.items) }
+    ensures read { IfOk result (λ read. with_bytes (block_of batch.now.items) (items_of read.items.items) ≡ batch.now.items) }
+    ensures lengths { IfOk result (λ read. with_lengths (items_of read.items.items) ≡ lengths batch.now.items) }
 {
     match read_record(alloc, batch.encoded_bytes(), None) {
         Ok(record) => Ok(record.batch),
@@ -142,7 +142,7 @@ pub(crate) fn copy_of<F: FileSystem>(
 }
 
 /// Copies of entries' bytes. A block is read once for neighbours that lie in it.
-fn copies_of<F: FileSystem>(
+pub(crate) fn copies_of<F: FileSystem>(
     alloc: Global,
     files: &F,
     pipe: &SinglePipe,
@@ -161,33 +161,11 @@ fn copies_of<F: FileSystem>(
     Ok(copies)
 }
 
-fn fault_of(error: FetchError) -> EngineFault {
+/// Why entries aren't fetched.
+pub(crate) fn fault_of(error: FetchError) -> EngineFault {
     match error {
         FetchError::Memory => EngineFault::Log(Error::Memory),
         FetchError::EntryCompacted => EngineFault::Log(Error::EntryCompacted),
         FetchError::EntryNotFound => EngineFault::Log(Error::EntryNotFound),
     }
-}
-
-/// A group's entries from an index on up to another one, which is left out.
-pub(crate) fn fetch<F: FileSystem>(
-    alloc: Global,
-    files: &F,
-    pipe: &SinglePipe,
-    tables: &MemTables,
-    group: u64,
-    begin: u64,
-    end: u64,
-) -> Result<Vec<Vec<u8>>, EngineFault>
-    requires { IsPipe pipe.now (F.disk files.now) }
-    ensures { IfOk result (λ found. AreEntries (seen_on (F.disk files.now) pipe.now tables.now group).entry begin end (payloads found.items)) }
-{
-    let places = match tables.fetch_entries_to(group, begin, end, None) {
-        Ok(places) => places,
-        Err(error) => return Err(fault_of(error)),
-    };
-    if places.len() as u64 != end.saturating_sub(begin) {
-        return Err(EngineFault::Log(Error::EntryNotFound));
-    }
-    copies_of(alloc, files, pipe, &places)
 }

@@ -1,37 +1,56 @@
 //! Writes and reads of an engine.
-ghost use Rattle.std.specs.Prelude.{◌≡◌, true, Err, IfOk, OnOk, OnErr, option_map};
-ghost use Rattle.raft_content_log.specs.Leaving.{AgreesElsewhere, AreEntries, IsWritten, LeavesElsewhere, MayBeWritten};
+ghost use Rattle.std.specs.Prelude.{◌≡◌, ◌++◌, ℕ, List, [], true, false, Err, IfOk, OnOk, OnErr, option_map};
+ghost use Rattle.raft_content_log.specs.Leaving.{AgreesElsewhere, IsWritten, LeavesElsewhere, MayBeWritten};
 ghost use Rattle.raft_log_engine.specs.Left.{IsSound, answers_on, leaves_on};
-ghost use Rattle.raft_log_engine.specs.Reopened.{OpensAs, OpensAsEither, StandsAlone, directories_of_engine};
+ghost use Rattle.raft_log_engine.specs.Reads.{HasRead};
+ghost use Rattle.raft_log_engine.specs.Reopened.{OpensAs, OpensAsEither, OpensAsFront, StandsAlone, directories_of_engine};
+ghost use Rattle.raft_log_engine.specs.Since.{HasWritten, written_batch};
 ghost use Rattle.raft_log_engine.specs.declared.fault.EngineFault.TheVariants.{Stopped};
-ghost use Rattle.raft_log_memtables.specs.Content.{after_batch};
+ghost use Rattle.raft_log_file.specs.Laws.{Batch};
+ghost use Rattle.raft_log_memtables.specs.Content.{Content, after_batch};
 ghost use Rattle.raft_log_records.specs.Batch.{nothing_logged, payloads};
 
-use crate::appending::append_synced;
-use crate::blocks::fetch;
+use crate::appending::append_batch;
+use crate::blocks::{copies_of, fault_of};
 use crate::engine::Engine;
 use crate::fault::EngineFault;
 use crate::writing::{apply, prepare};
 use raft_log_files::FileSystem;
 use raft_log_records::LogBatch;
 
+/// Whether a write wasn't synced, with one more write.
+fn skips_sync(before: bool, sync: bool) -> bool
+    ensures synced { sync ≡ true → result ≡ before }
+    ensures none { result ≡ false → (sync ≡ true) × (before ≡ false) }
+{
+    before || !sync
+}
+
 impl<F: FileSystem + Drop> Engine<F> {
-    /// Writes a batch and syncs it (raft-engine's `write` with `sync`). Before anything is written
-    /// it is refused as `Marked` or `NotTaken`. An empty batch writes nothing. After a refusal by the
-    /// files, or where memory runs out behind the sync, the engine is stopped.
-    pub fn write(&mut self, batch: &mut LogBatch) -> Result<(), EngineFault>
-        ensures ok { IsSound self.old → OnOk result (IsWritten (answers_on F.disk self.new) (leaves_on F.disk self.new) (after_batch batch.old.items (answers_on F.disk self.old))) }
+    /// Writes a batch (raft-engine's `write`), and syncs it where that is asked for. Before anything
+    /// is written it is refused as `Marked` or `NotTaken`. An empty batch writes nothing, but may be
+    /// synced. After a refusal by the files, or where memory runs out behind the append, the engine
+    /// is stopped. Of batches that weren't synced a crash leaves a front.
+    pub fn write(&mut self, batch: &mut LogBatch, sync: bool) -> Result<(), EngineFault>
+        ensures answers { OnOk result (answers_on F.disk self.new ≡ after_batch batch.old.items (answers_on F.disk self.old)) }
+        ensures ok { IsSound self.old → OnOk result (sync ≡ true
+            → IsWritten (answers_on F.disk self.new) (leaves_on F.disk self.new) (after_batch batch.old.items (answers_on F.disk self.old))) }
         ensures err { IsSound self.old → OnErr result (MayBeWritten (IsSound self.new) (answers_on F.disk self.new) (leaves_on F.disk self.new)
             (answers_on F.disk self.old) (after_batch batch.old.items (answers_on F.disk self.old))) }
-        ensures sound { IsSound self.old → OnOk result (IsSound self.new) }
+        ensures sound { IsSound self.old → OnOk result (sync ≡ true → IsSound self.new) }
         ensures paths { self.new.append.paths ≡ self.old.append.paths }
         ensures alone { StandsAlone F.disk self.old → OnOk result (StandsAlone F.disk self.new) }
-        ensures opens { IsSound self.old → StandsAlone F.disk self.old → OnOk result (OpensAs (directories_of_engine self.new) (F.disk self.new.files) (answers_on F.disk self.new)) }
+        ensures opens { StandsAlone F.disk self.old → OnOk result (sync ≡ true → OpensAs (directories_of_engine self.new) (F.disk self.new.files) (answers_on F.disk self.new)) }
         ensures opens_either { IsSound self.old → StandsAlone F.disk self.old → OnErr result (OpensAsEither (directories_of_engine self.new) (F.disk self.new.files)
             (answers_on F.disk self.old) (after_batch batch.old.items (answers_on F.disk self.old))) }
+        ensures written { (before : Content (List ℕ)) (batches : List Batch) → HasWritten F.disk self.old before batches
+            → OnOk result (HasWritten F.disk self.new before (batches ++ written_batch batch.old.items)) }
+        ensures opens_front { (before : Content (List ℕ)) (batches : List Batch) → StandsAlone F.disk self.old → HasWritten F.disk self.old before batches
+            → OpensAsFront (directories_of_engine self.new) (F.disk self.new.files) before (batches ++ written_batch batch.old.items) }
+        ensures all_written { OnOk result (sync ≡ true → HasWritten F.disk self.new (answers_on F.disk self.new) []) }
         ensures emptied { OnOk result (batch.new ≡ nothing_logged) }
         ensures stopped { self.old.is_stopped ≡ true → result ≡ Err Stopped }
-        ensures others { LeavesElsewhere batch.old.items (leaves_on F.disk self.old) (leaves_on F.disk self.new) }
+        ensures others { sync ≡ true → LeavesElsewhere batch.old.items (leaves_on F.disk self.old) (leaves_on F.disk self.new) }
         ensures others_answered { IsSound self.new → IsSound self.old × AgreesElsewhere batch.old.items (answers_on F.disk self.new) (answers_on F.disk self.old) }
     {
         if self.is_stopped {
@@ -39,11 +58,14 @@ impl<F: FileSystem + Drop> Engine<F> {
         }
         if batch.is_empty() {
             let _ = batch.drain();
+            if sync {
+                return self.sync();
+            }
             return Ok(());
         }
         let items = prepare(self.alloc, &self.tables, batch)?;
         let block = batch.entries_block();
-        let written = match append_synced(&mut self.files, &mut self.append, batch) {
+        let written = match append_batch(&mut self.files, &mut self.append, batch, sync) {
             Ok(written) => written,
             Err(error) => {
                 self.is_stopped = true;
@@ -54,7 +76,36 @@ impl<F: FileSystem + Drop> Engine<F> {
             self.is_stopped = true;
             return Err(fault);
         }
+        self.wrote_unsynced = skips_sync(self.wrote_unsynced, sync);
         let _ = batch.drain();
+        Ok(())
+    }
+
+    /// Brings what was written onto the disk (raft-engine's `sync`). Where each write was synced
+    /// there is nothing to do. After a refusal the engine is stopped.
+    pub fn sync(&mut self) -> Result<(), EngineFault>
+        ensures answers { OnOk result (answers_on F.disk self.new ≡ answers_on F.disk self.old) }
+        ensures sound { IsSound self.old → self.new ≡ self.old }
+        ensures paths { self.new.append.paths ≡ self.old.append.paths }
+        ensures alone { StandsAlone F.disk self.old → StandsAlone F.disk self.new }
+        ensures opens { StandsAlone F.disk self.old → OnOk result (OpensAs (directories_of_engine self.new) (F.disk self.new.files) (answers_on F.disk self.new)) }
+        ensures written { (before : Content (List ℕ)) (batches : List Batch) → HasWritten F.disk self.old before batches → HasWritten F.disk self.new before batches }
+        ensures opens_front { (before : Content (List ℕ)) (batches : List Batch) → StandsAlone F.disk self.old → HasWritten F.disk self.old before batches
+            → OpensAsFront (directories_of_engine self.new) (F.disk self.new.files) before batches }
+        ensures all_written { OnOk result (HasWritten F.disk self.new (answers_on F.disk self.new) []) }
+        ensures flag { self.new.wrote_unsynced ≡ self.old.wrote_unsynced }
+        ensures stopped { self.old.is_stopped ≡ true → result ≡ Err Stopped }
+    {
+        if self.is_stopped {
+            return Err(EngineFault::Stopped);
+        }
+        if !self.wrote_unsynced {
+            return Ok(());
+        }
+        if let Err(error) = self.append.sync(&mut self.files) {
+            self.is_stopped = true;
+            return Err(EngineFault::Log(error));
+        }
         Ok(())
     }
 
@@ -73,28 +124,27 @@ impl<F: FileSystem + Drop> Engine<F> {
     }
 
     /// A group's entries from an index on up to another one, which is left out (raft-engine's
-    /// `fetch_entries_to`). Refused where one of them isn't there, also of a group that isn't.
+    /// `fetch_entries_to`). With a size in bytes they end before the entry that would pass it, but
+    /// one at least is given. Refused where the range begins before the first entry or ends past the
+    /// last one. A group that isn't there has none.
     pub fn fetch_entries_to(
         &self,
         group: u64,
         begin: u64,
         end: u64,
+        max_size: Option<u64>,
     ) -> Result<Vec<Vec<u8>>, EngineFault>
-        ensures found { IfOk result (λ found. AreEntries (answers_on F.disk self.now group).entry begin end (payloads found.items)) }
+        ensures found { IfOk result (λ found. HasRead (answers_on F.disk self.now group) begin end max_size (payloads found.items)) }
         ensures stopped { self.now.is_stopped ≡ true → result ≡ Err Stopped }
     {
         if self.is_stopped {
             return Err(EngineFault::Stopped);
         }
-        fetch(
-            self.alloc,
-            &self.files,
-            &self.append,
-            &self.tables,
-            group,
-            begin,
-            end,
-        )
+        let places = match self.tables.fetch_entries_to(group, begin, end, max_size) {
+            Ok(places) => places,
+            Err(error) => return Err(fault_of(error)),
+        };
+        copies_of(self.alloc, &self.files, &self.append, &places)
     }
 
     /// Whether the engine has something of a group (own).

@@ -44,7 +44,7 @@ impl<F: FileSystem + Drop> Engine<F> {
         }
         let mut batch = compaction_of(self.alloc, group, index)?;
         let count = self.tables.count_before(group, index);
-        self.write(&mut batch)?;
+        self.write(&mut batch, true)?;
         Ok(count)
     }
 }

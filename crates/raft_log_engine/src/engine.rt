@@ -1,7 +1,9 @@
 //! An engine over one queue of files.
-ghost use Rattle.std.specs.Prelude.{◌≡◌, ◌<◌, false, length, map, string_bytes, IfOk};
+ghost use Rattle.std.specs.Prelude.{◌≡◌, ◌<◌, [], length, map, string_bytes, IfOk};
 ghost use Rattle.raft_log_engine.specs.Held.{seen_on};
+ghost use Rattle.raft_log_engine.specs.Left.{IsSound};
 ghost use Rattle.raft_log_engine.specs.Reopened.{StandsAlone};
+ghost use Rattle.raft_log_engine.specs.Since.{HasWritten};
 ghost use Rattle.raft_log_pipe.specs.Alone.{AreDistinct, IsVacant};
 ghost use Rattle.raft_log_memtables.specs.Content.{nothing};
 ghost use Rattle.raft_log_pipe.specs.Pipe.{IsLast, IsPlain};
@@ -25,6 +27,8 @@ pub struct Engine<F: FileSystem> {
     pub(crate) tables: MemTables,
     /// A write failed.
     pub(crate) is_stopped: bool,
+    /// A write wasn't synced, since the engine was opened.
+    pub(crate) wrote_unsynced: bool,
 }
 
 impl<F: FileSystem> Model for Engine<F> {
@@ -36,9 +40,9 @@ impl<F: FileSystem> Model for Engine<F> {
 
     ghost coded = { Prim.hlevel (codes, the_row.coded) };
 
-    ghost view = { λ e. record { files = e.files; append = e.append; tables = e.tables; is_stopped = e.is_stopped } };
+    ghost view = { λ e. record { files = e.files; append = e.append; tables = e.tables; is_stopped = e.is_stopped; wrote_unsynced = e.wrote_unsynced } };
 
-    ghost invariant = { λ e. IsEngine (F.disk e.files) e.append e.tables e.is_stopped };
+    ghost invariant = { λ e. IsEngine (F.disk e.files) e.append e.tables e.is_stopped e.wrote_unsynced };
 }
 
 impl<F: FileSystem + Drop> Engine<F> {
@@ -53,7 +57,8 @@ impl<F: FileSystem + Drop> Engine<F> {
         requires paths { 0 < length paths.items }
         requires plain { IsPlain format }
         requires none { IsLast (F.disk files) paths.items Append 0 }
-        ensures sound { IfOk result (λ e. e.is_stopped ≡ false) }
+        ensures sound { IfOk result IsSound }
+        ensures written { IfOk result (λ e. HasWritten F.disk e nothing []) }
         ensures answers { IfOk result (λ e. seen_on (F.disk e.files) e.append e.tables ≡ nothing) }
         ensures alone { IfOk result (λ e. AreDistinct (map string_bytes paths.items) → IsVacant (F.disk files).names (map string_bytes paths.items) Append → StandsAlone F.disk e) }
     {
@@ -71,6 +76,7 @@ impl<F: FileSystem + Drop> Engine<F> {
             append,
             tables: MemTables::new(alloc),
             is_stopped: false,
+            wrote_unsynced: false,
         })
     }
 }

@@ -6,7 +6,7 @@
 use crate::engine::Engine;
 use crate::fault::EngineFault;
 use raft_content_log::ContentLog;
-use raft_log_files::{FileSystem, MemoryFileSystem};
+use raft_log_files::{Error, FileSystem, MemoryFileSystem};
 use raft_log_records::LogBatch;
 
 impl ContentLog for Engine<MemoryFileSystem> {
@@ -21,7 +21,7 @@ impl ContentLog for Engine<MemoryFileSystem> {
     ghost leaves = { λ e content. leaves_on ⟦<MemoryFileSystem as FileSystem>⟧.disk e content };
 
     fn write(&mut self, batch: &mut LogBatch) -> Result<(), EngineFault> {
-        self.write(batch)
+        Engine::write(self, batch, true)
     }
 
     fn get(&mut self, group: u64, key: &[u8]) -> Result<Option<Vec<u8>>, EngineFault> {
@@ -34,7 +34,11 @@ impl ContentLog for Engine<MemoryFileSystem> {
         begin: u64,
         end: u64,
     ) -> Result<Vec<Vec<u8>>, EngineFault> {
-        Engine::fetch_entries_to(self, group, begin, end)
+        let found = Engine::fetch_entries_to(self, group, begin, end, None)?;
+        if found.len() as u64 != end.saturating_sub(begin) {
+            return Err(EngineFault::Log(Error::EntryNotFound));
+        }
+        Ok(found)
     }
 
     fn is_there(&mut self, group: u64) -> Result<bool, EngineFault> {

@@ -1,8 +1,11 @@
 //! Opening an engine with the files that are there.
-ghost use Rattle.std.specs.Prelude.{◌≡◌, IfOk, IfErr, OnErr};
+ghost use Rattle.std.specs.Prelude.{◌≡◌, ℕ, List, [], IfOk, IfErr, OnErr};
 ghost use Rattle.raft_log_engine.specs.Left.{IsSound, answers_on};
 ghost use Rattle.raft_log_engine.specs.Opening.{IsFoundContent, IsLeftByOpening, IsRecoveredAs};
-ghost use Rattle.raft_log_engine.specs.Reopened.{OpensAs, StandsAlone, directories_of_engine};
+ghost use Rattle.raft_log_engine.specs.Reopened.{OpensAs, OpensAsFront, StandsAlone, directories_of_engine};
+ghost use Rattle.raft_log_engine.specs.Since.{HasWritten};
+ghost use Rattle.raft_log_file.specs.Laws.{Batch};
+ghost use Rattle.raft_log_memtables.specs.Content.{Content};
 ghost use Rattle.raft_log_pipe.specs.Alone.{IsAlone, IsOnce, directories_of_pipe};
 ghost use Rattle.raft_log_records.specs.declared.file_id.LogQueue.TheVariants.{Append};
 ghost use Rattle.raft_log_files.specs.Settings.{settings_of};
@@ -70,6 +73,7 @@ impl<F: FileSystem + Drop> Engine<F> {
         ensures answers { IfOk result (λ e. IsFoundContent config.recovery_mode (directories_of (settings_of config)) (F.disk files) (answers_on F.disk e)) }
         ensures directories { IfOk result (λ e. directories_of_engine e ≡ directories_of (settings_of config)) }
         ensures alone { IfOk result (λ e. IsOnce (F.disk files).names (directories_of (settings_of config)) Append → StandsAlone F.disk e) }
+        ensures written { IfOk result (λ e. HasWritten F.disk e (answers_on F.disk e) []) }
         ensures opens { IfOk result (λ e. StandsAlone F.disk e → OpensAs (directories_of_engine e) (F.disk e.files) (answers_on F.disk e)) }
         ensures err { IfErr result (λ refused. IsLeftByOpening (directories_of (settings_of config)) (F.disk files) (F.disk refused.files)) }
     {
@@ -80,17 +84,24 @@ impl<F: FileSystem + Drop> Engine<F> {
                 append,
                 tables,
                 is_stopped: false,
+                wrote_unsynced: false,
             }),
             Err(fault) => Err(NotOpened { fault, files }),
         }
     }
 
-    /// The files, handed back (raft-engine's `close`, which has nothing to write). An engine is
-    /// opened again with them.
-    pub fn close(self) -> F
-        ensures files { result ≡ self.files }
+    /// The files, handed back (raft-engine's `close`). The last one is cut behind its last record and
+    /// synced, but where a write failed before. A refusal is passed over: an opening finds the same
+    /// then, unless a write wasn't synced. An engine is opened again with them.
+    pub fn close(mut self) -> F
         ensures opens { IsSound self → StandsAlone F.disk self → OpensAs (directories_of_engine self) (F.disk result) (answers_on F.disk self) }
+        ensures opens_front { (before : Content (List ℕ)) (batches : List Batch) → StandsAlone F.disk self → HasWritten F.disk self before batches
+            → OpensAsFront (directories_of_engine self) (F.disk result) before batches }
     {
+        if self.is_stopped {
+            return self.files;
+        }
+        let _ = self.append.close(&mut self.files);
         self.files
     }
 }

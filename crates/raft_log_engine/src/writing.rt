@@ -6,8 +6,8 @@ ghost use Rattle.raft_log_memtables.specs.Content.{after_batch};
 ghost use Rattle.raft_log_memtables.specs.MemTable.{batch_items};
 ghost use Rattle.raft_log_memtables.specs.MemTables.{content_in};
 ghost use Rattle.raft_log_pipe.specs.Pipe.{IsPopulated};
-ghost use Rattle.raft_log_records.specs.Item.{items_of, with_bytes};
-ghost use Rattle.raft_log_records.specs.Spelling.{AreItems, block_of, holds_mark};
+ghost use Rattle.raft_log_records.specs.Item.{items_of, with_bytes, with_lengths};
+ghost use Rattle.raft_log_records.specs.Spelling.{AreItems, block_of, holds_mark, lengths};
 ghost use Rattle.raft_log_records.specs.declared.block.EntriesBlock.{EntriesBlock};
 ghost use Rattle.raft_log_records.specs.declared.file_id.FileBlockHandle.{FileBlockHandle};
 
@@ -31,6 +31,7 @@ pub(crate) fn prepare(
     ensures populated { OnOk result (IsPopulated batch.new) }
     ensures items { OnOk result (AreItems batch.new.items) }
     ensures read { IfOk result (λ read. with_bytes (block_of batch.old.items) (items_of read.items.items) ≡ batch.old.items) }
+    ensures lengths { IfOk result (λ read. with_lengths (items_of read.items.items) ≡ lengths batch.old.items) }
 {
     if batch.holds_mark() {
         return Err(EngineFault::Marked);

@@ -3,8 +3,12 @@
 
 mod batches;
 mod calls;
+mod damage;
+mod messages;
 mod reopening;
 mod rows;
+mod scans;
+mod stops;
 
 use raft_rows::run;
 use rows::Calls;

@@ -1,36 +1,52 @@
 //! Engines whose files are opened again, as after a stop of the machine.
 
-use crate::calls::{Told, steps_on};
+use crate::calls::{Told, steps_on, told_at};
 use raft_log_disk::{CrashChoice, CrashFiles};
 use raft_log_engine::{Engine, EngineFault};
-use raft_log_files::{Config, Error, IoFault, MemoryFileSystem};
+use raft_log_files::{Config, Error, IoFault, MemoryFileSystem, RecoveryMode};
 use raft_log_records::ReadableSize;
 use std::alloc::{AllocError, Global};
 
 /// What the steps before a stop told, and those behind it.
 pub type Both = (Vec<Told>, Vec<Told>);
 
-fn config_of(alloc: Global, target_size: u64) -> Result<Config, AllocError> {
-    let mut config = Config::default(alloc);
-    config.dir = String::from_str(alloc, "main")?;
-    config.target_file_size = ReadableSize(target_size);
-    Ok(config)
+/// The mode of a word: `any`, `none` or `tail`.
+fn mode_of(word: &str) -> RecoveryMode {
+    match word {
+        "any" => RecoveryMode::TolerateAnyCorruption,
+        "none" => RecoveryMode::AbsoluteConsistency,
+        _ => RecoveryMode::TolerateTailCorruption,
+    }
 }
 
-fn opened(
+/// The engine over files in the directory `main`, opened in the mode of a word.
+pub(crate) fn opened_as(
     files: MemoryFileSystem,
     alloc: Global,
     target_size: u64,
+    mode: &str,
 ) -> Result<Engine<MemoryFileSystem>, EngineFault> {
-    match Engine::open(files, alloc, config_of(alloc, target_size)?) {
+    let config = config_of(alloc, target_size, mode)?;
+    match Engine::open(files, alloc, config) {
         Ok(engine) => Ok(engine),
         Err(refused) => Err(refused.fault),
     }
 }
 
-/// The files after a stop: closed, or with the least or the most that a crash may leave.
-fn stopped(engine: Engine<MemoryFileSystem>, how: &str) -> Result<MemoryFileSystem, EngineFault> {
-    let mut files = engine.close();
+/// The settings of an engine in the directory `main`.
+pub(crate) fn config_of(alloc: Global, target_size: u64, mode: &str) -> Result<Config, AllocError> {
+    let mut config = Config::default(alloc);
+    config.dir = String::from_str(alloc, "main")?;
+    config.target_file_size = ReadableSize(target_size);
+    config.recovery_mode = mode_of(mode);
+    Ok(config)
+}
+
+/// The files after a stop: as they are, or with the least or the most that a crash may leave.
+pub(crate) fn crashed(
+    mut files: MemoryFileSystem,
+    how: &str,
+) -> Result<MemoryFileSystem, EngineFault> {
     let crashed = match how {
         "least" => files.crash(&CrashChoice::Least),
         "most" => files.crash(&CrashChoice::Most),
@@ -40,6 +56,16 @@ fn stopped(engine: Engine<MemoryFileSystem>, how: &str) -> Result<MemoryFileSyst
         Ok(()) => Ok(files),
         Err(_) => Err(EngineFault::Log(Error::from(IoFault::Refused))),
     }
+}
+
+/// The files of an engine after a stop: handed back by `close` where the word is `closed`, and by
+/// `abandon` before a crash.
+fn stopped(engine: Engine<MemoryFileSystem>, how: &str) -> Result<MemoryFileSystem, EngineFault> {
+    let files = match how {
+        "closed" => engine.close(),
+        _ => engine.abandon(),
+    };
+    crashed(files, how)
 }
 
 /// How many steps come before the stop.
@@ -59,11 +85,28 @@ pub fn reopened(
     words: &[&str],
 ) -> Result<Both, EngineFault> {
     let stop = steps_before(words);
-    let mut engine = opened(MemoryFileSystem::new(alloc), alloc, target_size)?;
+    let mut engine = opened_as(MemoryFileSystem::new(alloc), alloc, target_size, "tail")?;
     let first = steps_on(&mut engine, alloc, words.get(..stop).unwrap_or(&[]))?;
     let files = stopped(engine, how)?;
-    let mut engine = opened(files, alloc, target_size)?;
+    let mut engine = opened_as(files, alloc, target_size, "tail")?;
     let behind = stop.saturating_add(1);
     let second = steps_on(&mut engine, alloc, words.get(behind..).unwrap_or(&[]))?;
     Ok((first, second))
+}
+
+/// Opens an engine without files and takes all steps. At the words `stop:closed`, `stop:least` and
+/// `stop:most` it is opened again.
+pub fn run_of(alloc: Global, target_size: u64, words: &[&str]) -> Result<Vec<Told>, EngineFault> {
+    let mut engine = opened_as(MemoryFileSystem::new(alloc), alloc, target_size, "tail")?;
+    let mut all = Vec::new(alloc);
+    for word in words {
+        match word.strip_prefix("stop:") {
+            Some(how) => {
+                let files = stopped(engine, how)?;
+                engine = opened_as(files, alloc, target_size, "tail")?;
+            }
+            None => all.push(told_at(&mut engine, alloc, word))?,
+        }
+    }
+    Ok(all)
 }

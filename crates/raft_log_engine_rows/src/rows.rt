@@ -5,7 +5,9 @@ ghost use Rattle.raft_log_disk.specs.MemorySystem.{disk_in};
 ghost use Rattle.raft_log_pipe.specs.Pipe.{IsLast};
 
 use crate::calls::{Told, steps_on};
-use crate::reopening::reopened;
+use crate::damage::{Harm, harmed};
+use crate::reopening::{reopened, run_of};
+use crate::stops::{Plan, stops_of};
 use raft_log_engine::{Engine, EngineFault};
 use raft_log_files::{Error, FileSystem, IoFault, LogFileFormat, MemoryFileSystem};
 use raft_log_pipe::Paths;
@@ -58,6 +60,27 @@ fn told(
     Ok(steps_on(&mut engine, alloc, words)?)
 }
 
+/// The byte that a word is, modulo 256.
+fn byte_of(word: &str) -> u8 {
+    (number(word) & 0xff) as u8
+}
+
+/// The answer to a row of damages: the mode, the target size, how many batches there are, and the
+/// number of the file.
+fn harm_row(alloc: Global, bits: Option<u8>, words: &[&str]) -> Option<Answer> {
+    let [mode, target_size, count, seq] = words else {
+        return None;
+    };
+    let harm = Harm {
+        mode,
+        target_size: number(target_size),
+        count: number(count),
+        seq: number(seq),
+        bits,
+    };
+    Some(Answer::shown(alloc, &harmed(alloc, harm)))
+}
+
 impl Rows for Calls {
     fn answer(&mut self, alloc: Global, words: &[&str]) -> Option<Answer> {
         Some(match words {
@@ -67,6 +90,20 @@ impl Rows for Calls {
             ["reopened", how, target_size, steps @ ..] => {
                 Answer::shown(alloc, &reopened(alloc, number(target_size), how, steps))
             }
+            ["stops", how, mode, target_size, count] => {
+                let plan = Plan {
+                    how,
+                    mode,
+                    target_size: number(target_size),
+                    count: number(count),
+                };
+                Answer::shown(alloc, &stops_of(alloc, plan))
+            }
+            ["run", target_size, steps @ ..] => {
+                Answer::shown(alloc, &run_of(alloc, number(target_size), steps))
+            }
+            ["changed", bits, rest @ ..] => harm_row(alloc, Some(byte_of(bits)), rest)?,
+            ["cut", rest @ ..] => harm_row(alloc, None, rest)?,
             _ => return None,
         })
     }

@@ -69,7 +69,7 @@ pub reach_placed : (handle : FileBlockHandle) (es : List EntryIndex) (reach : Op
 reach_placed handle [] reach = refl
 reach_placed handle (e ∷ es) reach = reach_placed handle es (Some (greater_of reach e.index))
 
-apart_number : (a b : ℕ) → nat_eq a b ≡ false → is_eq (nat_cmp a b) ≡ false
+pub apart_number : (a b : ℕ) → nat_eq a b ≡ false → is_eq (nat_cmp a b) ≡ false
 apart_number a b h = by_test (nat_lt a b)
   where
     by_test : (l : Bool) → is_eq (cond l Less (cond (nat_eq a b) Equal Greater)) ≡ false

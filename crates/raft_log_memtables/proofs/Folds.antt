@@ -1,10 +1,10 @@
 -- Folds of items and of records.
-use Rattle.std.proofs.Common.{◌≡◌, ℕ, Bool, cond, List, [], ◌∷◌, ◌++◌, length, Option, Some, None, refl, sym, ap, ◌∙◌, arith, append_assoc, append-nil}
+use Rattle.std.proofs.Common.{◌≡◌, ℕ, Bool, cond, List, [], ◌∷◌, ◌++◌, length, map, Option, Some, None, refl, sym, ap, ◌∙◌, arith, append_assoc, append-nil}
 use Rattle.std.proofs.lemmas.Bool.{eq-eqb}
 use Rattle.raft_log_records.specs.declared.item.AtomicGroupStatus.TheVariants.{Begin, Middle, End}
 use Rattle.raft_log_records.specs.declared.item.AtomicGroupStatus.{AtomicGroupStatus}
 use Rattle.raft_log_records.specs.declared.item.EntryIndex.{EntryIndex}
-use Rattle.raft_log_records.specs.Item.{Change, Item, change_map}
+use Rattle.raft_log_records.specs.Item.{Change, Item, change_map, item_map}
 use Rattle.raft_log_records.specs.Item.Change.{entries, clean, compact, put, delete, mark}
 use Rattle.raft_log_records.specs.declared.file_id.FileBlockHandle.{FileBlockHandle}
 use Rattle.raft_log_memtables.specs.Content.{Content, nothing, after_batch, after_item, reach_after_batch, reach_after_item}
@@ -33,16 +33,15 @@ mark_in_kept f (put key value) o = refl
 mark_in_kept f (delete key) o = refl
 mark_in_kept f (mark id status) o = refl
 
--- where entries lie says nothing of marks
-pub mark_of-placed : (handle : FileBlockHandle) (items : List (Item EntryIndex)) → mark_of (items_in handle items) ≡ mark_of items
-mark_of-placed handle [] = refl
-mark_of-placed handle (item ∷ items) =
-    mark_in_kept (placed_in handle) item.change (mark_of (items_in handle items)) ∙ ap (mark_in item.change) (mark_of-placed handle items)
+-- how entries are seen says nothing of marks
+pub marks_mapped : {E F : Type 0} (f : E → F) (items : List (Item E)) → mark_of (map (item_map f) items) ≡ mark_of items
+marks_mapped f [] = refl
+marks_mapped f (item ∷ items) = mark_in_kept f item.change (mark_of (map (item_map f) items)) ∙ ap (mark_in item.change) (marks_mapped f items)
 
 -- a record is replayed by its mark
 pub marked : {S : Type 0} (step : List (Item EntryIndex) → S → S) (handle : FileBlockHandle) (items : List (Item EntryIndex)) (m : Option (ℕ × AtomicGroupStatus)) (r : Replay EntryIndex S) → mark_of items ≡ m
     → after_marked step (items_in handle items) m r ≡ after_record step (items_in handle items) r
-marked step handle items m r e = ap (λ (x : Option (ℕ × AtomicGroupStatus)). after_marked step (items_in handle items) x r) (sym e ∙ sym (mark_of-placed handle items))
+marked step handle items m r e = ap (λ (x : Option (ℕ × AtomicGroupStatus)). after_marked step (items_in handle items) x r) (sym e ∙ sym (marks_mapped (placed_in handle) items))
 
 -- ---- atomic groups over whole lists of records
 

@@ -1,9 +1,8 @@
 -- What an item does to the memtables of groups.
 use Rattle.std.proofs.Common.{◌≡◌, ℕ, Bool, true, false, cond, Option, Some, None, refl, sym, ap, ◌∙◌}
-use Rattle.std.specs.Prelude.{IsSome, is_some, nat_eq, nat_lt}
-use Rattle.std.specs.declared.cmp.Ordering.TheVariants.{Less, Equal, Greater}
+use Rattle.std.specs.Prelude.{IsSome, is_some, nat_eq}
 use Rattle.std.specs.BTreeMap.{BTreeMap, get, UpdatesBy}
-use Rattle.std.specs.Ordering.{nat_cmp, is_eq}
+use Rattle.std.specs.Ordering.{nat_cmp}
 use Rattle.std.proofs.lemmas.Bool.{eqb-true}
 use Rattle.raft_log_records.specs.declared.item.EntryIndex.{EntryIndex}
 use Rattle.raft_log_records.specs.Item.{Change, change_map}
@@ -12,16 +11,10 @@ use Rattle.raft_log_memtables.specs.declared.memtable.MemTable.{MemTable}
 use Rattle.raft_log_memtables.specs.Content.{GroupContent, Content, no_group, after_change, after_item, reach_after, reach_after_item}
 use Rattle.raft_log_memtables.specs.MemTable.{table_content, only_there, is_clean_of, is_mark_of}
 use Rattle.raft_log_memtables.specs.Tables.{content_by, reach_by, table_at, reach_at, present, IsMade, IsChanged}
+use Rattle.raft_log_memtables.proofs.Cells.{apart_number}
 
 abbrev Tables : Type 0
 Tables = BTreeMap ℕ MemTable
-
-apart : (a b : ℕ) → nat_eq a b ≡ false → is_eq (nat_cmp a b) ≡ false
-apart a b h = by_test (nat_lt a b)
-  where
-    by_test : (l : Bool) → is_eq (cond l Less (cond (nat_eq a b) Equal Greater)) ≡ false
-    by_test true = refl
-    by_test false = ap (λ (x : Bool). is_eq (cond x Equal Greater)) h
 
 -- ---- the memtable of a group is made where it has none
 
@@ -49,7 +42,7 @@ made_table old new group t h u c r =
       there = some_is (get nat_cmp new group) t u.1;
       content = ap content_by u.1 ∙ c ∙ ap present (sym none.0);
       reach = ap reach_by u.1 ∙ r ∙ sym none.1;
-      others = λ other e. u.2 other (apart group other e);
+      others = λ other e. u.2 other (apart_number group other e);
     }
 
 -- ---- a memtable is changed
@@ -59,7 +52,7 @@ pub changed_table : (old new : Tables) (group : ℕ) (t w : MemTable) (change : 
 changed_table old new group t w change h u c r = record {
   content = ap content_by u.1 ∙ c ∙ ap (λ (o : Option MemTable). after_change change (content_by o)) (sym h);
   reach = ap reach_by u.1 ∙ r ∙ ap (λ (o : Option MemTable). reach_after change (reach_by o)) (sym h);
-  others = λ other e. u.2 other (apart group other e);
+  others = λ other e. u.2 other (apart_number group other e);
 }
 
 -- ---- an item
@@ -111,7 +104,7 @@ cleaned_at old new group c other true e u h =
     let both = after_clean c (table_at old other) (reach_at old other) h in
     (ap content_by gone ∙ both.0, ap reach_by gone ∙ both.1)
 cleaned_at old new group c other false e u h =
-    let same = u.2 other (apart group other e) in
+    let same = u.2 other (apart_number group other e) in
     (ap content_by same, ap reach_by same)
 
 pub content_cleaned : (old new : Tables) (group : ℕ) (c : Change EntryIndex) → UpdatesBy nat_cmp (nat_cmp group) old new None → is_clean_of c ≡ true → table_at new ≡ after_item (record { group = group; change = c }) (table_at old)

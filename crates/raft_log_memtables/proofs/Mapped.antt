@@ -8,8 +8,9 @@ use Rattle.raft_log_records.specs.Item.{Change, Item, change_map, item_map}
 use Rattle.raft_log_records.specs.Item.Change.{entries, clean, compact, put, delete, mark}
 use Rattle.raft_log_records.specs.Spelling.{first_index}
 use Rattle.raft_log_memtables.specs.Content.{GroupContent, Content, nothing, entry_at, after_change, after_item, after_batch}
-use Rattle.raft_log_memtables.specs.Replay.{Replay, mark_in, mark_of, begun_with, begun_more, after_end, after_status, after_marked, after_record, after_records}
+use Rattle.raft_log_memtables.specs.Replay.{Replay, mark_of, begun_with, begun_more, after_end, after_status, after_marked, after_record, after_records}
 use Rattle.raft_log_memtables.specs.ContentLaws.{group_map, content_map, MapsContent, MapsReplay}
+use Rattle.raft_log_memtables.proofs.Folds.{marks_mapped}
 
 abbrev run_map : {E F : Type 0} → (E → F) → List (ℕ × E) → List (ℕ × F)
 run_map f es = map (λ e. (e.0, f e.1)) es
@@ -66,18 +67,6 @@ batch_mapped f [] content = refl
 batch_mapped f (item ∷ items) content = ap (after_batch (items_map f items)) (item_mapped f item content) ∙ batch_mapped f items (after_item item content)
 
 -- ---- records
-
-mark_mapped : {E F : Type 0} (f : E → F) (c : Change E) (o : Option (ℕ × AtomicGroupStatus)) → mark_in (change_map f c) o ≡ mark_in c o
-mark_mapped f (entries es) o = refl
-mark_mapped f clean o = refl
-mark_mapped f (compact limit) o = refl
-mark_mapped f (put key value) o = refl
-mark_mapped f (delete key) o = refl
-mark_mapped f (mark id status) o = refl
-
-marks_mapped : {E F : Type 0} (f : E → F) (items : List (Item E)) → mark_of (items_map f items) ≡ mark_of items
-marks_mapped f [] = refl
-marks_mapped f (item ∷ items) = mark_mapped f item.change (mark_of (items_map f items)) ∙ ap (mark_in item.change) (marks_mapped f items)
 
 append_mapped : {E F : Type 0} (f : E → F) (items more : List (Item E)) → items_map f (items ++ more) ≡ items_map f items ++ items_map f more
 append_mapped f [] more = refl

@@ -1,6 +1,7 @@
 -- Which entries a batch may add, and the search for entries behind its items.
 use Rattle.std.proofs.Common.{◌≡◌, ◌≤◌, ◌<◌, ◌-◌, ℕ, Bool, true, false, cond, List, [], ◌∷◌, ◌++◌, Option, Some, None, refl, sym, ap, ◌∙◌, arith, max, min, ◌+◌, suc, length, take, drop, get_or, subst}
 use Rattle.std.specs.Prelude.{nat_eq, nat_le, IsSome, IfSome, IfNone, ◌||◌, ◌&&◌}
+use Rattle.std.specs.Cmp.Derive.{both_true}
 use Rattle.std.specs.List.{list_any}
 use Rattle.std.proofs.lemmas.Bool.{eq-eqb, eqb-true, leb-true, le-leb}
 use Rattle.std.proofs.lemmas.Bool.Decides.{nat_tests}
@@ -23,20 +24,17 @@ abbrev Between : ℕ → Option ℕ → ℕ → Type 0
 Between first None i = first ≤ i
 Between first (Some last) i = (first ≤ i) × (i ≤ last)
 
-both_true : (a b : Bool) → (a && b) ≡ true → (a ≡ true) × (b ≡ true)
-both_true true b h = (refl, h)
-both_true false b h = cc
-
-and_true : (a b : Bool) → a ≡ true → b ≡ true → (a && b) ≡ true
-and_true a b h k = rw (h, k) refl
+parts_of_and : (a b : Bool) → (a && b) ≡ true → (a ≡ true) × (b ≡ true)
+parts_of_and true b h = (refl, h)
+parts_of_and false b h = cc
 
 between : (first : ℕ) (last : Option ℕ) (i : ℕ) → within first last i ≡ true → Between first last i
 between first None i h = leb-true first i h
-between first (Some last) i h = let p = both_true (nat_le first i) (nat_le i last) h in (leb-true first i p.0, leb-true i last p.1)
+between first (Some last) i h = let p = parts_of_and (nat_le first i) (nat_le i last) h in (leb-true first i p.0, leb-true i last p.1)
 
 within_of : (first : ℕ) (last : Option ℕ) (i : ℕ) → Between first last i → within first last i ≡ true
 within_of first None i h = le-leb first i h
-within_of first (Some last) i h = and_true (nat_le first i) (nat_le i last) (le-leb first i h.0) (le-leb i last h.1)
+within_of first (Some last) i h = both_true (le-leb first i h.0) (le-leb i last h.1)
 
 pub has_none : {E : Type 0} (entry : ℕ → Option E) (first : ℕ) (last : Option ℕ) → HasWithin entry first last → NoneWithin entry first last → ⊥
 has_none entry first last h n = none_there (entry h.0) h.2 (n h.0 h.1)

@@ -1,5 +1,5 @@
 -- The log files of a queue in its directories, through the calls of a pipe.
-use Rattle.std.proofs.Common.{◌≡◌, ◌⊎◌, inl, inr, ⊎_elim, ℕ, zero, suc, ◌+◌, ◌<◌, ◌≤◌, max, Bool, true, false, cond, List, [], ◌∷◌, ◌++◌, length, get_or, map, Some, None, refl, sym, ap, subst, ◌∙◌, arith}
+use Rattle.std.proofs.Common.{◌≡◌, ◌⊎◌, inl, inr, ⊎_elim, ℕ, zero, suc, ◌+◌, ◌<◌, ◌≤◌, max, Bool, true, false, cond, List, [], ◌∷◌, ◌++◌, length, get_or, map, Option, Some, None, refl, sym, ap, subst, ◌∙◌, arith}
 use Rattle.std.specs.Prelude.{Result, Ok, Err, OnOk, OnErr, String, Vec}
 use Rattle.std.specs.String.{string_bytes}
 use Rattle.std.specs.List.{AllByRecursion}
@@ -8,6 +8,7 @@ use Rattle.std.proofs.lemmas.List.{append-nil, append_cancel_right, length-map}
 use lib.Pointwise.{bytes_decides}
 use Rattle.raft_log_records.specs.declared.file_id.FileId.{FileId}
 use Rattle.raft_log_records.specs.declared.file_id.LogQueue.{LogQueue}
+use Rattle.raft_log_records.proofs.Sound.{each_push}
 use Rattle.raft_log_disk.specs.declared.fault.IoFault.{IoFault}
 use Rattle.raft_log_disk.specs.Text.{Text, same_text}
 use Rattle.raft_log_disk.specs.Name.{log_file_of}
@@ -36,6 +37,10 @@ same_path false e es path fd same next there = inr (next there)
 pub found_in : (es : Names) (path : Text) (fd : ℕ) → fd_of es path ≡ Some fd → IsIn (path, fd) es
 found_in [] path fd there = absurd cc
 found_in (e ∷ es) path fd there = same_path (same_text e.0 path) e es path fd refl (found_in es path fd) there
+
+pub never_some : (o : Option ℕ) → ((fd : ℕ) → o ≡ Some fd → ⊥) → o ≡ None
+never_some None never = refl
+never_some (Some fd) never = absurd (never fd refl)
 
 -- a path that is there stays where another one is added
 still_step : (t : Bool) (e : Text × ℕ) (es : Names) (other path : Text) (fd n : ℕ) → (fd_of es path ≡ Some fd → fd_of (es ++ (other, n) ∷ []) path ≡ Some fd) → cond t (Some e.1) (fd_of es path) ≡ Some fd
@@ -113,10 +118,6 @@ none_next names directories queue fs some next seq place fd last there numbers s
     let g = last.only seq place fd some s there (omega (arith, below_next fs next some numbers there, is)) in
     omega (arith, below_next fs next g.0 numbers g.1, g.2, is)
 
-all_push : {X : Type 0} (P : X → Type 0) (xs : List X) (x : X) → AllByRecursion P xs → P x → AllByRecursion P (xs ++ x ∷ [])
-all_push P [] x all one = (one, tt)
-all_push P (y ∷ xs) x all one = (all.0, all_push P xs x all.1 one)
-
 -- a file of the next number is the last one now
 module _ (names : Names) (directories : List Text) (queue : LogQueue) (fs : List File) (some f : File) (id : FileId) (last : AreLast names directories queue fs) (there : IsIn some fs) (numbers : AreConsecutive fs f.seq)
     (below : IsFileSeq id.seq) (is : id ≡ id_of queue f.seq) (within : f.path_id < length directories) where
@@ -152,7 +153,7 @@ module _ (names : Names) (directories : List Text) (queue : LogQueue) (fs : List
   last_push free = record {
     next = f.seq + 1;
     numbers = consecutive_push fs f numbers;
-    each = all_push (λ x. StandsAt names_then directories queue x.seq x.path_id x.handle.0) fs f (each_on names directories queue id f.path_id f.handle.0 fs last.each)
+    each = each_push (λ x. StandsAt names_then directories queue x.seq x.path_id x.handle.0) fs f (each_on names directories queue id f.path_id f.handle.0 fs last.each)
         (omega (arith, below, seq_is), within, subst (λ (x : FileId). fd_of names_then (path_in directories f.path_id x) ≡ Some f.handle.0) is (pushed_there names (path_in directories f.path_id id) f.handle.0 free));
     once = record {
       apart = last.once.apart;

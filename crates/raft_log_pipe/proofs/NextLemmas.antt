@@ -18,6 +18,7 @@ use Rattle.raft_log_disk.specs.Name.{file_id_of, log_file_of, queued, suffix_of}
 use Rattle.raft_log_disk.specs.Disk.{Disk, FileState, IsIn, after_create, after_sync, after_write, fd_of, filled, no_bytes, put}
 use Rattle.raft_log_records.specs.declared.version.Version.{Version}
 use Rattle.raft_log_records.specs.declared.version.Version.TheVariants.{V1, V2}
+use Rattle.raft_log_records.proofs.Sound.{each_push}
 use Rattle.raft_log_disk.specs.Format.{header_len, spelled_header}
 use Rattle.raft_log_disk.proofs.DiskLemmas.{other_file, pushed_other, same_file}
 use Rattle.raft_log_files.specs.FileName.{IsFileSeq, log_file_name, suffixed}
@@ -297,10 +298,6 @@ all_next : (n m fd : ℕ) (fs : List File) (f : File) → AllByRecursion (λ x. 
 all_next n m fd [] f all below more = ((omega (arith, below, more), λ e. absurd (omega (arith, below, e))), tt)
 all_next n m fd (g ∷ fs) f all below more = ((omega (arith, all.0.0, more), λ e. absurd (omega (arith, all.0.0, e))), all_next n m fd fs f all.1 below more)
 
-all_push : (n : ℕ) (fs : List File) (f : File) → AllByRecursion (λ x. x.path_id < n) fs → f.path_id < n → AllByRecursion (λ x. x.path_id < n) (fs ++ f ∷ [])
-all_push n [] f all one = (one, tt)
-all_push n (g ∷ fs) f all one = (all.0, all_push n fs f all.1 one)
-
 -- the pipe goes on with a new file
 abbrev pub with_next : SinglePipe → Vec File Global → File → LogFileWriter → SinglePipe
 with_next p older f w = record {
@@ -327,7 +324,7 @@ next_pipe p d e g older f w id pipe is queue same next created begun place =
       numbers = subst (λ (l : List File). AreConsecutive l f.seq) (sym is) (subst (AreConsecutive (p.older.items ++ p.active ∷ [])) (sym next) (consecutive_push p.older.items p.active pipe.numbers));
       last = next_last d e g p.paths.items f id p.queue p.active.seq pipe.last (omega (arith, same, next)) same created change;
       named = subst (λ (x : FileId). IsNamedSo g x f.handle.0) (λ i. record { queue = queue i; seq = same i }) (named_new d e g f id created change);
-      placed = subst (λ (l : List File). AllByRecursion (λ x. x.path_id < length p.paths.items) (l ++ f ∷ [])) (sym is) (all_push (length p.paths.items) (p.older.items ++ p.active ∷ []) f pipe.placed place);
+      placed = subst (λ (l : List File). AllByRecursion (λ x. x.path_id < length p.paths.items) (l ++ f ∷ [])) (sym is) (each_push (λ x. x.path_id < length p.paths.items) (p.older.items ++ p.active ∷ []) f pipe.placed place);
       there = omega (arith, number, created.0);
       apart = subst (λ (l : List File). AllByRecursion (λ x. (x.handle.0 < g.next) × (x.handle.0 ≢ f.handle.0)) l) (sym is)
           (subst (λ n. AllByRecursion (λ x. (x.handle.0 < g.next) × (x.handle.0 ≢ n)) (p.older.items ++ p.active ∷ [])) (sym created.0)

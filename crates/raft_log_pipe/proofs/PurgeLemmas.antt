@@ -4,7 +4,7 @@ use Rattle.std.specs.Prelude.{String, Vec, remove, ◌==◌, ◌&&◌}
 use Rattle.std.specs.String.{string_bytes}
 use Rattle.std.specs.declared.alloc.Global.{Global}
 use Rattle.std.specs.List.{AllByRecursion, list_all}
-use Rattle.std.proofs.lemmas.Bool.{and_parts, eqb-true, lt-ltb, ltb-true}
+use Rattle.std.proofs.lemmas.Bool.{and_parts, eqb-true, le-ltb, lt-ltb, ltb-true}
 use Rattle.std.proofs.lemmas.List.{get_or_default}
 use lib.Pointwise.{bytes_decides}
 use Rattle.raft_log_records.specs.declared.file_id.FileId.{FileId}
@@ -26,6 +26,7 @@ use Rattle.raft_log_pipe.specs.Pipe.{Numbered, numbered, id_of, first_of, AreCon
 use Rattle.raft_log_pipe.proofs.NextLemmas.{some_is}
 use Rattle.raft_log_pipe.specs.Blocks.{files_of}
 use Rattle.raft_log_pipe.proofs.BlockLemmas.{in_last, long_span, older_below}
+use Rattle.raft_log_pipe.proofs.AloneLemmas.{found_in, never_some, with_older}
 
 abbrev Paths : Type 0
 Paths = Vec (String Global) Global
@@ -90,15 +91,6 @@ is_found : (es : Names) (path : Text) (fd : ℕ) → IsIn (path, fd) es → fd_o
 is_found [] path fd there none = there
 is_found (e ∷ es) path fd there none = not_step (same_text e.0 path) e es path fd refl there (is_found es path fd) none
 
-same_path_step : (b : Bool) (e : Text × ℕ) (es : Names) (path : Text) (fd : ℕ) → same_text e.0 path ≡ b → (fd_of es path ≡ Some fd → IsIn (path, fd) es) → cond b (Some e.1) (fd_of es path) ≡ Some fd → IsIn (path, fd) (e ∷ es)
-same_path_step true e es path fd is next found =
-    inl (λ i. (sym ((bytes_decides e.0 path).0 is) i, same_number fd e.1 (sym found) i))
-same_path_step false e es path fd is next found = inr (next found)
-
-found_in : (es : Names) (path : Text) (fd : ℕ) → fd_of es path ≡ Some fd → IsIn (path, fd) es
-found_in [] path fd is = absurd cc
-found_in (e ∷ es) path fd is = same_path_step (same_text e.0 path) e es path fd refl (found_in es path fd) is
-
 -- ---- what is left of the disk
 
 pub same_keeps : (queue : LogQueue) (seq : ℕ) (d e : Disk) → e ≡ d → KeepsFrom queue seq d e
@@ -136,12 +128,8 @@ keeps_on queue a b d e g le one two = record {
   directories = two.directories ∙ one.directories;
 }
 
-none_step : (o : Option ℕ) → ((fd : ℕ) → o ≡ Some fd → ⊥) → o ≡ None
-none_step None never = refl
-none_step (Some fd) never = absurd (never fd refl)
-
 pub none_kept : (queue : LogQueue) (seq : ℕ) (d e : Disk) (path : Text) → KeepsFrom queue seq d e → fd_of d.names path ≡ None → fd_of e.names path ≡ None
-none_kept queue seq d e path keeps none = none_step (fd_of e.names path) (λ fd found. is_found d.names path fd (keeps.files path fd (found_in e.names path fd found)).0 none)
+none_kept queue seq d e path keeps none = never_some (fd_of e.names path) (λ fd found. is_found d.names path fd (keeps.files path fd (found_in e.names path fd found)).0 none)
 
 pub deleted_none : (d e : Disk) (path : Text) → IsNamed d → Deletes d e path → fd_of e.names path ≡ None
 deleted_none d e path named (fd, found, is) = ap (λ (y : Disk). fd_of y.names path) is ∙ without_gone d.names path d.next named
@@ -179,16 +167,9 @@ from-append : (n : ℕ) (xs ys : Numbered) → from_file n (xs ++ ys) ≡ from_f
 from-append n [] ys = refl
 from-append n (x ∷ xs) ys = (λ i. cond (nat_lt x.0 n) (from-append n xs ys i) (x ∷ from-append n xs ys i)) ∙ from_step (nat_lt x.0 n) x (from_file n xs) (from_file n ys)
 
-not_lt : (m n : ℕ) → n ≤ m → nat_lt m n ≡ false
-not_lt m n le = by_test (nat_lt m n) refl
-  where
-    by_test : (b : Bool) → nat_lt m n ≡ b → b ≡ false
-    by_test false is = refl
-    by_test true is = absurd (omega (arith, le, ltb-true m n is))
-
 from_all : (n m : ℕ) (ks : List Batch) → n ≤ m → from_file n (numbered m ks) ≡ numbered m ks
 from_all n m [] le = refl
-from_all n m (k ∷ ks) le = ap (λ b. cond b (from_file n (numbered m ks)) ((m, k) ∷ from_file n (numbered m ks))) (not_lt m n le) ∙ ap (λ (l : Numbered). (m, k) ∷ l) (from_all n m ks le)
+from_all n m (k ∷ ks) le = ap (λ b. cond b (from_file n (numbered m ks)) ((m, k) ∷ from_file n (numbered m ks))) (le-ltb m n le) ∙ ap (λ (l : Numbered). (m, k) ∷ l) (from_all n m ks le)
 
 from_none : (n m : ℕ) (ks : List Batch) → m < n → from_file n (numbered m ks) ≡ []
 from_none n m [] lt = refl
@@ -210,18 +191,6 @@ from_again a b (x ∷ bs) le =
     from_twice (nat_lt x.0 a) (nat_lt x.0 b) x b (from_file a bs) (from_file b bs) (λ is. lt-ltb x.0 b (omega (arith, le, ltb-true x.0 a is))) refl (from_again a b bs le)
 
 -- ---- what is left of the pipe
-
-abbrev pub with_older : SinglePipe → Vec File Global → SinglePipe
-with_older p older = record {
-  alloc = p.alloc;
-  queue = p.queue;
-  paths = p.paths;
-  default_format = p.default_format;
-  target_file_size = p.target_file_size;
-  older = older;
-  active = p.active;
-  writer = p.writer;
-}
 
 -- all batches are there
 pub holds_all : (p : SinglePipe) (d e : Disk) → IsPipe p d → e ≡ d → HoldsRest p d p e

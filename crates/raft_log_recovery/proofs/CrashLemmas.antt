@@ -1,8 +1,8 @@
 -- What an opening finds after a crash is what the crash left of the pipe.
-use Rattle.std.proofs.Common.{◌≡◌, ℕ, ◌+◌, ◌<◌, true, List, [], ◌∷◌, ◌++◌, length, take, refl, sym, ap, subst, ◌∙◌, append_assoc, arith, length-append}
+use Rattle.std.proofs.Common.{◌≡◌, ℕ, ◌<◌, true, List, [], ◌∷◌, ◌++◌, length, take, refl, sym, ap, subst, ◌∙◌, append_assoc, arith, length-append}
 use Rattle.std.proofs.lemmas.List.{append-nil}
 use Rattle.raft_log_records.specs.declared.file_id.LogQueue.{LogQueue}
-use Rattle.raft_log_disk.specs.Disk.{Disk, FileState, IsIn, IsNamed, are_named}
+use Rattle.raft_log_disk.specs.Disk.{Disk, IsNamed, are_named}
 use Rattle.raft_log_disk.specs.Image.{Image}
 use Rattle.raft_log_disk.specs.Text.{Text}
 use Rattle.raft_log_pipe.specs.declared.file.File.{File}

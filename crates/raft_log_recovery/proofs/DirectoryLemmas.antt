@@ -1,5 +1,5 @@
 -- Directories that are made one after the other.
-use Rattle.std.proofs.Common.{◌≡◌, ◌⊎◌, inl, inr, ◌+◌, ◌-◌, ◌^◌, ◌≤◌, min, length, get_or, take, drop, arith, List, [], ◌∷◌, ◌++◌, Result, Ok, Err, sym, ap, subst, ◌∙◌, append_assoc}
+use Rattle.std.proofs.Common.{◌≡◌, inl, inr, ◌+◌, ◌-◌, ◌^◌, ◌≤◌, min, length, get_or, take, drop, arith, List, [], ◌∷◌, ◌++◌, Result, Ok, Err, sym, ap, subst, ◌∙◌, append_assoc}
 use Rattle.std.specs.Prelude.{IsErr, IfErr, OnOk, map}
 use Rattle.std.proofs.lemmas.List.{append-nil, take_all}
 use Rattle.raft_log_disk.specs.Text.{Text}

@@ -1,5 +1,5 @@
 -- What a crash left of a pipe's files is what an opening reads.
-use Rattle.std.proofs.Common.{◌≡◌, ◌⊎◌, inl, inr, ℕ, zero, suc, ◌+◌, ◌<◌, ◌≤◌, cond, eqb, List, [], ◌∷◌, ◌++◌, length, drop, Option, Result, Ok, Err, refl, sym, ap, subst, ◌∙◌, arith, length-drop}
+use Rattle.std.proofs.Common.{◌≡◌, inl, inr, ℕ, zero, suc, ◌+◌, ◌<◌, ◌≤◌, cond, eqb, List, [], ◌∷◌, ◌++◌, length, drop, Option, Result, Ok, Err, refl, sym, ap, ◌∙◌, arith, length-drop}
 use Rattle.std.specs.Int.{w32}
 use Rattle.std.specs.Prelude.{MatchResult}
 use Rattle.raft_log_records.specs.declared.error.RecordFault.{RecordFault}
@@ -20,7 +20,7 @@ use Rattle.raft_log_disk.specs.Disk.{Disk}
 use Rattle.raft_log_disk.specs.Format.{header_at, header_len}
 use Rattle.raft_log_disk.specs.Image.{Image}
 use Rattle.raft_log_file.specs.Laws.{Batch}
-use Rattle.raft_log_file.specs.Reading.{FileBatch, Reading, contents, file_reading, read_from}
+use Rattle.raft_log_file.specs.Reading.{Reading, contents, file_reading, read_from}
 use Rattle.raft_log_file.proofs.WalkLemmas.{Read, from_end, from_fault, from_padding, record_sized}
 use Rattle.raft_log_pipe.specs.declared.file.File.{File}
 use Rattle.raft_log_pipe.specs.Pipe.{FileReads, ImageReads, Numbered, id_of, numbered}

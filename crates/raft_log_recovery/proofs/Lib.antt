@@ -7,6 +7,7 @@ pub mod EndLemmas
 pub mod QueueLemmas
 pub mod TurnLemmas
 pub mod FoundLemmas
+pub mod LengthLemmas
 pub mod SpelledLemmas
 pub mod OpeningLemmas
 pub mod RunLemmas

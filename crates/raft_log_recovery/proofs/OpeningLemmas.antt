@@ -1,5 +1,5 @@
 -- Recovered files are files that a pipe opens, with the batches that were replayed.
-use Rattle.std.proofs.Common.{◌≡◌, inl, inr, ⊎_elim, ℕ, zero, suc, ◌+◌, ◌-◌, ◌<◌, ◌≤◌, true, false, cond, eqb, Bool, List, [], ◌∷◌, ◌++◌, length, get_or, take, drop, map, Option, None, Result, Ok, Err, refl, sym, ap, subst, ◌∙◌, append_assoc, arith, length-append, length-drop, length-take}
+use Rattle.std.proofs.Common.{◌≡◌, inl, inr, ⊎_elim, ℕ, ◌+◌, ◌-◌, ◌<◌, ◌≤◌, true, false, cond, eqb, Bool, List, [], ◌∷◌, ◌++◌, length, get_or, take, drop, map, Option, None, Result, Ok, Err, refl, sym, ap, subst, ◌∙◌, append_assoc, arith, length-append, length-drop}
 use Rattle.std.specs.Prelude.{IfOk, OnErr, String, ◌==◌}
 use Rattle.std.specs.List.{flat_map}
 use Rattle.std.specs.String.{string_bytes}
@@ -10,28 +10,20 @@ use Rattle.std.proofs.lemmas.List.{append-nil, length-map, drop-append-le, drop-
 use Rattle.std.proofs.lemmas.List.Concat.{flat_map-append}
 use Rattle.raft_log_records.specs.declared.file_id.FileId.{FileId}
 use Rattle.raft_log_records.specs.declared.file_id.LogQueue.{LogQueue}
-use Rattle.raft_log_records.specs.declared.error.RecordFault.{RecordFault}
-use Rattle.raft_log_records.specs.declared.version.Version.{Version}
-use Rattle.raft_log_records.specs.declared.version.Version.TheVariants.{V1, V2}
-use Rattle.raft_log_records.specs.Reading.{record_at}
-use Rattle.raft_log_records.proofs.RecordTaken.{record_takes}
-use Rattle.raft_log_disk.specs.declared.format.HeaderFault.{HeaderFault}
-use Rattle.raft_log_disk.specs.Chance.{gap}
 use Rattle.raft_log_disk.specs.Image.{HasImages}
-use Rattle.raft_log_disk.proofs.RecoverableLemmas.{bytes_dropped}
 use Rattle.raft_log_records.specs.Block.{bytes_at}
-use Rattle.raft_log_records.specs.Item.{entry_bytes, with_bytes}
+use Rattle.raft_log_records.specs.Item.{entry_bytes, with_bytes, with_lengths}
 use Rattle.raft_log_records.specs.Signature.{signature_of}
 use Rattle.raft_log_records.specs.Spelling.{sealed, spell_record}
 use Rattle.raft_log_records.proofs.Laid.{any_held}
 use Rattle.raft_log_disk.specs.declared.format.LogFileFormat.{LogFileFormat}
 use Rattle.raft_log_disk.specs.Disk.{AreBytes, Disk, FileState, IsIn, fd_of}
-use Rattle.raft_log_disk.specs.Format.{header_at, header_len, spelled_header}
+use Rattle.raft_log_disk.specs.Format.{header_len, spelled_header}
 use Rattle.raft_log_disk.specs.Text.{Text}
 use Rattle.raft_log_file.specs.Laws.{Batch, file_text, spelled_batches}
-use Rattle.raft_log_file.specs.Reading.{FileBatch, Reading, contents, read_from}
+use Rattle.raft_log_file.specs.Reading.{FileBatch, contents}
 use Rattle.raft_log_file.proofs.HeaderLemmas.{length-header}
-use Rattle.raft_log_file.proofs.UnsyncedLemmas.{each_byte, spelled_long}
+use Rattle.raft_log_file.proofs.UnsyncedLemmas.{each_byte}
 use Rattle.raft_log_pipe.proofs.BlockLemmas.{is_last, of_file-append}
 use Rattle.raft_log_pipe.specs.declared.file.File.{File}
 use Rattle.raft_log_pipe.specs.declared.pipe.SinglePipe.{SinglePipe}
@@ -41,7 +33,6 @@ use Rattle.raft_log_pipe.specs.Found.{KeepsButHeader}
 use Rattle.raft_log_pipe.specs.Found as found
 use Rattle.raft_log_pipe.proofs.PipeLemmas.{file_beside}
 use Rattle.raft_log_pipe.proofs.PurgeLemmas.{same_number}
-use Rattle.raft_log_file.proofs.WalkLemmas.{Read, from_end, from_fault, from_padding}
 use Rattle.raft_log_pipe.specs.Pipe.{AreConsecutive, AreOlder, Holds, IsLast, IsNamedSo, IsOlder, Numbered, id_of, numbered}
 use Rattle.raft_log_recovery.specs.declared.scan.FileName.{FileName}
 use Rattle.raft_log_recovery.specs.Opening.{AnyAligned, AreAllGot, AreGot, IsGot, IsPipeWith, batches_of, said_in}
@@ -50,18 +41,13 @@ use Rattle.raft_log_recovery.specs.Scan.{AreFound}
 use Rattle.raft_log_recovery.specs.declared.scan.FileKind.TheVariants.{Log}
 use Rattle.raft_log_recovery.specs.Repair.{LeavesBatches, batches_in, format_in}
 use Rattle.raft_log_recovery.specs.Replay.{ArePlaced, IsPlaced, Placed}
+use Rattle.raft_log_recovery.proofs.ImageLemmas.{short_bare}
 use Rattle.raft_log_recovery.proofs.FoundLemmas.{found_last, found_numbered, last_found, none_found}
 use Rattle.raft_log_recovery.proofs.QueueLemmas.{file_is, file_named, left_bytes, left_done, open_file_of, whole_batches}
-use Rattle.raft_log_recovery.proofs.ReadLemmas.{IsPadding, padding_cases}
-use Rattle.raft_log_recovery.proofs.RepairLemmas.{batches_by, no_reading, reading_of}
 use Rattle.raft_log_recovery.proofs.ReplayLemmas.{file_fits}
 use Rattle.raft_log_recovery.proofs.SpelledLemmas.{AreInPlace, IsInPlace, IsTextOf, said_by, whole_found, whole_text}
 
 -- ---- one file
-
-header_some : (v : Version) → 61 ≤ header_len v
-header_some V1 = omega arith
-header_some V2 = omega arith
 
 -- a file that a pipe can take over
 pub record IsReady (queue : LogQueue) (old mid : Disk) (f : File) : Type 0 where
@@ -205,6 +191,7 @@ one_got : (queue : LogQueue) (f : File) (bytes rest : List ℕ) (before : Number
     → IsGot queue f before (said_by b) p
 one_got queue f bytes rest before kb at b p fits of place is here placed = record {
   items_are = (λ i. with_bytes (sym here.entries i) (placed.items i));
+  lengths_are = ap with_lengths placed.items ∙ here.lengths_are;
   id = placed.file;
   block = record {
     seq = ap (λ (x : FileId). x.seq) placed.file;
@@ -398,44 +385,6 @@ opened_only directories queue old mid new names fs older active so is change =
 pub recovered_left : (directories : List Text) (queue : LogQueue) (old mid : Disk) (names : List FileName) (fs : List File) → AreRecovered directories queue old mid names fs → AreLeft directories queue names old mid
 recovered_left directories queue old mid names fs so name fd among there rest = left_done directories queue old mid names fs name fd so among there
 
-never_read : (signature : Option ℕ) (bytes : List ℕ) (read : Read) → AreBytes bytes → length bytes < 12 → record_at signature bytes ≡ Ok read → ⊥
-never_read signature bytes read fits short is =
-    let t = record_takes signature bytes read (each_byte bytes fits) is in
-    omega (arith, t.within, ap length t.spelled, length-take read.2 bytes, spelled_long signature (with_bytes read.1 read.0), short)
-
-short_step : (alignment : ℕ) (signature : Option ℕ) (k at : ℕ) (bytes : List ℕ) (r : Result Read RecordFault) → ((to : ℕ) (l : List ℕ) → AreBytes l → length l ≤ k → length l < 12 → (read_from alignment signature to l).batches ≡ []) → AreBytes bytes
-    → 0 < length bytes → length bytes ≤ suc k → length bytes < 12 → record_at signature bytes ≡ r → (read_from alignment signature at bytes).batches ≡ []
-short_step alignment signature k at bytes (Ok read) next fits some long short is = absurd (never_read signature bytes read fits short is)
-short_step alignment signature k at bytes (Err f) next fits some long short is = elim (padding_cases alignment at bytes) [
-  | inl none ↦ ap (λ (r : Reading). r.batches) (from_fault alignment signature at bytes f some is none)
-  | inr p ↦ by_gap p (eqb (gap alignment at) 0) refl
-]
-  where
-    by_gap : IsPadding alignment at bytes → (b : Bool) → eqb (gap alignment at) 0 ≡ b → (read_from alignment signature at bytes).batches ≡ []
-    by_gap p true e = ap (λ (r : Reading). r.batches) (from_fault alignment signature at bytes f some is (p.is_gap ∙ eqb-true (gap alignment at) 0 e))
-    by_gap p false e =
-        let any : gap alignment at ≡ 0 → ⊥ = eqb-false (gap alignment at) 0 e in
-        let n : ℕ = gap alignment at in
-        ap (λ (r : Reading). r.batches) (from_padding alignment signature at bytes f some is (λ none. any (sym p.is_gap ∙ none)) ∙ ap (λ j. read_from alignment signature (at + j) (drop j bytes)) p.is_gap)
-        ∙ next (at + n) (drop n bytes) (bytes_dropped n bytes fits) (omega (arith, length-drop n bytes, any, long)) (omega (arith, length-drop n bytes, short))
-
-short_read : (alignment : ℕ) (signature : Option ℕ) (k at : ℕ) (bytes : List ℕ) → AreBytes bytes → length bytes ≤ k → length bytes < 12 → (read_from alignment signature at bytes).batches ≡ []
-short_read alignment signature k at [] fits long short = ap (λ (r : Reading). r.batches) (from_end alignment signature at [] refl)
-short_read alignment signature zero at (b ∷ bytes) fits long short = absurd (omega (arith, long))
-short_read alignment signature (suc k) at (b ∷ bytes) fits long short =
-    short_step alignment signature k at (b ∷ bytes) (record_at signature (b ∷ bytes)) (λ to l few less brief. short_read alignment signature k to l few less brief) fits (omega arith) long short refl
-
--- no more than a header has no batches
-short_batches : (id : FileId) (bytes : List ℕ) → AreBytes bytes → length bytes ≤ 69 → batches_in id bytes ≡ []
-short_batches id bytes fits short = by_header (header_at bytes) refl
-  where
-    by_header : (r : Result LogFileFormat HeaderFault) → header_at bytes ≡ r → batches_in id bytes ≡ []
-    by_header (Err e) is = ap batches_by (no_reading id bytes e is)
-    by_header (Ok format) is =
-        let hl : ℕ = header_len format.version in
-        ap batches_by (reading_of id bytes format is)
-        ∙ short_read format.alignment (signature_of format.version id.seq) (length (drop hl bytes)) hl (drop hl bytes) (bytes_dropped hl bytes fits) (omega arith) (omega (arith, length-drop hl bytes, short, header_some format.version))
-
 -- the header of a file without bytes was perhaps begun
 pub opened_left : (directories : List Text) (queue : LogQueue) (old mid new : Disk) (names : List FileName) (fs : List File) → AreRecovered directories queue old mid names fs → KeepsButHeader mid new fs → AreLeft directories queue names old new
 opened_left directories queue old mid new names fs so (inl same) name fd among there rest =
@@ -452,7 +401,7 @@ opened_left directories queue old mid new names fs so (inr (older, active, is, b
         let here : fd ≡ active.handle.0 = eqb-true fd active.handle.0 same in
         let few : (new.file fd).greatest ≤ 69 = omega (arith, short, ap (λ n. (new.file n).greatest) here) in
         let none : (mid.file fd).bytes ≡ [] = ap (λ n. (mid.file n).bytes) here ∙ bare in
-        short_batches (id_of queue name.seq) bytes image.fits (omega (arith, image.no_longer, few))
+        short_bare (id_of queue name.seq) bytes (omega (arith, image.no_longer, few))
         ∙ sym (left_bytes directories queue old mid names fs name fd so among there ∙ ap (batches_in (id_of queue name.seq)) none)
 
 -- ---- what an opening answers

@@ -1,15 +1,14 @@
 -- Files of a queue that are recovered one after the other.
-use Rattle.std.proofs.Common.{◌≡◌, ◌≢◌, ◌⊎◌, inl, inr, ⊎_elim, ℕ, suc, ◌+◌, ◌<◌, ◌≤◌, Bool, true, false, cond, List, [], ◌∷◌, ◌++◌, length, get_or, take, drop, Some, None, Result, Ok, Err, refl, sym, ap, subst, ◌∙◌, append_assoc, arith, drop-cons, length-append, length-take, take-append-drop}
+use Rattle.std.proofs.Common.{◌≡◌, ◌≢◌, ◌⊎◌, inl, inr, ⊎_elim, ℕ, suc, ◌+◌, ◌<◌, ◌≤◌, Bool, true, false, List, [], ◌∷◌, ◌++◌, length, get_or, take, drop, Some, None, Result, Ok, Err, refl, sym, ap, subst, ◌∙◌, append_assoc, arith, drop-cons, length-append, length-take, take-append-drop}
 use Rattle.std.specs.Prelude.{MatchResult, ◌==◌}
 use Rattle.std.specs.List.{AllByRecursion}
 use Rattle.std.proofs.lemmas.Bool.{cases_lt, eq-eqb, eqb-true, eqb-false, ne_eqb}
 use Rattle.std.proofs.lemmas.List.{append-nil, take_more}
-use lib.Pointwise.{bytes_decides}
 use Rattle.raft_log_records.specs.declared.file_id.FileId.{FileId}
 use Rattle.raft_log_records.specs.declared.file_id.LogQueue.{LogQueue}
 use Rattle.raft_log_records.proofs.Sound.{each_push}
 use Rattle.raft_log_disk.specs.declared.format.HeaderFault.{HeaderFault}
-use Rattle.raft_log_disk.specs.Text.{Text, same_text}
+use Rattle.raft_log_disk.specs.Text.{Text}
 use Rattle.raft_log_disk.specs.Disk.{AreBytes, Disk, FileState, IsIn, IsNamed, IsNoFile, fd_of, with_file}
 use Rattle.raft_log_disk.proofs.DiskLemmas.{number_in, still_is_left}
 use Rattle.raft_log_files.specs.declared.error.CorruptionFault.{CorruptionFault}

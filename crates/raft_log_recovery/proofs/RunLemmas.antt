@@ -1,11 +1,10 @@
 -- The files that an opening finds are the last ones of the queue, and no others are.
-use Rattle.std.proofs.Common.{◌≡◌, ◌≢◌, ◌⊎◌, inl, inr, ⊎_elim, ℕ, zero, suc, ◌+◌, ◌-◌, ◌^◌, ◌<◌, ◌≤◌, Bool, true, false, cond, eqb, List, [], ◌∷◌, ◌++◌, length, get_or, drop, Option, Some, None, refl, sym, ap, subst, ◌∙◌, arith, length-drop}
+use Rattle.std.proofs.Common.{◌≡◌, ◌≢◌, ◌⊎◌, inl, inr, ⊎_elim, ℕ, zero, suc, ◌+◌, ◌-◌, ◌^◌, ◌<◌, ◌≤◌, Bool, true, false, cond, List, [], ◌∷◌, ◌++◌, length, get_or, drop, Option, Some, None, refl, sym, ap, subst, ◌∙◌, arith, length-drop}
 use Rattle.std.specs.Prelude.{◌==◌, is_some, option_to_list}
-use Rattle.std.specs.List.{AllByRecursion, Contains, cons_option}
+use Rattle.std.specs.List.{AllByRecursion, cons_option}
 use Rattle.std.specs.List.Sorted.{IsPermutation}
 use Rattle.std.specs.Option.{option_map}
 use Rattle.std.proofs.lemmas.Bool.{cases_lt, eq-eqb, eqb-true}
-use Rattle.std.proofs.lemmas.List.{length-map}
 use Rattle.std.proofs.lemmas.List.Recursion.{is_sum_by}
 use Rattle.std.proofs.lemmas.List.Sorted.{Contains-permutation, IsPermutation-sym, sum_by-IsPermutation}
 use lib.Pointwise.{bytes_decides}
@@ -19,13 +18,13 @@ use Rattle.raft_log_files.specs.FileName.{IsFileSeq, log_file_name}
 use Rattle.raft_log_pipe.specs.declared.file.File.{File}
 use Rattle.raft_log_pipe.specs.Alone.{AreLast, IsOnce, IsVacant, Names, StandsAt}
 use Rattle.raft_log_pipe.specs.Pipe.{AreConsecutive, id_of}
-use Rattle.raft_log_pipe.proofs.AloneLemmas.{below_next, found_in, in_either, in_first, in_second}
+use Rattle.raft_log_pipe.proofs.AloneLemmas.{below_next, found_in, in_either, in_first, in_second, never_some}
 use Rattle.raft_log_pipe.proofs.PipeLemmas.{in_all}
 use Rattle.raft_log_pipe.proofs.PurgeLemmas.{same_number}
 use Rattle.raft_log_recovery.specs.declared.scan.FileKind.{FileKind}
 use Rattle.raft_log_recovery.specs.declared.scan.FileKind.TheVariants.{Log}
 use Rattle.raft_log_recovery.specs.declared.scan.FileName.{FileName}
-use Rattle.raft_log_recovery.specs.Queue.{AreNumbered, AreOpen, IsOpen}
+use Rattle.raft_log_recovery.specs.Queue.{AreNumbered, AreOpen}
 use Rattle.raft_log_recovery.specs.Scan.{AreFound, AreInDirectories, files_named, seq_at, seq_in}
 use Rattle.raft_log_recovery.proofs.FoundLemmas.{contained, found_numbered, in_contained, in_files, in_listed, last_found, name_slash, number_named}
 use Rattle.raft_log_recovery.proofs.ScanLemmas.{named_so}
@@ -176,10 +175,6 @@ directories_none d queue n place (directory ∷ directories) found (names, other
 abbrev IsInOne : Disk → LogQueue → ℕ → List Text → Type 0
 IsInOne d queue n directories = (i j fd gd : ℕ) → i < length directories → j < length directories → fd_of d.names (file_path (get_or directories i []) queue n) ≡ Some fd → fd_of d.names (file_path (get_or directories j []) queue n) ≡ Some gd → i ≡ j
 
-none_or : (o : Option ℕ) → ((fd : ℕ) → o ≡ Some fd → ⊥) → o ≡ None
-none_or None none = refl
-none_or (Some fd) none = absurd (none fd refl)
-
 directories_once : (d : Disk) (next : ℕ) (queue : LogQueue) (n place : ℕ) (directories : List Text) (found : List FileName) → are_named d.names next ≡ true → AreInDirectories d (Log queue) place directories found
     → IsInOne d queue n directories → tally n found ≤ 1
 directories_once d next queue n place [] found named is one = omega (arith, ap (tally n) is)
@@ -195,7 +190,7 @@ directories_once d next queue n place (directory ∷ directories) found named (n
           found_tally d queue n place directory names others found same is,
           listed_once d.names next directory queue n named,
           directories_none d queue n (place + 1) directories others rest
-              (λ j within. none_or (fd_of d.names (file_path (get_or directories j []) queue n)) (λ gd other. absurd (omega (arith, one 0 (suc j) fd gd (omega arith) (omega (arith, within)) there other)))),
+              (λ j within. never_some (fd_of d.names (file_path (get_or directories j []) queue n)) (λ gd other. absurd (omega (arith, one 0 (suc j) fd gd (omega arith) (omega (arith, within)) there other)))),
         )
 
 -- ---- what is found stands there

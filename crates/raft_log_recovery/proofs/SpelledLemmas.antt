@@ -5,11 +5,11 @@ use Rattle.std.proofs.lemmas.List.{append-nil}
 use Rattle.raft_log_records.specs.declared.error.RecordFault.{RecordFault}
 use Rattle.raft_log_records.specs.declared.file_id.FileId.{FileId}
 use Rattle.raft_log_records.specs.declared.version.Version.TheVariants.{V1}
-use Rattle.raft_log_records.specs.Item.{with_bytes}
+use Rattle.raft_log_records.specs.Item.{with_bytes, with_lengths}
 use Rattle.raft_log_records.specs.Places.{placed}
 use Rattle.raft_log_records.specs.Reading.{record_at}
 use Rattle.raft_log_records.specs.Signature.{signature_of}
-use Rattle.raft_log_records.specs.Spelling.{block_of, record_len, spell_record}
+use Rattle.raft_log_records.specs.Spelling.{block_of, record_len, spell_record, lengths}
 use Rattle.raft_log_records.proofs.RecordAgain.{record_again}
 use Rattle.raft_log_records.proofs.RecordTaken.{record_takes}
 use Rattle.raft_log_disk.specs.declared.format.LogFileFormat.{LogFileFormat}
@@ -29,6 +29,7 @@ use Rattle.raft_log_pipe.specs.Pipe.{IsPlain}
 use Rattle.raft_log_pipe.specs.Stored.{IsStored}
 use Rattle.raft_log_pipe.proofs.StoredLemmas.{stored_whole}
 use Rattle.raft_log_recovery.specs.Repair.{IsWhole, format_in}
+use Rattle.raft_log_recovery.proofs.LengthLemmas.{placed_lengths}
 use Rattle.raft_log_recovery.proofs.RepairLemmas.{no_reading, reading_of}
 
 abbrev Taken : Type 0
@@ -38,11 +39,12 @@ Taken = Result Read RecordFault
 abbrev pub said_by : FileBatch → Batch
 said_by b = with_bytes b.entries b.items
 
--- the batch stands at this place, with the bytes of its entries and no others
+-- the batch stands at this place, with the bytes of its entries and no others, of the lengths that it says
 pub record IsInPlace (signature : Option ℕ) (at : ℕ) (b : FileBatch) : Type 0 where
   pub place : b.at ≡ at
   pub entries : b.entries ≡ block_of (said_by b)
   pub len : b.len ≡ length (spell_record signature (said_by b))
+  pub lengths_are : with_lengths b.items ≡ lengths (said_by b)
 
 abbrev pub AreInPlace : Option ℕ → ℕ → List FileBatch → Type 0
 AreInPlace signature at [] = Unit {0}
@@ -71,6 +73,7 @@ found_spelled signature at bytes read inner s fits is rest =
           place = refl;
           entries = ap (λ (x : Read). x.1) same;
           len = omega (arith, ap length t.spelled, length-take read.2 bytes, t.within);
+          lengths_are = ap (λ (x : Read). with_lengths x.0) same ∙ placed_lengths 0 k;
         },
         rest.places,
       );

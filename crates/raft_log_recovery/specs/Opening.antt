@@ -2,8 +2,8 @@
 use Rattle.std.specs.Prelude.{◌≡◌, ◌≢◌, ℕ, List, [], ◌∷◌, ◌++◌, take, drop, true, false, None}
 use Rattle.std.specs.List.{list_any}
 use Rattle.raft_log_records.specs.declared.file_id.LogQueue.{LogQueue}
-use Rattle.raft_log_records.specs.Item.{with_bytes}
-use Rattle.raft_log_records.specs.Spelling.{block_of, holds_entries, sealed}
+use Rattle.raft_log_records.specs.Item.{with_bytes, with_lengths}
+use Rattle.raft_log_records.specs.Spelling.{block_of, holds_entries, sealed, lengths}
 use Rattle.raft_log_disk.specs.Text.{Text}
 use Rattle.raft_log_disk.specs.Disk.{Disk, IsIn}
 use Rattle.raft_log_file.specs.Laws.{Batch}
@@ -31,10 +31,11 @@ abbrev pub batches_of : LogQueue → Disk → List File → Numbered
 batches_of queue d [] = []
 batches_of queue d (f ∷ fs) = numbered f.seq (said_in queue d f) ++ batches_of queue d fs
 
--- A machine got this batch, which comes behind others: its items, with the block behind the first bytes of its record. If an
+-- A machine got this batch, which comes behind others: its items and the lengths of their entries, with the block behind the first bytes of its record. If an
 -- item holds entries they stand there with their checksum
 pub record IsGot (queue : LogQueue) (f : File) (before : Numbered) (items : Batch) (placed : Placed) : Type 0 where
   pub items_are : with_bytes (block_of items) placed.items ≡ items
+  pub lengths_are : with_lengths placed.items ≡ lengths items
   pub id : placed.handle.id ≡ id_of queue f.seq
   pub block : IsBlockOf queue f before items 8 placed.handle
   pub stands : list_any holds_entries items ≡ true → take placed.handle.len (drop 8 (record_in f items)) ≡ sealed None (block_of items)

@@ -1,5 +1,5 @@
 -- Tokens are told as their places are run.
-use Rattle.std.proofs.Common.{Bor, ◌≡◌, ◌==◌, ◌+◌, ◌<◌, ◌≤◌, ◌++◌, ℕ, suc, zero, List, [], ◌∷◌, Option, Some, None, option_map, Bool, true, false, cond, nat_lt, take, drop, length, map, slice_get, ap, sym, subst, ◌∙◌, refl, arith}
+use Rattle.std.proofs.Common.{Bor, ◌≡◌, ◌==◌, ◌+◌, ◌<◌, ◌≤◌, ◌++◌, ℕ, suc, zero, List, [], ◌∷◌, Option, Some, None, option_map, Bool, true, false, cond, nat_lt, take, drop, length, slice_get, ap, sym, subst, ◌∙◌, refl, arith}
 use Rattle.std.specs.Prelude.{IfSome, is_some}
 use Rattle.std.specs.List.{slice_index_or as get_or}
 use Rattle.std.specs.Option.{option_copied}

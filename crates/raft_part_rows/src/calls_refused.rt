@@ -2,11 +2,11 @@
 
 use crate::groups::{group, group_with};
 use crate::refusals::{Refused, refused};
-use crate::words::{id, ids, membership};
-use raft_conditions::{GroupCommand, GroupFacts};
+use crate::words::{id, ids, membership, told};
+use raft_conditions::{GroupCommand, GroupFacts, changed_membership};
 use raft_group_step::GroupCall;
 use raft_rows::{Answer, number};
-use raft_state::{Bytes, ChangeMembers, IdSet, NodeMap};
+use raft_state::{BasicNode, Bytes, ChangeMembers, IdSet, Membership, NodeMap};
 use std::alloc::{AllocError, Global};
 
 fn called(
@@ -70,6 +70,29 @@ fn change(alloc: Global, voters: &str) -> Result<GroupCommand, AllocError> {
         ChangeMembers::ReplaceAllVoters(IdSet::from_slice(alloc, &ids(alloc, voters)?)?)
     };
     Ok(GroupCall::ChangeMembership { change, token: 1 })
+}
+
+// What the change makes of the membership of these voters.
+fn becomes(
+    alloc: Global,
+    known: &str,
+    call: GroupCommand,
+) -> Result<Option<Membership<u64, BasicNode>>, AllocError> {
+    let GroupCall::ChangeMembership { change, .. } = call else {
+        return Ok(None);
+    };
+    changed_membership(alloc, &membership(alloc, known, known)?, &change)
+}
+
+/// The answer to a row about what a change makes of a membership.
+pub fn changed_to(alloc: Global, words: &[&str]) -> Option<Answer> {
+    let [known, voters] = *words else { return None };
+    let call = change(alloc, voters).ok()?;
+    Some(match becomes(alloc, known, call) {
+        Ok(Some(membership)) => told(alloc, &membership),
+        Ok(None) => Answer::Word("none"),
+        Err(_) => Answer::NoMemory,
+    })
 }
 
 // A change of a leader that has committed up to place 4, and has this membership from a place.

@@ -201,7 +201,7 @@ fn accepted(leader: &NumberedLeader, alloc: Global) -> Option<Option<LogId<u64>>
     if !ends_early(&log_ids) {
         return None;
     }
-    Some(greatest_accepted(leader, 2, &log_ids, &voters))
+    Some(greatest_accepted(leader, 2, &log_ids, 0, &voters))
 }
 
 // Whether the leader knows peers 1 to 64, of which each then matches up to a place below 91.
@@ -228,10 +228,12 @@ fn joint(
     Ok(Joint::new(groups))
 }
 
-// The greatest log id that node 2 may commit, of a log up to place 90, where both groups count.
+// The greatest log id from this place on that node 2 may commit, of a log up to place 90, where both
+// groups count.
 fn accepted_by(
     leader: &NumberedLeader,
     alloc: Global,
+    from: u64,
     first: &str,
     second: &str,
 ) -> Option<Option<LogId<u64>>> {
@@ -240,7 +242,7 @@ fn accepted_by(
     if !ends_early(&log_ids) {
         return None;
     }
-    Some(greatest_accepted(leader, 2, &log_ids, &voters))
+    Some(greatest_accepted(leader, 2, &log_ids, from, &voters))
 }
 
 // The answer to a row about what may be committed.
@@ -248,7 +250,11 @@ fn of_accepted(leader: &mut NumberedLeader, alloc: Global, words: &[&str]) -> Op
     Some(match *words {
         ["accepted"] => Answer::shown(alloc, &accepted(leader, alloc)?),
         ["accepted-by", first, second] => {
-            Answer::shown(alloc, &accepted_by(leader, alloc, first, second)?)
+            Answer::shown(alloc, &accepted_by(leader, alloc, 0, first, second)?)
+        }
+        ["accepted-from", from, first, second] => {
+            let from = number(from);
+            Answer::shown(alloc, &accepted_by(leader, alloc, from, first, second)?)
         }
         ["spread"] => Answer::truth(spread(leader)),
         _ => return None,

@@ -1,6 +1,6 @@
 //! Which call the words of a row name.
 
-use crate::calls_refused::{call_refused, change_refused};
+use crate::calls_refused::{call_refused, change_refused, changed_to};
 use crate::candidates::{Standing, stood};
 use crate::commands::{configured, told_of_command};
 use crate::copies::copied_of;
@@ -46,6 +46,7 @@ fn plain(topic: &str, alloc: Global, words: &[&str]) -> Option<Answer> {
         "entries" => entries_refused(alloc, words),
         "call" => call_refused(alloc, words),
         "change" => change_refused(alloc, words),
+        "changed" => changed_to(alloc, words),
         "judged" => judged(alloc, words),
         "message" => responded(alloc, words),
         "made" => copied_or_sent(alloc, words),

@@ -8,7 +8,7 @@ use Rattle.raft_script_lines.specs.declared.script_line.ScriptEvent.{ScriptEvent
 use Rattle.raft_script_lines.specs.declared.script_line.ScriptEvent.TheVariants.{Add, Init, Propose, Elect, Heartbeat, Lost, Snapshot, Purge, Addr, Voters, Deliver, Clean, Crash, Reopen}
 use Rattle.raft_script_lines.specs.declared.script_line.ScriptLine.{ScriptLine}
 use Rattle.raft_script_lines.specs.declared.script_line.ScriptLine.TheVariants.{Skipped, Nodes, Now, Total, Happens, Fuse}
-use Rattle.raft_script_lines.specs.Words.{words_of, is_empty_word, number_of, has_twice}
+use Rattle.raft_script_lines.specs.Words.{words_of, is_empty_word, longest_line, number_of, has_twice}
 
 -- what a word has to be
 pub data Word : Type 0 where
@@ -104,6 +104,6 @@ Says line bytes = HasWords line bytes
 
 -- these bytes, their newline not among them, spell this line
 pub record Spells (line : ScriptLine) (bytes : List ℕ) : Type 0 where
-  pub short : length bytes ≤ 65536
+  pub short : length bytes ≤ longest_line
   pub text : IsUtf8 bytes
   pub says : Says line bytes

@@ -16,7 +16,7 @@ use Rattle.raft_script_lines.specs.declared.verb.WordOfThree.{WordOfThree}
 use Rattle.raft_script_lines.specs.declared.verb.WordOfThree.TheVariants.{Propose, Lost, Purge}
 use Rattle.raft_script_lines.specs.declared.no_event.NoEvent.{NoEvent}
 use Rattle.raft_script_lines.specs.declared.no_event.NoEvent.TheVariants.{TooLong, NotUtf8, SpareSpace, UnknownWord, WrongCount, NotANumber, OutOfRange, IdTwice, UnknownChoice}
-use Rattle.raft_script_lines.specs.Words.{words_of, no_words, is_empty_word, number_of, numbers_of, has_twice}
+use Rattle.raft_script_lines.specs.Words.{words_of, no_words, is_empty_word, longest_line, number_of, numbers_of, has_twice}
 use Rattle.raft_script_lines.specs.Verbs.{verb_of}
 
 -- a reading that goes on where it found no reason
@@ -211,5 +211,5 @@ text_in (byte ∷ bytes) = if byte == 35 then Ok Skipped else line_with (words_o
 
 unfoldable pub line_of : List ℕ → Result ScriptLine NoEvent
 line_of bytes =
-    if nat_lt 65536 (length bytes) then Err TooLong
+    if nat_lt longest_line (length bytes) then Err TooLong
     else (if not (is_utf8 bytes) then Err NotUtf8 else text_in bytes)

@@ -4,6 +4,10 @@ use Rattle.std.specs.List.{list_any, slice_split}
 use Rattle.std.specs.Str.{all_ascii_digits}
 use Rattle.std.specs.Str.Parse.{digits_value}
 
+-- a line has at most so many bytes, its newline not among them
+abbrev pub longest_line : ℕ
+longest_line = 65536
+
 -- the words of a line: each space parts two words, which may be empty
 abbrev pub words_of : List ℕ → List (List ℕ)
 words_of line = slice_split (λ byte. byte == 32) line

@@ -1,24 +1,26 @@
 //! The frames of all groups.
-ghost use Rattle.std.specs.Prelude.{◌≡◌, ◌≢◌, ◌++◌, ◌∷◌, ℕ, [], length, slice_get, IfOk, OnOk, OnErr};
+ghost use Rattle.std.specs.Prelude.{◌≡◌, ◌≢◌, ◌++◌, ◌∷◌, ℕ, [], length, slice_get, take, IfOk, OnOk, OnErr};
 ghost use Rattle.std.specs.Option.{option_copied};
-ghost use Rattle.raft_sent_frames.specs.Frames.{frames_of};
+ghost use Rattle.raft_sent_frames.specs.Frames.{frames_of, numbers_from, sent_by};
 
-use crate::frame_list::{FrameList, SentFrame};
+use crate::frame::{NodeFrame, SentFrame, SentNumber};
+use crate::sending::send_to;
+use crate::sequence::Sequence;
 use std::alloc::{AllocError, Global};
 use std::collections::BTreeMap;
 use std::marker::Model;
 
-/// The frames that nodes sent, by group, each numbered from 0 in the order of sending (own). None is
-/// ever taken back. Contracts see pairs of a group and its frames, by rising group.
+/// The frames that nodes sent, by group, each numbered from 0 in the order of sending (own). Contracts
+/// see pairs of a group and its frames, by rising group.
 #[derive(Debug, Drop)]
 pub struct SentFrames {
     alloc: Global,
-    groups: BTreeMap<u64, FrameList>,
+    groups: BTreeMap<u64, Sequence<SentFrame>>,
 }
 
 impl Model for SentFrames {
     ghost use Rattle.std.specs.Prelude.{ℕ, List};
-    ghost use Rattle.raft_sent_frames.specs.declared.frame_list.SentFrame.{SentFrame};
+    ghost use Rattle.raft_sent_frames.specs.declared.frame.SentFrame.{SentFrame};
 
     ghost Value = { List (ℕ × List SentFrame) };
 
@@ -36,18 +38,32 @@ impl SentFrames {
         }
     }
 
-    /// The frame is the group's next one, and its number is how many there were. An `Err` is want of
-    /// memory. Frames that were sent stay as they are.
-    pub fn send(&mut self, group: u64, frame: SentFrame) -> Result<u64, AllocError>
-        ensures number { IfOk result (λ number. number ≡ length (frames_of self.old group)) }
-        ensures ok { OnOk result (frames_of self.new group
-            ≡ frames_of self.old group ++ frame ∷ []) }
-        ensures others { (other : ℕ) → other ≢ group
-            → frames_of self.new other ≡ frames_of self.old other }
+    /// The frames of this sender are the group's next ones, in their order, and their numbers are
+    /// answered. An `Err` is want of memory: then none of them is sent.
+    pub fn send(
+        &mut self,
+        sender: u64,
+        group: u64,
+        frames: Sequence<NodeFrame>,
+    ) -> Result<Sequence<SentNumber>, AllocError>
+        ensures numbers { IfOk result (λ numbers. numbers ≡ numbers_from (length (frames_of self.old group)) frames) }
+        ensures ok { OnOk result (frames_of self.new group ≡ frames_of self.old group ++ sent_by sender frames) }
+        ensures others { (other : ℕ) → other ≢ group → frames_of self.new other ≡ frames_of self.old other }
         ensures err { OnErr result (frames_of self.new group ≡ frames_of self.old group) }
     {
-        let none = FrameList::new(self.alloc);
-        self.groups.entry(group)?.or_insert(none).push(frame)
+        let none = Sequence::new(self.alloc);
+        let list = self.groups.entry(group)?.or_insert(none);
+        send_to(self.alloc, list, sender, frames)
+    }
+
+    /// Keeps so many of the group's first frames: the others weren't sent.
+    pub fn take_back(&mut self, group: u64, count: u64)
+        ensures group { frames_of self.new group ≡ take count (frames_of self.old group) }
+        ensures others { (other : ℕ) → other ≢ group → frames_of self.new other ≡ frames_of self.old other }
+    {
+        if let Some(list) = self.groups.get_mut(&group) {
+            list.truncate(count as usize);
+        }
     }
 
     /// The group's frames, lent, in the order of sending.

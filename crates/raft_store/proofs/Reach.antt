@@ -1,6 +1,7 @@
 -- How far entries reach, and that they may be written on.
 use Rattle.std.proofs.Common.{◌≡◌, ◌⊎◌, inl, inr, ◌<◌, ◌≤◌, ◌+◌, ◌-◌, ℕ, Bool, true, cond, List, length, Option, None, ap, sym, subst, ◌∙◌, arith}
 use Rattle.std.specs.Prelude.{nat_le, nat_lt, IsSome, ◌&&◌}
+use Rattle.std.specs.Cmp.Derive.{both_true}
 use Rattle.std.proofs.lemmas.Bool.{cases_lt, le-leb, lt-leb, le-ltb}
 use Rattle.std.proofs.lemmas.Bool.{lt-ltb}
 use Rattle.raft_log_records.specs.Batch.{numbered}
@@ -9,9 +10,6 @@ use Rattle.raft_log_memtables.specs.Taken.{TakesFrom}
 use Rattle.raft_store.specs.Reading.{Reaches}
 use Rattle.raft_store.proofs.Logs.{Cells, numbered_none, numbered_there}
 
-both : (a b : Bool) → a ≡ true → b ≡ true → (a && b) ≡ true
-both a b p q = ap (λ (x : Bool). x && b) p ∙ q
-
 module _ (entry : Cells) (first end place : ℕ) (reach : Reaches entry first end) (low : first ≤ place) (high : place ≤ end) where
   none_at_all : reach.top ≤ first → (i : ℕ) → entry i ≡ None
   none_at_all none i = elim (cases_lt i first) [ inl lt ↦ reach.none_before i lt | inr ge ↦ reach.none_behind i (omega arith) ]
@@ -19,7 +17,7 @@ module _ (entry : Cells) (first end place : ℕ) (reach : Reaches entry first en
   pub takes_on : TakesFrom entry place
   takes_on = elim (cases_lt first reach.top) [
     | inl some ↦ inr (
-      (first, both (nat_le 0 first) (nat_le first place) (le-leb 0 first (omega arith)) (le-leb first place low), reach.there first (omega arith) some),
+      (first, both_true (le-leb 0 first (omega arith)) (le-leb first place low), reach.there first (omega arith) some),
       (reach.top - 1, le-leb (place - 1) (reach.top - 1) (let past = reach.past_end in omega arith), reach.there (reach.top - 1) (omega arith) (omega arith)),
     )
     | inr none ↦ inl (λ i is. none_at_all none i)

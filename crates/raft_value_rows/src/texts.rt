@@ -8,7 +8,7 @@ use raft_state::{
     Membership, MembershipState, MessageSummary, NotAllowed, NotInMembers, StoredMembership, UTime,
     Vote,
 };
-use std::alloc::Global;
+use std::alloc::{AllocError, Global};
 use std::io;
 
 fn id(term: u64, node: u64, index: u64) -> LogId<u64> {
@@ -89,18 +89,22 @@ fn fault_named(name: &str) -> Option<Fault> {
     })
 }
 
-fn print_progress(rt: &impl Print, alloc: Global) -> io::Result<()> {
+type NumberProgress = VecProgress<u64, u64, u64, Vec<u64>>;
+
+// Voters 2, 4 and 5 and learner 1, of which 4, 2 and 1 have come further than the first value.
+fn progress(alloc: Global) -> Result<NumberProgress, AllocError> {
     let voters = vec![in alloc; 2u64, 4, 5]?;
-    let mut progress: VecProgress<u64, u64, u64, Vec<u64>> = VecProgress::new(
-        alloc,
-        voters,
-        &[1],
-        1,
-    )?;
+    let mut progress: NumberProgress = VecProgress::new(alloc, voters, &[1], 1)?;
     let _ = progress.increase_to(&4, 8);
     let _ = progress.increase_to(&2, 5);
     let _ = progress.increase_to(&1, 3);
-    rt.println(progress)
+    Ok(progress)
+}
+
+// The same with other voters, by rising id, and learner 2.
+fn progress_by_id(alloc: Global) -> Result<NumberProgress, AllocError> {
+    let voters = vec![in alloc; 6u64, 1, 4]?;
+    progress(alloc)?.upgrade_by_id(alloc, voters, &[2], 9)
 }
 
 pub fn print_text(rt: &impl Print, alloc: Global, name: &str) -> io::Result<()> {
@@ -118,7 +122,8 @@ pub fn print_text(rt: &impl Print, alloc: Global, name: &str) -> io::Result<()> 
             Some(id(1, 1, 2)),
             Membership::<u64, BasicNode>::default(alloc),
         )),
-        "progress" => print_progress(rt, alloc),
+        "progress" => rt.println(progress(alloc)?),
+        "progress_by_id" => rt.println(progress_by_id(alloc)?),
         "state" => rt.println(MembershipState::<u64, BasicNode>::default(alloc).summary(alloc)?),
         _ => print_error(rt, name),
     }

@@ -1,6 +1,6 @@
 //! Frames out of a stream that comes in pieces.
 ghost use Rattle.std.specs.Prelude.{◌≡◌, ◌≤◌, ◌<◌, ◌+◌, ◌*◌, ◌++◌, ℕ, List, [], Some, None, Ok, Err, OnOk, OnErr};
-ghost use Rattle.std.specs.Prelude.{take, drop, get_or, length, min, max, vec_len, vec_capacity};
+ghost use Rattle.std.specs.Prelude.{take, drop, get_or, length, min, max, vec_len, vec_capacity, IsTrue, ◌↔◌, ◌⊎◌};
 ghost use Rattle.raft_wire.specs.Reader.{Gives, all_of};
 ghost use Rattle.raft_wire.specs.Frames.{rest_at};
 ghost use Rattle.raft_wire.specs.Stream.{length_in, fault_of_length, front, idle_room, longest_frame, whole_of};
@@ -107,18 +107,20 @@ fn brought_by(held: &[u8], piece: &[u8]) -> Wanted
 // ---- memory
 
 // For how many bytes memory is taken where so many are needed, of so many in the end. It follows what
-// has come, since a length alone is soon sent. A step goes at most from a quarter to the whole, or from
-// what an idle feeder has: the old block and the new one together are at most that much more.
+// has come, since a length alone is soon sent: up to 65,536 bytes are taken at once, and else less than
+// a quarter of the whole or just a quarter, until a quarter has come.
 fn room_for(needed: usize, whole: usize) -> usize
     requires needed { needed ≤ whole }
     requires whole { whole ≤ longest_frame + 4 }
     ensures enough { needed ≤ result }
     ensures within { result ≤ max idle_room (min (4 * needed) whole) }
+    ensures whole { whole ≤ 4 * needed → result ≡ whole }
+    ensures quarter { (result ≡ whole) ⊎ (4 * result ≤ whole) }
 {
     if whole <= MAX_IDLE_ROOM || whole <= 4 * needed {
         return whole;
     }
-    if whole <= 16 * needed {
+    if whole <= 16 * needed || whole <= 4 * MAX_IDLE_ROOM {
         return whole / 4;
     }
     if needed <= MAX_IDLE_ROOM / 4 {
@@ -127,21 +129,33 @@ fn room_for(needed: usize, whole: usize) -> usize
     4 * needed
 }
 
-// Makes room for so many more bytes, of so many in the end.
+// Whether room for so many bytes serves so many, of so many in the end: once a quarter has come, the
+// whole frame is to have its block, so that no block of more than a quarter is ever moved.
+fn serves(room: usize, needed: usize, whole: usize) -> bool
+    requires { needed ≤ longest_frame + 4 }
+    ensures { IsTrue result ↔ ((needed ≤ room) × ((whole ≤ room) ⊎ (4 * needed < whole))) }
+{
+    needed <= room && (whole <= room || 4 * needed < whole)
+}
+
+// Makes room for so many more bytes, of so many in the end. What the block before doesn't use goes
+// first: it may be one of an earlier frame.
 fn make_room(held: &mut Vec<u8>, more: usize, whole: usize) -> Result<(), AllocError>
     requires more { vec_len held.old + more ≤ whole }
     requires whole { whole ≤ longest_frame + 4 }
     ensures items { held.new.items ≡ held.old.items }
     ensures len { vec_len held.new ≡ vec_len held.old }
     ensures room { OnOk result (vec_len held.new + more ≤ vec_capacity held.new) }
-    ensures same { OnErr result (vec_capacity held.new ≡ vec_capacity held.old) }
+    ensures early { OnOk result ((whole ≤ vec_capacity held.new) ⊎ (4 * (vec_len held.old + more) < whole)) }
+    ensures err { OnErr result (vec_capacity held.new ≤ vec_capacity held.old) }
     ensures within { vec_capacity held.new
         ≤ max (vec_capacity held.old) (max idle_room (min (4 * (vec_len held.old + more)) whole)) }
 {
-    if more <= held.capacity() - held.len() {
+    let needed = held.len() + more;
+    if serves(held.capacity(), needed, whole) {
         return Ok(());
     }
-    let needed = held.len() + more;
+    held.shrink_to_fit();
     held.reserve_exact(room_for(needed, whole) - held.len())
 }
 
@@ -216,7 +230,8 @@ pub struct Fed {
 /// It holds the bytes of one frame that isn't whole yet, at most `MAX_FRAME_LEN` + 3, and whether the
 /// stream has failed. While it holds nothing it has memory for at most `MAX_IDLE_ROOM` bytes. While it
 /// holds some it has taken memory for four times as many at most, or for `MAX_IDLE_ROOM`, and never
-/// for more than the frame needs. Contracts see what it holds, whether the stream has failed, and for
+/// for more than the frame needs; with a block that is being moved it is at most a quarter more than
+/// the frame, or `MAX_IDLE_ROOM`. Contracts see what it holds, whether the stream has failed, and for
 /// how many bytes it has memory. Its errors are those of `feed`.
 #[derive(Drop)]
 pub struct Feeder {

@@ -2,7 +2,7 @@
 
 use crate::calls::{feed, new_feeder, room_of};
 use raft_rows::{Answer, number};
-use raft_wire::MAX_IDLE_ROOM;
+use raft_wire::{Feeder, MAX_IDLE_ROOM};
 use std::alloc::{AllocError, Global};
 
 /// A length below 2^32 as four bytes.
@@ -29,38 +29,55 @@ fn is_small(room: usize, come: usize, len: usize) -> bool {
 }
 
 /// Whether the block before and the one after, which both stand while bytes are moved, are together
-/// at most a quarter more than the frame, or what idle feeders have.
-fn is_small_step(before: usize, after: usize, len: usize) -> bool {
-    after <= before
-        || after <= MAX_IDLE_ROOM
-        || before.saturating_add(after) <= len.saturating_add(len / 4)
+/// at most a quarter more than the frame. Of the block before only what is held counts, since the
+/// rest is given back first.
+fn is_small_step(before: usize, held: usize, after: usize, len: usize) -> bool {
+    after <= before || before.min(held).saturating_add(after) <= len.saturating_add(len / 4)
 }
 
 /// How many bytes are taken of a frame in pieces, whether the feeder always had little memory, and
 /// whether it gave that back in the end.
-fn rooms(alloc: Global, frame: &[u8], size: usize) -> (usize, bool, bool) {
-    let mut feeder = new_feeder(alloc);
+fn rooms(feeder: &mut Feeder, frame: &[u8], size: usize) -> (usize, bool, bool) {
     let mut taken: usize = 0;
-    let mut small = room_of(&feeder) == 0;
+    let mut small = room_of(feeder) <= MAX_IDLE_ROOM;
     for piece in frame.chunks(size.max(1)) {
-        let before = room_of(&feeder);
-        taken = taken.saturating_add(feed(&mut feeder, piece).used);
-        let after = room_of(&feeder);
+        let before = room_of(feeder);
+        let held = taken;
+        taken = taken.saturating_add(feed(feeder, piece).used);
+        let after = room_of(feeder);
         small = small && is_small(after, taken, frame.len());
-        small = small && is_small_step(before, after, frame.len());
+        small = small && is_small_step(before, held, after, frame.len());
     }
-    (taken, small, room_of(&feeder) <= MAX_IDLE_ROOM)
+    (taken, small, room_of(feeder) <= MAX_IDLE_ROOM)
+}
+
+/// The same of two frames, one behind the other.
+fn rooms_of_two(
+    alloc: Global,
+    first: &[u8],
+    second: &[u8],
+    size: usize,
+) -> ((usize, bool, bool), (usize, bool, bool)) {
+    let mut feeder = new_feeder(alloc);
+    let before = rooms(&mut feeder, first, size);
+    (before, rooms(&mut feeder, second, size))
 }
 
 /// The answer to a row about a large frame that is made of the frame that the bytes are.
 pub fn roomy(bytes: &[u8], alloc: Global, words: &[&str]) -> Option<Answer> {
-    let ["large-frame", kind, len, size] = *words else {
-        return None;
-    };
-    let kind = (number(kind) % 256) as u8;
-    let frame = lengthened(alloc, bytes, kind, number(len) as usize);
-    Some(match frame {
-        Ok(frame) => Answer::shown(alloc, &rooms(alloc, &frame, number(size) as usize)),
-        Err(_) => Answer::NoMemory,
+    Some(match *words {
+        ["large-frame", kind, len, size] => {
+            let kind = (number(kind) % 256) as u8;
+            let frame = lengthened(alloc, bytes, kind, number(len) as usize).ok()?;
+            let mut feeder = new_feeder(alloc);
+            Answer::shown(alloc, &rooms(&mut feeder, &frame, number(size) as usize))
+        }
+        ["two-frames", first, second, size] => {
+            let first = lengthened(alloc, bytes, 5, number(first) as usize).ok()?;
+            let second = lengthened(alloc, bytes, 5, number(second) as usize).ok()?;
+            let size = number(size) as usize;
+            Answer::shown(alloc, &rooms_of_two(alloc, &first, &second, size))
+        }
+        _ => return None,
     })
 }

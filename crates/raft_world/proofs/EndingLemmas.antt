@@ -17,14 +17,14 @@ use Rattle.raft_laws.proofs.StepOrder.{step-keeps}
 use Rattle.std.specs.declared.alloc.AllocError.{AllocError}
 use Rattle.std.proofs.Math.Seq.{take-length}
 use Rattle.raft_world.specs.Ending.{BreaksAt, ComesTo, IsEndOf, down_of}
-use Rattle.raft_world.specs.Member.{HasBrokenOff, HasEnded, HasStopped, IsAt, IsDown, IsLawful, IsUp}
-use Rattle.raft_world.specs.Opening.{IsOpenable}
+use Rattle.raft_member.specs.Member.{IsLawful}
+use Rattle.raft_executor.proofs.PlainLemmas.{is_shown}
+use Rattle.raft_world.specs.Member.{Broken, Ended, HasBrokenOff, HasEnded, HasStopped, IsAt, IsDown, IsUp}
+use Rattle.raft_member.specs.Opening.{IsOpenable}
 use Rattle.raft_world.specs.declared.member.Member.{Member}
-use Rattle.raft_world.specs.declared.member.Ended.{Ended}
-use Rattle.raft_world.specs.declared.member.Ended.TheVariants as end_of
-use Rattle.raft_world.specs.declared.member.Broken.{Broken}
-use Rattle.raft_world.specs.declared.member.Broken.TheVariants as broken
-use Rattle.raft_world.proofs.EventLemmas.{refused_state}
+use Rattle.raft_member.specs.declared.member.Ended.TheVariants as end_of
+use Rattle.raft_member.specs.declared.member.Broken.TheVariants as broken
+use Rattle.raft_member.proofs.EventLemmas.{refused_state}
 
 -- a refused event keeps the state
 pub refused_keeps : (own : ℕ) (s : GroupState) (e : GroupEvent) (why : RefusalReason) → refusal_of own s e ≡ Some why → (group_step own s e).state ≡ s
@@ -90,9 +90,9 @@ module _ (own : ℕ) (s : GroupState) (e : GroupEvent) (m : Member) where
   ends_as_step stop end_of.Skipped h = absurd h
 
 -- a call or a message came to the member, which was in this state
-pub comes : {E : Type 0} (n : ℕ) (e : GroupEvent) (stop : Option ℕ) (state : NodeState) (m new : Member) (r : Result Ended E) → m.id ≡ n → IsAt m state → ((s : GroupState) → state ≡ Up s → IsLawful n s)
-    → ((s : GroupState) → IsUp m s → IsLawful m.id s → IfOk r (HasEnded m.id s e stop new))
-    → ((s : GroupState) → IsUp m s → IsLawful m.id s → OnErr r (HasStopped m.id s e new))
+pub comes : {E : Type 0} (n : ℕ) (e : GroupEvent) (stop : Option ℕ) (state : NodeState) (m new : Member) (r : Result Ended E) → m.replica.id ≡ n → IsAt m state → ((s : GroupState) → state ≡ Up s → IsLawful n s)
+    → ((s : GroupState) → IsUp m s → IsLawful m.replica.id s → IfOk r (HasEnded m.replica.id s e stop new))
+    → ((s : GroupState) → IsUp m s → IsLawful m.replica.id s → OnErr r (HasStopped m.replica.id s e new))
     → ((st : StoredGroup) → IsDown m st → (r ≡ Ok end_of.Skipped) × IsDown new st) → ComesTo n (Comes e) stop state new r
 comes n e stop Absent m new r same at lawful ok err down = absurd at
 comes n e stop (Up s) m new (Ok end) same at lawful ok err down =
@@ -117,25 +117,25 @@ pub ended_as : {E : Type 0} (a b : Ended) → ◌≡◌ {A = Result Ended E} (Ok
 ended_as {E} a b e = let f : ◌≡◌ {A = Result Ended E} (Ok a) (Ok b) = e in cc
 
 -- before it was judged: the member is down as it was
-pub unjudged : (n : ℕ) (e : GroupEvent) (state : NodeState) (m new : Member) (met : AllocError) → m.id ≡ n → IsAt m state → ((s : GroupState) → state ≡ Up s → IsLawful n s)
-    → ((s : GroupState) → IsUp m s → IsLawful m.id s → (let r : Result Ended Broken = Err (broken.Unjudged met) in IfErr r (HasBrokenOff m.id s e new)))
-    → ((st : StoredGroup) → IsDown m st → (Err (broken.Unjudged met) ≡ Ok end_of.Skipped) × IsDown new st) → IsAt new (down_of state)
+pub unjudged : (n : ℕ) (e : GroupEvent) (state : NodeState) (m new : Member) (met : AllocError) → m.replica.id ≡ n → IsAt m state → ((s : GroupState) → state ≡ Up s → IsLawful n s)
+    → ((s : GroupState) → IsUp m s → IsLawful m.replica.id s → (let r : Result Ended Broken = Err (broken.Unjudged met) in IfErr r (HasBrokenOff m.replica.id s e new)))
+    → ((st : StoredGroup) → IsDown m st → (◌≡◌ {A = Result Ended Broken} (Err (broken.Unjudged met)) (Ok end_of.Skipped)) × IsDown new st) → IsAt new (down_of state)
 unjudged n e Absent m new met same at lawful err down = absurd at
 unjudged n e (Up s) m new met same at lawful err down = err s at (subst (λ i. IsLawful i s) (sym same) (lawful s refl))
 unjudged n e (Down st) m new met same at lawful err down = (down st at).1
 
 -- once it was begun
-pub begun : (n : ℕ) (e : GroupEvent) (stop : Option ℕ) (state : NodeState) (m new : Member) (met : AllocError) → m.id ≡ n → IsAt m state → ((s : GroupState) → state ≡ Up s → IsLawful n s)
-    → ((s : GroupState) → IsUp m s → IsLawful m.id s → (let r : Result Ended Broken = Err (broken.Begun met) in IfErr r (HasBrokenOff m.id s e new)))
-    → ((st : StoredGroup) → IsDown m st → (Err (broken.Begun met) ≡ Ok end_of.Skipped) × IsDown new st) → BreaksAt n (Comes e) state new
+pub begun : (n : ℕ) (e : GroupEvent) (stop : Option ℕ) (state : NodeState) (m new : Member) (met : AllocError) → m.replica.id ≡ n → IsAt m state → ((s : GroupState) → state ≡ Up s → IsLawful n s)
+    → ((s : GroupState) → IsUp m s → IsLawful m.replica.id s → (let r : Result Ended Broken = Err (broken.Begun met) in IfErr r (HasBrokenOff m.replica.id s e new)))
+    → ((st : StoredGroup) → IsDown m st → (◌≡◌ {A = Result Ended Broken} (Err (broken.Begun met)) (Ok end_of.Skipped)) × IsDown new st) → BreaksAt n (Comes e) state new
 begun n e stop state m new met same at lawful err down =
     comes n e stop state m new (Err met) same at lawful (λ s up law. tt) err
-    (λ st is. absurd (let no : Err (broken.Begun met) ≡ Ok end_of.Skipped = (down st is).0 in cc))
+    (λ st is. absurd (let no : ◌≡◌ {A = Result Ended Broken} (Err (broken.Begun met)) (Ok end_of.Skipped) = (down st is).0 in cc))
 
 -- the member was opened
-pub opens : {E : Type 0} (n : ℕ) (stop : Option ℕ) (state : NodeState) (m new : Member) (r : Result Ended E) → m.id ≡ n → IsAt m state → ((st : StoredGroup) → state ≡ Down st → IsOpenable n st)
-    → ((st : StoredGroup) → IsDown m st → IsOpenable m.id st → IfOk r (HasEnded m.id (state_of st) Open stop new))
-    → ((st : StoredGroup) → IsDown m st → IsOpenable m.id st → OnErr r (HasStopped m.id (state_of st) Open new))
+pub opens : {E : Type 0} (n : ℕ) (stop : Option ℕ) (state : NodeState) (m new : Member) (r : Result Ended E) → m.replica.id ≡ n → IsAt m state → ((st : StoredGroup) → state ≡ Down st → IsOpenable n st)
+    → ((st : StoredGroup) → IsDown m st → IsOpenable m.replica.id st → IfOk r (HasEnded m.replica.id (state_of st) Open stop new))
+    → ((st : StoredGroup) → IsDown m st → IsOpenable m.replica.id st → OnErr r (HasStopped m.replica.id (state_of st) Open new))
     → ((s : GroupState) → IsUp m s → (r ≡ Ok end_of.Skipped) × IsUp new s) → ComesTo n Restarts stop state new r
 opens n stop Absent m new r same at openable ok err up = absurd at
 opens n stop (Down st) m new (Ok end) same at openable ok err up =
@@ -181,11 +181,11 @@ no_lead n m (Down st) b at up is = refl
 abbrev note_of : ℕ → StoredGroup → Led
 note_of n st = record { node = n; vote = st.vote; list = held st }
 
-pub lead_noted : (n : ℕ) (m : Member) (state : NodeState) (b : Bool) → IsAt m state → m.id ≡ n → ((s : GroupState) → IsUp m s → b ≡ is_leader s.role) → ((st : StoredGroup) → IsDown m st → b ≡ false) → b ≡ true
-    → record { node = m.id; vote = m.stored.vote; list = held m.stored } ∷ [] ≡ led_by n state
+pub lead_noted : (n : ℕ) (m : Member) (state : NodeState) (b : Bool) → IsAt m state → m.replica.id ≡ n → ((s : GroupState) → IsUp m s → b ≡ is_leader s.role) → ((st : StoredGroup) → IsDown m st → b ≡ false) → b ≡ true
+    → record { node = m.replica.id; vote = m.stored.vote; list = held m.stored } ∷ [] ≡ led_by n state
 lead_noted n m Absent b at same up down is = absurd at
 lead_noted n m (Up s) b at same up down is =
-    ap (λ (st : StoredGroup). note_of m.id st ∷ []) at.stored
+    ap (λ (st : StoredGroup). note_of m.replica.id st ∷ []) (is_shown m.stored s.stored at.stored)
     ∙ ap (λ i. note_of i s.stored ∷ []) same
     ∙ sym (leads_so n s s.role (sym (up s at) ∙ is))
 lead_noted n m (Down st) b at same up down is = absurd (let no : false ≡ true = sym (down st at) ∙ is in cc)

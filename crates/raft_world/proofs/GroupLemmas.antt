@@ -119,9 +119,9 @@ abbrev pub AreBegun : List Member → List ℕ → Type 0
 AreBegun [] [] = Unit {0}
 AreBegun [] (n ∷ ns) = ⊥
 AreBegun (m ∷ ms) [] = ⊥
-AreBegun (m ∷ ms) (n ∷ ns) = (m.id ≡ n) × IsUp m begun × AreBegun ms ns
+AreBegun (m ∷ ms) (n ∷ ns) = (m.replica.id ≡ n) × IsUp m begun × AreBegun ms ns
 
-pub begun_more : (ms : List Member) (ns : List ℕ) (m : Member) (n : ℕ) → AreBegun ms ns → m.id ≡ n → IsUp m begun → AreBegun (ms ++ (m ∷ [])) (ns ++ (n ∷ []))
+pub begun_more : (ms : List Member) (ns : List ℕ) (m : Member) (n : ℕ) → AreBegun ms ns → m.replica.id ≡ n → IsUp m begun → AreBegun (ms ++ (m ∷ [])) (ns ++ (n ∷ []))
 begun_more [] [] m n h same up = (same, up, tt)
 begun_more [] (k ∷ ns) m n h same up = absurd h
 begun_more (x ∷ ms) [] m n h same up = absurd h
@@ -142,8 +142,8 @@ begun_nodes [] [] h n = refl
 begun_nodes [] (k ∷ ns) h n = absurd h
 begun_nodes (m ∷ ms) [] h n = absurd h
 begun_nodes (m ∷ ms) (k ∷ ns) h n =
-    subst (λ b. IsNodeAt (cond (m.id == n) (Some m) (member_of n ms)) (state_or b (Up begun) Absent)) (or_is (k == n) (has_id ns n))
-    (begun_step (m.id == n) (k == n) m (member_of n ms) (has_id ns n) (ap (λ x. x == n) h.0) h.1 (begun_nodes ms ns h.2 n))
+    subst (λ b. IsNodeAt (cond (m.replica.id == n) (Some m) (member_of n ms)) (state_or b (Up begun) Absent)) (or_is (k == n) (has_id ns n))
+    (begun_step (m.replica.id == n) (k == n) m (member_of n ms) (has_id ns n) (ap (λ x. x == n) h.0) h.1 (begun_nodes ms ns h.2 n))
 
 -- ---- the group is added at each node
 
@@ -278,7 +278,7 @@ run_more events i e g low is =
     ∙ run_both (map planned_of (take i events)) (planned_of e ∷ []) g
 
 -- one more member
-pub begun_next : (ms : List Member) (ids : List ℕ) (i : ℕ) (m : Member) → AreBegun ms (take i ids) → i < length ids → m.id ≡ get_or ids i 0 → IsUp m begun → AreBegun (ms ++ (m ∷ [])) (take (i + 1) ids)
+pub begun_next : (ms : List Member) (ids : List ℕ) (i : ℕ) (m : Member) → AreBegun ms (take i ids) → i < length ids → m.replica.id ≡ get_or ids i 0 → IsUp m begun → AreBegun (ms ++ (m ∷ [])) (take (i + 1) ids)
 begun_next ms ids i m h low same up =
     subst (AreBegun (ms ++ (m ∷ []))) (sym (take_more ids i 0 low)) (begun_more ms (take i ids) m (get_or ids i 0) h same up)
 

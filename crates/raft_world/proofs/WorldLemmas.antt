@@ -29,8 +29,8 @@ use Rattle.raft_world.specs.Settled.{led_of}
 use Rattle.raft_world.specs.Ending.{BreaksAt, EndsAt, HasConcluded, IsCut, IsEndOf, IsWorldBut, down_of, first_setup, set_up_with}
 use Rattle.raft_world.specs.World.{AreNodes, GoesDown, HasBroken, HasCome, HasHappened, IsMarkOf, IsPlace, IsWorldOf, Stops, addressee_of, node_of}
 use Rattle.raft_world.specs.Member.{IsAt}
-use Rattle.raft_world.specs.declared.member.Ended.{Ended}
-use Rattle.raft_world.specs.declared.member.Ended.TheVariants as end_of
+use Rattle.raft_world.specs.Member.{Ended}
+use Rattle.raft_member.specs.declared.member.Ended.TheVariants as end_of
 use Rattle.raft_world.specs.declared.member.Member.{Member}
 use Rattle.raft_world.specs.declared.world.World.{World}
 use Rattle.raft_world.specs.declared.world.Mark.{Mark}
@@ -371,7 +371,7 @@ none_first (Some m) e is = refl
 
 module _ (w : World) (g : GroupWorld) (e : WorldEvent) (n place : ℕ) (h : IsWorldOf w g) (at_place : IsPlace w.members.items n place) where
   -- the world with the member that the event left
-  pub but_came : (new : Member) (state : NodeState) → new.id ≡ n → IsAt new state → IsWorldBut (record w { members = with_item w.members place new }) g n state
+  pub but_came : (new : Member) (state : NodeState) → new.replica.id ≡ n → IsAt new state → IsWorldBut (record w { members = with_item w.members place new }) g n state
   but_came new state same at = record {
     nodes = nodes_with w.members.items g.nodes n place new state at_place h.nodes same at;
     messages = h.messages;
@@ -380,7 +380,7 @@ module _ (w : World) (g : GroupWorld) (e : WorldEvent) (n place : ℕ) (h : IsWo
   }
 
   -- the event ended at its member, and was concluded
-  pub came : {E : Type 0} (last : World) (at_node : NodeEvent) (stop : Option ℕ) (new : Member) (end : Ended) (setup : Option Membership) (r : Result Mark E) → scene_of g e ≡ At n at_node → MayStop at_node → new.id ≡ n
+  pub came : {E : Type 0} (last : World) (at_node : NodeEvent) (stop : Option ℕ) (new : Member) (end : Ended) (setup : Option Membership) (r : Result Mark E) → scene_of g e ≡ At n at_node → MayStop at_node → new.replica.id ≡ n
       → EndsAt n at_node stop (g.nodes n) new end → setup ≡ first_setup g.setup e
       → ((x : GroupWorld) (event : WorldEvent) (k : ℕ) (o : Outcome) (state : NodeState) → IsPlace (set w.members.items place new) k place → IsWorldBut (record w { members = with_item w.members place new }) x k state
       → setup ≡ first_setup x.setup event → IsEndOf end o → HasConcluded x event k state o last r)
@@ -403,14 +403,14 @@ module _ (w : World) (g : GroupWorld) (e : WorldEvent) (n place : ℕ) (h : IsWo
   }
 
   -- the event broke off at its member
-  pub broke : (at_node : NodeEvent) (new : Member) (setup : Option Membership) → scene_of g e ≡ At n at_node → new.id ≡ n → BreaksAt n at_node (g.nodes n) new → setup ≡ first_setup g.setup e
+  pub broke : (at_node : NodeEvent) (new : Member) (setup : Option Membership) → scene_of g e ≡ At n at_node → new.replica.id ≡ n → BreaksAt n at_node (g.nodes n) new → setup ≡ first_setup g.setup e
       → HasBroken g e (record w { members = with_item w.members place new; setup = set_up_with setup w.setup })
   broke at_node new setup there same b first =
       broke_there (record w { members = with_item w.members place new }) new g e n at_node setup there b
       (but_came new (state_after n at_node (Some b.number) (g.nodes n)) same b.after) first
 
   -- its member met want of memory before it was begun
-  pub went_down_there : (at_node : NodeEvent) (new : Member) → scene_of g e ≡ At n at_node → new.id ≡ n → IsAt new (down_of (g.nodes n)) → HasBroken g e (record w { members = with_item w.members place new })
+  pub went_down_there : (at_node : NodeEvent) (new : Member) → scene_of g e ≡ At n at_node → new.replica.id ≡ n → IsAt new (down_of (g.nodes n)) → HasBroken g e (record w { members = with_item w.members place new })
   went_down_there at_node new there same at =
       goes_down (record w { members = with_item w.members place new }) g e n (node_of_scene g e n at_node there) (but_came new (down_of (g.nodes n)) same at)
 
@@ -420,7 +420,7 @@ module _ (w : World) (g : GroupWorld) (e : WorldEvent) (n place : ℕ) (h : IsWo
 
 -- ---- marks of crashes
 
-pub crash_done : (last : World) (g : GroupWorld) (n : ℕ) (stop : Option ℕ) (m : Member) → IsAt m (g.nodes n) → is_some m.engine ≡ true → IsWorldBut last g n (down_of (g.nodes n)) → HasHappened g (Crash n) stop last mark.Done
+pub crash_done : (last : World) (g : GroupWorld) (n : ℕ) (stop : Option ℕ) (m : Member) → IsAt m (g.nodes n) → is_some m.replica.engine ≡ true → IsWorldBut last g n (down_of (g.nodes n)) → HasHappened g (Crash n) stop last mark.Done
 crash_done last g n stop m at up down = record {
   world = crashed last g n stop down;
   marked = marked_done (g.nodes n) (is_some stop) at;
@@ -431,7 +431,7 @@ crash_done last g n stop m at up down = record {
     marked_done (Up s) b here = tt
     marked_done (Down st) b here = absurd (let no : false ≡ true = sym (ap is_some here.no_engine) ∙ up in cc)
 
-pub crash_skipped : (w : World) (g : GroupWorld) (n : ℕ) (stop : Option ℕ) (m : Member) → IsAt m (g.nodes n) → is_some m.engine ≡ false → IsWorldOf w g → HasHappened g (Crash n) stop w mark.Skipped
+pub crash_skipped : (w : World) (g : GroupWorld) (n : ℕ) (stop : Option ℕ) (m : Member) → IsAt m (g.nodes n) → is_some m.replica.engine ≡ false → IsWorldOf w g → HasHappened g (Crash n) stop w mark.Skipped
 crash_skipped w g n stop m at down h = record {
   world = crashed w g n stop (but_same w g n (down_of (g.nodes n)) h (stays (g.nodes n) at));
   marked = marked_skipped (g.nodes n) (is_some stop) at;
@@ -449,7 +449,7 @@ crash_skipped w g n stop m at down h = record {
 
 -- ---- marks of halts
 
-pub halt_done : (last : World) (g : GroupWorld) (n : ℕ) (stop : Option ℕ) (m : Member) → IsAt m (g.nodes n) → is_some m.engine ≡ true → IsWorldBut last g n (down_of (g.nodes n)) → HasHappened g (Halt n) stop last mark.Stopped
+pub halt_done : (last : World) (g : GroupWorld) (n : ℕ) (stop : Option ℕ) (m : Member) → IsAt m (g.nodes n) → is_some m.replica.engine ≡ true → IsWorldBut last g n (down_of (g.nodes n)) → HasHappened g (Halt n) stop last mark.Stopped
 halt_done last g n stop m at up down = record {
   world = halted last g n stop down;
   marked = marked_stopped (g.nodes n) (is_some stop) at;
@@ -460,7 +460,7 @@ halt_done last g n stop m at up down = record {
     marked_stopped (Up s) b here = tt
     marked_stopped (Down st) b here = absurd (let no : false ≡ true = sym (ap is_some here.no_engine) ∙ up in cc)
 
-pub halt_skipped : (w : World) (g : GroupWorld) (n : ℕ) (stop : Option ℕ) (m : Member) → IsAt m (g.nodes n) → is_some m.engine ≡ false → IsWorldOf w g → HasHappened g (Halt n) stop w mark.Skipped
+pub halt_skipped : (w : World) (g : GroupWorld) (n : ℕ) (stop : Option ℕ) (m : Member) → IsAt m (g.nodes n) → is_some m.replica.engine ≡ false → IsWorldOf w g → HasHappened g (Halt n) stop w mark.Skipped
 halt_skipped w g n stop m at down h = record {
   world = halted w g n stop (but_same w g n (down_of (g.nodes n)) h (stays (g.nodes n) at));
   marked = marked_skipped (g.nodes n) (is_some stop) at;

@@ -14,8 +14,8 @@ use Rattle.raft_world.specs.Settled.{led_of}
 use Rattle.raft_world.specs.Member.{IsAt}
 use Rattle.raft_world.specs.World.{AreNodes, IsMarkOf, IsWorldOf}
 use Rattle.raft_world.specs.declared.member.Member.{Member}
-use Rattle.raft_world.specs.declared.member.Ended.{Ended}
-use Rattle.raft_world.specs.declared.member.Ended.TheVariants as end_of
+use Rattle.raft_world.specs.Member.{Ended}
+use Rattle.raft_member.specs.declared.member.Ended.TheVariants as end_of
 use Rattle.raft_world.specs.declared.world.Mark.{Mark}
 use Rattle.raft_world.specs.declared.world.World.{World}
 

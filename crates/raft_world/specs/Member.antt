@@ -1,59 +1,43 @@
--- Which state of a group a member is in, and how an event that comes to it ends.
-use Rattle.std.specs.Prelude.{◌≡◌, ◌≤◌, ◌+◌, ℕ, true, false, List, [], map, Option, Some, None}
-use Rattle.raft_values.specs.declared.log_id.LogId.{LogId}
-use Rattle.raft_values.specs.LogId.{next_place}
-use Rattle.raft_group_step.specs.StoredGroup.{StoredGroup, CutFrom, after_storing, entry_at, id_of, membership_in_force, snapshot_last}
+-- Which state a member is in that has what it stores in memory, and how an event that comes to it ends.
+use Rattle.std.specs.Prelude.{◌≡◌, ℕ, map, Option, Some, None}
+use Rattle.std.specs.declared.alloc.AllocError.{AllocError}
+use Rattle.raft_group_step.specs.StoredGroup.{Snapshot, StoredGroup}
 use Rattle.raft_group_step.specs.GroupState.{GroupState}
 use Rattle.raft_group_step.specs.GroupEvent.{GroupEvent}
 use Rattle.raft_group_step.specs.GroupStep.{group_step}
 use Rattle.raft_group_step.specs.Refusal.{refusal_of}
 use Rattle.raft_conditions.specs.Reason.{reason_of}
-use Rattle.raft_engine.specs.Building.{is_building}
-use Rattle.raft_engine.specs.Events.{IsReady}
-use Rattle.raft_engine.specs.Standing.{Engine as EngineOf, IsStateOf}
+use Rattle.raft_group_storage.specs.Plain.{IsOnly}
+use Rattle.raft_group_storage.specs.declared.only_group.TheConstants.{ONLY_GROUP}
 use Rattle.raft_messages.specs.Messages.{message_of}
 use Rattle.raft_laws.specs.GroupWorld.{NodeState, Absent, Up, Down}
 use Rattle.raft_laws.specs.Stop.{stopped_after}
-use Rattle.raft_world.specs.declared.member.ByteGroup.{ByteGroup}
+use Rattle.raft_member.specs.Member as over
+use Rattle.raft_member.specs.declared.member.Ended.{Ended as EndedOf}
+use Rattle.raft_member.specs.declared.member.Ended.TheVariants as ended
+use Rattle.raft_member.specs.declared.member.Broken.{Broken as BrokenOf}
+use Rattle.raft_member.specs.declared.member.Broken.TheVariants as broken
 use Rattle.raft_world.specs.declared.member.Member.{Member}
-use Rattle.raft_world.specs.declared.member.Ended.{Ended}
-use Rattle.raft_world.specs.declared.member.Ended.TheVariants as ended
-use Rattle.raft_world.specs.declared.member.Broken.{Broken}
-use Rattle.raft_world.specs.declared.member.Broken.TheVariants as broken
 
-abbrev pub Engine : Type 0
-Engine = EngineOf ByteGroup (List ℕ)
+abbrev pub Ended : Type 0
+Ended = EndedOf Snapshot
 
--- the engine stands for the state, and waits for the next event
-pub record IsIdle (own : ℕ) (e : Engine) (s : GroupState) : Type 0 where
-  pub stands : IsStateOf own e s
-  pub empty : e.output.queue ≡ []
-  pub not_building : is_building e ≡ false
+abbrev pub Broken : Type 0
+Broken = BrokenOf AllocError
 
 -- the member is up in this state
-pub record IsUp (m : Member) (s : GroupState) : Type 0 where
-  pub engine : Engine
-  pub has_engine : m.engine ≡ Some engine
-  pub idle : IsIdle m.id engine s
-  pub stored : m.stored ≡ s.stored
-  pub present : s.stored.present ≡ true
-  pub moment : m.moment ≡ s.now
+abbrev pub IsUp : Member → GroupState → Type 0
+IsUp m s = over.IsUp (Unit {0}) (IsOnly m.stored ONLY_GROUP) m.replica s
 
 -- the member is down with what it has stored
-pub record IsDown (m : Member) (kept : StoredGroup) : Type 0 where
-  pub no_engine : m.engine ≡ None
-  pub stored : m.stored ≡ kept
-  pub present : kept.present ≡ true
+abbrev pub IsDown : Member → StoredGroup → Type 0
+IsDown m kept = over.IsDown (Unit {0}) (IsOnly m.stored ONLY_GROUP) m.replica kept
 
 -- the member is in this state
 abbrev pub IsAt : Member → NodeState → Type 0
 IsAt m Absent = ⊥
 IsAt m (Up s) = IsUp m s
 IsAt m (Down stored) = IsDown m stored
-
--- what each state of a run has, beside what its engine knows
-pub record IsLawful (own : ℕ) (s : GroupState) : Type 0 where
-  pub ready : IsReady own s
 
 -- the event isn't refused; it stopped after some of its storing commands, and the member is down
 pub record HasStopped (own : ℕ) (s : GroupState) (event : GroupEvent) (m : Member) : Type 0 where

@@ -27,7 +27,7 @@ use Rattle.raft_world.specs.declared.world.PlannedEvent.{PlannedEvent}
 
 -- the member with the id, if there is one
 abbrev pub member_of : ℕ → List Member → Option Member
-member_of id members = find (λ (m : Member). m.id == id) members
+member_of id members = find (λ (m : Member). m.replica.id == id) members
 
 -- the node with this member, if it has one, is in this state
 abbrev pub IsNodeAt : Option Member → NodeState → Type 0
@@ -41,8 +41,8 @@ AreNodes members nodes = (n : ℕ) → IsNodeAt (member_of n members) (nodes n)
 -- the first member with the id stands at this place
 abbrev pub IsPlace : List Member → ℕ → ℕ → Type 0
 IsPlace [] id place = ⊥
-IsPlace (m ∷ ms) id zero = m.id ≡ id
-IsPlace (m ∷ ms) id (suc place) = (m.id ≡ id → ⊥) × IsPlace ms id place
+IsPlace (m ∷ ms) id zero = m.replica.id ≡ id
+IsPlace (m ∷ ms) id (suc place) = (m.replica.id ≡ id → ⊥) × IsPlace ms id place
 
 -- the place of the first member with the id, if there is one
 abbrev pub IsPlaceOf : List Member → ℕ → Option ℕ → Type 0

@@ -69,7 +69,7 @@ impl World {
         if !member.is_leading() {
             return Ok(());
         }
-        let led = note(member.id, &member.stored)?;
+        let led = note(member.replica.id, &member.stored)?;
         self.led.push(led)?;
         Ok(())
     }

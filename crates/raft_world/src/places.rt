@@ -8,9 +8,9 @@ use crate::member::Member;
 
 // The position of the first member with the id, if there is one.
 fn position_of(members: &[Member], id: u64) -> Option<usize>
-    ensures { result ≡ position_from (λ (m : AMember). m.id == id) 0 members.now }
+    ensures { result ≡ position_from (λ (m : AMember). m.replica.id == id) 0 members.now }
 {
-    members.iter().position(|member| member.id == id)
+    members.iter().position(|member| member.replica.id == id)
 }
 
 // The place of the first member with the id, if there is one.

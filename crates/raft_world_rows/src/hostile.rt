@@ -19,7 +19,7 @@ pub struct HostileWorld {
 
 // The member with the id, if there is one.
 fn member_of(members: &mut [Member], node: u64) -> Option<&mut Member> {
-    let place = members.iter().position(|member| member.id == node)?;
+    let place = members.iter().position(|member| member.replica.id == node)?;
     members.get_mut(place)
 }
 
@@ -68,7 +68,7 @@ impl HostileWorld {
 
     /// The member with the id, if there is one.
     pub fn member(&self, id: u64) -> Option<&Member> {
-        self.members.iter().find(|member| member.id == id)
+        self.members.iter().find(|member| member.replica.id == id)
     }
 
     /// What became of the last event.

@@ -96,6 +96,10 @@ impl Display for MemberText<'_> {
         let role = role_of(self.0);
         let committed = committed_of(self.0);
         let stored = StoredText(self.0.stored());
-        writeln!(f, "{} {role} committed {committed} {stored}", self.0.id)
+        writeln!(
+            f,
+            "{} {role} committed {committed} {stored}",
+            self.0.replica.id
+        )
     }
 }

@@ -1,33 +1,11 @@
 -- What a line of a script says: a word, and numbers after it.
-use Rattle.std.specs.Prelude.{ℕ, Bool, ◌^◌, ◌==◌, ◌||◌, ◌&&◌, not, nat_lt, if◌then◌else◌, List, [], ◌∷◌, length, Option, Some, None, codes}
-use Rattle.std.specs.List.{slice_split}
-use Rattle.std.specs.Str.{all_ascii_digits, bytes_eq, is_utf8}
-use Rattle.std.specs.Str.Parse.{digits_value}
+use Rattle.std.specs.Prelude.{ℕ, ◌==◌, ◌||◌, not, nat_lt, if◌then◌else◌, List, [], ◌∷◌, length, Option, Some, None, codes}
+use Rattle.std.specs.Str.{bytes_eq, is_utf8}
+use Rattle.raft_script_lines.specs.Words.{numbers_of, words_of}
 use Rattle.raft_cluster.specs.declared.script.line.Line.{Line}
 use Rattle.raft_cluster.specs.declared.script.line.Line.TheVariants.{Skipped, Nodes, Add, Init, Propose, Total}
 use Rattle.raft_cluster.specs.declared.script.line.Verb.{Verb}
 use Rattle.raft_cluster.specs.declared.script.line.Verb.TheVariants as verbs
-
--- the words of a line: each space parts two words, which may be empty
-abbrev pub words_of : List ℕ → List (List ℕ)
-words_of line = slice_split (λ byte. byte == 32) line
-
--- a word names a number if it is decimal digits, at least one, and the number is below 2^64
-abbrev pub is_numeral : List ℕ → Bool
-is_numeral word = all_ascii_digits word && (nat_lt 0 (length word) && nat_lt (digits_value 10 word) (2 ^ 64))
-
-abbrev pub number_of : List ℕ → Option ℕ
-number_of word = if is_numeral word then Some (digits_value 10 word) else None
-
-abbrev pub both : Option ℕ → Option (List ℕ) → Option (List ℕ)
-both (Some number) (Some numbers) = Some (number ∷ numbers)
-both (Some number) None = None
-both None others = None
-
--- the numbers that these words name, where each of them names one
-abbrev pub numbers_of : List (List ℕ) → Option (List ℕ)
-numbers_of [] = Some []
-numbers_of (word ∷ words) = both (number_of word) (numbers_of words)
 
 abbrev pub verb_of : List ℕ → Option Verb
 verb_of word =
@@ -76,8 +54,3 @@ longest_line = 65536
 -- what a line says: nothing if it is longer or no text
 unfoldable pub line_of : List ℕ → Option Line
 line_of line = if nat_lt longest_line (length line) || not (is_utf8 line) then None else said_by line
-
--- the words after the one that a space ends
-abbrev pub words_after : Option (List ℕ) → List (List ℕ)
-words_after None = []
-words_after (Some text) = words_of text

@@ -1,9 +1,10 @@
 //! What a line of a script says.
 ghost use Rattle.std.specs.Prelude.{◌≡◌, ◌≢◌, ℕ, []};
 ghost use Rattle.std.specs.Prelude.{◌∷◌, MatchOption, Some, None, IfSome, IfNone};
-ghost use Rattle.std.specs.Option.{option_map};
-ghost use Rattle.raft_cluster.specs.Script.Line.{words_of, words_after, number_of, numbers_of, verb_of, line_from, line_of, said_by, said_by_words};
+ghost use Rattle.raft_script_lines.specs.Words.{words_of, numbers_of};
+ghost use Rattle.raft_cluster.specs.Script.Line.{verb_of, line_from, line_of, said_by, said_by_words};
 
+use raft_script_lines::{first_word, number_of};
 use std::str;
 
 /// The longest line, in bytes, its newline not counted.
@@ -52,27 +53,6 @@ pub enum Verb {
     Total,
 }
 
-/// The first word, and the text after the space that ends it.
-fn first_word(text: &str) -> (&str, Option<&str>)
-    ensures { words_of text.now ≡ result.0.now ∷ words_after (option_map
-        (λ rest. rest.now) result.1) }
-{
-    match text.split_once(' ') {
-        Some((word, rest)) => (word, Some(rest)),
-        None => (text, None),
-    }
-}
-
-/// The number that a word names.
-fn number_in(word: &str) -> Option<u64>
-    ensures { result ≡ number_of word.now }
-{
-    if word.starts_with('+') {
-        return None;
-    }
-    word.parse().ok()
-}
-
 fn verb_in(word: &str) -> Option<Verb>
     ensures { result ≡ verb_of word.now }
 {
@@ -93,7 +73,7 @@ fn one_number(text: &str) -> Option<u64>
 {
     let (word, rest) = first_word(text);
     match rest {
-        None => number_in(word),
+        None => number_of(word),
         Some(_) => None,
     }
 }
@@ -104,7 +84,7 @@ fn two_numbers(text: &str) -> Option<(u64, u64)>
     ensures some { IfSome result (λ r. numbers_of (words_of text.now) ≡ Some (r.0 ∷ r.1 ∷ [])) }
 {
     let (word, rest) = first_word(text);
-    let first = number_in(word)?;
+    let first = number_of(word)?;
     let second = one_number(rest?)?;
     Some((first, second))
 }
@@ -117,7 +97,7 @@ fn three_numbers(text: &str) -> Option<(u64, u64, u64)>
         (r.0 ∷ r.1 ∷ r.2 ∷ [])) }
 {
     let (word, rest) = first_word(text);
-    let first = number_in(word)?;
+    let first = number_of(word)?;
     let (second, third) = two_numbers(rest?)?;
     Some((first, second, third))
 }

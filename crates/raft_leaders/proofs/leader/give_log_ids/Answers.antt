@@ -1,5 +1,5 @@
 -- One more is given a log id.
-use Rattle.std.proofs.Common.{◌≡◌, ◌∙◌, ap, suc, ◌+◌, refl, get_or, add-one, sym, arith}
+use Rattle.std.proofs.Common.{◌≡◌, ◌∙◌, ap, suc, ◌+◌, refl, get_or, arith}
 use Rattle.std.proofs.Math.ListN.{set}
 use Rattle.raft_leaders.specs.Leader.{id_of_leader}
 use Rattle.raft_leaders.proofs.GivenLemmas.{given, next_given, give_next, given_all}

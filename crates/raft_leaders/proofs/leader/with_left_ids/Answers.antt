@@ -1,5 +1,5 @@
 -- The ids that are left come behind the learners.
-use Rattle.std.proofs.Common.{◌≡◌, ◌∙◌, ◌++◌, ◌∷◌, [], sym, ap, append_assoc, append-nil}
+use Rattle.std.proofs.Common.{◌∙◌, ◌++◌, ◌∷◌, [], sym, ap, append_assoc, append-nil}
 use Rattle.raft_leaders.specs.Leader.{left_among}
 use Rattle.raft_leaders.proofs.PeerLemmas.{left-more}
 use Rattle.raft_leaders.proofs.leader.with_left_ids.Goals as goal

@@ -1,7 +1,6 @@
-use Rattle.std.proofs.Common.{◌≡◌, ◌+◌, ◌-◌, ◌++◌, ◌≤◌, ◌∙◌, ℕ, List, Option, Some, drop, take, length, slice_get, sym, ap, subst, arith}
+use Rattle.std.proofs.Common.{◌≡◌, ◌+◌, ◌-◌, ◌++◌, ◌∙◌, Some, length, slice_get, sym, ap, subst, arith}
 use Rattle.std.proofs.lemmas.List.{length-drop}
 use Rattle.std.proofs.lemmas.Option.{slice_get-get_or}
-use Rattle.raft_group_step.specs.Values.{Entry}
 use Rattle.raft_machines.specs.Fold.{after_payload}
 use Rattle.raft_machines.specs.Telling.{Standing, answer_on, told_at, untold_of}
 use Rattle.raft_machines.proofs.TellingLemmas.{AreToldUpTo, all_told, answered_here, one_run, told_here}

@@ -1,5 +1,5 @@
 use Rattle.std.proofs.Common.{◌≡◌, ◌∷◌, []}
-use Rattle.raft_cluster.specs.Script.Line.{words_of}
+use Rattle.raft_script_lines.specs.Words.{words_of}
 use Rattle.raft_cluster.proofs.WordLemmas.{numbers_empty, split_numbers}
 use Rattle.raft_cluster.proofs.script.line.one_number.Goals as goal
 

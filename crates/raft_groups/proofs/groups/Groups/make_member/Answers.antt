@@ -1,5 +1,5 @@
 -- Where the second place isn't there the group is stored.
-use Rattle.std.proofs.Common.{◌≡◌, [], ◌∷◌, true, inr, subst, sym}
+use Rattle.std.proofs.Common.{[], ◌∷◌, true, inr, subst, sym}
 use Rattle.raft_state.proofs.GrowthLemmas.{on_err}
 use Rattle.raft_group_step.specs.StoredGroup.{StoredGroup}
 use Rattle.raft_group_step.specs.GroupState.{no_group}

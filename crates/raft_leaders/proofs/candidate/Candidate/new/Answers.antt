@@ -1,5 +1,5 @@
 -- A new candidate: nobody has granted, and the voters' ids are distinct.
-use Rattle.std.proofs.Common.{sym, subst, refl}
+use Rattle.std.proofs.Common.{sym, subst}
 use Rattle.std.specs.Prelude.{false}
 use Rattle.std.specs.List.{IsDistinct}
 use Rattle.raft_progress.specs.Parts.{ids_of}

@@ -1,5 +1,5 @@
 -- Who had progress keeps it.
-use Rattle.std.proofs.Common.{◌≡◌, ◌∙◌, ◌++◌, ap, subst, sym}
+use Rattle.std.proofs.Common.{◌∙◌, ◌++◌, ap, subst, sym}
 use Rattle.raft_progress.specs.Parts.{IsUpgraded}
 use Rattle.raft_leaders.specs.Leader.{left_ids, unknown_peer}
 use Rattle.raft_leaders.proofs.PeerLemmas.{values_stay}

@@ -1,5 +1,5 @@
 -- Each peer begins unknown.
-use Rattle.std.proofs.Common.{◌≡◌, ◌∙◌, ap, map}
+use Rattle.std.proofs.Common.{◌∙◌, ap, map}
 use Rattle.raft_leaders.specs.Leader.{unknown_peer}
 use Rattle.raft_leaders.proofs.leader.Leader.new.Goals as goal
 

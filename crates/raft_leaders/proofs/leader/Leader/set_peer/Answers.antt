@@ -1,5 +1,5 @@
 -- The entry is written where somebody has the id.
-use Rattle.std.proofs.Common.{◌≡◌, sym, ap}
+use Rattle.std.proofs.Common.{sym}
 use Rattle.raft_progress.proofs.PartsLemmas.{nobody_has}
 use Rattle.raft_leaders.proofs.PeerLemmas.{nothing_set, somebody_has}
 use Rattle.raft_leaders.proofs.leader.Leader.set_peer.Goals as goal

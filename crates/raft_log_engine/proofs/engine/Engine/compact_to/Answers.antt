@@ -1,16 +1,26 @@
-use Rattle.std.proofs.Common.{[], ◌∷◌, sym, ◌∙◌}
+use Rattle.std.proofs.Common.{[], ◌∷◌, refl, sym, subst, ◌∙◌}
 use Rattle.raft_log_disk.proofs.CauseLemmas.{at_err}
 use Rattle.raft_log_memtables.specs.MemTables.{content_in}
 use Rattle.raft_log_engine.specs.Held.{bytes_on}
+use Rattle.raft_content_log.specs.Leaving.{LeavesElsewhere}
+use Rattle.raft_log_engine.specs.Left.{leaves_on}
 use Rattle.raft_log_engine.specs.Reads.{compaction}
-use Rattle.raft_log_engine.proofs.Clauses.{parts, refused}
+use Rattle.raft_log_engine.proofs.Clauses.{kept_by, parts, refused}
 use Rattle.raft_log_engine.proofs.Seen.{count_seen}
 use Rattle.raft_log_engine.proofs.engine.Engine.compact_to.Goals as goal
 
 pub returns-in_err-batch-clause-err : goal.returns-in_err-batch-clause-err
 returns-in_err-batch-clause-err g c =
-    rw (← c.self.view_is) (λ sound. at_err _ _ (refused (g.F.FileSystem.disk) (parts c.self.inside.files c.self.inside.append c.self.inside.tables c.self.inside.is_stopped) (c.self.invariant c.if-self.false) (compaction c.args.group c.args.index ∷ [])))
+    rw (← c.self.view_is) (λ sound. at_err _ _ (refused (g.F.FileSystem.disk) (parts c.self.inside.files c.self.inside.append c.self.inside.tables c.self.inside.is_stopped c.self.inside.wrote_unsynced) (kept_by (g.F.FileSystem.disk) (parts c.self.inside.files c.self.inside.append c.self.inside.tables c.self.inside.is_stopped c.self.inside.wrote_unsynced) (c.self.invariant c.if-self.false) sound.synced) sound.synced (compaction c.args.group c.args.index ∷ [])))
 
 pub returns-clause-count : goal.returns-clause-count
 returns-clause-count g c =
     rw (← c.self.view_is) (c.count_before-count.ensures ∙ sym (count_seen (bytes_on (g.F.FileSystem.disk c.self.inside.files) c.self.inside.append) (content_in c.self.inside.tables c.args.group).entry c.args.index))
+
+pub returns-clause-others : goal.returns-clause-others
+returns-clause-others g c =
+    subst (λ l. LeavesElsewhere l (leaves_on (g.F.FileSystem.disk) c.args.self.now) (leaves_on (g.F.FileSystem.disk) c.write.new.self)) c.in_ok-batch.ensures (c.write.ensures.others refl)
+
+pub returns-in_err-write-clause-others : goal.returns-in_err-write-clause-others
+returns-in_err-write-clause-others g c =
+    subst (λ l. LeavesElsewhere l (leaves_on (g.F.FileSystem.disk) c.args.self.now) (leaves_on (g.F.FileSystem.disk) c.write.new.self)) c.in_ok-batch.ensures (c.write.ensures.others refl)

@@ -1,109 +1,218 @@
-use Rattle.std.proofs.Common.{◌≡◌, false, ap, ◌∙◌, inr}
+-- What a write leaves, exit by exit.
+use Rattle.std.proofs.Common.{◌≡◌, true, false, sym, ap, subst, ◌∙◌, inr}
+use Rattle.std.proofs.lemmas.Bool.{false≢true}
 use Rattle.std.specs.List.{list_any}
 use Rattle.raft_log_records.specs.Spelling.{holds_mark}
-use Rattle.raft_log_engine.specs.Held.{seen_on}
-use Rattle.raft_log_engine.specs.Left.{answers_on}
 use Rattle.raft_log_disk.proofs.CauseLemmas.{at_err}
-use Rattle.raft_log_engine.proofs.Clauses.{agrees, append_failed, apply_failed, done_from, done_kept, done_seen, done_written, empty_written, others, parts, refused}
-use Rattle.raft_log_engine.proofs.Reopened.{append_opens, apply_opens, done_opens, refused_opens, still_opens}
+use Rattle.raft_log_pipe.proofs.AloneLemmas.{nearly}
+use Rattle.raft_log_memtables.specs.Content.{after_batch}
+use Rattle.raft_content_log.specs.Leaving.{IsWritten}
+use Rattle.raft_log_engine.specs.Held.{seen_on}
+use Rattle.raft_log_engine.specs.Left.{answers_on, leaves_on}
+use Rattle.raft_log_engine.specs.Since.{HasWritten}
+use Rattle.raft_log_engine.proofs.Clauses.{HeldBy, agrees, done_batches, done_from, done_kept, done_seen, done_written, empty_written, failed, kept_by, others, parts, put_leaves, refused}
+use Rattle.raft_log_engine.proofs.Reopened.{done_opens, failed_opens, refused_opens, still_opens}
+use Rattle.raft_log_engine.proofs.Since.{failed_front, more_opens, more_written, no_batch, nothing_since, one_batch, refused_front, written_opens}
+use Rattle.raft_log_engine.specs.Reopened.{directories_of_engine}
+use Rattle.raft_log_engine.proofs.Synced.{at_ok, synced_opens, synced_others, synced_refused, synced_written}
+use Rattle.raft_log_engine.proofs.Tables.{answered}
 use Rattle.raft_log_engine.proofs.engine.Engine.write.Goals as goal
 
-pub returns-then-is_empty-clause-ok : goal.returns-then-is_empty-clause-ok
-returns-then-is_empty-clause-ok g c =
-    rw (← c.self.view_is) (λ sound. empty_written (g.F.FileSystem.disk) (parts c.self.inside.files c.self.inside.append c.self.inside.tables c.self.inside.is_stopped) (c.self.invariant c.if-self.false) c.args.batch.now.items (c.is_empty.ensures.0 c.if-is_empty.true))
+pub returns-then-self-clause-opens_front : goal.returns-then-self-clause-opens_front
+returns-then-self-clause-opens_front g c =
+    let met = g.met.F.FileSystem g.world.𝓛 g.world.𝓜 g.world.𝓡 ((λ s x. x), (λ x. x), (λ x. x), λ x. x) in
+    rw (← c.self.view_is) (λ before batches alone w. refused_front (g.F.FileSystem.disk) (parts c.self.inside.files c.self.inside.append c.self.inside.tables c.self.inside.is_stopped c.self.inside.wrote_unsynced) before batches _ (met.is_named c.self.inside.files) alone w)
+
+pub returns-then-is_empty-clause-answers : goal.returns-then-is_empty-clause-answers
+returns-then-is_empty-clause-answers g c =
+    rw (← c.self.view_is) (ap (λ l. after_batch l (answers_on (g.F.FileSystem.disk) (parts c.self.inside.files c.self.inside.append c.self.inside.tables c.self.inside.is_stopped c.self.inside.wrote_unsynced))) (sym (c.is_empty.ensures.0 c.if-is_empty.true)))
+
+pub returns-then-is_empty-clause-written : goal.returns-then-is_empty-clause-written
+returns-then-is_empty-clause-written g c =
+    rw (← c.self.view_is) (λ before batches w. subst (λ l. HasWritten (g.F.FileSystem.disk) (parts c.self.inside.files c.self.inside.append c.self.inside.tables c.self.inside.is_stopped c.self.inside.wrote_unsynced) before l) (sym (no_batch c.args.batch.now.items batches (c.is_empty.ensures.0 c.if-is_empty.true))) w)
+
+pub returns-then-is_empty-clause-opens_front : goal.returns-then-is_empty-clause-opens_front
+returns-then-is_empty-clause-opens_front g c =
+    let met = g.met.F.FileSystem g.world.𝓛 g.world.𝓜 g.world.𝓡 ((λ s x. x), (λ x. x), (λ x. x), λ x. x) in
+    rw (← c.self.view_is) (λ before batches alone w. refused_front (g.F.FileSystem.disk) (parts c.self.inside.files c.self.inside.append c.self.inside.tables c.self.inside.is_stopped c.self.inside.wrote_unsynced) before batches _ (met.is_named c.self.inside.files) alone w)
 
 pub returns-in_err-items-clause-err : goal.returns-in_err-items-clause-err
 returns-in_err-items-clause-err g c =
-    rw (← c.self.view_is) (λ sound. at_err _ _ (refused (g.F.FileSystem.disk) (parts c.self.inside.files c.self.inside.append c.self.inside.tables c.self.inside.is_stopped) (c.self.invariant c.if-self.false) c.args.batch.now.items))
+    rw (← c.self.view_is) (λ sound. at_err _ _ (refused (g.F.FileSystem.disk) (parts c.self.inside.files c.self.inside.append c.self.inside.tables c.self.inside.is_stopped c.self.inside.wrote_unsynced) (kept_by (g.F.FileSystem.disk) (parts c.self.inside.files c.self.inside.append c.self.inside.tables c.self.inside.is_stopped c.self.inside.wrote_unsynced) (c.self.invariant c.if-self.false) sound.synced) sound.synced c.args.batch.now.items))
+
+pub returns-in_err-items-clause-opens_either : goal.returns-in_err-items-clause-opens_either
+returns-in_err-items-clause-opens_either g c =
+    let met = g.met.F.FileSystem g.world.𝓛 g.world.𝓜 g.world.𝓡 ((λ s x. x), (λ x. x), (λ x. x), λ x. x) in
+    rw (← c.self.view_is) (λ sound alone. at_err _ _ (refused_opens (g.F.FileSystem.disk) (parts c.self.inside.files c.self.inside.append c.self.inside.tables c.self.inside.is_stopped c.self.inside.wrote_unsynced) alone (kept_by (g.F.FileSystem.disk) (parts c.self.inside.files c.self.inside.append c.self.inside.tables c.self.inside.is_stopped c.self.inside.wrote_unsynced) (c.self.invariant c.if-self.false) sound.synced) (met.is_named c.self.inside.files) c.args.batch.now.items))
+
+pub returns-in_err-items-clause-opens_front : goal.returns-in_err-items-clause-opens_front
+returns-in_err-items-clause-opens_front g c =
+    let met = g.met.F.FileSystem g.world.𝓛 g.world.𝓜 g.world.𝓡 ((λ s x. x), (λ x. x), (λ x. x), λ x. x) in
+    rw (← c.self.view_is) (λ before batches alone w. refused_front (g.F.FileSystem.disk) (parts c.self.inside.files c.self.inside.append c.self.inside.tables c.self.inside.is_stopped c.self.inside.wrote_unsynced) before batches _ (met.is_named c.self.inside.files) alone w)
 
 pub returns-in-Err-clause-err : goal.returns-in-Err-clause-err
 returns-in-Err-clause-err g c =
     let same : c.prepare.new.batch.items ≡ c.args.batch.now.items = c.in_ok-items.ensures.same in
     let plain : list_any holds_mark c.prepare.new.batch.items ≡ false = ap (list_any holds_mark) same ∙ c.in_ok-items.ensures.plain in
-    rw (← c.self.view_is, ← same) (λ sound. append_failed (g.F.FileSystem.disk) (parts c.self.inside.files c.self.inside.append c.self.inside.tables c.self.inside.is_stopped) (c.self.invariant c.if-self.false) c.append_synced.new.files c.append_synced.new.pipe (seen_on (g.F.FileSystem.disk c.append_synced.new.files) c.append_synced.new.pipe c.self.inside.tables) c.prepare.new.batch.items plain c.in-Err.ensures.err)
+    rw (← c.self.view_is, ← same) (λ sound. failed (g.F.FileSystem.disk) (parts c.self.inside.files c.self.inside.append c.self.inside.tables c.self.inside.is_stopped c.self.inside.wrote_unsynced) (kept_by (g.F.FileSystem.disk) (parts c.self.inside.files c.self.inside.append c.self.inside.tables c.self.inside.is_stopped c.self.inside.wrote_unsynced) (c.self.invariant c.if-self.false) sound.synced) sound.synced c.append_batch.new.files c.append_batch.new.pipe c.self.inside.tables (seen_on (g.F.FileSystem.disk c.append_batch.new.files) c.append_batch.new.pipe c.self.inside.tables) c.prepare.new.batch.items plain c.in-Err.ensures.err)
 
 pub returns-in-Err-clause-others : goal.returns-in-Err-clause-others
 returns-in-Err-clause-others g c =
     let same : c.prepare.new.batch.items ≡ c.args.batch.now.items = c.in_ok-items.ensures.same in
     let plain : list_any holds_mark c.prepare.new.batch.items ≡ false = ap (list_any holds_mark) same ∙ c.in_ok-items.ensures.plain in
-    rw (← c.self.view_is, ← same) (others (g.F.FileSystem.disk) (parts c.self.inside.files c.self.inside.append c.self.inside.tables c.self.inside.is_stopped) (c.self.invariant c.if-self.false) c.if-self.false c.prepare.new.batch.items _ (append_failed (g.F.FileSystem.disk) (parts c.self.inside.files c.self.inside.append c.self.inside.tables c.self.inside.is_stopped) (c.self.invariant c.if-self.false) c.append_synced.new.files c.append_synced.new.pipe (seen_on (g.F.FileSystem.disk c.append_synced.new.files) c.append_synced.new.pipe c.self.inside.tables) c.prepare.new.batch.items plain c.in-Err.ensures.err).leaves_either)
-
-pub returns-in-Err-apply-clause-err : goal.returns-in-Err-apply-clause-err
-returns-in-Err-apply-clause-err g c =
-    let same : c.prepare.new.batch.items ≡ c.args.batch.now.items = c.in_ok-items.ensures.same in
-    let plain : list_any holds_mark c.prepare.new.batch.items ≡ false = ap (list_any holds_mark) same ∙ c.in_ok-items.ensures.plain in
-    rw (← c.self.view_is, ← same) (λ sound. apply_failed (g.F.FileSystem.disk) (parts c.self.inside.files c.self.inside.append c.self.inside.tables c.self.inside.is_stopped) (c.self.invariant c.if-self.false) c.append_synced.new.files c.append_synced.new.pipe (seen_on (g.F.FileSystem.disk c.append_synced.new.files) c.append_synced.new.pipe c.apply.new.tables) c.in-Ok.written.id.seq c.prepare.new.batch.items plain c.in-Ok.ensures.ok)
-
-pub returns-in-Err-apply-clause-others : goal.returns-in-Err-apply-clause-others
-returns-in-Err-apply-clause-others g c =
-    let same : c.prepare.new.batch.items ≡ c.args.batch.now.items = c.in_ok-items.ensures.same in
-    let plain : list_any holds_mark c.prepare.new.batch.items ≡ false = ap (list_any holds_mark) same ∙ c.in_ok-items.ensures.plain in
-    rw (← c.self.view_is, ← same) (others (g.F.FileSystem.disk) (parts c.self.inside.files c.self.inside.append c.self.inside.tables c.self.inside.is_stopped) (c.self.invariant c.if-self.false) c.if-self.false c.prepare.new.batch.items _ (apply_failed (g.F.FileSystem.disk) (parts c.self.inside.files c.self.inside.append c.self.inside.tables c.self.inside.is_stopped) (c.self.invariant c.if-self.false) c.append_synced.new.files c.append_synced.new.pipe (seen_on (g.F.FileSystem.disk c.append_synced.new.files) c.append_synced.new.pipe c.apply.new.tables) c.in-Ok.written.id.seq c.prepare.new.batch.items plain c.in-Ok.ensures.ok).leaves_either)
-
-pub invariant_of-self-in_default : goal.invariant_of-self-in_default
-invariant_of-self-in_default g c =
-    let same : c.prepare.new.batch.items ≡ c.args.batch.now.items = c.in_ok-items.ensures.same in
-    let done = done_from (g.F.FileSystem.disk) (parts c.self.inside.files c.self.inside.append c.self.inside.tables c.self.inside.is_stopped) c.append_synced.new.files c.append_synced.new.pipe c.apply.new.tables c.prepare.new.batch.items c.args.batch.now.items c.in-Ok.written
-    c.entries_block-block.result c.in_ok-items.items same c.in_ok-items.ensures.plain c.in-Ok.ensures.pipe c.in-Ok.ensures.files c.in-Ok.ensures.queue c.in-Ok.ensures.ok c.in-Ok.ensures.stands c.entries_block-block.ensures c.in_default.ensures c.in_ok-items.ensures.read in
-    λ sound. (_, done_kept (g.F.FileSystem.disk) (parts c.self.inside.files c.self.inside.append c.self.inside.tables c.self.inside.is_stopped) (c.self.invariant c.if-self.false) c.append_synced.new.files c.append_synced.new.pipe c.apply.new.tables c.prepare.new.batch.items c.in-Ok.written c.entries_block-block.result c.in_ok-items.items done)
-
-pub returns-clause-ok : goal.returns-clause-ok
-returns-clause-ok g c =
-    let same : c.prepare.new.batch.items ≡ c.args.batch.now.items = c.in_ok-items.ensures.same in
-    let done = done_from (g.F.FileSystem.disk) (parts c.self.inside.files c.self.inside.append c.self.inside.tables c.self.inside.is_stopped) c.append_synced.new.files c.append_synced.new.pipe c.apply.new.tables c.prepare.new.batch.items c.args.batch.now.items c.in-Ok.written
-    c.entries_block-block.result c.in_ok-items.items same c.in_ok-items.ensures.plain c.in-Ok.ensures.pipe c.in-Ok.ensures.files c.in-Ok.ensures.queue c.in-Ok.ensures.ok c.in-Ok.ensures.stands c.entries_block-block.ensures c.in_default.ensures c.in_ok-items.ensures.read in
-    rw (← c.self.view_is, ← same) (λ sound. done_written (g.F.FileSystem.disk) (parts c.self.inside.files c.self.inside.append c.self.inside.tables c.self.inside.is_stopped) (c.self.invariant c.if-self.false) c.append_synced.new.files c.append_synced.new.pipe c.apply.new.tables c.self.inside.is_stopped c.prepare.new.batch.items c.in-Ok.written c.entries_block-block.result c.in_ok-items.items done)
-
-pub returns-clause-others : goal.returns-clause-others
-returns-clause-others g c =
-    let same : c.prepare.new.batch.items ≡ c.args.batch.now.items = c.in_ok-items.ensures.same in
-    let done = done_from (g.F.FileSystem.disk) (parts c.self.inside.files c.self.inside.append c.self.inside.tables c.self.inside.is_stopped) c.append_synced.new.files c.append_synced.new.pipe c.apply.new.tables c.prepare.new.batch.items c.args.batch.now.items c.in-Ok.written
-    c.entries_block-block.result c.in_ok-items.items same c.in_ok-items.ensures.plain c.in-Ok.ensures.pipe c.in-Ok.ensures.files c.in-Ok.ensures.queue c.in-Ok.ensures.ok c.in-Ok.ensures.stands c.entries_block-block.ensures c.in_default.ensures c.in_ok-items.ensures.read in
-    rw (← c.self.view_is, ← same) (others (g.F.FileSystem.disk) (parts c.self.inside.files c.self.inside.append c.self.inside.tables c.self.inside.is_stopped) (c.self.invariant c.if-self.false) c.if-self.false c.prepare.new.batch.items _ (λ left may. inr ((done_written (g.F.FileSystem.disk) (parts c.self.inside.files c.self.inside.append c.self.inside.tables c.self.inside.is_stopped) (c.self.invariant c.if-self.false) c.append_synced.new.files c.append_synced.new.pipe c.apply.new.tables c.self.inside.is_stopped c.prepare.new.batch.items c.in-Ok.written c.entries_block-block.result c.in_ok-items.items done).leaves_only left may)))
-
-pub returns-clause-others_answered : goal.returns-clause-others_answered
-returns-clause-others_answered g c =
-    let same : c.prepare.new.batch.items ≡ c.args.batch.now.items = c.in_ok-items.ensures.same in
-    let done = done_from (g.F.FileSystem.disk) (parts c.self.inside.files c.self.inside.append c.self.inside.tables c.self.inside.is_stopped) c.append_synced.new.files c.append_synced.new.pipe c.apply.new.tables c.prepare.new.batch.items c.args.batch.now.items c.in-Ok.written
-    c.entries_block-block.result c.in_ok-items.items same c.in_ok-items.ensures.plain c.in-Ok.ensures.pipe c.in-Ok.ensures.files c.in-Ok.ensures.queue c.in-Ok.ensures.ok c.in-Ok.ensures.stands c.entries_block-block.ensures c.in_default.ensures c.in_ok-items.ensures.read in
-    rw (← c.self.view_is, ← same) (λ sound. (c.if-self.false, agrees c.prepare.new.batch.items (answers_on (g.F.FileSystem.disk) (parts c.self.inside.files c.self.inside.append c.self.inside.tables c.self.inside.is_stopped)) (seen_on (g.F.FileSystem.disk c.append_synced.new.files) c.append_synced.new.pipe c.apply.new.tables) (done_seen (g.F.FileSystem.disk) (parts c.self.inside.files c.self.inside.append c.self.inside.tables c.self.inside.is_stopped) (c.self.invariant c.if-self.false) c.append_synced.new.files c.append_synced.new.pipe c.apply.new.tables c.prepare.new.batch.items c.in-Ok.written c.entries_block-block.result c.in_ok-items.items done)))
-
--- ---- what an opening answers after a crash
-
-pub returns-then-is_empty-clause-opens : goal.returns-then-is_empty-clause-opens
-returns-then-is_empty-clause-opens g c =
-    let met = g.met.F.FileSystem g.world.𝓛 g.world.𝓜 g.world.𝓡 ((λ s x. x), (λ x. x), (λ x. x), λ x. x) in
-    rw (← c.self.view_is) (λ sound alone. still_opens (g.F.FileSystem.disk) (parts c.self.inside.files c.self.inside.append c.self.inside.tables c.self.inside.is_stopped) (c.self.invariant c.if-self.false) alone (met.is_named c.self.inside.files))
-
-pub returns-in_err-items-clause-opens_either : goal.returns-in_err-items-clause-opens_either
-returns-in_err-items-clause-opens_either g c =
-    let met = g.met.F.FileSystem g.world.𝓛 g.world.𝓜 g.world.𝓡 ((λ s x. x), (λ x. x), (λ x. x), λ x. x) in
-    rw (← c.self.view_is) (λ sound alone. at_err _ _ (refused_opens (g.F.FileSystem.disk) (parts c.self.inside.files c.self.inside.append c.self.inside.tables c.self.inside.is_stopped) (c.self.invariant c.if-self.false) alone (met.is_named c.self.inside.files) c.args.batch.now.items))
+    rw (← c.self.view_is, ← same) (λ synced. others (g.F.FileSystem.disk) (parts c.self.inside.files c.self.inside.append c.self.inside.tables c.self.inside.is_stopped c.self.inside.wrote_unsynced) (c.self.invariant c.if-self.false) c.if-self.false c.prepare.new.batch.items _ (λ all. (failed (g.F.FileSystem.disk) (parts c.self.inside.files c.self.inside.append c.self.inside.tables c.self.inside.is_stopped c.self.inside.wrote_unsynced) (kept_by (g.F.FileSystem.disk) (parts c.self.inside.files c.self.inside.append c.self.inside.tables c.self.inside.is_stopped c.self.inside.wrote_unsynced) (c.self.invariant c.if-self.false) all) all c.append_batch.new.files c.append_batch.new.pipe c.self.inside.tables (seen_on (g.F.FileSystem.disk c.append_batch.new.files) c.append_batch.new.pipe c.self.inside.tables) c.prepare.new.batch.items plain c.in-Err.ensures.err).leaves_either))
 
 pub returns-in-Err-clause-opens_either : goal.returns-in-Err-clause-opens_either
 returns-in-Err-clause-opens_either g c =
     let met = g.met.F.FileSystem g.world.𝓛 g.world.𝓜 g.world.𝓡 ((λ s x. x), (λ x. x), (λ x. x), λ x. x) in
     let same : c.prepare.new.batch.items ≡ c.args.batch.now.items = c.in_ok-items.ensures.same in
     let plain : list_any holds_mark c.prepare.new.batch.items ≡ false = ap (list_any holds_mark) same ∙ c.in_ok-items.ensures.plain in
-    rw (← c.self.view_is, ← same) (λ sound alone. append_opens (g.F.FileSystem.disk) (parts c.self.inside.files c.self.inside.append c.self.inside.tables c.self.inside.is_stopped) (c.self.invariant c.if-self.false) alone c.append_synced.new.files c.append_synced.new.pipe c.prepare.new.batch.items
-    (met.is_named c.append_synced.new.files) c.in-Err.ensures.queue c.in-Err.ensures.nearly plain c.in-Err.ensures.err)
+    rw (← c.self.view_is, ← same) (λ sound alone. failed_opens (g.F.FileSystem.disk) (parts c.self.inside.files c.self.inside.append c.self.inside.tables c.self.inside.is_stopped c.self.inside.wrote_unsynced) alone (kept_by (g.F.FileSystem.disk) (parts c.self.inside.files c.self.inside.append c.self.inside.tables c.self.inside.is_stopped c.self.inside.wrote_unsynced) (c.self.invariant c.if-self.false) sound.synced) c.append_batch.new.files c.append_batch.new.pipe c.prepare.new.batch.items (met.is_named c.append_batch.new.files) c.in-Err.ensures.queue c.in-Err.ensures.nearly plain c.in-Err.ensures.err)
+
+pub returns-in-Err-clause-opens_front : goal.returns-in-Err-clause-opens_front
+returns-in-Err-clause-opens_front g c =
+    let met = g.met.F.FileSystem g.world.𝓛 g.world.𝓜 g.world.𝓡 ((λ s x. x), (λ x. x), (λ x. x), λ x. x) in
+    let same : c.prepare.new.batch.items ≡ c.args.batch.now.items = c.in_ok-items.ensures.same in
+    let plain : list_any holds_mark c.prepare.new.batch.items ≡ false = ap (list_any holds_mark) same ∙ c.in_ok-items.ensures.plain in
+    let some = one_batch c.prepare.new.batch.items (λ none. false≢true (sym c.if-is_empty.false ∙ c.is_empty.ensures.1 (sym same ∙ none))) in
+    rw (← c.self.view_is, ← same, some) (λ before batches alone w. failed_front (g.F.FileSystem.disk) (parts c.self.inside.files c.self.inside.append c.self.inside.tables c.self.inside.is_stopped c.self.inside.wrote_unsynced) c.append_batch.new.files c.append_batch.new.pipe c.prepare.new.batch.items before batches (met.is_named c.append_batch.new.files) c.in-Err.ensures.queue c.in-Err.ensures.nearly plain c.in-Err.ensures.err alone w)
+
+pub returns-in-Err-apply-clause-err : goal.returns-in-Err-apply-clause-err
+returns-in-Err-apply-clause-err g c =
+    let same : c.prepare.new.batch.items ≡ c.args.batch.now.items = c.in_ok-items.ensures.same in
+    let plain : list_any holds_mark c.prepare.new.batch.items ≡ false = ap (list_any holds_mark) same ∙ c.in_ok-items.ensures.plain in
+    rw (← c.self.view_is, ← same) (λ sound. failed (g.F.FileSystem.disk) (parts c.self.inside.files c.self.inside.append c.self.inside.tables c.self.inside.is_stopped c.self.inside.wrote_unsynced) (kept_by (g.F.FileSystem.disk) (parts c.self.inside.files c.self.inside.append c.self.inside.tables c.self.inside.is_stopped c.self.inside.wrote_unsynced) (c.self.invariant c.if-self.false) sound.synced) sound.synced c.append_batch.new.files c.append_batch.new.pipe c.apply.new.tables (seen_on (g.F.FileSystem.disk c.append_batch.new.files) c.append_batch.new.pipe c.apply.new.tables) c.prepare.new.batch.items plain (put_leaves (g.F.FileSystem.disk) (parts c.self.inside.files c.self.inside.append c.self.inside.tables c.self.inside.is_stopped c.self.inside.wrote_unsynced) c.append_batch.new.files c.append_batch.new.pipe c.args.sync c.in-Ok.written.id.seq c.prepare.new.batch.items c.in-Ok.ensures.ok))
+
+pub returns-in-Err-apply-clause-others : goal.returns-in-Err-apply-clause-others
+returns-in-Err-apply-clause-others g c =
+    let same : c.prepare.new.batch.items ≡ c.args.batch.now.items = c.in_ok-items.ensures.same in
+    let plain : list_any holds_mark c.prepare.new.batch.items ≡ false = ap (list_any holds_mark) same ∙ c.in_ok-items.ensures.plain in
+    rw (← c.self.view_is, ← same) (λ synced. others (g.F.FileSystem.disk) (parts c.self.inside.files c.self.inside.append c.self.inside.tables c.self.inside.is_stopped c.self.inside.wrote_unsynced) (c.self.invariant c.if-self.false) c.if-self.false c.prepare.new.batch.items _ (λ all. (failed (g.F.FileSystem.disk) (parts c.self.inside.files c.self.inside.append c.self.inside.tables c.self.inside.is_stopped c.self.inside.wrote_unsynced) (kept_by (g.F.FileSystem.disk) (parts c.self.inside.files c.self.inside.append c.self.inside.tables c.self.inside.is_stopped c.self.inside.wrote_unsynced) (c.self.invariant c.if-self.false) all) all c.append_batch.new.files c.append_batch.new.pipe c.apply.new.tables (seen_on (g.F.FileSystem.disk c.append_batch.new.files) c.append_batch.new.pipe c.apply.new.tables) c.prepare.new.batch.items plain (put_leaves (g.F.FileSystem.disk) (parts c.self.inside.files c.self.inside.append c.self.inside.tables c.self.inside.is_stopped c.self.inside.wrote_unsynced) c.append_batch.new.files c.append_batch.new.pipe c.args.sync c.in-Ok.written.id.seq c.prepare.new.batch.items c.in-Ok.ensures.ok)).leaves_either))
 
 pub returns-in-Err-apply-clause-opens_either : goal.returns-in-Err-apply-clause-opens_either
 returns-in-Err-apply-clause-opens_either g c =
     let met = g.met.F.FileSystem g.world.𝓛 g.world.𝓜 g.world.𝓡 ((λ s x. x), (λ x. x), (λ x. x), λ x. x) in
     let same : c.prepare.new.batch.items ≡ c.args.batch.now.items = c.in_ok-items.ensures.same in
     let plain : list_any holds_mark c.prepare.new.batch.items ≡ false = ap (list_any holds_mark) same ∙ c.in_ok-items.ensures.plain in
-    rw (← c.self.view_is, ← same) (λ sound alone. apply_opens (g.F.FileSystem.disk) (parts c.self.inside.files c.self.inside.append c.self.inside.tables c.self.inside.is_stopped) (c.self.invariant c.if-self.false) alone c.append_synced.new.files c.append_synced.new.pipe c.in-Ok.written.id.seq c.prepare.new.batch.items
-    (met.is_named c.append_synced.new.files) c.in-Ok.ensures.queue c.in-Ok.ensures.alone plain c.in-Ok.ensures.ok)
+    rw (← c.self.view_is, ← same) (λ sound alone. failed_opens (g.F.FileSystem.disk) (parts c.self.inside.files c.self.inside.append c.self.inside.tables c.self.inside.is_stopped c.self.inside.wrote_unsynced) alone (kept_by (g.F.FileSystem.disk) (parts c.self.inside.files c.self.inside.append c.self.inside.tables c.self.inside.is_stopped c.self.inside.wrote_unsynced) (c.self.invariant c.if-self.false) sound.synced) c.append_batch.new.files c.append_batch.new.pipe c.prepare.new.batch.items (met.is_named c.append_batch.new.files) c.in-Ok.ensures.queue (λ alone. nearly c.append_batch.new.pipe (g.F.FileSystem.disk c.append_batch.new.files) (c.in-Ok.ensures.alone alone)) plain (put_leaves (g.F.FileSystem.disk) (parts c.self.inside.files c.self.inside.append c.self.inside.tables c.self.inside.is_stopped c.self.inside.wrote_unsynced) c.append_batch.new.files c.append_batch.new.pipe c.args.sync c.in-Ok.written.id.seq c.prepare.new.batch.items c.in-Ok.ensures.ok))
+
+pub returns-in-Err-apply-clause-opens_front : goal.returns-in-Err-apply-clause-opens_front
+returns-in-Err-apply-clause-opens_front g c =
+    let met = g.met.F.FileSystem g.world.𝓛 g.world.𝓜 g.world.𝓡 ((λ s x. x), (λ x. x), (λ x. x), λ x. x) in
+    let same : c.prepare.new.batch.items ≡ c.args.batch.now.items = c.in_ok-items.ensures.same in
+    let plain : list_any holds_mark c.prepare.new.batch.items ≡ false = ap (list_any holds_mark) same ∙ c.in_ok-items.ensures.plain in
+    let some = one_batch c.prepare.new.batch.items (λ none. false≢true (sym c.if-is_empty.false ∙ c.is_empty.ensures.1 (sym same ∙ none))) in
+    rw (← c.self.view_is, ← same, some) (λ before batches alone w. failed_front (g.F.FileSystem.disk) (parts c.self.inside.files c.self.inside.append c.self.inside.tables c.self.inside.is_stopped c.self.inside.wrote_unsynced) c.append_batch.new.files c.append_batch.new.pipe c.prepare.new.batch.items before batches (met.is_named c.append_batch.new.files) c.in-Ok.ensures.queue (λ alone. nearly c.append_batch.new.pipe (g.F.FileSystem.disk c.append_batch.new.files) (c.in-Ok.ensures.alone alone)) plain (put_leaves (g.F.FileSystem.disk) (parts c.self.inside.files c.self.inside.append c.self.inside.tables c.self.inside.is_stopped c.self.inside.wrote_unsynced) c.append_batch.new.files c.append_batch.new.pipe c.args.sync c.in-Ok.written.id.seq c.prepare.new.batch.items c.in-Ok.ensures.ok) alone w)
+
+pub invariant_of-self-2 : goal.invariant_of-self-2
+invariant_of-self-2 g c =
+    let same : c.prepare.new.batch.items ≡ c.args.batch.now.items = c.in_ok-items.ensures.same in
+    let plain : list_any holds_mark c.prepare.new.batch.items ≡ false = ap (list_any holds_mark) same ∙ c.in_ok-items.ensures.plain in
+    let done = done_from (g.F.FileSystem.disk) (parts c.self.inside.files c.self.inside.append c.self.inside.tables c.self.inside.is_stopped c.self.inside.wrote_unsynced) c.append_batch.new.files c.append_batch.new.pipe c.apply.new.tables c.args.sync c.prepare.new.batch.items c.args.batch.now.items c.in-Ok.written
+    c.entries_block-block.result c.in_ok-items.items same c.in_ok-items.ensures.plain c.in-Ok.ensures.pipe c.in-Ok.ensures.files c.in-Ok.ensures.queue c.in-Ok.ensures.ok c.in-Ok.ensures.stands c.entries_block-block.ensures c.in_default.ensures c.in_ok-items.ensures.read c.in_ok-items.ensures.lengths in
+    λ goes_on. done_batches (g.F.FileSystem.disk) (parts c.self.inside.files c.self.inside.append c.self.inside.tables c.self.inside.is_stopped c.self.inside.wrote_unsynced) c.append_batch.new.files c.append_batch.new.pipe c.apply.new.tables c.args.sync c.prepare.new.batch.items c.in-Ok.written c.entries_block-block.result c.in_ok-items.items done (c.self.invariant c.if-self.false) c.skips_sync-self-inside.result c.skips_sync-self-inside.ensures.none
+
+pub returns-clause-answers : goal.returns-clause-answers
+returns-clause-answers g c =
+    let same : c.prepare.new.batch.items ≡ c.args.batch.now.items = c.in_ok-items.ensures.same in
+    let plain : list_any holds_mark c.prepare.new.batch.items ≡ false = ap (list_any holds_mark) same ∙ c.in_ok-items.ensures.plain in
+    let done = done_from (g.F.FileSystem.disk) (parts c.self.inside.files c.self.inside.append c.self.inside.tables c.self.inside.is_stopped c.self.inside.wrote_unsynced) c.append_batch.new.files c.append_batch.new.pipe c.apply.new.tables c.args.sync c.prepare.new.batch.items c.args.batch.now.items c.in-Ok.written
+    c.entries_block-block.result c.in_ok-items.items same c.in_ok-items.ensures.plain c.in-Ok.ensures.pipe c.in-Ok.ensures.files c.in-Ok.ensures.queue c.in-Ok.ensures.ok c.in-Ok.ensures.stands c.entries_block-block.ensures c.in_default.ensures c.in_ok-items.ensures.read c.in_ok-items.ensures.lengths in
+    rw (← c.self.view_is, ← same) (done_seen (g.F.FileSystem.disk) (parts c.self.inside.files c.self.inside.append c.self.inside.tables c.self.inside.is_stopped c.self.inside.wrote_unsynced) c.append_batch.new.files c.append_batch.new.pipe c.apply.new.tables c.args.sync c.prepare.new.batch.items c.in-Ok.written c.entries_block-block.result c.in_ok-items.items done (c.self.invariant c.if-self.false))
+
+pub returns-clause-ok : goal.returns-clause-ok
+returns-clause-ok g c =
+    let same : c.prepare.new.batch.items ≡ c.args.batch.now.items = c.in_ok-items.ensures.same in
+    let plain : list_any holds_mark c.prepare.new.batch.items ≡ false = ap (list_any holds_mark) same ∙ c.in_ok-items.ensures.plain in
+    let done = done_from (g.F.FileSystem.disk) (parts c.self.inside.files c.self.inside.append c.self.inside.tables c.self.inside.is_stopped c.self.inside.wrote_unsynced) c.append_batch.new.files c.append_batch.new.pipe c.apply.new.tables c.args.sync c.prepare.new.batch.items c.args.batch.now.items c.in-Ok.written
+    c.entries_block-block.result c.in_ok-items.items same c.in_ok-items.ensures.plain c.in-Ok.ensures.pipe c.in-Ok.ensures.files c.in-Ok.ensures.queue c.in-Ok.ensures.ok c.in-Ok.ensures.stands c.entries_block-block.ensures c.in_default.ensures c.in_ok-items.ensures.read c.in_ok-items.ensures.lengths in
+    rw (← c.self.view_is, ← same) (λ sound synced. done_written (g.F.FileSystem.disk) (parts c.self.inside.files c.self.inside.append c.self.inside.tables c.self.inside.is_stopped c.self.inside.wrote_unsynced) c.append_batch.new.files c.append_batch.new.pipe c.apply.new.tables c.args.sync c.prepare.new.batch.items c.in-Ok.written c.entries_block-block.result c.in_ok-items.items done (c.self.invariant c.if-self.false) synced c.self.inside.is_stopped c.skips_sync-self-inside.result (c.skips_sync-self-inside.ensures.synced synced ∙ sound.synced))
+
+pub returns-clause-sound : goal.returns-clause-sound
+returns-clause-sound g c =
+    rw (← c.self.view_is) (λ sound synced. record { goes_on = sound.goes_on; synced = c.skips_sync-self-inside.ensures.synced synced ∙ sound.synced })
+
+pub returns-clause-alone : goal.returns-clause-alone
+returns-clause-alone g c =
+    rw (← c.self.view_is) (λ alone. record { queue = c.in-Ok.ensures.queue ∙ alone.queue; alone = c.in-Ok.ensures.alone alone.alone })
 
 pub returns-clause-opens : goal.returns-clause-opens
 returns-clause-opens g c =
     let met = g.met.F.FileSystem g.world.𝓛 g.world.𝓜 g.world.𝓡 ((λ s x. x), (λ x. x), (λ x. x), λ x. x) in
     let same : c.prepare.new.batch.items ≡ c.args.batch.now.items = c.in_ok-items.ensures.same in
-    let done = done_from (g.F.FileSystem.disk) (parts c.self.inside.files c.self.inside.append c.self.inside.tables c.self.inside.is_stopped) c.append_synced.new.files c.append_synced.new.pipe c.apply.new.tables c.prepare.new.batch.items c.args.batch.now.items c.in-Ok.written
-    c.entries_block-block.result c.in_ok-items.items same c.in_ok-items.ensures.plain c.in-Ok.ensures.pipe c.in-Ok.ensures.files c.in-Ok.ensures.queue c.in-Ok.ensures.ok c.in-Ok.ensures.stands c.entries_block-block.ensures c.in_default.ensures c.in_ok-items.ensures.read in
-    rw (← c.self.view_is) (λ sound alone. done_opens (g.F.FileSystem.disk) (parts c.self.inside.files c.self.inside.append c.self.inside.tables c.self.inside.is_stopped) (c.self.invariant c.if-self.false) alone c.append_synced.new.files c.append_synced.new.pipe c.apply.new.tables c.prepare.new.batch.items c.in-Ok.written
-    c.entries_block-block.result c.in_ok-items.items (met.is_named c.append_synced.new.files) c.in-Ok.ensures.alone done)
+    let plain : list_any holds_mark c.prepare.new.batch.items ≡ false = ap (list_any holds_mark) same ∙ c.in_ok-items.ensures.plain in
+    let done = done_from (g.F.FileSystem.disk) (parts c.self.inside.files c.self.inside.append c.self.inside.tables c.self.inside.is_stopped c.self.inside.wrote_unsynced) c.append_batch.new.files c.append_batch.new.pipe c.apply.new.tables c.args.sync c.prepare.new.batch.items c.args.batch.now.items c.in-Ok.written
+    c.entries_block-block.result c.in_ok-items.items same c.in_ok-items.ensures.plain c.in-Ok.ensures.pipe c.in-Ok.ensures.files c.in-Ok.ensures.queue c.in-Ok.ensures.ok c.in-Ok.ensures.stands c.entries_block-block.ensures c.in_default.ensures c.in_ok-items.ensures.read c.in_ok-items.ensures.lengths in
+    rw (← c.self.view_is) (λ alone synced. done_opens (g.F.FileSystem.disk) (parts c.self.inside.files c.self.inside.append c.self.inside.tables c.self.inside.is_stopped c.self.inside.wrote_unsynced) alone (c.self.invariant c.if-self.false) c.append_batch.new.files c.append_batch.new.pipe c.apply.new.tables c.args.sync c.prepare.new.batch.items c.in-Ok.written
+    c.entries_block-block.result c.in_ok-items.items (met.is_named c.append_batch.new.files) c.in-Ok.ensures.alone done synced)
 
-pub returns-clause-alone : goal.returns-clause-alone
-returns-clause-alone g c = rw (← c.self.view_is) (λ alone. record { queue = c.in-Ok.ensures.queue ∙ alone.queue; alone = c.in-Ok.ensures.alone alone.alone })
+pub returns-clause-written : goal.returns-clause-written
+returns-clause-written g c =
+    let same : c.prepare.new.batch.items ≡ c.args.batch.now.items = c.in_ok-items.ensures.same in
+    let plain : list_any holds_mark c.prepare.new.batch.items ≡ false = ap (list_any holds_mark) same ∙ c.in_ok-items.ensures.plain in
+    let some = one_batch c.prepare.new.batch.items (λ none. false≢true (sym c.if-is_empty.false ∙ c.is_empty.ensures.1 (sym same ∙ none))) in
+    rw (← c.self.view_is, ← same, some) (λ before batches w. more_written (g.F.FileSystem.disk) (parts c.self.inside.files c.self.inside.append c.self.inside.tables c.self.inside.is_stopped c.self.inside.wrote_unsynced) (parts c.append_batch.new.files c.append_batch.new.pipe c.apply.new.tables c.self.inside.is_stopped c.skips_sync-self-inside.result) c.args.sync before batches c.in-Ok.written.id.seq c.prepare.new.batch.items c.in-Ok.ensures.ok plain w)
+
+pub returns-clause-opens_front : goal.returns-clause-opens_front
+returns-clause-opens_front g c =
+    let met = g.met.F.FileSystem g.world.𝓛 g.world.𝓜 g.world.𝓡 ((λ s x. x), (λ x. x), (λ x. x), λ x. x) in
+    let same : c.prepare.new.batch.items ≡ c.args.batch.now.items = c.in_ok-items.ensures.same in
+    let plain : list_any holds_mark c.prepare.new.batch.items ≡ false = ap (list_any holds_mark) same ∙ c.in_ok-items.ensures.plain in
+    let some = one_batch c.prepare.new.batch.items (λ none. false≢true (sym c.if-is_empty.false ∙ c.is_empty.ensures.1 (sym same ∙ none))) in
+    rw (← c.self.view_is, ← same, some) (λ before batches alone w. written_opens (g.F.FileSystem.disk) (parts c.append_batch.new.files c.append_batch.new.pipe c.apply.new.tables c.self.inside.is_stopped c.skips_sync-self-inside.result) before _ (met.is_named c.append_batch.new.files)
+    (record { queue = c.in-Ok.ensures.queue ∙ alone.queue; alone = c.in-Ok.ensures.alone alone.alone })
+    (more_written (g.F.FileSystem.disk) (parts c.self.inside.files c.self.inside.append c.self.inside.tables c.self.inside.is_stopped c.self.inside.wrote_unsynced) (parts c.append_batch.new.files c.append_batch.new.pipe c.apply.new.tables c.self.inside.is_stopped c.skips_sync-self-inside.result) c.args.sync before batches c.in-Ok.written.id.seq c.prepare.new.batch.items c.in-Ok.ensures.ok plain w))
+
+pub returns-clause-all_written : goal.returns-clause-all_written
+returns-clause-all_written g c =
+    let same : c.prepare.new.batch.items ≡ c.args.batch.now.items = c.in_ok-items.ensures.same in
+    let plain : list_any holds_mark c.prepare.new.batch.items ≡ false = ap (list_any holds_mark) same ∙ c.in_ok-items.ensures.plain in
+    let done = done_from (g.F.FileSystem.disk) (parts c.self.inside.files c.self.inside.append c.self.inside.tables c.self.inside.is_stopped c.self.inside.wrote_unsynced) c.append_batch.new.files c.append_batch.new.pipe c.apply.new.tables c.args.sync c.prepare.new.batch.items c.args.batch.now.items c.in-Ok.written
+    c.entries_block-block.result c.in_ok-items.items same c.in_ok-items.ensures.plain c.in-Ok.ensures.pipe c.in-Ok.ensures.files c.in-Ok.ensures.queue c.in-Ok.ensures.ok c.in-Ok.ensures.stands c.entries_block-block.ensures c.in_default.ensures c.in_ok-items.ensures.read c.in_ok-items.ensures.lengths in
+    let held = c.self.invariant c.if-self.false in
+    λ synced. let kept = done_kept (g.F.FileSystem.disk) (parts c.self.inside.files c.self.inside.append c.self.inside.tables c.self.inside.is_stopped c.self.inside.wrote_unsynced) c.append_batch.new.files c.append_batch.new.pipe c.apply.new.tables c.args.sync c.prepare.new.batch.items c.in-Ok.written c.entries_block-block.result c.in_ok-items.items done synced held.synced held.unsynced held.held in
+    nothing_since (g.F.FileSystem.disk) (parts c.append_batch.new.files c.append_batch.new.pipe c.apply.new.tables c.self.inside.is_stopped c.skips_sync-self-inside.result) _ kept.holds (answers_on (g.F.FileSystem.disk) (parts c.append_batch.new.files c.append_batch.new.pipe c.apply.new.tables c.self.inside.is_stopped c.skips_sync-self-inside.result)) (answered (g.F.FileSystem.disk c.append_batch.new.files) c.append_batch.new.pipe c.apply.new.tables _ kept)
+
+pub returns-clause-others : goal.returns-clause-others
+returns-clause-others g c =
+    let same : c.prepare.new.batch.items ≡ c.args.batch.now.items = c.in_ok-items.ensures.same in
+    let plain : list_any holds_mark c.prepare.new.batch.items ≡ false = ap (list_any holds_mark) same ∙ c.in_ok-items.ensures.plain in
+    let done = done_from (g.F.FileSystem.disk) (parts c.self.inside.files c.self.inside.append c.self.inside.tables c.self.inside.is_stopped c.self.inside.wrote_unsynced) c.append_batch.new.files c.append_batch.new.pipe c.apply.new.tables c.args.sync c.prepare.new.batch.items c.args.batch.now.items c.in-Ok.written
+    c.entries_block-block.result c.in_ok-items.items same c.in_ok-items.ensures.plain c.in-Ok.ensures.pipe c.in-Ok.ensures.files c.in-Ok.ensures.queue c.in-Ok.ensures.ok c.in-Ok.ensures.stands c.entries_block-block.ensures c.in_default.ensures c.in_ok-items.ensures.read c.in_ok-items.ensures.lengths in
+    rw (← c.self.view_is, ← same) (λ synced. others (g.F.FileSystem.disk) (parts c.self.inside.files c.self.inside.append c.self.inside.tables c.self.inside.is_stopped c.self.inside.wrote_unsynced) (c.self.invariant c.if-self.false) c.if-self.false c.prepare.new.batch.items _ (λ all left may. inr ((done_written (g.F.FileSystem.disk) (parts c.self.inside.files c.self.inside.append c.self.inside.tables c.self.inside.is_stopped c.self.inside.wrote_unsynced) c.append_batch.new.files c.append_batch.new.pipe c.apply.new.tables c.args.sync c.prepare.new.batch.items c.in-Ok.written c.entries_block-block.result c.in_ok-items.items done (c.self.invariant c.if-self.false) synced c.self.inside.is_stopped c.skips_sync-self-inside.result (c.skips_sync-self-inside.ensures.synced synced ∙ all)).leaves_only left may)))
+
+pub returns-clause-others_answered : goal.returns-clause-others_answered
+returns-clause-others_answered g c =
+    let same : c.prepare.new.batch.items ≡ c.args.batch.now.items = c.in_ok-items.ensures.same in
+    let plain : list_any holds_mark c.prepare.new.batch.items ≡ false = ap (list_any holds_mark) same ∙ c.in_ok-items.ensures.plain in
+    let done = done_from (g.F.FileSystem.disk) (parts c.self.inside.files c.self.inside.append c.self.inside.tables c.self.inside.is_stopped c.self.inside.wrote_unsynced) c.append_batch.new.files c.append_batch.new.pipe c.apply.new.tables c.args.sync c.prepare.new.batch.items c.args.batch.now.items c.in-Ok.written
+    c.entries_block-block.result c.in_ok-items.items same c.in_ok-items.ensures.plain c.in-Ok.ensures.pipe c.in-Ok.ensures.files c.in-Ok.ensures.queue c.in-Ok.ensures.ok c.in-Ok.ensures.stands c.entries_block-block.ensures c.in_default.ensures c.in_ok-items.ensures.read c.in_ok-items.ensures.lengths in
+    rw (← c.self.view_is, ← same) (λ sound. (record { goes_on = c.if-self.false; synced = (c.skips_sync-self-inside.ensures.none sound.synced).1 }, agrees c.prepare.new.batch.items (answers_on (g.F.FileSystem.disk) (parts c.self.inside.files c.self.inside.append c.self.inside.tables c.self.inside.is_stopped c.self.inside.wrote_unsynced)) (seen_on (g.F.FileSystem.disk c.append_batch.new.files) c.append_batch.new.pipe c.apply.new.tables) (done_seen (g.F.FileSystem.disk) (parts c.self.inside.files c.self.inside.append c.self.inside.tables c.self.inside.is_stopped c.self.inside.wrote_unsynced) c.append_batch.new.files c.append_batch.new.pipe c.apply.new.tables c.args.sync c.prepare.new.batch.items c.in-Ok.written c.entries_block-block.result c.in_ok-items.items done (c.self.invariant c.if-self.false))))
+
+-- ---- an empty batch, with a sync
+
+pub returns-then-sync-clause-ok : goal.returns-then-sync-clause-ok
+returns-then-sync-clause-ok g c =
+    let held = subst (λ n. HeldBy (g.F.FileSystem.disk) n) c.self.view_is (c.self.invariant c.if-self.false) in
+    λ sound. at_ok c.sync.result (c.args.sync ≡ true → IsWritten (answers_on (g.F.FileSystem.disk) c.sync.new.self) (leaves_on (g.F.FileSystem.disk) c.sync.new.self) (after_batch c.args.batch.now.items (answers_on (g.F.FileSystem.disk) c.args.self.now)))
+    (λ synced. synced_written (g.F.FileSystem.disk) c.args.self.now c.sync.new.self c.args.batch.now.items c.sync.ensures.sound held (c.is_empty.ensures.0 c.if-is_empty.true) sound)
+
+pub returns-then-sync-clause-err : goal.returns-then-sync-clause-err
+returns-then-sync-clause-err g c =
+    let held = subst (λ n. HeldBy (g.F.FileSystem.disk) n) c.self.view_is (c.self.invariant c.if-self.false) in
+    λ sound. at_err _ _ (synced_refused (g.F.FileSystem.disk) c.args.self.now c.sync.new.self c.args.batch.now.items c.sync.ensures.sound held sound)
+
+pub returns-then-sync-clause-opens_either : goal.returns-then-sync-clause-opens_either
+returns-then-sync-clause-opens_either g c =
+    let met = g.met.F.FileSystem g.world.𝓛 g.world.𝓜 g.world.𝓡 ((λ s x. x), (λ x. x), (λ x. x), λ x. x) in
+    let held = subst (λ n. HeldBy (g.F.FileSystem.disk) n) c.self.view_is (c.self.invariant c.if-self.false) in
+    λ sound alone. at_err _ _ (synced_opens (g.F.FileSystem.disk) c.args.self.now c.sync.new.self c.args.batch.now.items c.sync.ensures.sound held sound alone (met.is_named c.args.self.now.files))
+
+pub returns-then-sync-clause-opens_front : goal.returns-then-sync-clause-opens_front
+returns-then-sync-clause-opens_front g c =
+    λ before batches alone w. more_opens (directories_of_engine c.sync.new.self) (g.F.FileSystem.disk c.sync.new.self.files) before batches _ (c.sync.ensures.opens_front before batches alone w)
+
+pub returns-then-sync-clause-others : goal.returns-then-sync-clause-others
+returns-then-sync-clause-others g c =
+    let held = subst (λ n. HeldBy (g.F.FileSystem.disk) n) c.self.view_is (c.self.invariant c.if-self.false) in
+    λ synced. synced_others (g.F.FileSystem.disk) c.args.self.now c.sync.new.self c.args.batch.now.items c.sync.ensures.sound held (sym (ap (λ n. n.is_stopped) c.self.view_is) ∙ c.if-self.false)

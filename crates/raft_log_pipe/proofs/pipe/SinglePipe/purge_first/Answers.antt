@@ -4,7 +4,8 @@ use Rattle.raft_log_files.specs.FileName.{log_file_name}
 use Rattle.raft_log_pipe.specs.declared.file.File.{File}
 use Rattle.raft_log_pipe.specs.Pipe.{id_of}
 use Rattle.raft_log_pipe.proofs.NextLemmas.{path_says}
-use Rattle.raft_log_pipe.proofs.PurgeLemmas.{deleted_none, first_gone, first_number, first_placed, holds_all, purged, removed_first, with_older}
+use Rattle.raft_log_pipe.proofs.PurgeLemmas.{deleted_none, first_gone, first_number, first_placed, holds_all, purged, removed_first}
+use Rattle.raft_log_pipe.proofs.AloneLemmas.{with_older}
 use Rattle.raft_log_pipe.proofs.pipe.SinglePipe.purge_first.Goals as goal
 
 pub build_file_path-requires : goal.build_file_path-requires

@@ -8,7 +8,7 @@ use Rattle.raft_world.specs.World.{IsPlace}
 use Rattle.raft_world.specs.declared.member.Member.{Member}
 use Rattle.raft_world.proofs.PlaceLemmas.{named_there, node_there}
 use Rattle.raft_world.proofs.EndingLemmas.{comes}
-use Rattle.raft_world.proofs.HistoryLemmas.{lawful_at}
+use Rattle.raft_member.proofs.HistoryLemmas.{lawful_at}
 use Rattle.raft_world.proofs.WorldLemmas.{but_stayed, concluded, none_first}
 use Rattle.raft_world.proofs.world.World.add.Goals as goal
 

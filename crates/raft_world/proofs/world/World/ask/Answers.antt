@@ -8,7 +8,7 @@ use Rattle.raft_world.specs.World.{HasBroken, IsPlace}
 use Rattle.raft_world.specs.declared.member.Member.{Member}
 use Rattle.raft_world.proofs.PlaceLemmas.{named_there, node_there}
 use Rattle.raft_world.proofs.EndingLemmas.{begun, comes, ended_as, unjudged}
-use Rattle.raft_world.proofs.HistoryLemmas.{lawful_at}
+use Rattle.raft_member.proofs.HistoryLemmas.{lawful_at}
 use Rattle.raft_world.proofs.WorldLemmas.{broke, came, known_first, scene_asked, went_down, went_down_there}
 use Rattle.raft_world.proofs.world.World.ask.Goals as goal
 

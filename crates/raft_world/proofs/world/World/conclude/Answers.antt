@@ -11,8 +11,8 @@ use Rattle.raft_laws.proofs.Numbers.{state_here}
 use Rattle.raft_world.specs.Settled.{led_of}
 use Rattle.raft_world.specs.Ending.{IsEndOf, IsSent}
 use Rattle.raft_world.specs.World.{IsPlace}
-use Rattle.raft_world.specs.declared.member.Ended.{Ended}
-use Rattle.raft_world.specs.declared.member.Ended.TheVariants as end_of
+use Rattle.raft_world.specs.Member.{Ended}
+use Rattle.raft_member.specs.declared.member.Ended.TheVariants as end_of
 use Rattle.raft_world.specs.declared.member.Member.{Member}
 use Rattle.raft_world.specs.declared.world.World.{World}
 use Rattle.raft_world.proofs.WorldLemmas.{but_kept, but_set_up, concluded_done, concluded_refused, cut_done, cut_refused}

@@ -9,7 +9,7 @@ use Rattle.raft_world.specs.declared.member.Member.{Member}
 use Rattle.raft_world.proofs.PlaceLemmas.{named_there, no_node, node_there}
 use Rattle.raft_world.proofs.EndingLemmas.{comes}
 use Rattle.raft_world.proofs.LookupLemmas.{item_there}
-use Rattle.raft_world.proofs.HistoryLemmas.{lawful_at}
+use Rattle.raft_member.proofs.HistoryLemmas.{lawful_at}
 use Rattle.raft_world.proofs.WorldLemmas.{broke, came, none_first, passed_absent, scene_delivered}
 use Rattle.raft_world.proofs.world.World.deliver.Goals as goal
 

@@ -6,7 +6,7 @@ use Rattle.raft_world.specs.World.{IsPlace}
 use Rattle.raft_world.specs.declared.member.Member.{Member}
 use Rattle.raft_world.proofs.PlaceLemmas.{named_there, node_there}
 use Rattle.raft_world.proofs.EndingLemmas.{opens}
-use Rattle.raft_world.proofs.HistoryLemmas.{openable_at}
+use Rattle.raft_member.proofs.HistoryLemmas.{openable_at}
 use Rattle.raft_world.proofs.WorldLemmas.{broke, came, none_first}
 use Rattle.raft_world.proofs.world.World.restart.Goals as goal
 

@@ -1,0 +1,13 @@
+//! What may happen to a cluster of nodes, what comes of it, and what a cluster needs of a node.
+#![tactic(auto)]
+
+mod event;
+mod node;
+mod outcome;
+
+pub use event::{ClusterEvent, CrashChoice, GroupCommand};
+pub use node::{ClusterNode, NodeOutcome};
+pub use outcome::{
+    EventOutcome, GroupOutcome, NodeError, NodeRefusal, Recorded, Stop, StopCause, Unknown,
+};
+pub use raft_sent_frames::{NodeFrame, SentNumber, Sequence};

@@ -1,0 +1,104 @@
+//! What a cluster needs of a node.
+ghost use Rattle.std.specs.Prelude.{◌≡◌, ℕ, true, false, IfOk, OnOk, OnErr};
+ghost use Rattle.raft_cluster_events.specs.Node.{NodeActs};
+
+use crate::event::{CrashChoice, GroupCommand};
+use crate::outcome::{NodeError, Stop};
+use raft_machines::{StateMachine, Told};
+use raft_sent_frames::{NodeFrame, Sequence};
+use std::alloc::{AllocError, Global};
+
+/// What an event did in a group of a node (own): all that it stored is on the disk.
+#[derive(Debug, Drop)]
+pub struct NodeOutcome {
+    /// The group.
+    pub group: u64,
+    /// The frames that leave, in order.
+    pub frames: Sequence<NodeFrame>,
+    /// The tokens that are told, by rising place, with the machine's answers.
+    pub told: Sequence<Told>,
+    /// The tokens of which it stays unknown what becomes of their commands.
+    pub unknown: Sequence<u64>,
+}
+
+/// A node and its files, up or down (own). One that is down refuses each call as failed (11).
+pub trait ClusterNode: Drop {
+    /// What its groups' commands run on.
+    type Machine: StateMachine;
+
+    /// What its files are to be like.
+    type Settings: Drop;
+
+    /// What each call makes of it, and is answered.
+    ghost acts: { NodeActs Self };
+
+    /// A node of this id that has nothing: it is up, unless its files can't be opened.
+    fn begin(alloc: Global, id: u64, settings: &Self::Settings) -> Result<Self, AllocError>
+    where
+        Self: Sized,
+        ensures { IfOk result (λ node. acts.id node ≡ id) };
+
+    /// Its id.
+    fn id(&self) -> u64
+        ensures { result ≡ acts.id self.now };
+
+    /// Whether it is up. One that stopped in an event is up still, and refuses each call.
+    fn is_up(&self) -> bool
+        ensures { result ≡ acts.is_up self.now };
+
+    /// The node gets the group, with nothing in it.
+    fn add_group(&mut self, group: u64) -> Result<NodeOutcome, NodeError>
+        ensures does { acts.adds self.old group result self.new }
+        ensures id { acts.id self.new ≡ acts.id self.old }
+        ensures up { acts.is_up self.new ≡ acts.is_up self.old };
+
+    /// The node is asked for something of the group.
+    fn ask(&mut self, group: u64, call: &GroupCommand, now: u64) -> Result<NodeOutcome, NodeError>
+        ensures does { acts.asks self.old group call.now now result self.new }
+        ensures id { acts.id self.new ≡ acts.id self.old }
+        ensures up { acts.is_up self.new ≡ acts.is_up self.old };
+
+    /// A piece of a peer's stream comes, with the end of one frame at most. There is an outcome once a
+    /// frame is whole.
+    fn feed(&mut self, peer: u64, piece: &[u8], now: u64) -> Result<Option<NodeOutcome>, NodeError>
+        ensures does { acts.feeds self.old peer piece.now now result self.new }
+        ensures id { acts.id self.new ≡ acts.id self.old }
+        ensures up { acts.is_up self.new ≡ acts.is_up self.old };
+
+    /// The peer's stream begins anew.
+    fn reset_peer(&mut self, peer: u64) -> Result<(), NodeError>
+        ensures does { acts.resets self.old peer result self.new }
+        ensures id { acts.id self.new ≡ acts.id self.old }
+        ensures up { acts.is_up self.new ≡ acts.is_up self.old };
+
+    /// The node stops for want of memory outside of it.
+    fn fail(&mut self) -> Stop
+        ensures does { acts.fails self.old result self.new }
+        ensures id { acts.id self.new ≡ acts.id self.old }
+        ensures up { acts.is_up self.new ≡ acts.is_up self.old };
+
+    /// The node's machine stops, and leaves of its files what the choice says: the node is down.
+    fn crash(&mut self, choice: CrashChoice)
+        ensures does { acts.crashes self.old choice self.new }
+        ensures id { acts.id self.new ≡ acts.id self.old }
+        ensures down { acts.is_up self.new ≡ false };
+
+    /// The node is opened with its files, by so many workers. A stop leaves it down.
+    fn reopen(&mut self, workers: u64) -> Result<Sequence<NodeOutcome>, Stop>
+        ensures does { acts.reopens self.old workers result self.new }
+        ensures id { acts.id self.new ≡ acts.id self.old }
+        ensures up { OnOk result (acts.is_up self.new ≡ true) }
+        ensures down { OnErr result (acts.is_up self.new ≡ false) };
+
+    /// The node goes down, and its files stay as they are.
+    fn close(&mut self)
+        ensures does { acts.closes self.old self.new }
+        ensures id { acts.id self.new ≡ acts.id self.old }
+        ensures down { acts.is_up self.new ≡ false };
+
+    /// The group's machine, lent; none where the group isn't there, or the node is down or stopped.
+    fn machine(&self, group: u64) -> Option<&Self::Machine>;
+
+    /// The last place that the group's machine has run, if any.
+    fn applied(&self, group: u64) -> Option<u64>;
+}

@@ -1,0 +1,117 @@
+//! What comes of an event.
+
+use crate::event::ClusterEvent;
+use raft_cluster_conditions::ClusterRefusal;
+use raft_machines::{MembershipFault, Told};
+use raft_sent_frames::{SentNumber, Sequence};
+
+/// A token of which it stays unknown what becomes of its command (own).
+#[derive(Clone, Copy, Debug, PartialEq, Eq)]
+pub struct Unknown {
+    /// The token's group.
+    pub group: u64,
+    /// The token.
+    pub token: u64,
+}
+
+/// Why a node refuses an event, whose group is as before (own). Each reason has a number and a name.
+#[derive(Clone, Copy, Debug, PartialEq, Eq)]
+pub enum NodeRefusal {
+    /// 1: the node doesn't lead the group; the leader is named where it is known.
+    NotLeader { leader: Option<u64> },
+    /// 2: the group isn't there.
+    UnknownGroup,
+    /// 3: the group is there already.
+    GroupExists,
+    /// 4: the group was set up before.
+    NotAllowed,
+    /// 5: the node is no voter.
+    NotVoter,
+    /// 6: the membership is refused; why is said of a first one.
+    Membership { why: Option<MembershipFault> },
+    /// 7: the voter groups can't be changed.
+    VoterChange,
+    /// 8: the change before isn't committed yet.
+    InProgress,
+    /// 9: the command is longer than 65,536 bytes.
+    CommandTooLong,
+    /// 10: a term, a place, a moment or the number of a request is at its end.
+    NumberAtEnd,
+    /// 11: the node stopped before, and is to be opened again.
+    Failed,
+    /// 12: the frame isn't the peer's own, or isn't for this node.
+    WrongParty,
+    /// 13: more than a batch can hold. No call answers it: the number is kept.
+    TooMuchForBatch,
+    /// 14: the message breaks a condition under which nodes send one.
+    BreaksCondition,
+    /// 15: the peer's stream is refused.
+    Frame,
+}
+
+/// Why a node stopped in an event (own).
+#[derive(Clone, Copy, Debug, PartialEq, Eq)]
+pub enum StopCause {
+    /// A call of the files was refused.
+    Io,
+    /// Two appends of one call found no space.
+    TryAgain,
+    /// Want of memory.
+    Memory,
+    /// The machine's snapshot is longer than it may be.
+    TooLong,
+    /// Another cause.
+    Other,
+}
+
+/// 16: a node stopped in an event (own).
+#[derive(Debug, Drop)]
+pub struct Stop {
+    /// Why.
+    pub cause: StopCause,
+    /// All tokens that waited at the node, by rising group and place.
+    pub unknown: Sequence<Unknown>,
+}
+
+/// Why a node doesn't do what it is asked for (own).
+#[derive(Debug, Drop)]
+pub enum NodeError {
+    /// It refuses it: the group is as before.
+    Refused(NodeRefusal),
+    /// It stopped.
+    Stopped(Stop),
+}
+
+/// What an event did in a group (own).
+#[derive(Debug, Drop)]
+pub struct GroupOutcome {
+    /// The group.
+    pub group: u64,
+    /// The frames that left, in the order of sending.
+    pub sent: Sequence<SentNumber>,
+    /// The tokens that were told, by rising place, with the machine's answers.
+    pub told: Sequence<Told>,
+    /// The tokens of which it stays unknown what becomes of their commands.
+    pub unknown: Sequence<u64>,
+}
+
+/// What came of an event (own).
+#[derive(Debug, Drop)]
+pub enum EventOutcome {
+    /// It was done, and did this in its group; an opening did so in each group of the node, by rising
+    /// group.
+    Done(Sequence<GroupOutcome>),
+    /// Its node refused it.
+    Refused(NodeRefusal),
+    /// Its node stopped in it.
+    Stopped(Stop),
+    /// The cluster turned it away before a node saw it.
+    TurnedAway(ClusterRefusal),
+}
+
+/// An event with its outcome (own).
+#[derive(Debug, Drop)]
+pub struct Recorded {
+    pub event: ClusterEvent,
+    pub outcome: EventOutcome,
+}

@@ -1,0 +1,9 @@
+pub mod Rising
+pub mod StepFacts
+pub mod Joining
+pub mod Saying
+pub mod SentBytes
+pub mod Answers
+pub mod Stepping
+pub mod EventKept
+pub mod NodesActing

@@ -1,0 +1,51 @@
+-- What a line shows.
+use Rattle.std.proofs.Common.{◌≡◌, refl, sym, ap, ◌∙◌, ◌+◌, ◌<◌, [], ◌∷◌, ◌++◌, length, map, take, get_or, Bool, true, false, List, ℕ, Option, Some, None, Result, Ok, Err, IfOk, IfSome}
+use Rattle.std.specs.Str.{IsUtf8, is_utf8}
+use Rattle.std.proofs.lemmas.Str.{IsUtf8-from_is_utf8}
+use Rattle.std.proofs.lemmas.List.{map-append, take_more}
+use Rattle.raft_cluster_events.specs.declared.event.ClusterEvent.{ClusterEvent}
+use Rattle.raft_cluster_events.specs.declared.outcome.Recorded.{Recorded}
+use Rattle.raft_cluster_events.specs.Node.{NodeActs}
+use Rattle.raft_node_cluster.specs.Cluster.{ClusterValue, Steps}
+use Rattle.raft_cluster_script.specs.Answers.{outcome_text}
+use Rattle.raft_script_answers.specs.declared.told_total.AppliedTotal.{AppliedTotal}
+use Rattle.raft_script_answers.specs.Answer.{total_text}
+use Rattle.raft_cluster_script.specs.Script.{IsTotalText, StepsSo}
+
+pub shows_total : {X E : Type 0} (r : Result X E) (bytes : X → List ℕ) (total : Option AppliedTotal) → IfOk r (λ x. bytes x ≡ total_text total) → IfOk r (λ x. IsTotalText (bytes x))
+shows_total (Ok x) bytes total h = (total, h)
+shows_total (Err e) bytes total h = tt
+
+pub for_some : {X : Type 0} (known : Option X) (P Q : X → Type 0) → ((x : X) → P x → Q x) → IfSome known P → IfSome known Q
+for_some None P Q f h = tt
+for_some (Some x) P Q f h = f x h
+
+no_text_by : (bytes : List ℕ) (b : Bool) → is_utf8 bytes ≡ b → (IsUtf8 bytes → ⊥) → b ≡ false
+no_text_by bytes true e never = absurd (never (IsUtf8-from_is_utf8 bytes e))
+no_text_by bytes false e never = refl
+
+pub no_text : (bytes : List ℕ) → (IsUtf8 bytes → ⊥) → is_utf8 bytes ≡ false
+no_text bytes never = no_text_by bytes (is_utf8 bytes) refl never
+
+-- one more is named
+pub more_named : {X : Type 0} (f : X → ℕ × List ℕ) (g : ℕ → ℕ × List ℕ) (old new : List X) (x : X) (ids : List ℕ) (i : ℕ) → i < length ids → map f old ≡ map g (take i ids) → new ≡ old ++ x ∷ [] → f x ≡ g (get_or ids i 0) → map f new ≡ map g (take (i + 1) ids)
+more_named f g old new x ids i inside h pushed same =
+    ap (map f) pushed
+    ∙ map-append f old (x ∷ [])
+    ∙ ap (λ l. l ++ f x ∷ []) h
+    ∙ ap (λ y. map g (take i ids) ++ y ∷ []) same
+    ∙ sym (map-append g (take i ids) (get_or ids i 0 ∷ []))
+    ∙ ap (map g) (sym (take_more ids i 0 inside))
+
+at_end : (xs : List Recorded) (x d : Recorded) → get_or (xs ++ x ∷ []) (length xs) d ≡ x
+at_end [] x d = refl
+at_end (y ∷ ys) x d = at_end ys x d
+
+module _ {N : Type 0} (acts : NodeActs N) where
+  -- what stands at the end behind an event is its record
+  pub shows_step : {X E : Type 0} (r : Result X E) (bytes : X → List ℕ) (old new : ClusterValue N) (event : ClusterEvent) (steps : Steps acts old event new) (d : Recorded) (all : List Recorded) (at : ℕ) → all ≡ new.history → at ≡ length old.history → IfOk r (λ x. bytes x ≡ outcome_text (get_or all at d).outcome) → IfOk r (λ x. StepsSo acts old event (bytes x) new)
+  shows_step (Ok x) bytes old new event steps d all at whole place text =
+      let r : Recorded = record { event = event; outcome = steps.outcome } in
+      let here : get_or all at d ≡ r = ap (λ l. get_or l at d) (whole ∙ steps.history) ∙ ap (λ n. get_or (old.history ++ r ∷ []) n d) place ∙ at_end old.history r d in
+      record { steps = steps; text = text ∙ ap (λ (s : Recorded). outcome_text s.outcome) here }
+  shows_step (Err e) bytes old new event steps d all at whole place text = tt

@@ -1,0 +1,73 @@
+-- The text of what came of an event.
+use Rattle.std.specs.Prelude.{ℕ, ◌==◌, List, [], length, map, Option, Some, None, if◌then◌else◌}
+use Rattle.std.specs.List.{flat_map}
+use Rattle.raft_machines.specs.declared.telling.Told.{Told}
+use Rattle.raft_machines.specs.Adding.{total_of}
+use Rattle.raft_sent_frames.specs.declared.frame.SentNumber.{SentNumber}
+use Rattle.raft_cluster_conditions.specs.declared.reasons.ClusterRefusal.{ClusterRefusal}
+use Rattle.raft_cluster_conditions.specs.declared.reasons.ClusterRefusal.TheVariants as cluster
+use Rattle.raft_cluster_events.specs.declared.outcome.EventOutcome.{EventOutcome}
+use Rattle.raft_cluster_events.specs.declared.outcome.EventOutcome.TheVariants as outcomes
+use Rattle.raft_cluster_events.specs.declared.outcome.GroupOutcome.{GroupOutcome}
+use Rattle.raft_cluster_events.specs.declared.outcome.NodeRefusal.{NodeRefusal}
+use Rattle.raft_cluster_events.specs.declared.outcome.NodeRefusal.TheVariants as node
+use Rattle.raft_cluster_events.specs.declared.outcome.Unknown.{Unknown}
+use Rattle.raft_script_answers.specs.declared.refusal.Refusal.{Refusal}
+use Rattle.raft_script_answers.specs.declared.refusal.Refusal.TheVariants as shown
+use Rattle.raft_script_answers.specs.declared.told_total.SentNumber.{SentNumber as ShownNumber}
+use Rattle.raft_script_answers.specs.declared.told_total.ToldTotal.{ToldTotal}
+use Rattle.raft_script_answers.specs.Answer.{done_text, refused_text}
+
+-- an answer of 8 bytes is a total
+abbrev pub value_of : List ℕ → Option ℕ
+value_of answer = if length answer == 8 then Some (total_of answer) else None
+
+abbrev pub told_total : Told → ToldTotal
+told_total told = record { token = told.token; place = told.place; total = value_of told.answer }
+
+abbrev pub shown_number : SentNumber → ShownNumber
+shown_number sent = record { peer = sent.peer; number = sent.number }
+
+abbrev pub numbers_of : List GroupOutcome → List ShownNumber
+numbers_of parts = flat_map (λ (part : GroupOutcome). map shown_number part.sent) parts
+
+abbrev pub totals_of : List GroupOutcome → List ToldTotal
+totals_of parts = flat_map (λ (part : GroupOutcome). map told_total part.told) parts
+
+abbrev pub unknown_of : List GroupOutcome → List ℕ
+unknown_of parts = flat_map (λ (part : GroupOutcome). part.unknown) parts
+
+abbrev pub tokens_of : List Unknown → List ℕ
+tokens_of unknown = map (λ (one : Unknown). one.token) unknown
+
+abbrev pub refusal_of_node : NodeRefusal → Refusal
+refusal_of_node (node.NotLeader leader) = shown.NotLeader leader
+refusal_of_node node.UnknownGroup = shown.UnknownGroup
+refusal_of_node node.GroupExists = shown.GroupExists
+refusal_of_node node.NotAllowed = shown.NotAllowed
+refusal_of_node node.NotVoter = shown.NotVoter
+refusal_of_node (node.Membership why) = shown.Membership
+refusal_of_node node.VoterChange = shown.VoterChange
+refusal_of_node node.InProgress = shown.InProgress
+refusal_of_node node.CommandTooLong = shown.CommandTooLong
+refusal_of_node node.NumberAtEnd = shown.NumberAtEnd
+refusal_of_node node.Failed = shown.Failed
+refusal_of_node node.WrongParty = shown.WrongParty
+refusal_of_node node.TooMuchForBatch = shown.TooMuchForBatch
+refusal_of_node node.BreaksCondition = shown.BreaksCondition
+refusal_of_node node.Frame = shown.Frame
+
+abbrev pub refusal_of_cluster : ClusterRefusal → Refusal
+refusal_of_cluster cluster.NoNode = shown.NoNode
+refusal_of_cluster cluster.NodeDown = shown.NodeDown
+refusal_of_cluster cluster.NodeUp = shown.NodeUp
+refusal_of_cluster cluster.NoFrame = shown.NoFrame
+refusal_of_cluster cluster.SetupDiffers = shown.SetupDiffers
+refusal_of_cluster cluster.BadCut = shown.BadCut
+
+-- frames of all groups first, then what is told, then the unknown tokens. No group is ever compacted yet
+abbrev pub outcome_text : EventOutcome → List ℕ
+outcome_text (outcomes.Done parts) = done_text (numbers_of parts) (totals_of parts) (unknown_of parts) []
+outcome_text (outcomes.Refused why) = refused_text (refusal_of_node why) []
+outcome_text (outcomes.Stopped stop) = refused_text shown.Stopped (tokens_of stop.unknown)
+outcome_text (outcomes.TurnedAway why) = refused_text (refusal_of_cluster why) []

@@ -1,0 +1,101 @@
+-- What a line of a script does, and is answered.
+use Rattle.std.specs.Prelude.{◌≡◌, ℕ, List, [], ◌++◌, Option, Some, None, Result, Ok, Err, codes}
+use Rattle.raft_script_answers.specs.declared.told_total.AppliedTotal.{AppliedTotal}
+use Rattle.raft_script_answers.specs.Answer.{newline, total_text}
+use Rattle.raft_script_lines.specs.declared.no_event.NoEvent.{NoEvent}
+use Rattle.raft_script_lines.specs.declared.script_line.ScriptLine.{ScriptLine}
+use Rattle.raft_script_lines.specs.declared.script_line.ScriptLine.TheVariants as lines
+use Rattle.raft_script_lines.specs.Reading.{line_of}
+use Rattle.raft_script_session.specs.declared.end.ScriptEnd.{ScriptEnd}
+use Rattle.raft_script_session.specs.Run.{Answers}
+use Rattle.raft_cluster_events.specs.declared.event.ClusterEvent.{ClusterEvent}
+use Rattle.raft_cluster_events.specs.Node.{NodeActs}
+use Rattle.raft_node_cluster.specs.Cluster.{ClusterValue, Steps}
+use Rattle.raft_cluster_script.specs.Calls.{event_of, tokens_after}
+use Rattle.raft_cluster_script.specs.Answers.{outcome_text}
+
+pub record ScriptValue (N : Type 0) : Type 0 where
+  -- from the line `nodes` on
+  pub cluster : Option (ClusterValue N)
+  -- the tokens so far, the last of which is this one
+  pub tokens : ℕ
+  -- the moment
+  pub tick : ℕ
+
+abbrev pub ok_text : List ℕ
+ok_text = codes "ok" ++ newline
+
+-- the text of some total
+abbrev pub IsTotalText : List ℕ → Type 0
+IsTotalText text = (total : Option AppliedTotal) × (text ≡ total_text total)
+
+-- it is no event here
+abbrev pub IsNone : {A : Type 0} → Option A → Type 0
+IsNone text = text ≡ None
+
+module _ {N : Type 0} (acts : NodeActs N) where
+  -- the event happens, and this is the text of its outcome
+  pub record StepsSo (old : ClusterValue N) (event : ClusterEvent) (shown : List ℕ) (new : ClusterValue N) : Type 0 where
+    pub steps : Steps acts old event new
+    pub text : shown ≡ outcome_text steps.outcome
+
+  -- so it is answered
+  pub record HappensSo (old : ScriptValue N) (cluster : ClusterValue N) (event : ClusterEvent) (tokens : ℕ) (shown : Option (List ℕ)) (next : ScriptValue N) : Type 0 where
+    pub later : ClusterValue N
+    pub text : List ℕ
+    pub steps : StepsSo cluster event text later
+    pub answer : shown ≡ Some text
+    pub new : next ≡ record { cluster = Some later; tokens = tokens; tick = old.tick }
+
+  abbrev pub Takes : ScriptValue N → Option (ClusterValue N) → Option ClusterEvent → ℕ → Option (List ℕ) → ScriptValue N → Type 0
+  Takes old None event tokens text new = IsNone text
+  Takes old (Some cluster) None tokens text new = IsNone text
+  Takes old (Some cluster) (Some event) tokens text new = HappensSo old cluster event tokens text new
+
+  -- a cluster of nodes begins, to which nothing has happened
+  pub record Begins (old : ScriptValue N) (shown : Option (List ℕ)) (next : ScriptValue N) : Type 0 where
+    pub cluster : ClusterValue N
+    pub fresh : cluster.history ≡ []
+    pub text : shown ≡ Some ok_text
+    pub new : next ≡ record old { cluster = Some cluster }
+
+  -- `nodes` comes once
+  abbrev pub BeginsOnce : ScriptValue N → Option (ClusterValue N) → Option (List ℕ) → ScriptValue N → Type 0
+  BeginsOnce old None text new = Begins old text new
+  BeginsOnce old (Some cluster) text new = IsNone text
+
+  abbrev pub SetsNow : ScriptValue N → Option (ClusterValue N) → ℕ → Option (List ℕ) → ScriptValue N → Type 0
+  SetsNow old None tick text new = IsNone text
+  SetsNow old (Some cluster) tick text new = (text ≡ Some ok_text) × (new ≡ record old { tick = tick })
+
+  -- what the machine has added up is asked for
+  abbrev pub AsksTotal : ScriptValue N → Option (ClusterValue N) → Option (List ℕ) → ScriptValue N → Type 0
+  AsksTotal old None text new = IsNone text
+  AsksTotal old (Some cluster) text new =
+      (shown : List ℕ) × IsTotalText shown × (text ≡ Some shown) × (new ≡ old)
+
+  abbrev pub TakesLine : ScriptValue N → ScriptLine → Option (List ℕ) → ScriptValue N → Type 0
+  TakesLine old lines.Skipped text new = (text ≡ Some []) × (new ≡ old)
+  TakesLine old (lines.Nodes count) text new = BeginsOnce old old.cluster text new
+  TakesLine old (lines.Now tick) text new = SetsNow old old.cluster tick text new
+  TakesLine old (lines.Total node group) text new = AsksTotal old old.cluster text new
+  TakesLine old (lines.Happens event) text new =
+      Takes old old.cluster (event_of old.tick (tokens_after old.tokens event) event) (tokens_after old.tokens event) text new
+  -- files have no fuse yet
+  TakesLine old (lines.Fuse calls event) text new = IsNone text
+
+  abbrev pub TakesRead : ScriptValue N → Result ScriptLine NoEvent → Option (List ℕ) → ScriptValue N → Type 0
+  TakesRead old (Ok line) text new = TakesLine old line text new
+  TakesRead old (Err why) text new = IsNone text
+
+  -- the bytes of a line take the script from the one state to the other, and are answered so; by none where they are no event
+  abbrev pub RunsLine : ScriptValue N → List ℕ → Option (List ℕ) → ScriptValue N → Type 0
+  RunsLine old line text new = TakesRead old (line_of line) text new
+
+  -- before its first line there is no cluster
+  abbrev pub start : ScriptValue N
+  start = record { cluster = None; tokens = 0; tick = 0 }
+
+  -- what is written for an input, where the script ends so: the answers of its lines
+  abbrev pub RunsScript : List ℕ → Option (List ℕ) → Option (List ℕ) → ScriptEnd → Type 0
+  RunsScript input before after end = (last : ScriptValue N) × Answers RunsLine start input before after last end

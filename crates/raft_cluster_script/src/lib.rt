@@ -1,0 +1,11 @@
+//! Scripts of a cluster of nodes: each line is an event of it, or a question to it.
+#![tactic(auto)]
+
+mod answers;
+mod calls;
+mod run;
+mod script;
+
+pub use raft_script_session::ScriptEnd;
+pub use run::run_script;
+pub use script::Script;

@@ -1,0 +1,163 @@
+//! How far a script has come, and what its next line does.
+ghost use Rattle.std.specs.Prelude.{◌≡◌, IfOk, string_bytes, None, [], List, ℕ};
+ghost use Rattle.std.specs.Option.{option_map};
+ghost use Rattle.raft_cluster_script.specs.Script.{AsksTotal, BeginsOnce, RunsLine, SetsNow, StepsSo, Takes, TakesLine};
+ghost use Rattle.raft_cluster_script.specs.Calls.{event_of, tokens_after};
+
+use crate::answers::{outcome_text, total_at};
+use crate::calls::{event_of, tokens_after};
+use raft_cluster_events::{ClusterEvent, ClusterNode};
+use raft_machines::AddingMachine;
+use raft_node_cluster::Cluster;
+use raft_script_lines::{ReadLineError, ScriptEvent, ScriptLine, read_line};
+use raft_script_session::LineRunner;
+use std::alloc::{AllocError, Global};
+use std::marker::Model;
+
+/// The cluster of a script, and what was counted (own).
+#[derive(Drop)]
+pub struct Script<N: ClusterNode<Machine = AddingMachine>> {
+    alloc: Global,
+    settings: N::Settings,
+    cluster: Option<Cluster<N>>,
+    tokens: u64,
+    tick: u64,
+}
+
+impl<N: ClusterNode<Machine = AddingMachine>> Model for Script<N> {
+    ghost use Rattle.raft_cluster_script.specs.Script.{ScriptValue};
+
+    ghost Value = { ScriptValue N };
+
+    ghost view = { λ s. record { cluster = s.cluster; tokens = s.tokens; tick = s.tick } };
+}
+
+// The ids from 1 to this number.
+fn ids_to(alloc: Global, count: u64) -> Result<Vec<u64>, AllocError> {
+    let mut ids = Vec::new(alloc);
+    for id in 0..count {
+        ids.push(id + 1)?;
+    }
+    Ok(ids)
+}
+
+// The event happens, and is answered by the text of its outcome.
+fn happen_in<N: ClusterNode<Machine = AddingMachine>>(
+    alloc: Global,
+    cluster: &mut Cluster<N>,
+    event: ClusterEvent,
+) -> Result<String, AllocError>
+    ensures { IfOk result (λ text. StepsSo N.acts cluster.old event (string_bytes text) cluster.new) }
+{
+    let at = cluster.history().len();
+    cluster.step(event)?;
+    outcome_text(alloc, &cluster.history()[at].outcome)
+}
+
+impl<N: ClusterNode<Machine = AddingMachine>> Script<N> {
+    /// Before its first line there is no cluster.
+    pub fn new(alloc: Global, settings: N::Settings) -> Script<N>
+        ensures { result ≡ record { cluster = None; tokens = 0; tick = 0 } }
+    {
+        Script {
+            alloc,
+            settings,
+            cluster: None,
+            tokens: 0,
+            tick: 0,
+        }
+    }
+
+    // A cluster of so many nodes begins, unless there is one.
+    fn begin(&mut self, count: u64) -> Result<Option<String>, AllocError>
+        ensures { IfOk result (λ text. BeginsOnce N.acts self.old self.old.cluster (option_map string_bytes text) self.new) }
+    {
+        if self.cluster.is_some() {
+            return Ok(None);
+        }
+        let ids = ids_to(self.alloc, count)?;
+        let text = String::from_str(self.alloc, "ok\n")?;
+        self.cluster = Some(Cluster::new(self.alloc, ids.as_slice(), &self.settings)?);
+        Ok(Some(text))
+    }
+
+    // It is that tick from now on, if there is a cluster.
+    fn set_now(&mut self, tick: u64) -> Result<Option<String>, AllocError>
+        ensures { IfOk result (λ text. SetsNow N.acts self.old self.old.cluster tick (option_map string_bytes text) self.new) }
+    {
+        if self.cluster.is_none() {
+            return Ok(None);
+        }
+        let text = String::from_str(self.alloc, "ok\n")?;
+        self.tick = tick;
+        Ok(Some(text))
+    }
+
+    // The total of a group at a node, if there is a cluster.
+    fn total(&self, node: u64, group: u64) -> Result<Option<String>, AllocError>
+        ensures { IfOk result (λ text. AsksTotal N.acts self.now self.now.cluster (option_map string_bytes text) self.now) }
+    {
+        match &self.cluster {
+            None => Ok(None),
+            Some(cluster) => Ok(Some(total_at(self.alloc, cluster.node(node), group)?)),
+        }
+    }
+
+    // An event of the cluster, if there is one and the line names one. So many tokens were taken then.
+    fn happen(
+        &mut self,
+        event: Option<ClusterEvent>,
+        tokens: u64,
+    ) -> Result<Option<String>, AllocError>
+        ensures { IfOk result (λ text. Takes N.acts self.old self.old.cluster event tokens (option_map string_bytes text) self.new) }
+    {
+        match (&mut self.cluster, event) {
+            (Some(cluster), Some(event)) => {
+                let text = happen_in(self.alloc, cluster, event)?;
+                self.tokens = tokens;
+                Ok(Some(text))
+            }
+            _ => Ok(None),
+        }
+    }
+
+    // An event of a line.
+    fn take_event(&mut self, event: ScriptEvent) -> Result<Option<String>, AllocError>
+        ensures { IfOk result (λ text. Takes N.acts self.old self.old.cluster
+            (event_of self.old.tick (tokens_after self.old.tokens event) event)
+            (tokens_after self.old.tokens event) (option_map string_bytes text) self.new) }
+    {
+        let tokens = tokens_after(self.tokens, &event);
+        let event = event_of(self.alloc, self.tick, tokens, event)?;
+        self.happen(event, tokens)
+    }
+
+    // Runs a line.
+    fn take(&mut self, line: ScriptLine) -> Result<Option<String>, AllocError>
+        ensures { IfOk result (λ text. TakesLine N.acts self.old line (option_map string_bytes text) self.new) }
+    {
+        match line {
+            ScriptLine::Skipped => Ok(Some(String::new(self.alloc))),
+            ScriptLine::Nodes { count } => self.begin(count),
+            ScriptLine::Now { tick } => self.set_now(tick),
+            ScriptLine::Total { node, group } => self.total(node, group),
+            ScriptLine::Happens(event) => self.take_event(event),
+            // Files have no fuse yet.
+            ScriptLine::Fuse { .. } => Ok(None),
+        }
+    }
+}
+
+impl<N: ClusterNode<Machine = AddingMachine>> LineRunner for Script<N> {
+    ghost use Rattle.raft_cluster_script.specs.Script.{RunsLine};
+
+    ghost runs = { RunsLine N.acts };
+
+    fn run_line(&mut self, line: &[u8]) -> Result<Option<String>, AllocError> {
+        match read_line(self.alloc, line) {
+            Ok(line) => self.take(line),
+            Err(ReadLineError::NoEvent(_)) => Ok(None),
+            Err(ReadLineError::Memory) => Err(AllocError),
+        }
+    }
+}

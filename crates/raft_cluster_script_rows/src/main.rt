@@ -1,0 +1,61 @@
+//! Runs scripts on nodes of files in memory. A line `== NAME` begins one, and the lines up to the next
+//! such line are its text; how it ends is printed behind its answers.
+#![tactic(auto)]
+
+use raft_cluster_script::{ScriptEnd, run_script};
+use raft_machines::AddingMachine;
+use raft_nodes_on_files::{FileNode, log_settings};
+use std::alloc::{AllocError, Global};
+use std::io::{self, Read};
+
+// A script's answers, and how it ended.
+#[derive(Drop)]
+struct Answered {
+    written: Vec<u8>,
+    end: ScriptEnd,
+}
+
+fn run(alloc: Global, script: &[u8]) -> Result<Answered, AllocError> {
+    let settings = log_settings(alloc, "raft", 64, 256)?;
+    let mut reader = script;
+    let mut written = Vec::new(alloc);
+    let end = run_script::<FileNode<AddingMachine>, _, _>(
+        alloc,
+        settings,
+        &mut reader,
+        &mut written,
+    );
+    Ok(Answered { written, end })
+}
+
+// Runs a script, if it has a name, and prints what it answers.
+fn print_run(rt: &HostRuntime, name: Option<&str>, script: &[u8]) -> io::Result<()> {
+    let Some(name) = name else {
+        return Ok(());
+    };
+    println!(rt; "== {name}")?;
+    let Ok(Answered { written, end }) = run(rt.alloc(), script) else {
+        return println!(rt; "no memory");
+    };
+    let text = str::from_utf8(written.as_slice()).unwrap_or("no UTF-8");
+    print!(rt; "{text}")?;
+    println!(rt; "-- {end:?}")
+}
+
+fn main(rt: HostRuntime) -> io::Result<()> {
+    let mut input = String::new(rt.alloc());
+    rt.stdin().read_to_string(&mut input)?;
+    let mut name = None;
+    let mut script = Vec::new(rt.alloc());
+    for line in input.lines() {
+        if let Some(next) = line.strip_prefix("== ") {
+            print_run(&rt, name, script.as_slice())?;
+            name = Some(next);
+            script.clear();
+        } else {
+            script.extend_from_slice(line.as_bytes())?;
+            script.push(b'\n')?;
+        }
+    }
+    print_run(&rt, name, script.as_slice())
+}

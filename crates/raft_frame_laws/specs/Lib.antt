@@ -1,0 +1,2 @@
+pub mod StepFrames
+pub mod FrameRows

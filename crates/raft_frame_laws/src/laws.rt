@@ -1,0 +1,35 @@
+//! The laws, with worked rows of their words.
+ghost use Rattle.std.specs.Prelude.{◌≡◌, true, false, None, Some};
+ghost use Rattle.raft_values.specs.LogId.{log_id_of};
+ghost use Rattle.raft_values.specs.Vote.{vote_of};
+ghost use Rattle.raft_messages.specs.declared.message.ReplyResult.TheVariants.{Conflict, PartialSuccess, Success};
+ghost use Rattle.raft_messages.specs.declared.message.RequestId.TheVariants.{HeartBeat, Numbered};
+ghost use Rattle.raft_frame_laws.specs.StepFrames.{FramesFitSteps, HasFrame, StepsHaveFrames};
+ghost use Rattle.raft_frame_laws.specs.FrameRows.{accepts_snapshot, accepts_entries, asks_for_vote};
+
+use raft_group_storage::GroupStorage;
+use raft_messages::SnapshotBytes;
+
+/// Where what a node has of a group is within the limits, and what comes to it, each message of a
+/// step that brings no snapshot has a frame (own). So a node that writes them can only lack memory;
+/// whether a snapshot's bytes are few enough is up to its machine.
+pub fn steps_have_frames<S: GroupStorage<Snapshot = SnapshotBytes>>()
+    ensures { StepsHaveFrames S.stands }
+{}
+
+/// A message that a frame brings without a snapshot, and that isn't refused, is within the limits of
+/// steps (own): who takes a frame knows of its message what `steps_have_frames` asks.
+pub fn frames_fit_steps<S: GroupStorage<Snapshot = SnapshotBytes>>()
+    ensures { FramesFitSteps S.stands }
+{}
+
+/// A request for a vote has a frame, and so has a reply that a step sends. A reply that tells of a
+/// part has none, nor has a snapshot's without a number or with a conflict.
+pub fn messages_that_have_frames()
+    ensures vote { HasFrame (asks_for_vote (vote_of 1 1 false)) }
+    ensures entries { HasFrame (accepts_entries (Numbered 3) Conflict) }
+    ensures part { HasFrame (accepts_entries (Numbered 3) (PartialSuccess (Some (log_id_of 1 1 1)))) → ⊥ }
+    ensures snapshot { HasFrame (accepts_snapshot (Numbered 3) Success) }
+    ensures notice { HasFrame (accepts_snapshot HeartBeat Success) → ⊥ }
+    ensures conflict { HasFrame (accepts_snapshot (Numbered 3) Conflict) → ⊥ }
+{}

@@ -1,0 +1,31 @@
+//! Writes, openings and reads of a log engine so often that the instructions of each can be counted.
+//!
+//! Each line of the input is a task such as `open 256 32 16 1000`: what is done, the bytes of an
+//! entry, the entries of a batch, the groups that batches go to in turn, and how many batches there
+//! are. `write` writes them, each with a sync; `open` closes the engine too, and opens it again;
+//! `fetch` reads the last batch of a group behind each write. The answer is the last index of the
+//! first group.
+#![tactic(auto)]
+
+mod task;
+mod work;
+
+use std::io;
+use task::parse;
+use work::run;
+
+fn main(rt: HostRuntime) -> io::Result<()> {
+    for line in rt.lines(rt.alloc()) {
+        let line = line?;
+        let Some(task) = parse(line.as_str()) else {
+            println!(rt; "{line}: no task")?;
+            continue;
+        };
+        match run(rt.alloc(), task) {
+            Ok(Some(last)) => println!(rt; "{line}: {last}")?,
+            Ok(None) => println!(rt; "{line}: none")?,
+            Err(fault) => println!(rt; "{line}: {fault}")?,
+        }
+    }
+    Ok(())
+}

@@ -1,0 +1,41 @@
+//! What is to be done.
+
+/// What is done with the batches.
+#[derive(Clone, Copy, Debug, PartialEq, Eq)]
+pub enum Work {
+    Write,
+    Open,
+    Fetch,
+}
+
+/// How many bytes an entry has, how many entries a batch, to how many groups they go, and how many
+/// batches there are.
+#[derive(Clone, Copy, Debug)]
+pub struct Task {
+    pub work: Work,
+    pub len: usize,
+    pub batch: usize,
+    pub groups: u32,
+    pub rounds: u32,
+}
+
+fn work_of(word: &str) -> Option<Work> {
+    match word {
+        "write" => Some(Work::Write),
+        "open" => Some(Work::Open),
+        "fetch" => Some(Work::Fetch),
+        _ => None,
+    }
+}
+
+/// The task of a line.
+pub fn parse(line: &str) -> Option<Task> {
+    let mut words = line.split_whitespace();
+    Some(Task {
+        work: work_of(words.next()?)?,
+        len: words.next()?.parse().ok()?,
+        batch: words.next()?.parse().ok()?,
+        groups: words.next()?.parse().ok()?,
+        rounds: words.next()?.parse().ok()?,
+    })
+}

@@ -1,0 +1,73 @@
+//! Doing it.
+
+use crate::task::{Task, Work};
+use raft_log_engine::{Engine, EngineFault};
+use raft_log_files::{Config, Error, MemoryFileSystem};
+use raft_log_records::LogBatch;
+use std::alloc::Global;
+
+type MemoryEngine = Engine<MemoryFileSystem>;
+
+fn opened(alloc: Global, files: MemoryFileSystem) -> Result<MemoryEngine, EngineFault> {
+    let mut config = Config::default(alloc);
+    config.dir = String::from_str(alloc, "main")?;
+    match Engine::open(files, alloc, config) {
+        Ok(engine) => Ok(engine),
+        Err(refused) => Err(refused.fault),
+    }
+}
+
+/// Adds a batch's entries, and writes it.
+fn write(
+    engine: &mut MemoryEngine,
+    batch: &mut LogBatch,
+    group: u64,
+    first: u64,
+    entries: &[Vec<u8>],
+) -> Result<(), EngineFault> {
+    if u64::MAX - first < entries.len() as u64 {
+        return Ok(());
+    }
+    if batch.add_raw_entries(group, first, entries).is_err() {
+        return Err(EngineFault::Log(Error::Memory));
+    }
+    engine.write(batch, true)?;
+    Ok(())
+}
+
+/// Takes a turn: a batch of a group is written, and read where that is asked for.
+fn turn(
+    engine: &mut MemoryEngine,
+    batch: &mut LogBatch,
+    task: Task,
+    round: u32,
+    entries: &[Vec<u8>],
+) -> Result<(), EngineFault> {
+    let groups = task.groups.max(1);
+    let group = u64::from(round % groups);
+    let before = u64::from(round / groups).saturating_mul(entries.len() as u64);
+    let first = before.saturating_add(1);
+    write(engine, batch, group, first, entries)?;
+    if task.work == Work::Fetch {
+        let end = first.saturating_add(entries.len() as u64);
+        let _ = engine.fetch_entries_to(group, first, end, None)?;
+    }
+    Ok(())
+}
+
+/// The last index of the first group, behind all turns.
+pub fn run(alloc: Global, task: Task) -> Result<Option<u64>, EngineFault> {
+    let mut engine = opened(alloc, MemoryFileSystem::new(alloc))?;
+    let mut entries = Vec::new(alloc);
+    for _ in 0..task.batch {
+        entries.push(Vec::from_elem(alloc, 7u8, task.len)?)?;
+    }
+    let mut batch = LogBatch::new(alloc);
+    for round in 0..task.rounds {
+        turn(&mut engine, &mut batch, task, round, &entries)?;
+    }
+    if task.work == Work::Open {
+        engine = opened(alloc, engine.close())?;
+    }
+    engine.last_index(0)
+}

@@ -1,0 +1,18 @@
+//! A node: its groups over one storage, the machine of each, and its peers' streams.
+#![tactic(auto)]
+
+mod asking;
+mod calls;
+mod feeding;
+mod machines;
+mod naming;
+mod node;
+mod opening;
+mod outcome;
+mod readers;
+mod settling;
+
+pub use node::Node;
+pub use opening::{NotOpened, Opened};
+pub use outcome::{Fed, Outcome};
+pub use raft_node_faults::{Cause, Fault, UnknownTokens};

@@ -1,0 +1,42 @@
+-- One event behind a history.
+use Rattle.std.proofs.Common.{◌≡◌, ℕ, length, take, List, [], ◌∷◌, ◌++◌, refl, sym, ap, ◌∙◌, subst, append_assoc, append-nil}
+use Rattle.std.proofs.lemmas.List.{map-append}
+use Rattle.raft_sent_frames.specs.Frames.{frames_of}
+use Rattle.raft_cluster_events.specs.declared.event.ClusterEvent.{ClusterEvent}
+use Rattle.raft_cluster_events.specs.declared.outcome.Recorded.{Recorded}
+use Rattle.raft_cluster_events.specs.Node.{NodeActs}
+use Rattle.raft_node_cluster.specs.Facts.{Sent}
+use Rattle.raft_node_cluster.specs.Cluster.{ClusterValue, Happens, Runs, RunsTo, Steps}
+
+take_of : (ys rest : List ClusterEvent) → take (length ys) (ys ++ rest) ≡ ys
+take_of [] rest = refl
+take_of (y ∷ ys) rest = ap (λ l. y ∷ l) (take_of ys rest)
+
+-- so many of all are those so far
+pub taken_so_far : (ys rest all : List ClusterEvent) (n : ℕ) → ys ++ rest ≡ all → n ≡ length ys → take n all ≡ ys
+taken_so_far ys rest all n e count = ap (take n) (sym e) ∙ ap (λ k. take k (ys ++ rest)) count ∙ take_of ys rest
+
+module _ {N : Type 0} (acts : NodeActs N) where
+  pub runs_on : (nodes : List N) (sent : Sent) (history records : List Recorded) (between : List N) (gone : Sent) (r : Recorded) (new : List N) (later : Sent) → RunsTo acts nodes sent history records between gone → Happens acts between gone (history ++ records) r.event r.outcome new later → RunsTo acts nodes sent history (records ++ r ∷ []) new later
+  runs_on nodes sent history [] between gone r new later (same, kept) happens =
+      let P : List N → Type 0 = λ b. Happens acts b gone (history ++ []) r.event r.outcome new later in
+      let Q : Sent → Type 0 = λ g. Happens acts nodes g (history ++ []) r.event r.outcome new later in
+      let R : List Recorded → Type 0 = λ h. Happens acts nodes sent h r.event r.outcome new later in
+      (new, later, subst R (append-nil history) (subst Q kept (subst P same happens)), (refl, refl))
+  runs_on nodes sent history (x ∷ xs) between gone r new later (mid, passed, first, rest) happens =
+      let P : List Recorded → Type 0 = λ h. Happens acts between gone h r.event r.outcome new later in
+      (mid, passed, first, runs_on mid passed (history ++ x ∷ []) xs between gone r new later rest (subst P (sym (append_assoc history (x ∷ []) xs)) happens))
+
+  pub runs_none : (old : ClusterValue N) → Runs acts old [] old
+  runs_none old = record { records = []; history = sym (append-nil old.history); events = refl; runs = (refl, refl) }
+
+  pub runs_more : (old mid new : ClusterValue N) (events : List ClusterEvent) (event : ClusterEvent) → Runs acts old events mid → Steps acts mid event new → Runs acts old (events ++ event ∷ []) new
+  runs_more old mid new events event ran h =
+      let r : Recorded = record { event = event; outcome = h.outcome } in
+      let P : List Recorded → Type 0 = λ l. Happens acts mid.nodes (frames_of mid.sent) l event h.outcome new.nodes (frames_of new.sent) in
+      record {
+        records = ran.records ++ r ∷ [];
+        history = h.history ∙ ap (λ l. l ++ r ∷ []) ran.history ∙ append_assoc old.history ran.records (r ∷ []);
+        events = map-append (λ (x : Recorded). x.event) ran.records (r ∷ []) ∙ ap (λ es. es ++ event ∷ []) ran.events;
+        runs = runs_on old.nodes (frames_of old.sent) old.history ran.records mid.nodes (frames_of mid.sent) r new.nodes (frames_of new.sent) ran.runs (subst P ran.history h.happens);
+      }

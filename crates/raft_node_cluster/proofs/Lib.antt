@@ -1,0 +1,4 @@
+pub mod FactLemmas
+pub mod SendingLemmas
+pub mod HappeningLemmas
+pub mod ClusterLemmas

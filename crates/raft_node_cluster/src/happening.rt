@@ -1,0 +1,152 @@
+//! An event comes to its node.
+ghost use Rattle.std.specs.Prelude.{◌≡◌, ℕ, IfOk};
+ghost use Rattle.raft_sent_frames.specs.Frames.{frames_of};
+ghost use Rattle.raft_cluster_events.specs.declared.event.ClusterEvent.{ClusterEvent as Event};
+ghost use Rattle.raft_cluster_events.specs.declared.event.ClusterEvent.TheVariants.{Reopen};
+ghost use Rattle.raft_node_cluster.specs.Facts.{delivered};
+ghost use Rattle.raft_node_cluster.specs.Happening.{ComesTo, Delivers, IsOfGroup, Settles, listed, one_of, opening_of, over, some_of};
+
+use crate::delivery::deliver;
+use crate::facts::delivered;
+use crate::sending::send_all;
+use raft_cluster_events::{
+    ClusterEvent, ClusterNode, EventOutcome, NodeError, NodeOutcome, Stop, StopCause,
+};
+use raft_sent_frames::{SentFrames, Sequence};
+use std::alloc::{AllocError, Global};
+
+// What becomes of an event that the node didn't do.
+fn over(error: NodeError) -> EventOutcome
+    ensures { result ≡ over error }
+{
+    match error {
+        NodeError::Refused(why) => EventOutcome::Refused(why),
+        NodeError::Stopped(stop) => EventOutcome::Stopped(stop),
+    }
+}
+
+// The outcome alone, or none.
+fn listed(alloc: Global, outcome: Option<NodeOutcome>) -> Result<Sequence<NodeOutcome>, AllocError>
+    ensures { IfOk result (λ outcomes. outcomes ≡ listed outcome) }
+{
+    let mut outcomes = Sequence::new(alloc);
+    if let Some(outcome) = outcome {
+        outcomes.push(outcome)?;
+    }
+    Ok(outcomes)
+}
+
+// What the node did in a group, if it did something, becomes the event's outcome. Without memory for
+// that the node stops.
+fn settle<N: ClusterNode>(
+    alloc: Global,
+    sent: &mut SentFrames,
+    node: &mut N,
+    answered: Result<Option<NodeOutcome>, NodeError>,
+) -> EventOutcome
+    ensures { (event : Event) → IsOfGroup event → Settles N.acts (frames_of sent.old) event node.old (some_of answered) result (frames_of sent.new) node.new }
+{
+    let outcome = match answered {
+        Ok(outcome) => outcome,
+        Err(error) => return over(error),
+    };
+    let Ok(outcomes) = listed(alloc, outcome) else {
+        return EventOutcome::Stopped(node.fail());
+    };
+    match send_all(alloc, sent, node.id(), outcomes) {
+        Ok(parts) => EventOutcome::Done(parts),
+        Err(_) => EventOutcome::Stopped(node.fail()),
+    }
+}
+
+// What an opening did becomes its outcome. Without memory for that the node goes down again.
+fn settle_opening<N: ClusterNode>(
+    alloc: Global,
+    sent: &mut SentFrames,
+    node: &mut N,
+    answered: Result<Sequence<NodeOutcome>, Stop>,
+) -> EventOutcome
+    ensures { (at workers : ℕ) → Settles N.acts (frames_of sent.old) (Reopen at workers) node.old (opening_of answered) result (frames_of sent.new) node.new }
+{
+    match answered {
+        Ok(outcomes) => match send_all(alloc, sent, node.id(), outcomes) {
+            Ok(parts) => EventOutcome::Done(parts),
+            Err(_) => {
+                node.close();
+                EventOutcome::Stopped(Stop {
+                    cause: StopCause::Memory,
+                    unknown: Sequence::new(alloc),
+                })
+            }
+        },
+        Err(stop) => EventOutcome::Stopped(stop),
+    }
+}
+
+// The frame that an event delivers comes, if it was sent.
+fn deliver_event<N: ClusterNode>(
+    node: &mut N,
+    sent: &SentFrames,
+    event: &ClusterEvent,
+    cuts: &[u64],
+    now: u64,
+) -> Result<Option<NodeOutcome>, NodeError>
+    ensures { Delivers N.acts (delivered (frames_of sent.now) event.now) cuts.now now node.old (some_of result) node.new }
+{
+    match delivered(sent, event) {
+        Some(frame) => deliver(node, frame.sender, frame.bytes.as_slice(), cuts, now),
+        None => Ok(None),
+    }
+}
+
+// A node's one outcome.
+fn some(answered: Result<NodeOutcome, NodeError>) -> Result<Option<NodeOutcome>, NodeError>
+    ensures { some_of result ≡ one_of answered }
+{
+    match answered {
+        Ok(outcome) => Ok(Some(outcome)),
+        Err(error) => Err(error),
+    }
+}
+
+/// An event that isn't turned away comes to its node.
+pub fn come_to<N: ClusterNode>(
+    alloc: Global,
+    sent: &mut SentFrames,
+    node: &mut N,
+    event: &ClusterEvent,
+) -> EventOutcome
+    ensures { ComesTo N.acts (frames_of sent.old) event.now node.old result (frames_of sent.new) node.new }
+{
+    match event {
+        ClusterEvent::AddGroup { group, .. } => {
+            let answered = some(node.add_group(*group));
+            settle(alloc, sent, node, answered)
+        }
+        ClusterEvent::Ask {
+            group,
+            call,
+            now,
+            ..
+        } => {
+            let answered = some(node.ask(*group, call, *now));
+            settle(alloc, sent, node, answered)
+        }
+        ClusterEvent::Deliver { cuts, now, .. } => {
+            let answered = deliver_event(node, sent, event, cuts.as_slice(), *now);
+            settle(alloc, sent, node, answered)
+        }
+        ClusterEvent::ResetPeer { peer, .. } => match node.reset_peer(*peer) {
+            Ok(()) => EventOutcome::Done(Sequence::new(alloc)),
+            Err(error) => over(error),
+        },
+        ClusterEvent::Crash { choice, .. } => {
+            node.crash(*choice);
+            EventOutcome::Done(Sequence::new(alloc))
+        }
+        ClusterEvent::Reopen { workers, .. } => {
+            let answered = node.reopen(*workers);
+            settle_opening(alloc, sent, node, answered)
+        }
+    }
+}

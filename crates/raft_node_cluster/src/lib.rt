@@ -1,0 +1,16 @@
+//! A cluster of nodes: their events one after another, the frames between them, and all that happened.
+#![tactic(auto)]
+
+mod cluster;
+mod delivery;
+mod facts;
+mod happening;
+mod sending;
+
+pub use cluster::Cluster;
+pub use raft_cluster_conditions::ClusterRefusal;
+pub use raft_cluster_events::{
+    ClusterEvent, ClusterNode, CrashChoice, EventOutcome, GroupOutcome, NodeError, NodeFrame,
+    NodeOutcome, NodeRefusal, Recorded, SentNumber, Sequence, Stop, StopCause, Unknown,
+};
+pub use raft_sent_frames::SentFrame;

@@ -1,0 +1,169 @@
+//! A node without groups' rules: it answers each call by a fixed frame, token or refusal.
+ghost use Rattle.std.specs.Prelude.{◌≡◌};
+
+use raft_cluster_events::{
+    ClusterNode, CrashChoice, GroupCommand, NodeError, NodeFrame, NodeOutcome, NodeRefusal,
+    Sequence, Stop, StopCause, Unknown,
+};
+use raft_group_step::GroupCall;
+use raft_machines::AddingMachine;
+use raft_state::Bytes;
+use std::alloc::{AllocError, Global};
+
+/// The length of its frames, in bytes.
+const FRAME: usize = 3;
+
+/// It has no machine and no files. An election sends a frame of three bytes to each of nodes 1 to 3, a
+/// frame that is whole is answered by one to its sender, and a lost request stops it.
+#[derive(Drop)]
+pub struct ToyNode {
+    alloc: Global,
+    id: u64,
+    is_up: bool,
+    held: usize,
+}
+
+// What a call did that found memory.
+fn done<T>(made: Result<T, AllocError>, alloc: Global) -> Result<T, NodeError> {
+    match made {
+        Ok(made) => Ok(made),
+        Err(_) => Err(NodeError::Stopped(Stop {
+            cause: StopCause::Memory,
+            unknown: Sequence::new(alloc),
+        })),
+    }
+}
+
+// An outcome with a frame to each of these nodes.
+fn frames_to(alloc: Global, group: u64, peers: &[u64]) -> Result<NodeOutcome, AllocError> {
+    let mut frames = Sequence::new(alloc);
+    for peer in peers {
+        let bytes = Bytes::from_slice(alloc, b"abc")?;
+        frames.push(NodeFrame { peer: *peer, bytes })?;
+    }
+    Ok(NodeOutcome {
+        group,
+        frames,
+        told: Sequence::new(alloc),
+        unknown: Sequence::new(alloc),
+    })
+}
+
+impl ToyNode {
+    fn stop(&self, group: u64, token: u64) -> Result<Stop, AllocError> {
+        let mut unknown = Sequence::new(self.alloc);
+        unknown.push(Unknown { group, token })?;
+        Ok(Stop {
+            cause: StopCause::Io,
+            unknown,
+        })
+    }
+}
+
+impl ClusterNode for ToyNode {
+    type Machine = AddingMachine;
+
+    type Settings = u64;
+
+    ghost acts = { record {
+      id = λ n. n.id;
+      is_up = λ n. n.is_up;
+      adds = λ old group answered new. Unit {0};
+      asks = λ old group call now answered new. Unit {0};
+      feeds = λ old peer piece now answered new. Unit {0};
+      resets = λ old peer answered new. Unit {0};
+      fails = λ old stop new. Unit {0};
+      crashes = λ old choice new. Unit {0};
+      reopens = λ old workers answered new. Unit {0};
+      closes = λ old new. Unit {0};
+    } };
+
+    fn begin(alloc: Global, id: u64, _settings: &u64) -> Result<Self, AllocError> {
+        Ok(ToyNode {
+            alloc,
+            id,
+            is_up: true,
+            held: 0,
+        })
+    }
+
+    fn id(&self) -> u64 {
+        self.id
+    }
+
+    fn is_up(&self) -> bool {
+        self.is_up
+    }
+
+    fn add_group(&mut self, group: u64) -> Result<NodeOutcome, NodeError> {
+        done(frames_to(self.alloc, group, &[]), self.alloc)
+    }
+
+    fn ask(
+        &mut self,
+        group: u64,
+        call: &GroupCommand,
+        _now: u64,
+    ) -> Result<NodeOutcome, NodeError> {
+        match call {
+            GroupCall::Elect => done(frames_to(self.alloc, group, &[1, 2, 3]), self.alloc),
+            GroupCall::Lost { peer } => match self.stop(group, *peer) {
+                Ok(stop) => Err(NodeError::Stopped(stop)),
+                Err(_) => Err(NodeError::Refused(NodeRefusal::Failed)),
+            },
+            GroupCall::Heartbeat => {
+                let leader = Some(self.id);
+                Err(NodeError::Refused(NodeRefusal::NotLeader { leader }))
+            }
+            _ => done(frames_to(self.alloc, group, &[]), self.alloc),
+        }
+    }
+
+    fn feed(
+        &mut self,
+        peer: u64,
+        piece: &[u8],
+        now: u64,
+    ) -> Result<Option<NodeOutcome>, NodeError> {
+        self.held = self.held.saturating_add(piece.len());
+        if self.held < FRAME {
+            return Ok(None);
+        }
+        self.held = 0;
+        let outcome = done(frames_to(self.alloc, now, &[peer]), self.alloc)?;
+        Ok(Some(outcome))
+    }
+
+    fn reset_peer(&mut self, _peer: u64) -> Result<(), NodeError> {
+        self.held = 0;
+        Ok(())
+    }
+
+    fn fail(&mut self) -> Stop {
+        Stop {
+            cause: StopCause::Memory,
+            unknown: Sequence::new(self.alloc),
+        }
+    }
+
+    fn crash(&mut self, _choice: CrashChoice) {
+        self.is_up = false;
+    }
+
+    fn reopen(&mut self, _workers: u64) -> Result<Sequence<NodeOutcome>, Stop> {
+        self.is_up = true;
+        Ok(Sequence::new(self.alloc))
+    }
+
+    fn close(&mut self) {
+        self.is_up = false;
+    }
+
+    fn machine(&self, _group: u64) -> Option<&AddingMachine> {
+        None
+    }
+
+    fn applied(&self, _group: u64) -> Option<u64> {
+        None
+    }
+}

@@ -1,0 +1,2 @@
+pub mod StoredSnapshots
+pub mod SentSnapshots
