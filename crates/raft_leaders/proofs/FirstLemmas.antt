@@ -1,12 +1,11 @@
 -- What a leader wrote, by the keys of its log: none of it stands below the first key of its own.
 use Rattle.std.proofs.Common.{◌≡◌, ℕ, zero, suc, ◌+◌, ◌-◌, ◌<◌, ◌≤◌, List, [], ◌∷◌, ◌++◌, refl, ap, sym, ◌∙◌, subst, arith}
-use Rattle.std.specs.Prelude.{Bool, true, false, nat_eq, find, cond, unwrap_or, Option, Some}
-use Rattle.std.specs.List.{AllByRecursion}
+use Rattle.std.specs.Prelude.{Bool, true, false, nat_eq, find, cond, unwrap_or, Some}
 use Rattle.std.proofs.Math.Bool.{true≢false}
 use Rattle.raft_values.specs.declared.vote.LeaderId.{LeaderId}
 use Rattle.raft_values.specs.declared.log_id.LogId.{LogId}
 use Rattle.raft_values.specs.LogId.{next_place}
-use Rattle.raft_state.specs.LogIdList.{IsBelowNext, PlacesRise, end_of_key, ids_of, last_id, leader_ids}
+use Rattle.raft_state.specs.LogIdList.{IsBelowNext, PlacesRise, end_of_key, ids_of, leader_ids}
 use Rattle.raft_state.proofs.LogIdLemmas.{leader_ids-first, leader_ids-none}
 use Rattle.raft_state.proofs.LogIdListLemmas.{last_id-cons}
 use Rattle.raft_leaders.specs.Leader.{end_of, first_log_id, id_of_leader, is_of_leader}
@@ -48,21 +47,27 @@ module _ (leader : LeaderId ℕ) where
   end_behind : (key next : LogId ℕ) (keys : List (LogId ℕ)) → end_of (key ∷ next ∷ keys) ≡ end_of (next ∷ keys)
   end_behind key next keys = ap next_place (last_id-cons key (next ∷ keys) ∙ sym (last_id-cons next keys))
 
+  abbrev first_of : List (LogId ℕ) → ℕ → LogId ℕ
+  first_of keys end = unwrap_or (find (is_of_leader nat_eq leader) keys) (id_of_leader leader end)
+
+  abbrev first_or : Bool → LogId ℕ → List (LogId ℕ) → LogId ℕ
+  first_or mine key keys = unwrap_or (cond mine (Some key) (find (is_of_leader nat_eq leader) keys)) (id_of_leader leader (end_of (key ∷ keys)))
+
+  -- the first of a key and those behind it
+  of_key : (key : LogId ℕ) (keys : List (LogId ℕ)) → PlacesRise (key ∷ keys) → WroteNoneBelow leader (first_of keys (end_of (key ∷ keys))).index (ids_of keys)
+      → WroteNoneBelow leader (first_log_id nat_eq leader (key ∷ keys)).index (ids_of (key ∷ keys))
+  of_key key keys rise rest =
+      elim (is_of_leader nat_eq leader key) as (λ b. is_of_leader nat_eq leader key ≡ b → WroteNoneBelow leader (first_or b key keys).index (ids_of (key ∷ keys))) [
+        | true ↦ λ t. own_key key.index key keys rise (omega arith)
+        | false ↦ λ f. other_key (first_of keys (end_of (key ∷ keys))).index key keys rise f rest
+      ] refl
+
   pub first_is_first : (keys : List (LogId ℕ)) → PlacesRise keys → WroteNoneBelow leader (first_log_id nat_eq leader keys).index (ids_of keys)
   first_is_first [] rise = tt
-  first_is_first (key ∷ keys) rise =
-      elim (is_of_leader nat_eq leader key) as (λ b. is_of_leader nat_eq leader key ≡ b
-      → WroteNoneBelow leader (unwrap_or (cond b (Some key) (find (is_of_leader nat_eq leader) keys)) (id_of_leader leader (end_of (key ∷ keys)))).index (ids_of (key ∷ keys))) [
-        | true ↦ λ t. own_key key.index key keys rise (omega arith)
-        | false ↦ λ f. other_key _ key keys rise f (rest keys rise.1)
-      ] refl
-    where
-      rest : (keys : List (LogId ℕ)) → PlacesRise keys
-          → WroteNoneBelow leader (unwrap_or (find (is_of_leader nat_eq leader) keys) (id_of_leader leader (end_of (key ∷ keys)))).index (ids_of keys)
-      rest [] h = tt
-      rest (next ∷ more) h =
-          subst (λ n. WroteNoneBelow leader (unwrap_or (find (is_of_leader nat_eq leader) (next ∷ more)) (id_of_leader leader n)).index (ids_of (next ∷ more)))
-          (sym (end_behind key next more)) (first_is_first (next ∷ more) h)
+  first_is_first (key ∷ []) rise = of_key key [] rise tt
+  first_is_first (key ∷ next ∷ keys) rise =
+      of_key key (next ∷ keys) rise
+      (subst (λ end. WroteNoneBelow leader (first_of (next ∷ keys) end).index (ids_of (next ∷ keys))) (sym (end_behind key next keys)) (first_is_first (next ∷ keys) rise.1))
 
   -- it stands in the log, or right behind it
   key_within : (key : LogId ℕ) (keys : List (LogId ℕ)) → PlacesRise (key ∷ keys) → key.index < end_of (key ∷ keys)
@@ -72,18 +77,17 @@ module _ (leader : LeaderId ℕ) where
       let m : next.index < end_of (next ∷ keys) = key_within next keys rise.1 in
       let e = end_behind key next keys in omega arith
 
+  within_of_key : (key : LogId ℕ) (keys : List (LogId ℕ)) → PlacesRise (key ∷ keys) → (first_of keys (end_of (key ∷ keys))).index ≤ end_of (key ∷ keys)
+      → (first_log_id nat_eq leader (key ∷ keys)).index ≤ end_of (key ∷ keys)
+  within_of_key key keys rise rest =
+      elim (is_of_leader nat_eq leader key) as (λ b. (first_or b key keys).index ≤ end_of (key ∷ keys)) [
+        | true ↦ let l = key_within key keys rise in omega arith
+        | false ↦ rest
+      ]
+
   pub first_within : (keys : List (LogId ℕ)) → PlacesRise keys → (first_log_id nat_eq leader keys).index ≤ end_of keys
   first_within [] rise = omega arith
-  first_within (key ∷ keys) rise =
-      elim (is_of_leader nat_eq leader key) as (λ b.
-      (unwrap_or (cond b (Some key) (find (is_of_leader nat_eq leader) keys)) (id_of_leader leader (end_of (key ∷ keys)))).index ≤ end_of (key ∷ keys)) [
-        | true ↦ let l = key_within key keys rise in omega arith
-        | false ↦ rest keys rise.1
-      ]
-    where
-      rest : (keys : List (LogId ℕ)) → PlacesRise keys
-          → (unwrap_or (find (is_of_leader nat_eq leader) keys) (id_of_leader leader (end_of (key ∷ keys)))).index ≤ end_of (key ∷ keys)
-      rest [] h = omega arith
-      rest (next ∷ more) h =
-          let e = end_behind key next more in
-          subst (λ n. (unwrap_or (find (is_of_leader nat_eq leader) (next ∷ more)) (id_of_leader leader n)).index ≤ n) (sym e) (first_within (next ∷ more) h)
+  first_within (key ∷ []) rise = within_of_key key [] rise (omega arith)
+  first_within (key ∷ next ∷ keys) rise =
+      within_of_key key (next ∷ keys) rise
+      (subst (λ end. (first_of (next ∷ keys) end).index ≤ end) (sym (end_behind key next keys)) (first_within (next ∷ keys) rise.1))
