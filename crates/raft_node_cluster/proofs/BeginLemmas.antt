@@ -127,7 +127,7 @@ all_among ids (x ∷ xs) wider = (wider x (ap (λ b. b || has_id xs x) (eq-eqb x
 
 module _ {N : Type 0} (acts : NodeActs N) where
   fits : (nodes : List N) → AllByRecursion (IsNew acts) nodes → AreNodeIds (ids_of acts nodes)
-  fits [] new n has = absurd has
+  fits [] new n has = let no : false ≡ true = has in absurd (cc)
   fits (x ∷ xs) new n has = go (eqb (acts.id x) n) refl (fits xs new.1 n) has
     where
       go : (b : Bool) → eqb (acts.id x) n ≡ b → (IsTrue (has_id (ids_of acts xs) n) → n < 2 ^ 64) → IsTrue (b || has_id (ids_of acts xs) n) → n < 2 ^ 64

@@ -7,6 +7,7 @@ use Rattle.raft_group_step.specs.Message.{Message}
 use Rattle.raft_group_step.specs.GroupEvent.{Call, GroupCall}
 use Rattle.raft_laws.specs.declared.world_event.WorldEvent.TheVariants as world
 use Rattle.raft_laws.specs.GroupRun.{At, is_same_setup, scene_of_call, setup_in_call}
+use Rattle.raft_laws.specs.GroupWorld.{NodeState}
 use Rattle.raft_laws.specs.NodeEvent.{Comes as ComesThere}
 use Rattle.raft_machines.specs.Machine.{MachineRules}
 use Rattle.raft_sent_frames.specs.declared.frame.SentFrame.{SentFrame}
@@ -53,36 +54,36 @@ use Rattle.raft_node_cluster.proofs.SpellingLemmas.{all_say, parts_say, same_len
 
 -- ---- what isn't turned away
 
-up_for_call : (b : Bool) → refusal_of (standing_if b) asked.Call [] ≡ None → b ≡ true
-up_for_call true none = refl
-up_for_call false none = absurd (cc)
+up_for_call : {N : Type 0} (acts : NodeActs N) (b : Bool) → refusal_of (standing_if acts b) asked.Call [] ≡ None → b ≡ true
+up_for_call acts true none = refl
+up_for_call acts false none = absurd (cc)
 
-up_for_crash : (b : Bool) → refusal_of (standing_if b) asked.Crash [] ≡ None → b ≡ true
-up_for_crash true none = refl
-up_for_crash false none = absurd (cc)
+up_for_crash : {N : Type 0} (acts : NodeActs N) (b : Bool) → refusal_of (standing_if acts b) asked.Crash [] ≡ None → b ≡ true
+up_for_crash acts true none = refl
+up_for_crash acts false none = absurd (cc)
 
-down_for_opening : (b : Bool) → refusal_of (standing_if b) asked.Reopen [] ≡ None → b ≡ false
-down_for_opening true none = absurd (cc)
-down_for_opening false none = refl
+down_for_opening : {N : Type 0} (acts : NodeActs N) (b : Bool) → refusal_of (standing_if acts b) asked.Reopen [] ≡ None → b ≡ false
+down_for_opening acts true none = absurd (cc)
+down_for_opening acts false none = refl
 
 -- no set-up with another membership
 abbrev pub IsFree : List Recorded → ℕ → Option Membership → Type 0
 IsFree history group None = Unit {0}
 IsFree history group (Some m) = differs history group m ≡ false
 
-not_differing : (d : Bool) → refusal_of (standing_if true) (asked.SetUp d) [] ≡ None → d ≡ false
-not_differing true none = absurd (cc)
-not_differing false none = refl
+not_differing : {N : Type 0} (acts : NodeActs N) (d : Bool) → refusal_of (standing_if acts true) (asked.SetUp d) [] ≡ None → d ≡ false
+not_differing acts true none = absurd (cc)
+not_differing acts false none = refl
 
-free_for_call : (history : List Recorded) (group : ℕ) (b : Bool) (m : Option Membership) → refusal_of (standing_if b) (set_up_asked history group m) [] ≡ None → (b ≡ true) × IsFree history group m
-free_for_call history group true None none = (refl, tt)
-free_for_call history group false None none = absurd (cc)
-free_for_call history group true (Some m) none = (refl, not_differing (differs history group m) none)
-free_for_call history group false (Some m) none = absurd (cc)
+free_for_call : {N : Type 0} (acts : NodeActs N) (history : List Recorded) (group : ℕ) (b : Bool) (m : Option Membership) → refusal_of (standing_if acts b) (set_up_asked history group m) [] ≡ None → (b ≡ true) × IsFree history group m
+free_for_call acts history group true None none = (refl, tt)
+free_for_call acts history group false None none = absurd (cc)
+free_for_call acts history group true (Some m) none = (refl, not_differing acts (differs history group m) none)
+free_for_call acts history group false (Some m) none = absurd (cc)
 
-cut_rightly : (b : Bool) (long : ℕ) (cuts : List ℕ) → refusal_of (standing_if b) (asked.Delivery (Some long)) cuts ≡ None → (b ≡ true) × (are_cuts 0 long cuts ≡ true)
-cut_rightly false long cuts none = absurd (cc)
-cut_rightly true long cuts none = (refl, go (are_cuts 0 long cuts) none)
+cut_rightly : {N : Type 0} (acts : NodeActs N) (b : Bool) (long : ℕ) (cuts : List ℕ) → refusal_of (standing_if acts b) (asked.Delivery (Some long)) cuts ≡ None → (b ≡ true) × (are_cuts 0 long cuts ≡ true)
+cut_rightly acts false long cuts none = absurd (cc)
+cut_rightly acts true long cuts none = (refl, go (are_cuts 0 long cuts) none)
   where
     go : (c : Bool) → first_of ((false, NoFrame) ∷ (false, NoNode) ∷ (false, NodeDown) ∷ (false, NodeUp) ∷ (not c, BadCut) ∷ (false, SetupDiffers) ∷ []) ≡ None → c ≡ true
     go true e = refl
@@ -169,8 +170,8 @@ module _ {N : Type 0} (rules : MachineRules) (acts : NodeActs N) (states : NodeS
         -- nothing is said of it, and nothing sent
         silently : (e : ClusterEvent) (happened : PlainEvent) → happened ≡ plain_event e → IfSome (node_behind t.plain e) (λ n. acts.id before ≡ n) → ((h : ℕ) (p : PlainOutcome) → said_by h happened p ≡ silent)
             → (Says : PlainOutcome → Type 0) (l : Leading happened mid Says) → OutcomeAs t.plain e o l.outcome → ((h : ℕ) → later h ≡ sent h) → Now e mid
-        silently e happened is_plain at says Says l as kept =
-            led rules acts states ids downs nodes sent history t before found e happened is_plain at o mid later id_mid Says l as
+        silently e happened is_plain at says Says l told kept =
+            led rules acts states ids downs nodes sent history t before found e happened is_plain at o mid later id_mid Says l told
             (λ h. with_nothing rules acts states ids downs nodes sent history t h later _ (ap (λ s. s.sent) (says h l.outcome)) (kept h))
 
         resets : (peer : ℕ) (r : Result (Unit {0}) NodeError) → Leading (ResetPeer (acts.id before) peer) mid (SaysReset (none_of r))
@@ -237,10 +238,10 @@ module _ {N : Type 0} (rules : MachineRules) (acts : NodeActs N) (states : NodeS
     module _ (o : EventOutcome) (nodes' : List N) (later : Sent) where
       comes_there : (e : ClusterEvent) → refusal_in acts nodes sent history e ≡ None → (r : Reaches acts nodes sent e o nodes' later) → After (with_node acts (acts.id r.before) r.behind nodes) later e o
       comes_there (event.AddGroup node group) none r =
-          let up = up_for_call (acts.is_up r.before) (ap (λ w. refusal_of (standing_of acts w) asked.Call []) (sym r.named) ∙ none) in
+          let up = up_for_call acts (acts.is_up r.before) (ap (λ w. refusal_of (standing_of acts w) asked.Call []) (sym r.named) ∙ none) in
           adds r.before o r.behind later node group r.named up r.comes
       comes_there (event.Ask node group call now) none r =
-          let free = free_for_call history group (acts.is_up r.before) (membership_in call) (ap (λ w. refusal_of (standing_of acts w) (set_up_asked history group (membership_in call)) []) (sym r.named) ∙ none) in
+          let free = free_for_call acts history group (acts.is_up r.before) (membership_in call) (ap (λ w. refusal_of (standing_of acts w) (set_up_asked history group (membership_in call)) []) (sym r.named) ∙ none) in
           asks r.before o r.behind later node group call now r.named free.0 free.1 r.comes
       comes_there (event.Deliver group number cuts now) none r = go (slice_get (sent group) number) refl
         where
@@ -250,12 +251,12 @@ module _ {N : Type 0} (rules : MachineRules) (acts : NodeActs N) (states : NodeS
           go (Some frame) is =
               let there : node_in acts nodes frame.peer ≡ Some r.before = ap (λ w. node_at acts nodes (option_map (λ (f : SentFrame). f.peer) w)) (sym is) ∙ r.named in
               let A : Option SentFrame → Asked = λ w. asked.Delivery (option_map (λ (f : SentFrame). length f.bytes) w) in
-              let cut = cut_rightly (acts.is_up r.before) (length frame.bytes) cuts
+              let cut = cut_rightly acts (acts.is_up r.before) (length frame.bytes) cuts
                   (ap (λ w. refusal_of (standing_of acts w) (A (Some frame)) cuts) (sym r.named)
                   ∙ ap (λ w. refusal_of (standing_of acts (node_at acts nodes (node_of sent (event.Deliver group number cuts now)))) (A w) cuts) (sym is) ∙ none) in
               delivers r.before o r.behind later group number cuts now frame is there cut.0 cut.1 r.comes
       comes_there (event.ResetPeer node peer) none r =
-          let up = up_for_call (acts.is_up r.before) (ap (λ w. refusal_of (standing_of acts w) asked.Call []) (sym r.named) ∙ none) in
+          let up = up_for_call acts (acts.is_up r.before) (ap (λ w. refusal_of (standing_of acts w) asked.Call []) (sym r.named) ∙ none) in
           let is = its_id acts nodes node r.before r.named in
           let found = ap (node_in acts nodes) is ∙ r.named in
           let (answered, reset, same) = r.comes.answers in
@@ -263,7 +264,7 @@ module _ {N : Type 0} (rules : MachineRules) (acts : NodeActs N) (states : NodeS
           resets r.before o r.behind later found r.comes.behind r.comes.id_behind r.comes.id node is peer answered l
           (subst (λ a. Settles acts sent (event.ResetPeer node peer) r.comes.behind a o later r.behind) same r.comes.settles)
       comes_there (event.Crash node choice) none r =
-          let up = up_for_crash (acts.is_up r.before) (ap (λ w. refusal_of (standing_of acts w) asked.Crash []) (sym r.named) ∙ none) in
+          let up = up_for_crash acts (acts.is_up r.before) (ap (λ w. refusal_of (standing_of acts w) asked.Crash []) (sym r.named) ∙ none) in
           let is = its_id acts nodes node r.before r.named in
           let found = ap (node_in acts nodes) is ∙ r.named in
           let (crashed, same) = r.comes.answers in
@@ -271,11 +272,11 @@ module _ {N : Type 0} (rules : MachineRules) (acts : NodeActs N) (states : NodeS
           crashes r.before o r.behind later found r.comes.behind r.comes.id_behind r.comes.id node is choice l
           (subst (λ a. Settles acts sent (event.Crash node choice) r.comes.behind a o later r.behind) same r.comes.settles)
       comes_there (event.Reopen node workers) none r =
-          let down = down_for_opening (acts.is_up r.before) (ap (λ w. refusal_of (standing_of acts w) asked.Reopen []) (sym r.named) ∙ none) in
+          let down = down_for_opening acts (acts.is_up r.before) (ap (λ w. refusal_of (standing_of acts w) asked.Reopen []) (sym r.named) ∙ none) in
           let is = its_id acts nodes node r.before r.named in
           let found = ap (node_in acts nodes) is ∙ r.named in
           let (answered, opened, same) = r.comes.answers in
-          let olds = λ h. t.stand.candidates h (acts.id r.before) in
+          let olds : ℕ → List NodeState = λ h. t.stand.candidates h (acts.id r.before) in
           let here = stands rules acts states ids downs nodes sent history t r.before found in
           let l = law.reopens r.before r.comes.behind workers answered down opened ids t.plain olds tt here in
           reopens r.before o r.behind later found r.comes.behind r.comes.id_behind r.comes.id node is workers answered l

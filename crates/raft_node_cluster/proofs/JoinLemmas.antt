@@ -42,7 +42,7 @@ use Rattle.raft_node_cluster.proofs.SpellingLemmas.{one_says, part_says, same_le
 
 -- an event that isn't done is told so, and says nothing
 pub record IsToldSilently (plain : List PlainRecord) (e : ClusterEvent) (o : EventOutcome) (p : PlainOutcome) : Type 0 where
-  pub as : OutcomeAs plain e o p
+  pub told : OutcomeAs plain e o p
   pub quiet : IsQuiet p
 
 quiet_stop : (p : PlainOutcome) (names : List Unknown) → p ≡ Stopped names → IsQuiet p
@@ -50,13 +50,13 @@ quiet_stop p names is = subst IsQuiet (sym is) tt
 
 pub stopped_as : (plain : List PlainRecord) (e : ClusterEvent) (stop : Stop) (o : EventOutcome) (p : PlainOutcome) → o ≡ outcome.Stopped stop → p ≡ Stopped (names_of stop) → IsToldSilently plain e o p
 stopped_as plain e stop o p is says = record {
-  as = subst (λ q. OutcomeAs plain e q p) (sym is) says;
+  told = subst (λ q. OutcomeAs plain e q p) (sym is) says;
   quiet = quiet_stop p (names_of stop) says;
 }
 
 pub error_as : (plain : List PlainRecord) (e : ClusterEvent) (why : NodeError) (o : EventOutcome) (p : PlainOutcome) → o ≡ over why → SaysError why p → IsToldSilently plain e o p
 error_as plain e (error.Refused why) o p is says = record {
-  as = subst (λ q. OutcomeAs plain e q p) (sym is) says;
+  told = subst (λ q. OutcomeAs plain e q p) (sym is) says;
   quiet = (passive why p says).quiet;
 }
 error_as plain e (error.Stopped stop) o p is says = stopped_as plain e stop o p is says
@@ -135,11 +135,11 @@ module _ {N : Type 0} (rules : MachineRules) (acts : NodeActs N) (states : NodeS
         -- what it leads to is there
         pub led : (Says : PlainOutcome → Type 0) (l : Leads rules acts states t.plain happened (olds (acts.id before)) before new Says) → OutcomeAs t.plain e o l.outcome
             → ((h : ℕ) → AllZip (IsSentAs states.spells h) (later h) (sent_by h t.plain ++ (said_by h happened l.outcome).sent)) → Goal
-        led Says l as frames =
+        led Says l told frames =
             let n = acts.id before in
             let r : PlainRecord = record { event = happened; node = n; outcome = l.outcome } in
             joined (record { event = e; outcome = o }) r n l.news (with_node acts n new nodes) later l.leads
-            (record { event = is_plain; node = at; outcome = as })
+            (record { event = is_plain; node = at; outcome = told })
             (λ m node there h. may n m node there h (eqb m n) refl)
             frames
             (ids_kept acts nodes n new same_id)
@@ -156,7 +156,7 @@ module _ {N : Type 0} (rules : MachineRules) (acts : NodeActs N) (states : NodeS
         pub led_silently : (Says : PlainOutcome → Type 0) (l : Leads rules acts states t.plain happened (olds (acts.id before)) before new Says) → IsToldSilently t.plain e o l.outcome
             → ((h : ℕ) → later h ≡ sent h) → Goal
         led_silently Says l told kept =
-            led Says l told.as (λ h. with_nothing h later _ (ap (λ s. s.sent) (quiet_by happened h l.outcome told.quiet)) (kept h))
+            led Says l told.told (λ h. with_nothing h later _ (ap (λ s. s.sent) (quiet_by happened h l.outcome told.quiet)) (kept h))
 
       -- ---- an event of one group
 

@@ -1,5 +1,5 @@
 -- Lists that stand side by side, and the first node of an id.
-use Rattle.std.proofs.Common.{◌≡◌, ℕ, zero, suc, eqb, Bool, true, false, cond, not, List, [], ◌∷◌, ◌++◌, Option, Some, None, map, slice_get, refl, sym, ap, ◌∙◌, subst, arith, eqb-true}
+use Rattle.std.proofs.Common.{◌≡◌, ◌+◌, ℕ, zero, suc, eqb, Bool, true, false, cond, not, List, [], ◌∷◌, ◌++◌, Option, Some, None, map, slice_get, refl, sym, ap, ◌∙◌, subst, arith, eqb-true}
 use Rattle.std.proofs.lemmas.Bool.{eq-eqb}
 use Rattle.std.specs.List.{AllByRecursion, AllZip, find, position_or_len}
 use Rattle.std.specs.Prelude.{slice_set}
@@ -22,10 +22,11 @@ pub record HasBeside {A B : Type 0} (R : A → B → Type 0) (ys : List B) (k : 
 
 pub beside : {A B : Type 0} (R : A → B → Type 0) (xs : List A) (ys : List B) → AllZip R xs ys → (k : ℕ) (x : A) → slice_get xs k ≡ Some x → HasBeside R ys k x
 beside R [] ys h k x e = absurd (cc)
-beside R (a ∷ as) [] h k x e = absurd h
-beside R (a ∷ as) (b ∷ bs) h zero x e =
+beside R (a ∷ rest) [] h k x e = absurd h
+beside R (a ∷ rest) (b ∷ bs) h zero x e =
     let same : a ≡ x = cc in record { other = b; stands = refl; related = subst (λ z. R z b) same h.0 }
-beside R (a ∷ as) (b ∷ bs) h (suc k) x e = beside R as bs h.1 k x e
+beside R (a ∷ rest) (b ∷ bs) h (suc k) x e =
+    let b = beside R rest bs h.1 k x e in record { other = b.other; stands = b.stands; related = b.related }
 
 pub all_of : {A : Type 0} (P : A → Type 0) → ((x : A) → P x) → (xs : List A) → AllByRecursion P xs
 all_of P f [] = tt
@@ -79,6 +80,8 @@ module _ {N : Type 0} (acts : NodeActs N) where
   put_first (x ∷ xs) n new = go (eqb (acts.id x) n) (put_first xs n new)
     where
       go : (b : Bool) → slice_set xs (position_or_len (λ node. eqb (acts.id node) n) xs) new ≡ with_node acts n new xs
-          → slice_set (x ∷ xs) (cond (not b) (suc (position_or_len (λ node. eqb (acts.id node) n) xs)) 0) new ≡ cond b (new ∷ xs) (x ∷ with_node acts n new xs)
+          → slice_set (x ∷ xs) (cond (not b) (1 + position_or_len (λ node. eqb (acts.id node) n) xs) 0) new ≡ cond b (new ∷ xs) (x ∷ with_node acts n new xs)
       go true more = refl
-      go false more = ap (λ l. x ∷ l) more
+      go false more =
+          let next : 1 + position_or_len (λ node. eqb (acts.id node) n) xs ≡ suc (position_or_len (λ node. eqb (acts.id node) n) xs) = omega arith in
+          ap (λ k. slice_set (x ∷ xs) k new) next ∙ ap (λ l. x ∷ l) more

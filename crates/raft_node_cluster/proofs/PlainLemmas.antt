@@ -143,14 +143,14 @@ same_taken before n g call now (outcome.Stopped stop) p h = sym (ap is_taken_pla
 same_taken before n g call now (outcome.TurnedAway why) p h = sym (ap is_taken_plain h)
 
 same_set_up : (h : ℕ) (before : List PlainRecord) (e : ClusterEvent) (o : EventOutcome) (p : PlainOutcome) → OutcomeAs before e o p → set_up_by_event h e (is_taken o) ≡ setup_asked h (plain_event e) p
-same_set_up h before (event.AddGroup n g) o p as = refl
-same_set_up h before (event.Ask n g call now) o p as =
-    ap (λ taken. set_up_if (eqb g h) taken (membership_in call)) (same_taken before n g call now o p as)
+same_set_up h before (event.AddGroup n g) o p told = refl
+same_set_up h before (event.Ask n g call now) o p told =
+    ap (λ taken. set_up_if (eqb g h) taken (membership_in call)) (same_taken before n g call now o p told)
     ∙ same_if (eqb g h) (is_taken_plain p) call
-same_set_up h before (event.Deliver g number cuts now) o p as = refl
-same_set_up h before (event.ResetPeer n peer) o p as = refl
-same_set_up h before (event.Crash n choice) o p as = refl
-same_set_up h before (event.Reopen n workers) o p as = refl
+same_set_up h before (event.Deliver g number cuts now) o p told = refl
+same_set_up h before (event.ResetPeer n peer) o p told = refl
+same_set_up h before (event.Crash n choice) o p told = refl
+same_set_up h before (event.Reopen n workers) o p told = refl
 
 -- the first set-up decides in both
 module _ (h : ℕ) (m : Membership) where
