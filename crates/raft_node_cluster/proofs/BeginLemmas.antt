@@ -1,12 +1,12 @@
 -- Nodes that have nothing: those that couldn't be opened are as nodes that crash at first.
-use Rattle.std.proofs.Common.{◌≡◌, ◌<◌, ◌^◌, ◌⊎◌, ℕ, eqb, Bool, true, false, cond, not, ◌||◌, List, [], ◌∷◌, ◌++◌, Some, None, Contains, map, filter, inl, inr, refl, sym, ap, ◌∙◌, subst, arith, append_assoc, append-nil, eqb-true, ⊎_elim}
+use Rattle.std.proofs.Common.{◌≡◌, ◌<◌, ◌^◌, ◌⊎◌, ℕ, eqb, Bool, true, false, cond, not, ◌||◌, List, [], ◌∷◌, ◌++◌, Some, filter, inl, inr, refl, sym, ap, ◌∙◌, subst, append_assoc, append-nil, eqb-true}
 use Rattle.std.proofs.lemmas.Bool.{eq-eqb}
 use Rattle.std.specs.List.{AllByRecursion, AllZip}
 use Rattle.std.specs.Prelude.{IsTrue}
 use Rattle.raft_group_step.specs.Values.{has_id}
 use Rattle.raft_group_step.specs.GroupState.{no_group, state_of}
 use Rattle.raft_laws.specs.BallotLists.{with_value}
-use Rattle.raft_laws.specs.GroupWorld.{NodeState, Absent, Down, Up, new_world, state_or}
+use Rattle.raft_laws.specs.GroupWorld.{NodeState, Absent, Down, Up, state_or}
 use Rattle.raft_laws.specs.OneList.{AreNodeIds}
 use Rattle.raft_machines.specs.Machine.{MachineRules}
 use Rattle.raft_headline.specs.ClusterEvent.{Crash, Done, Recorded, silent}
@@ -17,10 +17,10 @@ use Rattle.raft_cluster_laws.proofs.NodesActing.{others_act}
 use Rattle.raft_cluster_events.specs.Node.{NodeActs}
 use Rattle.raft_cluster_events.specs.States.{NodeStates}
 use Rattle.raft_node_laws.specs.Law.{KeepsLaw, first_state}
-use Rattle.raft_node_laws.specs.Reporting.{IsReport, IsSentAs, crashes_of}
+use Rattle.raft_node_laws.specs.Reporting.{IsSentAs, crashes_of}
 use Rattle.raft_node_cluster.specs.Cluster.{IsNew, nothing_sent}
 use Rattle.raft_node_cluster.specs.Facts.{node_in}
-use Rattle.raft_node_cluster.specs.Joined.{IsToldOf, StandAs, downs_of, ids_of, is_down}
+use Rattle.raft_node_cluster.specs.Joined.{IsToldOf, downs_of, ids_of, is_down}
 use Rattle.raft_node_cluster.proofs.PlainLemmas.{crashes_send_nothing}
 
 abbrev pub down : List NodeState

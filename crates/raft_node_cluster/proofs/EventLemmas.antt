@@ -1,21 +1,19 @@
 -- Each kind of event, and runs of events.
-use Rattle.std.proofs.Common.{◌≡◌, ◌==◌, ℕ, eqb, Bool, true, false, cond, not, List, [], ◌∷◌, ◌++◌, Option, Some, None, IfSome, Ok, Err, Result, length, map, slice_get, inl, inr, refl, sym, ap, ◌∙◌, subst, append_assoc, append-nil, unwrap_or}
-use Rattle.std.specs.List.{AllByRecursion, AllZip}
+use Rattle.std.proofs.Common.{◌≡◌, ℕ, Bool, true, false, not, List, [], ◌∷◌, ◌++◌, Option, Some, None, IfSome, Ok, Err, Result, length, slice_get, inl, inr, refl, sym, ap, ◌∙◌, subst, append_assoc, append-nil, unwrap_or}
+use Rattle.std.specs.List.{AllZip}
 use Rattle.std.specs.Option.{option_map}
 use Rattle.raft_group_step.specs.Values.{Membership}
 use Rattle.raft_group_step.specs.Message.{Message}
-use Rattle.raft_group_step.specs.GroupEvent.{Call, GroupCall}
-use Rattle.raft_laws.specs.declared.world_event.WorldEvent.TheVariants as world
-use Rattle.raft_laws.specs.GroupRun.{At, is_same_setup, scene_of_call, setup_in_call}
+use Rattle.raft_group_step.specs.GroupEvent.{GroupCall}
+use Rattle.raft_laws.specs.GroupRun.{is_same_setup, scene_of_call, setup_in_call}
 use Rattle.raft_laws.specs.GroupWorld.{NodeState}
-use Rattle.raft_laws.specs.NodeEvent.{Comes as ComesThere}
 use Rattle.raft_machines.specs.Machine.{MachineRules}
 use Rattle.raft_sent_frames.specs.declared.frame.SentFrame.{SentFrame}
 use Rattle.raft_headline.specs.ClusterEvent.{AddGroup, Ask, Crash, Deliver, Reopen, ResetPeer}
 use Rattle.raft_headline.specs.ClusterEvent.{ClusterEvent as PlainEvent, ClusterOutcome as PlainOutcome}
-use Rattle.raft_headline.specs.ClusterEvent.{Done, Opened, Said, Stopped, said_of, silent}
+use Rattle.raft_headline.specs.ClusterEvent.{Done, Said, Stopped, silent}
 use Rattle.raft_headline.specs.Told.{said_by}
-use Rattle.raft_cluster_laws.specs.Along.{scene_behind, sent_by, setup_by}
+use Rattle.raft_cluster_laws.specs.Along.{sent_by, setup_by}
 use Rattle.raft_cluster_laws.proofs.EventKept.{kept_is_headline}
 use Rattle.raft_cluster_conditions.specs.Cuts.{are_cuts}
 use Rattle.raft_cluster_conditions.specs.Refusal.{first_of, refusal_of}
@@ -28,7 +26,6 @@ use Rattle.raft_cluster_events.specs.declared.event.ClusterEvent.TheVariants as 
 use Rattle.raft_cluster_events.specs.declared.event.CrashChoice.{CrashChoice}
 use Rattle.raft_cluster_events.specs.declared.node.NodeOutcome.{NodeOutcome}
 use Rattle.raft_cluster_events.specs.declared.outcome.EventOutcome.{EventOutcome}
-use Rattle.raft_cluster_events.specs.declared.outcome.EventOutcome.TheVariants as outcome
 use Rattle.raft_cluster_events.specs.declared.outcome.GroupOutcome.{GroupOutcome}
 use Rattle.raft_cluster_events.specs.declared.outcome.NodeError.{NodeError}
 use Rattle.raft_cluster_events.specs.declared.outcome.NodeError.TheVariants as error
@@ -36,7 +33,7 @@ use Rattle.raft_cluster_events.specs.declared.outcome.Recorded.{Recorded}
 use Rattle.raft_cluster_events.specs.declared.outcome.Stop.{Stop}
 use Rattle.raft_cluster_events.specs.Node.{NodeActs}
 use Rattle.raft_cluster_events.specs.States.{NodeStates}
-use Rattle.raft_node_laws.specs.Answered.{Answered, none_of, one_of, opening_of, some_of}
+use Rattle.raft_node_laws.specs.Answered.{Answered, none_of, opening_of}
 use Rattle.raft_node_laws.specs.Delivery.{Comes, pieces_from}
 use Rattle.raft_node_laws.specs.Law.{Anything, IsAskedAt, IsTaken, KeepsLaw, Leads, WasSent}
 use Rattle.raft_node_laws.specs.Reporting.{IsPartAs, IsSentAs, OutcomeAs, node_behind, plain_event}
@@ -45,7 +42,7 @@ use Rattle.raft_node_cluster.specs.Cluster.{Happens, HappensBy, IsReached, Reach
 use Rattle.raft_node_cluster.specs.Facts.{Sent, differs, membership_in, node_at, node_in, node_of, set_up_asked, standing_if, standing_of}
 use Rattle.raft_node_cluster.specs.Happening.{ComesTo, Delivers, Settles}
 use Rattle.raft_node_cluster.specs.Joined.{HasHeadline, IsToldOf, downs_of, ids_of}
-use Rattle.raft_node_cluster.specs.Sending.{parts_of, sent_after}
+use Rattle.raft_node_cluster.specs.Sending.{sent_after}
 use Rattle.raft_node_cluster.proofs.BeginLemmas.{told_first}
 use Rattle.raft_node_cluster.proofs.JoinLemmas.{error_as, group_event, led, led_silently, stands, stopped_as, turned, with_nothing}
 use Rattle.raft_node_cluster.proofs.ListLemmas.{all_of, beside, its_id}
@@ -136,7 +133,7 @@ module _ {N : Type 0} (rules : MachineRules) (acts : NodeActs N) (states : NodeS
           let Kind = IsAskedAt (acts.id before) group call now in
           let P : Answered → Type 0 = λ a. IsTaken rules acts states Kind happened group before a comes.behind in
           let same_setup : is_same_setup (setup_by group t.plain) (setup_in_call call) ≡ true =
-              ap (is_same_setup (setup_by group t.plain)) (sym (same_membership call)) ∙ free_in_plain group (membership_in call) free in
+          ap (is_same_setup (setup_by group t.plain)) (sym (same_membership call)) ∙ free_in_plain group (membership_in call) free in
           group_event rules acts states ids downs nodes sent history t before found (event.Ask node group call now) happened (ap (λ n. Ask n group call now) is) is
           o comes.behind new later comes.id_behind comes.id group (λ parts p h. h) (λ outcomes stop h. h) (λ h p. refl) Kind
           (ap (λ b. scene_of_call b (acts.id before) call now) same_setup)
@@ -252,8 +249,8 @@ module _ {N : Type 0} (rules : MachineRules) (acts : NodeActs N) (states : NodeS
               let there : node_in acts nodes frame.peer ≡ Some r.before = ap (λ w. node_at acts nodes (option_map (λ (f : SentFrame). f.peer) w)) (sym is) ∙ r.named in
               let A : Option SentFrame → Asked = λ w. asked.Delivery (option_map (λ (f : SentFrame). length f.bytes) w) in
               let cut = cut_rightly acts (acts.is_up r.before) (length frame.bytes) cuts
-                  (ap (λ w. refusal_of (standing_of acts w) (A (Some frame)) cuts) (sym r.named)
-                  ∙ ap (λ w. refusal_of (standing_of acts (node_at acts nodes (node_of sent (event.Deliver group number cuts now)))) (A w) cuts) (sym is) ∙ none) in
+              (ap (λ w. refusal_of (standing_of acts w) (A (Some frame)) cuts) (sym r.named)
+              ∙ ap (λ w. refusal_of (standing_of acts (node_at acts nodes (node_of sent (event.Deliver group number cuts now)))) (A w) cuts) (sym is) ∙ none) in
               delivers r.before o r.behind later group number cuts now frame is there cut.0 cut.1 r.comes
       comes_there (event.ResetPeer node peer) none r =
           let up = up_for_call acts (acts.is_up r.before) (ap (λ w. refusal_of (standing_of acts w) asked.Call []) (sym r.named) ∙ none) in

@@ -1,7 +1,6 @@
 -- One event more: whatever comes to a node that keeps the law, the plain history goes on and leads to what is there.
-use Rattle.std.proofs.Common.{◌≡◌, ℕ, eqb, Bool, true, false, cond, List, [], ◌∷◌, ◌++◌, Option, Some, None, IfSome, Ok, Err, Result, length, map, slice_get, inl, inr, refl, sym, ap, ◌∙◌, subst, append-nil, eqb-true}
-use Rattle.std.specs.List.{AllByRecursion, AllZip}
-use Rattle.std.specs.Option.{option_map}
+use Rattle.std.proofs.Common.{◌≡◌, ℕ, eqb, Bool, true, false, cond, List, [], ◌∷◌, ◌++◌, Some, IfSome, Ok, Err, inl, inr, refl, sym, ap, ◌∙◌, subst, append-nil, eqb-true}
+use Rattle.std.specs.List.{AllZip}
 use Rattle.raft_group_step.specs.Message.{Message}
 use Rattle.raft_laws.specs.BallotLists.{with_value}
 use Rattle.raft_laws.specs.GroupWorld.{NodeState}
@@ -9,11 +8,9 @@ use Rattle.raft_machines.specs.Machine.{MachineRules}
 use Rattle.raft_sent_frames.specs.declared.frame.SentFrame.{SentFrame}
 use Rattle.raft_headline.specs.ClusterEvent.{ClusterEvent as PlainEvent, ClusterOutcome as PlainOutcome, Recorded as PlainRecord}
 use Rattle.raft_headline.specs.ClusterEvent.{Done, Stopped, TurnedAway, Unknown}
-use Rattle.raft_headline.specs.Seen.{seen_by}
 use Rattle.raft_headline.specs.Told.{said_by, said_if}
 use Rattle.raft_cluster_laws.specs.Acts.{EventLeads}
 use Rattle.raft_cluster_laws.specs.Along.{sent_by}
-use Rattle.raft_cluster_laws.specs.Kept.{Candidates}
 use Rattle.raft_cluster_laws.proofs.EventKept.{candidates_stand, kept_by_all}
 use Rattle.raft_cluster_events.specs.declared.event.ClusterEvent.{ClusterEvent}
 use Rattle.raft_cluster_events.specs.declared.node.NodeOutcome.{NodeOutcome}
@@ -33,7 +30,7 @@ use Rattle.raft_node_laws.specs.Reporting.{DoneAs, IsDoneAs, IsRecordedAs, IsSen
 use Rattle.raft_node_laws.specs.Saying.{SaysCall, SaysError, names_of}
 use Rattle.raft_node_cluster.specs.Cluster.{with_node}
 use Rattle.raft_node_cluster.specs.Facts.{Sent, node_in}
-use Rattle.raft_node_cluster.specs.Happening.{FailsBehind, IsOver, Settles, StopsFor, over}
+use Rattle.raft_node_cluster.specs.Happening.{FailsBehind, Settles, StopsFor, over}
 use Rattle.raft_node_cluster.specs.Joined.{IsToldOf, ids_of}
 use Rattle.raft_node_cluster.specs.Sending.{part_of, sent_after_one}
 use Rattle.raft_node_cluster.proofs.ListLemmas.{found_new, found_other, ids_kept}
@@ -147,7 +144,7 @@ module _ {N : Type 0} (rules : MachineRules) (acts : NodeActs N) (states : NodeS
             may : (n m : ℕ) (node : N) → node_in acts (with_node acts (acts.id before) new nodes) m ≡ Some node → (h : ℕ) (b : Bool) → eqb m (acts.id before) ≡ b → states.may_be node h (cond b (l.news h) (t.stand.candidates h m))
             may n m node there h true is =
                 let first : node_in acts (with_node acts (acts.id before) new nodes) m ≡ Some new =
-                    ap (λ i. node_in acts (with_node acts (acts.id before) new nodes) i) (eqb-true m (acts.id before) is) ∙ found_new acts nodes (acts.id before) new before same_id found in
+                ap (λ i. node_in acts (with_node acts (acts.id before) new nodes) i) (eqb-true m (acts.id before) is) ∙ found_new acts nodes (acts.id before) new before same_id found in
                 let same : new ≡ node = cc in
                 subst (λ x. states.may_be x h (l.news h)) same (l.may_be h)
             may n m node there h false is = t.stand.may_be m node (sym (found_other acts nodes (acts.id before) m new same_id is) ∙ there) h
@@ -195,7 +192,7 @@ module _ {N : Type 0} (rules : MachineRules) (acts : NodeActs N) (states : NodeS
                 done = is;
               } in
               let said_there : (h : ℕ) → said_by h happened l.outcome ≡ said_if (eqb x.group h) (Done said) =
-                  λ h. ap (said_by h happened) is ∙ says_if h (Done said) ∙ ap (λ g. said_if (eqb g h) (Done said)) (sym of_group) in
+              λ h. ap (said_by h happened) is ∙ says_if h (Done said) ∙ ap (λ g. said_if (eqb g h) (Done said)) (sym of_group) in
               subst GoalAt (sym done.node)
               (led e happened is_plain at o mid later id_mid (SaysCall spells (acts.id before) group (Ok (x ∷ []))) l
               (subst (λ q. OutcomeAs t.plain e q l.outcome) (sym done.outcome) (done_as done.parts l.outcome done_so))

@@ -1,11 +1,11 @@
 -- Lists that stand side by side, and the first node of an id.
-use Rattle.std.proofs.Common.{◌≡◌, ◌+◌, ℕ, zero, suc, eqb, Bool, true, false, cond, not, List, [], ◌∷◌, ◌++◌, Option, Some, None, map, slice_get, refl, sym, ap, ◌∙◌, subst, arith, eqb-true}
+use Rattle.std.proofs.Common.{◌≡◌, ◌+◌, ℕ, zero, suc, eqb, Bool, true, false, cond, not, List, [], ◌∷◌, ◌++◌, Some, None, length, map, nat_lt, position, slice_get, refl, sym, ap, ◌∙◌, subst, arith, eqb-true}
 use Rattle.std.proofs.lemmas.Bool.{eq-eqb}
-use Rattle.std.specs.List.{AllByRecursion, AllZip, find, position_or_len}
+use Rattle.std.specs.List.{AllByRecursion, AllZip, position_or_len}
 use Rattle.std.specs.Prelude.{slice_set}
 use Rattle.raft_cluster_events.specs.Node.{NodeActs}
 use Rattle.raft_node_cluster.specs.Cluster.{with_node}
-use Rattle.raft_node_cluster.specs.Facts.{node_in}
+use Rattle.raft_node_cluster.specs.Facts.{node_in, place_in}
 
 -- ---- side by side
 
@@ -31,6 +31,17 @@ beside R (a ∷ rest) (b ∷ bs) h (suc k) x e =
 pub all_of : {A : Type 0} (P : A → Type 0) → ((x : A) → P x) → (xs : List A) → AllByRecursion P xs
 all_of P f [] = tt
 all_of P f (x ∷ xs) = (f x, all_of P f xs)
+
+pub all_push : {A : Type 0} (P : A → Type 0) (xs : List A) (x : A) → AllByRecursion P xs → P x → AllByRecursion P (xs ++ x ∷ [])
+all_push P [] x all one = (one, tt)
+all_push P (y ∷ ys) x all one = (all.0, all_push P ys x all.1 one)
+
+at_position : {A : Type 0} (p : A → Bool) (xs : List A) (i : ℕ) → position p xs ≡ Some i → i ≡ position_or_len p xs
+at_position p xs i e = go (nat_lt (position_or_len p xs) (length xs)) e
+  where
+    go : (b : Bool) → cond b (Some (position_or_len p xs)) None ≡ Some i → i ≡ position_or_len p xs
+    go true is = cc
+    go false is = absurd (cc)
 
 -- ---- nodes
 
@@ -85,3 +96,8 @@ module _ {N : Type 0} (acts : NodeActs N) where
       go false more =
           let next : 1 + position_or_len (λ node. eqb (acts.id node) n) xs ≡ suc (position_or_len (λ node. eqb (acts.id node) n) xs) = omega arith in
           ap (λ k. slice_set (x ∷ xs) k new) next ∙ ap (λ l. x ∷ l) more
+
+  pub put_at_place : (nodes : List N) (id place : ℕ) (new before : N) → Some place ≡ place_in acts nodes (Some id) → node_in acts nodes id ≡ Some before → slice_set nodes place new ≡ with_node acts (acts.id before) new nodes
+  put_at_place nodes id place new before first found =
+      ap (λ k. slice_set nodes k new) (at_position (λ node. eqb (acts.id node) id) nodes place (sym first)) ∙ put_first nodes id new
+      ∙ ap (λ i. with_node acts i new nodes) (sym (its_id nodes id before found))

@@ -164,7 +164,7 @@ module _ (h : ℕ) (m : Membership) where
   differ_recorded before (r ∷ rs) [] same = absurd same
   differ_recorded before (r ∷ rs) (p ∷ ps) same =
       let one : set_up_by h r ≡ setup_asked h p.event p.outcome =
-          same_set_up h before r.event r.outcome p.outcome same.0.outcome ∙ ap (λ e. setup_asked h e p.outcome) (sym same.0.event) in
+      same_set_up h before r.event r.outcome p.outcome same.0.outcome ∙ ap (λ e. setup_asked h e p.outcome) (sym same.0.event) in
       ap (λ first. differs_from m first (differs rs h m)) one
       ∙ decides (setup_asked h p.event p.outcome) (differs rs h m) (setup_by h ps) (differ_recorded (before ++ p ∷ []) rs ps same.1)
 

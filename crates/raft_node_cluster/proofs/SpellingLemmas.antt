@@ -10,7 +10,7 @@ use Rattle.raft_sent_frames.specs.declared.frame.SentFrame.{SentFrame}
 use Rattle.raft_sent_frames.specs.declared.frame.SentNumber.{SentNumber}
 use Rattle.raft_sent_frames.specs.Frames.{numbers_from}
 use Rattle.raft_sent_frames.specs.Frames.{sent_by as frames_by}
-use Rattle.raft_headline.specs.ClusterEvent.{Done, Recorded, Said, said_of, said_or, silent}
+use Rattle.raft_headline.specs.ClusterEvent.{Done, Recorded, Said, said_of, said_or}
 use Rattle.raft_headline.specs.Told.{said_if}
 use Rattle.raft_cluster_laws.specs.Along.{sent_by}
 use Rattle.raft_cluster_events.specs.declared.node.NodeOutcome.{NodeOutcome}

@@ -80,30 +80,23 @@ module _ {N : Type 0} (rules : MachineRules) (acts : NodeActs N) (states : NodeS
 
   pub record KeepsLaw : Type 0 where
     pub begins : (id : ℕ) (node : N) → acts.begins id node → (h : ℕ) → states.may_be node h (first_state (acts.is_up node) ∷ [])
-
     pub adds : (old mid : N) (group : ℕ) (answered : Result NodeOutcome NodeError) → acts.is_up old ≡ true → acts.adds old group answered mid
         → IsTaken Anything (AddGroup (acts.id old) group) group old (one_of answered) mid
-
     pub asks : (old mid : N) (group now : ℕ) (call : GroupCall) (answered : Result NodeOutcome NodeError) → acts.is_up old ≡ true
         → acts.asks old group call now answered mid
         → IsTaken (IsAskedAt (acts.id old) group call now) (Ask (acts.id old) group call now) group old (one_of answered) mid
-
     -- a frame that was sent to the node comes whole, cut into pieces
     pub delivers : (old mid : N) (group number now : ℕ) (m : Message) (bytes cuts : List ℕ) (answered : Result (Option NodeOutcome) NodeError)
         → acts.is_up old ≡ true → m.addressee ≡ acts.id old → states.spells group m bytes → are_cuts 0 (length bytes) cuts ≡ true
         → Comes acts m.sender now old (pieces_from bytes 0 cuts) answered mid
         → IsTaken (WasSent group number m) (Deliver group number now) group old (some_of answered) mid
-
     pub resets : (old new : N) (peer : ℕ) (answered : Result (Unit {0}) NodeError) → acts.is_up old ≡ true → acts.resets old peer answered new
         → LeadsOn Anything (ResetPeer (acts.id old) peer) old new (SaysReset (none_of answered))
-
     pub crashes : (old new : N) (choice : CrashChoice) → acts.is_up old ≡ true → acts.crashes old choice new
         → LeadsOn Anything (Crash (acts.id old)) old new (λ o. o ≡ Done silent)
-
     pub reopens : (old new : N) (workers : ℕ) (answered : Result (List NodeOutcome) Stop) → acts.is_up old ≡ false
         → acts.reopens old workers answered new
         → LeadsOn Anything (Reopen (acts.id old)) old new (SaysOpening states.spells (acts.id old) (opening_of answered))
-
     -- memory is refused behind an opening: the node goes down again, and nobody waited there
     pub closes : (old mid new : N) (workers : ℕ) (outcomes : List NodeOutcome) → acts.is_up old ≡ false
         → acts.reopens old workers (Ok outcomes) mid → acts.closes mid new
