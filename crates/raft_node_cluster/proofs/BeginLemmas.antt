@@ -21,7 +21,7 @@ use Rattle.raft_node_laws.specs.Reporting.{IsSentAs, crashes_of}
 use Rattle.raft_node_cluster.specs.Cluster.{IsNew, nothing_sent}
 use Rattle.raft_node_cluster.specs.Facts.{node_in}
 use Rattle.raft_node_cluster.specs.Joined.{IsToldOf, downs_of, ids_of, is_down}
-use Rattle.raft_node_cluster.proofs.PlainLemmas.{crashes_send_nothing}
+use Rattle.raft_node_cluster.proofs.PlainLemmas.{SetUpsAgree, agree_at_first, crashes_send_nothing}
 
 abbrev pub down : List NodeState
 down = Down no_group ∷ []
@@ -188,3 +188,7 @@ module _ {N : Type 0} (rules : MachineRules) (acts : NodeActs N) (states : NodeS
     };
     same_ids = refl;
   }
+
+  pub agree_first : SetUpsAgree [] told_first.plain
+  unfolding told_first
+  agree_first = agree_at_first downs

@@ -1,13 +1,14 @@
 -- What plain records say of a group, and what set it up.
-use Rattle.std.proofs.Common.{◌≡◌, ℕ, eqb, Bool, true, false, not, List, [], ◌∷◌, ◌++◌, Option, Some, None, IfSome, refl, sym, ap, ◌∙◌, subst, append_assoc, append-nil}
+use Rattle.std.proofs.Common.{◌≡◌, ◌⊎◌, inl, inr, ℕ, eqb, Bool, true, false, not, List, [], ◌∷◌, ◌++◌, Option, Some, None, IfSome, refl, sym, ap, ◌∙◌, subst, append_assoc, append-nil}
 use Rattle.std.specs.Option.{option_or}
-use Rattle.raft_group_step.specs.Values.{Membership}
+use Rattle.raft_group_step.specs.Values.{Membership, membership_eq}
 use Rattle.raft_group_step.specs.GroupEvent.{GroupCall}
 use Rattle.raft_group_step.specs.declared.group_call.GroupCall.TheVariants.{Initialize, Elect, Propose, ChangeMembership, Heartbeat, Lost, TriggerSnapshot, TriggerPurge}
 use Rattle.raft_laws.specs.GroupRun.{is_same_setup, setup_in_call}
+use Rattle.raft_laws.proofs.SameMemberships.{same_membership as equal_memberships}
 use Rattle.raft_headline.specs.ClusterEvent.{ClusterEvent as PlainEvent, ClusterOutcome as PlainOutcome, Recorded as PlainRecord}
 use Rattle.raft_headline.specs.ClusterEvent.{AddGroup, Ask, Deliver, ResetPeer, Clean, Crash, Reopen, Halt}
-use Rattle.raft_headline.specs.ClusterEvent.{Done, Opened, Refused, Stopped, Fused, PassedOver, TurnedAway, silent}
+use Rattle.raft_headline.specs.ClusterEvent.{Done, Opened, Refused, Stopped, Fused, PassedOver, TurnedAway, is_stopped, silent}
 use Rattle.raft_headline.specs.Told.{said_at_opening, said_by, said_if}
 use Rattle.raft_headline.specs.Told.{is_taken as is_taken_plain}
 use Rattle.raft_cluster_laws.specs.Along.{sent_by, setup_asked, setup_by, setup_if}
@@ -115,10 +116,6 @@ pub crashes_send_nothing : (h : ℕ) (downs : List ℕ) → sent_by h (crashes_o
 crashes_send_nothing h [] = refl
 crashes_send_nothing h (n ∷ ns) = crashes_send_nothing h ns
 
-crashes_set_up_nothing : (h : ℕ) (downs : List ℕ) (rest : List PlainRecord) → setup_by h (crashes_of downs ++ rest) ≡ setup_by h rest
-crashes_set_up_nothing h [] rest = refl
-crashes_set_up_nothing h (n ∷ ns) rest = crashes_set_up_nothing h ns rest
-
 -- ---- set-ups
 
 pub same_membership : (call : GroupCall) → membership_in call ≡ setup_in_call call
@@ -152,23 +149,95 @@ same_set_up h before (event.ResetPeer n peer) o p told = refl
 same_set_up h before (event.Crash n choice) o p told = refl
 same_set_up h before (event.Reopen n workers) o p told = refl
 
--- the first set-up decides in both
-module _ (h : ℕ) (m : Membership) where
-  decides : (first : Option Membership) (rest : Bool) (others : Option Membership) → rest ≡ not (is_same_setup others (Some m)) → differs_from m first rest ≡ not (is_same_setup (option_or first others) (Some m))
-  decides None rest others more = more
-  decides (Some first) rest others more = refl
+-- ---- the first set-up
 
-  differ_recorded : (before : List PlainRecord) (rs : List Recorded) (ps : List PlainRecord) → AreRecordedAs before rs ps → differs rs h m ≡ not (is_same_setup (setup_by h ps) (Some m))
-  differ_recorded before [] [] same = refl
-  differ_recorded before [] (p ∷ ps) same = absurd same
-  differ_recorded before (r ∷ rs) [] same = absurd same
-  differ_recorded before (r ∷ rs) (p ∷ ps) same =
-      let one : set_up_by h r ≡ setup_asked h p.event p.outcome =
-      same_set_up h before r.event r.outcome p.outcome same.0.outcome ∙ ap (λ e. setup_asked h e p.outcome) (sym same.0.event) in
-      ap (λ first. differs_from m first (differs rs h m)) one
-      ∙ decides (setup_asked h p.event p.outcome) (differs rs h m) (setup_by h ps) (differ_recorded (before ++ p ∷ []) rs ps same.1)
+-- the first that was taken
+abbrev pub first_set_up : ℕ → List Recorded → Option Membership
+first_set_up h [] = None
+first_set_up h (r ∷ rs) = option_or (set_up_by h r) (first_set_up h rs)
 
-  pub differ_reported : (downs : List ℕ) (history : List Recorded) (plain : List PlainRecord) → IsReport downs history plain → differs history h m ≡ not (is_same_setup (setup_by h plain) (Some m))
-  differ_reported downs history plain r =
-      differ_recorded (crashes_of downs) history r.rest r.same
-      ∙ sym (ap (λ o. not (is_same_setup o (Some m))) (ap (setup_by h) r.begins ∙ crashes_set_up_nothing h downs r.rest))
+differs_first : (h : ℕ) (m : Membership) (rs : List Recorded) → differs rs h m ≡ differs_from m (first_set_up h rs) false
+differs_first h m [] = refl
+differs_first h m (r ∷ rs) = go (set_up_by h r) (differs_first h m rs)
+  where
+    go : (s : Option Membership) → differs rs h m ≡ differs_from m (first_set_up h rs) false → differs_from m s (differs rs h m) ≡ differs_from m (option_or s (first_set_up h rs)) false
+    go None more = more
+    go (Some first) more = refl
+
+or_more : (a b c : Option Membership) → option_or a (option_or b c) ≡ option_or (option_or a b) c
+or_more None b c = refl
+or_more (Some x) b c = refl
+
+or_none : (a : Option Membership) → option_or a None ≡ a
+or_none None = refl
+or_none (Some x) = refl
+
+first_more : (h : ℕ) (rs : List Recorded) (r : Recorded) → first_set_up h (rs ++ r ∷ []) ≡ option_or (first_set_up h rs) (set_up_by h r)
+first_more h [] r = or_none (set_up_by h r)
+first_more h (x ∷ xs) r = ap (option_or (set_up_by h x)) (first_more h xs r) ∙ or_more (set_up_by h x) (first_set_up h xs) (set_up_by h r)
+
+setup_more : (h : ℕ) (ps : List PlainRecord) (p : PlainRecord) → setup_by h (ps ++ p ∷ []) ≡ option_or (setup_by h ps) (setup_asked h p.event p.outcome)
+setup_more h [] p = or_none (setup_asked h p.event p.outcome)
+setup_more h (x ∷ xs) p =
+    ap (option_or (setup_asked h x.event x.outcome)) (setup_more h xs p)
+    ∙ or_more (setup_asked h x.event x.outcome) (setup_by h xs) (setup_asked h p.event p.outcome)
+
+-- the plain history's first set-up is that of the records, unless it has none yet: one that stopped before it was judged is none
+abbrev pub SetUpsAgree : List Recorded → List PlainRecord → Type 0
+SetUpsAgree history plain = (h : ℕ) → (setup_by h plain ≡ None) ⊎ (setup_by h plain ≡ first_set_up h history)
+
+-- a set-up that wasn't turned away names the membership of the first one
+abbrev pub IsFreeSetUp : List Recorded → Recorded → Type 0
+IsFreeSetUp history r = (h : ℕ) (m : Membership) → set_up_by h r ≡ Some m → differs history h m ≡ false
+
+same_as_first : (first m : Membership) → not (membership_eq first m) ≡ false → first ≡ m
+same_as_first first m e = equal_memberships first m (go (membership_eq first m) e)
+  where
+    go : (b : Bool) → not b ≡ false → b ≡ true
+    go true is = refl
+    go false is = absurd (cc)
+
+agree_more : (p f s q : Option Membership) → (p ≡ None) ⊎ (p ≡ f) → (q ≡ None) ⊎ (q ≡ s) → ((m : Membership) → s ≡ Some m → differs_from m f false ≡ false) → (option_or p q ≡ None) ⊎ (option_or p q ≡ option_or f s)
+agree_more None f s None so how free = inl refl
+agree_more None f s (Some y) so (inl e) free = absurd (cc)
+agree_more None None s (Some y) so (inr e) free = inr e
+agree_more None (Some f) None (Some y) so (inr e) free = absurd (cc)
+agree_more None (Some f) (Some m) (Some y) so (inr e) free = inr (e ∙ ap Some (sym (same_as_first f m (free m refl))))
+agree_more (Some x) f s q (inl e) how free = absurd (cc)
+agree_more (Some x) None s q (inr e) how free = absurd (cc)
+agree_more (Some x) (Some f) s q (inr e) how free = inr e
+
+told_set_up : (h : ℕ) (before : List PlainRecord) (r : Recorded) (p : PlainRecord) → IsRecordedAs before r p → (setup_asked h p.event p.outcome ≡ None) ⊎ (setup_asked h p.event p.outcome ≡ set_up_by h r)
+told_set_up h before r p one = go one.event
+  where
+    go : (p.event ≡ plain_event r.event) ⊎ ((p.event ≡ Halt p.node) × (is_stopped p.outcome ≡ true)) → (setup_asked h p.event p.outcome ≡ None) ⊎ (setup_asked h p.event p.outcome ≡ set_up_by h r)
+    go (inl is) = inr (ap (λ e. setup_asked h e p.outcome) is ∙ sym (same_set_up h before r.event r.outcome p.outcome one.outcome))
+    go (inr halts) = inl (ap (λ e. setup_asked h e p.outcome) halts.0)
+
+pub agree_on : (history : List Recorded) (plain : List PlainRecord) (r : Recorded) (p : PlainRecord) → SetUpsAgree history plain → IsRecordedAs plain r p → IsFreeSetUp history r → SetUpsAgree (history ++ r ∷ []) (plain ++ p ∷ [])
+agree_on history plain r p so one free h =
+    let q = setup_asked h p.event p.outcome in
+    let both = agree_more (setup_by h plain) (first_set_up h history) (set_up_by h r) q (so h) (told_set_up h plain r p one) (λ m is. sym (differs_first h m history) ∙ free h m is) in
+    let P : Option Membership → Option Membership → Type 0 = λ a b. (a ≡ None) ⊎ (a ≡ b) in
+    subst (λ a. P a (first_set_up h (history ++ r ∷ []))) (sym (setup_more h plain p)) (subst (P (option_or (setup_by h plain) q)) (sym (first_more h history r)) both)
+
+pub agree_at_first : (downs : List ℕ) → SetUpsAgree [] (crashes_of downs)
+agree_at_first downs h = inl (go downs)
+  where
+    go : (ns : List ℕ) → setup_by h (crashes_of ns) ≡ None
+    go [] = refl
+    go (n ∷ ns) = go ns
+
+-- the plain history has no other set-up than one that is free
+pub free_in_plain : (history : List Recorded) (plain : List PlainRecord) → SetUpsAgree history plain → (h : ℕ) (m : Membership) → differs history h m ≡ false → is_same_setup (setup_by h plain) (Some m) ≡ true
+free_in_plain history plain so h m free = go (setup_by h plain) (first_set_up h history) (so h) (sym (differs_first h m history) ∙ free)
+  where
+    truth : (b : Bool) → not b ≡ false → b ≡ true
+    truth true is = refl
+    truth false is = absurd (cc)
+
+    go : (p f : Option Membership) → (p ≡ None) ⊎ (p ≡ f) → differs_from m f false ≡ false → is_same_setup p (Some m) ≡ true
+    go None f how e = refl
+    go (Some x) f (inl is) e = absurd (cc)
+    go (Some x) None (inr is) e = absurd (cc)
+    go (Some x) (Some f) (inr is) e = ap (λ o. is_same_setup o (Some m)) is ∙ truth (membership_eq f m) e

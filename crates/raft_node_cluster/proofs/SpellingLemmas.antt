@@ -1,8 +1,7 @@
 -- The frames that an event sends say its messages, and have their numbers.
-use Rattle.std.proofs.Common.{◌≡◌, ◌+◌, ℕ, eqb, Bool, true, false, cond, List, [], ◌∷◌, ◌++◌, Some, length, map, refl, sym, ap, ◌∙◌, subst, arith, append-nil, eqb-true}
+use Rattle.std.proofs.Common.{◌≡◌, ◌+◌, ℕ, eqb, Bool, true, false, cond, List, [], ◌∷◌, ◌++◌, Some, length, refl, sym, ap, ◌∙◌, subst, arith, append-nil, eqb-true}
 use Rattle.std.proofs.lemmas.Bool.{eq-eqb}
 use Rattle.std.proofs.lemmas.Slice.Zip.{AllZip-long}
-use Rattle.std.proofs.lemmas.Map.Keys.{IsDistinct-head, IsDistinct-tail}
 use Rattle.std.specs.List.{AllByRecursion, AllZip, find}
 use Rattle.raft_group_step.specs.Message.{Message}
 use Rattle.raft_sent_frames.specs.declared.frame.NodeFrame.{NodeFrame}
@@ -23,15 +22,6 @@ use Rattle.raft_node_cluster.proofs.ListLemmas.{all_zip_append}
 
 same_other : (a b h : ℕ) → a ≡ h → eqb a b ≡ false → eqb b h ≡ false
 same_other a b h is other = grind arith
-
-abbrev groups_of : List NodeOutcome → List ℕ
-groups_of outcomes = map (λ (o : NodeOutcome). o.group) outcomes
-
-another : (x : NodeOutcome) (xs : List NodeOutcome) → IsOnceEach (x ∷ xs) → AllByRecursion (λ k. eqb x.group k ≡ false) (groups_of xs)
-another x xs once = IsDistinct-head _ x.group (groups_of xs) once
-
-rest_once : (x : NodeOutcome) (xs : List NodeOutcome) → IsOnceEach (x ∷ xs) → IsOnceEach xs
-rest_once x xs once = IsDistinct-tail _ x.group (groups_of xs) once
 
 module _ (spells : ℕ → Message → List ℕ → Type 0) (own sender : ℕ) (mine : sender ≡ own) where
   frames_say : (g h : ℕ) → g ≡ h → (frames : List NodeFrame) (ms : List Message) → AllZip (IsFrameOf spells own g) frames ms → AllZip (IsSentAs spells h) (frames_by sender frames) ms
@@ -78,7 +68,7 @@ module _ (spells : ℕ → Message → List ℕ → Type 0) (own sender : ℕ) (
 
   -- ---- an opening
 
-  unsent : (h g : ℕ) → g ≡ h → (sent : Sent) (outcomes : List NodeOutcome) → AllByRecursion (λ k. eqb g k ≡ false) (groups_of outcomes) → sent_after sent sender outcomes h ≡ sent h
+  unsent : (h g : ℕ) → g ≡ h → (sent : Sent) (outcomes : List NodeOutcome) → AllByRecursion (λ (y : NodeOutcome). eqb g y.group ≡ false) outcomes → sent_after sent sender outcomes h ≡ sent h
   unsent h g is sent [] none = refl
   unsent h g is sent (x ∷ xs) none =
       unsent h g is (sent_after_one sent sender x) xs none.1
@@ -89,7 +79,7 @@ module _ (spells : ℕ → Message → List ℕ → Type 0) (own sender : ℕ) (
   all_say h sent ms [] [] each once all = with_none h (sent h) ms all
   all_say h sent ms [] (p ∷ ps) each once all = absurd each
   all_say h sent ms (x ∷ xs) [] each once all = absurd each
-  all_say h sent ms (x ∷ xs) (p ∷ ps) each once all = go (eqb p.0 h) refl (λ there. all_say h (sent_after_one sent sender x) ms xs ps each.1 (rest_once x xs once) there)
+  all_say h sent ms (x ∷ xs) (p ∷ ps) each once all = go (eqb p.0 h) refl (λ there. all_say h (sent_after_one sent sender x) ms xs ps each.1 once.1 there)
     where
       go : (b : Bool) → eqb p.0 h ≡ b
           → (AllZip (IsSentAs spells h) (sent_after_one sent sender x h) ms → AllZip (IsSentAs spells h) (sent_after (sent_after_one sent sender x) sender xs h) (ms ++ (said_of h ps).sent))
@@ -98,7 +88,7 @@ module _ (spells : ℕ → Message → List ℕ → Type 0) (own sender : ℕ) (
           let here : x.group ≡ h = sym each.0.group ∙ eqb-true p.0 h is in
           let shown : eqb x.group h ≡ true = eq-eqb x.group h here in
           let one = one_says h sent ms x p.1 each.0.says all in
-          subst (λ fs. AllZip (IsSentAs spells h) fs (ms ++ p.1.sent)) (sym (unsent h x.group here (sent_after_one sent sender x) xs (another x xs once)))
+          subst (λ fs. AllZip (IsSentAs spells h) fs (ms ++ p.1.sent)) (sym (unsent h x.group here (sent_after_one sent sender x) xs once.0))
           (subst (λ b. AllZip (IsSentAs spells h) (sent_after_one sent sender x h) (ms ++ (said_if b (Done p.1)).sent)) shown one)
       go false is rest =
           let hidden : eqb x.group h ≡ false = ap (λ g. eqb g h) (sym each.0.group) ∙ is in
@@ -106,7 +96,7 @@ module _ (spells : ℕ → Message → List ℕ → Type 0) (own sender : ℕ) (
 
   -- who has another group has as many frames as before
   others_stay : (plain : List Recorded) (sent : Sent) (x : NodeOutcome) (xs : List NodeOutcome)
-      → AllByRecursion (λ k. eqb x.group k ≡ false) (groups_of xs)
+      → AllByRecursion (λ (y : NodeOutcome). eqb x.group y.group ≡ false) xs
       → AllByRecursion (λ (o : NodeOutcome). length (sent o.group) ≡ length (sent_by o.group plain)) xs
       → AllByRecursion (λ (o : NodeOutcome). length (sent_after_one sent sender x o.group) ≡ length (sent_by o.group plain)) xs
   others_stay plain sent x [] other long = tt
@@ -121,7 +111,7 @@ module _ (spells : ℕ → Message → List ℕ → Type 0) (own sender : ℕ) (
   parts_say plain sent (x ∷ xs) [] each once long = absurd each
   parts_say plain sent (x ∷ xs) (p ∷ ps) each once long = (
     (each.0.group, part_says plain sent x p.1 each.0.says long.0),
-    parts_say plain (sent_after_one sent sender x) xs ps each.1 (rest_once x xs once) (others_stay plain sent x xs (another x xs once) long.1),
+    parts_say plain (sent_after_one sent sender x) xs ps each.1 once.1 (others_stay plain sent x xs once.0 long.1),
   )
 
 -- as many frames as messages

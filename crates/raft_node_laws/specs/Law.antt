@@ -24,7 +24,7 @@ use Rattle.raft_cluster_events.specs.Node.{NodeActs}
 use Rattle.raft_cluster_events.specs.States.{NodeStates}
 use Rattle.raft_node_laws.specs.Answered.{Answered, none_of, one_of, opening_of, some_of, stop_behind}
 use Rattle.raft_node_laws.specs.Delivery.{Comes, pieces_from}
-use Rattle.raft_node_laws.specs.Saying.{SaysCall, SaysOpening, SaysReset, names_of}
+use Rattle.raft_node_laws.specs.Saying.{IsToldAs, SaysCall, SaysOpening, SaysReset, names_of}
 
 -- ---- histories
 
@@ -59,9 +59,11 @@ module _ {N : Type 0} (rules : MachineRules) (acts : NodeActs N) (states : NodeS
   pub record Leads (history : List Recorded) (happened : ClusterEvent) (olds : ℕ → List NodeState) (old new : N) (Says : ClusterOutcome → Type 0) : Type 0 where
     pub outcome : ClusterOutcome
     pub says : Says outcome
+    pub told : ClusterEvent
+    pub as_itself : IsToldAs happened (acts.id old) outcome told
     pub news : ℕ → List NodeState
     pub may_be : (h : ℕ) → states.may_be new h (news h)
-    pub leads : (h : ℕ) → EventLeads rules h (acts.id old) (record { event = happened; node = acts.id old; outcome = outcome }) history (olds h) (news h)
+    pub leads : (h : ℕ) → EventLeads rules h (acts.id old) (record { event = told; node = acts.id old; outcome = outcome }) history (olds h) (news h)
 
   -- so it is wherever the node stands, behind histories of this kind
   abbrev pub LeadsOn : (List Recorded → Type 0) → ClusterEvent → N → N → (ClusterOutcome → Type 0) → Type 0

@@ -15,7 +15,7 @@ use Rattle.raft_headline.specs.ClusterEvent.{AddGroup, Ask, Crash, Deliver, Reop
 use Rattle.raft_headline.specs.ClusterEvent.{ClusterEvent as PlainEvent, ClusterOutcome as PlainOutcome, Recorded as PlainRecord}
 use Rattle.raft_headline.specs.ClusterEvent.{Done, Opened, Said, Stopped, TurnedAway, silent}
 use Rattle.raft_cluster_laws.specs.Along.{sent_by}
-use Rattle.raft_node_laws.specs.Saying.{names_of, outcome_of_refusal}
+use Rattle.raft_node_laws.specs.Saying.{IsToldAs, names_of, outcome_of_refusal}
 
 -- ---- events
 
@@ -87,7 +87,7 @@ OutcomeAs before happened (outcome.TurnedAway why) o = o ≡ TurnedAway
 -- ---- histories
 
 pub record IsRecordedAs (before : List PlainRecord) (real : Recorded) (plain : PlainRecord) : Type 0 where
-  pub event : plain.event ≡ plain_event real.event
+  pub event : IsToldAs (plain_event real.event) plain.node plain.outcome plain.event
   pub node : IfSome (node_behind before real.event) (λ n. plain.node ≡ n)
   pub outcome : OutcomeAs before real.event real.outcome plain.outcome
 

@@ -1,6 +1,6 @@
 -- What a node answers, in the plain values of a history.
-use Rattle.std.specs.Prelude.{◌≡◌, ◌==◌, ℕ, List, [], ◌∷◌, ◌++◌, map, Option, Some, None, Ok, Err}
-use Rattle.std.specs.List.{AllZip, IsDistinct}
+use Rattle.std.specs.Prelude.{◌≡◌, ◌⊎◌, ◌==◌, ℕ, true, false, List, [], ◌∷◌, ◌++◌, map, Option, Some, None, Ok, Err}
+use Rattle.std.specs.List.{AllByRecursion, AllZip}
 use Rattle.raft_group_step.specs.Message.{Message}
 use Rattle.raft_group_step.specs.StepResult.{BreaksCondition, CommandTooLong, GroupExists, InProgress, MembershipRefused, NotAllowed}
 use Rattle.raft_group_step.specs.StepResult.{NotLeader, NotVoter, NumberAtEnd, UnknownGroup, VoterChange, WrongParty}
@@ -14,7 +14,7 @@ use Rattle.raft_cluster_events.specs.declared.outcome.NodeRefusal.TheVariants as
 use Rattle.raft_cluster_events.specs.declared.outcome.Stop.{Stop}
 use Rattle.raft_cluster_events.specs.declared.outcome.Unknown.{Unknown as Named}
 use Rattle.raft_cluster_events.specs.declared.outcome.Unsaid.{Unsaid}
-use Rattle.raft_headline.specs.ClusterEvent.{ClusterOutcome, Done, Opened, PassedOver, Refused, Said, Stopped, Unknown, silent}
+use Rattle.raft_headline.specs.ClusterEvent.{ClusterEvent, ClusterOutcome, Done, Halt, Opened, PassedOver, Refused, Said, Stopped, Unknown, is_stopped, silent}
 use Rattle.raft_node_laws.specs.Answered.{Answered}
 
 -- ---- tokens that stay unknown
@@ -30,6 +30,13 @@ names_of_unsaid (Some u) = unknown_in u.group (map (λ (t : Told). t.token) u.to
 abbrev pub names_of : Stop → List Unknown
 names_of stop =
     names_of_unsaid stop.unsaid ++ map (λ (x : Named). record { group = x.group; token = x.token }) stop.unknown
+
+-- ---- events
+
+-- an event is told as itself. Where it stopped before it was known whether it is refused, nothing of it was begun, and its token
+-- isn't named: it is told as a halt of its node
+abbrev pub IsToldAs : ClusterEvent → ℕ → ClusterOutcome → ClusterEvent → Type 0
+IsToldAs happened n outcome told = (told ≡ happened) ⊎ ((told ≡ Halt n) × (is_stopped outcome ≡ true))
 
 -- ---- refusals
 
@@ -66,7 +73,8 @@ SaysReset (Err error) o = SaysError error o
 
 -- no group has two outcomes
 abbrev pub IsOnceEach : List NodeOutcome → Type 0
-IsOnceEach outcomes = IsDistinct (λ g h. g == h) (map (λ (outcome : NodeOutcome). outcome.group) outcomes)
+IsOnceEach [] = Unit {0}
+IsOnceEach (x ∷ xs) = AllByRecursion (λ (y : NodeOutcome). (x.group == y.group) ≡ false) xs × IsOnceEach xs
 
 -- bytes of a frame of a group say a message, and a node has this id
 module _ (spells : ℕ → Message → List ℕ → Type 0) (own : ℕ) where

@@ -43,7 +43,8 @@ fn out_of_memory(alloc: Global) -> Stop {
 }
 
 impl<M: StateMachine> FileNode<M> {
-    // What the node did, as a cluster takes it. Without memory for that the node stops.
+    // What the node did, as a cluster takes it. Without memory for that the node stops, and the event's
+    // own tokens stay unknown with the others.
     fn taken(&mut self, answered: Result<Outcome, NodeFault>) -> Result<NodeOutcome, NodeError>
         ensures id { self.new.id ≡ self.old.id }
         ensures up { is_some self.new.up ≡ is_some self.old.up }
@@ -51,7 +52,14 @@ impl<M: StateMachine> FileNode<M> {
         match answered {
             Ok(outcome) => match outcome_of(self.alloc, outcome) {
                 Ok(outcome) => Ok(outcome),
-                Err(_) => Err(NodeError::Stopped(self.fail())),
+                Err(unsaid) => {
+                    let stop = self.fail();
+                    Err(NodeError::Stopped(Stop {
+                        cause: stop.cause,
+                        unsaid: Some(unsaid),
+                        unknown: stop.unknown,
+                    }))
+                }
             },
             Err(fault) => Err(error_of(self.alloc, fault)),
         }
