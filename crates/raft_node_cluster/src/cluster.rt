@@ -5,7 +5,7 @@ ghost use Rattle.raft_sent_frames.specs.Frames.{frames_of};
 ghost use Rattle.raft_node_cluster.specs.Facts.{node_in};
 ghost use Rattle.raft_node_laws.specs.Law.{KeepsLaw};
 ghost use Rattle.raft_node_cluster.specs.Cluster.{Happens, IsReached, Runs, Steps};
-ghost use Rattle.raft_node_cluster.specs.Joined.{HasHeadline};
+ghost use Rattle.raft_node_cluster.specs.Joined.{HasHeadline, ids_of};
 
 use crate::facts::{asked_of, cuts_of, node_of, place_of, standing_at};
 use crate::happening::come_to;
@@ -60,7 +60,10 @@ fn happen<N: ClusterNode>(
 
 impl<N: ClusterNode> Cluster<N> {
     /// A cluster of nodes of these ids that have nothing. A node whose files can't be opened is down.
+    /// Where an id stands twice its first node gets the events.
     pub fn new(alloc: Global, ids: &[u64], settings: &N::Settings) -> Result<Cluster<N>, AllocError>
+        ensures ids { IfOk result (λ c. ids_of N.acts c.nodes ≡ ids.now) }
+        ensures sent { IfOk result (λ c. c.sent ≡ []) }
         ensures history { IfOk result (λ c. c.history ≡ []) }
     {
         let mut nodes = Vec::new(alloc);

@@ -61,6 +61,16 @@ pub fn records_of_clusters()
     ensures forgotten { IsReport [] (elected (outcome.TurnedAway NodeDown) ∷ []) [] → ⊥ }
 {}
 
+/// A node that gets a group has it, with nothing in it, and every other group is as before. One that
+/// says so and has it not isn't led there, nor is one that may be in no state.
+pub fn nodes_that_are_led()
+    ensures gets { IsLed 7 has_seven (Done silent) }
+    ensures idle { IsLed 7 knows_none (Done silent) → ⊥ }
+    ensures another { IsLed 9 has_seven (Done silent) → ⊥ }
+    ensures passed { IsLed 7 knows_none PassedOver → ⊥ }
+    ensures nowhere { IsLed 7 (λ h. []) (Done silent) → ⊥ }
+{}
+
 /// The reasons of a group's step are those of the node. A node that has stopped passes events over,
 /// and nothing says a stream that says no frame.
 pub fn refusals_of_nodes()
