@@ -37,12 +37,14 @@ fn down<T>() -> Result<T, NodeError> {
 fn out_of_memory(alloc: Global) -> Stop {
     Stop {
         cause: StopCause::Memory,
+        unsaid: None,
         unknown: Sequence::new(alloc),
     }
 }
 
 impl<M: StateMachine> FileNode<M> {
-    // What the node did, as a cluster takes it. Without memory for that the node stops.
+    // What the node did, as a cluster takes it. Without memory for that the node stops, and the event's
+    // own tokens stay unknown with the others.
     fn taken(&mut self, answered: Result<Outcome, NodeFault>) -> Result<NodeOutcome, NodeError>
         ensures id { self.new.id ≡ self.old.id }
         ensures up { is_some self.new.up ≡ is_some self.old.up }
@@ -50,7 +52,14 @@ impl<M: StateMachine> FileNode<M> {
         match answered {
             Ok(outcome) => match outcome_of(self.alloc, outcome) {
                 Ok(outcome) => Ok(outcome),
-                Err(_) => Err(NodeError::Stopped(self.fail())),
+                Err(unsaid) => {
+                    let stop = self.fail();
+                    Err(NodeError::Stopped(Stop {
+                        cause: stop.cause,
+                        unsaid: Some(unsaid),
+                        unknown: stop.unknown,
+                    }))
+                }
             },
             Err(fault) => Err(error_of(self.alloc, fault)),
         }
@@ -106,6 +115,7 @@ impl<M: StateMachine> ClusterNode for FileNode<M> {
     ghost acts = { record {
       id = λ n. n.id;
       is_up = λ n. is_some n.up;
+      begins = λ id n. Unit {0};
       adds = λ old group answered new. Unit {0};
       asks = λ old group call now answered new. Unit {0};
       feeds = λ old peer piece now answered new. Unit {0};
@@ -114,6 +124,11 @@ impl<M: StateMachine> ClusterNode for FileNode<M> {
       crashes = λ old choice new. Unit {0};
       reopens = λ old workers answered new. Unit {0};
       closes = λ old new. Unit {0};
+    } };
+
+    ghost states = { record {
+      may_be = λ n group states. Unit {0};
+      spells = λ group message bytes. Unit {0};
     } };
 
     fn begin(alloc: Global, id: u64, settings: &Config) -> Result<Self, AllocError> {
