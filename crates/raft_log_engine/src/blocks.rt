@@ -10,9 +10,7 @@ use crate::fault::EngineFault;
 use raft_log_files::{CorruptionFault, Error, FileSystem};
 use raft_log_memtables::FetchError;
 use raft_log_pipe::SinglePipe;
-use raft_log_records::{
-    EntryIndex, FileBlockHandle, RecordError, RecordFault, read_entries_block,
-};
+use raft_log_records::{EntryIndex, FileBlockHandle, RecordError, RecordFault, read_entries_block};
 use std::alloc::Global;
 
 /// A fault in the bytes of a block or a record.
