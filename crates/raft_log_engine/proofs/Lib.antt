@@ -3,6 +3,7 @@ pub mod Batches
 pub mod EntryReads
 pub mod Fetched
 pub mod Clauses
+pub mod Logs
 pub mod Opened
 mod Seen
 pub mod Tables
