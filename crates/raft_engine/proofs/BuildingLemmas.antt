@@ -85,7 +85,7 @@ nothing_to_build own at e s h none = by_place s.applied refl
 
 module _ (s : GroupState) (x : Snapshot) (built : IsSnapshotOfApplied s x) where
   keeps_standing : KeepsStanding s.stored (after_storing (SetSnapshot x) s.stored)
-  keeps_standing = record { vote = refl; last = refl }
+  keeps_standing = record { vote = refl; last = refl; ends = refl; wrote = λ leader place h. h }
 
   pub order_with : (now : ℕ) → IsInOrder s → IsInOrder (record s { stored = after_storing (SetSnapshot x) s.stored; now = now })
   order_with now o =

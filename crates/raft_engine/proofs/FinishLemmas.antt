@@ -15,7 +15,7 @@ use Rattle.raft_group_step.specs.GroupStep.{finished}
 use Rattle.raft_engine.specs.Sending.{HasRoomFor, NumbersLeft}
 use Rattle.raft_engine.specs.Standing.{EffectiveMembership, PlaysRole}
 use Rattle.raft_engine.specs.Events.{HasLeadRoom}
-use Rattle.raft_engine.proofs.PurgeLemmas.{KeepsStanding, purge_keeps}
+use Rattle.raft_engine.proofs.PurgeLemmas.{KeepsStanding, all_stays, purge_keeps}
 use Rattle.raft_engine.proofs.ReplicationLemmas.{all_unserved, by_no_lead}
 use Rattle.raft_engine.proofs.SendingLemmas.{end-last}
 
@@ -40,12 +40,12 @@ commit_keeps_wish own (Leader lead) r = refl
 
 pub wished_keeps : (role : Role) (wish : Option ℕ) (r : StepResult) → IsPlaced r.state.stored
     → KeepsStanding r.state.stored (purge_as_wished role wish r).state.stored
-wished_keeps Follower wish r p = record { vote = refl; last = refl }
-wished_keeps (Candidate granters) wish r p = record { vote = refl; last = refl }
-wished_keeps (Leader lead) None r p = record { vote = refl; last = refl }
+wished_keeps Follower wish r p = all_stays r.state.stored
+wished_keeps (Candidate granters) wish r p = all_stays r.state.stored
+wished_keeps (Leader lead) None r p = all_stays r.state.stored
 wished_keeps (Leader lead) (Some place) r p =
     elim (is_kept_for_peers place lead.peers) as (λ b. KeepsStanding r.state.stored (if b then r else purge_up_to place (with_wish None r)).state.stored) [
-      | true ↦ record { vote = refl; last = refl }
+      | true ↦ all_stays r.state.stored
       | false ↦ purge_keeps place (with_wish None r) p
     ]
 

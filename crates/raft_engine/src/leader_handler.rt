@@ -125,7 +125,8 @@ impl<'x, C: RaftTypeConfig<NodeId = u64, Node = BasicNode, D = Bytes>> LeaderHan
 }
 
 impl<C: RaftTypeConfig<NodeId = u64, Node = BasicNode, D = Bytes>> Engine<C> {
-    // A lead that begins under this vote: of no peer anything is known yet.
+    // A lead that begins under this vote: of no peer anything is known yet. It looks for its first
+    // entry among all keys: an own run may stand before another leader's.
     fn new_leader(
         &self,
         vote: Vote<u64>,
@@ -141,7 +142,7 @@ impl<C: RaftTypeConfig<NodeId = u64, Node = BasicNode, D = Bytes>> Engine<C> {
             vote,
             membership,
             learner_ids.as_slice(),
-            self.state.state.log_ids.by_last_leader(),
+            self.state.state.log_ids.key_log_ids(),
         )
     }
 
