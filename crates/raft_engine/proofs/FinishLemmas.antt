@@ -1,15 +1,14 @@
 -- What a leader does at the end of an event keeps the room that it has for it.
-use Rattle.std.specs.Prelude.{◌≡◌, ℕ, ◌<◌, ◌^◌, ◌==◌, true, false, if◌then◌else◌, List, filter, length, Option, Some, None, refl}
+use Rattle.std.specs.Prelude.{◌≡◌, ℕ, ◌<◌, ◌^◌, true, false, if◌then◌else◌, Option, Some, None, refl}
 use Rattle.std.proofs.Common.{ap, sym, ◌∙◌, subst, arith}
-use Rattle.raft_values.specs.declared.log_id.LogId.{LogId}
 use Rattle.raft_values.specs.LogId.{next_place}
 use Rattle.raft_known_state.specs.KnownState.{IsPlaced}
 use Rattle.raft_leaders.specs.Candidate.{CandidateValue}
-use Rattle.raft_group_step.specs.StoredGroup.{StoredGroup, end_place, entry_at, id_of}
+use Rattle.raft_group_step.specs.StoredGroup.{StoredGroup, end_place}
 use Rattle.raft_group_step.specs.GroupState.{GroupState, Lead, Role, Follower, Candidate, Leader}
 use Rattle.raft_group_step.specs.StepResult.{StepResult}
 use Rattle.raft_group_step.specs.Peer.{is_kept_for_peers}
-use Rattle.raft_group_step.specs.Lead.{commit_as_leader, ids_of, other_ids, purge_as_wished, purge_up_to, remove_up_to, with_wish}
+use Rattle.raft_group_step.specs.Lead.{commit_as_leader, other_ids, purge_as_wished, purge_up_to, with_wish}
 use Rattle.raft_group_step.specs.Frames.{has_grown, with_frames}
 use Rattle.raft_group_step.specs.GroupStep.{finished}
 use Rattle.raft_engine.specs.Sending.{HasRoomFor, NumbersLeft}

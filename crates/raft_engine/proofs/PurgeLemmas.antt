@@ -1,5 +1,5 @@
 -- What is purged leaves the rest in order, and the node plays on.
-use Rattle.std.specs.Prelude.{◌≡◌, ℕ, ◌+◌, ◌-◌, ◌<◌, ◌≤◌, ◌==◌, nat_lt, nat_eq, Bool, true, false, if◌then◌else◌, List, [], ◌∷◌, ◌++◌, drop, Option, Some, None, min, option_and_then, option_map, refl}
+use Rattle.std.specs.Prelude.{◌≡◌, ℕ, ◌+◌, ◌-◌, ◌<◌, ◌≤◌, ◌==◌, nat_lt, Bool, true, false, if◌then◌else◌, List, [], ◌∷◌, ◌++◌, drop, Option, Some, None, min, option_and_then, option_map, refl}
 use Rattle.std.specs.List.{slice_get, flat_map}
 use Rattle.std.specs.Option.{is_some}
 use Rattle.std.proofs.Common.{sym, ap, ◌∙◌, subst, arith, length-drop}
@@ -18,7 +18,7 @@ use Rattle.raft_group_step.specs.PurgeTrigger.{purge_as, purge_trigger_step, pur
 use Rattle.raft_group_step.specs.Peer.{is_kept_for_peers}
 use Rattle.raft_group_step.specs.Frames.{committed_id}
 use Rattle.raft_group_step.proofs.EntryPlaces.{entry_within}
-use Rattle.raft_known_state.specs.KnownState.{ArePlaced, IsEntryOrPast, IsPlaced, KeepsRest, KnownState, Knows, SnapshotMeta, meta_of, stored_ids, with_goal}
+use Rattle.raft_known_state.specs.KnownState.{ArePlaced, IsEntryOrPast, IsPlaced, KeepsRest, Knows, SnapshotMeta, meta_of, stored_ids, with_goal}
 use Rattle.raft_known_state.proofs.PlacedIds.{by_order}
 use Rattle.raft_commands.specs.declared.command.Command.TheVariants.{PurgeLog}
 use Rattle.raft_leaders.specs.Candidate.{CandidateValue}

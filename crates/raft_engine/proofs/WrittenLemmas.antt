@@ -1,12 +1,12 @@
 -- What a leader wrote, as its log grows or is purged.
-use Rattle.std.specs.Prelude.{◌≡◌, ℕ, zero, suc, ◌+◌, ◌-◌, ◌≤◌, nat_eq, nat_lt, true, false, if◌then◌else◌, List, [], ◌∷◌, ◌++◌, drop, Option, Some, None}
-use Rattle.std.specs.List.{AllByRecursion, slice_get}
-use Rattle.std.proofs.Common.{subst}
+use Rattle.std.specs.Prelude.{◌≡◌, ℕ, zero, suc, ◌+◌, ◌-◌, ◌≤◌, ◌||◌, nat_eq, nat_lt, true, false, if◌then◌else◌, refl, List, [], ◌∷◌, ◌++◌, drop, length, Option, Some, None}
+use Rattle.std.specs.List.{AllByRecursion, list_any, slice_get}
+use Rattle.std.proofs.Common.{subst, arith}
 use Rattle.raft_values.specs.declared.vote.LeaderId.{LeaderId}
 use Rattle.raft_values.specs.declared.log_id.LogId.{LogId}
-use Rattle.raft_group_step.specs.Values.{Entry}
-use Rattle.raft_group_step.specs.StoredGroup.{StoredGroup, RemoveUpTo, after_storing, entry_at, id_of, first_place}
-use Rattle.raft_known_state.specs.KnownState.{entry_ids, purged_ids, stored_ids}
+use Rattle.raft_group_step.specs.Values.{Entry, is_written_by}
+use Rattle.raft_group_step.specs.StoredGroup.{StoredGroup, RemoveUpTo, after_storing, end_place, entry_at, id_of, first_place}
+use Rattle.raft_known_state.specs.KnownState.{ArePlaced, IsPlaced, entry_ids, purged_ids, stored_ids}
 use Rattle.raft_leaders.specs.Leader.{is_of_leader}
 use Rattle.raft_leaders.specs.Accepted.{WroteNoneBelow}
 
@@ -36,6 +36,18 @@ module _ (P : LogId ℕ → Type 0) where
   of_grown None es e h p = of_more es e h p
   of_grown (Some id) es e h p = (h.0, of_more es e h.1 p)
 
+-- of entries that stand below its first one the leader wrote none
+none_in : (leader : LeaderId ℕ) (first : ℕ) (es : List Entry) (place : ℕ) → ArePlaced place es → place + length es ≤ first → WroteNoneBelow leader first (entry_ids es)
+    → list_any (is_written_by leader) es ≡ false
+none_in leader first [] place p l h = refl
+none_in leader first (x ∷ xs) place p l h =
+    elim (is_written_by leader x) as (λ b. is_written_by leader x ≡ b → (b || list_any (is_written_by leader) xs) ≡ false) [
+      | true ↦ λ mine.
+          let above : first ≤ x.log_id.index = h.0 mine in
+          let at : x.log_id.index ≡ place = p.0 in absurd (omega arith)
+      | false ↦ λ other. none_in leader first xs (suc place) p.1 (omega arith) h.1
+    ] refl
+
 module _ (leader : LeaderId ℕ) (place : ℕ) (s : StoredGroup) where
   abbrev StandsAbove : LogId ℕ → Type 0
   StandsAbove id = is_of_leader nat_eq leader id ≡ true → place ≤ id.index
@@ -57,3 +69,7 @@ module _ (leader : LeaderId ℕ) (place : ℕ) (s : StoredGroup) where
   -- an entry behind the log, at a place that isn't below
   pub wrote_more : (e : Entry) → place ≤ e.log_id.index → WroteNoneBelow leader place (stored_ids s) → WroteNoneBelow leader place (stored_ids (record s { log = s.log ++ e ∷ [] }))
   wrote_more e above h = of_grown StandsAbove s.purged s.log e h (λ mine. above)
+
+  -- where the place isn't in the log, the log has none of it
+  pub none_written : IsPlaced s → end_place s ≤ place → WroteNoneBelow leader place (stored_ids s) → list_any (is_written_by leader) s.log ≡ false
+  none_written placed behind h = none_in leader place s.log (first_place s) placed behind (of_log StandsAbove s.purged (entry_ids s.log) h)

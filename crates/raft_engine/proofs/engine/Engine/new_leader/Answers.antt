@@ -3,7 +3,6 @@ use Rattle.std.proofs.Common.{◌∙◌, ap, arith}
 use Rattle.raft_values.specs.LogId.{next_place}
 use Rattle.std.specs.Prelude.{nat_eq}
 use Rattle.raft_membership.specs.Membership.{learner_ids}
-use Rattle.raft_state.specs.LogIdList.{last_id}
 use Rattle.raft_engine.proofs.LeaderLemmas.{are_keys_of, begins, last_of_ids}
 use Rattle.raft_engine.proofs.MemberLemmas.{no_voters, rising_distinct}
 use Rattle.raft_engine.proofs.engine.Engine.new_leader.Goals as goal
