@@ -7,6 +7,7 @@ use Rattle.raft_group_step.specs.Message.{Message}
 use Rattle.raft_group_step.specs.GroupEvent.{GroupCall}
 use Rattle.raft_laws.specs.GroupRun.{is_same_setup, scene_of_call, setup_in_call}
 use Rattle.raft_laws.specs.GroupWorld.{NodeState}
+use Rattle.raft_history_laws.proofs.EndedOnce.{no_setup}
 use Rattle.raft_machines.specs.Machine.{MachineRules}
 use Rattle.raft_sent_frames.specs.declared.frame.SentFrame.{SentFrame}
 use Rattle.raft_headline.specs.ClusterEvent.{AddGroup, Ask, Crash, Deliver, Reopen, ResetPeer}
@@ -91,10 +92,6 @@ named_by : (w : Option ℕ) → IfSome w (λ m. unwrap_or w 0 ≡ m)
 named_by None = tt
 named_by (Some m) = refl
 
-same_if_none : (first : Option Membership) → is_same_setup first None ≡ true
-same_if_none None = refl
-same_if_none (Some first) = refl
-
 -- ---- set-ups of events
 
 no_set_up : (history : List Recorded) (r : Recorded) → ((h : ℕ) → set_up_by h r ≡ None) → IsFreeSetUp history r
@@ -130,7 +127,7 @@ away_is_free history e o why is = no_set_up history (record { event = e; outcome
 module _ {N : Type 0} (rules : MachineRules) (acts : NodeActs N) (states : NodeStates N) (law : KeepsLaw rules acts states) (ids downs : List ℕ) where
   module _ (nodes : List N) (sent : Sent) (history : List Recorded) (t : IsToldSoFar rules acts states ids downs nodes sent history) where
     same_set_up : (group : ℕ) (m : Option Membership) → IsFree history group m → is_same_setup (setup_by group t.told.plain) m ≡ true
-    same_set_up group None free = same_if_none (setup_by group t.told.plain)
+    same_set_up group None free = no_setup (setup_by group t.told.plain)
     same_set_up group (Some m) free = free_in_plain history t.told.plain t.set_ups group m free
 
     abbrev After : List N → Sent → ClusterEvent → EventOutcome → Type 0
