@@ -1,12 +1,12 @@
 -- Where a log shows one of these parts, it shows one of more.
 use Rattle.std.specs.Prelude.{ℕ, List, [], ◌∷◌}
-use Rattle.std.proofs.Common.{◌≡◌, inl, inr, refl, subst, sym, ◌∙◌, arith, le_refl}
+use Rattle.std.proofs.Common.{◌≡◌, inl, inr, refl, subst, sym, arith, le_refl}
 use Rattle.raft_group_step.specs.GroupState.{no_group}
 use Rattle.raft_group_step.specs.StoredGroup.{StoredGroup}
 use Rattle.raft_log_memtables.specs.Content.{Content, GroupContent, nothing}
 use Rattle.raft_log_memtables.specs.Content as content
 use Rattle.raft_content_log.specs.Leaving.{Leaves, LeavesOnly}
-use Rattle.raft_group_storage.specs.Keeping.{IsOneOf, KeepsAll, ShowsMore}
+use Rattle.raft_group_storage.specs.Keeping.{IsOneOf, ShowsMore}
 use Rattle.raft_machines.specs.Machine.{MachineRules}
 use Rattle.raft_store.specs.Reading.{Holds, HoldsOne}
 use Rattle.raft_store.specs.Batches.{ShowsBy}
@@ -51,17 +51,15 @@ module _ {X : Type 0} (rules : MachineRules) (sound : X → Type 0) (answers : X
     left = λ content is. one_of_more rules (content group) parts more wider (shown.left content is);
   }
 
-  -- A log that answers what another one left, and leaves nothing else, shows what that one showed
-  pub shows_reopened : (leaves : X → Leaves) (old new : X) → leaves old (answers new) → LeavesOnly (leaves new) (answers new)
-      → KeepsAll (ShowsBy rules sound answers leaves old) (ShowsBy rules sound answers leaves new)
-  shows_reopened leaves old new left only group parts shown = record {
-    answered = λ is. shown.left (answers new) left;
-    left = λ content may. subst (λ (c : Content (List ℕ)). HoldsOne rules (c group) parts) (sym (only content may)) (shown.left (answers new) left);
+  -- a log that leaves nothing but what it answers shows the parts that the answer holds
+  pub shows_answered : (leaves : X → Leaves) (log : X) → LeavesOnly (leaves log) (answers log) → (group : ℕ) (parts : List StoredGroup) → HoldsOne rules (answers log group) parts
+      → ShowsBy rules sound answers leaves log group parts
+  shows_answered leaves log only group parts holds = record {
+    answered = λ is. holds;
+    left = λ content may. subst (λ (c : Content (List ℕ)). HoldsOne rules (c group) parts) (sym (only content may)) holds;
   }
 
-  -- one that answers nothing, and leaves nothing else, shows of each group that the node hasn't got it
-  pub shows_nothing : (leaves : X → Leaves) (log : X) → answers log ≡ nothing → LeavesOnly (leaves log) (answers log) → (group : ℕ) → ShowsBy rules sound answers leaves log group (no_group ∷ [])
-  shows_nothing leaves log is only group = record {
-    answered = λ on. subst (λ (c : Content (List ℕ)). HoldsOne rules (c group) (no_group ∷ [])) (sym is) (inl (holds_nothing rules));
-    left = λ content may. subst (λ (c : Content (List ℕ)). HoldsOne rules (c group) (no_group ∷ [])) (sym (only content may ∙ is)) (inl (holds_nothing rules));
-  }
+  -- one that has nothing shows of each group that it isn't there
+  pub shows_nothing : (leaves : X → Leaves) (log : X) → LeavesOnly (leaves log) (answers log) → answers log ≡ nothing → (group : ℕ) → ShowsBy rules sound answers leaves log group (no_group ∷ [])
+  shows_nothing leaves log only is group =
+      shows_answered leaves log only group (no_group ∷ []) (subst (λ (c : Content (List ℕ)). HoldsOne rules (c group) (no_group ∷ [])) (sym is) (inl (holds_nothing rules)))
