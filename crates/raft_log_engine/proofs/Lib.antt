@@ -2,6 +2,7 @@ pub mod Appended
 pub mod Batches
 pub mod EntryReads
 pub mod Fetched
+pub mod Fresh
 pub mod Clauses
 pub mod Logs
 pub mod Opened

@@ -28,7 +28,8 @@ abbrev Seen : Type 0
 Seen = Content (List ℕ)
 
 -- files in memory as they read, unless they show by chance what nobody wrote
-pub found_as_read : (settings : Config) (m : MemoryFileSystem) (content : Seen) → IsGenuineImage (disk_in m) (seen_image (disk_in m)) → IsFoundBy settings (disk_in m) content → MayBeFound settings (disk_in m) content
+pub found_as_read : (settings : Config) (m : MemoryFileSystem) (content : Seen) → IsGenuineImage (disk_in m) (seen_image (disk_in m)) → IsFoundBy settings (disk_in m) content
+    → MayBeFound settings (disk_in m) content
 found_as_read settings m content genuine found = record {
   image = seen_image (disk_in m);
   left = disk_in m;

@@ -7,12 +7,12 @@ ghost use Rattle.raft_content_log.specs.Leaving.{LeavesOnly};
 ghost use Rattle.raft_log_disk.specs.Chance.{IsGenuineImage};
 ghost use Rattle.raft_log_disk.specs.Disk.{Disk};
 ghost use Rattle.raft_log_disk.specs.Image.{Image, seen_image};
-ghost use Rattle.raft_log_disk.specs.MemorySystem.{empty_disk};
+ghost use Rattle.raft_log_disk.specs.MemorySystem.{disk_in};
 ghost use Rattle.raft_log_engine.specs.Left.{answers_on};
 ghost use Rattle.raft_log_engine.specs.Log.{IsFoundBy, leaves_of_log, main_directory};
 ghost use Rattle.raft_log_engine.specs.Opening.{IsLeftByOpening};
 ghost use Rattle.raft_log_files.specs.Settings.{settings_of};
-ghost use Rattle.raft_log_memtables.specs.Content.{Content};
+ghost use Rattle.raft_log_memtables.specs.Content.{Content, nothing};
 ghost use Rattle.raft_log_pipe.specs.Alone.{IsOnce, Names};
 ghost use Rattle.raft_log_records.specs.declared.file_id.LogQueue.TheVariants.{Append};
 ghost use Rattle.raft_log_recovery.specs.Crashed.{IsCrashed};
@@ -22,9 +22,7 @@ use crate::engine::Engine;
 use crate::fault::EngineFault;
 use crate::opening::NotOpened;
 use raft_content_log::ContentLog;
-use raft_log_files::{
-    Config, CrashChoice, CrashFiles, CrashRefusal, Error, FileSystem, MemoryFileSystem,
-};
+use raft_log_files::{Config, CrashChoice, CrashFiles, CrashRefusal, Error, MemoryFileSystem};
 use raft_log_records::LogBatch;
 use std::alloc::{AllocError, Global};
 use std::marker::Model;
@@ -52,6 +50,7 @@ impl Model for MemoryLog {
     ghost use Rattle.raft_log_engine.specs.Log.{IsLog, LogOn};
     ghost use Rattle.raft_log_memtables.specs.contracts.memtables.MemTables as tables;
     ghost use Rattle.raft_log_disk.specs.contracts.memory.MemoryFileSystem as files;
+    ghost use Rattle.raft_log_disk.specs.MemorySystem.{disk_in};
     ghost use Rattle.raft_log_disk.specs.declared.memory.MemoryFileSystem.{MemoryFileSystem};
     ghost use Rattle.std.specs.Coded.{codes};
 
@@ -61,7 +60,7 @@ impl Model for MemoryLog {
 
     ghost view = { λ l. record { engine = l.engine; settings = l.settings; has_failed = l.has_failed } };
 
-    ghost invariant = { λ l. IsLog ⟦<MemoryFileSystem as FileSystem>⟧.disk l.engine l.settings l.has_failed };
+    ghost invariant = { λ l. IsLog disk_in l.engine l.settings l.has_failed };
 }
 
 /// A copy of the settings, with the main directory alone.
@@ -76,10 +75,10 @@ fn in_one_directory(settings: &Config) -> Result<Config, AllocError>
 }
 
 impl LogFiles {
-    /// No files yet (own).
+    /// No files yet, where an opening finds nothing (own).
     pub fn new(alloc: Global, settings: Config) -> LogFiles
         ensures settings { result.settings ≡ settings }
-        ensures none { ⟦<MemoryFileSystem as FileSystem>⟧.disk result.files ≡ empty_disk }
+        ensures none { (content : Content (List ℕ)) → IsFoundBy result.settings (disk_in result.files) content → content ≡ nothing }
     {
         LogFiles {
             settings,
@@ -89,8 +88,8 @@ impl LogFiles {
 
     /// Leaves of the files what the choice says, as where a machine stops (own).
     pub fn crash(&mut self, choice: &CrashChoice) -> Result<(), CrashRefusal>
-        ensures crashed { OnOk result ((image : Image) × IsCrashed (⟦<MemoryFileSystem as FileSystem>⟧.disk self.old.files) image (⟦<MemoryFileSystem as FileSystem>⟧.disk self.new.files)) }
-        ensures err { OnErr result (⟦<MemoryFileSystem as FileSystem>⟧.disk self.new.files ≡ ⟦<MemoryFileSystem as FileSystem>⟧.disk self.old.files) }
+        ensures crashed { OnOk result ((image : Image) × IsCrashed (disk_in self.old.files) image (disk_in self.new.files)) }
+        ensures err { OnErr result (disk_in self.new.files ≡ disk_in self.old.files) }
         ensures settings { self.new.settings ≡ self.old.settings }
     {
         self.files.crash(choice)
@@ -103,11 +102,11 @@ impl MemoryLog {
     /// `recovery_mode` says. A refusal hands the files back.
     pub fn open(alloc: Global, files: LogFiles) -> Result<MemoryLog, NotOpened<LogFiles>>
         ensures sound { IfOk result (λ l. l.has_failed ≡ false) }
-        ensures answers { IfOk result (λ l. IsFoundBy files.settings (⟦<MemoryFileSystem as FileSystem>⟧.disk files.files) (answers_on ⟦<MemoryFileSystem as FileSystem>⟧.disk l.engine)) }
-        ensures leaves { IfOk result (λ l. LeavesOnly (leaves_of_log ⟦<MemoryFileSystem as FileSystem>⟧.disk l) (answers_on ⟦<MemoryFileSystem as FileSystem>⟧.disk l.engine)) }
+        ensures answers { IfOk result (λ l. IsFoundBy files.settings (disk_in files.files) (answers_on disk_in l.engine)) }
+        ensures leaves { IfOk result (λ l. LeavesOnly (leaves_of_log disk_in l) (answers_on disk_in l.engine)) }
         ensures settings { IfOk result (λ l. l.settings ≡ files.settings) }
         ensures refused { IfErr result (λ refused. refused.files.settings ≡ files.settings) }
-        ensures err { IfErr result (λ refused. IsLeftByOpening (main_directory files.settings) (⟦<MemoryFileSystem as FileSystem>⟧.disk files.files) (⟦<MemoryFileSystem as FileSystem>⟧.disk refused.files.files)) }
+        ensures err { IfErr result (λ refused. IsLeftByOpening (main_directory files.settings) (disk_in files.files) (disk_in refused.files.files)) }
     {
         let LogFiles { settings, files } = files;
         let Ok(config) = in_one_directory(&settings) else {
@@ -135,10 +134,10 @@ impl MemoryLog {
     pub fn into_files(self) -> LogFiles
         ensures files { result.files ≡ self.engine.files }
         ensures settings { result.settings ≡ self.settings }
-        ensures crashed { (image : Image) (d : Disk) (content : Content (List ℕ)) → IsCrashed (⟦<MemoryFileSystem as FileSystem>⟧.disk result.files) image d → IsFoundBy result.settings d content
-            → leaves_of_log ⟦<MemoryFileSystem as FileSystem>⟧.disk self content }
-        ensures as_read { (content : Content (List ℕ)) → IsGenuineImage (⟦<MemoryFileSystem as FileSystem>⟧.disk result.files) (seen_image (⟦<MemoryFileSystem as FileSystem>⟧.disk result.files))
-            → IsFoundBy result.settings (⟦<MemoryFileSystem as FileSystem>⟧.disk result.files) content → leaves_of_log ⟦<MemoryFileSystem as FileSystem>⟧.disk self content }
+        ensures crashed { (image : Image) (d : Disk) (content : Content (List ℕ)) → IsCrashed (disk_in result.files) image d → IsFoundBy result.settings d content
+            → leaves_of_log disk_in self content }
+        ensures as_read { (content : Content (List ℕ)) → IsGenuineImage (disk_in result.files) (seen_image (disk_in result.files))
+            → IsFoundBy result.settings (disk_in result.files) content → leaves_of_log disk_in self content }
     {
         LogFiles {
             settings: self.settings,
@@ -151,14 +150,15 @@ impl ContentLog for MemoryLog {
     type Fault = EngineFault;
 
     ghost use Rattle.std.specs.Prelude.{◌≡◌, false};
+    ghost use Rattle.raft_log_disk.specs.MemorySystem.{disk_in};
     ghost use Rattle.raft_log_engine.specs.Left.{answers_on};
     ghost use Rattle.raft_log_engine.specs.Log.{leaves_of_log};
 
     ghost is_sound = { λ l. l.has_failed ≡ false };
 
-    ghost answers = { λ l. answers_on ⟦<MemoryFileSystem as FileSystem>⟧.disk l.engine };
+    ghost answers = { λ l. answers_on disk_in l.engine };
 
-    ghost leaves = { λ l content. leaves_of_log ⟦<MemoryFileSystem as FileSystem>⟧.disk l content };
+    ghost leaves = { λ l content. leaves_of_log disk_in l content };
 
     fn write(&mut self, batch: &mut LogBatch) -> Result<(), EngineFault> {
         if self.has_failed {

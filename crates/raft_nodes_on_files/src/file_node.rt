@@ -8,8 +8,8 @@ use raft_cluster_events::{
     ClusterNode, CrashChoice, GroupCommand, NodeError, NodeOutcome, NodeRefusal, Sequence, Stop,
     StopCause,
 };
-use raft_log_engine::EngineFault;
-use raft_log_files::{Config, MemoryFileSystem};
+use raft_log_engine::{EngineFault, LogFiles};
+use raft_log_files::Config;
 use raft_machines::StateMachine;
 use raft_node::{Fed, Node, Opened, Outcome};
 use raft_store::StoreFault;
@@ -21,11 +21,10 @@ use std::mem;
 pub struct FileNode<M: StateMachine> {
     alloc: Global,
     id: u64,
-    settings: Config,
-    // The node where it is up, which has the files then.
+    // The node where it is up, which has the files and their settings then.
     up: Option<Node<M, Kept<M>>>,
     // The files where it is down.
-    files: MemoryFileSystem,
+    files: LogFiles,
 }
 
 // What a node that is down answers.
@@ -135,9 +134,8 @@ impl<M: StateMachine> ClusterNode for FileNode<M> {
         let mut node = FileNode {
             alloc,
             id,
-            settings: settings.clone()?,
             up: None,
-            files: MemoryFileSystem::new(alloc),
+            files: LogFiles::new(alloc, settings.clone()?),
         };
         // Where its files can't be opened it is down.
         let _ = node.reopen(1);
@@ -220,8 +218,9 @@ impl<M: StateMachine> ClusterNode for FileNode<M> {
         if self.up.is_some() {
             return Ok(Sequence::new(self.alloc));
         }
-        let files = mem::replace(&mut self.files, MemoryFileSystem::new(self.alloc));
-        match open_node(self.alloc, self.id, &self.settings, files) {
+        let none = LogFiles::new(self.alloc, Config::default(self.alloc));
+        let files = mem::replace(&mut self.files, none);
+        match open_node(self.alloc, self.id, files) {
             Ok(opened) => self.opened(opened),
             Err(Unopened { stop, files }) => {
                 self.files = files;
