@@ -60,6 +60,7 @@ module _ {X : Type 0} (rules : MachineRules) (sound : X → Type 0) (answers : X
   }
 
   -- one that has nothing shows of each group that it isn't there
-  pub shows_nothing : (leaves : X → Leaves) (log : X) → LeavesOnly (leaves log) (answers log) → answers log ≡ nothing → (group : ℕ) → ShowsBy rules sound answers leaves log group (no_group ∷ [])
+  pub shows_nothing : (leaves : X → Leaves) (log : X) → LeavesOnly (leaves log) (answers log) → answers log ≡ nothing
+      → (group : ℕ) → ShowsBy rules sound answers leaves log group (no_group ∷ [])
   shows_nothing leaves log only is group =
       shows_answered leaves log only group (no_group ∷ []) (subst (λ (c : Content (List ℕ)). HoldsOne rules (c group) (no_group ∷ [])) (sym is) (inl (holds_nothing rules)))
