@@ -37,6 +37,7 @@ fn down<T>() -> Result<T, NodeError> {
 fn out_of_memory(alloc: Global) -> Stop {
     Stop {
         cause: StopCause::Memory,
+        unsaid: None,
         unknown: Sequence::new(alloc),
     }
 }
@@ -106,6 +107,7 @@ impl<M: StateMachine> ClusterNode for FileNode<M> {
     ghost acts = { record {
       id = λ n. n.id;
       is_up = λ n. is_some n.up;
+      begins = λ id n. Unit {0};
       adds = λ old group answered new. Unit {0};
       asks = λ old group call now answered new. Unit {0};
       feeds = λ old peer piece now answered new. Unit {0};
@@ -114,6 +116,11 @@ impl<M: StateMachine> ClusterNode for FileNode<M> {
       crashes = λ old choice new. Unit {0};
       reopens = λ old workers answered new. Unit {0};
       closes = λ old new. Unit {0};
+    } };
+
+    ghost states = { record {
+      may_be = λ n group states. Unit {0};
+      spells = λ group message bytes. Unit {0};
     } };
 
     fn begin(alloc: Global, id: u64, settings: &Config) -> Result<Self, AllocError> {

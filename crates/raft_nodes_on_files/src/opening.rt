@@ -24,6 +24,7 @@ pub struct Unopened {
 fn stop_for(alloc: Global, cause: StopCause) -> Stop {
     Stop {
         cause,
+        unsaid: None,
         unknown: Sequence::new(alloc),
     }
 }
