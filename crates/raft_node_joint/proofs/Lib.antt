@@ -6,3 +6,6 @@ pub mod OwnEnds
 pub mod Others
 pub mod Whole
 pub mod EventsLeadOn
+pub mod NoStops
+pub mod AddingsLeadOn
+pub mod FramesLeadOn
