@@ -97,16 +97,21 @@ module _ (rules : MachineRules) (group n : ℕ) (history : List Recorded) (happe
         (others_as_asked rules group n r).to_one history (Up s) (Up s)
         (own_becomes (Refused why) (Up s) (Up s) refl ((as_asked rules group n r comes.event).refused ge s why law refused refl))
 
-    -- the next storing command is done or isn't
+    -- it stopped after so many storing commands
+    pub stopped_becomes : (names : List Unknown) → refusal_of n s ge ≡ None → own_tokens group names ≡ tokens_of (s.untold ++ brought s ge) → (number : ℕ)
+        → let r = recorded n happened (Stopped names) in MayBecome rules group n r history (seen_by group r) (Up s) (Down (stopped_after number s.stored (group_step n s ge)))
+    stopped_becomes names taken named number =
+        let r = recorded n happened (Stopped names) in
+        own_becomes (Stopped names) (Up s) (Down (stopped_after number s.stored (group_step n s ge))) refl
+        ((as_asked rules group n r comes.event).stopped ge s law taken (named ∙ sym (names_who_waits n s ge taken)) number)
+
+    -- the next one is done or isn't
     pub stopped_leads : (names : List Unknown) (number : ℕ) → refusal_of n s ge ≡ None → own_tokens group names ≡ tokens_of (s.untold ++ brought s ge)
         → let left = λ (k : ℕ). stopped_after k s.stored (group_step n s ge) in
         EventLeads rules group n (recorded n happened (Stopped names)) history (Up s ∷ []) (Down (left number) ∷ Down (left (number + 1)) ∷ [])
     stopped_leads names number taken named =
-        let r = recorded n happened (Stopped names) in
-        let stops : (k : ℕ) → MayBecome rules group n r history (seen_by group r) (Up s) (Down (stopped_after k s.stored (group_step n s ge))) =
-            λ k. own_becomes (Stopped names) (Up s) _ refl
-            ((as_asked rules group n r comes.event).stopped ge s law taken (named ∙ sym (names_who_waits n s ge taken)) k) in
-        (others_as_asked rules group n r).to_two history (Up s) _ _ (stops number) (stops (number + 1))
+        (others_as_asked rules group n (recorded n happened (Stopped names))).to_two history (Up s) _ _
+        (stopped_becomes names taken named number) (stopped_becomes names taken named (number + 1))
 
   -- a node that is down passes it over
   pub passed_becomes : (st : StoredGroup) → let r = recorded n happened PassedOver in MayBecome rules group n r history (seen_by group r) (Down st) (Down st)

@@ -20,14 +20,15 @@ use Rattle.raft_node_faults.specs.declared.fault.Fault.{Fault}
 use Rattle.raft_node_faults.specs.declared.fault.Fault.TheVariants as fault
 use Rattle.raft_wire.specs.declared.frame.Frame.{Frame}
 use Rattle.raft_node.specs.Adding.{IsAdded}
-use Rattle.raft_node.specs.Ending.{IsEvent, StaysElse}
+use Rattle.raft_node.specs.Ending.{IsDone, IsEvent, IsReached, StaysElse}
 use Rattle.raft_node.specs.Feeding.{IsFrame}
+use Rattle.raft_node.specs.Settling.{IsTold}
 use Rattle.raft_node.specs.Standing.{NodeValue}
 use Rattle.raft_node.specs.Waiting.{AreNamed}
 use Rattle.raft_node.specs.declared.outcome.Outcome.{Outcome}
 use Rattle.raft_node_joint.specs.Coming.{ComesTo}
-use Rattle.raft_node_joint.specs.Saying.{SaysCall, stops_unjudged}
-use Rattle.raft_node_joint.specs.Standing.{KeepMachinesLaw, MayBe}
+use Rattle.raft_node_joint.specs.Saying.{SaysCall, names_behind, stops_unjudged}
+use Rattle.raft_node_joint.specs.Standing.{IsUpIn, KeepMachinesLaw, MayBe}
 
 -- ---- before an event, and behind it
 
@@ -114,3 +115,21 @@ FramesLead rules stands same old new frame now result =
     → old.groups.has_failed ≡ false → StandsBefore rules stands ids history old olds → (same → StaysInAll rules old new)
     → IsFrame rules stands same old new m.sender frame now result
     → LeadsOn rules stands history (led_by (stops_unjudged result) old.groups.own (Deliver frame.group number now)) old new frame.group olds result
+
+-- ---- a stop behind an event
+
+-- the event was done at a node that goes on, from whatever state of its group a history leads to
+pub record WasDone (rules : MachineRules) (stands : SnapshotBytes → Snapshot → Type 0) (old mid : NodeValue) (group : ℕ) (ge : GroupEvent) (o : Outcome) : Type 0 where
+  pub going : old.groups.has_failed ≡ false
+  pub elsewhere : StaysElse {T = Outcome} {F = Unit {0}} old mid group (Ok o)
+  pub done : (s : GroupState) → IsUpIn rules old group s → IsReached old.groups.own s ge → IsDone rules stands mid group s ge o
+
+-- then the node fails for want of memory before anybody is told of it: it counts as an event that stopped behind its last storing
+-- command, and the tokens that it was to tell or to leave unknown are named with those that waited
+abbrev pub StopsBehindLead : {F : Type 0} → MachineRules → (SnapshotBytes → Snapshot → Type 0) → NodeValue → NodeValue → NodeValue → ℕ → GroupEvent → Outcome → Fault F → Type 0
+StopsBehindLead rules stands old mid new group ge o (fault.Stopped why unknown) =
+    (ids : List ℕ) (history : List Recorded) (happened : ClusterEvent) (olds : ℕ → List NodeState)
+    → ComesTo old.groups.own group history happened ge → StandsBefore rules stands ids history old olds
+    → WasDone rules stands old mid group ge o → IsTold ⊥ mid new (fault.Stopped why unknown)
+    → (h : ℕ) → LeadsIn rules history happened (Stopped (names_behind o unknown.items)) old new h (olds h)
+StopsBehindLead rules stands old mid new group ge o other = Unit {0}
