@@ -11,3 +11,4 @@ pub mod AddingsLeadOn
 pub mod FramesLeadOn
 pub mod StatesStay
 pub mod StopsBehind
+pub mod WereDone

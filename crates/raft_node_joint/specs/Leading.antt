@@ -1,6 +1,7 @@
 -- What a node does with an event leads each of its groups on, as a cluster asks it of its nodes.
 use Rattle.std.specs.Prelude.{◌≡◌, ℕ, Bool, true, false, List, [], ◌∷◌, slice_get, Option, Some, None, Result, Ok, Err, Contains, is_some}
-use Rattle.raft_group_step.specs.GroupEvent.{GroupEvent}
+use Rattle.raft_group_step.specs.GroupEvent.{AddGroup as Adds}
+use Rattle.raft_group_step.specs.GroupEvent.{GroupEvent, Receive}
 use Rattle.raft_group_step.specs.GroupState.{GroupState, no_group, state_of}
 use Rattle.raft_group_step.specs.Message.{Message}
 use Rattle.raft_group_step.specs.Refusal.{refusal_of}
@@ -133,3 +134,17 @@ StopsBehindLead rules stands old mid new group ge o (fault.Stopped why unknown) 
     → WasDone rules stands old mid group ge o → IsTold ⊥ mid new (fault.Stopped why unknown)
     → (h : ℕ) → LeadsIn rules history happened (Stopped (names_behind o unknown.items)) old new h (olds h)
 StopsBehindLead rules stands old mid new group ge o other = Unit {0}
+
+-- an event whose answer is an outcome was done so
+module _ (F : Type 0) (rules : MachineRules) (stands : SnapshotBytes → Snapshot → Type 0) (same : Type 0) (old mid : NodeValue) (o : Outcome) where
+  abbrev pub AnsweredEventsWereDone : ℕ → GroupEvent → Type 0
+  AnsweredEventsWereDone group ge =
+      AreOfMachine rules stands → IsEvent {F = F} rules stands same old mid group ge (Ok o) → WasDone rules stands old mid group ge o
+
+  abbrev pub AnsweredAddingsWereDone : ℕ → Type 0
+  AnsweredAddingsWereDone group = IsAdding {F = F} rules stands same old mid group (Ok o) → WasDone rules stands old mid group Adds o
+
+  abbrev pub AnsweredFramesWereDone : Frame → ℕ → Type 0
+  AnsweredFramesWereDone frame now =
+      (m : Message) → AreOfMachine rules stands → Says stands frame.message m → old.groups.has_failed ≡ false
+      → IsFrame {F = F} rules stands same old mid m.sender frame now (Ok o) → WasDone rules stands old mid frame.group (Receive m.sender m now) o

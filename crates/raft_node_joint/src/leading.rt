@@ -4,7 +4,8 @@ ghost use Rattle.raft_group_step.specs.GroupEvent.{GroupEvent};
 ghost use Rattle.raft_wire.specs.declared.frame.Frame.{Frame};
 ghost use Rattle.raft_node.specs.Feeding.{StaysBut, fed_as};
 ghost use Rattle.raft_node.specs.Standing.{value_of};
-ghost use Rattle.raft_node_joint.specs.Leading.{AddingsLead, EventsLead, FramesLead, RefusedEventsDontStop, StaysInAll};
+ghost use Rattle.raft_node_joint.specs.Leading.{AddingsLead, EventsLead, FramesLead, RefusedEventsDontStop, StaysInAll, StopsBehindLead};
+ghost use Rattle.raft_node_joint.specs.Leading.{AnsweredAddingsWereDone, AnsweredEventsWereDone, AnsweredFramesWereDone};
 
 use raft_group_storage::GroupStorage;
 use raft_machines::StateMachine;
@@ -27,6 +28,28 @@ pub fn events_lead_on<M: StateMachine, S: GroupStorage<Snapshot = SnapshotBytes>
         (StaysBut (value_of M.state S.is_well S.shows before.now) (value_of M.state S.is_well S.shows behind.now) peer)
         (fed_as (value_of M.state S.is_well S.shows before.now) (value_of M.state S.is_well S.shows behind.now))
         (value_of M.state S.is_well S.shows behind.now) frame now answer.now }
+{}
+
+/// Memory is refused behind an event that was done: the node fails, and that leads on as a stop behind
+/// the event's last storing command, which names the event's tokens, too. An event that is answered by
+/// an outcome was done. The nodes are those before the event, behind it, and behind the failure.
+pub fn stops_behind_events_lead_on<M: StateMachine, S: GroupStorage<Snapshot = SnapshotBytes>>(
+    before: &Node<M, S>,
+    middle: &Node<M, S>,
+    behind: &Node<M, S>,
+    outcome: &Outcome,
+    fault: &Fault<S::Fault>,
+)
+    ensures stops { (group : ℕ) (ge : GroupEvent) → StopsBehindLead M.rules S.stands (value_of M.state S.is_well S.shows before.now)
+        (value_of M.state S.is_well S.shows middle.now) (value_of M.state S.is_well S.shows behind.now) group ge outcome.now fault.now }
+    ensures calls { (group : ℕ) (ge : GroupEvent) → AnsweredEventsWereDone S.Fault M.rules S.stands (middle.now ≡ before.now)
+        (value_of M.state S.is_well S.shows before.now) (value_of M.state S.is_well S.shows middle.now) outcome.now group ge }
+    ensures addings { (group : ℕ) → AnsweredAddingsWereDone S.Fault M.rules S.stands (middle.now ≡ before.now)
+        (value_of M.state S.is_well S.shows before.now) (value_of M.state S.is_well S.shows middle.now) outcome.now group }
+    ensures frames { (frame : Frame) (peer now : ℕ) → AnsweredFramesWereDone S.Fault M.rules S.stands
+        (StaysBut (value_of M.state S.is_well S.shows before.now) (value_of M.state S.is_well S.shows middle.now) peer)
+        (fed_as (value_of M.state S.is_well S.shows before.now) (value_of M.state S.is_well S.shows middle.now))
+        (value_of M.state S.is_well S.shows middle.now) outcome.now frame now }
 {}
 
 /// A node that is as it was may be in the same states of its groups: also where only what is held of
