@@ -12,3 +12,4 @@ pub mod FramesLeadOn
 pub mod StatesStay
 pub mod StopsBehind
 pub mod WereDone
+pub mod Failures

@@ -1,5 +1,5 @@
 -- A node that stays as it was may be in the same states.
-use Rattle.std.specs.Prelude.{◌≡◌, ℕ, Bool, true, false, List, [], ◌∷◌}
+use Rattle.std.specs.Prelude.{◌≡◌, ℕ, Bool, true, false, List, ◌∷◌}
 use Rattle.std.proofs.Common.{inl, inr, sym, ◌∙◌, subst}
 use Rattle.raft_group_step.specs.GroupState.{GroupState}
 use Rattle.raft_laws.specs.GroupWorld.{Absent, NodeState, Up}
@@ -17,10 +17,13 @@ module _ (rules : MachineRules) (old new : NodeValue) (peer : ℕ) (same : Stays
     up = stands_on old.groups new.groups h (Up s) same.own (same.members h) same.well (same.kept h) at.up;
     runs = subst (λ r. RunsAt rules r s) (sym (same.running h)) at.runs;
   })
-  up_so h s (inr (is, without)) = inr (is, record {
-    absent = stands_on old.groups new.groups h Absent same.own (same.members h) same.well (same.kept h) without.absent;
-    idle = same.running h ∙ without.idle;
-  })
+  up_so h s (inr (is, without)) = inr (
+    is,
+    record {
+      absent = stands_on old.groups new.groups h Absent same.own (same.members h) same.well (same.kept h) without.absent;
+      idle = same.running h ∙ without.idle;
+    },
+  )
 
   when_so : (h : ℕ) (b : Bool) (states : List NodeState) → MayBeWhen rules (fed_as old new) h b states → MayBeWhen rules new h b states
   when_so h false states may = (may.0, may.1, up_so h may.0 may.2)

@@ -1,6 +1,6 @@
 -- A stop behind an event that was done counts as one behind its last storing command.
-use Rattle.std.specs.Prelude.{◌≡◌, ◌++◌, ℕ, Bool, true, false, not, filter, List, [], ◌∷◌, length, map, Option, Some, None, Ok, Contains, refl}
-use Rattle.std.proofs.Common.{inl, sym, ap, ap₂, ◌∙◌, subst, append-nil, take-append-drop}
+use Rattle.std.specs.Prelude.{◌≡◌, ◌++◌, ℕ, Bool, true, false, List, [], ◌∷◌, length, map, Option, None, Ok, Contains, refl}
+use Rattle.std.proofs.Common.{sym, ap, ap₂, ◌∙◌, subst, append-nil, take-append-drop}
 use Rattle.std.proofs.Math.Seq.{take-length}
 use Rattle.std.proofs.lemmas.List.{map-append}
 use Rattle.raft_group_step.specs.GroupEvent.{GroupEvent}
@@ -14,10 +14,10 @@ use Rattle.raft_messages.specs.declared.memberships.SnapshotBytes.{SnapshotBytes
 use Rattle.raft_laws.specs.GroupWorld.{Down, NodeState, Up}
 use Rattle.raft_laws.specs.Stop.{stopped_after}
 use Rattle.raft_laws.proofs.StepOrder.{step-keeps}
-use Rattle.raft_step_laws.specs.Tokens.{TokensGo, brought, is_due, leads_on}
+use Rattle.raft_step_laws.specs.Tokens.{TokensGo, brought, leads_on}
 use Rattle.raft_step_laws.proofs.Telling.{tokens_go}
 use Rattle.raft_headline.specs.ClusterEvent.{ClusterEvent, Recorded, Stopped}
-use Rattle.raft_headline.specs.Seen.{own_tokens, seen_by}
+use Rattle.raft_headline.specs.Seen.{seen_by}
 use Rattle.raft_cluster_laws.specs.Acts.{MayBecome}
 use Rattle.raft_cluster_laws.proofs.NodesActing.{has_first, others_as_asked}
 use Rattle.raft_machines.specs.Machine.{MachineRules}
@@ -30,7 +30,6 @@ use Rattle.raft_applier.proofs.Tokens.{are_parted, due}
 use Rattle.raft_node_faults.specs.declared.fault.Cause.{Cause}
 use Rattle.raft_node_faults.specs.declared.fault.Fault.{Fault}
 use Rattle.raft_node_faults.specs.declared.fault.Fault.TheVariants as fault
-use Rattle.raft_node.specs.Ending.{IsDone}
 use Rattle.raft_node.specs.Settling.{IsTold}
 use Rattle.raft_node.specs.Standing.{IsAt, NodeValue}
 use Rattle.raft_node.specs.declared.outcome.Outcome.{Outcome}
@@ -102,10 +101,10 @@ module _ {F : Type 0} (rules : MachineRules) (stands : SnapshotBytes → Snapsho
       let gone = subst (λ k. HasGone rules (group_step k s ge) (record { told = o.told; unknown = o.unknown })) own d.gone in
       let at = subst (λ k. IsAt rules mid group (group_step k s ge).state) own d.at in
       let named =
-          behind_own group o unknown.items d.of_group
-          ∙ ap₂ (λ xs ys. xs ++ ys) (ap₂ (λ xs ys. xs ++ ys) (told_tokens _ o.told.items q.told gone.told) gone.unknown)
-          (ap tokens_of (told.names group ∙ waits rules (mid.running group) q.state at.runs))
-          ∙ tokens_stay n s ge (reached.step taken) in
+      behind_own group o unknown.items d.of_group
+      ∙ ap₂ (λ xs ys. xs ++ ys) (ap₂ (λ xs ys. xs ++ ys) (told_tokens _ o.told.items q.told gone.told) gone.unknown)
+      (ap tokens_of (told.names group ∙ waits rules (mid.running group) q.state at.runs))
+      ∙ tokens_stay n s ge (reached.step taken) in
       let names = names_behind o unknown.items in
       let r = recorded n happened (Stopped names) in
       let becomes = stopped_becomes rules group n history happened ge comes s (law_there rules old group s before.law i.up) names taken named (length q.commands) in

@@ -4,21 +4,17 @@ use Rattle.std.proofs.Common.{inl, inr, sym, ap, ◌∙◌, subst}
 use Rattle.raft_group_step.specs.GroupEvent.{AddGroup as Adds}
 use Rattle.raft_group_step.specs.GroupEvent.{GroupEvent, Receive}
 use Rattle.raft_group_step.specs.GroupState.{GroupState}
-use Rattle.raft_group_step.specs.Message.{Message}
 use Rattle.raft_group_step.specs.StoredGroup.{Snapshot}
 use Rattle.raft_messages.specs.declared.memberships.SnapshotBytes.{SnapshotBytes}
-use Rattle.raft_executor.specs.Said.{Says}
-use Rattle.raft_applier.specs.Following.{AreOfMachine}
 use Rattle.raft_framed_groups.specs.Answers.{is_right_party}
 use Rattle.raft_machines.specs.Machine.{MachineRules}
 use Rattle.raft_wire.specs.declared.frame.Frame.{Frame}
 use Rattle.raft_node_faults.specs.declared.fault.Fault.{Fault}
 use Rattle.raft_node_faults.specs.declared.fault.Fault.TheVariants as fault
-use Rattle.raft_node.specs.Ending.{IsDone, IsEvent, IsReached, Leads, StaysElse}
-use Rattle.raft_node.specs.Feeding.{IsFrame}
+use Rattle.raft_node.specs.Ending.{IsDone, IsReached, Leads, StaysElse}
 use Rattle.raft_node.specs.Standing.{NodeValue}
 use Rattle.raft_node.specs.declared.outcome.Outcome.{Outcome}
-use Rattle.raft_node_joint.specs.Leading.{AnsweredAddingsWereDone, AnsweredEventsWereDone, AnsweredFramesWereDone, IsAdding, WasDone}
+use Rattle.raft_node_joint.specs.Leading.{AnsweredAddingsWereDone, AnsweredEventsWereDone, AnsweredFramesWereDone, WasDone}
 use Rattle.raft_node_joint.specs.Standing.{IsUpIn}
 
 -- an outcome is no fault

@@ -4,7 +4,8 @@ ghost use Rattle.raft_group_step.specs.GroupEvent.{GroupEvent};
 ghost use Rattle.raft_wire.specs.declared.frame.Frame.{Frame};
 ghost use Rattle.raft_node.specs.Feeding.{StaysBut, fed_as};
 ghost use Rattle.raft_node.specs.Standing.{value_of};
-ghost use Rattle.raft_node_joint.specs.Leading.{AddingsLead, EventsLead, FramesLead, RefusedEventsDontStop, StaysInAll, StopsBehindLead};
+ghost use Rattle.raft_node_joint.specs.Leading.{AddingsLead, EventsLead, FailedNodesPass, FailuresLead, FramesLead};
+ghost use Rattle.raft_node_joint.specs.Leading.{RefusedEventsDontStop, StaysInAll, StopsBehindLead};
 ghost use Rattle.raft_node_joint.specs.Leading.{AnsweredAddingsWereDone, AnsweredEventsWereDone, AnsweredFramesWereDone};
 
 use raft_group_storage::GroupStorage;
@@ -50,6 +51,18 @@ pub fn stops_behind_events_lead_on<M: StateMachine, S: GroupStorage<Snapshot = S
         (StaysBut (value_of M.state S.is_well S.shows before.now) (value_of M.state S.is_well S.shows middle.now) peer)
         (fed_as (value_of M.state S.is_well S.shows before.now) (value_of M.state S.is_well S.shows middle.now))
         (value_of M.state S.is_well S.shows middle.now) outcome.now frame now }
+{}
+
+/// A node that has failed passes events over. One that fails outside of any event, or that lacks room
+/// for a peer's piece, halts.
+pub fn failures_lead_on<M: StateMachine, S: GroupStorage<Snapshot = SnapshotBytes>>(
+    before: &Node<M, S>,
+    behind: &Node<M, S>,
+    fault: &Fault<S::Fault>,
+)
+    ensures passes { (group : ℕ) (ge : GroupEvent) → FailedNodesPass S.Fault M.rules S.stands (value_of M.state S.is_well S.shows before.now)
+        (value_of M.state S.is_well S.shows behind.now) group ge }
+    ensures halts { FailuresLead M.rules (value_of M.state S.is_well S.shows before.now) (value_of M.state S.is_well S.shows behind.now) fault.now }
 {}
 
 /// A node that is as it was may be in the same states of its groups: also where only what is held of
