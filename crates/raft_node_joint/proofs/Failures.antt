@@ -1,5 +1,5 @@
 -- A node that has failed, and one that fails.
-use Rattle.std.specs.Prelude.{◌≡◌, ℕ, List, [], ◌∷◌, refl}
+use Rattle.std.specs.Prelude.{ℕ, [], ◌∷◌, refl}
 use Rattle.std.proofs.Common.{sym, ap, ◌∙◌, subst}
 use Rattle.raft_group_step.specs.GroupEvent.{GroupEvent}
 use Rattle.raft_group_step.specs.StepResult.{tokens_of}
