@@ -1,5 +1,5 @@
 -- An adding leads each group of its node on.
-use Rattle.std.specs.Prelude.{◌≡◌, ◌++◌, ◌⊎◌, ℕ, Bool, true, false, not, List, [], ◌∷◌, Option, Some, None, Result, Ok, Err, is_some, refl}
+use Rattle.std.specs.Prelude.{◌≡◌, ◌++◌, ℕ, Bool, true, false, not, [], ◌∷◌, Result, Ok, Err, is_some, refl}
 use Rattle.std.proofs.Common.{inl, inr, sym, ap, ◌∙◌, subst}
 use Rattle.raft_group_step.specs.GroupEvent.{AddGroup as Adds}
 use Rattle.raft_group_step.specs.GroupState.{GroupState, no_group, state_of}
@@ -7,18 +7,17 @@ use Rattle.raft_group_step.specs.Refusal.{first_of_reasons, refusal_of, unless}
 use Rattle.raft_group_step.specs.StepResult.{GroupExists, tokens_of}
 use Rattle.raft_group_step.specs.StoredGroup.{Snapshot}
 use Rattle.raft_messages.specs.declared.memberships.SnapshotBytes.{SnapshotBytes}
-use Rattle.raft_laws.specs.GroupWorld.{NodeState}
-use Rattle.raft_step_laws.specs.Tokens.{brought}
 use Rattle.raft_headline.specs.ClusterEvent.{AddGroup, PassedOver, Refused, Stopped}
 use Rattle.raft_machines.specs.Machine.{MachineRules}
+use Rattle.raft_node_faults.specs.declared.fault.Cause.{Cause}
 use Rattle.raft_node_faults.specs.declared.fault.Fault.{Fault}
 use Rattle.raft_node_faults.specs.declared.fault.Fault.TheVariants as fault
 use Rattle.raft_node.specs.Adding.{IsAdded}
 use Rattle.raft_node.specs.Ending.{IsDone, IsLeft, StaysElse}
 use Rattle.raft_node.specs.Standing.{NodeValue}
-use Rattle.raft_node.specs.Waiting.{waiting_of}
+use Rattle.raft_node.specs.Waiting.{AreNamed, waiting_of}
 use Rattle.raft_node.specs.declared.outcome.Outcome.{Outcome}
-use Rattle.raft_node_joint.specs.Leading.{AddingsLead, LeadsIn, LeadsOn, NamesWaiting, StaysInAll}
+use Rattle.raft_node_joint.specs.Leading.{AddingsLead, LeadsIn, LeadsOn, StaysInAll}
 use Rattle.raft_node_joint.specs.Saying.{names_of}
 use Rattle.raft_node_joint.specs.Standing.{IsUpIn, IsWithout}
 use Rattle.raft_node_joint.proofs.EventsCome.{addings_come}
@@ -47,7 +46,7 @@ addings_lead {F} rules stands same old new group result ids history olds before 
 
     -- it isn't
     added_so : old.groups.has_failed ≡ false → (i : IsIn rules old group (olds group)) → i.state ≡ state_of no_group → IsWithout old group → (r : Result Outcome (Fault F))
-        → StaysElse old new group r → NamesWaiting old r → IsAdded rules stands new group r → Goal r
+        → StaysElse old new group r → ((w : Cause F) (u : _) → r ≡ Err (fault.Stopped w u) → AreNamed old.running u.items) → IsAdded rules stands new group r → Goal r
     added_so going i is without (Ok o) stays names done =
         goes_so rules stands old new group Adds history (AddGroup old.groups.own group) olds before.may_be (addings_come old.groups.own group history) going i
         (law_there rules old group i.state before.law i.up) (Ok o) stays tt (stays.fails ∙ going)
@@ -62,7 +61,7 @@ addings_lead {F} rules stands same old new group result ids history olds before 
           (left_so rules old new group history (AddGroup old.groups.own group) i.state Adds (names_of unknown.items) stays.own (addings_come old.groups.own group history)
           (law_there rules old group i.state before.law i.up) stopped.0 (ap (λ s. refusal_of old.groups.own s Adds) is)
           (subst (λ s. IsLeft new group s Adds) (sym is) stopped.1)
-          (names_own group unknown.items ∙ ap tokens_of (names group ∙ ap waiting_of without.idle ∙ ap (λ (s : GroupState). s.untold ++ []) (sym is)))))
+          (names_own group unknown.items ∙ ap tokens_of (names why unknown refl group ∙ ap waiting_of without.idle ∙ ap (λ (s : GroupState). s.untold ++ []) (sym is)))))
           (λ h other. halts_beside rules old new group Adds history (AddGroup old.groups.own group) olds before.may_be (addings_come old.groups.own group history) going
           (AddGroup old.groups.own group) why unknown stays stopped.0 h ((addings_come old.groups.own group history).others h other (Stopped (names_of unknown.items))) other);
     }

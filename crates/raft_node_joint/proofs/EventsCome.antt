@@ -1,14 +1,14 @@
 -- Events of a cluster come to their groups.
-use Rattle.std.specs.Prelude.{◌≡◌, ℕ, ◌==◌, Bool, true, false, List, Option, Some, slice_get, refl}
-use Rattle.std.proofs.Common.{sym, ap, ◌∙◌, subst, eq-eqb, ne_eqb}
-use Rattle.raft_group_step.specs.GroupEvent.{Call, GroupEvent, Receive}
+use Rattle.std.specs.Prelude.{◌≡◌, ℕ, ◌==◌, Option, refl}
+use Rattle.std.proofs.Common.{sym, ap, ◌∙◌, eq-eqb, ne_eqb}
+use Rattle.raft_group_step.specs.GroupEvent.{Receive}
 use Rattle.raft_group_step.specs.Message.{Message}
 use Rattle.raft_laws.specs.declared.world_event.WorldEvent.{WorldEvent}
 use Rattle.raft_laws.specs.declared.world_event.WorldEvent.TheVariants as event
 use Rattle.raft_laws.specs.GroupRun.{At, scene_of_delivery}
 use Rattle.raft_laws.specs.NodeEvent.{Comes}
-use Rattle.raft_headline.specs.ClusterEvent.{ClusterOutcome, Recorded}
-use Rattle.raft_headline.specs.Seen.{Own, Seen, aside, own_or_aside}
+use Rattle.raft_headline.specs.ClusterEvent.{ClusterOutcome}
+use Rattle.raft_headline.specs.Seen.{Own, aside, own_or_aside}
 use Rattle.raft_node_joint.specs.Coming.{AddingsCome, CallsCome, MessagesCome}
 
 its_own : (group : ℕ) (e : WorldEvent) (n : ℕ) (o : ClusterOutcome) → own_or_aside (group == group) e n o ≡ Own e

@@ -1,29 +1,28 @@
 -- Whatever comes of an event, it leads each group of its node on.
-use Rattle.std.specs.Prelude.{◌≡◌, ◌⊎◌, ℕ, Bool, true, false, List, [], ◌∷◌, Option, Some, None, Result, Ok, Err, Contains, refl}
+use Rattle.std.specs.Prelude.{◌≡◌, ℕ, Bool, true, false, List, Result, Ok, Err, Contains, refl}
 use Rattle.std.proofs.Common.{inl, inr, sym, ap, ◌∙◌, subst, ⊎_elim}
 use Rattle.raft_group_step.specs.GroupEvent.{GroupEvent}
-use Rattle.raft_group_step.specs.GroupState.{GroupState, no_group, state_of}
+use Rattle.raft_group_step.specs.GroupState.{no_group, state_of}
 use Rattle.raft_group_step.specs.Refusal.{refusal_of}
-use Rattle.raft_group_step.specs.StepResult.{RefusalReason, UnknownGroup, tokens_of}
+use Rattle.raft_group_step.specs.StepResult.{UnknownGroup, tokens_of}
 use Rattle.raft_group_step.specs.StoredGroup.{Snapshot}
 use Rattle.raft_messages.specs.declared.memberships.SnapshotBytes.{SnapshotBytes}
 use Rattle.raft_laws.specs.GroupWorld.{NodeState, Up}
 use Rattle.raft_headline.specs.ClusterEvent.{ClusterEvent, Halt, PassedOver, Recorded, Refused, Stopped}
 use Rattle.raft_cluster_laws.specs.Acts.{KeepsLawAt}
-use Rattle.raft_cluster_laws.specs.Keeping.{StandsInWorld}
 use Rattle.raft_cluster_laws.proofs.NodesActing.{has_first}
 use Rattle.raft_machines.specs.Machine.{MachineRules}
 use Rattle.raft_node_faults.specs.declared.fault.Cause.{Cause}
 use Rattle.raft_node_faults.specs.declared.fault.Fault.{Fault}
 use Rattle.raft_node_faults.specs.declared.fault.Fault.TheVariants as fault
-use Rattle.raft_node.specs.Ending.{GoesOn, HasEnded, IsEvent, StaysElse}
-use Rattle.raft_node.specs.Standing.{IsAt, NodeValue}
+use Rattle.raft_node.specs.Ending.{GoesOn, HasEnded, StaysElse}
+use Rattle.raft_node.specs.Standing.{NodeValue}
 use Rattle.raft_node.specs.declared.outcome.Outcome.{Outcome}
 use Rattle.raft_node_joint.specs.Coming.{ComesTo}
-use Rattle.raft_node_joint.specs.Leading.{EventsLead, LeadsIn, LeadsOn, StandsBefore, StaysInAll, led_by}
+use Rattle.raft_node_joint.specs.Leading.{EventsLead, LeadsIn, LeadsOn, StaysInAll, led_by}
 use Rattle.raft_node_joint.specs.Saying.{is_unjudged, names_of, stops_unjudged}
 use Rattle.raft_node_joint.specs.Standing.{IsUpIn, MayBe}
-use Rattle.raft_node_joint.proofs.Faults.{IsNoStop, IsStop, broken, stop_or_not, unjudged}
+use Rattle.raft_node_joint.proofs.Faults.{broken, stop_or_not, unjudged}
 use Rattle.raft_node_joint.proofs.Naming.{names_own}
 use Rattle.raft_node_joint.proofs.OwnEnds.{GoesOnSo, broken_so, done_so, refused_so}
 use Rattle.raft_node_joint.proofs.Others.{law_there}

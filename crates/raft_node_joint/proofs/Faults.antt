@@ -1,6 +1,6 @@
 -- A fault is a stop, or a refusal by which the node goes on.
-use Rattle.std.specs.Prelude.{◌≡◌, ◌⊎◌, ℕ, Bool, true, false, Some, Ok, Err, Result, refl}
-use Rattle.std.proofs.Common.{inl, inr, sym, ◌∙◌}
+use Rattle.std.specs.Prelude.{◌≡◌, ◌⊎◌, ℕ, Bool, true, false, Some, Err, refl}
+use Rattle.std.proofs.Common.{inl, inr}
 use Rattle.raft_conditions.specs.Reason.{reason_of}
 use Rattle.raft_conditions.specs.declared.refusal.Refusal.{Refusal}
 use Rattle.raft_conditions.specs.declared.refusal.Refusal.TheVariants as refusal
@@ -15,7 +15,6 @@ use Rattle.raft_node_faults.specs.declared.fault.Cause.{Cause}
 use Rattle.raft_node_faults.specs.declared.fault.Cause.TheVariants as cause
 use Rattle.raft_node_faults.specs.declared.fault.Fault.{Fault}
 use Rattle.raft_node_faults.specs.declared.fault.Fault.TheVariants as fault
-use Rattle.raft_node_faults.specs.declared.fault.UnknownTokens.{UnknownTokens}
 use Rattle.raft_node.specs.Ending.{FailsBy, GoesOn, HasEnded, HasStopped, IsBroken, IsRefused, IsUnjudged}
 use Rattle.raft_node.specs.Standing.{NodeValue}
 use Rattle.raft_node.specs.declared.outcome.Outcome.{Outcome}

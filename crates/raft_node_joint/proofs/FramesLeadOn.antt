@@ -1,7 +1,7 @@
 -- A frame that says a message that was sent leads each group of its node on.
-use Rattle.std.specs.Prelude.{◌≡◌, ◌⊎◌, ℕ, ◌==◌, ◌&&◌, not, Bool, true, false, List, [], ◌∷◌, Some, None, Result, Err, refl}
-use Rattle.std.proofs.Common.{inl, inr, sym, ap, ap₂, ◌∙◌, subst, eq-eqb}
-use Rattle.raft_group_step.specs.GroupEvent.{GroupEvent, Receive}
+use Rattle.std.specs.Prelude.{◌≡◌, ℕ, ◌==◌, ◌&&◌, not, Bool, true, false, Some, Result, refl}
+use Rattle.std.proofs.Common.{sym, ap₂, ◌∙◌, subst}
+use Rattle.raft_group_step.specs.GroupEvent.{Receive}
 use Rattle.raft_group_step.specs.GroupState.{GroupState, no_group, state_of}
 use Rattle.raft_group_step.specs.Message.{Message}
 use Rattle.raft_group_step.specs.Refusal.{is_right_party as is_right, refusal_of}
@@ -14,8 +14,7 @@ use Rattle.raft_headline.specs.ClusterEvent.{Deliver, Refused}
 use Rattle.raft_machines.specs.Machine.{MachineRules}
 use Rattle.raft_wire.specs.declared.frame.Frame.{Frame}
 use Rattle.raft_node_faults.specs.declared.fault.Fault.{Fault}
-use Rattle.raft_node_faults.specs.declared.fault.Fault.TheVariants as fault
-use Rattle.raft_node.specs.Ending.{IsEvent, Leads}
+use Rattle.raft_node.specs.Ending.{Leads}
 use Rattle.raft_node.specs.Standing.{NodeValue}
 use Rattle.raft_node.specs.declared.outcome.Outcome.{Outcome}
 use Rattle.raft_node_joint.specs.Leading.{FramesLead, LeadsOn, led_by}

@@ -9,3 +9,7 @@ pub mod EventsLeadOn
 pub mod NoStops
 pub mod AddingsLeadOn
 pub mod FramesLeadOn
+pub mod StatesStay
+pub mod StopsBehind
+pub mod WereDone
+pub mod Failures

@@ -1,6 +1,6 @@
 -- What a stop names of a group, in a node's words and in a history's.
-use Rattle.std.specs.Prelude.{◌≡◌, ℕ, ◌==◌, Bool, true, false, if◌then◌else◌, List, [], ◌∷◌, ◌++◌, filter, map, refl}
-use Rattle.std.proofs.Common.{sym, ap, ap₂, ◌∙◌}
+use Rattle.std.specs.Prelude.{◌≡◌, ℕ, ◌==◌, Bool, true, false, if◌then◌else◌, List, [], ◌∷◌, ◌++◌, map, refl}
+use Rattle.std.proofs.Common.{sym, ap, ap₂, ◌∙◌, eq-eqb, ne_eqb}
 use Rattle.std.proofs.lemmas.List.{map-append}
 use Rattle.std.proofs.lemmas.List.Elements.{filter-append}
 use Rattle.raft_group_step.specs.GroupState.{Untold}
@@ -9,46 +9,62 @@ use Rattle.raft_headline.specs.ClusterEvent.{Unknown}
 use Rattle.raft_headline.specs.Seen.{own_tokens, own_unknown}
 use Rattle.raft_node_faults.specs.declared.fault.UnknownTokens.{UnknownTokens}
 use Rattle.raft_node.specs.Waiting.{Tokens, named_in, named_of, of_group}
-use Rattle.raft_node_joint.specs.Saying.{names_in, names_of, unknown_in}
+use Rattle.raft_machines.specs.declared.telling.Told.{Told}
+use Rattle.raft_node.specs.declared.outcome.Outcome.{Outcome}
+use Rattle.raft_node_joint.specs.Saying.{named_as, names_behind, names_in, names_of}
 
 abbrev tokens : List Unknown → List ℕ
 tokens us = map (λ (u : Unknown). u.token) us
 
 -- all tokens of a group are the group's, and none is another one's
-own_in : (h g : ℕ) (b : Bool) → (g == h) ≡ b → (xs : List Untold) → own_unknown h (unknown_in g xs) ≡ (if b then unknown_in g xs else [])
+own_in : (h g : ℕ) (b : Bool) → (g == h) ≡ b → (ts : List ℕ) → own_unknown h (named_as g ts) ≡ (if b then named_as g ts else [])
 own_in h g true is [] = refl
 own_in h g false is [] = refl
-own_in h g true is (x ∷ xs) =
-    let this : Unknown = record { group = g; token = x.token } in
-    ap (λ c. if c then this ∷ own_unknown h (unknown_in g xs) else own_unknown h (unknown_in g xs)) is
-    ∙ ap (λ us. this ∷ us) (own_in h g true is xs)
-own_in h g false is (x ∷ xs) =
-    let this : Unknown = record { group = g; token = x.token } in
-    ap (λ c. if c then this ∷ own_unknown h (unknown_in g xs) else own_unknown h (unknown_in g xs)) is
-    ∙ own_in h g false is xs
+own_in h g true is (t ∷ ts) =
+    let this : Unknown = record { group = g; token = t } in
+    ap (λ c. if c then this ∷ own_unknown h (named_as g ts) else own_unknown h (named_as g ts)) is
+    ∙ ap (λ us. this ∷ us) (own_in h g true is ts)
+own_in h g false is (t ∷ ts) =
+    let this : Unknown = record { group = g; token = t } in
+    ap (λ c. if c then this ∷ own_unknown h (named_as g ts) else own_unknown h (named_as g ts)) is
+    ∙ own_in h g false is ts
 
-same_tokens : (g : ℕ) (xs : List Untold) → tokens (unknown_in g xs) ≡ tokens_of xs
+same_tokens : (g : ℕ) (ts : List ℕ) → tokens (named_as g ts) ≡ ts
 same_tokens g [] = refl
-same_tokens g (x ∷ xs) = ap (λ ts. x.token ∷ ts) (same_tokens g xs)
+same_tokens g (t ∷ ts) = ap (λ xs. t ∷ xs) (same_tokens g ts)
 
 -- those of one group come before the others
-one_more : (h g : ℕ) (b : Bool) → (g == h) ≡ b → (xs more : List Untold) (us : List Unknown) → own_tokens h us ≡ tokens_of more
-    → own_tokens h (unknown_in g xs ++ us) ≡ tokens_of (if b then xs ++ more else more)
-one_more h g b is xs more us rest =
-    ap tokens (filter-append (λ (u : Unknown). u.group == h) (unknown_in g xs) us)
-    ∙ map-append (λ (u : Unknown). u.token) (own_unknown h (unknown_in g xs)) (own_unknown h us)
-    ∙ ap₂ (λ ts ys. ts ++ ys) (ap tokens (own_in h g b is xs)) rest
+pub one_more : (h g : ℕ) (b : Bool) → (g == h) ≡ b → (ts more : List ℕ) (us : List Unknown) → own_tokens h us ≡ more
+    → own_tokens h (named_as g ts ++ us) ≡ (if b then ts ++ more else more)
+one_more h g b is ts more us rest =
+    ap tokens (filter-append (λ (u : Unknown). u.group == h) (named_as g ts) us)
+    ∙ map-append (λ (u : Unknown). u.token) (own_unknown h (named_as g ts)) (own_unknown h us)
+    ∙ ap₂ (λ xs ys. xs ++ ys) (ap tokens (own_in h g b is ts)) rest
     ∙ joined b
   where
-    joined : (c : Bool) → tokens (if c then unknown_in g xs else []) ++ tokens_of more ≡ tokens_of (if c then xs ++ more else more)
-    joined true = ap (λ ts. ts ++ tokens_of more) (same_tokens g xs) ∙ sym (map-append (λ (x : Untold). x.token) xs more)
+    joined : (c : Bool) → tokens (if c then named_as g ts else []) ++ more ≡ (if c then ts ++ more else more)
+    joined true = ap (λ xs. xs ++ more) (same_tokens g ts)
     joined false = refl
 
 named : (h : ℕ) (ts : List Tokens) → own_tokens h (names_in ts) ≡ tokens_of (of_group ts h)
 named h [] = refl
 named h (x ∷ ts) =
-    one_more h x.0 (x.0 == h) refl x.1 (of_group ts h) (names_in ts) (named h ts)
+    one_more h x.0 (x.0 == h) refl (tokens_of x.1) (tokens_of (of_group ts h)) (names_in ts) (named h ts) ∙ joined (x.0 == h)
+  where
+    joined : (c : Bool) → (if c then tokens_of x.1 ++ tokens_of (of_group ts h) else tokens_of (of_group ts h)) ≡ tokens_of (if c then x.1 ++ of_group ts h else of_group ts h)
+    joined true = sym (map-append (λ (y : Untold). y.token) x.1 (of_group ts h))
+    joined false = refl
 
 -- the tokens that are named of the group
 pub names_own : (h : ℕ) (unknown : List UnknownTokens) → own_tokens h (names_of unknown) ≡ tokens_of (named_of unknown h)
 names_own h unknown = named h (named_in unknown)
+
+-- behind an event of the group, and of another one
+pub behind_own : (h : ℕ) (o : Outcome) (unknown : List UnknownTokens) → o.group ≡ h
+    → own_tokens h (names_behind o unknown) ≡ (map (λ (t : Told). t.token) o.told.items ++ o.unknown.items) ++ tokens_of (named_of unknown h)
+behind_own h o unknown same =
+    one_more h o.group true (eq-eqb o.group h same) (map (λ (t : Told). t.token) o.told.items ++ o.unknown.items) (tokens_of (named_of unknown h)) (names_of unknown) (names_own h unknown)
+
+pub behind_other : (h : ℕ) (o : Outcome) (unknown : List UnknownTokens) → (o.group ≡ h → ⊥) → own_tokens h (names_behind o unknown) ≡ tokens_of (named_of unknown h)
+behind_other h o unknown other =
+    one_more h o.group false (ne_eqb o.group h other) (map (λ (t : Told). t.token) o.told.items ++ o.unknown.items) (tokens_of (named_of unknown h)) (names_of unknown) (names_own h unknown)

@@ -1,7 +1,7 @@
 -- Where an event of one group leaves the others.
 use Rattle.std.specs.Prelude.{◌≡◌, ◌⊎◌, ℕ, ◌==◌, Bool, true, false, List, [], ◌∷◌, map, Option, Some, None, Result, Contains, refl}
 use Rattle.std.proofs.Common.{inl, inr, sym, ap, ◌∙◌, subst, eqb-true, eq-eqb}
-use Rattle.raft_group_step.specs.GroupState.{GroupState, state_of, no_group}
+use Rattle.raft_group_step.specs.GroupState.{GroupState}
 use Rattle.raft_group_step.specs.StepResult.{tokens_of}
 use Rattle.raft_group_step.specs.StoredGroup.{StoredGroup}
 use Rattle.raft_laws.specs.GroupWorld.{Absent, Down, NodeState, Up}
@@ -21,7 +21,7 @@ use Rattle.raft_node.specs.Waiting.{waiting_of}
 use Rattle.raft_node.specs.declared.outcome.Outcome.{Outcome}
 use Rattle.raft_node.proofs.Ends.{waits}
 use Rattle.raft_node_joint.specs.Leading.{recorded}
-use Rattle.raft_node_joint.specs.Standing.{IsUpIn, IsWithout, KeepMachinesLaw, MayBeWhen}
+use Rattle.raft_node_joint.specs.Standing.{IsUpIn, KeepMachinesLaw, MayBeWhen}
 
 -- ---- groups and lists
 
@@ -88,7 +88,10 @@ up_stays rules old new group h result s stays other goes (inl at) = inl (record 
   up = stays.members h (Up s) other goes at.up;
   runs = subst (λ r. RunsAt rules r s) (sym (stays.running h other goes)) at.runs;
 })
-up_stays rules old new group h result s stays other goes (inr (is, without)) = inr (is, record {
-  absent = stays.members h Absent other goes without.absent;
-  idle = stays.running h other goes ∙ without.idle;
-})
+up_stays rules old new group h result s stays other goes (inr (is, without)) = inr (
+  is,
+  record {
+    absent = stays.members h Absent other goes without.absent;
+    idle = stays.running h other goes ∙ without.idle;
+  },
+)

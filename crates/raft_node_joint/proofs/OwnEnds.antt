@@ -19,7 +19,6 @@ use Rattle.raft_cluster_laws.specs.Acts.{KeepsLawAt}
 use Rattle.raft_machines.specs.Machine.{MachineRules}
 use Rattle.raft_node_faults.specs.declared.fault.Cause.{Cause}
 use Rattle.raft_node_faults.specs.declared.fault.Fault.{Fault}
-use Rattle.raft_node_faults.specs.declared.fault.Fault.TheVariants as fault
 use Rattle.raft_node.specs.Ending.{AreFramed, IsBroken, IsDone, IsLeft, IsRefused}
 use Rattle.raft_node.specs.Standing.{IsAt, NodeValue}
 use Rattle.raft_node.specs.declared.outcome.Outcome.{Outcome}

@@ -1,10 +1,9 @@
 -- What becomes of an event in its own group.
-use Rattle.std.specs.Prelude.{◌≡◌, ◌+◌, ◌++◌, ◌⊎◌, ℕ, Bool, true, false, List, [], ◌∷◌, map, Option, Some, None, Result, Ok, Err, Contains, refl}
+use Rattle.std.specs.Prelude.{◌≡◌, ◌+◌, ◌++◌, ℕ, Bool, true, false, List, [], ◌∷◌, map, Some, None, refl}
 use Rattle.std.specs.List.{AllZip}
-use Rattle.std.proofs.Common.{inl, inr, sym, ap, ◌∙◌, subst}
-use Rattle.raft_conditions.specs.Reason.{reason_of}
+use Rattle.std.proofs.Common.{sym, ap, ◌∙◌, subst}
 use Rattle.raft_group_step.specs.GroupEvent.{GroupEvent}
-use Rattle.raft_group_step.specs.GroupState.{GroupState, no_group, state_of}
+use Rattle.raft_group_step.specs.GroupState.{GroupState}
 use Rattle.raft_group_step.specs.GroupStep.{group_step}
 use Rattle.raft_group_step.specs.Message.{Message}
 use Rattle.raft_group_step.specs.Refusal.{refusal_of}
@@ -14,9 +13,9 @@ use Rattle.raft_messages.specs.declared.memberships.SnapshotBytes.{SnapshotBytes
 use Rattle.raft_messages.specs.declared.message.Message.{Message as Sent}
 use Rattle.raft_executor.specs.Said.{Says}
 use Rattle.raft_laws.specs.GroupWorld.{Down, NodeState, Up}
-use Rattle.raft_laws.specs.GroupRun.{At, Scene}
+use Rattle.raft_laws.specs.GroupRun.{Scene}
 use Rattle.raft_laws.specs.NodeEvent.{Comes}
-use Rattle.raft_laws.specs.Stop.{stopped_after, unknown_at_stop}
+use Rattle.raft_laws.specs.Stop.{stopped_after}
 use Rattle.raft_step_laws.specs.Tokens.{brought}
 use Rattle.raft_framed_groups.specs.Frames.{IsFramed}
 use Rattle.raft_framed_groups.specs.declared.frames.GroupFrame.{GroupFrame}
@@ -26,20 +25,11 @@ use Rattle.raft_cluster_laws.specs.Acts.{ActsAt, ActsIn, EventLeads, KeepsLawAt,
 use Rattle.raft_cluster_laws.specs.Acting.{SaysStepOf}
 use Rattle.raft_cluster_laws.proofs.NodesActing.{as_asked, names_who_waits, others_as_asked}
 use Rattle.raft_machines.specs.Machine.{MachineRules}
-use Rattle.raft_node_faults.specs.declared.fault.Cause.{Cause}
-use Rattle.raft_node_faults.specs.declared.fault.Fault.{Fault}
-use Rattle.raft_node_faults.specs.declared.fault.Fault.TheVariants as fault
-use Rattle.raft_node_faults.specs.declared.fault.UnknownTokens.{UnknownTokens}
-use Rattle.raft_node.specs.Ending.{IsBroken, IsDone, IsLeft, IsRefused}
-use Rattle.raft_node.specs.Standing.{IsAt, NodeValue}
-use Rattle.raft_node.specs.Waiting.{named_of}
-use Rattle.raft_node.specs.declared.outcome.Outcome.{Outcome}
+use Rattle.raft_node.specs.Standing.{NodeValue}
 use Rattle.raft_node_joint.specs.Coming.{ComesTo}
 use Rattle.raft_node_joint.specs.Leading.{recorded}
-use Rattle.raft_node_joint.specs.Saying.{IsFrameOf, SaysCall, SaysOf, names_of, outcome_of_fault}
+use Rattle.raft_node_joint.specs.Saying.{IsFrameOf}
 use Rattle.raft_node_joint.specs.Standing.{IsUpIn, MayBe, MayBeWhen}
-use Rattle.raft_node_joint.proofs.Faults.{refusal_said}
-use Rattle.raft_node_joint.proofs.Naming.{names_own}
 
 -- frames of messages that say these bring these
 pub frames_say : (stands : SnapshotBytes → Snapshot → Type 0) (group : ℕ) (ms : List (Sent SnapshotBytes)) (frames : List GroupFrame) (said : List Message)
@@ -50,8 +40,7 @@ frames_say stands group [] (f ∷ frames) said say framed = absurd framed
 frames_say stands group (m ∷ ms) [] said say framed = absurd framed
 frames_say stands group (m ∷ ms) (f ∷ frames) [] say framed = absurd say
 frames_say stands group (m ∷ ms) (f ∷ frames) (x ∷ said) say framed =
-    let one = framed.0 in
-    (
+    let one = framed.0 in (
       record {
         of_group = one.group;
         addressee = say.0.1 ∙ sym one.to;
@@ -97,16 +86,21 @@ module _ (rules : MachineRules) (group n : ℕ) (history : List Recorded) (happe
         (others_as_asked rules group n r).to_one history (Up s) (Up s)
         (own_becomes (Refused why) (Up s) (Up s) refl ((as_asked rules group n r comes.event).refused ge s why law refused refl))
 
-    -- the next storing command is done or isn't
+    -- it stopped after so many storing commands
+    pub stopped_becomes : (names : List Unknown) → refusal_of n s ge ≡ None → own_tokens group names ≡ tokens_of (s.untold ++ brought s ge) → (number : ℕ)
+        → let r = recorded n happened (Stopped names) in MayBecome rules group n r history (seen_by group r) (Up s) (Down (stopped_after number s.stored (group_step n s ge)))
+    stopped_becomes names taken named number =
+        let r = recorded n happened (Stopped names) in
+        own_becomes (Stopped names) (Up s) (Down (stopped_after number s.stored (group_step n s ge))) refl
+        ((as_asked rules group n r comes.event).stopped ge s law taken (named ∙ sym (names_who_waits n s ge taken)) number)
+
+    -- the next one is done or isn't
     pub stopped_leads : (names : List Unknown) (number : ℕ) → refusal_of n s ge ≡ None → own_tokens group names ≡ tokens_of (s.untold ++ brought s ge)
         → let left = λ (k : ℕ). stopped_after k s.stored (group_step n s ge) in
         EventLeads rules group n (recorded n happened (Stopped names)) history (Up s ∷ []) (Down (left number) ∷ Down (left (number + 1)) ∷ [])
     stopped_leads names number taken named =
-        let r = recorded n happened (Stopped names) in
-        let stops : (k : ℕ) → MayBecome rules group n r history (seen_by group r) (Up s) (Down (stopped_after k s.stored (group_step n s ge))) =
-            λ k. own_becomes (Stopped names) (Up s) _ refl
-            ((as_asked rules group n r comes.event).stopped ge s law taken (named ∙ sym (names_who_waits n s ge taken)) k) in
-        (others_as_asked rules group n r).to_two history (Up s) _ _ (stops number) (stops (number + 1))
+        (others_as_asked rules group n (recorded n happened (Stopped names))).to_two history (Up s) _ _
+        (stopped_becomes names taken named number) (stopped_becomes names taken named (number + 1))
 
   -- a node that is down passes it over
   pub passed_becomes : (st : StoredGroup) → let r = recorded n happened PassedOver in MayBecome rules group n r history (seen_by group r) (Down st) (Down st)

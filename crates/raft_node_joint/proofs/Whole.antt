@@ -1,38 +1,30 @@
 -- An event leads each group of its node on.
-use Rattle.std.specs.Prelude.{◌≡◌, ◌++◌, ◌⊎◌, ℕ, Bool, true, false, List, [], ◌∷◌, map, Option, Some, None, Result, Ok, Err, Contains, refl}
-use Rattle.std.proofs.Common.{inl, inr, sym, ap, ◌∙◌, subst, ⊎_elim}
+use Rattle.std.specs.Prelude.{◌≡◌, ℕ, true, false, List, [], ◌∷◌, Some, Result, Err, refl}
+use Rattle.std.proofs.Common.{sym, ap, ◌∙◌, subst, ⊎_elim}
 use Rattle.raft_group_step.specs.GroupEvent.{GroupEvent}
-use Rattle.raft_group_step.specs.GroupState.{GroupState, no_group, state_of}
+use Rattle.raft_group_step.specs.GroupState.{GroupState}
 use Rattle.raft_group_step.specs.Refusal.{refusal_of}
-use Rattle.raft_group_step.specs.StepResult.{RefusalReason, UnknownGroup, tokens_of}
-use Rattle.raft_group_step.specs.StoredGroup.{Snapshot, StoredGroup}
-use Rattle.raft_messages.specs.declared.memberships.SnapshotBytes.{SnapshotBytes}
+use Rattle.raft_group_step.specs.StepResult.{RefusalReason, tokens_of}
 use Rattle.raft_laws.specs.GroupWorld.{Down, NodeState, Up}
-use Rattle.raft_laws.specs.NodeEvent.{Comes}
-use Rattle.raft_laws.specs.GroupRun.{At}
-use Rattle.raft_headline.specs.ClusterEvent.{ClusterEvent, ClusterOutcome, Halt, PassedOver, Recorded, Refused, Stopped, Unknown, is_turned_away}
+use Rattle.raft_headline.specs.ClusterEvent.{ClusterEvent, ClusterOutcome, PassedOver, Recorded, Refused, Stopped, Unknown, is_turned_away}
 use Rattle.raft_headline.specs.Seen.{Halted, Passed, aside, own_tokens, seen_by}
 use Rattle.raft_applier_laws.proofs.ReadyStates.{up_ready}
 use Rattle.raft_cluster_laws.specs.Acts.{EventLeads, KeepsLawAt, MayBecome}
 use Rattle.raft_cluster_laws.specs.Keeping.{StandsInWorld}
-use Rattle.raft_cluster_laws.proofs.NodesActing.{has_first}
 use Rattle.raft_machines.specs.Machine.{MachineRules}
 use Rattle.raft_node_faults.specs.declared.fault.Cause.{Cause}
 use Rattle.raft_node_faults.specs.declared.fault.Fault.{Fault}
 use Rattle.raft_node_faults.specs.declared.fault.Fault.TheVariants as fault
-use Rattle.raft_node.specs.Ending.{GoesOn, HasEnded, IsEvent, IsReached, IsUnjudged, StaysElse}
-use Rattle.raft_node.specs.Standing.{IsAt, NodeValue}
-use Rattle.raft_node.specs.Waiting.{named_of, waiting_of}
+use Rattle.raft_node.specs.Ending.{GoesOn, IsReached, StaysElse}
+use Rattle.raft_node.specs.Standing.{NodeValue}
 use Rattle.raft_node.specs.declared.outcome.Outcome.{Outcome}
 use Rattle.raft_node_joint.specs.Coming.{ComesTo}
-use Rattle.raft_node_joint.specs.Leading.{EventsLead, LeadsIn, LeadsOn, StandsBefore, StaysInAll, led_by, recorded}
-use Rattle.raft_node_joint.specs.Saying.{SaysCall, is_unjudged, names_of, outcome_of_fault, stops_unjudged}
+use Rattle.raft_node_joint.specs.Leading.{LeadsIn, StaysInAll, recorded}
+use Rattle.raft_node_joint.specs.Saying.{names_of}
 use Rattle.raft_node_joint.specs.Standing.{IsUpIn, MayBe, MayBeWhen}
-use Rattle.raft_node_joint.proofs.Faults.{IsNoStop, broken, stop_or_not, unjudged}
 use Rattle.raft_node_joint.proofs.Naming.{names_own}
-use Rattle.raft_node_joint.proofs.OwnEnds.{GoesOnSo, broken_so, done_so, refused_so}
-use Rattle.raft_node_joint.proofs.OwnGroup.{is_in_one, is_in_shown, own_becomes, passed_becomes, refused_leads, unless_taken}
-use Rattle.raft_node_joint.proofs.Others.{halted_leads, is_down, law_there, one_of, passed_leads, same_or_other, shows_it, stays_leads, up_stays, who_waits}
+use Rattle.raft_node_joint.proofs.OwnGroup.{is_in_one, is_in_shown, passed_becomes, refused_leads, unless_taken}
+use Rattle.raft_node_joint.proofs.Others.{halted_leads, is_down, one_of, passed_leads, same_or_other, shows_it, stays_leads, up_stays, who_waits}
 
 -- a state in which a history leaves the node is one that its event may come to
 pub is_reached : (rules : MachineRules) (ids : List ℕ) (n group : ℕ) (history : List Recorded) (happened : ClusterEvent) (ge : GroupEvent) (s : GroupState)

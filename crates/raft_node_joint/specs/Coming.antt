@@ -1,5 +1,5 @@
 -- How an event of a cluster comes to a group at a node.
-use Rattle.std.specs.Prelude.{◌≡◌, ℕ, Bool, false, List, slice_get, Some}
+use Rattle.std.specs.Prelude.{◌≡◌, ℕ, false, List, slice_get, Some}
 use Rattle.raft_group_step.specs.GroupEvent.{Call, GroupCall, GroupEvent, Receive}
 use Rattle.raft_group_step.specs.GroupEvent.{AddGroup as Adds}
 use Rattle.raft_group_step.specs.Message.{Message}

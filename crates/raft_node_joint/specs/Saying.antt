@@ -1,10 +1,9 @@
 -- What a node answers to an event of a group, in the plain values of a cluster's history.
 use Rattle.std.specs.Prelude.{◌≡◌, ℕ, Bool, true, false, List, [], ◌∷◌, ◌++◌, map, Option, Some, None, Result, Ok, Err}
 use Rattle.std.specs.List.{AllZip}
-use Rattle.raft_group_step.specs.GroupState.{Untold}
 use Rattle.raft_group_step.specs.Message.{Message}
 use Rattle.raft_group_step.specs.StepResult.{BreaksCondition, CommandTooLong, GroupExists, InProgress, MembershipRefused, NotAllowed}
-use Rattle.raft_group_step.specs.StepResult.{NotLeader, NotVoter, NumberAtEnd, UnknownGroup, VoterChange, WrongParty}
+use Rattle.raft_group_step.specs.StepResult.{NotLeader, NotVoter, NumberAtEnd, UnknownGroup, VoterChange, WrongParty, tokens_of}
 use Rattle.raft_group_step.specs.StoredGroup.{Snapshot}
 use Rattle.raft_messages.specs.declared.memberships.SnapshotBytes.{SnapshotBytes}
 use Rattle.raft_messages.specs.declared.message.Message.{Message as Sent}
@@ -13,6 +12,7 @@ use Rattle.raft_wire.specs.Frames.{FitsFrame, spelled_frame}
 use Rattle.raft_framed_groups.specs.Frames.{frame_with}
 use Rattle.raft_framed_groups.specs.declared.frames.GroupFrame.{GroupFrame}
 use Rattle.raft_headline.specs.ClusterEvent.{ClusterOutcome, Done, PassedOver, Refused, Said, Stopped, Unknown}
+use Rattle.raft_machines.specs.declared.telling.Told.{Told}
 use Rattle.raft_node_faults.specs.declared.fault.Cause.{Cause}
 use Rattle.raft_node_faults.specs.declared.fault.Cause.TheVariants as cause
 use Rattle.raft_node_faults.specs.declared.fault.Fault.{Fault}
@@ -23,16 +23,20 @@ use Rattle.raft_node.specs.declared.outcome.Outcome.{Outcome}
 
 -- ---- tokens that stay unknown
 
-abbrev pub unknown_in : ℕ → List Untold → List Unknown
-unknown_in group tokens = map (λ (x : Untold). record { group = group; token = x.token }) tokens
+abbrev pub named_as : ℕ → List ℕ → List Unknown
+named_as group tokens = map (λ (token : ℕ). record { group = group; token = token }) tokens
 
 abbrev pub names_in : List Tokens → List Unknown
 names_in [] = []
-names_in (x ∷ xs) = unknown_in x.0 x.1 ++ names_in xs
+names_in (x ∷ xs) = named_as x.0 (tokens_of x.1) ++ names_in xs
 
 -- all that a stop names, each with its group
 abbrev pub names_of : List UnknownTokens → List Unknown
 names_of unknown = names_in (named_in unknown)
+
+-- behind an event that was done: first those of the event, of which nobody is told
+abbrev pub names_behind : Outcome → List UnknownTokens → List Unknown
+names_behind o unknown = named_as o.group (map (λ (t : Told). t.token) o.told.items ++ o.unknown.items) ++ names_of unknown
 
 -- ---- faults
 

@@ -1,5 +1,5 @@
 -- What a node may be in a group.
-use Rattle.std.specs.Prelude.{◌≡◌, ◌⊎◌, ℕ, Bool, true, false, List, [], ◌∷◌, map, Option, Some, None}
+use Rattle.std.specs.Prelude.{◌≡◌, ◌⊎◌, ℕ, Bool, true, false, List, [], ◌∷◌, map, Some, None}
 use Rattle.raft_group_step.specs.GroupState.{GroupState, no_group, state_of}
 use Rattle.raft_group_step.specs.StoredGroup.{StoredGroup}
 use Rattle.raft_laws.specs.GroupWorld.{Absent, Down, NodeState, Up}

@@ -3,3 +3,4 @@
 #![tactic(auto)]
 
 pub mod coming;
+pub mod leading;
