@@ -104,7 +104,8 @@ FailuresLead rules old new other = Unit {0}
 -- ---- a new group
 
 -- what a node promises of an adding
-pub record IsAdding {F : Type 0} (rules : MachineRules) (stands : SnapshotBytes → Snapshot → Type 0) (same : Type 0) (old new : NodeValue) (group : ℕ) (result : Result Outcome (Fault F)) : Type 0 where
+pub record IsAdding {F : Type 0} (rules : MachineRules) (stands : SnapshotBytes → Snapshot → Type 0) (same : Type 0) (old new : NodeValue)
+    (group : ℕ) (result : Result Outcome (Fault F)) : Type 0 where
   pub failed : old.groups.has_failed ≡ true → (result ≡ Err fault.Failed) × same
   pub exists : old.groups.has_failed ≡ false → is_some (old.groups.members group) ≡ true → (result ≡ Err fault.GroupExists) × same
   pub added : old.groups.has_failed ≡ false → Stands old.groups group Absent → IsAdded rules stands new group result
@@ -140,7 +141,8 @@ pub record WasDone (rules : MachineRules) (stands : SnapshotBytes → Snapshot �
 
 -- then the node fails for want of memory before anybody is told of it: it counts as an event that stopped behind its last storing
 -- command, and the tokens that it was to tell or to leave unknown are named with those that waited
-abbrev pub StopsBehindLead : {F : Type 0} → MachineRules → (SnapshotBytes → Snapshot → Type 0) → NodeValue → NodeValue → NodeValue → ℕ → GroupEvent → Outcome → Fault F → Type 0
+abbrev pub StopsBehindLead : {F : Type 0} → MachineRules → (SnapshotBytes → Snapshot → Type 0) → NodeValue → NodeValue → NodeValue
+    → ℕ → GroupEvent → Outcome → Fault F → Type 0
 StopsBehindLead rules stands old mid new group ge o (fault.Stopped why unknown) =
     (ids : List ℕ) (history : List Recorded) (happened : ClusterEvent) (olds : ℕ → List NodeState)
     → ComesTo old.groups.own group history happened ge → StandsBefore rules stands ids history old olds
