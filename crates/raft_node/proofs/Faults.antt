@@ -53,7 +53,7 @@ stands_on a b group (Down kept) own same well keeps h =
     }
 
 module _ {F : Type 0} where
-  all_stays : (same : Type 0) (running : ℕ → Option Running) (why : Fault F) → GoesOn {T = Outcome} (Err why) → NamesAll same running why → same
+  pub all_stays : (same : Type 0) (running : ℕ → Option Running) (why : Fault F) → GoesOn {T = Outcome} (Err why) → NamesAll same running why → same
   all_stays same running (fault.Stopped why unknown) goes names = absurd goes
   all_stays same running other goes names = names
 

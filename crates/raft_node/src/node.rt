@@ -41,6 +41,7 @@ impl<M: StateMachine, S: GroupStorage<Snapshot = SnapshotBytes>> Node<M, S> {
         ensures going { result.groups.has_failed ≡ false }
         ensures none { (group : ℕ) → get nat_cmp result.groups.members group ≡ None }
         ensures no_machines { result.machines ≡ None }
+        ensures streams { (peer : ℕ) → get nat_cmp result.feeders peer ≡ None }
     {
         Node {
             alloc,
