@@ -1,5 +1,5 @@
 -- A fault that is told leaves the other groups; and a stop ends its event.
-use Rattle.std.proofs.Common.{◌≡◌, ◌+◌, ◌++◌, ℕ, List, [], ◌∷◌, Some, None, Ok, Err, refl, sym, ap, subst, ◌∙◌, inl, inr, length, Option}
+use Rattle.std.proofs.Common.{◌≡◌, ◌+◌, ℕ, List, [], ◌∷◌, Err, sym, ap, subst, ◌∙◌, inl, inr, length, Option}
 use Rattle.std.proofs.Math.Seq.{take-length}
 use Rattle.raft_group_step.specs.GroupEvent.{GroupEvent}
 use Rattle.raft_group_step.specs.GroupState.{GroupState}
@@ -16,11 +16,11 @@ use Rattle.raft_node_faults.specs.declared.fault.Cause.{Cause}
 use Rattle.raft_node_faults.specs.declared.fault.Fault.{Fault}
 use Rattle.raft_node_faults.specs.declared.fault.Fault.TheVariants as fault
 use Rattle.raft_node_faults.specs.declared.fault.UnknownTokens.{UnknownTokens}
-use Rattle.raft_node.specs.Ending.{FailsBy, GoesOn, HasEnded, HasStopped, IsLeft, NamesElse, StaysElse}
+use Rattle.raft_node.specs.Ending.{GoesOn, HasEnded, HasStopped, IsLeft, NamesElse, StaysElse}
 use Rattle.raft_node.specs.Running.{Running}
 use Rattle.raft_node.specs.Settling.{IsStoppedBy, IsTold, NamesAll}
 use Rattle.raft_node.specs.Standing.{NodeValue}
-use Rattle.raft_node.specs.Waiting.{AreNamed, named_of, waiting_of}
+use Rattle.raft_node.specs.Waiting.{named_of, waiting_of}
 use Rattle.raft_node.specs.declared.outcome.Outcome.{Outcome}
 
 -- where a member and what is shown of its group stay, the node stands as before
@@ -53,7 +53,7 @@ stands_on a b group (Down kept) own same well keeps h =
     }
 
 module _ {F : Type 0} where
-  pub all_stays : (same : Type 0) (running : ℕ → Option Running) (why : Fault F) → GoesOn {T = Outcome} (Err why) → NamesAll same running why → same
+  all_stays : (same : Type 0) (running : ℕ → Option Running) (why : Fault F) → GoesOn {T = Outcome} (Err why) → NamesAll same running why → same
   all_stays same running (fault.Stopped why unknown) goes names = absurd goes
   all_stays same running other goes names = names
 

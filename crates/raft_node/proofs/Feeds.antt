@@ -1,5 +1,5 @@
 -- Pieces of a stream: what came of one frame, and of a whole piece.
-use Rattle.std.proofs.Common.{◌≡◌, ◌⊎◌, ◌<◌, ◌≤◌, ◌+◌, ◌++◌, ◌==◌, inl, inr, ℕ, zero, suc, Bool, true, false, List, [], ◌∷◌, drop, length, take, Option, Some, None, Result, Ok, Err, append_assoc, append-nil, length-append, refl, sym, ap, subst, ◌∙◌, arith}
+use Rattle.std.proofs.Common.{◌≡◌, ◌<◌, ◌≤◌, ◌+◌, ◌++◌, ◌==◌, inl, inr, ℕ, zero, suc, Bool, true, false, List, [], ◌∷◌, drop, length, Option, Some, None, Result, Ok, Err, append_assoc, append-nil, length-append, refl, sym, ap, subst, ◌∙◌, arith}
 use Rattle.std.specs.Prelude.{IfOk, IfSome}
 use Rattle.std.specs.Ordering.{nat_cmp}
 use Rattle.std.specs.BTreeMap.{get}
@@ -13,8 +13,9 @@ use Rattle.raft_laws.proofs.BallotAgreement.{same_some}
 use Rattle.raft_machines.specs.Machine.{MachineRules}
 use Rattle.raft_machines.specs.declared.machine.StateMachine.{Ghosts}
 use Rattle.raft_wire.specs.Frames.{FitsFrame, spelled_frame}
-use Rattle.raft_wire.specs.Stream.{Answers, Feeding, IsSpelledSo, Judged, fresh, front, holding}
+use Rattle.raft_wire.specs.Stream.{Answers, Feeding, IsSpelledSo, Judged, front, holding}
 use Rattle.raft_wire.specs.declared.error.FrameError.{FrameError}
+use Rattle.raft_wire.specs.declared.error.FrameFault.{FrameFault}
 use Rattle.raft_wire.specs.declared.error.FrameError.TheVariants as frame_error
 use Rattle.raft_wire.specs.declared.frame.Frame.{Frame}
 use Rattle.raft_wire.proofs.AnyCutting.{front_taken}
@@ -25,10 +26,10 @@ use Rattle.raft_node_faults.specs.declared.fault.Cause.TheVariants as cause
 use Rattle.raft_node_faults.specs.declared.fault.Fault.{Fault}
 use Rattle.raft_node_faults.specs.declared.fault.Fault.TheVariants as fault
 use Rattle.raft_node.specs.Ending.{FailsBy, NamesElse}
-use Rattle.raft_node.specs.Feeding.{Comes, FeedsPart, FeedsTo, FeedsWhole, FrameCame, IsFrame, IsReadAs, IsRefusedStream, LacksRoom, LeavesStream, StaysBut, StopsForRoom, TakesNext, TakesPiece, fed_as, so_far}
+use Rattle.raft_node.specs.Feeding.{Comes, FeedsPart, FeedsTo, FeedsWhole, FrameCame, IsFrame, IsReadAs, IsRefusedStream, LeavesStream, StaysBut, StopsForRoom, TakesNext, TakesPiece, fed_as, so_far}
 use Rattle.raft_node.specs.Running.{Running}
 use Rattle.raft_node.specs.Settling.{IsStopFor, IsStoppedBy, IsTold, NamesAll}
-use Rattle.raft_node.specs.Standing.{IsAt, NodeValue, running_in, value_of}
+use Rattle.raft_node.specs.Standing.{NodeValue, running_in, value_of}
 use Rattle.raft_node.specs.declared.node.Node.{Node as ANode}
 use Rattle.raft_node.specs.Waiting.{waiting_of}
 use Rattle.raft_node.specs.declared.outcome.Outcome.{Outcome}
@@ -107,31 +108,6 @@ module _ {F : Type 0} where
     names = back_names here same old.running why back told.names;
   }
 
-  -- a stop is told
-  stop_named : (same : Type 0) (running : ℕ → Option Running) (waiting : ℕ → List Untold) (met : Cause F) (why : Fault F) → ((group : ℕ) → waiting group ≡ waiting_of (running group)) → IsStopFor met waiting why → NamesAll same running why
-  stop_named same running waiting met (fault.Stopped other unknown) who is = λ group. is.1 group ∙ who group
-  stop_named same running waiting met other who is = absurd is
-
-  stop_failed : (old new : Bool) (waiting : ℕ → List Untold) (met : Cause F) (why : Fault F) → IsStopFor met waiting why → new ≡ true → FailsBy {T = Outcome} old (Err why) new
-  stop_failed old new waiting met (fault.Stopped other unknown) is failed = failed
-  stop_failed old new waiting met other is failed = absurd is
-
-  pub stop_by : (waiting : ℕ → List Untold) (met : Cause F) (why : Fault F) → IsStopFor met waiting why → IsStoppedBy met why
-  stop_by waiting met (fault.Stopped other unknown) is = is.0
-  stop_by waiting met other is = absurd is
-
-  pub stop_told : (same : Type 0) (old new : NodeValue) (waiting : ℕ → List Untold) (met : Cause F) (why : Fault F) → IsStopFor met waiting why → ((group : ℕ) → waiting group ≡ waiting_of (old.running group)) → new.groups.own ≡ old.groups.own
-      → ((group : ℕ) → new.groups.members group ≡ old.groups.members group) → (old.groups.is_well → new.groups.is_well) → KeepsAll old.groups.shows new.groups.shows → ((peer : ℕ) → new.streams peer ≡ old.streams peer) → new.groups.has_failed ≡ true → IsTold same old new why
-  stop_told same old new waiting met why is who own members well kept streams failed = record {
-    own = own;
-    members = members;
-    well = well;
-    kept = kept;
-    streams = streams;
-    fails = stop_failed old.groups.has_failed new.groups.has_failed waiting met why is failed;
-    names = stop_named same old.running waiting met why who is;
-  }
-
 -- where a node's streams alone changed, all else stays
 pub same_but : {M S F : Type 0} {g : Ghosts M} (state : M → List ℕ) (is_well : S → Type 0) (shows : S → ℕ → List StoredGroup → Type 0) (peer : ℕ) (old mid new : ANode M S F g) → mid.groups ≡ old.groups → mid.machines ≡ old.machines → new ≡ mid
     → StaysBut (value_of state is_well shows old) (value_of state is_well shows new) peer
@@ -150,30 +126,6 @@ same_but state is_well shows peer old mid new groups machines is =
 -- ---- what came of a piece
 
 module _ (F : Type 0) (rules : MachineRules) (stands : SnapshotBytes → Snapshot → Type 0) (old new : NodeValue) (peer now : ℕ) (piece : List ℕ) where
-  -- a step that ends with a frame took a byte
-  came_of : (used : ℕ) (read : Result (Option Frame) FrameError) (outcome : Result (Option Outcome) (Fault F)) → front (old.streams peer).held ≡ None → IsSpelledSo (old.streams peer).held piece used read → IsReadAs rules stands old new peer now read outcome
-      → IfOk outcome (λ came. IfSome came (λ o. 0 < used))
-  came_of used (Ok None) outcome waits spelled comes = subst (λ r. IfOk r (λ came. IfSome came (λ o. 0 < used))) (sym comes.0) tt
-  came_of used (Ok (Some frame)) (Ok None) waits spelled comes = tt
-  came_of used (Ok (Some frame)) (Ok (Some o)) waits spelled comes = took_some (old.streams peer).held piece used frame waits spelled
-  came_of used (Ok (Some frame)) (Err why) waits spelled comes = tt
-  came_of used (Err met) (Ok o) waits spelled comes = absurd comes
-  came_of used (Err met) (Err why) waits spelled comes = tt
-
-  pub took_by : (used : ℕ) (outcome : Result (Option Outcome) (Fault F)) → front (old.streams peer).held ≡ None → TakesPiece rules stands old new peer now piece used outcome → IfOk outcome (λ came. IfSome came (λ o. 0 < used))
-  took_by used outcome waits t = came_of used t.read outcome waits t.spelled t.comes
-
-  -- and no more than there is
-  used_by : (used : ℕ) (read : Result (Option Frame) FrameError) → Answers (old.streams peer) piece used read (new.streams peer) → used ≤ length piece
-  used_by used (Ok None) a = let is = a.2 in omega arith
-  used_by used (Ok (Some frame)) a = a.2
-  used_by used (Err (frame_error.Fault why)) a = a.2
-  used_by used (Err frame_error.StreamFailed) a = let is = a.1 in omega arith
-  used_by used (Err frame_error.Memory) a = let is = a.1 in omega arith
-
-  pub used_within : (used : ℕ) (outcome : Result (Option Outcome) (Fault F)) → TakesPiece rules stands old new peer now piece used outcome → used ≤ length piece
-  used_within used outcome t = used_by used t.read t.answers
-
   -- the piece was read from these streams, which were the node's, and left those, which are
   pub takes : (used : ℕ) (outcome : Result (Option Outcome) (Fault F)) (before behind : ℕ → Feeding) → ((p : ℕ) → before p ≡ old.streams p) → ((p : ℕ) → new.streams p ≡ behind p) → (read : Result (Option Frame) FrameError) → Answers (before peer) piece used read (behind peer)
       → IsSpelledSo (before peer).held piece used read → ((other : ℕ) → (other ≡ peer → ⊥) → behind other ≡ before other) → IsReadAs rules stands old new peer now read outcome → TakesPiece rules stands old new peer now piece used outcome
@@ -221,13 +173,13 @@ module _ (F : Type 0) (rules : MachineRules) (stands : SnapshotBytes → Snapsho
   module _ (frame : Frame) (size : ℕ) (found : front (so_far old peer piece) ≡ Some (Ok frame, size)) (whole : size ≡ length (old.streams peer).held + length piece) (some : 0 < length piece) (going : (old.streams peer).failed ≡ false) where
     read_so : (used : ℕ) (f : Frame) → front (so_far old peer piece) ≡ Some (Ok f, length (old.streams peer).held + used) → (used ≡ length piece) × (f ≡ frame)
     read_so used f is =
-        let same : (Ok f, length (old.streams peer).held + used) ≡ (Ok frame, size) = same_some (sym is ∙ found) in
+        let same : ◌≡◌ {A = Judged} (Ok f, length (old.streams peer).held + used) (Ok frame, size) = same_some (sym is ∙ found) in
         let at : length (old.streams peer).held + used ≡ size = ap (λ (x : Judged). x.1) same in
-        let what : Ok f ≡ Ok frame = ap (λ (x : Judged). x.0) same in
+        let what : ◌≡◌ {A = Result Frame FrameFault} (Ok f) (Ok frame) = ap (λ (x : Judged). x.0) same in
         (omega arith, cc)
 
     never_waits : front (so_far old peer piece) ≡ None → ⊥
-    never_waits is = let no : Some (Ok frame, size) ≡ None = sym found ∙ is in cc
+    never_waits is = not_none _ (sym found ∙ is)
 
     frame_of : (used : ℕ) (read : Result (Option Frame) FrameError) (o : Outcome) → Answers (old.streams peer) piece used read (new.streams peer) → ((other : ℕ) → (other ≡ peer → ⊥) → new.streams other ≡ old.streams other)
         → IsReadAs {F = F} rules stands old new peer now read (Ok (Some o)) → (used ≡ length piece) × FrameCame {F = F} rules stands old new peer now frame (Ok o)
@@ -383,11 +335,13 @@ module _ {M S F : Type 0} {g : Ghosts M} (state : M → List ℕ) (is_well : S �
   module _ (old new : ANode M S F g) (piece : List ℕ) (waits : front (so_far (value_of state is_well shows old) peer piece) ≡ None) (going : ((value_of state is_well shows old).streams peer).failed ≡ false) where
     nothing_fed : new ≡ old → piece ≡ [] → LeavesStream (value_of state is_well shows old) (value_of state is_well shows new) peer (holding (so_far (value_of state is_well shows old) peer piece)) × StaysBut (value_of state is_well shows old) (value_of state is_well shows new) peer
     nothing_fed same none =
-        subst (λ n. LeavesStream (value_of state is_well shows old) (value_of state is_well shows n) peer (holding (so_far (value_of state is_well shows old) peer piece)) × StaysBut (value_of state is_well shows old) (value_of state is_well shows n) peer) (sym same)
-        ((
-          subst (λ l. (value_of state is_well shows old).streams peer ≡ holding (((value_of state is_well shows old).streams peer).held ++ l)) (sym none) (holds_still (value_of state is_well shows old) peer going ∙ ap holding (sym (append-nil ((value_of state is_well shows old).streams peer).held))),
-          λ other apart. refl,
-        ), stays_but (value_of state is_well shows old) peer)
+        subst (λ n. LeavesStream (value_of state is_well shows old) (value_of state is_well shows n) peer (holding (so_far (value_of state is_well shows old) peer piece)) × StaysBut (value_of state is_well shows old) (value_of state is_well shows n) peer) (sym same) (
+          (
+            subst (λ l. (value_of state is_well shows old).streams peer ≡ holding (((value_of state is_well shows old).streams peer).held ++ l)) (sym none) (holds_still (value_of state is_well shows old) peer going ∙ ap holding (sym (append-nil ((value_of state is_well shows old).streams peer).held))),
+            λ other apart. refl,
+          ),
+          stays_but (value_of state is_well shows old) peer,
+        )
 
     pub feeds_part : (os : List Outcome) (fault : Option (Fault F)) (used : ℕ) → FeedsTo {F = F} (value_of state is_well shows) rules stands peer now os fault old new piece used → FeedsPart rules stands (value_of state is_well shows old) (value_of state is_well shows new) peer now piece os fault used
     feeds_part [] None used (inl none) =

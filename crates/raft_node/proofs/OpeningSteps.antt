@@ -1,12 +1,11 @@
 -- The steps by which a node opens a group, and how each of them stops.
-use Rattle.std.proofs.Common.{◌≡◌, ◌⊎◌, ◌==◌, inl, inr, ℕ, Bool, true, false, List, [], ◌∷◌, Option, Some, None, Result, Ok, Err, IfErr, IfOk, OnOk, refl, sym, ap, subst, ◌∙◌}
+use Rattle.std.proofs.Common.{◌≡◌, ◌==◌, inl, inr, ℕ, Bool, true, false, List, [], ◌∷◌, Option, Some, None, Result, Ok, Err, IfErr, IfOk, OnOk, refl, sym, ap, subst, ◌∙◌}
 use Rattle.std.specs.List.{AllZip}
 use Rattle.std.proofs.lemmas.Bool.Decides.{Decides-eqb}
 use Rattle.raft_conditions.specs.Reason.{reason_of}
 use Rattle.raft_group_step.specs.GroupEvent.{Open}
 use Rattle.raft_group_step.specs.GroupState.{Untold, state_of}
 use Rattle.raft_group_step.specs.GroupStep.{group_step}
-use Rattle.raft_group_step.specs.Refusal.{refusal_of}
 use Rattle.raft_group_step.specs.StoredGroup.{Snapshot, StoredGroup}
 use Rattle.raft_group_storage.specs.Keeping.{KeepsAll, ShowsMore}
 use Rattle.raft_messages.specs.declared.memberships.SnapshotBytes.{SnapshotBytes}
@@ -29,7 +28,6 @@ use Rattle.raft_framed_groups.specs.Frames.{IsFramed}
 use Rattle.raft_machines.specs.Machine.{MachineRules}
 use Rattle.raft_node_faults.specs.Fault.{cause_of}
 use Rattle.raft_node_faults.specs.declared.fault.Cause.{Cause}
-use Rattle.raft_node_faults.specs.declared.fault.Cause.TheVariants as cause
 use Rattle.raft_node_faults.specs.declared.fault.Fault.{Fault}
 use Rattle.raft_node_faults.specs.declared.fault.Fault.TheVariants as fault
 use Rattle.raft_node.specs.Ending.{FailsBy, IsLeft, IsShownLeft}
@@ -45,16 +43,7 @@ use Rattle.raft_node.proofs.Openings.{none_waits, opened_group}
 
 -- ---- a member is opened
 
-module _ {X : Type 0} (stands : X → Snapshot → Type 0) (is_well : Type 0) (shown : List StoredGroup → Type 0) (own : ℕ) (st : StoredGroup) where
-  -- it does its step
-  pub opens_by_step : (m : Member) (end : Ended X) → EndsAtMember stands is_well shown own (state_of st) Open None m end
-      → (sent : _) × (end ≡ ended.Done sent) × SaysAll stands sent.items (group_step own (state_of st) Open).messages × IsUp is_well shown m (group_step own (state_of st) Open).state
-  opens_by_step m (ended.Done sent) h = (sent, refl, h.2, h.3)
-  opens_by_step m (ended.Refused why) h = absurd (let no : None ≡ Some (reason_of why) = h.0 in cc)
-  opens_by_step m ended.Stopped h = absurd (let no : None ≡ Some h.1.0 = h.1.1 in cc)
-  opens_by_step m ended.Skipped h = absurd h
-
--- so it is up, in a node whose groups have this id now
+-- the member that did its step is up, in a node whose groups have this id now
 pub opened_up : {X : Type 0} (stands : X → Snapshot → Type 0) (own now : ℕ) → now ≡ own → (members : ℕ → Option Member) (is_well : Type 0) (shows : ℕ → List StoredGroup → Type 0) (group : ℕ) (st : StoredGroup) (end : Ended X) (sent : _) → end ≡ ended.Done sent
     → HasMember own members group (λ m. EndsAtMember stands is_well (shows group) own (state_of st) Open None m end)
     → SaysAll stands sent.items (group_step own (state_of st) Open).messages × StandsAs now members is_well shows group (Up (group_step now (state_of st) Open).state) × shows group ((group_step own (state_of st) Open).state.stored ∷ [])

@@ -1,7 +1,7 @@
 -- A node that is being opened: which of its groups have done their step, and what a stop leaves.
-use Rattle.std.proofs.Common.{◌≡◌, ◌⊎◌, ◌++◌, inl, inr, ℕ, Bool, true, false, List, [], ◌∷◌, Some, None, Ok, Err, append_assoc, append-nil, refl, sym, ap, subst, ◌∙◌, arith}
-use Rattle.std.specs.Prelude.{◌||◌, All, map}
-use Rattle.std.specs.List.{AllByRecursion, AllZip, IsDistinct}
+use Rattle.std.proofs.Common.{◌≡◌, ◌⊎◌, ◌++◌, inl, inr, ℕ, Bool, true, false, List, [], ◌∷◌, Some, None, append_assoc, append-nil, refl, sym, ap, subst, ◌∙◌, arith}
+use Rattle.std.specs.Prelude.{◌||◌, All}
+use Rattle.std.specs.List.{AllByRecursion, AllZip}
 use Rattle.std.specs.List.Sorted.{IsStrictlySortedBy}
 use Rattle.std.specs.Ordering.{eq_by_cmp, is_eq, nat_cmp}
 use Rattle.std.specs.Set.{is_member}
@@ -29,7 +29,7 @@ use Rattle.raft_laws.specs.OneList.{applied_list}
 use Rattle.raft_framed_groups.specs.Frames.{IsFramed}
 use Rattle.raft_node_faults.specs.declared.fault.Fault.{Fault}
 use Rattle.raft_node_faults.specs.declared.fault.Fault.TheVariants as fault
-use Rattle.raft_node.specs.Ending.{AreFramed, IsDone, IsLeft, IsShownLeft}
+use Rattle.raft_node.specs.Ending.{AreFramed, IsDone, IsLeft}
 use Rattle.raft_node.specs.Opening.{AreThere, HasNotOpened, HasOpened, IsBegun, IsUntouched, StopsNaming, groups_of}
 use Rattle.raft_node.specs.Running.{RunsAt}
 use Rattle.raft_node.specs.Standing.{IsAt, NodeValue}
@@ -107,10 +107,6 @@ module _ (rules : MachineRules) (kept : ℕ → StoredGroup) where
   abbrev pub Way : NodeValue → List ℕ → ℕ → Type 0
   Way n left group = IsOpen n left group ⊎ IsToCome n left group
 
-  pub begins : (n : NodeValue) (groups : List ℕ) → IsBegun n kept → AreThere kept groups → (group : ℕ) → Way n groups group
-  begins n groups begun there group =
-      inr (record { untouched = record { no_member = begun.no_member group; idle = begun.idle group; stored = begun.keeps.shown group }; among = there.exactly group })
-
   -- the next group is still to be opened
   pub next_comes : (n : NodeValue) (g : ℕ) (rest : List ℕ) → Way n (g ∷ rest) g → ((kept g).present ≡ true) × IsUntouched n g (kept g)
   next_comes n g rest (inl up) = absurd (let no : true ≡ false = sym (first_among g rest) ∙ up.gone in cc)
@@ -167,10 +163,6 @@ module _ (rules : MachineRules) (kept : ℕ → StoredGroup) where
     pub parts : groups_of outcomes ++ left ≡ groups
     pub way : (group : ℕ) → Way n left group
     pub done : All (λ (o : Outcome). IsDone rules stands n o.group (state_of (kept o.group)) Open o) outcomes
-
-  pub opens_first : (stands : SnapshotBytes → Snapshot → Type 0) (n : NodeValue) (groups : List ℕ) → IsBegun n kept → AreThere kept groups → IsOpening stands n groups groups []
-  opens_first stands n groups begun there =
-      record { well = begun.keeps.well; rising = there.rising; parts = refl; way = begins n groups begun there; done = All-nil (λ (o : Outcome). IsDone rules stands n o.group (state_of (kept o.group)) Open o) }
 
   pub opens_next : (stands : SnapshotBytes → Snapshot → Type 0) (old new : NodeValue) (g : ℕ) (groups rest : List ℕ) (outcomes : List Outcome) (o : Outcome) → new.groups.own ≡ old.groups.own → ((other : ℕ) → (other ≡ g → ⊥) → new.groups.members other ≡ old.groups.members other)
       → ((other : ℕ) → (other ≡ g → ⊥) → new.running other ≡ old.running other) → KeepsOthers old.groups.shows new.groups.shows g → IsDone rules stands new g (state_of (kept g)) Open o

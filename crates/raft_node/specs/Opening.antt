@@ -17,7 +17,7 @@ use Rattle.raft_node_faults.specs.declared.fault.Fault.TheVariants as fault
 use Rattle.raft_node.specs.Ending.{IsDone, IsLeft, IsShownLeft}
 use Rattle.raft_node.specs.Running.{Running}
 use Rattle.raft_node.specs.Standing.{IsAt, NodeValue}
-use Rattle.raft_node.specs.Waiting.{AreNamed, named_of}
+use Rattle.raft_node.specs.Waiting.{AreNamed}
 use Rattle.raft_node.specs.declared.outcome.Outcome.{Outcome}
 
 -- ---- what is opened

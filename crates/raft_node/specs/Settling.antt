@@ -1,5 +1,5 @@
 -- What a group's answer becomes at its node, and what is asked of the node for that.
-use Rattle.std.specs.Prelude.{◌≡◌, ◌++◌, ℕ, true, List, Option, Some, None, Result, Ok, Err}
+use Rattle.std.specs.Prelude.{◌≡◌, ℕ, true, List, Option, Result, Ok, Err}
 use Rattle.raft_group_step.specs.GroupEvent.{GroupEvent}
 use Rattle.raft_group_step.specs.GroupState.{GroupState, Untold}
 use Rattle.raft_group_step.specs.GroupStep.{group_step}

@@ -185,10 +185,12 @@ impl<M: StateMachine, S: GroupStorage<Snapshot = SnapshotBytes>> Node<M, S> {
             → FeedsTo (value_of M.state S.is_well S.shows) M.rules S.stands peer now result.outcomes.items result.fault self.old self.new piece.now result.used }
         ensures whole { (frame : Spoken) → self.old.groups.has_failed ≡ false → (feeding_of (get nat_cmp self.old.feeders peer)).failed ≡ false → FitsFrame frame
             → 0 < length piece.now → so_far (value_of M.state S.is_well S.shows self.old) peer piece.now ≡ spelled_frame frame
-            → FeedsWhole M.rules S.stands (value_of M.state S.is_well S.shows self.old) (value_of M.state S.is_well S.shows self.new) peer now frame piece.now result.outcomes.items result.fault result.used }
+            → FeedsWhole M.rules S.stands (value_of M.state S.is_well S.shows self.old) (value_of M.state S.is_well S.shows self.new) peer now
+            frame piece.now result.outcomes.items result.fault result.used }
         ensures part { (frame : Spoken) (more : List ℕ) → self.old.groups.has_failed ≡ false → (feeding_of (get nat_cmp self.old.feeders peer)).failed ≡ false → FitsFrame frame
             → 0 < length more → so_far (value_of M.state S.is_well S.shows self.old) peer piece.now ++ more ≡ spelled_frame frame
-            → FeedsPart M.rules S.stands (value_of M.state S.is_well S.shows self.old) (value_of M.state S.is_well S.shows self.new) peer now piece.now result.outcomes.items result.fault result.used }
+            → FeedsPart M.rules S.stands (value_of M.state S.is_well S.shows self.old) (value_of M.state S.is_well S.shows self.new) peer now
+            piece.now result.outcomes.items result.fault result.used }
     {
         if self.groups.has_failed {
             return Fed {

@@ -1,5 +1,4 @@
 -- What came of a piece of one frame is what came of a whole piece.
-use Rattle.std.proofs.Common.{◌≡◌, ◌++◌}
 use Rattle.raft_node.specs.Feeding.{so_far}
 use Rattle.raft_node.specs.Standing.{value_of}
 use Rattle.raft_node.proofs.Feeds.{feeds_part, feeds_whole, part_waits}

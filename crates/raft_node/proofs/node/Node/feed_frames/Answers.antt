@@ -1,5 +1,5 @@
 -- One frame more came to its group, or none of what is left does.
-use Rattle.std.proofs.Common.{◌≡◌, ◌+◌, ◌<◌, ◌≤◌, ◌++◌, [], ◌∷◌, inr, drop, length, Option, Some, None, Result, Ok, Err, refl, sym, ap, subst, ◌∙◌, arith, length-drop}
+use Rattle.std.proofs.Common.{◌≡◌, ◌+◌, ◌<◌, ◌≤◌, ◌++◌, [], ◌∷◌, inr, drop, length, Some, None, Ok, Err, sym, ap, subst, ◌∙◌, arith, length-drop}
 use Rattle.std.proofs.lemmas.List.{take_rest}
 use Rattle.raft_node.specs.Feeding.{FeedsTo, TakesNext}
 use Rattle.raft_node.specs.Standing.{value_of}

@@ -1,5 +1,5 @@
 -- A node without groups opens those that its storage has.
-use Rattle.std.proofs.Common.{◌≡◌, [], ◌∷◌, sym, ap, subst}
+use Rattle.std.proofs.Common.{[], ◌∷◌, sym, ap, subst}
 use Rattle.raft_node.specs.Opening.{HasNotOpened, IsBegun, IsReopened}
 use Rattle.raft_node.specs.Standing.{running_in, value_of}
 use Rattle.raft_node.proofs.node.Node.open.Goals as goal

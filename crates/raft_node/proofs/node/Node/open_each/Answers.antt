@@ -1,5 +1,5 @@
 -- One group more is opened, or its opening stops the node.
-use Rattle.std.proofs.Common.{◌≡◌, ℕ, ◌+◌, ◌++◌, [], ◌∷◌, cond, drop, get_or, refl, sym, ap, subst, ◌∙◌}
+use Rattle.std.proofs.Common.{◌≡◌, ◌+◌, ◌++◌, [], ◌∷◌, cond, drop, get_or, refl, sym, ap, subst, ◌∙◌}
 use Rattle.std.proofs.lemmas.List.{drop_all, drop_more}
 use Rattle.raft_node.specs.Opening.{HasNotOpened, IsReopened}
 use Rattle.raft_node.specs.Standing.{running_in, value_of}
@@ -47,19 +47,19 @@ loop-group-preserved g c = (
   c.in-Ok.ensures.going ∙ c.loop-group.invariant.1,
   c.in-Ok.ensures.feeders ∙ c.loop-group.invariant.2,
   λ kept of begun there.
-    let i = c.loop-group.group-index in
-    let gid = get_or c.args.groups.now i 0 in
-    let rest = drop (i + 1) c.args.groups.now in
-    let was = c.loop-group.invariant.3 kept of begun there in
-    let here = subst (λ l. IsOpening g.M.StateMachine.rules kept g.S.GroupStorage.stands (value_of g.M.StateMachine.state g.S.GroupStorage.is_well g.S.GroupStorage.shows c.loop-group.self) c.args.groups.now l c.loop-group.outcomes.items) (drop_more c.args.groups.now i 0 c.loop-group-test.true) was in
-    let next = next_comes g.M.StateMachine.rules kept (value_of g.M.StateMachine.state g.S.GroupStorage.is_well g.S.GroupStorage.shows c.loop-group.self) gid rest (here.way gid) in
-    let reached = subst (λ k. IsReopened k (kept gid)) (sym c.loop-group.invariant.0) (begun.keeps.reached gid next.0) in
-    let done = c.in-Ok.ensures.opened (kept gid) of (c.loop-group.invariant.1 ∙ begun.going) here.well next.1 next.0 reached in
-    let pushed : c.push.new.self.items ≡ c.loop-group.outcomes.items ++ c.in-Ok.outcome ∷ [] =
-    c.push.ensures.items ∙ ap (λ b. cond b (c.loop-group.outcomes.items ++ c.in-Ok.outcome ∷ []) c.loop-group.outcomes.items) c.if-is_err.ensures.negation in
-    subst (λ l. IsOpening g.M.StateMachine.rules kept g.S.GroupStorage.stands (value_of g.M.StateMachine.state g.S.GroupStorage.is_well g.S.GroupStorage.shows c.open_group.new.self) c.args.groups.now rest l) (sym pushed)
-    (opens_next g.M.StateMachine.rules kept g.S.GroupStorage.stands (value_of g.M.StateMachine.state g.S.GroupStorage.is_well g.S.GroupStorage.shows c.loop-group.self) (value_of g.M.StateMachine.state g.S.GroupStorage.is_well g.S.GroupStorage.shows c.open_group.new.self) gid c.args.groups.now rest c.loop-group.outcomes.items c.in-Ok.outcome c.open_group.ensures.id c.open_group.ensures.members
-    (λ other apart. c.in-Ok.ensures.running other apart) c.open_group.ensures.kept done here),
+      let i = c.loop-group.group-index in
+      let gid = get_or c.args.groups.now i 0 in
+      let rest = drop (i + 1) c.args.groups.now in
+      let was = c.loop-group.invariant.3 kept of begun there in
+      let here = subst (λ l. IsOpening g.M.StateMachine.rules kept g.S.GroupStorage.stands (value_of g.M.StateMachine.state g.S.GroupStorage.is_well g.S.GroupStorage.shows c.loop-group.self) c.args.groups.now l c.loop-group.outcomes.items) (drop_more c.args.groups.now i 0 c.loop-group-test.true) was in
+      let next = next_comes g.M.StateMachine.rules kept (value_of g.M.StateMachine.state g.S.GroupStorage.is_well g.S.GroupStorage.shows c.loop-group.self) gid rest (here.way gid) in
+      let reached = subst (λ k. IsReopened k (kept gid)) (sym c.loop-group.invariant.0) (begun.keeps.reached gid next.0) in
+      let done = c.in-Ok.ensures.opened (kept gid) of (c.loop-group.invariant.1 ∙ begun.going) here.well next.1 next.0 reached in
+      let pushed : c.push.new.self.items ≡ c.loop-group.outcomes.items ++ c.in-Ok.outcome ∷ [] =
+      c.push.ensures.items ∙ ap (λ b. cond b (c.loop-group.outcomes.items ++ c.in-Ok.outcome ∷ []) c.loop-group.outcomes.items) c.if-is_err.ensures.negation in
+      subst (λ l. IsOpening g.M.StateMachine.rules kept g.S.GroupStorage.stands (value_of g.M.StateMachine.state g.S.GroupStorage.is_well g.S.GroupStorage.shows c.open_group.new.self) c.args.groups.now rest l) (sym pushed)
+      (opens_next g.M.StateMachine.rules kept g.S.GroupStorage.stands (value_of g.M.StateMachine.state g.S.GroupStorage.is_well g.S.GroupStorage.shows c.loop-group.self) (value_of g.M.StateMachine.state g.S.GroupStorage.is_well g.S.GroupStorage.shows c.open_group.new.self) gid c.args.groups.now rest c.loop-group.outcomes.items c.in-Ok.outcome c.open_group.ensures.id c.open_group.ensures.members
+      (λ other apart. c.in-Ok.ensures.running other apart) c.open_group.ensures.kept done here),
 )
 
 pub returns-clause-opened : goal.returns-clause-opened

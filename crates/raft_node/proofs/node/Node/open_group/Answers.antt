@@ -1,5 +1,5 @@
 -- The group's member is opened, its machine is seated, and what it says is framed.
-use Rattle.std.proofs.Common.{◌≡◌, ℕ, [], ◌∷◌, OnOk, refl, sym, ap, subst, ◌∙◌}
+use Rattle.std.proofs.Common.{◌≡◌, [], ◌∷◌, sym, ap, subst, ◌∙◌}
 use Rattle.std.specs.Ordering.{nat_cmp}
 use Rattle.std.specs.BTreeMap.{get}
 use Rattle.raft_group_step.specs.GroupEvent.{Open}

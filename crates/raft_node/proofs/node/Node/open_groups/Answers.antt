@@ -1,5 +1,5 @@
 -- The node has room for its groups, and opens those that are there.
-use Rattle.std.proofs.Common.{◌≡◌, ℕ, true, [], ◌∷◌, Result, Ok, Err, IfErr, OnErr, OnOk, refl, sym, ap, subst, ◌∙◌}
+use Rattle.std.proofs.Common.{◌≡◌, ℕ, [], ◌∷◌, Result, Ok, Err, IfErr, OnErr, OnOk, refl, sym, ap, subst, ◌∙◌}
 use Rattle.std.specs.BTreeMap.{get}
 use Rattle.std.specs.List.Sorted.{IsStrictlySortedBy}
 use Rattle.std.specs.Ordering.{eq_by_cmp, nat_cmp}
@@ -17,10 +17,10 @@ either (Err x) ok err = err
 
 pub returns-then-is_err-clause-stopped : goal.returns-then-is_err-clause-stopped
 returns-then-is_err-clause-stopped g c = λ kept of begun.
-    let same = c.stop.ensures.groups ∙ ap (λ x. record x { has_failed = true }) c.make_machines.ensures.groups in
-    subst (λ k. HasNotOpened {F = g.row.S-Fault.Denot} k kept (g.S.GroupStorage.shows c.stop.new.self.groups.storage) c.stop.result) (ap (λ x. x.id) same)
+    let stopped = c.stop.ensures.groups in
+    subst (λ k. HasNotOpened {F = g.row.S-Fault.Denot} k kept (g.S.GroupStorage.shows c.stop.new.self.groups.storage) c.stop.result) (ap (λ x. x.id) stopped ∙ ap (λ x. x.id) c.make_machines.ensures.groups)
     (stopped_first (value_of g.M.StateMachine.state g.S.GroupStorage.is_well g.S.GroupStorage.shows c.stop.new.self) kept (running_in g.M.StateMachine.state c.make_machines.new.self.machines) c.stop.result (g.met.S.GroupStorage.shows_more c.stop.new.self.groups.storage) (λ group. either c.make_machines.result (c.make_machines.ensures.none group) (on_err_map c.make_machines.result (λ same. ap (λ m. running_in g.M.StateMachine.state m group) same ∙ begun.idle group) c.make_machines.ensures.err)) (stops_for (running_in g.M.StateMachine.state c.make_machines.new.self.machines) (λ group. waiting_of (running_in g.M.StateMachine.state c.make_machines.new.self.machines group)) _ c.stop.result (λ group. refl) c.stop.ensures.stops)
-    (λ group. subst (λ x. g.S.GroupStorage.shows x.storage group (kept group ∷ [])) (sym same) (begun.keeps.shown group)))
+    (λ group. subst (λ x. g.S.GroupStorage.shows x.storage group (kept group ∷ [])) (sym stopped) (subst (λ x. g.S.GroupStorage.shows x.storage group (kept group ∷ [])) (sym c.make_machines.ensures.groups) (begun.keeps.shown group))))
 
 pub returns-in-Ok-clause-opened : goal.returns-in-Ok-clause-opened
 returns-in-Ok-clause-opened g c = λ kept of begun.
