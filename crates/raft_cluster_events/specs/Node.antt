@@ -10,6 +10,8 @@ use Rattle.raft_cluster_events.specs.declared.outcome.Stop.{Stop}
 pub record NodeActs (N : Type 0) : Type 1 where
   pub id : N → ℕ
   pub is_up : N → Bool
+  -- it has this id, and nothing else yet
+  pub begins : ℕ → N → Type 0
   -- it gets the group
   pub adds : N → ℕ → Result NodeOutcome NodeError → N → Type 0
   -- it is asked for something of the group at a moment

@@ -1,6 +1,7 @@
 //! What a cluster needs of a node.
 ghost use Rattle.std.specs.Prelude.{◌≡◌, ℕ, true, false, IfOk, OnOk, OnErr};
 ghost use Rattle.raft_cluster_events.specs.Node.{NodeActs};
+ghost use Rattle.raft_cluster_events.specs.States.{NodeStates};
 
 use crate::event::{CrashChoice, GroupCommand};
 use crate::outcome::{NodeError, Stop};
@@ -32,11 +33,15 @@ pub trait ClusterNode: Drop {
     /// What each call makes of it, and is answered.
     ghost acts: { NodeActs Self };
 
+    /// What it may be in each group, and what its frames say.
+    ghost states: { NodeStates Self };
+
     /// A node of this id that has nothing: it is up, unless its files can't be opened.
     fn begin(alloc: Global, id: u64, settings: &Self::Settings) -> Result<Self, AllocError>
     where
         Self: Sized,
-        ensures { IfOk result (λ node. acts.id node ≡ id) };
+        ensures begins { IfOk result (λ node. acts.begins id node) }
+        ensures id { IfOk result (λ node. acts.id node ≡ id) };
 
     /// Its id.
     fn id(&self) -> u64

@@ -64,12 +64,26 @@ pub enum StopCause {
     Other,
 }
 
+/// The tokens of an event that a node had done when memory was refused behind it (own). Nobody is told:
+/// all of them stay unknown.
+#[derive(Debug, Drop)]
+pub struct Unsaid {
+    /// The group.
+    pub group: u64,
+    /// The tokens that were to be told, by rising place.
+    pub told: Sequence<Told>,
+    /// The tokens that were to be unknown; they waited behind those.
+    pub unknown: Sequence<u64>,
+}
+
 /// 16: a node stopped in an event (own).
 #[derive(Debug, Drop)]
 pub struct Stop {
     /// Why.
     pub cause: StopCause,
-    /// All tokens that waited at the node, by rising group and place.
+    /// The tokens of the event itself, where it was done.
+    pub unsaid: Option<Unsaid>,
+    /// All tokens that still waited at the node, by rising group and place.
     pub unknown: Sequence<Unknown>,
 }
 

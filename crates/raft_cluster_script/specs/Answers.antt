@@ -1,5 +1,5 @@
 -- The text of what came of an event.
-use Rattle.std.specs.Prelude.{ℕ, ◌==◌, List, [], length, map, Option, Some, None, if◌then◌else◌}
+use Rattle.std.specs.Prelude.{ℕ, ◌==◌, nat_lt, not, List, [], ◌++◌, filter, length, map, Option, Some, None, if◌then◌else◌}
 use Rattle.std.specs.List.{flat_map}
 use Rattle.raft_machines.specs.declared.telling.Told.{Told}
 use Rattle.raft_machines.specs.Adding.{total_of}
@@ -11,7 +11,9 @@ use Rattle.raft_cluster_events.specs.declared.outcome.EventOutcome.TheVariants a
 use Rattle.raft_cluster_events.specs.declared.outcome.GroupOutcome.{GroupOutcome}
 use Rattle.raft_cluster_events.specs.declared.outcome.NodeRefusal.{NodeRefusal}
 use Rattle.raft_cluster_events.specs.declared.outcome.NodeRefusal.TheVariants as node
+use Rattle.raft_cluster_events.specs.declared.outcome.Stop.{Stop}
 use Rattle.raft_cluster_events.specs.declared.outcome.Unknown.{Unknown}
+use Rattle.raft_cluster_events.specs.declared.outcome.Unsaid.{Unsaid}
 use Rattle.raft_script_answers.specs.declared.refusal.Refusal.{Refusal}
 use Rattle.raft_script_answers.specs.declared.refusal.Refusal.TheVariants as shown
 use Rattle.raft_script_answers.specs.declared.told_total.SentNumber.{SentNumber as ShownNumber}
@@ -39,6 +41,24 @@ unknown_of parts = flat_map (λ (part : GroupOutcome). part.unknown) parts
 
 abbrev pub tokens_of : List Unknown → List ℕ
 tokens_of unknown = map (λ (one : Unknown). one.token) unknown
+
+-- the tokens of the groups below this one, and those of the others
+abbrev pub tokens_below : ℕ → List Unknown → List ℕ
+tokens_below group unknown = tokens_of (filter (λ (one : Unknown). nat_lt one.group group) unknown)
+
+abbrev pub tokens_from : ℕ → List Unknown → List ℕ
+tokens_from group unknown = tokens_of (filter (λ (one : Unknown). not (nat_lt one.group group)) unknown)
+
+abbrev pub own_tokens : Unsaid → List ℕ
+own_tokens unsaid = map (λ (told : Told). told.token) unsaid.told ++ unsaid.unknown
+
+-- by rising group and place: the tokens of an event that was done waited before the others of its group
+abbrev pub tokens_around : Option Unsaid → List Unknown → List ℕ
+tokens_around None unknown = tokens_of unknown
+tokens_around (Some unsaid) unknown = tokens_below unsaid.group unknown ++ own_tokens unsaid ++ tokens_from unsaid.group unknown
+
+abbrev pub tokens_of_stop : Stop → List ℕ
+tokens_of_stop stop = tokens_around stop.unsaid stop.unknown
 
 abbrev pub refusal_of_node : NodeRefusal → Refusal
 refusal_of_node (node.NotLeader leader) = shown.NotLeader leader
@@ -69,5 +89,5 @@ refusal_of_cluster cluster.BadCut = shown.BadCut
 abbrev pub outcome_text : EventOutcome → List ℕ
 outcome_text (outcomes.Done parts) = done_text (numbers_of parts) (totals_of parts) (unknown_of parts) []
 outcome_text (outcomes.Refused why) = refused_text (refusal_of_node why) []
-outcome_text (outcomes.Stopped stop) = refused_text shown.Stopped (tokens_of stop.unknown)
+outcome_text (outcomes.Stopped stop) = refused_text shown.Stopped (tokens_of_stop stop)
 outcome_text (outcomes.TurnedAway why) = refused_text (refusal_of_cluster why) []

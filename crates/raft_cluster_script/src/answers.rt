@@ -1,13 +1,12 @@
 //! The text of what came of an event.
 ghost use Rattle.std.specs.Prelude.{◌≡◌, ◌++◌, [], IfOk, OnOk, map, string_bytes};
-ghost use Rattle.raft_cluster_script.specs.Answers.{numbers_of, outcome_text, refusal_of_cluster, refusal_of_node, shown_number, told_total, tokens_of, totals_of, unknown_of, value_of};
+ghost use Rattle.raft_cluster_script.specs.Answers.{numbers_of, outcome_text, refusal_of_cluster, refusal_of_node, shown_number, told_total, tokens_of_stop, totals_of, unknown_of, value_of};
 ghost use Rattle.raft_cluster_script.specs.Script.{IsTotalText};
 ghost use Rattle.raft_script_answers.specs.Answer.{done_text, refused_text};
 
+use crate::stops::tokens_of_stop;
 use raft_cluster_conditions::ClusterRefusal;
-use raft_cluster_events::{
-    ClusterNode, EventOutcome, GroupOutcome, NodeRefusal, SentNumber, Stop, Unknown,
-};
+use raft_cluster_events::{ClusterNode, EventOutcome, GroupOutcome, NodeRefusal, SentNumber, Stop};
 use raft_machines::{AddingMachine, Told};
 use raft_script_answers::{
     AppliedTotal, Refusal, SentNumber as ShownNumber, ToldTotal, done_text, refused_text,
@@ -91,17 +90,6 @@ fn unknown_of(alloc: Global, parts: &[GroupOutcome]) -> Result<Vec<u64>, AllocEr
     Ok(all)
 }
 
-// The tokens of a stop.
-fn tokens_of(alloc: Global, unknown: &[Unknown]) -> Result<Vec<u64>, AllocError>
-    ensures { IfOk result (λ all. all.items ≡ tokens_of unknown.now) }
-{
-    let mut all = Vec::new(alloc);
-    for one in unknown {
-        all.push(one.token)?;
-    }
-    Ok(all)
-}
-
 // A node's refusal as scripts name it.
 fn refusal_of_node(why: NodeRefusal) -> Refusal
     ensures { result ≡ refusal_of_node why }
@@ -156,9 +144,9 @@ fn parts_text(alloc: Global, parts: &[GroupOutcome]) -> Result<String, AllocErro
 }
 
 fn stop_text(alloc: Global, stop: &Stop) -> Result<String, AllocError>
-    ensures { IfOk result (λ text. string_bytes text ≡ refused_text Refusal.Stopped (tokens_of stop.now.unknown)) }
+    ensures { IfOk result (λ text. string_bytes text ≡ refused_text Refusal.Stopped (tokens_of_stop stop.now)) }
 {
-    let tokens = tokens_of(alloc, stop.unknown.as_slice())?;
+    let tokens = tokens_of_stop(alloc, stop)?;
     refused_text(alloc, Refusal::Stopped, tokens.as_slice())
 }
 

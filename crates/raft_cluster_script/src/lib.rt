@@ -5,6 +5,7 @@ mod answers;
 mod calls;
 mod run;
 mod script;
+mod stops;
 
 pub use raft_script_session::ScriptEnd;
 pub use run::run_script;

@@ -21,12 +21,13 @@ use Rattle.raft_group_step.specs.MembershipStep.{append_changed, membership_step
 use Rattle.raft_group_step.specs.Lead.{ids_of}
 use Rattle.raft_group_step.specs.Frames.{committed_id}
 use Rattle.raft_group_step.proofs.LastMembership.{last_membership-append}
-use Rattle.raft_known_state.specs.KnownState.{ArePlaced, IsPlaced, KeepsRest, Knows, entry_ids, purged_ids}
+use Rattle.raft_known_state.specs.KnownState.{ArePlaced, IsPlaced, KeepsRest, Knows, entry_ids, purged_ids, stored_ids}
 use Rattle.raft_known_state.proofs.KnownStateLemmas.{behind, end-known, last-known, log_whole}
 use Rattle.raft_known_state.proofs.PlacedIds.{by_order, last_of}
 use Rattle.raft_commands.specs.declared.command.Command.TheVariants.{AppendInputEntries}
 use Rattle.raft_leaders.specs.Candidate.{CandidateValue}
 use Rattle.raft_leaders.specs.Leader.{LeaderValue, id_of_leader, peer_at}
+use Rattle.raft_leaders.specs.Accepted.{WroteNoneBelow}
 use Rattle.raft_commands.specs.Output.{Output}
 use Rattle.raft_engine.specs.Commands.{put_all, storing_of, sending_of}
 use Rattle.raft_engine.specs.Standing.{EffectiveMembership, Engine, Given, IsInOrder, IsStepOf, Leads, PlaysRole, peer_state}
@@ -35,6 +36,7 @@ use Rattle.raft_engine.proofs.CommandLemmas.{at_once_more, numbers_kept, sends_s
 use Rattle.raft_engine.proofs.CommittingLemmas.{moves_kept}
 use Rattle.raft_engine.proofs.StandingLemmas.{order_kept}
 use Rattle.raft_engine.proofs.PlacedEntries.{get_of_joined}
+use Rattle.raft_engine.proofs.WrittenLemmas.{wrote_more}
 use Rattle.raft_engine.specs.Standing.{basis_before}
 use Rattle.raft_engine.proofs.OrderingLemmas.{rests_stored}
 use Rattle.raft_engine.proofs.TurnLemmas.{turns_kept}
@@ -150,9 +152,9 @@ module _ {C R : Type 0} (x : Given) (own : ℕ) (e : Engine C R) (r : StepResult
     placed_put = (refl, tt)
 
   module _ (payload : EntryPayload) (l' : LeaderValue ℕ EffectiveMembership) (id : LogId ℕ) (id_next : id ≡ next_id payload) where
-    leads_more : l'.vote ≡ l.vote → l'.last_log_id ≡ Some id → l'.began ≡ l.began → ((n : ℕ) → peer_at nat_eq l' n ≡ peer_at nat_eq l n)
+    leads_more : l'.vote ≡ l.vote → l'.noop_log_id ≡ l.noop_log_id → l'.last_log_id ≡ Some id → l'.began ≡ l.began → ((n : ℕ) → peer_at nat_eq l' n ≡ peer_at nat_eq l n)
         → ((before : Option LoggedMembership) → KnowsMembers l before → KnowsMembers l' (membership_after before id payload)) → Leads own l' (with_more r.state.stored (put payload)) lead
-    leads_more voted last began peers members =
+    leads_more voted noop last began peers members =
         let s = r.state.stored in
         let placed : IsPlaced (with_more s (put payload)) = behind s.log (put payload) (first_place s) step.state.order.placed (placed_put payload) in
         record {
@@ -161,6 +163,14 @@ module _ {C R : Type 0} (x : Given) (own : ℕ) (e : Engine C R) (r : StepResult
           committed = leads_now.committed;
           last = last ∙ ap Some id_next ∙ sym (last_grown s (entry_of (next_id payload) payload) placed);
           began = began ∙ leads_now.began;
+          first =
+              let before = leads_now.first in
+              let same = ap (λ (y : LogId ℕ). y.index) noop in
+              let longer = length-append s.log (put payload) in omega (arith, same, before, longer);
+          wrote =
+              subst (λ (v : Vote ℕ). WroteNoneBelow v.leader_id l'.noop_log_id.index (stored_ids (with_more s (put payload)))) (sym voted)
+              (subst (λ (y : LogId ℕ). WroteNoneBelow l.vote.leader_id y.index (stored_ids (with_more s (put payload)))) (sym noop)
+              (wrote_more l.vote.leader_id l.noop_log_id.index s (entry_of (next_id payload) payload) leads_now.first leads_now.wrote));
           peers = λ n. leads_now.peers n ∙ ap (peer_state n) (sym (peers n));
           rising = leads_now.rising;
           members = subst (KnowsMembers l')
@@ -171,10 +181,10 @@ module _ {C R : Type 0} (x : Given) (own : ℕ) (e : Engine C R) (r : StepResult
   module _ (e' : Engine C R) (payload : EntryPayload) (l' : LeaderValue ℕ EffectiveMembership) (vote : Vote ℕ) (entries : List Entry) (id : LogId ℕ) where
     pub appended : e'.config ≡ e.config → e'.seen_greater_log ≡ e.seen_greater_log → e'.leader ≡ Some l' → e'.candidate ≡ e.candidate → id ≡ id_of_leader l.vote.leader_id (next_place l.last_log_id) → entries ≡ entry_of id payload ∷ [] → vote ≡ l.vote
         → ((s : StoredGroup) → Knows e.state s → IsPlaced s → ArePlaced (end_place s) entries → Knows e'.state (after_storing (PutEntries (end_place s) entries) s))
-        → KeepsRest e.state e'.state → l'.vote ≡ l.vote → l'.last_log_id ≡ Some id → l'.began ≡ l.began → ((n : ℕ) → peer_at nat_eq l' n ≡ peer_at nat_eq l n)
+        → KeepsRest e.state e'.state → l'.vote ≡ l.vote → l'.noop_log_id ≡ l.noop_log_id → l'.last_log_id ≡ Some id → l'.began ≡ l.began → ((n : ℕ) → peer_at nat_eq l' n ≡ peer_at nat_eq l n)
         → ((before : Option LoggedMembership) → KnowsMembers l before → KnowsMembers l' (membership_after before id payload))
         → e'.output ≡ record e.output { queue = e.output.queue ++ AppendInputEntries vote entries ∷ [] } → IsStepOf x own e' (append payload r)
-    appended config seen leader candidate id_is entries_are under known rest voted last began peers members output =
+    appended config seen leader candidate id_is entries_are under known rest voted noop last began peers members output =
         let old = step.state in
         let queue = ap (λ (o : Output C (List ℕ) R ℕ (List ℕ)). o.queue) output in
         let s = r.state.stored in
@@ -193,7 +203,7 @@ module _ {C R : Type 0} (x : Given) (own : ℕ) (e : Engine C R) (r : StepResult
                 (subst (λ c. PlaysRole own (Some l') c (grown_by s (put payload)) r.state.role) (sym candidate)
                 (subst (λ role. PlaysRole own (Some l') e.candidate (grown_by s (put payload)) role) (sym leads)
                 (leads_on own l l' e.candidate s (grown_by s (put payload)) lead plays
-                (subst (λ y. Leads own l' y lead) (sym (grown_is s (put payload))) (leads_more payload l' id id_next voted last began peers members)))));
+                (subst (λ y. Leads own l' y lead) (sym (grown_is s (put payload))) (leads_more payload l' id id_next voted noop last began peers members)))));
             order = order_more r.state (put payload) (placed_put payload) old.order;
           };
           stores = ap (λ q. flat_map (storing_of x.snapshot) q) queue ∙ stores_more e.output.queue (AppendInputEntries vote entries) x.snapshot r.commands (PutEntries (end_place s) (put payload) ∷ []) step.stores (ap put_all puts);

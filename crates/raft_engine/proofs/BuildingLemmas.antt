@@ -1,12 +1,12 @@
 -- The snapshot of what is applied is stored: the rest stays in order, and the node plays on.
-use Rattle.std.specs.Prelude.{◌≡◌, ℕ, ◌+◌, ◌-◌, ◌≤◌, ◌^◌, ◌==◌, nat_lt, max, true, false, if◌then◌else◌, [], ◌∷◌, drop, filter, length, Option, Some, None, option_and_then, refl}
+use Rattle.std.specs.Prelude.{◌≡◌, ℕ, ◌+◌, ◌≤◌, nat_lt, max, true, false, [], ◌∷◌, Option, Some, None, refl}
 use Rattle.std.proofs.Common.{sym, ap, ◌∙◌, subst, arith, lt-ltb}
 use Rattle.std.proofs.lemmas.Bool.Decides.{nat_tests}
 use Rattle.raft_values.specs.declared.vote.Vote.{Vote}
 use Rattle.raft_values.specs.declared.utime.UTime.{UTime}
 use Rattle.raft_values.specs.declared.log_id.LogId.{LogId}
 use Rattle.raft_values.specs.LogId.{next_place, place_of, stands_before}
-use Rattle.raft_group_step.specs.StoredGroup.{Snapshot, SetSnapshot, after_storing, first_place, membership_in_force, snapshot_last}
+use Rattle.raft_group_step.specs.StoredGroup.{Snapshot, SetSnapshot, after_storing, membership_in_force, snapshot_last}
 use Rattle.raft_group_step.specs.GroupState.{GroupState, Role, Follower, Candidate, Leader}
 use Rattle.raft_group_step.specs.GroupEvent.{Call}
 use Rattle.raft_group_step.specs.declared.group_call.GroupCall.TheVariants.{TriggerSnapshot}
@@ -15,7 +15,6 @@ use Rattle.raft_group_step.specs.Frames.{committed_id}
 use Rattle.raft_group_step.specs.Refusal.{range_reason, refusal_of, unknown_group}
 use Rattle.raft_group_step.specs.GroupStep.{begun, finished, group_step}
 use Rattle.raft_group_step.specs.SnapshotTrigger.{snapshot_of_applied, snapshot_trigger_step, store_snapshot_at}
-use Rattle.raft_group_step.proofs.LastMembership.{last_overlap}
 use Rattle.raft_known_state.specs.KnownState.{KeepsRest, Knows}
 use Rattle.raft_engine.specs.Numbering.{NumbersFollow}
 use Rattle.raft_engine.specs.Committing.{Moves, moves_in}
@@ -85,7 +84,7 @@ nothing_to_build own at e s h none = by_place s.applied refl
 
 module _ (s : GroupState) (x : Snapshot) (built : IsSnapshotOfApplied s x) where
   keeps_standing : KeepsStanding s.stored (after_storing (SetSnapshot x) s.stored)
-  keeps_standing = record { vote = refl; last = refl }
+  keeps_standing = record { vote = refl; last = refl; ends = refl; wrote = λ leader place h. h }
 
   pub order_with : (now : ℕ) → IsInOrder s → IsInOrder (record s { stored = after_storing (SetSnapshot x) s.stored; now = now })
   order_with now o =

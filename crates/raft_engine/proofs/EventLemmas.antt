@@ -7,7 +7,7 @@ use Rattle.raft_group_step.specs.Message.{MessageBody}
 use Rattle.raft_group_step.specs.GroupState.{GroupState, Follower, is_leader}
 use Rattle.raft_group_step.specs.GroupEvent.{GroupEvent}
 use Rattle.raft_group_step.specs.StepResult.{StepResult, RefusalReason, unchanged}
-use Rattle.raft_group_step.specs.Refusal.{first_of_reasons, refusal_of, unless}
+use Rattle.raft_group_step.specs.Refusal.{first_of_reasons, refusal_of}
 use Rattle.raft_group_step.specs.GroupStep.{begun, event_step, finished, step_unless}
 use Rattle.raft_engine.specs.Numbering.{Follow, numbers_in}
 use Rattle.raft_engine.specs.Committing.{Moves, moves_in}

@@ -1,21 +1,20 @@
 -- What a leader does at the end of an event keeps the room that it has for it.
-use Rattle.std.specs.Prelude.{◌≡◌, ℕ, ◌<◌, ◌^◌, ◌==◌, true, false, if◌then◌else◌, List, filter, length, Option, Some, None, refl}
+use Rattle.std.specs.Prelude.{◌≡◌, ℕ, ◌<◌, ◌^◌, true, false, if◌then◌else◌, Option, Some, None, refl}
 use Rattle.std.proofs.Common.{ap, sym, ◌∙◌, subst, arith}
-use Rattle.raft_values.specs.declared.log_id.LogId.{LogId}
 use Rattle.raft_values.specs.LogId.{next_place}
 use Rattle.raft_known_state.specs.KnownState.{IsPlaced}
 use Rattle.raft_leaders.specs.Candidate.{CandidateValue}
-use Rattle.raft_group_step.specs.StoredGroup.{StoredGroup, end_place, entry_at, id_of}
+use Rattle.raft_group_step.specs.StoredGroup.{StoredGroup, end_place}
 use Rattle.raft_group_step.specs.GroupState.{GroupState, Lead, Role, Follower, Candidate, Leader}
 use Rattle.raft_group_step.specs.StepResult.{StepResult}
 use Rattle.raft_group_step.specs.Peer.{is_kept_for_peers}
-use Rattle.raft_group_step.specs.Lead.{commit_as_leader, ids_of, other_ids, purge_as_wished, purge_up_to, remove_up_to, with_wish}
+use Rattle.raft_group_step.specs.Lead.{commit_as_leader, other_ids, purge_as_wished, purge_up_to, with_wish}
 use Rattle.raft_group_step.specs.Frames.{has_grown, with_frames}
 use Rattle.raft_group_step.specs.GroupStep.{finished}
 use Rattle.raft_engine.specs.Sending.{HasRoomFor, NumbersLeft}
 use Rattle.raft_engine.specs.Standing.{EffectiveMembership, PlaysRole}
 use Rattle.raft_engine.specs.Events.{HasLeadRoom}
-use Rattle.raft_engine.proofs.PurgeLemmas.{KeepsStanding, purge_keeps}
+use Rattle.raft_engine.proofs.PurgeLemmas.{KeepsStanding, all_stays, purge_keeps}
 use Rattle.raft_engine.proofs.ReplicationLemmas.{all_unserved, by_no_lead}
 use Rattle.raft_engine.proofs.SendingLemmas.{end-last}
 
@@ -40,12 +39,12 @@ commit_keeps_wish own (Leader lead) r = refl
 
 pub wished_keeps : (role : Role) (wish : Option ℕ) (r : StepResult) → IsPlaced r.state.stored
     → KeepsStanding r.state.stored (purge_as_wished role wish r).state.stored
-wished_keeps Follower wish r p = record { vote = refl; last = refl }
-wished_keeps (Candidate granters) wish r p = record { vote = refl; last = refl }
-wished_keeps (Leader lead) None r p = record { vote = refl; last = refl }
+wished_keeps Follower wish r p = all_stays r.state.stored
+wished_keeps (Candidate granters) wish r p = all_stays r.state.stored
+wished_keeps (Leader lead) None r p = all_stays r.state.stored
 wished_keeps (Leader lead) (Some place) r p =
     elim (is_kept_for_peers place lead.peers) as (λ b. KeepsStanding r.state.stored (if b then r else purge_up_to place (with_wish None r)).state.stored) [
-      | true ↦ record { vote = refl; last = refl }
+      | true ↦ all_stays r.state.stored
       | false ↦ purge_keeps place (with_wish None r) p
     ]
 

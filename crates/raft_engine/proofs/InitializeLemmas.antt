@@ -1,5 +1,5 @@
 -- A new group is set up.
-use Rattle.std.specs.Prelude.{◌≡◌, ℕ, zero, suc, ◌+◌, ◌-◌, ◌<◌, ◌≤◌, ◌^◌, ◌==◌, ◌&&◌, nat_lt, Bool, true, false, if◌then◌else◌, List, [], ◌∷◌, ◌++◌, length, take, Option, Some, None, is_none, option_and_then, refl}
+use Rattle.std.specs.Prelude.{◌≡◌, ℕ, zero, suc, ◌+◌, ◌-◌, ◌<◌, ◌≤◌, ◌^◌, ◌==◌, ◌&&◌, nat_lt, Bool, true, false, if◌then◌else◌, List, [], ◌∷◌, ◌++◌, length, take, Option, Some, None, is_none, refl}
 use Rattle.std.specs.Bool.{beq}
 use Rattle.std.specs.List.{slice_get}
 use Rattle.std.specs.Option.{is_some}
@@ -12,13 +12,12 @@ use Rattle.raft_values.specs.LogId.{log_id_of, next_place, place_of}
 use Rattle.raft_values.specs.Vote.{vote_of}
 use Rattle.raft_state.specs.declared.entry.EntryPayload.TheVariants.{Membership as Members}
 use Rattle.raft_quorums.specs.QuorumLaws.{and_left, and_right}
-use Rattle.raft_group_step.specs.Values.{Entry, Membership, entry_of, is_voter, last_membership, leader_eq, vote_eq}
-use Rattle.raft_group_step.specs.StoredGroup.{StoredGroup, Snapshot, StoringCommand, CutFrom, PutEntries, after_storing, end_place, entry_at, first_place, log_below, membership_in_force}
+use Rattle.raft_group_step.specs.Values.{Entry, Membership, entry_of, leader_eq, vote_eq}
+use Rattle.raft_group_step.specs.StoredGroup.{StoredGroup, StoringCommand, CutFrom, PutEntries, after_storing, end_place, entry_at, first_place, log_below}
 use Rattle.raft_group_step.specs.GroupState.{GroupState, Candidate}
 use Rattle.raft_group_step.specs.StepResult.{StepResult, in_role, step_down, store, store_vote, is_within, tokens_of}
 use Rattle.raft_group_step.specs.AppendRequest.{put_entries}
 use Rattle.raft_group_step.specs.Frames.{committed_id}
-use Rattle.raft_group_step.specs.Refusal.{is_voter_in}
 use Rattle.raft_group_step.specs.Lead.{with_grant}
 use Rattle.raft_group_step.specs.Elect.{ask, elect_step, other_voters}
 use Rattle.raft_group_step.specs.Initialize.{is_new}

@@ -1,22 +1,21 @@
 -- What a leader's events do leaves room for what it does at their end.
-use Rattle.std.specs.Prelude.{◌≡◌, ℕ, ◌^◌, ◌<◌, ◌≤◌, ◌==◌, ◌&&◌, max, min, nat_lt, nat_le, true, false, if◌then◌else◌, List, [], ◌∷◌, ◌++◌, length, Option, Some, None, is_some, refl}
+use Rattle.std.specs.Prelude.{◌≡◌, ℕ, ◌^◌, ◌<◌, ◌==◌, ◌&&◌, max, min, nat_lt, nat_le, true, false, if◌then◌else◌, List, [], ◌∷◌, ◌++◌, length, Option, Some, None, is_some, refl}
 use Rattle.std.proofs.Common.{ap, sym, ◌∙◌, subst, arith}
 use Rattle.std.proofs.lemmas.Bool.{eqb-true}
-use Rattle.raft_quorums.specs.QuorumLaws.{and_right}
 use Rattle.raft_values.specs.declared.log_id.LogId.{LogId}
 use Rattle.raft_values.specs.LogId.{next_place}
 use Rattle.raft_state.specs.declared.entry.EntryPayload.TheVariants.{Normal, Membership as Members}
-use Rattle.raft_group_step.specs.Values.{ChangeMembers, EntryPayload, LoggedMembership, Membership, after_change, is_valid, is_within_limits, configs_eq, membership_after, vote_eq, vote_lt}
+use Rattle.raft_group_step.specs.Values.{ChangeMembers, EntryPayload, LoggedMembership, Membership, after_change, vote_eq, vote_lt}
 use Rattle.raft_group_step.specs.StoredGroup.{end_place, entry_at, first_place, id_of, membership_in_force, snapshot_last}
 use Rattle.raft_group_step.specs.Message.{ReplyFields, ReplyResult, Success, PartialSuccess, Conflict, HigherVote}
 use Rattle.raft_group_step.specs.Peer.{PeerState, is_answer_to, new_peer, peer_or}
 use Rattle.raft_group_step.specs.GroupState.{GroupState, Lead, Role, Follower, Candidate, Leader, is_leader}
 use Rattle.raft_group_step.specs.declared.group_call.GroupCall.TheVariants.{ChangeMembership, Propose}
 use Rattle.raft_group_step.specs.GroupEvent.{Call}
-use Rattle.raft_group_step.specs.StepResult.{StepResult, RefusalReason, CommandTooLong, InProgress, MembershipRefused, VoterChange, later_place, step_down, store_vote}
-use Rattle.raft_group_step.specs.Lead.{ids_of, other_ids, peer_of, purge_up_to, with_wish}
+use Rattle.raft_group_step.specs.StepResult.{StepResult, RefusalReason, CommandTooLong, InProgress, later_place, step_down, store_vote}
+use Rattle.raft_group_step.specs.Lead.{other_ids, peer_of, purge_up_to, with_wish}
 use Rattle.raft_group_step.specs.Frames.{with_peer_state}
-use Rattle.raft_group_step.specs.Refusal.{are_in_range, change_reasons, command_limit, first_of_reasons, is_settled_membership, lead_reason, next_blank, numbers_of_id, numbers_of_reply, numbers_of_request, numbers_of_result, range_reason, reasons_of_change, refusal_of, unless}
+use Rattle.raft_group_step.specs.Refusal.{are_in_range, command_limit, first_of_reasons, is_settled_membership, lead_reason, next_blank, numbers_of_id, numbers_of_reply, numbers_of_request, numbers_of_result, range_reason, reasons_of_change, refusal_of, unless}
 use Rattle.raft_group_step.specs.GroupStep.{begun}
 use Rattle.raft_group_step.specs.Propose.{append_with_token, propose_step}
 use Rattle.raft_group_step.specs.MembershipStep.{append_changed, membership_step}
@@ -26,7 +25,6 @@ use Rattle.raft_group_step.specs.Reply.{accepted_up_to, after_answer, answered, 
 use Rattle.raft_group_step.specs.PurgeTrigger.{purge_as, purge_trigger_step, purge_within}
 use Rattle.raft_group_step.proofs.Words.{removing_keeps_role}
 use Rattle.raft_group_step.proofs.Peers.{answer_keeps_peer}
-use Rattle.raft_group_step.proofs.Refusals.{unless_none as passes}
 use Rattle.raft_engine.specs.Events.{CanFinish, HasLeadRoom, IsReady}
 use Rattle.raft_engine.proofs.AppendLemmas.{with_token}
 use Rattle.raft_engine.proofs.EventLemmas.{no_first_reason}

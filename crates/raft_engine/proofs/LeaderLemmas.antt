@@ -1,20 +1,23 @@
 -- How a lead begins.
 use Rattle.std.specs.Prelude.{◌≡◌, ℕ, true, ◌||◌, nat_eq, List, [], ◌∷◌, ◌++◌, Option, Some, None, unwrap_or, Result, Ok, Err, IfOk, refl}
 use Rattle.std.specs.Ordering.{nat_cmp}
-use Rattle.std.proofs.Common.{sym, ap, ◌∙◌, subst, false}
+use Rattle.std.proofs.Common.{sym, ap, ◌∙◌, subst, arith, false}
 use Rattle.raft_values.specs.declared.vote.Vote.{Vote}
 use Rattle.raft_values.specs.declared.log_id.LogId.{LogId}
 use Rattle.raft_values.specs.LogId.{next_place}
-use Rattle.raft_state.specs.LogIdList.{last_id, keys_of, last_run}
+use Rattle.raft_state.specs.LogIdList.{PlacesRise, ids_of, last_id}
+use Rattle.raft_state.proofs.LogIdListLemmas.{last_id-ids_of}
 use Rattle.raft_membership.specs.Membership.{voter_ids, learner_ids}
 use Rattle.raft_progress.specs.Parts.{value_of}
 use Rattle.raft_group_step.specs.Values.{LoggedMembership, has_id}
 use Rattle.raft_group_step.specs.StoredGroup.{StoredGroup, end_place, membership_in_force}
 use Rattle.raft_group_step.specs.StoredGroup.{last_id as last_stored_id}
-use Rattle.raft_group_step.specs.Lead.{ids_of, new_lead}
-use Rattle.raft_known_state.specs.KnownState.{KnownState, Knows, IsPlaced, effective_of}
+use Rattle.raft_group_step.specs.Lead.{ids_of as member_ids, new_lead}
+use Rattle.raft_known_state.specs.KnownState.{KnownState, Knows, IsPlaced, effective_of, stored_ids}
 use Rattle.raft_known_state.proofs.KnownStateLemmas.{end-known, last-known}
-use Rattle.raft_leaders.specs.Leader.{LeaderValue, end_of, unknown_peer}
+use Rattle.raft_leaders.specs.Leader.{LeaderValue, end_of, first_log_id, unknown_peer}
+use Rattle.raft_leaders.specs.Accepted.{WroteNoneBelow}
+use Rattle.raft_leaders.proofs.FirstLemmas.{first_is_first, first_within}
 use Rattle.std.specs.List.{flat_map}
 use Rattle.raft_values.specs.LogId.{place_of}
 use Rattle.raft_state.specs.declared.raft_state.RaftState.{RaftState}
@@ -30,7 +33,6 @@ use Rattle.raft_engine.specs.Standing.{EffectiveMembership, Engine, Given, IsSte
 use Rattle.raft_engine.proofs.CommandLemmas.{at_once_more, numbers_kept, sends_same, stores_more, stores_same}
 use Rattle.raft_engine.proofs.CommittingLemmas.{moves_kept}
 use Rattle.raft_engine.proofs.StandingLemmas.{order_kept}
-use Rattle.raft_engine.proofs.LastIdLemmas.{last_of_leader}
 use Rattle.raft_engine.proofs.MemberLemmas.{all_with, all_alike, has_each, voter_or_learner}
 use Rattle.raft_engine.specs.Standing.{basis_before}
 use Rattle.raft_engine.proofs.OrderingLemmas.{rests_kept, rests_stored}
@@ -40,37 +42,58 @@ use Rattle.raft_group_step.specs.GroupState.{is_leader}
 abbrev StateOf : Type 0
 StateOf = RaftState ℕ (List ℕ) ℕ
 
-module _ (k : KnownState) (s : StoredGroup) (known : Knows k s) (placed : IsPlaced s) (keys : List (LogId ℕ)) (keys_are : keys ≡ keys_of nat_cmp (last_run nat_cmp k.state.log_ids)) where
-  -- the last leader's keys end with the log
-  pub last_of_log : last_id keys ≡ last_stored_id s
-  last_of_log = ap last_id keys_are ∙ last_of_leader nat_cmp k.state.log_ids ∙ ap last_id known.ids ∙ last-known s placed
+-- the keys of a log that is stored
+pub record AreKeysOf (keys : List (LogId ℕ)) (s : StoredGroup) : Type 0 where
+  pub rise : PlacesRise keys
+  pub ids : ids_of keys ≡ stored_ids s
+  pub last : last_id keys ≡ last_stored_id s
+  pub ends : end_of keys ≡ end_place s
 
-  pub end_of_log : end_of keys ≡ end_place s
-  end_of_log = ap (λ ids. next_place (last_id ids)) keys_are ∙ ap next_place (last_of_leader nat_cmp k.state.log_ids) ∙ ap (λ ids. next_place (last_id ids)) known.ids ∙ end-known s placed
+-- keys end where their log ids do
+pub last_of_ids : (keys ids : List (LogId ℕ)) → PlacesRise keys → ids_of keys ≡ ids → last_id keys ≡ last_id ids
+last_of_ids keys ids rise e = sym (last_id-ids_of keys rise) ∙ ap last_id e
 
-pub has_member : (m : Option LoggedMembership) (n : ℕ) → has_id (ids_of m) n ≡ true
+pub are_keys_of : (keys : List (LogId ℕ)) (k : KnownState) (s : StoredGroup) → Knows k s → IsPlaced s → PlacesRise keys → ids_of keys ≡ k.state.log_ids → AreKeysOf keys s
+are_keys_of keys k s known placed rise e =
+    let all = e ∙ known.ids in
+    record {
+      rise = rise;
+      ids = all;
+      last = last_of_ids keys (stored_ids s) rise all ∙ last-known s placed;
+      ends = ap next_place (last_of_ids keys (stored_ids s) rise all) ∙ end-known s placed;
+    }
+
+pub has_member : (m : Option LoggedMembership) (n : ℕ) → has_id (member_ids m) n ≡ true
     → (has_id (voter_ids nat_cmp (effective_of m).membership.configs) n || has_id (learner_ids nat_eq (effective_of m).membership.configs (effective_of m).membership.nodes) n) ≡ true
 has_member None n h = cc h
 has_member (Some m) n h = voter_or_learner m.membership.configs m.membership.nodes n h
 
 module _ (own : ℕ) (vote : Vote ℕ) (s : StoredGroup) (m : EffectiveMembership) (in_force : m ≡ effective_of (membership_in_force s)) (keys : List (LogId ℕ))
-    (lasts : last_id keys ≡ last_stored_id s) (ends : end_of keys ≡ end_place s) (is_own : vote.leader_id.node_id ≡ own) (committed : vote.committed ≡ true) (learners : List ℕ)
+    (of_log : AreKeysOf keys s) (is_own : vote.leader_id.node_id ≡ own) (committed : vote.committed ≡ true) (learners : List ℕ)
     (learners_are : learners ≡ learner_ids nat_eq m.membership.configs m.membership.nodes) where
-  leads_anew : (l : LeaderValue ℕ EffectiveMembership) → l.vote ≡ vote → l.last_log_id ≡ last_id keys → l.began ≡ end_of keys
+  leads_anew : (l : LeaderValue ℕ EffectiveMembership) → l.vote ≡ vote → l.last_log_id ≡ last_id keys → l.noop_log_id ≡ first_log_id nat_eq vote.leader_id keys → l.began ≡ end_of keys
       → l.progress.voters ≡ all_with (unknown_peer (end_of keys)) (voter_ids nat_cmp m.membership.configs) → l.progress.learners ≡ all_with (unknown_peer (end_of keys)) learners
       → Leads own l (record s { vote = vote }) (new_lead s)
-  leads_anew l voted last began voters others =
+  leads_anew l voted last noop began voters others =
       record {
         vote = voted;
         is_own = is_own;
         committed = committed;
-        last = last ∙ lasts;
-        began = began ∙ ends;
+        last = last ∙ of_log.last;
+        began = began ∙ of_log.ends;
+        first =
+            let at = ap (λ (y : LogId ℕ). y.index) noop in
+            let within = first_within vote.leader_id keys of_log.rise in
+            let ends = of_log.ends in omega (arith, at, within, ends);
+        wrote =
+            subst (λ (v : Vote ℕ). WroteNoneBelow v.leader_id l.noop_log_id.index (stored_ids s)) (sym voted)
+            (subst (λ (y : LogId ℕ). WroteNoneBelow vote.leader_id y.index (stored_ids s)) (sym noop)
+            (subst (WroteNoneBelow vote.leader_id (first_log_id nat_eq vote.leader_id keys).index) of_log.ids (first_is_first vote.leader_id keys of_log.rise)));
         peers = λ n.
             sym (ap (peer_state n)
             (ap (λ place. unwrap_or (value_of nat_eq l.progress n) (unknown_peer place)) began
             ∙ all_alike (unknown_peer (end_of keys)) l.progress (voter_ids nat_cmp m.membership.configs) learners voters others n
-            ∙ ap unknown_peer ends));
+            ∙ ap unknown_peer of_log.ends));
         rising = tt;
         members = λ n h.
             has_each (unknown_peer (end_of keys)) l.progress (voter_ids nat_cmp m.membership.configs) learners voters others n
@@ -80,11 +103,11 @@ module _ (own : ℕ) (vote : Vote ℕ) (s : StoredGroup) (m : EffectiveMembershi
       }
 
   -- what a new leader knows: nothing of anybody
-  pub begins : {E : Type 0} (made : Result (LeaderValue ℕ EffectiveMembership) E) → IfOk made (λ l. l.vote ≡ vote) → IfOk made (λ l. l.last_log_id ≡ last_id keys) → IfOk made (λ l. l.began ≡ end_of keys)
+  pub begins : {E : Type 0} (made : Result (LeaderValue ℕ EffectiveMembership) E) → IfOk made (λ l. l.vote ≡ vote) → IfOk made (λ l. l.last_log_id ≡ last_id keys) → IfOk made (λ l. l.noop_log_id ≡ first_log_id nat_eq vote.leader_id keys) → IfOk made (λ l. l.began ≡ end_of keys)
       → IfOk made (λ l. l.progress.voters ≡ all_with (unknown_peer (end_of keys)) (voter_ids nat_cmp m.membership.configs)) → IfOk made (λ l. l.progress.learners ≡ all_with (unknown_peer (end_of keys)) learners)
       → IfOk made (λ l. Leads own l (record s { vote = vote }) (new_lead s))
-  begins (Ok l) voted last began voters others = leads_anew l voted last began voters others
-  begins (Err e) voted last began voters others = tt
+  begins (Ok l) voted last noop began voters others = leads_anew l voted last noop began voters others
+  begins (Err e) voted last noop began voters others = tt
 
 -- a candidate's vote is its own
 pub stands_own : (own : ℕ) (l : Option (LeaderValue ℕ EffectiveMembership)) (c : Option (CandidateValue ℕ EffectiveMembership)) (s : StoredGroup) (granters : List ℕ)

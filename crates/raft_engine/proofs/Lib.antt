@@ -9,7 +9,7 @@ pub mod SendingLemmas
 pub mod ValidLemmas
 pub mod VoteLemmas
 pub mod MemberLemmas
-pub mod LastIdLemmas
+pub mod WrittenLemmas
 pub mod LeaderLemmas
 pub mod AppendLemmas
 pub mod ElectionLemmas

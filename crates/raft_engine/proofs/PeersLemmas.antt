@@ -1,5 +1,5 @@
 -- The peers of a lead, by rising id, and what a leader knows of each.
-use Rattle.std.specs.Prelude.{◌≡◌, ℕ, ◌<◌, ◌==◌, nat_eq, nat_lt, Bool, true, false, not, ◌||◌, if◌then◌else◌, List, [], ◌∷◌, ◌++◌, Some, None, is_none, is_some, unwrap_or, refl}
+use Rattle.std.specs.Prelude.{◌≡◌, ℕ, ◌<◌, ◌≤◌, ◌==◌, nat_eq, nat_lt, Bool, true, false, not, ◌||◌, if◌then◌else◌, List, [], ◌∷◌, ◌++◌, Some, None, is_none, is_some, unwrap_or, refl}
 use Rattle.std.specs.List.{list_any}
 use Rattle.raft_quorums.specs.Nodes.{has_node}
 use Rattle.raft_quorums.specs.QuorumLaws.{or_left, or_right}
@@ -16,10 +16,12 @@ use Rattle.raft_progress.specs.Parts.{Parts, SetsValue, has_value, value_of}
 use Rattle.raft_progress.proofs.PartsLemmas.{nobody_has}
 use Rattle.raft_leaders.proofs.PeerLemmas.{somebody_has}
 use Rattle.raft_leaders.specs.Leader.{LeaderValue, peer_at, unknown_peer}
-use Rattle.raft_group_step.specs.StoredGroup.{StoredGroup}
+use Rattle.raft_leaders.specs.Accepted.{WroteNoneBelow}
+use Rattle.raft_group_step.specs.StoredGroup.{StoredGroup, end_place}
 use Rattle.raft_group_step.specs.Peer.{PeerState, is_kept_for_peers, needs_below, new_peer, peer_or, with_peer}
 use Rattle.raft_group_step.specs.GroupState.{Lead}
 use Rattle.raft_group_step.proofs.Peers.{with_peer-found, with_peer-others}
+use Rattle.raft_known_state.specs.KnownState.{stored_ids}
 use Rattle.raft_engine.specs.Standing.{EffectiveMembership, IsBelowPeer, Leads, PeersRise, outstanding_of, peer_state}
 
 -- tests of which each passes where the other does
@@ -90,6 +92,8 @@ module _ (l l' : LeaderValue ℕ EffectiveMembership) (n : ℕ) (entry : Progres
     committed = h.committed;
     last = ap (λ (x : LeaderValue ℕ EffectiveMembership). x.last_log_id) rest ∙ h.last;
     began = began-stays ∙ h.began;
+    first = subst (λ (y : LeaderValue ℕ EffectiveMembership). y.noop_log_id.index ≤ end_place s) (sym rest) h.first;
+    wrote = subst (λ (y : LeaderValue ℕ EffectiveMembership). WroteNoneBelow y.vote.leader_id y.noop_log_id.index (stored_ids s)) (sym rest) h.wrote;
     peers = λ m.
         elim (nat_eq n m) as (λ b. nat_eq n m ≡ b → peer_or (new_peer lead.began m) (with_peer (peer_state n entry) lead.peers) ≡ peer_state m (peer_at nat_eq l' m)) [
           | true ↦ λ t.

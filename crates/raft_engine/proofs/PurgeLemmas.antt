@@ -1,10 +1,11 @@
 -- What is purged leaves the rest in order, and the node plays on.
-use Rattle.std.specs.Prelude.{◌≡◌, ℕ, ◌+◌, ◌-◌, ◌<◌, ◌≤◌, ◌==◌, nat_lt, nat_eq, Bool, true, false, if◌then◌else◌, List, [], ◌∷◌, ◌++◌, drop, Option, Some, None, min, option_and_then, option_map, refl}
+use Rattle.std.specs.Prelude.{◌≡◌, ℕ, ◌+◌, ◌-◌, ◌<◌, ◌≤◌, ◌==◌, nat_lt, Bool, true, false, if◌then◌else◌, List, [], ◌∷◌, ◌++◌, drop, Option, Some, None, min, option_and_then, option_map, refl}
 use Rattle.std.specs.List.{slice_get, flat_map}
 use Rattle.std.specs.Option.{is_some}
 use Rattle.std.proofs.Common.{sym, ap, ◌∙◌, subst, arith, length-drop}
 use Rattle.std.proofs.lemmas.Bool.Decides.{nat_tests}
 use Rattle.raft_values.specs.declared.vote.Vote.{Vote}
+use Rattle.raft_values.specs.declared.vote.LeaderId.{LeaderId}
 use Rattle.raft_values.specs.declared.utime.UTime.{UTime}
 use Rattle.raft_values.specs.declared.log_id.LogId.{LogId}
 use Rattle.raft_values.specs.LogId.{next_place, place_of}
@@ -17,11 +18,12 @@ use Rattle.raft_group_step.specs.PurgeTrigger.{purge_as, purge_trigger_step, pur
 use Rattle.raft_group_step.specs.Peer.{is_kept_for_peers}
 use Rattle.raft_group_step.specs.Frames.{committed_id}
 use Rattle.raft_group_step.proofs.EntryPlaces.{entry_within}
-use Rattle.raft_known_state.specs.KnownState.{ArePlaced, IsEntryOrPast, IsPlaced, KeepsRest, KnownState, Knows, SnapshotMeta, meta_of, with_goal}
+use Rattle.raft_known_state.specs.KnownState.{ArePlaced, IsEntryOrPast, IsPlaced, KeepsRest, Knows, SnapshotMeta, meta_of, stored_ids, with_goal}
 use Rattle.raft_known_state.proofs.PlacedIds.{by_order}
 use Rattle.raft_commands.specs.declared.command.Command.TheVariants.{PurgeLog}
 use Rattle.raft_leaders.specs.Candidate.{CandidateValue}
 use Rattle.raft_leaders.specs.Leader.{LeaderValue}
+use Rattle.raft_leaders.specs.Accepted.{WroteNoneBelow}
 use Rattle.raft_commands.specs.Output.{Output}
 use Rattle.raft_engine.specs.Commands.{storing_of, sending_of}
 use Rattle.raft_engine.specs.Leading.{CountsBy, CountsOn}
@@ -31,6 +33,7 @@ use Rattle.raft_engine.proofs.CommandLemmas.{at_once_more, numbers_kept, sends_s
 use Rattle.raft_engine.proofs.CommittingLemmas.{moves_kept}
 use Rattle.raft_engine.proofs.StandingLemmas.{order_kept}
 use Rattle.raft_engine.proofs.PlacedEntries.{HasEntry, dropped, has_entry, get_of_dropped}
+use Rattle.raft_engine.proofs.WrittenLemmas.{wrote_left}
 use Rattle.raft_engine.specs.Standing.{basis_before}
 use Rattle.raft_engine.proofs.OrderingLemmas.{rests_stored}
 use Rattle.raft_engine.proofs.TurnLemmas.{turns_kept}
@@ -38,10 +41,15 @@ use Rattle.raft_group_step.specs.GroupState.{is_leader}
 
 -- ---- the part that a node plays
 
--- the vote and the last log id stay
+-- the vote and the end of the log stay, and whatever a leader wrote stands no lower
 pub record KeepsStanding (s s' : StoredGroup) : Type 0 where
   pub vote : s'.vote ≡ s.vote
   pub last : last_id s' ≡ last_id s
+  pub ends : end_place s' ≡ end_place s
+  pub wrote : (leader : LeaderId ℕ) (place : ℕ) → WroteNoneBelow leader place (stored_ids s) → WroteNoneBelow leader place (stored_ids s')
+
+pub all_stays : (s : StoredGroup) → KeepsStanding s s
+all_stays s = record { vote = refl; last = refl; ends = refl; wrote = λ leader place h. h }
 
 abbrev LeaderOf : Type 0
 LeaderOf = LeaderValue ℕ EffectiveMembership
@@ -63,6 +71,11 @@ leads_on own l l' s s' lead k counts h =
       committed = ap (λ (v : Vote ℕ). v.committed) k.vote ∙ h.committed;
       last = ap (λ (y : LeaderOf). y.last_log_id) counts.rest ∙ h.last ∙ sym k.last;
       began = ap (λ (y : LeaderOf). y.began) counts.rest ∙ h.began;
+      first =
+          subst (λ n. l'.noop_log_id.index ≤ n) (sym k.ends) (subst (λ (y : LeaderOf). y.noop_log_id.index ≤ end_place s) (sym counts.rest) h.first);
+      wrote =
+          k.wrote l'.vote.leader_id l'.noop_log_id.index
+          (subst (λ (y : LeaderOf). WroteNoneBelow y.vote.leader_id y.noop_log_id.index (stored_ids s)) (sym counts.rest) h.wrote);
       peers = λ n. h.peers n ∙ ap (peer_state n) (sym (counts.peers n));
       rising = h.rising;
       members = counts.members;
@@ -179,6 +192,16 @@ is_of_entry s place id p h e =
           ap (λ (y : Entry). y.log_id) one ∙ sym mine;
     }
 
+-- a purge up to it leaves what a node's part rests on
+purge_stands : (s : StoredGroup) (place : ℕ) (id : LogId ℕ) → IsPlaced s → IsOfEntry s place id → KeepsStanding s (after_storing (RemoveUpTo id) s)
+purge_stands s place id p entrys =
+    record {
+      vote = refl;
+      last = last_stays s id p entrys.above entrys.within entrys.found;
+      ends = end_stays s id p entrys.above entrys.within entrys.found;
+      wrote = λ leader at h. wrote_left leader at s place id entrys.there h;
+    }
+
 module _ {C R : Type 0} (x : Given) (own : ℕ) (e e' : Engine C R) (r : StepResult) (step : IsStepOf x own e r) (place : ℕ) (upto : LogId ℕ) (entrys : IsOfEntry r.state.stored place upto) where
   pub purged_to : place < next_place (snapshot_last r.state.stored) → e'.config ≡ e.config → e'.seen_greater_log ≡ e.seen_greater_log
       → CountsOn (membership_in_force (after_storing (RemoveUpTo upto) r.state.stored)) e.leader e'.leader → e'.candidate ≡ e.candidate
@@ -189,11 +212,7 @@ module _ {C R : Type 0} (x : Given) (own : ℕ) (e e' : Engine C R) (r : StepRes
       let queue = ap (λ (o : Output C (List ℕ) R ℕ (List ℕ)). o.queue) output in
       let s = r.state.stored in
       let covered : upto.index < next_place (snapshot_last s) = subst (λ n. n < next_place (snapshot_last s)) (sym entrys.index) may in
-      let standing : KeepsStanding s (after_storing (RemoveUpTo upto) s) =
-      record {
-        vote = refl;
-        last = last_stays s upto old.order.placed entrys.above entrys.within entrys.found;
-      } in
+      let standing = purge_stands s place upto old.order.placed entrys in
       let purges : IsStepOf x own e' (store (RemoveUpTo upto) r) =
       record {
         state = record {
@@ -230,10 +249,10 @@ none_to_purge place r h = ap (λ found. remove_up_to found r) (none (entry_at r.
     none None g = refl
     none (Some e) g = cc g
 
--- the vote and the last log id stay when the log is purged
+-- what a node's part rests on stays when the log is purged
 module _ (place : ℕ) (r : StepResult) (placed : IsPlaced r.state.stored) where
   keeps_if : (e : Option Entry) → entry_at r.state.stored place ≡ e → KeepsStanding r.state.stored (remove_up_to (id_of e) r).state.stored
-  keeps_if None f = record { vote = refl; last = refl }
+  keeps_if None f = all_stays r.state.stored
   keeps_if (Some e) f =
       let s = r.state.stored in
       let some = ap is_some f in
@@ -242,10 +261,7 @@ module _ (place : ℕ) (r : StepResult) (placed : IsPlaced r.state.stored) where
       let same : Some has.entry ≡ Some e = sym has.there ∙ f in
       let mine : has.entry ≡ e = cc same in
       subst (λ (y : Entry). KeepsStanding s (after_storing (RemoveUpTo y.log_id) s)) mine
-      (record {
-        vote = refl;
-        last = last_stays s has.entry.log_id placed entrys.above entrys.within entrys.found;
-      })
+      (purge_stands s place has.entry.log_id placed entrys)
 
   pub purge_keeps : KeepsStanding r.state.stored (purge_up_to place r).state.stored
   purge_keeps = keeps_if (entry_at r.state.stored place) refl

@@ -1,20 +1,20 @@
 -- A message that isn't refused, and what the node may finish after it.
-use Rattle.std.specs.Prelude.{◌≡◌, ◌≢◌, ℕ, ◌==◌, ◌&&◌, not, Bool, true, false, if◌then◌else◌, List, [], ◌∷◌, ◌++◌, Option, Some, None, refl}
+use Rattle.std.specs.Prelude.{◌≡◌, ◌≢◌, ℕ, ◌==◌, ◌&&◌, not, Bool, true, false, if◌then◌else◌, [], ◌∷◌, ◌++◌, Option, None, refl}
 use Rattle.std.proofs.Common.{sym, ◌∙◌, subst, eq-eqb, eqb-true}
 use Rattle.std.proofs.lemmas.Bool.{and_parts, not-true}
 use Rattle.raft_values.specs.declared.vote.Vote.{Vote}
 use Rattle.raft_values.specs.declared.log_id.LogId.{LogId}
-use Rattle.raft_group_step.specs.Values.{Entry, vote_lt}
+use Rattle.raft_group_step.specs.Values.{vote_lt}
 use Rattle.raft_group_step.specs.StoredGroup.{Snapshot, membership_in_force}
 use Rattle.raft_group_step.specs.GroupState.{GroupState, Role, Follower, Candidate, Leader}
 use Rattle.raft_group_step.specs.Message.{AppendFields, AppendRequest, MessageBody, SnapshotRequest}
 use Rattle.raft_group_step.specs.StepResult.{StepResult, BreaksCondition, WrongParty, is_within, renew, step_down, store_vote, take_over}
 use Rattle.raft_group_step.specs.VoteRequest.{judged, may_grant, vote_request_step}
-use Rattle.raft_group_step.specs.AppendRequest.{above_committed, append_request_step, cut_at, heard, is_held, joined, missing_entries, put_entries}
-use Rattle.raft_group_step.specs.SnapshotRequest.{install_unless, offered, snapshot_request_step}
+use Rattle.raft_group_step.specs.AppendRequest.{append_request_step, heard, is_held}
+use Rattle.raft_group_step.specs.SnapshotRequest.{offered, snapshot_request_step}
 use Rattle.raft_group_step.specs.Refusal.{do_follow, has_known_snapshot, keep_voters, is_of_leader, is_right_party, is_sound, next_blank, numbers_of, range_reason, refusal_of, unknown_group, unless}
 use Rattle.raft_group_step.specs.GroupStep.{begun}
-use Rattle.raft_group_step.proofs.Words.{cut_keeps_role, installing_keeps_role, joined_keeps_role}
+use Rattle.raft_group_step.proofs.Words.{installing_keeps_role, joined_keeps_role}
 use Rattle.raft_group_step.proofs.Refusals.{unless_none as passes}
 use Rattle.raft_engine.specs.Events.{CanFinish, IsReady, received}
 use Rattle.raft_engine.specs.Following.{IsVoteOfAnother}
@@ -22,7 +22,6 @@ use Rattle.raft_engine.specs.Standing.{Engine, Given, IsStepOf}
 use Rattle.raft_engine.proofs.EventLemmas.{no_first_reason}
 use Rattle.raft_engine.proofs.OtherVotes.{follows_after}
 use Rattle.raft_engine.proofs.RoomLemmas.{can_finish_when_ready, room_kept}
-use Rattle.raft_engine.proofs.SnapshotLemmas.{cut_other_keeps}
 
 -- ---- a message that isn't refused
 

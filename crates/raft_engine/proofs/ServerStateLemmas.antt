@@ -2,7 +2,6 @@
 use Rattle.std.specs.Prelude.{◌≡◌, ℕ, Bool, nat_eq, Option, Some, None, refl}
 use Rattle.std.specs.Option.{is_some}
 use Rattle.std.proofs.Common.{ap, ◌∙◌}
-use Rattle.raft_values.specs.declared.server_state.ServerState.{ServerState}
 use Rattle.raft_membership.specs.Membership.{is_voter}
 use Rattle.raft_commands.specs.declared.engine_config.EngineConfig.{EngineConfig}
 use Rattle.raft_group_step.specs.Values.{LoggedMembership}

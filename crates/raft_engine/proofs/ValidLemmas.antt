@@ -1,9 +1,8 @@
 -- What an engine knows of a log whose leaders never fall is valid.
-use Rattle.std.specs.Prelude.{◌≡◌, ℕ, zero, suc, ◌+◌, ◌-◌, ◌<◌, ◌≤◌, ◌==◌, ◌&&◌, Bool, true, false, not, if◌then◌else◌, List, [], ◌∷◌, ◌++◌, length, Option, Some, None, is_some, is_none, option_and_then, Result, Ok, Err, IfErr, refl}
+use Rattle.std.specs.Prelude.{◌≡◌, ℕ, zero, suc, ◌+◌, ◌-◌, ◌≤◌, ◌==◌, ◌&&◌, Bool, true, false, not, if◌then◌else◌, List, [], ◌∷◌, ◌++◌, Option, Some, None, is_some, is_none, option_and_then, Result, Ok, Err, IfErr, refl}
 use Rattle.std.specs.List.{AllByRecursion, slice_get}
 use Rattle.std.specs.Option.{option_or}
-use Rattle.std.specs.Ordering.{nat_cmp, is_gt, ordering_then}
-use Rattle.std.specs.declared.cmp.Ordering.{Ordering}
+use Rattle.std.specs.Ordering.{nat_cmp}
 use Rattle.std.specs.declared.cmp.Ordering.TheVariants.{Equal}
 use Rattle.std.specs.Cmp.{nat_cmp_is}
 use Rattle.std.proofs.Common.{ap, sym, ◌∙◌, subst, arith}
@@ -18,10 +17,10 @@ use Rattle.raft_state.specs.LogIdList.{id_at as id_in, last_id as last_in}
 use Rattle.raft_state.specs.State.{begins_at, last_purged, or_fault, purge_fault, state_fault}
 use Rattle.raft_state.specs.declared.entry.EntryPayload.TheVariants.{Blank, Normal, Membership as Members}
 use Rattle.raft_group_step.specs.Values.{Entry, EntryPayload}
-use Rattle.raft_group_step.specs.StoredGroup.{StoredGroup, end_place, first_place, id_at, last_id, membership_in_force, snapshot_last}
+use Rattle.raft_group_step.specs.StoredGroup.{StoredGroup, end_place, first_place, id_at, membership_in_force, snapshot_last}
 use Rattle.raft_group_step.specs.GroupState.{GroupState}
 use Rattle.raft_group_step.specs.Frames.{committed_id}
-use Rattle.raft_known_state.specs.KnownState.{ArePlaced, EffectiveMembership, IsPlaced, KnownState, Knows, effective_of, entry_ids, force_of_snapshot, is_below, last_else, memberships_in, meta_of, purged_ids, stored_ids, take_below, with_membership_of}
+use Rattle.raft_known_state.specs.KnownState.{ArePlaced, EffectiveMembership, IsPlaced, effective_of, entry_ids, force_of_snapshot, is_below, last_else, memberships_in, purged_ids, stored_ids, take_below, with_membership_of}
 use Rattle.raft_known_state.proofs.KnownStateLemmas.{end-known, force_known, id_at-known, last-known, noted_known, purged_known, start_of, stored_placed}
 use Rattle.raft_known_state.proofs.PlacedIds.{below_first, by_order, id_at-placed}
 use Rattle.raft_engine.specs.Standing.{Engine, IsInOrder, IsStateOf}

@@ -1,5 +1,5 @@
 -- When an engine may be handed an event, and what it has done of the event then.
-use Rattle.std.specs.Prelude.{◌≡◌, ℕ, ◌+◌, ◌≤◌, ◌<◌, ◌^◌, ◌&&◌, ◌||◌, not, Bool, false, [], Some, None}
+use Rattle.std.specs.Prelude.{◌≡◌, ℕ, ◌≤◌, ◌<◌, ◌^◌, ◌&&◌, ◌||◌, not, Bool, false, [], Some, None}
 use Rattle.raft_values.specs.LogId.{next_place}
 use Rattle.raft_group_step.specs.Limits.{number_limit}
 use Rattle.raft_group_step.specs.StoredGroup.{Snapshot, end_place, last_id, snapshot_last}

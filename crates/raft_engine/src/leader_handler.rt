@@ -2,7 +2,8 @@
 ghost use Rattle.std.specs.Prelude.{◌≡◌, ◌+◌, ◌<◌, ◌^◌, ℕ, OnOk, IfOk, IsTrue, ◌↔◌, true, Some, None, List, [], Option};
 ghost use Rattle.raft_values.specs.LogId.{next_place};
 ghost use Rattle.raft_state.specs.LogIdList.{last_id};
-ghost use Rattle.raft_group_step.specs.Values.{ChangeMembers, LoggedMembership, after_change, membership_after};
+ghost use Rattle.raft_group_step.specs.Values.{ChangeMembers, LoggedMembership, after_change, is_written_by, membership_after};
+ghost use Rattle.std.specs.List.{list_any};
 ghost use Rattle.raft_group_step.specs.StoredGroup.{StoredGroup, end_place, membership_in_force};
 ghost use Rattle.raft_group_step.specs.Propose.{propose_step};
 ghost use Rattle.raft_group_step.specs.MembershipStep.{membership_step};
@@ -125,7 +126,8 @@ impl<'x, C: RaftTypeConfig<NodeId = u64, Node = BasicNode, D = Bytes>> LeaderHan
 }
 
 impl<C: RaftTypeConfig<NodeId = u64, Node = BasicNode, D = Bytes>> Engine<C> {
-    // A lead that begins under this vote: of no peer anything is known yet.
+    // A lead that begins under this vote: of no peer anything is known yet. It looks for its first
+    // entry among all keys: an own run may stand before another leader's.
     fn new_leader(
         &self,
         vote: Vote<u64>,
@@ -141,7 +143,7 @@ impl<C: RaftTypeConfig<NodeId = u64, Node = BasicNode, D = Bytes>> Engine<C> {
             vote,
             membership,
             learner_ids.as_slice(),
-            self.state.state.log_ids.by_last_leader(),
+            self.state.state.log_ids.key_log_ids(),
         )
     }
 
@@ -172,14 +174,30 @@ impl<C: RaftTypeConfig<NodeId = u64, Node = BasicNode, D = Bytes>> Engine<C> {
             .push_command(Command::AppendInputEntries { vote, entries })
     }
 
+    // Whether the leader has written an entry of the log. Where its first entry is the next one it
+    // has written none, and no key is read.
+    fn has_written(&self) -> bool
+        requires { next_place (last_id self.now.state.state.log_ids) < 2 ^ 63 }
+        ensures { (x : Given) (own : _) (r : StepResult) (lead : Lead) → IsStepOf x own self.now r → r.state.role ≡ Leading lead
+            → result ≡ list_any (is_written_by r.state.stored.vote.leader_id) r.state.stored.log }
+    {
+        let Some(leader) = &self.leader else {
+            return false;
+        };
+        if self.state.end() <= leader.noop_log_id().index {
+            return false;
+        }
+        self.state
+            .is_written_by_leader(&leader.vote_ref().leader_id)
+    }
+
     // A blank entry goes behind the log, unless the leader has written one already.
     fn append_blank(&mut self) -> Result<(), AllocError>
         requires { next_place (last_id self.old.state.state.log_ids) < 2 ^ 63 }
         ensures { (x : Given) (own : _) (r : StepResult) (lead : Lead) → IsStepOf x own self.old r → r.state.role ≡ Leading lead
             → OnOk result (IsStepOf x own self.new (append_blank r)) }
     {
-        let leader = self.state.state.vote_ref().leader_id;
-        if self.state.is_written_by_leader(&leader) {
+        if self.has_written() {
             return Ok(());
         }
         self.append(EntryPayload::Blank)

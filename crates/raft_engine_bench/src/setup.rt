@@ -5,8 +5,7 @@ use crate::node::Numbered;
 use raft_engine::{Engine, KnownState};
 use raft_messages::{GroupEntry, all_go_on};
 use raft_state::{
-    BasicNode, Bytes, Entry, EntryPayload, IdSet, LeaderId, LogId, Membership, NodeMap,
-    SnapshotMeta, Vote, VoterGroups,
+    BasicNode, Bytes, Entry, EntryPayload, LeaderId, LogId, Membership, SnapshotMeta, Vote,
 };
 use raft_stored_group::StoredGroup;
 use std::alloc::{AllocError, Global};
@@ -39,17 +38,12 @@ impl Task {
 
 // The same membership each time.
 fn membership(alloc: Global, task: &Task) -> Result<Membership<u64, BasicNode>, AllocError> {
-    let mut voters = IdSet::new(alloc);
-    for at in 0..task.voters {
-        voters.insert(at + 1)?;
-    }
-    let mut groups = VoterGroups::new(alloc);
-    groups.push(voters)?;
-    let mut nodes = NodeMap::new(alloc);
+    let mut nodes: Vec<(u64, &str)> = Vec::new(alloc);
     for at in 0..task.members() {
-        nodes.insert(at + 1, BasicNode::new(alloc, "host")?)?;
+        nodes.push((at + 1, "host"))?;
     }
-    Ok(Membership::from_parts(groups, nodes))
+    let voters = nodes.get(..task.voters as usize).unwrap_or(&[]);
+    Membership::of_one_group(alloc, voters, &nodes).map_err(|_| AllocError)
 }
 
 // How many entries go by until the next one of so many begins.

@@ -7,8 +7,7 @@ use raft_commands::{EngineConfig, RaftTypeConfig};
 use raft_engine::{CallError, Caller, Engine, KnownState, RequestId};
 use raft_rows::number;
 use raft_state::{
-    BasicNode, Bytes, Entry, EntryPayload, IdSet, LeaderId, LogId, Membership, NodeMap,
-    SnapshotMeta, Vote, VoterGroups,
+    BasicNode, Bytes, Entry, EntryPayload, LeaderId, LogId, Membership, SnapshotMeta, Vote,
 };
 use std::alloc::{AllocError, Global};
 
@@ -45,19 +44,24 @@ pub fn numbers(alloc: Global, words: &[&str]) -> Result<Vec<u64>, AllocError> {
     Ok(numbers)
 }
 
+// The nodes with these ids.
+fn hosts(alloc: Global, ids: &[u64]) -> Result<Vec<(u64, &'static str)>, AllocError> {
+    let mut hosts = Vec::new(alloc);
+    for id in ids {
+        hosts.push((*id, "host"))?;
+    }
+    Ok(hosts)
+}
+
 /// A membership of these voters, and these nodes.
 pub fn members(
     alloc: Global,
     voters: &[u64],
     nodes: &[u64],
 ) -> Result<Membership<u64, BasicNode>, AllocError> {
-    let mut groups = VoterGroups::new(alloc);
-    groups.push(IdSet::from_slice(alloc, voters)?)?;
-    let mut map = NodeMap::new(alloc);
-    for id in nodes {
-        map.insert(*id, BasicNode::new(alloc, "host")?)?;
-    }
-    Ok(Membership::from_parts(groups, map))
+    let voters = hosts(alloc, voters)?;
+    let nodes = hosts(alloc, nodes)?;
+    Membership::of_one_group(alloc, &voters, &nodes).map_err(|_| AllocError)
 }
 
 // A node that knows nothing of its group.

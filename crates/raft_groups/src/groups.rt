@@ -79,7 +79,7 @@ impl<S: GroupStorage> Groups<S> {
             → (result ≡ Err GroupExists) × (self.new ≡ self.old) }
         ensures stored { (st : Stored) → self.old.has_failed ≡ false → get nat_cmp self.old.members group ≡ None
             → S.is_well self.old.storage → S.shows self.old.storage group (st ∷ []) → st.present ≡ true → IsRefusedAs GroupExists result }
-        ensures refused { (other : ℕ) (x : NodeState) → result ≡ Err GroupExists
+        ensures refused { (other : ℕ) (x : NodeState) → IsTurnedAway result
             → StandsAs self.old.id (get nat_cmp self.old.members) (S.is_well self.old.storage) (S.shows self.old.storage) other x
             → StandsAs self.old.id (get nat_cmp self.new.members) (S.is_well self.new.storage) (S.shows self.new.storage) other x }
         ensures ok { self.old.has_failed ≡ false → StandsAs self.old.id (get nat_cmp self.old.members) (S.is_well self.old.storage) (S.shows self.old.storage) group Absent

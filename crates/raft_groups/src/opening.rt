@@ -65,6 +65,7 @@ impl<S: GroupStorage> Groups<S> {
         ensures others { (other : ℕ) (x : NodeState) → (other ≡ group → ⊥)
             → StandsAs self.old.id (get nat_cmp self.old.members) (S.is_well self.old.storage) (S.shows self.old.storage) other x
             → OnOk result (StandsAs self.old.id (get nat_cmp self.new.members) (S.is_well self.new.storage) (S.shows self.new.storage) other x) }
+        ensures members { (other : ℕ) → (other ≡ group → ⊥) → get nat_cmp self.new.members other ≡ get nat_cmp self.old.members other }
         ensures kept { KeepsOthers (S.shows self.old.storage) (S.shows self.new.storage) group }
         ensures id { self.new.id ≡ self.old.id }
         ensures goes_on { GoesOn self.old.has_failed result self.new.has_failed }

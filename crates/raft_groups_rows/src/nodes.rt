@@ -2,9 +2,9 @@
 
 use raft_framed_groups::GroupFrame;
 use raft_groups::{Groups, GroupsFault};
-use raft_log_disk::{CrashChoice, CrashFiles};
-use raft_log_engine::{Engine, EngineFault};
-use raft_log_files::{Config, MemoryFileSystem};
+use raft_log_disk::CrashChoice;
+use raft_log_engine::{EngineFault, LogFiles, MemoryLog};
+use raft_log_files::Config;
 use raft_log_records::ReadableSize;
 use raft_machines::AddingMachine;
 use raft_store::{Store, StoreFault};
@@ -12,7 +12,7 @@ use std::alloc::{AllocError, Global};
 use std::collections::BTreeMap;
 
 /// Where a node keeps its groups.
-pub type Kept = Store<AddingMachine, Engine<MemoryFileSystem>>;
+pub type Kept = Store<AddingMachine, MemoryLog>;
 
 /// Why a node's groups don't take an event.
 pub type Fault = GroupsFault<StoreFault<EngineFault>>;
@@ -40,8 +40,8 @@ fn config_of(alloc: Global) -> Result<Config, AllocError> {
 }
 
 // The node over these files, which has none of its groups open.
-fn node_on(files: MemoryFileSystem, alloc: Global, id: u64) -> Result<Groups<Kept>, EngineFault> {
-    match Engine::open(files, alloc, config_of(alloc)?) {
+fn node_on(files: LogFiles, alloc: Global, id: u64) -> Result<Groups<Kept>, EngineFault> {
+    match MemoryLog::open(alloc, files) {
         Ok(log) => Ok(Groups::new(alloc, id, Store::new(alloc, log))),
         Err(refused) => Err(refused.fault),
     }
@@ -57,7 +57,7 @@ impl Nodes {
 
     /// A node without files.
     pub fn begin(&mut self, alloc: Global, id: u64) -> Result<(), EngineFault> {
-        let node = node_on(MemoryFileSystem::new(alloc), alloc, id)?;
+        let node = node_on(LogFiles::new(alloc, config_of(alloc)?), alloc, id)?;
         self.nodes.insert(id, node)?;
         Ok(())
     }
@@ -72,7 +72,7 @@ impl Nodes {
         let Some(groups) = self.nodes.remove(&id) else {
             return Ok(false);
         };
-        let mut files = groups.into_storage().into_log().abandon();
+        let mut files = groups.into_storage().into_log().into_files();
         let is_crashed = files.crash(choice).is_ok();
         self.nodes.insert(id, node_on(files, alloc, id)?)?;
         Ok(is_crashed)

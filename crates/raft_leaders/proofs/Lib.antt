@@ -3,3 +3,4 @@ pub mod GivenLemmas
 pub mod PeerLemmas
 pub mod AcceptedLemmas
 pub mod OwnLemmas
+pub mod FirstLemmas

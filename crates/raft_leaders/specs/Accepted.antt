@@ -1,6 +1,6 @@
 -- Which log ids a leader may commit: its own ones, up to which a quorum has accepted its log.
-use Rattle.std.specs.Prelude.{◌≡◌, ℕ, ◌<◌, ◌≤◌, ◌==◌, ◌&&◌, nat_eq, nat_le, nat_lt, Bool, if◌then◌else◌, filter, List, Option, Some, None}
-use Rattle.std.specs.List.{last_or}
+use Rattle.std.specs.Prelude.{◌≡◌, ℕ, ◌<◌, ◌≤◌, ◌==◌, ◌&&◌, nat_eq, nat_le, nat_lt, Bool, true, if◌then◌else◌, filter, List, Option, Some, None}
+use Rattle.std.specs.List.{AllByRecursion, last_or}
 use Rattle.raft_values.specs.declared.log_id.LogId.{LogId}
 use Rattle.raft_values.specs.LogId.{reaches}
 use Rattle.raft_values.specs.declared.vote.LeaderId.{LeaderId}
@@ -31,6 +31,10 @@ module _ {Q : Type 0} (own : ℕ) (leader : LeaderValue ℕ Q) where
 abbrev pub IsOutside : ℕ → ℕ → Option ℕ → Type 0
 IsOutside low high None = Unit {0}
 IsOutside low high (Some place) = low ≤ place → place < high → ⊥
+
+-- the leader wrote none of these log ids below the place
+abbrev pub WroteNoneBelow : LeaderId ℕ → ℕ → List (LogId ℕ) → Type 0
+WroteNoneBelow leader place ids = AllByRecursion (λ id. is_of_leader nat_eq leader id ≡ true → place ≤ id.index) ids
 
 -- the last of the leader's own log ids from the one place on and below the other
 abbrev pub last_own_within : LeaderId ℕ → ℕ → ℕ → List (LogId ℕ) → Option (LogId ℕ)

@@ -1,9 +1,9 @@
 //! What a leader may commit.
-ghost use Rattle.std.specs.Prelude.{◌≡◌, ℕ, ◌<◌, ◌≤◌, ◌^◌, ◌++◌, None, IfSome, IfNone};
+ghost use Rattle.std.specs.Prelude.{◌≡◌, ℕ, ◌<◌, ◌≤◌, ◌^◌, ◌++◌, None, IfSome, IfNone, max};
 ghost use Rattle.std.specs.List.{AllByRecursion};
 ghost use Rattle.raft_values.specs.LogId.{place_of};
 ghost use Rattle.raft_state.specs.LogIdList.{IsBelowNext, end_of_key, leader_ids};
-ghost use Rattle.raft_leaders.specs.Accepted.{IsAcceptedEnd, IsOutside, greatest_accepted, has_accepted, last_own_within};
+ghost use Rattle.raft_leaders.specs.Accepted.{IsAcceptedEnd, IsOutside, WroteNoneBelow, greatest_accepted, has_accepted, last_own_within};
 ghost use Rattle.raft_leaders.specs.Leader.{end_of};
 
 use crate::leader::Leader;
@@ -181,7 +181,8 @@ fn end_of_log(log_ids: &LogIdList<u64>) -> u64
 /// a quorum has accepted its log; none if there is no such one (openraft, which compares log ids in
 /// place of places). The leader has accepted what it has, and a peer up to where it matches. `own` is
 /// the leader's node id, the log ids are its log's, and the voters those of the membership in force.
-/// What it costs doesn't depend on the log below the place.
+/// What stands below the leader's first entry isn't read: in a log that it was made over, and has only
+/// appended to, it wrote nothing there. Nor does the cost depend on what stands below the place.
 pub fn greatest_accepted<QS: QuorumSet<u64> + Drop, VS: QuorumSet<u64>>(
     leader: &Leader<u64, QS>,
     own: u64,
@@ -190,12 +191,15 @@ pub fn greatest_accepted<QS: QuorumSet<u64> + Drop, VS: QuorumSet<u64>>(
     voters: &VS,
 ) -> Option<LogId<u64>>
     requires { end_of log_ids.now < 2 ^ 64 }
-    ensures { result ≡ greatest_accepted own leader.now (VS.accepts voters.now) from log_ids.now }
+    ensures of_log { WroteNoneBelow leader.now.vote.leader_id leader.now.noop_log_id.index log_ids.now
+        → result ≡ greatest_accepted own leader.now (VS.accepts voters.now) from log_ids.now }
+    ensures of_any { result ≡ greatest_accepted own leader.now (VS.accepts voters.now) (max from leader.now.noop_log_id.index) log_ids.now }
 {
+    let lowest = from.max(leader.noop_log_id().index);
     let end = end_of_log(log_ids);
-    let reached = accepted_end(leader, own, from, end, voters);
-    if reached <= from {
+    let reached = accepted_end(leader, own, lowest, end, voters);
+    if reached <= lowest {
         return None;
     }
-    last_own_within(log_ids, from, reached, leader.vote_ref().leader_id)
+    last_own_within(log_ids, lowest, reached, leader.vote_ref().leader_id)
 }

@@ -277,8 +277,8 @@ impl<NID: NodeId, QS: QuorumSet<NID> + Drop> Leader<NID, QS> {
 
 impl<NID: NodeId, QS: QuorumSet<NID> + Clone + Drop> Leader<NID, QS> {
     /// A leader under this vote, of whose peers nothing is known. The log ids are those of the last
-    /// leader in its log, by rising place; a leader that starts anew under its own vote finds its
-    /// first entry among them. The learners are distinct and no voters (openraft).
+    /// leader in its log, or all keys, by rising place; a leader that starts anew under its own vote
+    /// finds its first entry among them. The learners are distinct and no voters (openraft).
     pub fn new(
         alloc: Global,
         vote: Vote<NID>,

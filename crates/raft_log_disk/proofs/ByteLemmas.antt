@@ -1,52 +1,13 @@
 -- Bytes written over others.
-use Rattle.std.proofs.Common.{◌≡◌, ◌⊎◌, inl, inr, ℕ, ◌+◌, ◌-◌, ◌<◌, ◌≤◌, min, max, List, [], ◌∷◌, ◌++◌, length, get_or, take, drop, refl, sym, ap, subst, ◌∙◌, arith, append_assoc}
+use Rattle.std.proofs.Common.{◌≡◌, ◌⊎◌, inl, inr, ℕ, ◌+◌, ◌-◌, ◌≤◌, min, max, List, [], ◌++◌, length, take, drop, refl, sym, ap, ◌∙◌, arith, append_assoc}
 use Rattle.std.proofs.lemmas.List.{take-append-drop, append-nil, length-drop, length-append, length-take-le, take_all, take_at, drop_at, drop-drop}
-use Rattle.std.proofs.lemmas.Grind.{common_steps}
-use Rattle.std.proofs.Math.Seq.{drop-append_seam, take-append_seam, drop-length, take-length}
-use Rattle.std.proofs.Math.ListN.{drop_of_length-le}
-use Rattle.std.proofs.lemmas.List.{take-append-le}
+use Rattle.std.proofs.Math.Seq.{take-append_seam, take-length}
 use Rattle.raft_log_disk.specs.Disk.{put, resized, filled}
 use Rattle.std.specs.Prelude.{replicate}
 use Rattle.std.specs.List.{slice_range}
 
--- the new bytes end within the old ones
-within : (old new : List ℕ) (at : ℕ) → (take at (old ++ drop (length new) new) ++ take (length new) new) ++ drop (at + length new) (old ++ drop (length new) new) ≡ put old at new
-within old new at =
-    ap (λ (t : List ℕ). (take at (old ++ t) ++ take (length new) new) ++ drop (at + length new) (old ++ t)) (drop-length new)
-    ∙ ap (λ (l : List ℕ). (take at l ++ take (length new) new) ++ drop (at + length new) l) (append-nil old)
-    ∙ ap (λ (l : List ℕ). (take at old ++ l) ++ drop (at + length new) old) (take-length new)
-
--- they go on past the end of the old ones
-beyond : (old new : List ℕ) (at covered : ℕ) → at + covered ≡ length old → covered ≤ length new → (take at (old ++ drop covered new) ++ take covered new) ++ drop (at + covered) (old ++ drop covered new) ≡ put old at new
-beyond old new at covered end fits =
-    let le : at ≤ length old = omega arith in
-    ap (λ n. (take at (old ++ drop covered new) ++ take covered new) ++ drop n (old ++ drop covered new)) end
-    ∙ ap (λ (l : List ℕ). (take at (old ++ drop covered new) ++ take covered new) ++ l) (drop-append_seam old (drop covered new))
-    ∙ ap (λ (l : List ℕ). (l ++ take covered new) ++ drop covered new) (take-append-le at old (drop covered new) le)
-    ∙ append_assoc (take at old) (take covered new) (drop covered new)
-    ∙ ap (λ (l : List ℕ). take at old ++ l) (take-append-drop covered new)
-    ∙ sym (append-nil (take at old ++ new))
-    ∙ ap (λ (l : List ℕ). (take at old ++ new) ++ l) (sym (drop_of_length-le old {i = at + length new} (omega arith)))
-
 least_of : (a b c : ℕ) → c ≡ min a b → ((c ≡ a) × (a ≤ b)) ⊎ ((c ≡ b) × (b ≤ a))
 least_of a b c e = grind arith
-
-pub put_by_parts : (old new bytes : List ℕ) (at covered : ℕ) → at ≤ length old → covered ≡ min (length new) (length old - at) → take (at + covered) bytes ≡ take at (old ++ drop covered new) ++ take covered new → drop (at + covered) bytes ≡ drop (at + covered) (old ++ drop covered new) → bytes ≡ put old at new
-put_by_parts old new bytes at covered le is front back =
-    sym (take-append-drop (at + covered) bytes) ∙ (λ i. front i ++ back i)
-    ∙ elim (least_of (length new) (length old - at) covered is) [
-      | inl w ↦ ap (λ n. (take at (old ++ drop n new) ++ take n new) ++ drop (at + n) (old ++ drop n new)) w.0 ∙ within old new at
-      | inr w ↦ beyond old new at covered (omega arith) (omega arith)
-    ]
-
--- the same, as a loop leaves it that writes place by place
-pub overwritten : (old new grown bytes : List ℕ) (at covered i : ℕ) → at ≤ length old → covered ≡ min (length new) (length old - at) → i ≡ covered → grown ≡ old ++ take (length new - covered) (drop covered new)
-    → take (at + i) bytes ≡ take at grown ++ take i new → ((n : ℕ) → at + i ≤ n → drop n bytes ≡ drop n grown) → bytes ≡ put old at new
-overwritten old new grown bytes at covered i le is end grown_by front back =
-    let grew : grown ≡ old ++ drop covered new = grown_by ∙ ap (λ (l : List ℕ). old ++ l) (take_all (length new - covered) (drop covered new) (omega (arith, length-drop covered new))) in
-    put_by_parts old new bytes at covered le is
-    (subst (λ n. take (at + n) bytes ≡ take at (old ++ drop covered new) ++ take n new) end (subst (λ (l : List ℕ). take (at + i) bytes ≡ take at l ++ take i new) grew front))
-    (subst (λ n. drop (at + n) bytes ≡ drop (at + n) (old ++ drop covered new)) end (subst (λ (l : List ℕ). drop (at + i) bytes ≡ drop (at + i) l) grew (back (at + i) (omega arith))))
 
 -- ---- what was replaced, put back
 

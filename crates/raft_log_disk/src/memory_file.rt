@@ -62,9 +62,7 @@ pub fn overwrite(bytes: &mut Vec<u8>, at: usize, new: &[u8]) -> Result<(), Alloc
     let Ok(()) = bytes.extend_from_slice(&new[covered..]) else {
         return Err(AllocError);
     };
-    for i in 0..covered {
-        bytes[at + i] = new[i];
-    }
+    bytes[at..at + covered].copy_from_slice(&new[..covered]);
     Ok(())
 }
 

@@ -2,7 +2,9 @@ pub mod Appended
 pub mod Batches
 pub mod EntryReads
 pub mod Fetched
+pub mod Fresh
 pub mod Clauses
+pub mod Logs
 pub mod Opened
 mod Seen
 pub mod Tables

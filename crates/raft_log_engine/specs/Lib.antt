@@ -1,6 +1,7 @@
 pub mod Blocks
 pub mod Held
 pub mod Left
+pub mod Log
 pub mod Opening
 pub mod Reads
 pub mod Scanning

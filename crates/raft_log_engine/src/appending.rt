@@ -26,6 +26,7 @@ pub(crate) fn append_batch<F: FileSystem>(
     ensures paths { pipe.new.paths ≡ pipe.old.paths }
     ensures alone { OnOk result (IsAlone pipe.old (F.disk files.old) → IsAlone pipe.new (F.disk files.new)) }
     ensures nearly { OnErr result (IsAlone pipe.old (F.disk files.old) → IsNearlyAlone pipe.new (F.disk files.new)) }
+    ensures batch { batch.new.items ≡ batch.old.items }
     ensures files { OnOk result (KeepsFiles pipe.old pipe.new) }
     ensures ok { IfOk result (λ h. (synced unsynced : Numbered) → Holds pipe.old (F.disk files.old) synced unsynced
         → HoldsMore pipe.new (F.disk files.new) sync synced (unsynced ++ (h.id.seq, batch.old.items) ∷ [])) }

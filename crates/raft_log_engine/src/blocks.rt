@@ -1,20 +1,16 @@
 //! Entries and their blocks.
-ghost use Rattle.std.specs.Prelude.{◌≡◌, IfOk, IfSome, None, map};
+ghost use Rattle.std.specs.Prelude.{◌≡◌, IfOk, IfSome, map};
 ghost use Rattle.raft_log_engine.specs.Blocks.{IsReadAs};
 ghost use Rattle.raft_log_engine.specs.Held.{bytes_on};
 ghost use Rattle.raft_log_pipe.specs.Pipe.{IsPipe};
-ghost use Rattle.raft_log_records.specs.Batch.{encoded_of, payloads};
-ghost use Rattle.raft_log_records.specs.Item.{entry_bytes, items_of, with_bytes, with_lengths};
-ghost use Rattle.raft_log_records.specs.Spelling.{AreItems, block_of, lengths, spell_record};
+ghost use Rattle.raft_log_records.specs.Batch.{payloads};
+ghost use Rattle.raft_log_records.specs.Item.{entry_bytes};
 
 use crate::fault::EngineFault;
 use raft_log_files::{CorruptionFault, Error, FileSystem};
 use raft_log_memtables::FetchError;
 use raft_log_pipe::SinglePipe;
-use raft_log_records::{
-    EntryIndex, FileBlockHandle, LogBatch, LogItemBatch, RecordError, RecordFault,
-    read_entries_block, read_record,
-};
+use raft_log_records::{EntryIndex, FileBlockHandle, RecordError, RecordFault, read_entries_block};
 use std::alloc::Global;
 
 /// A fault in the bytes of a block or a record.
@@ -27,19 +23,6 @@ pub(crate) fn of_record(error: RecordError) -> EngineFault {
     match error {
         RecordError::Memory | RecordError::TooLong => EngineFault::Log(Error::Memory),
         RecordError::Corruption(fault) => corrupt(fault),
-    }
-}
-
-/// The items of a batch that is written as a record, with the places of their entries there.
-pub(crate) fn items_of(alloc: Global, batch: &LogBatch) -> Result<LogItemBatch, EngineFault>
-    requires items { AreItems batch.now.items }
-    requires written { encoded_of batch.now ≡ spell_record None batch.now.items }
-    ensures read { IfOk result (λ read. with_bytes (block_of batch.now.items) (items_of read.items.items) ≡ batch.now.items) }
-    ensures lengths { IfOk result (λ read. with_lengths (items_of read.items.items) ≡ lengths batch.now.items) }
-{
-    match read_record(alloc, batch.encoded_bytes(), None) {
-        Ok(record) => Ok(record.batch),
-        Err(error) => Err(of_record(error)),
     }
 }
 

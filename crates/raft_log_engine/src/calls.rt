@@ -63,7 +63,7 @@ impl<F: FileSystem + Drop> Engine<F> {
             }
             return Ok(());
         }
-        let items = prepare(self.alloc, &self.tables, batch)?;
+        prepare(&self.tables, batch)?;
         let block = batch.entries_block();
         let written = match append_batch(&mut self.files, &mut self.append, batch, sync) {
             Ok(written) => written,
@@ -72,12 +72,12 @@ impl<F: FileSystem + Drop> Engine<F> {
                 return Err(EngineFault::Log(error));
             }
         };
+        let items = batch.drain();
         if let Err(fault) = apply(&mut self.tables, items, block, written) {
             self.is_stopped = true;
             return Err(fault);
         }
         self.wrote_unsynced = skips_sync(self.wrote_unsynced, sync);
-        let _ = batch.drain();
         Ok(())
     }
 

@@ -15,4 +15,5 @@ mod writing;
 
 pub use engine::Engine;
 pub use fault::EngineFault;
+pub use memory::{LogFiles, MemoryLog};
 pub use opening::NotOpened;

@@ -1,31 +1,180 @@
-//! The engine over files in memory, as a log of batches.
+//! A log of batches over an engine on files in memory.
 //!
-//! The calls of an engine hold for each file system. The impl is for one of them: in an impl of a
+//! The calls of an engine hold for each file system. The log is over one of them: in an impl of a
 //! trait no bound of a type parameter says that it crosses threads, and a file system does.
+ghost use Rattle.std.specs.Prelude.{◌≡◌, ℕ, List, false, IfOk, IfErr, OnOk, OnErr};
+ghost use Rattle.raft_content_log.specs.Leaving.{LeavesOnly};
+ghost use Rattle.raft_log_disk.specs.Chance.{IsGenuineImage};
+ghost use Rattle.raft_log_disk.specs.Disk.{Disk};
+ghost use Rattle.raft_log_disk.specs.Image.{Image, seen_image};
+ghost use Rattle.raft_log_disk.specs.MemorySystem.{disk_in};
+ghost use Rattle.raft_log_engine.specs.Left.{answers_on};
+ghost use Rattle.raft_log_engine.specs.Log.{IsFoundBy, leaves_of_log, main_directory};
+ghost use Rattle.raft_log_engine.specs.Opening.{IsLeftByOpening};
+ghost use Rattle.raft_log_files.specs.Settings.{settings_of};
+ghost use Rattle.raft_log_memtables.specs.Content.{Content, nothing};
+ghost use Rattle.raft_log_pipe.specs.Alone.{IsOnce, Names};
+ghost use Rattle.raft_log_records.specs.declared.file_id.LogQueue.TheVariants.{Append};
+ghost use Rattle.raft_log_recovery.specs.Crashed.{IsCrashed};
+ghost use Rattle.raft_log_recovery.specs.Scan.{directories_of};
 
 use crate::engine::Engine;
 use crate::fault::EngineFault;
+use crate::opening::NotOpened;
 use raft_content_log::ContentLog;
-use raft_log_files::{Error, FileSystem, MemoryFileSystem};
+use raft_log_files::{Config, CrashChoice, CrashFiles, CrashRefusal, Error, MemoryFileSystem};
 use raft_log_records::LogBatch;
+use std::alloc::{AllocError, Global};
+use std::marker::Model;
 
-impl ContentLog for Engine<MemoryFileSystem> {
+/// Files in memory, with the settings that a log is opened by (own).
+#[derive(Drop)]
+pub struct LogFiles {
+    /// The settings. The files lie in their main directory: a spill directory isn't used.
+    pub settings: Config,
+    /// The files.
+    pub files: MemoryFileSystem,
+}
+
+/// A log over an engine on files in memory, in one directory (own). Each write is synced. After one
+/// that was refused, for whatever reason, the log takes none: it is to be opened again.
+#[derive(Drop)]
+pub struct MemoryLog {
+    engine: Engine<MemoryFileSystem>,
+    settings: Config,
+    /// A write was refused.
+    has_failed: bool,
+}
+
+impl Model for MemoryLog {
+    ghost use Rattle.raft_log_engine.specs.Log.{IsLog, LogOn};
+    ghost use Rattle.raft_log_memtables.specs.contracts.memtables.MemTables as tables;
+    ghost use Rattle.raft_log_disk.specs.contracts.memory.MemoryFileSystem as files;
+    ghost use Rattle.raft_log_disk.specs.MemorySystem.{disk_in};
+    ghost use Rattle.raft_log_disk.specs.declared.memory.MemoryFileSystem.{MemoryFileSystem};
+    ghost use Rattle.std.specs.Coded.{codes};
+
+    ghost Value = { LogOn MemoryFileSystem };
+
+    ghost coded = { Prim.hlevel (codes, tables.the_row.coded, files.the_row.coded) };
+
+    ghost view = { λ l. record { engine = l.engine; settings = l.settings; has_failed = l.has_failed } };
+
+    ghost invariant = { λ l. IsLog disk_in l.engine l.settings l.has_failed };
+}
+
+/// A copy of the settings, with the main directory alone.
+fn in_one_directory(settings: &Config) -> Result<Config, AllocError>
+    ensures directories { IfOk result (λ config. directories_of (settings_of config) ≡ main_directory settings.now) }
+    ensures mode { IfOk result (λ config. config.recovery_mode ≡ settings.now.recovery_mode) }
+    ensures once { IfOk result (λ config. (names : Names) → IsOnce names (directories_of (settings_of config)) Append) }
+{
+    let mut config = settings.clone()?;
+    config.spill_dir = None;
+    Ok(config)
+}
+
+impl LogFiles {
+    /// No files yet, where an opening finds nothing (own).
+    pub fn new(alloc: Global, settings: Config) -> LogFiles
+        ensures settings { result.settings ≡ settings }
+        ensures none { (content : Content (List ℕ)) → IsFoundBy result.settings (disk_in result.files) content → content ≡ nothing }
+    {
+        LogFiles {
+            settings,
+            files: MemoryFileSystem::new(alloc),
+        }
+    }
+
+    /// Leaves of the files what the choice says, as where a machine stops (own).
+    pub fn crash(&mut self, choice: &CrashChoice) -> Result<(), CrashRefusal>
+        ensures crashed { OnOk result ((image : Image) × IsCrashed (disk_in self.old.files) image (disk_in self.new.files)) }
+        ensures err { OnErr result (disk_in self.new.files ≡ disk_in self.old.files) }
+        ensures settings { self.new.settings ≡ self.old.settings }
+    {
+        self.files.crash(choice)
+    }
+}
+
+impl MemoryLog {
+    /// Opens the log with the files that are there, or makes its first one (own). What the files read
+    /// as is what it answers, and what a crash leaves. A fault in a file is cut away or refused, as
+    /// `recovery_mode` says. A refusal hands the files back.
+    pub fn open(alloc: Global, files: LogFiles) -> Result<MemoryLog, NotOpened<LogFiles>>
+        ensures sound { IfOk result (λ l. l.has_failed ≡ false) }
+        ensures answers { IfOk result (λ l. IsFoundBy files.settings (disk_in files.files) (answers_on disk_in l.engine)) }
+        ensures leaves { IfOk result (λ l. LeavesOnly (leaves_of_log disk_in l) (answers_on disk_in l.engine)) }
+        ensures settings { IfOk result (λ l. l.settings ≡ files.settings) }
+        ensures refused { IfErr result (λ refused. refused.files.settings ≡ files.settings) }
+        ensures err { IfErr result (λ refused. IsLeftByOpening (main_directory files.settings) (disk_in files.files) (disk_in refused.files.files)) }
+    {
+        let LogFiles { settings, files } = files;
+        let Ok(config) = in_one_directory(&settings) else {
+            return Err(NotOpened {
+                fault: EngineFault::Log(Error::Memory),
+                files: LogFiles { settings, files },
+            });
+        };
+        match Engine::open(files, alloc, config) {
+            Ok(engine) => Ok(MemoryLog {
+                engine,
+                settings,
+                has_failed: false,
+            }),
+            Err(NotOpened { fault, files }) => Err(NotOpened {
+                fault,
+                files: LogFiles { settings, files },
+            }),
+        }
+    }
+
+    /// The files, handed back with no call on them (own), as where a machine stops. What an opening
+    /// finds after a crash of them is left by the log, and so is what it finds of them as they are,
+    /// unless they show by chance what nobody wrote.
+    pub fn into_files(self) -> LogFiles
+        ensures files { result.files ≡ self.engine.files }
+        ensures settings { result.settings ≡ self.settings }
+        ensures crashed { (image : Image) (d : Disk) (content : Content (List ℕ)) → IsCrashed (disk_in result.files) image d → IsFoundBy result.settings d content
+            → leaves_of_log disk_in self content }
+        ensures as_read { (content : Content (List ℕ)) → IsGenuineImage (disk_in result.files) (seen_image (disk_in result.files))
+            → IsFoundBy result.settings (disk_in result.files) content → leaves_of_log disk_in self content }
+    {
+        LogFiles {
+            settings: self.settings,
+            files: self.engine.abandon(),
+        }
+    }
+}
+
+impl ContentLog for MemoryLog {
     type Fault = EngineFault;
 
-    ghost use Rattle.raft_log_engine.specs.Left.{IsSound, answers_on, leaves_on};
+    ghost use Rattle.std.specs.Prelude.{◌≡◌, false};
+    ghost use Rattle.raft_log_disk.specs.MemorySystem.{disk_in};
+    ghost use Rattle.raft_log_engine.specs.Left.{answers_on};
+    ghost use Rattle.raft_log_engine.specs.Log.{leaves_of_log};
 
-    ghost is_sound = { λ e. IsSound e };
+    ghost is_sound = { λ l. l.has_failed ≡ false };
 
-    ghost answers = { λ e. answers_on ⟦<MemoryFileSystem as FileSystem>⟧.disk e };
+    ghost answers = { λ l. answers_on disk_in l.engine };
 
-    ghost leaves = { λ e content. leaves_on ⟦<MemoryFileSystem as FileSystem>⟧.disk e content };
+    ghost leaves = { λ l content. leaves_of_log disk_in l content };
 
     fn write(&mut self, batch: &mut LogBatch) -> Result<(), EngineFault> {
-        Engine::write(self, batch, true)
+        if self.has_failed {
+            return Err(EngineFault::Stopped);
+        }
+        match self.engine.write(batch, true) {
+            Ok(()) => Ok(()),
+            Err(fault) => {
+                self.has_failed = true;
+                Err(fault)
+            }
+        }
     }
 
     fn get(&mut self, group: u64, key: &[u8]) -> Result<Option<Vec<u8>>, EngineFault> {
-        Engine::get(self, group, key)
+        self.engine.get(group, key)
     }
 
     fn fetch_entries_to(
@@ -34,7 +183,7 @@ impl ContentLog for Engine<MemoryFileSystem> {
         begin: u64,
         end: u64,
     ) -> Result<Vec<Vec<u8>>, EngineFault> {
-        let found = Engine::fetch_entries_to(self, group, begin, end, None)?;
+        let found = self.engine.fetch_entries_to(group, begin, end, None)?;
         if found.len() as u64 != end.saturating_sub(begin) {
             return Err(EngineFault::Log(Error::EntryNotFound));
         }
@@ -42,10 +191,10 @@ impl ContentLog for Engine<MemoryFileSystem> {
     }
 
     fn is_there(&mut self, group: u64) -> Result<bool, EngineFault> {
-        Engine::is_there(self, group)
+        self.engine.is_there(group)
     }
 
     fn groups(&mut self) -> Result<Vec<u64>, EngineFault> {
-        self.raft_groups()
+        self.engine.raft_groups()
     }
 }

@@ -1,49 +1,40 @@
 //! What a write needs.
-ghost use Rattle.std.specs.Prelude.{◌≡◌, [], false, OnOk, IfOk, Some};
+ghost use Rattle.std.specs.Prelude.{◌≡◌, [], false, OnOk, Some};
 ghost use Rattle.std.specs.List.{list_any};
 ghost use Rattle.raft_log_engine.specs.Held.{IsPlace};
 ghost use Rattle.raft_log_memtables.specs.Content.{after_batch};
 ghost use Rattle.raft_log_memtables.specs.MemTable.{batch_items};
 ghost use Rattle.raft_log_memtables.specs.MemTables.{content_in};
 ghost use Rattle.raft_log_pipe.specs.Pipe.{IsPopulated};
-ghost use Rattle.raft_log_records.specs.Item.{items_of, with_bytes, with_lengths};
-ghost use Rattle.raft_log_records.specs.Spelling.{AreItems, block_of, holds_mark, lengths};
+ghost use Rattle.raft_log_records.specs.Spelling.{AreItems, holds_mark};
 ghost use Rattle.raft_log_records.specs.declared.block.EntriesBlock.{EntriesBlock};
 ghost use Rattle.raft_log_records.specs.declared.file_id.FileBlockHandle.{FileBlockHandle};
 
-use crate::blocks::{items_of, of_record};
+use crate::blocks::of_record;
 use crate::fault::EngineFault;
 use raft_log_files::{DiskRefusal, Error};
 use raft_log_memtables::MemTables;
 use raft_log_records::{EntriesBlock, FileBlockHandle, LogBatch, LogItemBatch};
-use std::alloc::Global;
 
-/// Writes a batch as a record, and answers its items. Refused are a batch that belongs to an atomic
-/// group, and one that the tables don't take.
-pub(crate) fn prepare(
-    alloc: Global,
-    tables: &MemTables,
-    batch: &mut LogBatch,
-) -> Result<LogItemBatch, EngineFault>
+/// Writes a batch as a record. Refused are a batch that belongs to an atomic group, and one that
+/// the tables don't take.
+pub(crate) fn prepare(tables: &MemTables, batch: &mut LogBatch) -> Result<(), EngineFault>
     requires { batch.old.items ≡ [] → ⊥ }
     ensures same { batch.new.items ≡ batch.old.items }
     ensures plain { OnOk result (list_any holds_mark batch.old.items ≡ false) }
     ensures populated { OnOk result (IsPopulated batch.new) }
     ensures items { OnOk result (AreItems batch.new.items) }
-    ensures read { IfOk result (λ read. with_bytes (block_of batch.old.items) (items_of read.items.items) ≡ batch.old.items) }
-    ensures lengths { IfOk result (λ read. with_lengths (items_of read.items.items) ≡ lengths batch.old.items) }
 {
     if batch.holds_mark() {
         return Err(EngineFault::Marked);
     }
-    if let Err(error) = batch.finish_populate() {
-        return Err(of_record(error));
-    }
-    let items = items_of(alloc, batch)?;
-    if !tables.takes(&items.items) {
+    if !tables.takes(batch.items()) {
         return Err(EngineFault::NotTaken);
     }
-    Ok(items)
+    match batch.finish_populate() {
+        Ok(_) => Ok(()),
+        Err(error) => Err(of_record(error)),
+    }
 }
 
 /// Does what the items of a written batch say, whose entries stand in a block of its record. After

@@ -202,6 +202,16 @@ module _ (rest : List LogItem) (item : LogItem) (content : Content EntryIndex) (
     pub search_on : (item.raft_group_id ≡ group → ⊥) → LeadsTo front.entry low high target first last
     search_on other = subst (λ (g : GroupContent EntryIndex). LeadsTo g.entry low high target first last) (kept other) leads
 
+-- ---- items of other groups
+
+pub others_leave : (items : List LogItem) (content : Content EntryIndex) (group : ℕ) → list_any (λ item. nat_eq item.raft_group_id group) items ≡ false → after_batch (items_of items) content group ≡ content group
+others_leave [] content group none = refl
+others_leave (item ∷ items) content group none =
+    let later : list_any (λ (x : LogItem). nat_eq x.raft_group_id group) items ≡ false = second_of_or (nat_eq item.raft_group_id group) (list_any (λ (x : LogItem). nat_eq x.raft_group_id group) items) none in
+    let other : nat_eq item.raft_group_id group ≡ false = first_of_or (nat_eq item.raft_group_id group) (list_any (λ (x : LogItem). nat_eq x.raft_group_id group) items) none in
+    others_leave items (after_item (item_of item) content) group later
+    ∙ ap (λ (b : Bool). cond b (after_change (change_of item.content) (content group)) (content group)) other
+
 -- ---- items one after the other
 
 pub takes_more : {E : Type 0} (items : List (Item E)) (item : Item E) (content : Content E) → TakesEach items content → Takes item.change (after_batch items content item.group) → TakesEach (items ++ item ∷ []) content

@@ -1,6 +1,6 @@
 //! Which batches the memtables take.
 
-ghost use Rattle.std.specs.Prelude.{◌≡◌, ◌<◌, ◌-◌, ◌∷◌, ◌++◌, [], length, min, IfSome, IfNone};
+ghost use Rattle.std.specs.Prelude.{◌≡◌, ◌<◌, ◌-◌, ◌∷◌, ◌++◌, [], length, min, IfSome, IfNone, nat_eq};
 ghost use Rattle.std.specs.Bool.{OnTrue, OnFalse};
 ghost use Rattle.std.specs.List.{list_any};
 ghost use Rattle.raft_log_records.specs.Item.{change_of, items_of};
@@ -46,6 +46,13 @@ fn last_below(last: Option<u64>, limit: u64) -> u64
         Some(last) => last.min(limit - 1),
         None => limit - 1,
     }
+}
+
+/// Whether an item is of a group.
+fn names_group(items: &[LogItem], raft_group_id: u64) -> bool
+    ensures { result ≡ list_any (λ item. nat_eq item.raft_group_id raft_group_id) items.now }
+{
+    items.iter().any(|item| item.raft_group_id == raft_group_id)
 }
 
 /// A search at entries, which take the place of all from the first one's index on.
@@ -110,6 +117,17 @@ impl MemTables {
         self.holds_within(raft_group_id, bounds.0, bounds.1)
     }
 
+    /// Whether entries may begin at this index.
+    fn takes_now(&self, raft_group_id: u64, index: u64) -> bool
+        ensures yes { OnTrue result (TakesFrom (content_in self.now raft_group_id).entry index) }
+        ensures no { OnFalse result (TakesFrom (content_in self.now raft_group_id).entry index → ⊥) }
+    {
+        match self.get_table(raft_group_id) {
+            Some(table) => table.takes(index),
+            None => true,
+        }
+    }
+
     /// Whether entries may begin at this index after some items.
     fn takes_from(&self, items: &[LogItem], raft_group_id: u64, index: u64) -> bool
         ensures yes { OnTrue result (TakesFrom
@@ -117,6 +135,9 @@ impl MemTables {
         ensures no { OnFalse result (TakesFrom
             (after_batch (items_of items.now) (content_in self.now) raft_group_id).entry index → ⊥) }
     {
+        if !names_group(items, raft_group_id) {
+            return self.takes_now(raft_group_id, index);
+        }
         !self.has_within(items, raft_group_id, 0, None)
             || (self.has_within(items, raft_group_id, 0, Some(index))
                 && self.has_within(items, raft_group_id, index.saturating_sub(1), None))

@@ -110,6 +110,14 @@ impl LogBatch {
         }
     }
 
+    /// The items, with the places of their entries in the block of the record: those that `drain`
+    /// takes out (own).
+    pub fn items(&self) -> &[LogItem]
+        ensures { items_of result.now ≡ placed 0 self.now.items }
+    {
+        &self.items
+    }
+
     /// How many bytes the batch takes as a record (raft-engine's `approximate_size`; here it is
     /// exact). An empty one takes none.
     pub fn approximate_size(&self) -> usize

@@ -1,12 +1,17 @@
 -- One event behind a history.
-use Rattle.std.proofs.Common.{◌≡◌, ℕ, length, take, List, [], ◌∷◌, ◌++◌, refl, sym, ap, ◌∙◌, subst, append_assoc, append-nil}
+use Rattle.std.proofs.Common.{◌≡◌, ℕ, length, take, List, [], ◌∷◌, ◌++◌, Option, Some, None, refl, sym, ap, ◌∙◌, subst, append_assoc, append-nil}
+use Rattle.std.specs.Prelude.{slice_set}
 use Rattle.std.proofs.lemmas.List.{map-append}
 use Rattle.raft_sent_frames.specs.Frames.{frames_of}
 use Rattle.raft_cluster_events.specs.declared.event.ClusterEvent.{ClusterEvent}
+use Rattle.raft_cluster_conditions.specs.declared.reasons.ClusterRefusal.{ClusterRefusal}
+use Rattle.raft_cluster_events.specs.declared.outcome.EventOutcome.{EventOutcome}
 use Rattle.raft_cluster_events.specs.declared.outcome.Recorded.{Recorded}
 use Rattle.raft_cluster_events.specs.Node.{NodeActs}
-use Rattle.raft_node_cluster.specs.Facts.{Sent}
-use Rattle.raft_node_cluster.specs.Cluster.{ClusterValue, Happens, Runs, RunsTo, Steps}
+use Rattle.raft_node_cluster.specs.Facts.{Sent, node_at, node_of, place_in}
+use Rattle.raft_node_cluster.specs.Happening.{ComesTo}
+use Rattle.raft_node_cluster.specs.Cluster.{ClusterValue, Happens, HappensBy, Runs, RunsTo, Steps, refusal_in, with_node}
+use Rattle.raft_node_cluster.proofs.ListLemmas.{put_at_place}
 
 take_of : (ys rest : List ClusterEvent) → take (length ys) (ys ++ rest) ≡ ys
 take_of [] rest = refl
@@ -40,3 +45,22 @@ module _ {N : Type 0} (acts : NodeActs N) where
         events = map-append (λ (x : Recorded). x.event) ran.records (r ∷ []) ∙ ap (λ es. es ++ event ∷ []) ran.events;
         runs = runs_on old.nodes (frames_of old.sent) old.history ran.records mid.nodes (frames_of mid.sent) r new.nodes (frames_of new.sent) ran.runs (subst P ran.history h.happens);
       }
+
+  -- an event that isn't turned away comes to the first node of its id
+  pub comes_to_first : (nodes : List N) (sent later : Sent) (history : List Recorded) (event : ClusterEvent) (o : EventOutcome) (place : ℕ) (before behind : N) → refusal_in acts nodes sent history event ≡ None
+      → Some place ≡ place_in acts nodes (node_of sent event) → node_at acts nodes (node_of sent event) ≡ Some before → ComesTo acts sent event before o later behind
+      → Happens acts nodes sent history event o (slice_set nodes place behind) later
+  comes_to_first nodes sent later history event o place before behind free first found comes =
+      let P : Option ClusterRefusal → Type 0 = λ w. HappensBy acts w nodes sent event o (slice_set nodes place behind) later in
+      subst P (sym free)
+      (record {
+        before = before;
+        behind = behind;
+        named = found;
+        nodes = put (node_of sent event) first found;
+        comes = comes;
+      })
+    where
+      put : (w : Option ℕ) → Some place ≡ place_in acts nodes w → node_at acts nodes w ≡ Some before → slice_set nodes place behind ≡ with_node acts (acts.id before) behind nodes
+      put None e there = absurd (cc)
+      put (Some id) e there = put_at_place acts nodes id place behind before e there

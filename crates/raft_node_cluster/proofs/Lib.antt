@@ -2,3 +2,9 @@ pub mod FactLemmas
 pub mod SendingLemmas
 pub mod HappeningLemmas
 pub mod ClusterLemmas
+pub mod ListLemmas
+pub mod PlainLemmas
+pub mod SpellingLemmas
+pub mod BeginLemmas
+pub mod JoinLemmas
+pub mod EventLemmas

@@ -1,5 +1,6 @@
 -- A cluster, and what its type keeps: all that happened leads to what it is.
-use Rattle.std.specs.Prelude.{◌≡◌, ℕ, List, [], ◌∷◌, ◌++◌, Option, Some, None, map, slice_get, slice_set}
+use Rattle.std.specs.Prelude.{◌≡◌, ◌<◌, ◌^◌, ◌==◌, ℕ, if◌then◌else◌, List, [], ◌∷◌, ◌++◌, Option, Some, None, map}
+use Rattle.std.specs.List.{AllByRecursion}
 use Rattle.raft_cluster_conditions.specs.declared.reasons.ClusterRefusal.{ClusterRefusal}
 use Rattle.raft_cluster_conditions.specs.Refusal.{refusal_of}
 use Rattle.raft_sent_frames.specs.declared.frame.SentFrame.{SentFrame}
@@ -31,14 +32,17 @@ module _ {N : Type 0} (acts : NodeActs N) where
     pub nodes : new ≡ old
     pub sends : later ≡ sent
 
+  -- the first node of this id is that one from now on
+  abbrev pub with_node : ℕ → N → List N → List N
+  with_node id new [] = []
+  with_node id new (node ∷ nodes) = if acts.id node == id then new ∷ nodes else node ∷ with_node id new nodes
+
   -- the event comes to its node, and every other one stays as it is
   pub record Reaches (old : List N) (sent : Sent) (event : ClusterEvent) (o : EventOutcome) (new : List N) (later : Sent) : Type 0 where
     pub before : N
     pub behind : N
     pub named : node_at acts old (node_of sent event) ≡ Some before
-    pub place : ℕ
-    pub stands : slice_get old place ≡ Some before
-    pub nodes : new ≡ slice_set old place behind
+    pub nodes : new ≡ with_node (acts.id before) behind old
     pub comes : ComesTo acts sent event before o later behind
 
   abbrev pub HappensBy : Option ClusterRefusal → List N → Sent → ClusterEvent → EventOutcome → List N → Sent → Type 0
@@ -61,9 +65,16 @@ module _ {N : Type 0} (acts : NodeActs N) where
   RunsTo nodes sent history (r ∷ rs) nodes' sent' =
       (between : List N) × (gone : Sent) × Happens nodes sent history r.event r.outcome between gone × RunsTo between gone (history ++ r ∷ []) rs nodes' sent'
 
-  -- the history leads there from nodes that had sent nothing
-  abbrev pub IsReached : List N → Sent → List Recorded → Type 0
-  IsReached nodes sent history = (first : List N) × RunsTo first nothing_sent [] history nodes sent
+  -- a node that has nothing yet
+  pub record IsNew (node : N) : Type 0 where
+    pub id : acts.id node < 2 ^ 64
+    pub begins : acts.begins (acts.id node) node
+
+  -- the history leads there from nodes that had nothing and had sent nothing
+  pub record IsReached (nodes : List N) (sent : Sent) (history : List Recorded) : Type 0 where
+    pub first : List N
+    pub new : AllByRecursion IsNew first
+    pub runs : RunsTo first nothing_sent [] history nodes sent
 
   -- one event happened
   pub record Steps (old : ClusterValue N) (event : ClusterEvent) (new : ClusterValue N) : Type 0 where

@@ -1,5 +1,5 @@
 -- What of an event decides whether the cluster turns it away.
-use Rattle.std.specs.Prelude.{ℕ, ◌==◌, Bool, true, false, not, List, [], ◌∷◌, length, Option, Some, None, slice_get}
+use Rattle.std.specs.Prelude.{ℕ, ◌==◌, Bool, true, false, not, List, [], ◌∷◌, length, Option, Some, None, position, slice_get}
 use Rattle.std.specs.List.{find}
 use Rattle.std.specs.Option.{option_map}
 use Rattle.raft_group_step.specs.Values.{Membership, membership_eq}
@@ -130,3 +130,8 @@ module _ {N : Type 0} (acts : NodeActs N) where
 abbrev pub node_there : {N : Type 0} → List N → Option ℕ → Option N
 node_there nodes None = None
 node_there nodes (Some place) = slice_get nodes place
+
+-- the place of the first node of this id
+abbrev pub place_in : {N : Type 0} → NodeActs N → List N → Option ℕ → Option ℕ
+place_in acts nodes None = None
+place_in acts nodes (Some id) = position (λ node. acts.id node == id) nodes

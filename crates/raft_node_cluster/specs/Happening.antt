@@ -13,31 +13,9 @@ use Rattle.raft_cluster_events.specs.declared.outcome.Stop.{Stop}
 use Rattle.raft_cluster_events.specs.declared.outcome.StopCause.TheVariants.{Memory}
 use Rattle.raft_cluster_events.specs.Node.{NodeActs}
 use Rattle.raft_node_cluster.specs.Facts.{Sent, delivered}
-use Rattle.raft_node_cluster.specs.Delivery.{Comes, pieces_from}
+use Rattle.raft_node_laws.specs.Answered.{Answered, none_of, one_of, opening_of, some_of, stop_behind}
+use Rattle.raft_node_laws.specs.Delivery.{Comes, pieces_from}
 use Rattle.raft_node_cluster.specs.Sending.{AreSent}
-
-abbrev pub Answered : Type 0
-Answered = Result (List NodeOutcome) NodeError
-
-abbrev pub one_of : Result NodeOutcome NodeError → Answered
-one_of (Ok outcome) = Ok (outcome ∷ [])
-one_of (Err error) = Err error
-
-abbrev pub listed : Option NodeOutcome → List NodeOutcome
-listed None = []
-listed (Some outcome) = outcome ∷ []
-
-abbrev pub some_of : Result (Option NodeOutcome) NodeError → Answered
-some_of (Ok outcome) = Ok (listed outcome)
-some_of (Err error) = Err error
-
-abbrev pub none_of : Result (Unit {0}) NodeError → Answered
-none_of (Ok done) = Ok []
-none_of (Err error) = Err error
-
-abbrev pub opening_of : Result (List NodeOutcome) Stop → Answered
-opening_of (Ok outcomes) = Ok outcomes
-opening_of (Err stop) = Err (errors.Stopped stop)
 
 -- what becomes of an event that the node didn't do
 abbrev pub over : NodeError → EventOutcome
@@ -74,14 +52,23 @@ module _ {N : Type 0} (acts : NodeActs N) where
   Answers sent (Reopen node workers) old answered new =
       (r : Result (List NodeOutcome) Stop) × acts.reopens old workers r new × (answered ≡ opening_of r)
 
+  -- what one group did isn't said: the node stops, and its stop has the event's own tokens, too
+  pub record FailsBehind (old : N) (outcomes : List NodeOutcome) (stop : Stop) (new : N) : Type 0 where
+    pub outcome : NodeOutcome
+    pub one : outcomes ≡ outcome ∷ []
+    pub named : Stop
+    pub fails : acts.fails old named new
+    pub same : stop ≡ stop_behind outcome named
+
   -- without memory for what was done the node stops; one that was being opened goes down
-  abbrev pub StopsFor : ClusterEvent → N → Stop → N → Type 0
-  StopsFor (AddGroup node group) old stop new = acts.fails old stop new
-  StopsFor (Ask node group call now) old stop new = acts.fails old stop new
-  StopsFor (Deliver group number cuts now) old stop new = acts.fails old stop new
-  StopsFor (ResetPeer node peer) old stop new = ⊥
-  StopsFor (Crash node choice) old stop new = ⊥
-  StopsFor (Reopen node workers) old stop new = (stop ≡ record { cause = Memory; unknown = [] }) × acts.closes old new
+  abbrev pub StopsFor : ClusterEvent → N → List NodeOutcome → Stop → N → Type 0
+  StopsFor (AddGroup node group) old outcomes stop new = FailsBehind old outcomes stop new
+  StopsFor (Ask node group call now) old outcomes stop new = FailsBehind old outcomes stop new
+  StopsFor (Deliver group number cuts now) old outcomes stop new = FailsBehind old outcomes stop new
+  StopsFor (ResetPeer node peer) old outcomes stop new = ⊥
+  StopsFor (Crash node choice) old outcomes stop new = ⊥
+  StopsFor (Reopen node workers) old outcomes stop new =
+      (stop ≡ record { cause = Memory; unsaid = None; unknown = [] }) × acts.closes old new
 
   -- the frames are sent
   pub record IsDone (sent : Sent) (old : N) (outcomes : List NodeOutcome) (o : EventOutcome) (later : Sent) (new : N) : Type 0 where
@@ -91,11 +78,11 @@ module _ {N : Type 0} (acts : NodeActs N) where
     pub node : new ≡ old
 
   -- memory was refused behind the event: no frame is sent
-  pub record LacksMemory (sent : Sent) (event : ClusterEvent) (old : N) (o : EventOutcome) (later : Sent) (new : N) : Type 0 where
+  pub record LacksMemory (sent : Sent) (event : ClusterEvent) (old : N) (outcomes : List NodeOutcome) (o : EventOutcome) (later : Sent) (new : N) : Type 0 where
     pub stop : Stop
     pub outcome : o ≡ Stopped stop
     pub sends : (group : ℕ) → later group ≡ sent group
-    pub node : StopsFor event old stop new
+    pub node : StopsFor event old outcomes stop new
 
   -- the node didn't do it: nothing is sent
   pub record IsOver (sent : Sent) (old : N) (named : EventOutcome) (o : EventOutcome) (later : Sent) (new : N) : Type 0 where
@@ -106,12 +93,14 @@ module _ {N : Type 0} (acts : NodeActs N) where
   -- what the node answered becomes the event's outcome
   abbrev pub Settles : Sent → ClusterEvent → N → Answered → EventOutcome → Sent → N → Type 0
   Settles sent event old (Ok outcomes) outcome later new =
-      IsDone sent old outcomes outcome later new ⊎ LacksMemory sent event old outcome later new
+      IsDone sent old outcomes outcome later new ⊎ LacksMemory sent event old outcomes outcome later new
   Settles sent event old (Err error) outcome later new = IsOver sent old (over error) outcome later new
 
-  -- the event comes to the node
+  -- the event comes to the node, which stays the one that it is
   pub record ComesTo (sent : Sent) (event : ClusterEvent) (old : N) (outcome : EventOutcome) (later : Sent) (new : N) : Type 0 where
     pub answered : Answered
     pub behind : N
     pub answers : Answers sent event old answered behind
     pub settles : Settles sent event behind answered outcome later new
+    pub id_behind : acts.id behind ≡ acts.id old
+    pub id : acts.id new ≡ acts.id old

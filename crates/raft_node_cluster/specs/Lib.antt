@@ -1,5 +1,5 @@
 pub mod Facts
-pub mod Delivery
 pub mod Sending
 pub mod Happening
 pub mod Cluster
+pub mod Joined

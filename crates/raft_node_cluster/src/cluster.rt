@@ -3,7 +3,9 @@ ghost use Rattle.std.specs.Prelude.{◌≡◌, ◌≤◌, ◌++◌, ◌∷◌, [
 ghost use Rattle.std.specs.Option.{option_copied};
 ghost use Rattle.raft_sent_frames.specs.Frames.{frames_of};
 ghost use Rattle.raft_node_cluster.specs.Facts.{node_in};
+ghost use Rattle.raft_node_laws.specs.Law.{KeepsLaw};
 ghost use Rattle.raft_node_cluster.specs.Cluster.{Happens, IsReached, Runs, Steps};
+ghost use Rattle.raft_node_cluster.specs.Joined.{HasHeadline, ids_of};
 
 use crate::facts::{asked_of, cuts_of, node_of, place_of, standing_at};
 use crate::happening::come_to;
@@ -58,7 +60,10 @@ fn happen<N: ClusterNode>(
 
 impl<N: ClusterNode> Cluster<N> {
     /// A cluster of nodes of these ids that have nothing. A node whose files can't be opened is down.
+    /// Where an id stands twice its first node gets the events.
     pub fn new(alloc: Global, ids: &[u64], settings: &N::Settings) -> Result<Cluster<N>, AllocError>
+        ensures ids { IfOk result (λ c. ids_of N.acts c.nodes ≡ ids.now) }
+        ensures sent { IfOk result (λ c. c.sent ≡ []) }
         ensures history { IfOk result (λ c. c.history ≡ []) }
     {
         let mut nodes = Vec::new(alloc);
@@ -77,7 +82,9 @@ impl<N: ClusterNode> Cluster<N> {
     pub fn step(&mut self, event: ClusterEvent) -> Result<(), AllocError>
         ensures ok { OnOk result (Steps N.acts self.old event self.new) }
         ensures err { OnErr result (self.new ≡ self.old) }
+        ensures headline { KeepsLaw N.Machine.rules N.acts N.states → HasHeadline N.Machine.rules N.acts N.states self.new.nodes (frames_of self.new.sent) self.new.history }
     {
+        self.replays();
         self.history.reserve(1)?;
         let outcome = happen(
             self.alloc,
@@ -87,28 +94,34 @@ impl<N: ClusterNode> Cluster<N> {
             &event,
         );
         self.history.push(Recorded { event, outcome }).unwrap();
+        self.replays();
         Ok(())
     }
 
     /// Runs events in order, and says how many (own). Fewer than all only for want of memory before
-    /// one.
+    /// one. Where the nodes keep their law, all that happened keeps the headline of each group.
     pub fn run(&mut self, events: Vec<ClusterEvent>) -> usize
         ensures within { result ≤ vec_len events }
         ensures runs { Runs N.acts self.old (take result events.items) self.new }
+        ensures headline { KeepsLaw N.Machine.rules N.acts N.states → HasHeadline N.Machine.rules N.acts N.states self.new.nodes (frames_of self.new.sent) self.new.history }
     {
         let mut count = 0;
         for event in events {
             let Ok(()) = self.step(event) else {
+                self.replays();
                 return count;
             };
             count += 1;
         }
+        self.replays();
         count
     }
 
-    /// The history leads to the nodes and frames that there are, from nodes that had sent nothing.
+    /// The history leads to the nodes and frames that there are, from nodes that had nothing. Where the
+    /// nodes keep their law, it keeps the headline of each group.
     pub fn replays(&self)
-        ensures { IsReached N.acts self.now.nodes (frames_of self.now.sent) self.now.history }
+        ensures reached { IsReached N.acts self.now.nodes (frames_of self.now.sent) self.now.history }
+        ensures headline { KeepsLaw N.Machine.rules N.acts N.states → HasHeadline N.Machine.rules N.acts N.states self.now.nodes (frames_of self.now.sent) self.now.history }
     {
         let _ = &self.history;
     }

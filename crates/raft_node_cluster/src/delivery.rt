@@ -1,6 +1,6 @@
 //! A frame comes to its node in pieces.
 ghost use Rattle.std.specs.Prelude.{◌≡◌};
-ghost use Rattle.raft_node_cluster.specs.Delivery.{Comes, piece, pieces_from};
+ghost use Rattle.raft_node_laws.specs.Delivery.{Comes, piece, pieces_from};
 
 use raft_cluster_events::{ClusterNode, NodeError, NodeOutcome};
 

@@ -3,7 +3,7 @@ ghost use Rattle.std.specs.Prelude.{◌≡◌, ◌<◌, ◌==◌, length, positi
 ghost use Rattle.std.specs.Option.{option_copied, option_map};
 ghost use Rattle.raft_group_step.specs.Values.{membership_eq};
 ghost use Rattle.raft_sent_frames.specs.Frames.{frames_of};
-ghost use Rattle.raft_node_cluster.specs.Facts.{asked_of, cuts_of, delivered, differs, is_taken, membership_in, node_at, node_of, node_there, set_up_asked, set_up_by, standing_of};
+ghost use Rattle.raft_node_cluster.specs.Facts.{asked_of, cuts_of, delivered, differs, is_taken, membership_in, node_at, node_of, node_there, place_in, set_up_asked, set_up_by, standing_of};
 
 use raft_cluster_conditions::{Asked, NodeStanding};
 use raft_cluster_events::{ClusterEvent, ClusterNode, EventOutcome, GroupCommand, Recorded};
@@ -131,6 +131,7 @@ fn position_of<N: ClusterNode>(nodes: &[N], id: u64) -> Option<usize>
 #[tactic(auto, using(crate::proofs::FactLemmas::there_found))]
 pub fn place_of<N: ClusterNode>(nodes: &[N], id: Option<u64>) -> Option<usize>
     ensures within { IfSome result (λ place. place < length nodes.now) }
+    ensures first { result ≡ place_in N.acts nodes.now id }
     ensures node { node_there nodes.now result ≡ node_at N.acts nodes.now id }
 {
     match id {

@@ -1,19 +1,20 @@
 //! An event comes to its node.
-ghost use Rattle.std.specs.Prelude.{◌≡◌, ℕ, IfOk};
+ghost use Rattle.std.specs.Prelude.{◌≡◌, ◌∷◌, ℕ, [], Ok};
 ghost use Rattle.raft_sent_frames.specs.Frames.{frames_of};
 ghost use Rattle.raft_cluster_events.specs.declared.event.ClusterEvent.{ClusterEvent as Event};
 ghost use Rattle.raft_cluster_events.specs.declared.event.ClusterEvent.TheVariants.{Reopen};
 ghost use Rattle.raft_node_cluster.specs.Facts.{delivered};
-ghost use Rattle.raft_node_cluster.specs.Happening.{ComesTo, Delivers, IsOfGroup, Settles, listed, one_of, opening_of, over, some_of};
+ghost use Rattle.raft_node_laws.specs.Answered.{one_of, opening_of, some_of};
+ghost use Rattle.raft_node_cluster.specs.Happening.{ComesTo, Delivers, IsOfGroup, Settles, over};
 
 use crate::delivery::deliver;
 use crate::facts::delivered;
-use crate::sending::send_all;
+use crate::sending::{send_all, send_alone};
 use raft_cluster_events::{
     ClusterEvent, ClusterNode, EventOutcome, NodeError, NodeOutcome, Stop, StopCause,
 };
 use raft_sent_frames::{SentFrames, Sequence};
-use std::alloc::{AllocError, Global};
+use std::alloc::Global;
 
 // What becomes of an event that the node didn't do.
 fn over(error: NodeError) -> EventOutcome
@@ -25,37 +26,44 @@ fn over(error: NodeError) -> EventOutcome
     }
 }
 
-// The outcome alone, or none.
-fn listed(alloc: Global, outcome: Option<NodeOutcome>) -> Result<Sequence<NodeOutcome>, AllocError>
-    ensures { IfOk result (λ outcomes. outcomes ≡ listed outcome) }
+// What the node did in a group becomes the event's outcome. Without memory for that the node stops, and
+// the event's own tokens stay unknown with the others.
+fn settle_one<N: ClusterNode>(
+    alloc: Global,
+    sent: &mut SentFrames,
+    node: &mut N,
+    outcome: NodeOutcome,
+) -> EventOutcome
+    ensures does { (event : Event) → IsOfGroup event → Settles N.acts (frames_of sent.old) event node.old (Ok (outcome ∷ [])) result (frames_of sent.new) node.new }
+    ensures id { N.acts.id node.new ≡ N.acts.id node.old }
 {
-    let mut outcomes = Sequence::new(alloc);
-    if let Some(outcome) = outcome {
-        outcomes.push(outcome)?;
+    match send_alone(alloc, sent, node.id(), outcome) {
+        Ok(parts) => EventOutcome::Done(parts),
+        Err(unsaid) => {
+            let stop = node.fail();
+            EventOutcome::Stopped(Stop {
+                cause: stop.cause,
+                unsaid: Some(unsaid),
+                unknown: stop.unknown,
+            })
+        }
     }
-    Ok(outcomes)
 }
 
-// What the node did in a group, if it did something, becomes the event's outcome. Without memory for
-// that the node stops.
+// What the node answered to an event of a group becomes the event's outcome.
 fn settle<N: ClusterNode>(
     alloc: Global,
     sent: &mut SentFrames,
     node: &mut N,
     answered: Result<Option<NodeOutcome>, NodeError>,
 ) -> EventOutcome
-    ensures { (event : Event) → IsOfGroup event → Settles N.acts (frames_of sent.old) event node.old (some_of answered) result (frames_of sent.new) node.new }
+    ensures does { (event : Event) → IsOfGroup event → Settles N.acts (frames_of sent.old) event node.old (some_of answered) result (frames_of sent.new) node.new }
+    ensures id { N.acts.id node.new ≡ N.acts.id node.old }
 {
-    let outcome = match answered {
-        Ok(outcome) => outcome,
-        Err(error) => return over(error),
-    };
-    let Ok(outcomes) = listed(alloc, outcome) else {
-        return EventOutcome::Stopped(node.fail());
-    };
-    match send_all(alloc, sent, node.id(), outcomes) {
-        Ok(parts) => EventOutcome::Done(parts),
-        Err(_) => EventOutcome::Stopped(node.fail()),
+    match answered {
+        Ok(Some(outcome)) => settle_one(alloc, sent, node, outcome),
+        Ok(None) => EventOutcome::Done(Sequence::new(alloc)),
+        Err(error) => over(error),
     }
 }
 
@@ -66,7 +74,8 @@ fn settle_opening<N: ClusterNode>(
     node: &mut N,
     answered: Result<Sequence<NodeOutcome>, Stop>,
 ) -> EventOutcome
-    ensures { (at workers : ℕ) → Settles N.acts (frames_of sent.old) (Reopen at workers) node.old (opening_of answered) result (frames_of sent.new) node.new }
+    ensures does { (at workers : ℕ) → Settles N.acts (frames_of sent.old) (Reopen at workers) node.old (opening_of answered) result (frames_of sent.new) node.new }
+    ensures id { N.acts.id node.new ≡ N.acts.id node.old }
 {
     match answered {
         Ok(outcomes) => match send_all(alloc, sent, node.id(), outcomes) {
@@ -75,6 +84,7 @@ fn settle_opening<N: ClusterNode>(
                 node.close();
                 EventOutcome::Stopped(Stop {
                     cause: StopCause::Memory,
+                    unsaid: None,
                     unknown: Sequence::new(alloc),
                 })
             }
@@ -91,7 +101,8 @@ fn deliver_event<N: ClusterNode>(
     cuts: &[u64],
     now: u64,
 ) -> Result<Option<NodeOutcome>, NodeError>
-    ensures { Delivers N.acts (delivered (frames_of sent.now) event.now) cuts.now now node.old (some_of result) node.new }
+    ensures delivers { Delivers N.acts (delivered (frames_of sent.now) event.now) cuts.now now node.old (some_of result) node.new }
+    ensures id { N.acts.id node.new ≡ N.acts.id node.old }
 {
     match delivered(sent, event) {
         Some(frame) => deliver(node, frame.sender, frame.bytes.as_slice(), cuts, now),

@@ -1,23 +1,26 @@
 //! What a node's event sends is numbered.
-ghost use Rattle.std.specs.Prelude.{◌≡◌, ℕ, List, [], IfOk, OnOk, OnErr};
+ghost use Rattle.std.specs.Prelude.{◌≡◌, ◌∷◌, ℕ, List, [], IfOk, IfErr, OnOk, OnErr};
 ghost use Rattle.raft_sent_frames.specs.Frames.{frames_of};
 ghost use Rattle.raft_node_cluster.specs.Facts.{Sent};
 ghost use Rattle.raft_node_cluster.specs.Sending.{AnySent, AreSent, part_of, parts_of, sent_after, sent_after_one};
+ghost use Rattle.raft_node_laws.specs.Answered.{unsaid_of};
 ghost use Rattle.raft_cluster_events.specs.declared.node.NodeOutcome.{NodeOutcome};
 
-use raft_cluster_events::{GroupOutcome, NodeOutcome};
+use raft_cluster_events::{GroupOutcome, NodeOutcome, Unsaid};
 use raft_sent_frames::{SentFrames, Sequence};
 use std::alloc::{AllocError, Global};
 
-// The frames of a group's outcome are sent. An `Err` sends none.
+// The frames of a group's outcome are sent. An `Err` is want of memory: it sends none, and hands back
+// the tokens.
 fn send_one(
     sent: &mut SentFrames,
     sender: u64,
     outcome: NodeOutcome,
-) -> Result<GroupOutcome, AllocError>
+) -> Result<GroupOutcome, Unsaid>
     ensures part { IfOk result (λ part. part ≡ part_of (frames_of sent.old) outcome) }
     ensures sends { OnOk result ((group : ℕ) → frames_of sent.new group ≡ sent_after_one (frames_of sent.old) sender outcome group) }
     ensures err { OnErr result ((group : ℕ) → frames_of sent.new group ≡ frames_of sent.old group) }
+    ensures unsaid { IfErr result (λ unsaid. unsaid ≡ unsaid_of outcome) }
 {
     let NodeOutcome {
         group,
@@ -25,13 +28,44 @@ fn send_one(
         told,
         unknown,
     } = outcome;
-    let sent = sent.send(sender, group, frames)?;
-    Ok(GroupOutcome {
-        group,
-        sent,
-        told,
-        unknown,
-    })
+    match sent.send(sender, group, frames) {
+        Ok(sent) => Ok(GroupOutcome {
+            group,
+            sent,
+            told,
+            unknown,
+        }),
+        Err(_) => Err(Unsaid {
+            group,
+            told,
+            unknown,
+        }),
+    }
+}
+
+/// The frames of a group's outcome are sent. An `Err` is want of memory: it sends none, and hands back
+/// the tokens.
+pub fn send_alone(
+    alloc: Global,
+    sent: &mut SentFrames,
+    sender: u64,
+    outcome: NodeOutcome,
+) -> Result<Sequence<GroupOutcome>, Unsaid>
+    ensures ok { IfOk result (λ parts. AreSent (frames_of sent.old) sender (outcome ∷ []) parts (frames_of sent.new)) }
+    ensures err { OnErr result ((group : ℕ) → frames_of sent.new group ≡ frames_of sent.old group) }
+    ensures unsaid { IfErr result (λ unsaid. unsaid ≡ unsaid_of outcome) }
+{
+    let mut parts = Vec::new(alloc);
+    let Ok(()) = parts.reserve(1) else {
+        return Err(Unsaid {
+            group: outcome.group,
+            told: outcome.told,
+            unknown: outcome.unknown,
+        });
+    };
+    let part = send_one(sent, sender, outcome)?;
+    parts.push(part).unwrap();
+    Ok(Sequence::from_vec(parts))
 }
 
 // What an outcome's group sent is taken back.
@@ -70,7 +104,9 @@ fn send_more(
 {
     for outcome in outcomes {
         done.reserve(1)?;
-        let part = send_one(sent, sender, outcome)?;
+        let Ok(part) = send_one(sent, sender, outcome) else {
+            return Err(AllocError);
+        };
         done.push(part).unwrap();
     }
     Ok(())

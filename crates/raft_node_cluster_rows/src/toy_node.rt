@@ -29,6 +29,7 @@ fn done<T>(made: Result<T, AllocError>, alloc: Global) -> Result<T, NodeError> {
         Ok(made) => Ok(made),
         Err(_) => Err(NodeError::Stopped(Stop {
             cause: StopCause::Memory,
+            unsaid: None,
             unknown: Sequence::new(alloc),
         })),
     }
@@ -55,6 +56,7 @@ impl ToyNode {
         unknown.push(Unknown { group, token })?;
         Ok(Stop {
             cause: StopCause::Io,
+            unsaid: None,
             unknown,
         })
     }
@@ -68,6 +70,7 @@ impl ClusterNode for ToyNode {
     ghost acts = { record {
       id = λ n. n.id;
       is_up = λ n. n.is_up;
+      begins = λ id n. Unit {0};
       adds = λ old group answered new. Unit {0};
       asks = λ old group call now answered new. Unit {0};
       feeds = λ old peer piece now answered new. Unit {0};
@@ -76,6 +79,11 @@ impl ClusterNode for ToyNode {
       crashes = λ old choice new. Unit {0};
       reopens = λ old workers answered new. Unit {0};
       closes = λ old new. Unit {0};
+    } };
+
+    ghost states = { record {
+      may_be = λ n group states. Unit {0};
+      spells = λ group message bytes. Unit {0};
     } };
 
     fn begin(alloc: Global, id: u64, _settings: &u64) -> Result<Self, AllocError> {
@@ -142,6 +150,7 @@ impl ClusterNode for ToyNode {
     fn fail(&mut self) -> Stop {
         Stop {
             cause: StopCause::Memory,
+            unsaid: None,
             unknown: Sequence::new(self.alloc),
         }
     }

@@ -73,6 +73,7 @@ pub fn stop_of(
     let unknown = unknown_of(alloc, tokens).unwrap_or(Sequence::new(alloc));
     Stop {
         cause: cause_of(cause),
+        unsaid: None,
         unknown,
     }
 }
@@ -107,6 +108,7 @@ pub fn as_stop(alloc: Global, fault: NodeFault) -> Stop {
         NodeError::Stopped(stop) => stop,
         NodeError::Refused(_) => Stop {
             cause: StopCause::Other,
+            unsaid: None,
             unknown: Sequence::new(alloc),
         },
     }

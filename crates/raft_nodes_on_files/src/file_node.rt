@@ -8,8 +8,8 @@ use raft_cluster_events::{
     ClusterNode, CrashChoice, GroupCommand, NodeError, NodeOutcome, NodeRefusal, Sequence, Stop,
     StopCause,
 };
-use raft_log_engine::EngineFault;
-use raft_log_files::{Config, MemoryFileSystem};
+use raft_log_engine::{EngineFault, LogFiles};
+use raft_log_files::Config;
 use raft_machines::StateMachine;
 use raft_node::{Fed, Node, Opened, Outcome};
 use raft_store::StoreFault;
@@ -21,11 +21,10 @@ use std::mem;
 pub struct FileNode<M: StateMachine> {
     alloc: Global,
     id: u64,
-    settings: Config,
-    // The node where it is up, which has the files then.
+    // The node where it is up, which has the files and their settings then.
     up: Option<Node<M, Kept<M>>>,
     // The files where it is down.
-    files: MemoryFileSystem,
+    files: LogFiles,
 }
 
 // What a node that is down answers.
@@ -37,12 +36,14 @@ fn down<T>() -> Result<T, NodeError> {
 fn out_of_memory(alloc: Global) -> Stop {
     Stop {
         cause: StopCause::Memory,
+        unsaid: None,
         unknown: Sequence::new(alloc),
     }
 }
 
 impl<M: StateMachine> FileNode<M> {
-    // What the node did, as a cluster takes it. Without memory for that the node stops.
+    // What the node did, as a cluster takes it. Without memory for that the node stops, and the event's
+    // own tokens stay unknown with the others.
     fn taken(&mut self, answered: Result<Outcome, NodeFault>) -> Result<NodeOutcome, NodeError>
         ensures id { self.new.id ≡ self.old.id }
         ensures up { is_some self.new.up ≡ is_some self.old.up }
@@ -50,7 +51,14 @@ impl<M: StateMachine> FileNode<M> {
         match answered {
             Ok(outcome) => match outcome_of(self.alloc, outcome) {
                 Ok(outcome) => Ok(outcome),
-                Err(_) => Err(NodeError::Stopped(self.fail())),
+                Err(unsaid) => {
+                    let stop = self.fail();
+                    Err(NodeError::Stopped(Stop {
+                        cause: stop.cause,
+                        unsaid: Some(unsaid),
+                        unknown: stop.unknown,
+                    }))
+                }
             },
             Err(fault) => Err(error_of(self.alloc, fault)),
         }
@@ -106,6 +114,7 @@ impl<M: StateMachine> ClusterNode for FileNode<M> {
     ghost acts = { record {
       id = λ n. n.id;
       is_up = λ n. is_some n.up;
+      begins = λ id n. Unit {0};
       adds = λ old group answered new. Unit {0};
       asks = λ old group call now answered new. Unit {0};
       feeds = λ old peer piece now answered new. Unit {0};
@@ -116,13 +125,17 @@ impl<M: StateMachine> ClusterNode for FileNode<M> {
       closes = λ old new. Unit {0};
     } };
 
+    ghost states = { record {
+      may_be = λ n group states. Unit {0};
+      spells = λ group message bytes. Unit {0};
+    } };
+
     fn begin(alloc: Global, id: u64, settings: &Config) -> Result<Self, AllocError> {
         let mut node = FileNode {
             alloc,
             id,
-            settings: settings.clone()?,
             up: None,
-            files: MemoryFileSystem::new(alloc),
+            files: LogFiles::new(alloc, settings.clone()?),
         };
         // Where its files can't be opened it is down.
         let _ = node.reopen(1);
@@ -205,8 +218,9 @@ impl<M: StateMachine> ClusterNode for FileNode<M> {
         if self.up.is_some() {
             return Ok(Sequence::new(self.alloc));
         }
-        let files = mem::replace(&mut self.files, MemoryFileSystem::new(self.alloc));
-        match open_node(self.alloc, self.id, &self.settings, files) {
+        let none = LogFiles::new(self.alloc, Config::default(self.alloc));
+        let files = mem::replace(&mut self.files, none);
+        match open_node(self.alloc, self.id, files) {
             Ok(opened) => self.opened(opened),
             Err(Unopened { stop, files }) => {
                 self.files = files;

@@ -1,6 +1,6 @@
 //! What a node's events do, as a cluster takes it.
 
-use raft_cluster_events::{NodeFrame, NodeOutcome, Sequence};
+use raft_cluster_events::{NodeFrame, NodeOutcome, Sequence, Unsaid};
 use raft_framed_groups::GroupFrame;
 use raft_node::Outcome;
 use raft_state::Bytes;
@@ -19,20 +19,30 @@ fn frames_of(alloc: Global, frames: Vec<GroupFrame>) -> Result<Sequence<NodeFram
     Ok(taken)
 }
 
-/// The outcome of one event in its group.
-pub fn outcome_of(alloc: Global, outcome: Outcome) -> Result<NodeOutcome, AllocError> {
+/// The outcome of one event in its group. An `Err` is want of memory for its frames, and hands back its
+/// tokens.
+pub fn outcome_of(alloc: Global, outcome: Outcome) -> Result<NodeOutcome, Unsaid> {
     let Outcome {
         group,
         frames,
         told,
         unknown,
     } = outcome;
-    Ok(NodeOutcome {
-        group,
-        frames: frames_of(alloc, frames)?,
-        told: Sequence::from_vec(told),
-        unknown: Sequence::from_vec(unknown),
-    })
+    let told = Sequence::from_vec(told);
+    let unknown = Sequence::from_vec(unknown);
+    match frames_of(alloc, frames) {
+        Ok(frames) => Ok(NodeOutcome {
+            group,
+            frames,
+            told,
+            unknown,
+        }),
+        Err(_) => Err(Unsaid {
+            group,
+            told,
+            unknown,
+        }),
+    }
 }
 
 /// The outcomes of an opening, in their order.
@@ -42,7 +52,10 @@ pub fn outcomes_of(
 ) -> Result<Sequence<NodeOutcome>, AllocError> {
     let mut taken = Sequence::new(alloc);
     for outcome in outcomes {
-        taken.push(outcome_of(alloc, outcome)?)?;
+        let Ok(outcome) = outcome_of(alloc, outcome) else {
+            return Err(AllocError);
+        };
+        taken.push(outcome)?;
     }
     Ok(taken)
 }

@@ -8,8 +8,8 @@ use crate::words::{log_id, vote};
 use raft_known_state::KnownState;
 use raft_rows::{Answer, number};
 use raft_state::{
-    BasicNode, Bytes, Entry, EntryPayload, IdSet, LeaderId, LogId, LogIdOptionExt, Membership,
-    NodeMap, RaftState, SnapshotMeta, StoredMembership, Vote, VoterGroups,
+    BasicNode, Bytes, Entry, EntryPayload, LeaderId, LogId, LogIdOptionExt, Membership, RaftState,
+    SnapshotMeta, StoredMembership, Vote,
 };
 use std::alloc::{AllocError, Global};
 
@@ -33,21 +33,17 @@ fn blank(term: u64, index: u64) -> Entry<u64, BasicNode, Bytes>
     }
 }
 
-// These voters, of the nodes 1 to 3.
-fn members(alloc: Global, voters: &[u64]) -> Result<Membership<u64, BasicNode>, AllocError> {
-    let mut groups = VoterGroups::new(alloc);
-    groups.push(IdSet::from_slice(alloc, voters)?)?;
-    let mut nodes = NodeMap::new(alloc);
-    for id in [3u64, 1, 2] {
-        nodes.insert(id, BasicNode::new(alloc, "host")?)?;
-    }
-    Ok(Membership::from_parts(groups, nodes))
+// The first so many of the nodes 1 to 3 are voters.
+fn members(alloc: Global, voters: usize) -> Result<Membership<u64, BasicNode>, AllocError> {
+    let nodes = [(1, "host"), (2, "host"), (3, "host")];
+    let voters = nodes.get(..voters).unwrap_or(&[]);
+    Membership::of_one_group(alloc, voters, &nodes).map_err(|_| AllocError)
 }
 
 fn member_entry(
     alloc: Global,
     index: u64,
-    voters: &[u64],
+    voters: usize,
 ) -> Result<Entry<u64, BasicNode, Bytes>, AllocError>
     ensures { IfOk result (λ e. e.log_id ≡ log_id_of 1 1 index) }
 {
@@ -70,15 +66,15 @@ pub fn new_group(alloc: Global) -> Known
 
 // A group with the purge point (1,1,3), a membership at place 4 and a blank entry at place 5.
 fn read_group(alloc: Global) -> Result<Known, AllocError> {
-    let entries = [member_entry(alloc, 4, &[1, 2])?, blank(2, 5)];
+    let entries = [member_entry(alloc, 4, 2)?, blank(2, 5)];
     let meta = SnapshotMeta::default(alloc);
     KnownState::load(alloc, Vote::new(2, 1), Some(id(1, 3)), meta, &entries)
 }
 
 // A group with memberships at places 0 and 2, and blank entries at places 1 and 3.
 fn grown_group(alloc: Global) -> Result<Known, AllocError> {
-    let first = member_entry(alloc, 0, &[1])?;
-    let third = member_entry(alloc, 2, &[1, 2])?;
+    let first = member_entry(alloc, 0, 1)?;
+    let third = member_entry(alloc, 2, 2)?;
     let entries = [first, blank(1, 1), third, blank(2, 3)];
     let mut known = new_group(alloc);
     known.append(&entries)?;
@@ -177,7 +173,7 @@ fn purge_first(known: &mut Known) -> Result<(), AllocError> {
 fn save_snapshot(known: &mut Known, alloc: Global) -> Result<(), AllocError> {
     known.save_snapshot(SnapshotMeta {
         last_log_id: Some(id(1, 0)),
-        last_membership: StoredMembership::new(Some(id(1, 0)), members(alloc, &[1])?),
+        last_membership: StoredMembership::new(Some(id(1, 0)), members(alloc, 1)?),
     })
 }
 

@@ -52,6 +52,10 @@ fn leader_after(
         "old-entries" => leader(alloc, vote, voters, &[id(1, 2, 1), id(1, 2, 3)]),
         "own-entries" => leader(alloc, vote, voters, &[id(2, 2, 1), id(2, 2, 3)]),
         "place-8" => leader(alloc, vote, voters, &[id(1, 1, 8)]),
+        "own-4-to-6" => {
+            let keys = [id(1, 1, 1), id(2, 2, 4), id(2, 2, 6)];
+            leader(alloc, vote, voters, &keys)
+        }
         "own-place-6" => leader(alloc, vote, voters, &[id(2, 2, 6)]),
         "term-9" => {
             let vote = Vote::new_committed(9, 2);

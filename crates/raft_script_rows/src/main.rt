@@ -10,18 +10,30 @@
 //! - `reads N LENGTH`: `nodes 1|` and a comment of so many bytes, by a reader that gives N bytes at
 //!   a time: how many were asked for at most, and how many were given;
 //! - `events EVENT|EVENT|..`: events that a cluster runs at once, without a script;
-//! - `status`: the exit status of a script that finds no memory.
+//! - `status`: the exit status of a script that finds no memory;
+//! - `session ROW`: such a row, where a session answers each line by its length, by `line` and its
+//!   number where it is `!`, and finds no memory where it is `?`.
 #![tactic(auto)]
 
 mod broken;
 mod clusters;
+mod sessions;
 
 use broken::{Flushed, Piecewise, Stubborn};
 use clusters::run_events;
 use percent_encoding::percent_decode;
-use raft_cluster::{ScriptEnd, run_script};
+use raft_cluster::ScriptEnd;
+use raft_script_session::ScriptEnd as SessionEnd;
+use sessions::{Ended, run_by, session_ended};
 use std::alloc::{AllocError, Global};
 use std::io;
+
+/// A line of the input, and whether a session counts its script's lines.
+#[derive(Clone, Copy)]
+struct Row<'a> {
+    line: &'a str,
+    counts: bool,
+}
 
 /// The bytes that a script's text stands for.
 fn bytes_of(alloc: Global, text: &str) -> Result<Vec<u8>, AllocError> {
@@ -51,64 +63,79 @@ fn number_of(text: &str) -> (usize, &str) {
     (word.parse().unwrap_or(usize::MAX), rest)
 }
 
-fn print_end(rt: &impl Print, line: &str, end: ScriptEnd, written: &[u8]) -> io::Result<()> {
+fn print_end(rt: &impl Print, row: Row<'_>, ended: Ended, written: &[u8]) -> io::Result<()> {
     let text = str::from_utf8(written).unwrap_or("no UTF-8");
-    println!(rt; "{line} -> {end:?} {} {text:?}", end.status())
+    let Ended { end, status } = ended;
+    println!(rt; "{} -> {end:?} {status} {text:?}", row.line)
 }
 
-fn run(rt: &HostRuntime, line: &str, script: &[u8]) -> io::Result<()> {
+fn run(rt: &HostRuntime, row: Row<'_>, script: &[u8]) -> io::Result<()> {
     let mut reader = script;
     let mut writer = Vec::new(rt.alloc());
-    let end = run_script(rt.alloc(), &mut reader, &mut writer);
-    print_end(rt, line, end, writer.as_slice())
+    let ended = run_by(rt.alloc(), row.counts, &mut reader, &mut writer);
+    print_end(rt, row, ended, writer.as_slice())
 }
 
-fn run_in_pieces(rt: &HostRuntime, line: &str, words: &str) -> io::Result<()> {
+fn run_in_pieces(rt: &HostRuntime, row: Row<'_>, words: &str) -> io::Result<()> {
     let (piece, rest) = number_of(words);
     let (read, rest) = number_of(rest);
     let (room, text) = number_of(rest);
     let script = bytes_of(rt.alloc(), text)?;
     let mut reader = Piecewise::new(script.as_slice(), piece, read);
     let mut writer = Stubborn::new(rt.alloc(), piece, room);
-    let end = run_script(rt.alloc(), &mut reader, &mut writer);
-    print_end(rt, line, end, writer.written())
+    let ended = run_by(rt.alloc(), row.counts, &mut reader, &mut writer);
+    print_end(rt, row, ended, writer.written())
 }
 
-fn run_flushed(rt: &HostRuntime, line: &str, words: &str) -> io::Result<()> {
+fn run_flushed(rt: &HostRuntime, row: Row<'_>, words: &str) -> io::Result<()> {
     let (piece, text) = number_of(words);
     let script = bytes_of(rt.alloc(), text)?;
     let mut reader = Piecewise::new(script.as_slice(), piece, usize::MAX);
     let mut writer = Flushed::new(rt.alloc());
-    let end = run_script(rt.alloc(), &mut reader, &mut writer);
-    print_end(rt, line, end, writer.written())
+    let ended = run_by(rt.alloc(), row.counts, &mut reader, &mut writer);
+    print_end(rt, row, ended, writer.written())
 }
 
-fn run_counted(rt: &HostRuntime, line: &str, words: &str) -> io::Result<()> {
+fn run_counted(rt: &HostRuntime, row: Row<'_>, words: &str) -> io::Result<()> {
     let (piece, rest) = number_of(words);
     let (length, _) = number_of(rest);
     let script = with_comment(rt.alloc(), length, &[])?;
     let mut reader = Piecewise::new(script.as_slice(), piece, usize::MAX);
     let mut writer = Vec::new(rt.alloc());
-    let end = run_script(rt.alloc(), &mut reader, &mut writer);
+    let Ended { end, .. } = run_by(rt.alloc(), row.counts, &mut reader, &mut writer);
     let (given, most) = (reader.given(), reader.most());
-    println!(rt; "{line} -> {end:?} {given} of at most {most}")
+    println!(rt; "{} -> {end:?} {given} of at most {most}", row.line)
+}
+
+/// The status where memory is lacking.
+fn memory_status(row: Row<'_>) -> u8 {
+    if row.counts {
+        session_ended(SessionEnd::Memory).status
+    } else {
+        ScriptEnd::Memory.status()
+    }
 }
 
 fn answer(rt: &HostRuntime, line: &str) -> io::Result<()> {
-    let (call, words) = line.split_once(' ').unwrap_or((line, ""));
+    let (counts, text) = match line.strip_prefix("session ") {
+        Some(text) => (true, text),
+        None => (false, line),
+    };
+    let row = Row { line, counts };
+    let (call, words) = text.split_once(' ').unwrap_or((text, ""));
     match call {
-        "run" => run(rt, line, bytes_of(rt.alloc(), words)?.as_slice()),
+        "run" => run(rt, row, bytes_of(rt.alloc(), words)?.as_slice()),
         "comment" => {
             let (length, text) = number_of(words);
             let rest = bytes_of(rt.alloc(), text)?;
             let script = with_comment(rt.alloc(), length, rest.as_slice())?;
-            run(rt, line, script.as_slice())
+            run(rt, row, script.as_slice())
         }
-        "pieces" => run_in_pieces(rt, line, words),
-        "flushes" => run_flushed(rt, line, words),
-        "reads" => run_counted(rt, line, words),
+        "pieces" => run_in_pieces(rt, row, words),
+        "flushes" => run_flushed(rt, row, words),
+        "reads" => run_counted(rt, row, words),
         "events" => println!(rt; "{line} -> {}", run_events(rt.alloc(), words)?),
-        "status" => println!(rt; "{line} -> {}", ScriptEnd::Memory.status()),
+        "status" => println!(rt; "{line} -> {}", memory_status(row)),
         _ => println!(rt; "{line} -> no row"),
     }
 }

@@ -2,10 +2,13 @@
 ghost use Rattle.std.specs.Prelude.{◌≡◌, ℕ, List, [], ◌∷◌, OnOk, OnErr};
 ghost use Rattle.raft_group_step.specs.StoredGroup.{Snapshot, StoredGroup};
 ghost use Rattle.raft_group_step.specs.StoredGroup.{CutFrom, MakeGroup, PutEntries, RemoveUpTo, SetSnapshot, SetVote, StartAfter};
+ghost use Rattle.raft_content_log.specs.Leaving.{LeavesOnly};
+ghost use Rattle.raft_group_step.specs.GroupState.{no_group};
 ghost use Rattle.raft_group_storage.specs.Keeping.{KeepsOthers, MayStore, Stores};
+ghost use Rattle.raft_log_memtables.specs.Content.{nothing};
 ghost use Rattle.raft_log_records.specs.Item.{Change};
 ghost use Rattle.raft_store.specs.Batches.{Carries, ShowsBy, of_group};
-ghost use Rattle.raft_store.specs.Reading.{StandsFor};
+ghost use Rattle.raft_store.specs.Reading.{HoldsOne, StandsFor};
 
 use crate::batches::{
     end_batch, entry_batch, make_batch, removal_batch, snapshot_batch, start_batch, vote_batch,
@@ -29,9 +32,15 @@ pub struct Store<M: StateMachine, L: ContentLog> {
 }
 
 impl<M: StateMachine, L: ContentLog> Store<M, L> {
-    /// The groups that the log has. Takes no memory (own).
+    /// The groups that the log has. Takes no memory (own). Where the log leaves nothing but what it
+    /// answers, as one does that was opened, the parts are shown that the answer holds. Where it has
+    /// nothing the node has no group.
     pub fn new(alloc: Global, log: L) -> Store<M, L>
-        ensures { result.log ≡ log }
+        ensures log { result.log ≡ log }
+        ensures shown { (group : ℕ) (parts : List StoredGroup) → LeavesOnly (L.leaves log) (L.answers log) → HoldsOne M.rules (L.answers log group) parts
+            → ShowsBy M.rules L.is_sound L.answers L.leaves result.log group parts }
+        ensures none { (group : ℕ) → LeavesOnly (L.leaves log) (L.answers log) → L.answers log ≡ nothing
+            → ShowsBy M.rules L.is_sound L.answers L.leaves result.log group (no_group ∷ []) }
     {
         Store {
             alloc,

@@ -3,9 +3,7 @@
 use raft_group_step::{LoggedMembership, SnapshotMeta};
 use raft_messages::{GroupEntry, GroupPayload, SnapshotBytes};
 use raft_rows::{bytes, number};
-use raft_state::{
-    BasicNode, Bytes, Entry, EntryPayload, IdSet, LeaderId, LogId, Membership, NodeMap, VoterGroups,
-};
+use raft_state::{BasicNode, Bytes, Entry, EntryPayload, LeaderId, LogId, Membership};
 use std::alloc::{AllocError, Global};
 
 /// The log id of node 1.
@@ -23,12 +21,8 @@ pub fn place_or_none(word: &str) -> Option<LogId<u64>> {
 
 /// The voters 1 and 2.
 fn members(alloc: Global) -> Result<Membership<u64, BasicNode>, AllocError> {
-    let mut groups = VoterGroups::new(alloc);
-    groups.push(IdSet::from_slice(alloc, &[1, 2])?)?;
-    let mut nodes = NodeMap::new(alloc);
-    nodes.insert(1, BasicNode::new(alloc, "one")?)?;
-    nodes.insert(2, BasicNode::new(alloc, "two")?)?;
-    Ok(Membership::from_parts(groups, nodes))
+    let voters = [(1, "one"), (2, "two")];
+    Membership::of_one_group(alloc, &voters, &[]).map_err(|_| AllocError)
 }
 
 fn payload(alloc: Global, word: &str) -> Result<GroupPayload, AllocError> {

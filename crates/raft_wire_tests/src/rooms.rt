@@ -63,21 +63,31 @@ fn rooms_of_two(
     (before, rooms(&mut feeder, second, size))
 }
 
+// The answer to a row about one frame of this kind and length, in pieces of this size.
+fn of_one(bytes: &[u8], alloc: Global, kind: u64, len: u64, size: u64) -> Option<Answer> {
+    let frame = lengthened(alloc, bytes, (kind % 256) as u8, len as usize).ok()?;
+    let mut feeder = new_feeder(alloc);
+    let found = rooms(&mut feeder, &frame, size as usize);
+    Some(Answer::shown(alloc, &found))
+}
+
+// The answer to a row about two frames of these lengths.
+fn of_two(bytes: &[u8], alloc: Global, first: u64, second: u64, size: u64) -> Option<Answer> {
+    let first = lengthened(alloc, bytes, 5, first as usize).ok()?;
+    let second = lengthened(alloc, bytes, 5, second as usize).ok()?;
+    let found = rooms_of_two(alloc, &first, &second, size as usize);
+    Some(Answer::shown(alloc, &found))
+}
+
 /// The answer to a row about a large frame that is made of the frame that the bytes are.
 pub fn roomy(bytes: &[u8], alloc: Global, words: &[&str]) -> Option<Answer> {
-    Some(match *words {
+    match *words {
         ["large-frame", kind, len, size] => {
-            let kind = (number(kind) % 256) as u8;
-            let frame = lengthened(alloc, bytes, kind, number(len) as usize).ok()?;
-            let mut feeder = new_feeder(alloc);
-            Answer::shown(alloc, &rooms(&mut feeder, &frame, number(size) as usize))
+            of_one(bytes, alloc, number(kind), number(len), number(size))
         }
         ["two-frames", first, second, size] => {
-            let first = lengthened(alloc, bytes, 5, number(first) as usize).ok()?;
-            let second = lengthened(alloc, bytes, 5, number(second) as usize).ok()?;
-            let size = number(size) as usize;
-            Answer::shown(alloc, &rooms_of_two(alloc, &first, &second, size))
+            of_two(bytes, alloc, number(first), number(second), number(size))
         }
-        _ => return None,
-    })
+        _ => None,
+    }
 }

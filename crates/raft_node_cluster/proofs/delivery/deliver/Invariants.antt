@@ -2,7 +2,7 @@
 use Rattle.std.proofs.Common.{◌≡◌, Option, Result, drop}
 use Rattle.raft_cluster_events.specs.declared.node.NodeOutcome.{NodeOutcome}
 use Rattle.raft_cluster_events.specs.declared.outcome.NodeError.{NodeError}
-use Rattle.raft_node_cluster.specs.Delivery.{Comes, pieces_from}
+use Rattle.raft_node_laws.specs.Delivery.{Comes, pieces_from}
 use Rattle.raft_node_cluster.proofs.delivery.deliver.Given as goal
 
 abbrev pub invariant-loop-cut : goal.invariant-loop-cut

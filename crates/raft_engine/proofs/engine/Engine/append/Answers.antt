@@ -34,6 +34,7 @@ returns g c = λ x own r lead step leads.
     (c.in_ok-append.ensures.known s k p (subst (ArePlaced (end_place s)) (sym c.as_slice.ensures) q)))
     c.in_ok-append.ensures.rest
     (ap (λ (y : LeaderOf). y.vote) counted.rest ∙ ap (λ (y : LeaderOf). y.vote) given)
+    (ap (λ (y : LeaderOf). y.noop_log_id) counted.rest ∙ ap (λ (y : LeaderOf). y.noop_log_id) given)
     (ap (λ (y : LeaderOf). y.last_log_id) counted.rest ∙ ap (λ (y : LeaderOf). y.last_log_id) given)
     (ap (λ (y : LeaderOf). y.began) counted.rest ∙ ap (λ (y : LeaderOf). y.began) given)
     (λ n. counted.peers n ∙ ap (λ (y : LeaderOf). peer_at nat_eq y n) given)

@@ -1,5 +1,5 @@
 -- Entries of a request that isn't refused have no gap.
-use Rattle.std.proofs.Common.{◌≡◌, ◌∙◌, ap, ap₂, sym, refl, true, false}
+use Rattle.std.proofs.Common.{◌≡◌, ◌∙◌, ap, ap₂, sym, refl, false}
 use Rattle.std.proofs.Math.Bool.{true≢false}
 use Rattle.raft_group_step.specs.Message.{AppendRequest}
 use Rattle.raft_group_step.specs.GroupStep.{begun}

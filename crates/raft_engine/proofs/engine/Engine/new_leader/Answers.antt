@@ -1,12 +1,9 @@
 -- Learners are no voters, and of no peer anything is known.
 use Rattle.std.proofs.Common.{◌∙◌, ap, arith}
-use Rattle.std.specs.Ordering.{nat_cmp}
 use Rattle.raft_values.specs.LogId.{next_place}
 use Rattle.std.specs.Prelude.{nat_eq}
 use Rattle.raft_membership.specs.Membership.{learner_ids}
-use Rattle.raft_state.specs.LogIdList.{last_id}
-use Rattle.raft_engine.proofs.LastIdLemmas.{last_of_leader}
-use Rattle.raft_engine.proofs.LeaderLemmas.{begins, end_of_log, last_of_log}
+use Rattle.raft_engine.proofs.LeaderLemmas.{are_keys_of, begins, last_of_ids}
 use Rattle.raft_engine.proofs.MemberLemmas.{no_voters, rising_distinct}
 use Rattle.raft_engine.proofs.engine.Engine.new_leader.Goals as goal
 
@@ -20,16 +17,15 @@ new-requires-clause-no_voters g c =
 
 pub new-requires-clause-fits : goal.new-requires-clause-fits
 new-requires-clause-fits g c =
-    let same = ap (λ ids. next_place (last_id ids)) c.by_last_leader.ensures ∙ ap next_place (last_of_leader nat_cmp c.args.self.now.state.state.log_ids) in
+    let same = ap next_place (last_of_ids c.key_log_ids.result.now c.args.self.now.state.state.log_ids c.key_log_ids.ensures.order.0 c.key_log_ids.ensures.ids) in
     omega (arith, same, c.requires)
 
 pub returns : goal.returns
 returns g c = λ own s known placed is_own committed.
-    let keys = c.by_last_leader.result.now in
+    let keys = c.key_log_ids.result.now in
     let m = c.in_ok-membership.membership in
     let in_force = c.in_ok-membership.ensures.cases ∙ c.effective_membership.ensures s known in
-    let lasts = last_of_log c.args.self.now.state s known placed keys c.by_last_leader.ensures in
-    let ends = end_of_log c.args.self.now.state s known placed keys c.by_last_leader.ensures in
+    let of_log = are_keys_of keys c.args.self.now.state s known placed c.key_log_ids.ensures.order.0 c.key_log_ids.ensures.ids in
     let learners = c.as_slice.ensures.ids ∙ c.in_ok-learner_ids.ensures ∙ ap (λ y. learner_ids nat_eq y.configs y.nodes) c.membership.ensures in
-    begins own c.args.vote s m in_force keys lasts ends is_own committed c.as_slice.result.now learners
-    c.new.result c.new.ensures.vote c.new.ensures.last_log_id c.new.ensures.began c.new.ensures.voters c.new.ensures.learners
+    begins own c.args.vote s m in_force keys of_log is_own committed c.as_slice.result.now learners
+    c.new.result c.new.ensures.vote c.new.ensures.last_log_id c.new.ensures.noop_log_id c.new.ensures.began c.new.ensures.voters c.new.ensures.learners

@@ -1,0 +1,7 @@
+-- Those so far stand behind the others.
+use Rattle.std.proofs.Common.{◌≡◌, ◌++◌, take}
+use Rattle.raft_cluster_script.specs.Answers.{tokens_of}
+use Rattle.raft_cluster_script.proofs.stops.push_all.Given as goal
+
+abbrev pub invariant-loop-one : goal.invariant-loop-one
+invariant-loop-one l = l.all.items ≡ l.initial.all.items ++ tokens_of (take l.one-index l.unknown)

@@ -1,0 +1,29 @@
+-- A write keeps what the log says of its files; a refused one stops it.
+use Rattle.std.proofs.Common.{refl}
+use Rattle.raft_log_disk.specs.MemorySystem.{disk_in}
+use Rattle.raft_log_engine.proofs.Logs.{is_refused, is_written, refused_others, written_others}
+use Rattle.raft_log_engine.proofs.memory.MemoryLogContentLog.write.Goals as goal
+
+pub returns-in-Ok-clause-ok : goal.returns-in-Ok-clause-ok
+returns-in-Ok-clause-ok c =
+    rw (← c.self.view_is) (λ on takes. is_written disk_in c.self.inside.settings c.self.inside.engine c.write.new.self c.args.batch.now.items c.self.invariant.directories c.in-Ok.ensures.paths c.self.inside.has_failed c.in-Ok.ensures.answers
+    (c.in-Ok.ensures.opens (c.self.invariant.alone c.if-self.false) refl))
+
+pub returns-in-Ok-clause-others : goal.returns-in-Ok-clause-others
+returns-in-Ok-clause-others c =
+    rw (← c.self.view_is) (written_others disk_in c.self.inside.settings c.self.inside.engine c.write.new.self c.args.batch.now.items c.self.invariant.directories c.in-Ok.ensures.paths c.self.inside.has_failed c.if-self.false c.in-Ok.ensures.answers
+    (c.in-Ok.ensures.opens (c.self.invariant.alone c.if-self.false) refl))
+
+pub returns-in-Ok-clause-others_answered : goal.returns-in-Ok-clause-others_answered
+returns-in-Ok-clause-others_answered c =
+    rw (← c.self.view_is) (λ on. (on, (c.in-Ok.ensures.others_answered (c.in-Ok.ensures.sound (c.self.invariant.sound c.if-self.false) refl)).1))
+
+pub returns-in-Err-clause-err : goal.returns-in-Err-clause-err
+returns-in-Err-clause-err c =
+    rw (← c.self.view_is) (λ on takes. is_refused disk_in c.self.inside.settings c.self.inside.engine c.write.new.self c.args.batch.now.items c.self.invariant.directories c.in-Err.ensures.paths
+    (c.in-Err.ensures.opens_either (c.self.invariant.sound c.if-self.false) (c.self.invariant.alone c.if-self.false)))
+
+pub returns-in-Err-clause-others : goal.returns-in-Err-clause-others
+returns-in-Err-clause-others c =
+    rw (← c.self.view_is) (refused_others disk_in c.self.inside.settings c.self.inside.engine c.write.new.self c.args.batch.now.items c.self.invariant.directories c.in-Err.ensures.paths c.self.inside.has_failed c.if-self.false
+    (c.in-Err.ensures.opens_either (c.self.invariant.sound c.if-self.false) (c.self.invariant.alone c.if-self.false)))

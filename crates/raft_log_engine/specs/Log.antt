@@ -1,0 +1,45 @@
+-- A log over one engine, each of whose writes is synced: what it answers, and what the next opening of its files may answer.
+use Rattle.std.specs.Prelude.{◌≡◌, ◌⊎◌, ℕ, Bool, false, List, [], ◌∷◌}
+use Rattle.std.specs.String.{string_bytes}
+use Rattle.raft_log_disk.specs.Disk.{Disk}
+use Rattle.raft_log_disk.specs.Image.{Image}
+use Rattle.raft_log_disk.specs.Text.{Text}
+use Rattle.raft_log_files.specs.declared.config.Config.{Config}
+use Rattle.raft_log_memtables.specs.Content.{Content}
+use Rattle.raft_log_recovery.specs.Crashed.{IsCrashed}
+use Rattle.raft_log_engine.specs.Held.{Parts}
+use Rattle.raft_log_engine.specs.Left.{IsSound, answers_on}
+use Rattle.raft_log_engine.specs.Opening.{IsFoundContent}
+use Rattle.raft_log_engine.specs.Reopened.{StandsAlone, directories_of_engine}
+
+-- what contracts see of a log
+pub record LogOn (F : Type 0) : Type 0 where
+  pub engine : Parts F
+  pub settings : Config
+  -- a write was refused
+  pub has_failed : Bool
+
+-- the main directory, and no other
+abbrev pub main_directory : Config → List Text
+main_directory settings = string_bytes settings.dir ∷ []
+
+-- an opening by these settings answers this content
+abbrev pub IsFoundBy : Config → Disk → Content (List ℕ) → Type 0
+IsFoundBy settings d content = IsFoundContent settings.recovery_mode (main_directory settings) d content
+
+-- it may answer this content after a crash
+pub record MayBeFound (settings : Config) (d : Disk) (content : Content (List ℕ)) : Type 0 where
+  pub image : Image
+  pub left : Disk
+  pub crashed : IsCrashed d image left
+  pub found : IsFoundBy settings left content
+
+-- The engine's files lie in the main directory. Unless a write was refused each was synced, and they are the last ones there
+pub record IsLog {F : Type 0} (disk : F → Disk) (e : Parts F) (settings : Config) (has_failed : Bool) : Type 0 where
+  pub directories : directories_of_engine e ≡ main_directory settings
+  pub sound : has_failed ≡ false → IsSound e
+  pub alone : has_failed ≡ false → StandsAlone disk e
+
+-- what the next opening may answer: what is found after a crash, or what the log answers unless a write was refused
+abbrev pub leaves_of_log : {F : Type 0} → (F → Disk) → LogOn F → Content (List ℕ) → Type 0
+leaves_of_log disk l content = ((l.has_failed ≡ false) × (content ≡ answers_on disk l.engine)) ⊎ MayBeFound l.settings (disk l.engine.files) content

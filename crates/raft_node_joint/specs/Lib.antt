@@ -1,0 +1,4 @@
+pub mod Saying
+pub mod Standing
+pub mod Coming
+pub mod Leading

@@ -1,0 +1,5 @@
+//! What a node answers and leaves is what a cluster asks of its nodes: laws, each the contract of a
+//! function without a body.
+#![tactic(auto)]
+
+pub mod coming;

@@ -1,0 +1,83 @@
+//! What the words take in and what they leave out, on small answers: each a contract of a function
+//! without a body.
+ghost use Rattle.std.specs.Prelude.{◌≡◌, [], ◌∷◌, Some, None, Ok, Err};
+ghost use Rattle.raft_group_step.specs.StepResult.{MembershipRefused, NotLeader, UnknownGroup};
+ghost use Rattle.raft_headline.specs.ClusterEvent.{ClusterOutcome as PlainOutcome};
+ghost use Rattle.raft_headline.specs.ClusterEvent.{Done, Opened, PassedOver, Refused, Stopped};
+ghost use Rattle.raft_headline.specs.ClusterEvent.{TurnedAway, silent};
+ghost use Rattle.raft_headline.specs.Rows.{told_at, unknown_of};
+ghost use Rattle.raft_cluster_conditions.specs.declared.reasons.ClusterRefusal.TheVariants.{NodeDown};
+ghost use Rattle.raft_cluster_events.specs.declared.outcome.EventOutcome.TheVariants as outcome;
+ghost use Rattle.raft_cluster_events.specs.declared.outcome.NodeError.TheVariants as error;
+ghost use Rattle.raft_cluster_events.specs.declared.outcome.NodeRefusal.TheVariants as refusal;
+ghost use Rattle.raft_cluster_laws.specs.Rows.{sends};
+ghost use Rattle.raft_node_laws.specs.Answered.{stop_behind};
+ghost use Rattle.raft_node_laws.specs.Reporting.{IsRecordedAs, IsReport};
+ghost use Rattle.raft_node_laws.specs.Rows.{IsLed, a_frame, done_unsaid, done_with, elected};
+ghost use Rattle.raft_node_laws.specs.Rows.{has_seven, knows_none, plainly_crashed, plainly_elected};
+ghost use Rattle.raft_node_laws.specs.Rows.{sent_by_number, spells, stopped_with};
+ghost use Rattle.raft_node_laws.specs.Saying.{SaysCall, SaysOpening, names_of, outcome_of_refusal};
+
+/// A stop names the tokens that waited. Behind an event that was done, it names the event's own ones
+/// first: those that were to be told, and those that were to be unknown.
+pub fn names_of_stops()
+    ensures waited { names_of (stopped_with (unknown_of 7 5 ∷ unknown_of 9 6 ∷ [])) ≡ unknown_of 7 5 ∷ unknown_of 9 6 ∷ [] }
+    ensures unsaid { names_of (stop_behind (done_unsaid 7 3 4) (stopped_with (unknown_of 7 5 ∷ []))) ≡ unknown_of 7 3 ∷ unknown_of 7 4 ∷ unknown_of 7 5 ∷ [] }
+{}
+
+/// A call says what its frames spell, in their order, and what it tells, of its own group. It says
+/// nothing where it did nothing, or where its stream says no frame.
+pub fn answers_of_calls()
+    ensures says { SaysCall spells 1 7 (Ok (done_with (a_frame ∷ []) [] [] ∷ [])) (Done sends) }
+    ensures another_group { SaysCall spells 1 9 (Ok (done_with (a_frame ∷ []) [] [] ∷ [])) (Done sends) → ⊥ }
+    ensures another_sender { SaysCall spells 3 7 (Ok (done_with (a_frame ∷ []) [] [] ∷ [])) (Done sends) → ⊥ }
+    ensures no_frame { SaysCall spells 1 7 (Ok (done_with [] [] [] ∷ [])) (Done sends) → ⊥ }
+    ensures unsaid { SaysCall spells 1 7 (Ok (done_with (a_frame ∷ []) [] [] ∷ [])) (Done silent) → ⊥ }
+    ensures untold { SaysCall spells 1 7 (Ok (done_with [] (told_at 3 2 [] ∷ []) [] ∷ [])) (Done silent) → ⊥ }
+    ensures nothing { SaysCall spells 1 7 (Ok []) (Done silent) → ⊥ }
+    ensures stream { (o : PlainOutcome) → SaysCall spells 1 7 (Err (error.Refused refusal.Frame)) o → ⊥ }
+{}
+
+/// An opening has one part for each group.
+pub fn answers_of_openings()
+    ensures says { SaysOpening spells 1 (Ok (done_with (a_frame ∷ []) [] [] ∷ [])) (Opened ((7, sends) ∷ [])) }
+    ensures twice { SaysOpening spells 1 (Ok (done_with [] [] [] ∷ done_with [] [] [] ∷ [])) (Opened ((7, silent) ∷ (7, silent) ∷ [])) → ⊥ }
+    ensures another_part { SaysOpening spells 1 (Ok (done_with [] [] [] ∷ [])) (Opened ((9, silent) ∷ [])) → ⊥ }
+{}
+
+/// A record's frames have the group's next numbers. A node that has stopped passes over, and one that
+/// was down at first crashed before all.
+pub fn records_of_clusters()
+    ensures sent { IsRecordedAs [] (elected (outcome.Done (sent_by_number 7 0 ∷ []))) (plainly_elected (Done sends)) }
+    ensures next { IsRecordedAs (plainly_elected (Done sends) ∷ []) (elected (outcome.Done (sent_by_number 7 1 ∷ []))) (plainly_elected (Done sends)) }
+    ensures misnumbered { IsRecordedAs [] (elected (outcome.Done (sent_by_number 7 1 ∷ []))) (plainly_elected (Done sends)) → ⊥ }
+    ensures another_group { IsRecordedAs [] (elected (outcome.Done (sent_by_number 9 0 ∷ []))) (plainly_elected (Done sends)) → ⊥ }
+    ensures passed { IsRecordedAs [] (elected (outcome.Refused refusal.Failed)) (plainly_elected PassedOver) }
+    ensures stopped { IsRecordedAs [] (elected (outcome.Stopped (stopped_with (unknown_of 7 5 ∷ [])))) (plainly_elected (Stopped (unknown_of 7 5 ∷ []))) }
+    ensures unnamed { IsRecordedAs [] (elected (outcome.Stopped (stopped_with (unknown_of 7 5 ∷ [])))) (plainly_elected (Stopped [])) → ⊥ }
+    ensures away { IsRecordedAs [] (elected (outcome.TurnedAway NodeDown)) (plainly_elected TurnedAway) }
+    ensures first { IsReport (1 ∷ []) [] (plainly_crashed ∷ []) }
+    ensures not_down { IsReport [] [] (plainly_crashed ∷ []) → ⊥ }
+    ensures forgotten { IsReport [] (elected (outcome.TurnedAway NodeDown) ∷ []) [] → ⊥ }
+{}
+
+/// A node that gets a group has it, with nothing in it, and every other group is as before. One that
+/// says so and has it not isn't led there, nor is one that may be in no state.
+pub fn nodes_that_are_led()
+    ensures gets { IsLed 7 has_seven (Done silent) }
+    ensures idle { IsLed 7 knows_none (Done silent) → ⊥ }
+    ensures another { IsLed 9 has_seven (Done silent) → ⊥ }
+    ensures passed { IsLed 7 knows_none PassedOver → ⊥ }
+    ensures nowhere { IsLed 7 (λ h. []) (Done silent) → ⊥ }
+{}
+
+/// The reasons of a group's step are those of the node. A node that has stopped passes events over,
+/// and nothing says a stream that says no frame.
+pub fn refusals_of_nodes()
+    ensures leader { outcome_of_refusal (refusal.NotLeader (Some 2)) ≡ Some (Refused (NotLeader (Some 2))) }
+    ensures unknown { outcome_of_refusal refusal.UnknownGroup ≡ Some (Refused UnknownGroup) }
+    ensures membership { outcome_of_refusal (refusal.Membership None) ≡ Some (Refused MembershipRefused) }
+    ensures failed { outcome_of_refusal refusal.Failed ≡ Some PassedOver }
+    ensures frame { outcome_of_refusal refusal.Frame ≡ None }
+    ensures batch { outcome_of_refusal refusal.TooMuchForBatch ≡ None }
+{}
