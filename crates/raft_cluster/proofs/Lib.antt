@@ -1,10 +1,7 @@
 pub mod WordLemmas
 pub mod LineLemmas
-pub mod SessionLemmas
-pub mod OutputLemmas
 pub mod StepLemmas
-pub mod ReadingLemmas
-pub mod RunLemmas
+pub mod ScriptLemmas
 pub mod HistoryLemmas
 pub mod LawLemmas
 pub mod NodeLemmas

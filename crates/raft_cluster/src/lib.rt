@@ -14,4 +14,5 @@ pub use event::{
 };
 pub use group::Group;
 pub use node::Node;
-pub use script::{ScriptEnd, run_script};
+pub use raft_script_session::ScriptEnd;
+pub use script::run_script;

@@ -3,7 +3,7 @@ use Rattle.std.specs.Prelude.{ℕ, Bool, true, false, not, List, [], ◌∷◌, 
 use Rattle.raft_cluster_conditions.specs.declared.reasons.Asked.{Asked}
 use Rattle.raft_cluster_conditions.specs.declared.reasons.Asked.TheVariants.{SetUp, Delivery, Reopen}
 use Rattle.raft_cluster_conditions.specs.declared.reasons.ClusterRefusal.{ClusterRefusal}
-use Rattle.raft_cluster_conditions.specs.declared.reasons.ClusterRefusal.TheVariants.{NoNode, NodeDown, NodeUp, NoFrame, SetupDiffers, BadCut}
+use Rattle.raft_cluster_conditions.specs.declared.reasons.ClusterRefusal.TheVariants.{NoNode, NodeDown, NodeUp, NoFrame, SetupDiffers, ByChance, NotAnImage, BadCut}
 use Rattle.raft_cluster_conditions.specs.declared.reasons.NodeStanding.{NodeStanding}
 use Rattle.raft_cluster_conditions.specs.declared.reasons.NodeStanding.TheVariants.{Missing, Down, Up}
 use Rattle.raft_cluster_conditions.specs.Cuts.{are_cuts}
@@ -60,3 +60,16 @@ refusal_of node asked cuts =
     ∷ (has_bad_cut asked cuts, BadCut)
     ∷ (sets_up_otherwise asked, SetupDiffers)
     ∷ [])
+
+-- ---- behind all of these
+
+-- only the node of a crash can tell it, by its files
+abbrev pub is_of_crash : ClusterRefusal → Bool
+is_of_crash NoNode = false
+is_of_crash NodeDown = false
+is_of_crash NodeUp = false
+is_of_crash NoFrame = false
+is_of_crash SetupDiffers = false
+is_of_crash ByChance = true
+is_of_crash NotAnImage = true
+is_of_crash BadCut = false

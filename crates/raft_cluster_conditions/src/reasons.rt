@@ -1,6 +1,6 @@
 //! Why a cluster refuses an event.
-ghost use Rattle.std.specs.Prelude.{◌≡◌, [], Some};
-ghost use Rattle.raft_cluster_conditions.specs.Refusal.{refusal_of};
+ghost use Rattle.std.specs.Prelude.{◌≡◌, [], Some, false, IfSome};
+ghost use Rattle.raft_cluster_conditions.specs.Refusal.{is_of_crash, refusal_of};
 
 use crate::cuts::are_cuts;
 use thiserror::Error;
@@ -33,7 +33,7 @@ pub enum Asked {
     Reopen,
 }
 
-/// Why a cluster refuses an event (own). Nothing changes but the history.
+/// Why a cluster refuses an event (own). Nothing changes but the history, and the run goes on.
 #[derive(Clone, Copy, Debug, PartialEq, Eq, Error)]
 pub enum ClusterRefusal {
     /// C1
@@ -51,6 +51,12 @@ pub enum ClusterRefusal {
     /// C5
     #[error("the group was set up with another membership")]
     SetupDiffers,
+    /// C6: only the node of a crash tells it.
+    #[error("the crash would show by chance what nobody wrote")]
+    ByChance,
+    /// C7: only the node of a crash tells it.
+    #[error("no crash leaves such files")]
+    NotAnImage,
     /// C9
     #[error("the frame can't be cut there")]
     BadCut,
@@ -58,7 +64,8 @@ pub enum ClusterRefusal {
 
 // Why a delivery is refused, or goes on to the node.
 fn delivery_refusal(node: NodeStanding, length: u64, cuts: &[u64]) -> Option<ClusterRefusal>
-    ensures { result ≡ refusal_of node (Asked.Delivery (Some length)) cuts.now }
+    ensures first { result ≡ refusal_of node (Asked.Delivery (Some length)) cuts.now }
+    ensures unseen { IfSome result (λ why. is_of_crash why ≡ false) }
 {
     if let Some(why) = standing_refusal(node) {
         return Some(why);
@@ -72,7 +79,8 @@ fn delivery_refusal(node: NodeStanding, length: u64, cuts: &[u64]) -> Option<Clu
 
 // Why an event of a node that has to be up is refused.
 fn standing_refusal(node: NodeStanding) -> Option<ClusterRefusal>
-    ensures { result ≡ refusal_of node Asked.Call [] }
+    ensures first { result ≡ refusal_of node Asked.Call [] }
+    ensures unseen { IfSome result (λ why. is_of_crash why ≡ false) }
 {
     match node {
         NodeStanding::Missing => Some(ClusterRefusal::NoNode),
@@ -83,9 +91,10 @@ fn standing_refusal(node: NodeStanding) -> Option<ClusterRefusal>
 
 /// Why the cluster refuses what is asked of it for this node, if it does (own). `cuts` counts at a
 /// delivery alone. The first reason is told: no frame, no node, down or up, a bad cut, another
-/// set-up.
+/// set-up. What only the node of a crash can tell is tried behind these.
 pub fn refusal(node: NodeStanding, asked: Asked, cuts: &[u64]) -> Option<ClusterRefusal>
-    ensures { result ≡ refusal_of node asked cuts.now }
+    ensures first { result ≡ refusal_of node asked cuts.now }
+    ensures unseen { IfSome result (λ why. is_of_crash why ≡ false) }
 {
     match asked {
         Asked::Delivery { length: None } => Some(ClusterRefusal::NoFrame),

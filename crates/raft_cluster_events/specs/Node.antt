@@ -3,6 +3,7 @@ use Rattle.std.specs.Prelude.{ℕ, Bool, List, Option, Result}
 use Rattle.raft_group_step.specs.GroupEvent.{GroupCall}
 use Rattle.raft_cluster_events.specs.declared.event.CrashChoice.{CrashChoice}
 use Rattle.raft_cluster_events.specs.declared.node.NodeOutcome.{NodeOutcome}
+use Rattle.raft_cluster_events.specs.declared.outcome.CrashRefusal.{CrashRefusal}
 use Rattle.raft_cluster_events.specs.declared.outcome.NodeError.{NodeError}
 use Rattle.raft_cluster_events.specs.declared.outcome.Stop.{Stop}
 
@@ -24,6 +25,8 @@ pub record NodeActs (N : Type 0) : Type 1 where
   pub fails : N → Stop → N → Type 0
   -- its machine stops
   pub crashes : N → CrashChoice → N → Type 0
+  -- its files can't be left so by a crash, and why
+  pub refuses : N → CrashChoice → CrashRefusal → Type 0
   -- it is opened by so many workers
   pub reopens : N → ℕ → Result (List NodeOutcome) Stop → N → Type 0
   -- it goes down, and its files stay as they are

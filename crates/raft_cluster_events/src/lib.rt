@@ -8,6 +8,7 @@ mod outcome;
 pub use event::{ClusterEvent, CrashChoice, GroupCommand};
 pub use node::{ClusterNode, NodeOutcome};
 pub use outcome::{
-    EventOutcome, GroupOutcome, NodeError, NodeRefusal, Recorded, Stop, StopCause, Unknown, Unsaid,
+    CrashRefusal, EventOutcome, GroupOutcome, NodeError, NodeRefusal, Recorded, Stop, StopCause,
+    Unsaid,
 };
 pub use raft_sent_frames::{NodeFrame, SentNumber, Sequence};

@@ -1,10 +1,10 @@
 //! What a cluster needs of a node.
-ghost use Rattle.std.specs.Prelude.{◌≡◌, ℕ, true, false, IfOk, OnOk, OnErr};
+ghost use Rattle.std.specs.Prelude.{◌≡◌, ℕ, true, false, IfErr, IfOk, OnOk, OnErr};
 ghost use Rattle.raft_cluster_events.specs.Node.{NodeActs};
 ghost use Rattle.raft_cluster_events.specs.States.{NodeStates};
 
 use crate::event::{CrashChoice, GroupCommand};
-use crate::outcome::{NodeError, Stop};
+use crate::outcome::{CrashRefusal, NodeError, Stop};
 use raft_machines::{StateMachine, Told};
 use raft_sent_frames::{NodeFrame, Sequence};
 use std::alloc::{AllocError, Global};
@@ -82,11 +82,14 @@ pub trait ClusterNode: Drop {
         ensures id { acts.id self.new ≡ acts.id self.old }
         ensures up { acts.is_up self.new ≡ acts.is_up self.old };
 
-    /// The node's machine stops, and leaves of its files what the choice says: the node is down.
-    fn crash(&mut self, choice: CrashChoice)
-        ensures does { acts.crashes self.old choice self.new }
+    /// The node's machine stops, and leaves of its files what the choice says: the node is down. An
+    /// `Err` says why its files can't be left so, and changes nothing.
+    fn crash(&mut self, choice: CrashChoice) -> Result<(), CrashRefusal>
+        ensures does { OnOk result (acts.crashes self.old choice self.new) }
+        ensures why { IfErr result (λ why. acts.refuses self.old choice why) }
+        ensures refused { OnErr result (self.new ≡ self.old) }
         ensures id { acts.id self.new ≡ acts.id self.old }
-        ensures down { acts.is_up self.new ≡ false };
+        ensures down { OnOk result (acts.is_up self.new ≡ false) };
 
     /// The node is opened with its files, by so many workers. A stop leaves it down.
     fn reopen(&mut self, workers: u64) -> Result<Sequence<NodeOutcome>, Stop>

@@ -2,17 +2,8 @@
 
 use crate::event::ClusterEvent;
 use raft_cluster_conditions::ClusterRefusal;
-use raft_machines::{MembershipFault, Told};
+use raft_machines::{MembershipFault, Told, UnknownTokens};
 use raft_sent_frames::{SentNumber, Sequence};
-
-/// A token of which it stays unknown what becomes of its command (own).
-#[derive(Clone, Copy, Debug, PartialEq, Eq)]
-pub struct Unknown {
-    /// The token's group.
-    pub group: u64,
-    /// The token.
-    pub token: u64,
-}
 
 /// Why a node refuses an event, whose group is as before (own). Each reason has a number and a name.
 #[derive(Clone, Copy, Debug, PartialEq, Eq)]
@@ -83,8 +74,19 @@ pub struct Stop {
     pub cause: StopCause,
     /// The tokens of the event itself, where it was done.
     pub unsaid: Option<Unsaid>,
-    /// All tokens that still waited at the node, by rising group and place.
-    pub unknown: Sequence<Unknown>,
+    /// All tokens that still waited at the node, by rising group.
+    pub unknown: Sequence<UnknownTokens>,
+}
+
+/// Why a node's machine can't crash so (own). The node is as before.
+#[derive(Clone, Copy, Debug, PartialEq, Eq)]
+pub enum CrashRefusal {
+    /// No crash leaves such files.
+    NotAnImage,
+    /// The files would show by chance what nobody wrote.
+    ByChance,
+    /// Want of memory, before anything was done.
+    Memory,
 }
 
 /// Why a node doesn't do what it is asked for (own).
@@ -119,7 +121,7 @@ pub enum EventOutcome {
     Refused(NodeRefusal),
     /// Its node stopped in it.
     Stopped(Stop),
-    /// The cluster turned it away before a node saw it.
+    /// The cluster turned it away before a node saw it, or a crash before anything was done of it.
     TurnedAway(ClusterRefusal),
 }
 

@@ -2,6 +2,8 @@
 use Rattle.std.specs.Prelude.{ℕ, ◌==◌, nat_lt, not, List, [], ◌++◌, filter, length, map, Option, Some, None, if◌then◌else◌}
 use Rattle.std.specs.List.{flat_map}
 use Rattle.raft_machines.specs.declared.telling.Told.{Told}
+use Rattle.raft_machines.specs.declared.telling.UnknownTokens.{UnknownTokens}
+use Rattle.raft_machines.specs.declared.telling.Untold.{Untold}
 use Rattle.raft_machines.specs.Adding.{total_of}
 use Rattle.raft_sent_frames.specs.declared.frame.SentNumber.{SentNumber}
 use Rattle.raft_cluster_conditions.specs.declared.reasons.ClusterRefusal.{ClusterRefusal}
@@ -12,7 +14,6 @@ use Rattle.raft_cluster_events.specs.declared.outcome.GroupOutcome.{GroupOutcome
 use Rattle.raft_cluster_events.specs.declared.outcome.NodeRefusal.{NodeRefusal}
 use Rattle.raft_cluster_events.specs.declared.outcome.NodeRefusal.TheVariants as node
 use Rattle.raft_cluster_events.specs.declared.outcome.Stop.{Stop}
-use Rattle.raft_cluster_events.specs.declared.outcome.Unknown.{Unknown}
 use Rattle.raft_cluster_events.specs.declared.outcome.Unsaid.{Unsaid}
 use Rattle.raft_script_answers.specs.declared.refusal.Refusal.{Refusal}
 use Rattle.raft_script_answers.specs.declared.refusal.Refusal.TheVariants as shown
@@ -39,21 +40,22 @@ totals_of parts = flat_map (λ (part : GroupOutcome). map told_total part.told) 
 abbrev pub unknown_of : List GroupOutcome → List ℕ
 unknown_of parts = flat_map (λ (part : GroupOutcome). part.unknown) parts
 
-abbrev pub tokens_of : List Unknown → List ℕ
-tokens_of unknown = map (λ (one : Unknown). one.token) unknown
+-- the tokens of all groups
+abbrev pub tokens_of : List UnknownTokens → List ℕ
+tokens_of unknown = flat_map (λ (one : UnknownTokens). map (λ (x : Untold). x.token) one.tokens.items) unknown
 
 -- the tokens of the groups below this one, and those of the others
-abbrev pub tokens_below : ℕ → List Unknown → List ℕ
-tokens_below group unknown = tokens_of (filter (λ (one : Unknown). nat_lt one.group group) unknown)
+abbrev pub tokens_below : ℕ → List UnknownTokens → List ℕ
+tokens_below group unknown = tokens_of (filter (λ (one : UnknownTokens). nat_lt one.group group) unknown)
 
-abbrev pub tokens_from : ℕ → List Unknown → List ℕ
-tokens_from group unknown = tokens_of (filter (λ (one : Unknown). not (nat_lt one.group group)) unknown)
+abbrev pub tokens_from : ℕ → List UnknownTokens → List ℕ
+tokens_from group unknown = tokens_of (filter (λ (one : UnknownTokens). not (nat_lt one.group group)) unknown)
 
 abbrev pub own_tokens : Unsaid → List ℕ
 own_tokens unsaid = map (λ (told : Told). told.token) unsaid.told ++ unsaid.unknown
 
 -- by rising group and place: the tokens of an event that was done waited before the others of its group
-abbrev pub tokens_around : Option Unsaid → List Unknown → List ℕ
+abbrev pub tokens_around : Option Unsaid → List UnknownTokens → List ℕ
 tokens_around None unknown = tokens_of unknown
 tokens_around (Some unsaid) unknown = tokens_below unsaid.group unknown ++ own_tokens unsaid ++ tokens_from unsaid.group unknown
 
@@ -83,6 +85,8 @@ refusal_of_cluster cluster.NodeDown = shown.NodeDown
 refusal_of_cluster cluster.NodeUp = shown.NodeUp
 refusal_of_cluster cluster.NoFrame = shown.NoFrame
 refusal_of_cluster cluster.SetupDiffers = shown.SetupDiffers
+refusal_of_cluster cluster.ByChance = shown.ByChance
+refusal_of_cluster cluster.NotAnImage = shown.NotAnImage
 refusal_of_cluster cluster.BadCut = shown.BadCut
 
 -- frames of all groups first, then what is told, then the unknown tokens. No group is ever compacted yet

@@ -123,6 +123,8 @@ fn refusal_of_cluster(why: ClusterRefusal) -> Refusal
         ClusterRefusal::NodeUp => Refusal::NodeUp,
         ClusterRefusal::NoFrame => Refusal::NoFrame,
         ClusterRefusal::SetupDiffers => Refusal::SetupDiffers,
+        ClusterRefusal::ByChance => Refusal::ByChance,
+        ClusterRefusal::NotAnImage => Refusal::NotAnImage,
         ClusterRefusal::BadCut => Refusal::BadCut,
     }
 }

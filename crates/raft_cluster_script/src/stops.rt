@@ -1,41 +1,52 @@
 //! The tokens that a stop leaves unknown, by rising group and place.
 ghost use Rattle.std.specs.Prelude.{◌≡◌, ◌++◌, IfOk, OnOk, map};
 ghost use Rattle.raft_machines.specs.declared.telling.Told.{Told as OneTold};
+ghost use Rattle.raft_machines.specs.declared.telling.Untold.{Untold as OneUntold};
 ghost use Rattle.raft_cluster_script.specs.Answers.{own_tokens, tokens_below, tokens_from, tokens_of, tokens_of_stop};
 
-use raft_cluster_events::{Stop, Unknown, Unsaid};
-use raft_machines::Told;
+use raft_cluster_events::{Stop, Unsaid};
+use raft_machines::{Told, UnknownTokens, Untold};
 use std::alloc::{AllocError, Global};
 
-// All tokens behind the others.
-fn push_all(all: &mut Vec<u64>, unknown: &[Unknown]) -> Result<(), AllocError>
-    ensures { OnOk result (all.new.items ≡ all.old.items ++ tokens_of unknown.now) }
+// A group's tokens behind the others.
+fn push_tokens(all: &mut Vec<u64>, tokens: &[Untold]) -> Result<(), AllocError>
+    ensures { OnOk result (all.new.items ≡ all.old.items ++ map (λ (one : OneUntold). one.token) tokens.now) }
 {
-    for one in unknown {
+    for one in tokens {
         all.push(one.token)?;
     }
     Ok(())
 }
 
+// All tokens behind the others.
+fn push_all(all: &mut Vec<u64>, unknown: &[UnknownTokens]) -> Result<(), AllocError>
+    ensures { OnOk result (all.new.items ≡ all.old.items ++ tokens_of unknown.now) }
+{
+    for one in unknown {
+        push_tokens(all, one.tokens.as_slice())?;
+    }
+    Ok(())
+}
+
 // The tokens of the groups below this one behind the others.
-fn push_below(all: &mut Vec<u64>, unknown: &[Unknown], group: u64) -> Result<(), AllocError>
+fn push_below(all: &mut Vec<u64>, unknown: &[UnknownTokens], group: u64) -> Result<(), AllocError>
     ensures { OnOk result (all.new.items ≡ all.old.items ++ tokens_below group unknown.now) }
 {
     for one in unknown {
         if one.group < group {
-            all.push(one.token)?;
+            push_tokens(all, one.tokens.as_slice())?;
         }
     }
     Ok(())
 }
 
 // The tokens of this group and those above it behind the others.
-fn push_from(all: &mut Vec<u64>, unknown: &[Unknown], group: u64) -> Result<(), AllocError>
+fn push_from(all: &mut Vec<u64>, unknown: &[UnknownTokens], group: u64) -> Result<(), AllocError>
     ensures { OnOk result (all.new.items ≡ all.old.items ++ tokens_from group unknown.now) }
 {
     for one in unknown {
         if one.group >= group {
-            all.push(one.token)?;
+            push_tokens(all, one.tokens.as_slice())?;
         }
     }
     Ok(())

@@ -2,8 +2,10 @@
 #![tactic(auto)]
 
 pub mod content_log;
+pub mod crash;
 pub mod plain_log;
 pub mod uses;
 
 pub use content_log::ContentLog;
+pub use crash::CrashLog;
 pub use plain_log::{PlainFault, PlainLog};

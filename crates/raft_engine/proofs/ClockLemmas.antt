@@ -1,15 +1,25 @@
 -- A leader's clock decides nothing of the state that an engine stands for.
-use Rattle.std.specs.Prelude.{◌≡◌, ℕ, Option, Some, None}
+use Rattle.std.specs.Prelude.{◌≡◌, ℕ, Bool, true, false, ◌&&◌, nat_eq, if◌then◌else◌, Option, Some, None, OnOk, Result, Ok, Err, unwrap_or, refl}
+use Rattle.std.specs.Option.{option_cmp}
+use Rattle.std.specs.Ordering.{nat_cmp}
 use Rattle.std.proofs.Common.{ap, sym, subst, ◌∙◌}
+use Rattle.std.proofs.Math.Bool.{true≢false}
+use Rattle.std.proofs.lemmas.Bool.{eqb-true}
 use Rattle.raft_values.specs.LogId.{place_of}
-use Rattle.raft_progress.specs.Parts.{Parts}
+use Rattle.raft_progress.specs.Parts.{Parts, value_of}
+use Rattle.raft_progress.specs.Values.{rises_above}
 use Rattle.raft_group_step.specs.StoredGroup.{StoredGroup}
 use Rattle.raft_group_step.specs.GroupState.{GroupState, Role, Follower, Candidate, Leader, Lead}
 use Rattle.raft_known_state.specs.KnownState.{Knows}
 use Rattle.raft_leaders.specs.Candidate.{CandidateValue}
 use Rattle.raft_leaders.specs.Leader.{LeaderValue}
-use Rattle.raft_engine.specs.Clock.{IsHeardOf}
-use Rattle.raft_engine.specs.Standing.{EffectiveMembership, Engine, IsStateOf, Leads, PlaysRole}
+use Rattle.raft_leaders.proofs.PeerLemmas.{somebody_has}
+use Rattle.raft_engine.specs.Clock.{HearsAfter, HearsOf, IsHeardOf, KeepsHeard, heard_after, heard_at, is_later_than_heard}
+use Rattle.raft_group_step.specs.StoredGroup.{Snapshot}
+use Rattle.raft_group_step.specs.GroupEvent.{GroupEvent}
+use Rattle.raft_group_step.specs.GroupStep.{begun}
+use Rattle.raft_engine.specs.Events.{MayTake}
+use Rattle.raft_engine.specs.Standing.{EffectiveMembership, Engine, IsStateOf, IsStepOf, Leads, PlaysRole, given}
 
 -- a leader with another clock leads as before
 leads_with : (own : ℕ) (l : LeaderValue ℕ EffectiveMembership) (clock : Parts ℕ (Option ℕ) (Option ℕ) EffectiveMembership) (s : StoredGroup) (lead : Lead) → Leads own l s lead
@@ -56,3 +66,104 @@ stands_hearing {C} {R} own n time e e' s heard rest old =
           (plays_hearing own n time e.leader e'.leader e.candidate s.stored s.role heard old.role);
       order = old.order;
     }
+
+-- ---- what is heard through an event
+
+abbrev pub LeaderOf : Type 0
+LeaderOf = LeaderValue ℕ EffectiveMembership
+
+pub keeps_same : (o : Option LeaderOf) → KeepsHeard o o
+keeps_same None = tt
+keeps_same (Some l) = λ n. refl
+
+-- a leader that isn't touched
+pub keeps_untouched : (o o' : Option LeaderOf) → o' ≡ o → KeepsHeard o o'
+keeps_untouched o o' e = subst (KeepsHeard o) (sym e) (keeps_same o)
+
+pub keeps_then : (a b c : Option LeaderOf) → KeepsHeard a b → KeepsHeard b c → KeepsHeard a c
+keeps_then a b None h k = tt
+keeps_then a None (Some z) h k = absurd k
+keeps_then None (Some y) (Some z) h k = absurd h
+keeps_then (Some x) (Some y) (Some z) h k = λ n. k n ∙ h n
+
+pub hears_then : (peer : ℕ) (time : Option ℕ) (a b c : Option LeaderOf) → HearsAfter peer time a b → KeepsHeard b c → HearsAfter peer time a c
+hears_then peer time a b None h k = tt
+hears_then peer time a None (Some z) h k = absurd k
+hears_then peer time None (Some y) (Some z) h k = absurd h
+hears_then peer time (Some x) (Some y) (Some z) h k = λ n. k n ∙ h n
+
+-- nothing was heard
+pub hears_nothing : (peer : ℕ) (o : Option LeaderOf) → HearsAfter peer None o o
+hears_nothing peer None = tt
+hears_nothing peer (Some l) = λ n. refl
+
+-- what holds anyway holds where a call succeeds
+pub in_any_case : {A E P : Type 0} (r : Result A E) → P → OnOk r P
+in_any_case (Ok a) h = h
+in_any_case (Err e) h = tt
+
+-- a leader that notes something else
+pub keeps_noting : (l l' : LeaderOf) → l'.clock_progress ≡ l.clock_progress → KeepsHeard (Some l) (Some l')
+keeps_noting l l' e = λ n. ap (λ p. unwrap_or (value_of nat_eq p n) None) e
+
+both_hold : (a b : Bool) (x y : Option ℕ) → a ≡ true → b ≡ true → (if a && b then x else y) ≡ x
+both_hold true true x y h k = refl
+both_hold true false x y h k = absurd (true≢false (sym k))
+both_hold false b x y h k = absurd (true≢false (sym h))
+
+first_fails : (a b : Bool) (x y : Option ℕ) → a ≡ false → (if a && b then x else y) ≡ y
+first_fails true b x y h = absurd (true≢false h)
+first_fails false b x y h = refl
+
+second_fails : (a b : Bool) (x y : Option ℕ) → b ≡ false → (if a && b then x else y) ≡ y
+second_fails true true x y h = absurd (true≢false h)
+second_fails true false x y h = refl
+second_fails false b x y h = refl
+
+-- who has risen was there
+was_there : (v : Option (Option ℕ)) (time : ℕ) → rises_above (option_cmp nat_cmp) (λ t. t) v (Some time) ≡ true → (h : Option ℕ) × (v ≡ Some h)
+was_there None time e = absurd (true≢false (sym e))
+was_there (Some h) time e = (h, refl)
+
+module _ (peer time : ℕ) (l l' : LeaderOf) (heard : HearsOf peer time l l') (n : ℕ) where
+  heard_later : is_later_than_heard l peer time ≡ true → heard_at l' n ≡ heard_after l peer (Some time) n
+  heard_later later =
+      let sets = heard.rises later in
+      let later_than = is_later_than_heard l peer time in
+      elim (nat_eq peer n) as (λ b. nat_eq peer n ≡ b → heard_at l' n ≡ heard_after l peer (Some time) n) [
+        | true ↦ λ e.
+            let there = was_there (value_of nat_eq l.clock_progress peer) time later in
+            let at = sets.at_id (somebody_has nat_eq l.clock_progress peer there.0 there.1) in
+            ap (λ k. unwrap_or (value_of nat_eq l'.clock_progress k) None) (sym (eqb-true peer n e)) ∙ ap (λ v. unwrap_or v None) at
+            ∙ sym (both_hold (nat_eq peer n) later_than (Some time) (heard_at l n) e later)
+        | false ↦ λ e.
+            ap (λ v. unwrap_or v None) (sets.others n e) ∙ sym (first_fails (nat_eq peer n) later_than (Some time) (heard_at l n) e)
+      ] refl
+
+  heard_either : (b : Bool) → is_later_than_heard l peer time ≡ b → heard_at l' n ≡ heard_after l peer (Some time) n
+  heard_either true e = heard_later e
+  heard_either false e =
+      ap (λ x. heard_at x n) (heard.unless_it_rises e) ∙ sym (second_fails (nat_eq peer n) (is_later_than_heard l peer time) (Some time) (heard_at l n) e)
+
+-- a peer was heard of
+pub hears_of : (peer time : ℕ) (o o' : Option LeaderOf) → IsHeardOf peer time o o' → HearsAfter peer (Some time) o o'
+hears_of peer time None None h = tt
+hears_of peer time None (Some l') h = absurd h
+hears_of peer time (Some l) None h = tt
+hears_of peer time (Some l) (Some l') h = λ n. heard_either peer time l l' h n (is_later_than_heard l peer time) refl
+
+module _ {C R : Type 0} (own : ℕ) (e heard : Engine C R) (s : GroupState) (event : GroupEvent) (rest : heard ≡ record e { leader = heard.leader }) where
+  -- an engine that has heard of a peer may take the event as before
+  pub may_hearing : IsStateOf own heard s → MayTake own e s event → MayTake own heard s event
+  may_hearing stands may =
+      record {
+        stands = stands;
+        empty = ap (λ (y : Engine C R). y.output.queue) rest ∙ may.empty;
+        ready = may.ready;
+        accepted = may.accepted;
+      }
+
+-- and begins it with what was known before
+pub begins_hearing : {C R : Type 0} (x : Snapshot) (own : ℕ) (e heard : Engine C R) (s : GroupState) (at : ℕ) → heard ≡ record e { leader = heard.leader }
+    → IsStepOf (given x heard s) own heard (begun at s) → IsStepOf (given x e s) own heard (begun at s)
+begins_hearing {C} {R} x own e heard s at rest h = subst (λ g. IsStepOf g own heard (begun at s)) (ap (λ (y : Engine C R). given x y s) rest) h

@@ -39,3 +39,4 @@ pub mod GapLemmas
 pub mod AlternatingLemmas
 pub mod ForwardLemmas
 pub mod ClockLemmas
+pub mod StartLemmas

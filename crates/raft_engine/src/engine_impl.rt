@@ -16,6 +16,7 @@ ghost use Rattle.raft_group_step.specs.Lead.{purge_as_wished};
 ghost use Rattle.raft_group_step.specs.GroupStep.{finished};
 ghost use Rattle.raft_group_step.specs.Opening.{resume_lead};
 ghost use Rattle.raft_known_state.specs.KnownState.{meta_of};
+ghost use Rattle.raft_engine.specs.Clock.{HearsAfter, KeepsHeard, moment_shown};
 ghost use Rattle.raft_engine.specs.Events.{HasTaken, IsReady, MayTake, received};
 ghost use Rattle.raft_engine.specs.Following.{SpellsAppend, SpellsAppendReply, SpellsSnapshotReply, follow_one_another};
 ghost use Rattle.raft_engine.specs.Forwarding.{forward_of};
@@ -181,6 +182,7 @@ impl<C: RaftTypeConfig<NodeId = u64, Node = BasicNode, D = Bytes>> Engine<C> {
         command: Bytes,
     ) -> Result<Result<(), ForwardToLeader<u64, BasicNode>>, AllocError>
         requires { next_place (last_id self.old.state.state.log_ids) < 2 ^ 63 }
+        ensures heard { OnOk result (KeepsHeard self.old.leader self.new.leader) }
         ensures which { IfOk result (λ answer. is_ok answer ≡ is_some self.old.leader) }
         ensures elsewhere { self.old.leader ≡ None → (self.new ≡ self.old) × IfOk result (λ answer. answer ≡ Err (forward_of nat_eq self.old.state)) }
         ensures taken { (x : Snapshot) (own at token : ℕ) (s : GroupState) → MayTake own self.old s (Call (Propose command token) at)
@@ -202,6 +204,7 @@ impl<C: RaftTypeConfig<NodeId = u64, Node = BasicNode, D = Bytes>> Engine<C> {
         changed: Membership<u64, BasicNode>,
     ) -> Result<Result<(), ForwardToLeader<u64, BasicNode>>, AllocError>
         requires { next_place (last_id self.old.state.state.log_ids) < 2 ^ 63 }
+        ensures heard { OnOk result (KeepsHeard self.old.leader self.new.leader) }
         ensures which { IfOk result (λ answer. is_ok answer ≡ is_some self.old.leader) }
         ensures elsewhere { self.old.leader ≡ None → (self.new ≡ self.old) × IfOk result (λ answer. answer ≡ Err (forward_of nat_eq self.old.state)) }
         ensures taken { (x : Snapshot) (own at token : ℕ) (s : GroupState) (m : LoggedMembership) (change : ChangeMembers)
@@ -222,6 +225,7 @@ impl<C: RaftTypeConfig<NodeId = u64, Node = BasicNode, D = Bytes>> Engine<C> {
     pub fn send_heartbeat(
         &mut self,
     ) -> Result<Result<(), ForwardToLeader<u64, BasicNode>>, AllocError>
+        ensures heard { OnOk result (KeepsHeard self.old.leader self.new.leader) }
         ensures which { IfOk result (λ answer. is_ok answer ≡ is_some self.old.leader) }
         ensures elsewhere { self.old.leader ≡ None → (self.new ≡ self.old) × IfOk result (λ answer. answer ≡ Err (forward_of nat_eq self.old.state)) }
         ensures taken { (x : Snapshot) (own at : ℕ) (s : GroupState) → MayTake own self.old s (Call Heartbeat at)
@@ -242,6 +246,7 @@ impl<C: RaftTypeConfig<NodeId = u64, Node = BasicNode, D = Bytes>> Engine<C> {
         &mut self,
         peer: u64,
     ) -> Result<Result<(), ForwardToLeader<u64, BasicNode>>, AllocError>
+        ensures heard { OnOk result (KeepsHeard self.old.leader self.new.leader) }
         ensures which { IfOk result (λ answer. is_ok answer ≡ is_some self.old.leader) }
         ensures elsewhere { self.old.leader ≡ None → (self.new ≡ self.old) × IfOk result (λ answer. answer ≡ Err (forward_of nat_eq self.old.state)) }
         ensures taken { (x : Snapshot) (own at : ℕ) (s : GroupState) → MayTake own self.old s (Call (Lost peer) at)
@@ -257,14 +262,18 @@ impl<C: RaftTypeConfig<NodeId = u64, Node = BasicNode, D = Bytes>> Engine<C> {
     }
 
     /// A peer answers a leader's append request or snapshot at this moment, in ticks (own;
-    /// openraft's replication handler). What came of a snapshot is told as of an append request.
+    /// openraft's replication handler). What came of a snapshot is told as of an append request. The
+    /// request left at `sending_time`, in ticks, if its runtime knows that: an answer to the request
+    /// on its way that tells of no greater vote moves the leader's clock for the peer up to there.
     pub fn handle_replication_resp(
         &mut self,
         peer: u64,
         reply: &Caller<u64>,
         outcome: &AppendEntriesResponse<u64>,
+        sending_time: Option<u64>,
         now: u64,
     ) -> Result<(), AllocError>
+        ensures heard { OnOk result (HearsAfter peer (moment_shown peer (reply_of reply.now outcome.now) sending_time self.old.leader) self.old.leader self.new.leader) }
         ensures append { (x : Snapshot) (own at : ℕ) (s : GroupState) → now ≡ max s.now at
             → MayTake own self.old s (received own peer (AppendReply (reply_of reply.now outcome.now)) at)
             → OnOk result (HasTaken x own self.old self.new s (received own peer (AppendReply (reply_of reply.now outcome.now)) at)) }
@@ -273,6 +282,7 @@ impl<C: RaftTypeConfig<NodeId = u64, Node = BasicNode, D = Bytes>> Engine<C> {
             → OnOk result (HasTaken x own self.old self.new s (received own peer (SnapshotReply (reply_of reply.now outcome.now)) at)) }
     {
         let before = self.state.state.committed;
+        self.hear_answer(peer, reply, outcome, sending_time);
         self.answered(peer, reply, outcome, now)?;
         self.finish(before)
     }
@@ -280,7 +290,8 @@ impl<C: RaftTypeConfig<NodeId = u64, Node = BasicNode, D = Bytes>> Engine<C> {
     /// The log is to be purged up to the place, as far as the snapshot goes (openraft). A leader
     /// purges once no request needs what goes.
     pub fn trigger_purge_log(&mut self, place: u64) -> Result<(), AllocError>
-        ensures { (x : Snapshot) (own at : ℕ) (s : GroupState) → MayTake own self.old s (Call (TriggerPurge place) at)
+        ensures heard { OnOk result (KeepsHeard self.old.leader self.new.leader) }
+        ensures taken { (x : Snapshot) (own at : ℕ) (s : GroupState) → MayTake own self.old s (Call (TriggerPurge place) at)
             → OnOk result (HasTaken x own self.old self.new s (Call (TriggerPurge place) at)) }
     {
         let before = self.state.state.committed;

@@ -5,6 +5,7 @@ ghost use Rattle.raft_group_step.specs.GroupState.{GroupState};
 ghost use Rattle.raft_group_step.specs.StepResult.{StepResult};
 ghost use Rattle.raft_group_step.specs.GroupStep.{finished};
 ghost use Rattle.raft_engine.specs.Building.{with_building};
+ghost use Rattle.raft_engine.specs.Clock.{KeepsHeard};
 ghost use Rattle.raft_engine.specs.Events.{CanFinish};
 ghost use Rattle.raft_engine.specs.Standing.{Given, IsStateOf, IsStepOf, IsWholeStepOf};
 
@@ -16,7 +17,8 @@ use std::alloc::AllocError;
 impl<C: RaftTypeConfig<NodeId = u64, Node = BasicNode, D = Bytes>> Engine<C> {
     // The part that the node plays is noted: the step is whole then, but for what a leader sends.
     fn note_part(&mut self)
-        ensures { (x : Given) (own : _) (r : StepResult) → IsStepOf x own self.old r → IsWholeStepOf x own self.new r }
+        ensures leader { self.new.leader ≡ self.old.leader }
+        ensures step { (x : Given) (own : _) (r : StepResult) → IsStepOf x own self.old r → IsWholeStepOf x own self.new r }
     {
         self.server_state_handler().update_server_state_if_changed();
     }
@@ -24,7 +26,8 @@ impl<C: RaftTypeConfig<NodeId = u64, Node = BasicNode, D = Bytes>> Engine<C> {
     // Then a leader commits, purges as wished, and sends; before: what was committed as the event
     // began.
     pub(crate) fn finish(&mut self, before: Option<LogId<u64>>) -> Result<(), AllocError>
-        ensures { (x : Given) (own : _) (r : StepResult) → IsStepOf x own self.old r → CanFinish own r.state r.state.role
+        ensures heard { OnOk result (KeepsHeard self.old.leader self.new.leader) }
+        ensures step { (x : Given) (own : _) (r : StepResult) → IsStepOf x own self.old r → CanFinish own r.state r.state.role
             → OnOk result (IsWholeStepOf x own self.new (finished own (place_of before) r)) }
     {
         if self.leader.is_none() {

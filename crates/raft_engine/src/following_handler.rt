@@ -233,6 +233,7 @@ impl<C: RaftTypeConfig<NodeId = u64, Node = BasicNode, D = Bytes>> Engine<C> {
 
     // All up to the place is committed, if it is above what is.
     pub(crate) fn commit_up_to(&mut self, place: Option<u64>) -> Result<(), AllocError>
+        ensures leader { self.new.leader ≡ self.old.leader }
         ensures numbers { OnOk result (NumbersRise self.old.output self.new.output) }
         ensures step { (x : Given) (own : _) (r : StepResult) → IsStepOf x own self.old r → EndsWithin place r.state.stored
             → OnOk result (IsStepOf x own self.new (apply_up_to place r)) }

@@ -16,6 +16,7 @@ ghost use Rattle.raft_known_state.specs.KnownState.{IsPlaced, Knows, effective_o
 ghost use Rattle.raft_leaders.specs.Leader.{id_of_leader, peer_at};
 ghost use Rattle.raft_engine.specs.Standing.{Given, IsStepOf, Leads};
 ghost use Rattle.raft_engine.specs.Turns.{MayLead};
+ghost use Rattle.raft_engine.specs.Clock.{KeepsHeard, heard_at};
 ghost use Rattle.raft_engine.specs.Leading.{CountsOn, KnowsMembers, leads_by};
 ghost use Rattle.std.specs.Prelude.{nat_eq};
 ghost use Rattle.std.specs.Option.{option_copied};
@@ -69,6 +70,7 @@ fn count_by_entry(
     ensures members { (before : Option LoggedMembership) → KnowsMembers leader.old before
         → OnOk result (KnowsMembers leader.new (membership_after before entry.now.log_id entry.now.payload)) }
     ensures peers { OnOk result ((n : ℕ) → peer_at nat_eq leader.new n ≡ peer_at nat_eq leader.old n) }
+    ensures heard { OnOk result ((n : ℕ) → heard_at leader.new n ≡ heard_at leader.old n) }
     ensures rest { leader.new ≡ record leader.old { progress = leader.new.progress; clock_progress = leader.new.clock_progress } }
 {
     let Some(membership) = entry.get_membership() else {
@@ -85,7 +87,8 @@ pub(crate) fn count_by(
     leader: &mut Option<Leader<u64, EffectiveMembership<u64, BasicNode>>>,
     membership: &EffectiveMembership<u64, BasicNode>,
 ) -> Result<(), AllocError>
-    ensures { (m : Option LoggedMembership) → membership.now ≡ effective_of m → OnOk result (CountsOn m leader.old leader.new) }
+    ensures heard { OnOk result (KeepsHeard leader.old leader.new) }
+    ensures counts { (m : Option LoggedMembership) → membership.now ≡ effective_of m → OnOk result (CountsOn m leader.old leader.new) }
 {
     let Some(leader) = leader else {
         return Ok(());
@@ -154,7 +157,8 @@ impl<C: RaftTypeConfig<NodeId = u64, Node = BasicNode, D = Bytes>> Engine<C> {
         payload: EntryPayload<u64, BasicNode, Bytes>,
     ) -> Result<(), AllocError>
         requires { next_place (last_id self.old.state.state.log_ids) < 2 ^ 63 }
-        ensures { (x : Given) (own : _) (r : StepResult) (lead : Lead) → IsStepOf x own self.old r → r.state.role ≡ Leading lead
+        ensures heard { OnOk result (KeepsHeard self.old.leader self.new.leader) }
+        ensures step { (x : Given) (own : _) (r : StepResult) (lead : Lead) → IsStepOf x own self.old r → r.state.role ≡ Leading lead
             → OnOk result (IsStepOf x own self.new (append payload r)) }
     {
         let Some(leader) = &mut self.leader else {
@@ -239,7 +243,8 @@ impl<C: RaftTypeConfig<NodeId = u64, Node = BasicNode, D = Bytes>> Engine<C> {
     // A command goes behind the log. Its token is for the runtime to keep.
     pub(crate) fn propose_part(&mut self, command: Bytes) -> Result<(), AllocError>
         requires { next_place (last_id self.old.state.state.log_ids) < 2 ^ 63 }
-        ensures { (x : Given) (own : _) (r : StepResult) (lead : Lead) (token : ℕ) → IsStepOf x own self.old r → r.state.role ≡ Leading lead
+        ensures heard { OnOk result (KeepsHeard self.old.leader self.new.leader) }
+        ensures step { (x : Given) (own : _) (r : StepResult) (lead : Lead) (token : ℕ) → IsStepOf x own self.old r → r.state.role ≡ Leading lead
             → OnOk result (IsStepOf x own self.new (propose_step command token r)) }
     {
         self.append(EntryPayload::Normal(command))
@@ -251,8 +256,9 @@ impl<C: RaftTypeConfig<NodeId = u64, Node = BasicNode, D = Bytes>> Engine<C> {
         changed: Membership<u64, BasicNode>,
     ) -> Result<(), AllocError>
         requires { next_place (last_id self.old.state.state.log_ids) < 2 ^ 63 }
-        ensures { (x : Given) (own : _) (r : StepResult) (lead : Lead) (token : ℕ) (m : LoggedMembership) (change : ChangeMembers) → IsStepOf x own self.old r → r.state.role ≡ Leading lead
-            → membership_in_force r.state.stored ≡ Some m → changed ≡ after_change m.membership change
+        ensures heard { OnOk result (KeepsHeard self.old.leader self.new.leader) }
+        ensures step { (x : Given) (own : _) (r : StepResult) (lead : Lead) (token : ℕ) (m : LoggedMembership) (change : ChangeMembers)
+            → IsStepOf x own self.old r → r.state.role ≡ Leading lead → membership_in_force r.state.stored ≡ Some m → changed ≡ after_change m.membership change
             → OnOk result (IsStepOf x own self.new (membership_step change token r)) }
     {
         self.append(EntryPayload::Membership(changed))
@@ -262,7 +268,8 @@ impl<C: RaftTypeConfig<NodeId = u64, Node = BasicNode, D = Bytes>> Engine<C> {
     // is read from there on alone.
     pub(crate) fn commit_as_leader(&mut self) -> Result<(), AllocError>
         requires { next_place (last_id self.old.state.state.log_ids) < 2 ^ 63 }
-        ensures { (x : Given) (own : _) (r : StepResult) → IsStepOf x own self.old r
+        ensures leader { self.new.leader ≡ self.old.leader }
+        ensures step { (x : Given) (own : _) (r : StepResult) → IsStepOf x own self.old r
             → OnOk result (IsStepOf x own self.new (commit_as_leader own r.state.role r)) }
     {
         let Some(leader) = &self.leader else {

@@ -7,6 +7,7 @@ ghost use Rattle.raft_group_step.specs.StepResult.{StepResult, is_within, later_
 ghost use Rattle.raft_group_step.specs.Lead.{purge_as_wished, purge_up_to, with_wish};
 ghost use Rattle.raft_group_step.specs.AppendRequest.{lesser_place};
 ghost use Rattle.raft_group_step.specs.PurgeTrigger.{purge_trigger_step};
+ghost use Rattle.raft_engine.specs.Clock.{KeepsHeard};
 ghost use Rattle.raft_engine.specs.Standing.{Given, IsStepOf};
 ghost use Rattle.raft_engine.specs.Building.{covered_id};
 
@@ -48,6 +49,7 @@ impl<'x, C: RaftTypeConfig<NodeId = u64, Node = BasicNode, D = Bytes>> LogHandle
     /// leader purges once no request needs what goes, and any other node at once.
     pub fn update_purge_upto(&mut self, place: u64) -> Result<(), AllocError>
         ensures same_engine { self.new.engine.ghost_name ≡ self.old.engine.ghost_name }
+        ensures heard { OnOk result (KeepsHeard self.old.engine.now.leader self.new.engine.now.leader) }
         ensures within { (x : Given) (own : _) (r : StepResult) → IsStepOf x own self.old.engine.now r → end_place r.state.stored < 2 ^ 64
             → OnOk result (self.new.engine.now.state.state.purged_next ≤ next_place (covered_id self.new.engine.now)) }
         ensures step { (x : Given) (own : _) (r : StepResult) → IsStepOf x own self.old.engine.now r → end_place r.state.stored < 2 ^ 64
@@ -75,7 +77,8 @@ impl<C: RaftTypeConfig<NodeId = u64, Node = BasicNode, D = Bytes>> Engine<C> {
     // The log is removed up to its entry at the place, if it has one there. The membership in force
     // may change by it: where the log has none left, the snapshot's is in force, whatever it is.
     pub(crate) fn purge_up_to(&mut self, place: u64) -> Result<(), AllocError>
-        ensures { (x : Given) (own : _) (r : StepResult) → IsStepOf x own self.old r → end_place r.state.stored < 2 ^ 64
+        ensures heard { OnOk result (KeepsHeard self.old.leader self.new.leader) }
+        ensures step { (x : Given) (own : _) (r : StepResult) → IsStepOf x own self.old r → end_place r.state.stored < 2 ^ 64
             → place < next_place (snapshot_last r.state.stored) → OnOk result (IsStepOf x own self.new (purge_up_to place r)) }
     {
         if !self.state.has_entry_at(place) {
@@ -95,7 +98,8 @@ impl<C: RaftTypeConfig<NodeId = u64, Node = BasicNode, D = Bytes>> Engine<C> {
 
     // A leader is to purge up to the place, once no request needs what goes.
     fn wish_to_purge(&mut self, place: u64)
-        ensures { (x : Given) (own : _) (r : StepResult) → IsStepOf x own self.old r → place < next_place (snapshot_last r.state.stored)
+        ensures leader { self.new.leader ≡ self.old.leader }
+        ensures step { (x : Given) (own : _) (r : StepResult) → IsStepOf x own self.old r → place < next_place (snapshot_last r.state.stored)
             → IsStepOf x own self.new (if nat_lt place (first_place r.state.stored) then r else with_wish (later_place r.state.wish (Some place)) r) }
     {
         if place < self.state.first_place() {
@@ -111,7 +115,8 @@ impl<C: RaftTypeConfig<NodeId = u64, Node = BasicNode, D = Bytes>> Engine<C> {
     // The log is to be purged up to the place, as far as the snapshot goes: a leader does so once
     // no request needs what goes.
     pub(crate) fn purge_trigger(&mut self, place: u64) -> Result<(), AllocError>
-        ensures { (x : Given) (own : _) (r : StepResult) → IsStepOf x own self.old r → end_place r.state.stored < 2 ^ 64
+        ensures heard { OnOk result (KeepsHeard self.old.leader self.new.leader) }
+        ensures step { (x : Given) (own : _) (r : StepResult) → IsStepOf x own self.old r → end_place r.state.stored < 2 ^ 64
             → OnOk result (IsStepOf x own self.new (purge_trigger_step place r)) }
     {
         let Some(last) = self.state.state.snapshot_meta.last_log_id else {
@@ -127,7 +132,8 @@ impl<C: RaftTypeConfig<NodeId = u64, Node = BasicNode, D = Bytes>> Engine<C> {
 
     // What a leader is still to purge goes, once no request needs it.
     pub(crate) fn purge_as_wished(&mut self) -> Result<(), AllocError>
-        ensures { (x : Given) (own : _) (r : StepResult) → IsStepOf x own self.old r → end_place r.state.stored < 2 ^ 64
+        ensures heard { OnOk result (KeepsHeard self.old.leader self.new.leader) }
+        ensures step { (x : Given) (own : _) (r : StepResult) → IsStepOf x own self.old r → end_place r.state.stored < 2 ^ 64
             → ((place : ℕ) → r.state.wish ≡ Some place → place < next_place (snapshot_last r.state.stored))
             → OnOk result (IsStepOf x own self.new (purge_as_wished r.state.role r.state.wish r)) }
     {

@@ -15,6 +15,7 @@ ghost use Rattle.raft_group_step.specs.Heartbeat.{beat_as, send_notices};
 ghost use Rattle.raft_group_step.specs.Reply.{accepted_up_to, after_answer, answered, reply_step};
 ghost use Rattle.raft_group_step.specs.Lost.{lost_as};
 ghost use Rattle.raft_known_state.specs.KnownState.{IsPlaced, Knows};
+ghost use Rattle.raft_engine.specs.Clock.{KeepsHeard};
 ghost use Rattle.raft_engine.specs.Commands.{number_of, result_of};
 ghost use Rattle.raft_engine.specs.Standing.{Given, IsStateOf, IsStepOf, IsWholeStepOf, outstanding_of, peer_state};
 ghost use Rattle.raft_engine.specs.Sending.{HasPeer, HasRoomFor, reply_of, request_for, with_known};
@@ -65,7 +66,7 @@ fn has_number(id: &RequestId, number: u64) -> bool
 }
 
 // Whether the reply repeats the number and both log ids of the request that is on its way.
-fn is_answer_to(inflight: &Inflight<u64>, reply: &Caller<u64>) -> bool
+pub(crate) fn is_answer_to(inflight: &Inflight<u64>, reply: &Caller<u64>) -> bool
     ensures { (outcome : _) → result ≡ is_answer_to (reply_of reply.now outcome) (outstanding_of inflight.now) }
 {
     match inflight {
@@ -295,6 +296,7 @@ impl<C: RaftTypeConfig<NodeId = u64, Node = BasicNode, D = Bytes>> Engine<C> {
             → IsStateOf own self.new (with_known (peer_state n entry) lead s) }
         ensures rest { (self.new.output ≡ self.old.output) × (self.new.seen_greater_log ≡ self.old.seen_greater_log) }
         ensures same { self.new.state ≡ self.old.state }
+        ensures heard { KeepsHeard self.old.leader self.new.leader }
     {
         let Some(leader) = &mut self.leader else {
             return false;
@@ -304,7 +306,8 @@ impl<C: RaftTypeConfig<NodeId = u64, Node = BasicNode, D = Bytes>> Engine<C> {
 
     // The peer gets its next request.
     fn send_request(&mut self, n: u64, entry: &ProgressEntry<u64>) -> Result<(), AllocError>
-        ensures { (x : Given) (own : ℕ) (r : StepResult) (lead : Lead) → IsWholeStepOf x own self.old r → r.state.role ≡ LeaderRole lead → HasPeer n self.old.leader
+        ensures heard { OnOk result (KeepsHeard self.old.leader self.new.leader) }
+        ensures step { (x : Given) (own : ℕ) (r : StepResult) (lead : Lead) → IsWholeStepOf x own self.old r → r.state.role ≡ LeaderRole lead → HasPeer n self.old.leader
             → peer_of lead n ≡ peer_state n entry.now → HasRoomFor 1 r.state → next_place entry.now.matching < 2 ^ 64
             → OnOk result (IsWholeStepOf x own self.new (send_request own (peer_of lead n) lead r.state.stored.snapshot r)) }
     {
@@ -322,6 +325,7 @@ impl<C: RaftTypeConfig<NodeId = u64, Node = BasicNode, D = Bytes>> Engine<C> {
 
     // The peer is told how far is committed.
     fn send_notice(&mut self, n: u64, entry: &ProgressEntry<u64>) -> Result<(), AllocError>
+        ensures leader { self.new.leader ≡ self.old.leader }
         ensures step { (x : Given) (own : ℕ) (r : StepResult) (lead : Lead) → IsStepOf x own self.old r → peer_of lead n ≡ peer_state n entry.now
             → OnOk result (IsStepOf x own self.new (send own n (notice r.state (peer_of lead n)) r)) }
         ensures whole { (x : Given) (own : ℕ) (r : StepResult) (lead : Lead) → IsWholeStepOf x own self.old r → peer_of lead n ≡ peer_state n entry.now
@@ -338,7 +342,8 @@ impl<C: RaftTypeConfig<NodeId = u64, Node = BasicNode, D = Bytes>> Engine<C> {
     // A leader sends a request to the member if none is on its way and entries are lacking, else a
     // notice if there is news.
     fn serve(&mut self, n: u64, has_news: bool) -> Result<(), AllocError>
-        ensures { (x : Given) (own : ℕ) (r : StepResult) → IsWholeStepOf x own self.old r → has_id (ids_of (membership_in_force r.state.stored)) n ≡ true
+        ensures heard { OnOk result (KeepsHeard self.old.leader self.new.leader) }
+        ensures step { (x : Given) (own : ℕ) (r : StepResult) → IsWholeStepOf x own self.old r → has_id (ids_of (membership_in_force r.state.stored)) n ≡ true
             → HasRoomFor 1 r.state → OnOk result (IsWholeStepOf x own self.new (serve_as own has_news n r.state.role r)) }
     {
         let Some(leader) = &self.leader else {
@@ -356,7 +361,8 @@ impl<C: RaftTypeConfig<NodeId = u64, Node = BasicNode, D = Bytes>> Engine<C> {
 
     // A leader serves these members in turn.
     fn serve_all(&mut self, ids: &[u64], has_news: bool) -> Result<(), AllocError>
-        ensures { (x : Given) (own : ℕ) (r : StepResult) → IsWholeStepOf x own self.old r
+        ensures heard { OnOk result (KeepsHeard self.old.leader self.new.leader) }
+        ensures step { (x : Given) (own : ℕ) (r : StepResult) → IsWholeStepOf x own self.old r
             → list_all (has_id (ids_of (membership_in_force r.state.stored))) ids.now ≡ true → HasRoomFor (2 ^ 63) r.state
             → OnOk result (IsWholeStepOf x own self.new (serve_all own has_news ids.now r)) }
     {
@@ -368,7 +374,8 @@ impl<C: RaftTypeConfig<NodeId = u64, Node = BasicNode, D = Bytes>> Engine<C> {
 
     // What a leader sends when the event is over; before: what was committed as it began.
     pub(crate) fn with_frames(&mut self, before: Option<u64>) -> Result<(), AllocError>
-        ensures { (x : Given) (own : ℕ) (r : StepResult) → IsWholeStepOf x own self.old r → HasRoomFor (2 ^ 63) r.state
+        ensures heard { OnOk result (KeepsHeard self.old.leader self.new.leader) }
+        ensures step { (x : Given) (own : ℕ) (r : StepResult) → IsWholeStepOf x own self.old r → HasRoomFor (2 ^ 63) r.state
             → OnOk result (IsWholeStepOf x own self.new (with_frames own before r)) }
     {
         if self.leader.is_none() {
@@ -381,7 +388,8 @@ impl<C: RaftTypeConfig<NodeId = u64, Node = BasicNode, D = Bytes>> Engine<C> {
 
     // A leader tells the node how far is committed.
     fn notice(&mut self, n: u64) -> Result<(), AllocError>
-        ensures { (x : Given) (own : ℕ) (r : StepResult) (lead : Lead) → IsStepOf x own self.old r → r.state.role ≡ LeaderRole lead
+        ensures leader { self.new.leader ≡ self.old.leader }
+        ensures step { (x : Given) (own : ℕ) (r : StepResult) (lead : Lead) → IsStepOf x own self.old r → r.state.role ≡ LeaderRole lead
             → OnOk result (IsStepOf x own self.new (send own n (notice r.state (peer_of lead n)) r)) }
     {
         let Some(leader) = &self.leader else {
@@ -393,7 +401,8 @@ impl<C: RaftTypeConfig<NodeId = u64, Node = BasicNode, D = Bytes>> Engine<C> {
 
     // A leader tells each of these nodes.
     fn send_notices(&mut self, ids: &[u64]) -> Result<(), AllocError>
-        ensures { (x : Given) (own : ℕ) (r : StepResult) (lead : Lead) → IsStepOf x own self.old r → r.state.role ≡ LeaderRole lead
+        ensures leader { self.new.leader ≡ self.old.leader }
+        ensures step { (x : Given) (own : ℕ) (r : StepResult) (lead : Lead) → IsStepOf x own self.old r → r.state.role ≡ LeaderRole lead
             → OnOk result (IsStepOf x own self.new (send_notices own lead ids.now r)) }
     {
         for n in ids {
@@ -404,7 +413,8 @@ impl<C: RaftTypeConfig<NodeId = u64, Node = BasicNode, D = Bytes>> Engine<C> {
 
     // A leader says to every other node that it leads on.
     pub(crate) fn notices(&mut self) -> Result<(), AllocError>
-        ensures { (x : Given) (own : ℕ) (r : StepResult) → IsStepOf x own self.old r
+        ensures leader { self.new.leader ≡ self.old.leader }
+        ensures step { (x : Given) (own : ℕ) (r : StepResult) → IsStepOf x own self.old r
             → OnOk result (IsStepOf x own self.new (beat_as own r.state.role r)) }
     {
         if self.leader.is_none() {
@@ -416,7 +426,8 @@ impl<C: RaftTypeConfig<NodeId = u64, Node = BasicNode, D = Bytes>> Engine<C> {
 
     // An answer under the own vote to the outstanding request ends it.
     fn take_answer(&mut self, peer: u64, reply: &Caller<u64>, outcome: &AppendEntriesResponse<u64>)
-        ensures { (x : Given) (own : ℕ) (r : StepResult) → IsStepOf x own self.old r → next_place reply.now.last < 2 ^ 64
+        ensures heard { KeepsHeard self.old.leader self.new.leader }
+        ensures step { (x : Given) (own : ℕ) (r : StepResult) → IsStepOf x own self.old r → next_place reply.now.last < 2 ^ 64
             → IsStepOf x own self.new (answered peer (reply_of reply.now outcome.now) r.state.role r) }
     {
         let Some(leader) = &self.leader else {
@@ -436,7 +447,8 @@ impl<C: RaftTypeConfig<NodeId = u64, Node = BasicNode, D = Bytes>> Engine<C> {
         outcome: &AppendEntriesResponse<u64>,
         now: u64,
     ) -> Result<(), AllocError>
-        ensures { (x : Given) (own : ℕ) (r : StepResult) → IsStepOf x own self.old r → r.state.now ≡ now → next_place reply.now.last < 2 ^ 64
+        ensures heard { OnOk result (KeepsHeard self.old.leader self.new.leader) }
+        ensures step { (x : Given) (own : ℕ) (r : StepResult) → IsStepOf x own self.old r → r.state.now ≡ now → next_place reply.now.last < 2 ^ 64
             → OnOk result (IsStepOf x own self.new (reply_step peer (reply_of reply.now outcome.now) r)) }
     {
         if let AppendEntriesResponse::HigherVote(vote) = outcome {
@@ -448,7 +460,8 @@ impl<C: RaftTypeConfig<NodeId = u64, Node = BasicNode, D = Bytes>> Engine<C> {
 
     // The outstanding request to the peer counts as failed.
     pub(crate) fn lost(&mut self, peer: u64)
-        ensures { (x : Given) (own : ℕ) (r : StepResult) → IsStepOf x own self.old r → IsStepOf x own self.new (lost_as peer r.state.role r) }
+        ensures heard { KeepsHeard self.old.leader self.new.leader }
+        ensures step { (x : Given) (own : ℕ) (r : StepResult) → IsStepOf x own self.old r → IsStepOf x own self.new (lost_as peer r.state.role r) }
     {
         let Some(leader) = &self.leader else {
             return;

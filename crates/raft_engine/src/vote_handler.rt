@@ -5,6 +5,7 @@ ghost use Rattle.raft_group_step.specs.GroupState.{GroupState, Follower};
 ghost use Rattle.raft_group_step.specs.StepResult.{StepResult, step_down, store_vote, take_over};
 ghost use Rattle.raft_group_step.specs.VoteReply.{take_over_greater};
 ghost use Rattle.raft_group_step.specs.VoteRequest.{is_under_lease, may_grant, reply_vote, vote_request_step};
+ghost use Rattle.raft_engine.specs.Clock.{KeepsHeard};
 ghost use Rattle.raft_engine.specs.Standing.{Given, IsStateOf, IsStepOf};
 
 use crate::engine::Engine;
@@ -60,7 +61,8 @@ impl<'x, C: RaftTypeConfig<NodeId = u64, Node = BasicNode, D = Bytes>> VoteHandl
 impl<C: RaftTypeConfig<NodeId = u64, Node = BasicNode, D = Bytes>> Engine<C> {
     // The node neither stands nor leads any more. The runtime is told of a lead that ends.
     pub(crate) fn step_down(&mut self) -> Result<(), AllocError>
-        ensures { (x : Given) (own : _) (r : StepResult) → IsStepOf x own self.old r → OnOk result (IsStepOf x own self.new (step_down r)) }
+        ensures heard { OnOk result (KeepsHeard self.old.leader self.new.leader) }
+        ensures step { (x : Given) (own : _) (r : StepResult) → IsStepOf x own self.old r → OnOk result (IsStepOf x own self.new (step_down r)) }
     {
         self.state.set_wish(None);
         if self.leader.is_some() {
@@ -73,7 +75,8 @@ impl<C: RaftTypeConfig<NodeId = u64, Node = BasicNode, D = Bytes>> Engine<C> {
 
     // The vote is stored, and heard of at this moment.
     pub(crate) fn store_vote(&mut self, vote: Vote<u64>, now: u64) -> Result<(), AllocError>
-        ensures { (x : Given) (own : _) (r : StepResult) → IsStepOf x own self.old r → r.state.role ≡ Follower → r.state.now ≡ now
+        ensures leader { self.new.leader ≡ self.old.leader }
+        ensures step { (x : Given) (own : _) (r : StepResult) → IsStepOf x own self.old r → r.state.role ≡ Follower → r.state.now ≡ now
             → OnOk result (IsStepOf x own self.new (store_vote vote r)) }
     {
         self.state.save_vote(now, vote);
@@ -96,7 +99,8 @@ impl<C: RaftTypeConfig<NodeId = u64, Node = BasicNode, D = Bytes>> Engine<C> {
 
     // A greater vote is taken over, and nothing else changes anything.
     pub(crate) fn take_over_greater(&mut self, vote: Vote<u64>, now: u64) -> Result<(), AllocError>
-        ensures { (x : Given) (own : _) (r : StepResult) → IsStepOf x own self.old r → r.state.now ≡ now
+        ensures heard { OnOk result (KeepsHeard self.old.leader self.new.leader) }
+        ensures step { (x : Given) (own : _) (r : StepResult) → IsStepOf x own self.old r → r.state.now ≡ now
             → OnOk result (IsStepOf x own self.new (take_over_greater vote r)) }
     {
         if is_lower(self.state.state.vote_ref(), &vote) {

@@ -68,7 +68,7 @@ fn take(engine: &mut Engine<Numbered>, message: GroupMessage) -> Result<(), Allo
         MessageBody::AppendRequest(request) => take_request(engine, peer, request),
         MessageBody::AppendReply(reply) => {
             let (caller, answer) = caller_and_answer(peer, &reply);
-            engine.handle_replication_resp(peer, &caller, &answer, 5)
+            engine.handle_replication_resp(peer, &caller, &answer, Some(5), 5)
         }
         MessageBody::SnapshotReply(_) | MessageBody::SnapshotRequest { .. } => Ok(()),
     }

@@ -66,10 +66,29 @@ fn is_refused(engine: &mut NumberedEngine, last: Option<LogId<u64>>) -> bool {
     engine.handle_vote_resp(3, &resp, 6).is_ok()
 }
 
+// Node 2 has accepted the request, which left at moment 6.
 fn is_accepted(engine: &mut NumberedEngine) -> bool {
     let outcome = AppendEntriesResponse::Success;
     engine
-        .handle_replication_resp(2, &accepted(), &outcome, 7)
+        .handle_replication_resp(2, &accepted(), &outcome, Some(6), 7)
+        .is_ok()
+}
+
+// It has accepted the same request of a leader in term 0.
+fn is_accepted_under_older_vote(engine: &mut NumberedEngine) -> bool {
+    let outcome = AppendEntriesResponse::Success;
+    let mut asked = accepted();
+    asked.vote = Vote::new_committed(0, 1);
+    engine
+        .handle_replication_resp(2, &asked, &outcome, Some(6), 7)
+        .is_ok()
+}
+
+// It answers that another vote is in force, which is a lesser one.
+fn is_told_of_lesser_vote(engine: &mut NumberedEngine) -> bool {
+    let outcome = AppendEntriesResponse::HigherVote(Vote::new(1, 0));
+    engine
+        .handle_replication_resp(2, &accepted(), &outcome, Some(6), 7)
         .is_ok()
 }
 
@@ -77,7 +96,7 @@ fn is_accepted(engine: &mut NumberedEngine) -> bool {
 fn is_accepted_in_part(engine: &mut NumberedEngine) -> bool {
     let outcome = AppendEntriesResponse::PartialSuccess(Some(log_id(0, 0)));
     engine
-        .handle_replication_resp(2, &accepted(), &outcome, 7)
+        .handle_replication_resp(2, &accepted(), &outcome, Some(6), 7)
         .is_ok()
 }
 
@@ -104,6 +123,8 @@ fn is_done(engine: &mut NumberedEngine, name: &str) -> Option<bool> {
         "be-refused-by-3" => is_refused(engine, None),
         "be-accepted-by-2" => is_accepted(engine),
         "be-accepted-in-part-by-2" => is_accepted_in_part(engine),
+        "be-accepted-under-older-vote-by-2" => is_accepted_under_older_vote(engine),
+        "be-told-of-lesser-vote-by-2" => is_told_of_lesser_vote(engine),
         "be-asked-for-vote" => is_asked_for_vote(engine),
         _ => return None,
     })

@@ -59,7 +59,8 @@ abbrev pub Stands : Node → ℕ → NodeState → Type 0
 Stands n = StandsAs n.own n.members n.is_well n.shows
 
 -- the group's member was in this state, and took its step at the event, or refused it; or the step met a fault and this holds
-abbrev pub IsTakenOr : {F : Type 0} → (Broken F → Member → Type 0) → (SnapshotBytes → Snapshot → Type 0) → Node → ℕ → GroupState → GroupEvent → Result Outcome (AnswerError F) → Type 0
+abbrev pub IsTakenOr : {F : Type 0} → (Broken F → Member → Type 0) → (SnapshotBytes → Snapshot → Type 0)
+    → Node → ℕ → GroupState → GroupEvent → Result Outcome (AnswerError F) → Type 0
 IsTakenOr breaks stands n group s event (Err (error.Groups fault)) = HasMet (λ met. HasMember n.own n.members group (breaks met)) fault
 IsTakenOr breaks stands n group s event answer =
     (end : Ended SnapshotBytes) × HasMember n.own n.members group (λ member. HasEnded stands n.is_well (n.shows group) n.own s event None member end)
@@ -103,7 +104,8 @@ TakesCall stands old new group call built now answer =
     → IsTakenOr (λ met member. HasBrokenOff new.is_well (new.shows group) new.own s (Call call now) member met) stands new group s (Call call now) answer
 
 -- the group was asked, and the others stay
-pub record IsAsked {F : Type 0} (stands : SnapshotBytes → Snapshot → Type 0) (old new : Node) (group : ℕ) (call : GroupCall) (built : Option SnapshotBytes) (now : ℕ) (answer : Result Outcome (AnswerError F)) : Type 0 where
+pub record IsAsked {F : Type 0} (stands : SnapshotBytes → Snapshot → Type 0) (old new : Node) (group : ℕ) (call : GroupCall)
+    (built : Option SnapshotBytes) (now : ℕ) (answer : Result Outcome (AnswerError F)) : Type 0 where
   pub taken : TakesCall stands old new group call built now answer
   pub of_group : IsOfGroup old new group answer
 
@@ -113,7 +115,8 @@ pub record IsAsked {F : Type 0} (stands : SnapshotBytes → Snapshot → Type 0)
 abbrev pub TakesMessage : {F : Type 0} → (SnapshotBytes → Snapshot → Type 0) → Node → Node → Frame → ℕ → Result Outcome (AnswerError F) → Type 0
 TakesMessage stands old new frame now answer =
     (m : Said) (s : GroupState) → old.has_failed ≡ false → Says stands frame.message m → Stands old frame.group (Up s) → IsLawful old.own s
-    → IsTakenOr (λ met member. HasBegun (HasStopped (new.shows frame.group) new.own s (Receive frame.message.sender m now) member) met) stands new frame.group s (Receive frame.message.sender m now) answer
+    → IsTakenOr (λ met member. HasBegun (HasStopped (new.shows frame.group) new.own s (Receive frame.message.sender m now) member) met)
+        stands new frame.group s (Receive frame.message.sender m now) answer
 
 -- the frame's group took its message, and the others stay
 pub record IsFrameTaken {F : Type 0} (stands : SnapshotBytes → Snapshot → Type 0) (old new : Node) (frame : Frame) (now : ℕ) (answer : Result Outcome (AnswerError F)) : Type 0 where

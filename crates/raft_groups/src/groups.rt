@@ -112,7 +112,8 @@ impl<S: GroupStorage> Groups<S> {
     // The group is made, unless it is stored already: whether it was.
     fn make_if_new(&mut self, group: u64) -> Result<bool, S::Fault>
         ensures ok { S.is_well self.old.storage → S.shows self.old.storage group (no_group ∷ [])
-            → IfOk result (λ made. (made ≡ true) × StandsAs self.old.id (get nat_cmp self.new.members) (S.is_well self.new.storage) (S.shows self.new.storage) group (Up (state_of (record no_group { present = true })))) }
+            → IfOk result (λ made. (made ≡ true)
+            × StandsAs self.old.id (get nat_cmp self.new.members) (S.is_well self.new.storage) (S.shows self.new.storage) group (Up (state_of (record no_group { present = true })))) }
         ensures stored { (st : Stored) → S.is_well self.old.storage → S.shows self.old.storage group (st ∷ []) → st.present ≡ true → IfOk result (λ made. made ≡ false) }
         ensures err { S.is_well self.old.storage → S.shows self.old.storage group (no_group ∷ [])
             → OnErr result (S.shows self.new.storage group (no_group ∷ after_storing MakeGroup no_group ∷ [])) }

@@ -1,4 +1,5 @@
 pub mod ClusterEvent
+pub mod Naming
 pub mod Seen
 pub mod Machines
 pub mod Replaying

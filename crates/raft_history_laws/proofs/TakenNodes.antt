@@ -15,7 +15,8 @@ use Rattle.raft_group_step.specs.Opening.{opening_step}
 use Rattle.raft_group_step.specs.Refusal.{first_of_reasons, is_right_party, is_sound, next_blank, numbers_of, range_reason, reasons_of_call, refusal_of, unknown_group, unless}
 use Rattle.raft_group_step.specs.GroupStep.{event_step, finished, group_step, step_unless}
 use Rattle.raft_laws.specs.BallotWorld.{BallotEvent, BallotWorld}
-use Rattle.raft_laws.specs.GroupWorld.{GroupWorld, NodeState, Absent, Up, Down, is_stop, state_or}
+use Rattle.raft_laws.specs.GroupWorld.{GroupWorld, NodeState, Absent, Recorded, Up, Down, is_stop, state_or}
+use Rattle.raft_laws.specs.OneList.{IsGroupHistory}
 use Rattle.raft_laws.specs.NodeEvent.{Comes, Crashes, Halts, Restarts, after_step, state_after}
 use Rattle.raft_laws.specs.GroupRun.{At, after_scene, scene_of, scene_of_call, stop_at}
 use Rattle.raft_laws.specs.Origins.{next_entry}
@@ -227,6 +228,12 @@ module _ (m : Membership) (some : 0 < length m.configs) (own : ℕ) (small : own
   takes_it = record { taken = taken; stores = stores; then_has = has_taken }
 
 -- ---- the laws
+
+-- at a node that is down nothing is stored of a group that isn't there
+pub absent_stores_nothing : (ids : List ℕ) (rs : List Recorded) (end : GroupWorld) → IsGroupHistory ids rs end
+    → (n : ℕ) (st : StoredGroup) → end.nodes n ≡ Down st → st.present ≡ false → st ≡ no_group
+absent_stores_nothing ids rs end h n st down =
+    subst (NodeWhole n) down (along_nodes NodeWhole nodes_whole ids h.node_ids start_whole rs end h.replays n)
 
 pub take_commands : LeadersTakeCommands
 take_commands ids rs end h n s lead up is command token now short room =

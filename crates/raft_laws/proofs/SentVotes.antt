@@ -331,6 +331,10 @@ module _ (own : ℕ) where
   step-tells : (s : GroupState) (e : GroupEvent) → Tells (group_step own s e)
   step-tells s e = unless-tells s e (refusal_of own s e)
 
+-- what a step sends is its node's own
+pub step_sends_own : (own : ℕ) (s : GroupState) (e : GroupEvent) (m : Message) → Among m (group_step own s e).messages → m.sender ≡ own
+step_sends_own own s e m sent = (tells_so own _ _ m (step-tells own s e).holds sent).0
+
 -- ---- along a history
 
 -- the node that sent it has this stored then

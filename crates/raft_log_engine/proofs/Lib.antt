@@ -12,3 +12,5 @@ pub mod Reopened
 mod Visits
 pub mod Since
 pub mod Synced
+pub mod Again
+pub mod Crashes

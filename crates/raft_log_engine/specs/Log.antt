@@ -1,8 +1,9 @@
 -- A log over one engine, each of whose writes is synced: what it answers, and what the next opening of its files may answer.
-use Rattle.std.specs.Prelude.{◌≡◌, ◌⊎◌, ℕ, Bool, false, List, [], ◌∷◌}
+use Rattle.std.specs.Prelude.{◌≡◌, ◌⊎◌, ◌↔◌, ℕ, Bool, false, List, [], ◌∷◌}
 use Rattle.std.specs.String.{string_bytes}
+use Rattle.raft_log_disk.specs.Chance.{IsGenuineImage}
 use Rattle.raft_log_disk.specs.Disk.{Disk}
-use Rattle.raft_log_disk.specs.Image.{Image}
+use Rattle.raft_log_disk.specs.Image.{Image, seen_image}
 use Rattle.raft_log_disk.specs.Text.{Text}
 use Rattle.raft_log_files.specs.declared.config.Config.{Config}
 use Rattle.raft_log_memtables.specs.Content.{Content}
@@ -43,3 +44,19 @@ pub record IsLog {F : Type 0} (disk : F → Disk) (e : Parts F) (settings : Conf
 -- what the next opening may answer: what is found after a crash, or what the log answers unless a write was refused
 abbrev pub leaves_of_log : {F : Type 0} → (F → Disk) → LogOn F → Content (List ℕ) → Type 0
 leaves_of_log disk l content = ((l.has_failed ≡ false) × (content ≡ answers_on disk l.engine)) ⊎ MayBeFound l.settings (disk l.engine.files) content
+
+-- The log's machine stopped: what an opening finds of the files as they are, unless they show by chance what nobody wrote, was
+-- left by the log before
+pub record IsCrashedLog {F : Type 0} (disk : F → Disk) (old new : LogOn F) : Type 0 where
+  pub settings : new.settings ≡ old.settings
+  pub found : (content : Content (List ℕ)) → IsGenuineImage (disk new.engine.files) (seen_image (disk new.engine.files))
+      → IsFoundBy new.settings (disk new.engine.files) content → leaves_of_log disk old content
+
+-- a log as it was, but that its files may be others that have the same
+pub record IsSameLog {F : Type 0} (disk : F → Disk) (old new : LogOn F) : Type 0 where
+  pub parts : new.engine ≡ record old.engine { files = new.engine.files }
+  pub settings : new.settings ≡ old.settings
+  pub has_failed : new.has_failed ≡ old.has_failed
+  pub disk_stays : disk new.engine.files ≡ disk old.engine.files
+  pub answers : answers_on disk new.engine ≡ answers_on disk old.engine
+  pub leaves : (content : Content (List ℕ)) → leaves_of_log disk new content ↔ leaves_of_log disk old content

@@ -31,6 +31,10 @@ pub record IsFoundContent (mode : RecoveryMode) (directories : List Text) (d : D
   pub passed : AnyRefused mode directories Append names made → ⊥
   pub is : content ≡ content_of_batches (batches_of Append made files)
 
+-- what an opening answers of the one disk it might have answered of the other before
+abbrev pub IsFoundAgain : RecoveryMode → List Text → Disk → Disk → Type 0
+IsFoundAgain mode directories d new = (content : Content (List ℕ)) → IsFoundContent mode directories new content → IsFoundContent mode directories d content
+
 -- a pipe holds just the batches that these files read as, all of them on the disk
 pub record HoldsFound (directories : List Text) (made new : Disk) (names : List FileName) : Type 0 where
   pub pipe : SinglePipe

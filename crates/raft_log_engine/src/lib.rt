@@ -5,6 +5,7 @@ mod appending;
 mod blocks;
 mod calls;
 mod compaction;
+mod crashing;
 mod engine;
 mod fault;
 mod memory;

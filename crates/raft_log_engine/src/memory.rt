@@ -2,8 +2,9 @@
 //!
 //! The calls of an engine hold for each file system. The log is over one of them: in an impl of a
 //! trait no bound of a type parameter says that it crosses threads, and a file system does.
-ghost use Rattle.std.specs.Prelude.{◌≡◌, ℕ, List, false, IfOk, IfErr, OnOk, OnErr};
+ghost use Rattle.std.specs.Prelude.{◌≡◌, ℕ, List, false, Err, IfOk, IfErr, OnOk, OnErr};
 ghost use Rattle.raft_content_log.specs.Leaving.{LeavesOnly};
+ghost use Rattle.raft_log_disk.specs.declared.crash.CrashRefusal.TheVariants.{ByChance, NotAnImage};
 ghost use Rattle.raft_log_disk.specs.Chance.{IsGenuineImage};
 ghost use Rattle.raft_log_disk.specs.Disk.{Disk};
 ghost use Rattle.raft_log_disk.specs.Image.{Image, seen_image};
@@ -40,10 +41,10 @@ pub struct LogFiles {
 /// that was refused, for whatever reason, the log takes none: it is to be opened again.
 #[derive(Drop)]
 pub struct MemoryLog {
-    engine: Engine<MemoryFileSystem>,
-    settings: Config,
+    pub(crate) engine: Engine<MemoryFileSystem>,
+    pub(crate) settings: Config,
     /// A write was refused.
-    has_failed: bool,
+    pub(crate) has_failed: bool,
 }
 
 impl Model for MemoryLog {
@@ -94,12 +95,23 @@ impl LogFiles {
     {
         self.files.crash(choice)
     }
+
+    /// Refuses files that show by chance what nobody wrote (own): `ByChance` where reads of a log file
+    /// see a header or a record that no call wrote there. It changes nothing.
+    pub fn check_genuine(&self) -> Result<(), CrashRefusal>
+        ensures genuine { OnOk result (IsGenuineImage (disk_in self.now.files) (seen_image (disk_in self.now.files))) }
+        ensures by_chance { result ≡ Err ByChance → IsGenuineImage (disk_in self.now.files) (seen_image (disk_in self.now.files)) → ⊥ }
+        ensures only { result ≡ Err NotAnImage → ⊥ }
+    {
+        self.files.may_crash(&CrashChoice::Most)
+    }
 }
 
 impl MemoryLog {
     /// Opens the log with the files that are there, or makes its first one (own). What the files read
     /// as is what it answers, and what a crash leaves. A fault in a file is cut away or refused, as
-    /// `recovery_mode` says. A refusal hands the files back.
+    /// `recovery_mode` says. A refusal hands the files back: what an opening finds of them as they are
+    /// it might have found of those before.
     pub fn open(alloc: Global, files: LogFiles) -> Result<MemoryLog, NotOpened<LogFiles>>
         ensures sound { IfOk result (λ l. l.has_failed ≡ false) }
         ensures answers { IfOk result (λ l. IsFoundBy files.settings (disk_in files.files) (answers_on disk_in l.engine)) }
@@ -107,6 +119,8 @@ impl MemoryLog {
         ensures settings { IfOk result (λ l. l.settings ≡ files.settings) }
         ensures refused { IfErr result (λ refused. refused.files.settings ≡ files.settings) }
         ensures err { IfErr result (λ refused. IsLeftByOpening (main_directory files.settings) (disk_in files.files) (disk_in refused.files.files)) }
+        ensures reads { IfErr result (λ refused. (content : Content (List ℕ)) → IsFoundBy files.settings (disk_in refused.files.files) content
+            → IsFoundBy files.settings (disk_in files.files) content) }
     {
         let LogFiles { settings, files } = files;
         let Ok(config) = in_one_directory(&settings) else {

@@ -1,7 +1,7 @@
 //! Opening an engine with the files that are there.
 ghost use Rattle.std.specs.Prelude.{◌≡◌, ℕ, List, [], IfOk, IfErr, OnErr};
 ghost use Rattle.raft_log_engine.specs.Left.{IsSound, answers_on};
-ghost use Rattle.raft_log_engine.specs.Opening.{IsFoundContent, IsLeftByOpening, IsRecoveredAs};
+ghost use Rattle.raft_log_engine.specs.Opening.{IsFoundAgain, IsFoundContent, IsLeftByOpening, IsRecoveredAs};
 ghost use Rattle.raft_log_engine.specs.Reopened.{OpensAs, OpensAsFront, StandsAlone, directories_of_engine};
 ghost use Rattle.raft_log_engine.specs.Since.{HasWritten};
 ghost use Rattle.raft_log_file.specs.Laws.{Batch};
@@ -54,6 +54,7 @@ fn recovered<F: FileSystem>(
     ensures paths { IfOk result (λ found. directories_of_pipe found.0 ≡ directories_of (settings_of config)) }
     ensures alone { IfOk result (λ found. IsOnce (F.disk files.old).names (directories_of (settings_of config)) Append → IsAlone found.0 (F.disk files.new)) }
     ensures err { OnErr result (IsLeftByOpening (directories_of (settings_of config)) (F.disk files.old) (F.disk files.new)) }
+    ensures reads { OnErr result (IsFoundAgain config.recovery_mode (directories_of (settings_of config)) (F.disk files.old) (F.disk files.new)) }
 {
     let recovery = recovery_of(&config);
     let mut builder = DualPipesBuilder::new(alloc, config);
@@ -67,7 +68,7 @@ fn recovered<F: FileSystem>(
 impl<F: FileSystem + Drop> Engine<F> {
     /// Opens the engine with the files that are there, or makes its first one (raft-engine's `open`,
     /// of the append queue alone): what the files read as is its content. A fault in a file is cut
-    /// away or refused, as `recovery_mode` says. A refusal hands the files back.
+    /// away or refused, as `recovery_mode` says. A refusal hands the files back, which read as before.
     pub fn open(mut files: F, alloc: Global, config: Config) -> Result<Engine<F>, NotOpened<F>>
         ensures sound { IfOk result IsSound }
         ensures answers { IfOk result (λ e. IsFoundContent config.recovery_mode (directories_of (settings_of config)) (F.disk files) (answers_on F.disk e)) }
@@ -76,6 +77,7 @@ impl<F: FileSystem + Drop> Engine<F> {
         ensures written { IfOk result (λ e. HasWritten F.disk e (answers_on F.disk e) []) }
         ensures opens { IfOk result (λ e. StandsAlone F.disk e → OpensAs (directories_of_engine e) (F.disk e.files) (answers_on F.disk e)) }
         ensures err { IfErr result (λ refused. IsLeftByOpening (directories_of (settings_of config)) (F.disk files) (F.disk refused.files)) }
+        ensures reads { IfErr result (λ refused. IsFoundAgain config.recovery_mode (directories_of (settings_of config)) (F.disk files) (F.disk refused.files)) }
     {
         match recovered(&mut files, alloc, config) {
             Ok((append, tables)) => Ok(Engine {

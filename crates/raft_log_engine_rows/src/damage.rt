@@ -95,7 +95,7 @@ fn shown_of(alloc: Global, harm: Harm, at: u64) -> Result<Shown, EngineFault> {
 }
 
 /// Puts what an opening showed behind what those before it did.
-fn note(runs: &mut Vec<Run>, shown: Shown) -> Result<(), EngineFault> {
+pub(crate) fn note(runs: &mut Vec<Run>, shown: Shown) -> Result<(), EngineFault> {
     if let Some(last) = runs.last_mut()
         && last.1 == shown
     {

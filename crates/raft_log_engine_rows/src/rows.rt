@@ -6,6 +6,7 @@ ghost use Rattle.raft_log_pipe.specs.Pipe.{IsLast};
 
 use crate::calls::{Told, steps_on};
 use crate::damage::{Harm, harmed};
+use crate::logs::{crash, genuine, refused_openings};
 use crate::reopening::{reopened, run_of};
 use crate::stops::{Plan, stops_of};
 use raft_log_engine::{Engine, EngineFault};
@@ -81,6 +82,22 @@ fn harm_row(alloc: Global, bits: Option<u8>, words: &[&str]) -> Option<Answer> {
     Some(Answer::shown(alloc, &harmed(alloc, harm)))
 }
 
+/// The answer to a row of a log over files in memory.
+fn log_row(alloc: Global, words: &[&str]) -> Option<Answer> {
+    Some(match words {
+        ["refused", mode, target_size, count] => {
+            let (target_size, count) = (number(target_size), number(count));
+            Answer::shown(alloc, &refused_openings(alloc, target_size, mode, count))
+        }
+        ["crash", how, target_size, count] => {
+            let (target_size, count) = (number(target_size), number(count));
+            Answer::shown(alloc, &crash(alloc, target_size, how, count))
+        }
+        ["genuine", first] => Answer::shown(alloc, &genuine(alloc, number(first))),
+        _ => return None,
+    })
+}
+
 impl Rows for Calls {
     fn answer(&mut self, alloc: Global, words: &[&str]) -> Option<Answer> {
         Some(match words {
@@ -104,7 +121,7 @@ impl Rows for Calls {
             }
             ["changed", bits, rest @ ..] => harm_row(alloc, Some(byte_of(bits)), rest)?,
             ["cut", rest @ ..] => harm_row(alloc, None, rest)?,
-            _ => return None,
+            _ => log_row(alloc, words)?,
         })
     }
 }

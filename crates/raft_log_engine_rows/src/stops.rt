@@ -30,7 +30,7 @@ fn byte_of(number: u64) -> u8 {
 }
 
 /// A batch of a group of its own, with a key and an entry.
-fn numbered_batch(alloc: Global, number: u64) -> Result<LogBatch, RecordError> {
+pub(crate) fn numbered_batch(alloc: Global, number: u64) -> Result<LogBatch, RecordError> {
     let mut batch = LogBatch::new(alloc);
     let byte = byte_of(number);
     batch.put(number, vec![in alloc; 97]?, vec![in alloc; byte]?)?;

@@ -22,9 +22,10 @@ use Rattle.raft_log_pipe.specs.declared.pipe.SinglePipe.{SinglePipe}
 use Rattle.raft_log_pipe.specs.Alone.{AreDistinct, AreLast, IsAlone, IsMadeAt, IsMadeIn, IsNearlyAlone, IsVacant, Names, StandsAt, directories_of_pipe, path_in}
 use Rattle.raft_log_pipe.specs.Begun.{Changes, IsBegun}
 use Rattle.raft_log_pipe.specs.Blocks.{files_of}
+use Rattle.raft_log_pipe.specs.Found.{MakesButHeader}
 use Rattle.raft_log_pipe.specs.Pipe.{AreConsecutive, IsNamedSo, IsPlain, id_of}
 use Rattle.raft_log_pipe.specs.Stored.{IsStored}
-use Rattle.raft_log_pipe.proofs.PipeLemmas.{image_there, in_all, olders_read}
+use Rattle.raft_log_pipe.proofs.PipeLemmas.{image_there, in_all, olders_read, stays}
 use Rattle.raft_log_pipe.proofs.NextLemmas.{begun_changes, begun_stored, consecutive_push, new_empty, path_says, some_is, with_next}
 
 -- ---- names
@@ -338,6 +339,21 @@ first_alone directories queue older f d e g id is below none (handle, made) same
     the_new : IsVacant d.names directories queue → (m i fd : ℕ) → StandsAt d.names directories queue m i fd ⊎ ((m ≡ id.seq) × (i ≡ f.path_id)) → (m ≡ id.seq) × (i ≡ f.path_id)
     the_new vacant m i fd (inl s) = absurd (vacant m i fd s)
     the_new vacant m i fd (inr new) = new
+
+-- ---- no more than a header of it
+
+pub made_header : (d e g : Disk) (directories : List Text) (id other : FileId) (f : File) → id ≡ other → IsMadeIn d e directories id (Ok f) → Changes e g f.handle.0
+    → ((e.file f.handle.0).bytes ≡ [] → (e.file f.handle.0).greatest ≡ 0 → (g.file f.handle.0).greatest ≤ 69) → MakesButHeader d g directories other
+made_header d e g directories id other f is (handle, made) change short =
+    let bare : e.file f.handle.0 ≡ no_bytes = ap e.file handle ∙ ap (λ (y : Disk). y.file d.next) made.is ∙ same_file d.next no_bytes (d.file d.next) in
+    let few = short (ap (λ (x : FileState). x.bytes) bare) (ap (λ (x : FileState). x.greatest) bare) in
+    inr (f.path_id, e, subst (λ (x : FileId). IsMadeAt d e directories x f.path_id) is made, subst (Changes e g) handle change, subst (λ n. (g.file n).greatest ≤ 69) handle few)
+
+pub refused_header : (d e : Disk) (directories : List Text) (id other : FileId) (x : IoFault) → id ≡ other → IsMadeIn d e directories id (Err x) → MakesButHeader d e directories other
+refused_header d e directories id other x is (inl same) = inl same
+refused_header d e directories id other x is (inr (place, made)) =
+    let bare : e.file d.next ≡ no_bytes = ap (λ (y : Disk). y.file d.next) made.is ∙ same_file d.next no_bytes (d.file d.next) in
+    inr (place, e, subst (λ (y : FileId). IsMadeAt d e directories y place) is made, stays e e d.next refl, omega (arith, ap (λ (s : FileState). s.greatest) bare))
 
 -- ---- files that were found
 

@@ -240,6 +240,28 @@ pub begun_changes : (e g : Disk) (f : File) (w : LogFileWriter) → IsBegun e g 
 begun_changes e g f w (between, a, synced, writer, fd, offset) =
     changes_on e between g f.handle.0 (appended_changes (writer_at f.handle.0 0 (length (e.file f.handle.0).bytes)) e between (spelled_header f.format) 0 (Ok tt) a) (changes between g f.handle.0 _ synced)
 
+-- nor do reads see more of one that has begun
+few_room : (d e : Disk) (fd at len : ℕ) → at + len ≤ 69 → MakesRoom d e fd at len → length (e.file fd).bytes ≤ max (length (d.file fd).bytes) 69
+few_room d e fd at len le (inl is) =
+    let none : ℕ = 0 in
+    let n : ℕ = at + len - length (d.file fd).bytes in
+    omega (arith, le, ap (λ (x : FileState). length x.bytes) (file_there d e fd _ is), length-append (d.file fd).bytes (replicate n none), length-replicate n none)
+few_room d e fd at len le (inr (inl same)) = omega (arith, ap (λ (y : Disk). length (y.file fd).bytes) same)
+few_room d e fd at len le (inr (inr refused)) = omega (arith, le, ap (λ (x : FileState). length x.bytes) (file_there d e fd _ refused.files), refused.part.no_longer)
+
+few_ready : (d e : Disk) (fd end : ℕ) → end ≤ 69 → IsReady (writer_at fd 0 (length (d.file fd).bytes)) d e end 0 → length (e.file fd).bytes ≤ max (length (d.file fd).bytes) 69
+few_ready d e fd end le (inl (short, same)) = omega (arith, ap (λ (y : Disk). length (y.file fd).bytes) same)
+few_ready d e fd end le (inr (long, room)) = few_room d e fd _ _ (omega (arith, header_room (length (d.file fd).bytes) end long, le)) room
+
+pub begun_short : (e g : Disk) (f : File) (w : LogFileWriter) → length (e.file f.handle.0).bytes ≡ 0 → IsBegun e g f (Ok w) → (g.file f.handle.0).greatest ≤ 69
+begun_short e g f w none (between, a, synced, writer, fd, offset) =
+    let n : ℕ = f.handle.0 in
+    let header : List ℕ = spelled_header f.format in
+    let le = header_short f.format in
+    let few = few_ready e a.between n (min (0 + length header) (2 ^ 64 - 1)) (omega (arith, le)) a.ready in
+    let is : g.file n ≡ after_sync (after_write (a.between.file n) 0 header (put (a.between.file n).bytes 0 header)) = file_there between g n _ synced ∙ ap after_sync (file_there a.between between n _ a.writes) in
+    omega (arith, le, few, none, greatest_is g n _ is, length-append header (drop (0 + length header) (a.between.file n).bytes), length-drop (0 + length header) (a.between.file n).bytes)
+
 -- ---- going on
 
 made_of : (d e g : Disk) (id : FileId) (n : ℕ) → n ≡ d.next → Creates d e id → Changes e g n → IsMade d g id

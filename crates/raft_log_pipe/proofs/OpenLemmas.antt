@@ -26,7 +26,7 @@ use Rattle.raft_log_pipe.specs.Found.{IsFound, IsResumed, IsWhole, KeepsButHeade
 use Rattle.raft_log_pipe.specs.Stored.{IsStored}
 use Rattle.raft_log_pipe.specs.Pipe.{Numbered, numbered, id_of, AreConsecutive, AreOlder, HoldsIn, IsLast, IsNamedSo, IsPipe, IsPlain}
 use Rattle.raft_log_pipe.proofs.PipeLemmas.{names_kept, named_on, olders_on, same_beside, stays}
-use Rattle.raft_log_pipe.proofs.NextLemmas.{begun_changes, begun_stored, some_is}
+use Rattle.raft_log_pipe.proofs.NextLemmas.{begun_changes, begun_short, begun_stored, some_is}
 use Rattle.raft_log_pipe.proofs.ChangeLemmas.{apart_of}
 
 -- ---- names
@@ -206,3 +206,13 @@ unopened_keeps queue dirs d e fs older active bs x is found (inr (inl (some, ope
     by_whole (inl s) = inl (stays_on d e active.handle.0 active.format x (stored_long (id_of queue active.seq) active.format found.ks (d.file active.handle.0) s) opened)
     by_whole (inr blank) = absurd (omega (arith, some, ap length blank.bytes))
 unopened_keeps queue dirs d e fs older active bs x is found (inr (inr same)) = inl same
+
+pub opened_keeps : (queue : LogQueue) (dirs : List (String Global)) (d e : Disk) (fs older : List File) (active : File) (bs : Numbered) (w : LogFileWriter) → fs ≡ older ++ active ∷ [] → IsFoundSo queue dirs d older active bs → IsResumed d e active (Ok w)
+    → KeepsButHeader d e fs
+opened_keeps queue dirs d e fs older active bs w is found (inl (none, begun)) =
+    inr (older, active, is, no_length (d.file active.handle.0).bytes none, begun_changes d e active w begun, begun_short d e active w none begun)
+opened_keeps queue dirs d e fs older active bs w is found (inr (some, opened, writer, handle)) = by_whole found.whole
+  where
+    by_whole : IsWhole (id_of queue active.seq) active.format found.ks (d.file active.handle.0) → KeepsButHeader d e fs
+    by_whole (inl s) = inl (goes_on d e active.handle.0 active.format w (stored_long (id_of queue active.seq) active.format found.ks (d.file active.handle.0) s) opened).0
+    by_whole (inr blank) = absurd (omega (arith, some, ap length blank.bytes))

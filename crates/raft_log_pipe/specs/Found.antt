@@ -1,5 +1,5 @@
 -- The files of a queue as they are found at an opening.
-use Rattle.std.specs.Prelude.{◌≡◌, ◌⊎◌, ◌<◌, ◌≤◌, List, [], ◌∷◌, ◌++◌, length, false, Result, Ok, Err, String}
+use Rattle.std.specs.Prelude.{◌≡◌, ◌⊎◌, ℕ, ◌<◌, ◌≤◌, List, [], ◌∷◌, ◌++◌, length, false, Result, Ok, Err, String}
 use Rattle.std.specs.List.{AllByRecursion}
 use Rattle.std.specs.declared.alloc.Global.{Global}
 use Rattle.raft_log_records.specs.declared.file_id.FileId.{FileId}
@@ -7,10 +7,12 @@ use Rattle.raft_log_records.specs.declared.file_id.LogQueue.{LogQueue}
 use Rattle.raft_log_disk.specs.declared.fault.IoFault.{IoFault}
 use Rattle.raft_log_disk.specs.declared.format.LogFileFormat.{LogFileFormat}
 use Rattle.raft_log_disk.specs.Disk.{Disk, FileState}
+use Rattle.raft_log_disk.specs.Text.{Text}
 use Rattle.raft_log_file.specs.declared.writer.LogFileWriter.{LogFileWriter}
 use Rattle.raft_log_file.specs.Laws.{Batch}
 use Rattle.raft_log_file.specs.Writer.{IsWriter, IsOpened}
 use Rattle.raft_log_pipe.specs.declared.file.File.{File}
+use Rattle.raft_log_pipe.specs.Alone.{IsMadeAt}
 use Rattle.raft_log_pipe.specs.Begun.{Changes, IsBegun}
 use Rattle.raft_log_pipe.specs.Stored.{IsStored}
 use Rattle.raft_log_pipe.specs.Pipe.{Numbered, numbered, id_of, AreConsecutive, AreOlder, IsBlank, IsLast, IsNamedSo}
@@ -48,3 +50,8 @@ IsResumed old new file (Err e) =
 abbrev pub KeepsButHeader : Disk → Disk → List File → Type 0
 KeepsButHeader old new fs = (new ≡ old) ⊎ ((older : List File) × (active : File) × (fs ≡ older ++ active ∷ [])
     × ((old.file active.handle.0).bytes ≡ []) × Changes old new active.handle.0 × ((new.file active.handle.0).greatest ≤ 69))
+
+-- nothing changed, or a file was made in one of these directories, and a crash leaves of it no more than a header
+abbrev pub MakesButHeader : Disk → Disk → List Text → FileId → Type 0
+MakesButHeader old new directories id = (new ≡ old)
+    ⊎ ((place : ℕ) × (made : Disk) × IsMadeAt old made directories id place × Changes made new old.next × ((new.file old.next).greatest ≤ 69))

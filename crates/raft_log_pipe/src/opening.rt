@@ -1,10 +1,10 @@
 //! Opening the files of a queue, and a queue that has none yet.
 
-ghost use Rattle.std.specs.Prelude.{◌≡◌, ◌<◌, ◌++◌, ◌∷◌, [], length, map, string_bytes, IfOk, OnErr};
+ghost use Rattle.std.specs.Prelude.{◌≡◌, ◌<◌, ◌++◌, ◌∷◌, [], length, map, string_bytes, IfOk, OnOk, OnErr};
 ghost use Rattle.raft_log_pipe.specs.Alone.{AreDistinct, AreLast, IsAlone, IsVacant};
 ghost use Rattle.raft_log_pipe.specs.Begun.{Changes};
-ghost use Rattle.raft_log_pipe.specs.Found.{IsFound, IsResumed, KeepsButHeader};
-ghost use Rattle.raft_log_pipe.specs.Pipe.{IsPipe, IsPlain, IsLast, Holds, Numbered};
+ghost use Rattle.raft_log_pipe.specs.Found.{IsFound, IsResumed, KeepsButHeader, MakesButHeader};
+ghost use Rattle.raft_log_pipe.specs.Pipe.{IsPipe, IsPlain, IsLast, Holds, Numbered, id_of};
 
 use crate::file::{File, Paths, new_file};
 use crate::pipe::SinglePipe;
@@ -50,6 +50,7 @@ impl SinglePipe {
         ensures paths { IfOk result (λ p. p.paths ≡ paths) }
         ensures alone { IfOk result (λ p. AreLast (F.disk files.old).names (map string_bytes paths.items) queue found.items → IsAlone p (F.disk files.new)) }
         ensures changes { IfOk result (λ p. Changes (F.disk files.old) (F.disk files.new) p.active.handle.0) }
+        ensures keeps { OnOk result (KeepsButHeader (F.disk files.old) (F.disk files.new) found.items) }
         ensures err { OnErr result (KeepsButHeader (F.disk files.old) (F.disk files.new) found.items) }
     {
         let Some(active) = found.pop() else {
@@ -68,7 +69,8 @@ impl SinglePipe {
         })
     }
 
-    /// Makes the first file of a queue that has none, with its header on the disk.
+    /// Makes the first file of a queue that has none, with its header on the disk. After an `Err` the
+    /// file may be there, with no more than a header.
     pub fn create<F: FileSystem>(
         files: &mut F,
         alloc: Global,
@@ -85,6 +87,7 @@ impl SinglePipe {
         ensures alone { IfOk result (λ p. AreDistinct (map string_bytes paths.items) → IsVacant (F.disk files.old).names (map string_bytes paths.items) queue → IsAlone p (F.disk files.new)) }
         ensures holds { IfOk result (λ p. Holds p (F.disk files.new) [] []) }
         ensures first { IfOk result (λ p. (p.queue ≡ queue) × (p.active.seq ≡ 1) × (p.older.items ≡ [])) }
+        ensures makes { MakesButHeader (F.disk files.old) (F.disk files.new) (map string_bytes paths.items) (id_of queue 1) }
     {
         let id = FileId::new(queue, DEFAULT_FIRST_FILE_SEQ);
         let file = new_file(files, alloc, &paths, id, default_format, target_file_size)?;

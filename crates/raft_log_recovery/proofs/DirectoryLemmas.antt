@@ -38,6 +38,18 @@ makes_both p ps d e g one two = record {
     first path (inl is) = inl is
     first path (inr none) = absurd none
 
+-- some, then others of them
+pub makes_more : (ds : List Text) (d e g : Disk) → OnlyMakes ds d e → OnlyMakes ds e g → OnlyMakes ds d g
+makes_more ds d e g one two = record {
+  made = one.made ++ two.made;
+  among = λ path there. elim (in_either path one.made two.made there) [
+    | inl a ↦ one.among path a
+    | inr b ↦ two.among path b
+  ];
+  only = two.only ∙ ap (λ (x : Disk). let y : Disk = x in record y { directories = y.directories ++ two.made }) one.only
+      ∙ (λ i. record { directories = append_assoc d.directories one.made two.made i; names = d.names; file = d.file; next = d.next });
+}
+
 -- one alone
 pub makes_first : (ds ps : List Text) (p : Text) (d e : Disk) → ds ≡ p ∷ ps → OnlyMakes (p ∷ []) d e → OnlyMakes ds d e
 makes_first ds ps p d e is one = subst (λ (l : List Text). OnlyMakes l d e) (sym is) (record {

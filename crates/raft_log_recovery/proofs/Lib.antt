@@ -14,3 +14,4 @@ pub mod RunLemmas
 pub mod ImageLemmas
 pub mod AloneLemmas
 pub mod CrashLemmas
+pub mod AgainLemmas

@@ -466,7 +466,7 @@ opened_gives r H K queue dirs directories old mid new names fs is are so plain i
     (λ p same has. gives_on H K (AreReplayed queue mid fs) (IsPipeWith (map string_bytes dirs) queue names old new p)
     (λ more replayed. opened_with queue dirs old mid new names fs p more are so plain images some same.1 has replayed) given) files holds)
 
-kept_only : (directories : List Text) (queue : LogQueue) (old mid new : Disk) (names : List FileName) (fs : List File) → AreRecovered directories queue old mid names fs → KeepsButHeader mid new fs → OnlyChanges directories queue names old new
+pub kept_only : (directories : List Text) (queue : LogQueue) (old mid new : Disk) (names : List FileName) (fs : List File) → AreRecovered directories queue old mid names fs → KeepsButHeader mid new fs → OnlyChanges directories queue names old new
 kept_only directories queue old mid new names fs so (inl same) = subst (OnlyChanges directories queue names old) (sym same) so.only
 kept_only directories queue old mid new names fs so (inr (older, active, is, bare, change, short)) = opened_only directories queue old mid new names fs older active so is change
 

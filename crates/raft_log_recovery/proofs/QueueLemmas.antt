@@ -25,7 +25,7 @@ use Rattle.raft_log_pipe.proofs.PurgeLemmas.{same_number}
 use Rattle.raft_log_recovery.specs.declared.scan.FileName.{FileName}
 use Rattle.raft_log_recovery.specs.Repair.{IsAtRest, IsRepaired, IsStopped, IsWhole, LeavesBatches, batches_in, cuts_faults, fault_in, format_in}
 use Rattle.raft_log_recovery.specs.Replay.{ArePlaced, Placed}
-use Rattle.raft_log_recovery.specs.Queue.{AnyRefused, AreLeft, AreNumbered, AreOpen, AreRecovered, AreReplayed, HasRefused, IsFileOf, IsFollowed, IsOpen, IsRecovered, KeepsRefused, OnlyChanges, path_of}
+use Rattle.raft_log_recovery.specs.Queue.{AnyRefused, AreLeft, AreNumbered, AreOpen, AreReadAlike, AreRecovered, AreReplayed, HasRefused, IsFileOf, IsFollowed, IsOpen, IsRecovered, KeepsRefused, OnlyChanges, path_of}
 use Rattle.raft_log_recovery.proofs.RepairLemmas.{batches_by, format_front, leaves_same}
 
 -- ---- names
@@ -283,7 +283,14 @@ left_between directories queue count old cur done behind fs named are so name fd
   | inr after ↦ left_same (id_of queue name.seq) (old.file fd) (cur.file fd) (untouched directories queue count old cur done behind name fd named are so.only after there) rest
 ]
 
-numbered_behind : (count : ℕ) (before behind : List FileName) → AreNumbered count (before ++ behind) → AreNumbered count behind
+alike_between : (directories : List Text) (queue : LogQueue) (count : ℕ) (old cur : Disk) (done behind : List FileName) (fs : List File) → IsNamed old → AreNumbered count (done ++ behind) → AreRecovered directories queue old cur done fs
+    → AreReadAlike directories queue (done ++ behind) old cur
+alike_between directories queue count old cur done behind fs named are so name fd among there = elim (in_either name done behind among) [
+  | inl before ↦ sym (left_bytes directories queue old cur done fs name fd so before there)
+  | inr after ↦ ap (λ (x : FileState). batches_in (id_of queue name.seq) x.bytes) (untouched directories queue count old cur done behind name fd named are so.only after there)
+]
+
+pub numbered_behind : (count : ℕ) (before behind : List FileName) → AreNumbered count (before ++ behind) → AreNumbered count behind
 numbered_behind count [] behind are = are
 numbered_behind count (n ∷ before) behind are = numbered_behind count before behind are.3
 
@@ -322,6 +329,31 @@ left_within directories queue count old cur new done behind fs name fd named are
         (subst (λ (x : FileState). LeavesBatches (id_of queue name.seq) x (batches_in (id_of queue name.seq) (old.file n).bytes)) now
         (subst (λ (x : FileState). LeavesBatches (id_of queue name.seq) stopped.state (batches_in (id_of queue name.seq) x.bytes)) was
         (stopped.leaves (subst IsAtRest (sym was) rest))))
+
+alike_within : (directories : List Text) (queue : LogQueue) (count : ℕ) (old cur new : Disk) (done behind : List FileName) (fs : List File) (name : FileName) (fd : ℕ) → IsNamed old → AreNumbered count (done ++ name ∷ behind)
+    → AreRecovered directories queue old cur done fs → IsFileOf cur directories queue name fd → IsStopped cur new (id_of queue name.seq) fd → AreReadAlike directories queue (done ++ name ∷ behind) old new
+alike_within directories queue count old cur new done behind fs name fd named are so is_cur stopped other n among there =
+    elim (in_either other done (name ∷ behind) among) [
+      | inl before ↦ ap (λ (x : FileState). batches_in (id_of queue other.seq) x.bytes)
+          (file_beside cur new fd n (changes cur new fd stopped.state stopped.files) (apart old directories queue count done (name ∷ behind) other name n fd named are before (inl refl) there is_old))
+          ∙ sym (left_bytes directories queue old cur done fs other n so before there)
+      | inr after ↦ by_place after
+    ]
+  where
+    is_old : IsFileOf old directories queue name fd
+    is_old = of_old directories queue done old cur name fd so.only is_cur
+
+    by_place : IsIn other (name ∷ behind) → batches_in (id_of queue other.seq) (new.file n).bytes ≡ batches_in (id_of queue other.seq) (old.file n).bytes
+    by_place (inr after) =
+        ap (λ (x : FileState). batches_in (id_of queue other.seq) x.bytes) (kept_behind directories queue count old cur new done behind name fd stopped.state named are so.only is_old stopped.files other n after there)
+    by_place (inl is) =
+        let of_name : IsFileOf old directories queue name n = subst (λ (x : FileName). IsFileOf old directories queue x n) is there in
+        let here : n ≡ fd = same_number n fd (sym of_name ∙ is_old) in
+        let before : cur.file fd ≡ old.file fd = untouched directories queue count old cur done (name ∷ behind) name fd named are so.only (inl refl) is_old in
+        let now : new.file n ≡ stopped.state = ap new.file here ∙ file_there cur new fd stopped.state stopped.files in
+        let was : cur.file fd ≡ old.file n = before ∙ ap old.file (sym here) in
+        subst (λ (x : FileName). batches_in (id_of queue x.seq) (new.file n).bytes ≡ batches_in (id_of queue x.seq) (old.file n).bytes) (sym is)
+        (ap (λ (x : FileState). batches_in (id_of queue name.seq) x.bytes) now ∙ stopped.reads ∙ ap (λ (x : FileState). batches_in (id_of queue name.seq) x.bytes) was)
 
 pub changed_within : (directories : List Text) (queue : LogQueue) (old cur new : Disk) (done behind : List FileName) (fs : List File) (name : FileName) (fd : ℕ) → AreRecovered directories queue old cur done fs → IsFileOf cur directories queue name fd
     → IsStopped cur new (id_of queue name.seq) fd → OnlyChanges directories queue (done ++ name ∷ behind) old new
@@ -456,6 +488,11 @@ module _ (mode : RecoveryMode) (directories : List Text) (queue : LogQueue) (cou
       (subst (λ (l : List FileName). AreLeft directories queue l old cur) (cut_at names i)
       (left_between directories queue count old cur (take i names) (drop i names) fs named (subst (AreNumbered count) (sym (cut_at names i)) are) so))
 
+  pub alike_at : (cur e : Disk) (i : ℕ) (fs : List File) → e ≡ cur → AreRecovered directories queue old cur (take i names) fs → AreReadAlike directories queue names old e
+  alike_at cur e i fs same so = subst (λ (x : Disk). AreReadAlike directories queue names old x) (sym same)
+      (subst (λ (l : List FileName). AreReadAlike directories queue l old cur) (cut_at names i)
+      (alike_between directories queue count old cur (take i names) (drop i names) fs named (subst (AreNumbered count) (sym (cut_at names i)) are) so))
+
   pub kept_at : (cur e : Disk) (i : ℕ) (fs : List File) → i ≤ length names → e ≡ cur → AreRecovered directories queue old cur (take i names) fs → NoneRefused mode directories queue names old i → KeepsRefused mode directories queue names old e
   kept_at cur e i fs le same so none = subst (λ (x : Disk). KeepsRefused mode directories queue names old x) (sym same)
       (subst (λ (l : List FileName). KeepsRefused mode directories queue l old cur) (cut_at names i)
@@ -488,6 +525,10 @@ module _ (mode : RecoveryMode) (directories : List Text) (queue : LogQueue) (cou
     pub left_stopped : (cur new : Disk) (fs : List File) (fd : ℕ) → AreRecovered directories queue old cur (take i names) fs → IsFileOf cur directories queue here fd → IsStopped cur new (id_of queue here.seq) fd → AreLeft directories queue names old new
     left_stopped cur new fs fd so is stopped = subst (λ (l : List FileName). AreLeft directories queue l old new) (place_at names i d lt)
         (left_within directories queue count old cur new (take i names) behind fs here fd named are_here so is stopped)
+
+    pub alike_stopped : (cur new : Disk) (fs : List File) (fd : ℕ) → AreRecovered directories queue old cur (take i names) fs → IsFileOf cur directories queue here fd → IsStopped cur new (id_of queue here.seq) fd → AreReadAlike directories queue names old new
+    alike_stopped cur new fs fd so is stopped = subst (λ (l : List FileName). AreReadAlike directories queue l old new) (place_at names i d lt)
+        (alike_within directories queue count old cur new (take i names) behind fs here fd named are_here so is stopped)
 
     pub kept_stopped : (cur new : Disk) (fs : List File) (fd n : ℕ) (last : Bool) → n ≡ i → last ≡ (n + 1 == length names) → AreRecovered directories queue old cur (take i names) fs → IsFileOf cur directories queue here fd
         → IsStopped cur new (id_of queue here.seq) fd → (IsRefusedHere mode (id_of queue here.seq) (cur.file fd).bytes last → new ≡ cur) → NoneRefused mode directories queue names old i → KeepsRefused mode directories queue names old new

@@ -2,7 +2,7 @@
 use Rattle.std.proofs.Common.{◌≡◌, ◌⊎◌, inl, inr, ℕ, zero, suc, ◌+◌, ◌-◌, ◌<◌, ◌≤◌, Bool, true, false, cond, eqb, ltb, List, [], ◌∷◌, ◌++◌, length, take, drop, Option, Some, None, Result, Ok, Err, refl, sym, ap, subst, ◌∙◌, arith, append_assoc, length-take, length-drop, take-append-drop}
 use Rattle.std.specs.List.{list_all}
 use Rattle.std.proofs.lemmas.Bool.{ltb-false, le-ltb, eqb-true, eqb-false}
-use Rattle.std.proofs.lemmas.List.{drop-append-le, drop-drop, drop-take, take-take}
+use Rattle.std.proofs.lemmas.List.{append-nil, drop-append-le, drop-drop, drop-take, take-take}
 use Rattle.raft_log_records.specs.declared.error.RecordFault.{RecordFault}
 use Rattle.raft_log_records.specs.declared.error.RecordFault.TheVariants as fault
 use Rattle.raft_log_records.specs.Reading.{record_at}
@@ -171,6 +171,100 @@ cut_whole alignment signature k at [] short = subst (IsCutWhole alignment signat
 cut_whole alignment signature zero at (b ∷ bytes) short = absurd (omega arith)
 cut_whole alignment signature (suc k) at (b ∷ bytes) short =
     cut_step alignment signature k at (b ∷ bytes) (record_at signature (b ∷ bytes)) (λ to l few. cut_whole alignment signature k to l few) (omega arith) short refl
+
+-- ---- a cut behind where reading ended
+
+-- a front that reaches as far reads as the same batches
+abbrev FrontReads : ℕ → Option ℕ → ℕ → List ℕ → Type 0
+FrontReads alignment signature at bytes =
+    (n : ℕ) → (read_from alignment signature at bytes).to ≤ at + n → (read_from alignment signature at (take n bytes)).batches ≡ (read_from alignment signature at bytes).batches
+
+-- where neither a record nor padding stands none stands in a front
+front_stops : (alignment : ℕ) (signature : Option ℕ) (at : ℕ) (bytes : List ℕ) (n : ℕ) (f : RecordFault) → record_at signature bytes ≡ Err f → padding alignment at bytes ≡ 0 → (read_from alignment signature at (take n bytes)).batches ≡ []
+front_stops alignment signature at bytes n f is none = by_bytes (take n bytes) refl
+  where
+    no_gap : IsPadding alignment at (take n bytes) → gap alignment at ≡ 0
+    no_gap p =
+        let g : ℕ = gap alignment at in
+        let there : ltb (length bytes) g ≡ false = le-ltb (length bytes) g (omega (arith, length-take n bytes, p.within)) in
+        let same : list_all (λ b. eqb b 0) (take g bytes) ≡ true = ap (list_all (λ b. eqb b 0)) (sym (take-take g n bytes (omega (arith, length-take n bytes, p.within)))) ∙ p.zeros in
+        sym (λ i. cond (there i) 0 (cond (same i) g 0)) ∙ none
+
+    unpadded : padding alignment at (take n bytes) ≡ 0
+    unpadded = elim (padding_cases alignment at (take n bytes)) [
+      | inl bare ↦ bare
+      | inr p ↦ p.is_gap ∙ no_gap p
+    ]
+
+    by_bytes : (l : List ℕ) → take n bytes ≡ l → (read_from alignment signature at (take n bytes)).batches ≡ []
+    by_bytes [] same = ap (λ (r : Reading). r.batches) (from_end alignment signature at (take n bytes) (ap length same))
+    by_bytes (b ∷ l) same =
+        let fails = fault_in_front signature bytes n f is in
+        ap (λ (r : Reading). r.batches) (from_fault alignment signature at (take n bytes) fails.0 (omega (arith, ap length same)) fails.1 unpadded)
+
+front_found : (alignment : ℕ) (signature : Option ℕ) (at : ℕ) (bytes : List ℕ) (read : Read) → record_at signature bytes ≡ Ok read → FrontReads alignment signature (at + read.2) (drop read.2 bytes) → FrontReads alignment signature at bytes
+front_found alignment signature at bytes read is next n reach =
+    let m : ℕ = read.2 in
+    let rest : List ℕ = drop m bytes in
+    let cut = cut_whole alignment signature (length rest) (at + m) rest (omega arith) in
+    let whole = from_found alignment signature at bytes read is in
+    let to_is : (read_from alignment signature at bytes).to ≡ (read_from alignment signature (at + m) rest).to = ap (λ (r : Reading). r.to) whole in
+    let k : ℕ = n - m in
+    let both : n ≡ m + k = omega (arith, cut.least, to_is, reach) in
+    let again : record_at signature (take n bytes) ≡ Ok read = ap (record_at signature) (sym (append-nil (take n bytes))) ∙ record_in_front signature bytes [] n read is (omega (arith, both)) in
+    let left : drop m (take n bytes) ≡ take k rest = ap (λ j. drop m (take j bytes)) both ∙ drop-take m k bytes in
+    ap (λ (r : Reading). r.batches) (from_found alignment signature at (take n bytes) read again)
+    ∙ ap (λ (l : List ℕ). batch_at at read ∷ (read_from alignment signature (at + m) l).batches) left
+    ∙ ap (λ (l : List FileBatch). batch_at at read ∷ l) (next k (omega (arith, reach, to_is, both)))
+    ∙ sym (ap (λ (r : Reading). r.batches) whole)
+
+front_padded : (alignment : ℕ) (signature : Option ℕ) (at : ℕ) (bytes : List ℕ) (f : RecordFault) → 0 < length bytes → record_at signature bytes ≡ Err f → IsPadding alignment at bytes → (gap alignment at ≡ 0 → ⊥)
+    → FrontReads alignment signature (at + gap alignment at) (drop (gap alignment at) bytes) → FrontReads alignment signature at bytes
+front_padded alignment signature at bytes f some is p any next n reach =
+    let g : ℕ = gap alignment at in
+    let rest : List ℕ = drop g bytes in
+    let cut = cut_whole alignment signature (length rest) (at + g) rest (omega arith) in
+    let same : read_from alignment signature at bytes ≡ read_from alignment signature (at + g) rest
+    = from_padding alignment signature at bytes f some is (λ none. any (sym p.is_gap ∙ none)) ∙ ap (λ j. read_from alignment signature (at + j) (drop j bytes)) p.is_gap in
+    let to_is : (read_from alignment signature at bytes).to ≡ (read_from alignment signature (at + g) rest).to = ap (λ (r : Reading). r.to) same in
+    let k : ℕ = n - g in
+    let both : n ≡ g + k = omega (arith, cut.least, to_is, reach) in
+    let padded : padding alignment at (take n bytes) ≡ g = padding_in_front alignment at n bytes p (omega (arith, both)) in
+    let fails = fault_in_front signature bytes n f is in
+    let left : drop g (take n bytes) ≡ take k rest = ap (λ j. drop g (take j bytes)) both ∙ drop-take g k bytes in
+    let long : 0 < length (take n bytes) = omega (arith, length-take n bytes, both, p.within, any) in
+    ap (λ (r : Reading). r.batches)
+    (from_padding alignment signature at (take n bytes) fails.0 long fails.1 (λ none. any (sym padded ∙ none))
+    ∙ ap (λ j. read_from alignment signature (at + j) (drop j (take n bytes))) padded
+    ∙ ap (λ (l : List ℕ). read_from alignment signature (at + g) l) left)
+    ∙ next k (omega (arith, reach, to_is, both))
+    ∙ sym (ap (λ (r : Reading). r.batches) same)
+
+front_step : (alignment : ℕ) (signature : Option ℕ) (k at : ℕ) (bytes : List ℕ) (r : Taken) → ((to : ℕ) (l : List ℕ) → length l ≤ k → FrontReads alignment signature to l) → 0 < length bytes → length bytes ≤ suc k → record_at signature bytes ≡ r
+    → FrontReads alignment signature at bytes
+front_step alignment signature k at bytes (Ok read) next some short is =
+    let sized = record_sized signature bytes read is in
+    front_found alignment signature at bytes read is (next (at + read.2) (drop read.2 bytes) (omega (arith, length-drop read.2 bytes, sized.least)))
+front_step alignment signature k at bytes (Err f) next some short is = elim (padding_cases alignment at bytes) [
+  | inl none ↦ stops none
+  | inr p ↦ by_gap p (eqb (gap alignment at) 0) refl
+]
+  where
+    stops : padding alignment at bytes ≡ 0 → FrontReads alignment signature at bytes
+    stops none n reach = front_stops alignment signature at bytes n f is none ∙ sym (ap (λ (r : Reading). r.batches) (from_fault alignment signature at bytes f some is none))
+
+    by_gap : IsPadding alignment at bytes → (b : Bool) → eqb (gap alignment at) 0 ≡ b → FrontReads alignment signature at bytes
+    by_gap p true e = stops (p.is_gap ∙ eqb-true (gap alignment at) 0 e)
+    by_gap p false e =
+        let any : gap alignment at ≡ 0 → ⊥ = eqb-false (gap alignment at) 0 e in
+        front_padded alignment signature at bytes f some is p any (next (at + gap alignment at) (drop (gap alignment at) bytes) (omega (arith, length-drop (gap alignment at) bytes, any)))
+
+pub front_reads : (alignment : ℕ) (signature : Option ℕ) (k at : ℕ) (bytes : List ℕ) → length bytes ≤ k → FrontReads alignment signature at bytes
+front_reads alignment signature k at [] short n reach =
+    ap (λ (r : Reading). r.batches) (from_end alignment signature at (take n []) (omega (arith, length-take {A = ℕ} n [])) ∙ sym (from_end alignment signature at [] refl))
+front_reads alignment signature zero at (b ∷ bytes) short n reach = absurd (omega (arith, short))
+front_reads alignment signature (suc k) at (b ∷ bytes) short n reach =
+    front_step alignment signature k at (b ∷ bytes) (record_at signature (b ∷ bytes)) (λ to l few. front_reads alignment signature k to l few) (omega arith) short refl n reach
 
 -- ---- bytes behind the end that no call wrote there
 

@@ -1,7 +1,7 @@
 -- What a crash leaves of a file while it is repaired, and what it is then.
-use Rattle.std.proofs.Common.{◌≡◌, inl, inr, ℕ, ◌+◌, ◌-◌, ◌<◌, ◌≤◌, min, max, List, [], ◌∷◌, ◌++◌, length, get_or, take, drop, Option, Some, None, Result, Ok, Err, refl, sym, ap, subst, ◌∙◌, arith, append_assoc, length-take, length-drop, take-append-drop, ext_get_or}
+use Rattle.std.proofs.Common.{◌≡◌, inl, inr, ℕ, zero, suc, ◌+◌, ◌-◌, ◌<◌, ◌≤◌, min, max, List, [], ◌∷◌, ◌++◌, length, get_or, take, drop, Option, Some, None, Result, Ok, Err, refl, sym, ap, subst, ◌∙◌, arith, append_assoc, length-append, length-take, length-drop, take-append-drop, ext_get_or}
 use Rattle.std.specs.Prelude.{MatchResult, OnErr, OnOk, replicate}
-use Rattle.std.proofs.lemmas.List.{append-nil, drop_at, drop-drop, drop-take, get_or-take, take-take, take_all}
+use Rattle.std.proofs.lemmas.List.{append-nil, drop_at, drop-drop, drop-take, get_or-take, length-replicate, take-take, take_all}
 use Rattle.raft_log_records.specs.declared.file_id.FileId.{FileId}
 use Rattle.raft_log_records.specs.declared.error.RecordFault.{RecordFault}
 use Rattle.raft_log_records.specs.Reading.{record_at}
@@ -9,7 +9,7 @@ use Rattle.raft_log_records.specs.Signature.{signature_of}
 use Rattle.raft_log_records.specs.declared.version.Version.TheVariants.{V1}
 use Rattle.raft_log_disk.specs.declared.format.LogFileFormat.{LogFileFormat}
 use Rattle.raft_log_disk.specs.declared.format.HeaderFault.{HeaderFault}
-use Rattle.raft_log_disk.specs.Disk.{AreBytes, Disk, FileState, IsIn, after_sync, after_truncate, resized, with_file}
+use Rattle.raft_log_disk.specs.Disk.{AreBytes, Disk, FileState, IsIn, PartlyTruncated, after_sync, after_truncate, resized, with_file}
 use Rattle.raft_log_disk.specs.Format.{header_at, header_len, spelled_header}
 use Rattle.raft_log_disk.specs.Image.{IsFileImage, IsOutside, IsStill}
 use Rattle.raft_log_disk.specs.Chance.{AreWritten, IsHeaderWritten, IsWritten}
@@ -25,7 +25,7 @@ use Rattle.raft_log_file.proofs.UnsyncedLemmas.{told_of}
 use Rattle.raft_log_file.proofs.WalkLemmas.{Read}
 use Rattle.raft_log_pipe.proofs.PipeLemmas.{no_change}
 use Rattle.raft_log_recovery.specs.Repair.{IsAtRest, IsRepaired, IsStopped, IsWhole, LeavesBatches, Settles, batches_in, cut_to, end_in, fault_in, format_in, record_fault}
-use Rattle.raft_log_recovery.proofs.ReadLemmas.{cut_whole, reads_alike, record_stays}
+use Rattle.raft_log_recovery.proofs.ReadLemmas.{cut_whole, front_reads, reads_alike, record_stays}
 
 -- ---- a file by its header
 
@@ -291,6 +291,78 @@ front_resized bytes to within =
     let none : to - length bytes ≡ 0 = omega (arith, within) in
     ap (λ (k : ℕ). take to bytes ++ replicate k 0) none ∙ append-nil (take to bytes)
 
+-- ---- what a refused cut leaves
+
+take_bytes : (n : ℕ) (bytes : List ℕ) → AreBytes bytes → AreBytes (take n bytes)
+take_bytes zero bytes fits = tt
+take_bytes (suc n) [] fits = tt
+take_bytes (suc n) (b ∷ bytes) fits = (fits.0, take_bytes n bytes fits.1)
+
+-- no header stands in a front where none stands
+front_broken : (bytes : List ℕ) (n : ℕ) (e : HeaderFault) (format : LogFileFormat) → AreBytes bytes → header_at bytes ≡ Err e → header_at (take n bytes) ≡ Ok format → ⊥
+front_broken bytes n e format fits broken told = clash format e (sym (ap header_at whole ∙ headed (take n bytes) (behind ++ drop n bytes) format (take_bytes n bytes fits) told) ∙ broken)
+  where
+    clash : (h : LogFileFormat) (y : HeaderFault) → (let r : Result LogFileFormat HeaderFault = Ok h in r ≡ Err y) → ⊥
+    clash h y s = cc
+
+    hl : ℕ
+    hl = header_len format.version
+
+    behind : List ℕ
+    behind = drop hl (take n bytes)
+
+    whole : bytes ≡ spelled_header format ++ (behind ++ drop n bytes)
+    whole =
+        sym (take-append-drop n bytes)
+        ∙ ap (λ (l : List ℕ). l ++ drop n bytes) (sym (take-append-drop hl (take n bytes)) ∙ ap (λ (l : List ℕ). l ++ behind) (header_spelled (take n bytes) format (take_bytes n bytes fits) told).front)
+        ∙ append_assoc (spelled_header format) behind (drop n bytes)
+
+-- a front that reaches as far as its whole records reads as the same batches
+pub front_batches : (id : FileId) (bytes : List ℕ) (n : ℕ) → AreBytes bytes → end_in id bytes ≤ n → batches_in id (take n bytes) ≡ batches_in id bytes
+front_batches id bytes n fits reach = by_header (header_at bytes) refl
+  where
+    none_in : (e : HeaderFault) (r : Result LogFileFormat HeaderFault) → header_at bytes ≡ Err e → header_at (take n bytes) ≡ r → batches_in id (take n bytes) ≡ []
+    none_in e (Err x) is broken = ap batches_by (no_reading id (take n bytes) x broken)
+    none_in e (Ok h) is told = absurd (front_broken bytes n e h fits is told)
+
+    by_header : (r : Result LogFileFormat HeaderFault) → header_at bytes ≡ r → batches_in id (take n bytes) ≡ batches_in id bytes
+    by_header (Err e) is = none_in e (header_at (take n bytes)) is refl ∙ sym (ap batches_by (no_reading id bytes e is))
+    by_header (Ok format) is =
+        let hl : ℕ = header_len format.version in
+        let signature : Option ℕ = signature_of format.version id.seq in
+        let body : List ℕ = drop hl bytes in
+        let cut = cut_whole format.alignment signature (length body) hl body (omega arith) in
+        let reads = reading_of id bytes format is in
+        let k : ℕ = n - hl in
+        let both : n ≡ hl + k = omega (arith, reach, ap end_by reads, cut.least) in
+        let parts : take n bytes ≡ spelled_header format ++ take k body = sym (take-append-drop hl (take n bytes))
+        ∙ (λ i. (take-take hl n bytes (omega (arith, both)) ∙ (header_spelled bytes format fits is).front) i ++ (ap (λ m. drop hl (take m bytes)) both ∙ drop-take hl k bytes) i) in
+        let told : header_at (take n bytes) ≡ Ok format = ap header_at parts ∙ headed bytes (take k body) format fits is in
+        let left : drop hl (take n bytes) ≡ take k body = ap (drop hl) parts ∙ drop_at (spelled_header format) (take k body) hl (length-header format) in
+        ap batches_by (reading_of id (take n bytes) format told)
+        ∙ ap (λ (l : List ℕ). (read_from format.alignment signature hl l).batches) left
+        ∙ front_reads format.alignment signature (length body) hl body (omega arith) k (omega (arith, reach, ap end_by reads, both))
+        ∙ sym (ap batches_by reads)
+
+-- however far the cut came
+partly_reads : (id : FileId) (f : FileState) (len : ℕ) (seen : List ℕ) → AreBytes f.bytes → len ≡ end_in id f.bytes → PartlyTruncated len f.bytes seen → batches_in id seen ≡ batches_in id f.bytes
+partly_reads id f len seen fits place part =
+    let within : len ≤ length f.bytes = omega (arith, place, end_within id f.bytes fits) in
+    ap (batches_in id) (part.front ∙ front_resized f.bytes (length seen) (omega (arith, part.no_longer, within)))
+    ∙ front_batches id f.bytes (length seen) fits (omega (arith, part.no_shorter, within, place))
+
+-- all of the way
+pub whole_cut : (bytes : List ℕ) (len : ℕ) → PartlyTruncated len bytes (resized bytes len)
+whole_cut bytes len =
+    let none : ℕ = 0 in
+    let long : length (resized bytes len) ≡ len
+    = omega (arith, length-append (take len bytes) (replicate (len - length bytes) none), length-take len bytes, length-replicate (len - length bytes) none) in
+    record {
+      no_shorter = omega (arith, long);
+      no_longer = omega (arith, long);
+      front = ap (resized bytes) (sym long);
+    }
+
 -- ---- the exits of a repair
 
 -- what is cut, by the fault
@@ -309,19 +381,20 @@ settled_front id f (Some to) fits by =
     front_resized f.bytes to (omega (arith, place, end_within id f.bytes fits)) ∙ ap (λ n. take n f.bytes) place
 
 pub stopped_same : (d e : Disk) (id : FileId) (fd : ℕ) → e ≡ d → IsStopped d e id fd
-stopped_same d e id fd is = record { state = d.file fd; files = is ∙ no_change d fd; leaves = leaves_same id (d.file fd) }
+stopped_same d e id fd is = record { state = d.file fd; files = is ∙ no_change d fd; reads = refl; leaves = leaves_same id (d.file fd) }
 
 -- so after the cut and the sync
 pub settled_ok : (r : Result (Unit {0}) Error) (d e : Disk) (id : FileId) (fd : ℕ) (cut : Option ℕ) → AreBytes (d.file fd).bytes → IsCutBy id (d.file fd) cut → Settles r d e fd cut → OnOk r (IsRepaired d e id fd)
 settled_ok (Ok u) d e id fd cut fits by is = record { state = after_sync (cut_to cut (d.file fd)); files = is; front = settled_front id (d.file fd) cut fits by; whole = settled_whole id (d.file fd) cut fits by }
 settled_ok (Err x) d e id fd cut fits by is = tt
 
-pub settled_err : (r : Result (Unit {0}) Error) (d e : Disk) (id : FileId) (fd : ℕ) (cut : Option ℕ) → IsCutBy id (d.file fd) cut → Settles r d e fd cut → OnErr r (IsStopped d e id fd)
-settled_err (Ok u) d e id fd cut by is = tt
-settled_err (Err x) d e id fd cut by (inl same) = stopped_same d e id fd same
-settled_err (Err x) d e id fd cut by (inr (len, seen, is, changed)) = record {
+pub settled_err : (r : Result (Unit {0}) Error) (d e : Disk) (id : FileId) (fd : ℕ) (cut : Option ℕ) → AreBytes (d.file fd).bytes → IsCutBy id (d.file fd) cut → Settles r d e fd cut → OnErr r (IsStopped d e id fd)
+settled_err (Ok u) d e id fd cut fits by is = tt
+settled_err (Err x) d e id fd cut fits by (inl same) = stopped_same d e id fd same
+settled_err (Err x) d e id fd cut fits by (inr (len, seen, is, part, changed)) = record {
   state = after_truncate (d.file fd) len seen;
   files = changed;
+  reads = partly_reads id (d.file fd) len seen fits (by.some len is) part;
   leaves = leaves_end id (d.file fd) len seen (by.some len is);
 }
 
@@ -339,3 +412,8 @@ settle_cut d e g fd len cut is changed sync =
     let f : FileState = after_truncate (d.file fd) len (resized (d.file fd).bytes len) in
     sync ∙ (λ i. with_file (changed i) fd (after_sync ((changed i).file fd))) ∙ ap (λ (s : FileState). with_file (with_file d fd f) fd (after_sync s)) (same_file fd f (d.file fd)) ∙ file_again d fd f (after_sync f)
     ∙ ap (λ o. with_file d fd (after_sync (cut_to o (d.file fd)))) (sym is)
+
+-- the cut stands and the sync was refused
+pub settle_unsynced : (x : Error) (d e g : Disk) (fd len : ℕ) (cut : Option ℕ) → cut ≡ Some len → e ≡ with_file d fd (after_truncate (d.file fd) len (resized (d.file fd).bytes len)) → g ≡ e
+    → (let r : Result (Unit {0}) Error = Err x in Settles r d g fd cut)
+settle_unsynced x d e g fd len cut is changed same = inr (len, resized (d.file fd).bytes len, is, whole_cut (d.file fd).bytes len, same ∙ changed)

@@ -244,7 +244,7 @@ all_there d queue place (directory ∷ directories) found f (names, others, same
     further : IsThere d queue (place + 1) directories f → IsThere d queue place (directory ∷ directories) f
     further t = record { at = suc t.at; fd = t.fd; within = omega (arith, t.within); place_is = omega (arith, t.place_is); number = t.number; named = t.named }
 
-found_stands : (d : Disk) (queue : LogQueue) (directories : List Text) (all : List FileName) (f : FileName) → AreInDirectories d (Log queue) 0 directories all → IsIn f all → (fd : ℕ) × StandsAt d.names directories queue f.seq f.path_id fd
+pub found_stands : (d : Disk) (queue : LogQueue) (directories : List Text) (all : List FileName) (f : FileName) → AreInDirectories d (Log queue) 0 directories all → IsIn f all → (fd : ℕ) × StandsAt d.names directories queue f.seq f.path_id fd
 found_stands d queue directories all f are there =
     let t = all_there d queue 0 directories all f are there in
     let at : t.at ≡ f.path_id = omega (arith, t.place_is) in
@@ -252,7 +252,7 @@ found_stands d queue directories all f are there =
 
 -- ---- and what stands there is found
 
-stands_found : (d : Disk) (queue : LogQueue) (place : ℕ) (directories : List Text) (found : List FileName) (seq at fd : ℕ) → IsFileSeq seq → at < length directories → fd_of d.names (file_path (get_or directories at []) queue seq) ≡ Some fd
+pub stands_found : (d : Disk) (queue : LogQueue) (place : ℕ) (directories : List Text) (found : List FileName) (seq at fd : ℕ) → IsFileSeq seq → at < length directories → fd_of d.names (file_path (get_or directories at []) queue seq) ≡ Some fd
     → AreInDirectories d (Log queue) place directories found → (f : FileName) × IsIn f found × (f.seq ≡ seq)
 stands_found d queue place [] found seq at fd below within there are = absurd (omega (arith, within))
 stands_found d queue place (directory ∷ directories) found seq zero fd below within there (names, others, same, is, rest) =
@@ -279,7 +279,7 @@ position [] x there = absurd there
 position (y ∷ l) x (inl is) = (0, omega arith, ap (λ (f : FileName). f.seq) (sym is))
 position (y ∷ l) x (inr there) = let k = position l x there in (suc k.0, omega (arith, k.1), k.2)
 
-in_dropped : (n : ℕ) (l : List FileName) (x : FileName) → IsIn x (drop n l) → IsIn x l
+pub in_dropped : (n : ℕ) (l : List FileName) (x : FileName) → IsIn x (drop n l) → IsIn x l
 in_dropped zero l x there = there
 in_dropped (suc n) [] x there = there
 in_dropped (suc n) (y ∷ l) x there = inr (in_dropped n l x there)

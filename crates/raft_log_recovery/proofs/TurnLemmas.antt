@@ -16,8 +16,8 @@ use Rattle.raft_log_pipe.specs.Pipe.{id_of}
 use Rattle.raft_log_recovery.specs.declared.scan.FileName.{FileName}
 use Rattle.raft_log_recovery.specs.Repair.{IsRepaired, IsStopped, batches_in, cuts_faults, fault_in, format_in}
 use Rattle.raft_log_recovery.specs.Replay.{ArePlaced, Placed}
-use Rattle.raft_log_recovery.specs.Queue.{AreLeft, AreNumbered, AreRecovered, IsFileOf, KeepsRefused, OnlyChanges}
-use Rattle.raft_log_recovery.proofs.QueueLemmas.{IsRefusedHere, IsStep, NoneRefused, Replays, file_is, kept_at, kept_stopped, left_at, left_stopped, only_between, only_within, step_none, step_recovered, step_replays}
+use Rattle.raft_log_recovery.specs.Queue.{AreLeft, AreNumbered, AreReadAlike, AreRecovered, IsFileOf, KeepsRefused, OnlyChanges}
+use Rattle.raft_log_recovery.proofs.QueueLemmas.{IsRefusedHere, IsStep, NoneRefused, Replays, alike_at, alike_stopped, file_is, kept_at, kept_stopped, left_at, left_stopped, only_between, only_within, step_none, step_recovered, step_replays}
 
 abbrev no_name : FileName
 no_name = record { seq = 0; path_id = 0 }
@@ -87,6 +87,9 @@ module _ (t : Turn) where
   pub stopped_left : (new : Disk) → IsStopped t.cur new t.id t.fd → AreLeft t.directories t.queue t.names t.old new
   stopped_left new stopped = left_stopped t.mode t.directories t.queue t.count t.old t.names t.named t.are t.i no_name t.lt t.cur new t.fs t.fd t.so t.there (stopped_here new stopped)
 
+  pub stopped_alike : (new : Disk) → IsStopped t.cur new t.id t.fd → AreReadAlike t.directories t.queue t.names t.old new
+  stopped_alike new stopped = alike_stopped t.mode t.directories t.queue t.count t.old t.names t.named t.are t.i no_name t.lt t.cur new t.fs t.fd t.so t.there (stopped_here new stopped)
+
   pub stopped_kept : (new : Disk) (n : ℕ) → n ≡ t.i → IsStopped t.cur new t.id t.fd → Refuses n (new ≡ t.cur) → NoneRefused t.mode t.directories t.queue t.names t.old t.i → KeepsRefused t.mode t.directories t.queue t.names t.old new
   stopped_kept new n is stopped refuses none =
       kept_stopped t.mode t.directories t.queue t.count t.old t.names t.named t.are t.i no_name t.lt t.cur new t.fs t.fd n _ is refl t.so t.there (stopped_here new stopped) (refused_so n (new ≡ t.cur) refuses) none
@@ -128,6 +131,9 @@ module _ (t : Turn) where
 
     pub done_left : AreLeft t.directories t.queue t.names t.old new
     done_left = left_at t.mode t.directories t.queue t.count t.old t.names t.named t.are new new (t.i + 1) (t.fs ++ f ∷ []) refl done_recovered
+
+    pub done_alike : AreReadAlike t.directories t.queue t.names t.old new
+    done_alike = alike_at t.mode t.directories t.queue t.count t.old t.names t.named t.are new new (t.i + 1) (t.fs ++ f ∷ []) refl done_recovered
 
     pub done_none : (n : ℕ) → n ≡ t.i → Refuses n ⊥ → NoneRefused t.mode t.directories t.queue t.names t.old t.i → NoneRefused t.mode t.directories t.queue t.names t.old (t.i + 1)
     done_none n is refuses none = step_none t.mode t.directories t.queue t.count t.old t.names t.named t.are t.i no_name t.lt t.cur t.fs t.fd n _ is refl t.so t.there (refused_so n ⊥ refuses) none

@@ -4,3 +4,4 @@ pub mod Replay
 pub mod Queue
 pub mod Opening
 pub mod Crashed
+pub mod Again

@@ -89,6 +89,12 @@ pub record AreRecovered (directories : List Text) (queue : LogQueue) (old new : 
 
 -- ---- refusals
 
+-- each of these files reads as the same batches
+abbrev pub AreReadAlike : List Text → LogQueue → List FileName → Disk → Disk → Type 0
+AreReadAlike directories queue names old new =
+    (name : FileName) (fd : ℕ) → IsIn name names → IsFileOf old directories queue name fd
+    → batches_in (id_of queue name.seq) (new.file fd).bytes ≡ batches_in (id_of queue name.seq) (old.file fd).bytes
+
 -- whatever a crash leaves of a file that was at rest reads as the same batches
 abbrev pub AreLeft : List Text → LogQueue → List FileName → Disk → Disk → Type 0
 AreLeft directories queue names old new =

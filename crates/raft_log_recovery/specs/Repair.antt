@@ -6,7 +6,7 @@ use Rattle.raft_log_records.specs.declared.version.Version.TheVariants.{V1}
 use Rattle.raft_log_disk.specs.declared.format.HeaderFault.{HeaderFault}
 use Rattle.raft_log_disk.specs.declared.format.LogFileFormat.{LogFileFormat}
 use Rattle.raft_log_disk.specs.Format.{header_at}
-use Rattle.raft_log_disk.specs.Disk.{Disk, FileState, AreBytes, after_sync, after_truncate, resized, with_file}
+use Rattle.raft_log_disk.specs.Disk.{Disk, FileState, AreBytes, PartlyTruncated, after_sync, after_truncate, resized, with_file}
 use Rattle.raft_log_disk.specs.Image.{IsFileImage, IsStill}
 use Rattle.raft_log_disk.specs.Chance.{IsGenuine}
 use Rattle.raft_log_files.specs.declared.recovery.RecoveryMode.{RecoveryMode}
@@ -70,10 +70,11 @@ pub record IsRepaired (old new : Disk) (id : FileId) (fd : ℕ) : Type 0 where
   pub front : state.bytes ≡ take (end_in id (old.file fd).bytes) (old.file fd).bytes
   pub whole : IsWhole id state (batches_in id (old.file fd).bytes)
 
--- the file alone changed, and a crash leaves the batches that it read as, if it was at rest
+-- the file alone changed, and reads as the same batches. A crash leaves them too, if it was at rest
 pub record IsStopped (old new : Disk) (id : FileId) (fd : ℕ) : Type 0 where
   pub state : FileState
   pub files : new ≡ with_file old fd state
+  pub reads : batches_in id state.bytes ≡ batches_in id (old.file fd).bytes
   pub leaves : IsAtRest (old.file fd) → LeavesBatches id state (batches_in id (old.file fd).bytes)
 
 -- ---- steps
@@ -83,7 +84,8 @@ abbrev pub cut_to : Option ℕ → FileState → FileState
 cut_to None f = f
 cut_to (Some len) f = after_truncate f len (resized f.bytes len)
 
--- the file is cut and synced. After an `Err` it is as it was, or the cut is not synced
+-- the file is cut and synced. After an `Err` it is as it was, or the cut is not synced and came some of the way
 abbrev pub Settles : {E : Type 0} → Result (Unit {0}) E → Disk → Disk → ℕ → Option ℕ → Type 0
 Settles (Ok u) old new fd cut = new ≡ with_file old fd (after_sync (cut_to cut (old.file fd)))
-Settles (Err e) old new fd cut = (new ≡ old) ⊎ ((len : ℕ) × (seen : List ℕ) × (cut ≡ Some len) × (new ≡ with_file old fd (after_truncate (old.file fd) len seen)))
+Settles (Err e) old new fd cut = (new ≡ old)
+    ⊎ ((len : ℕ) × (seen : List ℕ) × (cut ≡ Some len) × PartlyTruncated len (old.file fd).bytes seen × (new ≡ with_file old fd (after_truncate (old.file fd) len seen)))

@@ -5,7 +5,7 @@ ghost use Rattle.raft_log_files.specs.FileName.{IsFileSeq};
 ghost use Rattle.raft_log_recovery.specs.declared.scan.FileKind.TheVariants.{Log};
 ghost use Rattle.raft_log_recovery.specs.Scan.{AreFound};
 ghost use Rattle.raft_log_recovery.specs.Replay.{Placed};
-ghost use Rattle.raft_log_recovery.specs.Queue.{AnyRefused, AreLeft, AreNumbered, AreRecovered, AreReplayed, IsFileOf, KeepsRefused, OnlyChanges, directories_in, names_in};
+ghost use Rattle.raft_log_recovery.specs.Queue.{AnyRefused, AreLeft, AreNumbered, AreReadAlike, AreRecovered, AreReplayed, IsFileOf, KeepsRefused, OnlyChanges, directories_in, names_in};
 
 use crate::builder::DualPipesBuilder;
 use crate::machine::ReplayMachine;
@@ -49,6 +49,7 @@ fn recover_each<F: FileSystem, M: ReplayMachine>(
     ensures replayed { IfOk result (λ v. (placed : List Placed) → M.has_replayed machine.old placed
         → (more : List Placed) × M.has_replayed machine.new (placed ++ more) × AreReplayed config.now.queue (F.disk files.new) v.items more) }
     ensures only { OnlyChanges (map string_bytes directories.now) config.now.queue names.now (F.disk files.old) (F.disk files.new) }
+    ensures reads { AreReadAlike (map string_bytes directories.now) config.now.queue names.now (F.disk files.old) (F.disk files.new) }
     ensures err { OnErr result (AreLeft (map string_bytes directories.now) config.now.queue names.now (F.disk files.old) (F.disk files.new)) }
     ensures refused { AnyRefused config.now.mode (map string_bytes directories.now) config.now.queue names.now (F.disk files.old) → IsErr result }
     ensures kept { OnErr result (KeepsRefused config.now.mode (map string_bytes directories.now) config.now.queue names.now (F.disk files.old) (F.disk files.new)) }
@@ -96,6 +97,7 @@ impl DualPipesBuilder {
         ensures replayed { IfOk result (λ v. (placed : List Placed) → M.has_replayed machine.old placed
             → (more : List Placed) × M.has_replayed machine.new (placed ++ more) × AreReplayed config.now.queue (F.disk files.new) v.items more) }
         ensures only { OnlyChanges (directories_in self.now) config.now.queue (names_in self.now config.now.queue) (F.disk files.old) (F.disk files.new) }
+        ensures reads { AreReadAlike (directories_in self.now) config.now.queue (names_in self.now config.now.queue) (F.disk files.old) (F.disk files.new) }
         ensures err { OnErr result (AreLeft (directories_in self.now) config.now.queue (names_in self.now config.now.queue) (F.disk files.old) (F.disk files.new)) }
         ensures refused { AnyRefused config.now.mode (directories_in self.now) config.now.queue (names_in self.now config.now.queue) (F.disk files.old) → IsErr result }
         ensures kept { OnErr result (KeepsRefused config.now.mode (directories_in self.now) config.now.queue (names_in self.now config.now.queue) (F.disk files.old) (F.disk files.new)) }

@@ -38,6 +38,8 @@ impl StateMachine for AddingMachine {
 
     ghost state = { state_of_total };
 
+    ghost begins = { Prim.search };
+
     ghost restores = { λ m. Prim.search };
 
     fn new(alloc: Global) -> Result<Self, AllocError> {

@@ -9,4 +9,4 @@ mod telling;
 pub use adding::AddingMachine;
 pub use fault::{Fault, MembershipFault, membership_fault};
 pub use machine::StateMachine;
-pub use telling::{Told, Untold, run_entries};
+pub use telling::{Told, UnknownTokens, Untold, run_entries};

@@ -18,6 +18,15 @@ pub struct Untold {
     pub place: u64,
 }
 
+/// The tokens of a group that nobody will be told of (own).
+#[derive(Debug, Drop)]
+pub struct UnknownTokens {
+    /// The group.
+    pub group: u64,
+    /// Its tokens, by rising place.
+    pub tokens: Vec<Untold>,
+}
+
 /// What whoever proposed is told (own).
 #[derive(Debug, Drop)]
 pub struct Told {

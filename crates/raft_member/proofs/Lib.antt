@@ -8,3 +8,4 @@ pub mod OpeningLemmas
 pub mod MessageLemmas
 pub mod LoadedLemmas
 pub mod ReadyLemmas
+pub mod HearingLemmas

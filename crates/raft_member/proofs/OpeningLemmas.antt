@@ -4,7 +4,6 @@ use Rattle.std.proofs.Common.{ap, sym, ◌∙◌, subst, arith}
 use Rattle.std.proofs.Math.Seq.{take-append-add}
 use Rattle.raft_values.specs.declared.log_id.LogId.{LogId}
 use Rattle.raft_values.specs.LogId.{next_place, place_of}
-use Rattle.raft_commands.specs.Config.{config_of}
 use Rattle.raft_group_step.specs.Message.{Message}
 use Rattle.raft_group_step.specs.StoredGroup.{Snapshot, StoredGroup, StoringCommand, StartAfter, after_storing, after_storing_all, end_place, id_at, snapshot_last}
 use Rattle.raft_group_step.specs.GroupState.{Follower, state_of}
@@ -13,8 +12,9 @@ use Rattle.raft_group_step.specs.StepResult.{StepResult, apply_up_to, store, unc
 use Rattle.raft_group_step.specs.Opening.{drop_stale_log, is_joined_to, resume_lead}
 use Rattle.raft_group_step.specs.GroupStep.{finished, group_step}
 use Rattle.raft_group_step.specs.Frames.{committed_id}
-use Rattle.raft_known_state.specs.KnownState.{IsPlaced, KnownState, Knows, with_committed}
-use Rattle.raft_engine.specs.Standing.{IsInOrder, IsStateOf, PlaysRole}
+use Rattle.raft_known_state.specs.KnownState.{IsPlaced, KnownState}
+use Rattle.raft_engine.specs.Opening.{OpensAs}
+use Rattle.raft_engine.specs.Standing.{IsInOrder}
 use Rattle.raft_laws.specs.GoingOn.{behind}
 use Rattle.raft_laws.specs.Opened.{opened}
 use Rattle.raft_laws.specs.Stop.{stopped_after}
@@ -24,8 +24,8 @@ use Rattle.raft_laws.proofs.StepMoments.{moments_of_openings}
 use Rattle.raft_laws.proofs.StepOrder.{step-keeps}
 use Rattle.raft_executor.specs.Said.{SaysAll}
 use Rattle.raft_executor.proofs.StoringLemmas.{after_both}
-use Rattle.raft_member.specs.Member.{Engine, HasEnded, HasStopped, IsDown, IsUp}
-use Rattle.raft_member.specs.Opening.{HasOpened, IsFresh, IsOpenable, Loads, stale_end, stale_from}
+use Rattle.raft_member.specs.Member.{HasEnded, HasStopped, IsDown, IsUp}
+use Rattle.raft_member.specs.Opening.{IsFresh, IsOpenable, Loads, stale_end, stale_from}
 use Rattle.raft_member.specs.Running.{HasHalted, HasRun}
 use Rattle.raft_member.specs.declared.member.Member.{Member}
 use Rattle.raft_member.specs.declared.member.Ended.{Ended}
@@ -128,36 +128,21 @@ module _ (st : StoredGroup) where
           within = subst (λ id. next_place id ≤ end_place s.stored) (sym id_committed) openable.reaches;
         }
 
-    module _ (k : KnownState) (found : Option (LogId ℕ)) (e : Engine) (loads : Loads k (opened st).state.stored) (last : found ≡ snapshot_last (opened st).state.stored)
-        (config : e.config ≡ config_of own) (no_lead : e.leader ≡ None) (no_candidate : e.candidate ≡ None)
-        (knows : Knows e.state (opened st).state.stored) (known : e.state ≡ with_committed k found e.state.state.membership_state) where
-      opened_stands : IsStateOf own e (opened st).state
-      opened_stands =
-          let s = (opened st).state in
-          record {
-            config = config;
-            knows = knows;
-            renewed = ap (λ (x : KnownState). x.state.vote.utime) known ∙ loads.renewed ∙ sym (ap (λ (r : StepResult). r.state.renewed) opened_as);
-            committed = ap (λ (x : KnownState). x.state.committed) known ∙ last ∙ sym id_committed;
-            wish = ap (λ (x : KnownState). place_of x.wish) known ∙ ap place_of loads.wish ∙ sym (ap (λ (r : StepResult). r.state.wish) opened_as);
-            role =
-                subst (λ role. PlaysRole own e.leader e.candidate s.stored role) (sym opened_follows)
-                (subst (λ l. PlaysRole own l e.candidate s.stored Follower) (sym no_lead)
-                (subst (λ c. PlaysRole own None c s.stored Follower) (sym no_candidate) tt));
-            order = opened_order;
-          }
-
-    -- what is known of what is stored makes such an engine
-    pub has_opened : (now : StoredGroup) (o : Option KnownState) (k : KnownState) (found : Option (LogId ℕ)) (e : Engine) → now ≡ (opened st).state.stored
-        → (IsPlaced now → end_place now < 2 ^ 64 → IsFresh now o) → o ≡ Some k → found ≡ snapshot_last now → e.config ≡ config_of own → e.leader ≡ None → e.candidate ≡ None
-        → ((y : StoredGroup) → Knows k y → Knows e.state y) → e.state ≡ with_committed k found e.state.state.membership_state → e.output.queue ≡ [] → HasOpened own (opened st).state (Some e)
-    has_opened now o k found e same fresh there last config no_lead no_candidate knows known queue =
+    -- what is known of what is stored is what an engine opens with
+    pub opens_as : (now : StoredGroup) (o : Option KnownState) (k : KnownState) → now ≡ (opened st).state.stored
+        → (IsPlaced now → end_place now < 2 ^ 64 → IsFresh now o) → o ≡ Some k → OpensAs own k (opened st).state
+    opens_as now o k same fresh there =
         let low : end_place now < 2 ^ 64 = let l = openable.ready.places in let n : end_place now ≡ end_place (opened st).state.stored = ap end_place same in omega arith in
-        let loads : Loads k now = subst (IsFresh now) there (fresh (subst IsPlaced (sym same) openable.placed) low) in (
-          opened_stands k found e (subst (Loads k) same loads) (last ∙ ap snapshot_last same) config no_lead no_candidate
-              (knows (opened st).state.stored (subst (Knows k) same loads.knows)) known,
-          queue,
-        )
+        let loads : Loads k (opened st).state.stored = subst (Loads k) same (subst (IsFresh now) there (fresh (subst IsPlaced (sym same) openable.placed) low)) in
+        record {
+          knows = loads.knows;
+          renewed = loads.renewed ∙ sym (ap (λ (r : StepResult). r.state.renewed) opened_as);
+          wish = ap place_of loads.wish ∙ sym (ap (λ (r : StepResult). r.state.wish) opened_as);
+          committed = id_committed;
+          follows = opened_follows;
+          order = opened_order;
+          ready = openable.ready;
+        }
 
   -- ---- the step of an opening
 

@@ -2,3 +2,4 @@ pub mod Member
 pub mod Running
 pub mod Opening
 pub mod Ready
+pub mod Hearing

@@ -1,12 +1,15 @@
 -- What a member that is down is opened with.
-use Rattle.std.specs.Prelude.{◌≡◌, ◌≤◌, ℕ, if◌then◌else◌, [], Option, Some, None}
+use Rattle.std.specs.Prelude.{◌≡◌, ◌≤◌, ℕ, if◌then◌else◌, Option, Some, None}
 use Rattle.raft_values.specs.declared.log_id.LogId.{LogId}
 use Rattle.raft_values.specs.LogId.{next_place}
-use Rattle.raft_group_step.specs.StoredGroup.{StoredGroup, end_place, first_place, id_at, snapshot_last}
+use Rattle.raft_group_step.specs.StoredGroup.{Snapshot, StoredGroup, end_place, first_place, id_at, snapshot_last}
+use Rattle.raft_group_step.specs.GroupStep.{finished}
+use Rattle.raft_group_step.specs.StepResult.{unchanged}
 use Rattle.raft_group_step.specs.GroupState.{GroupState}
-use Rattle.raft_group_step.specs.Opening.{is_joined_to}
+use Rattle.raft_group_step.specs.Opening.{is_joined_to, resume_lead}
 use Rattle.raft_engine.specs.Events.{IsReady}
-use Rattle.raft_engine.specs.Standing.{IsStateOf}
+use Rattle.raft_engine.specs.Opening.{given_at_opening}
+use Rattle.raft_engine.specs.Standing.{IsWholeStepOf}
 use Rattle.raft_known_state.specs.KnownState.{IsPlaced, KnownState, Knows}
 use Rattle.raft_laws.specs.Opened.{opened}
 use Rattle.raft_member.specs.Member.{Engine}
@@ -31,10 +34,10 @@ abbrev pub IsFresh : StoredGroup → Option KnownState → Type 0
 IsFresh stored None = ⊥
 IsFresh stored (Some k) = Loads k stored
 
--- there is an engine that stands for the state, with an empty queue
-abbrev pub HasOpened : ℕ → GroupState → Option Engine → Type 0
-HasOpened own s None = ⊥
-HasOpened own s (Some e) = IsStateOf own e s × (e.output.queue ≡ [])
+-- there is an engine, and it has started from the state
+abbrev pub HasStarted : Snapshot → ℕ → GroupState → Option Engine → Type 0
+HasStarted x own s None = ⊥
+HasStarted x own s (Some e) = IsWholeStepOf (given_at_opening x s) own e (finished own None (resume_lead own (unchanged s)))
 
 -- the snapshot's last log id, where the log doesn't belong to it
 abbrev pub stale_from : StoredGroup → Option (LogId ℕ) → Option (LogId ℕ)

@@ -1,11 +1,13 @@
 //! The end of an event: what the queue asks for is stored and sent.
-ghost use Rattle.std.specs.Prelude.{◌≡◌, ℕ, None, OnErr, OnOk};
+ghost use Rattle.std.specs.Prelude.{◌≡◌, ℕ, IfOk, None, OnErr, OnOk};
 ghost use Rattle.std.specs.Option.{option_copied};
 ghost use Rattle.raft_group_step.specs.StoredGroup.{StoredGroup as Stored};
 ghost use Rattle.raft_group_step.specs.GroupState.{GroupState};
 ghost use Rattle.raft_group_step.specs.StepResult.{StepResult};
 ghost use Rattle.raft_engine.specs.Standing.{IsStateOf};
+ghost use Rattle.raft_executor.specs.SendingTimes.{sent_at, time_after};
 ghost use Rattle.raft_group_storage.specs.Keeping.{KeepsOthers};
+ghost use Rattle.raft_member.specs.Hearing.{IsOver};
 ghost use Rattle.raft_member.specs.Member.{IsDown, IsIdle};
 ghost use Rattle.raft_member.specs.Running.{HasHalted, IsRun, RunsTo, left_by};
 
@@ -17,7 +19,8 @@ use std::alloc::Global;
 
 // The engine has nothing left to do.
 fn come_to_rest(engine: &mut Engine<ByteGroup>)
-    ensures { (own : ℕ) (s : GroupState) → IsStateOf own engine.old s → IsIdle own engine.new s }
+    ensures leader { engine.new.leader ≡ engine.old.leader }
+    ensures idle { (own : ℕ) (s : GroupState) → IsStateOf own engine.old s → IsIdle own engine.new s }
 {
     engine.output.clear();
     engine.state.state.io_state.set_building_snapshot(false);
@@ -44,7 +47,7 @@ impl Member {
     }
 
     // The step is done: what the queue asks for is stored in its order, and sent. The snapshot is
-    // the one that a command stores.
+    // the one that a command stores. It is noted to which peers requests leave at this moment.
     pub(crate) fn end_taken<S: GroupStorage>(
         &mut self,
         alloc: Global,
@@ -56,6 +59,9 @@ impl Member {
         group: u64,
     ) -> Result<Ended<S::Snapshot>, S::Fault>
         ensures id { self.new.id ≡ self.old.id }
+        ensures leader { engine.new.leader ≡ engine.old.leader }
+        ensures over { IfOk result IsOver }
+        ensures sendings { stop ≡ None → OnOk result ((n : ℕ) → sent_at self.new.sendings n ≡ time_after n moment engine.old.output.queue (sent_at self.old.sendings n)) }
         ensures well { S.is_well storage.old → OnOk result (S.is_well storage.new) }
         ensures ok { (old : Stored) (r : StepResult) → IsDown (S.is_well storage.old) (S.shows storage.old group) self.old old
             → IsRun S.stands self.old.id engine.old old r (option_copied snapshot.entry) moment
@@ -75,6 +81,7 @@ impl Member {
             committed: engine.state.state.committed,
         };
         let sent = messages(alloc, &sender, &engine.output, storage, group)?;
+        self.sendings.note_sent(alloc, &engine.output, moment)?;
         self.moment = moment;
         come_to_rest(engine);
         Ok(Ended::Done(sent))
@@ -91,6 +98,9 @@ impl Member {
         group: u64,
     ) -> Result<Ended<S::Snapshot>, S::Fault>
         ensures id { self.new.id ≡ self.old.id }
+        ensures leader { engine.new.leader ≡ engine.old.leader }
+        ensures over { IfOk result IsOver }
+        ensures sendings { stop ≡ None → OnOk result ((n : ℕ) → sent_at self.new.sendings n ≡ time_after n moment engine.old.output.queue (sent_at self.old.sendings n)) }
         ensures well { S.is_well storage.old → OnOk result (S.is_well storage.new) }
         ensures ok { (old : Stored) (r : StepResult) → IsDown (S.is_well storage.old) (S.shows storage.old group) self.old old
             → IsRun S.stands self.old.id engine.old old r None moment

@@ -10,6 +10,7 @@ use crate::ending::at_rest;
 use raft_commands::RaftTypeConfig;
 use raft_conditions::Refusal;
 use raft_engine::Engine;
+use raft_executor::SendingTimes;
 use raft_group_storage::GroupStorage;
 use raft_messages::Message;
 use raft_state::{BasicNode, Bytes};
@@ -62,6 +63,8 @@ pub struct Member {
     pub engine: Option<Engine<ByteGroup>>,
     /// The last moment that was handed in since the opening, in ticks.
     pub moment: u64,
+    /// When the last request to each peer left.
+    pub sendings: SendingTimes,
 }
 
 impl Member {
@@ -86,6 +89,7 @@ impl Member {
             id,
             engine: Some(at_rest(engine)),
             moment: 0,
+            sendings: SendingTimes::none(),
         })
     }
 
@@ -98,6 +102,7 @@ impl Member {
             id,
             engine: None,
             moment: 0,
+            sendings: SendingTimes::none(),
         }
     }
 
@@ -132,5 +137,6 @@ impl Member {
         ensures down { self.new.engine ≡ None }
     {
         self.engine = None;
+        self.sendings = SendingTimes::none();
     }
 }

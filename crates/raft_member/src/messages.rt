@@ -1,9 +1,10 @@
 //! Messages that come to a member.
-ghost use Rattle.std.specs.Prelude.{◌≡◌, ℕ, Ok, IfOk, OnOk, OnErr, None, max};
+ghost use Rattle.std.specs.Prelude.{◌≡◌, ℕ, Ok, IfOk, OnOk, OnErr, None, Some, max};
 ghost use Rattle.raft_group_step.specs.StoredGroup.{Snapshot};
 ghost use Rattle.raft_group_step.specs.GroupState.{GroupState};
 ghost use Rattle.raft_group_step.specs.GroupEvent.{Receive};
 ghost use Rattle.raft_conditions.specs.Facts.{IsRefusalOf};
+ghost use Rattle.raft_engine.specs.Clock.{HearsAfter, moment_shown};
 ghost use Rattle.raft_engine.specs.Events.{HasTaken, MayTake, received};
 ghost use Rattle.raft_messages.specs.Messages.{append_fields_of, body_as, message_as, reply_fields_of};
 ghost use Rattle.raft_messages.specs.declared.message.MessageBody.TheVariants.{SnapshotRequest as SendsSnapshot};
@@ -11,7 +12,9 @@ ghost use Rattle.raft_group_step.specs.GroupStep.{group_step};
 ghost use Rattle.raft_group_step.specs.Message.{AppendReply, AppendRequest, Message as Said, SnapshotReply, SnapshotRequest};
 ghost use Rattle.raft_executor.specs.Said.{Says};
 ghost use Rattle.raft_group_storage.specs.Keeping.{KeepsAll, KeepsOthers};
-ghost use Rattle.raft_member.specs.Member.{HasEnded, HasStopped, IsDown, IsIdle, IsLawful, IsUp};
+ghost use Rattle.raft_executor.specs.SendingTimes.{sent_at};
+ghost use Rattle.raft_member.specs.Hearing.{HasHeard, HearsBy};
+ghost use Rattle.raft_member.specs.Member.{Engine as Running, HasEnded, HasStopped, IsDown, IsIdle, IsLawful, IsUp};
 ghost use Rattle.raft_member.specs.Running.{Brings, EndsTo, HasHalted, RunsTo};
 ghost use Rattle.raft_member.specs.declared.member.Ended.TheVariants.{Skipped};
 
@@ -83,30 +86,36 @@ fn take_request(
     Ok(())
 }
 
-// A peer's answer to an append request or a snapshot is handed to the engine.
+// A peer's answer to an append request or a snapshot, which left at this sending time, if one did, is
+// handed to the engine.
 fn take_reply(
     peer: u64,
     reply: &ReplyFields,
+    sending_time: Option<u64>,
     moment: u64,
     engine: &mut Engine<ByteGroup>,
 ) -> Result<(), AllocError>
+    ensures heard { OnOk result (HearsAfter peer (moment_shown peer (reply_fields_of reply.now) sending_time engine.old.leader) engine.old.leader engine.new.leader) }
     ensures append { (x : Snapshot) (own at : ℕ) (s : GroupState) → moment ≡ max s.now at → MayTake own engine.old s (received own peer (AppendReply (reply_fields_of reply.now)) at)
         → OnOk result (HasTaken x own engine.old engine.new s (received own peer (AppendReply (reply_fields_of reply.now)) at)) }
     ensures snapshot { (x : Snapshot) (own at : ℕ) (s : GroupState) → moment ≡ max s.now at → MayTake own engine.old s (received own peer (SnapshotReply (reply_fields_of reply.now)) at)
         → OnOk result (HasTaken x own engine.old engine.new s (received own peer (SnapshotReply (reply_fields_of reply.now)) at)) }
 {
     let (caller, answer) = caller_and_answer(peer, reply);
-    engine.handle_replication_resp(peer, &caller, &answer, moment)
+    engine.handle_replication_resp(peer, &caller, &answer, sending_time, moment)
 }
 
-// The engine is handed the message, but for a snapshot, at this moment.
+// The engine is handed the message, but for a snapshot, at this moment. The last request to its
+// sender left at the sending time, if one did.
 fn take_message<X>(
     alloc: Global,
     message: &Message<X>,
+    sending_time: Option<u64>,
     moment: u64,
     engine: &mut Engine<ByteGroup>,
 ) -> Result<(), AllocError>
-    ensures { (carried : X → Snapshot) (x : Snapshot) (own at : ℕ) (s : GroupState) → moment ≡ max s.now at
+    ensures heard { OnOk result (HearsBy message.now sending_time engine.old.leader engine.new.leader) }
+    ensures taken { (carried : X → Snapshot) (x : Snapshot) (own at : ℕ) (s : GroupState) → moment ≡ max s.now at
         → ((vote : _) (id : ℕ) (y : X) → message.now.body ≡ SendsSnapshot vote id y → ⊥)
         → MayTake own engine.old s (received own message.now.sender (body_as carried message.now.body) at)
         → OnOk result (HasTaken x own engine.old engine.new s (received own message.now.sender (body_as carried message.now.body) at)) }
@@ -120,7 +129,7 @@ fn take_message<X>(
         MessageBody::VoteReply(answer) => engine.handle_vote_resp(peer, answer, moment),
         MessageBody::AppendRequest(request) => take_request(alloc, peer, request, moment, engine),
         MessageBody::AppendReply(reply) | MessageBody::SnapshotReply(reply) => {
-            take_reply(peer, reply, moment, engine)
+            take_reply(peer, reply, sending_time, moment, engine)
         }
         MessageBody::SnapshotRequest { .. } => Ok(()),
     }
@@ -166,6 +175,7 @@ impl Member {
         group: u64,
     ) -> Result<Ended<S::Snapshot>, S::Fault>
         ensures id { self.new.id ≡ self.old.id }
+        ensures heard { IfOk result (HasHeard message.now (sent_at self.old.sendings message.now.sender) engine.old.leader engine.new.leader) }
         ensures well { S.is_well storage.old → OnOk result (S.is_well storage.new) }
         ensures ok { (y : Snapshot) (at : ℕ) (s : GroupState) → Brings S.stands message.now.body y
             → IsDown (S.is_well storage.old) (S.shows storage.old group) self.old s.stored → moment ≡ max s.now at
@@ -184,7 +194,8 @@ impl Member {
             take_snapshot::<S>(alloc, caller, snapshot, moment, engine)?;
             return self.end_taken(alloc, engine, Some(snapshot), moment, stop, storage, group);
         }
-        take_message(alloc, message, moment, engine)?;
+        let sending_time = self.sendings.sent_at(message.sender);
+        take_message(alloc, message, sending_time, moment, engine)?;
         self.end_without_snapshot(alloc, engine, moment, stop, storage, group)
     }
 
@@ -200,6 +211,7 @@ impl Member {
         group: u64,
     ) -> Result<Ended<S::Snapshot>, S::Fault>
         ensures id { self.new.id ≡ self.old.id }
+        ensures heard { IfOk result (HasHeard message.now (sent_at self.old.sendings message.now.sender) engine.old.leader engine.new.leader) }
         ensures well { S.is_well storage.old → OnOk result (S.is_well storage.new) }
         ensures ok { (y : Snapshot) (s : GroupState) → Brings S.stands message.now.body y
             → IsDown (S.is_well storage.old) (S.shows storage.old group) self.old s.stored → self.old.moment ≡ s.now → IsIdle self.old.id engine.old s → IsLawful self.old.id s
@@ -221,7 +233,8 @@ impl Member {
     /// A message comes at this moment, in ticks (own); one before the last one counts as the last
     /// one. It may stop after so many storing commands, unless it is refused. At a fault of the
     /// storage, or without memory, the member is down: some of the storing commands are done, from
-    /// the first on, and the one that failed is or isn't. Other groups are as they were.
+    /// the first on, and the one that failed is or isn't. Other groups are as they were. An answer that
+    /// isn't refused moves the leader's clock for its sender up to when the request left.
     pub fn receive<S: GroupStorage>(
         &mut self,
         alloc: Global,
@@ -232,6 +245,8 @@ impl Member {
         group: u64,
     ) -> Result<Ended<S::Snapshot>, S::Fault>
         ensures id { self.new.id ≡ self.old.id }
+        ensures heard { (e e' : Running) → self.old.engine ≡ Some e → self.new.engine ≡ Some e'
+            → IfOk result (HasHeard message.now (sent_at self.old.sendings message.now.sender) e.leader e'.leader) }
         ensures well { S.is_well storage.old → OnOk result (S.is_well storage.new) }
         ensures ok { (m : Said) (s : GroupState) → Says S.stands message.now m → IsUp (S.is_well storage.old) (S.shows storage.old group) self.old s → IsLawful self.old.id s
             → IfOk result (HasEnded S.stands (S.is_well storage.new) (S.shows storage.new group) self.old.id s (Receive message.now.sender m now) stop self.new) }

@@ -14,7 +14,7 @@ ghost use Rattle.raft_known_state.specs.KnownState.{IsPlaced, meta_of};
 ghost use Rattle.raft_messages.specs.Memberships.{logged_or_none};
 ghost use Rattle.raft_laws.specs.Opened.{opened};
 ghost use Rattle.raft_member.specs.Member.{HasEnded, HasStopped, IsDown};
-ghost use Rattle.raft_member.specs.Opening.{HasOpened, IsFresh, IsOpenable, stale_end};
+ghost use Rattle.raft_member.specs.Opening.{HasStarted, IsFresh, IsOpenable, stale_end};
 ghost use Rattle.raft_member.specs.Running.{HasHalted, HasRun};
 ghost use Rattle.raft_member.specs.declared.member.Ended.TheVariants.{Skipped};
 
@@ -91,20 +91,18 @@ fn snapshot_last(loaded: &LoadedGroup) -> Option<LogId<u64>>
     }
 }
 
-// The engine of what is stored: what the snapshot has is committed.
+// The engine of what is stored, as it has started.
 fn opened_engine(
     alloc: Global,
     id: u64,
     loaded: &LoadedGroup,
 ) -> Result<Option<Engine<ByteGroup>>, AllocError>
-    ensures { (st : Stored) → IsLoaded loaded.now (opened st).state.stored → IsOpenable id st → IfOk result (HasOpened id (opened st).state) }
+    ensures { (x : Snapshot) (st : Stored) → IsLoaded loaded.now (opened st).state.stored → IsOpenable id st → IfOk result (HasStarted x id (opened st).state) }
 {
     let Some(known) = known_state(alloc, loaded)? else {
         return Ok(None);
     };
-    let mut engine = Engine::of_node(alloc, known, id);
-    engine.state.commit(snapshot_last(loaded))?;
-    Ok(Some(engine))
+    Ok(Some(Engine::open(alloc, known, id)?))
 }
 
 // How many places stand above the purge point and below the place; none where that is purged.
@@ -176,7 +174,6 @@ impl Member {
         let Some(mut engine) = opened_engine(alloc, self.id, loaded)? else {
             return Ok(Ended::Skipped);
         };
-        engine.startup()?;
         let ended = self.end_without_snapshot(alloc, &mut engine, 0, stop, storage, group)?;
         self.put_back(engine, &ended);
         Ok(ended)

@@ -1,5 +1,5 @@
 -- What a group answered is how its event ended at the node.
-use Rattle.std.proofs.Common.{◌≡◌, ◌+◌, ◌++◌, ℕ, List, [], ◌∷◌, Option, Some, None, Result, Ok, Err, refl, sym, ap, subst, ◌∙◌, true}
+use Rattle.std.proofs.Common.{◌≡◌, ◌+◌, ◌++◌, ℕ, List, [], ◌∷◌, Option, Some, None, Result, Ok, Err, refl, sym, ap, subst, ◌∙◌}
 use Rattle.std.specs.List.{AllZip}
 use Rattle.raft_conditions.specs.Reason.{reason_of}
 use Rattle.raft_conditions.specs.declared.refusal.Refusal.{Refusal}
@@ -22,7 +22,6 @@ use Rattle.raft_member.specs.declared.member.Broken.TheVariants as broken
 use Rattle.raft_member.specs.declared.member.Ended.{Ended}
 use Rattle.raft_member.specs.declared.member.Ended.TheVariants as ended
 use Rattle.raft_groups.specs.Standing.{HasMember}
-use Rattle.raft_groups.specs.declared.fault.GroupsFault.{GroupsFault}
 use Rattle.raft_groups.specs.declared.fault.GroupsFault.TheVariants as groups_fault
 use Rattle.raft_applier.specs.Following.{IsStep, with_brought}
 use Rattle.raft_framed_groups.specs.Answers.{IsOutcomeOf, Stands}
@@ -40,14 +39,14 @@ use Rattle.raft_node_faults.specs.declared.fault.Cause.{Cause}
 use Rattle.raft_node_faults.specs.declared.fault.Cause.TheVariants as cause
 use Rattle.raft_node_faults.specs.declared.fault.Fault.{Fault}
 use Rattle.raft_node_faults.specs.declared.fault.Fault.TheVariants as fault
-use Rattle.raft_node_faults.specs.declared.fault.UnknownTokens.{UnknownTokens}
-use Rattle.raft_node.specs.Ending.{AreFramed, HasEnded, HasStopped, IsBroken, IsCausedBy, IsRefused, IsUnjudged}
+use Rattle.raft_machines.specs.declared.telling.UnknownTokens.{UnknownTokens}
+use Rattle.raft_node.specs.Ending.{AreFramed, HasEnded, HasStopped, IsBroken, IsCausedBy, IsRefused}
 use Rattle.raft_node.specs.Running.{Running, RunsAt}
-use Rattle.raft_node.specs.Settling.{FollowsTo, IsAnswerFault, IsAnswered, IsBehind, IsGroupsFault, IsStoppedBy, IsTold, cause_of_unsent}
+use Rattle.raft_node.specs.Settling.{FollowsTo, IsAnswered, IsBehind, IsStoppedBy, IsTold, cause_of_unsent}
 use Rattle.raft_node.specs.Standing.{IsAt, NodeValue}
 use Rattle.raft_node.specs.Waiting.{named_of, waiting_of}
 use Rattle.raft_node.specs.declared.outcome.Outcome.{Outcome}
-use Rattle.raft_node.proofs.Faults.{left_before, left_behind, stop_ends}
+use Rattle.raft_node.proofs.Faults.{left_behind, stop_ends}
 
 -- who waits at a machine that has run all that is applied there
 pub waits : (rules : MachineRules) (r : Option Running) (s : GroupState) → RunsAt rules r s → waiting_of r ≡ s.untold

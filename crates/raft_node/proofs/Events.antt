@@ -1,5 +1,5 @@
 -- An event of a group at its node, put together of what the groups did and of what the node made of it.
-use Rattle.std.proofs.Common.{◌≡◌, ◌⊎◌, inl, inr, ◌++◌, ℕ, Bool, true, false, List, [], ◌∷◌, Option, Some, None, Result, Ok, Err, refl, sym, ap, subst, ◌∙◌}
+use Rattle.std.proofs.Common.{◌≡◌, inl, inr, ◌++◌, ℕ, Bool, true, false, List, [], ◌∷◌, Option, None, Result, Ok, Err, refl, sym, ap, subst, ◌∙◌}
 use Rattle.std.proofs.lemmas.List.{append-nil}
 use Rattle.raft_group_step.specs.GroupEvent.{Call, GroupCall, GroupEvent, Receive}
 use Rattle.raft_group_step.specs.Message.{Message as Said}
@@ -32,7 +32,7 @@ use Rattle.raft_node.specs.Ending.{FailsBy, GoesOn, HasEnded, NamesElse, StaysEl
 use Rattle.raft_node.specs.Running.{Running, RunsAt}
 use Rattle.raft_node.specs.Settling.{IsAnswerFault, IsAnswered, IsPassedOn, IsStoppedBy, IsTold, NamesAll, waits_in}
 use Rattle.raft_node.specs.Standing.{NodeValue}
-use Rattle.raft_node.specs.Waiting.{named_of, waiting_of}
+use Rattle.raft_node.specs.Waiting.{waiting_of}
 use Rattle.raft_node.specs.declared.outcome.Outcome.{Outcome}
 use Rattle.raft_node.proofs.Ends.{met_ends, unsent_ends, unsent_of}
 use Rattle.raft_group_storage.specs.Keeping.{ShowsMore}

@@ -1,5 +1,5 @@
 -- A fault that is told leaves the other groups; and a stop ends its event.
-use Rattle.std.proofs.Common.{◌≡◌, ◌+◌, ◌++◌, ℕ, List, [], ◌∷◌, Some, None, Ok, Err, refl, sym, ap, subst, ◌∙◌, inl, inr, length, Option}
+use Rattle.std.proofs.Common.{◌≡◌, ◌+◌, ℕ, List, [], ◌∷◌, Err, sym, ap, subst, ◌∙◌, inl, inr, length, Option}
 use Rattle.std.proofs.Math.Seq.{take-length}
 use Rattle.raft_group_step.specs.GroupEvent.{GroupEvent}
 use Rattle.raft_group_step.specs.GroupState.{GroupState}
@@ -15,12 +15,12 @@ use Rattle.raft_machines.specs.Machine.{MachineRules}
 use Rattle.raft_node_faults.specs.declared.fault.Cause.{Cause}
 use Rattle.raft_node_faults.specs.declared.fault.Fault.{Fault}
 use Rattle.raft_node_faults.specs.declared.fault.Fault.TheVariants as fault
-use Rattle.raft_node_faults.specs.declared.fault.UnknownTokens.{UnknownTokens}
-use Rattle.raft_node.specs.Ending.{FailsBy, GoesOn, HasEnded, HasStopped, IsLeft, NamesElse, StaysElse}
+use Rattle.raft_machines.specs.declared.telling.UnknownTokens.{UnknownTokens}
+use Rattle.raft_node.specs.Ending.{GoesOn, HasEnded, HasStopped, IsLeft, NamesElse, StaysElse}
 use Rattle.raft_node.specs.Running.{Running}
 use Rattle.raft_node.specs.Settling.{IsStoppedBy, IsTold, NamesAll}
 use Rattle.raft_node.specs.Standing.{NodeValue}
-use Rattle.raft_node.specs.Waiting.{AreNamed, named_of, waiting_of}
+use Rattle.raft_node.specs.Waiting.{named_of, waiting_of}
 use Rattle.raft_node.specs.declared.outcome.Outcome.{Outcome}
 
 -- where a member and what is shown of its group stay, the node stands as before

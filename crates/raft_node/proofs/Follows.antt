@@ -1,11 +1,11 @@
 -- A machine follows its group's member.
-use Rattle.std.proofs.Common.{◌≡◌, ℕ, Bool, true, false, Option, Some, None, Result, Ok, Err, IfOk, IfSome, IsSomeAnd, List, OnErr, OnOk, is_some, refl, sym, ap, subst, ◌∙◌}
+use Rattle.std.proofs.Common.{◌≡◌, ℕ, true, false, Option, Some, None, Result, Ok, Err, IfOk, IfSome, IsSomeAnd, List, OnErr, OnOk, is_some, refl, sym, ap, subst, ◌∙◌}
 use Rattle.std.specs.Prelude.{option_map}
 use Rattle.raft_group_step.specs.GroupEvent.{GroupEvent}
 use Rattle.raft_group_step.specs.GroupState.{GroupState}
 use Rattle.raft_group_step.specs.GroupStep.{group_step}
 use Rattle.raft_group_storage.specs.Keeping.{KeepsAll}
-use Rattle.raft_laws.specs.GroupWorld.{NodeState, Up}
+use Rattle.raft_laws.specs.GroupWorld.{Up}
 use Rattle.raft_laws.proofs.BallotAgreement.{same_some}
 use Rattle.raft_member.specs.Member.{IsUp}
 use Rattle.raft_member.specs.declared.member.Member.{Member}
@@ -14,7 +14,6 @@ use Rattle.raft_applier.specs.Following.{IsStep}
 use Rattle.raft_applier.specs.declared.applied.Progress.{Progress}
 use Rattle.raft_framed_groups.specs.Answers.{Stands}
 use Rattle.raft_machines.specs.Machine.{MachineRules}
-use Rattle.raft_node_faults.specs.declared.fault.Fault.{Fault}
 use Rattle.raft_node_faults.specs.declared.fault.Fault.TheVariants as fault
 use Rattle.raft_node.specs.Ending.{StaysElse}
 use Rattle.raft_machines.specs.declared.machine.StateMachine.{Ghosts}

@@ -5,3 +5,6 @@ pub mod Events
 pub mod Follows
 pub mod Stops
 pub mod Tokens
+pub mod Openings
+pub mod OpeningSteps
+pub mod Feeds

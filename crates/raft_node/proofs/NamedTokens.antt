@@ -1,5 +1,5 @@
 -- Tokens that were named in the order of their groups are those of each group.
-use Rattle.std.proofs.Common.{◌≡◌, ◌≢◌, ◌<◌, ◌==◌, ℕ, ◌++◌, if◌then◌else◌, List, [], ◌∷◌, map, Option, Some, None, refl, sym, ap, subst, ◌∙◌, true, false, Bool, append_assoc, arith, option_map}
+use Rattle.std.proofs.Common.{◌≡◌, ◌≢◌, ◌<◌, ◌==◌, ℕ, ◌++◌, if◌then◌else◌, List, [], ◌∷◌, refl, sym, ap, subst, ◌∙◌, true, false, append_assoc, arith, option_map}
 use Rattle.std.proofs.lemmas.Bool.{eq-eqb, ne_eqb}
 use Rattle.std.proofs.lemmas.Cmp.{ranked}
 use Rattle.std.proofs.lemmas.List.{append-nil, map-append}
@@ -15,7 +15,7 @@ use Rattle.raft_machines.specs.Telling.{untold_of}
 use Rattle.raft_node.specs.Running.{running_of}
 use Rattle.raft_group_step.specs.GroupState.{Untold}
 use Rattle.raft_machines.specs.declared.telling.Untold.{Untold as AnUntold}
-use Rattle.raft_node_faults.specs.declared.fault.UnknownTokens.{UnknownTokens}
+use Rattle.raft_machines.specs.declared.telling.UnknownTokens.{UnknownTokens}
 use Rattle.raft_node.specs.Waiting.{Tokens, named_in, named_of, of_group, one_more, waiting_in, waiting_of}
 
 module _ {M : Type 0} (state : M → List ℕ) where

@@ -1,7 +1,6 @@
 -- A stop for want of memory before a group is asked.
-use Rattle.std.proofs.Common.{◌≡◌, ◌++◌, ◌==◌, ℕ, Bool, true, false, if◌then◌else◌, List, [], ◌∷◌, Option, Some, None, Ok, Err, refl, sym, ap, subst, ◌∙◌}
+use Rattle.std.proofs.Common.{◌≡◌, ℕ, Bool, true, if◌then◌else◌, List, [], ◌∷◌, Option, Some, None, Err, refl, sym, ap, subst, ◌∙◌}
 use Rattle.std.proofs.lemmas.Bool.{eq-eqb, ne_eqb}
-use Rattle.std.proofs.lemmas.List.{append-nil}
 use Rattle.raft_group_step.specs.GroupEvent.{GroupEvent}
 use Rattle.raft_group_step.specs.GroupState.{GroupState, Untold}
 use Rattle.raft_group_step.specs.StoredGroup.{Snapshot}
@@ -13,12 +12,12 @@ use Rattle.raft_machines.specs.declared.telling.Untold.{Untold as AnUntold}
 use Rattle.raft_node_faults.specs.declared.fault.Cause.{Cause}
 use Rattle.raft_node_faults.specs.declared.fault.Fault.{Fault}
 use Rattle.raft_node_faults.specs.declared.fault.Fault.TheVariants as fault
-use Rattle.raft_node_faults.specs.declared.fault.UnknownTokens.{UnknownTokens}
+use Rattle.raft_machines.specs.declared.telling.UnknownTokens.{UnknownTokens}
 use Rattle.raft_node.specs.Ending.{GoesOn, HasEnded, HasStopped, NamesElse, StaysElse, FailsBy}
 use Rattle.raft_node.specs.Running.{RunsAt}
 use Rattle.raft_node.specs.Settling.{IsStopFor}
 use Rattle.raft_node.specs.Standing.{NodeValue, one_more_in, running_in}
-use Rattle.raft_node.specs.Waiting.{named_of, one_more, waiting_of}
+use Rattle.raft_node.specs.Waiting.{named_of, waiting_of}
 use Rattle.raft_node.specs.declared.machines.Machines.{Machines}
 use Rattle.raft_node.specs.declared.outcome.Outcome.{Outcome}
 

@@ -1,21 +1,18 @@
 -- A call that brings a token.
-use Rattle.std.proofs.Common.{◌≡◌, ◌++◌, ℕ, Bool, true, false, List, [], ◌∷◌, Option, Some, None, Result, Ok, Err, OnOk, refl, sym, ap, subst, ◌∙◌}
+use Rattle.std.proofs.Common.{◌≡◌, true, false, Result, Ok, Err, OnOk, refl}
 use Rattle.std.specs.Prelude.{is_err}
 use Rattle.raft_group_step.specs.GroupEvent.{GroupEvent}
-use Rattle.raft_group_step.specs.GroupState.{GroupState, Untold}
+use Rattle.raft_group_step.specs.GroupState.{GroupState}
 use Rattle.raft_member.specs.declared.member.Broken.TheVariants as broken
 use Rattle.raft_groups.specs.declared.fault.GroupsFault.TheVariants as groups_fault
 use Rattle.raft_applier.specs.Following.{with_brought}
-use Rattle.raft_step_laws.specs.Tokens.{brought}
 use Rattle.raft_framed_groups.specs.Answers.{IsTurnedAway}
 use Rattle.raft_framed_groups.specs.declared.answering.AnswerError.{AnswerError}
 use Rattle.raft_framed_groups.specs.declared.answering.AnswerError.TheVariants as error
 use Rattle.raft_framed_groups.specs.declared.answering.Outcome.{Outcome as Framed}
 use Rattle.raft_framed_groups.specs.declared.answering.Outcome.TheVariants as framed
-use Rattle.raft_machines.specs.Machine.{MachineRules}
 use Rattle.raft_node_faults.specs.declared.fault.Fault.{Fault}
 use Rattle.raft_node.specs.Asking.{is_not_begun}
-use Rattle.raft_node.specs.Running.{Running, RunsAt}
 use Rattle.raft_node.specs.Settling.{IsPassedOn, waits_in}
 use Rattle.raft_node.specs.declared.outcome.Outcome.{Outcome}
 

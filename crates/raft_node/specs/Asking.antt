@@ -1,8 +1,9 @@
 -- What is known of a call before its group is asked, and behind it.
 use Rattle.std.specs.Prelude.{◌≡◌, ℕ, Bool, true, false, Option, Some, None, Result, Ok, Err}
 use Rattle.raft_conditions.specs.Reason.{reason_of}
-use Rattle.raft_group_step.specs.GroupEvent.{GroupEvent}
+use Rattle.raft_group_step.specs.GroupEvent.{GroupCall, GroupEvent}
 use Rattle.raft_group_step.specs.GroupState.{GroupState}
+use Rattle.raft_group_step.specs.declared.group_call.GroupCall.TheVariants.{Initialize}
 use Rattle.raft_group_step.specs.Refusal.{refusal_of}
 use Rattle.raft_group_step.specs.StoredGroup.{end_place}
 use Rattle.raft_member.specs.declared.member.Broken.TheVariants as broken
@@ -12,6 +13,7 @@ use Rattle.raft_framed_groups.specs.declared.answering.AnswerError.{AnswerError}
 use Rattle.raft_framed_groups.specs.declared.answering.AnswerError.TheVariants as error
 use Rattle.raft_framed_groups.specs.declared.answering.Outcome.{Outcome as Framed}
 use Rattle.raft_framed_groups.specs.declared.answering.Outcome.TheVariants as framed
+use Rattle.raft_machines.specs.MembershipFault.{membership_fault_of}
 use Rattle.raft_machines.specs.declared.fault.MembershipFault.{MembershipFault}
 use Rattle.raft_node_faults.specs.declared.fault.Fault.{Fault}
 use Rattle.raft_node_faults.specs.declared.fault.Fault.TheVariants as fault
@@ -48,3 +50,13 @@ without_why (Err other) = Err other
 abbrev pub HasWhy : {F : Type 0} → Option MembershipFault → Fault F → Type 0
 HasWhy known (fault.Membership why) = why ≡ known
 HasWhy known other = Unit {0}
+
+-- the answer to the call, but for why a set-up's membership is refused
+abbrev pub without_its_why : {T F : Type 0} → GroupCall → Result T (Fault F) → Result T (Fault F)
+without_its_why (Initialize membership) result = without_why result
+without_its_why call result = result
+
+-- a set-up's membership is refused for what is wrong with it
+abbrev pub HasItsWhy : {F : Type 0} → GroupCall → Fault F → Type 0
+HasItsWhy (Initialize membership) why = HasWhy (membership_fault_of membership) why
+HasItsWhy call why = Unit {0}

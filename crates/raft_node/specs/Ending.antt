@@ -9,7 +9,7 @@ use Rattle.raft_group_step.specs.GroupStep.{group_step}
 use Rattle.raft_group_step.specs.Message.{Message as Said}
 use Rattle.raft_group_step.specs.Refusal.{refusal_of}
 use Rattle.raft_group_step.specs.StoredGroup.{Snapshot}
-use Rattle.raft_group_storage.specs.Keeping.{KeepsOthers}
+use Rattle.raft_group_storage.specs.Keeping.{KeepsOthers, Shows}
 use Rattle.raft_messages.specs.declared.memberships.SnapshotBytes.{SnapshotBytes}
 use Rattle.raft_messages.specs.declared.message.Message.{Message as Sent}
 use Rattle.raft_executor.specs.Said.{SaysAll}
@@ -29,9 +29,10 @@ use Rattle.raft_node_faults.specs.declared.fault.Cause.{Cause}
 use Rattle.raft_node_faults.specs.declared.fault.Cause.TheVariants as cause
 use Rattle.raft_node_faults.specs.declared.fault.Fault.{Fault}
 use Rattle.raft_node_faults.specs.declared.fault.Fault.TheVariants as fault
-use Rattle.raft_node_faults.specs.declared.fault.UnknownTokens.{UnknownTokens}
+use Rattle.raft_machines.specs.declared.telling.UnknownTokens.{UnknownTokens}
+use Rattle.raft_node.specs.Running.{Running}
 use Rattle.raft_node.specs.Standing.{IsAt, NodeValue}
-use Rattle.raft_node.specs.Waiting.{named_of, waiting_of}
+use Rattle.raft_node.specs.Waiting.{AreNamed, named_of, waiting_of}
 use Rattle.raft_node.specs.declared.outcome.Outcome.{Outcome}
 
 -- frames say these messages, in their order
@@ -57,12 +58,14 @@ pub record IsRefused {F : Type 0} (rules : MachineRules) (n : NodeValue) (group 
 
 -- ---- a stop
 
--- the event's storing commands are done from the first on, and the next one is or isn't
+-- the event's storing commands are done from the first on, and the next one is or isn't: so a storage shows it
+abbrev pub IsShownLeft : Shows → ℕ → ℕ → GroupState → GroupEvent → Type 0
+IsShownLeft shows own group s e =
+    (number : ℕ) × shows group (stopped_after number s.stored (group_step own s e) ∷ stopped_after (number + 1) s.stored (group_step own s e) ∷ [])
+
+-- and so the node's does
 abbrev pub IsLeft : NodeValue → ℕ → GroupState → GroupEvent → Type 0
-IsLeft n group s e =
-    (number : ℕ)
-    × n.groups.shows group
-    (stopped_after number s.stored (group_step n.groups.own s e) ∷ stopped_after (number + 1) s.stored (group_step n.groups.own s e) ∷ [])
+IsLeft n group s e = IsShownLeft n.groups.shows n.groups.own group s e
 
 -- where a frame is the cause, one of the messages has none
 abbrev pub IsCausedBy : {F : Type 0} → (SnapshotBytes → Snapshot → Type 0) → ℕ → List Said → Cause F → Type 0
@@ -77,7 +80,8 @@ pub record IsUnjudged (n : NodeValue) (group : ℕ) (s : GroupState) (unknown : 
   pub named : named_of unknown group ≡ s.untold
 
 -- the event isn't refused, and it stopped: the tokens that waited are named, and the one that it brought
-pub record IsBroken {F : Type 0} (stands : SnapshotBytes → Snapshot → Type 0) (n : NodeValue) (group : ℕ) (s : GroupState) (e : GroupEvent) (why : Cause F) (unknown : List UnknownTokens) : Type 0 where
+pub record IsBroken {F : Type 0} (stands : SnapshotBytes → Snapshot → Type 0)
+    (n : NodeValue) (group : ℕ) (s : GroupState) (e : GroupEvent) (why : Cause F) (unknown : List UnknownTokens) : Type 0 where
   pub taken : refusal_of n.groups.own s e ≡ None
   pub left : IsLeft n group s e
   pub named : named_of unknown group ≡ s.untold ++ brought s e
@@ -128,6 +132,23 @@ NamesElse old group (Ok o) = Unit {0}
 NamesElse old group (Err (fault.Stopped why unknown)) = (other : ℕ) → (other ≡ group → ⊥) → named_of unknown.items other ≡ waiting_of (old.running other)
 NamesElse old group (Err why) = Unit {0}
 
+-- a stop names all tokens that waited
+abbrev pub NamesWaiting : {T F : Type 0} → (ℕ → Option Running) → Result T (Fault F) → Type 0
+NamesWaiting running (Ok o) = Unit {0}
+NamesWaiting running (Err (fault.Stopped why unknown)) = AreNamed running unknown.items
+NamesWaiting running (Err why) = Unit {0}
+
+-- it is refused, and the node goes on
+abbrev pub IsTurnedDown : {T F : Type 0} → Result T (Fault F) → Type 0
+IsTurnedDown (Ok o) = ⊥
+IsTurnedDown (Err (fault.Stopped why unknown)) = ⊥
+IsTurnedDown (Err why) = Unit {0}
+
+-- every group stays, with its machine and its tokens
+pub record StaysAll (old new : NodeValue) : Type 0 where
+  pub members : (group : ℕ) (x : NodeState) → Stands old.groups group x → Stands new.groups group x
+  pub running : (group : ℕ) → new.running group ≡ old.running group
+
 -- the other groups stay, members, machines and tokens, and so does what is stored of them; peers' streams stay too
 pub record StaysElse {T F : Type 0} (old new : NodeValue) (group : ℕ) (result : Result T (Fault F)) : Type 0 where
   pub own : new.groups.own ≡ old.groups.own
@@ -139,7 +160,8 @@ pub record StaysElse {T F : Type 0} (old new : NodeValue) (group : ℕ) (result 
   pub fails : FailsBy old.groups.has_failed result new.groups.has_failed
 
 -- an event of a group at a node. A node that has failed and a group that isn't there refuse it, and all is as it was
-pub record IsEvent {F : Type 0} (rules : MachineRules) (stands : SnapshotBytes → Snapshot → Type 0) (same : Type 0) (old new : NodeValue) (group : ℕ) (e : GroupEvent) (result : Result Outcome (Fault F)) : Type 0 where
+pub record IsEvent {F : Type 0} (rules : MachineRules) (stands : SnapshotBytes → Snapshot → Type 0) (same : Type 0)
+    (old new : NodeValue) (group : ℕ) (e : GroupEvent) (result : Result Outcome (Fault F)) : Type 0 where
   pub leads : Leads rules stands old new group e result
   pub elsewhere : StaysElse old new group result
   pub failed : old.groups.has_failed ≡ true → (result ≡ Err fault.Failed) × same

@@ -6,3 +6,5 @@ pub mod Settling
 pub mod Asking
 pub mod Adding
 pub mod Feeding
+pub mod Opening
+pub mod Reading

@@ -1,5 +1,5 @@
 -- What a group's answer becomes at its node, and what is asked of the node for that.
-use Rattle.std.specs.Prelude.{◌≡◌, ◌++◌, ℕ, true, List, Option, Some, None, Result, Ok, Err}
+use Rattle.std.specs.Prelude.{◌≡◌, ℕ, true, List, Option, Result, Ok, Err}
 use Rattle.raft_group_step.specs.GroupEvent.{GroupEvent}
 use Rattle.raft_group_step.specs.GroupState.{GroupState, Untold}
 use Rattle.raft_group_step.specs.GroupStep.{group_step}
@@ -126,7 +126,8 @@ IsTakenByGroup stands n group s e answered =
     IsTakenOr (λ met member. HasBrokenOff n.groups.is_well (n.groups.shows group) n.groups.own s e member met) stands n.groups group s e answered
 
 -- the group has answered an event that came to it in this state, and its machine stands where it stood before
-pub record IsAnswered {F : Type 0} (rules : MachineRules) (stands : SnapshotBytes → Snapshot → Type 0) (n : NodeValue) (group : ℕ) (s : GroupState) (e : GroupEvent) (answered : Result Framed (AnswerError F)) : Type 0 where
+pub record IsAnswered {F : Type 0} (rules : MachineRules) (stands : SnapshotBytes → Snapshot → Type 0)
+    (n : NodeValue) (group : ℕ) (s : GroupState) (e : GroupEvent) (answered : Result Framed (AnswerError F)) : Type 0 where
   pub taken : IsTakenByGroup stands n group s e answered
   pub runs : RunsAt rules (n.running group) (waits_in s e answered)
 

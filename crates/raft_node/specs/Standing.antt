@@ -1,5 +1,5 @@
 -- What a node is in a group: its member and what is stored, and what its machine has run.
-use Rattle.std.specs.Prelude.{◌≡◌, ℕ, List, [], Option, Some, None}
+use Rattle.std.specs.Prelude.{ℕ, List, [], Option, Some, None}
 use Rattle.std.specs.Ordering.{nat_cmp}
 use Rattle.std.specs.BTreeMap.{get}
 use Rattle.raft_group_step.specs.StoredGroup.{StoredGroup}

@@ -5,7 +5,7 @@ use Rattle.raft_machines.specs.Telling.{untold_of}
 use Rattle.raft_machines.specs.declared.telling.Untold.{Untold as AnUntold}
 use Rattle.raft_applier.specs.declared.applier.Applier.{Applier}
 use Rattle.raft_node.specs.Running.{Running}
-use Rattle.raft_node_faults.specs.declared.fault.UnknownTokens.{UnknownTokens}
+use Rattle.raft_machines.specs.declared.telling.UnknownTokens.{UnknownTokens}
 
 -- tokens of a group
 abbrev pub Tokens : Type 0

@@ -9,11 +9,13 @@ ghost use Rattle.raft_group_step.specs.declared.group_call.GroupCall.TheVariants
 ghost use Rattle.raft_machines.specs.MembershipFault.{membership_fault_of};
 ghost use Rattle.raft_laws.specs.GroupWorld.{Absent};
 ghost use Rattle.raft_framed_groups.specs.Answers.{Stands};
+ghost use Rattle.raft_node_faults.specs.declared.fault.Cause.TheVariants.{Memory};
 ghost use Rattle.raft_node_faults.specs.declared.fault.Fault.TheVariants.{Failed, GroupExists};
 ghost use Rattle.raft_node.specs.Adding.{IsAdded, IsRefusedOrStops};
-ghost use Rattle.raft_node.specs.Asking.{HasWhy, without_why};
-ghost use Rattle.raft_node.specs.Ending.{IsEvent, StaysElse};
+ghost use Rattle.raft_node.specs.Asking.{HasItsWhy, HasWhy, without_its_why, without_why};
+ghost use Rattle.raft_node.specs.Ending.{IsEvent, IsTurnedDown, NamesWaiting, StaysAll, StaysElse};
 ghost use Rattle.raft_node.specs.Running.{RunsAt};
+ghost use Rattle.raft_node.specs.Settling.{IsStoppedBy, IsTold};
 ghost use Rattle.raft_node.specs.Standing.{running_in, value_of};
 
 use crate::node::Node;
@@ -51,6 +53,9 @@ impl<M: StateMachine, S: GroupStorage<Snapshot = SnapshotBytes>> Node<M, S> {
             → S.is_well self.old.groups.storage → S.shows self.old.groups.storage group (st ∷ []) → st.present ≡ true → IsRefusedOrStops GroupExists result }
         ensures added { self.old.groups.has_failed ≡ false → Stands (value_of M.state S.is_well S.shows self.old).groups group Absent
             → IsAdded M.rules S.stands (value_of M.state S.is_well S.shows self.new) group result }
+        ensures elsewhere { StaysElse (value_of M.state S.is_well S.shows self.old) (value_of M.state S.is_well S.shows self.new) group result }
+        ensures refused { IsTurnedDown result → StaysAll (value_of M.state S.is_well S.shows self.old) (value_of M.state S.is_well S.shows self.new) }
+        ensures names { NamesWaiting (value_of M.state S.is_well S.shows self.old).running result }
     {
         if let Err(fault) = self.groups.add_group(group) {
             return Err(self.groups_fault(fault));
@@ -67,7 +72,11 @@ impl<M: StateMachine, S: GroupStorage<Snapshot = SnapshotBytes>> Node<M, S> {
         group: u64,
         call: &GroupCommand,
         now: u64,
-    ) -> Result<Outcome, Fault<S::Fault>> {
+    ) -> Result<Outcome, Fault<S::Fault>>
+        ensures event { IsEvent M.rules S.stands (self.new ≡ self.old) (value_of M.state S.is_well S.shows self.old)
+            (value_of M.state S.is_well S.shows self.new) group (Call call.now now) (without_its_why call.now result) }
+        ensures why { IfErr result (HasItsWhy call.now) }
+    {
         match call {
             GroupCall::Propose { token, .. } | GroupCall::ChangeMembership { token, .. } => {
                 self.ask_with_token(group, call, *token, now)
@@ -84,7 +93,10 @@ impl<M: StateMachine, S: GroupStorage<Snapshot = SnapshotBytes>> Node<M, S> {
     }
 
     /// The node stops for want of memory outside of it (own): all tokens that wait stay unknown.
-    pub fn fail(&mut self) -> Fault<S::Fault> {
+    pub fn fail(&mut self) -> Fault<S::Fault>
+        ensures why { IsStoppedBy Memory result }
+        ensures told { IsTold ⊥ (value_of M.state S.is_well S.shows self.old) (value_of M.state S.is_well S.shows self.new) result }
+    {
         self.stop(Cause::Memory)
     }
 

@@ -1,12 +1,15 @@
 //! Pieces of the peers' streams.
-ghost use Rattle.std.specs.Prelude.{◌≡◌, ◌≤◌, ℕ, Err, OnErr, OnOk, None, length, is_some, true};
+ghost use Rattle.std.specs.Prelude.{◌≡◌, ◌≤◌, ◌<◌, ◌++◌, [], ℕ, List, Err, IfOk, IfSome, OnErr, OnOk, None, Some, length, is_some, true, false, vec_len, vec_capacity};
 ghost use Rattle.std.specs.Ordering.{nat_cmp};
 ghost use Rattle.std.specs.BTreeMap.{get};
-ghost use Rattle.raft_wire.specs.Stream.{FeederValue, fresh};
+ghost use Rattle.raft_wire.specs.Frames.{FitsFrame, spelled_frame};
+ghost use Rattle.raft_wire.specs.Stream.{Answers, IsSpelledSo, front, fresh};
+ghost use Rattle.raft_wire.specs.declared.frame.Frame.{Frame as Spoken};
 ghost use Rattle.raft_node_faults.specs.declared.fault.Fault.TheVariants.{Failed};
-ghost use Rattle.raft_node.specs.Feeding.{IsFrame, TakesNext};
+ghost use Rattle.raft_node.specs.Feeding.{FeedsPart, FeedsTo, FeedsWhole, IsFrame, TakesNext, so_far};
 ghost use Rattle.raft_node.specs.Standing.{feeding_of, value_of};
 
+use crate::naming::with_one;
 use crate::node::Node;
 use crate::outcome::{Fed, Outcome};
 use raft_framed_groups::receive_frame;
@@ -36,6 +39,43 @@ fn open_stream(
     }
 }
 
+// There is room for the peer's stream, and for what one more frame of it does.
+fn make_room(
+    alloc: Global,
+    feeders: &mut BTreeMap<u64, Feeder>,
+    outcomes: &mut Vec<Outcome>,
+    peer: u64,
+) -> Result<(), AllocError>
+    ensures there { OnOk result (is_some (get nat_cmp feeders.new peer) ≡ true) }
+    ensures same { (other : ℕ) → feeding_of (get nat_cmp feeders.new other) ≡ feeding_of (get nat_cmp feeders.old other) }
+    ensures items { outcomes.new.items ≡ outcomes.old.items }
+    ensures room { OnOk result (vec_len outcomes.new < vec_capacity outcomes.new) }
+{
+    open_stream(alloc, feeders, peer)?;
+    outcomes.reserve(1)
+}
+
+// The piece comes to the peer's stream, which is there.
+fn read_piece(feeders: &mut BTreeMap<u64, Feeder>, peer: u64, piece: &[u8]) -> Read
+    requires { is_some (get nat_cmp feeders.old peer) ≡ true }
+    ensures answers { Answers (feeding_of (get nat_cmp feeders.old peer)) piece.now result.used result.frame (feeding_of (get nat_cmp feeders.new peer)) }
+    ensures spelled { IsSpelledSo (feeding_of (get nat_cmp feeders.old peer)).held piece.now result.used result.frame }
+    ensures waited { front (feeding_of (get nat_cmp feeders.old peer)).held ≡ None }
+    ensures others { (other : ℕ) → (other ≡ peer → ⊥) → get nat_cmp feeders.new other ≡ get nat_cmp feeders.old other }
+{
+    match feeders.get_mut(&peer) {
+        Some(feeder) => {
+            // Says that no frame is whole in what is held.
+            let _room = feeder.room();
+            feeder.feed(piece)
+        }
+        None => Read {
+            used: 0,
+            frame: Ok(None),
+        },
+    }
+}
+
 // How many bytes of a piece were taken, and what they did.
 #[derive(Drop)]
 struct Step<F> {
@@ -61,31 +101,77 @@ impl<M: StateMachine, S: GroupStorage<Snapshot = SnapshotBytes>> Node<M, S> {
         peer: u64,
         piece: &[u8],
         now: u64,
-    ) -> Step<S::Fault> {
-        if open_stream(self.alloc, &mut self.feeders, peer).is_err()
-            || outcomes.reserve(1).is_err()
-        {
+    ) -> Step<S::Fault>
+        ensures next { TakesNext M.rules S.stands (value_of M.state S.is_well S.shows self.old) (value_of M.state S.is_well S.shows self.new) peer now piece.now result.used result.outcome }
+        ensures within { result.used ≤ length piece.now }
+        ensures progress { IfOk result.outcome (λ came. IfSome came (λ o. 0 < result.used)) }
+        ensures items { outcomes.new.items ≡ outcomes.old.items }
+        ensures room { OnOk result.outcome (vec_len outcomes.new < vec_capacity outcomes.new) }
+    {
+        if make_room(self.alloc, &mut self.feeders, outcomes, peer).is_err() {
             return Step {
                 used: 0,
                 outcome: Err(self.stop(Cause::Memory)),
             };
         }
-        let Some(feeder) = self.feeders.get_mut(&peer) else {
-            return Step {
-                used: 0,
+        let Read { used, frame } = read_piece(&mut self.feeders, peer, piece);
+        match frame {
+            Ok(None) => Step {
+                used,
                 outcome: Ok(None),
-            };
-        };
-        let Read { used, frame } = feeder.feed(piece);
-        let outcome = match frame {
-            Ok(None) => Ok(None),
-            Ok(Some(frame)) => match self.take_frame(peer, &frame, now) {
-                Ok(outcome) => Ok(Some(outcome)),
-                Err(fault) => Err(fault),
             },
-            Err(why) => Err(self.stream_fault(why)),
-        };
-        Step { used, outcome }
+            Ok(Some(frame)) => match self.take_frame(peer, &frame, now) {
+                Ok(outcome) => Step {
+                    used,
+                    outcome: Ok(Some(outcome)),
+                },
+                Err(fault) => Step {
+                    used,
+                    outcome: Err(fault),
+                },
+            },
+            Err(why) => Step {
+                used,
+                outcome: Err(self.stream_fault(why)),
+            },
+        }
+    }
+
+    // The frames of a piece come to their groups, at a node that hasn't failed.
+    fn feed_frames(&mut self, peer: u64, piece: &[u8], now: u64) -> Fed<S::Fault>
+        ensures { FeedsTo (value_of M.state S.is_well S.shows) M.rules S.stands peer now result.outcomes.items result.fault self.old self.new piece.now result.used }
+    {
+        let mut outcomes = Vec::new(self.alloc);
+        let mut used = 0;
+        while used < piece.len() {
+            let Step {
+                used: taken,
+                outcome,
+            } = self.feed_frame(&mut outcomes, peer, &piece[used..], now);
+            used += taken;
+            match outcome {
+                Ok(Some(outcome)) => outcomes = with_one(outcomes, outcome),
+                Ok(None) => {
+                    return Fed {
+                        outcomes,
+                        fault: None,
+                        used,
+                    };
+                }
+                Err(why) => {
+                    return Fed {
+                        outcomes,
+                        fault: Some(why),
+                        used,
+                    };
+                }
+            }
+        }
+        Fed {
+            outcomes,
+            fault: None,
+            used,
+        }
     }
 
     /// A piece of a peer's stream comes at this moment, in ticks (own). Each frame that gets whole
@@ -93,33 +179,27 @@ impl<M: StateMachine, S: GroupStorage<Snapshot = SnapshotBytes>> Node<M, S> {
     /// the rest of the piece isn't. Refused as `Failed` (11), `Frame` (15: the stream answers so until
     /// `reset_peer`), `WrongParty` (12), `UnknownGroup` (2), `NumberAtEnd` (10), `BreaksCondition` (14);
     /// behind 12, 2, 10 and 14 the stream goes on.
-    pub fn feed(&mut self, peer: u64, piece: &[u8], now: u64) -> Fed<S::Fault> {
-        let mut outcomes = Vec::new(self.alloc);
-        let mut used = 0;
-        let mut fault = None;
+    pub fn feed(&mut self, peer: u64, piece: &[u8], now: u64) -> Fed<S::Fault>
+        ensures failed { self.old.groups.has_failed ≡ true → (result.outcomes.items ≡ []) × (result.fault ≡ Some Failed) × (result.used ≡ 0) × (self.new ≡ self.old) }
+        ensures frames { self.old.groups.has_failed ≡ false
+            → FeedsTo (value_of M.state S.is_well S.shows) M.rules S.stands peer now result.outcomes.items result.fault self.old self.new piece.now result.used }
+        ensures whole { (frame : Spoken) → self.old.groups.has_failed ≡ false → (feeding_of (get nat_cmp self.old.feeders peer)).failed ≡ false → FitsFrame frame
+            → 0 < length piece.now → so_far (value_of M.state S.is_well S.shows self.old) peer piece.now ≡ spelled_frame frame
+            → FeedsWhole M.rules S.stands (value_of M.state S.is_well S.shows self.old) (value_of M.state S.is_well S.shows self.new) peer now
+            frame piece.now result.outcomes.items result.fault result.used }
+        ensures part { (frame : Spoken) (more : List ℕ) → self.old.groups.has_failed ≡ false → (feeding_of (get nat_cmp self.old.feeders peer)).failed ≡ false → FitsFrame frame
+            → 0 < length more → so_far (value_of M.state S.is_well S.shows self.old) peer piece.now ++ more ≡ spelled_frame frame
+            → FeedsPart M.rules S.stands (value_of M.state S.is_well S.shows self.old) (value_of M.state S.is_well S.shows self.new) peer now
+            piece.now result.outcomes.items result.fault result.used }
+    {
         if self.groups.has_failed {
-            fault = Some(Fault::Failed);
+            return Fed {
+                outcomes: Vec::new(self.alloc),
+                fault: Some(Fault::Failed),
+                used: 0,
+            };
         }
-        // Each frame takes a byte at least.
-        for _ in 0..piece.len() {
-            if fault.is_some() || used >= piece.len() {
-                break;
-            }
-            let step = self.feed_frame(&mut outcomes, peer, &piece[used..], now);
-            used = step.used.saturating_add(used);
-            match step.outcome {
-                Ok(Some(outcome)) => {
-                    let _ = outcomes.push(outcome);
-                }
-                Ok(None) => break,
-                Err(why) => fault = Some(why),
-            }
-        }
-        Fed {
-            outcomes,
-            fault,
-            used,
-        }
+        self.feed_frames(peer, piece, now)
     }
 
     /// The peer's stream begins anew, and what was held of it goes (own). Refused as `Failed` (11).

@@ -3,6 +3,7 @@
 
 mod asking;
 mod calls;
+mod crash;
 mod feeding;
 mod machines;
 mod naming;
@@ -15,4 +16,5 @@ mod settling;
 pub use node::Node;
 pub use opening::{NotOpened, Opened};
 pub use outcome::{Fed, Outcome};
-pub use raft_node_faults::{Cause, Fault, UnknownTokens};
+pub use raft_machines::UnknownTokens;
+pub use raft_node_faults::{Cause, Fault};

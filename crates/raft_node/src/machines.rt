@@ -5,10 +5,9 @@ ghost use Rattle.std.specs.BTreeMap.{btree_map_len};
 use crate::naming::{waiting_tokens, with_one};
 use raft_applier::{Applier, Progress};
 use raft_group_storage::GroupStorage;
-use raft_machines::{StateMachine, Untold};
+use raft_machines::{StateMachine, UnknownTokens, Untold};
 use raft_member::Member;
 use raft_messages::SnapshotBytes;
-use raft_node_faults::UnknownTokens;
 use std::alloc::{AllocError, Global};
 use std::collections::BTreeMap;
 

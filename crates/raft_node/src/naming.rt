@@ -5,8 +5,7 @@ ghost use Rattle.std.specs.BTreeMap.{IsOrdered, btree_map_len};
 ghost use Rattle.raft_node.specs.Waiting.{named_in, waiting_in};
 
 use raft_applier::Applier;
-use raft_machines::StateMachine;
-use raft_node_faults::UnknownTokens;
+use raft_machines::{StateMachine, UnknownTokens};
 use std::collections::BTreeMap;
 
 // The list with one item more, for which there is a place.

@@ -3,9 +3,9 @@ use crate::machines::Machines;
 use raft_applier::Applier;
 use raft_group_storage::GroupStorage;
 use raft_groups::Groups;
-use raft_machines::{StateMachine, Untold};
+use raft_machines::{StateMachine, UnknownTokens, Untold};
 use raft_messages::SnapshotBytes;
-use raft_node_faults::{Cause, Fault, UnknownTokens};
+use raft_node_faults::{Cause, Fault};
 use raft_wire::Feeder;
 use std::alloc::{AllocError, Global};
 use std::collections::BTreeMap;
@@ -41,6 +41,7 @@ impl<M: StateMachine, S: GroupStorage<Snapshot = SnapshotBytes>> Node<M, S> {
         ensures going { result.groups.has_failed ≡ false }
         ensures none { (group : ℕ) → get nat_cmp result.groups.members group ≡ None }
         ensures no_machines { result.machines ≡ None }
+        ensures streams { (peer : ℕ) → get nat_cmp result.feeders peer ≡ None }
     {
         Node {
             alloc,

@@ -1,4 +1,21 @@
 //! A node is opened over its storage.
+ghost use Rattle.std.specs.Prelude.{◌≡◌, [], ℕ, IfErr, IfOk, None, OnErr, OnOk, false, true};
+ghost use Rattle.std.specs.List.{AllZip};
+ghost use Rattle.std.specs.Ordering.{nat_cmp};
+ghost use Rattle.std.specs.BTreeMap.{get};
+ghost use Rattle.raft_group_step.specs.StoredGroup.{StoredGroup as Stored};
+ghost use Rattle.raft_group_step.specs.GroupEvent.{Open};
+ghost use Rattle.raft_group_step.specs.GroupState.{state_of};
+ghost use Rattle.raft_group_step.specs.GroupStep.{group_step};
+ghost use Rattle.raft_group_storage.specs.Keeping.{KeepsAll, KeepsOthers};
+ghost use Rattle.raft_laws.specs.GroupWorld.{Up};
+ghost use Rattle.raft_applier.specs.Following.{AreOfMachine, HasWholeSnapshot};
+ghost use Rattle.raft_framed_groups.specs.Answers.{Stands};
+ghost use Rattle.raft_framed_groups.specs.Frames.{IsFramed};
+ghost use Rattle.raft_wire.specs.Stream.{fresh};
+ghost use Rattle.raft_node.specs.Opening.{AreThere, HasNotOpened, HasOpened, IsBegun, IsReopened, IsUntouched, Keeps, OpensGroup, StopsNaming};
+ghost use Rattle.raft_node.specs.Settling.{IsTold};
+ghost use Rattle.raft_node.specs.Standing.{IsAt, feeding_of, running_in, value_of};
 
 use crate::machines::Machines;
 use crate::node::Node;
@@ -32,7 +49,17 @@ pub struct NotOpened<S: GroupStorage> {
 
 impl<M: StateMachine, S: GroupStorage<Snapshot = SnapshotBytes>> Node<M, S> {
     // The machine of a group that was opened goes to what is applied.
-    fn seat_opened(&mut self, group: u64) -> Result<(), S::Fault> {
+    fn seat_opened(&mut self, group: u64) -> Result<(), S::Fault>
+        ensures ok { (st : Stored) → AreOfMachine M.rules S.stands
+            → Stands (value_of M.state S.is_well S.shows self.old).groups group (Up (group_step self.old.groups.id (state_of st) Open).state)
+            → HasWholeSnapshot (group_step self.old.groups.id (state_of st) Open).state
+            → OnOk result (IsAt M.rules (value_of M.state S.is_well S.shows self.new) group (group_step self.old.groups.id (state_of st) Open).state) }
+        ensures groups { self.new.groups ≡ record self.old.groups { storage = self.new.groups.storage } }
+        ensures feeders { self.new.feeders ≡ self.old.feeders }
+        ensures kept { KeepsAll (S.shows self.old.groups.storage) (S.shows self.new.groups.storage) }
+        ensures others { (other : ℕ) → (other ≡ group → ⊥) → running_in M.state self.new.machines other ≡ running_in M.state self.old.machines other }
+        ensures err { (other : ℕ) → OnErr result (running_in M.state self.new.machines other ≡ running_in M.state self.old.machines other) }
+    {
         let Some(member) = self.groups.members.get(&group) else {
             return Ok(());
         };
@@ -46,7 +73,16 @@ impl<M: StateMachine, S: GroupStorage<Snapshot = SnapshotBytes>> Node<M, S> {
         &mut self,
         group: u64,
         messages: Vec<Message<SnapshotBytes>>,
-    ) -> Result<Outcome, Fault<S::Fault>> {
+    ) -> Result<Outcome, Fault<S::Fault>>
+        ensures group { IfOk result (λ o. o.group ≡ group) }
+        ensures frames { IfOk result (λ o. AllZip (IsFramed group) messages.items o.frames.items) }
+        ensures told { IfOk result (λ o. o.told.items ≡ []) }
+        ensures unknown { IfOk result (λ o. o.unknown.items ≡ []) }
+        ensures same { OnOk result (self.new ≡ self.old) }
+        ensures id { self.new.groups.id ≡ self.old.groups.id }
+        ensures names { IfErr result (StopsNaming (value_of M.state S.is_well S.shows self.old).running) }
+        ensures err { IfErr result (IsTold (self.new ≡ self.old) (value_of M.state S.is_well S.shows self.old) (value_of M.state S.is_well S.shows self.new)) }
+    {
         match frames_of(self.alloc, group, messages) {
             Ok(frames) => Ok(Outcome {
                 group,
@@ -59,7 +95,17 @@ impl<M: StateMachine, S: GroupStorage<Snapshot = SnapshotBytes>> Node<M, S> {
     }
 
     // A group that is stored is opened.
-    fn open_group(&mut self, group: u64) -> Result<Outcome, Fault<S::Fault>> {
+    fn open_group(&mut self, group: u64) -> Result<Outcome, Fault<S::Fault>>
+        ensures opened { (st : Stored) → AreOfMachine M.rules S.stands → self.old.groups.has_failed ≡ false → S.is_well self.old.groups.storage
+            → IsUntouched (value_of M.state S.is_well S.shows self.old) group st → st.present ≡ true → IsReopened self.old.groups.id st
+            → OpensGroup M.rules S.stands (value_of M.state S.is_well S.shows self.old) (value_of M.state S.is_well S.shows self.new) group st result }
+        ensures members { (other : ℕ) → (other ≡ group → ⊥) → get nat_cmp self.new.groups.members other ≡ get nat_cmp self.old.groups.members other }
+        ensures running { (other : ℕ) → (other ≡ group → ⊥) → OnOk result (running_in M.state self.new.machines other ≡ running_in M.state self.old.machines other) }
+        ensures kept { KeepsOthers (S.shows self.old.groups.storage) (S.shows self.new.groups.storage) group }
+        ensures id { self.new.groups.id ≡ self.old.groups.id }
+        ensures going { OnOk result (self.new.groups.has_failed ≡ self.old.groups.has_failed) }
+        ensures feeders { OnOk result (self.new.feeders ≡ self.old.feeders) }
+    {
         let messages = match self.groups.open_group(group) {
             Ok(Ended::Done(messages)) => messages,
             Ok(_) => return Err(Fault::UnknownGroup),
@@ -72,17 +118,33 @@ impl<M: StateMachine, S: GroupStorage<Snapshot = SnapshotBytes>> Node<M, S> {
     }
 
     // The node has room for its groups from now on.
-    fn make_machines(&mut self) -> Result<(), AllocError> {
+    fn make_machines(&mut self) -> Result<(), AllocError>
+        ensures none { (group : ℕ) → OnOk result (running_in M.state self.new.machines group ≡ None) }
+        ensures err { OnErr result (self.new.machines ≡ self.old.machines) }
+        ensures groups { self.new.groups ≡ self.old.groups }
+        ensures feeders { self.new.feeders ≡ self.old.feeders }
+    {
         let machines = Machines::new(self.alloc)?;
         self.machines = Some(machines);
         Ok(())
     }
 
     // The groups that are stored are opened, in the order of these ids.
-    fn open_each(&mut self, groups: &[u64]) -> Result<Vec<Outcome>, Fault<S::Fault>> {
+    fn open_each(&mut self, groups: &[u64]) -> Result<Vec<Outcome>, Fault<S::Fault>>
+        ensures opened { (kept : ℕ → Stored) → AreOfMachine M.rules S.stands → IsBegun (value_of M.state S.is_well S.shows self.old) kept → AreThere kept groups.now
+            → IfOk result (λ outcomes. HasOpened M.rules S.stands kept (value_of M.state S.is_well S.shows self.new) outcomes.items) }
+        ensures stopped { (kept : ℕ → Stored) → AreOfMachine M.rules S.stands → IsBegun (value_of M.state S.is_well S.shows self.old) kept → AreThere kept groups.now
+            → IfErr result (HasNotOpened self.old.groups.id kept (S.shows self.new.groups.storage)) }
+        ensures id { self.new.groups.id ≡ self.old.groups.id }
+        ensures going { OnOk result (self.new.groups.has_failed ≡ self.old.groups.has_failed) }
+        ensures feeders { OnOk result (self.new.feeders ≡ self.old.feeders) }
+    {
         let mut outcomes = Vec::new(self.alloc);
         for group in groups {
-            let outcome = self.open_group(*group)?;
+            let outcome = match self.open_group(*group) {
+                Ok(outcome) => outcome,
+                Err(why) => return Err(why),
+            };
             if outcomes.push(outcome).is_err() {
                 return Err(self.stop(Cause::Memory));
             }
@@ -91,7 +153,15 @@ impl<M: StateMachine, S: GroupStorage<Snapshot = SnapshotBytes>> Node<M, S> {
     }
 
     // All groups that are stored are opened, by rising id.
-    fn open_groups(&mut self) -> Result<Vec<Outcome>, Fault<S::Fault>> {
+    fn open_groups(&mut self) -> Result<Vec<Outcome>, Fault<S::Fault>>
+        ensures opened { (kept : ℕ → Stored) → AreOfMachine M.rules S.stands → IsBegun (value_of M.state S.is_well S.shows self.old) kept
+            → IfOk result (λ outcomes. HasOpened M.rules S.stands kept (value_of M.state S.is_well S.shows self.new) outcomes.items) }
+        ensures stopped { (kept : ℕ → Stored) → AreOfMachine M.rules S.stands → IsBegun (value_of M.state S.is_well S.shows self.old) kept
+            → IfErr result (HasNotOpened self.old.groups.id kept (S.shows self.new.groups.storage)) }
+        ensures id { self.new.groups.id ≡ self.old.groups.id }
+        ensures going { OnOk result (self.new.groups.has_failed ≡ self.old.groups.has_failed) }
+        ensures feeders { OnOk result (self.new.feeders ≡ self.old.feeders) }
+    {
         if self.make_machines().is_err() {
             return Err(self.stop(Cause::Memory));
         }
@@ -104,7 +174,15 @@ impl<M: StateMachine, S: GroupStorage<Snapshot = SnapshotBytes>> Node<M, S> {
     /// A node with all groups that its storage has (own): each is opened as after a start of the
     /// machine. It leads on under a committed vote of its own, and its machine has run what is
     /// committed. Without success (16) the storage is handed back: it is to be closed and opened anew.
-    pub fn open(alloc: Global, id: u64, storage: S) -> Result<Opened<M, S>, NotOpened<S>> {
+    pub fn open(alloc: Global, id: u64, storage: S) -> Result<Opened<M, S>, NotOpened<S>>
+        ensures opened { (kept : ℕ → Stored) → AreOfMachine M.rules S.stands → Keeps id (S.is_well storage) (S.shows storage) kept
+            → IfOk result (λ o. HasOpened M.rules S.stands kept (value_of M.state S.is_well S.shows o.node) o.outcomes.items) }
+        ensures stopped { (kept : ℕ → Stored) → AreOfMachine M.rules S.stands → Keeps id (S.is_well storage) (S.shows storage) kept
+            → IfErr result (λ n. HasNotOpened id kept (S.shows n.storage) n.fault) }
+        ensures id { IfOk result (λ o. o.node.groups.id ≡ id) }
+        ensures going { IfOk result (λ o. o.node.groups.has_failed ≡ false) }
+        ensures streams { (peer : ℕ) → IfOk result (λ o. feeding_of (get nat_cmp o.node.feeders peer) ≡ fresh) }
+    {
         let mut node: Node<M, S> = Node::without_groups(alloc, id, storage);
         match node.open_groups() {
             Ok(outcomes) => Ok(Opened { node, outcomes }),

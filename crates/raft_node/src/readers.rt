@@ -1,5 +1,9 @@
 //! What a node tells of its groups. Where a group isn't there, and once the node has failed, there is
 //! nothing to tell.
+ghost use Rattle.std.specs.Prelude.{◌≡◌, None, false, true, option_map};
+ghost use Rattle.std.specs.Option.{option_copied};
+ghost use Rattle.raft_node.specs.Reading.{machine_in, place_in};
+ghost use Rattle.raft_node.specs.Standing.{applier_in, running_in};
 
 use crate::node::Node;
 use raft_applier::Applier;
@@ -12,12 +16,16 @@ use raft_state::{LogId, ServerState};
 
 impl<M: StateMachine, S: GroupStorage<Snapshot = SnapshotBytes>> Node<M, S> {
     /// The node's id.
-    pub fn id(&self) -> u64 {
+    pub fn id(&self) -> u64
+        ensures { result ≡ self.now.groups.id }
+    {
         self.groups.id
     }
 
     /// Whether an event has stopped.
-    pub fn has_failed(&self) -> bool {
+    pub fn has_failed(&self) -> bool
+        ensures { result ≡ self.now.groups.has_failed }
+    {
         self.groups.has_failed
     }
 
@@ -30,7 +38,10 @@ impl<M: StateMachine, S: GroupStorage<Snapshot = SnapshotBytes>> Node<M, S> {
     }
 
     // What is applied of a group that is there, in a node that hasn't failed.
-    fn going_applier(&self, group: u64) -> Option<&Applier<M>> {
+    fn going_applier(&self, group: u64) -> Option<&Applier<M>>
+        ensures failed { self.now.groups.has_failed ≡ true → result ≡ None }
+        ensures going { self.now.groups.has_failed ≡ false → option_copied result ≡ applier_in self.now.machines group }
+    {
         if self.groups.has_failed {
             return None;
         }
@@ -49,12 +60,19 @@ impl<M: StateMachine, S: GroupStorage<Snapshot = SnapshotBytes>> Node<M, S> {
     }
 
     /// The last place that the group's machine has run; none where it has run none.
-    pub fn applied(&self, group: u64) -> Option<u64> {
+    pub fn applied(&self, group: u64) -> Option<u64>
+        ensures failed { self.now.groups.has_failed ≡ true → result ≡ None }
+        ensures going { self.now.groups.has_failed ≡ false → result ≡ place_in (running_in M.state self.now.machines group) }
+    {
         Some(self.going_applier(group)?.applied.last?.index)
     }
 
     /// The group's machine, lent.
-    pub fn machine(&self, group: u64) -> Option<&M> {
+    pub fn machine(&self, group: u64) -> Option<&M>
+        ensures failed { self.now.groups.has_failed ≡ true → result ≡ None }
+        ensures going { self.now.groups.has_failed ≡ false
+            → option_map M.state (option_copied result) ≡ machine_in (running_in M.state self.now.machines group) }
+    {
         Some(&self.going_applier(group)?.machine)
     }
 

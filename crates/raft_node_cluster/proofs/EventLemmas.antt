@@ -40,7 +40,7 @@ use Rattle.raft_node_laws.specs.Delivery.{Comes, pieces_from}
 use Rattle.raft_node_laws.specs.Law.{Anything, IsAskedAt, IsTaken, KeepsLaw, Leads, WasSent}
 use Rattle.raft_node_laws.specs.Reporting.{IsPartAs, IsSentAs, OutcomeAs, node_behind, plain_event}
 use Rattle.raft_node_laws.specs.Saying.{SaysOpening, SaysReset, names_of}
-use Rattle.raft_node_cluster.specs.Cluster.{Happens, HappensBy, IsReached, Reaches, RunsTo, nothing_sent, refusal_in, with_node}
+use Rattle.raft_node_cluster.specs.Cluster.{Happens, HappensBy, IsReached, IsTurnedAway, Reaches, RunsTo, nothing_sent, refusal_in, with_node}
 use Rattle.raft_node_cluster.specs.Facts.{Sent, differs, is_taken, membership_in, node_at, node_in, node_of, set_up_asked, set_up_by, set_up_by_event, set_up_if, standing_if, standing_of}
 use Rattle.raft_node_cluster.specs.Happening.{ComesTo, Delivers, Settles}
 use Rattle.raft_node_cluster.specs.Joined.{HasHeadline, downs_of, ids_of}
@@ -307,13 +307,17 @@ module _ {N : Type 0} (rules : MachineRules) (acts : NodeActs N) (states : NodeS
           (λ outcomes x is_ok closed. law.closes r.before r.comes.behind x workers outcomes down (subst (λ a. acts.reopens r.before workers a r.comes.behind) is_ok opened) closed ids t.told.plain olds tt here)
           (subst (λ a. Settles acts sent (event.Reopen node workers) r.comes.behind a o later r.behind) same r.comes.settles)
 
+      turned_away : (e : ClusterEvent) (why : ClusterRefusal) → IsTurnedAway acts nodes sent why o nodes' later → After nodes' later e o
+      turned_away e why away =
+          turned rules acts states ids downs nodes sent history t e why o nodes' later away.outcome away.nodes away.sends (unwrap_or (node_behind t.told.plain e) 0) (named_by (node_behind t.told.plain e)) (away_is_free history e o why away.outcome)
+
       one_more : (e : ClusterEvent) → Happens acts nodes sent history e o nodes' later → After nodes' later e o
       one_more e happens = go (refusal_in acts nodes sent history e) refl happens
         where
           go : (w : Option ClusterRefusal) → refusal_in acts nodes sent history e ≡ w → HappensBy acts w nodes sent e o nodes' later → After nodes' later e o
-          go (Some why) is away =
-              turned rules acts states ids downs nodes sent history t e why o nodes' later away.outcome away.nodes away.sends (unwrap_or (node_behind t.told.plain e) 0) (named_by (node_behind t.told.plain e)) (away_is_free history e o why away.outcome)
-          go None is r = subst (λ ns. After ns later e o) (sym r.nodes) (comes_there e is r)
+          go (Some why) is away = turned_away e why away
+          go None is (inl r) = subst (λ ns. After ns later e o) (sym r.nodes) (comes_there e is r)
+          go None is (inr spared) = turned_away e spared.away spared.turned
 
   -- ---- a run
 

@@ -1,17 +1,19 @@
 -- A cluster, and what its type keeps: all that happened leads to what it is.
-use Rattle.std.specs.Prelude.{◌≡◌, ◌<◌, ◌^◌, ◌==◌, ℕ, if◌then◌else◌, List, [], ◌∷◌, ◌++◌, Option, Some, None, map}
+use Rattle.std.specs.Prelude.{◌≡◌, ◌⊎◌, ◌<◌, ◌^◌, ◌==◌, ℕ, if◌then◌else◌, List, [], ◌∷◌, ◌++◌, Option, Some, None, map}
 use Rattle.std.specs.List.{AllByRecursion}
 use Rattle.raft_cluster_conditions.specs.declared.reasons.ClusterRefusal.{ClusterRefusal}
 use Rattle.raft_cluster_conditions.specs.Refusal.{refusal_of}
 use Rattle.raft_sent_frames.specs.declared.frame.SentFrame.{SentFrame}
 use Rattle.raft_sent_frames.specs.Frames.{frames_of}
 use Rattle.raft_cluster_events.specs.declared.event.ClusterEvent.{ClusterEvent}
+use Rattle.raft_cluster_events.specs.declared.outcome.CrashRefusal.{CrashRefusal}
+use Rattle.raft_cluster_events.specs.declared.outcome.CrashRefusal.TheVariants.{Memory}
 use Rattle.raft_cluster_events.specs.declared.outcome.EventOutcome.{EventOutcome}
 use Rattle.raft_cluster_events.specs.declared.outcome.EventOutcome.TheVariants.{TurnedAway}
 use Rattle.raft_cluster_events.specs.declared.outcome.Recorded.{Recorded}
 use Rattle.raft_cluster_events.specs.Node.{NodeActs}
 use Rattle.raft_node_cluster.specs.Facts.{Sent, asked_of, cuts_of, node_at, node_of, standing_of}
-use Rattle.raft_node_cluster.specs.Happening.{ComesTo}
+use Rattle.raft_node_cluster.specs.Happening.{ComesTo, RefusesFor, turned_by}
 
 pub record ClusterValue (N : Type 0) : Type 0 where
   pub nodes : List N
@@ -45,16 +47,35 @@ module _ {N : Type 0} (acts : NodeActs N) where
     pub nodes : new ≡ with_node (acts.id before) behind old
     pub comes : ComesTo acts sent event before o later behind
 
+  -- the event's node refuses it for this reason
+  pub record IsRefusedFor (nodes : List N) (sent : Sent) (event : ClusterEvent) (why : CrashRefusal) : Type 0 where
+    pub node : N
+    pub named : node_at acts nodes (node_of sent event) ≡ Some node
+    pub refuses : RefusesFor acts event node why
+
+  -- behind all other reasons, a crash is turned away for what its node says of its files
+  pub record IsSparedThere (old : List N) (sent : Sent) (event : ClusterEvent) (o : EventOutcome) (new : List N) (later : Sent) : Type 0 where
+    pub why : CrashRefusal
+    pub refused : IsRefusedFor old sent event why
+    pub away : ClusterRefusal
+    pub named : turned_by why ≡ Some away
+    pub turned : IsTurnedAway old sent away o new later
+
+  -- without memory for a crash, which its node says, nothing happens
+  abbrev pub LacksMemoryToCrash : List N → Sent → ClusterEvent → Type 0
+  LacksMemoryToCrash nodes sent event = IsRefusedFor nodes sent event Memory
+
   abbrev pub HappensBy : Option ClusterRefusal → List N → Sent → ClusterEvent → EventOutcome → List N → Sent → Type 0
   HappensBy (Some why) nodes sent event outcome nodes' sent' = IsTurnedAway nodes sent why outcome nodes' sent'
-  HappensBy None nodes sent event outcome nodes' sent' = Reaches nodes sent event outcome nodes' sent'
+  HappensBy None nodes sent event outcome nodes' sent' =
+      Reaches nodes sent event outcome nodes' sent' ⊎ IsSparedThere nodes sent event outcome nodes' sent'
 
   -- why the cluster turns an event away behind this history, if it does
   abbrev pub refusal_in : List N → Sent → List Recorded → ClusterEvent → Option ClusterRefusal
   refusal_in nodes sent history event =
       refusal_of (standing_of acts (node_at acts nodes (node_of sent event))) (asked_of history sent event) (cuts_of event)
 
-  -- an event behind this history: it is turned away for the first reason that holds, or comes to its node
+  -- an event behind this history: it is turned away for the first reason that holds, or comes to its node, which may be spared a crash
   abbrev pub Happens : List N → Sent → List Recorded → ClusterEvent → EventOutcome → List N → Sent → Type 0
   Happens nodes sent history event outcome nodes' sent' =
       HappensBy (refusal_in nodes sent history event) nodes sent event outcome nodes' sent'

@@ -1,11 +1,15 @@
 -- What an event does that comes to its node.
 use Rattle.std.specs.Prelude.{◌≡◌, ◌⊎◌, ℕ, List, [], ◌∷◌, Option, Some, None, Result, Ok, Err}
 use Rattle.raft_sent_frames.specs.declared.frame.SentFrame.{SentFrame}
+use Rattle.raft_cluster_conditions.specs.declared.reasons.ClusterRefusal.{ClusterRefusal}
+use Rattle.raft_cluster_conditions.specs.declared.reasons.ClusterRefusal.TheVariants as away
 use Rattle.raft_cluster_events.specs.declared.event.ClusterEvent.{ClusterEvent}
 use Rattle.raft_cluster_events.specs.declared.event.ClusterEvent.TheVariants.{AddGroup, Ask, Deliver, ResetPeer, Crash, Reopen}
 use Rattle.raft_cluster_events.specs.declared.node.NodeOutcome.{NodeOutcome}
+use Rattle.raft_cluster_events.specs.declared.outcome.CrashRefusal.{CrashRefusal}
+use Rattle.raft_cluster_events.specs.declared.outcome.CrashRefusal.TheVariants as crash
 use Rattle.raft_cluster_events.specs.declared.outcome.EventOutcome.{EventOutcome}
-use Rattle.raft_cluster_events.specs.declared.outcome.EventOutcome.TheVariants.{Done, Refused, Stopped}
+use Rattle.raft_cluster_events.specs.declared.outcome.EventOutcome.TheVariants.{Done, Refused, Stopped, TurnedAway}
 use Rattle.raft_cluster_events.specs.declared.outcome.GroupOutcome.{GroupOutcome}
 use Rattle.raft_cluster_events.specs.declared.outcome.NodeError.{NodeError}
 use Rattle.raft_cluster_events.specs.declared.outcome.NodeError.TheVariants as errors
@@ -21,6 +25,12 @@ use Rattle.raft_node_cluster.specs.Sending.{AreSent}
 abbrev pub over : NodeError → EventOutcome
 over (errors.Refused why) = Refused why
 over (errors.Stopped stop) = Stopped stop
+
+-- what a crash that its node refuses is turned away for; without memory it is as if it had never been asked for
+abbrev pub turned_by : CrashRefusal → Option ClusterRefusal
+turned_by crash.NotAnImage = Some away.NotAnImage
+turned_by crash.ByChance = Some away.ByChance
+turned_by crash.Memory = None
 
 -- it is for one group of its node
 abbrev pub IsOfGroup : ClusterEvent → Type 0
@@ -104,3 +114,26 @@ module _ {N : Type 0} (acts : NodeActs N) where
     pub settles : Settles sent event behind answered outcome later new
     pub id_behind : acts.id behind ≡ acts.id old
     pub id : acts.id new ≡ acts.id old
+
+  -- the node refuses the event for this reason: it is a crash, and the node's files can't be left so
+  abbrev pub RefusesFor : ClusterEvent → N → CrashRefusal → Type 0
+  RefusesFor (AddGroup node group) before why = ⊥
+  RefusesFor (Ask node group call now) before why = ⊥
+  RefusesFor (Deliver group number cuts now) before why = ⊥
+  RefusesFor (ResetPeer node peer) before why = ⊥
+  RefusesFor (Crash node choice) before why = acts.refuses before choice why
+  RefusesFor (Reopen node workers) before why = ⊥
+
+  -- the event is turned away for what its node says, and nothing changes
+  pub record IsSpared (sent : Sent) (event : ClusterEvent) (old : N) (o : EventOutcome) (later : Sent) (new : N) : Type 0 where
+    pub why : CrashRefusal
+    pub refuses : RefusesFor event old why
+    pub away : ClusterRefusal
+    pub named : turned_by why ≡ Some away
+    pub outcome : o ≡ TurnedAway away
+    pub sends : later ≡ sent
+    pub node : new ≡ old
+
+  -- the event comes to the node, or the node is spared it
+  abbrev pub EndsAt : Sent → ClusterEvent → N → EventOutcome → Sent → N → Type 0
+  EndsAt sent event old o later new = ComesTo sent event old o later new ⊎ IsSpared sent event old o later new

@@ -4,7 +4,7 @@ ghost use Rattle.std.specs.Option.{option_copied};
 ghost use Rattle.raft_sent_frames.specs.Frames.{frames_of};
 ghost use Rattle.raft_node_cluster.specs.Facts.{node_in};
 ghost use Rattle.raft_node_laws.specs.Law.{KeepsLaw};
-ghost use Rattle.raft_node_cluster.specs.Cluster.{Happens, IsReached, Runs, Steps};
+ghost use Rattle.raft_node_cluster.specs.Cluster.{Happens, IsReached, LacksMemoryToCrash, Runs, Steps};
 ghost use Rattle.raft_node_cluster.specs.Joined.{HasHeadline, ids_of};
 
 use crate::facts::{asked_of, cuts_of, node_of, place_of, standing_at};
@@ -36,25 +36,29 @@ impl<N: ClusterNode> Model for Cluster<N> {
     ghost invariant = { λ c. IsReached N.acts c.nodes.items (frames_of c.sent) c.history.items };
 }
 
-// An event happens behind this history: it is turned away, or comes to its node.
+// An event happens behind this history: it is turned away, or comes to its node. An `Err` is the want
+// of memory of a node that is to crash, and changes nothing.
 fn happen<N: ClusterNode>(
     alloc: Global,
     nodes: &mut Vec<N>,
     sent: &mut SentFrames,
     history: &[Recorded],
     event: &ClusterEvent,
-) -> EventOutcome
-    ensures { Happens N.acts nodes.old.items (frames_of sent.old) history.now event.now result nodes.new.items (frames_of sent.new) }
+) -> Result<EventOutcome, AllocError>
+    ensures ok { IfOk result (λ o. Happens N.acts nodes.old.items (frames_of sent.old) history.now event.now o nodes.new.items (frames_of sent.new)) }
+    ensures memory { OnErr result (LacksMemoryToCrash N.acts nodes.old.items (frames_of sent.old) event.now) }
+    ensures nodes { OnErr result (nodes.new.items ≡ nodes.old.items) }
+    ensures frames { OnErr result (sent.new ≡ sent.old) }
 {
     let place = place_of(nodes.as_slice(), node_of(sent, event));
     let standing = standing_at(nodes.as_slice(), place);
     let asked = asked_of(history, sent, event);
     if let Some(why) = refusal(standing, asked, cuts_of(event)) {
-        return EventOutcome::TurnedAway(why);
+        return Ok(EventOutcome::TurnedAway(why));
     }
     match place {
         Some(place) => come_to(alloc, sent, &mut nodes[place], event),
-        None => EventOutcome::Done(Sequence::new(alloc)),
+        None => Ok(EventOutcome::Done(Sequence::new(alloc))),
     }
 }
 
@@ -92,7 +96,7 @@ impl<N: ClusterNode> Cluster<N> {
             &mut self.sent,
             self.history.as_slice(),
             &event,
-        );
+        )?;
         self.history.push(Recorded { event, outcome }).unwrap();
         self.replays();
         Ok(())

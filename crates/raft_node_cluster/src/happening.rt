@@ -1,20 +1,24 @@
 //! An event comes to its node.
-ghost use Rattle.std.specs.Prelude.{◌≡◌, ◌∷◌, ℕ, [], Ok};
+ghost use Rattle.std.specs.Prelude.{◌≡◌, ◌∷◌, ℕ, [], IfOk, Ok, OnErr};
 ghost use Rattle.raft_sent_frames.specs.Frames.{frames_of};
 ghost use Rattle.raft_cluster_events.specs.declared.event.ClusterEvent.{ClusterEvent as Event};
-ghost use Rattle.raft_cluster_events.specs.declared.event.ClusterEvent.TheVariants.{Reopen};
-ghost use Rattle.raft_node_cluster.specs.Facts.{delivered};
+ghost use Rattle.raft_cluster_events.specs.declared.event.ClusterEvent.TheVariants.{Crash, Reopen};
+ghost use Rattle.raft_cluster_events.specs.declared.outcome.CrashRefusal.TheVariants.{Memory};
+ghost use Rattle.raft_node_cluster.specs.Facts.{Sent, delivered};
 ghost use Rattle.raft_node_laws.specs.Answered.{one_of, opening_of, some_of};
-ghost use Rattle.raft_node_cluster.specs.Happening.{ComesTo, Delivers, IsOfGroup, Settles, over};
+ghost use Rattle.raft_node_cluster.specs.Happening.{Delivers, EndsAt, IsOfGroup, RefusesFor, Settles};
+ghost use Rattle.raft_node_cluster.specs.Happening.{over, turned_by};
 
 use crate::delivery::deliver;
 use crate::facts::delivered;
 use crate::sending::{send_all, send_alone};
+use raft_cluster_conditions::ClusterRefusal;
 use raft_cluster_events::{
-    ClusterEvent, ClusterNode, EventOutcome, NodeError, NodeOutcome, Stop, StopCause,
+    ClusterEvent, ClusterNode, CrashChoice, CrashRefusal, EventOutcome, NodeError, NodeOutcome,
+    Stop, StopCause,
 };
 use raft_sent_frames::{SentFrames, Sequence};
-use std::alloc::Global;
+use std::alloc::{AllocError, Global};
 
 // What becomes of an event that the node didn't do.
 fn over(error: NodeError) -> EventOutcome
@@ -120,19 +124,54 @@ fn some(answered: Result<NodeOutcome, NodeError>) -> Result<Option<NodeOutcome>,
     }
 }
 
-/// An event that isn't turned away comes to its node.
+// What a crash that its node refuses is turned away for; none for want of memory.
+fn turned_by(why: CrashRefusal) -> Option<ClusterRefusal>
+    ensures { result ≡ turned_by why }
+{
+    match why {
+        CrashRefusal::NotAnImage => Some(ClusterRefusal::NotAnImage),
+        CrashRefusal::ByChance => Some(ClusterRefusal::ByChance),
+        CrashRefusal::Memory => None,
+    }
+}
+
+// The node's machine stops, unless the node refuses that: then the crash is turned away. An `Err` is
+// the node's want of memory. Where it doesn't stop the node is as before.
+fn crash<N: ClusterNode>(
+    alloc: Global,
+    node: &mut N,
+    choice: CrashChoice,
+) -> Result<EventOutcome, AllocError>
+    ensures ok { IfOk result (λ o. (sent : Sent) (at : ℕ) → EndsAt N.acts sent (Crash at choice) node.old o sent node.new) }
+    ensures memory { OnErr result (N.acts.refuses node.old choice Memory) }
+    ensures err { OnErr result (node.new ≡ node.old) }
+{
+    match node.crash(choice) {
+        Ok(()) => Ok(EventOutcome::Done(Sequence::new(alloc))),
+        Err(why) => match turned_by(why) {
+            Some(away) => Ok(EventOutcome::TurnedAway(away)),
+            None => Err(AllocError),
+        },
+    }
+}
+
+/// An event that isn't turned away comes to its node, which may refuse a crash. An `Err` is the node's
+/// want of memory for a crash, and changes nothing.
 pub fn come_to<N: ClusterNode>(
     alloc: Global,
     sent: &mut SentFrames,
     node: &mut N,
     event: &ClusterEvent,
-) -> EventOutcome
-    ensures { ComesTo N.acts (frames_of sent.old) event.now node.old result (frames_of sent.new) node.new }
+) -> Result<EventOutcome, AllocError>
+    ensures ok { IfOk result (λ o. EndsAt N.acts (frames_of sent.old) event.now node.old o (frames_of sent.new) node.new) }
+    ensures memory { OnErr result (RefusesFor N.acts event.now node.old Memory) }
+    ensures node { OnErr result (node.new ≡ node.old) }
+    ensures frames { OnErr result (sent.new ≡ sent.old) }
 {
     match event {
         ClusterEvent::AddGroup { group, .. } => {
             let answered = some(node.add_group(*group));
-            settle(alloc, sent, node, answered)
+            Ok(settle(alloc, sent, node, answered))
         }
         ClusterEvent::Ask {
             group,
@@ -141,23 +180,20 @@ pub fn come_to<N: ClusterNode>(
             ..
         } => {
             let answered = some(node.ask(*group, call, *now));
-            settle(alloc, sent, node, answered)
+            Ok(settle(alloc, sent, node, answered))
         }
         ClusterEvent::Deliver { cuts, now, .. } => {
             let answered = deliver_event(node, sent, event, cuts.as_slice(), *now);
-            settle(alloc, sent, node, answered)
+            Ok(settle(alloc, sent, node, answered))
         }
         ClusterEvent::ResetPeer { peer, .. } => match node.reset_peer(*peer) {
-            Ok(()) => EventOutcome::Done(Sequence::new(alloc)),
-            Err(error) => over(error),
+            Ok(()) => Ok(EventOutcome::Done(Sequence::new(alloc))),
+            Err(error) => Ok(over(error)),
         },
-        ClusterEvent::Crash { choice, .. } => {
-            node.crash(*choice);
-            EventOutcome::Done(Sequence::new(alloc))
-        }
+        ClusterEvent::Crash { choice, .. } => crash(alloc, node, *choice),
         ClusterEvent::Reopen { workers, .. } => {
             let answered = node.reopen(*workers);
-            settle_opening(alloc, sent, node, answered)
+            Ok(settle_opening(alloc, sent, node, answered))
         }
     }
 }

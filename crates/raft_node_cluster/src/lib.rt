@@ -10,7 +10,7 @@ mod sending;
 pub use cluster::Cluster;
 pub use raft_cluster_conditions::ClusterRefusal;
 pub use raft_cluster_events::{
-    ClusterEvent, ClusterNode, CrashChoice, EventOutcome, GroupOutcome, NodeError, NodeFrame,
-    NodeOutcome, NodeRefusal, Recorded, SentNumber, Sequence, Stop, StopCause, Unknown,
+    ClusterEvent, ClusterNode, CrashChoice, CrashRefusal, EventOutcome, GroupOutcome, NodeError,
+    NodeFrame, NodeOutcome, NodeRefusal, Recorded, SentNumber, Sequence, Stop, StopCause,
 };
 pub use raft_sent_frames::SentFrame;

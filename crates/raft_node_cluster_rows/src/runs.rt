@@ -2,7 +2,7 @@
 use crate::toy_node::ToyNode;
 use raft_cluster_events::GroupCommand;
 use raft_group_step::GroupCall;
-use raft_node_cluster::{Cluster, ClusterEvent, EventOutcome, Recorded};
+use raft_node_cluster::{Cluster, ClusterEvent, CrashChoice, EventOutcome, Recorded};
 use std::alloc::{AllocError, Global};
 
 fn ask(node: u64, call: GroupCommand) -> ClusterEvent {
@@ -11,6 +11,17 @@ fn ask(node: u64, call: GroupCommand) -> ClusterEvent {
         group: 7,
         call,
         now: 0,
+    }
+}
+
+fn purge(place: u64) -> ClusterEvent {
+    ask(1, GroupCall::TriggerPurge { place })
+}
+
+fn crash() -> ClusterEvent {
+    ClusterEvent::Crash {
+        node: 1,
+        choice: CrashChoice::Most,
     }
 }
 
@@ -24,6 +35,21 @@ fn events(alloc: Global) -> Result<Vec<ClusterEvent>, AllocError> {
     events.push(ask(1, GroupCall::Elect))?;
     events.push(ask(2, GroupCall::Lost { peer: 1 }))?;
     events.push(ask(3, GroupCall::Elect))?;
+    Ok(events)
+}
+
+// Crashes that their node refuses by chance, as no image, and for want of memory, with an election
+// between them and one behind.
+fn crashes(alloc: Global) -> Result<Vec<ClusterEvent>, AllocError> {
+    let mut events = Vec::new(alloc);
+    events.push(purge(6))?;
+    events.push(crash())?;
+    events.push(purge(7))?;
+    events.push(crash())?;
+    events.push(ask(1, GroupCall::Elect))?;
+    events.push(purge(10))?;
+    events.push(crash())?;
+    events.push(ask(1, GroupCall::Elect))?;
     Ok(events)
 }
 
@@ -41,11 +67,10 @@ fn word(recorded: &Recorded) -> &'static str {
     }
 }
 
-/// How many of the events a cluster of three nodes ran, what came of each, and how many frames were
-/// sent.
-pub fn run_events(alloc: Global) -> Result<String, AllocError> {
+// How many of the events a cluster of three nodes ran, what came of each, and how many frames were
+// sent.
+fn told(alloc: Global, events: Vec<ClusterEvent>) -> Result<String, AllocError> {
     let mut cluster: Cluster<ToyNode> = Cluster::new(alloc, &[1, 2, 3], &0)?;
-    let events = events(alloc)?;
     let asked = events.len();
     let count = run(&mut cluster, events);
     let mut text = format!(in alloc; "ran {count} of {asked}:")?;
@@ -53,5 +78,13 @@ pub fn run_events(alloc: Global) -> Result<String, AllocError> {
         text.push_str(word(recorded))?;
     }
     text.push_str(format!(in alloc; ", frames {}", cluster.frames(7).len())?.as_str())?;
+    Ok(text)
+}
+
+/// What two lists of events do, a line each.
+pub fn run_events(alloc: Global) -> Result<String, AllocError> {
+    let mut text = told(alloc, events(alloc)?)?;
+    text.push_str("\n")?;
+    text.push_str(told(alloc, crashes(alloc)?)?.as_str())?;
     Ok(text)
 }

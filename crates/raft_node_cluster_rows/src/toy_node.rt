@@ -2,11 +2,11 @@
 ghost use Rattle.std.specs.Prelude.{◌≡◌};
 
 use raft_cluster_events::{
-    ClusterNode, CrashChoice, GroupCommand, NodeError, NodeFrame, NodeOutcome, NodeRefusal,
-    Sequence, Stop, StopCause, Unknown,
+    ClusterNode, CrashChoice, CrashRefusal, GroupCommand, NodeError, NodeFrame, NodeOutcome,
+    NodeRefusal, Sequence, Stop, StopCause,
 };
 use raft_group_step::GroupCall;
-use raft_machines::AddingMachine;
+use raft_machines::{AddingMachine, UnknownTokens, Untold};
 use raft_state::Bytes;
 use std::alloc::{AllocError, Global};
 
@@ -14,13 +14,16 @@ use std::alloc::{AllocError, Global};
 const FRAME: usize = 3;
 
 /// It has no machine and no files. An election sends a frame of three bytes to each of nodes 1 to 3, a
-/// frame that is whole is answered by one to its sender, and a lost request stops it.
+/// frame that is whole is answered by one to its sender, and a lost request stops it. A crash that
+/// leaves the most is refused by chance where the last purge was up to place 6, as no image for 7, and
+/// for want of memory for 10.
 #[derive(Drop)]
 pub struct ToyNode {
     alloc: Global,
     id: u64,
     is_up: bool,
     held: usize,
+    purged: u64,
 }
 
 // What a call did that found memory.
@@ -53,7 +56,10 @@ fn frames_to(alloc: Global, group: u64, peers: &[u64]) -> Result<NodeOutcome, Al
 impl ToyNode {
     fn stop(&self, group: u64, token: u64) -> Result<Stop, AllocError> {
         let mut unknown = Sequence::new(self.alloc);
-        unknown.push(Unknown { group, token })?;
+        let place = token;
+        let mut tokens = Vec::new(self.alloc);
+        tokens.push(Untold { token, place })?;
+        unknown.push(UnknownTokens { group, tokens })?;
         Ok(Stop {
             cause: StopCause::Io,
             unsaid: None,
@@ -77,6 +83,7 @@ impl ClusterNode for ToyNode {
       resets = λ old peer answered new. Unit {0};
       fails = λ old stop new. Unit {0};
       crashes = λ old choice new. Unit {0};
+      refuses = λ old choice why. Unit {0};
       reopens = λ old workers answered new. Unit {0};
       closes = λ old new. Unit {0};
     } };
@@ -92,6 +99,7 @@ impl ClusterNode for ToyNode {
             id,
             is_up: true,
             held: 0,
+            purged: 0,
         })
     }
 
@@ -119,6 +127,10 @@ impl ClusterNode for ToyNode {
                 Ok(stop) => Err(NodeError::Stopped(stop)),
                 Err(_) => Err(NodeError::Refused(NodeRefusal::Failed)),
             },
+            GroupCall::TriggerPurge { place } => {
+                self.purged = *place;
+                done(frames_to(self.alloc, group, &[]), self.alloc)
+            }
             GroupCall::Heartbeat => {
                 let leader = Some(self.id);
                 Err(NodeError::Refused(NodeRefusal::NotLeader { leader }))
@@ -155,8 +167,16 @@ impl ClusterNode for ToyNode {
         }
     }
 
-    fn crash(&mut self, _choice: CrashChoice) {
-        self.is_up = false;
+    fn crash(&mut self, choice: CrashChoice) -> Result<(), CrashRefusal> {
+        match (choice, self.purged) {
+            (CrashChoice::Most, 6) => Err(CrashRefusal::ByChance),
+            (CrashChoice::Most, 7) => Err(CrashRefusal::NotAnImage),
+            (CrashChoice::Most, 10) => Err(CrashRefusal::Memory),
+            _ => {
+                self.is_up = false;
+                Ok(())
+            }
+        }
     }
 
     fn reopen(&mut self, _workers: u64) -> Result<Sequence<NodeOutcome>, Stop> {

@@ -3,7 +3,7 @@ ghost use Rattle.std.specs.Prelude.{◌≡◌};
 ghost use Rattle.raft_node_faults.specs.Fault.{cause_of, fault_of_refusal, name_of, number_of};
 
 use raft_conditions::Refusal;
-use raft_machines::{MembershipFault, Untold};
+use raft_machines::{MembershipFault, UnknownTokens};
 use raft_member::Broken;
 use raft_wire::FrameError;
 use std::alloc::AllocError;
@@ -19,15 +19,6 @@ pub enum Cause<F> {
     Storage(F),
     /// What the event sends has no frame: a machine's snapshot is past its limit.
     Frame(FrameError),
-}
-
-/// The tokens of a group that nobody will be told of (own).
-#[derive(Debug, Drop)]
-pub struct UnknownTokens {
-    /// The group.
-    pub group: u64,
-    /// Its tokens, by rising place.
-    pub tokens: Vec<Untold>,
 }
 
 /// A refusal of a node's call, by number and name (own). After 1 to 15 the group is as before.

@@ -3,4 +3,4 @@
 
 mod fault;
 
-pub use fault::{Cause, Fault, UnknownTokens, cause_of, fault_of_refusal};
+pub use fault::{Cause, Fault, cause_of, fault_of_refusal};

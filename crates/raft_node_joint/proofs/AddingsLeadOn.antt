@@ -18,7 +18,7 @@ use Rattle.raft_node.specs.Standing.{NodeValue}
 use Rattle.raft_node.specs.Waiting.{AreNamed, waiting_of}
 use Rattle.raft_node.specs.declared.outcome.Outcome.{Outcome}
 use Rattle.raft_node_joint.specs.Leading.{AddingsLead, LeadsIn, LeadsOn, StaysInAll}
-use Rattle.raft_node_joint.specs.Saying.{names_of}
+use Rattle.raft_headline.specs.Naming.{names_in}
 use Rattle.raft_node_joint.specs.Standing.{IsUpIn, IsWithout}
 use Rattle.raft_node_joint.proofs.EventsCome.{addings_come}
 use Rattle.raft_node_joint.proofs.EventsLeadOn.{goes_so}
@@ -53,17 +53,17 @@ addings_lead {F} rules stands same old new group result ids history olds before 
         (done_so rules stands old new group history (AddGroup old.groups.own group) i.state Adds stays.own (addings_come old.groups.own group history)
         (law_there rules old group i.state before.law i.up) o (stays.fails ∙ going) (subst (λ s. IsDone rules stands new group s Adds o) (sym is) done))
     added_so going i is without (Err (fault.Stopped why unknown)) stays names stopped = record {
-      outcome = Stopped (names_of unknown.items);
+      outcome = Stopped (names_in unknown.items);
       says = refl;
       leads = in_each rules old new group Adds history (AddGroup old.groups.own group) olds before.may_be (addings_come old.groups.own group history)
-          (AddGroup old.groups.own group) (Stopped (names_of unknown.items))
-          (subst (λ xs. LeadsIn rules history (AddGroup old.groups.own group) (Stopped (names_of unknown.items)) old new group xs) (sym i.alone)
-          (left_so rules old new group history (AddGroup old.groups.own group) i.state Adds (names_of unknown.items) stays.own (addings_come old.groups.own group history)
+          (AddGroup old.groups.own group) (Stopped (names_in unknown.items))
+          (subst (λ xs. LeadsIn rules history (AddGroup old.groups.own group) (Stopped (names_in unknown.items)) old new group xs) (sym i.alone)
+          (left_so rules old new group history (AddGroup old.groups.own group) i.state Adds (names_in unknown.items) stays.own (addings_come old.groups.own group history)
           (law_there rules old group i.state before.law i.up) stopped.0 (ap (λ s. refusal_of old.groups.own s Adds) is)
           (subst (λ s. IsLeft new group s Adds) (sym is) stopped.1)
           (names_own group unknown.items ∙ ap tokens_of (names why unknown refl group ∙ ap waiting_of without.idle ∙ ap (λ (s : GroupState). s.untold ++ []) (sym is)))))
           (λ h other. halts_beside rules old new group Adds history (AddGroup old.groups.own group) olds before.may_be (addings_come old.groups.own group history) going
-          (AddGroup old.groups.own group) why unknown stays stopped.0 h ((addings_come old.groups.own group history).others h other (Stopped (names_of unknown.items))) other);
+          (AddGroup old.groups.own group) why unknown stays stopped.0 h ((addings_come old.groups.own group history).others h other (Stopped (names_in unknown.items))) other);
     }
     added_so going i is without (Err other) stays names none = absurd none
 

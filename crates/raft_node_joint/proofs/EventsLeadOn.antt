@@ -20,7 +20,8 @@ use Rattle.raft_node.specs.Standing.{NodeValue}
 use Rattle.raft_node.specs.declared.outcome.Outcome.{Outcome}
 use Rattle.raft_node_joint.specs.Coming.{ComesTo}
 use Rattle.raft_node_joint.specs.Leading.{EventsLead, LeadsIn, LeadsOn, StaysInAll, led_by}
-use Rattle.raft_node_joint.specs.Saying.{is_unjudged, names_of, stops_unjudged}
+use Rattle.raft_node_joint.specs.Saying.{is_unjudged, stops_unjudged}
+use Rattle.raft_headline.specs.Naming.{names_in}
 use Rattle.raft_node_joint.specs.Standing.{IsUpIn, MayBe}
 use Rattle.raft_node_joint.proofs.Faults.{broken, stop_or_not, unjudged}
 use Rattle.raft_node_joint.proofs.Naming.{names_own}
@@ -54,22 +55,22 @@ module _ {F : Type 0} (rules : MachineRules) (stands : SnapshotBytes → Snapsho
       by_judged true is =
           let end = unjudged stands new group i.state ge why unknown.items is ended.1 in
           record {
-            outcome = Stopped (names_of unknown.items);
+            outcome = Stopped (names_in unknown.items);
             says = refl;
-            leads = in_each rules old new group ge history happened olds may_be comes (Halt old.groups.own) (Stopped (names_of unknown.items))
-                (halts_so rules old new group ge history happened olds may_be comes (Halt old.groups.own) (names_of unknown.items) group i refl ended.0
+            leads = in_each rules old new group ge history happened olds may_be comes (Halt old.groups.own) (Stopped (names_in unknown.items))
+                (halts_so rules old new group ge history happened olds may_be comes (Halt old.groups.own) (names_in unknown.items) group i refl ended.0
                 (names_own group unknown.items ∙ ap tokens_of end.named) end.stored)
                 (λ h other. halts_beside rules old new group ge history happened olds may_be comes going (Halt old.groups.own) why unknown stays ended.0 h refl other);
           }
       by_judged false is =
           let end = broken stands new group i.state ge why unknown.items is ended.1 in
           record {
-            outcome = Stopped (names_of unknown.items);
+            outcome = Stopped (names_in unknown.items);
             says = refl;
-            leads = in_each rules old new group ge history happened olds may_be comes happened (Stopped (names_of unknown.items))
-                (subst (λ xs. LeadsIn rules history happened (Stopped (names_of unknown.items)) old new group xs) (sym i.alone)
+            leads = in_each rules old new group ge history happened olds may_be comes happened (Stopped (names_in unknown.items))
+                (subst (λ xs. LeadsIn rules history happened (Stopped (names_in unknown.items)) old new group xs) (sym i.alone)
                 (broken_so rules stands old new group history happened i.state ge stays.own comes law why unknown.items ended.0 end))
-                (λ h other. halts_beside rules old new group ge history happened olds may_be comes going happened why unknown stays ended.0 h (comes.others h other (Stopped (names_of unknown.items))) other);
+                (λ h other. halts_beside rules old new group ge history happened olds may_be comes going happened why unknown stays ended.0 h (comes.others h other (Stopped (names_in unknown.items))) other);
           }
 
   -- however it ended

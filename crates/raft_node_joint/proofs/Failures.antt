@@ -12,7 +12,7 @@ use Rattle.raft_node_faults.specs.declared.fault.Fault.{Fault}
 use Rattle.raft_node_faults.specs.declared.fault.Fault.TheVariants as fault
 use Rattle.raft_node.specs.Standing.{NodeValue}
 use Rattle.raft_node_joint.specs.Leading.{FailedNodesPass, FailuresLead, LeadsIn}
-use Rattle.raft_node_joint.specs.Saying.{names_of}
+use Rattle.raft_headline.specs.Naming.{names_in}
 use Rattle.raft_node_joint.proofs.Naming.{names_own}
 use Rattle.raft_node_joint.proofs.Others.{halted_leads, shows_it, who_waits}
 use Rattle.raft_node_joint.proofs.OwnGroup.{is_in_shown}
@@ -29,7 +29,7 @@ failed_nodes_pass F rules stands old new group ge ids history happened olds come
 pub failures_lead : {F : Type 0} (rules : MachineRules) (old new : NodeValue) (why : Fault F) → FailuresLead rules old new why
 failures_lead rules old new (fault.Stopped why unknown) = λ history olds going may_be told h.
     let n = old.groups.own in
-    let names = names_of unknown.items in
+    let names = names_in unknown.items in
     let i = is_in rules old h (olds h) going (may_be h) in
     let named = names_own h unknown.items ∙ ap tokens_of (told.names h ∙ who_waits rules old h i.state i.up) in
     subst (λ xs. LeadsIn rules history (Halt n) (Stopped names) old new h xs) (sym i.alone)

@@ -13,3 +13,10 @@ pub mod StatesStay
 pub mod StopsBehind
 pub mod WereDone
 pub mod Failures
+pub mod MachinesLaw
+pub mod Reopened
+pub mod OwnMessages
+pub mod LeadingDown
+pub mod OnceEach
+pub mod OpeningsLeadOn
+pub mod ResetsLeadOn

@@ -24,7 +24,8 @@ use Rattle.raft_node.specs.Standing.{IsAt, NodeValue}
 use Rattle.raft_node.specs.declared.outcome.Outcome.{Outcome}
 use Rattle.raft_node_joint.specs.Coming.{ComesTo}
 use Rattle.raft_node_joint.specs.Leading.{LeadsIn}
-use Rattle.raft_node_joint.specs.Saying.{SaysCall, names_of, outcome_of_fault}
+use Rattle.raft_node_joint.specs.Saying.{SaysCall, outcome_of_fault}
+use Rattle.raft_headline.specs.Naming.{names_in}
 use Rattle.raft_node_joint.proofs.Faults.{refusal_said}
 use Rattle.raft_node_joint.proofs.Naming.{names_own}
 use Rattle.raft_node_joint.proofs.OwnGroup.{done_leads, frames_say, is_in_one, is_in_shown, refused_leads, stopped_leads}
@@ -90,6 +91,6 @@ module _ {F : Type 0} (rules : MachineRules) (stands : SnapshotBytes → Snapsho
         }
 
     pub broken_so : (why : Cause F) (unknown : _) → new.groups.has_failed ≡ true → IsBroken stands new group s ge why unknown
-        → LeadsIn rules history happened (Stopped (names_of unknown)) old new group (Up s ∷ [])
+        → LeadsIn rules history happened (Stopped (names_in unknown)) old new group (Up s ∷ [])
     broken_so why unknown failed d =
-        left_so rules old new group history happened s ge (names_of unknown) own comes law failed (subst (λ i. refusal_of i s ge ≡ None) own d.taken) d.left (names_own group unknown ∙ ap tokens_of d.named)
+        left_so rules old new group history happened s ge (names_in unknown) own comes law failed (subst (λ i. refusal_of i s ge ≡ None) own d.taken) d.left (names_own group unknown ∙ ap tokens_of d.named)

@@ -82,7 +82,7 @@ tokens_stay own s e step = go (leads_on s (group_step own s e).state) refl
         ∙ ap tokens_of (sym (append-nil s.untold) ∙ ap (λ ys. s.untold ++ ys) (sym (none_brought own s e step.taken off)))
 
 -- all storing commands of a step are done behind it
-all_stored : (own : ℕ) (s : GroupState) (e : GroupEvent) → (group_step own s e).state.stored ≡ stopped_after (length (group_step own s e).commands) s.stored (group_step own s e)
+pub all_stored : (own : ℕ) (s : GroupState) (e : GroupEvent) → (group_step own s e).state.stored ≡ stopped_after (length (group_step own s e).commands) s.stored (group_step own s e)
 all_stored own s e = (step-keeps own s e).stored ∙ ap (λ cs. after_storing_all cs s.stored) (sym (take-length (group_step own s e).commands))
 
 module _ {F : Type 0} (rules : MachineRules) (stands : SnapshotBytes → Snapshot → Type 0) (old mid new : NodeValue) (group : ℕ) (ge : GroupEvent) (o : Outcome) (why : Cause F) (unknown : _)

@@ -20,7 +20,7 @@ use Rattle.raft_node.specs.Standing.{NodeValue}
 use Rattle.raft_node.specs.declared.outcome.Outcome.{Outcome}
 use Rattle.raft_node_joint.specs.Coming.{ComesTo}
 use Rattle.raft_node_joint.specs.Leading.{LeadsIn, StaysInAll, recorded}
-use Rattle.raft_node_joint.specs.Saying.{names_of}
+use Rattle.raft_headline.specs.Naming.{names_in}
 use Rattle.raft_node_joint.specs.Standing.{IsUpIn, MayBe, MayBeWhen}
 use Rattle.raft_node_joint.proofs.Naming.{names_own}
 use Rattle.raft_node_joint.proofs.OwnGroup.{is_in_one, is_in_shown, passed_becomes, refused_leads, unless_taken}
@@ -122,10 +122,10 @@ module _ (rules : MachineRules) (old new : NodeValue) (group : ℕ) (ge : GroupE
 
     -- and where it stopped
     pub halts_beside : (happens : ClusterEvent) (why : Cause F) (unknown : _) → StaysElse {T = Outcome} old new group (Err (fault.Stopped why unknown)) → new.groups.has_failed ≡ true
-        → (h : ℕ) → seen_by h (recorded n happens (Stopped (names_of unknown.items))) ≡ Halted n → (h ≡ group → ⊥)
-        → LeadsIn rules history happens (Stopped (names_of unknown.items)) old new h (olds h)
+        → (h : ℕ) → seen_by h (recorded n happens (Stopped (names_in unknown.items))) ≡ Halted n → (h ≡ group → ⊥)
+        → LeadsIn rules history happens (Stopped (names_in unknown.items)) old new h (olds h)
     halts_beside happens why unknown stays failed h seen other =
         let i = is_in rules old h (olds h) going (may_be h) in
-        halts_so happens (names_of unknown.items) h i seen failed
+        halts_so happens (names_in unknown.items) h i seen failed
         (names_own h unknown.items ∙ ap tokens_of (stays.named h other ∙ who_waits rules old h i.state i.up))
         (stays.kept h (i.state.stored ∷ []) other (shows_it rules old h i.state i.up))

@@ -29,7 +29,8 @@ use Rattle.raft_node.specs.Standing.{NodeValue}
 use Rattle.raft_node.specs.Waiting.{AreNamed}
 use Rattle.raft_node.specs.declared.outcome.Outcome.{Outcome}
 use Rattle.raft_node_joint.specs.Coming.{ComesTo}
-use Rattle.raft_node_joint.specs.Saying.{SaysCall, names_behind, names_of, stops_unjudged}
+use Rattle.raft_node_joint.specs.Saying.{SaysCall, names_behind, stops_unjudged}
+use Rattle.raft_headline.specs.Naming.{names_in}
 use Rattle.raft_node_joint.specs.Standing.{IsUpIn, KeepMachinesLaw, MayBe}
 
 -- ---- before an event, and behind it
@@ -98,7 +99,7 @@ abbrev pub FailuresLead : {F : Type 0} → MachineRules → NodeValue → NodeVa
 FailuresLead rules old new (fault.Stopped why unknown) =
     (history : List Recorded) (olds : ℕ → List NodeState)
     → old.groups.has_failed ≡ false → ((h : ℕ) → MayBe rules old h (olds h)) → IsTold ⊥ old new (fault.Stopped why unknown)
-    → (h : ℕ) → LeadsIn rules history (Halt old.groups.own) (Stopped (names_of unknown.items)) old new h (olds h)
+    → (h : ℕ) → LeadsIn rules history (Halt old.groups.own) (Stopped (names_in unknown.items)) old new h (olds h)
 FailuresLead rules old new other = Unit {0}
 
 -- ---- a new group

@@ -2,3 +2,4 @@ pub mod Saying
 pub mod Standing
 pub mod Coming
 pub mod Leading
+pub mod Reopening

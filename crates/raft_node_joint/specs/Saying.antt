@@ -3,7 +3,7 @@ use Rattle.std.specs.Prelude.{◌≡◌, ℕ, Bool, true, false, List, [], ◌�
 use Rattle.std.specs.List.{AllZip}
 use Rattle.raft_group_step.specs.Message.{Message}
 use Rattle.raft_group_step.specs.StepResult.{BreaksCondition, CommandTooLong, GroupExists, InProgress, MembershipRefused, NotAllowed}
-use Rattle.raft_group_step.specs.StepResult.{NotLeader, NotVoter, NumberAtEnd, UnknownGroup, VoterChange, WrongParty, tokens_of}
+use Rattle.raft_group_step.specs.StepResult.{NotLeader, NotVoter, NumberAtEnd, UnknownGroup, VoterChange, WrongParty}
 use Rattle.raft_group_step.specs.StoredGroup.{Snapshot}
 use Rattle.raft_messages.specs.declared.memberships.SnapshotBytes.{SnapshotBytes}
 use Rattle.raft_messages.specs.declared.message.Message.{Message as Sent}
@@ -12,31 +12,20 @@ use Rattle.raft_wire.specs.Frames.{FitsFrame, spelled_frame}
 use Rattle.raft_framed_groups.specs.Frames.{frame_with}
 use Rattle.raft_framed_groups.specs.declared.frames.GroupFrame.{GroupFrame}
 use Rattle.raft_headline.specs.ClusterEvent.{ClusterOutcome, Done, PassedOver, Refused, Said, Stopped, Unknown}
+use Rattle.raft_headline.specs.Naming.{names_in, unknown_in}
 use Rattle.raft_machines.specs.declared.telling.Told.{Told}
 use Rattle.raft_node_faults.specs.declared.fault.Cause.{Cause}
 use Rattle.raft_node_faults.specs.declared.fault.Cause.TheVariants as cause
 use Rattle.raft_node_faults.specs.declared.fault.Fault.{Fault}
 use Rattle.raft_node_faults.specs.declared.fault.Fault.TheVariants as fault
-use Rattle.raft_node_faults.specs.declared.fault.UnknownTokens.{UnknownTokens}
-use Rattle.raft_node.specs.Waiting.{Tokens, named_in}
+use Rattle.raft_machines.specs.declared.telling.UnknownTokens.{UnknownTokens}
 use Rattle.raft_node.specs.declared.outcome.Outcome.{Outcome}
 
 -- ---- tokens that stay unknown
 
-abbrev pub named_as : ℕ → List ℕ → List Unknown
-named_as group tokens = map (λ (token : ℕ). record { group = group; token = token }) tokens
-
-abbrev pub names_in : List Tokens → List Unknown
-names_in [] = []
-names_in (x ∷ xs) = named_as x.0 (tokens_of x.1) ++ names_in xs
-
--- all that a stop names, each with its group
-abbrev pub names_of : List UnknownTokens → List Unknown
-names_of unknown = names_in (named_in unknown)
-
--- behind an event that was done: first those of the event, of which nobody is told
+-- behind an event that was done, a stop names first those of the event, of which nobody is told
 abbrev pub names_behind : Outcome → List UnknownTokens → List Unknown
-names_behind o unknown = named_as o.group (map (λ (t : Told). t.token) o.told.items ++ o.unknown.items) ++ names_of unknown
+names_behind o unknown = unknown_in o.group (map (λ (t : Told). t.token) o.told.items ++ o.unknown.items) ++ names_in unknown
 
 -- ---- faults
 
@@ -58,7 +47,7 @@ outcome_of_fault fault.WrongParty = Some (Refused WrongParty)
 outcome_of_fault fault.TooMuchForBatch = None
 outcome_of_fault fault.BreaksCondition = Some (Refused BreaksCondition)
 outcome_of_fault (fault.Frame why) = None
-outcome_of_fault (fault.Stopped why unknown) = Some (Stopped (names_of unknown.items))
+outcome_of_fault (fault.Stopped why unknown) = Some (Stopped (names_in unknown.items))
 
 -- the node stopped before it was known whether the event is refused
 abbrev pub is_unjudged : {F : Type 0} → Cause F → Bool

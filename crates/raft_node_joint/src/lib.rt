@@ -4,3 +4,5 @@
 
 pub mod coming;
 pub mod leading;
+pub mod machines;
+pub mod reopening;

@@ -1,35 +1,40 @@
 -- Small answers and records of worked rows: node 1, groups 7 and 9.
-use Rattle.std.specs.Prelude.{◌≡◌, ℕ, true, List, [], ◌∷◌, None, map}
+use Rattle.std.specs.Prelude.{◌≡◌, ℕ, true, List, [], ◌∷◌, None}
 use Rattle.raft_group_step.specs.GroupState.{state_of}
 use Rattle.raft_group_step.specs.Message.{Message}
+use Rattle.raft_group_step.specs.StepResult.{tokens_of}
 use Rattle.raft_group_step.specs.declared.group_call.GroupCall.TheVariants.{Elect}
 use Rattle.raft_laws.specs.BallotLists.{with_value}
 use Rattle.raft_laws.specs.GroupWorld.{NodeState, Up}
 use Rattle.raft_machines.specs.Adding.{adding}
+use Rattle.raft_machines.specs.Telling.{untold_of}
 use Rattle.raft_machines.specs.declared.telling.Told.{Told}
+use Rattle.raft_machines.specs.declared.telling.UnknownTokens.{UnknownTokens}
 use Rattle.raft_sent_frames.specs.declared.frame.NodeFrame.{NodeFrame}
 use Rattle.raft_cluster_events.specs.Node.{NodeActs}
 use Rattle.raft_cluster_events.specs.States.{NodeStates}
 use Rattle.raft_cluster_events.specs.declared.event.ClusterEvent.TheVariants as event
+use Rattle.raft_cluster_events.specs.declared.event.CrashChoice.TheVariants.{Least}
 use Rattle.raft_cluster_events.specs.declared.node.NodeOutcome.{NodeOutcome}
 use Rattle.raft_cluster_events.specs.declared.outcome.EventOutcome.{EventOutcome}
 use Rattle.raft_cluster_events.specs.declared.outcome.GroupOutcome.{GroupOutcome}
 use Rattle.raft_cluster_events.specs.declared.outcome.Recorded.{Recorded}
 use Rattle.raft_cluster_events.specs.declared.outcome.Stop.{Stop}
 use Rattle.raft_cluster_events.specs.declared.outcome.StopCause.TheVariants.{Memory}
-use Rattle.raft_headline.specs.ClusterEvent.{AddGroup, Ask, Crash, Done, Unknown, silent}
+use Rattle.raft_headline.specs.ClusterEvent.{AddGroup, Ask, Crash, Done, TurnedAway, silent}
 use Rattle.raft_headline.specs.ClusterEvent.{ClusterOutcome as PlainOutcome, Recorded as PlainRecord}
 use Rattle.raft_headline.specs.Rows.{at_one}
 use Rattle.raft_cluster_laws.specs.Rows.{a_message, made, nothing}
 use Rattle.raft_node_laws.specs.Law.{Leads}
 
--- a stop that names these tokens
-abbrev pub stopped_with : List Unknown → Stop
-stopped_with names = record {
-  cause = Memory;
-  unsaid = None;
-  unknown = map (λ (x : Unknown). record { group = x.group; token = x.token }) names;
-}
+-- one token waited in the group
+pub record IsWaiting (group token : ℕ) (x : UnknownTokens) : Type 0 where
+  pub of_group : x.group ≡ group
+  pub alone : tokens_of (untold_of x.tokens.items) ≡ token ∷ []
+
+-- a stop at which these waited
+abbrev pub stopped_with : List UnknownTokens → Stop
+stopped_with waiting = record { cause = Memory; unsaid = None; unknown = waiting }
 
 -- an event that was to tell a token at place 2, and to leave one unknown
 abbrev pub done_unsaid : (group told unknown : ℕ) → NodeOutcome
@@ -60,8 +65,15 @@ elected o = record { event = event.Ask 1 7 Elect 0; outcome = o }
 abbrev pub plainly_elected : PlainOutcome → PlainRecord
 plainly_elected o = at_one (Ask 1 7 Elect 0) o
 
+abbrev pub crashed : EventOutcome → Recorded
+crashed o = record { event = event.Crash 1 Least; outcome = o }
+
 abbrev pub plainly_crashed : PlainRecord
 plainly_crashed = at_one (Crash 1) (Done silent)
+
+-- the node refused the crash
+abbrev pub plainly_spared : PlainRecord
+plainly_spared = at_one (Crash 1) TurnedAway
 
 -- what it did in a group sent one frame to node 2, by this number
 abbrev pub sent_by_number : (group number : ℕ) → GroupOutcome
@@ -84,6 +96,7 @@ small_acts = record {
   resets = λ old peer answered new. Unit {0};
   fails = λ old stop new. Unit {0};
   crashes = λ old choice new. Unit {0};
+  refuses = λ old choice why. Unit {0};
   reopens = λ old workers answered new. Unit {0};
   closes = λ old new. Unit {0};
 }

@@ -12,15 +12,12 @@ use Rattle.raft_cluster_events.specs.declared.outcome.NodeError.TheVariants as e
 use Rattle.raft_cluster_events.specs.declared.outcome.NodeRefusal.{NodeRefusal}
 use Rattle.raft_cluster_events.specs.declared.outcome.NodeRefusal.TheVariants as refusal
 use Rattle.raft_cluster_events.specs.declared.outcome.Stop.{Stop}
-use Rattle.raft_cluster_events.specs.declared.outcome.Unknown.{Unknown as Named}
 use Rattle.raft_cluster_events.specs.declared.outcome.Unsaid.{Unsaid}
 use Rattle.raft_headline.specs.ClusterEvent.{ClusterEvent, ClusterOutcome, Done, Halt, Opened, PassedOver, Refused, Said, Stopped, Unknown, is_stopped, silent}
+use Rattle.raft_headline.specs.Naming.{names_in, unknown_in}
 use Rattle.raft_node_laws.specs.Answered.{Answered}
 
 -- ---- tokens that stay unknown
-
-abbrev pub unknown_in : ℕ → List ℕ → List Unknown
-unknown_in group tokens = map (λ (token : ℕ). record { group = group; token = token }) tokens
 
 abbrev pub names_of_unsaid : Option Unsaid → List Unknown
 names_of_unsaid None = []
@@ -28,8 +25,7 @@ names_of_unsaid (Some u) = unknown_in u.group (map (λ (t : Told). t.token) u.to
 
 -- those of the event itself waited before the others
 abbrev pub names_of : Stop → List Unknown
-names_of stop =
-    names_of_unsaid stop.unsaid ++ map (λ (x : Named). record { group = x.group; token = x.token }) stop.unknown
+names_of stop = names_of_unsaid stop.unsaid ++ names_in stop.unknown
 
 -- ---- events
 

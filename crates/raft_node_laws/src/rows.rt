@@ -6,23 +6,27 @@ ghost use Rattle.raft_headline.specs.ClusterEvent.{ClusterOutcome as PlainOutcom
 ghost use Rattle.raft_headline.specs.ClusterEvent.{Done, Opened, PassedOver, Refused, Stopped};
 ghost use Rattle.raft_headline.specs.ClusterEvent.{TurnedAway, silent};
 ghost use Rattle.raft_headline.specs.Rows.{told_at, unknown_of};
-ghost use Rattle.raft_cluster_conditions.specs.declared.reasons.ClusterRefusal.TheVariants.{NodeDown};
+ghost use Rattle.raft_cluster_conditions.specs.declared.reasons.ClusterRefusal.TheVariants.{ByChance, NodeDown, NotAnImage};
 ghost use Rattle.raft_cluster_events.specs.declared.outcome.EventOutcome.TheVariants as outcome;
 ghost use Rattle.raft_cluster_events.specs.declared.outcome.NodeError.TheVariants as error;
 ghost use Rattle.raft_cluster_events.specs.declared.outcome.NodeRefusal.TheVariants as refusal;
 ghost use Rattle.raft_cluster_laws.specs.Rows.{sends};
 ghost use Rattle.raft_node_laws.specs.Answered.{stop_behind};
 ghost use Rattle.raft_node_laws.specs.Reporting.{IsRecordedAs, IsReport};
-ghost use Rattle.raft_node_laws.specs.Rows.{IsLed, a_frame, done_unsaid, done_with, elected};
-ghost use Rattle.raft_node_laws.specs.Rows.{has_seven, knows_none, plainly_crashed, plainly_elected};
+ghost use Rattle.raft_machines.specs.declared.telling.UnknownTokens.{UnknownTokens};
+ghost use Rattle.raft_node_laws.specs.Rows.{IsLed, IsWaiting, a_frame, crashed, done_unsaid, done_with};
+ghost use Rattle.raft_node_laws.specs.Rows.{elected, has_seven, knows_none, plainly_crashed};
+ghost use Rattle.raft_node_laws.specs.Rows.{plainly_elected, plainly_spared};
 ghost use Rattle.raft_node_laws.specs.Rows.{sent_by_number, spells, stopped_with};
 ghost use Rattle.raft_node_laws.specs.Saying.{SaysCall, SaysOpening, names_of, outcome_of_refusal};
 
 /// A stop names the tokens that waited. Behind an event that was done, it names the event's own ones
 /// first: those that were to be told, and those that were to be unknown.
 pub fn names_of_stops()
-    ensures waited { names_of (stopped_with (unknown_of 7 5 ∷ unknown_of 9 6 ∷ [])) ≡ unknown_of 7 5 ∷ unknown_of 9 6 ∷ [] }
-    ensures unsaid { names_of (stop_behind (done_unsaid 7 3 4) (stopped_with (unknown_of 7 5 ∷ []))) ≡ unknown_of 7 3 ∷ unknown_of 7 4 ∷ unknown_of 7 5 ∷ [] }
+    ensures waited { (x y : UnknownTokens) → IsWaiting 7 5 x → IsWaiting 9 6 y
+        → names_of (stopped_with (x ∷ y ∷ [])) ≡ unknown_of 7 5 ∷ unknown_of 9 6 ∷ [] }
+    ensures unsaid { (x : UnknownTokens) → IsWaiting 7 5 x
+        → names_of (stop_behind (done_unsaid 7 3 4) (stopped_with (x ∷ []))) ≡ unknown_of 7 3 ∷ unknown_of 7 4 ∷ unknown_of 7 5 ∷ [] }
 {}
 
 /// A call says what its frames spell, in their order, and what it tells, of its own group. It says
@@ -46,16 +50,22 @@ pub fn answers_of_openings()
 {}
 
 /// A record's frames have the group's next numbers. A node that has stopped passes over, and one that
-/// was down at first crashed before all.
+/// was down at first crashed before all. A crash that its node refused is turned away, and no crash.
 pub fn records_of_clusters()
     ensures sent { IsRecordedAs [] (elected (outcome.Done (sent_by_number 7 0 ∷ []))) (plainly_elected (Done sends)) }
     ensures next { IsRecordedAs (plainly_elected (Done sends) ∷ []) (elected (outcome.Done (sent_by_number 7 1 ∷ []))) (plainly_elected (Done sends)) }
     ensures misnumbered { IsRecordedAs [] (elected (outcome.Done (sent_by_number 7 1 ∷ []))) (plainly_elected (Done sends)) → ⊥ }
     ensures another_group { IsRecordedAs [] (elected (outcome.Done (sent_by_number 9 0 ∷ []))) (plainly_elected (Done sends)) → ⊥ }
     ensures passed { IsRecordedAs [] (elected (outcome.Refused refusal.Failed)) (plainly_elected PassedOver) }
-    ensures stopped { IsRecordedAs [] (elected (outcome.Stopped (stopped_with (unknown_of 7 5 ∷ [])))) (plainly_elected (Stopped (unknown_of 7 5 ∷ []))) }
-    ensures unnamed { IsRecordedAs [] (elected (outcome.Stopped (stopped_with (unknown_of 7 5 ∷ [])))) (plainly_elected (Stopped [])) → ⊥ }
+    ensures stopped { (x : UnknownTokens) → IsWaiting 7 5 x
+        → IsRecordedAs [] (elected (outcome.Stopped (stopped_with (x ∷ [])))) (plainly_elected (Stopped (unknown_of 7 5 ∷ []))) }
+    ensures unnamed { (x : UnknownTokens) → IsWaiting 7 5 x
+        → IsRecordedAs [] (elected (outcome.Stopped (stopped_with (x ∷ [])))) (plainly_elected (Stopped [])) → ⊥ }
     ensures away { IsRecordedAs [] (elected (outcome.TurnedAway NodeDown)) (plainly_elected TurnedAway) }
+    ensures spared { IsRecordedAs [] (crashed (outcome.TurnedAway ByChance)) plainly_spared }
+    ensures spared_not_crashed { IsRecordedAs [] (crashed (outcome.TurnedAway ByChance)) plainly_crashed → ⊥ }
+    ensures no_image { IsRecordedAs [] (crashed (outcome.TurnedAway NotAnImage)) plainly_spared }
+    ensures crashed_not_spared { IsRecordedAs [] (crashed (outcome.Done [])) plainly_spared → ⊥ }
     ensures first { IsReport (1 ∷ []) [] (plainly_crashed ∷ []) }
     ensures not_down { IsReport [] [] (plainly_crashed ∷ []) → ⊥ }
     ensures forgotten { IsReport [] (elected (outcome.TurnedAway NodeDown) ∷ []) [] → ⊥ }

@@ -1,0 +1,10 @@
+mod Standing
+mod Led
+mod Taken
+mod Calls
+mod Pieces
+mod Deliveries
+mod Openings
+mod Keeping
+mod Handing
+mod Beginning

@@ -1,18 +1,23 @@
 //! What a node refuses, as a cluster keeps it.
+ghost use Rattle.std.specs.Prelude.{◌≡◌};
+ghost use Rattle.raft_nodes_on_files.specs.Answering.{cause_of, cause_of_log, cause_of_store, error_of, quiet_stop, stop_in, stop_of};
 
-use raft_cluster_events::{NodeError, NodeRefusal, Sequence, Stop, StopCause, Unknown};
+use raft_cluster_events::{NodeError, NodeRefusal, Sequence, Stop, StopCause};
 use raft_log_engine::EngineFault;
 use raft_log_files::Error;
-use raft_node::{Cause, Fault, UnknownTokens};
+use raft_machines::UnknownTokens;
+use raft_node::{Cause, Fault};
 use raft_store::{StoreFault, StoreRefusal};
 use raft_wire::FrameError;
-use std::alloc::{AllocError, Global};
+use std::alloc::Global;
 
 /// Why a node on files isn't done with a call.
 pub type NodeFault = Fault<StoreFault<EngineFault>>;
 
 /// Why its log stopped.
-pub fn cause_of_log(fault: EngineFault) -> StopCause {
+pub fn cause_of_log(fault: EngineFault) -> StopCause
+    ensures { result ≡ cause_of_log fault }
+{
     match fault {
         EngineFault::Log(Error::Io(_)) => StopCause::Io,
         EngineFault::Log(Error::TryAgain) => StopCause::TryAgain,
@@ -22,7 +27,9 @@ pub fn cause_of_log(fault: EngineFault) -> StopCause {
 }
 
 // Why its store stopped.
-fn cause_of_store(fault: StoreFault<EngineFault>) -> StopCause {
+fn cause_of_store(fault: StoreFault<EngineFault>) -> StopCause
+    ensures { result ≡ cause_of_store fault }
+{
     match fault {
         StoreFault::Log(fault) => cause_of_log(fault),
         StoreFault::Refused(StoreRefusal::Memory) => StopCause::Memory,
@@ -32,54 +39,42 @@ fn cause_of_store(fault: StoreFault<EngineFault>) -> StopCause {
 }
 
 // Why it stopped.
-fn cause_of(cause: Cause<StoreFault<EngineFault>>) -> StopCause {
+fn cause_of(cause: Cause<StoreFault<EngineFault>>) -> StopCause
+    ensures { result ≡ cause_of cause }
+{
     match cause {
-        Cause::Memory | Cause::Unjudged | Cause::Frame(FrameError::Memory) => { StopCause::Memory }
+        Cause::Memory | Cause::Unjudged | Cause::Frame(FrameError::Memory) => StopCause::Memory,
         Cause::Storage(fault) => cause_of_store(fault),
         Cause::Frame(_) => StopCause::TooLong,
     }
 }
 
-// The tokens of a group, each with its group, behind the others.
-fn push_tokens(
-    unknown: &mut Sequence<Unknown>,
-    group: u64,
-    tokens: &[raft_machines::Untold],
-) -> Result<(), AllocError> {
-    for untold in tokens {
-        unknown.push(Unknown {
-            group,
-            token: untold.token,
-        })?;
-    }
-    Ok(())
-}
-
-// The tokens of all groups.
-fn unknown_of(alloc: Global, tokens: &[UnknownTokens]) -> Result<Sequence<Unknown>, AllocError> {
-    let mut unknown = Sequence::new(alloc);
-    for one in tokens {
-        push_tokens(&mut unknown, one.group, one.tokens.as_slice())?;
-    }
-    Ok(unknown)
-}
-
-/// A stop, with the tokens that waited.
-pub fn stop_of(
-    alloc: Global,
-    cause: Cause<StoreFault<EngineFault>>,
-    tokens: &[UnknownTokens],
-) -> Stop {
-    let unknown = unknown_of(alloc, tokens).unwrap_or(Sequence::new(alloc));
+// A stop, with the tokens that waited, which are handed over.
+fn stop_of(cause: Cause<StoreFault<EngineFault>>, unknown: Vec<UnknownTokens>) -> Stop
+    ensures { result ≡ stop_of cause unknown.items }
+{
     Stop {
         cause: cause_of(cause),
         unsaid: None,
-        unknown,
+        unknown: Sequence::from_vec(unknown),
+    }
+}
+
+/// A stop where no token waited.
+pub fn quiet_stop(alloc: Global, cause: StopCause) -> Stop
+    ensures { result ≡ quiet_stop cause }
+{
+    Stop {
+        cause,
+        unsaid: None,
+        unknown: Sequence::new(alloc),
     }
 }
 
 /// Why a call isn't done.
-pub fn error_of(alloc: Global, fault: NodeFault) -> NodeError {
+pub fn error_of(fault: NodeFault) -> NodeError
+    ensures { result ≡ error_of fault }
+{
     NodeError::Refused(match fault {
         Fault::NotLeader { leader } => NodeRefusal::NotLeader { leader },
         Fault::UnknownGroup => NodeRefusal::UnknownGroup,
@@ -96,20 +91,16 @@ pub fn error_of(alloc: Global, fault: NodeFault) -> NodeError {
         Fault::TooMuchForBatch => NodeRefusal::TooMuchForBatch,
         Fault::BreaksCondition => NodeRefusal::BreaksCondition,
         Fault::Frame(_) => NodeRefusal::Frame,
-        Fault::Stopped { cause, unknown } => {
-            return NodeError::Stopped(stop_of(alloc, cause, unknown.as_slice()));
-        }
+        Fault::Stopped { cause, unknown } => return NodeError::Stopped(stop_of(cause, unknown)),
     })
 }
 
-/// The stop that a fault is; one that is none is a stop without a cause of its own.
-pub fn as_stop(alloc: Global, fault: NodeFault) -> Stop {
-    match error_of(alloc, fault) {
-        NodeError::Stopped(stop) => stop,
-        NodeError::Refused(_) => Stop {
-            cause: StopCause::Other,
-            unsaid: None,
-            unknown: Sequence::new(alloc),
-        },
+/// The stop that a fault is; one that is none is a stop of another cause.
+pub fn as_stop(alloc: Global, fault: NodeFault) -> Stop
+    ensures { result ≡ stop_in fault }
+{
+    match fault {
+        Fault::Stopped { cause, unknown } => stop_of(cause, unknown),
+        _ => quiet_stop(alloc, StopCause::Other),
     }
 }

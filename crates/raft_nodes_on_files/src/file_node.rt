@@ -1,12 +1,16 @@
 //! A node on files of its own.
-ghost use Rattle.std.specs.Prelude.{◌≡◌, is_some, true, OnOk, OnErr};
+ghost use Rattle.std.specs.Prelude.{◌≡◌, None, Some, is_some, IfErr, IfOk, IfSome, OnErr, OnOk, map};
+ghost use Rattle.raft_cluster_events.specs.declared.outcome.NodeError.TheVariants.{Stopped};
+ghost use Rattle.raft_nodes_on_files.specs.Acts.{AreHandedBack, IsFedOn, IsPassed, refused, some_outcome};
+ghost use Rattle.raft_nodes_on_files.specs.Answering.{node_outcome, quiet_stop};
+ghost use Rattle.raft_cluster_events.specs.declared.outcome.StopCause.TheVariants.{Memory};
 
-use crate::faults::{NodeFault, as_stop, error_of};
-use crate::opening::{Kept, Unopened, closed, crashed, open_node};
+use crate::faults::{NodeFault, as_stop, error_of, quiet_stop};
+use crate::opening::{Kept, Unopened, closed, crash_refusal, file_choice, open_node};
 use crate::outcomes::{outcome_of, outcomes_of};
 use raft_cluster_events::{
-    ClusterNode, CrashChoice, GroupCommand, NodeError, NodeOutcome, NodeRefusal, Sequence, Stop,
-    StopCause,
+    ClusterNode, CrashChoice, CrashRefusal, GroupCommand, NodeError, NodeOutcome, NodeRefusal,
+    Sequence, Stop, StopCause, Unsaid,
 };
 use raft_log_engine::{EngineFault, LogFiles};
 use raft_log_files::Config;
@@ -28,17 +32,31 @@ pub struct FileNode<M: StateMachine> {
 }
 
 // What a node that is down answers.
-fn down<T>() -> Result<T, NodeError> {
+fn down<T>() -> Result<T, NodeError>
+    ensures { result ≡ refused }
+{
     Err(NodeError::Refused(NodeRefusal::Failed))
 }
 
-// A stop for want of memory, where no token waits.
-fn out_of_memory(alloc: Global) -> Stop {
-    Stop {
-        cause: StopCause::Memory,
-        unsaid: None,
-        unknown: Sequence::new(alloc),
+// There is an outcome, where the event is done.
+fn some_of(one: Result<NodeOutcome, NodeError>) -> Result<Option<NodeOutcome>, NodeError>
+    ensures { result ≡ some_outcome one }
+{
+    match one {
+        Ok(outcome) => Ok(Some(outcome)),
+        Err(why) => Err(why),
     }
+}
+
+// A stop behind an event that was done, whose tokens are named with the others.
+fn stopped_behind(stop: Stop, unsaid: Unsaid) -> NodeError
+    ensures { result ≡ Stopped (record stop { unsaid = Some unsaid }) }
+{
+    NodeError::Stopped(Stop {
+        cause: stop.cause,
+        unsaid: Some(unsaid),
+        unknown: stop.unknown,
+    })
 }
 
 impl<M: StateMachine> FileNode<M> {
@@ -47,20 +65,17 @@ impl<M: StateMachine> FileNode<M> {
     fn taken(&mut self, answered: Result<Outcome, NodeFault>) -> Result<NodeOutcome, NodeError>
         ensures id { self.new.id ≡ self.old.id }
         ensures up { is_some self.new.up ≡ is_some self.old.up }
+        ensures passed { IfSome self.old.up (λ mid. IsPassed M.rules M.state self.old mid answered result self.new) }
     {
         match answered {
             Ok(outcome) => match outcome_of(self.alloc, outcome) {
                 Ok(outcome) => Ok(outcome),
                 Err(unsaid) => {
                     let stop = self.fail();
-                    Err(NodeError::Stopped(Stop {
-                        cause: stop.cause,
-                        unsaid: Some(unsaid),
-                        unknown: stop.unknown,
-                    }))
+                    Err(stopped_behind(stop, unsaid))
                 }
             },
-            Err(fault) => Err(error_of(self.alloc, fault)),
+            Err(fault) => Err(error_of(fault)),
         }
     }
 
@@ -68,6 +83,7 @@ impl<M: StateMachine> FileNode<M> {
     fn fed(&mut self, fed: Fed<StoreFault<EngineFault>>) -> Result<Option<NodeOutcome>, NodeError>
         ensures id { self.new.id ≡ self.old.id }
         ensures up { is_some self.new.up ≡ is_some self.old.up }
+        ensures passed { IfSome self.old.up (λ mid. IsFedOn M.rules M.state self.old mid fed.outcomes.items fed.fault result self.new) }
     {
         let Fed {
             mut outcomes,
@@ -75,10 +91,13 @@ impl<M: StateMachine> FileNode<M> {
             used: _,
         } = fed;
         if let Some(fault) = fault {
-            return Err(error_of(self.alloc, fault));
+            return Err(error_of(fault));
         }
         match outcomes.pop() {
-            Some(outcome) => Ok(Some(self.taken(Ok(outcome))?)),
+            Some(outcome) => {
+                let one = self.taken(Ok(outcome));
+                some_of(one)
+            }
             None => Ok(None),
         }
     }
@@ -86,8 +105,11 @@ impl<M: StateMachine> FileNode<M> {
     // The node is up from now on, and its opening did this. Without memory for that it stays down.
     fn opened(&mut self, opened: Opened<M, Kept<M>>) -> Result<Sequence<NodeOutcome>, Stop>
         ensures id { self.new.id ≡ self.old.id }
-        ensures up { OnOk result (is_some self.new.up ≡ true) }
-        ensures down { OnErr result (is_some self.new.up ≡ is_some self.old.up) }
+        ensures ok { IfOk result (λ outcomes. outcomes ≡ map node_outcome opened.outcomes.items) }
+        ensures up { OnOk result (self.new.up ≡ Some opened.node) }
+        ensures err { IfErr result (λ stop. stop ≡ quiet_stop Memory) }
+        ensures down { OnErr result (self.new.up ≡ self.old.up) }
+        ensures files { OnErr result (AreHandedBack M.rules M.state opened.node self.new.files) }
     {
         let Opened { node, outcomes } = opened;
         match outcomes_of(self.alloc, outcomes) {
@@ -97,38 +119,38 @@ impl<M: StateMachine> FileNode<M> {
             }
             Err(_) => {
                 self.files = closed(node);
-                Err(out_of_memory(self.alloc))
+                Err(quiet_stop(self.alloc, StopCause::Memory))
             }
         }
     }
 }
 
+impl<M: StateMachine> FileNode<M> {
+    // The node goes down, with its files as they are.
+    fn go_down(&mut self)
+        ensures id { self.new.id ≡ self.old.id }
+        ensures down { self.new.up ≡ None }
+        ensures same { self.old.up ≡ None → self.new ≡ self.old }
+        ensures files { IfSome self.old.up (λ n. self.new.files.files ≡ n.groups.storage.log.engine.files) }
+        ensures settings { IfSome self.old.up (λ n. self.new.files.settings ≡ n.groups.storage.log.settings) }
+        ensures shown { IfSome self.old.up (λ n. AreHandedBack M.rules M.state n self.new.files) }
+    {
+        if let Some(node) = self.up.take() {
+            self.files = closed(node);
+        }
+    }
+}
+
 impl<M: StateMachine> ClusterNode for FileNode<M> {
-    ghost use Rattle.std.specs.Prelude.{is_some};
+    ghost use Rattle.raft_nodes_on_files.specs.Acts.{file_node_acts, file_node_states};
 
     type Machine = M;
 
     type Settings = Config;
 
-    // That what it answers is what its groups do is promised by the node below, and not yet here.
-    ghost acts = { record {
-      id = λ n. n.id;
-      is_up = λ n. is_some n.up;
-      begins = λ id n. Unit {0};
-      adds = λ old group answered new. Unit {0};
-      asks = λ old group call now answered new. Unit {0};
-      feeds = λ old peer piece now answered new. Unit {0};
-      resets = λ old peer answered new. Unit {0};
-      fails = λ old stop new. Unit {0};
-      crashes = λ old choice new. Unit {0};
-      reopens = λ old workers answered new. Unit {0};
-      closes = λ old new. Unit {0};
-    } };
+    ghost acts = { file_node_acts M.rules M.state };
 
-    ghost states = { record {
-      may_be = λ n group states. Unit {0};
-      spells = λ group message bytes. Unit {0};
-    } };
+    ghost states = { file_node_states M.rules M.state };
 
     fn begin(alloc: Global, id: u64, settings: &Config) -> Result<Self, AllocError> {
         let mut node = FileNode {
@@ -189,7 +211,7 @@ impl<M: StateMachine> ClusterNode for FileNode<M> {
         match &mut self.up {
             Some(node) => match node.reset_peer(peer) {
                 Ok(()) => Ok(()),
-                Err(fault) => Err(error_of(self.alloc, fault)),
+                Err(fault) => Err(error_of(fault)),
             },
             None => down(),
         }
@@ -198,20 +220,25 @@ impl<M: StateMachine> ClusterNode for FileNode<M> {
     fn fail(&mut self) -> Stop {
         match &mut self.up {
             Some(node) => as_stop(self.alloc, node.fail()),
-            None => out_of_memory(self.alloc),
+            None => quiet_stop(self.alloc, StopCause::Memory),
         }
     }
 
-    fn crash(&mut self, choice: CrashChoice) {
-        if let Some(node) = self.up.take() {
-            self.files = crashed(node, choice);
+    fn crash(&mut self, choice: CrashChoice) -> Result<(), CrashRefusal> {
+        let Some(node) = &mut self.up else {
+            return Ok(());
+        };
+        match node.crash(&file_choice(choice)) {
+            Ok(()) => {
+                self.go_down();
+                Ok(())
+            }
+            Err(why) => Err(crash_refusal(why)),
         }
     }
 
     fn close(&mut self) {
-        if let Some(node) = self.up.take() {
-            self.files = closed(node);
-        }
+        self.go_down();
     }
 
     fn reopen(&mut self, _workers: u64) -> Result<Sequence<NodeOutcome>, Stop> {

@@ -1,8 +1,15 @@
 //! A node is opened with its files, and gives them back.
+ghost use Rattle.std.specs.Prelude.{◌≡◌, ◌⊎◌, IfErr, IfOk, false};
+ghost use Rattle.raft_content_log.specs.Leaving.{LeavesOnly};
+ghost use Rattle.raft_log_disk.specs.MemorySystem.{disk_in};
+ghost use Rattle.raft_log_engine.specs.Left.{answers_on};
+ghost use Rattle.raft_log_engine.specs.Log.{leaves_of_log};
+ghost use Rattle.raft_nodes_on_files.specs.Acts.{AreHandedBack, IsFoundAs, IsLeftOpening, IsOpened, IsRefusedOpening};
+ghost use Rattle.raft_nodes_on_files.specs.Answering.{quiet_stop};
 
-use crate::faults::{as_stop, cause_of_log};
-use raft_cluster_events::{CrashChoice, Sequence, Stop, StopCause};
-use raft_log_disk::CrashChoice as FileChoice;
+use crate::faults::{as_stop, cause_of_log, quiet_stop};
+use raft_cluster_events::{CrashChoice, CrashRefusal, Stop, StopCause};
+use raft_log_disk::{CrashChoice as FileChoice, CrashRefusal as FileRefusal};
 use raft_log_engine::{LogFiles, MemoryLog, NotOpened as LogNotOpened};
 use raft_machines::StateMachine;
 use raft_node::{Node, NotOpened, Opened};
@@ -19,23 +26,33 @@ pub struct Unopened {
     pub files: LogFiles,
 }
 
-// A stop with no token that waited.
-fn stop_for(alloc: Global, cause: StopCause) -> Stop {
-    Stop {
-        cause,
-        unsaid: None,
-        unknown: Sequence::new(alloc),
+// The log over the files. They aren't opened where something in them passes by chance as a record.
+fn open_log(alloc: Global, files: LogFiles) -> Result<MemoryLog, Unopened>
+    ensures sound { IfOk result (λ l. l.has_failed ≡ false) }
+    ensures found { IfOk result (λ l. IsFoundAs files (answers_on disk_in l.engine)) }
+    ensures leaves { IfOk result (λ l. LeavesOnly (leaves_of_log disk_in l) (answers_on disk_in l.engine)) }
+    ensures err { IfErr result (λ u. IsRefusedOpening files u.stop u.files) }
+{
+    if let Err(why) = files.check_genuine() {
+        return Err(Unopened {
+            stop: quiet_stop(alloc, cause_of_refusal(why)),
+            files,
+        });
     }
-}
-
-// The log over the files.
-fn open_log(alloc: Global, files: LogFiles) -> Result<MemoryLog, Unopened> {
     match MemoryLog::open(alloc, files) {
         Ok(log) => Ok(log),
         Err(LogNotOpened { fault, files }) => Err(Unopened {
-            stop: stop_for(alloc, cause_of_log(fault)),
+            stop: quiet_stop(alloc, cause_of_log(fault)),
             files,
         }),
+    }
+}
+
+// Why files that show by chance what nobody wrote aren't opened.
+fn cause_of_refusal(why: FileRefusal) -> StopCause {
+    match why {
+        FileRefusal::Memory => StopCause::Memory,
+        FileRefusal::ByChance | FileRefusal::NotAnImage => StopCause::Other,
     }
 }
 
@@ -44,7 +61,10 @@ pub fn open_node<M: StateMachine>(
     alloc: Global,
     id: u64,
     files: LogFiles,
-) -> Result<Opened<M, Kept<M>>, Unopened> {
+) -> Result<Opened<M, Kept<M>>, Unopened>
+    ensures ok { IfOk result (λ o. IsOpened M.rules M.state files id o.node o.outcomes.items) }
+    ensures err { IfErr result (λ u. IsRefusedOpening files u.stop u.files ⊎ IsLeftOpening M.rules files id u.stop u.files) }
+{
     let log = open_log(alloc, files)?;
     match Node::open(alloc, id, Store::new(alloc, log)) {
         Ok(opened) => Ok(opened),
@@ -56,21 +76,27 @@ pub fn open_node<M: StateMachine>(
 }
 
 /// The node's files, handed back as they are.
-pub fn closed<M: StateMachine>(node: Node<M, Kept<M>>) -> LogFiles {
+pub fn closed<M: StateMachine>(node: Node<M, Kept<M>>) -> LogFiles
+    ensures files { result.files ≡ node.groups.storage.log.engine.files }
+    ensures settings { result.settings ≡ node.groups.storage.log.settings }
+    ensures shown { AreHandedBack M.rules M.state node result }
+{
     node.into_storage().into_log().into_files()
 }
 
-fn choice_of(choice: CrashChoice) -> FileChoice {
+/// What a crash leaves, in the words of files.
+pub fn file_choice(choice: CrashChoice) -> FileChoice {
     match choice {
         CrashChoice::Least => FileChoice::Least,
         CrashChoice::Most => FileChoice::Most,
     }
 }
 
-/// The node's machine stops: its files, with what the crash leaves of them.
-pub fn crashed<M: StateMachine>(node: Node<M, Kept<M>>, choice: CrashChoice) -> LogFiles {
-    let mut files = node.into_storage().into_log().into_files();
-    // The least and the most that a crash may leave are images that it may leave.
-    let _ = files.crash(&choice_of(choice));
-    files
+/// Why files don't crash so, in a cluster's words.
+pub fn crash_refusal(why: FileRefusal) -> CrashRefusal {
+    match why {
+        FileRefusal::NotAnImage => CrashRefusal::NotAnImage,
+        FileRefusal::ByChance => CrashRefusal::ByChance,
+        FileRefusal::Memory => CrashRefusal::Memory,
+    }
 }

@@ -1,4 +1,7 @@
 //! What a node's events do, as a cluster takes it.
+ghost use Rattle.std.specs.Prelude.{◌≡◌, IfErr, IfOk, map};
+ghost use Rattle.raft_node_laws.specs.Answered.{unsaid_of};
+ghost use Rattle.raft_nodes_on_files.specs.Answering.{node_frame, node_outcome};
 
 use raft_cluster_events::{NodeFrame, NodeOutcome, Sequence, Unsaid};
 use raft_framed_groups::GroupFrame;
@@ -7,7 +10,9 @@ use raft_state::Bytes;
 use std::alloc::{AllocError, Global};
 
 // The frames with their bytes.
-fn frames_of(alloc: Global, frames: Vec<GroupFrame>) -> Result<Sequence<NodeFrame>, AllocError> {
+fn frames_of(alloc: Global, frames: Vec<GroupFrame>) -> Result<Sequence<NodeFrame>, AllocError>
+    ensures { IfOk result (λ taken. taken ≡ map node_frame frames.items) }
+{
     let mut taken = Sequence::new(alloc);
     for frame in frames {
         let bytes = Bytes::from_slice(alloc, frame.bytes.as_slice())?;
@@ -21,7 +26,10 @@ fn frames_of(alloc: Global, frames: Vec<GroupFrame>) -> Result<Sequence<NodeFram
 
 /// The outcome of one event in its group. An `Err` is want of memory for its frames, and hands back its
 /// tokens.
-pub fn outcome_of(alloc: Global, outcome: Outcome) -> Result<NodeOutcome, Unsaid> {
+pub fn outcome_of(alloc: Global, outcome: Outcome) -> Result<NodeOutcome, Unsaid>
+    ensures ok { IfOk result (λ o. o ≡ node_outcome outcome) }
+    ensures err { IfErr result (λ unsaid. unsaid ≡ unsaid_of (node_outcome outcome)) }
+{
     let Outcome {
         group,
         frames,
@@ -45,11 +53,13 @@ pub fn outcome_of(alloc: Global, outcome: Outcome) -> Result<NodeOutcome, Unsaid
     }
 }
 
-/// The outcomes of an opening, in their order.
+/// The outcomes of an opening, in their order. An `Err` is want of memory.
 pub fn outcomes_of(
     alloc: Global,
     outcomes: Vec<Outcome>,
-) -> Result<Sequence<NodeOutcome>, AllocError> {
+) -> Result<Sequence<NodeOutcome>, AllocError>
+    ensures { IfOk result (λ taken. taken ≡ map node_outcome outcomes.items) }
+{
     let mut taken = Sequence::new(alloc);
     for outcome in outcomes {
         let Ok(outcome) = outcome_of(alloc, outcome) else {

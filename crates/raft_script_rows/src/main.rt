@@ -22,9 +22,8 @@ mod sessions;
 use broken::{Flushed, Piecewise, Stubborn};
 use clusters::run_events;
 use percent_encoding::percent_decode;
-use raft_cluster::ScriptEnd;
-use raft_script_session::ScriptEnd as SessionEnd;
-use sessions::{Ended, run_by, session_ended};
+use raft_script_session::ScriptEnd;
+use sessions::run_by;
 use std::alloc::{AllocError, Global};
 use std::io;
 
@@ -63,17 +62,17 @@ fn number_of(text: &str) -> (usize, &str) {
     (word.parse().unwrap_or(usize::MAX), rest)
 }
 
-fn print_end(rt: &impl Print, row: Row<'_>, ended: Ended, written: &[u8]) -> io::Result<()> {
+fn print_end(rt: &impl Print, row: Row<'_>, end: ScriptEnd, written: &[u8]) -> io::Result<()> {
     let text = str::from_utf8(written).unwrap_or("no UTF-8");
-    let Ended { end, status } = ended;
+    let status = end.status();
     println!(rt; "{} -> {end:?} {status} {text:?}", row.line)
 }
 
 fn run(rt: &HostRuntime, row: Row<'_>, script: &[u8]) -> io::Result<()> {
     let mut reader = script;
     let mut writer = Vec::new(rt.alloc());
-    let ended = run_by(rt.alloc(), row.counts, &mut reader, &mut writer);
-    print_end(rt, row, ended, writer.as_slice())
+    let end = run_by(rt.alloc(), row.counts, &mut reader, &mut writer);
+    print_end(rt, row, end, writer.as_slice())
 }
 
 fn run_in_pieces(rt: &HostRuntime, row: Row<'_>, words: &str) -> io::Result<()> {
@@ -83,8 +82,8 @@ fn run_in_pieces(rt: &HostRuntime, row: Row<'_>, words: &str) -> io::Result<()> 
     let script = bytes_of(rt.alloc(), text)?;
     let mut reader = Piecewise::new(script.as_slice(), piece, read);
     let mut writer = Stubborn::new(rt.alloc(), piece, room);
-    let ended = run_by(rt.alloc(), row.counts, &mut reader, &mut writer);
-    print_end(rt, row, ended, writer.written())
+    let end = run_by(rt.alloc(), row.counts, &mut reader, &mut writer);
+    print_end(rt, row, end, writer.written())
 }
 
 fn run_flushed(rt: &HostRuntime, row: Row<'_>, words: &str) -> io::Result<()> {
@@ -92,8 +91,8 @@ fn run_flushed(rt: &HostRuntime, row: Row<'_>, words: &str) -> io::Result<()> {
     let script = bytes_of(rt.alloc(), text)?;
     let mut reader = Piecewise::new(script.as_slice(), piece, usize::MAX);
     let mut writer = Flushed::new(rt.alloc());
-    let ended = run_by(rt.alloc(), row.counts, &mut reader, &mut writer);
-    print_end(rt, row, ended, writer.written())
+    let end = run_by(rt.alloc(), row.counts, &mut reader, &mut writer);
+    print_end(rt, row, end, writer.written())
 }
 
 fn run_counted(rt: &HostRuntime, row: Row<'_>, words: &str) -> io::Result<()> {
@@ -102,18 +101,9 @@ fn run_counted(rt: &HostRuntime, row: Row<'_>, words: &str) -> io::Result<()> {
     let script = with_comment(rt.alloc(), length, &[])?;
     let mut reader = Piecewise::new(script.as_slice(), piece, usize::MAX);
     let mut writer = Vec::new(rt.alloc());
-    let Ended { end, .. } = run_by(rt.alloc(), row.counts, &mut reader, &mut writer);
+    let end = run_by(rt.alloc(), row.counts, &mut reader, &mut writer);
     let (given, most) = (reader.given(), reader.most());
     println!(rt; "{} -> {end:?} {given} of at most {most}", row.line)
-}
-
-/// The status where memory is lacking.
-fn memory_status(row: Row<'_>) -> u8 {
-    if row.counts {
-        session_ended(SessionEnd::Memory).status
-    } else {
-        ScriptEnd::Memory.status()
-    }
 }
 
 fn answer(rt: &HostRuntime, line: &str) -> io::Result<()> {
@@ -135,7 +125,7 @@ fn answer(rt: &HostRuntime, line: &str) -> io::Result<()> {
         "flushes" => run_flushed(rt, row, words),
         "reads" => run_counted(rt, row, words),
         "events" => println!(rt; "{line} -> {}", run_events(rt.alloc(), words)?),
-        "status" => println!(rt; "{line} -> {}", memory_status(row)),
+        "status" => println!(rt; "{line} -> {}", ScriptEnd::Memory.status()),
         _ => println!(rt; "{line} -> no row"),
     }
 }

@@ -1,15 +1,8 @@
 //! Scripts whose lines a cluster runs, or a session over lines that are only counted.
-use raft_cluster::{ScriptEnd, run_script};
-use raft_script_session::{LineRunner, ScriptEnd as SessionEnd, run_lines};
+use raft_cluster::run_script;
+use raft_script_session::{LineRunner, ScriptEnd, run_lines};
 use std::alloc::{AllocError, Global};
 use std::io::{Read, Write};
-
-/// How a script ended, and the status of a program that ends so.
-#[derive(Clone, Copy)]
-pub struct Ended {
-    pub end: ScriptEnd,
-    pub status: u8,
-}
 
 /// Answers each line by its length; `!` is no event, and `?` finds no memory.
 #[derive(Drop)]
@@ -29,37 +22,16 @@ impl LineRunner for Lengths {
     }
 }
 
-fn same_end(end: SessionEnd) -> ScriptEnd {
-    match end {
-        SessionEnd::Done => ScriptEnd::Done,
-        SessionEnd::NoEvent(number) => ScriptEnd::NoEvent(number),
-        SessionEnd::Memory => ScriptEnd::Memory,
-        SessionEnd::Fault => ScriptEnd::Fault,
-    }
-}
-
-/// The same end, with the session's own status.
-pub fn session_ended(end: SessionEnd) -> Ended {
-    Ended {
-        end: same_end(end),
-        status: end.status(),
-    }
-}
-
 /// Runs the script that the reader gives, by a session over counted lines or by a cluster.
 pub fn run_by<R: Read, W: Write>(
     alloc: Global,
     counts: bool,
     reader: &mut R,
     writer: &mut W,
-) -> Ended {
+) -> ScriptEnd {
     if counts {
         let mut lines = Lengths { alloc };
-        return session_ended(run_lines(alloc, &mut lines, reader, writer));
+        return run_lines(alloc, &mut lines, reader, writer);
     }
-    let end = run_script(alloc, reader, writer);
-    Ended {
-        end,
-        status: end.status(),
-    }
+    run_script(alloc, reader, writer)
 }

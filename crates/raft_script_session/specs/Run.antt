@@ -2,6 +2,7 @@
 use Rattle.std.specs.Prelude.{◌≡◌, ◌⊎◌, ℕ, ◌+◌, nat_lt, true, List, [], ◌∷◌, ◌++◌, length, Option, Some, None, codes}
 use Rattle.std.specs.Fmt.{decimal}
 use Rattle.std.specs.Io.KnownBytes.{Appends}
+use Rattle.raft_script_lines.specs.Words.{longest_line}
 use Rattle.raft_script_session.specs.declared.end.ScriptEnd.{ScriptEnd}
 use Rattle.raft_script_session.specs.declared.end.ScriptEnd.TheVariants as ends
 use Rattle.raft_script_session.specs.declared.end.Stop.{Stop}
@@ -11,10 +12,6 @@ use Rattle.raft_script_session.specs.Lines.{lines_of}
 -- the answer to a line that is no event
 abbrev pub wrong_line : ℕ → List ℕ
 wrong_line number = codes "line " ++ (decimal number ++ 10 ∷ [])
-
--- the longest line has so many bytes
-abbrev pub longest_line : ℕ
-longest_line = 65536
 
 -- `runs old line text new`: the line takes the script from the one state to the other, and is answered by the text; by none where
 -- it is no event

@@ -6,14 +6,12 @@ ghost use Rattle.raft_script_session.specs.Output.{RefusesLine, EndsLine, Answer
 use crate::end::Stop;
 use crate::output::write_out;
 use crate::runner::LineRunner;
+use raft_script_lines::LONGEST_LINE;
 use std::alloc::Global;
 use std::io::Write;
 use std::marker::Model;
 
 const NEWLINE: u8 = b'\n';
-
-/// The longest line, in bytes, its newline not counted.
-const LONGEST_LINE: usize = 65_536;
 
 /// How many lines have ended, and the bytes of the line that has not (own).
 #[derive(Drop)]

@@ -26,7 +26,7 @@ one_of_more rules g (s ∷ ss) more wider (inl h) = holds_among rules g s more (
 one_of_more rules g (s ∷ ss) more wider (inr h) = one_of_more rules g ss more (λ x is. wider x (inr is)) h
 
 -- a group that isn't there holds no stored part
-holds_nothing : (rules : MachineRules) → Holds rules content.no_group no_group
+pub holds_nothing : (rules : MachineRules) → Holds rules content.no_group no_group
 holds_nothing rules = record {
   present = refl;
   vote = refl;

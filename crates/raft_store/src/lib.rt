@@ -2,6 +2,7 @@
 #![tactic(auto)]
 
 mod batches;
+mod crash;
 mod fault;
 mod group_storage;
 mod places;

@@ -1,7 +1,7 @@
 -- What a line of a script says: a word, and numbers after it.
 use Rattle.std.specs.Prelude.{ℕ, ◌==◌, ◌||◌, not, nat_lt, if◌then◌else◌, List, [], ◌∷◌, length, Option, Some, None, codes}
 use Rattle.std.specs.Str.{bytes_eq, is_utf8}
-use Rattle.raft_script_lines.specs.Words.{numbers_of, words_of}
+use Rattle.raft_script_lines.specs.Words.{longest_line, numbers_of, words_of}
 use Rattle.raft_cluster.specs.declared.script.line.Line.{Line}
 use Rattle.raft_cluster.specs.declared.script.line.Line.TheVariants.{Skipped, Nodes, Add, Init, Propose, Total}
 use Rattle.raft_cluster.specs.declared.script.line.Verb.{Verb}
@@ -46,10 +46,6 @@ said_by_words (word ∷ words) = line_from (verb_of word) (numbers_of words)
 abbrev pub said_by : List ℕ → Option Line
 said_by [] = Some Skipped
 said_by (byte ∷ bytes) = if byte == 35 then Some Skipped else said_by_words (words_of (byte ∷ bytes))
-
--- the longest line has so many bytes
-abbrev pub longest_line : ℕ
-longest_line = 65536
 
 -- what a line says: nothing if it is longer or no text
 unfoldable pub line_of : List ℕ → Option Line

@@ -14,15 +14,13 @@ use Rattle.raft_cluster.specs.Script.Answer.{outcome_text, total_text, newline}
 use Rattle.raft_cluster.specs.Script.Line.{line_of}
 
 pub record Progress : Type 0 where
-  -- the lines so far
-  pub lines : ℕ
   -- the proposals so far, the last of which has this token
   pub tokens : ℕ
   -- the cluster, from the line `nodes 1` on
   pub cluster : Option ClusterValue
 
 abbrev pub start : Progress
-start = record { lines = 0; tokens = 0; cluster = None }
+start = record { tokens = 0; cluster = None }
 
 -- node 1 alone votes; its address is its id after an n
 abbrev pub one_voter : Membership ℕ (List ℕ)
@@ -66,7 +64,7 @@ abbrev pub begins : Progress → Option ClusterValue → Option (Progress × Lis
 begins p None = Some (record p { cluster = Some new_cluster }, codes "ok" ++ newline)
 begins p (Some cluster) = None
 
--- a line that is counted already: what is answered, and what it leaves; nothing where it is no event
+-- a line: what is answered, and what it leaves; nothing where it is no event
 abbrev pub taken : Progress → Line → Option (Progress × List ℕ)
 taken p Skipped = Some (p, [])
 taken p Nodes = begins p p.cluster
@@ -83,4 +81,4 @@ taken_if p (Some line) = taken p line
 
 -- what the bytes of a line are answered, and how far the script has come then
 unfoldable pub step : Progress → List ℕ → Option (Progress × List ℕ)
-step p line = taken_if (record p { lines = p.lines + 1 }) (line_of line)
+step p line = taken_if p (line_of line)

@@ -4,11 +4,8 @@ ghost use Rattle.std.specs.Prelude.{◌∷◌, MatchOption, Some, None, IfSome, 
 ghost use Rattle.raft_script_lines.specs.Words.{words_of, numbers_of};
 ghost use Rattle.raft_cluster.specs.Script.Line.{verb_of, line_from, line_of, said_by, said_by_words};
 
-use raft_script_lines::{first_word, number_of};
+use raft_script_lines::{LONGEST_LINE, first_word, number_of};
 use std::str;
-
-/// The longest line, in bytes, its newline not counted.
-pub const LONGEST_LINE: usize = 65_536;
 
 /// What a line says (own).
 #[derive(Clone, Copy, Debug, PartialEq, Eq)]

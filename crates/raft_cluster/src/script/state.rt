@@ -1,14 +1,15 @@
 //! How far a script has come, and what its next line does.
-ghost use Rattle.std.specs.Prelude.{◌≡◌, ◌+◌, ◌^◌, ◌<◌, ◌≤◌, IfOk, string_bytes};
+ghost use Rattle.std.specs.Prelude.{◌≡◌, IfOk, string_bytes};
 ghost use Rattle.std.specs.Option.{option_map};
 ghost use Rattle.raft_cluster.specs.Script.Progress.{start, begins, where_begun, happens, reads_total};
-ghost use Rattle.raft_cluster.specs.Script.Output.{IsAnswer, IsTaken, IsGiven};
+ghost use Rattle.raft_cluster.specs.Script.Given.{IsTaken, IsGiven};
 
 use crate::cluster::Cluster;
 use crate::event::ClusterEvent;
 use crate::script::events::{NODE, command_of, happen, one_voter, total};
 use crate::script::line::Line;
 use raft_machines::AddingMachine;
+use raft_script_session::LineRunner;
 use std::alloc::{AllocError, Global};
 use std::marker::Model;
 
@@ -17,19 +18,15 @@ use std::marker::Model;
 pub struct Script {
     alloc: Global,
     cluster: Option<Cluster<AddingMachine>>,
-    lines: u64,
     tokens: u64,
 }
 
 impl Model for Script {
-    ghost use Rattle.std.specs.Prelude.{◌≤◌};
     ghost use Rattle.raft_cluster.specs.Script.Progress.{Progress};
 
     ghost Value = { Progress };
 
-    ghost view = { λ s. record { lines = s.lines; tokens = s.tokens; cluster = s.cluster } };
-
-    ghost invariant = { λ s. s.tokens ≤ s.lines };
+    ghost view = { λ s. record { tokens = s.tokens; cluster = s.cluster } };
 }
 
 impl Script {
@@ -40,35 +37,12 @@ impl Script {
         Script {
             alloc,
             cluster: None,
-            lines: 0,
             tokens: 0,
         }
     }
 
-    /// The lines so far.
-    pub fn lines(&self) -> u64
-        ensures { result ≡ self.now.lines }
-    {
-        self.lines
-    }
-
-    /// Runs a line, and answers with the text of its answer; none where it is no event.
-    pub fn run_line(&mut self, line: &[u8]) -> Result<Option<String>, AllocError>
-        requires { self.old.lines < 2 ^ 63 }
-        ensures { IfOk result (λ text. IsAnswer self.old line.now self.new
-            (option_map string_bytes text)) }
-    {
-        let Some(line) = Line::read(line) else {
-            return Ok(None);
-        };
-        self.lines += 1;
-        self.take(line)
-    }
-
-    // Runs a line that is counted.
+    // Runs a line.
     fn take(&mut self, line: Line) -> Result<Option<String>, AllocError>
-        requires counted { self.old.tokens < self.old.lines }
-        requires room { self.old.lines ≤ 2 ^ 63 }
         ensures { IfOk result (λ text. IsTaken self.old line self.new
             (option_map string_bytes text)) }
     {
@@ -119,19 +93,21 @@ impl Script {
         }
     }
 
-    // A proposal gets the next token.
+    // A proposal gets the next token. No input that is read has so many lines that none is left.
     fn propose(&mut self, node: u64, group: u64, amount: u64) -> Result<Option<String>, AllocError>
-        requires counted { self.old.tokens < self.old.lines }
         ensures { IfOk result (λ text. IsTaken self.old (Line.Propose node group amount) self.new
             (option_map string_bytes text)) }
     {
-        self.tokens += 1;
+        let Some(token) = self.tokens.checked_add(1) else {
+            return Err(AllocError);
+        };
+        self.tokens = token;
         let command = command_of(self.alloc, amount)?;
         self.happen(ClusterEvent::Propose {
             node,
             group,
             command,
-            token: self.tokens,
+            token,
             now: 0,
         })
     }
@@ -144,6 +120,19 @@ impl Script {
         match &self.cluster {
             None => Ok(None),
             Some(cluster) => Ok(Some(total(self.alloc, cluster, node, group)?)),
+        }
+    }
+}
+
+impl LineRunner for Script {
+    ghost use Rattle.raft_cluster.specs.Script.Given.{RunsLine};
+
+    ghost runs = { RunsLine };
+
+    fn run_line(&mut self, line: &[u8]) -> Result<Option<String>, AllocError> {
+        match Line::read(line) {
+            Some(line) => self.take(line),
+            None => Ok(None),
         }
     }
 }

@@ -1,5 +1,7 @@
 -- Each node of the new membership is a voter or a learner.
-use Rattle.std.proofs.Common.{◌∙◌, ap}
+use Rattle.std.proofs.Common.{◌∙◌, ap, None}
+use Rattle.std.proofs.lemmas.Bool.{eqb-true}
+use Rattle.raft_leaders.proofs.PeerLemmas.{values_stay}
 use Rattle.std.specs.Prelude.{nat_eq}
 use Rattle.std.specs.Ordering.{nat_cmp}
 use Rattle.std.proofs.lemmas.Result.{on_ok_weaker}
@@ -22,3 +24,12 @@ returns-clause-members c = λ before knows.
     (left_ids nat_eq old.progress (voter_ids nat_cmp counts.membership.configs) learners) (unknown_peer old.began) h n
     (has_copy m counts.membership learners (ap (λ (y : EffectiveMembership). y.membership) c.new-effective.ensures ∙ c.in_ok-clone.ensures.cases) (c.as_slice.ensures.ids ∙ c.in_ok-learner_ids.ensures) n has)))
     c.change_membership.ensures.progress
+
+pub returns-clause-heard : goal.returns-clause-heard
+returns-clause-heard c =
+    let counts = c.new-effective.result in
+    let voters = voter_ids nat_cmp counts.membership.configs in
+    let old = c.args.leader.now in
+    on_ok_weaker c.change_membership.result
+    (λ h. values_stay nat_eq eqb-true old.clock_progress c.change_membership.new.self.clock_progress counts voters c.as_slice.result.now None h)
+    c.change_membership.ensures.clocks

@@ -1,5 +1,5 @@
 -- What the files read as is what the pipe holds and the tables have; a refusal leaves it.
-use Rattle.std.proofs.Common.{[], ap, subst, ◌∙◌, inl, inr}
+use Rattle.std.proofs.Common.{List, [], ap, subst, ◌∙◌, inl, inr}
 use Rattle.std.proofs.lemmas.Bool.{false≢true}
 use Rattle.raft_log_disk.proofs.CauseLemmas.{at_err}
 use Rattle.raft_log_files.specs.Settings.{settings_of}
@@ -7,8 +7,10 @@ use Rattle.raft_log_files.specs.declared.config.Config.{Config}
 use Rattle.raft_log_memtables.specs.Content.{nothing}
 use Rattle.raft_log_recovery.specs.Scan.{OnlyMakes, directories_of}
 use Rattle.raft_log_replay.specs.Batches.{content_over, placed_in}
-use Rattle.raft_log_engine.specs.Opening.{IsLeftByOpening}
+use Rattle.raft_log_engine.specs.Opening.{IsFoundAgain, IsLeftByOpening}
+use Rattle.raft_log_disk.specs.Text.{Text}
 use Rattle.raft_log_recovery.specs.Queue.{directories_in}
+use Rattle.raft_log_engine.proofs.Again.{found_again, made_again}
 use Rattle.raft_log_engine.proofs.Opened.{found_in, holds_found, opened_left, recovered_as, refused_in}
 use Rattle.raft_log_engine.proofs.Reopened.{once_there}
 use Rattle.raft_log_engine.proofs.opening.recovered.Goals as goal
@@ -75,3 +77,35 @@ returns-clause-alone g c =
     let b = c.scan.new.self in
     λ once. c.in_ok-pipe.ensures.alone (once_there (g.F.FileSystem.disk c.args.files.now) (g.F.FileSystem.disk c.scan.new.files) _ _ (directories_in b) c.recovery_of-recovery.result.queue c.in_ok-scan.ensures.only
     (c.in_ok-scan.ensures.directories ∙ same) c.recovery_of-recovery.ensures.queue once)
+
+pub returns-in_err-scan-clause-reads : goal.returns-in_err-scan-clause-reads
+returns-in_err-scan-clause-reads g c =
+    let said = directories_of (settings_of c.args.config) in
+    let d = g.F.FileSystem.disk c.args.files.now in
+    let new = g.F.FileSystem.disk c.scan.new.files in
+    at_err c.from_residual.result (IsFoundAgain c.args.config.recovery_mode said d new)
+    (made_again c.args.config.recovery_mode said d new (subst (λ (k : Config). OnlyMakes (directories_of (settings_of k)) d new) c.new-builder.ensures.config c.in_err-scan.ensures.only))
+
+pub returns-in_err-pipe-clause-reads : goal.returns-in_err-pipe-clause-reads
+returns-in_err-pipe-clause-reads g c =
+    let said = directories_of (settings_of c.args.config) in
+    let d = g.F.FileSystem.disk c.args.files.now in
+    let same = ap (λ (k : Config). directories_of (settings_of k)) c.new-builder.ensures.config in
+    let made = g.F.FileSystem.disk c.scan.new.files in
+    let new = g.F.FileSystem.disk c.open_queue.new.files in
+    let makes = subst (λ (l : List Text). OnlyMakes l d made) same c.in_ok-scan.ensures.only in
+    at_err c.from_residual-in_err-pipe.result (IsFoundAgain c.args.config.recovery_mode said d new)
+    (found_again c.recovery_of-recovery.result.mode c.args.config.recovery_mode (directories_in c.scan.new.self) said c.recovery_of-recovery.result.queue d made new c.recovery_of-recovery.ensures.mode
+    (c.in_ok-scan.ensures.directories ∙ same) c.recovery_of-recovery.ensures.queue makes c.open_queue.ensures.again)
+
+pub returns-in_err-tables-clause-reads : goal.returns-in_err-tables-clause-reads
+returns-in_err-tables-clause-reads g c =
+    let said = directories_of (settings_of c.args.config) in
+    let d = g.F.FileSystem.disk c.args.files.now in
+    let same = ap (λ (k : Config). directories_of (settings_of k)) c.new-builder.ensures.config in
+    let made = g.F.FileSystem.disk c.scan.new.files in
+    let new = g.F.FileSystem.disk c.open_queue.new.files in
+    let makes = subst (λ (l : List Text). OnlyMakes l d made) same c.in_ok-scan.ensures.only in
+    at_err c.from_residual-in_err-tables.result (IsFoundAgain c.args.config.recovery_mode said d new)
+    (found_again c.recovery_of-recovery.result.mode c.args.config.recovery_mode (directories_in c.scan.new.self) said c.recovery_of-recovery.result.queue d made new c.recovery_of-recovery.ensures.mode
+    (c.in_ok-scan.ensures.directories ∙ same) c.recovery_of-recovery.ensures.queue makes c.open_queue.ensures.again)

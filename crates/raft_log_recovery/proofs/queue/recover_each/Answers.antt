@@ -5,9 +5,9 @@ use Rattle.raft_log_disk.specs.Disk.{Disk}
 use Rattle.raft_log_disk.specs.Text.{Text}
 use Rattle.raft_log_disk.proofs.CauseLemmas.{at_err}
 use Rattle.raft_log_recovery.specs.Queue.{AreRecovered}
-use Rattle.raft_log_recovery.proofs.QueueLemmas.{NoneRefused, Replays, kept_at, left_at, none_left, number_here, only_between}
+use Rattle.raft_log_recovery.proofs.QueueLemmas.{NoneRefused, Replays, alike_at, kept_at, left_at, none_left, number_here, only_between}
 use Rattle.raft_log_recovery.proofs.ReplayLemmas.{file_fits}
-use Rattle.raft_log_recovery.proofs.TurnLemmas.{Turn, done_kept, done_left, done_none, done_of, done_only, done_recovered, done_replays, file_at, is_file, stopped_kept, stopped_left, stopped_only, turn_of}
+use Rattle.raft_log_recovery.proofs.TurnLemmas.{Turn, done_alike, done_kept, done_left, done_none, done_of, done_only, done_recovered, done_replays, file_at, is_file, stopped_alike, stopped_kept, stopped_left, stopped_only, turn_of}
 use Rattle.raft_log_recovery.proofs.queue.recover_each.Goals as goal
 
 pub open_file-requires-clause-seq : goal.open_file-requires-clause-seq
@@ -123,3 +123,31 @@ returns-clause-refused g c =
     let all : c.loop-name.name-index ≡ length c.args.names.now = omega (arith, c.loop-name-test.false, c.loop-name.auto.name-index-end) in
     λ any. absurd (none_left c.args.config.now.mode directories c.args.config.now.queue c.args.names.now (g.F.FileSystem.disk c.args.files.now)
     (subst (NoneRefused c.args.config.now.mode directories c.args.config.now.queue c.args.names.now (g.F.FileSystem.disk c.args.files.now)) all c.loop-name.invariant.none) any)
+
+pub returns-in_err-fd-clause-reads : goal.returns-in_err-fd-clause-reads
+returns-in_err-fd-clause-reads g c =
+    let met = g.met.F.FileSystem g.world.𝓛 g.world.𝓜 g.world.𝓡 ((λ s x. x), (λ x. x), (λ x. x), λ x. x) in
+    alike_at c.args.config.now.mode (map string_bytes c.args.directories.now) c.args.config.now.queue (length c.args.directories.now) (g.F.FileSystem.disk c.args.files.now) c.args.names.now (met.is_named c.args.files.now) c.requires
+    (g.F.FileSystem.disk c.loop-name.files) (g.F.FileSystem.disk c.open_file.new.files) c.loop-name.name-index c.loop-name.recovered.items c.open_file.ensures.kept c.loop-name.invariant.so
+
+pub returns-in_err-format-clause-reads : goal.returns-in_err-format-clause-reads
+returns-in_err-format-clause-reads g c =
+    let met = g.met.F.FileSystem g.world.𝓛 g.world.𝓜 g.world.𝓡 ((λ s x. x), (λ x. x), (λ x. x), λ x. x) in
+    let t : Turn = turn_of (g.F.FileSystem.disk c.args.files.now) (met.is_named c.args.files.now) c.args.config.now.mode c.args.config.now.queue c.args.directories.now c.args.names.now c.requires c.loop-name.name-index c.loop-name-test.true
+    (g.F.FileSystem.disk c.loop-name.files) (g.F.FileSystem.disk c.open_file.new.files) c.loop-name.recovered.items c.in_ok-fd.fd.0 c.new-id.result c.open_file.ensures.kept c.loop-name.invariant.so c.in_ok-fd.ensures.ok (λ j. record { queue = c.new-id.ensures.queue j; seq = c.new-id.ensures.seq j }) in
+    stopped_alike t (g.F.FileSystem.disk c.recover_file.new.files) c.in_err-format.ensures.err
+
+pub returns-in_err-push-clause-reads : goal.returns-in_err-push-clause-reads
+returns-in_err-push-clause-reads g c =
+    let met = g.met.F.FileSystem g.world.𝓛 g.world.𝓜 g.world.𝓡 ((λ s x. x), (λ x. x), (λ x. x), λ x. x) in
+    let t : Turn = turn_of (g.F.FileSystem.disk c.args.files.now) (met.is_named c.args.files.now) c.args.config.now.mode c.args.config.now.queue c.args.directories.now c.args.names.now c.requires c.loop-name.name-index c.loop-name-test.true
+    (g.F.FileSystem.disk c.loop-name.files) (g.F.FileSystem.disk c.open_file.new.files) c.loop-name.recovered.items c.in_ok-fd.fd.0 c.new-id.result c.open_file.ensures.kept c.loop-name.invariant.so c.in_ok-fd.ensures.ok (λ j. record { queue = c.new-id.ensures.queue j; seq = c.new-id.ensures.seq j }) in
+    let f : File = file_at t c.in_ok-fd.fd c.in_ok-format.format in
+    let done = done_of t c.in_ok-fd.fd c.in_ok-format.format (g.F.FileSystem.disk c.recover_file.new.files) refl c.in_ok-format.ensures.ok c.in_ok-format.ensures.format (file_fits t.cur t.fd (met.has_images c.open_file.new.files) (is_file t)) in
+    done_alike t f (g.F.FileSystem.disk c.recover_file.new.files) done
+
+pub returns-clause-reads : goal.returns-clause-reads
+returns-clause-reads g c =
+    let met = g.met.F.FileSystem g.world.𝓛 g.world.𝓜 g.world.𝓡 ((λ s x. x), (λ x. x), (λ x. x), λ x. x) in
+    alike_at c.args.config.now.mode (map string_bytes c.args.directories.now) c.args.config.now.queue (length c.args.directories.now) (g.F.FileSystem.disk c.args.files.now) c.args.names.now (met.is_named c.args.files.now) c.requires
+    (g.F.FileSystem.disk c.loop-name.files) (g.F.FileSystem.disk c.loop-name.files) c.loop-name.name-index c.loop-name.recovered.items refl c.loop-name.invariant.so

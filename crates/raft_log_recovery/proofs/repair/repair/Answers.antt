@@ -9,7 +9,7 @@ returns-in-None-clause-ok g c =
 
 pub returns-in-None-clause-err : goal.returns-in-None-clause-err
 returns-in-None-clause-err g c =
-    settled_err c.settle.result (g.F.FileSystem.disk c.args.files.now) _ c.args.id c.args.fd.0 _
+    settled_err c.settle.result (g.F.FileSystem.disk c.args.files.now) _ c.args.id c.args.fd.0 _ c.requires.fits
     (cut_none c.args.id ((g.F.FileSystem.disk c.args.files.now).file c.args.fd.0) (sym c.requires.fault ∙ c.in-None.is)) c.settle.ensures.settles
 
 pub returns-then-cuts-clause-ok : goal.returns-then-cuts-clause-ok
@@ -19,7 +19,7 @@ returns-then-cuts-clause-ok g c =
 
 pub returns-then-cuts-clause-err : goal.returns-then-cuts-clause-err
 returns-then-cuts-clause-err g c =
-    settled_err c.settle-then-cuts.result (g.F.FileSystem.disk c.args.files.now) _ c.args.id c.args.fd.0 _
+    settled_err c.settle-then-cuts.result (g.F.FileSystem.disk c.args.files.now) _ c.args.id c.args.fd.0 _ c.requires.fits
     (cut_some c.args.id ((g.F.FileSystem.disk c.args.files.now).file c.args.fd.0) c.args.end.to c.requires.to) c.settle-then-cuts.ensures.settles
 
 pub returns-else-cuts-clause-err : goal.returns-else-cuts-clause-err

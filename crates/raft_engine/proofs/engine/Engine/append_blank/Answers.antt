@@ -14,4 +14,4 @@ pub returns : goal.returns
 returns g c = λ x own r lead step leads.
     let none : list_any (is_written_by r.state.stored.vote.leader_id) r.state.stored.log ≡ false =
     sym (c.has_written.ensures x own r lead step leads) ∙ c.if-has_written.false in
-    rw none (c.append.ensures x own r lead step leads)
+    rw none (c.append.ensures.step x own r lead step leads)

@@ -8,6 +8,7 @@ use Rattle.raft_group_step.specs.MembershipStep.{membership_step}
 use Rattle.raft_engine.specs.Standing.{given}
 use Rattle.raft_engine.proofs.EventLemmas.{event_taken, step_begun}
 use Rattle.raft_engine.proofs.LeaderFinish.{changes, finish_changed}
+use Rattle.raft_engine.proofs.ClockLemmas.{keeps_same, keeps_then}
 use Rattle.raft_engine.proofs.engine.Engine.change_membership.Goals as goal
 
 pub returns-clause-taken : goal.returns-clause-taken
@@ -15,10 +16,10 @@ returns-clause-taken g c = λ x own at token s m change in_force is may.
     let old = c.args.self.now in
     let event = Call (ChangeMembership change token) at in
     let lead = changes own at token s may.ready change m in_force may.accepted in
-    let step = c.in_ok-membership_part.ensures (given x old s) own (begun at s) lead.0 token m change (step_begun x own at old s may.stands may.empty) lead.1 in_force is in (
+    let step = c.in_ok-membership_part.ensures.step (given x old s) own (begun at s) lead.0 token m change (step_begun x own at old s may.stands may.empty) lead.1 in_force is in (
       refl,
       event_taken x own old c.finish.new.self s event may
-          (c.in_ok-finish.ensures (given x old s) own (membership_step change token (begun at s)) step (finish_changed own at token s may.ready change m in_force may.accepted)),
+          (c.in_ok-finish.ensures.step (given x old s) own (membership_step change token (begun at s)) step (finish_changed own at token s may.ready change m in_force may.accepted)),
     )
 
 pub returns-in-Some-clause-taken : goal.returns-in-Some-clause-taken
@@ -26,3 +27,10 @@ returns-in-Some-clause-taken g c = λ x own at token s m change in_force is may.
     let old = c.args.self.now in
     let lead = changes own at token s may.ready change m in_force may.accepted in
     must_lead own old s lead.0 may.stands lead.1 (unled old.leader c.in-Some.ensures.leads)
+
+pub returns-clause-heard : goal.returns-clause-heard
+returns-clause-heard g c =
+    keeps_then c.args.self.now.leader c.membership_part.new.self.leader c.finish.new.self.leader c.in_ok-membership_part.ensures.heard c.in_ok-finish.ensures.heard
+
+pub returns-in-Some-clause-heard : goal.returns-in-Some-clause-heard
+returns-in-Some-clause-heard g c = keeps_same c.args.self.now.leader

@@ -9,8 +9,8 @@ use Rattle.raft_engine.specs.Standing.{IsStepOf}
 use Rattle.raft_engine.proofs.CommitLemmas.{commits, found_within, from_is, wrote_known}
 use Rattle.raft_engine.proofs.engine.Engine.commit_as_leader.Goals as goal
 
-pub returns : goal.returns
-returns g c = λ x own r step.
+pub returns-clause-step : goal.returns-clause-step
+returns-clause-step g c = λ x own r step.
     let old = c.args.self.now in
     let l = c.in-Some.leader in
     let voters = c.effective-voters.result.now in

@@ -20,4 +20,4 @@ returns g c = λ x own at s now may.
     c.in_ok-elect_part.ensures (given x e s) own (begun at s) (step_begun x own at e s may.stands may.empty) (sym now)
     (omega (arith, term)) (omega (arith, places)) in
     on_ok_weaker c.finish.result (λ h. event_taken x own e c.finish.new.self s (Call Elect at) may h)
-    (c.finish.ensures (given x e s) own (elect_step own (begun at s)) stood (elect_finishes own (begun at s) places))
+    (c.finish.ensures.step (given x e s) own (elect_step own (begun at s)) stood (elect_finishes own (begun at s) places))

@@ -32,7 +32,7 @@ returns-clause-built g c = λ own at before s x asked empty stands ready accepte
     let after = store (SetSnapshot x) (begun at s) in
     let same = c.in_ok-is_updated.ensures.rest.1 ∙ ap (λ (e : Engine _ _). record e { state = lent_back.state }) c.snapshot_handler.ensures.value in
     let group = after_storing (SetSnapshot x) s.stored in
-    let counted = c.in_ok-count_by.ensures (membership_in_force group) (c.effective_membership-membership.ensures group (subst (λ (y : Engine _ _). Knows y.state group) {x = lent_back} {y = c.self-1.given.0} (search rules) knows)) in
+    let counted = c.in_ok-count_by.ensures.counts (membership_in_force group) (c.effective_membership-membership.ensures group (subst (λ (y : Engine _ _). Knows y.state group) {x = lent_back} {y = c.self-1.given.0} (search rules) knows)) in
     let back : CountsOn (membership_in_force group) lent_back.leader c.count_by.new.leader = subst (λ (y : Engine _ _). CountsOn (membership_in_force group) y.leader c.count_by.new.leader) {x = c.self-1.given.0} {y = lent_back} (search rules) counted in
     let leader : CountsOn (membership_in_force group) e.leader c.count_by.new.leader = subst (λ (y : Engine _ _). CountsOn (membership_in_force group) y.leader c.count_by.new.leader) same back in
     let step = snapshot_stored s x built own at e (record lent { state = lent_back.state; leader = c.count_by.new.leader }) stands (given x before s) refl (ap (λ (y : Engine _ _). y.seen_greater_log) asked) numbers (ap (λ (y : Engine _ _). y.state.state.committed) asked) refl refl refl leader refl knows
@@ -40,4 +40,4 @@ returns-clause-built g c = λ own at before s x asked empty stands ready accepte
     let can = builder_finishes s x built own at ready s.role (can_finish_when_ready own s (at ∷ []) ready (trigger_in_range own at s accepted)) in
     on_ok_weaker c.finish.result
     (build_taken s x built own at e c.finish.new.self stands (given x before s) accepted)
-    (c.finish.ensures (given x before s) own after (subst (λ e. IsStepOf (given x before s) own e after) (search rules) (subst (λ e. IsStepOf (given x before s) own (record e { leader = c.count_by.new.leader }) after) (sym same) step)) can)
+    (c.finish.ensures.step (given x before s) own after (subst (λ e. IsStepOf (given x before s) own e after) (search rules) (subst (λ e. IsStepOf (given x before s) own (record e { leader = c.count_by.new.leader }) after) (sym same) step)) can)

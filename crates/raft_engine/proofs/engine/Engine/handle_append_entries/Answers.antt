@@ -20,7 +20,7 @@ returns-clause-taken g c = λ x own at s m now says repeats may.
     let sound = sound_append own peer m at s may.accepted in (
       refl,
       event_taken x own c.args.self.now c.finish.new.self s (received own peer (AppendRequest m) at) may
-          (c.in_ok-finish.ensures (given x c.args.self.now s) own (append_request_step own peer m (begun at s))
+          (c.in_ok-finish.ensures.step (given x c.args.self.now s) own (append_request_step own peer m (begun at s))
           (c.in_ok-append_request.ensures (given x c.args.self.now s) own (begun at s) m step (sym now) says repeats sound.0 sound.1)
           (append_request_finishes own peer (begun at s) can (given x c.args.self.now s) c.args.self.now step m sound.0)),
     )

@@ -18,6 +18,6 @@ returns g c = λ x own at id s now meta asked repeats may.
     let another = sound_snapshot own peer vote id x at s may.accepted in
     on_ok_weaker c.finish.result
     (event_taken x own c.args.self.now c.finish.new.self s (received own peer (SnapshotRequest vote id x) at) may)
-    (c.finish.ensures (given x c.args.self.now s) own (snapshot_request_step own peer vote id x (begun at s))
+    (c.finish.ensures.step (given x c.args.self.now s) own (snapshot_request_step own peer vote id x (begun at s))
     (c.in_ok-snapshot_request.ensures (given x c.args.self.now s) own (begun at s) id step (sym now) meta asked repeats another)
     (snapshot_request_finishes own peer (begun at s) can (given x c.args.self.now s) c.args.self.now step vote id another))

@@ -18,5 +18,5 @@ returns g c = λ x own at s now may.
     let can = begins_to_finish own peer (VoteRequest vote last) at s may.ready may.accepted in
     on_ok_weaker c.finish.result
     (event_taken x own c.args.self.now c.finish.new.self s (received own peer (VoteRequest vote last) at) may)
-    (c.finish.ensures (given x c.args.self.now s) own (vote_request_step own peer vote last (begun at s))
+    (c.finish.ensures.step (given x c.args.self.now s) own (vote_request_step own peer vote last (begun at s))
     (c.in_ok-vote_request.ensures (given x c.args.self.now s) own (begun at s) step (sym now)) (vote_request_finishes own peer (begun at s) can vote last))

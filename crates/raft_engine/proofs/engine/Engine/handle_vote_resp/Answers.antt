@@ -22,7 +22,7 @@ returns-then-is_told g c = λ x own at s now may.
     let counted = c.in_ok-vote_reply.ensures (given x e s) own (begun at s) (step_begun x own at e s may.stands may.empty) (sym now) (λ stands. omega (arith, places)) in
     let can =
     can_finish_when_ready own (begun at s).state (at ∷ numbers_of body ++ next_blank s) (ready_at own (max s.now at) s may.ready) (message_accepted own peer at s body may.accepted).0 in
-    let whole = c.in_ok-finish.ensures (given x e s) own (vote_reply_step peer resp.vote resp.vote_granted (begun at s)) counted
+    let whole = c.in_ok-finish.ensures.step (given x e s) own (vote_reply_step peer resp.vote resp.vote_granted (begun at s)) counted
     (reply_finishes own peer resp.vote resp.vote_granted (begun at s) (ready_leads own (max s.now at) s may.ready) can) in
     let told : tells_greater_log s body ≡ true = sym (c.is_told_of_greater_log-is_told.ensures own s may.stands) ∙ c.if-is_told.true in
     told_taken x own peer at e c.finish.new.self s body may whole _ told c.set_greater_log.ensures
@@ -37,7 +37,7 @@ returns-else-is_told g c = λ x own at s now may.
     let counted = c.in_ok-vote_reply.ensures (given x e s) own (begun at s) (step_begun x own at e s may.stands may.empty) (sym now) (λ stands. omega (arith, places)) in
     let can =
     can_finish_when_ready own (begun at s).state (at ∷ numbers_of body ++ next_blank s) (ready_at own (max s.now at) s may.ready) (message_accepted own peer at s body may.accepted).0 in
-    let whole = c.in_ok-finish.ensures (given x e s) own (vote_reply_step peer resp.vote resp.vote_granted (begun at s)) counted
+    let whole = c.in_ok-finish.ensures.step (given x e s) own (vote_reply_step peer resp.vote resp.vote_granted (begun at s)) counted
     (reply_finishes own peer resp.vote resp.vote_granted (begun at s) (ready_leads own (max s.now at) s may.ready) can) in
     let untold : tells_greater_log s body ≡ false = sym (c.is_told_of_greater_log-is_told.ensures own s may.stands) ∙ c.if-is_told.false in
     untold_taken x own peer at e c.finish.new.self s body may whole untold

@@ -32,5 +32,5 @@ returns-clause-taken g c = λ x own at s now may.
     (is_new_then own at s m may.accepted) in (
       refl,
       event_taken x own e c.finish.new.self s (Call (Initialize m) at) may
-          (c.in_ok-finish.ensures (given x e s) own (initialize_step own m (begun at s)) stood (initialize_finishes own at s m may.accepted (begun at s) refl)),
+          (c.in_ok-finish.ensures.step (given x e s) own (initialize_step own m (begun at s)) stood (initialize_finishes own at s m may.accepted (begun at s) refl)),
     )

@@ -12,7 +12,7 @@ use Rattle.raft_engine.proofs.engine.Engine.initialize_part.Goals as goal
 pub returns : goal.returns
 returns g c = λ x own r step now new.
     let m = c.args.membership in
-    let down = c.in_ok-step_down.ensures x own r step in
+    let down = c.in_ok-step_down.ensures.step x own r step in
     let first = first_is c.new-log_id.result c.new.result m c.new-entries.result c.push.new.self c.new-log_id.ensures c.new.ensures.term c.new.ensures.node c.new-entries.ensures c.in_ok-push.ensures.ok in
     let put = store (PutEntries 0 (first_entry m ∷ [])) (step_down r) in
     let stored =

@@ -6,8 +6,8 @@ use Rattle.raft_engine.proofs.ServerStateLemmas.{part_known}
 use Rattle.raft_engine.proofs.StandingLemmas.{step_as_whole}
 use Rattle.raft_engine.proofs.engine.Engine.note_part.Goals as goal
 
-pub returns : goal.returns
-returns g c = λ x own r step.
+pub returns-clause-step : goal.returns-clause-step
+returns-clause-step g c = λ x own r step.
     let value = c.server_state_handler.ensures.value in
     let handled = c.update_server_state_if_changed in
     subst (λ e. IsWholeStepOf x own e r) (search rules)

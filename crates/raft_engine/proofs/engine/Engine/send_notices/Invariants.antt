@@ -8,5 +8,6 @@ use Rattle.raft_engine.proofs.engine.Engine.send_notices.Given as goal
 
 abbrev pub invariant-loop-n : goal.invariant-loop-n
 invariant-loop-n g l =
-    (x : Given) (own : ℕ) (r : StepResult) (lead : Lead) → IsStepOf {C = g.row.C.Denot} {R = g.row.C-R.Denot} x own l.initial.self r → r.state.role ≡ Leader lead
-    → IsStepOf {C = g.row.C.Denot} {R = g.row.C-R.Denot} x own l.self (send_notices own lead (take l.n-index l.ids) r)
+    (l.self.leader ≡ l.initial.self.leader)
+    × ((x : Given) (own : ℕ) (r : StepResult) (lead : Lead) → IsStepOf {C = g.row.C.Denot} {R = g.row.C-R.Denot} x own l.initial.self r → r.state.role ≡ Leader lead
+    → IsStepOf {C = g.row.C.Denot} {R = g.row.C-R.Denot} x own l.self (send_notices own lead (take l.n-index l.ids) r))

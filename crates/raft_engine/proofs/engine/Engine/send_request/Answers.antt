@@ -9,14 +9,15 @@ use Rattle.raft_engine.specs.Standing.{peer_state}
 use Rattle.raft_engine.specs.Ordering.{IsStoredRequest}
 use Rattle.raft_engine.proofs.SendingLemmas.{stored-request}
 use Rattle.raft_engine.proofs.ReplicationLemmas.{requested}
+use Rattle.raft_engine.proofs.ClockLemmas.{in_any_case}
 use Rattle.raft_engine.proofs.engine.Engine.send_request.Goals as goal
 
-pub returns-then-not-set_peer : goal.returns-then-not-set_peer
-returns-then-not-set_peer g c = λ x own r lead step is_lead has e room m.
+pub returns-then-not-set_peer-clause-step : goal.returns-then-not-set_peer-clause-step
+returns-then-not-set_peer-clause-step g c = λ x own r lead step is_lead has e room m.
     absurd (true≢false (sym (c.set_peer.ensures.there own r.state lead step.state is_lead has) ∙ c.if-not-set_peer.true))
 
-pub returns : goal.returns
-returns g c = λ x own r lead step is_lead has e room m.
+pub returns-clause-step : goal.returns-clause-step
+returns-clause-step g c = λ x own r lead step is_lead has e room m.
     let entry = c.args.entry.now in
     let left : (peer_of lead c.args.n).next_id + 1 ≤ 2 ^ 64 = subst (NumbersLeft 1) is_lead room.numbers c.args.n in
     let fits : entry.curr_inflight_id + 1 + 1 ≤ 2 ^ 64 = subst (λ (p : PeerState). p.next_id + 1 ≤ 2 ^ 64) e left in
@@ -26,3 +27,6 @@ returns g c = λ x own r lead step is_lead has e room m.
     (omega (arith, c.saturating_add.ensures)) (c.next_request-req.ensures own c.args.n r.state step.state room.places m (omega arith))
     (c.set_peer.ensures.known own r.state lead step.state is_lead has) c.set_peer.ensures.rest.0 c.set_peer.ensures.rest.1 refl refl refl refl h)
     c.push_command.ensures.ok
+
+pub returns-clause-heard : goal.returns-clause-heard
+returns-clause-heard g c = in_any_case c.push_command.result c.set_peer.ensures.heard

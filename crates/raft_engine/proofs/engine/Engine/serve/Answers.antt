@@ -11,17 +11,18 @@ use Rattle.raft_group_step.specs.Frames.{lacks_entries, notice}
 use Rattle.raft_engine.specs.Standing.{PlaysRole, peer_state}
 use Rattle.raft_engine.specs.Sending.{HasPeer}
 use Rattle.raft_engine.proofs.ReplicationLemmas.{leads, served, unserved}
+use Rattle.raft_engine.proofs.ClockLemmas.{in_any_case, keeps_same, keeps_untouched}
 use Rattle.raft_engine.proofs.engine.Engine.serve.Goals as goal
 use Rattle.raft_engine.proofs.engine.Engine.serve.Goals.{else-is_none-via-then-is_none+else-lacks_entries, else-is_none-via-else-is_none}
 
-pub returns-in_default : goal.returns-in_default
-returns-in_default g c = λ x own r step is_member room.
+pub returns-in_default-clause-step : goal.returns-in_default-clause-step
+returns-in_default-clause-step g c = λ x own r step is_member room.
     let self = c.args.self.now in
     rw (unserved own c.args.n c.args.has_news self.candidate r.state.stored r.state.role r
     (subst (λ l. PlaysRole own l self.candidate r.state.stored r.state.role) c.in_default.is step.state.role)) step
 
-pub returns-then-lacks_entries : goal.returns-then-lacks_entries
-returns-then-lacks_entries g c = λ x own r step is_member room.
+pub returns-then-lacks_entries-clause-step : goal.returns-then-lacks_entries-clause-step
+returns-then-lacks_entries-clause-step g c = λ x own r step is_member room.
     let self = c.args.self.now in
     let entry = c.peer-entry.result in
     let led = leads own c.in-Some.leader self.candidate r.state.stored r.state.role
@@ -33,10 +34,10 @@ returns-then-lacks_entries g c = λ x own r step is_member room.
     ap (λ b. b && lacks_entries r.state.stored (peer_state c.args.n entry)) (sym c.is_none.ensures ∙ c.if-is_none.true) ∙ lacks in
     let below : next_place entry.matching < end_place r.state.stored = ltb-true (next_place entry.matching) (end_place r.state.stored) lacks in
     rw (served own c.args.n c.args.has_news true led.0 r.state.role entry r led.1 known test)
-    (c.send_request.ensures x own r led.0 step led.1 (subst (HasPeer c.args.n) (sym c.in-Some.is) (led.2.members c.args.n is_member)) known room (omega (arith, room.places, below)))
+    (c.send_request.ensures.step x own r led.0 step led.1 (subst (HasPeer c.args.n) (sym c.in-Some.is) (led.2.members c.args.n is_member)) known room (omega (arith, room.places, below)))
 
-pub returns-then-has_news : goal.returns-then-has_news
-returns-then-has_news g c = λ x own r step is_member room.
+pub returns-then-has_news-clause-step : goal.returns-then-has_news-clause-step
+returns-then-has_news-clause-step g c = λ x own r step is_member room.
     let self = c.args.self.now in
     let entry = c.peer-entry.result in
     let led = leads own c.in-Some.leader self.candidate r.state.stored r.state.role
@@ -54,8 +55,8 @@ returns-then-has_news g c = λ x own r step is_member room.
     ∙ ap (λ b. if b then send own c.args.n (notice r.state (peer_of led.0 c.args.n)) r else r) c.if-has_news.true)
     (c.send_notice.ensures.whole x own r led.0 step known)
 
-pub returns : goal.returns
-returns g c = λ x own r step is_member room.
+pub returns-clause-step : goal.returns-clause-step
+returns-clause-step g c = λ x own r step is_member room.
     let self = c.args.self.now in
     let entry = c.peer-entry.result in
     let led = leads own c.in-Some.leader self.candidate r.state.stored r.state.role
@@ -72,3 +73,16 @@ returns g c = λ x own r step is_member room.
     rw (served own c.args.n c.args.has_news false led.0 r.state.role entry r led.1 known test
     ∙ ap (λ b. if b then send own c.args.n (notice r.state (peer_of led.0 c.args.n)) r else r) c.if-has_news.false)
     step
+
+pub returns-in_default-clause-heard : goal.returns-in_default-clause-heard
+returns-in_default-clause-heard g c = keeps_same c.args.self.now.leader
+
+pub returns-then-lacks_entries-clause-heard : goal.returns-then-lacks_entries-clause-heard
+returns-then-lacks_entries-clause-heard g c = c.send_request.ensures.heard
+
+pub returns-then-has_news-clause-heard : goal.returns-then-has_news-clause-heard
+returns-then-has_news-clause-heard g c =
+    in_any_case c.send_notice.result (keeps_untouched c.args.self.now.leader c.send_notice.new.self.leader c.send_notice.ensures.leader)
+
+pub returns-clause-heard : goal.returns-clause-heard
+returns-clause-heard g c = keeps_same c.args.self.now.leader

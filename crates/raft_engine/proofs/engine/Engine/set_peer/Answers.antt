@@ -1,8 +1,11 @@
 -- The leader's entry is the peer's in the lead.
-use Rattle.std.proofs.Common.{◌∙◌, refl, subst, None}
+use Rattle.std.proofs.Common.{◌∙◌, ap, refl, subst, sym, None, Some}
+use Rattle.raft_leaders.specs.Leader.{LeaderValue}
+use Rattle.raft_engine.specs.Clock.{KeepsHeard}
 use Rattle.raft_engine.specs.Sending.{HasPeer}
-use Rattle.raft_engine.specs.Standing.{PlaysRole}
+use Rattle.raft_engine.specs.Standing.{EffectiveMembership, PlaysRole}
 use Rattle.raft_engine.proofs.ReplicationLemmas.{known_set}
+use Rattle.raft_engine.proofs.ClockLemmas.{keeps_noting}
 use Rattle.raft_engine.proofs.engine.Engine.set_peer.Goals as goal
 
 pub returns-in_default-clause-there : goal.returns-in_default-clause-there
@@ -23,3 +26,8 @@ pub returns-clause-known : goal.returns-clause-known
 returns-clause-known g c = λ own s lead old is_lead has.
     known_set own c.args.self.now _ s lead c.in-Some.leader c.set_peer.new.self c.args.n c.args.entry old is_lead c.in-Some.is
     (subst (HasPeer c.args.n) c.in-Some.is has) c.set_peer.ensures.sets c.set_peer.ensures.rest refl refl refl refl
+
+pub returns-clause-heard : goal.returns-clause-heard
+returns-clause-heard g c =
+    subst (λ o. KeepsHeard o (Some c.set_peer.new.self)) (sym c.in-Some.is)
+    (keeps_noting c.in-Some.leader c.set_peer.new.self (ap (λ (l : LeaderValue _ EffectiveMembership). l.clock_progress) c.set_peer.ensures.rest))

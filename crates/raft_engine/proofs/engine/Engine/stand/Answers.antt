@@ -15,13 +15,13 @@ use Rattle.raft_engine.proofs.engine.Engine.stand.Goals as goal
 pub returns : goal.returns
 returns g c = λ x own r step now fits.
     let id : c.args.self.now.config.id ≡ own = ap (λ (y : EngineConfig ℕ). y.id) step.state.config in
-    let down = c.in_ok-step_down.ensures x own r step in
+    let down = c.in_ok-step_down.ensures.step x own r step in
     let vote = c.new-vote.result in
     let before : c.vote_ref.result.now.leader_id.term ≡ r.state.stored.vote.leader_id.term = ap (λ (v : Vote ℕ). v.leader_id.term) (c.vote_ref.ensures ∙ down.state.knows.vote) in
     let term : c.saturating_add-term.result ≡ r.state.stored.vote.leader_id.term + 1 = omega (arith, c.saturating_add-term.ensures, before, fits) in
     let vote_is : vote ≡ own_vote own r =
     c.new-vote.ensures ∙ ap (λ t. vote_of t c.args.self.now.config.id false) term ∙ ap (λ n. vote_of (r.state.stored.vote.leader_id.term + 1) n false) id in
-    let stored = c.in_ok-store_vote.ensures x own (step_down r) down refl now in
+    let stored = c.in_ok-store_vote.ensures.step x own (step_down r) down refl now in
     let same : c.store_vote.new.self.config.id ≡ own = ap (λ (y : EngineConfig ℕ). y.id) stored.state.config in
     let s = record r.state.stored { vote = vote } in
     let stands : Stands own c.in_ok-candidate.candidate s (own ∷ []) =

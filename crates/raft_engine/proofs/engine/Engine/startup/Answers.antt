@@ -12,4 +12,4 @@ returns g c = λ x own s stands empty ready follows.
     let e = c.args.self.now in
     let places = ready.places in
     let resumed = c.in_ok-resume_lead.ensures (given_at_start x e s) own (unchanged s) (step_at_start x own e s stands empty follows) empty refl follows (omega (arith, places)) in
-    c.finish.ensures (given_at_start x e s) own (resume_lead own (unchanged s)) resumed (resume_finishes own s ready follows)
+    c.finish.ensures.step (given_at_start x e s) own (resume_lead own (unchanged s)) resumed (resume_finishes own s ready follows)

@@ -4,8 +4,8 @@ use Rattle.raft_engine.proofs.StandingLemmas.{lead_ended, stepped_down}
 use Rattle.raft_engine.proofs.engine.Engine.step_down.Goals as goal
 use Rattle.raft_engine.proofs.engine.Engine.step_down.Goals.{then-is_some+in_ok-push_command, else-is_some}
 
-pub returns : goal.returns
-returns g c = λ x own r step.
+pub returns-clause-step : goal.returns-clause-step
+returns-clause-step g c = λ x own r step.
     let upto = c.set_wish.new.self.state.purge_upto in
     let knows = c.set_wish.ensures.known r.state.stored step.state.knows in
     let wish = c.set_wish.ensures.rest in

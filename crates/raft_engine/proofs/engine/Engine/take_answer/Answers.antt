@@ -8,11 +8,12 @@ use Rattle.raft_group_step.specs.Frames.{with_peer_state}
 use Rattle.raft_engine.specs.Standing.{PlaysRole, outstanding_of, peer_state}
 use Rattle.raft_engine.specs.Sending.{reply_of}
 use Rattle.raft_engine.proofs.ReplicationLemmas.{answer-is, answered_busy, known-busy, known_step, leads}
+use Rattle.raft_engine.proofs.ClockLemmas.{keeps_same}
 use Rattle.raft_engine.proofs.engine.Engine.take_answer.Goals as goal
 use Rattle.raft_engine.proofs.engine.Engine.take_answer.Goals.{else-eq-via-then-eq+else-is_answer_to, else-eq-via-else-eq}
 
-pub returns-then-is_answer_to : goal.returns-then-is_answer_to
-returns-then-is_answer_to g c = λ x own r step fits.
+pub returns-then-is_answer_to-clause-step : goal.returns-then-is_answer_to-clause-step
+returns-then-is_answer_to-clause-step g c = λ x own r step fits.
     let self = c.args.self.now in
     let entry = c.peer-entry.result in
     let reply = reply_of c.args.reply.now c.args.outcome.now in
@@ -30,8 +31,8 @@ returns-then-is_answer_to g c = λ x own r step fits.
     (c.set_peer.ensures.known own r.state led.0 step.state led.1
     (known-busy c.in-Some.leader self.leader c.args.peer entry c.in-Some.is c.peer-entry.ensures (answered_busy reply entry.inflight repeats))) c.set_peer.ensures.rest.0 c.set_peer.ensures.rest.1)
 
-pub returns-else-eq : goal.returns-else-eq
-returns-else-eq g c = λ x own r step fits.
+pub returns-else-eq-clause-step : goal.returns-else-eq-clause-step
+returns-else-eq-clause-step g c = λ x own r step fits.
     let self = c.args.self.now in
     let entry = c.peer-entry.result in
     let reply = reply_of c.args.reply.now c.args.outcome.now in
@@ -48,3 +49,12 @@ returns-else-eq g c = λ x own r step fits.
       | else-eq-via-else-eq w ↦ ap (λ b. b && repeats) (votes ∙ w.if-eq.false)
     ] in
     rw (answer-is c.args.peer led.0 r.state.role entry r led.1 known reply false test) step
+
+pub returns-then-is_answer_to-clause-heard : goal.returns-then-is_answer_to-clause-heard
+returns-then-is_answer_to-clause-heard g c = c.set_peer.ensures.heard
+
+pub returns-else-eq-clause-heard : goal.returns-else-eq-clause-heard
+returns-else-eq-clause-heard g c = keeps_same c.args.self.now.leader
+
+pub returns-in_default-clause-heard : goal.returns-in_default-clause-heard
+returns-in_default-clause-heard g c = keeps_same c.args.self.now.leader

@@ -9,7 +9,7 @@ pub returns-then-is_lower-clause-step : goal.returns-then-is_lower-clause-step
 returns-then-is_lower-clause-step g c = λ x own r step now.
     let greater : vote_lt r.state.stored.vote c.args.vote ≡ true =
     ap (λ v. vote_lt v c.args.vote) (sym (c.vote_ref.ensures ∙ step.state.knows.vote)) ∙ sym c.is_lower.ensures ∙ c.if-is_lower.true in
-    rw greater (c.store_vote.ensures x own (step_down r) (c.in_ok-step_down.ensures x own r step) refl now)
+    rw greater (c.store_vote.ensures.step x own (step_down r) (c.in_ok-step_down.ensures.step x own r step) refl now)
 
 pub returns-clause-step : goal.returns-clause-step
 returns-clause-step g c = λ x own r step now.

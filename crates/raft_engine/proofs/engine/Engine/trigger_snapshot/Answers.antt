@@ -19,7 +19,7 @@ returns-in_ok-finish-clause-none_new g c = λ x own at s may building none.
     let kept = (c.trigger_snapshot.ensures.none_new (subst (λ e. stands_before (covered_id e) e.state.state.committed ≡ false) (sym value) none)).1 ∙ value in
     let can = finish_at own (max s.now at) s (can_finish_when_ready own s (at ∷ []) may.ready (trigger_in_range own at s may.accepted)) in
     let step = subst (λ e. IsStepOf (given x before s) own e (begun at s)) (sym kept) (step_begun x own at before s may.stands may.empty) in
-    let done = c.in_ok-finish.ensures (given x before s) own (begun at s) (subst (λ e. IsStepOf (given x before s) own e (begun at s)) (search rules) step) can in (
+    let done = c.in_ok-finish.ensures.step (given x before s) own (begun at s) (subst (λ e. IsStepOf (given x before s) own e (begun at s)) (search rules) step) can in (
       search rules,
       event_taken x own before c.finish.new.self s (Call TriggerSnapshot at) may
           (subst (λ r. IsWholeStepOf (given x before s) own c.finish.new.self (finished own (place_of before.state.state.committed) r)) (sym (nothing_to_build own at before s may.stands none)) done),

@@ -8,8 +8,8 @@ use Rattle.raft_engine.proofs.FollowingLemmas.{later_more, later_same}
 use Rattle.raft_engine.proofs.PurgeLemmas.{wish_found, wished}
 use Rattle.raft_engine.proofs.engine.Engine.wish_to_purge.Goals as goal
 
-pub returns : goal.returns
-returns g c = λ x own r step covered.
+pub returns-clause-step : goal.returns-clause-step
+returns-clause-step g c = λ x own r step covered.
     let s = r.state.stored in
     let first = c.first_place.ensures s step.state.knows in
     let above : first_place s ≤ c.args.place = omega (arith, first, c.if-place-first_place.false) in
@@ -22,15 +22,15 @@ returns g c = λ x own r step covered.
     rw in_log (wished x own c.args.self.now _ r step (later_place r.state.wish (Some c.args.place)) wish c.set_wish.new.self.state.purge_upto
     (ap (λ (y : KnownState). record c.args.self.now { state = y }) c.set_wish.ensures.rest) knows (found ∙ sym later))
 
-pub returns-then-place-first_place : goal.returns-then-place-first_place
-returns-then-place-first_place g c = λ x own r step covered.
+pub returns-then-place-first_place-clause-step : goal.returns-then-place-first_place-clause-step
+returns-then-place-first_place-clause-step g c = λ x own r step covered.
     let first = c.first_place.ensures r.state.stored step.state.knows in
     let below : c.args.place < first_place r.state.stored = omega (arith, first, c.if-place-first_place.true) in
     let gone : nat_lt c.args.place (first_place r.state.stored) ≡ true = grind (arith, nat_tests, below) in
     rw gone step
 
-pub returns-then-reaches : goal.returns-then-reaches
-returns-then-reaches g c = λ x own r step covered.
+pub returns-then-reaches-clause-step : goal.returns-then-reaches-clause-step
+returns-then-reaches-clause-step g c = λ x own r step covered.
     let s = r.state.stored in
     let old = c.args.self.now in
     let place = c.args.place in

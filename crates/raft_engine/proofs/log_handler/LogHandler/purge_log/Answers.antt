@@ -9,4 +9,4 @@ returns-clause-within g c = λ x own r step fits may.
     let after = purge_as_wished r.state.role r.state.wish r in
     on_ok_weaker c.purge_as_wished.result
     (λ (h : IsStepOf x own c.purge_as_wished.new.self after). purged_within own c.purge_as_wished.new.self after.state h.state)
-    (c.purge_as_wished.ensures x own r step fits may)
+    (c.purge_as_wished.ensures.step x own r step fits may)

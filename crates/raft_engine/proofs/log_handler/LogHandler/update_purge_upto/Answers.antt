@@ -9,4 +9,4 @@ returns-clause-within g c = λ x own r step fits.
     let after = purge_trigger_step c.args.place r in
     on_ok_weaker c.purge_trigger.result
     (λ (h : IsStepOf x own c.purge_trigger.new.self after). purged_within own c.purge_trigger.new.self after.state h.state)
-    (c.purge_trigger.ensures x own r step fits)
+    (c.purge_trigger.ensures.step x own r step fits)

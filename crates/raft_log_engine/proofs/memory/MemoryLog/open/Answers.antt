@@ -3,7 +3,9 @@ use Rattle.std.proofs.Common.{List, false, refl, subst, ◌∙◌}
 use Rattle.raft_log_disk.specs.MemorySystem.{disk_in}
 use Rattle.raft_log_disk.specs.Text.{Text}
 use Rattle.raft_log_engine.specs.Left.{answers_on}
-use Rattle.raft_log_engine.specs.Opening.{IsLeftByOpening}
+use Rattle.raft_log_files.specs.declared.recovery.RecoveryMode.{RecoveryMode}
+use Rattle.raft_log_engine.specs.Log.{main_directory}
+use Rattle.raft_log_engine.specs.Opening.{IsFoundAgain, IsLeftByOpening}
 use Rattle.raft_log_engine.proofs.Logs.{leaves_only}
 use Rattle.raft_log_engine.proofs.memory.MemoryLog.open.Goals as goal
 
@@ -23,3 +25,8 @@ returns-in-Ok-open-clause-leaves c =
 pub returns-in-Err-clause-err : goal.returns-in-Err-clause-err
 returns-in-Err-clause-err c =
     subst (λ (l : List Text). IsLeftByOpening l (disk_in c.args.files.files) (disk_in c.in-Err.field-0.files)) c.in-Ok.ensures.directories c.in-Err.ensures.err
+
+pub returns-in-Err-clause-reads : goal.returns-in-Err-clause-reads
+returns-in-Err-clause-reads c =
+    subst (λ (m : RecoveryMode). IsFoundAgain m (main_directory c.args.files.settings) (disk_in c.args.files.files) (disk_in c.in-Err.field-0.files)) c.in-Ok.ensures.mode
+    (subst (λ (l : List Text). IsFoundAgain c.in-Ok.config.recovery_mode l (disk_in c.args.files.files) (disk_in c.in-Err.field-0.files)) c.in-Ok.ensures.directories c.in-Err.ensures.reads)

@@ -1,13 +1,14 @@
-use Rattle.std.proofs.Common.{◌-◌, ◌<◌, List, length, map, sym, ap, subst, ◌∙◌, arith}
-use Rattle.std.specs.Prelude.{String, Ok}
+use Rattle.std.proofs.Common.{◌≡◌, ◌-◌, ◌<◌, List, length, map, sym, ap, subst, ◌∙◌, arith}
+use Rattle.std.specs.Prelude.{String, Ok, Err}
 use Rattle.std.specs.String.{string_bytes}
 use Rattle.std.specs.declared.alloc.Global.{Global}
 use Rattle.raft_log_disk.specs.Disk.{Disk}
 use Rattle.raft_log_pipe.specs.Alone.{IsMadeIn}
-use Rattle.raft_log_pipe.specs.Pipe.{IsLast, IsPlain}
-use Rattle.raft_log_pipe.proofs.NextLemmas.{begun_changes}
+use Rattle.raft_log_records.specs.declared.file_id.FileId.{FileId}
+use Rattle.raft_log_pipe.specs.Pipe.{IsLast, IsPlain, id_of}
+use Rattle.raft_log_pipe.proofs.NextLemmas.{begun_changes, begun_short}
 use Rattle.raft_log_pipe.proofs.ExitLemmas.{first_holds, first_pipe, last_for}
-use Rattle.raft_log_pipe.proofs.AloneLemmas.{first_alone}
+use Rattle.raft_log_pipe.proofs.AloneLemmas.{first_alone, made_header, refused_header}
 use Rattle.raft_log_pipe.proofs.pipe.SinglePipe.create.Goals as goal
 
 pub returns-clause-pipe : goal.returns-clause-pipe
@@ -32,3 +33,24 @@ returns-clause-alone g c =
     (omega (arith, c.new-id.ensures.seq)) c.new.ensures.items
     (subst (λ (l : List (String Global)). IsMadeIn (g.F.FileSystem.disk c.args.files.now) (g.F.FileSystem.disk c.new_file.new.files) (map string_bytes l) c.new-id.result (Ok c.in_ok-file.file)) c.deref.ensures.value c.in_ok-file.ensures.made)
     (ap (λ (y : Disk). y.names) (begun_changes (g.F.FileSystem.disk c.new_file.new.files) (g.F.FileSystem.disk c.begin_file.new.files) c.in_ok-file.file c.in_ok-writer.writer c.in_ok-writer.ensures.begun))
+
+pub returns-in_err-file-clause-makes : goal.returns-in_err-file-clause-makes
+returns-in_err-file-clause-makes g c =
+    refused_header (g.F.FileSystem.disk c.args.files.now) (g.F.FileSystem.disk c.new_file.new.files) (map string_bytes c.args.paths.items) c.new-id.result (id_of c.args.queue 1) c.in_err-file.field-0.0
+    (λ i. record { queue = c.new-id.ensures.queue i; seq = c.new-id.ensures.seq i })
+    (subst (λ (l : List (String Global)). IsMadeIn (g.F.FileSystem.disk c.args.files.now) (g.F.FileSystem.disk c.new_file.new.files) (map string_bytes l) c.new-id.result (Err c.in_err-file.field-0.0)) c.deref.ensures.value c.in_err-file.ensures.made)
+
+pub returns-in_err-writer-clause-makes : goal.returns-in_err-writer-clause-makes
+returns-in_err-writer-clause-makes g c =
+    made_header (g.F.FileSystem.disk c.args.files.now) (g.F.FileSystem.disk c.new_file.new.files) (g.F.FileSystem.disk c.begin_file.new.files) (map string_bytes c.args.paths.items) c.new-id.result (id_of c.args.queue 1) c.in_ok-file.file
+    (λ i. record { queue = c.new-id.ensures.queue i; seq = c.new-id.ensures.seq i })
+    (subst (λ (l : List (String Global)). IsMadeIn (g.F.FileSystem.disk c.args.files.now) (g.F.FileSystem.disk c.new_file.new.files) (map string_bytes l) c.new-id.result (Ok c.in_ok-file.file)) c.deref.ensures.value c.in_ok-file.ensures.made)
+    c.in_err-writer.ensures.begun.0 (λ bare least. omega (arith, c.in_err-writer.ensures.begun.1, least))
+
+pub returns-clause-makes : goal.returns-clause-makes
+returns-clause-makes g c =
+    made_header (g.F.FileSystem.disk c.args.files.now) (g.F.FileSystem.disk c.new_file.new.files) (g.F.FileSystem.disk c.begin_file.new.files) (map string_bytes c.args.paths.items) c.new-id.result (id_of c.args.queue 1) c.in_ok-file.file
+    (λ i. record { queue = c.new-id.ensures.queue i; seq = c.new-id.ensures.seq i })
+    (subst (λ (l : List (String Global)). IsMadeIn (g.F.FileSystem.disk c.args.files.now) (g.F.FileSystem.disk c.new_file.new.files) (map string_bytes l) c.new-id.result (Ok c.in_ok-file.file)) c.deref.ensures.value c.in_ok-file.ensures.made)
+    (begun_changes (g.F.FileSystem.disk c.new_file.new.files) (g.F.FileSystem.disk c.begin_file.new.files) c.in_ok-file.file c.in_ok-writer.writer c.in_ok-writer.ensures.begun)
+    (λ bare least. begun_short (g.F.FileSystem.disk c.new_file.new.files) (g.F.FileSystem.disk c.begin_file.new.files) c.in_ok-file.file c.in_ok-writer.writer (ap length bare) c.in_ok-writer.ensures.begun)

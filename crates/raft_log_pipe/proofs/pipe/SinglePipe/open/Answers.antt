@@ -1,7 +1,7 @@
 use Rattle.std.proofs.Common.{[], ◌∷◌, ◌++◌, map, sym, ap}
 use Rattle.std.specs.String.{string_bytes}
 use Rattle.raft_log_disk.specs.Disk.{Disk}
-use Rattle.raft_log_pipe.proofs.OpenLemmas.{found_so, opened_holds, opened_pipe, resumed_on}
+use Rattle.raft_log_pipe.proofs.OpenLemmas.{found_so, opened_holds, opened_keeps, opened_pipe, resumed_on}
 use Rattle.raft_log_pipe.proofs.AloneLemmas.{found_alone}
 use Rattle.raft_log_pipe.proofs.pipe.SinglePipe.open.Goals as goal
 
@@ -28,3 +28,8 @@ returns-clause-alone g c =
     let so = found_so c.args.queue c.args.paths.items (g.F.FileSystem.disk c.args.files.now) c.args.found.items c.pop.new.self.items c.in-Some.active c.requires.found.0 c.in-Some.ensures.items c.requires.found.1 in
     found_alone (g.F.FileSystem.disk c.args.files.now) (g.F.FileSystem.disk c.resume_file.new.files) (map string_bytes c.args.paths.items) c.args.queue c.args.found.items (c.pop.new.self.items ++ c.in-Some.active ∷ []) (sym c.in-Some.ensures.items)
     (ap (λ (y : Disk). y.names) (resumed_on (g.F.FileSystem.disk c.args.files.now) (g.F.FileSystem.disk c.resume_file.new.files) c.args.queue c.in-Some.active so.ks c.in_ok-writer.writer so.whole c.in_ok-writer.ensures.resumed).change)
+
+pub returns-clause-keeps : goal.returns-clause-keeps
+returns-clause-keeps g c =
+    opened_keeps c.args.queue c.args.paths.items (g.F.FileSystem.disk c.args.files.now) (g.F.FileSystem.disk c.resume_file.new.files) c.args.found.items c.pop.new.self.items c.in-Some.active c.requires.found.0 c.in_ok-writer.writer c.in-Some.ensures.items
+    (found_so c.args.queue c.args.paths.items (g.F.FileSystem.disk c.args.files.now) c.args.found.items c.pop.new.self.items c.in-Some.active c.requires.found.0 c.in-Some.ensures.items c.requires.found.1) c.in_ok-writer.ensures.resumed

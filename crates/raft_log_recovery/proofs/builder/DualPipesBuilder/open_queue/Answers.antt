@@ -1,15 +1,19 @@
 use Rattle.std.proofs.Common.{◌≡◌, List, length, map, string_bytes, sym, ap, subst, ◌∙◌, arith}
 use Rattle.std.specs.Prelude.{◌==◌, vec_len}
-use Rattle.std.proofs.lemmas.Bool.{eqb-false, eqb-true}
+use Rattle.std.proofs.lemmas.Bool.{eqb-false, eqb-true, false≢true}
 use Rattle.std.specs.List.{list_all}
 use Rattle.raft_log_disk.specs.Text.{Text}
 use Rattle.raft_log_disk.proofs.CauseLemmas.{at_err}
 use Rattle.raft_log_recovery.specs.declared.scan.FileKind.TheVariants.{Log}
 use Rattle.raft_log_recovery.specs.declared.scan.FileName.{FileName}
 use Rattle.raft_log_recovery.specs.Opening.{batches_of}
-use Rattle.raft_log_recovery.specs.Queue.{AreLeft, AreRecovered, directories_in, names_in}
+use Rattle.raft_log_pipe.specs.Found.{KeepsButHeader}
+use Rattle.raft_log_recovery.specs.Queue.{AreLeft, AreReadAlike, AreRecovered, OnlyChanges, directories_in, names_in}
+use Rattle.raft_log_pipe.specs.Found.{MakesButHeader}
+use Rattle.raft_log_pipe.specs.Pipe.{id_of}
 use Rattle.raft_log_recovery.specs.Scan.{AreFound}
-use Rattle.raft_log_recovery.proofs.OpeningLemmas.{created_gives, err_on, no_names, none_aligned, none_last, none_named, opened_changes, opened_gives, opened_left, recovered_found, recovered_left}
+use Rattle.raft_log_recovery.proofs.OpeningLemmas.{created_gives, err_on, kept_only, no_names, none_aligned, none_last, none_named, opened_changes, opened_gives, opened_left, recovered_found, recovered_left}
+use Rattle.raft_log_recovery.proofs.AgainLemmas.{created_before, either_way, finds_before, none_keeps, opened_alike}
 use Rattle.raft_log_recovery.proofs.AloneLemmas.{created_alone, found_alone, paths_are}
 use Rattle.raft_log_recovery.proofs.builder.DualPipesBuilder.open_queue.Goals as goal
 
@@ -140,3 +144,66 @@ returns-clause-alone g c =
     found_alone c.open.result old (g.F.FileSystem.disk c.recover_queue.new.files) (g.F.FileSystem.disk c.open.new.files) queue (map string_bytes c.in_ok-paths.paths.items) (directories_in c.args.self.now)
     (names_in c.args.self.now queue) c.in_ok-recovered.recovered.items said (met.is_named c.args.files.now) c.in_ok-recovered.ensures.only.names_stay c.requires.found c.in_ok-recovered.ensures.ok.opened
     (omega (arith, ap length c.deref.ensures.value, c.deref.ensures.len, eqb-false (vec_len c.in_ok-recovered.recovered) 0 (sym c.is_empty.ensures ∙ c.if-is_empty.false))) c.open.ensures.alone
+
+pub returns-in_err-recovered-clause-again : goal.returns-in_err-recovered-clause-again
+returns-in_err-recovered-clause-again g c =
+    let met = g.met.F.FileSystem g.world.𝓛 g.world.𝓜 g.world.𝓡 ((λ s x. x), (λ x. x), (λ x. x), λ x. x) in
+    let queue = c.args.config.now.queue in
+    let directories = directories_in c.args.self.now in
+    let names : List FileName = names_in c.args.self.now queue in
+    let old = g.F.FileSystem.disk c.args.files.now in
+    let mid = g.F.FileSystem.disk c.recover_queue.new.files in
+    finds_before c.args.config.now.mode directories queue old mid names (met.is_named c.args.files.now) c.requires.found c.recover_queue.ensures.only c.recover_queue.ensures.reads c.in_err-recovered.ensures.kept
+
+pub returns-then-not-are_plain-clause-again : goal.returns-then-not-are_plain-clause-again
+returns-then-not-are_plain-clause-again g c =
+    let met = g.met.F.FileSystem g.world.𝓛 g.world.𝓜 g.world.𝓡 ((λ s x. x), (λ x. x), (λ x. x), λ x. x) in
+    let queue = c.args.config.now.queue in
+    let directories = directories_in c.args.self.now in
+    let names : List FileName = names_in c.args.self.now queue in
+    let old = g.F.FileSystem.disk c.args.files.now in
+    let mid = g.F.FileSystem.disk c.recover_queue.new.files in
+    finds_before c.args.config.now.mode directories queue old mid names (met.is_named c.args.files.now) c.requires.found c.recover_queue.ensures.only c.recover_queue.ensures.reads
+    (none_keeps c.args.config.now.mode directories queue names old mid (λ any. false≢true (c.in_ok-recovered.ensures.refused any)))
+
+pub returns-in_err-paths-clause-again : goal.returns-in_err-paths-clause-again
+returns-in_err-paths-clause-again g c =
+    let met = g.met.F.FileSystem g.world.𝓛 g.world.𝓜 g.world.𝓡 ((λ s x. x), (λ x. x), (λ x. x), λ x. x) in
+    let queue = c.args.config.now.queue in
+    let directories = directories_in c.args.self.now in
+    let names : List FileName = names_in c.args.self.now queue in
+    let old = g.F.FileSystem.disk c.args.files.now in
+    let mid = g.F.FileSystem.disk c.recover_queue.new.files in
+    finds_before c.args.config.now.mode directories queue old mid names (met.is_named c.args.files.now) c.requires.found c.recover_queue.ensures.only c.recover_queue.ensures.reads
+    (none_keeps c.args.config.now.mode directories queue names old mid (λ any. false≢true (c.in_ok-recovered.ensures.refused any)))
+
+pub returns-then-is_empty-clause-again : goal.returns-then-is_empty-clause-again
+returns-then-is_empty-clause-again g c =
+    let met = g.met.F.FileSystem g.world.𝓛 g.world.𝓜 g.world.𝓡 ((λ s x. x), (λ x. x), (λ x. x), λ x. x) in
+    let queue = c.args.config.now.queue in
+    let directories = directories_in c.args.self.now in
+    let names : List FileName = names_in c.args.self.now queue in
+    let old = g.F.FileSystem.disk c.args.files.now in
+    let mid = g.F.FileSystem.disk c.recover_queue.new.files in
+    let new = g.F.FileSystem.disk c.create.new.files in
+    let none = no_names old directories queue names c.in_ok-recovered.recovered.items c.in_ok-recovered.ensures.ok.opened
+    (omega (arith, ap length c.deref.ensures.value, c.deref.ensures.len, eqb-true (vec_len c.in_ok-recovered.recovered) 0 (sym c.is_empty.ensures ∙ c.if-is_empty.true))) in
+    let said : map string_bytes c.in_ok-paths.paths.items ≡ directories = c.in_ok-paths.ensures ∙ ap (map string_bytes) c.deref-2.ensures.value in
+    created_before c.args.config.now.mode directories queue old mid new names 1 (met.has_images c.create.new.files) c.requires.found none c.recover_queue.ensures.only
+    (subst (λ (l : List Text). MakesButHeader mid new l (id_of queue 1)) said c.create.ensures.makes)
+
+pub returns-clause-again : goal.returns-clause-again
+returns-clause-again g c =
+    let met = g.met.F.FileSystem g.world.𝓛 g.world.𝓜 g.world.𝓡 ((λ s x. x), (λ x. x), (λ x. x), λ x. x) in
+    let queue = c.args.config.now.queue in
+    let directories = directories_in c.args.self.now in
+    let names : List FileName = names_in c.args.self.now queue in
+    let old = g.F.FileSystem.disk c.args.files.now in
+    let mid = g.F.FileSystem.disk c.recover_queue.new.files in
+    let new = g.F.FileSystem.disk c.open.new.files in
+    let fs = c.in_ok-recovered.recovered.items in
+    let keeps : KeepsButHeader mid new fs = either_way c.open.result (KeepsButHeader mid new fs) c.open.ensures.keeps c.open.ensures.err in
+    let only : OnlyChanges directories queue names old new = kept_only directories queue old mid new names fs c.in_ok-recovered.ensures.ok keeps in
+    finds_before c.args.config.now.mode directories queue old new names (met.is_named c.args.files.now) c.requires.found only
+    (opened_alike directories queue old mid new names fs (met.has_images c.open.new.files) c.in_ok-recovered.ensures.ok only keeps)
+    (none_keeps c.args.config.now.mode directories queue names old new (λ any. false≢true (c.in_ok-recovered.ensures.refused any)))

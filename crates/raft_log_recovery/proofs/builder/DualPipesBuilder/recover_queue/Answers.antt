@@ -4,7 +4,7 @@ use Rattle.std.specs.declared.alloc.Global.{Global}
 use Rattle.std.proofs.lemmas.List.{length-map}
 use Rattle.raft_log_recovery.specs.declared.scan.FileKind.TheVariants.{Log}
 use Rattle.raft_log_recovery.specs.declared.scan.FileName.{FileName}
-use Rattle.raft_log_recovery.specs.Queue.{AnyRefused, AreLeft, AreNumbered, KeepsRefused, directories_in, names_in}
+use Rattle.raft_log_recovery.specs.Queue.{AnyRefused, AreLeft, AreNumbered, AreReadAlike, KeepsRefused, directories_in, names_in}
 use Rattle.raft_log_recovery.proofs.FoundLemmas.{found_numbered}
 use Rattle.raft_log_recovery.proofs.builder.DualPipesBuilder.recover_queue.Goals as goal
 
@@ -40,3 +40,11 @@ returns-clause-kept g c =
     let new = g.F.FileSystem.disk c.recover_each.new.files in
     subst (λ (l : List FileName). OnErr c.recover_each.result (KeepsRefused mode (directories_in c.args.self.now) queue l old new)) c.names_of-names.ensures
     (subst (λ (l : List (String Global)). OnErr c.recover_each.result (KeepsRefused mode (map string_bytes l) queue c.names_of-names.result.now old new)) c.deref.ensures.value c.recover_each.ensures.kept)
+
+pub returns-clause-reads : goal.returns-clause-reads
+returns-clause-reads g c =
+    let queue = c.args.config.now.queue in
+    let old = g.F.FileSystem.disk c.args.files.now in
+    let new = g.F.FileSystem.disk c.recover_each.new.files in
+    subst (λ (l : List FileName). AreReadAlike (directories_in c.args.self.now) queue l old new) c.names_of-names.ensures
+    (subst (λ (l : List (String Global)). AreReadAlike (map string_bytes l) queue c.names_of-names.result.now old new) c.deref.ensures.value c.recover_each.ensures.reads)

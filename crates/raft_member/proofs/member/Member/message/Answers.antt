@@ -73,3 +73,6 @@ returns-in-None-clause-err g c = λ y s brings down moment idle lawful.
     (on_err_weaker result
     (stopped_as_halted shown c.args.self.now.id s (event g c y s brings down.present idle lawful) m (accepted g c y s brings down.present idle lawful))
     (c.accepted_message.ensures.err y c.args.now s brings down at (may g c y s brings down.present idle lawful)))
+
+pub returns-in-None-clause-heard : goal.returns-in-None-clause-heard
+returns-in-None-clause-heard g c = c.accepted_message.ensures.heard

@@ -7,6 +7,9 @@ use Rattle.raft_group_step.specs.Message.{Message as Said}
 use Rattle.raft_member.specs.Member.{Engine, HasEnded, HasStopped, IsIdle}
 use Rattle.raft_member.specs.declared.member.Member.{Member}
 use Rattle.raft_member.proofs.MessageLemmas.{said_as}
+use Rattle.raft_executor.specs.SendingTimes.{sent_at}
+use Rattle.raft_member.specs.Hearing.{HasHeard}
+use Rattle.raft_member.proofs.HearingLemmas.{put_back_heard}
 use Rattle.raft_member.proofs.member.Member.receive.Goals as goal
 
 pub returns-in_err-ended-clause-err : goal.returns-in_err-ended-clause-err
@@ -51,3 +54,13 @@ returns-clause-ok g c = λ m s says up lawful.
       present = up.present;
     })
     up.moment idle lawful))
+
+pub returns-clause-heard : goal.returns-clause-heard
+returns-clause-heard g c = λ e e' was is.
+    let m = c.args.message.now in
+    let sent = sent_at c.args.self.now.sendings m.sender in
+    let engine = c.message.new.engine in
+    let both : Some e ≡ Some c.in-Some.engine = sym was ∙ sym c.take.ensures.value ∙ c.in-Some.is in
+    let same : e ≡ c.in-Some.engine = cc in
+    subst (λ (y : Engine). HasHeard m sent y.leader e'.leader c.in_ok-ended.ended) (sym same)
+    (put_back_heard m sent c.in-Some.engine.leader engine e' c.in_ok-ended.ended c.message.new.self c.put_back.new.self c.put_back.ensures is c.in_ok-ended.ensures.heard)

@@ -1,5 +1,5 @@
 -- One token more is named behind those that waited.
-use Rattle.std.proofs.Common.{◌≡◌, List, [], ◌∷◌, ◌++◌, ap, ◌∙◌, refl, arith}
+use Rattle.std.proofs.Common.{◌≡◌, [], ◌∷◌, ◌++◌, ap, ◌∙◌, refl, arith}
 use Rattle.std.proofs.lemmas.Grind.{common_steps}
 use Rattle.raft_node.specs.Waiting.{named_of, of_group, one_more}
 use Rattle.raft_node.proofs.NamedTokens.{by_group, one_named}

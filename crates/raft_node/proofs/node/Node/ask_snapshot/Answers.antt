@@ -1,5 +1,5 @@
 -- The snapshot was built, the groups are asked, and their answer is settled.
-use Rattle.std.proofs.Common.{rules, ◌≡◌, ℕ, None, refl, sym, ap, subst, ◌∙◌}
+use Rattle.std.proofs.Common.{rules, ◌≡◌, None, refl, sym, ap, subst, ◌∙◌}
 use Rattle.std.specs.Ordering.{nat_cmp}
 use Rattle.std.specs.BTreeMap.{get}
 use Rattle.raft_group_step.specs.GroupEvent.{Call}

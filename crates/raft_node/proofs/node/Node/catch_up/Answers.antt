@@ -1,5 +1,5 @@
 -- The group's machine follows its member.
-use Rattle.std.proofs.Common.{rules, ◌≡◌, ℕ, Option, Some, None, refl, sym, ap, subst, ◌∙◌, is_some, true}
+use Rattle.std.proofs.Common.{rules, ◌≡◌, ℕ, Option, Some, refl, subst, ◌∙◌}
 use Rattle.std.specs.Ordering.{nat_cmp}
 use Rattle.std.specs.BTreeMap.{get}
 use Rattle.raft_applier.specs.Following.{with_brought}

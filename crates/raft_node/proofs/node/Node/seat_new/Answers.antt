@@ -1,5 +1,5 @@
 -- The new machine is there, and the others stay.
-use Rattle.std.proofs.Common.{◌≡◌, ap, sym, subst, ◌∙◌}
+use Rattle.std.proofs.Common.{ap, sym, subst, ◌∙◌}
 use Rattle.std.specs.Prelude.{option_map}
 use Rattle.raft_group_step.specs.GroupState.{state_of}
 use Rattle.raft_node.specs.Running.{RunsAt, running_of}

@@ -1,5 +1,5 @@
 -- The groups take the frame, and their answer is settled.
-use Rattle.std.proofs.Common.{◌≡◌, ℕ, None, Err, true, false, inl, inr, refl, sym, ap, subst, ◌∙◌}
+use Rattle.std.proofs.Common.{◌≡◌, None, Err, inl, inr, refl, sym, ap, subst, ◌∙◌}
 use Rattle.std.specs.Ordering.{nat_cmp}
 use Rattle.std.specs.BTreeMap.{get}
 use Rattle.raft_group_step.specs.GroupEvent.{Receive}

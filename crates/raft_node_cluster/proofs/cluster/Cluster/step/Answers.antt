@@ -10,11 +10,11 @@ invariant_of-self-2 g c =
     let acts = g.N.ClusterNode.acts in
     let reached = c.self.invariant in
     let old = c.self.inside in
-    let new = c.happen-outcome.new in
-    let r : Recorded = record { event = c.args.event; outcome = c.happen-outcome.result } in
+    let new = c.happen.new in
+    let r : Recorded = record { event = c.args.event; outcome = c.in_ok-outcome.outcome } in
     let pushed : c.push.new.self.items ≡ old.history.items ++ r ∷ [] = (rw c.unwrap.ensures at c.push.ensures.items) ∙ ap (λ l. l ++ r ∷ []) c.reserve.ensures.items in
-    let P : List Recorded → Type 0 = λ h. Happens acts old.nodes.items (frames_of old.sent) h c.args.event c.happen-outcome.result new.nodes.items (frames_of new.sent) in
-    let happened = subst P (c.as_slice.ensures.value ∙ c.reserve.ensures.items) c.happen-outcome.ensures in
+    let P : List Recorded → Type 0 = λ h. Happens acts old.nodes.items (frames_of old.sent) h c.args.event c.in_ok-outcome.outcome new.nodes.items (frames_of new.sent) in
+    let happened = subst P (c.as_slice.ensures.value ∙ c.reserve.ensures.items) c.in_ok-outcome.ensures.ok in
     let Q : List Recorded → Type 0 = λ h. RunsTo acts reached.first nothing_sent [] h new.nodes.items (frames_of new.sent) in
     record {
       first = reached.first;

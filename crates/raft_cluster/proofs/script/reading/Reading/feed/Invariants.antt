@@ -1,7 +1,0 @@
--- The bytes so far were taken in, and the lines that they end were answered.
-use Rattle.std.proofs.Common.{take}
-use Rattle.raft_cluster.specs.Script.Session.{WritesAndTakes}
-use Rattle.raft_cluster.proofs.script.reading.Reading.feed.Given as goal
-
-abbrev pub invariant-loop-byte : goal.invariant-loop-byte
-invariant-loop-byte g l = WritesAndTakes (g.W.Write.contents l.initial.writer) (g.W.Write.contents l.writer) l.initial.self (take l.byte-index l.piece) l.self

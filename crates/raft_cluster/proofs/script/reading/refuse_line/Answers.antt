@@ -1,5 +1,0 @@
-use Rattle.std.proofs.KnownBytes.{Appends-nil}
-use Rattle.raft_cluster.proofs.script.reading.refuse_line.Goals as goal
-
-pub returns-in_default : goal.returns-in_default
-returns-in_default g c = Appends-nil _

@@ -1,0 +1,140 @@
+//! What a node answers, in words.
+
+use crate::node::{Refused, ShelfNode};
+use raft_framed_groups::GroupFrame;
+use raft_machines::{Told, Untold};
+use raft_node::{Fault, Outcome, UnknownTokens};
+use std::alloc::{AllocError, Global};
+use std::fmt::{self, Display};
+
+// A value that may be missing.
+#[derive(Drop)]
+struct Shown<T>(Option<T>);
+
+impl<T: Display> Display for Shown<T> {
+    fn fmt<W: fmt::Write>(&self, f: &mut fmt::Formatter<W>) -> fmt::Result {
+        match &self.0 {
+            Some(value) => write!(f, "{value}"),
+            None => write!(f, "-"),
+        }
+    }
+}
+
+// ---- outcomes
+
+fn push_frames(alloc: Global, text: &mut String, frames: &[GroupFrame]) -> Result<(), AllocError> {
+    for frame in frames {
+        text.push_str(format!(in alloc; " >{}", frame.addressee)?.as_str())?;
+    }
+    Ok(())
+}
+
+fn push_told(alloc: Global, text: &mut String, told: &[Told]) -> Result<(), AllocError> {
+    for one in told {
+        let answer = one.answer.as_slice().escape_ascii();
+        let word = format!(in alloc; " told {}@{}=\"{answer}\"", one.token, one.place)?;
+        text.push_str(word.as_str())?;
+    }
+    Ok(())
+}
+
+fn push_unknown(alloc: Global, text: &mut String, unknown: &[u64]) -> Result<(), AllocError> {
+    for token in unknown {
+        text.push_str(format!(in alloc; " unknown {token}")?.as_str())?;
+    }
+    Ok(())
+}
+
+/// What an event did: to whom frames go, which tokens are told with which answer, and which ones stay
+/// unknown.
+pub fn text_of(alloc: Global, outcome: &Outcome) -> Result<String, AllocError> {
+    let mut text = format!(in alloc; "done in {}", outcome.group)?;
+    push_frames(alloc, &mut text, outcome.frames.as_slice())?;
+    push_told(alloc, &mut text, outcome.told.as_slice())?;
+    push_unknown(alloc, &mut text, outcome.unknown.as_slice())?;
+    Ok(text)
+}
+
+// ---- refusals
+
+fn push_untold(
+    alloc: Global,
+    text: &mut String,
+    group: u64,
+    untold: &[Untold],
+) -> Result<(), AllocError> {
+    for one in untold {
+        let word = format!(in alloc; " unknown {} in {group}", one.token)?;
+        text.push_str(word.as_str())?;
+    }
+    Ok(())
+}
+
+// The tokens that waited.
+fn push_waited(
+    alloc: Global,
+    text: &mut String,
+    waited: &[UnknownTokens],
+) -> Result<(), AllocError> {
+    for one in waited {
+        push_untold(alloc, text, one.group, one.tokens.as_slice())?;
+    }
+    Ok(())
+}
+
+fn push_leader(alloc: Global, text: &mut String, leader: Option<u64>) -> Result<(), AllocError> {
+    text.push_str(format!(in alloc; ", led by {}", Shown(leader))?.as_str())
+}
+
+// What a refusal says beside its number and name.
+fn push_more(alloc: Global, text: &mut String, fault: &Refused) -> Result<(), AllocError> {
+    match fault {
+        Fault::NotLeader { leader } => push_leader(alloc, text, *leader),
+        Fault::Stopped { unknown, .. } => push_waited(alloc, text, unknown.as_slice()),
+        _ => Ok(()),
+    }
+}
+
+/// Why a call isn't done, by number and name.
+pub fn refusal_of(alloc: Global, fault: &Refused) -> Result<String, AllocError> {
+    let mut text = format!(in alloc; "refused {} {}", fault.number(), fault.name())?;
+    push_more(alloc, &mut text, fault)?;
+    Ok(text)
+}
+
+/// The same behind other words.
+pub fn push_refusal(alloc: Global, text: &mut String, fault: &Refused) -> Result<(), AllocError> {
+    let refusal = refusal_of(alloc, fault)?;
+    text.push_str("; ")?;
+    text.push_str(refusal.as_str())
+}
+
+// ---- what a node tells
+
+/// What a node tells of a group.
+pub fn seen(alloc: Global, node: &ShelfNode, group: u64) -> Result<String, AllocError> {
+    let role = node.role(group);
+    let leader = Shown(node.leader(group));
+    let last = Shown(node.last_log_id(group));
+    let next = Shown(node.next_log_id(group));
+    let applied = Shown(node.applied(group));
+    format!(in alloc; "{role:?}, led by {leader}, last {last}, next {next}, applied {applied}")
+}
+
+/// What stands in the key's place on the group's shelf.
+pub fn shelved(
+    alloc: Global,
+    node: &ShelfNode,
+    group: u64,
+    key: &str,
+) -> Result<String, AllocError> {
+    let shelf = node.machine(group);
+    let byte = match (shelf, key.as_bytes()) {
+        (Some(shelf), [key]) => shelf.get(*key),
+        _ => None,
+    };
+    match byte {
+        Some(byte) => format!(in alloc; "\"{}\"", [byte].escape_ascii()),
+        None => format!(in alloc; "-"),
+    }
+}

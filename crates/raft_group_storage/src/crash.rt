@@ -1,0 +1,22 @@
+//! What is asked of a storage that can be made to crash.
+ghost use Rattle.std.specs.Prelude.{◌≡◌, OnErr, OnOk};
+
+use crate::storage::GroupStorage;
+
+/// A storage whose machine can be made to stop, for simulations (own).
+pub trait CrashStorage: GroupStorage {
+    /// What a crash may leave.
+    type Choice;
+
+    /// Why it doesn't crash so.
+    type Refusal: Drop;
+
+    /// What the storage is behind a crash.
+    ghost crashed: { Self → Self → Type 0 };
+
+    /// Leaves what the choice says. The storage is only to be given back then. A refusal leaves it as
+    /// it was.
+    fn crash(&mut self, choice: &Self::Choice) -> Result<(), Self::Refusal>
+        ensures crashed { OnOk result (crashed self.old self.new) }
+        ensures err { OnErr result (self.new ≡ self.old) };
+}

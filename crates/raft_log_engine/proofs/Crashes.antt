@@ -1,0 +1,116 @@
+-- A log whose files crash where they lie, and files that show nothing by chance.
+use Rattle.std.proofs.Common.{◌≡◌, ◌⊎◌, inl, inr, ℕ, Bool, true, false, cond, eqb, List, [], ◌∷◌, refl, sym, ap, subst, ◌∙◌}
+use Rattle.std.specs.Prelude.{Result, Ok, Err, OnErr, OnOk, MatchOption, ◌==◌}
+use Rattle.std.specs.List.{AllByRecursion}
+use Rattle.std.proofs.lemmas.Bool.{eqb-false, eqb-true, false≢true}
+use Rattle.raft_log_disk.specs.declared.crash.CrashChoice.TheVariants.{Most}
+use Rattle.raft_log_disk.specs.declared.crash.CrashRefusal.{CrashRefusal}
+use Rattle.raft_log_disk.specs.declared.memory.MemoryFileSystem.{MemoryFileSystem}
+use Rattle.raft_log_disk.specs.Chance.{IsGenuine, IsGenuineImage}
+use Rattle.raft_log_disk.specs.Disk.{Disk, FileState, IsIn, settled}
+use Rattle.raft_log_disk.specs.Image.{Image, IsFileImage, IsImage, IsImageOf, after_crash, image_of, seen_image}
+use Rattle.raft_log_disk.specs.MemoryImages.{memory_images}
+use Rattle.raft_log_disk.specs.MemorySystem.{disk_in, memory_is_named}
+use Rattle.raft_log_disk.specs.Name.{log_file_of}
+use Rattle.raft_log_disk.specs.Text.{Text}
+use Rattle.raft_log_disk.proofs.LawLemmas.{all_among, most_is_an_image, still_image}
+use Rattle.raft_log_files.specs.declared.config.Config.{Config}
+use Rattle.raft_log_memtables.specs.Content.{Content}
+use Rattle.raft_log_pipe.specs.Alone.{Names}
+use Rattle.raft_log_recovery.specs.Crashed.{IsCrashed}
+use Rattle.raft_log_engine.specs.Held.{Parts}
+use Rattle.raft_log_engine.specs.Log.{IsCrashedLog, IsFoundBy, IsSameLog, LogOn, MayBeFound, leaves_of_log}
+use Rattle.raft_log_engine.proofs.Logs.{found_as_read}
+
+-- ---- a crash after a crash
+
+each_with : (P Q R : Text × ℕ → Type 0) (es : Names) → ((e : Text × ℕ) → P e → Q e → R e) → AllByRecursion P es → AllByRecursion Q es → AllByRecursion R es
+each_with P Q R [] h p q = tt
+each_with P Q R (e ∷ es) h p q = (h e p.0 q.0, each_with P Q R es h p.1 q.1)
+
+-- what an image has of a file shows nothing by chance
+abbrev Shows : Disk → Image → Text × ℕ → Type 0
+Shows d i x = MatchOption (log_file_of x.0) (Unit {0}) (λ id. IsGenuine id (d.file x.1) (i x.1))
+
+-- what a second one leaves the first one might have left
+crashed_again : (d e left : Disk) (image later : Image) → IsCrashed d image e → e ≡ after_crash d image → IsCrashed e later left → IsCrashed d later left
+crashed_again d e left image later first is second = record {
+  is = each_with (λ x. later x.1 ≡ image x.1) (λ x. IsFileImage (d.file x.1) (image x.1)) (λ x. IsFileImage (d.file x.1) (later x.1)) d.names (λ x same i. subst (IsFileImage (d.file x.1)) (sym same) i) same first.is;
+  genuine = each_with (λ x. later x.1 ≡ image x.1) (Shows d image) (Shows d later) d.names
+      (λ x same i. subst (λ (l : List ℕ). MatchOption (log_file_of x.0) (Unit {0}) (λ id. IsGenuine id (d.file x.1) l)) (sym same) i) same first.genuine;
+  names = second.names ∙ first.names;
+  bytes = second.bytes;
+}
+  where
+    same : AllByRecursion (λ x. later x.1 ≡ image x.1) d.names
+    same =
+        all_among (λ x. IsFileImage (e.file x.1) (later x.1)) (λ x. later x.1 ≡ image x.1) d.names
+        (λ x there i. still_image (settled (d.file x.1) (image x.1)) (later x.1) refl refl refl (subst (λ (y : Disk). IsFileImage (y.file x.1) (later x.1)) is i))
+        (subst (AllByRecursion (λ x. IsFileImage (e.file x.1) (later x.1))) first.names second.is)
+
+-- ---- what a crashed log leaves
+
+module _ {F : Type 0} (disk : F → Disk) (settings : Config) (old new : Parts F) (has_failed : Bool) (image : Image) (crashed : IsCrashed (disk old.files) image (disk new.files)) where
+  pub found_crashed : (content : Content (List ℕ)) → IsFoundBy settings (disk new.files) content → leaves_of_log disk (record { engine = old; settings = settings; has_failed = has_failed }) content
+  found_crashed content found = inr (record { image = image; left = disk new.files; crashed = crashed; found = found })
+
+  pub leaves_crashed : disk new.files ≡ after_crash (disk old.files) image → (content : Content (List ℕ)) → leaves_of_log disk (record { engine = new; settings = settings; has_failed = true }) content
+      → leaves_of_log disk (record { engine = old; settings = settings; has_failed = has_failed }) content
+  leaves_crashed is content (inl on) = absurd (false≢true (sym on.0))
+  leaves_crashed is content (inr may) = inr (record {
+    image = may.image;
+    left = may.left;
+    crashed = crashed_again (disk old.files) (disk new.files) may.left image may.image crashed is may.crashed;
+    found = may.found;
+  })
+
+-- ---- files as they read
+
+most_seen : (file : ℕ → FileState) (es : Names) (e : Text × ℕ) → IsIn e es → image_of Most es file e.1 ≡ (file e.1).bytes
+most_seen file [] e there = absurd there
+most_seen file (x ∷ es) e there = by_number (eqb e.1 x.1) refl (most_seen file es e) there
+  where
+    by_number : (b : Bool) → eqb e.1 x.1 ≡ b → (IsIn e es → image_of Most es file e.1 ≡ (file e.1).bytes) → IsIn e (x ∷ es) → cond b (file x.1).bytes (image_of Most es file e.1) ≡ (file e.1).bytes
+    by_number true is next among = ap (λ n. (file n).bytes) (sym (eqb-true e.1 x.1 is))
+    by_number false is next (inl same) = absurd (eqb-false e.1 x.1 is (ap (λ (y : Text × ℕ). y.1) same))
+    by_number false is next (inr behind) = next behind
+
+module _ (d : Disk) where
+  abbrev most : Image
+  most = image_of Most d.names d.file
+
+  shows_on : (i j : Image) → ((x : Text × ℕ) → IsIn x d.names → i x.1 ≡ j x.1) → IsGenuineImage d i → IsGenuineImage d j
+  shows_on i j same genuine = all_among (Shows d i) (Shows d j) d.names
+      (λ x there shows. subst (λ (l : List ℕ). MatchOption (log_file_of x.0) (Unit {0}) (λ id. IsGenuine id (d.file x.1) l)) (same x there) shows) genuine
+
+  pub seen_genuine : IsGenuineImage d most → IsGenuineImage d (seen_image d)
+  seen_genuine = shows_on most (seen_image d) (λ x there. most_seen d.file d.names x there)
+
+  pub most_genuine : IsGenuineImage d (seen_image d) → IsGenuineImage d most
+  most_genuine = shows_on (seen_image d) most (λ x there. sym (most_seen d.file d.names x there))
+
+pub most_of_memory : (m : MemoryFileSystem) → IsImageOf Most (disk_in m)
+most_of_memory m = most_is_an_image (disk_in m) (memory_is_named m) (memory_images m)
+
+pub on_ok : {X E : Type 0} (r : Result X E) (P Q : Type 0) → (P → Q) → OnOk r P → OnOk r Q
+on_ok (Ok x) P Q so p = so p
+on_ok (Err e) P Q so p = tt
+
+-- ---- a log whose machine stopped
+
+pub is_crashed : (old new : LogOn MemoryFileSystem) (result : Result (Unit {0}) CrashRefusal)
+    → OnOk result ((content : Content (List ℕ)) → IsFoundBy old.settings (disk_in new.engine.files) content → leaves_of_log disk_in old content)
+    → OnErr result (IsSameLog disk_in old new) → new.settings ≡ old.settings → IsCrashedLog disk_in old new
+is_crashed old new (Ok done) left same settings = record {
+  settings = settings;
+  found = λ content genuine found. left content (subst (λ s. IsFoundBy s (disk_in new.engine.files) content) settings found);
+}
+is_crashed old new (Err why) left same settings = record {
+  settings = settings;
+  found = λ content genuine found. inr (subst (λ d. MayBeFound old.settings d content) same.disk_stays
+      (found_as_read old.settings new.engine.files content genuine (subst (λ s. IsFoundBy s (disk_in new.engine.files) content) settings found)));
+}
+
+-- also where it takes no write any more
+pub crashed_still : (old new : LogOn MemoryFileSystem) → IsCrashedLog disk_in old new → IsCrashedLog disk_in old (record new { has_failed = true })
+crashed_still old new c = record { settings = c.settings; found = c.found }

@@ -1,0 +1,170 @@
+-- A node on files keeps the law of a cluster's nodes.
+use Rattle.std.specs.Prelude.{◌≡◌, ◌⊎◌, ◌<◌, ℕ, Bool, true, false, List, [], ◌∷◌, length, Option, Some, None, Result, Ok, Err, is_some, refl}
+use Rattle.std.specs.Int.{to_be_bytes, w32}
+use Rattle.std.proofs.Common.{inl, inr, sym, ap, ◌∙◌, subst, ⊎_elim, arith}
+use Rattle.std.proofs.lemmas.List.{length-append}
+use Rattle.raft_cluster_conditions.specs.Cuts.{are_cuts}
+use Rattle.raft_cluster_events.specs.declared.event.CrashChoice.{CrashChoice}
+use Rattle.raft_cluster_events.specs.declared.node.NodeOutcome.{NodeOutcome}
+use Rattle.raft_cluster_events.specs.declared.outcome.NodeError.{NodeError}
+use Rattle.raft_cluster_events.specs.declared.outcome.Stop.{Stop}
+use Rattle.raft_framed_groups.specs.Frames.{frame_with}
+use Rattle.raft_group_step.specs.GroupEvent.{GroupCall}
+use Rattle.raft_group_step.specs.Message.{Message}
+use Rattle.raft_headline.specs.ClusterEvent.{AddGroup, Ask, ClusterEvent, ClusterOutcome, Crash, Deliver, Done, PassedOver, Recorded, Reopen, ResetPeer, Stopped, silent}
+use Rattle.raft_headline.specs.Machines.{KeepsItsLaw}
+use Rattle.raft_laws.specs.GroupWorld.{NodeState}
+use Rattle.raft_machines.specs.Machine.{MachineRules}
+use Rattle.raft_machines.specs.declared.machine.StateMachine.{Ghosts}
+use Rattle.raft_node.specs.Standing.{NodeValue}
+use Rattle.raft_node_joint.specs.Reopening.{reset_as}
+use Rattle.raft_node_joint.specs.Saying.{Spells}
+use Rattle.raft_node_joint.proofs.Others.{same_or_other}
+use Rattle.raft_node_joint.proofs.ResetsLeadOn.{resets_lead}
+use Rattle.raft_node_laws.specs.Answered.{Answered, none_of, one_of, opening_of, some_of}
+use Rattle.raft_node_laws.specs.Delivery.{Comes, pieces_from}
+use Rattle.raft_node_laws.specs.Law.{Anything, IsAskedAt, IsTaken, KeepsLaw, Leads, LeadsOn, WasSent}
+use Rattle.raft_node_laws.specs.Saying.{SaysReset}
+use Rattle.raft_node_laws.specs.Saying as law
+use Rattle.raft_store.specs.Reading.{StandsFor}
+use Rattle.raft_wire.specs.Frames.{spelled_frame, spelled_rest}
+use Rattle.raft_wire.specs.declared.frame.Frame.{Frame}
+use Rattle.raft_wire.specs.Stream.{fresh}
+use Rattle.raft_nodes_on_files.specs.Acts.{AddsTo, AsksTo, GoesDown, IsUpAs, OpensTo, ReopensTo, ResetsTo, WhenDown, WhenUp, file_node_acts, file_node_states, refused}
+use Rattle.raft_nodes_on_files.specs.Standing.{UpNode, value}
+use Rattle.raft_nodes_on_files.specs.declared.file_node.FileNode.{FileNode}
+use Rattle.raft_nodes_on_files.proofs.Calls.{adds_so, asks_so}
+use Rattle.raft_nodes_on_files.proofs.Deliveries.{frame_taken}
+use Rattle.raft_nodes_on_files.proofs.Led.{led}
+use Rattle.raft_nodes_on_files.proofs.Openings.{closed_led, crash_led, opened_led, unopened_led}
+use Rattle.raft_nodes_on_files.proofs.Standing.{is_up_in}
+use Rattle.raft_nodes_on_files.proofs.Taken.{Behind, spells_of}
+
+abbrev opened_as : List NodeOutcome → Result (List NodeOutcome) Stop
+opened_as outcomes = Ok outcomes
+
+spelled_some : (frame : Frame) → 0 < length (spelled_frame frame)
+spelled_some frame =
+    let long = length-append (to_be_bytes w32 (length (spelled_rest frame))) (spelled_rest frame) in
+    let four : length (to_be_bytes w32 (length (spelled_rest frame))) ≡ 4 = refl in
+    omega (arith, long, four)
+
+module _ {M : Type 0} {g : Ghosts M} (rules : MachineRules) (state : M → List ℕ) (begins : KeepsItsLaw rules rules.first) (restores : (m : M) → KeepsItsLaw rules (state m)) where
+  abbrev of : UpNode M g → NodeValue
+  of n = value rules state n
+
+  -- a node that is up has one in it
+  up_one : {T : Type 0} (up : Option (UpNode M g)) → is_some up ≡ true → (old new : FileNode M g) (answer : Type 0) (act : UpNode M g → Type 0) → WhenUp rules state old new up answer act
+      → ((n : UpNode M g) → up ≡ Some n → act n → T) → T
+  up_one None is old new answer act acts then_so = absurd (let no : false ≡ true = is in cc)
+  up_one (Some n) is old new answer act acts then_so = then_so n refl acts
+
+  down_one : {T : Type 0} (up : Option (UpNode M g)) → is_some up ≡ false → (act answer : Type 0) → WhenDown rules state up act answer → (up ≡ None → act → T) → T
+  down_one None is act answer acts then_so = then_so refl acts
+  down_one (Some n) is act answer acts then_so = absurd (let no : true ≡ false = is in cc)
+
+  abbrev Taken : (List Recorded → Type 0) → ClusterEvent → ℕ → FileNode M g → Answered → FileNode M g → Type 0
+  Taken Kind happened group old answered mid = IsTaken rules (file_node_acts rules state) (file_node_states rules state) Kind happened group old answered mid
+
+  abbrev On : ClusterEvent → FileNode M g → FileNode M g → (ClusterOutcome → Type 0) → Type 0
+  On happened old new Says = LeadsOn rules (file_node_acts rules state) (file_node_states rules state) Anything happened old new Says
+
+  adds : (old mid : FileNode M g) (group : ℕ) (answered : Result NodeOutcome NodeError) → (file_node_acts rules state).is_up old ≡ true → (file_node_acts rules state).adds old group answered mid
+      → Taken Anything (AddGroup old.id group) group old (one_of answered) mid
+  adds old mid group answered is acts =
+      up_one old.up is old mid (answered ≡ refused) (λ n. AddsTo rules state n group old answered mid) acts
+      (λ n up a. adds_so rules state begins restores old mid n up group answered a)
+
+  asks : (old mid : FileNode M g) (group now : ℕ) (call : GroupCall) (answered : Result NodeOutcome NodeError) → (file_node_acts rules state).is_up old ≡ true
+      → (file_node_acts rules state).asks old group call now answered mid
+      → Taken (IsAskedAt old.id group call now) (Ask old.id group call now) group old (one_of answered) mid
+  asks old mid group now call answered is acts =
+      up_one old.up is old mid (answered ≡ refused) (λ n. AsksTo rules state n group call now old answered mid) acts
+      (λ n up a. asks_so rules state begins restores old mid n up group now call answered a)
+
+  -- ---- a frame
+
+  is_there : (up : Option (UpNode M g)) → is_some up ≡ true → (n : UpNode M g) × (up ≡ Some n)
+  is_there None is = absurd (let no : false ≡ true = is in cc)
+  is_there (Some n) is = (n, refl)
+
+  delivers : (old mid : FileNode M g) (group number now : ℕ) (m : Message) (bytes cuts : List ℕ) (answered : Result (Option NodeOutcome) NodeError)
+      → (file_node_acts rules state).is_up old ≡ true → m.addressee ≡ old.id → Spells (StandsFor rules) group m bytes → are_cuts 0 (length bytes) cuts ≡ true
+      → Comes (file_node_acts rules state) m.sender now old (pieces_from bytes 0 cuts) answered mid
+      → Taken (WasSent group number m) (Deliver group number now) group old (some_of answered) mid
+  delivers old mid group number now m bytes cuts answered is to sent cut_so comes =
+      let n = is_there old.up is in
+      let frame = frame_with group sent.sent in
+      frame_taken rules state begins restores old n.0 n.1 group number now m to sent.sent sent.says sent.fits cuts
+      (subst (λ bs. are_cuts 0 (length bs) cuts ≡ true) sent.spelled cut_so) (spelled_some frame) answered mid
+      (subst (λ bs. Comes (file_node_acts rules state) m.sender now old (pieces_from bs 0 cuts) answered mid) sent.spelled comes)
+
+  -- ---- a stream that begins anew
+
+  reset_says : (failed : Bool) (f : Bool) (n mid : UpNode M g) (peer : ℕ) (answered : Result (Unit {0}) NodeError) → f ≡ failed
+      → ((f ≡ true) × (answered ≡ refused)) ⊎ ((f ≡ false) × (answered ≡ Ok tt) × ((of mid).streams peer ≡ fresh)) → SaysReset (none_of answered) (reset_as failed)
+  reset_says true f n mid peer answered is (inl met) = subst (λ a. SaysReset (none_of a) PassedOver) (sym met.1) refl
+  reset_says false f n mid peer answered is (inl met) = absurd (let no : true ≡ false = sym met.0 ∙ is in cc)
+  reset_says true f n mid peer answered is (inr met) = absurd (let no : false ≡ true = sym met.0 ∙ is in cc)
+  reset_says false f n mid peer answered is (inr met) = subst (λ a. SaysReset (none_of a) (Done silent)) (sym met.1) refl
+
+  reset_streams : (n mid : UpNode M g) (peer : ℕ) (answered : Result (Unit {0}) NodeError) → (of n).groups.has_failed ≡ false
+      → (((of n).groups.has_failed ≡ true) × (answered ≡ refused)) ⊎ (((of n).groups.has_failed ≡ false) × (answered ≡ Ok tt) × ((of mid).streams peer ≡ fresh)) → (of mid).streams peer ≡ fresh
+  reset_streams n mid peer answered going (inl met) = absurd (let no : true ≡ false = sym met.0 ∙ going in cc)
+  reset_streams n mid peer answered going (inr met) = met.2
+
+  resets : (old new : FileNode M g) (peer : ℕ) (answered : Result (Unit {0}) NodeError) → (file_node_acts rules state).is_up old ≡ true → (file_node_acts rules state).resets old peer answered new
+      → On (ResetPeer old.id peer) old new (SaysReset (none_of answered))
+  resets old new peer answered is acts ids history olds kind behind =
+      up_one old.up is old new (answered ≡ refused) (λ n. ResetsTo rules state n peer old answered new) acts
+      (λ n up r.
+      let at = λ (h : ℕ). is_up_in rules state begins restores old n up h (olds h) (behind.may_be h) in
+      let failed = (of n).groups.has_failed in
+      led rules state old new r.mid (of n) history (λ i. ResetPeer i peer) false (reset_as failed) olds (SaysReset (none_of answered)) (at 0).own r.up r.stays.own
+      (λ going other.
+      let was : (of n).groups.has_failed ≡ false = sym r.stays.has_failed ∙ going in
+      ⊎_elim
+      (λ same. subst (λ p. (of r.mid).streams p ≡ fresh) (sym same) (reset_streams n r.mid peer answered was r.answer))
+      (λ far. r.streams other far ∙ (at 0).streams was other)
+      (same_or_other other peer))
+      (λ no. absurd (let never : false ≡ true = no in cc))
+      (reset_says failed failed n r.mid peer answered refl r.answer)
+      (resets_lead rules (of n) (of r.mid) history peer olds r.stays (λ h. (at h).may_be)))
+
+  -- ---- crashes and openings
+
+  crashes : (old new : FileNode M g) (choice : CrashChoice) → (file_node_acts rules state).is_up old ≡ true → (file_node_acts rules state).crashes old choice new
+      → On (Crash old.id) old new (λ o. o ≡ Done silent)
+  crashes old new choice is acts ids history olds kind behind =
+      up_one old.up is old new (Unit {0}) (λ n. GoesDown rules state n old new) acts
+      (λ n up down. crash_led rules state begins restores old new n up down ids history olds behind)
+
+  opens_or_not : (old new : FileNode M g) (answered : Result (List NodeOutcome) Stop) → old.up ≡ None → ReopensTo rules state old answered new
+      → On (Reopen old.id) old new (law.SaysOpening (spells_of rules) old.id (opening_of answered))
+  opens_or_not old new (Ok outcomes) down opens ids history olds kind behind = opened_led rules state begins restores old down ids history olds behind new outcomes opens
+  opens_or_not old new (Err stop) down (stays, unopened) ids history olds kind behind = unopened_led rules state begins restores old down ids history olds behind new stop stays unopened
+
+  reopens : (old new : FileNode M g) (workers : ℕ) (answered : Result (List NodeOutcome) Stop) → (file_node_acts rules state).is_up old ≡ false
+      → (file_node_acts rules state).reopens old workers answered new → On (Reopen old.id) old new (law.SaysOpening (spells_of rules) old.id (opening_of answered))
+  reopens old new workers answered is acts =
+      down_one old.up is (ReopensTo rules state old answered new) ((new ≡ old) × (answered ≡ Ok [])) acts (λ down opens. opens_or_not old new answered down opens)
+
+  closes : (old mid new : FileNode M g) (workers : ℕ) (outcomes : List NodeOutcome) → (file_node_acts rules state).is_up old ≡ false
+      → (file_node_acts rules state).reopens old workers (Ok outcomes) mid → (file_node_acts rules state).closes mid new → On (Reopen old.id) old new (λ o. o ≡ Stopped [])
+  closes old mid new workers outcomes is opens goes ids history olds kind behind =
+      down_one old.up is (OpensTo rules state old outcomes mid) ((mid ≡ old) × (opened_as outcomes ≡ Ok [])) opens
+      (λ down o.
+      let d = subst (λ up. WhenUp rules state mid new up (Unit {0}) (λ n. GoesDown rules state n mid new)) o.up.1 goes in
+      closed_led rules state begins restores old down ids history olds behind new o.n o.did [] o.opened (record { id = d.stays.id ∙ o.up.0; down = d.stays.down }) d.shown (λ h. refl))
+
+  pub keeps_law : KeepsLaw {N = FileNode M g} rules (file_node_acts rules state) (file_node_states rules state)
+  keeps_law = record {
+    begins = λ id node begun. begun.1;
+    adds = adds;
+    asks = asks;
+    delivers = delivers;
+    resets = resets;
+    crashes = crashes;
+    reopens = reopens;
+    closes = closes;
+  }

@@ -1,0 +1,79 @@
+//! Why the calls of a log are refused.
+
+use crate::texts::print_texts;
+use raft_content_log::PlainFault;
+use raft_log_disk::IoFault;
+use raft_log_engine::EngineFault;
+use raft_log_files::Error;
+use raft_log_memtables::FetchError;
+use raft_log_records::{RecordError, RecordFault, WriteError};
+use std::io;
+
+fn print_records(rt: &impl Print) -> io::Result<()> {
+    print_texts(
+        rt,
+        "RecordError",
+        &[
+            RecordError::Memory,
+            RecordError::TooLong,
+            RecordError::Corruption(RecordFault::BadTag),
+        ],
+    )?;
+    print_texts(rt, "WriteError", &[WriteError::Memory, WriteError::TooLong])
+}
+
+fn print_disk(rt: &impl Print) -> io::Result<()> {
+    print_texts(
+        rt,
+        "IoFault",
+        &[
+            IoFault::NotFound,
+            IoFault::NoSpace,
+            IoFault::Refused,
+            IoFault::Memory,
+        ],
+    )
+}
+
+fn print_tables(rt: &impl Print) -> io::Result<()> {
+    print_texts(
+        rt,
+        "FetchError",
+        &[
+            FetchError::Memory,
+            FetchError::EntryCompacted,
+            FetchError::EntryNotFound,
+        ],
+    )?;
+    print_texts(
+        rt,
+        "PlainFault",
+        &[
+            PlainFault::Memory,
+            PlainFault::NotTaken,
+            PlainFault::NotThere,
+            PlainFault::Lost,
+        ],
+    )
+}
+
+fn print_engine(rt: &impl Print) -> io::Result<()> {
+    print_texts(
+        rt,
+        "EngineFault",
+        &[
+            EngineFault::Log(Error::TryAgain),
+            EngineFault::NotTaken,
+            EngineFault::Marked,
+            EngineFault::NotAMessage,
+            EngineFault::Stopped,
+        ],
+    )
+}
+
+pub fn print(rt: &impl Print) -> io::Result<()> {
+    print_records(rt)?;
+    print_disk(rt)?;
+    print_tables(rt)?;
+    print_engine(rt)
+}
