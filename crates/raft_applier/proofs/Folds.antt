@@ -1,6 +1,6 @@
 -- A machine that runs the rest of a list, and what it answers on the way.
-use Rattle.std.specs.Prelude.{◌≡◌, ℕ, ◌+◌, ◌≤◌, cond, List, [], ◌∷◌, ◌++◌, length, take, drop, slice_get, Option, Some, None, option_map, refl}
-use Rattle.std.proofs.Common.{sym, ap, subst, ◌∙◌, arith, le-ltb, length-take-le, take-append-drop, take-take}
+use Rattle.std.specs.Prelude.{◌≡◌, ℕ, ◌+◌, ◌≤◌, cond, List, [], ◌∷◌, length, take, drop, slice_get, Option, Some, None, option_map, refl}
+use Rattle.std.proofs.Common.{sym, ap, subst, ◌∙◌, arith, le-ltb, length-take-le, take-take}
 use Rattle.std.proofs.lemmas.Option.{slice_get_within}
 use Rattle.raft_values.specs.declared.log_id.LogId.{LogId}
 use Rattle.raft_values.specs.LogId.{next_place}
@@ -8,29 +8,11 @@ use Rattle.raft_group_step.specs.Values.{Entry}
 use Rattle.raft_group_step.specs.GroupState.{Untold}
 use Rattle.raft_machines.specs.declared.telling.Told.{Told}
 use Rattle.raft_machines.specs.Machine.{MachineRules}
-use Rattle.raft_machines.specs.Fold.{after_payload, answer_to_payload, fold_of, state_from}
+use Rattle.raft_machines.specs.Fold.{answer_to_payload, fold_of, state_from}
+use Rattle.raft_machines.proofs.FoldLemmas.{run_on_fold}
 use Rattle.raft_machines.specs.Telling.{AreToldAs, Standing, WaitFrom, answer_on, run_on}
 use Rattle.raft_applier.specs.Applied.{answers_of}
 use Rattle.raft_applier.specs.Running.{HasRun}
-
-state_from_both : (rules : MachineRules) (state : List ℕ) (place : ℕ) (xs ys : List Entry) → state_from rules state place (xs ++ ys) ≡ state_from rules (state_from rules state place xs) (place + length xs) ys
-state_from_both rules state place [] ys =
-    let same : place ≡ place + length {A = Entry} [] = omega arith in ap (λ p. state_from rules state p ys) same
-state_from_both rules state place (x ∷ xs) ys =
-    let same : place + 1 + length xs ≡ place + length (x ∷ xs) = omega arith in
-    let next : List ℕ = after_payload rules state place x.payload in
-    state_from_both rules next (place + 1) xs ys ∙ ap (λ p. state_from rules (state_from rules next (place + 1) xs) p ys) same
-
--- a machine that has run the list's front runs the rest
-pub run_on_fold : (rules : MachineRules) (es : List Entry) (at : Standing) → at.state ≡ fold_of rules (take at.count es) → at.count ≤ length es → run_on rules at es ≡ fold_of rules es
-run_on_fold rules es at is le =
-    let front = take at.count es in
-    let rest = drop at.count es in
-    let size : 0 + length front ≡ at.count = (let f = length-take-le at.count es le in omega (arith, f)) in
-    ap (λ st. state_from rules st at.count rest) is
-    ∙ ap (λ k. state_from rules (fold_of rules front) k rest) (sym size)
-    ∙ sym (state_from_both rules rules.first 0 front rest)
-    ∙ ap (fold_of rules) (take-append-drop at.count es)
 
 module _ (rules : MachineRules) (machine : List ℕ) (last : Option (LogId ℕ)) (list : List Entry) (h : HasRun rules machine last list) where
   abbrev at : Standing

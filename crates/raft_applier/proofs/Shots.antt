@@ -4,34 +4,16 @@ use Rattle.std.proofs.Common.{sym, ap, ◌∙◌, arith}
 use Rattle.std.proofs.lemmas.Bool.Decides.{nat_tests}
 use Rattle.raft_values.specs.declared.log_id.LogId.{LogId}
 use Rattle.raft_values.specs.LogId.{next_place}
-use Rattle.raft_state.specs.declared.entry.EntryPayload.TheVariants.{Blank, Normal, Membership as Members}
-use Rattle.raft_group_step.specs.Values.{Entry, EntryPayload, LoggedMembership, last_membership, membership_after}
+use Rattle.raft_group_step.specs.Values.{Entry}
 use Rattle.raft_group_step.specs.StoredGroup.{StoredGroup, Snapshot, CutFrom, after_storing, entry_at, first_place, held, id_at, id_of, membership_in_force}
 use Rattle.raft_group_step.specs.Frames.{committed_id}
 use Rattle.raft_group_step.specs.GroupState.{GroupState}
 use Rattle.raft_group_step.specs.SnapshotRequest.{place_above}
 use Rattle.raft_laws.specs.OneList.{applied_list}
-use Rattle.raft_known_state.specs.KnownState.{ArePlaced, committed_membership, effective_of, force_of_snapshot, last_else, last_membership_of, memberships_in, meta_of, with_membership_of}
-use Rattle.raft_known_state.proofs.KnownStateLemmas.{memberships_below}
+use Rattle.raft_known_state.specs.KnownState.{ArePlaced, committed_membership, effective_of, force_of_snapshot, last_else, memberships_in, meta_of}
+use Rattle.raft_known_state.proofs.KnownStateLemmas.{last_in, memberships_below, of_snapshot}
 use Rattle.raft_engine.specs.Building.{IsSnapshotOfApplied}
 use Rattle.raft_applier.specs.Building.{HasItsMembership}
-
-last_in : (es : List Entry) (before : Option LoggedMembership) → effective_of (last_membership before es) ≡ last_else (effective_of before) (memberships_in es)
-last_in [] before = refl
-last_in (e ∷ es) before = here e.payload (last_in es)
-  where
-    here : (x : EntryPayload) → ((b : Option LoggedMembership) → effective_of (last_membership b es) ≡ last_else (effective_of b) (memberships_in es)) → effective_of (last_membership (membership_after before e.log_id x) es) ≡ last_else (effective_of before) (with_membership_of e.log_id x (memberships_in es))
-    here Blank rest = rest before
-    here (Normal command) rest = rest before
-    here (Members m) rest = rest (Some (record { log_id = e.log_id; membership = m }))
-
-of_snapshot : (x : Option Snapshot) → force_of_snapshot (meta_of x) ≡ effective_of (option_and_then (λ (y : Snapshot). y.membership) x)
-of_snapshot None = refl
-of_snapshot (Some x) = here x.membership
-  where
-    here : (m : Option LoggedMembership) → record { log_id = (last_membership_of m).log_id; membership = (last_membership_of m).membership } ≡ effective_of m
-    here None = refl
-    here (Some m) = refl
 
 -- the last committed membership is the one in force of a log that ends behind what is committed
 pub cut_in_force : (s : StoredGroup) (committed : Option (LogId ℕ)) → ArePlaced (first_place s) s.log → committed_membership s committed ≡ effective_of (membership_in_force (after_storing (CutFrom (next_place committed)) s))

@@ -14,7 +14,7 @@ use Rattle.raft_machines.specs.Telling.{AreToldAs, Standing, answer_on, run_on}
 use Rattle.raft_machines.specs.declared.telling.Told.{Told}
 use Rattle.raft_headline.specs.ClusterEvent.{ClusterOutcome, Done, Opened, Said, said_of}
 use Rattle.raft_headline.specs.Replaying.{IsSaid, Says}
-use Rattle.raft_headline.proofs.Folding.{run_on_fold}
+use Rattle.raft_machines.proofs.FoldLemmas.{run_on_fold}
 
 abbrev pub start_of : MachineRules → Standing
 start_of rules = record { state = rules.first; count = 0 }

@@ -53,7 +53,7 @@ stands_asking own e s h =
     let old = h.knows in
     record {
       config = h.config;
-      knows = record { vote = old.vote; ids = old.ids; purged = old.purged; snapshot = old.snapshot; memberships = old.memberships; in_force = old.in_force; last_committed = old.last_committed; goal = old.goal };
+      knows = record { vote = old.vote; ids = old.ids; terms = old.terms; purged = old.purged; snapshot = old.snapshot; memberships = old.memberships; in_force = old.in_force; last_committed = old.last_committed; goal = old.goal };
       renewed = h.renewed;
       committed = h.committed;
       wish = h.wish;

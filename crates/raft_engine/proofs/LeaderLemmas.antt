@@ -1,19 +1,20 @@
 -- How a lead begins.
-use Rattle.std.specs.Prelude.{◌≡◌, ℕ, true, ◌||◌, nat_eq, List, [], ◌∷◌, ◌++◌, Option, Some, None, unwrap_or, Result, Ok, Err, IfOk, refl}
+use Rattle.std.specs.Prelude.{◌≡◌, ℕ, true, ◌||◌, nat_eq, cond, ◌≤◌, List, [], ◌∷◌, ◌++◌, Option, Some, None, unwrap_or, Result, Ok, Err, IfOk, refl}
 use Rattle.std.specs.Ordering.{nat_cmp}
 use Rattle.std.proofs.Common.{sym, ap, ◌∙◌, subst, arith, false}
+use Rattle.std.proofs.Math.Bool.{true≢false}
 use Rattle.raft_values.specs.declared.vote.Vote.{Vote}
+use Rattle.raft_values.specs.declared.vote.LeaderId.{LeaderId}
 use Rattle.raft_values.specs.declared.log_id.LogId.{LogId}
 use Rattle.raft_values.specs.LogId.{next_place}
 use Rattle.raft_state.specs.LogIdList.{PlacesRise, ids_of, last_id}
-use Rattle.raft_state.proofs.LogIdListLemmas.{last_id-ids_of}
 use Rattle.raft_membership.specs.Membership.{voter_ids, learner_ids}
 use Rattle.raft_progress.specs.Parts.{value_of}
-use Rattle.raft_group_step.specs.Values.{LoggedMembership, has_id}
+use Rattle.raft_group_step.specs.Values.{LoggedMembership, has_id, leader_eq}
 use Rattle.raft_group_step.specs.StoredGroup.{StoredGroup, end_place, membership_in_force}
 use Rattle.raft_group_step.specs.StoredGroup.{last_id as last_stored_id}
 use Rattle.raft_group_step.specs.Lead.{ids_of as member_ids, new_lead}
-use Rattle.raft_known_state.specs.KnownState.{KnownState, Knows, IsPlaced, effective_of, stored_ids}
+use Rattle.raft_known_state.specs.KnownState.{KnownState, Knows, IsPlaced, effective_of, ids_of_leader, stored_ids}
 use Rattle.raft_known_state.proofs.KnownStateLemmas.{end-known, last-known}
 use Rattle.raft_leaders.specs.Leader.{LeaderValue, end_of, first_log_id, unknown_peer}
 use Rattle.raft_leaders.specs.Accepted.{WroteNoneBelow}
@@ -42,25 +43,41 @@ use Rattle.raft_group_step.specs.GroupState.{is_leader}
 abbrev StateOf : Type 0
 StateOf = RaftState ℕ (List ℕ) ℕ
 
--- the keys of a log that is stored
-pub record AreKeysOf (keys : List (LogId ℕ)) (s : StoredGroup) : Type 0 where
-  pub rise : PlacesRise keys
-  pub ids : ids_of keys ≡ stored_ids s
+-- where the leader has written no log id of its own below a place, it has written none of any
+own_alone : (leader : LeaderId ℕ) (place : ℕ) (ids : List (LogId ℕ)) → WroteNoneBelow leader place ids → WroteNoneBelow leader place (ids_of_leader leader ids)
+own_alone leader place [] h = tt
+own_alone leader place (id ∷ ids) h =
+    elim (leader_eq id.leader_id leader) as (λ b. WroteNoneBelow leader place (cond b (id ∷ ids_of_leader leader ids) (ids_of_leader leader ids))) [
+      | true ↦ (h.0, own_alone leader place ids h.1)
+      | false ↦ own_alone leader place ids h.1
+    ]
+
+own_tell : (leader : LeaderId ℕ) (place : ℕ) (ids : List (LogId ℕ)) → WroteNoneBelow leader place (ids_of_leader leader ids) → WroteNoneBelow leader place ids
+own_tell leader place [] h = tt
+own_tell leader place (id ∷ ids) h =
+    elim (leader_eq id.leader_id leader) as (λ b. leader_eq id.leader_id leader ≡ b
+    → WroteNoneBelow leader place (cond b (id ∷ ids_of_leader leader ids) (ids_of_leader leader ids)) → WroteNoneBelow leader place (id ∷ ids)) [
+      | true ↦ λ e g. (g.0, own_tell leader place ids g.1)
+      | false ↦ λ e g. ((λ mine. absurd (true≢false (sym mine ∙ e))), own_tell leader place ids g)
+    ] refl h
+
+-- the keys tell what a leader needs of a log that is stored: where it ends, and its own log ids
+pub record AreKeysFor (leader : LeaderId ℕ) (keys : List (LogId ℕ)) (s : StoredGroup) : Type 0 where
   pub last : last_id keys ≡ last_stored_id s
   pub ends : end_of keys ≡ end_place s
+  pub within : (first_log_id nat_eq leader keys).index ≤ end_of keys
+  pub wrote : WroteNoneBelow leader (first_log_id nat_eq leader keys).index (stored_ids s)
 
--- keys end where their log ids do
-pub last_of_ids : (keys ids : List (LogId ℕ)) → PlacesRise keys → ids_of keys ≡ ids → last_id keys ≡ last_id ids
-last_of_ids keys ids rise e = sym (last_id-ids_of keys rise) ∙ ap last_id e
-
-pub are_keys_of : (keys : List (LogId ℕ)) (k : KnownState) (s : StoredGroup) → Knows k s → IsPlaced s → PlacesRise keys → ids_of keys ≡ k.state.log_ids → AreKeysOf keys s
-are_keys_of keys k s known placed rise e =
-    let all = e ∙ known.ids in
+pub are_keys_for : (leader : LeaderId ℕ) (keys : List (LogId ℕ)) (k : KnownState) (s : StoredGroup) → Knows k s → IsPlaced s
+    → PlacesRise keys → last_id keys ≡ last_id k.state.log_ids → ids_of_leader leader (ids_of keys) ≡ ids_of_leader leader (stored_ids s) → AreKeysFor leader keys s
+are_keys_for leader keys k s known placed rise last ids =
+    let place = (first_log_id nat_eq leader keys).index in
+    let stored = last ∙ ap last_id known.ids in
     record {
-      rise = rise;
-      ids = all;
-      last = last_of_ids keys (stored_ids s) rise all ∙ last-known s placed;
-      ends = ap next_place (last_of_ids keys (stored_ids s) rise all) ∙ end-known s placed;
+      last = stored ∙ last-known s placed;
+      ends = ap next_place stored ∙ end-known s placed;
+      within = first_within leader keys rise;
+      wrote = own_tell leader place (stored_ids s) (subst (WroteNoneBelow leader place) ids (own_alone leader place (ids_of keys) (first_is_first leader keys rise)));
     }
 
 pub has_member : (m : Option LoggedMembership) (n : ℕ) → has_id (member_ids m) n ≡ true
@@ -69,7 +86,7 @@ has_member None n h = cc h
 has_member (Some m) n h = voter_or_learner m.membership.configs m.membership.nodes n h
 
 module _ (own : ℕ) (vote : Vote ℕ) (s : StoredGroup) (m : EffectiveMembership) (in_force : m ≡ effective_of (membership_in_force s)) (keys : List (LogId ℕ))
-    (of_log : AreKeysOf keys s) (is_own : vote.leader_id.node_id ≡ own) (committed : vote.committed ≡ true) (learners : List ℕ)
+    (of_log : AreKeysFor vote.leader_id keys s) (is_own : vote.leader_id.node_id ≡ own) (committed : vote.committed ≡ true) (learners : List ℕ)
     (learners_are : learners ≡ learner_ids nat_eq m.membership.configs m.membership.nodes) where
   leads_anew : (l : LeaderValue ℕ EffectiveMembership) → l.vote ≡ vote → l.last_log_id ≡ last_id keys → l.noop_log_id ≡ first_log_id nat_eq vote.leader_id keys → l.began ≡ end_of keys
       → l.progress.voters ≡ all_with (unknown_peer (end_of keys)) (voter_ids nat_cmp m.membership.configs) → l.progress.learners ≡ all_with (unknown_peer (end_of keys)) learners
@@ -83,12 +100,11 @@ module _ (own : ℕ) (vote : Vote ℕ) (s : StoredGroup) (m : EffectiveMembershi
         began = began ∙ of_log.ends;
         first =
             let at = ap (λ (y : LogId ℕ). y.index) noop in
-            let within = first_within vote.leader_id keys of_log.rise in
+            let within = of_log.within in
             let ends = of_log.ends in omega (arith, at, within, ends);
         wrote =
             subst (λ (v : Vote ℕ). WroteNoneBelow v.leader_id l.noop_log_id.index (stored_ids s)) (sym voted)
-            (subst (λ (y : LogId ℕ). WroteNoneBelow vote.leader_id y.index (stored_ids s)) (sym noop)
-            (subst (WroteNoneBelow vote.leader_id (first_log_id nat_eq vote.leader_id keys).index) of_log.ids (first_is_first vote.leader_id keys of_log.rise)));
+            (subst (λ (y : LogId ℕ). WroteNoneBelow vote.leader_id y.index (stored_ids s)) (sym noop) of_log.wrote);
         peers = λ n.
             sym (ap (peer_state n)
             (ap (λ place. unwrap_or (value_of nat_eq l.progress n) (unknown_peer place)) began

@@ -130,7 +130,7 @@ impl<'x, C: RaftTypeConfig<NodeId = u64, Node = BasicNode, D = Bytes>> LeaderHan
 
 impl<C: RaftTypeConfig<NodeId = u64, Node = BasicNode, D = Bytes>> Engine<C> {
     // A lead that begins under this vote: of no peer anything is known yet. It looks for its first
-    // entry among all keys: an own run may stand before another leader's.
+    // entry among all its own keys: an own run may stand before another leader's.
     fn new_leader(
         &self,
         vote: Vote<u64>,
@@ -141,13 +141,8 @@ impl<C: RaftTypeConfig<NodeId = u64, Node = BasicNode, D = Bytes>> Engine<C> {
     {
         let membership = self.state.effective_membership().clone()?;
         let learner_ids = membership.membership().learner_ids()?;
-        Leader::new(
-            self.alloc,
-            vote,
-            membership,
-            learner_ids.as_slice(),
-            self.state.state.log_ids.key_log_ids(),
-        )
+        let keys = self.state.keys_of_leader(&vote.leader_id);
+        Leader::new(self.alloc, vote, membership, learner_ids.as_slice(), keys)
     }
 
     // The entry goes behind the log, under the vote's leader, and the leader counts by its

@@ -116,7 +116,7 @@ abbrev pub TakesMessage : {F : Type 0} → (SnapshotBytes → Snapshot → Type 
 TakesMessage stands old new frame now answer =
     (m : Said) (s : GroupState) → old.has_failed ≡ false → Says stands frame.message m → Stands old frame.group (Up s) → IsLawful old.own s
     → IsTakenOr (λ met member. HasBegun (HasStopped (new.shows frame.group) new.own s (Receive frame.message.sender m now) member) met)
-        stands new frame.group s (Receive frame.message.sender m now) answer
+    stands new frame.group s (Receive frame.message.sender m now) answer
 
 -- the frame's group took its message, and the others stay
 pub record IsFrameTaken {F : Type 0} (stands : SnapshotBytes → Snapshot → Type 0) (old new : Node) (frame : Frame) (now : ℕ) (answer : Result Outcome (AnswerError F)) : Type 0 where

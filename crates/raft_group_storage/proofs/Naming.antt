@@ -9,7 +9,8 @@ use Rattle.std.proofs.lemmas.Cmp.{eq_by_cmp_equiv, nat_cmp_total}
 use Rattle.std.proofs.lemmas.Bool.Decides.{nat_tests}
 use Rattle.std.proofs.lemmas.Map.Made.{is_member-filter}
 
-same_number : (a b : ℕ) → eq_by_cmp nat_cmp a b ≡ true → a ≡ b
+-- ids that no order tells apart are one
+pub same_number : (a b : ℕ) → eq_by_cmp nat_cmp a b ≡ true → a ≡ b
 same_number a b h = grind (arith, nat_tests)
 
 both : (has test : Bool) → (has ≡ false → test ≡ false) → (has && test) ≡ test

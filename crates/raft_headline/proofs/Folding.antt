@@ -1,34 +1,16 @@
--- The fold of a list in two parts, and a machine that runs on.
-use Rattle.std.specs.Prelude.{◌≡◌, ℕ, ◌+◌, ◌<◌, ◌≤◌, nat_lt, List, [], ◌∷◌, ◌++◌, take, drop, length, slice_get, Option, Some, None, option_map, cond, Bool, true, false, refl}
-use Rattle.std.proofs.Common.{sym, ap, ◌∙◌, arith, ltb-false, length-take-le, take-append-drop, take-take}
+-- What a machine that runs on answers is the fold's.
+use Rattle.std.specs.Prelude.{◌≡◌, ℕ, ◌<◌, ◌≤◌, nat_lt, List, take, length, slice_get, Option, Some, None, option_map, cond, Bool, true, false, refl}
+use Rattle.std.proofs.Common.{sym, ap, ◌∙◌, arith, ltb-false, length-take-le, take-take}
 use Rattle.std.proofs.lemmas.Option.{slice_get_within}
 use Rattle.raft_group_step.specs.Values.{Entry}
 use Rattle.raft_machines.specs.Machine.{MachineRules}
-use Rattle.raft_machines.specs.Fold.{after_payload, answer_in, answer_to_payload, fold_of, state_from, answer_at}
+use Rattle.raft_machines.specs.Fold.{answer_in, answer_to_payload, fold_of, answer_at}
 use Rattle.raft_laws.specs.BallotLists.{AgreeBelow}
 use Rattle.raft_laws.proofs.BallotAgreement.{agree_less}
 use Rattle.raft_laws.proofs.Committed.{same_front}
 use Rattle.raft_laws.proofs.Shapes.{slice_take}
 use Rattle.raft_machines.specs.Telling.{Standing, answer_on, run_on}
-
-state_from_both : (rules : MachineRules) (state : List ℕ) (place : ℕ) (xs ys : List Entry) → state_from rules state place (xs ++ ys) ≡ state_from rules (state_from rules state place xs) (place + length xs) ys
-state_from_both rules state place [] ys =
-    let same : place ≡ place + length {A = Entry} [] = omega arith in ap (λ p. state_from rules state p ys) same
-state_from_both rules state place (x ∷ xs) ys =
-    let same : place + 1 + length xs ≡ place + length (x ∷ xs) = omega arith in
-    let next : List ℕ = after_payload rules state place x.payload in
-    state_from_both rules next (place + 1) xs ys ∙ ap (λ p. state_from rules (state_from rules next (place + 1) xs) p ys) same
-
--- a machine that has run the list's front runs the rest
-pub run_on_fold : (rules : MachineRules) (es : List Entry) (at : Standing) → at.state ≡ fold_of rules (take at.count es) → at.count ≤ length es → run_on rules at es ≡ fold_of rules es
-run_on_fold rules es at is le =
-    let front = take at.count es in
-    let rest = drop at.count es in
-    let size : 0 + length front ≡ at.count = (let f = length-take-le at.count es le in omega (arith, f)) in
-    ap (λ st. state_from rules st at.count rest) is
-    ∙ ap (λ k. state_from rules (fold_of rules front) k rest) (sym size)
-    ∙ sym (state_from_both rules rules.first 0 front rest)
-    ∙ ap (fold_of rules) (take-append-drop at.count es)
+use Rattle.raft_machines.proofs.FoldLemmas.{run_on_fold}
 
 -- the fold's answer goes by what stands up to the place
 pub answer_front : (rules : MachineRules) (k : ℕ) (xs ys : List Entry) → AgreeBelow k xs ys → (place : ℕ) → place < k → answer_at rules xs place ≡ answer_at rules ys place

@@ -27,7 +27,8 @@ use Rattle.raft_machines.specs.Machine.{MachineRules}
 use Rattle.raft_machines.specs.Fold.{answer_at, fold_of}
 use Rattle.raft_headline.specs.Machines.{Built, GivesRightly, HasBytes, KeepsItsLaw, MachinesMove, Replicas, StandsAt, TakesTurn, Turn, asked_by, brought_by, given_of, snapshots_of, turn_of}
 use Rattle.raft_machines.specs.Telling.{Standing, answer_on, run_on}
-use Rattle.raft_headline.proofs.Folding.{AnswersFold, agree_take, answer_front, answers_fold, run_on_fold}
+use Rattle.raft_headline.proofs.Folding.{AnswersFold, agree_take, answer_front, answers_fold}
+use Rattle.raft_machines.proofs.FoldLemmas.{run_on_fold}
 use Rattle.raft_headline.proofs.NodeFacts.{applied_committed, applied_front, applied_size, applied_within, applied_stays, placed_log, prefix_applied, snapshot_size}
 use Rattle.raft_headline.proofs.StepRuns.{all_among, left_stored, open_applies, snapshot_after, snapshot_or, step_applies, stored_among}
 

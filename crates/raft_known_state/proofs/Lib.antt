@@ -3,3 +3,4 @@ pub mod KnownStateLemmas
 mod MemberIdLemmas
 pub mod PlacedIds
 pub mod OrderLemmas
+mod TermLemmas

@@ -1,5 +1,6 @@
 -- What a node knows of its stored group: log ids in place of entries, and the memberships.
-use Rattle.std.specs.Prelude.{◌≡◌, ℕ, suc, Bool, true, false, nat_lt, nat_le, ◌==◌, ◌&&◌, filter, if◌then◌else◌, List, [], ◌∷◌, ◌++◌, map, Option, Some, None}
+use Rattle.std.specs.Prelude.{◌≡◌, ◌≤◌, ℕ, suc, Bool, true, false, nat_lt, nat_le, ◌==◌, ◌&&◌, filter, if◌then◌else◌, List, [], ◌∷◌, ◌++◌, map, Option, Some, None}
+use Rattle.std.specs.List.{AllByRecursion}
 use Rattle.std.specs.List.Sorted.{IsNonDecreasingBy}
 use Rattle.std.specs.Option.{option_or}
 use Rattle.raft_values.specs.declared.vote.LeaderId.{LeaderId}
@@ -41,6 +42,10 @@ entry_ids es = map (λ (e : Entry). e.log_id) es
 -- the log ids of a stored group: the last purged one, and those of its log
 abbrev pub stored_ids : StoredGroup → List (LogId ℕ)
 stored_ids s = purged_ids s.purged ++ entry_ids s.log
+
+-- none of the log ids is of a higher term than this one
+abbrev pub AreUpToTerm : ℕ → List (LogId ℕ) → Type 0
+AreUpToTerm term ids = AllByRecursion (λ (id : LogId ℕ). id.leader_id.term ≤ term) ids
 
 -- the membership of this entry, if it has one, before the others
 abbrev pub with_membership_of : LogId ℕ → EntryPayload → List EffectiveMembership → List EffectiveMembership
@@ -109,6 +114,7 @@ committed_membership s committed =
 pub record Knows (k : KnownState) (s : StoredGroup) : Type 0 where
   pub vote : k.state.vote.value ≡ s.vote
   pub ids : k.state.log_ids ≡ stored_ids s
+  pub terms : AreUpToTerm k.highest_term (stored_ids s)
   pub purged : k.state.purged_next ≡ first_place s
   pub snapshot : k.state.snapshot_meta ≡ meta_of s.snapshot
   pub memberships : k.memberships.items ≡ memberships_in s.log
@@ -142,6 +148,10 @@ others own ids = filter (λ n. if n == own then false else true) ids
 -- the log id is of this leader, and at the place or above it
 abbrev pub is_of_leader_from : LeaderId ℕ → ℕ → LogId ℕ → Bool
 is_of_leader_from leader place id = leader_eq id.leader_id leader && nat_le place id.index
+
+-- the log ids of this leader
+abbrev pub ids_of_leader : LeaderId ℕ → List (LogId ℕ) → List (LogId ℕ)
+ids_of_leader leader ids = filter (λ (id : LogId ℕ). leader_eq id.leader_id leader) ids
 
 -- the place is below the next key, or where there is none not above this one
 abbrev pub stands_under : ℕ → LogId ℕ → Option (LogId ℕ) → Bool

@@ -2,7 +2,7 @@
 ghost use Rattle.std.specs.Prelude.{◌≡◌, ◌≤◌, ◌<◌, ◌+◌, ◌^◌, ◌++◌, OnOk, IfOk, Some, None, ℕ, length, take, drop, [], false};
 ghost use Rattle.std.specs.Ordering.{nat_cmp};
 ghost use Rattle.raft_values.specs.LogId.{next_place};
-ghost use Rattle.raft_state.specs.LogIdList.{AllGoOn, last_id};
+ghost use Rattle.raft_state.specs.LogIdList.{AllGoOn, PlacesRise, ids_of, last_id};
 ghost use Rattle.raft_group_step.specs.StoredGroup.{StoredGroup, Snapshot, CutFrom, PutEntries, RemoveUpTo, SetSnapshot, SetVote, after_storing};
 ghost use Rattle.raft_group_step.specs.StoredGroup.{end_place, first_place, has_id_in_log, id_at as id_at_place, last_id as last_stored_id, entry_at};
 ghost use Rattle.raft_group_step.specs.StoredGroup.{membership_in_force};
@@ -13,11 +13,12 @@ ghost use Rattle.raft_group_step.specs.Initialize.{is_new};
 ghost use Rattle.raft_group_step.specs.Lead.{other_ids};
 ghost use Rattle.raft_group_step.specs.Elect.{other_voters};
 ghost use Rattle.raft_known_state.specs.KnownState.{AreInOrder, AreNoted, ArePlaced, IsEntryOrPast, IsPlaced, KeepsRest, Knows, entry_ids, force_of, is_below};
-ghost use Rattle.raft_known_state.specs.KnownState.{memberships_in, meta_of, effective_of, logged_as_effective, drop_below, take_below, purged_ids};
+ghost use Rattle.raft_known_state.specs.KnownState.{memberships_in, meta_of, effective_of, logged_as_effective, drop_below, take_below, purged_ids, ids_of_leader, stored_ids};
 ghost use Rattle.raft_known_state.specs.KnownState.{committed_membership, committed_of, force_of_snapshot, last_else, with_committed, with_goal, with_members};
 
 use crate::key_leaders::has_leader_from;
 use crate::member_ids::{ids_of_others, voters_of_others};
+use crate::terms::{highest_term, term_of};
 use raft_state::{
     BasicNode, Bytes, EffectiveMembership, Entry, LeaderId, LogId, LogIdOptionExt, LogStateReader,
     MembershipState, Node, NodeId, RaftPayload, RaftState, SnapshotMeta, UTime, Vote,
@@ -34,6 +35,8 @@ pub struct KnownState<NID: NodeId, N: Node> {
     pub memberships: Vec<EffectiveMembership<NID, N>>,
     /// Up to where a leader is still to purge, once no request needs what goes.
     pub wish: Option<LogId<NID>>,
+    /// No log id is of a higher term than this one (own): the highest that the log has had.
+    pub highest_term: u64,
 }
 
 // Whether the log id stands below the place; none stands below each.
@@ -119,6 +122,7 @@ impl KnownState<u64, BasicNode> {
         ensures ids { IfOk result (λ k. k.state.log_ids ≡ purged_ids purged) }
         ensures fresh { IfOk result (λ k. (k.state.vote.utime ≡ None) × (k.state.committed ≡ None) × (k.wish ≡ None)) }
     {
+        let highest_term = term_of(&purged);
         let mut state = RaftState::default(alloc);
         state.vote = UTime::without_utime(vote);
         state.snapshot_meta = snapshot;
@@ -131,6 +135,7 @@ impl KnownState<u64, BasicNode> {
             state,
             memberships,
             wish: None,
+            highest_term,
         };
         known.refresh_memberships()?;
         Ok(known)
@@ -307,6 +312,22 @@ impl KnownState<u64, BasicNode> {
         has_leader_from(self.state.log_ids.key_log_ids(), self.first_place(), leader)
     }
 
+    /// Keys that tell each log id of this leader, and the last one of the log: all keys, or the last
+    /// one alone where the leader's term is above all of them, as at each election between nodes
+    /// that keep the rules (own; openraft takes those of the last leader).
+    pub fn keys_of_leader(&self, leader: &LeaderId<u64>) -> &[LogId<u64>]
+        ensures rise { PlacesRise result.now }
+        ensures last { last_id result.now ≡ last_id self.now.state.log_ids }
+        ensures ids { (s : StoredGroup) → Knows self.now s → ids_of_leader leader.now (ids_of result.now) ≡ ids_of_leader leader.now (stored_ids s) }
+    {
+        let keys = self.state.log_ids.key_log_ids();
+        if leader.term <= self.highest_term {
+            return keys;
+        }
+        let (_, last) = keys.split_at(keys.len().saturating_sub(1));
+        last
+    }
+
     /// The vote is stored, and heard of at this moment (openraft).
     pub fn save_vote(&mut self, now: u64, vote: Vote<u64>)
         ensures known { (s : StoredGroup) → Knows self.old s → Knows self.new (after_storing (SetVote vote) s) }
@@ -339,6 +360,7 @@ impl KnownState<u64, BasicNode> {
         ensures rest { OnOk result (KeepsRest self.old self.new) }
     {
         self.state.extend_log_ids(entries)?;
+        self.highest_term = highest_term(self.highest_term, entries);
         let before = self.memberships.len();
         push_memberships(&mut self.memberships, entries)?;
         let is_grown = self.memberships.len() != before;
@@ -379,6 +401,7 @@ impl KnownState<u64, BasicNode> {
         ensures rest { OnOk result (KeepsRest self.old self.new) }
     {
         self.state.purge_log(upto)?;
+        self.highest_term = self.highest_term.max(upto.leader_id.term);
         self.state.purge_upto = self.wish.or(Some(*upto));
         let gone = count_below(self.memberships.as_slice(), upto.index + 1);
         self.memberships.rotate_left(gone);

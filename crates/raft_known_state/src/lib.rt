@@ -4,5 +4,6 @@
 mod key_leaders;
 pub mod known_state;
 mod member_ids;
+mod terms;
 
 pub use known_state::KnownState;

@@ -262,7 +262,7 @@ empty_left piece first is some =
     let size : length (drop first piece) ≡ 0 = ap length none in
     omega arith
 
-stays_but : (n : NodeValue) (peer : ℕ) → StaysBut n n peer
+pub stays_but : (n : NodeValue) (peer : ℕ) → StaysBut n n peer
 stays_but n peer = record { own = refl; has_failed = refl; members = λ group. refl; well = λ w. w; running = λ group. refl; kept = λ group parts shown. shown }
 
 holds_still : (n : NodeValue) (peer : ℕ) → (n.streams peer).failed ≡ false → n.streams peer ≡ holding (n.streams peer).held

@@ -10,6 +10,7 @@ use Rattle.std.proofs.lemmas.Cmp.{nat_cmp_total, tied_itself}
 use Rattle.std.proofs.lemmas.List.{map-append}
 use Rattle.std.proofs.lemmas.List.Elements.{All-nil, All-push, All-weaker}
 use Rattle.std.proofs.lemmas.Map.Keys.{IsDistinct-from_sorted, IsDistinct-head, sorted_tail}
+use Rattle.raft_group_storage.proofs.Naming.{same_number}
 use Rattle.raft_group_step.specs.GroupEvent.{Open}
 use Rattle.raft_group_step.specs.GroupState.{GroupState, state_of}
 use Rattle.raft_group_step.specs.GroupStep.{group_step}
@@ -70,9 +71,6 @@ opened_group rules stands n group st o messages at say is framed told unknown = 
 }
 
 -- ---- ids
-
-same_id : (a b : ℕ) → eq_by_cmp nat_cmp a b ≡ true → a ≡ b
-same_id a b h = grind (arith, nat_tests)
 
 other_id : (a b : ℕ) → eq_by_cmp nat_cmp a b ≡ false → a ≡ b → ⊥
 other_id a b differ is =
@@ -139,7 +137,7 @@ module _ (rules : MachineRules) (kept : ℕ → StoredGroup) where
             })
 
         go : (b : Bool) → eq_by_cmp nat_cmp group g ≡ b → Way new rest group
-        go true is = subst (Way new rest) (sym (same_id group g is)) (inl (record { present = present; gone = not_among g rest (IsDistinct-head (eq_by_cmp nat_cmp) g rest (IsDistinct-from_sorted nat_cmp (g ∷ rest) rising)); at = at }))
+        go true is = subst (Way new rest) (sym (same_number group g is)) (inl (record { present = present; gone = not_among g rest (IsDistinct-head (eq_by_cmp nat_cmp) g rest (IsDistinct-from_sorted nat_cmp (g ∷ rest) rising)); at = at }))
         go false is = rest_way is (way group)
 
     -- an outcome of another group stands
@@ -239,5 +237,5 @@ module _ (rules : MachineRules) (kept : ℕ → StoredGroup) where
     }
       where
         left_by : (group : ℕ) (b : Bool) → eq_by_cmp nat_cmp group g ≡ b → IsLeft new group (state_of (kept group)) Open
-        left_by group true is = subst (λ k. IsLeft new k (state_of (kept k)) Open) (sym (same_id group g is)) inside
+        left_by group true is = subst (λ k. IsLeft new k (state_of (kept k)) Open) (sym (same_number group g is)) inside
         left_by group false is = left_of group (λ parts. keeps group parts (other_id group g is)) (way group)

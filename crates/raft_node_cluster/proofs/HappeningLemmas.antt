@@ -1,5 +1,5 @@
 -- An event comes to its node: from what the node answered and what became of that.
-use Rattle.std.proofs.Common.{◌≡◌, ℕ, List, [], Option, Some, None, Result, Ok, Err, IfOk, OnErr, inl, inr, refl, sym, ap, subst, ◌∙◌}
+use Rattle.std.proofs.Common.{◌≡◌, ℕ, List, [], Some, None, Ok, Err, inl, inr, refl, sym, ap, subst, ◌∙◌}
 use Rattle.raft_cluster_conditions.specs.declared.reasons.ClusterRefusal.{ClusterRefusal}
 use Rattle.raft_cluster_events.specs.declared.event.ClusterEvent.{ClusterEvent}
 use Rattle.raft_cluster_events.specs.declared.event.ClusterEvent.TheVariants.{Crash}
@@ -14,14 +14,6 @@ use Rattle.raft_cluster_events.specs.Node.{NodeActs}
 use Rattle.raft_node_cluster.specs.Facts.{Sent}
 use Rattle.raft_node_laws.specs.Answered.{Answered}
 use Rattle.raft_node_cluster.specs.Happening.{Answers, ComesTo, EndsAt, RefusesFor, Settles, over, turned_by}
-
-pub for_ok : {X E : Type 0} (r : Result X E) (P Q : X → Type 0) → ((x : X) → P x → Q x) → IfOk r P → IfOk r Q
-for_ok (Ok x) P Q f h = f x h
-for_ok (Err e) P Q f h = tt
-
-pub for_err : {X E : Type 0} (r : Result X E) (P Q : Type 0) → (P → Q) → OnErr r P → OnErr r Q
-for_err (Ok x) P Q f h = tt
-for_err (Err e) P Q f h = f h
 
 module _ {N : Type 0} (acts : NodeActs N) where
   pub comes : (sent later : Sent) (event named : ClusterEvent) (old mid new : N) (answered told : Answered) (o : EventOutcome) → event ≡ named → told ≡ answered → Answers acts sent named old answered mid → Settles acts sent named mid told o later new → acts.id mid ≡ acts.id old → acts.id new ≡ acts.id mid → ComesTo acts sent event old o later new

@@ -41,12 +41,13 @@ use Rattle.raft_store.specs.Reading.{StandsFor}
 use Rattle.raft_wire.specs.Frames.{FitsFrame, spelled_frame}
 use Rattle.raft_wire.specs.Stream.{fresh}
 use Rattle.raft_wire.specs.declared.frame.Frame.{Frame}
+use Rattle.raft_node.proofs.Feeds.{stays_but}
 use Rattle.raft_nodes_on_files.specs.Acts.{FeedsTo, IsFedOn, IsUpAs, WhenUp, file_node_acts, file_node_states, refused, some_outcome}
 use Rattle.raft_nodes_on_files.specs.Answering.{error_of}
 use Rattle.raft_nodes_on_files.specs.Kept.{KeepingFault}
 use Rattle.raft_nodes_on_files.specs.Standing.{UpNode, value}
 use Rattle.raft_nodes_on_files.specs.declared.file_node.FileNode.{FileNode}
-use Rattle.raft_nodes_on_files.proofs.Pieces.{CameWhole, LackedRoom, pieces_come, stays_itself}
+use Rattle.raft_nodes_on_files.proofs.Pieces.{CameWhole, LackedRoom, pieces_come}
 use Rattle.raft_nodes_on_files.proofs.Standing.{are_of_machine, is_up_in, machines_law, stands_before}
 use Rattle.raft_nodes_on_files.proofs.Taken.{Answer, Behind, IsOneGroup, IsStopAs, is_stop, one_group_taken, stops, unjudged_stops}
 
@@ -238,7 +239,7 @@ module _ {M : Type 0} {g : Ghosts M} (rules : MachineRules) (state : M → List 
           (record {
             id = refl;
             up = up;
-            along = record { stays = stays_itself (of n) m.sender; holds = streams going m.sender; others = λ other far. refl };
+            along = record { stays = stays_but (of n) m.sender; holds = streams going m.sender; others = λ other far. refl };
             inside = some;
           }) cut_so answered new comes)
 

@@ -2,6 +2,7 @@
 use Rattle.std.specs.Prelude.{◌≡◌, ◌⊎◌, ◌<◌, ◌≤◌, ◌+◌, ◌-◌, ◌&&◌, nat_lt, ℕ, Bool, true, false, List, [], ◌∷◌, ◌++◌, length, take, drop, Option, Some, None, Result, Ok, Err, refl}
 use Rattle.std.proofs.Common.{inl, inr, sym, ap, ◌∙◌, subst, ⊎_elim, arith}
 use Rattle.std.proofs.Math.Seq.{take-add, take-length}
+use Rattle.std.proofs.lemmas.Bool.{and_parts}
 use Rattle.std.proofs.lemmas.Bool.Decides.{nat_tests}
 use Rattle.std.proofs.lemmas.List.{length-drop, length-take-le, take-append-drop}
 use Rattle.raft_cluster_conditions.specs.Cuts.{are_cuts}
@@ -35,10 +36,6 @@ none_fed = Ok None
 
 -- ---- cuts
 
-and_both : (a b : Bool) → (a && b) ≡ true → (a ≡ true) × (b ≡ true)
-and_both true b is = (refl, is)
-and_both false b is = absurd (let no : false ≡ true = is in cc)
-
 below : (a b : ℕ) → nat_lt a b ≡ true → a < b
 below a b is = grind (arith, nat_tests, is)
 
@@ -54,16 +51,6 @@ piece_long bytes begin end up within =
     omega (arith, long, up)
 
 -- ---- nodes that stay but for a stream
-
-pub stays_itself : (n : NodeValue) (peer : ℕ) → StaysBut n n peer
-stays_itself n peer = record {
-  own = refl;
-  has_failed = refl;
-  members = λ group. refl;
-  well = λ is. is;
-  running = λ group. refl;
-  kept = λ group parts shown. shown;
-}
 
 pub stays_twice : (a b c : NodeValue) (peer : ℕ) → StaysBut a b peer → StaysBut b c peer → StaysBut a c peer
 stays_twice a b c peer one two = record {
@@ -265,10 +252,10 @@ module _ {M : Type 0} {g : Ghosts M} (rules : MachineRules) (state : M → List 
         (fed_part node x begin cut cuts here up within f.mid f.outcomes f.met f.used part first next f.passed)
       where
         both : (nat_lt begin cut ≡ true) × ((nat_lt cut (length bytes) && are_cuts cut (length bytes) cuts) ≡ true)
-        both = and_both (nat_lt begin cut) (nat_lt cut (length bytes) && are_cuts cut (length bytes) cuts) cut_so
+        both = and_parts (nat_lt begin cut) (nat_lt cut (length bytes) && are_cuts cut (length bytes) cuts) cut_so
 
         rest : (nat_lt cut (length bytes) ≡ true) × (are_cuts cut (length bytes) cuts ≡ true)
-        rest = and_both (nat_lt cut (length bytes)) (are_cuts cut (length bytes) cuts) both.1
+        rest = and_parts (nat_lt cut (length bytes)) (are_cuts cut (length bytes) cuts) both.1
 
         up : begin < cut
         up = below begin cut both.0

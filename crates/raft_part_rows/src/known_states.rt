@@ -61,6 +61,7 @@ pub fn new_group(alloc: Global) -> Known
         state: RaftState::default(alloc),
         memberships: Vec::new(alloc),
         wish: None,
+        highest_term: 0,
     }
 }
 

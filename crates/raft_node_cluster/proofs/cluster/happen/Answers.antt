@@ -1,6 +1,7 @@
 use Rattle.std.proofs.Common.{◌≡◌, ◌<◌, ℕ, get_or, length, List, Option, Some, None, slice_get, refl, sym, ap, ◌∙◌, subst}
 use Rattle.std.specs.Prelude.{slice_set}
 use Rattle.std.proofs.lemmas.Option.{slice_get_read}
+use Rattle.std.proofs.lemmas.Result.{IfOk-weaker, on_err_weaker}
 use Rattle.raft_cluster_conditions.specs.Refusal.{refusal_of}
 use Rattle.raft_sent_frames.specs.Frames.{frames_of}
 use Rattle.raft_cluster_events.specs.declared.event.ClusterEvent.{ClusterEvent}
@@ -10,7 +11,6 @@ use Rattle.raft_node_cluster.specs.Cluster.{LacksMemoryToCrash, refusal_in}
 use Rattle.raft_node_cluster.specs.Facts.{Sent, asked_of, node_at, node_of, node_there, place_in, standing_of}
 use Rattle.raft_node_cluster.specs.Happening.{RefusesFor}
 use Rattle.raft_node_cluster.proofs.ClusterLemmas.{comes_to_first, put_same}
-use Rattle.raft_node_cluster.proofs.HappeningLemmas.{for_err, for_ok}
 use Rattle.raft_node_cluster.proofs.cluster.happen.Goals as goal
 
 none_left : {A : Type 0} (w : Option A) → ((x : A) → w ≡ Some x → ⊥) → w ≡ None
@@ -50,7 +50,7 @@ returns-in-Some-place-clause-ok g c =
     ∙ ap (λ w. refusal_of w c.asked_of-asked.result c.cuts_of.result.now) standing
     ∙ ap (λ a. refusal_of (standing_of acts (node_at acts nodes (node_of sent event))) a c.cuts_of.result.now) c.asked_of-asked.ensures
     ∙ ap (λ cuts. refusal_of (standing_of acts (node_at acts nodes (node_of sent event))) (asked_of c.args.history.now sent event) cuts) c.cuts_of.ensures) in
-    for_ok c.come_to.result _ _
+    IfOk-weaker c.come_to.result _ _
     (λ o. comes_to_first acts nodes sent (frames_of c.come_to.new.sent) c.args.history.now event o place before c.come_to.new.node free first here found) c.come_to.ensures.ok
 
 -- the node that wants memory for a crash
@@ -61,7 +61,7 @@ pub returns-in-Some-place-clause-memory : goal.returns-in-Some-place-clause-memo
 returns-in-Some-place-clause-memory g c =
     let acts = g.N.ClusterNode.acts in
     let before = c.index_mut.result.now in
-    for_err c.come_to.result _ _
+    on_err_weaker c.come_to.result
     (wanting acts c.args.nodes.now.items (frames_of c.args.sent.now) c.args.event.now before
     (found_there acts _ _ _ _ c.in-Some-place.place before c.as_slice.ensures.value c.node_of.ensures c.in-Some-place.ensures.within c.index_mut.ensures.value c.in-Some-place.ensures.node))
     c.come_to.ensures.memory
@@ -72,7 +72,7 @@ returns-in-Some-place-clause-nodes g c =
     let nodes : List g.row.N.Denot = c.args.nodes.now.items in
     let place = c.in-Some-place.place in
     let before = c.index_mut.result.now in
-    for_err c.come_to.result _ _
+    on_err_weaker c.come_to.result
     (λ same. ap (slice_set nodes place) same
     ∙ put_same acts nodes place before (at_place acts nodes _ _ _ place before c.as_slice.ensures.value c.node_of.ensures c.in-Some-place.ensures.within c.index_mut.ensures.value))
     c.come_to.ensures.node

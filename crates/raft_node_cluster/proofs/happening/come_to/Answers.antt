@@ -1,4 +1,5 @@
 use Rattle.std.proofs.Common.{ℕ, List, [], Ok, Err, inl, refl, subst}
+use Rattle.std.proofs.lemmas.Result.{IfOk-weaker, on_err_weaker}
 use Rattle.raft_sent_frames.specs.Frames.{frames_of}
 use Rattle.raft_cluster_events.specs.declared.event.ClusterEvent.{ClusterEvent}
 use Rattle.raft_cluster_events.specs.declared.event.ClusterEvent.TheVariants.{AddGroup, Ask, Deliver, ResetPeer, Crash, Reopen}
@@ -6,7 +7,7 @@ use Rattle.raft_cluster_events.specs.declared.outcome.CrashRefusal.TheVariants.{
 use Rattle.raft_node_cluster.specs.Facts.{delivered}
 use Rattle.raft_node_laws.specs.Answered.{one_of, opening_of, some_of}
 use Rattle.raft_node_cluster.specs.Happening.{Delivers}
-use Rattle.raft_node_cluster.proofs.HappeningLemmas.{comes, done_nothing, ends_as, for_err, for_ok, over_so, refused_as}
+use Rattle.raft_node_cluster.proofs.HappeningLemmas.{comes, done_nothing, ends_as, over_so, refused_as}
 use Rattle.raft_node_cluster.proofs.happening.come_to.Goals as goal
 
 pub returns-in-AddGroup-clause-ok : goal.returns-in-AddGroup-clause-ok
@@ -46,11 +47,11 @@ pub returns-in-Crash-clause-ok : goal.returns-in-Crash-clause-ok
 returns-in-Crash-clause-ok g c =
     let acts = g.N.ClusterNode.acts in
     let sent = frames_of c.args.sent.now in
-    for_ok c.crash.result _ _ (λ o h. ends_as acts sent sent c.args.event.now (Crash c.in-Crash.node c.in-Crash.choice) c.args.node.now c.crash.new.node o c.in-Crash.is (h sent c.in-Crash.node)) c.crash.ensures.ok
+    IfOk-weaker c.crash.result _ _ (λ o h. ends_as acts sent sent c.args.event.now (Crash c.in-Crash.node c.in-Crash.choice) c.args.node.now c.crash.new.node o c.in-Crash.is (h sent c.in-Crash.node)) c.crash.ensures.ok
 
 pub returns-in-Crash-clause-memory : goal.returns-in-Crash-clause-memory
 returns-in-Crash-clause-memory g c =
-    for_err c.crash.result _ _ (refused_as g.N.ClusterNode.acts c.args.event.now (Crash c.in-Crash.node c.in-Crash.choice) c.args.node.now Memory c.in-Crash.is) c.crash.ensures.memory
+    on_err_weaker c.crash.result (refused_as g.N.ClusterNode.acts c.args.event.now (Crash c.in-Crash.node c.in-Crash.choice) c.args.node.now Memory c.in-Crash.is) c.crash.ensures.memory
 
 pub returns-in-Reopen-clause-ok : goal.returns-in-Reopen-clause-ok
 returns-in-Reopen-clause-ok g c =

@@ -26,7 +26,7 @@ returns-clause-built g c = λ own at before s x asked empty stands ready accepte
     record e { state = record e.state { state = record e.state.state { io_state = c.set_building_snapshot.new.self } } } in
     let lent_back = c.update_snapshot.new.self.engine.now in
     let known : Knows lent.state s.stored =
-    record { vote = old.vote; ids = old.ids; purged = old.purged; snapshot = old.snapshot; memberships = old.memberships; in_force = old.in_force; last_committed = old.last_committed; goal = old.goal } in
+    record { vote = old.vote; ids = old.ids; terms = old.terms; purged = old.purged; snapshot = old.snapshot; memberships = old.memberships; in_force = old.in_force; last_committed = old.last_committed; goal = old.goal } in
     let knows = c.in_ok-is_updated.ensures.known s.stored x (subst (λ e. Knows e.state s.stored) (sym c.snapshot_handler.ensures.value) known) meta c.if-not-is_updated.false in
     let kept : KeepsRest lent.state lent_back.state = subst (λ e. KeepsRest e.state lent_back.state) c.snapshot_handler.ensures.value c.in_ok-is_updated.ensures.rest.0 in
     let after = store (SetSnapshot x) (begun at s) in

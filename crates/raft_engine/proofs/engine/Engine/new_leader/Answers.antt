@@ -3,7 +3,7 @@ use Rattle.std.proofs.Common.{◌∙◌, ap, arith}
 use Rattle.raft_values.specs.LogId.{next_place}
 use Rattle.std.specs.Prelude.{nat_eq}
 use Rattle.raft_membership.specs.Membership.{learner_ids}
-use Rattle.raft_engine.proofs.LeaderLemmas.{are_keys_of, begins, last_of_ids}
+use Rattle.raft_engine.proofs.LeaderLemmas.{are_keys_for, begins}
 use Rattle.raft_engine.proofs.MemberLemmas.{no_voters, rising_distinct}
 use Rattle.raft_engine.proofs.engine.Engine.new_leader.Goals as goal
 
@@ -17,15 +17,16 @@ new-requires-clause-no_voters g c =
 
 pub new-requires-clause-fits : goal.new-requires-clause-fits
 new-requires-clause-fits g c =
-    let same = ap next_place (last_of_ids c.key_log_ids.result.now c.args.self.now.state.state.log_ids c.key_log_ids.ensures.order.0 c.key_log_ids.ensures.ids) in
+    let same = ap next_place c.keys_of_leader-keys.ensures.last in
     omega (arith, same, c.requires)
 
 pub returns : goal.returns
 returns g c = λ own s known placed is_own committed.
-    let keys = c.key_log_ids.result.now in
+    let found = c.keys_of_leader-keys in
+    let keys = found.result.now in
     let m = c.in_ok-membership.membership in
     let in_force = c.in_ok-membership.ensures.cases ∙ c.effective_membership.ensures s known in
-    let of_log = are_keys_of keys c.args.self.now.state s known placed c.key_log_ids.ensures.order.0 c.key_log_ids.ensures.ids in
+    let of_log = are_keys_for c.args.vote.leader_id keys c.args.self.now.state s known placed found.ensures.rise found.ensures.last (found.ensures.ids s known) in
     let learners = c.as_slice.ensures.ids ∙ c.in_ok-learner_ids.ensures ∙ ap (λ y. learner_ids nat_eq y.configs y.nodes) c.membership.ensures in
     begins own c.args.vote s m in_force keys of_log is_own committed c.as_slice.result.now learners
     c.new.result c.new.ensures.vote c.new.ensures.last_log_id c.new.ensures.noop_log_id c.new.ensures.began c.new.ensures.voters c.new.ensures.learners

@@ -9,7 +9,7 @@ use Rattle.raft_known_state.proofs.known_state.KnownState+u64+BasicNode.append.G
 pub returns-clause-known : goal.returns-clause-known
 returns-clause-known c = λ s k p q.
     let old = c.args.self.now in
-    let now : KnownState = record { state = c.extend_log_ids.new.self; memberships = c.push_memberships.new.memberships; wish = old.wish } in
+    let now : KnownState = record { state = c.extend_log_ids.new.self; memberships = c.push_memberships.new.memberships; wish = old.wish; highest_term = c.highest_term-self.result } in
     let same = c.in_ok-extend_log_ids.ensures.ok in
     let more = c.in_ok-push_memberships.ensures in
     both_ok c.refresh_if.result
@@ -18,7 +18,7 @@ returns-clause-known c = λ s k p q.
     (more ∙ none_added old.memberships.items (memberships_in c.args.entries.now)
     (ap length (sym more) ∙ (let many : length now.memberships.items ≡ length old.memberships.items = grind (arith, nat_tests, h, c.len.ensures, c.len-before.ensures) in many)))))
     c.refresh_if.ensures.rest
-    (λ noted both. put old now c.refresh_if.new.self s k noted both p c.args.entries.now q refl same more)
+    (λ noted both. put old now c.refresh_if.new.self s k noted both p c.args.entries.now q c.highest_term-self.ensures.least c.highest_term-self.ensures.above refl same more)
 
 pub returns-clause-grown : goal.returns-clause-grown
 returns-clause-grown c = λ s k p q.

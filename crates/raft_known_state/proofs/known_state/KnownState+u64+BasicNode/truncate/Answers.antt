@@ -11,7 +11,7 @@ pub returns-clause-known : goal.returns-clause-known
 returns-clause-known c = λ s k p l.
     let old = c.args.self.now in
     let kept = c.count_below-kept.result in
-    let now : KnownState = record { state = record old.state { log_ids = c.truncate.new.self }; memberships = c.truncate-2.new.self; wish = old.wish } in
+    let now : KnownState = record { state = record old.state { log_ids = c.truncate.new.self }; memberships = c.truncate-2.new.self; wish = old.wish; highest_term = old.highest_term } in
     let order = known_in_order old s k p in
     both_ok c.refresh_if.result
     (c.refresh_if.ensures.noted
@@ -19,6 +19,6 @@ returns-clause-known c = λ s k p l.
     (λ h. noted_still old now (noted_known old s k) refl refl refl
     (c.truncate-2.ensures.items ∙ (let all : length old.memberships.items ≤ kept = grind (arith, nat_tests, h, c.len.ensures) in take_all kept old.memberships.items all))))
     c.refresh_if.ensures.rest
-    (λ noted both. cut old now c.refresh_if.new.self s k noted both p c.args.since l refl
+    (λ noted both. cut old now c.refresh_if.new.self s k noted both p c.args.since l (omega arith) refl
     (ap (λ ids. record old.state { log_ids = ids }) c.truncate.ensures)
     (c.truncate-2.ensures.items ∙ ap (take kept) (sym c.as_slice.ensures.value) ∙ c.count_below-kept.ensures.below (subst AreInOrder (sym c.as_slice.ensures.value) order) ∙ ap (take_below c.args.since) c.as_slice.ensures.value))
