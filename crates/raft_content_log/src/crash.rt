@@ -1,5 +1,5 @@
 //! What is asked of a log that can be made to crash.
-ghost use Rattle.std.specs.Prelude.{◌≡◌, OnErr, OnOk};
+ghost use Rattle.std.specs.Prelude.{◌≡◌, IfErr, OnErr, OnOk};
 
 use crate::content_log::ContentLog;
 
@@ -14,9 +14,13 @@ pub trait CrashLog: ContentLog {
     /// What the log is behind a crash.
     ghost crashed: { Self → Self → Type 0 };
 
+    /// It can't crash so, for this reason.
+    ghost refuses: { Self → Self.Choice → Self.Refusal → Type 0 };
+
     /// Leaves what the choice says. The log is only to be given back then. A refusal leaves it as it
     /// was.
     fn crash(&mut self, choice: &Self::Choice) -> Result<(), Self::Refusal>
         ensures crashed { OnOk result (crashed self.old self.new) }
+        ensures why { IfErr result (λ why. refuses self.old choice.now why) }
         ensures err { OnErr result (self.new ≡ self.old) };
 }

@@ -88,6 +88,15 @@ impl Cluster {
         Ok(())
     }
 
+    /// The first node is elected so many times, and what it sends as a leader is lost.
+    pub fn elect_in_vain(&mut self, alloc: Global, elections: u64) -> Result<(), AllocError> {
+        for _ in 0..elections {
+            self.grant(alloc)?;
+            self.mail = VecDeque::new(alloc);
+        }
+        Ok(())
+    }
+
     /// The first node is elected, sends so many heartbeats, and then all others get what they lack.
     pub fn elect(&mut self, alloc: Global, beats: u64) -> Result<(), AllocError> {
         self.grant(alloc)?;

@@ -2,10 +2,10 @@
 //!
 //! Each line of the input is a task such as `3 0 100 1000`: how many voters the group has, how many
 //! learners, how many entries its log before, and how many commands the leader takes, one after the
-//! other, each with all messages up to the last answer. Three more words may follow: how many leaders
+//! other, each with all messages up to the last answer. Four more words may follow: how many leaders
 //! wrote the entries before, one after the other, and how many of these have a membership; 1 where
-//! there is none; and how many heartbeats the leader sends before an entry of its own comes to
-//! anybody, or none. The answer is how many entries are committed, and how many messages were sent.
+//! there is none; how many heartbeats the leader sends before an entry of its own comes to anybody,
+//! and how many elections it wins before that; or none. The answer is how many entries are committed, and how many messages were sent.
 #![tactic(auto)]
 
 mod cluster;
@@ -35,11 +35,13 @@ fn parse(line: &str) -> Option<Task> {
         leaders: word_or(words.next(), 1)?,
         memberships: word_or(words.next(), 1)?,
         beats: word_or(words.next(), 0)?,
+        elections: word_or(words.next(), 0)?,
     })
 }
 
 fn run(alloc: Global, task: Task) -> Result<Cluster, AllocError> {
     let mut cluster = Cluster::new(alloc, &task)?;
+    cluster.elect_in_vain(alloc, task.elections)?;
     cluster.elect(alloc, task.beats)?;
     for _ in 0..task.commands {
         cluster.propose(alloc)?;

@@ -27,6 +27,8 @@ pub struct Task {
     pub memberships: u64,
     /// How many heartbeats the leader sends before one of its entries comes to anybody.
     pub beats: u64,
+    /// How many elections the leader wins before that, each under a vote of its own.
+    pub elections: u64,
 }
 
 impl Task {

@@ -1,10 +1,12 @@
 -- A log whose files crash where they lie, and files that show nothing by chance.
 use Rattle.std.proofs.Common.{◌≡◌, ◌⊎◌, inl, inr, ℕ, Bool, true, false, cond, eqb, List, [], ◌∷◌, refl, sym, ap, subst, ◌∙◌}
-use Rattle.std.specs.Prelude.{Result, Ok, Err, OnErr, OnOk, MatchOption, ◌==◌}
+use Rattle.std.specs.Prelude.{Result, Ok, Err, IfErr, OnErr, OnOk, MatchOption, ◌==◌}
 use Rattle.std.specs.List.{AllByRecursion}
 use Rattle.std.proofs.lemmas.Bool.{eqb-false, eqb-true, false≢true}
 use Rattle.raft_log_disk.specs.declared.crash.CrashChoice.TheVariants.{Most}
+use Rattle.raft_log_disk.specs.declared.crash.CrashChoice.{CrashChoice}
 use Rattle.raft_log_disk.specs.declared.crash.CrashRefusal.{CrashRefusal}
+use Rattle.raft_log_disk.specs.declared.crash.CrashRefusal.TheVariants.{ByChance, Memory, NotAnImage}
 use Rattle.raft_log_disk.specs.declared.memory.MemoryFileSystem.{MemoryFileSystem}
 use Rattle.raft_log_disk.specs.Chance.{IsGenuine, IsGenuineImage}
 use Rattle.raft_log_disk.specs.Disk.{Disk, FileState, IsIn, settled}
@@ -19,8 +21,17 @@ use Rattle.raft_log_memtables.specs.Content.{Content}
 use Rattle.raft_log_pipe.specs.Alone.{Names}
 use Rattle.raft_log_recovery.specs.Crashed.{IsCrashed}
 use Rattle.raft_log_engine.specs.Held.{Parts}
-use Rattle.raft_log_engine.specs.Log.{IsCrashedLog, IsFoundBy, IsSameLog, LogOn, MayBeFound, leaves_of_log}
+use Rattle.raft_log_engine.specs.Log.{CantBeLeftSo, IsCrashedLog, IsFoundBy, IsSameLog, LogOn, MayBeFound, leaves_of_log}
 use Rattle.raft_log_engine.proofs.Logs.{found_as_read}
+
+-- ---- why files can't be left so
+
+pub refused_so : (choice : CrashChoice) (d : Disk) (r : Result (Unit {0}) CrashRefusal) → (r ≡ Err NotAnImage → IsImageOf choice d → ⊥) → (r ≡ Err ByChance → IsImageOf choice d)
+    → (r ≡ Err ByChance → IsGenuineImage d (image_of choice d.names d.file) → ⊥) → IfErr r (λ why. CantBeLeftSo choice why d)
+refused_so choice d (Ok x) none image chance = tt
+refused_so choice d (Err NotAnImage) none image chance = none refl
+refused_so choice d (Err ByChance) none image chance = (image refl, chance refl)
+refused_so choice d (Err Memory) none image chance = tt
 
 -- ---- a crash after a crash
 

@@ -3,8 +3,11 @@ use Rattle.std.specs.Prelude.{◌≡◌, ◌⊎◌, ◌↔◌, ℕ, Bool, false,
 use Rattle.std.specs.String.{string_bytes}
 use Rattle.raft_log_disk.specs.Chance.{IsGenuineImage}
 use Rattle.raft_log_disk.specs.Disk.{Disk}
-use Rattle.raft_log_disk.specs.Image.{Image, seen_image}
+use Rattle.raft_log_disk.specs.Image.{Image, IsImageOf, image_of, seen_image}
 use Rattle.raft_log_disk.specs.Text.{Text}
+use Rattle.raft_log_disk.specs.declared.crash.CrashChoice.{CrashChoice}
+use Rattle.raft_log_disk.specs.declared.crash.CrashRefusal.{CrashRefusal}
+use Rattle.raft_log_disk.specs.declared.crash.CrashRefusal.TheVariants.{ByChance, Memory, NotAnImage}
 use Rattle.raft_log_files.specs.declared.config.Config.{Config}
 use Rattle.raft_log_memtables.specs.Content.{Content}
 use Rattle.raft_log_recovery.specs.Crashed.{IsCrashed}
@@ -51,6 +54,12 @@ pub record IsCrashedLog {F : Type 0} (disk : F → Disk) (old new : LogOn F) : T
   pub settings : new.settings ≡ old.settings
   pub found : (content : Content (List ℕ)) → IsGenuineImage (disk new.engine.files) (seen_image (disk new.engine.files))
       → IsFoundBy new.settings (disk new.engine.files) content → leaves_of_log disk old content
+
+-- no crash leaves the files so; or they would show by chance what nobody wrote; or memory was lacking
+abbrev pub CantBeLeftSo : CrashChoice → CrashRefusal → Disk → Type 0
+CantBeLeftSo choice NotAnImage d = IsImageOf choice d → ⊥
+CantBeLeftSo choice ByChance d = IsImageOf choice d × (IsGenuineImage d (image_of choice d.names d.file) → ⊥)
+CantBeLeftSo choice Memory d = Unit {0}
 
 -- a log as it was, but that its files may be others that have the same
 pub record IsSameLog {F : Type 0} (disk : F → Disk) (old new : LogOn F) : Type 0 where

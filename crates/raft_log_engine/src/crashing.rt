@@ -56,9 +56,11 @@ impl CrashLog for MemoryLog {
     type Refusal = CrashRefusal;
 
     ghost use Rattle.raft_log_disk.specs.MemorySystem.{disk_in};
-    ghost use Rattle.raft_log_engine.specs.Log.{IsCrashedLog};
+    ghost use Rattle.raft_log_engine.specs.Log.{CantBeLeftSo, IsCrashedLog};
 
     ghost crashed = { λ old new. IsCrashedLog disk_in old new };
+
+    ghost refuses = { λ log choice why. CantBeLeftSo choice why (disk_in log.engine.files) };
 
     fn crash(&mut self, choice: &CrashChoice) -> Result<(), CrashRefusal> {
         self.engine.files().may_crash(choice)?;

@@ -1,5 +1,5 @@
 //! A node's machine is made to stop, for simulations.
-ghost use Rattle.std.specs.Prelude.{◌≡◌, OnErr, OnOk};
+ghost use Rattle.std.specs.Prelude.{◌≡◌, IfErr, OnErr, OnOk};
 
 use crate::node::Node;
 use raft_group_storage::{CrashStorage, GroupStorage};
@@ -11,6 +11,7 @@ impl<M: StateMachine, S: GroupStorage<Snapshot = SnapshotBytes> + CrashStorage> 
     /// then. A refusal leaves it as it was.
     pub fn crash(&mut self, choice: &S::Choice) -> Result<(), S::Refusal>
         ensures crashed { OnOk result (S.CrashStorage.crashed self.old.groups.storage self.new.groups.storage) }
+        ensures why { IfErr result (λ why. S.CrashStorage.refuses self.old.groups.storage choice.now why) }
         ensures err { OnErr result (self.new ≡ self.old) }
     {
         self.groups.storage.crash(choice)

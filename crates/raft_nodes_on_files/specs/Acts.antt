@@ -4,6 +4,7 @@ use Rattle.raft_cluster_events.specs.Node.{NodeActs}
 use Rattle.raft_cluster_events.specs.States.{NodeStates}
 use Rattle.raft_cluster_events.specs.declared.event.CrashChoice.{CrashChoice}
 use Rattle.raft_cluster_events.specs.declared.node.NodeOutcome.{NodeOutcome}
+use Rattle.raft_cluster_events.specs.declared.outcome.CrashRefusal.{CrashRefusal}
 use Rattle.raft_cluster_events.specs.declared.outcome.NodeError.{NodeError}
 use Rattle.raft_cluster_events.specs.declared.outcome.NodeError.TheVariants as error
 use Rattle.raft_cluster_events.specs.declared.outcome.NodeRefusal.TheVariants as refusal
@@ -13,7 +14,8 @@ use Rattle.raft_group_step.specs.StoredGroup.{StoredGroup}
 use Rattle.raft_log_disk.specs.Chance.{IsGenuineImage}
 use Rattle.raft_log_disk.specs.Image.{seen_image}
 use Rattle.raft_log_disk.specs.MemorySystem.{disk_in}
-use Rattle.raft_log_engine.specs.Log.{IsFoundBy}
+use Rattle.raft_log_disk.specs.declared.crash.CrashRefusal.{CrashRefusal as FileRefusal}
+use Rattle.raft_log_engine.specs.Log.{CantBeLeftSo, IsFoundBy}
 use Rattle.raft_log_engine.specs.declared.memory.LogFiles.{LogFiles}
 use Rattle.raft_log_memtables.specs.Content.{Content}
 use Rattle.raft_machines.specs.Machine.{MachineRules}
@@ -38,7 +40,7 @@ use Rattle.raft_store.specs.Reading.{Holds, HoldsOne, StandsFor}
 use Rattle.raft_wire.specs.Frames.{FitsFrame, spelled_frame}
 use Rattle.raft_wire.specs.Stream.{fresh}
 use Rattle.raft_wire.specs.declared.frame.Frame.{Frame}
-use Rattle.raft_nodes_on_files.specs.Answering.{error_of, node_outcome, stop_in}
+use Rattle.raft_nodes_on_files.specs.Answering.{choice_in, error_of, node_outcome, refusal_in, stop_in}
 use Rattle.raft_nodes_on_files.specs.Kept.{AreShownDown, KeepingFault}
 use Rattle.raft_nodes_on_files.specs.Standing.{MayBeIn, UpNode, file_node_may_be, value}
 use Rattle.raft_nodes_on_files.specs.declared.file_node.FileNode.{FileNode}
@@ -208,6 +210,11 @@ module _ {M : Type 0} {g : Ghosts M} (rules : MachineRules) (state : M → List 
     pub stays : StaysDown old new
     pub shown : AreHandedBack rules state n new.files
 
+  -- its files can't be left so; one that is down has none that a crash could change
+  abbrev pub RefusesCrash : Option (UpNode M g) → CrashChoice → CrashRefusal → Type 0
+  RefusesCrash None choice why = ⊥
+  RefusesCrash (Some n) choice why = (file : FileRefusal) × (why ≡ refusal_in file) × CantBeLeftSo (choice_in choice) file (disk_in n.groups.storage.log.engine.files)
+
   -- ---- all calls
 
   -- one that is down stays so
@@ -231,7 +238,7 @@ module _ {M : Type 0} {g : Ghosts M} (rules : MachineRules) (state : M → List 
     resets = λ old peer answered new. WhenUp old new old.up (answered ≡ refused) (λ n. ResetsTo rules state n peer old answered new);
     fails = λ old stop new. WhenUp old new old.up (NamesNobody (names_of stop)) (λ n. FailsTo rules state n old stop new);
     crashes = λ old choice new. WhenUp old new old.up (Unit {0}) (λ n. GoesDown n old new);
-    refuses = λ old choice why. Unit {0};
+    refuses = λ old choice why. RefusesCrash old.up choice why;
     reopens = λ old workers answered new. WhenDown old.up (ReopensTo old answered new) ((new ≡ old) × (answered ≡ Ok []));
     closes = λ old new. WhenUp old new old.up (Unit {0}) (λ n. GoesDown n old new);
   }

@@ -1,6 +1,10 @@
 -- What a node on files answers, in a cluster's words.
 use Rattle.std.specs.Prelude.{List, [], Option, Some, None, map}
+use Rattle.raft_cluster_events.specs.declared.event.CrashChoice.{CrashChoice}
+use Rattle.raft_cluster_events.specs.declared.event.CrashChoice.TheVariants as choice
 use Rattle.raft_cluster_events.specs.declared.node.NodeOutcome.{NodeOutcome}
+use Rattle.raft_cluster_events.specs.declared.outcome.CrashRefusal.{CrashRefusal}
+use Rattle.raft_cluster_events.specs.declared.outcome.CrashRefusal.TheVariants as crash_refusal
 use Rattle.raft_cluster_events.specs.declared.outcome.NodeError.{NodeError}
 use Rattle.raft_cluster_events.specs.declared.outcome.NodeError.TheVariants as error
 use Rattle.raft_cluster_events.specs.declared.outcome.NodeRefusal.TheVariants as refusal
@@ -8,6 +12,10 @@ use Rattle.raft_cluster_events.specs.declared.outcome.Stop.{Stop}
 use Rattle.raft_cluster_events.specs.declared.outcome.StopCause.{StopCause}
 use Rattle.raft_cluster_events.specs.declared.outcome.StopCause.TheVariants as stop_cause
 use Rattle.raft_framed_groups.specs.declared.frames.GroupFrame.{GroupFrame}
+use Rattle.raft_log_disk.specs.declared.crash.CrashChoice.{CrashChoice as FileChoice}
+use Rattle.raft_log_disk.specs.declared.crash.CrashChoice.TheVariants as file_choice
+use Rattle.raft_log_disk.specs.declared.crash.CrashRefusal.{CrashRefusal as FileRefusal}
+use Rattle.raft_log_disk.specs.declared.crash.CrashRefusal.TheVariants as file_refusal
 use Rattle.raft_log_engine.specs.declared.fault.EngineFault.{EngineFault}
 use Rattle.raft_log_engine.specs.declared.fault.EngineFault.TheVariants as engine_fault
 use Rattle.raft_log_files.specs.declared.error.Error.TheVariants as log_error
@@ -85,3 +93,14 @@ error_of (fault.Stopped why unknown) = error.Stopped (stop_of why unknown.items)
 abbrev pub stop_in : Fault (StoreFault EngineFault) → Stop
 stop_in (fault.Stopped why unknown) = stop_of why unknown.items
 stop_in other = quiet_stop stop_cause.Other
+
+-- ---- how its files are left
+
+abbrev pub choice_in : CrashChoice → FileChoice
+choice_in choice.Least = file_choice.Least
+choice_in choice.Most = file_choice.Most
+
+abbrev pub refusal_in : FileRefusal → CrashRefusal
+refusal_in file_refusal.NotAnImage = crash_refusal.NotAnImage
+refusal_in file_refusal.ByChance = crash_refusal.ByChance
+refusal_in file_refusal.Memory = crash_refusal.Memory

@@ -5,7 +5,7 @@ ghost use Rattle.raft_log_disk.specs.MemorySystem.{disk_in};
 ghost use Rattle.raft_log_engine.specs.Left.{answers_on};
 ghost use Rattle.raft_log_engine.specs.Log.{leaves_of_log};
 ghost use Rattle.raft_nodes_on_files.specs.Acts.{AreHandedBack, IsFoundAs, IsLeftOpening, IsOpened, IsRefusedOpening};
-ghost use Rattle.raft_nodes_on_files.specs.Answering.{quiet_stop};
+ghost use Rattle.raft_nodes_on_files.specs.Answering.{choice_in, quiet_stop, refusal_in};
 
 use crate::faults::{as_stop, cause_of_log, quiet_stop};
 use raft_cluster_events::{CrashChoice, CrashRefusal, Stop, StopCause};
@@ -85,7 +85,9 @@ pub fn closed<M: StateMachine>(node: Node<M, Kept<M>>) -> LogFiles
 }
 
 /// What a crash leaves, in the words of files.
-pub fn file_choice(choice: CrashChoice) -> FileChoice {
+pub fn file_choice(choice: CrashChoice) -> FileChoice
+    ensures { result ≡ choice_in choice }
+{
     match choice {
         CrashChoice::Least => FileChoice::Least,
         CrashChoice::Most => FileChoice::Most,
@@ -93,7 +95,9 @@ pub fn file_choice(choice: CrashChoice) -> FileChoice {
 }
 
 /// Why files don't crash so, in a cluster's words.
-pub fn crash_refusal(why: FileRefusal) -> CrashRefusal {
+pub fn crash_refusal(why: FileRefusal) -> CrashRefusal
+    ensures { result ≡ refusal_in why }
+{
     match why {
         FileRefusal::NotAnImage => CrashRefusal::NotAnImage,
         FileRefusal::ByChance => CrashRefusal::ByChance,

@@ -12,6 +12,8 @@ impl<M: StateMachine, L: CrashLog> CrashStorage for Store<M, L> {
 
     ghost crashed = { λ old new. L.crashed old.log new.log };
 
+    ghost refuses = { λ store choice why. L.refuses store.log choice why };
+
     fn crash(&mut self, choice: &L::Choice) -> Result<(), L::Refusal> {
         self.log.crash(choice)
     }
