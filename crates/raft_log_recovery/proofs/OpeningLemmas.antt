@@ -410,10 +410,6 @@ if_both : {X E : Type 0} (r : Result X E) (P Q R : X → Type 0) → ((x : X) �
 if_both (Ok x) P Q R so p q = so x p q
 if_both (Err e) P Q R so p q = tt
 
-pub err_on : {X E : Type 0} (r : Result X E) (P Q : Type 0) → (P → Q) → OnErr r P → OnErr r Q
-err_on (Ok x) P Q so p = tt
-err_on (Err e) P Q so p = so p
-
 -- the machine has what it was given, and the pipe is of it
 abbrev Gives : (List Placed → Type 0) → (List Placed → Type 0) → (List Placed → Type 0) → Type 0
 Gives H K R = (placed : List Placed) → H placed → (more : List Placed) × K (placed ++ more) × R more

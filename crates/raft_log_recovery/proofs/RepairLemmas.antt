@@ -7,6 +7,7 @@ use Rattle.raft_log_records.specs.declared.error.RecordFault.{RecordFault}
 use Rattle.raft_log_records.specs.Reading.{record_at}
 use Rattle.raft_log_records.specs.Signature.{signature_of}
 use Rattle.raft_log_records.specs.declared.version.Version.TheVariants.{V1}
+use Rattle.raft_log_disk.proofs.RecoverableLemmas.{bytes_taken}
 use Rattle.raft_log_disk.specs.declared.format.LogFileFormat.{LogFileFormat}
 use Rattle.raft_log_disk.specs.declared.format.HeaderFault.{HeaderFault}
 use Rattle.raft_log_disk.specs.Disk.{AreBytes, Disk, FileState, IsIn, PartlyTruncated, after_sync, after_truncate, resized, with_file}
@@ -293,14 +294,9 @@ front_resized bytes to within =
 
 -- ---- what a refused cut leaves
 
-take_bytes : (n : ℕ) (bytes : List ℕ) → AreBytes bytes → AreBytes (take n bytes)
-take_bytes zero bytes fits = tt
-take_bytes (suc n) [] fits = tt
-take_bytes (suc n) (b ∷ bytes) fits = (fits.0, take_bytes n bytes fits.1)
-
 -- no header stands in a front where none stands
 front_broken : (bytes : List ℕ) (n : ℕ) (e : HeaderFault) (format : LogFileFormat) → AreBytes bytes → header_at bytes ≡ Err e → header_at (take n bytes) ≡ Ok format → ⊥
-front_broken bytes n e format fits broken told = clash format e (sym (ap header_at whole ∙ headed (take n bytes) (behind ++ drop n bytes) format (take_bytes n bytes fits) told) ∙ broken)
+front_broken bytes n e format fits broken told = clash format e (sym (ap header_at whole ∙ headed (take n bytes) (behind ++ drop n bytes) format (bytes_taken n bytes fits) told) ∙ broken)
   where
     clash : (h : LogFileFormat) (y : HeaderFault) → (let r : Result LogFileFormat HeaderFault = Ok h in r ≡ Err y) → ⊥
     clash h y s = cc
@@ -314,7 +310,7 @@ front_broken bytes n e format fits broken told = clash format e (sym (ap header_
     whole : bytes ≡ spelled_header format ++ (behind ++ drop n bytes)
     whole =
         sym (take-append-drop n bytes)
-        ∙ ap (λ (l : List ℕ). l ++ drop n bytes) (sym (take-append-drop hl (take n bytes)) ∙ ap (λ (l : List ℕ). l ++ behind) (header_spelled (take n bytes) format (take_bytes n bytes fits) told).front)
+        ∙ ap (λ (l : List ℕ). l ++ drop n bytes) (sym (take-append-drop hl (take n bytes)) ∙ ap (λ (l : List ℕ). l ++ behind) (header_spelled (take n bytes) format (bytes_taken n bytes fits) told).front)
         ∙ append_assoc (spelled_header format) behind (drop n bytes)
 
 -- a front that reaches as far as its whole records reads as the same batches

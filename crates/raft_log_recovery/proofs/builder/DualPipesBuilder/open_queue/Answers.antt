@@ -2,6 +2,7 @@ use Rattle.std.proofs.Common.{◌≡◌, List, length, map, string_bytes, sym, a
 use Rattle.std.specs.Prelude.{◌==◌, vec_len}
 use Rattle.std.proofs.lemmas.Bool.{eqb-false, eqb-true, false≢true}
 use Rattle.std.specs.List.{list_all}
+use Rattle.std.proofs.lemmas.Result.{on_err_weaker}
 use Rattle.raft_log_disk.specs.Text.{Text}
 use Rattle.raft_log_disk.proofs.CauseLemmas.{at_err}
 use Rattle.raft_log_recovery.specs.declared.scan.FileKind.TheVariants.{Log}
@@ -12,7 +13,7 @@ use Rattle.raft_log_recovery.specs.Queue.{AreLeft, AreReadAlike, AreRecovered, O
 use Rattle.raft_log_pipe.specs.Found.{MakesButHeader}
 use Rattle.raft_log_pipe.specs.Pipe.{id_of}
 use Rattle.raft_log_recovery.specs.Scan.{AreFound}
-use Rattle.raft_log_recovery.proofs.OpeningLemmas.{created_gives, err_on, kept_only, no_names, none_aligned, none_last, none_named, opened_changes, opened_gives, opened_left, recovered_found, recovered_left}
+use Rattle.raft_log_recovery.proofs.OpeningLemmas.{created_gives, kept_only, no_names, none_aligned, none_last, none_named, opened_changes, opened_gives, opened_left, recovered_found, recovered_left}
 use Rattle.raft_log_recovery.proofs.AgainLemmas.{created_before, either_way, finds_before, none_keeps, opened_alike}
 use Rattle.raft_log_recovery.proofs.AloneLemmas.{created_alone, found_alone, paths_are}
 use Rattle.raft_log_recovery.proofs.builder.DualPipesBuilder.open_queue.Goals as goal
@@ -97,7 +98,7 @@ returns-clause-only g c =
 
 pub returns-clause-err : goal.returns-clause-err
 returns-clause-err g c =
-    err_on c.open.result _ _
+    on_err_weaker c.open.result
     (opened_left (directories_in c.args.self.now) c.args.config.now.queue (g.F.FileSystem.disk c.args.files.now) (g.F.FileSystem.disk c.recover_queue.new.files) (g.F.FileSystem.disk c.open.new.files)
     (names_in c.args.self.now c.args.config.now.queue) c.in_ok-recovered.recovered.items c.in_ok-recovered.ensures.ok)
     c.open.ensures.err
