@@ -23,6 +23,8 @@ pub record NodeActs (N : Type 0) : Type 1 where
   pub resets : N → ℕ → Result (Unit {0}) NodeError → N → Type 0
   -- it stops for want of memory outside of it
   pub fails : N → Stop → N → Type 0
+  -- its files refuse calls from this one on, or none any more
+  pub fuses : N → Option ℕ → N → Type 0
   -- its machine stops
   pub crashes : N → CrashChoice → N → Type 0
   -- its files can't be left so by a crash, and why

@@ -44,6 +44,12 @@ pub enum ClusterEvent {
         node: u64,
         peer: u64,
     },
+    /// The node's files refuse each changing call from this one on, the first one counted as 1; with
+    /// none they refuse no call any more. So a machine stops inside a call of its files.
+    Fuse {
+        node: u64,
+        first_refused: Option<u64>,
+    },
     /// The node's machine stops, and leaves of its files what the choice says.
     Crash {
         node: u64,

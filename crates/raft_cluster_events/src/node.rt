@@ -82,6 +82,13 @@ pub trait ClusterNode: Drop {
         ensures id { acts.id self.new ≡ acts.id self.old }
         ensures up { acts.is_up self.new ≡ acts.is_up self.old };
 
+    /// Its files refuse each changing call from this one on, the first one counted as 1; with none they
+    /// refuse no call any more. Up or down, nothing else changes.
+    fn fuse(&mut self, first_refused: Option<u64>)
+        ensures does { acts.fuses self.old first_refused self.new }
+        ensures id { acts.id self.new ≡ acts.id self.old }
+        ensures up { acts.is_up self.new ≡ acts.is_up self.old };
+
     /// The node's machine stops, and leaves of its files what the choice says: the node is down. An
     /// `Err` says why its files can't be left so, and changes nothing.
     fn crash(&mut self, choice: CrashChoice) -> Result<(), CrashRefusal>

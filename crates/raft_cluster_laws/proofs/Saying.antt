@@ -13,7 +13,7 @@ use Rattle.raft_laws.specs.GroupWorld.{Done as Ended, Refused as Declined, Stopp
 use Rattle.raft_laws.specs.NodeEvent.{Crashes, Halts, outcome_at}
 use Rattle.raft_laws.specs.GroupRun.{Scene, Nowhere, At, after_scene, outcome_in, outcome_of, scene_of, sent_in, setup_after, setup_in, stop_at}
 use Rattle.raft_machines.specs.Machine.{MachineRules}
-use Rattle.raft_headline.specs.ClusterEvent.{ClusterEvent, AddGroup, Ask, Deliver, ResetPeer, Clean, Crash, Reopen, Halt, ClusterOutcome, Done, Opened, Stopped, Fused, TurnedAway, Recorded, Said, is_stopped, is_turned_away}
+use Rattle.raft_headline.specs.ClusterEvent.{ClusterEvent, AddGroup, Ask, Deliver, ResetPeer, Clean, Fuse, Crash, Reopen, Halt, ClusterOutcome, Done, Opened, Stopped, Fused, TurnedAway, Recorded, Said, is_stopped, is_turned_away}
 use Rattle.raft_headline.specs.Machines.{Replicas}
 use Rattle.raft_headline.specs.Replaying.{OwnStep, ReplaysWith, Says, StepsTo, is_opening}
 use Rattle.raft_headline.specs.Seen.{Halted, Passed, own_or_aside, seen_by, seen_of, seen_unless}
@@ -113,6 +113,7 @@ module _ (h : ℕ) where
   turned_sent (Deliver g number now) = turned_said (g == h)
   turned_sent (ResetPeer n peer) = refl
   turned_sent (Clean n) = refl
+  turned_sent (Fuse n) = refl
   turned_sent (Crash n) = refl
   turned_sent (Reopen n) = refl
   turned_sent (Halt n) = refl
@@ -123,6 +124,7 @@ module _ (h : ℕ) where
   turned_asks (Deliver g number now) = refl
   turned_asks (ResetPeer n peer) = refl
   turned_asks (Clean n) = refl
+  turned_asks (Fuse n) = refl
   turned_asks (Crash n) = refl
   turned_asks (Reopen n) = refl
   turned_asks (Halt n) = refl
@@ -205,6 +207,7 @@ module _ (h : ℕ) where
     by_event (Deliver g num now) step = plain_tracks (event.Deliver num now) r.node (g == h) refl refl step
     by_event (ResetPeer n peer) step = aside_tracks n (is_stopped r.outcome) step
     by_event (Clean n) step = aside_tracks n (is_stopped r.outcome) step
+    by_event (Fuse n) step = aside_tracks n (is_stopped r.outcome) step
     by_event (Crash n) step =
         quiet old.world new (event.Crash n) false (stop_at (is_stop (outcome_of old.world (event.Crash n) false)) 0) refl (crash_sends n (old.world.nodes n)) step.world
     by_event (Reopen n) step = opened_tracks n step

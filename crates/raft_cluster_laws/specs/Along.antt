@@ -7,7 +7,7 @@ use Rattle.raft_group_step.specs.GroupEvent.{GroupCall}
 use Rattle.raft_laws.specs.declared.world_event.WorldEvent.{WorldEvent}
 use Rattle.raft_laws.specs.GroupWorld.{GroupWorld, new_world}
 use Rattle.raft_laws.specs.GroupRun.{Scene, scene_of, setup_in_call}
-use Rattle.raft_headline.specs.ClusterEvent.{ClusterEvent, AddGroup, Ask, Deliver, ResetPeer, Clean, Crash, Reopen, Halt, ClusterOutcome, Recorded}
+use Rattle.raft_headline.specs.ClusterEvent.{ClusterEvent, AddGroup, Ask, Deliver, ResetPeer, Clean, Fuse, Crash, Reopen, Halt, ClusterOutcome, Recorded}
 use Rattle.raft_headline.specs.Told.{is_taken, said_by}
 
 -- the group's messages, numbered from 0 in the order of sending
@@ -27,6 +27,7 @@ setup_asked h (Ask n g call now) o = setup_if (g == h) (is_taken o) call
 setup_asked h (Deliver g number now) o = None
 setup_asked h (ResetPeer n peer) o = None
 setup_asked h (Clean n) o = None
+setup_asked h (Fuse n) o = None
 setup_asked h (Crash n) o = None
 setup_asked h (Reopen n) o = None
 setup_asked h (Halt n) o = None

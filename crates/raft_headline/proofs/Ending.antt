@@ -21,7 +21,7 @@ use Rattle.raft_history_laws.proofs.EndedOnce.{tokens_end_once}
 use Rattle.raft_history_laws.proofs.RunLedgers.{ends_are_named, ledgers_have_the_untold}
 use Rattle.raft_history_laws.proofs.WaitingTokens.{waits_own}
 use Rattle.raft_machines.specs.Machine.{MachineRules}
-use Rattle.raft_headline.specs.ClusterEvent.{ClusterEvent, AddGroup, Ask, Deliver, ResetPeer, Clean, Crash, Reopen, Halt, ClusterOutcome, Done, Opened, Refused, Stopped, Fused, PassedOver, TurnedAway, Recorded, Said, is_stopped, is_turned_away, said_of}
+use Rattle.raft_headline.specs.ClusterEvent.{ClusterEvent, AddGroup, Ask, Deliver, ResetPeer, Clean, Fuse, Crash, Reopen, Halt, ClusterOutcome, Done, Opened, Refused, Stopped, Fused, PassedOver, TurnedAway, Recorded, Said, is_stopped, is_turned_away, said_of}
 use Rattle.raft_machines.specs.declared.telling.Told.{Told}
 use Rattle.raft_headline.specs.Seen.{Seen, Passed, Own, Halted, Crashed, own_or_aside, seen_by, seen_of, seen_unless}
 use Rattle.raft_headline.specs.Machines.{Replicas, new_replicas}
@@ -163,6 +163,7 @@ module _ (h : ℕ) (x : WorldEvent) where
   own_event_is (Deliver g number now) at o false s = own_or (g == h) (event.Deliver number now) at o refl s
   own_event_is (ResetPeer m peer) at o false s = own_aside (is_stopped o) m s
   own_event_is (Clean m) at o false s = own_aside (is_stopped o) m s
+  own_event_is (Fuse m) at o false s = own_aside (is_stopped o) m s
   own_event_is (Crash m) at o false s = absurd (let f : Crashed m ≡ Own x = s in cc)
   own_event_is (Reopen m) at o false s = subst (λ z. is_own z ≡ true) (let f : Own (event.Restart m) ≡ Own x = s in let g : event.Restart m ≡ x = cc in g) refl
   own_event_is (Halt m) at o false s = own_aside (is_stopped o) m s

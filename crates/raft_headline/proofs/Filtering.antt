@@ -7,7 +7,7 @@ use Rattle.raft_laws.specs.GroupWorld.{Outcome, is_stop}
 use Rattle.raft_laws.specs.GroupWorld.{Done as Ended, Refused as Declined, Stopped as Broken, Skipped}
 use Rattle.raft_laws.specs.GroupRun.{happens, outcome_of, scene_of}
 use Rattle.raft_machines.specs.Machine.{MachineRules}
-use Rattle.raft_headline.specs.ClusterEvent.{ClusterEvent, AddGroup, Ask, Deliver, ResetPeer, Clean, Crash, Reopen, Halt, ClusterOutcome, Done, Opened, Refused, Stopped, Fused, PassedOver, TurnedAway, Recorded, Said, Unknown, is_stopped, is_turned_away, said_of, said_or}
+use Rattle.raft_headline.specs.ClusterEvent.{ClusterEvent, AddGroup, Ask, Deliver, ResetPeer, Clean, Fuse, Crash, Reopen, Halt, ClusterOutcome, Done, Opened, Refused, Stopped, Fused, PassedOver, TurnedAway, Recorded, Said, Unknown, is_stopped, is_turned_away, said_of, said_or}
 use Rattle.raft_headline.specs.Seen.{Seen, Passed, Own, Halted, Crashed, aside, kept_before, own_or_aside, own_outcome, own_part, own_parts, own_tokens, own_unknown, seen_by, seen_of, seen_unless}
 use Rattle.raft_headline.specs.Machines.{MachinesMoveIn, Replicas}
 use Rattle.raft_headline.specs.Replaying.{FilteredHistoriesReplay, HaltStep, IsSaid, IsStep, IsThere, OwnStep, ReplaysWith, Says, StepsTo, is_opening, takes_number, with_number}
@@ -80,6 +80,7 @@ module _ (h : ℕ) where
   same_of (Deliver g number now) at o = same_own (g == h) _ at o
   same_of (ResetPeer n peer) at o = same_aside n o
   same_of (Clean n) at o = same_aside n o
+  same_of (Fuse n) at o = same_aside n o
   same_of (Crash n) at o = refl
   same_of (Reopen n) at o = refl
   same_of (Halt n) at o = same_aside n o
@@ -114,6 +115,7 @@ module _ (h : ℕ) where
       by_event (Deliver g number now) b q f = by_own (g == h) _ b q at f
       by_event (ResetPeer m peer) b q f = by_aside b q m f
       by_event (Clean m) b q f = by_aside b q m f
+      by_event (Fuse m) b q f = by_aside b q m f
       by_event (Crash m) b q f = absurd (let g : Crashed m ≡ Halted n = f in cc)
       by_event (Reopen m) b q f = no_own _ f
       by_event (Halt m) b q f = by_aside b q m f

@@ -24,7 +24,7 @@ use Rattle.raft_laws.proofs.BallotAgreement.{same_some}
 use Rattle.raft_history_laws.specs.NotedIds.{IsNotedAt, IsOrigin, is_noted, next_id}
 use Rattle.raft_history_laws.proofs.LastNoted.{origin_is_last}
 use Rattle.raft_machines.specs.Machine.{MachineRules}
-use Rattle.raft_headline.specs.ClusterEvent.{ClusterEvent, AddGroup, Ask, Deliver, ResetPeer, Clean, Crash, Reopen, Halt, ClusterOutcome, Done, Opened, Refused, Stopped, Fused, PassedOver, TurnedAway, Recorded, is_stopped, is_turned_away}
+use Rattle.raft_headline.specs.ClusterEvent.{ClusterEvent, AddGroup, Ask, Deliver, ResetPeer, Clean, Fuse, Crash, Reopen, Halt, ClusterOutcome, Done, Opened, Refused, Stopped, Fused, PassedOver, TurnedAway, Recorded, is_stopped, is_turned_away}
 use Rattle.raft_headline.specs.Seen.{Seen, Passed, Own, Halted, Crashed, own_or_aside, seen_by, seen_of, seen_unless}
 use Rattle.raft_headline.specs.Machines.{Replicas, new_replicas}
 use Rattle.raft_headline.specs.OwnEvents.{own_event, own_events, own_number}
@@ -100,6 +100,7 @@ module _ (h n : ℕ) (call : GroupCall) (now : ℕ) where
   own_ask (Deliver g number moment) at o false s = other_event (g == h) _ at o (λ f. absurd (let k : event.Deliver number moment ≡ wanted = f in cc)) s
   own_ask (ResetPeer m peer) at o false s = no_aside (is_stopped o) m s
   own_ask (Clean m) at o false s = no_aside (is_stopped o) m s
+  own_ask (Fuse m) at o false s = no_aside (is_stopped o) m s
   own_ask (Crash m) at o false s = absurd (let f : Crashed m ≡ Own wanted = s in cc)
   own_ask (Reopen m) at o false s = absurd (let f : Own (event.Restart m) ≡ Own wanted = s in let g : event.Restart m ≡ wanted = cc in cc)
   own_ask (Halt m) at o false s = no_aside (is_stopped o) m s

@@ -16,7 +16,7 @@ use Rattle.raft_laws.specs.GroupRun.{Scene, Nowhere, At, after_scene, is_same_se
 use Rattle.raft_laws.specs.Stop.{unknown_at_stop}
 use Rattle.raft_laws.proofs.StepMoments.{refusals_told}
 use Rattle.raft_machines.specs.Machine.{MachineRules}
-use Rattle.raft_headline.specs.ClusterEvent.{ClusterEvent, AddGroup, Ask, Deliver, ResetPeer, Clean, Crash, Reopen, Halt, ClusterOutcome, Done, Opened, Refused, Stopped, Fused, PassedOver, TurnedAway, Recorded, is_stopped, is_turned_away}
+use Rattle.raft_headline.specs.ClusterEvent.{ClusterEvent, AddGroup, Ask, Deliver, ResetPeer, Clean, Fuse, Crash, Reopen, Halt, ClusterOutcome, Done, Opened, Refused, Stopped, Fused, PassedOver, TurnedAway, Recorded, is_stopped, is_turned_away}
 use Rattle.raft_headline.specs.Seen.{Seen, Passed, Halted, aside, own_or_aside, seen_by, seen_of, seen_unless}
 use Rattle.raft_headline.specs.Machines.{Replicas}
 use Rattle.raft_headline.specs.Replaying.{CrashStep, HaltStep, IsThere, SaysCrash, OwnStep, ReplaysFor, ReplaysWith, Says, SaysEnd, StepsTo, is_opening}
@@ -170,6 +170,7 @@ module _ (rules : MachineRules) (h : ℕ) where
         own_or_stops (g == h) (event.Deliver number now) r.node (λ there m at_node e. there_at (scene_of old.world (event.Deliver number now)) there m at_node e) s
     event_stops (ResetPeer n peer) s = aside_stops n s
     event_stops (Clean n) s = aside_stops n s
+    event_stops (Fuse n) s = aside_stops n s
     event_stops (Crash n) s = absurd (no_crash r.outcome t (outcome_of old.world (event.Crash n) false) s.says)
       where
         no_crash : (o : ClusterOutcome) → is_stopped o ≡ true → (what : Outcome) → SaysCrash o what → ⊥
@@ -288,6 +289,7 @@ module _ (rules : MachineRules) (h : ℕ) where
         own_or_stays (g == h) (event.Deliver number now) r.node (any_delivery (slice_get (old.world).messages number) now) s
     event_stays (ResetPeer m peer) closed s = aside_stays m (is_stopped r.outcome) s
     event_stays (Clean m) closed s = aside_stays m (is_stopped r.outcome) s
+    event_stays (Fuse m) closed s = aside_stays m (is_stopped r.outcome) s
     event_stays (Crash m) closed s = crash_stays m s
     event_stays (Reopen m) closed s = reopen_stays m (m == n) refl closed s
     event_stays (Halt m) closed s = aside_stays m (is_stopped r.outcome) s
@@ -327,6 +329,7 @@ module _ (rules : MachineRules) (h : ℕ) where
         (λ there. subst (λ j. Where j (scene_of old.world (event.Deliver number now))) at (delivery_where (slice_get (old.world).messages number) now r.node there)) s
     event_passes (ResetPeer m peer) at t s = absurd (let f : false ≡ true = t in cc)
     event_passes (Clean m) at t s = absurd (let f : false ≡ true = t in cc)
+    event_passes (Fuse m) at t s = absurd (let f : false ≡ true = t in cc)
     event_passes (Crash m) at t s = absurd (let f : false ≡ true = t in cc)
     event_passes (Reopen m) at t s = absurd (let f : false ≡ true = t in cc)
     event_passes (Halt m) at t s = absurd (let f : false ≡ true = t in cc)

@@ -20,7 +20,7 @@ use Rattle.raft_laws.proofs.Counts.{at_contains, contains_at}
 use Rattle.raft_laws.proofs.WorldOrigins.{run_more}
 use Rattle.raft_laws.proofs.WorldTold.{told_tokens_stand}
 use Rattle.raft_machines.specs.Machine.{MachineRules}
-use Rattle.raft_headline.specs.ClusterEvent.{ClusterEvent, AddGroup, Ask, Deliver, ResetPeer, Clean, Crash, Reopen, Halt, ClusterOutcome, Done, Opened, Refused, Stopped, Fused, PassedOver, TurnedAway, Recorded, Said, is_stopped, is_turned_away, said_of}
+use Rattle.raft_headline.specs.ClusterEvent.{ClusterEvent, AddGroup, Ask, Deliver, ResetPeer, Clean, Fuse, Crash, Reopen, Halt, ClusterOutcome, Done, Opened, Refused, Stopped, Fused, PassedOver, TurnedAway, Recorded, Said, is_stopped, is_turned_away, said_of}
 use Rattle.raft_machines.specs.declared.telling.Told.{Told}
 use Rattle.raft_headline.specs.Seen.{Own, own_or_aside, seen_by, seen_of, seen_unless}
 use Rattle.raft_machines.specs.Fold.{answer_at}
@@ -138,6 +138,7 @@ module _ (h : ℕ) (t : Told) where
   event_told r (Deliver g number now) o e is has = own_told r (g == h) _ r.node o is refl (sees_as r (Deliver g number now) o e is) has
   event_told r (ResetPeer n peer) o e is has = no_tells t has
   event_told r (Clean n) o e is has = no_tells t has
+  event_told r (Fuse n) o e is has = no_tells t has
   event_told r (Crash n) o e is has = no_tells t has
   event_told r (Reopen n) o e is has = opening_told r n o is (sees_as r (Reopen n) o e is) has
   event_told r (Halt n) o e is has = no_tells t has

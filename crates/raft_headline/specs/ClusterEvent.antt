@@ -15,6 +15,8 @@ pub data ClusterEvent : Type 0 where
   -- what a peer sent in part is forgotten
   ResetPeer : (node peer : ℕ) → ClusterEvent
   Clean : (node : ℕ) → ClusterEvent
+  -- the node's files refuse calls from some one on, so that its machine stops inside it; or they refuse none any more
+  Fuse : (node : ℕ) → ClusterEvent
   Crash : (node : ℕ) → ClusterEvent
   Reopen : (node : ℕ) → ClusterEvent
   -- an event of others stopped the node. Only a history that is filtered to a group has it

@@ -2,7 +2,7 @@
 use Rattle.std.specs.Prelude.{ℕ, ◌==◌, Bool, true, false, if◌then◌else◌, List, [], ◌∷◌, filter, map}
 use Rattle.raft_laws.specs.declared.world_event.WorldEvent.{WorldEvent}
 use Rattle.raft_laws.specs.declared.world_event.WorldEvent.TheVariants as world
-use Rattle.raft_headline.specs.ClusterEvent.{ClusterEvent, AddGroup, Ask, Deliver, ResetPeer, Clean, Crash, Reopen, Halt, ClusterOutcome, Done}
+use Rattle.raft_headline.specs.ClusterEvent.{ClusterEvent, AddGroup, Ask, Deliver, ResetPeer, Clean, Fuse, Crash, Reopen, Halt, ClusterOutcome, Done}
 use Rattle.raft_headline.specs.ClusterEvent.{Opened, Refused, Stopped, Fused, PassedOver, TurnedAway, Recorded, Said, Unknown, is_stopped, is_turned_away}
 
 -- the group sees nothing of it, or it is an event of the group, or one of others stopped the group's node, or the node crashed
@@ -26,6 +26,7 @@ seen_of h (Ask n g call now) at o = own_or_aside (g == h) (world.Ask n call now)
 seen_of h (Deliver g number now) at o = own_or_aside (g == h) (world.Deliver number now) at o
 seen_of h (ResetPeer n peer) at o = aside n o
 seen_of h (Clean n) at o = aside n o
+seen_of h (Fuse n) at o = aside n o
 seen_of h (Crash n) at o = Crashed n
 seen_of h (Reopen n) at o = Own (world.Restart n)
 seen_of h (Halt n) at o = aside n o

@@ -1,6 +1,6 @@
 -- Once an event stopped a node, it does nothing until it is opened.
 use Rattle.std.specs.Prelude.{◌≡◌, ℕ, ◌==◌, ◌&&◌, Bool, true, false, List, ◌∷◌, ◌++◌, Contains}
-use Rattle.raft_headline.specs.ClusterEvent.{ClusterEvent, AddGroup, Ask, Deliver, ResetPeer, Clean, Crash, Reopen, Halt, ClusterOutcome, Done}
+use Rattle.raft_headline.specs.ClusterEvent.{ClusterEvent, AddGroup, Ask, Deliver, ResetPeer, Clean, Fuse, Crash, Reopen, Halt, ClusterOutcome, Done}
 use Rattle.raft_headline.specs.ClusterEvent.{Opened, Refused, Stopped, Fused, PassedOver, TurnedAway, Recorded, is_stopped}
 
 -- the node that an event came to
@@ -10,6 +10,7 @@ node_in (Ask n g call now) at = n
 node_in (Deliver g number now) at = at
 node_in (ResetPeer n peer) at = n
 node_in (Clean n) at = n
+node_in (Fuse n) at = n
 node_in (Crash n) at = n
 node_in (Reopen n) at = n
 node_in (Halt n) at = n
@@ -23,6 +24,7 @@ is_of_group h (Ask n g call now) = g == h
 is_of_group h (Deliver g number now) = g == h
 is_of_group h (ResetPeer n peer) = false
 is_of_group h (Clean n) = false
+is_of_group h (Fuse n) = false
 is_of_group h (Crash n) = false
 is_of_group h (Reopen n) = false
 is_of_group h (Halt n) = false
@@ -43,6 +45,7 @@ opens_by n (Ask m g call now) o = false
 opens_by n (Deliver g number now) o = false
 opens_by n (ResetPeer m peer) o = false
 opens_by n (Clean m) o = false
+opens_by n (Fuse m) o = false
 opens_by n (Crash m) o = false
 opens_by n (Reopen m) o = (m == n) && is_opened o
 opens_by n (Halt m) o = false

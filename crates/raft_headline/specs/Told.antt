@@ -12,7 +12,7 @@ use Rattle.raft_laws.specs.Settled.{group_list}
 use Rattle.raft_laws.specs.Stop.{token_of_call}
 use Rattle.raft_history_laws.specs.NotedIds.{is_noted, next_id}
 use Rattle.raft_machines.specs.Machine.{MachineRules}
-use Rattle.raft_headline.specs.ClusterEvent.{ClusterEvent, AddGroup, Ask, Deliver, ResetPeer, Clean, Crash, Reopen, Halt, ClusterOutcome, Done}
+use Rattle.raft_headline.specs.ClusterEvent.{ClusterEvent, AddGroup, Ask, Deliver, ResetPeer, Clean, Fuse, Crash, Reopen, Halt, ClusterOutcome, Done}
 use Rattle.raft_headline.specs.ClusterEvent.{Opened, Refused, Stopped, Fused, PassedOver, TurnedAway, Recorded, Said, said_of, silent}
 use Rattle.raft_machines.specs.declared.telling.Told.{Told}
 use Rattle.raft_machines.specs.Fold.{answer_at}
@@ -46,6 +46,7 @@ said_by h (Ask n g call now) o = said_if (g == h) o
 said_by h (Deliver g number now) o = said_if (g == h) o
 said_by h (ResetPeer n peer) o = silent
 said_by h (Clean n) o = silent
+said_by h (Fuse n) o = silent
 said_by h (Crash n) o = silent
 said_by h (Reopen n) o = said_at_opening h o
 said_by h (Halt n) o = silent

@@ -7,7 +7,7 @@ use Rattle.raft_group_step.specs.declared.group_call.GroupCall.TheVariants.{Init
 use Rattle.raft_laws.specs.GroupRun.{is_same_setup, setup_in_call}
 use Rattle.raft_laws.proofs.SameMemberships.{same_membership as equal_memberships}
 use Rattle.raft_headline.specs.ClusterEvent.{ClusterEvent as PlainEvent, ClusterOutcome as PlainOutcome, Recorded as PlainRecord}
-use Rattle.raft_headline.specs.ClusterEvent.{AddGroup, Ask, Deliver, ResetPeer, Clean, Crash, Reopen, Halt}
+use Rattle.raft_headline.specs.ClusterEvent.{AddGroup, Ask, Deliver, ResetPeer, Clean, Fuse, Crash, Reopen, Halt}
 use Rattle.raft_headline.specs.ClusterEvent.{Done, Opened, Refused, Stopped, Fused, PassedOver, TurnedAway, is_stopped, silent}
 use Rattle.raft_headline.specs.Told.{said_at_opening, said_by, said_if}
 use Rattle.raft_headline.specs.Told.{is_taken as is_taken_plain}
@@ -59,6 +59,7 @@ quiet_by (Ask n g call now) h o q = quiet_if (eqb g h) o q
 quiet_by (Deliver g number now) h o q = quiet_if (eqb g h) o q
 quiet_by (ResetPeer n peer) h o q = refl
 quiet_by (Clean n) h o q = refl
+quiet_by (Fuse n) h o q = refl
 quiet_by (Crash n) h o q = refl
 quiet_by (Reopen n) h o q = quiet_opening h o q
 quiet_by (Halt n) h o q = refl

@@ -4,7 +4,7 @@ use Rattle.raft_group_step.specs.declared.group_call.GroupCall.TheVariants.{Prop
 use Rattle.raft_laws.specs.Example.{add}
 use Rattle.raft_laws.proofs.BallotAgreement.{same_some}
 use Rattle.raft_history_laws.specs.NotedIds.{is_noted}
-use Rattle.raft_headline.specs.ClusterEvent.{ClusterEvent, AddGroup, Ask, Deliver, ResetPeer, Clean, Crash, Reopen, Halt, Done, Recorded, Stopped, silent}
+use Rattle.raft_headline.specs.ClusterEvent.{ClusterEvent, AddGroup, Ask, Deliver, ResetPeer, Clean, Fuse, Crash, Reopen, Halt, Done, Recorded, Stopped, silent}
 use Rattle.raft_headline.specs.Rows.{asks_seven, at_one, proposes, set_up, tells, told_at, told_event, unknown_of}
 use Rattle.raft_headline.proofs.RowOrigins.{again_last, stored_last, told_last}
 use Rattle.raft_headline.proofs.rows.origins_of_entries.Goals as goal
@@ -54,6 +54,7 @@ notes (Ask n g call now) = is_noted call
 notes (Deliver g number now) = false
 notes (ResetPeer n peer) = false
 notes (Clean n) = false
+notes (Fuse n) = false
 notes (Crash n) = false
 notes (Reopen n) = false
 notes (Halt n) = false
