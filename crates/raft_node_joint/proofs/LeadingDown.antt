@@ -10,7 +10,7 @@ use Rattle.raft_laws.specs.declared.world_event.WorldEvent.TheVariants as event
 use Rattle.raft_laws.specs.GroupWorld.{Down, NodeState, Up}
 use Rattle.raft_laws.specs.Stop.{stopped_after}
 use Rattle.raft_laws.proofs.Counts.{among_contains, among_map, contains_among}
-use Rattle.raft_headline.specs.ClusterEvent.{Crash, Done, Opened, Recorded, Reopen, Said, Stopped, Unknown, said_of, silent}
+use Rattle.raft_headline.specs.ClusterEvent.{Crash, Done, Fuse, Opened, Recorded, Reopen, Said, Stopped, Unknown, said_of, silent}
 use Rattle.raft_headline.specs.Seen.{own_tokens, seen_by}
 use Rattle.raft_cluster_laws.specs.Acting.{SaysStepOf}
 use Rattle.raft_cluster_laws.specs.Acts.{EventLeads, MayBecome}
@@ -19,9 +19,9 @@ use Rattle.raft_cluster_laws.proofs.NodesActing.{as_asked, others_as_asked}
 use Rattle.raft_machines.specs.Machine.{MachineRules}
 use Rattle.raft_node.specs.Standing.{NodeValue}
 use Rattle.raft_node_joint.specs.Leading.{recorded}
-use Rattle.raft_node_joint.specs.Reopening.{CrashesLead, LeadsDown, RefusedOpeningsLead}
+use Rattle.raft_node_joint.specs.Reopening.{CrashesLead, DownFusesLead, LeadsDown, RefusedOpeningsLead}
 use Rattle.raft_node_joint.specs.Standing.{MayBeWhen}
-use Rattle.raft_node_joint.proofs.Others.{shows_it, stays_leads}
+use Rattle.raft_node_joint.proofs.Others.{passed_leads, shows_it, stays_leads}
 
 -- ---- states before an event, and behind it
 
@@ -141,3 +141,9 @@ module _ (rules : MachineRules) (n : NodeValue) (history : List Recorded) (h : �
 
 pub crashes_lead : (rules : MachineRules) (n : NodeValue) → CrashesLead rules n
 crashes_lead rules n history h states may = crashes_so rules n history h n.groups.has_failed states may
+
+-- ---- a fuse of files
+
+pub down_fuses_lead : DownFusesLead
+down_fuses_lead rules h own history one more =
+    passed_leads rules h own (recorded own (Fuse own) (Done silent)) history refl (Down one ∷ map Down more) (Down one) (first_there (Down one) (map Down more))

@@ -1,16 +1,16 @@
--- A stream that begins anew leads each group of its node on.
+-- A stream that begins anew leads each group of its node on, and so does a fuse of its files.
 use Rattle.std.specs.Prelude.{◌≡◌, ℕ, Bool, true, false, List, refl}
 use Rattle.std.proofs.Common.{inl, inr}
 use Rattle.raft_group_step.specs.GroupState.{GroupState}
 use Rattle.raft_laws.specs.GroupWorld.{NodeState}
-use Rattle.raft_headline.specs.ClusterEvent.{Recorded, ResetPeer}
+use Rattle.raft_headline.specs.ClusterEvent.{Done, Fuse, Recorded, ResetPeer, silent}
 use Rattle.raft_headline.specs.Seen.{Passed, seen_by}
 use Rattle.raft_cluster_laws.specs.Acts.{EventLeads}
 use Rattle.raft_machines.specs.Machine.{MachineRules}
 use Rattle.raft_node.specs.Feeding.{StaysBut, fed_as}
 use Rattle.raft_node.specs.Standing.{NodeValue}
 use Rattle.raft_node_joint.specs.Leading.{StaysInAll, recorded}
-use Rattle.raft_node_joint.specs.Reopening.{ResetsLead, reset_as}
+use Rattle.raft_node_joint.specs.Reopening.{FusesLead, ResetsLead, reset_as}
 use Rattle.raft_node_joint.specs.Standing.{IsUpIn, MayBe, MayBeWhen}
 use Rattle.raft_node_joint.proofs.Others.{one_of, passed_leads}
 use Rattle.raft_node_joint.proofs.StatesStay.{but_stays}
@@ -45,4 +45,14 @@ resets_lead rules old new history peer olds same may_be h = record {
   news = olds h;
   may_be = streams_stay rules old new peer same h (olds h) (may_be h);
   leads = reset_leads rules old history peer h (olds h) (may_be h);
+}
+
+-- nor does a group see a fuse of the node's files
+pub fuses_lead : (rules : MachineRules) (old new : NodeValue) → FusesLead rules old new
+fuses_lead rules old new history peer olds same may_be h = record {
+  news = olds h;
+  may_be = streams_stay rules old new peer same h (olds h) (may_be h);
+  leads =
+      let one = one_of rules old h old.groups.has_failed (olds h) (may_be h) in
+      passed_leads rules h old.groups.own (recorded old.groups.own (Fuse old.groups.own) (Done silent)) history refl (olds h) one.0 one.1;
 }

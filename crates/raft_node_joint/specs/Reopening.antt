@@ -8,7 +8,7 @@ use Rattle.raft_group_step.specs.StoredGroup.{Snapshot, StoredGroup}
 use Rattle.raft_group_storage.specs.Keeping.{Shows}
 use Rattle.raft_messages.specs.declared.memberships.SnapshotBytes.{SnapshotBytes}
 use Rattle.raft_laws.specs.GroupWorld.{Down, NodeState}
-use Rattle.raft_headline.specs.ClusterEvent.{ClusterEvent, ClusterOutcome, Crash, Done, Opened, PassedOver, Recorded, Reopen, ResetPeer}
+use Rattle.raft_headline.specs.ClusterEvent.{ClusterEvent, ClusterOutcome, Crash, Done, Fuse, Opened, PassedOver, Recorded, Reopen, ResetPeer}
 use Rattle.raft_headline.specs.ClusterEvent.{Said, Stopped, Unknown, silent}
 use Rattle.raft_headline.specs.Naming.{names_in}
 use Rattle.raft_headline.specs.Seen.{own_tokens}
@@ -146,3 +146,18 @@ ResetsLead rules old new =
     (history : List Recorded) (peer : ℕ) (olds : ℕ → List NodeState)
     → StaysBut old new peer → ((h : ℕ) → MayBe rules old h (olds h))
     → (h : ℕ) → LeadsIn rules history (ResetPeer old.groups.own peer) (reset_as old.groups.has_failed) old new h (olds h)
+
+-- ---- a fuse of its files
+
+-- no group sees it, and the node may be in each state in which it might have been
+abbrev pub FusesLead : MachineRules → NodeValue → NodeValue → Type 0
+FusesLead rules old new =
+    (history : List Recorded) (peer : ℕ) (olds : ℕ → List NodeState)
+    → StaysBut old new peer → ((h : ℕ) → MayBe rules old h (olds h))
+    → (h : ℕ) → LeadsIn rules history (Fuse old.groups.own) (Done silent) old new h (olds h)
+
+-- so it is of a node that is down
+abbrev pub DownFusesLead : Type 0
+DownFusesLead =
+    (rules : MachineRules) (h own : ℕ) (history : List Recorded) (one : StoredGroup) (more : List StoredGroup)
+    → let downs = Down one ∷ map Down more in EventLeads rules h own (recorded own (Fuse own) (Done silent)) history downs downs

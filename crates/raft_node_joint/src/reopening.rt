@@ -2,7 +2,7 @@
 ghost use Rattle.std.specs.Prelude.{ℕ};
 ghost use Rattle.raft_machines.specs.Machine.{MachineRules};
 ghost use Rattle.raft_node.specs.Standing.{value_of};
-ghost use Rattle.raft_node_joint.specs.Reopening.{AbsentGroupsStoreNothing, DownNodesAreReopened};
+ghost use Rattle.raft_node_joint.specs.Reopening.{AbsentGroupsStoreNothing, DownFusesLead, DownNodesAreReopened, FusesLead};
 ghost use Rattle.raft_node_joint.specs.Reopening.{ClosedOpeningsLead, LeftOpeningsLead, OpeningsLead};
 ghost use Rattle.raft_node_joint.specs.Reopening.{CrashesLead, OwnMessages, RefusedOpeningsLead};
 ghost use Rattle.raft_node_joint.specs.Reopening.{ResetsLead, StopsNameNobody};
@@ -59,4 +59,14 @@ pub fn resets_lead_on<M: StateMachine, S: GroupStorage<Snapshot = SnapshotBytes>
     behind: &Node<M, S>,
 )
     ensures { ResetsLead M.rules (value_of M.state S.is_well S.shows before.now) (value_of M.state S.is_well S.shows behind.now) }
+{}
+
+/// A fuse of a node's files leaves each group in the states in which it may have been, whether the node
+/// is up or down.
+pub fn fuses_lead_on<M: StateMachine, S: GroupStorage<Snapshot = SnapshotBytes>>(
+    before: &Node<M, S>,
+    behind: &Node<M, S>,
+)
+    ensures up { FusesLead M.rules (value_of M.state S.is_well S.shows before.now) (value_of M.state S.is_well S.shows behind.now) }
+    ensures down { DownFusesLead }
 {}

@@ -2,7 +2,7 @@
 use Rattle.std.specs.Prelude.{◌≡◌, ℕ, List, [], ◌∷◌, ◌++◌, Bool, true, false, Option, Some, None, IfErr, IfOk, IfSome, OnErr, OnOk, Result, Ok, Err, is_some, map, refl}
 use Rattle.std.proofs.Common.{inl, inr, ap, ap₂, ◌∙◌, subst, sym}
 use Rattle.raft_group_step.specs.StoredGroup.{StoredGroup}
-use Rattle.raft_group_storage.specs.Keeping.{Shows}
+use Rattle.raft_group_storage.specs.Keeping.{KeepsAll, Shows}
 use Rattle.raft_content_log.specs.Leaving.{LeavesOnly}
 use Rattle.raft_log_disk.specs.Chance.{IsGenuineImage}
 use Rattle.raft_log_disk.specs.Image.{seen_image}
@@ -23,7 +23,7 @@ use Rattle.raft_node.specs.declared.outcome.Outcome.{Outcome}
 use Rattle.raft_node_laws.specs.Answered.{unsaid_of}
 use Rattle.raft_cluster_events.specs.declared.node.NodeOutcome.{NodeOutcome}
 use Rattle.raft_node.specs.Feeding.{StaysBut}
-use Rattle.raft_nodes_on_files.specs.Acts.{AreHandedBack, FailsTo, IsFedOn, IsOpened, IsPassed, ReopensTo, WhenDown, WhenUp, refused, some_outcome}
+use Rattle.raft_nodes_on_files.specs.Acts.{AreHandedBack, FailsTo, FusesAs, IsFedOn, IsOpened, IsPassed, ReopensTo, WhenDown, WhenUp, refused, some_outcome}
 use Rattle.raft_cluster_events.specs.declared.outcome.StopCause.TheVariants as stop_cause
 use Rattle.raft_node_faults.specs.declared.fault.Fault.TheVariants as fault
 use Rattle.raft_node_joint.specs.Reopening.{NamesNobody}
@@ -31,7 +31,7 @@ use Rattle.raft_node_laws.specs.Saying.{names_of}
 use Rattle.raft_nodes_on_files.specs.Answering.{error_of, node_outcome, quiet_stop}
 use Rattle.std.specs.BTreeMap.{get}
 use Rattle.std.specs.Ordering.{nat_cmp}
-use Rattle.raft_node.specs.Standing.{running_in}
+use Rattle.raft_node.specs.Standing.{feeding_of, running_in}
 use Rattle.raft_nodes_on_files.specs.Kept.{AreShownDown, Keeping, KeepingFault, is_well, shows}
 use Rattle.raft_nodes_on_files.specs.Standing.{UpNode, value}
 use Rattle.raft_nodes_on_files.specs.declared.file_node.FileNode.{FileNode}
@@ -133,6 +133,25 @@ module _ {M : Type 0} {g : Ghosts M} (rules : MachineRules) (state : M → List 
     running = λ group. ap (λ x. running_in state x group) machines;
     kept = λ group parts shown. subst (λ x. shows rules x.storage group parts) (sym groups) shown;
   }
+
+  -- a node of which only the storage got others of the same stays
+  pub same_storage : (n m : UpNode M g) → m ≡ record n { groups = record n.groups { storage = m.groups.storage } } → (is_well n.groups.storage → is_well m.groups.storage)
+      → KeepsAll (shows rules n.groups.storage) (shows rules m.groups.storage) → StaysBut (value rules state n) (value rules state m) 0
+  same_storage n m same well kept = record {
+    own = ap (λ (x : UpNode M g). x.groups.id) same;
+    has_failed = ap (λ (x : UpNode M g). x.groups.has_failed) same;
+    members = λ group. ap (λ (x : UpNode M g). get nat_cmp x.groups.members group) same;
+    well = well;
+    running = λ group. ap (λ (x : UpNode M g). running_in state x.machines group) same;
+    kept = kept;
+  }
+
+  pub same_streams : (n m : UpNode M g) → m ≡ record n { groups = record n.groups { storage = m.groups.storage } } → (peer : ℕ)
+      → (value rules state m).streams peer ≡ (value rules state n).streams peer
+  same_streams n m same peer = ap (λ (x : UpNode M g). feeding_of (get nat_cmp x.feeders peer)) same
+
+  pub fuses_as : (old new : FileNode M g) (up was : Option (UpNode M g)) → was ≡ up → FusesAs rules state old new up → FusesAs rules state old new was
+  fuses_as old new up was is f = subst (FusesAs rules state old new) (sym is) f
 
   -- files that crashed where they lay show what was shown before
   pub crashed_down : (n m : UpNode M g) (files : LogFiles) → IsCrashedLog disk_in n.groups.storage.log m.groups.storage.log

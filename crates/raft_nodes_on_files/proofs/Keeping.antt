@@ -11,7 +11,7 @@ use Rattle.raft_cluster_events.specs.declared.outcome.Stop.{Stop}
 use Rattle.raft_framed_groups.specs.Frames.{frame_with}
 use Rattle.raft_group_step.specs.GroupEvent.{GroupCall}
 use Rattle.raft_group_step.specs.Message.{Message}
-use Rattle.raft_headline.specs.ClusterEvent.{AddGroup, Ask, ClusterEvent, ClusterOutcome, Crash, Deliver, Done, PassedOver, Recorded, Reopen, ResetPeer, Stopped, silent}
+use Rattle.raft_headline.specs.ClusterEvent.{AddGroup, Ask, ClusterEvent, ClusterOutcome, Crash, Deliver, Done, Fuse, PassedOver, Recorded, Reopen, ResetPeer, Stopped, silent}
 use Rattle.raft_headline.specs.Machines.{KeepsItsLaw}
 use Rattle.raft_laws.specs.GroupWorld.{NodeState}
 use Rattle.raft_machines.specs.Machine.{MachineRules}
@@ -20,7 +20,7 @@ use Rattle.raft_node.specs.Standing.{NodeValue}
 use Rattle.raft_node_joint.specs.Reopening.{reset_as}
 use Rattle.raft_node_joint.specs.Saying.{Spells}
 use Rattle.raft_node_joint.proofs.Others.{same_or_other}
-use Rattle.raft_node_joint.proofs.ResetsLeadOn.{resets_lead}
+use Rattle.raft_node_joint.proofs.ResetsLeadOn.{fuses_lead, resets_lead}
 use Rattle.raft_node_laws.specs.Answered.{Answered, none_of, one_of, opening_of, some_of}
 use Rattle.raft_node_laws.specs.Delivery.{Comes, pieces_from}
 use Rattle.raft_node_laws.specs.Law.{Anything, IsAskedAt, IsTaken, KeepsLaw, Leads, LeadsOn, WasSent}
@@ -30,13 +30,13 @@ use Rattle.raft_store.specs.Reading.{StandsFor}
 use Rattle.raft_wire.specs.Frames.{spelled_frame, spelled_rest}
 use Rattle.raft_wire.specs.declared.frame.Frame.{Frame}
 use Rattle.raft_wire.specs.Stream.{fresh}
-use Rattle.raft_nodes_on_files.specs.Acts.{AddsTo, AsksTo, GoesDown, IsUpAs, OpensTo, ReopensTo, ResetsTo, WhenDown, WhenUp, file_node_acts, file_node_states, refused}
+use Rattle.raft_nodes_on_files.specs.Acts.{AddsTo, AsksTo, FusesAs, GoesDown, IsUpAs, OpensTo, ReopensTo, ResetsTo, WhenDown, WhenUp, file_node_acts, file_node_states, refused}
 use Rattle.raft_nodes_on_files.specs.Standing.{UpNode, value}
 use Rattle.raft_nodes_on_files.specs.declared.file_node.FileNode.{FileNode}
 use Rattle.raft_nodes_on_files.proofs.Calls.{adds_so, asks_so}
 use Rattle.raft_nodes_on_files.proofs.Deliveries.{frame_taken}
 use Rattle.raft_nodes_on_files.proofs.Led.{led}
-use Rattle.raft_nodes_on_files.proofs.Openings.{closed_led, crash_led, opened_led, unopened_led}
+use Rattle.raft_nodes_on_files.proofs.Openings.{closed_led, crash_led, fused_led, opened_led, unopened_led}
 use Rattle.raft_nodes_on_files.proofs.Standing.{is_up_in}
 use Rattle.raft_nodes_on_files.proofs.Taken.{Behind, spells_of}
 
@@ -131,6 +131,20 @@ module _ {M : Type 0} {g : Ghosts M} (rules : MachineRules) (state : M → List 
       (reset_says failed failed n r.mid peer answered refl r.answer)
       (resets_lead rules (of n) (of r.mid) history peer olds r.stays (λ h. (at h).may_be)))
 
+  -- ---- a fuse
+
+  fuses_by : (old new : FileNode M g) (up : Option (UpNode M g)) → old.up ≡ up → FusesAs rules state old new up → On (Fuse old.id) old new (λ o. o ≡ Done silent)
+  fuses_by old new None down f ids history olds kind behind = fused_led rules state begins restores old down ids history olds behind new f
+  fuses_by old new (Some n) up f ids history olds kind behind =
+      let at = λ (h : ℕ). is_up_in rules state begins restores old n up h (olds h) (behind.may_be h) in
+      led rules state old new f.mid (of n) history (λ i. Fuse i) false (Done silent) olds (λ o. o ≡ Done silent) (at 0).own f.up f.stays.own
+      (λ going peer. f.streams peer ∙ (at 0).streams (sym f.stays.has_failed ∙ going) peer)
+      (λ no. absurd (let never : false ≡ true = no in cc)) refl
+      (fuses_lead rules (of n) (of f.mid) history 0 olds f.stays (λ h. (at h).may_be))
+
+  fuses : (old new : FileNode M g) (first : Option ℕ) → (file_node_acts rules state).fuses old first new → On (Fuse old.id) old new (λ o. o ≡ Done silent)
+  fuses old new first acts = fuses_by old new old.up refl acts
+
   -- ---- crashes and openings
 
   crashes : (old new : FileNode M g) (choice : CrashChoice) → (file_node_acts rules state).is_up old ≡ true → (file_node_acts rules state).crashes old choice new
@@ -164,6 +178,7 @@ module _ {M : Type 0} {g : Ghosts M} (rules : MachineRules) (state : M → List 
     asks = asks;
     delivers = delivers;
     resets = resets;
+    fuses = fuses;
     crashes = crashes;
     reopens = reopens;
     closes = closes;

@@ -9,12 +9,16 @@ use Rattle.raft_cluster_laws.specs.Keeping.{StandsInWorld}
 use Rattle.raft_framed_groups.specs.declared.frames.GroupFrame.{GroupFrame}
 use Rattle.raft_group_step.specs.Message.{Message}
 use Rattle.raft_group_step.specs.StoredGroup.{StoredGroup}
-use Rattle.raft_headline.specs.ClusterEvent.{ClusterEvent, ClusterOutcome, Crash, Done, Opened, Recorded, Reopen, Said, Stopped, Unknown, silent}
+use Rattle.raft_headline.specs.ClusterEvent.{ClusterEvent, ClusterOutcome, Crash, Done, Fuse, Opened, Recorded, Reopen, Said, Stopped, Unknown, silent}
 use Rattle.raft_headline.specs.Machines.{KeepsItsLaw}
 use Rattle.raft_headline.specs.Naming.{names_in}
 use Rattle.raft_laws.specs.GroupWorld.{Down, NodeState, Up}
 use Rattle.raft_laws.proofs.BallotSafe.{Among}
 use Rattle.raft_laws.proofs.Counts.{among_contains}
+use Rattle.raft_log_disk.specs.Chance.{IsGenuineImage}
+use Rattle.raft_log_disk.specs.Image.{seen_image}
+use Rattle.raft_log_disk.specs.MemorySystem.{disk_in}
+use Rattle.raft_log_engine.specs.Log.{IsFoundBy}
 use Rattle.raft_log_engine.specs.declared.memory.LogFiles.{LogFiles}
 use Rattle.raft_log_memtables.specs.Content.{Content, GroupContent}
 use Rattle.raft_machines.specs.Machine.{MachineRules}
@@ -31,12 +35,12 @@ use Rattle.raft_node_joint.proofs.OnceEach.{once_each}
 use Rattle.raft_node_joint.specs.Saying.{IsFrameOf}
 use Rattle.raft_node_joint.proofs.OpeningsLeadOn.{closed_openings_lead, left_openings_lead, openings_lead, stops_name_nobody}
 use Rattle.raft_node_joint.proofs.Reopened.{absent_groups_store_nothing, down_nodes_are_reopened}
-use Rattle.raft_node_joint.proofs.LeadingDown.{crashes_lead, refused_openings_lead}
+use Rattle.raft_node_joint.proofs.LeadingDown.{crashes_lead, down_fuses_lead, refused_openings_lead}
 use Rattle.raft_node_laws.specs.Law.{Leads, StandsBehind}
 use Rattle.raft_node_laws.specs.Saying.{IsOnceEach, names_of}
 use Rattle.raft_node_laws.specs.Saying as law
 use Rattle.raft_store.specs.Reading.{Holds, HoldsOne, StandsFor}
-use Rattle.raft_nodes_on_files.specs.Acts.{AreHandedBack, AreHeld, GoesDown, IsClosedAgain, IsFoundAs, IsLeftOpening, IsOpened, IsRefusedOpening, IsUnopened, OpensTo, StaysDown, file_node_acts, file_node_states}
+use Rattle.raft_nodes_on_files.specs.Acts.{AreHandedBack, AreHeld, FusesDown, GoesDown, IsClosedAgain, IsFoundAs, IsLeftOpening, IsOpened, IsRefusedOpening, IsUnopened, OpensTo, StaysDown, file_node_acts, file_node_states}
 use Rattle.raft_nodes_on_files.specs.Answering.{node_frame, node_outcome, stop_in}
 use Rattle.raft_nodes_on_files.specs.Kept.{AreShownDown, KeepingFault}
 use Rattle.raft_nodes_on_files.specs.Standing.{MayBeDown, MayBeIn, UpNode, value}
@@ -188,6 +192,21 @@ module _ {M : Type 0} {g : Ghosts M} (rules : MachineRules) (state : M → List 
           shown = (down_at h).shown;
           leads = subst (λ xs. EventLeads rules h old.id (recorded old.id (Reopen old.id) (Stopped (names_of stop))) history xs (Down (down_at h).one ∷ map Down (down_at h).more)) (sym (down_at h).parts)
               (refused_openings_lead rules h old.id history (names_of stop) (down_at h).one (down_at h).more refused.named);
+        })
+
+    -- its files get a fuse
+    pub fused_led : (new : FileNode M g) → FusesDown rules state old new → Led history (Fuse old.id) olds old new (λ o. o ≡ Done silent)
+    fused_led new f =
+        down_led old new old.id (AreShownDown rules old.files) history (λ i. Fuse i) (Done silent) olds (λ o. o ≡ Done silent) refl f.stays
+        (λ group parts shown content genuine found.
+        shown content (subst (λ d. IsGenuineImage d (seen_image d)) f.disk genuine)
+        (subst (λ d. IsFoundBy old.files.settings d content) f.disk (subst (λ s. IsFoundBy s (disk_in new.files.files) content) f.settings found))) refl
+        (λ h. record {
+          one = (down_at h).one;
+          more = (down_at h).more;
+          shown = (down_at h).shown;
+          leads = subst (λ xs. EventLeads rules h old.id (recorded old.id (Fuse old.id) (Done silent)) history xs (Down (down_at h).one ∷ map Down (down_at h).more)) (sym (down_at h).parts)
+              (down_fuses_lead rules h old.id history (down_at h).one (down_at h).more);
         })
 
     left_led : (new : FileNode M g) (stop : Stop) → StaysDown rules state old new → IsLeftOpening rules old.files old.id stop new.files → Led history (Reopen old.id) olds old new (λ o. o ≡ Stopped (names_of stop))

@@ -163,6 +163,13 @@ module _ {M : Type 0} {g : Ghosts M} (rules : MachineRules) (state : M → List 
     pub named : stop ≡ stop_in why
     pub up : IsUpAs old new failed
 
+  -- all stays but what its files refuse
+  pub record FusesTo (n : UpNode M g) (old new : FileNode M g) : Type 0 where
+    pub mid : UpNode M g
+    pub stays : StaysBut (of n) (of mid) 0
+    pub streams : (peer : ℕ) → (of mid).streams peer ≡ (of n).streams peer
+    pub up : IsUpAs old new mid
+
   -- ---- openings
 
   -- the files were opened, and each of their groups has done the step of its opening
@@ -215,6 +222,16 @@ module _ {M : Type 0} {g : Ghosts M} (rules : MachineRules) (state : M → List 
   RefusesCrash None choice why = ⊥
   RefusesCrash (Some n) choice why = (file : FileRefusal) × (why ≡ refusal_in file) × CantBeLeftSo (choice_in choice) file (disk_in n.groups.storage.log.engine.files)
 
+  -- so it is of the files of a node that is down
+  pub record FusesDown (old new : FileNode M g) : Type 0 where
+    pub stays : StaysDown old new
+    pub disk : disk_in new.files.files ≡ disk_in old.files.files
+    pub settings : new.files.settings ≡ old.files.settings
+
+  abbrev pub FusesAs : FileNode M g → FileNode M g → Option (UpNode M g) → Type 0
+  FusesAs old new None = FusesDown old new
+  FusesAs old new (Some n) = FusesTo rules state n old new
+
   -- ---- all calls
 
   -- one that is down stays so
@@ -237,6 +254,7 @@ module _ {M : Type 0} {g : Ghosts M} (rules : MachineRules) (state : M → List 
     feeds = λ old peer piece now answered new. WhenUp old new old.up (answered ≡ refused) (λ n. FeedsTo rules state n peer piece now old answered new);
     resets = λ old peer answered new. WhenUp old new old.up (answered ≡ refused) (λ n. ResetsTo rules state n peer old answered new);
     fails = λ old stop new. WhenUp old new old.up (NamesNobody (names_of stop)) (λ n. FailsTo rules state n old stop new);
+    fuses = λ old first new. FusesAs old new old.up;
     crashes = λ old choice new. WhenUp old new old.up (Unit {0}) (λ n. GoesDown n old new);
     refuses = λ old choice why. RefusesCrash old.up choice why;
     reopens = λ old workers answered new. WhenDown old.up (ReopensTo old answered new) ((new ≡ old) × (answered ≡ Ok []));

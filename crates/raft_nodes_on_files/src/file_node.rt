@@ -224,6 +224,13 @@ impl<M: StateMachine> ClusterNode for FileNode<M> {
         }
     }
 
+    fn fuse(&mut self, first_refused: Option<u64>) {
+        match &mut self.up {
+            Some(node) => node.fuse(first_refused),
+            None => self.files.fuse(first_refused),
+        }
+    }
+
     fn crash(&mut self, choice: CrashChoice) -> Result<(), CrashRefusal> {
         let Some(node) = &mut self.up else {
             return Ok(());
