@@ -43,9 +43,13 @@ at_end (y ∷ ys) x d = at_end ys x d
 
 module _ {N : Type 0} (acts : NodeActs N) where
   -- what stands at the end behind an event is its record
+  pub outcome_there : (old new : ClusterValue N) (event : ClusterEvent) (steps : Steps acts old event new) (d : Recorded) (all : List Recorded) (at : ℕ) → all ≡ new.history → at ≡ length old.history
+      → (get_or all at d).outcome ≡ steps.outcome
+  outcome_there old new event steps d all at whole place =
+      let r : Recorded = record { event = event; outcome = steps.outcome } in
+      ap (λ (s : Recorded). s.outcome) (ap (λ l. get_or l at d) (whole ∙ steps.history) ∙ ap (λ n. get_or (old.history ++ r ∷ []) n d) place ∙ at_end old.history r d)
+
   pub shows_step : {X E : Type 0} (r : Result X E) (bytes : X → List ℕ) (old new : ClusterValue N) (event : ClusterEvent) (steps : Steps acts old event new) (d : Recorded) (all : List Recorded) (at : ℕ) → all ≡ new.history → at ≡ length old.history → IfOk r (λ x. bytes x ≡ outcome_text (get_or all at d).outcome) → IfOk r (λ x. StepsSo acts old event (bytes x) new)
   shows_step (Ok x) bytes old new event steps d all at whole place text =
-      let r : Recorded = record { event = event; outcome = steps.outcome } in
-      let here : get_or all at d ≡ r = ap (λ l. get_or l at d) (whole ∙ steps.history) ∙ ap (λ n. get_or (old.history ++ r ∷ []) n d) place ∙ at_end old.history r d in
-      record { steps = steps; text = text ∙ ap (λ (s : Recorded). outcome_text s.outcome) here }
+      record { steps = steps; text = text ∙ ap outcome_text (outcome_there old new event steps d all at whole place) }
   shows_step (Err e) bytes old new event steps d all at whole place text = tt

@@ -3,6 +3,7 @@
 
 mod answers;
 mod calls;
+mod fuse;
 mod run;
 mod script;
 mod stops;

@@ -1,11 +1,14 @@
 //! How far a script has come, and what its next line does.
 ghost use Rattle.std.specs.Prelude.{◌≡◌, IfOk, string_bytes, None, [], List, ℕ};
 ghost use Rattle.std.specs.Option.{option_map};
-ghost use Rattle.raft_cluster_script.specs.Script.{AsksTotal, BeginsOnce, RunsLine, SetsNow, StepsSo, Takes, TakesLine};
+ghost use Rattle.raft_cluster_script.specs.Script.{AsksTotal, BeginsOnce, RunsLine, SetsNow, StepsFusedAt, StepsSo, Takes, TakesFused, TakesLine};
+ghost use Rattle.raft_node_cluster.specs.Facts.{node_of};
+ghost use Rattle.raft_sent_frames.specs.Frames.{frames_of};
 ghost use Rattle.raft_cluster_script.specs.Calls.{event_of, tokens_after};
 
 use crate::answers::{outcome_text, total_at};
 use crate::calls::{event_of, tokens_after};
+use crate::fuse::happen_fused;
 use raft_cluster_events::{ClusterEvent, ClusterNode};
 use raft_machines::AddingMachine;
 use raft_node_cluster::Cluster;
@@ -52,6 +55,21 @@ fn happen_in<N: ClusterNode<Machine = AddingMachine>>(
     let at = cluster.history().len();
     cluster.step(event)?;
     outcome_text(alloc, &cluster.history()[at].outcome)
+}
+
+// The same behind a fuse of its node's files, if it is for a node.
+fn fused_in<N: ClusterNode<Machine = AddingMachine>>(
+    alloc: Global,
+    cluster: &mut Cluster<N>,
+    first: u64,
+    event: ClusterEvent,
+) -> Result<String, AllocError>
+    ensures { IfOk result (λ text. StepsFusedAt N.acts (node_of (frames_of cluster.old.sent) event) first cluster.old event (string_bytes text) cluster.new) }
+{
+    match cluster.node_of(&event) {
+        Some(node) => happen_fused(alloc, cluster, node, first, event),
+        None => happen_in(alloc, cluster, event),
+    }
 }
 
 impl<N: ClusterNode<Machine = AddingMachine>> Script<N> {
@@ -121,6 +139,36 @@ impl<N: ClusterNode<Machine = AddingMachine>> Script<N> {
         }
     }
 
+    // The same behind a fuse of its node's files, if it is for a node.
+    fn happen_fused(
+        &mut self,
+        event: Option<ClusterEvent>,
+        first: u64,
+        tokens: u64,
+    ) -> Result<Option<String>, AllocError>
+        ensures { IfOk result (λ text. TakesFused N.acts self.old self.old.cluster event first tokens (option_map string_bytes text) self.new) }
+    {
+        match (&mut self.cluster, event) {
+            (Some(cluster), Some(event)) => {
+                let text = fused_in(self.alloc, cluster, first, event)?;
+                self.tokens = tokens;
+                Ok(Some(text))
+            }
+            _ => Ok(None),
+        }
+    }
+
+    // An event of a line, with a fuse.
+    fn take_fused(&mut self, first: u64, event: ScriptEvent) -> Result<Option<String>, AllocError>
+        ensures { IfOk result (λ text. TakesFused N.acts self.old self.old.cluster
+            (event_of self.old.tick (tokens_after self.old.tokens event) event) first
+            (tokens_after self.old.tokens event) (option_map string_bytes text) self.new) }
+    {
+        let tokens = tokens_after(self.tokens, &event);
+        let event = event_of(self.alloc, self.tick, tokens, event)?;
+        self.happen_fused(event, first, tokens)
+    }
+
     // An event of a line.
     fn take_event(&mut self, event: ScriptEvent) -> Result<Option<String>, AllocError>
         ensures { IfOk result (λ text. Takes N.acts self.old self.old.cluster
@@ -142,8 +190,7 @@ impl<N: ClusterNode<Machine = AddingMachine>> Script<N> {
             ScriptLine::Now { tick } => self.set_now(tick),
             ScriptLine::Total { node, group } => self.total(node, group),
             ScriptLine::Happens(event) => self.take_event(event),
-            // Files have no fuse yet.
-            ScriptLine::Fuse { .. } => Ok(None),
+            ScriptLine::Fuse { calls, event } => self.take_fused(calls, event),
         }
     }
 }
