@@ -30,6 +30,7 @@ use Rattle.raft_store.specs.declared.fault.StoreFault.{StoreFault}
 use Rattle.raft_store.specs.declared.fault.StoreFault.TheVariants as store_fault
 use Rattle.raft_store.specs.declared.fault.StoreRefusal.TheVariants as store_refusal
 use Rattle.raft_wire.specs.declared.error.FrameError.TheVariants as frame_error
+use Rattle.raft_wire.specs.declared.error.FrameFault.TheVariants as frame_fault
 
 -- ---- what an event did
 
@@ -51,6 +52,8 @@ abbrev pub cause_of_store : StoreFault EngineFault → StopCause
 cause_of_store (store_fault.Log met) = cause_of_log met
 cause_of_store (store_fault.Refused store_refusal.Memory) = stop_cause.Memory
 cause_of_store (store_fault.Refused store_refusal.TooLong) = stop_cause.TooLong
+-- a machine's snapshot past the limit
+cause_of_store (store_fault.Refused (store_refusal.Value frame_fault.TooLong)) = stop_cause.TooLong
 cause_of_store (store_fault.Refused other) = stop_cause.Other
 
 -- an event whose frame is too long has the machine's snapshot in it

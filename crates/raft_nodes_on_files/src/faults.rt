@@ -8,7 +8,7 @@ use raft_log_files::Error;
 use raft_machines::UnknownTokens;
 use raft_node::{Cause, Fault};
 use raft_store::{StoreFault, StoreRefusal};
-use raft_wire::FrameError;
+use raft_wire::{FrameError, FrameFault};
 use std::alloc::Global;
 
 /// Why a node on files isn't done with a call.
@@ -34,6 +34,8 @@ fn cause_of_store(fault: StoreFault<EngineFault>) -> StopCause
         StoreFault::Log(fault) => cause_of_log(fault),
         StoreFault::Refused(StoreRefusal::Memory) => StopCause::Memory,
         StoreFault::Refused(StoreRefusal::TooLong) => StopCause::TooLong,
+        // A machine's snapshot past the limit.
+        StoreFault::Refused(StoreRefusal::Value(FrameFault::TooLong)) => StopCause::TooLong,
         StoreFault::Refused(_) => StopCause::Other,
     }
 }
