@@ -1,0 +1,36 @@
+"""Checks the numbers of docs/TESTED.md: `raft_x: 12 lines` counts the lines of its `stdout`, `rows` those that are no comment.
+
+In a cell with several crates a number belongs to the crate before it. What a script writes behind a mark is counted there.
+"""
+import os
+import re
+
+PAGE = "docs/TESTED.md"
+COUNT = re.compile(r"(raft_\w+)((?:(?!raft_\w)[^|\d;.])*?)\b([\d,]+) (rows|lines)\b")
+MARK = re.compile(r"^# From here on rows are written by scripts/\w+\.$")
+
+
+def check(tree, page):
+    """Numbers of lines or rows that a program's stdout hasn't."""
+    for row in page.rows():
+        if row.heads[:2] != ["What", "Where"]:
+            continue
+        for crate, _, number, what in COUNT.findall(row.cells[1]):
+            counted = count(tree.top, crate, what, "which `scripts/" in row.cells[1])
+            if counted is not None and counted != int(number.replace(",", "")):
+                yield row.line, f"{crate} has {counted:,} {what}, not {number}"
+
+
+def count(top, crate, what, behind_mark):
+    """The lines of a program's stdout, or its rows; behind its mark where it has one and that is asked for."""
+    path = f"{top}/crates/{crate}/stdout"
+    if not os.path.exists(path):
+        return None
+    with open(path, encoding="utf-8") as file:
+        lines = file.read().removesuffix("\n").split("\n")
+    if what == "lines":
+        return len(lines)
+    marks = [at for at, it in enumerate(lines) if MARK.match(it)]
+    if marks and behind_mark:
+        lines = lines[marks[0]:]
+    return sum(1 for it in lines if it and not it.startswith("#"))
