@@ -48,7 +48,7 @@ def statements(text, place, with_bodies):
             continue
         indent, kind, name = head
         end = _end(lines, at, indent)
-        while with_bodies and end < len(lines) and re.match(rf"^ {{{indent}}}{re.escape(name)}(?=[ ]).*(?:=|$)", lines[end]):
+        while with_bodies and end < len(lines) and lines[end].startswith(f"{' ' * indent}{name} "):
             end = _end(lines, end, indent)
         yield Statement(f"{place}:{at + 1}", name, _joined(lines[at:end]), kind)
         at = end

@@ -59,7 +59,7 @@ TREE = {
     "docs/PROMISES.md": f"# Promises\n\n## Chests (raft_chest)\n\n{TABLE}| a | `impl Box for Chest`, `many_lids` | `opened` |\n"
                         f"\n{EDITS}| b | `a_lid_stays` (raft_chest) |\n",
     "docs/TESTED.md": "| What | Where | What would fail |\n|---|---|---|\n| c | raft_chest_rows: 2 rows | d |\n"
-                      "| c | raft_chest_rows: 3 lines | d |\n",
+                      "| c | raft_chest_rows: 3 lines | d |\n\nIt tries some 1 wrong bodies.\n",
     "crates/raft_chest/README.md": f"# raft_chest\n\ndocs/PROMISES.md, \"Chests (raft_chest)\", `specs/Chest`, `src/{{lib,lib}}.rt`.\n\n{TABLE}"
                                    "| a | `Chest::{open, close}` | `opened` (`HasLid`), `closed`; `stays` |\n"
                                    "| b | the same | `lids_of`, its `ensures` |\n",
@@ -97,6 +97,7 @@ FAULTS = [
     ("`lid_there`", "`lid_where`", "docs/ARCHITECTURE.md", "no definition lid_where"),
     ("2 rows", "1 rows", "docs/TESTED.md", "raft_chest_rows has 2 rows, not 1"),
     ("3 lines", "1,003 lines", "docs/TESTED.md", "raft_chest_rows has 3 lines, not 1,003"),
+    ("some 1 wrong", "some 2 wrong", "docs/TESTED.md", "there are 1 wrong bodies"),
     ("`specs/Chest`", "`HasNoLid`", "crates/raft_chest/README.md", "nothing is named HasNoLid"),
 ]
 

@@ -167,7 +167,7 @@ def _is_case(tree, name):
 def _of_traits(tree, functions):
     """The calls of traits that functions are those of, in the crate's impls."""
     wanted = {(it.trait, it.name) for it in functions if it.trait}
-    return [it for crate in tree.crates.values() for it in crate.functions if (it.owner, it.name) in wanted]
+    return [call for it in wanted for call in tree.calls().get(it, ())]
 
 
 def _clauses(functions, wholes):

@@ -39,12 +39,23 @@ class Tree:
             return Page(path, file.read())
 
     @functools.cache
+    def calls(self):
+        """The functions by their owner and name."""
+        found = {}
+        for crate in self.crates.values():
+            for it in crate.functions:
+                found.setdefault((it.owner, it.name), []).append(it)
+        return found
+
+    @functools.cache
     def reached(self, text):
         """The words of a text, and of the definitions that it leads to by their names, near or far."""
-        found, rest = set(), set(re.findall(r"[\w'-]+", text))
+        found = set(re.findall(r"[\w'-]+", text))
+        rest = found & self.words.keys()
         while rest:
-            found |= rest
-            rest = set().union(*(self.words.get(it, ()) for it in rest)) - found
+            more = set().union(*(self.words[it] for it in rest)) - found
+            found |= more
+            rest = more & self.words.keys()
         return found
 
     def pages(self):
