@@ -12,7 +12,7 @@ def check(tree, page):
         for head, cell in zip(row.heads, row.cells):
             if head.startswith("Edit"):
                 yield from ((row.line, fault) for fault in _edits(tree, row, head, cell))
-            elif head == "Pinned by":
+            elif head == "Pinned by" or row.heads == ["Function", "Pins"] and head == "Function":
                 yield from ((row.line, fault) for fault in _rows(tree, cell))
             elif head in ("Definitions", "Word"):
                 yield from ((row.line, fault) for fault in _words(tree, cell))

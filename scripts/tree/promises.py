@@ -20,7 +20,7 @@ class Said:
 
 def is_promises(heads):
     """Whether a table is one of promises."""
-    return len(heads) == 3 and heads[1] in ("Function", "Function (crate)") and heads[2] == "Clause"
+    return re.match(r"^Function( \(\w+\))?$", heads[1] if len(heads) > 1 else "") is not None and heads[2:] in ([], ["Clause"])
 
 
 def check(tree, page):
@@ -28,12 +28,12 @@ def check(tree, page):
     for row in page.rows():
         if not is_promises(row.heads):
             continue
-        if len(row.cells) != 3:
+        if len(row.cells) != len(row.heads):
             yield row.line, f"the row has {len(row.cells)} cells"
             continue
         said = named_functions(tree, page, row)
         yield from ((row.line, fault) for fault in said.faults)
-        if said.functions or said.wholes or not said.faults:
+        if len(row.cells) == 3 and (said.functions or said.wholes or not said.faults):
             yield from ((row.line, fault) for fault in clause_faults(tree, row.cells[2], said))
 
 
@@ -75,7 +75,7 @@ def _scope(tree, page, row, before, behind):
     if page.crate:
         return [{page.crate}, tree.below.get(page.crate, set())]
     first = re.match(r"^(raft_\w+): ", row.cells[1])
-    near = {first[1]} if first else set(CRATE.findall(row.heading))
+    near = {first[1]} if first else set(CRATE.findall(row.heads[1])) or set(CRATE.findall(row.heading))
     return [it for it in (near, set(tree.crates)) if it]
 
 
