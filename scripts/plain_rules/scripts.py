@@ -254,7 +254,7 @@ class Script:
 
     def answer(self, line):
         """The answer to a line."""
-        verb, *words = line.split()
+        verb, *words = line.split(" ")
         if verb == "nodes":
             self.ids = tuple(range(1, int(words[0]) + 1))
             return "ok"
@@ -272,3 +272,14 @@ class Script:
         }
         happen = calls.get(verb) or getattr(self, verb)
         return happen(int(words[0]), int(words[1]), *words[2:])
+
+
+def is_skipped(line):
+    """Whether the line is empty or a comment, which is counted and has no answer."""
+    return line == "" or line[0] == "#"
+
+
+def answers_to(lines):
+    """The answers to a script's lines."""
+    script = Script()
+    return [script.answer(line) for line in lines if not is_skipped(line)]

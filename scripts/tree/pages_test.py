@@ -1,0 +1,125 @@
+"""The self test of scripts/pages: a small tree, right and with one fault of each kind."""
+import os
+import tempfile
+
+SOURCE = """//! A crate.
+pub trait Box {
+    fn open(&self) -> bool
+        ensures opened { IsOpen self.now result };
+}
+
+impl Box for Chest {
+    fn open(&self) -> bool {
+        true
+    }
+}
+
+impl Chest {
+    pub fn close(&mut self)
+        ensures closed { self.new ≡ shut }
+        ensures* stays { IsKept self.old }
+    {
+    }
+}
+
+pub fn many_lids() -> u64
+    ensures { result ≡ lids_of 3 }
+{
+}
+"""
+SPECS = """-- Chests.
+abbrev pub IsOpen : Chest → Bool → Type 0
+IsOpen chest answer = (answer ≡ true) × HasLid chest
+
+-- a lid
+pub record HasLid (chest : Chest) : Type 0 where
+  pub lid_there : chest.lid ≡ Some lid
+
+abbrev pub IsKept : Chest → Type 0
+IsKept chest = chest ≡ chest
+
+abbrev pub shut : Chest
+shut = none
+
+abbrev pub lids_of : ℕ → ℕ
+lids_of n = n
+
+abbrev pub stranger_to_all : ℕ
+stranger_to_all = 7
+"""
+TABLE = "| Promise | Function | Clause |\n|---|---|---|\n"
+EDITS = "| What | Edit |\n|---|---|\n"
+LAYERS = "| Crate | What it does | Stands on | There |\n|---|---|---|---|\n| raft_low | low | | yes |\n"
+FILES = "| File | What it defines |\n|---|---|\n"
+TREE = {
+    "crates.txt": "# floors\nraft_low:\nraft_chest: raft_low thiserror\nraft_chest_rows: raft_chest\n",
+    "README.md": "# Top\n\n[arch](docs/ARCHITECTURE.md#the-crates), scripts/edits and `scripts/edits/CRATE`.\n",
+    "docs/ARCHITECTURE.md": f"# Plan\n\n## The crates\n\n{LAYERS}| raft_chest | chests | raft_low | yes |\n\n"
+                            f"{FILES}| raft_chest/specs/Chest | `IsOpen`, `lid_there` |\n",
+    "docs/PROMISES.md": f"# Promises\n\n## Chests (raft_chest)\n\n{TABLE}| a | `impl Box for Chest`, `many_lids` | `opened` |\n"
+                        f"\n{EDITS}| b | `a_lid_stays` (raft_chest) |\n",
+    "docs/TESTED.md": "| What | Where | What would fail |\n|---|---|---|\n| c | raft_chest_rows: 2 rows | d |\n"
+                      "| c | raft_chest_rows: 3 lines | d |\n\nIt tries some 1 wrong bodies.\n",
+    "crates/raft_chest/README.md": f"# raft_chest\n\ndocs/PROMISES.md, \"Chests (raft_chest)\", `specs/Chest`, `src/{{lib,lib}}.rt`.\n\n{TABLE}"
+                                   "| a | `Chest::{open, close}` | `opened` (`HasLid`), `closed`; `stays` |\n"
+                                   "| b | the same | `lids_of`, its `ensures` |\n",
+    "crates/raft_chest/src/lib.rt": SOURCE,
+    "crates/raft_chest/specs/Chest.antt": SPECS,
+    "crates/raft_low/src/lib.rt": "//! Low.\npub fn low_one()\n    ensures { true }\n{}\n",
+    "crates/raft_chest_rows/src/main.rt": "//! Rows.\n",
+    "crates/raft_chest_rows/stdout": "# one\na -> 1\nb -> 2\n",
+    "scripts/edits/raft_chest/a_lid_stays.edit": "why: a\n",
+}
+# What is turned, in which file, and words of the fault that has to be found then.
+FAULTS = [
+    ("docs/ARCHITECTURE.md#the", "docs/ARCHITECTUR.md#the", "README.md", "leads nowhere"),
+    ("#the-crates", "#the-boxes", "README.md", "leads to no heading"),
+    ("and `scripts/edits/CRATE`", "and `scripts/edit/raft_chest`", "README.md", "scripts/edit/raft_chest isn't there"),
+    ("scripts/edits and", "scripts/editors and", "README.md", "scripts/editors isn't there"),
+    ("`specs/Chest`", "`specs/Box`", "crates/raft_chest/README.md", "specs/Box isn't there"),
+    ("{lib,lib}", "{lib,box}", "crates/raft_chest/README.md", "src/box.rt isn't there"),
+    ("\"Chests (raft_chest)\"", "\"Chest\"", "crates/raft_chest/README.md", "no heading"),
+    ("{open, close}", "{open, shut}", "crates/raft_chest/README.md", "no function Chest::shut"),
+    ("`Chest::{open, close}`", "`many_boxes`", "crates/raft_chest/README.md", "no function many_boxes"),
+    ("`impl Box for Chest`", "`impl Lid for Chest`", "docs/PROMISES.md", "no function impl Lid for Chest"),
+    ("`many_lids`", "`low_one` (raft_chest)", "docs/PROMISES.md", "no function low_one in raft_chest"),
+    ("`closed`; ", "`close_d`; ", "crates/raft_chest/README.md", "no clause or definition close_d"),
+    ("`opened` (`HasLid`)", "`opened` (`stranger_to_all`)", "crates/raft_chest/README.md", "no clause or definition stranger_to_all"),
+    ("`opened` |", "`closed` |", "docs/PROMISES.md", "no clause or definition closed"),
+    ("`lids_of`, ", "`lids_off`, ", "crates/raft_chest/README.md", "no clause or definition lids_off"),
+    ("| a | `impl Box for Chest`, ", "| a | b | `impl Box for Chest`, ", "docs/PROMISES.md", "the row has 4 cells"),
+    ("`a_lid_stays` (raft_chest)", "`a_lid_stays` (raft_low)", "docs/PROMISES.md", "no edit a_lid_stays of raft_low"),
+    ("| raft_chest | chests", "| raft_box | chests", "docs/ARCHITECTURE.md", "raft_box isn't in crates.txt"),
+    ("| raft_chest | chests | raft_low | yes |\n", "", "docs/ARCHITECTURE.md", "the library raft_chest has no row"),
+    ("chests | raft_low |", "chests | raft_chest_rows |", "docs/ARCHITECTURE.md", "raft_chest_rows is no library"),
+    ("| low | |", "| low | raft_chest |", "docs/ARCHITECTURE.md", "raft_low doesn't stand on raft_chest"),
+    ("raft_chest/specs/Chest", "raft_chest/specs/Lid", "docs/ARCHITECTURE.md", "raft_chest/specs/Lid isn't there"),
+    ("`lid_there`", "`lid_where`", "docs/ARCHITECTURE.md", "no definition lid_where"),
+    ("2 rows", "1 rows", "docs/TESTED.md", "raft_chest_rows has 2 rows, not 1"),
+    ("3 lines", "1,003 lines", "docs/TESTED.md", "raft_chest_rows has 3 lines, not 1,003"),
+    ("some 1 wrong", "some 2 wrong", "docs/TESTED.md", "there are 1 wrong bodies"),
+    ("`specs/Chest`", "`HasNoLid`", "crates/raft_chest/README.md", "nothing is named HasNoLid"),
+]
+
+
+def run(faults):
+    """Fails where the tree as it is has a fault, or where one that is made isn't found, or isn't the only kind."""
+    right = _found(faults, TREE)
+    if right:
+        raise SystemExit("\n".join(["pages: self test: faults of a right tree", *right]))
+    for old, new, path, words in FAULTS:
+        if TREE[path].count(old) != 1:
+            raise SystemExit(f"pages: self test: {old!r} doesn't stand once in {path}")
+        found = _found(faults, TREE | {path: TREE[path].replace(old, new)})
+        if not any(it.startswith(path) and words in it for it in found):
+            raise SystemExit("\n".join([f"pages: self test: not found: {words}", *found]))
+
+
+def _found(faults, tree):
+    """What is found in a tree of files."""
+    with tempfile.TemporaryDirectory() as top:
+        for path, text in tree.items():
+            os.makedirs(os.path.dirname(f"{top}/{path}"), exist_ok=True)
+            with open(f"{top}/{path}", "w", encoding="utf-8") as file:
+                file.write(text)
+        return list(faults(top))
