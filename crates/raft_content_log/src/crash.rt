@@ -1,5 +1,6 @@
 //! What is asked of a log that can be made to crash.
-ghost use Rattle.std.specs.Prelude.{◌≡◌, IfErr, OnErr, OnOk};
+ghost use Rattle.std.specs.Prelude.{◌≡◌, ◌↔◌, ℕ, List, IfErr, OnErr, OnOk};
+ghost use Rattle.raft_log_memtables.specs.Content.{Content};
 
 use crate::content_log::ContentLog;
 
@@ -23,4 +24,11 @@ pub trait CrashLog: ContentLog {
         ensures crashed { OnOk result (crashed self.old self.new) }
         ensures why { IfErr result (λ why. refuses self.old choice.now why) }
         ensures err { OnErr result (self.new ≡ self.old) };
+
+    /// Its files refuse each changing call from this one on, the first one counted as 1; with none
+    /// they refuse no call any more. Nothing else changes.
+    fn fuse(&mut self, first_refused: Option<u64>)
+        ensures sound { Self.ContentLog.is_sound self.new ↔ Self.ContentLog.is_sound self.old }
+        ensures answers { Self.ContentLog.answers self.new ≡ Self.ContentLog.answers self.old }
+        ensures leaves { (left : Content (List ℕ)) → Self.ContentLog.leaves self.new left ↔ Self.ContentLog.leaves self.old left };
 }

@@ -48,6 +48,15 @@ impl MemoryLog {
         self.has_failed = true;
         Ok(())
     }
+
+    /// Lets the log's files refuse each changing call from this one on, the first one counted as 1;
+    /// with none they refuse no call any more (own). The log is as it was, but that its files are
+    /// others that have the same.
+    pub fn fuse_files(&mut self, first_refused: Option<u64>)
+        ensures same { IsSameLog disk_in self.old self.new }
+    {
+        self.engine.set_fuse(first_refused);
+    }
 }
 
 impl CrashLog for MemoryLog {
@@ -69,5 +78,9 @@ impl CrashLog for MemoryLog {
         let _ = self.crash_files(choice);
         self.has_failed = true;
         Ok(())
+    }
+
+    fn fuse(&mut self, first_refused: Option<u64>) {
+        self.fuse_files(first_refused);
     }
 }

@@ -96,6 +96,15 @@ impl LogFiles {
         self.files.crash(choice)
     }
 
+    /// Lets the files refuse each changing call from this one on, the first one counted as 1; with
+    /// none they refuse no call any more (own). Nothing else changes.
+    pub fn fuse(&mut self, first_refused: Option<u64>)
+        ensures disk { disk_in self.new.files ≡ disk_in self.old.files }
+        ensures settings { self.new.settings ≡ self.old.settings }
+    {
+        self.files.fuse(first_refused);
+    }
+
     /// Refuses files that show by chance what nobody wrote (own): `ByChance` where reads of a log file
     /// see a header or a record that no call wrote there. It changes nothing.
     pub fn check_genuine(&self) -> Result<(), CrashRefusal>

@@ -5,6 +5,7 @@ mod asking;
 mod calls;
 mod crash;
 mod feeding;
+mod fuse;
 mod machines;
 mod naming;
 mod node;

@@ -4,6 +4,7 @@
 mod batches;
 mod crash;
 mod fault;
+mod fuse;
 mod group_storage;
 mod places;
 mod readings;
