@@ -1,7 +1,7 @@
 -- Why a cluster refuses an event: the first reason that holds.
 use Rattle.std.specs.Prelude.{ℕ, Bool, true, false, not, List, [], ◌∷◌, Option, Some, None}
 use Rattle.raft_cluster_conditions.specs.declared.reasons.Asked.{Asked}
-use Rattle.raft_cluster_conditions.specs.declared.reasons.Asked.TheVariants.{SetUp, Delivery, Reopen}
+use Rattle.raft_cluster_conditions.specs.declared.reasons.Asked.TheVariants.{SetUp, Delivery, Fuse, Reopen}
 use Rattle.raft_cluster_conditions.specs.declared.reasons.ClusterRefusal.{ClusterRefusal}
 use Rattle.raft_cluster_conditions.specs.declared.reasons.ClusterRefusal.TheVariants.{NoNode, NodeDown, NodeUp, NoFrame, SetupDiffers, ByChance, NotAnImage, BadCut}
 use Rattle.raft_cluster_conditions.specs.declared.reasons.NodeStanding.{NodeStanding}
@@ -30,9 +30,15 @@ abbrev pub is_reopening : Asked → Bool
 is_reopening Reopen = true
 is_reopening _ = false
 
+-- it can be asked of a node that is down
+abbrev pub may_be_down : Asked → Bool
+may_be_down Fuse = true
+may_be_down Reopen = true
+may_be_down _ = false
+
 -- it is down, where it has to be up
 abbrev pub is_wrongly_down : NodeStanding → Asked → Bool
-is_wrongly_down Down asked = not (is_reopening asked)
+is_wrongly_down Down asked = not (may_be_down asked)
 is_wrongly_down _ asked = false
 
 -- it is up, where it has to be down

@@ -27,6 +27,8 @@ pub enum Asked {
     /// A frame comes to the node, cut at some places. Its length is in bytes; there is none where
     /// no frame has that number.
     Delivery { length: Option<u64> },
+    /// The node's files get a fuse, or lose it: up or down.
+    Fuse,
     /// The node's machine stops.
     Crash,
     /// The node is opened again.
@@ -105,6 +107,10 @@ pub fn refusal(node: NodeStanding, asked: Asked, cuts: &[u64]) -> Option<Cluster
             standing_refusal(node).or(Some(ClusterRefusal::SetupDiffers))
         }
         Asked::Call | Asked::SetUp { differs: false } | Asked::Crash => standing_refusal(node),
+        Asked::Fuse => match node {
+            NodeStanding::Missing => Some(ClusterRefusal::NoNode),
+            NodeStanding::Down | NodeStanding::Up => None,
+        },
         Asked::Reopen => match node {
             NodeStanding::Missing => Some(ClusterRefusal::NoNode),
             NodeStanding::Down => None,

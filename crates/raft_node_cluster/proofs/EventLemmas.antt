@@ -10,7 +10,7 @@ use Rattle.raft_laws.specs.GroupWorld.{NodeState}
 use Rattle.raft_history_laws.proofs.EndedOnce.{no_setup}
 use Rattle.raft_machines.specs.Machine.{MachineRules}
 use Rattle.raft_sent_frames.specs.declared.frame.SentFrame.{SentFrame}
-use Rattle.raft_headline.specs.ClusterEvent.{AddGroup, Ask, Crash, Deliver, Reopen, ResetPeer}
+use Rattle.raft_headline.specs.ClusterEvent.{AddGroup, Ask, Crash, Deliver, Fuse, Reopen, ResetPeer}
 use Rattle.raft_headline.specs.ClusterEvent.{ClusterEvent as PlainEvent, ClusterOutcome as PlainOutcome}
 use Rattle.raft_headline.specs.ClusterEvent.{Done, Said, Stopped, is_stopped, silent}
 use Rattle.raft_headline.specs.Told.{said_by}
@@ -121,6 +121,7 @@ away_is_free history e o why is = no_set_up history (record { event = e; outcome
     none h (event.Ask n g call now) = if_not (eqb g h) (membership_in call)
     none h (event.Deliver g number cuts now) = refl
     none h (event.ResetPeer n peer) = refl
+    none h (event.Fuse n first_refused) = refl
     none h (event.Crash n choice) = refl
     none h (event.Reopen n workers) = refl
 
@@ -211,6 +212,15 @@ module _ {N : Type 0} (rules : MachineRules) (acts : NodeActs N) (states : NodeS
             (led_silently rules acts states ids downs nodes sent history t before found e (ResetPeer (acts.id before) peer) (ap (λ n. ResetPeer n peer) is) is o (no_set_up history (record { event = e; outcome = o }) (λ h. refl)) mid later id_mid (SaysReset (Err why)) l
             (error_as t.told.plain e why o l.outcome over_it.outcome l.says) over_it.sends)
 
+        fuses : (first_refused : Option ℕ) → Leading (Fuse (acts.id before)) mid (λ p. p ≡ Done silent) → Settles acts sent (event.Fuse node first_refused) mid (Ok []) o later new → Now (event.Fuse node first_refused) new
+        fuses first_refused l (inr lacks) = absurd lacks.node
+        fuses first_refused l (inl done) =
+            let e : ClusterEvent = event.Fuse node first_refused in
+            subst (Now e) (sym done.node)
+            (silently e (Fuse (acts.id before)) (ap (λ n. Fuse n) is) is (λ h p. refl) (no_set_up history (record { event = e; outcome = o }) (λ h. refl)) (λ p. p ≡ Done silent) l l.says
+            (subst (λ q. OutcomeAs t.told.plain e q l.outcome) (sym done.outcome) (record { none = done.sends.numbered; done = l.says }))
+            done.sends.sends)
+
         crashes : (choice : CrashChoice) → Leading (Crash (acts.id before)) mid (λ p. p ≡ Done silent) → Settles acts sent (event.Crash node choice) mid (Ok []) o later new → Now (event.Crash node choice) new
         crashes choice l (inr lacks) = absurd lacks.node
         crashes choice l (inl done) =
@@ -287,6 +297,13 @@ module _ {N : Type 0} (rules : MachineRules) (acts : NodeActs N) (states : NodeS
           let l = law.resets r.before r.comes.behind peer answered up reset ids t.told.plain (λ h. t.told.stand.candidates h (acts.id r.before)) tt (stands rules acts states ids downs nodes sent history t r.before found) in
           resets r.before o r.behind later found r.comes.behind r.comes.id_behind r.comes.id node is peer answered l
           (subst (λ a. Settles acts sent (event.ResetPeer node peer) r.comes.behind a o later r.behind) same r.comes.settles)
+      comes_there (event.Fuse node first_refused) none r =
+          let is = its_id acts nodes node r.before r.named in
+          let found = ap (node_in acts nodes) is ∙ r.named in
+          let (fused, same) = r.comes.answers in
+          let l = law.fuses r.before r.comes.behind first_refused fused ids t.told.plain (λ h. t.told.stand.candidates h (acts.id r.before)) tt (stands rules acts states ids downs nodes sent history t r.before found) in
+          fuses r.before o r.behind later found r.comes.behind r.comes.id_behind r.comes.id node is first_refused l
+          (subst (λ a. Settles acts sent (event.Fuse node first_refused) r.comes.behind a o later r.behind) same r.comes.settles)
       comes_there (event.Crash node choice) none r =
           let up = up_for_crash acts (acts.is_up r.before) (ap (λ w. refusal_of (standing_of acts w) asked.Crash []) (sym r.named) ∙ none) in
           let is = its_id acts nodes node r.before r.named in

@@ -147,6 +147,7 @@ same_set_up h before (event.Ask n g call now) o p told =
     ∙ same_if (eqb g h) (is_taken_plain p) call
 same_set_up h before (event.Deliver g number cuts now) o p told = refl
 same_set_up h before (event.ResetPeer n peer) o p told = refl
+same_set_up h before (event.Fuse n first_refused) o p told = refl
 same_set_up h before (event.Crash n choice) o p told = refl
 same_set_up h before (event.Reopen n workers) o p told = refl
 

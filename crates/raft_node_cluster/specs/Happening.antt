@@ -4,7 +4,7 @@ use Rattle.raft_sent_frames.specs.declared.frame.SentFrame.{SentFrame}
 use Rattle.raft_cluster_conditions.specs.declared.reasons.ClusterRefusal.{ClusterRefusal}
 use Rattle.raft_cluster_conditions.specs.declared.reasons.ClusterRefusal.TheVariants as away
 use Rattle.raft_cluster_events.specs.declared.event.ClusterEvent.{ClusterEvent}
-use Rattle.raft_cluster_events.specs.declared.event.ClusterEvent.TheVariants.{AddGroup, Ask, Deliver, ResetPeer, Crash, Reopen}
+use Rattle.raft_cluster_events.specs.declared.event.ClusterEvent.TheVariants.{AddGroup, Ask, Deliver, ResetPeer, Fuse, Crash, Reopen}
 use Rattle.raft_cluster_events.specs.declared.node.NodeOutcome.{NodeOutcome}
 use Rattle.raft_cluster_events.specs.declared.outcome.CrashRefusal.{CrashRefusal}
 use Rattle.raft_cluster_events.specs.declared.outcome.CrashRefusal.TheVariants as crash
@@ -38,6 +38,7 @@ IsOfGroup (AddGroup node group) = Unit {0}
 IsOfGroup (Ask node group call now) = Unit {0}
 IsOfGroup (Deliver group number cuts now) = Unit {0}
 IsOfGroup (ResetPeer node peer) = ⊥
+IsOfGroup (Fuse node first_refused) = ⊥
 IsOfGroup (Crash node choice) = ⊥
 IsOfGroup (Reopen node workers) = ⊥
 
@@ -58,6 +59,7 @@ module _ {N : Type 0} (acts : NodeActs N) where
       Delivers (delivered sent (Deliver group number cuts now)) cuts now old answered new
   Answers sent (ResetPeer node peer) old answered new =
       (r : Result (Unit {0}) NodeError) × acts.resets old peer r new × (answered ≡ none_of r)
+  Answers sent (Fuse node first_refused) old answered new = acts.fuses old first_refused new × (answered ≡ Ok [])
   Answers sent (Crash node choice) old answered new = acts.crashes old choice new × (answered ≡ Ok [])
   Answers sent (Reopen node workers) old answered new =
       (r : Result (List NodeOutcome) Stop) × acts.reopens old workers r new × (answered ≡ opening_of r)
@@ -76,6 +78,7 @@ module _ {N : Type 0} (acts : NodeActs N) where
   StopsFor (Ask node group call now) old outcomes stop new = FailsBehind old outcomes stop new
   StopsFor (Deliver group number cuts now) old outcomes stop new = FailsBehind old outcomes stop new
   StopsFor (ResetPeer node peer) old outcomes stop new = ⊥
+  StopsFor (Fuse node first_refused) old outcomes stop new = ⊥
   StopsFor (Crash node choice) old outcomes stop new = ⊥
   StopsFor (Reopen node workers) old outcomes stop new =
       (stop ≡ record { cause = Memory; unsaid = None; unknown = [] }) × acts.closes old new
@@ -121,6 +124,7 @@ module _ {N : Type 0} (acts : NodeActs N) where
   RefusesFor (Ask node group call now) before why = ⊥
   RefusesFor (Deliver group number cuts now) before why = ⊥
   RefusesFor (ResetPeer node peer) before why = ⊥
+  RefusesFor (Fuse node first_refused) before why = ⊥
   RefusesFor (Crash node choice) before why = acts.refuses before choice why
   RefusesFor (Reopen node workers) before why = ⊥
 

@@ -2,7 +2,7 @@
 ghost use Rattle.std.specs.Prelude.{◌≡◌, ◌≤◌, ◌++◌, ◌∷◌, [], length, take, IfOk, OnOk, OnErr, vec_len};
 ghost use Rattle.std.specs.Option.{option_copied};
 ghost use Rattle.raft_sent_frames.specs.Frames.{frames_of};
-ghost use Rattle.raft_node_cluster.specs.Facts.{node_in};
+ghost use Rattle.raft_node_cluster.specs.Facts.{node_in, node_of};
 ghost use Rattle.raft_node_laws.specs.Law.{KeepsLaw};
 ghost use Rattle.raft_node_cluster.specs.Cluster.{Happens, IsReached, LacksMemoryToCrash, Runs, Steps};
 ghost use Rattle.raft_node_cluster.specs.Joined.{HasHeadline, ids_of};
@@ -135,6 +135,13 @@ impl<N: ClusterNode> Cluster<N> {
         ensures { option_copied result ≡ node_in N.acts self.now.nodes id }
     {
         self.nodes.iter().find(|node| node.id() == id)
+    }
+
+    /// The id of the node that an event is for; none where it delivers a frame that wasn't sent.
+    pub fn node_of(&self, event: &ClusterEvent) -> Option<u64>
+        ensures { result ≡ node_of (frames_of self.now.sent) event.now }
+    {
+        node_of(&self.sent, event)
     }
 
     /// The group's frames, lent, in the order of sending.

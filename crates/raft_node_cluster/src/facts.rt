@@ -29,6 +29,7 @@ pub fn node_of(sent: &SentFrames, event: &ClusterEvent) -> Option<u64>
         ClusterEvent::AddGroup { node, .. }
         | ClusterEvent::Ask { node, .. }
         | ClusterEvent::ResetPeer { node, .. }
+        | ClusterEvent::Fuse { node, .. }
         | ClusterEvent::Crash { node, .. }
         | ClusterEvent::Reopen { node, .. } => Some(*node),
         ClusterEvent::Deliver { group, number, .. } => {
@@ -114,6 +115,7 @@ pub fn asked_of(history: &[Recorded], sent: &SentFrames, event: &ClusterEvent) -
                 .get(*group, *number)
                 .map(|frame| frame.bytes.len() as u64),
         },
+        ClusterEvent::Fuse { .. } => Asked::Fuse,
         ClusterEvent::Crash { .. } => Asked::Crash,
         ClusterEvent::Reopen { .. } => Asked::Reopen,
     }

@@ -190,6 +190,10 @@ pub fn come_to<N: ClusterNode>(
             Ok(()) => Ok(EventOutcome::Done(Sequence::new(alloc))),
             Err(error) => Ok(over(error)),
         },
+        ClusterEvent::Fuse { first_refused, .. } => {
+            node.fuse(*first_refused);
+            Ok(EventOutcome::Done(Sequence::new(alloc)))
+        }
         ClusterEvent::Crash { choice, .. } => crash(alloc, node, *choice),
         ClusterEvent::Reopen { workers, .. } => {
             let answered = node.reopen(*workers);

@@ -2,7 +2,9 @@
 use crate::toy_node::ToyNode;
 use raft_cluster_events::GroupCommand;
 use raft_group_step::GroupCall;
-use raft_node_cluster::{Cluster, ClusterEvent, CrashChoice, EventOutcome, Recorded};
+use raft_node_cluster::{
+    Cluster, ClusterEvent, ClusterRefusal, CrashChoice, EventOutcome, Recorded,
+};
 use std::alloc::{AllocError, Global};
 
 fn ask(node: u64, call: GroupCommand) -> ClusterEvent {
@@ -22,6 +24,13 @@ fn crash() -> ClusterEvent {
     ClusterEvent::Crash {
         node: 1,
         choice: CrashChoice::Most,
+    }
+}
+
+fn fuse(node: u64, first_refused: Option<u64>) -> ClusterEvent {
+    ClusterEvent::Fuse {
+        node,
+        first_refused,
     }
 }
 
@@ -53,6 +62,21 @@ fn crashes(alloc: Global) -> Result<Vec<ClusterEvent>, AllocError> {
     Ok(events)
 }
 
+// A fuse with an election behind it, and an election where it is lifted. Then a fuse of a node that
+// is down, and one of a node that isn't there.
+fn fuses(alloc: Global) -> Result<Vec<ClusterEvent>, AllocError> {
+    let mut events = Vec::new(alloc);
+    events.push(fuse(1, Some(1)))?;
+    events.push(ask(1, GroupCall::Elect))?;
+    events.push(fuse(1, None))?;
+    events.push(ask(1, GroupCall::Elect))?;
+    events.push(crash())?;
+    events.push(fuse(1, Some(1)))?;
+    events.push(ask(1, GroupCall::Elect))?;
+    events.push(fuse(4, Some(1)))?;
+    Ok(events)
+}
+
 // A run behind a function without clauses: a proof that carries them takes long.
 fn run(cluster: &mut Cluster<ToyNode>, events: Vec<ClusterEvent>) -> usize {
     cluster.run(events)
@@ -63,6 +87,7 @@ fn word(recorded: &Recorded) -> &'static str {
         EventOutcome::Done(_) => " done",
         EventOutcome::Refused(_) => " refused",
         EventOutcome::Stopped(_) => " stopped",
+        EventOutcome::TurnedAway(ClusterRefusal::NoNode) => " no-node",
         EventOutcome::TurnedAway(_) => " turned-away",
     }
 }
@@ -81,10 +106,12 @@ fn told(alloc: Global, events: Vec<ClusterEvent>) -> Result<String, AllocError> 
     Ok(text)
 }
 
-/// What two lists of events do, a line each.
+/// What three lists of events do, a line each.
 pub fn run_events(alloc: Global) -> Result<String, AllocError> {
     let mut text = told(alloc, events(alloc)?)?;
     text.push_str("\n")?;
     text.push_str(told(alloc, crashes(alloc)?)?.as_str())?;
+    text.push_str("\n")?;
+    text.push_str(told(alloc, fuses(alloc)?)?.as_str())?;
     Ok(text)
 }

@@ -16,7 +16,7 @@ const FRAME: usize = 3;
 /// It has no machine and no files. An election sends a frame of three bytes to each of nodes 1 to 3, a
 /// frame that is whole is answered by one to its sender, and a lost request stops it. A crash that
 /// leaves the most is refused by chance where the last purge was up to place 6, as no image for 7, and
-/// for want of memory for 10.
+/// for want of memory for 10. Behind a fuse an election stops it, until the fuse is lifted.
 #[derive(Drop)]
 pub struct ToyNode {
     alloc: Global,
@@ -24,6 +24,7 @@ pub struct ToyNode {
     is_up: bool,
     held: usize,
     purged: u64,
+    is_fused: bool,
 }
 
 // What a call did that found memory.
@@ -66,6 +67,13 @@ impl ToyNode {
             unknown,
         })
     }
+
+    fn stopped(&self, group: u64, token: u64) -> NodeError {
+        match self.stop(group, token) {
+            Ok(stop) => NodeError::Stopped(stop),
+            Err(_) => NodeError::Refused(NodeRefusal::Failed),
+        }
+    }
 }
 
 impl ClusterNode for ToyNode {
@@ -82,6 +90,7 @@ impl ClusterNode for ToyNode {
       feeds = λ old peer piece now answered new. Unit {0};
       resets = λ old peer answered new. Unit {0};
       fails = λ old stop new. Unit {0};
+      fuses = λ old first_refused new. Unit {0};
       crashes = λ old choice new. Unit {0};
       refuses = λ old choice why. Unit {0};
       reopens = λ old workers answered new. Unit {0};
@@ -100,6 +109,7 @@ impl ClusterNode for ToyNode {
             is_up: true,
             held: 0,
             purged: 0,
+            is_fused: false,
         })
     }
 
@@ -122,11 +132,9 @@ impl ClusterNode for ToyNode {
         _now: u64,
     ) -> Result<NodeOutcome, NodeError> {
         match call {
+            GroupCall::Elect if self.is_fused => Err(self.stopped(group, self.id)),
             GroupCall::Elect => done(frames_to(self.alloc, group, &[1, 2, 3]), self.alloc),
-            GroupCall::Lost { peer } => match self.stop(group, *peer) {
-                Ok(stop) => Err(NodeError::Stopped(stop)),
-                Err(_) => Err(NodeError::Refused(NodeRefusal::Failed)),
-            },
+            GroupCall::Lost { peer } => Err(self.stopped(group, *peer)),
             GroupCall::TriggerPurge { place } => {
                 self.purged = *place;
                 done(frames_to(self.alloc, group, &[]), self.alloc)
@@ -165,6 +173,10 @@ impl ClusterNode for ToyNode {
             unsaid: None,
             unknown: Sequence::new(self.alloc),
         }
+    }
+
+    fn fuse(&mut self, first_refused: Option<u64>) {
+        self.is_fused = first_refused.is_some();
     }
 
     fn crash(&mut self, choice: CrashChoice) -> Result<(), CrashRefusal> {

@@ -10,7 +10,7 @@ use Rattle.raft_laws.specs.GroupWorld.{NodeState, Up, Down}
 use Rattle.raft_laws.specs.NodeEvent.{Comes as ComesTo}
 use Rattle.raft_laws.specs.OneList.{AreNodeIds}
 use Rattle.raft_machines.specs.Machine.{MachineRules}
-use Rattle.raft_headline.specs.ClusterEvent.{AddGroup, Ask, ClusterEvent, ClusterOutcome, Crash, Deliver, Done, Recorded}
+use Rattle.raft_headline.specs.ClusterEvent.{AddGroup, Ask, ClusterEvent, ClusterOutcome, Crash, Deliver, Done, Fuse, Recorded}
 use Rattle.raft_headline.specs.ClusterEvent.{Reopen, ResetPeer, Stopped, silent}
 use Rattle.raft_cluster_laws.specs.Acts.{EventLeads}
 use Rattle.raft_cluster_laws.specs.Along.{scene_behind, sent_by}
@@ -94,6 +94,9 @@ module _ {N : Type 0} (rules : MachineRules) (acts : NodeActs N) (states : NodeS
         → IsTaken (WasSent group number m) (Deliver group number now) group old (some_of answered) mid
     pub resets : (old new : N) (peer : ℕ) (answered : Result (Unit {0}) NodeError) → acts.is_up old ≡ true → acts.resets old peer answered new
         → LeadsOn Anything (ResetPeer (acts.id old) peer) old new (SaysReset (none_of answered))
+    -- whether the node is up or down
+    pub fuses : (old new : N) (first_refused : Option ℕ) → acts.fuses old first_refused new
+        → LeadsOn Anything (Fuse (acts.id old)) old new (λ o. o ≡ Done silent)
     pub crashes : (old new : N) (choice : CrashChoice) → acts.is_up old ≡ true → acts.crashes old choice new
         → LeadsOn Anything (Crash (acts.id old)) old new (λ o. o ≡ Done silent)
     pub reopens : (old new : N) (workers : ℕ) (answered : Result (List NodeOutcome) Stop) → acts.is_up old ≡ false

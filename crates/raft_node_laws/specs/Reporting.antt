@@ -11,7 +11,7 @@ use Rattle.raft_cluster_events.specs.declared.outcome.EventOutcome.{EventOutcome
 use Rattle.raft_cluster_events.specs.declared.outcome.EventOutcome.TheVariants as outcome
 use Rattle.raft_cluster_events.specs.declared.outcome.GroupOutcome.{GroupOutcome}
 use Rattle.raft_cluster_events.specs.declared.outcome.Recorded.{Recorded}
-use Rattle.raft_headline.specs.ClusterEvent.{AddGroup, Ask, Crash, Deliver, Reopen, ResetPeer}
+use Rattle.raft_headline.specs.ClusterEvent.{AddGroup, Ask, Crash, Deliver, Fuse, Reopen, ResetPeer}
 use Rattle.raft_headline.specs.ClusterEvent.{ClusterEvent as PlainEvent, ClusterOutcome as PlainOutcome, Recorded as PlainRecord}
 use Rattle.raft_headline.specs.ClusterEvent.{Done, Opened, Said, Stopped, TurnedAway, silent}
 use Rattle.raft_cluster_laws.specs.Along.{sent_by}
@@ -19,12 +19,13 @@ use Rattle.raft_node_laws.specs.Saying.{IsToldAs, names_of, outcome_of_refusal}
 
 -- ---- events
 
--- where a frame is cut, what a crash leaves and who opens isn't said
+-- where a frame is cut, which call of the files is refused first, what a crash leaves and who opens isn't said
 abbrev pub plain_event : ClusterEvent → PlainEvent
 plain_event (event.AddGroup node group) = AddGroup node group
 plain_event (event.Ask node group call now) = Ask node group call now
 plain_event (event.Deliver group number cuts now) = Deliver group number now
 plain_event (event.ResetPeer node peer) = ResetPeer node peer
+plain_event (event.Fuse node first_refused) = Fuse node
 plain_event (event.Crash node choice) = Crash node
 plain_event (event.Reopen node workers) = Reopen node
 
@@ -34,6 +35,7 @@ node_behind before (event.AddGroup node group) = Some node
 node_behind before (event.Ask node group call now) = Some node
 node_behind before (event.Deliver group number cuts now) = option_map (λ (m : Message). m.addressee) (slice_get (sent_by group before) number)
 node_behind before (event.ResetPeer node peer) = Some node
+node_behind before (event.Fuse node first_refused) = Some node
 node_behind before (event.Crash node choice) = Some node
 node_behind before (event.Reopen node workers) = Some node
 
@@ -75,6 +77,7 @@ DoneAs before (event.AddGroup node group) parts o = IsDoneAs before group parts 
 DoneAs before (event.Ask node group call now) parts o = IsDoneAs before group parts o
 DoneAs before (event.Deliver group number cuts now) parts o = IsDoneAs before group parts o
 DoneAs before (event.ResetPeer node peer) parts o = IsDoneSilently parts o
+DoneAs before (event.Fuse node first_refused) parts o = IsDoneSilently parts o
 DoneAs before (event.Crash node choice) parts o = IsDoneSilently parts o
 DoneAs before (event.Reopen node workers) parts o = IsOpenedAs before parts o
 

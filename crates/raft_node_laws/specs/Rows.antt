@@ -95,6 +95,7 @@ small_acts = record {
   feeds = λ old peer piece now answered new. Unit {0};
   resets = λ old peer answered new. Unit {0};
   fails = λ old stop new. Unit {0};
+  fuses = λ old first_refused new. Unit {0};
   crashes = λ old choice new. Unit {0};
   refuses = λ old choice why. Unit {0};
   reopens = λ old workers answered new. Unit {0};

@@ -2,7 +2,7 @@ use Rattle.std.proofs.Common.{ℕ, List, [], Ok, Err, inl, refl, subst}
 use Rattle.std.proofs.lemmas.Result.{IfOk-weaker, on_err_weaker}
 use Rattle.raft_sent_frames.specs.Frames.{frames_of}
 use Rattle.raft_cluster_events.specs.declared.event.ClusterEvent.{ClusterEvent}
-use Rattle.raft_cluster_events.specs.declared.event.ClusterEvent.TheVariants.{AddGroup, Ask, Deliver, ResetPeer, Crash, Reopen}
+use Rattle.raft_cluster_events.specs.declared.event.ClusterEvent.TheVariants.{AddGroup, Ask, Deliver, ResetPeer, Fuse, Crash, Reopen}
 use Rattle.raft_cluster_events.specs.declared.outcome.CrashRefusal.TheVariants.{Memory}
 use Rattle.raft_node_cluster.specs.Facts.{delivered}
 use Rattle.raft_node_laws.specs.Answered.{one_of, opening_of, some_of}
@@ -42,6 +42,12 @@ returns-in-Err-clause-ok g c =
     let named : ClusterEvent = ResetPeer c.in-ResetPeer.node c.in-ResetPeer.peer in
     inl (comes g.N.ClusterNode.acts _ _ c.args.event.now named c.args.node.now c.reset_peer.new.self _ (Err c.in-Err.error) (Err c.in-Err.error) _ c.in-ResetPeer.is refl
     (Err c.in-Err.error, c.in-Err.ensures.does, refl) (over_so g.N.ClusterNode.acts _ named c.reset_peer.new.self c.in-Err.error c.over.result c.over.ensures) c.in-Err.ensures.id refl)
+
+pub returns-in-Fuse-clause-ok : goal.returns-in-Fuse-clause-ok
+returns-in-Fuse-clause-ok g c =
+    let named : ClusterEvent = Fuse c.in-Fuse.node c.in-Fuse.first_refused in
+    inl (comes g.N.ClusterNode.acts _ _ c.args.event.now named c.args.node.now c.fuse.new.self _ (Ok []) (Ok []) _ c.in-Fuse.is refl
+    (c.fuse.ensures.does, refl) (done_nothing g.N.ClusterNode.acts _ named c.fuse.new.self c.new-in-Fuse.result c.new-in-Fuse.ensures) c.fuse.ensures.id refl)
 
 pub returns-in-Crash-clause-ok : goal.returns-in-Crash-clause-ok
 returns-in-Crash-clause-ok g c =
