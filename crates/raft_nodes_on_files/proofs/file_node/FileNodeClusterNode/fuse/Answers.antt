@@ -21,7 +21,7 @@ pub returns-in-None-clause-does : goal.returns-in-None-clause-does
 returns-in-None-clause-does g c =
     let rules = g.M.StateMachine.rules in
     let state = g.M.StateMachine.state in
-    let e = c.fuse.ensures in
+    let e = c.fuse-in-None.ensures in
     fuses_as rules state c.args.self.now _ None c.args.self.now.up c.in-None.is (record {
       stays = record { id = refl; down = c.in-None.is };
       disk = e.disk;
