@@ -57,10 +57,10 @@ class Expected:
         self.answers.append(self.answering.answer(line))
         return self.answers[-1]
 
-    def put_world(self, title, ids):
+    def put_world(self, title, ids, kind="world"):
         """Another world."""
         self.put(f"# {title}")
-        self.put("world " + " ".join(map(str, ids)))
+        self.put(f"{kind} " + " ".join(map(str, ids)))
 
     def put_run(self, run):
         """A worked run, with all that is there in the end."""
@@ -70,30 +70,50 @@ class Expected:
         for line in ("show", "list", "show"):
             self.put(line)
 
+    def put_hostile_run(self, run):
+        """A worked run in which a peer lies, with all that is there after each event, and what came
+        about in it."""
+        self.put_world("hostile run " + " ".join(run.names), worked.IDS, "hostile")
+        came = Counter()
+        for event, _ in run.rows:
+            came.update(self.put_lie(event))
+            self.put("show")
+        return came
+
+    def put_event(self, event):
+        """One more event; what became of it, and what it changed."""
+        before = seen.state_of(self.answering.world, event)
+        mark = self.put(event_text(event)).split(" ", 1)[1]
+        after = seen.state_of(self.answering.world, event)
+        return mark, seen.change_of(event, mark.split()[0], before, after)
+
+    def put_lie(self, event):
+        """One more event of a hostile world; what came about by it."""
+        mark, changed = self.put_event(event)
+        return seen.lie_of(event, mark.split()[0]) + changed
+
     def put_random(self, name, course, seed):
         """A random world, and what came about in it."""
         self.put_world(f"{name}, seed {seed}", course.ids)
         world = self.answering.world
         chooser = Chooser(course, seed, world)
-        marks = []
+        marks, came = [], Counter()
         for number in range(1, course.events + 1):
-            answer = self.put(event_text(chooser.choose()))
-            marks.append(answer.split(" ", 1)[1])
+            mark, changed = self.put_event(chooser.choose())
+            marks.append(mark)
+            came.update(changed)
             if number % EVENTS_TO_LIST == 0 or number == course.events:
                 self.put_list(f"{name}, seed {seed}, event {number}")
         self.put("show")
-        return seen.count_world(marks, world, int(self.answers[-2].split()[1]))
+        return came + seen.count_world(marks, world, int(self.answers[-2].split()[1]))
 
     def put_hostile(self, name, course, seed):
         """A random world in which peers lie, and what came about in it."""
-        self.put(f"# hostile {name}, seed {seed}")
-        self.put("hostile " + " ".join(map(str, course.ids)))
+        self.put_world(f"hostile {name}, seed {seed}", course.ids, "hostile")
         liar = Liar(course, seed, self.answering.world)
         came = Counter()
         for _ in range(course.events):
-            event = liar.choose()
-            answer = self.put(event_text(event))
-            came.update(seen.lie_of(event, answer.split()[1]))
+            came.update(self.put_lie(liar.choose()))
         self.put("show")
         return came
 
@@ -124,13 +144,13 @@ def patient_lines():
 
 
 def expected():
-    """The worked runs, the random worlds, honest and hostile ones, and a run that goes on after want
-    of memory."""
+    """The worked runs, the random worlds, honest and hostile ones, worked hostile ones, and a run
+    that goes on after want of memory."""
     made = Expected()
     runs = worked.read_runs()
     made.faults += worked.all_faults(runs)
     for run in runs:
-        if run.has_group:
+        if run.kind == "run":
             made.put_run(run)
     for name, course in COURSES.items():
         came = Counter()
@@ -141,6 +161,9 @@ def expected():
     for name, course in COURSES.items():
         for seed in range(course.seed, course.seed + 5):
             lies.update(made.put_hostile(name, course, seed))
+    for run in runs:
+        if run.kind == "hostile":
+            lies.update(made.put_hostile_run(run))
     made.faults += seen.lies_missed(lies)
     made.put("# want of memory")
     made.put("patient 1 2 3")

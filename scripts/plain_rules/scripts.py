@@ -1,6 +1,7 @@
 """A cluster that runs a script: for each group a world, with a machine that adds up and the tokens
 that wait. It answers lines as docs/SCRIPT.md says."""
 
+from copy import deepcopy
 from dataclasses import dataclass, field
 from typing import Dict, List, Optional
 
@@ -9,7 +10,7 @@ from plain_rules.membership import Membership
 from plain_rules.state import State
 from plain_rules.stored import Stored
 from plain_rules.values import Command
-from plain_rules.world import DONE, Member, World
+from plain_rules.world import DONE, STOPPED, Member, World
 
 # What nodes' refusals are called, by what the rules call them.
 NAMES = {
@@ -32,6 +33,9 @@ SHORTEST_FRAME = 48
 PAST_FRAMES = 1 << 40
 
 BASE = 1 << 64
+
+# A storing command is one batch, which is appended to a file and synced.
+CALLS_OF_COMMAND = 2
 
 
 @dataclass
@@ -82,6 +86,8 @@ class Script:
         self.groups: Dict[int, Group] = {}
         self.tokens = 0
         self.now = 0
+        # After how many storing commands the event that happens stops, if it does.
+        self.stop = None
 
     # ---- groups
 
@@ -147,13 +153,15 @@ class Script:
         if why is not None:
             return why
         group = self.group(number)
-        event = Event(verb, node, self.now, None, what)
+        event = Event(verb, node, self.now, self.stop, what)
         if verb == "setup" and group.world.setup not in (None, what):
             return "refused C5 SetupDiffers"
         if token is not None:
             place = group.world.member(node).stored().end_place()
             group.waiting.setdefault(node, []).append(Untold(token, place))
         mark, sent, told, unknown = self.came_of(group, node, lambda: group.world.happen(event))
+        if mark == STOPPED:
+            return self.fall(node)
         if mark != DONE:
             if token is not None:
                 group.waiting[node].pop()
@@ -206,11 +214,25 @@ class Script:
         if cut is not None and not 0 < int(cut) < PAST_FRAMES:
             return "refused C9 BadCut"
         group = self.groups[number]
-        event = Event("deliver", frame, self.now)
+        event = Event("deliver", frame, self.now, self.stop)
         mark, sent, told, unknown = self.came_of(
             group, message.addressee, lambda: group.world.happen(event)
         )
+        if mark == STOPPED:
+            return self.fall(message.addressee)
         return f"ok{sent}{told}{unknown}" if mark == DONE else refused_text(mark)
+
+    def go_down(self, node):
+        """The node is down, with what it has stored of each group."""
+        self.down.add(node)
+        for group in self.groups.values():
+            group.world.happen(Event("crash", node))
+            group.waiting[node] = []
+
+    def fall(self, node):
+        """The node stopped inside an event."""
+        self.go_down(node)
+        return "stopped"
 
     def crash(self, node, _):
         """The node stops. All that it stored was synced, so each choice leaves the same."""
@@ -218,11 +240,25 @@ class Script:
         why = self.standing(node)
         if why is not None:
             return why
-        self.down.add(node)
-        for group in self.groups.values():
-            group.world.happen(Event("crash", node))
-            group.waiting[node] = []
+        self.go_down(node)
         return "ok"
+
+    def stored_by(self, line):
+        """How many storing commands the event of this line would have."""
+        tried = deepcopy(self)
+        for group in tried.groups.values():
+            group.world.stored_last = 0
+        tried.answer(line)
+        return sum(group.world.stored_last for group in tried.groups.values())
+
+    def fuse(self, first_refused, line):
+        """The event of the line, whose node's files refuse a changing call and each one behind it. What
+        was synced before that stays. An opening isn't tried so here."""
+        kept = (int(first_refused) - 1) // CALLS_OF_COMMAND
+        self.stop = kept if kept < self.stored_by(line) else None
+        said = self.answer(line)
+        self.stop = None
+        return said
 
     def reopen(self, node, _):
         """The node is opened with all its groups, by rising id."""
@@ -261,6 +297,8 @@ class Script:
         if verb == "now":
             self.now = int(words[0])
             return "ok"
+        if verb == "fuse":
+            return self.fuse(words[0], " ".join(words[1:]))
         if verb in ("deliver", "crash", "reopen", "total"):
             return getattr(self, verb)(*words)
         calls = {

@@ -6,7 +6,8 @@ from typing import List, Tuple
 
 from plain_rules.events import Event
 from plain_rules.settled import list_of
-from plain_rules.text import event_text, id_text, kind_of, or_dash, read_event, vote_text
+from plain_rules.text import event_text, id_text, kind_of, logged_text, or_dash, read_event
+from plain_rules.text import vote_text
 from plain_rules.world import DONE, World
 
 TABLE = Path(__file__).with_name("worked.txt")
@@ -16,10 +17,11 @@ IDS = (1, 2, 3, 4)
 
 @dataclass
 class Run:
-    """A run: its rows, an event with its answer each, what is so in the end, and whether its nodes
-    have the group."""
+    """A run: its rows, an event with its answer each, and what is so in the end. Its kind is the
+    word that it begins with: nodes of a bare one don't have the group, and to those of a hostile
+    one any message may come."""
 
-    has_group: bool
+    kind: str
     names: List[str]
     rows: List[Tuple[Event, str]]
     facts: List[str] = field(default_factory=list)
@@ -40,10 +42,10 @@ def read_runs():
             continue
         if words[0] == "part":
             part = parts[words[1]] = []
-        elif words[0] in ("run", "bare"):
+        elif words[0] in ("run", "bare", "hostile"):
             part = None
             rows = [row for name in words[1:] for row in parts[name]]
-            runs.append(Run(words[0] == "run", words[1:], rows))
+            runs.append(Run(words[0], words[1:], rows))
         elif part is not None:
             part.append(read_row(line))
         else:
@@ -71,6 +73,7 @@ FACTS = {
     "applied": lambda member: or_dash(None if member.up is None else member.up.applied),
     "vote": lambda member: vote_text(member.stored().vote),
     "purged": lambda member: id_text(member.stored().purged),
+    "members": lambda member: logged_text(member.stored().membership_in_force()),
     "leads": lambda member: "" if member.leads() else "no",
     "stands": lambda member: "" if member.up is not None and member.up.is_candidate() else "no",
 }
@@ -98,7 +101,8 @@ def answer_to(world, event):
 
 def faults_of(run, adds_group):
     """What goes otherwise in a run; with adds_group the group is added at its nodes first."""
-    world = World.new(IDS, run.has_group and not adds_group)
+    world = World.new(IDS, run.kind != "bare" and not adds_group)
+    world.is_hostile = run.kind == "hostile"
     begun = [(Event("add", node), DONE) for node in IDS] if adds_group else []
     faults = []
     for event, wanted in begun + run.rows:
@@ -106,7 +110,7 @@ def faults_of(run, adds_group):
         if answer != wanted:
             faults.append(f"{event_text(event)}: {answer}, where {wanted} was written")
     faults += [f"it isn't so: {fact}" for fact in run.facts if not is_so(world, fact)]
-    return [f"run {' '.join(run.names)}: {fault}" for fault in faults]
+    return [f"{run.kind} {' '.join(run.names)}: {fault}" for fault in faults]
 
 
 def all_faults(runs):
@@ -114,6 +118,6 @@ def all_faults(runs):
     too."""
     faults = []
     for run in runs:
-        for adds_group in (False, True) if run.has_group else (False,):
+        for adds_group in (False,) if run.kind == "bare" else (False, True):
             faults += faults_of(run, adds_group)
     return faults

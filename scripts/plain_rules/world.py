@@ -129,6 +129,8 @@ class World:
     setup: Optional[Membership] = None
     is_hostile: bool = False
     led: List[Led] = field(default_factory=list)
+    # How many storing commands the last step had.
+    stored_last: int = 0
 
     @staticmethod
     def new(ids, has_group):
@@ -156,6 +158,7 @@ class World:
         before = state.stored
         step = Step(member.id, state)
         refused = group_step(step, event, message)
+        self.stored_last = 0 if refused is not None else len(step.commands)
         if refused is None and event.stop is not None:
             member.up, member.down = None, stopped_after(event.stop, before, step.commands)
             return STOPPED

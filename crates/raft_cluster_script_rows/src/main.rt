@@ -1,10 +1,21 @@
 //! Runs scripts on nodes of files in memory. A line `== NAME` begins one, and the lines up to the next
-//! such line are its text; how it ends is printed behind its answers.
+//! such line are its text; how it ends is printed behind its answers. A line `each 1 1000 LINE` stands
+//! for a thousand lines, with each number from 1 on in place of `%`. Where a name ends in `, counted`,
+//! each answer is printed once, by rising text, with how often it came. The first token that one tells
+//! is left out of it, and its words behind the eighth are counted. Before all that a list of events is
+//! run at once.
 #![tactic(auto)]
 
+mod counted;
+mod many;
+mod run_rows;
+
+use counted::print_counted;
+use many::push_lines;
 use raft_cluster_script::{ScriptEnd, run_script};
 use raft_machines::AddingMachine;
 use raft_nodes_on_files::{FileNode, log_settings};
+use run_rows::run_rows;
 use std::alloc::{AllocError, Global};
 use std::io::{self, Read};
 
@@ -38,11 +49,16 @@ fn print_run(rt: &HostRuntime, name: Option<&str>, script: &[u8]) -> io::Result<
         return println!(rt; "no memory");
     };
     let text = str::from_utf8(written.as_slice()).unwrap_or("no UTF-8");
-    print!(rt; "{text}")?;
+    if name.ends_with(", counted") {
+        print_counted(rt, text)?;
+    } else {
+        print!(rt; "{text}")?;
+    }
     println!(rt; "-- {end:?}")
 }
 
 fn main(rt: HostRuntime) -> io::Result<()> {
+    println!(rt; "{}", run_rows(rt.alloc())?)?;
     let mut input = String::new(rt.alloc());
     rt.stdin().read_to_string(&mut input)?;
     let mut name = None;
@@ -53,8 +69,7 @@ fn main(rt: HostRuntime) -> io::Result<()> {
             name = Some(next);
             script.clear();
         } else {
-            script.extend_from_slice(line.as_bytes())?;
-            script.push(b'\n')?;
+            push_lines(rt.alloc(), &mut script, line)?;
         }
     }
     print_run(&rt, name, script.as_slice())

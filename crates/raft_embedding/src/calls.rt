@@ -3,7 +3,7 @@
 
 use crate::node::{Answered, Failure, Refused, ShelfNode};
 use raft_node::Fed;
-use raft_rows::number;
+use raft_rows::{bytes, number};
 use raft_state::{BasicNode, Bytes, ChangeMembers, Membership, NodeMap};
 use std::alloc::{AllocError, Global};
 
@@ -47,18 +47,19 @@ fn initialize(
     Some(node.initialize(group, membership, now))
 }
 
-// The byte is to come into the key's place. Words stand for their first bytes.
+// A command of these words, one behind the other.
 fn propose(
     alloc: Global,
     node: &mut ShelfNode,
     group: u64,
-    words: [&str; 2],
+    words: &[&str],
     token: u64,
     now: u64,
 ) -> Result<Answered, AllocError> {
     let mut command = Vec::new(alloc);
     for word in words {
-        command.extend_from_slice(word.as_bytes())?;
+        let word = bytes(alloc, word)?;
+        command.extend_from_slice(word.as_slice())?;
     }
     let command = Bytes::from_slice(alloc, command.as_slice())?;
     Ok(node.propose(group, command, token, now))
@@ -106,18 +107,15 @@ pub fn call(alloc: Global, node: &mut ShelfNode, words: &[&str]) -> Option<Answe
         ["initialize", group, count, now] => {
             initialize(alloc, node, number(group), number(count), number(now))
         }
-        ["propose", group, key, byte, token, now] => {
-            let words = [key, byte];
-            propose(
-                alloc,
-                node,
-                number(group),
-                words,
-                number(token),
-                number(now),
-            )
-            .ok()
-        }
+        ["propose", group, ref words @ .., token, now] => propose(
+            alloc,
+            node,
+            number(group),
+            words,
+            number(token),
+            number(now),
+        )
+        .ok(),
         ["learner", group, id, address, token, now] => {
             let words = [id, address];
             add_learner(

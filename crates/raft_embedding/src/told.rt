@@ -1,9 +1,10 @@
 //! What a node answers, in words.
 
-use crate::node::{Refused, ShelfNode};
+use crate::node::{Failure, Refused, ShelfNode};
 use raft_framed_groups::GroupFrame;
 use raft_machines::{Told, Untold};
-use raft_node::{Fault, Outcome, UnknownTokens};
+use raft_node::{Cause, Fault, Outcome, UnknownTokens};
+use raft_store::StoreFault;
 use std::alloc::{AllocError, Global};
 use std::fmt::{self, Display};
 
@@ -86,11 +87,24 @@ fn push_leader(alloc: Global, text: &mut String, leader: Option<u64>) -> Result<
     text.push_str(format!(in alloc; ", led by {}", Shown(leader))?.as_str())
 }
 
+// Why the store itself stopped a node, if it did.
+fn push_cause(alloc: Global, text: &mut String, cause: &Cause<Failure>) -> Result<(), AllocError> {
+    match cause {
+        Cause::Storage(StoreFault::Refused(why)) => {
+            text.push_str(format!(in alloc; ": {why}")?.as_str())
+        }
+        _ => Ok(()),
+    }
+}
+
 // What a refusal says beside its number and name.
 fn push_more(alloc: Global, text: &mut String, fault: &Refused) -> Result<(), AllocError> {
     match fault {
         Fault::NotLeader { leader } => push_leader(alloc, text, *leader),
-        Fault::Stopped { unknown, .. } => push_waited(alloc, text, unknown.as_slice()),
+        Fault::Stopped { cause, unknown } => {
+            push_cause(alloc, text, cause)?;
+            push_waited(alloc, text, unknown.as_slice())
+        }
         _ => Ok(()),
     }
 }
@@ -119,6 +133,21 @@ pub fn seen(alloc: Global, node: &ShelfNode, group: u64) -> Result<String, Alloc
     let next = Shown(node.next_log_id(group));
     let applied = Shown(node.applied(group));
     format!(in alloc; "{role:?}, led by {leader}, last {last}, next {next}, applied {applied}")
+}
+
+/// What a node tells of a group's members, snapshot and requests: a peer's address, the moment of the
+/// vote, the ends of snapshot and purge, and whether it waits for the peer.
+pub fn kept(alloc: Global, node: &ShelfNode, group: u64, peer: u64) -> Result<String, AllocError> {
+    let known = node.membership(group);
+    let address = known.and_then(|known| known.get_node(&peer));
+    let address = Shown(address.map(|node| node.addr.as_str()));
+    let renewed = Shown(node.renewed(group));
+    let snapshot = Shown(node.snapshot_last(group));
+    let purged = Shown(node.last_purged_log_id(group));
+    let waits = node.is_waiting_for(group, peer);
+    format!(in alloc;
+        "{peer} at {address}, renewed {renewed}, snapshot {snapshot}, purged {purged}, waits {waits}"
+    )
 }
 
 /// What stands in the key's place on the group's shelf.

@@ -202,6 +202,13 @@ by_no_lead P f g own (Some c) s Follower h = f
 by_no_lead P f g own (Some c) s (Candidate granters) h = g granters
 by_no_lead P f g own (Some c) s (Leader lead) h = absurd h
 
+-- who leads has an own vote that is committed
+leads_by : (own : ℕ) (l : Option (LeaderValue ℕ EffectiveMembership)) (c : Option (CandidateValue ℕ EffectiveMembership)) (s : StoredGroup) (lead : Lead) → PlaysRole own l c s (Leader lead)
+    → (s.vote.leader_id.node_id ≡ own) × (s.vote.committed ≡ true)
+leads_by own None c s lead h = absurd h
+leads_by own (Some l) None s lead h = let leads : Leads own l s lead = h in (leads.is_own, leads.committed)
+leads_by own (Some l) (Some c) s lead h = absurd h
+
 -- a request leaves, and the peer's entry waits for its answer
 pub requested : {C R : Type 0} (x : Given) (own : ℕ) (e e1 e' : Engine C R) (r : StepResult) (n : ℕ) (lead : Lead) (entry : ProgressEntry ℕ) (id : ℕ) (req : Inflight ℕ)
     → IsWholeStepOf x own e r → r.state.role ≡ Leader lead → e1.state ≡ e.state → IsStoredRequest r.state.stored req → peer_of lead n ≡ peer_state n entry → id ≡ entry.curr_inflight_id + 1 → req ≡ request_for r.state.stored (peer_state n entry) r.state.stored.snapshot
@@ -217,10 +224,11 @@ requested {C} {R} x own e e1 e' r n lead entry id req step is_lead same whole pe
     subst (λ w. IsStateOf own e1 (with_known (peer_state n w) lead r.state)) waits state in
     let all : send_request own (peer_of lead n) lead s.snapshot r ≡ sent_as own n entry lead r next =
     ap (λ p. send_request own p lead s.snapshot r) peer ∙ request-sent own n entry lead r s.snapshot step.state.order.placed refl in
+    let mine = leads_by own e.leader e.candidate s lead (subst (PlaysRole own e.leader e.candidate s) is_lead step.state.role) in
     subst (IsWholeStepOf x own e') (sym all)
     (whole_known x own e e' r step (peer_state n (waiting_for entry next)) lead (Replicate n req) (request_to own s (committed_id r.state) n next) is_lead
     (same_state own e1 e' (with_known (peer_state n (waiting_for entry next)) lead r.state) done config leader candidate known)
-    seen (known ∙ same) (pushed ∙ ap (λ (o : Output C (List ℕ) R ℕ (List ℕ)). record o { queue = o.queue ++ Replicate n req ∷ [] }) output) refl refl tt whole refl (ap (request_to own s (committed_id r.state) n) request))
+    seen (known ∙ same) (pushed ∙ ap (λ (o : Output C (List ℕ) R ℕ (List ℕ)). record o { queue = o.queue ++ Replicate n req ∷ [] }) output) refl refl tt (mine.0, mine.1, whole) refl (ap (request_to own s (committed_id r.state) n) request))
 
 -- how a peer of a leader is served
 pub served : (own n : ℕ) (news busy : Bool) (lead : Lead) (role : Role) (entry : ProgressEntry ℕ) (r : StepResult) → role ≡ Leader lead → peer_of lead n ≡ peer_state n entry

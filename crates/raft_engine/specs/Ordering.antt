@@ -61,14 +61,14 @@ module _ {C R : Type 0} where
   AnswerRestsOn b (ToInitialize s) = ⊥
 
   -- what a command rests on: the vote in force, the log, the snapshot, and what is committed, at its place of the queue. Entries
-  -- stand behind the log, and a cut behind what is committed
+  -- stand behind the log, a cut behind what is committed, and a lead and its requests behind the vote that is the node's own and committed
   abbrev pub RestsOn : ℕ → Basis → Command C R → Type 0
   RestsOn own b BecomeLeader = (b.stored.vote.leader_id.node_id ≡ own) × (b.stored.vote.committed ≡ true)
   RestsOn own b QuitLeader = Unit {0}
   RestsOn own b (AppendInputEntries vote entries) = (b.stored.vote ≡ vote) × ArePlaced (end_place b.stored) entries
   RestsOn own b (ReplicateCommitted target vote matching committed) = (b.stored.vote ≡ vote) × (b.committed ≡ committed)
   RestsOn own b (Commit seq behind upto) = has_id_in_log b.stored upto ≡ true
-  RestsOn own b (Replicate target request) = IsStoredRequest b.stored request
+  RestsOn own b (Replicate target request) = (b.stored.vote.leader_id.node_id ≡ own) × (b.stored.vote.committed ≡ true) × IsStoredRequest b.stored request
   RestsOn own b (RebuildReplicationStreams targets) = Unit {0}
   RestsOn own b (SaveVote vote) = Unit {0}
   RestsOn own b (SendVote target request) = (b.stored.vote ≡ request.vote) × (last_id b.stored ≡ request.last_log_id)

@@ -1,5 +1,6 @@
 //! Snapshots that the node builds.
-ghost use Rattle.std.specs.Prelude.{◌≡◌, ◌∷◌, [], ℕ, OnOk, IfOk, Ok, true, false, Some, None};
+ghost use Rattle.std.specs.Prelude.{◌≡◌, ◌∷◌, [], ℕ, OnOk, IfOk, Ok, Err, true, false, Some, None};
+ghost use Rattle.std.specs.Result.{is_ok};
 ghost use Rattle.raft_values.specs.LogId.{stands_before};
 ghost use Rattle.raft_group_step.specs.StoredGroup.{Snapshot};
 ghost use Rattle.raft_group_step.specs.GroupState.{GroupState};
@@ -8,10 +9,12 @@ ghost use Rattle.raft_group_step.specs.declared.group_call.GroupCall.TheVariants
 ghost use Rattle.raft_group_step.specs.Refusal.{refusal_of};
 ghost use Rattle.raft_known_state.specs.KnownState.{meta_of};
 ghost use Rattle.raft_engine.specs.Building.{IsSnapshotOfApplied, asking, covered_id, is_building, with_building};
+ghost use Rattle.raft_engine.specs.declared.error.CallError.TheVariants.{NotBuilding as IsNotBuilding};
 ghost use Rattle.raft_engine.specs.Events.{HasTaken, IsReady, MayTake};
 ghost use Rattle.raft_engine.specs.Standing.{IsStateOf};
 
 use crate::engine::Engine;
+use crate::error::CallError;
 use crate::leader_handler::count_by;
 use raft_commands::RaftTypeConfig;
 use raft_state::{BasicNode, Bytes, SnapshotMeta};
@@ -39,24 +42,32 @@ impl<C: RaftTypeConfig<NodeId = u64, Node = BasicNode, D = Bytes>> Engine<C> {
     }
 
     /// The snapshot that was asked for is built, and is the node's last one from now on (openraft).
-    /// One that doesn't go past the last one is ignored.
+    /// One that doesn't go past the last one is ignored. One that nobody asked for is refused, and
+    /// the engine stays as it is (own): no command that is queued stores it.
     pub fn finish_building_snapshot(
         &mut self,
         meta: SnapshotMeta<u64, BasicNode>,
-    ) -> Result<(), AllocError>
+    ) -> Result<Result<(), CallError>, AllocError>
+        ensures which { IfOk result (λ answer. is_ok answer ≡ is_building self.old) }
+        ensures unasked { is_building self.old ≡ false → (result ≡ Ok (Err IsNotBuilding)) × (self.new ≡ self.old) }
         ensures built { (own at : ℕ) (before : _) (s : GroupState) (x : Snapshot) → self.old ≡ asking before → before.output.queue ≡ [] → IsStateOf own self.old s → IsReady own s
             → refusal_of own s (Call TriggerSnapshot at) ≡ None → meta ≡ meta_of (Some x) → IsSnapshotOfApplied s x
             → OnOk result (HasTaken x own before self.new s (Call TriggerSnapshot at)) }
-        ensures ignored { stands_before (covered_id self.old) meta.last_log_id ≡ false → (result ≡ Ok tt) × (self.new ≡ with_building false self.old) }
+        ensures ignored { is_building self.old ≡ true → stands_before (covered_id self.old) meta.last_log_id ≡ false
+            → (result ≡ Ok (Ok tt)) × (self.new ≡ with_building false self.old) }
     {
+        if !self.state.state.io_state.building_snapshot() {
+            return Ok(Err(CallError::NotBuilding));
+        }
         self.state.state.io_state.set_building_snapshot(false);
         let before = self.state.state.committed;
         let is_updated = self.snapshot_handler().update_snapshot(meta)?;
         if !is_updated {
-            return Ok(());
+            return Ok(Ok(()));
         }
         let membership = self.state.effective_membership();
         count_by(self.alloc, &mut self.leader, membership)?;
-        self.finish(before)
+        self.finish(before)?;
+        Ok(Ok(()))
     }
 }

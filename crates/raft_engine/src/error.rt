@@ -18,6 +18,9 @@ pub enum CallError {
     /// The node doesn't stand for election.
     #[error("the node doesn't stand for election")]
     NotStanding,
+    /// No snapshot is being built: none was asked for in this event.
+    #[error("no snapshot is being built")]
+    NotBuilding,
     /// The config asks for another number than the rules of a group have.
     #[error("the config asks for another number than the rules have")]
     OtherConfig,

@@ -94,7 +94,7 @@ impl GroupNode {
             committed: engine.state.state.committed,
         };
         let sent = messages(alloc, &sender, &engine.output, &mut self.stored, ONLY_GROUP)?;
-        engine.output.clear();
+        engine.end_event();
         Ok(sent)
     }
 

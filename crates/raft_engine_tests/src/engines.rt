@@ -98,12 +98,13 @@ fn had_stopped(alloc: Global) -> Result<KnownState<u64, BasicNode>, AllocError> 
     Ok(known)
 }
 
-/// The engine of a node that begins so: with a `new` group, after it `had-led` or `had-stopped`, or
-/// with nothing known.
+/// The engine of a node that begins so: with a `new` group, after it `had-led` or `had-stopped`,
+/// `opened` after it had led, or with nothing known.
 pub fn begin(alloc: Global, how: &str, id: u64) -> Result<NumberedEngine, AllocError> {
     match how {
         "new-group" => Engine::for_new_group(alloc, id),
         "had-stopped" => Ok(Engine::of_node(alloc, had_stopped(alloc)?, id)),
+        "opened" => Engine::open(alloc, had_led(alloc)?, id),
         "had-led" => Ok(Engine::of_node(alloc, had_led(alloc)?, id)),
         _ => Ok(Engine::of_node(alloc, nothing_known(alloc)?, id)),
     }

@@ -52,6 +52,16 @@ fn forgets(engine: &mut NumberedEngine) -> bool {
     true
 }
 
+fn notes(engine: &mut NumberedEngine) -> bool {
+    engine.set_greater_log();
+    true
+}
+
+fn ends(engine: &mut NumberedEngine) -> bool {
+    engine.end_event();
+    true
+}
+
 // ---- messages
 
 // Node 2 grants the vote of term 1.
@@ -119,6 +129,8 @@ fn is_done(engine: &mut NumberedEngine, name: &str) -> Option<bool> {
         "purge" => tries_to_purge(engine),
         "step-down" => steps_down(engine),
         "forget-greater-log" => forgets(engine),
+        "note-greater-log" => notes(engine),
+        "end" => ends(engine),
         "be-granted-by-2" => is_granted(engine),
         "be-refused-by-3" => is_refused(engine, None),
         "be-accepted-by-2" => is_accepted(engine),
@@ -198,21 +210,32 @@ fn told_of_gap(engine: &mut NumberedEngine, mut req: Request) -> Option<Result<(
     engine.handle_append_entries(req, accepted(), 6).ok()
 }
 
-/// The answer to a row about a call that may be refused.
+fn refused_change(engine: &mut NumberedEngine, alloc: Global) -> Option<Answer> {
+    let learners = members(alloc, &[1], &[1, 2]).ok()?;
+    Some(Answer::shown(alloc, &told_of_members(engine, learners)))
+}
+
+fn refused_gap(engine: &mut NumberedEngine, alloc: Global) -> Option<Answer> {
+    let req = first_request(alloc, members(alloc, &[1, 3], &[1, 3]).ok()?).ok()?;
+    Some(Answer::shown(alloc, &told_of_gap(engine, req)))
+}
+
+fn refused_snapshot(engine: &mut NumberedEngine, alloc: Global) -> Option<Answer> {
+    let members = members(alloc, &[1], &[1]).ok()?;
+    Some(Answer::shown(alloc, &told_of_snapshot(engine, members)))
+}
+
+/// The answer to a row about a call that may be refused. What owns memory stands in a function of its
+/// own: a proof of all arms at once takes long.
 pub fn refused(engine: &mut NumberedEngine, alloc: Global, words: &[&str]) -> Option<Answer> {
     Some(match words {
         ["propose"] => Answer::shown(alloc, &told_of_command(engine, Bytes::new(alloc))),
-        ["change"] => {
-            let learners = members(alloc, &[1], &[1, 2]).ok()?;
-            Answer::shown(alloc, &told_of_members(engine, learners))
-        }
+        ["change"] => return refused_change(engine, alloc),
         ["beat"] => Answer::shown(alloc, &told_of_beat(engine)),
         ["lose-3"] => Answer::shown(alloc, &told_of_loss(engine)),
         ["config", entries] => Answer::shown(alloc, &told_of_config(alloc, number(entries))),
-        ["follow-with-gap"] => {
-            let req = first_request(alloc, members(alloc, &[1, 3], &[1, 3]).ok()?).ok()?;
-            Answer::shown(alloc, &told_of_gap(engine, req))
-        }
+        ["follow-with-gap"] => return refused_gap(engine, alloc),
+        ["built"] => return refused_snapshot(engine, alloc),
         _ => return None,
     })
 }
@@ -249,11 +272,18 @@ fn asks_for_snapshot(engine: &mut NumberedEngine) -> Option<bool> {
     engine.trigger_snapshot().ok()
 }
 
-// The snapshot of the first two entries is there.
+// What comes of it that the snapshot of the first two entries is there.
+fn told_of_snapshot(
+    engine: &mut NumberedEngine,
+    members: Members,
+) -> Option<Result<(), CallError>> {
+    let meta = snapshot_meta(log_id(1, 1), members);
+    engine.finish_building_snapshot(meta).ok()
+}
+
+// The snapshot is there.
 fn has_built(engine: &mut NumberedEngine, members: Members) -> bool {
-    engine
-        .finish_building_snapshot(snapshot_meta(log_id(1, 1), members))
-        .is_ok()
+    matches!(told_of_snapshot(engine, members), Some(Ok(())))
 }
 
 // A snapshot up to place 5 comes.

@@ -13,4 +13,5 @@ pub mod NameLemmas
 pub mod NamedLemmas
 pub mod RecoverableLemmas
 pub mod RoomLemmas
+pub mod RefusalLemmas
 pub mod TextLemmas

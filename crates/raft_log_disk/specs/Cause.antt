@@ -1,5 +1,5 @@
 -- Why a call is refused.
-use Rattle.std.specs.Prelude.{◌≡◌, ◌⊎◌, ℕ, ◌+◌, ◌-◌, ◌^◌, min, List, Option, Some, None, Result, Ok, Err, IsErr, IsErrOf, Bool, IsTrue, is_ok}
+use Rattle.std.specs.Prelude.{◌≡◌, ◌⊎◌, ℕ, ◌+◌, ◌-◌, ◌^◌, ◌≤◌, min, List, [], Option, Some, None, Result, Ok, Err, IsErr, IsErrOf, Bool, IsTrue, is_ok}
 use Rattle.raft_log_disk.specs.declared.fault.IoFault.{IoFault}
 use Rattle.raft_log_disk.specs.declared.fault.IoFault.TheVariants.{NotFound, NoSpace, Refused, Memory}
 
@@ -66,3 +66,33 @@ UnlessRefused (Err Refused) P = Unit {0}
 UnlessRefused (Err NotFound) P = P
 UnlessRefused (Err NoSpace) P = P
 UnlessRefused (Err Memory) P = P
+
+-- ---- where nothing refuses
+
+-- nothing is set to refuse a call: no fuse, no path whose reads are refused, no faults of the file system's own, and no bound
+-- on the bytes of a directory
+pub record NothingRefuses (bounded : Type 0) (meter : Meter) : Type 0 where
+  pub fuse : meter.calls_left ≡ None
+  pub reads : meter.unreadable ≡ []
+  pub sound : IsTrue meter.is_faulty → ⊥
+  pub room : bounded → ⊥
+
+-- the count of refusals rose by so many at least, or stands at its end
+abbrev pub Rises : ℕ → Meter → Meter → Type 0
+Rises n old new = min (old.refusals + n) (2 ^ 64 - 1) ≤ new.refusals
+
+-- after some calls no more is set to refuse than before, and the count of refusals didn't fall
+pub record RefusesNoMore (bounded bounded_then : Type 0) (old new : Meter) : Type 0 where
+  pub fuse : old.calls_left ≡ None → new.calls_left ≡ None
+  pub reads : new.unreadable ≡ old.unreadable
+  pub sound : new.is_faulty ≡ old.is_faulty
+  pub room : bounded_then → bounded
+  pub counts : Rises 0 old new
+
+-- a call is taken unless memory is missing, what it names isn't there, or what it asks for can't be
+abbrev pub IsTaken : {T : Type 0} → Type 0 → Type 0 → Result T IoFault → Type 0
+IsTaken absent barred (Ok x) = Unit {0}
+IsTaken absent barred (Err NotFound) = absent
+IsTaken absent barred (Err NoSpace) = barred
+IsTaken absent barred (Err Refused) = barred
+IsTaken absent barred (Err Memory) = Unit {0}

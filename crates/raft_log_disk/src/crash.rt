@@ -47,7 +47,8 @@ pub trait CrashFiles: FileSystem {
         ensures calls { (Self.FileSystem.meter self.new).calls_left ≡ option_map (λ n. n - 1) first_refused }
         ensures refusals { (Self.FileSystem.meter self.new).refusals ≡ (Self.FileSystem.meter self.old).refusals }
         ensures reads { (Self.FileSystem.meter self.new).unreadable ≡ (Self.FileSystem.meter self.old).unreadable }
-        ensures faulty { (Self.FileSystem.meter self.new).is_faulty ≡ (Self.FileSystem.meter self.old).is_faulty };
+        ensures faulty { (Self.FileSystem.meter self.new).is_faulty ≡ (Self.FileSystem.meter self.old).is_faulty }
+        ensures bound { Self.FileSystem.is_bounded self.new → Self.FileSystem.is_bounded self.old };
 
     /// Refuses the reads of the files of these paths, and of no others.
     fn refuse_reads(&mut self, paths: Vec<String>)
@@ -55,7 +56,8 @@ pub trait CrashFiles: FileSystem {
         ensures calls { (Self.FileSystem.meter self.new).calls_left ≡ (Self.FileSystem.meter self.old).calls_left }
         ensures refusals { (Self.FileSystem.meter self.new).refusals ≡ (Self.FileSystem.meter self.old).refusals }
         ensures reads { (Self.FileSystem.meter self.new).unreadable ≡ map string_bytes paths.items }
-        ensures faulty { (Self.FileSystem.meter self.new).is_faulty ≡ (Self.FileSystem.meter self.old).is_faulty };
+        ensures faulty { (Self.FileSystem.meter self.new).is_faulty ≡ (Self.FileSystem.meter self.old).is_faulty }
+        ensures bound { Self.FileSystem.is_bounded self.new → Self.FileSystem.is_bounded self.old };
 
     /// Leaves what the choice says, which is the file system from then on, with nothing unsynced.
     /// Files keep their numbers, and the fuse stays as it is.
@@ -69,7 +71,8 @@ pub trait CrashFiles: FileSystem {
         ensures by_chance { result ≡ Err ByChance → IsGenuineImage (Self.FileSystem.disk self.old) (image_of choice.now (Self.FileSystem.disk self.old).names (Self.FileSystem.disk self.old).file)
             → ⊥ }
         ensures err { OnErr result (Self.FileSystem.disk self.new ≡ Self.FileSystem.disk self.old) }
-        ensures meter { Self.FileSystem.meter self.new ≡ Self.FileSystem.meter self.old };
+        ensures meter { Self.FileSystem.meter self.new ≡ Self.FileSystem.meter self.old }
+        ensures bound { Self.FileSystem.is_bounded self.new → Self.FileSystem.is_bounded self.old };
 
     /// Tells which refusal `crash` would answer, and changes nothing.
     fn may_crash(&self, choice: &CrashChoice) -> Result<(), CrashRefusal>

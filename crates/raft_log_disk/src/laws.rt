@@ -1,9 +1,11 @@
 //! Laws of every file system, and of every disk.
 
-ghost use Rattle.std.specs.Prelude.{◌≡◌, ◌++◌, ◌∷◌, ℕ, List, Ok, take};
+ghost use Rattle.std.specs.Prelude.{◌≡◌, ◌≤◌, ◌^◌, ◌++◌, ◌∷◌, ℕ, List, Ok, Result, take};
+ghost use Rattle.raft_log_disk.specs.Cause.{HasCause, IsOneCall, IsTaken, Meter, NothingRefuses};
 ghost use Rattle.raft_log_disk.specs.declared.crash.CrashChoice.TheVariants.{Least, Most};
+ghost use Rattle.raft_log_disk.specs.declared.fault.IoFault.{IoFault};
 ghost use Rattle.raft_log_disk.specs.declared.format.LogFileFormat.{LogFileFormat};
-ghost use Rattle.raft_log_disk.specs.Disk.{Disk, AreBytes, IsIn, IsFile, IsNamed, IsNoFile, listed, with_file, after_sync};
+ghost use Rattle.raft_log_disk.specs.Disk.{Disk, AreBytes, IsIn, IsFile, IsNamed, IsNoFile, LacksRoom, listed, with_file, after_sync};
 ghost use Rattle.raft_log_disk.specs.Format.{IsSpellable, header_at, header_len, spelled_header};
 ghost use Rattle.raft_log_disk.specs.Image.{Image, IsImage, IsImageOf};
 
@@ -24,6 +26,16 @@ pub fn synced_file_is_left_as_read()
     ensures { (d : Disk) (fd : ℕ) (image : Image) → (IsNoFile d fd → ⊥) →
         IsImage (with_file d fd (after_sync (d.file fd))) image → image fd ≡ (d.file fd).bytes }
 {}
+
+/// Where nothing is set to refuse, a write and an allocation are refused only for want of memory,
+/// for a file that isn't there, or for one that would reach 2^64 bytes.
+pub fn writes_are_taken<F: FileSystem>(files: &F)
+    ensures { (d : Disk) (fd most bytes : ℕ) (new : Meter) (result : Result (Unit {0}) IoFault) → NothingRefuses (F.is_bounded files.now) (F.meter files.now) → bytes ≤ most
+        → HasCause (IsNoFile d fd) (LacksRoom (F.room files.now) d fd bytes) (F.meter files.now) new result → IsOneCall (2 ^ 64 ≤ most) (F.meter files.now) new result
+        → IsTaken (IsNoFile d fd) (2 ^ 64 ≤ most) result }
+{
+    let _ = files;
+}
 
 /// What `list` names is a file: until a call deletes or renames it, `open` finds it.
 pub fn listed_files_are_there()

@@ -24,7 +24,7 @@ pub use fault::{Fd, IoFault, Permission};
 pub use format::{HeaderFault, LogFileFormat};
 pub use laws::{
     headers_are_read_as_written, least_and_most_are_images, listed_files_are_there,
-    synced_file_is_left_as_read,
+    synced_file_is_left_as_read, writes_are_taken,
 };
 pub use memory::MemoryFileSystem;
 pub use system::FileSystem;

@@ -28,13 +28,15 @@ pub struct MemoryFileSystem {
 }
 
 impl MemoryFileSystem {
-    ghost use Rattle.raft_log_disk.specs.MemorySystem.{disk_in, meter_in, room_in, used_in, empty_disk, full_meter};
+    ghost use Rattle.raft_log_disk.specs.Cause.{NothingRefuses};
+    ghost use Rattle.raft_log_disk.specs.MemorySystem.{disk_in, meter_in, room_in, is_bounded_in, used_in, empty_disk, full_meter};
 
     /// No directories and no files, without bounds. No call is refused.
     pub fn new(alloc: Global) -> MemoryFileSystem
         ensures disk { disk_in result ≡ empty_disk }
         ensures meter { meter_in result ≡ full_meter }
         ensures room { (directory : List ℕ) → room_in result directory ≡ 2 ^ 64 - 1 }
+        ensures free { NothingRefuses (is_bounded_in result) (meter_in result) }
     {
         MemoryFileSystem {
             alloc,

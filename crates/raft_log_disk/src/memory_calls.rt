@@ -9,7 +9,7 @@ use std::alloc::Global;
 impl FileSystem for MemoryFileSystem {
     ghost use Rattle.std.specs.Prelude.{◌≡◌};
     ghost use Rattle.raft_log_disk.specs.Cause.{HasCause, IsOneCall};
-    ghost use Rattle.raft_log_disk.specs.MemorySystem.{disk_in, meter_in, room_in, memory_is_named};
+    ghost use Rattle.raft_log_disk.specs.MemorySystem.{disk_in, meter_in, room_in, is_bounded_in, memory_has_room, memory_is_named};
     ghost use Rattle.raft_log_disk.specs.MemoryImages.{memory_images};
 
     ghost disk = { disk_in };
@@ -20,7 +20,11 @@ impl FileSystem for MemoryFileSystem {
 
     ghost has_metadata = { λ _ _. ⊥ };
 
+    ghost is_bounded = { is_bounded_in };
+
     ghost is_named = { memory_is_named };
+
+    ghost has_room = { memory_has_room };
 
     ghost has_images = { memory_images };
 
@@ -87,6 +91,7 @@ impl FileSystem for MemoryFileSystem {
         ensures kept { disk_in self.new ≡ disk_in self.old }
         ensures cause { HasCause ⊥ ⊥ (meter_in self.old) (meter_in self.new) result }
         ensures call { IsOneCall ⊥ (meter_in self.old) (meter_in self.new) result }
+        ensures bound { is_bounded_in self.new → is_bounded_in self.old }
     {
         let _ = path;
         if self.fuse.spend() {

@@ -21,7 +21,8 @@ use std::alloc::Global;
 /// `NotFound` the files are as before. A call that lacks room is never `Ok`.
 ///
 /// Where what a call names is there, room is enough, no fuse is blown and the file system isn't
-/// faulty, the call is `Ok` or `Memory`: each fault but `Memory` has its cause.
+/// faulty, the call is `Ok` or `Memory`: each fault but `Memory` has its cause. Where nothing is set
+/// to refuse (`NothingRefuses`) it stays so, whatever is called.
 pub trait FileSystem: Send + Sync {
     /// What reads see, and what a crash may leave.
     ghost disk: { Self → Disk };
@@ -35,6 +36,9 @@ pub trait FileSystem: Send + Sync {
     /// That something is kept beside the file of a path.
     ghost has_metadata: { Self → List ℕ → Type 0 };
 
+    /// That the bytes of some directory are bounded.
+    ghost is_bounded: { Self → Type 0 };
+
     /// Makes an empty file, and opens it for writing. `NotFound`: its directory was not made.
     /// `Refused` too: no number is left, or the path is a directory.
     fn create(&mut self, path: &str) -> Result<Fd, IoFault>
@@ -43,14 +47,16 @@ pub trait FileSystem: Send + Sync {
         ensures err { OnErr result ((disk self.new ≡ disk self.old) ⊎ (disk self.new ≡ after_create (disk self.old) path.now)) }
         ensures unchanged { UnlessRefused result (disk self.new ≡ disk self.old) }
         ensures cause { HasCause (HasDirectory (disk self.old).directories path.now → ⊥) ⊥ (meter self.old) (meter self.new) result }
-        ensures call { IsOneCall (IsNoNewFile (disk self.old) path.now) (meter self.old) (meter self.new) result };
+        ensures call { IsOneCall (IsNoNewFile (disk self.old) path.now) (meter self.old) (meter self.new) result }
+        ensures bound { is_bounded self.new → is_bounded self.old };
 
     /// The file of a path. `NotFound`: there is none.
     fn open(&mut self, path: &str, permission: Permission) -> Result<Fd, IoFault>
         ensures ok { IfOk result (λ fd. fd_of (disk self.old).names path.now ≡ Some fd.0) }
         ensures kept { disk self.new ≡ disk self.old }
         ensures cause { HasCause (fd_of (disk self.old).names path.now ≡ None) ⊥ (meter self.old) (meter self.new) result }
-        ensures call { IsOneCall ⊥ (meter self.old) (meter self.new) result };
+        ensures call { IsOneCall ⊥ (meter self.old) (meter self.new) result }
+        ensures bound { is_bounded self.new → is_bounded self.old };
 
     /// Removes a file. `NotFound`: there is none.
     fn delete(&mut self, path: &str) -> Result<(), IoFault>
@@ -58,7 +64,8 @@ pub trait FileSystem: Send + Sync {
         ensures err { OnErr result ((disk self.new ≡ disk self.old) ⊎ Deletes (disk self.old) (disk self.new) path.now) }
         ensures unchanged { UnlessRefused result (disk self.new ≡ disk self.old) }
         ensures cause { HasCause (fd_of (disk self.old).names path.now ≡ None) ⊥ (meter self.old) (meter self.new) result }
-        ensures call { IsOneCall ⊥ (meter self.old) (meter self.new) result };
+        ensures call { IsOneCall ⊥ (meter self.old) (meter self.new) result }
+        ensures bound { is_bounded self.new → is_bounded self.old };
 
     /// Gives a file another path. `NotFound`: there is no such file, or the directory of the new
     /// path was not made. `Refused` too: the new path is a directory.
@@ -68,7 +75,8 @@ pub trait FileSystem: Send + Sync {
         ensures err { OnErr result ((disk self.new ≡ disk self.old) ⊎ Renames (disk self.old) (disk self.new) from.now to.now) }
         ensures unchanged { UnlessRefused result (disk self.new ≡ disk self.old) }
         ensures cause { HasCause (IsNoMove (disk self.old) from.now to.now) ⊥ (meter self.old) (meter self.new) result }
-        ensures call { IsOneCall (IsIn to.now (disk self.old).directories) (meter self.old) (meter self.new) result };
+        ensures call { IsOneCall (IsIn to.now (disk self.old).directories) (meter self.old) (meter self.new) result }
+        ensures bound { is_bounded self.new → is_bounded self.old };
 
     /// Gives an old file the path of a new one (raft-engine's `reuse`): by default a `rename`.
     fn reuse(&mut self, from: &str, to: &str) -> Result<(), IoFault>
@@ -78,6 +86,7 @@ pub trait FileSystem: Send + Sync {
         ensures unchanged { UnlessRefused result (disk self.new ≡ disk self.old) }
         ensures cause { HasCause (IsNoMove (disk self.old) from.now to.now) ⊥ (meter self.old) (meter self.new) result }
         ensures call { IsOneCall (IsIn to.now (disk self.old).directories) (meter self.old) (meter self.new) result }
+        ensures bound { is_bounded self.new → is_bounded self.old }
     {
         self.rename(from, to)
     }
@@ -96,6 +105,7 @@ pub trait FileSystem: Send + Sync {
         ensures why { IsErrOf result Refused → (spent (meter self.old).calls_left ≡ Some 0)
             ⊎ (IsTrue (meter self.old).is_faulty ⊎ IsIn to.now (disk self.old).directories) }
         ensures faulty { (meter self.new).is_faulty ≡ (meter self.old).is_faulty }
+        ensures bound { is_bounded self.new → is_bounded self.old }
     {
         match self.reuse(from, to) {
             Ok(_) => self.open(to, Permission::ReadWrite),
@@ -110,6 +120,7 @@ pub trait FileSystem: Send + Sync {
         ensures fewer { (other : List ℕ) → has_metadata self.new other → has_metadata self.old other }
         ensures cause { HasCause ⊥ ⊥ (meter self.old) (meter self.new) result }
         ensures call { IsPassedOver (meter self.old) (meter self.new) result ⊎ IsOneCall ⊥ (meter self.old) (meter self.new) result }
+        ensures bound { is_bounded self.new → is_bounded self.old }
     {
         let _ = path;
         Ok(())
@@ -121,7 +132,8 @@ pub trait FileSystem: Send + Sync {
         ensures dirs { (disk self.new ≡ disk self.old) ⊎ ((IsIn path.now (disk self.old).directories → ⊥) × (disk self.new ≡ after_make_dir (disk self.old) path.now)) }
         ensures unchanged { UnlessRefused result (OnErr result (disk self.new ≡ disk self.old)) }
         ensures cause { HasCause ⊥ ⊥ (meter self.old) (meter self.new) result }
-        ensures call { IsOneCall (IsFile (disk self.old) path.now) (meter self.old) (meter self.new) result };
+        ensures call { IsOneCall (IsFile (disk self.old) path.now) (meter self.old) (meter self.new) result }
+        ensures bound { is_bounded self.new → is_bounded self.old };
 
     /// Writes over what is there, and past the end. `NotFound`: no file has this number. `Refused`
     /// too: the file would reach 2^64 bytes.
@@ -133,7 +145,8 @@ pub trait FileSystem: Send + Sync {
         ensures unchanged { UnlessRefused result (disk self.new ≡ disk self.old) }
         ensures cause { HasCause (IsNoFile (disk self.old) fd.0) (LacksRoom (room self.old) (disk self.old) fd.0
             (at + length bytes.now - length ((disk self.old).file fd.0).bytes)) (meter self.old) (meter self.new) result }
-        ensures call { IsOneCall (2 ^ 64 ≤ at + length bytes.now) (meter self.old) (meter self.new) result };
+        ensures call { IsOneCall (2 ^ 64 ≤ at + length bytes.now) (meter self.old) (meter self.new) result }
+        ensures bound { is_bounded self.new → is_bounded self.old };
 
     /// Cuts a file to a length in bytes, or fills it up to it with zeros.
     fn truncate(&mut self, fd: Fd, len: u64) -> Result<(), IoFault>
@@ -143,7 +156,8 @@ pub trait FileSystem: Send + Sync {
         ensures unchanged { UnlessRefused result (disk self.new ≡ disk self.old) }
         ensures cause { HasCause (IsNoFile (disk self.old) fd.0) (LacksRoom (room self.old) (disk self.old) fd.0 (len - length
             ((disk self.old).file fd.0).bytes)) (meter self.old) (meter self.new) result }
-        ensures call { IsOneCall ⊥ (meter self.old) (meter self.new) result };
+        ensures call { IsOneCall ⊥ (meter self.old) (meter self.new) result }
+        ensures bound { is_bounded self.new → is_bounded self.old };
 
     /// Makes room for bytes from a place on: where the file ends before, zeros stand there.
     /// `NotFound` and `Refused` as of `write_at`.
@@ -155,14 +169,16 @@ pub trait FileSystem: Send + Sync {
         ensures unchanged { UnlessRefused result (disk self.new ≡ disk self.old) }
         ensures cause { HasCause (IsNoFile (disk self.old) fd.0) (LacksRoom (room self.old) (disk self.old) fd.0
             (at + len - length ((disk self.old).file fd.0).bytes)) (meter self.old) (meter self.new) result }
-        ensures call { IsOneCall (2 ^ 64 ≤ at + len) (meter self.old) (meter self.new) result };
+        ensures call { IsOneCall (2 ^ 64 ≤ at + len) (meter self.old) (meter self.new) result }
+        ensures bound { is_bounded self.new → is_bounded self.old };
 
     /// After it, a crash leaves of the file what a read gives.
     fn sync(&mut self, fd: Fd) -> Result<(), IoFault>
         ensures ok { OnOk result (disk self.new ≡ with_file (disk self.old) fd.0 (after_sync ((disk self.old).file fd.0))) }
         ensures err { OnErr result (disk self.new ≡ disk self.old) }
         ensures cause { HasCause (IsNoFile (disk self.old) fd.0) ⊥ (meter self.old) (meter self.new) result }
-        ensures call { IsOneCall ⊥ (meter self.old) (meter self.new) result };
+        ensures call { IsOneCall ⊥ (meter self.old) (meter self.new) result }
+        ensures bound { is_bounded self.new → is_bounded self.old };
 
     /// Whether something is kept beside the file of a path: told only where it is so, by default
     /// never.
@@ -204,6 +220,9 @@ pub trait FileSystem: Send + Sync {
 
     /// Each file has a path and a number of its own.
     ghost is_named: { (files : Self) → IsNamed (disk files) };
+
+    /// Where no directory is bounded, each has as many free bytes as a number can say.
+    ghost has_room: { (files : Self) → (is_bounded files → ⊥) → (directory : List ℕ) → room files directory ≡ 2 ^ 64 - 1 };
 
     /// A file system as it reads is one of its images. Another is what was synced, as far as the
     /// least length since.

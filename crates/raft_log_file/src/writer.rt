@@ -3,7 +3,7 @@
 ghost use Rattle.std.specs.Prelude.{◌≡◌, ◌⊎◌, ◌+◌, ◌-◌, ◌<◌, ◌≤◌, ◌^◌, ◌++◌, min, max, ℕ, List, [], length, take, IfOk, OnOk, OnErr, IsErrOf, IsTrue};
 ghost use Rattle.raft_log_disk.specs.declared.fault.IoFault.TheVariants.{NotFound, NoSpace, Refused};
 ghost use Rattle.raft_log_disk.specs.Disk.{Disk, IsNoFile, with_file, after_sync};
-ghost use Rattle.raft_log_disk.specs.Cause.{UnlessRefused};
+ghost use Rattle.raft_log_disk.specs.Cause.{IsTaken, NothingRefuses, RefusesNoMore, UnlessRefused};
 ghost use Rattle.raft_log_disk.specs.Format.{IsSpellable, header_len, spelled_header};
 ghost use Rattle.raft_log_file.specs.Writer.{IsWriter, IsReady, IsAppended, IsCut, IsOpened, IsClosed, IsCounted};
 
@@ -54,6 +54,7 @@ impl LogFileWriter {
         ensures writer { IsWriter self.new (F.disk files.new) }
         ensures same { (self.new.fd ≡ self.old.fd) × (self.new.offset ≡ self.old.offset) }
         ensures grown { end ≤ self.new.capacity }
+        ensures later { RefusesNoMore (F.is_bounded files.old) (F.is_bounded files.new) (F.meter files.old) (F.meter files.new) }
         ensures counts { ((F.meter files.new).refusals ≡ (F.meter files.old).refusals) ⊎ ((F.meter files.new).refusals ≡ min ((F.meter files.old).refusals + 1) (2 ^ 64 - 1)) }
     {
         if end <= self.capacity {
@@ -85,6 +86,9 @@ impl LogFileWriter {
         ensures unwritten { UnlessRefused result (IsReady self.old (F.disk files.old) (F.disk files.new) (min (self.old.offset + length bytes.now) (2 ^ 64 - 1)) target_size) }
         ensures counted { IsCounted (F.meter files.old) (F.meter files.new) result }
         ensures not_found { IsErrOf result NotFound → IsNoFile (F.disk files.old) self.old.fd.0 }
+        ensures later { RefusesNoMore (F.is_bounded files.old) (F.is_bounded files.new) (F.meter files.old) (F.meter files.new) }
+        ensures taken { NothingRefuses (F.is_bounded files.old) (F.meter files.old) → IsTaken (IsNoFile (F.disk files.old) self.old.fd.0) (2 ^ 64 ≤ self.old.offset + length bytes.now) result }
+        ensures space { (F.is_bounded files.old → ⊥) → IsErrOf result NoSpace → 2 ^ 64 ≤ self.old.offset + length bytes.now }
     {
         let end = self.offset.saturating_add(bytes.len() as u64);
         self.make_room(files, end, target_size);
@@ -100,6 +104,8 @@ impl LogFileWriter {
         ensures err { OnErr result (F.disk files.new ≡ F.disk files.old) }
         ensures counted { IsCounted (F.meter files.old) (F.meter files.new) result }
         ensures not_found { IsErrOf result NotFound → IsNoFile (F.disk files.old) self.now.fd.0 }
+        ensures later { RefusesNoMore (F.is_bounded files.old) (F.is_bounded files.new) (F.meter files.old) (F.meter files.new) }
+        ensures taken { NothingRefuses (F.is_bounded files.old) (F.meter files.old) → IsTaken (IsNoFile (F.disk files.old) self.now.fd.0) ⊥ result }
     {
         files.sync(self.fd)
     }
@@ -114,6 +120,8 @@ impl LogFileWriter {
         ensures no_refusal { OnOk result ((F.meter files.new).refusals ≡ (F.meter files.old).refusals) }
         ensures counted { IsCounted (F.meter files.old) (F.meter files.new) result }
         ensures not_found { IsErrOf result NotFound → IsNoFile (F.disk files.old) self.old.fd.0 }
+        ensures later { RefusesNoMore (F.is_bounded files.old) (F.is_bounded files.new) (F.meter files.old) (F.meter files.new) }
+        ensures taken { NothingRefuses (F.is_bounded files.old) (F.meter files.old) → IsTaken (IsNoFile (F.disk files.old) self.old.fd.0) ⊥ result }
     {
         if self.capacity <= self.offset {
             return Ok(());
@@ -132,6 +140,8 @@ impl LogFileWriter {
         ensures same { (self.new.fd ≡ self.old.fd) × (self.new.offset ≡ self.old.offset) }
         ensures counted { IsCounted (F.meter files.old) (F.meter files.new) result }
         ensures not_found { IsErrOf result NotFound → IsNoFile (F.disk files.old) self.old.fd.0 }
+        ensures later { RefusesNoMore (F.is_bounded files.old) (F.is_bounded files.new) (F.meter files.old) (F.meter files.new) }
+        ensures taken { NothingRefuses (F.is_bounded files.old) (F.meter files.old) → IsTaken (IsNoFile (F.disk files.old) self.old.fd.0) ⊥ result }
     {
         self.truncate(files)?;
         self.sync(files)
@@ -154,6 +164,9 @@ pub fn build_file_writer<F: FileSystem>(
     ensures file { IfOk result (λ w. w.fd ≡ fd) }
     ensures counted { IsCounted (F.meter files.old) (F.meter files.new) result }
     ensures not_found { IsErrOf result NotFound → IsNoFile (F.disk files.old) fd.0 }
+    ensures later { RefusesNoMore (F.is_bounded files.old) (F.is_bounded files.new) (F.meter files.old) (F.meter files.new) }
+    ensures taken { NothingRefuses (F.is_bounded files.old) (F.meter files.old) → IsTaken (IsNoFile (F.disk files.old) fd.0) ⊥ result }
+    ensures space { (F.is_bounded files.old → ⊥) → IsErrOf result NoSpace → ⊥ }
 {
     let size = files.file_size(fd)?;
     let mut writer = LogFileWriter {

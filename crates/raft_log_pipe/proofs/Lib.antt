@@ -9,3 +9,4 @@ pub mod PurgeLemmas
 pub mod ReadLemmas
 pub mod GiveUpLemmas
 pub mod AloneLemmas
+pub mod OthersLemmas

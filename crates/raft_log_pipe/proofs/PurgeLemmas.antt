@@ -87,7 +87,7 @@ not_step false e es path fd is (inl same) next none = let equal : same_text e.0 
 not_step false e es path fd is (inr there) next none = next there none
 
 -- what has a name is found
-is_found : (es : Names) (path : Text) (fd : ℕ) → IsIn (path, fd) es → fd_of es path ≡ None → ⊥
+pub is_found : (es : Names) (path : Text) (fd : ℕ) → IsIn (path, fd) es → fd_of es path ≡ None → ⊥
 is_found [] path fd there none = there
 is_found (e ∷ es) path fd there none = not_step (same_text e.0 path) e es path fd refl there (is_found es path fd) none
 

@@ -7,3 +7,4 @@ pub mod Appending
 pub mod Found
 pub mod Purging
 pub mod Alone
+pub mod Others

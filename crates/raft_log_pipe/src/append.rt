@@ -5,6 +5,7 @@ ghost use Rattle.raft_log_records.specs.Spelling.{AreItems};
 ghost use Rattle.raft_log_disk.specs.Cause.{UnlessRefused};
 ghost use Rattle.raft_log_file.specs.Writer.{IsWriter};
 ghost use Rattle.raft_log_pipe.specs.Alone.{IsAlone, IsNearlyAlone};
+ghost use Rattle.raft_log_pipe.specs.Others.{KeepsOthers};
 ghost use Rattle.raft_log_pipe.specs.Pipe.{IsPipe, IsPopulated, Holds, Leaves, Numbered};
 ghost use Rattle.raft_log_pipe.specs.Appending.{IsHandle, Appends, LeavesAppended, Stands};
 ghost use Rattle.raft_log_pipe.specs.Blocks.{KeepsFiles};
@@ -26,6 +27,7 @@ impl SinglePipe {
         ensures pipe { IsPipe self.new (F.disk files.new) }
         ensures same { (self.new.active ≡ self.old.active) × (self.new.older ≡ self.old.older) × (self.new.queue ≡ self.old.queue) }
         ensures paths { self.new.paths ≡ self.old.paths }
+        ensures others { KeepsOthers self.old.queue (F.disk files.old) (F.disk files.new) }
         ensures names { (F.disk files.new).names ≡ (F.disk files.old).names }
         ensures batch { (batch.new.items ≡ batch.old.items) × IsPopulated batch.new }
         ensures ok { IfOk result (λ h. IsHandle self.old batch.old.items h × ((synced : Numbered) (unsynced : Numbered) → Holds self.old (F.disk files.old) synced unsynced
@@ -58,6 +60,7 @@ impl SinglePipe {
         ensures writer { IsWriter self.new.writer (F.disk files.new) }
         ensures queue { self.new.queue ≡ self.old.queue }
         ensures paths { self.new.paths ≡ self.old.paths }
+        ensures others { KeepsOthers self.old.queue (F.disk files.old) (F.disk files.new) }
         ensures alone { OnOk result (IsAlone self.old (F.disk files.old) → IsAlone self.new (F.disk files.new)) }
         ensures nearly { OnErr result (IsAlone self.old (F.disk files.old) → IsNearlyAlone self.new (F.disk files.new)) }
         ensures files { OnOk result (KeepsFiles self.old self.new) }
@@ -86,6 +89,7 @@ impl SinglePipe {
         ensures writer { IsWriter self.new.writer (F.disk files.new) }
         ensures queue { self.new.queue ≡ self.old.queue }
         ensures paths { self.new.paths ≡ self.old.paths }
+        ensures others { KeepsOthers self.old.queue (F.disk files.old) (F.disk files.new) }
         ensures alone { OnOk result (IsAlone self.old (F.disk files.old) → IsAlone self.new (F.disk files.new)) }
         ensures nearly { OnErr result (IsAlone self.old (F.disk files.old) → IsNearlyAlone self.new (F.disk files.new)) }
         ensures batch { batch.new.items ≡ batch.old.items }
@@ -117,6 +121,7 @@ impl SinglePipe {
         ensures writer { IsWriter self.new.writer (F.disk files.new) }
         ensures queue { self.new.queue ≡ self.old.queue }
         ensures paths { self.new.paths ≡ self.old.paths }
+        ensures others { KeepsOthers self.old.queue (F.disk files.old) (F.disk files.new) }
         ensures alone { OnOk result (IsAlone self.old (F.disk files.old) → IsAlone self.new (F.disk files.new)) }
         ensures nearly { OnErr result (IsAlone self.old (F.disk files.old) → IsNearlyAlone self.new (F.disk files.new)) }
         ensures batch { batch.new.items ≡ batch.old.items }
@@ -145,6 +150,7 @@ impl SinglePipe {
         ensures writer { IsWriter self.new.writer (F.disk files.new) }
         ensures queue { self.new.queue ≡ self.old.queue }
         ensures paths { self.new.paths ≡ self.old.paths }
+        ensures others { KeepsOthers self.old.queue (F.disk files.old) (F.disk files.new) }
         ensures nearly { IsAlone self.old (F.disk files.old) → IsNearlyAlone self.new (F.disk files.new) }
         ensures leaves { (synced : Numbered) (unsynced : Numbered) → Holds self.old (F.disk files.old) synced unsynced → Leaves self.new (F.disk files.new) synced unsynced }
     {

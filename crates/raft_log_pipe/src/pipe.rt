@@ -1,6 +1,7 @@
 //! A pipe, and what it tells of its files.
 
 ghost use Rattle.std.specs.Prelude.{◌≡◌, ◌+◌, ◌-◌, ◌*◌, ◌/◌, ◌≤◌, ◌^◌, ◌++◌, [], min, length, OnOk, OnErr};
+ghost use Rattle.raft_log_pipe.specs.Others.{KeepsOthers};
 ghost use Rattle.raft_log_pipe.specs.Pipe.{IsPipe, Holds, Numbered, first_of};
 
 use crate::file::{File, Paths};
@@ -66,6 +67,7 @@ impl SinglePipe {
         ensures pipe { IsPipe self.new (F.disk files.new) }
         ensures same { (self.new.active ≡ self.old.active) × (self.new.older ≡ self.old.older) × (self.new.queue ≡ self.old.queue) }
         ensures paths { self.new.paths ≡ self.old.paths }
+        ensures others { KeepsOthers self.old.queue (F.disk files.old) (F.disk files.new) }
         ensures names { (F.disk files.new).names ≡ (F.disk files.old).names }
         ensures ok { OnOk result ((synced : Numbered) (unsynced : Numbered) → Holds self.old (F.disk files.old) synced unsynced → Holds self.new (F.disk files.new) (synced ++ unsynced) []) }
         ensures err { OnErr result ((synced : Numbered) (unsynced : Numbered) → Holds self.old (F.disk files.old) synced unsynced → Holds self.new (F.disk files.new) synced unsynced) }

@@ -3,6 +3,7 @@
 ghost use Rattle.std.specs.Prelude.{◌≡◌, ◌+◌, ◌-◌, ◌<◌, ◌++◌, ◌∷◌, [], IfOk, OnOk, OnErr};
 ghost use Rattle.raft_log_file.specs.Writer.{IsWriter};
 ghost use Rattle.raft_log_files.specs.FileName.{IsFileSeq};
+ghost use Rattle.raft_log_pipe.specs.Others.{KeepsOthers};
 ghost use Rattle.raft_log_pipe.specs.Pipe.{IsPipe, IsPlain, Holds, Leaves, Numbered};
 ghost use Rattle.raft_log_pipe.specs.Alone.{IsAlone, IsNearlyAlone};
 ghost use Rattle.raft_log_pipe.specs.Begun.{IsBegun};
@@ -40,6 +41,7 @@ impl SinglePipe {
         ensures pipe { IsPipe self.new (F.disk files.new) }
         ensures same { (self.new.active ≡ self.old.active) × (self.new.older ≡ self.old.older) × (self.new.queue ≡ self.old.queue) }
         ensures paths { self.new.paths ≡ self.old.paths }
+        ensures others { KeepsOthers self.old.queue (F.disk files.old) (F.disk files.new) }
         ensures names { (F.disk files.new).names ≡ (F.disk files.old).names }
         ensures ok { OnOk result ((synced : Numbered) (unsynced : Numbered) → Holds self.old (F.disk files.old) synced unsynced → Holds self.new (F.disk files.new) (synced ++ unsynced) []) }
         ensures err { OnErr result ((synced : Numbered) (unsynced : Numbered) → Holds self.old (F.disk files.old) synced unsynced → Leaves self.new (F.disk files.new) synced unsynced) }
@@ -55,6 +57,7 @@ impl SinglePipe {
         ensures number { OnOk result (IsFileSeq (self.old.active.seq + 1)) }
         ensures same { (self.new.active ≡ self.old.active) × (self.new.older ≡ self.old.older) × (self.new.queue ≡ self.old.queue) }
         ensures paths { self.new.paths ≡ self.old.paths }
+        ensures others { KeepsOthers self.old.queue (F.disk files.old) (F.disk files.new) }
         ensures names { (F.disk files.new).names ≡ (F.disk files.old).names }
         ensures ok { OnOk result ((synced : Numbered) (unsynced : Numbered) → Holds self.old (F.disk files.old) synced unsynced → Holds self.new (F.disk files.new) (synced ++ unsynced) []) }
         ensures err { OnErr result ((synced : Numbered) (unsynced : Numbered) → Holds self.old (F.disk files.old) synced unsynced → Leaves self.new (F.disk files.new) synced unsynced) }
@@ -74,6 +77,7 @@ impl SinglePipe {
         ensures next { OnOk result ((self.new.active.seq ≡ self.old.active.seq + 1) × (self.new.older.items ≡ self.old.older.items ++ self.old.active ∷ [])) }
         ensures queue { self.new.queue ≡ self.old.queue }
         ensures paths { self.new.paths ≡ self.old.paths }
+        ensures others { KeepsOthers self.old.queue (F.disk files.old) (F.disk files.new) }
         ensures alone { OnOk result (IsAlone self.old (F.disk files.old) → IsAlone self.new (F.disk files.new)) }
         ensures nearly { OnErr result (IsAlone self.old (F.disk files.old) → IsNearlyAlone self.new (F.disk files.new)) }
         ensures ok { OnOk result ((synced : Numbered) → Holds self.old (F.disk files.old) synced [] → Holds self.new (F.disk files.new) synced []) }
@@ -98,6 +102,7 @@ impl SinglePipe {
         ensures next { OnOk result ((self.new.active.seq ≡ self.old.active.seq + 1) × (self.new.older.items ≡ self.old.older.items ++ self.old.active ∷ [])) }
         ensures queue { self.new.queue ≡ self.old.queue }
         ensures paths { self.new.paths ≡ self.old.paths }
+        ensures others { KeepsOthers self.old.queue (F.disk files.old) (F.disk files.new) }
         ensures alone { OnOk result (IsAlone self.old (F.disk files.old) → IsAlone self.new (F.disk files.new)) }
         ensures nearly { OnErr result (IsAlone self.old (F.disk files.old) → IsNearlyAlone self.new (F.disk files.new)) }
         ensures ok { OnOk result ((synced : Numbered) (unsynced : Numbered) → Holds self.old (F.disk files.old) synced unsynced → Holds self.new (F.disk files.new) (synced ++ unsynced) []) }

@@ -42,6 +42,10 @@ fn fetch(log: &mut PlainLog, group: u64, begin: u64, end: u64) -> Result<Vec<Vec
     log.fetch_entries_to(group, begin, end)
 }
 
+fn groups(log: &mut PlainLog) -> Result<Vec<u64>, PlainFault> {
+    log.groups()
+}
+
 fn is_there(log: &mut PlainLog, group: u64) -> Result<bool, PlainFault> {
     log.is_there(group)
 }
@@ -65,6 +69,7 @@ pub fn logged(
                 &fetch(log, number(group), number(begin), number(end)),
             )
         }
+        ["log-groups"] => Answer::shown(alloc, &groups(log)),
         ["log-is-there", group] => Answer::shown(alloc, &is_there(log, number(group))),
         _ => return None,
     })

@@ -143,7 +143,8 @@ impl Member {
         let Some(snapshot) = built else {
             return Ok(Ended::Skipped);
         };
-        engine.finish_building_snapshot(meta_of(alloc, S::head(snapshot))?)?;
+        // (it was asked for just now)
+        let _answer = engine.finish_building_snapshot(meta_of(alloc, S::head(snapshot))?)?;
         self.end_taken(alloc, engine, Some(snapshot), moment, stop, storage, group)
     }
 

@@ -22,8 +22,7 @@ fn come_to_rest(engine: &mut Engine<ByteGroup>)
     ensures leader { engine.new.leader ≡ engine.old.leader }
     ensures idle { (own : ℕ) (s : GroupState) → IsStateOf own engine.old s → IsIdle own engine.new s }
 {
-    engine.output.clear();
-    engine.state.state.io_state.set_building_snapshot(false);
+    engine.end_event();
 }
 
 // The engine with nothing left to do.

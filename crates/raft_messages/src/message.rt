@@ -2,7 +2,8 @@
 use raft_group_step::{Entries, VoteRequest, VoteResponse};
 use raft_state::{BasicNode, Bytes, LogId, Vote};
 
-/// Which request a message or its reply is about (own).
+/// Which request a message or its reply is about (own). The kind of the message says the rest, so
+/// there are no two kinds of numbers, as in what an engine queues (openraft's `RequestId`).
 #[derive(Clone, Copy, Debug, PartialEq, Eq)]
 pub enum RequestId {
     /// A notice or heartbeat: the leader doesn't wait for its reply.

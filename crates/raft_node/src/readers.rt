@@ -1,9 +1,19 @@
 //! What a node tells of its groups. Where a group isn't there, and once the node has failed, there is
 //! nothing to tell.
-ghost use Rattle.std.specs.Prelude.{◌≡◌, None, false, true, option_map};
+ghost use Rattle.std.specs.Prelude.{◌≡◌, ◌<◌, ◌^◌, None, Some, false, true, is_some, option_and_then, option_map};
 ghost use Rattle.std.specs.Option.{option_copied};
-ghost use Rattle.raft_node.specs.Reading.{machine_in, place_in};
-ghost use Rattle.raft_node.specs.Standing.{applier_in, running_in};
+ghost use Rattle.std.specs.Ordering.{nat_cmp};
+ghost use Rattle.std.specs.BTreeMap.{get};
+ghost use Rattle.raft_known_state.specs.KnownState.{logged_as_effective};
+ghost use Rattle.raft_group_step.specs.StoredGroup.{end_place, last_id, membership_in_force, snapshot_last};
+ghost use Rattle.raft_group_step.specs.GroupState.{GroupState};
+ghost use Rattle.raft_group_step.specs.Refusal.{is_voter_in, known_leader};
+ghost use Rattle.raft_engine.specs.ServerStates.{part_in};
+ghost use Rattle.raft_engine.specs.Standing.{IsStateOf};
+ghost use Rattle.raft_laws.specs.GroupWorld.{Up};
+ghost use Rattle.raft_framed_groups.specs.Answers.{Stands};
+ghost use Rattle.raft_node.specs.Reading.{TellsOf, machine_in, next_entry_id, outstanding_to, place_in};
+ghost use Rattle.raft_node.specs.Standing.{applier_in, running_in, value_of};
 
 use crate::node::Node;
 use raft_applier::Applier;
@@ -12,7 +22,34 @@ use raft_group_storage::GroupStorage;
 use raft_machines::StateMachine;
 use raft_member::{ByteGroup, facts_of};
 use raft_messages::SnapshotBytes;
-use raft_state::{LogId, ServerState};
+use raft_state::{BasicNode, EffectiveMembership, LogId, LogStateReader, ServerState};
+
+// The part that the engine's node plays: as openraft's `calc_server_state`, of a lent engine.
+fn part_of(engine: &Engine<ByteGroup>) -> ServerState
+    ensures { (own : _) (s : GroupState) → IsStateOf own engine.now s → result ≡ part_in s.role (is_voter_in (membership_in_force s.stored) own) }
+{
+    if engine.leader.is_some() {
+        return ServerState::Leader;
+    }
+    if engine.candidate.is_some() {
+        return ServerState::Candidate;
+    }
+    if engine.state.state.is_voter(&engine.config.id) {
+        ServerState::Follower
+    } else {
+        ServerState::Learner
+    }
+}
+
+// Whether the engine's node leads and waits for the peer's answer.
+fn is_waiting(engine: &Engine<ByteGroup>, peer: u64) -> bool
+    ensures { (own : _) (s : GroupState) → IsStateOf own engine.now s → result ≡ is_some (outstanding_to peer s.role) }
+{
+    match &engine.leader {
+        Some(leader) => !leader.peer(&peer).inflight.is_none(),
+        None => false,
+    }
+}
 
 impl<M: StateMachine, S: GroupStorage<Snapshot = SnapshotBytes>> Node<M, S> {
     /// The node's id.
@@ -30,7 +67,11 @@ impl<M: StateMachine, S: GroupStorage<Snapshot = SnapshotBytes>> Node<M, S> {
     }
 
     // The engine of a group that is there, in a node that hasn't failed.
-    fn going_engine(&self, group: u64) -> Option<&Engine<ByteGroup>> {
+    fn going_engine(&self, group: u64) -> Option<&Engine<ByteGroup>>
+        ensures failed { self.now.groups.has_failed ≡ true → option_copied result ≡ None }
+        ensures going { self.now.groups.has_failed ≡ false
+            → option_copied result ≡ option_and_then (λ m. m.engine) (get nat_cmp self.now.groups.members group) }
+    {
         if self.groups.has_failed {
             return None;
         }
@@ -49,12 +90,17 @@ impl<M: StateMachine, S: GroupStorage<Snapshot = SnapshotBytes>> Node<M, S> {
     }
 
     /// What part the node plays in the group.
-    pub fn role(&self, group: u64) -> Option<ServerState> {
-        Some(self.going_engine(group)?.state.state.server_state)
+    pub fn role(&self, group: u64) -> Option<ServerState>
+        ensures { TellsOf (value_of M.state S.is_well S.shows self.now) group result
+            (λ s. Some (part_in s.role (is_voter_in (membership_in_force s.stored) self.now.groups.id))) }
+    {
+        Some(part_of(self.going_engine(group)?))
     }
 
     /// The group's leader, as far as this node knows: the node of its vote, once that is committed.
-    pub fn leader(&self, group: u64) -> Option<u64> {
+    pub fn leader(&self, group: u64) -> Option<u64>
+        ensures { TellsOf (value_of M.state S.is_well S.shows self.now) group result (λ s. known_leader s.stored.vote) }
+    {
         let vote = self.going_engine(group)?.state.state.vote.get();
         vote.committed.then_some(vote.leader_id.node_id)
     }
@@ -77,18 +123,81 @@ impl<M: StateMachine, S: GroupStorage<Snapshot = SnapshotBytes>> Node<M, S> {
     }
 
     /// The log id of the last entry of the group's log, purged or not.
-    pub fn last_log_id(&self, group: u64) -> Option<LogId<u64>> {
+    pub fn last_log_id(&self, group: u64) -> Option<LogId<u64>>
+        ensures { TellsOf (value_of M.state S.is_well S.shows self.now) group result (λ s. last_id s.stored) }
+    {
         self.going_engine(group)?.state.last_log_id()
     }
 
     /// The log id that the next entry of a group gets which the node leads.
-    pub fn next_log_id(&self, group: u64) -> Option<LogId<u64>> {
+    pub fn next_log_id(&self, group: u64) -> Option<LogId<u64>>
+        ensures failed { self.now.groups.has_failed ≡ true → result ≡ None }
+        ensures absent { get nat_cmp self.now.groups.members group ≡ None → result ≡ None }
+        ensures up { (s : GroupState) → self.now.groups.has_failed ≡ false
+            → Stands (value_of M.state S.is_well S.shows self.now).groups group (Up s) → end_place s.stored < 2 ^ 64 → result ≡ next_entry_id s }
+    {
         let engine = self.going_engine(group)?;
-        let _leader = engine.leader.as_ref()?;
-        let vote = engine.state.state.vote.get();
+        let facts = facts_of(self.groups.id, engine);
+        if !facts.is_leader {
+            return None;
+        }
         Some(LogId {
-            leader_id: vote.leader_id,
-            index: facts_of(self.groups.id, engine).end,
+            leader_id: facts.vote.leader_id,
+            index: facts.end,
         })
+    }
+
+    /// The membership in force with its addresses, lent, committed or not, with the log id of its
+    /// entry (own); none where no entry has one.
+    pub fn membership(&self, group: u64) -> Option<&EffectiveMembership<u64, BasicNode>>
+        ensures { TellsOf (value_of M.state S.is_well S.shows self.now) group (option_copied result)
+            (λ s. option_map logged_as_effective (membership_in_force s.stored)) }
+    {
+        self.going_engine(group)?.state.membership()
+    }
+
+    /// The moment, in ticks, at which the group's vote was stored or last renewed since the opening:
+    /// by an own election, a granted vote, or a leader that was heard of (own).
+    pub fn renewed(&self, group: u64) -> Option<u64>
+        ensures { TellsOf (value_of M.state S.is_well S.shows self.now) group result (λ s. s.renewed) }
+    {
+        self.going_engine(group)?.state.state.vote.utime()
+    }
+
+    /// The last log id that the group's snapshot covers (own).
+    pub fn snapshot_last(&self, group: u64) -> Option<LogId<u64>>
+        ensures { TellsOf (value_of M.state S.is_well S.shows self.now) group result (λ s. snapshot_last s.stored) }
+    {
+        self.going_engine(group)?
+            .state
+            .state
+            .snapshot_meta
+            .last_log_id
+    }
+
+    /// The last log id that is purged of the group's log (own).
+    pub fn last_purged_log_id(&self, group: u64) -> Option<LogId<u64>>
+        ensures { TellsOf (value_of M.state S.is_well S.shows self.now) group result (λ s. s.stored.purged) }
+    {
+        self.going_engine(group)?
+            .state
+            .state
+            .last_purged_log_id()
+            .copied()
+    }
+
+    /// Whether the node leads the group and waits for the peer's answer to a request (own). What is
+    /// lost of it, `lost` tells the node.
+    pub fn is_waiting_for(&self, group: u64, peer: u64) -> bool
+        ensures failed { self.now.groups.has_failed ≡ true → result ≡ false }
+        ensures absent { get nat_cmp self.now.groups.members group ≡ None → result ≡ false }
+        ensures up { (s : GroupState) → self.now.groups.has_failed ≡ false
+            → Stands (value_of M.state S.is_well S.shows self.now).groups group (Up s)
+            → result ≡ is_some (outstanding_to peer s.role) }
+    {
+        match self.going_engine(group) {
+            Some(engine) => is_waiting(engine, peer),
+            None => false,
+        }
     }
 }

@@ -17,7 +17,7 @@ pub enum Cause<F> {
     Unjudged,
     /// The storage failed.
     Storage(F),
-    /// What the event sends has no frame: a machine's snapshot is past its limit.
+    /// What the event sends has no frame, as where a machine's snapshot is past its limit.
     Frame(FrameError),
 }
 

@@ -25,6 +25,7 @@ pub fn run_on_files<M: StateMachine>(
     events: Vec<ClusterEvent>,
 ) -> usize
     ensures within { result ≤ vec_len events }
+    ensures runs { Runs ⟦<FileNode<M> as ClusterNode>⟧.acts cluster.old (take result events.items) cluster.new }
     ensures headline { HasHeadline M.rules ⟦<FileNode<M> as ClusterNode>⟧.acts ⟦<FileNode<M> as ClusterNode>⟧.states cluster.new.nodes (frames_of cluster.new.sent) cluster.new.history }
 {
     nodes_on_files_keep_the_law::<M>();

@@ -6,7 +6,8 @@
 //! - `comment N SCRIPT`: `nodes 1|`, then N times `#`, then the script;
 //! - `pieces N READ ROOM SCRIPT`: the reader and the writer take N bytes at a time and are
 //!   interrupted before each; the reader fails behind READ bytes and the writer without ROOM;
-//! - `flushes N SCRIPT`: the reader gives N bytes at a time, and each flush is written as `~`;
+//! - `flushes N READ SCRIPT`: the reader gives N bytes at a time and fails behind READ bytes, and
+//!   each flush is written as `~`: an answer is flushed before more is read;
 //! - `reads N LENGTH`: `nodes 1|` and a comment of so many bytes, by a reader that gives N bytes at
 //!   a time: how many were asked for at most, and how many were given;
 //! - `events EVENT|EVENT|..`: events that a cluster runs at once, without a script;
@@ -87,9 +88,10 @@ fn run_in_pieces(rt: &HostRuntime, row: Row<'_>, words: &str) -> io::Result<()> 
 }
 
 fn run_flushed(rt: &HostRuntime, row: Row<'_>, words: &str) -> io::Result<()> {
-    let (piece, text) = number_of(words);
+    let (piece, rest) = number_of(words);
+    let (read, text) = number_of(rest);
     let script = bytes_of(rt.alloc(), text)?;
-    let mut reader = Piecewise::new(script.as_slice(), piece, usize::MAX);
+    let mut reader = Piecewise::new(script.as_slice(), piece, read);
     let mut writer = Flushed::new(rt.alloc());
     let end = run_by(rt.alloc(), row.counts, &mut reader, &mut writer);
     print_end(rt, row, end, writer.written())

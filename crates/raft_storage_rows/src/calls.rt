@@ -117,6 +117,11 @@ fn count_to<S: GroupStorage>(
     Some(copies.len())
 }
 
+// The ids of the groups.
+fn ids<S: GroupStorage>(storage: &mut S, alloc: Global) -> Option<Vec<u64>> {
+    storage.groups(alloc).ok()
+}
+
 fn answered<S: GroupStorage<Snapshot = GroupSnapshot>>(
     storage: &mut S,
     alloc: Global,
@@ -139,12 +144,11 @@ fn answered<S: GroupStorage<Snapshot = GroupSnapshot>>(
 
 impl Rows for Storages {
     fn answer(&mut self, alloc: Global, words: &[&str]) -> Option<Answer> {
-        let [topic, words @ ..] = words else {
-            return None;
-        };
-        match *topic {
-            "many" => answered(&mut self.many, alloc, words),
-            "only" => answered(&mut self.only, alloc, words),
+        match words {
+            ["many", "groups"] => Some(Answer::shown(alloc, &ids(&mut self.many, alloc))),
+            ["only", "groups"] => Some(Answer::shown(alloc, &ids(&mut self.only, alloc))),
+            ["many", words @ ..] => answered(&mut self.many, alloc, words),
+            ["only", words @ ..] => answered(&mut self.only, alloc, words),
             _ => None,
         }
     }

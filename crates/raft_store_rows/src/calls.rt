@@ -56,6 +56,11 @@ pub fn stored<S: GroupStorage<Snapshot = SnapshotBytes>>(
     })
 }
 
+/// The ids of the groups.
+pub fn ids<S: GroupStorage>(storage: &mut S, alloc: Global) -> Result<Vec<u64>, S::Fault> {
+    storage.groups(alloc)
+}
+
 pub fn loaded<S: GroupStorage>(
     storage: &mut S,
     alloc: Global,

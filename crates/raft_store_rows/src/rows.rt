@@ -1,6 +1,6 @@
 //! Which call the words of a row name.
 
-use crate::calls::{between, covered, kept, loaded, stored};
+use crate::calls::{between, covered, ids, kept, loaded, stored};
 use raft_content_log::uses::put_key;
 use raft_content_log::{PlainFault, PlainLog};
 use raft_machines::AddingMachine;
@@ -58,6 +58,9 @@ impl Rows for Calls {
                 }
                 Err(_) => Answer::NoMemory,
             });
+        }
+        if let ["groups"] = *words {
+            return Some(Answer::shown(alloc, &ids(&mut self.store, alloc)));
         }
         let [group, words @ ..] = words else {
             return None;

@@ -92,6 +92,7 @@ fn print_engine(rt: &impl Print) -> io::Result<()> {
             CallError::LacksEntry,
             CallError::CutsCommitted,
             CallError::NotStanding,
+            CallError::NotBuilding,
             CallError::OtherConfig,
         ],
     )

@@ -51,6 +51,8 @@ fn print_clusters(rt: &impl Print) -> io::Result<()> {
             ClusterRefusal::NodeUp,
             ClusterRefusal::NoFrame,
             ClusterRefusal::SetupDiffers,
+            ClusterRefusal::ByChance,
+            ClusterRefusal::NotAnImage,
             ClusterRefusal::BadCut,
         ],
     )

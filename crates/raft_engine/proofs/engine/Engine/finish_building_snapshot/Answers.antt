@@ -1,5 +1,5 @@
 use Rattle.std.proofs.Common.{◌∙◌, [], ◌∷◌, ◌++◌, ap, refl, rules, subst, sym}
-use Rattle.std.proofs.lemmas.Result.{on_ok_weaker}
+use Rattle.std.proofs.Math.Bool.{true≢false}
 use Rattle.raft_group_step.specs.StoredGroup.{SetSnapshot, after_storing, membership_in_force}
 use Rattle.raft_group_step.specs.StepResult.{store}
 use Rattle.raft_group_step.specs.GroupStep.{begun}
@@ -12,6 +12,10 @@ use Rattle.raft_engine.specs.Standing.{Engine, IsStepOf, given}
 use Rattle.raft_engine.proofs.BuildingLemmas.{build_taken, builder_finishes, snapshot_stored, trigger_in_range}
 use Rattle.raft_engine.proofs.RoomLemmas.{can_finish_when_ready}
 use Rattle.raft_engine.proofs.engine.Engine.finish_building_snapshot.Goals as goal
+
+pub returns-then-not-building_snapshot-clause-built : goal.returns-then-not-building_snapshot-clause-built
+returns-then-not-building_snapshot-clause-built g c = λ own at before s x asked empty stands ready accepted meta built.
+    absurd (true≢false (sym (ap (λ (y : Engine _ _). y.state.state.io_state.building_snapshot) asked) ∙ sym c.building_snapshot.ensures ∙ c.if-not-building_snapshot.true))
 
 pub returns-clause-built : goal.returns-clause-built
 returns-clause-built g c = λ own at before s x asked empty stands ready accepted meta built.
@@ -38,6 +42,5 @@ returns-clause-built g c = λ own at before s x asked empty stands ready accepte
     let step = snapshot_stored s x built own at e (record lent { state = lent_back.state; leader = c.count_by.new.leader }) stands (given x before s) refl (ap (λ (y : Engine _ _). y.seen_greater_log) asked) numbers (ap (λ (y : Engine _ _). y.state.state.committed) asked) refl refl refl leader refl knows
     (record { vote = kept.vote; committed = kept.committed; wish = kept.wish }) seq queue in
     let can = builder_finishes s x built own at ready s.role (can_finish_when_ready own s (at ∷ []) ready (trigger_in_range own at s accepted)) in
-    on_ok_weaker c.finish.result
-    (build_taken s x built own at e c.finish.new.self stands (given x before s) accepted)
-    (c.finish.ensures.step (given x before s) own after (subst (λ e. IsStepOf (given x before s) own e after) (search rules) (subst (λ e. IsStepOf (given x before s) own (record e { leader = c.count_by.new.leader }) after) (sym same) step)) can)
+    build_taken s x built own at e c.finish.new.self stands (given x before s) accepted
+    (c.in_ok-finish.ensures.step (given x before s) own after (subst (λ e. IsStepOf (given x before s) own e after) (search rules) (subst (λ e. IsStepOf (given x before s) own (record e { leader = c.count_by.new.leader }) after) (sym same) step)) can)

@@ -4,6 +4,7 @@ use Rattle.raft_log_pipe.proofs.ExitLemmas.{again_err, again_ok, put_after, stil
 use Rattle.std.proofs.Common.{refl}
 use Rattle.raft_log_pipe.proofs.BlockLemmas.{after_files, same_files, stands_after, stands_ok, then_files}
 use Rattle.raft_log_pipe.proofs.AloneLemmas.{alone_on, err_after, nearly_on, ok_after}
+use Rattle.raft_log_pipe.proofs.OthersLemmas.{others_on}
 use Rattle.raft_log_pipe.proofs.pipe.SinglePipe.append.Goals as goal
 
 pub returns-in_err-make_room-clause-err : goal.returns-in_err-make_room-clause-err
@@ -64,3 +65,15 @@ returns-in-Err-NoSpace-clause-nearly g c =
 
 pub returns-in-Err-clause-nearly : goal.returns-in-Err-clause-nearly
 returns-in-Err-clause-nearly g c = λ alone. nearly_on c.make_room.new.self c.put.new.self (g.F.FileSystem.disk c.make_room.new.files) (g.F.FileSystem.disk c.put.new.files) c.in-Err.ensures.same c.in-Err.ensures.paths c.in-Err.ensures.names (c.in_ok-make_room.ensures.alone alone)
+
+pub returns-in-Ok-clause-others : goal.returns-in-Ok-clause-others
+returns-in-Ok-clause-others g c =
+    others_on c.args.self.now.queue c.make_room.new.self.queue (g.F.FileSystem.disk c.args.files.now) (g.F.FileSystem.disk c.make_room.new.files) (g.F.FileSystem.disk c.put.new.files) (c.in_ok-make_room.ensures.queue) (c.in_ok-make_room.ensures.others) (c.in-Ok.ensures.others)
+
+pub returns-in-Err-clause-others : goal.returns-in-Err-clause-others
+returns-in-Err-clause-others g c =
+    others_on c.args.self.now.queue c.make_room.new.self.queue (g.F.FileSystem.disk c.args.files.now) (g.F.FileSystem.disk c.make_room.new.files) (g.F.FileSystem.disk c.put.new.files) (c.in_ok-make_room.ensures.queue) (c.in_ok-make_room.ensures.others) (c.in-Err.ensures.others)
+
+pub returns-in-Err-NoSpace-clause-others : goal.returns-in-Err-NoSpace-clause-others
+returns-in-Err-NoSpace-clause-others g c =
+    others_on c.args.self.now.queue c.make_room.new.self.queue (g.F.FileSystem.disk c.args.files.now) (g.F.FileSystem.disk c.make_room.new.files) (g.F.FileSystem.disk c.put_again.new.files) (c.in_ok-make_room.ensures.queue) (c.in_ok-make_room.ensures.others) (others_on c.make_room.new.self.queue c.put.new.self.queue (g.F.FileSystem.disk c.make_room.new.files) (g.F.FileSystem.disk c.put.new.files) (g.F.FileSystem.disk c.put_again.new.files) c.in-Err-NoSpace.ensures.same.2 c.in-Err-NoSpace.ensures.others c.put_again.ensures.others)

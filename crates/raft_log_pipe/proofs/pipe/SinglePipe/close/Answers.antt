@@ -2,6 +2,7 @@ use Rattle.std.proofs.Common.{Ok, Err, ap}
 use Rattle.raft_log_disk.specs.Disk.{Disk}
 use Rattle.raft_log_disk.proofs.CauseLemmas.{at_err}
 use Rattle.raft_log_pipe.proofs.ChangeLemmas.{closed_changes, closed_holds, pipe_on, unclosed_leaves}
+use Rattle.raft_log_pipe.proofs.OthersLemmas.{last_others}
 use Rattle.raft_log_pipe.proofs.pipe.SinglePipe.close.Goals as goal
 
 pub returns-in_err-close-clause-pipe : goal.returns-in_err-close-clause-pipe
@@ -25,3 +26,13 @@ returns-in_err-close-clause-names g c = ap (λ (y : Disk). y.names) (closed_chan
 
 pub returns-clause-names : goal.returns-clause-names
 returns-clause-names g c = ap (λ (y : Disk). y.names) (closed_changes c.args.self.now.writer _ _ (Ok tt) c.in_ok-close.ensures.closes)
+
+pub returns-in_err-close-clause-others : goal.returns-in_err-close-clause-others
+returns-in_err-close-clause-others g c =
+    let met = g.met.F.FileSystem g.world.𝓛 g.world.𝓜 g.world.𝓡 ((λ s x. x), (λ x. x), (λ x. x), λ x. x) in
+    last_others c.args.self.now _ _ (met.is_named c.args.files.now) c.requires (closed_changes c.args.self.now.writer _ _ (Err c.in_err-close.field-0.0) c.in_err-close.ensures.closes)
+
+pub returns-clause-others : goal.returns-clause-others
+returns-clause-others g c =
+    let met = g.met.F.FileSystem g.world.𝓛 g.world.𝓜 g.world.𝓡 ((λ s x. x), (λ x. x), (λ x. x), λ x. x) in
+    last_others c.args.self.now _ _ (met.is_named c.args.files.now) c.requires (closed_changes c.args.self.now.writer _ _ (Ok tt) c.in_ok-close.ensures.closes)

@@ -1,6 +1,8 @@
 use Rattle.std.proofs.Common.{◌^◌, ◌<◌, arith}
 use Rattle.std.specs.Prelude.{Result, Ok, Err, OnOk}
 use Rattle.raft_log_pipe.proofs.PipeLemmas.{holds_leaves}
+use Rattle.std.proofs.Common.{refl}
+use Rattle.raft_log_pipe.proofs.OthersLemmas.{same_others}
 use Rattle.raft_log_pipe.proofs.pipe.SinglePipe.finish.Goals as goal
 
 pub returns-clause-number : goal.returns-clause-number
@@ -14,3 +16,7 @@ returns-clause-number g c =
 
 pub returns-then-not-is_file_seq-clause-err : goal.returns-then-not-is_file_seq-clause-err
 returns-then-not-is_file_seq-clause-err g c = λ s u h. holds_leaves c.args.self.now.queue c.args.self.now.older.items c.args.self.now.active c.args.self.now.writer.offset (g.F.FileSystem.disk c.args.files.now) s u h
+
+pub returns-then-not-is_file_seq-clause-others : goal.returns-then-not-is_file_seq-clause-others
+returns-then-not-is_file_seq-clause-others g c =
+    same_others c.args.self.now.queue _ _ refl

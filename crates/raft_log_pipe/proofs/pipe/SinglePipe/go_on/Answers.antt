@@ -10,6 +10,7 @@ use Rattle.raft_log_pipe.specs.Pipe.{IsLast, IsPlain}
 use Rattle.raft_log_pipe.proofs.ExitLemmas.{last_for, pushed_holds, refused_leaves, refused_writer, unpushed_leaves}
 use Rattle.raft_log_pipe.proofs.NextLemmas.{begun_changes, made_begun, made_leaves, made_writer, next_pipe}
 use Rattle.raft_log_pipe.proofs.AloneLemmas.{next_alone, refused_nearly, unbegun_nearly, unpushed_nearly}
+use Rattle.raft_log_pipe.proofs.OthersLemmas.{made_others, refused_others}
 use Rattle.raft_log_pipe.proofs.pipe.SinglePipe.go_on.Goals as goal
 
 pub returns-in_err-file-clause-writer : goal.returns-in_err-file-clause-writer
@@ -75,3 +76,23 @@ returns-clause-alone g c =
     (λ i. record { queue = c.new-id.ensures.queue i; seq = sym c.in_ok-file.ensures.file.0 i })
     (subst (λ (l : List (String Global)). IsMadeIn (g.F.FileSystem.disk c.args.files.now) (g.F.FileSystem.disk c.new_file.new.files) (map string_bytes l) c.new-id.result (Ok c.in_ok-file.file)) c.deref.ensures.value c.in_ok-file.ensures.made)
     (ap (λ (y : Disk). y.names) (begun_changes (g.F.FileSystem.disk c.new_file.new.files) (g.F.FileSystem.disk c.begin_file.new.files) c.in_ok-file.file c.in_ok-writer.writer c.in_ok-writer.ensures.begun))
+
+pub returns-in_err-file-clause-others : goal.returns-in_err-file-clause-others
+returns-in_err-file-clause-others g c =
+    let met = g.met.F.FileSystem g.world.𝓛 g.world.𝓜 g.world.𝓡 ((λ s x. x), (λ x. x), (λ x. x), λ x. x) in
+    refused_others c.args.self.now.queue _ _ c.new-id.result c.in_err-file.field-0.0 (met.is_named c.args.files.now) c.in_err-file.ensures.created c.new-id.ensures.queue
+
+pub returns-in_err-writer-clause-others : goal.returns-in_err-writer-clause-others
+returns-in_err-writer-clause-others g c =
+    let met = g.met.F.FileSystem g.world.𝓛 g.world.𝓜 g.world.𝓡 ((λ s x. x), (λ x. x), (λ x. x), λ x. x) in
+    made_others c.args.self.now.queue _ _ c.new-id.result (met.is_named c.args.files.now) (made_begun _ _ _ c.in_ok-file.file _ c.in_ok-file.ensures.created c.in_err-writer.ensures.begun.0) c.new-id.ensures.queue
+
+pub returns-in_err-push-clause-others : goal.returns-in_err-push-clause-others
+returns-in_err-push-clause-others g c =
+    let met = g.met.F.FileSystem g.world.𝓛 g.world.𝓜 g.world.𝓡 ((λ s x. x), (λ x. x), (λ x. x), λ x. x) in
+    made_others c.args.self.now.queue _ _ c.new-id.result (met.is_named c.args.files.now) (made_begun _ _ _ c.in_ok-file.file _ c.in_ok-file.ensures.created (begun_changes _ _ c.in_ok-file.file c.in_ok-writer.writer c.in_ok-writer.ensures.begun)) c.new-id.ensures.queue
+
+pub returns-clause-others : goal.returns-clause-others
+returns-clause-others g c =
+    let met = g.met.F.FileSystem g.world.𝓛 g.world.𝓜 g.world.𝓡 ((λ s x. x), (λ x. x), (λ x. x), λ x. x) in
+    made_others c.args.self.now.queue _ _ c.new-id.result (met.is_named c.args.files.now) (made_begun _ _ _ c.in_ok-file.file _ c.in_ok-file.ensures.created (begun_changes _ _ c.in_ok-file.file c.in_ok-writer.writer c.in_ok-writer.ensures.begun)) c.new-id.ensures.queue

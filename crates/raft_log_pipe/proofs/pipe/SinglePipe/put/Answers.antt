@@ -5,6 +5,7 @@ use Rattle.raft_log_disk.specs.Disk.{Disk}
 use Rattle.raft_log_records.specs.Spelling.{spell_record}
 use Rattle.raft_log_pipe.proofs.ChangeLemmas.{appended_changes, by_fault, pipe_on, put_holds, ready_holds, record_is, unput_leaves}
 use Rattle.raft_log_pipe.proofs.BlockLemmas.{record_here}
+use Rattle.raft_log_pipe.proofs.OthersLemmas.{last_others}
 use Rattle.raft_log_pipe.proofs.pipe.SinglePipe.put.Goals as goal
 
 pub returns-in-Err-clause-pipe : goal.returns-in-Err-clause-pipe
@@ -51,3 +52,13 @@ returns-in-Err-clause-names g c = ap (λ (y : Disk). y.names) (appended_changes 
 
 pub returns-clause-names : goal.returns-clause-names
 returns-clause-names g c = ap (λ (y : Disk). y.names) (appended_changes c.args.self.now.writer _ _ _ _ (Ok tt) c.in_default.ensures.writes)
+
+pub returns-in-Err-clause-others : goal.returns-in-Err-clause-others
+returns-in-Err-clause-others g c =
+    let met = g.met.F.FileSystem g.world.𝓛 g.world.𝓜 g.world.𝓡 ((λ s x. x), (λ x. x), (λ x. x), λ x. x) in
+    last_others c.args.self.now _ _ (met.is_named c.args.files.now) c.requires.pipe (appended_changes c.args.self.now.writer _ _ _ _ (Err c.in-Err.fault) c.in-Err.ensures.writes)
+
+pub returns-clause-others : goal.returns-clause-others
+returns-clause-others g c =
+    let met = g.met.F.FileSystem g.world.𝓛 g.world.𝓜 g.world.𝓡 ((λ s x. x), (λ x. x), (λ x. x), λ x. x) in
+    last_others c.args.self.now _ _ (met.is_named c.args.files.now) c.requires.pipe (appended_changes c.args.self.now.writer _ _ _ _ (Ok tt) c.in_default.ensures.writes)

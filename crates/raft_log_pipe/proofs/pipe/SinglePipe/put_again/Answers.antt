@@ -4,6 +4,7 @@ use Rattle.std.proofs.Common.{refl}
 use Rattle.raft_log_pipe.proofs.BlockLemmas.{more_files, same_files, stands_after, then_files}
 use Rattle.raft_log_pipe.proofs.GiveUpLemmas.{given_up}
 use Rattle.raft_log_pipe.proofs.AloneLemmas.{alone_on, nearly_on}
+use Rattle.raft_log_pipe.proofs.OthersLemmas.{others_on}
 use Rattle.raft_log_pipe.proofs.pipe.SinglePipe.put_again.Goals as goal
 
 pub returns-in_err-finish-clause-err : goal.returns-in_err-finish-clause-err
@@ -67,3 +68,19 @@ pub returns-in-Err-NoSpace-clause-nearly : goal.returns-in-Err-NoSpace-clause-ne
 returns-in-Err-NoSpace-clause-nearly g c =
     λ alone. c.give_up.ensures.nearly (alone_on c.go_on.new.self c.put.new.self (g.F.FileSystem.disk c.go_on.new.files) (g.F.FileSystem.disk c.put.new.files) c.in-Err-NoSpace.ensures.same c.in-Err-NoSpace.ensures.paths c.in-Err-NoSpace.ensures.names
     (c.in-Ok.ensures.alone (alone_on c.args.self.now c.finish.new.self (g.F.FileSystem.disk c.args.files.now) (g.F.FileSystem.disk c.finish.new.files) c.in_ok-finish.ensures.same c.in_ok-finish.ensures.paths c.in_ok-finish.ensures.names alone)))
+
+pub returns-in-Err-clause-others : goal.returns-in-Err-clause-others
+returns-in-Err-clause-others g c =
+    others_on c.args.self.now.queue c.finish.new.self.queue (g.F.FileSystem.disk c.args.files.now) (g.F.FileSystem.disk c.finish.new.files) (g.F.FileSystem.disk c.go_on.new.files) (c.in_ok-finish.ensures.same.2) (c.in_ok-finish.ensures.others) (c.in-Err.ensures.others)
+
+pub returns-in-Ok-put-clause-others : goal.returns-in-Ok-put-clause-others
+returns-in-Ok-put-clause-others g c =
+    others_on c.args.self.now.queue c.finish.new.self.queue (g.F.FileSystem.disk c.args.files.now) (g.F.FileSystem.disk c.finish.new.files) (g.F.FileSystem.disk c.put.new.files) (c.in_ok-finish.ensures.same.2) (c.in_ok-finish.ensures.others) (others_on c.finish.new.self.queue c.go_on.new.self.queue (g.F.FileSystem.disk c.finish.new.files) (g.F.FileSystem.disk c.go_on.new.files) (g.F.FileSystem.disk c.put.new.files) c.in-Ok.ensures.queue c.in-Ok.ensures.others (c.in-Ok-put.ensures.others))
+
+pub returns-in-Err-put-clause-others : goal.returns-in-Err-put-clause-others
+returns-in-Err-put-clause-others g c =
+    others_on c.args.self.now.queue c.finish.new.self.queue (g.F.FileSystem.disk c.args.files.now) (g.F.FileSystem.disk c.finish.new.files) (g.F.FileSystem.disk c.put.new.files) (c.in_ok-finish.ensures.same.2) (c.in_ok-finish.ensures.others) (others_on c.finish.new.self.queue c.go_on.new.self.queue (g.F.FileSystem.disk c.finish.new.files) (g.F.FileSystem.disk c.go_on.new.files) (g.F.FileSystem.disk c.put.new.files) c.in-Ok.ensures.queue c.in-Ok.ensures.others (c.in-Err-put.ensures.others))
+
+pub returns-in-Err-NoSpace-clause-others : goal.returns-in-Err-NoSpace-clause-others
+returns-in-Err-NoSpace-clause-others g c =
+    others_on c.args.self.now.queue c.finish.new.self.queue (g.F.FileSystem.disk c.args.files.now) (g.F.FileSystem.disk c.finish.new.files) (g.F.FileSystem.disk c.give_up.new.files) (c.in_ok-finish.ensures.same.2) (c.in_ok-finish.ensures.others) (others_on c.finish.new.self.queue c.go_on.new.self.queue (g.F.FileSystem.disk c.finish.new.files) (g.F.FileSystem.disk c.go_on.new.files) (g.F.FileSystem.disk c.give_up.new.files) c.in-Ok.ensures.queue c.in-Ok.ensures.others (others_on c.go_on.new.self.queue c.put.new.self.queue (g.F.FileSystem.disk c.go_on.new.files) (g.F.FileSystem.disk c.put.new.files) (g.F.FileSystem.disk c.give_up.new.files) c.in-Err-NoSpace.ensures.same.2 c.in-Err-NoSpace.ensures.others c.give_up.ensures.others))

@@ -1,6 +1,7 @@
 use Rattle.std.proofs.Common.{refl}
 use Rattle.raft_log_pipe.proofs.ChangeLemmas.{pipe_on, synced_holds, synced_writer}
 use Rattle.raft_log_pipe.proofs.PipeLemmas.{changes}
+use Rattle.raft_log_pipe.proofs.OthersLemmas.{last_others, same_others}
 use Rattle.raft_log_pipe.proofs.pipe.SinglePipe.sync.Goals as goal
 
 pub returns-clause-pipe : goal.returns-clause-pipe
@@ -8,3 +9,12 @@ returns-clause-pipe g c = pipe_on c.args.self.now c.args.self.now.writer _ _ c.r
 
 pub returns-clause-ok : goal.returns-clause-ok
 returns-clause-ok g c = synced_holds c.args.self.now _ _ c.requires c.in_ok-sync.ensures.ok
+
+pub returns-in_err-sync-clause-others : goal.returns-in_err-sync-clause-others
+returns-in_err-sync-clause-others g c =
+    same_others c.args.self.now.queue _ _ c.in_err-sync.ensures.err
+
+pub returns-clause-others : goal.returns-clause-others
+returns-clause-others g c =
+    let met = g.met.F.FileSystem g.world.𝓛 g.world.𝓜 g.world.𝓡 ((λ s x. x), (λ x. x), (λ x. x), λ x. x) in
+    last_others c.args.self.now _ _ (met.is_named c.args.files.now) c.requires (changes _ _ _ _ c.in_ok-sync.ensures.ok)

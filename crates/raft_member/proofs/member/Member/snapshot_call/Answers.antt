@@ -55,7 +55,7 @@ returns-clause-ok g c = λ at s built down idle moment may.
     let said : stands c.in-Some.snapshot.now one.0 = subst (λ (o : Option _). IsBuilt stands o s) (ap option_copied c.in-Some.is) built one.0 one.1 in
     let asked = (c.in_ok-trigger_snapshot.ensures.asked idle.not_building past).1 in
     let taken : HasTaken one.0 c.args.self.now.id c.args.engine.now c.finish_building_snapshot.new.self s (Call TriggerSnapshot at) =
-    c.in_ok-finish_building_snapshot.ensures.built c.args.self.now.id at c.args.engine.now s one.0 asked idle.empty
+    c.in_ok-_answer.ensures.built c.args.self.now.id at c.args.engine.now s one.0 asked idle.empty
     (subst (λ (e : Engine). IsStateOf c.args.self.now.id e s) (sym asked) (stands_asking c.args.self.now.id c.args.engine.now s idle.stands))
     may.ready may.accepted (c.in_ok-meta_of.ensures one.0 (c.head.ensures one.0 said)) one.1 in
     c.end_taken.ensures.ok s.stored (group_step c.args.self.now.id s (Call TriggerSnapshot at)) down
@@ -71,7 +71,7 @@ returns-clause-err g c = λ at s built down idle moment may.
     let said : stands c.in-Some.snapshot.now one.0 = subst (λ (o : Option _). IsBuilt stands o s) (ap option_copied c.in-Some.is) built one.0 one.1 in
     let asked = (c.in_ok-trigger_snapshot.ensures.asked idle.not_building past).1 in
     let taken : HasTaken one.0 c.args.self.now.id c.args.engine.now c.finish_building_snapshot.new.self s (Call TriggerSnapshot at) =
-    c.in_ok-finish_building_snapshot.ensures.built c.args.self.now.id at c.args.engine.now s one.0 asked idle.empty
+    c.in_ok-_answer.ensures.built c.args.self.now.id at c.args.engine.now s one.0 asked idle.empty
     (subst (λ (e : Engine). IsStateOf c.args.self.now.id e s) (sym asked) (stands_asking c.args.self.now.id c.args.engine.now s idle.stands))
     may.ready may.accepted (c.in_ok-meta_of.ensures one.0 (c.head.ensures one.0 said)) one.1 in
     c.end_taken.ensures.err s.stored (group_step c.args.self.now.id s (Call TriggerSnapshot at)) down

@@ -1,0 +1,62 @@
+//! A list of events that is run at once on nodes with files.
+
+use raft_cluster_events::{ClusterEvent, EventOutcome, GroupCommand, Recorded};
+use raft_group_step::GroupCall;
+use raft_machines::AddingMachine;
+use raft_node_cluster::Cluster;
+use raft_nodes_on_files::{FileNode, log_settings, run_on_files};
+use raft_state::{Bytes, Membership};
+use std::alloc::{AllocError, Global};
+
+fn ask(call: GroupCommand) -> ClusterEvent {
+    ClusterEvent::Ask {
+        node: 1,
+        group: 7,
+        call,
+        now: 0,
+    }
+}
+
+// One voter is set up, and takes a command; then its machine stops.
+fn events(alloc: Global) -> Result<Vec<ClusterEvent>, AllocError> {
+    let membership = Membership::of_one_group(alloc, &[(1, "a")], &[]).map_err(|_| AllocError)?;
+    let command = Bytes::from_slice(alloc, &[0, 0, 0, 0, 0, 0, 0, 5])?;
+    let mut events = Vec::new(alloc);
+    events.push(ClusterEvent::AddGroup { node: 1, group: 7 })?;
+    events.push(ask(GroupCall::Initialize { membership }))?;
+    events.push(ask(GroupCall::Propose { command, token: 1 }))?;
+    events.push(ClusterEvent::Fuse {
+        node: 1,
+        first_refused: Some(1),
+    })?;
+    events.push(ask(GroupCall::Elect))?;
+    Ok(events)
+}
+
+// A run behind a function without clauses: a proof that carries them takes long.
+fn run(cluster: &mut Cluster<FileNode<AddingMachine>>, events: Vec<ClusterEvent>) -> usize {
+    run_on_files(cluster, events)
+}
+
+fn word(recorded: &Recorded) -> &'static str {
+    match &recorded.outcome {
+        EventOutcome::Done(_) => " done",
+        EventOutcome::Refused(_) => " refused",
+        EventOutcome::Stopped(_) => " stopped",
+        EventOutcome::TurnedAway(_) => " turned-away",
+    }
+}
+
+/// Runs the events by `run_on_files`, and says how many happened, and what came of each.
+pub fn run_rows(alloc: Global) -> Result<String, AllocError> {
+    let settings = log_settings(alloc, "raft", 64, 256)?;
+    let mut cluster = Cluster::<FileNode<AddingMachine>>::new(alloc, &[1], &settings)?;
+    let events = events(alloc)?;
+    let asked = events.len();
+    let count = run(&mut cluster, events);
+    let mut text = format!(in alloc; "ran {count} of {asked}:")?;
+    for recorded in cluster.history() {
+        text.push_str(word(recorded))?;
+    }
+    Ok(text)
+}

@@ -1,0 +1,11 @@
+pub mod CellLemmas
+pub mod QueueLemmas
+pub mod WrittenLemmas
+pub mod AccountLemmas
+pub mod MarkLemmas
+pub mod TraceLemmas
+pub mod KnownLemmas
+pub mod RewrittenLemmas
+pub mod KeptLemmas
+pub mod FileLemmas
+pub mod JoinedLemmas

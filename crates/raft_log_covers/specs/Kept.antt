@@ -1,0 +1,206 @@
+-- The invariant of two queues and of memtables, and what keeps it.
+use Rattle.std.specs.Prelude.{◌≡◌, ◌≤◌, ◌<◌, ◌+◌, ℕ, true, false, if◌then◌else◌, nat_eq, nat_le, List, [], ◌∷◌, ◌++◌, length, IsSome, Some, None, drop}
+use Rattle.raft_log_records.specs.Item.{Item}
+use Rattle.raft_log_records.specs.Item.Change.{entries, clean, put}
+use Rattle.raft_log_records.specs.Spelling.{first_index}
+use Rattle.raft_log_memtables.specs.Content.{GroupContent, Content, no_group, nothing, after_batch}
+use Rattle.raft_log_memtables.specs.Replay.{content_of}
+use Rattle.raft_log_covers.specs.Cells.{Cell, held, after_batches, AreUnmarked}
+use Rattle.raft_log_covers.specs.Cells.Cell.{index, key}
+use Rattle.raft_log_covers.specs.Queues.{Filed, batches_of, batches_from, FilesRise, Covers}
+use Rattle.raft_log_covers.specs.Written.{Written, AreWritten, all_records}
+use Rattle.raft_log_covers.specs.Account.{Account, IsFrom, IsAccounted, no_account, account_after, account_after_all}
+use Rattle.raft_log_covers.specs.Marks.{Names, of_group, with_group, marks, MayRewrite, names_after_marks, names_after_entries, names_after_put}
+use Rattle.raft_log_covers.specs.Trace.{Trace, file_of, Bounds, Knows, TellsFiles, GoOn, AreRun, trace_after, trace_marked, trace_rewritten, trace_put, settled_by}
+
+abbrev pub Traces : Type 0
+Traces = ℕ → Trace
+
+-- The records of the rewrite queue, the content, and the batches of the append queue with their files. The account is for proofs
+-- alone; the traces are what memtables keep.
+pub record IsKept {E : Type 0} (traces : Traces) (account : Account) (records : List (List (Item E))) (content : Content E) (bs : List (Filed E)) : Type 0 where
+  pub accounted : IsAccounted account (content_of records) content bs
+  pub bounds : (group : ℕ) → Bounds (traces group) (content group) (account group)
+  pub knows : (group : ℕ) → Knows (traces group) (content_of records group) (content group) (account group)
+  pub files : (group : ℕ) → TellsFiles (traces group) (content group) (account group)
+
+-- ---- a write to the append queue
+
+abbrev pub traces_after_item : {E : Type 0} → ℕ → Item E → Traces → Traces
+traces_after_item file item traces group = if nat_eq item.group group then trace_after file item.change (traces group) else traces group
+
+abbrev pub traces_after : {E : Type 0} → ℕ → List (Item E) → Traces → Traces
+traces_after file [] traces = traces
+traces_after file (item ∷ items) traces = traces_after file items (traces_after_item file item traces)
+
+-- each item goes on where the ones before it have led
+abbrev pub AllGoOn : {E : Type 0} → ℕ → List (Item E) → Traces → Type 0
+AllGoOn file [] traces = Unit {0}
+AllGoOn file (item ∷ items) traces = GoOn item.change (traces item.group) × AllGoOn file items (traces_after_item file item traces)
+
+abbrev pub WritesKeep : Type 0 → Type 0
+WritesKeep E = (traces : Traces) (account : Account) (records : List (List (Item E))) (content : Content E) (bs : List (Filed E)) (file : ℕ) (items : List (Item E))
+    → IsKept traces account records content bs → AllGoOn file items traces
+    → IsKept (traces_after file items traces) (account_after file items account) records (after_batch items content) (bs ++ record { file = file; items = items } ∷ [])
+
+-- ---- what cleaning writes of a group
+
+abbrev pub with_trace : ℕ → Trace → Traces → Traces
+with_trace group t traces other = if nat_eq group other then t else traces other
+
+abbrev pub MarksKeep : Type 0 → Type 0
+MarksKeep E = (traces : Traces) (account : Account) (records : List (List (Item E))) (content : Content E) (bs : List (Filed E)) (group : ℕ)
+    → IsKept traces account records content bs → (content group).there ≡ true
+    → IsKept (with_trace group (trace_marked (traces group)) traces)
+    (with_group group (names_after_marks (content group) (account group) (traces group).low (nat_le (traces group).next (traces group).low)) account)
+    (records ++ of_group group (marks (traces group).cleaned (traces group).low (traces group).deleted) ∷ []) content bs
+
+abbrev pub EntriesKeep : Type 0 → Type 0
+EntriesKeep E = (traces : Traces) (account : Account) (records : List (List (Item E))) (content : Content E) (bs : List (Filed E)) (group : ℕ) (es : List (ℕ × E)) (stop : ℕ)
+    → IsKept traces account records content bs → (traces group).cleaned ≡ false → AreRun es → first_index es ≤ (traces group).next → first_index es + length es ≤ (traces group).top
+    → MayRewrite (content group) (account group) es (settled_by stop (traces group))
+    → IsKept (with_trace group (trace_rewritten (first_index es) stop (traces group)) traces)
+    (with_group group (names_after_entries (account group) es (settled_by stop (traces group))) account)
+    (records ++ of_group group (entries es ∷ []) ∷ []) content bs
+
+abbrev pub KeysKeep : Type 0 → Type 0
+KeysKeep E = (traces : Traces) (account : Account) (records : List (List (Item E))) (content : Content E) (bs : List (Filed E)) (group : ℕ) (name value : List ℕ)
+    → IsKept traces account records content bs → (traces group).cleaned ≡ false → (content group).there ≡ true → (content group).value name ≡ Some value
+    → IsKept (with_trace group (trace_put name (traces group)) traces) (with_group group (names_after_put (account group) name) account)
+    (records ++ of_group group (put name value ∷ []) ∷ []) content bs
+
+-- ---- files go
+
+-- Where memtables keep no file before one, the rewrite queue covers the content for the append files from that one on.
+abbrev pub KeptFilesCover : Type 0 → Type 0
+KeptFilesCover E = (traces : Traces) (account : Account) (records : List (List (Item E))) (content : Content E) (bs : List (Filed E)) (first : ℕ)
+    → IsKept traces account records content bs → ((group : ℕ) (c : Cell) → IsFrom first (file_of (traces group) (content group) c))
+    → Covers (content_of records) content (batches_from first bs)
+
+-- ---- an opening, groups that are gone, and files that stay
+
+-- what memtables keep of a group that only the rewrite queue has
+pub record IsOpened {E : Type 0} (t : Trace) (g : GroupContent E) : Type 0 where
+  pub below : (i : ℕ) → i < t.low → g.entry i ≡ None
+  pub above : (i : ℕ) → t.low ≤ i → t.next ≤ i → g.entry i ≡ None
+  pub past : (i : ℕ) → t.top ≤ i → g.entry i ≡ None
+  pub ends : t.next ≤ t.top
+  pub empty_top : t.next ≤ t.low → t.top ≤ t.low
+  pub not_cleaned : t.cleaned ≡ false
+  pub none_deleted : t.deleted ≡ []
+  pub entries_rewritten : (i : ℕ) → IsSome (g.entry i) → t.entry_file i ≡ None
+  pub keys_rewritten : (k : List ℕ) → IsSome (g.value k) → t.key_file k ≡ None
+
+-- As the rewrite queue was read the invariant holds; then `WritesKeep` is for each batch of the append queue.
+abbrev pub OpeningsKeep : Type 0 → Type 0
+OpeningsKeep E = (traces : Traces) (records : List (List (Item E))) → ((group : ℕ) → IsOpened (traces group) (content_of records group))
+    → IsKept traces no_account records (content_of records) []
+
+abbrev pub new_trace : Trace
+new_trace = record {
+  low = 0;
+  next = 0;
+  top = 0;
+  since = None;
+  tail = None;
+  entry_file = λ i. None;
+  key_file = λ k. None;
+  cleaned = false;
+  deleted = [];
+}
+
+-- without any file it holds
+abbrev pub NewQueuesAreKept : Type 0 → Type 0
+NewQueuesAreKept E = IsKept {E = E} (λ group. new_trace) no_account [] nothing []
+
+-- the mark of a group that isn't there
+abbrev pub CleansKeep : Type 0 → Type 0
+CleansKeep E = (traces : Traces) (account : Account) (records : List (List (Item E))) (content : Content E) (bs : List (Filed E)) (group : ℕ)
+    → IsKept traces account records content bs → ((c : Cell) → held (content group) c ≡ held no_group c)
+    → IsKept (with_trace group new_trace traces) (with_group group (λ c. None) account) (records ++ of_group group (clean ∷ []) ∷ []) content bs
+
+-- What cleaning writes names no earlier file. So at each record that it writes, the append files that are kept stay covered.
+pub record NamesNoEarlier {E : Type 0} (t : Trace) (g : GroupContent E) (first : ℕ) : Type 0 where
+  pub marked : (c : Cell) → IsFrom first (file_of (trace_marked t) g c)
+  pub entries_too : (from stop : ℕ) (c : Cell) → IsFrom first (file_of (trace_rewritten from stop t) g c)
+  pub keys_too : (name : List ℕ) (c : Cell) → IsFrom first (file_of (trace_put name t) g c)
+
+abbrev pub FilesStay : Type 0 → Type 0
+FilesStay E = (t : Trace) (g : GroupContent E) (first : ℕ) → ((c : Cell) → IsFrom first (file_of t g c)) → NamesNoEarlier t g first
+
+-- All together: while memtables keep no file before one, each opening from that append file on, or from an earlier one on, reads
+-- the content.
+abbrev pub KeptQueuesReadAsTheContent : Type 0 → Type 0
+KeptQueuesReadAsTheContent E = (traces : Traces) (account : Account) (records : List (List (Item E))) (start : Content E) (bs : List (Filed E)) (least first : ℕ)
+    → IsKept traces account records (after_batches (batches_of bs) start) bs → FilesRise least bs → AreUnmarked (batches_of bs)
+    → ((group : ℕ) (c : Cell) → IsFrom first (file_of (traces group) (after_batches (batches_of bs) start group) c))
+    → (f : ℕ) → f ≤ first → content_of (records ++ batches_from f bs) ≡ after_batches (batches_of bs) start
+
+-- ---- an opening over left-over files
+
+abbrev pub traces_after_all : {E : Type 0} → List (Filed E) → Traces → Traces
+traces_after_all [] traces = traces
+traces_after_all (b ∷ bs) traces = traces_after_all bs (traces_after b.file b.items traces)
+
+-- The trace of a group after the replay. Its ends are those of the entries that are there; the files of entries and keys are those
+-- in which they stand; for all else there is the first append file.
+abbrev pub opened_trace : ℕ → ℕ × ℕ → Trace → Names → Trace
+opened_trace first ends t names = record {
+  low = ends.0;
+  next = ends.1;
+  top = t.top;
+  since = Some first;
+  tail = Some first;
+  entry_file = λ i. names (index i);
+  key_file = λ k. names (key k);
+  cleaned = t.cleaned;
+  deleted = t.deleted;
+}
+
+pub record HasEnds {E : Type 0} (g : GroupContent E) (ends : ℕ × ℕ) (top : ℕ) : Type 0 where
+  pub below : (i : ℕ) → i < ends.0 → g.entry i ≡ None
+  pub above : (i : ℕ) → ends.0 ≤ i → ends.1 ≤ i → g.entry i ≡ None
+  pub ends_low : ends.1 ≤ top
+  pub empty_top : ends.1 ≤ ends.0 → top ≤ ends.0
+
+-- what the rewrite queue alone leaves of a trace
+pub record IsUnmarked {E : Type 0} (t : Trace) (g : GroupContent E) : Type 0 where
+  pub past : (i : ℕ) → t.top ≤ i → g.entry i ≡ None
+  pub not_cleaned : t.cleaned ≡ false
+  pub none_deleted : t.deleted ≡ []
+
+abbrev pub ReplaysKeep : Type 0 → Type 0
+ReplaysKeep E = (traces : Traces) (ends : ℕ → ℕ × ℕ) (records : List (List (Item E))) (bs : List (Filed E)) (first : ℕ)
+    → ((group : ℕ) → IsUnmarked (traces group) (content_of records group)) → FilesRise first bs
+    → ((group : ℕ) → HasEnds (after_batches (batches_of bs) (content_of records) group) (ends group) (traces_after_all bs traces group).top)
+    → IsKept (λ group. opened_trace first (ends group) (traces_after_all bs traces group) (account_after_all bs no_account group)) (account_after_all bs no_account)
+    records (after_batches (batches_of bs) (content_of records)) bs
+
+-- ---- the rewrite queue is written anew
+
+-- What the new records have, alone: at each cell that the account doesn't name what the content has, no entry past those that
+-- ever were, and no key that is gone.
+pub record GivesAll {E : Type 0} (traces : Traces) (account : Account) (content new : Content E) : Type 0 where
+  pub unnamed : (group : ℕ) (c : Cell) → account group c ≡ None → held (new group) c ≡ held (content group) c
+  pub entries_low : (group : ℕ) (i : ℕ) → (traces group).top ≤ i → (new group).entry i ≡ None
+  pub keys_there : (group : ℕ) (k : List ℕ) → (content group).value k ≡ None → (new group).value k ≡ None
+
+-- What the new records have of a group, where the trace says what stands in the rewrite queue: that it is there, the entries and
+-- keys that stand there, and nothing that isn't there.
+pub record HasWhole {E : Type 0} (t : Trace) (g new : GroupContent E) : Type 0 where
+  pub there : new.there ≡ g.there
+  pub entries_too : (i : ℕ) → IsSome (g.entry i) → t.entry_file i ≡ None → new.entry i ≡ g.entry i
+  pub no_other_entry : (i : ℕ) → g.entry i ≡ None → new.entry i ≡ None
+  pub keys_too : (k : List ℕ) → IsSome (g.value k) → t.key_file k ≡ None → new.value k ≡ g.value k
+  pub no_other_key : (k : List ℕ) → g.value k ≡ None → new.value k ≡ None
+
+-- By what memtables keep, such records give all.
+abbrev pub WholeGroupsGiveAll : Type 0 → Type 0
+WholeGroupsGiveAll E = (traces : Traces) (account : Account) (records : List (List (Item E))) (content new : Content E) (bs : List (Filed E))
+    → IsKept traces account records content bs → ((group : ℕ) → HasWhole (traces group) (content group) (new group)) → GivesAll traces account content new
+
+-- However many of the old records went from the front, the invariant holds of the others and the new ones.
+abbrev pub OldRecordsMayGo : Type 0 → Type 0
+OldRecordsMayGo E = (traces : Traces) (account : Account) (old new : List (Written E)) (content : Content E) (bs : List (Filed E)) → AreWritten old → AreWritten new
+    → IsKept traces account (all_records old ++ all_records new) content bs → GivesAll traces account content (content_of (all_records new))
+    → (n : ℕ) → IsKept traces account (drop n (all_records old) ++ all_records new) content bs

@@ -1,0 +1,73 @@
+-- What is set to refuse calls, over runs of calls.
+use Rattle.std.proofs.Common.{◌≡◌, ◌⊎◌, inl, inr, ℕ, ◌+◌, ◌-◌, ◌^◌, ◌<◌, ◌≤◌, min, refl, sym, ap, subst, ◌∙◌, arith, List}
+use Rattle.std.specs.Prelude.{Option, Some, None, Result, Ok, Err, IsErrOf, IsTrue}
+use Rattle.raft_log_disk.specs.declared.fault.IoFault.{IoFault}
+use Rattle.raft_log_disk.specs.declared.fault.IoFault.TheVariants.{NotFound, NoSpace, Refused, Memory}
+use Rattle.raft_log_disk.specs.Text.{Text}
+use Rattle.raft_log_disk.specs.Disk.{Disk, LacksRoom}
+use Rattle.raft_log_disk.specs.Cause.{Meter, HasCause, IsOneCall, IsTaken, NothingRefuses, RefusesNoMore, Rises, counted, spent}
+
+pub no_more_same : (b : Type 0) (m : Meter) → RefusesNoMore b b m m
+no_more_same b m = record { fuse = λ e. e; reads = refl; sound = refl; room = λ x. x; counts = omega arith }
+
+pub no_more_then : {a b c : Type 0} {l m n : Meter} → RefusesNoMore a b l m → RefusesNoMore b c m n → RefusesNoMore a c l n
+no_more_then {l = l} {m = m} {n = n} first second = record {
+  fuse = λ e. second.fuse (first.fuse e);
+  reads = second.reads ∙ first.reads;
+  sound = second.sound ∙ first.sound;
+  room = λ x. first.room (second.room x);
+  counts = omega (arith, first.counts, second.counts);
+}
+
+pub still_free : {a b : Type 0} {l m : Meter} → NothingRefuses a l → RefusesNoMore a b l m → NothingRefuses b m
+still_free free later = record {
+  fuse = later.fuse free.fuse;
+  reads = later.reads ∙ free.reads;
+  sound = λ x. free.sound (subst IsTrue later.sound x);
+  room = λ x. free.room (later.room x);
+}
+
+counts_on : {T : Type 0} (r : Result T IoFault) (n k : ℕ) → k ≡ counted r n → min (n + 0) (2 ^ 64 - 1) ≤ k
+counts_on (Ok x) n k is = omega (arith, is)
+counts_on (Err Refused) n k is = omega (arith, is)
+counts_on (Err NotFound) n k is = omega (arith, is)
+counts_on (Err NoSpace) n k is = omega (arith, is)
+counts_on (Err Memory) n k is = omega (arith, is)
+
+-- one call
+pub no_more_call : {T : Type 0} (absent cramped barred a b : Type 0) (old new : Meter) (r : Result T IoFault) → HasCause absent cramped old new r → IsOneCall barred old new r → (b → a) → RefusesNoMore a b old new
+no_more_call absent cramped barred a b old new r cause call bound = record {
+  fuse = λ e. call.left ∙ ap spent e;
+  reads = cause.reads;
+  sound = call.faulty;
+  room = bound;
+  counts = counts_on r old.refusals new.refusals cause.refused;
+}
+
+blown_not : (l : Option ℕ) → l ≡ None → l ≡ Some 0 → ⊥
+blown_not l none some = absurd cc
+
+refused_only : (barred a : Type 0) (m : Meter) → NothingRefuses a m → (m.calls_left ≡ Some 0) ⊎ (IsTrue m.is_faulty ⊎ barred) → barred
+refused_only barred a m free (inl blown) = absurd (blown_not m.calls_left free.fuse blown)
+refused_only barred a m free (inr (inl faulty)) = absurd (free.sound faulty)
+refused_only barred a m free (inr (inr x)) = x
+
+-- and why it isn't taken
+pub taken_call : {T : Type 0} (absent cramped barred a : Type 0) (old new : Meter) (r : Result T IoFault) → (cramped → barred) → NothingRefuses a old → HasCause absent cramped old new r → IsOneCall barred old new r → IsTaken absent barred r
+taken_call absent cramped barred a old new (Ok x) most free cause call = tt
+taken_call absent cramped barred a old new (Err NotFound) most free cause call = cause.not_found refl
+taken_call absent cramped barred a old new (Err NoSpace) most free cause call = most (cause.no_space refl)
+taken_call absent cramped barred a old new (Err Memory) most free cause call = tt
+taken_call absent cramped barred a old new (Err Refused) most free cause call = refused_only barred a old free (call.why refl)
+
+-- only such a call lacks room where no directory is bounded
+pub lacks_most : (room : Text → ℕ) (d : Disk) (fd bytes : ℕ) → ((directory : Text) → room directory ≡ 2 ^ 64 - 1) → LacksRoom room d fd bytes → 2 ^ 64 ≤ bytes
+lacks_most room d fd bytes all lacks = omega (arith, all lacks.directory, lacks.lacks)
+
+-- a refusal and want of space are counted
+pub refusal_rises : {T : Type 0} (r : Result T IoFault) (old new : Meter) → new.refusals ≡ counted r old.refusals → IsErrOf r Refused → Rises 1 old new
+refusal_rises (Ok x) old new is e = absurd cc
+refusal_rises (Err Refused) old new is e = omega (arith, is)
+refusal_rises (Err NotFound) old new is e = absurd cc
+refusal_rises (Err NoSpace) old new is e = omega (arith, is)
+refusal_rises (Err Memory) old new is e = absurd cc

@@ -1,0 +1,79 @@
+//! Two pipes, and what they tell of their files.
+
+ghost use Rattle.std.specs.Prelude.{◌≡◌, ◌+◌, ◌-◌, ◌*◌, ◌/◌, ◌≤◌, ◌^◌, min, length};
+ghost use Rattle.raft_log_records.specs.declared.file_id.LogQueue.TheVariants.{Append, Rewrite};
+ghost use Rattle.raft_log_pipe.specs.Pipe.{IsPipe, first_of};
+ghost use Rattle.raft_log_pipes.specs.Calls.{IsReadOf};
+ghost use Rattle.raft_log_pipes.specs.Pipes.{AreQueues, pipe_of};
+
+use raft_log_files::{Error, FileSystem};
+use raft_log_pipe::SinglePipe;
+use raft_log_records::{FileBlockHandle, FileSeq, LogQueue};
+
+/// The log files of both queues (raft-engine's `DualPipes`). The file system is passed to each call,
+/// and lies under both: a call on one queue leaves the files of the other as they are.
+#[derive(Debug, Drop)]
+pub struct DualPipes {
+    pub(crate) append: SinglePipe,
+    pub(crate) rewrite: SinglePipe,
+}
+
+impl DualPipes {
+    /// The pipes of both queues (raft-engine's `open`).
+    pub fn open(append: SinglePipe, rewrite: SinglePipe) -> DualPipes
+        requires append { append.queue ≡ Append }
+        requires rewrite { rewrite.queue ≡ Rewrite }
+        ensures queues { AreQueues result }
+        ensures pipes { (result.append ≡ append) × (result.rewrite ≡ rewrite) }
+    {
+        DualPipes { append, rewrite }
+    }
+
+    /// The numbers of the first file and of the last of a queue.
+    pub fn file_span(&self, queue: LogQueue) -> (FileSeq, FileSeq)
+        ensures first { result.0 ≡ first_of (pipe_of self.now queue) }
+        ensures last { result.1 ≡ (pipe_of self.now queue).active.seq }
+    {
+        match queue {
+            LogQueue::Append => self.append.file_span(),
+            LogQueue::Rewrite => self.rewrite.file_span(),
+        }
+    }
+
+    /// The number of the file before which so many per cent of a queue's files lie.
+    pub fn file_at(&self, queue: LogQueue, percent: u64) -> FileSeq
+        requires { percent ≤ 100 }
+        ensures { result ≡ min (first_of (pipe_of self.now queue) + min ((length (pipe_of self.now queue).older.items + 1) * percent) (2 ^ 64 - 1) / 100) (2 ^ 64 - 1) }
+    {
+        match queue {
+            LogQueue::Append => self.append.file_at(percent),
+            LogQueue::Rewrite => self.rewrite.file_at(percent),
+        }
+    }
+
+    /// The bytes of all files of a queue, each taken as long as the target size.
+    pub fn total_size(&self, queue: LogQueue) -> u64
+        ensures { result ≡ min ((length (pipe_of self.now queue).older.items + 1) * (pipe_of self.now queue).target_file_size) (2 ^ 64 - 1) }
+    {
+        match queue {
+            LogQueue::Append => self.append.total_size(),
+            LogQueue::Rewrite => self.rewrite.total_size(),
+        }
+    }
+
+    /// The bytes of a block of a file of the handle's queue. A block of a file that this queue
+    /// doesn't have is `Corruption`.
+    pub fn read_bytes<F: FileSystem>(
+        &self,
+        files: &F,
+        handle: FileBlockHandle,
+    ) -> Result<Vec<u8>, Error>
+        requires { IsPipe (pipe_of self.now handle.id.queue) (F.disk files.now) }
+        ensures { IsReadOf (pipe_of self.now handle.id.queue) (F.disk files.now) (F.meter files.now) handle result }
+    {
+        match handle.id.queue {
+            LogQueue::Append => self.append.read_bytes(files, handle),
+            LogQueue::Rewrite => self.rewrite.read_bytes(files, handle),
+        }
+    }
+}
