@@ -27,11 +27,6 @@ module _ {Q : Type 0} (own : ℕ) (leader : LeaderValue ℕ Q) where
   IsAcceptedEnd accepts from end reached =
       (place : ℕ) → from ≤ place → place < end → accepts (has_accepted end place) ≡ nat_lt place reached
 
--- the place doesn't stand within these bounds
-abbrev pub IsOutside : ℕ → ℕ → Option ℕ → Type 0
-IsOutside low high None = Unit {0}
-IsOutside low high (Some place) = low ≤ place → place < high → ⊥
-
 -- the leader wrote none of these log ids below the place
 abbrev pub WroteNoneBelow : LeaderId ℕ → ℕ → List (LogId ℕ) → Type 0
 WroteNoneBelow leader place ids = AllByRecursion (λ id. is_of_leader nat_eq leader id ≡ true → place ≤ id.index) ids

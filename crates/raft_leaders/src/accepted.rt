@@ -1,13 +1,12 @@
 //! What a leader may commit.
-ghost use Rattle.std.specs.Prelude.{◌≡◌, ℕ, ◌<◌, ◌≤◌, ◌^◌, ◌++◌, None, IfSome, IfNone, max};
+ghost use Rattle.std.specs.Prelude.{◌≡◌, ℕ, ◌<◌, ◌≤◌, ◌^◌, max};
 ghost use Rattle.std.specs.List.{AllByRecursion};
-ghost use Rattle.raft_values.specs.LogId.{place_of};
 ghost use Rattle.raft_state.specs.LogIdList.{IsBelowNext, end_of_key, leader_ids};
-ghost use Rattle.raft_leaders.specs.Accepted.{IsAcceptedEnd, IsOutside, WroteNoneBelow, greatest_accepted, has_accepted, last_own_within};
+ghost use Rattle.raft_leaders.specs.Accepted.{IsAcceptedEnd, WroteNoneBelow, greatest_accepted, has_accepted, last_own_within};
 ghost use Rattle.raft_leaders.specs.Leader.{end_of};
 
 use crate::leader::Leader;
-use raft_state::{HasId, LeaderId, LogId, LogIdList, LogIdOptionExt, QuorumSet};
+use raft_state::{HasId, LeaderId, LogId, LogIdList, QuorumSet};
 
 // Who has accepted all up to a place.
 #[derive(Drop)]
@@ -51,37 +50,9 @@ fn is_accepted<QS: QuorumSet<u64> + Drop, VS: QuorumSet<u64>>(
     voters.is_quorum(&acceptors)
 }
 
-// The lower one of the two places; the second one counts if it stands from the bound on.
-fn lower_end(least: u64, from: u64, place: Option<u64>) -> u64
-    requires { from ≤ least }
-    ensures within { (from ≤ result) × (result ≤ least) }
-    ensures outside { IsOutside from result place }
-{
-    match place {
-        Some(place) if from <= place => least.min(place),
-        _ => least,
-    }
-}
-
-// The first place, from this one on, at which a log ends: a peer's, or the leader's own.
-fn next_end<QS: QuorumSet<u64> + Drop>(leader: &Leader<u64, QS>, end: u64, from: u64) -> Option<u64>
-    ensures within { IfSome result (λ place. (from ≤ place) × (place < end)) }
-    ensures outside { IfSome result (λ place. AllByRecursion (λ x. IsOutside from place (place_of x.1.matching)) (leader.now.progress.voters ++ leader.now.progress.learners)) }
-    ensures none { IfNone result (end ≤ from) }
-{
-    if end <= from {
-        return None;
-    }
-    let mut least = end - 1;
-    for entry in leader.progress().iter() {
-        least = lower_end(least, from, entry.1.matching.index());
-    }
-    Some(least)
-}
-
 // The place behind the greatest one below the end, from a place on, that a quorum has accepted; that
-// place if there is none. It goes up by the ends of the peers' logs: between two of them a quorum has
-// accepted all or none.
+// place if there is none. It is found by halving: who has accepted all up to a place has accepted all
+// up to a lower one.
 fn accepted_end<QS: QuorumSet<u64> + Drop, VS: QuorumSet<u64>>(
     leader: &Leader<u64, QS>,
     own: u64,
@@ -92,11 +63,14 @@ fn accepted_end<QS: QuorumSet<u64> + Drop, VS: QuorumSet<u64>>(
     ensures { IsAcceptedEnd own leader.now (VS.accepts voters.now) from end result }
 {
     let mut reached = from;
-    'climbing: while let Some(place) = next_end(leader, end, reached) {
-        if !is_accepted(leader, own, end, place, voters) {
-            return reached;
+    let mut refused = end;
+    'halving: while reached < refused {
+        let place = reached + (refused - reached) / 2;
+        if is_accepted(leader, own, end, place, voters) {
+            reached = place + 1;
+        } else {
+            refused = place;
         }
-        reached = place + 1;
     }
     reached
 }
