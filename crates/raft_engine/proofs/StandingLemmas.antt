@@ -91,7 +91,7 @@ module _ {C R : Type 0} (x : Given) (own : ℕ) (e e' : Engine C R) (r : StepRes
             terms = subst (λ (y : KnownState). AreUpToTerm y.highest_term (stored_ids r.state.stored)) (sym state) old.knows.terms;
             purged = ap (λ (y : KnownState). y.state.purged_next) state ∙ old.knows.purged;
             snapshot = ap (λ (y : KnownState). y.state.snapshot_meta) state ∙ old.knows.snapshot;
-            memberships = ap (λ (y : KnownState). y.memberships.items) state ∙ old.knows.memberships;
+            memberships = ap (λ (y : KnownState). y.memberships) state ∙ old.knows.memberships;
             in_force = ap (λ (y : KnownState). y.state.membership_state.effective) state ∙ old.knows.in_force;
             last_committed =
                 ap (λ (y : KnownState). y.state.membership_state.committed) state ∙ old.knows.last_committed

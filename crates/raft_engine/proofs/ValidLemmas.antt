@@ -201,14 +201,14 @@ module _ {C R : Type 0} (own : ℕ) (e : Engine C R) (s : GroupState) (stands : 
       let knows = stands.knows in
       let noted = noted_known k s.stored knows in
       let snapshot = force_of_snapshot k.state.snapshot_meta in
-      let rise : MembersNeverFall k.memberships.items = subst MembersNeverFall (sym knows.memberships) (members_never_fall s.stored.log (log_never_falls s.stored.purged s.stored.log rising.ids)) in
+      let rise : MembersNeverFall k.memberships = subst MembersNeverFall (sym knows.memberships) (members_never_fall s.stored.log (log_never_falls s.stored.purged s.stored.log rising.ids)) in
       let force = force_known k s.stored knows.snapshot knows.memberships in
-      let first : IsUpTo snapshot.log_id (last_else snapshot k.memberships.items).log_id =
+      let first : IsUpTo snapshot.log_id (last_else snapshot k.memberships).log_id =
       subst (λ (m : EffectiveMembership). IsUpTo snapshot.log_id m.log_id) (sym force)
       (subst (λ meta. IsUpTo (force_of_snapshot meta).log_id (effective_of (membership_in_force s.stored)).log_id) (sym knows.snapshot) rising.members) in
       subst (λ (m : EffectiveMembership). IsUpTo e.state.state.membership_state.committed.log_id m.log_id) (sym noted.0)
-      (subst (λ (m : EffectiveMembership). IsUpTo m.log_id (last_else snapshot k.memberships.items).log_id) (sym noted.1)
-      (below_last (next_place k.state.committed) snapshot k.memberships.items first rise))
+      (subst (λ (m : EffectiveMembership). IsUpTo m.log_id (last_else snapshot k.memberships).log_id) (sym noted.1)
+      (below_last (next_place k.state.committed) snapshot k.memberships first rise))
 
   -- the same of what the engine has noted
   purged_to_goal : IsUpTo (last_purged e.state.state.purged_next e.state.state.log_ids) e.state.state.purge_upto

@@ -5,8 +5,7 @@ use Rattle.std.specs.Option.{option_eq, option_or, is_some}
 use Rattle.std.proofs.Common.{sym, ap, ◌∙◌, subst, arith, append_assoc, append-nil, length-append, get_or}
 use Rattle.std.proofs.lemmas.Bool.Decides.{nat_tests}
 use Rattle.std.proofs.lemmas.Option.{slice_get-map, slice_get_read}
-use Rattle.std.proofs.lemmas.List.{length-map, drop-map, take_all, map-append, length-take-le}
-use Rattle.std.proofs.Math.Seq.{take-append_seam}
+use Rattle.std.proofs.lemmas.List.{length-map, drop-map, take_all, map-append}
 use Rattle.raft_values.specs.declared.vote.Vote.{Vote}
 use Rattle.raft_values.specs.declared.log_id.LogId.{LogId}
 use Rattle.raft_values.specs.LogId.{next_place, place_of}
@@ -265,9 +264,9 @@ of_snapshot (Some x) = here x.membership
     here (Some m) = refl
 
 -- what is known gives the membership in force
-pub force_known : (k : KnownState) (s : StoredGroup) → k.state.snapshot_meta ≡ meta_of s.snapshot → k.memberships.items ≡ memberships_in s.log → force_of k ≡ effective_of (membership_in_force s)
+pub force_known : (k : KnownState) (s : StoredGroup) → k.state.snapshot_meta ≡ meta_of s.snapshot → k.memberships ≡ memberships_in s.log → force_of k ≡ effective_of (membership_in_force s)
 force_known k s e f =
-    ap (λ meta. last_else (force_of_snapshot meta) k.memberships.items) e
+    ap (λ meta. last_else (force_of_snapshot meta) k.memberships) e
     ∙ ap (last_else (force_of_snapshot (meta_of s.snapshot))) f
     ∙ ap (λ m. last_else m (memberships_in s.log)) (of_snapshot s.snapshot)
     ∙ sym (last_in s.log (option_and_then (λ (y : Snapshot). y.membership) s.snapshot))
@@ -324,14 +323,6 @@ last_is (x ∷ ms) m other e =
     last_of_more [] y f = cc
     last_of_more (z ∷ ys) y f = last_of_more ys z f
 
--- those in front went behind the rest, and then went away
-pub front_gone : (ms : List EffectiveMembership) (gone n : ℕ) → gone ≤ length ms → n ≡ length (drop gone ms ++ take gone ms) → take (n - gone) (drop gone ms ++ take gone ms) ≡ drop gone ms
-front_gone ms gone n l e =
-    let all : n ≡ length (drop gone ms) + length (take gone ms) = e ∙ length-append (drop gone ms) (take gone ms) in
-    let front : length (take gone ms) ≡ gone = length-take-le gone ms l in
-    let at : n - gone ≡ length (drop gone ms) = omega arith in
-    ap (λ k. take k (drop gone ms ++ take gone ms)) at ∙ take-append_seam (drop gone ms) (take gone ms)
-
 -- whether the log id found at a place above the purge point is this one
 pub is_found : (s : StoredGroup) (id : LogId ℕ) → first_place s ≤ id.index → option_eq log_id_eq (id_at_place s id.index) (Some id) ≡ has_id_in_log s id
 is_found s id l =
@@ -358,7 +349,7 @@ none_found s id l =
     let below : nat_lt id.index (first_place s) ≡ true = grind (arith, nat_tests, l) in rw below refl
 
 -- the memberships of a placed log are in order
-pub known_in_order : (k : KnownState) (s : StoredGroup) → Knows k s → IsPlaced s → AreInOrder k.memberships.items
+pub known_in_order : (k : KnownState) (s : StoredGroup) → Knows k s → IsPlaced s → AreInOrder k.memberships
 known_in_order k s old p = subst AreInOrder (sym old.memberships) (placed_in_order s.log (first_place s) (ids_placed s.log (first_place s) p))
 
 -- entries go on where others end
@@ -368,20 +359,20 @@ behind (e ∷ es) more place p q =
     let same : place + length (e ∷ es) ≡ suc place + length es = omega arith in (p.0, behind es more (suc place) p.1 (subst (λ k. ArePlaced k more) same q))
 
 -- and so they are with those of entries behind it
-pub grown_in_order : (k : KnownState) (s : StoredGroup) (es : List Entry) → Knows k s → IsPlaced s → ArePlaced (end_place s) es → AreInOrder (k.memberships.items ++ memberships_in es)
+pub grown_in_order : (k : KnownState) (s : StoredGroup) (es : List Entry) → Knows k s → IsPlaced s → ArePlaced (end_place s) es → AreInOrder (k.memberships ++ memberships_in es)
 grown_in_order k s es old p q =
     subst AreInOrder (memberships-append s.log es ∙ ap (λ ms. ms ++ memberships_in es) (sym old.memberships))
     (placed_in_order (s.log ++ es) (first_place s) (ids_placed (s.log ++ es) (first_place s) (behind s.log es (first_place s) p q)))
 
 -- what is known gives the last committed membership
-pub committed_known : (k : KnownState) (s : StoredGroup) → k.state.snapshot_meta ≡ meta_of s.snapshot → k.memberships.items ≡ memberships_in s.log → committed_of k ≡ committed_membership s k.state.committed
+pub committed_known : (k : KnownState) (s : StoredGroup) → k.state.snapshot_meta ≡ meta_of s.snapshot → k.memberships ≡ memberships_in s.log → committed_of k ≡ committed_membership s k.state.committed
 committed_known k s e f =
-    ap (λ meta. last_else (force_of_snapshot meta) (take_below (next_place k.state.committed) k.memberships.items)) e
+    ap (λ meta. last_else (force_of_snapshot meta) (take_below (next_place k.state.committed) k.memberships)) e
     ∙ ap (λ ms. last_else (force_of_snapshot (meta_of s.snapshot)) (take_below (next_place k.state.committed) ms)) f
 
 -- what is known anew, once both memberships are noted
 pub knows_again : (k : KnownState) (s : StoredGroup) → k.state.vote.value ≡ s.vote → k.state.log_ids ≡ stored_ids s → AreUpToTerm k.highest_term (stored_ids s) → k.state.purged_next ≡ first_place s
-    → k.state.snapshot_meta ≡ meta_of s.snapshot → k.memberships.items ≡ memberships_in s.log → k.state.purge_upto ≡ option_or k.wish s.purged → AreNoted k → Knows k s
+    → k.state.snapshot_meta ≡ meta_of s.snapshot → k.memberships ≡ memberships_in s.log → k.state.purge_upto ≡ option_or k.wish s.purged → AreNoted k → Knows k s
 knows_again k s vote ids terms purged_at snapshot memberships goal noted =
     record {
       vote = vote;
@@ -402,12 +393,12 @@ noted_known k s old =
 
 -- and stays so where the memberships stay
 pub noted_still : (k k' : KnownState) → AreNoted k → k'.state.membership_state ≡ k.state.membership_state → k'.state.snapshot_meta ≡ k.state.snapshot_meta
-    → k'.state.committed ≡ k.state.committed → k'.memberships.items ≡ k.memberships.items → AreNoted k'
+    → k'.state.committed ≡ k.state.committed → k'.memberships ≡ k.memberships → AreNoted k'
 noted_still k k' noted both meta committed items =
-    let force : force_of k' ≡ force_of k = ap (λ m. last_else (force_of_snapshot m) k'.memberships.items) meta ∙ ap (last_else (force_of_snapshot k.state.snapshot_meta)) items in
+    let force : force_of k' ≡ force_of k = ap (λ m. last_else (force_of_snapshot m) k'.memberships) meta ∙ ap (last_else (force_of_snapshot k.state.snapshot_meta)) items in
     let upto : committed_of k' ≡ committed_of k =
-    ap (λ m. last_else (force_of_snapshot m) (take_below (next_place k'.state.committed) k'.memberships.items)) meta
-    ∙ ap (λ (c : Option (LogId ℕ)). last_else (force_of_snapshot k.state.snapshot_meta) (take_below (next_place c) k'.memberships.items)) committed
+    ap (λ m. last_else (force_of_snapshot m) (take_below (next_place k'.state.committed) k'.memberships)) meta
+    ∙ ap (λ (c : Option (LogId ℕ)). last_else (force_of_snapshot k.state.snapshot_meta) (take_below (next_place c) k'.memberships)) committed
     ∙ ap (λ ms. last_else (force_of_snapshot k.state.snapshot_meta) (take_below (next_place k.state.committed) ms)) items in (
       ap (λ (b : MembershipState). b.effective) both ∙ noted.0 ∙ sym force,
       ap (λ (b : MembershipState). b.committed) both ∙ noted.1 ∙ sym upto,
@@ -435,19 +426,19 @@ end_known found s ids e f p = place_next found ∙ ap next_place (e ∙ ap last_
 
 module _ (k k' k'' : KnownState) (s : StoredGroup) (old : Knows k s) (noted : AreNoted k'') (both : k'' ≡ with_members k' k''.state.membership_state) where
   again : (s' : StoredGroup) → k'.state.vote.value ≡ s'.vote → k'.state.log_ids ≡ stored_ids s' → AreUpToTerm k'.highest_term (stored_ids s') → k'.state.purged_next ≡ first_place s'
-      → k'.state.snapshot_meta ≡ meta_of s'.snapshot → k'.memberships.items ≡ memberships_in s'.log → k'.state.purge_upto ≡ option_or k'.wish s'.purged → Knows k'' s'
+      → k'.state.snapshot_meta ≡ meta_of s'.snapshot → k'.memberships ≡ memberships_in s'.log → k'.state.purge_upto ≡ option_or k'.wish s'.purged → Knows k'' s'
   again s' vote ids terms at snapshot memberships goal =
       knows_again k'' s' (ap (λ (y : KnownState). y.state.vote.value) both ∙ vote) (ap (λ (y : KnownState). y.state.log_ids) both ∙ ids)
       (subst (λ (y : KnownState). AreUpToTerm y.highest_term (stored_ids s')) (sym both) terms)
       (ap (λ (y : KnownState). y.state.purged_next) both ∙ at) (ap (λ (y : KnownState). y.state.snapshot_meta) both ∙ snapshot)
-      (ap (λ (y : KnownState). y.memberships.items) both ∙ memberships)
+      (ap (λ (y : KnownState). y.memberships) both ∙ memberships)
       (ap (λ (y : KnownState). y.state.purge_upto) both ∙ goal ∙ ap (λ (y : KnownState). option_or y.wish s'.purged) (sym both)) noted
 
   pub saved : (x : Snapshot) → k' ≡ record k { state = record k.state { snapshot_meta = meta_of (Some x) } } → Knows k'' (record s { snapshot = Some x })
   saved x e =
       again (record s { snapshot = Some x }) (ap (λ (y : KnownState). y.state.vote.value) e ∙ old.vote) (ap (λ (y : KnownState). y.state.log_ids) e ∙ old.ids)
       (subst (λ (y : KnownState). AreUpToTerm y.highest_term (stored_ids s)) (sym e) old.terms)
-      (ap (λ (y : KnownState). y.state.purged_next) e ∙ old.purged) (ap (λ (y : KnownState). y.state.snapshot_meta) e) (ap (λ (y : KnownState). y.memberships.items) e ∙ old.memberships)
+      (ap (λ (y : KnownState). y.state.purged_next) e ∙ old.purged) (ap (λ (y : KnownState). y.state.snapshot_meta) e) (ap (λ (y : KnownState). y.memberships) e ∙ old.memberships)
       (ap (λ (y : KnownState). y.state.purge_upto) e ∙ old.goal ∙ ap (λ (y : KnownState). option_or y.wish s.purged) (sym e))
 
   -- the log ids of another log behind the purge point
@@ -459,7 +450,7 @@ module _ (k k' k'' : KnownState) (s : StoredGroup) (old : Knows k s) (noted : Ar
   terms_of_log : k.highest_term ≤ k'.highest_term → AreUpToTerm k'.highest_term (entry_ids s.log)
   terms_of_log l = up_to_more k.highest_term k'.highest_term (entry_ids s.log) l (up_to_back k.highest_term (purged_ids s.purged) (entry_ids s.log) old.terms)
 
-  pub cut : (p : IsPlaced s) (at : ℕ) → first_place s ≤ at → k.highest_term ≤ k'.highest_term → k'.wish ≡ k.wish → k'.state ≡ record k.state { log_ids = truncated k.state.log_ids at } → k'.memberships.items ≡ take_below at k.memberships.items
+  pub cut : (p : IsPlaced s) (at : ℕ) → first_place s ≤ at → k.highest_term ≤ k'.highest_term → k'.wish ≡ k.wish → k'.state ≡ record k.state { log_ids = truncated k.state.log_ids at } → k'.memberships ≡ take_below at k.memberships
       → Knows k'' (record s { log = log_below s at })
   cut p at l t w e f =
       again (record s { log = log_below s at }) (ap (λ (y : StateOf). y.vote.value) e ∙ old.vote)
@@ -469,7 +460,7 @@ module _ (k k' k'' : KnownState) (s : StoredGroup) (old : Knows k s) (noted : Ar
       (f ∙ ap (take_below at) old.memberships ∙ memberships_below s.log at (first_place s) p)
       (ap (λ (y : StateOf). y.purge_upto) e ∙ old.goal ∙ ap (λ wish. option_or wish s.purged) (sym w))
 
-  pub put : (p : IsPlaced s) (es : List Entry) → ArePlaced (end_place s) es → k.highest_term ≤ k'.highest_term → AreUpToTerm k'.highest_term (entry_ids es) → k'.wish ≡ k.wish → k'.state ≡ record k.state { log_ids = extended k.state.log_ids (entry_ids es) } → k'.memberships.items ≡ k.memberships.items ++ memberships_in es
+  pub put : (p : IsPlaced s) (es : List Entry) → ArePlaced (end_place s) es → k.highest_term ≤ k'.highest_term → AreUpToTerm k'.highest_term (entry_ids es) → k'.wish ≡ k.wish → k'.state ≡ record k.state { log_ids = extended k.state.log_ids (entry_ids es) } → k'.memberships ≡ k.memberships ++ memberships_in es
       → Knows k'' (record s { log = log_below s (end_place s) ++ es })
   put p es q t h w e f =
       again (record s { log = log_below s (end_place s) ++ es }) (ap (λ (y : StateOf). y.vote.value) e ∙ old.vote)
@@ -482,7 +473,7 @@ module _ (k k' k'' : KnownState) (s : StoredGroup) (old : Knows k s) (noted : Ar
       (ap (λ (y : StateOf). y.purge_upto) e ∙ old.goal ∙ ap (λ wish. option_or wish s.purged) (sym w))
 
   pub removed : (p : IsPlaced s) (upto : LogId ℕ) → first_place s ≤ upto.index → IsEntryOrPast s upto → k.highest_term ≤ k'.highest_term → upto.leader_id.term ≤ k'.highest_term → k'.wish ≡ k.wish
-      → k'.state ≡ record k.state { log_ids = purged k.state.log_ids upto; purged_next = upto.index + 1; purge_upto = option_or k.wish (Some upto) } → k'.memberships.items ≡ drop_below (upto.index + 1) k.memberships.items
+      → k'.state ≡ record k.state { log_ids = purged k.state.log_ids upto; purged_next = upto.index + 1; purge_upto = option_or k.wish (Some upto) } → k'.memberships ≡ drop_below (upto.index + 1) k.memberships
       → Knows k'' (record s { purged = Some upto; log = drop (upto.index + 1 - first_place s) s.log })
   removed p upto l h t m w e f =
       let within : nat_lt upto.index (first_place s) ≡ false = grind (arith, nat_tests, l) in
@@ -526,7 +517,7 @@ pub record HasRead (state : StateOf) (vote : Vote ℕ) (purged_id : Option (LogI
 
 -- of a log that has no entry yet all is known
 pub read : (state : StateOf) (k k' : KnownState) (s : StoredGroup) → HasRead state s.vote s.purged (meta_of s.snapshot) → s.log ≡ []
-    → k.state ≡ state → AreUpToTerm k.highest_term (purged_ids s.purged) → k.memberships.items ≡ [] → k.wish ≡ None → AreNoted k' → k' ≡ with_members k k'.state.membership_state → Knows k' s
+    → k.state ≡ state → AreUpToTerm k.highest_term (purged_ids s.purged) → k.memberships ≡ [] → k.wish ≡ None → AreNoted k' → k' ≡ with_members k k'.state.membership_state → Knows k' s
 read state k k' s before empty e t f none noted both =
     let ids : stored_ids s ≡ purged_ids s.purged = ap (λ log. purged_ids s.purged ++ entry_ids log) empty ∙ append-nil (purged_ids s.purged) in
     knows_again k' s
@@ -535,7 +526,7 @@ read state k k' s before empty e t f none noted both =
     (subst (λ (y : KnownState). AreUpToTerm y.highest_term (stored_ids s)) (sym both) (subst (AreUpToTerm k.highest_term) (sym ids) t))
     (ap (λ (y : KnownState). y.state.purged_next) both ∙ ap (λ (y : StateOf). y.purged_next) e ∙ before.at)
     (ap (λ (y : KnownState). y.state.snapshot_meta) both ∙ ap (λ (y : StateOf). y.snapshot_meta) e ∙ before.meta)
-    (ap (λ (y : KnownState). y.memberships.items) both ∙ f ∙ ap memberships_in (sym empty))
+    (ap (λ (y : KnownState). y.memberships) both ∙ f ∙ ap memberships_in (sym empty))
     (ap (λ (y : KnownState). y.state.purge_upto) both ∙ ap (λ (y : StateOf). y.purge_upto) e ∙ before.goal
     ∙ ap (λ wish. option_or wish s.purged) (sym none) ∙ ap (λ (y : KnownState). option_or y.wish s.purged) (sym both)) noted
 
@@ -547,15 +538,15 @@ committed_on k k' s upto old noted both =
     knows_again k' s (ap (λ (y : KnownState). y.state.vote.value) both ∙ old.vote) (ap (λ (y : KnownState). y.state.log_ids) both ∙ old.ids)
     (subst (λ (y : KnownState). AreUpToTerm y.highest_term (stored_ids s)) (sym both) old.terms)
     (ap (λ (y : KnownState). y.state.purged_next) both ∙ old.purged) (ap (λ (y : KnownState). y.state.snapshot_meta) both ∙ old.snapshot)
-    (ap (λ (y : KnownState). y.memberships.items) both ∙ old.memberships)
+    (ap (λ (y : KnownState). y.memberships) both ∙ old.memberships)
     (ap (λ (y : KnownState). y.state.purge_upto) both ∙ old.goal ∙ ap (λ (y : KnownState). option_or y.wish s.purged) (sym both)) noted
 
 -- as many memberships are committed as before
-pub noted_upto : (k : KnownState) (upto : Option (LogId ℕ)) (n m : ℕ) → AreNoted k → take n k.memberships.items ≡ take_below (next_place k.state.committed) k.memberships.items
-    → take m k.memberships.items ≡ take_below (next_place upto) k.memberships.items → m ≡ n → AreNoted (with_committed k upto k.state.membership_state)
+pub noted_upto : (k : KnownState) (upto : Option (LogId ℕ)) (n m : ℕ) → AreNoted k → take n k.memberships ≡ take_below (next_place k.state.committed) k.memberships
+    → take m k.memberships ≡ take_below (next_place upto) k.memberships → m ≡ n → AreNoted (with_committed k upto k.state.membership_state)
 noted_upto k upto n m noted e f same = (
   noted.0,
-  noted.1 ∙ ap (last_else (force_of_snapshot k.state.snapshot_meta)) (sym e ∙ ap (λ j. take j k.memberships.items) (sym same) ∙ f),
+  noted.1 ∙ ap (last_else (force_of_snapshot k.state.snapshot_meta)) (sym e ∙ ap (λ j. take j k.memberships) (sym same) ∙ f),
 )
 
 -- ---- up to where the log is to be purged

@@ -118,7 +118,7 @@ pub record Knows (k : KnownState) (s : StoredGroup) : Type 0 where
   pub terms : AreUpToTerm k.highest_term (stored_ids s)
   pub purged : k.state.purged_next ≡ first_place s
   pub snapshot : k.state.snapshot_meta ≡ meta_of s.snapshot
-  pub memberships : k.memberships.items ≡ memberships_in s.log
+  pub memberships : k.memberships ≡ memberships_in s.log
   pub in_force : k.state.membership_state.effective ≡ effective_of (membership_in_force s)
   pub last_committed : k.state.membership_state.committed ≡ committed_membership s k.state.committed
   -- up to where a leader is still to purge, or else up to where the log is purged
@@ -131,12 +131,12 @@ drop_below place (m ∷ ms) = if is_below place m.log_id then drop_below place m
 
 -- the last membership of the log, or else the snapshot's
 abbrev pub force_of : KnownState → EffectiveMembership
-force_of k = last_else (force_of_snapshot k.state.snapshot_meta) k.memberships.items
+force_of k = last_else (force_of_snapshot k.state.snapshot_meta) k.memberships
 
 -- the last membership of the log at or below the committed log id, or else the snapshot's
 abbrev pub committed_of : KnownState → EffectiveMembership
 committed_of k =
-    last_else (force_of_snapshot k.state.snapshot_meta) (take_below (next_place k.state.committed) k.memberships.items)
+    last_else (force_of_snapshot k.state.snapshot_meta) (take_below (next_place k.state.committed) k.memberships)
 
 -- a membership of an entry, as one that is in force
 abbrev pub logged_as_effective : LoggedMembership → EffectiveMembership

@@ -20,8 +20,9 @@ use crate::key_leaders::has_leader_from;
 use crate::member_ids::{ids_of_others, voters_of_others};
 use crate::terms::{highest_term, term_of};
 use raft_state::{
-    BasicNode, Bytes, EffectiveMembership, Entry, LeaderId, LogId, LogIdOptionExt, LogStateReader,
-    MembershipState, Node, NodeId, RaftPayload, RaftState, SnapshotMeta, UTime, Vote,
+    BasicNode, Bytes, EffectiveMembership, Entry, KeptVec, LeaderId, LogId, LogIdOptionExt,
+    LogStateReader, MembershipState, Node, NodeId, RaftPayload, RaftState, SnapshotMeta, UTime,
+    Vote,
 };
 use std::alloc::{AllocError, Global};
 
@@ -32,7 +33,7 @@ pub struct KnownState<NID: NodeId, N: Node> {
     /// What openraft keeps: vote, log ids, places, snapshot.
     pub state: RaftState<NID, N, u64>,
     /// The memberships of the log above the purge point, by rising place.
-    pub memberships: Vec<EffectiveMembership<NID, N>>,
+    pub memberships: KeptVec<EffectiveMembership<NID, N>>,
     /// Up to where a leader is still to purge, once no request needs what goes.
     pub wish: Option<LogId<NID>>,
     /// No log id is of a higher term than this one (own): the highest that the log has had.
@@ -61,10 +62,10 @@ fn as_effective(
 
 // The memberships of these entries behind the others.
 fn push_memberships(
-    memberships: &mut Vec<EffectiveMembership<u64, BasicNode>>,
+    memberships: &mut KeptVec<EffectiveMembership<u64, BasicNode>>,
     entries: &[Entry<u64, BasicNode, Bytes>],
 ) -> Result<(), AllocError>
-    ensures { OnOk result (memberships.new.items ≡ memberships.old.items ++ memberships_in entries.now) }
+    ensures { OnOk result (memberships.new ≡ memberships.old ++ memberships_in entries.now) }
 {
     for entry in entries {
         if let Some(membership) = entry.get_membership() {
@@ -130,7 +131,7 @@ impl KnownState<u64, BasicNode> {
         if let Some(purged) = purged {
             state.purge_log(&purged)?;
         }
-        let memberships = Vec::new(alloc);
+        let memberships = KeptVec::new(alloc);
         let mut known = KnownState {
             state,
             memberships,
@@ -163,8 +164,8 @@ impl KnownState<u64, BasicNode> {
 
     // The last of the first memberships, so many of them, or else the snapshot's.
     fn last_among(&self, count: usize) -> Result<EffectiveMembership<u64, BasicNode>, AllocError>
-        requires { count ≤ length self.now.memberships.items }
-        ensures { IfOk result (λ m. m ≡ last_else (force_of_snapshot self.now.state.snapshot_meta) (take count self.now.memberships.items)) }
+        requires { count ≤ length self.now.memberships }
+        ensures { IfOk result (λ m. m ≡ last_else (force_of_snapshot self.now.state.snapshot_meta) (take count self.now.memberships)) }
     {
         let (first, _) = self.memberships.as_slice().split_at(count);
         match first.last() {
@@ -176,7 +177,7 @@ impl KnownState<u64, BasicNode> {
     // The memberships of a log are in order, since its log ids are. Their list tells so by itself:
     // nothing is read.
     fn show_order(&self)
-        ensures { (s : StoredGroup) → Knows self.now s → AreInOrder self.now.memberships.items }
+        ensures { (s : StoredGroup) → Knows self.now s → AreInOrder self.now.memberships }
     {
         let _ = self.state.log_ids.key_log_ids();
     }
@@ -184,7 +185,7 @@ impl KnownState<u64, BasicNode> {
     // The last membership of the log is in force from now on, and the last one of the committed log
     // is the committed one; where the log has none, the snapshot's is.
     fn refresh_memberships(&mut self) -> Result<(), AllocError>
-        ensures noted { AreInOrder self.old.memberships.items → OnOk result (AreNoted self.new) }
+        ensures noted { AreInOrder self.old.memberships → OnOk result (AreNoted self.new) }
         ensures rest { OnOk result (self.new ≡ with_members self.old self.new.state.membership_state) }
     {
         let count = count_committed(self.memberships.as_slice(), &self.state.committed);
@@ -196,7 +197,7 @@ impl KnownState<u64, BasicNode> {
 
     // The same where the memberships changed; else both are noted already.
     fn refresh_if(&mut self, changed: bool) -> Result<(), AllocError>
-        ensures noted { AreInOrder self.old.memberships.items → (changed ≡ false → AreNoted self.old) → OnOk result (AreNoted self.new) }
+        ensures noted { AreInOrder self.old.memberships → (changed ≡ false → AreNoted self.old) → OnOk result (AreNoted self.new) }
         ensures rest { OnOk result (self.new ≡ with_members self.old self.new.state.membership_state) }
     {
         if changed {
@@ -404,9 +405,7 @@ impl KnownState<u64, BasicNode> {
         self.highest_term = self.highest_term.max(upto.leader_id.term);
         self.state.purge_upto = self.wish.or(Some(*upto));
         let gone = count_below(self.memberships.as_slice(), upto.index + 1);
-        self.memberships.rotate_left(gone);
-        let left = self.memberships.len() - gone;
-        self.memberships.truncate(left);
+        self.memberships.drop_front(gone);
         self.refresh_if(gone > 0)
     }
 

@@ -4,6 +4,7 @@
 
 pub mod accepted;
 pub mod entry;
+pub mod kept_vec;
 pub mod log_id_list;
 pub mod log_state_reader;
 pub mod raft_entry;
@@ -11,6 +12,7 @@ pub mod raft_state;
 
 pub use accepted::Accepted;
 pub use entry::{Entry, EntryPayload};
+pub use kept_vec::KeptVec;
 pub use log_id_list::{LogIdList, are_keys};
 pub use log_state_reader::LogStateReader;
 pub use raft_entry::{FromAppData, RaftEntry, RaftLogId, RaftPayload};

@@ -6,6 +6,7 @@ ghost use Rattle.raft_state.specs.LogIdList.{ids_of, last_id, id_at, appended, t
 ghost use Rattle.raft_state.specs.LogIdList.{Reaches, ends_in_pair, keys_of, last_run, extended, AllGoOn, IsBelowNext, ChangesLeader};
 ghost use Rattle.raft_state.specs.LogIdList.{HaveOneLeader, KeepsFront, with_end, HasFewerKeys};
 
+use crate::kept_vec::KeptVec;
 use crate::raft_entry::RaftLogId;
 use raft_values::log_id::LogId;
 use raft_values::node::NodeId;
@@ -18,8 +19,7 @@ use std::marker::Model;
 /// since a peer's frames may bring any.
 #[derive(Debug, Drop)]
 pub struct LogIdList<NID: NodeId> {
-    alloc: Global,
-    key_log_ids: Vec<LogId<NID>>,
+    key_log_ids: KeptVec<LogId<NID>>,
 }
 
 impl<NID: NodeId> Model for LogIdList<NID> {
@@ -29,9 +29,9 @@ impl<NID: NodeId> Model for LogIdList<NID> {
 
     ghost Value = { List (LogId NID) };
 
-    ghost view = { λ s. ids_of s.key_log_ids.items };
+    ghost view = { λ s. ids_of s.key_log_ids };
 
-    ghost invariant = { λ s. AreKeys NID.cmp s.key_log_ids.items };
+    ghost invariant = { λ s. AreKeys NID.cmp s.key_log_ids };
 }
 
 // How many of the keys stand at the place or below it, where their places rise: found by halving.
@@ -53,18 +53,18 @@ fn ends_in_pair<NID: NodeId>(keys: &[LogId<NID>]) -> bool
     }
 }
 
-fn append_key<NID: NodeId>(keys: &mut Vec<LogId<NID>>, id: LogId<NID>) -> Result<(), AllocError>
-    requires keys { AreKeys NID.cmp keys.old.items }
-    requires goes_on { GoesOn (last_id keys.old.items) id }
-    ensures ok { OnOk result (ids_of keys.new.items ≡ appended (ids_of keys.old.items) id) }
-    ensures err { OnErr result (keys.new.items ≡ keys.old.items) }
-    ensures only { OnErr result (HasFewerKeys NID.cmp (ids_of keys.old.items) (appended (ids_of keys.old.items) id)) }
-    ensures keys { AreKeys NID.cmp keys.new.items }
-    ensures front { KeepsFront keys.old.items keys.new.items }
+fn append_key<NID: NodeId>(keys: &mut KeptVec<LogId<NID>>, id: LogId<NID>) -> Result<(), AllocError>
+    requires keys { AreKeys NID.cmp keys.old }
+    requires goes_on { GoesOn (last_id keys.old) id }
+    ensures ok { OnOk result (ids_of keys.new ≡ appended (ids_of keys.old) id) }
+    ensures err { OnErr result (keys.new ≡ keys.old) }
+    ensures only { OnErr result (HasFewerKeys NID.cmp (ids_of keys.old) (appended (ids_of keys.old) id)) }
+    ensures keys { AreKeys NID.cmp keys.new }
+    ensures front { KeepsFront keys.old keys.new }
 {
     if ends_in_pair(keys.as_slice()) {
         let last = keys.len() - 1;
-        keys[last] = id;
+        keys.set(last, id);
         return Ok(());
     }
     keys.push(id)?;
@@ -74,15 +74,15 @@ fn append_key<NID: NodeId>(keys: &mut Vec<LogId<NID>>, id: LogId<NID>) -> Result
 // Puts the log ids behind the others, one after the other. Where memory is refused, some of them
 // are there, and the last key before them may be another one.
 fn append_keys<NID: NodeId, LID: RaftLogId<NID>>(
-    keys: &mut Vec<LogId<NID>>,
+    keys: &mut KeptVec<LogId<NID>>,
     new_ids: &[LID],
 ) -> Result<(), AllocError>
-    requires keys { AreKeys NID.cmp keys.old.items }
-    requires go_on { AllGoOn (last_id keys.old.items) (map LID.id new_ids.now) }
-    ensures ok { OnOk result (ids_of keys.new.items ≡ extended (ids_of keys.old.items) (map LID.id new_ids.now)) }
-    ensures only { OnErr result (HasFewerKeys NID.cmp (ids_of keys.old.items) (extended (ids_of keys.old.items) (map LID.id new_ids.now))) }
-    ensures keys { AreKeys NID.cmp keys.new.items }
-    ensures front { KeepsFront keys.old.items keys.new.items }
+    requires keys { AreKeys NID.cmp keys.old }
+    requires go_on { AllGoOn (last_id keys.old) (map LID.id new_ids.now) }
+    ensures ok { OnOk result (ids_of keys.new ≡ extended (ids_of keys.old) (map LID.id new_ids.now)) }
+    ensures only { OnErr result (HasFewerKeys NID.cmp (ids_of keys.old) (extended (ids_of keys.old) (map LID.id new_ids.now))) }
+    ensures keys { AreKeys NID.cmp keys.new }
+    ensures front { KeepsFront keys.old keys.new }
 {
     for new_id in new_ids {
         append_key(keys, *new_id.get_log_id())?;
@@ -92,16 +92,16 @@ fn append_keys<NID: NodeId, LID: RaftLogId<NID>>(
 
 // The same for log ids of one leader, of which the first and the last one tell all.
 fn append_ends<NID: NodeId, LID: RaftLogId<NID>>(
-    keys: &mut Vec<LogId<NID>>,
+    keys: &mut KeptVec<LogId<NID>>,
     new_ids: &[LID],
 ) -> Result<(), AllocError>
-    requires keys { AreKeys NID.cmp keys.old.items }
-    requires go_on { AllGoOn (last_id keys.old.items) (map LID.id new_ids.now) }
+    requires keys { AreKeys NID.cmp keys.old }
+    requires go_on { AllGoOn (last_id keys.old) (map LID.id new_ids.now) }
     requires one_leader { HaveOneLeader (map LID.id new_ids.now) }
-    ensures ok { OnOk result (ids_of keys.new.items ≡ extended (ids_of keys.old.items) (map LID.id new_ids.now)) }
-    ensures only { OnErr result (HasFewerKeys NID.cmp (ids_of keys.old.items) (extended (ids_of keys.old.items) (map LID.id new_ids.now))) }
-    ensures keys { AreKeys NID.cmp keys.new.items }
-    ensures front { KeepsFront keys.old.items keys.new.items }
+    ensures ok { OnOk result (ids_of keys.new ≡ extended (ids_of keys.old) (map LID.id new_ids.now)) }
+    ensures only { OnErr result (HasFewerKeys NID.cmp (ids_of keys.old) (extended (ids_of keys.old) (map LID.id new_ids.now))) }
+    ensures keys { AreKeys NID.cmp keys.new }
+    ensures front { KeepsFront keys.old keys.new }
 {
     if new_ids.is_empty() {
         return Ok(());
@@ -117,31 +117,31 @@ fn append_ends<NID: NodeId, LID: RaftLogId<NID>>(
 }
 
 // Leaves so many keys, of which the last one is this.
-fn put_back<NID: NodeId>(keys: &mut Vec<LogId<NID>>, kept: usize, last: Option<LogId<NID>>)
-    requires { kept ≤ length keys.old.items }
-    ensures { keys.new.items ≡ with_end keys.old.items kept last }
+fn put_back<NID: NodeId>(keys: &mut KeptVec<LogId<NID>>, kept: usize, last: Option<LogId<NID>>)
+    requires { kept ≤ length keys.old }
+    ensures { keys.new ≡ with_end keys.old kept last }
 {
     keys.truncate(kept);
     if let Some(last) = last {
         if kept > 0 {
-            keys[kept - 1] = last;
+            keys.set(kept - 1, last);
         }
     }
 }
 
 fn extend_keys<NID: NodeId, LID: RaftLogId<NID>>(
-    keys: &mut Vec<LogId<NID>>,
+    keys: &mut KeptVec<LogId<NID>>,
     new_ids: &[LID],
 ) -> Result<(), AllocError>
-    requires keys { AreKeys NID.cmp keys.old.items }
-    requires go_on { AllGoOn (last_id keys.old.items) (map LID.id new_ids.now) }
-    ensures ok { OnOk result (ids_of keys.new.items ≡ extended (ids_of keys.old.items) (map LID.id new_ids.now)) }
-    ensures err { OnErr result (keys.new.items ≡ keys.old.items) }
-    ensures only { OnErr result (HasFewerKeys NID.cmp (ids_of keys.old.items) (extended (ids_of keys.old.items) (map LID.id new_ids.now))) }
-    ensures keys { AreKeys NID.cmp keys.new.items }
+    requires keys { AreKeys NID.cmp keys.old }
+    requires go_on { AllGoOn (last_id keys.old) (map LID.id new_ids.now) }
+    ensures ok { OnOk result (ids_of keys.new ≡ extended (ids_of keys.old) (map LID.id new_ids.now)) }
+    ensures err { OnErr result (keys.new ≡ keys.old) }
+    ensures only { OnErr result (HasFewerKeys NID.cmp (ids_of keys.old) (extended (ids_of keys.old) (map LID.id new_ids.now))) }
+    ensures keys { AreKeys NID.cmp keys.new }
 {
     let kept = keys.len();
-    let last = keys.last().copied();
+    let last = keys.as_slice().last().copied();
     match append_keys(keys, new_ids) {
         Ok(()) => Ok(()),
         Err(refused) => {
@@ -152,19 +152,19 @@ fn extend_keys<NID: NodeId, LID: RaftLogId<NID>>(
 }
 
 fn extend_ends<NID: NodeId, LID: RaftLogId<NID>>(
-    keys: &mut Vec<LogId<NID>>,
+    keys: &mut KeptVec<LogId<NID>>,
     new_ids: &[LID],
 ) -> Result<(), AllocError>
-    requires keys { AreKeys NID.cmp keys.old.items }
-    requires go_on { AllGoOn (last_id keys.old.items) (map LID.id new_ids.now) }
+    requires keys { AreKeys NID.cmp keys.old }
+    requires go_on { AllGoOn (last_id keys.old) (map LID.id new_ids.now) }
     requires one_leader { HaveOneLeader (map LID.id new_ids.now) }
-    ensures ok { OnOk result (ids_of keys.new.items ≡ extended (ids_of keys.old.items) (map LID.id new_ids.now)) }
-    ensures err { OnErr result (keys.new.items ≡ keys.old.items) }
-    ensures only { OnErr result (HasFewerKeys NID.cmp (ids_of keys.old.items) (extended (ids_of keys.old.items) (map LID.id new_ids.now))) }
-    ensures keys { AreKeys NID.cmp keys.new.items }
+    ensures ok { OnOk result (ids_of keys.new ≡ extended (ids_of keys.old) (map LID.id new_ids.now)) }
+    ensures err { OnErr result (keys.new ≡ keys.old) }
+    ensures only { OnErr result (HasFewerKeys NID.cmp (ids_of keys.old) (extended (ids_of keys.old) (map LID.id new_ids.now))) }
+    ensures keys { AreKeys NID.cmp keys.new }
 {
     let kept = keys.len();
-    let last = keys.last().copied();
+    let last = keys.as_slice().last().copied();
     match append_ends(keys, new_ids) {
         Ok(()) => Ok(()),
         Err(refused) => {
@@ -191,10 +191,10 @@ fn id_by_keys<NID: NodeId>(keys: &[LogId<NID>], index: u64) -> Option<LogId<NID>
 }
 
 // Leaves the log ids below the place. The leader of the last key left goes on up to there.
-fn truncate_keys<NID: NodeId>(keys: &mut Vec<LogId<NID>>, at: u64)
-    requires { AreKeys NID.cmp keys.old.items }
-    ensures ids { ids_of keys.new.items ≡ truncated (ids_of keys.old.items) at }
-    ensures keys { AreKeys NID.cmp keys.new.items }
+fn truncate_keys<NID: NodeId>(keys: &mut KeptVec<LogId<NID>>, at: u64)
+    requires { AreKeys NID.cmp keys.old }
+    ensures ids { ids_of keys.new ≡ truncated (ids_of keys.old) at }
+    ensures keys { AreKeys NID.cmp keys.new }
 {
     if at == 0 {
         keys.clear();
@@ -208,9 +208,9 @@ fn truncate_keys<NID: NodeId>(keys: &mut Vec<LogId<NID>>, at: u64)
     if count == keys.len() {
         return;
     }
-    let key = keys[count - 1];
+    let key = keys.as_slice()[count - 1];
     if key.index < at - 1 {
-        keys[count] = LogId::new(key.leader_id, at - 1);
+        keys.set(count, LogId::new(key.leader_id, at - 1));
         keys.truncate(count + 1);
         return;
     }
@@ -218,32 +218,33 @@ fn truncate_keys<NID: NodeId>(keys: &mut Vec<LogId<NID>>, at: u64)
 }
 
 // Leaves the log ids from the place of `upto` on, which isn't past the last one.
-fn drop_keys<NID: NodeId>(keys: &mut Vec<LogId<NID>>, upto: &LogId<NID>)
-    requires keys { AreKeys NID.cmp keys.old.items }
-    requires reaches { Reaches (last_id keys.old.items) upto.now.index }
-    ensures ids { ids_of keys.new.items ≡ purged (ids_of keys.old.items) upto.now }
-    ensures keys { AreKeys NID.cmp keys.new.items }
+fn drop_keys<NID: NodeId>(keys: &mut KeptVec<LogId<NID>>, upto: &LogId<NID>)
+    requires keys { AreKeys NID.cmp keys.old }
+    requires reaches { Reaches (last_id keys.old) upto.now.index }
+    ensures ids { ids_of keys.new ≡ purged (ids_of keys.old) upto.now }
+    ensures keys { AreKeys NID.cmp keys.new }
 {
     let count = count_up_to(keys.as_slice(), upto.index);
     if count == 0 {
         return;
     }
     let first = count - 1;
-    let left = keys.len() - first;
-    let key = keys[first];
-    keys[first] = LogId::new(key.leader_id, upto.index);
-    keys.rotate_left(first);
-    keys.truncate(left);
+    let key = keys.as_slice()[first];
+    keys.set(first, LogId::new(key.leader_id, upto.index));
+    keys.drop_front(first);
 }
 
-fn purge_keys<NID: NodeId>(keys: &mut Vec<LogId<NID>>, upto: &LogId<NID>) -> Result<(), AllocError>
-    requires { AreKeys NID.cmp keys.old.items }
-    ensures ok { OnOk result (ids_of keys.new.items ≡ purged (ids_of keys.old.items) upto.now) }
-    ensures err { OnErr result (keys.new.items ≡ keys.old.items) }
-    ensures only { OnErr result (keys.old.items ≡ []) }
-    ensures keys { AreKeys NID.cmp keys.new.items }
+fn purge_keys<NID: NodeId>(
+    keys: &mut KeptVec<LogId<NID>>,
+    upto: &LogId<NID>,
+) -> Result<(), AllocError>
+    requires { AreKeys NID.cmp keys.old }
+    ensures ok { OnOk result (ids_of keys.new ≡ purged (ids_of keys.old) upto.now) }
+    ensures err { OnErr result (keys.new ≡ keys.old) }
+    ensures only { OnErr result (keys.old ≡ []) }
+    ensures keys { AreKeys NID.cmp keys.new }
 {
-    let Some(last) = keys.last().copied() else {
+    let Some(last) = keys.as_slice().last().copied() else {
         keys.push(*upto)?;
         return Ok(());
     };
@@ -251,7 +252,7 @@ fn purge_keys<NID: NodeId>(keys: &mut Vec<LogId<NID>>, upto: &LogId<NID>) -> Res
         drop_keys(keys, upto);
         return Ok(());
     }
-    keys[0] = *upto;
+    keys.set(0, *upto);
     keys.truncate(1);
     Ok(())
 }
@@ -300,19 +301,17 @@ impl<NID: NodeId> LogIdList<NID> {
         requires { AreKeys NID.cmp key_log_ids.now }
         ensures { IfOk result (λ list. list ≡ ids_of key_log_ids.now) }
     {
-        let key_log_ids = Vec::from_slice(alloc, key_log_ids)?;
-        Ok(LogIdList { alloc, key_log_ids })
+        let key_log_ids = KeptVec::from_slice(alloc, key_log_ids)?;
+        Ok(LogIdList { key_log_ids })
     }
 
     /// The same list again, with the allocator that this one keeps.
     pub fn clone(&self) -> Result<LogIdList<NID>, AllocError>
         ensures { IfOk result (λ list. list ≡ self.now) }
     {
-        let key_log_ids = Vec::from_slice(self.alloc, self.key_log_ids.as_slice())?;
-        Ok(LogIdList {
-            alloc: self.alloc,
-            key_log_ids,
-        })
+        let alloc = *self.key_log_ids.allocator();
+        let key_log_ids = KeptVec::from_slice(alloc, self.key_log_ids.as_slice())?;
+        Ok(LogIdList { key_log_ids })
     }
 
     /// Puts the log ids behind the others, one after the other; places between get the leader
@@ -378,8 +377,7 @@ impl<NID: NodeId> LogIdList<NID> {
         ensures { result ≡ [] }
     {
         LogIdList {
-            alloc,
-            key_log_ids: Vec::new(alloc),
+            key_log_ids: KeptVec::new(alloc),
         }
     }
 
@@ -400,20 +398,20 @@ impl<NID: NodeId> LogIdList<NID> {
         ensures ids { ids_of result.now ≡ self.now }
         ensures order { AreKeys NID.cmp result.now }
     {
-        &self.key_log_ids
+        self.key_log_ids.as_slice()
     }
 
     /// The first log id.
     pub fn first(&self) -> Option<&LogId<NID>>
         ensures { option_copied result ≡ slice_get self.now 0 }
     {
-        self.key_log_ids.first()
+        self.key_log_ids().first()
     }
 
     /// The last log id.
     pub fn last(&self) -> Option<&LogId<NID>>
         ensures { option_copied result ≡ last_id self.now }
     {
-        self.key_log_ids.last()
+        self.key_log_ids().last()
     }
 }

@@ -8,15 +8,15 @@ pub loop-entry-preserved : goal.loop-entry-preserved
 loop-entry-preserved c =
     elim c.match-get_membership.branch [
       | in-Some+in_ok-copy+in_ok-push w ↦
-          ap (λ v. v.items) w.memberships-is
-          ∙ one_put c.args.memberships.now.items c.loop-entry.memberships.items c.args.entries.now c.loop-entry.entry-index c.entry-item.result
+          w.memberships-is
+          ∙ one_put c.args.memberships.now c.loop-entry.memberships c.args.entries.now c.loop-entry.entry-index c.entry-item.result
           c.loop-entry.invariant c.loop-entry-test.true c.entry-item.is
           w.in-Some.membership.now w.new.result w.in-Some.ensures
           (w.new.ensures ∙ ap (λ m. record { log_id = Some c.entry-item.result.log_id; membership = m }) w.in_ok-copy.ensures.cases)
-          w.push.new.self.items w.in_ok-push.ensures.items
+          w.push.new.self w.in_ok-push.ensures.ok
       | in_default w ↦
-          ap (λ v. v.items) w.memberships-is
-          ∙ none_put c.args.memberships.now.items c.loop-entry.memberships.items c.args.entries.now c.loop-entry.entry-index c.entry-item.result
+          w.memberships-is
+          ∙ none_put c.args.memberships.now c.loop-entry.memberships c.args.entries.now c.loop-entry.entry-index c.entry-item.result
           c.loop-entry.invariant c.loop-entry-test.true c.entry-item.is
           w.in_default.ensures
     ]

@@ -28,19 +28,19 @@ ends f ids keys x z first last long a b d e same on =
 pub append_key-requires-2-clause-goes_on : goal.append_key-requires-2-clause-goes_on
 append_key-requires-2-clause-goes_on g c =
     let ids = c.args.new_ids.now in
-    let keys = c.args.keys.now.items in
+    let keys = c.args.keys.now in
     let first = c.get_log_id-first.result.now in
     let last = c.get_log_id-last.result.now in
     let some : 0 < length ids = several (length ids) c.is_empty.result c.is_empty.ensures c.if-is_empty.false in
     let two = ends g.LID.RaftLogId.id ids keys c.index-new_ids-0.result c.index-new_ids-new_ids.result first last (omega arith)
     c.index-new_ids-0.is c.get_log_id-first.ensures c.index-new_ids-new_ids.is c.get_log_id-last.ensures c.requires.one_leader c.requires.go_on in
     subst (λ l. GoesOn l last)
-    (sym (last-grown keys c.append_key.new.keys.items first c.in_ok-append_key.ensures.keys.0 c.in_ok-append_key.ensures.ok)) two.1
+    (sym (last-grown keys c.append_key.new.keys first c.in_ok-append_key.ensures.keys.0 c.in_ok-append_key.ensures.ok)) two.1
 
 pub returns-clause-ok : goal.returns-clause-ok
 returns-clause-ok g c =
     let ids = c.args.new_ids.now in
-    let keys = c.args.keys.now.items in
+    let keys = c.args.keys.now in
     let first = c.get_log_id-first.result.now in
     let last = c.get_log_id-last.result.now in
     let some : 0 < length ids = several (length ids) c.is_empty.result c.is_empty.ensures c.if-is_empty.false in
@@ -50,13 +50,13 @@ returns-clause-ok g c =
 
 pub returns-clause-front : goal.returns-clause-front
 returns-clause-front g c =
-    front-trans c.args.keys.now.items c.append_key.new.keys.items c.append_key-2.new.keys.items c.in_ok-append_key.ensures.front c.in_ok-append_key-2.ensures.front
+    front-trans c.args.keys.now c.append_key.new.keys c.append_key-2.new.keys c.in_ok-append_key.ensures.front c.in_ok-append_key-2.ensures.front
 
 pub returns-in_err-append_key-clause-only : goal.returns-in_err-append_key-clause-only
 returns-in_err-append_key-clause-only g c =
     let cmp = g.NID.Ord.cmp in
     let ids = c.args.new_ids.now in
-    let before = ids_of c.args.keys.now.items in
+    let before = ids_of c.args.keys.now in
     let first = c.get_log_id-first.result.now in
     let some : 0 < length ids = several (length ids) c.is_empty.result c.is_empty.ensures c.if-is_empty.false in
     let long : 0 < length (map g.LID.RaftLogId.id ids) = omega (arith, length-map ids g.LID.RaftLogId.id) in
@@ -70,7 +70,7 @@ pub returns-in_err-append_key-2-clause-only : goal.returns-in_err-append_key-2-c
 returns-in_err-append_key-2-clause-only g c =
     let cmp = g.NID.Ord.cmp in
     let ids = c.args.new_ids.now in
-    let keys = c.args.keys.now.items in
+    let keys = c.args.keys.now in
     let first = c.get_log_id-first.result.now in
     let last = c.get_log_id-last.result.now in
     let some : 0 < length ids = several (length ids) c.is_empty.result c.is_empty.ensures c.if-is_empty.false in
@@ -78,4 +78,4 @@ returns-in_err-append_key-2-clause-only g c =
     c.index-new_ids-0.is c.get_log_id-first.ensures c.index-new_ids-new_ids.is c.get_log_id-last.ensures c.requires.one_leader c.requires.go_on in
     on_err c.from_residual-in_err-append_key-2.result
     (subst (HasFewerKeys cmp (ids_of keys)) (sym two.0)
-    (fewer_keys-behind cmp (ids_of keys) (ids_of c.append_key.new.keys.items) first last c.in_ok-append_key.ensures.ok c.in_err-append_key-2.ensures.only))
+    (fewer_keys-behind cmp (ids_of keys) (ids_of c.append_key.new.keys) first last c.in_ok-append_key.ensures.ok c.in_err-append_key-2.ensures.only))

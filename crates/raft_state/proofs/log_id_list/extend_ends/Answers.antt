@@ -5,10 +5,10 @@ use Rattle.raft_state.proofs.log_id_list.extend_ends.Goals as goal
 
 pub returns-in-Err-clause-err : goal.returns-in-Err-clause-err
 returns-in-Err-clause-err g c =
-    let keys = c.args.keys.now.items in
-    let others = c.append_ends.new.keys.items in
-    let count : c.len-kept.result ≡ length keys = c.len-kept.ensures ∙ sym c.deref.ensures.len ∙ ap length c.deref.ensures.value in
-    let last : c.copied-last.result ≡ last_id keys = c.copied-last.ensures ∙ c.last.ensures.value ∙ ap last_id c.deref.ensures.value in
+    let keys = c.args.keys.now in
+    let others = c.append_ends.new.keys in
+    let count : c.len-kept.result ≡ length keys = c.len-kept.ensures in
+    let last : c.copied-last.result ≡ last_id keys = c.copied-last.ensures ∙ c.last.ensures.value ∙ ap last_id c.as_slice.ensures in
     c.put_back.ensures ∙ ap (λ n. with_end others n c.copied-last.result) count ∙ ap (with_end others (length keys)) last
     ∙ put-back keys others c.in-Err.ensures.front
 

@@ -14,8 +14,8 @@ alone (key ∷ keys) last id e = refl
 pub returns-clause-ok : goal.returns-clause-ok
 returns-clause-ok g c =
     let upto = c.args.upto.now in
-    let found : last_id c.args.keys.now.items ≡ Some c.in-Some.last =
-    ap last_id (sym c.deref.ensures.value) ∙ sym c.last.ensures.value ∙ sym c.copied.ensures ∙ c.in-Some.is in
-    ap ids_of (c.truncate.ensures.items ∙ alone c.args.keys.now.items c.in-Some.last upto found)
+    let found : last_id c.args.keys.now ≡ Some c.in-Some.last =
+    ap last_id (sym c.as_slice.ensures) ∙ sym c.last.ensures.value ∙ sym c.copied.ensures ∙ c.in-Some.is in
+    ap ids_of (c.truncate.ensures ∙ ap (take 1) c.set.ensures ∙ alone c.args.keys.now c.in-Some.last upto found)
     ∙ ap (λ ids. ids ++ []) (leader_ids-one upto.leader_id upto.index (upto.index + 1) refl)
-    ∙ sym (purged-past c.args.keys.now.items c.in-Some.last upto c.requires.0 found c.if-upto-last.false)
+    ∙ sym (purged-past c.args.keys.now c.in-Some.last upto c.requires.0 found c.if-upto-last.false)

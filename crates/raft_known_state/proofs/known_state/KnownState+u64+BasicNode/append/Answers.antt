@@ -15,8 +15,8 @@ returns-clause-known c = λ s k p q.
     both_ok c.refresh_if.result
     (c.refresh_if.ensures.noted (subst AreInOrder (sym more) (grown_in_order old s c.args.entries.now k p q))
     (λ h. noted_still old now (noted_known old s k) (ap (λ (y : StateOf). y.membership_state) same) (ap (λ (y : StateOf). y.snapshot_meta) same) (ap (λ (y : StateOf). y.committed) same)
-    (more ∙ none_added old.memberships.items (memberships_in c.args.entries.now)
-    (ap length (sym more) ∙ (let many : length now.memberships.items ≡ length old.memberships.items = grind (arith, nat_tests, h, c.len.ensures, c.len-before.ensures) in many)))))
+    (more ∙ none_added old.memberships (memberships_in c.args.entries.now)
+    (ap length (sym more) ∙ (let many : length now.memberships ≡ length old.memberships = grind (arith, nat_tests, h, c.len.ensures, c.len-before.ensures) in many)))))
     c.refresh_if.ensures.rest
     (λ noted both. put old now c.refresh_if.new.self s k noted both p c.args.entries.now q c.highest_term-self.ensures.least c.highest_term-self.ensures.above refl same more)
 

@@ -30,5 +30,5 @@ returns-clause-known c = λ s vote gone snapshot log.
           })
     ] in
     read c.match-purged.state (record { state = c.match-purged.state; memberships = c.new-memberships.result; wish = None; highest_term = c.term_of-highest_term.result }) c.refresh_memberships.new.self s before log refl (subst (λ p. AreUpToTerm c.term_of-highest_term.result (purged_ids p)) (sym gone) (c.term_of-highest_term.ensures))
-    c.new-memberships.ensures.items refl
-    (c.in_ok-refresh_memberships.ensures.noted (subst AreInOrder (sym c.new-memberships.ensures.items) none_in_order)) c.in_ok-refresh_memberships.ensures.rest
+    c.new-memberships.ensures refl
+    (c.in_ok-refresh_memberships.ensures.noted (subst AreInOrder (sym c.new-memberships.ensures) none_in_order)) c.in_ok-refresh_memberships.ensures.rest

@@ -15,8 +15,8 @@ returns-clause-known c = λ s k.
     both_ok c.refresh_if.result
     (c.refresh_if.ensures.noted order
     (λ h. noted_upto old c.args.upto before now (noted_known old s k)
-    (ap (take before) (sym c.as_slice.ensures.value) ∙ c.count_committed-before.ensures.below (subst AreInOrder (sym c.as_slice.ensures.value) order) ∙ ap (take_below (next_place old.state.committed)) c.as_slice.ensures.value)
-    (ap (take now) (sym c.as_slice-2.ensures.value) ∙ c.count_committed-now.ensures.below (subst AreInOrder (sym c.as_slice-2.ensures.value) order) ∙ ap (take_below (next_place c.args.upto)) c.as_slice-2.ensures.value)
+    (ap (take before) (sym c.as_slice.ensures) ∙ c.count_committed-before.ensures.below (subst AreInOrder (sym c.as_slice.ensures) order) ∙ ap (take_below (next_place old.state.committed)) c.as_slice.ensures)
+    (ap (take now) (sym c.as_slice-2.ensures) ∙ c.count_committed-now.ensures.below (subst AreInOrder (sym c.as_slice-2.ensures) order) ∙ ap (take_below (next_place c.args.upto)) c.as_slice-2.ensures)
     (let same : now ≡ before = grind (arith, nat_tests, h) in same)))
     c.refresh_if.ensures.rest
     (λ noted both. committed_on old c.refresh_if.new.self s c.args.upto k noted both)

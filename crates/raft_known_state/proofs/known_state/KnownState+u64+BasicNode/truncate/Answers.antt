@@ -15,10 +15,10 @@ returns-clause-known c = λ s k p l.
     let order = known_in_order old s k p in
     both_ok c.refresh_if.result
     (c.refresh_if.ensures.noted
-    (subst AreInOrder (sym c.truncate-2.ensures.items) (IsNonDecreasingBy-take (λ m. next_place m.log_id) kept old.memberships.items order))
+    (subst AreInOrder (sym c.truncate-2.ensures) (IsNonDecreasingBy-take (λ m. next_place m.log_id) kept old.memberships order))
     (λ h. noted_still old now (noted_known old s k) refl refl refl
-    (c.truncate-2.ensures.items ∙ (let all : length old.memberships.items ≤ kept = grind (arith, nat_tests, h, c.len.ensures) in take_all kept old.memberships.items all))))
+    (c.truncate-2.ensures ∙ (let all : length old.memberships ≤ kept = grind (arith, nat_tests, h, c.len.ensures) in take_all kept old.memberships all))))
     c.refresh_if.ensures.rest
     (λ noted both. cut old now c.refresh_if.new.self s k noted both p c.args.since l (omega arith) refl
     (ap (λ ids. record old.state { log_ids = ids }) c.truncate.ensures)
-    (c.truncate-2.ensures.items ∙ ap (take kept) (sym c.as_slice.ensures.value) ∙ c.count_below-kept.ensures.below (subst AreInOrder (sym c.as_slice.ensures.value) order) ∙ ap (take_below c.args.since) c.as_slice.ensures.value))
+    (c.truncate-2.ensures ∙ ap (take kept) (sym c.as_slice.ensures) ∙ c.count_below-kept.ensures.below (subst AreInOrder (sym c.as_slice.ensures) order) ∙ ap (take_below c.args.since) c.as_slice.ensures))

@@ -6,4 +6,4 @@ pub returns : goal.returns
 returns g c =
     let cmp = g.NID.Ord.cmp in
     c.keys_of_last_leader.ensures
-    ∙ ap (λ ids. keys_of cmp (last_run cmp ids)) (ap ids_of c.as_slice.ensures.value ∙ c.self.view_is)
+    ∙ ap (λ ids. keys_of cmp (last_run cmp ids)) (ap ids_of c.as_slice.ensures ∙ c.self.view_is)

@@ -5,5 +5,5 @@ use Rattle.raft_state.proofs.log_id_list.LogIdList.first.Goals as goal
 
 pub returns : goal.returns
 returns g c =
-    c.first.ensures.value ∙ ap (λ keys. slice_get keys 0) c.deref.ensures.value
-    ∙ sym (first_id-ids_of c.self.inside.key_log_ids.items c.self.invariant.0) ∙ ap (λ ids. slice_get ids 0) c.self.view_is
+    let keys = c.key_log_ids.ensures in
+    c.first.ensures.value ∙ sym (first_id-ids_of c.key_log_ids.result.now keys.order.0) ∙ ap (λ ids. slice_get ids 0) keys.ids

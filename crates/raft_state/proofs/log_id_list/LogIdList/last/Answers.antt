@@ -5,5 +5,5 @@ use Rattle.raft_state.proofs.log_id_list.LogIdList.last.Goals as goal
 
 pub returns : goal.returns
 returns g c =
-    c.last.ensures.value ∙ ap last_id c.deref.ensures.value
-    ∙ sym (last_id-ids_of c.self.inside.key_log_ids.items c.self.invariant.0) ∙ ap last_id c.self.view_is
+    let keys = c.key_log_ids.ensures in
+    c.last.ensures.value ∙ sym (last_id-ids_of c.key_log_ids.result.now keys.order.0) ∙ ap last_id keys.ids
