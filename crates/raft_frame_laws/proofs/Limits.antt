@@ -20,8 +20,8 @@ use Rattle.raft_messages.specs.Messages.{append_fields_of, body_as, message_as, 
 use Rattle.raft_messages.specs.declared.memberships.SnapshotBytes.{SnapshotBytes}
 use Rattle.raft_messages.specs.declared.message.AppendFields.{AppendFields}
 use Rattle.raft_messages.specs.declared.message.ReplyFields.{ReplyFields}
-use Rattle.raft_messages.specs.declared.message.ReplyResult.{ReplyResult}
-use Rattle.raft_messages.specs.declared.message.ReplyResult.TheVariants.{Success, PartialSuccess, Conflict, HigherVote}
+use Rattle.raft_group_step.specs.declared.append_entries.AppendEntriesResponse.{AppendEntriesResponse}
+use Rattle.raft_group_step.specs.declared.append_entries.AppendEntriesResponse.TheVariants.{Success, PartialSuccess, Conflict, HigherVote}
 use Rattle.raft_messages.specs.declared.message.RequestId.{RequestId}
 use Rattle.raft_messages.specs.declared.message.RequestId.TheVariants.{HeartBeat, Numbered}
 use Rattle.raft_messages.specs.declared.message.Message.{Message as Sent}
@@ -80,19 +80,19 @@ numbered : (id : RequestId) (n : ℕ) → request_id_of id ≡ IsNumbered n → 
 numbered HeartBeat n e = absurd cc
 numbered (Numbered id) n e = refl
 
-agrees : (outcome : ReplyResult) → (outcome_of outcome ≡ HasConflict → ⊥) → is_conflict outcome ≡ false
+agrees : (outcome : AppendEntriesResponse ℕ) → (outcome_of outcome ≡ HasConflict → ⊥) → is_conflict outcome ≡ false
 agrees Success unlike = refl
 agrees (PartialSuccess last) unlike = refl
 agrees Conflict unlike = absurd (unlike refl)
 agrees (HigherVote vote) unlike = refl
 
-spelled : (outcome : ReplyResult) → IsWhole (outcome_of outcome) → is_spelled outcome ≡ true
+spelled : (outcome : AppendEntriesResponse ℕ) → IsWhole (outcome_of outcome) → is_spelled outcome ≡ true
 spelled Success w = refl
 spelled (PartialSuccess last) w = absurd w
 spelled Conflict w = refl
 spelled (HigherVote vote) w = refl
 
-whole : (outcome : ReplyResult) → is_spelled outcome ≡ true → IsWhole (outcome_of outcome)
+whole : (outcome : AppendEntriesResponse ℕ) → is_spelled outcome ≡ true → IsWhole (outcome_of outcome)
 whole Success t = tt
 whole (PartialSuccess last) t = absurd cc
 whole Conflict t = tt
@@ -126,7 +126,7 @@ has_numbered : (id : RequestId) → has_number id ≡ true → (n : ℕ) × (req
 has_numbered HeartBeat t = absurd cc
 has_numbered (Numbered id) t = (id, refl)
 
-no_conflict : (outcome : ReplyResult) → is_conflict outcome ≡ false → outcome_of outcome ≡ HasConflict → ⊥
+no_conflict : (outcome : AppendEntriesResponse ℕ) → is_conflict outcome ≡ false → outcome_of outcome ≡ HasConflict → ⊥
 no_conflict Success t e = absurd (let f : Accepted ≡ HasConflict = e in cc)
 no_conflict (PartialSuccess last) t e = absurd (let f : AcceptedPart last ≡ HasConflict = e in cc)
 no_conflict Conflict t e = absurd cc

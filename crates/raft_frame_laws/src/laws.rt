@@ -2,7 +2,7 @@
 ghost use Rattle.std.specs.Prelude.{◌≡◌, true, false, None, Some};
 ghost use Rattle.raft_values.specs.LogId.{log_id_of};
 ghost use Rattle.raft_values.specs.Vote.{vote_of};
-ghost use Rattle.raft_messages.specs.declared.message.ReplyResult.TheVariants.{Conflict, PartialSuccess, Success};
+ghost use Rattle.raft_group_step.specs.declared.append_entries.AppendEntriesResponse.TheVariants.{Conflict, PartialSuccess, Success};
 ghost use Rattle.raft_messages.specs.declared.message.RequestId.TheVariants.{HeartBeat, Numbered};
 ghost use Rattle.raft_frame_laws.specs.StepFrames.{FramesFitSteps, HasFrame, StepsHaveFrames};
 ghost use Rattle.raft_frame_laws.specs.FrameRows.{accepts_snapshot, accepts_entries, asks_for_vote};
