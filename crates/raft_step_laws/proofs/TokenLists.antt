@@ -1,5 +1,5 @@
 -- Lists of tokens, and what an event brings of them.
-use Rattle.std.specs.Prelude.{◌≡◌, ℕ, ◌+◌, ◌≤◌, List, [], ◌∷◌, refl}
+use Rattle.std.specs.Prelude.{◌≡◌, ℕ, ◌≤◌, List, [], ◌∷◌, refl}
 use Rattle.std.proofs.Common.{ap, arith}
 use Rattle.raft_group_step.specs.GroupState.{GroupState, Untold}
 use Rattle.raft_group_step.specs.GroupEvent.{GroupEvent, AddGroup, Call, Receive, Open}
