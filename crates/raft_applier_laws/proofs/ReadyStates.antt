@@ -16,7 +16,7 @@ use Rattle.raft_applier.specs.Following.{HasWholeSnapshot}
 use Rattle.raft_applier.proofs.Steps.{opening_is_step}
 use Rattle.raft_cluster_laws.proofs.EventKept.{candidates_stand}
 use Rattle.raft_cluster_laws.proofs.StepFacts.{built, front, grows, leading, not_open, own_vote, rising, whole}
-use Rattle.raft_cluster_laws.proofs.Stepping.{opens_without}
+use Rattle.raft_step_laws.proofs.TokenLists.{opens_none}
 use Rattle.raft_applier_laws.specs.Ready.{DownCandidatesAreReady, DownNodesAreReady, UpCandidatesAreReady, UpNodesAreReady}
 
 pub up_ready : UpNodesAreReady
@@ -27,7 +27,7 @@ up_ready ids rs w h n s is = record {
     taken = taken;
     own_vote = own_vote ids rs w h n s is;
     leading = leading ids rs w h n s is;
-    opens = opens_without s ge (not_open ids rs w h n s is e ge here taken);
+    opens = opens_none s ge (not_open ids rs w h n s is e ge here taken);
     rising = rising ids rs w h n s is ge;
     grows = grows ids rs w h n s is e ge here taken;
     front = front ids rs w h n s is e ge here taken;

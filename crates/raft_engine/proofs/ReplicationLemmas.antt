@@ -37,7 +37,8 @@ use Rattle.raft_group_step.specs.Frames.{committed_id, lacks_entries, notice, se
 use Rattle.raft_group_step.proofs.Peers.{with_peer-found, with_peer-others}
 use Rattle.raft_commands.specs.Output.{Output}
 use Rattle.raft_engine.specs.Numbering.{NumbersFollow, number_in}
-use Rattle.raft_engine.specs.Commands.{Command, message_to, request_to, result_of, sending_of, sent_by, stored_by, storing_of}
+use Rattle.raft_engine.specs.Commands.{Command, message_to, request_to, sending_of, sent_by, stored_by, storing_of}
+use Rattle.raft_messages.specs.Messages.{outcome_of}
 use Rattle.raft_engine.specs.Standing.{EffectiveMembership, Engine, Given, IsStateOf, IsStepOf, IsWholeStepOf, Leads, PlaysRole, outstanding_of, peer_state}
 use Rattle.raft_engine.specs.Answering.{NeedsNoOther}
 use Rattle.std.specs.List.{All}
@@ -422,7 +423,7 @@ known-busy l o n entry some e h =
     subst (HasPeer n) (sym some) (busy_has l n (ap (λ (p : ProgressEntry ℕ). is_none (request_id p.inflight)) (sym e) ∙ h))
 
 -- without a greater vote none is taken over
-pub no_higher : (outcome : AppendEntriesResponse ℕ) (r : StepResult) → ((vote : Vote ℕ) → outcome ≡ HasHigherVote vote → ⊥) → with_higher_vote (result_of outcome) r ≡ r
+pub no_higher : (outcome : AppendEntriesResponse ℕ) (r : StepResult) → ((vote : Vote ℕ) → outcome ≡ HasHigherVote vote → ⊥) → with_higher_vote (outcome_of outcome) r ≡ r
 no_higher Accepted r h = refl
 no_higher (PartialSuccess last) r h = refl
 no_higher Differs r h = refl

@@ -8,13 +8,12 @@ use Rattle.raft_progress.specs.declared.inflight.Inflight.{Inflight}
 use Rattle.raft_progress.specs.declared.inflight.Inflight.TheVariants.{None as Nothing, Logs, Snapshot as SnapshotInFlight}
 use Rattle.raft_group_step.specs.declared.request_id.RequestId.{RequestId as RequestIdOf}
 use Rattle.raft_group_step.specs.declared.request_id.RequestId.TheVariants.{HeartBeat as NoNumber, AppendEntries as AppendNumber, Snapshot as SnapshotNumber}
-use Rattle.raft_group_step.specs.declared.append_entries.AppendEntriesResponse.{AppendEntriesResponse}
-use Rattle.raft_group_step.specs.declared.append_entries.AppendEntriesResponse.TheVariants.{Success as Accepted, PartialSuccess as AcceptedPart, Conflict as Differs, HigherVote as HasHigherVote}
 use Rattle.raft_group_step.specs.declared.snapshot_message.SnapshotResponse.{SnapshotResponse}
 use Rattle.raft_group_step.specs.Values.{Entry, vote_lt}
 use Rattle.raft_group_step.specs.StoredGroup.{StoredGroup, StoringCommand, SetVote, PutEntries, CutFrom, RemoveUpTo, SetSnapshot, Snapshot, first_place}
-use Rattle.raft_group_step.specs.Message.{Message, MessageBody, RequestId, HeartBeat, Numbered, ReplyResult, Success, PartialSuccess, Conflict, HigherVote}
+use Rattle.raft_group_step.specs.Message.{Message, MessageBody, RequestId, HeartBeat, Numbered, ReplyResult, Success, HigherVote}
 use Rattle.raft_group_step.specs.Message.{VoteRequest, VoteReply, AppendRequest, AppendReply, SnapshotRequest, SnapshotReply}
+use Rattle.raft_messages.specs.Messages.{outcome_of}
 use Rattle.raft_commands.specs.declared.caller.Caller.{Caller}
 use Rattle.raft_commands.specs.declared.command.Command.{Command as CommandOf}
 use Rattle.raft_commands.specs.declared.command.Command.TheVariants.{BecomeLeader, QuitLeader, AppendInputEntries, ReplicateCommitted, Commit}
@@ -41,13 +40,6 @@ abbrev pub number_of : RequestIdOf → RequestId
 number_of NoNumber = HeartBeat
 number_of (AppendNumber id) = Numbered id
 number_of (SnapshotNumber id) = Numbered id
-
--- what came of an append request
-abbrev pub result_of : AppendEntriesResponse ℕ → ReplyResult
-result_of Accepted = Success
-result_of (AcceptedPart last) = PartialSuccess last
-result_of Differs = Conflict
-result_of (HasHigherVote vote) = HigherVote vote
 
 -- what came of a snapshot under a vote, by the vote in the answer
 abbrev pub snapshot_result : Vote ℕ → SnapshotResponse ℕ → ReplyResult
@@ -118,7 +110,7 @@ module _ {C R : Type 0} where
   -- the answer to a peer's request
   abbrev pub answer_of : ℕ → RespondOf C (List ℕ) R ℕ (List ℕ) → List Message
   answer_of own (ToVote s) = message_to own s.tx.peer (VoteReply s.value.vote s.value.vote_granted s.value.last_log_id)
-  answer_of own (ToAppend s) = message_to own s.tx.peer (append_reply_to s.tx (result_of s.value))
+  answer_of own (ToAppend s) = message_to own s.tx.peer (append_reply_to s.tx (outcome_of s.value))
   answer_of own (ToChunk s) = []
   answer_of own (ToSnapshot s) = message_to own s.tx.peer (snapshot_reply_to s.tx (snapshot_result s.tx.vote s.value))
   answer_of own (ToInitialize s) = []

@@ -13,7 +13,8 @@ use Rattle.raft_group_step.specs.Lead.{peer_of}
 use Rattle.raft_group_step.specs.Frames.{entries_in_request, request_start}
 use Rattle.raft_commands.specs.declared.caller.Caller.{Caller}
 use Rattle.raft_leaders.specs.Leader.{LeaderValue}
-use Rattle.raft_engine.specs.Commands.{number_of, result_of}
+use Rattle.raft_engine.specs.Commands.{number_of}
+use Rattle.raft_messages.specs.Messages.{outcome_of}
 use Rattle.raft_engine.specs.Standing.{EffectiveMembership}
 
 -- the log ids of the entries that go to the peer next, under its next number
@@ -36,7 +37,7 @@ waiting_for entry request = record entry { curr_inflight_id = entry.curr_infligh
 -- what a reply says of the request that it answers, and what came of it
 abbrev pub reply_of : Caller ℕ → AppendEntriesResponse ℕ → ReplyFields
 reply_of tx outcome =
-    record { vote = tx.vote; id = number_of tx.id; previous = tx.previous; last = tx.last; outcome = result_of outcome }
+    record { vote = tx.vote; id = number_of tx.id; previous = tx.previous; last = tx.last; outcome = outcome_of outcome }
 
 -- the leader has an entry for the node, if there is a leader
 abbrev pub HasPeer : ℕ → Option (LeaderValue ℕ EffectiveMembership) → Type 0

@@ -9,7 +9,7 @@ ghost use Rattle.raft_group_step.specs.AppendRequest.{above_committed, append_re
 ghost use Rattle.raft_group_step.specs.Refusal.{do_follow};
 ghost use Rattle.raft_group_step.specs.SnapshotRequest.{install_unless};
 ghost use Rattle.raft_known_state.specs.KnownState.{ArePlaced, IsPlaced, Knows, meta_of};
-ghost use Rattle.raft_engine.specs.Commands.{result_of};
+ghost use Rattle.raft_messages.specs.Messages.{outcome_of};
 ghost use Rattle.raft_engine.specs.Numbering.{KeepsNumbers, NumbersRise};
 ghost use Rattle.raft_engine.specs.Standing.{Given, IsStateOf, IsStepOf, basis_of};
 ghost use Rattle.raft_engine.specs.Ordering.{OutcomeRestsOn};
@@ -325,7 +325,7 @@ impl<C: RaftTypeConfig<NodeId = u64, Node = BasicNode, D = Bytes>> Engine<C> {
         tx: Caller<u64>,
     ) -> Result<(), AllocError>
         ensures { (x : Given) (own : _) (r : StepResult) (m : AppendFields) → IsStepOf x own self.old r → SpellsAppendReply tx m → OutcomeRestsOn (basis_of self.old r.state) tx resp
-            → OnOk result (IsStepOf x own self.new (reply_append own tx.peer m (result_of resp) r)) }
+            → OnOk result (IsStepOf x own self.new (reply_append own tx.peer m (outcome_of resp) r)) }
     {
         let resp = Respond::AppendEntries(ValueSender::new(resp, tx));
         self.output

@@ -3,7 +3,7 @@ ghost use Rattle.std.specs.Prelude.{◌≡◌, ℕ, nat_eq, None, Some};
 ghost use Rattle.raft_group_step.specs.GroupState.{GroupState};
 ghost use Rattle.raft_leaders.specs.Leader.{LeaderValue};
 ghost use Rattle.raft_engine.specs.Clock.{HearsAfter, IsHeardOf, IsQuorumHeardAt, is_taken, moment_shown, shows_following};
-ghost use Rattle.raft_engine.specs.Commands.{result_of};
+ghost use Rattle.raft_messages.specs.Messages.{outcome_of};
 ghost use Rattle.raft_engine.specs.Sending.{reply_of};
 ghost use Rattle.raft_engine.specs.Standing.{EffectiveMembership as Members, IsStateOf};
 
@@ -15,7 +15,7 @@ use raft_state::{BasicNode, Bytes};
 
 // Whether a peer that says so has taken the vote of the request for the one in force.
 fn is_taken(outcome: &AppendEntriesResponse<u64>) -> bool
-    ensures { result ≡ is_taken (result_of outcome.now) }
+    ensures { result ≡ is_taken (outcome_of outcome.now) }
 {
     match outcome {
         AppendEntriesResponse::Success

@@ -16,7 +16,8 @@ ghost use Rattle.raft_group_step.specs.Reply.{accepted_up_to, after_answer, answ
 ghost use Rattle.raft_group_step.specs.Lost.{lost_as};
 ghost use Rattle.raft_known_state.specs.KnownState.{IsPlaced, Knows};
 ghost use Rattle.raft_engine.specs.Clock.{KeepsHeard};
-ghost use Rattle.raft_engine.specs.Commands.{number_of, result_of};
+ghost use Rattle.raft_engine.specs.Commands.{number_of};
+ghost use Rattle.raft_messages.specs.Messages.{outcome_of};
 ghost use Rattle.raft_engine.specs.Standing.{Given, IsStateOf, IsStepOf, IsWholeStepOf, outstanding_of, peer_state};
 ghost use Rattle.raft_engine.specs.Sending.{HasPeer, HasRoomFor, reply_of, request_for, with_known};
 
@@ -121,7 +122,7 @@ fn after_answer(
     outcome: &AppendEntriesResponse<u64>,
 ) -> ProgressEntry<u64>
     ensures { (n : ℕ) → next_place reply.now.last < 2 ^ 64
-        → peer_state n result ≡ after_answer (peer_state n entry.now) (reply_of reply.now outcome.now) (result_of outcome.now) }
+        → peer_state n result ≡ after_answer (peer_state n entry.now) (reply_of reply.now outcome.now) (outcome_of outcome.now) }
 {
     let mut after = *entry;
     after.inflight = Inflight::None;

@@ -2,7 +2,7 @@
 use Rattle.std.proofs.Common.{◌≡◌, ℕ, zero, suc, ◌+◌, ◌-◌, Bool, true, false, List, [], ◌∷◌, ◌++◌}
 use Rattle.std.proofs.Common.{length, take, arith, Option, Some, None, append_assoc, refl, sym, ap, subst, ◌∙◌}
 use Rattle.std.specs.Prelude.{◌||◌}
-use Rattle.std.proofs.lemmas.List.{append-nil}
+use Rattle.std.proofs.lemmas.List.{append-nil, take_all}
 use Rattle.raft_group_step.specs.StoredGroup.{StoredGroup, StoringCommand, Snapshot, after_storing, after_storing_all}
 use Rattle.raft_engine.specs.Commands.{Command, storing_of, stored_by}
 use Rattle.raft_group_storage.specs.Keeping.{Shows}
@@ -153,8 +153,4 @@ fails_at_one a old new group e may =
 pub room_for_one : (count : ℕ) (a : List StoringCommand) → length a ≡ 1 → (count ≡ 0 → ⊥) → first_of (Some count) a ≡ a
 room_for_one zero a e some = absurd (some refl)
 room_for_one (suc n) a e some =
-    let one = one_of_one a e in ap (λ (l : List StoringCommand). take (suc n) l) one.1 ∙ none_more n one.0 ∙ sym one.1
-  where
-    none_more : (n : ℕ) (c : StoringCommand) → take (suc n) (c ∷ []) ≡ c ∷ []
-    none_more zero c = refl
-    none_more (suc m) c = refl
+    let one = one_of_one a e in ap (λ (l : List StoringCommand). take (suc n) l) one.1 ∙ take_all (suc n) (one.0 ∷ []) (omega arith) ∙ sym one.1

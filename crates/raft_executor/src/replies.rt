@@ -1,11 +1,11 @@
 //! Answers of peers, as the engine takes them.
 ghost use Rattle.std.specs.Prelude.{◌≡◌};
-ghost use Rattle.raft_engine.specs.Commands.{number_of, result_of};
+ghost use Rattle.raft_engine.specs.Commands.{number_of};
 ghost use Rattle.raft_engine.specs.Sending.{reply_of};
-ghost use Rattle.raft_messages.specs.Messages.{outcome_of, reply_fields_of, request_id_of};
+ghost use Rattle.raft_messages.specs.Messages.{reply_fields_of, request_id_of};
 
 use raft_engine::{AppendEntriesResponse, Caller, RequestId as CallerId};
-use raft_messages::{ReplyFields, ReplyResult, RequestId};
+use raft_messages::{ReplyFields, RequestId};
 
 /// Which request of the caller it is (own). The engine reads the number alone.
 pub fn caller_id(id: &RequestId) -> CallerId
@@ -14,18 +14,6 @@ pub fn caller_id(id: &RequestId) -> CallerId
     match id {
         RequestId::HeartBeat => CallerId::HeartBeat,
         RequestId::Numbered { id } => CallerId::AppendEntries { id: *id },
-    }
-}
-
-// What came of a request.
-fn answer(outcome: &ReplyResult) -> AppendEntriesResponse<u64>
-    ensures { result_of result ≡ outcome_of outcome.now }
-{
-    match outcome {
-        ReplyResult::Success => AppendEntriesResponse::Success,
-        ReplyResult::PartialSuccess(last) => AppendEntriesResponse::PartialSuccess(*last),
-        ReplyResult::Conflict => AppendEntriesResponse::Conflict,
-        ReplyResult::HigherVote(vote) => AppendEntriesResponse::HigherVote(*vote),
     }
 }
 
@@ -43,5 +31,5 @@ pub fn caller_and_answer(
         previous: reply.previous,
         last: reply.last,
     };
-    (caller, answer(&reply.outcome))
+    (caller, reply.outcome)
 }

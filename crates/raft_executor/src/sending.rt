@@ -4,7 +4,7 @@ ghost use Rattle.raft_group_step.specs.Values.{vote_lt};
 ghost use Rattle.raft_group_step.specs.Message.{Message as Said, SnapshotReply};
 ghost use Rattle.raft_progress.specs.declared.inflight.Inflight.TheVariants.{Logs};
 ghost use Rattle.raft_group_step.specs.StoredGroup.{StoredGroup};
-ghost use Rattle.raft_engine.specs.Commands.{answer_of, number_of, request_to, result_of, sending_of, sent_by, snapshot_reply_to, snapshot_result, snapshot_to};
+ghost use Rattle.raft_engine.specs.Commands.{answer_of, number_of, request_to, sending_of, sent_by, snapshot_reply_to, snapshot_result, snapshot_to};
 ghost use Rattle.raft_engine.specs.Sending.{reply_of};
 ghost use Rattle.raft_messages.specs.Messages.{outcome_of, reply_fields_of, request_id_of};
 ghost use Rattle.raft_group_storage.specs.Keeping.{KeepsAll};
@@ -60,18 +60,6 @@ fn request_id(id: &CallerId) -> RequestId
     }
 }
 
-// What came of an append request.
-fn outcome(answer: &AppendEntriesResponse<u64>) -> ReplyResult
-    ensures { outcome_of result ≡ result_of answer.now }
-{
-    match answer {
-        AppendEntriesResponse::Success => ReplyResult::Success,
-        AppendEntriesResponse::PartialSuccess(last) => ReplyResult::PartialSuccess(*last),
-        AppendEntriesResponse::Conflict => ReplyResult::Conflict,
-        AppendEntriesResponse::HigherVote(vote) => ReplyResult::HigherVote(*vote),
-    }
-}
-
 // What came of a snapshot under the vote, by the vote in the answer.
 fn snapshot_outcome(asked: &Vote<u64>, answer: &SnapshotResponse<u64>) -> ReplyResult
     ensures { outcome_of result ≡ snapshot_result asked.now answer.now }
@@ -92,7 +80,7 @@ fn reply(request: &Caller<u64>, answer: &AppendEntriesResponse<u64>) -> ReplyFie
         id: request_id(&request.id),
         previous: request.previous,
         last: request.last,
-        outcome: outcome(answer),
+        outcome: *answer,
     }
 }
 

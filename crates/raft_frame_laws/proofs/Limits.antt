@@ -7,7 +7,8 @@ use Rattle.std.proofs.lemmas.List.Elements.{All-cons, All-nil}
 use Rattle.raft_values.specs.declared.vote.Vote.{Vote}
 use Rattle.raft_values.specs.declared.log_id.LogId.{LogId}
 use Rattle.raft_values.specs.LogId.{next_place}
-use Rattle.raft_group_step.specs.Values.{Entry, leader_lt}
+use Rattle.raft_group_step.specs.Limits.{snapshot_limit}
+use Rattle.raft_group_step.specs.Values.{Entry, LoggedMembership, leader_lt}
 use Rattle.raft_group_step.specs.StoredGroup.{Snapshot, membership_in_force}
 use Rattle.raft_group_step.specs.Message.{AppendRequest, Conflict as HasConflict, HigherVote as HasHigherVote, Numbered as IsNumbered, PartialSuccess as AcceptedPart, Success as Accepted}
 use Rattle.raft_group_step.specs.GroupState.{GroupState}
@@ -20,21 +21,21 @@ use Rattle.raft_messages.specs.Messages.{append_fields_of, body_as, message_as, 
 use Rattle.raft_messages.specs.declared.memberships.SnapshotBytes.{SnapshotBytes}
 use Rattle.raft_messages.specs.declared.message.AppendFields.{AppendFields}
 use Rattle.raft_messages.specs.declared.message.ReplyFields.{ReplyFields}
-use Rattle.raft_messages.specs.declared.message.ReplyResult.{ReplyResult}
-use Rattle.raft_messages.specs.declared.message.ReplyResult.TheVariants.{Success, PartialSuccess, Conflict, HigherVote}
+use Rattle.raft_group_step.specs.declared.append_entries.AppendEntriesResponse.{AppendEntriesResponse}
+use Rattle.raft_group_step.specs.declared.append_entries.AppendEntriesResponse.TheVariants.{Success, PartialSuccess, Conflict, HigherVote}
 use Rattle.raft_messages.specs.declared.message.RequestId.{RequestId}
 use Rattle.raft_messages.specs.declared.message.RequestId.TheVariants.{HeartBeat, Numbered}
 use Rattle.raft_messages.specs.declared.message.Message.{Message as Sent}
 use Rattle.raft_messages.specs.declared.message.MessageBody.{MessageBody}
 use Rattle.raft_messages.specs.declared.message.MessageBody.TheVariants as body
-use Rattle.raft_step_laws.specs.Fitting.{ArePlacedFrom, FitEntries, IsBodyBounded, IsPayloadBounded, FitsRequest, IsSnapshotReplyBounded, IsWhole}
+use Rattle.raft_step_laws.specs.Fitting.{ArePlacedFrom, FitEntries, IsBodyBounded, IsLoggedBounded, IsPayloadBounded, FitsRequest, IsSnapshotReplyBounded, IsWhole}
 use Rattle.raft_wire.specs.Bodies.{is_conflict, is_of_snapshot, is_spelled, has_number}
 use Rattle.raft_wire.specs.Entries.{follows}
-use Rattle.raft_wire.specs.Frames.{are_consecutive, are_entries_short, fault_of_entries, fault_of_frame, fault_of_reply}
+use Rattle.raft_wire.specs.Frames.{are_consecutive, are_entries_short, fault_of_entries, fault_of_frame, fault_of_reply, is_logged_short, is_snapshot_short}
 use Rattle.raft_wire.specs.declared.error.FrameFault.{FrameFault}
 use Rattle.raft_wire.specs.declared.error.FrameFault.TheVariants as fault
 use Rattle.raft_wire.proofs.Lengths.{entries_are_short}
-use Rattle.raft_frame_laws.specs.StepFrames.{brings_snapshot}
+use Rattle.raft_frame_laws.specs.StepFrames.{IsShortSnapshot, SnapshotsHaveFrames, brings_snapshot}
 
 -- ---- entries
 
@@ -80,19 +81,19 @@ numbered : (id : RequestId) (n : ℕ) → request_id_of id ≡ IsNumbered n → 
 numbered HeartBeat n e = absurd cc
 numbered (Numbered id) n e = refl
 
-agrees : (outcome : ReplyResult) → (outcome_of outcome ≡ HasConflict → ⊥) → is_conflict outcome ≡ false
+agrees : (outcome : AppendEntriesResponse ℕ) → (outcome_of outcome ≡ HasConflict → ⊥) → is_conflict outcome ≡ false
 agrees Success unlike = refl
 agrees (PartialSuccess last) unlike = refl
 agrees Conflict unlike = absurd (unlike refl)
 agrees (HigherVote vote) unlike = refl
 
-spelled : (outcome : ReplyResult) → IsWhole (outcome_of outcome) → is_spelled outcome ≡ true
+spelled : (outcome : AppendEntriesResponse ℕ) → IsWhole (outcome_of outcome) → is_spelled outcome ≡ true
 spelled Success w = refl
 spelled (PartialSuccess last) w = absurd w
 spelled Conflict w = refl
 spelled (HigherVote vote) w = refl
 
-whole : (outcome : ReplyResult) → is_spelled outcome ≡ true → IsWhole (outcome_of outcome)
+whole : (outcome : AppendEntriesResponse ℕ) → is_spelled outcome ≡ true → IsWhole (outcome_of outcome)
 whole Success t = tt
 whole (PartialSuccess last) t = absurd cc
 whole Conflict t = tt
@@ -126,7 +127,7 @@ has_numbered : (id : RequestId) → has_number id ≡ true → (n : ℕ) × (req
 has_numbered HeartBeat t = absurd cc
 has_numbered (Numbered id) t = (id, refl)
 
-no_conflict : (outcome : ReplyResult) → is_conflict outcome ≡ false → outcome_of outcome ≡ HasConflict → ⊥
+no_conflict : (outcome : AppendEntriesResponse ℕ) → is_conflict outcome ≡ false → outcome_of outcome ≡ HasConflict → ⊥
 no_conflict Success t e = absurd (let f : Accepted ≡ HasConflict = e in cc)
 no_conflict (PartialSuccess last) t e = absurd (let f : AcceptedPart last ≡ HasConflict = e in cc)
 no_conflict Conflict t e = absurd cc
@@ -136,12 +137,12 @@ none_is : (o : Option (LogId ℕ)) → is_none o ≡ true → o ≡ None
 none_is None t = refl
 none_is (Some id) t = absurd cc
 
-without : (b : Bool) (first : Option FrameFault) → cond b first (Some fault.BadTag) ≡ None → (b ≡ true) × (first ≡ None)
-without true first e = (refl, e)
-without false first e = absurd cc
+without : (b : Bool) (first : Option FrameFault) (why : FrameFault) → cond b first (Some why) ≡ None → (b ≡ true) × (first ≡ None)
+without true first why e = (refl, e)
+without false first why e = absurd cc
 
 reply_whole : (m : ReplyFields) → fault_of_reply m ≡ None → IsWhole (outcome_of m.outcome)
-reply_whole m e = whole m.outcome (without (is_spelled m.outcome) None e).0
+reply_whole m e = whole m.outcome (without (is_spelled m.outcome) None fault.BadTag e).0
 
 reply_is : (m : ReplyFields) → is_of_snapshot m ≡ true → fault_of_reply m ≡ None → IsSnapshotReplyBounded (reply_fields_of m)
 reply_is m t e =
@@ -155,6 +156,36 @@ reply_is m t e =
       agrees = no_conflict m.outcome (not-true (is_conflict m.outcome) both.1);
       whole = reply_whole m e;
     }
+
+-- ---- snapshots
+
+logged_short : (m : Option LoggedMembership) → IsLoggedBounded m → is_logged_short m ≡ true
+logged_short None b = refl
+logged_short (Some m) b = b
+
+short_logged : (m : Option LoggedMembership) → is_logged_short m ≡ true → IsLoggedBounded m
+short_logged None t = tt
+short_logged (Some m) t = t
+
+snapshot_short : (x : SnapshotBytes) → IsShortSnapshot x → is_snapshot_short x.meta.last_membership x.bytes ≡ true
+snapshot_short x short =
+    and_from (is_logged_short x.meta.last_membership) (nat_le (length x.bytes) snapshot_limit) (logged_short x.meta.last_membership short.membership)
+    (le-leb (length x.bytes) snapshot_limit short.bytes)
+
+short_snapshot : (x : SnapshotBytes) → is_snapshot_short x.meta.last_membership x.bytes ≡ true → IsShortSnapshot x
+short_snapshot x t =
+    let both = and_parts (is_logged_short x.meta.last_membership) (nat_le (length x.bytes) snapshot_limit) t in
+    record { membership = short_logged x.meta.last_membership both.0; bytes = leb-true (length x.bytes) snapshot_limit both.1 }
+
+-- a snapshot's message has a frame exactly where the snapshot is within the limits
+pub have_frames : SnapshotsHaveFrames
+have_frames vote id x =
+    let test = is_snapshot_short x.meta.last_membership x.bytes in (
+      λ e. short_snapshot x (without test None fault.TooLong e).0,
+      λ short. without_fault test None (Some fault.TooLong) (snapshot_short x short) refl,
+    )
+
+-- ---- what a frame brings to a step
 
 -- entries that follow the previous one stand at their places
 follow_placed : (vote : Vote ℕ) (previous : Option (LogId ℕ)) (es : List Entry) → do_follow vote previous es ≡ true → ArePlacedFrom (next_place previous) es
@@ -207,4 +238,4 @@ brought_fits own s now carried m bare right taken =
     go (body.AppendRequest a) bare right sound = request_is own m.sender s a sound right
     go (body.AppendReply a) bare right sound = reply_whole a right
     go (body.SnapshotRequest vote id x) bare right sound = absurd cc
-    go (body.SnapshotReply a) bare right sound = let w = without (is_of_snapshot a) (fault_of_reply a) right in reply_is a w.0 w.1
+    go (body.SnapshotReply a) bare right sound = let w = without (is_of_snapshot a) (fault_of_reply a) fault.BadTag right in reply_is a w.0 w.1

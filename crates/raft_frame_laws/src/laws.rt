@@ -2,9 +2,9 @@
 ghost use Rattle.std.specs.Prelude.{◌≡◌, true, false, None, Some};
 ghost use Rattle.raft_values.specs.LogId.{log_id_of};
 ghost use Rattle.raft_values.specs.Vote.{vote_of};
-ghost use Rattle.raft_messages.specs.declared.message.ReplyResult.TheVariants.{Conflict, PartialSuccess, Success};
+ghost use Rattle.raft_group_step.specs.declared.append_entries.AppendEntriesResponse.TheVariants.{Conflict, PartialSuccess, Success};
 ghost use Rattle.raft_messages.specs.declared.message.RequestId.TheVariants.{HeartBeat, Numbered};
-ghost use Rattle.raft_frame_laws.specs.StepFrames.{FramesFitSteps, HasFrame, StepsHaveFrames};
+ghost use Rattle.raft_frame_laws.specs.StepFrames.{FewBytesHaveFrames, FramesFitSteps, HasFrame, SnapshotsHaveFrames, StepsHaveFrames};
 ghost use Rattle.raft_frame_laws.specs.FrameRows.{accepts_snapshot, accepts_entries, asks_for_vote};
 
 use raft_group_storage::GroupStorage;
@@ -15,6 +15,19 @@ use raft_messages::SnapshotBytes;
 /// whether a snapshot's bytes are few enough is up to its machine.
 pub fn steps_have_frames<S: GroupStorage<Snapshot = SnapshotBytes>>()
     ensures { StepsHaveFrames S.stands }
+{}
+
+/// A snapshot's message has a frame exactly where the snapshot's bytes and its membership are within
+/// the limits (own): only then can a node that writes it lack nothing but memory.
+pub fn snapshots_have_frames()
+    ensures { SnapshotsHaveFrames }
+{}
+
+/// Where a snapshot has the membership of the one that it stands for, each message of a step within
+/// the limits has a frame, one with a snapshot where its bytes are at most as many as a snapshot may
+/// have (own).
+pub fn few_bytes_have_frames<S: GroupStorage<Snapshot = SnapshotBytes>>()
+    ensures { FewBytesHaveFrames S.stands }
 {}
 
 /// A message that a frame brings without a snapshot, and that isn't refused, is within the limits of

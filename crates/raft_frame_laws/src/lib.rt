@@ -4,4 +4,7 @@
 
 mod laws;
 
-pub use laws::{frames_fit_steps, messages_that_have_frames, steps_have_frames};
+pub use laws::{
+    few_bytes_have_frames, frames_fit_steps, messages_that_have_frames, snapshots_have_frames,
+    steps_have_frames,
+};

@@ -1,5 +1,6 @@
 -- Each token of a ledger was brought by its event, and ends once.
 use Rattle.std.specs.Prelude.{◌≡◌, ◌⊎◌, ℕ, zero, suc, ◌+◌, ◌-◌, ◌<◌, ◌≤◌, cond, not, Bool, true, false, List, [], ◌∷◌, ◌++◌, filter, length, slice_get, take, Option, Some, None, refl}
+use Rattle.std.proofs.Math.Seq.{take-length}
 use Rattle.std.proofs.Common.{inl, inr, sym, ap, ◌∙◌, subst, arith, ⊎_elim, length-take-le}
 use Rattle.std.proofs.lemmas.Bool.{cases_eq, cases_order}
 use Rattle.std.proofs.lemmas.List.{take-append-le}
@@ -216,10 +217,6 @@ waiting_were_brought ids small es n x c = all_brought (new_world ids) es n x (co
 
 -- ---- a token that has ended waits no more
 
-take_whole : {A : Type 0} (xs : List A) → take (length xs) xs ≡ xs
-take_whole [] = refl
-take_whole (x ∷ xs) = ap (λ l. x ∷ l) (take_whole xs)
-
 pub no_setup : (o : Option Membership) → is_same_setup o None ≡ true
 no_setup None = refl
 no_setup (Some first) = refl
@@ -343,7 +340,7 @@ module _ (w : GroupWorld) (es : Events) where
         (cases_order j i)
 
     whole : ledger (length es) ≡ ledger_of es w
-    whole = ap (λ (l : Events). ledger_of l w) (take_whole es)
+    whole = ap (λ (l : Events). ledger_of l w) (take-length es)
 
     waiting_has_not_ended : Among v (ledger_of es w n) → (i : ℕ) → EndsAt es w n v i → ⊥
     waiting_has_not_ended a i e =

@@ -1,5 +1,5 @@
 -- How an event ends the tokens of its node.
-use Rattle.std.specs.Prelude.{◌≡◌, ◌⊎◌, ℕ, ◌<◌, ◌^◌, not, Bool, true, false, List, [], ◌∷◌, ◌++◌, filter, length, Option, Some, None, is_some, refl}
+use Rattle.std.specs.Prelude.{◌≡◌, ◌⊎◌, ℕ, ◌<◌, ◌^◌, not, Bool, true, false, List, [], ◌++◌, filter, length, Option, Some, None, is_some, refl}
 use Rattle.std.proofs.Common.{inl, inr, sym, ap, ap₂, ◌∙◌, subst, ⊎_elim, append-nil}
 use Rattle.std.proofs.lemmas.Bool.{and_from}
 use Rattle.std.proofs.lemmas.List.{map-append}
@@ -22,7 +22,8 @@ use Rattle.raft_laws.proofs.StepMoments.{step_goes}
 use Rattle.raft_laws.proofs.WorldFits.{NodeStateFits}
 use Rattle.raft_laws.proofs.WorldLimits.{vote_itself}
 use Rattle.raft_laws.proofs.WorldSteps.{MayHappen}
-use Rattle.raft_step_laws.specs.Tokens.{HasItsOwnVote, OpensWithNone, TokensGo, brought, leads_on, seeks_or_leads, tokens_at}
+use Rattle.raft_step_laws.proofs.TokenLists.{opens_none, tokens_at_place}
+use Rattle.raft_step_laws.specs.Tokens.{HasItsOwnVote, TokensGo, brought, leads_on, seeks_or_leads}
 use Rattle.raft_step_laws.proofs.Telling.{tokens_go}
 use Rattle.raft_history_laws.specs.TokenEnds.{Names, NamesUnlessCrash, Numbered, brings, brought_unless, has_place, numbered, that_ended, that_wait, told_in, unknown_in, untold_in, untolds}
 use Rattle.raft_history_laws.proofs.LedgerLists.{all_ended, all_wait, due_ended, kept_wait, none_ended, none_wait, untolds_append, untolds_numbered}
@@ -73,10 +74,6 @@ all_lost ws stored = record { waits = (none_left (Down stored) ws refl).0; named
 
 -- ---- what an event brings
 
-tokens_at_place : (place : ℕ) (ts : List ℕ) → tokens_of (tokens_at place ts) ≡ ts
-tokens_at_place place [] = refl
-tokens_at_place place (t ∷ ts) = ap (λ l. t ∷ l) (tokens_at_place place ts)
-
 tokens_brought : (s : GroupState) (e : GroupEvent) → tokens_of (brought s e) ≡ token_of e None
 tokens_brought s AddGroup = refl
 tokens_brought s (Call call now) = tokens_at_place (end_place s.stored) (token_of_call call)
@@ -96,12 +93,6 @@ same_brought s (Call TriggerSnapshot now) = refl
 same_brought s (Call (TriggerPurge place) now) = refl
 same_brought s (Receive peer x now) = refl
 same_brought s Open = refl
-
-opens_none : (s : GroupState) (e : GroupEvent) → (e ≡ Open → ⊥) → OpensWithNone s e
-opens_none s AddGroup other = tt
-opens_none s (Call call now) other = tt
-opens_none s (Receive peer x now) other = tt
-opens_none s Open other = absurd (other refl)
 
 pub own_vote : (n : ℕ) (b : BallotWorld) (s : GroupState) (role : Role) → RoleFits n b s.stored.vote (held s.stored) role → seeks_or_leads role ≡ true → s.stored.vote.leader_id.node_id ≡ n
 own_vote n b s Follower h t = absurd (let f : false ≡ true = t in cc)

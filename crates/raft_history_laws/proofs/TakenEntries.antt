@@ -1,6 +1,7 @@
 -- The entry of a command or change that is taken stays at its node, wherever the event stops behind its first command.
 use Rattle.std.specs.Prelude.{◌≡◌, ◌⊎◌, ℕ, zero, suc, ◌+◌, ◌-◌, ◌<◌, ◌^◌, true, false, List, [], ◌∷◌, ◌++◌, length, take, Option, Some, None, refl}
 use Rattle.std.proofs.Common.{inl, inr, sym, ap, ◌∙◌, subst, arith, ⊎_elim, length-append, length-take-le}
+use Rattle.std.proofs.lemmas.List.{take_all}
 use Rattle.raft_values.specs.declared.log_id.LogId.{LogId}
 use Rattle.raft_group_step.specs.Values.{ChangeMembers, Entry, LoggedMembership, Membership}
 use Rattle.raft_group_step.specs.StoredGroup.{StoredGroup, StoringCommand, PutEntries, RemoveUpTo, after_storing, after_storing_all, end_place, entry_at, first_place, held, id_of, membership_in_force}
@@ -70,10 +71,6 @@ wished_more (Leader lead) (Some place) r =
     (removed_more (id_of (entry_at r.state.stored place)) (with_wish None r))
 
 -- one command, and maybe one more: after the first of them, or after all
-taken_first : (k : ℕ) (c : StoringCommand) → take (suc k) (c ∷ []) ≡ c ∷ []
-taken_first zero c = refl
-taken_first (suc k) c = refl
-
 taken_both : (k : ℕ) (c d : StoringCommand) → (take (suc k) (c ∷ d ∷ []) ≡ c ∷ []) ⊎ (take (suc k) (c ∷ d ∷ []) ≡ c ∷ d ∷ [])
 taken_both zero c d = inl refl
 taken_both (suc zero) c d = inr refl
@@ -153,7 +150,7 @@ module _ (m : Membership) (some : 0 < length m.configs) (own : ℕ) (small : own
   stopped_holds (suc k) l =
       ⊎_elim
       (λ x.
-      subst (λ cs. HoldsMore s (after_storing_all cs s.stored)) (sym (ap (take (suc k)) (x ∙ puts.commands) ∙ taken_first k (put_first s.stored e)))
+      subst (λ cs. HoldsMore s (after_storing_all cs s.stored)) (sym (ap (take (suc k)) (x ∙ puts.commands) ∙ take_all (suc k) (put_first s.stored e ∷ []) (omega arith)))
       first_holds)
       (λ x.
       let is : end.commands ≡ put_first s.stored e ∷ x.0 ∷ [] = x.1 ∙ ap (λ cs. cs ++ x.0 ∷ []) puts.commands in

@@ -1,5 +1,5 @@
 -- Each kind of event keeps what is stored in line with the commands.
-use Rattle.std.specs.Prelude.{◌≡◌, ℕ, ◌+◌, not, cond, Bool, true, false, List, [], ◌∷◌, Option, Some, None, refl}
+use Rattle.std.specs.Prelude.{◌≡◌, ℕ, ◌+◌, not, cond, Bool, true, false, List, [], ◌∷◌, length, Option, Some, None, refl}
 use Rattle.raft_values.specs.declared.vote.Vote.{Vote}
 use Rattle.raft_values.specs.Vote.{vote_of}
 use Rattle.raft_values.specs.declared.log_id.LogId.{LogId}
@@ -7,7 +7,7 @@ use Rattle.raft_values.specs.LogId.{log_id_of}
 use Rattle.raft_group_step.specs.Values.{Entry, EntryPayload, entry_of, LoggedMembership}
 use Rattle.raft_state.specs.declared.entry.EntryPayload.TheVariants.{Membership as Members}
 use Rattle.raft_group_step.specs.Values.{ChangeMembers}
-use Rattle.raft_group_step.specs.StoredGroup.{has_id_in_log, StoredGroup, Snapshot, MakeGroup, PutEntries, CutFrom, RemoveUpTo, SetSnapshot}
+use Rattle.raft_group_step.specs.StoredGroup.{has_id_in_log, StoredGroup, Snapshot, MakeGroup, PutEntries, CutFrom, RemoveUpTo, SetSnapshot, after_storing_all}
 use Rattle.raft_group_step.specs.Message.{AppendFields, ReplyFields, ReplyResult, Success, PartialSuccess, Conflict, HigherVote, MessageBody, VoteRequest, VoteReply, AppendRequest, AppendReply, SnapshotRequest, SnapshotReply}
 use Rattle.raft_group_step.specs.GroupState.{GroupState, Lead, Role, Follower, Candidate, Leader, state_of}
 use Rattle.raft_group_step.specs.declared.group_call.GroupCall.TheVariants.{Initialize, Elect, Propose, ChangeMembership, Heartbeat, Lost, TriggerSnapshot, TriggerPurge}
@@ -31,8 +31,10 @@ use Rattle.raft_group_step.specs.GroupStep.{begun, message_step, call_step, even
 use Rattle.raft_group_step.specs.Refusal.{refusal_of}
 use Rattle.raft_group_step.proofs.Words.{either, either_by, take_over_keeps_committed}
 use Rattle.raft_group_step.proofs.Refusals.{past_above}
+use Rattle.raft_laws.specs.Stop.{stopped_after}
 use Rattle.raft_laws.specs.StoringOrder.{StoresInOrder}
 use Rattle.raft_laws.proofs.StepWords.{same, store-keeps, store_vote-keeps, step_down-keeps, take_over-keeps, append-keeps, with_grant-keeps, remove-keeps, finished-keeps}
+use Rattle.std.proofs.Math.Seq.{take-length}
 use Rattle.std.proofs.Common.{sym, ◌∙◌, ap, subst, arith}
 use Rattle.std.proofs.lemmas.Bool.{or_parts}
 use Rattle.raft_laws.proofs.VoteOrders.{not_below, later_term_not_below}
@@ -234,3 +236,7 @@ unless-keeps own st e None = finished-keeps st.committed st.stored own st.commit
 
 pub step-keeps : (own : ℕ) (st : GroupState) (e : GroupEvent) → StoresInOrder st.committed st.stored (group_step own st e)
 step-keeps own st e = unless-keeps own st e (refusal_of own st e)
+
+-- a step that stops after all its storing commands has stored what it stores
+pub stopped_at_end : (own : ℕ) (s : GroupState) (e : GroupEvent) → (group_step own s e).state.stored ≡ stopped_after (length (group_step own s e).commands) s.stored (group_step own s e)
+stopped_at_end own s e = (step-keeps own s e).stored ∙ ap (λ cs. after_storing_all cs s.stored) (sym (take-length (group_step own s e).commands))

@@ -6,6 +6,7 @@ use Rattle.raft_values.specs.declared.vote.LeaderId.{LeaderId}
 use Rattle.raft_values.specs.declared.log_id.LogId.{LogId}
 use Rattle.raft_values.specs.LogId.{next_place}
 use Rattle.raft_state.specs.LogIdList.{IsBelowNext, end_of_key, ids_of, last_id, leader_ids, PlacesRise}
+use Rattle.raft_state.proofs.KeyEndLemmas.{end_above}
 use Rattle.raft_state.proofs.LogIdLemmas.{leader_ids-first, leader_ids-none}
 use Rattle.raft_state.proofs.LogIdListLemmas.{final, last_id-cons, last_id-ids_of}
 use Rattle.std.proofs.lemmas.Bool.{and_right, le-leb}
@@ -72,11 +73,6 @@ last_before xs ys h = ap (λ l. last_or None (xs ++ l)) h ∙ ap (last_or None) 
 none_before : {X : Type 0} (test : X → Bool) (xs ys : List X) → filter test xs ≡ [] → filter test ys ≡ [] → filter test (xs ++ ys) ≡ []
 none_before test xs ys h k = filter-append test xs ys ∙ ap (λ l. l ++ filter test ys) h ∙ k
 
--- a key's log ids end past it
-end_past : (key : LogId ℕ) (rest : List (LogId ℕ)) → IsBelowNext key rest → key.index < end_of_key key rest
-end_past key [] h = omega arith
-end_past key (next ∷ rest) h = h
-
 pub end_is_next : (key : LogId ℕ) (rest : List (LogId ℕ)) (d : LogId ℕ) → 1 ≤ length rest → end_of_key key rest ≡ (get_or rest 0 d).index
 end_is_next key [] d h = absurd (omega arith)
 end_is_next key (next ∷ rest) d h = refl
@@ -113,7 +109,7 @@ end_within key (next ∷ keys) (suc at) d l h =
     let on : next.index ≤ (get_or keys at d).index = omega arith in on
   where
     past_key : (key : LogId ℕ) (rest : List (LogId ℕ)) → IsBelowNext key rest → key.index ≤ end_of_key key rest
-    past_key key rest h = let l = end_past key rest h in omega arith
+    past_key key rest h = let l = end_above key rest h in omega arith
 
 module _ (leader : LeaderId ℕ) (from below : ℕ) where
   abbrev pub is_own_within : LogId ℕ → Bool
@@ -187,7 +183,7 @@ module _ (leader : LeaderId ℕ) (from below : ℕ) where
       → ((place : ℕ) → key.index ≤ place → place < end_of_key key rest → is_own_within (id_of key.leader_id place) ≡ false)
       → None ≡ last_own_within leader from below (leader_ids key.leader_id key.index (end_of_key key rest))
   none_told key rest h f =
-      sym (ap (last_or None) (none_of_run key.leader_id (end_of_key key rest - key.index) key.index (end_of_key key rest) (let l = end_past key rest h in omega arith) f))
+      sym (ap (last_or None) (none_of_run key.leader_id (end_of_key key rest - key.index) key.index (end_of_key key rest) (let l = end_above key rest h in omega arith) f))
 
   -- as where it is another's, stands no lower, or ends below
   pub none_under : (key : LogId ℕ) (rest : List (LogId ℕ)) → IsBelowNext key rest → is_of_leader nat_eq leader key ≡ false
@@ -262,7 +258,7 @@ module _ (leader : LeaderId ℕ) (from below : ℕ) where
   none_before_key (key ∷ keys) (suc at) d l h low none =
       let end : end_of_key key keys ≤ (get_or keys at d).index = end_within key keys at d (omega arith) h.1 in
       none_before is_own_within (leader_ids key.leader_id key.index (end_of_key key keys)) (ids_of keys)
-      (none_of_run key.leader_id (end_of_key key keys - key.index) key.index (end_of_key key keys) (let l = end_past key keys h.0 in omega arith) (λ place a b. before_from key.leader_id place (omega arith)))
+      (none_of_run key.leader_id (end_of_key key keys - key.index) key.index (end_of_key key keys) (let l = end_above key keys h.0 in omega arith) (λ place a b. before_from key.leader_id place (omega arith)))
       (none_before_key keys at d (omega arith) h.1 low none)
 
 pub none_if : {X : Type 0} (o : Option X) → is_some o ≡ false → o ≡ None

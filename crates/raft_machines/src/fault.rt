@@ -1,5 +1,6 @@
 //! What a node's calls refuse, and why.
-ghost use Rattle.std.specs.Prelude.{◌≡◌};
+ghost use Rattle.std.specs.Prelude.{◌≡◌, is_none};
+ghost use Rattle.raft_group_step.specs.Refusal.{is_first_membership};
 ghost use Rattle.raft_machines.specs.Fault.{number_of, name_of};
 ghost use Rattle.raft_machines.specs.MembershipFault.{membership_fault_of};
 
@@ -22,9 +23,11 @@ pub enum MembershipFault {
 }
 
 /// Why a group can't be set up with this membership, if it can't (own): it isn't valid, has no voter
-/// group or is past a limit; the first of these counts.
+/// group or is past a limit; the first of these counts. There is a fault exactly where the membership
+/// can't be a group's first (`is_first_membership`).
 pub fn membership_fault(membership: &Membership<u64, BasicNode>) -> Option<MembershipFault>
-    ensures { result ≡ membership_fault_of membership.now }
+    ensures why { result ≡ membership_fault_of membership.now }
+    ensures first { is_none result ≡ is_first_membership membership.now }
 {
     if let Err(why) = membership.ensure_valid() {
         return Some(MembershipFault::Invalid(why));

@@ -1,12 +1,12 @@
 -- What a message is to the group step.
-use Rattle.std.specs.Prelude.{List, [], ◌∷◌, Option, Some, None}
+use Rattle.std.specs.Prelude.{ℕ, List, [], ◌∷◌, Option, Some, None}
 use Rattle.raft_group_step.specs.StoredGroup.{Snapshot}
 use Rattle.raft_group_step.specs.Message.{Message, MessageBody, VoteRequest, VoteReply, AppendRequest, AppendReply, SnapshotRequest, SnapshotReply}
 use Rattle.raft_group_step.specs.Message.{AppendFields, ReplyFields, RequestId, HeartBeat, Numbered, ReplyResult, Success, PartialSuccess, Conflict, HigherVote}
+use Rattle.raft_group_step.specs.declared.append_entries.AppendEntriesResponse.{AppendEntriesResponse}
+use Rattle.raft_group_step.specs.declared.append_entries.AppendEntriesResponse.TheVariants.{Success as Accepted, PartialSuccess as AcceptedPart, Conflict as Differs, HigherVote as HasHigherVote}
 use Rattle.raft_messages.specs.declared.message.RequestId.{RequestId as IdOfRequest}
 use Rattle.raft_messages.specs.declared.message.RequestId.TheVariants.{HeartBeat as NoNumber, Numbered as HasNumber}
-use Rattle.raft_messages.specs.declared.message.ReplyResult.{ReplyResult as Outcome}
-use Rattle.raft_messages.specs.declared.message.ReplyResult.TheVariants.{Success as Accepted, PartialSuccess as AcceptedPart, Conflict as Differs, HigherVote as HasHigherVote}
 use Rattle.raft_messages.specs.declared.message.AppendFields.{AppendFields as Request}
 use Rattle.raft_messages.specs.declared.message.ReplyFields.{ReplyFields as Reply}
 use Rattle.raft_messages.specs.declared.message.MessageBody.{MessageBody as Body}
@@ -18,7 +18,8 @@ abbrev pub request_id_of : IdOfRequest → RequestId
 request_id_of NoNumber = HeartBeat
 request_id_of (HasNumber id) = Numbered id
 
-abbrev pub outcome_of : Outcome → ReplyResult
+-- what came of an append request
+abbrev pub outcome_of : AppendEntriesResponse ℕ → ReplyResult
 outcome_of Accepted = Success
 outcome_of (AcceptedPart last) = PartialSuccess last
 outcome_of Differs = Conflict

@@ -1,5 +1,5 @@
 //! What nodes of a group send to one another.
-use raft_group_step::{Entries, VoteRequest, VoteResponse};
+use raft_group_step::{AppendEntriesResponse, Entries, VoteRequest, VoteResponse};
 use raft_state::{BasicNode, Bytes, LogId, Vote};
 
 /// Which request a message or its reply is about (own). The kind of the message says the rest, so
@@ -15,18 +15,8 @@ pub enum RequestId {
     },
 }
 
-/// What came of a request (own).
-#[derive(Clone, Copy, Debug, PartialEq, Eq)]
-pub enum ReplyResult {
-    /// All that the request brought is there.
-    Success,
-    /// What the request brought is there up to this log id. It is read, and never sent.
-    PartialSuccess(Option<LogId<u64>>),
-    /// The log doesn't have the entry before the request's.
-    Conflict,
-    /// The node has this vote, which is greater than the request's.
-    HigherVote(Vote<u64>),
-}
+/// What came of a request (own): of an append request, or by the same words of a snapshot's.
+pub type ReplyResult = AppendEntriesResponse<u64>;
 
 /// Entries to be appended after the previous one, and how far the sender has committed (own).
 #[derive(Debug, Drop)]

@@ -3,6 +3,7 @@ pub mod LogIdListLemmas
 pub mod KeyOrderLemmas
 pub mod KeyCutLemmas
 pub mod KeyCountLemmas
+pub mod KeyEndLemmas
 pub mod KeyRestLemmas
 pub mod KeysOfLemmas
 pub mod KeyLeaderLemmas

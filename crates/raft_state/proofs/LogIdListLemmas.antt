@@ -3,7 +3,8 @@ use Rattle.std.proofs.Common.{◌≡◌, ◌+◌, ◌-◌, ◌<◌, List, [], �
 use Rattle.std.specs.Prelude.{Some}
 use Rattle.std.specs.List.{slice_get}
 use Rattle.raft_values.specs.declared.log_id.LogId.{LogId}
-use Rattle.raft_state.specs.LogIdList.{leader_ids, end_of_key, ids_of, last_id, ids_between, appended, IsBelowNext, PlacesRise, GoesOn}
+use Rattle.raft_state.specs.LogIdList.{leader_ids, end_of_key, ids_of, last_id, ids_between, appended, PlacesRise, GoesOn}
+use Rattle.raft_state.proofs.KeyEndLemmas.{end_above}
 use Rattle.raft_state.proofs.LogIdLemmas.{leader_ids-none, leader_ids-one, leader_ids-first}
 
 -- the last one of x and those behind it
@@ -22,10 +23,6 @@ slice_get-final x (y ∷ ys) = slice_get-final y ys
 module _ {K : Type 0} where
   pub last_id-cons : (x : LogId K) (xs : List (LogId K)) → last_id (x ∷ xs) ≡ Some (final x xs)
   last_id-cons x xs = let at : length (x ∷ xs) - 1 ≡ length xs = omega arith in rw at (slice_get-final x xs)
-
-  end_above : (key : LogId K) (keys : List (LogId K)) → IsBelowNext key keys → key.index < end_of_key key keys
-  end_above key [] h = omega arith
-  end_above key (next ∷ keys) h = h
 
   -- what stands behind the first log id
   abbrev pub ids_behind : LogId K → List (LogId K) → List (LogId K)

@@ -10,10 +10,7 @@ use Rattle.raft_group_step.specs.GroupStep.{group_step}
 use Rattle.raft_laws.specs.Stop.{token_of_call}
 use Rattle.raft_step_laws.specs.Tokens.{RiseFrom, TokensGo, TokensGoInOrder, brought, is_due, leads_on, tokens_at}
 use Rattle.raft_step_laws.proofs.Telling.{tokens_go}
-
-rise_lower : (j k : ℕ) (xs : List Untold) → j ≤ k → RiseFrom k xs → RiseFrom j xs
-rise_lower j k [] l h = tt
-rise_lower j k (x ∷ xs) l h = (omega (arith, h.0), h.1)
+use Rattle.raft_step_laws.proofs.TokenLists.{rise_lower}
 
 -- what is kept of them rises too
 rise_filter : (p : Untold → Bool) (k : ℕ) (xs : List Untold) → RiseFrom k xs → RiseFrom k (filter p xs)

@@ -13,6 +13,7 @@ pub mod Served
 pub mod FitWords
 pub mod FitSteps
 pub mod Committing
+pub mod TokenLists
 pub mod InOrder
 pub mod LowWords
 pub mod LowSteps

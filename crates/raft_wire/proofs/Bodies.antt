@@ -10,8 +10,8 @@ use Rattle.raft_group_step.specs.Values.{LoggedMembership}
 use Rattle.raft_messages.specs.declared.memberships.SnapshotBytes.{SnapshotBytes}
 use Rattle.raft_messages.specs.declared.message.RequestId.{RequestId}
 use Rattle.raft_messages.specs.declared.message.RequestId.TheVariants.{HeartBeat, Numbered}
-use Rattle.raft_messages.specs.declared.message.ReplyResult.{ReplyResult}
-use Rattle.raft_messages.specs.declared.message.ReplyResult.TheVariants.{Success, PartialSuccess, Conflict, HigherVote}
+use Rattle.raft_group_step.specs.declared.append_entries.AppendEntriesResponse.{AppendEntriesResponse}
+use Rattle.raft_group_step.specs.declared.append_entries.AppendEntriesResponse.TheVariants.{Success, PartialSuccess, Conflict, HigherVote}
 use Rattle.raft_messages.specs.declared.message.AppendFields.{AppendFields}
 use Rattle.raft_messages.specs.declared.message.ReplyFields.{ReplyFields}
 use Rattle.raft_wire.specs.declared.error.FrameFault.{FrameFault}
@@ -133,18 +133,18 @@ append_reads =
     (λ (m : AppendFields). FitsVote m.vote × (FitsId m.id × (FitsLast m.previous × (FitsLast m.committed × ((length m.entries ≤ 64) × Chained FitsBehind that_place None m.entries))))) FitsAppend whole
     (λ m h. record { vote = h.0; id = h.1.0; previous = h.1.1.0; committed = h.1.1.1.0; count = h.1.1.1.1.0; entries = h.1.1.1.1.1 }) (λ m h. (h.vote, (h.id, (h.previous, (h.committed, (h.count, h.entries))))))
 
-result_takes : (bytes : List ℕ) (x : ReplyResult × List ℕ) → AreBytes bytes → result_at bytes ≡ Ok x → Takes bytes (spelled_result x.0) x.1 × FitsResult x.0
+result_takes : (bytes : List ℕ) (x : AppendEntriesResponse ℕ × List ℕ) → AreBytes bytes → result_at bytes ≡ Ok x → Takes bytes (spelled_result x.0) x.1 × FitsResult x.0
 unfolding result_at
 result_takes [] x fits e = absurd cc
-result_takes (zero ∷ bytes) x fits e = subst (λ (y : ReplyResult × List ℕ). Takes (0 ∷ bytes) (spelled_result y.0) y.1 × FitsResult y.0) (ok_is (Success, bytes) x e) (record { parts = refl; rest_fits = AreBytes-rest 0 bytes fits }, tt)
-result_takes (suc zero ∷ bytes) x fits e = subst (λ (y : ReplyResult × List ℕ). Takes (1 ∷ bytes) (spelled_result y.0) y.1 × FitsResult y.0) (ok_is (Conflict, bytes) x e) (record { parts = refl; rest_fits = AreBytes-rest 1 bytes fits }, tt)
+result_takes (zero ∷ bytes) x fits e = subst (λ (y : AppendEntriesResponse ℕ × List ℕ). Takes (0 ∷ bytes) (spelled_result y.0) y.1 × FitsResult y.0) (ok_is (Success, bytes) x e) (record { parts = refl; rest_fits = AreBytes-rest 0 bytes fits }, tt)
+result_takes (suc zero ∷ bytes) x fits e = subst (λ (y : AppendEntriesResponse ℕ × List ℕ). Takes (1 ∷ bytes) (spelled_result y.0) y.1 × FitsResult y.0) (ok_is (Conflict, bytes) x e) (record { parts = refl; rest_fits = AreBytes-rest 1 bytes fits }, tt)
 result_takes (suc (suc zero) ∷ bytes) x fits e =
     let a = bind_ok (vote_at bytes) (λ a. Ok (higher_vote a.0, a.1)) x e in
     let t = vote_reads.takes bytes a.0.0 a.0.1 (AreBytes-rest 2 bytes fits) a.1 in
-    subst (λ (y : ReplyResult × List ℕ). Takes (2 ∷ bytes) (spelled_result y.0) y.1 × FitsResult y.0) (ok_is (HigherVote a.0.0, a.0.1) x a.2) (Takes-behind 2 bytes (spelled_vote a.0.0) a.0.1 t.0, t.1)
+    subst (λ (y : AppendEntriesResponse ℕ × List ℕ). Takes (2 ∷ bytes) (spelled_result y.0) y.1 × FitsResult y.0) (ok_is (HigherVote a.0.0, a.0.1) x a.2) (Takes-behind 2 bytes (spelled_vote a.0.0) a.0.1 t.0, t.1)
 result_takes (suc (suc (suc b)) ∷ bytes) x fits e = absurd cc
 
-result_again : (r : ReplyResult) (rest : List ℕ) → FitsResult r → result_at (spelled_result r ++ rest) ≡ Ok (r, rest)
+result_again : (r : AppendEntriesResponse ℕ) (rest : List ℕ) → FitsResult r → result_at (spelled_result r ++ rest) ≡ Ok (r, rest)
 unfolding result_at
 result_again Success rest h = refl
 result_again (PartialSuccess last) rest h = absurd h
@@ -200,7 +200,7 @@ all_three true true c p q r = r
 all_three true false c p q r = absurd cc
 all_three false b c p q r = absurd cc
 
-abbrev IsNoConflict : ReplyResult → Type 0
+abbrev IsNoConflict : AppendEntriesResponse ℕ → Type 0
 IsNoConflict outcome = not (is_conflict outcome) ≡ true
 
 abbrev HasNumber : RequestId → Type 0

@@ -18,8 +18,8 @@ use Rattle.raft_wire.specs.Memberships.{Chained, FitsIds, nothing_left, FitsNode
 use Rattle.raft_wire.specs.Entries.{FitsPayload, that_place}
 use Rattle.raft_group_step.specs.Refusal.{is_payload_short}
 use Rattle.raft_messages.specs.declared.message.ReplyFields.{ReplyFields}
-use Rattle.raft_messages.specs.declared.message.ReplyResult.{ReplyResult}
-use Rattle.raft_messages.specs.declared.message.ReplyResult.TheVariants.{Success, PartialSuccess, Conflict, HigherVote}
+use Rattle.raft_group_step.specs.declared.append_entries.AppendEntriesResponse.{AppendEntriesResponse}
+use Rattle.raft_group_step.specs.declared.append_entries.AppendEntriesResponse.TheVariants.{Success, PartialSuccess, Conflict, HigherVote}
 use Rattle.raft_wire.specs.Bodies.{FitsBehind, FitsLogged, FitsReply, FitsResult, is_of_snapshot, is_spelled}
 use Rattle.raft_wire.specs.Frames.{Body, spelled_parties, spelled_body, spelled_rest, spelled_frame, rest_at, FitsBody, FitsFrame, are_consecutive, are_entries_short, is_logged_short, is_snapshot_short, fault_of_frame, fault_of_reply}
 use Rattle.raft_wire.specs.Stream.{Judged, length_in, fault_of_length, judged_frame, judged_length, judged, front}
@@ -69,7 +69,7 @@ no_fault_of_tags : (of_snapshot : Bool) → of_snapshot ≡ true → cond of_sna
 no_fault_of_tags true p = refl
 no_fault_of_tags false p = absurd cc
 
-result_spelled : (r : ReplyResult) → FitsResult r → is_spelled r ≡ true
+result_spelled : (r : AppendEntriesResponse ℕ) → FitsResult r → is_spelled r ≡ true
 result_spelled Success h = refl
 result_spelled (PartialSuccess last) h = absurd h
 result_spelled Conflict h = refl

@@ -11,8 +11,8 @@ use Rattle.raft_state.specs.declared.entry.EntryPayload.TheVariants.{Blank, Norm
 use Rattle.raft_group_step.specs.Values.{Membership, Entry, EntryPayload, LoggedMembership, is_within_limits}
 use Rattle.raft_messages.specs.declared.message.RequestId.{RequestId}
 use Rattle.raft_messages.specs.declared.message.RequestId.TheVariants.{HeartBeat, Numbered}
-use Rattle.raft_messages.specs.declared.message.ReplyResult.{ReplyResult}
-use Rattle.raft_messages.specs.declared.message.ReplyResult.TheVariants.{Success, PartialSuccess, Conflict, HigherVote}
+use Rattle.raft_group_step.specs.declared.append_entries.AppendEntriesResponse.{AppendEntriesResponse}
+use Rattle.raft_group_step.specs.declared.append_entries.AppendEntriesResponse.TheVariants.{Success, PartialSuccess, Conflict, HigherVote}
 use Rattle.raft_messages.specs.declared.message.AppendFields.{AppendFields}
 use Rattle.raft_messages.specs.declared.message.ReplyFields.{ReplyFields}
 use Rattle.raft_messages.specs.declared.message.MessageBody.TheVariants as body
@@ -99,7 +99,7 @@ id_len : (id : RequestId) → length (spelled_request_id id) ≤ 9
 id_len HeartBeat = omega arith
 id_len (Numbered id) = omega arith
 
-result_len : (r : ReplyResult) → length (spelled_result r) ≤ 18
+result_len : (r : AppendEntriesResponse ℕ) → length (spelled_result r) ≤ 18
 result_len Success = omega arith
 result_len (PartialSuccess last) = omega arith
 result_len Conflict = omega arith

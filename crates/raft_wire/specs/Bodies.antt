@@ -12,8 +12,8 @@ use Rattle.raft_group_step.specs.Values.{Membership, Entry, LoggedMembership}
 use Rattle.raft_messages.specs.declared.memberships.SnapshotBytes.{SnapshotBytes}
 use Rattle.raft_messages.specs.declared.message.RequestId.{RequestId}
 use Rattle.raft_messages.specs.declared.message.RequestId.TheVariants.{HeartBeat, Numbered}
-use Rattle.raft_messages.specs.declared.message.ReplyResult.{ReplyResult}
-use Rattle.raft_messages.specs.declared.message.ReplyResult.TheVariants.{Success, PartialSuccess, Conflict, HigherVote}
+use Rattle.raft_group_step.specs.declared.append_entries.AppendEntriesResponse.{AppendEntriesResponse}
+use Rattle.raft_group_step.specs.declared.append_entries.AppendEntriesResponse.TheVariants.{Success, PartialSuccess, Conflict, HigherVote}
 use Rattle.raft_messages.specs.declared.message.AppendFields.{AppendFields}
 use Rattle.raft_messages.specs.declared.message.ReplyFields.{ReplyFields}
 use Rattle.raft_wire.specs.declared.error.FrameFault.TheVariants as fault
@@ -113,28 +113,28 @@ append_at = made append_of (both vote_at (both id_at (both last_at (both last_at
 -- ---- replies
 
 -- a partial success has no spelling
-abbrev pub is_spelled : ReplyResult → Bool
+abbrev pub is_spelled : AppendEntriesResponse ℕ → Bool
 is_spelled Success = true
 is_spelled (PartialSuccess last) = false
 is_spelled Conflict = true
 is_spelled (HigherVote vote) = true
 
-abbrev pub spelled_result : ReplyResult → List ℕ
+abbrev pub spelled_result : AppendEntriesResponse ℕ → List ℕ
 spelled_result Success = 0 ∷ []
 spelled_result (PartialSuccess last) = []
 spelled_result Conflict = 1 ∷ []
 spelled_result (HigherVote vote) = 2 ∷ spelled_vote vote
 
-abbrev pub FitsResult : ReplyResult → Type 0
+abbrev pub FitsResult : AppendEntriesResponse ℕ → Type 0
 FitsResult Success = Unit {0}
 FitsResult (PartialSuccess last) = ⊥
 FitsResult Conflict = Unit {0}
 FitsResult (HigherVote vote) = FitsVote vote
 
-abbrev pub higher_vote : Vote ℕ → ReplyResult
+abbrev pub higher_vote : Vote ℕ → AppendEntriesResponse ℕ
 higher_vote vote = HigherVote vote
 
-unfoldable pub result_at : Reader ReplyResult
+unfoldable pub result_at : Reader (AppendEntriesResponse ℕ)
 result_at [] = Err fault.CutShort
 result_at (zero ∷ rest) = Ok (Success, rest)
 result_at (suc zero ∷ rest) = Ok (Conflict, rest)
@@ -153,7 +153,7 @@ pub record FitsReply (m : ReplyFields) : Type 0 where
   pub last : FitsLast m.last
   pub outcome : FitsResult m.outcome
 
-abbrev pub reply_of : Vote ℕ × (RequestId × (Option (LogId ℕ) × (Option (LogId ℕ) × ReplyResult))) → ReplyFields
+abbrev pub reply_of : Vote ℕ × (RequestId × (Option (LogId ℕ) × (Option (LogId ℕ) × AppendEntriesResponse ℕ))) → ReplyFields
 reply_of x = record { vote = x.0; id = x.1.0; previous = x.1.1.0; last = x.1.1.1.0; outcome = x.1.1.1.1 }
 
 unfoldable pub reply_at : Reader ReplyFields
@@ -165,7 +165,7 @@ abbrev pub has_number : RequestId → Bool
 has_number HeartBeat = false
 has_number (Numbered id) = true
 
-abbrev pub is_conflict : ReplyResult → Bool
+abbrev pub is_conflict : AppendEntriesResponse ℕ → Bool
 is_conflict Success = false
 is_conflict (PartialSuccess last) = false
 is_conflict Conflict = true
@@ -188,7 +188,7 @@ none_at (suc b ∷ rest) = Err fault.BadTag
 unfoldable pub numbered_at : Reader RequestId
 numbered_at = tested fault.BadTag has_number id_at
 
-unfoldable pub snapshot_result_at : Reader ReplyResult
+unfoldable pub snapshot_result_at : Reader (AppendEntriesResponse ℕ)
 snapshot_result_at = tested fault.BadTag (λ outcome. not (is_conflict outcome)) result_at
 
 unfoldable pub snapshot_reply_at : Reader ReplyFields

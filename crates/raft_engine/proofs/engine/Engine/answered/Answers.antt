@@ -1,6 +1,6 @@
 -- A greater vote is taken over, and then the answer counts.
 use Rattle.raft_group_step.specs.Reply.{with_higher_vote}
-use Rattle.raft_engine.specs.Commands.{result_of}
+use Rattle.raft_messages.specs.Messages.{outcome_of}
 use Rattle.raft_engine.specs.Standing.{IsStepOf}
 use Rattle.raft_engine.proofs.ReplicationLemmas.{no_higher}
 use Rattle.raft_engine.specs.Clock.{KeepsHeard}
@@ -10,7 +10,7 @@ use Rattle.raft_engine.proofs.engine.Engine.answered.Goals.{in-HigherVote+in_ok-
 
 pub returns-clause-step : goal.returns-clause-step
 returns-clause-step g c = λ x own r step now fits.
-    let judged = with_higher_vote (result_of c.args.outcome.now) r in
+    let judged = with_higher_vote (outcome_of c.args.outcome.now) r in
     let so_far : IsStepOf {C = g.row.C.Denot} {R = g.row.C-R.Denot} x own c.match-outcome.self judged =
     elim c.match-outcome.branch [
       | in-HigherVote+in_ok-take_over_greater w ↦
