@@ -16,7 +16,8 @@ use Rattle.raft_laws.specs.GroupRun.{stop_at}
 use Rattle.raft_laws.specs.Stop.{stopped_after, token_of, token_of_call, unknown_at_stop}
 use Rattle.raft_laws.proofs.Counts.{among_contains, contains_among}
 use Rattle.raft_laws.proofs.StepMoments.{refusals_told}
-use Rattle.raft_step_laws.specs.Tokens.{brought, tokens_at}
+use Rattle.raft_step_laws.specs.Tokens.{brought}
+use Rattle.raft_step_laws.proofs.TokenLists.{tokens_at_place}
 use Rattle.raft_machines.specs.Machine.{MachineRules}
 use Rattle.raft_headline.specs.ClusterEvent.{ClusterOutcome, Done, Opened, Recorded, Said, is_stopped, said_of}
 use Rattle.raft_headline.specs.ClusterEvent.{Fused, Stopped}
@@ -140,13 +141,9 @@ others_as_asked rules h n r = others_act rules h n r
 
 -- ---- tokens
 
-tokens_there : (place : ℕ) (tokens : List ℕ) → tokens_of (tokens_at place tokens) ≡ tokens
-tokens_there place [] = refl
-tokens_there place (t ∷ ts) = ap (λ xs. t ∷ xs) (tokens_there place ts)
-
 its_own : (s : GroupState) (ge : GroupEvent) → token_of ge None ≡ tokens_of (brought s ge)
 its_own s AddGroup = refl
-its_own s (Call call now) = sym (tokens_there (end_place s.stored) (token_of_call call))
+its_own s (Call call now) = sym (tokens_at_place (end_place s.stored) (token_of_call call))
 its_own s (Receive peer m now) = refl
 its_own s Open = refl
 

@@ -11,15 +11,11 @@ use Rattle.raft_laws.proofs.BallotSafe.{Among}
 use Rattle.raft_laws.proofs.FreshEntries.{without_is}
 use Rattle.raft_laws.proofs.Counts.{among_contains}
 use Rattle.raft_step_laws.specs.Tokens.{RiseFrom, WaitsLeading, brought, tokens_at}
+use Rattle.raft_step_laws.proofs.TokenLists.{rise_lower}
 use Rattle.raft_history_laws.specs.WaitingTokens.{AreRising, IsWaiting}
 
--- from a lower place on they rise, too
-lower : (a b : ℕ) (xs : List Untold) → a ≤ b → RiseFrom b xs → RiseFrom a xs
-lower a b [] le h = tt
-lower a b (x ∷ xs) le h = let l = h.0 in (omega arith, h.1)
-
 rise_with : (start end : ℕ) (xs ys : List Untold) → start ≤ end → ((x : Untold) → Among x xs → start ≤ x.place) → ((x : Untold) → Among x xs → x.place < end) → AreRising xs → RiseFrom end ys → RiseFrom start (xs ++ ys)
-rise_with start end [] ys le low high rising h = lower start end ys le h
+rise_with start end [] ys le low high rising h = rise_lower start end ys le h
 rise_with start end (x ∷ xs) ys le low high rising h =
     let here = high x (inl refl) in (
       low x (inl refl),

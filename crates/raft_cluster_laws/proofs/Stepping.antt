@@ -21,8 +21,9 @@ use Rattle.raft_laws.specs.VotesRise.{stored_of}
 use Rattle.raft_laws.proofs.BallotSafe.{Among, among_at}
 use Rattle.raft_laws.proofs.Counts.{among_contains, contains_among}
 use Rattle.raft_laws.proofs.StepMoments.{refusals_told}
-use Rattle.raft_step_laws.specs.Tokens.{OpensWithNone, RiseFrom, TokensGo, brought, is_due, leads_on}
+use Rattle.raft_step_laws.specs.Tokens.{RiseFrom, TokensGo, brought, is_due, leads_on}
 use Rattle.raft_step_laws.proofs.Telling.{tokens_go}
+use Rattle.raft_step_laws.proofs.TokenLists.{opens_none}
 use Rattle.raft_history_laws.proofs.ServedNodes.{opens_own_vote}
 use Rattle.raft_machines.specs.Machine.{MachineRules}
 use Rattle.raft_machines.specs.Fold.{fold_of}
@@ -109,12 +110,6 @@ ran_end s ge r false (Some why) e sent told lost is = absurd (let f : Declined w
 
 same_told : (sent sent' : List Message) (told told' : List Untold) (lost lost' : List ℕ) → ◌≡◌ {A = Outcome} (Ended sent told lost) (Ended sent' told' lost') → told ≡ told'
 same_told sent sent' told told' lost lost' e = cc
-
-pub opens_without : (s : GroupState) (ge : GroupEvent) → (ge ≡ Open → ⊥) → OpensWithNone s ge
-opens_without s AddGroup other = tt
-opens_without s (Call call now) other = tt
-opens_without s (Receive peer m now) other = tt
-opens_without s Open other = absurd (other refl)
 
 -- the nodes with the state that one has
 pub own_state : (n m : ℕ) (nodes : ℕ → NodeState) (t : NodeState) → nodes n ≡ t → nodes m ≡ with_node_state n t nodes m
@@ -232,7 +227,7 @@ module _ (rules : MachineRules) (ids : List ℕ) (gs : List GroupRecorded) (old 
       told_above at well x a = go (leads_on s t) refl
         where
           goes : TokensGo s ge q
-          goes = tokens_go n s ge (own_vote ids gs old.world k.leads n s is) (leading ids gs old.world k.leads n s is) (opens_without s ge (not_open ids gs old.world k.leads n s is e ge here taken)) taken
+          goes = tokens_go n s ge (own_vote ids gs old.world k.leads n s is) (leading ids gs old.world k.leads n s is) (opens_none s ge (not_open ids gs old.world k.leads n s is e ge here taken)) taken
 
           go : (b : Bool) → leads_on s t ≡ b → at.count ≤ x.place
           go true on =

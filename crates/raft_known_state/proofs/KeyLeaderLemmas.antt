@@ -10,6 +10,7 @@ use Rattle.std.proofs.lemmas.Bool.{and_right}
 use Rattle.raft_values.specs.declared.vote.LeaderId.{LeaderId}
 use Rattle.raft_values.specs.declared.log_id.LogId.{LogId}
 use Rattle.raft_values.specs.LogId.{next_place}
+use Rattle.raft_state.proofs.KeyEndLemmas.{end_above}
 use Rattle.raft_state.specs.LogIdList.{leader_ids, end_of_key, ids_of, IsBelowNext, PlacesRise}
 use Rattle.raft_group_step.specs.Values.{Entry, leader_eq, is_written_by}
 use Rattle.raft_group_step.specs.StoredGroup.{StoredGroup, first_place}
@@ -38,10 +39,6 @@ any_up_to leader own place start end l =
     ap (λ k. list_any (is_of_leader_from leader place) (map (λ index. record { leader_id = own; index = index }) (range_with_len start k))) n
     ∙ any_of_leader leader own place start (end - start - 1)
     ∙ ap (λ k. leader_eq own leader && nat_lt place k) at
-
-end_above : (key : LogId ℕ) (rest : List (LogId ℕ)) → IsBelowNext key rest → key.index < end_of_key key rest
-end_above key [] l = omega arith
-end_above key (next ∷ rest) l = l
 
 under_end : (place : ℕ) (key : LogId ℕ) (rest : List (LogId ℕ)) → nat_lt place (end_of_key key rest) ≡ stands_under place key (slice_get rest 0)
 under_end place key [] = grind (arith, nat_tests)
