@@ -12,11 +12,8 @@ use Rattle.raft_group_step.specs.SnapshotRequest.{place_above}
 use Rattle.raft_machines.specs.declared.telling.Untold.{Untold as AnUntold}
 use Rattle.raft_machines.specs.Telling.{WaitFrom, untold_of}
 use Rattle.raft_step_laws.specs.Tokens.{RiseFrom}
+use Rattle.raft_step_laws.proofs.TokenLists.{rise_lower}
 use Rattle.raft_applier.specs.Running.{due_at, later_than}
-
-pub rise_lower : (j k : ℕ) (xs : List Untold) → j ≤ k → RiseFrom k xs → RiseFrom j xs
-rise_lower j k [] l h = tt
-rise_lower j k (x ∷ xs) l h = (omega (arith, h.0), h.1)
 
 within_above : (place : ℕ) (end : Option ℕ) → is_within place end ≡ true → place + 1 ≤ place_above end
 within_above place None t = absurd (let f : false ≡ true = t in cc)

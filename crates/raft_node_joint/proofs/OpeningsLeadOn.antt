@@ -40,7 +40,7 @@ use Rattle.raft_node_joint.proofs.Others.{shows_it}
 use Rattle.raft_node_joint.proofs.OwnGroup.{frames_say, is_in_one}
 use Rattle.raft_node_joint.proofs.OwnMessages.{step_sends}
 use Rattle.raft_node_joint.proofs.Reopened.{absent_groups_store_nothing}
-use Rattle.raft_node_joint.proofs.StopsBehind.{all_stored}
+use Rattle.raft_laws.proofs.StepOrder.{stopped_at_end}
 
 -- ---- a group that isn't there
 
@@ -193,7 +193,7 @@ module _ (rules : MachineRules) (stands : SnapshotBytes → Snapshot → Type 0)
               more = [];
               shown = shows_it rules n h q.state (up_behind h);
               leads = one_leads rules h own r history (olds h) (Down (kept h)) (Down q.state.stored) (down.among h)
-                  (subst (λ (st : StoredGroup). MayBecome rules h own r history (seen_by h r) (Down (kept h)) (Down st)) (sym (all_stored own (state_of (kept h)) Open))
+                  (subst (λ (st : StoredGroup). MayBecome rules h own r history (seen_by h r) (Down (kept h)) (Down st)) (sym (stopped_at_end own (state_of (kept h)) Open))
                   (stop_becomes rules h own history names (nobody h) (kept h) (length q.commands)));
             },
             refl,

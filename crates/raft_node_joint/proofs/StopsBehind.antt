@@ -1,7 +1,6 @@
 -- A stop behind an event that was done counts as one behind its last storing command.
 use Rattle.std.specs.Prelude.{◌≡◌, ◌++◌, ℕ, Bool, true, false, List, [], ◌∷◌, length, map, Option, None, Ok, Contains, refl}
 use Rattle.std.proofs.Common.{sym, ap, ap₂, ◌∙◌, subst, append-nil, take-append-drop}
-use Rattle.std.proofs.Math.Seq.{take-length}
 use Rattle.std.proofs.lemmas.List.{map-append}
 use Rattle.raft_group_step.specs.GroupEvent.{GroupEvent}
 use Rattle.raft_group_step.specs.GroupState.{GroupState, Untold}
@@ -9,11 +8,10 @@ use Rattle.raft_group_step.specs.GroupStep.{group_step}
 use Rattle.raft_group_step.specs.Refusal.{refusal_of}
 use Rattle.raft_group_step.specs.SnapshotRequest.{place_above}
 use Rattle.raft_group_step.specs.StepResult.{StepResult, tokens_of}
-use Rattle.raft_group_step.specs.StoredGroup.{Snapshot, after_storing_all}
+use Rattle.raft_group_step.specs.StoredGroup.{Snapshot}
 use Rattle.raft_messages.specs.declared.memberships.SnapshotBytes.{SnapshotBytes}
 use Rattle.raft_laws.specs.GroupWorld.{Down, NodeState, Up}
-use Rattle.raft_laws.specs.Stop.{stopped_after}
-use Rattle.raft_laws.proofs.StepOrder.{step-keeps}
+use Rattle.raft_laws.proofs.StepOrder.{stopped_at_end}
 use Rattle.raft_step_laws.specs.Tokens.{TokensGo, brought, leads_on}
 use Rattle.raft_step_laws.proofs.Telling.{tokens_go}
 use Rattle.raft_headline.specs.ClusterEvent.{ClusterEvent, Recorded, Stopped}
@@ -81,10 +79,6 @@ tokens_stay own s e step = go (leads_on s (group_step own s e).state) refl
         ∙ append-nil (tokens_of s.untold)
         ∙ ap tokens_of (sym (append-nil s.untold) ∙ ap (λ ys. s.untold ++ ys) (sym (none_brought own s e step.taken off)))
 
--- all storing commands of a step are done behind it
-pub all_stored : (own : ℕ) (s : GroupState) (e : GroupEvent) → (group_step own s e).state.stored ≡ stopped_after (length (group_step own s e).commands) s.stored (group_step own s e)
-all_stored own s e = (step-keeps own s e).stored ∙ ap (λ cs. after_storing_all cs s.stored) (sym (take-length (group_step own s e).commands))
-
 module _ {F : Type 0} (rules : MachineRules) (stands : SnapshotBytes → Snapshot → Type 0) (old mid new : NodeValue) (group : ℕ) (ge : GroupEvent) (o : Outcome) (why : Cause F) (unknown : _)
     (ids : List ℕ) (history : List Recorded) (happened : ClusterEvent) (olds : ℕ → List NodeState) (comes : ComesTo old.groups.own group history happened ge)
     (before : StandsBefore rules stands ids history old olds) (was : WasDone rules stands old mid group ge o) (told : IsTold ⊥ mid new (fault.Stopped why unknown)) where
@@ -113,7 +107,7 @@ module _ {F : Type 0} (rules : MachineRules) (stands : SnapshotBytes → Snapsho
         news = Down q.state.stored ∷ [];
         may_be = is_in_shown rules new group q.state.stored [] told.fails (told.kept group (q.state.stored ∷ []) at.up.holds.stored);
         leads = (others_as_asked rules group n r).to_one history (Up s) (Down q.state.stored)
-            (subst (λ st. MayBecome rules group n r history (seen_by group r) (Up s) (Down st)) (sym (all_stored n s ge)) becomes);
+            (subst (λ st. MayBecome rules group n r history (seen_by group r) (Up s) (Down st)) (sym (stopped_at_end n s ge)) becomes);
       })
 
   other_stops : (h : ℕ) → (h ≡ group → ⊥) → LeadsIn rules history happened (Stopped (names_behind o unknown.items)) old new h (olds h)

@@ -1,8 +1,8 @@
 -- What an event left at its member, as what became of it at its node.
-use Rattle.std.specs.Prelude.{◌≡◌, ℕ, Bool, true, false, [], ◌∷◌, length, Option, Some, None, is_some, unwrap_or, Result, Ok, Err, IfOk, IfErr, OnErr, refl}
+use Rattle.std.specs.Prelude.{◌≡◌, ℕ, Bool, true, false, [], ◌∷◌, Option, Some, None, is_some, unwrap_or, Result, Ok, Err, IfOk, IfErr, OnErr, refl}
 use Rattle.std.proofs.Common.{sym, ap, ◌∙◌, subst}
 use Rattle.raft_conditions.specs.Reason.{reason_of}
-use Rattle.raft_group_step.specs.StoredGroup.{StoredGroup, after_storing_all, held}
+use Rattle.raft_group_step.specs.StoredGroup.{StoredGroup, held}
 use Rattle.raft_group_step.specs.GroupState.{GroupState, Role, Follower, Candidate, Leader, is_leader, state_of}
 use Rattle.raft_group_step.specs.GroupEvent.{GroupEvent, Open}
 use Rattle.raft_group_step.specs.GroupStep.{group_step}
@@ -13,9 +13,7 @@ use Rattle.raft_laws.specs.GroupRun.{led_as, led_by, stop_at}
 use Rattle.raft_laws.specs.NodeEvent.{Comes, Restarts, after_step, outcome_at, outcome_of_end, outcome_of_step, outcome_of_stop}
 use Rattle.raft_laws.specs.Stop.{stopped_after, unknown_at_stop}
 use Rattle.raft_laws.proofs.StepMoments.{refusals_told}
-use Rattle.raft_laws.proofs.StepOrder.{step-keeps}
 use Rattle.std.specs.declared.alloc.AllocError.{AllocError}
-use Rattle.std.proofs.Math.Seq.{take-length}
 use Rattle.raft_world.specs.Ending.{BreaksAt, ComesTo, IsEndOf, down_of}
 use Rattle.raft_member.specs.Member.{IsLawful}
 use Rattle.raft_executor.proofs.PlainLemmas.{is_shown}
@@ -39,11 +37,6 @@ told_as own s e why h = ap (outcome_of_end (group_step own s e)) (refusals_told 
 pub stopped_as : (own : ℕ) (s : GroupState) (e : GroupEvent) (why : Option RefusalReason) → refusal_of own s e ≡ why
     → outcome_of_step true s e (group_step own s e) ≡ outcome_of_stop s e (group_step own s e) why
 stopped_as own s e why h = ap (outcome_of_stop s e (group_step own s e)) (refusals_told own s e ∙ h)
-
--- a step that stops after all its storing commands has stored what it stores
-pub stopped_at_end : (own : ℕ) (s : GroupState) (e : GroupEvent) → (group_step own s e).state.stored ≡ stopped_after (length (group_step own s e).commands) s.stored (group_step own s e)
-stopped_at_end own s e =
-    (step-keeps own s e).stored ∙ ap (λ l. after_storing_all l s.stored) (sym (take-length (group_step own s e).commands))
 
 -- ---- an event that was taken
 
