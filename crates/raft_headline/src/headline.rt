@@ -13,8 +13,9 @@ ghost use Rattle.raft_headline.specs.Headline.{HeadlineOfHistories};
 /// each command within the limits at its next place, each peer that lacks entries has a request
 /// outstanding or is sent one, each request that isn't refused is replied to, and a candidate that
 /// a quorum granted leads. No token waits where the leader and those that answered it with success
-/// in this lead are a quorum. Once an event stopped a node, nothing comes of the group's events
-/// there until it is opened.
+/// in this lead are a quorum: who leads on tells each token in the event that completes its quorum,
+/// or it waits on. Once an event stopped a node, nothing comes of the group's events there until it
+/// is opened.
 pub fn histories_keep_the_headline()
     ensures { HeadlineOfHistories }
 {}
