@@ -212,6 +212,7 @@ fn crashed(alloc: Global, file: &MemoryFile, choice: &CrashChoice) -> Result<Mem
         earlier,
         later: Vec::new(alloc),
         brought,
+        spare: Vec::new(alloc),
     })
 }
 

@@ -8,6 +8,7 @@ ghost use Rattle.raft_log_disk.specs.Image.{IsRecoverable};
 ghost use Rattle.raft_log_disk.specs.Changes.{noted_file};
 
 use std::alloc::{AllocError, Global};
+use std::mem;
 
 /// The length of the longest header of a log file, in bytes.
 pub const LONGEST_HEADER: usize = 69;
@@ -49,6 +50,8 @@ pub struct MemoryFile {
     pub later: Vec<Written>,
     /// The file's front when a rename gave it its name.
     pub brought: Vec<u8>,
+    /// Memory for the next note of replaced bytes; what it holds counts for nothing.
+    pub spare: Vec<u8>,
     /// A crash may leave what reads see, and what was synced as far as the least length since.
     ghost recoverable: { IsRecoverable (noted_file bytes.items changes.items least greatest earlier.items later.items brought.items) } by { Prim.hlevel props },
 }
@@ -64,6 +67,15 @@ pub fn overwrite(bytes: &mut Vec<u8>, at: usize, new: &[u8]) -> Result<(), Alloc
     };
     bytes[at..at + covered].copy_from_slice(&new[..covered]);
     Ok(())
+}
+
+// A copy of some bytes in the memory of others.
+fn copy_into(mut memory: Vec<u8>, bytes: &[u8]) -> Result<Vec<u8>, AllocError>
+    ensures { IfOk result (λ v. v.items ≡ bytes.now) }
+{
+    memory.clear();
+    memory.extend_from_slice(bytes)?;
+    Ok(memory)
 }
 
 // Notes a change and its write, both or neither.
@@ -112,6 +124,7 @@ impl MemoryFile {
             earlier: Vec::new(alloc),
             later: Vec::new(alloc),
             brought: Vec::new(alloc),
+            spare: Vec::new(alloc),
         }
     }
 
@@ -126,7 +139,8 @@ impl MemoryFile {
     {
         let len = self.bytes.len();
         let to = at + bytes.len();
-        let replaced = Vec::from_slice(alloc, &self.bytes[at..to.min(len)])?;
+        let spare = mem::replace(&mut self.spare, Vec::new(alloc));
+        let replaced = copy_into(spare, &self.bytes[at..to.min(len)])?;
         let written = Vec::from_slice(alloc, bytes)?;
         let change = Change {
             from: at,
@@ -278,6 +292,9 @@ impl MemoryFile {
         ensures err { OnErr result (state_of self.new ≡ state_of self.old) }
     {
         self.earlier.append(&mut self.later)?;
+        if let Some(change) = self.changes.pop() {
+            self.spare = change.replaced;
+        }
         self.changes.clear();
         self.least = self.bytes.len();
         self.greatest = self.bytes.len();

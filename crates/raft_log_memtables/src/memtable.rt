@@ -56,6 +56,7 @@ impl MemTable {
     }
 
     /// Entries of a block take the place of all from the first one's index on.
+    #[inline(always)]
     fn take_entries(
         &mut self,
         handle: FileBlockHandle,
@@ -102,6 +103,7 @@ impl MemTable {
 
     /// Does what an item says to its group, where the item's entries lie in a block. A `Clean` is
     /// not for one memtable.
+    #[inline(always)]
     pub(crate) fn change(
         &mut self,
         content: LogItemContent,
@@ -193,9 +195,15 @@ impl MemTable {
         ensures yes { OnTrue result (TakesFrom (group_in self.now).entry first) }
         ensures no { OnFalse result (TakesFrom (group_in self.now).entry first → ⊥) }
     {
-        match (self.first_index(), self.last_index()) {
-            (Some(low), Some(high)) => low <= first && (first == 0 || first - 1 <= high),
-            _ => true,
+        let Some(high) = self.last_index() else {
+            return true;
+        };
+        if high < first {
+            return first - 1 <= high;
+        }
+        match self.first_index() {
+            Some(low) => low <= first,
+            None => true,
         }
     }
 }

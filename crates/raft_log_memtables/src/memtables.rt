@@ -68,6 +68,28 @@ fn change_table(
     Ok(())
 }
 
+/// Does what an item says to the memtable of its group, which is made where there is none.
+fn set_table(
+    alloc: Global,
+    tables: &mut TableMap,
+    raft_group_id: u64,
+    content: LogItemContent,
+    handle: FileBlockHandle,
+) -> Result<(), AllocError>
+    requires not_clean { is_clean_of (change_of content) ≡ false }
+    requires not_mark { is_mark_of (change_of content) ≡ false }
+    ensures content { OnOk result (table_at tables.new
+        ≡ after_item (record { group = raft_group_id; change = placed_change handle (change_of content) }) (table_at tables.old)) }
+    ensures reach { OnOk result (reach_at tables.new
+        ≡ reach_after_item (record { group = raft_group_id; change = placed_change handle (change_of content) }) (reach_at tables.old)) }
+{
+    if let Some(table) = tables.get_mut(&raft_group_id) {
+        return table.change(content, handle);
+    }
+    make_table(alloc, tables, raft_group_id)?;
+    change_table(tables, raft_group_id, content, handle)
+}
+
 /// Does what an item says.
 fn apply_item(
     alloc: Global,
@@ -91,8 +113,7 @@ fn apply_item(
         tables.remove(&raft_group_id);
         return Ok(());
     }
-    make_table(alloc, tables, raft_group_id)?;
-    change_table(tables, raft_group_id, content, handle)
+    set_table(alloc, tables, raft_group_id, content, handle)
 }
 
 /// The least id of a group that has a memtable.

@@ -16,6 +16,7 @@ ghost use Rattle.raft_log_records.specs.Batch.{nothing_logged, logged, encoded_o
 ghost use Rattle.raft_log_records.specs.Batch.{signed_again, Logs, LogsEntries, LogsWritten};
 ghost use Rattle.raft_log_records.specs.Batch.{LogsRun, FollowOn, index_of_first, run_of};
 ghost use Rattle.raft_log_records.specs.Batch.{payloads, joined};
+ghost use Rattle.raft_log_records.specs.Batch.Writing.{open_still, written};
 ghost use Rattle.raft_log_records.specs.Signature.{signature_of};
 
 use crate::block::EntriesBlock;
@@ -278,10 +279,23 @@ impl LogBatch {
             self.buf_state = BufState::Open;
             return Ok(0);
         }
+        match self.buf_state {
+            BufState::Open => self.populate()?,
+            BufState::Encoded { .. } => self.sign_for(None),
+        }
+        Ok(self.encoded.len())
+    }
+
+    /// Writes an open batch as a record, into the memory of the one before.
+    fn populate(&mut self) -> Result<(), RecordError>
+        requires open { self.old.writing ≡ open_still }
+        ensures ok { OnOk result (self.new ≡ record { items = self.old.items; writing = written None }) }
+        ensures err { IfErr result (λ e. (e ≡ RecordError.Memory) × (self.new ≡ self.old)) }
+    {
         let len = self.record_len();
-        let alloc = *self.items.allocator();
+        let out = mem::replace(&mut self.encoded, Vec::new(*self.items.allocator()));
         let (encoded, checksum) = write_record(
-            alloc,
+            out,
             &self.items,
             self.holds_entries,
             &self.entries,
@@ -292,7 +306,20 @@ impl LogBatch {
             checksum,
             signature: None,
         };
-        Ok(self.encoded.len())
+        Ok(())
+    }
+
+    /// Signs the record, if the batch is written as one.
+    fn sign_for(&mut self, signature: Option<u32>)
+        ensures { self.new ≡ record { items = self.old.items; writing = signed_again signature self.old.writing } }
+    {
+        if let BufState::Encoded { checksum, .. } = self.buf_state {
+            sign_again(&mut self.encoded, sign(signature, checksum));
+            self.buf_state = BufState::Encoded {
+                checksum,
+                signature,
+            };
+        }
     }
 
     /// Signs the record for the file that it is to stand in (raft-engine's `prepare_write`). A
@@ -301,14 +328,8 @@ impl LogBatch {
         ensures { let signature = signature_of context.now.version context.now.id.seq in
             self.new ≡ record { items = self.old.items; writing = signed_again signature self.old.writing } }
     {
-        if let BufState::Encoded { checksum, .. } = self.buf_state {
-            let signature = context.get_signature();
-            sign_again(&mut self.encoded, sign(signature, checksum));
-            self.buf_state = BufState::Encoded {
-                checksum,
-                signature,
-            };
-        }
+        let signature = context.get_signature();
+        self.sign_for(signature);
     }
 
     /// Takes the items out, with the places of their entries in the record's block, and leaves an
@@ -365,7 +386,7 @@ impl LogBatch {
         if MAX_RECORD_LEN - self.record_len() < len + self.block_checksum_len() {
             return Err(RecordError::TooLong);
         }
-        self.push_run(raft_group_id, first, entries)
+        self.push_run(raft_group_id, first, entries, len)
     }
 
     /// The first entries bring the checksum of their block.
@@ -376,12 +397,13 @@ impl LogBatch {
         if self.holds_entries { 0 } else { 4 }
     }
 
-    /// Adds entries for which there is room.
+    /// Adds entries for which there is room, and whose bytes are `most` at most.
     fn push_run(
         &mut self,
         raft_group_id: u64,
         first: u64,
         entries: &[Vec<u8>],
+        most: u32,
     ) -> Result<(), RecordError>
         requires some { 0 < length entries.now }
         requires indexes { first + length entries.now < 2 ^ 64 }
@@ -391,7 +413,7 @@ impl LogBatch {
         let at = self.entries.len();
         let alloc = *self.items.allocator();
         let indexes = index_entries(alloc, first, at as u32, entries)?;
-        append_all(&mut self.entries, entries)?;
+        append_all(&mut self.entries, entries, most)?;
         let content = LogItemContent::EntryIndexes(indexes);
         let item = LogItem {
             raft_group_id,

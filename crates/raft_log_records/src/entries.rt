@@ -56,13 +56,13 @@ pub fn index_entries(
     Ok(indexes)
 }
 
-/// Puts all entries behind what is there, or leaves it as it is.
-pub fn append_all(out: &mut Vec<u8>, entries: &[Vec<u8>]) -> Result<(), AllocError>
+/// Puts all entries behind what is there, or leaves it as it is. Room is made once, for so many bytes.
+pub fn append_all(out: &mut Vec<u8>, entries: &[Vec<u8>], room: u32) -> Result<(), AllocError>
     ensures ok { OnOk result (out.new.items ≡ out.old.items ++ joined (payloads entries.now)) }
     ensures err { OnErr result (out.new.items ≡ out.old.items) }
 {
     let len = out.len();
-    out.reserve(total_len(entries).unwrap_or(0) as usize)?;
+    out.reserve(room as usize)?;
     for entry in entries {
         let Ok(()) = out.extend_from_slice(entry) else {
             out.truncate(len);

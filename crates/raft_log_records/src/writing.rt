@@ -10,7 +10,7 @@ ghost use Rattle.raft_log_records.specs.Checksum.{crc32_of};
 use crate::checksum::crc32;
 use crate::command::Command;
 use crate::item::{AtomicGroupStatus, EntryIndex, LogItem, LogItemContent};
-use std::alloc::{AllocError, Global};
+use std::alloc::AllocError;
 
 fn put_string(out: &mut Vec<u8>, bytes: &[u8]) -> Result<(), AllocError>
     requires { length bytes.now < 2 ^ 32 }
@@ -158,15 +158,16 @@ fn put_front(
     put_block(out, entries)
 }
 
-/// The record of `len` bytes, not signed, and the checksum of its items. Room for it is made once,
-/// and each byte is copied once.
+/// Writes the record of `len` bytes, not signed, into the memory of an empty list, and answers it
+/// with the checksum of its items. Room for it is made once, and each byte is copied once.
 pub fn write_record(
-    alloc: Global,
+    mut out: Vec<u8>,
     items: &[LogItem],
     holds_entries: bool,
     entries: &[u8],
     len: u32,
 ) -> Result<(Vec<u8>, u32), AllocError>
+    requires empty { out.items ≡ [] }
     requires count { length items.now < 2 ^ 32 }
     requires each { All (λ item. FitsBytes (item_of item).change) items.now }
     requires room { 12 + length entries.now < 2 ^ 32 }
@@ -174,7 +175,7 @@ pub fn write_record(
     ensures bytes { IfOk result (λ x. x.0.items ≡ spell_parts None (block_part holds_entries entries.now) (spell_items (with_lengths (items_of items.now)))) }
     ensures sum { IfOk result (λ x. x.1 ≡ crc32_of (spell_items (with_lengths (items_of items.now)))) }
 {
-    let mut out = Vec::with_capacity(alloc, len as usize)?;
+    out.reserve(len as usize)?;
     put_front(&mut out, len, holds_entries, entries)?;
     let checksum = put_sealed(&mut out, items)?;
     Ok((out, checksum))

@@ -1,4 +1,4 @@
-//! The register of CRC-32: how bytes change it, one or sixteen at a time.
+//! The register of CRC-32: how bytes change it, one, four or sixteen at a time.
 
 ghost use Rattle.std.specs.Prelude.{◌≡◌, ◌<◌, ◌*◌, fold};
 ghost use Rattle.raft_log_records.specs.Checksum.{after_byte, after_zeros};
@@ -65,11 +65,39 @@ fn take_blocks(mut register: u32, blocks: &[[u8; 16]]) -> u32
     register
 }
 
+/// The register after four bytes, each looked up in the table of its place.
+#[inline(always)]
+fn take_group(register: u32, group: &[u8; 4]) -> u32
+    ensures { result ≡ fold after_byte register group.now }
+{
+    after_group(enter(register, *group), 0)
+}
+
+/// The register after some groups of four bytes.
+#[inline(always)]
+fn take_groups(mut register: u32, groups: &[[u8; 4]]) -> u32
+    ensures { result ≡ fold (fold after_byte) register groups.now }
+{
+    for group in groups {
+        register = take_group(register, group);
+    }
+    register
+}
+
+/// The register after some bytes, four at a time as long as there are so many.
+#[inline(always)]
+fn take_short(register: u32, bytes: &[u8]) -> u32
+    ensures { result ≡ fold after_byte register bytes.now }
+{
+    let (groups, rest) = bytes.as_chunks::<4>();
+    take_bytes(take_groups(register, groups), rest)
+}
+
 /// The register after some bytes, sixteen at a time as long as there are so many.
 #[inline(always)]
 pub(super) fn take_all(register: u32, bytes: &[u8]) -> u32
     ensures { result ≡ fold after_byte register bytes.now }
 {
     let (blocks, rest) = bytes.as_chunks::<16>();
-    take_bytes(take_blocks(register, blocks), rest)
+    take_short(take_blocks(register, blocks), rest)
 }

@@ -11,7 +11,7 @@ pub returns-clause-ok : goal.returns-clause-ok
 returns-clause-ok c =
     let long : c.len-len.result ≡ length c.args.self.now.bytes.items = omega (arith, c.len-len.ensures) in
     let grew : c.max-self.result ≡ max c.args.self.now.greatest (c.args.at + length c.args.bytes.now) = omega (arith, c.max-self.ensures) in
-    let replaced = c.in_ok-replaced.ensures.items ∙ ap (λ l. slice_range l c.args.at c.min.result) c.deref.ensures.value in
+    let replaced = c.in_ok-replaced.ensures ∙ ap (λ l. slice_range l c.args.at c.min.result) c.deref.ensures.value in
     let short : c.min.result ≡ min (c.args.at + length c.args.bytes.now) c.len-len.result = omega (arith, c.min.ensures) in
     write_noted c.args.self.now _ _ _ _ _ _ _ _ _ c.in-Ok.ensures.changes c.in-Ok.ensures.writes refl refl
     (put_back c.args.self.now.bytes.items c.args.bytes.now c.in_ok-replaced.replaced.items c.args.at (c.args.at + length c.args.bytes.now) c.len-len.result c.requires.at long refl (replaced ∙ ap (λ n. slice_range c.args.self.now.bytes.items c.args.at n) short))
@@ -21,7 +21,7 @@ pub invariant_of-self-2 : goal.invariant_of-self-2
 invariant_of-self-2 c =
     let long : c.len-len.result ≡ length c.args.self.now.bytes.items = omega (arith, c.len-len.ensures) in
     let grew : c.max-self.result ≡ max c.args.self.now.greatest (c.args.at + length c.args.bytes.now) = omega (arith, c.max-self.ensures) in
-    let replaced = c.in_ok-replaced.ensures.items ∙ ap (λ l. slice_range l c.args.at c.min.result) c.deref.ensures.value in
+    let replaced = c.in_ok-replaced.ensures ∙ ap (λ l. slice_range l c.args.at c.min.result) c.deref.ensures.value in
     let short : c.min.result ≡ min (c.args.at + length c.args.bytes.now) c.len-len.result = omega (arith, c.min.ensures) in
     let noted =
     write_noted c.args.self.now _ _ _ _ _ _ _ _ _ c.in-Ok.ensures.changes c.in-Ok.ensures.writes refl refl
