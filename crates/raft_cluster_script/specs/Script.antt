@@ -1,5 +1,6 @@
 -- What a line of a script does, and is answered.
 use Rattle.std.specs.Prelude.{◌≡◌, Bool, true, false, ℕ, List, [], ◌++◌, Option, Some, None, Result, Ok, Err, codes}
+use Rattle.std.specs.List.{range_with_len}
 use Rattle.raft_script_answers.specs.declared.told_total.AppliedTotal.{AppliedTotal}
 use Rattle.raft_script_answers.specs.Answer.{newline, total_text}
 use Rattle.raft_script_lines.specs.declared.no_event.NoEvent.{NoEvent}
@@ -14,6 +15,7 @@ use Rattle.raft_cluster_events.specs.declared.event.CrashChoice.TheVariants as c
 use Rattle.raft_cluster_events.specs.Node.{NodeActs}
 use Rattle.raft_node_cluster.specs.Cluster.{ClusterValue, Steps}
 use Rattle.raft_node_cluster.specs.Facts.{node_of}
+use Rattle.raft_node_cluster.specs.Joined.{ids_of}
 use Rattle.raft_sent_frames.specs.Frames.{frames_of}
 use Rattle.raft_cluster_script.specs.Calls.{event_of, tokens_after}
 use Rattle.raft_cluster_script.specs.Answers.{fused_text, is_cut, outcome_text}
@@ -96,17 +98,18 @@ module _ {N : Type 0} (acts : NodeActs N) where
   Takes old (Some cluster) None tokens text new = IsNone text
   Takes old (Some cluster) (Some event) tokens text new = HappensSo old cluster event tokens text new
 
-  -- a cluster of nodes begins, to which nothing has happened
-  pub record Begins (old : ScriptValue N) (shown : Option (List ℕ)) (next : ScriptValue N) : Type 0 where
+  -- a cluster of the nodes from 1 to this number begins, to which nothing has happened
+  pub record Begins (old : ScriptValue N) (count : ℕ) (shown : Option (List ℕ)) (next : ScriptValue N) : Type 0 where
     pub cluster : ClusterValue N
+    pub ids : ids_of acts cluster.nodes ≡ range_with_len 1 count
     pub fresh : cluster.history ≡ []
     pub text : shown ≡ Some ok_text
     pub new : next ≡ record old { cluster = Some cluster }
 
   -- `nodes` comes once
-  abbrev pub BeginsOnce : ScriptValue N → Option (ClusterValue N) → Option (List ℕ) → ScriptValue N → Type 0
-  BeginsOnce old None text new = Begins old text new
-  BeginsOnce old (Some cluster) text new = IsNone text
+  abbrev pub BeginsOnce : ScriptValue N → Option (ClusterValue N) → ℕ → Option (List ℕ) → ScriptValue N → Type 0
+  BeginsOnce old None count text new = Begins old count text new
+  BeginsOnce old (Some cluster) count text new = IsNone text
 
   abbrev pub SetsNow : ScriptValue N → Option (ClusterValue N) → ℕ → Option (List ℕ) → ScriptValue N → Type 0
   SetsNow old None tick text new = IsNone text
@@ -120,7 +123,7 @@ module _ {N : Type 0} (acts : NodeActs N) where
 
   abbrev pub TakesLine : ScriptValue N → ScriptLine → Option (List ℕ) → ScriptValue N → Type 0
   TakesLine old lines.Skipped text new = (text ≡ Some []) × (new ≡ old)
-  TakesLine old (lines.Nodes count) text new = BeginsOnce old old.cluster text new
+  TakesLine old (lines.Nodes count) text new = BeginsOnce old old.cluster count text new
   TakesLine old (lines.Now tick) text new = SetsNow old old.cluster tick text new
   TakesLine old (lines.Total node group) text new = AsksTotal old old.cluster text new
   TakesLine old (lines.Happens event) text new =

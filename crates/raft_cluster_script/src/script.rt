@@ -1,5 +1,6 @@
 //! How far a script has come, and what its next line does.
 ghost use Rattle.std.specs.Prelude.{◌≡◌, IfOk, string_bytes, None, [], List, ℕ};
+ghost use Rattle.std.specs.List.{range_with_len};
 ghost use Rattle.std.specs.Option.{option_map};
 ghost use Rattle.raft_cluster_script.specs.Script.{AsksTotal, BeginsOnce, RunsLine, SetsNow, StepsFusedAt, StepsSo, Takes, TakesFused, TakesLine};
 ghost use Rattle.raft_node_cluster.specs.Facts.{node_of};
@@ -36,7 +37,9 @@ impl<N: ClusterNode<Machine = AddingMachine>> Model for Script<N> {
 }
 
 // The ids from 1 to this number.
-fn ids_to(alloc: Global, count: u64) -> Result<Vec<u64>, AllocError> {
+fn ids_to(alloc: Global, count: u64) -> Result<Vec<u64>, AllocError>
+    ensures { IfOk result (λ ids. ids.items ≡ range_with_len 1 count) }
+{
     let mut ids = Vec::new(alloc);
     for id in 0..count {
         ids.push(id + 1)?;
@@ -88,7 +91,7 @@ impl<N: ClusterNode<Machine = AddingMachine>> Script<N> {
 
     // A cluster of so many nodes begins, unless there is one.
     fn begin(&mut self, count: u64) -> Result<Option<String>, AllocError>
-        ensures { IfOk result (λ text. BeginsOnce N.acts self.old self.old.cluster (option_map string_bytes text) self.new) }
+        ensures { IfOk result (λ text. BeginsOnce N.acts self.old self.old.cluster count (option_map string_bytes text) self.new) }
     {
         if self.cluster.is_some() {
             return Ok(None);

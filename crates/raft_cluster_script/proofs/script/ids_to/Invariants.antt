@@ -1,0 +1,7 @@
+-- The ids so far are those up to this number.
+use Rattle.std.proofs.Common.{◌≡◌}
+use Rattle.std.specs.List.{range_with_len}
+use Rattle.raft_cluster_script.proofs.script.ids_to.Given as goal
+
+abbrev pub invariant-loop-id : goal.invariant-loop-id
+invariant-loop-id l = l.ids.items ≡ range_with_len 1 l.id
