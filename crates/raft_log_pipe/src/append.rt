@@ -1,7 +1,7 @@
 //! Appends to a pipe.
 
 ghost use Rattle.std.specs.Prelude.{◌≡◌, ◌⊎◌, ◌+◌, ◌-◌, ◌<◌, ◌≤◌, ◌^◌, ◌++◌, ◌∷◌, [], length, min, IfOk, OnOk, OnErr};
-ghost use Rattle.raft_log_records.specs.Spelling.{AreItems};
+ghost use Rattle.raft_log_records.specs.Spelling.{AreItems, record_len};
 ghost use Rattle.raft_log_disk.specs.Cause.{IsTaken, NothingRefuses, RefusesNoMore, UnlessRefused};
 ghost use Rattle.raft_log_file.specs.Writer.{IsWriter};
 ghost use Rattle.raft_log_pipe.specs.Alone.{IsAlone, IsNearlyAlone};
@@ -41,6 +41,7 @@ impl SinglePipe {
         ensures next { (F.disk files.new).next ≡ (F.disk files.old).next }
         ensures later { RefusesNoMore (F.is_bounded files.old) (F.is_bounded files.new) (F.meter files.old) (F.meter files.new) }
         ensures taken { NothingRefuses (F.is_bounded files.old) (F.meter files.old) → IsTaken ⊥ (IsTooLarge self.old batch.old.items) result }
+        ensures fits { IfOk result (λ h. h.offset + record_len batch.old.items < 2 ^ 64) }
     {
         let id = FileId::new(self.queue, self.active.seq);
         let context = LogFileContext::new(id, self.active.format.version);
@@ -50,6 +51,8 @@ impl SinglePipe {
         if let Err(fault) = self.writer.write(files, bytes, self.target_file_size) {
             return Err(fault);
         }
+        // Read, so that the record is known to end at a number.
+        let _end = self.writer.offset();
         Ok(FileBlockHandle {
             id,
             offset,
@@ -73,7 +76,8 @@ impl SinglePipe {
         ensures err { OnErr result ((synced : Numbered) (unsynced : Numbered) → Holds self.old (F.disk files.old) synced unsynced → Leaves self.new (F.disk files.new) synced unsynced) }
         ensures room { OnOk result (((self.new ≡ self.old) × (F.disk files.new ≡ F.disk files.old)) ⊎ (self.new.writer.offset ≤ 69)) }
         ensures later { RefusesNoMore (F.is_bounded files.old) (F.is_bounded files.new) (F.meter files.old) (F.meter files.new) }
-        ensures taken { NothingRefuses (F.is_bounded files.old) (F.meter files.old) → IsTakenBy (IsFull self.old × IsUnnumbered self.old) (IsFull self.old × IsUnmade self.old (F.disk files.old)) (IsFull self.old × IsBarred self.old (F.disk files.old)) result }
+        ensures taken { NothingRefuses (F.is_bounded files.old) (F.meter files.old) → IsTakenBy (IsFull self.old × IsUnnumbered self.old)
+            (IsFull self.old × IsUnmade self.old (F.disk files.old)) (IsFull self.old × IsBarred self.old (F.disk files.old)) result }
     {
         if self.writer.offset() < self.target_file_size {
             return Ok(());
@@ -107,6 +111,7 @@ impl SinglePipe {
             → LeavesAppended self.new (F.disk files.new) synced unsynced batch.old.items) }
         ensures later { RefusesNoMore (F.is_bounded files.old) (F.is_bounded files.new) (F.meter files.old) (F.meter files.new) }
         ensures taken { NothingRefuses (F.is_bounded files.old) (F.meter files.old) → IsAppendTaken self.old (F.disk files.old) batch.old.items result }
+        ensures fits { IfOk result (λ h. h.offset + record_len batch.old.items < 2 ^ 64) }
     {
         self.make_room(files)?;
         match self.put(files, batch) {
@@ -141,6 +146,7 @@ impl SinglePipe {
             → LeavesAppended self.new (F.disk files.new) synced unsynced batch.old.items) }
         ensures later { RefusesNoMore (F.is_bounded files.old) (F.is_bounded files.new) (F.meter files.old) (F.meter files.new) }
         ensures taken { NothingRefuses (F.is_bounded files.old) (F.meter files.old) → IsRotationTaken self.old (F.disk files.old) result }
+        ensures fits { IfOk result (λ h. h.offset + record_len batch.old.items < 2 ^ 64) }
     {
         self.finish(files)?;
         match self.go_on(files) {

@@ -87,7 +87,8 @@ pub(crate) fn new_file<F: FileSystem>(
     ensures file { IfOk result (λ f. (f.seq ≡ id.seq) × (f.format ≡ format) × (f.path_id ≡ path_chosen (F.room files.old) target_size paths.now)) }
     ensures within { IfOk result (λ f. f.path_id < length paths.now) }
     ensures later { RefusesNoMore (F.is_bounded files.old) (F.is_bounded files.new) (F.meter files.old) (F.meter files.new) }
-    ensures taken { NothingRefuses (F.is_bounded files.old) (F.meter files.old) → IsTaken (HasDirectory (F.disk files.old).directories (main_path paths.now id) → ⊥) (IsNoNewFile (F.disk files.old) (main_path paths.now id)) result }
+    ensures taken { NothingRefuses (F.is_bounded files.old) (F.meter files.old) → IsTaken (HasDirectory (F.disk files.old).directories (main_path paths.now id) → ⊥)
+        (IsNoNewFile (F.disk files.old) (main_path paths.now id)) result }
 {
     let path_id = find_available_dir(files, paths, target_size);
     let path = id.build_file_path(alloc, paths[path_id].as_str())?;

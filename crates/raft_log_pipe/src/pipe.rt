@@ -2,6 +2,7 @@
 
 ghost use Rattle.std.specs.Prelude.{◌≡◌, ◌+◌, ◌-◌, ◌*◌, ◌/◌, ◌≤◌, ◌^◌, ◌++◌, [], min, length, OnOk, OnErr};
 ghost use Rattle.raft_log_disk.specs.Cause.{NothingRefuses, RefusesNoMore};
+ghost use Rattle.raft_log_pipe.specs.Alone.{directories_of_pipe, main_of};
 ghost use Rattle.raft_log_pipe.specs.Others.{KeepsOthers};
 ghost use Rattle.raft_log_pipe.specs.Pipe.{IsPipe, Holds, Numbered, first_of};
 ghost use Rattle.raft_log_pipe.specs.Taken.{IsOkOrMemory};
@@ -36,6 +37,16 @@ impl SinglePipe {
         ensures { result ≡ length self.now.older.items + 1 }
     {
         self.older.len() as u64 + 1
+    }
+
+    /// The main directory, that of new files while it has room.
+    pub fn path(&self) -> &str
+        ensures { result.now ≡ main_of (directories_of_pipe self.now) }
+    {
+        match self.paths.as_slice() {
+            [main, ..] => main.as_str(),
+            [] => "",
+        }
     }
 
     /// The numbers of the first file and of the last.

@@ -2,8 +2,10 @@
 
 ghost use Rattle.std.specs.Prelude.{◌≡◌, OnOk};
 ghost use Rattle.raft_log_records.specs.Spelling.{AreItems};
+ghost use Rattle.raft_log_disk.specs.Cause.{NothingRefuses, RefusesNoMore};
 ghost use Rattle.raft_log_pipe.specs.Others.{KeepsOthers};
 ghost use Rattle.raft_log_pipe.specs.Pipe.{IsPipe, IsPopulated};
+ghost use Rattle.raft_log_pipe.specs.Taken.{IsAppendTaken, IsOkOrMemory, IsRotationTaken};
 ghost use Rattle.raft_log_pipes.specs.Calls.{IsAppendOf, IsCloseOf, IsPurgeOf, IsRotationOf, IsSyncOf};
 ghost use Rattle.raft_log_pipes.specs.Pipes.{ArePipes, IsAsBefore, other_queue, pipe_of};
 
@@ -28,6 +30,8 @@ impl DualPipes {
         ensures both { ArePipes self.old (F.disk files.old) → OnOk result (ArePipes self.new (F.disk files.new)) }
         ensures others { KeepsOthers queue (F.disk files.old) (F.disk files.new) }
         ensures other { IsAsBefore (pipe_of self.old (other_queue queue)) (F.disk files.old) (pipe_of self.new (other_queue queue)) (F.disk files.new) }
+        ensures later { RefusesNoMore (F.is_bounded files.old) (F.is_bounded files.new) (F.meter files.old) (F.meter files.new) }
+        ensures taken { NothingRefuses (F.is_bounded files.old) (F.meter files.old) → IsAppendTaken (pipe_of self.old queue) (F.disk files.old) batch.old.items result }
     {
         match queue {
             LogQueue::Append => self.append.append(files, batch),
@@ -43,6 +47,8 @@ impl DualPipes {
         ensures both { ArePipes self.old (F.disk files.old) → ArePipes self.new (F.disk files.new) }
         ensures others { KeepsOthers queue (F.disk files.old) (F.disk files.new) }
         ensures other { IsAsBefore (pipe_of self.old (other_queue queue)) (F.disk files.old) (pipe_of self.new (other_queue queue)) (F.disk files.new) }
+        ensures later { RefusesNoMore (F.is_bounded files.old) (F.is_bounded files.new) (F.meter files.old) (F.meter files.new) }
+        ensures taken { NothingRefuses (F.is_bounded files.old) (F.meter files.old) → IsOkOrMemory result }
     {
         match queue {
             LogQueue::Append => self.append.sync(files),
@@ -58,6 +64,8 @@ impl DualPipes {
         ensures both { ArePipes self.old (F.disk files.old) → OnOk result (ArePipes self.new (F.disk files.new)) }
         ensures others { KeepsOthers queue (F.disk files.old) (F.disk files.new) }
         ensures other { IsAsBefore (pipe_of self.old (other_queue queue)) (F.disk files.old) (pipe_of self.new (other_queue queue)) (F.disk files.new) }
+        ensures later { RefusesNoMore (F.is_bounded files.old) (F.is_bounded files.new) (F.meter files.old) (F.meter files.new) }
+        ensures taken { NothingRefuses (F.is_bounded files.old) (F.meter files.old) → IsRotationTaken (pipe_of self.old queue) (F.disk files.old) result }
     {
         match queue {
             LogQueue::Append => self.append.rotate(files),
@@ -93,6 +101,8 @@ impl DualPipes {
         ensures both { ArePipes self.old (F.disk files.old) → ArePipes self.new (F.disk files.new) }
         ensures others { KeepsOthers queue (F.disk files.old) (F.disk files.new) }
         ensures other { IsAsBefore (pipe_of self.old (other_queue queue)) (F.disk files.old) (pipe_of self.new (other_queue queue)) (F.disk files.new) }
+        ensures later { RefusesNoMore (F.is_bounded files.old) (F.is_bounded files.new) (F.meter files.old) (F.meter files.new) }
+        ensures taken { NothingRefuses (F.is_bounded files.old) (F.meter files.old) → IsOkOrMemory result }
     {
         match queue {
             LogQueue::Append => self.append.close(files),

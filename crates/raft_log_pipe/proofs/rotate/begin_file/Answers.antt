@@ -15,10 +15,10 @@ returns-in-Err-clause-begun g c = (
 
 pub returns-in-Err-sync-clause-begun : goal.returns-in-Err-sync-clause-begun
 returns-in-Err-sync-clause-begun g c = (
-    changes_on (g.F.FileSystem.disk c.args.files.now) (g.F.FileSystem.disk c.build_file_writer.new.files) (g.F.FileSystem.disk c.sync.new.files) c.args.file.handle.0
-        (opened_changes _ _ _ c.args.file.format (Ok c.in-Ok.writer) c.in-Ok.ensures.opens) (stays _ _ _ c.in-Err-sync.ensures.err),
-    unsynced_short (g.F.FileSystem.disk c.args.files.now) (g.F.FileSystem.disk c.build_file_writer.new.files) _ c.args.file.handle.0 (opened_short _ _ _ c.args.file.format (Ok c.in-Ok.writer) c.in-Ok.ensures.opens)
-        c.in-Err-sync.ensures.err,
+  changes_on (g.F.FileSystem.disk c.args.files.now) (g.F.FileSystem.disk c.build_file_writer.new.files) (g.F.FileSystem.disk c.sync.new.files) c.args.file.handle.0
+      (opened_changes _ _ _ c.args.file.format (Ok c.in-Ok.writer) c.in-Ok.ensures.opens) (stays _ _ _ c.in-Err-sync.ensures.err),
+  unsynced_short (g.F.FileSystem.disk c.args.files.now) (g.F.FileSystem.disk c.build_file_writer.new.files) _ c.args.file.handle.0 (opened_short _ _ _ c.args.file.format (Ok c.in-Ok.writer) c.in-Ok.ensures.opens)
+      c.in-Err-sync.ensures.err,
 )
 
 pub returns-in-Err-sync-clause-taken : goal.returns-in-Err-sync-clause-taken

@@ -85,3 +85,11 @@ returns-in-Err-clause-taken g c =
     (last_there c.args.self.now _ c.requires.pipe)
     (λ large. omega (arith, large, ap length text, length-spelled (signature_of c.args.self.now.active.format.version c.args.self.now.active.seq) c.args.batch.now.items))
     (c.in-Err.ensures.taken free)
+
+pub returns-clause-fits : goal.returns-clause-fits
+returns-clause-fits g c =
+    let signature : signature_of c.new-context.result.version c.new-context.result.id.seq ≡ signature_of c.args.self.now.active.format.version c.args.self.now.active.seq
+    = λ i. signature_of (c.new-context.ensures.version i) (((λ j. (c.new-context.ensures.id j).seq) ∙ c.new-id.ensures.seq) i) in
+    let text : c.encoded_bytes-bytes.result.now ≡ spell_record (signature_of c.args.self.now.active.format.version c.args.self.now.active.seq) c.args.batch.now.items
+    = record_is c.args.batch.now _ _ _ _ c.requires.populated c.prepare_write.ensures c.encoded_bytes-bytes.ensures signature in
+    omega (arith, c.offset-offset.ensures, c.offset-end.ensures, c.in_default.ensures.ok, ap length text, length-spelled (signature_of c.args.self.now.active.format.version c.args.self.now.active.seq) c.args.batch.now.items)

@@ -4,7 +4,7 @@ use Rattle.raft_log_pipes.proofs.QueueLemmas.{beside, both_append, both_rewrite,
 use Rattle.raft_log_pipes.proofs.pipes.DualPipes.append.Goals as goal
 
 pub returns-in-Append-clause-call : goal.returns-in-Append-clause-call
-returns-in-Append-clause-call g c = rw c.in-Append.is (record { pipe = c.append.ensures.pipe; paths = c.append.ensures.paths; alone = c.append.ensures.alone; nearly = c.append.ensures.nearly; files = c.append.ensures.files; ok = c.append.ensures.ok; stands = c.append.ensures.stands; err = c.append.ensures.err })
+returns-in-Append-clause-call g c = rw c.in-Append.is (record { pipe = c.append.ensures.pipe; paths = c.append.ensures.paths; alone = c.append.ensures.alone; nearly = c.append.ensures.nearly; files = c.append.ensures.files; ok = c.append.ensures.ok; stands = c.append.ensures.stands; fits = c.append.ensures.fits; err = c.append.ensures.err })
 
 pub returns-in-Append-clause-others : goal.returns-in-Append-clause-others
 returns-in-Append-clause-others g c = rw c.in-Append.is (keeps_as c.args.self.now.append.queue Append _ _ c.args.self.now.appends c.append.ensures.others)
@@ -17,7 +17,7 @@ returns-in-Append-clause-other g c =
     (keeps_as c.args.self.now.append.queue Append _ _ c.args.self.now.appends c.append.ensures.others))
 
 pub returns-in-Rewrite-clause-call : goal.returns-in-Rewrite-clause-call
-returns-in-Rewrite-clause-call g c = rw c.in-Rewrite.is (record { pipe = c.append-in-Rewrite.ensures.pipe; paths = c.append-in-Rewrite.ensures.paths; alone = c.append-in-Rewrite.ensures.alone; nearly = c.append-in-Rewrite.ensures.nearly; files = c.append-in-Rewrite.ensures.files; ok = c.append-in-Rewrite.ensures.ok; stands = c.append-in-Rewrite.ensures.stands; err = c.append-in-Rewrite.ensures.err })
+returns-in-Rewrite-clause-call g c = rw c.in-Rewrite.is (record { pipe = c.append-in-Rewrite.ensures.pipe; paths = c.append-in-Rewrite.ensures.paths; alone = c.append-in-Rewrite.ensures.alone; nearly = c.append-in-Rewrite.ensures.nearly; files = c.append-in-Rewrite.ensures.files; ok = c.append-in-Rewrite.ensures.ok; stands = c.append-in-Rewrite.ensures.stands; fits = c.append-in-Rewrite.ensures.fits; err = c.append-in-Rewrite.ensures.err })
 
 pub returns-in-Rewrite-clause-others : goal.returns-in-Rewrite-clause-others
 returns-in-Rewrite-clause-others g c = rw c.in-Rewrite.is (keeps_as c.args.self.now.rewrite.queue Rewrite _ _ c.args.self.now.rewrites c.append-in-Rewrite.ensures.others)
@@ -42,3 +42,9 @@ returns-in-Rewrite-clause-both g c =
     let other = beside Rewrite c.args.self.now.append _ _ (not_rewrite c.args.self.now.append.queue c.args.self.now.appends) (met.is_named c.args.files.now) (met.is_named c.append-in-Rewrite.new.files)
     (keeps_as c.args.self.now.rewrite.queue Rewrite _ _ c.args.self.now.rewrites c.append-in-Rewrite.ensures.others) in
     λ pipes. on_ok _ _ c.append-in-Rewrite.result (both_rewrite c.args.self.now _ _ _ refl other pipes) c.append-in-Rewrite.ensures.pipe
+
+pub returns-in-Append-clause-taken : goal.returns-in-Append-clause-taken
+returns-in-Append-clause-taken g c = rw c.in-Append.is c.append.ensures.taken
+
+pub returns-in-Rewrite-clause-taken : goal.returns-in-Rewrite-clause-taken
+returns-in-Rewrite-clause-taken g c = rw c.in-Rewrite.is c.append-in-Rewrite.ensures.taken

@@ -42,3 +42,9 @@ returns-in-Rewrite-clause-both g c =
     let other = beside Rewrite c.args.self.now.append _ _ (not_rewrite c.args.self.now.append.queue c.args.self.now.appends) (met.is_named c.args.files.now) (met.is_named c.rotate-in-Rewrite.new.files)
     (keeps_as c.args.self.now.rewrite.queue Rewrite _ _ c.args.self.now.rewrites c.rotate-in-Rewrite.ensures.others) in
     λ pipes. on_ok _ _ c.rotate-in-Rewrite.result (both_rewrite c.args.self.now _ _ _ refl other pipes) c.rotate-in-Rewrite.ensures.pipe
+
+pub returns-in-Append-clause-taken : goal.returns-in-Append-clause-taken
+returns-in-Append-clause-taken g c = rw c.in-Append.is c.rotate.ensures.taken
+
+pub returns-in-Rewrite-clause-taken : goal.returns-in-Rewrite-clause-taken
+returns-in-Rewrite-clause-taken g c = rw c.in-Rewrite.is c.rotate-in-Rewrite.ensures.taken
