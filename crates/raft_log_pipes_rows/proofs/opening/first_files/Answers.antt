@@ -8,7 +8,7 @@ use Rattle.raft_log_pipes.proofs.QueueLemmas.{not_append, not_rewrite}
 use Rattle.raft_log_pipes_rows.proofs.opening.first_files.Goals as goal
 
 pub create-requires-2-clause-none : goal.create-requires-2-clause-none
-create-requires-2-clause-none g c κs =
+create-requires-2-clause-none g c κs within =
     λ path seq lt number has. none_beside Append Rewrite (g.F.FileSystem.disk c.args.files.now) (g.F.FileSystem.disk c.create.new.files) (λ same. absurd cc) c.in_ok-one.ensures.others path seq
     (has_path_says c.args.rewrite.items (id_of Rewrite seq) path number has) (c.requires.no_rewrite path seq lt number has)
 
