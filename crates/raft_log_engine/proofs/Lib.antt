@@ -14,3 +14,4 @@ pub mod Since
 pub mod Synced
 pub mod Again
 pub mod Crashes
+pub mod Taken

@@ -7,3 +7,4 @@ pub mod Reads
 pub mod Scanning
 pub mod Reopened
 pub mod Since
+pub mod Taken

@@ -1,11 +1,13 @@
 //! An append, and a sync behind it.
-ghost use Rattle.std.specs.Prelude.{◌≡◌, ◌++◌, ◌∷◌, [], ℕ, IfOk, OnOk, OnErr};
+ghost use Rattle.std.specs.Prelude.{◌≡◌, ◌+◌, ◌^◌, ◌<◌, ◌++◌, ◌∷◌, [], ℕ, IfOk, OnOk, OnErr};
+ghost use Rattle.raft_log_disk.specs.Cause.{NothingRefuses, RefusesNoMore};
 ghost use Rattle.raft_log_engine.specs.Held.{HoldsMore};
 ghost use Rattle.raft_log_pipe.specs.Alone.{IsAlone, IsNearlyAlone};
 ghost use Rattle.raft_log_pipe.specs.Appending.{LeavesAppended, Stands};
 ghost use Rattle.raft_log_pipe.specs.Blocks.{KeepsFiles};
 ghost use Rattle.raft_log_pipe.specs.Pipe.{Holds, IsPipe, IsPopulated, Numbered};
-ghost use Rattle.raft_log_records.specs.Spelling.{AreItems};
+ghost use Rattle.raft_log_pipe.specs.Taken.{IsAppendTaken};
+ghost use Rattle.raft_log_records.specs.Spelling.{AreItems, record_len};
 
 use raft_log_files::{Error, FileSystem};
 use raft_log_pipe::SinglePipe;
@@ -33,6 +35,9 @@ pub(crate) fn append_batch<F: FileSystem>(
     ensures stands { IfOk result (Stands pipe.old (F.disk files.old) pipe.new batch.old.items) }
     ensures err { OnErr result ((synced unsynced : Numbered) → Holds pipe.old (F.disk files.old) synced unsynced
         → LeavesAppended pipe.new (F.disk files.new) synced unsynced batch.old.items) }
+    ensures fits { IfOk result (λ h. h.offset + record_len batch.old.items < 2 ^ 64) }
+    ensures later { RefusesNoMore (F.is_bounded files.old) (F.is_bounded files.new) (F.meter files.old) (F.meter files.new) }
+    ensures taken { NothingRefuses (F.is_bounded files.old) (F.meter files.old) → IsAppendTaken pipe.old (F.disk files.old) batch.old.items result }
 {
     let handle = pipe.append(files, batch)?;
     if !sync {

@@ -2,9 +2,12 @@
 ghost use Rattle.std.specs.Prelude.{◌≡◌, IfOk, IfSome, map};
 ghost use Rattle.raft_log_engine.specs.Blocks.{IsReadAs};
 ghost use Rattle.raft_log_engine.specs.Held.{bytes_on};
+ghost use Rattle.raft_log_engine.specs.declared.fault.EngineFault.TheVariants.{Log};
+ghost use Rattle.raft_log_files.specs.declared.error.Error.TheVariants.{Memory};
 ghost use Rattle.raft_log_pipe.specs.Pipe.{IsPipe};
 ghost use Rattle.raft_log_records.specs.Batch.{payloads};
 ghost use Rattle.raft_log_records.specs.Item.{entry_bytes};
+ghost use Rattle.raft_log_records.specs.declared.error.RecordError.TheVariants as record_error;
 
 use crate::fault::EngineFault;
 use raft_log_files::{CorruptionFault, Error, FileSystem};
@@ -19,7 +22,9 @@ fn corrupt(fault: RecordFault) -> EngineFault {
 }
 
 /// A refusal of a batch or of its record.
-pub(crate) fn of_record(error: RecordError) -> EngineFault {
+pub(crate) fn of_record(error: RecordError) -> EngineFault
+    ensures memory { error ≡ record_error.Memory → result ≡ Log Memory }
+{
     match error {
         RecordError::Memory | RecordError::TooLong => EngineFault::Log(Error::Memory),
         RecordError::Corruption(fault) => corrupt(fault),

@@ -1,14 +1,18 @@
 //! Writes and reads of an engine.
 ghost use Rattle.std.specs.Prelude.{◌≡◌, ◌++◌, ℕ, List, [], true, false, Err, IfOk, OnOk, OnErr, option_map};
 ghost use Rattle.raft_content_log.specs.Leaving.{AgreesElsewhere, IsWritten, LeavesElsewhere, MayBeWritten};
+ghost use Rattle.raft_log_disk.specs.Cause.{NothingRefuses, RefusesNoMore};
 ghost use Rattle.raft_log_engine.specs.Left.{IsSound, answers_on, leaves_on};
 ghost use Rattle.raft_log_engine.specs.Reads.{HasRead};
 ghost use Rattle.raft_log_engine.specs.Reopened.{OpensAs, OpensAsEither, OpensAsFront, StandsAlone, directories_of_engine};
 ghost use Rattle.raft_log_engine.specs.Since.{HasWritten, written_batch};
+ghost use Rattle.raft_log_engine.specs.Taken.{IsSyncTaken, IsWriteTaken};
 ghost use Rattle.raft_log_engine.specs.declared.fault.EngineFault.TheVariants.{Stopped};
 ghost use Rattle.raft_log_file.specs.Laws.{Batch};
 ghost use Rattle.raft_log_memtables.specs.Content.{Content, after_batch};
+ghost use Rattle.raft_log_pipe.specs.Alone.{main_of};
 ghost use Rattle.raft_log_records.specs.Batch.{nothing_logged, payloads};
+ghost use Rattle.raft_log_records.specs.Spelling.{record_len};
 
 use crate::appending::append_batch;
 use crate::blocks::{copies_of, fault_of};
@@ -31,7 +35,8 @@ impl<F: FileSystem + Drop> Engine<F> {
     /// is written it is refused as `Marked` or `NotTaken`. An empty batch writes nothing, but may be
     /// synced. After a refusal by the files, or where memory runs out behind the append, the engine
     /// is stopped. Of batches that weren't synced a crash leaves a front.
-    pub fn write(&mut self, batch: &mut LogBatch, sync: bool) -> Result<(), EngineFault>
+    /// Answers how many bytes the batch's record has, none for an empty batch.
+    pub fn write(&mut self, batch: &mut LogBatch, sync: bool) -> Result<usize, EngineFault>
         ensures answers { OnOk result (answers_on F.disk self.new ≡ after_batch batch.old.items (answers_on F.disk self.old)) }
         ensures ok { IsSound self.old → OnOk result (sync ≡ true
             → IsWritten (answers_on F.disk self.new) (leaves_on F.disk self.new) (after_batch batch.old.items (answers_on F.disk self.old))) }
@@ -52,6 +57,10 @@ impl<F: FileSystem + Drop> Engine<F> {
         ensures stopped { self.old.is_stopped ≡ true → result ≡ Err Stopped }
         ensures others { sync ≡ true → LeavesElsewhere batch.old.items (leaves_on F.disk self.old) (leaves_on F.disk self.new) }
         ensures others_answered { IsSound self.new → IsSound self.old × AgreesElsewhere batch.old.items (answers_on F.disk self.new) (answers_on F.disk self.old) }
+        ensures empty { batch.old.items ≡ [] → IfOk result (λ len. len ≡ 0) }
+        ensures len { (batch.old.items ≡ [] → ⊥) → IfOk result (λ len. len ≡ record_len batch.old.items) }
+        ensures later { RefusesNoMore (F.is_bounded self.old.files) (F.is_bounded self.new.files) (F.meter self.old.files) (F.meter self.new.files) }
+        ensures taken { NothingRefuses (F.is_bounded self.old.files) (F.meter self.old.files) → IsWriteTaken F.disk self.old batch.old.items result }
     {
         if self.is_stopped {
             return Err(EngineFault::Stopped);
@@ -59,11 +68,12 @@ impl<F: FileSystem + Drop> Engine<F> {
         if batch.is_empty() {
             let _ = batch.drain();
             if sync {
-                return self.sync();
+                self.sync()?;
+                return Ok(0);
             }
-            return Ok(());
+            return Ok(0);
         }
-        prepare(&self.tables, batch)?;
+        let len = prepare(&self.tables, batch)?;
         let block = batch.entries_block();
         let written = match append_batch(&mut self.files, &mut self.append, batch, sync) {
             Ok(written) => written,
@@ -78,7 +88,7 @@ impl<F: FileSystem + Drop> Engine<F> {
             return Err(fault);
         }
         self.wrote_unsynced = skips_sync(self.wrote_unsynced, sync);
-        Ok(())
+        Ok(len)
     }
 
     /// Brings what was written onto the disk (raft-engine's `sync`). Where each write was synced
@@ -95,6 +105,8 @@ impl<F: FileSystem + Drop> Engine<F> {
         ensures all_written { OnOk result (HasWritten F.disk self.new (answers_on F.disk self.new) []) }
         ensures flag { self.new.wrote_unsynced ≡ self.old.wrote_unsynced }
         ensures stopped { self.old.is_stopped ≡ true → result ≡ Err Stopped }
+        ensures later { RefusesNoMore (F.is_bounded self.old.files) (F.is_bounded self.new.files) (F.meter self.old.files) (F.meter self.new.files) }
+        ensures taken { NothingRefuses (F.is_bounded self.old.files) (F.meter self.old.files) → IsSyncTaken self.old result }
     {
         if self.is_stopped {
             return Err(EngineFault::Stopped);
@@ -107,6 +119,13 @@ impl<F: FileSystem + Drop> Engine<F> {
             return Err(EngineFault::Log(error));
         }
         Ok(())
+    }
+
+    /// The main directory, which the engine was opened with (raft-engine's `path`).
+    pub fn path(&self) -> &str
+        ensures { result.now ≡ main_of (directories_of_engine self.now) }
+    {
+        self.append.path()
     }
 
     /// The value of a key of a group, if it is there.

@@ -188,7 +188,7 @@ impl ContentLog for MemoryLog {
             return Err(EngineFault::Stopped);
         }
         match self.engine.write(batch, true) {
-            Ok(()) => Ok(()),
+            Ok(_) => Ok(()),
             Err(fault) => {
                 self.has_failed = true;
                 Err(fault)

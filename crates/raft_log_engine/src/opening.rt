@@ -1,5 +1,6 @@
 //! Opening an engine with the files that are there.
 ghost use Rattle.std.specs.Prelude.{◌≡◌, ℕ, List, [], IfOk, IfErr, OnErr};
+ghost use Rattle.raft_log_disk.specs.Cause.{RefusesNoMore};
 ghost use Rattle.raft_log_engine.specs.Left.{IsSound, answers_on};
 ghost use Rattle.raft_log_engine.specs.Opening.{IsFoundAgain, IsFoundContent, IsLeftByOpening, IsRecoveredAs};
 ghost use Rattle.raft_log_engine.specs.Reopened.{OpensAs, OpensAsFront, StandsAlone, directories_of_engine};
@@ -99,6 +100,7 @@ impl<F: FileSystem + Drop> Engine<F> {
         ensures opens { IsSound self → StandsAlone F.disk self → OpensAs (directories_of_engine self) (F.disk result) (answers_on F.disk self) }
         ensures opens_front { (before : Content (List ℕ)) (batches : List Batch) → StandsAlone F.disk self → HasWritten F.disk self before batches
             → OpensAsFront (directories_of_engine self) (F.disk result) before batches }
+        ensures later { RefusesNoMore (F.is_bounded self.files) (F.is_bounded result) (F.meter self.files) (F.meter result) }
     {
         if self.is_stopped {
             return self.files;

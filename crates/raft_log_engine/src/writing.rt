@@ -1,29 +1,33 @@
 //! What a write needs.
-ghost use Rattle.std.specs.Prelude.{◌≡◌, [], false, OnOk, Some};
+ghost use Rattle.std.specs.Prelude.{◌≡◌, ◌+◌, ◌^◌, ◌<◌, [], false, IfErr, IfOk, IfSome, OnOk, Some};
 ghost use Rattle.std.specs.List.{list_any};
 ghost use Rattle.raft_log_engine.specs.Held.{IsPlace};
+ghost use Rattle.raft_log_engine.specs.Taken.{IsRefusedBatch};
+ghost use Rattle.raft_log_engine.specs.declared.fault.EngineFault.TheVariants.{Log};
+ghost use Rattle.raft_log_files.specs.declared.error.Error.TheVariants.{Memory};
 ghost use Rattle.raft_log_memtables.specs.Content.{after_batch};
 ghost use Rattle.raft_log_memtables.specs.MemTable.{batch_items};
 ghost use Rattle.raft_log_memtables.specs.MemTables.{content_in};
 ghost use Rattle.raft_log_pipe.specs.Pipe.{IsPopulated};
-ghost use Rattle.raft_log_records.specs.Spelling.{AreItems, holds_mark};
+ghost use Rattle.raft_log_records.specs.Spelling.{AreItems, holds_mark, record_len};
 ghost use Rattle.raft_log_records.specs.declared.block.EntriesBlock.{EntriesBlock};
 ghost use Rattle.raft_log_records.specs.declared.file_id.FileBlockHandle.{FileBlockHandle};
 
 use crate::blocks::of_record;
 use crate::fault::EngineFault;
-use raft_log_files::{DiskRefusal, Error};
 use raft_log_memtables::MemTables;
 use raft_log_records::{EntriesBlock, FileBlockHandle, LogBatch, LogItemBatch};
 
-/// Writes a batch as a record. Refused are a batch that belongs to an atomic group, and one that
-/// the tables don't take.
-pub(crate) fn prepare(tables: &MemTables, batch: &mut LogBatch) -> Result<(), EngineFault>
+/// Writes a batch as a record, and answers its length in bytes. Refused are a batch that belongs to
+/// an atomic group, and one that the tables don't take.
+pub(crate) fn prepare(tables: &MemTables, batch: &mut LogBatch) -> Result<usize, EngineFault>
     requires { batch.old.items ≡ [] → ⊥ }
     ensures same { batch.new.items ≡ batch.old.items }
     ensures plain { OnOk result (list_any holds_mark batch.old.items ≡ false) }
     ensures populated { OnOk result (IsPopulated batch.new) }
     ensures items { OnOk result (AreItems batch.new.items) }
+    ensures len { IfOk result (λ len. len ≡ record_len batch.old.items) }
+    ensures err { IfErr result (IsRefusedBatch tables.now batch.old.items) }
 {
     if batch.holds_mark() {
         return Err(EngineFault::Marked);
@@ -32,7 +36,7 @@ pub(crate) fn prepare(tables: &MemTables, batch: &mut LogBatch) -> Result<(), En
         return Err(EngineFault::NotTaken);
     }
     match batch.finish_populate() {
-        Ok(_) => Ok(()),
+        Ok(len) => Ok(len),
         Err(error) => Err(of_record(error)),
     }
 }
@@ -45,16 +49,13 @@ pub(crate) fn apply(
     block: Option<EntriesBlock>,
     written: FileBlockHandle,
 ) -> Result<(), EngineFault>
-    ensures { OnOk result ((place : FileBlockHandle) × ((b : EntriesBlock) → block ≡ Some b → IsPlace written b place)
+    requires { IfSome block (λ b. written.offset + b.offset < 2 ^ 64) }
+    ensures ok { OnOk result ((place : FileBlockHandle) × ((b : EntriesBlock) → block ≡ Some b → IsPlace written b place)
         × (content_in tables.new ≡ after_batch (batch_items place items) (content_in tables.old))) }
+    ensures err { IfErr result (λ e. e ≡ Log Memory) }
 {
     let place = match block {
-        Some(block) => {
-            if u64::MAX - written.offset < block.offset {
-                return Err(EngineFault::Log(Error::Io(DiskRefusal::Refused)));
-            }
-            block.in_file(written.id, written.offset)
-        }
+        Some(block) => block.in_file(written.id, written.offset),
         None => written,
     };
     tables.apply(items, place)?;

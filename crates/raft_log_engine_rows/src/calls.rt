@@ -12,6 +12,8 @@ use std::alloc::{AllocError, Global};
 #[derive(Debug, Drop)]
 pub enum Told {
     Written,
+    /// A batch was written, and its record has so many bytes.
+    Sized(usize),
     Synced,
     Value(Option<Vec<u8>>),
     Text(Option<Vec<u8>>),
@@ -24,6 +26,7 @@ pub enum Told {
     Empty(bool),
     Files(u64, u64),
     Names(Vec<String>),
+    Path(String),
     Bytes(u64),
     Removed(u64),
     Fused,
@@ -39,7 +42,8 @@ fn write<F: CrashFiles + Drop>(engine: &mut Engine<F>, alloc: Global, word: &str
         return Told::NoBatch;
     };
     match engine.write(&mut batch, !word.starts_with("unsynced+")) {
-        Ok(()) => Told::Written,
+        Ok(len) if word.starts_with("sized+") => Told::Sized(len),
+        Ok(_) => Told::Written,
         Err(fault) => Told::Refused(fault),
     }
 }
@@ -70,8 +74,8 @@ fn names<F: CrashFiles + Drop>(
     }
 }
 
-/// What a step asks of the whole engine: `groups`, `empty`, `span`, `used`, `names:DIRECTORY`,
-/// `sync`, or `fuse:CALL`, from which call on the files refuse.
+/// What a step asks of the whole engine: `groups`, `empty`, `span`, `used`, `path`,
+/// `names:DIRECTORY`, `sync`, or `fuse:CALL`, from which call on the files refuse.
 fn ask<F: CrashFiles + Drop>(
     engine: &mut Engine<F>,
     alloc: Global,
@@ -85,6 +89,7 @@ fn ask<F: CrashFiles + Drop>(
             Told::Files(first, last)
         }
         ["used"] => Told::Bytes(engine.get_used_size()),
+        ["path"] => Told::Path(String::from_str(alloc, engine.path())?),
         ["sync"] => {
             engine.sync()?;
             Told::Synced

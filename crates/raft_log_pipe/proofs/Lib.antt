@@ -10,3 +10,4 @@ pub mod ReadLemmas
 pub mod GiveUpLemmas
 pub mod AloneLemmas
 pub mod OthersLemmas
+pub mod TakenLemmas

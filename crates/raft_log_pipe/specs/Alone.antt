@@ -52,6 +52,11 @@ pub record AreLast (names : Names) (directories : List Text) (queue : LogQueue) 
 abbrev pub directories_of_pipe : SinglePipe → List Text
 directories_of_pipe p = map string_bytes p.paths.items
 
+-- the main directory, the first one
+abbrev pub main_of : List Text → Text
+main_of [] = []
+main_of (directory ∷ directories) = directory
+
 -- its files are the last ones of its queue
 abbrev pub IsAlone : SinglePipe → Disk → Type 0
 IsAlone p d = AreLast d.names (directories_of_pipe p) p.queue (files_of p)

@@ -8,3 +8,4 @@ pub mod Found
 pub mod Purging
 pub mod Alone
 pub mod Others
+pub mod Taken

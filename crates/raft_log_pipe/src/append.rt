@@ -1,14 +1,15 @@
 //! Appends to a pipe.
 
 ghost use Rattle.std.specs.Prelude.{◌≡◌, ◌⊎◌, ◌+◌, ◌-◌, ◌<◌, ◌≤◌, ◌^◌, ◌++◌, ◌∷◌, [], length, min, IfOk, OnOk, OnErr};
-ghost use Rattle.raft_log_records.specs.Spelling.{AreItems};
-ghost use Rattle.raft_log_disk.specs.Cause.{UnlessRefused};
+ghost use Rattle.raft_log_records.specs.Spelling.{AreItems, record_len};
+ghost use Rattle.raft_log_disk.specs.Cause.{IsTaken, NothingRefuses, RefusesNoMore, UnlessRefused};
 ghost use Rattle.raft_log_file.specs.Writer.{IsWriter};
 ghost use Rattle.raft_log_pipe.specs.Alone.{IsAlone, IsNearlyAlone};
 ghost use Rattle.raft_log_pipe.specs.Others.{KeepsOthers};
 ghost use Rattle.raft_log_pipe.specs.Pipe.{IsPipe, IsPopulated, Holds, Leaves, Numbered};
 ghost use Rattle.raft_log_pipe.specs.Appending.{IsHandle, Appends, LeavesAppended, Stands};
 ghost use Rattle.raft_log_pipe.specs.Blocks.{KeepsFiles};
+ghost use Rattle.raft_log_pipe.specs.Taken.{IsAppendTaken, IsBarred, IsFull, IsRotationTaken, IsTakenBy, IsTooLarge, IsUnmade, IsUnnumbered};
 
 use crate::pipe::SinglePipe;
 use raft_log_files::{Error, FileSystem, IoFault};
@@ -37,6 +38,10 @@ impl SinglePipe {
             → Leaves self.new (F.disk files.new) synced (unsynced ++ (self.old.active.seq, batch.old.items) ∷ [])) }
         ensures unwritten { UnlessRefused result ((synced : Numbered) (unsynced : Numbered) → Holds self.old (F.disk files.old) synced unsynced
             → Holds self.new (F.disk files.new) synced unsynced) }
+        ensures next { (F.disk files.new).next ≡ (F.disk files.old).next }
+        ensures later { RefusesNoMore (F.is_bounded files.old) (F.is_bounded files.new) (F.meter files.old) (F.meter files.new) }
+        ensures taken { NothingRefuses (F.is_bounded files.old) (F.meter files.old) → IsTaken ⊥ (IsTooLarge self.old batch.old.items) result }
+        ensures fits { IfOk result (λ h. h.offset + record_len batch.old.items < 2 ^ 64) }
     {
         let id = FileId::new(self.queue, self.active.seq);
         let context = LogFileContext::new(id, self.active.format.version);
@@ -46,6 +51,8 @@ impl SinglePipe {
         if let Err(fault) = self.writer.write(files, bytes, self.target_file_size) {
             return Err(fault);
         }
+        // Read, so that the record is known to end at a number.
+        let _end = self.writer.offset();
         Ok(FileBlockHandle {
             id,
             offset,
@@ -67,6 +74,10 @@ impl SinglePipe {
         ensures ok { OnOk result ((synced : Numbered) (unsynced : Numbered) → Holds self.old (F.disk files.old) synced unsynced
             → Holds self.new (F.disk files.new) synced unsynced ⊎ Holds self.new (F.disk files.new) (synced ++ unsynced) []) }
         ensures err { OnErr result ((synced : Numbered) (unsynced : Numbered) → Holds self.old (F.disk files.old) synced unsynced → Leaves self.new (F.disk files.new) synced unsynced) }
+        ensures room { OnOk result (((self.new ≡ self.old) × (F.disk files.new ≡ F.disk files.old)) ⊎ (self.new.writer.offset ≤ 69)) }
+        ensures later { RefusesNoMore (F.is_bounded files.old) (F.is_bounded files.new) (F.meter files.old) (F.meter files.new) }
+        ensures taken { NothingRefuses (F.is_bounded files.old) (F.meter files.old) → IsTakenBy (IsFull self.old × IsUnnumbered self.old)
+            (IsFull self.old × IsUnmade self.old (F.disk files.old)) (IsFull self.old × IsBarred self.old (F.disk files.old)) result }
     {
         if self.writer.offset() < self.target_file_size {
             return Ok(());
@@ -98,6 +109,9 @@ impl SinglePipe {
         ensures stands { IfOk result (Stands self.old (F.disk files.old) self.new batch.old.items) }
         ensures err { OnErr result ((synced : Numbered) (unsynced : Numbered) → Holds self.old (F.disk files.old) synced unsynced
             → LeavesAppended self.new (F.disk files.new) synced unsynced batch.old.items) }
+        ensures later { RefusesNoMore (F.is_bounded files.old) (F.is_bounded files.new) (F.meter files.old) (F.meter files.new) }
+        ensures taken { NothingRefuses (F.is_bounded files.old) (F.meter files.old) → IsAppendTaken self.old (F.disk files.old) batch.old.items result }
+        ensures fits { IfOk result (λ h. h.offset + record_len batch.old.items < 2 ^ 64) }
     {
         self.make_room(files)?;
         match self.put(files, batch) {
@@ -130,6 +144,9 @@ impl SinglePipe {
         ensures stands { IfOk result (Stands self.old (F.disk files.old) self.new batch.old.items) }
         ensures err { OnErr result ((synced : Numbered) (unsynced : Numbered) → Holds self.old (F.disk files.old) synced unsynced
             → LeavesAppended self.new (F.disk files.new) synced unsynced batch.old.items) }
+        ensures later { RefusesNoMore (F.is_bounded files.old) (F.is_bounded files.new) (F.meter files.old) (F.meter files.new) }
+        ensures taken { NothingRefuses (F.is_bounded files.old) (F.meter files.old) → IsRotationTaken self.old (F.disk files.old) result }
+        ensures fits { IfOk result (λ h. h.offset + record_len batch.old.items < 2 ^ 64) }
     {
         self.finish(files)?;
         match self.go_on(files) {
@@ -153,6 +170,7 @@ impl SinglePipe {
         ensures others { KeepsOthers self.old.queue (F.disk files.old) (F.disk files.new) }
         ensures nearly { IsAlone self.old (F.disk files.old) → IsNearlyAlone self.new (F.disk files.new) }
         ensures leaves { (synced : Numbered) (unsynced : Numbered) → Holds self.old (F.disk files.old) synced unsynced → Leaves self.new (F.disk files.new) synced unsynced }
+        ensures later { RefusesNoMore (F.is_bounded files.old) (F.is_bounded files.new) (F.meter files.old) (F.meter files.new) }
     {
         if let Err(error) = self.finish(files) {
             return error;

@@ -1,10 +1,13 @@
 //! Files of a pipe, and where a new one goes.
 
 ghost use Rattle.std.specs.Prelude.{◌≡◌, ◌<◌, ◌+◌, ◌-◌, ◌^◌, length, map, string_bytes, IfOk, IfSome};
+ghost use Rattle.raft_log_disk.specs.Cause.{IsTaken, NothingRefuses, RefusesNoMore};
+ghost use Rattle.raft_log_disk.specs.Disk.{HasDirectory, IsNoNewFile};
 ghost use Rattle.raft_log_files.specs.FileName.{IsFileSeq};
 ghost use Rattle.raft_log_pipe.specs.Alone.{IsMadeIn};
 ghost use Rattle.raft_log_pipe.specs.Pipe.{IsLast};
 ghost use Rattle.raft_log_pipe.specs.Placing.{first_with_room, path_chosen, IsCreated};
+ghost use Rattle.raft_log_pipe.specs.Taken.{main_path};
 
 use raft_log_files::{
     DEFAULT_PATH_ID, Fd, FileNameExt, FileSystem, IoFault, LogFileFormat, PathId,
@@ -83,6 +86,9 @@ pub(crate) fn new_file<F: FileSystem>(
     ensures made { IsMadeIn (F.disk files.old) (F.disk files.new) (map string_bytes paths.now) id result }
     ensures file { IfOk result (λ f. (f.seq ≡ id.seq) × (f.format ≡ format) × (f.path_id ≡ path_chosen (F.room files.old) target_size paths.now)) }
     ensures within { IfOk result (λ f. f.path_id < length paths.now) }
+    ensures later { RefusesNoMore (F.is_bounded files.old) (F.is_bounded files.new) (F.meter files.old) (F.meter files.new) }
+    ensures taken { NothingRefuses (F.is_bounded files.old) (F.meter files.old) → IsTaken (HasDirectory (F.disk files.old).directories (main_path paths.now id) → ⊥)
+        (IsNoNewFile (F.disk files.old) (main_path paths.now id)) result }
 {
     let path_id = find_available_dir(files, paths, target_size);
     let path = id.build_file_path(alloc, paths[path_id].as_str())?;

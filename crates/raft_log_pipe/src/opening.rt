@@ -4,6 +4,7 @@ ghost use Rattle.std.specs.Prelude.{◌≡◌, ◌<◌, ◌++◌, ◌∷◌, [],
 ghost use Rattle.raft_log_pipe.specs.Alone.{AreDistinct, AreLast, IsAlone, IsVacant};
 ghost use Rattle.raft_log_pipe.specs.Begun.{Changes};
 ghost use Rattle.raft_log_pipe.specs.Found.{IsFound, IsResumed, KeepsButHeader, MakesButHeader};
+ghost use Rattle.raft_log_pipe.specs.Others.{KeepsOthers};
 ghost use Rattle.raft_log_pipe.specs.Pipe.{IsPipe, IsPlain, IsLast, Holds, Numbered, id_of};
 
 use crate::file::{File, Paths, new_file};
@@ -88,6 +89,7 @@ impl SinglePipe {
         ensures holds { IfOk result (λ p. Holds p (F.disk files.new) [] []) }
         ensures first { IfOk result (λ p. (p.queue ≡ queue) × (p.active.seq ≡ 1) × (p.older.items ≡ [])) }
         ensures makes { MakesButHeader (F.disk files.old) (F.disk files.new) (map string_bytes paths.items) (id_of queue 1) }
+        ensures others { KeepsOthers queue (F.disk files.old) (F.disk files.new) }
     {
         let id = FileId::new(queue, DEFAULT_FIRST_FILE_SEQ);
         let file = new_file(files, alloc, &paths, id, default_format, target_file_size)?;

@@ -1,8 +1,11 @@
 //! A pipe, and what it tells of its files.
 
 ghost use Rattle.std.specs.Prelude.{◌≡◌, ◌+◌, ◌-◌, ◌*◌, ◌/◌, ◌≤◌, ◌^◌, ◌++◌, [], min, length, OnOk, OnErr};
+ghost use Rattle.raft_log_disk.specs.Cause.{NothingRefuses, RefusesNoMore};
+ghost use Rattle.raft_log_pipe.specs.Alone.{directories_of_pipe, main_of};
 ghost use Rattle.raft_log_pipe.specs.Others.{KeepsOthers};
 ghost use Rattle.raft_log_pipe.specs.Pipe.{IsPipe, Holds, Numbered, first_of};
+ghost use Rattle.raft_log_pipe.specs.Taken.{IsOkOrMemory};
 
 use crate::file::{File, Paths};
 use raft_log_file::LogFileWriter;
@@ -34,6 +37,16 @@ impl SinglePipe {
         ensures { result ≡ length self.now.older.items + 1 }
     {
         self.older.len() as u64 + 1
+    }
+
+    /// The main directory, that of new files while it has room.
+    pub fn path(&self) -> &str
+        ensures { result.now ≡ main_of (directories_of_pipe self.now) }
+    {
+        match self.paths.as_slice() {
+            [main, ..] => main.as_str(),
+            [] => "",
+        }
     }
 
     /// The numbers of the first file and of the last.
@@ -71,6 +84,8 @@ impl SinglePipe {
         ensures names { (F.disk files.new).names ≡ (F.disk files.old).names }
         ensures ok { OnOk result ((synced : Numbered) (unsynced : Numbered) → Holds self.old (F.disk files.old) synced unsynced → Holds self.new (F.disk files.new) (synced ++ unsynced) []) }
         ensures err { OnErr result ((synced : Numbered) (unsynced : Numbered) → Holds self.old (F.disk files.old) synced unsynced → Holds self.new (F.disk files.new) synced unsynced) }
+        ensures later { RefusesNoMore (F.is_bounded files.old) (F.is_bounded files.new) (F.meter files.old) (F.meter files.new) }
+        ensures taken { NothingRefuses (F.is_bounded files.old) (F.meter files.old) → IsOkOrMemory result }
     {
         self.writer.sync(files)?;
         Ok(())

@@ -1,12 +1,15 @@
 //! Rotation: the last file is cut and synced, and a new one goes on.
 
-ghost use Rattle.std.specs.Prelude.{◌≡◌, ◌+◌, ◌-◌, ◌<◌, ◌++◌, ◌∷◌, [], IfOk, OnOk, OnErr};
+ghost use Rattle.std.specs.Prelude.{◌≡◌, ◌+◌, ◌-◌, ◌<◌, ◌≤◌, ◌++◌, ◌∷◌, [], IfOk, OnOk, OnErr};
+ghost use Rattle.raft_log_disk.specs.Cause.{IsTaken, NothingRefuses, RefusesNoMore};
+ghost use Rattle.raft_log_disk.specs.Disk.{IsNoFile};
 ghost use Rattle.raft_log_file.specs.Writer.{IsWriter};
 ghost use Rattle.raft_log_files.specs.FileName.{IsFileSeq};
 ghost use Rattle.raft_log_pipe.specs.Others.{KeepsOthers};
 ghost use Rattle.raft_log_pipe.specs.Pipe.{IsPipe, IsPlain, Holds, Leaves, Numbered};
 ghost use Rattle.raft_log_pipe.specs.Alone.{IsAlone, IsNearlyAlone};
 ghost use Rattle.raft_log_pipe.specs.Begun.{IsBegun};
+ghost use Rattle.raft_log_pipe.specs.Taken.{IsBarred, IsOkOrMemory, IsRotationTaken, IsTakenBy, IsUnmade, IsUnnumbered};
 
 use crate::file::{File, new_file};
 use crate::pipe::SinglePipe;
@@ -23,6 +26,8 @@ pub(crate) fn begin_file<F: FileSystem>(
 ) -> Result<LogFileWriter, IoFault>
     requires { IsPlain file.format }
     ensures begun { IsBegun (F.disk files.old) (F.disk files.new) file result }
+    ensures later { RefusesNoMore (F.is_bounded files.old) (F.is_bounded files.new) (F.meter files.old) (F.meter files.new) }
+    ensures taken { NothingRefuses (F.is_bounded files.old) (F.meter files.old) → IsTaken (IsNoFile (F.disk files.old) file.handle.0) ⊥ result }
 {
     let writer = match build_file_writer(files, alloc, file.handle, file.format, true) {
         Ok(writer) => writer,
@@ -45,6 +50,9 @@ impl SinglePipe {
         ensures names { (F.disk files.new).names ≡ (F.disk files.old).names }
         ensures ok { OnOk result ((synced : Numbered) (unsynced : Numbered) → Holds self.old (F.disk files.old) synced unsynced → Holds self.new (F.disk files.new) (synced ++ unsynced) []) }
         ensures err { OnErr result ((synced : Numbered) (unsynced : Numbered) → Holds self.old (F.disk files.old) synced unsynced → Leaves self.new (F.disk files.new) synced unsynced) }
+        ensures next { (F.disk files.new).next ≡ (F.disk files.old).next }
+        ensures later { RefusesNoMore (F.is_bounded files.old) (F.is_bounded files.new) (F.meter files.old) (F.meter files.new) }
+        ensures taken { NothingRefuses (F.is_bounded files.old) (F.meter files.old) → IsOkOrMemory result }
     {
         self.writer.close(files)?;
         Ok(())
@@ -61,6 +69,9 @@ impl SinglePipe {
         ensures names { (F.disk files.new).names ≡ (F.disk files.old).names }
         ensures ok { OnOk result ((synced : Numbered) (unsynced : Numbered) → Holds self.old (F.disk files.old) synced unsynced → Holds self.new (F.disk files.new) (synced ++ unsynced) []) }
         ensures err { OnErr result ((synced : Numbered) (unsynced : Numbered) → Holds self.old (F.disk files.old) synced unsynced → Leaves self.new (F.disk files.new) synced unsynced) }
+        ensures next { (F.disk files.new).next ≡ (F.disk files.old).next }
+        ensures later { RefusesNoMore (F.is_bounded files.old) (F.is_bounded files.new) (F.meter files.old) (F.meter files.new) }
+        ensures taken { NothingRefuses (F.is_bounded files.old) (F.meter files.old) → IsTakenBy (IsUnnumbered self.old) ⊥ ⊥ result }
     {
         if !is_file_seq(self.active.seq.saturating_add(1)) {
             return Err(Error::Other(OtherFault::NoFileNumber));
@@ -82,6 +93,9 @@ impl SinglePipe {
         ensures nearly { OnErr result (IsAlone self.old (F.disk files.old) → IsNearlyAlone self.new (F.disk files.new)) }
         ensures ok { OnOk result ((synced : Numbered) → Holds self.old (F.disk files.old) synced [] → Holds self.new (F.disk files.new) synced []) }
         ensures err { OnErr result ((synced : Numbered) → Holds self.old (F.disk files.old) synced [] → Leaves self.new (F.disk files.new) synced []) }
+        ensures begun { OnOk result (self.new.writer.offset ≤ 69) }
+        ensures later { RefusesNoMore (F.is_bounded files.old) (F.is_bounded files.new) (F.meter files.old) (F.meter files.new) }
+        ensures taken { NothingRefuses (F.is_bounded files.old) (F.meter files.old) → IsTaken (IsUnmade self.old (F.disk files.old)) (IsBarred self.old (F.disk files.old)) result }
     {
         let id = FileId::new(self.queue, self.active.seq + 1);
         let format = self.default_format;
@@ -107,6 +121,9 @@ impl SinglePipe {
         ensures nearly { OnErr result (IsAlone self.old (F.disk files.old) → IsNearlyAlone self.new (F.disk files.new)) }
         ensures ok { OnOk result ((synced : Numbered) (unsynced : Numbered) → Holds self.old (F.disk files.old) synced unsynced → Holds self.new (F.disk files.new) (synced ++ unsynced) []) }
         ensures err { OnErr result ((synced : Numbered) (unsynced : Numbered) → Holds self.old (F.disk files.old) synced unsynced → Leaves self.new (F.disk files.new) synced unsynced) }
+        ensures begun { OnOk result (self.new.writer.offset ≤ 69) }
+        ensures later { RefusesNoMore (F.is_bounded files.old) (F.is_bounded files.new) (F.meter files.old) (F.meter files.new) }
+        ensures taken { NothingRefuses (F.is_bounded files.old) (F.meter files.old) → IsRotationTaken self.old (F.disk files.old) result }
     {
         self.finish(files)?;
         self.go_on(files)?;

@@ -32,18 +32,16 @@ beside queue p d e apart old new keeps = record {
 }
 
 -- where the append queue's pipe can be used still, both can
-pub both_append : (p : DualPipes) (new : SinglePipe) (d e : Disk) → new.queue ≡ p.append.queue → IsAsBefore p.rewrite d p.rewrite e → ArePipes p d → IsPipe new e → ArePipes (record { append = new; rewrite = p.rewrite }) e
-both_append p new d e queue other pipes usable = record {
-  queues = record { append = queue ∙ pipes.queues.append; rewrite = pipes.queues.rewrite };
+pub both_append : (p q : DualPipes) (d e : Disk) → q.rewrite ≡ p.rewrite → IsAsBefore p.rewrite d p.rewrite e → ArePipes p d → IsPipe q.append e → ArePipes q e
+both_append p q d e is other pipes usable = record {
   append = usable;
-  rewrite = other.usable pipes.rewrite;
+  rewrite = subst (λ (pipe : SinglePipe). IsPipe pipe e) (sym is) (other.usable pipes.rewrite);
 }
 
 -- and where that of the rewrite queue can
-pub both_rewrite : (p : DualPipes) (new : SinglePipe) (d e : Disk) → new.queue ≡ p.rewrite.queue → IsAsBefore p.append d p.append e → ArePipes p d → IsPipe new e → ArePipes (record { append = p.append; rewrite = new }) e
-both_rewrite p new d e queue other pipes usable = record {
-  queues = record { append = pipes.queues.append; rewrite = queue ∙ pipes.queues.rewrite };
-  append = other.usable pipes.append;
+pub both_rewrite : (p q : DualPipes) (d e : Disk) → q.append ≡ p.append → IsAsBefore p.append d p.append e → ArePipes p d → IsPipe q.rewrite e → ArePipes q e
+both_rewrite p q d e is other pipes usable = record {
+  append = subst (λ (pipe : SinglePipe). IsPipe pipe e) (sym is) (other.usable pipes.append);
   rewrite = usable;
 }
 

@@ -1,7 +1,8 @@
 -- What a call on one of two pipes makes of that pipe: what the same call on a single pipe does.
-use Rattle.std.specs.Prelude.{◌≡◌, ℕ, ◌+◌, ◌∷◌, [], ◌++◌, Result, IfOk, IfErr, OnOk, OnErr, IsErr, IsErrOf, Vec}
+use Rattle.std.specs.Prelude.{◌≡◌, ℕ, ◌+◌, ◌^◌, ◌<◌, ◌∷◌, [], ◌++◌, Result, IfOk, IfErr, OnOk, OnErr, IsErr, IsErrOf, Vec}
 use Rattle.std.specs.declared.alloc.Global.{Global}
 use Rattle.raft_log_records.specs.declared.file_id.FileBlockHandle.{FileBlockHandle}
+use Rattle.raft_log_records.specs.Spelling.{record_len}
 use Rattle.raft_log_disk.specs.Cause.{Meter}
 use Rattle.raft_log_disk.specs.Disk.{Disk}
 use Rattle.raft_log_files.specs.declared.error.Error.{Error}
@@ -31,6 +32,7 @@ pub record IsAppendOf (old : SinglePipe) (d : Disk) (new : SinglePipe) (e : Disk
   pub files : OnOk result (KeepsFiles old new)
   pub ok : IfOk result (λ h. Appends old d new e h.id.seq items)
   pub stands : IfOk result (Stands old d new items)
+  pub fits : IfOk result (λ h. h.offset + record_len items < 2 ^ 64)
   pub err : OnErr result ((synced unsynced : Numbered) → Holds old d synced unsynced → LeavesAppended new e synced unsynced items)
 
 -- all that was appended is on the disk, or nothing changed

@@ -17,14 +17,8 @@ abbrev pub other_queue : LogQueue → LogQueue
 other_queue Append = Rewrite
 other_queue Rewrite = Append
 
--- each pipe is of its queue
-pub record AreQueues (p : DualPipes) : Type 0 where
-  pub append : p.append.queue ≡ Append
-  pub rewrite : p.rewrite.queue ≡ Rewrite
-
 -- Both can be used
 pub record ArePipes (p : DualPipes) (d : Disk) : Type 0 where
-  pub queues : AreQueues p
   pub append : IsPipe p.append d
   pub rewrite : IsPipe p.rewrite d
 

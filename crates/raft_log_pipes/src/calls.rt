@@ -2,10 +2,12 @@
 
 ghost use Rattle.std.specs.Prelude.{◌≡◌, OnOk};
 ghost use Rattle.raft_log_records.specs.Spelling.{AreItems};
+ghost use Rattle.raft_log_disk.specs.Cause.{NothingRefuses, RefusesNoMore};
 ghost use Rattle.raft_log_pipe.specs.Others.{KeepsOthers};
 ghost use Rattle.raft_log_pipe.specs.Pipe.{IsPipe, IsPopulated};
+ghost use Rattle.raft_log_pipe.specs.Taken.{IsAppendTaken, IsOkOrMemory, IsRotationTaken};
 ghost use Rattle.raft_log_pipes.specs.Calls.{IsAppendOf, IsCloseOf, IsPurgeOf, IsRotationOf, IsSyncOf};
-ghost use Rattle.raft_log_pipes.specs.Pipes.{ArePipes, AreQueues, IsAsBefore, other_queue, pipe_of};
+ghost use Rattle.raft_log_pipes.specs.Pipes.{ArePipes, IsAsBefore, other_queue, pipe_of};
 
 use crate::pipes::DualPipes;
 use raft_log_files::{Error, FileSystem};
@@ -20,16 +22,16 @@ impl DualPipes {
         queue: LogQueue,
         batch: &mut LogBatch,
     ) -> Result<FileBlockHandle, Error>
-        requires queues { AreQueues self.old }
         requires pipe { IsPipe (pipe_of self.old queue) (F.disk files.old) }
         requires populated { IsPopulated batch.old }
         requires items { AreItems batch.old.items }
-        ensures queues { AreQueues self.new }
         ensures call { IsAppendOf (pipe_of self.old queue) (F.disk files.old) (pipe_of self.new queue) (F.disk files.new) batch.old.items result }
         ensures batch { batch.new.items ≡ batch.old.items }
         ensures both { ArePipes self.old (F.disk files.old) → OnOk result (ArePipes self.new (F.disk files.new)) }
         ensures others { KeepsOthers queue (F.disk files.old) (F.disk files.new) }
         ensures other { IsAsBefore (pipe_of self.old (other_queue queue)) (F.disk files.old) (pipe_of self.new (other_queue queue)) (F.disk files.new) }
+        ensures later { RefusesNoMore (F.is_bounded files.old) (F.is_bounded files.new) (F.meter files.old) (F.meter files.new) }
+        ensures taken { NothingRefuses (F.is_bounded files.old) (F.meter files.old) → IsAppendTaken (pipe_of self.old queue) (F.disk files.old) batch.old.items result }
     {
         match queue {
             LogQueue::Append => self.append.append(files, batch),
@@ -40,13 +42,13 @@ impl DualPipes {
     /// After it, a crash leaves what was appended to a queue. The other queue stays as it is, and
     /// what of it wasn't synced is not synced by this call.
     pub fn sync<F: FileSystem>(&mut self, files: &mut F, queue: LogQueue) -> Result<(), Error>
-        requires queues { AreQueues self.old }
         requires pipe { IsPipe (pipe_of self.old queue) (F.disk files.old) }
-        ensures queues { AreQueues self.new }
         ensures call { IsSyncOf (pipe_of self.old queue) (F.disk files.old) (pipe_of self.new queue) (F.disk files.new) result }
         ensures both { ArePipes self.old (F.disk files.old) → ArePipes self.new (F.disk files.new) }
         ensures others { KeepsOthers queue (F.disk files.old) (F.disk files.new) }
         ensures other { IsAsBefore (pipe_of self.old (other_queue queue)) (F.disk files.old) (pipe_of self.new (other_queue queue)) (F.disk files.new) }
+        ensures later { RefusesNoMore (F.is_bounded files.old) (F.is_bounded files.new) (F.meter files.old) (F.meter files.new) }
+        ensures taken { NothingRefuses (F.is_bounded files.old) (F.meter files.old) → IsOkOrMemory result }
     {
         match queue {
             LogQueue::Append => self.append.sync(files),
@@ -57,13 +59,13 @@ impl DualPipes {
     /// Goes on with a new file of a queue. All that was appended to it is on the disk then. The
     /// other queue stays as it is.
     pub fn rotate<F: FileSystem>(&mut self, files: &mut F, queue: LogQueue) -> Result<(), Error>
-        requires queues { AreQueues self.old }
         requires pipe { IsPipe (pipe_of self.old queue) (F.disk files.old) }
-        ensures queues { AreQueues self.new }
         ensures call { IsRotationOf (pipe_of self.old queue) (F.disk files.old) (pipe_of self.new queue) (F.disk files.new) result }
         ensures both { ArePipes self.old (F.disk files.old) → OnOk result (ArePipes self.new (F.disk files.new)) }
         ensures others { KeepsOthers queue (F.disk files.old) (F.disk files.new) }
         ensures other { IsAsBefore (pipe_of self.old (other_queue queue)) (F.disk files.old) (pipe_of self.new (other_queue queue)) (F.disk files.new) }
+        ensures later { RefusesNoMore (F.is_bounded files.old) (F.is_bounded files.new) (F.meter files.old) (F.meter files.new) }
+        ensures taken { NothingRefuses (F.is_bounded files.old) (F.meter files.old) → IsRotationTaken (pipe_of self.old queue) (F.disk files.old) result }
     {
         match queue {
             LogQueue::Append => self.append.rotate(files),
@@ -79,9 +81,7 @@ impl DualPipes {
         queue: LogQueue,
         seq: FileSeq,
     ) -> Result<u64, Error>
-        requires queues { AreQueues self.old }
         requires pipe { IsPipe (pipe_of self.old queue) (F.disk files.old) }
-        ensures queues { AreQueues self.new }
         ensures call { IsPurgeOf (pipe_of self.old queue) (F.disk files.old) (pipe_of self.new queue) (F.disk files.new) seq result }
         ensures both { ArePipes self.old (F.disk files.old) → ArePipes self.new (F.disk files.new) }
         ensures others { KeepsOthers queue (F.disk files.old) (F.disk files.new) }
@@ -96,13 +96,13 @@ impl DualPipes {
     /// Cuts and syncs the last file of a queue, so that all that was appended to it is on the disk.
     /// The other queue stays as it is.
     pub fn close<F: FileSystem>(&mut self, files: &mut F, queue: LogQueue) -> Result<(), Error>
-        requires queues { AreQueues self.old }
         requires pipe { IsPipe (pipe_of self.old queue) (F.disk files.old) }
-        ensures queues { AreQueues self.new }
         ensures call { IsCloseOf (pipe_of self.old queue) (F.disk files.old) (pipe_of self.new queue) (F.disk files.new) result }
         ensures both { ArePipes self.old (F.disk files.old) → ArePipes self.new (F.disk files.new) }
         ensures others { KeepsOthers queue (F.disk files.old) (F.disk files.new) }
         ensures other { IsAsBefore (pipe_of self.old (other_queue queue)) (F.disk files.old) (pipe_of self.new (other_queue queue)) (F.disk files.new) }
+        ensures later { RefusesNoMore (F.is_bounded files.old) (F.is_bounded files.new) (F.meter files.old) (F.meter files.new) }
+        ensures taken { NothingRefuses (F.is_bounded files.old) (F.meter files.old) → IsOkOrMemory result }
     {
         match queue {
             LogQueue::Append => self.append.close(files),

@@ -3,27 +3,30 @@
 ghost use Rattle.std.specs.Prelude.{◌≡◌, ◌+◌, ◌-◌, ◌*◌, ◌/◌, ◌≤◌, ◌^◌, min, length};
 ghost use Rattle.raft_log_records.specs.declared.file_id.LogQueue.TheVariants.{Append, Rewrite};
 ghost use Rattle.raft_log_pipe.specs.Pipe.{IsPipe, first_of};
-ghost use Rattle.raft_log_pipes.specs.Calls.{IsReadOf};
-ghost use Rattle.raft_log_pipes.specs.Pipes.{AreQueues, pipe_of};
 
 use raft_log_files::{Error, FileSystem};
 use raft_log_pipe::SinglePipe;
 use raft_log_records::{FileBlockHandle, FileSeq, LogQueue};
 
-/// The log files of both queues (raft-engine's `DualPipes`). The file system is passed to each call,
-/// and lies under both: a call on one queue leaves the files of the other as they are.
+/// The log files of both queues (raft-engine's `DualPipes`), each pipe of its queue. The file system
+/// is passed to each call, and lies under both: a call on one queue leaves the files of the other as
+/// they are.
 #[derive(Debug, Drop)]
 pub struct DualPipes {
     pub(crate) append: SinglePipe,
     pub(crate) rewrite: SinglePipe,
+    pub ghost appends: { append.queue ≡ Append },
+    pub ghost rewrites: { rewrite.queue ≡ Rewrite },
 }
 
 impl DualPipes {
+    ghost use Rattle.raft_log_pipes.specs.Calls.{IsReadOf};
+    ghost use Rattle.raft_log_pipes.specs.Pipes.{pipe_of};
+
     /// The pipes of both queues (raft-engine's `open`).
     pub fn open(append: SinglePipe, rewrite: SinglePipe) -> DualPipes
         requires append { append.queue ≡ Append }
         requires rewrite { rewrite.queue ≡ Rewrite }
-        ensures queues { AreQueues result }
         ensures pipes { (result.append ≡ append) × (result.rewrite ≡ rewrite) }
     {
         DualPipes { append, rewrite }

@@ -6,6 +6,9 @@ use Rattle.raft_log_pipe.proofs.AloneLemmas.{alone_on, nearly_on}
 use Rattle.raft_log_pipe.proofs.BlockLemmas.{same_files, then_files}
 use Rattle.raft_log_engine.specs.Held.{HoldsMore}
 use Rattle.raft_log_engine.proofs.Appended.{appended_more, still_stands, synced_more, unsynced_leaves}
+use Rattle.raft_log_disk.proofs.RefusalLemmas.{no_more_then, still_free}
+use Rattle.raft_log_records.specs.declared.file_id.FileBlockHandle.{FileBlockHandle}
+use Rattle.raft_log_engine.proofs.Taken.{sync_for}
 use Rattle.raft_log_engine.proofs.appending.append_batch.Goals as goal
 
 pub returns-then-not-sync-clause-ok : goal.returns-then-not-sync-clause-ok
@@ -41,3 +44,14 @@ returns-clause-files g c =
 pub returns-clause-alone : goal.returns-clause-alone
 returns-clause-alone g c =
     λ alone. alone_on c.append.new.self c.sync.new.self (g.F.FileSystem.disk c.append.new.files) (g.F.FileSystem.disk c.sync.new.files) c.in_ok-sync.ensures.same c.in_ok-sync.ensures.paths c.in_ok-sync.ensures.names (c.in_ok-handle.ensures.alone alone)
+
+pub returns-in_err-sync-clause-later : goal.returns-in_err-sync-clause-later
+returns-in_err-sync-clause-later g c = no_more_then c.in_ok-handle.ensures.later c.in_err-sync.ensures.later
+
+pub returns-clause-later : goal.returns-clause-later
+returns-clause-later g c = no_more_then c.in_ok-handle.ensures.later c.in_ok-sync.ensures.later
+
+pub returns-in_err-sync-clause-taken : goal.returns-in_err-sync-clause-taken
+returns-in_err-sync-clause-taken g c = λ free.
+    sync_for FileBlockHandle c.args.pipe.now (g.F.FileSystem.disk c.args.files.now) c.args.batch.now.items c.from_residual-in_err-sync.result c.in_err-sync.field-0.0 c.from_residual-in_err-sync.ensures.1
+    (c.in_err-sync.ensures.taken (still_free free c.in_ok-handle.ensures.later))

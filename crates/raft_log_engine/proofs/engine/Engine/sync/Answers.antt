@@ -6,6 +6,7 @@ use Rattle.raft_log_engine.proofs.Clauses.{kept_by, parts}
 use Rattle.raft_log_engine.proofs.Reopened.{kept_opens, still_opens}
 use Rattle.raft_log_engine.proofs.Since.{nothing_since, synced_written, unsynced_written, written_opens}
 use Rattle.raft_log_engine.proofs.Tables.{answered, held_answered, kept_held, synced_kept}
+use Rattle.raft_log_engine.proofs.Taken.{failed_sync}
 use Rattle.raft_log_engine.proofs.engine.Engine.sync.Goals as goal
 
 pub returns-then-self-clause-opens_front : goal.returns-then-self-clause-opens_front
@@ -105,3 +106,7 @@ returns-clause-all_written g c =
     let new = parts c.sync.new.files c.sync.new.self c.self.inside.tables c.self.inside.is_stopped c.self.inside.wrote_unsynced in
     let kept = synced_kept d e c.self.inside.append c.sync.new.self c.self.inside.tables held.synced held.unsynced held.held c.in_default.ensures.pipe c.in_default.ensures.same c.in_default.ensures.ok in
     nothing_since (g.F.FileSystem.disk) new (held.synced ++ held.unsynced) kept.holds (answers_on (g.F.FileSystem.disk) new) (answered e c.sync.new.self c.self.inside.tables (held.synced ++ held.unsynced) kept)
+
+pub returns-in-Err-clause-taken : goal.returns-in-Err-clause-taken
+returns-in-Err-clause-taken g c =
+    rw (← c.self.view_is) (λ free. failed_sync (parts c.self.inside.files c.self.inside.append c.self.inside.tables c.self.inside.is_stopped c.self.inside.wrote_unsynced) c.in-Err.error (c.in-Err.ensures.taken free))

@@ -5,6 +5,14 @@ use Rattle.std.proofs.Common.{refl}
 use Rattle.raft_log_pipe.proofs.BlockLemmas.{after_files, same_files, stands_after, stands_ok, then_files}
 use Rattle.raft_log_pipe.proofs.AloneLemmas.{alone_on, err_after, nearly_on, ok_after}
 use Rattle.raft_log_pipe.proofs.OthersLemmas.{others_on}
+use Rattle.raft_log_disk.proofs.RefusalLemmas.{no_more_then, still_free}
+use Rattle.std.proofs.Common.{◌≡◌, ◌⊎◌, inr, ap, ◌∙◌}
+use Rattle.raft_log_disk.specs.Disk.{Disk}
+use Rattle.raft_log_files.specs.Error.{io_error}
+use Rattle.raft_log_records.specs.declared.file_id.FileBlockHandle.{FileBlockHandle}
+use Rattle.raft_log_pipe.specs.declared.pipe.SinglePipe.{SinglePipe}
+use Rattle.raft_log_pipe.specs.Taken.{IsBarred, IsFull, IsTooLarge, IsUnmade, IsUnnumbered}
+use Rattle.raft_log_pipe.proofs.TakenLemmas.{large_before, no_space_large, same_next, still_taken, taken_io, taken_more, told_error, unmade_before, unnumbered_before}
 use Rattle.raft_log_pipe.proofs.pipe.SinglePipe.append.Goals as goal
 
 pub returns-in_err-make_room-clause-err : goal.returns-in_err-make_room-clause-err
@@ -77,3 +85,44 @@ returns-in-Err-clause-others g c =
 pub returns-in-Err-NoSpace-clause-others : goal.returns-in-Err-NoSpace-clause-others
 returns-in-Err-NoSpace-clause-others g c =
     others_on c.args.self.now.queue c.make_room.new.self.queue (g.F.FileSystem.disk c.args.files.now) (g.F.FileSystem.disk c.make_room.new.files) (g.F.FileSystem.disk c.put_again.new.files) (c.in_ok-make_room.ensures.queue) (c.in_ok-make_room.ensures.others) (others_on c.make_room.new.self.queue c.put.new.self.queue (g.F.FileSystem.disk c.make_room.new.files) (g.F.FileSystem.disk c.put.new.files) (g.F.FileSystem.disk c.put_again.new.files) c.in-Err-NoSpace.ensures.same.2 c.in-Err-NoSpace.ensures.others c.put_again.ensures.others)
+
+pub returns-in-Ok-clause-later : goal.returns-in-Ok-clause-later
+returns-in-Ok-clause-later g c = no_more_then c.in_ok-make_room.ensures.later c.in-Ok.ensures.later
+
+pub returns-in-Err-clause-later : goal.returns-in-Err-clause-later
+returns-in-Err-clause-later g c = no_more_then c.in_ok-make_room.ensures.later c.in-Err.ensures.later
+
+pub returns-in-Err-NoSpace-clause-later : goal.returns-in-Err-NoSpace-clause-later
+returns-in-Err-NoSpace-clause-later g c = no_more_then c.in_ok-make_room.ensures.later (no_more_then c.in-Err-NoSpace.ensures.later c.put_again.ensures.later)
+
+pub returns-in-Err-clause-taken : goal.returns-in-Err-clause-taken
+returns-in-Err-clause-taken g c =
+    let p = c.args.self.now in
+    let d = g.F.FileSystem.disk c.args.files.now in
+    let items = c.args.batch.now.items in
+    let needs : Type 0 = IsFull p ⊎ IsTooLarge p items in
+    λ free.
+    told_error FileBlockHandle (needs × IsUnnumbered p) (needs × IsUnmade p d) ((IsFull p × IsBarred p d) ⊎ IsTooLarge p items) c.from.result (io_error c.in-Err.fault) c.from.ensures
+    (taken_io FileBlockHandle FileBlockHandle (needs × IsUnnumbered p) (needs × IsUnmade p d) ((IsFull p × IsBarred p d) ⊎ IsTooLarge p items) c.in-Err.fault
+    (still_taken FileBlockHandle FileBlockHandle ⊥ (IsTooLarge c.make_room.new.self items) (needs × IsUnmade p d) ((IsFull p × IsBarred p d) ⊎ IsTooLarge p items) c.in-Err.fault
+    (λ x. absurd x) (λ large. inr (large_before p c.make_room.new.self _ items c.in_ok-make_room.ensures.room c.requires.items large).0)
+    (c.in-Err.ensures.taken (still_free free c.in_ok-make_room.ensures.later))))
+
+pub returns-in-Err-NoSpace-clause-taken : goal.returns-in-Err-NoSpace-clause-taken
+returns-in-Err-NoSpace-clause-taken g c =
+    let p = c.args.self.now in
+    let m = c.make_room.new.self in
+    let q = c.put.new.self in
+    let d = g.F.FileSystem.disk c.args.files.now in
+    let e = g.F.FileSystem.disk c.put.new.files in
+    let items = c.args.batch.now.items in
+    let needs : Type 0 = IsFull p ⊎ IsTooLarge p items in
+    λ free.
+    let large = large_before p m _ items c.in_ok-make_room.ensures.room c.requires.items
+    (no_space_large FileBlockHandle ⊥ (IsTooLarge m items) c.in-Err-NoSpace.field-0 c.in-Err-NoSpace.field-0-is (c.in-Err-NoSpace.ensures.taken (still_free free c.in_ok-make_room.ensures.later))) in
+    let active : q.active ≡ p.active = c.in-Err-NoSpace.ensures.same.0 ∙ ap (λ (x : SinglePipe). x.active) large.1 in
+    let path = same_next p q active (c.in-Err-NoSpace.ensures.same.2 ∙ ap (λ (x : SinglePipe). x.queue) large.1) (c.in-Err-NoSpace.ensures.paths ∙ ap (λ (x : SinglePipe). x.paths) large.1) in
+    let directories : e.directories ≡ d.directories = c.in-Err-NoSpace.ensures.others.directories ∙ ap (λ (x : Disk). x.directories) large.2 in
+    taken_more (IsUnnumbered q) (IsUnmade q e) (IsBarred q e) (needs × IsUnnumbered p) (needs × IsUnmade p d) ((IsFull p × IsBarred p d) ⊎ IsTooLarge p items) c.put_again.result
+    (λ x. (inr large.0, unnumbered_before p q active x)) (λ x. (inr large.0, unmade_before p q d e path directories x)) (λ x. inr large.0)
+    (c.put_again.ensures.taken (still_free free (no_more_then c.in_ok-make_room.ensures.later c.in-Err-NoSpace.ensures.later)))

@@ -3,6 +3,8 @@ use Rattle.raft_log_disk.specs.Disk.{Disk}
 use Rattle.raft_log_disk.proofs.CauseLemmas.{at_err}
 use Rattle.raft_log_pipe.proofs.ChangeLemmas.{closed_changes, closed_holds, pipe_on, unclosed_leaves}
 use Rattle.raft_log_pipe.proofs.OthersLemmas.{last_others}
+use Rattle.raft_log_disk.specs.Disk.{IsNoFile}
+use Rattle.raft_log_pipe.proofs.TakenLemmas.{exit_io, last_there, still_taken}
 use Rattle.raft_log_pipe.proofs.pipe.SinglePipe.close.Goals as goal
 
 pub returns-in_err-close-clause-pipe : goal.returns-in_err-close-clause-pipe
@@ -36,3 +38,8 @@ pub returns-clause-others : goal.returns-clause-others
 returns-clause-others g c =
     let met = g.met.F.FileSystem g.world.𝓛 g.world.𝓜 g.world.𝓡 ((λ s x. x), (λ x. x), (λ x. x), λ x. x) in
     last_others c.args.self.now _ _ (met.is_named c.args.files.now) c.requires (closed_changes c.args.self.now.writer _ _ (Ok tt) c.in_ok-close.ensures.closes)
+
+pub returns-in_err-close-clause-taken : goal.returns-in_err-close-clause-taken
+returns-in_err-close-clause-taken g c = λ free.
+    exit_io (Unit {0}) (Unit {0}) ⊥ ⊥ ⊥ c.from_residual.result c.in_err-close.field-0.0 c.from_residual.ensures.1
+    (still_taken (Unit {0}) (Unit {0}) (IsNoFile (g.F.FileSystem.disk c.args.files.now) c.args.self.now.writer.fd.0) ⊥ ⊥ ⊥ c.in_err-close.field-0.0 (last_there c.args.self.now _ c.requires) (λ x. x) (c.in_err-close.ensures.taken free))

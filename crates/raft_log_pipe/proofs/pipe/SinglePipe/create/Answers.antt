@@ -9,6 +9,8 @@ use Rattle.raft_log_pipe.specs.Pipe.{IsLast, IsPlain, id_of}
 use Rattle.raft_log_pipe.proofs.NextLemmas.{begun_changes, begun_short}
 use Rattle.raft_log_pipe.proofs.ExitLemmas.{first_holds, first_pipe, last_for}
 use Rattle.raft_log_pipe.proofs.AloneLemmas.{first_alone, made_header, refused_header}
+use Rattle.raft_log_pipe.proofs.NextLemmas.{made_begun}
+use Rattle.raft_log_pipe.proofs.OthersLemmas.{made_others, refused_others}
 use Rattle.raft_log_pipe.proofs.pipe.SinglePipe.create.Goals as goal
 
 pub returns-clause-pipe : goal.returns-clause-pipe
@@ -54,3 +56,18 @@ returns-clause-makes g c =
     (subst (λ (l : List (String Global)). IsMadeIn (g.F.FileSystem.disk c.args.files.now) (g.F.FileSystem.disk c.new_file.new.files) (map string_bytes l) c.new-id.result (Ok c.in_ok-file.file)) c.deref.ensures.value c.in_ok-file.ensures.made)
     (begun_changes (g.F.FileSystem.disk c.new_file.new.files) (g.F.FileSystem.disk c.begin_file.new.files) c.in_ok-file.file c.in_ok-writer.writer c.in_ok-writer.ensures.begun)
     (λ bare least. begun_short (g.F.FileSystem.disk c.new_file.new.files) (g.F.FileSystem.disk c.begin_file.new.files) c.in_ok-file.file c.in_ok-writer.writer (ap length bare) c.in_ok-writer.ensures.begun)
+
+pub returns-in_err-file-clause-others : goal.returns-in_err-file-clause-others
+returns-in_err-file-clause-others g c =
+    let met = g.met.F.FileSystem g.world.𝓛 g.world.𝓜 g.world.𝓡 ((λ s x. x), (λ x. x), (λ x. x), λ x. x) in
+    refused_others c.args.queue _ _ c.new-id.result c.in_err-file.field-0.0 (met.is_named c.args.files.now) c.in_err-file.ensures.created c.new-id.ensures.queue
+
+pub returns-in_err-writer-clause-others : goal.returns-in_err-writer-clause-others
+returns-in_err-writer-clause-others g c =
+    let met = g.met.F.FileSystem g.world.𝓛 g.world.𝓜 g.world.𝓡 ((λ s x. x), (λ x. x), (λ x. x), λ x. x) in
+    made_others c.args.queue _ _ c.new-id.result (met.is_named c.args.files.now) (made_begun _ _ _ c.in_ok-file.file _ c.in_ok-file.ensures.created c.in_err-writer.ensures.begun.0) c.new-id.ensures.queue
+
+pub returns-clause-others : goal.returns-clause-others
+returns-clause-others g c =
+    let met = g.met.F.FileSystem g.world.𝓛 g.world.𝓜 g.world.𝓡 ((λ s x. x), (λ x. x), (λ x. x), λ x. x) in
+    made_others c.args.queue _ _ c.new-id.result (met.is_named c.args.files.now) (made_begun _ _ _ c.in_ok-file.file _ c.in_ok-file.ensures.created (begun_changes _ _ c.in_ok-file.file c.in_ok-writer.writer c.in_ok-writer.ensures.begun)) c.new-id.ensures.queue

@@ -2,6 +2,7 @@ use Rattle.raft_log_pipe.proofs.ExitLemmas.{then_holds, then_leaves}
 use Rattle.raft_log_pipe.proofs.GiveUpLemmas.{ended_leaves}
 use Rattle.raft_log_pipe.proofs.AloneLemmas.{alone_on, nearly, nearly_on}
 use Rattle.raft_log_pipe.proofs.OthersLemmas.{others_on}
+use Rattle.raft_log_disk.proofs.RefusalLemmas.{no_more_then}
 use Rattle.raft_log_pipe.proofs.pipe.SinglePipe.give_up.Goals as goal
 
 pub returns-in-Ok-clause-leaves : goal.returns-in-Ok-clause-leaves
@@ -31,3 +32,6 @@ returns-in-Ok-clause-others g c =
 pub returns-in-Err-go_on-clause-others : goal.returns-in-Err-go_on-clause-others
 returns-in-Err-go_on-clause-others g c =
     others_on c.args.self.now.queue c.finish.new.self.queue (g.F.FileSystem.disk c.args.files.now) (g.F.FileSystem.disk c.finish.new.files) (g.F.FileSystem.disk c.go_on.new.files) (c.in_default.ensures.same.2) (c.in_default.ensures.others) (c.in-Err-go_on.ensures.others)
+
+pub returns-in-Err-go_on-clause-later : goal.returns-in-Err-go_on-clause-later
+returns-in-Err-go_on-clause-later g c = no_more_then c.in_default.ensures.later c.in-Err-go_on.ensures.later

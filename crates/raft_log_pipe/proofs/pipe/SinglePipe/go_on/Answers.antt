@@ -11,6 +11,11 @@ use Rattle.raft_log_pipe.proofs.ExitLemmas.{last_for, pushed_holds, refused_leav
 use Rattle.raft_log_pipe.proofs.NextLemmas.{begun_changes, made_begun, made_leaves, made_writer, next_pipe}
 use Rattle.raft_log_pipe.proofs.AloneLemmas.{next_alone, refused_nearly, unbegun_nearly, unpushed_nearly}
 use Rattle.raft_log_pipe.proofs.OthersLemmas.{made_others, refused_others}
+use Rattle.raft_log_disk.specs.Disk.{IsNoFile}
+use Rattle.raft_log_disk.proofs.RefusalLemmas.{no_more_then, still_free}
+use Rattle.raft_log_pipe.proofs.TakenLemmas.{exit_fault, made_there}
+use Rattle.raft_log_file.specs.declared.writer.LogFileWriter.{LogFileWriter}
+use Rattle.raft_log_pipe.specs.Taken.{IsBarred, IsUnmade}
 use Rattle.raft_log_pipe.proofs.pipe.SinglePipe.go_on.Goals as goal
 
 pub returns-in_err-file-clause-writer : goal.returns-in_err-file-clause-writer
@@ -96,3 +101,13 @@ pub returns-clause-others : goal.returns-clause-others
 returns-clause-others g c =
     let met = g.met.F.FileSystem g.world.𝓛 g.world.𝓜 g.world.𝓡 ((λ s x. x), (λ x. x), (λ x. x), λ x. x) in
     made_others c.args.self.now.queue _ _ c.new-id.result (met.is_named c.args.files.now) (made_begun _ _ _ c.in_ok-file.file _ c.in_ok-file.ensures.created (begun_changes _ _ c.in_ok-file.file c.in_ok-writer.writer c.in_ok-writer.ensures.begun)) c.new-id.ensures.queue
+
+pub returns-in_err-writer-clause-later : goal.returns-in_err-writer-clause-later
+returns-in_err-writer-clause-later g c = no_more_then c.in_ok-file.ensures.later c.in_err-writer.ensures.later
+
+pub returns-in_err-writer-clause-taken : goal.returns-in_err-writer-clause-taken
+returns-in_err-writer-clause-taken g c = λ free.
+    exit_fault LogFileWriter (Unit {0}) (IsNoFile (g.F.FileSystem.disk c.new_file.new.files) c.in_ok-file.file.handle.0) ⊥ (IsUnmade c.args.self.now (g.F.FileSystem.disk c.args.files.now)) (IsBarred c.args.self.now (g.F.FileSystem.disk c.args.files.now))
+    c.from_residual-in_err-writer.result c.in_err-writer.field-0.0 c.from_residual-in_err-writer.ensures.1
+    (λ none. absurd (made_there _ _ _ c.in_ok-file.file c.in_ok-file.ensures.created none)) (λ x. absurd x)
+    (c.in_err-writer.ensures.taken (still_free free c.in_ok-file.ensures.later))

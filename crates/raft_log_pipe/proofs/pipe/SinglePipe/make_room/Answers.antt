@@ -2,6 +2,10 @@ use Rattle.raft_log_pipe.proofs.ExitLemmas.{rotated_ok}
 use Rattle.raft_log_pipe.proofs.BlockLemmas.{next_files}
 use Rattle.std.proofs.Common.{refl}
 use Rattle.raft_log_pipe.proofs.OthersLemmas.{same_others}
+use Rattle.std.proofs.Common.{inr, arith, ◌≤◌}
+use Rattle.std.proofs.lemmas.Result.{on_ok_weaker}
+use Rattle.raft_log_pipe.specs.Taken.{IsBarred, IsFull, IsUnmade, IsUnnumbered}
+use Rattle.raft_log_pipe.proofs.TakenLemmas.{taken_more}
 use Rattle.raft_log_pipe.proofs.pipe.SinglePipe.make_room.Goals as goal
 
 pub returns-clause-ok : goal.returns-clause-ok
@@ -13,3 +17,14 @@ returns-clause-files g c = next_files c.rotate.result c.args.self.now c.rotate.n
 pub returns-then-offset-self-clause-others : goal.returns-then-offset-self-clause-others
 returns-then-offset-self-clause-others g c =
     same_others c.args.self.now.queue _ _ refl
+
+pub returns-clause-room : goal.returns-clause-room
+returns-clause-room g c = on_ok_weaker c.rotate.result inr c.rotate.ensures.begun
+
+pub returns-clause-taken : goal.returns-clause-taken
+returns-clause-taken g c =
+    let full : IsFull c.args.self.now = omega (arith, c.if-offset-self.false, c.offset.ensures) in
+    let d = g.F.FileSystem.disk c.args.files.now in
+    λ free. taken_more (IsUnnumbered c.args.self.now) (IsUnmade c.args.self.now d) (IsBarred c.args.self.now d)
+    (IsFull c.args.self.now × IsUnnumbered c.args.self.now) (IsFull c.args.self.now × IsUnmade c.args.self.now d) (IsFull c.args.self.now × IsBarred c.args.self.now d) c.rotate.result
+    (λ x. (full, x)) (λ x. (full, x)) (λ x. (full, x)) (c.rotate.ensures.taken free)

@@ -5,6 +5,11 @@ use Rattle.raft_log_pipe.proofs.BlockLemmas.{more_files, same_files, stands_afte
 use Rattle.raft_log_pipe.proofs.GiveUpLemmas.{given_up}
 use Rattle.raft_log_pipe.proofs.AloneLemmas.{alone_on, nearly_on}
 use Rattle.raft_log_pipe.proofs.OthersLemmas.{others_on}
+use Rattle.raft_log_disk.proofs.RefusalLemmas.{no_more_then, still_free}
+use Rattle.raft_log_files.specs.Error.{io_error, second_append_error}
+use Rattle.raft_log_records.specs.declared.file_id.FileBlockHandle.{FileBlockHandle}
+use Rattle.raft_log_pipe.specs.Taken.{IsBarred, IsTooLarge, IsUnmade, IsUnnumbered}
+use Rattle.raft_log_pipe.proofs.TakenLemmas.{barred_before, fits_new, no_space_large, same_next, still_taken, taken_io, taken_second, told_error, unmade_before}
 use Rattle.raft_log_pipe.proofs.pipe.SinglePipe.put_again.Goals as goal
 
 pub returns-in_err-finish-clause-err : goal.returns-in_err-finish-clause-err
@@ -84,3 +89,41 @@ returns-in-Err-put-clause-others g c =
 pub returns-in-Err-NoSpace-clause-others : goal.returns-in-Err-NoSpace-clause-others
 returns-in-Err-NoSpace-clause-others g c =
     others_on c.args.self.now.queue c.finish.new.self.queue (g.F.FileSystem.disk c.args.files.now) (g.F.FileSystem.disk c.finish.new.files) (g.F.FileSystem.disk c.give_up.new.files) (c.in_ok-finish.ensures.same.2) (c.in_ok-finish.ensures.others) (others_on c.finish.new.self.queue c.go_on.new.self.queue (g.F.FileSystem.disk c.finish.new.files) (g.F.FileSystem.disk c.go_on.new.files) (g.F.FileSystem.disk c.give_up.new.files) c.in-Ok.ensures.queue c.in-Ok.ensures.others (others_on c.go_on.new.self.queue c.put.new.self.queue (g.F.FileSystem.disk c.go_on.new.files) (g.F.FileSystem.disk c.put.new.files) (g.F.FileSystem.disk c.give_up.new.files) c.in-Err-NoSpace.ensures.same.2 c.in-Err-NoSpace.ensures.others c.give_up.ensures.others))
+
+pub returns-in-Ok-put-clause-later : goal.returns-in-Ok-put-clause-later
+returns-in-Ok-put-clause-later g c = no_more_then c.in_ok-finish.ensures.later (no_more_then c.in-Ok.ensures.later c.in-Ok-put.ensures.later)
+
+pub returns-in-Err-put-clause-later : goal.returns-in-Err-put-clause-later
+returns-in-Err-put-clause-later g c = no_more_then c.in_ok-finish.ensures.later (no_more_then c.in-Ok.ensures.later c.in-Err-put.ensures.later)
+
+pub returns-in-Err-NoSpace-clause-later : goal.returns-in-Err-NoSpace-clause-later
+returns-in-Err-NoSpace-clause-later g c = no_more_then c.in_ok-finish.ensures.later (no_more_then c.in-Ok.ensures.later (no_more_then c.in-Err-NoSpace.ensures.later c.give_up.ensures.later))
+
+pub returns-in-Err-clause-taken : goal.returns-in-Err-clause-taken
+returns-in-Err-clause-taken g c =
+    let d = g.F.FileSystem.disk c.args.files.now in
+    let e = g.F.FileSystem.disk c.finish.new.files in
+    let path = same_next c.args.self.now c.finish.new.self c.in_ok-finish.ensures.same.0 c.in_ok-finish.ensures.same.2 c.in_ok-finish.ensures.paths in
+    λ free.
+    told_error FileBlockHandle (IsUnnumbered c.args.self.now) (IsUnmade c.args.self.now d) (IsBarred c.args.self.now d) c.of_second_append.result (second_append_error c.in-Err.fault) c.of_second_append.ensures
+    (taken_second (Unit {0}) FileBlockHandle (IsUnnumbered c.args.self.now) (IsUnmade c.args.self.now d) (IsBarred c.args.self.now d) c.in-Err.fault
+    (still_taken (Unit {0}) (Unit {0}) (IsUnmade c.finish.new.self e) (IsBarred c.finish.new.self e) (IsUnmade c.args.self.now d) (IsBarred c.args.self.now d) c.in-Err.fault
+    (unmade_before c.args.self.now c.finish.new.self d e path c.in_ok-finish.ensures.others.directories)
+    (barred_before c.args.self.now c.finish.new.self d e path c.in_ok-finish.ensures.others.directories c.in_ok-finish.ensures.next)
+    (c.in-Err.ensures.taken (still_free free c.in_ok-finish.ensures.later))))
+
+pub returns-in-Err-put-clause-taken : goal.returns-in-Err-put-clause-taken
+returns-in-Err-put-clause-taken g c =
+    let d = g.F.FileSystem.disk c.args.files.now in
+    λ free.
+    told_error FileBlockHandle (IsUnnumbered c.args.self.now) (IsUnmade c.args.self.now d) (IsBarred c.args.self.now d) c.from.result (io_error c.in-Err-put.fault) c.from.ensures
+    (taken_io FileBlockHandle FileBlockHandle (IsUnnumbered c.args.self.now) (IsUnmade c.args.self.now d) (IsBarred c.args.self.now d) c.in-Err-put.fault
+    (still_taken FileBlockHandle FileBlockHandle ⊥ (IsTooLarge c.go_on.new.self c.args.batch.now.items) (IsUnmade c.args.self.now d) (IsBarred c.args.self.now d) c.in-Err-put.fault
+    (λ x. absurd x) (λ large. absurd (fits_new c.go_on.new.self c.args.batch.now.items c.in-Ok.ensures.begun c.requires.items large))
+    (c.in-Err-put.ensures.taken (still_free free (no_more_then c.in_ok-finish.ensures.later c.in-Ok.ensures.later)))))
+
+pub returns-in-Err-NoSpace-clause-taken : goal.returns-in-Err-NoSpace-clause-taken
+returns-in-Err-NoSpace-clause-taken g c = λ free.
+    absurd (fits_new c.go_on.new.self c.args.batch.now.items c.in-Ok.ensures.begun c.requires.items
+    (no_space_large FileBlockHandle ⊥ (IsTooLarge c.go_on.new.self c.args.batch.now.items) c.in-Err-NoSpace.field-0 c.in-Err-NoSpace.field-0-is
+    (c.in-Err-NoSpace.ensures.taken (still_free free (no_more_then c.in_ok-finish.ensures.later c.in-Ok.ensures.later)))))

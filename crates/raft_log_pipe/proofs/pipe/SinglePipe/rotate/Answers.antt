@@ -3,6 +3,7 @@ use Rattle.raft_log_disk.proofs.CauseLemmas.{at_err}
 use Rattle.raft_log_pipe.proofs.ExitLemmas.{then_holds, then_leaves}
 use Rattle.raft_log_pipe.proofs.AloneLemmas.{alone_on, nearly_on}
 use Rattle.raft_log_pipe.proofs.OthersLemmas.{others_on}
+use Rattle.raft_log_disk.proofs.RefusalLemmas.{no_more_then, still_free}
 use Rattle.raft_log_pipe.proofs.pipe.SinglePipe.rotate.Goals as goal
 
 pub returns-in_err-go_on-clause-err : goal.returns-in_err-go_on-clause-err
@@ -30,3 +31,6 @@ returns-in_err-go_on-clause-others g c =
 pub returns-clause-others : goal.returns-clause-others
 returns-clause-others g c =
     others_on c.args.self.now.queue c.finish.new.self.queue (g.F.FileSystem.disk c.args.files.now) (g.F.FileSystem.disk c.finish.new.files) (g.F.FileSystem.disk c.go_on.new.files) (c.in_ok-finish.ensures.same.2) (c.in_ok-finish.ensures.others) (c.in_ok-go_on.ensures.others)
+
+pub returns-in_err-go_on-clause-later : goal.returns-in_err-go_on-clause-later
+returns-in_err-go_on-clause-later g c = no_more_then c.in_ok-finish.ensures.later c.in_err-go_on.ensures.later

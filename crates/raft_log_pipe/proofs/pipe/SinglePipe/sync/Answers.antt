@@ -2,6 +2,8 @@ use Rattle.std.proofs.Common.{refl}
 use Rattle.raft_log_pipe.proofs.ChangeLemmas.{pipe_on, synced_holds, synced_writer}
 use Rattle.raft_log_pipe.proofs.PipeLemmas.{changes}
 use Rattle.raft_log_pipe.proofs.OthersLemmas.{last_others, same_others}
+use Rattle.raft_log_disk.specs.Disk.{IsNoFile}
+use Rattle.raft_log_pipe.proofs.TakenLemmas.{exit_io, last_there, still_taken}
 use Rattle.raft_log_pipe.proofs.pipe.SinglePipe.sync.Goals as goal
 
 pub returns-clause-pipe : goal.returns-clause-pipe
@@ -18,3 +20,8 @@ pub returns-clause-others : goal.returns-clause-others
 returns-clause-others g c =
     let met = g.met.F.FileSystem g.world.𝓛 g.world.𝓜 g.world.𝓡 ((λ s x. x), (λ x. x), (λ x. x), λ x. x) in
     last_others c.args.self.now _ _ (met.is_named c.args.files.now) c.requires (changes _ _ _ _ c.in_ok-sync.ensures.ok)
+
+pub returns-in_err-sync-clause-taken : goal.returns-in_err-sync-clause-taken
+returns-in_err-sync-clause-taken g c = λ free.
+    exit_io (Unit {0}) (Unit {0}) ⊥ ⊥ ⊥ c.from_residual.result c.in_err-sync.field-0.0 c.from_residual.ensures.1
+    (still_taken (Unit {0}) (Unit {0}) (IsNoFile (g.F.FileSystem.disk c.args.files.now) c.args.self.now.writer.fd.0) ⊥ ⊥ ⊥ c.in_err-sync.field-0.0 (last_there c.args.self.now _ c.requires) (λ x. x) (c.in_err-sync.ensures.taken free))

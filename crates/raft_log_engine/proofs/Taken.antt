@@ -1,0 +1,132 @@
+-- Why a write or a sync is refused where nothing is set to refuse.
+use Rattle.std.proofs.Common.{◌≡◌, ◌⊎◌, inl, inr, ℕ, ◌+◌, ◌^◌, ◌<◌, ◌≤◌, Bool, true, [], ◌∷◌, Option, Some, None, List, refl, sym, ap, subst, ◌∙◌, arith, length}
+use Rattle.std.specs.Prelude.{Result, Ok, Err, IfSome}
+use Rattle.std.specs.Result.{IsErrAnd}
+use Rattle.std.proofs.lemmas.Result.{err_from_is_err_and}
+use Rattle.raft_log_records.specs.declared.block.EntriesBlock.{EntriesBlock}
+use Rattle.raft_log_records.specs.declared.file_id.FileBlockHandle.{FileBlockHandle}
+use Rattle.raft_log_records.specs.Batch.{populated}
+use Rattle.raft_log_records.specs.Batch as batch
+use Rattle.raft_log_records.specs.Block.{StandsIn}
+use Rattle.raft_log_records.specs.Spelling.{block_of, record_len, spell_record}
+use Rattle.raft_log_disk.specs.Disk.{Disk}
+use Rattle.raft_log_files.specs.declared.error.Error.{Error}
+use Rattle.raft_log_files.specs.declared.error.Error.TheVariants.{Io, Corruption, InvalidArgument, TryAgain, Memory, Other, EntryCompacted, EntryNotFound}
+use Rattle.raft_log_file.specs.Laws.{Batch}
+use Rattle.raft_log_file.proofs.LawLemmas.{length-spelled}
+use Rattle.raft_log_file.proofs.UnsyncedLemmas.{spelled_long}
+use Rattle.raft_log_pipe.specs.declared.pipe.SinglePipe.{SinglePipe}
+use Rattle.raft_log_pipe.specs.Taken.{IsAppendTaken, IsBarred, IsFull, IsOkOrMemory, IsTakenBy, IsTooLarge, IsUnmade, IsUnnumbered}
+use Rattle.raft_log_pipe.proofs.TakenLemmas.{exit_error, taken_for}
+use Rattle.raft_log_memtables.specs.declared.memtables.MemTables.{MemTables}
+use Rattle.raft_log_engine.specs.Held.{Parts}
+use Rattle.raft_log_engine.specs.Taken.{IsMarked, IsNotTaken, IsRefusedBatch, IsSyncTaken, IsTakenUnless, IsWriteTaken}
+use Rattle.raft_log_engine.specs.declared.fault.EngineFault.{EngineFault}
+use Rattle.raft_log_engine.specs.declared.fault.EngineFault.TheVariants.{Log, NotTaken, Marked, NotAMessage, Stopped}
+
+-- ---- the length of a record
+
+pub populated_long : (items : Batch) → (items ≡ [] → ⊥) → length (batch.encoded_of (populated items)) ≡ record_len items
+populated_long [] some = absurd (some refl)
+populated_long (item ∷ items) some = length-spelled None (item ∷ items)
+
+-- the block of a record's entries begins in the file where the record lies in it
+pub block_fits : (items : Batch) (start : ℕ) (block : Option EntriesBlock) → ((signature : Option ℕ) → StandsIn (spell_record signature items) items (block_of items) block) → start + record_len items < 2 ^ 64 → IfSome block (λ b. start + b.offset < 2 ^ 64)
+block_fits items start None stands fits = tt
+block_fits items start (Some b) stands fits = omega (arith, (stands None).1, spelled_long None items, length-spelled None items, fits)
+
+-- ---- an append, with a sync behind it
+
+pub sync_for : (T : Type 0) (p : SinglePipe) (d : Disk) (items : Batch) (r : Result T Error) (x : Error) → IsErrAnd r (λ e. e ≡ x) → IsTakenBy {T = Unit {0}} ⊥ ⊥ ⊥ (Err x) → IsAppendTaken p d items r
+sync_for T p d items r x is why =
+    let needs : Type 0 = IsFull p ⊎ IsTooLarge p items in
+    exit_error (needs × IsUnnumbered p) (needs × IsUnmade p d) ((IsFull p × IsBarred p d) ⊎ IsTooLarge p items) r x is
+    (taken_for (Unit {0}) T ⊥ ⊥ ⊥ (needs × IsUnnumbered p) (needs × IsUnmade p d) ((IsFull p × IsBarred p d) ⊎ IsTooLarge p items) x (λ no. absurd no) (λ no. absurd no) (λ no. absurd no) why)
+
+-- ---- what the engine's calls answer
+
+pub exit_fault : {T : Type 0} (s m u n a b : Type 0) (r : Result T EngineFault) (x : EngineFault) → IsErrAnd r (λ e. e ≡ x) → IsTakenUnless {T = T} s m u n a b (Err x) → IsTakenUnless s m u n a b r
+exit_fault {T = T} s m u n a b r x is why = let p = err_from_is_err_and r is in subst (λ (q : Result T EngineFault). IsTakenUnless s m u n a b q) (sym (p.1 ∙ ap Err p.2)) why
+
+refused_first : (T s n a b : Type 0) (tables : MemTables) (items : Batch) (x : EngineFault) → IsRefusedBatch tables items x → IsTakenUnless {T = T} s (IsMarked items) (IsNotTaken tables items) n a b (Err x)
+refused_first T s n a b tables items Marked why = why
+refused_first T s n a b tables items NotTaken why = why
+refused_first T s n a b tables items NotAMessage why = absurd why
+refused_first T s n a b tables items Stopped why = absurd why
+refused_first T s n a b tables items (Log Memory) why = tt
+refused_first T s n a b tables items (Log (Io f)) why = absurd why
+refused_first T s n a b tables items (Log (Corruption f)) why = absurd why
+refused_first T s n a b tables items (Log (InvalidArgument f)) why = absurd why
+refused_first T s n a b tables items (Log TryAgain) why = absurd why
+refused_first T s n a b tables items (Log (Other f)) why = absurd why
+refused_first T s n a b tables items (Log EntryCompacted) why = absurd why
+refused_first T s n a b tables items (Log EntryNotFound) why = absurd why
+
+-- the reasons of an append, in a write
+logged : (S T s m u n a b : Type 0) (x : Error) → IsTakenBy {T = S} n a b (Err x) → IsTakenUnless {T = T} s m u n a b (Err (Log x))
+logged S T s m u n a b x why = taken_for S (Unit {0}) n a b n a b x (λ y. y) (λ y. y) (λ y. y) why
+
+module _ {F : Type 0} (T : Type 0) (disk : F → Disk) (e : Parts F) (items : Batch) where
+  pub stopped_write : e.is_stopped ≡ true → IsWriteTaken {T = T} disk e items (Err Stopped)
+  stopped_write is = by_items items
+    where
+      by_items : (more : Batch) → IsWriteTaken {T = T} disk e more (Err Stopped)
+      by_items [] = is
+      by_items (item ∷ more) = is
+
+  -- a batch that is refused before it is written
+  pub refused_write : (items ≡ [] → ⊥) → (r : Result T EngineFault) (x : EngineFault) → IsErrAnd r (λ y. y ≡ x) → IsRefusedBatch e.tables items x → IsWriteTaken disk e items r
+  refused_write some r x is why = by_items items some why
+    where
+      by_items : (more : Batch) → (more ≡ [] → ⊥) → IsRefusedBatch e.tables more x → IsWriteTaken disk e more r
+      by_items [] none so = absurd (none refl)
+      by_items (item ∷ more) none so =
+          exit_fault (e.is_stopped ≡ true) (IsMarked (item ∷ more)) (IsNotTaken e.tables (item ∷ more))
+          ((IsFull e.append ⊎ IsTooLarge e.append (item ∷ more)) × IsUnnumbered e.append) ((IsFull e.append ⊎ IsTooLarge e.append (item ∷ more)) × IsUnmade e.append (disk e.files))
+          ((IsFull e.append × IsBarred e.append (disk e.files)) ⊎ IsTooLarge e.append (item ∷ more)) r x is
+          (refused_first T (e.is_stopped ≡ true)
+          ((IsFull e.append ⊎ IsTooLarge e.append (item ∷ more)) × IsUnnumbered e.append) ((IsFull e.append ⊎ IsTooLarge e.append (item ∷ more)) × IsUnmade e.append (disk e.files))
+          ((IsFull e.append × IsBarred e.append (disk e.files)) ⊎ IsTooLarge e.append (item ∷ more)) e.tables (item ∷ more) x so)
+
+  -- an append that was refused
+  pub failed_write : (items ≡ [] → ⊥) → (x : Error) → IsAppendTaken {T = FileBlockHandle} e.append (disk e.files) items (Err x) → IsWriteTaken {T = T} disk e items (Err (Log x))
+  failed_write some x why = by_items items some why
+    where
+      by_items : (more : Batch) → (more ≡ [] → ⊥) → IsAppendTaken {T = FileBlockHandle} e.append (disk e.files) more (Err x) → IsWriteTaken {T = T} disk e more (Err (Log x))
+      by_items [] none so = absurd (none refl)
+      by_items (item ∷ more) none so =
+          logged FileBlockHandle T (e.is_stopped ≡ true) (IsMarked (item ∷ more)) (IsNotTaken e.tables (item ∷ more))
+          ((IsFull e.append ⊎ IsTooLarge e.append (item ∷ more)) × IsUnnumbered e.append) ((IsFull e.append ⊎ IsTooLarge e.append (item ∷ more)) × IsUnmade e.append (disk e.files))
+          ((IsFull e.append × IsBarred e.append (disk e.files)) ⊎ IsTooLarge e.append (item ∷ more)) x so
+
+  -- want of memory behind it
+  pub unapplied_write : (y : EngineFault) → y ≡ Log Memory → IsWriteTaken {T = T} disk e items (Err y)
+  unapplied_write y is = by_items items
+    where
+      by_items : (more : Batch) → IsWriteTaken {T = T} disk e more (Err y)
+      by_items [] = subst (λ (z : EngineFault). IsWriteTaken {T = T} disk e [] (Err z)) (sym is) tt
+      by_items (item ∷ more) = subst (λ (z : EngineFault). IsWriteTaken {T = T} disk e (item ∷ more) (Err z)) (sym is) tt
+
+  pub done_write : (x : T) → IsWriteTaken disk e items (Ok x)
+  done_write x = by_items items
+    where
+      by_items : (more : Batch) → IsWriteTaken disk e more (Ok x)
+      by_items [] = tt
+      by_items (item ∷ more) = tt
+
+  -- a sync of an empty batch
+  pub synced_write : items ≡ [] → (S : Type 0) (r : Result T EngineFault) (x : EngineFault) → IsErrAnd r (λ y. y ≡ x) → IsSyncTaken {T = S} e (Err x) → IsWriteTaken disk e items r
+  synced_write none S r x is why =
+      subst (λ (more : Batch). IsWriteTaken disk e more r) (sym none)
+      (exit_fault (e.is_stopped ≡ true) ⊥ ⊥ ⊥ ⊥ ⊥ r x is (same x why))
+    where
+      same : (y : EngineFault) → IsSyncTaken {T = S} e (Err y) → IsSyncTaken {T = T} e (Err y)
+      same Stopped so = so
+      same Marked so = so
+      same NotTaken so = so
+      same NotAMessage so = so
+      same (Log z) so = so
+
+-- a sync that was refused
+pub failed_sync : {F : Type 0} (e : Parts F) (x : Error) → IsOkOrMemory {T = Unit {0}} (Err x) → IsSyncTaken {T = Unit {0}} e (Err (Log x))
+failed_sync e x why = why
