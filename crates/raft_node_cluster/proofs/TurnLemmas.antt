@@ -148,8 +148,8 @@ module _ {N : Type 0} (acts : NodeActs N) where
   settled : (sent later : Sent) (event : ClusterEvent) (old new : N) (answered : Answered) (o : EventOutcome) → Settles acts sent event old answered o later new → Grows sent later
   settled sent later event old new (Ok outcomes) o (inl done) group k frame e =
       ap (λ frames. slice_get frames k) (done.sends.sends group) ∙ after_all sent (acts.id old) outcomes group k frame e
-  settled sent later event old new (Ok outcomes) o (inr lacks) = as_it_was sent later lacks.sends
-  settled sent later event old new (Err error) o over = as_it_was sent later over.sends
+  settled sent later event old new (Ok outcomes) o (inr lacks) group k frame e = as_it_was sent later lacks.sends group k frame e
+  settled sent later event old new (Err error) o over group k frame e = as_it_was sent later over.sends group k frame e
 
   pub grows : (nodes new : List N) (sent later : Sent) (history : List Recorded) (event : ClusterEvent) (o : EventOutcome) → Happens acts nodes sent history event o new later → Grows sent later
   grows nodes new sent later history event o = go (refusal_in acts nodes sent history event)

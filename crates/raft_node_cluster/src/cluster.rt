@@ -10,7 +10,7 @@ ghost use Rattle.raft_node_cluster.specs.Round.{Rounds, is_for_nodes, is_round};
 
 use crate::facts::node_of;
 use crate::round::{RoundRefusal, ids_of, is_round, settle_all, work_all};
-use crate::slot::{Slot, take_turn};
+use crate::slot::{Slot, slot_of, take_turn};
 use raft_cluster_events::{ClusterEvent, ClusterNode, Recorded};
 use raft_sent_frames::{SentFrame, SentFrames};
 use std::alloc::{AllocError, Global};
@@ -112,8 +112,10 @@ impl<N: ClusterNode> Cluster<N> {
     pub fn node(&self, id: u64) -> Option<&N>
         ensures { option_copied result ≡ node_in N.acts self.now.nodes id }
     {
-        let slot = self.slots.iter().find(|slot| slot.node.id() == id)?;
-        Some(&slot.node)
+        match slot_of(self.slots.as_slice(), id) {
+            Some(slot) => Some(&slot.node),
+            None => None,
+        }
     }
 
     /// The id of the node that an event is for; none where it delivers a frame that wasn't sent.

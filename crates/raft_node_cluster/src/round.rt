@@ -1,5 +1,5 @@
 //! The events of a round, each for another node, come to their nodes at once.
-ghost use Rattle.std.specs.Prelude.{◌≡◌, ◌≤◌, ◌+◌, ◌==◌, ℕ, List, Some, None, length, map, position, slice_get, vec_capacity, vec_len, IfOk, IfSome};
+ghost use Rattle.std.specs.Prelude.{◌≡◌, ◌≤◌, ◌+◌, ◌==◌, ℕ, List, Some, None, length, map, position, slice_get, true, vec_capacity, vec_len, IfOk, IfSome};
 ghost use Rattle.std.specs.Bool.{OnTrue};
 ghost use Rattle.std.specs.List.{list_any};
 ghost use Rattle.raft_sent_frames.specs.Frames.{frames_of};

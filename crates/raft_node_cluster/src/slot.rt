@@ -1,5 +1,7 @@
 //! A node's place in a cluster.
 ghost use Rattle.std.specs.Prelude.{◌≡◌, ◌<◌, ◌==◌, None, length, map, position, IfOk, IfSome, OnErr};
+ghost use Rattle.std.specs.List.{find};
+ghost use Rattle.std.specs.Option.{option_copied};
 ghost use Rattle.raft_sent_frames.specs.Frames.{frames_of};
 ghost use Rattle.raft_cluster_events.specs.declared.outcome.CrashRefusal.TheVariants.{Memory};
 ghost use Rattle.raft_node_cluster.specs.Facts.{place_in, node_of};
@@ -41,8 +43,7 @@ impl<N: ClusterNode> Slot<N> {
     ) -> Result<EventOutcome, AllocError>
         ensures left { self.new.answer ≡ None }
         ensures ok { IfOk result (λ o. (before : _) → IsAtTurn N.acts (frames_of sent.old) history.now event.now before self.old.node self.old.answer → HappensAt N.acts before (frames_of sent.old) history.now event.now o (frames_of sent.new) self.new.node) }
-        ensures memory { OnErr result (RefusesFor N.acts event.now self.old.node Memory) }
-        ensures answer { OnErr result (self.old.answer ≡ None) }
+        ensures memory { OnErr result ((self.old.answer ≡ None) × RefusesFor N.acts event.now self.old.node Memory) }
         ensures node { OnErr result (self.new.node ≡ self.old.node) }
         ensures frames { OnErr result (sent.new ≡ sent.old) }
     {
@@ -51,6 +52,13 @@ impl<N: ClusterNode> Slot<N> {
             None => happen_at(alloc, sent, history, &mut self.node, event),
         }
     }
+}
+
+/// The first one of these whose node has this id, lent, if there is one.
+pub fn slot_of<N: ClusterNode>(slots: &[Slot<N>], id: u64) -> Option<&Slot<N>>
+    ensures { option_copied result ≡ find (λ slot. N.acts.id slot.node == id) slots.now }
+{
+    slots.iter().find(|slot| slot.node.id() == id)
 }
 
 // Where the first node of this id stands among these, if one does.
