@@ -13,6 +13,7 @@ use Rattle.raft_cluster_conditions.specs.declared.reasons.ClusterRefusal.{Cluste
 use Rattle.raft_cluster_conditions.specs.declared.reasons.Asked.TheVariants as asks
 use Rattle.raft_cluster_conditions.specs.Refusal.{refusal_of}
 use Rattle.raft_sent_frames.specs.declared.frame.SentFrame.{SentFrame}
+use Rattle.raft_sent_frames.specs.Frames.{frames_of}
 use Rattle.raft_cluster_events.specs.declared.event.ClusterEvent.{ClusterEvent}
 use Rattle.raft_cluster_events.specs.declared.event.ClusterEvent.TheVariants.{AddGroup, Ask, Deliver, ResetPeer, Fuse, Crash, Reopen}
 use Rattle.raft_cluster_events.specs.declared.outcome.CrashRefusal.TheVariants.{Memory}
@@ -22,7 +23,7 @@ use Rattle.raft_cluster_events.specs.Node.{NodeActs}
 use Rattle.raft_node_laws.specs.Answered.{Answered}
 use Rattle.raft_node_cluster.specs.declared.answer.Answer.{Answer}
 use Rattle.raft_node_cluster.specs.declared.answer.Answer.TheVariants.{OfGroup, Quiet, Opened, Spared}
-use Rattle.raft_node_cluster.specs.Cluster.{ClusterValue, Happens, HappensBy, Runs, RunsTo, events_of, refusal_in}
+use Rattle.raft_node_cluster.specs.Cluster.{ClusterValue, Happens, HappensBy, IsReached, Runs, RunsTo, events_of, nothing_sent, refusal_in}
 use Rattle.raft_node_cluster.specs.Facts.{Sent, asked_of, cuts_of, delivered, differs, differs_from, is_taken, membership_in, node_at, node_of, node_there, place_in, set_up_by, set_up_by_event, set_up_if, standing_of}
 use Rattle.raft_node_cluster.specs.Happening.{Answers, Delivers, RefusesFor}
 use Rattle.raft_node_cluster.specs.Round.{AllButSpared, AreAhead, HasNoTurn, HasPart, HasTurn, IsTurned, Rounds, TakesTurns, WantsMemory, are_idle, IsAheadOf, IsFree, IsIn, has_to_wait, is_apart_from, is_for, is_round, is_set_up, is_that, place_by, sets_up, sets_up_elsewhere}
@@ -229,7 +230,7 @@ some_is : {A : Type 0} (x y : A) → Some x ≡ Some y → x ≡ y
 some_is x y e = cc
 
 differ : (a b : ℕ) → eqb a b ≡ false → a ≡ b → ⊥
-differ a b no e = let yes = eq-eqb a b e in absurd (cc)
+differ a b unequal e = let equal = eq-eqb a b e in absurd (cc)
 
 -- nodes of the same ids have one at the same place
 record HasSameId {N : Type 0} (acts : NodeActs N) (nodes : List N) (place : ℕ) (node : N) : Type 0 where
@@ -531,28 +532,27 @@ module _ {N : Type 0} (acts : NodeActs N) where
         })))
 
     -- where no event is left the nodes are what they are, and nobody has an answer left
+    settled_part : (place : ℕ) (old new : N) (answer : Option Answer) → HasPart acts ids sent past events [] place old new answer → (new ≡ old) × (answer ≡ None)
+    settled_part place old new None part = (part, refl)
+    settled_part place old new (Some a) part = let there = part.among.1 in absurd (cc)
+
     all_settled : (nodes now : List N) (answers : List (Option Answer)) → length now ≡ length nodes → length answers ≡ length now
-        → ((place : ℕ) (old new : N) (answer : Option Answer) → slice_get nodes place ≡ Some old → slice_get now place ≡ Some new → slice_get answers place ≡ Some answer → HasPart acts ids sent past events [] place old new answer)
-        → (now ≡ nodes) × are_idle answers
+        → ((place : ℕ) (old new : N) (answer : Option Answer) → slice_get nodes place ≡ Some old → slice_get now place ≡ Some new → slice_get answers place ≡ Some answer → (new ≡ old) × (answer ≡ None)) → (now ≡ nodes) × are_idle answers
     all_settled [] [] [] l m parts = (refl, tt)
     all_settled [] [] (a ∷ ws) l m parts = absurd (omega arith)
     all_settled [] (y ∷ ys) answers l m parts = absurd (omega arith)
     all_settled (x ∷ xs) [] answers l m parts = absurd (omega arith)
     all_settled (x ∷ xs) (y ∷ ys) [] l m parts = absurd (omega arith)
-    all_settled (x ∷ xs) (y ∷ ys) (Some a ∷ ws) l m parts = no_answer (parts zero x y (Some a) refl refl refl)
-      where
-        no_answer : IsAheadOf acts ids sent past events [] zero x y a → (y ∷ ys ≡ x ∷ xs) × are_idle (Some a ∷ ws)
-        no_answer part = let there = part.among.1 in absurd (cc)
-    all_settled (x ∷ xs) (y ∷ ys) (None ∷ ws) l m parts =
-        let rest = all_settled xs ys ws (omega arith) (omega arith) (λ place old new answer a b c. parts (suc place) old new answer a b c) in
-        let here : y ≡ x = parts zero x y None refl refl refl in (ap (λ z. z ∷ ys) here ∙ ap (λ l. x ∷ l) rest.0, (refl, rest.1))
+    all_settled (x ∷ xs) (y ∷ ys) (a ∷ ws) l m parts =
+        let rest = all_settled xs ys ws (omega arith) (omega arith) (λ place old new answer e f h. parts (suc place) old new answer e f h) in
+        let here = parts zero x y a refl refl refl in (ap (λ z. z ∷ ys) here.0 ∙ ap (λ l. x ∷ l) rest.0, (here.1, rest.1))
 
     pub at_last : (done : List ClusterEvent) (number : ℕ) (now : List N) (answers : List (Option Answer)) (history : List Recorded) (later : Sent) → HaveHadTurns done [] number now answers history later → TakesTurns acts sent past before done number now answers later history
     at_last done number now answers history later had =
         let ahead = had.way.ahead in
         let lengths : length now ≡ length had.nodes =
         sym (length-map now acts.id) ∙ ap length (ahead.ids_now ∙ sym ahead.ids_before) ∙ length-map had.nodes acts.id in
-        let all = all_settled had.nodes now answers lengths ahead.each ahead.parts in
+        let all = all_settled had.nodes now answers lengths ahead.each (λ place old new answer e f h. settled_part place old new answer (ahead.parts place old new answer e f h)) in
         let P : List N → Type 0 = λ ns. RunsTo acts before sent past had.records ns later in
         record {
           records = had.records;
@@ -592,3 +592,33 @@ module _ {N : Type 0} (acts : NodeActs N) where
       let refused : refusal_in acts now sent history event ≡ Some h.why = ap (λ n. refusal_of (standing_of acts n) (asked_of history sent event) (cuts_of event)) missing ∙ sym h.refused in
       let P : Option ClusterRefusal → Type 0 = λ w. HappensBy acts w now sent event o now' later in
       record { happens = subst P (sym refused) (record { outcome = h.outcome; nodes = h.nodes; sends = h.sends }); idle = subst are_idle (sym h.left) idle }
+
+  -- ---- a round behind a history
+
+  runs_both : (nodes mid new : List N) (sent gone later : Sent) (history xs ys : List Recorded) → RunsTo acts nodes sent history xs mid gone → RunsTo acts mid gone (history ++ xs) ys new later → RunsTo acts nodes sent history (xs ++ ys) new later
+  runs_both nodes mid new sent gone later history [] ys (same, kept) rest =
+      let P : List N → Type 0 = λ ns. RunsTo acts ns gone (history ++ []) ys new later in
+      let Q : Sent → Type 0 = λ s. RunsTo acts nodes s (history ++ []) ys new later in
+      let R : List Recorded → Type 0 = λ h. RunsTo acts nodes sent h ys new later in
+      subst R (append-nil history) (subst Q kept (subst P same rest))
+  runs_both nodes mid new sent gone later history (x ∷ xs) ys (between, passed, first, more) rest =
+      let P : List Recorded → Type 0 = λ h. RunsTo acts mid gone h ys new later in
+      (between, passed, first, runs_both between mid new passed gone later (history ++ x ∷ []) xs ys more (subst P (sym (append_assoc history (x ∷ []) xs)) rest))
+
+  pub reached_on : (sent later : Sent) (history behind : List Recorded) (nodes now : List N) (asked : List ClusterEvent) (number : ℕ) (answers : List (Option Answer)) → IsReached acts nodes sent history → TakesTurns acts sent history nodes asked number now answers later behind → IsReached acts now later behind
+  reached_on sent later history behind nodes now asked number answers reached turns =
+      let P : List Recorded → Type 0 = λ h. RunsTo acts reached.first nothing_sent [] h now later in
+      record {
+        first = reached.first;
+        new = reached.new;
+        runs = subst P (sym turns.history) (runs_both reached.first nodes now nothing_sent sent later [] history turns.records reached.runs turns.runs);
+      }
+
+  pub rounds_so : (old new : ClusterValue N) (asked : List ClusterEvent) (number : ℕ) (answers : List (Option Answer)) → TakesTurns acts (frames_of old.sent) old.history old.nodes asked number new.nodes answers (frames_of new.sent) new.history → Rounds acts old asked number new
+  rounds_so old new asked number answers turns =
+      record {
+        ran = events_of turns.records;
+        spared = turns.spared;
+        count = turns.count ∙ sym (length-map turns.records (λ (r : Recorded). r.event));
+        runs = record { records = turns.records; history = turns.history; events = refl; runs = turns.runs };
+      }

@@ -10,6 +10,7 @@ abbrev pub invariant-loop-event : goal.invariant-loop-event
 invariant-loop-event g l =
     (l.yielded ++ into_iter_items l.event-iterator ≡ into_iter_items l.initial.event-iterator)
     × (into_iter_len l.event-iterator ≡ length (into_iter_items l.event-iterator))
+    × (l.count ≤ length l.yielded)
     × (vec_len l.history + length (into_iter_items l.event-iterator) ≤ vec_capacity l.history)
     × ((ids : List ℕ) (before : List g.row.N.Denot)
     → is_round (frames_of l.initial.sent) (into_iter_items l.initial.event-iterator) ≡ true
