@@ -503,7 +503,7 @@ module _ {N : Type 0} (acts : NodeActs N) where
           records = had.records ++ r ∷ [];
           same = pushed ∙ ap (λ l. l ++ r ∷ []) had.same ∙ append_assoc past had.records (r ∷ []);
           spared = let Q : List ClusterEvent → Type 0 = λ ran. AllButSpared acts (done ++ event ∷ []) ran in
-          subst Q (sym (map-append (λ (x : Recorded). x.event) had.records (r ∷ []))) (spared_more done (events_of had.records) event had.spared);
+              subst Q (sym (map-append (λ (x : Recorded). x.event) had.records (r ∷ []))) (spared_more done (events_of had.records) event had.spared);
           count = let n = had.count in omega (arith, length-append had.records (r ∷ []));
           runs = runs_on acts before sent past had.records had.nodes later r t.behind later' had.runs t.happens;
           way = t.way;

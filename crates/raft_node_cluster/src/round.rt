@@ -81,7 +81,9 @@ fn sets_up(group: u64, event: &ClusterEvent) -> bool
 {
     match event {
         ClusterEvent::Ask {
-            group: other, call, ..
+            group: other,
+            call,
+            ..
         } => is_set_up(call) && *other == group,
         _ => false,
     }
@@ -110,7 +112,10 @@ fn has_to_wait(sent: &SentFrames, events: &[ClusterEvent], event: &ClusterEvent)
 {
     match event {
         ClusterEvent::Ask {
-            node, group, call, ..
+            node,
+            group,
+            call,
+            ..
         } => is_set_up(call) && has_one_elsewhere(sent, *group, *node, events),
         _ => false,
     }
@@ -230,9 +235,12 @@ where
         → HasPart N.acts ids.now (frames_of sent.now) history.now events.now events.now place old.node new.node new.answer }
 {
     let threads = slots.len().max(1);
-    for_each_mut(rt, slots, threads, &|place, slot: &mut Slot<N>| {
-        work(slot, place, ids, sent, history, events)
-    });
+    for_each_mut(
+        rt,
+        slots,
+        threads,
+        &|place, slot: &mut Slot<N>| { work(slot, place, ids, sent, history, events) },
+    );
 }
 
 /// The events that may come before their turns come to their nodes, each on a thread of its own where

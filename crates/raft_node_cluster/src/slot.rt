@@ -98,8 +98,6 @@ pub fn take_turn<N: ClusterNode>(
 {
     match place_of(slots.as_slice(), node_of(sent, event)) {
         Some(place) => slots[place].turn(alloc, sent, history, event),
-        None => Ok(EventOutcome::TurnedAway(refusal_nowhere(
-            sent, history, event,
-        ))),
+        None => Ok(EventOutcome::TurnedAway(refusal_nowhere(sent, history, event))),
     }
 }

@@ -187,5 +187,7 @@ pub fn gate_rows<R: Threads + Sync>(rt: &R, alloc: Global) -> Result<String, All
     let _ = alone.run(events(alloc)?);
     let met = words(alloc, &rounds)?;
     let alone = words(alloc, &alone)?;
-    format!(in alloc; "== two nodes that wait for each other\nround:{met}\none after another:{alone}")
+    format!(in alloc;
+        "== two nodes that wait for each other\nround:{met}\none after another:{alone}"
+    )
 }

@@ -58,12 +58,7 @@ fn call(alloc: Global, dice: &mut Dice, node: u64, group: u64) -> Result<String,
 }
 
 // An event of this node.
-fn event(
-    alloc: Global,
-    cluster: &Files,
-    dice: &mut Dice,
-    node: u64,
-) -> Result<String, AllocError> {
+fn event(alloc: Global, cluster: &Files, dice: &mut Dice, node: u64) -> Result<String, AllocError> {
     let group = 7 + dice.below(2);
     if dice.below(3) > 0 {
         if let Some(number) = frame_for(cluster, dice, node, group) {
@@ -77,7 +72,11 @@ fn event(
 fn line(alloc: Global, cluster: &Files, dice: &mut Dice) -> Result<String, AllocError> {
     let mut text = String::new(alloc);
     let first = dice.below(3);
-    let count = if dice.below(40) == 0 { 4 } else { 1 + dice.below(3) };
+    let count = if dice.below(40) == 0 {
+        4
+    } else {
+        1 + dice.below(3)
+    };
     for at in 0..count {
         let node = (first + at) % 3 + 1;
         if at > 0 {
@@ -113,7 +112,11 @@ pub fn run_random<R: Threads + Sync>(
             refused += 1;
         }
     }
-    let text = if pair.is_same()? { "the same" } else { "differs" };
+    let text = if pair.is_same()? {
+        "the same"
+    } else {
+        "differs"
+    };
     let events = pair.rounds.history().len();
     format!(in alloc; "{count} rounds, {refused} refused, {events} events: {text}")
 }

@@ -47,9 +47,9 @@ loop-event-preserved-in-Ok g c =
           let capacity = c.push_reserved.ensures.capacity in
           omega arith,
       λ ids before round ahead.
-      let Q : List ClusterEvent → Type 0 = λ left. HaveHadTurns acts ids first past all before at.yielded left at.count nodes answers at.history.items (frames_of at.sent) in
-      let had = subst Q steps (at.invariant.4 ids before round ahead) in
-      had_turn acts ids first past all before at.yielded rest x c.in-Ok.outcome at.count nodes nodes' answers answers' at.history.items c.push_reserved.new.self.items (frames_of at.sent) (frames_of c.take_turn.new.sent) had turned c.push_reserved.ensures.items,
+          let Q : List ClusterEvent → Type 0 = λ left. HaveHadTurns acts ids first past all before at.yielded left at.count nodes answers at.history.items (frames_of at.sent) in
+          let had = subst Q steps (at.invariant.4 ids before round ahead) in
+          had_turn acts ids first past all before at.yielded rest x c.in-Ok.outcome at.count nodes nodes' answers answers' at.history.items c.push_reserved.new.self.items (frames_of at.sent) (frames_of c.take_turn.new.sent) had turned c.push_reserved.ensures.items,
     )
 
 pub loop-event-preserved : goal.loop-event-preserved
@@ -74,9 +74,9 @@ loop-event-preserved g c =
       let count = at.invariant.2 in omega (arith, length-append at.yielded (x ∷ [])),
       let room = at.invariant.3 in omega arith,
       λ ids before round ahead.
-      let Q : List ClusterEvent → Type 0 = λ left. HaveHadTurns acts ids first past all before at.yielded left at.count nodes answers at.history.items (frames_of at.sent) in
-      let had = subst Q steps (at.invariant.4 ids before round ahead) in
-      had_none acts ids first past all before at.yielded rest x at.count nodes (map (λ slot. slot.node) c.take_turn.new.slots.items) answers (map (λ slot. slot.answer) c.take_turn.new.slots.items) at.history.items (frames_of at.sent) (frames_of c.take_turn.new.sent) had wants c.in_default.ensures.nodes c.in_default.ensures.answers (ap frames_of c.in_default.ensures.frames),
+          let Q : List ClusterEvent → Type 0 = λ left. HaveHadTurns acts ids first past all before at.yielded left at.count nodes answers at.history.items (frames_of at.sent) in
+          let had = subst Q steps (at.invariant.4 ids before round ahead) in
+          had_none acts ids first past all before at.yielded rest x at.count nodes (map (λ slot. slot.node) c.take_turn.new.slots.items) answers (map (λ slot. slot.answer) c.take_turn.new.slots.items) at.history.items (frames_of at.sent) (frames_of c.take_turn.new.sent) had wants c.in_default.ensures.nodes c.in_default.ensures.answers (ap frames_of c.in_default.ensures.frames),
     )
 
 pub returns : goal.returns
