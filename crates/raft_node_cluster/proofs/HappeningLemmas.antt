@@ -1,5 +1,5 @@
 -- An event comes to its node: from what the node answered and what became of that.
-use Rattle.std.proofs.Common.{◌≡◌, ℕ, List, [], Option, Some, None, Result, Ok, Err, inl, inr, refl, sym, ap, subst, ◌∙◌}
+use Rattle.std.proofs.Common.{◌≡◌, ℕ, List, [], Option, None, Result, Ok, Err, inl, inr, refl, sym, subst, ◌∙◌}
 use Rattle.raft_cluster_conditions.specs.declared.reasons.ClusterRefusal.{ClusterRefusal}
 use Rattle.raft_cluster_events.specs.declared.event.ClusterEvent.{ClusterEvent}
 use Rattle.raft_cluster_events.specs.declared.event.ClusterEvent.TheVariants.{AddGroup, Ask, Deliver, ResetPeer, Fuse, Crash, Reopen}
@@ -17,7 +17,7 @@ use Rattle.raft_node_cluster.specs.declared.answer.Answer.TheVariants.{OfGroup, 
 use Rattle.raft_node_cluster.specs.Facts.{Sent}
 use Rattle.raft_node_laws.specs.Answered.{Answered, none_of, opening_of, some_of}
 use Rattle.raft_node_cluster.specs.Happening.{Answers, EndsAt, IsOfGroup, RefusesFor, Settles, turned_by}
-use Rattle.raft_node_cluster.specs.Turn.{HasCome, HasRefused, IsAnswered, IsOpening, quietly}
+use Rattle.raft_node_cluster.specs.Turn.{IsAnswered, IsOpening, quietly}
 
 module _ {N : Type 0} (acts : NodeActs N) where
   -- ---- what is answered

@@ -1,5 +1,5 @@
 -- A round on the way: what nodes answered ahead of their events' turns holds at these turns.
-use Rattle.std.proofs.Common.{◌≡◌, ◌≢◌, ◌||◌, ◌&&◌, ℕ, zero, suc, eqb, Bool, true, false, cond, not, List, [], ◌∷◌, ◌++◌, Option, Some, None, Result, Ok, Err, map, length, position, slice_get, inl, inr, refl, sym, ap, ◌∙◌, subst, arith, nat_lt, length-set, append_assoc, append-nil, length-append, eqb-true, ◌+◌}
+use Rattle.std.proofs.Common.{◌≡◌, ◌&&◌, ℕ, zero, suc, eqb, Bool, true, false, cond, not, List, [], ◌∷◌, ◌++◌, Option, Some, None, map, length, position, slice_get, inl, inr, refl, sym, ap, ◌∙◌, subst, arith, nat_lt, length-set, append_assoc, append-nil, length-append, eqb-true, ◌+◌}
 use Rattle.std.proofs.lemmas.Bool.{eq-eqb}
 use Rattle.std.specs.Prelude.{slice_set}
 use Rattle.std.specs.Option.{option_map}
@@ -23,11 +23,11 @@ use Rattle.raft_cluster_events.specs.Node.{NodeActs}
 use Rattle.raft_node_laws.specs.Answered.{Answered}
 use Rattle.raft_node_cluster.specs.declared.answer.Answer.{Answer}
 use Rattle.raft_node_cluster.specs.declared.answer.Answer.TheVariants.{OfGroup, Quiet, Opened, Spared}
-use Rattle.raft_node_cluster.specs.Cluster.{ClusterValue, Happens, HappensBy, IsReached, Runs, RunsTo, events_of, nothing_sent, refusal_in}
+use Rattle.raft_node_cluster.specs.Cluster.{ClusterValue, Happens, HappensBy, IsReached, RunsTo, events_of, nothing_sent, refusal_in}
 use Rattle.raft_node_cluster.specs.Facts.{Sent, asked_of, cuts_of, delivered, differs, differs_from, is_taken, membership_in, node_at, node_of, node_there, place_in, set_up_by, set_up_by_event, set_up_if, standing_of}
 use Rattle.raft_node_cluster.specs.Happening.{Answers, Delivers, RefusesFor}
 use Rattle.raft_node_cluster.specs.Round.{AllButSpared, AreAhead, HasNoTurn, HasPart, HasTurn, IsTurned, Rounds, TakesTurns, WantsMemory, are_idle, IsAheadOf, IsFree, IsIn, has_to_wait, is_apart_from, is_for, is_round, is_set_up, is_that, place_by, sets_up, sets_up_elsewhere}
-use Rattle.raft_node_cluster.specs.Turn.{HappensAt, HasCome, IsAhead, IsAnswered, IsAtTurn, refusal_for}
+use Rattle.raft_node_cluster.specs.Turn.{HasCome, IsAnswered, IsAtTurn, refusal_for}
 use Rattle.raft_node_cluster.proofs.ClusterLemmas.{runs_on}
 use Rattle.raft_node_cluster.proofs.ListLemmas.{all_push}
 use Rattle.raft_node_cluster.proofs.SlotLemmas.{mapped_at, same_slots}

@@ -1,12 +1,8 @@
 -- One event's turn, and what a round's events leave of what is known of the others.
-use Rattle.std.proofs.Common.{◌≡◌, ◌≢◌, ◌||◌, ℕ, zero, suc, eqb, Bool, true, false, cond, not, List, [], ◌∷◌, ◌++◌, Option, Some, None, Result, Ok, Err, map, length, position, slice_get, inl, inr, refl, sym, ap, ◌∙◌, subst, arith}
+use Rattle.std.proofs.Common.{◌≡◌, ◌||◌, ℕ, zero, suc, eqb, Bool, true, false, cond, List, [], ◌∷◌, ◌++◌, Option, Some, None, Ok, Err, map, length, slice_get, inl, inr, refl, sym, ap, ◌∙◌, subst}
 use Rattle.std.specs.Prelude.{slice_set}
-use Rattle.std.specs.List.{AllByRecursion, find, list_any}
+use Rattle.std.specs.List.{find, list_any}
 use Rattle.std.specs.Option.{option_map}
-use Rattle.std.proofs.lemmas.List.{map-set}
-use Rattle.raft_group_step.specs.Values.{Membership}
-use Rattle.raft_group_step.specs.GroupEvent.{GroupCall}
-use Rattle.raft_group_step.specs.declared.group_call.GroupCall.TheVariants.{Initialize, Elect, Propose, ChangeMembership, Heartbeat, Lost, TriggerSnapshot, TriggerPurge}
 use Rattle.raft_cluster_conditions.specs.declared.reasons.ClusterRefusal.{ClusterRefusal}
 use Rattle.raft_cluster_conditions.specs.declared.reasons.Asked.TheVariants as asks
 use Rattle.raft_cluster_conditions.specs.Refusal.{refusal_of}
@@ -19,14 +15,12 @@ use Rattle.raft_cluster_events.specs.declared.outcome.EventOutcome.{EventOutcome
 use Rattle.raft_cluster_events.specs.declared.outcome.Recorded.{Recorded}
 use Rattle.raft_cluster_events.specs.Node.{NodeActs}
 use Rattle.raft_node_laws.specs.Answered.{Answered}
-use Rattle.raft_node_cluster.specs.declared.answer.Answer.{Answer}
-use Rattle.raft_node_cluster.specs.declared.answer.Answer.TheVariants.{OfGroup, Quiet, Opened, Spared}
-use Rattle.raft_node_cluster.specs.Cluster.{Happens, HappensBy, Reaches, refusal_in}
-use Rattle.raft_node_cluster.specs.Facts.{Sent, asked_of, cuts_of, delivered, differs, differs_from, is_taken, membership_in, node_at, node_of, node_there, place_in, set_up_asked, set_up_by, set_up_by_event, set_up_if, standing_of}
-use Rattle.raft_node_cluster.specs.Happening.{Answers, Delivers, EndsAt, Settles}
-use Rattle.raft_node_cluster.specs.Round.{has_to_wait, is_for, is_set_up, place_by, sets_up, sets_up_elsewhere}
+use Rattle.raft_node_cluster.specs.Cluster.{Happens, HappensBy, refusal_in}
+use Rattle.raft_node_cluster.specs.Facts.{Sent, asked_of, cuts_of, delivered, node_at, node_of, node_there, place_in, standing_of}
+use Rattle.raft_node_cluster.specs.Happening.{EndsAt, Settles}
+use Rattle.raft_node_cluster.specs.Round.{place_by}
 use Rattle.raft_node_cluster.specs.Sending.{sent_after, sent_after_one}
-use Rattle.raft_node_cluster.specs.Turn.{HappensAt, HappensAtBy, HasCome, IsAnswered, refusal_for}
+use Rattle.raft_node_cluster.specs.Turn.{HappensAt, HappensAtBy, refusal_for}
 use Rattle.raft_node_cluster.proofs.ClusterLemmas.{comes_to_first, put_same}
 use Rattle.raft_node_cluster.proofs.FactLemmas.{position_of_mapped, there_found}
 

@@ -119,7 +119,8 @@ module _ {N : Type 0} (acts : NodeActs N) (ids : List ℕ) (sent : Sent) (histor
     pub ids_before : map acts.id before ≡ ids
     pub ids_now : map acts.id now ≡ ids
     pub each : length answers ≡ length now
-    pub parts : (place : ℕ) (old new : N) (answer : Option Answer) → slice_get before place ≡ Some old → slice_get now place ≡ Some new → slice_get answers place ≡ Some answer → HasPart left place old new answer
+    pub parts : (place : ℕ) (old new : N) (answer : Option Answer) → slice_get before place ≡ Some old
+        → slice_get now place ≡ Some new → slice_get answers place ≡ Some answer → HasPart left place old new answer
 
 -- ---- one event's turn
 
@@ -177,7 +178,8 @@ module _ {N : Type 0} (acts : NodeActs N) where
     pub runs : Runs acts old ran new
 
   -- these records lead from the one to the other, and no node has an answer left
-  pub record TakesTurns (sent : Sent) (past : List Recorded) (before : List N) (asked : List ClusterEvent) (number : ℕ) (now : List N) (answers : List (Option Answer)) (later : Sent) (behind : List Recorded) : Type 0 where
+  pub record TakesTurns (sent : Sent) (past : List Recorded) (before : List N) (asked : List ClusterEvent) (number : ℕ)
+      (now : List N) (answers : List (Option Answer)) (later : Sent) (behind : List Recorded) : Type 0 where
     pub records : List Recorded
     pub history : behind ≡ past ++ records
     pub spared : AllButSpared asked (events_of records)

@@ -1,5 +1,5 @@
 -- The turn of a node's event: what the node answers, and what comes of it.
-use Rattle.std.specs.Prelude.{◌≡◌, ℕ, List, [], Option, Some, None, Result, Ok, Err}
+use Rattle.std.specs.Prelude.{◌≡◌, List, [], Option, Some, None, Result, Ok, Err}
 use Rattle.raft_cluster_conditions.specs.declared.reasons.ClusterRefusal.{ClusterRefusal}
 use Rattle.raft_cluster_conditions.specs.Refusal.{refusal_of}
 use Rattle.raft_cluster_events.specs.declared.event.ClusterEvent.{ClusterEvent}

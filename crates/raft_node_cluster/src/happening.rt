@@ -209,7 +209,8 @@ pub fn settle<N: ClusterNode>(
     node: &mut N,
     answer: Answer,
 ) -> EventOutcome
-    ensures { (event : Event) (before : _) → IsAnswered N.acts (frames_of sent.old) event before answer node.old → EndsAt N.acts (frames_of sent.old) event before result (frames_of sent.new) node.new }
+    ensures { (event : Event) (before : _) → IsAnswered N.acts (frames_of sent.old) event before answer node.old
+        → EndsAt N.acts (frames_of sent.old) event before result (frames_of sent.new) node.new }
 {
     match answer {
         Answer::OfGroup(answered) => settle_group(alloc, sent, node, answered),

@@ -258,7 +258,8 @@ where
     N::Settings: Send,
     requires ids { ids.now ≡ map (λ slot. N.acts.id slot.node) slots.old }
     requires idle { are_idle (map (λ slot. slot.answer) slots.old) }
-    ensures { AreAhead N.acts ids.now (frames_of sent.now) history.now events.now events.now (map (λ slot. slot.node) slots.old) (map (λ slot. slot.node) slots.new) (map (λ slot. slot.answer) slots.new) }
+    ensures { AreAhead N.acts ids.now (frames_of sent.now) history.now events.now events.now
+        (map (λ slot. slot.node) slots.old) (map (λ slot. slot.node) slots.new) (map (λ slot. slot.answer) slots.new) }
 {
     work_each(rt, slots, ids, sent, history, events);
 }
@@ -275,8 +276,10 @@ pub fn settle_all<N: ClusterNode>(
     requires room { vec_len history.old + vec_len events ≤ vec_capacity history.old }
     ensures { (ids : List ℕ) (before : List _)
         → is_round (frames_of sent.old) events.items ≡ true
-        → AreAhead N.acts ids (frames_of sent.old) history.old.items events.items events.items before (map (λ slot. slot.node) slots.old.items) (map (λ slot. slot.answer) slots.old.items)
-        → TakesTurns N.acts (frames_of sent.old) history.old.items before events.items result (map (λ slot. slot.node) slots.new.items) (map (λ slot. slot.answer) slots.new.items) (frames_of sent.new) history.new.items }
+        → AreAhead N.acts ids (frames_of sent.old) history.old.items events.items events.items before
+        (map (λ slot. slot.node) slots.old.items) (map (λ slot. slot.answer) slots.old.items)
+        → TakesTurns N.acts (frames_of sent.old) history.old.items before events.items result
+        (map (λ slot. slot.node) slots.new.items) (map (λ slot. slot.answer) slots.new.items) (frames_of sent.new) history.new.items }
 {
     let mut count = 0;
     for event in events {

@@ -42,7 +42,9 @@ impl<N: ClusterNode> Slot<N> {
         event: &ClusterEvent,
     ) -> Result<EventOutcome, AllocError>
         ensures left { self.new.answer ≡ None }
-        ensures ok { IfOk result (λ o. (before : _) → IsAtTurn N.acts (frames_of sent.old) history.now event.now before self.old.node self.old.answer → HappensAt N.acts before (frames_of sent.old) history.now event.now o (frames_of sent.new) self.new.node) }
+        ensures ok { IfOk result (λ o. (before : _)
+            → IsAtTurn N.acts (frames_of sent.old) history.now event.now before self.old.node self.old.answer
+            → HappensAt N.acts before (frames_of sent.old) history.now event.now o (frames_of sent.new) self.new.node) }
         ensures memory { OnErr result ((self.old.answer ≡ None) × RefusesFor N.acts event.now self.old.node Memory) }
         ensures node { OnErr result (self.new.node ≡ self.old.node) }
         ensures frames { OnErr result (sent.new ≡ sent.old) }
@@ -90,7 +92,9 @@ pub fn take_turn<N: ClusterNode>(
     history: &[Recorded],
     event: &ClusterEvent,
 ) -> Result<EventOutcome, AllocError>
-    ensures ok { IfOk result (λ o. IsTurned N.acts (frames_of sent.old) history.now event.now (map (λ slot. slot.node) slots.old.items) (map (λ slot. slot.answer) slots.old.items) o (map (λ slot. slot.node) slots.new.items) (map (λ slot. slot.answer) slots.new.items) (frames_of sent.new)) }
+    ensures ok { IfOk result (λ o. IsTurned N.acts (frames_of sent.old) history.now event.now
+        (map (λ slot. slot.node) slots.old.items) (map (λ slot. slot.answer) slots.old.items)
+        o (map (λ slot. slot.node) slots.new.items) (map (λ slot. slot.answer) slots.new.items) (frames_of sent.new)) }
     ensures memory { OnErr result (WantsMemory N.acts (frames_of sent.old) history.now event.now (map (λ slot. slot.node) slots.old.items) (map (λ slot. slot.answer) slots.old.items)) }
     ensures nodes { OnErr result (map (λ slot. slot.node) slots.new.items ≡ map (λ slot. slot.node) slots.old.items) }
     ensures answers { OnErr result (map (λ slot. slot.answer) slots.new.items ≡ map (λ slot. slot.answer) slots.old.items) }

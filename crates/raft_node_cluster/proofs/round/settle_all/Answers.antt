@@ -1,4 +1,4 @@
-use Rattle.std.proofs.Common.{◌≡◌, true, refl, ◌∷◌, [], ◌++◌, ℕ, List, length, ap, ◌∙◌, append_assoc, append-nil, arith, length-append, sym, subst, map}
+use Rattle.std.proofs.Common.{◌≡◌, true, refl, ◌∷◌, [], ◌++◌, List, length, ap, ◌∙◌, append_assoc, append-nil, arith, length-append, sym, subst, map}
 use Rattle.std.specs.Vec.Iter.{into_iter_items}
 use Rattle.std.proofs.lemmas.List.{nil_from_length}
 use Rattle.raft_sent_frames.specs.Frames.{frames_of}

@@ -1,4 +1,4 @@
-use Rattle.std.proofs.Common.{◌≡◌, ◌==◌, ◌∙◌, List, Some, map, position, sym, ap}
+use Rattle.std.proofs.Common.{◌==◌, ◌∙◌, List, map, sym, ap}
 use Rattle.raft_node_cluster.specs.Facts.{place_in}
 use Rattle.raft_node_cluster.proofs.FactLemmas.{position_of_mapped}
 use Rattle.raft_node_cluster.proofs.slot.place_of.Goals as goal

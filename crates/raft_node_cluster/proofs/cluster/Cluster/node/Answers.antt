@@ -1,7 +1,6 @@
-use Rattle.std.proofs.Common.{◌≡◌, ◌==◌, ◌∙◌, List, Option, Some, None, map, sym, ap}
+use Rattle.std.proofs.Common.{◌≡◌, ◌==◌, ◌∙◌, Some, None, ap}
 use Rattle.std.specs.List.{find}
 use Rattle.std.specs.Option.{option_map}
-use Rattle.raft_node_cluster.specs.Cluster.{ClusterValue}
 use Rattle.raft_node_cluster.specs.Facts.{node_in}
 use Rattle.raft_node_cluster.proofs.FactLemmas.{find_of_mapped}
 use Rattle.raft_node_cluster.proofs.cluster.Cluster.node.Goals as goal

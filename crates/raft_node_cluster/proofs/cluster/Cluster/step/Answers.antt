@@ -1,4 +1,4 @@
-use Rattle.std.proofs.Common.{◌≡◌, List, Option, [], ◌∷◌, ◌++◌, map, sym, ap, ◌∙◌, subst}
+use Rattle.std.proofs.Common.{◌≡◌, List, [], ◌∷◌, ◌++◌, map, sym, ap, ◌∙◌, subst}
 use Rattle.raft_sent_frames.specs.Frames.{frames_of}
 use Rattle.raft_cluster_events.specs.declared.outcome.Recorded.{Recorded}
 use Rattle.raft_node_cluster.specs.Cluster.{ClusterValue, Happens, RunsTo, Steps, nothing_sent}
