@@ -14,7 +14,8 @@ use std::thread::Threads;
 /// How often a node looks for the other one before it gives up.
 const TURNS: u64 = 1_000_000;
 
-/// A node that has nothing. Where it gets a group it says so, and waits for another node to say so, too.
+/// A node that has nothing. Where it gets a group it says so, and waits for another node to say so, too. It
+/// lacks memory for each crash.
 #[derive(Drop)]
 struct GateNode {
     alloc: Global,
@@ -135,7 +136,7 @@ impl ClusterNode for GateNode {
     fn fuse(&mut self, _first_refused: Option<u64>) {}
 
     fn crash(&mut self, _choice: CrashChoice) -> Result<(), CrashRefusal> {
-        Err(CrashRefusal::NotAnImage)
+        Err(CrashRefusal::Memory)
     }
 
     fn reopen(&mut self, _workers: u64) -> Result<Sequence<NodeOutcome>, Stop> {
@@ -179,15 +180,33 @@ fn words(alloc: Global, cluster: &Cluster<GateNode>) -> Result<String, AllocErro
     Ok(text)
 }
 
-/// What becomes of the two calls in a round, and of the same ones after another.
+// A crash for which its node lacks memory, and an event behind it.
+fn crash(alloc: Global) -> Result<Vec<ClusterEvent>, AllocError> {
+    let mut events = Vec::new(alloc);
+    events.push(ClusterEvent::Crash {
+        node: 1,
+        choice: CrashChoice::Least,
+    })?;
+    events.push(ClusterEvent::ResetPeer { node: 2, peer: 1 })?;
+    Ok(events)
+}
+
+/// What becomes of the two calls in a round, and of the same ones after another; and of a crash that
+/// finds no memory.
 pub fn gate_rows<R: Threads + Sync>(rt: &R, alloc: Global) -> Result<String, AllocError> {
     let mut rounds = cluster(alloc)?;
     let _ = rounds.run_round(rt, events(alloc)?);
+    let met = words(alloc, &rounds)?;
     let mut alone = cluster(alloc)?;
     let _ = alone.run(events(alloc)?);
-    let met = words(alloc, &rounds)?;
-    let alone = words(alloc, &alone)?;
-    format!(in alloc;
-        "== two nodes that wait for each other\nround:{met}\none after another:{alone}"
-    )
+    let one = words(alloc, &alone)?;
+    let ran = rounds.run_round(rt, crash(alloc)?).unwrap_or(9);
+    let ran_alone = alone.run(crash(alloc)?);
+    let mut text = String::from_str(alloc, "== two nodes that wait for each other\n")?;
+    text.push_str(format!(in alloc; "round:{met}\none after another:{one}\n")?.as_str())?;
+    text.push_str("== a crash without memory, and an event behind it\n")?;
+    text.push_str(format!(in alloc;
+        "round: {ran} of 2\none after another: {ran_alone} of 2"
+    )?.as_str())?;
+    Ok(text)
 }

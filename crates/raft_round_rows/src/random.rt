@@ -1,4 +1,6 @@
 //! Random rounds.
+ghost use Rattle.std.specs.Prelude.{◌<◌};
+
 use crate::pair::{Files, Pair};
 use raft_script_lines::number_of;
 use std::alloc::{AllocError, Global};
@@ -12,12 +14,15 @@ struct Dice {
 
 impl Dice {
     // A number below this one.
-    fn below(&mut self, bound: u64) -> u64 {
+    fn below(&mut self, bound: u64) -> u64
+        requires { 0 < bound }
+        ensures { result < bound }
+    {
         self.state = self
             .state
             .wrapping_mul(6_364_136_223_846_793_005)
             .wrapping_add(1_442_695_040_888_963_407);
-        (self.state >> 33).checked_rem(bound).unwrap_or(0)
+        (self.state >> 33) % bound
     }
 }
 
@@ -52,7 +57,7 @@ fn call(alloc: Global, dice: &mut Dice, node: u64, group: u64) -> Result<String,
         8 | 9 => format!(in alloc; "reopen {node} 1"),
         10 => format!(in alloc; "snapshot {node} {group}"),
         11 => format!(in alloc; "lost {node} {group} {}", node % 3 + 1),
-        12 => format!(in alloc; "elect {} {group}", node + 3),
+        12 => format!(in alloc; "elect {} {group}", node.wrapping_add(3)),
         _ => format!(in alloc; "propose {node} {group} {}", dice.below(9)),
     }
 }
@@ -78,7 +83,7 @@ fn line(alloc: Global, cluster: &Files, dice: &mut Dice) -> Result<String, Alloc
         1 + dice.below(3)
     };
     for at in 0..count {
-        let node = (first + at) % 3 + 1;
+        let node = first.wrapping_add(at) % 3 + 1;
         if at > 0 {
             text.push_str("; ")?;
         }
@@ -105,11 +110,11 @@ pub fn run_random<R: Threads + Sync>(
         return String::from_str(alloc, "no numbers");
     };
     let mut dice = Dice { state: seed };
-    let mut refused = 0;
+    let mut refused: u64 = 0;
     for _ in 0..count {
         let events = line(alloc, &pair.rounds, &mut dice)?;
         if pair.round(rt, events.as_str())?.starts_with("C8") {
-            refused += 1;
+            refused = u64::wrapping_add(refused, 1);
         }
     }
     let text = if pair.is_same()? {
