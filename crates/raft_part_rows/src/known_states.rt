@@ -8,8 +8,8 @@ use crate::words::{log_id, vote};
 use raft_known_state::KnownState;
 use raft_rows::{Answer, number};
 use raft_state::{
-    BasicNode, Bytes, Entry, EntryPayload, LeaderId, LogId, LogIdOptionExt, Membership, RaftState,
-    SnapshotMeta, StoredMembership, Vote,
+    BasicNode, Bytes, Entry, EntryPayload, KeptVec, LeaderId, LogId, LogIdOptionExt, Membership,
+    RaftState, SnapshotMeta, StoredMembership, Vote,
 };
 use std::alloc::{AllocError, Global};
 
@@ -59,7 +59,7 @@ pub fn new_group(alloc: Global) -> Known
 {
     KnownState {
         state: RaftState::default(alloc),
-        memberships: Vec::new(alloc),
+        memberships: KeptVec::new(alloc),
         wish: None,
         highest_term: 0,
     }
