@@ -1,8 +1,9 @@
 //! The text of what came of an event.
 ghost use Rattle.std.specs.Prelude.{◌≡◌, ◌++◌, [], IfOk, OnOk, map, string_bytes};
 ghost use Rattle.raft_cluster_script.specs.Answers.{numbers_of, outcome_text, refusal_of_cluster, refusal_of_node, shown_number, told_total, tokens_of_stop, totals_of, unknown_of, value_of};
-ghost use Rattle.raft_cluster_script.specs.Script.{IsTotalText};
-ghost use Rattle.raft_script_answers.specs.Answer.{done_text, refused_text};
+ghost use Rattle.raft_cluster_script.specs.Script.{total_at};
+ghost use Rattle.std.specs.Option.{option_copied};
+ghost use Rattle.raft_script_answers.specs.Answer.{done_text, refused_text, total_text};
 
 use crate::stops::tokens_of_stop;
 use raft_cluster_conditions::ClusterRefusal;
@@ -168,7 +169,9 @@ pub fn outcome_text(alloc: Global, outcome: &EventOutcome) -> Result<String, All
 fn total_of<N: ClusterNode<Machine = AddingMachine>>(
     node: Option<&N>,
     group: u64,
-) -> Option<AppliedTotal> {
+) -> Option<AppliedTotal>
+    ensures { result ≡ total_at N.acts (option_copied node) group }
+{
     let node = node?;
     let machine = node.machine(group)?;
     Some(AppliedTotal {
@@ -183,7 +186,7 @@ pub fn total_at<N: ClusterNode<Machine = AddingMachine>>(
     node: Option<&N>,
     group: u64,
 ) -> Result<String, AllocError>
-    ensures { IfOk result (λ text. IsTotalText (string_bytes text)) }
+    ensures { IfOk result (λ text. string_bytes text ≡ total_text (total_at N.acts (option_copied node) group)) }
 {
     let total = total_of(node, group);
     total_text(alloc, total)
