@@ -1,5 +1,5 @@
 -- What a line of a script does, and is answered.
-use Rattle.std.specs.Prelude.{◌≡◌, Bool, true, false, ℕ, List, [], ◌++◌, Option, Some, None, Result, Ok, Err, codes, option_map}
+use Rattle.std.specs.Prelude.{◌≡◌, Bool, true, false, ℕ, List, [], ◌++◌, Option, Some, None, Result, Ok, Err, codes}
 use Rattle.std.specs.List.{range_with_len}
 use Rattle.raft_machines.specs.Adding.{total_of}
 use Rattle.raft_script_answers.specs.declared.told_total.AppliedTotal.{AppliedTotal}
@@ -31,6 +31,11 @@ pub record ScriptValue (N : Type 0) : Type 0 where
 
 abbrev pub ok_text : List ℕ
 ok_text = codes "ok" ++ newline
+
+-- the total that a machine in this state has added up, with the last place that it has run
+abbrev pub total_in : Option ℕ → Option (List ℕ) → Option AppliedTotal
+total_in place None = None
+total_in place (Some state) = Some (record { total = total_of state; place = place })
 
 -- it is no event here
 abbrev pub IsNone : {A : Type 0} → Option A → Type 0
@@ -111,10 +116,6 @@ module _ {N : Type 0} (acts : NodeActs N) where
   abbrev pub SetsNow : ScriptValue N → Option (ClusterValue N) → ℕ → Option (List ℕ) → ScriptValue N → Type 0
   SetsNow old None tick text new = IsNone text
   SetsNow old (Some cluster) tick text new = (text ≡ Some ok_text) × (new ≡ record old { tick = tick })
-
-  -- the total that a machine in this state has added up, with the last place that it has run
-  abbrev pub total_in : Option ℕ → Option (List ℕ) → Option AppliedTotal
-  total_in place machine = option_map (λ (state : List ℕ). record { total = total_of state; place = place }) machine
 
   -- what the node's machine has added up in the group; nothing where there is no such node, or it lends no machine
   abbrev pub total_at : Option N → ℕ → Option AppliedTotal

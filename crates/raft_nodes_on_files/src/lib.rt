@@ -6,6 +6,7 @@ mod file_node;
 mod law;
 mod opening;
 mod outcomes;
+mod readers;
 mod settings;
 
 pub use file_node::FileNode;

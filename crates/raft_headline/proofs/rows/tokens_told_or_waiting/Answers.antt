@@ -15,12 +15,19 @@ has_only x = at_contains (x ∷ []) x 0 refl
 is_only : {A : Type 0} (x y : A) → Contains (x ∷ []) y → y ≡ x
 is_only x y has = ⊎_elim (λ same. same) (λ none. absurd none) (contains_among (x ∷ []) y has)
 
-not_silent : (x : Untold) → IsToldIn silent x ⊎ Contains ([] {A = Untold}) x → ⊥
+-- nobody waits on
+abbrev no_token : List Untold
+no_token = []
+
+never_none : (x : ℕ) (xs : List ℕ) → x ∷ xs ≡ [] → ⊥
+never_none x xs no = cc no
+
+not_silent : (x : Untold) → IsToldIn silent x ⊎ Contains no_token x → ⊥
 not_silent x (inl said) = contains_among [] said.told said.has
 not_silent x (inr waits_on) = contains_among [] x waits_on
 
 -- what one told answer tells is its token and place
-told_so : (t : Told) (x : Untold) → IsToldIn (tells t) x ⊎ Contains ([] {A = Untold}) x → (t.token ≡ x.token) × (t.place ≡ x.place)
+told_so : (t : Told) (x : Untold) → IsToldIn (tells t) x ⊎ Contains no_token x → (t.token ≡ x.token) × (t.place ≡ x.place)
 told_so t x (inl said) =
     let same = is_only t said.told said.has in
     (ap (λ (y : Told). y.token) (sym same) ∙ said.token, ap (λ (y : Told). y.place) (sym same) ∙ said.place)
@@ -50,4 +57,4 @@ returns-clause-own_token c = λ h.
     not_silent own (h.each own (has_only own))
 
 pub returns-clause-unknown : goal.returns-clause-unknown
-returns-clause-unknown c = λ h. let no : 1 ∷ [] ≡ [] = h.none_unknown in absurd (cc)
+returns-clause-unknown c = λ h. never_none 1 [] h.none_unknown
