@@ -8,6 +8,8 @@ mod run;
 mod script;
 mod stops;
 
+pub use answers::outcome_text;
+pub use calls::event_of;
 pub use raft_script_session::ScriptEnd;
 pub use run::run_script;
 pub use script::Script;

@@ -2,10 +2,12 @@
 //!
 //! Each line of the input is a task such as `3 0 100 1000`: how many voters the group has, how many
 //! learners, how many entries its log before, and how many commands the leader takes, one after the
-//! other, each with all messages up to the last answer. Four more words may follow: how many leaders
+//! other, each with all messages up to the last answer. Five more words may follow: how many leaders
 //! wrote the entries before, one after the other, and how many of these have a membership; 1 where
 //! there is none; how many heartbeats the leader sends before an entry of its own comes to anybody,
-//! and how many elections it wins before that; or none. The answer is how many entries are committed, and how many messages were sent.
+//! how many elections it wins before that, and how many places of a log like that are purged, one
+//! after the other; or none. The answer is how many entries are committed, how many messages were
+//! sent, and how many places were purged.
 #![tactic(auto)]
 
 mod cluster;
@@ -13,7 +15,7 @@ mod node;
 mod setup;
 
 use crate::cluster::Cluster;
-use crate::setup::Task;
+use crate::setup::{Task, purge_each};
 use std::alloc::{AllocError, Global};
 use std::io;
 
@@ -36,17 +38,23 @@ fn parse(line: &str) -> Option<Task> {
         memberships: word_or(words.next(), 1)?,
         beats: word_or(words.next(), 0)?,
         elections: word_or(words.next(), 0)?,
+        purges: word_or(words.next(), 0)?,
     })
 }
 
-fn run(alloc: Global, task: Task) -> Result<Cluster, AllocError> {
+// What became of the nodes, and how many places of another log were purged, if any.
+fn run(alloc: Global, task: Task) -> Result<(Cluster, u64), AllocError> {
+    let purged = match task.purges {
+        0 => 0,
+        _ => purge_each(alloc, &task)?,
+    };
     let mut cluster = Cluster::new(alloc, &task)?;
     cluster.elect_in_vain(alloc, task.elections)?;
     cluster.elect(alloc, task.beats)?;
     for _ in 0..task.commands {
         cluster.propose(alloc)?;
     }
-    Ok(cluster)
+    Ok((cluster, purged))
 }
 
 fn main(rt: HostRuntime) -> io::Result<()> {
@@ -57,10 +65,10 @@ fn main(rt: HostRuntime) -> io::Result<()> {
             continue;
         };
         match run(rt.alloc(), task) {
-            Ok(cluster) => {
+            Ok((cluster, purged)) => {
                 let committed = cluster.count_committed();
                 let sent = cluster.sent;
-                println!(rt; "{line}: committed={committed} sent={sent}")?
+                println!(rt; "{line}: committed={committed} sent={sent} purged={purged}")?
             }
             Err(error) => println!(rt; "{line}: {error}")?,
         }

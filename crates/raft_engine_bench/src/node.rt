@@ -30,6 +30,8 @@ pub struct GroupNode {
     id: u64,
     stored: StoredGroup,
     engine: Option<Engine<Numbered>>,
+    /// The moment, in ticks: each message that comes is a tick later.
+    now: u64,
 }
 
 // A leader's request.
@@ -37,6 +39,7 @@ fn take_request(
     engine: &mut Engine<Numbered>,
     peer: u64,
     request: AppendFields,
+    now: u64,
 ) -> Result<(), AllocError> {
     let caller = Caller {
         peer,
@@ -52,23 +55,23 @@ fn take_request(
         leader_commit: request.committed,
     };
     // (a leader's entries follow one another)
-    let _answer = engine.handle_append_entries(req, caller, 5)?;
+    let _answer = engine.handle_append_entries(req, caller, now)?;
     Ok(())
 }
 
 // A message is handed to the engine.
-fn take(engine: &mut Engine<Numbered>, message: GroupMessage) -> Result<(), AllocError> {
+fn take(engine: &mut Engine<Numbered>, message: GroupMessage, now: u64) -> Result<(), AllocError> {
     let peer = message.sender;
     match message.body {
         MessageBody::VoteRequest(asked) => {
             let caller = Caller::new(peer, asked.vote);
-            engine.handle_vote_req(&asked, caller, 5)
+            engine.handle_vote_req(&asked, caller, now)
         }
-        MessageBody::VoteReply(answer) => engine.handle_vote_resp(peer, &answer, 5),
-        MessageBody::AppendRequest(request) => take_request(engine, peer, request),
+        MessageBody::VoteReply(answer) => engine.handle_vote_resp(peer, &answer, now),
+        MessageBody::AppendRequest(request) => take_request(engine, peer, request, now),
         MessageBody::AppendReply(reply) => {
             let (caller, answer) = caller_and_answer(peer, &reply);
-            engine.handle_replication_resp(peer, &caller, &answer, Some(5), 5)
+            engine.handle_replication_resp(peer, &caller, &answer, Some(now), now)
         }
         MessageBody::SnapshotReply(_) | MessageBody::SnapshotRequest { .. } => Ok(()),
     }
@@ -79,7 +82,12 @@ impl GroupNode {
     pub fn new(alloc: Global, id: u64, task: &Task) -> Result<GroupNode, AllocError> {
         let stored = stored(alloc, task)?;
         let engine = engine(alloc, id, &stored)?;
-        Ok(GroupNode { id, stored, engine })
+        Ok(GroupNode {
+            id,
+            stored,
+            engine,
+            now: 5,
+        })
     }
 
     // The queue is stored, and what it sends is handed out.
@@ -101,7 +109,7 @@ impl GroupNode {
     /// The node stands for election. Its questions are handed out.
     pub fn elect(&mut self, alloc: Global) -> Result<Vec<GroupMessage>, AllocError> {
         if let Some(engine) = &mut self.engine {
-            engine.elect(5)?;
+            engine.elect(self.now)?;
         }
         self.end(alloc)
     }
@@ -136,8 +144,9 @@ impl GroupNode {
         alloc: Global,
         message: GroupMessage,
     ) -> Result<Vec<GroupMessage>, AllocError> {
+        self.now = self.now.saturating_add(1);
         if let Some(engine) = &mut self.engine {
-            take(engine, message)?;
+            take(engine, message, self.now)?;
         }
         self.end(alloc)
     }

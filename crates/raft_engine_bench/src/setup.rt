@@ -29,6 +29,8 @@ pub struct Task {
     pub beats: u64,
     /// How many elections the leader wins before that, each under a vote of its own.
     pub elections: u64,
+    /// How many places of the log are purged before that, one after the other.
+    pub purges: u64,
 }
 
 impl Task {
@@ -103,16 +105,45 @@ pub fn stored(alloc: Global, task: &Task) -> Result<StoredGroup, AllocError> {
     Ok(stored)
 }
 
+// What a node knows of what it has stored, where that is a log.
+fn known(
+    alloc: Global,
+    stored: &StoredGroup,
+) -> Result<Option<KnownState<u64, BasicNode>>, AllocError> {
+    if !all_go_on(None, stored.log()) {
+        return Ok(None);
+    }
+    let meta = SnapshotMeta::default(alloc);
+    let known = KnownState::load(alloc, stored.vote(), None, meta, stored.log())?;
+    Ok(Some(known))
+}
+
 /// The engine of the node with what it has stored.
 pub fn engine(
     alloc: Global,
     id: u64,
     stored: &StoredGroup,
 ) -> Result<Option<Engine<Numbered>>, AllocError> {
-    if !all_go_on(None, stored.log()) {
-        return Ok(None);
+    match known(alloc, stored)? {
+        None => Ok(None),
+        Some(known) => Ok(Some(Engine::of_node(alloc, known, id))),
     }
-    let meta = SnapshotMeta::default(alloc);
-    let known = KnownState::load(alloc, stored.vote(), None, meta, stored.log())?;
-    Ok(Some(Engine::of_node(alloc, known, id)))
+}
+
+/// How many places are purged, one after the other, of what a node knows of its stored group.
+pub fn purge_each(alloc: Global, task: &Task) -> Result<u64, AllocError> {
+    let stored = stored(alloc, task)?;
+    let Some(mut known) = known(alloc, &stored)? else {
+        return Ok(0);
+    };
+    for place in 0..task.purges {
+        let Some(log_id) = known.get_log_id(place) else {
+            break;
+        };
+        if log_id.index >= u64::MAX - 1 {
+            break;
+        }
+        known.purge(&log_id)?;
+    }
+    Ok(known.first_place())
 }

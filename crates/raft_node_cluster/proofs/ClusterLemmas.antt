@@ -13,13 +13,17 @@ use Rattle.raft_node_cluster.specs.Happening.{EndsAt}
 use Rattle.raft_node_cluster.specs.Cluster.{ClusterValue, Happens, HappensBy, IsReached, Runs, RunsTo, Steps, refusal_in, with_node}
 use Rattle.raft_node_cluster.proofs.ListLemmas.{put_at_place}
 
-take_of : (ys rest : List ClusterEvent) → take (length ys) (ys ++ rest) ≡ ys
+take_of : {A : Type 0} (ys rest : List A) → take (length ys) (ys ++ rest) ≡ ys
 take_of [] rest = refl
 take_of (y ∷ ys) rest = ap (λ l. y ∷ l) (take_of ys rest)
 
+-- a list is the front of its own length
+pub front_of : {A : Type 0} (ys rest : List A) (n : ℕ) → n ≡ length ys → take n (ys ++ rest) ≡ ys
+front_of ys rest n count = ap (λ k. take k (ys ++ rest)) count ∙ take_of ys rest
+
 -- so many of all are those so far
 pub taken_so_far : (ys rest all : List ClusterEvent) (n : ℕ) → ys ++ rest ≡ all → n ≡ length ys → take n all ≡ ys
-taken_so_far ys rest all n e count = ap (take n) (sym e) ∙ ap (λ k. take k (ys ++ rest)) count ∙ take_of ys rest
+taken_so_far ys rest all n e count = ap (take n) (sym e) ∙ front_of ys rest n count
 
 module _ {N : Type 0} (acts : NodeActs N) where
   pub runs_on : (nodes : List N) (sent : Sent) (history records : List Recorded) (between : List N) (gone : Sent) (r : Recorded) (new : List N) (later : Sent) → RunsTo acts nodes sent history records between gone → Happens acts between gone (history ++ records) r.event r.outcome new later → RunsTo acts nodes sent history (records ++ r ∷ []) new later

@@ -2,6 +2,9 @@ pub mod FactLemmas
 pub mod SendingLemmas
 pub mod HappeningLemmas
 pub mod ClusterLemmas
+pub mod TurnLemmas
+pub mod SlotLemmas
+pub mod RoundLemmas
 pub mod ListLemmas
 pub mod PlainLemmas
 pub mod SpellingLemmas

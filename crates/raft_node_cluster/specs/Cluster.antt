@@ -7,7 +7,6 @@ use Rattle.raft_sent_frames.specs.declared.frame.SentFrame.{SentFrame}
 use Rattle.raft_sent_frames.specs.Frames.{frames_of}
 use Rattle.raft_cluster_events.specs.declared.event.ClusterEvent.{ClusterEvent}
 use Rattle.raft_cluster_events.specs.declared.outcome.CrashRefusal.{CrashRefusal}
-use Rattle.raft_cluster_events.specs.declared.outcome.CrashRefusal.TheVariants.{Memory}
 use Rattle.raft_cluster_events.specs.declared.outcome.EventOutcome.{EventOutcome}
 use Rattle.raft_cluster_events.specs.declared.outcome.EventOutcome.TheVariants.{TurnedAway}
 use Rattle.raft_cluster_events.specs.declared.outcome.Recorded.{Recorded}
@@ -60,10 +59,6 @@ module _ {N : Type 0} (acts : NodeActs N) where
     pub away : ClusterRefusal
     pub named : turned_by why ≡ Some away
     pub turned : IsTurnedAway old sent away o new later
-
-  -- without memory for a crash, which its node says, nothing happens
-  abbrev pub LacksMemoryToCrash : List N → Sent → ClusterEvent → Type 0
-  LacksMemoryToCrash nodes sent event = IsRefusedFor nodes sent event Memory
 
   abbrev pub HappensBy : Option ClusterRefusal → List N → Sent → ClusterEvent → EventOutcome → List N → Sent → Type 0
   HappensBy (Some why) nodes sent event outcome nodes' sent' = IsTurnedAway nodes sent why outcome nodes' sent'

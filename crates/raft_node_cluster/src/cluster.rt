@@ -1,65 +1,43 @@
 //! A cluster.
-ghost use Rattle.std.specs.Prelude.{◌≡◌, ◌≤◌, ◌++◌, ◌∷◌, [], length, take, IfOk, OnOk, OnErr, vec_len};
+ghost use Rattle.std.specs.Prelude.{◌≡◌, ◌≤◌, [], not, true, take, IfErr, IfOk, OnOk, OnErr, vec_len};
 ghost use Rattle.std.specs.Option.{option_copied};
 ghost use Rattle.raft_sent_frames.specs.Frames.{frames_of};
 ghost use Rattle.raft_node_cluster.specs.Facts.{node_in, node_of};
 ghost use Rattle.raft_node_laws.specs.Law.{KeepsLaw};
-ghost use Rattle.raft_node_cluster.specs.Cluster.{Happens, IsReached, LacksMemoryToCrash, Runs, Steps};
+ghost use Rattle.raft_node_cluster.specs.Cluster.{IsReached, Runs, Steps};
 ghost use Rattle.raft_node_cluster.specs.Joined.{HasHeadline, ids_of};
+ghost use Rattle.raft_node_cluster.specs.Round.{Rounds, is_for_nodes, is_round};
 
-use crate::facts::{asked_of, cuts_of, node_of, place_of, standing_at};
-use crate::happening::come_to;
-use raft_cluster_conditions::refusal;
-use raft_cluster_events::{ClusterEvent, ClusterNode, EventOutcome, Recorded, Sequence};
+use crate::facts::node_of;
+use crate::round::{RoundRefusal, ids_of, is_round, settle_all, work_all};
+use crate::slot::{Slot, slot_of, take_turn};
+use raft_cluster_events::{ClusterEvent, ClusterNode, Recorded};
 use raft_sent_frames::{SentFrame, SentFrames};
 use std::alloc::{AllocError, Global};
 use std::marker::Model;
+use std::thread::Threads;
 
 /// Nodes, the frames that they sent, and all that happened (own). Frames are numbered for each group,
 /// from 0 in the order of sending, and none is ever taken away: one may come late, twice or never.
 #[derive(Drop)]
 pub struct Cluster<N: ClusterNode> {
     alloc: Global,
-    nodes: Vec<N>,
+    slots: Vec<Slot<N>>,
     sent: SentFrames,
     history: Vec<Recorded>,
 }
 
 impl<N: ClusterNode> Model for Cluster<N> {
     ghost use Rattle.raft_sent_frames.specs.Frames.{frames_of};
+    ghost use Rattle.std.specs.Prelude.{map};
     ghost use Rattle.raft_node_cluster.specs.Cluster.{ClusterValue, IsReached};
+    ghost use Rattle.raft_node_cluster.specs.Round.{are_idle};
 
     ghost Value = { ClusterValue N };
 
-    ghost view = { λ c. record { nodes = c.nodes.items; sent = c.sent; history = c.history.items } };
+    ghost view = { λ c. record { nodes = map (λ slot. slot.node) c.slots.items; sent = c.sent; history = c.history.items } };
 
-    ghost invariant = { λ c. IsReached N.acts c.nodes.items (frames_of c.sent) c.history.items };
-}
-
-// An event happens behind this history: it is turned away, or comes to its node. An `Err` is the want
-// of memory of a node that is to crash, and changes nothing.
-fn happen<N: ClusterNode>(
-    alloc: Global,
-    nodes: &mut Vec<N>,
-    sent: &mut SentFrames,
-    history: &[Recorded],
-    event: &ClusterEvent,
-) -> Result<EventOutcome, AllocError>
-    ensures ok { IfOk result (λ o. Happens N.acts nodes.old.items (frames_of sent.old) history.now event.now o nodes.new.items (frames_of sent.new)) }
-    ensures memory { OnErr result (LacksMemoryToCrash N.acts nodes.old.items (frames_of sent.old) event.now) }
-    ensures nodes { OnErr result (nodes.new.items ≡ nodes.old.items) }
-    ensures frames { OnErr result (sent.new ≡ sent.old) }
-{
-    let place = place_of(nodes.as_slice(), node_of(sent, event));
-    let standing = standing_at(nodes.as_slice(), place);
-    let asked = asked_of(history, sent, event);
-    if let Some(why) = refusal(standing, asked, cuts_of(event)) {
-        return Ok(EventOutcome::TurnedAway(why));
-    }
-    match place {
-        Some(place) => come_to(alloc, sent, &mut nodes[place], event),
-        None => Ok(EventOutcome::Done(Sequence::new(alloc))),
-    }
+    ghost invariant = { λ c. IsReached N.acts (map (λ slot. slot.node) c.slots.items) (frames_of c.sent) c.history.items × are_idle (map (λ slot. slot.answer) c.slots.items) };
 }
 
 impl<N: ClusterNode> Cluster<N> {
@@ -70,13 +48,13 @@ impl<N: ClusterNode> Cluster<N> {
         ensures sent { IfOk result (λ c. c.sent ≡ []) }
         ensures history { IfOk result (λ c. c.history ≡ []) }
     {
-        let mut nodes = Vec::new(alloc);
+        let mut slots = Vec::new(alloc);
         for id in ids {
-            nodes.push(N::begin(alloc, *id, settings)?)?;
+            slots.push(Slot::new(N::begin(alloc, *id, settings)?))?;
         }
         Ok(Cluster {
             alloc,
-            nodes,
+            slots,
             sent: SentFrames::new(alloc),
             history: Vec::new(alloc),
         })
@@ -90,9 +68,9 @@ impl<N: ClusterNode> Cluster<N> {
     {
         self.replays();
         self.history.reserve(1)?;
-        let outcome = happen(
+        let outcome = take_turn(
             self.alloc,
-            &mut self.nodes,
+            &mut self.slots,
             &mut self.sent,
             self.history.as_slice(),
             &event,
@@ -134,7 +112,10 @@ impl<N: ClusterNode> Cluster<N> {
     pub fn node(&self, id: u64) -> Option<&N>
         ensures { option_copied result ≡ node_in N.acts self.now.nodes id }
     {
-        self.nodes.iter().find(|node| node.id() == id)
+        match slot_of(self.slots.as_slice(), id) {
+            Some(slot) => Some(&slot.node),
+            None => None,
+        }
     }
 
     /// The id of the node that an event is for; none where it delivers a frame that wasn't sent.
@@ -156,5 +137,57 @@ impl<N: ClusterNode> Cluster<N> {
         ensures { result.now ≡ self.now.history }
     {
         self.history.as_slice()
+    }
+}
+
+impl<N: ClusterNode + Send> Cluster<N>
+where
+    N::Machine: Send,
+    N::Settings: Send,
+{
+    /// Runs the events of a round, each for another node, at once, and says how many happened (own):
+    /// all but crashes for which their nodes lack memory. The nodes are lent to threads in place. What
+    /// comes of it is what `run` gives on these events in their order: outcomes, numbers of frames,
+    /// nodes, history. Set-ups of one group are run in order, behind the threads. An `Err` changes
+    /// nothing: C8 where two events are for one node, or a frame wasn't sent before the round, else C10.
+    pub fn run_round<R: Threads + Sync>(
+        &mut self,
+        rt: &R,
+        events: Vec<ClusterEvent>,
+    ) -> Result<usize, RoundRefusal>
+        ensures runs { IfOk result (λ count. Rounds N.acts self.old events.items count self.new) }
+        ensures round { OnOk result (is_round (frames_of self.old.sent) events.items ≡ true) }
+        ensures why { IfErr result (λ why. is_for_nodes why ≡ not (is_round (frames_of self.old.sent) events.items)) }
+        ensures err { OnErr result (self.new ≡ self.old) }
+        ensures headline { KeepsLaw N.Machine.rules N.acts N.states → HasHeadline N.Machine.rules N.acts N.states self.new.nodes (frames_of self.new.sent) self.new.history }
+    {
+        self.replays();
+        if !is_round(&self.sent, events.as_slice()) {
+            return Err(RoundRefusal::SameNode);
+        }
+        let Ok(ids) = ids_of(self.alloc, self.slots.as_slice()) else {
+            return Err(RoundRefusal::Memory);
+        };
+        let Ok(()) = self.history.reserve(events.len()) else {
+            self.replays();
+            return Err(RoundRefusal::Memory);
+        };
+        work_all(
+            rt,
+            self.slots.as_mut_slice(),
+            ids.as_slice(),
+            &self.sent,
+            self.history.as_slice(),
+            events.as_slice(),
+        );
+        let count = settle_all(
+            self.alloc,
+            &mut self.slots,
+            &mut self.sent,
+            &mut self.history,
+            events,
+        );
+        self.replays();
+        Ok(count)
     }
 }

@@ -1,11 +1,14 @@
 //! What of an event decides whether the cluster turns it away.
-ghost use Rattle.std.specs.Prelude.{◌≡◌, ◌<◌, ◌==◌, length, position, IfSome};
+ghost use Rattle.std.specs.Prelude.{◌≡◌, ◌==◌, Some};
 ghost use Rattle.std.specs.Option.{option_copied, option_map};
 ghost use Rattle.raft_group_step.specs.Values.{membership_eq};
 ghost use Rattle.raft_sent_frames.specs.Frames.{frames_of};
-ghost use Rattle.raft_node_cluster.specs.Facts.{asked_of, cuts_of, delivered, differs, is_taken, membership_in, node_at, node_of, node_there, place_in, set_up_asked, set_up_by, standing_of};
+ghost use Rattle.raft_cluster_conditions.specs.declared.reasons.NodeStanding.TheVariants.{Missing};
+ghost use Rattle.raft_cluster_conditions.specs.Refusal.{refusal_of};
+ghost use Rattle.raft_node_cluster.specs.Facts.{asked_of, cuts_of, delivered, differs, is_taken, membership_in, node_of, set_up_asked, set_up_by, standing_of};
+ghost use Rattle.raft_node_cluster.specs.Turn.{refusal_for};
 
-use raft_cluster_conditions::{Asked, NodeStanding};
+use raft_cluster_conditions::{Asked, ClusterRefusal, NodeStanding, refusal};
 use raft_cluster_events::{ClusterEvent, ClusterNode, EventOutcome, GroupCommand, Recorded};
 use raft_group_step::GroupCall;
 use raft_sent_frames::{SentFrame, SentFrames};
@@ -121,42 +124,41 @@ pub fn asked_of(history: &[Recorded], sent: &SentFrames, event: &ClusterEvent) -
     }
 }
 
-// Where the first node of this id stands among these, if one does.
-fn position_of<N: ClusterNode>(nodes: &[N], id: u64) -> Option<usize>
-    ensures first { result ≡ position (λ node. N.acts.id node == id) nodes.now }
-    ensures within { IfSome result (λ place. place < length nodes.now) }
+// What is known of this node.
+fn standing_of<N: ClusterNode>(node: &N) -> NodeStanding
+    ensures { result ≡ standing_of N.acts (Some node.now) }
 {
-    nodes.iter().position(|node| node.id() == id)
-}
-
-/// Where the node of this id stands among these, if it does.
-#[tactic(auto, using(crate::proofs::FactLemmas::there_found))]
-pub fn place_of<N: ClusterNode>(nodes: &[N], id: Option<u64>) -> Option<usize>
-    ensures within { IfSome result (λ place. place < length nodes.now) }
-    ensures first { result ≡ place_in N.acts nodes.now id }
-    ensures node { node_there nodes.now result ≡ node_at N.acts nodes.now id }
-{
-    match id {
-        Some(id) => position_of(nodes, id),
-        None => None,
+    if node.is_up() {
+        NodeStanding::Up
+    } else {
+        NodeStanding::Down
     }
 }
 
-/// What is known of the node at this place.
-pub fn standing_at<N: ClusterNode>(nodes: &[N], place: Option<usize>) -> NodeStanding
-    ensures { result ≡ standing_of N.acts (node_there nodes.now place) }
+/// Why an event for this node is turned away behind a history, if it is.
+pub fn refusal_at<N: ClusterNode>(
+    node: &N,
+    sent: &SentFrames,
+    history: &[Recorded],
+    event: &ClusterEvent,
+) -> Option<ClusterRefusal>
+    ensures { result ≡ refusal_for N.acts node.now (frames_of sent.now) history.now event.now }
 {
-    let Some(place) = place else {
-        return NodeStanding::Missing;
-    };
-    match nodes.get(place) {
-        Some(node) => {
-            if node.is_up() {
-                NodeStanding::Up
-            } else {
-                NodeStanding::Down
-            }
-        }
-        None => NodeStanding::Missing,
+    let asked = asked_of(history, sent, event);
+    refusal(standing_of(node), asked, cuts_of(event))
+}
+
+/// Why an event is turned away for which there is no node.
+pub fn refusal_nowhere(
+    sent: &SentFrames,
+    history: &[Recorded],
+    event: &ClusterEvent,
+) -> ClusterRefusal
+    ensures { Some result ≡ refusal_of Missing (asked_of history.now (frames_of sent.now) event.now) (cuts_of event.now) }
+{
+    let asked = asked_of(history, sent, event);
+    match asked {
+        Asked::Delivery { length: None } => ClusterRefusal::NoFrame,
+        _ => ClusterRefusal::NoNode,
     }
 }

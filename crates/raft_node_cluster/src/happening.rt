@@ -8,14 +8,16 @@ ghost use Rattle.raft_node_cluster.specs.Facts.{Sent, delivered};
 ghost use Rattle.raft_node_laws.specs.Answered.{one_of, opening_of, some_of};
 ghost use Rattle.raft_node_cluster.specs.Happening.{Delivers, EndsAt, IsOfGroup, RefusesFor, Settles};
 ghost use Rattle.raft_node_cluster.specs.Happening.{over, turned_by};
+ghost use Rattle.raft_node_cluster.specs.Turn.{HappensAt, IsAnswered, quietly};
 
+use crate::answer::Answer;
 use crate::delivery::deliver;
-use crate::facts::delivered;
+use crate::facts::{delivered, refusal_at};
 use crate::sending::{send_all, send_alone};
 use raft_cluster_conditions::ClusterRefusal;
 use raft_cluster_events::{
     ClusterEvent, ClusterNode, CrashChoice, CrashRefusal, EventOutcome, NodeError, NodeOutcome,
-    Stop, StopCause,
+    Recorded, Stop, StopCause,
 };
 use raft_sent_frames::{SentFrames, Sequence};
 use std::alloc::{AllocError, Global};
@@ -55,7 +57,7 @@ fn settle_one<N: ClusterNode>(
 }
 
 // What the node answered to an event of a group becomes the event's outcome.
-fn settle<N: ClusterNode>(
+fn settle_group<N: ClusterNode>(
     alloc: Global,
     sent: &mut SentFrames,
     node: &mut N,
@@ -67,6 +69,16 @@ fn settle<N: ClusterNode>(
     match answered {
         Ok(Some(outcome)) => settle_one(alloc, sent, node, outcome),
         Ok(None) => EventOutcome::Done(Sequence::new(alloc)),
+        Err(error) => over(error),
+    }
+}
+
+// What the node answered to an event that sends nothing becomes the event's outcome.
+fn settle_quietly(alloc: Global, answered: Result<(), NodeError>) -> EventOutcome
+    ensures { result ≡ quietly answered }
+{
+    match answered {
+        Ok(()) => EventOutcome::Done(Sequence::new(alloc)),
         Err(error) => over(error),
     }
 }
@@ -137,21 +149,74 @@ fn turned_by(why: CrashRefusal) -> Option<ClusterRefusal>
 
 // The node's machine stops, unless the node refuses that: then the crash is turned away. An `Err` is
 // the node's want of memory. Where it doesn't stop the node is as before.
-fn crash<N: ClusterNode>(
-    alloc: Global,
-    node: &mut N,
-    choice: CrashChoice,
-) -> Result<EventOutcome, AllocError>
-    ensures ok { IfOk result (λ o. (sent : Sent) (at : ℕ) → EndsAt N.acts sent (Crash at choice) node.old o sent node.new) }
+fn crash<N: ClusterNode>(node: &mut N, choice: CrashChoice) -> Result<Answer, AllocError>
+    ensures ok { IfOk result (λ a. (sent : Sent) (at : ℕ) → IsAnswered N.acts sent (Crash at choice) node.old a node.new) }
     ensures memory { OnErr result (N.acts.refuses node.old choice Memory) }
     ensures err { OnErr result (node.new ≡ node.old) }
 {
     match node.crash(choice) {
-        Ok(()) => Ok(EventOutcome::Done(Sequence::new(alloc))),
+        Ok(()) => Ok(Answer::Quiet(Ok(()))),
         Err(why) => match turned_by(why) {
-            Some(away) => Ok(EventOutcome::TurnedAway(away)),
+            Some(away) => Ok(Answer::Spared(away)),
             None => Err(AllocError),
         },
+    }
+}
+
+/// An event that isn't turned away comes to its node, which answers it, or refuses a crash. An `Err` is
+/// the node's want of memory for a crash, and changes nothing.
+pub fn ask_node<N: ClusterNode>(
+    node: &mut N,
+    sent: &SentFrames,
+    event: &ClusterEvent,
+) -> Result<Answer, AllocError>
+    ensures ok { IfOk result (λ a. IsAnswered N.acts (frames_of sent.now) event.now node.old a node.new) }
+    ensures memory { OnErr result (RefusesFor N.acts event.now node.old Memory) }
+    ensures err { OnErr result (node.new ≡ node.old) }
+{
+    match event {
+        ClusterEvent::AddGroup { group, .. } => {
+            let answered = some(node.add_group(*group));
+            Ok(Answer::OfGroup(answered))
+        }
+        ClusterEvent::Ask {
+            group,
+            call,
+            now,
+            ..
+        } => {
+            let answered = some(node.ask(*group, call, *now));
+            Ok(Answer::OfGroup(answered))
+        }
+        ClusterEvent::Deliver { cuts, now, .. } => {
+            let answered = deliver_event(node, sent, event, cuts.as_slice(), *now);
+            Ok(Answer::OfGroup(answered))
+        }
+        ClusterEvent::ResetPeer { peer, .. } => Ok(Answer::Quiet(node.reset_peer(*peer))),
+        ClusterEvent::Fuse { first_refused, .. } => {
+            node.fuse(*first_refused);
+            Ok(Answer::Quiet(Ok(())))
+        }
+        ClusterEvent::Crash { choice, .. } => crash(node, *choice),
+        ClusterEvent::Reopen { workers, .. } => Ok(Answer::Opened(node.reopen(*workers))),
+    }
+}
+
+/// What the node answered becomes the event's outcome: its frames are sent.
+pub fn settle<N: ClusterNode>(
+    alloc: Global,
+    sent: &mut SentFrames,
+    node: &mut N,
+    answer: Answer,
+) -> EventOutcome
+    ensures { (event : Event) (before : _) → IsAnswered N.acts (frames_of sent.old) event before answer node.old
+        → EndsAt N.acts (frames_of sent.old) event before result (frames_of sent.new) node.new }
+{
+    match answer {
+        Answer::OfGroup(answered) => settle_group(alloc, sent, node, answered),
+        Answer::Quiet(answered) => settle_quietly(alloc, answered),
+        Answer::Opened(answered) => settle_opening(alloc, sent, node, answered),
+        Answer::Spared(away) => EventOutcome::TurnedAway(away),
     }
 }
 
@@ -168,36 +233,26 @@ pub fn come_to<N: ClusterNode>(
     ensures node { OnErr result (node.new ≡ node.old) }
     ensures frames { OnErr result (sent.new ≡ sent.old) }
 {
-    match event {
-        ClusterEvent::AddGroup { group, .. } => {
-            let answered = some(node.add_group(*group));
-            Ok(settle(alloc, sent, node, answered))
-        }
-        ClusterEvent::Ask {
-            group,
-            call,
-            now,
-            ..
-        } => {
-            let answered = some(node.ask(*group, call, *now));
-            Ok(settle(alloc, sent, node, answered))
-        }
-        ClusterEvent::Deliver { cuts, now, .. } => {
-            let answered = deliver_event(node, sent, event, cuts.as_slice(), *now);
-            Ok(settle(alloc, sent, node, answered))
-        }
-        ClusterEvent::ResetPeer { peer, .. } => match node.reset_peer(*peer) {
-            Ok(()) => Ok(EventOutcome::Done(Sequence::new(alloc))),
-            Err(error) => Ok(over(error)),
-        },
-        ClusterEvent::Fuse { first_refused, .. } => {
-            node.fuse(*first_refused);
-            Ok(EventOutcome::Done(Sequence::new(alloc)))
-        }
-        ClusterEvent::Crash { choice, .. } => crash(alloc, node, *choice),
-        ClusterEvent::Reopen { workers, .. } => {
-            let answered = node.reopen(*workers);
-            Ok(settle_opening(alloc, sent, node, answered))
-        }
+    let answer = ask_node(node, sent, event)?;
+    Ok(settle(alloc, sent, node, answer))
+}
+
+/// An event for this node happens behind this history: it is turned away, or comes to the node. An
+/// `Err` is the node's want of memory for a crash, and changes nothing.
+pub fn happen_at<N: ClusterNode>(
+    alloc: Global,
+    sent: &mut SentFrames,
+    history: &[Recorded],
+    node: &mut N,
+    event: &ClusterEvent,
+) -> Result<EventOutcome, AllocError>
+    ensures ok { IfOk result (λ o. HappensAt N.acts node.old (frames_of sent.old) history.now event.now o (frames_of sent.new) node.new) }
+    ensures memory { OnErr result (RefusesFor N.acts event.now node.old Memory) }
+    ensures node { OnErr result (node.new ≡ node.old) }
+    ensures frames { OnErr result (sent.new ≡ sent.old) }
+{
+    match refusal_at(node, sent, history, event) {
+        Some(why) => Ok(EventOutcome::TurnedAway(why)),
+        None => come_to(alloc, sent, node, event),
     }
 }

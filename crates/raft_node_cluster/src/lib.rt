@@ -1,11 +1,14 @@
 //! A cluster of nodes: their events one after another, the frames between them, and all that happened.
 #![tactic(auto)]
 
+mod answer;
 mod cluster;
 mod delivery;
 mod facts;
 mod happening;
+mod round;
 mod sending;
+mod slot;
 
 pub use cluster::Cluster;
 pub use raft_cluster_conditions::ClusterRefusal;
@@ -14,3 +17,4 @@ pub use raft_cluster_events::{
     NodeFrame, NodeOutcome, NodeRefusal, Recorded, SentNumber, Sequence, Stop, StopCause,
 };
 pub use raft_sent_frames::SentFrame;
+pub use round::RoundRefusal;

@@ -2,6 +2,7 @@
 
 use crate::texts::print_texts;
 use raft_cluster_conditions::ClusterRefusal;
+use raft_node_cluster::RoundRefusal;
 use raft_script_lines::{NoEvent, ReadLineError};
 use raft_store::StoreRefusal;
 use raft_wire::{FrameError, FrameFault};
@@ -55,6 +56,11 @@ fn print_clusters(rt: &impl Print) -> io::Result<()> {
             ClusterRefusal::NotAnImage,
             ClusterRefusal::BadCut,
         ],
+    )?;
+    print_texts(
+        rt,
+        "RoundRefusal",
+        &[RoundRefusal::SameNode, RoundRefusal::Memory],
     )
 }
 

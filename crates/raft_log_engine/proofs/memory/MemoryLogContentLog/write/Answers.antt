@@ -1,8 +1,16 @@
 -- A write keeps what the log says of its files; a refused one stops it.
-use Rattle.std.proofs.Common.{refl}
+use Rattle.std.proofs.Common.{◌∙◌, refl}
 use Rattle.raft_log_disk.specs.MemorySystem.{disk_in}
+use Rattle.raft_log_engine.proofs.Reopened.{same_directories}
 use Rattle.raft_log_engine.proofs.Logs.{is_refused, is_written, refused_others, written_others}
 use Rattle.raft_log_engine.proofs.memory.MemoryLogContentLog.write.Goals as goal
+
+pub invariant_of-self : goal.invariant_of-self
+invariant_of-self c = record {
+  directories = same_directories c.self.inside.engine.append c.write.new.self.append c.in-Ok.ensures.paths ∙ c.self.invariant.directories;
+  sound = λ fresh. c.in-Ok.ensures.sound (c.self.invariant.sound fresh) refl;
+  alone = λ fresh. c.in-Ok.ensures.alone (c.self.invariant.alone fresh);
+}
 
 pub returns-in-Ok-clause-ok : goal.returns-in-Ok-clause-ok
 returns-in-Ok-clause-ok c =

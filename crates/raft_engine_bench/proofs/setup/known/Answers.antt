@@ -2,7 +2,7 @@
 use Rattle.std.proofs.Common.{◌∙◌, ap, sym, None}
 use Rattle.raft_messages.specs.Entries.{all_go_on}
 use Rattle.raft_engine.proofs.PlacedEntries.{go_on}
-use Rattle.raft_engine_bench.proofs.setup.engine.Goals as goal
+use Rattle.raft_engine_bench.proofs.setup.known.Goals as goal
 
 pub load-requires-clause-goes_on : goal.load-requires-clause-goes_on
 load-requires-clause-goes_on c =
