@@ -5,6 +5,7 @@ mod Calls
 mod Pieces
 mod Deliveries
 mod Openings
+mod Readers
 mod Keeping
 mod Handing
 mod Beginning
