@@ -85,9 +85,9 @@ impl<T: Drop> KeptVec<T> {
         ensures { result.items ≡ self }
     {
         let mut items = self.items;
-        let kept = items.len() - self.gone;
+        let count = items.len() - self.gone;
         items.rotate_left(self.gone);
-        items.truncate(kept);
+        items.truncate(count);
         items
     }
 
