@@ -1,11 +1,11 @@
-use Rattle.std.specs.Prelude.{◌≡◌, ◌⊎◌, ℕ, List, [], ◌∷◌, length, Contains, refl}
+use Rattle.std.specs.Prelude.{◌≡◌, ◌⊎◌, ℕ, List, [], ◌∷◌, Contains, refl}
 use Rattle.std.proofs.Common.{ap, sym, ◌∙◌, inl, inr, ⊎_elim, subst, arith}
 use Rattle.raft_laws.proofs.Counts.{at_contains, contains_among}
 use Rattle.raft_group_step.specs.GroupState.{Untold}
 use Rattle.raft_group_step.specs.StoredGroup.{end_place}
 use Rattle.raft_machines.specs.declared.telling.Told.{Told}
 use Rattle.raft_headline.specs.Answers.{IsToldIn}
-use Rattle.raft_headline.specs.ClusterEvent.{Said, silent}
+use Rattle.raft_headline.specs.ClusterEvent.{silent}
 use Rattle.raft_headline.specs.Rows.{leading, state_there, tells, told_at, waits}
 use Rattle.raft_headline.proofs.rows.tokens_told_or_waiting.Goals as goal
 
@@ -20,7 +20,7 @@ abbrev no_token : List Untold
 no_token = []
 
 never_none : (x : ℕ) (xs : List ℕ) → x ∷ xs ≡ [] → ⊥
-never_none x xs no = cc no
+never_none x xs e = cc e
 
 not_silent : (x : Untold) → IsToldIn silent x ⊎ Contains no_token x → ⊥
 not_silent x (inl said) = contains_among [] said.told said.has
