@@ -1,5 +1,5 @@
 pub mod NamedTokens
-pub mod Readers
+pub mod Telling
 pub mod Faults
 pub mod Ends
 pub mod Events

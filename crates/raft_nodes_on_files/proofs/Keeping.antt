@@ -37,7 +37,7 @@ use Rattle.raft_nodes_on_files.proofs.Calls.{adds_so, asks_so}
 use Rattle.raft_nodes_on_files.proofs.Deliveries.{frame_taken}
 use Rattle.raft_nodes_on_files.proofs.Led.{led}
 use Rattle.raft_nodes_on_files.proofs.Openings.{closed_led, crash_led, fused_led, opened_led, unopened_led}
-use Rattle.raft_nodes_on_files.proofs.Readers.{lends_in}
+use Rattle.raft_nodes_on_files.proofs.Lending.{lends_in}
 use Rattle.raft_nodes_on_files.proofs.Standing.{is_up_in}
 use Rattle.raft_nodes_on_files.proofs.Taken.{Behind, spells_of}
 

@@ -5,7 +5,7 @@ mod Calls
 mod Pieces
 mod Deliveries
 mod Openings
-mod Readers
+mod Lending
 mod Keeping
 mod Handing
 mod Beginning

@@ -3,7 +3,7 @@ use Rattle.std.proofs.Common.{ap}
 use Rattle.std.specs.Option.{option_copied}
 use Rattle.raft_node.specs.Reading.{machine_in}
 use Rattle.raft_node.specs.Standing.{running_in}
-use Rattle.raft_nodes_on_files.proofs.Readers.{told_unless}
+use Rattle.raft_nodes_on_files.proofs.Lending.{told_unless}
 use Rattle.raft_nodes_on_files.proofs.readers.machine_of.Goals as goal
 
 pub returns : goal.returns

@@ -1,7 +1,7 @@
 use Rattle.std.specs.Prelude.{refl}
 use Rattle.raft_node.specs.Reading.{place_in}
 use Rattle.raft_node.specs.Standing.{running_in}
-use Rattle.raft_nodes_on_files.proofs.Readers.{told_unless}
+use Rattle.raft_nodes_on_files.proofs.Lending.{told_unless}
 use Rattle.raft_nodes_on_files.proofs.readers.place_of.Goals as goal
 
 pub returns : goal.returns

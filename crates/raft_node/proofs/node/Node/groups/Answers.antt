@@ -1,6 +1,6 @@
 use Rattle.std.proofs.Common.{sym}
-use Rattle.raft_node.proofs.Readers.{names_so, rises_so}
-use Rattle.raft_node.proofs.readers.Node.groups.Goals as goal
+use Rattle.raft_node.proofs.Telling.{names_so, rises_so}
+use Rattle.raft_node.proofs.node.Node.groups.Goals as goal
 
 pub returns-clause-rising : goal.returns-clause-rising
 returns-clause-rising g c = λ going. rises_so (λ v. v.items) _ c.groups_of.result c.groups_of.ensures.rising c.groups_of.ensures.ids
