@@ -220,18 +220,20 @@ module _ (queue : LogQueue) (d e : Disk) (same : HaveSame queue d e) (old : IsNa
       → AreAllGot queue e before fs all
   got_same directories count [] fs before all numbers none got = subst (λ (l : List File). AreAllGot queue e before l all) (sym none) (subst (λ (l : List File). AreAllGot queue d before l all) none got)
   got_same directories count (name ∷ names) fs before all numbers (f, rest, is, here, others) got =
-      subst (λ (l : List File). AreAllGot queue e before l all) (sym is) (behind (subst (λ (l : List File). AreAllGot queue d before l all) is got))
+      subst (λ (l : List File). AreAllGot queue e before l all) (sym is)
+      (behind (λ more last. got_same directories count names rest (before ++ numbered f.seq (said_in queue e f)) more numbers.3 others last) (subst (λ (l : List File). AreAllGot queue d before l all) is got))
     where
       said : said_in queue d f ≡ said_in queue e f
       said = sym (said_same directories name f numbers.0 here.there)
 
-      behind : AreAllGot queue d before (f ∷ rest) all → AreAllGot queue e before (f ∷ rest) all
-      behind (first, more, split, one, last) = (
+      behind : ((more : List Placed) → AreAllGot queue d (before ++ numbered f.seq (said_in queue e f)) rest more → AreAllGot queue e (before ++ numbered f.seq (said_in queue e f)) rest more) → AreAllGot queue d before (f ∷ rest) all
+          → AreAllGot queue e before (f ∷ rest) all
+      behind next (first, more, split, one, last) = (
         first,
         more,
         split,
         subst (λ (ks : List Batch). AreGot queue f before ks first) said one,
-        got_same directories count names rest (before ++ numbered f.seq (said_in queue e f)) more numbers.3 others (subst (λ (ks : List Batch). AreAllGot queue d (before ++ numbered f.seq ks) rest more) said last),
+        next more (subst (λ (ks : List Batch). AreAllGot queue d (before ++ numbered f.seq ks) rest more) said last),
       )
 
   -- faults and alignments
