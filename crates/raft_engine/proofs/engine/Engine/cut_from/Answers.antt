@@ -29,8 +29,7 @@ returns-clause-step g c = λ x own r step follows past.
     (log_stored x own c.args.self.now _ r step refl refl refl refl (CutFrom c.args.place) (DeleteConflictLog c.in-Some.since) follows
     (c.in_ok-truncate.ensures.known r.state.stored step.state.knows order.placed first) c.in_ok-truncate.ensures.rest
     (order_of_cut r.state order c.args.place past) (cut_keeps_id r.state order c.args.place past)
-    h (ap (λ n. CutFrom n ∷ []) at) refl tt
-    (
+    h (ap (λ n. CutFrom n ∷ []) at) refl tt (
       subst (λ n. next_place c.args.self.now.state.state.committed ≤ n) (sym at) (past_committed c.args.self.now.state.state.committed r.state.committed c.args.place (committed_place own c.args.self.now r.state step.state) past),
       in_log_of_found r.state.stored c.args.place c.in-Some.since order.placed first found,
     )
