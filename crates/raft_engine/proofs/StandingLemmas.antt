@@ -12,7 +12,7 @@ use Rattle.raft_group_step.specs.Message.{Message}
 use Rattle.raft_group_step.specs.Frames.{committed_id}
 use Rattle.raft_group_step.specs.Refusal.{is_voter_in}
 use Rattle.raft_commands.specs.declared.command.Command.TheVariants.{QuitLeader, SaveVote}
-use Rattle.raft_known_state.specs.KnownState.{AreUpToTerm, KnownState, Knows, committed_membership, stored_ids, with_goal}
+use Rattle.raft_known_state.specs.KnownState.{AreUpToTerm, KnownState, Knows, committed_membership, entry_ids, with_goal}
 use Rattle.raft_leaders.specs.Candidate.{CandidateValue}
 use Rattle.raft_leaders.specs.Leader.{LeaderValue}
 use Rattle.std.specs.List.{All, flat_map}
@@ -88,7 +88,7 @@ module _ {C R : Type 0} (x : Given) (own : ℕ) (e e' : Engine C R) (r : StepRes
           knows = record {
             vote = ap (λ (y : KnownState). y.state.vote.value) state ∙ old.knows.vote;
             ids = ap (λ (y : KnownState). y.state.log_ids) state ∙ old.knows.ids;
-            terms = subst (λ (y : KnownState). AreUpToTerm y.highest_term (stored_ids r.state.stored)) (sym state) old.knows.terms;
+            terms = subst (λ (y : KnownState). AreUpToTerm y.highest_term (entry_ids r.state.stored.log)) (sym state) old.knows.terms;
             purged = ap (λ (y : KnownState). y.state.purged_next) state ∙ old.knows.purged;
             snapshot = ap (λ (y : KnownState). y.state.snapshot_meta) state ∙ old.knows.snapshot;
             memberships = ap (λ (y : KnownState). y.memberships) state ∙ old.knows.memberships;
