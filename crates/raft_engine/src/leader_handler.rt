@@ -1,5 +1,5 @@
 //! Leading: how a lead begins, and what a leader writes.
-ghost use Rattle.std.specs.Prelude.{◌≡◌, ◌+◌, ◌<◌, ◌^◌, ℕ, OnOk, IfOk, IsTrue, ◌↔◌, true, Some, None, List, [], Option};
+ghost use Rattle.std.specs.Prelude.{◌≡◌, ◌+◌, ◌<◌, ◌^◌, ℕ, OnOk, IfOk, IsTrue, ◌↔◌, true, false, Some, None, List, [], Option};
 ghost use Rattle.raft_values.specs.LogId.{next_place};
 ghost use Rattle.raft_state.specs.LogIdList.{last_id};
 ghost use Rattle.raft_group_step.specs.Values.{ChangeMembers, LoggedMembership, after_change, is_written_by, membership_after};
