@@ -124,17 +124,17 @@ module _ (own : ℕ) (s : GroupState) (e : GroupEvent) (step : IsStep own s e) (
       leads = ap₂ is_same_lead caught.lead is.lead ∙ same_lead s t
 
       -- where the node leads on, those that wait do so behind what the machine has run
-      pub rises : (now : Option (LogId ℕ)) → now ≡ later_id a.last seen.snapshot → is_same_lead a.lead seen.lead ≡ true → RiseFrom (next_place now) (untold_of a.waiting.items)
+      pub rises : (now : Option (LogId ℕ)) → now ≡ later_id a.last seen.snapshot → is_same_lead a.lead seen.lead ≡ true → RiseFrom (next_place now) (untold_of a.waiting)
       rises now later on =
           let low : next_place seen.snapshot ≤ next_place a.last =
           subst (λ o. next_place o ≤ next_place a.last) (sym is.snapshot) (subst (λ k. next_place (snapshot_last t.stored) ≤ k) (sym caught.last) (step.built (sym leads ∙ on))) in
           let same : next_place now ≡ place_above s.applied = ap next_place (later ∙ stays_last a.last seen.snapshot low) ∙ caught.last in
           subst (λ xs. RiseFrom (next_place now) xs) (sym caught.waiting) (subst (λ k. RiseFrom k (s.untold ++ brought s e)) (sym same) step.rising)
 
-      pub told_due : is_same_lead a.lead seen.lead ≡ true → (group_step own s e).told ≡ due_at (place_of seen.committed) (untold_of a.waiting.items)
+      pub told_due : is_same_lead a.lead seen.lead ≡ true → (group_step own s e).told ≡ due_at (place_of seen.committed) (untold_of a.waiting)
       told_due on = tokens.told (sym leads ∙ on) ∙ sym (ap₂ due_at committed_place caught.waiting)
 
-      pub later_wait : is_same_lead a.lead seen.lead ≡ true → later_than (place_of seen.committed) (untold_of a.waiting.items) ≡ t.untold
+      pub later_wait : is_same_lead a.lead seen.lead ≡ true → later_than (place_of seen.committed) (untold_of a.waiting) ≡ t.untold
       later_wait on = ap₂ later_than committed_place caught.waiting ∙ sym (tokens.waits (sym leads ∙ on))
 
       pub none_unknown : is_same_lead a.lead seen.lead ≡ true → [] ≡ (group_step own s e).unknown
@@ -147,7 +147,7 @@ module _ (own : ℕ) (s : GroupState) (e : GroupEvent) (step : IsStep own s e) (
       pub none_wait : is_same_lead a.lead seen.lead ≡ false → [] ≡ t.untold
       none_wait off = sym (tokens.none_waits (sym leads ∙ off))
 
-      pub all_unknown : is_same_lead a.lead seen.lead ≡ false → tokens_of (untold_of a.waiting.items) ≡ (group_step own s e).unknown
+      pub all_unknown : is_same_lead a.lead seen.lead ≡ false → tokens_of (untold_of a.waiting) ≡ (group_step own s e).unknown
       all_unknown off =
           ap tokens_of (caught.waiting ∙ ap (λ ys. s.untold ++ ys) (none_brought own s e step.taken (sym leads ∙ off)) ∙ append-nil s.untold)
           ∙ sym (tokens.unknown (sym leads ∙ off))

@@ -1,8 +1,9 @@
 -- Tokens that wait by rising place: those up to a place come first.
 use Rattle.std.specs.Prelude.{◌≡◌, ℕ, zero, suc, ◌+◌, ◌-◌, ◌≤◌, cond, not, Bool, true, false, count_by, filter, List, [], ◌∷◌, ◌++◌, length, take, drop, map, Option, Some, None, Result, Ok, Err, OnErr, refl}
-use Rattle.std.proofs.Common.{sym, ap, ap₂, ◌∙◌, arith}
+use Rattle.std.proofs.Common.{◌<◌, get_or, sym, ap, ap₂, ◌∙◌, arith}
+use Rattle.std.specs.List.Sorted.{IsPartitionedBy}
 use Rattle.std.proofs.lemmas.Bool.Decides.{nat_tests}
-use Rattle.std.proofs.lemmas.List.{map-append, take-map, take_rest}
+use Rattle.std.proofs.lemmas.List.{length-append, length-map, map-append, take-append-le, take-map, take_all}
 use Rattle.std.proofs.lemmas.List.Sums.{length-filter}
 use Rattle.raft_values.specs.declared.log_id.LogId.{LogId}
 use Rattle.raft_values.specs.LogId.{place_of, reaches}
@@ -123,12 +124,57 @@ module _ (upto : Option (LogId ℕ)) (from : ℕ) (ws vs : List AnUntold) (n : �
       ∙ first_waiting (due (place_of upto) (untold_of ws)) ws
       ∙ (are_parted (place_of upto) from (untold_of ws) rises).first
 
-  pub rest_due : (later : List AnUntold) → later ≡ take (length vs - n) (drop n vs) → untold_of later ≡ later_than (place_of upto) (untold_of ws)
-  rest_due later is =
-      ap untold_of (is ∙ take_rest vs n)
-      ∙ ap₂ (λ k zs. untold_of (drop k zs)) number same
+  pub rest_due : untold_of (drop n ws) ≡ later_than (place_of upto) (untold_of ws)
+  rest_due =
+      ap (λ k. untold_of (drop k ws)) number
       ∙ rest_waiting (due (place_of upto) (untold_of ws)) ws
       ∙ (are_parted (place_of upto) from (untold_of ws) rises).rest
+
+-- ---- found by halving
+
+-- each waits for this place or a later one
+none_below : (place : ℕ) (ws : List AnUntold) → RiseFrom place (untold_of ws) → (k : ℕ) (d : AnUntold) → k < length ws → place ≤ (get_or ws k d).place
+none_below place [] h k d l = absurd (omega arith)
+none_below place (w ∷ ws) h zero d l = h.0
+none_below place (w ∷ ws) h (suc k) d l =
+    let first : place ≤ w.place = h.0 in
+    let more : w.place + 1 ≤ (get_or ws k d).place = none_below (w.place + 1) ws h.1 k d (omega arith) in
+    omega arith
+
+lower_too : (upto : Option (LogId ℕ)) (low high : ℕ) → low ≤ high → reaches upto high ≡ true → reaches upto low ≡ true
+lower_too None low high l e = absurd (let f : false ≡ true = e in cc)
+lower_too (Some id) low high l e = grind (arith, nat_tests, l, e)
+
+-- behind one that isn't due none is
+pub due_first : (upto : Option (LogId ℕ)) (place : ℕ) (ws : List AnUntold) → RiseFrom place (untold_of ws) → IsPartitionedBy (λ (w : AnUntold). reaches upto w.place) ws
+due_first upto place [] h i j d l m e = absurd (omega arith)
+due_first upto place (w ∷ ws) h zero zero d l m e = e
+due_first upto place (w ∷ ws) h zero (suc j) d l m e =
+    let later : w.place + 1 ≤ (get_or ws j d).place = none_below (w.place + 1) ws h.1 j d (omega arith) in
+    lower_too upto w.place (get_or ws j d).place (omega arith) e
+due_first upto place (w ∷ ws) h (suc i) zero d l m e = absurd (omega arith)
+due_first upto place (w ∷ ws) h (suc i) (suc j) d l m e = due_first upto (w.place + 1) ws h.1 i j d (omega arith) (omega arith) e
+
+-- so many pass as stand in front of the first that doesn't
+module _ (p : AnUntold → Bool) where
+  pub passing : (ws : List AnUntold) (n : ℕ) → n ≤ length ws
+      → ((k : ℕ) (d : AnUntold) → k < n → p (get_or ws k d) ≡ true)
+      → ((k : ℕ) (d : AnUntold) → n ≤ k → k < length ws → p (get_or ws k d) ≡ false)
+      → n ≡ length (filter p ws)
+  passing [] n l t f = omega arith
+  passing (w ∷ ws) zero l t f =
+      passing ws zero (omega arith) (λ k d b. absurd (omega arith)) (λ k d a b. f (suc k) d (omega arith) (omega arith))
+      ∙ ap (λ b. length (cond b (w ∷ filter p ws) (filter p ws))) (sym (f 0 w (omega arith) (omega arith)))
+  passing (w ∷ ws) (suc n) l t f =
+      ap suc (passing ws n (omega arith) (λ k d b. t (suc k) d (omega arith)) (λ k d a b. f (suc k) d (omega arith) (omega arith)))
+      ∙ ap (λ b. length (cond b (w ∷ filter p ws) (filter p ws))) (sym (t 0 w (omega arith)))
+
+-- where the last one goes, the others wait on
+pub without_last : (ws : List AnUntold) (xs : List Untold) (x : Untold) (n : ℕ) → n ≡ length ws - 1 → untold_of ws ≡ xs ++ x ∷ [] → untold_of (take n ws) ≡ xs
+without_last ws xs x n last are =
+    let count : length ws ≡ length xs + 1 = sym (length-map ws (λ (w : AnUntold). record { token = w.token; place = w.place })) ∙ ap length are ∙ length-append xs (x ∷ []) in
+    let one_less : n ≡ length xs = omega arith in
+    first_waiting n ws ∙ ap₂ (λ k ys. take k ys) one_less are ∙ take-append-le (length xs) xs (x ∷ []) (omega arith) ∙ take_all (length xs) xs (omega arith)
 
 -- the tokens of those that wait
 pub their_tokens : (ws : List AnUntold) → map (λ (w : AnUntold). w.token) ws ≡ tokens_of (untold_of ws)

@@ -22,7 +22,7 @@ pub record IsCaughtUp (rules : MachineRules) (machine : List ℕ) (a : Applied) 
   pub folded : machine ≡ fold_of rules (applied_list s)
   pub last : next_place a.last ≡ place_above s.applied
   pub lead : a.lead ≡ lead_of s
-  pub waiting : untold_of a.waiting.items ≡ s.untold
+  pub waiting : untold_of a.waiting ≡ s.untold
 
 -- the fold's answer at each place of a list
 abbrev pub answers_of : MachineRules → List Entry → ℕ → Option (List ℕ)

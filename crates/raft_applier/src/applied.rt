@@ -2,7 +2,7 @@
 ghost use Rattle.std.specs.Prelude.{◌≡◌, []};
 
 use raft_machines::{Told, Untold};
-use raft_state::{LogId, Vote};
+use raft_state::{KeptVec, LogId, Vote};
 use std::alloc::Global;
 
 /// How far a node has come with a group, and who waits to be told (own).
@@ -12,8 +12,8 @@ pub struct Applied {
     pub last: Option<LogId<u64>>,
     /// The vote under which the node led when it was here last, if it did.
     pub lead: Option<Vote<u64>>,
-    /// The tokens that wait, by rising place.
-    pub waiting: Vec<Untold>,
+    /// The tokens that wait, by rising place. Those that are told go from its front, and no others move.
+    pub waiting: KeptVec<Untold>,
 }
 
 /// What became of tokens in an event (own).

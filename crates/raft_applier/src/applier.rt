@@ -20,12 +20,12 @@ ghost use Rattle.raft_applier.specs.Running.{HasRun, due_at, later_than};
 use crate::applied::{Applied, Progress};
 use crate::running::{entries_after, restore, run_rest};
 use crate::seen::{next_place_of, seen_of};
-use crate::waiting::{due_count, leads_on, tokens_of};
+use crate::waiting::{due_count, leads_on, tokens_of, without_one};
 use raft_group_storage::GroupStorage;
 use raft_machines::{StateMachine, Untold};
 use raft_member::Member;
 use raft_messages::{GroupEntry, SnapshotBytes};
-use raft_state::LogId;
+use raft_state::{KeptVec, LogId};
 use std::alloc::{AllocError, Global};
 
 /// What a node applies of a group (own): the machine that runs the group's entries, how far it has
@@ -49,7 +49,7 @@ impl<M: StateMachine> Applier<M> {
         let applied = Applied {
             last: None,
             lead: None,
-            waiting: Vec::new(alloc),
+            waiting: KeptVec::new(alloc),
         };
         Ok(Applier { machine, applied })
     }
@@ -94,7 +94,8 @@ impl<M: StateMachine> Applier<M> {
         ensures { (s : GroupState) (x : Waiting) → IsCaughtUp M.rules (M.state self.old.machine) self.old.applied (record s { untold = s.untold ++ x ∷ [] })
             → IsCaughtUp M.rules (M.state self.new.machine) self.new.applied s }
     {
-        let _given_back = self.applied.waiting.pop();
+        let kept = without_one(self.applied.waiting.len());
+        self.applied.waiting.truncate(kept);
     }
 
     // The node leads on: those that wait for what is run are told, and the others wait on.
@@ -108,18 +109,17 @@ impl<M: StateMachine> Applier<M> {
         ensures state { (list : List Entry) → entries.now ≡ drop (next_place last) list → HasRun M.rules (M.state self.old.machine) last list
             → OnOk result (M.state self.new.machine ≡ fold_of M.rules list) }
         ensures told { (list : List Entry) → entries.now ≡ drop (next_place last) list → HasRun M.rules (M.state self.old.machine) last list
-            → length list ≡ next_place upto → RiseFrom (next_place last) (untold_of self.old.applied.waiting.items)
-            → IfOk result (λ progress. AreToldAs (answers_of M.rules list) progress.told.items (due_at (place_of upto) (untold_of self.old.applied.waiting.items))) }
+            → length list ≡ next_place upto → RiseFrom (next_place last) (untold_of self.old.applied.waiting)
+            → IfOk result (λ progress. AreToldAs (answers_of M.rules list) progress.told.items (due_at (place_of upto) (untold_of self.old.applied.waiting))) }
         ensures unknown { IfOk result (λ progress. progress.unknown.items ≡ []) }
-        ensures waiting { (place : ℕ) → RiseFrom place (untold_of self.old.applied.waiting.items)
-            → OnOk result (untold_of self.new.applied.waiting.items ≡ later_than (place_of upto) (untold_of self.old.applied.waiting.items)) }
+        ensures waiting { (place : ℕ) → RiseFrom place (untold_of self.old.applied.waiting)
+            → OnOk result (untold_of self.new.applied.waiting ≡ later_than (place_of upto) (untold_of self.old.applied.waiting)) }
         ensures err { OnErr result (self.new.applied.waiting ≡ self.old.applied.waiting) }
     {
         let waiting = self.applied.waiting.as_slice();
         let due = due_count(waiting, &upto);
         let told = run_rest(alloc, &mut self.machine, last, entries, &waiting[..due])?;
-        let later = Vec::from_slice(alloc, &waiting[due..])?;
-        self.applied.waiting = later;
+        self.applied.waiting.drop_front(due);
         let unknown = Vec::new(alloc);
         Ok(Progress { told, unknown })
     }
@@ -135,8 +135,8 @@ impl<M: StateMachine> Applier<M> {
             → OnOk result (M.state self.new.machine ≡ fold_of M.rules list) }
         ensures told { (list : List Entry) → entries.now ≡ drop (next_place last) list → HasRun M.rules (M.state self.old.machine) last list
             → IfOk result (λ progress. progress.told.items ≡ []) }
-        ensures unknown { IfOk result (λ progress. progress.unknown.items ≡ waiting_tokens (untold_of self.old.applied.waiting.items)) }
-        ensures waiting { OnOk result (untold_of self.new.applied.waiting.items ≡ []) }
+        ensures unknown { IfOk result (λ progress. progress.unknown.items ≡ waiting_tokens (untold_of self.old.applied.waiting)) }
+        ensures waiting { OnOk result (untold_of self.new.applied.waiting ≡ []) }
         ensures err { OnErr result (self.new.applied.waiting ≡ self.old.applied.waiting) }
     {
         let told = run_rest(alloc, &mut self.machine, last, entries, &[])?;

@@ -49,7 +49,7 @@ fn shown(alloc: Global, node: &Node) -> Result<Answer, AllocError> {
     let applied = &node.applier.applied;
     let place = applied.last.map(|id| id.index);
     let mut waiting = Vec::new(alloc);
-    for untold in applied.waiting.iter() {
+    for untold in applied.waiting.as_slice() {
         waiting.push(untold.token)?;
     }
     let total = node.applier.machine.total();

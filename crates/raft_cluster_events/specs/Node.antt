@@ -33,3 +33,6 @@ pub record NodeActs (N : Type 0) : Type 1 where
   pub reopens : N → ℕ → Result (List NodeOutcome) Stop → N → Type 0
   -- it goes down, and its files stay as they are
   pub closes : N → N → Type 0
+  -- the state of the machine that it lends of a group, and the last place that the machine has run; a node that is down or has stopped lends none
+  pub machine_of : N → ℕ → Option (List ℕ)
+  pub applied_of : N → ℕ → Option ℕ

@@ -1,5 +1,6 @@
 //! What a cluster needs of a node.
-ghost use Rattle.std.specs.Prelude.{◌≡◌, ℕ, true, false, IfErr, IfOk, OnOk, OnErr};
+ghost use Rattle.std.specs.Prelude.{◌≡◌, ℕ, true, false, IfErr, IfOk, OnOk, OnErr, option_map};
+ghost use Rattle.std.specs.Option.{option_copied};
 ghost use Rattle.raft_cluster_events.specs.Node.{NodeActs};
 ghost use Rattle.raft_cluster_events.specs.States.{NodeStates};
 
@@ -112,8 +113,10 @@ pub trait ClusterNode: Drop {
         ensures down { acts.is_up self.new ≡ false };
 
     /// The group's machine, lent; none where the group isn't there, or the node is down or stopped.
-    fn machine(&self, group: u64) -> Option<&Self::Machine>;
+    fn machine(&self, group: u64) -> Option<&Self::Machine>
+        ensures lends { option_map Self.Machine.state (option_copied result) ≡ acts.machine_of self.now group };
 
     /// The last place that the group's machine has run, if any.
-    fn applied(&self, group: u64) -> Option<u64>;
+    fn applied(&self, group: u64) -> Option<u64>
+        ensures tells { result ≡ acts.applied_of self.now group };
 }

@@ -8,13 +8,7 @@ use Rattle.raft_cluster_events.specs.declared.outcome.Recorded.{Recorded}
 use Rattle.raft_cluster_events.specs.Node.{NodeActs}
 use Rattle.raft_node_cluster.specs.Cluster.{ClusterValue, Steps}
 use Rattle.raft_cluster_script.specs.Answers.{outcome_text}
-use Rattle.raft_script_answers.specs.declared.told_total.AppliedTotal.{AppliedTotal}
-use Rattle.raft_script_answers.specs.Answer.{total_text}
-use Rattle.raft_cluster_script.specs.Script.{IsTotalText, StepsSo}
-
-pub shows_total : {X E : Type 0} (r : Result X E) (bytes : X → List ℕ) (total : Option AppliedTotal) → IfOk r (λ x. bytes x ≡ total_text total) → IfOk r (λ x. IsTotalText (bytes x))
-shows_total (Ok x) bytes total h = (total, h)
-shows_total (Err e) bytes total h = tt
+use Rattle.raft_cluster_script.specs.Script.{StepsSo}
 
 pub for_some : {X : Type 0} (known : Option X) (P Q : X → Type 0) → ((x : X) → P x → Q x) → IfSome known P → IfSome known Q
 for_some None P Q f h = tt

@@ -1,6 +1,7 @@
 -- What a line of a script does, and is answered.
 use Rattle.std.specs.Prelude.{◌≡◌, Bool, true, false, ℕ, List, [], ◌++◌, Option, Some, None, Result, Ok, Err, codes}
 use Rattle.std.specs.List.{range_with_len}
+use Rattle.raft_machines.specs.Adding.{total_of}
 use Rattle.raft_script_answers.specs.declared.told_total.AppliedTotal.{AppliedTotal}
 use Rattle.raft_script_answers.specs.Answer.{newline, total_text}
 use Rattle.raft_script_lines.specs.declared.no_event.NoEvent.{NoEvent}
@@ -14,7 +15,7 @@ use Rattle.raft_cluster_events.specs.declared.event.ClusterEvent.TheVariants as 
 use Rattle.raft_cluster_events.specs.declared.event.CrashChoice.TheVariants as choices
 use Rattle.raft_cluster_events.specs.Node.{NodeActs}
 use Rattle.raft_node_cluster.specs.Cluster.{ClusterValue, Steps}
-use Rattle.raft_node_cluster.specs.Facts.{node_of}
+use Rattle.raft_node_cluster.specs.Facts.{node_in, node_of}
 use Rattle.raft_node_cluster.specs.Joined.{ids_of}
 use Rattle.raft_sent_frames.specs.Frames.{frames_of}
 use Rattle.raft_cluster_script.specs.Calls.{event_of, tokens_after}
@@ -31,9 +32,10 @@ pub record ScriptValue (N : Type 0) : Type 0 where
 abbrev pub ok_text : List ℕ
 ok_text = codes "ok" ++ newline
 
--- the text of some total
-abbrev pub IsTotalText : List ℕ → Type 0
-IsTotalText text = (total : Option AppliedTotal) × (text ≡ total_text total)
+-- the total that a machine in this state has added up, with the last place that it has run
+abbrev pub total_in : Option ℕ → Option (List ℕ) → Option AppliedTotal
+total_in place None = None
+total_in place (Some state) = Some (record { total = total_of state; place = place })
 
 -- it is no event here
 abbrev pub IsNone : {A : Type 0} → Option A → Type 0
@@ -115,17 +117,22 @@ module _ {N : Type 0} (acts : NodeActs N) where
   SetsNow old None tick text new = IsNone text
   SetsNow old (Some cluster) tick text new = (text ≡ Some ok_text) × (new ≡ record old { tick = tick })
 
-  -- what the machine has added up is asked for
-  abbrev pub AsksTotal : ScriptValue N → Option (ClusterValue N) → Option (List ℕ) → ScriptValue N → Type 0
-  AsksTotal old None text new = IsNone text
-  AsksTotal old (Some cluster) text new =
-      (shown : List ℕ) × IsTotalText shown × (text ≡ Some shown) × (new ≡ old)
+  -- what the node's machine has added up in the group; nothing where there is no such node, or it lends no machine
+  abbrev pub total_at : Option N → ℕ → Option AppliedTotal
+  total_at None group = None
+  total_at (Some node) group = total_in (acts.applied_of node group) (acts.machine_of node group)
+
+  -- that is asked for
+  abbrev pub AsksTotal : ScriptValue N → Option (ClusterValue N) → ℕ → ℕ → Option (List ℕ) → ScriptValue N → Type 0
+  AsksTotal old None node group text new = IsNone text
+  AsksTotal old (Some cluster) node group text new =
+      (text ≡ Some (total_text (total_at (node_in acts cluster.nodes node) group))) × (new ≡ old)
 
   abbrev pub TakesLine : ScriptValue N → ScriptLine → Option (List ℕ) → ScriptValue N → Type 0
   TakesLine old lines.Skipped text new = (text ≡ Some []) × (new ≡ old)
   TakesLine old (lines.Nodes count) text new = BeginsOnce old old.cluster count text new
   TakesLine old (lines.Now tick) text new = SetsNow old old.cluster tick text new
-  TakesLine old (lines.Total node group) text new = AsksTotal old old.cluster text new
+  TakesLine old (lines.Total node group) text new = AsksTotal old old.cluster node group text new
   TakesLine old (lines.Happens event) text new =
       Takes old old.cluster (event_of old.tick (tokens_after old.tokens event) event) (tokens_after old.tokens event) text new
   TakesLine old (lines.Fuse first event) text new =

@@ -1,8 +1,10 @@
 //! The text of what came of an event.
-ghost use Rattle.std.specs.Prelude.{◌≡◌, ◌++◌, [], IfOk, OnOk, map, string_bytes};
+ghost use Rattle.std.specs.Prelude.{◌≡◌, ◌++◌, [], IfOk, OnOk, map, option_map, string_bytes};
 ghost use Rattle.raft_cluster_script.specs.Answers.{numbers_of, outcome_text, refusal_of_cluster, refusal_of_node, shown_number, told_total, tokens_of_stop, totals_of, unknown_of, value_of};
-ghost use Rattle.raft_cluster_script.specs.Script.{IsTotalText};
-ghost use Rattle.raft_script_answers.specs.Answer.{done_text, refused_text};
+ghost use Rattle.raft_cluster_script.specs.Script.{total_at, total_in};
+ghost use Rattle.std.specs.Option.{option_copied};
+ghost use Rattle.raft_machines.specs.Adding.{state_of_total, total_of};
+ghost use Rattle.raft_script_answers.specs.Answer.{done_text, refused_text, total_text};
 
 use crate::stops::tokens_of_stop;
 use raft_cluster_conditions::ClusterRefusal;
@@ -164,17 +166,34 @@ pub fn outcome_text(alloc: Global, outcome: &EventOutcome) -> Result<String, All
     }
 }
 
+// The total, with the last place that is in it.
+fn applied_total(total: u64, place: Option<u64>) -> AppliedTotal
+    ensures { result ≡ record { total = total_of (state_of_total total); place = place } }
+{
+    AppliedTotal { total, place }
+}
+
+// The total of a machine that is lent, if one is.
+fn total_in(place: Option<u64>, machine: Option<&AddingMachine>) -> Option<AppliedTotal>
+    ensures { result ≡ total_in place (option_map state_of_total (option_copied machine)) }
+{
+    match machine {
+        Some(machine) => Some(applied_total(machine.total(), place)),
+        None => None,
+    }
+}
+
 // The total of a group at a node, if there is one.
 fn total_of<N: ClusterNode<Machine = AddingMachine>>(
     node: Option<&N>,
     group: u64,
-) -> Option<AppliedTotal> {
-    let node = node?;
-    let machine = node.machine(group)?;
-    Some(AppliedTotal {
-        total: machine.total(),
-        place: node.applied(group),
-    })
+) -> Option<AppliedTotal>
+    ensures { result ≡ total_at N.acts (option_copied node) group }
+{
+    match node {
+        Some(node) => total_in(node.applied(group), node.machine(group)),
+        None => None,
+    }
 }
 
 /// The text of the total of a group at a node.
@@ -183,7 +202,7 @@ pub fn total_at<N: ClusterNode<Machine = AddingMachine>>(
     node: Option<&N>,
     group: u64,
 ) -> Result<String, AllocError>
-    ensures { IfOk result (λ text. IsTotalText (string_bytes text)) }
+    ensures { IfOk result (λ text. string_bytes text ≡ total_text (total_at N.acts (option_copied node) group)) }
 {
     let total = total_of(node, group);
     total_text(alloc, total)

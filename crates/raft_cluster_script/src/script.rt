@@ -116,7 +116,7 @@ impl<N: ClusterNode<Machine = AddingMachine>> Script<N> {
 
     // The total of a group at a node, if there is a cluster.
     fn total(&self, node: u64, group: u64) -> Result<Option<String>, AllocError>
-        ensures { IfOk result (λ text. AsksTotal N.acts self.now self.now.cluster (option_map string_bytes text) self.now) }
+        ensures { IfOk result (λ text. AsksTotal N.acts self.now self.now.cluster node group (option_map string_bytes text) self.now) }
     {
         match &self.cluster {
             None => Ok(None),

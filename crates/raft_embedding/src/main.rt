@@ -11,7 +11,8 @@
 //!   sent node 3; `1 takes 2 5 bytes "\xff"`: these bytes; `1 loses 2`: what it sent doesn't come;
 //! - `1 resets 2`, `1 fails`: the peer's stream begins anew; the node stops;
 //! - `1 sees 7`, `1 knows 7 2`, `1 gets 7 a`, `1 is`: what it tells of the group, of a member of it, of
-//!   the group's machine, of itself.
+//!   the group's machine, of itself; `1 has`, `1 may 7`: which groups it has, and from which moment on
+//!   an election of the group may be asked for.
 #![tactic(auto)]
 
 mod calls;

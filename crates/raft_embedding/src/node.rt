@@ -69,5 +69,5 @@ pub fn open_node(alloc: Global, id: u64, files: LogFiles) -> Result<Opened<Shelf
 
 /// The node is closed, and its files are left.
 pub fn close_node(node: ShelfNode) -> LogFiles {
-    node.into_storage().into_log().into_files()
+    node.into_storage().into_log().close()
 }

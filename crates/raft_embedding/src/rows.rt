@@ -2,7 +2,7 @@
 
 use crate::calls::{call, fail, reset};
 use crate::house::{House, Told};
-use crate::told::{kept, refusal_of, seen, shelved};
+use crate::told::{elections, groups, kept, refusal_of, seen, shelved};
 use raft_rows::{Answer, Rows, bytes, number};
 use std::alloc::{AllocError, Global};
 
@@ -44,6 +44,8 @@ impl House {
             ["is"] => {
                 Some(format!(in self.alloc; "node {}, failed {}", node.id(), node.has_failed()))
             }
+            ["has"] => Some(groups(self.alloc, node)),
+            ["may", group] => Some(elections(self.alloc, node, number(group))),
             ["sees", group] => Some(seen(self.alloc, node, number(group))),
             ["knows", group, peer] => Some(kept(self.alloc, node, number(group), number(peer))),
             ["gets", group, key] => Some(shelved(self.alloc, node, number(group), key)),
@@ -75,7 +77,7 @@ impl House {
             ["loses", peer] => Some(self.lose(id, number(peer))),
             ["resets", peer] => self.reset(id, number(peer)),
             ["fails"] => self.fail(id),
-            ["is" | "sees" | "knows" | "gets", ..] => self.look(id, words),
+            ["is" | "has" | "may" | "sees" | "knows" | "gets", ..] => self.look(id, words),
             _ => self.ask(id, words),
         }
     }

@@ -135,6 +135,18 @@ pub fn seen(alloc: Global, node: &ShelfNode, group: u64) -> Result<String, Alloc
     format!(in alloc; "{role:?}, led by {leader}, last {last}, next {next}, applied {applied}")
 }
 
+/// The groups that are there at a node.
+pub fn groups(alloc: Global, node: &ShelfNode) -> Result<String, AllocError> {
+    let groups = node.groups()?;
+    format!(in alloc; "groups {:?}", groups)
+}
+
+/// The moment from which on an election of the group may be asked for.
+pub fn elections(alloc: Global, node: &ShelfNode, group: u64) -> Result<String, AllocError> {
+    let moment = Shown(node.may_elect_from(group));
+    format!(in alloc; "from {moment} on")
+}
+
 /// What a node tells of a group's members, snapshot and requests: a peer's address, the moment of the
 /// vote, the ends of snapshot and purge, and whether it waits for the peer.
 pub fn kept(alloc: Global, node: &ShelfNode, group: u64, peer: u64) -> Result<String, AllocError> {

@@ -196,7 +196,7 @@ module _ {C R : Type 0} (x : Given) (own : ℕ) (e e' : Engine C R) (r : StepRes
   -- a follower's log changes behind what is committed
   pub log_stored : (c : StoringCommand) (d : Command C R) → r.state.role ≡ Follower → Knows e'.state (after_storing c r.state.stored) → KeepsRest e.state e'.state
       → IsInOrder (with_stored r.state (after_storing c r.state.stored)) → committed_id (with_stored r.state (after_storing c r.state.stored)) ≡ committed_id r.state
-      → e'.output ≡ record e.output { queue = e.output.queue ++ d ∷ [] } → storing_of x.snapshot d ≡ c ∷ [] → number_in d ≡ [] → NeedsNoOther d → RestsOn own (basis_of e r.state) d → turns_of d ≡ []
+      → e'.output ≡ record e.output { queue = e.output.queue ++ d ∷ [] } → storing_of x.snapshot d ≡ c ∷ [] → number_in d ≡ [] → NeedsNoOther d → RestsOn own x.snapshot (basis_of e r.state) d → turns_of d ≡ []
       → ((s : StoredGroup) (upto : Option (LogId ℕ)) → sending_of own s upto d ≡ []) → IsStepOf x own e' (store c r)
   log_stored c d follows knows keeps order same output stores silent needs on turnless sends =
       let old = step.state in
@@ -258,7 +258,7 @@ module _ {C R : Type 0} (x : Given) (own : ℕ) (e e' : Engine C R) (r : StepRes
   pub more_committed : (place : ℕ) (id : LogId ℕ) (d : Command C R) → e'.config ≡ e.config → e'.seen_greater_log ≡ e.seen_greater_log → e'.leader ≡ e.leader → e'.candidate ≡ e.candidate
       → Knows e'.state r.state.stored → e'.state ≡ with_committed e.state (Some id) e'.state.state.membership_state
       → is_within place r.state.committed ≡ false → place < end_place r.state.stored → Some id ≡ id_at r.state.stored place
-      → e'.output ≡ record { queue = e.output.queue ++ d ∷ []; last_sm_seq = following_seq e.output.last_sm_seq } → storing_of x.snapshot d ≡ [] → number_in d ≡ following_seq e.output.last_sm_seq ∷ [] → moves_of d ≡ Applies e.state.state.committed id ∷ [] → NeedsNoOther d → RestsOn own (basis_of e r.state) d → committed_by d e.state.state.committed ≡ Some id → turns_of d ≡ []
+      → e'.output ≡ record { queue = e.output.queue ++ d ∷ []; last_sm_seq = following_seq e.output.last_sm_seq } → storing_of x.snapshot d ≡ [] → number_in d ≡ following_seq e.output.last_sm_seq ∷ [] → moves_of d ≡ Applies e.state.state.committed id ∷ [] → NeedsNoOther d → RestsOn own x.snapshot (basis_of e r.state) d → committed_by d e.state.state.committed ≡ Some id → turns_of d ≡ []
       → ((s : StoredGroup) (upto : Option (LogId ℕ)) → sending_of own s upto d ≡ [])
       → IsStepOf x own e' (apply_up_to (Some place) r)
   more_committed place id d config seen leader candidate knows state past within found output stores next_number moves needs on commits turnless sends =

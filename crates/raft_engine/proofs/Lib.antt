@@ -40,3 +40,4 @@ pub mod AlternatingLemmas
 pub mod ForwardLemmas
 pub mod ClockLemmas
 pub mod StartLemmas
+pub mod ForceLemmas

@@ -28,8 +28,8 @@ module _ {C R : Type 0} where
   uncommitted (Respond condition answer) committed h = refl
 
   -- a command behind those that rest
-  rest_more : (own : ℕ) (x : Snapshot) (queue : List (Command C R)) (b b' : Basis) (c : Command C R) → AllRest own x b queue b' → RestsOn own b' c → AllRest own x b (queue ++ c ∷ []) (basis_behind x c b')
-  rest_more own x [] b b' c all on = (subst (λ y. RestsOn own y c) all on, ap (basis_behind x c) all)
+  rest_more : (own : ℕ) (x : Snapshot) (queue : List (Command C R)) (b b' : Basis) (c : Command C R) → AllRest own x b queue b' → RestsOn own x b' c → AllRest own x b (queue ++ c ∷ []) (basis_behind x c b')
+  rest_more own x [] b b' c all on = (subst (λ y. RestsOn own x y c) all on, ap (basis_behind x c) all)
   rest_more own x (d ∷ queue) b b' c all on = (all.0, rest_more own x queue (basis_behind x d b) b' c all.1 on)
 
   module _ (own : ℕ) (x : Snapshot) (b : Basis) (old new : List (Command C R)) (s : StoredGroup) (committed : Option (LogId ℕ))
@@ -40,7 +40,7 @@ module _ {C R : Type 0} where
         subst (λ k. AllRest own x b new (record { stored = s; committed = k })) (sym same)
         (subst (λ q. AllRest own x b q (record { stored = s; committed = committed })) (sym queue) rests)
 
-    module _ (c : Command C R) (on : RestsOn own (record { stored = s; committed = committed }) c) (queue : new ≡ old ++ c ∷ []) where
+    module _ (c : Command C R) (on : RestsOn own x (record { stored = s; committed = committed }) c) (queue : new ≡ old ++ c ∷ []) where
       -- a command that finds what it rests on is pushed
       pub rests_pushed : (s' : StoredGroup) (committed' : Option (LogId ℕ)) → s' ≡ after_storing_all (storing_of x c) s → committed' ≡ committed_by c committed → AllRest own x b new (record { stored = s'; committed = committed' })
       rests_pushed s' committed' stores commits =

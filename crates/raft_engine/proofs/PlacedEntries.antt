@@ -128,6 +128,14 @@ in_log_of_id s place id p l m f =
     let same : id ≡ h.entry.log_id = let both : Some id ≡ Some h.entry.log_id = f ∙ h.id in cc in
     subst (λ (i : LogId ℕ). has_id_in_log s i ≡ true) (sym same) (in_log_of_entry s h.entry (ap (entry_at s) h.index ∙ h.there))
 
+-- so is one that was found above the purge point
+pub in_log_of_found : (s : StoredGroup) (place : ℕ) (id : LogId ℕ) → IsPlaced s → first_place s ≤ place → Some id ≡ id_at s place → has_id_in_log s id ≡ true
+in_log_of_found s place id p l f = found (entry_at s place) refl
+  where
+    found : (e : Option Entry) → entry_at s place ≡ e → has_id_in_log s id ≡ true
+    found None g = let none : Some id ≡ None = f ∙ id_from s place l ∙ ap id_of g in cc
+    found (Some e) g = in_log_of_id s place id p l (entry_within s place e g).1 f
+
 -- ---- a log that is shortened, or grows
 
 abbrev pub with_log : StoredGroup → List Entry → StoredGroup

@@ -145,7 +145,7 @@ module _ {C R : Type 0} (x : Given) (own : ℕ) (e e' : Engine C R) (r : StepRes
   -- something leaves behind the rest, by what is stored and committed at the end
   pub whole_sent : IsWholeStepOf x own e r → (c : Command C R) (more : List Message) → IsStateOf own e' r.state → e'.seen_greater_log ≡ e.seen_greater_log
       → e'.state ≡ e.state
-      → e'.output ≡ record e.output { queue = e.output.queue ++ c ∷ [] } → storing_of x.snapshot c ≡ [] → number_in c ≡ [] → NeedsNoOther c → RestsOn own (basis_of e r.state) c → turns_of c ≡ [] → sending_of own r.state.stored (committed_id r.state) c ≡ more
+      → e'.output ≡ record e.output { queue = e.output.queue ++ c ∷ [] } → storing_of x.snapshot c ≡ [] → number_in c ≡ [] → NeedsNoOther c → RestsOn own x.snapshot (basis_of e r.state) c → turns_of c ≡ [] → sending_of own r.state.stored (committed_id r.state) c ≡ more
       → IsWholeStepOf x own e' (record r { messages = r.messages ++ more })
   whole_sent step c more state seen same output none silent needs on turnless sends = record {
     state = state;
@@ -164,7 +164,7 @@ module _ {C R : Type 0} (x : Given) (own : ℕ) (e e' : Engine C R) (r : StepRes
   -- and what is known of a peer changes with it
   pub whole_known : IsWholeStepOf x own e r → (p : PeerState) (lead : Lead) (c : Command C R) (more : List Message) → r.state.role ≡ Leader lead → IsStateOf own e' (with_known p lead r.state) → e'.seen_greater_log ≡ e.seen_greater_log
       → e'.state ≡ e.state
-      → e'.output ≡ record e.output { queue = e.output.queue ++ c ∷ [] } → storing_of x.snapshot c ≡ [] → number_in c ≡ [] → NeedsNoOther c → RestsOn own (basis_of e r.state) c → turns_of c ≡ [] → sending_of own r.state.stored (committed_id r.state) c ≡ more
+      → e'.output ≡ record e.output { queue = e.output.queue ++ c ∷ [] } → storing_of x.snapshot c ≡ [] → number_in c ≡ [] → NeedsNoOther c → RestsOn own x.snapshot (basis_of e r.state) c → turns_of c ≡ [] → sending_of own r.state.stored (committed_id r.state) c ≡ more
       → IsWholeStepOf x own e' (with_peer_state p lead (record r { messages = r.messages ++ more }))
   whole_known step p lead c more is_lead state seen same output none silent needs on turnless sends = record {
     state = state;

@@ -137,7 +137,7 @@ module _ {C R : Type 0} (g : Given) (own : ℕ) (e e' : Engine C R) (r : StepRes
       (dropped r.state.stored.log (first_place r.state.stored) (last.index + 1 - first_place r.state.stored) step.state.order.placed)
 
   pub installed : (k : KnownState) (c d : Command C R) → Knows e'.state (after_snapshot g.snapshot last r.state.stored) → KeepsRest e.state k → e'.state ≡ with_committed k (Some last) e'.state.state.membership_state
-      → e'.output ≡ record { queue = (e.output.queue ++ c ∷ []) ++ d ∷ []; last_sm_seq = following_seq e.output.last_sm_seq } → storing_of g.snapshot c ≡ SetSnapshot g.snapshot ∷ [] → storing_of g.snapshot d ≡ RemoveUpTo last ∷ [] → number_in c ≡ following_seq e.output.last_sm_seq ∷ [] → number_in d ≡ [] → moves_of c ≡ Installs (Some last) ∷ [] → NeedsNoOther c → NeedsNoOther d → RestsOn own (basis_of e r.state) c → committed_by c e.state.state.committed ≡ Some last → RestsOn own (record { stored = after_storing (SetSnapshot g.snapshot) r.state.stored; committed = Some last }) d → turns_of c ≡ [] → turns_of d ≡ []
+      → e'.output ≡ record { queue = (e.output.queue ++ c ∷ []) ++ d ∷ []; last_sm_seq = following_seq e.output.last_sm_seq } → storing_of g.snapshot c ≡ SetSnapshot g.snapshot ∷ [] → storing_of g.snapshot d ≡ RemoveUpTo last ∷ [] → number_in c ≡ following_seq e.output.last_sm_seq ∷ [] → number_in d ≡ [] → moves_of c ≡ Installs (Some last) ∷ [] → NeedsNoOther c → NeedsNoOther d → RestsOn own g.snapshot (basis_of e r.state) c → committed_by c e.state.state.committed ≡ Some last → RestsOn own g.snapshot (record { stored = after_storing (SetSnapshot g.snapshot) r.state.stored; committed = Some last }) d → turns_of c ≡ [] → turns_of d ≡ []
       → ((s : StoredGroup) (upto : Option (LogId ℕ)) → sending_of own s upto c ≡ []) → ((s : StoredGroup) (upto : Option (LogId ℕ)) → sending_of own s upto d ≡ [])
       → IsStepOf g own e' (apply_up_to (Some last.index) (store (RemoveUpTo last) (store (SetSnapshot g.snapshot) r)))
   installed k c d knows keeps state output stores-c stores-d number-c number-d moves-c needs-c needs-d on-c commits-c on-d turnless-c turnless-d sends-c sends-d =

@@ -12,7 +12,7 @@ use Rattle.raft_group_step.specs.Message.{Message}
 use Rattle.raft_group_step.specs.Frames.{committed_id}
 use Rattle.raft_group_step.specs.Refusal.{is_voter_in}
 use Rattle.raft_commands.specs.declared.command.Command.TheVariants.{QuitLeader, SaveVote}
-use Rattle.raft_known_state.specs.KnownState.{AreUpToTerm, KnownState, Knows, committed_membership, stored_ids, with_goal}
+use Rattle.raft_known_state.specs.KnownState.{AreUpToTerm, KnownState, Knows, committed_membership, entry_ids, with_goal}
 use Rattle.raft_leaders.specs.Candidate.{CandidateValue}
 use Rattle.raft_leaders.specs.Leader.{LeaderValue}
 use Rattle.std.specs.List.{All, flat_map}
@@ -88,7 +88,7 @@ module _ {C R : Type 0} (x : Given) (own : ℕ) (e e' : Engine C R) (r : StepRes
           knows = record {
             vote = ap (λ (y : KnownState). y.state.vote.value) state ∙ old.knows.vote;
             ids = ap (λ (y : KnownState). y.state.log_ids) state ∙ old.knows.ids;
-            terms = subst (λ (y : KnownState). AreUpToTerm y.highest_term (stored_ids r.state.stored)) (sym state) old.knows.terms;
+            terms = subst (λ (y : KnownState). AreUpToTerm y.highest_term (entry_ids r.state.stored.log)) (sym state) old.knows.terms;
             purged = ap (λ (y : KnownState). y.state.purged_next) state ∙ old.knows.purged;
             snapshot = ap (λ (y : KnownState). y.state.snapshot_meta) state ∙ old.knows.snapshot;
             memberships = ap (λ (y : KnownState). y.memberships) state ∙ old.knows.memberships;
@@ -118,7 +118,7 @@ module _ {C R : Type 0} (x : Given) (own : ℕ) (e e' : Engine C R) (r : StepRes
 
   -- what is sent and stores nothing goes behind the rest
   pub sent_more : (c : Command C R) (more : List Message) → e'.config ≡ e.config → e'.seen_greater_log ≡ e.seen_greater_log → e'.leader ≡ e.leader → e'.candidate ≡ e.candidate → e'.state ≡ e.state
-      → e'.output ≡ record e.output { queue = e.output.queue ++ c ∷ [] } → storing_of x.snapshot c ≡ [] → number_in c ≡ [] → NeedsNoOther c → RestsOn own (basis_of e r.state) c → turns_of c ≡ [] → ((s : StoredGroup) (upto : Option (LogId ℕ)) → sending_of own s upto c ≡ more)
+      → e'.output ≡ record e.output { queue = e.output.queue ++ c ∷ [] } → storing_of x.snapshot c ≡ [] → number_in c ≡ [] → NeedsNoOther c → RestsOn own x.snapshot (basis_of e r.state) c → turns_of c ≡ [] → ((s : StoredGroup) (upto : Option (LogId ℕ)) → sending_of own s upto c ≡ more)
       → IsStepOf x own e' (record r { messages = r.messages ++ more })
   sent_more c more config seen leader candidate state output none silent needs on turnless sends =
       let old = step.state in
@@ -200,7 +200,7 @@ module _ {C R : Type 0} (x : Given) (own : ℕ) (e e' : Engine C R) (r : StepRes
       role_with (Some l) plays h = led_role own l e.candidate r.state.stored r.state.role plays
 
 -- the same queue with a message more
-pub queued : {C R : Type 0} (x : Given) (own : ℕ) (e : Engine C R) (r : StepResult) (c : Command C R) (more : List Message) → IsStepOf x own e r → storing_of x.snapshot c ≡ [] → number_in c ≡ [] → NeedsNoOther c → RestsOn own (basis_of e r.state) c → turns_of c ≡ []
+pub queued : {C R : Type 0} (x : Given) (own : ℕ) (e : Engine C R) (r : StepResult) (c : Command C R) (more : List Message) → IsStepOf x own e r → storing_of x.snapshot c ≡ [] → number_in c ≡ [] → NeedsNoOther c → RestsOn own x.snapshot (basis_of e r.state) c → turns_of c ≡ []
     → ((s : StoredGroup) (upto : Option (LogId ℕ)) → sending_of own s upto c ≡ more)
     → IsStepOf x own (record e { output = record e.output { queue = e.output.queue ++ c ∷ [] } }) (record r { messages = r.messages ++ more })
 queued x own e r c more step none silent needs on turnless sends =

@@ -1,5 +1,5 @@
 -- What an engine knows of a log whose leaders never fall is valid.
-use Rattle.std.specs.Prelude.{◌≡◌, ℕ, zero, suc, ◌+◌, ◌-◌, ◌≤◌, ◌==◌, ◌&&◌, Bool, true, false, not, if◌then◌else◌, List, [], ◌∷◌, ◌++◌, Option, Some, None, is_some, is_none, option_and_then, Result, Ok, Err, IfErr, refl}
+use Rattle.std.specs.Prelude.{◌≡◌, ℕ, zero, suc, ◌+◌, ◌-◌, ◌<◌, ◌≤◌, ◌==◌, ◌&&◌, Bool, true, false, not, if◌then◌else◌, List, [], ◌∷◌, ◌++◌, Option, Some, None, is_some, is_none, option_and_then, Result, Ok, Err, IfErr, refl}
 use Rattle.std.specs.List.{AllByRecursion, slice_get}
 use Rattle.std.specs.Option.{option_or}
 use Rattle.std.specs.Ordering.{nat_cmp}
@@ -24,7 +24,7 @@ use Rattle.raft_known_state.specs.KnownState.{ArePlaced, EffectiveMembership, Is
 use Rattle.raft_known_state.proofs.KnownStateLemmas.{end-known, force_known, id_at-known, last-known, noted_known, purged_known, start_of, stored_placed}
 use Rattle.raft_known_state.proofs.PlacedIds.{below_first, by_order, id_at-placed}
 use Rattle.raft_engine.specs.Standing.{Engine, IsInOrder, IsStateOf}
-use Rattle.raft_engine.specs.Valid.{IsRising, IsUpTo, NeverFall}
+use Rattle.raft_engine.specs.Valid.{IsRising, IsUpTo, MayWish, NeverFall}
 use Rattle.raft_engine.proofs.PurgeLemmas.{snapshot_known}
 
 -- ---- the order of log ids
@@ -94,6 +94,16 @@ last_found s p y e =
     behind true f g = cc
     behind false f g = g
 
+-- up to where the log is to be purged is found in it, between the purge point and the snapshot's end
+goal_between : (s : StoredGroup) (wish : Option (LogId ℕ)) → MayWish s wish → first_place s ≤ next_place (snapshot_last s)
+    → IsFound s (option_or wish s.purged) × (first_place s ≤ next_place (option_or wish s.purged)) × (next_place (option_or wish s.purged) ≤ next_place (snapshot_last s))
+goal_between s None may within = (purged_found s, omega arith, within)
+goal_between s (Some id) may within =
+    let low : first_place s ≤ id.index = may.0 in
+    let high : id.index < next_place (snapshot_last s) = may.1 in
+    let there : id_at s id.index ≡ Some id = may.2 in
+    (λ x e. let both : Some id ≡ Some x = e in let same : id ≡ x = cc in subst (λ (y : LogId ℕ). id_at s y.index ≡ Some y) same there, omega arith, omega arith)
+
 -- ---- memberships
 
 abbrev MembersNeverFall : List EffectiveMembership → Type 0
@@ -160,34 +170,37 @@ no_fault : (a b c d : Bool) (p m : Option Invalid) (v w x y : Invalid) → a ≡
     → or_fault a v (or_fault b w (option_or p (or_fault c x (or_fault d y m)))) ≡ None
 no_fault a b c d p m v w x y e f g h i j = rw (e, f, g, h, i, j) refl
 
-nothing_at : (id : Option (LogId ℕ)) → place_of id ≡ None → id ≡ None
-nothing_at None e = refl
-nothing_at (Some id) e = cc
-
 abbrev StateOf : Type 0
 StateOf = RaftState ℕ (List ℕ) ℕ
 
-module _ {C R : Type 0} (own : ℕ) (e : Engine C R) (s : GroupState) (stands : IsStateOf own e s) (rising : IsRising s.stored) (none : s.wish ≡ None) where
-  goal_is : e.state.state.purge_upto ≡ s.stored.purged
-  goal_is = stands.knows.goal ∙ ap (λ wish. option_or wish s.stored.purged) (nothing_at e.state.wish (stands.wish ∙ none))
-
+module _ {C R : Type 0} (own : ℕ) (e : Engine C R) (s : GroupState) (stands : IsStateOf own e s) (rising : IsRising s.stored) (may : MayWish s.stored e.state.wish) where
   snapshot_is : e.state.state.snapshot_meta.last_log_id ≡ snapshot_last s.stored
   snapshot_is = snapshot_known s.stored e.state.state.snapshot_meta stands.knows.snapshot
 
   below : (a b : Option (LogId ℕ)) → IsFound s.stored a → IsFound s.stored b → next_place a ≤ next_place b → IsUpTo a b
   below a b f g l = up_to s.stored a b stands.order.placed rising.ids f g l
 
-  purged_in_snapshot : IsUpTo s.stored.purged (snapshot_last s.stored)
-  purged_in_snapshot = below s.stored.purged (snapshot_last s.stored) (purged_found s.stored) rising.snapshot stands.order.purged
+  -- up to where the log is to be purged
+  abbrev goal_of : Option (LogId ℕ)
+  goal_of = option_or e.state.wish s.stored.purged
+
+  between : IsFound s.stored goal_of × (first_place s.stored ≤ next_place goal_of) × (next_place goal_of ≤ next_place (snapshot_last s.stored))
+  between = goal_between s.stored e.state.wish may stands.order.purged
+
+  purged_in_goal : IsUpTo s.stored.purged goal_of
+  purged_in_goal = below s.stored.purged goal_of (purged_found s.stored) between.0 between.1
+
+  goal_in_stored : IsUpTo goal_of (snapshot_last s.stored)
+  goal_in_stored = below goal_of (snapshot_last s.stored) between.0 rising.snapshot between.2
 
   snapshot_in_committed : IsUpTo (snapshot_last s.stored) (committed_id s)
   snapshot_in_committed = below (snapshot_last s.stored) (committed_id s) rising.snapshot (committed_found s stands.order) stands.order.snapshot
 
-  purged_in_committed : IsUpTo s.stored.purged (committed_id s)
-  purged_in_committed =
-      let first = stands.order.purged in
+  goal_before_committed : IsUpTo goal_of (committed_id s)
+  goal_before_committed =
+      let first = between.2 in
       let second = stands.order.snapshot in
-      below s.stored.purged (committed_id s) (purged_found s.stored) (committed_found s stands.order) (omega arith)
+      below goal_of (committed_id s) between.0 (committed_found s stands.order) (omega arith)
 
   committed_in_log : IsUpTo (committed_id s) (last_in (stored_ids s.stored))
   committed_in_log =
@@ -214,13 +227,13 @@ module _ {C R : Type 0} (own : ℕ) (e : Engine C R) (s : GroupState) (stands : 
   purged_to_goal : IsUpTo (last_purged e.state.state.purged_next e.state.state.log_ids) e.state.state.purge_upto
   purged_to_goal =
       subst (λ id. IsUpTo id e.state.state.purge_upto) (sym (purged_known e.state s.stored stands.knows))
-      (subst (IsUpTo s.stored.purged) (sym goal_is) (up_to_itself s.stored.purged))
+      (subst (IsUpTo s.stored.purged) (sym stands.knows.goal) purged_in_goal)
 
   goal_in_committed : IsUpTo e.state.state.purge_upto e.state.state.committed
-  goal_in_committed = subst (λ id. IsUpTo id e.state.state.committed) (sym goal_is) (subst (IsUpTo s.stored.purged) (sym stands.committed) purged_in_committed)
+  goal_in_committed = subst (λ id. IsUpTo id e.state.state.committed) (sym stands.knows.goal) (subst (IsUpTo goal_of) (sym stands.committed) goal_before_committed)
 
   goal_in_snapshot : IsUpTo e.state.state.purge_upto e.state.state.snapshot_meta.last_log_id
-  goal_in_snapshot = subst (λ id. IsUpTo id e.state.state.snapshot_meta.last_log_id) (sym goal_is) (subst (IsUpTo s.stored.purged) (sym snapshot_is) purged_in_snapshot)
+  goal_in_snapshot = subst (λ id. IsUpTo id e.state.state.snapshot_meta.last_log_id) (sym stands.knows.goal) (subst (IsUpTo goal_of) (sym snapshot_is) goal_in_stored)
 
   covered_is_committed : IsUpTo e.state.state.snapshot_meta.last_log_id e.state.state.committed
   covered_is_committed = subst (λ id. IsUpTo id e.state.state.committed) (sym snapshot_is) (subst (IsUpTo (snapshot_last s.stored)) (sym stands.committed) snapshot_in_committed)

@@ -10,7 +10,7 @@ use Rattle.raft_group_step.specs.declared.append_entries.AppendEntriesResponse.T
 use Rattle.raft_group_step.specs.Values.{vote_lt}
 use Rattle.raft_group_step.specs.StoredGroup.{StoredGroup, Snapshot, after_storing_all, end_place, has_id_in_log, last_id, snapshot_last}
 use Rattle.raft_group_step.specs.AppendRequest.{is_held}
-use Rattle.raft_known_state.specs.KnownState.{ArePlaced}
+use Rattle.raft_known_state.specs.KnownState.{ArePlaced, meta_of}
 use Rattle.raft_commands.specs.declared.caller.Caller.{Caller}
 use Rattle.raft_commands.specs.declared.command.Command.TheVariants.{BecomeLeader, QuitLeader, AppendInputEntries, ReplicateCommitted, Commit}
 use Rattle.raft_commands.specs.declared.command.Command.TheVariants.{Replicate, RebuildReplicationStreams, SaveVote, SendVote, PurgeLog}
@@ -60,22 +60,31 @@ module _ {C R : Type 0} where
   AnswerRestsOn b (ToSnapshot s) = InstallRestsOn b s.tx s.value.vote
   AnswerRestsOn b (ToInitialize s) = ⊥
 
+  -- a snapshot that is installed is told as it is, with its members
+  abbrev pub InstallsAs : Snapshot → CommandPayload C (List ℕ) R ℕ (List ℕ) → Type 0
+  InstallsAs x BuildSnapshot = Unit {0}
+  InstallsAs x (GetSnapshot tx) = Unit {0}
+  InstallsAs x (BeginReceivingSnapshot tx) = Unit {0}
+  InstallsAs x (InstallFullSnapshot meta) = meta ≡ meta_of (Some x)
+  InstallsAs x (Apply entries) = Unit {0}
+
   -- what a command rests on: the vote in force, the log, the snapshot, and what is committed, at its place of the queue. Entries
-  -- stand behind the log, a cut behind what is committed, and a lead and its requests behind the vote that is the node's own and committed
-  abbrev pub RestsOn : ℕ → Basis → Command C R → Type 0
-  RestsOn own b BecomeLeader = (b.stored.vote.leader_id.node_id ≡ own) × (b.stored.vote.committed ≡ true)
-  RestsOn own b QuitLeader = Unit {0}
-  RestsOn own b (AppendInputEntries vote entries) = (b.stored.vote ≡ vote) × ArePlaced (end_place b.stored) entries
-  RestsOn own b (ReplicateCommitted target vote matching committed) = (b.stored.vote ≡ vote) × (b.committed ≡ committed)
-  RestsOn own b (Commit seq behind upto) = has_id_in_log b.stored upto ≡ true
-  RestsOn own b (Replicate target request) = (b.stored.vote.leader_id.node_id ≡ own) × (b.stored.vote.committed ≡ true) × IsStoredRequest b.stored request
-  RestsOn own b (RebuildReplicationStreams targets) = Unit {0}
-  RestsOn own b (SaveVote vote) = Unit {0}
-  RestsOn own b (SendVote target request) = (b.stored.vote ≡ request.vote) × (last_id b.stored ≡ request.last_log_id)
-  RestsOn own b (PurgeLog upto) = upto.index < next_place (snapshot_last b.stored)
-  RestsOn own b (DeleteConflictLog since) = next_place b.committed ≤ since.index
-  RestsOn own b (StateMachine command) = Unit {0}
-  RestsOn own b (Respond condition answer) = AnswerRestsOn b answer
+  -- stand behind the log, a cut at an entry behind what is committed, and a lead and its requests behind the vote that is the node's
+  -- own and committed
+  abbrev pub RestsOn : ℕ → Snapshot → Basis → Command C R → Type 0
+  RestsOn own x b BecomeLeader = (b.stored.vote.leader_id.node_id ≡ own) × (b.stored.vote.committed ≡ true)
+  RestsOn own x b QuitLeader = Unit {0}
+  RestsOn own x b (AppendInputEntries vote entries) = (b.stored.vote ≡ vote) × ArePlaced (end_place b.stored) entries
+  RestsOn own x b (ReplicateCommitted target vote matching committed) = (b.stored.vote ≡ vote) × (b.committed ≡ committed)
+  RestsOn own x b (Commit seq behind upto) = has_id_in_log b.stored upto ≡ true
+  RestsOn own x b (Replicate target request) = (b.stored.vote.leader_id.node_id ≡ own) × (b.stored.vote.committed ≡ true) × IsStoredRequest b.stored request
+  RestsOn own x b (RebuildReplicationStreams targets) = Unit {0}
+  RestsOn own x b (SaveVote vote) = Unit {0}
+  RestsOn own x b (SendVote target request) = (b.stored.vote ≡ request.vote) × (last_id b.stored ≡ request.last_log_id)
+  RestsOn own x b (PurgeLog upto) = upto.index < next_place (snapshot_last b.stored)
+  RestsOn own x b (DeleteConflictLog since) = (next_place b.committed ≤ since.index) × (has_id_in_log b.stored since ≡ true)
+  RestsOn own x b (StateMachine command) = InstallsAs x command.payload
+  RestsOn own x b (Respond condition answer) = AnswerRestsOn b answer
 
   -- what is committed once the state machine has a snapshot, or as before
   abbrev pub committed_by_machine : CommandPayload C (List ℕ) R ℕ (List ℕ) → Option (LogId ℕ) → Option (LogId ℕ)
@@ -108,4 +117,4 @@ module _ {C R : Type 0} where
   -- worked in its order, the queue leads from the first basis to the second, and each command finds there what it rests on
   abbrev pub AllRest : ℕ → Snapshot → Basis → List (Command C R) → Basis → Type 0
   AllRest own x b [] b' = b' ≡ b
-  AllRest own x b (c ∷ queue) b' = RestsOn own b c × AllRest own x (basis_behind x c b) queue b'
+  AllRest own x b (c ∷ queue) b' = RestsOn own x b c × AllRest own x (basis_behind x c b) queue b'

@@ -15,7 +15,7 @@ ghost use Rattle.raft_engine.specs.Standing.{IsStateOf};
 
 use crate::engine::Engine;
 use crate::error::CallError;
-use crate::leader_handler::count_by;
+use crate::leader_handler::count_if;
 use raft_commands::RaftTypeConfig;
 use raft_state::{BasicNode, Bytes, SnapshotMeta};
 use std::alloc::AllocError;
@@ -60,13 +60,14 @@ impl<C: RaftTypeConfig<NodeId = u64, Node = BasicNode, D = Bytes>> Engine<C> {
             return Ok(Err(CallError::NotBuilding));
         }
         self.state.state.io_state.set_building_snapshot(false);
+        let is_changed = self.state.memberships.len() == 0;
         let before = self.state.state.committed;
         let is_updated = self.snapshot_handler().update_snapshot(meta)?;
         if !is_updated {
             return Ok(Ok(()));
         }
         let membership = self.state.effective_membership();
-        count_by(self.alloc, &mut self.leader, membership)?;
+        count_if(self.alloc, is_changed, &mut self.leader, membership)?;
         self.finish(before)?;
         Ok(Ok(()))
     }

@@ -1,5 +1,5 @@
 //! Leading: how a lead begins, and what a leader writes.
-ghost use Rattle.std.specs.Prelude.{◌≡◌, ◌+◌, ◌<◌, ◌^◌, ℕ, OnOk, IfOk, IsTrue, ◌↔◌, true, Some, None, List, [], Option};
+ghost use Rattle.std.specs.Prelude.{◌≡◌, ◌+◌, ◌<◌, ◌^◌, ℕ, OnOk, IfOk, IsTrue, ◌↔◌, true, false, Some, None, List, [], Option};
 ghost use Rattle.raft_values.specs.LogId.{next_place};
 ghost use Rattle.raft_state.specs.LogIdList.{last_id};
 ghost use Rattle.raft_group_step.specs.Values.{ChangeMembers, LoggedMembership, after_change, is_written_by, membership_after};
@@ -82,7 +82,7 @@ fn count_by_entry(
 }
 
 // A leader counts by this membership, if there is a leader. What is known of each peer stays.
-pub(crate) fn count_by(
+fn count_by(
     alloc: Global,
     leader: &mut Option<Leader<u64, EffectiveMembership<u64, BasicNode>>>,
     membership: &EffectiveMembership<u64, BasicNode>,
@@ -95,6 +95,23 @@ pub(crate) fn count_by(
     };
     let learner_ids = membership.membership().learner_ids()?;
     leader.change_membership(alloc, membership.clone()?, learner_ids.as_slice())?;
+    Ok(())
+}
+
+// The same where the membership may have changed; else the leader counts by it already.
+pub(crate) fn count_if(
+    alloc: Global,
+    changed: bool,
+    leader: &mut Option<Leader<u64, EffectiveMembership<u64, BasicNode>>>,
+    membership: &EffectiveMembership<u64, BasicNode>,
+) -> Result<(), AllocError>
+    ensures heard { OnOk result (KeepsHeard leader.old leader.new) }
+    ensures counts { (m : Option LoggedMembership) → membership.now ≡ effective_of m → (changed ≡ false → CountsOn m leader.old leader.old)
+        → OnOk result (CountsOn m leader.old leader.new) }
+{
+    if changed {
+        return count_by(alloc, leader, membership);
+    }
     Ok(())
 }
 

@@ -12,7 +12,7 @@ ghost use Rattle.raft_engine.specs.Standing.{Given, IsStepOf};
 ghost use Rattle.raft_engine.specs.Building.{covered_id};
 
 use crate::engine::Engine;
-use crate::leader_handler::count_by;
+use crate::leader_handler::count_if;
 use raft_commands::{Command, RaftTypeConfig};
 use raft_state::{BasicNode, Bytes, LogId};
 use std::alloc::AllocError;
@@ -90,9 +90,11 @@ impl<C: RaftTypeConfig<NodeId = u64, Node = BasicNode, D = Bytes>> Engine<C> {
         if upto.index == u64::MAX {
             return Ok(());
         }
+        let before = self.state.memberships.len();
         self.state.purge(&upto)?;
+        let is_changed = self.state.memberships.len() != before;
         let membership = self.state.effective_membership();
-        count_by(self.alloc, &mut self.leader, membership)?;
+        count_if(self.alloc, is_changed, &mut self.leader, membership)?;
         self.output.push_command(Command::PurgeLog { upto })
     }
 

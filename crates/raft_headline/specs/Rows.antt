@@ -4,8 +4,8 @@ use Rattle.raft_values.specs.LogId.{log_id_of}
 use Rattle.raft_state.specs.declared.entry.EntryPayload.TheVariants.{Membership as Members}
 use Rattle.raft_group_step.specs.Values.{Entry, EntryPayload, entry_of}
 use Rattle.raft_group_step.specs.GroupState.{GroupState, Untold}
-use Rattle.raft_group_step.specs.declared.group_call.GroupCall.TheVariants.{Initialize, Propose}
-use Rattle.raft_group_step.specs.GroupEvent.{GroupCall}
+use Rattle.raft_group_step.specs.declared.group_call.GroupCall.TheVariants.{Heartbeat, Initialize, Propose}
+use Rattle.raft_group_step.specs.GroupEvent.{Call, GroupCall, GroupEvent}
 use Rattle.raft_group_step.specs.StepResult.{NotLeader}
 use Rattle.raft_laws.specs.declared.world_event.WorldEvent.TheVariants as event
 use Rattle.raft_laws.specs.GroupWorld.{GroupWorld}
@@ -117,6 +117,14 @@ has_told = run_of one (event.Add 1 ∷ event.Ask 1 set_up 0 ∷ event.Ask 1 (Pro
 -- node 1's state there
 abbrev pub state_there : GroupWorld → GroupState
 state_there w = state_in (w.nodes 1)
+
+-- the leader where these wait for it
+abbrev pub with_waiting : List Untold → GroupState
+with_waiting waiting = record (state_there leading) { untold = waiting }
+
+-- it is asked for a heartbeat, which brings no token
+abbrev pub beats : GroupEvent
+beats = Call Heartbeat 0
 
 -- replicas in a world, whatever their machines are
 abbrev pub in_world : GroupWorld → Replicas

@@ -20,6 +20,7 @@ ghost use Rattle.raft_laws.specs.declared.world_event.WorldEvent.TheVariants as 
 ghost use Rattle.raft_headline.specs.ClusterEvent.{AddGroup, Ask, Crash, Deliver, Done, Fused};
 ghost use Rattle.raft_headline.specs.ClusterEvent.{Opened, PassedOver, Refused, Reopen, Stopped};
 ghost use Rattle.raft_headline.specs.ClusterEvent.{TurnedAway, silent};
+ghost use Rattle.raft_headline.specs.Answers.{TellsOrWaits};
 ghost use Rattle.raft_headline.specs.Happened.{ComesTo, Happened};
 ghost use Rattle.raft_headline.specs.Leaders.{HoldUpTo, IsHeldByLeaders};
 ghost use Rattle.raft_headline.specs.Machines.{Replicas};
@@ -27,8 +28,8 @@ ghost use Rattle.raft_headline.specs.OwnEvents.{own_events, own_number};
 ghost use Rattle.raft_headline.specs.Rows.{LeadsTo, asks_seven, at_one, collecting, first_entry};
 ghost use Rattle.raft_headline.specs.Rows.{has_told, history, in_world, its_list, leading};
 ghost use Rattle.raft_headline.specs.Rows.{noted_again, proposes, set_up, set_up_entry};
-ghost use Rattle.raft_headline.specs.Rows.{state_there, tells, told_at};
-ghost use Rattle.raft_headline.specs.Rows.{told_event, unknown_of, waits};
+ghost use Rattle.raft_headline.specs.Rows.{beats, state_there, tells, told_at};
+ghost use Rattle.raft_headline.specs.Rows.{told_event, unknown_of, waits, with_waiting};
 ghost use Rattle.raft_headline.specs.Seen.{Crashed, Halted, Own, Passed};
 ghost use Rattle.raft_headline.specs.Serves.{is_ended};
 ghost use Rattle.raft_headline.specs.Stops.{StopsStay, is_of_group, node_at, opens};
@@ -265,6 +266,18 @@ pub fn answers_held_by_leaders()
         (in_world has_told)
         (told_at 1 2 [])
         → ⊥ }
+{}
+
+/// Who leads on tells each token that waited, or that the event brought, at its place, or it waits on;
+/// none stays unknown.
+pub fn tokens_told_or_waiting()
+    ensures told { TellsOrWaits (with_waiting (waits 1 2 ∷ [])) (with_waiting []) beats (tells (told_at 1 2 [])) }
+    ensures waiting { TellsOrWaits (with_waiting (waits 1 2 ∷ [])) (with_waiting (waits 1 2 ∷ [])) beats silent }
+    ensures forgotten { TellsOrWaits (with_waiting (waits 1 2 ∷ [])) (with_waiting []) beats silent → ⊥ }
+    ensures other_place { TellsOrWaits (with_waiting (waits 1 2 ∷ [])) (with_waiting []) beats (tells (told_at 1 3 [])) → ⊥ }
+    ensures other_token { TellsOrWaits (with_waiting (waits 1 2 ∷ [])) (with_waiting []) beats (tells (told_at 2 2 [])) → ⊥ }
+    ensures own_token { TellsOrWaits (with_waiting []) (with_waiting []) (Call (Propose (add 5) 1) 0) silent → ⊥ }
+    ensures unknown { TellsOrWaits (with_waiting []) (with_waiting []) beats (record silent { unknown = 1 ∷ [] }) → ⊥ }
 {}
 
 /// A call comes to the node that it asks, where that is up and the event reached it: no opening

@@ -21,7 +21,7 @@ use Rattle.raft_group_step.specs.StoredGroup.{id_at as id_at_place, last_id as l
 use Rattle.raft_known_state.specs.KnownState.{KnownState, EffectiveMembership, SnapshotMeta, Knows, ArePlaced, IsPlaced, purged_ids, entry_ids, stored_ids, memberships_in, with_membership_of, effective_of, last_membership_of, meta_of, take_below, drop_below, last_else, force_of, force_of_snapshot, IsEntryOrPast, AreUpToTerm}
 use Rattle.raft_known_state.specs.KnownState.{AreInOrder, AreNoted, MembershipState, committed_membership, committed_of, with_committed, with_goal, with_members}
 use Rattle.raft_known_state.proofs.OrderLemmas.{placed_in_order}
-use Rattle.raft_known_state.proofs.TermLemmas.{up_to_back, up_to_both, up_to_dropped, up_to_front, up_to_more, up_to_taken}
+use Rattle.raft_known_state.proofs.TermLemmas.{up_to_both, up_to_dropped, up_to_more, up_to_taken}
 use Rattle.raft_known_state.proofs.PlacedIds.{by_order, Placed, EndsBefore, extended-placed, truncated-placed, from_place-placed, below_first, id_at-placed, ends-placed}
 
 -- a state as contracts see it
@@ -371,7 +371,7 @@ committed_known k s e f =
     ∙ ap (λ ms. last_else (force_of_snapshot (meta_of s.snapshot)) (take_below (next_place k.state.committed) ms)) f
 
 -- what is known anew, once both memberships are noted
-pub knows_again : (k : KnownState) (s : StoredGroup) → k.state.vote.value ≡ s.vote → k.state.log_ids ≡ stored_ids s → AreUpToTerm k.highest_term (stored_ids s) → k.state.purged_next ≡ first_place s
+pub knows_again : (k : KnownState) (s : StoredGroup) → k.state.vote.value ≡ s.vote → k.state.log_ids ≡ stored_ids s → AreUpToTerm k.highest_term (entry_ids s.log) → k.state.purged_next ≡ first_place s
     → k.state.snapshot_meta ≡ meta_of s.snapshot → k.memberships ≡ memberships_in s.log → k.state.purge_upto ≡ option_or k.wish s.purged → AreNoted k → Knows k s
 knows_again k s vote ids terms purged_at snapshot memberships goal noted =
     record {
@@ -425,11 +425,11 @@ end_known found s ids e f p = place_next found ∙ ap next_place (e ∙ ap last_
 -- ---- what is known after each storing command
 
 module _ (k k' k'' : KnownState) (s : StoredGroup) (old : Knows k s) (noted : AreNoted k'') (both : k'' ≡ with_members k' k''.state.membership_state) where
-  again : (s' : StoredGroup) → k'.state.vote.value ≡ s'.vote → k'.state.log_ids ≡ stored_ids s' → AreUpToTerm k'.highest_term (stored_ids s') → k'.state.purged_next ≡ first_place s'
+  again : (s' : StoredGroup) → k'.state.vote.value ≡ s'.vote → k'.state.log_ids ≡ stored_ids s' → AreUpToTerm k'.highest_term (entry_ids s'.log) → k'.state.purged_next ≡ first_place s'
       → k'.state.snapshot_meta ≡ meta_of s'.snapshot → k'.memberships ≡ memberships_in s'.log → k'.state.purge_upto ≡ option_or k'.wish s'.purged → Knows k'' s'
   again s' vote ids terms at snapshot memberships goal =
       knows_again k'' s' (ap (λ (y : KnownState). y.state.vote.value) both ∙ vote) (ap (λ (y : KnownState). y.state.log_ids) both ∙ ids)
-      (subst (λ (y : KnownState). AreUpToTerm y.highest_term (stored_ids s')) (sym both) terms)
+      (subst (λ (y : KnownState). AreUpToTerm y.highest_term (entry_ids s'.log)) (sym both) terms)
       (ap (λ (y : KnownState). y.state.purged_next) both ∙ at) (ap (λ (y : KnownState). y.state.snapshot_meta) both ∙ snapshot)
       (ap (λ (y : KnownState). y.memberships) both ∙ memberships)
       (ap (λ (y : KnownState). y.state.purge_upto) both ∙ goal ∙ ap (λ (y : KnownState). option_or y.wish s'.purged) (sym both)) noted
@@ -437,25 +437,19 @@ module _ (k k' k'' : KnownState) (s : StoredGroup) (old : Knows k s) (noted : Ar
   pub saved : (x : Snapshot) → k' ≡ record k { state = record k.state { snapshot_meta = meta_of (Some x) } } → Knows k'' (record s { snapshot = Some x })
   saved x e =
       again (record s { snapshot = Some x }) (ap (λ (y : KnownState). y.state.vote.value) e ∙ old.vote) (ap (λ (y : KnownState). y.state.log_ids) e ∙ old.ids)
-      (subst (λ (y : KnownState). AreUpToTerm y.highest_term (stored_ids s)) (sym e) old.terms)
+      (subst (λ (y : KnownState). AreUpToTerm y.highest_term (entry_ids s.log)) (sym e) old.terms)
       (ap (λ (y : KnownState). y.state.purged_next) e ∙ old.purged) (ap (λ (y : KnownState). y.state.snapshot_meta) e) (ap (λ (y : KnownState). y.memberships) e ∙ old.memberships)
       (ap (λ (y : KnownState). y.state.purge_upto) e ∙ old.goal ∙ ap (λ (y : KnownState). option_or y.wish s.purged) (sym e))
 
-  -- the log ids of another log behind the purge point
-  terms_with : (log : List Entry) → k.highest_term ≤ k'.highest_term → AreUpToTerm k'.highest_term (entry_ids log) → AreUpToTerm k'.highest_term (purged_ids s.purged ++ entry_ids log)
-  terms_with log l h =
-      up_to_both k'.highest_term (purged_ids s.purged) (entry_ids log)
-      (up_to_more k.highest_term k'.highest_term (purged_ids s.purged) l (up_to_front k.highest_term (purged_ids s.purged) (entry_ids s.log) old.terms)) h
-
   terms_of_log : k.highest_term ≤ k'.highest_term → AreUpToTerm k'.highest_term (entry_ids s.log)
-  terms_of_log l = up_to_more k.highest_term k'.highest_term (entry_ids s.log) l (up_to_back k.highest_term (purged_ids s.purged) (entry_ids s.log) old.terms)
+  terms_of_log l = up_to_more k.highest_term k'.highest_term (entry_ids s.log) l old.terms
 
   pub cut : (p : IsPlaced s) (at : ℕ) → first_place s ≤ at → k.highest_term ≤ k'.highest_term → k'.wish ≡ k.wish → k'.state ≡ record k.state { log_ids = truncated k.state.log_ids at } → k'.memberships ≡ take_below at k.memberships
       → Knows k'' (record s { log = log_below s at })
   cut p at l t w e f =
       again (record s { log = log_below s at }) (ap (λ (y : StateOf). y.vote.value) e ∙ old.vote)
       (ap (λ (y : StateOf). y.log_ids) e ∙ ap (λ ids. truncated ids at) old.ids ∙ truncated_ids s.purged s.log at p l)
-      (terms_with (log_below s at) t (up_to_taken k'.highest_term (at - first_place s) s.log (terms_of_log t)))
+      (up_to_taken k'.highest_term (at - first_place s) s.log (terms_of_log t))
       (ap (λ (y : StateOf). y.purged_next) e ∙ old.purged) (ap (λ (y : StateOf). y.snapshot_meta) e ∙ old.snapshot)
       (f ∙ ap (take_below at) old.memberships ∙ memberships_below s.log at (first_place s) p)
       (ap (λ (y : StateOf). y.purge_upto) e ∙ old.goal ∙ ap (λ wish. option_or wish s.purged) (sym w))
@@ -465,23 +459,22 @@ module _ (k k' k'' : KnownState) (s : StoredGroup) (old : Knows k s) (noted : Ar
   put p es q t h w e f =
       again (record s { log = log_below s (end_place s) ++ es }) (ap (λ (y : StateOf). y.vote.value) e ∙ old.vote)
       (ap (λ (y : StateOf). y.log_ids) e ∙ ap (λ ids. extended ids (entry_ids es)) old.ids ∙ appended_ids s es p q)
-      (terms_with (log_below s (end_place s) ++ es) t
       (subst (AreUpToTerm k'.highest_term) (sym (map-append (λ (e : Entry). e.log_id) (log_below s (end_place s)) es))
-      (up_to_both k'.highest_term (entry_ids (log_below s (end_place s))) (entry_ids es) (up_to_taken k'.highest_term (end_place s - first_place s) s.log (terms_of_log t)) h)))
+      (up_to_both k'.highest_term (entry_ids (log_below s (end_place s))) (entry_ids es) (up_to_taken k'.highest_term (end_place s - first_place s) s.log (terms_of_log t)) h))
       (ap (λ (y : StateOf). y.purged_next) e ∙ old.purged) (ap (λ (y : StateOf). y.snapshot_meta) e ∙ old.snapshot)
       (f ∙ ap (λ ms. ms ++ memberships_in es) old.memberships ∙ sym (memberships-append s.log es) ∙ ap (λ log. memberships_in (log ++ es)) (sym (log_whole s)))
       (ap (λ (y : StateOf). y.purge_upto) e ∙ old.goal ∙ ap (λ wish. option_or wish s.purged) (sym w))
 
-  pub removed : (p : IsPlaced s) (upto : LogId ℕ) → first_place s ≤ upto.index → IsEntryOrPast s upto → k.highest_term ≤ k'.highest_term → upto.leader_id.term ≤ k'.highest_term → k'.wish ≡ k.wish
+  pub removed : (p : IsPlaced s) (upto : LogId ℕ) → first_place s ≤ upto.index → IsEntryOrPast s upto → k.highest_term ≤ k'.highest_term → k'.wish ≡ k.wish
       → k'.state ≡ record k.state { log_ids = purged k.state.log_ids upto; purged_next = upto.index + 1; purge_upto = option_or k.wish (Some upto) } → k'.memberships ≡ drop_below (upto.index + 1) k.memberships
       → Knows k'' (record s { purged = Some upto; log = drop (upto.index + 1 - first_place s) s.log })
-  removed p upto l h t m w e f =
+  removed p upto l h t w e f =
       let within : nat_lt upto.index (first_place s) ≡ false = grind (arith, nat_tests, l) in
       let there : (x : Entry) → slice_get s.log (upto.index - first_place s) ≡ Some x → x.log_id ≡ upto =
       λ x g. h x (ap (λ b. if b then None else slice_get s.log (upto.index - first_place s)) within ∙ g) in
       again (record s { purged = Some upto; log = drop (upto.index + 1 - first_place s) s.log }) (ap (λ (y : StateOf). y.vote.value) e ∙ old.vote)
       (ap (λ (y : StateOf). y.log_ids) e ∙ ap (λ ids. purged ids upto) old.ids ∙ purged_ids-known s.purged s.log upto p l there)
-      (m, up_to_dropped k'.highest_term (upto.index + 1 - first_place s) s.log (terms_of_log t))
+      (up_to_dropped k'.highest_term (upto.index + 1 - first_place s) s.log (terms_of_log t))
       (ap (λ (y : StateOf). y.purged_next) e) (ap (λ (y : StateOf). y.snapshot_meta) e ∙ old.snapshot)
       (f ∙ ap (drop_below (upto.index + 1)) old.memberships ∙ memberships_above s.log (upto.index + 1) (first_place s) p)
       (ap (λ (y : StateOf). y.purge_upto) e ∙ ap (λ wish. option_or wish (Some upto)) (sym w))
@@ -517,13 +510,13 @@ pub record HasRead (state : StateOf) (vote : Vote ℕ) (purged_id : Option (LogI
 
 -- of a log that has no entry yet all is known
 pub read : (state : StateOf) (k k' : KnownState) (s : StoredGroup) → HasRead state s.vote s.purged (meta_of s.snapshot) → s.log ≡ []
-    → k.state ≡ state → AreUpToTerm k.highest_term (purged_ids s.purged) → k.memberships ≡ [] → k.wish ≡ None → AreNoted k' → k' ≡ with_members k k'.state.membership_state → Knows k' s
-read state k k' s before empty e t f none noted both =
+    → k.state ≡ state → k.memberships ≡ [] → k.wish ≡ None → AreNoted k' → k' ≡ with_members k k'.state.membership_state → Knows k' s
+read state k k' s before empty e f none noted both =
     let ids : stored_ids s ≡ purged_ids s.purged = ap (λ log. purged_ids s.purged ++ entry_ids log) empty ∙ append-nil (purged_ids s.purged) in
     knows_again k' s
     (ap (λ (y : KnownState). y.state.vote.value) both ∙ ap (λ (y : StateOf). y.vote.value) e ∙ before.vote_is)
     (ap (λ (y : KnownState). y.state.log_ids) both ∙ ap (λ (y : StateOf). y.log_ids) e ∙ before.ids ∙ sym ids)
-    (subst (λ (y : KnownState). AreUpToTerm y.highest_term (stored_ids s)) (sym both) (subst (AreUpToTerm k.highest_term) (sym ids) t))
+    (subst (λ log. AreUpToTerm k'.highest_term (entry_ids log)) (sym empty) tt)
     (ap (λ (y : KnownState). y.state.purged_next) both ∙ ap (λ (y : StateOf). y.purged_next) e ∙ before.at)
     (ap (λ (y : KnownState). y.state.snapshot_meta) both ∙ ap (λ (y : StateOf). y.snapshot_meta) e ∙ before.meta)
     (ap (λ (y : KnownState). y.memberships) both ∙ f ∙ ap memberships_in (sym empty))
@@ -536,7 +529,7 @@ read state k k' s before empty e t f none noted both =
 pub committed_on : (k k' : KnownState) (s : StoredGroup) (upto : Option (LogId ℕ)) → Knows k s → AreNoted k' → k' ≡ with_committed k upto k'.state.membership_state → Knows k' s
 committed_on k k' s upto old noted both =
     knows_again k' s (ap (λ (y : KnownState). y.state.vote.value) both ∙ old.vote) (ap (λ (y : KnownState). y.state.log_ids) both ∙ old.ids)
-    (subst (λ (y : KnownState). AreUpToTerm y.highest_term (stored_ids s)) (sym both) old.terms)
+    (subst (λ (y : KnownState). AreUpToTerm y.highest_term (entry_ids s.log)) (sym both) old.terms)
     (ap (λ (y : KnownState). y.state.purged_next) both ∙ old.purged) (ap (λ (y : KnownState). y.state.snapshot_meta) both ∙ old.snapshot)
     (ap (λ (y : KnownState). y.memberships) both ∙ old.memberships)
     (ap (λ (y : KnownState). y.state.purge_upto) both ∙ old.goal ∙ ap (λ (y : KnownState). option_or y.wish s.purged) (sym both)) noted

@@ -1,13 +1,14 @@
--- Log ids up to a term: of lists put together and cut, and of the last key.
-use Rattle.std.proofs.Common.{◌≡◌, ℕ, zero, suc, ◌+◌, ◌<◌, ◌≤◌, ◌-◌, ◌==◌, ◌&&◌, false, List, [], ◌∷◌, ◌++◌, length, take, drop, Some, refl, arith, sym, ap, ◌∙◌, subst}
+-- Log ids up to a term, of lists put together and cut; and what the last key alone tells.
+use Rattle.std.proofs.Common.{◌≡◌, ℕ, zero, suc, ◌+◌, ◌<◌, ◌≤◌, ◌-◌, ◌==◌, ◌&&◌, false, List, [], ◌∷◌, ◌++◌, length, take, drop, Option, Some, None, refl, arith, sym, ap, ◌∙◌, subst}
 use Rattle.std.specs.List.{slice_get}
 use Rattle.std.proofs.lemmas.Bool.Decides.{nat_tests}
+use Rattle.std.proofs.lemmas.List.Elements.{filter-append}
 use Rattle.raft_values.specs.declared.log_id.LogId.{LogId}
 use Rattle.raft_values.specs.declared.vote.LeaderId.{LeaderId}
 use Rattle.raft_state.specs.LogIdList.{PlacesRise, end_of_key, ids_of, last_id, leader_ids}
 use Rattle.raft_state.proofs.LogIdListLemmas.{last_id-cons}
 use Rattle.raft_group_step.specs.Values.{Entry, leader_eq}
-use Rattle.raft_known_state.specs.KnownState.{AreUpToTerm, entry_ids, ids_of_leader}
+use Rattle.raft_known_state.specs.KnownState.{AreUpToTerm, entry_ids, ids_of_leader, is_of_leader, purged_ids}
 
 pub up_to_more : (low high : ℕ) (ids : List (LogId ℕ)) → low ≤ high → AreUpToTerm low ids → AreUpToTerm high ids
 up_to_more low high [] l h = tt
@@ -16,14 +17,6 @@ up_to_more low high (id ∷ ids) l h = ((let at : id.leader_id.term ≤ low = h.
 pub up_to_both : (term : ℕ) (ids more : List (LogId ℕ)) → AreUpToTerm term ids → AreUpToTerm term more → AreUpToTerm term (ids ++ more)
 up_to_both term [] more h g = g
 up_to_both term (id ∷ ids) more h g = (h.0, up_to_both term ids more h.1 g)
-
-pub up_to_front : (term : ℕ) (ids more : List (LogId ℕ)) → AreUpToTerm term (ids ++ more) → AreUpToTerm term ids
-up_to_front term [] more h = tt
-up_to_front term (id ∷ ids) more h = (h.0, up_to_front term ids more h.1)
-
-pub up_to_back : (term : ℕ) (ids more : List (LogId ℕ)) → AreUpToTerm term (ids ++ more) → AreUpToTerm term more
-up_to_back term [] more h = h
-up_to_back term (id ∷ ids) more h = up_to_back term ids more h.1
 
 -- of the first ones, and of those behind them
 pub up_to_taken : (term n : ℕ) (es : List Entry) → AreUpToTerm term (entry_ids es) → AreUpToTerm term (entry_ids (take n es))
@@ -66,17 +59,32 @@ last_left (key ∷ next ∷ keys) =
     ap (λ n. last_id (drop n (key ∷ next ∷ keys))) (one_fewer key next keys)
     ∙ last_left (next ∷ keys) ∙ last_id-cons next keys ∙ sym (last_id-cons key (next ∷ keys))
 
-pub last_up_to : (term : ℕ) (keys : List (LogId ℕ)) → AreUpToTerm term (ids_of keys) → AreUpToTerm term (ids_of (drop (all_but_one keys) keys))
-last_up_to term [] h = tt
-last_up_to term (key ∷ []) h = h
-last_up_to term (key ∷ next ∷ keys) h =
+none_right : (xs ys : List (LogId ℕ)) → xs ++ ys ≡ [] → ys ≡ []
+none_right [] ys h = h
+none_right (x ∷ xs) ys h = cc h
+
+-- a leader that has none of all has none of the last key's
+pub last_has_none : (leader : LeaderId ℕ) (keys : List (LogId ℕ)) → ids_of_leader leader (ids_of keys) ≡ [] → ids_of_leader leader (ids_of (drop (all_but_one keys) keys)) ≡ []
+last_has_none leader [] h = refl
+last_has_none leader (key ∷ []) h = h
+last_has_none leader (key ∷ next ∷ keys) h =
+    let first = leader_ids key.leader_id key.index (end_of_key key (next ∷ keys)) in
     rw (one_fewer key next keys)
-    (last_up_to term (next ∷ keys) (up_to_back term (leader_ids key.leader_id key.index (end_of_key key (next ∷ keys))) (ids_of (next ∷ keys)) h))
+    (last_has_none leader (next ∷ keys)
+    (none_right (ids_of_leader leader first) (ids_of_leader leader (ids_of (next ∷ keys)))
+    (sym (filter-append (λ (id : LogId ℕ). leader_eq id.leader_id leader) first (ids_of (next ∷ keys))) ∙ h)))
 
 -- a leader of a higher term has none of them
-pub none_of_higher : (term : ℕ) (leader : LeaderId ℕ) (ids : List (LogId ℕ)) → term < leader.term → AreUpToTerm term ids → ids_of_leader leader ids ≡ []
+none_of_higher : (term : ℕ) (leader : LeaderId ℕ) (ids : List (LogId ℕ)) → term < leader.term → AreUpToTerm term ids → ids_of_leader leader ids ≡ []
 none_of_higher term leader [] l h = refl
 none_of_higher term leader (id ∷ ids) l h =
     let at : id.leader_id.term ≤ term = h.0 in
     let other : (id.leader_id.term == leader.term) ≡ false = grind (arith, nat_tests, at, l) in
     rw other (none_of_higher term leader ids l h.1)
+
+-- nor has it one of a log whose purge point is of another leader
+pub none_of_leader : (term : ℕ) (leader : LeaderId ℕ) (purged_id : Option (LogId ℕ)) (log : List Entry) → term < leader.term → is_of_leader leader purged_id ≡ false
+    → AreUpToTerm term (entry_ids log) → ids_of_leader leader (purged_ids purged_id ++ entry_ids log) ≡ []
+none_of_leader term leader None log l f h = none_of_higher term leader (entry_ids log) l h
+none_of_leader term leader (Some id) log l f h =
+    let other : leader_eq id.leader_id leader ≡ false = f in rw other (none_of_higher term leader (entry_ids log) l h)

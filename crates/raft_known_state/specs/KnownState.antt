@@ -115,7 +115,8 @@ committed_membership s committed =
 pub record Knows (k : KnownState) (s : StoredGroup) : Type 0 where
   pub vote : k.state.vote.value ≡ s.vote
   pub ids : k.state.log_ids ≡ stored_ids s
-  pub terms : AreUpToTerm k.highest_term (stored_ids s)
+  -- of the entries alone: what a peer's snapshot says of its last log id tells nothing of them
+  pub terms : AreUpToTerm k.highest_term (entry_ids s.log)
   pub purged : k.state.purged_next ≡ first_place s
   pub snapshot : k.state.snapshot_meta ≡ meta_of s.snapshot
   pub memberships : k.memberships ≡ memberships_in s.log
@@ -149,6 +150,11 @@ others own ids = filter (λ n. if n == own then false else true) ids
 -- the log id is of this leader, and at the place or above it
 abbrev pub is_of_leader_from : LeaderId ℕ → ℕ → LogId ℕ → Bool
 is_of_leader_from leader place id = leader_eq id.leader_id leader && nat_le place id.index
+
+-- the log id is of this leader
+abbrev pub is_of_leader : LeaderId ℕ → Option (LogId ℕ) → Bool
+is_of_leader leader None = false
+is_of_leader leader (Some id) = leader_eq id.leader_id leader
 
 -- the log ids of this leader
 abbrev pub ids_of_leader : LeaderId ℕ → List (LogId ℕ) → List (LogId ℕ)

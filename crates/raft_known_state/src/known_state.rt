@@ -18,7 +18,7 @@ ghost use Rattle.raft_known_state.specs.KnownState.{committed_membership, commit
 
 use crate::key_leaders::has_leader_from;
 use crate::member_ids::{ids_of_others, voters_of_others};
-use crate::terms::{highest_term, term_of};
+use crate::terms::{highest_term, is_of_leader};
 use raft_state::{
     BasicNode, Bytes, EffectiveMembership, Entry, KeptVec, LeaderId, LogId, LogIdOptionExt,
     LogStateReader, MembershipState, Node, NodeId, RaftPayload, RaftState, SnapshotMeta, UTime,
@@ -36,7 +36,8 @@ pub struct KnownState<NID: NodeId, N: Node> {
     pub memberships: KeptVec<EffectiveMembership<NID, N>>,
     /// Up to where a leader is still to purge, once no request needs what goes.
     pub wish: Option<LogId<NID>>,
-    /// No log id is of a higher term than this one (own): the highest that the log has had.
+    /// No entry of the log is of a higher term than this one (own): the highest that it has had. The
+    /// purge point may be, as a peer's snapshot may end with any log id.
     pub highest_term: u64,
 }
 
@@ -123,7 +124,6 @@ impl KnownState<u64, BasicNode> {
         ensures ids { IfOk result (λ k. k.state.log_ids ≡ purged_ids purged) }
         ensures fresh { IfOk result (λ k. (k.state.vote.utime ≡ None) × (k.state.committed ≡ None) × (k.wish ≡ None)) }
     {
-        let highest_term = term_of(&purged);
         let mut state = RaftState::default(alloc);
         state.vote = UTime::without_utime(vote);
         state.snapshot_meta = snapshot;
@@ -136,7 +136,7 @@ impl KnownState<u64, BasicNode> {
             state,
             memberships,
             wish: None,
-            highest_term,
+            highest_term: 0,
         };
         known.refresh_memberships()?;
         Ok(known)
@@ -313,16 +313,29 @@ impl KnownState<u64, BasicNode> {
         has_leader_from(self.state.log_ids.key_log_ids(), self.first_place(), leader)
     }
 
+    // Whether the purge point or an entry may be of this leader. None is where its term is above
+    // those of all entries, and the purge point is of another one.
+    fn may_have_leader(&self, leader: &LeaderId<u64>) -> bool
+        ensures { (s : StoredGroup) → Knows self.now s → result ≡ false → ids_of_leader leader.now (stored_ids s) ≡ [] }
+    {
+        if leader.term <= self.highest_term {
+            return true;
+        }
+        let purged = self.state.last_purged_log_id().copied();
+        is_of_leader(&purged, leader)
+    }
+
     /// Keys that tell each log id of this leader, and the last one of the log: all keys, or the last
-    /// one alone where the leader's term is above all of them, as at each election between nodes
-    /// that keep the rules (own; openraft takes those of the last leader).
+    /// one alone where the leader's term is above those of all entries and the purge point isn't
+    /// its own, as at each election between nodes that keep the rules (own; openraft takes those of
+    /// the last leader).
     pub fn keys_of_leader(&self, leader: &LeaderId<u64>) -> &[LogId<u64>]
         ensures rise { PlacesRise result.now }
         ensures last { last_id result.now ≡ last_id self.now.state.log_ids }
         ensures ids { (s : StoredGroup) → Knows self.now s → ids_of_leader leader.now (ids_of result.now) ≡ ids_of_leader leader.now (stored_ids s) }
     {
         let keys = self.state.log_ids.key_log_ids();
-        if leader.term <= self.highest_term {
+        if self.may_have_leader(leader) {
             return keys;
         }
         let (_, last) = keys.split_at(keys.len().saturating_sub(1));
@@ -402,7 +415,6 @@ impl KnownState<u64, BasicNode> {
         ensures rest { OnOk result (KeepsRest self.old self.new) }
     {
         self.state.purge_log(upto)?;
-        self.highest_term = self.highest_term.max(upto.leader_id.term);
         self.state.purge_upto = self.wish.or(Some(*upto));
         let gone = count_below(self.memberships.as_slice(), upto.index + 1);
         self.memberships.drop_front(gone);

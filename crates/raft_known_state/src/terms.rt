@@ -1,16 +1,16 @@
 //! How high the terms of a log go.
-ghost use Rattle.std.specs.Prelude.{◌≤◌};
-ghost use Rattle.raft_known_state.specs.KnownState.{AreUpToTerm, entry_ids, purged_ids};
+ghost use Rattle.std.specs.Prelude.{◌≡◌, ◌≤◌};
+ghost use Rattle.raft_known_state.specs.KnownState.{AreUpToTerm, entry_ids, is_of_leader};
 
-use raft_state::{BasicNode, Bytes, Entry, LogId};
+use raft_state::{BasicNode, Bytes, Entry, LeaderId, LogId};
 
-// The term of the log id, or 0 where there is none.
-pub(crate) fn term_of(log_id: &Option<LogId<u64>>) -> u64
-    ensures { AreUpToTerm result (purged_ids log_id.now) }
+// Whether there is a log id, of this leader.
+pub(crate) fn is_of_leader(log_id: &Option<LogId<u64>>, leader: &LeaderId<u64>) -> bool
+    ensures { result ≡ is_of_leader leader.now log_id.now }
 {
     match log_id {
-        None => 0,
-        Some(log_id) => log_id.leader_id.term,
+        None => false,
+        Some(log_id) => log_id.leader_id == *leader,
     }
 }
 

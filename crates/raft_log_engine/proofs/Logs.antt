@@ -67,6 +67,12 @@ module _ {F : Type 0} (disk : F → Disk) (settings : Config) where
       each may.image may.left settings.recovery_mode left may.crashed
       (subst (λ (l : List Text). IsFoundContent settings.recovery_mode l may.left left) (sym at) may.found)
 
+  -- of files that a close handed back what the log answered is found
+  pub found_closed : (e : Parts F) (d : Disk) → IsInMain e → OpensAs (directories_of_engine e) d (answers_on disk e) → (left : Seen) → MayBeFound settings d left → left ≡ answers_on disk e
+  found_closed e d at opens left may =
+      opens may.image may.left settings.recovery_mode left may.crashed
+      (subst (λ (l : List Text). IsFoundContent settings.recovery_mode l may.left left) (sym at) may.found)
+
   -- one content is found, and answered
   pub leaves_only : (e : Parts F) (has_failed : Bool) (content : Seen) → IsInMain e → answers_on disk e ≡ content → OpensAs (directories_of_engine e) (disk e.files) content
       → LeavesOnly (leaves_of_log disk (log e has_failed)) content

@@ -151,7 +151,36 @@ impl MemoryLog {
         }
     }
 
-    /// The files, handed back with no call on them (own), as where a machine stops. What an opening
+    /// The files, lent for reading (own).
+    pub fn files(&self) -> &MemoryFileSystem
+        ensures { result.now ≡ self.now.engine.files }
+    {
+        self.engine.files()
+    }
+
+    /// The files, handed back (raft-engine's `close`): the last one is cut behind its last record and
+    /// synced; a refusal is passed over, and a log that has failed makes no call. What an opening finds
+    /// of them, after a crash or as they are, is what the log answered, or what a failed one left;
+    /// of files as they are unless they show by chance what nobody wrote.
+    pub fn close(self) -> LogFiles
+        ensures settings { result.settings ≡ self.settings }
+        ensures opens { (image : Image) (d : Disk) (content : Content (List ℕ)) → self.has_failed ≡ false → IsCrashed (disk_in result.files) image d
+            → IsFoundBy result.settings d content → content ≡ answers_on disk_in self.engine }
+        ensures crashed { (image : Image) (d : Disk) (content : Content (List ℕ)) → IsCrashed (disk_in result.files) image d → IsFoundBy result.settings d content
+            → leaves_of_log disk_in self content }
+        ensures as_read { (content : Content (List ℕ)) → IsGenuineImage (disk_in result.files) (seen_image (disk_in result.files))
+            → IsFoundBy result.settings (disk_in result.files) content → leaves_of_log disk_in self content }
+    {
+        if self.has_failed {
+            return self.into_files();
+        }
+        LogFiles {
+            settings: self.settings,
+            files: self.engine.close(),
+        }
+    }
+
+    /// The files, handed back with no call on them (own: `abandon`), as where a machine stops. What an opening
     /// finds after a crash of them is left by the log, and so is what it finds of them as they are,
     /// unless they show by chance what nobody wrote.
     pub fn into_files(self) -> LogFiles

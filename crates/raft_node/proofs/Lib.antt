@@ -1,4 +1,5 @@
 pub mod NamedTokens
+pub mod Telling
 pub mod Faults
 pub mod Ends
 pub mod Events

@@ -45,7 +45,7 @@ module _ {M : Type 0} (state : M → List ℕ) where
           let none : of_group (waiting_in es) group ≡ [] = none_above es group (subst (λ n. AllByRecursion (λ y. nat_cmp n y ≡ Less) (keys_of es)) (sym same) sorted.0) in
           let here : (e.0 == group) ≡ true = eq-eqb e.0 group (sym same) in
           let at : is_eq (nat_cmp group e.0) ≡ true = ap is_eq (sym is) in
-          rw (here, at, none) (append-nil (untold_of e.1.applied.waiting.items))
+          rw (here, at, none) (append-nil (untold_of e.1.applied.waiting))
       by_order rest Greater is = apart_from rest (λ same. let more : e.0 < group = ranked group e.0 Greater is in omega arith) (ap is_eq (sym is))
 
 -- tokens behind others

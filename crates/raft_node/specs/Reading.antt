@@ -1,8 +1,9 @@
 -- What a node's readers tell of a group.
-use Rattle.std.specs.Prelude.{◌≡◌, ℕ, true, false, if◌then◌else◌, List, Option, Some, None, option_map}
+use Rattle.std.specs.Prelude.{◌≡◌, ◌+◌, ◌^◌, ℕ, nat_lt, true, false, if◌then◌else◌, List, Option, Some, None, option_map}
 use Rattle.raft_values.specs.declared.log_id.LogId.{LogId}
 use Rattle.raft_group_step.specs.StoredGroup.{end_place}
 use Rattle.raft_group_step.specs.GroupState.{GroupState, Role, Follower, Candidate, Leader, is_leader}
+use Rattle.raft_group_step.specs.VoteRequest.{lease}
 use Rattle.raft_group_step.specs.Lead.{peer_of}
 use Rattle.raft_group_step.specs.Peer.{Outstanding}
 use Rattle.raft_laws.specs.GroupWorld.{Up}
@@ -30,6 +31,19 @@ pub record TellsOf {X : Type 0} (n : NodeValue) (group : ℕ) (told : Option X) 
 abbrev pub next_entry_id : GroupState → Option (LogId ℕ)
 next_entry_id s =
     if is_leader s.role then Some (record { leader_id = s.stored.vote.leader_id; index = end_place s.stored }) else None
+
+-- the first moment behind the lease of a committed vote that was renewed then, if it was
+abbrev pub behind_lease : Option ℕ → ℕ
+behind_lease None = 0
+behind_lease (Some renewed) = renewed + lease + 1
+
+-- the first moment at which the node is under no lease
+abbrev pub free_from : GroupState → ℕ
+free_from s = if s.stored.vote.committed then behind_lease s.renewed else 0
+
+-- the moment, where 64 bits have it
+abbrev pub moment_of : ℕ → Option ℕ
+moment_of n = if nat_lt n (2 ^ 64) then Some n else None
 
 -- the request to the peer that a leader waits for
 abbrev pub outstanding_to : ℕ → Role → Option Outstanding

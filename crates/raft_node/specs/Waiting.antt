@@ -15,7 +15,7 @@ abbrev pub named_in : List UnknownTokens → List Tokens
 named_in xs = map (λ (x : UnknownTokens). (x.group, untold_of x.tokens.items)) xs
 
 abbrev pub waiting_in : {M : Type 0} → List (ℕ × Applier M) → List Tokens
-waiting_in {M} es = map (λ (e : ℕ × Applier M). (e.0, untold_of e.1.applied.waiting.items)) es
+waiting_in {M} es = map (λ (e : ℕ × Applier M). (e.0, untold_of e.1.applied.waiting)) es
 
 -- those of this group
 abbrev pub of_group : List Tokens → ℕ → List Untold
@@ -29,7 +29,7 @@ named_of unknown group = of_group (named_in unknown) group
 -- the tokens that wait for the group
 abbrev pub waiting_of : Option Running → List Untold
 waiting_of None = []
-waiting_of (Some r) = untold_of r.applied.waiting.items
+waiting_of (Some r) = untold_of r.applied.waiting
 
 -- one token more, of this group alone
 abbrev pub one_more : ℕ → ℕ → AnUntold → List Untold

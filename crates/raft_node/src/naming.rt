@@ -31,7 +31,7 @@ pub(crate) fn waiting_tokens<M: StateMachine>(
 {
     let _count = appliers.len();
     for (group, applier) in appliers {
-        let tokens = applier.applied.waiting;
+        let tokens = applier.applied.waiting.into_vec();
         let _ = places.push(UnknownTokens { group, tokens });
     }
     places

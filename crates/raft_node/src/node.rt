@@ -58,6 +58,13 @@ impl<M: StateMachine, S: GroupStorage<Snapshot = SnapshotBytes>> Node<M, S> {
         self.groups.into_storage()
     }
 
+    /// The storage, lent for reading (own).
+    pub fn storage(&self) -> &S
+        ensures { result.now ≡ self.now.groups.storage }
+    {
+        &self.groups.storage
+    }
+
     // What is applied of the group, lent.
     pub(crate) fn applier(&self, group: u64) -> Option<&Applier<M>>
         ensures { option_copied result ≡ applier_in self.now.machines group }

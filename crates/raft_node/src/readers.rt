@@ -1,18 +1,21 @@
 //! What a node tells of its groups. Where a group isn't there, and once the node has failed, there is
 //! nothing to tell.
-ghost use Rattle.std.specs.Prelude.{◌≡◌, ◌<◌, ◌^◌, None, Some, false, true, is_some, option_and_then, option_map};
+ghost use Rattle.std.specs.Prelude.{◌≡◌, ◌<◌, ◌^◌, [], ℕ, IfOk, None, Some, false, true, is_some, nat_lt, option_and_then, option_map};
+ghost use Rattle.std.specs.List.Sorted.{IsStrictlySortedBy};
+ghost use Rattle.std.specs.Set.{is_member};
 ghost use Rattle.std.specs.Option.{option_copied};
-ghost use Rattle.std.specs.Ordering.{nat_cmp};
-ghost use Rattle.std.specs.BTreeMap.{get};
+ghost use Rattle.std.specs.Ordering.{eq_by_cmp, nat_cmp};
+ghost use Rattle.std.specs.BTreeMap.{get, keys};
 ghost use Rattle.raft_known_state.specs.KnownState.{logged_as_effective};
 ghost use Rattle.raft_group_step.specs.StoredGroup.{end_place, last_id, membership_in_force, snapshot_last};
 ghost use Rattle.raft_group_step.specs.GroupState.{GroupState};
+ghost use Rattle.raft_group_step.specs.VoteRequest.{is_under_lease};
 ghost use Rattle.raft_group_step.specs.Refusal.{is_voter_in, known_leader};
 ghost use Rattle.raft_engine.specs.ServerStates.{part_in};
 ghost use Rattle.raft_engine.specs.Standing.{IsStateOf};
 ghost use Rattle.raft_laws.specs.GroupWorld.{Up};
 ghost use Rattle.raft_framed_groups.specs.Answers.{Stands};
-ghost use Rattle.raft_node.specs.Reading.{TellsOf, machine_in, next_entry_id, outstanding_to, place_in};
+ghost use Rattle.raft_node.specs.Reading.{TellsOf, free_from, machine_in, moment_of, next_entry_id, outstanding_to, place_in};
 ghost use Rattle.raft_node.specs.Standing.{applier_in, running_in, value_of};
 
 use crate::node::Node;
@@ -20,9 +23,11 @@ use raft_applier::Applier;
 use raft_engine::Engine;
 use raft_group_storage::GroupStorage;
 use raft_machines::StateMachine;
-use raft_member::{ByteGroup, facts_of};
+use raft_member::{ByteGroup, Member, facts_of};
 use raft_messages::SnapshotBytes;
 use raft_state::{BasicNode, EffectiveMembership, LogId, LogStateReader, ServerState};
+use std::alloc::{AllocError, Global};
+use std::collections::BTreeMap;
 
 // The part that the engine's node plays: as openraft's `calc_server_state`, of a lent engine.
 fn part_of(engine: &Engine<ByteGroup>) -> ServerState
@@ -51,6 +56,32 @@ fn is_waiting(engine: &Engine<ByteGroup>, peer: u64) -> bool
     }
 }
 
+// The first moment at which the engine's node is under no lease; none where 64 bits don't have it.
+fn free_moment(engine: &Engine<ByteGroup>) -> Option<u64>
+    ensures { (own : _) (s : GroupState) → IsStateOf own engine.now s → result ≡ moment_of (free_from s) }
+{
+    let vote = &engine.state.state.vote;
+    if !vote.get().committed {
+        return Some(0);
+    }
+    match vote.utime() {
+        Some(renewed) => {
+            let lease = engine.config.timer_config.leader_lease;
+            renewed.checked_add(lease)?.checked_add(1)
+        }
+        None => Some(0),
+    }
+}
+
+// The groups that have members, rising.
+fn groups_of(alloc: Global, members: &BTreeMap<u64, Member>) -> Result<Vec<u64>, AllocError>
+    ensures ids { IfOk result (λ ids. ids.items ≡ keys members.now) }
+    ensures rising { IsStrictlySortedBy nat_cmp (keys members.now) }
+    ensures exactly { (group : ℕ) → is_some (get nat_cmp members.now group) ≡ is_member (eq_by_cmp nat_cmp) (keys members.now) group }
+{
+    members.keys().copied().collect(alloc)
+}
+
 impl<M: StateMachine, S: GroupStorage<Snapshot = SnapshotBytes>> Node<M, S> {
     /// The node's id.
     pub fn id(&self) -> u64
@@ -64,6 +95,19 @@ impl<M: StateMachine, S: GroupStorage<Snapshot = SnapshotBytes>> Node<M, S> {
         ensures { result ≡ self.now.groups.has_failed }
     {
         self.groups.has_failed
+    }
+
+    /// The groups that are there, rising (own). It fails for want of memory alone.
+    pub fn groups(&self) -> Result<Vec<u64>, AllocError>
+        ensures failed { self.now.groups.has_failed ≡ true → IfOk result (λ groups. groups.items ≡ []) }
+        ensures rising { self.now.groups.has_failed ≡ false → IfOk result (λ groups. IsStrictlySortedBy nat_cmp groups.items) }
+        ensures exactly { (group : ℕ) → self.now.groups.has_failed ≡ false
+            → IfOk result (λ groups. is_member (eq_by_cmp nat_cmp) groups.items group ≡ is_some (get nat_cmp self.now.groups.members group)) }
+    {
+        if self.groups.has_failed {
+            return Ok(Vec::new(self.alloc));
+        }
+        groups_of(self.alloc, &self.groups.members)
     }
 
     // The engine of a group that is there, in a node that hasn't failed.
@@ -162,6 +206,16 @@ impl<M: StateMachine, S: GroupStorage<Snapshot = SnapshotBytes>> Node<M, S> {
         ensures { TellsOf (value_of M.state S.is_well S.shows self.now) group result (λ s. s.renewed) }
     {
         self.going_engine(group)?.state.state.vote.utime()
+    }
+
+    /// The first moment, in ticks, from which on an election of the group may be asked for (own): the
+    /// lease of a committed vote is over then, as far as this node has heard of its leader, so this
+    /// node would grant another its vote, too. None where 64 bits have no such moment.
+    pub fn may_elect_from(&self, group: u64) -> Option<u64>
+        ensures moment { TellsOf (value_of M.state S.is_well S.shows self.now) group result (λ s. moment_of (free_from s)) }
+        ensures lease { (s : GroupState) (now : ℕ) → is_under_lease (record s { now = now }) ≡ nat_lt now (free_from s) }
+    {
+        free_moment(self.going_engine(group)?)
     }
 
     /// The last log id that the group's snapshot covers (own).

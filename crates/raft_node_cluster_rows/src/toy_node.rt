@@ -1,5 +1,5 @@
 //! A node without groups' rules: it answers each call by a fixed frame, token or refusal.
-ghost use Rattle.std.specs.Prelude.{◌≡◌};
+ghost use Rattle.std.specs.Prelude.{◌≡◌, None};
 
 use raft_cluster_events::{
     ClusterNode, CrashChoice, CrashRefusal, GroupCommand, NodeError, NodeFrame, NodeOutcome,
@@ -95,6 +95,8 @@ impl ClusterNode for ToyNode {
       refuses = λ old choice why. Unit {0};
       reopens = λ old workers answered new. Unit {0};
       closes = λ old new. Unit {0};
+      machine_of = λ n group. None;
+      applied_of = λ n group. None;
     } };
 
     ghost states = { record {

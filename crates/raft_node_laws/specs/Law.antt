@@ -1,14 +1,15 @@
 -- The law of a node: wherever it stands in a cluster's history, each call leads it on as the step of the group does, and what it
 -- answers says so.
-use Rattle.std.specs.Prelude.{◌≡◌, ℕ, Bool, true, false, List, [], ◌∷◌, length, slice_get, Some, Option, Result, Ok, Contains}
+use Rattle.std.specs.Prelude.{◌≡◌, ℕ, Bool, true, false, List, [], ◌∷◌, length, slice_get, Some, None, Option, Result, Ok, Contains}
 use Rattle.raft_group_step.specs.Message.{Message}
 use Rattle.raft_group_step.specs.GroupEvent.{Call, GroupCall}
 use Rattle.raft_group_step.specs.GroupState.{no_group, state_of}
 use Rattle.raft_laws.specs.declared.world_event.WorldEvent.TheVariants as event
 use Rattle.raft_laws.specs.GroupRun.{At}
-use Rattle.raft_laws.specs.GroupWorld.{NodeState, Up, Down}
+use Rattle.raft_laws.specs.GroupWorld.{Absent, NodeState, Up, Down}
 use Rattle.raft_laws.specs.NodeEvent.{Comes as ComesTo}
-use Rattle.raft_laws.specs.OneList.{AreNodeIds}
+use Rattle.raft_laws.specs.OneList.{AreNodeIds, applied_list}
+use Rattle.raft_machines.specs.Fold.{fold_of}
 use Rattle.raft_machines.specs.Machine.{MachineRules}
 use Rattle.raft_headline.specs.ClusterEvent.{AddGroup, Ask, ClusterEvent, ClusterOutcome, Crash, Deliver, Done, Fuse, Recorded}
 use Rattle.raft_headline.specs.ClusterEvent.{Reopen, ResetPeer, Stopped, silent}
@@ -43,6 +44,14 @@ WasSent group number m history = slice_get (sent_by group history) number ≡ So
 abbrev pub first_state : Bool → NodeState
 first_state true = Up (state_of no_group)
 first_state false = Down no_group
+
+-- In this state of a group a node lends a machine that has run the whole list that it has applied, and tells its last place; it lends
+-- none where the group isn't there, or nothing of it is up
+abbrev pub Lends : MachineRules → NodeState → Option (List ℕ) → Option ℕ → Type 0
+Lends rules (Up s) (Some machine) place = (machine ≡ fold_of rules (applied_list s)) × (place ≡ s.applied)
+Lends rules (Up s) None place = (s ≡ state_of no_group) × (place ≡ None)
+Lends rules (Down x) machine place = (machine ≡ None) × (place ≡ None)
+Lends rules Absent machine place = (machine ≡ None) × (place ≡ None)
 
 module _ {N : Type 0} (rules : MachineRules) (acts : NodeActs N) (states : NodeStates N) where
   -- ---- where a node stands, and how it is led on
@@ -106,3 +115,6 @@ module _ {N : Type 0} (rules : MachineRules) (acts : NodeActs N) (states : NodeS
     pub closes : (old mid new : N) (workers : ℕ) (outcomes : List NodeOutcome) → acts.is_up old ≡ false
         → acts.reopens old workers (Ok outcomes) mid → acts.closes mid new
         → LeadsOn Anything (Reopen (acts.id old)) old new (λ o. o ≡ Stopped [])
+    -- the machine that it lends is the group's, whichever of the states the node is in
+    pub lends : (node : N) (h : ℕ) (s : NodeState) (more : List NodeState) → states.may_be node h (s ∷ more)
+        → Lends rules s (acts.machine_of node h) (acts.applied_of node h)

@@ -100,6 +100,8 @@ small_acts = record {
   refuses = λ old choice why. Unit {0};
   reopens = λ old workers answered new. Unit {0};
   closes = λ old new. Unit {0};
+  machine_of = λ n group. None;
+  applied_of = λ n group. None;
 }
 
 abbrev pub small_states : NodeStates Small

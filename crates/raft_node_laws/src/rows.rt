@@ -10,7 +10,11 @@ ghost use Rattle.raft_cluster_conditions.specs.declared.reasons.ClusterRefusal.T
 ghost use Rattle.raft_cluster_events.specs.declared.outcome.EventOutcome.TheVariants as outcome;
 ghost use Rattle.raft_cluster_events.specs.declared.outcome.NodeError.TheVariants as error;
 ghost use Rattle.raft_cluster_events.specs.declared.outcome.NodeRefusal.TheVariants as refusal;
-ghost use Rattle.raft_cluster_laws.specs.Rows.{sends};
+ghost use Rattle.raft_cluster_laws.specs.Rows.{made, sends};
+ghost use Rattle.raft_group_step.specs.GroupState.{no_group, state_of};
+ghost use Rattle.raft_laws.specs.GroupWorld.{Down, Up};
+ghost use Rattle.raft_machines.specs.Adding.{adding};
+ghost use Rattle.raft_node_laws.specs.Law.{Lends};
 ghost use Rattle.raft_node_laws.specs.Answered.{stop_behind};
 ghost use Rattle.raft_node_laws.specs.Reporting.{IsRecordedAs, IsReport};
 ghost use Rattle.raft_machines.specs.declared.telling.UnknownTokens.{UnknownTokens};
@@ -79,6 +83,17 @@ pub fn nodes_that_are_led()
     ensures another { IsLed 9 has_seven (Done silent) → ⊥ }
     ensures passed { IsLed 7 knows_none PassedOver → ⊥ }
     ensures nowhere { IsLed 7 (λ h. []) (Done silent) → ⊥ }
+{}
+
+/// In a state of a group a node lends the machine that has run the list that it has applied, and tells
+/// its last place. It lends none where the group isn't there, or while it is down.
+pub fn machines_that_are_lent()
+    ensures absent { Lends adding (Up (state_of no_group)) None None }
+    ensures withheld { Lends adding (Up (state_of made)) None None → ⊥ }
+    ensures new { Lends adding (Up (state_of made)) (Some adding.first) None }
+    ensures ahead { Lends adding (Up (state_of made)) (Some adding.first) (Some 0) → ⊥ }
+    ensures another { Lends adding (Up (state_of made)) (Some []) None → ⊥ }
+    ensures down { Lends adding (Down made) (Some adding.first) None → ⊥ }
 {}
 
 /// The reasons of a group's step are those of the node. A node that has stopped passes events over,

@@ -5,6 +5,7 @@ mod Calls
 mod Pieces
 mod Deliveries
 mod Openings
+mod Lending
 mod Keeping
 mod Handing
 mod Beginning

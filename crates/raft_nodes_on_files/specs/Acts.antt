@@ -24,8 +24,10 @@ use Rattle.raft_node.specs.Asking.{without_its_why}
 use Rattle.raft_node.specs.Ending.{IsEvent}
 use Rattle.raft_node.specs.Feeding.{FeedsPart, FeedsWhole, StaysBut, so_far}
 use Rattle.raft_node.specs.Opening.{HasNotOpened, HasOpened, IsReopened}
+use Rattle.raft_node.specs.Reading.{machine_in, place_in}
+use Rattle.raft_node.specs.Running.{Running}
 use Rattle.raft_node.specs.Settling.{IsStoppedBy, IsTold}
-use Rattle.raft_node.specs.Standing.{NodeValue}
+use Rattle.raft_node.specs.Standing.{NodeValue, running_in}
 use Rattle.raft_node.specs.declared.outcome.Outcome.{Outcome}
 use Rattle.raft_node_faults.specs.declared.fault.Cause.TheVariants as cause
 use Rattle.raft_node_faults.specs.declared.fault.Fault.{Fault}
@@ -57,6 +59,11 @@ some_outcome (Err met) = Err met
 abbrev pub error_or_done : Result (Unit {0}) (Fault KeepingFault) → Result (Unit {0}) NodeError
 error_or_done (Ok done) = Ok done
 error_or_done (Err why) = Err (error_of why)
+
+-- a node that has failed runs nothing
+abbrev pub unless_failed : Bool → Option Running → Option Running
+unless_failed false running = running
+unless_failed true running = None
 
 -- ---- openings
 
@@ -232,6 +239,13 @@ module _ {M : Type 0} {g : Ghosts M} (rules : MachineRules) (state : M → List 
   FusesAs old new None = FusesDown old new
   FusesAs old new (Some n) = FusesTo rules state n old new
 
+  -- ---- readers
+
+  -- what runs for the group, at a node that is up and hasn't failed
+  abbrev pub runs_of : Option (UpNode M g) → ℕ → Option Running
+  runs_of None group = None
+  runs_of (Some n) group = unless_failed n.groups.has_failed (running_in state n.machines group)
+
   -- ---- all calls
 
   -- one that is down stays so
@@ -259,6 +273,8 @@ module _ {M : Type 0} {g : Ghosts M} (rules : MachineRules) (state : M → List 
     refuses = λ old choice why. RefusesCrash old.up choice why;
     reopens = λ old workers answered new. WhenDown old.up (ReopensTo old answered new) ((new ≡ old) × (answered ≡ Ok []));
     closes = λ old new. WhenUp old new old.up (Unit {0}) (λ n. GoesDown n old new);
+    machine_of = λ n group. machine_in (runs_of n.up group);
+    applied_of = λ n group. place_in (runs_of n.up group);
   }
 
   abbrev pub file_node_states : NodeStates (FileNode M g)

@@ -6,8 +6,9 @@ ghost use Rattle.raft_nodes_on_files.specs.Answering.{node_outcome, quiet_stop};
 ghost use Rattle.raft_cluster_events.specs.declared.outcome.StopCause.TheVariants.{Memory};
 
 use crate::faults::{NodeFault, as_stop, error_of, quiet_stop};
-use crate::opening::{Kept, Unopened, closed, crash_refusal, file_choice, open_node};
+use crate::opening::{Kept, Unopened, abandon_node, crash_refusal, file_choice, open_node};
 use crate::outcomes::{outcome_of, outcomes_of};
+use crate::readers::{machine_of, place_of};
 use raft_cluster_events::{
     ClusterNode, CrashChoice, CrashRefusal, GroupCommand, NodeError, NodeOutcome, NodeRefusal,
     Sequence, Stop, StopCause, Unsaid,
@@ -118,7 +119,7 @@ impl<M: StateMachine> FileNode<M> {
                 Ok(outcomes)
             }
             Err(_) => {
-                self.files = closed(node);
+                self.files = abandon_node(node);
                 Err(quiet_stop(self.alloc, StopCause::Memory))
             }
         }
@@ -136,7 +137,7 @@ impl<M: StateMachine> FileNode<M> {
         ensures shown { IfSome self.old.up (λ n. AreHandedBack M.rules M.state n self.new.files) }
     {
         if let Some(node) = self.up.take() {
-            self.files = closed(node);
+            self.files = abandon_node(node);
         }
     }
 }
@@ -264,10 +265,16 @@ impl<M: StateMachine> ClusterNode for FileNode<M> {
     }
 
     fn machine(&self, group: u64) -> Option<&M> {
-        self.up.as_ref()?.machine(group)
+        match &self.up {
+            Some(node) => machine_of(node, group),
+            None => None,
+        }
     }
 
     fn applied(&self, group: u64) -> Option<u64> {
-        self.up.as_ref()?.applied(group)
+        match &self.up {
+            Some(node) => place_of(node, group),
+            None => None,
+        }
     }
 }

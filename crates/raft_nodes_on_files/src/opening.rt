@@ -11,6 +11,7 @@ use crate::faults::{as_stop, cause_of_log, quiet_stop};
 use raft_cluster_events::{CrashChoice, CrashRefusal, Stop, StopCause};
 use raft_log_disk::{CrashChoice as FileChoice, CrashRefusal as FileRefusal};
 use raft_log_engine::{LogFiles, MemoryLog, NotOpened as LogNotOpened};
+use raft_log_files::MemoryFileSystem;
 use raft_machines::StateMachine;
 use raft_node::{Node, NotOpened, Opened};
 use raft_store::Store;
@@ -75,8 +76,25 @@ pub fn open_node<M: StateMachine>(
     }
 }
 
-/// The node's files, handed back as they are.
-pub fn closed<M: StateMachine>(node: Node<M, Kept<M>>) -> LogFiles
+/// The node's files, handed back once its log is closed (own: `close`): the last one is cut and synced,
+/// but where a write failed. What an opening finds of them is what the node showed of each group.
+pub fn close_node<M: StateMachine>(node: Node<M, Kept<M>>) -> LogFiles
+    ensures settings { result.settings ≡ node.groups.storage.log.settings }
+    ensures shown { AreHandedBack M.rules M.state node result }
+{
+    node.into_storage().into_log().close()
+}
+
+/// The node's files, lent for reading (own: `files`).
+pub fn files_of<M: StateMachine>(node: &Node<M, Kept<M>>) -> &MemoryFileSystem
+    ensures { result.now ≡ node.now.groups.storage.log.engine.files }
+{
+    node.storage().log().files()
+}
+
+/// The node's files, handed back as they are, with no call on them (own: `abandon`), as where its
+/// machine stops.
+pub fn abandon_node<M: StateMachine>(node: Node<M, Kept<M>>) -> LogFiles
     ensures files { result.files ≡ node.groups.storage.log.engine.files }
     ensures settings { result.settings ≡ node.groups.storage.log.settings }
     ensures shown { AreHandedBack M.rules M.state node result }

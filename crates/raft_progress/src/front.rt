@@ -1,5 +1,5 @@
 //! The voters in falling order of their values, and the search for a quorum in front of them.
-ghost use Rattle.std.specs.Prelude.{◌≡◌, ◌<◌, ◌≤◌, ◌&&◌, ◌-◌, ◌++◌, ◌∷◌, [], length, slice_set, slice_index_or, take, true, IfSome, IfNone, OnOk, IsPermutation};
+ghost use Rattle.std.specs.Prelude.{◌≡◌, ◌<◌, ◌≤◌, ◌&&◌, ◌+◌, ◌-◌, ◌++◌, ◌∷◌, [], length, slice_set, slice_index_or, take, true, false, IfSome, IfNone, OnOk, IsPermutation};
 ghost use Rattle.std.specs.Ordering.{is_le, is_lt};
 ghost use Rattle.raft_quorums.specs.Nodes.{has_node};
 ghost use Rattle.raft_progress.specs.Granted.{IsFalling, IsGranted, IsFallingBut};
@@ -59,8 +59,61 @@ fn move_up<ID: NodeId, V: Copy + Borrow<P>, P: Copy + Ord>(
     at
 }
 
-// The first index from `from` on where those in front of it and the entry itself are a quorum,
-// among the entries above what is granted.
+// Whether an entry stands at the index, above what is granted.
+fn is_above_at<ID: NodeId, V: Borrow<P>, P: Ord>(voters: &[(ID, V)], at: usize, granted: &P) -> bool
+    requires { at ≤ length voters.now }
+    ensures above { result ≡ true → (at < length voters.now) × ((x : ID × V) → is_lt (P.cmp granted.now (V.borrowed (slice_index_or voters.now at x).1)) ≡ true) }
+    ensures rests { result ≡ false → (x : ID × V) → at < length voters.now → is_lt (P.cmp granted.now (V.borrowed (slice_index_or voters.now at x).1)) ≡ false }
+{
+    if at == voters.len() {
+        return false;
+    }
+    is_below(granted, voters[at].1.borrow())
+}
+
+// Whether the entry at the index and those in front of it are a quorum.
+fn is_quorum_to<ID: NodeId, V, QS: QuorumSet<ID>>(
+    quorum_set: &QS,
+    voters: &[(ID, V)],
+    at: usize,
+) -> bool
+    requires { at < length voters.now }
+    ensures { result ≡ QS.accepts quorum_set.now (has_node ID.eq (take (at + 1) voters.now)) }
+{
+    let front = Front {
+        entries: &voters[..at + 1],
+    };
+    quorum_set.is_quorum(&front)
+}
+
+// The first index from `from` on where the entry and those in front of it are a quorum, or the end.
+// It is found by halving: where they are a quorum, they are one with those behind them too.
+fn quorum_end<ID: NodeId, V, QS: QuorumSet<ID>>(
+    quorum_set: &QS,
+    voters: &[(ID, V)],
+    from: usize,
+) -> usize
+    requires { from ≤ length voters.now }
+    ensures within { result ≤ length voters.now }
+    ensures first { (0 < from → QS.accepts quorum_set.now (has_node ID.eq (take from voters.now)) ≡ false)
+        → 0 < result → QS.accepts quorum_set.now (has_node ID.eq (take result voters.now)) ≡ false }
+    ensures quorum { result < length voters.now → QS.accepts quorum_set.now (has_node ID.eq (take (result + 1) voters.now)) ≡ true }
+{
+    let mut reached = from;
+    let mut end = voters.len();
+    'halving: while reached < end {
+        let at = reached + (end - reached) / 2;
+        if is_quorum_to(quorum_set, voters, at) {
+            end = at;
+        } else {
+            reached = at + 1;
+        }
+    }
+    end
+}
+
+// The first index from `from` on where the entry and those in front of it are a quorum, if it is
+// above what is granted; where the entries fall, none behind it is above otherwise.
 fn find_quorum<ID: NodeId, V: Borrow<P>, P: Ord, QS: QuorumSet<ID>>(
     quorum_set: &QS,
     voters: &[(ID, V)],
@@ -71,18 +124,16 @@ fn find_quorum<ID: NodeId, V: Borrow<P>, P: Ord, QS: QuorumSet<ID>>(
     ensures found { IfSome result (EndsQuorum ID.eq P.cmp V.borrowed (QS.accepts quorum_set.now) voters.now from granted.now) }
     ensures none { IfNone result (HasNoQuorum ID.eq P.cmp V.borrowed (QS.accepts quorum_set.now) voters.now from granted.now) }
 {
-    for at in from..voters.len() {
-        if !is_below(granted, voters[at].1.borrow()) {
-            return None;
-        }
-        let front = Front {
-            entries: &voters[..at + 1],
-        };
-        if quorum_set.is_quorum(&front) {
-            return Some(at);
-        }
+    let starts_above = is_above_at(voters, from, granted);
+    if !starts_above {
+        return None;
     }
-    None
+    let end = quorum_end(quorum_set, voters, from);
+    let ends_above = is_above_at(voters, end, granted);
+    if !ends_above {
+        return None;
+    }
+    Some(end)
 }
 
 // Sets the value at the index, which is no less than the one there, and answers what is granted

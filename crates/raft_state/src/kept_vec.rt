@@ -80,6 +80,17 @@ impl<T: Drop> KeptVec<T> {
         kept
     }
 
+    /// The items alone, in a `Vec`: what is gone is dropped, and the others move down. Takes no memory.
+    pub fn into_vec(self) -> Vec<T>
+        ensures { result.items ≡ self }
+    {
+        let mut items = self.items;
+        let count = items.len() - self.gone;
+        items.rotate_left(self.gone);
+        items.truncate(count);
+        items
+    }
+
     /// Puts the item behind the others. Without memory the list stays.
     pub fn push(&mut self, item: T) -> Result<(), AllocError>
         ensures ok { OnOk result (self.new ≡ self.old ++ item ∷ []) }

@@ -56,6 +56,13 @@ impl<M: StateMachine, L: ContentLog> Store<M, L> {
         self.log
     }
 
+    /// The log, lent for reading (own).
+    pub fn log(&self) -> &L
+        ensures { result.now ≡ self.now.log }
+    {
+        &self.log
+    }
+
     // Writes a batch of one group's changes.
     fn store(&mut self, batch: &mut LogBatch) -> Result<(), StoreFault<L::Fault>>
         ensures well { L.is_sound self.old.log → OnOk result (L.is_sound self.new.log) }

@@ -44,7 +44,7 @@ returns-clause-ok g c = λ s e of step up caught.
             last = last;
             lead = is.lead;
             waiting =
-                ap (λ x. untold_of x.applied.waiting.items) w.self-is
+                ap (λ x. untold_of x.applied.waiting) w.self-is
                 ∙ w.in_ok-progress.ensures.waiting (next_place now) (rises own s e step order rules machine a caught seen is now later on)
                 ∙ later_wait own s e step order rules machine a caught seen is on;
           }
@@ -55,7 +55,7 @@ returns-clause-ok g c = λ s e of step up caught.
             last = last;
             lead = is.lead;
             waiting =
-                ap (λ x. untold_of x.applied.waiting.items) w.self-is
+                ap (λ x. untold_of x.applied.waiting) w.self-is
                 ∙ w.in_ok-progress-2.ensures.waiting
                 ∙ none_wait own s e step order rules machine a caught seen is off;
           }

@@ -12,4 +12,4 @@ returns-clause-told g c = λ list are run.
 
 pub returns-clause-unknown : goal.returns-clause-unknown
 returns-clause-unknown g c =
-    c.in_ok-unknown.ensures ∙ ap (map (λ (x : Untold). x.token)) c.as_slice.ensures.value ∙ their_tokens c.args.self.now.applied.waiting.items
+    c.in_ok-unknown.ensures ∙ ap (map (λ (x : Untold). x.token)) c.as_slice.ensures ∙ their_tokens c.args.self.now.applied.waiting

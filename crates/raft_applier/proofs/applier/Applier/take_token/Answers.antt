@@ -10,8 +10,8 @@ returns-clause-ok g c = λ e s has idle low caught. record {
   last = caught.last;
   lead = caught.lead;
   waiting =
-      ap untold_of c.in_ok-push.ensures.items
-      ∙ one_more c.args.self.now.applied.waiting.items s.untold c.args.token c.next_place_of-place.result (end_place s.stored) caught.waiting (c.next_place_of-place.ensures e s has idle low);
+      ap untold_of c.in_ok-push.ensures.ok
+      ∙ one_more c.args.self.now.applied.waiting s.untold c.args.token c.next_place_of-place.result (end_place s.stored) caught.waiting (c.next_place_of-place.ensures e s has idle low);
 }
 
 pub returns-in_err-push-clause-err : goal.returns-in_err-push-clause-err
@@ -19,5 +19,5 @@ returns-in_err-push-clause-err g c = λ s caught. on_err c.from_residual.result 
   folded = caught.folded;
   last = caught.last;
   lead = caught.lead;
-  waiting = ap untold_of c.in_err-push.ensures.items ∙ caught.waiting;
+  waiting = ap untold_of c.in_err-push.ensures.err ∙ caught.waiting;
 })

@@ -1,4 +1,5 @@
-use Rattle.std.proofs.Common.{◌∙◌, [], ◌∷◌, ◌++◌, ap, refl, rules, subst, sym}
+use Rattle.std.proofs.Common.{◌<◌, ◌∙◌, [], ◌∷◌, ◌++◌, ap, arith, length, refl, rules, subst, sym}
+use Rattle.std.proofs.lemmas.Bool.Decides.{nat_tests}
 use Rattle.std.proofs.Math.Bool.{true≢false}
 use Rattle.raft_group_step.specs.StoredGroup.{SetSnapshot, after_storing, membership_in_force}
 use Rattle.raft_group_step.specs.StepResult.{store}
@@ -10,6 +11,7 @@ use Rattle.raft_engine.specs.Leading.{CountsOn}
 use Rattle.raft_engine.specs.Numbering.{Follow, NumbersFollow, numbers_in}
 use Rattle.raft_engine.specs.Standing.{Engine, IsStepOf, given}
 use Rattle.raft_engine.proofs.BuildingLemmas.{build_taken, builder_finishes, snapshot_stored, trigger_in_range}
+use Rattle.raft_engine.proofs.ForceLemmas.{counts_still, snapshot_keeps_force}
 use Rattle.raft_engine.proofs.RoomLemmas.{can_finish_when_ready}
 use Rattle.raft_engine.proofs.engine.Engine.finish_building_snapshot.Goals as goal
 
@@ -36,11 +38,16 @@ returns-clause-built g c = λ own at before s x asked empty stands ready accepte
     let after = store (SetSnapshot x) (begun at s) in
     let same = c.in_ok-is_updated.ensures.rest.1 ∙ ap (λ (e : Engine _ _). record e { state = lent_back.state }) c.snapshot_handler.ensures.value in
     let group = after_storing (SetSnapshot x) s.stored in
-    let counted = c.in_ok-count_by.ensures.counts (membership_in_force group) (c.effective_membership-membership.ensures group (subst (λ (y : Engine _ _). Knows y.state group) {x = lent_back} {y = c.self-1.given.0} (search rules) knows)) in
-    let back : CountsOn (membership_in_force group) lent_back.leader c.count_by.new.leader = subst (λ (y : Engine _ _). CountsOn (membership_in_force group) y.leader c.count_by.new.leader) {x = c.self-1.given.0} {y = lent_back} (search rules) counted in
-    let leader : CountsOn (membership_in_force group) e.leader c.count_by.new.leader = subst (λ (y : Engine _ _). CountsOn (membership_in_force group) y.leader c.count_by.new.leader) same back in
-    let step = snapshot_stored s x built own at e (record lent { state = lent_back.state; leader = c.count_by.new.leader }) stands (given x before s) refl (ap (λ (y : Engine _ _). y.seen_greater_log) asked) numbers (ap (λ (y : Engine _ _). y.state.state.committed) asked) refl refl refl leader refl knows
+    let counted =
+    c.in_ok-count_if.ensures.counts (membership_in_force group) (c.effective_membership-membership.ensures group (subst (λ (y : Engine _ _). Knows y.state group) {x = lent_back} {y = c.self-1.given.0} (search rules) knows))
+    (λ h. subst (λ (y : Engine _ _). CountsOn (membership_in_force group) y.leader y.leader) {x = lent_back} {y = c.self-1.given.0} (search rules)
+    (subst (λ (y : Engine _ _). CountsOn (membership_in_force group) y.leader y.leader) (sym same)
+    (counts_still own e.leader e.candidate s.stored group s.role stands.role
+    (snapshot_keeps_force e.state s.stored x old (let some : 0 < length e.state.memberships = grind (arith, nat_tests, h, c.len.ensures) in some))))) in
+    let back : CountsOn (membership_in_force group) lent_back.leader c.count_if.new.leader = subst (λ (y : Engine _ _). CountsOn (membership_in_force group) y.leader c.count_if.new.leader) {x = c.self-1.given.0} {y = lent_back} (search rules) counted in
+    let leader : CountsOn (membership_in_force group) e.leader c.count_if.new.leader = subst (λ (y : Engine _ _). CountsOn (membership_in_force group) y.leader c.count_if.new.leader) same back in
+    let step = snapshot_stored s x built own at e (record lent { state = lent_back.state; leader = c.count_if.new.leader }) stands (given x before s) refl (ap (λ (y : Engine _ _). y.seen_greater_log) asked) numbers (ap (λ (y : Engine _ _). y.state.state.committed) asked) refl refl refl leader refl knows
     (record { vote = kept.vote; committed = kept.committed; wish = kept.wish }) seq queue in
     let can = builder_finishes s x built own at ready s.role (can_finish_when_ready own s (at ∷ []) ready (trigger_in_range own at s accepted)) in
     build_taken s x built own at e c.finish.new.self stands (given x before s) accepted
-    (c.in_ok-finish.ensures.step (given x before s) own after (subst (λ e. IsStepOf (given x before s) own e after) (search rules) (subst (λ e. IsStepOf (given x before s) own (record e { leader = c.count_by.new.leader }) after) (sym same) step)) can)
+    (c.in_ok-finish.ensures.step (given x before s) own after (subst (λ e. IsStepOf (given x before s) own e after) (search rules) (subst (λ e. IsStepOf (given x before s) own (record e { leader = c.count_if.new.leader }) after) (sym same) step)) can)

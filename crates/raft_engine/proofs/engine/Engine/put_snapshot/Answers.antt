@@ -7,7 +7,7 @@ use Rattle.raft_commands.specs.declared.command.Command.TheVariants.{PurgeLog, S
 use Rattle.raft_group_step.specs.StoredGroup.{SetSnapshot, after_storing}
 use Rattle.raft_known_state.specs.KnownState.{SnapshotMeta}
 use Rattle.raft_engine.specs.Numbering.{numbers_in}
-use Rattle.raft_engine.specs.Ordering.{committed_by_machine}
+use Rattle.raft_engine.specs.Ordering.{InstallsAs, committed_by_machine}
 use Rattle.raft_values.specs.declared.log_id.LogId.{LogId}
 use Rattle.raft_engine.specs.Committing.{Installs, moves_of_machine}
 use Rattle.raft_engine.proofs.CommandLemmas.{numbers_more}
@@ -23,6 +23,9 @@ returns-clause-step g c = λ x own r step follows meta is_last past there.
     let purged = c.in_ok-purge.ensures.known (after_storing (SetSnapshot x.snapshot) r.state.stored) saved order.placed first there in
     let keeps = both_keep c.args.self.now.state c.save_snapshot.new.self c.purge.new.self c.in_ok-save_snapshot.ensures.rest c.in_ok-purge.ensures.rest in
     let command = c.with_seq-command.result in
+    let told : InstallsAs x.snapshot command.payload =
+    subst (λ (y : MachineCommand _ _ _ _ _). InstallsAs x.snapshot y.payload) (sym c.with_seq-command.ensures)
+    (subst (λ (y : MachineCommand _ _ _ _ _). InstallsAs x.snapshot y.payload) (sym c.install_full_snapshot.ensures) (c.in_ok-copy.ensures.cases ∙ meta)) in
     let covers : c.in_ok-copy.copy.last_log_id ≡ Some c.args.last = ap (λ (m : SnapshotMeta). m.last_log_id) (c.in_ok-copy.ensures.cases ∙ meta) ∙ ap Some (sym is_last) in
     on_ok_weaker c.push_command-2.result
     (λ h. installed x own c.args.self.now _ r step refl refl refl refl follows c.args.last is_last past c.purge.new.self (StateMachine command) (PurgeLog c.args.last) (c.in_ok-commit.ensures.known _ purged) keeps c.in_ok-commit.ensures.rest
@@ -31,7 +34,7 @@ returns-clause-step g c = λ x own r step follows meta is_last past there.
     (rw (c.with_seq-command.ensures, c.install_full_snapshot.ensures) refl) refl
     (ap (λ n. n ∷ []) (ap (λ (y : MachineCommand _ _ _ _ _). y.seq) c.with_seq-command.ensures ∙ c.next_sm_seq-seq.ensures.value)) refl
     (ap (λ (y : MachineCommand _ _ _ _ _). moves_of_machine y.payload) c.with_seq-command.ensures ∙ ap (λ (y : MachineCommand _ _ _ _ _). moves_of_machine y.payload) c.install_full_snapshot.ensures
-    ∙ ap (λ id. Installs id ∷ []) covers) tt tt tt
+    ∙ ap (λ id. Installs id ∷ []) covers) tt tt told
     (ap (λ (y : MachineCommand _ _ _ _ _). committed_by_machine y.payload c.args.self.now.state.state.committed) c.with_seq-command.ensures
     ∙ ap (λ (y : MachineCommand _ _ _ _ _). committed_by_machine y.payload c.args.self.now.state.state.committed) c.install_full_snapshot.ensures ∙ covers)
     (subst (λ (id : LogId ℕ). id.index < x.snapshot.last.index + 1) (sym is_last) (omega arith)) refl refl (λ s upto. refl) (λ s upto. refl))

@@ -2,7 +2,7 @@
 use Rattle.std.proofs.Common.{◌∙◌, ap, sym, subst, refl, None}
 use Rattle.raft_values.specs.LogId.{next_place}
 use Rattle.raft_state.specs.LogIdList.{purged}
-use Rattle.raft_known_state.specs.KnownState.{AreInOrder, AreUpToTerm, purged_ids, meta_of}
+use Rattle.raft_known_state.specs.KnownState.{AreInOrder, purged_ids, meta_of}
 use Rattle.raft_known_state.proofs.OrderLemmas.{none_in_order}
 use Rattle.raft_known_state.proofs.KnownStateLemmas.{StateOf, HasRead, read}
 use Rattle.raft_known_state.proofs.known_state.KnownState+u64+BasicNode.begin.Goals as goal
@@ -29,6 +29,6 @@ returns-clause-known c = λ s vote gone snapshot log.
             goal = ap (λ (y : StateOf). y.purge_upto) w.state-is ∙ sym gone;
           })
     ] in
-    read c.match-purged.state (record { state = c.match-purged.state; memberships = c.new-memberships.result; wish = None; highest_term = c.term_of-highest_term.result }) c.refresh_memberships.new.self s before log refl (subst (λ p. AreUpToTerm c.term_of-highest_term.result (purged_ids p)) (sym gone) (c.term_of-highest_term.ensures))
+    read c.match-purged.state (record { state = c.match-purged.state; memberships = c.new-memberships.result; wish = None; highest_term = 0 }) c.refresh_memberships.new.self s before log refl
     c.new-memberships.ensures refl
     (c.in_ok-refresh_memberships.ensures.noted (subst AreInOrder (sym c.new-memberships.ensures) none_in_order)) c.in_ok-refresh_memberships.ensures.rest
