@@ -1,9 +1,9 @@
 //! A list of events that is run at once on nodes with files.
 
+use raft_cluster::Cluster;
 use raft_cluster_events::{ClusterEvent, EventOutcome, GroupCommand, Recorded};
 use raft_group_step::GroupCall;
 use raft_machines::AddingMachine;
-use raft_node_cluster::Cluster;
 use raft_nodes_on_files::{FileNode, log_settings, run_on_files};
 use raft_state::{Bytes, Membership};
 use std::alloc::{AllocError, Global};
