@@ -23,15 +23,15 @@ use Rattle.raft_cluster_events.specs.Node.{NodeActs}
 use Rattle.raft_node_laws.specs.Answered.{Answered}
 use Rattle.raft_cluster.specs.declared.answer.Answer.{Answer}
 use Rattle.raft_cluster.specs.declared.answer.Answer.TheVariants.{OfGroup, Quiet, Opened, Spared}
-use Rattle.raft_cluster.specs.Cluster.{ClusterValue, Happens, HappensBy, IsReached, RunsTo, events_of, nothing_sent, refusal_in}
+use Rattle.raft_cluster.specs.Cluster.{ClusterValue, Happens, HappensBy, IsReached, IsRefusedFor, RunsTo, events_of, nothing_sent, refusal_in}
 use Rattle.raft_cluster.specs.Facts.{Sent, asked_of, cuts_of, delivered, differs, differs_from, is_taken, membership_in, node_at, node_of, node_there, place_in, set_up_by, set_up_by_event, set_up_if, standing_of}
-use Rattle.raft_cluster.specs.Happening.{Answers, Delivers, RefusesFor}
+use Rattle.raft_cluster.specs.Happening.{Answers, Delivers}
 use Rattle.raft_cluster.specs.Round.{AllButSpared, AreAhead, HasNoTurn, HasPart, HasTurn, IsTurned, Rounds, TakesTurns, WantsMemory, are_idle, IsAheadOf, IsFree, IsIn, has_to_wait, is_apart_from, is_for, is_round, is_set_up, is_that, place_by, sets_up, sets_up_elsewhere}
 use Rattle.raft_cluster.specs.Turn.{HasCome, IsAnswered, IsAtTurn, refusal_for}
 use Rattle.raft_cluster.proofs.ClusterLemmas.{runs_on}
 use Rattle.raft_cluster.proofs.ListLemmas.{all_push}
 use Rattle.raft_cluster.proofs.SlotLemmas.{mapped_at, same_slots}
-use Rattle.raft_cluster.proofs.TurnLemmas.{Grows, SameFrame, by_ids, found_nowhere, found_passes, grows, happens_there, id_at, none_any, same_frame, set_at, set_other}
+use Rattle.raft_cluster.proofs.TurnLemmas.{Grows, SameFrame, by_ids, found_at, found_nowhere, found_passes, grows, happens_there, id_at, none_any, same_frame, set_at, set_other}
 use Rattle.raft_cluster.proofs.FactLemmas.{there_found}
 
 -- ---- set-ups
@@ -217,14 +217,20 @@ same_node sent ids place id event first here = go (node_of sent event) here
         let b = id_there ids other place at in
         let same : other ≡ id = cc in eq-eqb other id same
 
+-- the events behind the first are for other places
+other_place : (sent : Sent) (ids : List ℕ) (place : ℕ) (first event : ClusterEvent) (others : List ClusterEvent) (at : ℕ) → is_round sent (first ∷ others) ≡ true → slice_get others at ≡ Some event
+    → place_by ids (node_of sent event) ≡ Some place → place_by ids (node_of sent first) ≡ Some place → ⊥
+other_place sent ids place first event others at round there at_event at_first =
+    let f = first_of_round sent first others round in
+    let yes = same_node sent ids place f.id event (ap (place_by ids) (sym f.node) ∙ at_first) at_event in
+    let no = none_any (is_for sent f.id) others at event f.alone there in absurd (cc)
+
 -- what stands first among events for this place is the event that it is for
 pub its_event : (sent : Sent) (ids : List ℕ) (place : ℕ) (event first : ClusterEvent) (others : List ClusterEvent) (at : ℕ) → is_round sent (first ∷ others) ≡ true → slice_get (first ∷ others) at ≡ Some event
     → place_by ids (node_of sent first) ≡ Some place → place_by ids (node_of sent event) ≡ Some place → event ≡ first
 its_event sent ids place event first others zero round there here at_event = cc
 its_event sent ids place event first others (suc at) round there here at_event =
-    let f = first_of_round sent first others round in
-    let yes = same_node sent ids place f.id event (ap (place_by ids) (sym f.node) ∙ here) at_event in
-    let no = none_any (is_for sent f.id) others at event f.alone there in absurd (cc)
+    absurd (other_place sent ids place first event others at round there at_event here)
 
 some_is : {A : Type 0} (x y : A) → Some x ≡ Some y → x ≡ y
 some_is x y e = cc
@@ -314,6 +320,7 @@ module _ {N : Type 0} (acts : NodeActs N) (ids : List ℕ) (sent : Sent) (histor
   pub record Turn (event : ClusterEvent) (others : List ClusterEvent) (o : EventOutcome) (nodes : List N) (records : List Recorded) (later : Sent) (now' : List N) (answers' : List (Option Answer)) (later' : Sent) : Type 0 where
     pub behind : List N
     pub happens : Happens acts nodes later (history ++ records) event o behind later'
+    pub stays : (place : ℕ) → (place_by ids (node_of sent event) ≡ Some place → ⊥) → slice_get behind place ≡ slice_get nodes place
     pub way : IsUnderWay others behind now' answers' (records ++ record { event = event; outcome = o } ∷ []) later'
 
   -- the event at its turn is past, and those that are left are apart from it
@@ -364,7 +371,12 @@ module _ {N : Type 0} (acts : NodeActs N) (ids : List ℕ) (sent : Sent) (histor
       let A : List N → Type 0 = λ ns. AreAhead acts ids sent history events others nodes ns answers' in
       let B : List (Option Answer) → Type 0 = λ ws. AreAhead acts ids sent history events others nodes now ws in
       let ahead' = subst A (sym h.nodes) (subst B (sym h.left) ahead) in
-      record { behind = nodes; happens = happens; way = later_way event others o nodes now nodes now' answers answers' records later later' way ahead' happens }
+      record {
+        behind = nodes;
+        happens = happens;
+        stays = λ place no. refl;
+        way = later_way event others o nodes now nodes now' answers answers' records later later' way ahead' happens;
+      }
     where
       no_place : (place : ℕ) → place_by ids (node_of sent event) ≡ None → place_by ids (node_of sent event) ≡ Some place → ⊥
       no_place place none at = absurd (cc)
@@ -417,6 +429,7 @@ module _ {N : Type 0} (acts : NodeActs N) (ids : List ℕ) (sent : Sent) (histor
       record {
         behind = slice_set nodes h.place h.behind;
         happens = happens;
+        stays = λ place no. set_other nodes place h.place h.behind (λ is. no (here ∙ ap Some (sym is)));
         way = later_way event others o nodes now (slice_set nodes h.place h.behind) now' answers answers' records later later' way ahead' happens;
       }
     where
@@ -430,17 +443,36 @@ module _ {N : Type 0} (acts : NodeActs N) (ids : List ℕ) (sent : Sent) (histor
   turned event others o nodes now now' answers answers' records later later' way (inl h) = there event others o nodes now now' answers answers' records later later' way h
   turned event others o nodes now now' answers answers' records later later' way (inr h) = nowhere event others o nodes now now' answers answers' records later later' way h
 
+  -- a node without an answer is the one that it would be if the events so far had come one after another
+  unanswered : (left : List ClusterEvent) (nodes now : List N) (answers : List (Option Answer)) (place : ℕ) (node : N) → AreAhead acts ids sent history events left nodes now answers
+      → slice_get now place ≡ Some node → slice_get answers place ≡ Some None → slice_get nodes place ≡ Some node
+  unanswered left nodes now answers place node ahead there none =
+      let was = beside_id acts nodes now (ahead.ids_now ∙ sym ahead.ids_before) place node there in
+      let same : node ≡ was.node' = ahead.parts place was.node' node None was.there there none in was.there ∙ ap Some (sym same)
+
+  -- where the event's node stands that lacks memory for it
+  pub record HasPlace (event : ClusterEvent) (nodes : List N) (place : ℕ) (node : N) : Type 0 where
+    pub here : place_by ids (node_of sent event) ≡ Some place
+    pub there : slice_get nodes place ≡ Some node
+
+  pub its_place : (event : ClusterEvent) (others : List ClusterEvent) (nodes now : List N) (answers : List (Option Answer)) (records : List Recorded) (later : Sent) → IsUnderWay (event ∷ others) nodes now answers records later
+      → (h : WantsMemory acts later (history ++ records) event now answers) → HasPlace event nodes h.place h.node
+  its_place event others nodes now answers records later way h =
+      let f = first_of_round sent event others way.round in
+      let same = same_frame sent later event f.id way.grows f.node in
+      record {
+        here = ap (λ is. place_by is (node_of sent event)) (sym way.ahead.ids_now) ∙ ap (place_by (map acts.id now)) (sym same.node) ∙ sym (by_ids acts now (node_of later event)) ∙ h.here;
+        there = unanswered (event ∷ others) nodes now answers h.place h.node way.ahead h.there h.unanswered;
+      }
+
   -- a crash for which its node lacks memory is passed over
   pub passed_over : (event : ClusterEvent) (others : List ClusterEvent) (nodes now : List N) (answers : List (Option Answer)) (records : List Recorded) (later : Sent) → IsUnderWay (event ∷ others) nodes now answers records later
       → WantsMemory acts later (history ++ records) event now answers → IsUnderWay others nodes now answers records later
   passed_over event others nodes now answers records later way h =
-      let f = first_of_round sent event others way.round in
-      let same = same_frame sent later event f.id way.grows f.node in
-      let here : place_by ids (node_of sent event) ≡ Some h.place =
-      ap (λ is. place_by is (node_of sent event)) (sym way.ahead.ids_now) ∙ ap (place_by (map acts.id now)) (sym same.node) ∙ sym (by_ids acts now (node_of later event)) ∙ h.here in
+      let at_place = its_place event others nodes now answers records later way h in
       record {
-        ahead = passes event others nodes now answers way.ahead (λ place a has at. no_answer place a (some_is h.place place (sym here ∙ at)) has h.unanswered);
-        round = f.round;
+        ahead = passes event others nodes now answers way.ahead (λ place a has at. no_answer place a (some_is h.place place (sym at_place.here ∙ at)) has h.unanswered);
+        round = (first_of_round sent event others way.round).round;
         within = λ at x there. way.within (suc at) x there;
         past = past_more event others records way.past;
         grows = way.grows;
@@ -452,15 +484,15 @@ module _ {N : Type 0} (acts : NodeActs N) (ids : List ℕ) (sent : Sent) (histor
 -- ---- all events of a round
 
 module _ {N : Type 0} (acts : NodeActs N) where
-  spared_more : (es ran : List ClusterEvent) (event : ClusterEvent) → AllButSpared acts es ran → AllButSpared acts (es ++ event ∷ []) (ran ++ event ∷ [])
-  spared_more [] ran event none = inl ([], ap (λ l. l ++ event ∷ []) none, refl)
-  spared_more (e ∷ es) ran event (inl (rest, is, h)) = inl (rest ++ event ∷ [], ap (λ l. l ++ event ∷ []) is, spared_more es rest event h)
-  spared_more (e ∷ es) ran event (inr (why, h)) = inr (why, spared_more es ran event h)
+  spared_more : (nodes : List N) (sent : Sent) (es ran : List ClusterEvent) (event : ClusterEvent) → AllButSpared acts nodes sent es ran → AllButSpared acts nodes sent (es ++ event ∷ []) (ran ++ event ∷ [])
+  spared_more nodes sent [] ran event none = inl ([], ap (λ l. l ++ event ∷ []) none, refl)
+  spared_more nodes sent (e ∷ es) ran event (inl (rest, is, h)) = inl (rest ++ event ∷ [], ap (λ l. l ++ event ∷ []) is, spared_more nodes sent es rest event h)
+  spared_more nodes sent (e ∷ es) ran event (inr (why, h)) = inr (why, spared_more nodes sent es ran event h)
 
-  spared_over : (es ran : List ClusterEvent) (event : ClusterEvent) → ((node : N) × RefusesFor acts event node Memory) → AllButSpared acts es ran → AllButSpared acts (es ++ event ∷ []) ran
-  spared_over [] ran event refuses none = inr (refuses, none)
-  spared_over (e ∷ es) ran event refuses (inl (rest, is, h)) = inl (rest, is, spared_over es rest event refuses h)
-  spared_over (e ∷ es) ran event refuses (inr (why, h)) = inr (why, spared_over es ran event refuses h)
+  spared_over : (nodes : List N) (sent : Sent) (es ran : List ClusterEvent) (event : ClusterEvent) → IsRefusedFor acts nodes sent event Memory → AllButSpared acts nodes sent es ran → AllButSpared acts nodes sent (es ++ event ∷ []) ran
+  spared_over nodes sent [] ran event refuses none = inr (refuses, none)
+  spared_over nodes sent (e ∷ es) ran event refuses (inl (rest, is, h)) = inl (rest, is, spared_over nodes sent es rest event refuses h)
+  spared_over nodes sent (e ∷ es) ran event refuses (inr (why, h)) = inr (why, spared_over nodes sent es ran event refuses h)
 
   module _ (ids : List ℕ) (sent : Sent) (past : List Recorded) (events : List ClusterEvent) (before : List N) where
     -- these events had their turns, and those are left
@@ -468,10 +500,13 @@ module _ {N : Type 0} (acts : NodeActs N) where
       pub nodes : List N
       pub records : List Recorded
       pub same : history ≡ past ++ records
-      pub spared : AllButSpared acts done (events_of records)
+      pub spared : AllButSpared acts before sent done (events_of records)
       pub count : number ≡ length records
       pub runs : RunsTo acts before sent past records nodes later
       pub way : IsUnderWay acts ids sent past events left nodes now answers records later
+      pub ids_first : map acts.id before ≡ ids
+      -- the nodes whose events are left are as they were before the round
+      pub still : (at place : ℕ) (event : ClusterEvent) → slice_get left at ≡ Some event → place_by ids (node_of sent event) ≡ Some place → slice_get nodes place ≡ slice_get before place
 
     pub at_first : (now : List N) (answers : List (Option Answer)) → is_round sent events ≡ true → AreAhead acts ids sent past events events before now answers → HaveHadTurns [] events 0 now answers past sent
     at_first now answers round ahead =
@@ -489,6 +524,8 @@ module _ {N : Type 0} (acts : NodeActs N) where
             past = tt;
             grows = λ group k frame there. there;
           };
+          ids_first = ahead.ids_before;
+          still = λ at place event there here. refl;
         }
 
     pub had_turn : (done others : List ClusterEvent) (event : ClusterEvent) (o : EventOutcome) (number : ℕ) (now now' : List N) (answers answers' : List (Option Answer)) (history history' : List Recorded) (later later' : Sent)
@@ -502,11 +539,26 @@ module _ {N : Type 0} (acts : NodeActs N) where
           nodes = t.behind;
           records = had.records ++ r ∷ [];
           same = pushed ∙ ap (λ l. l ++ r ∷ []) had.same ∙ append_assoc past had.records (r ∷ []);
-          spared = let Q : List ClusterEvent → Type 0 = λ ran. AllButSpared acts (done ++ event ∷ []) ran in
-              subst Q (sym (map-append (λ (x : Recorded). x.event) had.records (r ∷ []))) (spared_more done (events_of had.records) event had.spared);
+          spared = let Q : List ClusterEvent → Type 0 = λ ran. AllButSpared acts before sent (done ++ event ∷ []) ran in
+              subst Q (sym (map-append (λ (x : Recorded). x.event) had.records (r ∷ []))) (spared_more before sent done (events_of had.records) event had.spared);
           count = let n = had.count in omega (arith, length-append had.records (r ∷ []));
           runs = runs_on acts before sent past had.records had.nodes later r t.behind later' had.runs t.happens;
           way = t.way;
+          ids_first = had.ids_first;
+          still = λ at place e there here.
+              t.stays place (λ is. other_place sent ids place event e others at had.way.round there here is) ∙ had.still (suc at) place e there here;
+        }
+
+    -- the node that lacks memory is the event's own one, as it was before the round
+    lacking : (done others : List ClusterEvent) (event : ClusterEvent) (number : ℕ) (now : List N) (answers : List (Option Answer)) (history : List Recorded) (later : Sent)
+        → (had : HaveHadTurns done (event ∷ others) number now answers history later) → (wants : WantsMemory acts later (past ++ had.records) event now answers) → IsRefusedFor acts before sent event Memory
+    lacking done others event number now answers history later had wants =
+        let place = its_place acts ids sent past events event others had.nodes now answers had.records later had.way wants in
+        let there : slice_get before wants.place ≡ Some wants.node = sym (had.still 0 wants.place event refl place.here) ∙ place.there in
+        record {
+          node = wants.node;
+          named = found_at acts before (node_of sent event) wants.place wants.node (by_ids acts before (node_of sent event) ∙ ap (λ is. place_by is (node_of sent event)) had.ids_first ∙ place.here) there;
+          refuses = wants.refuses;
         }
 
     pub had_none : (done others : List ClusterEvent) (event : ClusterEvent) (number : ℕ) (now now' : List N) (answers answers' : List (Option Answer)) (history : List Recorded) (later later' : Sent)
@@ -514,7 +566,8 @@ module _ {N : Type 0} (acts : NodeActs N) where
         → HaveHadTurns (done ++ event ∷ []) others number now' answers' history later'
     had_none done others event number now now' answers answers' history later later' had wants same_now same_answers same_sent =
         let P : List Recorded → Type 0 = λ hs. WantsMemory acts later hs event now answers in
-        let way = passed_over acts ids sent past events event others had.nodes now answers had.records later had.way (subst P had.same wants) in
+        let wants' = subst P had.same wants in
+        let way = passed_over acts ids sent past events event others had.nodes now answers had.records later had.way wants' in
         let A : List N → Type 0 = λ ns. HaveHadTurns (done ++ event ∷ []) others number ns answers' history later' in
         let B : List (Option Answer) → Type 0 = λ ws. HaveHadTurns (done ++ event ∷ []) others number now ws history later' in
         let C : Sent → Type 0 = λ s. HaveHadTurns (done ++ event ∷ []) others number now answers history s in
@@ -525,10 +578,12 @@ module _ {N : Type 0} (acts : NodeActs N) where
           nodes = had.nodes;
           records = had.records;
           same = had.same;
-          spared = spared_over done (events_of had.records) event (wants.node, wants.refuses) had.spared;
+          spared = spared_over before sent done (events_of had.records) event (lacking done others event number now answers history later had wants') had.spared;
           count = had.count;
           runs = had.runs;
           way = way;
+          ids_first = had.ids_first;
+          still = λ at place e there here. had.still (suc at) place e there here;
         })))
 
     -- where no event is left the nodes are what they are, and nobody has an answer left

@@ -11,12 +11,13 @@ use Rattle.raft_cluster_events.specs.declared.outcome.EventOutcome.{EventOutcome
 use Rattle.raft_cluster_events.specs.declared.outcome.EventOutcome.TheVariants.{TurnedAway}
 use Rattle.raft_cluster_events.specs.declared.outcome.Recorded.{Recorded}
 use Rattle.raft_cluster_events.specs.Node.{NodeActs}
+use Rattle.raft_sent_frames.specs.Frames.{frames_of}
 use Rattle.raft_group_step.specs.GroupEvent.{GroupCall}
 use Rattle.raft_group_step.specs.declared.group_call.GroupCall.TheVariants.{Initialize, Elect, Propose, ChangeMembership, Heartbeat, Lost, TriggerSnapshot, TriggerPurge}
 use Rattle.raft_cluster.specs.declared.answer.Answer.{Answer}
 use Rattle.raft_cluster.specs.declared.round.RoundRefusal.{RoundRefusal}
 use Rattle.raft_cluster.specs.declared.round.RoundRefusal.TheVariants as refused
-use Rattle.raft_cluster.specs.Cluster.{ClusterValue, Runs, RunsTo, events_of}
+use Rattle.raft_cluster.specs.Cluster.{ClusterValue, IsRefusedFor, Runs, RunsTo, events_of}
 use Rattle.raft_cluster.specs.Facts.{Sent, asked_of, cuts_of, node_of, place_in}
 use Rattle.raft_cluster.specs.Happening.{RefusesFor}
 use Rattle.raft_cluster.specs.Turn.{HappensAt, IsAnswered, IsAtTurn, refusal_for}
@@ -163,17 +164,18 @@ module _ {N : Type 0} (acts : NodeActs N) (sent : Sent) (history : List Recorded
 -- ---- a whole round
 
 module _ {N : Type 0} (acts : NodeActs N) where
-  -- these of the events happen, in their order: all but crashes for which a node says that it lacks memory
-  abbrev pub AllButSpared : List ClusterEvent → List ClusterEvent → Type 0
-  AllButSpared [] ran = ran ≡ []
-  AllButSpared (event ∷ events) ran =
-      ((rest : List ClusterEvent) × (ran ≡ event ∷ rest) × AllButSpared events rest)
-      ⊎ (((node : N) × RefusesFor acts event node Memory) × AllButSpared events ran)
+  -- these of the events happen, in their order: all but crashes for which their own node, as it is before the round, says that it lacks
+  -- memory
+  abbrev pub AllButSpared : List N → Sent → List ClusterEvent → List ClusterEvent → Type 0
+  AllButSpared nodes sent [] ran = ran ≡ []
+  AllButSpared nodes sent (event ∷ events) ran =
+      ((rest : List ClusterEvent) × (ran ≡ event ∷ rest) × AllButSpared nodes sent events rest)
+      ⊎ (IsRefusedFor acts nodes sent event Memory × AllButSpared nodes sent events ran)
 
   -- the round did what these events do one after another
   pub record Rounds (old : ClusterValue N) (asked : List ClusterEvent) (number : ℕ) (new : ClusterValue N) : Type 0 where
     pub ran : List ClusterEvent
-    pub spared : AllButSpared asked ran
+    pub spared : AllButSpared old.nodes (frames_of old.sent) asked ran
     pub count : number ≡ length ran
     pub runs : Runs acts old ran new
 
@@ -182,7 +184,7 @@ module _ {N : Type 0} (acts : NodeActs N) where
       (now : List N) (answers : List (Option Answer)) (later : Sent) (behind : List Recorded) : Type 0 where
     pub records : List Recorded
     pub history : behind ≡ past ++ records
-    pub spared : AllButSpared asked (events_of records)
+    pub spared : AllButSpared before sent asked (events_of records)
     pub count : number ≡ length records
     pub runs : RunsTo acts before sent past records now later
     pub idle : are_idle answers
