@@ -5,3 +5,4 @@ pub mod Turn
 pub mod Cluster
 pub mod Round
 pub mod Joined
+pub mod Told

@@ -7,11 +7,14 @@ ghost use Rattle.raft_node_laws.specs.Law.{KeepsLaw};
 ghost use Rattle.raft_cluster.specs.Cluster.{IsReached, Runs, Steps};
 ghost use Rattle.raft_cluster.specs.Joined.{HasHeadline, ids_of};
 ghost use Rattle.raft_cluster.specs.Round.{Rounds, is_for_nodes, is_round};
+ghost use Rattle.raft_cluster.specs.Told.{told_at};
 
 use crate::facts::node_of;
 use crate::round::{RoundRefusal, ids_of, is_round, settle_all, work_all};
 use crate::slot::{Slot, slot_of, take_turn};
+use crate::told::told_of;
 use raft_cluster_events::{ClusterEvent, ClusterNode, Recorded};
+use raft_machines::Told;
 use raft_sent_frames::{SentFrame, SentFrames};
 use std::alloc::{AllocError, Global};
 use std::marker::Model;
@@ -130,6 +133,17 @@ impl<N: ClusterNode> Cluster<N> {
         ensures { result.now ≡ frames_of self.now.sent group }
     {
         self.sent.frames(group)
+    }
+
+    /// What the event of this number told for a group, lent: tokens with their places and the machine's
+    /// answers, by rising place. Nothing where there is no such event. Events count from 0.
+    pub fn told(&self, number: usize, group: u64) -> &[Told]
+        ensures { result.now ≡ told_at self.now.history number group }
+    {
+        match self.history.get(number) {
+            Some(recorded) => told_of(&recorded.outcome, group),
+            None => &[],
+        }
     }
 
     /// All events with their outcomes, in order, lent.

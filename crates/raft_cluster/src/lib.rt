@@ -9,6 +9,7 @@ mod happening;
 mod round;
 mod sending;
 mod slot;
+mod told;
 
 pub use cluster::Cluster;
 pub use raft_cluster_conditions::ClusterRefusal;
