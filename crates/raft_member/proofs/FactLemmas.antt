@@ -5,7 +5,7 @@ use Rattle.std.specs.List.{list_all}
 use Rattle.std.proofs.Common.{ap, sym, ◌∙◌, subst, arith}
 use Rattle.std.proofs.lemmas.Bool.{eqb-true, and_from}
 use Rattle.std.proofs.lemmas.Bool.Decides.{nat_tests}
-use Rattle.std.proofs.Math.Bool.{true≢false}
+use Rattle.std.proofs.Math.Bool.{and_assoc, true≢false}
 use Rattle.raft_quorums.specs.Nodes.{has_node}
 use Rattle.raft_quorums.specs.QuorumLaws.{and_left, and_right}
 use Rattle.raft_progress.specs.declared.progress_entry.ProgressEntry.{ProgressEntry}
@@ -22,12 +22,6 @@ use Rattle.raft_known_state.specs.KnownState.{effective_of}
 use Rattle.raft_messages.specs.Memberships.{in_force}
 use Rattle.raft_engine.specs.Standing.{EffectiveMembership, IsBelowPeer, Leads, PeersRise, PlaysRole}
 use Rattle.raft_engine.proofs.PeersLemmas.{same_tests}
-
--- ---- tests on lists
-
-and_moved : (a b c : Bool) → ((a && b) && c) ≡ (a && (b && c))
-and_moved true b c = refl
-and_moved false b c = refl
 
 -- ---- the greatest of the numbers
 
@@ -75,7 +69,7 @@ module _ (l : LeaderValue ℕ EffectiveMembership) (x : ℕ × ProgressEntry ℕ
       ap (λ k. nat_lt k limit) greater ∙ max_below next greatest limit
       ∙ ap (λ k. nat_lt greatest limit && nat_lt k limit) number
       ∙ ap (λ b. nat_lt greatest limit && b) (capped_below n (2 ^ 64 - 1) limit (omega arith)) in
-      ap (λ b. b && are_below l limit rest) e ∙ and_moved (nat_lt greatest limit) (nat_lt n limit) (are_below l limit rest) ∙ h limit low high
+      ap (λ b. b && are_below l limit rest) e ∙ and_assoc (nat_lt greatest limit) (nat_lt n limit) (are_below l limit rest) ∙ h limit low high
 
 and_true : (b : Bool) → b ≡ (b && true)
 and_true true = refl
