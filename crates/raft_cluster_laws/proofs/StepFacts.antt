@@ -1,10 +1,8 @@
 -- What a step that isn't refused has at a node that is up, wherever a history leads: what its machine needs to follow it.
 use Rattle.std.specs.Prelude.{◌≡◌, ℕ, ◌+◌, ◌≤◌, true, false, List, [], ◌∷◌, ◌++◌, length, option_map, take, Option, Some, None, refl}
 use Rattle.std.proofs.Common.{ap, ◌∙◌, subst, arith, ⊎_elim}
-use Rattle.raft_values.specs.declared.log_id.LogId.{LogId}
 use Rattle.raft_values.specs.LogId.{next_place}
-use Rattle.raft_group_step.specs.Values.{Entry}
-use Rattle.raft_group_step.specs.StoredGroup.{Snapshot, entry_at, id_of, prefix_of, snapshot_last}
+use Rattle.raft_group_step.specs.StoredGroup.{Snapshot, entry_at, prefix_of, snapshot_last}
 use Rattle.raft_group_step.specs.GroupState.{GroupState}
 use Rattle.raft_group_step.specs.GroupEvent.{GroupEvent, Open}
 use Rattle.raft_group_step.specs.StepResult.{StepResult}

@@ -8,7 +8,7 @@ use Rattle.raft_group_step.specs.GroupEvent.{GroupEvent, Open}
 use Rattle.raft_group_step.specs.GroupStep.{group_step}
 use Rattle.raft_group_step.specs.Refusal.{refusal_of}
 use Rattle.raft_group_step.proofs.Refusals.{refused_keeps}
-use Rattle.raft_group_step.specs.StepResult.{RefusalReason, StepResult}
+use Rattle.raft_group_step.specs.StepResult.{RefusalReason}
 use Rattle.raft_laws.specs.GroupWorld.{NodeState, Absent, Up, Down, Led, Outcome, Done, Refused, Stopped, is_stop}
 use Rattle.raft_laws.specs.GroupRun.{led_as, led_by, stop_at}
 use Rattle.raft_laws.specs.NodeEvent.{Comes, Restarts, after_step, outcome_at, outcome_of_end, outcome_of_step, outcome_of_stop}
