@@ -4,7 +4,7 @@ use Rattle.std.proofs.lemmas.List.{map-append, take_more}
 use Rattle.raft_cluster_events.specs.declared.event.ClusterEvent.{ClusterEvent}
 use Rattle.raft_cluster_events.specs.declared.outcome.Recorded.{Recorded}
 use Rattle.raft_cluster_events.specs.Node.{NodeActs}
-use Rattle.raft_node_cluster.specs.Cluster.{ClusterValue, Steps}
+use Rattle.raft_cluster.specs.Cluster.{ClusterValue, Steps}
 use Rattle.raft_cluster_script.specs.Answers.{outcome_text}
 use Rattle.raft_cluster_script.specs.Script.{StepsSo}
 

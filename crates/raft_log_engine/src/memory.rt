@@ -180,9 +180,9 @@ impl MemoryLog {
         }
     }
 
-    /// The files, handed back with no call on them (own: `abandon`), as where a machine stops. What an opening
-    /// finds after a crash of them is left by the log, and so is what it finds of them as they are,
-    /// unless they show by chance what nobody wrote.
+    /// The files, handed back with no call on them (own: `abandon`), as where a machine stops. What an
+    /// opening finds after a crash of them is left by the log, and so is what it finds of them as they
+    /// are, unless they show by chance what nobody wrote.
     pub fn into_files(self) -> LogFiles
         ensures files { result.files ≡ self.engine.files }
         ensures settings { result.settings ≡ self.settings }

@@ -1,5 +1,7 @@
 -- What each change asks for is told by its parts.
 use Rattle.std.proofs.Common.{◌∙◌, ap, refl, sym, ℕ, List, map}
+use Rattle.std.proofs.lemmas.Bool.{eqb-true}
+use Rattle.std.proofs.lemmas.Map.Lookups.{exact_unsigned}
 use Rattle.std.specs.Prelude.{◌&&◌, ◌||◌, nat_eq, not}
 use Rattle.std.specs.Ordering.{nat_cmp}
 use Rattle.std.specs.Cmp.Lexicographic.{pointwise}
