@@ -5,8 +5,6 @@ use Rattle.std.proofs.lemmas.Map.Lookups.{exact_unsigned}
 use Rattle.std.specs.Prelude.{◌&&◌, ◌||◌, nat_eq, not}
 use Rattle.std.specs.Ordering.{nat_cmp}
 use Rattle.std.specs.Cmp.Lexicographic.{pointwise}
-use Rattle.std.proofs.lemmas.Bool.{eqb-true}
-use Rattle.std.proofs.lemmas.Map.Lookups.{exact_unsigned}
 use Rattle.raft_quorums.specs.Nodes.{has_id, has_node, with_ids}
 use Rattle.raft_quorums.specs.Quorum.{last_config, next_configs}
 use Rattle.raft_membership.specs.MembershipChange.{without_ids}
