@@ -222,8 +222,8 @@ impl Member {
     /// counts as the last one. It may stop after so many storing commands, unless it is refused.
     /// Where a snapshot is to be built, that of what is applied is handed in, `built`. At a fault
     /// of the storage, or without memory, the member is down, as it was or with some of the storing
-    /// commands done, from the first on; the one that failed is or isn't. Other groups are as they
-    /// were.
+    /// commands done, from the first on; the one that failed is or isn't. A call that is refused
+    /// meets neither. Other groups are as they were.
     pub fn ask<S: GroupStorage>(
         &mut self,
         alloc: Global,
