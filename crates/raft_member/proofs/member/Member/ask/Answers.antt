@@ -1,6 +1,8 @@
 -- The call ends so at the member with its engine put back.
-use Rattle.std.proofs.Common.{◌≡◌, Some, sym, ◌∙◌, subst}
+use Rattle.std.specs.Prelude.{OnErr, Result, Ok, Err}
+use Rattle.std.proofs.Common.{◌≡◌, Some, None, sym, ◌∙◌, subst}
 use Rattle.raft_group_step.specs.GroupEvent.{Call}
+use Rattle.raft_group_step.specs.Refusal.{refusal_of}
 use Rattle.raft_member.specs.Member.{Engine, HasEnded, IsIdle}
 use Rattle.raft_member.specs.declared.member.Member.{Member}
 use Rattle.raft_member.proofs.member.Member.ask.Goals as goal
@@ -25,9 +27,16 @@ returns-clause-ok g c = λ s built up lawful.
     })
     up.moment idle lawful)
 
+-- what holds in any case holds at an error
+in_any_case : {T E P : Type 0} (r : Result T E) → P → OnErr r P
+in_any_case (Ok x) p = tt
+in_any_case (Err e) p = p
+
 pub returns-in_err-ended-clause-taken : goal.returns-in_err-ended-clause-taken
 returns-in_err-ended-clause-taken g c = λ s up lawful.
     let own = c.args.self.now.id in
     let both : Some up.engine ≡ Some c.in-Some.engine = sym up.has_engine ∙ sym c.take.ensures.value ∙ c.in-Some.is in
     let same : up.engine ≡ c.in-Some.engine = cc in
-    c.in_err-ended.ensures.taken s up.present (subst (λ (e : Engine). IsIdle own e s) same up.idle) lawful
+    let taken : refusal_of own s (Call c.args.call.now c.args.now) ≡ None =
+    c.in_err-ended.ensures.taken s up.present (subst (λ (e : Engine). IsIdle own e s) same up.idle) lawful in
+    in_any_case c.from_residual.result taken
