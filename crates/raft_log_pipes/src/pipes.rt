@@ -2,6 +2,7 @@
 
 ghost use Rattle.std.specs.Prelude.{◌≡◌, ◌+◌, ◌-◌, ◌*◌, ◌/◌, ◌≤◌, ◌^◌, min, length};
 ghost use Rattle.raft_log_records.specs.declared.file_id.LogQueue.TheVariants.{Append, Rewrite};
+ghost use Rattle.raft_log_pipe.specs.Alone.{directories_of_pipe, main_of};
 ghost use Rattle.raft_log_pipe.specs.Pipe.{IsPipe, first_of};
 
 use raft_log_files::{Error, FileSystem};
@@ -30,6 +31,13 @@ impl DualPipes {
         ensures pipes { (result.append ≡ append) × (result.rewrite ≡ rewrite) }
     {
         DualPipes { append, rewrite }
+    }
+
+    /// The main directory of the append queue's files.
+    pub fn path(&self) -> &str
+        ensures { result.now ≡ main_of (directories_of_pipe self.now.append) }
+    {
+        self.append.path()
     }
 
     /// The numbers of the first file and of the last of a queue.

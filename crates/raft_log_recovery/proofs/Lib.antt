@@ -15,3 +15,5 @@ pub mod ImageLemmas
 pub mod AloneLemmas
 pub mod CrashLemmas
 pub mod AgainLemmas
+pub mod BesideLemmas
+pub mod BothLemmas

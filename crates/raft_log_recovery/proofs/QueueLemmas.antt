@@ -41,7 +41,7 @@ file_named d directories queue name fd below there = (
 pub file_is : (d : Disk) (directories : List Text) (queue : LogQueue) (name : FileName) (fd : ℕ) → IsFileOf d directories queue name fd → IsNoFile d fd → ⊥
 file_is d directories queue name fd there none = none (number_in d.names (path_of directories queue name) fd there)
 
-in_middle : (before behind : List FileName) (name : FileName) → IsIn name (before ++ name ∷ behind)
+pub in_middle : (before behind : List FileName) (name : FileName) → IsIn name (before ++ name ∷ behind)
 in_middle [] behind name = inl refl
 in_middle (n ∷ before) behind name = inr (in_middle before behind name)
 

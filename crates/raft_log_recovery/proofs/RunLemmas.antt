@@ -32,13 +32,13 @@ use Rattle.raft_log_recovery.proofs.ScanLemmas.{named_so}
 -- ---- how many files have a number
 
 -- one, if the number is this
-abbrev counts : Bool → ℕ
+abbrev pub counts : Bool → ℕ
 counts b = cond b 1 0
 
-abbrev hit : ℕ → ℕ → ℕ
+abbrev pub hit : ℕ → ℕ → ℕ
 hit n m = counts (m == n)
 
-hit_is : (n m : ℕ) → m ≡ n → hit n m ≡ 1
+pub hit_is : (n m : ℕ) → m ≡ n → hit n m ≡ 1
 hit_is n m is = ap counts (eq-eqb m n is)
 
 hit_cases : (n m : ℕ) → (hit n m ≡ 0) ⊎ ((hit n m ≡ 1) × (m ≡ n))
@@ -48,7 +48,7 @@ hit_cases n m = by_test (m == n) refl
     by_test true is = inr (refl, eqb-true m n is)
     by_test false is = inl refl
 
-abbrev tally : ℕ → List FileName → ℕ
+abbrev pub tally : ℕ → List FileName → ℕ
 tally n [] = 0
 tally n (f ∷ fs) = hit n f.seq + tally n fs
 
@@ -86,11 +86,11 @@ abbrev named_hit : ℕ → Option ℕ → ℕ
 named_hit n None = 0
 named_hit n (Some m) = hit n m
 
-abbrev named_tally : FileKind → ℕ → List Text → ℕ
+abbrev pub named_tally : FileKind → ℕ → List Text → ℕ
 named_tally kind n [] = 0
 named_tally kind n (name ∷ names) = named_hit n (seq_in kind name) + named_tally kind n names
 
-named_permuted : (kind : FileKind) (n : ℕ) (xs ys : List Text) → IsPermutation xs ys → named_tally kind n ys ≡ named_tally kind n xs
+pub named_permuted : (kind : FileKind) (n : ℕ) (xs ys : List Text) → IsPermutation xs ys → named_tally kind n ys ≡ named_tally kind n xs
 named_permuted kind n xs ys same =
     let one : Text → ℕ = λ name. named_hit n (seq_in kind name) in
     is_sum_by (named_tally kind n) one refl (λ _ _. refl) ys ∙ sum_by-IsPermutation one xs ys same ∙ sym (is_sum_by (named_tally kind n) one refl (λ _ _. refl) xs)
@@ -99,7 +99,7 @@ files_step : (n path_id : ℕ) (o : Option ℕ) (fs : List FileName) (rest : ℕ
 files_step n path_id None fs rest is = omega (arith, is)
 files_step n path_id (Some m) fs rest is = omega (arith, is)
 
-files_tally : (kind : FileKind) (n path_id : ℕ) (names : List Text) → tally n (files_named kind path_id names) ≡ named_tally kind n names
+pub files_tally : (kind : FileKind) (n path_id : ℕ) (names : List Text) → tally n (files_named kind path_id names) ≡ named_tally kind n names
 files_tally kind n path_id [] = refl
 files_tally kind n path_id (name ∷ names) = files_step n path_id (seq_in kind name) (files_named kind path_id names) (named_tally kind n names) (files_tally kind n path_id names)
 
@@ -147,7 +147,7 @@ once_step e es directory queue n (Some name) is free once = ⊎_elim (λ no. ome
     omega (arith, one.0, listed_none es directory queue n (subst (λ (t : Text). fd_of es t ≡ None) path free))) (said_cases queue n name)
 
 -- of each directory one name at most says it
-listed_once : (es : Names) (next : ℕ) (directory : Text) (queue : LogQueue) (n : ℕ) → are_named es next ≡ true → named_tally (Log queue) n (listed es directory) ≤ 1
+pub listed_once : (es : Names) (next : ℕ) (directory : Text) (queue : LogQueue) (n : ℕ) → are_named es next ≡ true → named_tally (Log queue) n (listed es directory) ≤ 1
 listed_once [] next directory queue n named = omega arith
 listed_once (e ∷ es) next directory queue n named =
     let first = named_first e es next named in
@@ -206,7 +206,7 @@ named_step kind place name names (Some n) f is (inl same) next =
     (name, inl refl, is ∙ ap (λ (x : FileName). Some x.seq) (sym same), ap (λ (x : FileName). x.path_id) same)
 named_step kind place name names (Some n) f is (inr there) next = let t = next there in (t.0, inr t.1, t.2, t.3)
 
-named_one : (kind : FileKind) (place : ℕ) (names : List Text) (f : FileName) → IsIn f (files_named kind place names) → (t : Text) × IsIn t names × (seq_in kind t ≡ Some f.seq) × (f.path_id ≡ place)
+pub named_one : (kind : FileKind) (place : ℕ) (names : List Text) (f : FileName) → IsIn f (files_named kind place names) → (t : Text) × IsIn t names × (seq_in kind t ≡ Some f.seq) × (f.path_id ≡ place)
 named_one kind place [] f there = absurd there
 named_one kind place (name ∷ names) f there = named_step kind place name names (seq_in kind name) f refl there (named_one kind place names f)
 
@@ -218,7 +218,7 @@ pub record IsThere (d : Disk) (queue : LogQueue) (place : ℕ) (directories : Li
   pub number : IsFileSeq f.seq
   pub named : fd_of d.names (file_path (get_or directories at []) queue f.seq) ≡ Some fd
 
-there_here : (d : Disk) (queue : LogQueue) (place : ℕ) (directory : Text) (directories names : List Text) (f : FileName) → IsPermutation (listed d.names directory) names → IsIn f (files_named (Log queue) place names)
+pub there_here : (d : Disk) (queue : LogQueue) (place : ℕ) (directory : Text) (directories names : List Text) (f : FileName) → IsPermutation (listed d.names directory) names → IsIn f (files_named (Log queue) place names)
     → IsThere d queue place (directory ∷ directories) f
 there_here d queue place directory directories names f same there =
     let t = named_one (Log queue) place names f there in

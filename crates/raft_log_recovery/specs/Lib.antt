@@ -5,3 +5,4 @@ pub mod Queue
 pub mod Opening
 pub mod Crashed
 pub mod Again
+pub mod Both

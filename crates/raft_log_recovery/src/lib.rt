@@ -1,6 +1,7 @@
 //! Opening log files that are there: which of them count, and what each is cut to.
 #![tactic(auto)]
 
+mod both;
 mod builder;
 mod directories;
 mod laws;

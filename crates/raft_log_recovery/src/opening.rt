@@ -4,6 +4,7 @@ ghost use Rattle.std.specs.Prelude.{◌≡◌, ◌++◌, ◌==◌, List, map, st
 ghost use Rattle.std.specs.List.{list_all};
 ghost use Rattle.raft_log_files.specs.Settings.{settings_of};
 ghost use Rattle.raft_log_pipe.specs.Alone.{IsAlone, IsOnce, directories_of_pipe};
+ghost use Rattle.raft_log_pipe.specs.Others.{KeepsOthers};
 ghost use Rattle.raft_log_pipe.specs.Pipe.{IsPipe};
 ghost use Rattle.raft_log_recovery.specs.declared.scan.FileKind.TheVariants.{Log};
 ghost use Rattle.raft_log_recovery.specs.Scan.{AreFound, directories_of};
@@ -42,7 +43,8 @@ impl DualPipesBuilder {
     /// Recovers the files of a queue that `scan` found, as `recover_queue` does, and opens the pipe
     /// over them. A queue that has no files begins with its first one. A file whose header says an
     /// alignment isn't written on: it is `Corruption`, as of a version that the log doesn't write.
-    /// Refused or not, an opening that follows finds no other batches than one before would have.
+    /// Refused or not, an opening that follows finds no other batches than one before would have, and
+    /// files of other names stay.
     pub fn open_queue<F: FileSystem, M: ReplayMachine>(
         &self,
         files: &mut F,
@@ -60,7 +62,8 @@ impl DualPipesBuilder {
             × IsPipeWith (directories_in self.now) config.now.queue (names_in self.now config.now.queue) (F.disk files.old) (F.disk files.new) p more) }
         ensures only { ChangesAtMost (directories_in self.now) config.now.queue (names_in self.now config.now.queue) (F.disk files.old) (F.disk files.new) }
         ensures again { FindsAsBefore config.now.mode (directories_in self.now) config.now.queue (F.disk files.old) (F.disk files.new) }
-        ensures err { OnErr result (AreLeft (directories_in self.now) config.now.queue (names_in self.now config.now.queue) (F.disk files.old) (F.disk files.new)) }
+        ensures others { KeepsOthers config.now.queue (F.disk files.old) (F.disk files.new) }
+        ensures left { AreLeft (directories_in self.now) config.now.queue (names_in self.now config.now.queue) (F.disk files.old) (F.disk files.new) }
         ensures refused { AnyRefused config.now.mode (directories_in self.now) config.now.queue (names_in self.now config.now.queue) (F.disk files.old) → IsErr result }
         ensures aligned { AnyAligned (directories_in self.now) config.now.queue (names_in self.now config.now.queue) (F.disk files.old) → IsErr result }
         ensures kept { OnErr result (KeepsRefused config.now.mode (directories_in self.now) config.now.queue (names_in self.now config.now.queue) (F.disk files.old) (F.disk files.new)) }

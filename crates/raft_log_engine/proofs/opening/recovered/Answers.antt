@@ -30,7 +30,7 @@ returns-in_err-pipe-clause-err g c =
     let is = c.recovery_of-recovery.ensures.queue in
     let found = found_in _ _ same b at q is made (g.F.FileSystem.disk c.args.files.now) c.in_ok-scan.ensures.only c.in_ok-scan.ensures.append in
     at_err c.from_residual-in_err-pipe.result (IsLeftByOpening (directories_of (settings_of c.args.config)) (g.F.FileSystem.disk c.args.files.now) (g.F.FileSystem.disk c.open_queue.new.files))
-    (inr (made, b.append_file_names.items, found, inl (opened_left _ _ same b at q is made (g.F.FileSystem.disk c.open_queue.new.files) c.in_err-pipe.ensures.err)))
+    (inr (made, b.append_file_names.items, found, inl (opened_left _ _ same b at q is made (g.F.FileSystem.disk c.open_queue.new.files) c.open_queue.ensures.left)))
 
 pub returns-in_err-tables-clause-err : goal.returns-in_err-tables-clause-err
 returns-in_err-tables-clause-err g c =

@@ -1,10 +1,8 @@
-use Rattle.std.proofs.Common.{◌≡◌, List, length, map, string_bytes, sym, ap, subst, ◌∙◌, arith}
+use Rattle.std.proofs.Common.{◌≡◌, List, length, map, string_bytes, refl, sym, ap, subst, ◌∙◌, arith}
 use Rattle.std.specs.Prelude.{◌==◌, vec_len}
 use Rattle.std.proofs.lemmas.Bool.{eqb-false, eqb-true, false≢true}
 use Rattle.std.specs.List.{list_all}
-use Rattle.std.proofs.lemmas.Result.{on_err_weaker}
 use Rattle.raft_log_disk.specs.Text.{Text}
-use Rattle.raft_log_disk.proofs.CauseLemmas.{at_err}
 use Rattle.raft_log_recovery.specs.declared.scan.FileKind.TheVariants.{Log}
 use Rattle.raft_log_recovery.specs.declared.scan.FileName.{FileName}
 use Rattle.raft_log_recovery.specs.Opening.{batches_of}
@@ -15,17 +13,23 @@ use Rattle.raft_log_pipe.specs.Pipe.{id_of}
 use Rattle.raft_log_recovery.specs.Scan.{AreFound}
 use Rattle.raft_log_recovery.proofs.OpeningLemmas.{created_gives, kept_only, no_names, none_aligned, none_last, none_named, opened_changes, opened_gives, opened_left, recovered_found, recovered_left}
 use Rattle.raft_log_recovery.proofs.AgainLemmas.{created_before, either_way, finds_before, none_keeps, opened_alike}
+use Rattle.raft_log_pipe.proofs.OthersLemmas.{others_on}
+use Rattle.raft_log_recovery.proofs.BesideLemmas.{only_others}
+use Rattle.raft_log_recovery.proofs.FoundLemmas.{found_numbered}
 use Rattle.raft_log_recovery.proofs.AloneLemmas.{created_alone, found_alone, paths_are}
 use Rattle.raft_log_recovery.proofs.builder.DualPipesBuilder.open_queue.Goals as goal
 
-pub returns-then-not-are_plain-clause-err : goal.returns-then-not-are_plain-clause-err
-returns-then-not-are_plain-clause-err g c =
+pub returns-then-not-are_plain-clause-left : goal.returns-then-not-are_plain-clause-left
+returns-then-not-are_plain-clause-left g c =
     recovered_left (directories_in c.args.self.now) c.args.config.now.queue (g.F.FileSystem.disk c.args.files.now) (g.F.FileSystem.disk c.recover_queue.new.files) (names_in c.args.self.now c.args.config.now.queue) c.in_ok-recovered.recovered.items c.in_ok-recovered.ensures.ok
 
-pub returns-in_err-paths-clause-err : goal.returns-in_err-paths-clause-err
-returns-in_err-paths-clause-err g c =
-    at_err _ _ (recovered_left (directories_in c.args.self.now) c.args.config.now.queue (g.F.FileSystem.disk c.args.files.now) (g.F.FileSystem.disk c.recover_queue.new.files) (names_in c.args.self.now c.args.config.now.queue)
-    c.in_ok-recovered.recovered.items c.in_ok-recovered.ensures.ok)
+pub returns-in_err-recovered-clause-left : goal.returns-in_err-recovered-clause-left
+returns-in_err-recovered-clause-left g c = c.in_err-recovered.ensures.err
+
+pub returns-in_err-paths-clause-left : goal.returns-in_err-paths-clause-left
+returns-in_err-paths-clause-left g c =
+    recovered_left (directories_in c.args.self.now) c.args.config.now.queue (g.F.FileSystem.disk c.args.files.now) (g.F.FileSystem.disk c.recover_queue.new.files) (names_in c.args.self.now c.args.config.now.queue)
+    c.in_ok-recovered.recovered.items c.in_ok-recovered.ensures.ok
 
 pub create-requires-clause-none : goal.create-requires-clause-none
 create-requires-clause-none g c κs within =
@@ -52,12 +56,12 @@ returns-then-is_empty-clause-only g c =
     (omega (arith, ap length c.deref.ensures.value, c.deref.ensures.len, eqb-true (vec_len c.in_ok-recovered.recovered) 0 (sym c.is_empty.ensures ∙ c.if-is_empty.true))) in
     λ some. absurd (omega (arith, some, ap length none))
 
-pub returns-then-is_empty-clause-err : goal.returns-then-is_empty-clause-err
-returns-then-is_empty-clause-err g c =
+pub returns-then-is_empty-clause-left : goal.returns-then-is_empty-clause-left
+returns-then-is_empty-clause-left g c =
     let queue = c.args.config.now.queue in
     let none = no_names (g.F.FileSystem.disk c.args.files.now) (directories_in c.args.self.now) queue (names_in c.args.self.now queue) c.in_ok-recovered.recovered.items c.in_ok-recovered.ensures.ok.opened
     (omega (arith, ap length c.deref.ensures.value, c.deref.ensures.len, eqb-true (vec_len c.in_ok-recovered.recovered) 0 (sym c.is_empty.ensures ∙ c.if-is_empty.true))) in
-    at_err _ _ (subst (λ (l : List FileName). AreLeft (directories_in c.args.self.now) queue l (g.F.FileSystem.disk c.args.files.now) (g.F.FileSystem.disk c.create.new.files)) (sym none) (λ name fd there. absurd there))
+    subst (λ (l : List FileName). AreLeft (directories_in c.args.self.now) queue l (g.F.FileSystem.disk c.args.files.now) (g.F.FileSystem.disk c.create.new.files)) (sym none) (λ name fd there. absurd there)
 
 pub open-requires-clause-found : goal.open-requires-clause-found
 open-requires-clause-found g c κs within =
@@ -96,12 +100,13 @@ returns-clause-only g c =
     λ some. opened_changes c.open.result (directories_in c.args.self.now) c.args.config.now.queue (g.F.FileSystem.disk c.args.files.now) (g.F.FileSystem.disk c.recover_queue.new.files) (g.F.FileSystem.disk c.open.new.files)
     (names_in c.args.self.now c.args.config.now.queue) c.in_ok-recovered.recovered.items c.in_ok-recovered.ensures.ok c.open.ensures.files c.open.ensures.changes c.open.ensures.err
 
-pub returns-clause-err : goal.returns-clause-err
-returns-clause-err g c =
-    on_err_weaker c.open.result
-    (opened_left (directories_in c.args.self.now) c.args.config.now.queue (g.F.FileSystem.disk c.args.files.now) (g.F.FileSystem.disk c.recover_queue.new.files) (g.F.FileSystem.disk c.open.new.files)
-    (names_in c.args.self.now c.args.config.now.queue) c.in_ok-recovered.recovered.items c.in_ok-recovered.ensures.ok)
-    c.open.ensures.err
+pub returns-clause-left : goal.returns-clause-left
+returns-clause-left g c =
+    let fs = c.in_ok-recovered.recovered.items in
+    let mid = g.F.FileSystem.disk c.recover_queue.new.files in
+    let new = g.F.FileSystem.disk c.open.new.files in
+    opened_left (directories_in c.args.self.now) c.args.config.now.queue (g.F.FileSystem.disk c.args.files.now) mid new (names_in c.args.self.now c.args.config.now.queue) fs c.in_ok-recovered.ensures.ok
+    (either_way c.open.result (KeepsButHeader mid new fs) c.open.ensures.keeps c.open.ensures.err)
 
 pub returns-then-is_empty-clause-aligned : goal.returns-then-is_empty-clause-aligned
 returns-then-is_empty-clause-aligned g c =
@@ -208,3 +213,58 @@ returns-clause-again g c =
     finds_before c.args.config.now.mode directories queue old new names (met.is_named c.args.files.now) c.requires.found only
     (opened_alike directories queue old mid new names fs (met.has_images c.open.new.files) c.in_ok-recovered.ensures.ok only keeps)
     (none_keeps c.args.config.now.mode directories queue names old new (λ any. false≢true (c.in_ok-recovered.ensures.refused any)))
+
+pub returns-in_err-recovered-clause-others : goal.returns-in_err-recovered-clause-others
+returns-in_err-recovered-clause-others g c =
+    let met = g.met.F.FileSystem g.world.𝓛 g.world.𝓜 g.world.𝓡 ((λ s x. x), (λ x. x), (λ x. x), λ x. x) in
+    let queue = c.args.config.now.queue in
+    let directories = directories_in c.args.self.now in
+    let names : List FileName = names_in c.args.self.now queue in
+    let old = g.F.FileSystem.disk c.args.files.now in
+    let mid = g.F.FileSystem.disk c.recover_queue.new.files in
+    only_others directories queue (length directories) names old mid (met.is_named c.args.files.now) (found_numbered old (Log queue) directories (length directories) names (omega arith) c.requires.found) c.recover_queue.ensures.only
+
+pub returns-then-not-are_plain-clause-others : goal.returns-then-not-are_plain-clause-others
+returns-then-not-are_plain-clause-others g c =
+    let met = g.met.F.FileSystem g.world.𝓛 g.world.𝓜 g.world.𝓡 ((λ s x. x), (λ x. x), (λ x. x), λ x. x) in
+    let queue = c.args.config.now.queue in
+    let directories = directories_in c.args.self.now in
+    let names : List FileName = names_in c.args.self.now queue in
+    let old = g.F.FileSystem.disk c.args.files.now in
+    let mid = g.F.FileSystem.disk c.recover_queue.new.files in
+    only_others directories queue (length directories) names old mid (met.is_named c.args.files.now) (found_numbered old (Log queue) directories (length directories) names (omega arith) c.requires.found) c.recover_queue.ensures.only
+
+pub returns-in_err-paths-clause-others : goal.returns-in_err-paths-clause-others
+returns-in_err-paths-clause-others g c =
+    let met = g.met.F.FileSystem g.world.𝓛 g.world.𝓜 g.world.𝓡 ((λ s x. x), (λ x. x), (λ x. x), λ x. x) in
+    let queue = c.args.config.now.queue in
+    let directories = directories_in c.args.self.now in
+    let names : List FileName = names_in c.args.self.now queue in
+    let old = g.F.FileSystem.disk c.args.files.now in
+    let mid = g.F.FileSystem.disk c.recover_queue.new.files in
+    only_others directories queue (length directories) names old mid (met.is_named c.args.files.now) (found_numbered old (Log queue) directories (length directories) names (omega arith) c.requires.found) c.recover_queue.ensures.only
+
+pub returns-then-is_empty-clause-others : goal.returns-then-is_empty-clause-others
+returns-then-is_empty-clause-others g c =
+    let met = g.met.F.FileSystem g.world.𝓛 g.world.𝓜 g.world.𝓡 ((λ s x. x), (λ x. x), (λ x. x), λ x. x) in
+    let queue = c.args.config.now.queue in
+    let directories = directories_in c.args.self.now in
+    let names : List FileName = names_in c.args.self.now queue in
+    let old = g.F.FileSystem.disk c.args.files.now in
+    let mid = g.F.FileSystem.disk c.recover_queue.new.files in
+    let first = only_others directories queue (length directories) names old mid (met.is_named c.args.files.now) (found_numbered old (Log queue) directories (length directories) names (omega arith) c.requires.found) c.recover_queue.ensures.only in
+    others_on queue queue old mid (g.F.FileSystem.disk c.create.new.files) refl first c.create.ensures.others
+
+pub returns-clause-others : goal.returns-clause-others
+returns-clause-others g c =
+    let met = g.met.F.FileSystem g.world.𝓛 g.world.𝓜 g.world.𝓡 ((λ s x. x), (λ x. x), (λ x. x), λ x. x) in
+    let queue = c.args.config.now.queue in
+    let directories = directories_in c.args.self.now in
+    let names : List FileName = names_in c.args.self.now queue in
+    let old = g.F.FileSystem.disk c.args.files.now in
+    let mid = g.F.FileSystem.disk c.recover_queue.new.files in
+    let new = g.F.FileSystem.disk c.open.new.files in
+    let fs = c.in_ok-recovered.recovered.items in
+    let keeps : KeepsButHeader mid new fs = either_way c.open.result (KeepsButHeader mid new fs) c.open.ensures.keeps c.open.ensures.err in
+    let only : OnlyChanges directories queue names old new = kept_only directories queue old mid new names fs c.in_ok-recovered.ensures.ok keeps in
+    only_others directories queue (length directories) names old new (met.is_named c.args.files.now) (found_numbered old (Log queue) directories (length directories) names (omega arith) c.requires.found) only

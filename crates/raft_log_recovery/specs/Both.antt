@@ -1,0 +1,69 @@
+-- Both queues, opened one beside the other: the append queue first, then the rewrite queue.
+use Rattle.std.specs.Prelude.{◌≡◌, ◌⊎◌, List, ◌++◌}
+use Rattle.raft_log_records.specs.declared.file_id.LogQueue.{LogQueue}
+use Rattle.raft_log_records.specs.declared.file_id.LogQueue.TheVariants.{Append, Rewrite}
+use Rattle.raft_log_disk.specs.Disk.{Disk}
+use Rattle.raft_log_disk.specs.Text.{Text}
+use Rattle.raft_log_files.specs.declared.recovery.RecoveryMode.{RecoveryMode}
+use Rattle.raft_log_pipe.specs.declared.pipe.SinglePipe.{SinglePipe}
+use Rattle.raft_log_pipe.specs.Alone.{IsAlone, IsOnce, directories_of_pipe}
+use Rattle.raft_log_pipe.specs.Others.{KeepsOthers}
+use Rattle.raft_log_pipe.specs.Pipe.{IsPipe}
+use Rattle.raft_log_pipes.specs.declared.pipes.DualPipes.{DualPipes}
+use Rattle.raft_log_recovery.specs.declared.builder.DualPipesBuilder.{DualPipesBuilder}
+use Rattle.raft_log_recovery.specs.declared.scan.FileKind.TheVariants.{Log}
+use Rattle.raft_log_recovery.specs.declared.scan.FileName.{FileName}
+use Rattle.raft_log_recovery.specs.Again.{FindsAsBefore}
+use Rattle.raft_log_recovery.specs.Opening.{AnyAligned, IsPipeWith}
+use Rattle.raft_log_recovery.specs.Queue.{AnyRefused, AreLeft, KeepsRefused, directories_in, names_in}
+use Rattle.raft_log_recovery.specs.Replay.{Placed}
+use Rattle.raft_log_recovery.specs.Scan.{AreFound}
+
+-- the files of a queue that a builder has found stand in its directories
+abbrev pub IsFoundBy : DualPipesBuilder → LogQueue → Disk → Type 0
+IsFoundBy builder queue d = AreFound d (Log queue) (directories_in builder) (names_in builder queue)
+
+-- one of them has a fault that the mode refuses, or a header that says an alignment
+abbrev pub CantBeOpened : RecoveryMode → DualPipesBuilder → LogQueue → Disk → Type 0
+CantBeOpened mode builder queue d =
+    AnyRefused mode (directories_in builder) queue (names_in builder queue) d ⊎ AnyAligned (directories_in builder) queue (names_in builder queue) d
+
+-- What an opening, refused or not, leaves of the files of a queue. Another one finds what it would have found before, whatever
+-- a crash leaves of a file that was at rest reads as before, and a file that is refused stays with those behind it
+pub record LeavesQueue (mode : RecoveryMode) (directories : List Text) (queue : LogQueue) (names : List FileName) (old new : Disk) : Type 0 where
+  pub again : FindsAsBefore mode directories queue old new
+  pub left : AreLeft directories queue names old new
+  pub kept : KeepsRefused mode directories queue names old new
+
+-- files of the append queue changed, then files of the rewrite queue, and nothing else
+pub record ChangesBoth (old new : Disk) : Type 0 where
+  pub between : Disk
+  pub appends : KeepsOthers Append old between
+  pub rewrites : KeepsOthers Rewrite between new
+
+-- so much of both queues
+pub record LeavesBoth (mode : RecoveryMode) (builder : DualPipesBuilder) (old new : Disk) : Type 0 where
+  pub append : LeavesQueue mode (directories_in builder) Append (names_in builder Append) old new
+  pub rewrite : LeavesQueue mode (directories_in builder) Rewrite (names_in builder Rewrite) old new
+  pub only : ChangesBoth old new
+
+-- a pipe that can be used, of a queue in the builder's directories. Its files are the last ones there unless two had one number
+pub record IsOpened (builder : DualPipesBuilder) (queue : LogQueue) (old new : Disk) (p : SinglePipe) : Type 0 where
+  pub pipe : IsPipe p new
+  pub queue_is : p.queue ≡ queue
+  pub paths : directories_of_pipe p ≡ directories_in builder
+  pub alone : IsOnce old.names (directories_in builder) queue → IsAlone p new
+
+-- both pipes are so
+pub record AreOpened (builder : DualPipesBuilder) (old new : Disk) (p : DualPipes) : Type 0 where
+  pub append : IsOpened builder Append old new p.append
+  pub rewrite : IsOpened builder Rewrite old new p.rewrite
+
+-- Each pipe holds the batches that the files of its queue read as. A machine has got all of them: those of the rewrite queue,
+-- then those of the append queue
+pub record ArePipesWith (builder : DualPipesBuilder) (old new : Disk) (p : DualPipes) (all : List Placed) : Type 0 where
+  pub rewrites : List Placed
+  pub appends : List Placed
+  pub all_are : all ≡ rewrites ++ appends
+  pub rewrite : IsPipeWith (directories_in builder) Rewrite (names_in builder Rewrite) old new p.rewrite rewrites
+  pub append : IsPipeWith (directories_in builder) Append (names_in builder Append) old new p.append appends
