@@ -1,8 +1,8 @@
-pub mod Script
+pub mod Facts
+pub mod Sending
+pub mod Happening
+pub mod Turn
 pub mod Cluster
-pub mod Event
-pub mod Group
-pub mod GroupStep
-pub mod History
-pub mod Laws
-pub mod Node
+pub mod Round
+pub mod Joined
+pub mod Told

@@ -1,133 +1,149 @@
-//! A cluster of one node, whose type keeps that its history replays.
-ghost use Rattle.std.specs.Prelude.{◌≡◌, ◌≤◌, ◌∷◌, ◌++◌, [], ℕ, length, take, IfSome, IsSome, ◌↔◌, OnOk, OnErr};
-ghost use Rattle.raft_cluster.specs.Group.{list_in};
-ghost use Rattle.raft_cluster.specs.History.{Replays, events_of, list_of};
-ghost use Rattle.raft_cluster.specs.Laws.{ToldStand, PlacesRise, commands_in, taken_commands, RefusedChangeNothing};
-ghost use Rattle.raft_cluster.specs.Cluster.{recorded_after, history_after, group_list, told_at};
+//! A cluster.
+ghost use Rattle.std.specs.Prelude.{◌≡◌, ◌≤◌, [], not, true, take, IfErr, IfOk, OnOk, OnErr, vec_len};
+ghost use Rattle.std.specs.Option.{option_copied};
+ghost use Rattle.raft_sent_frames.specs.Frames.{frames_of};
+ghost use Rattle.raft_cluster.specs.Facts.{node_in, node_of};
+ghost use Rattle.raft_node_laws.specs.Law.{KeepsLaw};
+ghost use Rattle.raft_cluster.specs.Cluster.{IsReached, Runs, Steps};
+ghost use Rattle.raft_cluster.specs.Joined.{HasHeadline, ids_of};
+ghost use Rattle.raft_cluster.specs.Round.{Rounds, is_for_nodes, is_round};
+ghost use Rattle.raft_cluster.specs.Told.{told_at};
 
-use crate::event::{ClusterEvent, Recorded, SentFrame, Told};
-use crate::node::Node;
-use raft_machines::StateMachine;
-use raft_messages::GroupEntry;
+use crate::facts::node_of;
+use crate::round::{RoundRefusal, ids_of, is_round, settle_all, work_all};
+use crate::slot::{Slot, slot_of, take_turn};
+use crate::told::told_of;
+use raft_cluster_events::{ClusterEvent, ClusterNode, Recorded};
+use raft_machines::Told;
+use raft_sent_frames::{SentFrame, SentFrames};
 use std::alloc::{AllocError, Global};
 use std::marker::Model;
+use std::thread::Threads;
 
-/// One node, its groups, and all that happened (own). It has no files yet, and nobody to send to.
+/// Nodes, the frames that they sent, and all that happened (own). Frames are numbered for each group,
+/// from 0 in the order of sending, and none is ever taken away: one may come late, twice or never.
 #[derive(Drop)]
-pub struct Cluster<M: StateMachine> {
+pub struct Cluster<N: ClusterNode> {
     alloc: Global,
-    node: Node<M>,
+    slots: Vec<Slot<N>>,
+    sent: SentFrames,
     history: Vec<Recorded>,
-    frames: Vec<SentFrame>,
 }
 
-impl<M: StateMachine> Model for Cluster<M> {
-    ghost use Rattle.std.specs.Prelude.{◌≡◌, []};
-    ghost use Rattle.raft_cluster.specs.Cluster.{ClusterValue, IsKept};
+impl<N: ClusterNode> Model for Cluster<N> {
+    ghost use Rattle.raft_sent_frames.specs.Frames.{frames_of};
+    ghost use Rattle.std.specs.Prelude.{map};
+    ghost use Rattle.raft_cluster.specs.Cluster.{ClusterValue, IsReached};
+    ghost use Rattle.raft_cluster.specs.Round.{are_idle};
 
-    ghost Value = { ClusterValue };
+    ghost Value = { ClusterValue N };
 
-    ghost view = { λ c. record { id = c.node.id; history = c.history.items } };
+    ghost view = { λ c. record { nodes = map (λ slot. slot.node) c.slots.items; sent = c.sent; history = c.history.items } };
 
-    ghost invariant = { λ c. IsKept M.rules c.node c.history.items × (c.frames.items ≡ []) };
+    ghost invariant = { λ c. IsReached N.acts (map (λ slot. slot.node) c.slots.items) (frames_of c.sent) c.history.items × are_idle (map (λ slot. slot.answer) c.slots.items) };
 }
 
-impl<M: StateMachine> Cluster<M> {
-    /// A cluster of this one node, to which nothing has happened.
-    pub fn new(alloc: Global, id: u64) -> Cluster<M>
-        ensures { result ≡ record { id = id; history = [] } }
+impl<N: ClusterNode> Cluster<N> {
+    /// A cluster of nodes of these ids that have nothing. A node whose files can't be opened is down.
+    /// Where an id stands twice its first node gets the events.
+    pub fn new(alloc: Global, ids: &[u64], settings: &N::Settings) -> Result<Cluster<N>, AllocError>
+        ensures ids { IfOk result (λ c. ids_of N.acts c.nodes ≡ ids.now) }
+        ensures sent { IfOk result (λ c. c.sent ≡ []) }
+        ensures history { IfOk result (λ c. c.history ≡ []) }
     {
-        Cluster {
-            alloc,
-            node: Node::new(alloc, id),
-            history: Vec::new(alloc),
-            frames: Vec::new(alloc),
+        let mut slots = Vec::new(alloc);
+        for id in ids {
+            slots.push(Slot::new(N::begin(alloc, *id, settings)?))?;
         }
+        Ok(Cluster {
+            alloc,
+            slots,
+            sent: SentFrames::new(alloc),
+            history: Vec::new(alloc),
+        })
     }
 
     /// One event. An `Err` is want of memory before it, and changes nothing.
-    pub fn step(&mut self, event: &ClusterEvent) -> Result<(), AllocError>
-        ensures ok { OnOk result (self.new ≡ record { id = self.old.id; history = self.old.history ++ recorded_after M.rules self.old.id self.old.history event.now ∷ [] }) }
+    pub fn step(&mut self, event: ClusterEvent) -> Result<(), AllocError>
+        ensures ok { OnOk result (Steps N.acts self.old event self.new) }
         ensures err { OnErr result (self.new ≡ self.old) }
+        ensures headline { KeepsLaw N.Machine.rules N.acts N.states → HasHeadline N.Machine.rules N.acts N.states self.new.nodes (frames_of self.new.sent) self.new.history }
     {
+        self.replays();
         self.history.reserve(1)?;
-        let copy = event.clone()?;
-        let outcome = self.node.happen(event)?;
-        let recorded = Recorded {
-            event: copy,
-            outcome,
-        };
-        self.history.push(recorded).unwrap();
+        let outcome = take_turn(
+            self.alloc,
+            &mut self.slots,
+            &mut self.sent,
+            self.history.as_slice(),
+            &event,
+        )?;
+        self.history.push(Recorded { event, outcome }).unwrap();
+        self.replays();
         Ok(())
     }
 
-    /// Runs events in order, and says how many. Fewer than all only for want of memory before one.
-    pub fn run(&mut self, events: &[ClusterEvent]) -> usize
-        ensures within { result ≤ length events.now }
-        ensures history { self.new.history ≡ history_after M.rules self.old.id self.old.history (take result events.now) }
-        ensures id { self.new.id ≡ self.old.id }
-
-        // What holds of the whole history, for each group.
-        ensures told { ToldStand M.rules self.new.id self.new.history }
-        ensures places { (group : ℕ) → PlacesRise (group_list self.new.id group self.new.history) }
-        ensures commands { (group : ℕ) → commands_in (group_list self.new.id group self.new.history) ≡ taken_commands group self.new.history }
-        ensures refused { RefusedChangeNothing self.new.id self.new.history }
+    /// Runs events in order, and says how many (own). Fewer than all only for want of memory before
+    /// one. Where the nodes keep their law, all that happened keeps the headline of each group.
+    pub fn run(&mut self, events: Vec<ClusterEvent>) -> usize
+        ensures within { result ≤ vec_len events }
+        ensures runs { Runs N.acts self.old (take result events.items) self.new }
+        ensures headline { KeepsLaw N.Machine.rules N.acts N.states → HasHeadline N.Machine.rules N.acts N.states self.new.nodes (frames_of self.new.sent) self.new.history }
     {
-        for (i, event) in events.iter().enumerate() {
+        let mut count = 0;
+        for event in events {
             let Ok(()) = self.step(event) else {
                 self.replays();
-                return i;
+                return count;
             };
+            count += 1;
         }
         self.replays();
-        events.len()
+        count
     }
 
-    /// The history replays, and so has the laws of all histories that do.
+    /// The history leads to the nodes and frames that there are, from nodes that had nothing. Where the
+    /// nodes keep their law, it keeps the headline of each group.
     pub fn replays(&self)
-        ensures replayed { Replays M.rules self.now.id self.now.history }
-        ensures told { ToldStand M.rules self.now.id self.now.history }
-        ensures places { (group : ℕ) → PlacesRise (group_list self.now.id group self.now.history) }
-        ensures commands { (group : ℕ) → commands_in (group_list self.now.id group self.now.history) ≡ taken_commands group self.now.history }
-        ensures refused { RefusedChangeNothing self.now.id self.now.history }
+        ensures reached { IsReached N.acts self.now.nodes (frames_of self.now.sent) self.now.history }
+        ensures headline { KeepsLaw N.Machine.rules N.acts N.states → HasHeadline N.Machine.rules N.acts N.states self.now.nodes (frames_of self.now.sent) self.now.history }
     {
         let _ = &self.history;
     }
 
-    /// The node of this id, lent, if there is one. Its lists are those of the history.
-    pub fn node(&self, id: u64) -> Option<&Node<M>>
-        ensures known { IsSome result ↔ (id ≡ self.now.id) }
-        ensures lists { IfSome result (λ n. (group : ℕ) → list_in n.now.groups group ≡ list_of self.now.id group (events_of self.now.history)) }
+    /// The node of this id, lent, if there is one.
+    pub fn node(&self, id: u64) -> Option<&N>
+        ensures { option_copied result ≡ node_in N.acts self.now.nodes id }
     {
-        if self.node.id() == id {
-            Some(&self.node)
-        } else {
-            None
+        match slot_of(self.slots.as_slice(), id) {
+            Some(slot) => Some(&slot.node),
+            None => None,
         }
     }
 
-    /// The group's one list by place, lent; no entry where the group isn't there.
-    pub fn list(&self, group: u64) -> &[GroupEntry]
-        ensures { result.now ≡ group_list self.now.id group self.now.history }
+    /// The id of the node that an event is for; none where it delivers a frame that wasn't sent.
+    pub fn node_of(&self, event: &ClusterEvent) -> Option<u64>
+        ensures { result ≡ node_of (frames_of self.now.sent) event.now }
     {
-        self.node.entries(group).unwrap_or(&[])
+        node_of(&self.sent, event)
     }
 
-    /// What the event of this number told, lent; nothing where it was refused or isn't there.
-    pub fn told(&self, number: usize) -> &[Told]
-        ensures { result.now ≡ told_at self.now.history number }
+    /// The group's frames, lent, in the order of sending.
+    pub fn frames(&self, group: u64) -> &[SentFrame]
+        ensures { result.now ≡ frames_of self.now.sent group }
+    {
+        self.sent.frames(group)
+    }
+
+    /// What the event of this number told for a group, lent: tokens with their places and the machine's
+    /// answers, by rising place. Nothing where there is no such event. Events count from 0.
+    pub fn told(&self, number: usize, group: u64) -> &[Told]
+        ensures { result.now ≡ told_at self.now.history number group }
     {
         match self.history.get(number) {
-            Some(recorded) => recorded.outcome.told(),
+            Some(recorded) => told_of(&recorded.outcome, group),
             None => &[],
         }
-    }
-
-    /// The frames that were sent, lent: none, since there is nobody to send to.
-    pub fn frames(&self) -> &[SentFrame]
-        ensures { result.now ≡ [] }
-    {
-        self.frames.as_slice()
     }
 
     /// All events with their outcomes, in order, lent.
@@ -135,5 +151,57 @@ impl<M: StateMachine> Cluster<M> {
         ensures { result.now ≡ self.now.history }
     {
         self.history.as_slice()
+    }
+}
+
+impl<N: ClusterNode + Send> Cluster<N>
+where
+    N::Machine: Send,
+    N::Settings: Send,
+{
+    /// Runs the events of a round, each for another node, at once, and says how many happened (own):
+    /// all but crashes for which their nodes lack memory. The nodes are lent to threads in place. What
+    /// comes of it is what `run` gives on these events in their order: outcomes, numbers of frames,
+    /// nodes, history. Set-ups of one group are run in order, behind the threads. An `Err` changes
+    /// nothing: C8 where two events are for one node, or a frame wasn't sent before the round, else C10.
+    pub fn run_round<R: Threads + Sync>(
+        &mut self,
+        rt: &R,
+        events: Vec<ClusterEvent>,
+    ) -> Result<usize, RoundRefusal>
+        ensures runs { IfOk result (λ count. Rounds N.acts self.old events.items count self.new) }
+        ensures round { OnOk result (is_round (frames_of self.old.sent) events.items ≡ true) }
+        ensures why { IfErr result (λ why. is_for_nodes why ≡ not (is_round (frames_of self.old.sent) events.items)) }
+        ensures err { OnErr result (self.new ≡ self.old) }
+        ensures headline { KeepsLaw N.Machine.rules N.acts N.states → HasHeadline N.Machine.rules N.acts N.states self.new.nodes (frames_of self.new.sent) self.new.history }
+    {
+        self.replays();
+        if !is_round(&self.sent, events.as_slice()) {
+            return Err(RoundRefusal::SameNode);
+        }
+        let Ok(ids) = ids_of(self.alloc, self.slots.as_slice()) else {
+            return Err(RoundRefusal::Memory);
+        };
+        let Ok(()) = self.history.reserve(events.len()) else {
+            self.replays();
+            return Err(RoundRefusal::Memory);
+        };
+        work_all(
+            rt,
+            self.slots.as_mut_slice(),
+            ids.as_slice(),
+            &self.sent,
+            self.history.as_slice(),
+            events.as_slice(),
+        );
+        let count = settle_all(
+            self.alloc,
+            &mut self.slots,
+            &mut self.sent,
+            &mut self.history,
+            events,
+        );
+        self.replays();
+        Ok(count)
     }
 }

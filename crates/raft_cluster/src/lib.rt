@@ -1,18 +1,21 @@
-//! Clusters: nodes, what happened to them, and that it replays; and scripts that run a cluster.
+//! A cluster of nodes: their events one after another, the frames between them, and all that happened.
 #![tactic(auto)]
 
+mod answer;
 mod cluster;
-mod event;
-mod group;
-mod node;
-mod refusal;
-mod script;
+mod delivery;
+mod facts;
+mod happening;
+mod round;
+mod sending;
+mod slot;
+mod told;
 
 pub use cluster::Cluster;
-pub use event::{
-    ClusterEvent, EventOutcome, Recorded, Refusal, SentFrame, Told, ToldList, ToldRoom,
+pub use raft_cluster_conditions::ClusterRefusal;
+pub use raft_cluster_events::{
+    ClusterEvent, ClusterNode, CrashChoice, CrashRefusal, EventOutcome, GroupOutcome, NodeError,
+    NodeFrame, NodeOutcome, NodeRefusal, Recorded, SentNumber, Sequence, Stop, StopCause,
 };
-pub use group::Group;
-pub use node::Node;
-pub use raft_script_session::ScriptEnd;
-pub use script::run_script;
+pub use raft_sent_frames::SentFrame;
+pub use round::RoundRefusal;

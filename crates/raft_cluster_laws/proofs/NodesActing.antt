@@ -7,7 +7,8 @@ use Rattle.raft_group_step.specs.StoredGroup.{end_place}
 use Rattle.raft_group_step.specs.GroupEvent.{GroupEvent, AddGroup, Call, Receive, Open}
 use Rattle.raft_group_step.specs.StepResult.{RefusalReason, StepResult, tokens_of}
 use Rattle.raft_group_step.specs.Refusal.{refusal_of}
-use Rattle.raft_group_step.specs.GroupStep.{group_step, step_unless}
+use Rattle.raft_group_step.specs.GroupStep.{group_step}
+use Rattle.raft_group_step.proofs.Refusals.{refused_keeps}
 use Rattle.raft_laws.specs.declared.world_event.WorldEvent.{WorldEvent}
 use Rattle.raft_laws.specs.GroupWorld.{NodeState, Up, Down, Outcome, Skipped, is_stop}
 use Rattle.raft_laws.specs.GroupWorld.{Done as Ended, Refused as Declined, Stopped as Broken}
@@ -34,10 +35,6 @@ stop_is : (h : ℕ) (o : ClusterOutcome) (lost : List ℕ) → SaysStop h o lost
 stop_is h (Stopped names) lost s = refl
 stop_is h Fused lost s = refl
 stop_is h o lost s = absurd s
-
--- a refused step leaves the state
-kept_state : (own : ℕ) (s : GroupState) (e : GroupEvent) (why : RefusalReason) → refusal_of own s e ≡ Some why → (group_step own s e).state ≡ s
-kept_state own s e why is = ap (λ o. (step_unless o own s e).state) is
 
 module _ (rules : MachineRules) (h n : ℕ) (r : Recorded) (e : WorldEvent) where
   -- what became of it, and what is said of that
@@ -83,7 +80,7 @@ module _ (rules : MachineRules) (h n : ℕ) (r : Recorded) (e : WorldEvent) wher
         (says_done said (Up q.state) q closed is said_is) law;
     refused = λ ge s why law refused is.
         acts (Comes ge) (Up s) (Up s) (Declined why) 0 (declines s ge (is_stopped r.outcome) why refused)
-        (ap Up (sym (kept_state n s ge why refused))) is law;
+        (ap Up (sym (refused_keeps n s ge why refused))) is law;
     stopped = λ ge s law taken says k.
         let q = group_step n s ge in
         acts (Comes ge) (Up s) (Down (stopped_after k s.stored q)) (Broken (unknown_at_stop s ge q)) k

@@ -3,14 +3,13 @@ use Rattle.std.specs.Prelude.{◌≡◌, ℕ, ◌+◌, ◌<◌, ◌≤◌, true,
 use Rattle.std.proofs.Common.{sym, ap, ◌∙◌, arith, inl, inr}
 use Rattle.raft_group_step.specs.StoredGroup.{end_place}
 use Rattle.raft_group_step.specs.GroupState.{GroupState, Untold, is_leader}
-use Rattle.raft_group_step.specs.declared.group_call.GroupCall.TheVariants.{Initialize, Elect, Propose, ChangeMembership, Heartbeat, Lost, TriggerSnapshot, TriggerPurge}
-use Rattle.raft_group_step.specs.GroupEvent.{GroupCall, GroupEvent, AddGroup, Call, Receive, Open}
+use Rattle.raft_group_step.specs.GroupEvent.{GroupEvent}
 use Rattle.raft_group_step.specs.SnapshotRequest.{place_above}
-use Rattle.raft_laws.specs.Stop.{token_of_call}
 use Rattle.raft_laws.proofs.BallotSafe.{Among}
 use Rattle.raft_laws.proofs.FreshEntries.{without_is}
 use Rattle.raft_laws.proofs.Counts.{among_contains}
-use Rattle.raft_step_laws.specs.Tokens.{RiseFrom, WaitsLeading, brought, tokens_at}
+use Rattle.raft_step_laws.specs.Tokens.{RiseFrom, WaitsLeading, brought}
+use Rattle.raft_step_laws.proofs.InOrder.{brought_rises}
 use Rattle.raft_step_laws.proofs.TokenLists.{rise_lower}
 use Rattle.raft_history_laws.specs.WaitingTokens.{AreRising, IsWaiting}
 
@@ -23,22 +22,6 @@ rise_with start end (x ∷ xs) ys le low high rising h =
           (λ y a. let l = rising.0 y (among_contains xs y a) in omega arith)
           (λ y a. high y (inr a)) rising.1 h,
     )
-
-one_token : (end : ℕ) (call : GroupCall) → RiseFrom end (tokens_at end (token_of_call call))
-one_token end (Initialize m) = tt
-one_token end Elect = tt
-one_token end (Propose command token) = (omega arith, tt)
-one_token end (ChangeMembership change token) = (omega arith, tt)
-one_token end Heartbeat = tt
-one_token end (Lost peer) = tt
-one_token end TriggerSnapshot = tt
-one_token end (TriggerPurge place) = tt
-
-brought_rises : (s : GroupState) (e : GroupEvent) → RiseFrom (end_place s.stored) (brought s e)
-brought_rises s AddGroup = tt
-brought_rises s (Call call now) = one_token (end_place s.stored) call
-brought_rises s (Receive peer m now) = tt
-brought_rises s Open = tt
 
 module _ (s : GroupState) (waits : (x : Untold) → Contains s.untold x → IsWaiting s x) where
   pub all_rise : AreRising s.untold → s.applied ≡ s.committed → place_above s.committed ≤ end_place s.stored → (e : GroupEvent) → RiseFrom (place_above s.applied) (s.untold ++ brought s e)

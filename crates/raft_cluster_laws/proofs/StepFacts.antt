@@ -1,10 +1,8 @@
 -- What a step that isn't refused has at a node that is up, wherever a history leads: what its machine needs to follow it.
 use Rattle.std.specs.Prelude.{◌≡◌, ℕ, ◌+◌, ◌≤◌, true, false, List, [], ◌∷◌, ◌++◌, length, option_map, take, Option, Some, None, refl}
 use Rattle.std.proofs.Common.{ap, ◌∙◌, subst, arith, ⊎_elim}
-use Rattle.raft_values.specs.declared.log_id.LogId.{LogId}
 use Rattle.raft_values.specs.LogId.{next_place}
-use Rattle.raft_group_step.specs.Values.{Entry}
-use Rattle.raft_group_step.specs.StoredGroup.{Snapshot, entry_at, id_of, prefix_of, snapshot_last}
+use Rattle.raft_group_step.specs.StoredGroup.{Snapshot, entry_at, prefix_of, snapshot_last}
 use Rattle.raft_group_step.specs.GroupState.{GroupState}
 use Rattle.raft_group_step.specs.GroupEvent.{GroupEvent, Open}
 use Rattle.raft_group_step.specs.StepResult.{StepResult}
@@ -31,18 +29,11 @@ use Rattle.raft_history_laws.proofs.ServedNodes.{has_own_vote}
 use Rattle.raft_history_laws.proofs.WaitingTokens.{waits_own}
 use Rattle.raft_headline.proofs.AsGroup.{SceneFits, scene_fits}
 use Rattle.raft_headline.proofs.NodeFacts.{applied_committed, applied_stays, placed_log, snapshot_applied, snapshot_size}
-use Rattle.raft_headline.proofs.StepRuns.{step_applies}
+use Rattle.raft_headline.proofs.StepRuns.{id_placed, step_applies}
 use Rattle.raft_headline.proofs.WorldMachines.{NotOpening}
 use Rattle.raft_snapshot_laws.specs.Snapshots.{IsOfApplied}
 use Rattle.raft_snapshot_laws.proofs.StoredSnapshots.{leaders_build}
 use Rattle.raft_cluster_laws.proofs.Rising.{all_rise, waits_leading}
-
--- the entry that stands at a place has it
-stands_there : (o : Option Entry) (i : ℕ) (id : LogId ℕ) → ((e : Entry) → o ≡ Some e → e.log_id.index ≡ i) → id_of o ≡ Some id → id.index ≡ i
-stands_there None i id placed e = absurd (let f : None ≡ Some id = e in cc)
-stands_there (Some x) i id placed e =
-    let same : id ≡ x.log_id = (let f : Some x.log_id ≡ Some id = e in let g : id ≡ x.log_id = cc in g) in
-    ap (λ (l : LogId ℕ). l.index) same ∙ placed x refl
 
 module _ (ids : List ℕ) (rs : List Recorded) (w : GroupWorld) (h : IsGroupHistory ids rs w) (n : ℕ) (s : GroupState) (is : w.nodes n ≡ Up s) where
   -- a leader's vote is its own
@@ -126,7 +117,7 @@ module _ (ids : List ℕ) (rs : List Recorded) (w : GroupWorld) (h : IsGroupHist
       where
         of_applied : IsOfApplied s x → x.last.index + 1 ≤ place_above s.applied
         of_applied b =
-            let index : (b.last).index ≡ b.place = stands_there (entry_at s.stored b.place) b.place b.last (placed_log ids rs w h n s is b.place) b.stands in
+            let index : (b.last).index ≡ b.place = id_placed (entry_at s.stored b.place) b.place b.last (placed_log ids rs w h n s is b.place) b.stands in
             let last : x.last.index ≡ (b.last).index = ap (λ (y : Snapshot). y.last.index) b.built in
             let above : place_above s.applied ≡ b.place + 1 = ap place_above b.applied in
             omega arith

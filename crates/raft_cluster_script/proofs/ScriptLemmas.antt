@@ -1,25 +1,16 @@
 -- What a line shows.
-use Rattle.std.proofs.Common.{◌≡◌, refl, sym, ap, ◌∙◌, ◌+◌, ◌<◌, [], ◌∷◌, ◌++◌, length, map, take, get_or, Bool, true, false, List, ℕ, Option, Some, None, Result, Ok, Err, IfOk, IfSome}
-use Rattle.std.specs.Str.{IsUtf8, is_utf8}
-use Rattle.std.proofs.lemmas.Str.{IsUtf8-from_is_utf8}
+use Rattle.std.proofs.Common.{◌≡◌, refl, sym, ap, ◌∙◌, ◌+◌, ◌<◌, [], ◌∷◌, ◌++◌, length, map, take, get_or, List, ℕ, Option, Some, None, Result, Ok, Err, IfOk, IfSome}
 use Rattle.std.proofs.lemmas.List.{map-append, take_more}
 use Rattle.raft_cluster_events.specs.declared.event.ClusterEvent.{ClusterEvent}
 use Rattle.raft_cluster_events.specs.declared.outcome.Recorded.{Recorded}
 use Rattle.raft_cluster_events.specs.Node.{NodeActs}
-use Rattle.raft_node_cluster.specs.Cluster.{ClusterValue, Steps}
+use Rattle.raft_cluster.specs.Cluster.{ClusterValue, Steps}
 use Rattle.raft_cluster_script.specs.Answers.{outcome_text}
 use Rattle.raft_cluster_script.specs.Script.{StepsSo}
 
 pub for_some : {X : Type 0} (known : Option X) (P Q : X → Type 0) → ((x : X) → P x → Q x) → IfSome known P → IfSome known Q
 for_some None P Q f h = tt
 for_some (Some x) P Q f h = f x h
-
-no_text_by : (bytes : List ℕ) (b : Bool) → is_utf8 bytes ≡ b → (IsUtf8 bytes → ⊥) → b ≡ false
-no_text_by bytes true e never = absurd (never (IsUtf8-from_is_utf8 bytes e))
-no_text_by bytes false e never = refl
-
-pub no_text : (bytes : List ℕ) → (IsUtf8 bytes → ⊥) → is_utf8 bytes ≡ false
-no_text bytes never = no_text_by bytes (is_utf8 bytes) refl never
 
 -- one more is named
 pub more_named : {X : Type 0} (f : X → ℕ × List ℕ) (g : ℕ → ℕ × List ℕ) (old new : List X) (x : X) (ids : List ℕ) (i : ℕ) → i < length ids → map f old ≡ map g (take i ids) → new ≡ old ++ x ∷ [] → f x ≡ g (get_or ids i 0) → map f new ≡ map g (take (i + 1) ids)

@@ -14,9 +14,9 @@ use Rattle.raft_cluster_events.specs.declared.event.ClusterEvent.{ClusterEvent}
 use Rattle.raft_cluster_events.specs.declared.event.ClusterEvent.TheVariants as events
 use Rattle.raft_cluster_events.specs.declared.event.CrashChoice.TheVariants as choices
 use Rattle.raft_cluster_events.specs.Node.{NodeActs}
-use Rattle.raft_node_cluster.specs.Cluster.{ClusterValue, Steps}
-use Rattle.raft_node_cluster.specs.Facts.{node_in, node_of}
-use Rattle.raft_node_cluster.specs.Joined.{ids_of}
+use Rattle.raft_cluster.specs.Cluster.{ClusterValue, Steps}
+use Rattle.raft_cluster.specs.Facts.{node_in, node_of}
+use Rattle.raft_cluster.specs.Joined.{ids_of}
 use Rattle.raft_sent_frames.specs.Frames.{frames_of}
 use Rattle.raft_cluster_script.specs.Calls.{event_of, tokens_after}
 use Rattle.raft_cluster_script.specs.Answers.{fused_text, is_cut, outcome_text}

@@ -1,14 +1,14 @@
 //! An event behind a fuse of its node's files.
 ghost use Rattle.std.specs.Prelude.{◌≡◌, Some, IfOk, OnOk, string_bytes};
 ghost use Rattle.raft_sent_frames.specs.Frames.{frames_of};
-ghost use Rattle.raft_node_cluster.specs.Facts.{node_of};
+ghost use Rattle.raft_cluster.specs.Facts.{node_of};
 ghost use Rattle.raft_cluster_script.specs.Answers.{fused_text, is_cut};
 ghost use Rattle.raft_cluster_script.specs.Script.{CutSo, EndsCut, StepsFused};
 
 use crate::answers::outcome_text;
+use raft_cluster::Cluster;
 use raft_cluster_events::{ClusterEvent, ClusterNode, CrashChoice, EventOutcome, StopCause};
 use raft_machines::AddingMachine;
-use raft_node_cluster::Cluster;
 use raft_script_answers::stopped_text;
 use std::alloc::{AllocError, Global};
 

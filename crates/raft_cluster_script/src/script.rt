@@ -3,16 +3,16 @@ ghost use Rattle.std.specs.Prelude.{◌≡◌, IfOk, string_bytes, None, [], Lis
 ghost use Rattle.std.specs.List.{range_with_len};
 ghost use Rattle.std.specs.Option.{option_map};
 ghost use Rattle.raft_cluster_script.specs.Script.{AsksTotal, BeginsOnce, RunsLine, SetsNow, StepsFusedAt, StepsSo, Takes, TakesFused, TakesLine};
-ghost use Rattle.raft_node_cluster.specs.Facts.{node_of};
+ghost use Rattle.raft_cluster.specs.Facts.{node_of};
 ghost use Rattle.raft_sent_frames.specs.Frames.{frames_of};
 ghost use Rattle.raft_cluster_script.specs.Calls.{event_of, tokens_after};
 
 use crate::answers::{outcome_text, total_at};
 use crate::calls::{event_of, tokens_after};
 use crate::fuse::happen_fused;
+use raft_cluster::Cluster;
 use raft_cluster_events::{ClusterEvent, ClusterNode};
 use raft_machines::AddingMachine;
-use raft_node_cluster::Cluster;
 use raft_script_lines::{ReadLineError, ScriptEvent, ScriptLine, read_line};
 use raft_script_session::LineRunner;
 use std::alloc::{AllocError, Global};

@@ -1,9 +1,9 @@
 //! A list of events that is run at once on nodes with files.
 
+use raft_cluster::Cluster;
 use raft_cluster_events::{ClusterEvent, EventOutcome, GroupCommand, Recorded};
 use raft_group_step::GroupCall;
 use raft_machines::AddingMachine;
-use raft_node_cluster::Cluster;
 use raft_nodes_on_files::{FileNode, log_settings, run_on_files};
 use raft_state::{Bytes, Membership};
 use std::alloc::{AllocError, Global};
@@ -47,7 +47,23 @@ fn word(recorded: &Recorded) -> &'static str {
     }
 }
 
-/// Runs the events by `run_on_files`, and says how many happened, and what came of each.
+// What the events told for a group.
+fn told_text(
+    alloc: Global,
+    cluster: &Cluster<FileNode<AddingMachine>>,
+    group: u64,
+) -> Result<String, AllocError> {
+    let mut text = format!(in alloc; "; told for {group}:")?;
+    for number in 0..cluster.history().len() + 1 {
+        for told in cluster.told(number, group) {
+            let (token, place, answer) = (told.token, told.place, told.answer.as_slice());
+            text.push_str(format!(in alloc; " {token}@{place}={answer:?} by {number}")?.as_str())?;
+        }
+    }
+    Ok(text)
+}
+
+/// Runs the events by `run_on_files`, and says how many happened, what came of each, and what they told.
 pub fn run_rows(alloc: Global) -> Result<String, AllocError> {
     let settings = log_settings(alloc, "raft", 64, 256)?;
     let mut cluster = Cluster::<FileNode<AddingMachine>>::new(alloc, &[1], &settings)?;
@@ -58,5 +74,7 @@ pub fn run_rows(alloc: Global) -> Result<String, AllocError> {
     for recorded in cluster.history() {
         text.push_str(word(recorded))?;
     }
+    text.push_str(told_text(alloc, &cluster, 7)?.as_str())?;
+    text.push_str(told_text(alloc, &cluster, 8)?.as_str())?;
     Ok(text)
 }

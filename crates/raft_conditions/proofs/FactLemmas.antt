@@ -6,7 +6,7 @@ use Rattle.raft_conditions.specs.declared.refusal.Refusal.{Refusal}
 use Rattle.raft_conditions.specs.Facts.{IsFactsOf, IsRefusalOf}
 use Rattle.raft_messages.specs.Memberships.{logged_or_none}
 use Rattle.raft_conditions.specs.Reason.{reason_of}
-use Rattle.raft_conditions.specs.ByFacts.{AreLow, HasRoom, call_reason_by, call_reasons_by, has_room, is_low, is_settled_by, next_term_by, lead_reason_by, range_reason_by}
+use Rattle.raft_conditions.specs.ByFacts.{AreLow, HasRoom, call_reason_by, call_reasons_by, has_room, is_settled_by, next_term_by, lead_reason_by, range_reason_by}
 use Rattle.raft_conditions.proofs.RangeLemmas.{in_range-append, low_number, low_numbers}
 use Rattle.raft_group_step.specs.Values.{is_voter, LoggedMembership}
 use Rattle.raft_group_step.specs.GroupEvent.{GroupCall, Call}
@@ -14,6 +14,7 @@ use Rattle.raft_group_step.specs.GroupState.{GroupState, is_leader}
 use Rattle.raft_group_step.specs.StoredGroup.{membership_in_force}
 use Rattle.raft_group_step.specs.declared.group_call.GroupCall.TheVariants.{Initialize, Elect, Propose, ChangeMembership, Heartbeat, Lost, TriggerSnapshot, TriggerPurge}
 use Rattle.raft_group_step.specs.StepResult.{NotLeader, UnknownGroup, NotAllowed, NotVoter, InProgress, NumberAtEnd}
+use Rattle.raft_group_step.specs.Limits.{is_low}
 use Rattle.raft_group_step.specs.Refusal.{are_in_range, first_of_reasons, is_settled_membership, is_voter_in, known_leader, lead_reason, next_ids, next_term, range_reason, reasons_of_call, reasons_of_change, refusal_of, unless}
 
 -- ---- messages

@@ -1,19 +1,22 @@
 -- A membership is valid and within the limits just where its groups and its nodes are fit.
 use Rattle.std.proofs.Common.{◌≡◌, ℕ, suc, ◌+◌, ◌<◌, Bool, true, false, cond, List, [], ◌∷◌, length, refl, ap, sym, ◌∙◌, arith}
-use Rattle.std.specs.Prelude.{◌&&◌, ◌||◌, ◌==◌, not, nat_eq, nat_le, count_by, if◌then◌else◌, Option, Some, None, is_none}
+use Rattle.std.specs.Prelude.{◌&&◌, ◌||◌, ◌==◌, not, nat_eq, count_by, if◌then◌else◌, Option, Some, None, is_none}
 use Rattle.std.specs.declared.cmp.Ordering.TheVariants.{Less, Equal, Greater}
 use Rattle.std.specs.Ordering.{nat_cmp, match_ordering}
 use Rattle.std.specs.List.{list_all, fold}
 use Rattle.std.specs.Cmp.Lexicographic.{pointwise, same_text}
+use Rattle.std.proofs.Math.Bool.{and-false, and-true, and_assoc, or-false}
+use Rattle.std.proofs.lemmas.Bool.{or_parts}
 use Rattle.std.proofs.lemmas.Bool.Decides.{nat_tests}
 use Rattle.std.proofs.lemmas.Cmp.{nat_cmp_total, nat_list_eq_equiv}
-use Rattle.raft_quorums.specs.QuorumLaws.{count_more}
+use Rattle.raft_quorums.specs.QuorumLaws.{and_left, count_more}
 use Rattle.raft_membership.proofs.AddedLemmas.{with_ids-nobody}
 use Rattle.raft_quorums.specs.Nodes.{has_id, has_node, with_ids}
 use Rattle.raft_quorums.specs.Quorum.{last_config, last_of, next_configs}
 use Rattle.raft_quorums.specs.Rising.{IsRising}
 use Rattle.raft_membership.specs.Membership.{first_outside, has_empty_group, least_outside, lesser}
 use Rattle.raft_membership.specs.Validity.{fault_of, validity_fault}
+use Rattle.raft_group_step.specs.Limits.{are_few_groups, are_few_nodes, are_few_voters, is_short_address}
 use Rattle.raft_group_step.specs.Refusal.{change_reasons, first_of_reasons, unless}
 use Rattle.raft_group_step.specs.StepResult.{MembershipRefused, VoterChange}
 use Rattle.raft_group_step.specs.Values.{Membership, configs_eq}
@@ -41,21 +44,13 @@ none-first known (id ∷ ids) =
       | false ↦ refl
     ]
 
-and_apart : (a b c : Bool) → ((a && b) && c) ≡ (a && (b && c))
-and_apart true b c = refl
-and_apart false b c = refl
-
 none-least : (known : ℕ → Bool) (configs : List (List ℕ)) (least : Option ℕ)
     → is_none (fold (λ found group. lesser nat_cmp found (first_outside known group)) least configs) ≡ (is_none least && list_all (list_all known) configs)
-none-least known [] least = and_true (is_none least)
-  where
-    and_true : (b : Bool) → b ≡ (b && true)
-    and_true true = refl
-    and_true false = refl
+none-least known [] least = sym (and-true (is_none least))
 none-least known (group ∷ configs) least =
     none-least known configs (lesser nat_cmp least (first_outside known group))
     ∙ ap (λ b. b && list_all (list_all known) configs) (none-lesser least (first_outside known group) ∙ ap (λ b. is_none least && b) (none-first known group))
-    ∙ and_apart (is_none least) (list_all known group) (list_all (list_all known) configs)
+    ∙ and_assoc (is_none least) (list_all known group) (list_all (list_all known) configs)
 
 none-empty : (configs : List (List ℕ)) → not (has_empty_group configs) ≡ list_all (λ (group : List ℕ). not (length group == 0)) configs
 none-empty [] = refl
@@ -76,7 +71,7 @@ both p q (x ∷ xs) = ap (λ b. (p x && q x) && b) (both p q xs) ∙ four (p x) 
     four false b c d = refl
 
 in_order : (a b c d e f : Bool) → ((a && b) && (((c && d) && e) && f)) ≡ ((c && ((a && d) && b)) && (e && f))
-in_order true true true d e f = ap (λ x. x && f) (refl_and d e) ∙ and_apart (d && true) e f
+in_order true true true d e f = ap (λ x. x && f) (refl_and d e) ∙ and_assoc (d && true) e f
   where
     refl_and : (x y : Bool) → (x && y) ≡ ((x && true) && y)
     refl_and true y = refl
@@ -90,24 +85,24 @@ in_order false b false d e f = refl
 
 pub fits : (configs : List (List ℕ)) (nodes : List (ℕ × List ℕ))
     → (is_none (validity_fault nat_eq nat_cmp configs nodes)
-    && (nat_le (length configs) 8 && list_all (λ (group : List ℕ). nat_le (length group) 64) configs
-    && nat_le (length nodes) 128 && list_all (λ (x : ℕ × List ℕ). nat_le (length x.1) 255) nodes))
+    && (are_few_groups configs && list_all (λ (group : List ℕ). are_few_voters (length group)) configs
+    && are_few_nodes (length nodes) && list_all (λ (x : ℕ × List ℕ). is_short_address x.1) nodes))
     ≡ (are_fit_groups (has_node nat_eq nodes) configs && are_fit_nodes nodes)
 fits configs nodes =
     let known : ℕ → Bool = has_node nat_eq nodes in
-    let few : Bool = nat_le (length configs) 8 in
+    let few : Bool = are_few_groups configs in
     let some : Bool = list_all (λ (group : List ℕ). not (length group == 0)) configs in
-    let short : Bool = list_all (λ (group : List ℕ). nat_le (length group) 64) configs in
+    let short : Bool = list_all (λ (group : List ℕ). are_few_voters (length group)) configs in
     let all_known : Bool = list_all (list_all known) configs in
-    let sized : Bool = nat_le (length nodes) 128 in
-    let addressed : Bool = list_all (λ (x : ℕ × List ℕ). nat_le (length x.1) 255) nodes in
+    let sized : Bool = are_few_nodes (length nodes) in
+    let addressed : Bool = list_all (λ (x : ℕ × List ℕ). is_short_address x.1) nodes in
     let valid : is_none (validity_fault nat_eq nat_cmp configs nodes) ≡ (some && all_known) =
     none-fault (has_empty_group configs) (least_outside nat_cmp known configs)
     ∙ ap (λ b. b && is_none (least_outside nat_cmp known configs)) (none-empty configs)
     ∙ ap (λ b. some && b) (none-least known configs None) in
     let groups : list_all (is_fit_group known) configs ≡ ((some && short) && all_known) =
-    both (λ (group : List ℕ). not (length group == 0) && nat_le (length group) 64) (list_all known) configs
-    ∙ ap (λ b. b && all_known) (both (λ (group : List ℕ). not (length group == 0)) (λ (group : List ℕ). nat_le (length group) 64) configs) in
+    both (λ (group : List ℕ). not (length group == 0) && are_few_voters (length group)) (list_all known) configs
+    ∙ ap (λ b. b && all_known) (both (λ (group : List ℕ). not (length group == 0)) (λ (group : List ℕ). are_few_voters (length group)) configs) in
     ap (λ b. b && (few && short && sized && addressed)) valid
     ∙ in_order some all_known few short sized addressed
     ∙ ap (λ b. (few && b) && (sized && addressed)) (sym groups)
@@ -136,25 +131,13 @@ module _ (goal : List ℕ) where
   stays (x ∷ y ∷ zs) =
       let more : (length (x ∷ y ∷ zs) == 1) ≡ false = grind (arith, nat_tests) in
       elim (is_there goal (x ∷ y ∷ zs)) as (λ b. is_there goal (x ∷ y ∷ zs) ≡ b → pointwise (pointwise nat_eq) (x ∷ y ∷ zs) (if b then goal ∷ [] else last_of x (y ∷ zs) ∷ goal ∷ []) ≡ false) [
-        | true ↦ λ e. and_none (pointwise nat_eq x goal)
-        | false ↦ λ e. ap (λ b. pointwise nat_eq x (last_of x (y ∷ zs)) && b) (other zs y (second (pointwise nat_eq x goal) (is_there goal (y ∷ zs)) e)) ∙ and_none (pointwise nat_eq x (last_of x (y ∷ zs)))
+        | true ↦ λ e. and-false (pointwise nat_eq x goal)
+        | false ↦ λ e. ap (λ b. pointwise nat_eq x (last_of x (y ∷ zs)) && b) (other zs y (or_parts (pointwise nat_eq x goal) (is_there goal (y ∷ zs)) e).1) ∙ and-false (pointwise nat_eq x (last_of x (y ∷ zs)))
       ] refl
       ∙ ap (λ b. b && is_there goal (x ∷ y ∷ zs)) (sym more)
     where
-      and_none : (b : Bool) → (b && false) ≡ false
-      and_none true = refl
-      and_none false = refl
-
-      second : (a b : Bool) → (a || b) ≡ false → b ≡ false
-      second true b e = cc e
-      second false b e = e
-
-      first : (a b : Bool) → (a || b) ≡ false → a ≡ false
-      first true b e = cc e
-      first false b e = refl
-
       other : (zs : List (List ℕ)) (y : List ℕ) → is_there goal (y ∷ zs) ≡ false → pointwise (pointwise nat_eq) (y ∷ zs) (goal ∷ []) ≡ false
-      other zs y e = ap (λ b. b && pointwise (pointwise nat_eq) zs []) (first (pointwise nat_eq y goal) (is_there goal zs) e)
+      other zs y e = ap (λ b. b && pointwise (pointwise nat_eq) zs []) (or_parts (pointwise nat_eq y goal) (is_there goal zs) e).0
 
   module _ (known : ℕ → Bool) where
     last_of_some : (x : List ℕ) (xs : List (List ℕ)) → is_last_fit known (x ∷ xs) ≡ is_fit_group known (last_of x xs)
@@ -178,14 +161,6 @@ module _ (goal : List ℕ) where
 
 -- ---- newcomers of the last group
 
-and_true_right : (a b : Bool) → (a && b) ≡ true → b ≡ true
-and_true_right true b e = e
-and_true_right false b e = cc e
-
-and_true_left : (a b : Bool) → (a && b) ≡ true → a ≡ true
-and_true_left true b e = refl
-and_true_left false b e = cc e
-
 absorbed : (a b c : Bool) → (a ≡ true → c ≡ true) → (a && (b || c)) ≡ a
 absorbed true true c f = refl
 absorbed true false c f = f refl
@@ -194,18 +169,18 @@ absorbed false b c f = refl
 module _ (known : ℕ → Bool) (last ids : List ℕ) (rising : IsRising nat_cmp last) (more : IsRising nat_cmp ids) (some : (length last == 0) ≡ false) where
   -- the group with the newcomers is fit where the last one is, they are known, and there is room for who is new
   pub joined_fit : is_fit_group known (with_ids nat_cmp last ids)
-      ≡ (is_fit_group known last && list_all known ids && nat_le (length last + count_by (λ id. not (has_id nat_eq last id)) ids) 64)
+      ≡ (is_fit_group known last && list_all known ids && are_few_voters (length last + count_by (λ id. not (has_id nat_eq last id)) ids))
   joined_fit =
       let size = length-with_ids ids last rising more in
       let n : ℕ = count_by (λ id. not (has_id nat_eq last id)) ids in
       let some_more : (length last + n == 0) ≡ false = grind (arith, nat_tests) in
-      ap (λ m. not (m == 0) && nat_le m 64 && list_all known (with_ids nat_cmp last ids)) size
-      ∙ ap (λ b. not b && nat_le (length last + n) 64 && list_all known (with_ids nat_cmp last ids)) some_more
-      ∙ ap (λ b. nat_le (length last + n) 64 && b) (all-with_ids known ids last)
+      ap (λ m. not (m == 0) && are_few_voters m && list_all known (with_ids nat_cmp last ids)) size
+      ∙ ap (λ b. not b && are_few_voters (length last + n) && list_all known (with_ids nat_cmp last ids)) some_more
+      ∙ ap (λ b. are_few_voters (length last + n) && b) (all-with_ids known ids last)
       ∙ with_size (length last) n (list_all known last) (list_all known ids)
-      ∙ ap (λ b. (not b && nat_le (length last) 64 && list_all known last) && list_all known ids && nat_le (length last + n) 64) (sym some)
+      ∙ ap (λ b. (not b && are_few_voters (length last) && list_all known last) && list_all known ids && are_few_voters (length last + n)) (sym some)
     where
-      with_size : (m n : ℕ) (a b : Bool) → (nat_le (m + n) 64 && (a && b)) ≡ (((nat_le m 64 && a) && b) && nat_le (m + n) 64)
+      with_size : (m n : ℕ) (a b : Bool) → (are_few_voters (m + n) && (a && b)) ≡ (((are_few_voters m && a) && b) && are_few_voters (m + n))
       with_size m n true true = grind (arith, nat_tests)
       with_size m n true false = grind (arith, nat_tests)
       with_size m n false b = grind (arith, nat_tests)
@@ -216,8 +191,8 @@ module _ (known : ℕ → Bool) (last ids : List ℕ) (rising : IsRising nat_cmp
   joined_next configs e =
       next_fit (with_ids nat_cmp last ids) known configs
       ∙ absorbed (is_fit_group known (with_ids nat_cmp last ids)) (is_there (with_ids nat_cmp last ids) configs) (is_last_fit known configs)
-      (λ fit. last_fits configs e (and_true_left (is_fit_group known last) (list_all known ids)
-      (and_true_left (is_fit_group known last && list_all known ids) (nat_le (length last + count_by (λ id. not (has_id nat_eq last id)) ids) 64) (sym joined_fit ∙ fit))))
+      (λ fit. last_fits configs e (and_left (is_fit_group known last) (list_all known ids)
+      (and_left (is_fit_group known last && list_all known ids) (are_few_voters (length last + count_by (λ id. not (has_id nat_eq last id)) ids)) (sym joined_fit ∙ fit))))
     where
       last_fits : (configs : List (List ℕ)) → last_config configs ≡ last → is_fit_group known last ≡ true → is_last_fit known configs ≡ true
       last_fits [] e fit = refl
@@ -239,12 +214,8 @@ pub joined_stays : (configs : List (List ℕ)) (last ids : List ℕ) → IsRisin
 joined_stays [] last ids rising more e = refl
 joined_stays (x ∷ []) last ids rising more e =
     let same : x ≡ last = e in
-    ap (λ b. b || false) (ap (λ l. pointwise nat_eq l (with_ids nat_cmp last ids)) same ∙ alike) ∙ or_none (list_all (has_id nat_eq last) ids)
+    ap (λ b. b || false) (ap (λ l. pointwise nat_eq l (with_ids nat_cmp last ids)) same ∙ alike) ∙ or-false (list_all (has_id nat_eq last) ids)
   where
-    or_none : (b : Bool) → (b || false) ≡ b
-    or_none true = refl
-    or_none false = refl
-
     alike : pointwise nat_eq last (with_ids nat_cmp last ids) ≡ list_all (has_id nat_eq last) ids
     alike =
         elim (list_all (has_id nat_eq last) ids) as (λ b. list_all (has_id nat_eq last) ids ≡ b → pointwise nat_eq last (with_ids nat_cmp last ids) ≡ b) [

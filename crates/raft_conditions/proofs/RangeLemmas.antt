@@ -2,9 +2,10 @@
 use Rattle.std.proofs.Common.{◌≡◌, ℕ, ◌<◌, ◌^◌, ◌&&◌, true, List, [], ◌∷◌, ◌++◌}
 use Rattle.std.proofs.lemmas.Bool.{ltb-true}
 use Rattle.std.proofs.lemmas.List.Folds.{list_all-append}
-use Rattle.raft_group_step.specs.Refusal.{are_in_range, number_limit}
+use Rattle.raft_group_step.specs.Limits.{is_low, number_limit}
+use Rattle.raft_group_step.specs.Refusal.{are_in_range}
 use Rattle.raft_quorums.specs.QuorumLaws.{and_left, and_right}
-use Rattle.raft_conditions.specs.ByFacts.{AreLow, is_low}
+use Rattle.raft_conditions.specs.ByFacts.{AreLow}
 
 -- the parts of a list are in range
 pub in_range-append : (ms ns : List ℕ) → are_in_range (ms ++ ns) ≡ (are_in_range ms && are_in_range ns)

@@ -1,21 +1,25 @@
 -- How many ids and nodes there are where some come in, and whether all of them pass a test.
 use Rattle.std.proofs.Common.{◌≡◌, ℕ, suc, ◌+◌, Bool, true, false, cond, List, [], ◌∷◌, length, map, refl, ap, sym, ◌∙◌, subst, arith}
-use Rattle.std.specs.Prelude.{◌&&◌, ◌||◌, not, nat_eq, nat_le, count_by, if◌then◌else◌}
+use Rattle.std.specs.Prelude.{◌&&◌, ◌||◌, not, nat_eq, count_by, if◌then◌else◌}
 use Rattle.std.specs.declared.cmp.Ordering.TheVariants.{Less, Equal, Greater}
 use Rattle.std.specs.Ordering.{nat_cmp, match_ordering, is_eq}
 use Rattle.std.specs.List.{list_all}
 use Rattle.std.specs.BTreeSet.{insert_key}
-use Rattle.std.proofs.lemmas.Cmp.{nat_cmp_total}
+use Rattle.std.proofs.Math.Bool.{and-true, and_assoc, and_comm, and_self_left, or-false, or_assoc, or_comm, or_self_left}
+use Rattle.std.proofs.lemmas.Bool.{eqb-true, or_parts}
+use Rattle.std.proofs.lemmas.Cmp.{nat_cmp_total, nat_eq_equiv}
+use Rattle.std.proofs.lemmas.Map.Lookups.{exact_unsigned}
 use Rattle.std.proofs.lemmas.Bool.Decides.{nat_tests}
 use Rattle.raft_quorums.specs.Nodes.{has_id, has_node, with_ids, with_node, with_nodes, with_new_node, with_new_nodes}
 use Rattle.raft_quorums.specs.Rising.{IsBelowAll, IsRising, IsRisingByFirst}
 use Rattle.raft_quorums.specs.RisingLaws.{below_is_absent, below_trans, rising_insert_key}
-use Rattle.raft_quorums.specs.QuorumLaws.{count_more}
+use Rattle.raft_quorums.specs.QuorumLaws.{and_left, and_right, count_more}
 use Rattle.raft_quorums.proofs.PlaceLemmas.{rising-with_node}
 use Rattle.raft_membership.proofs.FaultLemmas.{has_with_new_nodes}
 use Rattle.raft_membership.specs.MembershipChange.{without_nodes}
 use Rattle.std.proofs.lemmas.List.Sums.{length-filter}
-use Rattle.raft_conditions.specs.Fitting.{are_fit_nodes, is_short_node}
+use Rattle.raft_group_step.specs.Limits.{are_few_nodes, is_short_address}
+use Rattle.raft_conditions.specs.Fitting.{are_fit_nodes}
 
 -- ---- numbers in order
 
@@ -25,52 +29,23 @@ eq_by_order x y = grind (arith, nat_tests)
 less_apart : (x y : ℕ) → nat_cmp x y ≡ Less → nat_eq x y ≡ false
 less_apart x y e = eq_by_order x y ∙ ap is_eq e
 
-pub equal_same : (x y : ℕ) → nat_cmp x y ≡ Equal → x ≡ y
-equal_same x y e = grind (arith, nat_tests)
-
 greater_apart : (x y : ℕ) → nat_cmp y x ≡ Greater → nat_eq x y ≡ false
 greater_apart x y e = grind (arith, nat_tests)
 
 other_way : (x y : ℕ) → nat_cmp x y ≡ Greater → nat_eq x y ≡ false
 other_way x y e = eq_by_order x y ∙ ap is_eq e
 
-itself : (x : ℕ) → nat_eq x x ≡ true
-itself x = grind (arith, nat_tests)
-
 absent : (k : ℕ) (xs : List ℕ) → IsBelowAll nat_cmp k xs → has_id nat_eq xs k ≡ false
 absent k xs h = below_is_absent nat_cmp_total eq_by_order k xs h
 
 or_swap : (a b c : Bool) → (b || (a || c)) ≡ (a || (b || c))
-or_swap true true c = refl
-or_swap true false c = refl
-or_swap false true c = refl
-or_swap false false c = refl
-
-or_again : (a b : Bool) → (a || b) ≡ (a || (a || b))
-or_again true b = refl
-or_again false b = refl
-
-and_swap : (a b c : Bool) → (b && (a && c)) ≡ (a && (b && c))
-and_swap true true c = refl
-and_swap true false c = refl
-and_swap false true c = refl
-and_swap false false c = refl
+or_swap a b c = sym (or_assoc b a c) ∙ ap (λ x. x || c) (or_comm b a) ∙ or_assoc a b c
 
 and_turn : (a b c : Bool) → ((a && b) && c) ≡ (b && (a && c))
-and_turn true b c = refl
-and_turn false true c = refl
-and_turn false false c = refl
+and_turn a b c = ap (λ x. x && c) (and_comm a b) ∙ and_assoc b a c
 
-and_true : (b : Bool) → b ≡ (b && true)
-and_true true = refl
-and_true false = refl
-
-or_false : (b : Bool) → (b || false) ≡ b
-or_false true = refl
-or_false false = refl
-
-pub identical : (x y : ℕ) → nat_eq x y ≡ true → x ≡ y
-identical x y e = grind (arith, nat_tests)
+and_swap : (a b c : Bool) → (b && (a && c)) ≡ (a && (b && c))
+and_swap a b c = sym (and_turn a b c) ∙ and_assoc a b c
 
 -- ---- one id that comes in
 
@@ -81,7 +56,7 @@ has-insert_key (x ∷ xs) k j =
     elim (nat_cmp k x) as (λ o. nat_cmp k x ≡ o → has_id nat_eq (match_ordering o (k ∷ x ∷ xs) (x ∷ xs) (x ∷ insert_key nat_cmp xs k)) j
     ≡ (nat_eq k j || (nat_eq x j || has_id nat_eq xs j))) [
       | Less ↦ λ e. refl
-      | Equal ↦ λ e. or_again (nat_eq x j) (has_id nat_eq xs j) ∙ ap (λ i. nat_eq i j || (nat_eq x j || has_id nat_eq xs j)) (sym (equal_same k x e))
+      | Equal ↦ λ e. sym (or_self_left (nat_eq x j) (has_id nat_eq xs j)) ∙ ap (λ i. nat_eq i j || (nat_eq x j || has_id nat_eq xs j)) (sym (exact_unsigned k x e))
       | Greater ↦ λ e. ap (λ b. nat_eq x j || b) (has-insert_key xs k j) ∙ or_swap (nat_eq k j) (nat_eq x j) (has_id nat_eq xs j)
     ] refl
 
@@ -95,7 +70,7 @@ length-insert_key (x ∷ xs) k h =
           let none : has_id nat_eq (x ∷ xs) k ≡ false = absent k (x ∷ xs) (e, below_trans nat_cmp_total k x xs e h.0) in
           rw none (omega arith)
       | Equal ↦ λ e.
-          let there : nat_eq x k ≡ true = ap (nat_eq x) (equal_same k x e) ∙ itself x in
+          let there : nat_eq x k ≡ true = ap (nat_eq x) (exact_unsigned k x e) ∙ nat_eq_equiv.refl x in
           rw there (omega arith)
       | Greater ↦ λ e.
           let apart : nat_eq x k ≡ false = greater_apart x k e in
@@ -123,16 +98,12 @@ module _ (p : ℕ → Bool) where
       elim (nat_cmp k x) as (λ o. nat_cmp k x ≡ o → list_all p (match_ordering o (k ∷ x ∷ xs) (x ∷ xs) (x ∷ insert_key nat_cmp xs k))
       ≡ (p k && (p x && list_all p xs))) [
         | Less ↦ λ e. refl
-        | Equal ↦ λ e. and_again (p x) (list_all p xs) ∙ ap (λ i. p i && (p x && list_all p xs)) (sym (equal_same k x e))
+        | Equal ↦ λ e. sym (and_self_left (p x) (list_all p xs)) ∙ ap (λ i. p i && (p x && list_all p xs)) (sym (exact_unsigned k x e))
         | Greater ↦ λ e. ap (λ b. p x && b) (all-insert_key xs k) ∙ and_swap (p k) (p x) (list_all p xs)
       ] refl
-    where
-      and_again : (a b : Bool) → (a && b) ≡ (a && (a && b))
-      and_again true b = refl
-      and_again false b = refl
 
   pub all-with_ids : (ids xs : List ℕ) → list_all p (with_ids nat_cmp xs ids) ≡ (list_all p xs && list_all p ids)
-  all-with_ids [] xs = and_true (list_all p xs)
+  all-with_ids [] xs = sym (and-true (list_all p xs))
   all-with_ids (k ∷ ids) xs =
       all-with_ids ids (insert_key nat_cmp xs k)
       ∙ ap (λ b. b && list_all p ids) (all-insert_key xs k)
@@ -165,17 +136,9 @@ length-with_ids (id ∷ ids) xs h k =
 pub with_ids-there : (ids xs : List ℕ) → IsRising nat_cmp xs → list_all (has_id nat_eq xs) ids ≡ true → with_ids nat_cmp xs ids ≡ xs
 with_ids-there [] xs h there = refl
 with_ids-there (id ∷ ids) xs h there =
-    let here : has_id nat_eq xs id ≡ true = first (has_id nat_eq xs id) (list_all (has_id nat_eq xs) ids) there in
-    let rest : list_all (has_id nat_eq xs) ids ≡ true = second (has_id nat_eq xs id) (list_all (has_id nat_eq xs) ids) there in
+    let here : has_id nat_eq xs id ≡ true = and_left (has_id nat_eq xs id) (list_all (has_id nat_eq xs) ids) there in
+    let rest : list_all (has_id nat_eq xs) ids ≡ true = and_right (has_id nat_eq xs id) (list_all (has_id nat_eq xs) ids) there in
     ap (λ l. with_ids nat_cmp l ids) (insert_key-there xs id h here) ∙ with_ids-there ids xs h rest
-  where
-    first : (a b : Bool) → (a && b) ≡ true → a ≡ true
-    first true b e = refl
-    first false b e = cc e
-
-    second : (a b : Bool) → (a && b) ≡ true → b ≡ true
-    second true b e = e
-    second false b e = cc e
 
 -- ---- the ids of nodes that come in
 
@@ -192,7 +155,7 @@ ids-with_node (x ∷ xs) id node =
     elim (nat_cmp id x.0) as (λ o. nat_cmp id x.0 ≡ o → ids_of (match_ordering o ((id, node) ∷ x ∷ xs) ((id, node) ∷ xs) (x ∷ with_node nat_cmp xs id node))
     ≡ match_ordering o (id ∷ x.0 ∷ ids_of xs) (x.0 ∷ ids_of xs) (x.0 ∷ insert_key nat_cmp (ids_of xs) id)) [
       | Less ↦ λ e. refl
-      | Equal ↦ λ e. ap (λ i. i ∷ ids_of xs) (equal_same id x.0 e)
+      | Equal ↦ λ e. ap (λ i. i ∷ ids_of xs) (exact_unsigned id x.0 e)
       | Greater ↦ λ e. ap (λ l. x.0 ∷ l) (ids-with_node xs id node)
     ] refl
 
@@ -265,8 +228,8 @@ module _ (p : ℕ × List ℕ → Bool) where
       ≡ (p (id, node) && ((nat_eq id x.0 || p x) && list_all (λ (y : ℕ × List ℕ). nat_eq id y.0 || p y) xs))) [
         | Less ↦ λ e. ap (λ b. p (id, node) && b) (sym (others_alike (x ∷ xs) id (e, below_trans nat_cmp_total id x.0 (ids_of xs) e h.0)))
         | Equal ↦ λ e.
-            let there : nat_eq id x.0 ≡ true = ap (nat_eq id) (sym (equal_same id x.0 e)) ∙ itself id in
-            let below : IsBelowAll nat_cmp id (ids_of xs) = subst (λ i. IsBelowAll nat_cmp i (ids_of xs)) (sym (equal_same id x.0 e)) h.0 in
+            let there : nat_eq id x.0 ≡ true = ap (nat_eq id) (sym (exact_unsigned id x.0 e)) ∙ nat_eq_equiv.refl id in
+            let below : IsBelowAll nat_cmp id (ids_of xs) = subst (λ i. IsBelowAll nat_cmp i (ids_of xs)) (sym (exact_unsigned id x.0 e)) h.0 in
             ap (λ b. p (id, node) && b) (sym (others_alike xs id below))
             ∙ ap (λ b. p (id, node) && ((b || p x) && list_all (λ (y : ℕ × List ℕ). nat_eq id y.0 || p y) xs)) (sym there)
         | Greater ↦ λ e.
@@ -279,7 +242,7 @@ module _ (p : ℕ × List ℕ → Bool) where
 -- new nodes come in, in place of those with their ids
 pub all-with_nodes : (p : ℕ × List ℕ → Bool) (news nodes : List (ℕ × List ℕ)) → IsRisingByFirst nat_cmp nodes → IsRisingByFirst nat_cmp news
     → list_all p (with_nodes nat_cmp nodes news) ≡ (list_all (λ (x : ℕ × List ℕ). has_node nat_eq news x.0 || p x) nodes && list_all p news)
-all-with_nodes p [] nodes h k = and_true (list_all p nodes)
+all-with_nodes p [] nodes h k = sym (and-true (list_all p nodes))
 all-with_nodes p (n ∷ news) nodes h k =
     all-with_nodes p news (with_node nat_cmp nodes n.0 n.1) (rising-with_node nat_cmp_total n.0 n.1 nodes h) k.1
     ∙ ap (λ b. b && list_all p news) (all-with_node (λ (x : ℕ × List ℕ). has_node nat_eq news x.0 || p x) nodes n.0 n.1 h)
@@ -288,15 +251,11 @@ all-with_nodes p (n ∷ news) nodes h k =
     ∙ and_turn (p n) (list_all (λ (x : ℕ × List ℕ). nat_eq n.0 x.0 || (has_node nat_eq news x.0 || p x)) nodes) (list_all p news)
     ∙ ap (λ b. b && (p n && list_all p news)) (tests_alike nodes)
   where
-    or_apart : (a b c : Bool) → (a || (b || c)) ≡ ((a || b) || c)
-    or_apart true b c = refl
-    or_apart false b c = refl
-
     tests_alike : (xs : List (ℕ × List ℕ)) → list_all (λ (x : ℕ × List ℕ). nat_eq n.0 x.0 || (has_node nat_eq news x.0 || p x)) xs
         ≡ list_all (λ (x : ℕ × List ℕ). (nat_eq n.0 x.0 || has_node nat_eq news x.0) || p x) xs
     tests_alike [] = refl
     tests_alike (x ∷ xs) =
-        ap (λ b. b && list_all (λ (y : ℕ × List ℕ). nat_eq n.0 y.0 || (has_node nat_eq news y.0 || p y)) xs) (or_apart (nat_eq n.0 x.0) (has_node nat_eq news x.0) (p x))
+        ap (λ b. b && list_all (λ (y : ℕ × List ℕ). nat_eq n.0 y.0 || (has_node nat_eq news y.0 || p y)) xs) (sym (or_assoc (nat_eq n.0 x.0) (has_node nat_eq news x.0) (p x)))
         ∙ ap (λ b. ((nat_eq n.0 x.0 || has_node nat_eq news x.0) || p x) && b) (tests_alike xs)
 
 -- a node that isn't there comes in beside the others
@@ -308,14 +267,6 @@ all-new_node p nodes id node =
       | false ↦ λ e. beside nodes e
     ] refl
   where
-    or_none : (a b : Bool) → (a || b) ≡ false → a ≡ false
-    or_none true b e = cc e
-    or_none false b e = refl
-
-    or_rest : (a b : Bool) → (a || b) ≡ false → b ≡ false
-    or_rest true b e = cc e
-    or_rest false b e = e
-
     beside : (xs : List (ℕ × List ℕ)) → has_node nat_eq xs id ≡ false → list_all p (with_node nat_cmp xs id node) ≡ (p (id, node) && list_all p xs)
     beside [] e = refl
     beside (x ∷ xs) e =
@@ -323,16 +274,16 @@ all-new_node p nodes id node =
         ≡ (p (id, node) && (p x && list_all p xs))) [
           | Less ↦ λ f. refl
           | Equal ↦ λ f.
-              let there : nat_eq x.0 id ≡ true = ap (nat_eq x.0) (equal_same id x.0 f) ∙ itself x.0 in
-              cc (or_none (nat_eq x.0 id) (has_node nat_eq xs id) e, there)
+              let there : nat_eq x.0 id ≡ true = ap (nat_eq x.0) (exact_unsigned id x.0 f) ∙ nat_eq_equiv.refl x.0 in
+              cc ((or_parts (nat_eq x.0 id) (has_node nat_eq xs id) e).0, there)
           | Greater ↦ λ f.
-              ap (λ b. p x && b) (beside xs (or_rest (nat_eq x.0 id) (has_node nat_eq xs id) e)) ∙ and_swap (p (id, node)) (p x) (list_all p xs)
+              ap (λ b. p x && b) (beside xs (or_parts (nat_eq x.0 id) (has_node nat_eq xs id) e).1) ∙ and_swap (p (id, node)) (p x) (list_all p xs)
         ] refl
 
 -- new nodes come in beside those that are there
 pub all-with_new_nodes : (p : ℕ × List ℕ → Bool) (news nodes : List (ℕ × List ℕ)) → IsRisingByFirst nat_cmp news
     → list_all p (with_new_nodes nat_eq nat_cmp nodes news) ≡ (list_all p nodes && list_all (λ (x : ℕ × List ℕ). has_node nat_eq nodes x.0 || p x) news)
-all-with_new_nodes p [] nodes k = and_true (list_all p nodes)
+all-with_new_nodes p [] nodes k = sym (and-true (list_all p nodes))
 all-with_new_nodes p (n ∷ news) nodes k =
     all-with_new_nodes p news (with_new_node nat_eq nat_cmp nodes n.0 n.1) k.1
     ∙ ap (λ b. list_all p (with_new_node nat_eq nat_cmp nodes n.0 n.1) && b) (same_above news k.0)
@@ -344,7 +295,7 @@ all-with_new_nodes p (n ∷ news) nodes k =
     same_above [] h = refl
     same_above (x ∷ xs) h =
         ap (λ b. (b || p x) && list_all (λ (y : ℕ × List ℕ). has_node nat_eq (with_new_node nat_eq nat_cmp nodes n.0 n.1) y.0 || p y) xs)
-        (has_with_new_nodes nat_eq nat_cmp equal_same identical nodes (n ∷ []) x.0 ∙ ap (λ b. has_node nat_eq nodes x.0 || (b || false)) (less_apart n.0 x.0 h.0) ∙ or_false (has_node nat_eq nodes x.0))
+        (has_with_new_nodes nat_eq nat_cmp exact_unsigned eqb-true nodes (n ∷ []) x.0 ∙ ap (λ b. has_node nat_eq nodes x.0 || (b || false)) (less_apart n.0 x.0 h.0) ∙ or-false (has_node nat_eq nodes x.0))
         ∙ ap (λ b. (has_node nat_eq nodes x.0 || p x) && b) (same_above xs h.1)
 
 pub count_of_ids : (group : List ℕ) (nodes : List (ℕ × List ℕ)) → count_by (λ (x : ℕ × List ℕ). not (has_id nat_eq group x.0)) nodes ≡ count_by (λ id. not (has_id nat_eq group id)) (ids_of nodes)
@@ -359,32 +310,32 @@ count_of_ids group (n ∷ nodes) =
 -- there are few nodes, and all of them are short, where new ones come in
 abbrev pub is_fit_with_new : List (ℕ × List ℕ) → List (ℕ × List ℕ) → Bool
 is_fit_with_new nodes news =
-    nat_le (length nodes + count_by (λ (x : ℕ × List ℕ). not (has_node nat_eq nodes x.0)) news) 128
-    && (list_all is_short_node nodes && list_all (λ (x : ℕ × List ℕ). has_node nat_eq nodes x.0 || is_short_node x) news)
+    are_few_nodes (length nodes + count_by (λ (x : ℕ × List ℕ). not (has_node nat_eq nodes x.0)) news)
+    && (list_all (λ (x : ℕ × List ℕ). is_short_address x.1) nodes && list_all (λ (x : ℕ × List ℕ). has_node nat_eq nodes x.0 || is_short_address x.1) news)
 
 pub fit_with_new : (nodes news : List (ℕ × List ℕ)) → IsRisingByFirst nat_cmp nodes → IsRisingByFirst nat_cmp news
     → is_fit_with_new nodes news ≡ are_fit_nodes (with_new_nodes nat_eq nat_cmp nodes news)
 fit_with_new nodes news h k =
-    ap (λ n. nat_le n 128 && (list_all is_short_node nodes && list_all (λ (x : ℕ × List ℕ). has_node nat_eq nodes x.0 || is_short_node x) news)) (sym (length-with_new_nodes nodes news h k))
-    ∙ ap (λ b. nat_le (length (with_new_nodes nat_eq nat_cmp nodes news)) 128 && b) (sym (all-with_new_nodes is_short_node news nodes k))
+    ap (λ n. are_few_nodes n && (list_all (λ (x : ℕ × List ℕ). is_short_address x.1) nodes && list_all (λ (x : ℕ × List ℕ). has_node nat_eq nodes x.0 || is_short_address x.1) news)) (sym (length-with_new_nodes nodes news h k))
+    ∙ ap (λ b. are_few_nodes (length (with_new_nodes nat_eq nat_cmp nodes news)) && b) (sym (all-with_new_nodes (λ (x : ℕ × List ℕ). is_short_address x.1) news nodes k))
 
 -- the same where they take the place of those with their ids
 abbrev pub is_fit_with : List (ℕ × List ℕ) → List (ℕ × List ℕ) → Bool
 is_fit_with nodes news =
-    nat_le (length nodes + count_by (λ (x : ℕ × List ℕ). not (has_node nat_eq nodes x.0)) news) 128
-    && (list_all (λ (x : ℕ × List ℕ). has_node nat_eq news x.0 || is_short_node x) nodes && list_all is_short_node news)
+    are_few_nodes (length nodes + count_by (λ (x : ℕ × List ℕ). not (has_node nat_eq nodes x.0)) news)
+    && (list_all (λ (x : ℕ × List ℕ). has_node nat_eq news x.0 || is_short_address x.1) nodes && list_all (λ (x : ℕ × List ℕ). is_short_address x.1) news)
 
 pub fit_with : (nodes news : List (ℕ × List ℕ)) → IsRisingByFirst nat_cmp nodes → IsRisingByFirst nat_cmp news
     → is_fit_with nodes news ≡ are_fit_nodes (with_nodes nat_cmp nodes news)
 fit_with nodes news h k =
-    ap (λ n. nat_le n 128 && (list_all (λ (x : ℕ × List ℕ). has_node nat_eq news x.0 || is_short_node x) nodes && list_all is_short_node news)) (sym (length-with_nodes nodes news h k))
-    ∙ ap (λ b. nat_le (length (with_nodes nat_cmp nodes news)) 128 && b) (sym (all-with_nodes is_short_node news nodes h k))
+    ap (λ n. are_few_nodes n && (list_all (λ (x : ℕ × List ℕ). has_node nat_eq news x.0 || is_short_address x.1) nodes && list_all (λ (x : ℕ × List ℕ). is_short_address x.1) news)) (sym (length-with_nodes nodes news h k))
+    ∙ ap (λ b. are_few_nodes (length (with_nodes nat_cmp nodes news)) && b) (sym (all-with_nodes (λ (x : ℕ × List ℕ). is_short_address x.1) news nodes h k))
 
 -- and where some leave
 abbrev pub is_fit_without : List (ℕ × List ℕ) → List ℕ → Bool
 is_fit_without nodes ids =
-    nat_le (count_by (λ (x : ℕ × List ℕ). not (has_id nat_eq ids x.0)) nodes) 128
-    && list_all (λ (x : ℕ × List ℕ). has_id nat_eq ids x.0 || is_short_node x) nodes
+    are_few_nodes (count_by (λ (x : ℕ × List ℕ). not (has_id nat_eq ids x.0)) nodes)
+    && list_all (λ (x : ℕ × List ℕ). has_id nat_eq ids x.0 || is_short_address x.1) nodes
 
 all-without : (p : ℕ × List ℕ → Bool) (ids : List ℕ) (nodes : List (ℕ × List ℕ))
     → list_all (λ (x : ℕ × List ℕ). has_id nat_eq ids x.0 || p x) nodes ≡ list_all p (without_nodes nat_eq nodes ids)
@@ -398,5 +349,5 @@ all-without p ids (n ∷ nodes) =
 
 pub fit_without : (nodes : List (ℕ × List ℕ)) (ids : List ℕ) → is_fit_without nodes ids ≡ are_fit_nodes (without_nodes nat_eq nodes ids)
 fit_without nodes ids =
-    ap (λ n. nat_le n 128 && list_all (λ (x : ℕ × List ℕ). has_id nat_eq ids x.0 || is_short_node x) nodes) (sym (length-filter (λ (x : ℕ × List ℕ). not (has_id nat_eq ids x.0)) nodes))
-    ∙ ap (λ b. nat_le (length (without_nodes nat_eq nodes ids)) 128 && b) (all-without is_short_node ids nodes)
+    ap (λ n. are_few_nodes n && list_all (λ (x : ℕ × List ℕ). has_id nat_eq ids x.0 || is_short_address x.1) nodes) (sym (length-filter (λ (x : ℕ × List ℕ). not (has_id nat_eq ids x.0)) nodes))
+    ∙ ap (λ b. are_few_nodes (length (without_nodes nat_eq nodes ids)) && b) (all-without (λ (x : ℕ × List ℕ). is_short_address x.1) ids nodes)

@@ -1,5 +1,5 @@
 -- The reasons of refusals, told by the facts of a group alone.
-use Rattle.std.specs.Prelude.{◌≡◌, ℕ, Bool, true, false, ◌+◌, ◌<◌, ◌==◌, ◌&&◌, ◌||◌, not, nat_lt, nat_le, length, List, [], ◌∷◌, Option, Some, None}
+use Rattle.std.specs.Prelude.{◌≡◌, ℕ, Bool, true, false, ◌+◌, ◌<◌, ◌==◌, ◌&&◌, ◌||◌, not, List, [], ◌∷◌, Option, Some, None}
 use Rattle.raft_values.specs.declared.vote.Vote.{Vote}
 use Rattle.raft_values.specs.declared.log_id.LogId.{LogId}
 use Rattle.raft_conditions.specs.declared.facts.GroupFacts.{GroupFacts}
@@ -10,12 +10,10 @@ use Rattle.raft_group_step.specs.GroupEvent.{GroupCall}
 use Rattle.raft_group_step.specs.declared.group_call.GroupCall.TheVariants.{Initialize, Elect, Propose, ChangeMembership, Heartbeat, Lost, TriggerSnapshot, TriggerPurge}
 use Rattle.raft_group_step.specs.StepResult.{RefusalReason, NotLeader, UnknownGroup, NotAllowed, NotVoter, MembershipRefused}
 use Rattle.raft_group_step.specs.StepResult.{InProgress, CommandTooLong, NumberAtEnd, WrongParty, BreaksCondition, is_within}
-use Rattle.raft_group_step.specs.Refusal.{are_in_range, command_limit, first_of_reasons, is_first_membership, is_voter_in, known_leader, number_limit, reasons_of_change, unless}
+use Rattle.raft_group_step.specs.Limits.{is_low, is_short_command, number_limit}
+use Rattle.raft_group_step.specs.Refusal.{are_in_range, first_of_reasons, is_first_membership, is_voter_in, known_leader, reasons_of_change, unless}
 
 -- ---- numbers
-
-abbrev pub is_low : ℕ → Bool
-is_low n = nat_lt n number_limit
 
 abbrev pub is_low_id : LogId ℕ → Bool
 is_low_id id = is_low id.leader_id.term && is_low id.index
@@ -69,7 +67,7 @@ call_reasons_by f now Elect =
     range_reason_by f (now ∷ next_term_by f ∷ f.end ∷ [])
     ∷ unless (is_voter_in (logged_or_none f.membership) f.own) NotVoter ∷ []
 call_reasons_by f now (Propose command token) =
-    unless (nat_le (length command) command_limit) CommandTooLong
+    unless (is_short_command command) CommandTooLong
     ∷ range_reason_by f (now ∷ f.end ∷ []) ∷ lead_reason_by f ∷ []
 call_reasons_by f now (ChangeMembership change token) =
     range_reason_by f (now ∷ f.end ∷ []) ∷ lead_reason_by f

@@ -1,5 +1,5 @@
 -- The facts of a group by which its events are judged.
-use Rattle.std.specs.Prelude.{◌≡◌, ℕ, nat_lt, Option, option_map}
+use Rattle.std.specs.Prelude.{◌≡◌, ℕ, Option, option_map}
 use Rattle.raft_conditions.specs.declared.facts.GroupFacts.{GroupFacts}
 use Rattle.raft_conditions.specs.declared.refusal.Refusal.{Refusal}
 use Rattle.raft_messages.specs.Memberships.{logged_or_none}
@@ -7,7 +7,8 @@ use Rattle.raft_group_step.specs.StoredGroup.{end_place, membership_in_force}
 use Rattle.raft_group_step.specs.GroupState.{GroupState, is_leader, is_candidate}
 use Rattle.raft_group_step.specs.GroupEvent.{GroupEvent}
 use Rattle.raft_group_step.specs.Initialize.{is_new}
-use Rattle.raft_group_step.specs.Refusal.{are_in_range, next_ids, number_limit, refusal_of}
+use Rattle.raft_group_step.specs.Limits.{is_low}
+use Rattle.raft_group_step.specs.Refusal.{are_in_range, next_ids, refusal_of}
 use Rattle.raft_conditions.specs.Reason.{reason_of}
 
 -- these are the facts of the group at the node
@@ -21,7 +22,7 @@ pub record IsFactsOf (own : ℕ) (facts : GroupFacts) (s : GroupState) : Type 0 
   pub stands : facts.is_candidate ≡ is_candidate s.role
   pub log_end : facts.end ≡ end_place s.stored
   pub last_committed : facts.committed ≡ s.committed
-  pub next_requests : are_in_range (next_ids s.role) ≡ nat_lt facts.greatest_next_id number_limit
+  pub next_requests : are_in_range (next_ids s.role) ≡ is_low facts.greatest_next_id
 
 -- in each group that has these facts the event is refused for this reason, or for none
 abbrev pub IsRefusalOf : GroupFacts → GroupEvent → Option (Refusal ℕ) → Type 0

@@ -1,10 +1,10 @@
 -- Whether what a change makes of a membership is valid and within the limits, told without making it.
-use Rattle.std.specs.Prelude.{ℕ, Bool, ◌&&◌, ◌||◌, not, ◌==◌, nat_eq, nat_le, List, [], ◌∷◌, length, map, Option}
+use Rattle.std.specs.Prelude.{ℕ, Bool, ◌&&◌, ◌||◌, not, ◌==◌, nat_eq, List, [], ◌∷◌, length, map, Option}
 use Rattle.std.specs.List.{list_all, list_any}
 use Rattle.std.specs.Cmp.Lexicographic.{pointwise}
 use Rattle.raft_quorums.specs.Quorum.{last_config}
 use Rattle.raft_membership.specs.MembershipChange.{without_ids}
-use Rattle.raft_group_step.specs.Limits.{address_limit, node_limit, voter_group_limit, voter_limit}
+use Rattle.raft_group_step.specs.Limits.{are_few_groups, are_few_nodes, are_few_voters, is_short_address}
 use Rattle.raft_group_step.specs.Refusal.{first_of_reasons, unless}
 use Rattle.raft_group_step.specs.StepResult.{RefusalReason, MembershipRefused, VoterChange}
 use Rattle.raft_group_step.specs.Values.{configs_eq}
@@ -25,11 +25,11 @@ goal_of (Stayers group leavers) = without_ids nat_eq group.now leavers.now
 
 -- the group has somebody, not too many, and each of them is known
 abbrev pub is_fit_group : (ℕ → Bool) → List ℕ → Bool
-is_fit_group known group = not (length group == 0) && nat_le (length group) voter_limit && list_all known group
+is_fit_group known group = not (length group == 0) && are_few_voters (length group) && list_all known group
 
 -- there are not too many groups, and each is fit
 abbrev pub are_fit_groups : (ℕ → Bool) → List (List ℕ) → Bool
-are_fit_groups known configs = nat_le (length configs) voter_group_limit && list_all (is_fit_group known) configs
+are_fit_groups known configs = are_few_groups configs && list_all (is_fit_group known) configs
 
 -- the last group, if there is one, is fit
 abbrev pub is_last_fit : (ℕ → Bool) → List (List ℕ) → Bool
@@ -39,13 +39,10 @@ is_last_fit known configs = length configs == 0 || is_fit_group known (last_conf
 abbrev pub is_there : List ℕ → List (List ℕ) → Bool
 is_there goal configs = list_any (λ group. pointwise nat_eq group goal) configs
 
--- the address is short enough
-abbrev pub is_short_node : ℕ × List ℕ → Bool
-is_short_node node = nat_le (length node.1) address_limit
-
 -- there are not too many nodes, and each address is short
 abbrev pub are_fit_nodes : List (ℕ × List ℕ) → Bool
-are_fit_nodes nodes = nat_le (length nodes) node_limit && list_all is_short_node nodes
+are_fit_nodes nodes =
+    are_few_nodes (length nodes) && list_all (λ (x : ℕ × List ℕ). is_short_address x.1) nodes
 
 -- why these voter groups don't follow the old ones, where these nodes are known
 abbrev pub reason_of_step : (ℕ → Bool) → List (List ℕ) → List (List ℕ) → Bool → Option RefusalReason

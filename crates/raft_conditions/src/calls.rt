@@ -1,19 +1,19 @@
 //! When a call is refused.
 ghost use Rattle.std.specs.Prelude.{◌≡◌, ◌∷◌, ◌+◌, ◌<◌, ◌^◌, ◌&&◌, [], ℕ, Option, option_map, IfNone, IfOk, IsOk, true, None};
 ghost use Rattle.raft_group_step.specs.GroupEvent.{AddGroup, Call, GroupCall};
+ghost use Rattle.raft_group_step.specs.Limits.{is_low};
 ghost use Rattle.raft_group_step.specs.Refusal.{are_in_range, first_of_reasons, is_voter_in, known_leader, reasons_of_change};
 ghost use Rattle.raft_group_step.specs.declared.group_call.GroupCall.TheVariants.{Initialize, Elect, Propose, ChangeMembership, Heartbeat, TriggerSnapshot};
-ghost use Rattle.raft_conditions.specs.ByFacts.{AreLow, call_numbers, call_reason_by, early_reasons_by, is_low, is_settled_by, lead_reason_by, next_term_by};
+ghost use Rattle.raft_conditions.specs.ByFacts.{AreLow, call_numbers, call_reason_by, early_reasons_by, is_settled_by, lead_reason_by, next_term_by};
 ghost use Rattle.raft_conditions.specs.Facts.{IsRefusalOf};
 ghost use Rattle.raft_messages.specs.Memberships.{logged_or_none};
 ghost use Rattle.raft_conditions.specs.Reason.{reason_of};
 
 use crate::facts::{GroupCommand, GroupFacts};
 use crate::judging::change_refusal;
-use crate::ranges::is_low;
 use crate::refusal::Refusal;
 use raft_group_step::GroupCall;
-use raft_messages::{MAX_COMMAND_BYTES, NUMBER_LIMIT, is_first_membership};
+use raft_messages::{is_first_membership, is_low, is_short_command};
 use raft_state::{BasicNode, Bytes, ChangeMembers, Membership};
 use std::alloc::{AllocError, Global};
 
@@ -36,7 +36,7 @@ impl<'a> GroupFacts<'a> {
     fn is_next_term_low(&self) -> bool
         ensures { result ≡ is_low (next_term_by self.now) }
     {
-        self.vote.leader_id.term < NUMBER_LIMIT - 1
+        is_low(self.vote.leader_id.term.saturating_add(1))
     }
 
     // Whether the moment and the numbers of the leader's next requests are below the limit.
@@ -106,7 +106,7 @@ impl<'a> GroupFacts<'a> {
         ensures reason { (token : ℕ) → option_map reason_of result ≡ call_reason_by self.now now (Propose command.now token) }
         ensures numbers { IfNone result (AreLow (now ∷ self.now.greatest_next_id ∷ self.now.end ∷ [])) }
     {
-        if command.len() > MAX_COMMAND_BYTES {
+        if !is_short_command(command) {
             return Some(Refusal::CommandTooLong);
         }
         if !self.is_moment_low(now) || !is_low(self.end) {

@@ -1,16 +1,18 @@
 //! Whether voter groups and nodes are valid and within the limits, told without making them.
-ghost use Rattle.std.specs.Prelude.{◌≡◌, ◌+◌, ◌&&◌, ◌||◌, ◌==◌, count_by, length, nat_eq, nat_le, not};
+ghost use Rattle.std.specs.Prelude.{◌≡◌, ◌+◌, ◌&&◌, ◌||◌, ◌==◌, count_by, length, nat_eq, not};
 ghost use Rattle.std.specs.List.{list_all};
 ghost use Rattle.std.specs.Ordering.{nat_cmp};
 ghost use Rattle.raft_quorums.specs.Nodes.{has_id, has_node, with_new_nodes, with_nodes};
 ghost use Rattle.raft_quorums.specs.Quorum.{last_config};
 ghost use Rattle.raft_quorums.specs.Rising.{IsRising};
 ghost use Rattle.raft_membership.specs.MembershipChange.{without_nodes};
-ghost use Rattle.raft_group_step.specs.Limits.{address_limit, node_limit};
-ghost use Rattle.raft_conditions.specs.Fitting.{are_fit_groups, are_fit_nodes, is_fit_group, is_last_fit, is_short_node};
+ghost use Rattle.raft_group_step.specs.Limits.{are_few_nodes, is_short_address};
+ghost use Rattle.raft_conditions.specs.Fitting.{are_fit_groups, are_fit_nodes, is_fit_group, is_last_fit};
 
 use crate::goal::are_ids_in;
-use raft_messages::{MAX_ADDRESS_BYTES, MAX_NODES, MAX_VOTER_GROUPS, MAX_VOTERS};
+use raft_messages::{
+    are_addresses_short, are_few_groups, are_few_nodes, are_few_voters, is_short_address,
+};
 use raft_state::{BasicNode, HasId, IdSet, Membership, NodeMap};
 
 // The ids of the membership's nodes.
@@ -70,7 +72,7 @@ fn has_node(nodes: &[(u64, BasicNode)], id: &u64) -> bool
 pub(crate) fn is_fit_group<S: HasId<u64>>(group: &[u64], nodes: &S) -> bool
     ensures { result ≡ is_fit_group (S.has nodes.now) group.now }
 {
-    !group.is_empty() && group.len() <= MAX_VOTERS && are_ids_in(group, nodes)
+    !group.is_empty() && are_few_voters(group.len()) && are_ids_in(group, nodes)
 }
 
 // Whether each can be a voter group where the nodes are these.
@@ -86,7 +88,7 @@ fn is_each_fit<S: HasId<u64>>(groups: &[IdSet<u64>], nodes: &S) -> bool
 pub(crate) fn are_fit_groups<S: HasId<u64>>(groups: &[IdSet<u64>], nodes: &S) -> bool
     ensures { result ≡ are_fit_groups (S.has nodes.now) groups.now }
 {
-    groups.len() <= MAX_VOTER_GROUPS && is_each_fit(groups, nodes)
+    are_few_groups(groups) && is_each_fit(groups, nodes)
 }
 
 // The ids of the last voter group; none where there is no group.
@@ -109,36 +111,20 @@ pub(crate) fn is_last_fit<S: HasId<u64>>(groups: &[IdSet<u64>], nodes: &S) -> bo
 
 // ---- nodes
 
-// Whether the address has at most so many bytes as it may have.
-fn is_short(node: &BasicNode) -> bool
-    ensures { result ≡ nat_le (length node.now) address_limit }
-{
-    node.addr.len() <= MAX_ADDRESS_BYTES
-}
-
-// Whether all addresses are short.
-fn are_short(nodes: &[(u64, BasicNode)]) -> bool
-    ensures { result ≡ list_all is_short_node nodes.now }
-{
-    nodes.iter().all(|node| is_short(&node.1))
-}
-
 // Whether all addresses are short but for those of nodes that are among the others.
 fn are_short_or_among(nodes: &[(u64, BasicNode)], others: &[(u64, BasicNode)]) -> bool
-    ensures { result ≡ list_all (λ x. has_node nat_eq others.now x.0 || is_short_node x) nodes.now }
+    ensures { result ≡ list_all (λ x. has_node nat_eq others.now x.0 || is_short_address x.1) nodes.now }
 {
-    nodes
-        .iter()
-        .all(|node| has_node(others, &node.0) || is_short(&node.1))
+    nodes.iter().all(|node| has_node(others, &node.0) || is_short_address(&node.1))
 }
 
 // Whether all addresses are short but for those of nodes with these ids.
 fn are_short_or_gone(nodes: &[(u64, BasicNode)], ids: &IdSet<u64>) -> bool
-    ensures { result ≡ list_all (λ x. has_id nat_eq ids.now x.0 || is_short_node x) nodes.now }
+    ensures { result ≡ list_all (λ x. has_id nat_eq ids.now x.0 || is_short_address x.1) nodes.now }
 {
     nodes
         .iter()
-        .all(|node| ids.contains(&node.0) || is_short(&node.1))
+        .all(|node| ids.contains(&node.0) || is_short_address(&node.1))
 }
 
 // How many of the others have ids that the nodes don't have.
@@ -160,40 +146,40 @@ fn count_left(nodes: &[(u64, BasicNode)], ids: &IdSet<u64>) -> usize
 
 // Whether both together are few enough.
 fn are_few(nodes: &[(u64, BasicNode)], others: &[(u64, BasicNode)]) -> bool
-    ensures { result ≡ nat_le (length nodes.now + count_by (λ x. not (has_node nat_eq nodes.now x.0)) others.now) node_limit }
+    ensures { result ≡ are_few_nodes (length nodes.now + count_by (λ x. not (has_node nat_eq nodes.now x.0)) others.now) }
 {
-    nodes.len() <= MAX_NODES && count_new(nodes, others) <= MAX_NODES - nodes.len()
+    are_few_nodes(nodes.len().saturating_add(count_new(nodes, others)))
 }
 
 // Whether these nodes are within the limits.
 pub(crate) fn are_fit_nodes(nodes: &[(u64, BasicNode)]) -> bool
     ensures { result ≡ are_fit_nodes nodes.now }
 {
-    nodes.len() <= MAX_NODES && are_short(nodes)
+    are_few_nodes(nodes.len()) && are_addresses_short(nodes)
 }
 
 // Whether nodes are within the limits that have these and the new ones of the others.
 fn are_few_and_short(nodes: &[(u64, BasicNode)], others: &[(u64, BasicNode)]) -> bool
-    ensures { result ≡ (nat_le (length nodes.now + count_by (λ x. not (has_node nat_eq nodes.now x.0)) others.now) node_limit
-        && (list_all is_short_node nodes.now && list_all (λ x. has_node nat_eq nodes.now x.0 || is_short_node x) others.now)) }
+    ensures { result ≡ (are_few_nodes (length nodes.now + count_by (λ x. not (has_node nat_eq nodes.now x.0)) others.now)
+        && (list_all (λ x. is_short_address x.1) nodes.now && list_all (λ x. has_node nat_eq nodes.now x.0 || is_short_address x.1) others.now)) }
 {
-    are_few(nodes, others) && (are_short(nodes) && are_short_or_among(others, nodes))
+    are_few(nodes, others) && (are_addresses_short(nodes) && are_short_or_among(others, nodes))
 }
 
 // The same where the others take the place of those with their ids.
 fn are_few_and_short_with(nodes: &[(u64, BasicNode)], others: &[(u64, BasicNode)]) -> bool
-    ensures { result ≡ (nat_le (length nodes.now + count_by (λ x. not (has_node nat_eq nodes.now x.0)) others.now) node_limit
-        && (list_all (λ x. has_node nat_eq others.now x.0 || is_short_node x) nodes.now && list_all is_short_node others.now)) }
+    ensures { result ≡ (are_few_nodes (length nodes.now + count_by (λ x. not (has_node nat_eq nodes.now x.0)) others.now)
+        && (list_all (λ x. has_node nat_eq others.now x.0 || is_short_address x.1) nodes.now && list_all (λ x. is_short_address x.1) others.now)) }
 {
-    are_few(nodes, others) && (are_short_or_among(nodes, others) && are_short(others))
+    are_few(nodes, others) && (are_short_or_among(nodes, others) && are_addresses_short(others))
 }
 
 // Whether those that are left are few enough, and short.
 fn are_left_short(nodes: &[(u64, BasicNode)], ids: &IdSet<u64>) -> bool
-    ensures { result ≡ (nat_le (count_by (λ x. not (has_id nat_eq ids.now x.0)) nodes.now) node_limit
-        && list_all (λ x. has_id nat_eq ids.now x.0 || is_short_node x) nodes.now) }
+    ensures { result ≡ (are_few_nodes (count_by (λ x. not (has_id nat_eq ids.now x.0)) nodes.now)
+        && list_all (λ x. has_id nat_eq ids.now x.0 || is_short_address x.1) nodes.now) }
 {
-    count_left(nodes, ids) <= MAX_NODES && are_short_or_gone(nodes, ids)
+    are_few_nodes(count_left(nodes, ids)) && are_short_or_gone(nodes, ids)
 }
 
 // Whether the membership's nodes are within the limits.

@@ -1,11 +1,11 @@
 //! Why a membership isn't changed, told without making what the change asks for.
-ghost use Rattle.std.specs.Prelude.{◌≡◌, ◌+◌, ◌&&◌, ◌||◌, ◌==◌, ◌∷◌, [], count_by, length, nat_eq, nat_le, not, option_map};
+ghost use Rattle.std.specs.Prelude.{◌≡◌, ◌+◌, ◌&&◌, ◌||◌, ◌==◌, ◌∷◌, [], count_by, length, nat_eq, not, option_map};
 ghost use Rattle.std.specs.Ordering.{nat_cmp};
 ghost use Rattle.std.specs.List.{list_all};
 ghost use Rattle.std.specs.Cmp.Lexicographic.{pointwise};
 ghost use Rattle.raft_quorums.specs.Nodes.{has_id, with_ids};
 ghost use Rattle.raft_quorums.specs.Quorum.{last_config, next_configs};
-ghost use Rattle.raft_group_step.specs.Limits.{voter_limit};
+ghost use Rattle.raft_group_step.specs.Limits.{are_few_voters};
 ghost use Rattle.raft_group_step.specs.Refusal.{change_reasons, first_of_reasons, unless};
 ghost use Rattle.raft_group_step.specs.StepResult.{MembershipRefused, VoterChange};
 ghost use Rattle.raft_group_step.specs.Values.{after_change};
@@ -18,7 +18,7 @@ use crate::fitting::{
 };
 use crate::goal::{Goal, Newcomers};
 use crate::refusal::Refusal;
-use raft_messages::MAX_VOTERS;
+use raft_messages::are_few_voters;
 use raft_state::{BasicNode, ChangeMembers, HasId, IdSet, Membership};
 
 // The reason where groups and nodes fit or not, and the voter groups stay or not.
@@ -52,7 +52,7 @@ fn is_only_group(groups: &[IdSet<u64>], goal: &Goal) -> bool
 fn is_fit<S: HasId<u64>>(goal: &Goal, nodes: &S) -> bool
     ensures { result ≡ is_fit_group (S.has nodes.now) (goal_of goal.now) }
 {
-    goal.len() != 0 && goal.len() <= MAX_VOTERS && goal.are_known(nodes)
+    goal.len() != 0 && are_few_voters(goal.len()) && goal.are_known(nodes)
 }
 
 // Whether the goal, and the last voter group where the goal is none yet, are fit.
@@ -64,15 +64,15 @@ fn is_step_fit<S: HasId<u64>>(groups: &[IdSet<u64>], goal: &Goal, nodes: &S) -> 
 
 // Whether there is room in the group for those who are new there.
 fn has_room(group: &[u64], newcomers: &Newcomers) -> bool
-    ensures { result ≡ nat_le (length group.now + count_by (λ id. not (has_id nat_eq group.now id)) (ids_of newcomers.now)) voter_limit }
+    ensures { result ≡ are_few_voters (length group.now + count_by (λ id. not (has_id nat_eq group.now id)) (ids_of newcomers.now)) }
 {
-    group.len() <= MAX_VOTERS && newcomers.count_new(group) <= MAX_VOTERS - group.len()
+    are_few_voters(group.len().saturating_add(newcomers.count_new(group)))
 }
 
 // Whether the group with the newcomers can be a voter group where the nodes are these.
 fn is_wider_fit<S: HasId<u64>>(group: &[u64], newcomers: &Newcomers, nodes: &S) -> bool
     ensures { result ≡ (is_fit_group (S.has nodes.now) group.now && list_all (S.has nodes.now) (ids_of newcomers.now)
-        && nat_le (length group.now + count_by (λ id. not (has_id nat_eq group.now id)) (ids_of newcomers.now)) voter_limit) }
+        && are_few_voters (length group.now + count_by (λ id. not (has_id nat_eq group.now id)) (ids_of newcomers.now))) }
 {
     is_fit_group(group, nodes) && newcomers.are_in(nodes) && has_room(group, newcomers)
 }

@@ -14,10 +14,10 @@ ghost use Rattle.raft_messages.specs.Messages.{append_fields_of, outcome_of, rep
 use crate::entries::{do_follow, has_known_configs, keep_voters};
 use crate::facts::{GroupFacts, Parties};
 use crate::ranges::{
-    are_low_entries, is_low, is_low_id, is_low_id_or_none, is_low_outcome, is_low_request,
+    are_low_entries, is_low_id, is_low_id_or_none, is_low_outcome, is_low_request,
 };
 use crate::refusal::Refusal;
-use raft_messages::{AppendFields, ReplyFields, ReplyResult, SnapshotHead};
+use raft_messages::{AppendFields, ReplyFields, ReplyResult, SnapshotHead, is_low};
 use raft_state::{LogId, Vote, votes_by_term_node_committed};
 use std::cmp::Ordering;
 

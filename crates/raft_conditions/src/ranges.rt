@@ -1,18 +1,11 @@
 //! Whether the numbers of an event are low enough.
 ghost use Rattle.std.specs.Prelude.{◌≡◌};
 ghost use Rattle.raft_group_step.specs.Refusal.{are_in_range, numbers_of_entries, numbers_of_id, numbers_of_request, numbers_of_result};
-ghost use Rattle.raft_conditions.specs.ByFacts.{is_low, is_low_id};
+ghost use Rattle.raft_conditions.specs.ByFacts.{is_low_id};
 ghost use Rattle.raft_messages.specs.Messages.{outcome_of, request_id_of};
 
-use raft_messages::{GroupEntry, NUMBER_LIMIT, ReplyResult, RequestId};
+use raft_messages::{GroupEntry, ReplyResult, RequestId, is_low};
 use raft_state::LogId;
-
-// Whether a number is below the limit.
-pub(crate) fn is_low(number: u64) -> bool
-    ensures { result ≡ is_low number }
-{
-    number < NUMBER_LIMIT
-}
 
 // Whether the term and the place of a log id are below the limit.
 pub(crate) fn is_low_id(id: LogId<u64>) -> bool

@@ -1,7 +1,7 @@
 //! Stored groups.
 
 use raft_executor::{meta_of, stored_meta};
-use raft_messages::GroupEntry;
+use raft_messages::{GroupEntry, copies_of};
 use raft_rows::{Answer, number};
 use raft_state::{BasicNode, Entry, EntryPayload, LeaderId, LogId, SnapshotMeta, Vote};
 use raft_stored_group::{GroupSnapshot, StoredGroup};
@@ -95,9 +95,14 @@ fn length(group: &StoredGroup) -> usize {
 }
 
 // How many entries are copied of those behind a place up to another.
-fn count_between(group: &StoredGroup, first: u64, last: u64) -> Result<usize, AllocError> {
-    let copies = group.entries_between(Some(log_id(first)), Some(log_id(last)))?;
-    Ok(copies.len())
+fn count_between(
+    group: &StoredGroup,
+    alloc: Global,
+    first: u64,
+    last: u64,
+) -> Result<usize, AllocError> {
+    let lent = group.between(Some(log_id(first)), Some(log_id(last)));
+    Ok(copies_of(alloc, lent)?.len())
 }
 
 // How many are lent of those up to a place.
@@ -177,7 +182,7 @@ pub fn read(group: &StoredGroup, alloc: Global, words: &[&str]) -> Option<Answer
         ["count-to", last] => Some(Answer::shown(alloc, &count_to(group, number(last)))),
         [question, place] => Some(Answer::truth(is_so_at(group, question, number(place))?)),
         ["count-between", first, last] => {
-            let count = count_between(group, number(first), number(last));
+            let count = count_between(group, alloc, number(first), number(last));
             Some(Answer::shown(alloc, &count))
         }
         _ => None,

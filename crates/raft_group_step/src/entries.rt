@@ -1,8 +1,8 @@
 //! Entries in their order.
-ghost use Rattle.std.specs.Prelude.{◌≡◌, ◌≤◌, ◌++◌, ◌∷◌, [], length, drop, IfOk, OnOk, OnErr, IfErr, IsTrue, ◌↔◌};
+ghost use Rattle.std.specs.Prelude.{◌≡◌, ◌≤◌, ◌++◌, ◌∷◌, [], length, drop, OnOk, OnErr, IfErr, IsTrue, ◌↔◌};
 
 use raft_state::{Entry, Node, NodeId};
-use std::alloc::{AllocError, AllocFailed, Global};
+use std::alloc::{AllocFailed, Global};
 use std::marker::Model;
 
 /// Entries in their order (own). Contracts see them as a list.
@@ -28,6 +28,13 @@ impl<NID: NodeId, N: Node, D> Entries<NID, N, D> {
         Entries {
             items: Vec::new(alloc),
         }
+    }
+
+    /// The entries of a vector, which isn't copied.
+    pub fn from_vec(items: Vec<Entry<NID, N, D>>) -> Entries<NID, N, D>
+        ensures { result ≡ items.items }
+    {
+        Entries { items }
     }
 
     /// How many entries there are.
@@ -70,31 +77,5 @@ impl<NID: NodeId, N: Node, D: Drop> Entries<NID, N, D> {
         self.items.rotate_left(count);
         let left = self.items.len() - count;
         self.items.truncate(left);
-    }
-}
-
-// The same entries in the same order.
-#[tactic(auto, using(std::proofs::lemmas::Grind::common_steps))]
-fn copy_entries<NID: NodeId, N: Node, D: Clone>(
-    alloc: Global,
-    entries: &[Entry<NID, N, D>],
-) -> Result<Vec<Entry<NID, N, D>>, AllocError>
-    ensures { ((a b : D) → D.is_clone a b → b ≡ a) → IfOk result (λ copies. copies.items ≡ entries.now) }
-{
-    let mut copies = Vec::new(alloc);
-    for entry in entries {
-        copies.push(entry.clone()?)?;
-    }
-    Ok(copies)
-}
-
-impl<NID: NodeId, N: Node, D: Clone> Clone for Entries<NID, N, D> {
-    // Where clones of commands equal them, so do clones of entries.
-    ghost is_clone = { λ x y. ((a b : D) → D.is_clone a b → b ≡ a) → y ≡ x };
-
-    fn clone(&self) -> Result<Entries<NID, N, D>, AllocError> {
-        Ok(Entries {
-            items: copy_entries(*self.items.allocator(), self.items.as_slice())?,
-        })
     }
 }

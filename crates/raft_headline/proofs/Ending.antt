@@ -1,6 +1,7 @@
 -- Each token is told once, or unknown once, or lost once, or waits at a leader.
-use Rattle.std.specs.Prelude.{◌≡◌, ◌==◌, ℕ, zero, suc, Bool, true, false, if◌then◌else◌, List, [], ◌∷◌, map, slice_get, Option, Some, None, is_some, Contains, refl}
+use Rattle.std.specs.Prelude.{◌≡◌, ◌==◌, ℕ, zero, suc, Bool, true, false, if◌then◌else◌, List, [], ◌∷◌, slice_get, Option, Some, None, is_some, option_map, Contains, refl}
 use Rattle.std.proofs.Common.{inl, inr, sym, ap, ◌∙◌, subst, ⊎_elim}
+use Rattle.std.proofs.lemmas.Option.{slice_get-map}
 use Rattle.raft_group_step.specs.StoredGroup.{end_place}
 use Rattle.raft_group_step.specs.Message.{Message}
 use Rattle.raft_group_step.specs.GroupState.{Untold, is_leader}
@@ -62,11 +63,6 @@ told_at answers (u ∷ ts) (y ∷ xs) zero x are is =
       place = are.0.place ∙ ap (λ (v : Untold). v.place) same;
     }
 told_at answers (u ∷ ts) (y ∷ xs) (suc i) x are is = told_behind u ts x (told_at answers ts xs i x are.1 is)
-
-mapped_at : {A B : Type 0} (f : A → B) (xs : List A) (i : ℕ) (x : A) → slice_get xs i ≡ Some x → slice_get (map f xs) i ≡ Some (f x)
-mapped_at f [] i x is = absurd (let g : None ≡ Some x = is in cc)
-mapped_at f (y ∷ xs) zero x is = ap (λ z. Some (f z)) (let g : Some y ≡ Some x = is in let e : y ≡ x = cc in e)
-mapped_at f (y ∷ xs) (suc i) x is = mapped_at f xs i x is
 
 none_there : {A : Type 0} {P : Type 0} (i : ℕ) (x : A) → slice_get [] i ≡ Some x → P
 none_there i x is = absurd (let f : None ≡ Some x = is in cc)
@@ -131,10 +127,10 @@ module _ (h : ℕ) (r : Recorded) (opening : Bool) (answers : ℕ → Option (Li
   -- the outcome names what ended
   names_end : (fuses : r.outcome ≡ Fused → loses_silently (seen_by h r) Fused ≡ true) (what : Outcome) → Says h opening answers r.outcome what → (ended : List Numbered) (v : Numbered) → v.untold ≡ x → slice_get ended i ≡ Some v → Names what ended → Ends
   names_end fuses what says ended v same there names =
-      let placed : slice_get (untolds ended) i ≡ Some x = mapped_at (λ (w : Numbered). w.untold) ended i v there ∙ ap Some same in
+      let placed : slice_get (untolds ended) i ≡ Some x = slice_get-map (λ (w : Numbered). w.untold) ended i ∙ ap (option_map (λ (w : Numbered). w.untold)) there ∙ ap Some same in
       ⊎_elim
       (λ told. told_names r.outcome refl what says (ap (λ l. slice_get l i) told.0 ∙ placed))
-      (λ unknown. unknown_names fuses r.outcome refl what says (ap (λ l. slice_get l i) unknown.1 ∙ mapped_at (λ (u : Untold). u.token) (untolds ended) i x placed))
+      (λ unknown. unknown_names fuses r.outcome refl what says (ap (λ l. slice_get l i) unknown.1 ∙ slice_get-map (λ (u : Untold). u.token) (untolds ended) i ∙ ap (option_map (λ (u : Untold). u.token)) placed))
       names
 
 -- ---- the group's own events are calls, messages and openings
@@ -293,7 +289,7 @@ module _ (rules : MachineRules) (ids : List ℕ) (fit : AreNodeIds ids) (h : ℕ
   waits_on : (n : ℕ) (v : Numbered) → Contains (ledger_of es w n) v → ((number : ℕ) → EndsAt es w n v number → ⊥) → WaitsOn ids es end n v
   waits_on n v has never =
       let at = contains_at (ledger_of es w n) v has in
-      let untold : slice_get (untolds (ledger_of es w n)) at.0 ≡ Some v.untold = mapped_at (λ (u : Numbered). u.untold) (ledger_of es w n) at.0 v at.1 in
+      let untold : slice_get (untolds (ledger_of es w n)) at.0 ≡ Some v.untold = slice_get-map (λ (u : Numbered). u.untold) (ledger_of es w n) at.0 ∙ ap (option_map (λ (u : Numbered). u.untold)) at.1 in
       let there : untolds (ledger_of es w n) ≡ untold_in (end.world.nodes n) =
       ledgers_have_the_untold ids fit es n ∙ ap (λ (g : GroupWorld). untold_in (g.nodes n)) (runs rules h history numbers (new_replicas rules ids) end run)
       in

@@ -96,7 +96,8 @@ MayStore s Open x = ⊥
 abbrev pub PlacedLog : GroupState → Type 0
 PlacedLog s = (i : ℕ) (e : Entry) → entry_at s.stored i ≡ Some e → e.log_id.index ≡ i
 
-id_placed : (o : Option Entry) (i : ℕ) (id : LogId ℕ) → ((e : Entry) → o ≡ Some e → e.log_id.index ≡ i) → id_of o ≡ Some id → id.index ≡ i
+-- the entry that stands at a place has it
+pub id_placed : (o : Option Entry) (i : ℕ) (id : LogId ℕ) → ((e : Entry) → o ≡ Some e → e.log_id.index ≡ i) → id_of o ≡ Some id → id.index ≡ i
 id_placed None i id f e = absurd (let g : None ≡ Some id = e in cc)
 id_placed (Some x) i id f e = ap (λ (l : LogId ℕ). l.index) (let g : Some x.log_id ≡ Some id = e in let h : id ≡ x.log_id = cc in h) ∙ f x refl
 

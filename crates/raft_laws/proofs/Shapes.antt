@@ -9,6 +9,7 @@ use Rattle.raft_group_step.specs.Values.{Membership}
 use Rattle.raft_group_step.specs.Values.{Entry}
 use Rattle.raft_state.specs.declared.entry.EntryPayload.TheVariants.{Membership as Members}
 use Rattle.raft_group_step.specs.StoredGroup.{StoredGroup, Snapshot, PutEntries, CutFrom, RemoveUpTo, SetSnapshot, after_storing, first_place, end_place, entry_at, prefix_of, held}
+pub use Rattle.raft_group_step.proofs.EntryPlaces.{slice_drop}
 use Rattle.raft_laws.proofs.BallotAgreement.{slice_get-append}
 
 pub slice_take : {A : Type 0} (k : ℕ) (xs : List A) (i : ℕ) → i < k → slice_get (take k xs) i ≡ slice_get xs i
@@ -22,11 +23,6 @@ slice_taken zero xs i x e = absurd (none-some _ e)
 slice_taken (suc k) [] i x e = e
 slice_taken (suc k) (y ∷ xs) zero x e = e
 slice_taken (suc k) (y ∷ xs) (suc i) x e = slice_taken k xs i x e
-
-pub slice_drop : {A : Type 0} (k : ℕ) (xs : List A) (i : ℕ) → slice_get (drop k xs) i ≡ slice_get xs (k + i)
-slice_drop zero xs i = let e : i ≡ 0 + i = omega arith in ap (slice_get xs) e
-slice_drop (suc k) [] i = refl
-slice_drop (suc k) (x ∷ xs) i = let e : suc (k + i) ≡ suc k + i = omega arith in slice_drop k xs i ∙ ap (slice_get (x ∷ xs)) e
 
 pub slice_after : {A : Type 0} (xs ys : List A) (i : ℕ) → slice_get (xs ++ ys) (length xs + i) ≡ slice_get ys i
 slice_after [] ys i = let e : 0 + i ≡ i = omega arith in ap (slice_get ys) e

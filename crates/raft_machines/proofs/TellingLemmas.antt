@@ -1,5 +1,5 @@
 -- Tokens are told as their places are run.
-use Rattle.std.proofs.Common.{Bor, ◌≡◌, ◌==◌, ◌+◌, ◌<◌, ◌≤◌, ◌++◌, ℕ, suc, zero, List, [], ◌∷◌, Option, Some, None, option_map, Bool, true, false, cond, nat_lt, take, drop, length, slice_get, ap, sym, subst, ◌∙◌, refl, arith}
+use Rattle.std.proofs.Common.{Bor, ◌≡◌, ◌==◌, ◌+◌, ◌<◌, ◌≤◌, ◌++◌, ℕ, List, [], ◌∷◌, Option, Some, None, option_map, Bool, true, false, cond, nat_lt, take, drop, length, slice_get, ap, sym, subst, ◌∙◌, refl, arith}
 use Rattle.std.specs.Prelude.{IfSome, is_some}
 use Rattle.std.specs.List.{slice_index_or as get_or}
 use Rattle.std.specs.Option.{option_copied}
@@ -9,6 +9,7 @@ use Rattle.std.proofs.lemmas.List.{append-nil, append_assoc, drop-take, length-t
 use Rattle.std.proofs.lemmas.Option.{get_or_from_slice_get, slice_get-map, slice_get_past, slice_get_read, slice_get_within}
 use Rattle.raft_group_step.specs.Values.{Entry}
 use Rattle.raft_group_step.specs.GroupState.{Untold}
+use Rattle.raft_group_step.proofs.EntryPlaces.{slice_drop}
 use Rattle.raft_machines.specs.declared.telling.Told.{Told}
 use Rattle.raft_machines.specs.declared.telling.Untold.{Untold as AnUntold}
 use Rattle.raft_machines.specs.Machine.{MachineRules}
@@ -25,11 +26,6 @@ pub record AreToldUpTo (answers : ℕ → Option (List ℕ)) (waiting : List Unt
   pub wait : WaitFrom place end rest
 
 -- ---- what an entry is answered by
-
-slice_drop : {A : Type 0} (k : ℕ) (xs : List A) (i : ℕ) → slice_get (drop k xs) i ≡ slice_get xs (k + i)
-slice_drop zero xs i = let e : i ≡ 0 + i = omega arith in ap (slice_get xs) e
-slice_drop (suc k) [] i = refl
-slice_drop (suc k) (x ∷ xs) i = let e : suc (k + i) ≡ suc k + i = omega arith in slice_drop k xs i ∙ ap (slice_get (x ∷ xs)) e
 
 -- one entry more is one step more
 pub one_run : (rules : MachineRules) (state : List ℕ) (place : ℕ) (entries : List Entry) (index : ℕ) (e : Entry) → slice_get entries index ≡ Some e

@@ -5,7 +5,7 @@ use Rattle.std.specs.List.{list_all}
 use Rattle.std.proofs.Common.{ap, sym, ◌∙◌, subst, arith}
 use Rattle.std.proofs.lemmas.Bool.{eqb-true, and_from}
 use Rattle.std.proofs.lemmas.Bool.Decides.{nat_tests}
-use Rattle.std.proofs.Math.Bool.{true≢false}
+use Rattle.std.proofs.Math.Bool.{and_assoc, true≢false}
 use Rattle.raft_quorums.specs.Nodes.{has_node}
 use Rattle.raft_quorums.specs.QuorumLaws.{and_left, and_right}
 use Rattle.raft_progress.specs.declared.progress_entry.ProgressEntry.{ProgressEntry}
@@ -13,21 +13,15 @@ use Rattle.raft_progress.specs.Parts.{has_value, ids_of, value_of}
 use Rattle.raft_leaders.specs.Leader.{LeaderValue, peer_at, unknown_peer}
 use Rattle.raft_leaders.proofs.PeerLemmas.{somebody_has}
 use Rattle.raft_leaders.specs.Candidate.{CandidateValue}
-use Rattle.raft_values.specs.declared.log_id.LogId.{LogId}
-use Rattle.raft_group_step.specs.Values.{LoggedMembership, Membership}
+use Rattle.raft_group_step.specs.Values.{LoggedMembership}
 use Rattle.raft_group_step.specs.StoredGroup.{StoredGroup}
 use Rattle.raft_group_step.specs.Peer.{PeerState, new_peer, peer_or}
 use Rattle.raft_group_step.specs.GroupState.{Lead, Role, Follower, Candidate, Leader, is_candidate, is_leader}
 use Rattle.raft_group_step.specs.Refusal.{are_in_range, next_ids, number_limit}
 use Rattle.raft_known_state.specs.KnownState.{effective_of}
+use Rattle.raft_messages.specs.Memberships.{in_force}
 use Rattle.raft_engine.specs.Standing.{EffectiveMembership, IsBelowPeer, Leads, PeersRise, PlaysRole}
 use Rattle.raft_engine.proofs.PeersLemmas.{same_tests}
-
--- ---- tests on lists
-
-and_moved : (a b c : Bool) → ((a && b) && c) ≡ (a && (b && c))
-and_moved true b c = refl
-and_moved false b c = refl
 
 -- ---- the greatest of the numbers
 
@@ -75,7 +69,7 @@ module _ (l : LeaderValue ℕ EffectiveMembership) (x : ℕ × ProgressEntry ℕ
       ap (λ k. nat_lt k limit) greater ∙ max_below next greatest limit
       ∙ ap (λ k. nat_lt greatest limit && nat_lt k limit) number
       ∙ ap (λ b. nat_lt greatest limit && b) (capped_below n (2 ^ 64 - 1) limit (omega arith)) in
-      ap (λ b. b && are_below l limit rest) e ∙ and_moved (nat_lt greatest limit) (nat_lt n limit) (are_below l limit rest) ∙ h limit low high
+      ap (λ b. b && are_below l limit rest) e ∙ and_assoc (nat_lt greatest limit) (nat_lt n limit) (are_below l limit rest) ∙ h limit low high
 
 and_true : (b : Bool) → b ≡ (b && true)
 and_true true = refl
@@ -214,15 +208,6 @@ module _ (own : ℕ) (s : StoredGroup) where
 
 -- ---- the membership in force, as the engine knows it
 
-pub is_lent : (o : Option LoggedMembership) (m : EffectiveMembership) (id : LogId ℕ) (x : Membership) → m ≡ effective_of o → m.log_id ≡ Some id → x ≡ m.membership
-    → Some (record { log_id = id; membership = x }) ≡ o
-is_lent None m id x e there is = absurd (let no : None ≡ Some id = sym (ap (λ (k : EffectiveMembership). k.log_id) e) ∙ there in cc)
-is_lent (Some l) m id x e there is =
-    let same_id : l.log_id ≡ id = (let both : Some l.log_id ≡ Some id = sym (ap (λ (k : EffectiveMembership). k.log_id) e) ∙ there in cc) in
-    let same : x ≡ l.membership = is ∙ ap (λ (k : EffectiveMembership). k.membership) e in
-    ap (λ (y : Membership). Some (record { log_id = id; membership = y })) same
-    ∙ ap (λ (i : LogId ℕ). Some (record { log_id = i; membership = l.membership })) (sym same_id)
-
-pub none_lent : (o : Option LoggedMembership) (m : EffectiveMembership) → m ≡ effective_of o → m.log_id ≡ None → None ≡ o
-none_lent None m e none = refl
-none_lent (Some l) m e none = absurd (let no : Some l.log_id ≡ None = sym (ap (λ (k : EffectiveMembership). k.log_id) e) ∙ none in cc)
+pub in_force_again : (o : Option LoggedMembership) → in_force (effective_of o) ≡ o
+in_force_again None = refl
+in_force_again (Some m) = refl

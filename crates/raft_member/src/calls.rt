@@ -8,6 +8,7 @@ ghost use Rattle.raft_group_step.specs.Values.{ChangeMembers};
 ghost use Rattle.raft_group_step.specs.declared.group_call.GroupCall.TheVariants.{ChangeMembership, Heartbeat, Initialize, Lost, Propose, TriggerSnapshot};
 ghost use Rattle.raft_engine.specs.Events.{HasTaken, MayTake};
 ghost use Rattle.raft_group_step.specs.GroupStep.{group_step};
+ghost use Rattle.raft_group_step.specs.Refusal.{refusal_of};
 ghost use Rattle.raft_group_storage.specs.Keeping.{KeepsAll, KeepsOthers};
 ghost use Rattle.raft_member.specs.Member.{HasBrokenOff, HasEnded, IsBuilt, IsDown, IsIdle, IsLawful, IsUp};
 ghost use Rattle.raft_member.specs.Running.{EndsTo, HasHalted, RunsTo};
@@ -199,6 +200,8 @@ impl Member {
         ensures err { (s : GroupState) → (call.now ≡ TriggerSnapshot → IsBuilt S.stands (option_copied built.entry) s)
             → IsDown (S.is_well storage.old) (S.shows storage.old group) self.old s.stored → self.old.moment ≡ s.now → IsIdle self.old.id engine.old s → IsLawful self.old.id s
             → IfErr result (HasBrokenOff (S.is_well storage.new) (S.shows storage.new group) self.old.id s (Call call.now now) self.new) }
+        ensures taken { (s : GroupState) → s.stored.present ≡ true → IsIdle self.old.id engine.old s → IsLawful self.old.id s
+            → OnErr result (refusal_of self.old.id s (Call call.now now) ≡ None) }
         ensures others { KeepsOthers (S.shows storage.old) (S.shows storage.new) group }
     {
         let refusal = match facts_of(self.id, engine).call_refusal(alloc, call, now) {
@@ -239,6 +242,8 @@ impl Member {
         ensures err { (s : GroupState) → (call.now ≡ TriggerSnapshot → IsBuilt S.stands (option_copied built.entry) s)
             → IsUp (S.is_well storage.old) (S.shows storage.old group) self.old s → IsLawful self.old.id s
             → IfErr result (HasBrokenOff (S.is_well storage.new) (S.shows storage.new group) self.old.id s (Call call.now now) self.new) }
+        ensures taken { (s : GroupState) → IsUp (S.is_well storage.old) (S.shows storage.old group) self.old s → IsLawful self.old.id s
+            → OnErr result (refusal_of self.old.id s (Call call.now now) ≡ None) }
         ensures down { self.old.engine ≡ None → (result ≡ Ok Skipped) × (self.new ≡ self.old) × KeepsAll (S.shows storage.old) (S.shows storage.new) }
         ensures others { KeepsOthers (S.shows storage.old) (S.shows storage.new) group }
     {

@@ -14,6 +14,7 @@ ghost use Rattle.raft_messages.specs.Memberships.{logged_or_none};
 use crate::member::ByteGroup;
 use raft_conditions::{GroupFacts, LoggedPair};
 use raft_engine::{Engine, KnownState, Leader};
+use raft_messages::pair_in_force;
 use raft_state::{BasicNode, EffectiveMembership, LogId, LogIdOptionExt};
 
 type GroupLeader = Leader<u64, EffectiveMembership<u64, BasicNode>>;
@@ -45,11 +46,7 @@ fn place_behind(last: Option<LogId<u64>>) -> u64
 pub(crate) fn membership_in_force(known: &KnownState<u64, BasicNode>) -> Option<LoggedPair<'_>>
     ensures { (s : StoredGroup) → Knows known.now s → logged_or_none result ≡ membership_in_force s }
 {
-    let effective = known.effective_membership();
-    match effective.log_id() {
-        Some(log_id) => Some((*log_id, effective.membership())),
-        None => None,
-    }
+    pair_in_force(known.effective_membership())
 }
 
 /// The facts of a group that the node `own` has, by which its events are judged (own): what its

@@ -11,7 +11,6 @@ ghost use Rattle.raft_group_step.specs.Opening.{is_joined_to, resume_lead};
 ghost use Rattle.raft_group_storage.specs.Keeping.{KeepsAll, KeepsOthers};
 ghost use Rattle.raft_group_storage.specs.Loaded.{IsHead, IsLoaded};
 ghost use Rattle.raft_known_state.specs.KnownState.{IsPlaced, meta_of};
-ghost use Rattle.raft_messages.specs.Memberships.{logged_or_none};
 ghost use Rattle.raft_laws.specs.Opened.{opened};
 ghost use Rattle.raft_member.specs.Member.{HasEnded, HasStopped, IsDown};
 ghost use Rattle.raft_member.specs.Opening.{HasStarted, IsFresh, IsOpenable, stale_end};
@@ -21,9 +20,9 @@ ghost use Rattle.raft_member.specs.declared.member.Ended.TheVariants.{Skipped};
 use crate::member::{ByteGroup, Ended, Member};
 use raft_engine::{Engine, KnownState};
 use raft_executor::meta_of;
-use raft_group_step::{LoggedMembership, SnapshotMeta as Covered};
+use raft_group_step::SnapshotMeta as Covered;
 use raft_group_storage::{GroupStorage, LoadedGroup};
-use raft_messages::{LoggedPair, SnapshotHead, all_go_on};
+use raft_messages::{all_go_on, head_of};
 use raft_state::{BasicNode, LogId, SnapshotMeta};
 use std::alloc::{AllocError, Global};
 
@@ -37,16 +36,6 @@ fn has_next(last: Option<LogId<u64>>) -> bool
     }
 }
 
-// The membership, lent as a pair with its log id.
-fn logged_pair(membership: &Option<LoggedMembership<u64, BasicNode>>) -> Option<LoggedPair<'_>>
-    ensures { logged_or_none result ≡ membership.now }
-{
-    match membership {
-        Some(logged) => Some((logged.log_id, &logged.membership)),
-        None => None,
-    }
-}
-
 // What the stored snapshot covers, as an engine is told of it; nothing where there is none.
 fn loaded_meta(
     alloc: Global,
@@ -57,11 +46,7 @@ fn loaded_meta(
     let Some(covered) = covered else {
         return Ok(SnapshotMeta::default(alloc));
     };
-    let head = SnapshotHead {
-        last: covered.last_log_id,
-        membership: logged_pair(&covered.last_membership),
-    };
-    meta_of(alloc, head)
+    meta_of(alloc, head_of(covered))
 }
 
 // What is known of what is stored; nothing where the log's places don't rise.

@@ -51,11 +51,9 @@ pub fn copies_of(
 ) -> Result<Entries<u64, BasicNode, Bytes>, AllocError>
     ensures { IfOk result (λ copies. copies ≡ entries.now) }
 {
-    let mut copies = Entries::new(alloc);
-    for entry in entries {
-        copies.push(copy_of_entry(entry)?)?;
-    }
-    Ok(copies)
+    let mut copies = Vec::new(alloc);
+    push_copies(&mut copies, entries)?;
+    Ok(Entries::from_vec(copies))
 }
 
 /// Whether the entries' places rise, from behind the log id on (own).

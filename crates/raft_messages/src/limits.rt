@@ -1,12 +1,13 @@
 //! Which memberships, commands, requests and numbers may be.
-ghost use Rattle.std.specs.Prelude.{◌≡◌, length, nat_le, ℕ, List};
+ghost use Rattle.std.specs.Prelude.{◌≡◌, length, ℕ, List};
 ghost use Rattle.std.specs.List.{list_all};
 ghost use Rattle.raft_group_step.specs.Limits.{number_limit, command_limit, entries_in_request, snapshot_limit};
 ghost use Rattle.raft_group_step.specs.Limits.{voter_group_limit, voter_limit, node_limit, address_limit};
+ghost use Rattle.raft_group_step.specs.Limits.{are_few_groups, are_few_nodes, are_few_voters, is_low, is_short_address, is_short_command};
 ghost use Rattle.raft_group_step.specs.Refusal.{is_first_membership};
 ghost use Rattle.raft_group_step.specs.Values.{is_valid, is_within_limits};
 
-use raft_state::{BasicNode, IdSet, Membership};
+use raft_state::{BasicNode, Bytes, IdSet, Membership};
 
 /// A command has at most so many bytes.
 pub const MAX_COMMAND_BYTES: usize = 65_536;
@@ -44,20 +45,60 @@ pub fn limits_in_code()
     ensures numbers { NUMBER_LIMIT ≡ number_limit }
 {}
 
-// Whether each voter group has at most so many voters as it may have.
-fn are_groups_short(groups: &[IdSet<u64>]) -> bool
-    ensures { result ≡ list_all (λ (group : List ℕ). nat_le (length group) voter_limit) groups.now }
+/// Whether a number may be a term, a place, a moment or the number of a request (own).
+pub fn is_low(number: u64) -> bool
+    ensures { result ≡ is_low number }
 {
-    groups.iter().all(|group| group.len() <= MAX_VOTERS)
+    number < NUMBER_LIMIT
 }
 
-// Whether each address has at most so many bytes as it may have.
-fn are_addresses_short(nodes: &[(u64, BasicNode)]) -> bool
-    ensures { result ≡ list_all (λ (node : ℕ × List ℕ). nat_le (length node.1) address_limit) nodes.now }
+/// Whether the command has at most so many bytes as it may have (own).
+pub fn is_short_command(command: &Bytes) -> bool
+    ensures { result ≡ is_short_command command.now }
 {
-    nodes
-        .iter()
-        .all(|node| node.1.addr.len() <= MAX_ADDRESS_BYTES)
+    command.len() <= MAX_COMMAND_BYTES
+}
+
+/// Whether there are at most so many voter groups as a membership may have (own).
+pub fn are_few_groups(groups: &[IdSet<u64>]) -> bool
+    ensures { result ≡ are_few_groups groups.now }
+{
+    groups.len() <= MAX_VOTER_GROUPS
+}
+
+/// Whether so many voters may be in a group (own).
+pub fn are_few_voters(count: usize) -> bool
+    ensures { result ≡ are_few_voters count }
+{
+    count <= MAX_VOTERS
+}
+
+/// Whether so many nodes may be in a membership (own).
+pub fn are_few_nodes(count: usize) -> bool
+    ensures { result ≡ are_few_nodes count }
+{
+    count <= MAX_NODES
+}
+
+/// Whether the node's address has at most so many bytes as it may have (own).
+pub fn is_short_address(node: &BasicNode) -> bool
+    ensures { result ≡ is_short_address node.now }
+{
+    node.addr.len() <= MAX_ADDRESS_BYTES
+}
+
+// Whether each voter group has at most so many voters as it may have.
+fn are_groups_short(groups: &[IdSet<u64>]) -> bool
+    ensures { result ≡ list_all (λ (group : List ℕ). are_few_voters (length group)) groups.now }
+{
+    groups.iter().all(|group| are_few_voters(group.len()))
+}
+
+/// Whether each address is short enough (own).
+pub fn are_addresses_short(nodes: &[(u64, BasicNode)]) -> bool
+    ensures { result ≡ list_all (λ (node : ℕ × List ℕ). is_short_address node.1) nodes.now }
+{
+    nodes.iter().all(|node| is_short_address(&node.1))
 }
 
 /// Whether the membership has at most so many voter groups, voters, nodes and bytes of each
@@ -67,9 +108,9 @@ pub fn is_within_limits(membership: &Membership<u64, BasicNode>) -> bool
 {
     let groups = membership.get_joint_config();
     let nodes = membership.nodes();
-    groups.len() <= MAX_VOTER_GROUPS
+    are_few_groups(groups)
         && are_groups_short(groups)
-        && nodes.len() <= MAX_NODES
+        && are_few_nodes(nodes.len())
         && are_addresses_short(nodes)
 }
 

@@ -1,11 +1,11 @@
 //! Memberships that are lent with the log ids of their entries, and what snapshots are.
 ghost use Rattle.std.specs.Prelude.{◌≡◌, IfOk};
 ghost use Rattle.raft_group_step.specs.Values.{last_membership, membership_after};
-ghost use Rattle.raft_messages.specs.Memberships.{logged_or_none};
+ghost use Rattle.raft_messages.specs.Memberships.{in_force, logged_or_none};
 
 use crate::entries::GroupEntry;
 use raft_group_step::{LoggedMembership, SnapshotMeta};
-use raft_state::{BasicNode, Bytes, EntryPayload, LogId, Membership};
+use raft_state::{BasicNode, Bytes, EffectiveMembership, EntryPayload, LogId, Membership};
 use std::alloc::AllocError;
 
 /// A lent membership, with the log id of the entry that has it (own).
@@ -27,6 +27,38 @@ pub struct SnapshotBytes {
     pub meta: SnapshotMeta<u64, BasicNode>,
     /// The machine's state behind the last entry.
     pub bytes: Bytes,
+}
+
+/// A membership and the log id of its entry, lent together (own).
+pub fn lent_pair(logged: &Option<LoggedMembership<u64, BasicNode>>) -> Option<LoggedPair<'_>>
+    ensures { logged_or_none result ≡ logged.now }
+{
+    match logged {
+        Some(logged) => Some((logged.log_id, &logged.membership)),
+        None => None,
+    }
+}
+
+/// A membership that an engine has in force, lent with the log id of its entry, if an entry has it
+/// (own).
+pub fn pair_in_force(effective: &EffectiveMembership<u64, BasicNode>) -> Option<LoggedPair<'_>>
+    ensures { logged_or_none result ≡ in_force effective.now }
+{
+    match effective.log_id() {
+        Some(log_id) => Some((*log_id, effective.membership())),
+        None => None,
+    }
+}
+
+/// What a snapshot covers, lent as its head (own).
+pub fn head_of(meta: &SnapshotMeta<u64, BasicNode>) -> SnapshotHead<'_>
+    ensures last { result.last ≡ meta.now.last_log_id }
+    ensures membership { logged_or_none result.membership ≡ meta.now.last_membership }
+{
+    SnapshotHead {
+        last: meta.last_log_id,
+        membership: lent_pair(&meta.last_membership),
+    }
 }
 
 /// The membership of the entry, or else the one before (own).

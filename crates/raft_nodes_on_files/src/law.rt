@@ -1,14 +1,14 @@
 //! A node on files is one of a cluster's nodes, and so its clusters keep the headline.
 ghost use Rattle.std.specs.Prelude.{◌≤◌, take, vec_len};
-ghost use Rattle.raft_node_cluster.specs.Cluster.{Runs};
-ghost use Rattle.raft_node_cluster.specs.Joined.{HasHeadline};
+ghost use Rattle.raft_cluster.specs.Cluster.{Runs};
+ghost use Rattle.raft_cluster.specs.Joined.{HasHeadline};
 ghost use Rattle.raft_node_laws.specs.Law.{KeepsLaw};
 ghost use Rattle.raft_sent_frames.specs.Frames.{frames_of};
 
 use crate::file_node::FileNode;
+use raft_cluster::Cluster;
 use raft_cluster_events::{ClusterEvent, ClusterNode};
 use raft_machines::StateMachine;
-use raft_node_cluster::Cluster;
 
 /// A node on files keeps the law that a cluster asks of its nodes: wherever it stands in a history,
 /// each of its calls, crashes and openings leads its groups on as the rules say, and it answers so.

@@ -65,8 +65,6 @@ pub fn responded(alloc: Global, words: &[&str]) -> Option<Answer> {
 /// Entries of a group of bytes.
 pub type SentEntries = Entries<u64, BasicNode, Bytes>;
 
-type NumberEntries = Entries<u64, BasicNode, u64>;
-
 fn push_blank(entries: &mut SentEntries, log_id: LogId<u64>) -> Result<(), AllocError> {
     entries.push(Entry {
         log_id,
@@ -114,23 +112,7 @@ pub fn collected(entries: &mut SentEntries, alloc: Global, words: &[&str]) -> Op
     })
 }
 
-// ---- copies and snapshots
-
-fn push_amount(entries: &mut NumberEntries, index: u64, amount: u64) -> Result<(), AllocError> {
-    entries.push(Entry {
-        log_id: id(11, 1, index),
-        payload: EntryPayload::Normal(amount),
-    })?;
-    Ok(())
-}
-
-// A copy of entries at the places 1 and 2.
-fn copied(alloc: Global) -> Result<NumberEntries, AllocError> {
-    let mut entries = Entries::new(alloc);
-    push_amount(&mut entries, 1, 5)?;
-    push_amount(&mut entries, 2, 7)?;
-    entries.clone()
-}
+// ---- snapshots
 
 // The snapshot up to (11, 1, 7), with a membership of nobody.
 fn snapshot_request(alloc: Global) -> Result<InstallSnapshotRequest<u64, BasicNode>, AllocError> {
@@ -148,28 +130,9 @@ fn snapshot_request(alloc: Global) -> Result<InstallSnapshotRequest<u64, BasicNo
     })
 }
 
-fn amount(entry: &Entry<u64, BasicNode, u64>) -> Option<u64> {
-    match &entry.payload {
-        EntryPayload::Normal(amount) => Some(*amount),
-        _ => None,
-    }
-}
-
-// What the last of the copied entries has.
-fn of_last_copy(alloc: Global, copies: &NumberEntries, question: &str) -> Option<Answer> {
-    let last = copies.as_slice().last()?;
-    Some(match question {
-        "last" => Answer::shown(alloc, &last.log_id),
-        "amount" => Answer::shown(alloc, &amount(last)),
-        _ => return None,
-    })
-}
-
-/// The answer to a row about a copy of entries, or a request with a snapshot.
-pub fn copied_or_sent(alloc: Global, words: &[&str]) -> Option<Answer> {
+/// The answer to a row about a request with a snapshot.
+pub fn sent(alloc: Global, words: &[&str]) -> Option<Answer> {
     match *words {
-        ["copied-count"] => Some(Answer::shown(alloc, &copied(alloc).ok()?.len())),
-        ["copied", question] => of_last_copy(alloc, &copied(alloc).ok()?, question),
         ["snapshot-request"] => Some(told(alloc, &snapshot_request(alloc).ok()?)),
         _ => None,
     }

@@ -1,10 +1,10 @@
 //! Two nodes of which each waits in a call until the other one was called.
+use raft_cluster::{Cluster, ClusterEvent, EventOutcome};
 use raft_cluster_events::{
     ClusterNode, CrashChoice, CrashRefusal, GroupCommand, NodeError, NodeOutcome, NodeRefusal,
     Sequence, Stop, StopCause,
 };
 use raft_machines::AddingMachine;
-use raft_node_cluster::{Cluster, ClusterEvent, EventOutcome};
 use std::alloc::{AllocError, Global};
 use std::sync::Arc;
 use std::sync::atomic::{AtomicU64, Ordering};

@@ -1,8 +1,8 @@
 //! Two clusters that are to stay the same.
+use raft_cluster::{Cluster, ClusterEvent, RoundRefusal};
 use raft_cluster_events::ClusterNode;
 use raft_cluster_script::{event_of, outcome_text};
 use raft_machines::AddingMachine;
-use raft_node_cluster::{Cluster, ClusterEvent, RoundRefusal};
 use raft_nodes_on_files::{FileNode, log_settings};
 use raft_script_lines::{ScriptLine, read_line};
 use std::alloc::{AllocError, Global};

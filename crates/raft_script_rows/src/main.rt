@@ -10,18 +10,15 @@
 //!   each flush is written as `~`: an answer is flushed before more is read;
 //! - `reads N LENGTH`: `nodes 1|` and a comment of so many bytes, by a reader that gives N bytes at
 //!   a time: how many were asked for at most, and how many were given;
-//! - `events EVENT|EVENT|..`: events that a cluster runs at once, without a script;
 //! - `status`: the exit status of a script that finds no memory;
 //! - `session ROW`: such a row, where a session answers each line by its length, by `line` and its
 //!   number where it is `!`, and finds no memory where it is `?`.
 #![tactic(auto)]
 
 mod broken;
-mod clusters;
 mod sessions;
 
 use broken::{Flushed, Piecewise, Stubborn};
-use clusters::run_events;
 use percent_encoding::percent_decode;
 use raft_script_session::ScriptEnd;
 use sessions::run_by;
@@ -126,7 +123,6 @@ fn answer(rt: &HostRuntime, line: &str) -> io::Result<()> {
         "pieces" => run_in_pieces(rt, row, words),
         "flushes" => run_flushed(rt, row, words),
         "reads" => run_counted(rt, row, words),
-        "events" => println!(rt; "{line} -> {}", run_events(rt.alloc(), words)?),
         "status" => println!(rt; "{line} -> {}", ScriptEnd::Memory.status()),
         _ => println!(rt; "{line} -> no row"),
     }

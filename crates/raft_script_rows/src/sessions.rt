@@ -1,5 +1,7 @@
-//! Scripts whose lines a cluster runs, or a session over lines that are only counted.
-use raft_cluster::run_script;
+//! Scripts whose lines nodes on files run, or a session over lines that are only counted.
+use raft_cluster_script::run_script;
+use raft_machines::AddingMachine;
+use raft_nodes_on_files::{FileNode, log_settings};
 use raft_script_session::{LineRunner, ScriptEnd, run_lines};
 use std::alloc::{AllocError, Global};
 use std::io::{Read, Write};
@@ -22,7 +24,7 @@ impl LineRunner for Lengths {
     }
 }
 
-/// Runs the script that the reader gives, by a session over counted lines or by a cluster.
+/// Runs the script that the reader gives, by a session over counted lines or by nodes on files.
 pub fn run_by<R: Read, W: Write>(
     alloc: Global,
     counts: bool,
@@ -33,5 +35,8 @@ pub fn run_by<R: Read, W: Write>(
         let mut lines = Lengths { alloc };
         return run_lines(alloc, &mut lines, reader, writer);
     }
-    run_script(alloc, reader, writer)
+    let Ok(settings) = log_settings(alloc, "raft", 64, 256) else {
+        return ScriptEnd::Memory;
+    };
+    run_script::<FileNode<AddingMachine>, _, _>(alloc, settings, reader, writer)
 }

@@ -28,7 +28,8 @@ rise_append k top (x ∷ xs) ys l h below more =
     let under = All-head (λ (y : Untold). y.place < top) x xs below in
     (h.0, rise_append (x.place + 1) top xs ys (omega arith) h.1 (All-tail (λ (y : Untold). y.place < top) x xs below) more)
 
-call_rises : (place : ℕ) (call : GroupCall) → RiseFrom place (tokens_at place (token_of_call call))
+-- the token that a call or another event brings does, from its place on
+pub call_rises : (place : ℕ) (call : GroupCall) → RiseFrom place (tokens_at place (token_of_call call))
 call_rises place (Initialize m) = tt
 call_rises place Elect = tt
 call_rises place (Propose command token) = (omega arith, tt)
@@ -38,7 +39,7 @@ call_rises place (Lost peer) = tt
 call_rises place TriggerSnapshot = tt
 call_rises place (TriggerPurge p) = tt
 
-brought_rises : (s : GroupState) (e : GroupEvent) → RiseFrom (end_place s.stored) (brought s e)
+pub brought_rises : (s : GroupState) (e : GroupEvent) → RiseFrom (end_place s.stored) (brought s e)
 brought_rises s AddGroup = tt
 brought_rises s (Call call now) = call_rises (end_place s.stored) call
 brought_rises s (Receive peer m now) = tt

@@ -5,7 +5,7 @@ use raft_content_log::ContentLog;
 use raft_group_step::Entries;
 use raft_group_storage::{GroupStorage, LoadedGroup};
 use raft_machines::StateMachine;
-use raft_messages::{GroupEntry, SnapshotBytes, SnapshotHead};
+use raft_messages::{GroupEntry, SnapshotBytes, SnapshotHead, head_of};
 use raft_state::{BasicNode, Bytes, LogId, Vote};
 use std::alloc::Global;
 
@@ -82,13 +82,7 @@ impl<M: StateMachine, L: ContentLog> GroupStorage for Store<M, L> {
     }
 
     fn head(snapshot: &SnapshotBytes) -> SnapshotHead<'_> {
-        SnapshotHead {
-            last: snapshot.meta.last_log_id,
-            membership: match &snapshot.meta.last_membership {
-                Some(logged) => Some((logged.log_id, &logged.membership)),
-                None => None,
-            },
-        }
+        head_of(&snapshot.meta)
     }
 
     fn load(&mut self, alloc: Global, group: u64) -> Result<LoadedGroup, StoreFault<L::Fault>> {

@@ -4,7 +4,7 @@ ghost use Rattle.std.specs.Option.{option_copied};
 ghost use Rattle.raft_messages.specs.Memberships.{logged_or_none, snapshot_of};
 
 use raft_group_step::LoggedMembership;
-use raft_messages::{GroupEntry, LoggedPair, SnapshotHead, copy_of_pair, push_copies};
+use raft_messages::{GroupEntry, LoggedPair, SnapshotHead, copy_of_pair, lent_pair, push_copies};
 use raft_state::{BasicNode, LogId};
 use std::alloc::AllocError;
 use std::marker::Model;
@@ -60,10 +60,7 @@ impl GroupSnapshot {
     pub fn logged_pair(&self) -> Option<LoggedPair<'_>>
         ensures { logged_or_none result ≡ self.now.membership }
     {
-        match &self.membership {
-            Some(logged) => Some((logged.log_id, &logged.membership)),
-            None => None,
-        }
+        lent_pair(&self.membership)
     }
 
     /// What the snapshot covers, lent (own).

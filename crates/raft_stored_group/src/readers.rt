@@ -13,11 +13,8 @@ use crate::copies::push_up_to;
 use crate::group_snapshot::GroupSnapshot;
 use crate::places::{behind, is_purged, places_below, up_to};
 use crate::stored_group::StoredGroup;
-use raft_group_step::Entries;
-use raft_messages::{
-    GroupEntry, LoggedPair, copies_of, copy_of_pair, last_membership, push_copies,
-};
-use raft_state::{BasicNode, Bytes, LogId, LogIdOptionExt, Vote};
+use raft_messages::{GroupEntry, LoggedPair, copy_of_pair, last_membership, push_copies};
+use raft_state::{LogId, LogIdOptionExt, Vote};
 use std::alloc::AllocError;
 
 impl StoredGroup {
@@ -141,17 +138,6 @@ impl StoredGroup {
     {
         let rest = behind(self.log.as_slice(), &self.purged, &prev);
         up_to(rest, &prev, &last)
-    }
-
-    /// Copies of the entries that `between` lends. It fails for want of memory alone (own).
-    pub fn entries_between(
-        &self,
-        prev: Option<LogId<u64>>,
-        last: Option<LogId<u64>>,
-    ) -> Result<Entries<u64, BasicNode, Bytes>, AllocError>
-        ensures { IfOk result (λ copies. copies ≡ take (next_place last - next_place prev) (drop (next_place prev - first_place self.now) self.now.log)) }
-    {
-        copies_of(*self.log.allocator(), self.between(prev, last))
     }
 
     /// Whether the log has the entry of this log id, or has purged its place (own).

@@ -1,8 +1,8 @@
 //! Why frames aren't read, and why stores, clusters and scripts refuse.
 
 use crate::texts::print_texts;
+use raft_cluster::RoundRefusal;
 use raft_cluster_conditions::ClusterRefusal;
-use raft_node_cluster::RoundRefusal;
 use raft_script_lines::{NoEvent, ReadLineError};
 use raft_store::StoreRefusal;
 use raft_wire::{FrameError, FrameFault};

@@ -1,18 +1,12 @@
 -- Bytes that are text, and bytes that are none.
 use Rattle.std.proofs.Common.{◌≡◌, Bool, true, false, List, ℕ, Ok, Err, refl}
 use Rattle.std.specs.Str.{IsUtf8, is_utf8}
+use Rattle.std.proofs.lemmas.Bool.{false_from_ne_true}
 use Rattle.std.proofs.lemmas.Str.{IsUtf8-from_is_utf8, is_utf8-from_IsUtf8}
 use Rattle.raft_wire.specs.declared.error.FrameFault.{FrameFault}
 use Rattle.raft_wire.specs.declared.error.FrameFault.TheVariants as fault
 use Rattle.raft_wire.specs.Reader.{Reader, tested, byte_at, piece_at}
 use Rattle.raft_wire.specs.Memberships.{address_at}
-
-false_unless : (b : Bool) → (b ≡ true → ⊥) → b ≡ false
-false_unless true h = absurd (h refl)
-false_unless false h = refl
-
-not_text : (bytes : List ℕ) → (IsUtf8 bytes → ⊥) → is_utf8 bytes ≡ false
-not_text bytes h = false_unless (is_utf8 bytes) (λ text. h (IsUtf8-from_is_utf8 bytes text))
 
 test_passed : {A : Type 0} (wrong : FrameFault) (test : A → Bool) (reader : Reader A) (bytes : List ℕ) (x : A × List ℕ) → reader bytes ≡ Ok x → test x.0 ≡ true → tested wrong test reader bytes ≡ Ok x
 test_passed wrong test reader bytes x e t = rw (e, t) refl
@@ -26,4 +20,4 @@ address_found bytes n x e p text = rw e (test_passed fault.NotUtf8 is_utf8 (piec
 
 pub address_refused : (bytes : List ℕ) (n : ℕ × List ℕ) (x : List ℕ × List ℕ) → byte_at bytes ≡ Ok n → piece_at n.0 n.1 ≡ Ok x → (IsUtf8 x.0 → ⊥) → address_at bytes ≡ Err fault.NotUtf8
 unfolding address_at
-address_refused bytes n x e p other = rw e (test_failed fault.NotUtf8 is_utf8 (piece_at n.0) n.1 x p (not_text x.0 other))
+address_refused bytes n x e p other = rw e (test_failed fault.NotUtf8 is_utf8 (piece_at n.0) n.1 x p (false_from_ne_true (is_utf8 x.0) (λ text. other (IsUtf8-from_is_utf8 x.0 text))))

@@ -11,7 +11,9 @@ ghost use Rattle.raft_wire.specs.Writing.{Writes, fault_of_entry};
 use crate::error::{FrameError, FrameFault};
 use crate::fields::{log_id_of, put_log_id, put_text, text_of};
 use crate::memberships::{membership_of, put_membership};
-use raft_messages::{GroupEntry, GroupPayload, MAX_COMMAND_BYTES, is_within_limits};
+use raft_messages::{
+    GroupEntry, GroupPayload, MAX_COMMAND_BYTES, is_short_command, is_within_limits,
+};
 use raft_state::{Bytes, EntryPayload};
 use std::alloc::{AllocError, Global};
 
@@ -101,7 +103,7 @@ pub(crate) fn is_payload_short(payload: &GroupPayload) -> bool
 {
     match payload {
         EntryPayload::Blank => true,
-        EntryPayload::Normal(command) => command.len() <= MAX_COMMAND_BYTES,
+        EntryPayload::Normal(command) => is_short_command(command),
         EntryPayload::Membership(membership) => is_within_limits(membership),
     }
 }

@@ -230,9 +230,9 @@ pub struct Fed {
 /// It holds the bytes of one frame that isn't whole yet, at most `MAX_FRAME_LEN` + 3, and whether the
 /// stream has failed. While it holds nothing it has memory for at most `MAX_IDLE_ROOM` bytes. While it
 /// holds some it has taken memory for four times as many at most, or for `MAX_IDLE_ROOM`, and never
-/// for more than the frame needs; with a block that is being moved it is at most a quarter more than
-/// the frame, or `MAX_IDLE_ROOM`. Contracts see what it holds, whether the stream has failed, and for
-/// how many bytes it has memory. Its errors are those of `feed`.
+/// for more than the frame needs. Where a block is moved, both together are at most a quarter more
+/// than the frame and `MAX_IDLE_ROOM`. Contracts see what it holds, whether the stream has failed, and
+/// for how many bytes it has memory. Its errors are those of `feed`.
 #[derive(Drop)]
 pub struct Feeder {
     held: Vec<u8>,

@@ -28,11 +28,11 @@ fn is_small(room: usize, come: usize, len: usize) -> bool {
     room <= MAX_IDLE_ROOM || room <= len.min(come.saturating_mul(4))
 }
 
-/// Whether the block before and the one after, which both stand while bytes are moved, are together
-/// at most a quarter more than the frame. Of the block before only what is held counts, since the
-/// rest is given back first.
-fn is_small_step(before: usize, held: usize, after: usize, len: usize) -> bool {
-    after <= before || before.min(held).saturating_add(after) <= len.saturating_add(len / 4)
+/// Whether the whole block before and the one after, which may both stand while bytes are moved, are
+/// together at most a quarter more than the frame and what an idle feeder has.
+fn is_small_step(before: usize, after: usize, len: usize) -> bool {
+    let limit = len.saturating_add(len / 4).saturating_add(MAX_IDLE_ROOM);
+    after == before || before.saturating_add(after) <= limit
 }
 
 /// How many bytes are taken of a frame in pieces, whether the feeder always had little memory, and
@@ -42,11 +42,10 @@ fn rooms(feeder: &mut Feeder, frame: &[u8], size: usize) -> (usize, bool, bool) 
     let mut small = room_of(feeder) <= MAX_IDLE_ROOM;
     for piece in frame.chunks(size.max(1)) {
         let before = room_of(feeder);
-        let held = taken;
         taken = taken.saturating_add(feed(feeder, piece).used);
         let after = room_of(feeder);
         small = small && is_small(after, taken, frame.len());
-        small = small && is_small_step(before, held, after, frame.len());
+        small = small && is_small_step(before, after, frame.len());
     }
     (taken, small, room_of(feeder) <= MAX_IDLE_ROOM)
 }

@@ -7,7 +7,8 @@ use Rattle.raft_group_step.specs.GroupState.{GroupState, Role, Follower, Candida
 use Rattle.raft_group_step.specs.GroupEvent.{GroupEvent, Open}
 use Rattle.raft_group_step.specs.GroupStep.{group_step}
 use Rattle.raft_group_step.specs.Refusal.{refusal_of}
-use Rattle.raft_group_step.specs.StepResult.{RefusalReason, StepResult}
+use Rattle.raft_group_step.proofs.Refusals.{refused_keeps}
+use Rattle.raft_group_step.specs.StepResult.{RefusalReason}
 use Rattle.raft_laws.specs.GroupWorld.{NodeState, Absent, Up, Down, Led, Outcome, Done, Refused, Stopped, is_stop}
 use Rattle.raft_laws.specs.GroupRun.{led_as, led_by, stop_at}
 use Rattle.raft_laws.specs.NodeEvent.{Comes, Restarts, after_step, outcome_at, outcome_of_end, outcome_of_step, outcome_of_stop}
@@ -22,11 +23,6 @@ use Rattle.raft_member.specs.Opening.{IsOpenable}
 use Rattle.raft_world.specs.declared.member.Member.{Member}
 use Rattle.raft_member.specs.declared.member.Ended.TheVariants as end_of
 use Rattle.raft_member.specs.declared.member.Broken.TheVariants as broken
-use Rattle.raft_member.proofs.EventLemmas.{refused_state}
-
--- a refused event keeps the state
-pub refused_keeps : (own : ℕ) (s : GroupState) (e : GroupEvent) (why : RefusalReason) → refusal_of own s e ≡ Some why → (group_step own s e).state ≡ s
-refused_keeps own s e why h = ap (λ (r : StepResult). r.state) (refused_state own s e why h)
 
 -- what a step says of its end
 pub told_as : (own : ℕ) (s : GroupState) (e : GroupEvent) (why : Option RefusalReason) → refusal_of own s e ≡ why

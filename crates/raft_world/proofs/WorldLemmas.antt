@@ -35,7 +35,8 @@ use Rattle.raft_world.specs.declared.member.Member.{Member}
 use Rattle.raft_world.specs.declared.world.World.{World}
 use Rattle.raft_world.specs.declared.world.Mark.{Mark}
 use Rattle.raft_world.specs.declared.world.Mark.TheVariants as mark
-use Rattle.raft_world.proofs.EndingLemmas.{refused_keeps, stopped_as, told_as}
+use Rattle.raft_group_step.proofs.Refusals.{refused_keeps}
+use Rattle.raft_world.proofs.EndingLemmas.{stopped_as, told_as}
 use Rattle.raft_laws.proofs.StepOrder.{stopped_at_end}
 use Rattle.raft_world.proofs.PlaceLemmas.{nodes_left, nodes_same, nodes_with, still_placed}
 

@@ -1,11 +1,12 @@
 -- The last group with the newcomers is told by the group and them.
 use Rattle.std.proofs.Common.{◌≡◌, ◌+◌, ◌∙◌, ap, refl, sym, subst, [], ◌∷◌, true, false, length}
-use Rattle.std.specs.Prelude.{◌&&◌, ◌==◌, count_by, nat_eq, nat_le, not}
+use Rattle.std.specs.Prelude.{◌&&◌, ◌==◌, count_by, nat_eq, not}
 use Rattle.std.specs.List.{list_all}
 use Rattle.std.specs.Ordering.{nat_cmp}
 use Rattle.std.specs.Cmp.Lexicographic.{pointwise}
 use Rattle.raft_quorums.specs.Nodes.{has_id, with_ids}
 use Rattle.raft_quorums.specs.Quorum.{last_config, next_configs}
+use Rattle.raft_group_step.specs.Limits.{are_few_voters}
 use Rattle.raft_group_step.specs.Refusal.{first_of_reasons, unless}
 use Rattle.raft_group_step.specs.StepResult.{MembershipRefused, VoterChange}
 use Rattle.raft_conditions.specs.Fitting.{are_fit_groups, ids_of, is_fit_group, reason_of_step}
@@ -36,7 +37,7 @@ returns g c =
     c.step_reason.ensures
     ∙ ap (λ b. first_of_reasons (unless (b && c.args.fit) MembershipRefused ∷ unless c.are_there.result VoterChange ∷ []))
     (c.is_wider_fit.ensures
-    ∙ ap (λ l. is_fit_group known l && list_all known ids && nat_le (length l + count_by (λ id. not (has_id nat_eq l id)) ids) 64) is
+    ∙ ap (λ l. is_fit_group known l && list_all known ids && are_few_voters (length l + count_by (λ id. not (has_id nat_eq l id)) ids)) is
     ∙ sym (joined_fit known last ids rising more some)
     ∙ sym (joined_next known last ids rising more some groups refl))
     ∙ ap (λ b. first_of_reasons (unless (are_fit_groups known (next_configs (pointwise nat_eq) groups (with_ids nat_cmp last ids)) && c.args.fit) MembershipRefused ∷ unless b VoterChange ∷ []))

@@ -1,5 +1,7 @@
 -- What each change asks for is told by its parts.
 use Rattle.std.proofs.Common.{◌∙◌, ap, refl, sym, ℕ, List, map}
+use Rattle.std.proofs.lemmas.Bool.{eqb-true}
+use Rattle.std.proofs.lemmas.Map.Lookups.{exact_unsigned}
 use Rattle.std.specs.Prelude.{◌&&◌, ◌||◌, nat_eq, not}
 use Rattle.std.specs.Ordering.{nat_cmp}
 use Rattle.std.specs.Cmp.Lexicographic.{pointwise}
@@ -11,7 +13,6 @@ use Rattle.raft_membership.proofs.FaultLemmas.{has_with_new_nodes, has_with_node
 use Rattle.raft_group_step.specs.Values.{after_change}
 use Rattle.raft_conditions.specs.Fitting.{are_fit_nodes, reason_of_step}
 use Rattle.raft_conditions.proofs.FitLemmas.{told}
-use Rattle.raft_conditions.proofs.SizeLemmas.{equal_same, identical}
 use Rattle.raft_conditions.proofs.judging.change_refusal.Goals as goal
 
 pub returns-in-AddVoterIds : goal.returns-in-AddVoterIds
@@ -33,7 +34,7 @@ returns-in-AddVoters c =
     rw c.in-AddVoters.is
     (c.adding_refusal-in-AddVoters.ensures
     ∙ ap (λ groups. reason_of_step known groups (next_configs (pointwise nat_eq) groups (with_ids nat_cmp (last_config groups) (map (λ (x : ℕ × List ℕ). x.0) more))) fit) c.get_joint_config-groups.ensures
-    ∙ told old (after_change old (AddVoters more)) known fit (λ k. sym (has_with_new_nodes nat_eq nat_cmp equal_same identical old.nodes more k)) c.are_fit_with_new-fit.ensures)
+    ∙ told old (after_change old (AddVoters more)) known fit (λ k. sym (has_with_new_nodes nat_eq nat_cmp exact_unsigned eqb-true old.nodes more k)) c.are_fit_with_new-fit.ensures)
 
 pub returns-in-RemoveVoters : goal.returns-in-RemoveVoters
 returns-in-RemoveVoters c =
@@ -65,7 +66,7 @@ returns-in-AddNodes c =
     rw c.in-AddNodes.is
     (c.nodes_refusal.ensures
     ∙ told old (after_change old (AddNodes more)) (λ id. has_node nat_eq old.nodes id || has_node nat_eq more id) c.are_fit_with_new.result
-    (λ k. sym (has_with_new_nodes nat_eq nat_cmp equal_same identical old.nodes more k)) c.are_fit_with_new.ensures)
+    (λ k. sym (has_with_new_nodes nat_eq nat_cmp exact_unsigned eqb-true old.nodes more k)) c.are_fit_with_new.ensures)
 
 pub returns-in-SetNodes : goal.returns-in-SetNodes
 returns-in-SetNodes c =
@@ -74,7 +75,7 @@ returns-in-SetNodes c =
     rw c.in-SetNodes.is
     (c.nodes_refusal-in-SetNodes.ensures
     ∙ told old (after_change old (SetNodes more)) (λ id. has_node nat_eq old.nodes id || has_node nat_eq more id) c.are_fit_with.result
-    (λ k. sym (has_with_nodes nat_eq nat_cmp equal_same old.nodes more k)) c.are_fit_with.ensures)
+    (λ k. sym (has_with_nodes nat_eq nat_cmp exact_unsigned old.nodes more k)) c.are_fit_with.ensures)
 
 pub returns-in-RemoveNodes : goal.returns-in-RemoveNodes
 returns-in-RemoveNodes c =
@@ -83,7 +84,7 @@ returns-in-RemoveNodes c =
     rw c.in-RemoveNodes.is
     (c.nodes_refusal-in-RemoveNodes.ensures
     ∙ told old (after_change old (RemoveNodes ids)) (λ id. has_node nat_eq old.nodes id && not (has_id nat_eq ids id)) c.are_fit_without.result
-    (λ k. sym (has_without_nodes nat_eq identical old.nodes ids k)) c.are_fit_without.ensures)
+    (λ k. sym (has_without_nodes nat_eq eqb-true old.nodes ids k)) c.are_fit_without.ensures)
 
 pub returns-in-ReplaceAllNodes : goal.returns-in-ReplaceAllNodes
 returns-in-ReplaceAllNodes c =

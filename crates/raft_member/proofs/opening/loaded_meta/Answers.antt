@@ -1,5 +1,5 @@
 -- What is told covers what the stored snapshot does.
-use Rattle.std.proofs.Common.{◌≡◌, IfOk, Option, ap, refl, subst, ◌∙◌}
+use Rattle.std.proofs.Common.{◌≡◌, IfOk, Option, ap, subst, ◌∙◌}
 use Rattle.std.specs.Option.{option_copied}
 use Rattle.raft_group_step.specs.StoredGroup.{Snapshot}
 use Rattle.raft_group_storage.specs.Loaded.{IsHead}
@@ -15,4 +15,4 @@ pub returns : goal.returns
 returns c = λ x head.
     let h = head_of c.in-Some.covered.now x (subst (λ o. IsHead o x) (ap option_copied c.in-Some.is) head) in
     subst (λ (y : Option Snapshot). IfOk c.meta_of.result (λ meta. meta ≡ meta_of y)) h.is
-    (c.meta_of.ensures h.snapshot (head_says _ c.in-Some.covered.now x h refl c.logged_pair.ensures))
+    (c.meta_of.ensures h.snapshot (head_says _ c.in-Some.covered.now x h c.head_of.ensures.last c.head_of.ensures.membership))

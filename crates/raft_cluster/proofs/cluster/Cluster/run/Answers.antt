@@ -1,12 +1,35 @@
-use Rattle.std.proofs.Common.{ap, ◌∙◌}
-use Rattle.raft_cluster.specs.Cluster.{ClusterValue}
-use Rattle.raft_cluster.proofs.HistoryLemmas.{run_more}
+use Rattle.std.proofs.Common.{◌≡◌, List, [], ◌∷◌, ◌++◌, length, sym, ap, ◌∙◌, append_assoc, arith, subst, length-append}
+use Rattle.std.specs.Vec.Iter.{into_iter_items}
+use Rattle.raft_cluster_events.specs.declared.event.ClusterEvent.{ClusterEvent}
+use Rattle.raft_cluster.specs.Cluster.{ClusterValue, Runs}
+use Rattle.raft_cluster.proofs.ClusterLemmas.{runs_more, taken_so_far}
 use Rattle.raft_cluster.proofs.cluster.Cluster.run.Goals as goal
 
-pub loop-i-preserved : goal.loop-i-preserved
-loop-i-preserved g c =
-    let stepped = c.in-Ok.ensures.ok in (
-      run_more g.M.StateMachine.rules _ _ _ _ _ c.args.events.now c.loop-i.i c.index-events-i.result
-          c.loop-i.invariant.0 c.loop-i.invariant.1 c.loop-i-test.true c.index-events-i.is (ap (λ (v : ClusterValue). v.history) stepped),
-      ap (λ (v : ClusterValue). v.id) stepped ∙ c.loop-i.invariant.1,
+pub loop-event-preserved : goal.loop-event-preserved
+loop-event-preserved g c =
+    let at = c.loop-event in
+    let x = c.in-Some.event in
+    let steps : into_iter_items at.event-iterator ≡ x ∷ into_iter_items c.next.new.self = c.in-Some.ensures.steps.0 in (
+      append_assoc at.yielded (x ∷ []) _ ∙ rw (← steps) at.invariant.0,
+      let was = at.invariant.1 in
+          let gone = c.in-Some.ensures.steps.1 in
+          let short = ap length steps in
+          omega arith,
+      let count = at.invariant.2 in omega (arith, length-append at.yielded (x ∷ [])),
+      runs_more g.N.ClusterNode.acts c.args.self.now at.self c.step.new.self at.yielded x at.invariant.3 c.in-Ok.ensures.ok,
     )
+
+pub returns-clause-runs : goal.returns-clause-runs
+returns-clause-runs g c =
+    let at = c.loop-event in
+    let all : at.yielded ++ into_iter_items at.event-iterator ≡ c.args.events.items = at.invariant.0 ∙ c.into_iter-event-iterator.ensures.into_iter_gives.0 in
+    let P : List ClusterEvent → Type 0 = λ es. Runs g.N.ClusterNode.acts c.args.self.now es at.self in
+    subst P (sym (taken_so_far at.yielded _ c.args.events.items at.count all at.invariant.2)) at.invariant.3
+
+pub returns-in_default-clause-runs : goal.returns-in_default-clause-runs
+returns-in_default-clause-runs g c =
+    let at = c.loop-event in
+    let all : at.yielded ++ into_iter_items at.event-iterator ≡ c.args.events.items = at.invariant.0 ∙ c.into_iter-event-iterator.ensures.into_iter_gives.0 in
+    let P : List ClusterEvent → Type 0 = λ es. Runs g.N.ClusterNode.acts c.args.self.now es c.step.new.self in
+    let Q : ClusterValue g.row.N.Denot → Type 0 = λ v. Runs g.N.ClusterNode.acts c.args.self.now at.yielded v in
+    subst P (sym (taken_so_far at.yielded _ c.args.events.items at.count all at.invariant.2)) (subst Q (sym c.in_default.ensures.err) at.invariant.3)

@@ -43,7 +43,7 @@ returns-clause-built g c = λ own at before s x asked empty stands ready accepte
     (λ h. subst (λ (y : Engine _ _). CountsOn (membership_in_force group) y.leader y.leader) {x = lent_back} {y = c.self-1.given.0} (search rules)
     (subst (λ (y : Engine _ _). CountsOn (membership_in_force group) y.leader y.leader) (sym same)
     (counts_still own e.leader e.candidate s.stored group s.role stands.role
-    (snapshot_keeps_force e.state s.stored x old (let some : 0 < length e.state.memberships = grind (arith, nat_tests, h, c.len.ensures) in some))))) in
+    (snapshot_keeps_force e.state s.stored x old (let some : 0 < length e.state.memberships = grind (arith, nat_tests, h, c.len-is_changed.ensures) in some))))) in
     let back : CountsOn (membership_in_force group) lent_back.leader c.count_if.new.leader = subst (λ (y : Engine _ _). CountsOn (membership_in_force group) y.leader c.count_if.new.leader) {x = c.self-1.given.0} {y = lent_back} (search rules) counted in
     let leader : CountsOn (membership_in_force group) e.leader c.count_if.new.leader = subst (λ (y : Engine _ _). CountsOn (membership_in_force group) y.leader c.count_if.new.leader) same back in
     let step = snapshot_stored s x built own at e (record lent { state = lent_back.state; leader = c.count_if.new.leader }) stands (given x before s) refl (ap (λ (y : Engine _ _). y.seen_greater_log) asked) numbers (ap (λ (y : Engine _ _). y.state.state.committed) asked) refl refl refl leader refl knows

@@ -24,3 +24,10 @@ returns-clause-ok g c = λ s built up lawful.
       present = up.present;
     })
     up.moment idle lawful)
+
+pub returns-in_err-ended-clause-taken : goal.returns-in_err-ended-clause-taken
+returns-in_err-ended-clause-taken g c = λ s up lawful.
+    let own = c.args.self.now.id in
+    let both : Some up.engine ≡ Some c.in-Some.engine = sym up.has_engine ∙ sym c.take.ensures.value ∙ c.in-Some.is in
+    let same : up.engine ≡ c.in-Some.engine = cc in
+    c.in_err-ended.ensures.taken s up.present (subst (λ (e : Engine). IsIdle own e s) same up.idle) lawful
