@@ -131,7 +131,7 @@ fn snapshot_request(alloc: Global) -> Result<InstallSnapshotRequest<u64, BasicNo
 }
 
 /// The answer to a row about a request with a snapshot.
-pub fn sent(alloc: Global, words: &[&str]) -> Option<Answer> {
+pub fn requested(alloc: Global, words: &[&str]) -> Option<Answer> {
     match *words {
         ["snapshot-request"] => Some(told(alloc, &snapshot_request(alloc).ok()?)),
         _ => None,

@@ -7,7 +7,7 @@ use crate::copies::copied_of;
 use crate::known_states::{Known, known_of, new_group};
 use crate::leaders::{Leading, led};
 use crate::machines::told_of_machine;
-use crate::messages::{SentEntries, collected, responded, sent};
+use crate::messages::{SentEntries, collected, requested, responded};
 use crate::messages_refused::{entries_refused, vote_refused};
 use crate::queues::{Queue, queued};
 use crate::refusals::judged;
@@ -49,7 +49,7 @@ fn plain(topic: &str, alloc: Global, words: &[&str]) -> Option<Answer> {
         "changed" => changed_to(alloc, words),
         "judged" => judged(alloc, words),
         "message" => responded(alloc, words),
-        "made" => sent(alloc, words),
+        "made" => requested(alloc, words),
         "copy" => copied_of(alloc, words),
         "command" => told_of_command(alloc, words),
         "config" => configured(alloc, words),
