@@ -175,7 +175,7 @@ fn applied_total(total: u64, place: Option<u64>) -> AppliedTotal
 
 // The total of a machine that is lent, if one is.
 fn total_in(place: Option<u64>, machine: Option<&AddingMachine>) -> Option<AppliedTotal>
-    ensures { result ≡ total_in place (option_map state_of_total (option_copied machine)) }
+    ensures { result ≡ total_in place (option_map state_of_total (option_copied machine.entry)) }
 {
     match machine {
         Some(machine) => Some(applied_total(machine.total(), place)),
@@ -188,7 +188,7 @@ fn total_of<N: ClusterNode<Machine = AddingMachine>>(
     node: Option<&N>,
     group: u64,
 ) -> Option<AppliedTotal>
-    ensures { result ≡ total_at N.acts (option_copied node) group }
+    ensures { result ≡ total_at N.acts (option_copied node.entry) group }
 {
     match node {
         Some(node) => total_in(node.applied(group), node.machine(group)),
@@ -202,7 +202,7 @@ pub fn total_at<N: ClusterNode<Machine = AddingMachine>>(
     node: Option<&N>,
     group: u64,
 ) -> Result<String, AllocError>
-    ensures { IfOk result (λ text. string_bytes text ≡ total_text (total_at N.acts (option_copied node) group)) }
+    ensures { IfOk result (λ text. string_bytes text ≡ total_text (total_at N.acts (option_copied node.entry) group)) }
 {
     let total = total_of(node, group);
     total_text(alloc, total)

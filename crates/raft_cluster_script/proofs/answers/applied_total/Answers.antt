@@ -7,4 +7,4 @@ use Rattle.raft_cluster_script.proofs.answers.applied_total.Goals as goal
 pub returns : goal.returns
 returns c =
     let with_total : ℕ → AppliedTotal = λ n. record { total = n; place = c.args.place } in
-    ap with_total (sym (from_be_bytes-to_be_bytes_8 c.args.total c.ranges.total))
+    ap with_total (sym (from_be_bytes-to_be_bytes_8 c.args.total c.ranges.total.fits))
