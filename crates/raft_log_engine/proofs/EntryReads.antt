@@ -6,6 +6,8 @@ use Rattle.std.proofs.lemmas.Bool.{eq-eqb}
 use Rattle.std.proofs.lemmas.Bool.Decides.{eqb_tells}
 use Rattle.std.proofs.lemmas.List.{append-nil, take_at}
 use Rattle.raft_log_records.specs.declared.file_id.FileBlockHandle.{FileBlockHandle}
+use Rattle.raft_log_records.specs.declared.file_id.LogQueue.{LogQueue}
+use Rattle.raft_log_records.specs.declared.file_id.LogQueue.TheVariants.{Append, Rewrite}
 use Rattle.raft_log_records.specs.declared.item.EntryIndex.{EntryIndex}
 use Rattle.raft_log_records.specs.Checksum.{crc32_of}
 use Rattle.raft_log_records.specs.Item.{entry_bytes}
@@ -93,6 +95,11 @@ block_read p d h bytes block kept pipe are within is cut =
     ∙ ap (λ (l : List ℕ). take (length block) l) is
     ∙ take_at block (to_be_bytes w32 (crc32_of block)) (length block) refl
     ∙ sym (block_is p d h bytes block (not_out p d h.id.seq pipe within) are is)
+
+-- a queue's pipe can be used where both can
+pub pipe_there : (p : DualPipes) (d : Disk) → ArePipes p d → (queue : LogQueue) → IsPipe (pipe_of p queue) d
+pipe_there p d pipes Append = pipes.append
+pipe_there p d pipes Rewrite = pipes.rewrite
 
 -- what is read of an entry in its block
 pub entry_read : (p : DualPipes) (d : Disk) (e : EntryIndex) (h : FileBlockHandle) (block bytes : List ℕ) → e.entries ≡ Some h → block ≡ block_in d h (file_in h.id.seq (files_of (pipe_of p h.id.queue))) → bytes ≡ entry_bytes block e → bytes ≡ bytes_on d p e

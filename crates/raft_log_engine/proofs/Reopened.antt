@@ -21,9 +21,10 @@ use Rattle.raft_log_pipe.specs.declared.pipe.SinglePipe.{SinglePipe}
 use Rattle.raft_log_pipe.specs.Appending.{LeavesAppended}
 use Rattle.raft_log_pipe.specs.Alone.{IsAlone, IsNearlyAlone, IsOnce, Names, directories_of_pipe}
 use Rattle.raft_log_pipe.specs.Pipe.{Holds, Leaves, Numbered}
-use Rattle.raft_log_pipe.proofs.AloneLemmas.{nearly}
+use Rattle.raft_log_pipe.proofs.AloneLemmas.{alone_on, nearly, nearly_on}
 use Rattle.raft_log_pipe.proofs.PipeLemmas.{holds_leaves, leaves_less}
 use Rattle.raft_log_pipes.specs.declared.pipes.DualPipes.{DualPipes}
+use Rattle.raft_log_pipes.specs.Calls.{IsCloseOf}
 use Rattle.raft_log_pipes.specs.Pipes.{IsAsBefore}
 use Rattle.raft_log_memtables.specs.declared.memtables.MemTables.{MemTables}
 use Rattle.raft_log_memtables.specs.Content.{Content, after_batch}
@@ -88,6 +89,11 @@ rewrite_on p q d e keeps alone = keeps.other.alone alone.rewrite
 pub stand_on : (p q : DualPipes) (d e : Disk) → KeepsRewrites p d q e → StandAlone p d → IsAlone q.append e → StandAlone q e
 stand_on p q d e keeps alone append = record { paths = paths_on p q d e keeps alone; append = append; rewrite = rewrite_on p q d e keeps alone }
 
+-- so does a sync, which changes no names
+pub synced_stands : (p q : DualPipes) (d e : Disk) → (q.append.active ≡ p.append.active) × (q.append.older ≡ p.append.older) → q.append.paths ≡ p.append.paths → e.names ≡ d.names → IsAsBefore p.rewrite d q.rewrite e → StandAlone p d → StandAlone q e
+synced_stands p q d e same paths names other alone =
+    stand_on p q d e (record { paths = paths; other = other }) alone (alone_on p.append q.append d e (same.0, same.1, q.appends ∙ sym p.appends) paths names alone.append)
+
 pub rewrites_on : (p q : DualPipes) (d e : Disk) (r : Numbered) → KeepsRewrites p d q e → StandAlone p d → Holds p.rewrite d r [] → RewritesStand q e r
 rewrites_on p q d e r keeps alone holds = record {
   paths = paths_on p q d e keeps alone;
@@ -134,6 +140,50 @@ closed_leaves p q d e (Ok x) s u ok err holds =
     subst (λ (l : Numbered). Leaves q e s l) (append-nil u)
     (leaves_less q.queue (q.older.items ++ q.active ∷ []) e s u [] (holds_leaves q.queue q.older.items q.active q.writer.offset e (s ++ u) [] (ok s u holds)))
 closed_leaves p q d e (Err x) s u ok err holds = err s u holds
+
+-- What a crash leaves then, of the rewrite queue and of the append queue
+pub record IsClosed (p q : DualPipes) (e : Disk) (r s u : Numbered) : Type 0 where
+  pub paths : q.append.paths ≡ p.append.paths
+  pub stand : RewritesStand q e r
+  pub near : IsNearlyAlone q.append e
+  pub leaves : Leaves q.append e s u
+
+module _ (p q : DualPipes) (d e : Disk) (x : Result (Unit {0}) Error) (call : IsCloseOf p.append d q.append e x) (other : IsAsBefore p.rewrite d q.rewrite e) (alone : StandAlone p d) (r s u : Numbered) (rewrite : Holds p.rewrite d r []) (append : Holds p.append d s u) where
+  queue_stays : q.append.queue ≡ p.append.queue
+  queue_stays = q.appends ∙ sym p.appends
+
+  -- the append queue was closed, or that was refused
+  pub first_closed : IsClosed p q e r s u
+  first_closed = record {
+    paths = call.paths;
+    stand = rewrites_on p q d e r (record { paths = call.paths; other = other }) alone rewrite;
+    near = nearly_on p.append q.append d e (call.same.0, call.same.1, queue_stays) call.paths call.names alone.append;
+    leaves = closed_leaves p.append q.append d e x s u call.ok call.err append;
+  }
+
+-- it was, and then the rewrite queue was or that was refused
+pub both_closed : (p q t : DualPipes) (d e f : Disk) (done : Unit {0}) (x : Result (Unit {0}) Error) → IsCloseOf p.append d q.append e (Ok done) → IsAsBefore p.rewrite d q.rewrite e → IsCloseOf q.rewrite e t.rewrite f x → IsAsBefore q.append e t.append f
+    → StandAlone p d → (r s u : Numbered) → Holds p.rewrite d r [] → Holds p.append d s u → IsClosed p t f r s u
+both_closed p q t d e f done x first other second beside alone r s u rewrite append =
+    let paths : t.append.paths ≡ p.append.paths = ap (λ (y : SinglePipe). y.paths) beside.same ∙ first.paths in
+    let there : IsAlone q.append e = alone_on p.append q.append d e (first.same.0, first.same.1, q.appends ∙ sym p.appends) first.paths first.names alone.append in
+    let all : Holds t.append f (s ++ u) [] = beside.holds (s ++ u) [] (first.ok s u append) in
+    record {
+      paths = paths;
+      stand = record {
+        paths = same_directories q.rewrite t.rewrite second.paths ∙ ap directories_of_pipe other.same ∙ alone.paths ∙ sym (same_directories p.append t.append paths);
+        alone = nearly_on q.rewrite t.rewrite e f (second.same.0, second.same.1, t.rewrites ∙ sym q.rewrites) second.paths second.names (other.alone alone.rewrite);
+        leaves = closed_leaves q.rewrite t.rewrite e f x r [] second.ok second.err (other.holds r [] rewrite);
+      };
+      near = nearly t.append f (beside.alone there);
+      leaves = subst (λ (l : Numbered). Leaves t.append f s l) (append-nil u)
+          (leaves_less t.append.queue (t.append.older.items ++ t.append.active ∷ []) f s u []
+          (holds_leaves t.append.queue t.append.older.items t.append.active t.append.writer.offset f (s ++ u) [] all));
+    }
+
+pub closed_opens : (p q : DualPipes) (e : Disk) (r bs : Numbered) (content : Seen) → IsNamed e → IsClosed p q e r bs [] → content ≡ content_of_batches (r ++ bs) → OpensAs (directories_of_pipes p) e content
+closed_opens p q e r bs content named closed is =
+    subst (λ (l : List Text). OpensAs l e content) (same_directories p.append q.append closed.paths) (left_opens e q r bs content named closed.stand closed.near closed.leaves is)
 
 -- ---- the exits of a write
 

@@ -19,7 +19,7 @@ use Rattle.raft_log_engine.specs.Held.{HoldsMore, Parts, content_of_batches}
 use Rattle.raft_log_engine.specs.Reopened.{OpensAsFront, StandsAlone, directories_of_engine, directories_of_pipes}
 use Rattle.raft_log_engine.specs.Since.{HasWritten, after_batches, unnumbered, written_batch}
 use Rattle.raft_log_engine.proofs.Batches.{one_more_batch}
-use Rattle.raft_log_engine.proofs.Reopened.{KeepsRewrites, RewritesStand, both_content, rewrites_on, rewrites_stand}
+use Rattle.raft_log_engine.proofs.Reopened.{IsClosed, KeepsRewrites, RewritesStand, both_content, rewrites_on, rewrites_stand, same_directories}
 
 abbrev Seen : Type 0
 Seen = Content (List ℕ)
@@ -164,6 +164,13 @@ pub front_opens : (d : Disk) (p : DualPipes) (first : List Batch) (r s u : Numbe
 front_opens d p first r s u before batches named stand alone leaves on_disk plain split image e mode found crashed f =
     let c = both_content d p r s u named stand alone leaves image e mode found crashed f in
     (length first + c.0, c.1 ∙ front_is c.0 first r s u before on_disk plain ∙ ap (λ (x : List Batch). after_batches (take (length first + c.0) x) before) (sym split))
+
+-- after a close
+pub closed_front : (p q : DualPipes) (e : Disk) (first : List Batch) (r s u : Numbered) (before : Seen) (batches : List Batch) → IsNamed e → IsClosed p q e r s u → content_of_batches (r ++ s) ≡ after_batches first before
+    → ArePlain (unnumbered u) → batches ≡ first ++ unnumbered u → OpensAsFront (directories_of_pipes p) e before batches
+closed_front p q e first r s u before batches named closed on_disk plain split =
+    subst (λ (l : List Text). OpensAsFront l e before batches) (same_directories p.append q.append closed.paths)
+    (front_opens e q first r s u before batches named closed.stand closed.near closed.leaves on_disk plain split)
 
 front_more : (k : ℕ) (xs ys : List Batch) → (j : ℕ) × (take j (xs ++ ys) ≡ take k xs)
 front_more zero xs ys = (0, refl)
