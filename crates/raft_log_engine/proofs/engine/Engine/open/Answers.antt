@@ -1,7 +1,10 @@
 -- What calls answer is the content of the batches that the files read as.
 use Rattle.std.proofs.Common.{false, [], refl}
 use Rattle.raft_log_engine.specs.Left.{answers_on}
+use Rattle.raft_log_files.specs.Settings.{settings_of}
+use Rattle.raft_log_recovery.specs.Scan.{directories_of}
 use Rattle.raft_log_engine.proofs.Clauses.{parts}
+use Rattle.raft_log_engine.proofs.Fresh.{found_nothing}
 use Rattle.raft_log_engine.proofs.Reopened.{kept_opens}
 use Rattle.raft_log_engine.proofs.Since.{nothing_since}
 use Rattle.raft_log_engine.proofs.Tables.{answered, kept_held}
@@ -17,6 +20,18 @@ returns-in-Ok-clause-answers g c =
       append = is.append;
       is = answered (g.F.FileSystem.disk c.recovered.new.files) c.in-Ok.pipes c.in-Ok.tables is.rewrites is.appends is.kept;
     }
+
+pub returns-in-Ok-clause-fresh : goal.returns-in-Ok-clause-fresh
+returns-in-Ok-clause-fresh g c =
+    let is = c.in-Ok.ensures.ok in
+    let d = g.F.FileSystem.disk c.recovered.new.files in
+    λ none. found_nothing (directories_of (settings_of c.args.config)) c.args.config.recovery_mode (g.F.FileSystem.disk c.args.files) _ none (record {
+      rewrites = is.rewrites;
+      appends = is.appends;
+      rewrite = is.rewrite;
+      append = is.append;
+      is = answered d c.in-Ok.pipes c.in-Ok.tables is.rewrites is.appends is.kept;
+    })
 
 pub returns-in-Ok-clause-opens : goal.returns-in-Ok-clause-opens
 returns-in-Ok-clause-opens g c =
