@@ -1,10 +1,13 @@
 //! Files that are written by hand.
 
-use raft_log_files::{Error, FileSystem, Permission};
+use raft_log_files::{Error, FileSystem, IoFault, Permission};
 use raft_rows::bytes;
 use std::alloc::{AllocError, Global};
 
 fn made<F: FileSystem>(files: &mut F, path: &str, text: &[u8]) -> Result<(), Error> {
+    if files.is_file(path) {
+        return Err(Error::from(IoFault::Refused));
+    }
     let fd = files.create(path)?;
     files.write_at(fd, 0, text)?;
     Ok(files.sync(fd)?)
@@ -19,15 +22,15 @@ fn path_of(alloc: Global, name: &str) -> Result<String, AllocError> {
 
 /// Makes files: each name is followed by its bytes.
 pub fn make_all<F: FileSystem>(files: &mut F, alloc: Global, words: &[&str]) -> Result<(), Error> {
-    match words {
-        [name, text, rest @ ..] => {
-            let path = path_of(alloc, name)?;
-            let text = bytes(alloc, text)?;
-            made(files, path.as_str(), &text)?;
-            make_all(files, alloc, rest)
-        }
-        _ => Ok(()),
+    for pair in words.chunks(2) {
+        let [name, text] = pair else {
+            return Ok(());
+        };
+        let path = path_of(alloc, name)?;
+        let text = bytes(alloc, text)?;
+        made(files, path.as_str(), &text)?;
     }
+    Ok(())
 }
 
 /// The length of a file in the main directory, none where there is none.
