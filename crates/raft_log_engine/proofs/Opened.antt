@@ -113,33 +113,33 @@ map_twice [] = refl
 map_twice (b ∷ bs) = λ i. lengths b.1 ∷ map_twice bs i
 
 -- both queues
-both_seen : {X : Type 0} (f : EntryIndex → X) (out : Batch → List (Item X)) (rs as : Numbered) (ones twos : List Placed) → seen f ones ≡ map (λ (b : ℕ × Batch). out b.1) rs → seen f twos ≡ map (λ (b : ℕ × Batch). out b.1) as
-    → seen f (ones ++ twos) ≡ map (λ (b : ℕ × Batch). out b.1) (rs ++ as)
-both_seen f out rs as ones twos one two = seen_append f ones twos ∙ (λ i. one i ++ two i) ∙ sym (map-append (λ (b : ℕ × Batch). out b.1) rs as)
+both_seen : {X : Type 0} (f : EntryIndex → X) (out : Batch → List (Item X)) (front behind : Numbered) (ones twos : List Placed) → seen f ones ≡ map (λ (b : ℕ × Batch). out b.1) front → seen f twos ≡ map (λ (b : ℕ × Batch). out b.1) behind
+    → seen f (ones ++ twos) ≡ map (λ (b : ℕ × Batch). out b.1) (front ++ behind)
+both_seen f out front behind ones twos one two = seen_append f ones twos ∙ (λ i. one i ++ two i) ∙ sym (map-append (λ (b : ℕ × Batch). out b.1) front behind)
 
 pub found_tabled : (d : Disk) (p : DualPipes) (rfs afs : List File) (ones twos : List Placed) (tables : MemTables) → ((f : File) → IsIn f rfs → IsIn f (files_of p.rewrite)) → ((f : File) → IsIn f afs → IsIn f (files_of p.append))
     → AreAllGot p.rewrite.queue d [] rfs ones → AreAllGot p.append.queue d [] afs twos → content_in tables ≡ content_over nothing (ones ++ twos)
     → IsTabled p (batches_of p.rewrite.queue d rfs) (batches_of p.append.queue d afs) tables
 found_tabled d p rfs afs ones twos tables in_rewrites in_appends one two is =
-    let rs : Numbered = batches_of p.rewrite.queue d rfs in
-    let as : Numbered = batches_of p.append.queue d afs in
+    let front : Numbered = batches_of p.rewrite.queue d rfs in
+    let behind : Numbered = batches_of p.append.queue d afs in
     record {
       content = λ read reads.
           ap (content_map read) is
           ∙ sym (maps_replay read (records_in (ones ++ twos)))
           ∙ ap content_of
-          (both_seen read (λ items. items) rs as ones twos
-          (seen_all p.rewrite rs read (λ items. items) (seen_bytes p.rewrite rs read (λ e bytes lies. reads e bytes (inl lies))) d [] rfs ones in_rewrites refl one)
-          (seen_all p.append as read (λ items. items) (seen_bytes p.append as read (λ e bytes lies. reads e bytes (inr lies))) d [] afs twos in_appends refl two));
+          (both_seen read (λ items. items) front behind ones twos
+          (seen_all p.rewrite front read (λ items. items) (seen_bytes p.rewrite front read (λ e bytes lies. reads e bytes (inl lies))) d [] rfs ones in_rewrites refl one)
+          (seen_all p.append behind read (λ items. items) (seen_bytes p.append behind read (λ e bytes lies. reads e bytes (inr lies))) d [] afs twos in_appends refl two));
       lengths =
           ap (content_map (λ e. e.entry_len)) is
           ∙ sym (maps_replay (λ e. e.entry_len) (records_in (ones ++ twos)))
           ∙ ap content_of
-          (both_seen (λ e. e.entry_len) lengths rs as ones twos
-          (seen_all p.rewrite rs (λ e. e.entry_len) lengths (seen_lengths p.rewrite rs) d [] rfs ones in_rewrites refl one)
-          (seen_all p.append as (λ e. e.entry_len) lengths (seen_lengths p.append as) d [] afs twos in_appends refl two)
-          ∙ map_twice (rs ++ as))
-          ∙ maps_replay length (map (λ (b : ℕ × Batch). b.1) (rs ++ as));
+          (both_seen (λ e. e.entry_len) lengths front behind ones twos
+          (seen_all p.rewrite front (λ e. e.entry_len) lengths (seen_lengths p.rewrite front) d [] rfs ones in_rewrites refl one)
+          (seen_all p.append behind (λ e. e.entry_len) lengths (seen_lengths p.append behind) d [] afs twos in_appends refl two)
+          ∙ map_twice (front ++ behind))
+          ∙ maps_replay length (map (λ (b : ℕ × Batch). b.1) (front ++ behind));
     }
 
 -- ---- the steps of an opening, where the directories and the mode are those of a builder
