@@ -65,3 +65,38 @@ pub returns-in_err-sync-clause-taken : goal.returns-in_err-sync-clause-taken
 returns-in_err-sync-clause-taken g c = λ free.
     sync_for FileBlockHandle c.args.pipes.now.append (g.F.FileSystem.disk c.args.files.now) c.args.batch.now.items c.from_residual-in_err-sync.result c.in_err-sync.field-0.0 c.from_residual-in_err-sync.ensures.1
     (c.in_err-sync.ensures.taken (still_free free c.in_ok-handle.ensures.later))
+
+-- ---- what the append itself says
+
+pub returns-in_err-handle-clause-nearly : goal.returns-in_err-handle-clause-nearly
+returns-in_err-handle-clause-nearly g c = at_err _ _ c.in_err-handle.ensures.call.nearly
+
+pub returns-in_err-handle-clause-err : goal.returns-in_err-handle-clause-err
+returns-in_err-handle-clause-err g c = at_err _ _ c.in_err-handle.ensures.call.err
+
+pub returns-in_err-handle-clause-paths : goal.returns-in_err-handle-clause-paths
+returns-in_err-handle-clause-paths g c = c.in_err-handle.ensures.call.paths
+
+pub returns-then-not-sync-clause-paths : goal.returns-then-not-sync-clause-paths
+returns-then-not-sync-clause-paths g c = c.in_ok-handle.ensures.call.paths
+
+pub returns-then-not-sync-clause-alone : goal.returns-then-not-sync-clause-alone
+returns-then-not-sync-clause-alone g c = c.in_ok-handle.ensures.call.alone
+
+pub returns-then-not-sync-clause-files : goal.returns-then-not-sync-clause-files
+returns-then-not-sync-clause-files g c = c.in_ok-handle.ensures.call.files
+
+pub returns-then-not-sync-clause-stands : goal.returns-then-not-sync-clause-stands
+returns-then-not-sync-clause-stands g c = c.in_ok-handle.ensures.call.stands
+
+pub returns-then-not-sync-clause-fits : goal.returns-then-not-sync-clause-fits
+returns-then-not-sync-clause-fits g c = c.in_ok-handle.ensures.call.fits
+
+pub returns-in_err-sync-clause-paths : goal.returns-in_err-sync-clause-paths
+returns-in_err-sync-clause-paths g c = c.in_err-sync.ensures.call.paths ∙ c.in_ok-handle.ensures.call.paths
+
+pub returns-clause-paths : goal.returns-clause-paths
+returns-clause-paths g c = c.in_ok-sync.ensures.call.paths ∙ c.in_ok-handle.ensures.call.paths
+
+pub returns-clause-fits : goal.returns-clause-fits
+returns-clause-fits g c = c.in_ok-handle.ensures.call.fits

@@ -104,3 +104,19 @@ returns-clause-all_written g c =
 pub returns-in-Err-clause-taken : goal.returns-in-Err-clause-taken
 returns-in-Err-clause-taken g c =
     rw (← c.self.view_is) (λ free. failed_sync (parts c.self.inside.files c.self.inside.pipes c.self.inside.tables c.self.inside.is_stopped c.self.inside.wrote_unsynced) c.in-Err.error (c.in-Err.ensures.taken free))
+
+-- ---- where the files lie
+
+pub returns-in-Err-clause-paths : goal.returns-in-Err-clause-paths
+returns-in-Err-clause-paths g c = rw (← c.self.view_is) c.in-Err.ensures.call.paths
+
+pub returns-in-Err-clause-alone : goal.returns-in-Err-clause-alone
+returns-in-Err-clause-alone g c =
+    rw (← c.self.view_is) (λ alone. synced_stands c.self.inside.pipes c.sync.new.self (g.F.FileSystem.disk c.self.inside.files) (g.F.FileSystem.disk c.sync.new.files) c.in-Err.ensures.call.same c.in-Err.ensures.call.paths c.in-Err.ensures.call.names c.in-Err.ensures.other alone)
+
+pub returns-clause-paths : goal.returns-clause-paths
+returns-clause-paths g c = rw (← c.self.view_is) c.in_default.ensures.call.paths
+
+pub returns-clause-alone : goal.returns-clause-alone
+returns-clause-alone g c =
+    rw (← c.self.view_is) (λ alone. synced_stands c.self.inside.pipes c.sync.new.self (g.F.FileSystem.disk c.self.inside.files) (g.F.FileSystem.disk c.sync.new.files) c.in_default.ensures.call.same c.in_default.ensures.call.paths c.in_default.ensures.call.names c.in_default.ensures.other alone)
