@@ -68,4 +68,4 @@ returns-clause-opens_front g c =
     closed_front p t f w.first w.rewrites w.synced w.unsynced before batches (met.is_named c.close-2.new.files) (both_closed p q t d e f _ c.close-2.result c.in-Ok.ensures.call c.in-Ok.ensures.other c.close-2.ensures.call c.close-2.ensures.other alone w.rewrites w.synced w.unsynced w.rewrite w.append) w.on_disk w.plain w.split)
 
 pub returns-clause-later : goal.returns-clause-later
-returns-clause-later g c = no_more_then c.in-Ok.ensures.later c.close-2.ensures.later
+returns-clause-later g c = rw (← c.self.view_is) (no_more_then c.in-Ok.ensures.later c.close-2.ensures.later)
