@@ -1,11 +1,13 @@
 -- Entries are read as their bytes.
-use Rattle.std.proofs.Common.{◌≡◌, ◌≢◌, ◌⊎◌, inl, inr, ℕ, ◌+◌, ◌<◌, ◌≤◌, Bool, true, false, cond, List, [], ◌∷◌, ◌++◌, length, take, drop, Option, Some, None, refl, sym, ap, ◌∙◌, arith, length-append}
+use Rattle.std.proofs.Common.{◌≡◌, ◌≢◌, ◌⊎◌, inl, inr, ℕ, ◌+◌, ◌<◌, ◌≤◌, Bool, true, false, cond, List, [], ◌∷◌, ◌++◌, length, take, drop, Option, Some, None, refl, sym, ap, subst, ◌∙◌, arith, length-append}
 use Rattle.std.specs.Prelude.{◌==◌}
 use Rattle.std.specs.Int.{w32, to_be_bytes}
 use Rattle.std.proofs.lemmas.Bool.{eq-eqb}
 use Rattle.std.proofs.lemmas.Bool.Decides.{eqb_tells}
-use Rattle.std.proofs.lemmas.List.{take_at}
+use Rattle.std.proofs.lemmas.List.{append-nil, take_at}
 use Rattle.raft_log_records.specs.declared.file_id.FileBlockHandle.{FileBlockHandle}
+use Rattle.raft_log_records.specs.declared.file_id.LogQueue.{LogQueue}
+use Rattle.raft_log_records.specs.declared.file_id.LogQueue.TheVariants.{Append, Rewrite}
 use Rattle.raft_log_records.specs.declared.item.EntryIndex.{EntryIndex}
 use Rattle.raft_log_records.specs.Checksum.{crc32_of}
 use Rattle.raft_log_records.specs.Item.{entry_bytes}
@@ -17,7 +19,9 @@ use Rattle.raft_log_pipe.specs.Blocks.{AreOfFile, IsOutOfSpan, files_of}
 use Rattle.raft_log_pipe.specs.Pipe.{Numbered, AreConsecutive, Holds, IsPipe, first_of}
 use Rattle.raft_log_pipe.proofs.BlockLemmas.{blocks_are, one_file}
 use Rattle.raft_log_pipe.proofs.NextLemmas.{consecutive_push}
-use Rattle.raft_log_engine.specs.Held.{ReadsEntries, block_in, bytes_on, bytes_placed, file_in, unsealed_bytes}
+use Rattle.raft_log_pipes.specs.declared.pipes.DualPipes.{DualPipes}
+use Rattle.raft_log_pipes.specs.Pipes.{ArePipes, pipe_of}
+use Rattle.raft_log_engine.specs.Held.{LiesIn, ReadsEntries, block_in, bytes_on, bytes_placed, file_in, unsealed_bytes}
 
 -- ---- the file of a number
 
@@ -92,17 +96,38 @@ block_read p d h bytes block kept pipe are within is cut =
     ∙ take_at block (to_be_bytes w32 (crc32_of block)) (length block) refl
     ∙ sym (block_is p d h bytes block (not_out p d h.id.seq pipe within) are is)
 
+-- a queue's pipe can be used where both can
+pub pipe_there : (p : DualPipes) (d : Disk) → ArePipes p d → (queue : LogQueue) → IsPipe (pipe_of p queue) d
+pipe_there p d pipes Append = pipes.append
+pipe_there p d pipes Rewrite = pipes.rewrite
+
 -- what is read of an entry in its block
-pub entry_read : (p : SinglePipe) (d : Disk) (e : EntryIndex) (h : FileBlockHandle) (block bytes : List ℕ) → e.entries ≡ Some h → block ≡ block_in d h (file_in h.id.seq (files_of p)) → bytes ≡ entry_bytes block e → bytes ≡ bytes_on d p e
+pub entry_read : (p : DualPipes) (d : Disk) (e : EntryIndex) (h : FileBlockHandle) (block bytes : List ℕ) → e.entries ≡ Some h → block ≡ block_in d h (file_in h.id.seq (files_of (pipe_of p h.id.queue))) → bytes ≡ entry_bytes block e → bytes ≡ bytes_on d p e
 entry_read p d e h block bytes place read is = is ∙ ap (λ (l : List ℕ). entry_bytes l e) read ∙ sym (ap (λ (o : Option FileBlockHandle). bytes_placed d p e o) place)
 
--- entries that lie in batches of the pipe are read as their bytes
-pub disk_reads : (p : SinglePipe) (d : Disk) (s u : Numbered) → IsPipe p d → Holds p d s u → ReadsEntries p (s ++ u) (bytes_on d p)
-disk_reads p d s u pipe holds e bytes lies =
+-- an entry that lies in a batch of a pipe, in its block there
+lies_read : (p : SinglePipe) (d : Disk) (s u : Numbered) → IsPipe p d → Holds p d s u → (e : EntryIndex) (bytes : List ℕ) → (lies : LiesIn p (s ++ u) e bytes)
+    → entry_bytes (block_in d lies.handle (file_in lies.handle.id.seq (files_of p))) e ≡ bytes
+lies_read p d s u pipe holds e bytes lies =
     let h : FileBlockHandle = lies.handle in
     let there : List ℕ = take h.len (drop h.offset (d.file lies.file.handle.0).bytes) in
     let are : AreOfFile p d h there = λ f among number. ap (λ (x : File). take h.len (drop h.offset (d.file x.handle.0).bytes)) (one_file p d lies.file f pipe lies.among among (sym lies.block.seq ∙ sym number)) in
     let is : there ≡ sealed None (block_of lies.items) = blocks_are p d h there pipe are s u lies.before lies.after lies.file lies.items 8 holds lies.split lies.among lies.block ∙ lies.stands in
-    ap (λ (o : Option FileBlockHandle). bytes_placed d p e o) lies.place
-    ∙ ap (λ (l : List ℕ). entry_bytes l e) (block_is p d h there (block_of lies.items) (found h.id.seq (files_of p) lies.file lies.among (sym lies.block.seq)) are is)
+    ap (λ (l : List ℕ). entry_bytes l e) (block_is p d h there (block_of lies.items) (found h.id.seq (files_of p) lies.file lies.among (sym lies.block.seq)) are is)
     ∙ sym lies.bytes_are
+
+-- so it is read where the handle's queue is the pipe's
+placed_read : (p : DualPipes) (d : Disk) (q : SinglePipe) (bs : Numbered) (e : EntryIndex) (bytes : List ℕ) → (lies : LiesIn q bs e bytes) → pipe_of p lies.handle.id.queue ≡ q
+    → entry_bytes (block_in d lies.handle (file_in lies.handle.id.seq (files_of q))) e ≡ bytes → bytes_on d p e ≡ bytes
+placed_read p d q bs e bytes lies is read =
+    ap (λ (o : Option FileBlockHandle). bytes_placed d p e o) lies.place
+    ∙ ap (λ (x : SinglePipe). entry_bytes (block_in d lies.handle (file_in lies.handle.id.seq (files_of x))) e) is
+    ∙ read
+
+-- entries that lie in batches of either queue are read as their bytes
+pub disk_reads : (p : DualPipes) (d : Disk) (r s u : Numbered) → ArePipes p d → Holds p.rewrite d r [] → Holds p.append d s u → ReadsEntries p r (s ++ u) (bytes_on d p)
+disk_reads p d r s u pipes rewrite append e bytes (inl lies) =
+    let moved : LiesIn p.rewrite (r ++ []) e bytes = subst (λ (l : Numbered). LiesIn p.rewrite l e bytes) (sym (append-nil r)) lies in
+    placed_read p d p.rewrite (r ++ []) e bytes moved (ap (pipe_of p) (moved.queue ∙ p.rewrites)) (lies_read p.rewrite d r [] pipes.rewrite rewrite e bytes moved)
+disk_reads p d r s u pipes rewrite append e bytes (inr lies) =
+    placed_read p d p.append (s ++ u) e bytes lies (ap (pipe_of p) (lies.queue ∙ p.appends)) (lies_read p.append d s u pipes.append append e bytes lies)

@@ -1,18 +1,21 @@
 -- Where no file has a name an opening finds nothing.
-use Rattle.std.proofs.Common.{◌≡◌, ℕ, ◌+◌, List, [], ◌∷◌, ◌++◌, length, drop, ap, subst, ◌∙◌}
+use Rattle.std.proofs.Common.{◌≡◌, ℕ, ◌+◌, List, [], ◌∷◌, ◌++◌, length, drop, sym, ap, subst, ◌∙◌}
 use Rattle.std.specs.List.Sorted.{IsPermutation}
 use Rattle.std.proofs.lemmas.List.{nil_from_length}
 use Rattle.std.proofs.lemmas.List.Sorted.{length_permutation}
 use Rattle.std.proofs.Math.Seq.{drop-nil}
-use Rattle.raft_log_records.specs.declared.file_id.LogQueue.TheVariants.{Append}
+use Rattle.raft_log_records.specs.declared.file_id.LogQueue.{LogQueue}
+use Rattle.raft_log_records.specs.declared.file_id.LogQueue.TheVariants.{Append, Rewrite}
 use Rattle.raft_log_disk.specs.Disk.{Disk, listed}
 use Rattle.raft_log_disk.specs.Text.{Text}
 use Rattle.raft_log_files.specs.declared.recovery.RecoveryMode.{RecoveryMode}
 use Rattle.raft_log_memtables.specs.Content.{Content, nothing}
-use Rattle.raft_log_pipe.specs.declared.file.File.{File}
 use Rattle.raft_log_pipe.specs.Alone.{Names}
+use Rattle.raft_log_pipe.specs.Pipe.{Numbered}
 use Rattle.raft_log_recovery.specs.declared.scan.FileKind.{FileKind}
+use Rattle.raft_log_recovery.specs.declared.scan.FileKind.TheVariants.{Log}
 use Rattle.raft_log_recovery.specs.declared.scan.FileName.{FileName}
+use Rattle.raft_log_recovery.specs.Again.{FindsSound}
 use Rattle.raft_log_recovery.specs.Opening.{batches_of}
 use Rattle.raft_log_recovery.specs.Queue.{AreOpen}
 use Rattle.raft_log_recovery.specs.Scan.{AreFound, AreInDirectories, files_named}
@@ -33,8 +36,14 @@ none_found d kind directories names unnamed found =
     let none = none_permuted found.all found.sorted (none_in d kind 0 directories found.all unnamed found.in_directories) found.same in
     found.rest ∙ ap (drop found.start) none ∙ drop-nil found.start
 
+none_read : (mode : RecoveryMode) (directories : List Text) (queue : LogQueue) (d : Disk) (bs : Numbered) → d.names ≡ [] → FindsSound mode directories queue d bs → bs ≡ []
+none_read mode directories queue d bs unnamed s =
+    let names = none_found s.made (Log queue) directories s.names (ap (λ (y : Disk). y.names) s.finds.makes.only ∙ unnamed) s.finds.found in
+    let files : s.files ≡ [] = subst (λ (l : List FileName). AreOpen s.made directories queue l s.files) names s.finds.opened in
+    sym s.reads ∙ ap (batches_of queue s.made) files
+
 pub found_nothing : (directories : List Text) (mode : RecoveryMode) (d : Disk) (content : Content (List ℕ)) → d.names ≡ [] → IsFoundContent mode directories d content → content ≡ nothing
 found_nothing directories mode d content unnamed f =
-    let names = none_found f.made _ directories f.names (ap (λ (y : Disk). y.names) f.found.makes.only ∙ unnamed) f.found.found in
-    let files : f.files ≡ [] = subst (λ (l : List FileName). AreOpen f.made directories Append l f.files) names f.opened in
-    f.is ∙ ap (λ (l : List File). content_of_batches (batches_of Append f.made l)) files
+    let rewrites = none_read mode directories Rewrite d f.rewrites unnamed f.rewrite in
+    let appends = none_read mode directories Append d f.appends unnamed f.append in
+    f.is ∙ (λ i. content_of_batches (rewrites i ++ appends i))

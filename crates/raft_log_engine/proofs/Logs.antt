@@ -56,8 +56,8 @@ module _ {F : Type 0} (disk : F → Disk) (settings : Config) where
   abbrev pub IsInMain : Parts F → Type 0
   IsInMain e = directories_of_engine e ≡ main_directory settings
 
-  pub still_in_main : (old new : Parts F) → IsInMain old → new.append.paths ≡ old.append.paths → IsInMain new
-  still_in_main old new at paths = same_directories old.append new.append paths ∙ at
+  pub still_in_main : (old new : Parts F) → IsInMain old → new.pipes.append.paths ≡ old.pipes.append.paths → IsInMain new
+  still_in_main old new at paths = same_directories old.pipes.append new.pipes.append paths ∙ at
 
   -- what holds of all that an opening in the engine's directories finds
   found_there : (e : Parts F) (P : Seen → Type 0) → IsInMain e
@@ -87,7 +87,7 @@ module _ {F : Type 0} (disk : F → Disk) (settings : Config) where
 
   -- ---- a write
 
-  module _ (old new : Parts F) (items : Batch) (at : IsInMain old) (paths : new.append.paths ≡ old.append.paths) where
+  module _ (old new : Parts F) (items : Batch) (at : IsInMain old) (paths : new.pipes.append.paths ≡ old.pipes.append.paths) where
     abbrev after : Seen
     after = after_batch items (answers_on disk old)
 

@@ -3,24 +3,23 @@ use Rattle.std.proofs.Common.{◌≡◌, ℕ, zero, suc, ◌+◌, Bool, true, fa
 use Rattle.std.specs.List.{AllByRecursion, list_any}
 use Rattle.std.proofs.lemmas.List.{append-nil, map-append, take-append-drop}
 use Rattle.std.proofs.Math.Seq.{take-append-add}
-use Rattle.raft_log_records.specs.declared.file_id.LogQueue.TheVariants.{Append}
 use Rattle.raft_log_records.specs.Spelling.{holds_mark}
 use Rattle.raft_log_disk.specs.Disk.{Disk, IsNamed}
 use Rattle.raft_log_disk.specs.Text.{Text}
 use Rattle.raft_log_file.specs.Laws.{Batch}
-use Rattle.raft_log_pipe.specs.declared.pipe.SinglePipe.{SinglePipe}
+use Rattle.raft_log_pipes.specs.declared.pipes.DualPipes.{DualPipes}
+use Rattle.raft_log_pipes.specs.Pipes.{IsAsBefore}
 use Rattle.raft_log_pipe.specs.Appending.{LeavesAppended}
-use Rattle.raft_log_pipe.specs.Alone.{IsAlone, IsNearlyAlone, directories_of_pipe}
+use Rattle.raft_log_pipe.specs.Alone.{IsAlone, IsNearlyAlone}
 use Rattle.raft_log_pipe.specs.Pipe.{Holds, Leaves, Numbered}
 use Rattle.raft_log_pipe.proofs.AloneLemmas.{nearly}
 use Rattle.raft_log_pipe.proofs.PipeLemmas.{holds_leaves}
 use Rattle.raft_log_memtables.specs.Content.{Content, after_batch}
-use Rattle.raft_log_engine.specs.Held.{HoldsMore, IsHeld, IsKept, Parts, content_of_batches, seen_on}
-use Rattle.raft_log_engine.specs.Left.{answers_on}
-use Rattle.raft_log_engine.specs.Reopened.{OpensAsFront, StandsAlone, directories_of_engine}
+use Rattle.raft_log_engine.specs.Held.{HoldsMore, Parts, content_of_batches}
+use Rattle.raft_log_engine.specs.Reopened.{OpensAsFront, StandsAlone, directories_of_engine, directories_of_pipes}
 use Rattle.raft_log_engine.specs.Since.{HasWritten, after_batches, unnumbered, written_batch}
 use Rattle.raft_log_engine.proofs.Batches.{one_more_batch}
-use Rattle.raft_log_engine.proofs.Reopened.{opened_content, opens_with}
+use Rattle.raft_log_engine.proofs.Reopened.{IsClosed, KeepsRewrites, RewritesStand, both_content, rewrites_on, rewrites_stand, same_directories}
 
 abbrev Seen : Type 0
 Seen = Content (List ℕ)
@@ -41,6 +40,10 @@ after_more s (b ∷ u) plain =
     ap content_of_batches (sym (append_assoc s (b ∷ []) u))
     ∙ after_more (s ++ b ∷ []) u plain.1
     ∙ ap (after_batches (unnumbered u)) (one_more_batch s b.0 b.1 plain.0)
+
+-- behind others
+after_all : (r s u : Numbered) → ArePlain (unnumbered u) → content_of_batches (r ++ (s ++ u)) ≡ after_batches (unnumbered u) (content_of_batches (r ++ s))
+after_all r s u plain = ap content_of_batches (sym (append_assoc r s u)) ∙ after_more (r ++ s) u plain
 
 plain_take : (k : ℕ) (u : Numbered) → ArePlain (unnumbered u) → ArePlain (unnumbered (take k u))
 plain_take zero u plain = tt
@@ -65,24 +68,36 @@ take_unnumbered (suc k) (b ∷ u) = λ i. b.1 ∷ take_unnumbered k u i
 
 module _ {F : Type 0} (disk : F → Disk) where
   -- with synced batches alone nothing was written since
-  pub nothing_since : (e : Parts F) (bs : Numbered) → Holds e.append (disk e.files) bs [] → (content : Seen) → content ≡ content_of_batches bs → HasWritten disk e content []
-  nothing_since e bs holds content is = record { synced = bs; unsynced = []; holds = holds; first = []; split = refl; on_disk = sym is; plain = tt }
+  pub nothing_since : (e : Parts F) (r bs : Numbered) → Holds e.pipes.rewrite (disk e.files) r [] → Holds e.pipes.append (disk e.files) bs [] → (content : Seen) → content ≡ content_of_batches (r ++ bs) → HasWritten disk e content []
+  nothing_since e r bs rewrite append content is = record {
+    rewrites = r;
+    synced = bs;
+    unsynced = [];
+    rewrite = rewrite;
+    append = append;
+    first = [];
+    split = refl;
+    on_disk = sym is;
+    plain = tt;
+  }
 
   -- one more batch
-  pub more_written : (old new : Parts F) (sync : Bool) (before : Seen) (batches : List Batch) (seq : ℕ) (items : Batch)
-      → ((s u : Numbered) → Holds old.append (disk old.files) s u → HoldsMore new.append (disk new.files) sync s (u ++ (seq, items) ∷ [])) → list_any holds_mark items ≡ false
+  pub more_written : (old new : Parts F) (sync : Bool) (before : Seen) (batches : List Batch) (seq : ℕ) (items : Batch) → IsAsBefore old.pipes.rewrite (disk old.files) new.pipes.rewrite (disk new.files)
+      → ((s u : Numbered) → Holds old.pipes.append (disk old.files) s u → HoldsMore new.pipes.append (disk new.files) sync s (u ++ (seq, items) ∷ [])) → list_any holds_mark items ≡ false
       → HasWritten disk old before batches → HasWritten disk new before (batches ++ items ∷ [])
-  more_written old new sync before batches seq items puts plain w =
+  more_written old new sync before batches seq items other puts plain w =
       let l : Numbered = w.unsynced ++ (seq, items) ∷ [] in
-      let m = puts w.synced w.unsynced w.holds in
+      let m = puts w.synced w.unsynced w.append in
       let all_plain : ArePlain (unnumbered l) = plain_push w.unsynced (seq, items) w.plain plain in
       let all : unnumbered l ≡ unnumbered w.unsynced ++ items ∷ [] = map-append (λ (b : ℕ × Batch). b.1) w.unsynced ((seq, items) ∷ []) in
       let parts : unnumbered l ≡ unnumbered (take m.count l) ++ unnumbered (drop m.count l) =
       ap unnumbered (sym (take-append-drop m.count l)) ∙ map-append (λ (b : ℕ × Batch). b.1) (take m.count l) (drop m.count l) in
       record {
+        rewrites = w.rewrites;
         synced = w.synced ++ take m.count l;
         unsynced = drop m.count l;
-        holds = m.holds;
+        rewrite = other.holds w.rewrites [] w.rewrite;
+        append = m.holds;
         first = w.first ++ unnumbered (take m.count l);
         split =
             ap (λ (x : List Batch). x ++ items ∷ []) w.split
@@ -90,23 +105,26 @@ module _ {F : Type 0} (disk : F → Disk) where
             ∙ ap (λ (x : List Batch). w.first ++ x) (sym all ∙ parts)
             ∙ sym (append_assoc w.first (unnumbered (take m.count l)) (unnumbered (drop m.count l)));
         on_disk =
-            after_more w.synced (take m.count l) (plain_take m.count l all_plain)
+            after_all w.rewrites w.synced (take m.count l) (plain_take m.count l all_plain)
             ∙ ap (after_batches (unnumbered (take m.count l))) w.on_disk
             ∙ sym (after_append w.first (unnumbered (take m.count l)) before);
         plain = plain_drop m.count l all_plain;
       }
 
   -- a sync brings all of it onto the disk
-  pub synced_written : (old new : Parts F) (before : Seen) (batches : List Batch) → ((s u : Numbered) → Holds old.append (disk old.files) s u → Holds new.append (disk new.files) (s ++ u) [])
+  pub synced_written : (old new : Parts F) (before : Seen) (batches : List Batch) → IsAsBefore old.pipes.rewrite (disk old.files) new.pipes.rewrite (disk new.files)
+      → ((s u : Numbered) → Holds old.pipes.append (disk old.files) s u → Holds new.pipes.append (disk new.files) (s ++ u) [])
       → HasWritten disk old before batches → HasWritten disk new before batches
-  synced_written old new before batches syncs w = record {
+  synced_written old new before batches other syncs w = record {
+    rewrites = w.rewrites;
     synced = w.synced ++ w.unsynced;
     unsynced = [];
-    holds = syncs w.synced w.unsynced w.holds;
+    rewrite = other.holds w.rewrites [] w.rewrite;
+    append = syncs w.synced w.unsynced w.append;
     first = batches;
     split = sym (append-nil batches);
     on_disk =
-        after_more w.synced w.unsynced w.plain
+        after_all w.rewrites w.synced w.unsynced w.plain
         ∙ ap (after_batches (unnumbered w.unsynced)) w.on_disk
         ∙ sym (after_append w.first (unnumbered w.unsynced) before)
         ∙ ap (λ (x : List Batch). after_batches x before) (sym w.split);
@@ -114,12 +132,15 @@ module _ {F : Type 0} (disk : F → Disk) where
   }
 
   -- a refused one leaves it
-  pub unsynced_written : (old new : Parts F) (before : Seen) (batches : List Batch) → ((s u : Numbered) → Holds old.append (disk old.files) s u → Holds new.append (disk new.files) s u)
+  pub unsynced_written : (old new : Parts F) (before : Seen) (batches : List Batch) → IsAsBefore old.pipes.rewrite (disk old.files) new.pipes.rewrite (disk new.files)
+      → ((s u : Numbered) → Holds old.pipes.append (disk old.files) s u → Holds new.pipes.append (disk new.files) s u)
       → HasWritten disk old before batches → HasWritten disk new before batches
-  unsynced_written old new before batches keeps w = record {
+  unsynced_written old new before batches other keeps w = record {
+    rewrites = w.rewrites;
     synced = w.synced;
     unsynced = w.unsynced;
-    holds = keeps w.synced w.unsynced w.holds;
+    rewrite = other.holds w.rewrites [] w.rewrite;
+    append = keeps w.synced w.unsynced w.append;
     first = w.first;
     split = w.split;
     on_disk = w.on_disk;
@@ -129,20 +150,27 @@ module _ {F : Type 0} (disk : F → Disk) where
 -- ---- what an opening finds
 
 -- a front of these batches behind others is a front of all
-front_is : (k : ℕ) (first : List Batch) (s u : Numbered) (before : Seen) → content_of_batches s ≡ after_batches first before → ArePlain (unnumbered u)
-    → content_of_batches (s ++ take k u) ≡ after_batches (take (length first + k) (first ++ unnumbered u)) before
-front_is k first s u before on_disk plain =
-    after_more s (take k u) (plain_take k u plain)
+front_is : (k : ℕ) (first : List Batch) (r s u : Numbered) (before : Seen) → content_of_batches (r ++ s) ≡ after_batches first before → ArePlain (unnumbered u)
+    → content_of_batches (r ++ (s ++ take k u)) ≡ after_batches (take (length first + k) (first ++ unnumbered u)) before
+front_is k first r s u before on_disk plain =
+    after_all r s (take k u) (plain_take k u plain)
     ∙ ap (after_batches (unnumbered (take k u))) on_disk
     ∙ ap (λ (x : List Batch). after_batches x (after_batches first before)) (take_unnumbered k u)
     ∙ sym (after_append first (take k (unnumbered u)) before)
     ∙ ap (λ (x : List Batch). after_batches x before) (sym (take-append-add first (unnumbered u) k))
 
-pub front_opens : (d : Disk) (p : SinglePipe) (first : List Batch) (s u : Numbered) (before : Seen) (batches : List Batch) → IsNamed d → p.queue ≡ Append → IsNearlyAlone p d → Leaves p d s u → content_of_batches s ≡ after_batches first before
-    → ArePlain (unnumbered u) → batches ≡ first ++ unnumbered u → OpensAsFront (directories_of_pipe p) d before batches
-front_opens d p first s u before batches named queue alone leaves on_disk plain split image e mode found crashed f =
-    let r = opened_content (directories_of_pipe p) d s u image e mode found (opens_with d p s u named queue alone leaves) crashed f in
-    (length first + r.0, r.1 ∙ front_is r.0 first s u before on_disk plain ∙ ap (λ (x : List Batch). after_batches (take (length first + r.0) x) before) (sym split))
+pub front_opens : (d : Disk) (p : DualPipes) (first : List Batch) (r s u : Numbered) (before : Seen) (batches : List Batch) → IsNamed d → RewritesStand p d r → IsNearlyAlone p.append d → Leaves p.append d s u
+    → content_of_batches (r ++ s) ≡ after_batches first before → ArePlain (unnumbered u) → batches ≡ first ++ unnumbered u → OpensAsFront (directories_of_pipes p) d before batches
+front_opens d p first r s u before batches named stand alone leaves on_disk plain split image e mode found crashed f =
+    let c = both_content d p r s u named stand alone leaves image e mode found crashed f in
+    (length first + c.0, c.1 ∙ front_is c.0 first r s u before on_disk plain ∙ ap (λ (x : List Batch). after_batches (take (length first + c.0) x) before) (sym split))
+
+-- after a close
+pub closed_front : (p q : DualPipes) (e : Disk) (first : List Batch) (r s u : Numbered) (before : Seen) (batches : List Batch) → IsNamed e → IsClosed p q e r s u → content_of_batches (r ++ s) ≡ after_batches first before
+    → ArePlain (unnumbered u) → batches ≡ first ++ unnumbered u → OpensAsFront (directories_of_pipes p) e before batches
+closed_front p q e first r s u before batches named closed on_disk plain split =
+    subst (λ (l : List Text). OpensAsFront l e before batches) (same_directories p.append q.append closed.paths)
+    (front_opens e q first r s u before batches named closed.stand closed.near closed.leaves on_disk plain split)
 
 front_more : (k : ℕ) (xs ys : List Batch) → (j : ℕ) × (take j (xs ++ ys) ≡ take k xs)
 front_more zero xs ys = (0, refl)
@@ -159,19 +187,21 @@ more_opens directories d before batches others opens image e mode found crashed 
 module _ {F : Type 0} (disk : F → Disk) where
   pub written_opens : (e : Parts F) (before : Seen) (batches : List Batch) → IsNamed (disk e.files) → StandsAlone disk e → HasWritten disk e before batches → OpensAsFront (directories_of_engine e) (disk e.files) before batches
   written_opens e before batches named alone w =
-      front_opens (disk e.files) e.append w.first w.synced w.unsynced before batches named alone.queue (nearly e.append (disk e.files) alone.alone)
-      (holds_leaves e.append.queue e.append.older.items e.append.active e.append.writer.offset (disk e.files) w.synced w.unsynced w.holds) w.on_disk w.plain w.split
+      front_opens (disk e.files) e.pipes w.first w.rewrites w.synced w.unsynced before batches named (rewrites_stand e.pipes (disk e.files) w.rewrites alone w.rewrite) (nearly e.pipes.append (disk e.files) alone.append)
+      (holds_leaves e.pipes.append.queue e.pipes.append.older.items e.pipes.append.active e.pipes.append.writer.offset (disk e.files) w.synced w.unsynced w.append) w.on_disk w.plain w.split
 
   pub refused_front : (e : Parts F) (before : Seen) (batches others : List Batch) → IsNamed (disk e.files) → StandsAlone disk e → HasWritten disk e before batches → OpensAsFront (directories_of_engine e) (disk e.files) before (batches ++ others)
   refused_front e before batches others named alone w = more_opens (directories_of_engine e) (disk e.files) before batches others (written_opens e before batches named alone w)
 
   -- the append or what follows it failed
-  pub failed_front : (old : Parts F) (files : F) (p : SinglePipe) (items : Batch) (before : Seen) (batches : List Batch) → IsNamed (disk files) → p.queue ≡ old.append.queue → (IsAlone old.append (disk old.files) → IsNearlyAlone p (disk files))
-      → list_any holds_mark items ≡ false → ((s u : Numbered) → Holds old.append (disk old.files) s u → LeavesAppended p (disk files) s u items)
-      → StandsAlone disk old → HasWritten disk old before batches → OpensAsFront (directories_of_pipe p) (disk files) before (batches ++ items ∷ [])
-  failed_front old files p items before batches named queue near plain leaves alone w =
-      let left = leaves w.synced w.unsynced w.holds in
-      front_opens (disk files) p w.first w.synced (w.unsynced ++ (left.0, items) ∷ []) before (batches ++ items ∷ []) named (queue ∙ alone.queue) (near alone.alone) left.1 w.on_disk
+  pub failed_front : (old : Parts F) (files : F) (p : DualPipes) (items : Batch) (before : Seen) (batches : List Batch) → IsNamed (disk files) → KeepsRewrites old.pipes (disk old.files) p (disk files)
+      → (IsAlone old.pipes.append (disk old.files) → IsNearlyAlone p.append (disk files))
+      → list_any holds_mark items ≡ false → ((s u : Numbered) → Holds old.pipes.append (disk old.files) s u → LeavesAppended p.append (disk files) s u items)
+      → StandsAlone disk old → HasWritten disk old before batches → OpensAsFront (directories_of_pipes p) (disk files) before (batches ++ items ∷ [])
+  failed_front old files p items before batches named keeps near plain leaves alone w =
+      let left = leaves w.synced w.unsynced w.append in
+      front_opens (disk files) p w.first w.rewrites w.synced (w.unsynced ++ (left.0, items) ∷ []) before (batches ++ items ∷ []) named
+      (rewrites_on old.pipes p (disk old.files) (disk files) w.rewrites keeps alone w.rewrite) (near alone.append) left.1 w.on_disk
       (plain_push w.unsynced (left.0, items) w.plain plain)
       (ap (λ (x : List Batch). x ++ items ∷ []) w.split
       ∙ append_assoc w.first (unnumbered w.unsynced) (items ∷ [])

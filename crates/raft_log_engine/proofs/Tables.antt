@@ -1,5 +1,5 @@
 -- The tables have the content of the batches, also with one more batch.
-use Rattle.std.proofs.Common.{◌≡◌, ℕ, ◌+◌, ◌≤◌, Bool, true, false, List, [], ◌∷◌, ◌++◌, length, map, take, drop, Option, Some, None, refl, sym, ap, subst, ◌∙◌, arith, append_assoc, length-append, length-take, length-drop}
+use Rattle.std.proofs.Common.{◌≡◌, ◌⊎◌, inl, inr, ℕ, ◌+◌, ◌≤◌, Bool, true, false, List, [], ◌∷◌, ◌++◌, length, map, take, drop, Option, Some, None, refl, sym, ap, subst, ◌∙◌, arith, append_assoc, length-append, length-take, length-drop}
 use Rattle.std.specs.Int.{w32, to_be_bytes}
 use Rattle.std.specs.List.{list_any}
 use Rattle.std.specs.Option.{option_map}
@@ -19,10 +19,12 @@ use Rattle.raft_log_disk.specs.Disk.{Disk}
 use Rattle.raft_log_file.specs.Laws.{Batch}
 use Rattle.raft_log_pipe.specs.declared.pipe.SinglePipe.{SinglePipe}
 use Rattle.raft_log_pipe.specs.Blocks.{IsBlockOf, IsRecordOf, KeepsFiles}
-use Rattle.raft_log_pipe.specs.Pipe.{Holds, IsPipe, Numbered}
+use Rattle.raft_log_pipe.specs.Pipe.{Holds, Numbered}
+use Rattle.raft_log_pipes.specs.declared.pipes.DualPipes.{DualPipes}
+use Rattle.raft_log_pipes.specs.Pipes.{ArePipes, IsAsBefore}
 use Rattle.raft_log_pipe.proofs.BlockLemmas.{is_last, same_files}
 use Rattle.raft_log_memtables.specs.declared.memtables.MemTables.{MemTables}
-use Rattle.raft_log_memtables.specs.Content.{Content, after_batch, nothing}
+use Rattle.raft_log_memtables.specs.Content.{Content, after_batch}
 use Rattle.raft_log_memtables.specs.ContentLaws.{content_map}
 use Rattle.raft_log_memtables.specs.Entries.{placed_in}
 use Rattle.raft_log_memtables.specs.MemTable.{batch_items, items_in}
@@ -33,27 +35,29 @@ use Rattle.raft_log_engine.specs.Held.{AreMeasured, IsHeld, IsKept, IsPlace, IsT
 use Rattle.raft_log_engine.proofs.Batches.{one_more_batch}
 use Rattle.raft_log_engine.proofs.EntryReads.{disk_reads, length-sealed}
 
--- without batches the tables are empty
-pub none_tabled : (p : SinglePipe) (tables : MemTables) → content_in tables ≡ nothing → IsTabled p [] tables
-none_tabled p tables none = record { content = λ read reads. ap (content_map read) none; lengths = ap (content_map (λ e. e.entry_len)) none }
-
 -- what calls answer is the content of the batches
-pub held_answered : (d : Disk) (p : SinglePipe) (tables : MemTables) (s u : Numbered) → IsHeld d p tables s u → seen_on d p tables ≡ content_of_batches (s ++ u)
-held_answered d p tables s u held = held.tabled.content (bytes_on d p) (disk_reads p d s u held.pipe held.holds)
+pub held_answered : (d : Disk) (p : DualPipes) (tables : MemTables) (r s u : Numbered) → IsHeld d p tables r s u → seen_on d p tables ≡ content_of_batches (r ++ (s ++ u))
+held_answered d p tables r s u held = held.tabled.content (bytes_on d p) (disk_reads p d r s u held.pipes held.rewrite held.append)
 
 -- batches that are all on the disk
-pub kept_held : (d : Disk) (p : SinglePipe) (tables : MemTables) (bs : Numbered) → IsKept d p tables bs → IsHeld d p tables bs []
-kept_held d p tables bs kept = record { pipe = kept.pipe; holds = kept.holds; tabled = subst (λ (l : Numbered). IsTabled p l tables) (sym (append-nil bs)) kept.tabled }
-
-pub held_kept : (d : Disk) (p : SinglePipe) (tables : MemTables) (s u : Numbered) → IsHeld d p tables s u → u ≡ [] → IsKept d p tables s
-held_kept d p tables s u held none = record {
-  pipe = held.pipe;
-  holds = subst (λ (l : Numbered). Holds p d s l) none held.holds;
-  tabled = subst (λ (l : Numbered). IsTabled p l tables) (ap (λ (l : Numbered). s ++ l) none ∙ append-nil s) held.tabled;
+pub kept_held : (d : Disk) (p : DualPipes) (tables : MemTables) (r bs : Numbered) → IsKept d p tables r bs → IsHeld d p tables r bs []
+kept_held d p tables r bs kept = record {
+  pipes = kept.pipes;
+  rewrite = kept.rewrite;
+  append = kept.append;
+  tabled = subst (λ (l : Numbered). IsTabled p r l tables) (sym (append-nil bs)) kept.tabled;
 }
 
-pub answered : (d : Disk) (p : SinglePipe) (tables : MemTables) (bs : Numbered) → IsKept d p tables bs → seen_on d p tables ≡ content_of_batches bs
-answered d p tables bs kept = held_answered d p tables bs [] (kept_held d p tables bs kept) ∙ ap content_of_batches (append-nil bs)
+pub held_kept : (d : Disk) (p : DualPipes) (tables : MemTables) (r s u : Numbered) → IsHeld d p tables r s u → u ≡ [] → IsKept d p tables r s
+held_kept d p tables r s u held none = record {
+  pipes = held.pipes;
+  rewrite = held.rewrite;
+  append = subst (λ (l : Numbered). Holds p.append d s l) none held.append;
+  tabled = subst (λ (l : Numbered). IsTabled p r l tables) (ap (λ (l : Numbered). s ++ l) none ∙ append-nil s) held.tabled;
+}
+
+pub answered : (d : Disk) (p : DualPipes) (tables : MemTables) (r bs : Numbered) → IsKept d p tables r bs → seen_on d p tables ≡ content_of_batches (r ++ bs)
+answered d p tables r bs kept = held_answered d p tables r bs [] (kept_held d p tables r bs kept) ∙ ap (λ (l : Numbered). content_of_batches (r ++ l)) (append-nil bs)
 
 -- ---- where entries lie
 
@@ -66,6 +70,7 @@ more_lies p q bs seq items keeps queue e bytes lies = record {
   items = lies.items;
   after = lies.after ++ (seq, items) ∷ [];
   place = lies.place;
+  queue = lies.queue ∙ sym queue;
   among = keeps lies.file lies.among;
   split = ap (λ (l : Numbered). l ++ (seq, items) ∷ []) lies.split ∙ append_assoc lies.before ((lies.file.seq, lies.items) ∷ lies.after) ((seq, items) ∷ []);
   block = subst (λ x. IsBlockOf x lies.file lies.before lies.items 8 lies.handle) (sym queue) lies.block;
@@ -82,6 +87,7 @@ same_lies p q bs keeps queue e bytes lies = record {
   items = lies.items;
   after = lies.after;
   place = lies.place;
+  queue = lies.queue ∙ sym queue;
   among = keeps lies.file lies.among;
   split = lies.split;
   block = subst (λ x. IsBlockOf x lies.file lies.before lies.items 8 lies.handle) (sym queue) lies.block;
@@ -89,14 +95,21 @@ same_lies p q bs keeps queue e bytes lies = record {
   bytes_are = lies.bytes_are;
 }
 
+-- entries of either queue, of which the append queue's files stay or grow
+either_lies : (p q : DualPipes) (r bs more : Numbered) → q.rewrite ≡ p.rewrite → ((e : EntryIndex) (bytes : List ℕ) → LiesIn p.append bs e bytes → LiesIn q.append more e bytes) → (read : EntryIndex → List ℕ)
+    → ReadsEntries q r more read → ReadsEntries p r bs read
+either_lies p q r bs more same moves read reads e bytes (inl lies) = reads e bytes (inl (subst (λ (x : SinglePipe). LiesIn x r e bytes) (sym same) lies))
+either_lies p q r bs more same moves read reads e bytes (inr lies) = reads e bytes (inr (moves e bytes lies))
+
 -- batches that a sync brought onto the disk
-pub synced_kept : (d e : Disk) (p q : SinglePipe) (tables : MemTables) (s u : Numbered) → IsHeld d p tables s u → IsPipe q e → (q.active ≡ p.active) × (q.older ≡ p.older) × (q.queue ≡ p.queue)
-    → ((x y : Numbered) → Holds p d x y → Holds q e (x ++ y) []) → IsKept e q tables (s ++ u)
-synced_kept d e p q tables s u held pipe same syncs = record {
-  pipe = pipe;
-  holds = syncs s u held.holds;
+pub synced_kept : (d e : Disk) (p q : DualPipes) (tables : MemTables) (r s u : Numbered) → IsHeld d p tables r s u → ArePipes q e → (q.append.active ≡ p.append.active) × (q.append.older ≡ p.append.older) → IsAsBefore p.rewrite d q.rewrite e
+    → ((x y : Numbered) → Holds p.append d x y → Holds q.append e (x ++ y) []) → IsKept e q tables r (s ++ u)
+synced_kept d e p q tables r s u held pipes same other syncs = record {
+  pipes = pipes;
+  rewrite = other.holds r [] held.rewrite;
+  append = syncs s u held.append;
   tabled = record {
-    content = λ read reads. held.tabled.content read (λ entry bytes lies. reads entry bytes (same_lies p q (s ++ u) (same_files p q same.0 same.1) same.2 entry bytes lies));
+    content = λ read reads. held.tabled.content read (either_lies p q r (s ++ u) (s ++ u) other.same (same_lies p.append q.append (s ++ u) (same_files p.append q.append same.0 same.1) (q.appends ∙ sym p.appends)) read reads);
     lengths = held.tabled.lengths;
   };
 }
@@ -131,6 +144,7 @@ new_lies q bs seq items h place block at number is stands e =
       items = items;
       after = [];
       place = refl;
+      queue = ap (λ i. i.queue) (is.0 ∙ at.id);
       among = is_last q.older.items q.active;
       split = ap (λ (n : ℕ). bs ++ (n, items) ∷ []) (number ∙ at.block.seq);
       block = record {
@@ -168,31 +182,36 @@ pub record IsPut (q : SinglePipe) (bs : Numbered) (items : Batch) (h : FileBlock
   pub stands : (signature : Option ℕ) → StandsIn (spell_record signature items) items (block_of items) block
   pub is : (b : EntriesBlock) → block ≡ Some b → IsPlace h b place
 
-put_reads : (q : SinglePipe) (bs : Numbered) (seq : ℕ) (items : Batch) (h place : FileBlockHandle) (block : Option EntriesBlock) → IsPut q bs items h block place → seq ≡ h.id.seq
-    → (read : EntryIndex → List ℕ) → ReadsEntries q (bs ++ (seq, items) ∷ []) read → ReadsAll read place (block_of items) (list_any holds_entries items)
-put_reads q bs seq items h place (Some b) here number read reads holds e = reads (placed_in place e) (entry_bytes (block_of items) e) (new_lies q bs seq items h place b here.at number (here.is b refl) here.stands e)
-put_reads q bs seq items h place None here number read reads holds e = absurd (false≢true (sym (here.stands None) ∙ holds))
+put_reads : (q : DualPipes) (r bs : Numbered) (seq : ℕ) (items : Batch) (h place : FileBlockHandle) (block : Option EntriesBlock) → IsPut q.append bs items h block place → seq ≡ h.id.seq
+    → (read : EntryIndex → List ℕ) → ReadsEntries q r (bs ++ (seq, items) ∷ []) read → ReadsAll read place (block_of items) (list_any holds_entries items)
+put_reads q r bs seq items h place (Some b) here number read reads holds e = reads (placed_in place e) (entry_bytes (block_of items) e) (inr (new_lies q.append bs seq items h place b here.at number (here.is b refl) here.stands e))
+put_reads q r bs seq items h place None here number read reads holds e = absurd (false≢true (sym (here.stands None) ∙ holds))
 
-pub more_tabled : (p q : SinglePipe) (bs : Numbered) (seq : ℕ) (items : Batch) (h place : FileBlockHandle) (block : Option EntriesBlock) (drained : LogItemBatch) (old new : MemTables) → KeepsFiles p q → q.queue ≡ p.queue
-    → IsPut q bs items h block place → seq ≡ h.id.seq → with_bytes (block_of items) (items_of drained.items.items) ≡ items → with_lengths (items_of drained.items.items) ≡ lengths items → content_in new ≡ after_batch (batch_items place drained) (content_in old) → list_any holds_mark items ≡ false
-    → IsTabled p bs old → IsTabled q (bs ++ (seq, items) ∷ []) new
-more_tabled p q bs seq items h place block drained old new keeps queue here number is lens applied plain tabled =
+-- with one more batch behind all
+pub more_content : (r bs : Numbered) (seq : ℕ) (items : Batch) → list_any holds_mark items ≡ false → content_of_batches (r ++ (bs ++ (seq, items) ∷ [])) ≡ after_batch items (content_of_batches (r ++ bs))
+more_content r bs seq items plain = ap content_of_batches (sym (append_assoc r bs ((seq, items) ∷ []))) ∙ one_more_batch (r ++ bs) seq items plain
+
+pub more_tabled : (p q : DualPipes) (r bs : Numbered) (seq : ℕ) (items : Batch) (h place : FileBlockHandle) (block : Option EntriesBlock) (drained : LogItemBatch) (old new : MemTables) → KeepsFiles p.append q.append → q.rewrite ≡ p.rewrite
+    → IsPut q.append bs items h block place → seq ≡ h.id.seq → with_bytes (block_of items) (items_of drained.items.items) ≡ items → with_lengths (items_of drained.items.items) ≡ lengths items → content_in new ≡ after_batch (batch_items place drained) (content_in old) → list_any holds_mark items ≡ false
+    → IsTabled p r bs old → IsTabled q r (bs ++ (seq, items) ∷ []) new
+more_tabled p q r bs seq items h place block drained old new keeps same here number is lens applied plain tabled =
     let some : list_any holds_entries (items_of drained.items.items) ≡ list_any holds_entries items = sym (any_held (entry_bytes (block_of items)) (items_of drained.items.items)) ∙ ap (list_any holds_entries) is in
     record {
       content = λ read reads.
           ap (content_map read) applied
           ∙ sym (batch_mapped read (batch_items place drained) (content_in old))
           ∙ ap (λ (l : Batch). after_batch l (content_map read (content_in old)))
-          (items_seen read place (block_of items) (items_of drained.items.items) (λ held. put_reads q bs seq items h place block here number read reads (sym some ∙ held)) ∙ is)
-          ∙ ap (after_batch items) (tabled.content read (λ e bytes lies. reads e bytes (more_lies p q bs seq items keeps queue e bytes lies)))
-          ∙ sym (one_more_batch bs seq items plain);
+          (items_seen read place (block_of items) (items_of drained.items.items) (λ held. put_reads q r bs seq items h place block here number read reads (sym some ∙ held)) ∙ is)
+          ∙ ap (after_batch items)
+          (tabled.content read (either_lies p q r bs (bs ++ (seq, items) ∷ []) same (more_lies p.append q.append bs seq items keeps (q.appends ∙ sym p.appends)) read reads))
+          ∙ sym (more_content r bs seq items plain);
       lengths =
           ap (content_map (λ e. e.entry_len)) applied
           ∙ sym (batch_mapped (λ e. e.entry_len) (batch_items place drained) (content_in old))
           ∙ ap (λ (l : List (Item ℕ)). after_batch l (content_map (λ e. e.entry_len) (content_in old))) (put_lengths place (items_of drained.items.items) ∙ lens)
           ∙ ap (after_batch (lengths items)) tabled.lengths
-          ∙ batch_mapped length items (content_of_batches bs)
-          ∙ ap (content_map length) (sym (one_more_batch bs seq items plain));
+          ∙ batch_mapped length items (content_of_batches (r ++ bs))
+          ∙ ap (content_map length) (sym (more_content r bs seq items plain));
     }
 
 -- ---- lengths of entries
@@ -203,7 +222,7 @@ one_length o c e bytes lens are is =
     ap (option_map (λ (x : EntryIndex). x.entry_len)) (sym is) ∙ lens ∙ ap (option_map length) (sym are) ∙ ap (λ (x : Option EntryIndex). option_map length (option_map bytes x)) is in
     cc
 
-pub measured : (d : Disk) (p : SinglePipe) (tables : MemTables) (s u : Numbered) → IsHeld d p tables s u → AreMeasured d p tables
-measured d p tables s u held group index e is =
-    let c : Content (List ℕ) = content_of_batches (s ++ u) in
-    one_length ((content_in tables group).entry index) ((c group).entry index) e (bytes_on d p) (λ i. (held.tabled.lengths i group).entry index) (λ i. (held_answered d p tables s u held i group).entry index) is
+pub measured : (d : Disk) (p : DualPipes) (tables : MemTables) (r s u : Numbered) → IsHeld d p tables r s u → AreMeasured d p tables
+measured d p tables r s u held group index e is =
+    let c : Content (List ℕ) = content_of_batches (r ++ (s ++ u)) in
+    one_length ((content_in tables group).entry index) ((c group).entry index) e (bytes_on d p) (λ i. (held.tabled.lengths i group).entry index) (λ i. (held_answered d p tables r s u held i group).entry index) is

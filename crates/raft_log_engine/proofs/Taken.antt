@@ -82,22 +82,22 @@ module _ {F : Type 0} (T : Type 0) (disk : F → Disk) (e : Parts F) (items : Ba
       by_items [] none so = absurd (none refl)
       by_items (item ∷ more) none so =
           exit_fault (e.is_stopped ≡ true) (IsMarked (item ∷ more)) (IsNotTaken e.tables (item ∷ more))
-          ((IsFull e.append ⊎ IsTooLarge e.append (item ∷ more)) × IsUnnumbered e.append) ((IsFull e.append ⊎ IsTooLarge e.append (item ∷ more)) × IsUnmade e.append (disk e.files))
-          ((IsFull e.append × IsBarred e.append (disk e.files)) ⊎ IsTooLarge e.append (item ∷ more)) r x is
+          ((IsFull e.pipes.append ⊎ IsTooLarge e.pipes.append (item ∷ more)) × IsUnnumbered e.pipes.append) ((IsFull e.pipes.append ⊎ IsTooLarge e.pipes.append (item ∷ more)) × IsUnmade e.pipes.append (disk e.files))
+          ((IsFull e.pipes.append × IsBarred e.pipes.append (disk e.files)) ⊎ IsTooLarge e.pipes.append (item ∷ more)) r x is
           (refused_first T (e.is_stopped ≡ true)
-          ((IsFull e.append ⊎ IsTooLarge e.append (item ∷ more)) × IsUnnumbered e.append) ((IsFull e.append ⊎ IsTooLarge e.append (item ∷ more)) × IsUnmade e.append (disk e.files))
-          ((IsFull e.append × IsBarred e.append (disk e.files)) ⊎ IsTooLarge e.append (item ∷ more)) e.tables (item ∷ more) x so)
+          ((IsFull e.pipes.append ⊎ IsTooLarge e.pipes.append (item ∷ more)) × IsUnnumbered e.pipes.append) ((IsFull e.pipes.append ⊎ IsTooLarge e.pipes.append (item ∷ more)) × IsUnmade e.pipes.append (disk e.files))
+          ((IsFull e.pipes.append × IsBarred e.pipes.append (disk e.files)) ⊎ IsTooLarge e.pipes.append (item ∷ more)) e.tables (item ∷ more) x so)
 
   -- an append that was refused
-  pub failed_write : (items ≡ [] → ⊥) → (x : Error) → IsAppendTaken {T = FileBlockHandle} e.append (disk e.files) items (Err x) → IsWriteTaken {T = T} disk e items (Err (Log x))
+  pub failed_write : (items ≡ [] → ⊥) → (x : Error) → IsAppendTaken {T = FileBlockHandle} e.pipes.append (disk e.files) items (Err x) → IsWriteTaken {T = T} disk e items (Err (Log x))
   failed_write some x why = by_items items some why
     where
-      by_items : (more : Batch) → (more ≡ [] → ⊥) → IsAppendTaken {T = FileBlockHandle} e.append (disk e.files) more (Err x) → IsWriteTaken {T = T} disk e more (Err (Log x))
+      by_items : (more : Batch) → (more ≡ [] → ⊥) → IsAppendTaken {T = FileBlockHandle} e.pipes.append (disk e.files) more (Err x) → IsWriteTaken {T = T} disk e more (Err (Log x))
       by_items [] none so = absurd (none refl)
       by_items (item ∷ more) none so =
           logged FileBlockHandle T (e.is_stopped ≡ true) (IsMarked (item ∷ more)) (IsNotTaken e.tables (item ∷ more))
-          ((IsFull e.append ⊎ IsTooLarge e.append (item ∷ more)) × IsUnnumbered e.append) ((IsFull e.append ⊎ IsTooLarge e.append (item ∷ more)) × IsUnmade e.append (disk e.files))
-          ((IsFull e.append × IsBarred e.append (disk e.files)) ⊎ IsTooLarge e.append (item ∷ more)) x so
+          ((IsFull e.pipes.append ⊎ IsTooLarge e.pipes.append (item ∷ more)) × IsUnnumbered e.pipes.append) ((IsFull e.pipes.append ⊎ IsTooLarge e.pipes.append (item ∷ more)) × IsUnmade e.pipes.append (disk e.files))
+          ((IsFull e.pipes.append × IsBarred e.pipes.append (disk e.files)) ⊎ IsTooLarge e.pipes.append (item ∷ more)) x so
 
   -- want of memory behind it
   pub unapplied_write : (y : EngineFault) → y ≡ Log Memory → IsWriteTaken {T = T} disk e items (Err y)

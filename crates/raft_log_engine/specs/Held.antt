@@ -1,5 +1,5 @@
--- What an engine over one queue holds: batches in files, and tables of where their entries lie.
-use Rattle.std.specs.Prelude.{◌≡◌, ℕ, ◌+◌, ◌-◌, Bool, true, false, List, [], ◌∷◌, ◌++◌, length, map, take, drop, Option, Some, None, ◌==◌, if◌then◌else◌}
+-- What an engine holds: batches in files of both queues, and tables of where their entries lie.
+use Rattle.std.specs.Prelude.{◌≡◌, ◌⊎◌, ℕ, ◌+◌, ◌-◌, Bool, true, false, List, [], ◌∷◌, ◌++◌, length, map, take, drop, Option, Some, None, ◌==◌, if◌then◌else◌}
 use Rattle.raft_log_records.specs.declared.block.EntriesBlock.{EntriesBlock}
 use Rattle.raft_log_records.specs.declared.file_id.FileBlockHandle.{FileBlockHandle}
 use Rattle.raft_log_records.specs.declared.item.EntryIndex.{EntryIndex}
@@ -10,7 +10,9 @@ use Rattle.raft_log_file.specs.Laws.{Batch}
 use Rattle.raft_log_pipe.specs.declared.file.File.{File}
 use Rattle.raft_log_pipe.specs.declared.pipe.SinglePipe.{SinglePipe}
 use Rattle.raft_log_pipe.specs.Blocks.{IsBlockOf, files_of, record_in}
-use Rattle.raft_log_pipe.specs.Pipe.{Numbered, Holds, IsPipe}
+use Rattle.raft_log_pipe.specs.Pipe.{Numbered, Holds}
+use Rattle.raft_log_pipes.specs.declared.pipes.DualPipes.{DualPipes}
+use Rattle.raft_log_pipes.specs.Pipes.{ArePipes, pipe_of}
 use Rattle.raft_log_memtables.specs.declared.memtables.MemTables.{MemTables}
 use Rattle.raft_log_memtables.specs.Content.{Content}
 use Rattle.raft_log_memtables.specs.ContentLaws.{content_map}
@@ -20,7 +22,7 @@ use Rattle.raft_log_memtables.specs.Replay.{content_of}
 -- what contracts see of an engine
 pub record Parts (F : Type 0) : Type 0 where
   pub files : F
-  pub append : SinglePipe
+  pub pipes : DualPipes
   pub tables : MemTables
   -- a write failed, and nothing more is answered
   pub is_stopped : Bool
@@ -47,15 +49,15 @@ abbrev pub block_in : Disk → FileBlockHandle → Option File → List ℕ
 block_in d h None = []
 block_in d h (Some f) = unsealed_bytes (take h.len (drop h.offset (d.file f.handle.0).bytes))
 
-abbrev pub bytes_placed : Disk → SinglePipe → EntryIndex → Option FileBlockHandle → List ℕ
+abbrev pub bytes_placed : Disk → DualPipes → EntryIndex → Option FileBlockHandle → List ℕ
 bytes_placed d p e None = []
-bytes_placed d p e (Some h) = entry_bytes (block_in d h (file_in h.id.seq (files_of p))) e
+bytes_placed d p e (Some h) = entry_bytes (block_in d h (file_in h.id.seq (files_of (pipe_of p h.id.queue)))) e
 
--- the bytes of an entry on the disk
-abbrev pub bytes_on : Disk → SinglePipe → EntryIndex → List ℕ
+-- the bytes of an entry on the disk, in the queue that its block says
+abbrev pub bytes_on : Disk → DualPipes → EntryIndex → List ℕ
 bytes_on d p e = bytes_placed d p e e.entries
 
-abbrev pub seen_on : Disk → SinglePipe → MemTables → Content (List ℕ)
+abbrev pub seen_on : Disk → DualPipes → MemTables → Content (List ℕ)
 seen_on d p tables = content_map (bytes_on d p) (content_in tables)
 
 -- ---- what ties the tables to the batches
@@ -72,45 +74,51 @@ pub record LiesIn (p : SinglePipe) (bs : Numbered) (e : EntryIndex) (bytes : Lis
   pub items : Batch
   pub after : Numbered
   pub place : e.entries ≡ Some handle
+  pub queue : handle.id.queue ≡ p.queue
   pub among : IsIn file (files_of p)
   pub split : bs ≡ before ++ (file.seq, items) ∷ after
   pub block : IsBlockOf p.queue file before items 8 handle
   pub stands : take handle.len (drop 8 (record_in file items)) ≡ sealed None (block_of items)
   pub bytes_are : bytes ≡ entry_bytes (block_of items) e
 
--- each entry that lies there is read as its bytes
-abbrev pub ReadsEntries : SinglePipe → Numbered → (EntryIndex → List ℕ) → Type 0
-ReadsEntries p bs read = (e : EntryIndex) (bytes : List ℕ) → LiesIn p bs e bytes → read e ≡ bytes
+-- each entry that lies in a batch of either queue is read as its bytes
+abbrev pub ReadsEntries : DualPipes → Numbered → Numbered → (EntryIndex → List ℕ) → Type 0
+ReadsEntries p rewrites appends read = (e : EntryIndex) (bytes : List ℕ) → LiesIn p.rewrite rewrites e bytes ⊎ LiesIn p.append appends e bytes → read e ≡ bytes
 
--- however such entries are read, the tables have the content of the batches, and the lengths of its entries
-pub record IsTabled (p : SinglePipe) (bs : Numbered) (tables : MemTables) : Type 0 where
-  pub content : (read : EntryIndex → List ℕ) → ReadsEntries p bs read → content_map read (content_in tables) ≡ content_of_batches bs
-  pub lengths : content_map (λ e. e.entry_len) (content_in tables) ≡ content_map length (content_of_batches bs)
+-- however such entries are read, the tables have the content of the rewrite queue's batches with the append queue's behind
+-- them, and the lengths of its entries
+pub record IsTabled (p : DualPipes) (rewrites appends : Numbered) (tables : MemTables) : Type 0 where
+  pub content : (read : EntryIndex → List ℕ) → ReadsEntries p rewrites appends read → content_map read (content_in tables) ≡ content_of_batches (rewrites ++ appends)
+  pub lengths : content_map (λ e. e.entry_len) (content_in tables) ≡ content_map length (content_of_batches (rewrites ++ appends))
 
 -- entries are as long on the disk as the tables say
-abbrev pub AreMeasured : Disk → SinglePipe → MemTables → Type 0
+abbrev pub AreMeasured : Disk → DualPipes → MemTables → Type 0
 AreMeasured d p tables = (group index : ℕ) (e : EntryIndex) → (content_in tables group).entry index ≡ Some e → length (bytes_on d p e) ≡ e.entry_len
 
--- the files have these batches, the first ones of them on the disk, and the tables the content of all
-pub record IsHeld (d : Disk) (p : SinglePipe) (tables : MemTables) (synced unsynced : Numbered) : Type 0 where
-  pub pipe : IsPipe p d
-  pub holds : Holds p d synced unsynced
-  pub tabled : IsTabled p (synced ++ unsynced) tables
+-- The files of each queue have these batches: those of the rewrite queue are on the disk, and the first ones of the append
+-- queue. The tables have the content of all
+pub record IsHeld (d : Disk) (p : DualPipes) (tables : MemTables) (rewrites synced unsynced : Numbered) : Type 0 where
+  pub pipes : ArePipes p d
+  pub rewrite : Holds p.rewrite d rewrites []
+  pub append : Holds p.append d synced unsynced
+  pub tabled : IsTabled p rewrites (synced ++ unsynced) tables
 
 -- the same of batches that are all on the disk
-pub record IsKept (d : Disk) (p : SinglePipe) (tables : MemTables) (bs : Numbered) : Type 0 where
-  pub pipe : IsPipe p d
-  pub holds : Holds p d bs []
-  pub tabled : IsTabled p bs tables
+pub record IsKept (d : Disk) (p : DualPipes) (tables : MemTables) (rewrites appends : Numbered) : Type 0 where
+  pub pipes : ArePipes p d
+  pub rewrite : Holds p.rewrite d rewrites []
+  pub append : Holds p.append d appends []
+  pub tabled : IsTabled p rewrites appends tables
 
 -- so it is unless a write has failed. All batches are on the disk unless a write wasn't synced
-pub record HoldsBatches (d : Disk) (p : SinglePipe) (tables : MemTables) (wrote_unsynced : Bool) : Type 0 where
+pub record HoldsBatches (d : Disk) (p : DualPipes) (tables : MemTables) (wrote_unsynced : Bool) : Type 0 where
+  pub rewrites : Numbered
   pub synced : Numbered
   pub unsynced : Numbered
-  pub held : IsHeld d p tables synced unsynced
+  pub held : IsHeld d p tables rewrites synced unsynced
   pub none : wrote_unsynced ≡ false → unsynced ≡ []
 
-abbrev pub IsEngine : Disk → SinglePipe → MemTables → Bool → Bool → Type 0
+abbrev pub IsEngine : Disk → DualPipes → MemTables → Bool → Bool → Type 0
 IsEngine d p tables is_stopped wrote_unsynced = is_stopped ≡ false → HoldsBatches d p tables wrote_unsynced
 
 -- ---- what an append makes of batches that are not on the disk

@@ -1,8 +1,11 @@
 -- What reads of an engine answer, and why they are refused.
-use Rattle.std.specs.Prelude.{◌≡◌, ◌⊎◌, ◌+◌, ◌-◌, ◌<◌, ◌≤◌, ℕ, Bool, true, false, List, [], ◌∷◌, ◌++◌, length, slice_get, sum_by, Option, Some, None}
+use Rattle.std.specs.Prelude.{◌≡◌, ◌⊎◌, ◌+◌, ◌-◌, ◌*◌, ◌^◌, ◌<◌, ◌≤◌, min, ℕ, Bool, true, false, List, [], ◌∷◌, ◌++◌, length, slice_get, sum_by, Option, Some, None}
 use Rattle.raft_log_files.specs.declared.error.Error.TheVariants.{Memory}
 use Rattle.raft_log_files.specs.Error as log_error
 use Rattle.raft_log_memtables.specs.Content.{GroupContent}
+use Rattle.raft_log_pipes.specs.declared.pipes.DualPipes.{DualPipes}
+use Rattle.raft_log_pipes.specs.Pipes.{pipe_of}
+use Rattle.raft_log_records.specs.declared.file_id.LogQueue.{LogQueue}
 use Rattle.raft_log_records.specs.Item.{Item}
 use Rattle.raft_log_records.specs.Item.Change.{compact}
 use Rattle.raft_log_engine.specs.declared.fault.EngineFault.{EngineFault}
@@ -60,3 +63,7 @@ pub record HasRead (group : GroupContent (List ℕ)) (begin end : ℕ) (size : O
 -- the item that compacts a group
 abbrev pub compaction : ℕ → ℕ → Item (List ℕ)
 compaction group index = record { group = group; change = compact index }
+
+-- the bytes of all files of a queue, each taken as long as the target size
+abbrev pub used_by : DualPipes → LogQueue → ℕ
+used_by p queue = min ((length (pipe_of p queue).older.items + 1) * (pipe_of p queue).target_file_size) (2 ^ 64 - 1)

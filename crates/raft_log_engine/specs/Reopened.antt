@@ -1,12 +1,12 @@
 -- What an opening of an engine's files answers, after a crash or without one.
 use Rattle.std.specs.Prelude.{◌≡◌, ℕ, List, take}
-use Rattle.raft_log_records.specs.declared.file_id.LogQueue.TheVariants.{Append}
 use Rattle.raft_log_disk.specs.Disk.{Disk}
 use Rattle.raft_log_disk.specs.Image.{Image}
 use Rattle.raft_log_disk.specs.Text.{Text}
 use Rattle.raft_log_files.specs.declared.recovery.RecoveryMode.{RecoveryMode}
 use Rattle.raft_log_file.specs.Laws.{Batch}
 use Rattle.raft_log_pipe.specs.Alone.{IsAlone, directories_of_pipe}
+use Rattle.raft_log_pipes.specs.declared.pipes.DualPipes.{DualPipes}
 use Rattle.raft_log_memtables.specs.Content.{Content}
 use Rattle.raft_log_recovery.specs.Crashed.{IsCrashed}
 use Rattle.raft_content_log.specs.Leaving.{IsEither}
@@ -30,11 +30,20 @@ OpensAsFront directories d before batches =
     (image : Image) (e : Disk) (mode : RecoveryMode) (found : Content (List ℕ)) → IsCrashed d image e → IsFoundContent mode directories e found
     → (k : ℕ) × (found ≡ after_batches (take k batches) before)
 
+-- where files of both queues lie
+abbrev pub directories_of_pipes : DualPipes → List Text
+directories_of_pipes p = directories_of_pipe p.append
+
+-- The files of each pipe are the last ones of its queue in these directories
+pub record StandAlone (p : DualPipes) (d : Disk) : Type 0 where
+  pub paths : directories_of_pipe p.rewrite ≡ directories_of_pipe p.append
+  pub append : IsAlone p.append d
+  pub rewrite : IsAlone p.rewrite d
+
 -- where an engine's files lie
 abbrev pub directories_of_engine : {F : Type 0} → Parts F → List Text
-directories_of_engine e = directories_of_pipe e.append
+directories_of_engine e = directories_of_pipes e.pipes
 
--- the engine's files are the last ones of the append queue in its directories
-pub record StandsAlone {F : Type 0} (disk : F → Disk) (e : Parts F) : Type 0 where
-  pub queue : e.append.queue ≡ Append
-  pub alone : IsAlone e.append (disk e.files)
+-- its files are the last ones of both queues there
+abbrev pub StandsAlone : {F : Type 0} → (F → Disk) → Parts F → Type 0
+StandsAlone disk e = StandAlone e.pipes (disk e.files)

@@ -25,10 +25,12 @@ written_batch (item ∷ items) = (item ∷ items) ∷ []
 -- Since the content `before` was on the disk these batches were written, in this order: the first ones of them are on the
 -- disk too, and the others since the last sync
 pub record HasWritten {F : Type 0} (disk : F → Disk) (e : Parts F) (before : Content (List ℕ)) (batches : List Batch) : Type 0 where
+  pub rewrites : Numbered
   pub synced : Numbered
   pub unsynced : Numbered
-  pub holds : Holds e.append (disk e.files) synced unsynced
+  pub rewrite : Holds e.pipes.rewrite (disk e.files) rewrites []
+  pub append : Holds e.pipes.append (disk e.files) synced unsynced
   pub first : List Batch
   pub split : batches ≡ first ++ unnumbered unsynced
-  pub on_disk : content_of_batches synced ≡ after_batches first before
+  pub on_disk : content_of_batches (rewrites ++ synced) ≡ after_batches first before
   pub plain : AllByRecursion (λ b. list_any holds_mark b ≡ false) (unnumbered unsynced)

@@ -55,5 +55,5 @@ abbrev pub IsWriteTaken : {F T : Type 0} → (F → Disk) → Parts F → Batch 
 IsWriteTaken disk e [] result = IsSyncTaken e result
 IsWriteTaken disk e (item ∷ items) result =
     IsTakenUnless (e.is_stopped ≡ true) (IsMarked (item ∷ items)) (IsNotTaken e.tables (item ∷ items))
-    ((IsFull e.append ⊎ IsTooLarge e.append (item ∷ items)) × IsUnnumbered e.append) ((IsFull e.append ⊎ IsTooLarge e.append (item ∷ items)) × IsUnmade e.append (disk e.files))
-    ((IsFull e.append × IsBarred e.append (disk e.files)) ⊎ IsTooLarge e.append (item ∷ items)) result
+    ((IsFull e.pipes.append ⊎ IsTooLarge e.pipes.append (item ∷ items)) × IsUnnumbered e.pipes.append) ((IsFull e.pipes.append ⊎ IsTooLarge e.pipes.append (item ∷ items)) × IsUnmade e.pipes.append (disk e.files))
+    ((IsFull e.pipes.append × IsBarred e.pipes.append (disk e.files)) ⊎ IsTooLarge e.pipes.append (item ∷ items)) result

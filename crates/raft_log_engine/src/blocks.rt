@@ -4,7 +4,7 @@ ghost use Rattle.raft_log_engine.specs.Blocks.{IsReadAs};
 ghost use Rattle.raft_log_engine.specs.Held.{bytes_on};
 ghost use Rattle.raft_log_engine.specs.declared.fault.EngineFault.TheVariants.{Log};
 ghost use Rattle.raft_log_files.specs.declared.error.Error.TheVariants.{Memory};
-ghost use Rattle.raft_log_pipe.specs.Pipe.{IsPipe};
+ghost use Rattle.raft_log_pipes.specs.Pipes.{ArePipes};
 ghost use Rattle.raft_log_records.specs.Batch.{payloads};
 ghost use Rattle.raft_log_records.specs.Item.{entry_bytes};
 ghost use Rattle.raft_log_records.specs.declared.error.RecordError.TheVariants as record_error;
@@ -12,7 +12,7 @@ ghost use Rattle.raft_log_records.specs.declared.error.RecordError.TheVariants a
 use crate::fault::EngineFault;
 use raft_log_files::{CorruptionFault, Error, FileSystem};
 use raft_log_memtables::FetchError;
-use raft_log_pipe::SinglePipe;
+use raft_log_pipes::DualPipes;
 use raft_log_records::{EntryIndex, FileBlockHandle, RecordError, RecordFault, read_entries_block};
 use std::alloc::Global;
 
@@ -53,14 +53,14 @@ pub(crate) struct Block {
 /// Reads a block, and checks its checksum.
 fn read_block<F: FileSystem>(
     files: &F,
-    pipe: &SinglePipe,
+    pipes: &DualPipes,
     handle: FileBlockHandle,
 ) -> Result<Block, EngineFault>
-    requires { IsPipe pipe.now (F.disk files.now) }
+    requires { ArePipes pipes.now (F.disk files.now) }
     ensures handle { IfOk result (λ block. block.handle ≡ handle) }
-    ensures read { IfOk result (IsReadAs (F.disk files.now) pipe.now) }
+    ensures read { IfOk result (IsReadAs (F.disk files.now) pipes.now) }
 {
-    let mut bytes = pipe.read_bytes(files, handle)?;
+    let mut bytes = pipes.read_bytes(files, handle)?;
     let len = match read_entries_block(&bytes) {
         Ok(entries) => entries.len(),
         Err(fault) => return Err(corrupt(fault)),
@@ -75,18 +75,18 @@ fn read_block<F: FileSystem>(
 /// A block: the one that was read last, or read from its file.
 fn block_at<F: FileSystem>(
     files: &F,
-    pipe: &SinglePipe,
+    pipes: &DualPipes,
     last: Option<Block>,
     handle: FileBlockHandle,
 ) -> Result<Block, EngineFault>
-    requires pipe { IsPipe pipe.now (F.disk files.now) }
-    requires last { IfSome last (IsReadAs (F.disk files.now) pipe.now) }
+    requires pipes { ArePipes pipes.now (F.disk files.now) }
+    requires last { IfSome last (IsReadAs (F.disk files.now) pipes.now) }
     ensures handle { IfOk result (λ block. block.handle ≡ handle) }
-    ensures read { IfOk result (IsReadAs (F.disk files.now) pipe.now) }
+    ensures read { IfOk result (IsReadAs (F.disk files.now) pipes.now) }
 {
     match last {
         Some(block) if block.handle == handle => Ok(block),
-        _ => read_block(files, pipe, handle),
+        _ => read_block(files, pipes, handle),
     }
 }
 
@@ -95,19 +95,19 @@ fn block_at<F: FileSystem>(
 fn copy_with<F: FileSystem>(
     alloc: Global,
     files: &F,
-    pipe: &SinglePipe,
+    pipes: &DualPipes,
     last: Option<Block>,
     place: EntryIndex,
 ) -> Result<(Vec<u8>, Block), EngineFault>
-    requires pipe { IsPipe pipe.now (F.disk files.now) }
-    requires last { IfSome last (IsReadAs (F.disk files.now) pipe.now) }
-    ensures copied { IfOk result (λ r. r.0.items ≡ bytes_on (F.disk files.now) pipe.now place) }
-    ensures read { IfOk result (λ r. IsReadAs (F.disk files.now) pipe.now r.1) }
+    requires pipes { ArePipes pipes.now (F.disk files.now) }
+    requires last { IfSome last (IsReadAs (F.disk files.now) pipes.now) }
+    ensures copied { IfOk result (λ r. r.0.items ≡ bytes_on (F.disk files.now) pipes.now place) }
+    ensures read { IfOk result (λ r. IsReadAs (F.disk files.now) pipes.now r.1) }
 {
     let Some(handle) = place.entries else {
         return Err(EngineFault::Log(Error::EntryNotFound));
     };
-    let block = block_at(files, pipe, last, handle)?;
+    let block = block_at(files, pipes, last, handle)?;
     let Some(bytes) = bytes_of(&block.entries, place) else {
         return Err(corrupt(RecordFault::EntriesLength));
     };
@@ -119,13 +119,13 @@ fn copy_with<F: FileSystem>(
 pub(crate) fn copy_of<F: FileSystem>(
     alloc: Global,
     files: &F,
-    pipe: &SinglePipe,
+    pipes: &DualPipes,
     place: EntryIndex,
 ) -> Result<Vec<u8>, EngineFault>
-    requires { IsPipe pipe.now (F.disk files.now) }
-    ensures { IfOk result (λ v. v.items ≡ bytes_on (F.disk files.now) pipe.now place) }
+    requires { ArePipes pipes.now (F.disk files.now) }
+    ensures { IfOk result (λ v. v.items ≡ bytes_on (F.disk files.now) pipes.now place) }
 {
-    let (copy, _) = copy_with(alloc, files, pipe, None, place)?;
+    let (copy, _) = copy_with(alloc, files, pipes, None, place)?;
     Ok(copy)
 }
 
@@ -133,16 +133,16 @@ pub(crate) fn copy_of<F: FileSystem>(
 pub(crate) fn copies_of<F: FileSystem>(
     alloc: Global,
     files: &F,
-    pipe: &SinglePipe,
+    pipes: &DualPipes,
     places: &[EntryIndex],
 ) -> Result<Vec<Vec<u8>>, EngineFault>
-    requires { IsPipe pipe.now (F.disk files.now) }
-    ensures { IfOk result (λ found. payloads found.items ≡ map (bytes_on (F.disk files.now) pipe.now) places.now) }
+    requires { ArePipes pipes.now (F.disk files.now) }
+    ensures { IfOk result (λ found. payloads found.items ≡ map (bytes_on (F.disk files.now) pipes.now) places.now) }
 {
     let mut copies = Vec::new(alloc);
     let mut last = None;
     for place in places {
-        let (copy, block) = copy_with(alloc, files, pipe, last.take(), *place)?;
+        let (copy, block) = copy_with(alloc, files, pipes, last.take(), *place)?;
         copies.push(copy)?;
         last = Some(block);
     }

@@ -20,7 +20,7 @@ use crate::engine::Engine;
 use crate::fault::EngineFault;
 use crate::writing::{apply, prepare};
 use raft_log_files::FileSystem;
-use raft_log_records::LogBatch;
+use raft_log_records::{LogBatch, LogQueue};
 
 /// Whether a write wasn't synced, with one more write.
 fn skips_sync(before: bool, sync: bool) -> bool
@@ -43,7 +43,7 @@ impl<F: FileSystem + Drop> Engine<F> {
         ensures err { IsSound self.old → OnErr result (MayBeWritten (IsSound self.new) (answers_on F.disk self.new) (leaves_on F.disk self.new)
             (answers_on F.disk self.old) (after_batch batch.old.items (answers_on F.disk self.old))) }
         ensures sound { IsSound self.old → OnOk result (sync ≡ true → IsSound self.new) }
-        ensures paths { self.new.append.paths ≡ self.old.append.paths }
+        ensures paths { self.new.pipes.append.paths ≡ self.old.pipes.append.paths }
         ensures alone { StandsAlone F.disk self.old → OnOk result (StandsAlone F.disk self.new) }
         ensures opens { StandsAlone F.disk self.old → OnOk result (sync ≡ true → OpensAs (directories_of_engine self.new) (F.disk self.new.files) (answers_on F.disk self.new)) }
         ensures opens_either { IsSound self.old → StandsAlone F.disk self.old → OnErr result (OpensAsEither (directories_of_engine self.new) (F.disk self.new.files)
@@ -75,7 +75,7 @@ impl<F: FileSystem + Drop> Engine<F> {
         }
         let len = prepare(&self.tables, batch)?;
         let block = batch.entries_block();
-        let written = match append_batch(&mut self.files, &mut self.append, batch, sync) {
+        let written = match append_batch(&mut self.files, &mut self.pipes, batch, sync) {
             Ok(written) => written,
             Err(error) => {
                 self.is_stopped = true;
@@ -92,11 +92,12 @@ impl<F: FileSystem + Drop> Engine<F> {
     }
 
     /// Brings what was written onto the disk (raft-engine's `sync`). Where each write was synced
-    /// there is nothing to do. After a refusal the engine is stopped.
+    /// there is nothing to do, and nothing of the rewrite queue waits for a sync. After a refusal the
+    /// engine is stopped.
     pub fn sync(&mut self) -> Result<(), EngineFault>
         ensures answers { OnOk result (answers_on F.disk self.new ≡ answers_on F.disk self.old) }
         ensures sound { IsSound self.old → self.new ≡ self.old }
-        ensures paths { self.new.append.paths ≡ self.old.append.paths }
+        ensures paths { self.new.pipes.append.paths ≡ self.old.pipes.append.paths }
         ensures alone { StandsAlone F.disk self.old → StandsAlone F.disk self.new }
         ensures opens { StandsAlone F.disk self.old → OnOk result (OpensAs (directories_of_engine self.new) (F.disk self.new.files) (answers_on F.disk self.new)) }
         ensures written { (before : Content (List ℕ)) (batches : List Batch) → HasWritten F.disk self.old before batches → HasWritten F.disk self.new before batches }
@@ -114,7 +115,7 @@ impl<F: FileSystem + Drop> Engine<F> {
         if !self.wrote_unsynced {
             return Ok(());
         }
-        if let Err(error) = self.append.sync(&mut self.files) {
+        if let Err(error) = self.pipes.sync(&mut self.files, LogQueue::Append) {
             self.is_stopped = true;
             return Err(EngineFault::Log(error));
         }
@@ -125,7 +126,7 @@ impl<F: FileSystem + Drop> Engine<F> {
     pub fn path(&self) -> &str
         ensures { result.now ≡ main_of (directories_of_engine self.now) }
     {
-        self.append.path()
+        self.pipes.path()
     }
 
     /// The value of a key of a group, if it is there.
@@ -163,7 +164,7 @@ impl<F: FileSystem + Drop> Engine<F> {
             Ok(places) => places,
             Err(error) => return Err(fault_of(error)),
         };
-        copies_of(self.alloc, &self.files, &self.append, &places)
+        copies_of(self.alloc, &self.files, &self.pipes, &places)
     }
 
     /// Whether the engine has something of a group (own).

@@ -15,7 +15,7 @@ ghost use Rattle.raft_log_engine.specs.Opening.{IsLeftByOpening};
 ghost use Rattle.raft_log_files.specs.Settings.{settings_of};
 ghost use Rattle.raft_log_memtables.specs.Content.{Content, nothing};
 ghost use Rattle.raft_log_pipe.specs.Alone.{IsOnce, Names};
-ghost use Rattle.raft_log_records.specs.declared.file_id.LogQueue.TheVariants.{Append};
+ghost use Rattle.raft_log_records.specs.declared.file_id.LogQueue.{LogQueue};
 ghost use Rattle.raft_log_recovery.specs.Crashed.{IsCrashed};
 ghost use Rattle.raft_log_recovery.specs.Scan.{directories_of};
 
@@ -68,7 +68,7 @@ impl Model for MemoryLog {
 fn in_one_directory(settings: &Config) -> Result<Config, AllocError>
     ensures directories { IfOk result (λ config. directories_of (settings_of config) ≡ main_directory settings.now) }
     ensures mode { IfOk result (λ config. config.recovery_mode ≡ settings.now.recovery_mode) }
-    ensures once { IfOk result (λ config. (names : Names) → IsOnce names (directories_of (settings_of config)) Append) }
+    ensures once { IfOk result (λ config. (names : Names) (queue : LogQueue) → IsOnce names (directories_of (settings_of config)) queue) }
 {
     let mut config = settings.clone()?;
     config.spill_dir = None;
@@ -127,7 +127,7 @@ impl MemoryLog {
         ensures leaves { IfOk result (λ l. LeavesOnly (leaves_of_log disk_in l) (answers_on disk_in l.engine)) }
         ensures settings { IfOk result (λ l. l.settings ≡ files.settings) }
         ensures refused { IfErr result (λ refused. refused.files.settings ≡ files.settings) }
-        ensures err { IfErr result (λ refused. IsLeftByOpening (main_directory files.settings) (disk_in files.files) (disk_in refused.files.files)) }
+        ensures err { IfErr result (λ refused. IsLeftByOpening files.settings.recovery_mode (main_directory files.settings) (disk_in files.files) (disk_in refused.files.files)) }
         ensures reads { IfErr result (λ refused. (content : Content (List ℕ)) → IsFoundBy files.settings (disk_in refused.files.files) content
             → IsFoundBy files.settings (disk_in files.files) content) }
     {

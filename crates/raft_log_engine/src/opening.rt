@@ -3,22 +3,22 @@ ghost use Rattle.std.specs.Prelude.{◌≡◌, ℕ, List, [], IfOk, IfErr, OnErr
 ghost use Rattle.raft_log_disk.specs.Cause.{RefusesNoMore};
 ghost use Rattle.raft_log_engine.specs.Left.{IsSound, answers_on};
 ghost use Rattle.raft_log_engine.specs.Opening.{IsFoundAgain, IsFoundContent, IsLeftByOpening, IsRecoveredAs};
-ghost use Rattle.raft_log_engine.specs.Reopened.{OpensAs, OpensAsFront, StandsAlone, directories_of_engine};
+ghost use Rattle.raft_log_engine.specs.Reopened.{OpensAs, OpensAsFront, StandAlone, StandsAlone, directories_of_engine, directories_of_pipes};
 ghost use Rattle.raft_log_engine.specs.Since.{HasWritten};
 ghost use Rattle.raft_log_file.specs.Laws.{Batch};
-ghost use Rattle.raft_log_memtables.specs.Content.{Content};
-ghost use Rattle.raft_log_pipe.specs.Alone.{IsAlone, IsOnce, directories_of_pipe};
-ghost use Rattle.raft_log_records.specs.declared.file_id.LogQueue.TheVariants.{Append};
+ghost use Rattle.raft_log_memtables.specs.Content.{Content, nothing};
+ghost use Rattle.raft_log_pipe.specs.Alone.{IsOnce};
+ghost use Rattle.raft_log_records.specs.declared.file_id.LogQueue.{LogQueue};
 ghost use Rattle.raft_log_files.specs.Settings.{settings_of};
 ghost use Rattle.raft_log_recovery.specs.Scan.{directories_of};
 
 use crate::engine::Engine;
 use crate::fault::EngineFault;
-use raft_log_files::{Config, FileSystem, RecoveryConfig};
+use raft_log_files::{Config, FileSystem};
 use raft_log_memtables::MemTables;
-use raft_log_pipe::SinglePipe;
+use raft_log_pipes::DualPipes;
 use raft_log_records::LogQueue;
-use raft_log_recovery::{DualPipesBuilder, NewMachine};
+use raft_log_recovery::{DefaultMachineFactory, DualPipesBuilder};
 use raft_log_replay::ReplayedBatches;
 use std::alloc::Global;
 
@@ -31,60 +31,49 @@ pub struct NotOpened<F> {
     pub files: F,
 }
 
-/// How the append queue is recovered by these settings.
-fn recovery_of(config: &Config) -> RecoveryConfig
-    ensures queue { result.queue ≡ Append }
-    ensures mode { result.mode ≡ config.now.recovery_mode }
-{
-    RecoveryConfig {
-        queue: LogQueue::Append,
-        mode: config.recovery_mode,
-        concurrency: 1,
-        read_block_size: config.recovery_read_block_size.0,
-    }
-}
-
-/// The pipe over the files that are there, and the tables of their batches.
+/// The pipes over the files that are there, and the tables of their batches.
 fn recovered<F: FileSystem>(
     files: &mut F,
     alloc: Global,
     config: Config,
-) -> Result<(SinglePipe, MemTables), EngineFault>
+) -> Result<(DualPipes, MemTables), EngineFault>
     ensures ok { IfOk result (λ found. IsRecoveredAs config.recovery_mode (directories_of (settings_of config)) (F.disk files.old) (F.disk files.new) found.0 found.1) }
-    ensures queue { IfOk result (λ found. found.0.queue ≡ Append) }
-    ensures paths { IfOk result (λ found. directories_of_pipe found.0 ≡ directories_of (settings_of config)) }
-    ensures alone { IfOk result (λ found. IsOnce (F.disk files.old).names (directories_of (settings_of config)) Append → IsAlone found.0 (F.disk files.new)) }
-    ensures err { OnErr result (IsLeftByOpening (directories_of (settings_of config)) (F.disk files.old) (F.disk files.new)) }
+    ensures paths { IfOk result (λ found. directories_of_pipes found.0 ≡ directories_of (settings_of config)) }
+    ensures alone { IfOk result (λ found. ((queue : LogQueue) → IsOnce (F.disk files.old).names (directories_of (settings_of config)) queue) → StandAlone found.0 (F.disk files.new)) }
+    ensures err { OnErr result (IsLeftByOpening config.recovery_mode (directories_of (settings_of config)) (F.disk files.old) (F.disk files.new)) }
     ensures reads { OnErr result (IsFoundAgain config.recovery_mode (directories_of (settings_of config)) (F.disk files.old) (F.disk files.new)) }
 {
-    let recovery = recovery_of(&config);
     let mut builder = DualPipesBuilder::new(alloc, config);
     builder.scan(files)?;
-    let mut machine = ReplayedBatches::new_machine(alloc);
-    let pipe = builder.open_queue(files, &recovery, &mut machine)?;
+    let factory = DefaultMachineFactory::new(alloc);
+    let (pipes, machine) = builder.recover_alone::<F, ReplayedBatches, DefaultMachineFactory>(
+        files, &factory,
+    )?;
     let tables = machine.finish(alloc, MemTables::new(alloc))?;
-    Ok((pipe, tables))
+    Ok((pipes, tables))
 }
 
 impl<F: FileSystem + Drop> Engine<F> {
-    /// Opens the engine with the files that are there, or makes its first one (raft-engine's `open`,
-    /// of the append queue alone): what the files read as is its content. A fault in a file is cut
-    /// away or refused, as `recovery_mode` says. A refusal hands the files back, which read as before.
+    /// Opens the engine with the files that are there, or makes the first one of a queue that has
+    /// none (raft-engine's `open`, with one worker): its content is that of the rewrite queue's
+    /// batches, with those of the append queue behind them. A fault in a file is cut away or refused,
+    /// as `recovery_mode` says. A refusal hands the files back, which read as before.
     pub fn open(mut files: F, alloc: Global, config: Config) -> Result<Engine<F>, NotOpened<F>>
         ensures sound { IfOk result IsSound }
         ensures answers { IfOk result (λ e. IsFoundContent config.recovery_mode (directories_of (settings_of config)) (F.disk files) (answers_on F.disk e)) }
+        ensures fresh { (F.disk files).names ≡ [] → IfOk result (λ e. answers_on F.disk e ≡ nothing) }
         ensures directories { IfOk result (λ e. directories_of_engine e ≡ directories_of (settings_of config)) }
-        ensures alone { IfOk result (λ e. IsOnce (F.disk files).names (directories_of (settings_of config)) Append → StandsAlone F.disk e) }
+        ensures alone { IfOk result (λ e. ((queue : LogQueue) → IsOnce (F.disk files).names (directories_of (settings_of config)) queue) → StandsAlone F.disk e) }
         ensures written { IfOk result (λ e. HasWritten F.disk e (answers_on F.disk e) []) }
         ensures opens { IfOk result (λ e. StandsAlone F.disk e → OpensAs (directories_of_engine e) (F.disk e.files) (answers_on F.disk e)) }
-        ensures err { IfErr result (λ refused. IsLeftByOpening (directories_of (settings_of config)) (F.disk files) (F.disk refused.files)) }
+        ensures err { IfErr result (λ refused. IsLeftByOpening config.recovery_mode (directories_of (settings_of config)) (F.disk files) (F.disk refused.files)) }
         ensures reads { IfErr result (λ refused. IsFoundAgain config.recovery_mode (directories_of (settings_of config)) (F.disk files) (F.disk refused.files)) }
     {
         match recovered(&mut files, alloc, config) {
-            Ok((append, tables)) => Ok(Engine {
+            Ok((pipes, tables)) => Ok(Engine {
                 alloc,
                 files,
-                append,
+                pipes,
                 tables,
                 is_stopped: false,
                 wrote_unsynced: false,
@@ -93,9 +82,10 @@ impl<F: FileSystem + Drop> Engine<F> {
         }
     }
 
-    /// The files, handed back (raft-engine's `close`). The last one is cut behind its last record and
-    /// synced, but where a write failed before. A refusal is passed over: an opening finds the same
-    /// then, unless a write wasn't synced. An engine is opened again with them.
+    /// The files, handed back (raft-engine's `close`). The last one of each queue is cut behind its
+    /// last record and synced, but where a write failed before. A refusal is passed over, and the
+    /// rewrite queue isn't closed behind it: an opening finds the same then, unless a write wasn't
+    /// synced. An engine is opened again with them.
     pub fn close(mut self) -> F
         ensures opens { IsSound self → StandsAlone F.disk self → OpensAs (directories_of_engine self) (F.disk result) (answers_on F.disk self) }
         ensures opens_front { (before : Content (List ℕ)) (batches : List Batch) → StandsAlone F.disk self → HasWritten F.disk self before batches
@@ -105,7 +95,10 @@ impl<F: FileSystem + Drop> Engine<F> {
         if self.is_stopped {
             return self.files;
         }
-        let _ = self.append.close(&mut self.files);
+        let Ok(()) = self.pipes.close(&mut self.files, LogQueue::Append) else {
+            return self.files;
+        };
+        let _ = self.pipes.close(&mut self.files, LogQueue::Rewrite);
         self.files
     }
 }

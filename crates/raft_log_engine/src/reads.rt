@@ -1,20 +1,22 @@
 //! Reads of groups, and of what an engine is over.
-ghost use Rattle.std.specs.Prelude.{◌≡◌, ◌+◌, ◌-◌, ◌*◌, ◌^◌, ◌↔◌, ℕ, true, false, Err, IfErr, IfOk, IsTrue, OnOk, length, min, option_map};
+ghost use Rattle.std.specs.Prelude.{◌≡◌, ◌+◌, ◌-◌, ◌^◌, ◌↔◌, ℕ, true, false, Err, IfErr, IfOk, IsTrue, OnOk, min, option_map};
 ghost use Rattle.std.specs.List.Sorted.{IsStrictlySortedBy};
 ghost use Rattle.std.specs.Ordering.{nat_cmp, eq_by_cmp};
 ghost use Rattle.std.specs.Set.{is_member};
 ghost use Rattle.raft_log_engine.specs.Left.{answers_on};
-ghost use Rattle.raft_log_engine.specs.Reads.{IsMessageFault, IsRead, IsStopped, IsTableFault};
+ghost use Rattle.raft_log_engine.specs.Reads.{IsMessageFault, IsRead, IsStopped, IsTableFault, used_by};
 ghost use Rattle.raft_log_engine.specs.declared.fault.EngineFault.TheVariants.{Stopped};
 ghost use Rattle.raft_log_memtables.specs.Content.{no_group};
 ghost use Rattle.raft_log_memtables.specs.Entries.{IsFirst, IsLast};
 ghost use Rattle.raft_log_pipe.specs.Pipe.{first_of};
+ghost use Rattle.raft_log_pipes.specs.Pipes.{pipe_of};
+ghost use Rattle.raft_log_records.specs.declared.file_id.LogQueue.TheVariants.{Append, Rewrite};
 
 use crate::blocks::copy_of;
 use crate::engine::Engine;
 use crate::fault::EngineFault;
 use raft_log_files::{CrashFiles, FileSystem};
-use raft_log_records::{FileSeq, Message};
+use raft_log_records::{FileSeq, LogQueue, Message};
 
 impl<F: FileSystem + Drop> Engine<F> {
     /// A copy of the bytes of a group's entry with this index, if it is there (raft-engine's
@@ -28,7 +30,7 @@ impl<F: FileSystem + Drop> Engine<F> {
             return Err(EngineFault::Stopped);
         }
         match self.tables.get_entry(group, index) {
-            Some(place) => Ok(Some(copy_of(self.alloc, &self.files, &self.append, place)?)),
+            Some(place) => Ok(Some(copy_of(self.alloc, &self.files, &self.pipes, place)?)),
             None => Ok(None),
         }
     }
@@ -106,21 +108,21 @@ impl<F: FileSystem + Drop> Engine<F> {
 }
 
 impl<F: FileSystem + Drop> Engine<F> {
-    /// The numbers of the first file and of the last (raft-engine's `file_span`, of the append queue
-    /// alone).
-    pub fn file_span(&self) -> (FileSeq, FileSeq)
-        ensures first { result.0 ≡ first_of self.now.append }
-        ensures last { result.1 ≡ self.now.append.active.seq }
+    /// The numbers of the first file and of the last of a queue (raft-engine's `file_span`).
+    pub fn file_span(&self, queue: LogQueue) -> (FileSeq, FileSeq)
+        ensures first { result.0 ≡ first_of (pipe_of self.now.pipes queue) }
+        ensures last { result.1 ≡ (pipe_of self.now.pipes queue).active.seq }
     {
-        self.append.file_span()
+        self.pipes.file_span(queue)
     }
 
-    /// The bytes of all files, each taken as long as the target size (raft-engine's
+    /// The bytes of all files of both queues, each taken as long as the target size (raft-engine's
     /// `get_used_size`).
     pub fn get_used_size(&self) -> u64
-        ensures { result ≡ min ((length self.now.append.older.items + 1) * self.now.append.target_file_size) (2 ^ 64 - 1) }
+        ensures { result ≡ min (used_by self.now.pipes Append + used_by self.now.pipes Rewrite) (2 ^ 64 - 1) }
     {
-        self.append.total_size()
+        let appends = self.pipes.total_size(LogQueue::Append);
+        appends.saturating_add(self.pipes.total_size(LogQueue::Rewrite))
     }
 
     /// The files, lent for reading (own).

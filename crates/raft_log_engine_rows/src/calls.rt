@@ -5,6 +5,7 @@ use crate::messages::Text;
 use crate::scans::{Pair, pairs_in, range_of, texts_in};
 use raft_log_engine::{Engine, EngineFault};
 use raft_log_files::{CrashFiles, Error};
+use raft_log_records::LogQueue;
 use raft_rows::{bytes, number};
 use std::alloc::{AllocError, Global};
 
@@ -85,7 +86,7 @@ fn ask<F: CrashFiles + Drop>(
         ["groups"] => Told::Groups(engine.raft_groups()?),
         ["empty"] => Told::Empty(engine.is_empty()?),
         ["span"] => {
-            let (first, last) = engine.file_span();
+            let (first, last) = engine.file_span(LogQueue::Append);
             Told::Files(first, last)
         }
         ["used"] => Told::Bytes(engine.get_used_size()),

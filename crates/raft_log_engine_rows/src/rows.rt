@@ -1,48 +1,31 @@
 //! Which calls the words of a row name.
 
-ghost use Rattle.std.specs.Prelude.{◌≡◌, ◌<◌, [], length, IfOk};
-ghost use Rattle.raft_log_disk.specs.MemorySystem.{disk_in};
-ghost use Rattle.raft_log_pipe.specs.Pipe.{IsLast};
-
 use crate::calls::{Told, steps_on};
 use crate::damage::{Harm, harmed};
 use crate::logs::{crash, genuine, refused_openings};
-use crate::reopening::{reopened, run_of};
+use crate::reopening::{config_of, reopened, run_of};
 use crate::stops::{Plan, stops_of};
 use raft_log_engine::{Engine, EngineFault};
-use raft_log_files::{Error, FileSystem, IoFault, LogFileFormat, MemoryFileSystem};
-use raft_log_pipe::Paths;
+use raft_log_files::{Error, FileSystem, IoFault, MemoryFileSystem};
 use raft_log_records::Version;
 use raft_rows::{Answer, Rows, number};
-use std::alloc::{AllocError, Global};
+use std::alloc::Global;
 
 /// Each row has files of its own.
 #[derive(Drop)]
 pub struct Calls;
 
-fn directory<F: FileSystem>(files: &mut F) -> Result<(), IoFault>
-    ensures { (F.disk files.new).names ≡ (F.disk files.old).names }
-{
+fn directory<F: FileSystem>(files: &mut F) -> Result<(), IoFault> {
     files.make_dir("main")
 }
 
 /// Makes the directory of so many bytes; of any number where the word is `any`.
-fn bounded(files: &mut MemoryFileSystem, space: &str) -> Result<(), IoFault>
-    ensures { (disk_in files.new).names ≡ (disk_in files.old).names }
-{
+fn bounded(files: &mut MemoryFileSystem, space: &str) -> Result<(), IoFault> {
     directory(files)?;
     if space != "any" {
         files.set_space("main", number(space))?;
     }
     Ok(())
-}
-
-fn paths_of(alloc: Global) -> Result<Paths, AllocError>
-    ensures { IfOk result (λ v. 0 < length v.items) }
-{
-    let mut paths = Vec::new(alloc);
-    paths.push(String::from_str(alloc, "main")?)?;
-    Ok(paths)
 }
 
 fn told(
@@ -55,10 +38,12 @@ fn told(
     if let Err(fault) = bounded(&mut files, space) {
         return Err(EngineFault::Log(Error::from(fault)));
     }
-    let paths = paths_of(alloc)?;
-    let format = LogFileFormat::new(Version::V2, 0);
-    let mut engine = Engine::create(files, alloc, paths, format, target_size)?;
-    Ok(steps_on(&mut engine, alloc, words)?)
+    let mut config = config_of(alloc, target_size, "tail")?;
+    config.format_version = Version::V2;
+    match Engine::open(files, alloc, config) {
+        Ok(mut engine) => Ok(steps_on(&mut engine, alloc, words)?),
+        Err(refused) => Err(refused.fault),
+    }
 }
 
 /// The byte that a word is, modulo 256.

@@ -1,11 +1,11 @@
 -- An append without a sync, with one, and with one that is refused.
-use Rattle.std.proofs.Common.{Bool, sym, subst, ◌++◌, ◌∷◌, []}
+use Rattle.std.proofs.Common.{Bool, sym, subst, ◌++◌, ◌∷◌, [], ◌∙◌}
 use Rattle.raft_log_disk.proofs.CauseLemmas.{at_err}
 use Rattle.raft_log_pipe.specs.Alone.{IsAlone, IsNearlyAlone}
 use Rattle.raft_log_pipe.proofs.AloneLemmas.{alone_on, nearly_on}
 use Rattle.raft_log_pipe.proofs.BlockLemmas.{same_files, then_files}
 use Rattle.raft_log_engine.specs.Held.{HoldsMore}
-use Rattle.raft_log_engine.proofs.Appended.{appended_more, still_stands, synced_more, unsynced_leaves}
+use Rattle.raft_log_engine.proofs.Appended.{appended_more, still_stands, synced_more, then_as_before, unsynced_leaves}
 use Rattle.raft_log_disk.proofs.RefusalLemmas.{no_more_then, still_free}
 use Rattle.raft_log_records.specs.declared.file_id.FileBlockHandle.{FileBlockHandle}
 use Rattle.raft_log_engine.proofs.Taken.{sync_for}
@@ -13,37 +13,47 @@ use Rattle.raft_log_engine.proofs.appending.append_batch.Goals as goal
 
 pub returns-then-not-sync-clause-ok : goal.returns-then-not-sync-clause-ok
 returns-then-not-sync-clause-ok g c =
-    λ s u holds. subst (λ (b : Bool). HoldsMore c.append.new.self (g.F.FileSystem.disk c.append.new.files) b s (u ++ (c.in_ok-handle.handle.id.seq, c.args.batch.now.items) ∷ [])) (sym c.if-not-sync.true)
-    (appended_more c.args.pipe.now c.append.new.self (g.F.FileSystem.disk c.args.files.now) (g.F.FileSystem.disk c.append.new.files) c.in_ok-handle.handle.id.seq c.args.batch.now.items c.in_ok-handle.ensures.ok s u holds)
+    λ s u holds. subst (λ (b : Bool). HoldsMore c.append.new.self.append (g.F.FileSystem.disk c.append.new.files) b s (u ++ (c.in_ok-handle.handle.id.seq, c.args.batch.now.items) ∷ [])) (sym c.if-not-sync.true)
+    (appended_more c.args.pipes.now.append c.append.new.self.append (g.F.FileSystem.disk c.args.files.now) (g.F.FileSystem.disk c.append.new.files) c.in_ok-handle.handle.id.seq c.args.batch.now.items c.in_ok-handle.ensures.call.ok s u holds)
 
 pub returns-in_err-sync-clause-err : goal.returns-in_err-sync-clause-err
 returns-in_err-sync-clause-err g c =
-    at_err _ _ (unsynced_leaves c.args.pipe.now c.append.new.self c.sync.new.self (g.F.FileSystem.disk c.args.files.now) (g.F.FileSystem.disk c.append.new.files) (g.F.FileSystem.disk c.sync.new.files) c.in_ok-handle.handle.id.seq c.args.batch.now.items
-    c.in_ok-handle.ensures.ok c.in_err-sync.ensures.err)
+    at_err _ _ (unsynced_leaves c.args.pipes.now.append c.append.new.self.append c.sync.new.self.append (g.F.FileSystem.disk c.args.files.now) (g.F.FileSystem.disk c.append.new.files) (g.F.FileSystem.disk c.sync.new.files) c.in_ok-handle.handle.id.seq c.args.batch.now.items
+    c.in_ok-handle.ensures.call.ok c.in_err-sync.ensures.call.err)
 
 pub returns-in_err-sync-clause-nearly : goal.returns-in_err-sync-clause-nearly
 returns-in_err-sync-clause-nearly g c =
-    at_err _ (IsAlone c.args.pipe.now (g.F.FileSystem.disk c.args.files.now) → IsNearlyAlone c.sync.new.self (g.F.FileSystem.disk c.sync.new.files))
-    (λ alone. nearly_on c.append.new.self c.sync.new.self (g.F.FileSystem.disk c.append.new.files) (g.F.FileSystem.disk c.sync.new.files) c.in_err-sync.ensures.same c.in_err-sync.ensures.paths c.in_err-sync.ensures.names (c.in_ok-handle.ensures.alone alone))
+    let same = c.in_err-sync.ensures.call.same in
+    at_err _ (IsAlone c.args.pipes.now.append (g.F.FileSystem.disk c.args.files.now) → IsNearlyAlone c.sync.new.self.append (g.F.FileSystem.disk c.sync.new.files))
+    (λ alone. nearly_on c.append.new.self.append c.sync.new.self.append (g.F.FileSystem.disk c.append.new.files) (g.F.FileSystem.disk c.sync.new.files) (same.0, same.1, c.sync.new.self.appends ∙ sym c.append.new.self.appends) c.in_err-sync.ensures.call.paths c.in_err-sync.ensures.call.names
+    (c.in_ok-handle.ensures.call.alone alone))
 
 pub returns-clause-ok : goal.returns-clause-ok
 returns-clause-ok g c =
-    λ s u holds. subst (λ (b : Bool). HoldsMore c.sync.new.self (g.F.FileSystem.disk c.sync.new.files) b s (u ++ (c.in_ok-handle.handle.id.seq, c.args.batch.now.items) ∷ [])) (sym c.if-not-sync.false)
-    (synced_more c.args.pipe.now c.append.new.self c.sync.new.self (g.F.FileSystem.disk c.args.files.now) (g.F.FileSystem.disk c.append.new.files) (g.F.FileSystem.disk c.sync.new.files) c.in_ok-handle.handle.id.seq c.args.batch.now.items
-    c.in_ok-handle.ensures.ok c.in_ok-sync.ensures.ok s u holds)
+    λ s u holds. subst (λ (b : Bool). HoldsMore c.sync.new.self.append (g.F.FileSystem.disk c.sync.new.files) b s (u ++ (c.in_ok-handle.handle.id.seq, c.args.batch.now.items) ∷ [])) (sym c.if-not-sync.false)
+    (synced_more c.args.pipes.now.append c.append.new.self.append c.sync.new.self.append (g.F.FileSystem.disk c.args.files.now) (g.F.FileSystem.disk c.append.new.files) (g.F.FileSystem.disk c.sync.new.files) c.in_ok-handle.handle.id.seq c.args.batch.now.items
+    c.in_ok-handle.ensures.call.ok c.in_ok-sync.ensures.call.ok s u holds)
 
 pub returns-clause-stands : goal.returns-clause-stands
 returns-clause-stands g c =
-    still_stands c.args.pipe.now c.append.new.self c.sync.new.self (g.F.FileSystem.disk c.args.files.now) c.args.batch.now.items c.in_ok-handle.handle
-    c.in_ok-handle.ensures.stands c.in_ok-sync.ensures.same.2 c.in_ok-sync.ensures.same.0
+    still_stands c.args.pipes.now.append c.append.new.self.append c.sync.new.self.append (g.F.FileSystem.disk c.args.files.now) c.args.batch.now.items c.in_ok-handle.handle
+    c.in_ok-handle.ensures.call.stands (c.sync.new.self.appends ∙ sym c.append.new.self.appends) c.in_ok-sync.ensures.call.same.0
 
 pub returns-clause-files : goal.returns-clause-files
 returns-clause-files g c =
-    then_files c.args.pipe.now c.append.new.self c.sync.new.self c.in_ok-handle.ensures.files (same_files c.append.new.self c.sync.new.self c.in_ok-sync.ensures.same.0 c.in_ok-sync.ensures.same.1)
+    then_files c.args.pipes.now.append c.append.new.self.append c.sync.new.self.append c.in_ok-handle.ensures.call.files (same_files c.append.new.self.append c.sync.new.self.append c.in_ok-sync.ensures.call.same.0 c.in_ok-sync.ensures.call.same.1)
 
 pub returns-clause-alone : goal.returns-clause-alone
 returns-clause-alone g c =
-    λ alone. alone_on c.append.new.self c.sync.new.self (g.F.FileSystem.disk c.append.new.files) (g.F.FileSystem.disk c.sync.new.files) c.in_ok-sync.ensures.same c.in_ok-sync.ensures.paths c.in_ok-sync.ensures.names (c.in_ok-handle.ensures.alone alone)
+    let same = c.in_ok-sync.ensures.call.same in
+    λ alone. alone_on c.append.new.self.append c.sync.new.self.append (g.F.FileSystem.disk c.append.new.files) (g.F.FileSystem.disk c.sync.new.files) (same.0, same.1, c.sync.new.self.appends ∙ sym c.append.new.self.appends) c.in_ok-sync.ensures.call.paths c.in_ok-sync.ensures.call.names
+    (c.in_ok-handle.ensures.call.alone alone)
+
+pub returns-in_err-sync-clause-other : goal.returns-in_err-sync-clause-other
+returns-in_err-sync-clause-other g c = then_as_before _ _ _ _ _ _ c.in_ok-handle.ensures.other c.in_err-sync.ensures.other
+
+pub returns-clause-other : goal.returns-clause-other
+returns-clause-other g c = then_as_before _ _ _ _ _ _ c.in_ok-handle.ensures.other c.in_ok-sync.ensures.other
 
 pub returns-in_err-sync-clause-later : goal.returns-in_err-sync-clause-later
 returns-in_err-sync-clause-later g c = no_more_then c.in_ok-handle.ensures.later c.in_err-sync.ensures.later
@@ -53,5 +63,40 @@ returns-clause-later g c = no_more_then c.in_ok-handle.ensures.later c.in_ok-syn
 
 pub returns-in_err-sync-clause-taken : goal.returns-in_err-sync-clause-taken
 returns-in_err-sync-clause-taken g c = λ free.
-    sync_for FileBlockHandle c.args.pipe.now (g.F.FileSystem.disk c.args.files.now) c.args.batch.now.items c.from_residual-in_err-sync.result c.in_err-sync.field-0.0 c.from_residual-in_err-sync.ensures.1
+    sync_for FileBlockHandle c.args.pipes.now.append (g.F.FileSystem.disk c.args.files.now) c.args.batch.now.items c.from_residual-in_err-sync.result c.in_err-sync.field-0.0 c.from_residual-in_err-sync.ensures.1
     (c.in_err-sync.ensures.taken (still_free free c.in_ok-handle.ensures.later))
+
+-- ---- what the append itself says
+
+pub returns-in_err-handle-clause-nearly : goal.returns-in_err-handle-clause-nearly
+returns-in_err-handle-clause-nearly g c = at_err _ _ c.in_err-handle.ensures.call.nearly
+
+pub returns-in_err-handle-clause-err : goal.returns-in_err-handle-clause-err
+returns-in_err-handle-clause-err g c = at_err _ _ c.in_err-handle.ensures.call.err
+
+pub returns-in_err-handle-clause-paths : goal.returns-in_err-handle-clause-paths
+returns-in_err-handle-clause-paths g c = c.in_err-handle.ensures.call.paths
+
+pub returns-then-not-sync-clause-paths : goal.returns-then-not-sync-clause-paths
+returns-then-not-sync-clause-paths g c = c.in_ok-handle.ensures.call.paths
+
+pub returns-then-not-sync-clause-alone : goal.returns-then-not-sync-clause-alone
+returns-then-not-sync-clause-alone g c = c.in_ok-handle.ensures.call.alone
+
+pub returns-then-not-sync-clause-files : goal.returns-then-not-sync-clause-files
+returns-then-not-sync-clause-files g c = c.in_ok-handle.ensures.call.files
+
+pub returns-then-not-sync-clause-stands : goal.returns-then-not-sync-clause-stands
+returns-then-not-sync-clause-stands g c = c.in_ok-handle.ensures.call.stands
+
+pub returns-then-not-sync-clause-fits : goal.returns-then-not-sync-clause-fits
+returns-then-not-sync-clause-fits g c = c.in_ok-handle.ensures.call.fits
+
+pub returns-in_err-sync-clause-paths : goal.returns-in_err-sync-clause-paths
+returns-in_err-sync-clause-paths g c = c.in_err-sync.ensures.call.paths ∙ c.in_ok-handle.ensures.call.paths
+
+pub returns-clause-paths : goal.returns-clause-paths
+returns-clause-paths g c = c.in_ok-sync.ensures.call.paths ∙ c.in_ok-handle.ensures.call.paths
+
+pub returns-clause-fits : goal.returns-clause-fits
+returns-clause-fits g c = c.in_ok-handle.ensures.call.fits

@@ -8,6 +8,6 @@ use Rattle.raft_log_engine.proofs.blocks.copies_of.Given as goal
 
 abbrev pub invariant-loop-place : goal.invariant-loop-place
 invariant-loop-place g l = record {
-  copied : payloads l.copies.items ≡ map (bytes_on (g.F.FileSystem.disk l.files) l.pipe) (take l.place-index l.places);
-  last_read : IfSome l.last (IsReadAs (g.F.FileSystem.disk l.files) l.pipe);
+  copied : payloads l.copies.items ≡ map (bytes_on (g.F.FileSystem.disk l.files) l.pipes) (take l.place-index l.places);
+  last_read : IfSome l.last (IsReadAs (g.F.FileSystem.disk l.files) l.pipes);
 }

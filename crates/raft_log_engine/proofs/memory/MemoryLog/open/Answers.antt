@@ -24,7 +24,8 @@ returns-in-Ok-open-clause-leaves c =
 
 pub returns-in-Err-clause-err : goal.returns-in-Err-clause-err
 returns-in-Err-clause-err c =
-    subst (λ (l : List Text). IsLeftByOpening l (disk_in c.args.files.files) (disk_in c.in-Err.field-0.files)) c.in-Ok.ensures.directories c.in-Err.ensures.err
+    subst (λ (m : RecoveryMode). IsLeftByOpening m (main_directory c.args.files.settings) (disk_in c.args.files.files) (disk_in c.in-Err.field-0.files)) c.in-Ok.ensures.mode
+    (subst (λ (l : List Text). IsLeftByOpening c.in-Ok.config.recovery_mode l (disk_in c.args.files.files) (disk_in c.in-Err.field-0.files)) c.in-Ok.ensures.directories c.in-Err.ensures.err)
 
 pub returns-in-Err-clause-reads : goal.returns-in-Err-clause-reads
 returns-in-Err-clause-reads c =

@@ -7,7 +7,7 @@ use Rattle.raft_log_engine.proofs.memory.MemoryLogContentLog.write.Goals as goal
 
 pub invariant_of-self : goal.invariant_of-self
 invariant_of-self c = record {
-  directories = same_directories c.self.inside.engine.append c.write.new.self.append c.in-Ok.ensures.paths ∙ c.self.invariant.directories;
+  directories = same_directories c.self.inside.engine.pipes.append c.write.new.self.pipes.append c.in-Ok.ensures.paths ∙ c.self.invariant.directories;
   sound = λ fresh. c.in-Ok.ensures.sound (c.self.invariant.sound fresh) refl;
   alone = λ fresh. c.in-Ok.ensures.alone (c.self.invariant.alone fresh);
 }
