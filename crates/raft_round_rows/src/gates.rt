@@ -66,6 +66,8 @@ impl ClusterNode for GateNode {
       refuses = λ old choice why. Unit {0};
       reopens = λ old workers answered new. Unit {0};
       closes = λ old new. Unit {0};
+      machine_of = λ n group. None;
+      applied_of = λ n group. None;
     } };
 
     ghost states = { record {
