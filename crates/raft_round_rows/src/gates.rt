@@ -1,4 +1,6 @@
 //! Two nodes of which each waits in a call until the other one was called.
+ghost use Rattle.std.specs.Prelude.{None};
+
 use raft_cluster::{Cluster, ClusterEvent, EventOutcome};
 use raft_cluster_events::{
     ClusterNode, CrashChoice, CrashRefusal, GroupCommand, NodeError, NodeOutcome, NodeRefusal,
