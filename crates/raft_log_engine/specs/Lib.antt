@@ -8,3 +8,4 @@ pub mod Scanning
 pub mod Reopened
 pub mod Since
 pub mod Taken
+pub mod Cached

@@ -1,6 +1,7 @@
 //! Entries and their blocks.
-ghost use Rattle.std.specs.Prelude.{◌≡◌, IfOk, IfSome, map};
+ghost use Rattle.std.specs.Prelude.{◌≡◌, ◌+◌, ◌≤◌, IfOk, IfSome, length, map};
 ghost use Rattle.raft_log_engine.specs.Blocks.{IsReadAs};
+ghost use Rattle.raft_log_engine.specs.Cached.{AreRead};
 ghost use Rattle.raft_log_engine.specs.Held.{bytes_on};
 ghost use Rattle.raft_log_engine.specs.declared.fault.EngineFault.TheVariants.{Log};
 ghost use Rattle.raft_log_files.specs.declared.error.Error.TheVariants.{Memory};
@@ -9,6 +10,7 @@ ghost use Rattle.raft_log_records.specs.Batch.{payloads};
 ghost use Rattle.raft_log_records.specs.Item.{entry_bytes};
 ghost use Rattle.raft_log_records.specs.declared.error.RecordError.TheVariants as record_error;
 
+use crate::block_cache::BlockCache;
 use crate::fault::EngineFault;
 use raft_log_files::{CorruptionFault, Error, FileSystem};
 use raft_log_memtables::FetchError;
@@ -46,7 +48,7 @@ fn bytes_of(entries: &[u8], place: EntryIndex) -> Option<&[u8]>
 /// The entries of a block, without its checksum.
 #[derive(Drop)]
 pub(crate) struct Block {
-    handle: FileBlockHandle,
+    pub(crate) handle: FileBlockHandle,
     entries: Vec<u8>,
 }
 
@@ -72,79 +74,80 @@ fn read_block<F: FileSystem>(
     })
 }
 
-/// A block: the one that was read last, or read from its file.
+/// A block: one that is kept, which is taken out, or read from its file.
 fn block_at<F: FileSystem>(
     files: &F,
     pipe: &SinglePipe,
-    last: Option<Block>,
+    cache: &mut BlockCache,
     handle: FileBlockHandle,
 ) -> Result<Block, EngineFault>
     requires pipe { IsPipe pipe.now (F.disk files.now) }
-    requires last { IfSome last (IsReadAs (F.disk files.now) pipe.now) }
+    requires read { AreRead (F.disk files.now) pipe.now cache.old }
     ensures handle { IfOk result (λ block. block.handle ≡ handle) }
     ensures read { IfOk result (IsReadAs (F.disk files.now) pipe.now) }
+    ensures kept { AreRead (F.disk files.now) pipe.now cache.new }
+    ensures reads { cache.new.reads ≤ cache.old.reads + 1 }
 {
-    match last {
+    match cache.take(handle) {
         Some(block) if block.handle == handle => Ok(block),
-        _ => read_block(files, pipe, handle),
+        _ => {
+            cache.count();
+            read_block(files, pipe, handle)
+        }
     }
 }
 
-/// A copy of an entry's bytes, and its block, which may be the one that was read last.
-#[tactic(auto, using(crate::proofs::EntryReads::entry_read))]
-fn copy_with<F: FileSystem>(
-    alloc: Global,
-    files: &F,
-    pipe: &SinglePipe,
-    last: Option<Block>,
-    place: EntryIndex,
-) -> Result<(Vec<u8>, Block), EngineFault>
-    requires pipe { IsPipe pipe.now (F.disk files.now) }
-    requires last { IfSome last (IsReadAs (F.disk files.now) pipe.now) }
-    ensures copied { IfOk result (λ r. r.0.items ≡ bytes_on (F.disk files.now) pipe.now place) }
-    ensures read { IfOk result (λ r. IsReadAs (F.disk files.now) pipe.now r.1) }
+/// A copy of an entry's bytes in those of its block.
+fn copy_in(alloc: Global, block: &Block, place: EntryIndex) -> Result<Vec<u8>, EngineFault>
+    ensures { IfOk result (λ v. v.items ≡ entry_bytes block.now.entries.items place) }
 {
-    let Some(handle) = place.entries else {
-        return Err(EngineFault::Log(Error::EntryNotFound));
-    };
-    let block = block_at(files, pipe, last, handle)?;
     let Some(bytes) = bytes_of(&block.entries, place) else {
         return Err(corrupt(RecordFault::EntriesLength));
     };
-    let copy = Vec::from_slice(alloc, bytes)?;
-    Ok((copy, block))
+    Ok(Vec::from_slice(alloc, bytes)?)
 }
 
-/// A copy of an entry's bytes, from its block in a file.
+/// A copy of an entry's bytes, from its block, which is kept then.
+#[tactic(auto, using(crate::proofs::EntryReads::entry_read))]
 pub(crate) fn copy_of<F: FileSystem>(
     alloc: Global,
     files: &F,
     pipe: &SinglePipe,
+    cache: &mut BlockCache,
     place: EntryIndex,
 ) -> Result<Vec<u8>, EngineFault>
-    requires { IsPipe pipe.now (F.disk files.now) }
-    ensures { IfOk result (λ v. v.items ≡ bytes_on (F.disk files.now) pipe.now place) }
+    requires pipe { IsPipe pipe.now (F.disk files.now) }
+    requires read { AreRead (F.disk files.now) pipe.now cache.old }
+    ensures copied { IfOk result (λ v. v.items ≡ bytes_on (F.disk files.now) pipe.now place) }
+    ensures kept { AreRead (F.disk files.now) pipe.now cache.new }
+    ensures reads { cache.new.reads ≤ cache.old.reads + 1 }
 {
-    let (copy, _) = copy_with(alloc, files, pipe, None, place)?;
-    Ok(copy)
+    let Some(handle) = place.entries else {
+        return Err(EngineFault::Log(Error::EntryNotFound));
+    };
+    let block = block_at(files, pipe, cache, handle)?;
+    let copy = copy_in(alloc, &block, place);
+    cache.keep(block);
+    copy
 }
 
-/// Copies of entries' bytes. A block is read once for neighbours that lie in it.
+/// Copies of entries' bytes.
 pub(crate) fn copies_of<F: FileSystem>(
     alloc: Global,
     files: &F,
     pipe: &SinglePipe,
+    cache: &mut BlockCache,
     places: &[EntryIndex],
 ) -> Result<Vec<Vec<u8>>, EngineFault>
-    requires { IsPipe pipe.now (F.disk files.now) }
-    ensures { IfOk result (λ found. payloads found.items ≡ map (bytes_on (F.disk files.now) pipe.now) places.now) }
+    requires pipe { IsPipe pipe.now (F.disk files.now) }
+    requires read { AreRead (F.disk files.now) pipe.now cache.old }
+    ensures copied { IfOk result (λ found. payloads found.items ≡ map (bytes_on (F.disk files.now) pipe.now) places.now) }
+    ensures kept { AreRead (F.disk files.now) pipe.now cache.new }
+    ensures reads { cache.new.reads ≤ cache.old.reads + length places.now }
 {
     let mut copies = Vec::new(alloc);
-    let mut last = None;
     for place in places {
-        let (copy, block) = copy_with(alloc, files, pipe, last.take(), *place)?;
-        copies.push(copy)?;
-        last = Some(block);
+        copies.push(copy_of(alloc, files, pipe, cache, *place)?)?;
     }
     Ok(copies)
 }

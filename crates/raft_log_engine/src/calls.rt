@@ -74,6 +74,7 @@ impl<F: FileSystem + Drop> Engine<F> {
             return Ok(0);
         }
         let len = prepare(&self.tables, batch)?;
+        self.blocks.clear();
         let block = batch.entries_block();
         let written = match append_batch(&mut self.files, &mut self.append, batch, sync) {
             Ok(written) => written,
@@ -114,6 +115,7 @@ impl<F: FileSystem + Drop> Engine<F> {
         if !self.wrote_unsynced {
             return Ok(());
         }
+        self.blocks.clear();
         if let Err(error) = self.append.sync(&mut self.files) {
             self.is_stopped = true;
             return Err(EngineFault::Log(error));
@@ -147,14 +149,15 @@ impl<F: FileSystem + Drop> Engine<F> {
     /// one at least is given. Refused where the range begins before the first entry or ends past the
     /// last one. A group that isn't there has none.
     pub fn fetch_entries_to(
-        &self,
+        &mut self,
         group: u64,
         begin: u64,
         end: u64,
         max_size: Option<u64>,
     ) -> Result<Vec<Vec<u8>>, EngineFault>
-        ensures found { IfOk result (λ found. HasRead (answers_on F.disk self.now group) begin end max_size (payloads found.items)) }
-        ensures stopped { self.now.is_stopped ≡ true → result ≡ Err Stopped }
+        ensures found { IfOk result (λ found. HasRead (answers_on F.disk self.old group) begin end max_size (payloads found.items)) }
+        ensures stopped { self.old.is_stopped ≡ true → result ≡ Err Stopped }
+        ensures same { self.new ≡ self.old }
     {
         if self.is_stopped {
             return Err(EngineFault::Stopped);
@@ -163,7 +166,13 @@ impl<F: FileSystem + Drop> Engine<F> {
             Ok(places) => places,
             Err(error) => return Err(fault_of(error)),
         };
-        copies_of(self.alloc, &self.files, &self.append, &places)
+        copies_of(
+            self.alloc,
+            &self.files,
+            &self.append,
+            &mut self.blocks,
+            &places,
+        )
     }
 
     /// Whether the engine has something of a group (own).

@@ -24,6 +24,7 @@ impl<F: CrashFiles + Drop> Engine<F> {
         ensures err { OnErr result (F.FileSystem.disk self.new.files ≡ F.FileSystem.disk self.old.files) }
         ensures same { OnErr result (self.new ≡ record self.old { files = self.new.files }) }
     {
+        self.blocks.clear();
         self.files.crash(choice)?;
         self.is_stopped = true;
         Ok(())

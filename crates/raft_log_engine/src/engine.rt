@@ -9,6 +9,7 @@ ghost use Rattle.raft_log_memtables.specs.Content.{nothing};
 ghost use Rattle.raft_log_pipe.specs.Pipe.{IsLast, IsPlain};
 ghost use Rattle.raft_log_records.specs.declared.file_id.LogQueue.TheVariants.{Append};
 
+use crate::block_cache::BlockCache;
 use crate::fault::EngineFault;
 use raft_log_files::{FileSystem, LogFileFormat};
 use raft_log_memtables::MemTables;
@@ -29,9 +30,12 @@ pub struct Engine<F: FileSystem> {
     pub(crate) is_stopped: bool,
     /// A write wasn't synced, since the engine was opened.
     pub(crate) wrote_unsynced: bool,
+    /// Blocks that were read last, since the last write.
+    pub(crate) blocks: BlockCache,
 }
 
 impl<F: FileSystem> Model for Engine<F> {
+    ghost use Rattle.raft_log_engine.specs.Cached.{AreRead};
     ghost use Rattle.raft_log_engine.specs.Held.{Parts, IsEngine};
     ghost use Rattle.raft_log_memtables.specs.contracts.memtables.MemTables.{the_row};
     ghost use Rattle.std.specs.Coded.{codes};
@@ -42,7 +46,7 @@ impl<F: FileSystem> Model for Engine<F> {
 
     ghost view = { λ e. record { files = e.files; append = e.append; tables = e.tables; is_stopped = e.is_stopped; wrote_unsynced = e.wrote_unsynced } };
 
-    ghost invariant = { λ e. IsEngine (F.disk e.files) e.append e.tables e.is_stopped e.wrote_unsynced };
+    ghost invariant = { λ e. IsEngine (F.disk e.files) e.append e.tables e.is_stopped e.wrote_unsynced × AreRead (F.disk e.files) e.append e.blocks };
 }
 
 impl<F: FileSystem + Drop> Engine<F> {
@@ -77,6 +81,7 @@ impl<F: FileSystem + Drop> Engine<F> {
             tables: MemTables::new(alloc),
             is_stopped: false,
             wrote_unsynced: false,
+            blocks: BlockCache::new(alloc),
         })
     }
 }

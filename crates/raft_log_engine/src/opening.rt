@@ -12,6 +12,7 @@ ghost use Rattle.raft_log_records.specs.declared.file_id.LogQueue.TheVariants.{A
 ghost use Rattle.raft_log_files.specs.Settings.{settings_of};
 ghost use Rattle.raft_log_recovery.specs.Scan.{directories_of};
 
+use crate::block_cache::BlockCache;
 use crate::engine::Engine;
 use crate::fault::EngineFault;
 use raft_log_files::{Config, FileSystem, RecoveryConfig};
@@ -88,6 +89,7 @@ impl<F: FileSystem + Drop> Engine<F> {
                 tables,
                 is_stopped: false,
                 wrote_unsynced: false,
+                blocks: BlockCache::new(alloc),
             }),
             Err(fault) => Err(NotOpened { fault, files }),
         }

@@ -28,7 +28,13 @@ impl<F: FileSystem + Drop> Engine<F> {
             return Err(EngineFault::Stopped);
         }
         match self.tables.get_entry(group, index) {
-            Some(place) => Ok(Some(copy_of(self.alloc, &self.files, &self.append, place)?)),
+            Some(place) => Ok(Some(copy_of(
+                self.alloc,
+                &self.files,
+                &self.append,
+                &mut self.blocks,
+                place,
+            )?)),
             None => Ok(None),
         }
     }
@@ -123,6 +129,12 @@ impl<F: FileSystem + Drop> Engine<F> {
         self.append.total_size()
     }
 
+    /// How many blocks were read from files for entries, since the engine was opened (own). It stays
+    /// at 2^64 - 1.
+    pub fn block_reads(&self) -> u64 {
+        self.blocks.reads()
+    }
+
     /// The files, lent for reading (own).
     pub fn files(&self) -> &F
         ensures { result.now ≡ self.now.files }
@@ -146,6 +158,7 @@ impl<F: CrashFiles + Drop> Engine<F> {
         ensures calls { (F.FileSystem.meter self.new.files).calls_left ≡ option_map (λ n. n - 1) first_refused }
         ensures same { self.new ≡ record self.old { files = self.new.files } }
     {
+        self.blocks.clear();
         self.files.fuse(first_refused);
     }
 }

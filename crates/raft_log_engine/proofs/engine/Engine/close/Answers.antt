@@ -24,7 +24,7 @@ returns-clause-opens g c =
     let d = g.F.FileSystem.disk c.self.inside.files in
     let e = g.F.FileSystem.disk c.close.new.files in
     rw (← c.self.view_is) (λ sound alone.
-    let kept = kept_by (g.F.FileSystem.disk) old (c.self.invariant c.if-self.false) sound.synced in
+    let kept = kept_by (g.F.FileSystem.disk) old (c.self.invariant.0 c.if-self.false) sound.synced in
     subst (λ (l : List Text). OpensAs l e (answers_on (g.F.FileSystem.disk) old)) (same_directories p q c.close.ensures.paths)
     (left_opens e q kept.0 (answers_on (g.F.FileSystem.disk) old) (met.is_named c.close.new.files) (c.close.ensures.same.2 ∙ alone.queue)
     (nearly_on p q d e c.close.ensures.same c.close.ensures.paths c.close.ensures.names alone.alone)

@@ -18,7 +18,7 @@ pub returns-then-not-self-clause-opens : goal.returns-then-not-self-clause-opens
 returns-then-not-self-clause-opens g c =
     let met = g.met.F.FileSystem g.world.𝓛 g.world.𝓜 g.world.𝓡 ((λ s x. x), (λ x. x), (λ x. x), λ x. x) in
     let old = (parts c.self.inside.files c.self.inside.append c.self.inside.tables c.self.inside.is_stopped c.self.inside.wrote_unsynced) in
-    rw (← c.self.view_is) (λ alone. still_opens (g.F.FileSystem.disk) old alone (kept_by (g.F.FileSystem.disk) old (c.self.invariant c.if-self.false) c.if-not-self.true) (met.is_named c.self.inside.files))
+    rw (← c.self.view_is) (λ alone. still_opens (g.F.FileSystem.disk) old alone (kept_by (g.F.FileSystem.disk) old (c.self.invariant.0 c.if-self.false) c.if-not-self.true) (met.is_named c.self.inside.files))
 
 pub returns-then-not-self-clause-opens_front : goal.returns-then-not-self-clause-opens_front
 returns-then-not-self-clause-opens_front g c =
@@ -28,7 +28,7 @@ returns-then-not-self-clause-opens_front g c =
 pub returns-then-not-self-clause-all_written : goal.returns-then-not-self-clause-all_written
 returns-then-not-self-clause-all_written g c =
     let old = (parts c.self.inside.files c.self.inside.append c.self.inside.tables c.self.inside.is_stopped c.self.inside.wrote_unsynced) in
-    let kept = kept_by (g.F.FileSystem.disk) old (c.self.invariant c.if-self.false) c.if-not-self.true in
+    let kept = kept_by (g.F.FileSystem.disk) old (c.self.invariant.0 c.if-self.false) c.if-not-self.true in
     rw (← c.self.view_is) (nothing_since (g.F.FileSystem.disk) old kept.0 kept.1.holds (answers_on (g.F.FileSystem.disk) old) (answered (g.F.FileSystem.disk c.self.inside.files) c.self.inside.append c.self.inside.tables kept.0 kept.1))
 
 pub returns-in-Err-clause-written : goal.returns-in-Err-clause-written
@@ -51,7 +51,7 @@ returns-in-Err-clause-opens_front g c =
 
 pub invariant_of-self-in_default : goal.invariant_of-self-in_default
 invariant_of-self-in_default g c =
-    let held = c.self.invariant c.if-self.false in
+    let held = c.self.invariant.0 c.if-self.false in
     let d = g.F.FileSystem.disk c.self.inside.files in
     let e = g.F.FileSystem.disk c.sync.new.files in
     let kept = synced_kept d e c.self.inside.append c.sync.new.self c.self.inside.tables held.synced held.unsynced held.held c.in_default.ensures.pipe c.in_default.ensures.same c.in_default.ensures.ok in
@@ -64,7 +64,7 @@ invariant_of-self-in_default g c =
 
 pub returns-clause-answers : goal.returns-clause-answers
 returns-clause-answers g c =
-    let held = c.self.invariant c.if-self.false in
+    let held = c.self.invariant.0 c.if-self.false in
     let d = g.F.FileSystem.disk c.self.inside.files in
     let e = g.F.FileSystem.disk c.sync.new.files in
     let kept = synced_kept d e c.self.inside.append c.sync.new.self c.self.inside.tables held.synced held.unsynced held.held c.in_default.ensures.pipe c.in_default.ensures.same c.in_default.ensures.ok in
@@ -73,7 +73,7 @@ returns-clause-answers g c =
 pub returns-clause-opens : goal.returns-clause-opens
 returns-clause-opens g c =
     let met = g.met.F.FileSystem g.world.𝓛 g.world.𝓜 g.world.𝓡 ((λ s x. x), (λ x. x), (λ x. x), λ x. x) in
-    let held = c.self.invariant c.if-self.false in
+    let held = c.self.invariant.0 c.if-self.false in
     let d = g.F.FileSystem.disk c.self.inside.files in
     let e = g.F.FileSystem.disk c.sync.new.files in
     let kept = synced_kept d e c.self.inside.append c.sync.new.self c.self.inside.tables held.synced held.unsynced held.held c.in_default.ensures.pipe c.in_default.ensures.same c.in_default.ensures.ok in
@@ -100,7 +100,7 @@ returns-clause-opens_front g c =
 
 pub returns-clause-all_written : goal.returns-clause-all_written
 returns-clause-all_written g c =
-    let held = c.self.invariant c.if-self.false in
+    let held = c.self.invariant.0 c.if-self.false in
     let d = g.F.FileSystem.disk c.self.inside.files in
     let e = g.F.FileSystem.disk c.sync.new.files in
     let new = parts c.sync.new.files c.sync.new.self c.self.inside.tables c.self.inside.is_stopped c.self.inside.wrote_unsynced in

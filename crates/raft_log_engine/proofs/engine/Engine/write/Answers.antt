@@ -41,12 +41,12 @@ returns-then-is_empty-clause-opens_front g c =
 
 pub returns-in_err-len-clause-err : goal.returns-in_err-len-clause-err
 returns-in_err-len-clause-err g c =
-    rw (← c.self.view_is) (λ sound. at_err _ _ (refused (g.F.FileSystem.disk) (parts c.self.inside.files c.self.inside.append c.self.inside.tables c.self.inside.is_stopped c.self.inside.wrote_unsynced) (kept_by (g.F.FileSystem.disk) (parts c.self.inside.files c.self.inside.append c.self.inside.tables c.self.inside.is_stopped c.self.inside.wrote_unsynced) (c.self.invariant c.if-self.false) sound.synced) sound.synced c.args.batch.now.items))
+    rw (← c.self.view_is) (λ sound. at_err _ _ (refused (g.F.FileSystem.disk) (parts c.self.inside.files c.self.inside.append c.self.inside.tables c.self.inside.is_stopped c.self.inside.wrote_unsynced) (kept_by (g.F.FileSystem.disk) (parts c.self.inside.files c.self.inside.append c.self.inside.tables c.self.inside.is_stopped c.self.inside.wrote_unsynced) (c.self.invariant.0 c.if-self.false) sound.synced) sound.synced c.args.batch.now.items))
 
 pub returns-in_err-len-clause-opens_either : goal.returns-in_err-len-clause-opens_either
 returns-in_err-len-clause-opens_either g c =
     let met = g.met.F.FileSystem g.world.𝓛 g.world.𝓜 g.world.𝓡 ((λ s x. x), (λ x. x), (λ x. x), λ x. x) in
-    rw (← c.self.view_is) (λ sound alone. at_err _ _ (refused_opens (g.F.FileSystem.disk) (parts c.self.inside.files c.self.inside.append c.self.inside.tables c.self.inside.is_stopped c.self.inside.wrote_unsynced) alone (kept_by (g.F.FileSystem.disk) (parts c.self.inside.files c.self.inside.append c.self.inside.tables c.self.inside.is_stopped c.self.inside.wrote_unsynced) (c.self.invariant c.if-self.false) sound.synced) (met.is_named c.self.inside.files) c.args.batch.now.items))
+    rw (← c.self.view_is) (λ sound alone. at_err _ _ (refused_opens (g.F.FileSystem.disk) (parts c.self.inside.files c.self.inside.append c.self.inside.tables c.self.inside.is_stopped c.self.inside.wrote_unsynced) alone (kept_by (g.F.FileSystem.disk) (parts c.self.inside.files c.self.inside.append c.self.inside.tables c.self.inside.is_stopped c.self.inside.wrote_unsynced) (c.self.invariant.0 c.if-self.false) sound.synced) (met.is_named c.self.inside.files) c.args.batch.now.items))
 
 pub returns-in_err-len-clause-opens_front : goal.returns-in_err-len-clause-opens_front
 returns-in_err-len-clause-opens_front g c =
@@ -57,20 +57,20 @@ pub returns-in-Err-clause-err : goal.returns-in-Err-clause-err
 returns-in-Err-clause-err g c =
     let same : c.prepare.new.batch.items ≡ c.args.batch.now.items = c.in_ok-len.ensures.same in
     let plain : list_any holds_mark c.prepare.new.batch.items ≡ false = ap (list_any holds_mark) same ∙ c.in_ok-len.ensures.plain in
-    rw (← c.self.view_is, ← same) (λ sound. failed (g.F.FileSystem.disk) (parts c.self.inside.files c.self.inside.append c.self.inside.tables c.self.inside.is_stopped c.self.inside.wrote_unsynced) (kept_by (g.F.FileSystem.disk) (parts c.self.inside.files c.self.inside.append c.self.inside.tables c.self.inside.is_stopped c.self.inside.wrote_unsynced) (c.self.invariant c.if-self.false) sound.synced) sound.synced c.append_batch.new.files c.append_batch.new.pipe c.self.inside.tables (seen_on (g.F.FileSystem.disk c.append_batch.new.files) c.append_batch.new.pipe c.self.inside.tables) c.prepare.new.batch.items plain c.in-Err.ensures.err)
+    rw (← c.self.view_is, ← same) (λ sound. failed (g.F.FileSystem.disk) (parts c.self.inside.files c.self.inside.append c.self.inside.tables c.self.inside.is_stopped c.self.inside.wrote_unsynced) (kept_by (g.F.FileSystem.disk) (parts c.self.inside.files c.self.inside.append c.self.inside.tables c.self.inside.is_stopped c.self.inside.wrote_unsynced) (c.self.invariant.0 c.if-self.false) sound.synced) sound.synced c.append_batch.new.files c.append_batch.new.pipe c.self.inside.tables (seen_on (g.F.FileSystem.disk c.append_batch.new.files) c.append_batch.new.pipe c.self.inside.tables) c.prepare.new.batch.items plain c.in-Err.ensures.err)
 
 pub returns-in-Err-clause-others : goal.returns-in-Err-clause-others
 returns-in-Err-clause-others g c =
     let same : c.prepare.new.batch.items ≡ c.args.batch.now.items = c.in_ok-len.ensures.same in
     let plain : list_any holds_mark c.prepare.new.batch.items ≡ false = ap (list_any holds_mark) same ∙ c.in_ok-len.ensures.plain in
-    rw (← c.self.view_is, ← same) (λ synced. others (g.F.FileSystem.disk) (parts c.self.inside.files c.self.inside.append c.self.inside.tables c.self.inside.is_stopped c.self.inside.wrote_unsynced) (c.self.invariant c.if-self.false) c.if-self.false c.prepare.new.batch.items _ (λ all. (failed (g.F.FileSystem.disk) (parts c.self.inside.files c.self.inside.append c.self.inside.tables c.self.inside.is_stopped c.self.inside.wrote_unsynced) (kept_by (g.F.FileSystem.disk) (parts c.self.inside.files c.self.inside.append c.self.inside.tables c.self.inside.is_stopped c.self.inside.wrote_unsynced) (c.self.invariant c.if-self.false) all) all c.append_batch.new.files c.append_batch.new.pipe c.self.inside.tables (seen_on (g.F.FileSystem.disk c.append_batch.new.files) c.append_batch.new.pipe c.self.inside.tables) c.prepare.new.batch.items plain c.in-Err.ensures.err).leaves_either))
+    rw (← c.self.view_is, ← same) (λ synced. others (g.F.FileSystem.disk) (parts c.self.inside.files c.self.inside.append c.self.inside.tables c.self.inside.is_stopped c.self.inside.wrote_unsynced) (c.self.invariant.0 c.if-self.false) c.if-self.false c.prepare.new.batch.items _ (λ all. (failed (g.F.FileSystem.disk) (parts c.self.inside.files c.self.inside.append c.self.inside.tables c.self.inside.is_stopped c.self.inside.wrote_unsynced) (kept_by (g.F.FileSystem.disk) (parts c.self.inside.files c.self.inside.append c.self.inside.tables c.self.inside.is_stopped c.self.inside.wrote_unsynced) (c.self.invariant.0 c.if-self.false) all) all c.append_batch.new.files c.append_batch.new.pipe c.self.inside.tables (seen_on (g.F.FileSystem.disk c.append_batch.new.files) c.append_batch.new.pipe c.self.inside.tables) c.prepare.new.batch.items plain c.in-Err.ensures.err).leaves_either))
 
 pub returns-in-Err-clause-opens_either : goal.returns-in-Err-clause-opens_either
 returns-in-Err-clause-opens_either g c =
     let met = g.met.F.FileSystem g.world.𝓛 g.world.𝓜 g.world.𝓡 ((λ s x. x), (λ x. x), (λ x. x), λ x. x) in
     let same : c.prepare.new.batch.items ≡ c.args.batch.now.items = c.in_ok-len.ensures.same in
     let plain : list_any holds_mark c.prepare.new.batch.items ≡ false = ap (list_any holds_mark) same ∙ c.in_ok-len.ensures.plain in
-    rw (← c.self.view_is, ← same) (λ sound alone. failed_opens (g.F.FileSystem.disk) (parts c.self.inside.files c.self.inside.append c.self.inside.tables c.self.inside.is_stopped c.self.inside.wrote_unsynced) alone (kept_by (g.F.FileSystem.disk) (parts c.self.inside.files c.self.inside.append c.self.inside.tables c.self.inside.is_stopped c.self.inside.wrote_unsynced) (c.self.invariant c.if-self.false) sound.synced) c.append_batch.new.files c.append_batch.new.pipe c.prepare.new.batch.items (met.is_named c.append_batch.new.files) c.in-Err.ensures.queue c.in-Err.ensures.nearly plain c.in-Err.ensures.err)
+    rw (← c.self.view_is, ← same) (λ sound alone. failed_opens (g.F.FileSystem.disk) (parts c.self.inside.files c.self.inside.append c.self.inside.tables c.self.inside.is_stopped c.self.inside.wrote_unsynced) alone (kept_by (g.F.FileSystem.disk) (parts c.self.inside.files c.self.inside.append c.self.inside.tables c.self.inside.is_stopped c.self.inside.wrote_unsynced) (c.self.invariant.0 c.if-self.false) sound.synced) c.append_batch.new.files c.append_batch.new.pipe c.prepare.new.batch.items (met.is_named c.append_batch.new.files) c.in-Err.ensures.queue c.in-Err.ensures.nearly plain c.in-Err.ensures.err)
 
 pub returns-in-Err-clause-opens_front : goal.returns-in-Err-clause-opens_front
 returns-in-Err-clause-opens_front g c =
@@ -84,20 +84,20 @@ pub returns-in-Err-apply-clause-err : goal.returns-in-Err-apply-clause-err
 returns-in-Err-apply-clause-err g c =
     let same : c.prepare.new.batch.items ≡ c.args.batch.now.items = c.in_ok-len.ensures.same in
     let plain : list_any holds_mark c.prepare.new.batch.items ≡ false = ap (list_any holds_mark) same ∙ c.in_ok-len.ensures.plain in
-    rw (← c.self.view_is, ← same) (λ sound. failed (g.F.FileSystem.disk) (parts c.self.inside.files c.self.inside.append c.self.inside.tables c.self.inside.is_stopped c.self.inside.wrote_unsynced) (kept_by (g.F.FileSystem.disk) (parts c.self.inside.files c.self.inside.append c.self.inside.tables c.self.inside.is_stopped c.self.inside.wrote_unsynced) (c.self.invariant c.if-self.false) sound.synced) sound.synced c.append_batch.new.files c.append_batch.new.pipe c.apply.new.tables (seen_on (g.F.FileSystem.disk c.append_batch.new.files) c.append_batch.new.pipe c.apply.new.tables) c.prepare.new.batch.items plain (put_leaves (g.F.FileSystem.disk) (parts c.self.inside.files c.self.inside.append c.self.inside.tables c.self.inside.is_stopped c.self.inside.wrote_unsynced) c.append_batch.new.files c.append_batch.new.pipe c.args.sync c.in-Ok.written.id.seq c.prepare.new.batch.items c.in-Ok.ensures.ok))
+    rw (← c.self.view_is, ← same) (λ sound. failed (g.F.FileSystem.disk) (parts c.self.inside.files c.self.inside.append c.self.inside.tables c.self.inside.is_stopped c.self.inside.wrote_unsynced) (kept_by (g.F.FileSystem.disk) (parts c.self.inside.files c.self.inside.append c.self.inside.tables c.self.inside.is_stopped c.self.inside.wrote_unsynced) (c.self.invariant.0 c.if-self.false) sound.synced) sound.synced c.append_batch.new.files c.append_batch.new.pipe c.apply.new.tables (seen_on (g.F.FileSystem.disk c.append_batch.new.files) c.append_batch.new.pipe c.apply.new.tables) c.prepare.new.batch.items plain (put_leaves (g.F.FileSystem.disk) (parts c.self.inside.files c.self.inside.append c.self.inside.tables c.self.inside.is_stopped c.self.inside.wrote_unsynced) c.append_batch.new.files c.append_batch.new.pipe c.args.sync c.in-Ok.written.id.seq c.prepare.new.batch.items c.in-Ok.ensures.ok))
 
 pub returns-in-Err-apply-clause-others : goal.returns-in-Err-apply-clause-others
 returns-in-Err-apply-clause-others g c =
     let same : c.prepare.new.batch.items ≡ c.args.batch.now.items = c.in_ok-len.ensures.same in
     let plain : list_any holds_mark c.prepare.new.batch.items ≡ false = ap (list_any holds_mark) same ∙ c.in_ok-len.ensures.plain in
-    rw (← c.self.view_is, ← same) (λ synced. others (g.F.FileSystem.disk) (parts c.self.inside.files c.self.inside.append c.self.inside.tables c.self.inside.is_stopped c.self.inside.wrote_unsynced) (c.self.invariant c.if-self.false) c.if-self.false c.prepare.new.batch.items _ (λ all. (failed (g.F.FileSystem.disk) (parts c.self.inside.files c.self.inside.append c.self.inside.tables c.self.inside.is_stopped c.self.inside.wrote_unsynced) (kept_by (g.F.FileSystem.disk) (parts c.self.inside.files c.self.inside.append c.self.inside.tables c.self.inside.is_stopped c.self.inside.wrote_unsynced) (c.self.invariant c.if-self.false) all) all c.append_batch.new.files c.append_batch.new.pipe c.apply.new.tables (seen_on (g.F.FileSystem.disk c.append_batch.new.files) c.append_batch.new.pipe c.apply.new.tables) c.prepare.new.batch.items plain (put_leaves (g.F.FileSystem.disk) (parts c.self.inside.files c.self.inside.append c.self.inside.tables c.self.inside.is_stopped c.self.inside.wrote_unsynced) c.append_batch.new.files c.append_batch.new.pipe c.args.sync c.in-Ok.written.id.seq c.prepare.new.batch.items c.in-Ok.ensures.ok)).leaves_either))
+    rw (← c.self.view_is, ← same) (λ synced. others (g.F.FileSystem.disk) (parts c.self.inside.files c.self.inside.append c.self.inside.tables c.self.inside.is_stopped c.self.inside.wrote_unsynced) (c.self.invariant.0 c.if-self.false) c.if-self.false c.prepare.new.batch.items _ (λ all. (failed (g.F.FileSystem.disk) (parts c.self.inside.files c.self.inside.append c.self.inside.tables c.self.inside.is_stopped c.self.inside.wrote_unsynced) (kept_by (g.F.FileSystem.disk) (parts c.self.inside.files c.self.inside.append c.self.inside.tables c.self.inside.is_stopped c.self.inside.wrote_unsynced) (c.self.invariant.0 c.if-self.false) all) all c.append_batch.new.files c.append_batch.new.pipe c.apply.new.tables (seen_on (g.F.FileSystem.disk c.append_batch.new.files) c.append_batch.new.pipe c.apply.new.tables) c.prepare.new.batch.items plain (put_leaves (g.F.FileSystem.disk) (parts c.self.inside.files c.self.inside.append c.self.inside.tables c.self.inside.is_stopped c.self.inside.wrote_unsynced) c.append_batch.new.files c.append_batch.new.pipe c.args.sync c.in-Ok.written.id.seq c.prepare.new.batch.items c.in-Ok.ensures.ok)).leaves_either))
 
 pub returns-in-Err-apply-clause-opens_either : goal.returns-in-Err-apply-clause-opens_either
 returns-in-Err-apply-clause-opens_either g c =
     let met = g.met.F.FileSystem g.world.𝓛 g.world.𝓜 g.world.𝓡 ((λ s x. x), (λ x. x), (λ x. x), λ x. x) in
     let same : c.prepare.new.batch.items ≡ c.args.batch.now.items = c.in_ok-len.ensures.same in
     let plain : list_any holds_mark c.prepare.new.batch.items ≡ false = ap (list_any holds_mark) same ∙ c.in_ok-len.ensures.plain in
-    rw (← c.self.view_is, ← same) (λ sound alone. failed_opens (g.F.FileSystem.disk) (parts c.self.inside.files c.self.inside.append c.self.inside.tables c.self.inside.is_stopped c.self.inside.wrote_unsynced) alone (kept_by (g.F.FileSystem.disk) (parts c.self.inside.files c.self.inside.append c.self.inside.tables c.self.inside.is_stopped c.self.inside.wrote_unsynced) (c.self.invariant c.if-self.false) sound.synced) c.append_batch.new.files c.append_batch.new.pipe c.prepare.new.batch.items (met.is_named c.append_batch.new.files) c.in-Ok.ensures.queue (λ alone. nearly c.append_batch.new.pipe (g.F.FileSystem.disk c.append_batch.new.files) (c.in-Ok.ensures.alone alone)) plain (put_leaves (g.F.FileSystem.disk) (parts c.self.inside.files c.self.inside.append c.self.inside.tables c.self.inside.is_stopped c.self.inside.wrote_unsynced) c.append_batch.new.files c.append_batch.new.pipe c.args.sync c.in-Ok.written.id.seq c.prepare.new.batch.items c.in-Ok.ensures.ok))
+    rw (← c.self.view_is, ← same) (λ sound alone. failed_opens (g.F.FileSystem.disk) (parts c.self.inside.files c.self.inside.append c.self.inside.tables c.self.inside.is_stopped c.self.inside.wrote_unsynced) alone (kept_by (g.F.FileSystem.disk) (parts c.self.inside.files c.self.inside.append c.self.inside.tables c.self.inside.is_stopped c.self.inside.wrote_unsynced) (c.self.invariant.0 c.if-self.false) sound.synced) c.append_batch.new.files c.append_batch.new.pipe c.prepare.new.batch.items (met.is_named c.append_batch.new.files) c.in-Ok.ensures.queue (λ alone. nearly c.append_batch.new.pipe (g.F.FileSystem.disk c.append_batch.new.files) (c.in-Ok.ensures.alone alone)) plain (put_leaves (g.F.FileSystem.disk) (parts c.self.inside.files c.self.inside.append c.self.inside.tables c.self.inside.is_stopped c.self.inside.wrote_unsynced) c.append_batch.new.files c.append_batch.new.pipe c.args.sync c.in-Ok.written.id.seq c.prepare.new.batch.items c.in-Ok.ensures.ok))
 
 pub returns-in-Err-apply-clause-opens_front : goal.returns-in-Err-apply-clause-opens_front
 returns-in-Err-apply-clause-opens_front g c =
@@ -113,7 +113,7 @@ invariant_of-self-2 g c =
     let plain : list_any holds_mark c.prepare.new.batch.items ≡ false = ap (list_any holds_mark) same ∙ c.in_ok-len.ensures.plain in
     let done = done_from (g.F.FileSystem.disk) (parts c.self.inside.files c.self.inside.append c.self.inside.tables c.self.inside.is_stopped c.self.inside.wrote_unsynced) c.append_batch.new.files c.append_batch.new.pipe c.apply.new.tables c.args.sync c.prepare.new.batch.items c.append_batch.new.batch.items c.in-Ok.written
     c.entries_block-block.result c.drain-items.result (sym c.in-Ok.ensures.batch) (ap (list_any holds_mark) c.in-Ok.ensures.batch ∙ plain) c.in-Ok.ensures.pipe c.in-Ok.ensures.files c.in-Ok.ensures.queue c.in-Ok.ensures.ok c.in-Ok.ensures.stands c.entries_block-block.ensures c.in_default.ensures.ok c.drain-items.ensures.items (ap with_lengths c.drain-items.ensures.places ∙ placed_lengths 0 c.append_batch.new.batch.items) in
-    λ goes_on. done_batches (g.F.FileSystem.disk) (parts c.self.inside.files c.self.inside.append c.self.inside.tables c.self.inside.is_stopped c.self.inside.wrote_unsynced) c.append_batch.new.files c.append_batch.new.pipe c.apply.new.tables c.args.sync c.prepare.new.batch.items c.in-Ok.written c.entries_block-block.result c.drain-items.result done (c.self.invariant c.if-self.false) c.skips_sync-self-inside.result c.skips_sync-self-inside.ensures.none
+    λ goes_on. done_batches (g.F.FileSystem.disk) (parts c.self.inside.files c.self.inside.append c.self.inside.tables c.self.inside.is_stopped c.self.inside.wrote_unsynced) c.append_batch.new.files c.append_batch.new.pipe c.apply.new.tables c.args.sync c.prepare.new.batch.items c.in-Ok.written c.entries_block-block.result c.drain-items.result done (c.self.invariant.0 c.if-self.false) c.skips_sync-self-inside.result c.skips_sync-self-inside.ensures.none
 
 pub returns-clause-answers : goal.returns-clause-answers
 returns-clause-answers g c =
@@ -121,7 +121,7 @@ returns-clause-answers g c =
     let plain : list_any holds_mark c.prepare.new.batch.items ≡ false = ap (list_any holds_mark) same ∙ c.in_ok-len.ensures.plain in
     let done = done_from (g.F.FileSystem.disk) (parts c.self.inside.files c.self.inside.append c.self.inside.tables c.self.inside.is_stopped c.self.inside.wrote_unsynced) c.append_batch.new.files c.append_batch.new.pipe c.apply.new.tables c.args.sync c.prepare.new.batch.items c.append_batch.new.batch.items c.in-Ok.written
     c.entries_block-block.result c.drain-items.result (sym c.in-Ok.ensures.batch) (ap (list_any holds_mark) c.in-Ok.ensures.batch ∙ plain) c.in-Ok.ensures.pipe c.in-Ok.ensures.files c.in-Ok.ensures.queue c.in-Ok.ensures.ok c.in-Ok.ensures.stands c.entries_block-block.ensures c.in_default.ensures.ok c.drain-items.ensures.items (ap with_lengths c.drain-items.ensures.places ∙ placed_lengths 0 c.append_batch.new.batch.items) in
-    rw (← c.self.view_is, ← same) (done_seen (g.F.FileSystem.disk) (parts c.self.inside.files c.self.inside.append c.self.inside.tables c.self.inside.is_stopped c.self.inside.wrote_unsynced) c.append_batch.new.files c.append_batch.new.pipe c.apply.new.tables c.args.sync c.prepare.new.batch.items c.in-Ok.written c.entries_block-block.result c.drain-items.result done (c.self.invariant c.if-self.false))
+    rw (← c.self.view_is, ← same) (done_seen (g.F.FileSystem.disk) (parts c.self.inside.files c.self.inside.append c.self.inside.tables c.self.inside.is_stopped c.self.inside.wrote_unsynced) c.append_batch.new.files c.append_batch.new.pipe c.apply.new.tables c.args.sync c.prepare.new.batch.items c.in-Ok.written c.entries_block-block.result c.drain-items.result done (c.self.invariant.0 c.if-self.false))
 
 pub returns-clause-ok : goal.returns-clause-ok
 returns-clause-ok g c =
@@ -129,7 +129,7 @@ returns-clause-ok g c =
     let plain : list_any holds_mark c.prepare.new.batch.items ≡ false = ap (list_any holds_mark) same ∙ c.in_ok-len.ensures.plain in
     let done = done_from (g.F.FileSystem.disk) (parts c.self.inside.files c.self.inside.append c.self.inside.tables c.self.inside.is_stopped c.self.inside.wrote_unsynced) c.append_batch.new.files c.append_batch.new.pipe c.apply.new.tables c.args.sync c.prepare.new.batch.items c.append_batch.new.batch.items c.in-Ok.written
     c.entries_block-block.result c.drain-items.result (sym c.in-Ok.ensures.batch) (ap (list_any holds_mark) c.in-Ok.ensures.batch ∙ plain) c.in-Ok.ensures.pipe c.in-Ok.ensures.files c.in-Ok.ensures.queue c.in-Ok.ensures.ok c.in-Ok.ensures.stands c.entries_block-block.ensures c.in_default.ensures.ok c.drain-items.ensures.items (ap with_lengths c.drain-items.ensures.places ∙ placed_lengths 0 c.append_batch.new.batch.items) in
-    rw (← c.self.view_is, ← same) (λ sound synced. done_written (g.F.FileSystem.disk) (parts c.self.inside.files c.self.inside.append c.self.inside.tables c.self.inside.is_stopped c.self.inside.wrote_unsynced) c.append_batch.new.files c.append_batch.new.pipe c.apply.new.tables c.args.sync c.prepare.new.batch.items c.in-Ok.written c.entries_block-block.result c.drain-items.result done (c.self.invariant c.if-self.false) synced c.self.inside.is_stopped c.skips_sync-self-inside.result (c.skips_sync-self-inside.ensures.synced synced ∙ sound.synced))
+    rw (← c.self.view_is, ← same) (λ sound synced. done_written (g.F.FileSystem.disk) (parts c.self.inside.files c.self.inside.append c.self.inside.tables c.self.inside.is_stopped c.self.inside.wrote_unsynced) c.append_batch.new.files c.append_batch.new.pipe c.apply.new.tables c.args.sync c.prepare.new.batch.items c.in-Ok.written c.entries_block-block.result c.drain-items.result done (c.self.invariant.0 c.if-self.false) synced c.self.inside.is_stopped c.skips_sync-self-inside.result (c.skips_sync-self-inside.ensures.synced synced ∙ sound.synced))
 
 pub returns-clause-sound : goal.returns-clause-sound
 returns-clause-sound g c =
@@ -146,7 +146,7 @@ returns-clause-opens g c =
     let plain : list_any holds_mark c.prepare.new.batch.items ≡ false = ap (list_any holds_mark) same ∙ c.in_ok-len.ensures.plain in
     let done = done_from (g.F.FileSystem.disk) (parts c.self.inside.files c.self.inside.append c.self.inside.tables c.self.inside.is_stopped c.self.inside.wrote_unsynced) c.append_batch.new.files c.append_batch.new.pipe c.apply.new.tables c.args.sync c.prepare.new.batch.items c.append_batch.new.batch.items c.in-Ok.written
     c.entries_block-block.result c.drain-items.result (sym c.in-Ok.ensures.batch) (ap (list_any holds_mark) c.in-Ok.ensures.batch ∙ plain) c.in-Ok.ensures.pipe c.in-Ok.ensures.files c.in-Ok.ensures.queue c.in-Ok.ensures.ok c.in-Ok.ensures.stands c.entries_block-block.ensures c.in_default.ensures.ok c.drain-items.ensures.items (ap with_lengths c.drain-items.ensures.places ∙ placed_lengths 0 c.append_batch.new.batch.items) in
-    rw (← c.self.view_is) (λ alone synced. done_opens (g.F.FileSystem.disk) (parts c.self.inside.files c.self.inside.append c.self.inside.tables c.self.inside.is_stopped c.self.inside.wrote_unsynced) alone (c.self.invariant c.if-self.false) c.append_batch.new.files c.append_batch.new.pipe c.apply.new.tables c.args.sync c.prepare.new.batch.items c.in-Ok.written
+    rw (← c.self.view_is) (λ alone synced. done_opens (g.F.FileSystem.disk) (parts c.self.inside.files c.self.inside.append c.self.inside.tables c.self.inside.is_stopped c.self.inside.wrote_unsynced) alone (c.self.invariant.0 c.if-self.false) c.append_batch.new.files c.append_batch.new.pipe c.apply.new.tables c.args.sync c.prepare.new.batch.items c.in-Ok.written
     c.entries_block-block.result c.drain-items.result (met.is_named c.append_batch.new.files) c.in-Ok.ensures.alone done synced)
 
 pub returns-clause-written : goal.returns-clause-written
@@ -172,7 +172,7 @@ returns-clause-all_written g c =
     let plain : list_any holds_mark c.prepare.new.batch.items ≡ false = ap (list_any holds_mark) same ∙ c.in_ok-len.ensures.plain in
     let done = done_from (g.F.FileSystem.disk) (parts c.self.inside.files c.self.inside.append c.self.inside.tables c.self.inside.is_stopped c.self.inside.wrote_unsynced) c.append_batch.new.files c.append_batch.new.pipe c.apply.new.tables c.args.sync c.prepare.new.batch.items c.append_batch.new.batch.items c.in-Ok.written
     c.entries_block-block.result c.drain-items.result (sym c.in-Ok.ensures.batch) (ap (list_any holds_mark) c.in-Ok.ensures.batch ∙ plain) c.in-Ok.ensures.pipe c.in-Ok.ensures.files c.in-Ok.ensures.queue c.in-Ok.ensures.ok c.in-Ok.ensures.stands c.entries_block-block.ensures c.in_default.ensures.ok c.drain-items.ensures.items (ap with_lengths c.drain-items.ensures.places ∙ placed_lengths 0 c.append_batch.new.batch.items) in
-    let held = c.self.invariant c.if-self.false in
+    let held = c.self.invariant.0 c.if-self.false in
     λ synced. let kept = done_kept (g.F.FileSystem.disk) (parts c.self.inside.files c.self.inside.append c.self.inside.tables c.self.inside.is_stopped c.self.inside.wrote_unsynced) c.append_batch.new.files c.append_batch.new.pipe c.apply.new.tables c.args.sync c.prepare.new.batch.items c.in-Ok.written c.entries_block-block.result c.drain-items.result done synced held.synced held.unsynced held.held in
     nothing_since (g.F.FileSystem.disk) (parts c.append_batch.new.files c.append_batch.new.pipe c.apply.new.tables c.self.inside.is_stopped c.skips_sync-self-inside.result) _ kept.holds (answers_on (g.F.FileSystem.disk) (parts c.append_batch.new.files c.append_batch.new.pipe c.apply.new.tables c.self.inside.is_stopped c.skips_sync-self-inside.result)) (answered (g.F.FileSystem.disk c.append_batch.new.files) c.append_batch.new.pipe c.apply.new.tables _ kept)
 
@@ -182,7 +182,7 @@ returns-clause-others g c =
     let plain : list_any holds_mark c.prepare.new.batch.items ≡ false = ap (list_any holds_mark) same ∙ c.in_ok-len.ensures.plain in
     let done = done_from (g.F.FileSystem.disk) (parts c.self.inside.files c.self.inside.append c.self.inside.tables c.self.inside.is_stopped c.self.inside.wrote_unsynced) c.append_batch.new.files c.append_batch.new.pipe c.apply.new.tables c.args.sync c.prepare.new.batch.items c.append_batch.new.batch.items c.in-Ok.written
     c.entries_block-block.result c.drain-items.result (sym c.in-Ok.ensures.batch) (ap (list_any holds_mark) c.in-Ok.ensures.batch ∙ plain) c.in-Ok.ensures.pipe c.in-Ok.ensures.files c.in-Ok.ensures.queue c.in-Ok.ensures.ok c.in-Ok.ensures.stands c.entries_block-block.ensures c.in_default.ensures.ok c.drain-items.ensures.items (ap with_lengths c.drain-items.ensures.places ∙ placed_lengths 0 c.append_batch.new.batch.items) in
-    rw (← c.self.view_is, ← same) (λ synced. others (g.F.FileSystem.disk) (parts c.self.inside.files c.self.inside.append c.self.inside.tables c.self.inside.is_stopped c.self.inside.wrote_unsynced) (c.self.invariant c.if-self.false) c.if-self.false c.prepare.new.batch.items _ (λ all left may. inr ((done_written (g.F.FileSystem.disk) (parts c.self.inside.files c.self.inside.append c.self.inside.tables c.self.inside.is_stopped c.self.inside.wrote_unsynced) c.append_batch.new.files c.append_batch.new.pipe c.apply.new.tables c.args.sync c.prepare.new.batch.items c.in-Ok.written c.entries_block-block.result c.drain-items.result done (c.self.invariant c.if-self.false) synced c.self.inside.is_stopped c.skips_sync-self-inside.result (c.skips_sync-self-inside.ensures.synced synced ∙ all)).leaves_only left may)))
+    rw (← c.self.view_is, ← same) (λ synced. others (g.F.FileSystem.disk) (parts c.self.inside.files c.self.inside.append c.self.inside.tables c.self.inside.is_stopped c.self.inside.wrote_unsynced) (c.self.invariant.0 c.if-self.false) c.if-self.false c.prepare.new.batch.items _ (λ all left may. inr ((done_written (g.F.FileSystem.disk) (parts c.self.inside.files c.self.inside.append c.self.inside.tables c.self.inside.is_stopped c.self.inside.wrote_unsynced) c.append_batch.new.files c.append_batch.new.pipe c.apply.new.tables c.args.sync c.prepare.new.batch.items c.in-Ok.written c.entries_block-block.result c.drain-items.result done (c.self.invariant.0 c.if-self.false) synced c.self.inside.is_stopped c.skips_sync-self-inside.result (c.skips_sync-self-inside.ensures.synced synced ∙ all)).leaves_only left may)))
 
 pub returns-clause-others_answered : goal.returns-clause-others_answered
 returns-clause-others_answered g c =
@@ -190,13 +190,13 @@ returns-clause-others_answered g c =
     let plain : list_any holds_mark c.prepare.new.batch.items ≡ false = ap (list_any holds_mark) same ∙ c.in_ok-len.ensures.plain in
     let done = done_from (g.F.FileSystem.disk) (parts c.self.inside.files c.self.inside.append c.self.inside.tables c.self.inside.is_stopped c.self.inside.wrote_unsynced) c.append_batch.new.files c.append_batch.new.pipe c.apply.new.tables c.args.sync c.prepare.new.batch.items c.append_batch.new.batch.items c.in-Ok.written
     c.entries_block-block.result c.drain-items.result (sym c.in-Ok.ensures.batch) (ap (list_any holds_mark) c.in-Ok.ensures.batch ∙ plain) c.in-Ok.ensures.pipe c.in-Ok.ensures.files c.in-Ok.ensures.queue c.in-Ok.ensures.ok c.in-Ok.ensures.stands c.entries_block-block.ensures c.in_default.ensures.ok c.drain-items.ensures.items (ap with_lengths c.drain-items.ensures.places ∙ placed_lengths 0 c.append_batch.new.batch.items) in
-    rw (← c.self.view_is, ← same) (λ sound. (record { goes_on = c.if-self.false; synced = (c.skips_sync-self-inside.ensures.none sound.synced).1 }, agrees c.prepare.new.batch.items (answers_on (g.F.FileSystem.disk) (parts c.self.inside.files c.self.inside.append c.self.inside.tables c.self.inside.is_stopped c.self.inside.wrote_unsynced)) (seen_on (g.F.FileSystem.disk c.append_batch.new.files) c.append_batch.new.pipe c.apply.new.tables) (done_seen (g.F.FileSystem.disk) (parts c.self.inside.files c.self.inside.append c.self.inside.tables c.self.inside.is_stopped c.self.inside.wrote_unsynced) c.append_batch.new.files c.append_batch.new.pipe c.apply.new.tables c.args.sync c.prepare.new.batch.items c.in-Ok.written c.entries_block-block.result c.drain-items.result done (c.self.invariant c.if-self.false))))
+    rw (← c.self.view_is, ← same) (λ sound. (record { goes_on = c.if-self.false; synced = (c.skips_sync-self-inside.ensures.none sound.synced).1 }, agrees c.prepare.new.batch.items (answers_on (g.F.FileSystem.disk) (parts c.self.inside.files c.self.inside.append c.self.inside.tables c.self.inside.is_stopped c.self.inside.wrote_unsynced)) (seen_on (g.F.FileSystem.disk c.append_batch.new.files) c.append_batch.new.pipe c.apply.new.tables) (done_seen (g.F.FileSystem.disk) (parts c.self.inside.files c.self.inside.append c.self.inside.tables c.self.inside.is_stopped c.self.inside.wrote_unsynced) c.append_batch.new.files c.append_batch.new.pipe c.apply.new.tables c.args.sync c.prepare.new.batch.items c.in-Ok.written c.entries_block-block.result c.drain-items.result done (c.self.invariant.0 c.if-self.false))))
 
 -- ---- an empty batch, with a sync
 
 pub returns-then-sync-clause-ok : goal.returns-then-sync-clause-ok
 returns-then-sync-clause-ok g c =
-    let held = subst (λ n. HeldBy (g.F.FileSystem.disk) n) c.self.view_is (c.self.invariant c.if-self.false) in
+    let held = subst (λ n. HeldBy (g.F.FileSystem.disk) n) c.self.view_is (c.self.invariant.0 c.if-self.false) in
     λ sound synced. synced_written (g.F.FileSystem.disk) c.args.self.now c.sync.new.self c.args.batch.now.items c.in_ok-sync.ensures.sound held (c.is_empty.ensures.0 c.if-is_empty.true) sound
 
 pub returns-then-sync-clause-opens : goal.returns-then-sync-clause-opens
@@ -208,13 +208,13 @@ returns-then-sync-clause-written g c =
 
 pub returns-in_err-sync-clause-err : goal.returns-in_err-sync-clause-err
 returns-in_err-sync-clause-err g c =
-    let held = subst (λ n. HeldBy (g.F.FileSystem.disk) n) c.self.view_is (c.self.invariant c.if-self.false) in
+    let held = subst (λ n. HeldBy (g.F.FileSystem.disk) n) c.self.view_is (c.self.invariant.0 c.if-self.false) in
     λ sound. at_err _ _ (synced_refused (g.F.FileSystem.disk) c.args.self.now c.sync.new.self c.args.batch.now.items c.in_err-sync.ensures.sound held sound)
 
 pub returns-in_err-sync-clause-opens_either : goal.returns-in_err-sync-clause-opens_either
 returns-in_err-sync-clause-opens_either g c =
     let met = g.met.F.FileSystem g.world.𝓛 g.world.𝓜 g.world.𝓡 ((λ s x. x), (λ x. x), (λ x. x), λ x. x) in
-    let held = subst (λ n. HeldBy (g.F.FileSystem.disk) n) c.self.view_is (c.self.invariant c.if-self.false) in
+    let held = subst (λ n. HeldBy (g.F.FileSystem.disk) n) c.self.view_is (c.self.invariant.0 c.if-self.false) in
     λ sound alone. at_err _ _ (synced_opens (g.F.FileSystem.disk) c.args.self.now c.sync.new.self c.args.batch.now.items c.in_err-sync.ensures.sound held sound alone (met.is_named c.args.self.now.files))
 
 pub returns-then-sync-clause-opens_front : goal.returns-then-sync-clause-opens_front
@@ -227,12 +227,12 @@ returns-in_err-sync-clause-opens_front g c =
 
 pub returns-then-sync-clause-others : goal.returns-then-sync-clause-others
 returns-then-sync-clause-others g c =
-    let held = subst (λ n. HeldBy (g.F.FileSystem.disk) n) c.self.view_is (c.self.invariant c.if-self.false) in
+    let held = subst (λ n. HeldBy (g.F.FileSystem.disk) n) c.self.view_is (c.self.invariant.0 c.if-self.false) in
     λ synced. synced_others (g.F.FileSystem.disk) c.args.self.now c.sync.new.self c.args.batch.now.items c.in_ok-sync.ensures.sound held (sym (ap (λ n. n.is_stopped) c.self.view_is) ∙ c.if-self.false)
 
 pub returns-in_err-sync-clause-others : goal.returns-in_err-sync-clause-others
 returns-in_err-sync-clause-others g c =
-    let held = subst (λ n. HeldBy (g.F.FileSystem.disk) n) c.self.view_is (c.self.invariant c.if-self.false) in
+    let held = subst (λ n. HeldBy (g.F.FileSystem.disk) n) c.self.view_is (c.self.invariant.0 c.if-self.false) in
     λ synced. synced_others (g.F.FileSystem.disk) c.args.self.now c.sync.new.self c.args.batch.now.items c.in_err-sync.ensures.sound held (sym (ap (λ n. n.is_stopped) c.self.view_is) ∙ c.if-self.false)
 
 -- ---- why it is refused where nothing is set to refuse
