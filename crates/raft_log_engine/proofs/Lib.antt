@@ -1,4 +1,5 @@
 pub mod Appended
+mod CacheLemmas
 pub mod Batches
 pub mod EntryReads
 pub mod Fetched

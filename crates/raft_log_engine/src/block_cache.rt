@@ -1,7 +1,9 @@
 //! The blocks that were read last.
 ghost use Rattle.std.specs.Prelude.{◌≡◌, ◌+◌, ◌≤◌, IfSome};
-ghost use Rattle.raft_log_engine.specs.Cached.{AllKept};
-ghost use Rattle.raft_log_engine.specs.declared.blocks.Block.{Block};
+ghost use Rattle.raft_log_disk.specs.Disk.{Disk};
+ghost use Rattle.raft_log_engine.specs.Blocks.{IsReadAs};
+ghost use Rattle.raft_log_engine.specs.Cached.{AreRead};
+ghost use Rattle.raft_log_pipe.specs.declared.pipe.SinglePipe.{SinglePipe};
 
 use crate::blocks::Block;
 use lru::LruCache;
@@ -29,7 +31,8 @@ fn key_of(handle: FileBlockHandle) -> (u64, u64, u64) {
 impl BlockCache {
     /// No block yet. Takes no memory.
     pub(crate) fn new(alloc: Global) -> BlockCache
-        ensures { (P : Block → Type 0) → AllKept P result.blocks }
+        ensures none { (d : Disk) (p : SinglePipe) → AreRead d p result }
+        ensures reads { result.reads ≡ 0 }
     {
         BlockCache {
             alloc,
@@ -47,7 +50,7 @@ impl BlockCache {
 
     /// One more block is read from its file.
     pub(crate) fn count(&mut self)
-        ensures kept { (P : Block → Type 0) → AllKept P self.old.blocks → AllKept P self.new.blocks }
+        ensures kept { (d : Disk) (p : SinglePipe) → AreRead d p self.old → AreRead d p self.new }
         ensures reads { self.new.reads ≤ self.old.reads + 1 }
     {
         self.reads = self.reads.saturating_add(1);
@@ -55,19 +58,19 @@ impl BlockCache {
 
     /// Takes out the block that is kept under the handle's place, if there is one.
     pub(crate) fn take(&mut self, handle: FileBlockHandle) -> Option<Block>
-        ensures took { (P : Block → Type 0) → AllKept P self.old.blocks → IfSome result P }
-        ensures kept { (P : Block → Type 0) → AllKept P self.old.blocks → AllKept P self.new.blocks }
+        ensures took { (d : Disk) (p : SinglePipe) → AreRead d p self.old → IfSome result (IsReadAs d p) }
+        ensures kept { (d : Disk) (p : SinglePipe) → AreRead d p self.old → AreRead d p self.new }
         ensures reads { self.new.reads ≡ self.old.reads }
     {
         match &mut self.blocks {
-            Some(blocks) => blocks.pop(&key_of(handle)),
+            Some(cache) => cache.pop(&key_of(handle)),
             None => None,
         }
     }
 
     // Makes the cache, where there is memory for it.
     fn make(&mut self)
-        ensures kept { (P : Block → Type 0) → AllKept P self.old.blocks → AllKept P self.new.blocks }
+        ensures kept { (d : Disk) (p : SinglePipe) → AreRead d p self.old → AreRead d p self.new }
         ensures reads { self.new.reads ≡ self.old.reads }
     {
         if self.blocks.is_some() {
@@ -81,22 +84,22 @@ impl BlockCache {
 
     /// Keeps a block, as the one that was used last. The one that wasn't used for longest goes.
     pub(crate) fn keep(&mut self, block: Block)
-        ensures kept { (P : Block → Type 0) → P block → AllKept P self.old.blocks → AllKept P self.new.blocks }
+        ensures kept { (d : Disk) (p : SinglePipe) → IsReadAs d p block → AreRead d p self.old → AreRead d p self.new }
         ensures reads { self.new.reads ≡ self.old.reads }
     {
         self.make();
-        if let Some(blocks) = &mut self.blocks {
-            let _ = blocks.put(key_of(block.handle), block);
+        if let Some(cache) = &mut self.blocks {
+            let _ = cache.put(key_of(block.handle), block);
         }
     }
 
     /// Forgets all blocks.
     pub(crate) fn clear(&mut self)
-        ensures none { (P : Block → Type 0) → AllKept P self.new.blocks }
+        ensures none { (d : Disk) (p : SinglePipe) → AreRead d p self.new }
         ensures reads { self.new.reads ≡ self.old.reads }
     {
-        if let Some(blocks) = &mut self.blocks {
-            blocks.clear();
+        if let Some(cache) = &mut self.blocks {
+            cache.clear();
         }
     }
 }

@@ -28,6 +28,8 @@ pub enum Told {
     Names(Vec<String>),
     Path(String),
     Bytes(u64),
+    /// How many blocks were read from files.
+    Blocks(u64),
     Removed(u64),
     Fused,
     /// A batch could not be made, and no call was.
@@ -89,6 +91,7 @@ fn ask<F: CrashFiles + Drop>(
             Told::Files(first, last)
         }
         ["used"] => Told::Bytes(engine.get_used_size()),
+        ["blocks"] => Told::Blocks(engine.block_reads()),
         ["path"] => Told::Path(String::from_str(alloc, engine.path())?),
         ["sync"] => {
             engine.sync()?;
