@@ -1,0 +1,13 @@
+use Rattle.std.proofs.Common.{refl}
+use Rattle.raft_disk_node.proofs.Handing.{when_up}
+use Rattle.raft_disk_node.proofs.disk_node.DiskNodeClusterNode.fail.Goals as goal
+
+pub returns-in-Some-clause-does : goal.returns-in-Some-clause-does
+returns-in-Some-clause-does g c =
+    when_up g.M.StateMachine.rules g.M.StateMachine.state c.args.self.now _ c.args.self.now.up c.in-Some.node _ _ c.in-Some.is (record {
+      failed = c.fail.new.self;
+      why = c.fail.result;
+      fails = (c.fail.ensures.why, c.fail.ensures.told);
+      named = c.as_stop.ensures;
+      up = (refl, refl);
+    })

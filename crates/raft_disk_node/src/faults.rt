@@ -1,0 +1,108 @@
+//! What a node refuses, as a cluster keeps it.
+ghost use Rattle.std.specs.Prelude.{◌≡◌};
+ghost use Rattle.raft_nodes_on_files.specs.Answering.{cause_of, cause_of_log, cause_of_store, error_of, quiet_stop, stop_in, stop_of};
+
+use raft_cluster_events::{NodeError, NodeRefusal, Sequence, Stop, StopCause};
+use raft_log_engine::EngineFault;
+use raft_log_files::Error;
+use raft_machines::UnknownTokens;
+use raft_node::{Cause, Fault};
+use raft_store::{StoreFault, StoreRefusal};
+use raft_wire::{FrameError, FrameFault};
+use std::alloc::Global;
+
+/// Why a node on files isn't done with a call.
+pub type NodeFault = Fault<StoreFault<EngineFault>>;
+
+/// Why its log stopped.
+pub fn cause_of_log(fault: EngineFault) -> StopCause
+    ensures { result ≡ cause_of_log fault }
+{
+    match fault {
+        EngineFault::Log(Error::Io(_)) => StopCause::Io,
+        EngineFault::Log(Error::TryAgain) => StopCause::TryAgain,
+        EngineFault::Log(Error::Memory) => StopCause::Memory,
+        _ => StopCause::Other,
+    }
+}
+
+// Why its store stopped.
+fn cause_of_store(fault: StoreFault<EngineFault>) -> StopCause
+    ensures { result ≡ cause_of_store fault }
+{
+    match fault {
+        StoreFault::Log(fault) => cause_of_log(fault),
+        StoreFault::Refused(StoreRefusal::Memory) => StopCause::Memory,
+        StoreFault::Refused(StoreRefusal::TooLong) => StopCause::TooLong,
+        // A machine's snapshot past the limit.
+        StoreFault::Refused(StoreRefusal::Value(FrameFault::TooLong)) => StopCause::TooLong,
+        StoreFault::Refused(_) => StopCause::Other,
+    }
+}
+
+// Why it stopped.
+fn cause_of(cause: Cause<StoreFault<EngineFault>>) -> StopCause
+    ensures { result ≡ cause_of cause }
+{
+    match cause {
+        Cause::Memory | Cause::Unjudged | Cause::Frame(FrameError::Memory) => StopCause::Memory,
+        Cause::Storage(fault) => cause_of_store(fault),
+        Cause::Frame(_) => StopCause::TooLong,
+    }
+}
+
+// A stop, with the tokens that waited, which are handed over.
+fn stop_of(cause: Cause<StoreFault<EngineFault>>, unknown: Vec<UnknownTokens>) -> Stop
+    ensures { result ≡ stop_of cause unknown.items }
+{
+    Stop {
+        cause: cause_of(cause),
+        unsaid: None,
+        unknown: Sequence::from_vec(unknown),
+    }
+}
+
+/// A stop where no token waited.
+pub fn quiet_stop(alloc: Global, cause: StopCause) -> Stop
+    ensures { result ≡ quiet_stop cause }
+{
+    Stop {
+        cause,
+        unsaid: None,
+        unknown: Sequence::new(alloc),
+    }
+}
+
+/// Why a call isn't done.
+pub fn error_of(fault: NodeFault) -> NodeError
+    ensures { result ≡ error_of fault }
+{
+    NodeError::Refused(match fault {
+        Fault::NotLeader { leader } => NodeRefusal::NotLeader { leader },
+        Fault::UnknownGroup => NodeRefusal::UnknownGroup,
+        Fault::GroupExists => NodeRefusal::GroupExists,
+        Fault::NotAllowed => NodeRefusal::NotAllowed,
+        Fault::NotVoter => NodeRefusal::NotVoter,
+        Fault::Membership { why } => NodeRefusal::Membership { why },
+        Fault::VoterChange => NodeRefusal::VoterChange,
+        Fault::InProgress => NodeRefusal::InProgress,
+        Fault::CommandTooLong => NodeRefusal::CommandTooLong,
+        Fault::NumberAtEnd => NodeRefusal::NumberAtEnd,
+        Fault::Failed => NodeRefusal::Failed,
+        Fault::WrongParty => NodeRefusal::WrongParty,
+        Fault::TooMuchForBatch => NodeRefusal::TooMuchForBatch,
+        Fault::BreaksCondition => NodeRefusal::BreaksCondition,
+        Fault::Frame(_) => NodeRefusal::Frame,
+        Fault::Stopped { cause, unknown } => return NodeError::Stopped(stop_of(cause, unknown)),
+    })
+}
+
+/// The stop that a fault is; one that is none is a stop of another cause.
+pub fn as_stop(alloc: Global, fault: NodeFault) -> Stop
+    ensures { result ≡ stop_in fault }
+{
+    match fault {
+        Fault::Stopped { cause, unknown } => stop_of(cause, unknown),
+        _ => quiet_stop(alloc, StopCause::Other),
+    }
+}
