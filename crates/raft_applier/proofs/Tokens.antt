@@ -188,7 +188,3 @@ one_more ws xs token place end are at =
     map-append (λ (w : AnUntold). record { token = w.token; place = w.place }) ws (record { token = token; place = place } ∷ [])
     ∙ ap₂ (λ ys p. ys ++ record { token = token; place = p } ∷ []) are at
 
--- what holds holds where a call failed
-pub on_err : {T E : Type 0} (r : Result T E) (P : Type 0) → P → OnErr r P
-on_err (Ok v) P p = tt
-on_err (Err e) P p = p

@@ -1,6 +1,7 @@
 -- What plain records say of a group, and what set it up.
 use Rattle.std.proofs.Common.{◌≡◌, ◌⊎◌, inl, inr, ℕ, eqb, Bool, true, false, not, List, [], ◌∷◌, ◌++◌, Option, Some, None, IfSome, refl, sym, ap, ◌∙◌, subst, append_assoc, append-nil}
 use Rattle.std.specs.Option.{option_or}
+use Rattle.raft_cluster_laws.proofs.Saying.{or_none}
 use Rattle.raft_group_step.specs.Values.{Membership, membership_eq}
 use Rattle.raft_group_step.specs.GroupEvent.{GroupCall}
 use Rattle.raft_group_step.specs.declared.group_call.GroupCall.TheVariants.{Initialize, Elect, Propose, ChangeMembership, Heartbeat, Lost, TriggerSnapshot, TriggerPurge}
@@ -169,10 +170,6 @@ differs_first h m (r ∷ rs) = go (set_up_by h r) (differs_first h m rs)
 or_more : (a b c : Option Membership) → option_or a (option_or b c) ≡ option_or (option_or a b) c
 or_more None b c = refl
 or_more (Some x) b c = refl
-
-or_none : (a : Option Membership) → option_or a None ≡ a
-or_none None = refl
-or_none (Some x) = refl
 
 first_more : (h : ℕ) (rs : List Recorded) (r : Recorded) → first_set_up h (rs ++ r ∷ []) ≡ option_or (first_set_up h rs) (set_up_by h r)
 first_more h [] r = or_none (set_up_by h r)

@@ -1,6 +1,6 @@
 -- A round on the way: what nodes answered ahead of their events' turns holds at these turns.
 use Rattle.std.proofs.Common.{◌≡◌, ◌&&◌, ℕ, zero, suc, eqb, Bool, true, false, cond, not, List, [], ◌∷◌, ◌++◌, Option, Some, None, map, length, position, slice_get, inl, inr, refl, sym, ap, ◌∙◌, subst, arith, nat_lt, length-set, append_assoc, append-nil, length-append, eqb-true, ◌+◌}
-use Rattle.std.proofs.lemmas.Bool.{eq-eqb}
+use Rattle.std.proofs.lemmas.Bool.{eq-eqb, and_parts, not-true}
 use Rattle.std.specs.Prelude.{slice_set}
 use Rattle.std.specs.Option.{option_map}
 use Rattle.std.specs.List.{AllByRecursion, find, list_any, position_or_len}
@@ -182,11 +182,6 @@ id_there ids id place first = go (find (λ other. eqb other id) ids) refl
     go (Some x) found = at ∙ found ∙ ap Some (eqb-true x id (found_passes (λ other. eqb other id) ids x found))
     go None found = let none : position (λ other. eqb other id) ids ≡ None = absent (λ other. eqb other id) ids found in absurd (cc)
 
-both : (a b : Bool) → (a && b) ≡ true → (a ≡ true) × (b ≡ true)
-both true true h = (refl, refl)
-both true false h = absurd (cc)
-both false b h = absurd (cc)
-
 -- the first event of a round has a node, and no other one is for that
 pub record IsFirst (sent : Sent) (event : ClusterEvent) (others : List ClusterEvent) : Type 0 where
   pub id : ℕ
@@ -196,15 +191,11 @@ pub record IsFirst (sent : Sent) (event : ClusterEvent) (others : List ClusterEv
 
 pub first_of_round : (sent : Sent) (event : ClusterEvent) (others : List ClusterEvent) → is_round sent (event ∷ others) ≡ true → IsFirst sent event others
 first_of_round sent event others h =
-    let (apart, round) = both (is_apart_from sent (node_of sent event) others) (is_round sent others) h in go (node_of sent event) refl apart round
+    let (apart, round) = and_parts (is_apart_from sent (node_of sent event) others) (is_round sent others) h in go (node_of sent event) refl apart round
   where
-    no : (b : Bool) → not b ≡ true → b ≡ false
-    no true h = absurd (cc)
-    no false h = refl
-
     go : (w : Option ℕ) → node_of sent event ≡ w → is_apart_from sent w others ≡ true → is_round sent others ≡ true → IsFirst sent event others
     go None is apart round = absurd (cc)
-    go (Some id) is apart round = record { id = id; node = is; alone = no (list_any (is_for sent id) others) apart; round = round }
+    go (Some id) is apart round = record { id = id; node = is; alone = not-true (list_any (is_for sent id) others) apart; round = round }
 
 -- events for one place are for one node
 same_node : (sent : Sent) (ids : List ℕ) (place id : ℕ) (event : ClusterEvent) → place_by ids (Some id) ≡ Some place → place_by ids (node_of sent event) ≡ Some place → is_for sent id event ≡ true

@@ -3,6 +3,7 @@ use Rattle.std.proofs.Common.{◌≡◌, ◌||◌, ℕ, zero, suc, eqb, Bool, tr
 use Rattle.std.specs.Prelude.{slice_set}
 use Rattle.std.specs.List.{find, list_any}
 use Rattle.std.specs.Option.{option_map}
+use Rattle.raft_headline.proofs.Splitting.{in_front}
 use Rattle.raft_cluster_conditions.specs.declared.reasons.ClusterRefusal.{ClusterRefusal}
 use Rattle.raft_cluster_conditions.specs.declared.reasons.Asked.TheVariants as asks
 use Rattle.raft_cluster_conditions.specs.Refusal.{refusal_of}
@@ -42,11 +43,6 @@ pub set_same : {A : Type 0} (xs : List A) (k : ℕ) (x : A) → slice_get xs k �
 set_same [] k x e = absurd (cc)
 set_same (z ∷ zs) zero x e = let is : z ≡ x = cc in ap (λ y. y ∷ zs) (sym is)
 set_same (z ∷ zs) (suc k) x e = ap (λ l. z ∷ l) (set_same zs k x e)
-
-pub kept_front : {A : Type 0} (xs ys : List A) (k : ℕ) (x : A) → slice_get xs k ≡ Some x → slice_get (xs ++ ys) k ≡ Some x
-kept_front [] ys k x e = absurd (cc)
-kept_front (z ∷ zs) ys zero x e = e
-kept_front (z ∷ zs) ys (suc k) x e = kept_front zs ys k x e
 
 pub none_any : {A : Type 0} (p : A → Bool) (xs : List A) (k : ℕ) (x : A) → list_any p xs ≡ false → slice_get xs k ≡ Some x → p x ≡ false
 none_any p [] k x none e = absurd (cc)
@@ -128,7 +124,7 @@ after_one : (sent : Sent) (sender : ℕ) (o : NodeOutcome) → Grows sent (sent_
 after_one sent sender o group k frame e = go (eqb o.group group)
   where
     go : (b : Bool) → slice_get (cond b (sent group ++ sent_by sender o.frames) (sent group)) k ≡ Some frame
-    go true = kept_front (sent group) (sent_by sender o.frames) k frame e
+    go true = in_front (sent group) (sent_by sender o.frames) k frame e
     go false = e
 
 after_all : (sent : Sent) (sender : ℕ) (os : List NodeOutcome) → Grows sent (sent_after sent sender os)

@@ -44,7 +44,7 @@ no_setup e (Declined why) none = refl
 no_setup e (Broken lost) none = none
 no_setup e Skipped none = refl
 
-or_none : (o : Option Membership) → option_or o None ≡ o
+pub or_none : (o : Option Membership) → option_or o None ≡ o
 or_none None = refl
 or_none (Some m) = refl
 

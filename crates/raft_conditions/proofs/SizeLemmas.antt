@@ -5,11 +5,12 @@ use Rattle.std.specs.declared.cmp.Ordering.TheVariants.{Less, Equal, Greater}
 use Rattle.std.specs.Ordering.{nat_cmp, match_ordering, is_eq}
 use Rattle.std.specs.List.{list_all}
 use Rattle.std.specs.BTreeSet.{insert_key}
-use Rattle.std.proofs.Math.Bool.{and-true, and_assoc, and_comm, and_self_left, or-false, or_assoc, or_comm, or_self_left}
+use Rattle.std.proofs.Math.Bool.{and-true, and_assoc, and_comm, and_self_left, or-false, or_self_left}
 use Rattle.std.proofs.lemmas.Bool.{eqb-true, or_parts}
 use Rattle.std.proofs.lemmas.Cmp.{nat_cmp_total, nat_eq_equiv}
 use Rattle.std.proofs.lemmas.Map.Lookups.{exact_unsigned}
 use Rattle.std.proofs.lemmas.Bool.Decides.{nat_tests}
+use Rattle.raft_membership.proofs.FaultLemmas.{or_swap}
 use Rattle.raft_quorums.specs.Nodes.{has_id, has_node, with_ids, with_node, with_nodes, with_new_node, with_new_nodes}
 use Rattle.raft_quorums.specs.Rising.{IsBelowAll, IsRising, IsRisingByFirst}
 use Rattle.raft_quorums.specs.RisingLaws.{below_is_absent, below_trans, rising_insert_key}
@@ -37,9 +38,6 @@ other_way x y e = eq_by_order x y ∙ ap is_eq e
 
 absent : (k : ℕ) (xs : List ℕ) → IsBelowAll nat_cmp k xs → has_id nat_eq xs k ≡ false
 absent k xs h = below_is_absent nat_cmp_total eq_by_order k xs h
-
-or_swap : (a b c : Bool) → (b || (a || c)) ≡ (a || (b || c))
-or_swap a b c = sym (or_assoc b a c) ∙ ap (λ x. x || c) (or_comm b a) ∙ or_assoc a b c
 
 and_turn : (a b c : Bool) → ((a && b) && c) ≡ (b && (a && c))
 and_turn a b c = ap (λ x. x && c) (and_comm a b) ∙ and_assoc b a c

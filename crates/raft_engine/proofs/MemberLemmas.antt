@@ -19,21 +19,14 @@ use Rattle.raft_progress.specs.Values.{are_distinct, value_at}
 use Rattle.raft_progress.specs.Parts.{Parts, IsUpgraded, has_value, value_of}
 use Rattle.std.specs.Option.{option_or}
 use Rattle.raft_leaders.proofs.PeerLemmas.{somebody_has}
+use Rattle.std.proofs.Math.Bool.{or_self_left}
+use Rattle.raft_membership.proofs.FaultLemmas.{or_swap}
 
 -- rising ids are distinct
 pub rising_distinct : (ids : List ℕ) → IsRising nat_cmp ids → are_distinct nat_eq ids ≡ true
 rising_distinct [] h = refl
 rising_distinct (x ∷ xs) h =
     ap (λ b. not b && are_distinct nat_eq xs) (below_is_absent nat_cmp_total unsigned_ties x xs h.0) ∙ rising_distinct xs h.1
-
-or_again : (a b : Bool) → (a || b) ≡ (a || (a || b))
-or_again true b = refl
-or_again false b = refl
-
-or_swap : (a b c : Bool) → (a || (b || c)) ≡ (b || (a || c))
-or_swap true true c = refl
-or_swap true false c = refl
-or_swap false b c = refl
 
 or_turn : (a b c : Bool) → (a || (b || c)) ≡ ((b || a) || c)
 or_turn true true c = refl
@@ -52,8 +45,8 @@ has_inserted (x ∷ xs) k n = by_rank (has_inserted xs k n) (nat_cmp k x) refl
     by_rank : has_id nat_eq (insert_key nat_cmp xs k) n ≡ (nat_eq k n || has_id nat_eq xs n) → (o : Ordering) → nat_cmp k x ≡ o
         → has_id nat_eq (insert_key nat_cmp (x ∷ xs) k) n ≡ (nat_eq k n || (nat_eq x n || has_id nat_eq xs n))
     by_rank more Less e = rw e refl
-    by_rank more Equal e = let same : k ≡ x = ranked k x Equal (sym e) in rw e (or_again (nat_eq x n) (has_id nat_eq xs n) ∙ ap (λ y. nat_eq y n || (nat_eq x n || has_id nat_eq xs n)) (sym same))
-    by_rank more Greater e = rw e (ap (λ b. nat_eq x n || b) more ∙ or_swap (nat_eq x n) (nat_eq k n) (has_id nat_eq xs n))
+    by_rank more Equal e = let same : k ≡ x = ranked k x Equal (sym e) in rw e (sym (or_self_left (nat_eq x n) (has_id nat_eq xs n)) ∙ ap (λ y. nat_eq y n || (nat_eq x n || has_id nat_eq xs n)) (sym same))
+    by_rank more Greater e = rw e (ap (λ b. nat_eq x n || b) more ∙ or_swap (nat_eq k n) (nat_eq x n) (has_id nat_eq xs n))
 
 has_folded : (ids xs : List ℕ) (n : ℕ) → has_id nat_eq (fold (insert_key nat_cmp) xs ids) n ≡ (has_id nat_eq ids n || has_id nat_eq xs n)
 has_folded [] xs n = refl

@@ -7,6 +7,7 @@ use Rattle.std.proofs.lemmas.Option.{slice_get_read, slice_get_past}
 use Rattle.std.proofs.lemmas.Bool.Decides.{nat_tests}
 use Rattle.std.proofs.lemmas.List.Folds.{list_any-append}
 use Rattle.std.proofs.lemmas.Bool.{and_right}
+use Rattle.raft_membership.proofs.FaultLemmas.{and_true}
 use Rattle.raft_values.specs.declared.vote.LeaderId.{LeaderId}
 use Rattle.raft_values.specs.declared.log_id.LogId.{LogId}
 use Rattle.raft_values.specs.LogId.{next_place}
@@ -83,10 +84,6 @@ is_of_another true q rest e = cc
 is_of_another false q rest e = refl
 
 -- ---- entries
-
-and_true : (b c : Bool) → c ≡ true → (b && c) ≡ b
-and_true false c e = refl
-and_true true c e = e
 
 -- all entries of a placed log are at its first place or above it
 entries_of : (leader : LeaderId ℕ) (start place : ℕ) (es : List Entry) → ArePlaced place es → start ≤ place → list_any (is_of_leader_from leader start) (entry_ids es) ≡ list_any (is_written_by leader) es

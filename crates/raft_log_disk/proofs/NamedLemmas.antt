@@ -2,7 +2,7 @@
 use Rattle.std.proofs.Common.{◌≡◌, ◌≢◌, ◌⊎◌, inl, inr, ℕ, ◌+◌, ◌<◌, ◌≤◌, Bool, true, false, cond, eqb, List, [], ◌∷◌, ◌++◌, Option, Some, None, refl, sym, ap, subst, ◌∙◌, arith}
 use Rattle.std.specs.Prelude.{not, nat_lt, ◌&&◌, ◌||◌, is_some, map, ◌==◌}
 use Rattle.std.specs.List.{list_any}
-use Rattle.std.proofs.lemmas.Bool.{eq-eqb, ne_eqb, eqb-true, eqb-false, ltb-true, lt-ltb, or_parts, and_parts}
+use Rattle.std.proofs.lemmas.Bool.{eq-eqb, ne_eqb, eqb-true, eqb-false, ltb-true, lt-ltb, or_parts, and_parts, not-true}
 use Rattle.std.proofs.lemmas.List.Folds.{list_any-append}
 use lib.Pointwise.{bytes_decides}
 use Rattle.raft_log_disk.specs.Text.{Text, same_text}
@@ -14,10 +14,6 @@ Names = List (Text × ℕ)
 -- a number is among the names
 abbrev pub has_number : Names → ℕ → Bool
 has_number es n = list_any (λ other. other.1 == n) es
-
-is_false : (b : Bool) → not b ≡ true → b ≡ false
-is_false true e = absurd cc
-is_false false e = refl
 
 is_none : (o : Option ℕ) → not (is_some o) ≡ true → o ≡ None
 is_none None e = refl
@@ -35,7 +31,7 @@ named_first e es next h =
     let a = and_parts (nat_lt e.1 next) (not (has_number es e.1) && (not (is_some (fd_of es e.0)) && are_named es next)) h in
     let b = and_parts (not (has_number es e.1)) (not (is_some (fd_of es e.0)) && are_named es next) a.1 in
     let d = and_parts (not (is_some (fd_of es e.0))) (are_named es next) b.1 in
-    record { below = a.0; number = is_false (has_number es e.1) b.0; path = is_none (fd_of es e.0) d.0; others = d.1 }
+    record { below = a.0; number = not-true (has_number es e.1) b.0; path = is_none (fd_of es e.0) d.0; others = d.1 }
 
 pub named_join : (e : Text × ℕ) (es : Names) (next : ℕ) → IsNamedFirst e es next → are_named (e ∷ es) next ≡ true
 named_join e es next p = λ i. p.below i && (not (p.number i) && (not (is_some (p.path i)) && p.others i))

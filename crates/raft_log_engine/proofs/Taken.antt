@@ -16,7 +16,7 @@ use Rattle.raft_log_file.specs.Laws.{Batch}
 use Rattle.raft_log_file.proofs.LawLemmas.{length-spelled}
 use Rattle.raft_log_file.proofs.UnsyncedLemmas.{spelled_long}
 use Rattle.raft_log_pipe.specs.declared.pipe.SinglePipe.{SinglePipe}
-use Rattle.raft_log_pipe.specs.Taken.{IsAppendTaken, IsBarred, IsFull, IsOkOrMemory, IsTakenBy, IsTooLarge, IsUnmade, IsUnnumbered}
+use Rattle.raft_log_pipe.specs.Taken.{IsAppendTaken, IsBarred, IsFull, IsOkOrMemory, IsTakenBy, IsTooLarge, IsUnmade, IsUnnumbered, NeedsFile}
 use Rattle.raft_log_pipe.proofs.TakenLemmas.{exit_error, taken_for}
 use Rattle.raft_log_memtables.specs.declared.memtables.MemTables.{MemTables}
 use Rattle.raft_log_engine.specs.Held.{Parts}
@@ -39,7 +39,7 @@ block_fits items start (Some b) stands fits = omega (arith, (stands None).1, spe
 
 pub sync_for : (T : Type 0) (p : SinglePipe) (d : Disk) (items : Batch) (r : Result T Error) (x : Error) → IsErrAnd r (λ e. e ≡ x) → IsTakenBy {T = Unit {0}} ⊥ ⊥ ⊥ (Err x) → IsAppendTaken p d items r
 sync_for T p d items r x is why =
-    let needs : Type 0 = IsFull p ⊎ IsTooLarge p items in
+    let needs = NeedsFile p items in
     exit_error (needs × IsUnnumbered p) (needs × IsUnmade p d) ((IsFull p × IsBarred p d) ⊎ IsTooLarge p items) r x is
     (taken_for (Unit {0}) T ⊥ ⊥ ⊥ (needs × IsUnnumbered p) (needs × IsUnmade p d) ((IsFull p × IsBarred p d) ⊎ IsTooLarge p items) x (λ no. absurd no) (λ no. absurd no) (λ no. absurd no) why)
 
@@ -82,10 +82,10 @@ module _ {F : Type 0} (T : Type 0) (disk : F → Disk) (e : Parts F) (items : Ba
       by_items [] none so = absurd (none refl)
       by_items (item ∷ more) none so =
           exit_fault (e.is_stopped ≡ true) (IsMarked (item ∷ more)) (IsNotTaken e.tables (item ∷ more))
-          ((IsFull e.pipes.append ⊎ IsTooLarge e.pipes.append (item ∷ more)) × IsUnnumbered e.pipes.append) ((IsFull e.pipes.append ⊎ IsTooLarge e.pipes.append (item ∷ more)) × IsUnmade e.pipes.append (disk e.files))
+          (NeedsFile e.pipes.append (item ∷ more) × IsUnnumbered e.pipes.append) (NeedsFile e.pipes.append (item ∷ more) × IsUnmade e.pipes.append (disk e.files))
           ((IsFull e.pipes.append × IsBarred e.pipes.append (disk e.files)) ⊎ IsTooLarge e.pipes.append (item ∷ more)) r x is
           (refused_first T (e.is_stopped ≡ true)
-          ((IsFull e.pipes.append ⊎ IsTooLarge e.pipes.append (item ∷ more)) × IsUnnumbered e.pipes.append) ((IsFull e.pipes.append ⊎ IsTooLarge e.pipes.append (item ∷ more)) × IsUnmade e.pipes.append (disk e.files))
+          (NeedsFile e.pipes.append (item ∷ more) × IsUnnumbered e.pipes.append) (NeedsFile e.pipes.append (item ∷ more) × IsUnmade e.pipes.append (disk e.files))
           ((IsFull e.pipes.append × IsBarred e.pipes.append (disk e.files)) ⊎ IsTooLarge e.pipes.append (item ∷ more)) e.tables (item ∷ more) x so)
 
   -- an append that was refused
@@ -96,7 +96,7 @@ module _ {F : Type 0} (T : Type 0) (disk : F → Disk) (e : Parts F) (items : Ba
       by_items [] none so = absurd (none refl)
       by_items (item ∷ more) none so =
           logged FileBlockHandle T (e.is_stopped ≡ true) (IsMarked (item ∷ more)) (IsNotTaken e.tables (item ∷ more))
-          ((IsFull e.pipes.append ⊎ IsTooLarge e.pipes.append (item ∷ more)) × IsUnnumbered e.pipes.append) ((IsFull e.pipes.append ⊎ IsTooLarge e.pipes.append (item ∷ more)) × IsUnmade e.pipes.append (disk e.files))
+          (NeedsFile e.pipes.append (item ∷ more) × IsUnnumbered e.pipes.append) (NeedsFile e.pipes.append (item ∷ more) × IsUnmade e.pipes.append (disk e.files))
           ((IsFull e.pipes.append × IsBarred e.pipes.append (disk e.files)) ⊎ IsTooLarge e.pipes.append (item ∷ more)) x so
 
   -- want of memory behind it

@@ -6,7 +6,7 @@ use Rattle.raft_log_records.specs.Spelling.{holds_mark}
 use Rattle.raft_log_disk.specs.Disk.{Disk}
 use Rattle.raft_log_files.specs.declared.error.Error.TheVariants.{Io, Corruption, InvalidArgument, TryAgain, Memory, Other, EntryCompacted, EntryNotFound}
 use Rattle.raft_log_file.specs.Laws.{Batch}
-use Rattle.raft_log_pipe.specs.Taken.{IsBarred, IsFull, IsTakenBy, IsTooLarge, IsUnmade, IsUnnumbered}
+use Rattle.raft_log_pipe.specs.Taken.{IsBarred, IsFull, IsTakenBy, IsTooLarge, IsUnmade, IsUnnumbered, NeedsFile}
 use Rattle.raft_log_memtables.specs.declared.memtables.MemTables.{MemTables}
 use Rattle.raft_log_memtables.specs.MemTables.{content_in}
 use Rattle.raft_log_memtables.specs.Taken.{TakesEach}
@@ -55,5 +55,6 @@ abbrev pub IsWriteTaken : {F T : Type 0} → (F → Disk) → Parts F → Batch 
 IsWriteTaken disk e [] result = IsSyncTaken e result
 IsWriteTaken disk e (item ∷ items) result =
     IsTakenUnless (e.is_stopped ≡ true) (IsMarked (item ∷ items)) (IsNotTaken e.tables (item ∷ items))
-    ((IsFull e.pipes.append ⊎ IsTooLarge e.pipes.append (item ∷ items)) × IsUnnumbered e.pipes.append) ((IsFull e.pipes.append ⊎ IsTooLarge e.pipes.append (item ∷ items)) × IsUnmade e.pipes.append (disk e.files))
+    (NeedsFile e.pipes.append (item ∷ items) × IsUnnumbered e.pipes.append)
+    (NeedsFile e.pipes.append (item ∷ items) × IsUnmade e.pipes.append (disk e.files))
     ((IsFull e.pipes.append × IsBarred e.pipes.append (disk e.files)) ⊎ IsTooLarge e.pipes.append (item ∷ items)) result

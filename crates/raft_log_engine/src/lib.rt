@@ -1,4 +1,4 @@
-//! The log engine over one queue of log files.
+//! The log engine over two queues of log files: one for what is written, one for what is rewritten.
 #![tactic(auto)]
 
 mod appending;

@@ -3,7 +3,7 @@ use Rattle.std.proofs.Common.{◌≡◌, ◌≤◌, ◌<◌, ◌-◌, ℕ, Bool,
 use Rattle.std.specs.Prelude.{nat_eq, nat_le, IsSome, IfSome, IfNone, ◌||◌, ◌&&◌}
 use Rattle.std.specs.Cmp.Derive.{both_true}
 use Rattle.std.specs.List.{list_any}
-use Rattle.std.proofs.lemmas.Bool.{eq-eqb, eqb-true, leb-true, le-leb}
+use Rattle.std.proofs.lemmas.Bool.{eq-eqb, eqb-true, leb-true, le-leb, and_parts}
 use Rattle.std.proofs.lemmas.Bool.Decides.{nat_tests}
 use Rattle.std.proofs.lemmas.List.{take_all, take_more, take-append-drop, map_push, map-append}
 use Rattle.std.proofs.Math.Seq.{drop-cons}
@@ -24,13 +24,9 @@ abbrev Between : ℕ → Option ℕ → ℕ → Type 0
 Between first None i = first ≤ i
 Between first (Some last) i = (first ≤ i) × (i ≤ last)
 
-parts_of_and : (a b : Bool) → (a && b) ≡ true → (a ≡ true) × (b ≡ true)
-parts_of_and true b h = (refl, h)
-parts_of_and false b h = cc
-
 between : (first : ℕ) (last : Option ℕ) (i : ℕ) → within first last i ≡ true → Between first last i
 between first None i h = leb-true first i h
-between first (Some last) i h = let p = parts_of_and (nat_le first i) (nat_le i last) h in (leb-true first i p.0, leb-true i last p.1)
+between first (Some last) i h = let p = and_parts (nat_le first i) (nat_le i last) h in (leb-true first i p.0, leb-true i last p.1)
 
 within_of : (first : ℕ) (last : Option ℕ) (i : ℕ) → Between first last i → within first last i ≡ true
 within_of first None i h = le-leb first i h

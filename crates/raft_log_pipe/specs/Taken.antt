@@ -74,7 +74,11 @@ IsTooLarge p items = 2 ^ 64 ≤ p.writer.offset + record_len items
 abbrev pub IsFull : SinglePipe → Type 0
 IsFull p = p.target_file_size ≤ p.writer.offset
 
+-- the batch needs a new file
+abbrev pub NeedsFile : SinglePipe → Batch → Type 0
+NeedsFile p items = IsFull p ⊎ IsTooLarge p items
+
 -- an append is taken unless memory is missing, there can be no new file where one has to be begun, or no file has so many bytes
 abbrev pub IsAppendTaken : {T : Type 0} → SinglePipe → Disk → Batch → Result T Error → Type 0
 IsAppendTaken p d items result =
-    IsTakenBy ((IsFull p ⊎ IsTooLarge p items) × IsUnnumbered p) ((IsFull p ⊎ IsTooLarge p items) × IsUnmade p d) ((IsFull p × IsBarred p d) ⊎ IsTooLarge p items) result
+    IsTakenBy (NeedsFile p items × IsUnnumbered p) (NeedsFile p items × IsUnmade p d) ((IsFull p × IsBarred p d) ⊎ IsTooLarge p items) result

@@ -1,6 +1,7 @@
 -- What is asked of the nodes that a change leaves, without making them.
 use Rattle.std.proofs.Common.{◌≡◌, ◌==◌, length, map, Bool, true, false, cond, List, [], ◌∷◌, refl, ap, sym, subst, ◌∙◌}
 use Rattle.std.specs.Prelude.{◌&&◌, ◌||◌, not, if◌then◌else◌, Option, Some, None}
+use Rattle.std.proofs.Math.Bool.{or_self_left, or-false}
 use Rattle.std.specs.declared.cmp.Ordering.{Ordering}
 use Rattle.std.specs.declared.cmp.Ordering.TheVariants.{Less, Equal, Greater}
 use Rattle.std.specs.Ordering.{match_ordering}
@@ -17,11 +18,7 @@ use Rattle.raft_membership.specs.declared.error.ChangeMembershipError.TheVariant
 use Rattle.raft_membership.specs.MembershipChange.{fault_after, without_nodes, retained_nodes}
 use Rattle.raft_quorums.specs.QuorumLaws.{or_left, or_right}
 
-or_same : (a b : Bool) → (a || b) ≡ (a || (a || b))
-or_same true b = refl
-or_same false b = refl
-
-or_swap : (a b c : Bool) → (b || (a || c)) ≡ (a || (b || c))
+pub or_swap : (a b c : Bool) → (b || (a || c)) ≡ (a || (b || c))
 or_swap true true c = refl
 or_swap true false c = refl
 or_swap false true c = refl
@@ -32,10 +29,6 @@ or_turn true true c = refl
 or_turn true false c = refl
 or_turn false true c = refl
 or_turn false false c = refl
-
-or_false : (b : Bool) → b ≡ (b || false)
-or_false true = refl
-or_false false = refl
 
 or_held : (a b : Bool) → (a ≡ true → b ≡ true) → b ≡ (a || b)
 or_held true b h = h refl
@@ -50,7 +43,7 @@ dropped true true c h = refl
 dropped true false c h = sym (h refl)
 dropped false b c h = refl
 
-and_true : (a b : Bool) → b ≡ true → (a && b) ≡ a
+pub and_true : (a b : Bool) → b ≡ true → (a && b) ≡ a
 and_true true b h = h
 and_true false b h = refl
 
@@ -62,13 +55,13 @@ module _ {K N : Type 0} (eq : K → K → Bool) (cmp : K → K → Ordering) (sa
       elim (cmp id x.0) as (λ o. cmp id x.0 ≡ o → has_node eq (match_ordering o ((id, node) ∷ x ∷ xs) ((id, node) ∷ xs) (x ∷ with_node cmp xs id node)) k
       ≡ (eq id k || (eq x.0 k || has_node eq xs k))) [
         | Less ↦ λ e. refl
-        | Equal ↦ λ e. or_same (eq id k) (has_node eq xs k) ∙ ap (λ i. eq id k || (eq i k || has_node eq xs k)) (same id x.0 e)
+        | Equal ↦ λ e. sym (or_self_left (eq id k) (has_node eq xs k)) ∙ ap (λ i. eq id k || (eq i k || has_node eq xs k)) (same id x.0 e)
         | Greater ↦ λ e. ap (λ b. eq x.0 k || b) (has_with_node xs id node k) ∙ or_swap (eq id k) (eq x.0 k) (has_node eq xs k)
       ] refl
 
   has_folded : (put : List (K × N) → K → N → List (K × N)) → ((xs : List (K × N)) (id : K) (node : N) (k : K) → has_node eq (put xs id node) k ≡ (eq id k || has_node eq xs k))
       → (news xs : List (K × N)) (k : K) → has_node eq (fold (λ ys (new : K × N). put ys new.0 new.1) xs news) k ≡ (has_node eq xs k || has_node eq news k)
-  has_folded put one [] xs k = or_false (has_node eq xs k)
+  has_folded put one [] xs k = sym (or-false (has_node eq xs k))
   has_folded put one (n ∷ news) xs k =
       has_folded put one news (put xs n.0 n.1) k ∙ ap (λ b. b || has_node eq news k) (one xs n.0 n.1 k)
       ∙ or_turn (eq n.0 k) (has_node eq xs k) (has_node eq news k)

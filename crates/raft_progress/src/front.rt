@@ -1,5 +1,6 @@
 //! The voters in falling order of their values, and the search for a quorum in front of them.
-ghost use Rattle.std.specs.Prelude.{◌≡◌, ◌<◌, ◌≤◌, ◌&&◌, ◌+◌, ◌-◌, ◌++◌, ◌∷◌, [], length, slice_set, slice_index_or, take, true, false, IfSome, IfNone, OnOk, IsPermutation};
+ghost use Rattle.std.specs.Prelude.{◌≡◌, ◌<◌, ◌≤◌, ◌&&◌, ◌+◌, ◌-◌, true, false, IfSome, IfNone, OnOk};
+ghost use Rattle.std.specs.Prelude.{◌++◌, ◌∷◌, [], length, slice_set, slice_index_or, take, IsPermutation};
 ghost use Rattle.std.specs.Ordering.{is_le, is_lt};
 ghost use Rattle.raft_quorums.specs.Nodes.{has_node};
 ghost use Rattle.raft_progress.specs.Granted.{IsFalling, IsGranted, IsFallingBut};

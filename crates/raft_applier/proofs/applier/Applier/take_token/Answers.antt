@@ -1,7 +1,8 @@
 use Rattle.std.proofs.Common.{◌∙◌, ap}
 use Rattle.raft_group_step.specs.StoredGroup.{end_place}
 use Rattle.raft_machines.specs.Telling.{untold_of}
-use Rattle.raft_applier.proofs.Tokens.{on_err, one_more}
+use Rattle.raft_state.proofs.GrowthLemmas.{on_err}
+use Rattle.raft_applier.proofs.Tokens.{one_more}
 use Rattle.raft_applier.proofs.applier.Applier.take_token.Goals as goal
 
 pub returns-clause-ok : goal.returns-clause-ok
@@ -15,7 +16,7 @@ returns-clause-ok g c = λ e s has idle low caught. record {
 }
 
 pub returns-in_err-push-clause-err : goal.returns-in_err-push-clause-err
-returns-in_err-push-clause-err g c = λ s caught. on_err c.from_residual.result _ (record {
+returns-in_err-push-clause-err g c = λ s caught. on_err c.from_residual.result (record {
   folded = caught.folded;
   last = caught.last;
   lead = caught.lead;
