@@ -8,6 +8,7 @@ ghost use Rattle.raft_quorums.specs.Rising.{IsRising};
 ghost use Rattle.raft_membership.specs.MembershipChange.{without_ids};
 ghost use Rattle.raft_conditions.specs.Fitting.{goal_of, ids_of};
 
+use raft_membership::{are_ids_of, are_stayers};
 use raft_state::{BasicNode, HasId, IdSet, NodeMap};
 
 // Who is to come into a voter group.
@@ -23,37 +24,6 @@ pub(crate) enum Newcomers<'a> {
 pub(crate) enum Goal<'a> {
     Just(Newcomers<'a>),
     Stayers(&'a [u64], &'a IdSet<u64>),
-}
-
-// Whether these are just the ids of the nodes, in their order.
-fn are_ids_of(ids: &[u64], nodes: &[(u64, BasicNode)]) -> bool
-    ensures { result ≡ pointwise nat_eq ids.now (map (λ x. x.0) nodes.now) }
-{
-    let mut at = 0;
-    for node in nodes {
-        if at == ids.len() || ids[at] != node.0 {
-            return false;
-        }
-        at += 1;
-    }
-    at == ids.len()
-}
-
-// Whether these are just those of the group who stay, in their order.
-fn are_stayers(ids: &[u64], group: &[u64], leavers: &IdSet<u64>) -> bool
-    ensures { result ≡ pointwise nat_eq ids.now (without_ids nat_eq group.now leavers.now) }
-{
-    let mut at = 0;
-    for id in group {
-        if leavers.contains(id) {
-            continue;
-        }
-        if at == ids.len() || ids[at] != *id {
-            return false;
-        }
-        at += 1;
-    }
-    at == ids.len()
 }
 
 // Whether the set has all the ids.

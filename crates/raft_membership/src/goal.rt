@@ -43,8 +43,8 @@ impl<NID: NodeId> Goal<NID> for &[NID] {
     }
 }
 
-// Whether these are just the ids of the nodes, in their order.
-fn are_ids_of<NID: NodeId, N: Node>(ids: &[NID], nodes: &[(NID, N)]) -> bool
+/// Whether these are just the ids of the nodes, in their order (own).
+pub fn are_ids_of<NID: NodeId, N: Node>(ids: &[NID], nodes: &[(NID, N)]) -> bool
     ensures { result ≡ pointwise NID.eq ids.now (map (λ x. x.0) nodes.now) }
 {
     let mut at = 0;
@@ -57,8 +57,8 @@ fn are_ids_of<NID: NodeId, N: Node>(ids: &[NID], nodes: &[(NID, N)]) -> bool
     at == ids.len()
 }
 
-// Whether these are just those of the group who stay, in their order.
-fn are_stayers<NID: NodeId>(ids: &[NID], group: &[NID], leavers: &IdSet<NID>) -> bool
+/// Whether these are just those of the group who stay, in their order (own).
+pub fn are_stayers<NID: NodeId>(ids: &[NID], group: &[NID], leavers: &IdSet<NID>) -> bool
     ensures { result ≡ pointwise NID.eq ids.now (without_ids NID.eq group.now leavers.now) }
 {
     let mut at = 0;

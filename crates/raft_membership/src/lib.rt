@@ -20,6 +20,7 @@ pub use error::{
     ChangeMembershipError, ClientWriteError, EmptyMembership, ForwardToLeader, InProgress,
     InitializeError, LackEntry, LearnerNotFound, NotAllowed, NotInMembers,
 };
+pub use goal::{are_ids_of, are_stayers};
 pub use into_nodes::IntoNodes;
 pub use membership::Membership;
 pub use membership_state::MembershipState;
