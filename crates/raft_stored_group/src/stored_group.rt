@@ -1,5 +1,5 @@
 //! What a node keeps of a group, and what changes it.
-ghost use Rattle.std.specs.Prelude.{◌≡◌, OnOk, OnErr};
+ghost use Rattle.std.specs.Prelude.{◌≡◌, ◌+◌, ◌≤◌, max, vec_len, vec_capacity, OnOk, OnErr};
 ghost use Rattle.raft_group_step.specs.GroupState.{no_group};
 ghost use Rattle.raft_group_step.specs.StoredGroup.{after_storing, CutFrom, MakeGroup, PutEntries, RemoveUpTo, SetSnapshot, SetVote, StartAfter};
 
@@ -27,6 +27,18 @@ impl Model for StoredGroup {
     ghost Value = { Stored };
 
     ghost view = { λ s. record { present = s.present; vote = s.vote; snapshot = s.snapshot; purged = s.purged; log = s.log.items } };
+}
+
+// Makes room for so many more entries, and at most for as many again as there are.
+fn make_room(log: &mut Vec<GroupEntry>, more: usize) -> Result<(), AllocError>
+    ensures items { log.new.items ≡ log.old.items }
+    ensures room { OnOk result (vec_len log.new + more ≤ vec_capacity log.new) }
+    ensures within { vec_capacity log.new ≤ max (vec_capacity log.old) (vec_len log.old + max (vec_len log.old) more) }
+{
+    if more <= log.capacity() - log.len() {
+        return Ok(());
+    }
+    log.reserve_exact(more.max(log.len()))
 }
 
 impl StoredGroup {
@@ -65,7 +77,7 @@ impl StoredGroup {
     {
         let mut copies = Vec::new(*self.log.allocator());
         push_copies(&mut copies, entries)?;
-        self.log.reserve(copies.len())?;
+        make_room(&mut self.log, copies.len())?;
         let kept = places_below(&self.purged, place) as usize;
         self.log.truncate(kept);
         self.log.append(&mut copies).unwrap();
