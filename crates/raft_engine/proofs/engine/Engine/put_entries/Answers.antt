@@ -12,7 +12,7 @@ use Rattle.raft_group_step.specs.AppendRequest.{cut_from}
 use Rattle.raft_group_step.proofs.Words.{cut_keeps_role}
 use Rattle.raft_known_state.specs.KnownState.{ArePlaced, Knows}
 use Rattle.raft_messages.specs.Entries.{all_go_on}
-use Rattle.raft_engine.proofs.PlacedEntries.{found_at, go_on}
+use Rattle.raft_engine.proofs.PlacedEntries.{found_at, go_on, some_within}
 use Rattle.raft_engine.proofs.FollowingLemmas.{cut_ends, known_go_on, log_stored, order_of_put, put_all_as, put_as, put_keeps_id, put_none}
 use Rattle.raft_engine.proofs.engine.Engine.put_entries.Goals as goal
 
@@ -59,5 +59,5 @@ returns g c = λ x own r place step follows placed past l.
     (log_stored x own c.cut_from.new.self _ after cut refl refl refl refl (PutEntries first.log_id.index c.args.entries) (AppendInputEntries c.vote_ref-vote.result.now c.args.entries)
     (cut_keeps_role first.log_id.index r ∙ follows) known c.in_ok-append.ensures.rest
     (order_of_put after.state cut.state.order c.args.entries at_end first.log_id.index ends) (put_keeps_id after.state cut.state.order c.args.entries at_end first.log_id.index ends)
-    h (put_all_as c.args.entries first found) refl tt (sym (c.vote_ref-vote.ensures ∙ known.vote), at_end) refl (λ s upto. refl)))
+    h (put_all_as c.args.entries first found) refl tt (sym (c.vote_ref-vote.ensures ∙ known.vote), at_end, some_within c.args.entries 0 first found) refl (λ s upto. refl)))
     c.push_command.ensures.ok
