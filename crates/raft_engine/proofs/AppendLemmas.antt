@@ -212,7 +212,7 @@ module _ {C R : Type 0} (x : Given) (own : ℕ) (e : Engine C R) (r : StepResult
           numbers = numbers_kept x.last_sm_seq e.output e'.output (AppendInputEntries vote entries) step.numbers output refl;
           moves = moves_kept x.committed_before e.state.state.committed e'.state.state.committed e.output.queue e'.output.queue step.moves (AppendInputEntries vote entries) queue refl rest.committed;
           at_once = at_once_more e.output.queue (AppendInputEntries vote entries) e'.output.queue queue step.at_once tt;
-          rests = rests_stored own x.snapshot (basis_before x) e.output.queue e'.output.queue r.state.stored e.state.state.committed step.rests (AppendInputEntries vote entries) (sym (under ∙ leads_now.vote), subst (ArePlaced (end_place s)) (sym puts) (placed_put payload)) queue e'.state.state.committed (PutEntries (end_place s) (put payload)) (ap put_all puts) refl rest.committed;
+          rests = rests_stored own x.snapshot (basis_before x) e.output.queue e'.output.queue r.state.stored e.state.state.committed step.rests (AppendInputEntries vote entries) (sym (under ∙ leads_now.vote), subst (ArePlaced (end_place s)) (sym puts) (placed_put payload), subst (λ (es : List Entry). 0 < length es) (sym puts) (omega arith)) queue e'.state.state.committed (PutEntries (end_place s) (put payload)) (ap put_all puts) refl rest.committed;
           turns = turns_kept x.turn_before e.output.queue e'.output.queue (is_leader r.state.role) step.turns (AppendInputEntries vote entries) queue refl;
         }
 

@@ -1,8 +1,8 @@
 -- A leader's clock decides nothing of the state that an engine stands for.
-use Rattle.std.specs.Prelude.{◌≡◌, ℕ, Bool, true, false, ◌&&◌, nat_eq, if◌then◌else◌, Option, Some, None, OnOk, Result, Ok, Err, unwrap_or, refl}
+use Rattle.std.specs.Prelude.{◌≡◌, ℕ, Bool, true, false, ◌&&◌, nat_eq, if◌then◌else◌, List, Option, Some, None, IfOk, OnOk, Result, Ok, Err, unwrap_or, refl}
 use Rattle.std.specs.Option.{option_cmp}
 use Rattle.std.specs.Ordering.{nat_cmp}
-use Rattle.std.proofs.Common.{ap, sym, subst, ◌∙◌}
+use Rattle.std.proofs.Common.{ap, inl, inr, sym, subst, ◌∙◌}
 use Rattle.std.proofs.Math.Bool.{true≢false}
 use Rattle.std.proofs.lemmas.Bool.{eqb-true}
 use Rattle.raft_values.specs.LogId.{place_of}
@@ -14,7 +14,8 @@ use Rattle.raft_known_state.specs.KnownState.{Knows}
 use Rattle.raft_leaders.specs.Candidate.{CandidateValue}
 use Rattle.raft_leaders.specs.Leader.{LeaderValue}
 use Rattle.raft_leaders.proofs.PeerLemmas.{somebody_has}
-use Rattle.raft_engine.specs.Clock.{HearsAfter, HearsOf, IsHeardOf, KeepsHeard, heard_after, heard_at, is_later_than_heard}
+use Rattle.raft_engine.specs.Clock.{HasHeardOfNobody, HearsAfter, HearsOf, IsHeardOf, KeepsHeard, KeepsHeardOrBegins, heard_after, heard_at, is_later_than_heard}
+use Rattle.raft_engine.proofs.MemberLemmas.{all_alike, all_with}
 use Rattle.raft_group_step.specs.StoredGroup.{Snapshot}
 use Rattle.raft_group_step.specs.GroupEvent.{GroupEvent}
 use Rattle.raft_group_step.specs.GroupStep.{begun}
@@ -85,6 +86,34 @@ keeps_then a b None h k = tt
 keeps_then a None (Some z) h k = absurd k
 keeps_then None (Some y) (Some z) h k = absurd h
 keeps_then (Some x) (Some y) (Some z) h k = λ n. k n ∙ h n
+
+-- whoever has heard of nobody, and leads on as before, still has
+pub nobody_then : (b c : Option LeaderOf) → HasHeardOfNobody b → KeepsHeard b c → HasHeardOfNobody c
+nobody_then b None h k = tt
+nobody_then None (Some z) h k = absurd k
+nobody_then (Some y) (Some z) h k = λ n. k n ∙ h n
+
+pub begins_then : (a b c : Option LeaderOf) → KeepsHeardOrBegins a b → KeepsHeard b c → KeepsHeardOrBegins a c
+begins_then a b c (inl h) k = inl (keeps_then a b c h k)
+begins_then a b c (inr h) k = inr (nobody_then b c h k)
+
+-- where nobody led, whoever leads has heard of nobody
+keeps_unled : (b : Option LeaderOf) → KeepsHeard None b → HasHeardOfNobody b
+keeps_unled None h = tt
+keeps_unled (Some l) h = absurd h
+
+begins_unled : (b : Option LeaderOf) → KeepsHeardOrBegins None b → HasHeardOfNobody b
+begins_unled b (inl h) = keeps_unled b h
+begins_unled b (inr h) = h
+
+pub begins_where_none : (a b : Option LeaderOf) → a ≡ None → KeepsHeardOrBegins a b → HasHeardOfNobody b
+begins_where_none a b none h = begins_unled b (subst (λ o. KeepsHeardOrBegins o b) none h)
+
+-- a leader that was made with no moment for anybody
+pub made_unheard : {E : Type 0} (made : Result LeaderOf E) (voters learners : List ℕ) → IfOk made (λ l. l.clock_progress.voters ≡ all_with None voters) → IfOk made (λ l. l.clock_progress.learners ≡ all_with None learners)
+    → IfOk made (λ l. HasHeardOfNobody (Some l))
+made_unheard (Ok l) voters learners v w = λ n. all_alike None l.clock_progress voters learners v w n
+made_unheard (Err e) voters learners v w = tt
 
 pub hears_then : (peer : ℕ) (time : Option ℕ) (a b c : Option LeaderOf) → HearsAfter peer time a b → KeepsHeard b c → HearsAfter peer time a c
 hears_then peer time a b None h k = tt

@@ -1,5 +1,5 @@
 -- When a leader's peers were last heard of.
-use Rattle.std.specs.Prelude.{◌≡◌, ℕ, Bool, true, false, ◌&&◌, nat_eq, if◌then◌else◌, Option, Some, None, unwrap_or}
+use Rattle.std.specs.Prelude.{◌≡◌, ◌⊎◌, ℕ, Bool, true, false, ◌&&◌, nat_eq, if◌then◌else◌, Option, Some, None, unwrap_or}
 use Rattle.std.specs.Option.{option_cmp}
 use Rattle.std.specs.Ordering.{nat_cmp}
 use Rattle.raft_progress.specs.Granted.{IsGranted}
@@ -71,3 +71,12 @@ abbrev pub KeepsHeard : Option (LeaderValue ℕ EffectiveMembership) → Option 
 KeepsHeard old None = Unit {0}
 KeepsHeard None (Some l) = ⊥
 KeepsHeard (Some l) (Some l') = (n : ℕ) → heard_at l' n ≡ heard_at l n
+
+-- whoever leads has heard of nobody
+abbrev pub HasHeardOfNobody : Option (LeaderValue ℕ EffectiveMembership) → Type 0
+HasHeardOfNobody None = Unit {0}
+HasHeardOfNobody (Some l) = (n : ℕ) → heard_at l n ≡ None
+
+-- whoever leads on has heard of each node when it had before, and a lead that begins has heard of nobody
+abbrev pub KeepsHeardOrBegins : Option (LeaderValue ℕ EffectiveMembership) → Option (LeaderValue ℕ EffectiveMembership) → Type 0
+KeepsHeardOrBegins old new = KeepsHeard old new ⊎ HasHeardOfNobody new

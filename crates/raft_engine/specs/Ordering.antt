@@ -1,5 +1,5 @@
 -- What each command of a queue rests on: the commands before it have stored and committed it.
-use Rattle.std.specs.Prelude.{◌≡◌, ◌<◌, ◌≤◌, ℕ, false, true, List, [], ◌∷◌, Option, Some, None}
+use Rattle.std.specs.Prelude.{◌≡◌, ◌<◌, ◌≤◌, ℕ, false, true, List, [], ◌∷◌, length, Option, Some, None}
 use Rattle.raft_values.specs.declared.vote.Vote.{Vote}
 use Rattle.raft_values.specs.declared.log_id.LogId.{LogId}
 use Rattle.raft_values.specs.LogId.{next_place, place_of}
@@ -27,9 +27,9 @@ pub record Basis : Type 0 where
   pub stored : StoredGroup
   pub committed : Option (LogId ℕ)
 
--- the log goes as far as the request's entries, or its snapshot is the stored one
+-- the log goes as far as the request's entries, or its snapshot is the stored one; a request of nothing is never sent
 abbrev pub IsStoredRequest : StoredGroup → Inflight ℕ → Type 0
-IsStoredRequest s Nothing = Unit {0}
+IsStoredRequest s Nothing = ⊥
 IsStoredRequest s (Logs id range) = next_place range.last ≤ end_place s
 IsStoredRequest s (SnapshotInFlight id last) = last ≡ snapshot_last s
 
@@ -60,21 +60,21 @@ module _ {C R : Type 0} where
   AnswerRestsOn b (ToSnapshot s) = InstallRestsOn b s.tx s.value.vote
   AnswerRestsOn b (ToInitialize s) = ⊥
 
-  -- a snapshot that is installed is told as it is, with its members
+  -- a snapshot that is installed is told as it is, with its members; none is fetched, or taken in parts
   abbrev pub InstallsAs : Snapshot → CommandPayload C (List ℕ) R ℕ (List ℕ) → Type 0
   InstallsAs x BuildSnapshot = Unit {0}
-  InstallsAs x (GetSnapshot tx) = Unit {0}
-  InstallsAs x (BeginReceivingSnapshot tx) = Unit {0}
+  InstallsAs x (GetSnapshot tx) = ⊥
+  InstallsAs x (BeginReceivingSnapshot tx) = ⊥
   InstallsAs x (InstallFullSnapshot meta) = meta ≡ meta_of (Some x)
   InstallsAs x (Apply entries) = Unit {0}
 
-  -- what a command rests on: the vote in force, the log, the snapshot, and what is committed, at its place of the queue. Entries
-  -- stand behind the log, a cut at an entry behind what is committed, and a lead and its requests behind the vote that is the node's
+  -- what a command rests on: the vote in force, the log, the snapshot, and what is committed, at its place of the queue. Entries,
+  -- at least one, stand behind the log, a cut at an entry behind what is committed, and a lead and its requests behind the vote that is the node's
   -- own and committed
   abbrev pub RestsOn : ℕ → Snapshot → Basis → Command C R → Type 0
   RestsOn own x b BecomeLeader = (b.stored.vote.leader_id.node_id ≡ own) × (b.stored.vote.committed ≡ true)
   RestsOn own x b QuitLeader = Unit {0}
-  RestsOn own x b (AppendInputEntries vote entries) = (b.stored.vote ≡ vote) × ArePlaced (end_place b.stored) entries
+  RestsOn own x b (AppendInputEntries vote entries) = (b.stored.vote ≡ vote) × ArePlaced (end_place b.stored) entries × (0 < length entries)
   RestsOn own x b (ReplicateCommitted target vote matching committed) = (b.stored.vote ≡ vote) × (b.committed ≡ committed)
   RestsOn own x b (Commit seq behind upto) = has_id_in_log b.stored upto ≡ true
   RestsOn own x b (Replicate target request) = (b.stored.vote.leader_id.node_id ≡ own) × (b.stored.vote.committed ≡ true) × IsStoredRequest b.stored request

@@ -10,6 +10,7 @@ ghost use Rattle.raft_group_step.specs.Refusal.{refusal_of};
 ghost use Rattle.raft_known_state.specs.KnownState.{meta_of};
 ghost use Rattle.raft_engine.specs.Building.{IsSnapshotOfApplied, asking, covered_id, is_building, with_building};
 ghost use Rattle.raft_engine.specs.declared.error.CallError.TheVariants.{NotBuilding as IsNotBuilding};
+ghost use Rattle.raft_engine.specs.Clock.{KeepsHeard};
 ghost use Rattle.raft_engine.specs.Events.{HasTaken, IsReady, MayTake};
 ghost use Rattle.raft_engine.specs.Standing.{IsStateOf};
 
@@ -25,6 +26,7 @@ impl<C: RaftTypeConfig<NodeId = u64, Node = BasicNode, D = Bytes>> Engine<C> {
     /// Not where one is being built, nor where the last one has all that is applied: then the event
     /// is over.
     pub fn trigger_snapshot(&mut self) -> Result<bool, AllocError>
+        ensures heard { OnOk result (KeepsHeard self.old.leader self.new.leader) }
         ensures busy { is_building self.old ≡ true → (result ≡ Ok false) × (self.new ≡ self.old) }
         ensures none_new { (x : Snapshot) (own at : ℕ) (s : GroupState) → MayTake own self.old s (Call TriggerSnapshot at) → is_building self.old ≡ false
             → stands_before (covered_id self.old) self.old.state.state.committed ≡ false
@@ -48,6 +50,7 @@ impl<C: RaftTypeConfig<NodeId = u64, Node = BasicNode, D = Bytes>> Engine<C> {
         &mut self,
         meta: SnapshotMeta<u64, BasicNode>,
     ) -> Result<Result<(), CallError>, AllocError>
+        ensures heard { OnOk result (KeepsHeard self.old.leader self.new.leader) }
         ensures which { IfOk result (λ answer. is_ok answer ≡ is_building self.old) }
         ensures unasked { is_building self.old ≡ false → (result ≡ Ok (Err IsNotBuilding)) × (self.new ≡ self.old) }
         ensures built { (own at : ℕ) (before : _) (s : GroupState) (x : Snapshot) → self.old ≡ asking before → before.output.queue ≡ [] → IsStateOf own self.old s → IsReady own s

@@ -16,7 +16,7 @@ ghost use Rattle.raft_group_step.specs.Lead.{purge_as_wished};
 ghost use Rattle.raft_group_step.specs.GroupStep.{finished};
 ghost use Rattle.raft_group_step.specs.Opening.{resume_lead};
 ghost use Rattle.raft_known_state.specs.KnownState.{meta_of};
-ghost use Rattle.raft_engine.specs.Clock.{HearsAfter, KeepsHeard, moment_shown};
+ghost use Rattle.raft_engine.specs.Clock.{HasHeardOfNobody, HearsAfter, KeepsHeard, KeepsHeardOrBegins, moment_shown};
 ghost use Rattle.raft_engine.specs.Events.{HasTaken, IsReady, MayTake, received};
 ghost use Rattle.raft_engine.specs.Following.{SpellsAppend, SpellsAppendReply, SpellsSnapshotReply, follow_one_another};
 ghost use Rattle.raft_engine.specs.Forwarding.{forward_of};
@@ -39,7 +39,8 @@ impl<C: RaftTypeConfig<NodeId = u64, Node = BasicNode, D = Bytes>> Engine<C> {
     /// The node starts with what it has stored (openraft): it leads on under a committed vote of
     /// its own, and else follows.
     pub fn startup(&mut self) -> Result<(), AllocError>
-        ensures { (x : Snapshot) (own : ℕ) (s : GroupState) → IsStateOf own self.old s → self.old.output.queue ≡ [] → IsReady own s → s.role ≡ Follower
+        ensures heard { OnOk result (KeepsHeardOrBegins self.old.leader self.new.leader) }
+        ensures started { (x : Snapshot) (own : ℕ) (s : GroupState) → IsStateOf own self.old s → self.old.output.queue ≡ [] → IsReady own s → s.role ≡ Follower
             → OnOk result (IsWholeStepOf (given_at_start x self.old s) own self.new (finished own None (resume_lead own (unchanged s)))) }
     {
         self.resume_lead()?;
@@ -54,6 +55,7 @@ impl<C: RaftTypeConfig<NodeId = u64, Node = BasicNode, D = Bytes>> Engine<C> {
         membership: Membership<u64, BasicNode>,
         now: u64,
     ) -> Result<Result<(), InitializeError<u64, BasicNode>>, AllocError>
+        ensures heard { OnOk result (KeepsHeardOrBegins self.old.leader self.new.leader) }
         ensures refused_old { (own : ℕ) (s : GroupState) → IsStateOf own self.old s → is_new s.stored ≡ false
             → (result ≡ Ok (Err (IsNotAllowed (record { last_log_id = last_stored_id s.stored; vote = s.stored.vote })))) × (self.new ≡ self.old) }
         ensures refused_stranger { (own : ℕ) (s : GroupState) → IsStateOf own self.old s → is_new s.stored ≡ true → is_voter membership own ≡ false
@@ -84,7 +86,8 @@ impl<C: RaftTypeConfig<NodeId = u64, Node = BasicNode, D = Bytes>> Engine<C> {
     /// The node stands for election at this moment, in ticks (openraft). It leads at once where
     /// its own grant is a quorum.
     pub fn elect(&mut self, now: u64) -> Result<(), AllocError>
-        ensures { (x : Snapshot) (own at : ℕ) (s : GroupState) → now ≡ max s.now at → MayTake own self.old s (Call Elect at)
+        ensures heard { OnOk result (HasHeardOfNobody self.new.leader) }
+        ensures taken { (x : Snapshot) (own at : ℕ) (s : GroupState) → now ≡ max s.now at → MayTake own self.old s (Call Elect at)
             → OnOk result (HasTaken x own self.old self.new s (Call Elect at)) }
     {
         let before = self.state.state.committed;
@@ -100,7 +103,8 @@ impl<C: RaftTypeConfig<NodeId = u64, Node = BasicNode, D = Bytes>> Engine<C> {
         tx: Caller<u64>,
         now: u64,
     ) -> Result<(), AllocError>
-        ensures { (x : Snapshot) (own at : ℕ) (s : GroupState) → now ≡ max s.now at
+        ensures heard { OnOk result (KeepsHeard self.old.leader self.new.leader) }
+        ensures taken { (x : Snapshot) (own at : ℕ) (s : GroupState) → now ≡ max s.now at
             → MayTake own self.old s (received own tx.peer (AsksForVote req.now.vote req.now.last_log_id) at)
             → OnOk result (HasTaken x own self.old self.new s (received own tx.peer (AsksForVote req.now.vote req.now.last_log_id) at)) }
     {
@@ -118,7 +122,9 @@ impl<C: RaftTypeConfig<NodeId = u64, Node = BasicNode, D = Bytes>> Engine<C> {
         resp: &VoteResponse<u64>,
         now: u64,
     ) -> Result<(), AllocError>
-        ensures { (x : Snapshot) (own at : ℕ) (s : GroupState) → now ≡ max s.now at
+        ensures leads_on { self.old.candidate ≡ None → OnOk result (KeepsHeard self.old.leader self.new.leader) }
+        ensures heard { OnOk result (KeepsHeardOrBegins self.old.leader self.new.leader) }
+        ensures taken { (x : Snapshot) (own at : ℕ) (s : GroupState) → now ≡ max s.now at
             → MayTake own self.old s (received own target (VoteReply resp.now.vote resp.now.vote_granted resp.now.last_log_id) at)
             → OnOk result (HasTaken x own self.old self.new s (received own target (VoteReply resp.now.vote resp.now.vote_granted resp.now.last_log_id) at)) }
     {
@@ -141,6 +147,7 @@ impl<C: RaftTypeConfig<NodeId = u64, Node = BasicNode, D = Bytes>> Engine<C> {
         tx: Caller<u64>,
         now: u64,
     ) -> Result<Result<(), CallError>, AllocError>
+        ensures heard { OnOk result (KeepsHeard self.old.leader self.new.leader) }
         ensures which { IfOk result (λ answer. is_ok answer ≡ follow_one_another req.prev_log_id req.entries) }
         ensures gap { follow_one_another req.prev_log_id req.entries ≡ false → (result ≡ Ok (Err HasGap)) × (self.new ≡ self.old) }
         ensures taken { (x : Snapshot) (own at : ℕ) (s : GroupState) (m : AppendFields) → now ≡ max s.now at
@@ -166,7 +173,8 @@ impl<C: RaftTypeConfig<NodeId = u64, Node = BasicNode, D = Bytes>> Engine<C> {
         now: u64,
     ) -> Result<(), AllocError>
         requires { next_place meta.last_log_id < 2 ^ 64 }
-        ensures { (x : Snapshot) (own at id : ℕ) (s : GroupState) → now ≡ max s.now at
+        ensures heard { OnOk result (KeepsHeard self.old.leader self.new.leader) }
+        ensures taken { (x : Snapshot) (own at id : ℕ) (s : GroupState) → now ≡ max s.now at
             → meta ≡ meta_of (Some x) → tx.vote ≡ vote → SpellsSnapshotReply tx id x → MayTake own self.old s (received own tx.peer (SnapshotRequest vote id x) at)
             → OnOk result (HasTaken x own self.old self.new s (received own tx.peer (SnapshotRequest vote id x) at)) }
     {

@@ -11,6 +11,7 @@ ghost use Rattle.raft_group_step.specs.Elect.{ask, elect_step, stand};
 ghost use Rattle.raft_group_step.specs.Initialize.{initialize_step, is_new};
 ghost use Rattle.raft_group_step.specs.VoteReply.{vote_reply_step};
 ghost use Rattle.raft_engine.specs.Standing.{Given, IsStateOf, IsStepOf, Stands};
+ghost use Rattle.raft_engine.specs.Clock.{HasHeardOfNobody, KeepsHeard, KeepsHeardOrBegins};
 ghost use Rattle.raft_engine.specs.Events.{tells_greater_log};
 ghost use Rattle.raft_engine.specs.declared.error.CallError.TheVariants.{NotStanding as StandsNot};
 
@@ -53,7 +54,8 @@ impl<'x, C: RaftTypeConfig<NodeId = u64, Node = BasicNode, D = Bytes>> Establish
 impl<C: RaftTypeConfig<NodeId = u64, Node = BasicNode, D = Bytes>> Engine<C> {
     // Each of these voters is asked for its vote.
     fn ask(&mut self, voters: &[u64], vote_req: VoteRequest<u64>) -> Result<(), AllocError>
-        ensures { (x : Given) (own : _) (r : StepResult) → IsStepOf x own self.old r → r.state.stored.vote ≡ vote_req.vote
+        ensures leader { OnOk result (self.new.leader ≡ self.old.leader) }
+        ensures step { (x : Given) (own : _) (r : StepResult) → IsStepOf x own self.old r → r.state.stored.vote ≡ vote_req.vote
             → last_id r.state.stored ≡ vote_req.last_log_id → OnOk result (IsStepOf x own self.new (ask own voters.now r)) }
     {
         for target in voters {
@@ -93,7 +95,9 @@ impl<C: RaftTypeConfig<NodeId = u64, Node = BasicNode, D = Bytes>> Engine<C> {
     // A candidate notes that this node has granted its vote. Once a quorum has of those who are the
     // voters now, it leads.
     pub(crate) fn with_grant(&mut self, n: u64, now: u64) -> Result<(), AllocError>
-        ensures { (x : Given) (own : _) (r : StepResult) → IsStepOf x own self.old r → r.state.now ≡ now
+        ensures leads_on { self.old.candidate ≡ None → OnOk result (KeepsHeard self.old.leader self.new.leader) }
+        ensures heard { OnOk result (KeepsHeardOrBegins self.old.leader self.new.leader) }
+        ensures step { (x : Given) (own : _) (r : StepResult) → IsStepOf x own self.old r → r.state.now ≡ now
             → (is_candidate r.state.role ≡ true → end_place r.state.stored < 2 ^ 63)
             → OnOk result (IsStepOf x own self.new (with_grant n r.state.role r)) }
     {
@@ -110,7 +114,8 @@ impl<C: RaftTypeConfig<NodeId = u64, Node = BasicNode, D = Bytes>> Engine<C> {
 
     // The node votes for itself in the next term, and asks the other voters.
     fn stand(&mut self, now: u64) -> Result<(), AllocError>
-        ensures { (x : Given) (own : _) (r : StepResult) → IsStepOf x own self.old r → r.state.now ≡ now
+        ensures ends { OnOk result (self.new.leader ≡ None) }
+        ensures step { (x : Given) (own : _) (r : StepResult) → IsStepOf x own self.old r → r.state.now ≡ now
             → r.state.stored.vote.leader_id.term + 1 < 2 ^ 64
             → OnOk result (IsStepOf x own self.new (in_role (Standing (own ∷ [])) (stand own r))) }
     {
@@ -128,7 +133,8 @@ impl<C: RaftTypeConfig<NodeId = u64, Node = BasicNode, D = Bytes>> Engine<C> {
 
     // The node stands for election. It leads at once where its own grant is a quorum.
     pub(crate) fn elect_part(&mut self, now: u64) -> Result<(), AllocError>
-        ensures { (x : Given) (own : _) (r : StepResult) → IsStepOf x own self.old r → r.state.now ≡ now
+        ensures heard { OnOk result (HasHeardOfNobody self.new.leader) }
+        ensures step { (x : Given) (own : _) (r : StepResult) → IsStepOf x own self.old r → r.state.now ≡ now
             → r.state.stored.vote.leader_id.term + 1 < 2 ^ 64 → end_place r.state.stored < 2 ^ 63
             → OnOk result (IsStepOf x own self.new (elect_step own r)) }
     {
@@ -153,14 +159,16 @@ impl<C: RaftTypeConfig<NodeId = u64, Node = BasicNode, D = Bytes>> Engine<C> {
         resp: &VoteResponse<u64>,
         now: u64,
     ) -> Result<(), AllocError>
-        ensures { (x : Given) (own : _) (r : StepResult) → IsStepOf x own self.old r → r.state.now ≡ now
+        ensures leads_on { self.old.candidate ≡ None → OnOk result (KeepsHeard self.old.leader self.new.leader) }
+        ensures heard { OnOk result (KeepsHeardOrBegins self.old.leader self.new.leader) }
+        ensures step { (x : Given) (own : _) (r : StepResult) → IsStepOf x own self.old r → r.state.now ≡ now
             → (is_candidate r.state.role ≡ true → end_place r.state.stored < 2 ^ 63)
             → OnOk result (IsStepOf x own self.new (vote_reply_step peer resp.now.vote resp.now.vote_granted r)) }
     {
         if resp.vote_granted && resp.vote == *self.state.state.vote_ref() {
             return self.with_grant(peer, now);
         }
-        self.vote_handler().update_greater_vote(resp.vote, now)
+        self.take_over_greater(resp.vote, now)
     }
 
     // The group is set up: its membership is the first entry, and the node stands for election.
@@ -169,7 +177,8 @@ impl<C: RaftTypeConfig<NodeId = u64, Node = BasicNode, D = Bytes>> Engine<C> {
         membership: Membership<u64, BasicNode>,
         now: u64,
     ) -> Result<(), AllocError>
-        ensures { (x : Given) (own : _) (r : StepResult) → IsStepOf x own self.old r → r.state.now ≡ now
+        ensures heard { OnOk result (HasHeardOfNobody self.new.leader) }
+        ensures step { (x : Given) (own : _) (r : StepResult) → IsStepOf x own self.old r → r.state.now ≡ now
             → is_new r.state.stored ≡ true
             → OnOk result (IsStepOf x own self.new (initialize_step own membership r)) }
     {

@@ -10,6 +10,7 @@ ghost use Rattle.raft_group_step.specs.Refusal.{do_follow};
 ghost use Rattle.raft_group_step.specs.SnapshotRequest.{install_unless};
 ghost use Rattle.raft_known_state.specs.KnownState.{ArePlaced, IsPlaced, Knows, meta_of};
 ghost use Rattle.raft_messages.specs.Messages.{outcome_of};
+ghost use Rattle.raft_engine.specs.Clock.{KeepsHeard};
 ghost use Rattle.raft_engine.specs.Numbering.{KeepsNumbers, NumbersRise};
 ghost use Rattle.raft_engine.specs.Standing.{Given, IsStateOf, IsStepOf, basis_of};
 ghost use Rattle.raft_engine.specs.Ordering.{OutcomeRestsOn};
@@ -259,6 +260,7 @@ impl<C: RaftTypeConfig<NodeId = u64, Node = BasicNode, D = Bytes>> Engine<C> {
 
     // The log is shortened from the place on, where it has an entry there.
     pub(crate) fn cut_from(&mut self, place: u64) -> Result<(), AllocError>
+        ensures leader { self.new.leader ≡ self.old.leader }
         ensures numbers { OnOk result (KeepsNumbers self.old.output self.new.output) }
         ensures step { (x : Given) (own : _) (r : StepResult) → IsStepOf x own self.old r → r.state.role ≡ Follower
             → is_within place r.state.committed ≡ false → OnOk result (IsStepOf x own self.new (cut_from place r)) }
@@ -273,7 +275,8 @@ impl<C: RaftTypeConfig<NodeId = u64, Node = BasicNode, D = Bytes>> Engine<C> {
 
     // The log is shortened from this log id on, where it has an entry at its place.
     fn cut_at(&mut self, previous: Option<LogId<u64>>) -> Result<(), AllocError>
-        ensures { (x : Given) (own : _) (r : StepResult) → IsStepOf x own self.old r → r.state.role ≡ Follower
+        ensures leader { self.new.leader ≡ self.old.leader }
+        ensures step { (x : Given) (own : _) (r : StepResult) → IsStepOf x own self.old r → r.state.role ≡ Follower
             → is_held r.state.stored r.state.committed previous ≡ false → OnOk result (IsStepOf x own self.new (cut_at previous r)) }
     {
         match previous {
@@ -288,7 +291,8 @@ impl<C: RaftTypeConfig<NodeId = u64, Node = BasicNode, D = Bytes>> Engine<C> {
         &mut self,
         entries: Entries<u64, BasicNode, Bytes>,
     ) -> Result<(), AllocError>
-        ensures { (x : Given) (own : _) (r : StepResult) (place : ℕ) → IsStepOf x own self.old r → r.state.role ≡ Follower
+        ensures leader { self.new.leader ≡ self.old.leader }
+        ensures step { (x : Given) (own : _) (r : StepResult) (place : ℕ) → IsStepOf x own self.old r → r.state.role ≡ Follower
             → ArePlaced place entries → is_within place r.state.committed ≡ false → place ≤ end_place r.state.stored
             → OnOk result (IsStepOf x own self.new (put_entries entries r)) }
     {
@@ -308,7 +312,8 @@ impl<C: RaftTypeConfig<NodeId = u64, Node = BasicNode, D = Bytes>> Engine<C> {
 
     // The entries from the first one on that the log doesn't have are appended.
     fn put_missing(&mut self, entries: Entries<u64, BasicNode, Bytes>) -> Result<(), AllocError>
-        ensures { (x : Given) (own : _) (r : StepResult) (vote : _) (previous : _) → IsStepOf x own self.old r → r.state.role ≡ Follower
+        ensures leader { self.new.leader ≡ self.old.leader }
+        ensures step { (x : Given) (own : _) (r : StepResult) (vote : _) (previous : _) → IsStepOf x own self.old r → r.state.role ≡ Follower
             → do_follow vote previous entries ≡ true → is_held r.state.stored r.state.committed previous ≡ true
             → OnOk result (IsStepOf x own self.new (put_entries (missing_entries r.state.stored (above_committed r.state.committed entries)) r)) }
     {
@@ -324,7 +329,8 @@ impl<C: RaftTypeConfig<NodeId = u64, Node = BasicNode, D = Bytes>> Engine<C> {
         resp: AppendEntriesResponse<u64>,
         tx: Caller<u64>,
     ) -> Result<(), AllocError>
-        ensures { (x : Given) (own : _) (r : StepResult) (m : AppendFields) → IsStepOf x own self.old r → SpellsAppendReply tx m → OutcomeRestsOn (basis_of self.old r.state) tx resp
+        ensures leader { self.new.leader ≡ self.old.leader }
+        ensures step { (x : Given) (own : _) (r : StepResult) (m : AppendFields) → IsStepOf x own self.old r → SpellsAppendReply tx m → OutcomeRestsOn (basis_of self.old r.state) tx resp
             → OnOk result (IsStepOf x own self.new (reply_append own tx.peer m (outcome_of resp) r)) }
     {
         let resp = Respond::AppendEntries(ValueSender::new(resp, tx));
@@ -338,7 +344,8 @@ impl<C: RaftTypeConfig<NodeId = u64, Node = BasicNode, D = Bytes>> Engine<C> {
         req: AppendEntriesRequest<u64, BasicNode, Bytes>,
         tx: Caller<u64>,
     ) -> Result<(), AllocError>
-        ensures { (x : Given) (own : _) (r : StepResult) (m : AppendFields) → IsStepOf x own self.old r → r.state.role ≡ Follower
+        ensures leader { self.new.leader ≡ self.old.leader }
+        ensures step { (x : Given) (own : _) (r : StepResult) (m : AppendFields) → IsStepOf x own self.old r → r.state.role ≡ Follower
             → r.state.stored.vote ≡ m.vote → SpellsAppend req m → SpellsAppendReply tx m → do_follow m.vote m.previous m.entries ≡ true
             → OnOk result (IsStepOf x own self.new (joined own tx.peer m (is_held r.state.stored r.state.committed m.previous) r)) }
     {
@@ -359,7 +366,8 @@ impl<C: RaftTypeConfig<NodeId = u64, Node = BasicNode, D = Bytes>> Engine<C> {
         tx: Caller<u64>,
         now: u64,
     ) -> Result<(), AllocError>
-        ensures { (x : Given) (own : _) (r : StepResult) (m : AppendFields) → IsStepOf x own self.old r → r.state.now ≡ now
+        ensures heard { OnOk result (KeepsHeard self.old.leader self.new.leader) }
+        ensures step { (x : Given) (own : _) (r : StepResult) (m : AppendFields) → IsStepOf x own self.old r → r.state.now ≡ now
             → SpellsAppend req m → SpellsAppendReply tx m → IsVoteOfAnother own m.vote → do_follow m.vote m.previous m.entries ≡ true
             → OnOk result (IsStepOf x own self.new (append_request_step own tx.peer m r)) }
     {

@@ -16,7 +16,7 @@ ghost use Rattle.raft_known_state.specs.KnownState.{IsPlaced, Knows, effective_o
 ghost use Rattle.raft_leaders.specs.Leader.{id_of_leader, peer_at};
 ghost use Rattle.raft_engine.specs.Standing.{Given, IsStepOf, Leads};
 ghost use Rattle.raft_engine.specs.Turns.{MayLead};
-ghost use Rattle.raft_engine.specs.Clock.{KeepsHeard, heard_at};
+ghost use Rattle.raft_engine.specs.Clock.{HasHeardOfNobody, KeepsHeard, KeepsHeardOrBegins, heard_at};
 ghost use Rattle.raft_engine.specs.Leading.{CountsOn, KnowsMembers, leads_by};
 ghost use Rattle.std.specs.Prelude.{nat_eq};
 ghost use Rattle.std.specs.Option.{option_copied};
@@ -153,7 +153,8 @@ impl<C: RaftTypeConfig<NodeId = u64, Node = BasicNode, D = Bytes>> Engine<C> {
         vote: Vote<u64>,
     ) -> Result<Leader<u64, EffectiveMembership<u64, BasicNode>>, AllocError>
         requires { next_place (last_id self.now.state.state.log_ids) < 2 ^ 63 }
-        ensures { (own : _) (s : StoredGroup) → Knows self.now.state s → IsPlaced s → vote.leader_id.node_id ≡ own → vote.committed ≡ true
+        ensures heard { IfOk result (λ l. HasHeardOfNobody (Some l)) }
+        ensures leads { (own : _) (s : StoredGroup) → Knows self.now.state s → IsPlaced s → vote.leader_id.node_id ≡ own → vote.committed ≡ true
             → IfOk result (λ l. Leads own l (record s { vote = vote }) (new_lead s)) }
     {
         let membership = self.state.effective_membership().clone()?;
@@ -210,7 +211,8 @@ impl<C: RaftTypeConfig<NodeId = u64, Node = BasicNode, D = Bytes>> Engine<C> {
     // A blank entry goes behind the log, unless the leader has written one already.
     fn append_blank(&mut self) -> Result<(), AllocError>
         requires { next_place (last_id self.old.state.state.log_ids) < 2 ^ 63 }
-        ensures { (x : Given) (own : _) (r : StepResult) (lead : Lead) → IsStepOf x own self.old r → r.state.role ≡ Leading lead
+        ensures heard { OnOk result (KeepsHeard self.old.leader self.new.leader) }
+        ensures step { (x : Given) (own : _) (r : StepResult) (lead : Lead) → IsStepOf x own self.old r → r.state.role ≡ Leading lead
             → OnOk result (IsStepOf x own self.new (append_blank r)) }
     {
         if self.has_written() {
@@ -222,7 +224,8 @@ impl<C: RaftTypeConfig<NodeId = u64, Node = BasicNode, D = Bytes>> Engine<C> {
     // A quorum has granted the candidate's vote: it leads, and writes a blank entry.
     pub(crate) fn begin_lead(&mut self, now: u64) -> Result<(), AllocError>
         requires { next_place (last_id self.old.state.state.log_ids) < 2 ^ 63 }
-        ensures { (x : Given) (own : _) (r : StepResult) (granters : List ℕ) → IsStepOf x own self.old r → r.state.role ≡ Standing granters → r.state.now ≡ now
+        ensures heard { OnOk result (HasHeardOfNobody self.new.leader) }
+        ensures step { (x : Given) (own : _) (r : StepResult) (granters : List ℕ) → IsStepOf x own self.old r → r.state.role ≡ Standing granters → r.state.now ≡ now
             → OnOk result (IsStepOf x own self.new (begin_lead r)) }
     {
         let mut vote = *self.state.state.vote_ref();
@@ -238,7 +241,8 @@ impl<C: RaftTypeConfig<NodeId = u64, Node = BasicNode, D = Bytes>> Engine<C> {
 
     // The node leads on under a committed vote of its own, and writes nothing.
     pub(crate) fn resume_lead(&mut self) -> Result<(), AllocError>
-        ensures { (x : Given) (own : _) (r : StepResult) → IsStepOf x own self.old r → self.old.output.queue ≡ [] → x.turn_before ≡ MayLead → r.state.role ≡ Following
+        ensures heard { OnOk result (KeepsHeardOrBegins self.old.leader self.new.leader) }
+        ensures step { (x : Given) (own : _) (r : StepResult) → IsStepOf x own self.old r → self.old.output.queue ≡ [] → x.turn_before ≡ MayLead → r.state.role ≡ Following
             → end_place r.state.stored < 2 ^ 63
             → OnOk result (IsStepOf x own self.new (resume_lead own r)) }
     {

@@ -5,6 +5,7 @@ ghost use Rattle.raft_group_step.specs.GroupState.{GroupState};
 ghost use Rattle.raft_group_step.specs.GroupStep.{finished};
 ghost use Rattle.raft_group_step.specs.Opening.{resume_lead};
 ghost use Rattle.raft_group_step.specs.StepResult.{unchanged};
+ghost use Rattle.raft_engine.specs.Clock.{HasHeardOfNobody};
 ghost use Rattle.raft_engine.specs.Opening.{OpensAs, given_at_opening};
 ghost use Rattle.raft_engine.specs.Standing.{IsWholeStepOf};
 
@@ -25,7 +26,8 @@ impl<C: RaftTypeConfig<NodeId = u64, Node = BasicNode, D = Bytes>> Engine<C> {
         known: KnownState<u64, BasicNode>,
         id: u64,
     ) -> Result<Engine<C>, AllocError>
-        ensures { (x : Snapshot) (s : GroupState) → OpensAs id known s
+        ensures heard { IfOk result (λ e. HasHeardOfNobody e.leader) }
+        ensures opened { (x : Snapshot) (s : GroupState) → OpensAs id known s
             → IfOk result (λ e. IsWholeStepOf (given_at_opening x s) id e (finished id None (resume_lead id (unchanged s)))) }
     {
         let covered = known.state.snapshot_meta.last_log_id;

@@ -7,6 +7,7 @@ ghost use Rattle.raft_group_step.specs.StepResult.{StepResult, apply_up_to, is_w
 ghost use Rattle.raft_group_step.specs.SnapshotRequest.{cut_other, install_unless, reply_snapshot, snapshot_request_step};
 ghost use Rattle.raft_known_state.specs.KnownState.{IsEntryOrPast, KeepsRest, Knows, meta_of};
 ghost use Rattle.raft_engine.specs.Building.{asking, covered_id, is_building};
+ghost use Rattle.raft_engine.specs.Clock.{KeepsHeard};
 ghost use Rattle.raft_engine.specs.Commands.{snapshot_result};
 ghost use Rattle.raft_engine.specs.Numbering.{GainsNumber, KeepsNumbers, NumbersRise};
 ghost use Rattle.raft_engine.specs.Standing.{Given, IsStepOf, basis_of};
@@ -33,6 +34,7 @@ impl<'x, C: RaftTypeConfig<NodeId = u64, Node = BasicNode, D = Bytes>> SnapshotH
     /// being built, nor where the last one has all that is applied. Says whether it is to.
     pub fn trigger_snapshot(&mut self) -> Result<bool, AllocError>
         ensures same_engine { self.new.engine.ghost_name ≡ self.old.engine.ghost_name }
+        ensures leader { self.new.engine.now.leader ≡ self.old.engine.now.leader }
         ensures busy { is_building self.old.engine.now ≡ true → (result ≡ Ok false) × (self.new.engine.now ≡ self.old.engine.now) }
         ensures none_new { stands_before (covered_id self.old.engine.now) self.old.engine.now.state.state.committed ≡ false
             → (result ≡ Ok false) × (self.new.engine.now ≡ self.old.engine.now) }
@@ -82,6 +84,7 @@ impl<C: RaftTypeConfig<NodeId = u64, Node = BasicNode, D = Bytes>> Engine<C> {
     // Where another entry stands at the snapshot's place, what isn't committed goes.
     fn cut_other(&mut self, last: LogId<u64>) -> Result<(), AllocError>
         requires { last.index + 1 < 2 ^ 64 }
+        ensures leader { self.new.leader ≡ self.old.leader }
         ensures numbers { OnOk result (KeepsNumbers self.old.output self.new.output) }
         ensures step { (x : Given) (own : _) (r : StepResult) → IsStepOf x own self.old r → r.state.role ≡ Follower
             → is_within last.index r.state.committed ≡ false → OnOk result (IsStepOf x own self.new (cut_other last r)) }
@@ -102,6 +105,7 @@ impl<C: RaftTypeConfig<NodeId = u64, Node = BasicNode, D = Bytes>> Engine<C> {
         last: LogId<u64>,
     ) -> Result<(), AllocError>
         requires { last.index + 1 < 2 ^ 64 }
+        ensures leader { self.new.leader ≡ self.old.leader }
         ensures numbers { OnOk result (GainsNumber self.old.output self.new.output) }
         ensures step { (x : Given) (own : _) (r : StepResult) → IsStepOf x own self.old r → r.state.role ≡ Follower → meta ≡ meta_of (Some x.snapshot) → last ≡ x.snapshot.last
             → is_within last.index r.state.committed ≡ false → IsEntryOrPast r.state.stored last
@@ -120,6 +124,7 @@ impl<C: RaftTypeConfig<NodeId = u64, Node = BasicNode, D = Bytes>> Engine<C> {
     // The snapshot is installed, unless all of it is committed.
     pub(crate) fn install(&mut self, meta: SnapshotMeta<u64, BasicNode>) -> Result<(), AllocError>
         requires { next_place meta.last_log_id < 2 ^ 64 }
+        ensures leader { self.new.leader ≡ self.old.leader }
         ensures numbers { OnOk result (NumbersRise self.old.output self.new.output) }
         ensures step { (x : Given) (own : _) (r : StepResult) → IsStepOf x own self.old r → r.state.role ≡ Follower → meta ≡ meta_of (Some x.snapshot)
             → OnOk result (IsStepOf x own self.new (install_unless (is_within x.snapshot.last.index r.state.committed) x.snapshot r)) }
@@ -136,7 +141,8 @@ impl<C: RaftTypeConfig<NodeId = u64, Node = BasicNode, D = Bytes>> Engine<C> {
 
     // The leader gets the node's vote for an answer.
     fn answer_snapshot(&mut self, tx: Caller<u64>) -> Result<(), AllocError>
-        ensures { (x : Given) (own : _) (r : StepResult) (id : ℕ) → IsStepOf x own self.old r → SpellsSnapshotReply tx id x.snapshot
+        ensures leader { self.new.leader ≡ self.old.leader }
+        ensures step { (x : Given) (own : _) (r : StepResult) (id : ℕ) → IsStepOf x own self.old r → SpellsSnapshotReply tx id x.snapshot
             → InstallRestsOn (basis_of self.old r.state) tx r.state.stored.vote
             → OnOk result (IsStepOf x own self.new (reply_snapshot own tx.peer tx.vote id x.snapshot (snapshot_result tx.vote (record { vote = r.state.stored.vote })) r)) }
     {
@@ -155,7 +161,8 @@ impl<C: RaftTypeConfig<NodeId = u64, Node = BasicNode, D = Bytes>> Engine<C> {
         now: u64,
     ) -> Result<(), AllocError>
         requires { next_place meta.last_log_id < 2 ^ 64 }
-        ensures { (x : Given) (own : _) (r : StepResult) (id : ℕ) → IsStepOf x own self.old r → r.state.now ≡ now → meta ≡ meta_of (Some x.snapshot)
+        ensures heard { OnOk result (KeepsHeard self.old.leader self.new.leader) }
+        ensures step { (x : Given) (own : _) (r : StepResult) (id : ℕ) → IsStepOf x own self.old r → r.state.now ≡ now → meta ≡ meta_of (Some x.snapshot)
             → tx.vote ≡ vote → SpellsSnapshotReply tx id x.snapshot → IsVoteOfAnother own vote
             → OnOk result (IsStepOf x own self.new (snapshot_request_step own tx.peer vote id x.snapshot r)) }
     {

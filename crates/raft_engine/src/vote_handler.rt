@@ -1,5 +1,5 @@
 //! Votes: which one is in force, and whether it is granted to another node.
-ghost use Rattle.std.specs.Prelude.{◌≡◌, OnOk, IfOk, Ok, true, false, if◌then◌else◌};
+ghost use Rattle.std.specs.Prelude.{◌≡◌, OnOk, IfOk, Ok, None, true, false, if◌then◌else◌};
 ghost use Rattle.raft_group_step.specs.Values.{vote_lt};
 ghost use Rattle.raft_group_step.specs.GroupState.{GroupState, Follower};
 ghost use Rattle.raft_group_step.specs.StepResult.{StepResult, step_down, store_vote, take_over};
@@ -43,6 +43,7 @@ impl<'x, C: RaftTypeConfig<NodeId = u64, Node = BasicNode, D = Bytes>> VoteHandl
     /// and stored, and any other one changes nothing.
     pub fn update_greater_vote(&mut self, vote: Vote<u64>, now: u64) -> Result<(), AllocError>
         ensures same_engine { self.new.engine.ghost_name ≡ self.old.engine.ghost_name }
+        ensures heard { OnOk result (KeepsHeard self.old.engine.now.leader self.new.engine.now.leader) }
         ensures step { (x : Given) (own : _) (r : StepResult) → IsStepOf x own self.old.engine.now r → r.state.now ≡ now
             → OnOk result (IsStepOf x own self.new.engine.now (take_over_greater vote r)) }
     {
@@ -61,6 +62,7 @@ impl<'x, C: RaftTypeConfig<NodeId = u64, Node = BasicNode, D = Bytes>> VoteHandl
 impl<C: RaftTypeConfig<NodeId = u64, Node = BasicNode, D = Bytes>> Engine<C> {
     // The node neither stands nor leads any more. The runtime is told of a lead that ends.
     pub(crate) fn step_down(&mut self) -> Result<(), AllocError>
+        ensures ends { OnOk result (self.new.leader ≡ None) }
         ensures heard { OnOk result (KeepsHeard self.old.leader self.new.leader) }
         ensures step { (x : Given) (own : _) (r : StepResult) → IsStepOf x own self.old r → OnOk result (IsStepOf x own self.new (step_down r)) }
     {
@@ -86,6 +88,7 @@ impl<C: RaftTypeConfig<NodeId = u64, Node = BasicNode, D = Bytes>> Engine<C> {
     // A vote that isn't below the own one is in force from now on; a greater one is stored.
     pub(crate) fn take_over(&mut self, vote: Vote<u64>, now: u64) -> Result<(), AllocError>
         ensures level { vote_lt self.old.state.state.vote.value vote ≡ false → (result ≡ Ok tt) × (self.new.output ≡ self.old.output) }
+        ensures heard { OnOk result (KeepsHeard self.old.leader self.new.leader) }
         ensures step { (x : Given) (own : _) (r : StepResult) → IsStepOf x own self.old r → r.state.now ≡ now
             → OnOk result (IsStepOf x own self.new (take_over vote r)) }
     {
@@ -137,7 +140,8 @@ impl<C: RaftTypeConfig<NodeId = u64, Node = BasicNode, D = Bytes>> Engine<C> {
 
     // The vote is taken over, if it is granted.
     fn take_over_if(&mut self, granted: bool, vote: Vote<u64>, now: u64) -> Result<(), AllocError>
-        ensures { (x : Given) (own : _) (r : StepResult) → IsStepOf x own self.old r → r.state.now ≡ now
+        ensures heard { OnOk result (KeepsHeard self.old.leader self.new.leader) }
+        ensures step { (x : Given) (own : _) (r : StepResult) → IsStepOf x own self.old r → r.state.now ≡ now
             → OnOk result (IsStepOf x own self.new (if granted then take_over vote r else r)) }
     {
         if granted {
@@ -148,7 +152,8 @@ impl<C: RaftTypeConfig<NodeId = u64, Node = BasicNode, D = Bytes>> Engine<C> {
 
     // The candidate is answered by the vote in force and the last log id.
     fn answer_vote(&mut self, tx: Caller<u64>, granted: bool) -> Result<(), AllocError>
-        ensures { (x : Given) (own : _) (r : StepResult) → IsStepOf x own self.old r
+        ensures leader { self.new.leader ≡ self.old.leader }
+        ensures step { (x : Given) (own : _) (r : StepResult) → IsStepOf x own self.old r
             → OnOk result (IsStepOf x own self.new (reply_vote own tx.peer granted r)) }
     {
         let last = self.state.last_log_id();
@@ -165,7 +170,8 @@ impl<C: RaftTypeConfig<NodeId = u64, Node = BasicNode, D = Bytes>> Engine<C> {
         tx: Caller<u64>,
         now: u64,
     ) -> Result<(), AllocError>
-        ensures { (x : Given) (own : _) (r : StepResult) → IsStepOf x own self.old r → r.state.now ≡ now
+        ensures heard { OnOk result (KeepsHeard self.old.leader self.new.leader) }
+        ensures step { (x : Given) (own : _) (r : StepResult) → IsStepOf x own self.old r → r.state.now ≡ now
             → OnOk result (IsStepOf x own self.new (vote_request_step own tx.peer req.now.vote req.now.last_log_id r)) }
     {
         let granted = self.may_grant(req, now);

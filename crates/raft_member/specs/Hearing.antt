@@ -1,7 +1,7 @@
 -- What the leader at a member hears by a message.
 use Rattle.std.specs.Prelude.{◌≡◌, ℕ, Option}
 use Rattle.raft_leaders.specs.Leader.{LeaderValue}
-use Rattle.raft_engine.specs.Clock.{HearsAfter, moment_shown}
+use Rattle.raft_engine.specs.Clock.{HearsAfter, KeepsHeard, KeepsHeardOrBegins, moment_shown}
 use Rattle.raft_engine.specs.Standing.{EffectiveMembership}
 use Rattle.raft_messages.specs.Messages.{reply_fields_of}
 use Rattle.raft_messages.specs.declared.message.Message.{Message}
@@ -11,13 +11,14 @@ use Rattle.raft_member.specs.declared.member.Ended.{Ended}
 use Rattle.raft_member.specs.declared.member.Ended.TheVariants as ended
 
 module _ {X : Type 0} where
-  -- an answer to a request that left at this moment, if that is known, is heard of so
+  -- an answer to a request that left at this moment, if that is known, is heard of so; by another message nobody is heard of, and a
+  -- lead that a vote begins has heard of nobody
   abbrev pub HearsIn : Body X → ℕ → Option ℕ → Option (LeaderValue ℕ EffectiveMembership) → Option (LeaderValue ℕ EffectiveMembership) → Type 0
-  HearsIn (VoteRequest asked) peer sent old new = Unit {0}
-  HearsIn (VoteReply answer) peer sent old new = Unit {0}
-  HearsIn (AppendRequest m) peer sent old new = Unit {0}
+  HearsIn (VoteRequest asked) peer sent old new = KeepsHeard old new
+  HearsIn (VoteReply answer) peer sent old new = KeepsHeardOrBegins old new
+  HearsIn (AppendRequest m) peer sent old new = KeepsHeard old new
   HearsIn (AppendReply reply) peer sent old new = HearsAfter peer (moment_shown peer (reply_fields_of reply) sent old) old new
-  HearsIn (SnapshotRequest vote id x) peer sent old new = Unit {0}
+  HearsIn (SnapshotRequest vote id x) peer sent old new = KeepsHeard old new
   HearsIn (SnapshotReply reply) peer sent old new = HearsAfter peer (moment_shown peer (reply_fields_of reply) sent old) old new
 
   -- so is what the message says

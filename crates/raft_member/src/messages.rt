@@ -4,7 +4,7 @@ ghost use Rattle.raft_group_step.specs.StoredGroup.{Snapshot};
 ghost use Rattle.raft_group_step.specs.GroupState.{GroupState};
 ghost use Rattle.raft_group_step.specs.GroupEvent.{Receive};
 ghost use Rattle.raft_conditions.specs.Facts.{IsRefusalOf};
-ghost use Rattle.raft_engine.specs.Clock.{HearsAfter, moment_shown};
+ghost use Rattle.raft_engine.specs.Clock.{HearsAfter, KeepsHeard, moment_shown};
 ghost use Rattle.raft_engine.specs.Events.{HasTaken, MayTake, received};
 ghost use Rattle.raft_messages.specs.Messages.{append_fields_of, body_as, message_as, reply_fields_of};
 ghost use Rattle.raft_messages.specs.declared.message.MessageBody.TheVariants.{SnapshotRequest as SendsSnapshot};
@@ -66,7 +66,8 @@ fn take_request(
     moment: u64,
     engine: &mut Engine<ByteGroup>,
 ) -> Result<(), AllocError>
-    ensures { (x : Snapshot) (own at : ℕ) (s : GroupState) → moment ≡ max s.now at → MayTake own engine.old s (received own peer (AppendRequest (append_fields_of request.now)) at)
+    ensures heard { OnOk result (KeepsHeard engine.old.leader engine.new.leader) }
+    ensures taken { (x : Snapshot) (own at : ℕ) (s : GroupState) → moment ≡ max s.now at → MayTake own engine.old s (received own peer (AppendRequest (append_fields_of request.now)) at)
         → OnOk result (HasTaken x own engine.old engine.new s (received own peer (AppendRequest (append_fields_of request.now)) at)) }
 {
     let caller = Caller {
@@ -143,7 +144,8 @@ fn take_snapshot<S: GroupStorage>(
     moment: u64,
     engine: &mut Engine<ByteGroup>,
 ) -> Result<(), AllocError>
-    ensures { (x : Snapshot) (own at : ℕ) (s : GroupState) → S.stands snapshot.now x → moment ≡ max s.now at
+    ensures heard { OnOk result (KeepsHeard engine.old.leader engine.new.leader) }
+    ensures taken { (x : Snapshot) (own at : ℕ) (s : GroupState) → S.stands snapshot.now x → moment ≡ max s.now at
         → MayTake own engine.old s (received own caller.0 (SnapshotRequest caller.1 caller.2 x) at)
         → OnOk result (HasTaken x own engine.old engine.new s (received own caller.0 (SnapshotRequest caller.1 caller.2 x) at)) }
 {

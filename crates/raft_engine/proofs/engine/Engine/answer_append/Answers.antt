@@ -8,8 +8,8 @@ use Rattle.raft_messages.specs.Messages.{outcome_of}
 use Rattle.raft_engine.proofs.StandingLemmas.{sent_more}
 use Rattle.raft_engine.proofs.engine.Engine.answer_append.Goals as goal
 
-pub returns : goal.returns
-returns g c = λ x own r m step spells on.
+pub returns-clause-step : goal.returns-clause-step
+returns-clause-step g c = λ x own r m step spells on.
     let body = AppendReply (record { vote = m.vote; id = m.id; previous = m.previous; last = last_sent m.previous m.entries; outcome = outcome_of c.args.resp }) in
     on_ok_weaker c.push_command.result
     (λ h. sent_more x own c.args.self.now _ r step (Respond None (AppendEntries c.new.result)) (message_to own c.args.tx.peer body)

@@ -8,8 +8,8 @@ use Rattle.raft_engine.specs.Commands.{message_to, snapshot_result}
 use Rattle.raft_engine.proofs.StandingLemmas.{sent_more}
 use Rattle.raft_engine.proofs.engine.Engine.answer_snapshot.Goals as goal
 
-pub returns : goal.returns
-returns g c = λ x own r id step spells on.
+pub returns-clause-step : goal.returns-clause-step
+returns-clause-step g c = λ x own r id step spells on.
     let vote = c.vote_ref.ensures ∙ step.state.knows.vote in
     let outcome = snapshot_result c.args.tx.vote (record { vote = r.state.stored.vote }) in
     let body = SnapshotReply (record { vote = c.args.tx.vote; id = Numbered id; previous = None; last = Some x.snapshot.last; outcome = outcome }) in

@@ -9,8 +9,8 @@ use Rattle.raft_engine.specs.Commands.{message_to}
 use Rattle.raft_engine.proofs.StandingLemmas.{sent_more}
 use Rattle.raft_engine.proofs.engine.Engine.answer_vote.Goals as goal
 
-pub returns : goal.returns
-returns g c = λ x own r step.
+pub returns-clause-step : goal.returns-clause-step
+returns-clause-step g c = λ x own r step.
     let last = c.last_log_id-last.ensures r.state.stored step.state.knows step.state.order.placed in
     let vote = c.vote_ref.ensures ∙ step.state.knows.vote in
     on_ok_weaker c.push_command.result

@@ -13,6 +13,8 @@ use Rattle.raft_engine.specs.Standing.{Engine, IsStepOf, given}
 use Rattle.raft_engine.proofs.BuildingLemmas.{build_taken, builder_finishes, snapshot_stored, trigger_in_range}
 use Rattle.raft_engine.proofs.ForceLemmas.{counts_still, snapshot_keeps_force}
 use Rattle.raft_engine.proofs.RoomLemmas.{can_finish_when_ready}
+use Rattle.raft_engine.specs.Clock.{KeepsHeard}
+use Rattle.raft_engine.proofs.ClockLemmas.{keeps_same, keeps_then, keeps_untouched}
 use Rattle.raft_engine.proofs.engine.Engine.finish_building_snapshot.Goals as goal
 
 pub returns-then-not-building_snapshot-clause-built : goal.returns-then-not-building_snapshot-clause-built
@@ -51,3 +53,22 @@ returns-clause-built g c = λ own at before s x asked empty stands ready accepte
     let can = builder_finishes s x built own at ready s.role (can_finish_when_ready own s (at ∷ []) ready (trigger_in_range own at s accepted)) in
     build_taken s x built own at e c.finish.new.self stands (given x before s) accepted
     (c.in_ok-finish.ensures.step (given x before s) own after (subst (λ e. IsStepOf (given x before s) own e after) (search rules) (subst (λ e. IsStepOf (given x before s) own (record e { leader = c.count_if.new.leader }) after) (sym same) step)) can)
+
+pub returns-then-not-building_snapshot-clause-heard : goal.returns-then-not-building_snapshot-clause-heard
+returns-then-not-building_snapshot-clause-heard g c = keeps_same c.args.self.now.leader
+
+pub returns-then-not-is_updated-clause-heard : goal.returns-then-not-is_updated-clause-heard
+returns-then-not-is_updated-clause-heard g c =
+    let old = c.args.self.now.leader in
+    let back = c.update_snapshot.new.self.engine.now in
+    let same = ap (λ (y : Engine _ _). y.leader) c.in_ok-is_updated.ensures.rest.1 ∙ ap (λ (y : Engine _ _). y.leader) c.snapshot_handler.ensures.value in
+    subst (λ (y : Engine _ _). KeepsHeard old y.leader) {x = back} {y = c.self-1.given.0} (search rules) (keeps_untouched old back.leader same)
+
+pub returns-clause-heard : goal.returns-clause-heard
+returns-clause-heard g c =
+    let old = c.args.self.now.leader in
+    let back = c.update_snapshot.new.self.engine.now in
+    let counted = c.count_if.new.leader in
+    let same = ap (λ (y : Engine _ _). y.leader) c.in_ok-is_updated.ensures.rest.1 ∙ ap (λ (y : Engine _ _). y.leader) c.snapshot_handler.ensures.value in
+    let heard : KeepsHeard back.leader counted = subst (λ (y : Engine _ _). KeepsHeard y.leader counted) {x = c.self-1.given.0} {y = back} (search rules) c.in_ok-count_if.ensures.heard in
+    keeps_then old counted c.finish.new.self.leader (keeps_then old back.leader counted (keeps_untouched old back.leader same) heard) c.in_ok-finish.ensures.heard

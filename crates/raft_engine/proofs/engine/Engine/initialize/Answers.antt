@@ -1,5 +1,5 @@
 -- A call that is taken isn't refused, and a lead that begins has room for the end of the event.
-use Rattle.std.proofs.Common.{◌∙◌, ap, sym, refl, ℕ}
+use Rattle.std.proofs.Common.{◌∙◌, ap, inl, inr, sym, refl, ℕ}
 use Rattle.std.proofs.Math.Bool.{true≢false}
 use Rattle.raft_commands.specs.declared.engine_config.EngineConfig.{EngineConfig}
 use Rattle.raft_group_step.specs.Values.{is_voter}
@@ -10,6 +10,7 @@ use Rattle.raft_group_step.specs.Initialize.{initialize_step}
 use Rattle.raft_engine.proofs.ElectionEvents.{initialize_finishes, is_new_then, votes_in_first}
 use Rattle.raft_engine.specs.Standing.{given}
 use Rattle.raft_engine.proofs.EventLemmas.{event_taken, step_begun}
+use Rattle.raft_engine.proofs.ClockLemmas.{keeps_same, nobody_then}
 use Rattle.raft_engine.proofs.engine.Engine.initialize.Goals as goal
 
 pub returns-then-not-is_new-clause-taken : goal.returns-then-not-is_new-clause-taken
@@ -28,9 +29,18 @@ returns-clause-taken g c = λ x own at s now may.
     let e = c.args.self.now in
     let m = c.args.membership in
     let stood =
-    c.in_ok-initialize_part.ensures (given x e s) own (begun at s) (step_begun x own at e s may.stands may.empty) (sym now)
+    c.in_ok-initialize_part.ensures.step (given x e s) own (begun at s) (step_begun x own at e s may.stands may.empty) (sym now)
     (is_new_then own at s m may.accepted) in (
       refl,
       event_taken x own e c.finish.new.self s (Call (Initialize m) at) may
           (c.in_ok-finish.ensures.step (given x e s) own (initialize_step own m (begun at s)) stood (initialize_finishes own at s m may.accepted (begun at s) refl)),
     )
+
+pub returns-then-not-is_new-clause-heard : goal.returns-then-not-is_new-clause-heard
+returns-then-not-is_new-clause-heard g c = inl (keeps_same c.args.self.now.leader)
+
+pub returns-then-not-is_voter-clause-heard : goal.returns-then-not-is_voter-clause-heard
+returns-then-not-is_voter-clause-heard g c = inl (keeps_same c.args.self.now.leader)
+
+pub returns-clause-heard : goal.returns-clause-heard
+returns-clause-heard g c = inr (nobody_then c.initialize_part.new.self.leader c.finish.new.self.leader c.in_ok-initialize_part.ensures.heard c.in_ok-finish.ensures.heard)

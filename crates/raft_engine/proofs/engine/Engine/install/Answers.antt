@@ -43,3 +43,6 @@ returns-clause-numbers g c =
     let kept = c.in_ok-cut_other.ensures.numbers in
     on_ok_weaker c.put_snapshot.result (λ gained. inr (gained_after c.args.self.now.output c.cut_other.new.self.output c.put_snapshot.new.self.output kept gained))
     c.put_snapshot.ensures.numbers
+
+pub returns-clause-leader : goal.returns-clause-leader
+returns-clause-leader g c = c.put_snapshot.ensures.leader ∙ c.cut_other.ensures.leader

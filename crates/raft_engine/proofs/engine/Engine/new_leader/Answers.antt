@@ -5,6 +5,7 @@ use Rattle.std.specs.Prelude.{nat_eq}
 use Rattle.raft_membership.specs.Membership.{learner_ids}
 use Rattle.raft_engine.proofs.LeaderLemmas.{are_keys_for, begins}
 use Rattle.raft_engine.proofs.MemberLemmas.{no_voters, rising_distinct}
+use Rattle.raft_engine.proofs.ClockLemmas.{made_unheard}
 use Rattle.raft_engine.proofs.engine.Engine.new_leader.Goals as goal
 
 pub new-requires-clause-distinct : goal.new-requires-clause-distinct
@@ -20,8 +21,8 @@ new-requires-clause-fits g c =
     let same = ap next_place c.keys_of_leader-keys.ensures.last in
     omega (arith, same, c.requires)
 
-pub returns : goal.returns
-returns g c = λ own s known placed is_own committed.
+pub returns-clause-leads : goal.returns-clause-leads
+returns-clause-leads g c = λ own s known placed is_own committed.
     let found = c.keys_of_leader-keys in
     let keys = found.result.now in
     let m = c.in_ok-membership.membership in
@@ -30,3 +31,6 @@ returns g c = λ own s known placed is_own committed.
     let learners = c.as_slice.ensures.ids ∙ c.in_ok-learner_ids.ensures ∙ ap (λ y. learner_ids nat_eq y.configs y.nodes) c.membership.ensures in
     begins own c.args.vote s m in_force keys of_log is_own committed c.as_slice.result.now learners
     c.new.result c.new.ensures.vote c.new.ensures.last_log_id c.new.ensures.noop_log_id c.new.ensures.began c.new.ensures.voters c.new.ensures.learners
+
+pub returns-clause-heard : goal.returns-clause-heard
+returns-clause-heard g c = made_unheard c.new.result _ c.as_slice.result.now c.new.ensures.voter_clocks c.new.ensures.learner_clocks

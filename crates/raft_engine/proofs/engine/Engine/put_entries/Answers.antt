@@ -12,7 +12,7 @@ use Rattle.raft_group_step.specs.AppendRequest.{cut_from}
 use Rattle.raft_group_step.proofs.Words.{cut_keeps_role}
 use Rattle.raft_known_state.specs.KnownState.{ArePlaced, Knows}
 use Rattle.raft_messages.specs.Entries.{all_go_on}
-use Rattle.raft_engine.proofs.PlacedEntries.{found_at, go_on}
+use Rattle.raft_engine.proofs.PlacedEntries.{found_at, go_on, some_within}
 use Rattle.raft_engine.proofs.FollowingLemmas.{cut_ends, known_go_on, log_stored, order_of_put, put_all_as, put_as, put_keeps_id, put_none}
 use Rattle.raft_engine.proofs.engine.Engine.put_entries.Goals as goal
 
@@ -21,13 +21,13 @@ append-requires g c =
     go_on c.as_slice-3.result.now (last_id c.cut_from.new.self.state.state.log_ids)
     (ap₂ all_go_on (sym c.last.ensures ∙ sym c.copied-last.ensures) (c.as_slice-3.ensures ∙ sym c.as_slice-2.ensures) ∙ sym c.all_go_on.ensures ∙ c.if-not-all_go_on.false)
 
-pub returns-in_default : goal.returns-in_default
-returns-in_default g c = λ x own r place step follows placed past l.
+pub returns-in_default-clause-step : goal.returns-in_default-clause-step
+returns-in_default-clause-step g c = λ x own r place step follows placed past l.
     let none : slice_get c.args.entries 0 ≡ None = ap (λ xs. slice_get xs 0) (sym c.as_slice.ensures) ∙ sym c.first.ensures.value ∙ ap option_copied c.in_default.is in
     rw (put_none c.args.entries none r) step
 
-pub returns-then-not-all_go_on : goal.returns-then-not-all_go_on
-returns-then-not-all_go_on g c = λ x own r place step follows placed past l.
+pub returns-then-not-all_go_on-clause-step : goal.returns-then-not-all_go_on-clause-step
+returns-then-not-all_go_on-clause-step g c = λ x own r place step follows placed past l.
     let first = c.in-Some.first.now in
     let found : slice_get c.args.entries 0 ≡ Some first = ap (λ xs. slice_get xs 0) (sym c.as_slice.ensures) ∙ sym c.first.ensures.value ∙ ap option_copied c.in-Some.is in
     let at : place ≡ first.log_id.index = let f = found_at c.args.entries place 0 first placed found in omega arith in
@@ -40,8 +40,8 @@ returns-then-not-all_go_on g c = λ x own r place step follows placed past l.
     sym c.if-not-all_go_on.true ∙ c.all_go_on.ensures ∙ ap₂ all_go_on (c.copied-last.ensures ∙ c.last.ensures) c.as_slice-2.ensures ∙ goes in
     absurd (let none : false ≡ true = no in cc)
 
-pub returns : goal.returns
-returns g c = λ x own r place step follows placed past l.
+pub returns-clause-step : goal.returns-clause-step
+returns-clause-step g c = λ x own r place step follows placed past l.
     let first = c.in-Some.first.now in
     let found : slice_get c.args.entries 0 ≡ Some first = ap (λ xs. slice_get xs 0) (sym c.as_slice.ensures) ∙ sym c.first.ensures.value ∙ ap option_copied c.in-Some.is in
     let at : place ≡ first.log_id.index = let f = found_at c.args.entries place 0 first placed found in omega arith in
@@ -59,5 +59,5 @@ returns g c = λ x own r place step follows placed past l.
     (log_stored x own c.cut_from.new.self _ after cut refl refl refl refl (PutEntries first.log_id.index c.args.entries) (AppendInputEntries c.vote_ref-vote.result.now c.args.entries)
     (cut_keeps_role first.log_id.index r ∙ follows) known c.in_ok-append.ensures.rest
     (order_of_put after.state cut.state.order c.args.entries at_end first.log_id.index ends) (put_keeps_id after.state cut.state.order c.args.entries at_end first.log_id.index ends)
-    h (put_all_as c.args.entries first found) refl tt (sym (c.vote_ref-vote.ensures ∙ known.vote), at_end) refl (λ s upto. refl)))
+    h (put_all_as c.args.entries first found) refl tt (sym (c.vote_ref-vote.ensures ∙ known.vote), at_end, some_within c.args.entries 0 first found) refl (λ s upto. refl)))
     c.push_command.ensures.ok

@@ -10,8 +10,8 @@ use Rattle.raft_engine.proofs.FollowingLemmas.{committed_place}
 use Rattle.raft_engine.proofs.MissingEntries.{begin, missing_are, placed_after, previous_within}
 use Rattle.raft_engine.proofs.engine.Engine.put_missing.Goals as goal
 
-pub returns : goal.returns
-returns g c = λ x own r vote previous step follows follow held.
+pub returns-clause-step : goal.returns-clause-step
+returns-clause-step g c = λ x own r vote previous step follows follow held.
     let s = r.state.stored in
     let es = c.args.entries in
     let order = step.state.order in
@@ -25,4 +25,4 @@ returns g c = λ x own r vote previous step follows follow held.
     let missing = left ∙ missing_are s es r.state.committed (next_place previous) placed in
     on_ok_weaker c.put_entries.result
     (λ h. subst (λ xs. IsStepOf x own c.put_entries.new.self (put_entries xs r)) missing h)
-    (c.put_entries.ensures x own r start.start step follows (subst (ArePlaced start.start) (sym left) start.placed) start.past start.within)
+    (c.put_entries.ensures.step x own r start.start step follows (subst (ArePlaced start.start) (sym left) start.placed) start.past start.within)

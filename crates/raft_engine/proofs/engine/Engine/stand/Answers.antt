@@ -12,8 +12,8 @@ use Rattle.raft_engine.specs.Standing.{IsStepOf, Stands}
 use Rattle.raft_engine.proofs.ElectionLemmas.{has_asked, has_stood, own_vote}
 use Rattle.raft_engine.proofs.engine.Engine.stand.Goals as goal
 
-pub returns : goal.returns
-returns g c = λ x own r step now fits.
+pub returns-clause-step : goal.returns-clause-step
+returns-clause-step g c = λ x own r step now fits.
     let id : c.args.self.now.config.id ≡ own = ap (λ (y : EngineConfig ℕ). y.id) step.state.config in
     let down = c.in_ok-step_down.ensures.step x own r step in
     let vote = c.new-vote.result in
@@ -30,6 +30,9 @@ returns g c = λ x own r step now fits.
     let voters = c.as_slice.ensures.value ∙ c.in_ok-voters.ensures s stored.state.knows ∙ ap (λ n. other_voters n r.state.stored) id in
     on_ok_weaker c.ask.result
     (λ h. subst (IsStepOf x own c.ask.new.self) (has_asked own r vote c.as_slice.result.now vote_is voters) h)
-    (c.ask.ensures x own (in_role (Candidate (own ∷ [])) (store_vote vote (step_down r))) (has_stood x own c.store_vote.new.self r vote stored c.in_ok-candidate.candidate stands)
+    (c.ask.ensures.step x own (in_role (Candidate (own ∷ [])) (store_vote vote (step_down r))) (has_stood x own c.store_vote.new.self r vote stored c.in_ok-candidate.candidate stands)
     (sym (ap (λ (q : VoteRequest ℕ). q.vote) c.new-vote_req.ensures))
     (sym (ap (λ (q : VoteRequest ℕ). q.last_log_id) c.new-vote_req.ensures ∙ c.last_log_id.ensures s stored.state.knows stored.state.order.placed)))
+
+pub returns-clause-ends : goal.returns-clause-ends
+returns-clause-ends g c = on_ok_weaker c.ask.result (λ h. h ∙ c.store_vote.ensures.leader ∙ c.in_ok-step_down.ensures.ends) c.ask.ensures.leader

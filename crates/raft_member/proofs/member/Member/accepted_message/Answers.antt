@@ -1,6 +1,7 @@
 -- The engine is handed the message, and its queue is stored and sent.
 use Rattle.std.proofs.Common.{sym, subst}
 use Rattle.raft_group_step.specs.GroupStep.{group_step}
+use Rattle.raft_engine.specs.Clock.{KeepsHeard}
 use Rattle.raft_engine.specs.Events.{HasTaken, MayTake, received}
 use Rattle.raft_messages.specs.Messages.{body_as}
 use Rattle.raft_member.specs.Running.{Brings}
@@ -21,7 +22,7 @@ returns-in-SnapshotRequest-clause-ok g c = λ y at s brings down moment may.
     (run_of_message_with stands c.args.engine.now own peer at c.args.moment c.take_snapshot.new.engine s (body_as (λ x. y) c.args.message.now.body)
     c.in-SnapshotRequest.snapshot y said moment may.accepted
     (subst (λ body. HasTaken y own c.args.engine.now c.take_snapshot.new.engine s (received own peer (body_as (λ x. y) body) at)) (sym c.in-SnapshotRequest.is)
-    (c.in_ok-take_snapshot.ensures y own at s said moment
+    (c.in_ok-take_snapshot.ensures.taken y own at s said moment
     (subst (λ body. MayTake own c.args.engine.now s (received own peer (body_as (λ x. y) body) at)) c.in-SnapshotRequest.is may))))
 
 pub returns-in-SnapshotRequest-clause-err : goal.returns-in-SnapshotRequest-clause-err
@@ -34,7 +35,7 @@ returns-in-SnapshotRequest-clause-err g c = λ y at s brings down moment may.
     (run_of_message_with stands c.args.engine.now own peer at c.args.moment c.take_snapshot.new.engine s (body_as (λ x. y) c.args.message.now.body)
     c.in-SnapshotRequest.snapshot y said moment may.accepted
     (subst (λ body. HasTaken y own c.args.engine.now c.take_snapshot.new.engine s (received own peer (body_as (λ x. y) body) at)) (sym c.in-SnapshotRequest.is)
-    (c.in_ok-take_snapshot.ensures y own at s said moment
+    (c.in_ok-take_snapshot.ensures.taken y own at s said moment
     (subst (λ body. MayTake own c.args.engine.now s (received own peer (body_as (λ x. y) body) at)) c.in-SnapshotRequest.is may))))
 
 pub returns-clause-ok : goal.returns-clause-ok
@@ -76,7 +77,8 @@ returns-in-SnapshotRequest-clause-heard g c =
     let old = c.args.engine.now.leader in
     let new = c.end_taken.new.engine.leader in
     all_heard m sent old new c.end_taken.result c.end_taken.ensures.over
-    (subst (λ body. HearsIn body m.sender sent old new) (sym c.in-SnapshotRequest.is) tt)
+    (subst (λ body. HearsIn body m.sender sent old new) (sym c.in-SnapshotRequest.is)
+    (subst (KeepsHeard old) (sym c.end_taken.ensures.leader) c.in_ok-take_snapshot.ensures.heard))
 
 pub returns-clause-heard : goal.returns-clause-heard
 returns-clause-heard g c =
