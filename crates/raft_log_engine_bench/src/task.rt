@@ -6,6 +6,7 @@ pub enum Work {
     Write,
     Open,
     Fetch,
+    Get,
 }
 
 /// How many bytes an entry has, how many entries a batch, to how many groups they go, and how many
@@ -24,6 +25,7 @@ fn work_of(word: &str) -> Option<Work> {
         "write" => Some(Work::Write),
         "open" => Some(Work::Open),
         "fetch" => Some(Work::Fetch),
+        "get" => Some(Work::Get),
         _ => None,
     }
 }

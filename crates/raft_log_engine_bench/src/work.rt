@@ -35,6 +35,19 @@ fn write(
     Ok(())
 }
 
+/// Reads so many entries from this one on, each by a call of its own.
+fn read_each(
+    engine: &mut MemoryEngine,
+    group: u64,
+    first: u64,
+    count: usize,
+) -> Result<(), EngineFault> {
+    for place in 0..count as u64 {
+        let _ = engine.get_entry(group, first.saturating_add(place))?;
+    }
+    Ok(())
+}
+
 /// Takes a turn: a batch of a group is written, and read where that is asked for.
 fn turn(
     engine: &mut MemoryEngine,
@@ -51,6 +64,9 @@ fn turn(
     if task.work == Work::Fetch {
         let end = first.saturating_add(entries.len() as u64);
         let _ = engine.fetch_entries_to(group, first, end, None)?;
+    }
+    if task.work == Work::Get {
+        read_each(engine, group, first, entries.len())?;
     }
     Ok(())
 }
