@@ -1,5 +1,5 @@
 -- Entries that follow one of the log join it.
-use Rattle.std.proofs.Common.{◌≡◌, ◌∙◌, ap, sym, false}
+use Rattle.std.proofs.Common.{◌≡◌, ◌∙◌, ap, sym, refl, false}
 use Rattle.std.proofs.Math.Bool.{true≢false}
 use Rattle.raft_group_step.specs.StoredGroup.{end_place}
 use Rattle.raft_engine.specs.Following.{join_log}
@@ -14,3 +14,6 @@ returns-then-not-is_joined_by-clause-step g c = λ x own r vote previous step fo
     let told : join_log end c.args.entries ≡ false =
     ap (join_log end) (sym c.as_slice.ensures) ∙ sym (c.is_joined_by.ensures r.state.stored step.state.knows step.state.order.placed) ∙ c.if-not-is_joined_by.true in
     absurd (true≢false (sym whole ∙ told))
+
+pub returns-clause-step : goal.returns-clause-step
+returns-clause-step g c = λ x own r vote previous step follows one held. (refl, c.in_ok-put_missing.ensures.step x own r vote previous step follows one held)
