@@ -71,3 +71,9 @@ pub returns-clause-others : goal.returns-clause-others
 returns-clause-others g c =
     let met = g.met.F.FileSystem g.world.𝓛 g.world.𝓜 g.world.𝓡 ((λ s x. x), (λ x. x), (λ x. x), λ x. x) in
     made_others c.args.queue _ _ c.new-id.result (met.is_named c.args.files.now) (made_begun _ _ _ c.in_ok-file.file _ c.in_ok-file.ensures.created (begun_changes _ _ c.in_ok-file.file c.in_ok-writer.writer c.in_ok-writer.ensures.begun)) c.new-id.ensures.queue
+
+pub returns-in_err-file-clause-taken : goal.returns-in_err-file-clause-taken
+returns-in_err-file-clause-taken g c = ?
+
+pub returns-in_err-writer-clause-taken : goal.returns-in_err-writer-clause-taken
+returns-in_err-writer-clause-taken g c = ?

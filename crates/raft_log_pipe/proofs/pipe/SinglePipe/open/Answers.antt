@@ -33,3 +33,6 @@ pub returns-clause-keeps : goal.returns-clause-keeps
 returns-clause-keeps g c =
     opened_keeps c.args.queue c.args.paths.items (g.F.FileSystem.disk c.args.files.now) (g.F.FileSystem.disk c.resume_file.new.files) c.args.found.items c.pop.new.self.items c.in-Some.active c.requires.found.0 c.in_ok-writer.writer c.in-Some.ensures.items
     (found_so c.args.queue c.args.paths.items (g.F.FileSystem.disk c.args.files.now) c.args.found.items c.pop.new.self.items c.in-Some.active c.requires.found.0 c.in-Some.ensures.items c.requires.found.1) c.in_ok-writer.ensures.resumed
+
+pub returns-in_err-writer-clause-taken : goal.returns-in_err-writer-clause-taken
+returns-in_err-writer-clause-taken g c = ?
