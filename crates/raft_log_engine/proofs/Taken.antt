@@ -2,6 +2,7 @@
 use Rattle.std.proofs.Common.{◌≡◌, ◌⊎◌, inl, inr, ℕ, ◌+◌, ◌^◌, ◌<◌, ◌≤◌, lit≤, Bool, true, [], ◌∷◌, ◌++◌, Option, Some, None, List, refl, sym, ap, subst, ◌∙◌, arith, length}
 use Rattle.std.specs.Prelude.{Result, Ok, Err, IfSome}
 use Rattle.std.specs.Result.{IsErrAnd}
+use Rattle.std.proofs.lemmas.Bool.{false≢true}
 use Rattle.std.proofs.lemmas.Result.{err_from_is_err_and}
 use Rattle.raft_log_records.specs.declared.block.EntriesBlock.{EntriesBlock}
 use Rattle.raft_log_records.specs.declared.file_id.FileBlockHandle.{FileBlockHandle}
@@ -158,7 +159,12 @@ compaction_taken {T = T} S disk e group index items r x is told why =
   where
     by_fault : (y : EngineFault) → IsWriteTaken {T = S} disk e (compaction group index ∷ []) (Err y) → IsCompactionTaken {T = T} disk e group index (Err y)
     by_fault Stopped so = so
-    by_fault Marked so = absurd cc
+    by_fault Marked so = absurd (false≢true so)
     by_fault NotTaken so = absurd (so (tt, tt))
     by_fault NotAMessage so = so
     by_fault (Log z) so = so
+
+-- want of memory for it
+pub compaction_unmade : {F T : Type 0} (disk : F → Disk) (e : Parts F) (group index : ℕ) (r : Result T EngineFault) (x : EngineFault) → IsErrAnd r (λ y. y ≡ x) → x ≡ Log Memory → IsCompactionTaken disk e group index r
+compaction_unmade {T = T} disk e group index r x told is =
+    let p = err_from_is_err_and r told in subst (λ (q : Result T EngineFault). IsCompactionTaken disk e group index q) (sym (p.1 ∙ ap Err (p.2 ∙ is))) tt

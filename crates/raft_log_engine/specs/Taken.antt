@@ -1,5 +1,5 @@
 -- Why a write or a sync is refused where nothing is set to refuse.
-use Rattle.std.specs.Prelude.{◌≡◌, ◌⊎◌, true, [], ◌∷◌, Result, Ok, Err}
+use Rattle.std.specs.Prelude.{◌≡◌, ◌⊎◌, ℕ, true, [], ◌∷◌, Result, Ok, Err}
 use Rattle.std.specs.List.{list_any}
 use Rattle.raft_log_records.specs.Places.{placed}
 use Rattle.raft_log_records.specs.Spelling.{holds_mark}

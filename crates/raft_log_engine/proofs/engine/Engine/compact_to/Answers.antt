@@ -7,7 +7,7 @@ use Rattle.raft_log_engine.specs.Left.{leaves_on}
 use Rattle.raft_log_engine.specs.Reads.{compaction}
 use Rattle.raft_log_engine.proofs.Clauses.{kept_by, parts, refused}
 use Rattle.raft_log_engine.proofs.Seen.{count_seen}
-use Rattle.raft_log_engine.proofs.Taken.{compaction_taken}
+use Rattle.raft_log_engine.proofs.Taken.{compaction_taken, compaction_unmade}
 use Rattle.raft_log_engine.proofs.engine.Engine.compact_to.Goals as goal
 
 pub returns-in_err-batch-clause-err : goal.returns-in_err-batch-clause-err
@@ -30,6 +30,10 @@ returns-in_err-write-clause-others g c =
 
 pub returns-then-self-clause-taken : goal.returns-then-self-clause-taken
 returns-then-self-clause-taken g c = rw (← c.self.view_is) (λ free. c.if-self.true)
+
+pub returns-in_err-batch-clause-taken : goal.returns-in_err-batch-clause-taken
+returns-in_err-batch-clause-taken g c =
+    λ free. compaction_unmade (g.F.FileSystem.disk) c.args.self.now c.args.group c.args.index c.from_residual.result c.in_err-batch.field-0.0 c.from_residual.ensures.1 c.in_err-batch.ensures.err
 
 pub returns-in_err-write-clause-taken : goal.returns-in_err-write-clause-taken
 returns-in_err-write-clause-taken g c =
