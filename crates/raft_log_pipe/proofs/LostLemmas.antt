@@ -46,10 +46,13 @@ lost_before p older f d e n seq pipe is keeps le (g, there, lt, gone) = (g, befo
   where
     before : IsIn g p.older.items
     before = subst (IsIn g) (sym is) (inr there)
+
     number : IsFileSeq g.seq
     number = omega (arith, (older_below p.older.items p.active.seq g pipe.numbers before).0, said_number pipe.named.0 (id_of p.queue p.active.seq) pipe.named.2)
+
     late : n ≤ g.seq
     late = let first = first_is p f older.items d pipe is in omega (arith, le, first.0, first.1.0, (older_below older.items p.active.seq g first.1.1 there).1)
+
     was : IsGone p g d
     was dir at =
         let name : Text = log_file_name (id_of p.queue g.seq) in
