@@ -1,10 +1,13 @@
 -- Why a write or a sync is refused where nothing is set to refuse.
-use Rattle.std.proofs.Common.{◌≡◌, ◌⊎◌, inl, inr, ℕ, ◌+◌, ◌^◌, ◌<◌, ◌≤◌, Bool, true, [], ◌∷◌, Option, Some, None, List, refl, sym, ap, subst, ◌∙◌, arith, length}
+use Rattle.std.proofs.Common.{◌≡◌, ◌⊎◌, inl, inr, ℕ, ◌+◌, ◌^◌, ◌<◌, ◌≤◌, lit≤, Bool, true, [], ◌∷◌, ◌++◌, Option, Some, None, List, refl, sym, ap, subst, ◌∙◌, arith, length}
 use Rattle.std.specs.Prelude.{Result, Ok, Err, IfSome}
 use Rattle.std.specs.Result.{IsErrAnd}
+use Rattle.std.proofs.lemmas.Bool.{false≢true}
 use Rattle.std.proofs.lemmas.Result.{err_from_is_err_and}
 use Rattle.raft_log_records.specs.declared.block.EntriesBlock.{EntriesBlock}
 use Rattle.raft_log_records.specs.declared.file_id.FileBlockHandle.{FileBlockHandle}
+use Rattle.raft_log_records.specs.declared.error.RecordError.{RecordError}
+use Rattle.raft_log_records.specs.declared.error.RecordError.TheVariants as record_error
 use Rattle.raft_log_records.specs.Batch.{populated}
 use Rattle.raft_log_records.specs.Batch as batch
 use Rattle.raft_log_records.specs.Block.{StandsIn}
@@ -20,7 +23,8 @@ use Rattle.raft_log_pipe.specs.Taken.{IsAppendTaken, IsBarred, IsFull, IsOkOrMem
 use Rattle.raft_log_pipe.proofs.TakenLemmas.{exit_error, taken_for}
 use Rattle.raft_log_memtables.specs.declared.memtables.MemTables.{MemTables}
 use Rattle.raft_log_engine.specs.Held.{Parts}
-use Rattle.raft_log_engine.specs.Taken.{IsMarked, IsNotTaken, IsRefusedBatch, IsSyncTaken, IsTakenUnless, IsWriteTaken}
+use Rattle.raft_log_engine.specs.Reads.{compaction}
+use Rattle.raft_log_engine.specs.Taken.{IsCompactionTaken, IsMarked, IsNotTaken, IsRefusedBatch, IsSyncTaken, IsTakenUnless, IsWriteTaken}
 use Rattle.raft_log_engine.specs.declared.fault.EngineFault.{EngineFault}
 use Rattle.raft_log_engine.specs.declared.fault.EngineFault.TheVariants.{Log, NotTaken, Marked, NotAMessage, Stopped}
 
@@ -130,3 +134,37 @@ module _ {F : Type 0} (T : Type 0) (disk : F → Disk) (e : Parts F) (items : Ba
 -- a sync that was refused
 pub failed_sync : {F : Type 0} (e : Parts F) (x : Error) → IsOkOrMemory {T = Unit {0}} (Err x) → IsSyncTaken {T = Unit {0}} e (Err (Log x))
 failed_sync e x why = why
+
+-- ---- a compaction
+
+compaction_short : (group index : ℕ) → record_len (compaction group index ∷ []) ≤ 33554432
+unfolding record_len
+compaction_short group index = lit≤ tt
+
+-- nothing but want of memory keeps its item out of a batch
+pub compaction_memory : (old new : batch.Batch) (group index : ℕ) (e : RecordError) → old.items ≡ [] → batch.Logs old (compaction group index) new (Err e) → e ≡ record_error.Memory
+compaction_memory old new group index record_error.Memory none logs = refl
+compaction_memory old new group index record_error.TooLong none (same, long) =
+    absurd (omega (arith, long, compaction_short group index, ap (λ (l : Batch). record_len (l ++ compaction group index ∷ [])) none))
+compaction_memory old new group index (record_error.Corruption fault) none logs = absurd logs
+
+-- its batch is not marked, and taken
+pub compaction_taken : {F T : Type 0} (S : Type 0) (disk : F → Disk) (e : Parts F) (group index : ℕ) (items : Batch) (r : Result T EngineFault) (x : EngineFault) → items ≡ compaction group index ∷ []
+    → IsErrAnd r (λ y. y ≡ x) → IsWriteTaken {T = S} disk e items (Err x) → IsCompactionTaken disk e group index r
+compaction_taken {T = T} S disk e group index items r x is told why =
+    let all : Batch = compaction group index ∷ [] in
+    exit_fault (e.is_stopped ≡ true) ⊥ ⊥ (NeedsFile e.pipes.append all × IsUnnumbered e.pipes.append) (NeedsFile e.pipes.append all × IsUnmade e.pipes.append (disk e.files))
+    ((IsFull e.pipes.append × IsBarred e.pipes.append (disk e.files)) ⊎ IsTooLarge e.pipes.append all) r x told
+    (by_fault x (subst (λ (l : Batch). IsWriteTaken {T = S} disk e l (Err x)) is why))
+  where
+    by_fault : (y : EngineFault) → IsWriteTaken {T = S} disk e (compaction group index ∷ []) (Err y) → IsCompactionTaken {T = T} disk e group index (Err y)
+    by_fault Stopped so = so
+    by_fault Marked so = absurd (false≢true so)
+    by_fault NotTaken so = absurd (so (tt, tt))
+    by_fault NotAMessage so = so
+    by_fault (Log z) so = so
+
+-- want of memory for it
+pub compaction_unmade : {F T : Type 0} (disk : F → Disk) (e : Parts F) (group index : ℕ) (r : Result T EngineFault) (x : EngineFault) → IsErrAnd r (λ y. y ≡ x) → x ≡ Log Memory → IsCompactionTaken disk e group index r
+compaction_unmade {T = T} disk e group index r x told is =
+    let p = err_from_is_err_and r told in subst (λ (q : Result T EngineFault). IsCompactionTaken disk e group index q) (sym (p.1 ∙ ap Err (p.2 ∙ is))) tt

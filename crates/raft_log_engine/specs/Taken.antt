@@ -1,5 +1,5 @@
 -- Why a write or a sync is refused where nothing is set to refuse.
-use Rattle.std.specs.Prelude.{◌≡◌, ◌⊎◌, true, [], ◌∷◌, Result, Ok, Err}
+use Rattle.std.specs.Prelude.{◌≡◌, ◌⊎◌, ℕ, true, [], ◌∷◌, Result, Ok, Err}
 use Rattle.std.specs.List.{list_any}
 use Rattle.raft_log_records.specs.Places.{placed}
 use Rattle.raft_log_records.specs.Spelling.{holds_mark}
@@ -11,6 +11,7 @@ use Rattle.raft_log_memtables.specs.declared.memtables.MemTables.{MemTables}
 use Rattle.raft_log_memtables.specs.MemTables.{content_in}
 use Rattle.raft_log_memtables.specs.Taken.{TakesEach}
 use Rattle.raft_log_engine.specs.Held.{Parts}
+use Rattle.raft_log_engine.specs.Reads.{compaction}
 use Rattle.raft_log_engine.specs.declared.fault.EngineFault.{EngineFault}
 use Rattle.raft_log_engine.specs.declared.fault.EngineFault.TheVariants.{Log, NotTaken, Marked, NotAMessage, Stopped}
 
@@ -50,11 +51,19 @@ IsTakenUnless stopped marked untaken unnumbered absent barred (Err (Log e)) = Is
 abbrev pub IsSyncTaken : {F T : Type 0} → Parts F → Result T EngineFault → Type 0
 IsSyncTaken e result = IsTakenUnless (e.is_stopped ≡ true) ⊥ ⊥ ⊥ ⊥ ⊥ result
 
--- so is a write, or the batch is refused, or its append
+-- a write of some items is taken unless the engine is stopped, the batch is refused for one of these reasons, or its append
+abbrev pub AreItemsTaken : {F T : Type 0} → (F → Disk) → Parts F → Batch → Type 0 → Type 0 → Result T EngineFault → Type 0
+AreItemsTaken disk e items marked untaken result =
+    IsTakenUnless (e.is_stopped ≡ true) marked untaken
+    (NeedsFile e.pipes.append items × IsUnnumbered e.pipes.append)
+    (NeedsFile e.pipes.append items × IsUnmade e.pipes.append (disk e.files))
+    ((IsFull e.pipes.append × IsBarred e.pipes.append (disk e.files)) ⊎ IsTooLarge e.pipes.append items) result
+
+-- a write of none is a sync
 abbrev pub IsWriteTaken : {F T : Type 0} → (F → Disk) → Parts F → Batch → Result T EngineFault → Type 0
 IsWriteTaken disk e [] result = IsSyncTaken e result
-IsWriteTaken disk e (item ∷ items) result =
-    IsTakenUnless (e.is_stopped ≡ true) (IsMarked (item ∷ items)) (IsNotTaken e.tables (item ∷ items))
-    (NeedsFile e.pipes.append (item ∷ items) × IsUnnumbered e.pipes.append)
-    (NeedsFile e.pipes.append (item ∷ items) × IsUnmade e.pipes.append (disk e.files))
-    ((IsFull e.pipes.append × IsBarred e.pipes.append (disk e.files)) ⊎ IsTooLarge e.pipes.append (item ∷ items)) result
+IsWriteTaken disk e (item ∷ items) result = AreItemsTaken disk e (item ∷ items) (IsMarked (item ∷ items)) (IsNotTaken e.tables (item ∷ items)) result
+
+-- the batch of a compaction isn't refused
+abbrev pub IsCompactionTaken : {F T : Type 0} → (F → Disk) → Parts F → ℕ → ℕ → Result T EngineFault → Type 0
+IsCompactionTaken disk e group index result = AreItemsTaken disk e (compaction group index ∷ []) ⊥ ⊥ result

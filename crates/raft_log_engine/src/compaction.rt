@@ -1,9 +1,12 @@
 //! Compaction of a group.
-ghost use Rattle.std.specs.Prelude.{◌≡◌, ◌∷◌, [], true, Err, IfOk, OnOk, OnErr};
+ghost use Rattle.std.specs.Prelude.{◌≡◌, ◌∷◌, [], true, Err, IfOk, IfErr, OnOk, OnErr};
 ghost use Rattle.raft_content_log.specs.Leaving.{AgreesElsewhere, IsWritten, LeavesElsewhere, MayBeWritten};
+ghost use Rattle.raft_log_disk.specs.Cause.{NothingRefuses, RefusesNoMore};
 ghost use Rattle.raft_log_engine.specs.Left.{IsSound, answers_on, leaves_on};
 ghost use Rattle.raft_log_engine.specs.Reads.{compaction};
-ghost use Rattle.raft_log_engine.specs.declared.fault.EngineFault.TheVariants.{Stopped};
+ghost use Rattle.raft_log_engine.specs.Taken.{IsCompactionTaken};
+ghost use Rattle.raft_log_engine.specs.declared.fault.EngineFault.TheVariants.{Log, Stopped};
+ghost use Rattle.raft_log_files.specs.declared.error.Error.TheVariants.{Memory};
 ghost use Rattle.raft_log_memtables.specs.Content.{after_batch};
 ghost use Rattle.raft_log_memtables.specs.Fetch.{count_before};
 
@@ -16,7 +19,8 @@ use std::alloc::Global;
 
 /// A batch that compacts a group.
 fn compaction_of(alloc: Global, group: u64, index: u64) -> Result<LogBatch, EngineFault>
-    ensures { IfOk result (λ batch. batch.items ≡ compaction group index ∷ []) }
+    ensures items { IfOk result (λ batch. batch.items ≡ compaction group index ∷ []) }
+    ensures err { IfErr result (λ e. e ≡ Log Memory) }
 {
     let mut batch = LogBatch::new(alloc);
     match batch.add_command(group, Command::Compact { index }) {
@@ -38,6 +42,8 @@ impl<F: FileSystem + Drop> Engine<F> {
         ensures stopped { self.old.is_stopped ≡ true → result ≡ Err Stopped }
         ensures others { LeavesElsewhere (compaction group index ∷ []) (leaves_on F.disk self.old) (leaves_on F.disk self.new) }
         ensures others_answered { IsSound self.new → IsSound self.old × AgreesElsewhere (compaction group index ∷ []) (answers_on F.disk self.new) (answers_on F.disk self.old) }
+        ensures later { RefusesNoMore (F.is_bounded self.old.files) (F.is_bounded self.new.files) (F.meter self.old.files) (F.meter self.new.files) }
+        ensures taken { NothingRefuses (F.is_bounded self.old.files) (F.meter self.old.files) → IsCompactionTaken F.disk self.old group index result }
     {
         if self.is_stopped {
             return Err(EngineFault::Stopped);

@@ -204,7 +204,8 @@ err_after A B C (Err e) f g = λ a. g (f a)
 
 -- ---- a file that was made
 
-mapped_at : (dirs : List (String Global)) (i : ℕ) (dir : String Global) → i < length dirs → dir ≡ get_or dirs i dir → get_or (map string_bytes dirs) i [] ≡ string_bytes dir
+-- the path of a directory at a place
+pub mapped_at : (dirs : List (String Global)) (i : ℕ) (dir : String Global) → i < length dirs → dir ≡ get_or dirs i dir → get_or (map string_bytes dirs) i [] ≡ string_bytes dir
 mapped_at [] i dir within is = absurd (omega (arith, within))
 mapped_at (first ∷ dirs) zero dir within is = ap string_bytes (sym is)
 mapped_at (first ∷ dirs) (suc i) dir within is = mapped_at dirs i dir (omega (arith, within)) is

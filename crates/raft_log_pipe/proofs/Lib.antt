@@ -11,3 +11,4 @@ pub mod GiveUpLemmas
 pub mod AloneLemmas
 pub mod OthersLemmas
 pub mod TakenLemmas
+pub mod LostLemmas

@@ -1,18 +1,22 @@
 -- Why a call on a pipe is refused where nothing is set to refuse.
-use Rattle.std.specs.Prelude.{◌≡◌, ◌⊎◌, ℕ, ◌+◌, ◌^◌, ◌≤◌, List, [], ◌∷◌, ◌++◌, Result, Ok, Err, String}
+use Rattle.std.specs.Prelude.{◌⊎◌, ℕ, ◌+◌, ◌^◌, ◌<◌, ◌≤◌, List, [], ◌∷◌, ◌++◌, Result, Ok, Err, String}
 use Rattle.std.specs.String.{string_bytes}
 use Rattle.std.specs.declared.alloc.Global.{Global}
 use Rattle.raft_log_records.specs.declared.file_id.FileId.{FileId}
+use Rattle.raft_log_records.specs.declared.file_id.LogQueue.{LogQueue}
 use Rattle.raft_log_records.specs.Spelling.{record_len}
 use Rattle.raft_log_disk.specs.Text.{Text}
-use Rattle.raft_log_disk.specs.Disk.{Disk, HasDirectory, IsNoNewFile}
+use Rattle.raft_log_disk.specs.Disk.{Disk, HasDirectory, IsIn, IsNoNewFile}
 use Rattle.raft_log_files.specs.FileName.{IsFileSeq, log_file_name}
 use Rattle.raft_log_files.specs.declared.error.Error.{Error}
 use Rattle.raft_log_files.specs.declared.error.Error.TheVariants.{Io, Corruption, InvalidArgument, TryAgain, Memory, Other, EntryCompacted, EntryNotFound}
 use Rattle.raft_log_files.specs.declared.error.OtherFault.TheVariants as other
 use Rattle.raft_log_file.specs.Laws.{Batch}
+use Rattle.raft_log_pipe.specs.declared.file.File.{File}
 use Rattle.raft_log_pipe.specs.declared.pipe.SinglePipe.{SinglePipe}
+use Rattle.raft_log_pipe.specs.Blocks.{IsOutOfSpan}
 use Rattle.raft_log_pipe.specs.Pipe.{id_of}
+use Rattle.raft_log_pipe.specs.Purging.{IsGone}
 
 -- a call is taken unless memory is missing, no number is left for a file, what it names isn't there, or what it asks for can't be
 abbrev pub IsTakenBy : {T : Type 0} → Type 0 → Type 0 → Type 0 → Result T Error → Type 0
@@ -82,3 +86,21 @@ NeedsFile p items = IsFull p ⊎ IsTooLarge p items
 abbrev pub IsAppendTaken : {T : Type 0} → SinglePipe → Disk → Batch → Result T Error → Type 0
 IsAppendTaken p d items result =
     IsTakenBy (NeedsFile p items × IsUnnumbered p) (NeedsFile p items × IsUnmade p d) ((IsFull p × IsBarred p d) ⊎ IsTooLarge p items) result
+
+-- ---- a purge
+
+-- a file before a number isn't where its name says
+abbrev pub HasLost : SinglePipe → Disk → ℕ → Type 0
+HasLost p d seq = (f : File) × IsIn f p.older.items × (f.seq < seq) × IsGone p f d
+
+-- a purge is taken unless memory is missing, no file has the number, or one that is to go isn't there
+abbrev pub IsPurgeTaken : {T : Type 0} → SinglePipe → Disk → ℕ → Result T Error → Type 0
+IsPurgeTaken p d seq result = IsOutOfSpan p seq ⊎ IsTakenBy ⊥ (HasLost p d seq) ⊥ result
+
+-- ---- the first file of a queue
+
+-- its making is taken unless memory is missing or it can't be made in the main directory
+abbrev pub IsCreationTaken : {T : Type 0} → List (String Global) → LogQueue → Disk → Result T Error → Type 0
+IsCreationTaken dirs queue d result =
+    let path = main_path dirs (id_of queue 1) in
+    IsTakenBy ⊥ (HasDirectory d.directories path → ⊥) (IsNoNewFile d path) result

@@ -1,11 +1,14 @@
 //! Opening the files of a queue, and a queue that has none yet.
 
 ghost use Rattle.std.specs.Prelude.{◌≡◌, ◌<◌, ◌++◌, ◌∷◌, [], length, map, string_bytes, IfOk, OnOk, OnErr};
+ghost use Rattle.raft_log_disk.specs.Cause.{IsTaken, NothingRefuses, RefusesNoMore};
+ghost use Rattle.raft_log_disk.specs.Disk.{IsNoFile};
 ghost use Rattle.raft_log_pipe.specs.Alone.{AreDistinct, AreLast, IsAlone, IsVacant};
 ghost use Rattle.raft_log_pipe.specs.Begun.{Changes};
 ghost use Rattle.raft_log_pipe.specs.Found.{IsFound, IsResumed, KeepsButHeader, MakesButHeader};
 ghost use Rattle.raft_log_pipe.specs.Others.{KeepsOthers};
 ghost use Rattle.raft_log_pipe.specs.Pipe.{IsPipe, IsPlain, IsLast, Holds, Numbered, id_of};
+ghost use Rattle.raft_log_pipe.specs.Taken.{IsCreationTaken, IsOkOrMemory};
 
 use crate::file::{File, Paths, new_file};
 use crate::pipe::SinglePipe;
@@ -23,6 +26,8 @@ fn resume_file<F: FileSystem>(
 ) -> Result<LogFileWriter, IoFault>
     requires { IsPlain file.format }
     ensures resumed { IsResumed (F.disk files.old) (F.disk files.new) file result }
+    ensures later { RefusesNoMore (F.is_bounded files.old) (F.is_bounded files.new) (F.meter files.old) (F.meter files.new) }
+    ensures taken { NothingRefuses (F.is_bounded files.old) (F.meter files.old) → IsTaken (IsNoFile (F.disk files.old) file.handle.0) ⊥ result }
 {
     if files.file_size(file.handle)? == 0 {
         return begin_file(files, alloc, file);
@@ -53,6 +58,8 @@ impl SinglePipe {
         ensures changes { IfOk result (λ p. Changes (F.disk files.old) (F.disk files.new) p.active.handle.0) }
         ensures keeps { OnOk result (KeepsButHeader (F.disk files.old) (F.disk files.new) found.items) }
         ensures err { OnErr result (KeepsButHeader (F.disk files.old) (F.disk files.new) found.items) }
+        ensures later { RefusesNoMore (F.is_bounded files.old) (F.is_bounded files.new) (F.meter files.old) (F.meter files.new) }
+        ensures taken { NothingRefuses (F.is_bounded files.old) (F.meter files.old) → IsOkOrMemory result }
     {
         let Some(active) = found.pop() else {
             unreachable!()
@@ -90,6 +97,8 @@ impl SinglePipe {
         ensures first { IfOk result (λ p. (p.queue ≡ queue) × (p.active.seq ≡ 1) × (p.older.items ≡ [])) }
         ensures makes { MakesButHeader (F.disk files.old) (F.disk files.new) (map string_bytes paths.items) (id_of queue 1) }
         ensures others { KeepsOthers queue (F.disk files.old) (F.disk files.new) }
+        ensures later { RefusesNoMore (F.is_bounded files.old) (F.is_bounded files.new) (F.meter files.old) (F.meter files.new) }
+        ensures taken { NothingRefuses (F.is_bounded files.old) (F.meter files.old) → IsCreationTaken paths.items queue (F.disk files.old) result }
     {
         let id = FileId::new(queue, DEFAULT_FIRST_FILE_SEQ);
         let file = new_file(files, alloc, &paths, id, default_format, target_file_size)?;

@@ -1,12 +1,15 @@
 //! Files whose batches are needed no more go, the first ones first.
 
-ghost use Rattle.std.specs.Prelude.{◌≡◌, ◌⊎◌, ◌↔◌, ◌∷◌, ◌+◌, ◌-◌, ◌<◌, ◌≤◌, length, IfOk, OnOk, OnErr, IsErrOf};
+ghost use Rattle.std.specs.Prelude.{◌≡◌, ◌⊎◌, ◌↔◌, ◌∷◌, ◌+◌, ◌-◌, ◌<◌, ◌≤◌, ℕ, length, IfOk, OnOk, OnErr, IsErrOf};
+ghost use Rattle.raft_log_disk.specs.Cause.{NothingRefuses, RefusesNoMore};
 ghost use Rattle.raft_log_files.specs.declared.error.Error.TheVariants.{Other};
 ghost use Rattle.raft_log_files.specs.declared.error.OtherFault.TheVariants.{NumberOutOfSpan};
 ghost use Rattle.raft_log_pipe.specs.declared.file.File.{File};
+ghost use Rattle.raft_log_pipe.specs.Alone.{IsAlone};
 ghost use Rattle.raft_log_pipe.specs.Blocks.{IsOutOfSpan};
 ghost use Rattle.raft_log_pipe.specs.Pipe.{IsPipe, first_of};
 ghost use Rattle.raft_log_pipe.specs.Purging.{AreGone, HoldsRest, KeepsFrom};
+ghost use Rattle.raft_log_pipe.specs.Taken.{HasLost, IsOkOrMemory, IsPurgeTaken, IsTakenBy};
 
 use crate::pipe::SinglePipe;
 use raft_log_files::{Error, FileNameExt, FileSystem, OtherFault};
@@ -26,6 +29,9 @@ impl SinglePipe {
         ensures told { IsErrOf result (Other NumberOutOfSpan) → ⊥ }
         ensures holds { HoldsRest self.old (F.disk files.old) self.new (F.disk files.new) }
         ensures keeps { KeepsFrom self.old.queue (first_of self.new) (F.disk files.old) (F.disk files.new) }
+        ensures lost { OnOk result ((seq : ℕ) → HasLost self.new (F.disk files.new) seq → HasLost self.old (F.disk files.old) seq) }
+        ensures later { RefusesNoMore (F.is_bounded files.old) (F.is_bounded files.new) (F.meter files.old) (F.meter files.new) }
+        ensures taken { NothingRefuses (F.is_bounded files.old) (F.meter files.old) → IsTakenBy ⊥ (HasLost self.old (F.disk files.old) (first_of self.old + 1)) ⊥ result }
     {
         let file = self.older[0];
         let id = FileId::new(self.queue, file.seq);
@@ -48,6 +54,9 @@ impl SinglePipe {
         ensures gone { OnOk result (AreGone self.old self.new (F.disk files.new)) }
         ensures holds { HoldsRest self.old (F.disk files.old) self.new (F.disk files.new) }
         ensures keeps { KeepsFrom self.old.queue (first_of self.new) (F.disk files.old) (F.disk files.new) }
+        ensures later { RefusesNoMore (F.is_bounded files.old) (F.is_bounded files.new) (F.meter files.old) (F.meter files.new) }
+        ensures taken { NothingRefuses (F.is_bounded files.old) (F.meter files.old) → IsPurgeTaken self.old (F.disk files.old) seq result }
+        ensures there { NothingRefuses (F.is_bounded files.old) (F.meter files.old) → IsAlone self.old (F.disk files.old) → IsOutOfSpan self.old seq ⊎ IsOkOrMemory result }
     {
         let Some(file) = self.file_of(seq) else {
             return Err(Error::Other(OtherFault::NumberOutOfSpan));

@@ -1,11 +1,13 @@
 //! Calls that change the files of one queue.
 
-ghost use Rattle.std.specs.Prelude.{◌≡◌, OnOk};
+ghost use Rattle.std.specs.Prelude.{◌≡◌, ◌⊎◌, OnOk};
 ghost use Rattle.raft_log_records.specs.Spelling.{AreItems};
 ghost use Rattle.raft_log_disk.specs.Cause.{NothingRefuses, RefusesNoMore};
+ghost use Rattle.raft_log_pipe.specs.Alone.{IsAlone};
+ghost use Rattle.raft_log_pipe.specs.Blocks.{IsOutOfSpan};
 ghost use Rattle.raft_log_pipe.specs.Others.{KeepsOthers};
 ghost use Rattle.raft_log_pipe.specs.Pipe.{IsPipe, IsPopulated};
-ghost use Rattle.raft_log_pipe.specs.Taken.{IsAppendTaken, IsOkOrMemory, IsRotationTaken};
+ghost use Rattle.raft_log_pipe.specs.Taken.{IsAppendTaken, IsOkOrMemory, IsPurgeTaken, IsRotationTaken};
 ghost use Rattle.raft_log_pipes.specs.Calls.{IsAppendOf, IsCloseOf, IsPurgeOf, IsRotationOf, IsSyncOf};
 ghost use Rattle.raft_log_pipes.specs.Pipes.{ArePipes, IsAsBefore, other_queue, pipe_of};
 
@@ -86,6 +88,9 @@ impl DualPipes {
         ensures both { ArePipes self.old (F.disk files.old) → ArePipes self.new (F.disk files.new) }
         ensures others { KeepsOthers queue (F.disk files.old) (F.disk files.new) }
         ensures other { IsAsBefore (pipe_of self.old (other_queue queue)) (F.disk files.old) (pipe_of self.new (other_queue queue)) (F.disk files.new) }
+        ensures later { RefusesNoMore (F.is_bounded files.old) (F.is_bounded files.new) (F.meter files.old) (F.meter files.new) }
+        ensures taken { NothingRefuses (F.is_bounded files.old) (F.meter files.old) → IsPurgeTaken (pipe_of self.old queue) (F.disk files.old) seq result }
+        ensures there { NothingRefuses (F.is_bounded files.old) (F.meter files.old) → IsAlone (pipe_of self.old queue) (F.disk files.old) → IsOutOfSpan (pipe_of self.old queue) seq ⊎ IsOkOrMemory result }
     {
         match queue {
             LogQueue::Append => self.append.purge_to(files, seq),

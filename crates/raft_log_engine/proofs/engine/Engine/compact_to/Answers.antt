@@ -1,4 +1,4 @@
-use Rattle.std.proofs.Common.{[], ◌∷◌, refl, sym, subst, ◌∙◌}
+use Rattle.std.proofs.Common.{ℕ, [], ◌∷◌, refl, sym, subst, ◌∙◌}
 use Rattle.raft_log_disk.proofs.CauseLemmas.{at_err}
 use Rattle.raft_log_memtables.specs.MemTables.{content_in}
 use Rattle.raft_log_engine.specs.Held.{bytes_on}
@@ -7,6 +7,7 @@ use Rattle.raft_log_engine.specs.Left.{leaves_on}
 use Rattle.raft_log_engine.specs.Reads.{compaction}
 use Rattle.raft_log_engine.proofs.Clauses.{kept_by, parts, refused}
 use Rattle.raft_log_engine.proofs.Seen.{count_seen}
+use Rattle.raft_log_engine.proofs.Taken.{compaction_taken, compaction_unmade}
 use Rattle.raft_log_engine.proofs.engine.Engine.compact_to.Goals as goal
 
 pub returns-in_err-batch-clause-err : goal.returns-in_err-batch-clause-err
@@ -19,8 +20,22 @@ returns-clause-count g c =
 
 pub returns-clause-others : goal.returns-clause-others
 returns-clause-others g c =
-    subst (λ l. LeavesElsewhere l (leaves_on (g.F.FileSystem.disk) c.args.self.now) (leaves_on (g.F.FileSystem.disk) c.write.new.self)) c.in_ok-batch.ensures (c.write.ensures.others refl)
+    subst (λ l. LeavesElsewhere l (leaves_on (g.F.FileSystem.disk) c.args.self.now) (leaves_on (g.F.FileSystem.disk) c.write.new.self)) c.in_ok-batch.ensures.items (c.write.ensures.others refl)
 
 pub returns-in_err-write-clause-others : goal.returns-in_err-write-clause-others
 returns-in_err-write-clause-others g c =
-    subst (λ l. LeavesElsewhere l (leaves_on (g.F.FileSystem.disk) c.args.self.now) (leaves_on (g.F.FileSystem.disk) c.write.new.self)) c.in_ok-batch.ensures (c.write.ensures.others refl)
+    subst (λ l. LeavesElsewhere l (leaves_on (g.F.FileSystem.disk) c.args.self.now) (leaves_on (g.F.FileSystem.disk) c.write.new.self)) c.in_ok-batch.ensures.items (c.write.ensures.others refl)
+
+-- ---- why it is refused where nothing is set to refuse
+
+pub returns-then-self-clause-taken : goal.returns-then-self-clause-taken
+returns-then-self-clause-taken g c = rw (← c.self.view_is) (λ free. c.if-self.true)
+
+pub returns-in_err-batch-clause-taken : goal.returns-in_err-batch-clause-taken
+returns-in_err-batch-clause-taken g c =
+    λ free. compaction_unmade (g.F.FileSystem.disk) c.args.self.now c.args.group c.args.index c.from_residual.result c.in_err-batch.field-0.0 c.from_residual.ensures.1 c.in_err-batch.ensures.err
+
+pub returns-in_err-write-clause-taken : goal.returns-in_err-write-clause-taken
+returns-in_err-write-clause-taken g c =
+    λ free. compaction_taken ℕ (g.F.FileSystem.disk) c.args.self.now c.args.group c.args.index c.in_ok-batch.batch.items c.from_residual-in_err-write.result c.in_err-write.field-0.0 c.in_ok-batch.ensures.items
+    c.from_residual-in_err-write.ensures.1 (c.in_err-write.ensures.taken free)

@@ -2,7 +2,15 @@ use Rattle.std.proofs.Common.{◌≡◌, ◌-◌, ◌<◌, List, length, map, sy
 use Rattle.std.specs.Prelude.{String, Ok, Err}
 use Rattle.std.specs.String.{string_bytes}
 use Rattle.std.specs.declared.alloc.Global.{Global}
-use Rattle.raft_log_disk.specs.Disk.{Disk}
+use Rattle.raft_log_disk.specs.Cause.{IsTaken}
+use Rattle.raft_log_disk.specs.Disk.{Disk, HasDirectory, IsNoFile, IsNoNewFile}
+use Rattle.raft_log_disk.specs.Text.{Text}
+use Rattle.raft_log_disk.proofs.RefusalLemmas.{still_free}
+use Rattle.raft_log_file.specs.declared.writer.LogFileWriter.{LogFileWriter}
+use Rattle.raft_log_pipe.specs.declared.file.File.{File}
+use Rattle.raft_log_pipe.specs.declared.pipe.SinglePipe.{SinglePipe}
+use Rattle.raft_log_pipe.specs.Taken.{main_path}
+use Rattle.raft_log_pipe.proofs.TakenLemmas.{exit_io, made_there, still_taken}
 use Rattle.raft_log_pipe.specs.Alone.{IsMadeIn}
 use Rattle.raft_log_records.specs.declared.file_id.FileId.{FileId}
 use Rattle.raft_log_pipe.specs.Pipe.{IsLast, IsPlain, id_of}
@@ -71,3 +79,21 @@ pub returns-clause-others : goal.returns-clause-others
 returns-clause-others g c =
     let met = g.met.F.FileSystem g.world.𝓛 g.world.𝓜 g.world.𝓡 ((λ s x. x), (λ x. x), (λ x. x), λ x. x) in
     made_others c.args.queue _ _ c.new-id.result (met.is_named c.args.files.now) (made_begun _ _ _ c.in_ok-file.file _ c.in_ok-file.ensures.created (begun_changes _ _ c.in_ok-file.file c.in_ok-writer.writer c.in_ok-writer.ensures.begun)) c.new-id.ensures.queue
+
+pub returns-in_err-file-clause-taken : goal.returns-in_err-file-clause-taken
+returns-in_err-file-clause-taken g c =
+    let d = g.F.FileSystem.disk c.args.files.now in
+    let path : Text = main_path c.args.paths.items (id_of c.args.queue 1) in
+    let same : main_path c.deref.result.now c.new-id.result ≡ path = λ i. main_path (c.deref.ensures.value i) (record { queue = c.new-id.ensures.queue i; seq = c.new-id.ensures.seq i }) in
+    λ free.
+    exit_io File SinglePipe ⊥ (HasDirectory d.directories path → ⊥) (IsNoNewFile d path) c.from_residual.result c.in_err-file.field-0.0 c.from_residual.ensures.1
+    (subst (λ (t : Text). IsTaken {T = File} (HasDirectory d.directories t → ⊥) (IsNoNewFile d t) (Err c.in_err-file.field-0.0)) same (c.in_err-file.ensures.taken free))
+
+pub returns-in_err-writer-clause-taken : goal.returns-in_err-writer-clause-taken
+returns-in_err-writer-clause-taken g c =
+    let d = g.F.FileSystem.disk c.args.files.now in
+    let path : Text = main_path c.args.paths.items (id_of c.args.queue 1) in
+    λ free.
+    exit_io (Unit {0}) SinglePipe ⊥ (HasDirectory d.directories path → ⊥) (IsNoNewFile d path) c.from_residual-in_err-writer.result c.in_err-writer.field-0.0 c.from_residual-in_err-writer.ensures.1
+    (still_taken LogFileWriter (Unit {0}) (IsNoFile (g.F.FileSystem.disk c.new_file.new.files) c.in_ok-file.file.handle.0) ⊥ (HasDirectory d.directories path → ⊥) (IsNoNewFile d path) c.in_err-writer.field-0.0
+    (λ none. absurd (made_there _ _ _ c.in_ok-file.file c.in_ok-file.ensures.created none)) (λ x. absurd x) (c.in_err-writer.ensures.taken (still_free free c.in_ok-file.ensures.later)))

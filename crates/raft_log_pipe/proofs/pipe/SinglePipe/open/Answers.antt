@@ -1,8 +1,11 @@
 use Rattle.std.proofs.Common.{[], ◌∷◌, ◌++◌, map, sym, ap}
 use Rattle.std.specs.String.{string_bytes}
-use Rattle.raft_log_disk.specs.Disk.{Disk}
+use Rattle.raft_log_disk.specs.Disk.{Disk, IsNoFile}
+use Rattle.raft_log_file.specs.declared.writer.LogFileWriter.{LogFileWriter}
+use Rattle.raft_log_pipe.specs.declared.pipe.SinglePipe.{SinglePipe}
 use Rattle.raft_log_pipe.proofs.OpenLemmas.{found_so, opened_holds, opened_keeps, opened_pipe, resumed_on}
 use Rattle.raft_log_pipe.proofs.AloneLemmas.{found_alone}
+use Rattle.raft_log_pipe.proofs.TakenLemmas.{exit_io, named_there, still_taken}
 use Rattle.raft_log_pipe.proofs.pipe.SinglePipe.open.Goals as goal
 
 pub returns-clause-pipe : goal.returns-clause-pipe
@@ -33,3 +36,12 @@ pub returns-clause-keeps : goal.returns-clause-keeps
 returns-clause-keeps g c =
     opened_keeps c.args.queue c.args.paths.items (g.F.FileSystem.disk c.args.files.now) (g.F.FileSystem.disk c.resume_file.new.files) c.args.found.items c.pop.new.self.items c.in-Some.active c.requires.found.0 c.in_ok-writer.writer c.in-Some.ensures.items
     (found_so c.args.queue c.args.paths.items (g.F.FileSystem.disk c.args.files.now) c.args.found.items c.pop.new.self.items c.in-Some.active c.requires.found.0 c.in-Some.ensures.items c.requires.found.1) c.in_ok-writer.ensures.resumed
+
+pub returns-in_err-writer-clause-taken : goal.returns-in_err-writer-clause-taken
+returns-in_err-writer-clause-taken g c =
+    let d = g.F.FileSystem.disk c.args.files.now in
+    let so = found_so c.args.queue c.args.paths.items d c.args.found.items c.pop.new.self.items c.in-Some.active c.requires.found.0 c.in-Some.ensures.items c.requires.found.1 in
+    λ free.
+    exit_io (Unit {0}) SinglePipe ⊥ ⊥ ⊥ c.from_residual.result c.in_err-writer.field-0.0 c.from_residual.ensures.1
+    (still_taken LogFileWriter (Unit {0}) (IsNoFile d c.in-Some.active.handle.0) ⊥ ⊥ ⊥ c.in_err-writer.field-0.0
+    (λ none. none (named_there d.names so.named.0 c.in-Some.active.handle.0 so.named.1)) (λ x. x) (c.in_err-writer.ensures.taken free))

@@ -1,7 +1,11 @@
-use Rattle.std.proofs.Common.{inl, refl, subst, arith, ◌∙◌}
+use Rattle.std.proofs.Common.{inl, inr, ℕ, ◌+◌, ◌≤◌, refl, subst, arith, ◌∙◌}
 use Rattle.raft_log_records.specs.declared.file_id.LogQueue.{LogQueue}
 use Rattle.raft_log_pipe.specs.Pipe.{first_of}
 use Rattle.raft_log_pipe.specs.Purging.{KeepsFrom}
+use Rattle.raft_log_disk.proofs.RefusalLemmas.{no_more_same, no_more_then, still_free}
+use Rattle.raft_log_pipe.specs.Taken.{HasLost}
+use Rattle.raft_log_pipe.proofs.LostLemmas.{alone_purge, lost_more}
+use Rattle.raft_log_pipe.proofs.TakenLemmas.{exit_error, taken_for}
 use Rattle.raft_log_pipe.proofs.PurgeLemmas.{first_more, first_or_more, goes_on, gone_on, holds_all, in_files, none_gone, rest_on, same_keeps}
 use Rattle.raft_log_pipe.proofs.pipe.SinglePipe.purge_to.Goals as goal
 
@@ -21,6 +25,8 @@ loop-gone-init g c =
       holds = holds_all c.args.self.now (g.F.FileSystem.disk c.args.files.now) (g.F.FileSystem.disk c.args.files.now) c.requires.pipe refl;
       keeps = same_keeps c.args.self.now.queue (first_of c.args.self.now) (g.F.FileSystem.disk c.args.files.now) (g.F.FileSystem.disk c.args.files.now) refl;
       gone = none_gone c.args.self.now (g.F.FileSystem.disk c.args.files.now);
+      lost = λ seq x. x;
+      later = no_more_same _ _;
     }
 
 pub returns-in_err-purge_first-clause-holds : goal.returns-in_err-purge_first-clause-holds
@@ -56,4 +62,25 @@ loop-gone-preserved g c =
           c.loop-gone.invariant.queue c.loop-gone.invariant.paths
           (subst (λ (x : LogQueue). KeepsFrom x (first_of c.purge_first.new.self) (g.F.FileSystem.disk c.loop-gone.files) (g.F.FileSystem.disk c.purge_first.new.files)) c.loop-gone.invariant.queue c.in_ok-purge_first.ensures.keeps)
           c.loop-gone.invariant.gone c.in_ok-purge_first.ensures.gone;
+      lost = λ seq x. c.loop-gone.invariant.lost seq (c.in_ok-purge_first.ensures.lost seq x);
+      later = no_more_then c.loop-gone.invariant.later c.in_ok-purge_first.ensures.later;
     }
+
+pub returns-in_err-purge_first-clause-later : goal.returns-in_err-purge_first-clause-later
+returns-in_err-purge_first-clause-later g c = no_more_then c.loop-gone.invariant.later c.in_err-purge_first.ensures.later
+
+pub returns-in_err-purge_first-clause-taken : goal.returns-in_err-purge_first-clause-taken
+returns-in_err-purge_first-clause-taken g c =
+    let p = c.args.self.now in
+    let d = g.F.FileSystem.disk c.args.files.now in
+    let q = c.loop-gone.self in
+    let e = g.F.FileSystem.disk c.loop-gone.files in
+    let next : first_of q + 1 ≤ c.args.seq = omega (arith, c.loop-gone.invariant.count, c.file_span-first.ensures.first, c.in-Some.ensures.found.1) in
+    λ free.
+    inr (exit_error ⊥ (HasLost p d c.args.seq) ⊥ c.from_residual.result c.in_err-purge_first.field-0.0 c.from_residual.ensures.1
+    (taken_for (Unit {0}) ℕ ⊥ (HasLost q e (first_of q + 1)) ⊥ ⊥ (HasLost p d c.args.seq) ⊥ c.in_err-purge_first.field-0.0 (λ x. x)
+    (λ lost. lost_more p d (first_of q + 1) c.args.seq next (c.loop-gone.invariant.lost (first_of q + 1) lost)) (λ x. x)
+    (c.in_err-purge_first.ensures.taken (still_free free c.loop-gone.invariant.later))))
+
+pub returns-in_err-purge_first-clause-there : goal.returns-in_err-purge_first-clause-there
+returns-in_err-purge_first-clause-there g c = λ free. alone_purge c.args.self.now (g.F.FileSystem.disk c.args.files.now) c.args.seq c.from_residual.result (returns-in_err-purge_first-clause-taken g c free)
