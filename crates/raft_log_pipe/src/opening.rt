@@ -1,6 +1,8 @@
 //! Opening the files of a queue, and a queue that has none yet.
 
-ghost use Rattle.std.specs.Prelude.{◌≡◌, ◌<◌, ◌++◌, ◌∷◌, [], length, map, string_bytes, IfOk, OnOk, OnErr};
+ghost use Rattle.std.specs.Prelude.{◌≡◌, ◌<◌, ◌++◌, ◌∷◌, [], length, map, string_bytes, Err, IfOk, OnOk, OnErr};
+ghost use Rattle.raft_log_files.specs.declared.error.CorruptionFault.{CorruptionFault};
+ghost use Rattle.raft_log_files.specs.declared.error.Error.TheVariants.{Corruption};
 ghost use Rattle.raft_log_pipe.specs.Alone.{AreDistinct, AreLast, IsAlone, IsVacant};
 ghost use Rattle.raft_log_pipe.specs.Begun.{Changes};
 ghost use Rattle.raft_log_pipe.specs.Found.{IsFound, IsResumed, KeepsButHeader, MakesButHeader};
@@ -53,6 +55,7 @@ impl SinglePipe {
         ensures changes { IfOk result (λ p. Changes (F.disk files.old) (F.disk files.new) p.active.handle.0) }
         ensures keeps { OnOk result (KeepsButHeader (F.disk files.old) (F.disk files.new) found.items) }
         ensures err { OnErr result (KeepsButHeader (F.disk files.old) (F.disk files.new) found.items) }
+        ensures corrupt { (f : CorruptionFault) → result ≡ Err (Corruption f) → ⊥ }
     {
         let Some(active) = found.pop() else {
             unreachable!()
@@ -90,6 +93,7 @@ impl SinglePipe {
         ensures first { IfOk result (λ p. (p.queue ≡ queue) × (p.active.seq ≡ 1) × (p.older.items ≡ [])) }
         ensures makes { MakesButHeader (F.disk files.old) (F.disk files.new) (map string_bytes paths.items) (id_of queue 1) }
         ensures others { KeepsOthers queue (F.disk files.old) (F.disk files.new) }
+        ensures corrupt { (f : CorruptionFault) → result ≡ Err (Corruption f) → ⊥ }
     {
         let id = FileId::new(queue, DEFAULT_FIRST_FILE_SEQ);
         let file = new_file(files, alloc, &paths, id, default_format, target_file_size)?;
