@@ -1,8 +1,7 @@
 //! What batches are replayed into at an opening.
 
-ghost use Rattle.std.specs.Prelude.{◌≡◌, ◌++◌, ◌∷◌, [], List, Err, OnOk};
-ghost use Rattle.raft_log_files.specs.declared.error.CorruptionFault.{CorruptionFault};
-ghost use Rattle.raft_log_files.specs.declared.error.Error.TheVariants.{Corruption};
+ghost use Rattle.std.specs.Prelude.{◌≡◌, ◌++◌, ◌∷◌, [], List, IfErr, OnOk};
+ghost use Rattle.raft_log_files.specs.declared.error.Error.TheVariants.{Memory};
 ghost use Rattle.raft_log_records.specs.Item.{items_of};
 ghost use Rattle.raft_log_recovery.specs.Replay.{Placed};
 
@@ -18,18 +17,18 @@ pub trait ReplayMachine {
     ghost has_replayed: { Self → List Placed → Type 0 };
 
     /// Replays the next batch, whose entries lie in this block. After an `Err` the machine is given
-    /// up. It is never `Corruption`: that is what the files are told of.
+    /// up. The only error is want of memory.
     fn replay(&mut self, batch: LogItemBatch, handle: FileBlockHandle) -> Result<(), Error>
         ensures replayed { OnOk result ((placed : List Placed) → has_replayed self.old placed
             → has_replayed self.new (placed ++ record { handle = handle; items = items_of batch.items.items } ∷ [])) }
-        ensures corrupt { (f : CorruptionFault) → result ≡ Err (Corruption f) → ⊥ };
+        ensures err { IfErr result (λ e. e ≡ Memory) };
 
     /// Adds what a machine has replayed that was given the batches behind those of this one. After
-    /// an `Err` the machine is given up. It is never `Corruption`.
+    /// an `Err` the machine is given up. The only error is want of memory.
     fn merge(&mut self, behind: Self) -> Result<(), Error>
         ensures replayed { OnOk result ((placed : List Placed) (more : List Placed) → has_replayed self.old placed → has_replayed behind more
             → has_replayed self.new (placed ++ more)) }
-        ensures corrupt { (f : CorruptionFault) → result ≡ Err (Corruption f) → ⊥ };
+        ensures err { IfErr result (λ e. e ≡ Memory) };
 }
 
 /// A machine that can be made new (own).
