@@ -1,5 +1,5 @@
 -- Why an opening answers Corruption.
-use Rattle.std.proofs.Common.{◌≡◌, inl, inr, ⊎_elim, List, Option, Some, None, Result, Ok, Err, sym, subst}
+use Rattle.std.proofs.Common.{◌≡◌, inl, inr, ⊎_elim, List, Option, Some, None, Result, Ok, Err, refl, subst}
 use Rattle.std.specs.Prelude.{IsErrAnd, IsOk, MatchOption}
 use Rattle.std.proofs.lemmas.Bool.{false≢true}
 use Rattle.std.proofs.lemmas.Result.{err_from_is_err_and}
@@ -25,12 +25,9 @@ use Rattle.raft_log_engine.specs.declared.fault.EngineFault.TheVariants as fault
 use Rattle.raft_log_engine.specs.Opening.{CantBeOpened}
 
 -- a refusal of the files that a `?` passes on
-pub passed_on : {S T : Type 0} (P : CorruptionFault → Type 0) (e : Error) (r : Result T EngineFault) → IsErrAnd r (λ y. y ≡ fault.Log e) → ((f : CorruptionFault) → Err {T = S} e ≡ Err (Corruption f) → P f)
+pub passed_on : {T : Type 0} (P : CorruptionFault → Type 0) (e : Error) (r : Result T EngineFault) → IsErrAnd r (λ y. y ≡ fault.Log e) → ((f : CorruptionFault) → e ≡ Corruption f → P f)
     → (f : CorruptionFault) → r ≡ Err (fault.Log (Corruption f)) → P f
-passed_on {S = S} P e r is told f corrupt =
-    let p = err_from_is_err_and r is in
-    let same : e ≡ Corruption f = cc (p.1, p.2, corrupt) in
-    told f (λ i. Err {T = S} (same i))
+passed_on P e r is told f corrupt = let p = err_from_is_err_and r is in told f (cc (p.1, p.2, corrupt))
 
 -- looking for files is refused for other reasons
 pub scan_sound : (directories : List Text) (d : Disk) (old new : Meter) (f : CorruptionFault) → IsScanFault directories d old new (Corruption f) → ⊥
@@ -42,6 +39,20 @@ scan_sound directories d old new f (inr (inr refused)) = let is = refused.0 in a
 pub sound_refused : {T : Type 0} (o : Option OtherFault) (e : Error) → MatchOption o (IsOk {T = T} (Err e)) (λ f. Err {T = T} e ≡ Err (Other f)) → (f : CorruptionFault) → e ≡ Corruption f → ⊥
 sound_refused None e taken f same = false≢true taken
 sound_refused (Some other) e is f same = absurd cc
+
+-- what was made of settings is answered
+pub sound_ok : {T : Type 0} (o : Option OtherFault) (x : T) (u : Unit {0}) → MatchOption o (Ok {E = Error} u ≡ Ok tt) (λ f. Ok u ≡ Err (Other f)) → MatchOption o (IsOk {E = Error} (Ok x)) (λ f. Ok x ≡ Err (Other f))
+sound_ok None x u told = refl
+sound_ok (Some f) x u told = absurd cc
+
+-- and why they were refused
+pub sound_err : {T : Type 0} (o : Option OtherFault) (e : Error) (r : Result T Error) → IsErrAnd r (λ y. y ≡ e) → MatchOption o (Err {T = Unit {0}} e ≡ Ok tt) (λ f. Err {T = Unit {0}} e ≡ Err (Other f))
+    → MatchOption o (IsOk r) (λ f. r ≡ Err (Other f))
+sound_err None e r is told = absurd cc
+sound_err (Some f) e r is told =
+    let p = err_from_is_err_and r is in
+    let same : e ≡ Other f = cc in
+    cc (p.1, p.2, same)
 
 -- what a builder can't open can't be opened
 pub cant_open : (b : DualPipesBuilder) (mode : RecoveryMode) (said : List Text) → directories_in b ≡ said → b.config.recovery_mode ≡ mode → (d made : Disk) → OnlyMakes said d made → IsFoundBy b Append made → IsFoundBy b Rewrite made

@@ -36,9 +36,8 @@ pub returns-in_err-sound-clause-corrupt : goal.returns-in_err-sound-clause-corru
 returns-in_err-sound-clause-corrupt g c =
     let said = directories_of (settings_of c.args.config) in
     let d = g.F.FileSystem.disk c.args.files.now in
-    passed_on {S = Config} (λ (f : CorruptionFault). (queue : LogQueue) × CantBeOpened c.args.config.recovery_mode said queue d) c.in_err-sound.field-0.0 c.from_residual.result c.from_residual.ensures.1
-    (λ f corrupt. let same : c.in_err-sound.field-0.0 ≡ Corruption f = cc in
-    absurd (sound_refused {T = Config} (settings_fault (settings_of c.args.config)) c.in_err-sound.field-0.0 c.in_err-sound.ensures.refused f same))
+    passed_on (λ (f : CorruptionFault). (queue : LogQueue) × CantBeOpened c.args.config.recovery_mode said queue d) c.in_err-sound.field-0.0 c.from_residual.result c.from_residual.ensures.1
+    (λ f same. absurd (sound_refused {T = Config} (settings_fault (settings_of c.args.config)) c.in_err-sound.field-0.0 c.in_err-sound.ensures.refused f same))
 
 pub returns-in_err-sound-clause-refused : goal.returns-in_err-sound-clause-refused
 returns-in_err-sound-clause-refused g c =

@@ -1,5 +1,5 @@
 -- What the files read as is what the pipes hold and the tables have; a refusal leaves it.
-use Rattle.std.proofs.Common.{List, ap, sym, subst, ◌∙◌, inl, inr}
+use Rattle.std.proofs.Common.{List, Err, ap, sym, subst, ◌∙◌, inl, inr}
 use Rattle.std.proofs.lemmas.Bool.{false≢true}
 use Rattle.raft_log_disk.proofs.CauseLemmas.{at_err}
 use Rattle.raft_log_disk.specs.Text.{Text}
@@ -17,11 +17,8 @@ use Rattle.raft_log_engine.proofs.Opened.{both_again, both_left, recovered_as}
 use Rattle.raft_log_engine.proofs.Reopened.{once_there}
 use Rattle.raft_log_files.specs.declared.error.CorruptionFault.{CorruptionFault}
 use Rattle.raft_log_files.specs.declared.error.Error.{Error}
-use Rattle.raft_log_files.specs.declared.error.Error.TheVariants.{Corruption}
-use Rattle.raft_log_pipes.specs.declared.pipes.DualPipes.{DualPipes}
 use Rattle.raft_log_records.specs.declared.file_id.LogQueue.{LogQueue}
 use Rattle.raft_log_recovery.specs.Scan.{IsScanFault}
-use Rattle.raft_log_replay.specs.declared.batches.ReplayedBatches.{ReplayedBatches}
 use Rattle.raft_log_engine.specs.Opening.{CantBeOpened}
 use Rattle.raft_log_engine.proofs.Corrupt.{cant_open, passed_on, scan_sound}
 use Rattle.raft_log_engine.proofs.opening.recovered.Goals as goal
@@ -137,9 +134,10 @@ pub returns-in_err-scan-clause-corrupt : goal.returns-in_err-scan-clause-corrupt
 returns-in_err-scan-clause-corrupt g c =
     let said = directories_of (settings_of c.args.config) in
     let d = g.F.FileSystem.disk c.args.files.now in
-    passed_on {S = Unit {0}} (λ (f : CorruptionFault). (queue : LogQueue) × CantBeOpened c.args.config.recovery_mode said queue d) c.in_err-scan.field-0.0 c.from_residual.result c.from_residual.ensures.1
-    (λ f corrupt. let same : c.in_err-scan.field-0.0 ≡ Corruption f = cc in
-    absurd (scan_sound _ d _ _ f (subst (λ (e : Error). IsScanFault (directories_of (settings_of c.new-builder.result.config)) d (g.F.FileSystem.meter c.args.files.now) (g.F.FileSystem.meter c.scan.new.files) e) same c.in_err-scan.ensures.err)))
+    passed_on (λ (f : CorruptionFault). (queue : LogQueue) × CantBeOpened c.args.config.recovery_mode said queue d) c.in_err-scan.field-0.0 c.from_residual.result c.from_residual.ensures.1
+    (λ f same.
+    absurd (scan_sound (directories_of (settings_of c.new-builder.result.config)) d (g.F.FileSystem.meter c.args.files.now) (g.F.FileSystem.meter c.scan.new.files) f
+    (subst (λ (e : Error). IsScanFault (directories_of (settings_of c.new-builder.result.config)) d (g.F.FileSystem.meter c.args.files.now) (g.F.FileSystem.meter c.scan.new.files) e) same c.in_err-scan.ensures.err)))
 
 pub returns-in_err-pipes-clause-corrupt : goal.returns-in_err-pipes-clause-corrupt
 returns-in_err-pipes-clause-corrupt g c =
@@ -152,6 +150,6 @@ returns-in_err-pipes-clause-corrupt g c =
     let makes = subst (λ (k : Config). OnlyMakes (directories_of (settings_of k)) d made) c.new-builder.ensures.config c.in_ok-scan.ensures.only in
     let append = subst (λ (l : List Text). AreFound made (Log Append) l (names_in b Append)) (sym c.in_ok-scan.ensures.directories) c.in_ok-scan.ensures.append in
     let rewrite = subst (λ (l : List Text). AreFound made (Log Rewrite) l (names_in b Rewrite)) (sym c.in_ok-scan.ensures.directories) c.in_ok-scan.ensures.rewrite in
-    passed_on {S = DualPipes × ReplayedBatches} (λ (f : CorruptionFault). (queue : LogQueue) × CantBeOpened c.args.config.recovery_mode said queue d) c.in_err-pipes.field-0.0 c.from_residual-in_err-pipes.result c.from_residual-in_err-pipes.ensures.1
-    (λ f corrupt. let cant = c.in_err-pipes.ensures.corrupt f corrupt in
+    passed_on (λ (f : CorruptionFault). (queue : LogQueue) × CantBeOpened c.args.config.recovery_mode said queue d) c.in_err-pipes.field-0.0 c.from_residual-in_err-pipes.result c.from_residual-in_err-pipes.ensures.1
+    (λ f same. let cant = c.in_err-pipes.ensures.corrupt f (λ i. Err (same i)) in
     (cant.0, cant_open b c.args.config.recovery_mode said at alike d made makes append rewrite cant.0 cant.1))
