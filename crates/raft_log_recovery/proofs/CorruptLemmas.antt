@@ -1,11 +1,10 @@
 -- Where an opening answers Corruption.
-use Rattle.std.proofs.Common.{◌≡◌, ℕ, ◌+◌, ◌<◌, ◌≤◌, inl, inr, Bool, true, false, cond, not, nat_lt, eqb, List, [], ◌∷◌, ◌++◌, length, get_or, take, drop, Option, Some, None, Result, Ok, Err, refl, sym, ap, subst, ◌∙◌, arith, length-drop}
+use Rattle.std.proofs.Common.{◌≡◌, ℕ, ◌+◌, ◌<◌, ◌≤◌, inl, inr, Bool, true, false, cond, not, nat_lt, eqb, List, [], ◌∷◌, ◌++◌, length, get_or, take, drop, Some, Result, Ok, Err, refl, sym, ap, subst, ◌∙◌, arith, length-drop}
 use Rattle.std.specs.Prelude.{IsErrAnd, ◌==◌}
 use Rattle.std.specs.Int.{w64, from_be_bytes}
 use Rattle.std.specs.List.{AllByRecursion, list_all}
 use Rattle.std.proofs.lemmas.Bool.{eqb-false, ltb-false}
 use Rattle.std.proofs.lemmas.Result.{err_from_is_err_and}
-use Rattle.raft_log_records.specs.declared.error.RecordFault.{RecordFault}
 use Rattle.raft_log_records.specs.declared.file_id.FileId.{FileId}
 use Rattle.raft_log_records.specs.declared.file_id.LogQueue.{LogQueue}
 use Rattle.raft_log_records.specs.declared.file_id.LogQueue.TheVariants.{Append, Rewrite}
@@ -17,13 +16,8 @@ use Rattle.raft_log_disk.specs.Cause.{Meter}
 use Rattle.raft_log_disk.specs.Disk.{Disk, FileState, IsIn, IsNamed}
 use Rattle.raft_log_disk.specs.Format.{header_at, header_len, magic}
 use Rattle.raft_log_disk.specs.Text.{Text, same_text}
-use Rattle.raft_log_file.specs.Errors.{IsNextFault, IsOpenFault, IsReadFault, Parses}
-use Rattle.raft_log_file.specs.Reader.{FailsNext, Next}
-use Rattle.raft_log_file.specs.Reading.{Reading}
-use Rattle.raft_log_file.specs.declared.batches.LogItemBatchFileReader.{LogItemBatchFileReader}
-use Rattle.raft_log_file.specs.declared.batches.OpenFile.{OpenFile}
+use Rattle.raft_log_file.specs.Errors.{IsOpenFault, IsReadFault}
 use Rattle.raft_log_files.specs.declared.error.CorruptionFault.{CorruptionFault}
-use Rattle.raft_log_files.specs.declared.error.CorruptionFault.TheVariants.{Header, NoSuchFile, Record}
 use Rattle.raft_log_files.specs.declared.error.Error.{Error}
 use Rattle.raft_log_files.specs.declared.error.Error.TheVariants.{Corruption}
 use Rattle.raft_log_files.specs.declared.recovery.RecoveryMode.{RecoveryMode}
@@ -58,12 +52,6 @@ read_sound d meter fd f (inl is) = absurd cc
 read_sound d meter fd f (inr (inl refused)) = let is = refused.0 in absurd cc
 read_sound d meter fd f (inr (inr gone)) = let is = gone.0 in absurd cc
 
--- a header is Corruption by its fault alone
-pub parse_sound : (d : Disk) (meter : Meter) (fd : ℕ) (f : CorruptionFault) → Parses d meter fd (Err (Corruption f)) → (h : HeaderFault) × (f ≡ Header h)
-parse_sound d meter fd (Header h) is = (h, refl)
-parse_sound d meter fd (Record f) is = absurd (read_sound d meter fd (Record f) is)
-parse_sound d meter fd NoSuchFile is = absurd (read_sound d meter fd NoSuchFile is)
-
 guarded : (b : Bool) (d : HeaderFault) (r : Result LogFileFormat HeaderFault) (f : LogFileFormat) → cond b (Err d) r ≡ Ok f → (b ≡ false) × (r ≡ Ok f)
 guarded true d r f is = absurd cc
 guarded false d r f is = (refl, is)
@@ -94,17 +82,6 @@ header_long bytes format is =
 pub open_sound : (d : Disk) (meter : Meter) (fd : ℕ) (format : LogFileFormat) (f : CorruptionFault) → header_at (d.file fd).bytes ≡ Ok format → IsOpenFault d meter fd format (Corruption f) → ⊥
 open_sound d meter fd format f is (inl short) = omega (arith, short.1, header_long (d.file fd).bytes format is)
 open_sound d meter fd format f is (inr read) = read_sound d meter fd f read
-
--- the next batch is Corruption by the fault of a record alone
-pub next_sound : (r : LogItemBatchFileReader) (d : Disk) (meter : Meter) (bytes : List ℕ) (before after : Reading) (f : CorruptionFault) → FailsNext r d meter (Corruption f) → Next (Err (Corruption f)) bytes before after → (g : RecordFault) × (f ≡ Record g)
-next_sound r d meter bytes before after (Record g) fails next = (g, refl)
-next_sound r d meter bytes before after (Header h) fails next = absurd next
-next_sound r d meter bytes before after NoSuchFile fails next = absurd (by_file r.file fails)
-  where
-    by_file : (o : Option OpenFile) → elim o as (λ _. Type 0) [ None ↦ ⊥ | Some file ↦ IsNextFault d meter file.fd.0 (Corruption NoSuchFile) ] → ⊥
-    by_file None none = none
-    by_file (Some file) (inl said) = let is = said.1 in absurd cc
-    by_file (Some file) (inr read) = read_sound d meter file.fd.0 NoSuchFile read
 
 -- ---- the files of a queue
 

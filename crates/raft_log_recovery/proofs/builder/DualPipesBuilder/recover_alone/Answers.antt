@@ -84,5 +84,8 @@ returns-in_err-rewrite-clause-corrupt g c =
     let met = g.met.F.FileSystem g.world.𝓛 g.world.𝓜 g.world.𝓡 ((λ s x. x), (λ x. x), (λ x. x), λ x. x) in
     passed_on {S = SinglePipe} (λ (f : CorruptionFault). (queue : LogQueue) × CantBeOpened c.args.self.now.config.recovery_mode c.args.self.now queue (g.F.FileSystem.disk c.args.files.now))
     c.in_err-rewrite.field-0.0 c.from_residual-in_err-rewrite.result c.from_residual-in_err-rewrite.ensures.1
-    (λ f corrupt. (Rewrite, cant_before c.args.self.now.config.recovery_mode c.args.self.now (g.F.FileSystem.disk c.args.files.now) (g.F.FileSystem.disk c.open_alone.new.files) (met.is_named c.args.files.now) (met.is_named c.open_alone.new.files)
-    c.requires.rewrite c.open_alone.ensures.others (c.in_err-rewrite.ensures.corrupt f corrupt)))
+    (λ f corrupt. (
+      Rewrite,
+      cant_before c.args.self.now.config.recovery_mode c.args.self.now (g.F.FileSystem.disk c.args.files.now) (g.F.FileSystem.disk c.open_alone.new.files) (met.is_named c.args.files.now) (met.is_named c.open_alone.new.files)
+          c.requires.rewrite c.open_alone.ensures.others (c.in_err-rewrite.ensures.corrupt f corrupt),
+    ))
