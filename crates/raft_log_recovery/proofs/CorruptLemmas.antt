@@ -19,7 +19,7 @@ use Rattle.raft_log_disk.specs.Text.{Text, same_text}
 use Rattle.raft_log_file.specs.Errors.{IsOpenFault, IsReadFault}
 use Rattle.raft_log_files.specs.declared.error.CorruptionFault.{CorruptionFault}
 use Rattle.raft_log_files.specs.declared.error.Error.{Error}
-use Rattle.raft_log_files.specs.declared.error.Error.TheVariants.{Corruption}
+use Rattle.raft_log_files.specs.declared.error.Error.TheVariants.{Corruption, Memory}
 use Rattle.raft_log_files.specs.declared.recovery.RecoveryMode.{RecoveryMode}
 use Rattle.raft_log_pipe.specs.declared.file.File.{File}
 use Rattle.raft_log_pipe.specs.Others.{KeepsOthers}
@@ -38,11 +38,12 @@ use Rattle.raft_log_recovery.proofs.QueueLemmas.{last_told, of_old, place_at, un
 use Rattle.raft_log_recovery.proofs.TurnLemmas.{Turn}
 
 -- what a `?` passes on is Corruption where that was
-pub passed_on : {S T : Type 0} (P : CorruptionFault → Type 0) (e : Error) (r : Result T Error) → IsErrAnd r (λ y. y ≡ e) → ((f : CorruptionFault) → Err {T = S} e ≡ Err (Corruption f) → P f) → (f : CorruptionFault) → r ≡ Err (Corruption f) → P f
-passed_on {S = S} P e r is told f corrupt =
-    let p = err_from_is_err_and r is in
-    let same : e ≡ Corruption f = cc (p.1, p.2, corrupt) in
-    told f (λ i. Err {T = S} (same i))
+pub passed_on : {T : Type 0} (P : CorruptionFault → Type 0) (e : Error) (r : Result T Error) → IsErrAnd r (λ y. y ≡ e) → ((f : CorruptionFault) → e ≡ Corruption f → P f) → (f : CorruptionFault) → r ≡ Err (Corruption f) → P f
+passed_on P e r is told f corrupt = let p = err_from_is_err_and r is in told f (cc (p.1, p.2, corrupt))
+
+-- want of memory isn't
+pub memory_sound : {T : Type 0} (P : CorruptionFault → Type 0) (r : Result T Error) → IsErrAnd r (λ y. y ≡ Memory) → (f : CorruptionFault) → r ≡ Err (Corruption f) → P f
+memory_sound P r is f corrupt = let p = err_from_is_err_and r is in let same : Memory ≡ Corruption f = cc (p.1, p.2, corrupt) in absurd cc
 
 -- ---- one file
 

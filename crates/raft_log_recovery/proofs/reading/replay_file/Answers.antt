@@ -38,6 +38,5 @@ returns-in_err-open-clause-corrupt g c =
     let d = g.F.FileSystem.disk c.args.files.now in
     let m = g.F.FileSystem.meter c.args.files.now in
     let fd = c.build_file_reader-reader.result.fd.0 in
-    passed_on {S = Unit {0}} (λ (f : CorruptionFault). ⊥) c.in_err-open.field-0.0 c.from_residual.result c.from_residual.ensures.1
-    (λ f corrupt. let same : c.in_err-open.field-0.0 ≡ Corruption f = cc in
-    open_sound d m fd c.in-Ok.format f c.in-Ok.ensures (subst (λ (e : Error). IsOpenFault d m fd c.in-Ok.format e) same c.in_err-open.ensures.err))
+    passed_on (λ (f : CorruptionFault). ⊥) c.in_err-open.field-0.0 c.from_residual.result c.from_residual.ensures.1
+    (λ f same. open_sound d m fd c.in-Ok.format f c.in-Ok.ensures (subst (λ (e : Error). IsOpenFault d m fd c.in-Ok.format e) same c.in_err-open.ensures.err))

@@ -1,4 +1,4 @@
-use Rattle.std.proofs.Common.{◌≡◌, false, Some, refl}
+use Rattle.std.proofs.Common.{◌≡◌, false, Some, Err, refl}
 use Rattle.raft_log_disk.proofs.CauseLemmas.{at_err}
 use Rattle.raft_log_recovery.proofs.EndLemmas.{repaired_placed}
 use Rattle.raft_log_recovery.proofs.RepairLemmas.{stopped_same}
@@ -24,5 +24,5 @@ returns-clause-replayed g c =
 
 pub returns-in_err-repair-clause-corrupt : goal.returns-in_err-repair-clause-corrupt
 returns-in_err-repair-clause-corrupt g c =
-    passed_on {S = Unit {0}} (λ (f : CorruptionFault). (fault_in c.args.id ((g.F.FileSystem.disk c.args.files.now).file c.args.fd.0).bytes ≡ Some f) × (cuts_faults c.args.config.now.mode c.args.is_last ≡ false))
-    c.in_err-repair.field-0.0 c.from_residual-in_err-repair.result c.from_residual-in_err-repair.ensures.1 (λ f corrupt. c.in_err-repair.ensures.corrupt f corrupt)
+    passed_on (λ (f : CorruptionFault). (fault_in c.args.id ((g.F.FileSystem.disk c.args.files.now).file c.args.fd.0).bytes ≡ Some f) × (cuts_faults c.args.config.now.mode c.args.is_last ≡ false))
+    c.in_err-repair.field-0.0 c.from_residual-in_err-repair.result c.from_residual-in_err-repair.ensures.1 (λ f same. c.in_err-repair.ensures.corrupt f (λ i. Err (same i)))
