@@ -35,24 +35,44 @@ scan_sound directories d old new f (inl is) = absurd cc
 scan_sound directories d old new f (inr (inl file)) = let is = file.0 in absurd cc
 scan_sound directories d old new f (inr (inr refused)) = let is = refused.0 in absurd cc
 
+-- a refusal, and an answer
+abbrev pub refused : (T : Type 0) → Error → Result T Error
+refused T e = Err e
+
+abbrev pub answered : (T : Type 0) → T → Result T Error
+answered T x = Ok x
+
 -- settings are refused for other reasons
-pub sound_refused : {T : Type 0} (o : Option OtherFault) (e : Error) → MatchOption o (IsOk {T = T} (Err e)) (λ f. Err {T = T} e ≡ Err (Other f)) → (f : CorruptionFault) → e ≡ Corruption f → ⊥
-sound_refused None e taken f same = false≢true taken
-sound_refused (Some other) e is f same = absurd cc
+pub sound_refused : (T : Type 0) (o : Option OtherFault) (e : Error) → MatchOption o (IsOk (refused T e)) (λ f. refused T e ≡ Err (Other f)) → (f : CorruptionFault) → e ≡ Corruption f → ⊥
+sound_refused T None e taken f same = false≢true taken
+sound_refused T (Some other) e is f same = absurd cc
 
 -- what was made of settings is answered
-pub sound_ok : {T : Type 0} (o : Option OtherFault) (x : T) (u : Unit {0}) → MatchOption o (Ok {E = Error} u ≡ Ok tt) (λ f. Ok u ≡ Err (Other f)) → MatchOption o (IsOk {E = Error} (Ok x)) (λ f. Ok x ≡ Err (Other f))
-sound_ok None x u told = refl
-sound_ok (Some f) x u told = absurd cc
+pub sound_ok : (T : Type 0) (o : Option OtherFault) (x : T) (u : Unit {0}) → MatchOption o (answered (Unit {0}) u ≡ Ok tt) (λ f. answered (Unit {0}) u ≡ Err (Other f)) → MatchOption o (IsOk (answered T x)) (λ f. answered T x ≡ Err (Other f))
+sound_ok T None x u told = refl
+sound_ok T (Some f) x u told = absurd cc
 
 -- and why they were refused
-pub sound_err : {T : Type 0} (o : Option OtherFault) (e : Error) (r : Result T Error) → IsErrAnd r (λ y. y ≡ e) → MatchOption o (Err {T = Unit {0}} e ≡ Ok tt) (λ f. Err {T = Unit {0}} e ≡ Err (Other f))
-    → MatchOption o (IsOk r) (λ f. r ≡ Err (Other f))
-sound_err None e r is told = absurd cc
-sound_err (Some f) e r is told =
+pub sound_err : (T : Type 0) (o : Option OtherFault) (e : Error) (r : Result T Error) → IsErrAnd r (λ y. y ≡ e) → MatchOption o (refused (Unit {0}) e ≡ Ok tt) (λ f. refused (Unit {0}) e ≡ Err (Other f)) → MatchOption o (IsOk r) (λ f. r ≡ Err (Other f))
+sound_err T None e r is told = absurd cc
+sound_err T (Some f) e r is told =
     let p = err_from_is_err_and r is in
     let same : e ≡ Other f = cc in
     cc (p.1, p.2, same)
+
+-- what the call behind it answers then
+pub sound_fault : {S : Type 0} (T : Type 0) (e : Error) (r : Result S EngineFault) (o : Option OtherFault) (f : OtherFault) → IsErrAnd r (λ y. y ≡ fault.Log e) → MatchOption o (IsOk (refused T e)) (λ x. refused T e ≡ Err (Other x)) → o ≡ Some f
+    → r ≡ Err (fault.Log (Other f))
+sound_fault T e r None f is told some = absurd cc
+sound_fault T e r (Some g) f is told some =
+    let p = err_from_is_err_and r is in
+    let same : e ≡ Other g = cc in
+    let which : g ≡ f = cc in
+    cc (p.1, p.2, same, which)
+
+pub sound_none : (T : Type 0) (x : T) (o : Option OtherFault) (f : OtherFault) → MatchOption o (IsOk (answered T x)) (λ g. answered T x ≡ Err (Other g)) → o ≡ Some f → ⊥
+sound_none T x None f told some = absurd cc
+sound_none T x (Some g) f told some = absurd cc
 
 -- what a builder can't open can't be opened
 pub cant_open : (b : DualPipesBuilder) (mode : RecoveryMode) (said : List Text) → directories_in b ≡ said → b.config.recovery_mode ≡ mode → (d made : Disk) → OnlyMakes said d made → IsFoundBy b Append made → IsFoundBy b Rewrite made

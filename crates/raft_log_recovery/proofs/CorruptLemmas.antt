@@ -69,8 +69,7 @@ version_long false v rest f is =
     let g = guarded (not (eqb v 2)) BadVersion _ f is in
     let h = guarded (nat_lt (length rest) 8) CutShort _ f g.1 in
     let second : LogFileFormat = record { version = V2; alignment = from_be_bytes w64 (take 8 rest) } in
-    let told : Ok {E = HeaderFault} second ≡ Ok f = h.1 in
-    let same : second ≡ f = cc in
+    let same : second ≡ f = cc h.1 in
     subst (λ (g : LogFileFormat). header_len g.version ≤ 61 + length rest) same (omega (arith, ltb-false _ _ h.0))
 
 header_long : (bytes : List ℕ) (format : LogFileFormat) → header_at bytes ≡ Ok format → header_len format.version ≤ length bytes
@@ -118,7 +117,7 @@ both_hold false b is holds = absurd cc
 aligned_in : (d : Disk) (directories : List Text) (queue : LogQueue) (names : List FileName) (fs : List File) → AreOpen d directories queue names fs → AllByRecursion (λ (f : File). f.format ≡ format_in (d.file f.handle.0).bytes) fs
     → list_all (λ f. f.format.alignment == 0) fs ≡ false → AnyAligned directories queue names d
 aligned_in d directories queue [] fs none each any = absurd (let all = subst (λ (l : List File). list_all (λ f. f.format.alignment == 0) l ≡ false) none any in cc)
-aligned_in d directories queue (name ∷ names) fs (f, rest, is, here, others) each any = by_test (f.format.alignment == 0) refl
+aligned_in d directories queue (name ∷ names) fs (f, rest, is, here, others) each any = by_test (f.format.alignment == 0) refl (aligned_in d directories queue names rest others every.1)
   where
     every : AllByRecursion (λ (g : File). g.format ≡ format_in (d.file g.handle.0).bytes) (f ∷ rest)
     every = subst (AllByRecursion (λ (g : File). g.format ≡ format_in (d.file g.handle.0).bytes)) is each
@@ -126,10 +125,10 @@ aligned_in d directories queue (name ∷ names) fs (f, rest, is, here, others) e
     some : list_all (λ g. g.format.alignment == 0) (f ∷ rest) ≡ false
     some = subst (λ (l : List File). list_all (λ g. g.format.alignment == 0) l ≡ false) is any
 
-    by_test : (b : Bool) → (f.format.alignment == 0) ≡ b → AnyAligned directories queue (name ∷ names) d
-    by_test false no = (name, f.handle.0, inl refl, here.there, λ plain. eqb-false f.format.alignment 0 no (ap (λ (x : LogFileFormat). x.alignment) every.0 ∙ plain))
-    by_test true yes =
-        let r = aligned_in d directories queue names rest others every.1 (both_hold (f.format.alignment == 0) (list_all (λ g. g.format.alignment == 0) rest) some yes) in
+    by_test : (b : Bool) → (f.format.alignment == 0) ≡ b → (list_all (λ g. g.format.alignment == 0) rest ≡ false → AnyAligned directories queue names d) → AnyAligned directories queue (name ∷ names) d
+    by_test false no behind = (name, f.handle.0, inl refl, here.there, λ plain. eqb-false f.format.alignment 0 no (ap (λ (x : LogFileFormat). x.alignment) every.0 ∙ plain))
+    by_test true yes behind =
+        let r = behind (both_hold (f.format.alignment == 0) (list_all (λ g. g.format.alignment == 0) rest) some yes) in
         (r.0, r.1, inr r.2, r.3, r.4)
 
 headers_each : (queue : LogQueue) (old mid : Disk) (fs : List File) → AllByRecursion (IsRecovered queue old mid) fs → AllByRecursion (λ (f : File). f.format ≡ format_in (old.file f.handle.0).bytes) fs

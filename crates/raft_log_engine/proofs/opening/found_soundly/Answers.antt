@@ -1,12 +1,10 @@
 -- Sound settings have the directories and the mode of those that were given.
-use Rattle.std.proofs.Common.{◌≡◌, inl, List, Option, Ok, Err, refl, sym, subst}
-use Rattle.std.specs.Prelude.{IfOk, IsOk, MatchOption, OnErr}
-use Rattle.std.proofs.lemmas.Result.{err_from_is_err_and}
+use Rattle.std.proofs.Common.{◌≡◌, inl, List, Err, refl, subst}
+use Rattle.std.specs.Prelude.{IfOk, OnErr}
 use Rattle.raft_log_disk.proofs.CauseLemmas.{at_err}
 use Rattle.raft_log_disk.specs.Text.{Text}
 use Rattle.raft_log_files.specs.declared.error.CorruptionFault.{CorruptionFault}
-use Rattle.raft_log_files.specs.declared.error.Error.TheVariants.{Corruption, Other}
-use Rattle.raft_log_files.specs.declared.error.OtherFault.{OtherFault}
+use Rattle.raft_log_files.specs.declared.error.Error.TheVariants.{Corruption}
 use Rattle.raft_log_files.specs.declared.config.Config.{Config}
 use Rattle.raft_log_files.specs.Settings.{settings_fault, settings_of}
 use Rattle.raft_log_files.specs.declared.recovery.RecoveryMode.{RecoveryMode}
@@ -17,7 +15,7 @@ use Rattle.raft_log_engine.specs.Opening.{CantBeOpened, IsFoundAgain, IsLeftByOp
 use Rattle.raft_log_engine.specs.Reopened.{StandAlone, directories_of_pipes}
 use Rattle.raft_log_recovery.proofs.DirectoryLemmas.{makes_none}
 use Rattle.raft_log_recovery.specs.Scan.{directories_of}
-use Rattle.raft_log_engine.proofs.Corrupt.{along, passed_on, sound_refused}
+use Rattle.raft_log_engine.proofs.Corrupt.{along, passed_on, sound_fault, sound_none, sound_refused}
 use Rattle.raft_log_engine.proofs.opening.found_soundly.Goals as goal
 
 pub returns-in_err-sound-clause-err : goal.returns-in_err-sound-clause-err
@@ -37,24 +35,14 @@ returns-in_err-sound-clause-corrupt g c =
     let said = directories_of (settings_of c.args.config) in
     let d = g.F.FileSystem.disk c.args.files.now in
     passed_on (λ (f : CorruptionFault). (queue : LogQueue) × CantBeOpened c.args.config.recovery_mode said queue d) c.in_err-sound.field-0.0 c.from_residual.result c.from_residual.ensures.1
-    (λ f same. absurd (sound_refused {T = Config} (settings_fault (settings_of c.args.config)) c.in_err-sound.field-0.0 c.in_err-sound.ensures.refused f same))
+    (λ f same. absurd (sound_refused Config (settings_fault (settings_of c.args.config)) c.in_err-sound.field-0.0 c.in_err-sound.ensures.refused f same))
 
 pub returns-in_err-sound-clause-refused : goal.returns-in_err-sound-clause-refused
 returns-in_err-sound-clause-refused g c =
-    let p = err_from_is_err_and c.from_residual.result c.from_residual.ensures.1 in
-    λ f is.
-    let told : Err {T = Config} c.in_err-sound.field-0.0 ≡ Err (Other f)
-    = subst (λ (o : Option OtherFault). MatchOption o (IsOk {T = Config} (Err c.in_err-sound.field-0.0)) (λ x. Err {T = Config} c.in_err-sound.field-0.0 ≡ Err (Other x))) is c.in_err-sound.ensures.refused in
-    let same : c.in_err-sound.field-0.0 ≡ Other f = cc in
-    let answer : p.0 ≡ Log (Other f) = cc (p.2, same) in
-    (cc (p.1, answer), refl)
+    λ f is. (sound_fault Config c.in_err-sound.field-0.0 c.from_residual.result (settings_fault (settings_of c.args.config)) f c.from_residual.ensures.1 c.in_err-sound.ensures.refused is, refl)
 
 pub returns-clause-refused : goal.returns-clause-refused
-returns-clause-refused g c =
-    λ f is.
-    let told : Ok c.in_ok-sound.sound ≡ Err (Other f)
-    = subst (λ (o : Option OtherFault). MatchOption o (IsOk (Ok c.in_ok-sound.sound)) (λ x. Ok c.in_ok-sound.sound ≡ Err (Other x))) is c.in_ok-sound.ensures.refused in
-    absurd cc
+returns-clause-refused g c = λ f is. absurd (sound_none Config c.in_ok-sound.sound (settings_fault (settings_of c.args.config)) f c.in_ok-sound.ensures.refused is)
 
 pub returns-clause-ok : goal.returns-clause-ok
 returns-clause-ok g c =
