@@ -126,9 +126,9 @@ aligned_in d directories queue (name ∷ names) fs (f, rest, is, here, others) e
     some = subst (λ (l : List File). list_all (λ g. g.format.alignment == 0) l ≡ false) is any
 
     by_test : (b : Bool) → (f.format.alignment == 0) ≡ b → (list_all (λ g. g.format.alignment == 0) rest ≡ false → AnyAligned directories queue names d) → AnyAligned directories queue (name ∷ names) d
-    by_test false no behind = (name, f.handle.0, inl refl, here.there, λ plain. eqb-false f.format.alignment 0 no (ap (λ (x : LogFileFormat). x.alignment) every.0 ∙ plain))
-    by_test true yes behind =
-        let r = behind (both_hold (f.format.alignment == 0) (list_all (λ g. g.format.alignment == 0) rest) some yes) in
+    by_test false zero_not behind = (name, f.handle.0, inl refl, here.there, λ plain. eqb-false f.format.alignment 0 zero_not (ap (λ (x : LogFileFormat). x.alignment) every.0 ∙ plain))
+    by_test true is_zero behind =
+        let r = behind (both_hold (f.format.alignment == 0) (list_all (λ g. g.format.alignment == 0) rest) some is_zero) in
         (r.0, r.1, inr r.2, r.3, r.4)
 
 headers_each : (queue : LogQueue) (old mid : Disk) (fs : List File) → AllByRecursion (IsRecovered queue old mid) fs → AllByRecursion (λ (f : File). f.format ≡ format_in (old.file f.handle.0).bytes) fs
