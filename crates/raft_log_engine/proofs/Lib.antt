@@ -15,3 +15,4 @@ pub mod Synced
 pub mod Again
 pub mod Crashes
 pub mod Taken
+pub mod Corrupt

@@ -1,5 +1,6 @@
 -- What an engine is opened with: the batches that the files of both queues read as.
 use Rattle.std.specs.Prelude.{◌≡◌, ◌⊎◌, ℕ, List, ◌++◌}
+use Rattle.raft_log_records.specs.declared.file_id.LogQueue.{LogQueue}
 use Rattle.raft_log_records.specs.declared.file_id.LogQueue.TheVariants.{Append, Rewrite}
 use Rattle.raft_log_disk.specs.Text.{Text}
 use Rattle.raft_log_disk.specs.Disk.{Disk}
@@ -12,6 +13,8 @@ use Rattle.raft_log_recovery.specs.declared.scan.FileKind.TheVariants.{Log}
 use Rattle.raft_log_recovery.specs.declared.scan.FileName.{FileName}
 use Rattle.raft_log_recovery.specs.Again.{FindsSound}
 use Rattle.raft_log_recovery.specs.Both.{ChangesBoth, LeavesQueue}
+use Rattle.raft_log_recovery.specs.Opening.{AnyAligned}
+use Rattle.raft_log_recovery.specs.Queue.{AnyRefused}
 use Rattle.raft_log_recovery.specs.Scan.{AreFound, OnlyMakes}
 use Rattle.raft_log_engine.specs.Held.{IsKept, content_of_batches}
 
@@ -48,6 +51,15 @@ pub record LeavesFound (mode : RecoveryMode) (directories : List Text) (d new : 
 -- nothing changed but that directories are made; or so
 abbrev pub IsLeftByOpening : RecoveryMode → List Text → Disk → Disk → Type 0
 IsLeftByOpening mode directories d new = OnlyMakes directories d new ⊎ LeavesFound mode directories d new
+
+-- Files of a queue are found once the directories are there, and one of them has a fault that the mode refuses, or a header that
+-- says an alignment
+pub record CantBeOpened (mode : RecoveryMode) (directories : List Text) (queue : LogQueue) (d : Disk) : Type 0 where
+  pub made : Disk
+  pub names : List FileName
+  pub makes : OnlyMakes directories d made
+  pub found : AreFound made (Log queue) directories names
+  pub refused : AnyRefused mode directories queue names made ⊎ AnyAligned directories queue names made
 
 -- the pipes hold just those batches, and the tables have their content
 pub record IsRecoveredAs (mode : RecoveryMode) (directories : List Text) (d new : Disk) (p : DualPipes) (tables : MemTables) : Type 0 where

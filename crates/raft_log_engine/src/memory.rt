@@ -9,9 +9,12 @@ ghost use Rattle.raft_log_disk.specs.Chance.{IsGenuineImage};
 ghost use Rattle.raft_log_disk.specs.Disk.{Disk};
 ghost use Rattle.raft_log_disk.specs.Image.{Image, seen_image};
 ghost use Rattle.raft_log_disk.specs.MemorySystem.{disk_in};
+ghost use Rattle.raft_log_engine.specs.declared.fault.EngineFault.TheVariants as engine_fault;
 ghost use Rattle.raft_log_engine.specs.Left.{answers_on};
 ghost use Rattle.raft_log_engine.specs.Log.{IsFoundBy, leaves_of_log, main_directory};
-ghost use Rattle.raft_log_engine.specs.Opening.{IsLeftByOpening};
+ghost use Rattle.raft_log_engine.specs.Opening.{CantBeOpened, IsLeftByOpening};
+ghost use Rattle.raft_log_files.specs.declared.error.CorruptionFault.{CorruptionFault};
+ghost use Rattle.raft_log_files.specs.declared.error.Error.TheVariants.{Corruption};
 ghost use Rattle.raft_log_files.specs.Settings.{settings_of};
 ghost use Rattle.raft_log_memtables.specs.Content.{Content, nothing};
 ghost use Rattle.raft_log_pipe.specs.Alone.{IsOnce, Names};
@@ -130,6 +133,8 @@ impl MemoryLog {
         ensures err { IfErr result (λ refused. IsLeftByOpening files.settings.recovery_mode (main_directory files.settings) (disk_in files.files) (disk_in refused.files.files)) }
         ensures reads { IfErr result (λ refused. (content : Content (List ℕ)) → IsFoundBy files.settings (disk_in refused.files.files) content
             → IsFoundBy files.settings (disk_in files.files) content) }
+        ensures corrupt { IfErr result (λ refused. (f : CorruptionFault) → refused.fault ≡ engine_fault.Log (Corruption f)
+            → (queue : LogQueue) × CantBeOpened files.settings.recovery_mode (main_directory files.settings) queue (disk_in files.files)) }
     {
         let LogFiles { settings, files } = files;
         let Ok(config) = in_one_directory(&settings) else {

@@ -1,20 +1,24 @@
 //! Opening an engine with the files that are there.
-ghost use Rattle.std.specs.Prelude.{◌≡◌, ℕ, List, [], IfOk, IfErr, OnErr};
+ghost use Rattle.std.specs.Prelude.{◌≡◌, ℕ, List, [], Err, IfOk, IfErr, IsErrAnd, IsOk, MatchOption, OnErr, Some};
 ghost use Rattle.raft_log_disk.specs.Cause.{RefusesNoMore};
 ghost use Rattle.raft_log_engine.specs.Left.{IsSound, answers_on};
-ghost use Rattle.raft_log_engine.specs.Opening.{IsFoundAgain, IsFoundContent, IsLeftByOpening, IsRecoveredAs};
+ghost use Rattle.raft_log_engine.specs.declared.fault.EngineFault.TheVariants.{Log};
+ghost use Rattle.raft_log_engine.specs.Opening.{CantBeOpened, IsFoundAgain, IsFoundContent, IsLeftByOpening, IsRecoveredAs};
 ghost use Rattle.raft_log_engine.specs.Reopened.{OpensAs, OpensAsFront, StandAlone, StandsAlone, directories_of_engine, directories_of_pipes};
 ghost use Rattle.raft_log_engine.specs.Since.{HasWritten};
 ghost use Rattle.raft_log_file.specs.Laws.{Batch};
 ghost use Rattle.raft_log_memtables.specs.Content.{Content, nothing};
 ghost use Rattle.raft_log_pipe.specs.Alone.{IsOnce};
 ghost use Rattle.raft_log_records.specs.declared.file_id.LogQueue.{LogQueue};
-ghost use Rattle.raft_log_files.specs.Settings.{settings_of};
+ghost use Rattle.raft_log_files.specs.Settings.{settings_fault, settings_of};
+ghost use Rattle.raft_log_files.specs.declared.error.CorruptionFault.{CorruptionFault};
+ghost use Rattle.raft_log_files.specs.declared.error.Error.TheVariants.{Corruption, Other};
+ghost use Rattle.raft_log_files.specs.declared.error.OtherFault.{OtherFault};
 ghost use Rattle.raft_log_recovery.specs.Scan.{directories_of};
 
 use crate::engine::Engine;
 use crate::fault::EngineFault;
-use raft_log_files::{Config, FileSystem};
+use raft_log_files::{Config, Error, FileSystem};
 use raft_log_memtables::MemTables;
 use raft_log_pipes::DualPipes;
 use raft_log_records::LogQueue;
@@ -31,6 +35,16 @@ pub struct NotOpened<F> {
     pub files: F,
 }
 
+/// The settings with what is too small raised, or `Other` where no log can be kept under them.
+fn sound_settings(mut config: Config) -> Result<Config, Error>
+    ensures directories { IfOk result (λ sound. directories_of (settings_of sound) ≡ directories_of (settings_of config)) }
+    ensures mode { IfOk result (λ sound. sound.recovery_mode ≡ config.recovery_mode) }
+    ensures refused { MatchOption (settings_fault (settings_of config)) (IsOk result) (λ f. result ≡ Err (Other f)) }
+{
+    config.sanitize()?;
+    Ok(config)
+}
+
 /// The pipes over the files that are there, and the tables of their batches.
 fn recovered<F: FileSystem>(
     files: &mut F,
@@ -42,6 +56,8 @@ fn recovered<F: FileSystem>(
     ensures alone { IfOk result (λ found. ((queue : LogQueue) → IsOnce (F.disk files.old).names (directories_of (settings_of config)) queue) → StandAlone found.0 (F.disk files.new)) }
     ensures err { OnErr result (IsLeftByOpening config.recovery_mode (directories_of (settings_of config)) (F.disk files.old) (F.disk files.new)) }
     ensures reads { OnErr result (IsFoundAgain config.recovery_mode (directories_of (settings_of config)) (F.disk files.old) (F.disk files.new)) }
+    ensures corrupt { (f : CorruptionFault) → result ≡ Err (Log (Corruption f))
+        → (queue : LogQueue) × CantBeOpened config.recovery_mode (directories_of (settings_of config)) queue (F.disk files.old) }
 {
     let mut builder = DualPipesBuilder::new(alloc, config);
     builder.scan(files)?;
@@ -53,11 +69,31 @@ fn recovered<F: FileSystem>(
     Ok((pipes, tables))
 }
 
+/// The same under sound settings. Unsound ones are refused before any call on the files.
+fn found_soundly<F: FileSystem>(
+    files: &mut F,
+    alloc: Global,
+    config: Config,
+) -> Result<(DualPipes, MemTables), EngineFault>
+    ensures ok { IfOk result (λ found. IsRecoveredAs config.recovery_mode (directories_of (settings_of config)) (F.disk files.old) (F.disk files.new) found.0 found.1) }
+    ensures paths { IfOk result (λ found. directories_of_pipes found.0 ≡ directories_of (settings_of config)) }
+    ensures alone { IfOk result (λ found. ((queue : LogQueue) → IsOnce (F.disk files.old).names (directories_of (settings_of config)) queue) → StandAlone found.0 (F.disk files.new)) }
+    ensures err { OnErr result (IsLeftByOpening config.recovery_mode (directories_of (settings_of config)) (F.disk files.old) (F.disk files.new)) }
+    ensures reads { OnErr result (IsFoundAgain config.recovery_mode (directories_of (settings_of config)) (F.disk files.old) (F.disk files.new)) }
+    ensures corrupt { (f : CorruptionFault) → result ≡ Err (Log (Corruption f))
+        → (queue : LogQueue) × CantBeOpened config.recovery_mode (directories_of (settings_of config)) queue (F.disk files.old) }
+    ensures refused { (f : OtherFault) → settings_fault (settings_of config) ≡ Some f → (result ≡ Err (Log (Other f))) × (files.new ≡ files.old) }
+{
+    let sound = sound_settings(config)?;
+    recovered(files, alloc, sound)
+}
+
 impl<F: FileSystem + Drop> Engine<F> {
     /// Opens the engine with the files that are there, or makes the first one of a queue that has
     /// none (raft-engine's `open`, with one worker): its content is that of the rewrite queue's
     /// batches, with those of the append queue behind them. A fault in a file is cut away or refused,
-    /// as `recovery_mode` says. A refusal hands the files back, which read as before.
+    /// as `recovery_mode` says. Unsound settings are refused as by `Config::sanitize`, with no call on
+    /// the files. A refusal hands the files back, which read as before.
     pub fn open(mut files: F, alloc: Global, config: Config) -> Result<Engine<F>, NotOpened<F>>
         ensures sound { IfOk result IsSound }
         ensures answers { IfOk result (λ e. IsFoundContent config.recovery_mode (directories_of (settings_of config)) (F.disk files) (answers_on F.disk e)) }
@@ -68,8 +104,11 @@ impl<F: FileSystem + Drop> Engine<F> {
         ensures opens { IfOk result (λ e. StandsAlone F.disk e → OpensAs (directories_of_engine e) (F.disk e.files) (answers_on F.disk e)) }
         ensures err { IfErr result (λ refused. IsLeftByOpening config.recovery_mode (directories_of (settings_of config)) (F.disk files) (F.disk refused.files)) }
         ensures reads { IfErr result (λ refused. IsFoundAgain config.recovery_mode (directories_of (settings_of config)) (F.disk files) (F.disk refused.files)) }
+        ensures corrupt { IfErr result (λ refused. (f : CorruptionFault) → refused.fault ≡ Log (Corruption f)
+            → (queue : LogQueue) × CantBeOpened config.recovery_mode (directories_of (settings_of config)) queue (F.disk files)) }
+        ensures refused { (f : OtherFault) → settings_fault (settings_of config) ≡ Some f → IsErrAnd result (λ refused. (refused.fault ≡ Log (Other f)) × (refused.files ≡ files)) }
     {
-        match recovered(&mut files, alloc, config) {
+        match found_soundly(&mut files, alloc, config) {
             Ok((pipes, tables)) => Ok(Engine {
                 alloc,
                 files,

@@ -1,8 +1,10 @@
 //! Opening the files of a queue, and a queue that has none yet.
 
-ghost use Rattle.std.specs.Prelude.{◌≡◌, ◌<◌, ◌++◌, ◌∷◌, [], length, map, string_bytes, IfOk, OnOk, OnErr};
+ghost use Rattle.std.specs.Prelude.{◌≡◌, ◌<◌, ◌++◌, ◌∷◌, [], length, map, string_bytes, Err, IfOk, OnOk, OnErr};
 ghost use Rattle.raft_log_disk.specs.Cause.{IsTaken, NothingRefuses, RefusesNoMore};
 ghost use Rattle.raft_log_disk.specs.Disk.{IsNoFile};
+ghost use Rattle.raft_log_files.specs.declared.error.CorruptionFault.{CorruptionFault};
+ghost use Rattle.raft_log_files.specs.declared.error.Error.TheVariants.{Corruption};
 ghost use Rattle.raft_log_pipe.specs.Alone.{AreDistinct, AreLast, IsAlone, IsVacant};
 ghost use Rattle.raft_log_pipe.specs.Begun.{Changes};
 ghost use Rattle.raft_log_pipe.specs.Found.{IsFound, IsResumed, KeepsButHeader, MakesButHeader};
@@ -60,6 +62,7 @@ impl SinglePipe {
         ensures err { OnErr result (KeepsButHeader (F.disk files.old) (F.disk files.new) found.items) }
         ensures later { RefusesNoMore (F.is_bounded files.old) (F.is_bounded files.new) (F.meter files.old) (F.meter files.new) }
         ensures taken { NothingRefuses (F.is_bounded files.old) (F.meter files.old) → IsOkOrMemory result }
+        ensures corrupt { (f : CorruptionFault) → result ≡ Err (Corruption f) → ⊥ }
     {
         let Some(active) = found.pop() else {
             unreachable!()
@@ -99,6 +102,7 @@ impl SinglePipe {
         ensures others { KeepsOthers queue (F.disk files.old) (F.disk files.new) }
         ensures later { RefusesNoMore (F.is_bounded files.old) (F.is_bounded files.new) (F.meter files.old) (F.meter files.new) }
         ensures taken { NothingRefuses (F.is_bounded files.old) (F.meter files.old) → IsCreationTaken paths.items queue (F.disk files.old) result }
+        ensures corrupt { (f : CorruptionFault) → result ≡ Err (Corruption f) → ⊥ }
     {
         let id = FileId::new(queue, DEFAULT_FIRST_FILE_SEQ);
         let file = new_file(files, alloc, &paths, id, default_format, target_file_size)?;

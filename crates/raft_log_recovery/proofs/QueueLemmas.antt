@@ -132,11 +132,11 @@ pub record IsStep (directories : List Text) (queue : LogQueue) (cur new : Disk) 
   pub fits : AreBytes (cur.file f.handle.0).bytes
 
 -- names are as they were
-of_old : (directories : List Text) (queue : LogQueue) (names : List FileName) (old cur : Disk) (name : FileName) (fd : ℕ) → OnlyChanges directories queue names old cur → IsFileOf cur directories queue name fd → IsFileOf old directories queue name fd
+pub of_old : (directories : List Text) (queue : LogQueue) (names : List FileName) (old cur : Disk) (name : FileName) (fd : ℕ) → OnlyChanges directories queue names old cur → IsFileOf cur directories queue name fd → IsFileOf old directories queue name fd
 of_old directories queue names old cur name fd only there = ap (λ (l : List (Text × ℕ)). fd_of l (path_of directories queue name)) (sym only.names_stay) ∙ there
 
 -- no file of the names behind has changed
-untouched : (directories : List Text) (queue : LogQueue) (count : ℕ) (old cur : Disk) (done behind : List FileName) (name : FileName) (fd : ℕ) → IsNamed old → AreNumbered count (done ++ behind) → OnlyChanges directories queue done old cur
+pub untouched : (directories : List Text) (queue : LogQueue) (count : ℕ) (old cur : Disk) (done behind : List FileName) (name : FileName) (fd : ℕ) → IsNamed old → AreNumbered count (done ++ behind) → OnlyChanges directories queue done old cur
     → IsIn name behind → IsFileOf old directories queue name fd → cur.file fd ≡ old.file fd
 untouched directories queue count old cur done behind name fd named are only here there =
     only.files fd (λ other among of. apart old directories queue count done behind other name fd fd named are among here of there refl)
@@ -400,7 +400,7 @@ pub none_left : (mode : RecoveryMode) (directories : List Text) (queue : LogQueu
 none_left mode directories queue names d none (before, name, behind, is, refused) =
     absurd (omega (arith, none before name behind is refused, ap length is, length-append before (name ∷ behind)))
 
-last_told : (n m : ℕ) → (n + 1 == n + (m + 1)) ≡ (m == 0)
+pub last_told : (n m : ℕ) → (n + 1 == n + (m + 1)) ≡ (m == 0)
 last_told n m = by_test (m == 0) refl
   where
     by_test : (b : Bool) → (m == 0) ≡ b → (n + 1 == n + (m + 1)) ≡ b
@@ -472,7 +472,7 @@ cut_at names i = take-append-drop i names
 suc_is : (i : ℕ) → i + 1 ≡ suc i
 suc_is i = omega arith
 
-place_at : (names : List FileName) (i : ℕ) (d : FileName) → i < length names → take i names ++ get_or names i d ∷ drop (i + 1) names ≡ names
+pub place_at : (names : List FileName) (i : ℕ) (d : FileName) → i < length names → take i names ++ get_or names i d ∷ drop (i + 1) names ≡ names
 place_at names i d lt =
     (λ j. take i names ++ get_or names i d ∷ drop (suc_is i j) names)
     ∙ ap (λ (l : List FileName). take i names ++ l) (sym (drop-cons names i d lt)) ∙ take-append-drop i names

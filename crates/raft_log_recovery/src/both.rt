@@ -1,7 +1,9 @@
 //! Both queues, recovered and opened one beside the other.
 
-ghost use Rattle.std.specs.Prelude.{◌≡◌, ◌++◌, List, IfOk, IsErr};
+ghost use Rattle.std.specs.Prelude.{◌≡◌, ◌++◌, List, Err, IfOk, IsErr};
 ghost use Rattle.raft_log_files.specs.Settings.{settings_of};
+ghost use Rattle.raft_log_files.specs.declared.error.CorruptionFault.{CorruptionFault};
+ghost use Rattle.raft_log_files.specs.declared.error.Error.TheVariants.{Corruption};
 ghost use Rattle.raft_log_pipe.specs.Others.{KeepsOthers};
 ghost use Rattle.raft_log_pipes.specs.Pipes.{ArePipes};
 ghost use Rattle.raft_log_records.specs.declared.file_id.LogQueue.{LogQueue};
@@ -37,6 +39,7 @@ impl DualPipesBuilder {
         ensures only { ChangesAtMost (directories_in self.now) queue (names_in self.now queue) (F.disk files.old) (F.disk files.new) }
         ensures others { KeepsOthers queue (F.disk files.old) (F.disk files.new) }
         ensures refused { CantBeOpened self.now.config.recovery_mode self.now queue (F.disk files.old) → IsErr result }
+        ensures corrupt { (f : CorruptionFault) → result ≡ Err (Corruption f) → CantBeOpened self.now.config.recovery_mode self.now queue (F.disk files.old) }
     {
         let config = RecoveryConfig {
             queue,
@@ -66,6 +69,7 @@ impl DualPipesBuilder {
         ensures replayed { IfOk result (λ r. (all : List Placed) × M.has_replayed r.1 all × ArePipesWith self.now (F.disk files.old) (F.disk files.new) r.0 all) }
         ensures leaves { LeavesBoth self.now.config.recovery_mode self.now (F.disk files.old) (F.disk files.new) }
         ensures refused { (queue : LogQueue) → CantBeOpened self.now.config.recovery_mode self.now queue (F.disk files.old) → IsErr result }
+        ensures corrupt { (f : CorruptionFault) → result ≡ Err (Corruption f) → (queue : LogQueue) × CantBeOpened self.now.config.recovery_mode self.now queue (F.disk files.old) }
     {
         let mut behind = factory.new_target();
         let append = self.open_alone(files, LogQueue::Append, &mut behind)?;

@@ -1,14 +1,17 @@
 //! From recovered files to a pipe.
 
-ghost use Rattle.std.specs.Prelude.{◌≡◌, ◌++◌, ◌==◌, List, map, string_bytes, IfOk, IsErr, OnErr};
+ghost use Rattle.std.specs.Prelude.{◌≡◌, ◌++◌, ◌==◌, List, map, string_bytes, Err, IfOk, IsErr, OnErr};
 ghost use Rattle.std.specs.List.{list_all};
 ghost use Rattle.raft_log_files.specs.Settings.{settings_of};
+ghost use Rattle.raft_log_files.specs.declared.error.CorruptionFault.{CorruptionFault};
+ghost use Rattle.raft_log_files.specs.declared.error.Error.TheVariants.{Corruption};
 ghost use Rattle.raft_log_pipe.specs.Alone.{IsAlone, IsOnce, directories_of_pipe};
 ghost use Rattle.raft_log_pipe.specs.Others.{KeepsOthers};
 ghost use Rattle.raft_log_pipe.specs.Pipe.{IsPipe};
 ghost use Rattle.raft_log_recovery.specs.declared.scan.FileKind.TheVariants.{Log};
 ghost use Rattle.raft_log_recovery.specs.Scan.{AreFound, directories_of};
 ghost use Rattle.raft_log_recovery.specs.Again.{FindsAsBefore};
+ghost use Rattle.raft_log_recovery.specs.Both.{CantBeOpened};
 ghost use Rattle.raft_log_recovery.specs.Replay.{Placed};
 ghost use Rattle.raft_log_recovery.specs.Queue.{AnyRefused, AreLeft, ChangesAtMost, KeepsRefused, directories_in, names_in};
 ghost use Rattle.raft_log_recovery.specs.Opening.{AnyAligned, IsPipeWith};
@@ -67,6 +70,7 @@ impl DualPipesBuilder {
         ensures refused { AnyRefused config.now.mode (directories_in self.now) config.now.queue (names_in self.now config.now.queue) (F.disk files.old) → IsErr result }
         ensures aligned { AnyAligned (directories_in self.now) config.now.queue (names_in self.now config.now.queue) (F.disk files.old) → IsErr result }
         ensures kept { OnErr result (KeepsRefused config.now.mode (directories_in self.now) config.now.queue (names_in self.now config.now.queue) (F.disk files.old) (F.disk files.new)) }
+        ensures corrupt { (f : CorruptionFault) → result ≡ Err (Corruption f) → CantBeOpened config.now.mode self.now config.now.queue (F.disk files.old) }
     {
         let recovered = self.recover_queue(files, config, machine)?;
         if !are_plain(&recovered) {

@@ -1,6 +1,8 @@
 //! All files of a queue, recovered in the order of their numbers.
 
-ghost use Rattle.std.specs.Prelude.{◌≡◌, ◌++◌, ◌<◌, List, length, map, string_bytes, IfOk, IsErr, OnOk, OnErr};
+ghost use Rattle.std.specs.Prelude.{◌≡◌, ◌++◌, ◌<◌, List, length, map, string_bytes, Err, IfOk, IsErr, OnOk, OnErr};
+ghost use Rattle.raft_log_files.specs.declared.error.CorruptionFault.{CorruptionFault};
+ghost use Rattle.raft_log_files.specs.declared.error.Error.TheVariants.{Corruption};
 ghost use Rattle.raft_log_files.specs.FileName.{IsFileSeq};
 ghost use Rattle.raft_log_recovery.specs.declared.scan.FileKind.TheVariants.{Log};
 ghost use Rattle.raft_log_recovery.specs.Scan.{AreFound};
@@ -28,6 +30,7 @@ fn open_file<F: FileSystem>(
     requires place { name.path_id < length directories.now }
     ensures ok { IfOk result (λ fd. IsFileOf (F.disk files.old) (map string_bytes directories.now) queue name fd.0) }
     ensures kept { F.disk files.new ≡ F.disk files.old }
+    ensures corrupt { (f : CorruptionFault) → result ≡ Err (Corruption f) → ⊥ }
 {
     let id = FileId::new(queue, name.seq);
     let path = id.build_file_path(alloc, directories[name.path_id].as_str())?;
@@ -53,6 +56,7 @@ fn recover_each<F: FileSystem, M: ReplayMachine>(
     ensures err { OnErr result (AreLeft (map string_bytes directories.now) config.now.queue names.now (F.disk files.old) (F.disk files.new)) }
     ensures refused { AnyRefused config.now.mode (map string_bytes directories.now) config.now.queue names.now (F.disk files.old) → IsErr result }
     ensures kept { OnErr result (KeepsRefused config.now.mode (map string_bytes directories.now) config.now.queue names.now (F.disk files.old) (F.disk files.new)) }
+    ensures corrupt { (f : CorruptionFault) → result ≡ Err (Corruption f) → AnyRefused config.now.mode (map string_bytes directories.now) config.now.queue names.now (F.disk files.old) }
 {
     let mut recovered = Vec::new(alloc);
     for name in names {
@@ -101,6 +105,8 @@ impl DualPipesBuilder {
         ensures err { OnErr result (AreLeft (directories_in self.now) config.now.queue (names_in self.now config.now.queue) (F.disk files.old) (F.disk files.new)) }
         ensures refused { AnyRefused config.now.mode (directories_in self.now) config.now.queue (names_in self.now config.now.queue) (F.disk files.old) → IsErr result }
         ensures kept { OnErr result (KeepsRefused config.now.mode (directories_in self.now) config.now.queue (names_in self.now config.now.queue) (F.disk files.old) (F.disk files.new)) }
+        ensures corrupt { (f : CorruptionFault) → result ≡ Err (Corruption f)
+            → AnyRefused config.now.mode (directories_in self.now) config.now.queue (names_in self.now config.now.queue) (F.disk files.old) }
     {
         let names = self.names_of(config.queue);
         recover_each(files, self.alloc, machine, config, &self.directories, names)

@@ -1,5 +1,5 @@
 -- What the files read as is what the pipes hold and the tables have; a refusal leaves it.
-use Rattle.std.proofs.Common.{List, ap, sym, subst, ◌∙◌, inl, inr}
+use Rattle.std.proofs.Common.{List, Err, ap, sym, subst, ◌∙◌, inl, inr}
 use Rattle.std.proofs.lemmas.Bool.{false≢true}
 use Rattle.raft_log_disk.proofs.CauseLemmas.{at_err}
 use Rattle.raft_log_disk.specs.Text.{Text}
@@ -15,6 +15,12 @@ use Rattle.raft_log_engine.specs.Opening.{IsFoundAgain, IsLeftByOpening}
 use Rattle.raft_log_engine.proofs.Again.{made_again}
 use Rattle.raft_log_engine.proofs.Opened.{both_again, both_left, recovered_as}
 use Rattle.raft_log_engine.proofs.Reopened.{once_there}
+use Rattle.raft_log_files.specs.declared.error.CorruptionFault.{CorruptionFault}
+use Rattle.raft_log_files.specs.declared.error.Error.{Error}
+use Rattle.raft_log_records.specs.declared.file_id.LogQueue.{LogQueue}
+use Rattle.raft_log_recovery.specs.Scan.{IsScanFault}
+use Rattle.raft_log_engine.specs.Opening.{CantBeOpened}
+use Rattle.raft_log_engine.proofs.Corrupt.{cant_open, passed_on, scan_sound}
 use Rattle.raft_log_engine.proofs.opening.recovered.Goals as goal
 
 pub returns-in_err-scan-clause-err : goal.returns-in_err-scan-clause-err
@@ -123,3 +129,27 @@ returns-clause-alone g c =
       append = opened.append.alone (once_there d made _ said (directories_in b) Append c.in_ok-scan.ensures.only at (once Append));
       rewrite = opened.rewrite.alone (once_there d made _ said (directories_in b) Rewrite c.in_ok-scan.ensures.only at (once Rewrite));
     }
+
+pub returns-in_err-scan-clause-corrupt : goal.returns-in_err-scan-clause-corrupt
+returns-in_err-scan-clause-corrupt g c =
+    let said = directories_of (settings_of c.args.config) in
+    let d = g.F.FileSystem.disk c.args.files.now in
+    passed_on (λ (f : CorruptionFault). (queue : LogQueue) × CantBeOpened c.args.config.recovery_mode said queue d) c.in_err-scan.field-0.0 c.from_residual.result c.from_residual.ensures.1
+    (λ f same.
+    absurd (scan_sound (directories_of (settings_of c.new-builder.result.config)) d (g.F.FileSystem.meter c.args.files.now) (g.F.FileSystem.meter c.scan.new.files) f
+    (subst (λ (e : Error). IsScanFault (directories_of (settings_of c.new-builder.result.config)) d (g.F.FileSystem.meter c.args.files.now) (g.F.FileSystem.meter c.scan.new.files) e) same c.in_err-scan.ensures.err)))
+
+pub returns-in_err-pipes-clause-corrupt : goal.returns-in_err-pipes-clause-corrupt
+returns-in_err-pipes-clause-corrupt g c =
+    let said = directories_of (settings_of c.args.config) in
+    let d = g.F.FileSystem.disk c.args.files.now in
+    let b = c.scan.new.self in
+    let made = g.F.FileSystem.disk c.scan.new.files in
+    let at = c.in_ok-scan.ensures.directories ∙ ap (λ (k : Config). directories_of (settings_of k)) c.new-builder.ensures.config in
+    let alike = ap (λ (k : Config). k.recovery_mode) (c.in_ok-scan.ensures.config ∙ c.new-builder.ensures.config) in
+    let makes = subst (λ (k : Config). OnlyMakes (directories_of (settings_of k)) d made) c.new-builder.ensures.config c.in_ok-scan.ensures.only in
+    let append = subst (λ (l : List Text). AreFound made (Log Append) l (names_in b Append)) (sym c.in_ok-scan.ensures.directories) c.in_ok-scan.ensures.append in
+    let rewrite = subst (λ (l : List Text). AreFound made (Log Rewrite) l (names_in b Rewrite)) (sym c.in_ok-scan.ensures.directories) c.in_ok-scan.ensures.rewrite in
+    passed_on (λ (f : CorruptionFault). (queue : LogQueue) × CantBeOpened c.args.config.recovery_mode said queue d) c.in_err-pipes.field-0.0 c.from_residual-in_err-pipes.result c.from_residual-in_err-pipes.ensures.1
+    (λ f same. let cant = c.in_err-pipes.ensures.corrupt f (λ i. Err (same i)) in
+    (cant.0, cant_open b c.args.config.recovery_mode said at alike d made makes append rewrite cant.0 cant.1))

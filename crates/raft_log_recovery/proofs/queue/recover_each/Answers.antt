@@ -1,13 +1,15 @@
-use Rattle.std.proofs.Common.{◌≡◌, ◌+◌, List, [], ◌∷◌, ◌++◌, length, map, string_bytes, take, arith, refl, sym, subst, ◌∙◌}
+use Rattle.std.proofs.Common.{◌≡◌, ◌+◌, List, [], ◌∷◌, ◌++◌, length, map, string_bytes, take, arith, Err, refl, sym, subst, ◌∙◌}
 use Rattle.std.proofs.lemmas.Bool.{false≢true}
 use Rattle.raft_log_pipe.specs.declared.file.File.{File}
 use Rattle.raft_log_disk.specs.Disk.{Disk}
 use Rattle.raft_log_disk.specs.Text.{Text}
+use Rattle.raft_log_files.specs.declared.error.CorruptionFault.{CorruptionFault}
 use Rattle.raft_log_disk.proofs.CauseLemmas.{at_err}
-use Rattle.raft_log_recovery.specs.Queue.{AreRecovered}
+use Rattle.raft_log_recovery.specs.Queue.{AnyRefused, AreRecovered}
 use Rattle.raft_log_recovery.proofs.QueueLemmas.{NoneRefused, Replays, alike_at, kept_at, left_at, none_left, number_here, only_between}
 use Rattle.raft_log_recovery.proofs.ReplayLemmas.{file_fits}
 use Rattle.raft_log_recovery.proofs.TurnLemmas.{Turn, done_alike, done_kept, done_left, done_none, done_of, done_only, done_recovered, done_replays, file_at, is_file, stopped_alike, stopped_kept, stopped_left, stopped_only, turn_of}
+use Rattle.raft_log_recovery.proofs.CorruptLemmas.{memory_sound, passed_on, refused_at}
 use Rattle.raft_log_recovery.proofs.queue.recover_each.Goals as goal
 
 pub open_file-requires-clause-seq : goal.open_file-requires-clause-seq
@@ -151,3 +153,21 @@ returns-clause-reads g c =
     let met = g.met.F.FileSystem g.world.𝓛 g.world.𝓜 g.world.𝓡 ((λ s x. x), (λ x. x), (λ x. x), λ x. x) in
     alike_at c.args.config.now.mode (map string_bytes c.args.directories.now) c.args.config.now.queue (length c.args.directories.now) (g.F.FileSystem.disk c.args.files.now) c.args.names.now (met.is_named c.args.files.now) c.requires
     (g.F.FileSystem.disk c.loop-name.files) (g.F.FileSystem.disk c.loop-name.files) c.loop-name.name-index c.loop-name.recovered.items refl c.loop-name.invariant.so
+
+pub returns-in_err-format-clause-corrupt : goal.returns-in_err-format-clause-corrupt
+returns-in_err-format-clause-corrupt g c =
+    let met = g.met.F.FileSystem g.world.𝓛 g.world.𝓜 g.world.𝓡 ((λ s x. x), (λ x. x), (λ x. x), λ x. x) in
+    let t : Turn = turn_of (g.F.FileSystem.disk c.args.files.now) (met.is_named c.args.files.now) c.args.config.now.mode c.args.config.now.queue c.args.directories.now c.args.names.now c.requires c.loop-name.name-index c.loop-name-test.true
+    (g.F.FileSystem.disk c.loop-name.files) (g.F.FileSystem.disk c.open_file.new.files) c.loop-name.recovered.items c.in_ok-fd.fd.0 c.new-id.result c.open_file.ensures.kept c.loop-name.invariant.so c.in_ok-fd.ensures.ok (λ j. record { queue = c.new-id.ensures.queue j; seq = c.new-id.ensures.seq j }) in
+    passed_on (λ (f : CorruptionFault). AnyRefused t.mode t.directories t.queue t.names t.old) c.in_err-format.field-0.0 c.from_residual-in_err-format.result c.from_residual-in_err-format.ensures.1
+    (λ f same. refused_at t c.len.result f (c.len.ensures ∙ c.loop-name.invariant.count) (c.in_err-format.ensures.corrupt f (λ i. Err (same i))))
+
+pub returns-in_err-fd-clause-corrupt : goal.returns-in_err-fd-clause-corrupt
+returns-in_err-fd-clause-corrupt g c =
+    passed_on (λ (f : CorruptionFault). AnyRefused c.args.config.now.mode (map string_bytes c.args.directories.now) c.args.config.now.queue c.args.names.now (g.F.FileSystem.disk c.args.files.now))
+    c.in_err-fd.field-0.0 c.from_residual.result c.from_residual.ensures.1 (λ f same. absurd (c.in_err-fd.ensures.corrupt f (λ i. Err (same i))))
+
+pub returns-in_err-push-clause-corrupt : goal.returns-in_err-push-clause-corrupt
+returns-in_err-push-clause-corrupt g c =
+    memory_sound (λ (f : CorruptionFault). AnyRefused c.args.config.now.mode (map string_bytes c.args.directories.now) c.args.config.now.queue c.args.names.now (g.F.FileSystem.disk c.args.files.now))
+    c.from_residual-in_err-push.result c.from_residual-in_err-push.ensures.1

@@ -8,6 +8,9 @@ use Rattle.raft_log_file.specs.Errors.{Parses}
 use Rattle.raft_log_file.specs.Reader.{held_bytes, left}
 use Rattle.raft_log_file.specs.Reading.{read_behind}
 use Rattle.raft_log_recovery.proofs.ReplayLemmas.{all_placed, nothing_placed}
+use Rattle.raft_log_file.specs.Errors.{IsOpenFault}
+use Rattle.raft_log_files.specs.declared.error.CorruptionFault.{CorruptionFault}
+use Rattle.raft_log_recovery.proofs.CorruptLemmas.{open_sound, passed_on}
 use Rattle.raft_log_recovery.proofs.reading.replay_file.Goals as goal
 
 pub returns-in-Err-Corruption-Header-clause-replayed : goal.returns-in-Err-Corruption-Header-clause-replayed
@@ -29,3 +32,11 @@ returns-clause-replayed g c =
     (c.in_ok-open.ensures.held ∙ ap (λ (n : ℕ). (d.file n).bytes) fd)
     (c.in_ok-open.ensures.ok ∙ ap (λ (n : ℕ). read_behind c.args.id c.in-Ok.format (header_len c.in-Ok.format.version) (d.file n).bytes) fd)
     c.in_ok-fault.ensures.replayed
+
+pub returns-in_err-open-clause-corrupt : goal.returns-in_err-open-clause-corrupt
+returns-in_err-open-clause-corrupt g c =
+    let d = g.F.FileSystem.disk c.args.files.now in
+    let m = g.F.FileSystem.meter c.args.files.now in
+    let fd = c.build_file_reader-reader.result.fd.0 in
+    passed_on (λ (f : CorruptionFault). ⊥) c.in_err-open.field-0.0 c.from_residual.result c.from_residual.ensures.1
+    (λ f same. open_sound d m fd c.in-Ok.format f c.in-Ok.ensures (subst (λ (e : Error). IsOpenFault d m fd c.in-Ok.format e) same c.in_err-open.ensures.err))

@@ -21,5 +21,5 @@ batches-preserved g c =
       fault = ap (λ (x : Reading). x.fault) (sym given.is) ∙ c.batches.invariant.fault;
       to = ap (λ (x : Reading). x.to) (sym given.is) ∙ c.batches.invariant.to;
       replayed = replays_more (g.M.ReplayMachine.has_replayed c.args.machine.now) (g.M.ReplayMachine.has_replayed c.batches.machine) (g.M.ReplayMachine.has_replayed c.replay.new.self) c.args.id bytes
-          (left c.args.reader.now d).batches before after given.batch _ c.batches.invariant.replayed given.is given.placed c.in_ok-replay-in-Ok-Some.ensures;
+          (left c.args.reader.now d).batches before after given.batch _ c.batches.invariant.replayed given.is given.placed c.in_ok-replay-in-Ok-Some.ensures.replayed;
     }

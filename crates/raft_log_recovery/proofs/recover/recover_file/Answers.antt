@@ -1,8 +1,11 @@
-use Rattle.std.proofs.Common.{refl}
+use Rattle.std.proofs.Common.{◌≡◌, false, Some, Err, refl}
 use Rattle.raft_log_disk.proofs.CauseLemmas.{at_err}
 use Rattle.raft_log_recovery.proofs.EndLemmas.{repaired_placed}
 use Rattle.raft_log_recovery.proofs.RepairLemmas.{stopped_same}
 use Rattle.raft_log_recovery.proofs.ReplayLemmas.{file_fits}
+use Rattle.raft_log_files.specs.declared.error.CorruptionFault.{CorruptionFault}
+use Rattle.raft_log_recovery.specs.Repair.{cuts_faults, fault_in}
+use Rattle.raft_log_recovery.proofs.CorruptLemmas.{passed_on}
 use Rattle.raft_log_recovery.proofs.recover.recover_file.Goals as goal
 
 pub returns-in_err-read-clause-err : goal.returns-in_err-read-clause-err
@@ -18,3 +21,8 @@ returns-clause-replayed g c =
     let met = g.met.F.FileSystem g.world.𝓛 g.world.𝓜 g.world.𝓡 ((λ s x. x), (λ x. x), (λ x. x), λ x. x) in
     repaired_placed (g.M.ReplayMachine.has_replayed c.args.machine.now) (g.M.ReplayMachine.has_replayed c.replay_file.new.machine) (g.F.FileSystem.disk c.args.files.now) _ c.args.id c.args.fd.0
     (file_fits (g.F.FileSystem.disk c.args.files.now) c.args.fd.0 (met.has_images c.args.files.now) c.requires) c.in_ok-repair.ensures.ok c.in_ok-read.ensures.replayed
+
+pub returns-in_err-repair-clause-corrupt : goal.returns-in_err-repair-clause-corrupt
+returns-in_err-repair-clause-corrupt g c =
+    passed_on (λ (f : CorruptionFault). (fault_in c.args.id ((g.F.FileSystem.disk c.args.files.now).file c.args.fd.0).bytes ≡ Some f) × (cuts_faults c.args.config.now.mode c.args.is_last ≡ false))
+    c.in_err-repair.field-0.0 c.from_residual-in_err-repair.result c.from_residual-in_err-repair.ensures.1 (λ f same. c.in_err-repair.ensures.corrupt f (λ i. Err (same i)))

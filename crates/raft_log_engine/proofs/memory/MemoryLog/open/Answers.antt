@@ -1,11 +1,16 @@
 -- In one directory no two files have one number, so an engine that is opened stands alone.
-use Rattle.std.proofs.Common.{List, false, refl, subst, ◌∙◌}
+use Rattle.std.proofs.Common.{◌≡◌, List, false, refl, subst, ◌∙◌}
 use Rattle.raft_log_disk.specs.MemorySystem.{disk_in}
 use Rattle.raft_log_disk.specs.Text.{Text}
 use Rattle.raft_log_engine.specs.Left.{answers_on}
+use Rattle.raft_log_engine.specs.declared.fault.EngineFault.TheVariants as fault
+use Rattle.raft_log_files.specs.declared.error.CorruptionFault.{CorruptionFault}
+use Rattle.raft_log_files.specs.declared.error.Error.TheVariants.{Corruption}
+use Rattle.raft_log_records.specs.declared.file_id.LogQueue.{LogQueue}
 use Rattle.raft_log_files.specs.declared.recovery.RecoveryMode.{RecoveryMode}
 use Rattle.raft_log_engine.specs.Log.{main_directory}
-use Rattle.raft_log_engine.specs.Opening.{IsFoundAgain, IsLeftByOpening}
+use Rattle.raft_log_engine.specs.Opening.{CantBeOpened, IsFoundAgain, IsLeftByOpening}
+use Rattle.raft_log_engine.proofs.Corrupt.{along}
 use Rattle.raft_log_engine.proofs.Logs.{leaves_only}
 use Rattle.raft_log_engine.proofs.memory.MemoryLog.open.Goals as goal
 
@@ -31,3 +36,7 @@ pub returns-in-Err-clause-reads : goal.returns-in-Err-clause-reads
 returns-in-Err-clause-reads c =
     subst (λ (m : RecoveryMode). IsFoundAgain m (main_directory c.args.files.settings) (disk_in c.args.files.files) (disk_in c.in-Err.field-0.files)) c.in-Ok.ensures.mode
     (subst (λ (l : List Text). IsFoundAgain c.in-Ok.config.recovery_mode l (disk_in c.args.files.files) (disk_in c.in-Err.field-0.files)) c.in-Ok.ensures.directories c.in-Err.ensures.reads)
+
+pub returns-in-Err-clause-corrupt : goal.returns-in-Err-clause-corrupt
+returns-in-Err-clause-corrupt c =
+    along (λ m l. (f : CorruptionFault) → c.in-Err.field-0.fault ≡ fault.Log (Corruption f) → (queue : LogQueue) × CantBeOpened m l queue (disk_in c.args.files.files)) c.in-Ok.ensures.mode c.in-Ok.ensures.directories c.in-Err.ensures.corrupt

@@ -18,3 +18,6 @@ returns-clause-leaves g c = record {
 
 pub returns-clause-refused : goal.returns-clause-refused
 returns-clause-refused g c = λ cant. ⊎_elim c.open_queue.ensures.refused c.open_queue.ensures.aligned cant
+
+pub returns-clause-corrupt : goal.returns-clause-corrupt
+returns-clause-corrupt g c = c.open_queue.ensures.corrupt

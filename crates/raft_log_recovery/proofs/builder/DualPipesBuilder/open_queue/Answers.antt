@@ -1,4 +1,4 @@
-use Rattle.std.proofs.Common.{◌≡◌, List, length, map, string_bytes, refl, sym, ap, subst, ◌∙◌, arith}
+use Rattle.std.proofs.Common.{◌≡◌, inl, inr, List, Err, length, map, string_bytes, refl, sym, ap, subst, ◌∙◌, arith}
 use Rattle.std.specs.Prelude.{◌==◌, vec_len}
 use Rattle.std.proofs.lemmas.Bool.{eqb-false, eqb-true, false≢true}
 use Rattle.std.specs.List.{list_all}
@@ -17,6 +17,9 @@ use Rattle.raft_log_pipe.proofs.OthersLemmas.{others_on}
 use Rattle.raft_log_recovery.proofs.BesideLemmas.{only_others}
 use Rattle.raft_log_recovery.proofs.FoundLemmas.{found_numbered}
 use Rattle.raft_log_recovery.proofs.AloneLemmas.{created_alone, found_alone, paths_are}
+use Rattle.raft_log_recovery.proofs.CorruptLemmas.{any_aligned, memory_sound, passed_on}
+use Rattle.raft_log_files.specs.declared.error.CorruptionFault.{CorruptionFault}
+use Rattle.raft_log_recovery.specs.Both.{CantBeOpened}
 use Rattle.raft_log_recovery.proofs.builder.DualPipesBuilder.open_queue.Goals as goal
 
 pub returns-then-not-are_plain-clause-left : goal.returns-then-not-are_plain-clause-left
@@ -268,3 +271,24 @@ returns-clause-others g c =
     let keeps : KeepsButHeader mid new fs = either_way c.open.result (KeepsButHeader mid new fs) c.open.ensures.keeps c.open.ensures.err in
     let only : OnlyChanges directories queue names old new = kept_only directories queue old mid new names fs c.in_ok-recovered.ensures.ok keeps in
     only_others directories queue (length directories) names old new (met.is_named c.args.files.now) (found_numbered old (Log queue) directories (length directories) names (omega arith) c.requires.found) only
+
+pub returns-then-not-are_plain-clause-corrupt : goal.returns-then-not-are_plain-clause-corrupt
+returns-then-not-are_plain-clause-corrupt g c =
+    λ f corrupt. inr (any_aligned (directories_in c.args.self.now) c.args.config.now.queue (g.F.FileSystem.disk c.args.files.now) (g.F.FileSystem.disk c.recover_queue.new.files) (names_in c.args.self.now c.args.config.now.queue)
+    c.in_ok-recovered.recovered.items c.in_ok-recovered.ensures.ok (ap (list_all (λ f. f.format.alignment == 0)) (sym c.deref.ensures.value) ∙ sym c.are_plain.ensures ∙ c.if-not-are_plain.true))
+
+pub returns-in_err-recovered-clause-corrupt : goal.returns-in_err-recovered-clause-corrupt
+returns-in_err-recovered-clause-corrupt g c =
+    passed_on (λ (f : CorruptionFault). CantBeOpened c.args.config.now.mode c.args.self.now c.args.config.now.queue (g.F.FileSystem.disk c.args.files.now))
+    c.in_err-recovered.field-0.0 c.from_residual.result c.from_residual.ensures.1 (λ f same. inl (c.in_err-recovered.ensures.corrupt f (λ i. Err (same i))))
+
+pub returns-in_err-paths-clause-corrupt : goal.returns-in_err-paths-clause-corrupt
+returns-in_err-paths-clause-corrupt g c =
+    memory_sound (λ (f : CorruptionFault). CantBeOpened c.args.config.now.mode c.args.self.now c.args.config.now.queue (g.F.FileSystem.disk c.args.files.now))
+    c.from_residual-in_err-paths.result c.from_residual-in_err-paths.ensures.1
+
+pub returns-then-is_empty-clause-corrupt : goal.returns-then-is_empty-clause-corrupt
+returns-then-is_empty-clause-corrupt g c = λ f corrupt. absurd (c.create.ensures.corrupt f corrupt)
+
+pub returns-clause-corrupt : goal.returns-clause-corrupt
+returns-clause-corrupt g c = λ f corrupt. absurd (c.open.ensures.corrupt f corrupt)

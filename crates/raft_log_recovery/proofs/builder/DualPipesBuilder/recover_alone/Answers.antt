@@ -1,6 +1,12 @@
-use Rattle.std.proofs.Common.{[], ◌++◌}
+use Rattle.std.proofs.Common.{[], ◌++◌, ◌≡◌, Err, sym, ◌∙◌}
 use Rattle.std.proofs.lemmas.Bool.{false≢true}
 use Rattle.raft_log_recovery.proofs.BothLemmas.{both_leave, both_opened, both_pipes, both_with, first_leaves, found_still, neither}
+use Rattle.raft_log_records.specs.declared.file_id.LogQueue.{LogQueue}
+use Rattle.raft_log_records.specs.declared.file_id.LogQueue.TheVariants.{Append, Rewrite}
+use Rattle.raft_log_files.specs.declared.error.CorruptionFault.{CorruptionFault}
+use Rattle.raft_log_files.specs.declared.error.Error.TheVariants.{Corruption, Memory}
+use Rattle.raft_log_recovery.specs.Both.{CantBeOpened}
+use Rattle.raft_log_recovery.proofs.CorruptLemmas.{cant_before, passed_on}
 use Rattle.raft_log_recovery.proofs.builder.DualPipesBuilder.recover_alone.Goals as goal
 
 pub open_alone-requires-2-clause-found : goal.open_alone-requires-2-clause-found
@@ -56,7 +62,7 @@ returns-clause-replayed g c =
     let one = c.in_ok-append.ensures.replayed [] c.new_target-behind.ensures in
     let two = c.in_ok-rewrite.ensures.replayed [] c.new_target-machine.ensures in (
       two.0 ++ one.0,
-      c.in_ok-merge.ensures two.0 one.0 two.1 one.1,
+      c.in_ok-merge.ensures.replayed two.0 one.0 two.1 one.1,
       both_with c.args.self.now.config.recovery_mode c.args.self.now (g.F.FileSystem.disk c.args.files.now) (g.F.FileSystem.disk c.open_alone.new.files) (met.is_named c.args.files.now) (met.is_named c.open_alone.new.files) c.requires.append
           c.requires.rewrite c.open_alone.ensures.others (g.F.FileSystem.disk c.open_alone-2.new.files) (met.is_named c.open_alone-2.new.files) c.open_alone-2.ensures.others
           c.in_ok-append.append c.in_ok-rewrite.rewrite c.open.result c.open.ensures.pipes c.in_ok-append.ensures.opened c.in_ok-rewrite.ensures.opened one.0 two.0 one.2 two.2,
@@ -67,3 +73,25 @@ returns-clause-refused g c =
     let met = g.met.F.FileSystem g.world.𝓛 g.world.𝓜 g.world.𝓡 ((λ s x. x), (λ x. x), (λ x. x), λ x. x) in
     λ queue cant. absurd (neither c.args.self.now.config.recovery_mode c.args.self.now (g.F.FileSystem.disk c.args.files.now) (g.F.FileSystem.disk c.open_alone.new.files) (met.is_named c.args.files.now) (met.is_named c.open_alone.new.files) c.requires.append
     c.requires.rewrite c.open_alone.ensures.others (λ first. false≢true (c.in_ok-append.ensures.refused first)) (λ second. false≢true (c.in_ok-rewrite.ensures.refused second)) queue cant)
+
+pub returns-in_err-append-clause-corrupt : goal.returns-in_err-append-clause-corrupt
+returns-in_err-append-clause-corrupt g c =
+    passed_on (λ (f : CorruptionFault). (queue : LogQueue) × CantBeOpened c.args.self.now.config.recovery_mode c.args.self.now queue (g.F.FileSystem.disk c.args.files.now))
+    c.in_err-append.field-0.0 c.from_residual.result c.from_residual.ensures.1 (λ f same. (Append, c.in_err-append.ensures.corrupt f (λ i. Err (same i))))
+
+pub returns-in_err-rewrite-clause-corrupt : goal.returns-in_err-rewrite-clause-corrupt
+returns-in_err-rewrite-clause-corrupt g c =
+    let met = g.met.F.FileSystem g.world.𝓛 g.world.𝓜 g.world.𝓡 ((λ s x. x), (λ x. x), (λ x. x), λ x. x) in
+    passed_on (λ (f : CorruptionFault). (queue : LogQueue) × CantBeOpened c.args.self.now.config.recovery_mode c.args.self.now queue (g.F.FileSystem.disk c.args.files.now))
+    c.in_err-rewrite.field-0.0 c.from_residual-in_err-rewrite.result c.from_residual-in_err-rewrite.ensures.1
+    (λ f same. (
+      Rewrite,
+      cant_before c.args.self.now.config.recovery_mode c.args.self.now (g.F.FileSystem.disk c.args.files.now) (g.F.FileSystem.disk c.open_alone.new.files) (met.is_named c.args.files.now) (met.is_named c.open_alone.new.files)
+          c.requires.rewrite c.open_alone.ensures.others (c.in_err-rewrite.ensures.corrupt f (λ i. Err (same i))),
+    ))
+
+pub returns-in_err-merge-clause-corrupt : goal.returns-in_err-merge-clause-corrupt
+returns-in_err-merge-clause-corrupt g c =
+    passed_on (λ (f : CorruptionFault). (queue : LogQueue) × CantBeOpened c.args.self.now.config.recovery_mode c.args.self.now queue (g.F.FileSystem.disk c.args.files.now))
+    c.in_err-merge.field-0.0 c.from_residual-in_err-merge.result c.from_residual-in_err-merge.ensures.1
+    (λ f same. let apart : Memory ≡ Corruption f = sym c.in_err-merge.ensures.err ∙ same in absurd cc)

@@ -1,4 +1,4 @@
-use Rattle.std.proofs.Common.{List, length, map, string_bytes, sym, subst, arith}
+use Rattle.std.proofs.Common.{◌≡◌, List, Err, length, map, string_bytes, sym, subst, arith}
 use Rattle.std.specs.Prelude.{IsErr, OnErr, String}
 use Rattle.std.specs.declared.alloc.Global.{Global}
 use Rattle.std.proofs.lemmas.List.{length-map}
@@ -6,6 +6,8 @@ use Rattle.raft_log_recovery.specs.declared.scan.FileKind.TheVariants.{Log}
 use Rattle.raft_log_recovery.specs.declared.scan.FileName.{FileName}
 use Rattle.raft_log_recovery.specs.Queue.{AnyRefused, AreLeft, AreNumbered, AreReadAlike, KeepsRefused, directories_in, names_in}
 use Rattle.raft_log_recovery.proofs.FoundLemmas.{found_numbered}
+use Rattle.raft_log_files.specs.declared.error.CorruptionFault.{CorruptionFault}
+use Rattle.raft_log_files.specs.declared.error.Error.TheVariants.{Corruption}
 use Rattle.raft_log_recovery.proofs.builder.DualPipesBuilder.recover_queue.Goals as goal
 
 pub recover_each-requires-after_bounds : goal.recover_each-requires-after_bounds
@@ -48,3 +50,11 @@ returns-clause-reads g c =
     let new = g.F.FileSystem.disk c.recover_each.new.files in
     subst (λ (l : List FileName). AreReadAlike (directories_in c.args.self.now) queue l old new) c.names_of-names.ensures
     (subst (λ (l : List (String Global)). AreReadAlike (map string_bytes l) queue c.names_of-names.result.now old new) c.deref.ensures.value c.recover_each.ensures.reads)
+
+pub returns-clause-corrupt : goal.returns-clause-corrupt
+returns-clause-corrupt g c =
+    let queue = c.args.config.now.queue in
+    let mode = c.args.config.now.mode in
+    let old = g.F.FileSystem.disk c.args.files.now in
+    subst (λ (l : List FileName). (f : CorruptionFault) → c.recover_each.result ≡ Err (Corruption f) → AnyRefused mode (directories_in c.args.self.now) queue l old) c.names_of-names.ensures
+    (subst (λ (l : List (String Global)). (f : CorruptionFault) → c.recover_each.result ≡ Err (Corruption f) → AnyRefused mode (map string_bytes l) queue c.names_of-names.result.now old) c.deref.ensures.value c.recover_each.ensures.corrupt)
