@@ -1,6 +1,6 @@
 -- Where an opening answers Corruption.
 use Rattle.std.proofs.Common.{◌≡◌, ℕ, ◌+◌, ◌<◌, ◌≤◌, inl, inr, Bool, true, false, cond, not, nat_lt, eqb, List, [], ◌∷◌, ◌++◌, length, get_or, take, drop, Some, Result, Ok, Err, refl, sym, ap, subst, ◌∙◌, arith, length-drop}
-use Rattle.std.specs.Prelude.{IsErrAnd, ◌==◌}
+use Rattle.std.specs.Prelude.{IsErrAnd, ◌==◌, ◌&&◌}
 use Rattle.std.specs.Int.{w64, from_be_bytes}
 use Rattle.std.specs.List.{AllByRecursion, list_all}
 use Rattle.std.proofs.lemmas.Bool.{eqb-false, ltb-false}
@@ -110,7 +110,7 @@ refused_at t n f is (fault, refuses) =
       ),
     )
 
-both_hold : (a b : Bool) → cond a b false ≡ false → a ≡ true → b ≡ false
+both_hold : (a b : Bool) → (a && b) ≡ false → a ≡ true → b ≡ false
 both_hold true b is holds = is
 both_hold false b is holds = absurd cc
 
