@@ -18,13 +18,13 @@ returns-in-Ok-clause-answers g c =
       appends = is.appends;
       rewrite = is.rewrite;
       append = is.append;
-      is = answered (g.F.FileSystem.disk c.recovered.new.files) c.in-Ok.pipes c.in-Ok.tables is.rewrites is.appends is.kept;
+      is = answered (g.F.FileSystem.disk c.found_soundly.new.files) c.in-Ok.pipes c.in-Ok.tables is.rewrites is.appends is.kept;
     }
 
 pub returns-in-Ok-clause-fresh : goal.returns-in-Ok-clause-fresh
 returns-in-Ok-clause-fresh g c =
     let is = c.in-Ok.ensures.ok in
-    let d = g.F.FileSystem.disk c.recovered.new.files in
+    let d = g.F.FileSystem.disk c.found_soundly.new.files in
     λ none. found_nothing (directories_of (settings_of c.args.config)) c.args.config.recovery_mode (g.F.FileSystem.disk c.args.files) _ none (record {
       rewrites = is.rewrites;
       appends = is.appends;
@@ -37,7 +37,7 @@ pub returns-in-Ok-clause-opens : goal.returns-in-Ok-clause-opens
 returns-in-Ok-clause-opens g c =
     let met = g.met.F.FileSystem g.world.𝓛 g.world.𝓜 g.world.𝓡 ((λ s x. x), (λ x. x), (λ x. x), λ x. x) in
     let is = c.in-Ok.ensures.ok in
-    λ alone. kept_opens (g.F.FileSystem.disk c.recovered.new.files) c.in-Ok.pipes c.in-Ok.tables is.rewrites is.appends (met.is_named c.recovered.new.files) alone is.kept
+    λ alone. kept_opens (g.F.FileSystem.disk c.found_soundly.new.files) c.in-Ok.pipes c.in-Ok.tables is.rewrites is.appends (met.is_named c.found_soundly.new.files) alone is.kept
 
 pub invariant_of-result : goal.invariant_of-result
 invariant_of-result g c =
@@ -46,13 +46,13 @@ invariant_of-result g c =
       rewrites = is.rewrites;
       synced = is.appends;
       unsynced = [];
-      held = kept_held (g.F.FileSystem.disk c.recovered.new.files) c.in-Ok.pipes c.in-Ok.tables is.rewrites is.appends is.kept;
+      held = kept_held (g.F.FileSystem.disk c.found_soundly.new.files) c.in-Ok.pipes c.in-Ok.tables is.rewrites is.appends is.kept;
       none = λ all. refl;
     }
 
 pub returns-in-Ok-clause-written : goal.returns-in-Ok-clause-written
 returns-in-Ok-clause-written g c =
     let is = c.in-Ok.ensures.ok in
-    let e = parts c.recovered.new.files c.in-Ok.pipes c.in-Ok.tables false false in
+    let e = parts c.found_soundly.new.files c.in-Ok.pipes c.in-Ok.tables false false in
     nothing_since (g.F.FileSystem.disk) e is.rewrites is.appends is.kept.rewrite is.kept.append (answers_on (g.F.FileSystem.disk) e)
-    (answered (g.F.FileSystem.disk c.recovered.new.files) c.in-Ok.pipes c.in-Ok.tables is.rewrites is.appends is.kept)
+    (answered (g.F.FileSystem.disk c.found_soundly.new.files) c.in-Ok.pipes c.in-Ok.tables is.rewrites is.appends is.kept)
