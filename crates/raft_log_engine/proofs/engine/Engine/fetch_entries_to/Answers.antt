@@ -7,7 +7,7 @@ use Rattle.raft_log_engine.proofs.engine.Engine.fetch_entries_to.Goals as goal
 
 pub returns-clause-found : goal.returns-clause-found
 returns-clause-found g c =
-    let held = c.self.invariant c.if-self.false in
+    let held = (c.self.invariant c.if-self.false).batches in
     let d = g.F.FileSystem.disk c.self.inside.files in
     let p = c.self.inside.pipes in
     rw (← c.self.view_is) (copied c.copies_of.result (bytes_on d p) (content_in c.self.inside.tables c.args.group) c.args.begin c.args.end c.args.max_size c.in-Ok.places.items
