@@ -12,7 +12,7 @@ use Rattle.raft_content_log.specs.Leaving.{IsWritten}
 use Rattle.raft_log_engine.specs.Held.{seen_on}
 use Rattle.raft_log_engine.specs.Left.{answers_on, leaves_on}
 use Rattle.raft_log_engine.specs.Since.{HasWritten}
-use Rattle.raft_log_engine.proofs.Clauses.{HeldBy, agrees, done_batches, done_from, done_kept, done_seen, done_written, empty_written, failed, kept_by, others, parts, put_leaves, refused}
+use Rattle.raft_log_engine.proofs.Clauses.{HeldBy, agrees, done_blocks, done_from, done_kept, done_seen, done_written, empty_written, failed, kept_by, others, parts, put_leaves, refused}
 use Rattle.raft_log_engine.proofs.Reopened.{done_opens, failed_opens, refused_opens, stand_on}
 use Rattle.raft_log_engine.proofs.Since.{failed_front, more_opens, more_written, no_batch, nothing_since, one_batch, refused_front, written_opens}
 use Rattle.raft_log_engine.specs.Reopened.{directories_of_engine}
@@ -113,7 +113,7 @@ invariant_of-self-2 g c =
     let plain : list_any holds_mark c.prepare.new.batch.items ≡ false = ap (list_any holds_mark) same ∙ c.in_ok-len.ensures.plain in
     let done = done_from (g.F.FileSystem.disk) (parts c.self.inside.files c.self.inside.pipes c.self.inside.tables c.self.inside.is_stopped c.self.inside.wrote_unsynced c.self.inside.blocks.reads) c.append_batch.new.files c.append_batch.new.pipes c.apply.new.tables c.args.sync c.prepare.new.batch.items c.append_batch.new.batch.items c.in-Ok.written
     c.entries_block-block.result c.drain-items.result (sym c.in-Ok.ensures.batch) (ap (list_any holds_mark) c.in-Ok.ensures.batch ∙ plain) c.in-Ok.ensures.pipes c.in-Ok.ensures.files c.in-Ok.ensures.other c.in-Ok.ensures.ok c.in-Ok.ensures.stands c.entries_block-block.ensures c.in_default.ensures.ok c.drain-items.ensures.items (ap with_lengths c.drain-items.ensures.places ∙ placed_lengths 0 c.append_batch.new.batch.items) in
-    λ goes_on. done_batches (g.F.FileSystem.disk) (parts c.self.inside.files c.self.inside.pipes c.self.inside.tables c.self.inside.is_stopped c.self.inside.wrote_unsynced c.self.inside.blocks.reads) c.append_batch.new.files c.append_batch.new.pipes c.apply.new.tables c.args.sync c.prepare.new.batch.items c.in-Ok.written c.entries_block-block.result c.drain-items.result done (c.self.invariant c.if-self.false).batches c.skips_sync-self-inside.result c.skips_sync-self-inside.ensures.none
+    λ goes_on. done_blocks (g.F.FileSystem.disk) (parts c.self.inside.files c.self.inside.pipes c.self.inside.tables c.self.inside.is_stopped c.self.inside.wrote_unsynced c.self.inside.blocks.reads) c.append_batch.new.files c.append_batch.new.pipes c.apply.new.tables c.args.sync c.prepare.new.batch.items c.in-Ok.written c.entries_block-block.result c.drain-items.result done c.self.inside.blocks (c.self.invariant c.if-self.false) c.skips_sync-self-inside.result c.skips_sync-self-inside.ensures.none
 
 pub returns-clause-answers : goal.returns-clause-answers
 returns-clause-answers g c =
