@@ -1,8 +1,11 @@
 -- After a sync all batches are on the disk; a refused one leaves them.
 use Rattle.std.proofs.Common.{true, [], ◌++◌, refl, sym, ◌∙◌}
+use Rattle.std.proofs.lemmas.List.{append-nil}
+use Rattle.raft_log_pipe.proofs.BlockLemmas.{same_files}
 use Rattle.raft_log_engine.specs.Left.{answers_on}
 use Rattle.raft_log_engine.proofs.Clauses.{kept_by, parts}
 use Rattle.raft_log_engine.proofs.Reopened.{kept_opens, still_opens, synced_stands}
+use Rattle.raft_log_engine.proofs.Settled.{settled_still}
 use Rattle.raft_log_engine.proofs.Since.{nothing_since, synced_written, unsynced_written, written_opens}
 use Rattle.raft_log_engine.proofs.Tables.{answered, held_answered, kept_held, synced_kept}
 use Rattle.raft_log_engine.proofs.Taken.{failed_sync}
@@ -52,11 +55,15 @@ invariant_of-self-in_default g c =
     let e = g.F.FileSystem.disk c.sync.new.files in
     let kept = synced_kept d e c.self.inside.pipes c.sync.new.self c.self.inside.tables held.rewrites held.synced held.unsynced held.held (c.in_default.ensures.both held.held.pipes) c.in_default.ensures.call.same c.in_default.ensures.other c.in_default.ensures.call.ok in
     λ goes_on. record {
-      rewrites = held.rewrites;
-      synced = held.synced ++ held.unsynced;
-      unsynced = [];
-      held = kept_held e c.sync.new.self c.self.inside.tables held.rewrites (held.synced ++ held.unsynced) kept;
-      none = λ all. refl;
+      batches = record {
+        rewrites = held.rewrites;
+        synced = held.synced ++ held.unsynced;
+        unsynced = [];
+        held = kept_held e c.sync.new.self c.self.inside.tables held.rewrites (held.synced ++ held.unsynced) kept;
+        none = λ all. refl;
+      };
+      blocks = λ at bytes is_kept. settled_still c.self.inside.pipes c.sync.new.self held.rewrites (held.synced ++ held.unsynced) ((held.synced ++ held.unsynced) ++ []) c.in_default.ensures.other.same
+          (same_files c.self.inside.pipes.append c.sync.new.self.append c.in_default.ensures.call.same.0 c.in_default.ensures.call.same.1) (sym (append-nil (held.synced ++ held.unsynced))) at bytes ((c.self.invariant c.if-self.false).blocks at bytes is_kept);
     }
 
 pub returns-clause-answers : goal.returns-clause-answers
