@@ -108,4 +108,4 @@ pub copied_count : (r : Result (Vec (Vec ℕ Global) Global) EngineFault) (read 
     → IfOk r (λ found. new ≤ old + length found.items)
 copied_count (Err e) read es old new are few = tt
 copied_count (Ok found) read es old new are few =
-    omega (arith, few, length-map read es, ap length are, length-map (λ (v : Vec ℕ Global). v.items) found.items)
+    omega (arith, few, length-map es read, ap length are, length-map found.items (λ (v : Vec ℕ Global). v.items))

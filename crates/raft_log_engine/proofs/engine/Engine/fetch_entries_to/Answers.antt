@@ -7,11 +7,8 @@ use Rattle.raft_log_engine.proofs.Settled.{blocks_more, blocks_read}
 use Rattle.raft_log_engine.proofs.Tables.{measured}
 use Rattle.raft_log_engine.proofs.engine.Engine.fetch_entries_to.Goals as goal
 
-pub copies_of-requires-clause-pipes : goal.copies_of-requires-clause-pipes
-copies_of-requires-clause-pipes g c = (c.self.invariant c.if-self.false).batches.held.pipes
-
 pub copies_of-requires-clause-read : goal.copies_of-requires-clause-read
-copies_of-requires-clause-read g c =
+copies_of-requires-clause-read g c κs within =
     blocks_read (g.F.FileSystem.disk c.self.inside.files) c.self.inside.pipes c.self.inside.tables c.self.inside.wrote_unsynced c.self.inside.blocks (c.self.invariant c.if-self.false)
 
 pub invariant_of-self : goal.invariant_of-self
