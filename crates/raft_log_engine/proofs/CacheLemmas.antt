@@ -1,5 +1,5 @@
 -- What a cache keeps once a block is put into it or was used, and that blocks of batches stay what they are.
-use Rattle.std.proofs.Common.{◌≡◌, ◌⊎◌, inl, inr, ℕ, Bool, true, List, Option, Some, None, Result, Ok, Err, Vec, Global, refl, sym, ap, subst, ◌∙◌}
+use Rattle.std.proofs.Common.{◌≡◌, ◌⊎◌, inl, inr, ℕ, Bool, true, List, Option, Some, Result, Ok, Err, Vec, Global, refl, sym, ap, subst, ◌∙◌}
 use Rattle.std.specs.Prelude.{Contains, OnOk, OnErr}
 use Rattle.std.specs.Map.{lookup}
 use Rattle.lru.specs.LruCache.{LruCache, lru_cache, promoted, put_entries}

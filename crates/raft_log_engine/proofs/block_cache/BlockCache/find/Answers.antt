@@ -1,4 +1,4 @@
-use Rattle.std.proofs.Common.{◌≡◌, sym, subst, rules, tests}
+use Rattle.std.proofs.Common.{sym, subst, rules, tests}
 use Rattle.raft_log_engine.specs.Cached.{Keeps, KeepsIn}
 use Rattle.raft_log_engine.proofs.CacheLemmas.{found_kept}
 use Rattle.raft_log_engine.proofs.block_cache.BlockCache.find.Goals as goal

@@ -1,4 +1,4 @@
-use Rattle.std.proofs.Common.{◌≡◌, sym, subst}
+use Rattle.std.proofs.Common.{sym, subst}
 use Rattle.raft_log_engine.specs.Cached.{KeepsIn}
 use Rattle.raft_log_engine.proofs.CacheLemmas.{still_kept}
 use Rattle.raft_log_engine.proofs.block_cache.BlockCache.promote.Goals as goal

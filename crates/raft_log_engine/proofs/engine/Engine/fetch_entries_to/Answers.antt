@@ -1,4 +1,4 @@
-use Rattle.std.proofs.Common.{length, sym, subst, ◌∙◌}
+use Rattle.std.proofs.Common.{subst}
 use Rattle.std.specs.Prelude.{Contains}
 use Rattle.raft_log_memtables.specs.MemTables.{content_in}
 use Rattle.raft_log_engine.specs.Held.{bytes_on}
