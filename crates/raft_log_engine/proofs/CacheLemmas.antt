@@ -1,4 +1,4 @@
--- What a cache keeps once a block is put into it or was used, and that blocks of batches stay what they are.
+-- What a cache keeps once a block is put into it or was used, and once entries were read.
 use Rattle.std.proofs.Common.{◌≡◌, ◌⊎◌, inl, inr, ℕ, Bool, true, List, Option, Some, Result, Ok, Err, Vec, Global, refl, sym, ap, subst, ◌∙◌}
 use Rattle.std.specs.Prelude.{Contains, OnOk, OnErr}
 use Rattle.std.specs.Map.{lookup}
@@ -10,8 +10,8 @@ use Rattle.raft_log_engine.specs.declared.block_cache.BlockKey.{BlockKey}
 use Rattle.raft_log_records.specs.declared.item.EntryIndex.{EntryIndex}
 use Rattle.raft_log_disk.specs.Disk.{Disk}
 use Rattle.raft_log_pipes.specs.declared.pipes.DualPipes.{DualPipes}
-use Rattle.raft_log_engine.specs.Blocks.{IsReadAs, block_on}
-use Rattle.raft_log_engine.specs.Cached.{AreRead, Keeps, KeepsIn, KeepsMore}
+use Rattle.raft_log_engine.specs.Blocks.{IsReadAs}
+use Rattle.raft_log_engine.specs.Cached.{Keeps, KeepsIn, KeepsMore}
 
 abbrev Cache : Type 0
 Cache = LruCache BlockKey (Vec ℕ Global)
@@ -52,30 +52,10 @@ made_before old made cache key v is kept h b (inr put) = inr put
 
 -- ---- what reads leave
 
--- no block that wasn't there is kept
-abbrev pub KeepsNoMore : BlockCache → BlockCache → Type 0
-KeepsNoMore old new = (h : FileBlockHandle) (b : List ℕ) → Keeps new h b → Keeps old h b
-
--- the block of an entry is read and kept
-pub read_kept : (d : Disk) (p : DualPipes) (e : EntryIndex) (old mid new : BlockCache) (h : FileBlockHandle) (b : List ℕ) → e.entries ≡ Some h → IsReadAs d p h b → KeepsNoMore old mid
-    → ((x : FileBlockHandle) (y : List ℕ) → Keeps new x y → Keeps mid x y ⊎ (x ≡ h) × (y ≡ b)) → KeepsMore d p (λ f. f ≡ e) old new
-read_kept d p e old mid new h b place read before puts x y kept = of (puts x y kept)
-  where
-    of : Keeps mid x y ⊎ (x ≡ h) × (y ≡ b) → Keeps old x y ⊎ ((f : EntryIndex) × (f ≡ e) × (f.entries ≡ Some x) × IsReadAs d p x y)
-    of (inl was) = inl (before x y was)
-    of (inr put) = inr (e, refl, place ∙ ap (λ (g : FileBlockHandle). Some g) (sym put.0), put.1 ∙ read ∙ ap (λ (g : FileBlockHandle). block_on d p g) (sym put.0))
-
--- so one entry after another
+-- one entry is read after others
 pub more_read : (d : Disk) (p : DualPipes) (IsAsked : EntryIndex → Type 0) (e : EntryIndex) (old mid new : BlockCache) → IsAsked e → KeepsMore d p IsAsked old mid → KeepsMore d p (λ f. f ≡ e) mid new → KeepsMore d p IsAsked old new
 more_read d p IsAsked e old mid new asked first second x y kept = of (second x y kept)
   where
     of : Keeps mid x y ⊎ ((f : EntryIndex) × (f ≡ e) × (f.entries ≡ Some x) × IsReadAs d p x y) → Keeps old x y ⊎ ((f : EntryIndex) × IsAsked f × (f.entries ≡ Some x) × IsReadAs d p x y)
     of (inl was) = first x y was
     of (inr read) = inr (read.0, subst IsAsked (sym read.1) asked, read.2, read.3)
-
-pub still_read : (d : Disk) (p : DualPipes) (IsAsked : EntryIndex → Type 0) (old new : BlockCache) → AreRead d p old → KeepsMore d p IsAsked old new → AreRead d p new
-still_read d p IsAsked old new read more x y kept = of (more x y kept)
-  where
-    of : Keeps old x y ⊎ ((f : EntryIndex) × IsAsked f × (f.entries ≡ Some x) × IsReadAs d p x y) → IsReadAs d p x y
-    of (inl was) = read x y was
-    of (inr now) = now.3

@@ -1,6 +1,6 @@
 -- Entries are read as their bytes.
-use Rattle.std.proofs.Common.{◌≡◌, ◌≢◌, ◌⊎◌, inl, inr, ℕ, ◌+◌, ◌<◌, ◌≤◌, Bool, true, false, cond, List, [], ◌∷◌, ◌++◌, length, take, drop, Option, Some, None, Vec, Global, refl, sym, ap, subst, ◌∙◌, arith, length-append}
-use Rattle.std.specs.Prelude.{◌==◌, Result, Ok, Err, IfOk}
+use Rattle.std.proofs.Common.{◌≡◌, ◌≢◌, ◌⊎◌, inl, inr, ℕ, ◌+◌, ◌<◌, ◌≤◌, Bool, true, false, cond, List, [], ◌∷◌, ◌++◌, length, take, drop, Option, Some, None, refl, sym, ap, subst, ◌∙◌, arith, length-append}
+use Rattle.std.specs.Prelude.{◌==◌}
 use Rattle.std.specs.Int.{w32, to_be_bytes}
 use Rattle.std.proofs.lemmas.Bool.{eq-eqb}
 use Rattle.std.proofs.lemmas.Bool.Decides.{eqb_tells}
@@ -21,8 +21,7 @@ use Rattle.raft_log_pipe.proofs.BlockLemmas.{blocks_are, one_file}
 use Rattle.raft_log_pipe.proofs.NextLemmas.{consecutive_push}
 use Rattle.raft_log_pipes.specs.declared.pipes.DualPipes.{DualPipes}
 use Rattle.raft_log_pipes.specs.Pipes.{ArePipes, pipe_of}
-use Rattle.raft_log_engine.specs.declared.fault.EngineFault.{EngineFault}
-use Rattle.raft_log_engine.specs.Blocks.{IsReadAs, block_on}
+use Rattle.raft_log_engine.specs.Blocks.{block_on}
 use Rattle.raft_log_engine.specs.Cached.{ReadsBlocks}
 use Rattle.raft_log_engine.specs.Held.{LiesIn, ReadsEntries, block_in, bytes_on, bytes_placed, file_in, unsealed_bytes}
 
@@ -107,12 +106,6 @@ pipe_there p d pipes Rewrite = pipes.rewrite
 -- what is read of an entry in its block
 pub entry_read : (p : DualPipes) (d : Disk) (e : EntryIndex) (h : FileBlockHandle) (block bytes : List ℕ) → e.entries ≡ Some h → block ≡ block_in d h (file_in h.id.seq (files_of (pipe_of p h.id.queue))) → bytes ≡ entry_bytes block e → bytes ≡ bytes_on d p e
 entry_read p d e h block bytes place read is = is ∙ ap (λ (l : List ℕ). entry_bytes l e) read ∙ sym (ap (λ (o : Option FileBlockHandle). bytes_placed d p e o) place)
-
--- a copy out of the block that was read
-pub copy_read : (r : Result (Vec ℕ Global) EngineFault) (d : Disk) (p : DualPipes) (e : EntryIndex) (h : FileBlockHandle) (block : List ℕ) → e.entries ≡ Some h → IsReadAs d p h block → IfOk r (λ v. v.items ≡ entry_bytes block e)
-    → IfOk r (λ v. v.items ≡ bytes_on d p e)
-copy_read (Ok v) d p e h block place read is = entry_read p d e h block v.items place read is
-copy_read (Err fault) d p e h block place read is = tt
 
 -- the block of an entry that lies in a batch of a pipe
 pub lies_block : (p : SinglePipe) (d : Disk) (s u : Numbered) → IsPipe p d → Holds p d s u → (e : EntryIndex) (bytes : List ℕ) → (lies : LiesIn p (s ++ u) e bytes)

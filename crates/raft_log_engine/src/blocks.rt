@@ -73,8 +73,8 @@ fn copy_in(alloc: Global, entries: &[u8], place: EntryIndex) -> Result<Vec<u8>, 
     Ok(Vec::from_slice(alloc, bytes)?)
 }
 
-/// A copy of an entry's bytes, from its block: one that is kept, or one that is read from its file and
-/// kept then.
+/// A copy of an entry's bytes, from its block: one that is kept, or one that is read from its file
+/// and kept then.
 #[tactic(auto, using(crate::proofs::EntryReads::entry_read))]
 pub(crate) fn copy_of<F: FileSystem>(
     alloc: Global,
