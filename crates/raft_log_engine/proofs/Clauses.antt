@@ -25,9 +25,12 @@ use Rattle.raft_log_memtables.specs.MemTable.{batch_items}
 use Rattle.raft_log_memtables.specs.MemTables.{content_in}
 use Rattle.raft_content_log.specs.Leaving.{AgreesElsewhere, IsEither, IsWritten, LeavesElsewhere, MayBeWritten}
 use Rattle.raft_content_log.proofs.Elsewhere.{unnamed_stays}
+use Rattle.raft_log_engine.specs.declared.block_cache.BlockCache.{BlockCache}
+use Rattle.raft_log_engine.specs.Cached.{HoldsBlocks}
 use Rattle.raft_log_engine.specs.Held.{HoldsBatches, HoldsMore, IsHeld, IsKept, IsPlace, IsTabled, Parts, content_of_batches, seen_on}
 use Rattle.raft_log_engine.specs.Left.{IsAccount, IsSound, MayLeave, answers_on, leaves_on}
 use Rattle.raft_log_engine.proofs.Appended.{all_more, both_parts, more_leaves}
+use Rattle.raft_log_engine.proofs.Settled.{settled_more}
 use Rattle.raft_log_engine.proofs.Tables.{answered, held_answered, held_kept, kept_held, more_content, more_tabled}
 
 abbrev Seen : Type 0
@@ -98,8 +101,8 @@ any_elsewhere items old new any left may = (left, any left, λ group un. refl)
 
 -- ---- the exits of a write
 
-abbrev pub parts : {F : Type 0} → F → DualPipes → MemTables → Bool → Bool → Parts F
-parts files p tables is_stopped wrote_unsynced = record { files = files; pipes = p; tables = tables; is_stopped = is_stopped; wrote_unsynced = wrote_unsynced }
+abbrev pub parts : {F : Type 0} → F → DualPipes → MemTables → Bool → Bool → ℕ → Parts F
+parts files p tables is_stopped wrote_unsynced reads = record { files = files; pipes = p; tables = tables; is_stopped = is_stopped; wrote_unsynced = wrote_unsynced; block_reads = reads }
 
 module _ {F : Type 0} (disk : F → Disk) (old : Parts F) where
   abbrev pub KeptBy : Type 0
@@ -142,10 +145,10 @@ module _ {F : Type 0} (disk : F → Disk) (old : Parts F) where
   pub failed : KeptBy → old.wrote_unsynced ≡ false → (files : F) (p : DualPipes) (tables : MemTables) (seen : Seen) (items : Batch) → list_any holds_mark items ≡ false
       → IsAsBefore old.pipes.rewrite (disk old.files) p.rewrite (disk files)
       → ((s u : Numbered) → Holds old.pipes.append (disk old.files) s u → LeavesAppended p.append (disk files) s u items)
-      → MayBeWritten (IsSound (parts files p tables true old.wrote_unsynced)) seen (MayLeave (disk files) p true old.wrote_unsynced seen) (answers_on disk old) (after_batch items (answers_on disk old))
+      → MayBeWritten (IsSound (parts files p tables true old.wrote_unsynced old.block_reads)) seen (MayLeave (disk files) p true old.wrote_unsynced seen) (answers_on disk old) (after_batch items (answers_on disk old))
   failed kept all files p tables seen items plain other leaves =
       let left = leaves kept.1 [] kept.2.append in
-      torn (disk files) p old.wrote_unsynced (IsSound (parts files p tables true old.wrote_unsynced)) (λ sound. false≢true (sym sound.goes_on)) all seen (answers_on disk old) (after_batch items (answers_on disk old))
+      torn (disk files) p old.wrote_unsynced (IsSound (parts files p tables true old.wrote_unsynced old.block_reads)) (λ sound. false≢true (sym sound.goes_on)) all seen (answers_on disk old) (after_batch items (answers_on disk old))
       kept.0 kept.1 ((left.0, items) ∷ [])
       (holds_leaves p.rewrite.queue p.rewrite.older.items p.rewrite.active p.rewrite.writer.offset (disk files) kept.0 [] (other.holds kept.0 [] kept.2.rewrite)) left.1
       (last_or_not kept.0 kept.1 left.0 items (answers_on disk old) (after_batch items (answers_on disk old)) (sym (answered (disk old.files) old.pipes old.tables kept.0 kept.1 kept.2))
@@ -218,7 +221,7 @@ module _ {F : Type 0} (disk : F → Disk) (old : Parts F) where
       tabled = done_tabled r s u held;
     }
 
-    pub done_batches : HeldBy → (wrote_unsynced : Bool) → (wrote_unsynced ≡ false → (sync ≡ true) × (old.wrote_unsynced ≡ false)) → HoldsBatches (disk files) p tables wrote_unsynced
+    abbrev pub done_batches : HeldBy → (wrote_unsynced : Bool) → (wrote_unsynced ≡ false → (sync ≡ true) × (old.wrote_unsynced ≡ false)) → HoldsBatches (disk files) p tables wrote_unsynced
     done_batches held wrote_unsynced none =
         let m = is.puts held.synced held.unsynced held.held.append in
         record {
@@ -227,6 +230,18 @@ module _ {F : Type 0} (disk : F → Disk) (old : Parts F) where
           unsynced = drop m.count (held.unsynced ++ (h.id.seq, items) ∷ []);
           held = done_held held.rewrites held.synced held.unsynced held.held m;
           none = λ all. m.none (none all).0;
+        }
+
+    -- the blocks that are kept stay what they are
+    pub done_blocks : (cache : BlockCache) → HoldsBlocks (disk old.files) old.pipes old.tables old.wrote_unsynced cache → (wrote_unsynced : Bool) → (wrote_unsynced ≡ false → (sync ≡ true) × (old.wrote_unsynced ≡ false))
+        → HoldsBlocks (disk files) p tables wrote_unsynced cache
+    done_blocks cache held wrote_unsynced none =
+        let b = held.batches in
+        let m = is.puts b.synced b.unsynced b.held.append in
+        let split = append_assoc b.synced b.unsynced ((h.id.seq, items) ∷ []) ∙ sym (both_parts m.count b.synced (b.unsynced ++ (h.id.seq, items) ∷ [])) in
+        record {
+          batches = done_batches b wrote_unsynced none;
+          blocks = λ at bytes kept. settled_more old.pipes p b.rewrites (b.synced ++ b.unsynced) _ h.id.seq items is.other.same is.keeps split at bytes (held.blocks at bytes kept);
         }
 
     pub done_seen : HeldBy → seen_on (disk files) p tables ≡ after_batch items (answers_on disk old)

@@ -21,6 +21,8 @@ use Rattle.raft_log_pipe.proofs.BlockLemmas.{blocks_are, one_file}
 use Rattle.raft_log_pipe.proofs.NextLemmas.{consecutive_push}
 use Rattle.raft_log_pipes.specs.declared.pipes.DualPipes.{DualPipes}
 use Rattle.raft_log_pipes.specs.Pipes.{ArePipes, pipe_of}
+use Rattle.raft_log_engine.specs.Blocks.{block_on}
+use Rattle.raft_log_engine.specs.Cached.{ReadsBlocks}
 use Rattle.raft_log_engine.specs.Held.{LiesIn, ReadsEntries, block_in, bytes_on, bytes_placed, file_in, unsealed_bytes}
 
 -- ---- the file of a number
@@ -105,16 +107,21 @@ pipe_there p d pipes Rewrite = pipes.rewrite
 pub entry_read : (p : DualPipes) (d : Disk) (e : EntryIndex) (h : FileBlockHandle) (block bytes : List ℕ) → e.entries ≡ Some h → block ≡ block_in d h (file_in h.id.seq (files_of (pipe_of p h.id.queue))) → bytes ≡ entry_bytes block e → bytes ≡ bytes_on d p e
 entry_read p d e h block bytes place read is = is ∙ ap (λ (l : List ℕ). entry_bytes l e) read ∙ sym (ap (λ (o : Option FileBlockHandle). bytes_placed d p e o) place)
 
--- an entry that lies in a batch of a pipe, in its block there
-lies_read : (p : SinglePipe) (d : Disk) (s u : Numbered) → IsPipe p d → Holds p d s u → (e : EntryIndex) (bytes : List ℕ) → (lies : LiesIn p (s ++ u) e bytes)
-    → entry_bytes (block_in d lies.handle (file_in lies.handle.id.seq (files_of p))) e ≡ bytes
-lies_read p d s u pipe holds e bytes lies =
+-- the block of an entry that lies in a batch of a pipe
+pub lies_block : (p : SinglePipe) (d : Disk) (s u : Numbered) → IsPipe p d → Holds p d s u → (e : EntryIndex) (bytes : List ℕ) → (lies : LiesIn p (s ++ u) e bytes)
+    → block_in d lies.handle (file_in lies.handle.id.seq (files_of p)) ≡ block_of lies.items
+lies_block p d s u pipe holds e bytes lies =
     let h : FileBlockHandle = lies.handle in
     let there : List ℕ = take h.len (drop h.offset (d.file lies.file.handle.0).bytes) in
     let are : AreOfFile p d h there = λ f among number. ap (λ (x : File). take h.len (drop h.offset (d.file x.handle.0).bytes)) (one_file p d lies.file f pipe lies.among among (sym lies.block.seq ∙ sym number)) in
     let is : there ≡ sealed None (block_of lies.items) = blocks_are p d h there pipe are s u lies.before lies.after lies.file lies.items 8 holds lies.split lies.among lies.block ∙ lies.stands in
-    ap (λ (l : List ℕ). entry_bytes l e) (block_is p d h there (block_of lies.items) (found h.id.seq (files_of p) lies.file lies.among (sym lies.block.seq)) are is)
-    ∙ sym lies.bytes_are
+    block_is p d h there (block_of lies.items) (found h.id.seq (files_of p) lies.file lies.among (sym lies.block.seq)) are is
+
+-- an entry that lies in a batch of a pipe, in its block there
+lies_read : (p : SinglePipe) (d : Disk) (s u : Numbered) → IsPipe p d → Holds p d s u → (e : EntryIndex) (bytes : List ℕ) → (lies : LiesIn p (s ++ u) e bytes)
+    → entry_bytes (block_in d lies.handle (file_in lies.handle.id.seq (files_of p))) e ≡ bytes
+lies_read p d s u pipe holds e bytes lies =
+    ap (λ (l : List ℕ). entry_bytes l e) (lies_block p d s u pipe holds e bytes lies) ∙ sym lies.bytes_are
 
 -- so it is read where the handle's queue is the pipe's
 placed_read : (p : DualPipes) (d : Disk) (q : SinglePipe) (bs : Numbered) (e : EntryIndex) (bytes : List ℕ) → (lies : LiesIn q bs e bytes) → pipe_of p lies.handle.id.queue ≡ q
@@ -131,3 +138,15 @@ disk_reads p d r s u pipes rewrite append e bytes (inl lies) =
     placed_read p d p.rewrite (r ++ []) e bytes moved (ap (pipe_of p) (moved.queue ∙ p.rewrites)) (lies_read p.rewrite d r [] pipes.rewrite rewrite e bytes moved)
 disk_reads p d r s u pipes rewrite append e bytes (inr lies) =
     placed_read p d p.append (s ++ u) e bytes lies (ap (pipe_of p) (lies.queue ∙ p.appends)) (lies_read p.append d s u pipes.append append e bytes lies)
+
+-- and so are their blocks
+queue_block : (p : DualPipes) (d : Disk) (q : SinglePipe) (bs : Numbered) (e : EntryIndex) (bytes : List ℕ) → (lies : LiesIn q bs e bytes) → pipe_of p lies.handle.id.queue ≡ q
+    → block_in d lies.handle (file_in lies.handle.id.seq (files_of q)) ≡ block_of lies.items → block_on d p lies.handle ≡ block_of lies.items
+queue_block p d q bs e bytes lies is read = ap (λ (x : SinglePipe). block_in d lies.handle (file_in lies.handle.id.seq (files_of x))) is ∙ read
+
+pub disk_reads_blocks : (p : DualPipes) (d : Disk) (r s u : Numbered) → ArePipes p d → Holds p.rewrite d r [] → Holds p.append d s u → ReadsBlocks p r (s ++ u) (block_on d p)
+disk_reads_blocks p d r s u pipes rewrite append = record {
+  rewrite = subst (λ (l : Numbered). (e : EntryIndex) (bytes : List ℕ) → (lies : LiesIn p.rewrite l e bytes) → block_on d p lies.handle ≡ block_of lies.items) (append-nil r)
+      (λ e bytes lies. queue_block p d p.rewrite (r ++ []) e bytes lies (ap (pipe_of p) (lies.queue ∙ p.rewrites)) (lies_block p.rewrite d r [] pipes.rewrite rewrite e bytes lies));
+  append = λ e bytes lies. queue_block p d p.append (s ++ u) e bytes lies (ap (pipe_of p) (lies.queue ∙ p.appends)) (lies_block p.append d s u pipes.append append e bytes lies);
+}

@@ -3,8 +3,8 @@ use Rattle.std.proofs.Common.{◌≡◌, ◌⊎◌, inl, inr, ℕ, zero, suc, �
 use Rattle.std.proofs.lemmas.Bool.{cases_lt}
 use Rattle.std.proofs.lemmas.List.{length-map}
 use Rattle.std.proofs.lemmas.List.Sums.{sum_by-append, sum_by-cons}
-use Rattle.std.proofs.lemmas.Option.{slice_get-map, slice_get_within}
-use Rattle.std.specs.Prelude.{Result, Ok, Err, IfOk, sum_by}
+use Rattle.std.proofs.lemmas.Option.{slice_get-map, slice_get_read, slice_get_within}
+use Rattle.std.specs.Prelude.{Contains, Result, Ok, Err, IfOk, sum_by}
 use Rattle.std.specs.List.{slice_get}
 use Rattle.std.specs.Option.{option_map}
 use Rattle.raft_log_records.specs.declared.item.EntryIndex.{EntryIndex}
@@ -82,3 +82,30 @@ pub copied : (r : Result (Vec (Vec ℕ Global) Global) EngineFault) (read : Entr
     → IfOk r (λ found. payloads found.items ≡ map read es) → HasRead (group_map read group) begin end size (map read es) → IfOk r (λ found. HasRead (group_map read group) begin end size (payloads found.items))
 copied (Err e) read group begin end size es are has = tt
 copied (Ok found) read group begin end size es are has = subst (λ (l : List (List ℕ)). HasRead (group_map read group) begin end size l) (sym are) has
+
+-- ---- where the range's entries stand
+
+no_place : (es : List EntryIndex) (e : EntryIndex) → es ≡ [] → Contains es e → ⊥
+no_place es e none there =
+    let within : length es ≡ 0 = ap length none in
+    omega (arith, there.1, within)
+
+pub fetched_there : (group : GroupContent EntryIndex) (begin end : ℕ) (size : Option ℕ) (es : List EntryIndex)
+    → (group.there ≡ true → begin < end → IsInside group.entry begin end × AreFetched group.entry begin end size es) → (end ≤ begin → es ≡ []) → (group.there ≡ false → es ≡ [])
+    → (e : EntryIndex) → Contains es e → (index : ℕ) × (group.entry index ≡ Some e)
+fetched_there group begin end size es some none unknown e among = by_flag group.there refl
+  where
+    by_test : group.there ≡ true → (begin < end) ⊎ (end ≤ begin) → (index : ℕ) × (group.entry index ≡ Some e)
+    by_test there (inl lt) = (begin + among.0, sym ((some there lt).1.each among.0 among.1) ∙ slice_get_read es (length es) among.0 e refl among.1 (sym among.2))
+    by_test there (inr ge) = absurd (no_place es e (none ge) among)
+
+    by_flag : (t : Bool) → group.there ≡ t → (index : ℕ) × (group.entry index ≡ Some e)
+    by_flag true there = by_test there (cases_lt begin end)
+    by_flag false un = absurd (no_place es e (unknown un) among)
+
+-- as many as were asked for
+pub copied_count : (r : Result (Vec (Vec ℕ Global) Global) EngineFault) (read : EntryIndex → List ℕ) (es : List EntryIndex) (old new : ℕ) → IfOk r (λ found. payloads found.items ≡ map read es) → new ≤ old + length es
+    → IfOk r (λ found. new ≤ old + length found.items)
+copied_count (Err e) read es old new are few = tt
+copied_count (Ok found) read es old new are few =
+    omega (arith, few, length-map es read, ap length are, length-map found.items (λ (v : Vec ℕ Global). v.items))

@@ -1,5 +1,6 @@
 pub mod Appended
 pub mod Batches
+pub mod CacheLemmas
 pub mod EntryReads
 pub mod Fetched
 pub mod Fresh
@@ -8,6 +9,7 @@ pub mod Logs
 pub mod Opened
 mod Seen
 pub mod Tables
+pub mod Settled
 pub mod Reopened
 mod Visits
 pub mod Since

@@ -62,7 +62,7 @@ answered d p tables r bs kept = held_answered d p tables r bs [] (kept_held d p 
 -- ---- where entries lie
 
 -- the entries of before stay where they are
-more_lies : (p q : SinglePipe) (bs : Numbered) (seq : ℕ) (items : Batch) → KeepsFiles p q → q.queue ≡ p.queue → (e : EntryIndex) (bytes : List ℕ) → LiesIn p bs e bytes → LiesIn q (bs ++ (seq, items) ∷ []) e bytes
+abbrev pub more_lies : (p q : SinglePipe) (bs : Numbered) (seq : ℕ) (items : Batch) → KeepsFiles p q → q.queue ≡ p.queue → (e : EntryIndex) (bytes : List ℕ) → LiesIn p bs e bytes → LiesIn q (bs ++ (seq, items) ∷ []) e bytes
 more_lies p q bs seq items keeps queue e bytes lies = record {
   handle = lies.handle;
   file = lies.file;
@@ -79,7 +79,7 @@ more_lies p q bs seq items keeps queue e bytes lies = record {
 }
 
 -- in the same files entries lie where they lay
-same_lies : (p q : SinglePipe) (bs : Numbered) → KeepsFiles p q → q.queue ≡ p.queue → (e : EntryIndex) (bytes : List ℕ) → LiesIn p bs e bytes → LiesIn q bs e bytes
+abbrev pub same_lies : (p q : SinglePipe) (bs : Numbered) → KeepsFiles p q → q.queue ≡ p.queue → (e : EntryIndex) (bytes : List ℕ) → LiesIn p bs e bytes → LiesIn q bs e bytes
 same_lies p q bs keeps queue e bytes lies = record {
   handle = lies.handle;
   file = lies.file;

@@ -28,6 +28,8 @@ pub record Parts (F : Type 0) : Type 0 where
   pub is_stopped : Bool
   -- a write wasn't synced
   pub wrote_unsynced : Bool
+  -- so many blocks were read from files for entries
+  pub block_reads : ℕ
 
 -- the content of batches, in their order
 abbrev pub content_of_batches : Numbered → Content (List ℕ)
@@ -117,9 +119,6 @@ pub record HoldsBatches (d : Disk) (p : DualPipes) (tables : MemTables) (wrote_u
   pub unsynced : Numbered
   pub held : IsHeld d p tables rewrites synced unsynced
   pub none : wrote_unsynced ≡ false → unsynced ≡ []
-
-abbrev pub IsEngine : Disk → DualPipes → MemTables → Bool → Bool → Type 0
-IsEngine d p tables is_stopped wrote_unsynced = is_stopped ≡ false → HoldsBatches d p tables wrote_unsynced
 
 -- ---- what an append makes of batches that are not on the disk
 

@@ -1,4 +1,5 @@
 pub mod Blocks
+pub mod Cached
 pub mod Held
 pub mod Left
 pub mod Log

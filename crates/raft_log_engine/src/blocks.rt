@@ -1,6 +1,7 @@
 //! Entries and their blocks.
-ghost use Rattle.std.specs.Prelude.{◌≡◌, IfOk, IfSome, map};
+ghost use Rattle.std.specs.Prelude.{◌≡◌, ◌+◌, ◌≤◌, Contains, IfOk, IfSome, length, map};
 ghost use Rattle.raft_log_engine.specs.Blocks.{IsReadAs};
+ghost use Rattle.raft_log_engine.specs.Cached.{AreRead, KeepsMore};
 ghost use Rattle.raft_log_engine.specs.Held.{bytes_on};
 ghost use Rattle.raft_log_engine.specs.declared.fault.EngineFault.TheVariants.{Log};
 ghost use Rattle.raft_log_files.specs.declared.error.Error.TheVariants.{Memory};
@@ -9,6 +10,7 @@ ghost use Rattle.raft_log_records.specs.Batch.{payloads};
 ghost use Rattle.raft_log_records.specs.Item.{entry_bytes};
 ghost use Rattle.raft_log_records.specs.declared.error.RecordError.TheVariants as record_error;
 
+use crate::block_cache::BlockCache;
 use crate::fault::EngineFault;
 use raft_log_files::{CorruptionFault, Error, FileSystem};
 use raft_log_memtables::FetchError;
@@ -43,22 +45,14 @@ fn bytes_of(entries: &[u8], place: EntryIndex) -> Option<&[u8]>
     Some(&rest[..rest.len().min(place.entry_len as usize)])
 }
 
-/// The entries of a block, without its checksum.
-#[derive(Drop)]
-pub(crate) struct Block {
-    handle: FileBlockHandle,
-    entries: Vec<u8>,
-}
-
-/// Reads a block, and checks its checksum.
+/// Reads the entries of a block, without its checksum, which is checked.
 fn read_block<F: FileSystem>(
     files: &F,
     pipes: &DualPipes,
     handle: FileBlockHandle,
-) -> Result<Block, EngineFault>
+) -> Result<Vec<u8>, EngineFault>
     requires { ArePipes pipes.now (F.disk files.now) }
-    ensures handle { IfOk result (λ block. block.handle ≡ handle) }
-    ensures read { IfOk result (IsReadAs (F.disk files.now) pipes.now) }
+    ensures { IfOk result (λ entries. IsReadAs (F.disk files.now) pipes.now handle entries.items) }
 {
     let mut bytes = pipes.read_bytes(files, handle)?;
     let len = match read_entries_block(&bytes) {
@@ -66,85 +60,66 @@ fn read_block<F: FileSystem>(
         Err(fault) => return Err(corrupt(fault)),
     };
     bytes.truncate(len);
-    Ok(Block {
-        handle,
-        entries: bytes,
-    })
+    Ok(bytes)
 }
 
-/// A block: the one that was read last, or read from its file.
-fn block_at<F: FileSystem>(
-    files: &F,
-    pipes: &DualPipes,
-    last: Option<Block>,
-    handle: FileBlockHandle,
-) -> Result<Block, EngineFault>
-    requires pipes { ArePipes pipes.now (F.disk files.now) }
-    requires last { IfSome last (IsReadAs (F.disk files.now) pipes.now) }
-    ensures handle { IfOk result (λ block. block.handle ≡ handle) }
-    ensures read { IfOk result (IsReadAs (F.disk files.now) pipes.now) }
+/// A copy of an entry's bytes in those of its block.
+fn copy_in(alloc: Global, entries: &[u8], place: EntryIndex) -> Result<Vec<u8>, EngineFault>
+    ensures { IfOk result (λ v. v.items ≡ entry_bytes entries.now place) }
 {
-    match last {
-        Some(block) if block.handle == handle => Ok(block),
-        _ => read_block(files, pipes, handle),
-    }
-}
-
-/// A copy of an entry's bytes, and its block, which may be the one that was read last.
-#[tactic(auto, using(crate::proofs::EntryReads::entry_read))]
-fn copy_with<F: FileSystem>(
-    alloc: Global,
-    files: &F,
-    pipes: &DualPipes,
-    last: Option<Block>,
-    place: EntryIndex,
-) -> Result<(Vec<u8>, Block), EngineFault>
-    requires pipes { ArePipes pipes.now (F.disk files.now) }
-    requires last { IfSome last (IsReadAs (F.disk files.now) pipes.now) }
-    ensures copied { IfOk result (λ r. r.0.items ≡ bytes_on (F.disk files.now) pipes.now place) }
-    ensures read { IfOk result (λ r. IsReadAs (F.disk files.now) pipes.now r.1) }
-{
-    let Some(handle) = place.entries else {
-        return Err(EngineFault::Log(Error::EntryNotFound));
-    };
-    let block = block_at(files, pipes, last, handle)?;
-    let Some(bytes) = bytes_of(&block.entries, place) else {
+    let Some(bytes) = bytes_of(entries, place) else {
         return Err(corrupt(RecordFault::EntriesLength));
     };
-    let copy = Vec::from_slice(alloc, bytes)?;
-    Ok((copy, block))
+    Ok(Vec::from_slice(alloc, bytes)?)
 }
 
-/// A copy of an entry's bytes, from its block in a file.
+/// A copy of an entry's bytes, from its block: one that is kept, or one that is read from its file
+/// and kept then.
+#[tactic(auto, using(crate::proofs::EntryReads::entry_read))]
 pub(crate) fn copy_of<F: FileSystem>(
     alloc: Global,
     files: &F,
     pipes: &DualPipes,
+    cache: &mut BlockCache,
     place: EntryIndex,
 ) -> Result<Vec<u8>, EngineFault>
-    requires { ArePipes pipes.now (F.disk files.now) }
-    ensures { IfOk result (λ v. v.items ≡ bytes_on (F.disk files.now) pipes.now place) }
+    requires pipes { ArePipes pipes.now (F.disk files.now) }
+    requires read { AreRead (F.disk files.now) pipes.now cache.old }
+    ensures copied { IfOk result (λ v. v.items ≡ bytes_on (F.disk files.now) pipes.now place) }
+    ensures kept { KeepsMore (F.disk files.now) pipes.now (λ e. e ≡ place) cache.old cache.new }
+    ensures reads { cache.new.reads ≤ cache.old.reads + 1 }
 {
-    let (copy, _) = copy_with(alloc, files, pipes, None, place)?;
-    Ok(copy)
+    let Some(handle) = place.entries else {
+        return Err(EngineFault::Log(Error::EntryNotFound));
+    };
+    cache.promote(handle);
+    if let Some(entries) = cache.find(handle) {
+        return copy_in(alloc, entries, place);
+    }
+    cache.count();
+    let entries = read_block(files, pipes, handle)?;
+    let copy = copy_in(alloc, &entries, place);
+    cache.keep(handle, entries);
+    copy
 }
 
-/// Copies of entries' bytes. A block is read once for neighbours that lie in it.
+/// Copies of entries' bytes.
 pub(crate) fn copies_of<F: FileSystem>(
     alloc: Global,
     files: &F,
     pipes: &DualPipes,
+    cache: &mut BlockCache,
     places: &[EntryIndex],
 ) -> Result<Vec<Vec<u8>>, EngineFault>
-    requires { ArePipes pipes.now (F.disk files.now) }
-    ensures { IfOk result (λ found. payloads found.items ≡ map (bytes_on (F.disk files.now) pipes.now) places.now) }
+    requires pipes { ArePipes pipes.now (F.disk files.now) }
+    requires read { AreRead (F.disk files.now) pipes.now cache.old }
+    ensures copied { IfOk result (λ found. payloads found.items ≡ map (bytes_on (F.disk files.now) pipes.now) places.now) }
+    ensures kept { KeepsMore (F.disk files.now) pipes.now (Contains places.now) cache.old cache.new }
+    ensures reads { cache.new.reads ≤ cache.old.reads + length places.now }
 {
     let mut copies = Vec::new(alloc);
-    let mut last = None;
     for place in places {
-        let (copy, block) = copy_with(alloc, files, pipes, last.take(), *place)?;
-        copies.push(copy)?;
-        last = Some(block);
+        copies.push(copy_of(alloc, files, pipes, cache, *place)?)?;
     }
     Ok(copies)
 }

@@ -1,5 +1,5 @@
 //! Writes and reads of an engine.
-ghost use Rattle.std.specs.Prelude.{◌≡◌, ◌++◌, ℕ, List, [], true, false, Err, IfOk, OnOk, OnErr, option_map};
+ghost use Rattle.std.specs.Prelude.{◌≡◌, ◌≤◌, ◌+◌, ◌++◌, ℕ, List, [], true, false, Err, IfOk, OnOk, OnErr, length, option_map};
 ghost use Rattle.raft_content_log.specs.Leaving.{AgreesElsewhere, IsWritten, LeavesElsewhere, MayBeWritten};
 ghost use Rattle.raft_log_disk.specs.Cause.{NothingRefuses, RefusesNoMore};
 ghost use Rattle.raft_log_engine.specs.Left.{IsSound, answers_on, leaves_on};
@@ -148,14 +148,16 @@ impl<F: FileSystem + Drop> Engine<F> {
     /// one at least is given. Refused where the range begins before the first entry or ends past the
     /// last one. A group that isn't there has none.
     pub fn fetch_entries_to(
-        &self,
+        &mut self,
         group: u64,
         begin: u64,
         end: u64,
         max_size: Option<u64>,
     ) -> Result<Vec<Vec<u8>>, EngineFault>
-        ensures found { IfOk result (λ found. HasRead (answers_on F.disk self.now group) begin end max_size (payloads found.items)) }
-        ensures stopped { self.now.is_stopped ≡ true → result ≡ Err Stopped }
+        ensures found { IfOk result (λ found. HasRead (answers_on F.disk self.old group) begin end max_size (payloads found.items)) }
+        ensures stopped { self.old.is_stopped ≡ true → result ≡ Err Stopped }
+        ensures same { self.new ≡ record self.old { block_reads = self.new.block_reads } }
+        ensures reads { IfOk result (λ found. self.new.block_reads ≤ self.old.block_reads + length found.items) }
     {
         if self.is_stopped {
             return Err(EngineFault::Stopped);
@@ -164,7 +166,13 @@ impl<F: FileSystem + Drop> Engine<F> {
             Ok(places) => places,
             Err(error) => return Err(fault_of(error)),
         };
-        copies_of(self.alloc, &self.files, &self.pipes, &places)
+        copies_of(
+            self.alloc,
+            &self.files,
+            &self.pipes,
+            &mut self.blocks,
+            &places,
+        )
     }
 
     /// Whether the engine has something of a group (own).

@@ -1,5 +1,6 @@
 //! An engine over both queues of files.
 
+use crate::block_cache::BlockCache;
 use raft_log_files::FileSystem;
 use raft_log_memtables::MemTables;
 use raft_log_pipes::DualPipes;
@@ -19,10 +20,13 @@ pub struct Engine<F: FileSystem> {
     pub(crate) is_stopped: bool,
     /// A write wasn't synced, since the engine was opened.
     pub(crate) wrote_unsynced: bool,
+    /// Blocks of entries that were read last.
+    pub(crate) blocks: BlockCache,
 }
 
 impl<F: FileSystem> Model for Engine<F> {
-    ghost use Rattle.raft_log_engine.specs.Held.{Parts, IsEngine};
+    ghost use Rattle.raft_log_engine.specs.Cached.{IsEngine};
+    ghost use Rattle.raft_log_engine.specs.Held.{Parts};
     ghost use Rattle.raft_log_memtables.specs.contracts.memtables.MemTables.{the_row};
     ghost use Rattle.std.specs.Coded.{codes};
 
@@ -30,7 +34,7 @@ impl<F: FileSystem> Model for Engine<F> {
 
     ghost coded = { Prim.hlevel (codes, the_row.coded) };
 
-    ghost view = { λ e. record { files = e.files; pipes = e.pipes; tables = e.tables; is_stopped = e.is_stopped; wrote_unsynced = e.wrote_unsynced } };
+    ghost view = { λ e. record { files = e.files; pipes = e.pipes; tables = e.tables; is_stopped = e.is_stopped; wrote_unsynced = e.wrote_unsynced; block_reads = e.blocks.reads } };
 
-    ghost invariant = { λ e. IsEngine (F.disk e.files) e.pipes e.tables e.is_stopped e.wrote_unsynced };
+    ghost invariant = { λ e. IsEngine (F.disk e.files) e.pipes e.tables e.is_stopped e.wrote_unsynced e.blocks };
 }

@@ -2,6 +2,7 @@
 #![tactic(auto)]
 
 mod appending;
+mod block_cache;
 mod blocks;
 mod calls;
 mod compaction;

@@ -16,6 +16,7 @@ ghost use Rattle.raft_log_files.specs.declared.error.Error.TheVariants.{Corrupti
 ghost use Rattle.raft_log_files.specs.declared.error.OtherFault.{OtherFault};
 ghost use Rattle.raft_log_recovery.specs.Scan.{directories_of};
 
+use crate::block_cache::BlockCache;
 use crate::engine::Engine;
 use crate::fault::EngineFault;
 use raft_log_files::{Config, Error, FileSystem};
@@ -102,6 +103,7 @@ impl<F: FileSystem + Drop> Engine<F> {
         ensures alone { IfOk result (λ e. ((queue : LogQueue) → IsOnce (F.disk files).names (directories_of (settings_of config)) queue) → StandsAlone F.disk e) }
         ensures written { IfOk result (λ e. HasWritten F.disk e (answers_on F.disk e) []) }
         ensures opens { IfOk result (λ e. StandsAlone F.disk e → OpensAs (directories_of_engine e) (F.disk e.files) (answers_on F.disk e)) }
+        ensures unread { IfOk result (λ e. e.block_reads ≡ 0) }
         ensures err { IfErr result (λ refused. IsLeftByOpening config.recovery_mode (directories_of (settings_of config)) (F.disk files) (F.disk refused.files)) }
         ensures reads { IfErr result (λ refused. IsFoundAgain config.recovery_mode (directories_of (settings_of config)) (F.disk files) (F.disk refused.files)) }
         ensures corrupt { IfErr result (λ refused. (f : CorruptionFault) → refused.fault ≡ Log (Corruption f)
@@ -116,6 +118,7 @@ impl<F: FileSystem + Drop> Engine<F> {
                 tables,
                 is_stopped: false,
                 wrote_unsynced: false,
+                blocks: BlockCache::new(alloc),
             }),
             Err(fault) => Err(NotOpened { fault, files }),
         }

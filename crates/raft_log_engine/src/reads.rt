@@ -1,5 +1,6 @@
 //! Reads of groups, and of what an engine is over.
-ghost use Rattle.std.specs.Prelude.{◌≡◌, ◌+◌, ◌-◌, ◌^◌, ◌↔◌, ℕ, true, false, Err, IfErr, IfOk, IsTrue, OnOk, min, option_map};
+ghost use Rattle.std.specs.Prelude.{◌≡◌, ◌≤◌, ◌+◌, ◌-◌, ◌^◌, ◌↔◌, ℕ, true, false, Err, IfErr, IfOk, IsTrue, OnOk, min, option_map};
+ghost use Rattle.std.specs.Option.{option_map_or};
 ghost use Rattle.std.specs.List.Sorted.{IsStrictlySortedBy};
 ghost use Rattle.std.specs.Ordering.{nat_cmp, eq_by_cmp};
 ghost use Rattle.std.specs.Set.{is_member};
@@ -24,13 +25,20 @@ impl<F: FileSystem + Drop> Engine<F> {
     pub fn get_entry(&mut self, group: u64, index: u64) -> Result<Option<Vec<u8>>, EngineFault>
         ensures found { IfOk result (λ found. option_map (λ v. v.items) found ≡ (answers_on F.disk self.old group).entry index) }
         ensures stopped { self.old.is_stopped ≡ true → result ≡ Err Stopped }
-        ensures same { self.new ≡ self.old }
+        ensures same { self.new ≡ record self.old { block_reads = self.new.block_reads } }
+        ensures reads { IfOk result (λ found. self.new.block_reads ≤ self.old.block_reads + option_map_or (λ _. 1) found 0) }
     {
         if self.is_stopped {
             return Err(EngineFault::Stopped);
         }
         match self.tables.get_entry(group, index) {
-            Some(place) => Ok(Some(copy_of(self.alloc, &self.files, &self.pipes, place)?)),
+            Some(place) => Ok(Some(copy_of(
+                self.alloc,
+                &self.files,
+                &self.pipes,
+                &mut self.blocks,
+                place,
+            )?)),
             None => Ok(None),
         }
     }
@@ -123,6 +131,14 @@ impl<F: FileSystem + Drop> Engine<F> {
     {
         let appends = self.pipes.total_size(LogQueue::Append);
         appends.saturating_add(self.pipes.total_size(LogQueue::Rewrite))
+    }
+
+    /// How many blocks were read from files for entries, since the engine was opened (own). The count
+    /// stays at 2^64 - 1.
+    pub fn block_reads(&self) -> u64
+        ensures { result ≡ self.now.block_reads }
+    {
+        self.blocks.reads()
     }
 
     /// The files, lent for reading (own).

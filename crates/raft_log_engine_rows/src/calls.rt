@@ -29,6 +29,8 @@ pub enum Told {
     Names(Vec<String>),
     Path(String),
     Bytes(u64),
+    /// How many blocks were read from files.
+    Blocks(u64),
     Removed(u64),
     Fused,
     /// A batch could not be made, and no call was.
@@ -75,8 +77,8 @@ fn names<F: CrashFiles + Drop>(
     }
 }
 
-/// What a step asks of the whole engine: `groups`, `empty`, `span`, `used`, `path`,
-/// `names:DIRECTORY`, `sync`, or `fuse:CALL`, from which call on the files refuse.
+/// What a step asks of the whole engine: `groups`, `empty`, `span`, `used`, `blocks`,
+/// `path`, `names:DIRECTORY`, `sync`, or `fuse:CALL`, from which call on the files refuse.
 fn ask<F: CrashFiles + Drop>(
     engine: &mut Engine<F>,
     alloc: Global,
@@ -90,6 +92,7 @@ fn ask<F: CrashFiles + Drop>(
             Told::Files(first, last)
         }
         ["used"] => Told::Bytes(engine.get_used_size()),
+        ["blocks"] => Told::Blocks(engine.block_reads()),
         ["path"] => Told::Path(String::from_str(alloc, engine.path())?),
         ["sync"] => {
             engine.sync()?;

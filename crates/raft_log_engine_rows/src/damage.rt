@@ -86,7 +86,7 @@ fn shown_of(alloc: Global, harm: Harm, at: u64) -> Result<Shown, EngineFault> {
     let mut files = written(alloc, harm)?;
     damage(&mut files, alloc, harm, at)?;
     match opened_as(files, alloc, harm.target_size, harm.mode) {
-        Ok(engine) => Ok(match found_of(&engine, alloc, harm.count)? {
+        Ok(mut engine) => Ok(match found_of(&mut engine, alloc, harm.count)? {
             Some(found) => Shown::Read(found),
             None => Shown::Other,
         }),

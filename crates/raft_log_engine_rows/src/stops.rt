@@ -56,7 +56,7 @@ pub(crate) fn told_of(engine: &mut Engine<MemoryFileSystem>, alloc: Global, coun
 }
 
 /// Whether a batch is there as it was written, and whether it isn't there at all.
-fn look(engine: &Engine<MemoryFileSystem>, number: u64) -> Result<(bool, bool), EngineFault> {
+fn look(engine: &mut Engine<MemoryFileSystem>, number: u64) -> Result<(bool, bool), EngineFault> {
     if !engine.is_there(number)? {
         return Ok((false, true));
     }
@@ -73,7 +73,7 @@ fn look(engine: &Engine<MemoryFileSystem>, number: u64) -> Result<(bool, bool), 
 
 /// Which of the batches are there, if each is there whole or not at all.
 pub(crate) fn found_of(
-    engine: &Engine<MemoryFileSystem>,
+    engine: &mut Engine<MemoryFileSystem>,
     alloc: Global,
     count: u64,
 ) -> Result<Option<Vec<u64>>, EngineFault> {
@@ -104,8 +104,8 @@ fn stopped_at(alloc: Global, plan: Plan, call: u64) -> Result<Stop, EngineFault>
     };
     let mut files = crashed(files, plan.how)?;
     files.fuse(None);
-    let engine = opened_as(files, alloc, plan.target_size, plan.mode)?;
-    Ok((told, found_of(&engine, alloc, plan.count)?))
+    let mut engine = opened_as(files, alloc, plan.target_size, plan.mode)?;
+    Ok((told, found_of(&mut engine, alloc, plan.count)?))
 }
 
 /// Stops a client at its first changing call, at its second one, and so on, until it isn't stopped.

@@ -11,20 +11,20 @@ use Rattle.raft_log_engine.proofs.engine.Engine.close.Goals as goal
 pub returns-then-self-clause-opens_front : goal.returns-then-self-clause-opens_front
 returns-then-self-clause-opens_front g c =
     let met = g.met.F.FileSystem g.world.𝓛 g.world.𝓜 g.world.𝓡 ((λ s x. x), (λ x. x), (λ x. x), λ x. x) in
-    rw (← c.self.view_is) (λ before batches alone w. written_opens (g.F.FileSystem.disk) (parts c.self.inside.files c.self.inside.pipes c.self.inside.tables c.self.inside.is_stopped c.self.inside.wrote_unsynced) before batches (met.is_named c.self.inside.files) alone w)
+    rw (← c.self.view_is) (λ before batches alone w. written_opens (g.F.FileSystem.disk) (parts c.self.inside.files c.self.inside.pipes c.self.inside.tables c.self.inside.is_stopped c.self.inside.wrote_unsynced c.self.inside.blocks.reads) before batches (met.is_named c.self.inside.files) alone w)
 
 -- closing the append queue was refused
 
 pub returns-in_default-clause-opens : goal.returns-in_default-clause-opens
 returns-in_default-clause-opens g c =
     let met = g.met.F.FileSystem g.world.𝓛 g.world.𝓜 g.world.𝓡 ((λ s x. x), (λ x. x), (λ x. x), λ x. x) in
-    let old = (parts c.self.inside.files c.self.inside.pipes c.self.inside.tables c.self.inside.is_stopped c.self.inside.wrote_unsynced) in
+    let old = (parts c.self.inside.files c.self.inside.pipes c.self.inside.tables c.self.inside.is_stopped c.self.inside.wrote_unsynced c.self.inside.blocks.reads) in
     let p = c.self.inside.pipes in
     let q = c.close.new.self in
     let d = g.F.FileSystem.disk c.self.inside.files in
     let e = g.F.FileSystem.disk c.close.new.files in
     rw (← c.self.view_is) (λ sound alone.
-    let kept = kept_by (g.F.FileSystem.disk) old (c.self.invariant c.if-self.false) sound.synced in
+    let kept = kept_by (g.F.FileSystem.disk) old (c.self.invariant c.if-self.false).batches sound.synced in
     closed_opens p q e kept.0 kept.1 (answers_on (g.F.FileSystem.disk) old) (met.is_named c.close.new.files) (first_closed p q d e c.close.result c.close.ensures.call c.close.ensures.other alone kept.0 kept.1 [] kept.2.rewrite kept.2.append)
     (answered d p c.self.inside.tables kept.0 kept.1 kept.2))
 
@@ -43,7 +43,7 @@ returns-in_default-clause-opens_front g c =
 pub returns-clause-opens : goal.returns-clause-opens
 returns-clause-opens g c =
     let met = g.met.F.FileSystem g.world.𝓛 g.world.𝓜 g.world.𝓡 ((λ s x. x), (λ x. x), (λ x. x), λ x. x) in
-    let old = (parts c.self.inside.files c.self.inside.pipes c.self.inside.tables c.self.inside.is_stopped c.self.inside.wrote_unsynced) in
+    let old = (parts c.self.inside.files c.self.inside.pipes c.self.inside.tables c.self.inside.is_stopped c.self.inside.wrote_unsynced c.self.inside.blocks.reads) in
     let p = c.self.inside.pipes in
     let q = c.close.new.self in
     let d = g.F.FileSystem.disk c.self.inside.files in
@@ -51,7 +51,7 @@ returns-clause-opens g c =
     let t = c.close-2.new.self in
     let f = g.F.FileSystem.disk c.close-2.new.files in
     rw (← c.self.view_is) (λ sound alone.
-    let kept = kept_by (g.F.FileSystem.disk) old (c.self.invariant c.if-self.false) sound.synced in
+    let kept = kept_by (g.F.FileSystem.disk) old (c.self.invariant c.if-self.false).batches sound.synced in
     closed_opens p t f kept.0 kept.1 (answers_on (g.F.FileSystem.disk) old) (met.is_named c.close-2.new.files) (both_closed p q t d e f _ c.close-2.result c.in-Ok.ensures.call c.in-Ok.ensures.other c.close-2.ensures.call c.close-2.ensures.other alone kept.0 kept.1 [] kept.2.rewrite kept.2.append)
     (answered d p c.self.inside.tables kept.0 kept.1 kept.2))
 

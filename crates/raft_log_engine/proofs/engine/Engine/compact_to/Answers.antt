@@ -12,7 +12,7 @@ use Rattle.raft_log_engine.proofs.engine.Engine.compact_to.Goals as goal
 
 pub returns-in_err-batch-clause-err : goal.returns-in_err-batch-clause-err
 returns-in_err-batch-clause-err g c =
-    rw (← c.self.view_is) (λ sound. at_err _ _ (refused (g.F.FileSystem.disk) (parts c.self.inside.files c.self.inside.pipes c.self.inside.tables c.self.inside.is_stopped c.self.inside.wrote_unsynced) (kept_by (g.F.FileSystem.disk) (parts c.self.inside.files c.self.inside.pipes c.self.inside.tables c.self.inside.is_stopped c.self.inside.wrote_unsynced) (c.self.invariant c.if-self.false) sound.synced) sound.synced (compaction c.args.group c.args.index ∷ [])))
+    rw (← c.self.view_is) (λ sound. at_err _ _ (refused (g.F.FileSystem.disk) (parts c.self.inside.files c.self.inside.pipes c.self.inside.tables c.self.inside.is_stopped c.self.inside.wrote_unsynced c.self.inside.blocks.reads) (kept_by (g.F.FileSystem.disk) (parts c.self.inside.files c.self.inside.pipes c.self.inside.tables c.self.inside.is_stopped c.self.inside.wrote_unsynced c.self.inside.blocks.reads) (c.self.invariant c.if-self.false).batches sound.synced) sound.synced (compaction c.args.group c.args.index ∷ [])))
 
 pub returns-clause-count : goal.returns-clause-count
 returns-clause-count g c =

@@ -1,17 +1,37 @@
-use Rattle.std.proofs.Common.{length, sym, ◌∙◌}
+use Rattle.std.proofs.Common.{subst}
+use Rattle.std.specs.Prelude.{Contains}
 use Rattle.raft_log_memtables.specs.MemTables.{content_in}
 use Rattle.raft_log_engine.specs.Held.{bytes_on}
-use Rattle.raft_log_engine.proofs.Fetched.{copied, has_read}
+use Rattle.raft_log_engine.proofs.Fetched.{copied, copied_count, fetched_there, has_read}
+use Rattle.raft_log_engine.proofs.Settled.{blocks_more, blocks_read}
 use Rattle.raft_log_engine.proofs.Tables.{measured}
 use Rattle.raft_log_engine.proofs.engine.Engine.fetch_entries_to.Goals as goal
 
+pub copies_of-requires-clause-read : goal.copies_of-requires-clause-read
+copies_of-requires-clause-read g c κs within =
+    blocks_read (g.F.FileSystem.disk c.self.inside.files) c.self.inside.pipes c.self.inside.tables c.self.inside.wrote_unsynced c.self.inside.blocks (c.self.invariant c.if-self.false)
+
+pub invariant_of-self : goal.invariant_of-self
+invariant_of-self g c =
+    λ goes_on. blocks_more (g.F.FileSystem.disk c.self.inside.files) c.self.inside.pipes c.self.inside.tables c.self.inside.wrote_unsynced c.self.inside.blocks (c.self.invariant c.if-self.false) c.copies_of.new.cache (Contains c.deref.result.now)
+    (λ e among. (
+      c.args.group,
+      fetched_there (content_in c.self.inside.tables c.args.group) c.args.begin c.args.end c.args.max_size c.in-Ok.places.items c.in-Ok.ensures.some c.in-Ok.ensures.none c.in-Ok.ensures.unknown e
+          (subst (λ l. Contains l e) c.deref.ensures.value among),
+    ))
+    c.copies_of.ensures.kept
+
 pub returns-clause-found : goal.returns-clause-found
 returns-clause-found g c =
-    let held = c.self.invariant c.if-self.false in
+    let held = (c.self.invariant c.if-self.false).batches in
     let d = g.F.FileSystem.disk c.self.inside.files in
     let p = c.self.inside.pipes in
     rw (← c.self.view_is) (copied c.copies_of.result (bytes_on d p) (content_in c.self.inside.tables c.args.group) c.args.begin c.args.end c.args.max_size c.in-Ok.places.items
-    (rw (← c.deref.ensures.value) c.copies_of.ensures)
+    (rw (← c.deref.ensures.value) c.copies_of.ensures.copied)
     (has_read (bytes_on d p) (content_in c.self.inside.tables c.args.group) c.args.begin c.args.end c.args.max_size c.in-Ok.places.items
     (λ i e is. measured d p c.self.inside.tables held.rewrites held.synced held.unsynced held.held c.args.group i e is)
     c.in-Ok.ensures.some c.in-Ok.ensures.none c.in-Ok.ensures.unknown))
+
+pub returns-clause-reads : goal.returns-clause-reads
+returns-clause-reads g c =
+    rw (← c.self.view_is) (copied_count c.copies_of.result (bytes_on (g.F.FileSystem.disk c.self.inside.files) c.self.inside.pipes) c.deref.result.now c.self.inside.blocks.reads c.copies_of.new.cache.reads c.copies_of.ensures.copied c.copies_of.ensures.reads)

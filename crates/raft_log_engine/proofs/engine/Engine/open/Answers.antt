@@ -43,16 +43,19 @@ pub invariant_of-result : goal.invariant_of-result
 invariant_of-result g c =
     let is = c.in-Ok.ensures.ok in
     λ goes_on. record {
-      rewrites = is.rewrites;
-      synced = is.appends;
-      unsynced = [];
-      held = kept_held (g.F.FileSystem.disk c.found_soundly.new.files) c.in-Ok.pipes c.in-Ok.tables is.rewrites is.appends is.kept;
-      none = λ all. refl;
+      batches = record {
+        rewrites = is.rewrites;
+        synced = is.appends;
+        unsynced = [];
+        held = kept_held (g.F.FileSystem.disk c.found_soundly.new.files) c.in-Ok.pipes c.in-Ok.tables is.rewrites is.appends is.kept;
+        none = λ all. refl;
+      };
+      blocks = λ handle entries kept. absurd (c.new.ensures.none handle entries kept);
     }
 
 pub returns-in-Ok-clause-written : goal.returns-in-Ok-clause-written
 returns-in-Ok-clause-written g c =
     let is = c.in-Ok.ensures.ok in
-    let e = parts c.found_soundly.new.files c.in-Ok.pipes c.in-Ok.tables false false in
+    let e = parts c.found_soundly.new.files c.in-Ok.pipes c.in-Ok.tables false false c.new.result.reads in
     nothing_since (g.F.FileSystem.disk) e is.rewrites is.appends is.kept.rewrite is.kept.append (answers_on (g.F.FileSystem.disk) e)
     (answered (g.F.FileSystem.disk c.found_soundly.new.files) c.in-Ok.pipes c.in-Ok.tables is.rewrites is.appends is.kept)

@@ -1,8 +1,11 @@
 -- After a sync all batches are on the disk; a refused one leaves them.
 use Rattle.std.proofs.Common.{true, [], ◌++◌, refl, sym, ◌∙◌}
+use Rattle.std.proofs.lemmas.List.{append-nil}
+use Rattle.raft_log_pipe.proofs.BlockLemmas.{same_files}
 use Rattle.raft_log_engine.specs.Left.{answers_on}
 use Rattle.raft_log_engine.proofs.Clauses.{kept_by, parts}
 use Rattle.raft_log_engine.proofs.Reopened.{kept_opens, still_opens, synced_stands}
+use Rattle.raft_log_engine.proofs.Settled.{settled_still}
 use Rattle.raft_log_engine.proofs.Since.{nothing_since, synced_written, unsynced_written, written_opens}
 use Rattle.raft_log_engine.proofs.Tables.{answered, held_answered, kept_held, synced_kept}
 use Rattle.raft_log_engine.proofs.Taken.{failed_sync}
@@ -11,57 +14,61 @@ use Rattle.raft_log_engine.proofs.engine.Engine.sync.Goals as goal
 pub returns-then-self-clause-opens_front : goal.returns-then-self-clause-opens_front
 returns-then-self-clause-opens_front g c =
     let met = g.met.F.FileSystem g.world.𝓛 g.world.𝓜 g.world.𝓡 ((λ s x. x), (λ x. x), (λ x. x), λ x. x) in
-    rw (← c.self.view_is) (λ before batches alone w. written_opens (g.F.FileSystem.disk) (parts c.self.inside.files c.self.inside.pipes c.self.inside.tables c.self.inside.is_stopped c.self.inside.wrote_unsynced) before batches (met.is_named c.self.inside.files) alone w)
+    rw (← c.self.view_is) (λ before batches alone w. written_opens (g.F.FileSystem.disk) (parts c.self.inside.files c.self.inside.pipes c.self.inside.tables c.self.inside.is_stopped c.self.inside.wrote_unsynced c.self.inside.blocks.reads) before batches (met.is_named c.self.inside.files) alone w)
 
 pub returns-then-not-self-clause-opens : goal.returns-then-not-self-clause-opens
 returns-then-not-self-clause-opens g c =
     let met = g.met.F.FileSystem g.world.𝓛 g.world.𝓜 g.world.𝓡 ((λ s x. x), (λ x. x), (λ x. x), λ x. x) in
-    let old = (parts c.self.inside.files c.self.inside.pipes c.self.inside.tables c.self.inside.is_stopped c.self.inside.wrote_unsynced) in
-    rw (← c.self.view_is) (λ alone. still_opens (g.F.FileSystem.disk) old alone (kept_by (g.F.FileSystem.disk) old (c.self.invariant c.if-self.false) c.if-not-self.true) (met.is_named c.self.inside.files))
+    let old = (parts c.self.inside.files c.self.inside.pipes c.self.inside.tables c.self.inside.is_stopped c.self.inside.wrote_unsynced c.self.inside.blocks.reads) in
+    rw (← c.self.view_is) (λ alone. still_opens (g.F.FileSystem.disk) old alone (kept_by (g.F.FileSystem.disk) old (c.self.invariant c.if-self.false).batches c.if-not-self.true) (met.is_named c.self.inside.files))
 
 pub returns-then-not-self-clause-opens_front : goal.returns-then-not-self-clause-opens_front
 returns-then-not-self-clause-opens_front g c =
     let met = g.met.F.FileSystem g.world.𝓛 g.world.𝓜 g.world.𝓡 ((λ s x. x), (λ x. x), (λ x. x), λ x. x) in
-    rw (← c.self.view_is) (λ before batches alone w. written_opens (g.F.FileSystem.disk) (parts c.self.inside.files c.self.inside.pipes c.self.inside.tables c.self.inside.is_stopped c.self.inside.wrote_unsynced) before batches (met.is_named c.self.inside.files) alone w)
+    rw (← c.self.view_is) (λ before batches alone w. written_opens (g.F.FileSystem.disk) (parts c.self.inside.files c.self.inside.pipes c.self.inside.tables c.self.inside.is_stopped c.self.inside.wrote_unsynced c.self.inside.blocks.reads) before batches (met.is_named c.self.inside.files) alone w)
 
 pub returns-then-not-self-clause-all_written : goal.returns-then-not-self-clause-all_written
 returns-then-not-self-clause-all_written g c =
-    let old = (parts c.self.inside.files c.self.inside.pipes c.self.inside.tables c.self.inside.is_stopped c.self.inside.wrote_unsynced) in
-    let kept = kept_by (g.F.FileSystem.disk) old (c.self.invariant c.if-self.false) c.if-not-self.true in
+    let old = (parts c.self.inside.files c.self.inside.pipes c.self.inside.tables c.self.inside.is_stopped c.self.inside.wrote_unsynced c.self.inside.blocks.reads) in
+    let kept = kept_by (g.F.FileSystem.disk) old (c.self.invariant c.if-self.false).batches c.if-not-self.true in
     rw (← c.self.view_is) (nothing_since (g.F.FileSystem.disk) old kept.0 kept.1 kept.2.rewrite kept.2.append (answers_on (g.F.FileSystem.disk) old) (answered (g.F.FileSystem.disk c.self.inside.files) c.self.inside.pipes c.self.inside.tables kept.0 kept.1 kept.2))
 
 pub returns-in-Err-clause-written : goal.returns-in-Err-clause-written
 returns-in-Err-clause-written g c =
-    let old = (parts c.self.inside.files c.self.inside.pipes c.self.inside.tables c.self.inside.is_stopped c.self.inside.wrote_unsynced) in
-    let new = parts c.sync.new.files c.sync.new.self c.self.inside.tables true c.self.inside.wrote_unsynced in
+    let old = (parts c.self.inside.files c.self.inside.pipes c.self.inside.tables c.self.inside.is_stopped c.self.inside.wrote_unsynced c.self.inside.blocks.reads) in
+    let new = parts c.sync.new.files c.sync.new.self c.self.inside.tables true c.self.inside.wrote_unsynced c.self.inside.blocks.reads in
     rw (← c.self.view_is) (λ before batches w. unsynced_written (g.F.FileSystem.disk) old new before batches c.in-Err.ensures.other c.in-Err.ensures.call.err w)
 
 pub returns-in-Err-clause-opens_front : goal.returns-in-Err-clause-opens_front
 returns-in-Err-clause-opens_front g c =
     let met = g.met.F.FileSystem g.world.𝓛 g.world.𝓜 g.world.𝓡 ((λ s x. x), (λ x. x), (λ x. x), λ x. x) in
-    let old = (parts c.self.inside.files c.self.inside.pipes c.self.inside.tables c.self.inside.is_stopped c.self.inside.wrote_unsynced) in
-    let new = parts c.sync.new.files c.sync.new.self c.self.inside.tables true c.self.inside.wrote_unsynced in
+    let old = (parts c.self.inside.files c.self.inside.pipes c.self.inside.tables c.self.inside.is_stopped c.self.inside.wrote_unsynced c.self.inside.blocks.reads) in
+    let new = parts c.sync.new.files c.sync.new.self c.self.inside.tables true c.self.inside.wrote_unsynced c.self.inside.blocks.reads in
     rw (← c.self.view_is) (λ before batches alone w. written_opens (g.F.FileSystem.disk) new before batches (met.is_named c.sync.new.files)
     (synced_stands c.self.inside.pipes c.sync.new.self (g.F.FileSystem.disk c.self.inside.files) (g.F.FileSystem.disk c.sync.new.files) c.in-Err.ensures.call.same c.in-Err.ensures.call.paths c.in-Err.ensures.call.names c.in-Err.ensures.other alone)
     (unsynced_written (g.F.FileSystem.disk) old new before batches c.in-Err.ensures.other c.in-Err.ensures.call.err w))
 
 pub invariant_of-self-in_default : goal.invariant_of-self-in_default
 invariant_of-self-in_default g c =
-    let held = c.self.invariant c.if-self.false in
+    let held = (c.self.invariant c.if-self.false).batches in
     let d = g.F.FileSystem.disk c.self.inside.files in
     let e = g.F.FileSystem.disk c.sync.new.files in
     let kept = synced_kept d e c.self.inside.pipes c.sync.new.self c.self.inside.tables held.rewrites held.synced held.unsynced held.held (c.in_default.ensures.both held.held.pipes) c.in_default.ensures.call.same c.in_default.ensures.other c.in_default.ensures.call.ok in
     λ goes_on. record {
-      rewrites = held.rewrites;
-      synced = held.synced ++ held.unsynced;
-      unsynced = [];
-      held = kept_held e c.sync.new.self c.self.inside.tables held.rewrites (held.synced ++ held.unsynced) kept;
-      none = λ all. refl;
+      batches = record {
+        rewrites = held.rewrites;
+        synced = held.synced ++ held.unsynced;
+        unsynced = [];
+        held = kept_held e c.sync.new.self c.self.inside.tables held.rewrites (held.synced ++ held.unsynced) kept;
+        none = λ all. refl;
+      };
+      blocks = λ at bytes is_kept. settled_still c.self.inside.pipes c.sync.new.self held.rewrites (held.synced ++ held.unsynced) ((held.synced ++ held.unsynced) ++ []) c.in_default.ensures.other.same
+          (same_files c.self.inside.pipes.append c.sync.new.self.append c.in_default.ensures.call.same.0 c.in_default.ensures.call.same.1) (sym (append-nil (held.synced ++ held.unsynced))) at bytes ((c.self.invariant c.if-self.false).blocks at bytes is_kept);
     }
 
 pub returns-clause-answers : goal.returns-clause-answers
 returns-clause-answers g c =
-    let held = c.self.invariant c.if-self.false in
+    let held = (c.self.invariant c.if-self.false).batches in
     let d = g.F.FileSystem.disk c.self.inside.files in
     let e = g.F.FileSystem.disk c.sync.new.files in
     let kept = synced_kept d e c.self.inside.pipes c.sync.new.self c.self.inside.tables held.rewrites held.synced held.unsynced held.held (c.in_default.ensures.both held.held.pipes) c.in_default.ensures.call.same c.in_default.ensures.other c.in_default.ensures.call.ok in
@@ -70,7 +77,7 @@ returns-clause-answers g c =
 pub returns-clause-opens : goal.returns-clause-opens
 returns-clause-opens g c =
     let met = g.met.F.FileSystem g.world.𝓛 g.world.𝓜 g.world.𝓡 ((λ s x. x), (λ x. x), (λ x. x), λ x. x) in
-    let held = c.self.invariant c.if-self.false in
+    let held = (c.self.invariant c.if-self.false).batches in
     let d = g.F.FileSystem.disk c.self.inside.files in
     let e = g.F.FileSystem.disk c.sync.new.files in
     let kept = synced_kept d e c.self.inside.pipes c.sync.new.self c.self.inside.tables held.rewrites held.synced held.unsynced held.held (c.in_default.ensures.both held.held.pipes) c.in_default.ensures.call.same c.in_default.ensures.other c.in_default.ensures.call.ok in
@@ -79,31 +86,31 @@ returns-clause-opens g c =
 
 pub returns-clause-written : goal.returns-clause-written
 returns-clause-written g c =
-    let old = (parts c.self.inside.files c.self.inside.pipes c.self.inside.tables c.self.inside.is_stopped c.self.inside.wrote_unsynced) in
-    let new = parts c.sync.new.files c.sync.new.self c.self.inside.tables c.self.inside.is_stopped c.self.inside.wrote_unsynced in
+    let old = (parts c.self.inside.files c.self.inside.pipes c.self.inside.tables c.self.inside.is_stopped c.self.inside.wrote_unsynced c.self.inside.blocks.reads) in
+    let new = parts c.sync.new.files c.sync.new.self c.self.inside.tables c.self.inside.is_stopped c.self.inside.wrote_unsynced c.self.inside.blocks.reads in
     rw (← c.self.view_is) (λ before batches w. synced_written (g.F.FileSystem.disk) old new before batches c.in_default.ensures.other c.in_default.ensures.call.ok w)
 
 pub returns-clause-opens_front : goal.returns-clause-opens_front
 returns-clause-opens_front g c =
     let met = g.met.F.FileSystem g.world.𝓛 g.world.𝓜 g.world.𝓡 ((λ s x. x), (λ x. x), (λ x. x), λ x. x) in
-    let old = (parts c.self.inside.files c.self.inside.pipes c.self.inside.tables c.self.inside.is_stopped c.self.inside.wrote_unsynced) in
-    let new = parts c.sync.new.files c.sync.new.self c.self.inside.tables c.self.inside.is_stopped c.self.inside.wrote_unsynced in
+    let old = (parts c.self.inside.files c.self.inside.pipes c.self.inside.tables c.self.inside.is_stopped c.self.inside.wrote_unsynced c.self.inside.blocks.reads) in
+    let new = parts c.sync.new.files c.sync.new.self c.self.inside.tables c.self.inside.is_stopped c.self.inside.wrote_unsynced c.self.inside.blocks.reads in
     rw (← c.self.view_is) (λ before batches alone w. written_opens (g.F.FileSystem.disk) new before batches (met.is_named c.sync.new.files)
     (synced_stands c.self.inside.pipes c.sync.new.self (g.F.FileSystem.disk c.self.inside.files) (g.F.FileSystem.disk c.sync.new.files) c.in_default.ensures.call.same c.in_default.ensures.call.paths c.in_default.ensures.call.names c.in_default.ensures.other alone)
     (synced_written (g.F.FileSystem.disk) old new before batches c.in_default.ensures.other c.in_default.ensures.call.ok w))
 
 pub returns-clause-all_written : goal.returns-clause-all_written
 returns-clause-all_written g c =
-    let held = c.self.invariant c.if-self.false in
+    let held = (c.self.invariant c.if-self.false).batches in
     let d = g.F.FileSystem.disk c.self.inside.files in
     let e = g.F.FileSystem.disk c.sync.new.files in
-    let new = parts c.sync.new.files c.sync.new.self c.self.inside.tables c.self.inside.is_stopped c.self.inside.wrote_unsynced in
+    let new = parts c.sync.new.files c.sync.new.self c.self.inside.tables c.self.inside.is_stopped c.self.inside.wrote_unsynced c.self.inside.blocks.reads in
     let kept = synced_kept d e c.self.inside.pipes c.sync.new.self c.self.inside.tables held.rewrites held.synced held.unsynced held.held (c.in_default.ensures.both held.held.pipes) c.in_default.ensures.call.same c.in_default.ensures.other c.in_default.ensures.call.ok in
     nothing_since (g.F.FileSystem.disk) new held.rewrites (held.synced ++ held.unsynced) kept.rewrite kept.append (answers_on (g.F.FileSystem.disk) new) (answered e c.sync.new.self c.self.inside.tables held.rewrites (held.synced ++ held.unsynced) kept)
 
 pub returns-in-Err-clause-taken : goal.returns-in-Err-clause-taken
 returns-in-Err-clause-taken g c =
-    rw (← c.self.view_is) (λ free. failed_sync (parts c.self.inside.files c.self.inside.pipes c.self.inside.tables c.self.inside.is_stopped c.self.inside.wrote_unsynced) c.in-Err.error (c.in-Err.ensures.taken free))
+    rw (← c.self.view_is) (λ free. failed_sync (parts c.self.inside.files c.self.inside.pipes c.self.inside.tables c.self.inside.is_stopped c.self.inside.wrote_unsynced c.self.inside.blocks.reads) c.in-Err.error (c.in-Err.ensures.taken free))
 
 -- ---- where the files lie
 

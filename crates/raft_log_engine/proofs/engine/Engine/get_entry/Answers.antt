@@ -1,0 +1,29 @@
+-- The entry is copied out of its block, which is one of a batch.
+use Rattle.std.proofs.Common.{◌≡◌, List, ℕ, Some, sym, ap, ◌∙◌}
+use Rattle.std.specs.Option.{option_map}
+use Rattle.raft_log_records.specs.declared.item.EntryIndex.{EntryIndex}
+use Rattle.raft_log_engine.specs.Held.{bytes_on}
+use Rattle.raft_log_engine.proofs.Settled.{blocks_more, blocks_read}
+use Rattle.raft_log_engine.proofs.engine.Engine.get_entry.Goals as goal
+
+pub copy_of-requires-clause-read : goal.copy_of-requires-clause-read
+copy_of-requires-clause-read g c κs within =
+    blocks_read (g.F.FileSystem.disk c.self.inside.files) c.self.inside.pipes c.self.inside.tables c.self.inside.wrote_unsynced c.self.inside.blocks (c.self.invariant c.if-self.false)
+
+pub invariant_of-self : goal.invariant_of-self
+invariant_of-self g c =
+    λ goes_on. blocks_more (g.F.FileSystem.disk c.self.inside.files) c.self.inside.pipes c.self.inside.tables c.self.inside.wrote_unsynced c.self.inside.blocks (c.self.invariant goes_on) c.copy_of.new.cache (λ e. e ≡ c.in-Some.place)
+    (λ e is. (c.args.group, (c.args.index, sym c.in-Some.ensures ∙ ap (λ (x : EntryIndex). Some x) (sym is))))
+    c.copy_of.ensures.kept
+
+pub invariant_of-self-in-Some : goal.invariant_of-self-in-Some
+invariant_of-self-in-Some g c =
+    λ goes_on. blocks_more (g.F.FileSystem.disk c.self.inside.files) c.self.inside.pipes c.self.inside.tables c.self.inside.wrote_unsynced c.self.inside.blocks (c.self.invariant goes_on) c.copy_of.new.cache (λ e. e ≡ c.in-Some.place)
+    (λ e is. (c.args.group, (c.args.index, sym c.in-Some.ensures ∙ ap (λ (x : EntryIndex). Some x) (sym is))))
+    c.copy_of.ensures.kept
+
+pub returns-in_ok-copy_of-in-Some-clause-found : goal.returns-in_ok-copy_of-in-Some-clause-found
+returns-in_ok-copy_of-in-Some-clause-found g c =
+    rw (← c.self.view_is)
+    (ap (λ (l : List ℕ). Some l) c.in_ok-copy_of-in-Some.ensures.copied
+    ∙ ap (option_map (bytes_on (g.F.FileSystem.disk c.self.inside.files) c.self.inside.pipes)) c.in-Some.ensures)

@@ -1,0 +1,51 @@
+-- Blocks that an engine keeps in memory.
+use Rattle.std.specs.Prelude.{◌≡◌, ◌⊎◌, ℕ, Bool, false, List, ◌++◌, Option, Some, None, Contains, Vec}
+use Rattle.std.specs.declared.alloc.Global.{Global}
+use Rattle.lru.specs.LruCache.{LruCache}
+use Rattle.raft_log_records.specs.declared.file_id.FileBlockHandle.{FileBlockHandle}
+use Rattle.raft_log_records.specs.declared.item.EntryIndex.{EntryIndex}
+use Rattle.raft_log_records.specs.Spelling.{block_of}
+use Rattle.raft_log_disk.specs.Disk.{Disk}
+use Rattle.raft_log_pipe.specs.Pipe.{Numbered}
+use Rattle.raft_log_pipes.specs.declared.pipes.DualPipes.{DualPipes}
+use Rattle.raft_log_memtables.specs.declared.memtables.MemTables.{MemTables}
+use Rattle.raft_log_engine.specs.declared.block_cache.BlockCache.{BlockCache}
+use Rattle.raft_log_engine.specs.declared.block_cache.BlockKey.{BlockKey}
+use Rattle.raft_log_engine.specs.Blocks.{IsReadAs}
+use Rattle.raft_log_engine.specs.Held.{HoldsBatches, LiesIn}
+
+abbrev pub KeepsIn : Option (LruCache BlockKey (Vec ℕ Global)) → FileBlockHandle → List ℕ → Type 0
+KeepsIn None handle entries = ⊥
+KeepsIn (Some cache) handle entries = (pair : BlockKey × Vec ℕ Global) × Contains cache.entries pair × (pair.0.handle ≡ handle) × (pair.1.items ≡ entries)
+
+-- a block with these entries is kept under this handle
+abbrev pub Keeps : BlockCache → FileBlockHandle → List ℕ → Type 0
+Keeps cache = KeepsIn cache.blocks
+
+-- each block that is kept has what its file has there
+abbrev pub AreRead : Disk → DualPipes → BlockCache → Type 0
+AreRead d p cache = (handle : FileBlockHandle) (entries : List ℕ) → Keeps cache handle entries → IsReadAs d p handle entries
+
+-- a block that is kept was kept before, or was read for one of these entries
+abbrev pub KeepsMore : Disk → DualPipes → (EntryIndex → Type 0) → BlockCache → BlockCache → Type 0
+KeepsMore d p IsAsked old new = (handle : FileBlockHandle) (entries : List ℕ) → Keeps new handle entries
+    → Keeps old handle entries ⊎ ((e : EntryIndex) × IsAsked e × (e.entries ≡ Some handle) × IsReadAs d p handle entries)
+
+-- ---- what writes leave of kept blocks
+
+-- each block of a batch of either queue is read as it was written
+pub record ReadsBlocks (p : DualPipes) (rewrites appends : Numbered) (read : FileBlockHandle → List ℕ) : Type 0 where
+  pub rewrite : (e : EntryIndex) (bytes : List ℕ) → (lies : LiesIn p.rewrite rewrites e bytes) → read lies.handle ≡ block_of lies.items
+  pub append : (e : EntryIndex) (bytes : List ℕ) → (lies : LiesIn p.append appends e bytes) → read lies.handle ≡ block_of lies.items
+
+-- however such blocks are read, this one is read as these entries
+abbrev pub IsSettled : DualPipes → Numbered → Numbered → FileBlockHandle → List ℕ → Type 0
+IsSettled p rewrites appends handle entries = (read : FileBlockHandle → List ℕ) → ReadsBlocks p rewrites appends read → read handle ≡ entries
+
+-- the engine holds batches, and keeps blocks of them
+pub record HoldsBlocks (d : Disk) (p : DualPipes) (tables : MemTables) (wrote_unsynced : Bool) (cache : BlockCache) : Type 0 where
+  pub batches : HoldsBatches d p tables wrote_unsynced
+  pub blocks : (handle : FileBlockHandle) (entries : List ℕ) → Keeps cache handle entries → IsSettled p batches.rewrites (batches.synced ++ batches.unsynced) handle entries
+
+abbrev pub IsEngine : Disk → DualPipes → MemTables → Bool → Bool → BlockCache → Type 0
+IsEngine d p tables is_stopped wrote_unsynced cache = is_stopped ≡ false → HoldsBlocks d p tables wrote_unsynced cache
