@@ -59,3 +59,6 @@ returns-in-Ok-clause-written g c =
     let e = parts c.found_soundly.new.files c.in-Ok.pipes c.in-Ok.tables false false c.new.result.reads in
     nothing_since (g.F.FileSystem.disk) e is.rewrites is.appends is.kept.rewrite is.kept.append (answers_on (g.F.FileSystem.disk) e)
     (answered (g.F.FileSystem.disk c.found_soundly.new.files) c.in-Ok.pipes c.in-Ok.tables is.rewrites is.appends is.kept)
+
+pub returns-in-Ok-clause-refused : goal.returns-in-Ok-clause-refused
+returns-in-Ok-clause-refused g c = λ f unsound. let refused = (c.in-Ok.ensures.refused f unsound).0 in absurd cc
