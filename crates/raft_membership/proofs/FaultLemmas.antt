@@ -128,12 +128,12 @@ module _ {K : Type 0} (cmp : K → K → Ordering) where
 -- the fault of the goal alone, and beside the last group
 module _ {K : Type 0} (cmp : K → K → Ordering) (known : K → Bool) where
   pub fault-alone : (goal : List K) → fault_of (length goal == 0) (first_outside known goal) ≡ groups_fault cmp known (goal ∷ [])
-  fault-alone goal = ap (λ b. fault_of b (first_outside known goal)) (or_false (length goal == 0))
+  fault-alone goal = ap (λ b. fault_of b (first_outside known goal)) (sym (or-false (length goal == 0)))
 
   pub fault-joint : (last goal : List K) → fault_of ((length last == 0) || (length goal == 0)) (lesser cmp (first_outside known last) (first_outside known goal))
       ≡ groups_fault cmp known (last ∷ goal ∷ [])
   fault-joint last goal =
-      ap (λ b. fault_of ((length last == 0) || b) (lesser cmp (first_outside known last) (first_outside known goal))) (or_false (length goal == 0))
+      ap (λ b. fault_of ((length last == 0) || b) (lesser cmp (first_outside known last) (first_outside known goal))) (sym (or-false (length goal == 0)))
 
 module _ {K N : Type 0} (eq : K → K → Bool) (cmp : K → K → Ordering) (itself : (x : K) → eq x x ≡ true) (identical : (x y : K) → eq x y ≡ true → x ≡ y)
     (same : (x y : K) → cmp x y ≡ Equal → x ≡ y) (m : Membership K N) (retain : Bool) where
