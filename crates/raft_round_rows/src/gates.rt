@@ -1,5 +1,5 @@
 //! Two nodes whose first writes, on files of their own, wait for each other.
-ghost use Rattle.std.specs.Prelude.{None};
+ghost use Rattle.std.specs.Prelude.{◌≡◌, None};
 
 use raft_cluster::{Cluster, ClusterEvent, EventOutcome};
 use raft_cluster_events::{
@@ -46,7 +46,10 @@ fn batch_for(alloc: Global, group: u64) -> Result<LogBatch, RecordError> {
 
 impl GateNode {
     // Writes a batch for a group with a sync, and says whether the write met that of another node.
-    fn meets(&mut self, group: u64) -> bool {
+    fn meets(&mut self, group: u64) -> bool
+        ensures id { self.new.id ≡ self.old.id }
+        ensures up { self.new.is_up ≡ self.old.is_up }
+    {
         let Some(engine) = &mut self.engine else {
             return false;
         };
