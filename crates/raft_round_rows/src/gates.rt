@@ -1,42 +1,62 @@
-//! Two nodes of which each waits in a call until the other one was called.
-ghost use Rattle.std.specs.Prelude.{None};
+//! Two nodes whose first writes, on files of their own, wait for each other.
+ghost use Rattle.std.specs.Prelude.{◌≡◌, None};
 
 use raft_cluster::{Cluster, ClusterEvent, EventOutcome};
 use raft_cluster_events::{
     ClusterNode, CrashChoice, CrashRefusal, GroupCommand, NodeError, NodeOutcome, NodeRefusal,
     Sequence, Stop, StopCause,
 };
+use raft_gate_files::{Gate, GateFiles};
+use raft_log_engine::Engine;
+use raft_log_files::Config;
+use raft_log_records::{LogBatch, RecordError};
 use raft_machines::AddingMachine;
 use std::alloc::{AllocError, Global};
-use std::sync::Arc;
-use std::sync::atomic::{AtomicU64, Ordering};
-use std::thread;
 use std::thread::Threads;
 
-/// How often a node looks for the other one before it gives up.
+/// How often a write looks for another one before it gives up, in a round.
 const TURNS: u64 = 1_000_000;
 
-/// A node that has nothing. Where it gets a group it says so, and waits for another node to say so, too. It
-/// lacks memory for each crash.
+/// The same where nobody comes.
+const FEW_TURNS: u64 = 1_000;
+
+/// A node that has a log and nothing else. Where it gets a group it writes a batch, and is done where
+/// that met the write of another node. It lacks memory for each crash.
 #[derive(Drop)]
 struct GateNode {
     alloc: Global,
     id: u64,
     is_up: bool,
-    called: Arc<AtomicU64, Global>,
+    engine: Option<Engine<GateFiles>>,
+}
+
+// An engine over files behind a gate, if it can be opened.
+fn opened(alloc: Global, files: GateFiles) -> Result<Option<Engine<GateFiles>>, AllocError> {
+    let mut config = Config::default(alloc);
+    config.dir = String::from_str(alloc, "main")?;
+    Ok(Engine::open(files, alloc, config).ok())
+}
+
+// A batch for a group.
+fn batch_for(alloc: Global, group: u64) -> Result<LogBatch, RecordError> {
+    let mut batch = LogBatch::new(alloc);
+    batch.put(group, vec![in alloc; 97]?, vec![in alloc; 98]?)?;
+    Ok(batch)
 }
 
 impl GateNode {
-    // Whether another node was called, by its last turn.
-    fn meets(&self) -> bool {
-        self.called.fetch_add(1, Ordering::SeqCst);
-        for _ in 0..TURNS {
-            if self.called.load(Ordering::SeqCst) > 1 {
-                return true;
-            }
-            thread::yield_now();
-        }
-        false
+    // Writes a batch for a group with a sync, and says whether the write met that of another node.
+    fn meets(&mut self, group: u64) -> bool
+        ensures id { self.new.id ≡ self.old.id }
+        ensures up { self.new.is_up ≡ self.old.is_up }
+    {
+        let Some(engine) = &mut self.engine else {
+            return false;
+        };
+        let Ok(mut batch) = batch_for(self.alloc, group) else {
+            return false;
+        };
+        engine.write(&mut batch, true).is_ok() && engine.files().met() == Some(true)
     }
 
     fn done(&self, group: u64) -> NodeOutcome {
@@ -52,7 +72,7 @@ impl GateNode {
 impl ClusterNode for GateNode {
     type Machine = AddingMachine;
 
-    type Settings = Arc<AtomicU64, Global>;
+    type Settings = Gate;
 
     ghost acts = { record {
       id = λ n. n.id;
@@ -77,17 +97,13 @@ impl ClusterNode for GateNode {
       spells = λ group message bytes. Unit {0};
     } };
 
-    fn begin(
-        alloc: Global,
-        id: u64,
-        settings: &Arc<AtomicU64, Global>,
-    ) -> Result<Self, AllocError> {
-        let called = Arc::try_clone(settings)?;
+    fn begin(alloc: Global, id: u64, settings: &Gate) -> Result<Self, AllocError> {
+        let engine = opened(alloc, GateFiles::new(alloc, settings.again()?))?;
         Ok(GateNode {
             alloc,
             id,
-            is_up: true,
-            called,
+            is_up: engine.is_some(),
+            engine,
         })
     }
 
@@ -100,7 +116,7 @@ impl ClusterNode for GateNode {
     }
 
     fn add_group(&mut self, group: u64) -> Result<NodeOutcome, NodeError> {
-        if self.meets() {
+        if self.meets(group) {
             Ok(self.done(group))
         } else {
             Err(NodeError::Refused(NodeRefusal::Failed))
@@ -161,9 +177,13 @@ impl ClusterNode for GateNode {
     }
 }
 
-fn cluster(alloc: Global) -> Result<Cluster<GateNode>, AllocError> {
-    let called = Arc::new(alloc, AtomicU64::new(0))?;
-    Cluster::new(alloc, &[1, 2], &called)
+// Two nodes whose next writes look so often for another one. Their openings wrote before the gate was
+// shut.
+fn cluster(alloc: Global, turns: u64) -> Result<Cluster<GateNode>, AllocError> {
+    let gate = Gate::new(alloc, turns)?;
+    let cluster = Cluster::new(alloc, &[1, 2], &gate)?;
+    gate.shut();
+    Ok(cluster)
 }
 
 fn events(alloc: Global) -> Result<Vec<ClusterEvent>, AllocError> {
@@ -195,18 +215,21 @@ fn crash(alloc: Global) -> Result<Vec<ClusterEvent>, AllocError> {
     Ok(events)
 }
 
-/// What becomes of the two calls in a round, and of the same ones after another; and of a crash that
-/// finds no memory.
+/// What becomes of two writes in a round, and of the same ones after another; and of a crash that finds
+/// no memory.
 pub fn gate_rows<R: Threads + Sync>(rt: &R, alloc: Global) -> Result<String, AllocError> {
-    let mut rounds = cluster(alloc)?;
+    let mut rounds = cluster(alloc, TURNS)?;
     let _ = rounds.run_round(rt, events(alloc)?);
     let met = words(alloc, &rounds)?;
-    let mut alone = cluster(alloc)?;
+    let mut alone = cluster(alloc, FEW_TURNS)?;
     let _ = alone.run(events(alloc)?);
     let one = words(alloc, &alone)?;
     let ran = rounds.run_round(rt, crash(alloc)?).unwrap_or(9);
     let ran_alone = alone.run(crash(alloc)?);
-    let mut text = String::from_str(alloc, "== two nodes that wait for each other\n")?;
+    let mut text = String::from_str(
+        alloc,
+        "== two file systems whose first writes wait for each other\n",
+    )?;
     text.push_str(format!(in alloc; "round:{met}\none after another:{one}\n")?.as_str())?;
     text.push_str("== a crash without memory, and an event behind it\n")?;
     text.push_str(format!(in alloc;

@@ -2,7 +2,7 @@
 //! events one after another. A line `== NAME` begins two clusters anew. A line `random SEED COUNT` runs
 //! so many random rounds. Each other line is a round: lines of a script with `; ` between them. It is
 //! answered by what came of its events, and by `differs` where the two clusters aren't the same then.
-//! At the end two nodes wait for each other, in a round and one after another.
+//! At the end the writes of two nodes wait for each other, in a round and one after another.
 #![tactic(auto)]
 
 mod gates;
