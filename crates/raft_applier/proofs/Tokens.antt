@@ -187,4 +187,3 @@ pub one_more : (ws : List AnUntold) (xs : List Untold) (token place end : ℕ) �
 one_more ws xs token place end are at =
     map-append (λ (w : AnUntold). record { token = w.token; place = w.place }) ws (record { token = token; place = place } ∷ [])
     ∙ ap₂ (λ ys p. ys ++ record { token = token; place = p } ∷ []) are at
-

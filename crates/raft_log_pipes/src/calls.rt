@@ -90,7 +90,8 @@ impl DualPipes {
         ensures other { IsAsBefore (pipe_of self.old (other_queue queue)) (F.disk files.old) (pipe_of self.new (other_queue queue)) (F.disk files.new) }
         ensures later { RefusesNoMore (F.is_bounded files.old) (F.is_bounded files.new) (F.meter files.old) (F.meter files.new) }
         ensures taken { NothingRefuses (F.is_bounded files.old) (F.meter files.old) → IsPurgeTaken (pipe_of self.old queue) (F.disk files.old) seq result }
-        ensures there { NothingRefuses (F.is_bounded files.old) (F.meter files.old) → IsAlone (pipe_of self.old queue) (F.disk files.old) → IsOutOfSpan (pipe_of self.old queue) seq ⊎ IsOkOrMemory result }
+        ensures there { NothingRefuses (F.is_bounded files.old) (F.meter files.old) → IsAlone (pipe_of self.old queue) (F.disk files.old)
+            → IsOutOfSpan (pipe_of self.old queue) seq ⊎ IsOkOrMemory result }
     {
         match queue {
             LogQueue::Append => self.append.purge_to(files, seq),
