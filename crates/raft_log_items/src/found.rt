@@ -21,13 +21,7 @@ fn id_named(queue: LogQueue, name: &str) -> Option<FileId>
     ensures { result ≡ id_in queue name.now }
 {
     match FileId::parse_file_name(name) {
-        Some(id) => {
-            if id.queue == queue {
-                Some(id)
-            } else {
-                None
-            }
-        }
+        Some(id) => { if id.queue == queue { Some(id) } else { None } }
         None => None,
     }
 }

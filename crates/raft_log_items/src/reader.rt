@@ -114,16 +114,14 @@ impl LogItemReader {
         ensures files { self.new.files ≡ self.old.files }
         ensures next { NextOfFile result (F.disk files.now) (F.meter files.now) (current self.old (F.disk files.now)) (current self.new (F.disk files.now)) }
     {
-        'batches: loop {
-            if let Some(item) = self.items.pop_front() {
-                return Ok(Some(item));
-            }
+        'batches: while self.items.is_empty() {
             match self.batches.next(files, alloc) {
                 Ok(Some(read)) => self.items = VecDeque::from_vec(read.batch.items),
                 Ok(None) => return Ok(None),
                 Err(error) => return Err(error),
             }
         }
+        Ok(self.items.pop_front())
     }
 
     /// Lets go of the file that is read.
@@ -195,16 +193,18 @@ impl LogItemReader {
         'files: loop {
             match self.next_in_file(files, alloc) {
                 Ok(Some(item)) => return Ok(Some(item)),
-                Ok(None) => self.leave(),
+                Ok(None) => {
+                    self.leave();
+                    let Some(file) = self.files.pop_front() else {
+                        return Ok(None);
+                    };
+                    self.open(files, alloc, file)?;
+                }
                 Err(error) => {
                     self.leave();
                     return Err(error);
                 }
             }
-            let Some(file) = self.files.pop_front() else {
-                return Ok(None);
-            };
-            self.open(files, alloc, file)?;
         }
     }
 }
