@@ -1,22 +1,22 @@
 -- Names of log files, paths and directories.
-use Rattle.std.proofs.Common.{◌≡◌, ◌≢◌, ℕ, zero, suc, ◌+◌, ◌^◌, ◌<◌, ◌≤◌, List, [], ◌∷◌, ◌++◌, length, get_or, take, Option, Some, None, refl, sym, ap, ◌∙◌, arith, lit<}
+use Rattle.std.proofs.Common.{◌≡◌, ◌≢◌, ℕ, zero, suc, ◌+◌, ◌^◌, ◌<◌, ◌≤◌, false, ◌||◌, eqb, ne_eqb, inl, inr, List, [], ◌∷◌, ◌++◌, length, get_or, take, drop, Option, Some, None, refl, sym, ap, ◌∙◌, arith, lit<, take-append-drop}
 use Rattle.std.specs.Prelude.{map, IfSome, option_to_list, string_bytes}
 use Rattle.std.specs.List.{cons_option, filter_map}
 use Rattle.std.specs.List.Sorted.{IsNonDecreasingBy}
 use Rattle.std.specs.Option.{option_map}
 use Rattle.std.proofs.lemmas.List.{append-nil, map-append, take_more}
 use Rattle.std.proofs.lemmas.List.Elements.{filter_map-append}
-use Rattle.std.proofs.Paths.Parts.{rsplit_once_char}
+use Rattle.std.proofs.lemmas.Str.Pattern.{NoCharPasses-char, drop_at_char}
 use Rattle.core.specs.Str.Pattern.{RFindsChar, SplitsAroundMatch}
 use Rattle.raft_log_records.specs.declared.file_id.FileId.{FileId}
 use Rattle.raft_log_records.specs.declared.file_id.LogQueue.{LogQueue}
-use Rattle.raft_log_disk.specs.Text.{Text}
+use Rattle.raft_log_disk.specs.Text.{Text, has_slash}
 use Rattle.raft_log_disk.specs.Name.{suffix_of}
 use Rattle.raft_log_files.specs.FileName.{log_file_name, suffixed}
 use Rattle.raft_log_recovery.specs.declared.scan.FileKind.TheVariants.{Log}
 use Rattle.raft_log_recovery.proofs.ScanLemmas.{named_so, no_number, other_queue}
 use Rattle.raft_log_items.specs.declared.found.LogFile.{LogFile}
-use Rattle.raft_log_items.specs.Found.{Found, file_named, found_of, id_in, id_of, log_files, name_behind, path_in}
+use Rattle.raft_log_items.specs.Found.{Found, IsLastPart, IsLogPath, file_named, found_of, id_in, id_of, log_files, path_in}
 
 -- ---- names
 
@@ -34,21 +34,30 @@ parsed_other queue id name apart below is = sym (ap (option_map (id_of queue)) (
 pub not_parsed : (name : Text) → ((id : FileId) → id.seq < 10 ^ 16 → log_file_name id ≢ name) → (queue : LogQueue) → id_in queue name ≡ None
 not_parsed name none queue = ap (option_map (id_of queue)) (no_number (Log queue) name (λ n below is. none (id_of queue n) below (sym is)))
 
-pub path_parsed : (r : Option FileId) (name behind : Text) → name ≡ behind → IfSome r (λ id. (id.seq < 10 ^ 16) × (log_file_name id ≡ name)) → IfSome r (λ id. id_in id.queue behind ≡ Some id)
-path_parsed None name behind is found = found
-path_parsed (Some id) name behind is found = sym (parsed id.queue id behind refl found.0 (found.1 ∙ is))
-
 -- ---- paths
 
-pub behind_slash : (path front back : Text) → SplitsAroundMatch (RFindsChar 47) path front back → back ≡ name_behind path
-behind_slash path front back at =
-    let told = rsplit_once_char 47 path (Some (record { ref_ptr = (0, 0); now = front }, record { ref_ptr = (0, 0); now = back })) at (lit< tt) in
-    ap (λ (split : Option (Text × Text)). elim split as (λ _. List ℕ) [ None ↦ path | Some parts ↦ parts.1 ]) told
+pub path_parsed : (r : Option FileId) (path name : Text) → IsLastPart path name → IfSome r (λ id. (id.seq < 10 ^ 16) × (log_file_name id ≡ name)) → IfSome r (λ id. IsLogPath path id)
+path_parsed None path name last found = found
+path_parsed (Some id) path name last found = (name, last, sym (parsed id.queue id name refl found.0 found.1))
 
-pub no_slash : (path : Text) → RFindsChar 47 path None → path ≡ name_behind path
-no_slash path none =
-    let told = rsplit_once_char 47 path None none (lit< tt) in
-    ap (λ (split : Option (Text × Text)). elim split as (λ _. List ℕ) [ None ↦ path | Some parts ↦ parts.1 ]) told
+no_slash_in : (text : Text) → ((i : ℕ) → i < length text → get_or text i 0 ≢ 47) → has_slash text ≡ false
+no_slash_in [] none = refl
+no_slash_in (b ∷ text) none =
+    let first : eqb b 47 ≡ false = ne_eqb b 47 (none 0 (omega arith)) in
+    let rest : has_slash text ≡ false = no_slash_in text (λ i within. none (suc i) (omega (arith, within))) in
+    λ j. first j || rest j
+
+pub behind_slash : (path front back : Text) → SplitsAroundMatch (RFindsChar 47) path front back → IsLastPart path back
+behind_slash path front back at = (
+  no_slash_in back (λ i within is. NoCharPasses-char 47 (drop at.1 path) i at.2.0 (lit< tt) (omega (arith, ap length at.4, within)) (ap (λ (l : Text). get_or l i 0) (sym at.4) ∙ is)),
+  inr (
+    take at.0 path,
+    sym (take-append-drop at.0 path) ∙ ap (λ (l : Text). take at.0 path ++ l) (drop_at_char 47 path at.0 at.1 at.2.1 (lit< tt) ∙ ap (λ (l : Text). 47 ∷ l) (sym at.4)),
+  ),
+)
+
+pub no_slash : (path : Text) → RFindsChar 47 path None → IsLastPart path path
+no_slash path none = (no_slash_in path (λ i within. NoCharPasses-char 47 path i none (lit< tt) within), inl refl)
 
 -- ---- files of names
 

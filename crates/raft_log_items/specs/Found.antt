@@ -1,13 +1,12 @@
 -- Which log files a path stands for.
-use Rattle.std.specs.Prelude.{◌≡◌, ◌⊎◌, ℕ, List, ◌∷◌, ◌++◌, Option, Some, None, IsPermutation, string_bytes}
+use Rattle.std.specs.Prelude.{◌≡◌, ◌⊎◌, ℕ, false, List, ◌∷◌, ◌++◌, Option, Some, None, IsPermutation, string_bytes}
 use Rattle.std.specs.List.{filter_map}
 use Rattle.std.specs.List.Sorted.{IsNonDecreasingBy}
 use Rattle.std.specs.Option.{option_map}
-use Rattle.std.specs.Path.{rsplit_once}
 use Rattle.raft_log_records.specs.declared.file_id.FileId.{FileId}
 use Rattle.raft_log_records.specs.declared.file_id.LogQueue.{LogQueue}
 use Rattle.raft_log_records.specs.declared.file_id.LogQueue.TheVariants.{Append, Rewrite}
-use Rattle.raft_log_disk.specs.Text.{Text}
+use Rattle.raft_log_disk.specs.Text.{Text, has_slash}
 use Rattle.raft_log_disk.specs.Disk.{Disk, IsFile, IsIn, listed}
 use Rattle.raft_log_files.specs.declared.error.ArgumentFault.TheVariants.{BadSetting}
 use Rattle.raft_log_files.specs.declared.error.Error.{Error}
@@ -31,11 +30,16 @@ abbrev pub id_in : LogQueue → Text → Option FileId
 id_in queue name = option_map (id_of queue) (seq_in (Log queue) name)
 
 -- what stands behind the last slash of a path; the whole of a path without one
-abbrev pub name_behind : Text → Text
-name_behind path = elim (rsplit_once 47 path) [
-  | None ↦ path
-  | Some parts ↦ parts.1
-]
+abbrev pub IsLastPart : Text → Text → Type 0
+IsLastPart path name = (has_slash name ≡ false) × ((path ≡ name) ⊎ ((front : Text) × (path ≡ front ++ 47 ∷ name)))
+
+-- the last part of a path is this log file's name
+abbrev pub IsLogPath : Text → FileId → Type 0
+IsLogPath path id = (name : Text) × IsLastPart path name × (id_in id.queue name ≡ Some id)
+
+-- or no log file's
+abbrev pub IsNoLogPath : Text → Type 0
+IsNoLogPath path = (name : Text) × IsLastPart path name × ((queue : LogQueue) → id_in queue name ≡ None)
 
 abbrev pub path_in : Text → Text → Text
 path_in directory name = directory ++ 47 ∷ name
@@ -65,7 +69,7 @@ AreLogFiles d directory found =
 abbrev pub IsFileFault : Disk → Text → Error → Type 0
 IsFileFault d path e =
     ((e ≡ InvalidArgument BadSetting) × (IsFile d path → ⊥))
-    ⊎ (IsFile d path × (((e ≡ InvalidArgument BadSetting) × ((queue : LogQueue) → id_in queue (name_behind path) ≡ None)) ⊎ (e ≡ Memory)))
+    ⊎ (IsFile d path × (((e ≡ InvalidArgument BadSetting) × IsNoLogPath path) ⊎ (e ≡ Memory)))
 
 -- and of a directory's: it is none, or memory is missing
 abbrev pub IsDirectoryFault : Disk → Text → Error → Type 0

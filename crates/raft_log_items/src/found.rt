@@ -2,8 +2,7 @@
 
 ghost use Rattle.std.specs.Prelude.{◌≡◌, ◌++◌, ◌∷◌, [], Some, None, IfOk, IfErr, OnOk, IfSome, IsNone, map, string_bytes};
 ghost use Rattle.raft_log_files.specs.declared.error.Error.TheVariants.{Memory};
-ghost use Rattle.raft_log_records.specs.declared.file_id.LogQueue.{LogQueue};
-ghost use Rattle.raft_log_items.specs.Found.{IsQueue, AreLogFiles, found_of, id_in, log_files, name_behind, path_in};
+ghost use Rattle.raft_log_items.specs.Found.{AreLogFiles, IsLastPart, IsLogPath, IsNoLogPath, IsQueue, found_of, id_in, log_files, path_in};
 
 use raft_log_files::{Error, FileNameExt, FileSystem};
 use raft_log_records::{FileId, LogQueue};
@@ -28,7 +27,7 @@ fn id_named(queue: LogQueue, name: &str) -> Option<FileId>
 
 /// What stands behind the last slash of a path.
 fn name_of(path: &str) -> &str
-    ensures { result.now ≡ name_behind path.now }
+    ensures { IsLastPart path.now result.now }
 {
     match path.rsplit_once('/') {
         Some((_, name)) => name,
@@ -38,8 +37,8 @@ fn name_of(path: &str) -> &str
 
 /// The log file that a path names.
 pub(crate) fn id_of_path(path: &str) -> Option<FileId>
-    ensures found { IfSome result (λ id. id_in id.queue (name_behind path.now) ≡ Some id) }
-    ensures none { IsNone result → (queue : LogQueue) → id_in queue (name_behind path.now) ≡ None }
+    ensures found { IfSome result (λ id. IsLogPath path.now id) }
+    ensures none { IsNone result → IsNoLogPath path.now }
 {
     FileId::parse_file_name(name_of(path))
 }

@@ -3,7 +3,7 @@
 ghost use Rattle.std.specs.Prelude.{◌≡◌, ◌⊎◌, ◌∷◌, [], List, Some, None, IfOk, IfErr, OnOk, OnErr, map};
 ghost use Rattle.raft_log_disk.specs.Disk.{Disk, IsFile, IsIn, fd_of};
 ghost use Rattle.raft_log_file.specs.Errors.{IsReadFault};
-ghost use Rattle.raft_log_items.specs.Found.{AreLogFiles, Found, IsDirectoryFault, IsFileFault, found_of, id_in, name_behind};
+ghost use Rattle.raft_log_items.specs.Found.{AreLogFiles, Found, IsDirectoryFault, IsFileFault, IsLogPath, found_of};
 ghost use Rattle.raft_log_items.specs.Items.{Fails, IsReading, IsUnopened, NextItem, NextOfFile, StandsAt, current, file_items, files_left, items_at, nothing};
 
 use crate::found::{LogFile, files_in, id_of_path};
@@ -65,7 +65,7 @@ impl LogItemReader {
         path: &str,
     ) -> Result<LogItemReader, Error>
         ensures file { OnOk result (IsFile (F.disk files.now) path.now) }
-        ensures ok { IfOk result (λ r. (id : FileId) × (id_in id.queue (name_behind path.now) ≡ Some id)
+        ensures ok { IfOk result (λ r. (id : FileId) × IsLogPath path.now id
             × (files_left r (F.disk files.now) ≡ nothing ∷ file_items (F.disk files.now) (id, path.now) ∷ [])) }
         ensures reading { IfOk result (λ r. IsReading r (F.disk files.now)) }
         ensures err { IfErr result (λ e. IsFileFault (F.disk files.now) path.now e) }

@@ -1,6 +1,7 @@
-use Rattle.std.proofs.Common.{◌≡◌, ◌≢◌, ◌<◌, List, [], refl, sym, ◌∙◌, arith}
+use Rattle.std.proofs.Common.{◌≡◌, ◌≢◌, ◌<◌, List, [], Option, Ok, refl, sym, subst, ◌∙◌, arith}
 use Rattle.std.proofs.lemmas.Bool.{eqb-true, eqb-false}
-use Rattle.raft_log_file.specs.Reader.{held_bytes, left}
+use Rattle.raft_log_file.specs.declared.batches.ReadBatch.{ReadBatch}
+use Rattle.raft_log_file.specs.Reader.{Next, held_bytes, left}
 use Rattle.raft_log_items.specs.Items.{current}
 use Rattle.raft_log_items.proofs.ItemLemmas.{emptied, failed, none_of, popped_at, taken}
 use Rattle.raft_log_items.proofs.reader.LogItemReader.next_in_file.Goals as goal
@@ -16,14 +17,15 @@ batches-preserved g c =
       reader = c.next.ensures.reader;
       files = c.batches.invariant.files;
       same = taken (current c.args.self.now d) (left c.batches.self.batches d) (left c.next.new.self d) c.batches.self.items.items c.in-Ok-Some.read (held_bytes c.batches.self.batches d) _ c.from_vec.ensures.items c.batches.invariant.same none
-          c.in-Ok-Some.ensures.next;
+          (subst (λ (o : Option ReadBatch). Next (Ok o) (held_bytes c.batches.self.batches d) (left c.batches.self.batches d) (left c.next.new.self d)) c.in-Ok-Some.field-0-is c.in-Ok-Some.ensures.next);
     }
 
 pub returns-in-Ok-None-clause-next : goal.returns-in-Ok-None-clause-next
 returns-in-Ok-None-clause-next g c =
     let d = g.F.FileSystem.disk c.args.files.now in
     let none = none_of c.batches.self.items.items (omega (arith, c.batches.self.items.ok.0, eqb-true c.batches.self.items.len 0 (sym c.is_empty.ensures ∙ c.batches-test.true))) in
-    emptied (current c.args.self.now d) (left c.batches.self.batches d) (left c.next.new.self d) c.batches.self.items.items (held_bytes c.batches.self.batches d) c.batches.invariant.same none c.in-Ok-None.ensures.next
+    emptied (current c.args.self.now d) (left c.batches.self.batches d) (left c.next.new.self d) c.batches.self.items.items (held_bytes c.batches.self.batches d) c.batches.invariant.same none
+    (subst (λ (o : Option ReadBatch). Next (Ok o) (held_bytes c.batches.self.batches d) (left c.batches.self.batches d) (left c.next.new.self d)) c.in-Ok-None.field-0-is c.in-Ok-None.ensures.next)
 
 pub returns-in-Err-clause-next : goal.returns-in-Err-clause-next
 returns-in-Err-clause-next g c =

@@ -12,7 +12,7 @@ returns-in_err-fd-clause-err g c =
     let old = g.F.FileSystem.meter c.args.files.now in
     let new = g.F.FileSystem.meter c.open_file.new.files in
     let e = c.in_err-fd.field-0.0 in
-    let p = err_from_is_err_and c.from_residual-in_err-fd.result c.from_residual-in_err-fd.ensures.1 in
+    let p = err_from_is_err_and c.from_residual.result c.from_residual.ensures.1 in
     rw (p.1, p.2) (fails_unopened d old new c.args.file.id (string_bytes c.args.file.path) e (subst (λ (t : Text). IsUnopened d t old new e) c.as_str.ensures.value c.in_err-fd.ensures.err))
 
 pub returns-in_err-begin-clause-err : goal.returns-in_err-begin-clause-err
