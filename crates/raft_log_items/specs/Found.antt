@@ -8,7 +8,7 @@ use Rattle.raft_log_records.specs.declared.file_id.LogQueue.{LogQueue}
 use Rattle.raft_log_records.specs.declared.file_id.LogQueue.TheVariants.{Append, Rewrite}
 use Rattle.raft_log_disk.specs.Text.{Text, has_slash}
 use Rattle.raft_log_disk.specs.Disk.{Disk, IsFile, IsIn, listed}
-use Rattle.raft_log_files.specs.declared.error.ArgumentFault.TheVariants.{BadSetting}
+use Rattle.raft_log_files.specs.declared.error.ArgumentFault.TheVariants.{NotADirectory, NotAFile, NotALogFile}
 use Rattle.raft_log_files.specs.declared.error.Error.{Error}
 use Rattle.raft_log_files.specs.declared.error.Error.TheVariants.{InvalidArgument, Memory}
 use Rattle.raft_log_recovery.specs.declared.scan.FileKind.TheVariants.{Log}
@@ -68,10 +68,10 @@ AreLogFiles d directory found =
 -- why no reader is made of a file's path: no file has it, its last part is no log file's name, or memory is missing
 abbrev pub IsFileFault : Disk → Text → Error → Type 0
 IsFileFault d path e =
-    ((e ≡ InvalidArgument BadSetting) × (IsFile d path → ⊥))
-    ⊎ (IsFile d path × (((e ≡ InvalidArgument BadSetting) × IsNoLogPath path) ⊎ (e ≡ Memory)))
+    ((e ≡ InvalidArgument NotAFile) × (IsFile d path → ⊥))
+    ⊎ (IsFile d path × (((e ≡ InvalidArgument NotALogFile) × IsNoLogPath path) ⊎ (e ≡ Memory)))
 
 -- and of a directory's: it is none, or memory is missing
 abbrev pub IsDirectoryFault : Disk → Text → Error → Type 0
 IsDirectoryFault d directory e =
-    ((e ≡ InvalidArgument BadSetting) × (IsIn directory d.directories → ⊥)) ⊎ (IsIn directory d.directories × (e ≡ Memory))
+    ((e ≡ InvalidArgument NotADirectory) × (IsIn directory d.directories → ⊥)) ⊎ (IsIn directory d.directories × (e ≡ Memory))

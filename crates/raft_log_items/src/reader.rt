@@ -71,10 +71,10 @@ impl LogItemReader {
         ensures err { IfErr result (λ e. IsFileFault (F.disk files.now) path.now e) }
     {
         if !files.is_file(path) {
-            return Err(Error::InvalidArgument(ArgumentFault::BadSetting));
+            return Err(Error::InvalidArgument(ArgumentFault::NotAFile));
         }
         let Some(id) = id_of_path(path) else {
-            return Err(Error::InvalidArgument(ArgumentFault::BadSetting));
+            return Err(Error::InvalidArgument(ArgumentFault::NotALogFile));
         };
         let path = String::from_str(alloc, path)?;
         let mut found = Vec::new(alloc);
@@ -97,7 +97,7 @@ impl LogItemReader {
         ensures err { IfErr result (λ e. IsDirectoryFault (F.disk files.now) directory.now e) }
     {
         if !files.is_dir(directory) {
-            return Err(Error::InvalidArgument(ArgumentFault::BadSetting));
+            return Err(Error::InvalidArgument(ArgumentFault::NotADirectory));
         }
         let found = files_in(files, alloc, directory)?;
         Ok(LogItemReader::over(alloc, found))
