@@ -17,3 +17,4 @@ pub mod CrashLemmas
 pub mod AgainLemmas
 pub mod BesideLemmas
 pub mod BothLemmas
+pub mod TakenLemmas

@@ -1,6 +1,7 @@
 //! What batches are replayed into at an opening.
 
-ghost use Rattle.std.specs.Prelude.{◌≡◌, ◌++◌, ◌∷◌, [], List, IfOk, OnOk};
+ghost use Rattle.std.specs.Prelude.{◌≡◌, ◌++◌, ◌∷◌, [], List, IfErr, OnOk};
+ghost use Rattle.raft_log_files.specs.declared.error.Error.TheVariants.{Memory};
 ghost use Rattle.raft_log_records.specs.Item.{items_of};
 ghost use Rattle.raft_log_recovery.specs.Replay.{Placed};
 
@@ -16,16 +17,18 @@ pub trait ReplayMachine {
     ghost has_replayed: { Self → List Placed → Type 0 };
 
     /// Replays the next batch, whose entries lie in this block. After an `Err` the machine is given
-    /// up.
+    /// up. The only error is want of memory.
     fn replay(&mut self, batch: LogItemBatch, handle: FileBlockHandle) -> Result<(), Error>
-        ensures { OnOk result ((placed : List Placed) → has_replayed self.old placed
-            → has_replayed self.new (placed ++ record { handle = handle; items = items_of batch.items.items } ∷ [])) };
+        ensures replayed { OnOk result ((placed : List Placed) → has_replayed self.old placed
+            → has_replayed self.new (placed ++ record { handle = handle; items = items_of batch.items.items } ∷ [])) }
+        ensures err { IfErr result (λ e. e ≡ Memory) };
 
     /// Adds what a machine has replayed that was given the batches behind those of this one. After
-    /// an `Err` the machine is given up.
+    /// an `Err` the machine is given up. The only error is want of memory.
     fn merge(&mut self, behind: Self) -> Result<(), Error>
-        ensures { OnOk result ((placed : List Placed) (more : List Placed) → has_replayed self.old placed → has_replayed behind more
-            → has_replayed self.new (placed ++ more)) };
+        ensures replayed { OnOk result ((placed : List Placed) (more : List Placed) → has_replayed self.old placed → has_replayed behind more
+            → has_replayed self.new (placed ++ more)) }
+        ensures err { IfErr result (λ e. e ≡ Memory) };
 }
 
 /// A machine that can be made new (own).

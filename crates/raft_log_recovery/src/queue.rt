@@ -1,11 +1,15 @@
 //! All files of a queue, recovered in the order of their numbers.
 
-ghost use Rattle.std.specs.Prelude.{◌≡◌, ◌++◌, ◌<◌, List, length, map, string_bytes, IfOk, IsErr, OnOk, OnErr};
+ghost use Rattle.std.specs.Prelude.{◌≡◌, ◌++◌, ◌<◌, List, length, map, string_bytes, None, IfOk, IsErr, OnOk, OnErr};
+ghost use Rattle.raft_log_disk.specs.Cause.{NothingRefuses, RefusesNoMore};
+ghost use Rattle.raft_log_disk.specs.Disk.{fd_of};
 ghost use Rattle.raft_log_files.specs.FileName.{IsFileSeq};
+ghost use Rattle.raft_log_pipe.specs.Taken.{IsTakenBy};
 ghost use Rattle.raft_log_recovery.specs.declared.scan.FileKind.TheVariants.{Log};
 ghost use Rattle.raft_log_recovery.specs.Scan.{AreFound};
 ghost use Rattle.raft_log_recovery.specs.Replay.{Placed};
-ghost use Rattle.raft_log_recovery.specs.Queue.{AnyRefused, AreLeft, AreNumbered, AreReadAlike, AreRecovered, AreReplayed, IsFileOf, KeepsRefused, OnlyChanges, directories_in, names_in};
+ghost use Rattle.raft_log_recovery.specs.Queue.{AnyRefused, AreLeft, AreNumbered, AreReadAlike, AreRecovered, AreReplayed, IsFileOf, KeepsRefused, OnlyChanges, directories_in, names_in, path_of};
+ghost use Rattle.raft_log_recovery.specs.Taken.{IsMissing, IsRecoveryTaken};
 
 use crate::builder::DualPipesBuilder;
 use crate::machine::ReplayMachine;
@@ -28,6 +32,8 @@ fn open_file<F: FileSystem>(
     requires place { name.path_id < length directories.now }
     ensures ok { IfOk result (λ fd. IsFileOf (F.disk files.old) (map string_bytes directories.now) queue name fd.0) }
     ensures kept { F.disk files.new ≡ F.disk files.old }
+    ensures later { RefusesNoMore (F.is_bounded files.old) (F.is_bounded files.new) (F.meter files.old) (F.meter files.new) }
+    ensures taken { NothingRefuses (F.is_bounded files.old) (F.meter files.old) → IsTakenBy ⊥ (fd_of (F.disk files.old).names (path_of (map string_bytes directories.now) queue name) ≡ None) ⊥ result }
 {
     let id = FileId::new(queue, name.seq);
     let path = id.build_file_path(alloc, directories[name.path_id].as_str())?;
@@ -53,6 +59,8 @@ fn recover_each<F: FileSystem, M: ReplayMachine>(
     ensures err { OnErr result (AreLeft (map string_bytes directories.now) config.now.queue names.now (F.disk files.old) (F.disk files.new)) }
     ensures refused { AnyRefused config.now.mode (map string_bytes directories.now) config.now.queue names.now (F.disk files.old) → IsErr result }
     ensures kept { OnErr result (KeepsRefused config.now.mode (map string_bytes directories.now) config.now.queue names.now (F.disk files.old) (F.disk files.new)) }
+    ensures later { RefusesNoMore (F.is_bounded files.old) (F.is_bounded files.new) (F.meter files.old) (F.meter files.new) }
+    ensures taken { NothingRefuses (F.is_bounded files.old) (F.meter files.old) → IsRecoveryTaken (IsMissing (F.disk files.old) (map string_bytes directories.now) config.now.queue names.now) ⊥ result }
 {
     let mut recovered = Vec::new(alloc);
     for name in names {
@@ -101,6 +109,8 @@ impl DualPipesBuilder {
         ensures err { OnErr result (AreLeft (directories_in self.now) config.now.queue (names_in self.now config.now.queue) (F.disk files.old) (F.disk files.new)) }
         ensures refused { AnyRefused config.now.mode (directories_in self.now) config.now.queue (names_in self.now config.now.queue) (F.disk files.old) → IsErr result }
         ensures kept { OnErr result (KeepsRefused config.now.mode (directories_in self.now) config.now.queue (names_in self.now config.now.queue) (F.disk files.old) (F.disk files.new)) }
+        ensures later { RefusesNoMore (F.is_bounded files.old) (F.is_bounded files.new) (F.meter files.old) (F.meter files.new) }
+        ensures taken { NothingRefuses (F.is_bounded files.old) (F.meter files.old) → IsRecoveryTaken ⊥ ⊥ result }
     {
         let names = self.names_of(config.queue);
         recover_each(files, self.alloc, machine, config, &self.directories, names)

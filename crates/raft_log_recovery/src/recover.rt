@@ -1,10 +1,12 @@
 //! One log file of a queue: read whole into a machine, and repaired.
 
 ghost use Rattle.std.specs.Prelude.{◌≡◌, ◌++◌, false, List, Option, Some, IfOk, IsErr, OnOk, OnErr};
+ghost use Rattle.raft_log_disk.specs.Cause.{NothingRefuses, RefusesNoMore};
 ghost use Rattle.raft_log_disk.specs.Disk.{IsNoFile};
 ghost use Rattle.raft_log_files.specs.declared.error.CorruptionFault.{CorruptionFault};
 ghost use Rattle.raft_log_recovery.specs.Repair.{IsRepaired, IsStopped, batches_in, cuts_faults, fault_in, format_in};
 ghost use Rattle.raft_log_recovery.specs.Replay.{Placed, ArePlaced};
+ghost use Rattle.raft_log_recovery.specs.Taken.{IsRecoveryTaken};
 
 use crate::machine::ReplayMachine;
 use crate::reading::replay_file;
@@ -35,6 +37,8 @@ pub fn recover_file<F: FileSystem, M: ReplayMachine>(
     ensures err { OnErr result (IsStopped (F.disk files.old) (F.disk files.new) id fd.0) }
     ensures refused { (f : CorruptionFault) → fault_in id ((F.disk files.old).file fd.0).bytes ≡ Some f → cuts_faults config.now.mode is_last ≡ false
         → IsErr result × (F.disk files.new ≡ F.disk files.old) }
+    ensures later { RefusesNoMore (F.is_bounded files.old) (F.is_bounded files.new) (F.meter files.old) (F.meter files.new) }
+    ensures taken { NothingRefuses (F.is_bounded files.old) (F.meter files.old) → IsRecoveryTaken ⊥ ⊥ result }
 {
     let read = replay_file(files, alloc, machine, id, fd, config.read_block_size)?;
     repair(files, id, fd, read.end, config.mode, is_last)?;

@@ -17,9 +17,10 @@ batches-preserved g c =
     (subst (λ (o : Option ReadBatch). Next (Ok o) held before after) c.in-Ok-Some.field-0-is c.in-Ok-Some.ensures.next)) in
     record {
       reader = c.next.ensures.reader;
+      file = c.next.ensures.file ∙ c.batches.invariant.file;
       bytes = held_same c.next.new.self c.batches.reader d c.next.ensures.file ∙ c.batches.invariant.bytes;
       fault = ap (λ (x : Reading). x.fault) (sym given.is) ∙ c.batches.invariant.fault;
       to = ap (λ (x : Reading). x.to) (sym given.is) ∙ c.batches.invariant.to;
       replayed = replays_more (g.M.ReplayMachine.has_replayed c.args.machine.now) (g.M.ReplayMachine.has_replayed c.batches.machine) (g.M.ReplayMachine.has_replayed c.replay.new.self) c.args.id bytes
-          (left c.args.reader.now d).batches before after given.batch _ c.batches.invariant.replayed given.is given.placed c.in_ok-replay-in-Ok-Some.ensures;
+          (left c.args.reader.now d).batches before after given.batch _ c.batches.invariant.replayed given.is given.placed c.in_ok-replay-in-Ok-Some.ensures.replayed;
     }

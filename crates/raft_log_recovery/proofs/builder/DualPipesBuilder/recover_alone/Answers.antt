@@ -56,7 +56,7 @@ returns-clause-replayed g c =
     let one = c.in_ok-append.ensures.replayed [] c.new_target-behind.ensures in
     let two = c.in_ok-rewrite.ensures.replayed [] c.new_target-machine.ensures in (
       two.0 ++ one.0,
-      c.in_ok-merge.ensures two.0 one.0 two.1 one.1,
+      c.in_ok-merge.ensures.replayed two.0 one.0 two.1 one.1,
       both_with c.args.self.now.config.recovery_mode c.args.self.now (g.F.FileSystem.disk c.args.files.now) (g.F.FileSystem.disk c.open_alone.new.files) (met.is_named c.args.files.now) (met.is_named c.open_alone.new.files) c.requires.append
           c.requires.rewrite c.open_alone.ensures.others (g.F.FileSystem.disk c.open_alone-2.new.files) (met.is_named c.open_alone-2.new.files) c.open_alone-2.ensures.others
           c.in_ok-append.append c.in_ok-rewrite.rewrite c.open.result c.open.ensures.pipes c.in_ok-append.ensures.opened c.in_ok-rewrite.ensures.opened one.0 two.0 one.2 two.2,
