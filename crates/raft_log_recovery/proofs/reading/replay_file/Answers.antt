@@ -8,6 +8,9 @@ use Rattle.raft_log_file.specs.Errors.{Parses}
 use Rattle.raft_log_file.specs.Reader.{held_bytes, left}
 use Rattle.raft_log_file.specs.Reading.{read_behind}
 use Rattle.raft_log_recovery.proofs.ReplayLemmas.{all_placed, nothing_placed}
+use Rattle.raft_log_file.specs.declared.batches.OpenFile.{OpenFile}
+use Rattle.raft_log_recovery.specs.Taken.{IsReplayFault}
+use Rattle.raft_log_recovery.proofs.TakenLemmas.{if_err, open_fault, parse_fault}
 use Rattle.raft_log_recovery.proofs.reading.replay_file.Goals as goal
 
 pub returns-in-Err-Corruption-Header-clause-replayed : goal.returns-in-Err-Corruption-Header-clause-replayed
@@ -29,3 +32,27 @@ returns-clause-replayed g c =
     (c.in_ok-open.ensures.held ∙ ap (λ (n : ℕ). (d.file n).bytes) fd)
     (c.in_ok-open.ensures.ok ∙ ap (λ (n : ℕ). read_behind c.args.id c.in-Ok.format (header_len c.in-Ok.format.version) (d.file n).bytes) fd)
     c.in_ok-fault.ensures.replayed
+
+pub returns-in-Err-clause-err : goal.returns-in-Err-clause-err
+returns-in-Err-clause-err g c =
+    let d = g.F.FileSystem.disk c.args.files.now in
+    let m = g.F.FileSystem.meter c.args.files.now in
+    let fd : c.build_file_reader-reader.result.fd.0 ≡ c.args.fd.0 = ap (λ (x : Fd). x.0) c.build_file_reader-reader.ensures in
+    subst (λ (n : ℕ). IsReplayFault d m n c.in-Err.error) fd (parse_fault d m c.build_file_reader-reader.result.fd.0 c.in-Err.error c.in-Err.ensures)
+
+pub returns-in_err-open-clause-err : goal.returns-in_err-open-clause-err
+returns-in_err-open-clause-err g c =
+    let d = g.F.FileSystem.disk c.args.files.now in
+    let m = g.F.FileSystem.meter c.args.files.now in
+    let fd : c.build_file_reader-reader.result.fd.0 ≡ c.args.fd.0 = ap (λ (x : Fd). x.0) c.build_file_reader-reader.ensures in
+    if_err (IsReplayFault d m c.args.fd.0) c.from_residual.result c.in_err-open.field-0.0 c.from_residual.ensures.1
+    (subst (λ (n : ℕ). IsReplayFault d m n c.in_err-open.field-0.0) fd (open_fault d m c.build_file_reader-reader.result.fd.0 c.in-Ok.format c.in_err-open.field-0.0 c.in_err-open.ensures.err))
+
+pub returns-in_err-fault-clause-err : goal.returns-in_err-fault-clause-err
+returns-in_err-fault-clause-err g c =
+    let d = g.F.FileSystem.disk c.args.files.now in
+    let m = g.F.FileSystem.meter c.args.files.now in
+    let fd : c.build_file_reader-reader.result.fd.0 ≡ c.args.fd.0 = ap (λ (x : Fd). x.0) c.build_file_reader-reader.ensures in
+    let file : OpenFile = record { id = c.args.id; format = c.in-Ok.format; fd = c.build_file_reader-reader.result.fd } in
+    if_err (IsReplayFault d m c.args.fd.0) c.from_residual-in_err-fault.result c.in_err-fault.field-0.0 c.from_residual-in_err-fault.ensures.1
+    (subst (λ (n : ℕ). IsReplayFault d m n c.in_err-fault.field-0.0) fd (c.in_err-fault.ensures.err file c.in_ok-open.ensures.file))

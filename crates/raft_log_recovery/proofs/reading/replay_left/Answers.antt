@@ -3,6 +3,8 @@ use Rattle.raft_log_file.specs.declared.batches.ReadBatch.{ReadBatch}
 use Rattle.raft_log_file.specs.Reading.{Reading}
 use Rattle.raft_log_file.specs.Reader.{Next, held_bytes, left}
 use Rattle.raft_log_recovery.proofs.ReplayLemmas.{given_of, held_same, replays_more}
+use Rattle.raft_log_recovery.specs.Taken.{IsReplayFault}
+use Rattle.raft_log_recovery.proofs.TakenLemmas.{if_err, memory_fault, next_fault}
 use Rattle.raft_log_recovery.proofs.reading.replay_left.Goals as goal
 
 pub batches-preserved : goal.batches-preserved
@@ -24,3 +26,13 @@ batches-preserved g c =
       replayed = replays_more (g.M.ReplayMachine.has_replayed c.args.machine.now) (g.M.ReplayMachine.has_replayed c.batches.machine) (g.M.ReplayMachine.has_replayed c.replay.new.self) c.args.id bytes
           (left c.args.reader.now d).batches before after given.batch _ c.batches.invariant.replayed given.is given.placed c.in_ok-replay-in-Ok-Some.ensures.replayed;
     }
+
+pub returns-in-Err-clause-err : goal.returns-in-Err-clause-err
+returns-in-Err-clause-err g c =
+    λ file is. next_fault c.batches.reader file (g.F.FileSystem.disk c.args.files.now) (g.F.FileSystem.meter c.args.files.now) c.in-Err.error (c.batches.invariant.file ∙ is) c.in-Err.ensures.err
+
+pub returns-in_err-replay-in-Ok-Some-clause-err : goal.returns-in_err-replay-in-Ok-Some-clause-err
+returns-in_err-replay-in-Ok-Some-clause-err g c =
+    let d = g.F.FileSystem.disk c.args.files.now in
+    let m = g.F.FileSystem.meter c.args.files.now in
+    λ file is. if_err (IsReplayFault d m file.fd.0) c.from_residual.result c.in_err-replay-in-Ok-Some.field-0.0 c.from_residual.ensures.1 (memory_fault d m file.fd.0 c.in_err-replay-in-Ok-Some.field-0.0 c.in_err-replay-in-Ok-Some.ensures.err)

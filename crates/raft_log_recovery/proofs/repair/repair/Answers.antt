@@ -1,5 +1,6 @@
-use Rattle.std.proofs.Common.{refl, sym, ◌∙◌}
+use Rattle.std.proofs.Common.{inl, inr, refl, sym, ◌∙◌}
 use Rattle.raft_log_recovery.proofs.RepairLemmas.{cut_none, cut_some, settled_err, settled_ok, stopped_same}
+
 use Rattle.raft_log_recovery.proofs.repair.repair.Goals as goal
 
 pub returns-in-None-clause-ok : goal.returns-in-None-clause-ok
@@ -24,3 +25,12 @@ returns-then-cuts-clause-err g c =
 
 pub returns-else-cuts-clause-err : goal.returns-else-cuts-clause-err
 returns-else-cuts-clause-err g c = stopped_same (g.F.FileSystem.disk c.args.files.now) _ c.args.id c.args.fd.0 refl
+
+pub returns-in-None-clause-taken : goal.returns-in-None-clause-taken
+returns-in-None-clause-taken g c = λ free. inr (c.settle.ensures.taken free)
+
+pub returns-then-cuts-clause-taken : goal.returns-then-cuts-clause-taken
+returns-then-cuts-clause-taken g c = λ free. inr (c.settle-then-cuts.ensures.taken free)
+
+pub returns-else-cuts-clause-taken : goal.returns-else-cuts-clause-taken
+returns-else-cuts-clause-taken g c = λ free. inl (c.in-Some.fault, refl)

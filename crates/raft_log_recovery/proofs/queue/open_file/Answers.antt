@@ -1,0 +1,26 @@
+use Rattle.std.proofs.Common.{◌≡◌, ◌∷◌, ◌++◌, List, None, map, string_bytes, ap, sym, subst, ◌∙◌}
+use Rattle.std.specs.Prelude.{Err}
+use Rattle.raft_log_disk.specs.declared.fault.Fd.{Fd}
+use Rattle.raft_log_disk.specs.Cause.{IsTaken}
+use Rattle.raft_log_disk.specs.Disk.{fd_of}
+use Rattle.raft_log_disk.specs.Text.{Text}
+use Rattle.raft_log_disk.proofs.RefusalLemmas.{no_more_call, taken_call}
+use Rattle.raft_log_files.specs.FileName.{log_file_name}
+use Rattle.raft_log_pipe.specs.Pipe.{id_of}
+use Rattle.raft_log_pipe.proofs.AloneLemmas.{mapped_at}
+use Rattle.raft_log_pipe.proofs.TakenLemmas.{exit_io}
+use Rattle.raft_log_recovery.specs.Queue.{path_of}
+use Rattle.raft_log_recovery.proofs.queue.open_file.Goals as goal
+
+pub returns-in_err-fd-clause-taken : goal.returns-in_err-fd-clause-taken
+returns-in_err-fd-clause-taken g c =
+    let d = g.F.FileSystem.disk c.args.files.now in
+    let directories = map string_bytes c.args.directories.now in
+    let path = path_of directories c.args.queue c.args.name in
+    let same : c.as_str-2.result.now ≡ path
+    = c.as_str-2.ensures.value ∙ c.in_ok-path.ensures ∙ (λ i. c.as_str.ensures.value i ++ 47 ∷ log_file_name (record { queue = c.new-id.ensures.queue i; seq = c.new-id.ensures.seq i }))
+    ∙ ap (λ (l : Text). l ++ 47 ∷ log_file_name (id_of c.args.queue c.args.name.seq)) (sym (mapped_at c.args.directories.now c.args.name.path_id c.index-directories-name.result.now c.requires.place c.index-directories-name.is)) in
+    λ free.
+    exit_io Fd Fd ⊥ (fd_of d.names path ≡ None) ⊥ c.from_residual-in_err-fd.result c.in_err-fd.field-0.0 c.from_residual-in_err-fd.ensures.1
+    (subst (λ (t : Text). IsTaken {T = Fd} (fd_of d.names t ≡ None) ⊥ (Err c.in_err-fd.field-0.0)) same
+    (taken_call (fd_of d.names c.as_str-2.result.now ≡ None) ⊥ ⊥ _ _ _ (Err c.in_err-fd.field-0.0) (λ x. x) free c.in_err-fd.ensures.cause c.in_err-fd.ensures.call))
