@@ -1,10 +1,10 @@
 -- Why a recovery is refused where nothing is set to refuse.
-use Rattle.std.proofs.Common.{◌≡◌, ◌⊎◌, inl, inr, ⊎_elim, ℕ, [], List, Option, Some, None, refl, sym, ap, subst, ◌∙◌}
+use Rattle.std.proofs.Common.{◌≡◌, ◌⊎◌, inl, inr, ℕ, zero, suc, ◌<◌, [], ◌∷◌, length, get_or, arith, List, Option, Some, None, refl, sym, ap, subst, ◌∙◌}
 use Rattle.std.specs.Prelude.{Result, Ok, Err, IfErr}
 use Rattle.std.specs.Result.{IsErrAnd}
 use Rattle.std.proofs.lemmas.Result.{err_from_is_err_and}
 use Rattle.raft_log_disk.specs.Text.{Text}
-use Rattle.raft_log_disk.specs.Disk.{Disk, IsIn, IsNoFile}
+use Rattle.raft_log_disk.specs.Disk.{Disk, IsIn, IsNoFile, fd_of}
 use Rattle.raft_log_disk.specs.Cause.{Meter, NothingRefuses}
 use Rattle.raft_log_files.specs.declared.error.CorruptionFault.{CorruptionFault}
 use Rattle.raft_log_files.specs.declared.error.CorruptionFault.TheVariants.{Header, Record}
@@ -18,7 +18,14 @@ use Rattle.raft_log_file.specs.Errors.{IsNextFault, IsOpenFault, IsReadFault, Pa
 use Rattle.raft_log_file.specs.Reader.{FailsNext}
 use Rattle.raft_log_pipe.specs.Taken.{IsTakenBy}
 use Rattle.raft_log_pipe.proofs.TakenLemmas.{exit_error, taken_for, taken_more}
-use Rattle.raft_log_recovery.specs.Taken.{IsRecoveryTaken, IsReplayFault}
+use Rattle.std.proofs.lemmas.List.Sorted.{Contains-permutation, IsPermutation-sym}
+use Rattle.raft_log_records.specs.declared.file_id.LogQueue.{LogQueue}
+use Rattle.raft_log_recovery.specs.declared.scan.FileKind.TheVariants.{Log}
+use Rattle.raft_log_recovery.specs.declared.scan.FileName.{FileName}
+use Rattle.raft_log_recovery.specs.Scan.{AreFound}
+use Rattle.raft_log_recovery.specs.Taken.{IsMissing, IsRecoveryTaken, IsReplayFault}
+use Rattle.raft_log_recovery.proofs.FoundLemmas.{contained, in_contained}
+use Rattle.raft_log_recovery.proofs.RunLemmas.{found_stands, in_dropped}
 
 -- ---- a file that is read
 
@@ -64,6 +71,26 @@ replay_taken T b d m fd e free there (inr (inr (inr (is, none)))) = absurd (ther
 corrupt_again : (S T : Type 0) (f : CorruptionFault) (x : Error) → Err {T = S} x ≡ Err (Corruption f) → Err {T = T} x ≡ Err (Corruption f)
 corrupt_again S T f x is = let same : x ≡ Corruption f = cc in ap Err same
 
+pub recovery_more : {T : Type 0} (a b e h : Type 0) (r : Result T Error) → (a → e) → (b → h) → IsRecoveryTaken a b r → IsRecoveryTaken e h r
+recovery_more a b e h r f k (inl corrupt) = inl corrupt
+recovery_more a b e h r f k (inr why) = inr (taken_more ⊥ a b ⊥ e h r (λ y. y) f k why)
+
 pub recovery_exit : (S T : Type 0) (a b e h : Type 0) (r : Result T Error) (x : Error) → IsErrAnd r (λ y. y ≡ x) → (a → e) → (b → h) → IsRecoveryTaken {T = S} a b (Err x) → IsRecoveryTaken e h r
 recovery_exit S T a b e h r x is f k (inl (fault, corrupt)) = let p = err_from_is_err_and r is in inl (fault, p.1 ∙ ap Err p.2 ∙ corrupt_again S T fault x corrupt)
 recovery_exit S T a b e h r x is f k (inr why) = inr (exit_error ⊥ e h r x is (taken_for S T ⊥ a b ⊥ e h x (λ y. y) f k why))
+
+-- ---- files that were found
+
+pub at_in : {X : Type 0} (xs : List X) (i : ℕ) (d : X) → i < length xs → IsIn (get_or xs i d) xs
+at_in [] i d within = absurd (omega (arith, within))
+at_in (x ∷ xs) zero d within = inl refl
+at_in (x ∷ xs) (suc i) d within = inr (at_in xs i d (omega (arith, within)))
+
+-- none of them is missing
+pub found_missing : (d : Disk) (queue : LogQueue) (directories : List Text) (names : List FileName) → AreFound d (Log queue) directories names → IsMissing d directories queue names → ⊥
+found_missing d queue directories names found (name, there, none) =
+    let inside : IsIn name found.sorted = in_dropped found.start found.sorted name (subst (IsIn name) found.rest there) in
+    let among : IsIn name found.all = in_contained name found.all (Contains-permutation found.sorted found.all name (IsPermutation-sym found.all found.sorted found.same) (contained name found.sorted inside)) in
+    let stands = found_stands d queue directories found.all name found.in_directories among in
+    let some = stands.1.2 in
+    absurd cc

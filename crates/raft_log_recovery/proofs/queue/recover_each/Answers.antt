@@ -1,10 +1,19 @@
-use Rattle.std.proofs.Common.{◌≡◌, ◌+◌, List, [], ◌∷◌, ◌++◌, length, map, string_bytes, take, arith, refl, sym, subst, ◌∙◌}
+use Rattle.std.proofs.Common.{◌≡◌, inr, ℕ, ◌+◌, None, get_or, List, [], ◌∷◌, ◌++◌, length, map, string_bytes, take, arith, refl, sym, subst, ◌∙◌}
 use Rattle.std.proofs.lemmas.Bool.{false≢true}
 use Rattle.raft_log_pipe.specs.declared.file.File.{File}
-use Rattle.raft_log_disk.specs.Disk.{Disk}
+use Rattle.std.specs.Prelude.{Vec}
+use Rattle.std.specs.declared.alloc.Global.{Global}
+use Rattle.raft_log_disk.specs.declared.fault.Fd.{Fd}
+use Rattle.raft_log_disk.specs.declared.format.LogFileFormat.{LogFileFormat}
+use Rattle.raft_log_disk.specs.Disk.{Disk, fd_of}
+use Rattle.raft_log_disk.proofs.RefusalLemmas.{no_more_then, still_free}
+use Rattle.raft_log_pipe.proofs.TakenLemmas.{exit_error, taken_for}
+use Rattle.raft_log_recovery.specs.declared.scan.FileName.{FileName}
+use Rattle.raft_log_recovery.specs.Taken.{IsMissing}
+use Rattle.raft_log_recovery.proofs.TakenLemmas.{at_in, recovery_exit}
 use Rattle.raft_log_disk.specs.Text.{Text}
 use Rattle.raft_log_disk.proofs.CauseLemmas.{at_err}
-use Rattle.raft_log_recovery.specs.Queue.{AreRecovered}
+use Rattle.raft_log_recovery.specs.Queue.{AreRecovered, path_of}
 use Rattle.raft_log_recovery.proofs.QueueLemmas.{NoneRefused, Replays, alike_at, kept_at, left_at, none_left, number_here, only_between}
 use Rattle.raft_log_recovery.proofs.ReplayLemmas.{file_fits}
 use Rattle.raft_log_recovery.proofs.TurnLemmas.{Turn, done_alike, done_kept, done_left, done_none, done_of, done_only, done_recovered, done_replays, file_at, is_file, stopped_alike, stopped_kept, stopped_left, stopped_only, turn_of}
@@ -109,6 +118,7 @@ loop-name-preserved g c =
     let pushed : c.push.new.self.items ≡ c.loop-name.recovered.items ++ f ∷ [] = c.in_ok-push.ensures.items in
     record {
       count = omega (arith, c.in_ok-push.ensures.len, c.loop-name.invariant.count);
+      later = no_more_then c.loop-name.invariant.later (no_more_then c.in_ok-fd.ensures.later c.in_ok-format.ensures.later);
       so = subst (AreRecovered t.directories t.queue t.old (g.F.FileSystem.disk c.recover_file.new.files) (take (t.i + 1) t.names)) (sym pushed) (done_recovered t f (g.F.FileSystem.disk c.recover_file.new.files) done);
       replayed = subst (λ (l : List File). Replays (g.M.ReplayMachine.has_replayed c.args.machine.now) (g.M.ReplayMachine.has_replayed c.recover_file.new.machine) t.queue (g.F.FileSystem.disk c.recover_file.new.files) l) (sym pushed)
           (done_replays t f (g.F.FileSystem.disk c.recover_file.new.files) done (g.M.ReplayMachine.has_replayed c.args.machine.now) (g.M.ReplayMachine.has_replayed c.loop-name.machine) (g.M.ReplayMachine.has_replayed c.recover_file.new.machine)
@@ -151,3 +161,36 @@ returns-clause-reads g c =
     let met = g.met.F.FileSystem g.world.𝓛 g.world.𝓜 g.world.𝓡 ((λ s x. x), (λ x. x), (λ x. x), λ x. x) in
     alike_at c.args.config.now.mode (map string_bytes c.args.directories.now) c.args.config.now.queue (length c.args.directories.now) (g.F.FileSystem.disk c.args.files.now) c.args.names.now (met.is_named c.args.files.now) c.requires
     (g.F.FileSystem.disk c.loop-name.files) (g.F.FileSystem.disk c.loop-name.files) c.loop-name.name-index c.loop-name.recovered.items refl c.loop-name.invariant.so
+
+-- ---- why it is refused where nothing is set to refuse
+
+pub returns-in_err-fd-clause-later : goal.returns-in_err-fd-clause-later
+returns-in_err-fd-clause-later g c = no_more_then c.loop-name.invariant.later c.in_err-fd.ensures.later
+
+pub returns-in_err-format-clause-later : goal.returns-in_err-format-clause-later
+returns-in_err-format-clause-later g c = no_more_then c.loop-name.invariant.later (no_more_then c.in_ok-fd.ensures.later c.in_err-format.ensures.later)
+
+pub returns-in_err-push-clause-later : goal.returns-in_err-push-clause-later
+returns-in_err-push-clause-later g c = no_more_then c.loop-name.invariant.later (no_more_then c.in_ok-fd.ensures.later c.in_ok-format.ensures.later)
+
+pub returns-in_err-fd-clause-taken : goal.returns-in_err-fd-clause-taken
+returns-in_err-fd-clause-taken g c =
+    let directories : List Text = map string_bytes c.args.directories.now in
+    let queue = c.args.config.now.queue in
+    let old = g.F.FileSystem.disk c.args.files.now in
+    let cur = g.F.FileSystem.disk c.loop-name.files in
+    let name : FileName = get_or c.args.names.now c.loop-name.name-index (record { seq = 0; path_id = 0 }) in
+    let gone : Type 0 = fd_of cur.names (path_of directories queue name) ≡ None in
+    let missing : Type 0 = IsMissing old directories queue c.args.names.now in
+    λ free.
+    inr (exit_error ⊥ missing ⊥ c.from_residual.result c.in_err-fd.field-0.0 c.from_residual.ensures.1
+    (taken_for Fd (Vec File Global) ⊥ gone ⊥ ⊥ missing ⊥ c.in_err-fd.field-0.0 (λ x. x)
+    (λ none. (name, at_in c.args.names.now c.loop-name.name-index (record { seq = 0; path_id = 0 }) c.loop-name-test.true, subst (λ (l : List (Text × ℕ)). fd_of l (path_of directories queue name) ≡ None) c.loop-name.invariant.so.only.names_stay none))
+    (λ x. x) (c.in_err-fd.ensures.taken (still_free free c.loop-name.invariant.later))))
+
+pub returns-in_err-format-clause-taken : goal.returns-in_err-format-clause-taken
+returns-in_err-format-clause-taken g c =
+    let missing : Type 0 = IsMissing (g.F.FileSystem.disk c.args.files.now) (map string_bytes c.args.directories.now) c.args.config.now.queue c.args.names.now in
+    λ free.
+    recovery_exit LogFileFormat (Vec File Global) ⊥ ⊥ missing ⊥ c.from_residual-in_err-format.result c.in_err-format.field-0.0 c.from_residual-in_err-format.ensures.1 (λ x. absurd x) (λ x. x)
+    (c.in_err-format.ensures.taken (still_free free (no_more_then c.loop-name.invariant.later c.in_ok-fd.ensures.later)))

@@ -5,7 +5,9 @@ use Rattle.std.proofs.lemmas.List.{length-map}
 use Rattle.raft_log_recovery.specs.declared.scan.FileKind.TheVariants.{Log}
 use Rattle.raft_log_recovery.specs.declared.scan.FileName.{FileName}
 use Rattle.raft_log_recovery.specs.Queue.{AnyRefused, AreLeft, AreNumbered, AreReadAlike, KeepsRefused, directories_in, names_in}
+use Rattle.raft_log_recovery.specs.Taken.{IsMissing}
 use Rattle.raft_log_recovery.proofs.FoundLemmas.{found_numbered}
+use Rattle.raft_log_recovery.proofs.TakenLemmas.{found_missing, recovery_more}
 use Rattle.raft_log_recovery.proofs.builder.DualPipesBuilder.recover_queue.Goals as goal
 
 pub recover_each-requires-after_bounds : goal.recover_each-requires-after_bounds
@@ -48,3 +50,13 @@ returns-clause-reads g c =
     let new = g.F.FileSystem.disk c.recover_each.new.files in
     subst (λ (l : List FileName). AreReadAlike (directories_in c.args.self.now) queue l old new) c.names_of-names.ensures
     (subst (λ (l : List (String Global)). AreReadAlike (map string_bytes l) queue c.names_of-names.result.now old new) c.deref.ensures.value c.recover_each.ensures.reads)
+
+pub returns-clause-taken : goal.returns-clause-taken
+returns-clause-taken g c =
+    let queue = c.args.config.now.queue in
+    let old = g.F.FileSystem.disk c.args.files.now in
+    let same : IsMissing old (map string_bytes c.deref.result.now) queue c.names_of-names.result.now ≡ IsMissing old (directories_in c.args.self.now) queue (names_in c.args.self.now queue)
+    = λ i. IsMissing old (map string_bytes (c.deref.ensures.value i)) queue (c.names_of-names.ensures i) in
+    λ free.
+    recovery_more (IsMissing old (map string_bytes c.deref.result.now) queue c.names_of-names.result.now) ⊥ ⊥ ⊥ c.recover_each.result
+    (λ missing. found_missing old queue (directories_in c.args.self.now) (names_in c.args.self.now queue) c.requires (subst (λ (t : Type 0). t) same missing)) (λ x. x) (c.recover_each.ensures.taken free)
