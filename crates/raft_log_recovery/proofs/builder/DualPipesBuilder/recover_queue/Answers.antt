@@ -55,8 +55,9 @@ pub returns-clause-taken : goal.returns-clause-taken
 returns-clause-taken g c =
     let queue = c.args.config.now.queue in
     let old = g.F.FileSystem.disk c.args.files.now in
-    let same : IsMissing old (map string_bytes c.deref.result.now) queue c.names_of-names.result.now ≡ IsMissing old (directories_in c.args.self.now) queue (names_in c.args.self.now queue)
-    = λ i. IsMissing old (map string_bytes (c.deref.ensures.value i)) queue (c.names_of-names.ensures i) in
     λ free.
     recovery_more (IsMissing old (map string_bytes c.deref.result.now) queue c.names_of-names.result.now) ⊥ ⊥ ⊥ c.recover_each.result
-    (λ missing. found_missing old queue (directories_in c.args.self.now) (names_in c.args.self.now queue) c.requires (subst (λ (t : Type 0). t) same missing)) (λ x. x) (c.recover_each.ensures.taken free)
+    (λ missing. found_missing old queue (directories_in c.args.self.now) (names_in c.args.self.now queue) c.requires
+    (subst (λ (l : List FileName). IsMissing old (directories_in c.args.self.now) queue l) c.names_of-names.ensures
+    (subst (λ (l : List (String Global)). IsMissing old (map string_bytes l) queue c.names_of-names.result.now) c.deref.ensures.value missing)))
+    (λ x. x) (c.recover_each.ensures.taken free)
