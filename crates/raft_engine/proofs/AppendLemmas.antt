@@ -21,7 +21,7 @@ use Rattle.raft_group_step.specs.MembershipStep.{append_changed, membership_step
 use Rattle.raft_group_step.specs.Lead.{ids_of}
 use Rattle.raft_group_step.specs.Frames.{committed_id}
 use Rattle.raft_group_step.proofs.LastMembership.{last_membership-append}
-use Rattle.raft_known_state.specs.KnownState.{ArePlaced, IsPlaced, KeepsRest, Knows, entry_ids, purged_ids, stored_ids}
+use Rattle.raft_known_state.specs.KnownState.{ArePlaced, IsPlaced, KeepsRest, Knows, entry_ids, purged_ids}
 use Rattle.raft_known_state.proofs.KnownStateLemmas.{behind, end-known, last-known, log_whole}
 use Rattle.raft_known_state.proofs.PlacedIds.{by_order, last_of}
 use Rattle.raft_commands.specs.declared.command.Command.TheVariants.{AppendInputEntries}
@@ -168,8 +168,8 @@ module _ {C R : Type 0} (x : Given) (own : ℕ) (e : Engine C R) (r : StepResult
               let same = ap (λ (y : LogId ℕ). y.index) noop in
               let longer = length-append s.log (put payload) in omega (arith, same, before, longer);
           wrote =
-              subst (λ (v : Vote ℕ). WroteNoneBelow v.leader_id l'.noop_log_id.index (stored_ids (with_more s (put payload)))) (sym voted)
-              (subst (λ (y : LogId ℕ). WroteNoneBelow l.vote.leader_id y.index (stored_ids (with_more s (put payload)))) (sym noop)
+              subst (λ (v : Vote ℕ). WroteNoneBelow v.leader_id l'.noop_log_id.index (entry_ids (s.log ++ put payload))) (sym voted)
+              (subst (λ (y : LogId ℕ). WroteNoneBelow l.vote.leader_id y.index (entry_ids (s.log ++ put payload))) (sym noop)
               (wrote_more l.vote.leader_id l.noop_log_id.index s (entry_of (next_id payload) payload) leads_now.first leads_now.wrote));
           peers = λ n. leads_now.peers n ∙ ap (peer_state n) (sym (peers n));
           rising = leads_now.rising;

@@ -18,7 +18,8 @@ use Rattle.raft_group_step.specs.Frames.{committed_id}
 use Rattle.raft_known_state.specs.KnownState.{ArePlaced, IsPlaced, effective_of, entry_ids, purged_ids, stored_ids}
 use Rattle.raft_known_state.proofs.PlacedIds.{Placed}
 use Rattle.raft_known_state.proofs.KnownStateLemmas.{end-known, start_of, stored_end, stored_placed}
-use Rattle.raft_leaders.specs.Accepted.{WroteNoneBelow, greatest_accepted, has_accepted as has_accepted_by, may_be_committed as may_be_committed_by}
+use Rattle.raft_leaders.specs.Accepted.{WroteNoneWithin, greatest_accepted, has_accepted as has_accepted_by, may_be_committed as may_be_committed_by}
+use Rattle.raft_engine.proofs.WrittenLemmas.{wrote_within}
 use Rattle.raft_leaders.specs.Candidate.{CandidateValue}
 use Rattle.raft_leaders.specs.Leader.{LeaderValue, end_of, peer_at}
 use Rattle.raft_engine.specs.Following.{EndsWithin}
@@ -183,11 +184,17 @@ purged_within s o id e = by_test (is_within id.index s.committed) refl
         let b = o.snapshot in absurd (omega arith)
 
 module _ {C R : Type 0} (x : Given) (own : ℕ) (e : Engine C R) (r : StepResult) (step : IsStepOf x own e r) where
-  -- the leader wrote nothing below its first entry
-  pub wrote_known : (l : LeaderValue ℕ EffectiveMembership) → e.leader ≡ Some l → WroteNoneBelow l.vote.leader_id l.noop_log_id.index e.state.state.log_ids
-  wrote_known l led =
-      let leads = lead_of own l e.candidate r.state.stored r.state.role (subst (λ o. PlaysRole own o e.candidate r.state.stored r.state.role) led step.state.role) in
-      subst (WroteNoneBelow l.vote.leader_id l.noop_log_id.index) (sym step.state.knows.ids) leads.2.wrote
+  -- behind what is committed, the leader wrote nothing below its first entry
+  pub wrote_known : (l : LeaderValue ℕ EffectiveMembership) → e.leader ≡ Some l → (from : ℕ) → from ≡ next_place (committed_id r.state)
+      → WroteNoneWithin l.vote.leader_id from l.noop_log_id.index e.state.state.log_ids
+  wrote_known l led from behind =
+      let s = r.state.stored in
+      let leads = lead_of own l e.candidate s r.state.role (subst (λ o. PlaysRole own o e.candidate s r.state.role) led step.state.role) in
+      let a = step.state.order.purged in
+      let b = step.state.order.snapshot in
+      let gone : next_place s.purged ≤ from = omega (arith, a, b, behind) in
+      subst (WroteNoneWithin l.vote.leader_id from l.noop_log_id.index) (sym step.state.knows.ids)
+      (wrote_within l.vote.leader_id from l.noop_log_id.index s.purged (entry_ids s.log) gone leads.2.wrote)
 
   -- what is looked at begins behind what is committed
   pub from_is : (from : ℕ) → from ≡ min (next_place e.state.state.committed) (2 ^ 64 - 1) → next_place (last_id e.state.state.log_ids) < 2 ^ 63 → from ≡ next_place (committed_id r.state)

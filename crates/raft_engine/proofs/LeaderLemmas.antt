@@ -1,7 +1,7 @@
 -- How a lead begins.
-use Rattle.std.specs.Prelude.{◌≡◌, ℕ, true, ◌||◌, nat_eq, cond, ◌≤◌, List, [], ◌∷◌, ◌++◌, Option, Some, None, unwrap_or, Result, Ok, Err, IfOk, refl}
+use Rattle.std.specs.Prelude.{◌≡◌, ℕ, true, ◌||◌, nat_eq, cond, ◌≤◌, List, [], ◌∷◌, ◌++◌, Option, Some, None, unwrap_or, Result, Ok, Err, IfOk, refl, ◌⊎◌}
 use Rattle.std.specs.Ordering.{nat_cmp}
-use Rattle.std.proofs.Common.{sym, ap, ◌∙◌, subst, arith, false}
+use Rattle.std.proofs.Common.{sym, ap, ◌∙◌, subst, arith, false, inl, inr}
 use Rattle.std.proofs.Math.Bool.{true≢false}
 use Rattle.raft_values.specs.declared.vote.Vote.{Vote}
 use Rattle.raft_values.specs.declared.vote.LeaderId.{LeaderId}
@@ -14,7 +14,7 @@ use Rattle.raft_group_step.specs.Values.{LoggedMembership, has_id, leader_eq}
 use Rattle.raft_group_step.specs.StoredGroup.{StoredGroup, end_place, membership_in_force}
 use Rattle.raft_group_step.specs.StoredGroup.{last_id as last_stored_id}
 use Rattle.raft_group_step.specs.Lead.{ids_of as member_ids, new_lead}
-use Rattle.raft_known_state.specs.KnownState.{KnownState, Knows, IsPlaced, effective_of, ids_of_leader, stored_ids}
+use Rattle.raft_known_state.specs.KnownState.{KnownState, Knows, IsPlaced, effective_of, entry_ids, ids_of_leader, stored_ids}
 use Rattle.raft_known_state.proofs.KnownStateLemmas.{end-known, last-known}
 use Rattle.raft_leaders.specs.Leader.{LeaderValue, end_of, first_log_id, unknown_peer}
 use Rattle.raft_leaders.specs.Accepted.{WroteNoneBelow}
@@ -35,6 +35,7 @@ use Rattle.raft_engine.proofs.CommandLemmas.{at_once_more, numbers_kept, sends_s
 use Rattle.raft_engine.proofs.CommittingLemmas.{moves_kept}
 use Rattle.raft_engine.proofs.StandingLemmas.{order_kept}
 use Rattle.raft_engine.proofs.MemberLemmas.{all_with, all_alike, has_each, voter_or_learner}
+use Rattle.raft_engine.proofs.WrittenLemmas.{wrote_above}
 use Rattle.raft_engine.specs.Standing.{basis_before}
 use Rattle.raft_engine.proofs.OrderingLemmas.{rests_kept, rests_stored}
 use Rattle.raft_engine.proofs.TurnLemmas.{begun_turns}
@@ -43,15 +44,7 @@ use Rattle.raft_group_step.specs.GroupState.{is_leader}
 abbrev StateOf : Type 0
 StateOf = RaftState ℕ (List ℕ) ℕ
 
--- where the leader has written no log id of its own below a place, it has written none of any
-own_alone : (leader : LeaderId ℕ) (place : ℕ) (ids : List (LogId ℕ)) → WroteNoneBelow leader place ids → WroteNoneBelow leader place (ids_of_leader leader ids)
-own_alone leader place [] h = tt
-own_alone leader place (id ∷ ids) h =
-    elim (leader_eq id.leader_id leader) as (λ b. WroteNoneBelow leader place (cond b (id ∷ ids_of_leader leader ids) (ids_of_leader leader ids))) [
-      | true ↦ (h.0, own_alone leader place ids h.1)
-      | false ↦ own_alone leader place ids h.1
-    ]
-
+-- where those of its own stand no lower than a place, it has written none below
 own_tell : (leader : LeaderId ℕ) (place : ℕ) (ids : List (LogId ℕ)) → WroteNoneBelow leader place (ids_of_leader leader ids) → WroteNoneBelow leader place ids
 own_tell leader place [] h = tt
 own_tell leader place (id ∷ ids) h =
@@ -66,10 +59,10 @@ pub record AreKeysFor (leader : LeaderId ℕ) (keys : List (LogId ℕ)) (s : Sto
   pub last : last_id keys ≡ last_stored_id s
   pub ends : end_of keys ≡ end_place s
   pub within : (first_log_id nat_eq leader keys).index ≤ end_of keys
-  pub wrote : WroteNoneBelow leader (first_log_id nat_eq leader keys).index (stored_ids s)
+  pub wrote : WroteNoneBelow leader (first_log_id nat_eq leader keys).index (entry_ids s.log)
 
 pub are_keys_for : (leader : LeaderId ℕ) (keys : List (LogId ℕ)) (k : KnownState) (s : StoredGroup) → Knows k s → IsPlaced s
-    → PlacesRise keys → last_id keys ≡ last_id k.state.log_ids → ids_of_leader leader (ids_of keys) ≡ ids_of_leader leader (stored_ids s) → AreKeysFor leader keys s
+    → PlacesRise keys → last_id keys ≡ last_id k.state.log_ids → (ids_of keys ≡ stored_ids s) ⊎ (ids_of_leader leader (entry_ids s.log) ≡ []) → AreKeysFor leader keys s
 are_keys_for leader keys k s known placed rise last ids =
     let place = (first_log_id nat_eq leader keys).index in
     let stored = last ∙ ap last_id known.ids in
@@ -77,7 +70,11 @@ are_keys_for leader keys k s known placed rise last ids =
       last = stored ∙ last-known s placed;
       ends = ap next_place stored ∙ end-known s placed;
       within = first_within leader keys rise;
-      wrote = own_tell leader place (stored_ids s) (subst (WroteNoneBelow leader place) ids (own_alone leader place (ids_of keys) (first_is_first leader keys rise)));
+      wrote =
+          elim ids [
+            | inl all ↦ wrote_above leader place s.purged (entry_ids s.log) (subst (WroteNoneBelow leader place) all (first_is_first leader keys rise))
+            | inr none ↦ own_tell leader place (entry_ids s.log) (rw none tt)
+          ];
     }
 
 pub has_member : (m : Option LoggedMembership) (n : ℕ) → has_id (member_ids m) n ≡ true
@@ -103,8 +100,8 @@ module _ (own : ℕ) (vote : Vote ℕ) (s : StoredGroup) (m : EffectiveMembershi
             let within = of_log.within in
             let ends = of_log.ends in omega (arith, at, within, ends);
         wrote =
-            subst (λ (v : Vote ℕ). WroteNoneBelow v.leader_id l.noop_log_id.index (stored_ids s)) (sym voted)
-            (subst (λ (y : LogId ℕ). WroteNoneBelow vote.leader_id y.index (stored_ids s)) (sym noop) of_log.wrote);
+            subst (λ (v : Vote ℕ). WroteNoneBelow v.leader_id l.noop_log_id.index (entry_ids s.log)) (sym voted)
+            (subst (λ (y : LogId ℕ). WroteNoneBelow vote.leader_id y.index (entry_ids s.log)) (sym noop) of_log.wrote);
         peers = λ n.
             sym (ap (peer_state n)
             (ap (λ place. unwrap_or (value_of nat_eq l.progress n) (unknown_peer place)) began

@@ -21,7 +21,7 @@ use Rattle.raft_group_step.specs.StoredGroup.{StoredGroup, end_place}
 use Rattle.raft_group_step.specs.Peer.{PeerState, is_kept_for_peers, needs_below, new_peer, peer_or, with_peer}
 use Rattle.raft_group_step.specs.GroupState.{Lead}
 use Rattle.raft_group_step.proofs.Peers.{with_peer-found, with_peer-others}
-use Rattle.raft_known_state.specs.KnownState.{stored_ids}
+use Rattle.raft_known_state.specs.KnownState.{entry_ids}
 use Rattle.raft_engine.specs.Standing.{EffectiveMembership, IsBelowPeer, Leads, PeersRise, outstanding_of, peer_state}
 
 -- tests of which each passes where the other does
@@ -93,7 +93,7 @@ module _ (l l' : LeaderValue ℕ EffectiveMembership) (n : ℕ) (entry : Progres
     last = ap (λ (x : LeaderValue ℕ EffectiveMembership). x.last_log_id) rest ∙ h.last;
     began = began-stays ∙ h.began;
     first = subst (λ (y : LeaderValue ℕ EffectiveMembership). y.noop_log_id.index ≤ end_place s) (sym rest) h.first;
-    wrote = subst (λ (y : LeaderValue ℕ EffectiveMembership). WroteNoneBelow y.vote.leader_id y.noop_log_id.index (stored_ids s)) (sym rest) h.wrote;
+    wrote = subst (λ (y : LeaderValue ℕ EffectiveMembership). WroteNoneBelow y.vote.leader_id y.noop_log_id.index (entry_ids s.log)) (sym rest) h.wrote;
     peers = λ m.
         elim (nat_eq n m) as (λ b. nat_eq n m ≡ b → peer_or (new_peer lead.began m) (with_peer (peer_state n entry) lead.peers) ≡ peer_state m (peer_at nat_eq l' m)) [
           | true ↦ λ t.

@@ -18,7 +18,7 @@ use Rattle.raft_group_step.specs.PurgeTrigger.{purge_as, purge_trigger_step, pur
 use Rattle.raft_group_step.specs.Peer.{is_kept_for_peers}
 use Rattle.raft_group_step.specs.Frames.{committed_id}
 use Rattle.raft_group_step.proofs.EntryPlaces.{entry_within}
-use Rattle.raft_known_state.specs.KnownState.{ArePlaced, IsEntryOrPast, IsPlaced, KeepsRest, Knows, SnapshotMeta, meta_of, stored_ids, with_goal}
+use Rattle.raft_known_state.specs.KnownState.{ArePlaced, IsEntryOrPast, IsPlaced, KeepsRest, Knows, SnapshotMeta, entry_ids, meta_of, with_goal}
 use Rattle.raft_known_state.proofs.PlacedIds.{by_order}
 use Rattle.raft_commands.specs.declared.command.Command.TheVariants.{PurgeLog}
 use Rattle.raft_leaders.specs.Candidate.{CandidateValue}
@@ -46,7 +46,7 @@ pub record KeepsStanding (s s' : StoredGroup) : Type 0 where
   pub vote : s'.vote ≡ s.vote
   pub last : last_id s' ≡ last_id s
   pub ends : end_place s' ≡ end_place s
-  pub wrote : (leader : LeaderId ℕ) (place : ℕ) → WroteNoneBelow leader place (stored_ids s) → WroteNoneBelow leader place (stored_ids s')
+  pub wrote : (leader : LeaderId ℕ) (place : ℕ) → WroteNoneBelow leader place (entry_ids s.log) → WroteNoneBelow leader place (entry_ids s'.log)
 
 pub all_stays : (s : StoredGroup) → KeepsStanding s s
 all_stays s = record { vote = refl; last = refl; ends = refl; wrote = λ leader place h. h }
@@ -75,7 +75,7 @@ leads_on own l l' s s' lead k counts h =
           subst (λ n. l'.noop_log_id.index ≤ n) (sym k.ends) (subst (λ (y : LeaderOf). y.noop_log_id.index ≤ end_place s) (sym counts.rest) h.first);
       wrote =
           k.wrote l'.vote.leader_id l'.noop_log_id.index
-          (subst (λ (y : LeaderOf). WroteNoneBelow y.vote.leader_id y.noop_log_id.index (stored_ids s)) (sym counts.rest) h.wrote);
+          (subst (λ (y : LeaderOf). WroteNoneBelow y.vote.leader_id y.noop_log_id.index (entry_ids s.log)) (sym counts.rest) h.wrote);
       peers = λ n. h.peers n ∙ ap (peer_state n) (sym (counts.peers n));
       rising = h.rising;
       members = counts.members;
@@ -199,7 +199,7 @@ purge_stands s place id p entrys =
       vote = refl;
       last = last_stays s id p entrys.above entrys.within entrys.found;
       ends = end_stays s id p entrys.above entrys.within entrys.found;
-      wrote = λ leader at h. wrote_left leader at s place id entrys.there h;
+      wrote = λ leader at h. wrote_left leader at s id h;
     }
 
 module _ {C R : Type 0} (x : Given) (own : ℕ) (e e' : Engine C R) (r : StepResult) (step : IsStepOf x own e r) (place : ℕ) (upto : LogId ℕ) (entrys : IsOfEntry r.state.stored place upto) where

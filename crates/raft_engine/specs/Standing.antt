@@ -15,7 +15,7 @@ use Rattle.raft_group_step.specs.StepResult.{StepResult}
 use Rattle.raft_group_step.specs.Lead.{peer_of, ids_of}
 use Rattle.raft_group_step.specs.Frames.{committed_id}
 use Rattle.raft_group_step.specs.Refusal.{is_voter_in}
-use Rattle.raft_known_state.specs.KnownState.{Knows, IsPlaced, stored_ids}
+use Rattle.raft_known_state.specs.KnownState.{Knows, IsPlaced, entry_ids}
 use Rattle.raft_commands.specs.Config.{config_of}
 use Rattle.raft_leaders.specs.Candidate.{CandidateValue}
 use Rattle.raft_leaders.specs.Leader.{LeaderValue, peer_at}
@@ -77,9 +77,9 @@ pub record Leads (own : ℕ) (l : LeaderValue ℕ EffectiveMembership) (s : Stor
   pub committed : s.vote.committed ≡ true
   pub last : l.last_log_id ≡ last_id s
   pub began : l.began ≡ lead.began
-  -- its first entry stands in the log or is the next one, and it wrote none below
+  -- its first entry stands in the log or is the next one, and it wrote none of the log below
   pub first : l.noop_log_id.index ≤ end_place s
-  pub wrote : WroteNoneBelow l.vote.leader_id l.noop_log_id.index (stored_ids s)
+  pub wrote : WroteNoneBelow l.vote.leader_id l.noop_log_id.index (entry_ids s.log)
   pub peers : (n : ℕ) → peer_of lead n ≡ peer_state n (peer_at nat_eq l n)
   pub rising : PeersRise lead.peers
   pub members : (n : ℕ) → has_id (ids_of (membership_in_force s)) n ≡ true → has_value nat_eq l.progress n ≡ true

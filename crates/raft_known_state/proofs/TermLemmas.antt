@@ -59,32 +59,10 @@ last_left (key ∷ next ∷ keys) =
     ap (λ n. last_id (drop n (key ∷ next ∷ keys))) (one_fewer key next keys)
     ∙ last_left (next ∷ keys) ∙ last_id-cons next keys ∙ sym (last_id-cons key (next ∷ keys))
 
-none_right : (xs ys : List (LogId ℕ)) → xs ++ ys ≡ [] → ys ≡ []
-none_right [] ys h = h
-none_right (x ∷ xs) ys h = cc h
-
--- a leader that has none of all has none of the last key's
-pub last_has_none : (leader : LeaderId ℕ) (keys : List (LogId ℕ)) → ids_of_leader leader (ids_of keys) ≡ [] → ids_of_leader leader (ids_of (drop (all_but_one keys) keys)) ≡ []
-last_has_none leader [] h = refl
-last_has_none leader (key ∷ []) h = h
-last_has_none leader (key ∷ next ∷ keys) h =
-    let first = leader_ids key.leader_id key.index (end_of_key key (next ∷ keys)) in
-    rw (one_fewer key next keys)
-    (last_has_none leader (next ∷ keys)
-    (none_right (ids_of_leader leader first) (ids_of_leader leader (ids_of (next ∷ keys)))
-    (sym (filter-append (λ (id : LogId ℕ). leader_eq id.leader_id leader) first (ids_of (next ∷ keys))) ∙ h)))
-
 -- a leader of a higher term has none of them
-none_of_higher : (term : ℕ) (leader : LeaderId ℕ) (ids : List (LogId ℕ)) → term < leader.term → AreUpToTerm term ids → ids_of_leader leader ids ≡ []
+pub none_of_higher : (term : ℕ) (leader : LeaderId ℕ) (ids : List (LogId ℕ)) → term < leader.term → AreUpToTerm term ids → ids_of_leader leader ids ≡ []
 none_of_higher term leader [] l h = refl
 none_of_higher term leader (id ∷ ids) l h =
     let at : id.leader_id.term ≤ term = h.0 in
     let other : (id.leader_id.term == leader.term) ≡ false = grind (arith, nat_tests, at, l) in
     rw other (none_of_higher term leader ids l h.1)
-
--- nor has it one of a log whose purge point is of another leader
-pub none_of_leader : (term : ℕ) (leader : LeaderId ℕ) (purged_id : Option (LogId ℕ)) (log : List Entry) → term < leader.term → is_of_leader leader purged_id ≡ false
-    → AreUpToTerm term (entry_ids log) → ids_of_leader leader (purged_ids purged_id ++ entry_ids log) ≡ []
-none_of_leader term leader None log l f h = none_of_higher term leader (entry_ids log) l h
-none_of_leader term leader (Some id) log l f h =
-    let other : leader_eq id.leader_id leader ≡ false = f in rw other (none_of_higher term leader (entry_ids log) l h)

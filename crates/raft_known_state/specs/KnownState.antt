@@ -151,11 +151,6 @@ others own ids = filter (λ n. if n == own then false else true) ids
 abbrev pub is_of_leader_from : LeaderId ℕ → ℕ → LogId ℕ → Bool
 is_of_leader_from leader place id = leader_eq id.leader_id leader && nat_le place id.index
 
--- the log id is of this leader
-abbrev pub is_of_leader : LeaderId ℕ → Option (LogId ℕ) → Bool
-is_of_leader leader None = false
-is_of_leader leader (Some id) = leader_eq id.leader_id leader
-
 -- the log ids of this leader
 abbrev pub ids_of_leader : LeaderId ℕ → List (LogId ℕ) → List (LogId ℕ)
 ids_of_leader leader ids = filter (λ (id : LogId ℕ). leader_eq id.leader_id leader) ids

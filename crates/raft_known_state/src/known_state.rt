@@ -1,5 +1,5 @@
 //! What a node knows of its stored group.
-ghost use Rattle.std.specs.Prelude.{◌≡◌, ◌≤◌, ◌<◌, ◌+◌, ◌^◌, ◌++◌, OnOk, IfOk, Some, None, ℕ, length, take, drop, [], false};
+ghost use Rattle.std.specs.Prelude.{◌≡◌, ◌≤◌, ◌<◌, ◌+◌, ◌^◌, ◌++◌, ◌⊎◌, OnOk, IfOk, Some, None, ℕ, length, take, drop, [], false};
 ghost use Rattle.std.specs.Ordering.{nat_cmp};
 ghost use Rattle.raft_values.specs.LogId.{next_place};
 ghost use Rattle.raft_state.specs.LogIdList.{AllGoOn, PlacesRise, ids_of, last_id};
@@ -18,7 +18,7 @@ ghost use Rattle.raft_known_state.specs.KnownState.{committed_membership, commit
 
 use crate::key_leaders::has_leader_from;
 use crate::member_ids::{ids_of_others, voters_of_others};
-use crate::terms::{highest_term, is_of_leader};
+use crate::terms::highest_term;
 use raft_state::{
     BasicNode, Bytes, EffectiveMembership, Entry, KeptVec, LeaderId, LogId, LogIdOptionExt,
     LogStateReader, MembershipState, Node, NodeId, RaftPayload, RaftState, SnapshotMeta, UTime,
@@ -313,26 +313,21 @@ impl KnownState<u64, BasicNode> {
         has_leader_from(self.state.log_ids.key_log_ids(), self.first_place(), leader)
     }
 
-    // Whether the purge point or an entry may be of this leader. None is where its term is above
-    // those of all entries, and the purge point is of another one.
+    // Whether an entry may be of this leader: none is where its term is above those of all entries.
     fn may_have_leader(&self, leader: &LeaderId<u64>) -> bool
-        ensures { (s : StoredGroup) → Knows self.now s → result ≡ false → ids_of_leader leader.now (stored_ids s) ≡ [] }
+        ensures { (s : StoredGroup) → Knows self.now s → result ≡ false → ids_of_leader leader.now (entry_ids s.log) ≡ [] }
     {
-        if leader.term <= self.highest_term {
-            return true;
-        }
-        let purged = self.state.last_purged_log_id().copied();
-        is_of_leader(&purged, leader)
+        leader.term <= self.highest_term
     }
 
-    /// Keys that tell each log id of this leader, and the last one of the log: all keys, or the last
-    /// one alone where the leader's term is above those of all entries and the purge point isn't
-    /// its own, as at each election between nodes that keep the rules (own; openraft takes those of
-    /// the last leader).
+    /// Keys that tell each entry's log id of this leader, and the last log id: all keys, or the last
+    /// one alone where the leader's term is above those of all entries, as at each election (own;
+    /// openraft takes those of the last leader). Whose the purge point is matters not, as a leader
+    /// never commits it: so no snapshot that a peer made up makes an election read all keys.
     pub fn keys_of_leader(&self, leader: &LeaderId<u64>) -> &[LogId<u64>]
         ensures rise { PlacesRise result.now }
         ensures last { last_id result.now ≡ last_id self.now.state.log_ids }
-        ensures ids { (s : StoredGroup) → Knows self.now s → ids_of_leader leader.now (ids_of result.now) ≡ ids_of_leader leader.now (stored_ids s) }
+        ensures ids { (s : StoredGroup) → Knows self.now s → (ids_of result.now ≡ stored_ids s) ⊎ (ids_of_leader leader.now (entry_ids s.log) ≡ []) }
     {
         let keys = self.state.log_ids.key_log_ids();
         if self.may_have_leader(leader) {

@@ -31,6 +31,11 @@ module _ {Q : Type 0} (own : ℕ) (leader : LeaderValue ℕ Q) where
 abbrev pub WroteNoneBelow : LeaderId ℕ → ℕ → List (LogId ℕ) → Type 0
 WroteNoneBelow leader place ids = AllByRecursion (λ id. is_of_leader nat_eq leader id ≡ true → place ≤ id.index) ids
 
+-- nor any from the one place on and below the other
+abbrev pub WroteNoneWithin : LeaderId ℕ → ℕ → ℕ → List (LogId ℕ) → Type 0
+WroteNoneWithin leader from below ids =
+    AllByRecursion (λ id. is_of_leader nat_eq leader id ≡ true → from ≤ id.index → below ≤ id.index) ids
+
 -- the last of the leader's own log ids from the one place on and below the other
 abbrev pub last_own_within : LeaderId ℕ → ℕ → ℕ → List (LogId ℕ) → Option (LogId ℕ)
 last_own_within leader from below ids =

@@ -2,7 +2,7 @@
 ghost use Rattle.std.specs.Prelude.{◌≡◌, ℕ, ◌<◌, ◌≤◌, ◌^◌, max};
 ghost use Rattle.std.specs.List.{AllByRecursion};
 ghost use Rattle.raft_state.specs.LogIdList.{IsBelowNext, end_of_key, leader_ids};
-ghost use Rattle.raft_leaders.specs.Accepted.{IsAcceptedEnd, WroteNoneBelow, greatest_accepted, has_accepted, last_own_within};
+ghost use Rattle.raft_leaders.specs.Accepted.{IsAcceptedEnd, WroteNoneWithin, greatest_accepted, has_accepted, last_own_within};
 ghost use Rattle.raft_leaders.specs.Leader.{end_of};
 
 use crate::leader::Leader;
@@ -165,7 +165,7 @@ pub fn greatest_accepted<QS: QuorumSet<u64> + Drop, VS: QuorumSet<u64>>(
     voters: &VS,
 ) -> Option<LogId<u64>>
     requires { end_of log_ids.now < 2 ^ 64 }
-    ensures of_log { WroteNoneBelow leader.now.vote.leader_id leader.now.noop_log_id.index log_ids.now
+    ensures of_log { WroteNoneWithin leader.now.vote.leader_id from leader.now.noop_log_id.index log_ids.now
         → result ≡ greatest_accepted own leader.now (VS.accepts voters.now) from log_ids.now }
     ensures of_any { result ≡ greatest_accepted own leader.now (VS.accepts voters.now) (max from leader.now.noop_log_id.index) log_ids.now }
 {

@@ -29,6 +29,12 @@ pub enum ArgumentFault {
     BadSetting,
     #[error("a setting is too large for TOML")]
     TooLargeForToml,
+    #[error("not a file")]
+    NotAFile,
+    #[error("not a log file's name")]
+    NotALogFile,
+    #[error("not a directory")]
+    NotADirectory,
 }
 
 /// Why a call on files is refused: the file system counts a changing call so, or a read was of a

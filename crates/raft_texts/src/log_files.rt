@@ -25,6 +25,9 @@ fn print_arguments(rt: &impl Print) -> io::Result<()> {
             ArgumentFault::NotToml,
             ArgumentFault::BadSetting,
             ArgumentFault::TooLargeForToml,
+            ArgumentFault::NotAFile,
+            ArgumentFault::NotALogFile,
+            ArgumentFault::NotADirectory,
         ],
     )?;
     print_texts(

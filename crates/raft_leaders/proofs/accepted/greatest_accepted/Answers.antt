@@ -7,7 +7,7 @@ use Rattle.std.proofs.lemmas.Bool.Decides.{leb_tells}
 use Rattle.raft_values.specs.declared.vote.Vote.{Vote}
 use Rattle.raft_values.specs.declared.log_id.LogId.{LogId}
 use Rattle.raft_leaders.specs.Leader.{LeaderValue, end_of, is_of_leader}
-use Rattle.raft_leaders.specs.Accepted.{IsAcceptedEnd, WroteNoneBelow, greatest_accepted, has_accepted, last_own_within, may_be_committed}
+use Rattle.raft_leaders.specs.Accepted.{IsAcceptedEnd, WroteNoneWithin, greatest_accepted, has_accepted, last_own_within, may_be_committed}
 use Rattle.raft_leaders.proofs.OwnLemmas.{filter-agrees, is_own_within, none_between}
 use Rattle.raft_leaders.proofs.accepted.greatest_accepted.Goals as goal
 
@@ -33,17 +33,17 @@ module _ {Q : Type 0} (own : ℕ) (leader : LeaderValue ℕ Q) (accepts : (ℕ �
 -- where the leader wrote none below its first entry, it matters not from which of the lower places on
 module _ {Q : Type 0} (own : ℕ) (leader : LeaderValue ℕ Q) (accepts : (ℕ → Bool) → Bool) (from lowest : ℕ) (above : from ≤ lowest)
     (least : (place : ℕ) → from ≤ place → leader.noop_log_id.index ≤ place → lowest ≤ place) where
-  same_test : (place : ℕ) → leader.noop_log_id.index ≤ place → nat_le lowest place ≡ nat_le from place
+  same_test : (place : ℕ) → (from ≤ place → leader.noop_log_id.index ≤ place) → nat_le lowest place ≡ nat_le from place
   same_test place first =
       elim (leb_tells from place) [
-        | inl w ↦ le-leb lowest place (least place w.1 first) ∙ sym w.0
+        | inl w ↦ le-leb lowest place (least place w.1 (first w.1)) ∙ sym w.0
         | inr w ↦ elim (leb_tells lowest place) [
           | inl v ↦ absurd (omega (arith, v.1, w.1, above))
           | inr v ↦ v.0 ∙ sym w.0
         ]
       ]
 
-  same_may : (end : ℕ) (x : LogId ℕ) → (is_of_leader nat_eq leader.vote.leader_id x ≡ true → leader.noop_log_id.index ≤ x.index)
+  same_may : (end : ℕ) (x : LogId ℕ) → (is_of_leader nat_eq leader.vote.leader_id x ≡ true → from ≤ x.index → leader.noop_log_id.index ≤ x.index)
       → (nat_le lowest x.index && may_be_committed own leader accepts end x) ≡ (nat_le from x.index && may_be_committed own leader accepts end x)
   same_may end x first =
       elim (is_of_leader nat_eq leader.vote.leader_id x) as (λ b. is_of_leader nat_eq leader.vote.leader_id x ≡ b
@@ -52,12 +52,12 @@ module _ {Q : Type 0} (own : ℕ) (leader : LeaderValue ℕ Q) (accepts : (ℕ �
         | false ↦ λ f. and_right (nat_le lowest x.index) false refl ∙ sym (and_right (nat_le from x.index) false refl)
       ] refl
 
-  from_first : (ids : List (LogId ℕ)) → WroteNoneBelow leader.vote.leader_id leader.noop_log_id.index ids
+  from_first : (ids : List (LogId ℕ)) → WroteNoneWithin leader.vote.leader_id from leader.noop_log_id.index ids
       → greatest_accepted own leader accepts lowest ids ≡ greatest_accepted own leader accepts from ids
   from_first ids wrote =
       ap (last_or None)
       (filter-agrees (λ x. nat_le lowest x.index && may_be_committed own leader accepts (end_of ids) x) (λ x. nat_le from x.index && may_be_committed own leader accepts (end_of ids) x)
-      (λ x. is_of_leader nat_eq leader.vote.leader_id x ≡ true → leader.noop_log_id.index ≤ x.index) (same_may (end_of ids)) ids wrote)
+      (λ x. is_of_leader nat_eq leader.vote.leader_id x ≡ true → from ≤ x.index → leader.noop_log_id.index ≤ x.index) (same_may (end_of ids)) ids wrote)
 
 -- what is asked for from the first entry on, and so from any lower place
 module _ {Q : Type 0} (own : ℕ) (leader : LeaderValue ℕ Q) (accepts : (ℕ → Bool) → Bool) (from lowest : ℕ) (lowest_is : lowest ≡ max from leader.noop_log_id.index)
@@ -65,7 +65,7 @@ module _ {Q : Type 0} (own : ℕ) (leader : LeaderValue ℕ Q) (accepts : (ℕ �
   of_any : result ≡ greatest_accepted own leader accepts (max from leader.noop_log_id.index) ids
   of_any = is ∙ ap (λ place. greatest_accepted own leader accepts place ids) lowest_is
 
-  of_log : WroteNoneBelow leader.vote.leader_id leader.noop_log_id.index ids → result ≡ greatest_accepted own leader accepts from ids
+  of_log : WroteNoneWithin leader.vote.leader_id from leader.noop_log_id.index ids → result ≡ greatest_accepted own leader accepts from ids
   of_log wrote = is ∙ from_first own leader accepts from lowest (omega (arith, lowest_is)) (λ place a b. omega (arith, lowest_is)) ids wrote
 
 pub returns-then-reached-lowest : goal.returns-then-reached-lowest

@@ -19,7 +19,7 @@ returns-clause-step g c = λ x own r step.
     let behind = from_is x own old r step from c.place_after-from.ensures c.requires in
     let in_force = c.effective-voters.ensures ∙ step.state.knows.in_force in
     let greatest =
-    c.greatest_accepted-greatest.ensures.of_log (wrote_known x own old r step l c.in-Some.is)
+    c.greatest_accepted-greatest.ensures.of_log (wrote_known x own old r step l c.in-Some.is from behind)
     ∙ ap (λ (k : EngineConfig ℕ). greatest_accepted k.id l (is_quorum voters.membership.configs) from old.state.state.log_ids) step.state.config in
     let within = subst (λ place. EndsWithin place r.state.stored) (sym c.index.ensures) (found_within x own old r step l c.in-Some.is voters in_force from behind found greatest) in
     subst (λ y. OnOk c.commit_up_to.result (IsStepOf x own c.commit_up_to.new.self y))

@@ -1,0 +1,15 @@
+//! Log files in memory, a row of text each: files that were written by hand, and the items that a
+//! reader of one of them or of their directory answers.
+#![tactic(auto)]
+
+mod files;
+mod reading;
+mod rows;
+
+use raft_rows::run;
+use rows::Calls;
+use std::io;
+
+fn main(rt: HostRuntime) -> io::Result<()> {
+    run(&rt, &mut Calls)
+}
