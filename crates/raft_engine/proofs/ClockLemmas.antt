@@ -1,5 +1,5 @@
 -- A leader's clock decides nothing of the state that an engine stands for.
-use Rattle.std.specs.Prelude.{◌≡◌, ℕ, Bool, true, false, ◌&&◌, nat_eq, if◌then◌else◌, List, Option, Some, None, IfOk, OnOk, Result, Ok, Err, unwrap_or, refl}
+use Rattle.std.specs.Prelude.{◌≡◌, ℕ, Bool, true, false, ◌&&◌, nat_eq, if◌then◌else◌, List, Option, Some, None, IfOk, Result, Ok, Err, unwrap_or, refl}
 use Rattle.std.specs.Option.{option_cmp}
 use Rattle.std.specs.Ordering.{nat_cmp}
 use Rattle.std.proofs.Common.{ap, inl, inr, sym, subst, ◌∙◌}
@@ -125,11 +125,6 @@ hears_then peer time (Some x) (Some y) (Some z) h k = λ n. k n ∙ h n
 pub hears_nothing : (peer : ℕ) (o : Option LeaderOf) → HearsAfter peer None o o
 hears_nothing peer None = tt
 hears_nothing peer (Some l) = λ n. refl
-
--- what holds anyway holds where a call succeeds
-pub in_any_case : {A E P : Type 0} (r : Result A E) → P → OnOk r P
-in_any_case (Ok a) h = h
-in_any_case (Err e) h = tt
 
 -- a leader that notes something else
 pub keeps_noting : (l l' : LeaderOf) → l'.clock_progress ≡ l.clock_progress → KeepsHeard (Some l) (Some l')

@@ -11,7 +11,8 @@ use Rattle.raft_engine.specs.Standing.{EffectiveMembership}
 use Rattle.raft_engine.specs.Leading.{KnowsMembers}
 use Rattle.raft_engine.proofs.AppendLemmas.{appended, lasts_agree}
 use Rattle.raft_engine.specs.Clock.{KeepsHeard, heard_at}
-use Rattle.raft_engine.proofs.ClockLemmas.{in_any_case, keeps_same, keeps_untouched}
+use Rattle.raft_progress.proofs.PartsLemmas.{on_ok}
+use Rattle.raft_engine.proofs.ClockLemmas.{keeps_same, keeps_untouched}
 use Rattle.raft_engine.proofs.engine.Engine.append.Goals as goal
 
 abbrev LeaderOf : Type 0
@@ -54,4 +55,4 @@ pub returns-clause-heard : goal.returns-clause-heard
 returns-clause-heard g c =
     let counted : KeepsHeard (Some c.in-Some.leader) (Some c.count_by_entry.new.leader) =
     λ n. c.in_ok-count_by_entry.ensures.heard n ∙ ap (λ (y : LeaderOf). heard_at y n) c.next_log_id-log_id.ensures.rest in
-    in_any_case c.push_command.result (subst (λ o. KeepsHeard o (Some c.count_by_entry.new.leader)) (sym c.in-Some.is) counted)
+    on_ok c.push_command.result (subst (λ o. KeepsHeard o (Some c.count_by_entry.new.leader)) (sym c.in-Some.is) counted)

@@ -3,7 +3,8 @@ use Rattle.raft_group_step.specs.Values.{vote_lt}
 use Rattle.raft_group_step.specs.StepResult.{take_over}
 use Rattle.raft_engine.specs.Standing.{IsStepOf}
 use Rattle.raft_engine.proofs.OtherVotes.{follows_after, in_force_after}
-use Rattle.raft_engine.proofs.ClockLemmas.{in_any_case, keeps_then, keeps_untouched}
+use Rattle.raft_progress.proofs.PartsLemmas.{on_ok}
+use Rattle.raft_engine.proofs.ClockLemmas.{keeps_then, keeps_untouched}
 use Rattle.raft_engine.proofs.engine.Engine.append_request.Goals as goal
 
 pub returns-clause-step : goal.returns-clause-step
@@ -16,11 +17,11 @@ returns-clause-step g c = λ x own r m step now says repeats another follow.
 
 pub returns-then-is_lower-clause-heard : goal.returns-then-is_lower-clause-heard
 returns-then-is_lower-clause-heard g c =
-    in_any_case c.answer_append.result (keeps_untouched c.args.self.now.leader c.answer_append.new.self.leader c.answer_append.ensures.leader)
+    on_ok c.answer_append.result (keeps_untouched c.args.self.now.leader c.answer_append.new.self.leader c.answer_append.ensures.leader)
 
 pub returns-clause-heard : goal.returns-clause-heard
 returns-clause-heard g c =
     let taken = c.take_over.new.self.leader in
     let joined = c.join_entries.new.self.leader in
-    in_any_case c.join_entries.result
+    on_ok c.join_entries.result
     (keeps_then c.args.self.now.leader taken joined c.in_ok-take_over.ensures.heard (keeps_untouched taken joined c.join_entries.ensures.leader))

@@ -6,7 +6,8 @@ use Rattle.raft_group_step.specs.StoredGroup.{RemoveUpTo, after_storing, end_pla
 use Rattle.raft_engine.specs.Standing.{IsStepOf}
 use Rattle.raft_engine.proofs.ForceLemmas.{counts_still, purge_keeps_force}
 use Rattle.raft_engine.proofs.PurgeLemmas.{has_its_id, is_of_entry, none_to_purge, purged_to}
-use Rattle.raft_engine.proofs.ClockLemmas.{in_any_case, keeps_same}
+use Rattle.raft_progress.proofs.PartsLemmas.{on_ok}
+use Rattle.raft_engine.proofs.ClockLemmas.{keeps_same}
 use Rattle.raft_engine.proofs.engine.Engine.purge_up_to.Goals as goal
 
 pub returns-clause-step : goal.returns-clause-step
@@ -49,7 +50,7 @@ returns-then-upto-clause-step g c = λ x own r step fits may.
     absurd (omega arith)
 
 pub returns-clause-heard : goal.returns-clause-heard
-returns-clause-heard g c = in_any_case c.push_command.result c.in_ok-count_if.ensures.heard
+returns-clause-heard g c = on_ok c.push_command.result c.in_ok-count_if.ensures.heard
 
 pub returns-then-not-has_entry_at-clause-heard : goal.returns-then-not-has_entry_at-clause-heard
 returns-then-not-has_entry_at-clause-heard g c = keeps_same c.args.self.now.leader

@@ -7,7 +7,8 @@ use Rattle.raft_group_step.specs.Lead.{new_lead}
 use Rattle.raft_engine.specs.Standing.{IsStepOf, Leads}
 use Rattle.raft_engine.proofs.ElectionLemmas.{known_end}
 use Rattle.raft_engine.proofs.OpeningLemmas.{committed_then, follows_on, lead_resumed, leads_on, own_then, own_vote_known, stands_nowhere}
-use Rattle.raft_engine.proofs.ClockLemmas.{in_any_case, keeps_same}
+use Rattle.raft_progress.proofs.PartsLemmas.{on_ok}
+use Rattle.raft_engine.proofs.ClockLemmas.{keeps_same}
 use Rattle.raft_engine.proofs.engine.Engine.resume_lead.Goals as goal
 use Rattle.raft_engine.proofs.engine.Engine.resume_lead.Goals.{then-not-leads_on-via-then-not-leads_on, then-not-leads_on-via-else-not-leads_on+then-not-has_room}
 
@@ -43,4 +44,4 @@ pub returns-then-not-leads_on-clause-heard : goal.returns-then-not-leads_on-clau
 returns-then-not-leads_on-clause-heard g c = inl (keeps_same c.args.self.now.leader)
 
 pub returns-clause-heard : goal.returns-clause-heard
-returns-clause-heard g c = in_any_case c.push_command.result (inr c.in_ok-leader.ensures.heard)
+returns-clause-heard g c = on_ok c.push_command.result (inr c.in_ok-leader.ensures.heard)

@@ -9,7 +9,7 @@ use Rattle.raft_engine.specs.Standing.{peer_state}
 use Rattle.raft_engine.specs.Ordering.{IsStoredRequest}
 use Rattle.raft_engine.proofs.SendingLemmas.{stored-request}
 use Rattle.raft_engine.proofs.ReplicationLemmas.{requested}
-use Rattle.raft_engine.proofs.ClockLemmas.{in_any_case}
+use Rattle.raft_progress.proofs.PartsLemmas.{on_ok}
 use Rattle.raft_engine.proofs.engine.Engine.send_request.Goals as goal
 
 pub returns-then-not-set_peer-clause-step : goal.returns-then-not-set_peer-clause-step
@@ -29,4 +29,4 @@ returns-clause-step g c = λ x own r lead step is_lead has e room m.
     c.push_command.ensures.ok
 
 pub returns-clause-heard : goal.returns-clause-heard
-returns-clause-heard g c = in_any_case c.push_command.result c.set_peer.ensures.heard
+returns-clause-heard g c = on_ok c.push_command.result c.set_peer.ensures.heard

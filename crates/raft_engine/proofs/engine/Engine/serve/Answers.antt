@@ -11,7 +11,8 @@ use Rattle.raft_group_step.specs.Frames.{lacks_entries, notice}
 use Rattle.raft_engine.specs.Standing.{PlaysRole, peer_state}
 use Rattle.raft_engine.specs.Sending.{HasPeer}
 use Rattle.raft_engine.proofs.ReplicationLemmas.{leads, served, unserved}
-use Rattle.raft_engine.proofs.ClockLemmas.{in_any_case, keeps_same, keeps_untouched}
+use Rattle.raft_progress.proofs.PartsLemmas.{on_ok}
+use Rattle.raft_engine.proofs.ClockLemmas.{keeps_same, keeps_untouched}
 use Rattle.raft_engine.proofs.engine.Engine.serve.Goals as goal
 use Rattle.raft_engine.proofs.engine.Engine.serve.Goals.{else-is_none-via-then-is_none+else-lacks_entries, else-is_none-via-else-is_none}
 
@@ -82,7 +83,7 @@ returns-then-lacks_entries-clause-heard g c = c.send_request.ensures.heard
 
 pub returns-then-has_news-clause-heard : goal.returns-then-has_news-clause-heard
 returns-then-has_news-clause-heard g c =
-    in_any_case c.send_notice.result (keeps_untouched c.args.self.now.leader c.send_notice.new.self.leader c.send_notice.ensures.leader)
+    on_ok c.send_notice.result (keeps_untouched c.args.self.now.leader c.send_notice.new.self.leader c.send_notice.ensures.leader)
 
 pub returns-clause-heard : goal.returns-clause-heard
 returns-clause-heard g c = keeps_same c.args.self.now.leader

@@ -12,7 +12,8 @@ use Rattle.raft_group_step.specs.Frames.{committed_id}
 use Rattle.raft_engine.proofs.FollowingLemmas.{before_next}
 use Rattle.raft_engine.proofs.OtherVotes.{follows_after, not_below_after}
 use Rattle.raft_engine.proofs.SnapshotLemmas.{install_keeps_vote, install_reaches, says_higher, says_success}
-use Rattle.raft_engine.proofs.ClockLemmas.{in_any_case, keeps_then, keeps_untouched}
+use Rattle.raft_progress.proofs.PartsLemmas.{on_ok}
+use Rattle.raft_engine.proofs.ClockLemmas.{keeps_then, keeps_untouched}
 use Rattle.raft_engine.proofs.engine.Engine.snapshot_request.Goals as goal
 
 pub returns-then-is_lower-clause-step : goal.returns-then-is_lower-clause-step
@@ -51,12 +52,12 @@ returns-clause-step g c = λ x own r id step now meta asked repeats another.
 
 pub returns-then-is_lower-clause-heard : goal.returns-then-is_lower-clause-heard
 returns-then-is_lower-clause-heard g c =
-    in_any_case c.answer_snapshot.result (keeps_untouched c.args.self.now.leader c.answer_snapshot.new.self.leader c.answer_snapshot.ensures.leader)
+    on_ok c.answer_snapshot.result (keeps_untouched c.args.self.now.leader c.answer_snapshot.new.self.leader c.answer_snapshot.ensures.leader)
 
 pub returns-clause-heard : goal.returns-clause-heard
 returns-clause-heard g c =
     let taken = c.take_over.new.self.leader in
     let answered = c.answer_snapshot-2.new.self.leader in
-    in_any_case c.answer_snapshot-2.result
+    on_ok c.answer_snapshot-2.result
     (keeps_then c.args.self.now.leader taken answered c.in_ok-take_over.ensures.heard
     (keeps_untouched taken answered (c.answer_snapshot-2.ensures.leader ∙ c.install.ensures.leader)))

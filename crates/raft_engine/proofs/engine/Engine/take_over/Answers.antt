@@ -3,7 +3,8 @@ use Rattle.std.specs.Prelude.{Some}
 use Rattle.raft_group_step.specs.Values.{vote_lt}
 use Rattle.raft_group_step.specs.StepResult.{step_down}
 use Rattle.raft_engine.proofs.StandingLemmas.{vote_renewed}
-use Rattle.raft_engine.proofs.ClockLemmas.{in_any_case, keeps_same, keeps_then, keeps_untouched}
+use Rattle.raft_progress.proofs.PartsLemmas.{on_ok}
+use Rattle.raft_engine.proofs.ClockLemmas.{keeps_same, keeps_then, keeps_untouched}
 use Rattle.raft_engine.proofs.engine.Engine.take_over.Goals as goal
 
 pub returns-then-is_lower-clause-step : goal.returns-then-is_lower-clause-step
@@ -25,7 +26,7 @@ pub returns-then-is_lower-clause-heard : goal.returns-then-is_lower-clause-heard
 returns-then-is_lower-clause-heard g c =
     let old = c.args.self.now.leader in
     let stepped = c.step_down.new.self.leader in
-    in_any_case c.store_vote.result
+    on_ok c.store_vote.result
     (keeps_then old stepped c.store_vote.new.self.leader c.in_ok-step_down.ensures.heard (keeps_untouched stepped c.store_vote.new.self.leader c.store_vote.ensures.leader))
 
 pub returns-clause-heard : goal.returns-clause-heard

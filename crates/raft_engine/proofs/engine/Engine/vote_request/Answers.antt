@@ -3,7 +3,8 @@ use Rattle.std.proofs.lemmas.Result.{on_ok_weaker}
 use Rattle.raft_group_step.specs.VoteRequest.{judged}
 use Rattle.raft_engine.specs.Standing.{IsStepOf}
 use Rattle.raft_engine.proofs.VoteLemmas.{judged_by}
-use Rattle.raft_engine.proofs.ClockLemmas.{in_any_case, keeps_then, keeps_untouched}
+use Rattle.raft_progress.proofs.PartsLemmas.{on_ok}
+use Rattle.raft_engine.proofs.ClockLemmas.{keeps_then, keeps_untouched}
 use Rattle.raft_engine.proofs.engine.Engine.vote_request.Goals as goal
 
 pub returns-clause-step : goal.returns-clause-step
@@ -20,5 +21,5 @@ pub returns-clause-heard : goal.returns-clause-heard
 returns-clause-heard g c =
     let taken = c.take_over_if.new.self.leader in
     let answered = c.answer_vote.new.self.leader in
-    in_any_case c.answer_vote.result
+    on_ok c.answer_vote.result
     (keeps_then c.args.self.now.leader taken answered c.in_ok-take_over_if.ensures.heard (keeps_untouched taken answered c.answer_vote.ensures.leader))
