@@ -1,14 +1,13 @@
 -- Log ids up to a term, of lists put together and cut; and what the last key alone tells.
-use Rattle.std.proofs.Common.{◌≡◌, ℕ, zero, suc, ◌+◌, ◌<◌, ◌≤◌, ◌-◌, ◌==◌, ◌&&◌, false, List, [], ◌∷◌, ◌++◌, length, take, drop, Option, Some, None, refl, arith, sym, ap, ◌∙◌, subst}
+use Rattle.std.proofs.Common.{◌≡◌, ℕ, zero, suc, ◌+◌, ◌<◌, ◌≤◌, ◌-◌, ◌==◌, false, List, [], ◌∷◌, ◌++◌, length, take, drop, Some, refl, arith, sym, ap, ◌∙◌, subst}
 use Rattle.std.specs.List.{slice_get}
 use Rattle.std.proofs.lemmas.Bool.Decides.{nat_tests}
-use Rattle.std.proofs.lemmas.List.Elements.{filter-append}
 use Rattle.raft_values.specs.declared.log_id.LogId.{LogId}
 use Rattle.raft_values.specs.declared.vote.LeaderId.{LeaderId}
-use Rattle.raft_state.specs.LogIdList.{PlacesRise, end_of_key, ids_of, last_id, leader_ids}
+use Rattle.raft_state.specs.LogIdList.{PlacesRise, last_id}
 use Rattle.raft_state.proofs.LogIdListLemmas.{last_id-cons}
-use Rattle.raft_group_step.specs.Values.{Entry, leader_eq}
-use Rattle.raft_known_state.specs.KnownState.{AreUpToTerm, entry_ids, ids_of_leader, is_of_leader, purged_ids}
+use Rattle.raft_group_step.specs.Values.{Entry}
+use Rattle.raft_known_state.specs.KnownState.{AreUpToTerm, entry_ids, ids_of_leader}
 
 pub up_to_more : (low high : ℕ) (ids : List (LogId ℕ)) → low ≤ high → AreUpToTerm low ids → AreUpToTerm high ids
 up_to_more low high [] l h = tt

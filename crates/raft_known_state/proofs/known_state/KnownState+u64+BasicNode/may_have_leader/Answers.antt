@@ -1,5 +1,5 @@
 -- A leader of a higher term than all entries has written none of them.
-use Rattle.std.proofs.Common.{◌<◌, ◌∙◌, sym, arith}
+use Rattle.std.proofs.Common.{◌<◌, arith}
 use Rattle.std.proofs.lemmas.Bool.Decides.{nat_tests}
 use Rattle.raft_known_state.specs.KnownState.{entry_ids}
 use Rattle.raft_known_state.proofs.TermLemmas.{none_of_higher}
