@@ -81,15 +81,20 @@ fn damage(files: &mut MemoryFileSystem, alloc: Global, harm: Harm, at: u64) -> R
     Ok(())
 }
 
+/// The batches that are found, none where one isn't as it was written.
+pub(crate) fn shown_by(found: Option<Vec<u64>>) -> Shown {
+    match found {
+        Some(found) => Shown::Read(found),
+        None => Shown::Other,
+    }
+}
+
 /// What an opening of the damaged files shows.
 fn shown_of(alloc: Global, harm: Harm, at: u64) -> Result<Shown, EngineFault> {
     let mut files = written(alloc, harm)?;
     damage(&mut files, alloc, harm, at)?;
     match opened_as(files, alloc, harm.target_size, harm.mode) {
-        Ok(mut engine) => Ok(match found_of(&mut engine, alloc, harm.count)? {
-            Some(found) => Shown::Read(found),
-            None => Shown::Other,
-        }),
+        Ok(mut engine) => Ok(shown_by(found_of(&mut engine, alloc, harm.count)?)),
         Err(fault) => Ok(Shown::Refused(fault)),
     }
 }

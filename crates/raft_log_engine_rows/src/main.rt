@@ -4,6 +4,7 @@
 mod batches;
 mod calls;
 mod damage;
+mod found;
 mod logs;
 mod messages;
 mod reopening;

@@ -76,6 +76,17 @@ fn steps_before(words: &[&str]) -> usize {
         .unwrap_or(words.len())
 }
 
+/// The steps before the word `stop`.
+pub(crate) fn before_stop<'a>(words: &'a [&'a str]) -> &'a [&'a str] {
+    words.get(..steps_before(words)).unwrap_or(&[])
+}
+
+/// The steps behind the word `stop`.
+pub(crate) fn behind_stop<'a>(words: &'a [&'a str]) -> &'a [&'a str] {
+    let behind = steps_before(words).saturating_add(1);
+    words.get(behind..).unwrap_or(&[])
+}
+
 /// Opens an engine without files, takes the steps up to the word `stop`, opens it again and takes
 /// the others.
 pub fn reopened(
@@ -84,13 +95,11 @@ pub fn reopened(
     how: &str,
     words: &[&str],
 ) -> Result<Both, EngineFault> {
-    let stop = steps_before(words);
     let mut engine = opened_as(MemoryFileSystem::new(alloc), alloc, target_size, "tail")?;
-    let first = steps_on(&mut engine, alloc, words.get(..stop).unwrap_or(&[]))?;
+    let first = steps_on(&mut engine, alloc, before_stop(words))?;
     let files = stopped(engine, how)?;
     let mut engine = opened_as(files, alloc, target_size, "tail")?;
-    let behind = stop.saturating_add(1);
-    let second = steps_on(&mut engine, alloc, words.get(behind..).unwrap_or(&[]))?;
+    let second = steps_on(&mut engine, alloc, behind_stop(words))?;
     Ok((first, second))
 }
 

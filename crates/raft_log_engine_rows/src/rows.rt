@@ -2,6 +2,7 @@
 
 use crate::calls::{Told, steps_on};
 use crate::damage::{Harm, harmed};
+use crate::found::{littered, many_groups, spilled, unread};
 use crate::logs::{crash, genuine, refused_openings};
 use crate::reopening::{config_of, reopened, run_of};
 use crate::stops::{Plan, stops_of};
@@ -79,6 +80,24 @@ fn log_row(alloc: Global, words: &[&str]) -> Option<Answer> {
             Answer::shown(alloc, &crash(alloc, target_size, how, count))
         }
         ["genuine", first] => Answer::shown(alloc, &genuine(alloc, number(first))),
+        _ => found_row(alloc, words)?,
+    })
+}
+
+/// The answer to a row of what an opening finds.
+fn found_row(alloc: Global, words: &[&str]) -> Option<Answer> {
+    Some(match words {
+        ["littered", how, steps @ ..] => Answer::shown(alloc, &littered(alloc, how, steps)),
+        ["spilled", main, spill, steps @ ..] => {
+            Answer::shown(alloc, &spilled(alloc, number(main), number(spill), steps))
+        }
+        ["unread", target_size, count] => {
+            Answer::shown(alloc, &unread(alloc, number(target_size), number(count)))
+        }
+        ["groups", how, target_size, len] => {
+            let (target_size, len) = (number(target_size), number(len));
+            Answer::shown(alloc, &many_groups(alloc, target_size, how, len))
+        }
         _ => return None,
     })
 }
