@@ -12,3 +12,4 @@ pub mod AloneLemmas
 pub mod OthersLemmas
 pub mod TakenLemmas
 pub mod LostLemmas
+pub mod CausedLemmas

@@ -9,3 +9,4 @@ pub mod Purging
 pub mod Alone
 pub mod Others
 pub mod Taken
+pub mod Caused

@@ -1,14 +1,15 @@
 //! Appends to a pipe.
 
-ghost use Rattle.std.specs.Prelude.{◌≡◌, ◌⊎◌, ◌+◌, ◌-◌, ◌<◌, ◌≤◌, ◌^◌, ◌++◌, ◌∷◌, [], length, min, IfOk, OnOk, OnErr};
+ghost use Rattle.std.specs.Prelude.{◌≡◌, ◌⊎◌, ◌+◌, ◌-◌, ◌<◌, ◌≤◌, ◌^◌, ◌++◌, ◌∷◌, [], length, min, IfErr, IfOk, OnOk, OnErr};
 ghost use Rattle.raft_log_records.specs.Spelling.{AreItems, record_len};
-ghost use Rattle.raft_log_disk.specs.Cause.{IsTaken, NothingRefuses, RefusesNoMore, UnlessRefused};
+ghost use Rattle.raft_log_disk.specs.Cause.{IsTaken, NothingRefuses, RefusesNoMore, Rises, UnlessRefused};
 ghost use Rattle.raft_log_file.specs.Writer.{IsWriter};
 ghost use Rattle.raft_log_pipe.specs.Alone.{IsAlone, IsNearlyAlone};
 ghost use Rattle.raft_log_pipe.specs.Others.{KeepsOthers};
 ghost use Rattle.raft_log_pipe.specs.Pipe.{IsPipe, IsPopulated, Holds, Leaves, Numbered};
 ghost use Rattle.raft_log_pipe.specs.Appending.{IsHandle, Appends, LeavesAppended, Stands};
 ghost use Rattle.raft_log_pipe.specs.Blocks.{KeepsFiles};
+ghost use Rattle.raft_log_pipe.specs.Caused.{IsAppendFault, IsCaused, IsGivenUpFault, IsSecondAppendFault, LacksPlace};
 ghost use Rattle.raft_log_pipe.specs.Taken.{IsAppendTaken, IsBarred, IsFull, IsRotationTaken, IsTakenBy, IsTooLarge, IsUnmade, IsUnnumbered};
 
 use crate::pipe::SinglePipe;
@@ -42,6 +43,7 @@ impl SinglePipe {
         ensures later { RefusesNoMore (F.is_bounded files.old) (F.is_bounded files.new) (F.meter files.old) (F.meter files.new) }
         ensures taken { NothingRefuses (F.is_bounded files.old) (F.meter files.old) → IsTaken ⊥ (IsTooLarge self.old batch.old.items) result }
         ensures fits { IfOk result (λ h. h.offset + record_len batch.old.items < 2 ^ 64) }
+        ensures cause { IsTaken ⊥ (Rises 1 (F.meter files.old) (F.meter files.new)) result }
     {
         let id = FileId::new(self.queue, self.active.seq);
         let context = LogFileContext::new(id, self.active.format.version);
@@ -78,6 +80,8 @@ impl SinglePipe {
         ensures later { RefusesNoMore (F.is_bounded files.old) (F.is_bounded files.new) (F.meter files.old) (F.meter files.new) }
         ensures taken { NothingRefuses (F.is_bounded files.old) (F.meter files.old) → IsTakenBy (IsFull self.old × IsUnnumbered self.old)
             (IsFull self.old × IsUnmade self.old (F.disk files.old)) (IsFull self.old × IsBarred self.old (F.disk files.old)) result }
+        ensures begins { OnOk result ((self.new.active ≡ self.old.active) ⊎ (IsFull self.old × (self.new.active.seq ≡ self.old.active.seq + 1))) }
+        ensures cause { IfErr result (λ e. IsCaused (Rises 1 (F.meter files.old) (F.meter files.new)) ⊥ (IsFull self.old × IsUnnumbered self.old) (IsFull self.old × LacksPlace self.old (F.disk files.old) 1) e) }
     {
         if self.writer.offset() < self.target_file_size {
             return Ok(());
@@ -112,6 +116,7 @@ impl SinglePipe {
         ensures later { RefusesNoMore (F.is_bounded files.old) (F.is_bounded files.new) (F.meter files.old) (F.meter files.new) }
         ensures taken { NothingRefuses (F.is_bounded files.old) (F.meter files.old) → IsAppendTaken self.old (F.disk files.old) batch.old.items result }
         ensures fits { IfOk result (λ h. h.offset + record_len batch.old.items < 2 ^ 64) }
+        ensures cause { IfErr result (λ e. IsAppendFault self.old (F.disk files.old) (F.meter files.old) (F.meter files.new) e) }
     {
         self.make_room(files)?;
         match self.put(files, batch) {
@@ -147,6 +152,7 @@ impl SinglePipe {
         ensures later { RefusesNoMore (F.is_bounded files.old) (F.is_bounded files.new) (F.meter files.old) (F.meter files.new) }
         ensures taken { NothingRefuses (F.is_bounded files.old) (F.meter files.old) → IsRotationTaken self.old (F.disk files.old) result }
         ensures fits { IfOk result (λ h. h.offset + record_len batch.old.items < 2 ^ 64) }
+        ensures cause { IfErr result (λ e. IsSecondAppendFault self.old (F.disk files.old) (F.meter files.old) (F.meter files.new) e) }
     {
         self.finish(files)?;
         match self.go_on(files) {
@@ -171,6 +177,7 @@ impl SinglePipe {
         ensures nearly { IsAlone self.old (F.disk files.old) → IsNearlyAlone self.new (F.disk files.new) }
         ensures leaves { (synced : Numbered) (unsynced : Numbered) → Holds self.old (F.disk files.old) synced unsynced → Leaves self.new (F.disk files.new) synced unsynced }
         ensures later { RefusesNoMore (F.is_bounded files.old) (F.is_bounded files.new) (F.meter files.old) (F.meter files.new) }
+        ensures cause { IsGivenUpFault self.old (F.disk files.old) (F.meter files.old) (F.meter files.new) result }
     {
         if let Err(error) = self.finish(files) {
             return error;

@@ -1,10 +1,11 @@
 //! Files of a pipe, and where a new one goes.
 
 ghost use Rattle.std.specs.Prelude.{◌≡◌, ◌<◌, ◌+◌, ◌-◌, ◌^◌, length, map, string_bytes, IfOk, IfSome};
-ghost use Rattle.raft_log_disk.specs.Cause.{IsTaken, NothingRefuses, RefusesNoMore};
+ghost use Rattle.raft_log_disk.specs.Cause.{IsTaken, NothingRefuses, RefusesNoMore, Rises};
 ghost use Rattle.raft_log_disk.specs.Disk.{HasDirectory, IsNoNewFile};
 ghost use Rattle.raft_log_files.specs.FileName.{IsFileSeq};
 ghost use Rattle.raft_log_pipe.specs.Alone.{IsMadeIn};
+ghost use Rattle.raft_log_pipe.specs.Caused.{LacksDirectory};
 ghost use Rattle.raft_log_pipe.specs.Pipe.{IsLast};
 ghost use Rattle.raft_log_pipe.specs.Placing.{first_with_room, path_chosen, IsCreated};
 ghost use Rattle.raft_log_pipe.specs.Taken.{main_path};
@@ -89,6 +90,7 @@ pub(crate) fn new_file<F: FileSystem>(
     ensures later { RefusesNoMore (F.is_bounded files.old) (F.is_bounded files.new) (F.meter files.old) (F.meter files.new) }
     ensures taken { NothingRefuses (F.is_bounded files.old) (F.meter files.old) → IsTaken (HasDirectory (F.disk files.old).directories (main_path paths.now id) → ⊥)
         (IsNoNewFile (F.disk files.old) (main_path paths.now id)) result }
+    ensures cause { IsTaken (LacksDirectory (F.disk files.old) (map string_bytes paths.now) id) (Rises 1 (F.meter files.old) (F.meter files.new)) result }
 {
     let path_id = find_available_dir(files, paths, target_size);
     let path = id.build_file_path(alloc, paths[path_id].as_str())?;

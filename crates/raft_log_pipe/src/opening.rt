@@ -1,12 +1,13 @@
 //! Opening the files of a queue, and a queue that has none yet.
 
-ghost use Rattle.std.specs.Prelude.{◌≡◌, ◌<◌, ◌++◌, ◌∷◌, [], length, map, string_bytes, Err, IfOk, OnOk, OnErr};
-ghost use Rattle.raft_log_disk.specs.Cause.{IsTaken, NothingRefuses, RefusesNoMore};
+ghost use Rattle.std.specs.Prelude.{◌≡◌, ◌<◌, ◌++◌, ◌∷◌, [], length, map, string_bytes, Err, IfErr, IfOk, OnOk, OnErr};
+ghost use Rattle.raft_log_disk.specs.Cause.{IsTaken, NothingRefuses, RefusesNoMore, Rises};
 ghost use Rattle.raft_log_disk.specs.Disk.{IsNoFile};
 ghost use Rattle.raft_log_files.specs.declared.error.CorruptionFault.{CorruptionFault};
 ghost use Rattle.raft_log_files.specs.declared.error.Error.TheVariants.{Corruption};
 ghost use Rattle.raft_log_pipe.specs.Alone.{AreDistinct, AreLast, IsAlone, IsVacant};
 ghost use Rattle.raft_log_pipe.specs.Begun.{Changes};
+ghost use Rattle.raft_log_pipe.specs.Caused.{IsCreationFault, IsRefusalOrMemory};
 ghost use Rattle.raft_log_pipe.specs.Found.{IsFound, IsResumed, KeepsButHeader, MakesButHeader};
 ghost use Rattle.raft_log_pipe.specs.Others.{KeepsOthers};
 ghost use Rattle.raft_log_pipe.specs.Pipe.{IsPipe, IsPlain, IsLast, Holds, Numbered, id_of};
@@ -30,6 +31,7 @@ fn resume_file<F: FileSystem>(
     ensures resumed { IsResumed (F.disk files.old) (F.disk files.new) file result }
     ensures later { RefusesNoMore (F.is_bounded files.old) (F.is_bounded files.new) (F.meter files.old) (F.meter files.new) }
     ensures taken { NothingRefuses (F.is_bounded files.old) (F.meter files.old) → IsTaken (IsNoFile (F.disk files.old) file.handle.0) ⊥ result }
+    ensures cause { IsTaken (IsNoFile (F.disk files.old) file.handle.0) (Rises 1 (F.meter files.old) (F.meter files.new)) result }
 {
     if files.file_size(file.handle)? == 0 {
         return begin_file(files, alloc, file);
@@ -63,6 +65,7 @@ impl SinglePipe {
         ensures later { RefusesNoMore (F.is_bounded files.old) (F.is_bounded files.new) (F.meter files.old) (F.meter files.new) }
         ensures taken { NothingRefuses (F.is_bounded files.old) (F.meter files.old) → IsOkOrMemory result }
         ensures corrupt { (f : CorruptionFault) → result ≡ Err (Corruption f) → ⊥ }
+        ensures cause { IfErr result (λ e. IsRefusalOrMemory (F.meter files.old) (F.meter files.new) e) }
     {
         let Some(active) = found.pop() else {
             unreachable!()
@@ -103,6 +106,7 @@ impl SinglePipe {
         ensures later { RefusesNoMore (F.is_bounded files.old) (F.is_bounded files.new) (F.meter files.old) (F.meter files.new) }
         ensures taken { NothingRefuses (F.is_bounded files.old) (F.meter files.old) → IsCreationTaken paths.items queue (F.disk files.old) result }
         ensures corrupt { (f : CorruptionFault) → result ≡ Err (Corruption f) → ⊥ }
+        ensures cause { IfErr result (λ e. IsCreationFault (map string_bytes paths.items) queue (F.disk files.old) (F.meter files.old) (F.meter files.new) e) }
     {
         let id = FileId::new(queue, DEFAULT_FIRST_FILE_SEQ);
         let file = new_file(files, alloc, &paths, id, default_format, target_file_size)?;

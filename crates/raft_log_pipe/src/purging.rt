@@ -1,12 +1,13 @@
 //! Files whose batches are needed no more go, the first ones first.
 
-ghost use Rattle.std.specs.Prelude.{◌≡◌, ◌⊎◌, ◌↔◌, ◌∷◌, ◌+◌, ◌-◌, ◌<◌, ◌≤◌, ℕ, length, IfOk, OnOk, OnErr, IsErrOf};
-ghost use Rattle.raft_log_disk.specs.Cause.{NothingRefuses, RefusesNoMore};
+ghost use Rattle.std.specs.Prelude.{◌≡◌, ◌⊎◌, ◌↔◌, ◌∷◌, ◌+◌, ◌-◌, ◌<◌, ◌≤◌, ℕ, length, IfErr, IfOk, OnOk, OnErr, IsErrOf};
+ghost use Rattle.raft_log_disk.specs.Cause.{NothingRefuses, RefusesNoMore, Rises};
 ghost use Rattle.raft_log_files.specs.declared.error.Error.TheVariants.{Other};
-ghost use Rattle.raft_log_files.specs.declared.error.OtherFault.TheVariants.{NumberOutOfSpan};
+ghost use Rattle.raft_log_files.specs.declared.error.OtherFault.TheVariants.{FileGone, NumberOutOfSpan};
 ghost use Rattle.raft_log_pipe.specs.declared.file.File.{File};
 ghost use Rattle.raft_log_pipe.specs.Alone.{IsAlone};
 ghost use Rattle.raft_log_pipe.specs.Blocks.{IsOutOfSpan};
+ghost use Rattle.raft_log_pipe.specs.Caused.{IsCaused, IsPurgeFault};
 ghost use Rattle.raft_log_pipe.specs.Pipe.{IsPipe, first_of};
 ghost use Rattle.raft_log_pipe.specs.Purging.{AreGone, HoldsRest, KeepsFrom};
 ghost use Rattle.raft_log_pipe.specs.Taken.{HasLost, IsOkOrMemory, IsPurgeTaken, IsTakenBy};
@@ -32,6 +33,7 @@ impl SinglePipe {
         ensures lost { OnOk result ((seq : ℕ) → HasLost self.new (F.disk files.new) seq → HasLost self.old (F.disk files.old) seq) }
         ensures later { RefusesNoMore (F.is_bounded files.old) (F.is_bounded files.new) (F.meter files.old) (F.meter files.new) }
         ensures taken { NothingRefuses (F.is_bounded files.old) (F.meter files.old) → IsTakenBy ⊥ (HasLost self.old (F.disk files.old) (first_of self.old + 1)) ⊥ result }
+        ensures cause { IfErr result (λ e. IsCaused (Rises 1 (F.meter files.old) (F.meter files.new)) ⊥ ⊥ (HasLost self.old (F.disk files.old) (first_of self.old + 1)) e) }
     {
         let file = self.older[0];
         let id = FileId::new(self.queue, file.seq);
@@ -57,6 +59,8 @@ impl SinglePipe {
         ensures later { RefusesNoMore (F.is_bounded files.old) (F.is_bounded files.new) (F.meter files.old) (F.meter files.new) }
         ensures taken { NothingRefuses (F.is_bounded files.old) (F.meter files.old) → IsPurgeTaken self.old (F.disk files.old) seq result }
         ensures there { NothingRefuses (F.is_bounded files.old) (F.meter files.old) → IsAlone self.old (F.disk files.old) → IsOutOfSpan self.old seq ⊎ IsOkOrMemory result }
+        ensures cause { IfErr result (λ e. IsPurgeFault self.old (F.disk files.old) seq (F.meter files.old) (F.meter files.new) e) }
+        ensures found { IsAlone self.old (F.disk files.old) → IsErrOf result (Other FileGone) → ⊥ }
     {
         let Some(file) = self.file_of(seq) else {
             return Err(Error::Other(OtherFault::NumberOutOfSpan));

@@ -1,7 +1,7 @@
 //! Rotation: the last file is cut and synced, and a new one goes on.
 
-ghost use Rattle.std.specs.Prelude.{◌≡◌, ◌+◌, ◌-◌, ◌<◌, ◌≤◌, ◌++◌, ◌∷◌, [], IfOk, OnOk, OnErr};
-ghost use Rattle.raft_log_disk.specs.Cause.{IsTaken, NothingRefuses, RefusesNoMore};
+ghost use Rattle.std.specs.Prelude.{◌≡◌, ◌+◌, ◌-◌, ◌<◌, ◌≤◌, ◌++◌, ◌∷◌, [], IfErr, IfOk, OnOk, OnErr};
+ghost use Rattle.raft_log_disk.specs.Cause.{IsTaken, NothingRefuses, RefusesNoMore, Rises};
 ghost use Rattle.raft_log_disk.specs.Disk.{IsNoFile};
 ghost use Rattle.raft_log_file.specs.Writer.{IsWriter};
 ghost use Rattle.raft_log_files.specs.FileName.{IsFileSeq};
@@ -9,6 +9,7 @@ ghost use Rattle.raft_log_pipe.specs.Others.{KeepsOthers};
 ghost use Rattle.raft_log_pipe.specs.Pipe.{IsPipe, IsPlain, Holds, Leaves, Numbered};
 ghost use Rattle.raft_log_pipe.specs.Alone.{IsAlone, IsNearlyAlone};
 ghost use Rattle.raft_log_pipe.specs.Begun.{IsBegun};
+ghost use Rattle.raft_log_pipe.specs.Caused.{IsCaused, IsRefusalOrMemory, IsRotationFault, LacksPlace};
 ghost use Rattle.raft_log_pipe.specs.Taken.{IsBarred, IsOkOrMemory, IsRotationTaken, IsTakenBy, IsUnmade, IsUnnumbered};
 
 use crate::file::{File, new_file};
@@ -28,6 +29,7 @@ pub(crate) fn begin_file<F: FileSystem>(
     ensures begun { IsBegun (F.disk files.old) (F.disk files.new) file result }
     ensures later { RefusesNoMore (F.is_bounded files.old) (F.is_bounded files.new) (F.meter files.old) (F.meter files.new) }
     ensures taken { NothingRefuses (F.is_bounded files.old) (F.meter files.old) → IsTaken (IsNoFile (F.disk files.old) file.handle.0) ⊥ result }
+    ensures cause { IsTaken (IsNoFile (F.disk files.old) file.handle.0) (Rises 1 (F.meter files.old) (F.meter files.new)) result }
 {
     let writer = match build_file_writer(files, alloc, file.handle, file.format, true) {
         Ok(writer) => writer,
@@ -53,6 +55,7 @@ impl SinglePipe {
         ensures next { (F.disk files.new).next ≡ (F.disk files.old).next }
         ensures later { RefusesNoMore (F.is_bounded files.old) (F.is_bounded files.new) (F.meter files.old) (F.meter files.new) }
         ensures taken { NothingRefuses (F.is_bounded files.old) (F.meter files.old) → IsOkOrMemory result }
+        ensures cause { IfErr result (λ e. IsRefusalOrMemory (F.meter files.old) (F.meter files.new) e) }
     {
         self.writer.close(files)?;
         Ok(())
@@ -72,6 +75,7 @@ impl SinglePipe {
         ensures next { (F.disk files.new).next ≡ (F.disk files.old).next }
         ensures later { RefusesNoMore (F.is_bounded files.old) (F.is_bounded files.new) (F.meter files.old) (F.meter files.new) }
         ensures taken { NothingRefuses (F.is_bounded files.old) (F.meter files.old) → IsTakenBy (IsUnnumbered self.old) ⊥ ⊥ result }
+        ensures cause { IfErr result (λ e. IsCaused (Rises 1 (F.meter files.old) (F.meter files.new)) ⊥ (IsUnnumbered self.old) ⊥ e) }
     {
         if !is_file_seq(self.active.seq.saturating_add(1)) {
             return Err(Error::Other(OtherFault::NoFileNumber));
@@ -96,6 +100,7 @@ impl SinglePipe {
         ensures begun { OnOk result (self.new.writer.offset ≤ 69) }
         ensures later { RefusesNoMore (F.is_bounded files.old) (F.is_bounded files.new) (F.meter files.old) (F.meter files.new) }
         ensures taken { NothingRefuses (F.is_bounded files.old) (F.meter files.old) → IsTaken (IsUnmade self.old (F.disk files.old)) (IsBarred self.old (F.disk files.old)) result }
+        ensures cause { IsTaken (LacksPlace self.old (F.disk files.old) 1) (Rises 1 (F.meter files.old) (F.meter files.new)) result }
     {
         let id = FileId::new(self.queue, self.active.seq + 1);
         let format = self.default_format;
@@ -124,6 +129,7 @@ impl SinglePipe {
         ensures begun { OnOk result (self.new.writer.offset ≤ 69) }
         ensures later { RefusesNoMore (F.is_bounded files.old) (F.is_bounded files.new) (F.meter files.old) (F.meter files.new) }
         ensures taken { NothingRefuses (F.is_bounded files.old) (F.meter files.old) → IsRotationTaken self.old (F.disk files.old) result }
+        ensures cause { IfErr result (λ e. IsRotationFault self.old (F.disk files.old) (F.meter files.old) (F.meter files.new) e) }
     {
         self.finish(files)?;
         self.go_on(files)?;

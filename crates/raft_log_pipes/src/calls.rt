@@ -1,10 +1,13 @@
 //! Calls that change the files of one queue.
 
-ghost use Rattle.std.specs.Prelude.{◌≡◌, ◌⊎◌, OnOk};
+ghost use Rattle.std.specs.Prelude.{◌≡◌, ◌⊎◌, IfErr, IsErrOf, OnOk};
 ghost use Rattle.raft_log_records.specs.Spelling.{AreItems};
 ghost use Rattle.raft_log_disk.specs.Cause.{NothingRefuses, RefusesNoMore};
+ghost use Rattle.raft_log_files.specs.declared.error.Error.TheVariants.{Other};
+ghost use Rattle.raft_log_files.specs.declared.error.OtherFault.TheVariants.{FileGone};
 ghost use Rattle.raft_log_pipe.specs.Alone.{IsAlone};
 ghost use Rattle.raft_log_pipe.specs.Blocks.{IsOutOfSpan};
+ghost use Rattle.raft_log_pipe.specs.Caused.{IsAppendFault, IsPurgeFault, IsRefusalOrMemory, IsRotationFault};
 ghost use Rattle.raft_log_pipe.specs.Others.{KeepsOthers};
 ghost use Rattle.raft_log_pipe.specs.Pipe.{IsPipe, IsPopulated};
 ghost use Rattle.raft_log_pipe.specs.Taken.{IsAppendTaken, IsOkOrMemory, IsPurgeTaken, IsRotationTaken};
@@ -34,6 +37,7 @@ impl DualPipes {
         ensures other { IsAsBefore (pipe_of self.old (other_queue queue)) (F.disk files.old) (pipe_of self.new (other_queue queue)) (F.disk files.new) }
         ensures later { RefusesNoMore (F.is_bounded files.old) (F.is_bounded files.new) (F.meter files.old) (F.meter files.new) }
         ensures taken { NothingRefuses (F.is_bounded files.old) (F.meter files.old) → IsAppendTaken (pipe_of self.old queue) (F.disk files.old) batch.old.items result }
+        ensures cause { IfErr result (λ e. IsAppendFault (pipe_of self.old queue) (F.disk files.old) (F.meter files.old) (F.meter files.new) e) }
     {
         match queue {
             LogQueue::Append => self.append.append(files, batch),
@@ -51,6 +55,7 @@ impl DualPipes {
         ensures other { IsAsBefore (pipe_of self.old (other_queue queue)) (F.disk files.old) (pipe_of self.new (other_queue queue)) (F.disk files.new) }
         ensures later { RefusesNoMore (F.is_bounded files.old) (F.is_bounded files.new) (F.meter files.old) (F.meter files.new) }
         ensures taken { NothingRefuses (F.is_bounded files.old) (F.meter files.old) → IsOkOrMemory result }
+        ensures cause { IfErr result (λ e. IsRefusalOrMemory (F.meter files.old) (F.meter files.new) e) }
     {
         match queue {
             LogQueue::Append => self.append.sync(files),
@@ -68,6 +73,7 @@ impl DualPipes {
         ensures other { IsAsBefore (pipe_of self.old (other_queue queue)) (F.disk files.old) (pipe_of self.new (other_queue queue)) (F.disk files.new) }
         ensures later { RefusesNoMore (F.is_bounded files.old) (F.is_bounded files.new) (F.meter files.old) (F.meter files.new) }
         ensures taken { NothingRefuses (F.is_bounded files.old) (F.meter files.old) → IsRotationTaken (pipe_of self.old queue) (F.disk files.old) result }
+        ensures cause { IfErr result (λ e. IsRotationFault (pipe_of self.old queue) (F.disk files.old) (F.meter files.old) (F.meter files.new) e) }
     {
         match queue {
             LogQueue::Append => self.append.rotate(files),
@@ -92,6 +98,8 @@ impl DualPipes {
         ensures taken { NothingRefuses (F.is_bounded files.old) (F.meter files.old) → IsPurgeTaken (pipe_of self.old queue) (F.disk files.old) seq result }
         ensures there { NothingRefuses (F.is_bounded files.old) (F.meter files.old) → IsAlone (pipe_of self.old queue) (F.disk files.old)
             → IsOutOfSpan (pipe_of self.old queue) seq ⊎ IsOkOrMemory result }
+        ensures cause { IfErr result (λ e. IsPurgeFault (pipe_of self.old queue) (F.disk files.old) seq (F.meter files.old) (F.meter files.new) e) }
+        ensures found { IsAlone (pipe_of self.old queue) (F.disk files.old) → IsErrOf result (Other FileGone) → ⊥ }
     {
         match queue {
             LogQueue::Append => self.append.purge_to(files, seq),
@@ -109,6 +117,7 @@ impl DualPipes {
         ensures other { IsAsBefore (pipe_of self.old (other_queue queue)) (F.disk files.old) (pipe_of self.new (other_queue queue)) (F.disk files.new) }
         ensures later { RefusesNoMore (F.is_bounded files.old) (F.is_bounded files.new) (F.meter files.old) (F.meter files.new) }
         ensures taken { NothingRefuses (F.is_bounded files.old) (F.meter files.old) → IsOkOrMemory result }
+        ensures cause { IfErr result (λ e. IsRefusalOrMemory (F.meter files.old) (F.meter files.new) e) }
     {
         match queue {
             LogQueue::Append => self.append.close(files),

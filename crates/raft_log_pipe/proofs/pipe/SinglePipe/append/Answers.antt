@@ -13,6 +13,11 @@ use Rattle.raft_log_records.specs.declared.file_id.FileBlockHandle.{FileBlockHan
 use Rattle.raft_log_pipe.specs.declared.pipe.SinglePipe.{SinglePipe}
 use Rattle.raft_log_pipe.specs.Taken.{IsBarred, IsFull, IsTooLarge, IsUnmade, IsUnnumbered}
 use Rattle.raft_log_pipe.proofs.TakenLemmas.{large_before, no_space_large, same_next, still_taken, taken_io, taken_more, told_error, unmade_before, unnumbered_before}
+use Rattle.std.proofs.Common.{ℕ}
+use Rattle.raft_log_disk.specs.Cause.{Rises}
+use Rattle.raft_log_files.specs.declared.error.Error.{Error}
+use Rattle.raft_log_pipe.specs.Caused.{BeginsFiles, IsAppendFault, LacksNumber, LacksPlace}
+use Rattle.raft_log_pipe.proofs.CausedLemmas.{append_behind, begins_first, caused_for, rises_then, seq_on, told_cause, told_io}
 use Rattle.raft_log_pipe.proofs.pipe.SinglePipe.append.Goals as goal
 
 pub returns-in_err-make_room-clause-err : goal.returns-in_err-make_room-clause-err
@@ -126,3 +131,42 @@ returns-in-Err-NoSpace-clause-taken g c =
     taken_more (IsUnnumbered q) (IsUnmade q e) (IsBarred q e) (needs × IsUnnumbered p) (needs × IsUnmade p d) ((IsFull p × IsBarred p d) ⊎ IsTooLarge p items) c.put_again.result
     (λ x. (inr large.0, unnumbered_before p q active x)) (λ x. (inr large.0, unmade_before p q d e path directories x)) (λ x. inr large.0)
     (c.put_again.ensures.taken (still_free free (no_more_then c.in_ok-make_room.ensures.later c.in-Err-NoSpace.ensures.later)))
+
+pub returns-in_err-make_room-clause-cause : goal.returns-in_err-make_room-clause-cause
+returns-in_err-make_room-clause-cause g c =
+    let p = c.args.self.now in
+    let d = g.F.FileSystem.disk c.args.files.now in
+    let a = g.F.FileSystem.meter c.args.files.now in
+    let b = g.F.FileSystem.meter c.make_room.new.files in
+    let before : Rises 0 a b = c.in_err-make_room.ensures.later.counts in
+    told_cause c.from_residual.result c.in_err-make_room.field-0.0 (λ (e : Error). IsAppendFault p d a b e) c.from_residual.ensures.1
+    (caused_for (Rises 1 a b) ⊥ (IsFull p × IsUnnumbered p) (IsFull p × LacksPlace p d 1)
+    (Rises 1 a b) (Rises 2 a b) ((n : ℕ) × BeginsFiles (IsFull p) a b n × LacksNumber p n) ((n : ℕ) × BeginsFiles (IsFull p) a b n × LacksPlace p d n) c.in_err-make_room.field-0.0
+    (λ x. x) (λ x. absurd x) (λ (full, x). (1, begins_first (IsFull p) a b full before, x)) (λ (full, x). (1, begins_first (IsFull p) a b full before, x)) c.in_err-make_room.ensures.cause)
+
+pub returns-in-Err-clause-cause : goal.returns-in-Err-clause-cause
+returns-in-Err-clause-cause g c =
+    let p = c.args.self.now in
+    let d = g.F.FileSystem.disk c.args.files.now in
+    let a = g.F.FileSystem.meter c.args.files.now in
+    let b = g.F.FileSystem.meter c.make_room.new.files in
+    let e = g.F.FileSystem.meter c.put.new.files in
+    let place : Type 0 = (n : ℕ) × BeginsFiles (IsFull p) a e n × LacksPlace p d n in
+    told_io FileBlockHandle (Rises 1 a e) (Rises 2 a e) ((n : ℕ) × BeginsFiles (IsFull p) a e n × LacksNumber p n) place c.from.result c.in-Err.fault c.from.ensures
+    (still_taken FileBlockHandle FileBlockHandle ⊥ (Rises 1 b e) place (Rises 1 a e) c.in-Err.fault (λ x. absurd x) (rises_then 0 1 a b e c.in_ok-make_room.ensures.later.counts) c.in-Err.ensures.cause)
+
+pub returns-in-Err-NoSpace-clause-cause : goal.returns-in-Err-NoSpace-clause-cause
+returns-in-Err-NoSpace-clause-cause g c =
+    let p = c.args.self.now in
+    let m = c.make_room.new.self in
+    let q = c.put.new.self in
+    let d = g.F.FileSystem.disk c.args.files.now in
+    let y = g.F.FileSystem.disk c.put.new.files in
+    let a = g.F.FileSystem.meter c.args.files.now in
+    let b = g.F.FileSystem.meter c.make_room.new.files in
+    let e = g.F.FileSystem.meter c.put.new.files in
+    let i = g.F.FileSystem.meter c.put_again.new.files in
+    append_behind p q d y a e i c.put_again.result (seq_on p m q c.in_ok-make_room.ensures.begins c.in-Err-NoSpace.ensures.same.0) (c.in-Err-NoSpace.ensures.others.directories ∙ c.in_ok-make_room.ensures.others.directories)
+    (c.in-Err-NoSpace.ensures.paths ∙ c.in_ok-make_room.ensures.paths) (c.in-Err-NoSpace.ensures.same.2 ∙ c.in_ok-make_room.ensures.queue)
+    (rises_then 0 1 a b e c.in_ok-make_room.ensures.later.counts (no_space_large FileBlockHandle ⊥ (Rises 1 b e) c.in-Err-NoSpace.field-0 c.in-Err-NoSpace.field-0-is c.in-Err-NoSpace.ensures.cause))
+    c.put_again.ensures.cause

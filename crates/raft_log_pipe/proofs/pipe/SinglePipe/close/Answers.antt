@@ -5,6 +5,8 @@ use Rattle.raft_log_pipe.proofs.ChangeLemmas.{closed_changes, closed_holds, pipe
 use Rattle.raft_log_pipe.proofs.OthersLemmas.{last_others}
 use Rattle.raft_log_disk.specs.Disk.{IsNoFile}
 use Rattle.raft_log_pipe.proofs.TakenLemmas.{exit_io, last_there, still_taken}
+use Rattle.raft_log_disk.specs.Cause.{Rises}
+use Rattle.raft_log_pipe.proofs.CausedLemmas.{counted_cause, exit_cause}
 use Rattle.raft_log_pipe.proofs.pipe.SinglePipe.close.Goals as goal
 
 pub returns-in_err-close-clause-pipe : goal.returns-in_err-close-clause-pipe
@@ -43,3 +45,10 @@ pub returns-in_err-close-clause-taken : goal.returns-in_err-close-clause-taken
 returns-in_err-close-clause-taken g c = λ free.
     exit_io (Unit {0}) (Unit {0}) ⊥ ⊥ ⊥ c.from_residual.result c.in_err-close.field-0.0 c.from_residual.ensures.1
     (still_taken (Unit {0}) (Unit {0}) (IsNoFile (g.F.FileSystem.disk c.args.files.now) c.args.self.now.writer.fd.0) ⊥ ⊥ ⊥ c.in_err-close.field-0.0 (last_there c.args.self.now _ c.requires) (λ x. x) (c.in_err-close.ensures.taken free))
+
+pub returns-in_err-close-clause-cause : goal.returns-in_err-close-clause-cause
+returns-in_err-close-clause-cause g c =
+    let a = g.F.FileSystem.meter c.args.files.now in
+    let b = g.F.FileSystem.meter c.close.new.files in
+    exit_cause (Unit {0}) (Rises 1 a b) ⊥ ⊥ ⊥ c.from_residual.result c.in_err-close.field-0.0 c.from_residual.ensures.1
+    (counted_cause (Unit {0}) (Unit {0}) ⊥ a b c.in_err-close.field-0.0 c.in_err-close.ensures.counted (λ e. last_there c.args.self.now _ c.requires (c.in_err-close.ensures.not_found e)))

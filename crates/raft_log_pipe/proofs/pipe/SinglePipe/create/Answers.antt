@@ -19,6 +19,10 @@ use Rattle.raft_log_pipe.proofs.ExitLemmas.{first_holds, first_pipe, last_for}
 use Rattle.raft_log_pipe.proofs.AloneLemmas.{first_alone, made_header, refused_header}
 use Rattle.raft_log_pipe.proofs.NextLemmas.{made_begun}
 use Rattle.raft_log_pipe.proofs.OthersLemmas.{made_others, refused_others}
+use Rattle.raft_log_disk.specs.Cause.{Rises}
+use Rattle.std.proofs.Common.{refl}
+use Rattle.raft_log_pipe.specs.Caused.{LacksDirectory}
+use Rattle.raft_log_pipe.proofs.CausedLemmas.{exit_cause, lacks_before, rises_then}
 use Rattle.raft_log_pipe.proofs.pipe.SinglePipe.create.Goals as goal
 
 pub returns-clause-pipe : goal.returns-clause-pipe
@@ -97,3 +101,22 @@ returns-in_err-writer-clause-taken g c =
     exit_io (Unit {0}) SinglePipe ⊥ (HasDirectory d.directories path → ⊥) (IsNoNewFile d path) c.from_residual-in_err-writer.result c.in_err-writer.field-0.0 c.from_residual-in_err-writer.ensures.1
     (still_taken LogFileWriter (Unit {0}) (IsNoFile (g.F.FileSystem.disk c.new_file.new.files) c.in_ok-file.file.handle.0) ⊥ (HasDirectory d.directories path → ⊥) (IsNoNewFile d path) c.in_err-writer.field-0.0
     (λ none. absurd (made_there _ _ _ c.in_ok-file.file c.in_ok-file.ensures.created none)) (λ x. absurd x) (c.in_err-writer.ensures.taken (still_free free c.in_ok-file.ensures.later)))
+
+pub returns-in_err-file-clause-cause : goal.returns-in_err-file-clause-cause
+returns-in_err-file-clause-cause g c =
+    let d = g.F.FileSystem.disk c.args.files.now in
+    let lacks : Type 0 = LacksDirectory d (map string_bytes c.args.paths.items) (id_of c.args.queue 1) in
+    let rises : Type 0 = Rises 1 (g.F.FileSystem.meter c.args.files.now) (g.F.FileSystem.meter c.new_file.new.files) in
+    exit_cause (Unit {0}) rises ⊥ ⊥ lacks c.from_residual.result c.in_err-file.field-0.0 c.from_residual.ensures.1
+    (still_taken File (Unit {0}) (LacksDirectory d (map string_bytes c.deref.result.now) c.new-id.result) rises lacks rises c.in_err-file.field-0.0
+    (lacks_before d d _ _ _ _ refl (ap (λ (l : List (String Global)). map string_bytes l) c.deref.ensures.value) (λ i. record { queue = c.new-id.ensures.queue i; seq = c.new-id.ensures.seq i })) (λ x. x) c.in_err-file.ensures.cause)
+
+pub returns-in_err-writer-clause-cause : goal.returns-in_err-writer-clause-cause
+returns-in_err-writer-clause-cause g c =
+    let a = g.F.FileSystem.meter c.args.files.now in
+    let b = g.F.FileSystem.meter c.new_file.new.files in
+    let e = g.F.FileSystem.meter c.begin_file.new.files in
+    let lacks : Type 0 = LacksDirectory (g.F.FileSystem.disk c.args.files.now) (map string_bytes c.args.paths.items) (id_of c.args.queue 1) in
+    exit_cause (Unit {0}) (Rises 1 a e) ⊥ ⊥ lacks c.from_residual-in_err-writer.result c.in_err-writer.field-0.0 c.from_residual-in_err-writer.ensures.1
+    (still_taken LogFileWriter (Unit {0}) (IsNoFile (g.F.FileSystem.disk c.new_file.new.files) c.in_ok-file.file.handle.0) (Rises 1 b e) lacks (Rises 1 a e) c.in_err-writer.field-0.0
+    (λ none. absurd (made_there _ _ _ c.in_ok-file.file c.in_ok-file.ensures.created none)) (rises_then 0 1 a b e c.in_ok-file.ensures.later.counts) c.in_err-writer.ensures.cause)

@@ -3,6 +3,13 @@ use Rattle.raft_log_pipe.proofs.GiveUpLemmas.{ended_leaves}
 use Rattle.raft_log_pipe.proofs.AloneLemmas.{alone_on, nearly, nearly_on}
 use Rattle.raft_log_pipe.proofs.OthersLemmas.{others_on}
 use Rattle.raft_log_disk.proofs.RefusalLemmas.{no_more_then}
+use Rattle.std.proofs.Common.{◌≡◌, ap, arith}
+use Rattle.raft_log_disk.specs.Cause.{Rises}
+use Rattle.raft_log_pipe.specs.declared.file.File.{File}
+use Rattle.raft_log_pipe.specs.Caused.{LacksNumber, LacksPlace}
+use Rattle.raft_log_pipe.specs.Taken.{IsUnnumbered}
+use Rattle.raft_log_pipe.proofs.TakenLemmas.{still_taken}
+use Rattle.raft_log_pipe.proofs.CausedLemmas.{caused_for, place_before, rises_then, told_second}
 use Rattle.raft_log_pipe.proofs.pipe.SinglePipe.give_up.Goals as goal
 
 pub returns-in-Ok-clause-leaves : goal.returns-in-Ok-clause-leaves
@@ -35,3 +42,24 @@ returns-in-Err-go_on-clause-others g c =
 
 pub returns-in-Err-go_on-clause-later : goal.returns-in-Err-go_on-clause-later
 returns-in-Err-go_on-clause-later g c = no_more_then c.in_default.ensures.later c.in-Err-go_on.ensures.later
+
+pub returns-in-Err-clause-cause : goal.returns-in-Err-clause-cause
+returns-in-Err-clause-cause g c =
+    let p = c.args.self.now in
+    let rises : Type 0 = Rises 1 (g.F.FileSystem.meter c.args.files.now) (g.F.FileSystem.meter c.finish.new.files) in
+    caused_for rises ⊥ (IsUnnumbered p) ⊥ rises (Unit {0}) (LacksNumber p 1) (LacksPlace p (g.F.FileSystem.disk c.args.files.now) 1) c.in-Err.error (λ x. x) (λ x. absurd x) (λ x. x) (λ x. absurd x) c.in-Err.ensures.cause
+
+pub returns-in-Err-go_on-clause-cause : goal.returns-in-Err-go_on-clause-cause
+returns-in-Err-go_on-clause-cause g c =
+    let p = c.args.self.now in
+    let q = c.finish.new.self in
+    let d = g.F.FileSystem.disk c.args.files.now in
+    let y = g.F.FileSystem.disk c.finish.new.files in
+    let a = g.F.FileSystem.meter c.args.files.now in
+    let b = g.F.FileSystem.meter c.finish.new.files in
+    let e = g.F.FileSystem.meter c.go_on.new.files in
+    let same : q.active.seq ≡ p.active.seq = ap (λ (f : File). f.seq) c.in_default.ensures.same.0 in
+    told_second (Unit {0}) (Rises 1 a e) (Unit {0}) (LacksNumber p 1) (LacksPlace p d 1) c.of_second_append.result c.in-Err-go_on.fault c.of_second_append.ensures (λ x. tt)
+    (still_taken (Unit {0}) (Unit {0}) (LacksPlace q y 1) (Rises 1 b e) (LacksPlace p d 1) (Rises 1 a e) c.in-Err-go_on.fault
+    (place_before p q d y 0 1 c.in_default.ensures.others.directories c.in_default.ensures.paths c.in_default.ensures.same.2 (omega (arith, same)))
+    (rises_then 0 1 a b e c.in_default.ensures.later.counts) c.in-Err-go_on.ensures.cause)

@@ -16,6 +16,11 @@ use Rattle.raft_log_disk.proofs.RefusalLemmas.{no_more_then, still_free}
 use Rattle.raft_log_pipe.proofs.TakenLemmas.{exit_fault, made_there}
 use Rattle.raft_log_file.specs.declared.writer.LogFileWriter.{LogFileWriter}
 use Rattle.raft_log_pipe.specs.Taken.{IsBarred, IsUnmade}
+use Rattle.raft_log_disk.specs.Cause.{Rises}
+use Rattle.raft_log_pipe.specs.declared.file.File.{File}
+use Rattle.std.proofs.Common.{refl}
+use Rattle.raft_log_pipe.specs.Caused.{LacksDirectory, LacksPlace}
+use Rattle.raft_log_pipe.proofs.CausedLemmas.{lacks_before, rises_then}
 use Rattle.raft_log_pipe.proofs.pipe.SinglePipe.go_on.Goals as goal
 
 pub returns-in_err-file-clause-writer : goal.returns-in_err-file-clause-writer
@@ -111,3 +116,20 @@ returns-in_err-writer-clause-taken g c = λ free.
     c.from_residual-in_err-writer.result c.in_err-writer.field-0.0 c.from_residual-in_err-writer.ensures.1
     (λ none. absurd (made_there _ _ _ c.in_ok-file.file c.in_ok-file.ensures.created none)) (λ x. absurd x)
     (c.in_err-writer.ensures.taken (still_free free c.in_ok-file.ensures.later))
+
+pub returns-in_err-file-clause-cause : goal.returns-in_err-file-clause-cause
+returns-in_err-file-clause-cause g c =
+    let d = g.F.FileSystem.disk c.args.files.now in
+    let rises : Type 0 = Rises 1 (g.F.FileSystem.meter c.args.files.now) (g.F.FileSystem.meter c.new_file.new.files) in
+    exit_fault File (Unit {0}) (LacksDirectory d (map string_bytes c.deref.result.now) c.new-id.result) rises (LacksPlace c.args.self.now d 1) rises c.from_residual.result c.in_err-file.field-0.0 c.from_residual.ensures.1
+    (lacks_before d d _ _ _ _ refl (ap (λ (l : List (String Global)). map string_bytes l) c.deref.ensures.value) (λ i. record { queue = c.new-id.ensures.queue i; seq = c.new-id.ensures.seq i })) (λ x. x)
+    c.in_err-file.ensures.cause
+
+pub returns-in_err-writer-clause-cause : goal.returns-in_err-writer-clause-cause
+returns-in_err-writer-clause-cause g c =
+    let a = g.F.FileSystem.meter c.args.files.now in
+    let b = g.F.FileSystem.meter c.new_file.new.files in
+    let e = g.F.FileSystem.meter c.begin_file.new.files in
+    exit_fault LogFileWriter (Unit {0}) (IsNoFile (g.F.FileSystem.disk c.new_file.new.files) c.in_ok-file.file.handle.0) (Rises 1 b e) (LacksPlace c.args.self.now (g.F.FileSystem.disk c.args.files.now) 1) (Rises 1 a e)
+    c.from_residual-in_err-writer.result c.in_err-writer.field-0.0 c.from_residual-in_err-writer.ensures.1
+    (λ none. absurd (made_there _ _ _ c.in_ok-file.file c.in_ok-file.ensures.created none)) (rises_then 0 1 a b e c.in_ok-file.ensures.later.counts) c.in_err-writer.ensures.cause

@@ -6,6 +6,8 @@ use Rattle.raft_log_pipe.specs.declared.pipe.SinglePipe.{SinglePipe}
 use Rattle.raft_log_pipe.proofs.OpenLemmas.{found_so, opened_holds, opened_keeps, opened_pipe, resumed_on}
 use Rattle.raft_log_pipe.proofs.AloneLemmas.{found_alone}
 use Rattle.raft_log_pipe.proofs.TakenLemmas.{exit_io, named_there, still_taken}
+use Rattle.raft_log_disk.specs.Cause.{Rises}
+use Rattle.raft_log_pipe.proofs.CausedLemmas.{exit_cause}
 use Rattle.raft_log_pipe.proofs.pipe.SinglePipe.open.Goals as goal
 
 pub returns-clause-pipe : goal.returns-clause-pipe
@@ -45,3 +47,12 @@ returns-in_err-writer-clause-taken g c =
     exit_io (Unit {0}) SinglePipe ⊥ ⊥ ⊥ c.from_residual.result c.in_err-writer.field-0.0 c.from_residual.ensures.1
     (still_taken LogFileWriter (Unit {0}) (IsNoFile d c.in-Some.active.handle.0) ⊥ ⊥ ⊥ c.in_err-writer.field-0.0
     (λ none. none (named_there d.names so.named.0 c.in-Some.active.handle.0 so.named.1)) (λ x. x) (c.in_err-writer.ensures.taken free))
+
+pub returns-in_err-writer-clause-cause : goal.returns-in_err-writer-clause-cause
+returns-in_err-writer-clause-cause g c =
+    let d = g.F.FileSystem.disk c.args.files.now in
+    let so = found_so c.args.queue c.args.paths.items d c.args.found.items c.pop.new.self.items c.in-Some.active c.requires.found.0 c.in-Some.ensures.items c.requires.found.1 in
+    let rises : Type 0 = Rises 1 (g.F.FileSystem.meter c.args.files.now) (g.F.FileSystem.meter c.resume_file.new.files) in
+    exit_cause (Unit {0}) rises ⊥ ⊥ ⊥ c.from_residual.result c.in_err-writer.field-0.0 c.from_residual.ensures.1
+    (still_taken LogFileWriter (Unit {0}) (IsNoFile d c.in-Some.active.handle.0) rises ⊥ rises c.in_err-writer.field-0.0
+    (λ none. none (named_there d.names so.named.0 c.in-Some.active.handle.0 so.named.1)) (λ x. x) c.in_err-writer.ensures.cause)

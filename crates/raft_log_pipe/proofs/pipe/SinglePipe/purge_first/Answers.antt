@@ -12,6 +12,8 @@ use Rattle.raft_log_disk.proofs.RefusalLemmas.{no_more_call, taken_call}
 use Rattle.raft_log_pipe.specs.Taken.{HasLost}
 use Rattle.raft_log_pipe.proofs.LostLemmas.{first_lost, lost_before}
 use Rattle.raft_log_pipe.proofs.TakenLemmas.{exit_io, still_taken}
+use Rattle.raft_log_disk.specs.Cause.{Rises}
+use Rattle.raft_log_pipe.proofs.CausedLemmas.{call_cause, exit_cause}
 use Rattle.raft_log_pipe.proofs.pipe.SinglePipe.purge_first.Goals as goal
 
 pub build_file_path-requires : goal.build_file_path-requires
@@ -105,3 +107,15 @@ returns-in_err-delete-clause-later g c = no_more_call _ _ _ _ _ _ _ (Err c.in_er
 
 pub returns-clause-later : goal.returns-clause-later
 returns-clause-later g c = no_more_call _ _ _ _ _ _ _ (Ok tt) c.in_ok-delete.ensures.cause c.in_ok-delete.ensures.call c.in_ok-delete.ensures.bound
+
+pub returns-in_err-delete-clause-cause : goal.returns-in_err-delete-clause-cause
+returns-in_err-delete-clause-cause g c =
+    let p = c.args.self.now in
+    let d = g.F.FileSystem.disk c.args.files.now in
+    let lost : Type 0 = HasLost p d (first_of p + 1) in
+    let rises : Type 0 = Rises 1 (g.F.FileSystem.meter c.args.files.now) (g.F.FileSystem.meter c.delete.new.self) in
+    exit_cause (Unit {0}) rises ⊥ ⊥ lost c.from_residual-in_err-delete.result c.in_err-delete.field-0.0 c.from_residual-in_err-delete.ensures.1
+    (still_taken (Unit {0}) (Unit {0}) (fd_of d.names c.as_str-2.result.now ≡ None) rises lost rises c.in_err-delete.field-0.0
+    (first_lost p c.index-file.result.now c.index.result.now d c.as_str-2.result.now c.requires.pipe c.requires.some c.index-file.ensures c.index.ensures
+    (c.as_str-2.ensures.value ∙ c.in_ok-path.ensures ∙ (λ i. c.as_str.ensures.value i ++ 47 ∷ log_file_name (record { queue = c.new-id.ensures.queue i; seq = c.new-id.ensures.seq i }))))
+    (λ x. x) (call_cause (Unit {0}) (Unit {0}) (fd_of d.names c.as_str-2.result.now ≡ None) ⊥ _ _ c.in_err-delete.field-0.0 c.in_err-delete.ensures.cause))

@@ -7,6 +7,10 @@ use Rattle.raft_log_pipe.specs.Taken.{HasLost}
 use Rattle.raft_log_pipe.proofs.LostLemmas.{alone_purge, lost_more}
 use Rattle.raft_log_pipe.proofs.TakenLemmas.{exit_error, taken_for}
 use Rattle.raft_log_pipe.proofs.PurgeLemmas.{first_more, first_or_more, goes_on, gone_on, holds_all, in_files, none_gone, rest_on, same_keeps}
+use Rattle.raft_log_disk.specs.Cause.{Rises}
+use Rattle.raft_log_files.specs.declared.error.Error.{Error}
+use Rattle.raft_log_pipe.specs.Caused.{IsPurgeFault}
+use Rattle.raft_log_pipe.proofs.CausedLemmas.{caused_for, purge_found, rises_then, told_cause}
 use Rattle.raft_log_pipe.proofs.pipe.SinglePipe.purge_to.Goals as goal
 
 pub returns-in_default-clause-holds : goal.returns-in_default-clause-holds
@@ -84,3 +88,21 @@ returns-in_err-purge_first-clause-taken g c =
 
 pub returns-in_err-purge_first-clause-there : goal.returns-in_err-purge_first-clause-there
 returns-in_err-purge_first-clause-there g c = λ free. alone_purge c.args.self.now (g.F.FileSystem.disk c.args.files.now) c.args.seq c.from_residual.result (returns-in_err-purge_first-clause-taken g c free)
+
+pub returns-in_err-purge_first-clause-cause : goal.returns-in_err-purge_first-clause-cause
+returns-in_err-purge_first-clause-cause g c =
+    let p = c.args.self.now in
+    let d = g.F.FileSystem.disk c.args.files.now in
+    let q = c.loop-gone.self in
+    let y = g.F.FileSystem.disk c.loop-gone.files in
+    let a = g.F.FileSystem.meter c.args.files.now in
+    let b = g.F.FileSystem.meter c.loop-gone.files in
+    let e = g.F.FileSystem.meter c.purge_first.new.files in
+    let next : first_of q + 1 ≤ c.args.seq = omega (arith, c.loop-gone.invariant.count, c.file_span-first.ensures.first, c.in-Some.ensures.found.1) in
+    told_cause c.from_residual.result c.in_err-purge_first.field-0.0 (λ (x : Error). IsPurgeFault p d c.args.seq a e x) c.from_residual.ensures.1
+    (inr (caused_for (Rises 1 b e) ⊥ ⊥ (HasLost q y (first_of q + 1)) (Rises 1 a e) ⊥ ⊥ (HasLost p d c.args.seq) c.in_err-purge_first.field-0.0 (rises_then 0 1 a b e c.loop-gone.invariant.later.counts) (λ x. x) (λ x. x)
+    (λ lost. lost_more p d (first_of q + 1) c.args.seq next (c.loop-gone.invariant.lost (first_of q + 1) lost)) c.in_err-purge_first.ensures.cause))
+
+pub returns-in_err-purge_first-clause-found : goal.returns-in_err-purge_first-clause-found
+returns-in_err-purge_first-clause-found g c =
+    purge_found c.args.self.now (g.F.FileSystem.disk c.args.files.now) c.args.seq (g.F.FileSystem.meter c.args.files.now) (g.F.FileSystem.meter c.purge_first.new.files) c.from_residual.result (returns-in_err-purge_first-clause-cause g c)

@@ -11,6 +11,7 @@ use Rattle.raft_log_disk.specs.Disk.{IsNoFile}
 use Rattle.raft_log_file.proofs.LawLemmas.{length-spelled}
 use Rattle.raft_log_pipe.specs.Taken.{IsTooLarge}
 use Rattle.raft_log_pipe.proofs.TakenLemmas.{last_there, still_taken}
+use Rattle.raft_log_pipe.proofs.CausedLemmas.{counted_cause}
 use Rattle.raft_log_pipe.proofs.pipe.SinglePipe.put.Goals as goal
 
 pub returns-in-Err-clause-pipe : goal.returns-in-Err-clause-pipe
@@ -93,3 +94,8 @@ returns-clause-fits g c =
     let text : c.encoded_bytes-bytes.result.now ≡ spell_record (signature_of c.args.self.now.active.format.version c.args.self.now.active.seq) c.args.batch.now.items
     = record_is c.args.batch.now _ _ _ _ c.requires.populated c.prepare_write.ensures c.encoded_bytes-bytes.ensures signature in
     omega (arith, c.offset-offset.ensures, c.offset-end.ensures, c.in_default.ensures.ok, ap length text, length-spelled (signature_of c.args.self.now.active.format.version c.args.self.now.active.seq) c.args.batch.now.items)
+
+pub returns-in-Err-clause-cause : goal.returns-in-Err-clause-cause
+returns-in-Err-clause-cause g c =
+    counted_cause (Unit {0}) FileBlockHandle ⊥ (g.F.FileSystem.meter c.args.files.now) (g.F.FileSystem.meter c.write.new.files) c.in-Err.fault c.in-Err.ensures.counted
+    (λ e. last_there c.args.self.now _ c.requires.pipe (c.in-Err.ensures.not_found e))

@@ -3,7 +3,15 @@ use Rattle.raft_log_disk.proofs.CauseLemmas.{at_err}
 use Rattle.raft_log_pipe.proofs.ExitLemmas.{then_holds, then_leaves}
 use Rattle.raft_log_pipe.proofs.AloneLemmas.{alone_on, nearly_on}
 use Rattle.raft_log_pipe.proofs.OthersLemmas.{others_on}
-use Rattle.raft_log_disk.proofs.RefusalLemmas.{no_more_then, still_free}
+use Rattle.raft_log_disk.proofs.RefusalLemmas.{no_more_then}
+use Rattle.std.proofs.Common.{ap, ◌≡◌, arith}
+use Rattle.raft_log_disk.specs.Cause.{Rises}
+use Rattle.raft_log_pipe.specs.declared.file.File.{File}
+use Rattle.raft_log_pipe.specs.Caused.{IsCaused, LacksPlace}
+use Rattle.raft_log_pipe.specs.Taken.{IsUnnumbered}
+use Rattle.raft_log_files.specs.declared.error.Error.{Error}
+use Rattle.raft_log_pipe.proofs.TakenLemmas.{still_taken}
+use Rattle.raft_log_pipe.proofs.CausedLemmas.{caused_for, exit_cause, place_before, rises_then, told_cause}
 use Rattle.raft_log_pipe.proofs.pipe.SinglePipe.rotate.Goals as goal
 
 pub returns-in_err-go_on-clause-err : goal.returns-in_err-go_on-clause-err
@@ -34,3 +42,25 @@ returns-clause-others g c =
 
 pub returns-in_err-go_on-clause-later : goal.returns-in_err-go_on-clause-later
 returns-in_err-go_on-clause-later g c = no_more_then c.in_ok-finish.ensures.later c.in_err-go_on.ensures.later
+
+pub returns-in_err-finish-clause-cause : goal.returns-in_err-finish-clause-cause
+returns-in_err-finish-clause-cause g c =
+    let rises : Type 0 = Rises 1 (g.F.FileSystem.meter c.args.files.now) (g.F.FileSystem.meter c.finish.new.files) in
+    let place : Type 0 = LacksPlace c.args.self.now (g.F.FileSystem.disk c.args.files.now) 1 in
+    told_cause c.from_residual.result c.in_err-finish.field-0.0 (λ (e : Error). IsCaused rises ⊥ (IsUnnumbered c.args.self.now) place e) c.from_residual.ensures.1
+    (caused_for rises ⊥ (IsUnnumbered c.args.self.now) ⊥ rises ⊥ (IsUnnumbered c.args.self.now) place c.in_err-finish.field-0.0 (λ x. x) (λ x. x) (λ x. x) (λ x. absurd x) c.in_err-finish.ensures.cause)
+
+pub returns-in_err-go_on-clause-cause : goal.returns-in_err-go_on-clause-cause
+returns-in_err-go_on-clause-cause g c =
+    let p = c.args.self.now in
+    let q = c.finish.new.self in
+    let d = g.F.FileSystem.disk c.args.files.now in
+    let y = g.F.FileSystem.disk c.finish.new.files in
+    let a = g.F.FileSystem.meter c.args.files.now in
+    let b = g.F.FileSystem.meter c.finish.new.files in
+    let e = g.F.FileSystem.meter c.go_on.new.files in
+    let same : q.active.seq ≡ p.active.seq = ap (λ (f : File). f.seq) c.in_ok-finish.ensures.same.0 in
+    exit_cause (Unit {0}) (Rises 1 a e) ⊥ (IsUnnumbered p) (LacksPlace p d 1) c.from_residual-in_err-go_on.result c.in_err-go_on.field-0.0 c.from_residual-in_err-go_on.ensures.1
+    (still_taken (Unit {0}) (Unit {0}) (LacksPlace q y 1) (Rises 1 b e) (LacksPlace p d 1) (Rises 1 a e) c.in_err-go_on.field-0.0
+    (place_before p q d y 0 1 c.in_ok-finish.ensures.others.directories c.in_ok-finish.ensures.paths c.in_ok-finish.ensures.same.2 (omega (arith, same)))
+    (rises_then 0 1 a b e c.in_ok-finish.ensures.later.counts) c.in_err-go_on.ensures.cause)

@@ -43,3 +43,9 @@ returns-in-Rewrite-clause-both g c =
     let other = beside Rewrite c.args.self.now.append _ _ (not_rewrite c.args.self.now.append.queue c.args.self.now.appends) (met.is_named c.args.files.now) (met.is_named c.purge_to-in-Rewrite.new.files)
     (keeps_as c.args.self.now.rewrite.queue Rewrite _ _ c.args.self.now.rewrites (gone_others c.args.self.now.rewrite.queue _ _ _ c.purge_to-in-Rewrite.ensures.keeps)) in
     λ pipes. both_rewrite c.args.self.now _ _ _ refl other pipes c.purge_to-in-Rewrite.ensures.pipe
+
+pub returns-in-Append-clause-cause : goal.returns-in-Append-clause-cause
+returns-in-Append-clause-cause g c = rw c.in-Append.is c.purge_to.ensures.cause
+
+pub returns-in-Rewrite-clause-cause : goal.returns-in-Rewrite-clause-cause
+returns-in-Rewrite-clause-cause g c = rw c.in-Rewrite.is c.purge_to-in-Rewrite.ensures.cause

@@ -48,3 +48,9 @@ returns-in-Append-clause-taken g c = rw c.in-Append.is c.rotate.ensures.taken
 
 pub returns-in-Rewrite-clause-taken : goal.returns-in-Rewrite-clause-taken
 returns-in-Rewrite-clause-taken g c = rw c.in-Rewrite.is c.rotate-in-Rewrite.ensures.taken
+
+pub returns-in-Append-clause-cause : goal.returns-in-Append-clause-cause
+returns-in-Append-clause-cause g c = rw c.in-Append.is c.rotate.ensures.cause
+
+pub returns-in-Rewrite-clause-cause : goal.returns-in-Rewrite-clause-cause
+returns-in-Rewrite-clause-cause g c = rw c.in-Rewrite.is c.rotate-in-Rewrite.ensures.cause
