@@ -11,6 +11,7 @@ mod Seen
 pub mod Tables
 pub mod Settled
 pub mod Reopened
+pub mod Tails
 mod Visits
 pub mod Since
 pub mod Synced

@@ -1,17 +1,20 @@
 -- What an opening of an engine's files answers, after a crash or without one.
 use Rattle.std.specs.Prelude.{◌≡◌, ℕ, List, take}
+use Rattle.raft_log_records.specs.declared.file_id.LogQueue.{LogQueue}
 use Rattle.raft_log_disk.specs.Disk.{Disk}
 use Rattle.raft_log_disk.specs.Image.{Image}
 use Rattle.raft_log_disk.specs.Text.{Text}
 use Rattle.raft_log_files.specs.declared.recovery.RecoveryMode.{RecoveryMode}
+use Rattle.raft_log_files.specs.declared.recovery.RecoveryMode.TheVariants.{TolerateTailCorruption}
 use Rattle.raft_log_file.specs.Laws.{Batch}
 use Rattle.raft_log_pipe.specs.Alone.{IsAlone, directories_of_pipe}
 use Rattle.raft_log_pipes.specs.declared.pipes.DualPipes.{DualPipes}
+use Rattle.raft_log_pipes.specs.Pipes.{pipe_of}
 use Rattle.raft_log_memtables.specs.Content.{Content}
-use Rattle.raft_log_recovery.specs.Crashed.{IsCrashed}
+use Rattle.raft_log_recovery.specs.Crashed.{HasHole, IsCrashed}
 use Rattle.raft_content_log.specs.Leaving.{IsEither}
 use Rattle.raft_log_engine.specs.Held.{Parts}
-use Rattle.raft_log_engine.specs.Opening.{IsFoundContent}
+use Rattle.raft_log_engine.specs.Opening.{CantBeOpened, IsFoundContent}
 use Rattle.raft_log_engine.specs.Since.{after_batches}
 
 -- whatever a crash leaves of a disk, an opening of it answers this content, in each mode, unless bytes that nobody wrote pass
@@ -29,6 +32,11 @@ abbrev pub OpensAsFront : List Text → Disk → Content (List ℕ) → List Bat
 OpensAsFront directories d before batches =
     (image : Image) (e : Disk) (mode : RecoveryMode) (found : Content (List ℕ)) → IsCrashed d image e → IsFoundContent mode directories e found
     → (k : ℕ) × (found ≡ after_batches (take k batches) before)
+
+-- Whatever a crash leaves of a disk, an opening that tolerates a torn tail finds nothing that it refuses: no fault before the last
+-- file of a queue, and no alignment. But where a pipe has a hole: a file without bytes before its last one
+abbrev pub OpensInTail : List Text → Disk → DualPipes → Type 0
+OpensInTail directories d p = (image : Image) (e : Disk) (queue : LogQueue) → IsCrashed d image e → CantBeOpened TolerateTailCorruption directories queue e → HasHole (pipe_of p queue) d
 
 -- where files of both queues lie
 abbrev pub directories_of_pipes : DualPipes → List Text

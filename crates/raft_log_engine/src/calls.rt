@@ -4,7 +4,7 @@ ghost use Rattle.raft_content_log.specs.Leaving.{AgreesElsewhere, IsWritten, Lea
 ghost use Rattle.raft_log_disk.specs.Cause.{NothingRefuses, RefusesNoMore};
 ghost use Rattle.raft_log_engine.specs.Left.{IsSound, answers_on, leaves_on};
 ghost use Rattle.raft_log_engine.specs.Reads.{HasRead};
-ghost use Rattle.raft_log_engine.specs.Reopened.{OpensAs, OpensAsEither, OpensAsFront, StandsAlone, directories_of_engine};
+ghost use Rattle.raft_log_engine.specs.Reopened.{OpensAs, OpensAsEither, OpensAsFront, OpensInTail, StandsAlone, directories_of_engine};
 ghost use Rattle.raft_log_engine.specs.Since.{HasWritten, written_batch};
 ghost use Rattle.raft_log_engine.specs.Taken.{IsSyncTaken, IsWriteTaken};
 ghost use Rattle.raft_log_engine.specs.declared.fault.EngineFault.TheVariants.{Stopped};
@@ -46,6 +46,7 @@ impl<F: FileSystem + Drop> Engine<F> {
         ensures paths { self.new.pipes.append.paths ≡ self.old.pipes.append.paths }
         ensures alone { StandsAlone F.disk self.old → OnOk result (StandsAlone F.disk self.new) }
         ensures opens { StandsAlone F.disk self.old → OnOk result (sync ≡ true → OpensAs (directories_of_engine self.new) (F.disk self.new.files) (answers_on F.disk self.new)) }
+        ensures opens_in_tail { StandsAlone F.disk self.old → OnOk result (OpensInTail (directories_of_engine self.new) (F.disk self.new.files) self.new.pipes) }
         ensures opens_either { IsSound self.old → StandsAlone F.disk self.old → OnErr result (OpensAsEither (directories_of_engine self.new) (F.disk self.new.files)
             (answers_on F.disk self.old) (after_batch batch.old.items (answers_on F.disk self.old))) }
         ensures written { (before : Content (List ℕ)) (batches : List Batch) → HasWritten F.disk self.old before batches
@@ -100,6 +101,7 @@ impl<F: FileSystem + Drop> Engine<F> {
         ensures paths { self.new.pipes.append.paths ≡ self.old.pipes.append.paths }
         ensures alone { StandsAlone F.disk self.old → StandsAlone F.disk self.new }
         ensures opens { StandsAlone F.disk self.old → OnOk result (OpensAs (directories_of_engine self.new) (F.disk self.new.files) (answers_on F.disk self.new)) }
+        ensures opens_in_tail { StandsAlone F.disk self.old → OnOk result (OpensInTail (directories_of_engine self.new) (F.disk self.new.files) self.new.pipes) }
         ensures written { (before : Content (List ℕ)) (batches : List Batch) → HasWritten F.disk self.old before batches → HasWritten F.disk self.new before batches }
         ensures opens_front { (before : Content (List ℕ)) (batches : List Batch) → StandsAlone F.disk self.old → HasWritten F.disk self.old before batches
             → OpensAsFront (directories_of_engine self.new) (F.disk self.new.files) before batches }

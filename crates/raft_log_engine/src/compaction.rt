@@ -1,13 +1,16 @@
 //! Compaction of a group.
-ghost use Rattle.std.specs.Prelude.{◌≡◌, ◌∷◌, [], true, Err, IfOk, IfErr, OnOk, OnErr};
+ghost use Rattle.std.specs.Prelude.{◌≡◌, ◌∷◌, ◌++◌, ℕ, List, [], true, Err, IfOk, IfErr, OnOk, OnErr};
 ghost use Rattle.raft_content_log.specs.Leaving.{AgreesElsewhere, IsWritten, LeavesElsewhere, MayBeWritten};
 ghost use Rattle.raft_log_disk.specs.Cause.{NothingRefuses, RefusesNoMore};
 ghost use Rattle.raft_log_engine.specs.Left.{IsSound, answers_on, leaves_on};
 ghost use Rattle.raft_log_engine.specs.Reads.{compaction};
+ghost use Rattle.raft_log_engine.specs.Reopened.{OpensAs, OpensAsEither, OpensAsFront, OpensInTail, StandsAlone, directories_of_engine};
+ghost use Rattle.raft_log_engine.specs.Since.{HasWritten};
 ghost use Rattle.raft_log_engine.specs.Taken.{IsCompactionTaken};
 ghost use Rattle.raft_log_engine.specs.declared.fault.EngineFault.TheVariants.{Log, Stopped};
+ghost use Rattle.raft_log_file.specs.Laws.{Batch};
 ghost use Rattle.raft_log_files.specs.declared.error.Error.TheVariants.{Memory};
-ghost use Rattle.raft_log_memtables.specs.Content.{after_batch};
+ghost use Rattle.raft_log_memtables.specs.Content.{Content, after_batch};
 ghost use Rattle.raft_log_memtables.specs.Fetch.{count_before};
 
 use crate::blocks::of_record;
@@ -39,6 +42,17 @@ impl<F: FileSystem + Drop> Engine<F> {
         ensures err { IsSound self.old → OnErr result (MayBeWritten (IsSound self.new) (answers_on F.disk self.new) (leaves_on F.disk self.new)
             (answers_on F.disk self.old) (after_batch (compaction group index ∷ []) (answers_on F.disk self.old))) }
         ensures sound { IsSound self.old → OnOk result (IsSound self.new) }
+        ensures paths { self.new.pipes.append.paths ≡ self.old.pipes.append.paths }
+        ensures alone { StandsAlone F.disk self.old → OnOk result (StandsAlone F.disk self.new) }
+        ensures opens { StandsAlone F.disk self.old → OnOk result (OpensAs (directories_of_engine self.new) (F.disk self.new.files) (answers_on F.disk self.new)) }
+        ensures opens_in_tail { StandsAlone F.disk self.old → OnOk result (OpensInTail (directories_of_engine self.new) (F.disk self.new.files) self.new.pipes) }
+        ensures opens_either { IsSound self.old → StandsAlone F.disk self.old → OnErr result (OpensAsEither (directories_of_engine self.new) (F.disk self.new.files)
+            (answers_on F.disk self.old) (after_batch (compaction group index ∷ []) (answers_on F.disk self.old))) }
+        ensures written { (before : Content (List ℕ)) (batches : List Batch) → HasWritten F.disk self.old before batches
+            → OnOk result (HasWritten F.disk self.new before (batches ++ (compaction group index ∷ []) ∷ [])) }
+        ensures opens_front { (before : Content (List ℕ)) (batches : List Batch) → StandsAlone F.disk self.old → HasWritten F.disk self.old before batches
+            → OpensAsFront (directories_of_engine self.new) (F.disk self.new.files) before (batches ++ (compaction group index ∷ []) ∷ []) }
+        ensures all_written { OnOk result (HasWritten F.disk self.new (answers_on F.disk self.new) []) }
         ensures stopped { self.old.is_stopped ≡ true → result ≡ Err Stopped }
         ensures others { LeavesElsewhere (compaction group index ∷ []) (leaves_on F.disk self.old) (leaves_on F.disk self.new) }
         ensures others_answered { IsSound self.new → IsSound self.old × AgreesElsewhere (compaction group index ∷ []) (answers_on F.disk self.new) (answers_on F.disk self.old) }

@@ -13,6 +13,7 @@ ghost use Rattle.raft_log_engine.specs.declared.fault.EngineFault.TheVariants as
 ghost use Rattle.raft_log_engine.specs.Left.{answers_on};
 ghost use Rattle.raft_log_engine.specs.Log.{IsFoundBy, leaves_of_log, main_directory};
 ghost use Rattle.raft_log_engine.specs.Opening.{CantBeOpened, IsLeftByOpening};
+ghost use Rattle.raft_log_engine.specs.Reopened.{OpensInTail};
 ghost use Rattle.raft_log_files.specs.declared.error.CorruptionFault.{CorruptionFault};
 ghost use Rattle.raft_log_files.specs.declared.error.Error.TheVariants.{Corruption};
 ghost use Rattle.raft_log_files.specs.Settings.{settings_of};
@@ -128,6 +129,7 @@ impl MemoryLog {
         ensures sound { IfOk result (λ l. l.has_failed ≡ false) }
         ensures answers { IfOk result (λ l. IsFoundBy files.settings (disk_in files.files) (answers_on disk_in l.engine)) }
         ensures leaves { IfOk result (λ l. LeavesOnly (leaves_of_log disk_in l) (answers_on disk_in l.engine)) }
+        ensures opens_in_tail { IfOk result (λ l. OpensInTail (main_directory l.settings) (disk_in l.engine.files) l.engine.pipes) }
         ensures settings { IfOk result (λ l. l.settings ≡ files.settings) }
         ensures refused { IfErr result (λ refused. refused.files.settings ≡ files.settings) }
         ensures err { IfErr result (λ refused. IsLeftByOpening files.settings.recovery_mode (main_directory files.settings) (disk_in files.files) (disk_in refused.files.files)) }
@@ -195,6 +197,7 @@ impl MemoryLog {
             → leaves_of_log disk_in self content }
         ensures as_read { (content : Content (List ℕ)) → IsGenuineImage (disk_in result.files) (seen_image (disk_in result.files))
             → IsFoundBy result.settings (disk_in result.files) content → leaves_of_log disk_in self content }
+        ensures opens_in_tail { self.has_failed ≡ false → OpensInTail (main_directory self.settings) (disk_in result.files) self.engine.pipes }
     {
         LogFiles {
             settings: self.settings,

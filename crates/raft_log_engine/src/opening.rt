@@ -4,7 +4,7 @@ ghost use Rattle.raft_log_disk.specs.Cause.{RefusesNoMore};
 ghost use Rattle.raft_log_engine.specs.Left.{IsSound, answers_on};
 ghost use Rattle.raft_log_engine.specs.declared.fault.EngineFault.TheVariants.{Log};
 ghost use Rattle.raft_log_engine.specs.Opening.{CantBeOpened, IsFoundAgain, IsFoundContent, IsLeftByOpening, IsRecoveredAs};
-ghost use Rattle.raft_log_engine.specs.Reopened.{OpensAs, OpensAsFront, StandAlone, StandsAlone, directories_of_engine, directories_of_pipes};
+ghost use Rattle.raft_log_engine.specs.Reopened.{OpensAs, OpensAsFront, OpensInTail, StandAlone, StandsAlone, directories_of_engine, directories_of_pipes};
 ghost use Rattle.raft_log_engine.specs.Since.{HasWritten};
 ghost use Rattle.raft_log_file.specs.Laws.{Batch};
 ghost use Rattle.raft_log_memtables.specs.Content.{Content, nothing};
@@ -103,6 +103,7 @@ impl<F: FileSystem + Drop> Engine<F> {
         ensures alone { IfOk result (λ e. ((queue : LogQueue) → IsOnce (F.disk files).names (directories_of (settings_of config)) queue) → StandsAlone F.disk e) }
         ensures written { IfOk result (λ e. HasWritten F.disk e (answers_on F.disk e) []) }
         ensures opens { IfOk result (λ e. StandsAlone F.disk e → OpensAs (directories_of_engine e) (F.disk e.files) (answers_on F.disk e)) }
+        ensures opens_in_tail { IfOk result (λ e. StandsAlone F.disk e → OpensInTail (directories_of_engine e) (F.disk e.files) e.pipes) }
         ensures unread { IfOk result (λ e. e.block_reads ≡ 0) }
         ensures err { IfErr result (λ refused. IsLeftByOpening config.recovery_mode (directories_of (settings_of config)) (F.disk files) (F.disk refused.files)) }
         ensures reads { IfErr result (λ refused. IsFoundAgain config.recovery_mode (directories_of (settings_of config)) (F.disk files) (F.disk refused.files)) }

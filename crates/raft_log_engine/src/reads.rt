@@ -6,6 +6,7 @@ ghost use Rattle.std.specs.Ordering.{nat_cmp, eq_by_cmp};
 ghost use Rattle.std.specs.Set.{is_member};
 ghost use Rattle.raft_log_engine.specs.Left.{answers_on};
 ghost use Rattle.raft_log_engine.specs.Reads.{IsMessageFault, IsRead, IsStopped, IsTableFault, used_by};
+ghost use Rattle.raft_log_engine.specs.Reopened.{OpensInTail, StandsAlone, directories_of_engine};
 ghost use Rattle.raft_log_engine.specs.declared.fault.EngineFault.TheVariants.{Stopped};
 ghost use Rattle.raft_log_memtables.specs.Content.{no_group};
 ghost use Rattle.raft_log_memtables.specs.Entries.{IsFirst, IsLast};
@@ -150,7 +151,8 @@ impl<F: FileSystem + Drop> Engine<F> {
 
     /// The files, handed back with no call on them (own), as where a machine stops.
     pub fn abandon(self) -> F
-        ensures { result ≡ self.files }
+        ensures files { result ≡ self.files }
+        ensures opens_in_tail { self.is_stopped ≡ false → StandsAlone F.disk self → OpensInTail (directories_of_engine self) (F.disk result) self.pipes }
     {
         self.files
     }

@@ -214,7 +214,7 @@ past f signature (k ∷ ks) j at rest s are fits walk short =
 
 -- ---- images
 
-image_front : (f : FileState) (text bytes : List ℕ) → take (length text) f.kept ≡ text → length text ≤ f.least → ((i : ℕ) → i < length text → IsOutside i f.changed) → IsFileImage f bytes → bytes ≡ text ++ drop (length text) bytes
+pub image_front : (f : FileState) (text bytes : List ℕ) → take (length text) f.kept ≡ text → length text ≤ f.least → ((i : ℕ) → i < length text → IsOutside i f.changed) → IsFileImage f bytes → bytes ≡ text ++ drop (length text) bytes
 image_front f text bytes kept least outside image =
     let at : ℕ = length text in
     let low = image.no_shorter in

@@ -8,11 +8,13 @@ use Rattle.raft_log_disk.specs.Cause.{Meter}
 use Rattle.raft_log_disk.specs.Disk.{Disk, RefusedWrite, RefusedAllocate, RefusedTruncate, with_file, after_write, after_allocate, after_truncate, after_sync, put, filled, resized}
 use Rattle.raft_log_file.specs.declared.writer.LogFileWriter.{LogFileWriter}
 
--- the file reaches as far as the writer takes it to
+-- The file reaches as far as the writer takes it to, and no further than the room that the writer knows of. Where that room ends
+-- at the greatest number a refused write may have passed it
 pub record IsWriter (w : LogFileWriter) (d : Disk) : Type 0 where
   pub offset : w.offset ≤ w.reached
   pub reached : w.reached ≤ w.capacity
   pub long : w.reached ≤ length (d.file w.fd.0).bytes
+  pub within : w.capacity + 1 < 2 ^ 64 → length (d.file w.fd.0).bytes ≤ w.capacity
 
 -- room was made in a file from a place on, wholly, in part or not at all
 abbrev pub MakesRoom : Disk → Disk → ℕ → ℕ → ℕ → Type 0
@@ -43,9 +45,13 @@ abbrev pub Cuts : {E : Type 0} → Result (Unit {0}) E → Disk → Disk → ℕ
 Cuts (Ok u) old new fd len = new ≡ with_file old fd (after_truncate (old.file fd) len (resized (old.file fd).bytes len))
 Cuts (Err e) old new fd len = (new ≡ old) ⊎ RefusedTruncate old new fd len
 
+-- there is room behind the last write, or may be: where the room ends at the greatest number it isn't known
+abbrev pub HasRoom : LogFileWriter → Type 0
+HasRoom w = (w.offset < w.capacity) ⊎ (2 ^ 64 ≤ w.capacity + 1)
+
 -- room behind the last write is cut away, where there is any
 abbrev pub IsCut : {E : Type 0} → LogFileWriter → Result (Unit {0}) E → Disk → Disk → Type 0
-IsCut w result old new = ((w.capacity ≤ w.offset) × (new ≡ old)) ⊎ ((w.offset < w.capacity) × Cuts result old new w.fd.0 w.offset)
+IsCut w result old new = ((w.capacity ≤ w.offset) × (w.capacity + 1 < 2 ^ 64) × (new ≡ old)) ⊎ (HasRoom w × Cuts result old new w.fd.0 w.offset)
 
 -- room is cut away, and what is left is synced
 abbrev pub IsClosed : {E : Type 0} → LogFileWriter → Disk → Disk → Result (Unit {0}) E → Type 0

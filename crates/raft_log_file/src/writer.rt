@@ -110,7 +110,8 @@ impl LogFileWriter {
         files.sync(self.fd)
     }
 
-    /// Cuts away what was made room for behind the last write.
+    /// Cuts away what was made room for behind the last write. Where that room ends at the greatest
+    /// number a refused write may have passed it, and the file is cut in any case.
     pub fn truncate<F: FileSystem>(&mut self, files: &mut F) -> Result<(), IoFault>
         requires { IsWriter self.old (F.disk files.old) }
         ensures cuts { IsCut self.old result (F.disk files.old) (F.disk files.new) }
@@ -123,7 +124,7 @@ impl LogFileWriter {
         ensures later { RefusesNoMore (F.is_bounded files.old) (F.is_bounded files.new) (F.meter files.old) (F.meter files.new) }
         ensures taken { NothingRefuses (F.is_bounded files.old) (F.meter files.old) → IsTaken (IsNoFile (F.disk files.old) self.old.fd.0) ⊥ result }
     {
-        if self.capacity <= self.offset {
+        if self.capacity <= self.offset && self.capacity < u64::MAX {
             return Ok(());
         }
         self.reached = self.offset;

@@ -25,7 +25,7 @@ use Rattle.raft_log_pipe.specs.Blocks.{files_of}
 use Rattle.raft_log_pipe.specs.Found.{MakesButHeader}
 use Rattle.raft_log_pipe.specs.Pipe.{AreConsecutive, IsNamedSo, IsPlain, id_of}
 use Rattle.raft_log_pipe.specs.Stored.{IsStored}
-use Rattle.raft_log_pipe.proofs.PipeLemmas.{image_there, in_all, olders_read, stays}
+use Rattle.raft_log_pipe.proofs.PipeLemmas.{image_there, in_all, leaves_last, stays}
 use Rattle.raft_log_pipe.proofs.NextLemmas.{begun_changes, begun_stored, consecutive_push, new_empty, path_says, some_is, with_next}
 
 -- ---- names
@@ -279,8 +279,7 @@ pub nearly_begun : (p : SinglePipe) (g : Disk) (f : File) (offset : ℕ) → Are
 nearly_begun p g f offset last stored = record {
   others = f ∷ [];
   last = last;
-  none = λ image are genuine.
-      (0, olders_read p.queue g image (f ∷ []) [] are genuine ([], [], refl, record { offset = offset; named = last_named p g f last; stored = inl stored }, refl));
+  none = leaves_last p.queue [] f g [] [] [] [] [] refl refl refl (last_named p g f last) stored.unsynced;
 }
 
 -- it was perhaps made

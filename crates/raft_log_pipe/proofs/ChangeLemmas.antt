@@ -1,8 +1,8 @@
 -- What a writer makes of the last file of a pipe.
-use Rattle.std.proofs.Common.{◌≡◌, ◌≢◌, inl, inr, ℕ, ◌+◌, ◌<◌, ◌≤◌, List, [], ◌∷◌, ◌++◌, length, refl, sym, ap, subst, ◌∙◌, arith, Option}
-use Rattle.std.specs.Prelude.{Result, Ok, Err}
+use Rattle.std.proofs.Common.{◌≡◌, ◌≢◌, inl, inr, ℕ, ◌+◌, ◌-◌, ◌<◌, ◌≤◌, List, [], ◌∷◌, ◌++◌, length, take, refl, sym, ap, subst, ◌∙◌, arith, length-append, Option}
+use Rattle.std.specs.Prelude.{Result, Ok, Err, replicate}
 use Rattle.std.specs.List.{AllByRecursion}
-use Rattle.std.proofs.lemmas.List.{map-append}
+use Rattle.std.proofs.lemmas.List.{length-replicate, length-take-le, map-append}
 use Rattle.raft_log_records.specs.declared.file_id.FileId.{FileId}
 use Rattle.raft_log_records.specs.Signature.{signature_of}
 use Rattle.raft_log_records.specs.Spelling.{AreItems, spell_record}
@@ -20,7 +20,7 @@ use Rattle.raft_log_file.proofs.UnsyncedLemmas.{unsynced_batches_grow}
 use Rattle.raft_log_pipe.specs.declared.file.File.{File}
 use Rattle.raft_log_pipe.specs.declared.pipe.SinglePipe.{SinglePipe}
 use Rattle.raft_log_pipe.specs.Begun.{Changes}
-use Rattle.raft_log_pipe.specs.Stored.{IsStored}
+use Rattle.raft_log_pipe.specs.Stored.{IsEnded, IsStored}
 use Rattle.raft_log_pipe.specs.Pipe.{Numbered, numbered, id_of, HoldsIn, Holds, IsPipe, IsPopulated, LeavesIn, IsLast}
 use Rattle.raft_log_pipe.proofs.StoredLemmas.{stored_cut, stored_more, stored_room, stored_synced, stored_within}
 use Rattle.raft_log_pipe.proofs.PipeLemmas.{AreApart, changes, changes_on, file_there, holds_leaves, holds_on, holds_synced, leaves_more, leaves_on, named_on, names_kept, stays}
@@ -33,7 +33,7 @@ cuts_change (Err x) d e fd len (inl same) = stays d e fd same
 cuts_change (Err x) d e fd len (inr refused) = changes d e fd _ refused.files
 
 cut_changes : (w : LogFileWriter) (r : Result (Unit {0}) IoFault) (d e : Disk) → IsCut w r d e → Changes d e w.fd.0
-cut_changes w r d e (inl (short, same)) = stays d e w.fd.0 same
+cut_changes w r d e (inl (short, below, same)) = stays d e w.fd.0 same
 cut_changes w r d e (inr (long, cuts)) = cuts_change r d e w.fd.0 w.offset cuts
 
 pub closed_changes : (w : LogFileWriter) (d e : Disk) (r : Result (Unit {0}) IoFault) → IsClosed w d e r → Changes d e w.fd.0
@@ -54,7 +54,7 @@ cuts_stored id format ks us offset (Err x) d e fd s (inr refused) =
 
 cut_stored : (id : FileId) (format : LogFileFormat) (ks us : List Batch) (w : LogFileWriter) (r : Result (Unit {0}) IoFault) (d e : Disk) → IsStored id format ks us w.offset (d.file w.fd.0) → IsCut w r d e
     → IsStored id format ks us w.offset (e.file w.fd.0)
-cut_stored id format ks us w r d e s (inl (short, same)) = subst (λ (y : Disk). IsStored id format ks us w.offset (y.file w.fd.0)) (sym same) s
+cut_stored id format ks us w r d e s (inl (short, below, same)) = subst (λ (y : Disk). IsStored id format ks us w.offset (y.file w.fd.0)) (sym same) s
 cut_stored id format ks us w r d e s (inr (long, cuts)) = cuts_stored id format ks us w.offset r d e w.fd.0 s cuts
 
 closed_stored : (id : FileId) (format : LogFileFormat) (ks us : List Batch) (w : LogFileWriter) (d e : Disk) → IsStored id format ks us w.offset (d.file w.fd.0) → IsClosed {E = IoFault} w d e (Ok tt)
@@ -155,6 +155,25 @@ closed_holds p d e to pipe closed same s u h =
     (holds_synced p.queue p.older.items p.active p.writer.offset d e s u h (here p d e pipe (closed_changes p.writer d e (Ok tt) closed)) (apart_of d.next p.active.handle.0 p.older.items pipe.apart)
     (subst (λ n. IsStored id p.active.format (h.ks ++ h.us) [] p.writer.offset (e.file n)) (fd_is p d pipe) (closed_stored id p.active.format h.ks h.us p.writer d e (stored_at p d s u pipe h) closed)))
 
+-- what was made room for is cut away, so that nothing stands behind the records
+cut_short : (w : LogFileWriter) (d b : Disk) → IsWriter w d → IsCut {E = IoFault} w (Ok tt) d b → length (b.file w.fd.0).bytes ≤ w.offset
+cut_short w d b writer (inl (short, below, same)) = omega (arith, short, writer.within below, ap (λ (y : Disk). length (y.file w.fd.0).bytes) same)
+cut_short w d b writer (inr (long, cuts)) =
+    let none : ℕ = 0 in
+    let bytes : List ℕ = (d.file w.fd.0).bytes in
+    let n : ℕ = w.offset - length bytes in
+    omega (arith, writer.offset, writer.long, ap (λ (x : FileState). length x.bytes) (file_there d b w.fd.0 _ cuts), length-append (take w.offset bytes) (replicate n none), length-take-le w.offset bytes (omega (arith, writer.offset, writer.long)), length-replicate n none)
+
+pub closed_ended : (p : SinglePipe) (d e : Disk) (to : ℕ) → IsPipe p d → IsClosed {E = IoFault} p.writer d e (Ok tt) → to ≡ p.writer.offset → IsEnded to (e.file p.active.handle.0)
+closed_ended p d e to pipe (b, cut, synced) same =
+    let fd : ℕ = p.writer.fd.0 in
+    let short = cut_short p.writer d b pipe.writer cut in
+    subst (λ n. IsEnded to (e.file n)) (fd_is p d pipe)
+    (subst (IsEnded to) (sym (file_there b e fd _ synced)) (record {
+      short = omega (arith, short, same);
+      still = record { kept = refl; changed = refl; least = refl; greatest = refl };
+    }))
+
 pub unclosed_leaves : (p : SinglePipe) (d e : Disk) (x : IoFault) → IsPipe p d → IsClosed p.writer d e (Err x) → (s u : Numbered) → Holds p d s u → LeavesIn p.queue (p.older.items ++ p.active ∷ []) e s u
 unclosed_leaves p d e x pipe closed s u h =
     let id = id_of p.queue p.active.seq in
@@ -176,6 +195,7 @@ synced_writer w d e writer is = record {
   offset = writer.offset;
   reached = writer.reached;
   long = omega (arith, writer.long, ap (λ (f : FileState). length f.bytes) (file_there d e w.fd.0 _ is));
+  within = λ below. omega (arith, writer.within below, ap (λ (f : FileState). length f.bytes) (file_there d e w.fd.0 _ is));
 }
 
 -- room was made, and nothing written

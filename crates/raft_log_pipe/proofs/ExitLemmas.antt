@@ -21,6 +21,7 @@ use Rattle.raft_log_pipe.specs.declared.pipe.SinglePipe.{SinglePipe}
 use Rattle.raft_log_pipe.specs.Appending.{Appends, IsHandle, LeavesAppended}
 use Rattle.raft_log_pipe.specs.Begun.{IsBegun}
 use Rattle.raft_log_pipe.specs.Placing.{IsCreated}
+use Rattle.raft_log_pipe.specs.Stored.{IsEnded}
 use Rattle.raft_log_pipe.specs.Pipe.{Numbered, id_of, AreConsecutive, HasPath, Holds, HoldsIn, IsLast, IsNamedSo, IsPipe, IsPlain, Leaves, LeavesIn}
 use Rattle.raft_log_pipe.proofs.PipeLemmas.{holds_leaves, leaves_less, leaves_more}
 use Rattle.raft_log_pipe.proofs.NextLemmas.{IsMade, begun_changes, begun_stored, created_here, made_alone, made_leaves, made_writer, named_new, new_empty, next_holds, next_last}
@@ -48,9 +49,9 @@ unpushed_leaves p d g id fs pipe made same s h = subst (λ (l : List File). Leav
 
 -- or it did
 pub pushed_holds : (p : SinglePipe) (d e g : Disk) (fs : List File) (f : File) (w : LogFileWriter) (id : FileId) → IsPipe p d → fs ≡ p.older.items ++ p.active ∷ [] → id ≡ id_of p.queue f.seq → IsPlain f.format
-    → IsCreated d e id (Ok f) → IsBegun e g f (Ok w) → (s : Numbered) → Holds p d s [] → HoldsIn p.queue fs f w.offset g s []
-pushed_holds p d e g fs f w id pipe grown is plain created begun s h =
-    subst (λ (l : List File). HoldsIn p.queue l f w.offset g s []) (sym grown) (next_holds p d e g f w id pipe is plain created begun s h)
+    → IsCreated d e id (Ok f) → IsBegun e g f (Ok w) → IsEnded p.writer.offset (d.file p.active.handle.0) → (s : Numbered) → Holds p d s [] → HoldsIn p.queue fs f w.offset g s []
+pushed_holds p d e g fs f w id pipe grown is plain created begun ended s h =
+    subst (λ (l : List File). HoldsIn p.queue l f w.offset g s []) (sym grown) (next_holds p d e g f w id pipe is plain created begun ended s h)
 
 -- ---- batches that are on the disk by now
 

@@ -15,7 +15,7 @@ use Rattle.raft_log_disk.specs.declared.fault.IoFault.{IoFault}
 use Rattle.raft_log_disk.specs.declared.format.LogFileFormat.{LogFileFormat}
 use Rattle.raft_log_disk.specs.Text.{Text, same_text}
 use Rattle.raft_log_disk.specs.Name.{file_id_of, log_file_of, queued, suffix_of}
-use Rattle.raft_log_disk.specs.Disk.{Disk, FileState, IsIn, after_create, after_sync, after_write, fd_of, filled, no_bytes, put}
+use Rattle.raft_log_disk.specs.Disk.{Disk, FileState, IsIn, after_create, after_sync, after_write, fd_of, filled, no_bytes, put, with_file}
 use Rattle.raft_log_records.specs.declared.version.Version.{Version}
 use Rattle.raft_log_records.specs.declared.version.Version.TheVariants.{V1, V2}
 use Rattle.raft_log_records.proofs.Sound.{each_push}
@@ -30,11 +30,11 @@ use Rattle.raft_log_pipe.specs.declared.file.File.{File}
 use Rattle.raft_log_pipe.specs.declared.pipe.SinglePipe.{SinglePipe}
 use Rattle.raft_log_pipe.specs.Begun.{Changes, IsBegun}
 use Rattle.raft_log_pipe.specs.Placing.{Creates, IsCreated}
-use Rattle.raft_log_pipe.specs.Stored.{IsStored}
+use Rattle.raft_log_pipe.specs.Stored.{IsEnded, IsStored}
 use Rattle.raft_log_pipe.specs.Pipe.{Numbered, id_of, AreConsecutive, HasPath, Holds, HoldsIn, IsLast, IsNamedSo, IsPipe, IsPlain, LeavesIn}
 use Rattle.raft_log_pipe.proofs.StoredLemmas.{IsNew, stored_begun}
 use Rattle.raft_log_pipe.proofs.PipeLemmas.{AreSame, Keeps, changes, changes_on, file_beside, file_there, holds_beside, holds_leaves, holds_next, names_kept, stays}
-use Rattle.raft_log_pipe.proofs.ChangeLemmas.{appended_changes}
+use Rattle.raft_log_pipe.proofs.ChangeLemmas.{appended_changes, synced_writer}
 
 -- ---- names
 
@@ -148,6 +148,7 @@ made_writer p d g id pipe made =
       offset = pipe.writer.offset;
       reached = pipe.writer.reached;
       long = omega (arith, pipe.writer.long, ap (λ (f : FileState). length f.bytes) same);
+      within = λ below. omega (arith, pipe.writer.within below, ap (λ (f : FileState). length f.bytes) same);
     }
 
 -- ---- the header of a new file
@@ -236,6 +237,12 @@ opened_short d e fd format (Err x) (inr (begins, a)) = short_appended (Err x) d 
 pub unsynced_short : (d e g : Disk) (fd : ℕ) → IsShort d e fd → g ≡ e → IsShort d g fd
 unsynced_short d e g fd short same = omega (arith, short, ap (λ (y : Disk). (y.file fd).greatest) same)
 
+-- a file whose header was written and synced has begun
+pub opened_begun : (d b e : Disk) (f : File) (w : LogFileWriter) → IsOpened d b f.handle.0 f.format true (Ok w) → IsWriter w b → w.fd ≡ f.handle → e ≡ with_file b w.fd.0 (after_sync (b.file w.fd.0)) → IsBegun d e f (Ok w)
+opened_begun d b e f w (inl (long, not_reset, same, at)) writer fd is = absurd cc
+opened_begun d b e f w (inr (begins, a, at)) writer fd is =
+    (b, a, subst (λ n. e ≡ with_file b n (after_sync (b.file n))) (ap (λ h. h.0) fd) is, synced_writer w b e writer is, fd, at)
+
 pub begun_changes : (e g : Disk) (f : File) (w : LogFileWriter) → IsBegun e g f (Ok w) → Changes e g f.handle.0
 begun_changes e g f w (between, a, synced, writer, fd, offset) =
     changes_on e between g f.handle.0 (appended_changes (writer_at f.handle.0 0 (length (e.file f.handle.0).bytes)) e between (spelled_header f.format) 0 (Ok tt) a) (changes between g f.handle.0 _ synced)
@@ -281,12 +288,13 @@ named_new d e g f id (handle, (path, says, none, is)) change =
 
 -- the batches of a pipe that goes on with a new file
 pub next_holds : (p : SinglePipe) (d e g : Disk) (f : File) (w : LogFileWriter) (id : FileId) → IsPipe p d → id ≡ id_of p.queue f.seq → IsPlain f.format → IsCreated d e id (Ok f) → IsBegun e g f (Ok w)
-    → (s : Numbered) → Holds p d s [] → HoldsIn p.queue (p.older.items ++ p.active ∷ []) f w.offset g s []
-next_holds p d e g f w id pipe is plain created begun s h =
+    → IsEnded p.writer.offset (d.file p.active.handle.0) → (s : Numbered) → Holds p d s [] → HoldsIn p.queue (p.older.items ++ p.active ∷ []) f w.offset g s []
+next_holds p d e g f w id pipe is plain created begun ended s h =
     let change = begun_changes e g f w begun in
     let made = made_begun d e g f id created change in
     let empty = new_empty (spelled_header f.format) (e.file f.handle.0) (subst (λ n. e.file n ≡ no_bytes) (sym created.0) (created_here d e id created.1)) in
     holds_next p.queue p.older.items p.active f p.writer.offset w.offset g s (made_holds p d g id pipe made s [] h)
+    (subst (IsEnded p.writer.offset) (sym (made_beside d g id p.active.handle.0 made pipe.there)) ended)
     (subst (λ (x : FileId). IsNamedSo g x f.handle.0) is (named_new d e g f id created change))
     (begun_stored e g f p.queue w empty plain begun)
 

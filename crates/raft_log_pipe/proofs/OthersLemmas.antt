@@ -23,7 +23,7 @@ use Rattle.raft_log_pipe.specs.Others.{IsOther, KeepsOthers}
 use Rattle.raft_log_pipe.specs.Pipe.{Numbered, numbered, id_of, AreOlder, HoldsIn, Holds, IsBlank, IsNamedSo, IsPipe}
 use Rattle.raft_log_pipe.specs.Placing.{IsCreated}
 use Rattle.raft_log_pipe.specs.Purging.{KeepsFrom}
-use Rattle.raft_log_pipe.specs.Stored.{IsStored}
+use Rattle.raft_log_pipe.specs.Stored.{IsEnded, IsStored}
 use Rattle.raft_log_pipe.proofs.AloneLemmas.{found_in, in_either, in_first, never_some}
 use Rattle.raft_log_pipe.proofs.NextLemmas.{IsMade, has_path_says, made_alone, path_says, some_is}
 use Rattle.raft_log_pipe.proofs.PipeLemmas.{file_beside, stays}
@@ -201,6 +201,7 @@ module _ (queue own : LogQueue) (d e : Disk) (apart : own ≡ queue → ⊥) (ke
           offset = o.offset;
           named = now.0;
           stored = subst (λ (x : FileState). IsStored (id_of own f.seq) f.format ks [] o.offset x ⊎ IsBlank f.format ks x) (sym now.1) o.stored;
+          ended = subst (IsEnded o.offset) (sym now.1) o.ended;
         },
         olders_beside fs rest os,
       )
@@ -233,6 +234,7 @@ module _ (queue : LogQueue) (p : SinglePipe) (d e : Disk) (apart : p.queue ≡ q
           offset = pipe.writer.offset;
           reached = pipe.writer.reached;
           long = omega (arith, pipe.writer.long, ap (λ (x : FileState). length x.bytes) (ap e.file fd ∙ last.1 ∙ sym (ap d.file fd)));
+          within = λ below. omega (arith, pipe.writer.within below, ap (λ (x : FileState). length x.bytes) (ap e.file fd ∙ last.1 ∙ sym (ap d.file fd)));
         };
         handle = pipe.handle;
         plain = pipe.plain;

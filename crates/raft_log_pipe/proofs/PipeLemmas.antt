@@ -16,7 +16,7 @@ use Rattle.raft_log_file.specs.Laws.{Batch}
 use Rattle.raft_log_file.specs.Unsynced.{IsUnsynced, ReadsAs}
 use Rattle.raft_log_file.proofs.UnsyncedLemmas.{unsynced_batches_are_a_front}
 use Rattle.raft_log_pipe.specs.declared.file.File.{File}
-use Rattle.raft_log_pipe.specs.Stored.{IsStored}
+use Rattle.raft_log_pipe.specs.Stored.{IsEnded, IsStored}
 use Rattle.raft_log_pipe.specs.Begun.{Changes}
 use Rattle.raft_log_pipe.specs.Pipe.{Numbered, numbered, id_of, FileReads, IsBlank, IsNamedSo, IsOlder, AreOlder, HoldsIn, ImageReads, LeavesIn}
 
@@ -64,6 +64,7 @@ older_on queue d e f ks keeps same o = record {
   offset = o.offset;
   named = named_on d e (id_of queue f.seq) f.handle.0 keeps o.named;
   stored = subst (λ (x : FileState). IsStored (id_of queue f.seq) f.format ks [] o.offset x ⊎ IsBlank f.format ks x) (sym same) o.stored;
+  ended = subst (IsEnded o.offset) (sym same) o.ended;
 }
 
 pub olders_on : (queue : LogQueue) (d e : Disk) (fs : List File) (bs : Numbered) → Keeps d e → AreSame d e fs → AreOlder queue d fs bs → AreOlder queue e fs bs
@@ -123,9 +124,9 @@ holds_synced queue fs active offset d e s u h change apart stored =
     refl stored
 
 -- a new file goes on
-pub holds_next : (queue : LogQueue) (fs : List File) (active next : File) (offset to : ℕ) (d : Disk) (s : Numbered) → HoldsIn queue fs active offset d s [] → IsNamedSo d (id_of queue next.seq) next.handle.0
+pub holds_next : (queue : LogQueue) (fs : List File) (active next : File) (offset to : ℕ) (d : Disk) (s : Numbered) → HoldsIn queue fs active offset d s [] → IsEnded offset (d.file active.handle.0) → IsNamedSo d (id_of queue next.seq) next.handle.0
     → IsStored (id_of queue next.seq) next.format [] [] to (d.file next.handle.0) → HoldsIn queue (fs ++ active ∷ []) next to d s []
-holds_next queue fs active next offset to d s h named stored =
+holds_next queue fs active next offset to d s h ended named stored =
     let none : h.us ≡ [] = no_more h.us (sym h.unsynced_are) in
     record {
       before = s;
@@ -137,6 +138,7 @@ holds_next queue fs active next offset to d s h named stored =
         offset = offset;
         named = h.named;
         stored = inl (subst (λ (l : List Batch). IsStored (id_of queue active.seq) active.format h.ks l offset (d.file active.handle.0)) none h.stored);
+        ended = ended;
       }));
       named = named;
       stored = stored;

@@ -21,7 +21,7 @@ use Rattle.raft_log_file.specs.Laws.{Batch}
 use Rattle.raft_log_pipe.specs.declared.file.File.{File}
 use Rattle.raft_log_pipe.specs.declared.pipe.SinglePipe.{SinglePipe}
 use Rattle.raft_log_pipe.specs.Purging.{AreGone, HoldsRest, IsGone, KeepsFrom, from_file}
-use Rattle.raft_log_pipe.specs.Stored.{IsStored}
+use Rattle.raft_log_pipe.specs.Stored.{IsEnded, IsStored}
 use Rattle.raft_log_pipe.specs.Pipe.{Numbered, numbered, id_of, first_of, AreConsecutive, AreOlder, Holds, HoldsIn, IsBlank, IsNamedSo, IsPipe}
 use Rattle.raft_log_pipe.proofs.NextLemmas.{some_is}
 use Rattle.raft_log_pipe.specs.Blocks.{files_of}
@@ -153,6 +153,7 @@ kept_olders queue seq last d e (f ∷ fs) bs keeps numbers le (ks, rest, is, o, 
         offset = o.offset;
         named = one.0;
         stored = subst (λ (x : FileState). IsStored (id_of queue f.seq) f.format ks [] o.offset x ⊎ IsBlank f.format ks x) (sym one.1) o.stored;
+        ended = subst (IsEnded o.offset) (sym one.1) o.ended;
       },
       kept_olders queue seq last d e fs rest keeps numbers.1 (omega (arith, le)) os,
     )
@@ -247,6 +248,7 @@ rest_pipe p older f d e pipe is keeps =
         offset = pipe.writer.offset;
         reached = pipe.writer.reached;
         long = omega (arith, pipe.writer.long, ap (λ (x : FileState). length x.bytes) (ap e.file fd ∙ last.1 ∙ sym (ap d.file fd)));
+        within = λ below. omega (arith, pipe.writer.within below, ap (λ (x : FileState). length x.bytes) (ap e.file fd ∙ last.1 ∙ sym (ap d.file fd)));
       };
       handle = pipe.handle;
       plain = pipe.plain;

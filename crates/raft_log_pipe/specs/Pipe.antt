@@ -21,7 +21,7 @@ use Rattle.raft_log_file.specs.Unsynced.{ReadsAs}
 use Rattle.raft_log_file.specs.Writer.{IsWriter}
 use Rattle.raft_log_pipe.specs.declared.file.File.{File}
 use Rattle.raft_log_pipe.specs.declared.pipe.SinglePipe.{SinglePipe}
-use Rattle.raft_log_pipe.specs.Stored.{IsStored}
+use Rattle.raft_log_pipe.specs.Stored.{IsEnded, IsStored}
 
 -- batches with the numbers of their files
 abbrev pub Numbered : Type 0
@@ -52,11 +52,13 @@ pub record IsBlank (format : LogFileFormat) (ks : List Batch) (f : FileState) : 
   pub short : f.greatest ≤ 69
   pub plain : IsPlain format
 
--- a file that is written no more: its batches are on the disk, or it is blank
+-- A file that is written no more. It ends right behind the last of its batches, and all of it is on the disk: so only the last
+-- file of a queue may be torn. Or it is blank, as an opening leaves a file with a broken header
 pub record IsOlder (queue : LogQueue) (d : Disk) (f : File) (ks : List Batch) : Type 0 where
   pub offset : ℕ
   pub named : IsNamedSo d (id_of queue f.seq) f.handle.0
   pub stored : IsStored (id_of queue f.seq) f.format ks [] offset (d.file f.handle.0) ⊎ IsBlank f.format ks (d.file f.handle.0)
+  pub ended : IsEnded offset (d.file f.handle.0)
 
 -- the batches of such files, one file after the other
 abbrev pub AreOlder : LogQueue → Disk → List File → Numbered → Type 0

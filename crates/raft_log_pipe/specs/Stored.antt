@@ -1,9 +1,10 @@
 -- One file of a pipe: its batches, and where the next one goes.
-use Rattle.std.specs.Prelude.{◌≡◌, ◌⊎◌, ℕ, ◌<◌, List, ◌++◌, length, take, replicate}
+use Rattle.std.specs.Prelude.{◌≡◌, ◌⊎◌, ℕ, ◌<◌, ◌≤◌, List, ◌++◌, length, take, replicate}
 use Rattle.std.specs.List.{AllByRecursion}
 use Rattle.raft_log_records.specs.declared.file_id.FileId.{FileId}
 use Rattle.raft_log_disk.specs.declared.format.LogFileFormat.{LogFileFormat}
 use Rattle.raft_log_disk.specs.Disk.{FileState}
+use Rattle.raft_log_disk.specs.Image.{IsStill}
 use Rattle.raft_log_file.specs.Laws.{Batch, file_text}
 use Rattle.raft_log_file.specs.Unsynced.{IsUnsynced}
 
@@ -23,3 +24,8 @@ pub record IsStored (id : FileId) (format : LogFileFormat) (ks us : List Batch) 
   pub place : offset ≡ length (file_text id format (ks ++ us))
   pub front : take offset f.bytes ≡ file_text id format (ks ++ us)
   pub behind : IsUnwritten offset f ⊎ HasZerosBehind (file_text id format (ks ++ us)) f.bytes
+
+-- nothing stands in the file from this place on, and all of it is on the disk: each of its images is what a read sees
+pub record IsEnded (offset : ℕ) (f : FileState) : Type 0 where
+  pub short : length f.bytes ≤ offset
+  pub still : IsStill f

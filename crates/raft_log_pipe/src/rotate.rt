@@ -10,6 +10,7 @@ ghost use Rattle.raft_log_pipe.specs.Pipe.{IsPipe, IsPlain, Holds, Leaves, Numbe
 ghost use Rattle.raft_log_pipe.specs.Alone.{IsAlone, IsNearlyAlone};
 ghost use Rattle.raft_log_pipe.specs.Begun.{IsBegun};
 ghost use Rattle.raft_log_pipe.specs.Caused.{IsCaused, IsRefusalOrMemory, IsRotationFault, LacksPlace};
+ghost use Rattle.raft_log_pipe.specs.Stored.{IsEnded};
 ghost use Rattle.raft_log_pipe.specs.Taken.{IsBarred, IsOkOrMemory, IsRotationTaken, IsTakenBy, IsUnmade, IsUnnumbered};
 
 use crate::file::{File, new_file};
@@ -51,6 +52,7 @@ impl SinglePipe {
         ensures others { KeepsOthers self.old.queue (F.disk files.old) (F.disk files.new) }
         ensures names { (F.disk files.new).names ≡ (F.disk files.old).names }
         ensures ok { OnOk result ((synced : Numbered) (unsynced : Numbered) → Holds self.old (F.disk files.old) synced unsynced → Holds self.new (F.disk files.new) (synced ++ unsynced) []) }
+        ensures ended { OnOk result (IsEnded self.new.writer.offset ((F.disk files.new).file self.new.active.handle.0)) }
         ensures err { OnErr result ((synced : Numbered) (unsynced : Numbered) → Holds self.old (F.disk files.old) synced unsynced → Leaves self.new (F.disk files.new) synced unsynced) }
         ensures next { (F.disk files.new).next ≡ (F.disk files.old).next }
         ensures later { RefusesNoMore (F.is_bounded files.old) (F.is_bounded files.new) (F.meter files.old) (F.meter files.new) }
@@ -71,6 +73,7 @@ impl SinglePipe {
         ensures others { KeepsOthers self.old.queue (F.disk files.old) (F.disk files.new) }
         ensures names { (F.disk files.new).names ≡ (F.disk files.old).names }
         ensures ok { OnOk result ((synced : Numbered) (unsynced : Numbered) → Holds self.old (F.disk files.old) synced unsynced → Holds self.new (F.disk files.new) (synced ++ unsynced) []) }
+        ensures ended { OnOk result (IsEnded self.new.writer.offset ((F.disk files.new).file self.new.active.handle.0)) }
         ensures err { OnErr result ((synced : Numbered) (unsynced : Numbered) → Holds self.old (F.disk files.old) synced unsynced → Leaves self.new (F.disk files.new) synced unsynced) }
         ensures next { (F.disk files.new).next ≡ (F.disk files.old).next }
         ensures later { RefusesNoMore (F.is_bounded files.old) (F.is_bounded files.new) (F.meter files.old) (F.meter files.new) }
@@ -87,6 +90,7 @@ impl SinglePipe {
     pub(crate) fn go_on<F: FileSystem>(&mut self, files: &mut F) -> Result<(), IoFault>
         requires pipe { IsPipe self.old (F.disk files.old) }
         requires number { IsFileSeq (self.old.active.seq + 1) }
+        requires ended { IsEnded self.old.writer.offset ((F.disk files.old).file self.old.active.handle.0) }
         ensures pipe { OnOk result (IsPipe self.new (F.disk files.new)) }
         ensures writer { IsWriter self.new.writer (F.disk files.new) }
         ensures next { OnOk result ((self.new.active.seq ≡ self.old.active.seq + 1) × (self.new.older.items ≡ self.old.older.items ++ self.old.active ∷ [])) }

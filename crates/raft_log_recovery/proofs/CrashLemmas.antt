@@ -26,7 +26,7 @@ reads_both queue (f ∷ fs) gs image bs cs (ks, rest, is, first, others) reads =
     (ks, rest ++ cs, ap (λ (l : Numbered). l ++ cs) is ∙ append_assoc (numbered f.seq ks) rest cs, first, reads_both queue fs gs image rest cs others reads)
 
 -- the files that are found are the last ones of before
-same_found : (made : Disk) (next : ℕ) (queue : LogQueue) (directories : List Text) (names : List FileName) (f : File) (fs gs : List File) → are_named made.names next ≡ true → AreLast made.names directories queue (f ∷ fs)
+pub same_found : (made : Disk) (next : ℕ) (queue : LogQueue) (directories : List Text) (names : List FileName) (f : File) (fs gs : List File) → are_named made.names next ≡ true → AreLast made.names directories queue (f ∷ fs)
     → AreFound made (Log queue) directories names → AreOpen made directories queue names gs → AreSame (f ∷ fs) gs
 same_found made next queue directories [] f fs gs named last found opened = absurd (none_stand made queue directories found f.seq f.path_id f.handle.0 last.each.0)
 same_found made next queue directories (name ∷ names) f fs gs named last found (g, rest, is, here, others) =

@@ -14,6 +14,7 @@ pub mod RunLemmas
 pub mod ImageLemmas
 pub mod AloneLemmas
 pub mod CrashLemmas
+pub mod TailLemmas
 pub mod AgainLemmas
 pub mod BesideLemmas
 pub mod BothLemmas

@@ -33,6 +33,7 @@ use Rattle.raft_log_pipe.specs.Found.{KeepsButHeader}
 use Rattle.raft_log_pipe.specs.Found as found
 use Rattle.raft_log_pipe.proofs.PipeLemmas.{file_beside}
 use Rattle.raft_log_pipe.proofs.PurgeLemmas.{same_number}
+use Rattle.raft_log_pipe.specs.Stored.{IsEnded}
 use Rattle.raft_log_pipe.specs.Pipe.{AreConsecutive, AreOlder, Holds, IsLast, IsNamedSo, IsOlder, Numbered, id_of, numbered}
 use Rattle.raft_log_recovery.specs.declared.scan.FileName.{FileName}
 use Rattle.raft_log_recovery.specs.Opening.{AnyAligned, AreAllGot, AreGot, IsGot, IsPipeWith, batches_of, said_in}
@@ -64,9 +65,12 @@ ready_whole queue old mid f r =
 
 ready_older : (queue : LogQueue) (old mid : Disk) (f : File) → IsReady queue old mid f → IsOlder queue mid f (said_in queue old f)
 ready_older queue old mid f r = ⊎_elim
-    (λ stored. record { offset = length (mid.file f.handle.0).bytes; named = r.named; stored = inl stored })
-    (λ blank. record { offset = 0; named = r.named; stored = inr blank })
+    (λ stored. record { offset = length (mid.file f.handle.0).bytes; named = r.named; stored = inl stored; ended = ended })
+    (λ blank. record { offset = length (mid.file f.handle.0).bytes; named = r.named; stored = inr blank; ended = ended })
     (ready_whole queue old mid f r)
+  where
+    ended : IsEnded (length (mid.file f.handle.0).bytes) (mid.file f.handle.0)
+    ended = record { short = omega arith; still = r.recovered.whole.still }
 
 -- ---- all files
 

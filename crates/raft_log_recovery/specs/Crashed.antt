@@ -1,19 +1,19 @@
 -- What an opening finds of a queue after a crash.
-use Rattle.std.specs.Prelude.{◌≡◌, ℕ, List, ◌++◌, take, None}
+use Rattle.std.specs.Prelude.{◌≡◌, ◌⊎◌, ℕ, List, [], ◌++◌, take, None}
 use Rattle.raft_log_records.specs.declared.file_id.LogQueue.{LogQueue}
 use Rattle.raft_log_disk.specs.Chance.{IsGenuineImage}
-use Rattle.raft_log_disk.specs.Disk.{Disk, IsNamed}
+use Rattle.raft_log_disk.specs.Disk.{Disk, IsIn, IsNamed}
 use Rattle.raft_log_disk.specs.Image.{Image, IsImage}
 use Rattle.raft_log_disk.specs.Text.{Text}
 use Rattle.raft_log_pipe.specs.declared.file.File.{File}
 use Rattle.raft_log_pipe.specs.declared.pipe.SinglePipe.{SinglePipe}
 use Rattle.raft_log_files.specs.Settings.{Settings}
-use Rattle.raft_log_files.specs.declared.recovery.RecoveryMode.TheVariants.{TolerateAnyCorruption}
-use Rattle.raft_log_pipe.specs.Alone.{IsNearlyAlone, IsOnce, Names, directories_of_pipe}
-use Rattle.raft_log_pipe.specs.Pipe.{Leaves, Numbered}
+use Rattle.raft_log_files.specs.declared.recovery.RecoveryMode.TheVariants.{TolerateAnyCorruption, TolerateTailCorruption}
+use Rattle.raft_log_pipe.specs.Alone.{IsAlone, IsNearlyAlone, IsOnce, Names, directories_of_pipe}
+use Rattle.raft_log_pipe.specs.Pipe.{Holds, Leaves, Numbered}
 use Rattle.raft_log_recovery.specs.declared.scan.FileKind.TheVariants.{Log}
 use Rattle.raft_log_recovery.specs.declared.scan.FileName.{FileName}
-use Rattle.raft_log_recovery.specs.Opening.{batches_of}
+use Rattle.raft_log_recovery.specs.Opening.{AnyAligned, batches_of}
 use Rattle.raft_log_recovery.specs.Queue.{AnyRefused, AreOpen}
 use Rattle.raft_log_recovery.specs.Scan.{AreFound, OnlyMakes, directories_of}
 
@@ -42,6 +42,22 @@ abbrev pub CrashedPipesAreFound : Type 0
 CrashedPipesAreFound =
     (p : SinglePipe) (d : Disk) (synced unsynced : Numbered) → IsNamed d → IsNearlyAlone p d → Leaves p d synced unsynced
     → OpensWith (directories_of_pipe p) p.queue d synced unsynced
+
+-- ---- torn tails
+
+-- A file before the last one has no bytes: no torn tail, but a hole. An opening that tolerates any fault leaves it so where the
+-- file's header was broken; nothing else does
+abbrev pub HasHole : SinglePipe → Disk → Type 0
+HasHole p d = (f : File) × IsIn f p.older.items × ((d.file f.handle.0).bytes ≡ [])
+
+-- Whatever a crash leaves of a pipe whose files are the last ones of its queue, at most the last one of them is torn. So an
+-- opening that tolerates a torn tail refuses no fault of a file that it finds, and no header says an alignment; but where the
+-- pipe has a hole. That no bytes pass by chance isn't needed: they stand in the last file alone
+abbrev pub TornTailsAreOpened : Type 0
+TornTailsAreOpened =
+    (p : SinglePipe) (d : Disk) (synced unsynced : Numbered) → IsNamed d → IsAlone p d → Holds p d synced unsynced
+    → (image : Image) (e made : Disk) (names : List FileName) → IsCrashed d image e → OnlyMakes (directories_of_pipe p) e made → AreFound made (Log p.queue) (directories_of_pipe p) names
+    → AnyRefused TolerateTailCorruption (directories_of_pipe p) p.queue names made ⊎ AnyAligned (directories_of_pipe p) p.queue names made → HasHole p d
 
 -- ---- what clients need of openings
 

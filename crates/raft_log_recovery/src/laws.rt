@@ -1,12 +1,18 @@
 //! Laws of openings, each the contract of a call that does nothing.
 
-ghost use Rattle.raft_log_recovery.specs.Crashed.{AnyFaultIsTolerated, CrashedPipesAreFound, OneDirectoryIsEnough};
+ghost use Rattle.raft_log_recovery.specs.Crashed.{AnyFaultIsTolerated, CrashedPipesAreFound, OneDirectoryIsEnough, TornTailsAreOpened};
 
 /// Whatever a crash leaves of a pipe whose files are the last ones of its queue, an opening finds
 /// files that read as the batches on the disk and a front of the others, unless bytes that nobody
 /// wrote pass as records.
 pub fn crashed_pipes_are_found()
     ensures { CrashedPipesAreFound }
+{}
+
+/// Whatever a crash leaves of a pipe whose files are the last ones of its queue, an opening that
+/// tolerates a torn tail refuses no fault of them, unless a file before the last one had no bytes.
+pub fn torn_tails_are_opened()
+    ensures { TornTailsAreOpened }
 {}
 
 /// An opening that tolerates any corruption refuses no fault of a file.

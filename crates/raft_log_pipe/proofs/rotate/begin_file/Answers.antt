@@ -3,7 +3,7 @@ use Rattle.raft_log_disk.specs.Disk.{IsNoFile}
 use Rattle.raft_log_disk.proofs.RefusalLemmas.{still_free}
 use Rattle.raft_log_file.specs.declared.writer.LogFileWriter.{LogFileWriter}
 use Rattle.raft_log_pipe.proofs.TakenLemmas.{no_file_before, still_taken}
-use Rattle.raft_log_pipe.proofs.NextLemmas.{opened_changes, opened_short, unsynced_short}
+use Rattle.raft_log_pipe.proofs.NextLemmas.{opened_begun, opened_changes, opened_short, unsynced_short}
 use Rattle.raft_log_pipe.proofs.PipeLemmas.{changes_on, stays}
 use Rattle.raft_log_pipe.proofs.rotate.begin_file.Goals as goal
 
@@ -26,3 +26,7 @@ returns-in-Err-sync-clause-taken g c = λ free.
     still_taken (Unit {0}) LogFileWriter (IsNoFile (g.F.FileSystem.disk c.build_file_writer.new.files) c.in-Ok.writer.fd.0) ⊥ (IsNoFile (g.F.FileSystem.disk c.args.files.now) c.args.file.handle.0) ⊥ c.in-Err-sync.fault
     (no_file_before _ _ _ _ (ap (λ h. h.0) c.in-Ok.ensures.file) (opened_changes _ _ _ c.args.file.format (Ok c.in-Ok.writer) c.in-Ok.ensures.opens)) (λ x. x)
     (c.in-Err-sync.ensures.taken (still_free free c.in-Ok.ensures.later))
+
+pub returns-clause-begun : goal.returns-clause-begun
+returns-clause-begun g c =
+    opened_begun (g.F.FileSystem.disk c.args.files.now) (g.F.FileSystem.disk c.build_file_writer.new.files) (g.F.FileSystem.disk c.sync.new.files) c.args.file c.in-Ok.writer c.in-Ok.ensures.opens c.in-Ok.ensures.writer c.in-Ok.ensures.file c.in_default.ensures.ok

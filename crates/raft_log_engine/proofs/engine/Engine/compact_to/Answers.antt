@@ -1,12 +1,17 @@
-use Rattle.std.proofs.Common.{ℕ, [], ◌∷◌, refl, sym, subst, ◌∙◌}
+use Rattle.std.proofs.Common.{ℕ, [], ◌∷◌, ◌++◌, refl, sym, subst, ◌∙◌}
 use Rattle.raft_log_disk.proofs.CauseLemmas.{at_err}
 use Rattle.raft_log_memtables.specs.MemTables.{content_in}
 use Rattle.raft_log_engine.specs.Held.{bytes_on}
 use Rattle.raft_content_log.specs.Leaving.{LeavesElsewhere}
-use Rattle.raft_log_engine.specs.Left.{leaves_on}
+use Rattle.raft_log_engine.specs.Left.{answers_on, leaves_on}
+use Rattle.raft_log_memtables.specs.Content.{after_batch}
 use Rattle.raft_log_engine.specs.Reads.{compaction}
+use Rattle.raft_log_engine.specs.Reopened.{OpensAsEither, OpensAsFront, directories_of_engine}
+use Rattle.raft_log_engine.specs.Since.{HasWritten, written_batch}
 use Rattle.raft_log_engine.proofs.Clauses.{kept_by, parts, refused}
+use Rattle.raft_log_engine.proofs.Reopened.{refused_opens}
 use Rattle.raft_log_engine.proofs.Seen.{count_seen}
+use Rattle.raft_log_engine.proofs.Since.{refused_front}
 use Rattle.raft_log_engine.proofs.Taken.{compaction_taken, compaction_unmade}
 use Rattle.raft_log_engine.proofs.engine.Engine.compact_to.Goals as goal
 
@@ -39,3 +44,43 @@ pub returns-in_err-write-clause-taken : goal.returns-in_err-write-clause-taken
 returns-in_err-write-clause-taken g c =
     λ free. compaction_taken ℕ (g.F.FileSystem.disk) c.args.self.now c.args.group c.args.index c.in_ok-batch.batch.items c.from_residual-in_err-write.result c.in_err-write.field-0.0 c.in_ok-batch.ensures.items
     c.from_residual-in_err-write.ensures.1 (c.in_err-write.ensures.taken free)
+
+-- ---- what an opening finds
+
+pub returns-in_err-batch-clause-opens_either : goal.returns-in_err-batch-clause-opens_either
+returns-in_err-batch-clause-opens_either g c =
+    let met = g.met.F.FileSystem g.world.𝓛 g.world.𝓜 g.world.𝓡 ((λ s x. x), (λ x. x), (λ x. x), λ x. x) in
+    rw (← c.self.view_is) (λ sound alone. at_err _ _ (refused_opens (g.F.FileSystem.disk) (parts c.self.inside.files c.self.inside.pipes c.self.inside.tables c.self.inside.is_stopped c.self.inside.wrote_unsynced c.self.inside.blocks.reads) alone (kept_by (g.F.FileSystem.disk) (parts c.self.inside.files c.self.inside.pipes c.self.inside.tables c.self.inside.is_stopped c.self.inside.wrote_unsynced c.self.inside.blocks.reads) (c.self.invariant c.if-self.false).batches sound.synced) (met.is_named c.self.inside.files) (compaction c.args.group c.args.index ∷ [])))
+
+pub returns-in_err-write-clause-opens_either : goal.returns-in_err-write-clause-opens_either
+returns-in_err-write-clause-opens_either g c =
+    λ sound alone. at_err _ _ (subst (λ l. OpensAsEither (directories_of_engine c.write.new.self) (g.F.FileSystem.disk c.write.new.self.files) (answers_on (g.F.FileSystem.disk) c.args.self.now) (after_batch l (answers_on (g.F.FileSystem.disk) c.args.self.now)))
+    c.in_ok-batch.ensures.items (c.in_err-write.ensures.opens_either sound alone))
+
+pub returns-clause-written : goal.returns-clause-written
+returns-clause-written g c =
+    λ before batches w. subst (λ l. HasWritten (g.F.FileSystem.disk) c.write.new.self before (batches ++ written_batch l)) c.in_ok-batch.ensures.items (c.in_ok-write.ensures.written before batches w)
+
+pub returns-then-self-clause-opens_front : goal.returns-then-self-clause-opens_front
+returns-then-self-clause-opens_front g c =
+    let met = g.met.F.FileSystem g.world.𝓛 g.world.𝓜 g.world.𝓡 ((λ s x. x), (λ x. x), (λ x. x), λ x. x) in
+    rw (← c.self.view_is) (λ before batches alone w. refused_front (g.F.FileSystem.disk) (parts c.self.inside.files c.self.inside.pipes c.self.inside.tables c.self.inside.is_stopped c.self.inside.wrote_unsynced c.self.inside.blocks.reads) before batches _ (met.is_named c.self.inside.files) alone w)
+
+pub returns-in_err-batch-clause-opens_front : goal.returns-in_err-batch-clause-opens_front
+returns-in_err-batch-clause-opens_front g c =
+    let met = g.met.F.FileSystem g.world.𝓛 g.world.𝓜 g.world.𝓡 ((λ s x. x), (λ x. x), (λ x. x), λ x. x) in
+    rw (← c.self.view_is) (λ before batches alone w. refused_front (g.F.FileSystem.disk) (parts c.self.inside.files c.self.inside.pipes c.self.inside.tables c.self.inside.is_stopped c.self.inside.wrote_unsynced c.self.inside.blocks.reads) before batches _ (met.is_named c.self.inside.files) alone w)
+
+pub returns-in_err-write-clause-opens_front : goal.returns-in_err-write-clause-opens_front
+returns-in_err-write-clause-opens_front g c =
+    λ before batches alone w. subst (λ l. OpensAsFront (directories_of_engine c.write.new.self) (g.F.FileSystem.disk c.write.new.self.files) before (batches ++ written_batch l)) c.in_ok-batch.ensures.items (c.write.ensures.opens_front before batches alone w)
+
+pub returns-clause-opens_front : goal.returns-clause-opens_front
+returns-clause-opens_front g c =
+    λ before batches alone w. subst (λ l. OpensAsFront (directories_of_engine c.write.new.self) (g.F.FileSystem.disk c.write.new.self.files) before (batches ++ written_batch l)) c.in_ok-batch.ensures.items (c.write.ensures.opens_front before batches alone w)
+
+pub returns-clause-opens : goal.returns-clause-opens
+returns-clause-opens g c = λ alone. c.in_ok-write.ensures.opens alone refl
+
+pub returns-clause-all_written : goal.returns-clause-all_written
+returns-clause-all_written g c = c.in_ok-write.ensures.all_written refl

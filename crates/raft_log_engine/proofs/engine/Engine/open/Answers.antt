@@ -8,6 +8,7 @@ use Rattle.raft_log_engine.proofs.Fresh.{found_nothing}
 use Rattle.raft_log_engine.proofs.Reopened.{kept_opens}
 use Rattle.raft_log_engine.proofs.Since.{nothing_since}
 use Rattle.raft_log_engine.proofs.Tables.{answered, kept_held}
+use Rattle.raft_log_engine.proofs.Tails.{held_in_tail}
 use Rattle.raft_log_engine.proofs.engine.Engine.open.Goals as goal
 
 pub returns-in-Ok-clause-answers : goal.returns-in-Ok-clause-answers
@@ -62,3 +63,9 @@ returns-in-Ok-clause-written g c =
 
 pub returns-in-Ok-clause-refused : goal.returns-in-Ok-clause-refused
 returns-in-Ok-clause-refused g c = λ f unsound. let refused = (c.in-Ok.ensures.refused f unsound).0 in absurd cc
+
+pub returns-in-Ok-clause-opens_in_tail : goal.returns-in-Ok-clause-opens_in_tail
+returns-in-Ok-clause-opens_in_tail g c =
+    let met = g.met.F.FileSystem g.world.𝓛 g.world.𝓜 g.world.𝓡 ((λ s x. x), (λ x. x), (λ x. x), λ x. x) in
+    let is = c.in-Ok.ensures.ok in
+    λ alone. held_in_tail (g.F.FileSystem.disk c.found_soundly.new.files) c.in-Ok.pipes is.rewrites is.appends [] (met.is_named c.found_soundly.new.files) alone is.kept.rewrite is.kept.append

@@ -8,6 +8,7 @@ use Rattle.raft_log_engine.proofs.Reopened.{kept_opens, still_opens, synced_stan
 use Rattle.raft_log_engine.proofs.Settled.{settled_still}
 use Rattle.raft_log_engine.proofs.Since.{nothing_since, synced_written, unsynced_written, written_opens}
 use Rattle.raft_log_engine.proofs.Tables.{answered, held_answered, kept_held, synced_kept}
+use Rattle.raft_log_engine.proofs.Tails.{held_in_tail}
 use Rattle.raft_log_engine.proofs.Taken.{failed_sync}
 use Rattle.raft_log_engine.proofs.engine.Engine.sync.Goals as goal
 
@@ -127,3 +128,21 @@ returns-clause-paths g c = rw (← c.self.view_is) c.in_default.ensures.call.pat
 pub returns-clause-alone : goal.returns-clause-alone
 returns-clause-alone g c =
     rw (← c.self.view_is) (λ alone. synced_stands c.self.inside.pipes c.sync.new.self (g.F.FileSystem.disk c.self.inside.files) (g.F.FileSystem.disk c.sync.new.files) c.in_default.ensures.call.same c.in_default.ensures.call.paths c.in_default.ensures.call.names c.in_default.ensures.other alone)
+
+-- ---- what an opening that tolerates a torn tail refuses
+
+pub returns-then-not-self-clause-opens_in_tail : goal.returns-then-not-self-clause-opens_in_tail
+returns-then-not-self-clause-opens_in_tail g c =
+    let met = g.met.F.FileSystem g.world.𝓛 g.world.𝓜 g.world.𝓡 ((λ s x. x), (λ x. x), (λ x. x), λ x. x) in
+    let held = (c.self.invariant c.if-self.false).batches in
+    rw (← c.self.view_is) (λ alone. held_in_tail (g.F.FileSystem.disk c.self.inside.files) c.self.inside.pipes held.rewrites held.synced held.unsynced (met.is_named c.self.inside.files) alone held.held.rewrite held.held.append)
+
+pub returns-clause-opens_in_tail : goal.returns-clause-opens_in_tail
+returns-clause-opens_in_tail g c =
+    let met = g.met.F.FileSystem g.world.𝓛 g.world.𝓜 g.world.𝓡 ((λ s x. x), (λ x. x), (λ x. x), λ x. x) in
+    let held = (c.self.invariant c.if-self.false).batches in
+    let d = g.F.FileSystem.disk c.self.inside.files in
+    let e = g.F.FileSystem.disk c.sync.new.files in
+    let kept = synced_kept d e c.self.inside.pipes c.sync.new.self c.self.inside.tables held.rewrites held.synced held.unsynced held.held (c.in_default.ensures.both held.held.pipes) c.in_default.ensures.call.same c.in_default.ensures.other c.in_default.ensures.call.ok in
+    rw (← c.self.view_is) (λ alone. held_in_tail e c.sync.new.self held.rewrites (held.synced ++ held.unsynced) [] (met.is_named c.sync.new.files)
+    (synced_stands c.self.inside.pipes c.sync.new.self d e c.in_default.ensures.call.same c.in_default.ensures.call.paths c.in_default.ensures.call.names c.in_default.ensures.other alone) kept.rewrite kept.append)

@@ -18,6 +18,7 @@ use Rattle.raft_log_engine.proofs.Since.{failed_front, more_opens, more_written,
 use Rattle.raft_log_engine.specs.Reopened.{directories_of_engine}
 use Rattle.raft_log_engine.proofs.Synced.{synced_opens, synced_others, synced_refused, synced_written}
 use Rattle.raft_log_engine.proofs.Tables.{answered}
+use Rattle.raft_log_engine.proofs.Tails.{held_in_tail, more_in_tail}
 use Rattle.raft_log_engine.proofs.Taken.{block_fits, done_write, failed_write, refused_write, stopped_write, synced_write, unapplied_write}
 use Rattle.raft_log_engine.proofs.engine.Engine.write.Goals as goal
 
@@ -270,3 +271,22 @@ returns-in-Err-apply-clause-taken g c = λ free. unapplied_write ℕ (g.F.FileSy
 
 pub returns-clause-taken : goal.returns-clause-taken
 returns-clause-taken g c = λ free. done_write ℕ (g.F.FileSystem.disk) c.args.self.now c.args.batch.now.items c.in_ok-len.len
+
+-- ---- what an opening that tolerates a torn tail refuses
+
+pub returns-then-is_empty-clause-opens_in_tail : goal.returns-then-is_empty-clause-opens_in_tail
+returns-then-is_empty-clause-opens_in_tail g c =
+    let met = g.met.F.FileSystem g.world.𝓛 g.world.𝓜 g.world.𝓡 ((λ s x. x), (λ x. x), (λ x. x), λ x. x) in
+    let held = (c.self.invariant c.if-self.false).batches in
+    rw (← c.self.view_is) (λ alone. held_in_tail (g.F.FileSystem.disk c.self.inside.files) c.self.inside.pipes held.rewrites held.synced held.unsynced (met.is_named c.self.inside.files) alone held.held.rewrite held.held.append)
+
+pub returns-then-sync-clause-opens_in_tail : goal.returns-then-sync-clause-opens_in_tail
+returns-then-sync-clause-opens_in_tail g c = λ alone. c.in_ok-sync.ensures.opens_in_tail alone
+
+pub returns-clause-opens_in_tail : goal.returns-clause-opens_in_tail
+returns-clause-opens_in_tail g c =
+    let met = g.met.F.FileSystem g.world.𝓛 g.world.𝓜 g.world.𝓡 ((λ s x. x), (λ x. x), (λ x. x), λ x. x) in
+    rw (← c.self.view_is) (λ alone. more_in_tail (g.F.FileSystem.disk) (parts c.self.inside.files c.self.inside.pipes c.self.inside.tables c.self.inside.is_stopped c.self.inside.wrote_unsynced c.self.inside.blocks.reads) (c.self.invariant c.if-self.false).batches c.append_batch.new.files c.append_batch.new.pipes c.args.sync c.in-Ok.written.id.seq c.prepare.new.batch.items
+    (met.is_named c.append_batch.new.files)
+    (stand_on c.self.inside.pipes c.append_batch.new.pipes (g.F.FileSystem.disk c.self.inside.files) (g.F.FileSystem.disk c.append_batch.new.files) (record { paths = c.in-Ok.ensures.paths; other = c.in-Ok.ensures.other }) alone (c.in-Ok.ensures.alone alone.append))
+    c.in-Ok.ensures.other c.in-Ok.ensures.ok)

@@ -10,6 +10,7 @@ use Rattle.raft_log_records.specs.declared.file_id.LogQueue.{LogQueue}
 use Rattle.raft_log_files.specs.declared.recovery.RecoveryMode.{RecoveryMode}
 use Rattle.raft_log_engine.specs.Log.{main_directory}
 use Rattle.raft_log_engine.specs.Opening.{CantBeOpened, IsFoundAgain, IsLeftByOpening}
+use Rattle.raft_log_engine.specs.Reopened.{OpensInTail}
 use Rattle.raft_log_engine.proofs.Corrupt.{along}
 use Rattle.raft_log_engine.proofs.Logs.{leaves_only}
 use Rattle.raft_log_engine.proofs.memory.MemoryLog.open.Goals as goal
@@ -40,3 +41,8 @@ returns-in-Err-clause-reads c =
 pub returns-in-Err-clause-corrupt : goal.returns-in-Err-clause-corrupt
 returns-in-Err-clause-corrupt c =
     along (λ m l. (f : CorruptionFault) → c.in-Err.field-0.fault ≡ fault.Log (Corruption f) → (queue : LogQueue) × CantBeOpened m l queue (disk_in c.args.files.files)) c.in-Ok.ensures.mode c.in-Ok.ensures.directories c.in-Err.ensures.corrupt
+
+pub returns-in-Ok-open-clause-opens_in_tail : goal.returns-in-Ok-open-clause-opens_in_tail
+returns-in-Ok-open-clause-opens_in_tail c =
+    let alone = c.in-Ok-open.ensures.alone (c.in-Ok.ensures.once (disk_in c.args.files.files).names) in
+    subst (λ (l : List Text). OpensInTail l (disk_in c.in-Ok-open.engine.files) c.in-Ok-open.engine.pipes) (c.in-Ok-open.ensures.directories ∙ c.in-Ok.ensures.directories) (c.in-Ok-open.ensures.opens_in_tail alone)

@@ -1,7 +1,7 @@
 use Rattle.std.proofs.Common.{Ok, Err, ap}
 use Rattle.raft_log_disk.specs.Disk.{Disk}
 use Rattle.raft_log_disk.proofs.CauseLemmas.{at_err}
-use Rattle.raft_log_pipe.proofs.ChangeLemmas.{closed_changes, closed_holds, pipe_on, unclosed_leaves}
+use Rattle.raft_log_pipe.proofs.ChangeLemmas.{closed_changes, closed_ended, closed_holds, pipe_on, unclosed_leaves}
 use Rattle.raft_log_pipe.proofs.OthersLemmas.{last_others}
 use Rattle.raft_log_disk.specs.Disk.{IsNoFile}
 use Rattle.raft_log_pipe.proofs.TakenLemmas.{exit_io, last_there, still_taken}
@@ -24,6 +24,9 @@ returns-clause-pipe g c =
 
 pub returns-clause-ok : goal.returns-clause-ok
 returns-clause-ok g c = closed_holds c.args.self.now _ _ _ c.requires c.in_ok-close.ensures.closes c.in_ok-close.ensures.same.1
+
+pub returns-clause-ended : goal.returns-clause-ended
+returns-clause-ended g c = closed_ended c.args.self.now _ _ _ c.requires c.in_ok-close.ensures.closes c.in_ok-close.ensures.same.1
 
 pub returns-in_err-close-clause-names : goal.returns-in_err-close-clause-names
 returns-in_err-close-clause-names g c = ap (λ (y : Disk). y.names) (closed_changes c.args.self.now.writer _ _ (Err c.in_err-close.field-0.0) c.in_err-close.ensures.closes)

@@ -54,7 +54,7 @@ returns-clause-pipe g c =
 pub returns-clause-ok : goal.returns-clause-ok
 returns-clause-ok g c =
     pushed_holds c.args.self.now _ _ _ _ _ _ _ c.requires.pipe c.in_ok-push.ensures.items (λ i. record { queue = c.new-id.ensures.queue i; seq = sym c.in_ok-file.ensures.file.0 i })
-    (subst IsPlain (sym c.in_ok-file.ensures.file.1) c.requires.pipe.plain) c.in_ok-file.ensures.created c.in_ok-writer.ensures.begun
+    (subst IsPlain (sym c.in_ok-file.ensures.file.1) c.requires.pipe.plain) c.in_ok-file.ensures.created c.in_ok-writer.ensures.begun c.requires.ended
 
 pub new_file-requires-clause-last : goal.new_file-requires-clause-last
 new_file-requires-clause-last g c κs within =
