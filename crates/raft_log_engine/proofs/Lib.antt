@@ -18,3 +18,4 @@ pub mod Again
 pub mod Crashes
 pub mod Taken
 pub mod Corrupt
+pub mod Caused

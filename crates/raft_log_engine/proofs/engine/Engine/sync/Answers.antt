@@ -127,3 +127,8 @@ returns-clause-paths g c = rw (← c.self.view_is) c.in_default.ensures.call.pat
 pub returns-clause-alone : goal.returns-clause-alone
 returns-clause-alone g c =
     rw (← c.self.view_is) (λ alone. synced_stands c.self.inside.pipes c.sync.new.self (g.F.FileSystem.disk c.self.inside.files) (g.F.FileSystem.disk c.sync.new.files) c.in_default.ensures.call.same c.in_default.ensures.call.paths c.in_default.ensures.call.names c.in_default.ensures.other alone)
+
+-- ---- why it is refused
+
+pub returns-in-Err-clause-cause : goal.returns-in-Err-clause-cause
+returns-in-Err-clause-cause g c = rw (← c.self.view_is) c.in-Err.ensures.cause

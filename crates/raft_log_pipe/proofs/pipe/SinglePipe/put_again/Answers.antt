@@ -196,5 +196,9 @@ returns-in-Err-NoSpace-clause-cause g c =
     caused_for (Rises 1 i o) (Unit {0}) (LacksNumber q 1) (LacksPlace q y 1)
     (Rises 1 a o) (Rises 1 a o) ((n : ℕ) × BeginsFiles (Unit {0}) a o n × LacksNumber p n) ((n : ℕ) × BeginsFiles (Unit {0}) a o n × LacksPlace p d n) c.give_up.result
     (λ x. all) (λ x. all) (λ lacks. (2, begins, number_before p q 1 1 next lacks))
-    (λ lacks. (2, begins, place_before p q d y 1 1 (c.in-Err-NoSpace.ensures.others.directories ∙ c.in-Ok.ensures.others.directories ∙ c.in_ok-finish.ensures.others.directories)
-    (c.in-Err-NoSpace.ensures.paths ∙ c.in-Ok.ensures.paths ∙ c.in_ok-finish.ensures.paths) (c.in-Err-NoSpace.ensures.same.2 ∙ c.in-Ok.ensures.queue ∙ c.in_ok-finish.ensures.same.2) next lacks)) c.give_up.ensures.cause
+    (λ lacks. (
+      2,
+      begins,
+      place_before p q d y 1 1 (c.in-Err-NoSpace.ensures.others.directories ∙ c.in-Ok.ensures.others.directories ∙ c.in_ok-finish.ensures.others.directories)
+          (c.in-Err-NoSpace.ensures.paths ∙ c.in-Ok.ensures.paths ∙ c.in_ok-finish.ensures.paths) (c.in-Err-NoSpace.ensures.same.2 ∙ c.in-Ok.ensures.queue ∙ c.in_ok-finish.ensures.same.2) next lacks,
+    )) c.give_up.ensures.cause
