@@ -19,3 +19,4 @@ pub mod Again
 pub mod Crashes
 pub mod Taken
 pub mod Corrupt
+pub mod Caused

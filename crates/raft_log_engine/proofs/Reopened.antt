@@ -181,6 +181,18 @@ both_closed p q t d e f done x first other second beside alone r s u rewrite app
           (holds_leaves t.append.queue t.append.older.items t.append.active t.append.writer.offset f (s ++ u) [] all));
     }
 
+-- and where the append queue was, all that was written is on the disk
+pub all_closed : (p q t : DualPipes) (d e f : Disk) (done : Unit {0}) (x : Result (Unit {0}) Error) → IsCloseOf p.append d q.append e (Ok done) → IsAsBefore p.rewrite d q.rewrite e → IsCloseOf q.rewrite e t.rewrite f x → IsAsBefore q.append e t.append f
+    → StandAlone p d → (r s u : Numbered) → Holds p.rewrite d r [] → Holds p.append d s u → IsClosed p t f r (s ++ u) []
+all_closed p q t d e f done x first other second beside alone r s u rewrite append =
+    let closed = both_closed p q t d e f done x first other second beside alone r s u rewrite append in
+    record {
+      paths = closed.paths;
+      stand = closed.stand;
+      near = closed.near;
+      leaves = holds_leaves t.append.queue t.append.older.items t.append.active t.append.writer.offset f (s ++ u) [] (beside.holds (s ++ u) [] (first.ok s u append));
+    }
+
 pub closed_opens : (p q : DualPipes) (e : Disk) (r bs : Numbered) (content : Seen) → IsNamed e → IsClosed p q e r bs [] → content ≡ content_of_batches (r ++ bs) → OpensAs (directories_of_pipes p) e content
 closed_opens p q e r bs content named closed is =
     subst (λ (l : List Text). OpensAs l e content) (same_directories p.append q.append closed.paths) (left_opens e q r bs content named closed.stand closed.near closed.leaves is)

@@ -9,3 +9,5 @@ pub mod Scanning
 pub mod Reopened
 pub mod Since
 pub mod Taken
+pub mod Caused
+pub mod Closing

@@ -1,10 +1,11 @@
 //! An append, and a sync behind it.
-ghost use Rattle.std.specs.Prelude.{◌≡◌, ◌+◌, ◌^◌, ◌<◌, ◌++◌, ◌∷◌, [], ℕ, IfOk, OnOk, OnErr};
+ghost use Rattle.std.specs.Prelude.{◌≡◌, ◌+◌, ◌^◌, ◌<◌, ◌++◌, ◌∷◌, [], ℕ, IfErr, IfOk, OnOk, OnErr};
 ghost use Rattle.raft_log_disk.specs.Cause.{NothingRefuses, RefusesNoMore};
 ghost use Rattle.raft_log_engine.specs.Held.{HoldsMore};
 ghost use Rattle.raft_log_pipe.specs.Alone.{IsAlone, IsNearlyAlone};
 ghost use Rattle.raft_log_pipe.specs.Appending.{LeavesAppended, Stands};
 ghost use Rattle.raft_log_pipe.specs.Blocks.{KeepsFiles};
+ghost use Rattle.raft_log_pipe.specs.Caused.{IsAppendFault};
 ghost use Rattle.raft_log_pipe.specs.Pipe.{Holds, IsPopulated, Numbered};
 ghost use Rattle.raft_log_pipe.specs.Taken.{IsAppendTaken};
 ghost use Rattle.raft_log_pipes.specs.Pipes.{ArePipes, IsAsBefore};
@@ -39,6 +40,7 @@ pub(crate) fn append_batch<F: FileSystem>(
     ensures fits { IfOk result (λ h. h.offset + record_len batch.old.items < 2 ^ 64) }
     ensures later { RefusesNoMore (F.is_bounded files.old) (F.is_bounded files.new) (F.meter files.old) (F.meter files.new) }
     ensures taken { NothingRefuses (F.is_bounded files.old) (F.meter files.old) → IsAppendTaken pipes.old.append (F.disk files.old) batch.old.items result }
+    ensures cause { IfErr result (λ e. IsAppendFault pipes.old.append (F.disk files.old) (F.meter files.old) (F.meter files.new) e) }
 {
     let handle = pipes.append(files, LogQueue::Append, batch)?;
     if !sync {

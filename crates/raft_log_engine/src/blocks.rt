@@ -1,14 +1,18 @@
 //! Entries and their blocks.
-ghost use Rattle.std.specs.Prelude.{◌≡◌, ◌+◌, ◌≤◌, Contains, IfOk, IfSome, length, map};
+ghost use Rattle.std.specs.Prelude.{◌≡◌, ◌⊎◌, ◌+◌, ◌<◌, ◌≤◌, Contains, IfErr, IfOk, IfSome, IsNone, length, map};
 ghost use Rattle.raft_log_engine.specs.Blocks.{IsReadAs};
 ghost use Rattle.raft_log_engine.specs.Cached.{AreRead, KeepsMore};
+ghost use Rattle.raft_log_engine.specs.Caused.{IsBlockUnread, IsCopyFault, fetch_fault};
 ghost use Rattle.raft_log_engine.specs.Held.{bytes_on};
 ghost use Rattle.raft_log_engine.specs.declared.fault.EngineFault.TheVariants.{Log};
-ghost use Rattle.raft_log_files.specs.declared.error.Error.TheVariants.{Memory};
+ghost use Rattle.raft_log_files.specs.declared.error.CorruptionFault.TheVariants.{Record};
+ghost use Rattle.raft_log_files.specs.declared.error.Error.TheVariants.{Corruption, Memory};
 ghost use Rattle.raft_log_pipes.specs.Pipes.{ArePipes};
 ghost use Rattle.raft_log_records.specs.Batch.{payloads};
 ghost use Rattle.raft_log_records.specs.Item.{entry_bytes};
 ghost use Rattle.raft_log_records.specs.declared.error.RecordError.TheVariants as record_error;
+ghost use Rattle.raft_log_records.specs.declared.error.RecordFault.TheVariants.{EntriesLength};
+ghost use Rattle.raft_log_records.specs.declared.item.EntryIndex.{EntryIndex};
 
 use crate::block_cache::BlockCache;
 use crate::fault::EngineFault;
@@ -19,7 +23,9 @@ use raft_log_records::{EntryIndex, FileBlockHandle, RecordError, RecordFault, re
 use std::alloc::Global;
 
 /// A fault in the bytes of a block or a record.
-fn corrupt(fault: RecordFault) -> EngineFault {
+fn corrupt(fault: RecordFault) -> EngineFault
+    ensures { result ≡ Log (Corruption (Record fault)) }
+{
     EngineFault::Log(Error::Corruption(CorruptionFault::Record(fault)))
 }
 
@@ -35,7 +41,8 @@ pub(crate) fn of_record(error: RecordError) -> EngineFault
 
 /// The bytes of an entry in those of its block. None where the block ends before the entry.
 fn bytes_of(entries: &[u8], place: EntryIndex) -> Option<&[u8]>
-    ensures { IfSome result (λ v. v.now ≡ entry_bytes entries.now place) }
+    ensures found { IfSome result (λ v. v.now ≡ entry_bytes entries.now place) }
+    ensures none { IsNone result → length entries.now < place.entry_offset }
 {
     let start = place.entry_offset as usize;
     if entries.len() < start {
@@ -52,7 +59,8 @@ fn read_block<F: FileSystem>(
     handle: FileBlockHandle,
 ) -> Result<Vec<u8>, EngineFault>
     requires { ArePipes pipes.now (F.disk files.now) }
-    ensures { IfOk result (λ entries. IsReadAs (F.disk files.now) pipes.now handle entries.items) }
+    ensures read { IfOk result (λ entries. IsReadAs (F.disk files.now) pipes.now handle entries.items) }
+    ensures err { IfErr result (λ fault. IsBlockUnread (F.disk files.now) pipes.now (F.meter files.now) handle fault) }
 {
     let mut bytes = pipes.read_bytes(files, handle)?;
     let len = match read_entries_block(&bytes) {
@@ -65,7 +73,8 @@ fn read_block<F: FileSystem>(
 
 /// A copy of an entry's bytes in those of its block.
 fn copy_in(alloc: Global, entries: &[u8], place: EntryIndex) -> Result<Vec<u8>, EngineFault>
-    ensures { IfOk result (λ v. v.items ≡ entry_bytes entries.now place) }
+    ensures copied { IfOk result (λ v. v.items ≡ entry_bytes entries.now place) }
+    ensures err { IfErr result (λ fault. (fault ≡ Log Memory) ⊎ ((fault ≡ Log (Corruption (Record EntriesLength))) × (length entries.now < place.entry_offset))) }
 {
     let Some(bytes) = bytes_of(entries, place) else {
         return Err(corrupt(RecordFault::EntriesLength));
@@ -86,6 +95,7 @@ pub(crate) fn copy_of<F: FileSystem>(
     requires pipes { ArePipes pipes.now (F.disk files.now) }
     requires read { AreRead (F.disk files.now) pipes.now cache.old }
     ensures copied { IfOk result (λ v. v.items ≡ bytes_on (F.disk files.now) pipes.now place) }
+    ensures err { IfErr result (λ fault. IsCopyFault (F.disk files.now) pipes.now (F.meter files.now) place fault) }
     ensures kept { KeepsMore (F.disk files.now) pipes.now (λ e. e ≡ place) cache.old cache.new }
     ensures reads { cache.new.reads ≤ cache.old.reads + 1 }
 {
@@ -114,6 +124,7 @@ pub(crate) fn copies_of<F: FileSystem>(
     requires pipes { ArePipes pipes.now (F.disk files.now) }
     requires read { AreRead (F.disk files.now) pipes.now cache.old }
     ensures copied { IfOk result (λ found. payloads found.items ≡ map (bytes_on (F.disk files.now) pipes.now) places.now) }
+    ensures err { IfErr result (λ fault. (fault ≡ Log Memory) ⊎ ((place : EntryIndex) × Contains places.now place × IsCopyFault (F.disk files.now) pipes.now (F.meter files.now) place fault)) }
     ensures kept { KeepsMore (F.disk files.now) pipes.now (Contains places.now) cache.old cache.new }
     ensures reads { cache.new.reads ≤ cache.old.reads + length places.now }
 {
@@ -125,7 +136,9 @@ pub(crate) fn copies_of<F: FileSystem>(
 }
 
 /// Why entries aren't fetched.
-pub(crate) fn fault_of(error: FetchError) -> EngineFault {
+pub(crate) fn fault_of(error: FetchError) -> EngineFault
+    ensures { result ≡ fetch_fault error }
+{
     match error {
         FetchError::Memory => EngineFault::Log(Error::Memory),
         FetchError::EntryCompacted => EngineFault::Log(Error::EntryCompacted),

@@ -1,15 +1,17 @@
 //! Writes and reads of an engine.
-ghost use Rattle.std.specs.Prelude.{◌≡◌, ◌≤◌, ◌+◌, ◌++◌, ℕ, List, [], true, false, Err, IfOk, OnOk, OnErr, length, option_map};
+ghost use Rattle.std.specs.Prelude.{◌≡◌, ◌≤◌, ◌+◌, ◌++◌, ℕ, List, [], true, false, Err, IfErr, IfOk, OnOk, OnErr, length, option_map};
 ghost use Rattle.raft_content_log.specs.Leaving.{AgreesElsewhere, IsWritten, LeavesElsewhere, MayBeWritten};
 ghost use Rattle.raft_log_disk.specs.Cause.{NothingRefuses, RefusesNoMore};
+ghost use Rattle.raft_log_engine.specs.Caused.{IsFetchFault, IsSyncFault, IsWriteFault};
 ghost use Rattle.raft_log_engine.specs.Left.{IsSound, answers_on, leaves_on};
-ghost use Rattle.raft_log_engine.specs.Reads.{HasRead};
+ghost use Rattle.raft_log_engine.specs.Reads.{HasRead, IsStopped, IsTableFault};
 ghost use Rattle.raft_log_engine.specs.Reopened.{OpensAs, OpensAsEither, OpensAsFront, OpensInTail, StandsAlone, directories_of_engine};
 ghost use Rattle.raft_log_engine.specs.Since.{HasWritten, written_batch};
 ghost use Rattle.raft_log_engine.specs.Taken.{IsSyncTaken, IsWriteTaken};
 ghost use Rattle.raft_log_engine.specs.declared.fault.EngineFault.TheVariants.{Stopped};
 ghost use Rattle.raft_log_file.specs.Laws.{Batch};
 ghost use Rattle.raft_log_memtables.specs.Content.{Content, after_batch};
+ghost use Rattle.raft_log_memtables.specs.MemTables.{content_in};
 ghost use Rattle.raft_log_pipe.specs.Alone.{main_of};
 ghost use Rattle.raft_log_records.specs.Batch.{nothing_logged, payloads};
 ghost use Rattle.raft_log_records.specs.Spelling.{record_len};
@@ -62,6 +64,7 @@ impl<F: FileSystem + Drop> Engine<F> {
         ensures len { (batch.old.items ≡ [] → ⊥) → IfOk result (λ len. len ≡ record_len batch.old.items) }
         ensures later { RefusesNoMore (F.is_bounded self.old.files) (F.is_bounded self.new.files) (F.meter self.old.files) (F.meter self.new.files) }
         ensures taken { NothingRefuses (F.is_bounded self.old.files) (F.meter self.old.files) → IsWriteTaken F.disk self.old batch.old.items result }
+        ensures cause { IfErr result (λ fault. IsWriteFault F.disk self.old batch.old.items (F.meter self.old.files) (F.meter self.new.files) fault) }
     {
         if self.is_stopped {
             return Err(EngineFault::Stopped);
@@ -110,6 +113,7 @@ impl<F: FileSystem + Drop> Engine<F> {
         ensures stopped { self.old.is_stopped ≡ true → result ≡ Err Stopped }
         ensures later { RefusesNoMore (F.is_bounded self.old.files) (F.is_bounded self.new.files) (F.meter self.old.files) (F.meter self.new.files) }
         ensures taken { NothingRefuses (F.is_bounded self.old.files) (F.meter self.old.files) → IsSyncTaken self.old result }
+        ensures cause { IfErr result (λ fault. IsSyncFault self.old (F.meter self.old.files) (F.meter self.new.files) fault) }
     {
         if self.is_stopped {
             return Err(EngineFault::Stopped);
@@ -135,6 +139,7 @@ impl<F: FileSystem + Drop> Engine<F> {
     pub fn get(&self, group: u64, key: &[u8]) -> Result<Option<Vec<u8>>, EngineFault>
         ensures found { IfOk result (λ found. option_map (λ v. v.items) found ≡ (answers_on F.disk self.now group).value key.now) }
         ensures stopped { self.now.is_stopped ≡ true → result ≡ Err Stopped }
+        ensures err { IfErr result (λ fault. IsTableFault self.now.is_stopped fault) }
     {
         if self.is_stopped {
             return Err(EngineFault::Stopped);
@@ -160,6 +165,7 @@ impl<F: FileSystem + Drop> Engine<F> {
         ensures stopped { self.old.is_stopped ≡ true → result ≡ Err Stopped }
         ensures same { self.new ≡ record self.old { block_reads = self.new.block_reads } }
         ensures reads { IfOk result (λ found. self.new.block_reads ≤ self.old.block_reads + length found.items) }
+        ensures err { IfErr result (λ fault. IsFetchFault F.disk F.meter self.old (content_in self.old.tables group) begin end fault) }
     {
         if self.is_stopped {
             return Err(EngineFault::Stopped);
@@ -181,6 +187,7 @@ impl<F: FileSystem + Drop> Engine<F> {
     pub fn is_there(&self, group: u64) -> Result<bool, EngineFault>
         ensures there { IfOk result (λ there. there ≡ (answers_on F.disk self.now group).there) }
         ensures stopped { self.now.is_stopped ≡ true → result ≡ Err Stopped }
+        ensures err { IfErr result (λ fault. IsStopped self.now.is_stopped fault) }
     {
         if self.is_stopped {
             return Err(EngineFault::Stopped);

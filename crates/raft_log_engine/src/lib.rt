@@ -18,4 +18,4 @@ mod writing;
 pub use engine::Engine;
 pub use fault::EngineFault;
 pub use memory::{LogFiles, MemoryLog};
-pub use opening::NotOpened;
+pub use opening::{NotClosed, NotOpened};

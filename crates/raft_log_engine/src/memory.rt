@@ -10,6 +10,7 @@ ghost use Rattle.raft_log_disk.specs.Disk.{Disk};
 ghost use Rattle.raft_log_disk.specs.Image.{Image, seen_image};
 ghost use Rattle.raft_log_disk.specs.MemorySystem.{disk_in};
 ghost use Rattle.raft_log_engine.specs.declared.fault.EngineFault.TheVariants as engine_fault;
+ghost use Rattle.raft_log_engine.specs.Closing.{handed_back};
 ghost use Rattle.raft_log_engine.specs.Left.{answers_on};
 ghost use Rattle.raft_log_engine.specs.Log.{IsFoundBy, leaves_of_log, main_directory};
 ghost use Rattle.raft_log_engine.specs.Opening.{CantBeOpened, IsLeftByOpening};
@@ -25,7 +26,7 @@ ghost use Rattle.raft_log_recovery.specs.Scan.{directories_of};
 
 use crate::engine::Engine;
 use crate::fault::EngineFault;
-use crate::opening::NotOpened;
+use crate::opening::{NotClosed, NotOpened};
 use raft_content_log::ContentLog;
 use raft_log_files::{Config, CrashChoice, CrashFiles, CrashRefusal, Error, MemoryFileSystem};
 use raft_log_records::LogBatch;
@@ -77,6 +78,16 @@ fn in_one_directory(settings: &Config) -> Result<Config, AllocError>
     let mut config = settings.clone()?;
     config.spill_dir = None;
     Ok(config)
+}
+
+/// The files that a close hands back: a refusal is passed over.
+fn files_of(closed: Result<MemoryFileSystem, NotClosed<MemoryFileSystem>>) -> MemoryFileSystem
+    ensures { result ≡ handed_back closed }
+{
+    match closed {
+        Ok(files) => files,
+        Err(NotClosed { fault: _, files }) => files,
+    }
 }
 
 impl LogFiles {
@@ -183,7 +194,7 @@ impl MemoryLog {
         }
         LogFiles {
             settings: self.settings,
-            files: self.engine.close(),
+            files: files_of(self.engine.close()),
         }
     }
 

@@ -1,8 +1,10 @@
 //! Opening an engine with the files that are there.
-ghost use Rattle.std.specs.Prelude.{◌≡◌, ℕ, List, [], Err, IfOk, IfErr, IsErrAnd, IsOk, MatchOption, OnErr, Some};
+ghost use Rattle.std.specs.Prelude.{◌≡◌, ℕ, true, List, [], Err, IfOk, IfErr, IsErrAnd, IsOk, MatchOption, OnErr, Some};
 ghost use Rattle.raft_log_disk.specs.Cause.{RefusesNoMore};
+ghost use Rattle.raft_log_engine.specs.Caused.{IsSyncFault};
+ghost use Rattle.raft_log_engine.specs.Closing.{handed_back};
 ghost use Rattle.raft_log_engine.specs.Left.{IsSound, answers_on};
-ghost use Rattle.raft_log_engine.specs.declared.fault.EngineFault.TheVariants.{Log};
+ghost use Rattle.raft_log_engine.specs.declared.fault.EngineFault.TheVariants.{Log, Stopped};
 ghost use Rattle.raft_log_engine.specs.Opening.{CantBeOpened, IsFoundAgain, IsFoundContent, IsLeftByOpening, IsRecoveredAs};
 ghost use Rattle.raft_log_engine.specs.Reopened.{OpensAs, OpensAsFront, OpensInTail, StandAlone, StandsAlone, directories_of_engine, directories_of_pipes};
 ghost use Rattle.raft_log_engine.specs.Since.{HasWritten};
@@ -30,6 +32,15 @@ use std::alloc::Global;
 /// An engine that wasn't opened (own): why, and its files.
 #[derive(Drop)]
 pub struct NotOpened<F> {
+    /// Why.
+    pub fault: EngineFault,
+    /// The files, handed back.
+    pub files: F,
+}
+
+/// An engine that wasn't closed (own): why, and its files.
+#[derive(Drop)]
+pub struct NotClosed<F> {
     /// Why.
     pub fault: EngineFault,
     /// The files, handed back.
@@ -125,23 +136,37 @@ impl<F: FileSystem + Drop> Engine<F> {
         }
     }
 
-    /// The files, handed back (raft-engine's `close`). The last one of each queue is cut behind its
-    /// last record and synced, but where a write failed before. A refusal is passed over, and the
-    /// rewrite queue isn't closed behind it: an opening finds the same then, unless a write wasn't
-    /// synced. An engine is opened again with them.
-    pub fn close(mut self) -> F
-        ensures opens { IsSound self → StandsAlone F.disk self → OpensAs (directories_of_engine self) (F.disk result) (answers_on F.disk self) }
+    /// Closes the engine, and hands the files back in any case (raft-engine's `close`). After `Ok` the
+    /// last one of each queue is cut behind its last record and synced. A refusal is told. Behind one
+    /// by the append queue the rewrite queue isn't closed: it is on the disk, and an opening finds the
+    /// same. Where a write failed before it is `Stopped`, with no call on the files.
+    pub fn close(mut self) -> Result<F, NotClosed<F>>
+        ensures opens { IsSound self → StandsAlone F.disk self → OpensAs (directories_of_engine self) (F.disk (handed_back result)) (answers_on F.disk self) }
+        ensures opens_all { StandsAlone F.disk self → IfOk result (λ files. OpensAs (directories_of_engine self) (F.disk files) (answers_on F.disk self)) }
         ensures opens_front { (before : Content (List ℕ)) (batches : List Batch) → StandsAlone F.disk self → HasWritten F.disk self before batches
-            → OpensAsFront (directories_of_engine self) (F.disk result) before batches }
-        ensures later { RefusesNoMore (F.is_bounded self.files) (F.is_bounded result) (F.meter self.files) (F.meter result) }
+            → OpensAsFront (directories_of_engine self) (F.disk (handed_back result)) before batches }
+        ensures later { RefusesNoMore (F.is_bounded self.files) (F.is_bounded (handed_back result)) (F.meter self.files) (F.meter (handed_back result)) }
+        ensures cause { IfErr result (λ refused. IsSyncFault self (F.meter self.files) (F.meter refused.files) refused.fault) }
+        ensures stopped { self.is_stopped ≡ true → IsErrAnd result (λ refused. (refused.fault ≡ Stopped) × (refused.files ≡ self.files)) }
     {
         if self.is_stopped {
-            return self.files;
+            return Err(NotClosed {
+                fault: EngineFault::Stopped,
+                files: self.files,
+            });
         }
-        let Ok(()) = self.pipes.close(&mut self.files, LogQueue::Append) else {
-            return self.files;
-        };
-        let _ = self.pipes.close(&mut self.files, LogQueue::Rewrite);
-        self.files
+        if let Err(error) = self.pipes.close(&mut self.files, LogQueue::Append) {
+            return Err(NotClosed {
+                fault: EngineFault::Log(error),
+                files: self.files,
+            });
+        }
+        if let Err(error) = self.pipes.close(&mut self.files, LogQueue::Rewrite) {
+            return Err(NotClosed {
+                fault: EngineFault::Log(error),
+                files: self.files,
+            });
+        }
+        Ok(self.files)
     }
 }

@@ -4,12 +4,14 @@ ghost use Rattle.std.specs.Option.{option_map_or};
 ghost use Rattle.std.specs.List.Sorted.{IsStrictlySortedBy};
 ghost use Rattle.std.specs.Ordering.{nat_cmp, eq_by_cmp};
 ghost use Rattle.std.specs.Set.{is_member};
+ghost use Rattle.raft_log_engine.specs.Caused.{IsGetFault};
 ghost use Rattle.raft_log_engine.specs.Left.{answers_on};
 ghost use Rattle.raft_log_engine.specs.Reads.{IsMessageFault, IsRead, IsStopped, IsTableFault, used_by};
 ghost use Rattle.raft_log_engine.specs.Reopened.{OpensInTail, StandsAlone, directories_of_engine};
 ghost use Rattle.raft_log_engine.specs.declared.fault.EngineFault.TheVariants.{Stopped};
 ghost use Rattle.raft_log_memtables.specs.Content.{no_group};
 ghost use Rattle.raft_log_memtables.specs.Entries.{IsFirst, IsLast};
+ghost use Rattle.raft_log_memtables.specs.MemTables.{content_in};
 ghost use Rattle.raft_log_pipe.specs.Pipe.{first_of};
 ghost use Rattle.raft_log_pipes.specs.Pipes.{pipe_of};
 ghost use Rattle.raft_log_records.specs.declared.file_id.LogQueue.TheVariants.{Append, Rewrite};
@@ -28,6 +30,7 @@ impl<F: FileSystem + Drop> Engine<F> {
         ensures stopped { self.old.is_stopped ≡ true → result ≡ Err Stopped }
         ensures same { self.new ≡ record self.old { block_reads = self.new.block_reads } }
         ensures reads { IfOk result (λ found. self.new.block_reads ≤ self.old.block_reads + option_map_or (λ _. 1) found 0) }
+        ensures err { IfErr result (λ fault. IsGetFault F.disk F.meter self.old (content_in self.old.tables group) fault) }
     {
         if self.is_stopped {
             return Err(EngineFault::Stopped);

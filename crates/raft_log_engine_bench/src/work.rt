@@ -83,7 +83,11 @@ pub fn run(alloc: Global, task: Task) -> Result<Option<u64>, EngineFault> {
         turn(&mut engine, &mut batch, task, round, &entries)?;
     }
     if task.work == Work::Open {
-        engine = opened(alloc, engine.close())?;
+        let files = match engine.close() {
+            Ok(files) => files,
+            Err(refused) => return Err(refused.fault),
+        };
+        engine = opened(alloc, files)?;
     }
     engine.last_index(0)
 }

@@ -1,6 +1,6 @@
 //! A small log of which each byte is changed in turn, and each length cut.
 
-use crate::reopening::opened_as;
+use crate::reopening::{closed, opened_as};
 use crate::stops::{found_of, told_of};
 use raft_log_engine::EngineFault;
 use raft_log_files::{
@@ -42,7 +42,7 @@ fn written(alloc: Global, harm: Harm) -> Result<MemoryFileSystem, EngineFault> {
     let files = MemoryFileSystem::new(alloc);
     let mut engine = opened_as(files, alloc, harm.target_size, harm.mode)?;
     let _ = told_of(&mut engine, alloc, harm.count);
-    Ok(engine.close())
+    Ok(closed(engine))
 }
 
 /// The file that is damaged.

@@ -58,11 +58,19 @@ pub(crate) fn crashed(
     }
 }
 
+/// The files that a close hands back, refused or not.
+pub(crate) fn closed(engine: Engine<MemoryFileSystem>) -> MemoryFileSystem {
+    match engine.close() {
+        Ok(files) => files,
+        Err(refused) => refused.files,
+    }
+}
+
 /// The files of an engine after a stop: handed back by `close` where the word is `closed`, and by
 /// `abandon` before a crash.
 fn stopped(engine: Engine<MemoryFileSystem>, how: &str) -> Result<MemoryFileSystem, EngineFault> {
     let files = match how {
-        "closed" => engine.close(),
+        "closed" => closed(engine),
         _ => engine.abandon(),
     };
     crashed(files, how)

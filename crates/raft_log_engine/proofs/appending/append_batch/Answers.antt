@@ -9,6 +9,12 @@ use Rattle.raft_log_engine.proofs.Appended.{appended_more, still_stands, synced_
 use Rattle.raft_log_disk.proofs.RefusalLemmas.{no_more_then, still_free}
 use Rattle.raft_log_records.specs.declared.file_id.FileBlockHandle.{FileBlockHandle}
 use Rattle.raft_log_engine.proofs.Taken.{sync_for}
+use Rattle.std.proofs.Common.{ℕ, ◌+◌}
+use Rattle.raft_log_disk.specs.Cause.{Rises}
+use Rattle.raft_log_files.specs.declared.error.Error.{Error}
+use Rattle.raft_log_pipe.specs.Caused.{BeginsFiles, IsAppendFault, LacksNumber, LacksPlace}
+use Rattle.raft_log_pipe.specs.Taken.{IsFull}
+use Rattle.raft_log_pipe.proofs.CausedLemmas.{caused_for, rises_then, told_cause}
 use Rattle.raft_log_engine.proofs.appending.append_batch.Goals as goal
 
 pub returns-then-not-sync-clause-ok : goal.returns-then-not-sync-clause-ok
@@ -100,3 +106,19 @@ returns-clause-paths g c = c.in_ok-sync.ensures.call.paths ∙ c.in_ok-handle.en
 
 pub returns-clause-fits : goal.returns-clause-fits
 returns-clause-fits g c = c.in_ok-handle.ensures.call.fits
+
+pub returns-in_err-handle-clause-cause : goal.returns-in_err-handle-clause-cause
+returns-in_err-handle-clause-cause g c =
+    told_cause c.from_residual.result c.in_err-handle.field-0.0 (λ (x : Error). IsAppendFault c.args.pipes.now.append (g.F.FileSystem.disk c.args.files.now) (g.F.FileSystem.meter c.args.files.now) (g.F.FileSystem.meter c.append.new.files) x)
+    c.from_residual.ensures.1 c.in_err-handle.ensures.cause
+
+pub returns-in_err-sync-clause-cause : goal.returns-in_err-sync-clause-cause
+returns-in_err-sync-clause-cause g c =
+    let p = c.args.pipes.now.append in
+    let d = g.F.FileSystem.disk c.args.files.now in
+    let a = g.F.FileSystem.meter c.args.files.now in
+    let b = g.F.FileSystem.meter c.append.new.files in
+    let e = g.F.FileSystem.meter c.sync.new.files in
+    told_cause c.from_residual-in_err-sync.result c.in_err-sync.field-0.0 (λ (x : Error). IsAppendFault p d a e x) c.from_residual-in_err-sync.ensures.1
+    (caused_for (Rises 1 b e) ⊥ ⊥ ⊥ (Rises 1 a e) (Rises 2 a e) ((n : ℕ) × BeginsFiles (IsFull p) a e n × LacksNumber p n) ((n : ℕ) × BeginsFiles (IsFull p) a e n × LacksPlace p d n) c.in_err-sync.field-0.0
+    (rises_then 0 1 a b e c.in_ok-handle.ensures.later.counts) (λ x. absurd x) (λ x. absurd x) (λ x. absurd x) c.in_err-sync.ensures.cause)

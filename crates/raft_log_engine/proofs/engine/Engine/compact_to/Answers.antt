@@ -13,6 +13,10 @@ use Rattle.raft_log_engine.proofs.Reopened.{refused_opens}
 use Rattle.raft_log_engine.proofs.Seen.{count_seen}
 use Rattle.raft_log_engine.proofs.Since.{refused_front}
 use Rattle.raft_log_engine.proofs.Taken.{compaction_taken, compaction_unmade}
+use Rattle.raft_log_engine.proofs.Caused.{compaction_cause, compaction_memory_cause}
+use Rattle.raft_log_engine.specs.Caused.{IsCompactionFault}
+use Rattle.raft_log_engine.specs.declared.fault.EngineFault.{EngineFault}
+use Rattle.raft_log_pipe.proofs.CausedLemmas.{told_cause}
 use Rattle.raft_log_engine.proofs.engine.Engine.compact_to.Goals as goal
 
 pub returns-in_err-batch-clause-err : goal.returns-in_err-batch-clause-err
@@ -84,3 +88,21 @@ returns-clause-opens g c = λ alone. c.in_ok-write.ensures.opens alone refl
 
 pub returns-clause-all_written : goal.returns-clause-all_written
 returns-clause-all_written g c = c.in_ok-write.ensures.all_written refl
+
+-- ---- why it is refused
+
+pub returns-then-self-clause-cause : goal.returns-then-self-clause-cause
+returns-then-self-clause-cause g c = rw (← c.self.view_is) c.if-self.true
+
+pub returns-in_err-batch-clause-cause : goal.returns-in_err-batch-clause-cause
+returns-in_err-batch-clause-cause g c =
+    let m = g.F.FileSystem.meter c.args.self.now.files in
+    told_cause c.from_residual.result c.in_err-batch.field-0.0 (λ (x : EngineFault). IsCompactionFault (g.F.FileSystem.disk) c.args.self.now m m x) c.from_residual.ensures.1
+    (compaction_memory_cause (g.F.FileSystem.disk) c.args.self.now m m c.in_err-batch.field-0.0 c.in_err-batch.ensures.err)
+
+pub returns-in_err-write-clause-cause : goal.returns-in_err-write-clause-cause
+returns-in_err-write-clause-cause g c =
+    let a = g.F.FileSystem.meter c.args.self.now.files in
+    let b = g.F.FileSystem.meter c.write.new.self.files in
+    told_cause c.from_residual-in_err-write.result c.in_err-write.field-0.0 (λ (x : EngineFault). IsCompactionFault (g.F.FileSystem.disk) c.args.self.now a b x) c.from_residual-in_err-write.ensures.1
+    (compaction_cause (g.F.FileSystem.disk) c.args.self.now c.in_ok-batch.batch.items a b c.args.group c.args.index c.in_ok-batch.ensures.items c.in_err-write.field-0.0 c.in_err-write.ensures.cause)

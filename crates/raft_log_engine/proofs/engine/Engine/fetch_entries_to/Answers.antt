@@ -5,6 +5,8 @@ use Rattle.raft_log_engine.specs.Held.{bytes_on}
 use Rattle.raft_log_engine.proofs.Fetched.{copied, copied_count, fetched_there, has_read}
 use Rattle.raft_log_engine.proofs.Settled.{blocks_more, blocks_read}
 use Rattle.raft_log_engine.proofs.Tables.{measured}
+use Rattle.raft_log_engine.proofs.Clauses.{parts}
+use Rattle.raft_log_engine.proofs.Caused.{copies_fault, range_fault}
 use Rattle.raft_log_engine.proofs.engine.Engine.fetch_entries_to.Goals as goal
 
 pub copies_of-requires-clause-read : goal.copies_of-requires-clause-read
@@ -35,3 +37,16 @@ returns-clause-found g c =
 pub returns-clause-reads : goal.returns-clause-reads
 returns-clause-reads g c =
     rw (← c.self.view_is) (copied_count c.copies_of.result (bytes_on (g.F.FileSystem.disk c.self.inside.files) c.self.inside.pipes) c.deref.result.now c.self.inside.blocks.reads c.copies_of.new.cache.reads c.copies_of.ensures.copied c.copies_of.ensures.reads)
+
+pub returns-in-Err-clause-err : goal.returns-in-Err-clause-err
+returns-in-Err-clause-err g c =
+    rw (← c.self.view_is) (range_fault (g.F.FileSystem.disk) (g.F.FileSystem.meter) (parts c.self.inside.files c.self.inside.pipes c.self.inside.tables c.self.inside.is_stopped c.self.inside.wrote_unsynced c.self.inside.blocks.reads) (content_in c.self.inside.tables c.args.group) c.args.begin c.args.end
+    c.args.max_size c.in-Err.error c.fault_of.result c.fault_of.ensures c.in-Err.ensures.some c.in-Err.ensures.none c.in-Err.ensures.unknown)
+
+pub returns-clause-err : goal.returns-clause-err
+returns-clause-err g c =
+    rw (← c.self.view_is) (copies_fault (g.F.FileSystem.disk) (g.F.FileSystem.meter) (parts c.self.inside.files c.self.inside.pipes c.self.inside.tables c.self.inside.is_stopped c.self.inside.wrote_unsynced c.self.inside.blocks.reads) (content_in c.self.inside.tables c.args.group) c.args.begin c.args.end
+    c.copies_of.result c.deref.result.now
+    (λ e among. fetched_there (content_in c.self.inside.tables c.args.group) c.args.begin c.args.end c.args.max_size c.in-Ok.places.items c.in-Ok.ensures.some c.in-Ok.ensures.none c.in-Ok.ensures.unknown e
+    (subst (λ l. Contains l e) c.deref.ensures.value among))
+    c.copies_of.ensures.err)

@@ -4,6 +4,12 @@ use Rattle.std.specs.Option.{option_map}
 use Rattle.raft_log_records.specs.declared.item.EntryIndex.{EntryIndex}
 use Rattle.raft_log_engine.specs.Held.{bytes_on}
 use Rattle.raft_log_engine.proofs.Settled.{blocks_more, blocks_read}
+use Rattle.std.proofs.Common.{inr}
+use Rattle.raft_log_memtables.specs.MemTables.{content_in}
+use Rattle.raft_log_engine.specs.Caused.{IsGetFault}
+use Rattle.raft_log_engine.specs.declared.fault.EngineFault.{EngineFault}
+use Rattle.raft_log_engine.proofs.Clauses.{parts}
+use Rattle.raft_log_pipe.proofs.CausedLemmas.{told_cause}
 use Rattle.raft_log_engine.proofs.engine.Engine.get_entry.Goals as goal
 
 pub copy_of-requires-clause-read : goal.copy_of-requires-clause-read
@@ -27,3 +33,9 @@ returns-in_ok-copy_of-in-Some-clause-found g c =
     rw (← c.self.view_is)
     (ap (λ (l : List ℕ). Some l) c.in_ok-copy_of-in-Some.ensures.copied
     ∙ ap (option_map (bytes_on (g.F.FileSystem.disk c.self.inside.files) c.self.inside.pipes)) c.in-Some.ensures)
+
+pub returns-in_err-copy_of-in-Some-clause-err : goal.returns-in_err-copy_of-in-Some-clause-err
+returns-in_err-copy_of-in-Some-clause-err g c =
+    rw (← c.self.view_is) (told_cause c.from_residual.result c.in_err-copy_of-in-Some.field-0.0
+    (λ (x : EngineFault). IsGetFault (g.F.FileSystem.disk) (g.F.FileSystem.meter) (parts c.self.inside.files c.self.inside.pipes c.self.inside.tables c.self.inside.is_stopped c.self.inside.wrote_unsynced c.self.inside.blocks.reads) (content_in c.self.inside.tables c.args.group) x) c.from_residual.ensures.1
+    (inr (inr (c.args.index, c.in-Some.place, sym c.in-Some.ensures, c.in_err-copy_of-in-Some.ensures.err))))

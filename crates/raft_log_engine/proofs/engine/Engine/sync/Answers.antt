@@ -146,3 +146,8 @@ returns-clause-opens_in_tail g c =
     let kept = synced_kept d e c.self.inside.pipes c.sync.new.self c.self.inside.tables held.rewrites held.synced held.unsynced held.held (c.in_default.ensures.both held.held.pipes) c.in_default.ensures.call.same c.in_default.ensures.other c.in_default.ensures.call.ok in
     rw (← c.self.view_is) (λ alone. held_in_tail e c.sync.new.self held.rewrites (held.synced ++ held.unsynced) [] (met.is_named c.sync.new.files)
     (synced_stands c.self.inside.pipes c.sync.new.self d e c.in_default.ensures.call.same c.in_default.ensures.call.paths c.in_default.ensures.call.names c.in_default.ensures.other alone) kept.rewrite kept.append)
+
+-- ---- why it is refused
+
+pub returns-in-Err-clause-cause : goal.returns-in-Err-clause-cause
+returns-in-Err-clause-cause g c = rw (← c.self.view_is) c.in-Err.ensures.cause

@@ -20,6 +20,10 @@ use Rattle.raft_log_engine.proofs.Synced.{synced_opens, synced_others, synced_re
 use Rattle.raft_log_engine.proofs.Tables.{answered}
 use Rattle.raft_log_engine.proofs.Tails.{held_in_tail, more_in_tail}
 use Rattle.raft_log_engine.proofs.Taken.{block_fits, done_write, failed_write, refused_write, stopped_write, synced_write, unapplied_write}
+use Rattle.raft_log_engine.proofs.Caused.{failed_cause, refused_cause, stopped_cause, synced_cause, unapplied_cause}
+use Rattle.raft_log_engine.specs.Caused.{IsWriteFault}
+use Rattle.raft_log_engine.specs.declared.fault.EngineFault.{EngineFault}
+use Rattle.raft_log_pipe.proofs.CausedLemmas.{told_cause}
 use Rattle.raft_log_engine.proofs.engine.Engine.write.Goals as goal
 
 pub returns-then-self-clause-opens_front : goal.returns-then-self-clause-opens_front
@@ -290,3 +294,36 @@ returns-clause-opens_in_tail g c =
     (met.is_named c.append_batch.new.files)
     (stand_on c.self.inside.pipes c.append_batch.new.pipes (g.F.FileSystem.disk c.self.inside.files) (g.F.FileSystem.disk c.append_batch.new.files) (record { paths = c.in-Ok.ensures.paths; other = c.in-Ok.ensures.other }) alone (c.in-Ok.ensures.alone alone.append))
     c.in-Ok.ensures.other c.in-Ok.ensures.ok)
+
+-- ---- why it is refused
+
+pub returns-then-self-clause-cause : goal.returns-then-self-clause-cause
+returns-then-self-clause-cause g c =
+    let m = g.F.FileSystem.meter c.self.inside.files in
+    rw (← c.self.view_is) (stopped_cause (g.F.FileSystem.disk) (parts c.self.inside.files c.self.inside.pipes c.self.inside.tables c.self.inside.is_stopped c.self.inside.wrote_unsynced c.self.inside.blocks.reads) c.args.batch.now.items m m c.if-self.true)
+
+pub returns-in_err-sync-clause-cause : goal.returns-in_err-sync-clause-cause
+returns-in_err-sync-clause-cause g c =
+    let a = g.F.FileSystem.meter c.args.self.now.files in
+    let b = g.F.FileSystem.meter c.sync.new.self.files in
+    told_cause c.from_residual.result c.in_err-sync.field-0.0 (λ (x : EngineFault). IsWriteFault (g.F.FileSystem.disk) c.args.self.now c.args.batch.now.items a b x) c.from_residual.ensures.1
+    (synced_cause (g.F.FileSystem.disk) c.args.self.now c.args.batch.now.items a b (c.is_empty.ensures.0 c.if-is_empty.true) c.in_err-sync.field-0.0 c.in_err-sync.ensures.cause)
+
+pub returns-in_err-len-clause-cause : goal.returns-in_err-len-clause-cause
+returns-in_err-len-clause-cause g c =
+    let m = g.F.FileSystem.meter c.self.inside.files in
+    rw (← c.self.view_is) (told_cause c.from_residual-in_err-len.result c.in_err-len.field-0.0
+    (λ (x : EngineFault). IsWriteFault (g.F.FileSystem.disk) (parts c.self.inside.files c.self.inside.pipes c.self.inside.tables c.self.inside.is_stopped c.self.inside.wrote_unsynced c.self.inside.blocks.reads) c.args.batch.now.items m m x) c.from_residual-in_err-len.ensures.1
+    (refused_cause (g.F.FileSystem.disk) (parts c.self.inside.files c.self.inside.pipes c.self.inside.tables c.self.inside.is_stopped c.self.inside.wrote_unsynced c.self.inside.blocks.reads) c.args.batch.now.items m m
+    (λ none. false≢true (sym c.if-is_empty.false ∙ c.is_empty.ensures.1 none)) c.in_err-len.field-0.0 c.in_err-len.ensures.err))
+
+pub returns-in-Err-clause-cause : goal.returns-in-Err-clause-cause
+returns-in-Err-clause-cause g c =
+    let same : c.prepare.new.batch.items ≡ c.args.batch.now.items = c.in_ok-len.ensures.same in
+    rw (← c.self.view_is, ← same) (failed_cause (g.F.FileSystem.disk) (parts c.self.inside.files c.self.inside.pipes c.self.inside.tables c.self.inside.is_stopped c.self.inside.wrote_unsynced c.self.inside.blocks.reads) c.prepare.new.batch.items
+    (g.F.FileSystem.meter c.self.inside.files) (g.F.FileSystem.meter c.append_batch.new.files)
+    (λ none. false≢true (sym c.if-is_empty.false ∙ c.is_empty.ensures.1 (sym same ∙ none))) c.in-Err.error c.in-Err.ensures.cause)
+
+pub returns-in-Err-apply-clause-cause : goal.returns-in-Err-apply-clause-cause
+returns-in-Err-apply-clause-cause g c =
+    unapplied_cause (g.F.FileSystem.disk) c.args.self.now c.args.batch.now.items (g.F.FileSystem.meter c.args.self.now.files) (g.F.FileSystem.meter c.append_batch.new.files) c.in-Err-apply.fault c.in-Err-apply.ensures.err
