@@ -1,7 +1,6 @@
 -- Whatever a crash leaves of a pipe, only the last of its files is torn.
-use Rattle.std.proofs.Common.{◌≡◌, ◌≢◌, ◌⊎◌, inl, inr, ⊎_elim, ℕ, zero, suc, ◌+◌, ◌<◌, ◌≤◌, true, false, List, [], ◌∷◌, ◌++◌, length, drop, take, Option, Some, None, Result, Ok, Err, refl, sym, ap, subst, ◌∙◌, append_assoc, arith, length-append}
+use Rattle.std.proofs.Common.{◌≡◌, ◌⊎◌, inl, inr, ⊎_elim, ℕ, suc, ◌<◌, true, false, List, [], ◌∷◌, ◌++◌, length, drop, Option, Some, None, Result, Ok, Err, refl, sym, ap, subst, ◌∙◌, append_assoc, arith, length-append}
 use Rattle.std.specs.Prelude.{MatchResult, ◌==◌}
-use Rattle.std.specs.List.{AllByRecursion}
 use Rattle.std.proofs.lemmas.List.{append-nil, take_all}
 use Rattle.std.proofs.lemmas.Bool.{false≢true}
 use Rattle.std.proofs.lemmas.List.Sorted.{Contains-permutation, IsPermutation-sym}
@@ -30,7 +29,7 @@ use Rattle.raft_log_pipe.specs.declared.file.File.{File}
 use Rattle.raft_log_pipe.specs.declared.pipe.SinglePipe.{SinglePipe}
 use Rattle.raft_log_pipe.specs.Alone.{AreLast, IsAlone, Names, directories_of_pipe}
 use Rattle.raft_log_pipe.specs.Blocks.{files_of}
-use Rattle.raft_log_pipe.specs.Pipe.{AreOlder, Holds, IsBlank, IsOlder, Numbered, id_of}
+use Rattle.raft_log_pipe.specs.Pipe.{AreOlder, Holds, IsOlder, Numbered, id_of}
 use Rattle.raft_log_pipe.specs.Stored.{IsEnded, IsStored}
 use Rattle.raft_log_pipe.proofs.PipeLemmas.{image_there}
 use Rattle.raft_log_recovery.specs.declared.scan.FileKind.TheVariants.{Log}
@@ -38,7 +37,7 @@ use Rattle.raft_log_recovery.specs.declared.scan.FileName.{FileName}
 use Rattle.raft_log_recovery.specs.Crashed.{HasHole, IsCrashed, TornTailsAreOpened}
 use Rattle.raft_log_recovery.specs.Opening.{AnyAligned}
 use Rattle.raft_log_recovery.specs.Queue.{AnyRefused, AreOpen, IsFileOf}
-use Rattle.raft_log_recovery.specs.Repair.{cuts_faults, fault_in, format_in, record_fault}
+use Rattle.raft_log_recovery.specs.Repair.{fault_in, format_in, record_fault}
 use Rattle.raft_log_recovery.specs.Scan.{AreFound, OnlyMakes}
 use Rattle.raft_log_recovery.proofs.CrashLemmas.{same_found}
 use Rattle.raft_log_recovery.proofs.FoundLemmas.{contained, in_contained}

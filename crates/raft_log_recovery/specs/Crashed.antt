@@ -45,8 +45,8 @@ CrashedPipesAreFound =
 
 -- ---- torn tails
 
--- A file before the last one has no bytes: no torn tail, but a hole. An opening that tolerates any fault leaves it so where the
--- file's header was broken; nothing else does
+-- A file before the last one has no bytes: no torn tail, but a hole. An opening that tolerates any fault leaves one so where its
+-- header was broken
 abbrev pub HasHole : SinglePipe → Disk → Type 0
 HasHole p d = (f : File) × IsIn f p.older.items × ((d.file f.handle.0).bytes ≡ [])
 
