@@ -49,3 +49,9 @@ returns-in-Append-clause-cause g c = rw c.in-Append.is c.purge_to.ensures.cause
 
 pub returns-in-Rewrite-clause-cause : goal.returns-in-Rewrite-clause-cause
 returns-in-Rewrite-clause-cause g c = rw c.in-Rewrite.is c.purge_to-in-Rewrite.ensures.cause
+
+pub returns-in-Append-clause-taken : goal.returns-in-Append-clause-taken
+returns-in-Append-clause-taken g c = rw c.in-Append.is c.purge_to.ensures.taken
+
+pub returns-in-Rewrite-clause-taken : goal.returns-in-Rewrite-clause-taken
+returns-in-Rewrite-clause-taken g c = rw c.in-Rewrite.is c.purge_to-in-Rewrite.ensures.taken
