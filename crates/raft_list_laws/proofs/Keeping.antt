@@ -20,7 +20,7 @@ use Rattle.raft_laws.proofs.WorldLimits.{vote_itself}
 use Rattle.raft_laws.proofs.WorldRuns.{among_either}
 use Rattle.raft_list_laws.specs.Accounts.{Accounts, AreNoted, AreTrue, PartsAreFronts, WasNoted, settled_of}
 use Rattle.raft_list_laws.specs.Changes.{AcceptancesKeep, IsAccepted, IsNoted, IsSetUp, IsSilent, NotesKeep, SetUpsKeep, SilentKeep, message_reaches, note_reaches, with_message, with_note, with_setup}
-use Rattle.raft_list_laws.proofs.Parts.{OneVoteGrows, list_is_longer}
+use Rattle.raft_list_laws.proofs.Parts.{OneVoteGrows, goes_on_longer, list_is_longer}
 
 -- ---- one more at the end of a list
 
@@ -168,7 +168,7 @@ module _ (a next : Accounts) (w : GroupWorld) (l : Led) (list : List Entry) (t :
       record {
         notes = note_notes;
         list =
-            is.list ∙ ap (λ xs. longer xs (settled_of next l.vote)) t.list
+            goes_on_longer a next w after l.vote list t note_notes fronts note_grows is.list
             ∙ sym (list_is_longer a next w after l.vote list t note_notes fronts note_grows);
       }
 
@@ -216,7 +216,7 @@ module _ (a next : Accounts) (w : GroupWorld) (m : Message) (vote : Vote ℕ) (l
       record {
         notes = message_notes;
         list =
-            is.list ∙ ap (λ xs. longer xs (settled_of next vote)) t.list
+            goes_on_longer a next w (with_message w m) vote list t message_notes fronts message_grows is.list
             ∙ sym (list_is_longer a next w (with_message w m) vote list t message_notes fronts message_grows);
       }
 

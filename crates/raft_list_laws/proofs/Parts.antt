@@ -1,8 +1,8 @@
 -- Behind a change of one vote, the group's list is the longer of the one before and of what that vote has settled.
-use Rattle.std.specs.Prelude.{◌≡◌, ◌⊎◌, ℕ, ◌<◌, ◌≤◌, ◌&&◌, Bool, true, false, List, [], ◌∷◌, length, take, map, Contains, refl}
-use Rattle.std.proofs.Common.{inl, inr, sym, ap, ap₂, ◌∙◌, subst, arith, ⊎_elim, length-take-le}
+use Rattle.std.specs.Prelude.{◌≡◌, ◌⊎◌, ℕ, ◌<◌, ◌≤◌, ◌&&◌, nat_lt, Bool, true, false, List, [], ◌∷◌, length, take, map, Contains, refl}
+use Rattle.std.proofs.Common.{inl, inr, sym, ap, ap₂, ◌∙◌, subst, arith, ⊎_elim, le-ltb, length-take-le, lt-ltb}
 use Rattle.std.proofs.Math.Path.{fun_ext}
-use Rattle.std.proofs.lemmas.Bool.{and_from, and_parts, cases_Bool}
+use Rattle.std.proofs.lemmas.Bool.{and_from, and_parts, cases_Bool, cases_lt, cond-false, cond-true}
 use Rattle.raft_values.specs.declared.vote.Vote.{Vote}
 use Rattle.raft_quorums.specs.Quorum.{is_quorum}
 use Rattle.raft_group_step.specs.Values.{Entry, is_written_by, vote_eq}
@@ -16,6 +16,7 @@ use Rattle.raft_laws.proofs.GroupList.{quorum_back}
 use Rattle.raft_laws.proofs.TrackElections.{quorum_link}
 use Rattle.raft_laws.proofs.VoteRanks.{vote_eq_same}
 use Rattle.raft_list_laws.specs.Accounts.{Accounts, AreNoted, AreTrue, PartsAreFronts, is_reached, settled_of}
+use Rattle.raft_list_laws.specs.Changes.{GoesOn}
 
 -- ---- lists
 
@@ -198,6 +199,21 @@ module _ (a next : Accounts) (w w' : GroupWorld) (vote : Vote ℕ) (list : List 
       let past = past_best p.0 (among_contains w'.led p.0 p.1) in
       omega arith)
       (longest [] (map (settled_part w') w'.led)).one
+
+  -- so it is where the list goes on
+  pub goes_on_longer : GoesOn a.list (settled_of next vote) next.list → next.list ≡ longer (group_list w) (settled_of next vote)
+  goes_on_longer on =
+      let p = cases_lt (length (group_list w)) (length (settled_of next vote)) in
+      let size = ap length t.list in
+      ⊎_elim
+      (λ less.
+      let agree = agree_trans old_short.0 (agree_sym (agree_less (length (group_list w)) (omega arith) new_short.0)) in
+      on.grows (omega arith) (subst (λ xs. AgreeBelow (length xs) xs (settled_of next vote)) (sym t.list) agree)
+      ∙ sym (cond-true (nat_lt (length (group_list w)) (length (settled_of next vote))) (settled_of next vote) (group_list w) (lt-ltb (length (group_list w)) (length (settled_of next vote)) less)))
+      (λ more.
+      on.stays (omega arith) ∙ t.list
+      ∙ sym (cond-false (nat_lt (length (group_list w)) (length (settled_of next vote))) (settled_of next vote) (group_list w) (le-ltb (length (group_list w)) (length (settled_of next vote)) more)))
+      p
 
   pub list_is_longer : group_list w' ≡ longer (group_list w) (settled_of next vote)
   list_is_longer =

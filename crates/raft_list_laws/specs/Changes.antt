@@ -1,12 +1,12 @@
 -- How an event changes the accounts of a group: by its set-up, the note of a leader, and each message that it sends.
-use Rattle.std.specs.Prelude.{◌≡◌, ℕ, ◌==◌, ◌&&◌, ◌||◌, if◌then◌else◌, Bool, false, List, [], ◌∷◌, ◌++◌, length, Option, Some}
+use Rattle.std.specs.Prelude.{◌≡◌, ℕ, ◌<◌, ◌≤◌, ◌==◌, ◌&&◌, ◌||◌, if◌then◌else◌, Bool, false, List, [], ◌∷◌, ◌++◌, length, Option, Some}
 use Rattle.std.specs.List.{list_any}
 use Rattle.raft_values.specs.declared.vote.Vote.{Vote}
 use Rattle.raft_group_step.specs.Values.{Entry, Membership, vote_eq}
 use Rattle.raft_group_step.specs.Message.{Message}
 use Rattle.raft_laws.specs.BallotLists.{AgreeBelow}
 use Rattle.raft_laws.specs.GroupWorld.{GroupWorld, Led}
-use Rattle.raft_laws.specs.Settled.{body_accepts, is_at_or_after, longer}
+use Rattle.raft_laws.specs.Settled.{body_accepts, is_at_or_after}
 use Rattle.raft_list_laws.specs.Accounts.{Accounts, AreTrue, PartsAreFronts, settled_of}
 
 -- ---- the worlds
@@ -35,6 +35,11 @@ message_reaches m vote place node =
 
 -- ---- the accounts behind them
 
+-- the list stays as it is, unless more is settled that goes on from it: then it is that
+pub record GoesOn (list settled next : List Entry) : Type 0 where
+  pub stays : length settled ≤ length list → next ≡ list
+  pub grows : length list < length settled → AgreeBelow (length list) list settled → next ≡ settled
+
 -- nobody has led yet, and the voters are those of the set-up
 pub record IsSetUp (a : Accounts) (m : Membership) (next : Accounts) : Type 0 where
   pub voters : next.voters ≡ m.configs
@@ -48,7 +53,7 @@ pub record IsNoted (a : Accounts) (l : Led) (next : Accounts) : Type 0 where
   pub latest : (vote : Vote ℕ) → next.latest vote ≡ (if vote_eq vote l.vote then l.list else a.latest vote)
   pub reached : (vote : Vote ℕ) (place node : ℕ)
       → next.reached vote place node ≡ (a.reached vote place node || note_reaches l vote place node)
-  pub list : next.list ≡ longer a.list (settled_of next l.vote)
+  pub list : GoesOn a.list (settled_of next l.vote) next.list
 
 -- the sender has accepted what the message says, under one vote alone, and the group's list goes on with what that settles
 pub record IsAccepted (a : Accounts) (m : Message) (vote : Vote ℕ) (next : Accounts) : Type 0 where
@@ -57,7 +62,7 @@ pub record IsAccepted (a : Accounts) (m : Message) (vote : Vote ℕ) (next : Acc
   pub latest : (other : Vote ℕ) → next.latest other ≡ a.latest other
   pub reached : (other : Vote ℕ) (place node : ℕ)
       → next.reached other place node ≡ (a.reached other place node || message_reaches m other place node)
-  pub list : next.list ≡ longer a.list (settled_of next vote)
+  pub list : GoesOn a.list (settled_of next vote) next.list
 
 -- the message accepts nothing
 abbrev pub IsSilent : Message → Type 0
