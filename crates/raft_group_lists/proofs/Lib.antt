@@ -1,2 +1,3 @@
 mod WalkLemmas
 mod LeadLemmas
+mod ListLemmas

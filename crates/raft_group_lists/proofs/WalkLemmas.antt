@@ -38,6 +38,9 @@ module _ (noted : List Noted) (joined : AreJoined noted) where
   pub list_size : (at : Option ℕ) → IsWithin noted at → length (list_to noted at) ≡ count_to noted at
   list_size at w = sized (count_to noted at) at w (omega arith)
 
+pub within_some : (noted : List Noted) (k : ℕ) → k < length noted → IsWithin noted (Some k)
+within_some noted k l j e = let same = same_some e in omega arith
+
 -- where a walk stands at an entry
 pub record IsStep (noted : List Noted) (at : Option ℕ) (k : ℕ) (x : Noted) : Type 0 where
   pub within : k < length noted

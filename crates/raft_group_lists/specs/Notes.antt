@@ -86,6 +86,11 @@ abbrev pub reached_in : Option Lead → List Reached
 reached_in None = []
 reached_in (Some lead) = lead.reached.items
 
+-- the entry is of the vote's leader, and a quorum has accepted it by what is noted under the vote
+abbrev pub is_settled : List (List ℕ) → Lead → Entry → Bool
+is_settled voters lead e =
+    is_written_by lead.vote.leader_id e && is_quorum voters (has_reached lead.reached.items e.log_id.index)
+
 -- the vote is noted there, and not behind it
 pub record IsLeadAt (noted_leads : List Lead) (vote : Vote ℕ) (at : ℕ) : Type 0 where
   pub lead : Lead
