@@ -1,3 +1,4 @@
 mod WalkLemmas
 mod LeadLemmas
 mod ListLemmas
+mod KeepLemmas

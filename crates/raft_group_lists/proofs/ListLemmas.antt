@@ -77,3 +77,22 @@ settled_then voters reached node place lead more leader same xs =
     (fun_ext (λ (e : Entry).
     ap (λ (by : LeaderId ℕ). is_written_by by e && is_quorum voters (is_now_reached reached node place e.log_id.index)) same
     ∙ ap (λ (set : ℕ → Bool). is_written_by lead.vote.leader_id e && is_quorum voters set) (fun_ext (λ n. sym (more e.log_id.index n)))))
+
+-- ---- the entry at a place of the list
+
+pub entry_there : (noted : List Noted) (ks : List ℕ) → AreWithin noted ks → (i k : ℕ) (x : Noted) → slice_get ks i ≡ Some k → slice_get noted k ≡ Some x → slice_get (entries_at noted ks) i ≡ Some x.entry
+entry_there noted [] w i k x e there = absurd (let no : None ≡ Some k = e in cc)
+entry_there noted (j ∷ ks) w zero k x e there =
+    ap (λ o. slice_get (entry_in o ++ entries_at noted ks) 0) (ap (slice_get noted) (same_some e) ∙ there)
+entry_there noted (j ∷ ks) w (suc i) k x e there =
+    let y = some_at noted j (w 0 j refl) in
+    ap (λ o. slice_get (entry_in o ++ entries_at noted ks) (suc i)) y.1
+    ∙ entry_there noted ks (λ n m f. w (suc n) m f) i k x e there
+
+pub entry_nowhere : (noted : List Noted) (ks : List ℕ) → AreWithin noted ks → (i : ℕ) → slice_get ks i ≡ None → slice_get (entries_at noted ks) i ≡ None
+entry_nowhere noted [] w i e = refl
+entry_nowhere noted (j ∷ ks) w zero e = absurd (let no : Some j ≡ None = e in cc)
+entry_nowhere noted (j ∷ ks) w (suc i) e =
+    let y = some_at noted j (w 0 j refl) in
+    ap (λ o. slice_get (entry_in o ++ entries_at noted ks) (suc i)) y.1
+    ∙ entry_nowhere noted ks (λ n m f. w (suc n) m f) i e
