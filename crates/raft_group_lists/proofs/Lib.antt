@@ -2,3 +2,4 @@ mod WalkLemmas
 mod LeadLemmas
 mod ListLemmas
 mod KeepLemmas
+mod SetLemmas

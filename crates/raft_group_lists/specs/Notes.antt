@@ -6,7 +6,8 @@ use Rattle.raft_values.specs.declared.vote.Vote.{Vote}
 use Rattle.raft_quorums.specs.Quorum.{is_quorum}
 use Rattle.raft_group_step.specs.Values.{Entry, is_written_by, vote_eq}
 use Rattle.raft_laws.specs.Settled.{count_to_last}
-use Rattle.raft_list_laws.specs.Accounts.{Accounts}
+use Rattle.raft_list_laws.specs.Accounts.{Accounts, settled_of}
+use Rattle.raft_list_laws.specs.Changes.{GoesOn}
 use Rattle.raft_group_lists.specs.declared.notes.Noted.{Noted}
 use Rattle.raft_group_lists.specs.declared.notes.Reached.{Reached}
 use Rattle.raft_group_lists.specs.declared.notes.Lead.{Lead}
@@ -131,6 +132,25 @@ accounts_of s =
       reached = λ vote place node. has_reached (reached_in (lead_in s.leads vote)) place node;
       list = entries_at s.noted s.listed;
     }
+
+abbrev pub notes_of : List (List ℕ) → List Noted → List Lead → List ℕ → Notes
+notes_of voters noted leads listed = record { voters = voters; noted = noted; leads = leads; listed = listed }
+
+-- where the leader's list ends, by what is said of it and by what was noted
+abbrev pub end_or : Option ℕ → Option ℕ → Option ℕ
+end_or None known = known
+end_or (Some last) known = Some last
+
+-- under the vote the leader's list ends as it is said, and the node has accepted up to the place; the list goes on with what that
+-- settles
+pub record Learns (s : Notes) (node : ℕ) (vote : Vote ℕ) (last place : Option ℕ) (next : Notes) : Type 0 where
+  pub ends : (other : Vote ℕ)
+      → last_in (lead_in next.leads other)
+      ≡ (if vote_eq other vote then end_or last (last_in (lead_in s.leads vote)) else last_in (lead_in s.leads other))
+  pub accepts : (other : Vote ℕ) (at n : ℕ)
+      → has_reached (reached_in (lead_in next.leads other)) at n
+      ≡ (has_reached (reached_in (lead_in s.leads other)) at n || (vote_eq other vote && (node == n && reaches place at)))
+  pub list : GoesOn (accounts_of s).list (settled_of (accounts_of next) vote) (accounts_of next).list
 
 -- ---- what holds of all notes
 

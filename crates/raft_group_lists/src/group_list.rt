@@ -9,9 +9,8 @@ ghost use Rattle.raft_list_laws.specs.Changes.{with_message, with_note, with_set
 ghost use Rattle.raft_group_lists.specs.Notes.{IsWithin, accounts_of, list_to};
 ghost use Rattle.raft_group_lists.specs.Facts.{AcceptsUpTo, IsNoteOf, own_place};
 
-use crate::leads::lead_at;
 use crate::notes::{Lead, Noted};
-use crate::settle::learn_at;
+use crate::settle::learn_under;
 use crate::walks::count_to;
 use raft_quorums::voter_groups::VoterGroups;
 use raft_state::{BasicNode, Bytes, Entry, LeaderId, LogId, Vote};
@@ -122,17 +121,18 @@ impl GroupList {
         ensures err { OnErr result ((w : GroupWorld) → AreTrue (accounts_of self.old) w → AreTrue (accounts_of self.new) w) }
     {
         let place = own_place(&self.noted[last].entry.log_id, &vote.leader_id);
-        let at = lead_at(self.alloc, &mut self.leads, &vote)?;
-        learn_at(
+        learn_under(
             self.alloc,
             &self.voters,
             self.noted.as_slice(),
-            &mut self.leads[at],
+            &mut self.leads,
             &mut self.listed,
             node,
+            &vote,
             Some(last),
             place,
-        )
+        )?;
+        Ok(())
     }
 
     /// A node sent that it has accepted, under the vote, all up to this log id; the group's list goes on with what that settles.
@@ -143,17 +143,17 @@ impl GroupList {
         ensures err { OnErr result ((w : GroupWorld) → AreTrue (accounts_of self.old) w → AreTrue (accounts_of self.new) w) }
     {
         let place = own_place(&last, &vote.leader_id);
-        let at = lead_at(self.alloc, &mut self.leads, &vote)?;
-        let known = self.leads[at].last;
-        learn_at(
+        learn_under(
             self.alloc,
             &self.voters,
             self.noted.as_slice(),
-            &mut self.leads[at],
+            &mut self.leads,
             &mut self.listed,
             node,
-            known,
+            &vote,
+            None,
             place,
-        )
+        )?;
+        Ok(())
     }
 }

@@ -1,13 +1,14 @@
 //! The group's list goes on with what is settled.
 ghost use Rattle.std.specs.Prelude.{◌≡◌, ◌&&◌, ◌==◌, ◌||◌, ◌++◌, ◌<◌, ◌≤◌, ℕ, Some, drop, length, OnErr, OnOk};
 ghost use Rattle.raft_list_laws.specs.Changes.{GoesOn};
-ghost use Rattle.raft_group_lists.specs.Notes.{AreJoined, AreWithin, IsWithin, SameLead, count_to, entries_at, has_reached, is_settled, list_to, passes, reaches, settled_by};
+ghost use Rattle.raft_group_lists.specs.Notes.{AreJoined, AreWhole, AreWithin, IsWithin, Learns, SameLead, SameLeads, count_to, entries_at, has_reached, is_settled, list_to, notes_of, passes, reaches, settled_by};
 
 use crate::judge::Judge;
-use crate::leads::{learn, spot_of};
+use crate::leads::{lead_at, learn, spot_of};
 use crate::notes::{Lead, Noted};
 use crate::walks::{chain_above, settled_at};
 use raft_quorums::voter_groups::VoterGroups;
+use raft_state::Vote;
 use std::alloc::{AllocError, Global};
 
 // The list takes over what stands behind it in a leader's list that ends there. An `Err` is want of memory, and changes nothing.
@@ -88,5 +89,34 @@ pub(crate) fn learn_at(
     };
     settle(alloc, noted, listed, last, &judge)?;
     learn(lead, spot, node, last, place);
+    Ok(())
+}
+
+// Under the vote, the leader's list ends there, or where it did where nothing is said of it, and the node has accepted up to this
+// place; the group's list goes on with what that settles. An `Err` is want of memory: then the same is noted.
+pub(crate) fn learn_under(
+    alloc: Global,
+    voters: &VoterGroups<u64>,
+    noted: &[Noted],
+    leads: &mut Vec<Lead>,
+    listed: &mut Vec<usize>,
+    node: u64,
+    vote: &Vote<u64>,
+    last: Option<usize>,
+    place: Option<u64>,
+) -> Result<(), AllocError>
+    requires whole { AreWhole (notes_of voters.now noted.now leads.old.items listed.old.items) }
+    requires within { IsWithin noted.now last }
+    ensures whole { AreWhole (notes_of voters.now noted.now leads.new.items listed.new.items) }
+    ensures ok { OnOk result (Learns (notes_of voters.now noted.now leads.old.items listed.old.items) node vote.now last place (notes_of voters.now noted.now leads.new.items listed.new.items)) }
+    ensures err { OnErr result (SameLeads leads.old.items leads.new.items × (listed.new.items ≡ listed.old.items)) }
+{
+    let at = lead_at(alloc, leads, vote)?;
+    let lead = &mut leads[at];
+    let end = match last {
+        Some(_) => last,
+        None => lead.last,
+    };
+    learn_at(alloc, voters, noted, lead, listed, node, end, place)?;
     Ok(())
 }
