@@ -3,3 +3,4 @@ mod LeadLemmas
 mod ListLemmas
 mod KeepLemmas
 mod SetLemmas
+mod TruthLemmas

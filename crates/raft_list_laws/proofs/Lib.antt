@@ -1,2 +1,2 @@
 mod Parts
-mod Keeping
+pub mod Keeping
