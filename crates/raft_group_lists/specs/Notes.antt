@@ -3,6 +3,7 @@ use Rattle.std.specs.Prelude.{◌≡◌, ℕ, zero, suc, ◌<◌, ◌≤◌, ◌
 use Rattle.std.specs.List.{list_any}
 use Rattle.raft_values.specs.declared.vote.LeaderId.{LeaderId}
 use Rattle.raft_values.specs.declared.vote.Vote.{Vote}
+use Rattle.raft_values.specs.declared.log_id.LogId.{LogId}
 use Rattle.raft_quorums.specs.Quorum.{is_quorum}
 use Rattle.raft_group_step.specs.Values.{Entry, is_written_by, vote_eq}
 use Rattle.raft_laws.specs.Settled.{count_to_last}
@@ -174,3 +175,15 @@ pub record AreWhole (s : Notes) : Type 0 where
   pub joined : AreJoined s.noted
   pub leads : (i : ℕ) (lead : Lead) → slice_get s.leads i ≡ Some lead → IsWithin s.noted lead.last
   pub listed : AreWithin s.noted s.listed
+
+-- ---- what is noted of a log id
+
+-- an entry of this log id is noted there
+pub record IsNotedAt (noted : List Noted) (id : LogId ℕ) (at : ℕ) : Type 0 where
+  pub one : Noted
+  pub there : slice_get noted at ≡ Some one
+  pub of_id : one.entry.log_id ≡ id
+
+-- none is noted
+abbrev pub HasNoId : List Noted → LogId ℕ → Type 0
+HasNoId noted id = (at : ℕ) → IsNotedAt noted id at → ⊥

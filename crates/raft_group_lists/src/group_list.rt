@@ -1,17 +1,18 @@
 //! The list of one group.
-ghost use Rattle.std.specs.Prelude.{◌≡◌, ◌<◌, ◌++◌, ◌∷◌, ℕ, List, [], Some, IfOk, OnErr, OnOk, length, slice_get};
+ghost use Rattle.std.specs.Prelude.{◌≡◌, ◌<◌, ◌++◌, ◌∷◌, ℕ, List, [], Some, IfOk, OnErr, OnOk, MatchOption, length, slice_get};
 ghost use Rattle.std.specs.Option.{option_copied};
 ghost use Rattle.raft_group_step.specs.Values.{Entry as ListEntry, Membership};
 ghost use Rattle.raft_group_step.specs.Message.{Message};
 ghost use Rattle.raft_laws.specs.GroupWorld.{GroupWorld, Led, new_world};
 ghost use Rattle.raft_list_laws.specs.Accounts.{AreTrue, PartsAreFronts};
 ghost use Rattle.raft_list_laws.specs.Changes.{with_message, with_note, with_setup};
-ghost use Rattle.raft_group_lists.specs.Notes.{IsWithin, accounts_of, list_to};
+ghost use Rattle.raft_group_lists.specs.Notes.{HasNoId, IsNotedAt, IsWithin, accounts_of, list_to};
 ghost use Rattle.raft_group_lists.specs.Facts.{AcceptsUpTo, IsNoteOf, own_place};
 
+use crate::leads::last_of;
 use crate::notes::{Lead, Noted};
 use crate::settle::learn_under;
-use crate::walks::count_to;
+use crate::walks::{count_to, find_noted};
 use raft_quorums::voter_groups::VoterGroups;
 use raft_state::{BasicNode, Bytes, Entry, LeaderId, LogId, Vote};
 use std::alloc::{AllocError, Global};
@@ -86,6 +87,21 @@ impl GroupList {
             Some(at) => Some(&self.noted[*at].entry),
             None => None,
         }
+    }
+
+    /// Where the last entry of the list is noted that the vote's leader had when it was noted last; none where it never was.
+    pub fn last_of(&self, vote: &Vote<u64>) -> Option<usize>
+        ensures within { IsWithin self.now.noted result }
+        ensures list { list_to self.now.noted result ≡ (accounts_of self.now).latest vote.now }
+    {
+        last_of(self.leads.as_slice(), vote)
+    }
+
+    /// Where an entry of this log id was noted last; none if none is noted.
+    pub fn find(&self, id: &LogId<u64>) -> Option<usize>
+        ensures { MatchOption result (HasNoId self.now.noted id.now) (IsNotedAt self.now.noted id.now) }
+    {
+        find_noted(self.noted.as_slice(), id)
     }
 
     /// An entry that a leader wrote behind the one that is noted there, or as the first of its list; answered is where it is

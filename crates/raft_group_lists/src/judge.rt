@@ -51,7 +51,8 @@ impl<'a> HasId<u64> for Acceptors<'a> {
     ghost has = { λ a. is_now_reached a.reached.now a.node a.last a.place };
 
     fn has_id(&self, id: &u64) -> bool {
-        has_reached(self.reached, self.place, *id) || (self.node == *id && reaches(self.last, self.place))
+        has_reached(self.reached, self.place, *id)
+            || (self.node == *id && reaches(self.last, self.place))
     }
 }
 

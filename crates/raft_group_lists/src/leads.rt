@@ -1,7 +1,7 @@
 //! What is noted under each vote.
 ghost use Rattle.std.specs.Prelude.{◌≡◌, ◌||◌, ◌&&◌, ◌==◌, ◌⊎◌, ℕ, Bool, None, Some, slice_get, IfOk, MatchOption};
 ghost use Rattle.raft_group_lists.specs.declared.notes.Lead.{Lead as NotedLead};
-ghost use Rattle.raft_group_lists.specs.Notes.{IsLeadAt, IsSpot, SameLead, SameLeads, has_reached, lead_in, reaches};
+ghost use Rattle.raft_group_lists.specs.Notes.{IsLeadAt, IsSpot, SameLead, SameLeads, has_reached, last_in, lead_in, reaches};
 
 use crate::notes::{Lead, Reached};
 use raft_state::Vote;
@@ -19,6 +19,16 @@ fn find_lead(leads: &[Lead], vote: &Vote<u64>) -> Option<usize>
         }
     }
     None
+}
+
+// Where the list ends that is noted under the vote.
+pub(crate) fn last_of(leads: &[Lead], vote: &Vote<u64>) -> Option<usize>
+    ensures { result ≡ last_in (lead_in leads.now vote.now) }
+{
+    match find_lead(leads, vote) {
+        Some(at) => leads[at].last,
+        None => None,
+    }
 }
 
 // Where the vote is noted; one that isn't is noted now, with nothing under it. An `Err` is want of memory.
@@ -72,7 +82,13 @@ fn greater(one: Option<u64>, other: Option<u64>) -> Option<u64>
 }
 
 // The leader's list ends there, and the node has accepted up to this place.
-pub(crate) fn learn(lead: &mut Lead, spot: usize, node: u64, last: Option<usize>, place: Option<u64>)
+pub(crate) fn learn(
+    lead: &mut Lead,
+    spot: usize,
+    node: u64,
+    last: Option<usize>,
+    place: Option<u64>,
+)
     requires { IsSpot lead.old.reached.items node spot }
     ensures vote { lead.new.vote ≡ lead.old.vote }
     ensures last { lead.new.last ≡ last }

@@ -1,9 +1,10 @@
 //! Walks from an entry to those before it in its leader's list.
 ghost use Rattle.std.specs.Prelude.{◌≡◌, ◌<◌, ◌≤◌, drop, length, reverse, IfOk, MatchOption, Some};
-ghost use Rattle.raft_group_lists.specs.Notes.{AreJoined, AreWithin, IsWithin, count_to, entries_at, list_to, passes, settled_by};
+ghost use Rattle.raft_group_lists.specs.Notes.{AreJoined, AreWithin, HasNoId, IsNotedAt, IsWithin, count_to, entries_at, list_to, passes, settled_by};
 
 use crate::judge::Judge;
 use crate::notes::Noted;
+use raft_state::LogId;
 use std::alloc::{AllocError, Global};
 
 // How many entries the list has that ends there.
@@ -67,4 +68,18 @@ pub(crate) fn chain_above(
         at = item.before;
     }
     Ok(chain)
+}
+
+// Where an entry of this log id was noted last.
+pub(crate) fn find_noted(noted: &[Noted], id: &LogId<u64>) -> Option<usize>
+    ensures { MatchOption result (HasNoId noted.now id.now) (IsNotedAt noted.now id.now) }
+{
+    let mut left = noted.len();
+    while left > 0 {
+        left -= 1;
+        if noted[left].entry.log_id == *id {
+            return Some(left);
+        }
+    }
+    None
 }

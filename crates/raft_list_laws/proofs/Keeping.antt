@@ -1,5 +1,5 @@
 -- Accounts stay true behind a set-up, a note, and a message.
-use Rattle.std.specs.Prelude.{◌≡◌, ◌⊎◌, ℕ, ◌==◌, ◌&&◌, ◌||◌, if◌then◌else◌, Bool, true, false, List, [], ◌∷◌, ◌++◌, length, map, fold, take, Option, Some, Contains, refl}
+use Rattle.std.specs.Prelude.{◌≡◌, ◌⊎◌, ℕ, ◌==◌, ◌&&◌, ◌||◌, Bool, true, false, List, [], ◌∷◌, ◌++◌, length, map, fold, take, Contains, refl}
 use Rattle.std.specs.List.{list_any}
 use Rattle.std.proofs.Common.{inl, inr, sym, ap, ◌∙◌, subst, arith, ⊎_elim}
 use Rattle.std.proofs.Math.Path.{fun_ext}
@@ -7,19 +7,18 @@ use Rattle.std.proofs.lemmas.Bool.{cases_Bool, cond-true, cond-false}
 use Rattle.std.proofs.lemmas.List.Folds.{list_any-append}
 use Rattle.raft_values.specs.declared.vote.Vote.{Vote}
 use Rattle.raft_quorums.specs.Quorum.{is_quorum}
-use Rattle.raft_group_step.specs.Values.{Entry, Membership, is_written_by, vote_eq}
+use Rattle.raft_group_step.specs.Values.{Entry, is_written_by, vote_eq}
 use Rattle.raft_group_step.specs.Message.{Message}
 use Rattle.raft_laws.specs.BallotLists.{AgreeBelow}
 use Rattle.raft_laws.specs.GroupWorld.{GroupWorld, Led}
 use Rattle.raft_laws.specs.Settled.{body_accepts, count_to_last, group_list, has_accepted_some, has_led_with, has_replied, is_at_or_after, longer, setup_configs, settled_part}
 use Rattle.raft_laws.proofs.BallotAgreement.{agree_more, agree_refl}
-use Rattle.raft_laws.proofs.BallotSafe.{Among}
 use Rattle.raft_laws.proofs.Counts.{among_behind, among_contains, among_front, contains_among}
 use Rattle.raft_laws.proofs.VoteRanks.{vote_eq_same}
 use Rattle.raft_laws.proofs.WorldLimits.{vote_itself}
 use Rattle.raft_laws.proofs.WorldRuns.{among_either}
-use Rattle.raft_list_laws.specs.Accounts.{Accounts, AreNoted, AreTrue, PartsAreFronts, WasNoted, settled_of}
-use Rattle.raft_list_laws.specs.Changes.{AcceptancesKeep, IsAccepted, IsNoted, IsSetUp, IsSilent, NotesKeep, SetUpsKeep, SilentKeep, message_reaches, note_reaches, with_message, with_note, with_setup}
+use Rattle.raft_list_laws.specs.Accounts.{Accounts, AreNoted, AreTrue, PartsAreFronts, WasNoted}
+use Rattle.raft_list_laws.specs.Changes.{AcceptancesKeep, IsAccepted, IsNoted, IsSilent, NotesKeep, SetUpsKeep, SilentKeep, message_reaches, note_reaches, with_message, with_note, with_setup}
 use Rattle.raft_list_laws.proofs.Parts.{OneVoteGrows, goes_on_longer, list_is_longer}
 
 -- ---- one more at the end of a list

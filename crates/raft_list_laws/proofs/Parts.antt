@@ -1,6 +1,6 @@
 -- Behind a change of one vote, the group's list is the longer of the one before and of what that vote has settled.
-use Rattle.std.specs.Prelude.{◌≡◌, ◌⊎◌, ℕ, ◌<◌, ◌≤◌, ◌&&◌, nat_lt, Bool, true, false, List, [], ◌∷◌, length, take, map, Contains, refl}
-use Rattle.std.proofs.Common.{inl, inr, sym, ap, ap₂, ◌∙◌, subst, arith, ⊎_elim, le-ltb, length-take-le, lt-ltb}
+use Rattle.std.specs.Prelude.{◌≡◌, ℕ, ◌≤◌, ◌&&◌, nat_lt, Bool, true, false, List, [], ◌∷◌, length, take, map, Contains, refl}
+use Rattle.std.proofs.Common.{inl, sym, ap, ap₂, ◌∙◌, subst, arith, ⊎_elim, le-ltb, length-take-le, lt-ltb}
 use Rattle.std.proofs.Math.Path.{fun_ext}
 use Rattle.std.proofs.lemmas.Bool.{and_from, and_parts, cases_Bool, cases_lt, cond-false, cond-true}
 use Rattle.raft_values.specs.declared.vote.Vote.{Vote}
@@ -8,7 +8,7 @@ use Rattle.raft_quorums.specs.Quorum.{is_quorum}
 use Rattle.raft_group_step.specs.Values.{Entry, is_written_by, vote_eq}
 use Rattle.raft_laws.specs.BallotLists.{AgreeBelow}
 use Rattle.raft_laws.specs.GroupWorld.{GroupWorld, Led}
-use Rattle.raft_laws.specs.Settled.{count_to_last, group_list, has_accepted_some, is_accepted_by_quorum, is_at_or_after, longer, setup_configs, settled_part}
+use Rattle.raft_laws.specs.Settled.{count_to_last, group_list, is_accepted_by_quorum, longer, settled_part}
 use Rattle.raft_laws.proofs.BallotAgreement.{agree_head, agree_less, agree_more, agree_none, agree_sym, agree_tail, agree_take, agree_trans}
 use Rattle.raft_laws.proofs.BallotQuorums.{quorum_more}
 use Rattle.raft_laws.proofs.Counts.{among_contains, among_map, contains_among, count_from, longest, map_among}

@@ -27,7 +27,7 @@ returns-clause-entries c =
     let rest = λ (e : count_to noted at.at ≡ c.args.floor). behind_front c.args.floor (list_to noted at.at) (entries_at noted (reverse at.chain.items)) (list_to noted (Some c.args.last)) at.invariant.2 (size ∙ e) in
     elim c.match-at.branch [
       | in-Some+then-item-floor w ↦
-      let x = step_at noted c.requires.joined at.at w.in-Some.k w.index-noted-k.result at.invariant.0 w.in-Some.is w.index-noted-k.is in
-      rest (omega (arith, x.count, w.if-item-floor.true, at.invariant.1))
+          let x = step_at noted c.requires.joined at.at w.in-Some.k w.index-noted-k.result at.invariant.0 w.in-Some.is w.index-noted-k.is in
+          rest (omega (arith, x.count, w.if-item-floor.true, at.invariant.1))
       | in_default w ↦ let none : count_to noted at.at ≡ 0 = ap (count_to noted) w.in_default.is in rest (omega (arith, at.invariant.1))
     ]

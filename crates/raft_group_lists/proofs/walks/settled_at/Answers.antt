@@ -24,8 +24,8 @@ returns-then-passes c =
       x.within,
       omega (arith, c.if-item-floor.false),
       c.loop-at.invariant.1 ∙ ap (settled_by p) x.list
-      ∙ settled_all p (list_to noted c.index-noted-k.result.before) c.index-noted-k.result.entry (sym c.passes.ensures ∙ c.if-passes.true)
-      ∙ sym x.list ∙ ap (list_to noted) c.in-Some.is,
+          ∙ settled_all p (list_to noted c.index-noted-k.result.before) c.index-noted-k.result.entry (sym c.passes.ensures ∙ c.if-passes.true)
+          ∙ sym x.list ∙ ap (list_to noted) c.in-Some.is,
     )
 
 pub loop-at-smaller : goal.loop-at-smaller
@@ -41,5 +41,5 @@ loop-at-preserved c =
     let x = step_at noted c.requires.joined c.loop-at.at c.in-Some.k c.index-noted-k.result c.loop-at.invariant.0 c.in-Some.is c.index-noted-k.is in (
       x.rest,
       c.loop-at.invariant.1 ∙ ap (settled_by p) x.list
-      ∙ settled_past p (list_to noted c.index-noted-k.result.before) c.index-noted-k.result.entry (sym c.passes.ensures ∙ c.if-passes.false),
+          ∙ settled_past p (list_to noted c.index-noted-k.result.before) c.index-noted-k.result.entry (sym c.passes.ensures ∙ c.if-passes.false),
     )
