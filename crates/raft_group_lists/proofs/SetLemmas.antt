@@ -1,7 +1,6 @@
 -- What is noted under each vote, where that under one has changed.
-use Rattle.std.specs.Prelude.{◌≡◌, ◌⊎◌, ℕ, zero, suc, ◌<◌, ◌==◌, ◌&&◌, ◌||◌, if◌then◌else◌, Bool, true, false, List, [], ◌∷◌, length, drop, slice_get, slice_set, Option, Some, None, refl}
+use Rattle.std.specs.Prelude.{◌≡◌, ◌⊎◌, ℕ, zero, suc, ◌==◌, ◌&&◌, ◌||◌, if◌then◌else◌, Bool, true, false, List, [], ◌∷◌, drop, slice_get, slice_set, Option, Some, None, refl}
 use Rattle.std.proofs.Common.{inl, inr, sym, ap, ◌∙◌, subst, ⊎_elim}
-use Rattle.std.proofs.Math.Path.{fun_ext}
 use Rattle.std.proofs.lemmas.Bool.{cases_Bool, cond-false, cond-true}
 use Rattle.raft_values.specs.declared.vote.Vote.{Vote}
 use Rattle.raft_quorums.specs.Quorum.{is_quorum}
@@ -13,7 +12,7 @@ use Rattle.raft_list_laws.specs.Accounts.{settled_of}
 use Rattle.raft_list_laws.specs.Changes.{GoesOn}
 use Rattle.raft_group_lists.specs.declared.notes.Noted.{Noted}
 use Rattle.raft_group_lists.specs.declared.notes.Lead.{Lead}
-use Rattle.raft_group_lists.specs.Notes.{AreJoined, AreWhole, AreWithin, IsLeadAt, IsWithin, Learns, Notes, SameLead, SameLeads, accounts_of, end_or, entries_at, has_reached, is_settled, last_in, later_or, lead_in, list_to, notes_of, reached_in, reaches, settled_by}
+use Rattle.raft_group_lists.specs.Notes.{AreWhole, AreWithin, IsLeadAt, IsWithin, Learns, SameLead, SameLeads, accounts_of, end_or, entries_at, has_reached, is_settled, last_in, later_or, lead_in, list_to, notes_of, reached_in, reaches, settled_by}
 
 pub vote_eq_turned : (a b : Vote ℕ) → vote_eq a b ≡ vote_eq b a
 vote_eq_turned a b =

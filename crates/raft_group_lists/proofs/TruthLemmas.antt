@@ -1,5 +1,5 @@
 -- What is learned of a note or a message makes notes that are true of a world true of the next one.
-use Rattle.std.specs.Prelude.{◌≡◌, ℕ, ◌<◌, ◌==◌, ◌&&◌, ◌||◌, nat_le, if◌then◌else◌, Bool, true, false, List, [], ◌∷◌, length, slice_get, Option, Some, None, refl}
+use Rattle.std.specs.Prelude.{◌≡◌, ℕ, ◌==◌, ◌&&◌, ◌||◌, nat_le, if◌then◌else◌, Bool, true, false, List, length, slice_get, Some, None, refl}
 use Rattle.std.specs.List.{list_any}
 use Rattle.std.proofs.Common.{sym, ap, ap₂, ◌∙◌, subst, ⊎_elim}
 use Rattle.std.proofs.Math.Path.{fun_ext}
@@ -11,14 +11,14 @@ use Rattle.raft_group_step.specs.Values.{Entry, leader_eq, vote_eq}
 use Rattle.raft_group_step.specs.Message.{Message}
 use Rattle.raft_laws.specs.BallotLists.{AgreeBelow}
 use Rattle.raft_laws.specs.GroupWorld.{GroupWorld, Led}
-use Rattle.raft_laws.specs.Settled.{body_accepts, is_at_or_after}
+use Rattle.raft_laws.specs.Settled.{is_at_or_after}
 use Rattle.raft_laws.proofs.VoteRanks.{vote_eq_same}
 use Rattle.raft_list_laws.specs.Accounts.{Accounts, AreTrue, PartsAreFronts, settled_of}
 use Rattle.raft_list_laws.specs.Changes.{GoesOn, IsAccepted, IsNoted, message_reaches, note_reaches, with_message, with_note}
 use Rattle.raft_list_laws.proofs.Keeping.{acceptances_keep, notes_keep}
 use Rattle.raft_group_lists.specs.declared.notes.Noted.{Noted}
 use Rattle.raft_group_lists.specs.declared.notes.Lead.{Lead}
-use Rattle.raft_group_lists.specs.Notes.{Learns, Notes, SameLeads, accounts_of, end_or, entries_at, has_reached, last_in, lead_in, list_to, notes_of, reached_in, reaches}
+use Rattle.raft_group_lists.specs.Notes.{Learns, Notes, SameLeads, accounts_of, entries_at, has_reached, last_in, lead_in, list_to, notes_of, reached_in, reaches}
 use Rattle.raft_group_lists.specs.Facts.{AcceptsUpTo, IsNoteOf, own_place}
 use Rattle.raft_group_lists.proofs.SetLemmas.{vote_eq_turned}
 

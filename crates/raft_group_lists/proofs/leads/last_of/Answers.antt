@@ -1,7 +1,6 @@
-use Rattle.std.specs.Prelude.{◌≡◌, suc, drop, Some}
-use Rattle.std.proofs.Common.{ap, subst, ◌∙◌, sym}
+use Rattle.std.specs.Prelude.{suc, drop}
+use Rattle.std.proofs.Common.{ap, ◌∙◌, sym}
 use Rattle.std.proofs.lemmas.Option.{get_or_from_slice_get}
-use Rattle.raft_values.specs.declared.vote.Vote.{Vote}
 use Rattle.raft_group_lists.specs.declared.notes.Lead.{Lead}
 use Rattle.raft_group_lists.specs.Notes.{last_in, lead_in}
 use Rattle.raft_group_lists.proofs.SetLemmas.{lead_found}

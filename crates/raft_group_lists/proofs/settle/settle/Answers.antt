@@ -1,7 +1,7 @@
 use Rattle.std.specs.Prelude.{◌≡◌, ◌++◌, ◌<◌, ◌≤◌, ℕ, List, Some, drop, length, refl}
-use Rattle.std.proofs.Common.{sym, ap, ◌∙◌, subst, arith}
+use Rattle.std.proofs.Common.{sym, ap, ◌∙◌, arith}
 use Rattle.raft_group_step.specs.Values.{Entry}
-use Rattle.raft_group_lists.specs.Notes.{count_to, entries_at, list_to, passes, settled_by}
+use Rattle.raft_group_lists.specs.Notes.{entries_at, list_to, passes, settled_by}
 use Rattle.raft_group_lists.proofs.ListLemmas.{entries_size, grows_on, stays_on}
 use Rattle.raft_group_lists.proofs.WalkLemmas.{list_size, within_some}
 use Rattle.raft_group_lists.proofs.settle.settle.Goals as goal

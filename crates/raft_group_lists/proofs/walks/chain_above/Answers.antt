@@ -1,6 +1,6 @@
 -- The chain has what stands behind the rest of the walk, and at the end that rest is up to the floor.
-use Rattle.std.specs.Prelude.{◌≡◌, ◌≤◌, ℕ, List, [], length, Option, Some, None, reverse}
-use Rattle.std.proofs.Common.{sym, ap, ◌∙◌, arith}
+use Rattle.std.specs.Prelude.{◌≡◌, Some, reverse}
+use Rattle.std.proofs.Common.{ap, ◌∙◌, arith}
 use Rattle.raft_group_lists.specs.Notes.{count_to, entries_at, list_to}
 use Rattle.raft_group_lists.proofs.WalkLemmas.{behind_front, chain_more, list_size, step_at}
 use Rattle.raft_group_lists.proofs.walks.chain_above.Goals as goal

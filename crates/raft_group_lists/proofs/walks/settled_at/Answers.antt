@@ -1,5 +1,5 @@
 -- The rest of the walk has all that is settled: what was passed isn't, and an entry that passes is the last of it.
-use Rattle.std.specs.Prelude.{◌≡◌, ◌≤◌, ℕ, [], length, Option, Some}
+use Rattle.std.specs.Prelude.{length}
 use Rattle.std.proofs.Common.{sym, ap, ◌∙◌, arith}
 use Rattle.raft_group_lists.specs.Notes.{count_to, list_to, passes, settled_by}
 use Rattle.raft_group_lists.proofs.WalkLemmas.{settled_all, settled_past, settled_short, step_at}

@@ -1,4 +1,4 @@
-use Rattle.std.specs.Prelude.{◌≡◌, ℕ, List, Option, None}
+use Rattle.std.specs.Prelude.{ℕ, List, Option, None}
 use Rattle.std.proofs.Common.{rules, sym, subst}
 use Rattle.raft_laws.specs.GroupWorld.{GroupWorld}
 use Rattle.raft_list_laws.specs.Accounts.{AreTrue}

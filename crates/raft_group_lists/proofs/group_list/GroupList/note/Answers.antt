@@ -1,4 +1,4 @@
-use Rattle.std.specs.Prelude.{◌≡◌, ◌<◌, ℕ, List, Option, Some, length, refl}
+use Rattle.std.specs.Prelude.{◌<◌, ℕ, List, Option, Some, length, refl}
 use Rattle.std.proofs.Common.{rules, sym, subst}
 use Rattle.std.proofs.lemmas.Option.{slice_get_read}
 use Rattle.raft_laws.specs.GroupWorld.{GroupWorld}

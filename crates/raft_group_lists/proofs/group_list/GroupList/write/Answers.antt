@@ -1,9 +1,9 @@
-use Rattle.std.specs.Prelude.{◌≡◌, ◌++◌, ◌∷◌, ◌+◌, ◌<◌, ◌≤◌, ℕ, suc, [], List, Some, length, refl}
+use Rattle.std.specs.Prelude.{◌≡◌, ◌++◌, ◌∷◌, ◌+◌, ◌<◌, ℕ, suc, [], List, Some, length}
 use Rattle.std.proofs.Common.{sym, ap, ◌∙◌, arith, subst}
 use Rattle.raft_list_laws.specs.Accounts.{Accounts, AreTrue}
 use Rattle.raft_group_lists.specs.declared.notes.Noted.{Noted}
 use Rattle.raft_group_lists.specs.Notes.{AreWhole, IsWithin, Notes, accounts_of, count_to, list_to}
-use Rattle.raft_group_lists.proofs.KeepLemmas.{accounts_kept, count_low, list_kept, new_list, whole_more, with_noted}
+use Rattle.raft_group_lists.proofs.KeepLemmas.{accounts_kept, count_low, list_kept, new_list, whole_more}
 use Rattle.raft_group_lists.proofs.WalkLemmas.{within_some}
 use Rattle.raft_group_lists.proofs.group_list.GroupList.write.Goals as goal
 
