@@ -41,7 +41,7 @@ or_middle false true false = refl
 or_middle false false true = refl
 or_middle false false false = refl
 
-or_first : (a b : Bool) → a ≡ true → (a || b) ≡ true
+pub or_first : (a b : Bool) → a ≡ true → (a || b) ≡ true
 or_first a b e = ap (λ x. x || b) e
 
 or_without : (a b : Bool) → b ≡ false → (a || b) ≡ a
@@ -56,7 +56,7 @@ last_cases xs x y c =
     (λ b. ⊎_elim (λ e. inr e) (λ none. absurd none) b)
     (among_either y xs (x ∷ []) (contains_among (xs ++ x ∷ []) y c))
 
-stays_in : {A : Type 0} (xs : List A) (x y : A) → Contains xs y → Contains (xs ++ x ∷ []) y
+pub stays_in : {A : Type 0} (xs : List A) (x y : A) → Contains xs y → Contains (xs ++ x ∷ []) y
 stays_in xs x y c = among_contains (xs ++ x ∷ []) y (among_front y xs (x ∷ []) (contains_among xs y c))
 
 is_last : {A : Type 0} (xs : List A) (x : A) → Contains (xs ++ x ∷ []) x
@@ -82,6 +82,14 @@ set_ups_keep a next w m t none s =
     empty x e = ap (λ ls. fold longer [] (map (settled_part x) ls)) e
 
 -- ---- a note
+
+-- what is accepted with the note is what was, and what the note says
+pub note_more : (w : GroupWorld) (l : Led) (vote : Vote ℕ) (place node : ℕ) → has_accepted_some (with_note w l) vote (is_at_or_after vote.leader_id place) node ≡ (has_accepted_some w vote (is_at_or_after vote.leader_id place) node || note_reaches l vote place node)
+note_more w l vote place node =
+    let p = is_at_or_after vote.leader_id place in
+    ap (λ b. has_replied w vote p node || b)
+    (one_more (λ (x : Led). (x.node == node && vote_eq x.vote vote) && list_any (λ (e : Entry). p e.log_id) x.list) w.led l)
+    ∙ or_last (has_replied w vote p node) (has_led_with w vote p node) (note_reaches l vote place node)
 
 module _ (a next : Accounts) (w : GroupWorld) (l : Led) (list : List Entry) (t : AreTrue a w) (goes : AgreeBelow (length (a.latest l.vote)) (a.latest l.vote) l.list) (fronts : PartsAreFronts list (with_note w l)) (is : IsNoted a l next) where
   abbrev after : GroupWorld
@@ -127,12 +135,9 @@ module _ (a next : Accounts) (w : GroupWorld) (l : Led) (list : List Entry) (t :
         noted = noted_lists;
         latest = latest_fronts;
         reached = λ vote place node.
-            let p = is_at_or_after vote.leader_id place in
             is.reached vote place node
             ∙ ap (λ b. b || note_reaches l vote place node) (t.notes.reached vote place node)
-            ∙ sym (or_last (has_replied w vote p node) (has_led_with w vote p node) (note_reaches l vote place node))
-            ∙ ap (λ b. has_replied w vote p node || b)
-            (sym (one_more (λ (x : Led). (x.node == node && vote_eq x.vote vote) && list_any (λ (e : Entry). p e.log_id) x.list) w.led l));
+            ∙ sym (note_more w l vote place node);
       }
 
   unsaid : (vote : Vote ℕ) (place node : ℕ) → vote_eq vote l.vote ≡ false → note_reaches l vote place node ≡ false
@@ -178,7 +183,7 @@ notes_keep a next w l list t goes fronts is = note_true a next w l list t goes f
 
 module _ (w : GroupWorld) (m : Message) where
   -- what is accepted with the message is what was, and what the message accepts
-  message_more : (vote : Vote ℕ) (place node : ℕ) → has_accepted_some (with_message w m) vote (is_at_or_after vote.leader_id place) node ≡ (has_accepted_some w vote (is_at_or_after vote.leader_id place) node || message_reaches m vote place node)
+  pub message_more : (vote : Vote ℕ) (place node : ℕ) → has_accepted_some (with_message w m) vote (is_at_or_after vote.leader_id place) node ≡ (has_accepted_some w vote (is_at_or_after vote.leader_id place) node || message_reaches m vote place node)
   message_more vote place node =
       let p = is_at_or_after vote.leader_id place in
       ap (λ b. b || has_led_with w vote p node)

@@ -1,2 +1,3 @@
-mod Parts
+pub mod Parts
 pub mod Keeping
+mod Fronts

@@ -33,14 +33,14 @@ same_fronts xs ys list a b e = agree_whole xs ys (agree_trans a (agree_sym (agre
 abbrev counted : (Entry → Bool) → List Entry → ℕ
 counted p xs = count_to_last p 0 0 xs
 
-taken_size : (p : Entry → Bool) (xs : List Entry) → length (take (counted p xs) xs) ≡ counted p xs
+pub taken_size : (p : Entry → Bool) (xs : List Entry) → length (take (counted p xs) xs) ≡ counted p xs
 taken_size p xs =
     let c = count_from p 0 0 xs (omega arith) in
     let inside : counted p xs ≤ length xs = omega (arith, c.within) in
     length-take-le (counted p xs) xs inside
 
 -- of a longer list and a wider test the count is no less
-count_more : (p q : Entry → Bool) (xs ys : List Entry) → AgreeBelow (length xs) xs ys → ((e : Entry) → p e ≡ true → q e ≡ true) → counted p xs ≤ counted q ys
+pub count_more : (p q : Entry → Bool) (xs ys : List Entry) → AgreeBelow (length xs) xs ys → ((e : Entry) → p e ≡ true → q e ≡ true) → counted p xs ≤ counted q ys
 count_more p q xs ys a wider =
     let few = count_from p 0 0 xs (omega arith) in
     let many = count_from q 0 0 ys (omega arith) in
@@ -53,10 +53,10 @@ count_more p q xs ys a wider =
     omega (arith, x.4))
     few.last
 
-take_fronts : (j k : ℕ) (xs : List Entry) → length (take j xs) ≤ length (take k xs) → AgreeBelow (length (take j xs)) (take j xs) (take k xs)
+pub take_fronts : (j k : ℕ) (xs : List Entry) → length (take j xs) ≤ length (take k xs) → AgreeBelow (length (take j xs)) (take j xs) (take k xs)
 take_fronts j k xs le = agree_trans (agree_take j xs) (agree_sym (agree_less (length (take j xs)) le (agree_take k xs)))
 
-quorum_wider : (groups : List (List ℕ)) (p q : ℕ → Bool) → ((n : ℕ) → p n ≡ true → q n ≡ true) → is_quorum groups p ≡ true → is_quorum groups q ≡ true
+pub quorum_wider : (groups : List (List ℕ)) (p q : ℕ → Bool) → ((n : ℕ) → p n ≡ true → q n ≡ true) → is_quorum groups p ≡ true → is_quorum groups q ≡ true
 quorum_wider groups p q h t = quorum_back groups q (quorum_more groups p q h (quorum_link groups p t))
 
 -- ---- accounts and their world

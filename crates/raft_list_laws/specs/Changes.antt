@@ -5,8 +5,9 @@ use Rattle.raft_values.specs.declared.vote.Vote.{Vote}
 use Rattle.raft_group_step.specs.Values.{Entry, Membership, vote_eq}
 use Rattle.raft_group_step.specs.Message.{Message}
 use Rattle.raft_laws.specs.BallotLists.{AgreeBelow}
-use Rattle.raft_laws.specs.GroupWorld.{GroupWorld, Led}
-use Rattle.raft_laws.specs.Settled.{body_accepts, is_at_or_after}
+use Rattle.raft_laws.specs.GroupWorld.{GroupWorld, Led, Recorded}
+use Rattle.raft_laws.specs.OneList.{IsGroupHistory}
+use Rattle.raft_laws.specs.Settled.{body_accepts, group_list, is_at_or_after}
 use Rattle.raft_list_laws.specs.Accounts.{Accounts, AreTrue, PartsAreFronts, settled_of}
 
 -- ---- the worlds
@@ -91,3 +92,19 @@ AcceptancesKeep =
 abbrev pub SilentKeep : Type 0
 SilentKeep =
     (a : Accounts) (w : GroupWorld) (m : Message) → AreTrue a w → IsSilent m → AreTrue a (with_message w m)
+
+-- ---- where what is settled stands
+
+-- in each world to which a history leads, what is settled of each leader's lists is a front of the group's list
+abbrev pub PartsOfHistories : Type 0
+PartsOfHistories =
+    (ids : List ℕ) (rs : List Recorded) (end : GroupWorld) → IsGroupHistory ids rs end → PartsAreFronts (group_list end) end
+
+-- what stands on one list behind a note stood on it before; so too behind a message
+abbrev pub FrontsBeforeNotes : Type 0
+FrontsBeforeNotes =
+    (list : List Entry) (w : GroupWorld) (l : Led) → PartsAreFronts list (with_note w l) → PartsAreFronts list w
+
+abbrev pub FrontsBeforeMessages : Type 0
+FrontsBeforeMessages =
+    (list : List Entry) (w : GroupWorld) (m : Message) → PartsAreFronts list (with_message w m) → PartsAreFronts list w
