@@ -1,0 +1,6 @@
+mod WalkLemmas
+mod LeadLemmas
+mod ListLemmas
+mod KeepLemmas
+mod SetLemmas
+mod TruthLemmas

@@ -1,0 +1,175 @@
+//! The list of one group.
+ghost use Rattle.std.specs.Prelude.{◌≡◌, ◌<◌, ◌++◌, ◌∷◌, ℕ, List, [], Some, IfOk, OnErr, OnOk, MatchOption, length, slice_get};
+ghost use Rattle.std.specs.Option.{option_copied};
+ghost use Rattle.raft_group_step.specs.Values.{Entry as ListEntry, Membership};
+ghost use Rattle.raft_group_step.specs.Message.{Message};
+ghost use Rattle.raft_laws.specs.GroupWorld.{GroupWorld, Led, new_world};
+ghost use Rattle.raft_list_laws.specs.Accounts.{AreTrue, PartsAreFronts};
+ghost use Rattle.raft_list_laws.specs.Changes.{with_message, with_note, with_setup};
+ghost use Rattle.raft_group_lists.specs.Notes.{HasNoId, IsNotedAt, IsWithin, accounts_of, list_to};
+ghost use Rattle.raft_group_lists.specs.Facts.{AcceptsUpTo, IsNoteOf, own_place};
+
+use crate::leads::last_of;
+use crate::notes::{Lead, Noted};
+use crate::settle::learn_under;
+use crate::walks::{count_to, find_noted};
+use raft_quorums::voter_groups::VoterGroups;
+use raft_state::{BasicNode, Bytes, Entry, LeaderId, LogId, Vote};
+use std::alloc::{AllocError, Global};
+use std::marker::Model;
+
+/// The list of a group, and what is kept so that it grows event by event (own). Contracts see what is noted; `accounts_of` says
+/// what it stands for.
+#[derive(Debug, Drop)]
+pub struct GroupList {
+    alloc: Global,
+    voters: VoterGroups<u64>,
+    noted: Vec<Noted>,
+    leads: Vec<Lead>,
+    listed: Vec<usize>,
+}
+
+impl Model for GroupList {
+    ghost use Rattle.raft_group_lists.specs.Notes.{AreWhole, Notes};
+
+    ghost Value = { Notes };
+
+    ghost view = { λ x. record { voters = x.voters; noted = x.noted.items; leads = x.leads.items; listed = x.listed.items } };
+
+    ghost invariant = { λ x. AreWhole (record { voters = x.voters; noted = x.noted.items; leads = x.leads.items; listed = x.listed.items }) };
+}
+
+// The place of a log id, if it is the leader's own.
+fn own_place(id: &LogId<u64>, leader: &LeaderId<u64>) -> Option<u64>
+    ensures { result ≡ own_place id.now leader.now }
+{
+    if id.leader_id == *leader {
+        Some(id.index)
+    } else {
+        None
+    }
+}
+
+impl GroupList {
+    /// Nothing is noted yet: true of a group's nodes before their first event. Takes no memory.
+    pub fn new(alloc: Global) -> GroupList
+        ensures { (ids : List ℕ) → AreTrue (accounts_of result) (new_world ids) }
+    {
+        GroupList {
+            alloc,
+            voters: VoterGroups::new(alloc),
+            noted: Vec::new(alloc),
+            leads: Vec::new(alloc),
+            listed: Vec::new(alloc),
+        }
+    }
+
+    /// The group is set up with these voter groups, before anyone led.
+    pub fn set_up(&mut self, voters: VoterGroups<u64>)
+        ensures truth { (w : GroupWorld) (m : Membership) → AreTrue (accounts_of self.old) w → w.led ≡ [] → m.configs ≡ voters → AreTrue (accounts_of self.new) (with_setup w m) }
+        ensures noted { self.new.noted ≡ self.old.noted }
+    {
+        self.voters = voters;
+    }
+
+    /// How many entries the list has.
+    pub fn len(&self) -> usize
+        ensures { result ≡ length (accounts_of self.now).list }
+    {
+        self.listed.len()
+    }
+
+    /// The entry at this place, lent; none past the end of the list.
+    pub fn get(&self, place: usize) -> Option<&Entry<u64, BasicNode, Bytes>>
+        ensures { option_copied result ≡ slice_get (accounts_of self.now).list place }
+    {
+        match self.listed.get(place) {
+            Some(at) => Some(&self.noted[*at].entry),
+            None => None,
+        }
+    }
+
+    /// Where the last entry of the list is noted that the vote's leader had when it was noted last; none where it never was.
+    pub fn last_of(&self, vote: &Vote<u64>) -> Option<usize>
+        ensures within { IsWithin self.now.noted result }
+        ensures list { list_to self.now.noted result ≡ (accounts_of self.now).latest vote.now }
+    {
+        last_of(self.leads.as_slice(), vote)
+    }
+
+    /// Where an entry of this log id was noted last; none if none is noted.
+    pub fn find(&self, id: &LogId<u64>) -> Option<usize>
+        ensures { MatchOption result (HasNoId self.now.noted id.now) (IsNotedAt self.now.noted id.now) }
+    {
+        find_noted(self.noted.as_slice(), id)
+    }
+
+    /// An entry that a leader wrote behind the one that is noted there, or as the first of its list; answered is where it is
+    /// noted. What leaders had stays as it was until one is noted with it. An `Err` is want of memory, and changes nothing.
+    pub fn write(
+        &mut self,
+        entry: Entry<u64, BasicNode, Bytes>,
+        before: Option<usize>,
+    ) -> Result<usize, AllocError>
+        requires { IsWithin self.old.noted before }
+        ensures truth { (w : GroupWorld) → AreTrue (accounts_of self.old) w → AreTrue (accounts_of self.new) w }
+        ensures within { IfOk result (λ at. at < length self.new.noted) }
+        ensures list { IfOk result (λ at. list_to self.new.noted (Some at) ≡ list_to self.old.noted before ++ entry ∷ []) }
+        ensures others { (at : ℕ) → at < length self.old.noted → list_to self.new.noted (Some at) ≡ list_to self.old.noted (Some at) }
+        ensures err { OnErr result (self.new ≡ self.old) }
+    {
+        let at = self.noted.len();
+        let count = count_to(self.noted.as_slice(), before) + 1;
+        self.noted.push(Noted {
+            entry,
+            before,
+            count,
+        })?;
+        Ok(at)
+    }
+
+    /// A node led under the vote, with the list whose last entry is noted there; the group's list goes on with what that settles.
+    /// An `Err` is want of memory: then what is noted is as true of the world before as it was.
+    pub fn note(&mut self, node: u64, vote: Vote<u64>, last: usize) -> Result<(), AllocError>
+        requires { last < length self.old.noted }
+        ensures truth { OnOk result ((w : GroupWorld) (l : Led) (list : List ListEntry) → AreTrue (accounts_of self.old) w → IsNoteOf self.old node vote last l → PartsAreFronts list (with_note w l) → AreTrue (accounts_of self.new) (with_note w l)) }
+        ensures noted { self.new.noted ≡ self.old.noted }
+        ensures err { OnErr result ((w : GroupWorld) → AreTrue (accounts_of self.old) w → AreTrue (accounts_of self.new) w) }
+    {
+        let place = own_place(&self.noted[last].entry.log_id, &vote.leader_id);
+        learn_under(
+            self.alloc,
+            &self.voters,
+            self.noted.as_slice(),
+            &mut self.leads,
+            &mut self.listed,
+            node,
+            &vote,
+            Some(last),
+            place,
+        )?;
+        Ok(())
+    }
+
+    /// A node sent that it has accepted, under the vote, all up to this log id; the group's list goes on with what that settles.
+    /// An `Err` is want of memory: then what is noted is as true of the world before as it was.
+    pub fn accept(&mut self, node: u64, vote: Vote<u64>, last: LogId<u64>) -> Result<(), AllocError>
+        ensures truth { OnOk result ((w : GroupWorld) (m : Message) (list : List ListEntry) → AreTrue (accounts_of self.old) w → AcceptsUpTo node vote last m → PartsAreFronts list (with_message w m) → AreTrue (accounts_of self.new) (with_message w m)) }
+        ensures noted { self.new.noted ≡ self.old.noted }
+        ensures err { OnErr result ((w : GroupWorld) → AreTrue (accounts_of self.old) w → AreTrue (accounts_of self.new) w) }
+    {
+        let place = own_place(&last, &vote.leader_id);
+        learn_under(
+            self.alloc,
+            &self.voters,
+            self.noted.as_slice(),
+            &mut self.leads,
+            &mut self.listed,
+            node,
+            &vote,
+            None,
+            place,
+        )?;
+        Ok(())
+    }
+}

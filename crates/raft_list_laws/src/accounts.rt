@@ -1,0 +1,20 @@
+//! The accounts of a group's list stay true from event to event: laws, each a contract of a function without a body.
+
+ghost use Rattle.raft_list_laws.specs.Changes.{AcceptancesKeep, FrontsBeforeMessages, FrontsBeforeNotes, NotesKeep, PartsOfHistories, SetUpsKeep, SilentKeep};
+
+/// Accounts that are true of a world are true of the next one: behind a set-up before which nobody led, a leader's note, and
+/// each message. Only the list of the one vote that is noted or accepted can make the group's list longer.
+pub fn accounts_stay_true()
+    ensures setups { SetUpsKeep }
+    ensures notes { NotesKeep }
+    ensures acceptances { AcceptancesKeep }
+    ensures silent { SilentKeep }
+{}
+
+/// What is settled of each leader's lists is a front of one list: of the group's, in each world to which a history leads, and of
+/// that same list before each note and message behind which that holds. So the worlds inside an event have it from the event's end.
+pub fn settled_parts_are_fronts()
+    ensures histories { PartsOfHistories }
+    ensures notes { FrontsBeforeNotes }
+    ensures messages { FrontsBeforeMessages }
+{}
