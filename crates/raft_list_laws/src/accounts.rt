@@ -4,7 +4,7 @@ ghost use Rattle.raft_list_laws.specs.Changes.{AcceptancesKeep, FrontsBeforeMess
 
 /// Accounts that are true of a world are true of the next one: behind a set-up before which nobody led, a leader's note, and
 /// each message. Only the list of the one vote that is noted or accepted can make the group's list longer.
-pub fn accounts_stay_true()
+pub fn list_accounts_stay_true()
     ensures setups { SetUpsKeep }
     ensures notes { NotesKeep }
     ensures acceptances { AcceptancesKeep }
