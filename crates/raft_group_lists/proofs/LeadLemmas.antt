@@ -10,6 +10,7 @@ use Rattle.raft_group_step.specs.Values.{vote_eq}
 use Rattle.raft_laws.proofs.BallotAgreement.{same_some, slice_get-append, slice_get_end}
 use Rattle.raft_laws.proofs.Shapes.{slice_after}
 use Rattle.raft_laws.proofs.VoteRanks.{vote_eq_same}
+use Rattle.raft_list_laws.proofs.Keeping.{or_last, or_middle}
 use Rattle.raft_group_lists.specs.declared.notes.Lead.{Lead}
 use Rattle.raft_group_lists.specs.declared.notes.Reached.{Reached}
 use Rattle.raft_group_lists.specs.Notes.{IsLeadAt, SameLeads, has_reached, last_in, later_or, lead_in, reached_in, reaches}
@@ -76,24 +77,13 @@ lasts_of_end xs y none i lead e =
 
 -- ---- a node that has accepted more
 
-or_past : (a b c : Bool) → (a || (b || c)) ≡ ((a || b) || c)
-or_past true b c = refl
-or_past false b c = refl
-
-or_inside : (a b c : Bool) → ((a || c) || b) ≡ ((a || b) || c)
-or_inside true b c = refl
-or_inside false true true = refl
-or_inside false true false = refl
-or_inside false false true = refl
-or_inside false false false = refl
-
 pub any_set : {A : Type 0} (p : A → Bool) (xs : List A) (i : ℕ) (x y : A) (b : Bool) → slice_get xs i ≡ Some x → p y ≡ (p x || b) → list_any p (slice_set xs i y) ≡ (list_any p xs || b)
 any_set p [] i x y b e t = absurd (let no : None ≡ Some x = e in cc)
 any_set p (z ∷ zs) zero x y b e t =
     let same = same_some e in
-    ap (λ c. c || list_any p zs) (t ∙ ap (λ u. p u || b) (sym same)) ∙ or_inside (p z) (list_any p zs) b
+    ap (λ c. c || list_any p zs) (t ∙ ap (λ u. p u || b) (sym same)) ∙ or_middle (p z) (list_any p zs) b
 any_set p (z ∷ zs) (suc i) x y b e t =
-    ap (λ c. p z || c) (any_set p zs i x y b e t) ∙ or_past (p z) (list_any p zs) b
+    ap (λ c. p z || c) (any_set p zs i x y b e t) ∙ or_last (p z) (list_any p zs) b
 
 and_spread : (a r s : Bool) → (a && (r || s)) ≡ ((a && r) || (a && s))
 and_spread true r s = refl

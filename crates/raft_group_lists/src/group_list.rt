@@ -132,7 +132,8 @@ impl GroupList {
     /// An `Err` is want of memory: then what is noted is as true of the world before as it was.
     pub fn note(&mut self, node: u64, vote: Vote<u64>, last: usize) -> Result<(), AllocError>
         requires { last < length self.old.noted }
-        ensures truth { OnOk result ((w : GroupWorld) (l : Led) (list : List ListEntry) → AreTrue (accounts_of self.old) w → IsNoteOf self.old node vote last l → PartsAreFronts list (with_note w l) → AreTrue (accounts_of self.new) (with_note w l)) }
+        ensures truth { OnOk result ((w : GroupWorld) (l : Led) (list : List ListEntry) → AreTrue (accounts_of self.old) w
+            → IsNoteOf self.old node vote last l → PartsAreFronts list (with_note w l) → AreTrue (accounts_of self.new) (with_note w l)) }
         ensures noted { self.new.noted ≡ self.old.noted }
         ensures err { OnErr result ((w : GroupWorld) → AreTrue (accounts_of self.old) w → AreTrue (accounts_of self.new) w) }
     {
@@ -154,7 +155,8 @@ impl GroupList {
     /// A node sent that it has accepted, under the vote, all up to this log id; the group's list goes on with what that settles.
     /// An `Err` is want of memory: then what is noted is as true of the world before as it was.
     pub fn accept(&mut self, node: u64, vote: Vote<u64>, last: LogId<u64>) -> Result<(), AllocError>
-        ensures truth { OnOk result ((w : GroupWorld) (m : Message) (list : List ListEntry) → AreTrue (accounts_of self.old) w → AcceptsUpTo node vote last m → PartsAreFronts list (with_message w m) → AreTrue (accounts_of self.new) (with_message w m)) }
+        ensures truth { OnOk result ((w : GroupWorld) (m : Message) (list : List ListEntry) → AreTrue (accounts_of self.old) w
+            → AcceptsUpTo node vote last m → PartsAreFronts list (with_message w m) → AreTrue (accounts_of self.new) (with_message w m)) }
         ensures noted { self.new.noted ≡ self.old.noted }
         ensures err { OnErr result ((w : GroupWorld) → AreTrue (accounts_of self.old) w → AreTrue (accounts_of self.new) w) }
     {

@@ -1,7 +1,8 @@
 //! The group's list goes on with what is settled.
 ghost use Rattle.std.specs.Prelude.{◌≡◌, ◌&&◌, ◌==◌, ◌||◌, ◌++◌, ◌<◌, ◌≤◌, ℕ, Some, drop, length, OnErr, OnOk};
 ghost use Rattle.raft_list_laws.specs.Changes.{GoesOn};
-ghost use Rattle.raft_group_lists.specs.Notes.{AreJoined, AreWhole, AreWithin, IsWithin, Learns, SameLead, SameLeads, count_to, entries_at, has_reached, is_settled, list_to, notes_of, passes, reaches, settled_by};
+ghost use Rattle.raft_group_lists.specs.Notes.{AreJoined, AreWhole, AreWithin, IsWithin, Learns, SameLead, SameLeads, count_to};
+ghost use Rattle.raft_group_lists.specs.Notes.{entries_at, has_reached, is_settled, list_to, notes_of, passes, reaches, settled_by};
 
 use crate::judge::Judge;
 use crate::leads::{lead_at, learn, spot_of};
@@ -43,7 +44,8 @@ fn settle(
     requires joined { AreJoined noted.now }
     requires within { IsWithin noted.now last }
     requires listed { AreWithin noted.now listed.old.items }
-    ensures ok { OnOk result (GoesOn (entries_at noted.now listed.old.items) (settled_by (passes judge.now.voters.now judge.now.leader judge.now.reached.now judge.now.node judge.now.place) (list_to noted.now last)) (entries_at noted.now listed.new.items)) }
+    ensures ok { OnOk result (GoesOn (entries_at noted.now listed.old.items)
+        (settled_by (passes judge.now.voters.now judge.now.leader judge.now.reached.now judge.now.node judge.now.place) (list_to noted.now last)) (entries_at noted.now listed.new.items)) }
     ensures within { AreWithin noted.now listed.new.items }
     ensures err { OnErr result (listed.new.items ≡ listed.old.items) }
 {

@@ -30,11 +30,11 @@ one_more p xs x = list_any-append p xs (x ∷ []) ∙ ap (λ b. list_any p xs ||
     or_none true = refl
     or_none false = refl
 
-or_last : (a b c : Bool) → (a || (b || c)) ≡ ((a || b) || c)
+pub or_last : (a b c : Bool) → (a || (b || c)) ≡ ((a || b) || c)
 or_last true b c = refl
 or_last false b c = refl
 
-or_middle : (a b c : Bool) → ((a || c) || b) ≡ ((a || b) || c)
+pub or_middle : (a b c : Bool) → ((a || c) || b) ≡ ((a || b) || c)
 or_middle true b c = refl
 or_middle false true true = refl
 or_middle false true false = refl

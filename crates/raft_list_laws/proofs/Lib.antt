@@ -1,3 +1,4 @@
 pub mod Parts
 pub mod Keeping
 mod Fronts
+mod OwnEntries

@@ -1,5 +1,5 @@
 -- How an event changes the accounts of a group: by its set-up, the note of a leader, and each message that it sends.
-use Rattle.std.specs.Prelude.{◌≡◌, ℕ, ◌<◌, ◌≤◌, ◌==◌, ◌&&◌, ◌||◌, if◌then◌else◌, Bool, false, List, [], ◌∷◌, ◌++◌, length, Some}
+use Rattle.std.specs.Prelude.{◌≡◌, ℕ, ◌<◌, ◌≤◌, ◌==◌, ◌&&◌, ◌||◌, if◌then◌else◌, Bool, false, List, [], ◌∷◌, ◌++◌, length, Some, Contains}
 use Rattle.std.specs.List.{list_any}
 use Rattle.raft_values.specs.declared.vote.Vote.{Vote}
 use Rattle.raft_group_step.specs.Values.{Entry, Membership, vote_eq}
@@ -108,3 +108,13 @@ FrontsBeforeNotes =
 abbrev pub FrontsBeforeMessages : Type 0
 FrontsBeforeMessages =
     (list : List Entry) (w : GroupWorld) (m : Message) → PartsAreFronts list (with_message w m) → PartsAreFronts list w
+
+-- in each world to which a history leads, a noted list has an own entry of its leader at a place or past it just where its last
+-- entry is one
+abbrev pub OwnEntriesComeLast : Type 0
+OwnEntriesComeLast =
+    (ids : List ℕ) (rs : List Recorded) (end : GroupWorld) → IsGroupHistory ids rs end
+    → (l : Led) → Contains end.led l → (front : List Entry) (last : Entry) → l.list ≡ front ++ last ∷ []
+    → (place : ℕ)
+    → list_any (λ (e : Entry). is_at_or_after l.vote.leader_id place e.log_id) l.list
+    ≡ is_at_or_after l.vote.leader_id place last.log_id

@@ -1,10 +1,10 @@
 //! The accounts of a group's list stay true from event to event: laws, each a contract of a function without a body.
 
-ghost use Rattle.raft_list_laws.specs.Changes.{AcceptancesKeep, FrontsBeforeMessages, FrontsBeforeNotes, NotesKeep, PartsOfHistories, SetUpsKeep, SilentKeep};
+ghost use Rattle.raft_list_laws.specs.Changes.{AcceptancesKeep, FrontsBeforeMessages, FrontsBeforeNotes, NotesKeep, OwnEntriesComeLast, PartsOfHistories, SetUpsKeep, SilentKeep};
 
 /// Accounts that are true of a world are true of the next one: behind a set-up before which nobody led, a leader's note, and
 /// each message. Only the list of the one vote that is noted or accepted can make the group's list longer.
-pub fn accounts_stay_true()
+pub fn list_accounts_stay_true()
     ensures setups { SetUpsKeep }
     ensures notes { NotesKeep }
     ensures acceptances { AcceptancesKeep }
@@ -17,4 +17,9 @@ pub fn settled_parts_are_fronts()
     ensures histories { PartsOfHistories }
     ensures notes { FrontsBeforeNotes }
     ensures messages { FrontsBeforeMessages }
+{}
+
+/// A leader's own entries stand at the end of each list that it was noted with, over every history that replays.
+pub fn own_entries_come_last()
+    ensures { OwnEntriesComeLast }
 {}

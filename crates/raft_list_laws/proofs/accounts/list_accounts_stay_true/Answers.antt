@@ -1,5 +1,5 @@
 use Rattle.raft_list_laws.proofs.Keeping.{acceptances_keep, notes_keep, set_ups_keep, silent_keep}
-use Rattle.raft_list_laws.proofs.accounts.accounts_stay_true.Goals as goal
+use Rattle.raft_list_laws.proofs.accounts.list_accounts_stay_true.Goals as goal
 
 pub returns-clause-setups : goal.returns-clause-setups
 returns-clause-setups c = set_ups_keep
