@@ -1,0 +1,5 @@
+pub mod RunLemmas
+pub mod KeyLemmas
+pub mod AlikeLemmas
+pub mod EnterLemmas
+pub mod TableLemmas

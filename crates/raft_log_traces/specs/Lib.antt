@@ -1,0 +1,4 @@
+pub mod Runs
+pub mod Alike
+pub mod Traces
+pub mod GroupTraces
