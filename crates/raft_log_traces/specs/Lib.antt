@@ -2,3 +2,5 @@ pub mod Runs
 pub mod Alike
 pub mod Traces
 pub mod GroupTraces
+pub mod Files
+pub mod Before

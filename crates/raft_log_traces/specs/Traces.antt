@@ -38,3 +38,6 @@ trace_by (Some t) = trace_of t
 
 abbrev pub traces_at : BTreeMap ℕ GroupTrace → Traces
 traces_at traces group = trace_by (get nat_cmp traces group)
+
+unfoldable pub trace_in : GroupTrace → Trace
+trace_in t = trace_of t

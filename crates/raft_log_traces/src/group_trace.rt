@@ -28,14 +28,14 @@ pub(crate) fn lesser(file: Option<FileSeq>, other: Option<FileSeq>) -> Option<Fi
 }
 
 /// The lesser of two indexes.
-fn earlier(index: u128, other: u128) -> u128
+pub(crate) fn earlier(index: u128, other: u128) -> u128
     ensures { result ≡ (if nat_lt index other then index else other) }
 {
     if index < other { index } else { other }
 }
 
 /// The greater of two indexes.
-fn later(index: u128, other: u128) -> u128
+pub(crate) fn later(index: u128, other: u128) -> u128
     ensures { result ≡ greater index other }
 {
     if index < other { other } else { index }
@@ -57,23 +57,23 @@ fn first_index_of(entries: &[EntryIndex]) -> u64
 pub struct GroupTrace {
     /// The entries are those from `low` up to before `next`. Where `next` isn't above `low`, there
     /// is none.
-    low: u128,
-    next: u128,
+    pub(crate) low: u128,
+    pub(crate) next: u128,
     /// One past the greatest index that entries ever had since a `Clean`.
-    top: u128,
+    pub(crate) top: u128,
     /// The least append file with a change since the last marks.
-    since: Option<FileSeq>,
+    pub(crate) since: Option<FileSeq>,
     /// The append file of the last entry; without entries, that of `since`.
-    tail: Option<FileSeq>,
+    pub(crate) tail: Option<FileSeq>,
     /// The append files of the entries from `floor` on. Those below it stand in none.
-    floor: u128,
-    runs: Vec<Run>,
+    pub(crate) floor: u128,
+    pub(crate) runs: Vec<Run>,
     /// The append files of the keys that stand in one.
-    keys: BTreeMap<Vec<u8>, FileSeq>,
+    pub(crate) keys: BTreeMap<Vec<u8>, FileSeq>,
     /// Whether the group was cleaned since the last marks.
-    cleaned: bool,
+    pub(crate) cleaned: bool,
     /// The keys that were deleted since then and aren't there.
-    deleted: BTreeSet<Vec<u8>>,
+    pub(crate) deleted: BTreeSet<Vec<u8>>,
 }
 
 impl GroupTrace {

@@ -13,7 +13,7 @@ use std::alloc::{AllocError, Global};
 use std::collections::BTreeMap;
 
 /// The traces of all groups of which something was written.
-type TraceMap = BTreeMap<u64, GroupTrace>;
+pub(crate) type TraceMap = BTreeMap<u64, GroupTrace>;
 
 /// What an item says was written to a file.
 fn apply_item(
@@ -38,8 +38,8 @@ fn apply_item(
 /// for groups that were cleaned and aren't there.
 #[derive(Drop)]
 pub struct GroupTraces {
-    traces: TraceMap,
-    pub(crate) alloc: Global,
+    pub(crate) traces: TraceMap,
+    alloc: Global,
 }
 
 impl GroupTraces {

@@ -2,8 +2,11 @@
 //! keys stand, and what was removed since its last marks.
 #![tactic(auto)]
 
+mod before;
+mod files;
 mod group_trace;
 mod group_traces;
+mod rewritten;
 mod runs;
 
 pub use group_trace::GroupTrace;
