@@ -1,11 +1,10 @@
 -- Traces that say the same.
-use Rattle.std.proofs.Common.{◌≡◌, ◌+◌, ℕ, Bool, true, false, cond, List, [], ◌∷◌, ◌++◌, length, Option, Some, None, refl, sym, ap, subst, ◌∙◌}
+use Rattle.std.proofs.Common.{◌≡◌, ◌+◌, ℕ, Bool, true, false, cond, List, [], ◌∷◌, ◌++◌, length, Some, None, refl, sym, ap, subst, ◌∙◌}
 use Rattle.std.specs.Prelude.{nat_eq, nat_le, nat_lt, bytes_eq}
 use Rattle.raft_log_records.specs.Item.{Change, Item}
 use Rattle.raft_log_records.specs.Item.Change.{entries, clean, compact, put, delete, mark}
 use Rattle.raft_log_records.specs.Spelling.{first_index}
-use Rattle.raft_log_covers.specs.Marks.{is_in}
-use Rattle.raft_log_covers.specs.Trace.{Trace, least, greater, entered, cut, without, trace_after}
+use Rattle.raft_log_covers.specs.Trace.{Trace, least, greater, entered, cut, trace_after}
 use Rattle.raft_log_covers.specs.Kept.{Traces, traces_after, traces_after_item}
 use Rattle.raft_log_traces.specs.Alike.{IsAlike, AreAlike}
 use Rattle.raft_log_traces.proofs.KeyLemmas.{is_in_without, is_in_last}

@@ -1,11 +1,10 @@
 -- Entries that are written to a file.
-use Rattle.std.proofs.Common.{◌≡◌, ◌≤◌, ◌<◌, ℕ, Bool, true, false, cond, List, Option, Some, None, refl, sym, ap, subst, ◌∙◌}
+use Rattle.std.proofs.Common.{◌≡◌, ◌≤◌, ◌<◌, ℕ, Bool, cond, Option, Some, refl, sym, ap, subst, ◌∙◌}
 use Rattle.std.specs.Prelude.{nat_le, nat_lt}
 use Rattle.std.proofs.lemmas.Bool.{lt-ltb, le-ltb}
 use Rattle.raft_log_covers.specs.Marks.{is_in}
 use Rattle.raft_log_covers.specs.Trace.{Trace, least, greater, entered}
 use Rattle.raft_log_traces.specs.declared.group_trace.GroupTrace.{GroupTrace}
-use Rattle.raft_log_traces.specs.declared.runs.Run.{Run}
 use Rattle.raft_log_traces.specs.Runs.{file_in, file_above}
 use Rattle.raft_log_traces.specs.Alike.{IsAlike}
 use Rattle.raft_log_traces.specs.Traces.{trace_of, key_file_in, names_in}

@@ -3,3 +3,6 @@ pub mod KeyLemmas
 pub mod AlikeLemmas
 pub mod EnterLemmas
 pub mod TableLemmas
+pub mod FileLemmas
+pub mod NameLemmas
+pub mod LawLemmas

@@ -5,7 +5,7 @@ use Rattle.std.specs.BTreeMap.{BTreeMap, get, UpdatesBy}
 use Rattle.std.specs.Ordering.{nat_cmp}
 use Rattle.std.proofs.lemmas.Bool.{eqb-true}
 use Rattle.raft_log_memtables.proofs.Cells.{apart_number}
-use Rattle.raft_log_records.specs.Item.{Change, Item}
+use Rattle.raft_log_records.specs.Item.{Item}
 use Rattle.raft_log_covers.specs.Trace.{Trace, trace_after}
 use Rattle.raft_log_covers.specs.Kept.{Traces, new_trace, traces_after_item, with_trace}
 use Rattle.raft_log_traces.specs.declared.group_trace.GroupTrace.{GroupTrace}

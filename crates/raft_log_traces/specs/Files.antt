@@ -1,7 +1,6 @@
 -- The least append file that is kept, of a group and of all.
-use Rattle.std.specs.Prelude.{◌≡◌, ◌≤◌, ◌<◌, ℕ, Bool, true, false, nat_lt, map, List, [], ◌∷◌, Option, Some, None}
-use Rattle.std.specs.BTreeMap.{get, values}
-use Rattle.std.specs.Ordering.{nat_cmp}
+use Rattle.std.specs.Prelude.{ℕ, map, List, [], ◌∷◌, Option, Some, None}
+use Rattle.std.specs.BTreeMap.{values}
 use Rattle.raft_log_covers.specs.Account.{IsFrom}
 use Rattle.raft_log_covers.specs.Trace.{Trace, least}
 use Rattle.raft_log_traces.specs.declared.group_trace.GroupTrace.{GroupTrace}
@@ -21,25 +20,23 @@ IsKeptFrom (Some first) t = KeepsFrom first t
 
 -- ---- as the program has them
 
-abbrev pub least_in : List ℕ → Option ℕ
-least_in [] = None
-least_in (file ∷ files) = least (Some file) (least_in files)
+-- the least of a file, if there is one, and of more files
+abbrev pub least_with : Option ℕ → List ℕ → Option ℕ
+least_with file [] = file
+least_with file (other ∷ files) = least_with (least file (Some other)) files
 
 -- the least of the files of a group: since its marks, of its tail, entries and keys
 abbrev pub least_by : GroupTrace → Option ℕ
-least_by t = least (least t.since t.tail) (least (least_in (map (λ r. r.file) t.runs.items)) (least_in (values t.keys)))
+least_by t = least_with (least_with (least t.since t.tail) (map (λ r. r.file) t.runs.items)) (values t.keys)
 
 unfoldable pub least_of : GroupTrace → Option ℕ
 least_of t = least_by t
 
-abbrev pub least_of_all : List GroupTrace → Option ℕ
-least_of_all [] = None
-least_of_all (t ∷ ts) = least (least_by t) (least_of_all ts)
+-- of more groups too
+abbrev pub least_with_all : Option ℕ → List GroupTrace → Option ℕ
+least_with_all file [] = file
+least_with_all file (t ∷ ts) = least_with_all (least file (least_by t)) ts
 
-abbrev pub least_if : Option GroupTrace → Option ℕ
-least_if None = None
-least_if (Some t) = least_by t
-
--- of a group
-unfoldable pub least_at : GroupTraces → ℕ → Option ℕ
-least_at traces group = least_if (get nat_cmp traces.traces group)
+-- of all groups
+unfoldable pub least_over : GroupTraces → Option ℕ
+least_over traces = least_with_all None (values traces.traces)

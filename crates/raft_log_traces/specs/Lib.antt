@@ -4,3 +4,4 @@ pub mod Traces
 pub mod GroupTraces
 pub mod Files
 pub mod Before
+pub mod TraceLaws

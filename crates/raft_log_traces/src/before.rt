@@ -1,6 +1,7 @@
 //! What of a group lies before an append file, and what was removed from it.
 
 ghost use Rattle.std.specs.Prelude.{◌≡◌, ◌<◌, ◌≤◌, ℕ, List, map, true, None, IfSome, IfNone, IfOk};
+ghost use Rattle.std.specs.Prelude.{MatchOption};
 ghost use Rattle.raft_log_covers.specs.Account.{IsFrom};
 ghost use Rattle.raft_log_covers.specs.Marks.{is_in};
 ghost use Rattle.raft_log_traces.specs.Runs.{file_in};
@@ -13,17 +14,26 @@ use raft_log_records::FileSeq;
 use std::alloc::{AllocError, Global};
 use std::collections::{BTreeMap, BTreeSet};
 
+/// The same with one more run.
+fn first_with(first: Option<u128>, run: Run, file: FileSeq) -> Option<u128>
+    ensures { IfSome result (λ n. (file ≤ run.file) × MatchOption first (n ≡ run.first) (λ m. n ≡ m)) }
+{
+    if run.file < file {
+        return None;
+    }
+    match first {
+        Some(first) => Some(first),
+        None => Some(run.first),
+    }
+}
+
 /// The index from which on all entries stand in a file or in later ones, if the last ones do.
 fn first_from(runs: &[Run], file: FileSeq) -> Option<u128>
     ensures { IfSome result (λ first. (i : ℕ) → first ≤ i → StandsFrom file (file_in runs.now i)) }
 {
     let mut first = None;
     for run in runs {
-        if run.file < file {
-            first = None;
-        } else if first.is_none() {
-            first = Some(run.first);
-        }
+        first = first_with(first, *run, file);
     }
     first
 }
@@ -49,9 +59,10 @@ fn keys_in_files_before(
 {
     let mut names = Vec::new(alloc);
     for (key, at) in keys {
-        if *at < file {
-            names.push(key.as_slice())?;
+        if file <= *at {
+            continue;
         }
+        names.push(key.as_slice())?;
     }
     Ok(names)
 }

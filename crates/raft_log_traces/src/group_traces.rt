@@ -1,10 +1,10 @@
 //! What the log engine keeps of every group for cleaning.
 
-ghost use Rattle.std.specs.Prelude.{◌≡◌, ℕ, take, OnOk, OnErr};
+ghost use Rattle.std.specs.Prelude.{◌≡◌, ℕ, take, MatchOption, OnOk, OnErr};
 ghost use Rattle.raft_log_records.specs.Item.{item_of, items_of};
 ghost use Rattle.raft_log_covers.specs.Kept.{new_trace, traces_after, traces_after_item};
 ghost use Rattle.raft_log_traces.specs.Alike.{AreAlike};
-ghost use Rattle.raft_log_traces.specs.Traces.{traces_at};
+ghost use Rattle.raft_log_traces.specs.Traces.{trace_in, traces_at};
 ghost use Rattle.raft_log_traces.specs.GroupTraces.{traces_in};
 
 use crate::group_trace::GroupTrace;
@@ -52,6 +52,14 @@ impl GroupTraces {
             traces: BTreeMap::new(alloc),
             alloc,
         }
+    }
+
+    /// What is kept of a group, if anything was written of it.
+    #[tactic(auto, unfolding(crate::specs::GroupTraces::traces_in, crate::specs::Traces::trace_in))]
+    pub fn get(&self, raft_group_id: u64) -> Option<&GroupTrace>
+        ensures { MatchOption result (traces_in self.now raft_group_id ≡ new_trace) (λ t. traces_in self.now raft_group_id ≡ trace_in t.now) }
+    {
+        self.traces.get(&raft_group_id)
     }
 
     /// A batch with these items was written to an append file. An `Err`, for want of memory, leaves

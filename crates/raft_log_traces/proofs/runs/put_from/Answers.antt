@@ -1,5 +1,4 @@
-use Rattle.std.proofs.Common.{refl, sym, ap, ◌∙◌, subst, List, arith, ◌+◌, ◌≤◌}
-use Rattle.std.specs.Vec.{vec_len, vec_capacity}
+use Rattle.std.proofs.Common.{refl, ◌∙◌, subst, List, arith}
 use Rattle.raft_log_traces.specs.declared.runs.Run.{Run}
 use Rattle.raft_log_traces.specs.Runs.{EndsFrom}
 use Rattle.raft_log_traces.proofs.RunLemmas.{popped, put_last}

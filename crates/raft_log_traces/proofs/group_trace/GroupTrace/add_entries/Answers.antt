@@ -13,22 +13,22 @@ returns-clause-ok c =
     let next = c.args.first + c.args.count in
     elim c.if-self.branch [
       | then-self w ↦
-        let beside : StaysBeside t s = record {
-          keys = ap (λ (x : GroupTrace). x.keys) w.self-is;
-          cleaned = ap (λ (x : GroupTrace). x.cleaned) w.self-is;
-          deleted = ap (λ (x : GroupTrace). x.deleted) w.self-is;
-        } in
-        entered_inside c.args.file c.args.first next c.later-self.result c.lesser-self-2.result t s w.if-self.true beside (ap (λ (x : GroupTrace). x.low) w.self-is)
-        (c.later-self.ensures ∙ ap (λ (x : GroupTrace). greater x.top next) w.self-is) (c.lesser-self-2.ensures ∙ ap (λ (x : GroupTrace). least x.since (Some c.args.file)) w.self-is)
-        (ap (λ (x : GroupTrace). x.floor) w.self-is ∙ w.earlier-self.ensures) (λ i. ap (λ (x : GroupTrace). file_in x.runs.items i) w.self-is ∙ c.in_ok-put_from.ensures.ok i)
+          let beside : StaysBeside t s = record {
+            keys = ap (λ (x : GroupTrace). x.keys) w.self-is;
+            cleaned = ap (λ (x : GroupTrace). x.cleaned) w.self-is;
+            deleted = ap (λ (x : GroupTrace). x.deleted) w.self-is;
+          } in
+          entered_inside c.args.file c.args.first next c.later-self.result c.lesser-self-2.result t s w.if-self.true beside (ap (λ (x : GroupTrace). x.low) w.self-is)
+          (c.later-self.ensures ∙ ap (λ (x : GroupTrace). greater x.top next) w.self-is) (c.lesser-self-2.ensures ∙ ap (λ (x : GroupTrace). least x.since (Some c.args.file)) w.self-is)
+          (ap (λ (x : GroupTrace). x.floor) w.self-is ∙ w.earlier-self.ensures) (λ i. ap (λ (x : GroupTrace). file_in x.runs.items i) w.self-is ∙ c.in_ok-put_from.ensures.ok i)
       | else-self w ↦
-        let beside : StaysBeside t s = record {
-          keys = ap (λ (x : GroupTrace). x.keys) w.self-is;
-          cleaned = ap (λ (x : GroupTrace). x.cleaned) w.self-is;
-          deleted = ap (λ (x : GroupTrace). x.deleted) w.self-is;
-        } in
-        entered_anew c.args.file c.args.first next c.later-self.result c.lesser-self-2.result t s w.if-self.false beside (ap (λ (x : GroupTrace). x.low) w.self-is)
-        (c.later-self.ensures ∙ ap (λ (x : GroupTrace). greater x.top next) w.self-is)
-        (c.lesser-self-2.ensures ∙ ap (λ (x : GroupTrace). least x.since (Some c.args.file)) w.self-is ∙ ap (λ (o : Option ℕ). least o (Some c.args.file)) w.lesser-self.ensures)
-        (ap (λ (x : GroupTrace). x.floor) w.self-is) (λ i. ap (λ (x : GroupTrace). file_in x.runs.items i) w.self-is ∙ c.in_ok-put_from.ensures.ok i)
+          let beside : StaysBeside t s = record {
+            keys = ap (λ (x : GroupTrace). x.keys) w.self-is;
+            cleaned = ap (λ (x : GroupTrace). x.cleaned) w.self-is;
+            deleted = ap (λ (x : GroupTrace). x.deleted) w.self-is;
+          } in
+          entered_anew c.args.file c.args.first next c.later-self.result c.lesser-self-2.result t s w.if-self.false beside (ap (λ (x : GroupTrace). x.low) w.self-is)
+          (c.later-self.ensures ∙ ap (λ (x : GroupTrace). greater x.top next) w.self-is)
+          (c.lesser-self-2.ensures ∙ ap (λ (x : GroupTrace). least x.since (Some c.args.file)) w.self-is ∙ ap (λ (o : Option ℕ). least o (Some c.args.file)) w.lesser-self.ensures)
+          (ap (λ (x : GroupTrace). x.floor) w.self-is) (λ i. ap (λ (x : GroupTrace). file_in x.runs.items i) w.self-is ∙ c.in_ok-put_from.ensures.ok i)
     ]

@@ -1,4 +1,4 @@
-use Rattle.std.proofs.Common.{List, ℕ, true, cond, None, refl, sym, ap, ◌∙◌}
+use Rattle.std.proofs.Common.{List, ℕ, true, cond, refl, sym, ap, ◌∙◌}
 use Rattle.std.specs.Prelude.{bytes_eq}
 use Rattle.raft_log_covers.specs.Marks.{is_in}
 use Rattle.raft_log_traces.specs.Traces.{names_in}

@@ -1,9 +1,8 @@
-use Rattle.std.proofs.Common.{◌≡◌, ◌+◌, ◌++◌, ◌∷◌, [], ℕ, List, take, refl, sym, ap, subst, ◌∙◌, Result, Ok, Err}
+use Rattle.std.proofs.Common.{◌≡◌, ◌+◌, ◌++◌, ◌∷◌, [], List, take, sym, ap, subst, ◌∙◌, Result, Ok, Err}
 use Rattle.std.specs.Prelude.{OnErr}
 use Rattle.std.proofs.lemmas.List.{map_more, take_all}
 use Rattle.raft_log_records.specs.declared.item.LogItem.{LogItem}
-use Rattle.raft_log_records.specs.declared.item.EntryIndex.{EntryIndex}
-use Rattle.raft_log_records.specs.Item.{Item, item_of, items_of}
+use Rattle.raft_log_records.specs.Item.{item_of, items_of}
 use Rattle.raft_log_covers.specs.Kept.{traces_after}
 use Rattle.raft_log_traces.specs.Alike.{AreAlike}
 use Rattle.raft_log_traces.specs.Traces.{traces_at}
@@ -25,7 +24,7 @@ loop-item-preserved c =
     let items = c.args.items.now in
     let index = c.loop-item.item-index in
     let more : items_of (take (index + 1) items) ≡ items_of (take index items) ++ item_of c.item-item.result ∷ [] =
-        map_more item_of items index c.item-item.result c.loop-item-test.true ∙ ap (λ (x : LogItem). items_of (take index items) ++ item_of x ∷ []) (sym c.item-item.is) in
+    map_more item_of items index c.item-item.result c.loop-item-test.true ∙ ap (λ (x : LogItem). items_of (take index items) ++ item_of x ∷ []) (sym c.item-item.is) in
     one_more c.args.file (items_of (take index items)) (items_of (take (index + 1) items)) (item_of c.item-item.result) (traces_at c.args.self.now.traces) (traces_at c.loop-item.self.traces) (traces_at c.apply_item.new.traces)
     more c.loop-item.invariant c.in_ok-apply_item.ensures.ok
 
