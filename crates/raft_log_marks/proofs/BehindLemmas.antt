@@ -11,8 +11,8 @@ use Rattle.raft_log_covers.specs.Marks.{Names, names_after_marks, names_after_en
 use Rattle.raft_log_covers.specs.Trace.{Trace, names_after, settled_by}
 use Rattle.raft_log_marks.specs.MarkLaws.{NamesBehind, ChangesNameBehind, RewritesNameBehind, NameBehindRewritten}
 
-no_entry : {A P : Type 0} → IsSome {T = A} None → P
-no_entry h = absurd h
+no_entry : {P : Type 0} → false ≡ true → P
+no_entry h = absurd cc
 
 pub changes_name_behind : {E : Type 0} → ChangesNameBehind E
 changes_name_behind file (entries es) g names h i j l s n = by_place (nat_le (first_index es) i) refl (nat_le (first_index es) j) refl s n
@@ -37,7 +37,7 @@ changes_name_behind file (delete name) g names h i j l s n = h i j l s n
 changes_name_behind file (mark id status) g names h i j l s n = h i j l s n
 
 some_entry : {E P : Type 0} (o : Option E) → o ≡ None → IsSome o → P
-some_entry None e s = absurd s
+some_entry None e s = absurd cc
 some_entry (Some x) e s = absurd cc
 
 after_marks : {E : Type 0} (g : GroupContent E) (names : Names) (limit : ℕ) (is_empty : Bool) → (is_empty ≡ true → (i : ℕ) → g.entry i ≡ None) → ((i : ℕ) → IsSome (g.entry i) → limit ≤ i)

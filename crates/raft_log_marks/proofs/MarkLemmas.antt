@@ -18,11 +18,11 @@ two_parts group (change ∷ first) second = ap (λ l. record { group = group; ch
 
 -- a batch to which both parts were added
 pub added_both : {E : Type 0} (group : ℕ) (first second whole : List (Change E)) (old mid new : List (Item E)) → whole ≡ first ++ second → mid ≡ old ++ of_group group first → new ≡ mid ++ of_group group second → new ≡ old ++ of_group group whole
-added_both group first second whole old mid new w a b =
+added_both {E} group first second whole old mid new w a b =
     b ∙ ap (λ l. l ++ of_group group second) a ∙ regrouped old (of_group group first) (of_group group second)
     ∙ ap (λ l. old ++ l) (sym (two_parts group first second) ∙ ap (of_group group) (sym w))
   where
-    regrouped : (x y z : List (Item _)) → (x ++ y) ++ z ≡ x ++ (y ++ z)
+    regrouped : (x y z : List (Item E)) → (x ++ y) ++ z ≡ x ++ (y ++ z)
     regrouped x y z = rw append_assoc
 
 pub deletes_more : {E : Type 0} (ks : List (List ℕ)) (k : List ℕ) → deletes {E = E} (ks ++ k ∷ []) ≡ deletes ks ++ delete k ∷ []

@@ -1,11 +1,11 @@
 -- Which files are kept.
-use Rattle.std.proofs.Common.{◌≡◌, ◌≤◌, ◌<◌, ℕ, Bool, true, false, cond, List, [], ◌∷◌, ◌++◌, map, Option, Some, None, refl, sym, ap, subst, arith, le_refl, ltb-false, ◌⊎◌, inl, inr, ⊎_elim}
+use Rattle.std.proofs.Common.{◌≡◌, ◌≤◌, ◌<◌, ℕ, Bool, true, false, cond, List, [], ◌∷◌, ◌++◌, Option, Some, None, refl, sym, ap, subst, arith, le_refl, suc, min, ltb-true, ltb-false, leb-false, ◌⊎◌, inl, inr, ⊎_elim, ◌∙◌, IsSome}
 use Rattle.std.specs.Prelude.{◌||◌, nat_eq, nat_le, nat_lt, IfSome, MatchOption}
 use Rattle.std.specs.Map.{lookup, values_of}
 use Rattle.std.specs.Ordering.{nat_cmp, is_eq}
 use Rattle.std.specs.List.{list_any}
 use Rattle.std.specs.BTreeMap.{BTreeMap, values, is_at}
-use Rattle.std.proofs.lemmas.Bool.{le-leb, lt-ltb, le-ltb, eq-eqb, eqb-true}
+use Rattle.std.proofs.lemmas.Bool.{le-leb, leb-true, lt-leb, lt-ltb, le-ltb, eq-eqb, eqb-true}
 use Rattle.raft_log_memtables.proofs.Cells.{apart_number}
 use Rattle.raft_log_memtables.specs.Entries.{or_else}
 use Rattle.raft_log_covers.specs.Account.{IsFrom}
@@ -15,7 +15,7 @@ use Rattle.raft_log_traces.specs.declared.runs.Run.{Run}
 use Rattle.raft_log_traces.specs.declared.group_trace.GroupTrace.{GroupTrace}
 use Rattle.raft_log_traces.specs.Runs.{file_in, file_above}
 use Rattle.raft_log_traces.specs.Before.{StandsFrom}
-use Rattle.raft_log_traces.specs.Files.{KeepsFrom, IsKeptFrom, least_with, least_by, least_with_all}
+use Rattle.raft_log_traces.specs.Files.{KeepsFrom, IsKeptFrom, least_with, AllKeepFrom}
 use Rattle.raft_log_traces.specs.Traces.{trace_of, trace_by, traces_at}
 use Rattle.raft_log_traces.proofs.RunLemmas.{last_run}
 
@@ -36,22 +36,120 @@ from_with n file (f ∷ fs) h =
     let both = from_least n file (Some f) rest.0 in
     (both.0, (both.1, rest.1))
 
-or_from : (n f : ℕ) (o : Option ℕ) (b : Bool) → IsFrom n o → n ≤ f → IsFrom n (or_else o (cond b (Some f) None))
-or_from n f None true h k = k
-or_from n f None false h k = tt
-or_from n f (Some g) b h k = h
+-- a file that is kept, seen at another place
+abbrev pub KeepsRuns : ℕ → ℕ → ℕ → List Run → Type 0
+KeepsRuns n floor next rs = (i : ℕ) → floor ≤ i → i < next → IsFrom n (file_in rs i)
 
-runs_from : (n : ℕ) (rs : List Run) → AllFrom n (map (λ r. r.file) rs) → (i : ℕ) → IsFrom n (file_in rs i)
-unfolding AllFrom
-runs_from n [] h i = tt
-runs_from n (r ∷ rs) h i = or_from n r.file (file_in rs i) (nat_le r.first i) (runs_from n rs h.1 i) h.0
+-- an index at which the file of an entry is the least
+abbrev pub IsReached : ℕ → ℕ → List Run → ℕ → Type 0
+IsReached floor next rs file = (i : ℕ) × (floor ≤ i) × (i < next) × (file_in rs i ≡ Some file)
 
-above_from : (n floor : ℕ) (rs : List Run) (i : ℕ) → IsFrom n (file_in rs i) → IsFrom n (file_above floor rs i)
-above_from n floor rs i h = by_test (nat_lt i floor)
+-- the runs from one on cover all from an index on, and nothing before it
+pub record CoverFrom (rs : List Run) (end next : ℕ) : Type 0 where
+  pub within : end ≤ next
+  pub covered : (i : ℕ) → end ≤ i → i < next → IsSome (file_in rs i)
+  pub open_below : (i : ℕ) → i < end → file_in rs i ≡ None
+
+is_some_at : (o other : Option ℕ) → IsSome o → or_else o other ≡ o
+is_some_at None other h = absurd cc
+is_some_at (Some f) other h = refl
+
+none_at : (o other : Option ℕ) → o ≡ None → or_else o other ≡ other
+none_at None other h = refl
+none_at (Some f) other h = absurd cc
+
+some_or : (o other : Option ℕ) → IsSome o → IsSome (or_else o other)
+some_or None other h = absurd cc
+some_or (Some f) other h = refl
+
+some_at_last : (o other : Option ℕ) → IsSome other → IsSome (or_else o other)
+some_at_last None other h = h
+some_at_last (Some f) other h = refl
+
+at_true : (first file i : ℕ) → first ≤ i → cond (nat_le first i) (Some file) None ≡ Some file
+at_true first file i h = ap (λ (b : Bool). cond b (Some file) None) (le-leb first i h)
+
+is_the_some : (o : Option ℕ) (file : ℕ) → o ≡ Some file → IsSome o
+is_the_some None file h = absurd cc
+is_the_some (Some f) file h = refl
+
+pub cover_more : (r : Run) (rs : List Run) (end next new : ℕ) → new ≡ cond (nat_lt end r.first) end r.first → CoverFrom rs end next → CoverFrom (r ∷ rs) new next
+cover_more r rs end next new e c = by_test (nat_lt end r.first) refl e
   where
-    by_test : (b : Bool) → IsFrom n (cond b None (file_in rs i))
-    by_test true = tt
-    by_test false = h
+    by_test : (b : Bool) → nat_lt end r.first ≡ b → new ≡ cond b end r.first → CoverFrom (r ∷ rs) new next
+    by_test true t is =
+        let low = ltb-true end r.first t in
+        let within = c.within in
+        record {
+          within = omega (arith, is, within);
+          covered = λ i l m. some_or (file_in rs i) _ (c.covered i (omega (arith, l, is)) m);
+          open_below = λ i l.
+              let under : i < end = omega (arith, l, is) in
+              none_at (file_in rs i) _ (c.open_below i under) ∙ ap (λ (b : Bool). cond b (Some r.file) None) (lt-leb r.first i (omega (arith, under, low)));
+        }
+    by_test false t is =
+        let low = ltb-false end r.first t in
+        let within = c.within in
+        record {
+          within = omega (arith, is, low, within);
+          covered = λ i l m. some_at_last (file_in rs i) _ (is_the_some _ r.file (at_true r.first r.file i (omega (arith, l, is))));
+          open_below = λ i l.
+              let under : i < r.first = omega (arith, l, is) in
+              none_at (file_in rs i) _ (c.open_below i (omega (arith, under, low))) ∙ ap (λ (b : Bool). cond b (Some r.file) None) (lt-leb r.first i under);
+        }
+
+keeps_or : (n file : ℕ) (o : Option ℕ) (b : Bool) → IsFrom n o → n ≤ file → IsFrom n (or_else o (cond b (Some file) None))
+keeps_or n file None true h k = k
+keeps_or n file None false h k = tt
+keeps_or n file (Some g) b h k = h
+
+-- a run that is seen counts
+pub counted_kept : (r : Run) (rs : List Run) (floor next : ℕ) (o new : Option ℕ) → new ≡ least o (Some r.file) → ((n : ℕ) → IsFrom n o → KeepsRuns n floor next rs) → (n : ℕ) → IsFrom n new → KeepsRuns n floor next (r ∷ rs)
+counted_kept r rs floor next o new e k n h i l m =
+    let both = from_least n o (Some r.file) (subst (λ (x : Option ℕ). IsFrom n x) e h) in
+    keeps_or n r.file (file_in rs i) (nat_le r.first i) (k n both.0 i l m) both.1
+
+or_none : (n : ℕ) (x : Option ℕ) → IsFrom n x → IsFrom n (or_else x None)
+or_none n None y = tt
+or_none n (Some f) y = y
+
+-- a run that isn't seen counts nothing
+pub hidden_kept : (r : Run) (rs : List Run) (floor end next : ℕ) (o : Option ℕ) → CoverFrom rs end next → ((i : ℕ) → floor ≤ i → r.first ≤ i → end ≤ i) → ((n : ℕ) → IsFrom n o → KeepsRuns n floor next rs)
+    → (n : ℕ) → IsFrom n o → KeepsRuns n floor next (r ∷ rs)
+hidden_kept r rs floor end next o c hidden k n h i l m = by_test (nat_le r.first i) refl
+  where
+    by_test : (b : Bool) → nat_le r.first i ≡ b → IsFrom n (or_else (file_in rs i) (cond b (Some r.file) None))
+    by_test true e = subst (λ (x : Option ℕ). IsFrom n x) (sym (is_some_at (file_in rs i) (Some r.file) (c.covered i (hidden i l (leb-true r.first i e)) m))) (k n h i l m)
+    by_test false e = or_none n (file_in rs i) (k n h i l m)
+
+reached_more : (r : Run) (rs : List Run) (floor next file : ℕ) → IsReached floor next rs file → IsReached floor next (r ∷ rs) file
+reached_more r rs floor next file h = (h.0, h.1, h.2, is_some_at (file_in rs h.0) _ (is_the_some _ file h.3) ∙ h.3)
+
+pub hidden_reached : (r : Run) (rs : List Run) (floor next : ℕ) (o : Option ℕ) → IfSome o (IsReached floor next rs) → IfSome o (IsReached floor next (r ∷ rs))
+hidden_reached r rs floor next None h = tt
+hidden_reached r rs floor next (Some f) h = reached_more r rs floor next f h
+
+by_min : (f g : ℕ) → (min f g ≡ f) ⊎ (min f g ≡ g)
+by_min f g = by_test (nat_le f g) refl
+  where
+    by_test : (b : Bool) → nat_le f g ≡ b → (min f g ≡ f) ⊎ (min f g ≡ g)
+    by_test true k = let l = leb-true f g k in inl (omega (arith, l))
+    by_test false k = let l : suc g ≤ f = leb-false f g k in inr (omega (arith, l))
+
+pub counted_reached : (r : Run) (rs : List Run) (floor end next : ℕ) (o new : Option ℕ) → new ≡ least o (Some r.file) → CoverFrom rs end next → (i : ℕ) × (floor ≤ i) × (r.first ≤ i) × (i < end)
+    → IfSome o (IsReached floor next rs) → IfSome new (IsReached floor next (r ∷ rs))
+counted_reached r rs floor end next o new e c seen h = subst (λ (x : Option ℕ). IfSome x (IsReached floor next (r ∷ rs))) (sym e) (by_least o h)
+  where
+    here : IsReached floor next (r ∷ rs) r.file
+    here =
+        let under = seen.3 in
+        let within = c.within in
+        (seen.0, seen.1, omega (arith, under, within), none_at (file_in rs seen.0) _ (c.open_below seen.0 under) ∙ at_true r.first r.file seen.0 seen.2)
+
+    by_least : (x : Option ℕ) → IfSome x (IsReached floor next rs) → IfSome (least x (Some r.file)) (IsReached floor next (r ∷ rs))
+    by_least None y = here
+    by_least (Some f) y =
+        ⊎_elim (λ p. subst (IsReached floor next (r ∷ rs)) (sym p) (reached_more r rs floor next f y)) (λ p. subst (IsReached floor next (r ∷ rs)) (sym p) here) (by_min f r.file)
 
 found_from : {K : Type 0} (n : ℕ) (test : K → Bool) (es : List (K × ℕ)) → AllFrom n (values_of es) → IsFrom n (lookup test es)
 unfolding AllFrom
@@ -62,25 +160,42 @@ found_from {K} n test (e ∷ es) h = by_test (test e.0) (found_from n test es h.
     by_test true k = h.0
     by_test false k = k
 
-pub keeps : (n : ℕ) (t : GroupTrace) → IsFrom n (least_by t) → KeepsFrom n (trace_of t)
-keeps n t h =
-    let files = map (λ (r : Run). r.file) t.runs.items in
-    let with_keys = from_with n (least_with (least t.since t.tail) files) (values t.keys) h in
-    let with_runs = from_with n (least t.since t.tail) files with_keys.0 in
-    let removed = from_least n t.since t.tail with_runs.0 in
+above_from : (n floor : ℕ) (rs : List Run) (i : ℕ) → (floor ≤ i → IsFrom n (file_in rs i)) → IsFrom n (file_above floor rs i)
+above_from n floor rs i h = by_test (nat_lt i floor) refl
+  where
+    by_test : (b : Bool) → nat_lt i floor ≡ b → IsFrom n (cond b None (file_in rs i))
+    by_test true e = tt
+    by_test false e = h (ltb-false i floor e)
+
+keeps : (n : ℕ) (t : GroupTrace) (entries : Option ℕ) → ((n : ℕ) → IsFrom n entries → KeepsRuns n t.floor t.next t.runs.items) → IsFrom n (least_with (least (least t.since t.tail) entries) (values t.keys)) → KeepsFrom n (trace_of t)
+keeps n t entries k h =
+    let with_keys = from_with n (least (least t.since t.tail) entries) (values t.keys) h in
+    let with_entries = from_least n (least t.since t.tail) entries with_keys.0 in
+    let removed = from_least n t.since t.tail with_entries.0 in
     record {
       since = removed.0;
       tail = removed.1;
-      entries = λ i. above_from n t.floor t.runs.items i (runs_from n t.runs.items with_runs.1 i);
-      keys = λ k. found_from n _ t.keys.entries with_keys.1;
+      entries = λ i l m. above_from n t.floor t.runs.items i (λ g. k n with_entries.1 i g m);
+      keys = λ name. found_from n _ t.keys.entries with_keys.1;
     }
 
-pub kept_from : (t : GroupTrace) → IsKeptFrom (least_by t) (trace_of t)
-kept_from t = by_file (least_by t) refl
-  where
-    by_file : (o : Option ℕ) → least_by t ≡ o → IsKeptFrom o (trace_of t)
-    by_file None e = λ n. keeps n t (subst (λ (x : Option ℕ). IsFrom n x) (sym e) tt)
-    by_file (Some f) e = keeps f t (subst (λ (x : Option ℕ). IsFrom f x) (sym e) (le_refl f))
+pub kept_from : (t : GroupTrace) (entries o : Option ℕ) → ((n : ℕ) → IsFrom n entries → KeepsRuns n t.floor t.next t.runs.items) → o ≡ least_with (least (least t.since t.tail) entries) (values t.keys) → IsKeptFrom o (trace_of t)
+kept_from t entries None k e = λ n. keeps n t entries k (subst (λ (x : Option ℕ). IsFrom n x) e tt)
+kept_from t entries (Some f) k e = keeps f t entries k (subst (λ (x : Option ℕ). IsFrom f x) e (le_refl f))
+
+lower : (n f : ℕ) (o : Option ℕ) → n ≤ f → IsFrom f o → IsFrom n o
+lower n f None l h = tt
+lower n f (Some g) l h = omega (arith, l, h)
+
+-- what is kept from one file on is kept from each earlier one on
+pub kept_at : (n : ℕ) (o : Option ℕ) (t : Trace) → IsKeptFrom o t → IsFrom n o → KeepsFrom n t
+kept_at n None t h k = h n
+kept_at n (Some f) t h k = record {
+  since = lower n f t.since k h.since;
+  tail = lower n f t.tail k h.tail;
+  entries = λ i l m. lower n f (t.entry_file i) k (h.entries i l m);
+  keys = λ name. lower n f (t.key_file name) k (h.keys name);
+}
 
 -- ---- all groups
 
@@ -88,24 +203,11 @@ keeps_new : (n : ℕ) → KeepsFrom n new_trace
 keeps_new n = record {
   since = tt;
   tail = tt;
-  entries = λ i. tt;
+  entries = λ i l m. tt;
   keys = λ k. tt;
 }
 
-AllKeep : ℕ → List GroupTrace → Type 0
-AllKeep n [] = Unit {0}
-AllKeep n (t ∷ ts) = KeepsFrom n (trace_of t) × AllKeep n ts
-
-all_from : (n : ℕ) (file : Option ℕ) (ts : List GroupTrace) → IsFrom n (least_with_all file ts) → IsFrom n file × AllKeep n ts
-unfolding AllKeep
-all_from n file [] h = (h, tt)
-all_from n file (t ∷ ts) h =
-    let rest = all_from n (least file (least_by t)) ts h in
-    let both = from_least n file (least_by t) rest.0 in
-    (both.0, (keeps n t both.1, rest.1))
-
-each_keeps : (n : ℕ) (test : ℕ → Bool) (es : List (ℕ × GroupTrace)) → AllKeep n (values_of es) → KeepsFrom n (trace_by (lookup test es))
-unfolding AllKeep
+each_keeps : (n : ℕ) (test : ℕ → Bool) (es : List (ℕ × GroupTrace)) → AllKeepFrom n (values_of es) → KeepsFrom n (trace_by (lookup test es))
 each_keeps n test [] h = keeps_new n
 each_keeps n test (e ∷ es) h = by_test (test e.0) (each_keeps n test es h.1)
   where
@@ -113,9 +215,16 @@ each_keeps n test (e ∷ es) h = by_test (test e.0) (each_keeps n test es h.1)
     by_test true k = h.0
     by_test false k = k
 
-pub each_kept : (traces : BTreeMap ℕ GroupTrace) (o : Option ℕ) → o ≡ least_with_all None (values traces) → (group : ℕ) → IsKeptFrom o (traces_at traces group)
-each_kept traces None e group = λ n. each_keeps n (is_at (nat_cmp group)) traces.entries (all_from n None (values traces) (subst (λ (x : Option ℕ). IsFrom n x) e tt)).1
-each_kept traces (Some f) e group = each_keeps f (is_at (nat_cmp group)) traces.entries (all_from f None (values traces) (subst (λ (x : Option ℕ). IsFrom f x) e (le_refl f))).1
+pub each_kept : (traces : BTreeMap ℕ GroupTrace) (o : Option ℕ) → ((n : ℕ) → IsFrom n o → AllKeepFrom n (values traces)) → (group : ℕ) → IsKeptFrom o (traces_at traces group)
+each_kept traces None h group = λ n. each_keeps n (is_at (nat_cmp group)) traces.entries (h n tt)
+each_kept traces (Some f) h group = each_keeps f (is_at (nat_cmp group)) traces.entries (h f (le_refl f))
+
+-- one more trace was seen
+pub trace_seen : (n : ℕ) (t : GroupTrace) (o old new : Option ℕ) (left rest all : List GroupTrace) → left ≡ t ∷ rest → new ≡ least old o → IsKeptFrom o (trace_of t) → (IsFrom n old → AllKeepFrom n left → AllKeepFrom n all)
+    → IsFrom n new → AllKeepFrom n rest → AllKeepFrom n all
+trace_seen n t o old new left rest all e l k h f r =
+    let both = from_least n old o (subst (λ (x : Option ℕ). IsFrom n x) l f) in
+    h both.0 (subst (AllKeepFrom n) (sym e) (kept_at n o (trace_of t) k both.1, r))
 
 -- ---- from which index on all stand in late files
 

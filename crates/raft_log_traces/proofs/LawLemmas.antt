@@ -1,5 +1,5 @@
 -- Laws of traces.
-use Rattle.std.proofs.Common.{◌≡◌, ◌≤◌, ◌<◌, ◌+◌, ℕ, Bool, true, false, cond, List, [], ◌∷◌, length, map, Option, refl, sym, ap, subst, ◌∙◌, arith}
+use Rattle.std.proofs.Common.{◌≡◌, ◌≤◌, ◌<◌, ◌+◌, ℕ, Bool, true, false, cond, List, [], ◌∷◌, length, map, Option, refl, sym, ap, subst, ◌∙◌, arith, ltb-true, ltb-false}
 use Rattle.std.specs.Prelude.{nat_eq, nat_lt, is_some}
 use Rattle.std.proofs.lemmas.List.{length-map}
 use Rattle.raft_log_records.specs.Item.{Change, Item, change_map, item_map}
@@ -60,12 +60,12 @@ alike_traces_keep traces others account records content bs k a = record {
 
 tells : {E : Type 0} (first : ℕ) (t : Trace) (g : GroupContent E) (c : Cell) → KeepsFrom first t → IsFrom first (file_of t g c)
 tells first t g presence k = k.since
-tells first t g (index i) k = by_place (nat_lt i t.low) (nat_lt i t.next)
+tells first t g (index i) k = by_place (nat_lt i t.low) refl (nat_lt i t.next) refl
   where
-    by_place : (b d : Bool) → IsFrom first (cond b t.since (cond d (t.entry_file i) t.tail))
-    by_place true d = k.since
-    by_place false true = k.entries i
-    by_place false false = k.tail
+    by_place : (b : Bool) → nat_lt i t.low ≡ b → (d : Bool) → nat_lt i t.next ≡ d → IsFrom first (cond b t.since (cond d (t.entry_file i) t.tail))
+    by_place true e d f = k.since
+    by_place false e true f = k.entries i (ltb-false i t.low e) (ltb-true i t.next f)
+    by_place false e false f = k.tail
 tells first t g (key name) k = by_test (is_some (g.value name))
   where
     by_test : (b : Bool) → IsFrom first (cond b (t.key_file name) t.since)

@@ -132,6 +132,7 @@ impl GroupTrace {
             self.next = self.top;
             self.tail = lesser(lesser(self.since, self.tail), Some(file));
             self.since = self.tail;
+            self.floor = self.top;
             self.runs.clear();
         }
     }

@@ -39,7 +39,7 @@ fn apply_item(
 #[derive(Drop)]
 pub struct GroupTraces {
     pub(crate) traces: TraceMap,
-    alloc: Global,
+    pub(crate) alloc: Global,
 }
 
 impl GroupTraces {

@@ -1,11 +1,13 @@
-use Rattle.std.proofs.Common.{ℕ, List, Option, sym, ◌∙◌, ap}
-use Rattle.raft_log_covers.specs.Trace.{least}
-use Rattle.raft_log_traces.specs.declared.group_trace.GroupTrace.{GroupTrace}
-use Rattle.raft_log_traces.specs.Files.{least_of, least_with_all}
+use Rattle.std.proofs.Common.{subst, sym}
+use Rattle.raft_log_traces.specs.Files.{AllKeepFrom}
+use Rattle.raft_log_traces.specs.Traces.{trace_in}
+use Rattle.raft_log_traces.proofs.FileLemmas.{trace_seen}
 use Rattle.raft_log_traces.proofs.files.least_of_traces.Goals as goal
 
 pub loop-trace-preserved : goal.loop-trace-preserved
-unfolding least_of
-loop-trace-preserved c =
-    ap (λ (o : Option ℕ). least_with_all o c.next.new.self) (c.lesser-least.ensures ∙ ap (λ (o : Option ℕ). least c.loop-trace.least o) c.least_file.ensures.least)
-    ∙ ap (λ (ts : List GroupTrace). least_with_all c.loop-trace.least ts) (sym c.in-Some.ensures.steps) ∙ c.loop-trace.invariant
+unfolding trace_in
+loop-trace-preserved c = λ n.
+    trace_seen n c.in-Some.trace.now c.least_file.result c.loop-trace.least c.lesser-least.result c.loop-trace.trace-iterator c.next.new.self _ c.in-Some.ensures.steps c.lesser-least.ensures c.least_file.ensures (c.loop-trace.invariant n)
+
+pub returns : goal.returns
+returns c = λ n f. c.loop-trace.invariant n f (subst (AllKeepFrom n) (sym c.in-None.ensures.steps.0) tt)

@@ -2,6 +2,6 @@ use Rattle.raft_log_traces.specs.GroupTraces.{traces_in}
 use Rattle.raft_log_traces.proofs.FileLemmas.{each_kept}
 use Rattle.raft_log_traces.proofs.group_traces.GroupTraces.min_file_seq.Goals as goal
 
-pub returns-clause-kept : goal.returns-clause-kept
+pub returns : goal.returns
 unfolding traces_in
-returns-clause-kept c = each_kept c.args.self.now.traces c.least_of_traces.result c.least_of_traces.ensures
+returns c = each_kept c.args.self.now.traces c.least_of_traces.result c.least_of_traces.ensures
