@@ -1,15 +1,14 @@
 -- What stands behind an entry of an append file.
-use Rattle.std.proofs.Common.{◌≡◌, ◌≤◌, ◌<◌, ℕ, suc, Bool, true, false, cond, List, Option, Some, None, refl, sym, ap, subst, ◌∙◌, arith, ltb-true, ltb-false, leb-false}
+use Rattle.std.proofs.Common.{◌≡◌, ◌≤◌, ℕ, suc, Bool, true, false, cond, List, Option, Some, None, refl, sym, ap, ◌∙◌, arith, ltb-true, ltb-false, leb-false}
 use Rattle.std.specs.Prelude.{◌&&◌, ◌||◌, IsSome, nat_le, nat_lt}
-use Rattle.std.proofs.lemmas.Bool.{le-leb, leb-true, lt-ltb, le-ltb}
-use Rattle.raft_log_records.specs.Item.{Change}
+use Rattle.std.proofs.lemmas.Bool.{leb-true}
 use Rattle.raft_log_records.specs.Item.Change.{entries, clean, compact, put, delete, mark}
 use Rattle.raft_log_records.specs.Spelling.{first_index}
-use Rattle.raft_log_memtables.specs.Content.{GroupContent, entry_at, after_change}
+use Rattle.raft_log_memtables.specs.Content.{GroupContent, entry_at}
 use Rattle.raft_log_covers.specs.Cells.Cell.{index}
 use Rattle.raft_log_covers.specs.Marks.{Names, names_after_marks, names_after_entries}
-use Rattle.raft_log_covers.specs.Trace.{Trace, names_after, settled_by}
-use Rattle.raft_log_marks.specs.MarkLaws.{NamesBehind, ChangesNameBehind, RewritesNameBehind, NameBehindRewritten}
+use Rattle.raft_log_covers.specs.Trace.{Trace, settled_by}
+use Rattle.raft_log_marks.specs.MarkLaws.{NamesBehind, ChangesNameBehind, RewritesNameBehind}
 
 no_entry : {P : Type 0} → false ≡ true → P
 no_entry h = absurd cc

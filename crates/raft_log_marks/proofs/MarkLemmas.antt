@@ -1,15 +1,13 @@
 -- The marks of a group in a batch, and in the rewrite queue.
-use Rattle.std.proofs.Common.{◌≡◌, ℕ, Bool, true, false, List, [], ◌∷◌, ◌++◌, map, refl, sym, ap, ◌∙◌, append_assoc}
+use Rattle.std.proofs.Common.{◌≡◌, ℕ, Bool, true, false, List, [], ◌∷◌, ◌++◌, refl, sym, ap, ◌∙◌, append_assoc}
 use Rattle.raft_log_records.specs.Item.{Change, Item}
 use Rattle.raft_log_records.specs.Item.Change.{clean, delete}
-use Rattle.raft_log_memtables.specs.Content.{GroupContent, Content}
 use Rattle.raft_log_covers.specs.Marks.{of_group, deletes, marks}
 use Rattle.raft_log_covers.specs.Trace.{Trace}
-use Rattle.raft_log_covers.specs.Kept.{with_trace}
 use Rattle.raft_log_covers.proofs.KeptLemmas.{marks_keep, cleans_keep}
 use Rattle.raft_log_traces.proofs.LawLemmas.{alike_traces_keep}
-use Rattle.raft_log_marks.specs.GroupMarks.{marks_of, trace_after_marks}
-use Rattle.raft_log_marks.specs.MarkLaws.{IsThere, MarksOfAGroupKeep}
+use Rattle.raft_log_marks.specs.GroupMarks.{marks_of}
+use Rattle.raft_log_marks.specs.MarkLaws.{MarksOfAGroupKeep}
 
 -- changes of a group in two parts
 pub two_parts : {E : Type 0} (group : ℕ) (first second : List (Change E)) → of_group group (first ++ second) ≡ of_group group first ++ of_group group second

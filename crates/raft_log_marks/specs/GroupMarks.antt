@@ -1,5 +1,5 @@
 -- The marks of a group, by its trace.
-use Rattle.std.specs.Prelude.{ℕ, Bool, true, false, List, [], ◌∷◌}
+use Rattle.std.specs.Prelude.{Bool, true, false, List, [], ◌∷◌}
 use Rattle.raft_log_records.specs.Item.{Change}
 use Rattle.raft_log_records.specs.Item.Change.{clean}
 use Rattle.raft_log_covers.specs.Marks.{marks}
