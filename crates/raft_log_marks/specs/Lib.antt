@@ -1,2 +1,3 @@
 pub mod GroupMarks
 pub mod MarkLaws
+pub mod Cleaning

@@ -3,6 +3,9 @@
 ghost use Rattle.std.specs.Prelude.{ℕ, List};
 ghost use Rattle.raft_log_marks.specs.MarkLaws.{MarksOfAGroupKeep, ChangesNameBehind};
 ghost use Rattle.raft_log_marks.specs.MarkLaws.{RewritesNameBehind};
+ghost use Rattle.raft_log_marks.specs.Cleaning.{NewQueuesAreCleanable, WritesKeepCleanable};
+ghost use Rattle.raft_log_marks.specs.Cleaning.{MarksKeepCleanable, EntriesKeepCleanable};
+ghost use Rattle.raft_log_marks.specs.Cleaning.{KeysKeepCleanable, FilesBeforeTheLeastMayGo};
 
 /// Once the marks of a group stand in the rewrite queue and its trace says so, the invariant of the
 /// two queues holds as before.
@@ -15,4 +18,20 @@ pub fn marks_keep_queues()
 pub fn entries_have_files_behind_them()
     ensures changes { ChangesNameBehind (List ℕ) }
     ensures rewrites { RewritesNameBehind (List ℕ) }
+{}
+
+/// New queues can be cleaned, and stay so: over writes, and over each step of a cleaning that was
+/// written to the rewrite queue and noted in the traces.
+pub fn queues_stay_cleanable()
+    ensures new { NewQueuesAreCleanable (List ℕ) }
+    ensures writes { WritesKeepCleanable (List ℕ) }
+    ensures marks { MarksKeepCleanable (List ℕ) }
+    ensures entries { EntriesKeepCleanable (List ℕ) }
+    ensures keys { KeysKeepCleanable (List ℕ) }
+{}
+
+/// Of queues that can be cleaned the append files before the least one that a group keeps may go, in
+/// any order.
+pub fn files_before_the_least_may_go()
+    ensures { FilesBeforeTheLeastMayGo (List ℕ) }
 {}

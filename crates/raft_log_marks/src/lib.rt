@@ -4,5 +4,8 @@
 mod laws;
 mod marks;
 
-pub use laws::{entries_have_files_behind_them, marks_keep_queues};
+pub use laws::{
+    entries_have_files_behind_them, files_before_the_least_may_go, marks_keep_queues,
+    queues_stay_cleanable,
+};
 pub use marks::{MarkError, add_marks};
