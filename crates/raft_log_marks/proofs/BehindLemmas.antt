@@ -1,5 +1,5 @@
 -- What stands behind an entry of an append file.
-use Rattle.std.proofs.Common.{◌≡◌, ◌≤◌, ℕ, suc, Bool, true, false, cond, List, Option, Some, None, refl, sym, ap, ◌∙◌, arith, ltb-true, ltb-false, leb-false}
+use Rattle.std.proofs.Common.{◌≡◌, ◌≤◌, ℕ, suc, Bool, true, false, cond, List, Some, None, refl, sym, ap, ◌∙◌, arith, ltb-true, ltb-false, leb-false}
 use Rattle.std.specs.Prelude.{◌&&◌, ◌||◌, IsSome, nat_le, nat_lt}
 use Rattle.std.proofs.lemmas.Bool.{leb-true}
 use Rattle.raft_log_records.specs.Item.Change.{entries, clean, compact, put, delete, mark}
@@ -7,6 +7,7 @@ use Rattle.raft_log_records.specs.Spelling.{first_index}
 use Rattle.raft_log_memtables.specs.Content.{GroupContent, entry_at}
 use Rattle.raft_log_covers.specs.Cells.Cell.{index}
 use Rattle.raft_log_covers.specs.Marks.{Names, names_after_marks, names_after_entries}
+use Rattle.raft_log_covers.proofs.FileLemmas.{not_there}
 use Rattle.raft_log_covers.specs.Trace.{Trace, settled_by}
 use Rattle.raft_log_marks.specs.MarkLaws.{NamesBehind, ChangesNameBehind, RewritesNameBehind}
 
@@ -35,13 +36,9 @@ changes_name_behind file (put name value) g names h i j l s n = h i j l s n
 changes_name_behind file (delete name) g names h i j l s n = h i j l s n
 changes_name_behind file (mark id status) g names h i j l s n = h i j l s n
 
-some_entry : {E P : Type 0} (o : Option E) → o ≡ None → IsSome o → P
-some_entry None e s = absurd cc
-some_entry (Some x) e s = absurd cc
-
 after_marks : {E : Type 0} (g : GroupContent E) (names : Names) (limit : ℕ) (is_empty : Bool) → (is_empty ≡ true → (i : ℕ) → g.entry i ≡ None) → ((i : ℕ) → IsSome (g.entry i) → limit ≤ i)
     → NamesBehind g names → NamesBehind g (names_after_marks g names limit is_empty)
-after_marks g names limit true none low h i j l s n = some_entry (g.entry i) (none refl i) s
+after_marks g names limit true none low h i j l s n = not_there (g.entry i) (none refl i) s
 after_marks g names limit false none low h i j l s n = by_place (nat_lt i limit) (nat_lt j limit) refl n
   where
     by_place : (a b : Bool) → nat_lt j limit ≡ b → IsSome (cond a None (names (index i))) → IsSome (cond b None (names (index j)))

@@ -11,6 +11,7 @@ use Rattle.raft_log_covers.specs.Cells.Cell.{index}
 use Rattle.raft_log_covers.specs.Account.{Account, account_after}
 use Rattle.raft_log_covers.specs.Marks.{Names, MayRewrite, with_group, names_after_marks, names_after_entries, names_after_put}
 use Rattle.raft_log_covers.specs.Trace.{Trace, Knows, TellsFiles, settled_by}
+use Rattle.raft_log_covers.proofs.FileLemmas.{not_there}
 use Rattle.raft_log_covers.proofs.KeptLemmas.{writes_keep, marks_keep, cleans_keep, entries_keep, keys_keep, new_queues_are_kept, kept_queues_read_as_the_content}
 use Rattle.raft_log_traces.proofs.LawLemmas.{alike_traces_keep, kept_files_tell}
 use Rattle.raft_log_marks.specs.MarkLaws.{NamesBehind}
@@ -35,7 +36,7 @@ item_behind file item content account group h = by_test (nat_eq item.group group
     by_test true = changes_name_behind file item.change (content group) (account group) h
     by_test false = h
 
-items_behind : {E : Type 0} (file : ℕ) (items : List (Item E)) (content : Content E) (account : Account) → ((group : ℕ) → NamesBehind (content group) (account group))
+pub items_behind : {E : Type 0} (file : ℕ) (items : List (Item E)) (content : Content E) (account : Account) → ((group : ℕ) → NamesBehind (content group) (account group))
     → (group : ℕ) → NamesBehind (after_batch items content group) (account_after file items account group)
 items_behind file [] content account h group = h group
 items_behind file (item ∷ items) content account h group =
@@ -53,25 +54,29 @@ group_behind content account group names h k other = by_test (nat_eq group other
     by_test true e = subst (λ (n : ℕ). NamesBehind (content n) names) (eqb-true group other e) k
     by_test false e = h other
 
-none_from_low : {E : Type 0} (t : Trace) (older g : GroupContent E) (names : Names) → Knows t older g names → nat_le t.next t.low ≡ true → (i : ℕ) → g.entry i ≡ None
-none_from_low t older g names k e i = by_test (nat_lt i t.low) refl
+-- no entry from the end of the list on
+none_above : {E : Type 0} (t : Trace) (older g : GroupContent E) (names : Names) → Knows t older g names → (i : ℕ) → t.next ≤ i → g.entry i ≡ None
+none_above t older g names k i h = by_low (nat_lt i t.low) refl
   where
-    by_test : (b : Bool) → nat_lt i t.low ≡ b → g.entry i ≡ None
-    by_test true l = k.below i (ltb-true i t.low l)
-    by_test false l =
-        let high = ltb-false i t.low l in
-        let ends = leb-true t.next t.low e in
-        k.above i high (omega (arith, high, ends))
+    by_low : (b : Bool) → nat_lt i t.low ≡ b → g.entry i ≡ None
+    by_low true l = k.below i (ltb-true i t.low l)
+    by_low false l = k.above i (ltb-false i t.low l) h
 
-is_none : {E P : Type 0} (o : Option E) → o ≡ None → IsSome o → P
-is_none None e s = absurd cc
-is_none (Some x) e s = absurd cc
+none_from_low : {E : Type 0} (t : Trace) (older g : GroupContent E) (names : Names) → Knows t older g names → nat_le t.next t.low ≡ true → (i : ℕ) → g.entry i ≡ None
+none_from_low t older g names k e i = by_end (nat_lt i t.next) refl
+  where
+    by_end : (b : Bool) → nat_lt i t.next ≡ b → g.entry i ≡ None
+    by_end true l =
+        let low = ltb-true i t.next l in
+        let ends = leb-true t.next t.low e in
+        k.below i (omega (arith, low, ends))
+    by_end false l = none_above t older g names k i (ltb-false i t.next l)
 
 some_from_low : {E : Type 0} (t : Trace) (older g : GroupContent E) (names : Names) → Knows t older g names → (i : ℕ) → IsSome (g.entry i) → t.low ≤ i
 some_from_low t older g names k i s = by_test (nat_lt i t.low) refl
   where
     by_test : (b : Bool) → nat_lt i t.low ≡ b → t.low ≤ i
-    by_test true l = is_none (g.entry i) (k.below i (ltb-true i t.low l)) s
+    by_test true l = not_there (g.entry i) (k.below i (ltb-true i t.low l)) s
     by_test false l = ltb-false i t.low l
 
 -- ---- laws
@@ -116,20 +121,13 @@ front_may t older g names es stop k f b a = record {
   named = λ i low apart. named_at i (nat_le t.next stop) refl apart;
 }
   where
-    none_above : (i : ℕ) → t.next ≤ i → g.entry i ≡ None
-    none_above i h = by_low (nat_lt i t.low) refl
-      where
-        by_low : (c : Bool) → nat_lt i t.low ≡ c → g.entry i ≡ None
-        by_low true l = k.below i (ltb-true i t.low l)
-        by_low false l = k.above i (ltb-false i t.low l) h
-
     same_at : (i : ℕ) → first_index es ≤ i → (c : Bool) → nat_lt i stop ≡ c → (d : Bool) → nat_le t.next stop ≡ d → (d || c) ≡ true → entry_at es i ≡ g.entry i
     same_at i low true e d n settled = a.same i low (ltb-true i stop e)
     same_at i low false e true n settled =
         let high = ltb-false i stop e in
         let ends = leb-true t.next stop n in
         let until = a.until in
-        a.run.no_more i (omega (arith, high, until)) ∙ sym (none_above i (omega (arith, high, ends)))
+        a.run.no_more i (omega (arith, high, until)) ∙ sym (none_above t older g names k i (omega (arith, high, ends)))
     same_at i low false e false n settled = absurd cc
 
     named_at : (i : ℕ) → (d : Bool) → nat_le t.next stop ≡ d → (d || nat_lt i stop) ≡ false → IsSome (names (index i))

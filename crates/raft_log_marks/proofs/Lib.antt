@@ -1,3 +1,4 @@
 pub mod MarkLemmas
 pub mod BehindLemmas
 pub mod CleaningLemmas
+pub mod OpenedLemmas

@@ -1,3 +1,4 @@
 pub mod GroupMarks
 pub mod MarkLaws
 pub mod Cleaning
+pub mod Opened

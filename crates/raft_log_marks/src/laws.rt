@@ -6,6 +6,7 @@ ghost use Rattle.raft_log_marks.specs.MarkLaws.{RewritesNameBehind};
 ghost use Rattle.raft_log_marks.specs.Cleaning.{NewQueuesAreCleanable, WritesKeepCleanable};
 ghost use Rattle.raft_log_marks.specs.Cleaning.{MarksKeepCleanable, EntriesKeepCleanable};
 ghost use Rattle.raft_log_marks.specs.Cleaning.{KeysKeepCleanable, FilesBeforeTheLeastMayGo};
+ghost use Rattle.raft_log_marks.specs.Opened.{ReplaysAreCleanable, SettledGroupsKeepNoFile};
 
 /// Once the marks of a group stand in the rewrite queue and its trace says so, the invariant of the
 /// two queues holds as before.
@@ -34,4 +35,11 @@ pub fn queues_stay_cleanable()
 /// any order.
 pub fn files_before_the_least_may_go()
     ensures { FilesBeforeTheLeastMayGo (List ℕ) }
+{}
+
+/// Queues that are opened can be cleaned, whatever append files were left over. Groups of which all
+/// stands in the rewrite queue keep no file.
+pub fn opened_queues_are_cleanable()
+    ensures replayed { ReplaysAreCleanable (List ℕ) }
+    ensures settled { SettledGroupsKeepNoFile (List ℕ) }
 {}
