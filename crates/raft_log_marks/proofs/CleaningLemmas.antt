@@ -12,6 +12,7 @@ use Rattle.raft_log_covers.specs.Account.{Account, account_after}
 use Rattle.raft_log_covers.specs.Marks.{Names, MayRewrite, with_group, names_after_marks, names_after_entries, names_after_put}
 use Rattle.raft_log_covers.specs.Trace.{Trace, Knows, TellsFiles, settled_by}
 use Rattle.raft_log_covers.proofs.FileLemmas.{not_there}
+use Rattle.raft_log_covers.proofs.KnownLemmas.{none_outside, no_entries}
 use Rattle.raft_log_covers.proofs.KeptLemmas.{writes_keep, marks_keep, cleans_keep, entries_keep, keys_keep, new_queues_are_kept, kept_queues_read_as_the_content}
 use Rattle.raft_log_traces.proofs.LawLemmas.{alike_traces_keep, kept_files_tell}
 use Rattle.raft_log_marks.specs.MarkLaws.{NamesBehind}
@@ -54,24 +55,6 @@ group_behind content account group names h k other = by_test (nat_eq group other
     by_test true e = subst (λ (n : ℕ). NamesBehind (content n) names) (eqb-true group other e) k
     by_test false e = h other
 
--- no entry from the end of the list on
-none_above : {E : Type 0} (t : Trace) (older g : GroupContent E) (names : Names) → Knows t older g names → (i : ℕ) → t.next ≤ i → g.entry i ≡ None
-none_above t older g names k i h = by_low (nat_lt i t.low) refl
-  where
-    by_low : (b : Bool) → nat_lt i t.low ≡ b → g.entry i ≡ None
-    by_low true l = k.below i (ltb-true i t.low l)
-    by_low false l = k.above i (ltb-false i t.low l) h
-
-none_from_low : {E : Type 0} (t : Trace) (older g : GroupContent E) (names : Names) → Knows t older g names → nat_le t.next t.low ≡ true → (i : ℕ) → g.entry i ≡ None
-none_from_low t older g names k e i = by_end (nat_lt i t.next) refl
-  where
-    by_end : (b : Bool) → nat_lt i t.next ≡ b → g.entry i ≡ None
-    by_end true l =
-        let low = ltb-true i t.next l in
-        let ends = leb-true t.next t.low e in
-        k.below i (omega (arith, low, ends))
-    by_end false l = none_above t older g names k i (ltb-false i t.next l)
-
 some_from_low : {E : Type 0} (t : Trace) (older g : GroupContent E) (names : Names) → Knows t older g names → (i : ℕ) → IsSome (g.entry i) → t.low ≤ i
 some_from_low t older g names k i s = by_test (nat_lt i t.low) refl
   where
@@ -99,7 +82,7 @@ marks_keep_cleanable traces others account records content bs group true k there
       record {
         kept = alike_traces_keep _ others _ _ content bs (marks_keep traces account records content bs group k.kept there) a;
         behind = group_behind content account group names k.behind
-            ((rewrites_name_behind t (content group) (account group) (k.behind group)).marked t.low (nat_le t.next t.low) (none_from_low t _ (content group) (account group) known) (some_from_low t _ (content group) (account group) known));
+            ((rewrites_name_behind t (content group) (account group) (k.behind group)).marked t.low (nat_le t.next t.low) (λ e. no_entries t _ (content group) (account group) known (leb-true t.next t.low e)) (some_from_low t _ (content group) (account group) known));
       },
     )
 marks_keep_cleanable traces others account records content bs group false k gone a = (
@@ -127,7 +110,7 @@ front_may t older g names es stop k f b a = record {
         let high = ltb-false i stop e in
         let ends = leb-true t.next stop n in
         let until = a.until in
-        a.run.no_more i (omega (arith, high, until)) ∙ sym (none_above t older g names k i (omega (arith, high, ends)))
+        a.run.no_more i (omega (arith, high, until)) ∙ sym (none_outside t older g names k i (λ l. omega (arith, high, ends)))
     same_at i low false e false n settled = absurd cc
 
     named_at : (i : ℕ) → (d : Bool) → nat_le t.next stop ≡ d → (d || nat_lt i stop) ≡ false → IsSome (names (index i))

@@ -37,8 +37,10 @@ ChangesNameBehind E = (file : ℕ) (change : Change E) (g : GroupContent E) (nam
 
 -- So do marks, keys, and entries that are rewritten from the lowest one on that an account names.
 pub record NameBehindRewritten {E : Type 0} (t : Trace) (g : GroupContent E) (names : Names) : Type 0 where
-  pub marked : (limit : ℕ) (is_empty : Bool) → (is_empty ≡ true → (i : ℕ) → g.entry i ≡ None) → ((i : ℕ) → IsSome (g.entry i) → limit ≤ i) → NamesBehind g (names_after_marks g names limit is_empty)
-  pub entries_too : (es : List (ℕ × E)) (stop : ℕ) → ((i : ℕ) → IsSome (g.entry i) → IsSome (names (index i)) → first_index es ≤ i) → NamesBehind g (names_after_entries names es (settled_by stop t))
+  pub marked : (limit : ℕ) (is_empty : Bool) → (is_empty ≡ true → (i : ℕ) → g.entry i ≡ None) → ((i : ℕ) → IsSome (g.entry i) → limit ≤ i)
+      → NamesBehind g (names_after_marks g names limit is_empty)
+  pub entries_too : (es : List (ℕ × E)) (stop : ℕ) → ((i : ℕ) → IsSome (g.entry i) → IsSome (names (index i)) → first_index es ≤ i)
+      → NamesBehind g (names_after_entries names es (settled_by stop t))
   pub keys_too : (name : List ℕ) → NamesBehind g (names_after_put names name)
 
 abbrev pub RewritesNameBehind : Type 0 → Type 0

@@ -22,4 +22,5 @@ KeptFilesTell E = (traces : Traces) (content : Content E) (first : ℕ) → ((gr
 
 -- What traces say doesn't rest on what the entries are: bytes, or places.
 abbrev pub EntriesSayNothing : Type 0 → Type 0 → Type 0
-EntriesSayNothing E F = (f : E → F) (file : ℕ) (items : List (Item E)) (traces : Traces) (group : ℕ) → traces_after file (map (item_map f) items) traces group ≡ traces_after file items traces group
+EntriesSayNothing E F = (f : E → F) (file : ℕ) (items : List (Item E)) (traces : Traces) (group : ℕ)
+    → traces_after file (map (item_map f) items) traces group ≡ traces_after file items traces group
