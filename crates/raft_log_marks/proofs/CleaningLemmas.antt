@@ -55,7 +55,7 @@ group_behind content account group names h k other = by_test (nat_eq group other
     by_test true e = subst (λ (n : ℕ). NamesBehind (content n) names) (eqb-true group other e) k
     by_test false e = h other
 
-some_from_low : {E : Type 0} (t : Trace) (older g : GroupContent E) (names : Names) → Knows t older g names → (i : ℕ) → IsSome (g.entry i) → t.low ≤ i
+pub some_from_low : {E : Type 0} (t : Trace) (older g : GroupContent E) (names : Names) → Knows t older g names → (i : ℕ) → IsSome (g.entry i) → t.low ≤ i
 some_from_low t older g names k i s = by_test (nat_lt i t.low) refl
   where
     by_test : (b : Bool) → nat_lt i t.low ≡ b → t.low ≤ i

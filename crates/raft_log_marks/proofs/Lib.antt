@@ -2,3 +2,4 @@ pub mod MarkLemmas
 pub mod BehindLemmas
 pub mod CleaningLemmas
 pub mod OpenedLemmas
+pub mod WholeLemmas

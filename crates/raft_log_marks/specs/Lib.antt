@@ -2,3 +2,4 @@ pub mod GroupMarks
 pub mod MarkLaws
 pub mod Cleaning
 pub mod Opened
+pub mod Whole

@@ -6,6 +6,7 @@ ghost use Rattle.raft_log_marks.specs.MarkLaws.{RewritesNameBehind};
 ghost use Rattle.raft_log_marks.specs.Cleaning.{NewQueuesAreCleanable, WritesKeepCleanable};
 ghost use Rattle.raft_log_marks.specs.Cleaning.{MarksKeepCleanable, EntriesKeepCleanable};
 ghost use Rattle.raft_log_marks.specs.Cleaning.{KeysKeepCleanable, FilesBeforeTheLeastMayGo};
+ghost use Rattle.raft_log_marks.specs.Whole.{TakenChangesGoOn, ChangesLeaveWhole};
 ghost use Rattle.raft_log_marks.specs.Opened.{ReplaysAreCleanable, SettledGroupsKeepNoFile};
 
 /// Once the marks of a group stand in the rewrite queue and its trace says so, the invariant of the
@@ -42,4 +43,10 @@ pub fn files_before_the_least_may_go()
 pub fn opened_queues_are_cleanable()
     ensures replayed { ReplaysAreCleanable (List ℕ) }
     ensures settled { SettledGroupsKeepNoFile (List ℕ) }
+{}
+
+/// What memtables take of a list without a hole goes on where its trace has led, and leaves none.
+pub fn taken_changes_leave_lists_whole()
+    ensures taken { TakenChangesGoOn (List ℕ) }
+    ensures whole { ChangesLeaveWhole (List ℕ) }
 {}

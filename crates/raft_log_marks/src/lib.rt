@@ -6,6 +6,6 @@ mod marks;
 
 pub use laws::{
     entries_have_files_behind_them, files_before_the_least_may_go, marks_keep_queues,
-    opened_queues_are_cleanable, queues_stay_cleanable,
+    opened_queues_are_cleanable, queues_stay_cleanable, taken_changes_leave_lists_whole,
 };
 pub use marks::{MarkError, add_marks};
