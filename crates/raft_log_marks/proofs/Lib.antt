@@ -1,0 +1,5 @@
+pub mod MarkLemmas
+pub mod BehindLemmas
+pub mod CleaningLemmas
+pub mod OpenedLemmas
+pub mod WholeLemmas

@@ -1,0 +1,8 @@
+use Rattle.raft_log_marks.proofs.OpenedLemmas.{replays_are_cleanable, settled_groups_keep_no_file}
+use Rattle.raft_log_marks.proofs.laws.opened_queues_are_cleanable.Goals as goal
+
+pub returns-clause-replayed : goal.returns-clause-replayed
+returns-clause-replayed c = replays_are_cleanable
+
+pub returns-clause-settled : goal.returns-clause-settled
+returns-clause-settled c = settled_groups_keep_no_file

@@ -1,0 +1,5 @@
+pub mod GroupMarks
+pub mod MarkLaws
+pub mod Cleaning
+pub mod Opened
+pub mod Whole

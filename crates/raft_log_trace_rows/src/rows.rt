@@ -1,0 +1,37 @@
+//! Which calls the words of a row name.
+
+use crate::cleaning::{asked, cleaned};
+use crate::writing::written;
+use raft_log_traces::GroupTraces;
+use raft_rows::{Answer, Rows};
+use std::alloc::Global;
+
+/// The traces that the calls are made on.
+#[derive(Drop)]
+pub struct Calls {
+    traces: GroupTraces,
+}
+
+impl Calls {
+    pub fn new(alloc: Global) -> Calls {
+        Calls {
+            traces: GroupTraces::new(alloc),
+        }
+    }
+}
+
+impl Rows for Calls {
+    fn answer(&mut self, alloc: Global, words: &[&str]) -> Option<Answer> {
+        if let ["new"] = *words {
+            *self = Calls::new(alloc);
+            return Some(Answer::Word("Ok(())"));
+        }
+        if let Some(answer) = written(&mut self.traces, alloc, words) {
+            return Some(answer);
+        }
+        if let Some(answer) = cleaned(&mut self.traces, alloc, words) {
+            return Some(answer);
+        }
+        asked(&self.traces, alloc, words)
+    }
+}

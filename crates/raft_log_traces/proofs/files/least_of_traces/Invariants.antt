@@ -1,0 +1,8 @@
+use Rattle.std.proofs.Common.{ℕ}
+use Rattle.std.specs.BTreeMap.{values}
+use Rattle.raft_log_covers.specs.Account.{IsFrom}
+use Rattle.raft_log_traces.specs.Files.{AllKeepFrom}
+use Rattle.raft_log_traces.proofs.files.least_of_traces.Given as goal
+
+abbrev pub invariant-loop-trace : goal.invariant-loop-trace
+invariant-loop-trace l = (n : ℕ) → IsFrom n l.least → AllKeepFrom n l.trace-iterator → AllKeepFrom n (values l.traces)

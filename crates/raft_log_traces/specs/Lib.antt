@@ -1,0 +1,7 @@
+pub mod Runs
+pub mod Alike
+pub mod Traces
+pub mod GroupTraces
+pub mod Files
+pub mod Before
+pub mod TraceLaws
