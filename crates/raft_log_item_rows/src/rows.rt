@@ -18,11 +18,7 @@ fn files_of(alloc: Global, words: &[&str]) -> Result<MemoryFileSystem, Error> {
     Ok(files)
 }
 
-fn file(
-    alloc: Global,
-    path: &str,
-    words: &[&str],
-) -> Result<Vec<Result<LogItem, Error>>, Error> {
+fn file(alloc: Global, path: &str, words: &[&str]) -> Result<Vec<Result<LogItem, Error>>, Error> {
     let mut files = files_of(alloc, words)?;
     of_file(&mut files, alloc, path)
 }
@@ -37,11 +33,7 @@ fn directory(
 }
 
 /// The main directory's items, where reads of one of its files are refused.
-fn unread(
-    alloc: Global,
-    name: &str,
-    words: &[&str],
-) -> Result<Vec<Result<LogItem, Error>>, Error> {
+fn unread(alloc: Global, name: &str, words: &[&str]) -> Result<Vec<Result<LogItem, Error>>, Error> {
     let mut files = files_of(alloc, words)?;
     let mut paths = Vec::new(alloc);
     paths.push(path_of(alloc, name)?)?;
