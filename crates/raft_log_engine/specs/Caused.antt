@@ -75,7 +75,8 @@ IsCopyFault d p meter e fault =
 -- why an entry of a group isn't read
 abbrev pub IsGetFault : {F : Type 0} → (F → Disk) → (F → Meter) → Parts F → GroupContent EntryIndex → EngineFault → Type 0
 IsGetFault disk meter e group fault =
-    IsStopped e.is_stopped fault ⊎ ((fault ≡ Log Memory) ⊎ ((index : ℕ) × (place : EntryIndex) × (group.entry index ≡ Some place) × IsCopyFault (disk e.files) e.pipes (meter e.files) place fault))
+    IsStopped e.is_stopped fault
+    ⊎ ((fault ≡ Log Memory) ⊎ ((index : ℕ) × (place : EntryIndex) × (group.entry index ≡ Some place) × IsCopyFault (disk e.files) e.pipes (meter e.files) place fault))
 
 -- why entries from an index on aren't fetched: they begin before the first one, one of them is lacking, or one isn't read
 abbrev pub IsFetchFault : {F : Type 0} → (F → Disk) → (F → Meter) → Parts F → GroupContent EntryIndex → ℕ → ℕ → EngineFault → Type 0

@@ -156,7 +156,7 @@ impl MemoryLog {
                 files: LogFiles { settings, files },
             });
         };
-        match Engine::open(files, alloc, config) {
+        match Engine::open_alone(files, alloc, config) {
             Ok(engine) => Ok(MemoryLog {
                 engine,
                 settings,

@@ -106,7 +106,11 @@ impl<F: FileSystem + Drop> Engine<F> {
     /// batches, with those of the append queue behind them. A fault in a file is cut away or refused,
     /// as `recovery_mode` says. Unsound settings are refused as by `Config::sanitize`, with no call on
     /// the files. A refusal hands the files back, which read as before.
-    pub fn open(mut files: F, alloc: Global, config: Config) -> Result<Engine<F>, NotOpened<F>>
+    pub fn open_alone(
+        mut files: F,
+        alloc: Global,
+        config: Config,
+    ) -> Result<Engine<F>, NotOpened<F>>
         ensures sound { IfOk result IsSound }
         ensures answers { IfOk result (λ e. IsFoundContent config.recovery_mode (directories_of (settings_of config)) (F.disk files) (answers_on F.disk e)) }
         ensures fresh { (F.disk files).names ≡ [] → IfOk result (λ e. answers_on F.disk e ≡ nothing) }

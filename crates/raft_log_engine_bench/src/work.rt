@@ -11,7 +11,7 @@ type MemoryEngine = Engine<MemoryFileSystem>;
 fn opened(alloc: Global, files: MemoryFileSystem) -> Result<MemoryEngine, EngineFault> {
     let mut config = Config::default(alloc);
     config.dir = String::from_str(alloc, "main")?;
-    match Engine::open(files, alloc, config) {
+    match Engine::open_alone(files, alloc, config) {
         Ok(engine) => Ok(engine),
         Err(refused) => Err(refused.fault),
     }

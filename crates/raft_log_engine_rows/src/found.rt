@@ -3,7 +3,7 @@
 
 use crate::calls::{Told, steps_on, told_at};
 use crate::damage::{Shown, shown_by};
-use crate::reopening::{Both, before_stop, behind_stop, config_of, crashed, opened_as};
+use crate::reopening::{Both, before_stop, behind_stop, closed, config_of, crashed, opened_as};
 use crate::stops::{found_of, told_of};
 use raft_log_disk::CrashFiles;
 use raft_log_engine::{Engine, EngineFault};
@@ -73,7 +73,7 @@ pub fn spilled(
     };
     let mut config = config_of(alloc, 65536, "tail")?;
     config.spill_dir = Some(String::from_str(alloc, "spill")?);
-    match Engine::open(files, alloc, config) {
+    match Engine::open_alone(files, alloc, config) {
         Ok(mut engine) => Ok(steps_on(&mut engine, alloc, words)?),
         Err(refused) => Err(refused.fault),
     }
@@ -93,10 +93,10 @@ fn shown_without(
     paths.push(path)?;
     files.refuse_reads(paths);
     let config = config_of(alloc, target_size, "tail")?;
-    match Engine::open(files, alloc, config) {
+    match Engine::open_alone(files, alloc, config) {
         Ok(mut engine) => {
             let shown = shown_by(found_of(&mut engine, alloc, count)?);
-            Ok((shown, engine.close()))
+            Ok((shown, closed(engine)))
         }
         Err(refused) => Ok((Shown::Refused(refused.fault), refused.files)),
     }
@@ -107,7 +107,7 @@ fn shown_without(
 pub fn unread(alloc: Global, target_size: u64, count: u64) -> Result<Vec<Shown>, EngineFault> {
     let mut engine = opened_as(MemoryFileSystem::new(alloc), alloc, target_size, "tail")?;
     let _ = told_of(&mut engine, alloc, count);
-    let mut files = engine.close();
+    let mut files = closed(engine);
     let mut names = match files.list(alloc, "main") {
         Ok(names) => names,
         Err(fault) => return Err(refused_by(fault)),
@@ -180,7 +180,7 @@ pub fn many_groups(
     }
     let before = all_lengths(&mut engine, alloc)?;
     let files = match how {
-        "closed" => engine.close(),
+        "closed" => closed(engine),
         _ => crashed(engine.abandon(), how)?,
     };
     let mut engine = opened_as(files, alloc, target_size, "tail")?;

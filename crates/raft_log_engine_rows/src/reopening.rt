@@ -27,7 +27,7 @@ pub(crate) fn opened_as(
     mode: &str,
 ) -> Result<Engine<MemoryFileSystem>, EngineFault> {
     let config = config_of(alloc, target_size, mode)?;
-    match Engine::open(files, alloc, config) {
+    match Engine::open_alone(files, alloc, config) {
         Ok(engine) => Ok(engine),
         Err(refused) => Err(refused.fault),
     }

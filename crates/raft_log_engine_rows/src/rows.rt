@@ -41,7 +41,7 @@ fn told(
     }
     let mut config = config_of(alloc, target_size, "tail")?;
     config.format_version = Version::V2;
-    match Engine::open(files, alloc, config) {
+    match Engine::open_alone(files, alloc, config) {
         Ok(mut engine) => Ok(steps_on(&mut engine, alloc, words)?),
         Err(refused) => Err(refused.fault),
     }

@@ -95,7 +95,7 @@ fn stopped_at(alloc: Global, plan: Plan, call: u64) -> Result<Stop, EngineFault>
     let mut files = MemoryFileSystem::new(alloc);
     files.fuse(Some(call));
     let config = config_of(alloc, plan.target_size, plan.mode)?;
-    let (files, told) = match Engine::open(files, alloc, config) {
+    let (files, told) = match Engine::open_alone(files, alloc, config) {
         Ok(mut engine) => {
             let told = told_of(&mut engine, alloc, plan.count);
             (engine.abandon(), told)

@@ -27,7 +27,9 @@ Follows (mark id status) = Unit {0}
 
 -- What memtables take of a whole list goes on where its trace has led.
 abbrev pub TakenChangesGoOn : Type 0 → Type 0
-TakenChangesGoOn E = (change : Change E) (t : Trace) (older g : GroupContent E) (names : Names) → Knows t older g names → IsWhole t g → Follows change → Takes change g → GoOn change t
+TakenChangesGoOn E =
+    (change : Change E) (t : Trace) (older g : GroupContent E) (names : Names)
+    → Knows t older g names → IsWhole t g → Follows change → Takes change g → GoOn change t
 
 -- Such a change leaves the list whole.
 abbrev pub ChangesLeaveWhole : Type 0 → Type 0

@@ -81,7 +81,8 @@ impl SinglePipe {
         ensures taken { NothingRefuses (F.is_bounded files.old) (F.meter files.old) → IsTakenBy (IsFull self.old × IsUnnumbered self.old)
             (IsFull self.old × IsUnmade self.old (F.disk files.old)) (IsFull self.old × IsBarred self.old (F.disk files.old)) result }
         ensures begins { OnOk result ((self.new.active ≡ self.old.active) ⊎ (IsFull self.old × (self.new.active.seq ≡ self.old.active.seq + 1))) }
-        ensures cause { IfErr result (λ e. IsCaused (Rises 1 (F.meter files.old) (F.meter files.new)) ⊥ (IsFull self.old × IsUnnumbered self.old) (IsFull self.old × LacksPlace self.old (F.disk files.old) 1) e) }
+        ensures cause { IfErr result (λ e. IsCaused (Rises 1 (F.meter files.old) (F.meter files.new)) ⊥
+            (IsFull self.old × IsUnnumbered self.old) (IsFull self.old × LacksPlace self.old (F.disk files.old) 1) e) }
     {
         if self.writer.offset() < self.target_file_size {
             return Ok(());

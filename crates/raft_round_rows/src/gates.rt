@@ -34,7 +34,7 @@ struct GateNode {
 fn opened(alloc: Global, files: GateFiles) -> Result<Option<Engine<GateFiles>>, AllocError> {
     let mut config = Config::default(alloc);
     config.dir = String::from_str(alloc, "main")?;
-    Ok(Engine::open(files, alloc, config).ok())
+    Ok(Engine::open_alone(files, alloc, config).ok())
 }
 
 // A batch for a group.

@@ -17,16 +17,16 @@ use Rattle.raft_log_engine.proofs.memory.MemoryLog.open.Goals as goal
 
 pub invariant_of-result : goal.invariant_of-result
 invariant_of-result c = record {
-  directories = c.in-Ok-open.ensures.directories ∙ c.in-Ok.ensures.directories;
-  sound = λ on. c.in-Ok-open.ensures.sound;
-  alone = λ on. c.in-Ok-open.ensures.alone (c.in-Ok.ensures.once (disk_in c.args.files.files).names);
+  directories = c.in-Ok-open_alone.ensures.directories ∙ c.in-Ok.ensures.directories;
+  sound = λ on. c.in-Ok-open_alone.ensures.sound;
+  alone = λ on. c.in-Ok-open_alone.ensures.alone (c.in-Ok.ensures.once (disk_in c.args.files.files).names);
 }
 
-pub returns-in-Ok-open-clause-leaves : goal.returns-in-Ok-open-clause-leaves
-returns-in-Ok-open-clause-leaves c =
-    let alone = c.in-Ok-open.ensures.alone (c.in-Ok.ensures.once (disk_in c.args.files.files).names) in
-    leaves_only disk_in c.args.files.settings c.in-Ok-open.engine false (answers_on disk_in c.in-Ok-open.engine) (c.in-Ok-open.ensures.directories ∙ c.in-Ok.ensures.directories) refl
-    (c.in-Ok-open.ensures.opens alone)
+pub returns-in-Ok-open_alone-clause-leaves : goal.returns-in-Ok-open_alone-clause-leaves
+returns-in-Ok-open_alone-clause-leaves c =
+    let alone = c.in-Ok-open_alone.ensures.alone (c.in-Ok.ensures.once (disk_in c.args.files.files).names) in
+    leaves_only disk_in c.args.files.settings c.in-Ok-open_alone.engine false (answers_on disk_in c.in-Ok-open_alone.engine) (c.in-Ok-open_alone.ensures.directories ∙ c.in-Ok.ensures.directories) refl
+    (c.in-Ok-open_alone.ensures.opens alone)
 
 pub returns-in-Err-clause-err : goal.returns-in-Err-clause-err
 returns-in-Err-clause-err c =
@@ -42,7 +42,7 @@ pub returns-in-Err-clause-corrupt : goal.returns-in-Err-clause-corrupt
 returns-in-Err-clause-corrupt c =
     along (λ m l. (f : CorruptionFault) → c.in-Err.field-0.fault ≡ fault.Log (Corruption f) → (queue : LogQueue) × CantBeOpened m l queue (disk_in c.args.files.files)) c.in-Ok.ensures.mode c.in-Ok.ensures.directories c.in-Err.ensures.corrupt
 
-pub returns-in-Ok-open-clause-opens_in_tail : goal.returns-in-Ok-open-clause-opens_in_tail
-returns-in-Ok-open-clause-opens_in_tail c =
-    let alone = c.in-Ok-open.ensures.alone (c.in-Ok.ensures.once (disk_in c.args.files.files).names) in
-    subst (λ (l : List Text). OpensInTail l (disk_in c.in-Ok-open.engine.files) c.in-Ok-open.engine.pipes) (c.in-Ok-open.ensures.directories ∙ c.in-Ok.ensures.directories) (c.in-Ok-open.ensures.opens_in_tail alone)
+pub returns-in-Ok-open_alone-clause-opens_in_tail : goal.returns-in-Ok-open_alone-clause-opens_in_tail
+returns-in-Ok-open_alone-clause-opens_in_tail c =
+    let alone = c.in-Ok-open_alone.ensures.alone (c.in-Ok.ensures.once (disk_in c.args.files.files).names) in
+    subst (λ (l : List Text). OpensInTail l (disk_in c.in-Ok-open_alone.engine.files) c.in-Ok-open_alone.engine.pipes) (c.in-Ok-open_alone.ensures.directories ∙ c.in-Ok.ensures.directories) (c.in-Ok-open_alone.ensures.opens_in_tail alone)
