@@ -2,9 +2,9 @@
 //!
 //! Each line of the input is a task such as `open 256 32 16 1000`: what is done, the bytes of an
 //! entry, the entries of a batch, the groups that batches go to in turn, and how many batches there
-//! are. `write` writes them, each with a sync; `open` closes the engine too, and opens it again;
-//! `fetch` reads the last batch of a group behind each write, and `get` each of its entries by a call
-//! of its own. The answer is the last index of the first group.
+//! are. `write` writes them, each with a sync, and `files` each to a file of its own; `open` closes
+//! the engine too, and opens it again; `fetch` reads the last batch of a group behind each write, and
+//! `get` each of its entries by a call of its own. The answer is the last index of the first group.
 #![tactic(auto)]
 
 mod task;

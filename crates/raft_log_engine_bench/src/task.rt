@@ -4,6 +4,7 @@
 #[derive(Clone, Copy, Debug, PartialEq, Eq)]
 pub enum Work {
     Write,
+    Files,
     Open,
     Fetch,
     Get,
@@ -23,6 +24,7 @@ pub struct Task {
 fn work_of(word: &str) -> Option<Work> {
     match word {
         "write" => Some(Work::Write),
+        "files" => Some(Work::Files),
         "open" => Some(Work::Open),
         "fetch" => Some(Work::Fetch),
         "get" => Some(Work::Get),

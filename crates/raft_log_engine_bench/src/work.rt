@@ -3,14 +3,17 @@
 use crate::task::{Task, Work};
 use raft_log_engine::{Engine, EngineFault};
 use raft_log_files::{Config, Error, MemoryFileSystem};
-use raft_log_records::LogBatch;
+use raft_log_records::{LogBatch, ReadableSize};
 use std::alloc::Global;
 
 type MemoryEngine = Engine<MemoryFileSystem>;
 
-fn opened(alloc: Global, files: MemoryFileSystem) -> Result<MemoryEngine, EngineFault> {
+fn opened(alloc: Global, files: MemoryFileSystem, work: Work) -> Result<MemoryEngine, EngineFault> {
     let mut config = Config::default(alloc);
     config.dir = String::from_str(alloc, "main")?;
+    if work == Work::Files {
+        config.target_file_size = ReadableSize(1);
+    }
     match Engine::open_alone(files, alloc, config) {
         Ok(engine) => Ok(engine),
         Err(refused) => Err(refused.fault),
@@ -73,7 +76,7 @@ fn turn(
 
 /// The last index of the first group, behind all turns.
 pub fn run(alloc: Global, task: Task) -> Result<Option<u64>, EngineFault> {
-    let mut engine = opened(alloc, MemoryFileSystem::new(alloc))?;
+    let mut engine = opened(alloc, MemoryFileSystem::new(alloc), task.work)?;
     let mut entries = Vec::new(alloc);
     for _ in 0..task.batch {
         entries.push(Vec::from_elem(alloc, 7u8, task.len)?)?;
@@ -87,7 +90,7 @@ pub fn run(alloc: Global, task: Task) -> Result<Option<u64>, EngineFault> {
             Ok(files) => files,
             Err(refused) => return Err(refused.fault),
         };
-        engine = opened(alloc, files)?;
+        engine = opened(alloc, files, task.work)?;
     }
     engine.last_index(0)
 }
