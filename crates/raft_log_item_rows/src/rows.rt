@@ -1,6 +1,7 @@
 //! Which calls the words of a row name.
 
 use crate::files::{make_all, path_of};
+use crate::holes::holes;
 use crate::reading::{of_directory, of_file};
 use raft_log_files::{CrashFiles, Error, FileSystem, MemoryFileSystem};
 use raft_log_records::LogItem;
@@ -18,11 +19,7 @@ fn files_of(alloc: Global, words: &[&str]) -> Result<MemoryFileSystem, Error> {
     Ok(files)
 }
 
-fn file(
-    alloc: Global,
-    path: &str,
-    words: &[&str],
-) -> Result<Vec<Result<LogItem, Error>>, Error> {
+fn file(alloc: Global, path: &str, words: &[&str]) -> Result<Vec<Result<LogItem, Error>>, Error> {
     let mut files = files_of(alloc, words)?;
     of_file(&mut files, alloc, path)
 }
@@ -37,11 +34,7 @@ fn directory(
 }
 
 /// The main directory's items, where reads of one of its files are refused.
-fn unread(
-    alloc: Global,
-    name: &str,
-    words: &[&str],
-) -> Result<Vec<Result<LogItem, Error>>, Error> {
+fn unread(alloc: Global, name: &str, words: &[&str]) -> Result<Vec<Result<LogItem, Error>>, Error> {
     let mut files = files_of(alloc, words)?;
     let mut paths = Vec::new(alloc);
     paths.push(path_of(alloc, name)?)?;
@@ -57,6 +50,7 @@ impl Rows for Calls {
                 Answer::shown(alloc, &directory(alloc, path, words))
             }
             ["unread", name, words @ ..] => Answer::shown(alloc, &unread(alloc, name, words)),
+            ["holes", words @ ..] => Answer::shown(alloc, &holes(alloc, words)),
             _ => return None,
         })
     }
