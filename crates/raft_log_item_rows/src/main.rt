@@ -1,8 +1,9 @@
 //! Log files in memory, a row of text each: files that were written by hand, and the items that a
-//! reader of one of them or of their directory answers.
+//! reader of one of them or of their directory answers; and batches, with the holes in them.
 #![tactic(auto)]
 
 mod files;
+mod holes;
 mod reading;
 mod rows;
 

@@ -1,6 +1,7 @@
 //! Which calls the words of a row name.
 
 use crate::files::{make_all, path_of};
+use crate::holes::holes;
 use crate::reading::{of_directory, of_file};
 use raft_log_files::{CrashFiles, Error, FileSystem, MemoryFileSystem};
 use raft_log_records::LogItem;
@@ -49,6 +50,7 @@ impl Rows for Calls {
                 Answer::shown(alloc, &directory(alloc, path, words))
             }
             ["unread", name, words @ ..] => Answer::shown(alloc, &unread(alloc, name, words)),
+            ["holes", words @ ..] => Answer::shown(alloc, &holes(alloc, words)),
             _ => return None,
         })
     }
