@@ -33,4 +33,6 @@ TakenChangesGoOn E =
 
 -- Such a change leaves the list whole.
 abbrev pub ChangesLeaveWhole : Type 0 → Type 0
-ChangesLeaveWhole E = (file : ℕ) (change : Change E) (t : Trace) (g : GroupContent E) → GoOn change t → Follows change → IsWhole t g → IsWhole (trace_after file change t) (after_change change g)
+ChangesLeaveWhole E =
+    (file : ℕ) (change : Change E) (t : Trace) (g : GroupContent E)
+    → GoOn change t → Follows change → IsWhole t g → IsWhole (trace_after file change t) (after_change change g)
