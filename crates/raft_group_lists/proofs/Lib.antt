@@ -4,3 +4,4 @@ mod ListLemmas
 mod KeepLemmas
 mod SetLemmas
 mod TruthLemmas
+mod RoomLemmas

@@ -5,6 +5,7 @@ mod group_list;
 mod judge;
 mod leads;
 mod notes;
+mod room;
 mod settle;
 mod walks;
 

@@ -4,6 +4,7 @@ use Rattle.raft_laws.specs.GroupWorld.{GroupWorld}
 use Rattle.raft_list_laws.specs.Accounts.{AreTrue}
 use Rattle.raft_group_lists.specs.declared.notes.Noted.{Noted}
 use Rattle.raft_group_lists.specs.Notes.{Learns, Notes, accounts_of, notes_of}
+use Rattle.raft_group_lists.specs.Room.{Kept}
 use Rattle.raft_group_lists.proofs.TruthLemmas.{message_is_true, same_is_true}
 use Rattle.raft_group_lists.proofs.group_list.GroupList.accept.Goals as goal
 
@@ -15,7 +16,7 @@ returns-in_err-learn_under-clause-err c =
     let each : (w : GroupWorld) → AreTrue (accounts_of c.args.self.now) w → AreTrue (accounts_of next) w =
     λ w t.
     same_is_true s c.learn_under.new.leads.items c.learn_under.new.listed.items c.in_err-learn_under.ensures.err.0 c.in_err-learn_under.ensures.err.1 w
-    (subst (λ (n : Notes). AreTrue (accounts_of n) w) (sym c.self.view_is) t)
+    (subst (λ (n : Notes). AreTrue (accounts_of n) w) (sym (ap (λ (k : Kept). k.notes) c.self.view_is)) t)
     in
     search (rules, each)
 
@@ -28,4 +29,4 @@ returns-clause-truth c =
     let read = subst (λ (ns : List Noted). Learns (notes_of i.voters ns i.leads.items i.listed.items) c.args.node c.args.vote None c.own_place-place.result (notes_of i.voters ns leads listed)) c.as_slice.ensures.value c.in_ok-learn_under.ensures.ok in
     let learns = subst (λ (place : Option ℕ). Learns s c.args.node c.args.vote None place (notes_of i.voters i.noted.items leads listed)) c.own_place-place.ensures read in
     λ w m list t is fronts.
-    message_is_true s leads listed c.args.node c.args.vote c.args.last learns m is w list (subst (λ (n : Notes). AreTrue (accounts_of n) w) (sym c.self.view_is) t) fronts
+    message_is_true s leads listed c.args.node c.args.vote c.args.last learns m is w list (subst (λ (n : Notes). AreTrue (accounts_of n) w) (sym (ap (λ (k : Kept). k.notes) c.self.view_is)) t) fronts

@@ -6,6 +6,7 @@ use Rattle.raft_list_laws.specs.Accounts.{AreTrue}
 use Rattle.raft_group_lists.specs.declared.notes.Noted.{Noted}
 use Rattle.raft_group_lists.specs.Notes.{Learns, Notes, accounts_of, notes_of}
 use Rattle.raft_group_lists.specs.Facts.{IsNoteOf}
+use Rattle.raft_group_lists.specs.Room.{Kept}
 use Rattle.raft_group_lists.proofs.TruthLemmas.{note_is_true, same_is_true}
 use Rattle.raft_group_lists.proofs.group_list.GroupList.note.Goals as goal
 
@@ -17,7 +18,7 @@ returns-in_err-learn_under-clause-err c =
     let each : (w : GroupWorld) → AreTrue (accounts_of c.args.self.now) w → AreTrue (accounts_of next) w =
     λ w t.
     same_is_true s c.learn_under.new.leads.items c.learn_under.new.listed.items c.in_err-learn_under.ensures.err.0 c.in_err-learn_under.ensures.err.1 w
-    (subst (λ (n : Notes). AreTrue (accounts_of n) w) (sym c.self.view_is) t)
+    (subst (λ (n : Notes). AreTrue (accounts_of n) w) (sym (ap (λ (k : Kept). k.notes) c.self.view_is)) t)
     in
     search (rules, each)
 
@@ -28,10 +29,10 @@ returns-clause-truth c =
     let leads = c.learn_under.new.leads.items in
     let listed = c.learn_under.new.listed.items in
     let x = c.index.result.now in
-    let inside = subst (λ (n : Notes). c.args.last < length n.noted) (sym c.self.view_is) c.requires in
+    let inside = subst (λ (n : Notes). c.args.last < length n.noted) (sym (ap (λ (k : Kept). k.notes) c.self.view_is)) c.requires in
     let there = slice_get_read i.noted.items (length i.noted.items) c.args.last x refl inside c.index.ensures in
     let read = subst (λ (ns : List Noted). Learns (notes_of i.voters ns i.leads.items i.listed.items) c.args.node c.args.vote (Some c.args.last) c.own_place-place.result (notes_of i.voters ns leads listed)) c.as_slice.ensures.value c.in_ok-learn_under.ensures.ok in
     let learns = subst (λ (place : Option ℕ). Learns s c.args.node c.args.vote (Some c.args.last) place (notes_of i.voters i.noted.items leads listed)) c.own_place-place.ensures read in
     λ w l list t is fronts.
-    note_is_true s leads listed c.args.node c.args.vote c.args.last x there learns l (subst (λ (n : Notes). IsNoteOf n c.args.node c.args.vote c.args.last l) (sym c.self.view_is) is) w list
-    (subst (λ (n : Notes). AreTrue (accounts_of n) w) (sym c.self.view_is) t) fronts
+    note_is_true s leads listed c.args.node c.args.vote c.args.last x there learns l (subst (λ (n : Notes). IsNoteOf n c.args.node c.args.vote c.args.last l) (sym (ap (λ (k : Kept). k.notes) c.self.view_is)) is) w list
+    (subst (λ (n : Notes). AreTrue (accounts_of n) w) (sym (ap (λ (k : Kept). k.notes) c.self.view_is)) t) fronts
