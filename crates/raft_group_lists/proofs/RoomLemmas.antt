@@ -1,14 +1,16 @@
 -- What still fits, once a vote or a node has taken its place.
-use Rattle.std.specs.Prelude.{◌≡◌, ◌⊎◌, ℕ, zero, suc, ◌+◌, ◌<◌, ◌≤◌, if◌then◌else◌, Bool, true, false, List, [], ◌∷◌, ◌++◌, length, slice_get, slice_set, Option, Some, None, vec_len, vec_capacity, refl}
+use Rattle.std.specs.Prelude.{◌≡◌, ◌⊎◌, ℕ, zero, suc, ◌+◌, ◌<◌, ◌≤◌, if◌then◌else◌, Bool, true, false, List, [], ◌∷◌, ◌++◌, length, take, drop, slice_get, slice_set, Option, Some, None, vec_len, vec_capacity, refl}
 use Rattle.std.proofs.Common.{sym, ap, ◌∙◌, subst, arith, ⊎_elim, length-append, length-set}
 use Rattle.std.proofs.lemmas.Bool.{cases_lt}
 use Rattle.raft_values.specs.declared.vote.Vote.{Vote}
 use Rattle.raft_group_step.specs.Values.{vote_eq}
 use Rattle.raft_laws.proofs.BallotAgreement.{same_some}
 use Rattle.raft_group_lists.specs.declared.notes.Lead.{Lead}
-use Rattle.raft_group_lists.specs.Notes.{IsWithin, has_reached, last_in, later_or, lead_in, reached_in}
-use Rattle.raft_group_lists.specs.Room.{AreWider, CanLearn, HasPlace, HasSpace, spare_size}
+use Rattle.raft_group_lists.specs.declared.notes.Noted.{Noted}
+use Rattle.raft_group_lists.specs.Notes.{AreWhole, IsWithin, has_reached, last_in, later_or, lead_in, notes_of, reached_in}
+use Rattle.raft_group_lists.specs.Room.{AreWider, CanLearn, HasPlace, HasRoom, HasSpace, Kept, spare_size}
 use Rattle.raft_group_lists.proofs.LeadLemmas.{end_cases}
+use Rattle.raft_group_lists.proofs.ListLemmas.{whole_slice}
 use Rattle.raft_group_lists.proofs.SetLemmas.{set_cases}
 
 -- a new vote, with a spare vector
@@ -59,6 +61,7 @@ same_set f (z ∷ zs) zero x y e v s vote =
   where
     is : f (Some y) ≡ f (Some z)
     is = s ∙ ap (λ (l : Lead). f (Some l)) (sym (same_some e))
+
     go : (o : Option Lead) (b c : Bool) → b ≡ c → f (later_or o (if b then Some y else None)) ≡ f (later_or o (if c then Some z else None))
     go (Some l) b c same = refl
     go None true c same = is ∙ ap (λ d. f (if d then Some z else None)) same
@@ -114,3 +117,32 @@ space_set xs at n x y there space before i lead l e =
     let is : y ≡ lead = same_some (sym (set_there xs at x y there) ∙ ap (slice_get (slice_set xs at y)) here ∙ e) in
     subst (λ (l : Lead). HasSpace l.reached n) is space)
     (cases_lt i at)
+
+-- ---- the whole of it
+
+-- a slice of all votes was lent, and has more room now
+pub wider_through : (n : ℕ) (old reserved lent new : List Lead) → reserved ≡ old → lent ≡ reserved → n ≡ length reserved → AreWider lent new → AreWider old (take n (new ++ drop (length new) reserved))
+wider_through n old reserved lent new same is size wide =
+    subst (λ (xs : List Lead). AreWider xs (take n (new ++ drop (length new) reserved))) (is ∙ same)
+    (subst (AreWider lent) (sym (whole_slice n new reserved (wide.size ∙ ap length is) size)) wide)
+
+pub whole_wider : (voters : List (List ℕ)) (noted noted' : List Noted) (leads leads' : List Lead) (listed listed' : List ℕ) → AreWhole (notes_of voters noted leads listed) → noted' ≡ noted → listed' ≡ listed → AreWider leads leads' → AreWhole (notes_of voters noted' leads' listed')
+whole_wider voters noted noted' leads leads' listed listed' w is listed_is wide =
+    subst (λ (ns : List Noted). AreWhole (notes_of voters ns leads' listed')) (sym is)
+    (subst (λ (ks : List ℕ). AreWhole (notes_of voters noted leads' ks)) (sym listed_is)
+    (record { joined = w.joined; leads = wide.lasts noted w.leads; listed = w.listed }))
+
+-- no room is lost
+pub room_kept : (old new : Kept) → new.notes.noted ≡ old.notes.noted → AreWider old.notes.leads new.notes.leads → old.fits.noted ≤ new.fits.noted → old.fits.listed ≤ new.fits.listed → old.fits.leads ≤ new.fits.leads → old.fits.spares ≤ new.fits.spares → (writes learns : ℕ) → HasRoom old writes learns → HasRoom new writes learns
+room_kept old new same wide noted listed leads spares writes learns h =
+    let count = ap length same in
+    let size = wide.size in
+    let entries = h.noted in
+    let places = h.listed in
+    let votes = h.learned.votes in
+    let left = h.learned.spares_left in
+    record {
+      noted = omega arith;
+      listed = omega arith;
+      learned = record { votes = omega arith; nodes = wide.space learns h.learned.nodes; spares_left = omega arith; small = h.learned.small };
+    }

@@ -4,7 +4,7 @@ use Rattle.std.specs.declared.alloc.Global.{Global}
 use Rattle.raft_group_lists.specs.declared.notes.Lead.{Lead}
 use Rattle.raft_group_lists.specs.declared.notes.Noted.{Noted}
 use Rattle.raft_group_lists.specs.declared.notes.Reached.{Reached}
-use Rattle.raft_group_lists.specs.Notes.{IsWithin, Notes, SameLeads}
+use Rattle.raft_group_lists.specs.Notes.{IsWithin, Notes, SameLeads, notes_of}
 
 -- so many items more fit
 abbrev pub HasSpace : {X : Type 0} → Vec X Global → ℕ → Type 0
@@ -59,6 +59,13 @@ pub record Capacities : Type 0 where
 pub record Kept : Type 0 where
   pub notes : Notes
   pub fits : Capacities
+
+abbrev pub kept_of : List (List ℕ) → Vec Noted Global → Vec Lead Global → Vec ℕ Global → Vec (Vec Reached Global) Global → Kept
+kept_of voters noted leads listed spares =
+    record {
+      notes = notes_of voters noted.items leads.items listed.items;
+      fits = record { noted = vec_capacity noted; listed = vec_capacity listed; leads = vec_capacity leads; spares = length spares.items };
+    }
 
 -- so many entries more can be written, and so many notes and acceptances taken
 pub record HasRoom (k : Kept) (writes learns : ℕ) : Type 0 where

@@ -34,14 +34,12 @@ pub struct GroupList {
 }
 
 impl Model for GroupList {
-    ghost use Rattle.std.specs.Prelude.{length, vec_capacity};
     ghost use Rattle.raft_group_lists.specs.Notes.{AreWhole, notes_of};
-    ghost use Rattle.raft_group_lists.specs.Room.{AreSpares, Kept};
+    ghost use Rattle.raft_group_lists.specs.Room.{AreSpares, Kept, kept_of};
 
     ghost Value = { Kept };
 
-    ghost view = { λ x. record { notes = notes_of x.voters x.noted.items x.leads.items x.listed.items;
-        fits = record { noted = vec_capacity x.noted; listed = vec_capacity x.listed; leads = vec_capacity x.leads; spares = length x.spares.items } } };
+    ghost view = { λ x. kept_of x.voters x.noted x.leads x.listed x.spares };
 
     ghost invariant = { λ x. AreWhole (notes_of x.voters x.noted.items x.leads.items x.listed.items) × AreSpares x.spares.items };
 }
@@ -90,8 +88,7 @@ impl GroupList {
     {
         self.noted.reserve(2)?;
         let all = self.noted.len() + 2;
-        self.listed
-            .reserve(all.saturating_sub(self.listed.len()))?;
+        self.listed.reserve(all.saturating_sub(self.listed.len()))?;
         self.leads.reserve(2)?;
         make_spares(self.alloc, &mut self.spares)?;
         widen(self.leads.as_mut_slice())?;

@@ -6,10 +6,7 @@ use crate::notes::{Lead, Reached};
 use std::alloc::{AllocError, Global};
 
 // Two vectors are kept for new votes. An `Err` is want of memory, and loses none.
-pub(crate) fn make_spares(
-    alloc: Global,
-    spares: &mut Vec<Vec<Reached>>,
-) -> Result<(), AllocError>
+pub(crate) fn make_spares(alloc: Global, spares: &mut Vec<Vec<Reached>>) -> Result<(), AllocError>
     requires { AreSpares spares.old.items }
     ensures spares { AreSpares spares.new.items }
     ensures ok { OnOk result (2 ≤ length spares.new.items) }

@@ -1,5 +1,5 @@
 use Rattle.std.specs.Prelude.{◌≡◌, length}
-use Rattle.std.proofs.Common.{arith, subst}
+use Rattle.std.proofs.Common.{ap, arith, subst}
 use Rattle.raft_group_lists.specs.Notes.{Notes, entries_at}
 use Rattle.raft_group_lists.specs.Room.{Kept}
 use Rattle.raft_group_lists.proofs.ListLemmas.{entries_size}

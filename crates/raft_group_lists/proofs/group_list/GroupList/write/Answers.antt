@@ -24,8 +24,10 @@ invariant_of-self-2 c =
     let within = subst (λ (n : Notes). IsWithin n.noted c.args.before) (sym (ap (λ (k : Kept). k.notes) c.self.view_is)) c.requires in
     let read = c.count_to-count.ensures ∙ ap (λ (ns : List Noted). count_to ns c.args.before) c.as_slice.ensures.value in
     let count : c.count_to-count.result + 1 ≡ suc (count_to s.noted c.args.before) = omega arith in
-    subst (λ (ns : List Noted). AreWhole (record { voters = i.voters; noted = ns; leads = i.leads.items; listed = i.listed.items }))
+    let whole = subst (λ (ns : List Noted). AreWhole (record { voters = i.voters; noted = ns; leads = i.leads.items; listed = i.listed.items }))
     (sym (c.push_reserved.ensures.items ∙ ap (λ (ns : List Noted). ns ++ x ∷ []) c.reserve.ensures.items)) (whole_more s c.self.invariant.0 x count within)
+    in
+    (whole, c.self.invariant.1)
 
 pub returns-clause-truth : goal.returns-clause-truth
 returns-clause-truth c =
