@@ -5,3 +5,4 @@ mod KeepLemmas
 mod SetLemmas
 mod TruthLemmas
 mod RoomLemmas
+mod MessageLemmas

@@ -1,5 +1,5 @@
 -- What still fits, once a vote or a node has taken its place.
-use Rattle.std.specs.Prelude.{◌≡◌, ◌⊎◌, ℕ, zero, suc, ◌+◌, ◌<◌, ◌≤◌, if◌then◌else◌, Bool, true, false, List, [], ◌∷◌, ◌++◌, length, take, drop, slice_get, slice_set, Option, Some, None, vec_len, vec_capacity, refl}
+use Rattle.std.specs.Prelude.{◌≡◌, ℕ, zero, suc, ◌+◌, ◌<◌, ◌≤◌, if◌then◌else◌, Bool, true, false, List, [], ◌∷◌, ◌++◌, length, take, drop, slice_get, slice_set, Option, Some, None, vec_len, vec_capacity, refl}
 use Rattle.std.proofs.Common.{sym, ap, ◌∙◌, subst, arith, ⊎_elim, length-append, length-set}
 use Rattle.std.proofs.lemmas.Bool.{cases_lt}
 use Rattle.raft_values.specs.declared.vote.Vote.{Vote}

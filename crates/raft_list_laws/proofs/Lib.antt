@@ -2,3 +2,4 @@ pub mod Parts
 pub mod Keeping
 mod Fronts
 mod OwnEntries
+mod SetUps

@@ -1,5 +1,5 @@
 -- How an event changes the accounts of a group: by its set-up, the note of a leader, and each message that it sends.
-use Rattle.std.specs.Prelude.{◌≡◌, ℕ, ◌<◌, ◌≤◌, ◌==◌, ◌&&◌, ◌||◌, if◌then◌else◌, Bool, false, List, [], ◌∷◌, ◌++◌, length, Some, Contains}
+use Rattle.std.specs.Prelude.{◌≡◌, ℕ, ◌<◌, ◌≤◌, ◌==◌, ◌&&◌, ◌||◌, if◌then◌else◌, Bool, false, List, [], ◌∷◌, ◌++◌, length, Some, None, Contains}
 use Rattle.std.specs.List.{list_any}
 use Rattle.raft_values.specs.declared.vote.Vote.{Vote}
 use Rattle.raft_group_step.specs.Values.{Entry, Membership, vote_eq}
@@ -118,3 +118,8 @@ OwnEntriesComeLast =
     → (place : ℕ)
     → list_any (λ (e : Entry). is_at_or_after l.vote.leader_id place e.log_id) l.list
     ≡ is_at_or_after l.vote.leader_id place last.log_id
+
+-- in each world to which a history leads, nobody has led where no group is set up
+abbrev pub NobodyLedBefore : Type 0
+NobodyLedBefore =
+    (ids : List ℕ) (rs : List Recorded) (end : GroupWorld) → IsGroupHistory ids rs end → end.setup ≡ None → end.led ≡ []

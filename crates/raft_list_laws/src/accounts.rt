@@ -1,6 +1,6 @@
 //! The accounts of a group's list stay true from event to event: laws, each a contract of a function without a body.
 
-ghost use Rattle.raft_list_laws.specs.Changes.{AcceptancesKeep, FrontsBeforeMessages, FrontsBeforeNotes, NotesKeep, OwnEntriesComeLast, PartsOfHistories, SetUpsKeep, SilentKeep};
+ghost use Rattle.raft_list_laws.specs.Changes.{AcceptancesKeep, FrontsBeforeMessages, FrontsBeforeNotes, NobodyLedBefore, NotesKeep, OwnEntriesComeLast, PartsOfHistories, SetUpsKeep, SilentKeep};
 
 /// Accounts that are true of a world are true of the next one: behind a set-up before which nobody led, a leader's note, and
 /// each message. Only the list of the one vote that is noted or accepted can make the group's list longer.
@@ -22,4 +22,9 @@ pub fn settled_parts_are_fronts()
 /// A leader's own entries stand at the end of each list that it was noted with, over every history that replays.
 pub fn own_entries_come_last()
     ensures { OwnEntriesComeLast }
+{}
+
+/// Before its set-up a group has no leader's note, over every history that replays.
+pub fn nobody_leads_before_a_set_up()
+    ensures { NobodyLedBefore }
 {}

@@ -1,4 +1,4 @@
-use Rattle.std.specs.Prelude.{◌≡◌, ◌<◌, Some, length, refl}
+use Rattle.std.specs.Prelude.{◌<◌, Some, length, refl}
 use Rattle.std.proofs.Common.{get_or, ap, ◌∙◌, arith, length-set}
 use Rattle.std.proofs.lemmas.Option.{slice_get_read, slice_get_within}
 use Rattle.raft_group_lists.specs.declared.notes.Lead.{Lead}

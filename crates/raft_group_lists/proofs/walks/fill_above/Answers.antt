@@ -1,6 +1,6 @@
 -- The entries behind the rest of the walk stand at their places, and at the end that rest is up to the floor.
-use Rattle.std.specs.Prelude.{◌≡◌, ◌-◌, ◌≤◌, ◌++◌, Some, drop, length}
-use Rattle.std.proofs.Common.{ap, sym, ◌∙◌, subst, arith, length-set}
+use Rattle.std.specs.Prelude.{◌≡◌, ◌-◌, ◌≤◌, ◌++◌, Some, drop}
+use Rattle.std.proofs.Common.{ap, ◌∙◌, subst, arith, length-set}
 use Rattle.std.proofs.lemmas.List.{take-set-le}
 use Rattle.raft_group_lists.specs.Notes.{AreWithin, count_to, entries_at, list_to}
 use Rattle.raft_group_lists.proofs.WalkLemmas.{behind_front, fill_more, list_size, step_at}

@@ -1,4 +1,4 @@
-use Rattle.std.specs.Prelude.{◌≡◌, ◌≤◌, ℕ, suc, List, Option, None, length, vec_capacity, refl}
+use Rattle.std.specs.Prelude.{◌≤◌, ℕ, suc, List, Option, None, length, vec_capacity, refl}
 use Rattle.std.proofs.Common.{rules, ap, sym, subst, arith}
 use Rattle.raft_laws.specs.GroupWorld.{GroupWorld}
 use Rattle.raft_list_laws.specs.Accounts.{AreTrue}

@@ -1,7 +1,7 @@
 use Rattle.std.specs.Prelude.{List, MatchOption}
 use Rattle.std.proofs.Common.{ap, subst, ◌∙◌}
 use Rattle.raft_group_lists.specs.declared.notes.Noted.{Noted}
-use Rattle.raft_group_lists.specs.Notes.{HasNoId, IsNotedAt, Notes}
+use Rattle.raft_group_lists.specs.Notes.{HasNoId, IsNotedAt}
 use Rattle.raft_group_lists.specs.Room.{Kept}
 use Rattle.raft_group_lists.proofs.group_list.GroupList.find.Goals as goal
 

@@ -1,4 +1,4 @@
-use Rattle.std.specs.Prelude.{◌≡◌, ◌<◌, ◌≤◌, ℕ, suc, List, Option, Some, length, vec_capacity, refl}
+use Rattle.std.specs.Prelude.{◌<◌, ◌≤◌, ℕ, suc, List, Option, Some, length, vec_capacity, refl}
 use Rattle.std.proofs.Common.{rules, ap, sym, subst, arith}
 use Rattle.std.proofs.lemmas.Option.{slice_get_read}
 use Rattle.raft_laws.specs.GroupWorld.{GroupWorld}
