@@ -3,3 +3,4 @@ pub mod Keeping
 mod Fronts
 mod OwnEntries
 mod SetUps
+mod GoingOn

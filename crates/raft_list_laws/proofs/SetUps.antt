@@ -11,11 +11,11 @@ none_among [] none = refl
 none_among (l ∷ ls) none = absurd (none l (inl refl))
 
 nobody_led : (w : GroupWorld) → Founded w → w.setup ≡ None → w.led ≡ []
-nobody_led w f no =
+nobody_led w f before =
     ⊎_elim
-    (λ is. absurd (let e : None ≡ Some f.membership = sym no ∙ is in cc))
+    (λ is. absurd (let e : None ≡ Some f.membership = sym before ∙ is in cc))
     (λ none. none_among w.led none)
     f.is.setup
 
 pub nobody_led_before : NobodyLedBefore
-nobody_led_before ids rs end h no = nobody_led end (founded ids h.node_ids rs end h.replays) no
+nobody_led_before ids rs end h before = nobody_led end (founded ids h.node_ids rs end h.replays) before

@@ -123,3 +123,11 @@ OwnEntriesComeLast =
 abbrev pub NobodyLedBefore : Type 0
 NobodyLedBefore =
     (ids : List ℕ) (rs : List Recorded) (end : GroupWorld) → IsGroupHistory ids rs end → end.setup ≡ None → end.led ≡ []
+
+-- the last note to which a history leads goes on from the list that its vote's leader was noted with last, by accounts that were
+-- true before it
+abbrev pub NotesGoOn : Type 0
+NotesGoOn =
+    (ids : List ℕ) (rs : List Recorded) (end : GroupWorld) → IsGroupHistory ids rs end
+    → (a : Accounts) (w : GroupWorld) (l : Led) → AreTrue a w → end.led ≡ w.led ++ l ∷ []
+    → AgreeBelow (length (a.latest l.vote)) (a.latest l.vote) l.list
