@@ -1,8 +1,7 @@
 -- A note goes on from what accounts keep under its vote.
-use Rattle.std.specs.Prelude.{◌≡◌, ℕ, ◌≤◌, List, [], ◌∷◌, ◌++◌, length, slice_get, Some}
+use Rattle.std.specs.Prelude.{◌≡◌, ℕ, List, [], ◌∷◌, ◌++◌, length, slice_get, Some}
 use Rattle.std.proofs.Common.{sym, ap, ◌∙◌, subst, arith, ⊎_elim}
 use Rattle.std.proofs.lemmas.Option.{slice_get_within}
-use Rattle.raft_values.specs.declared.vote.Vote.{Vote}
 use Rattle.raft_group_step.specs.Values.{Entry}
 use Rattle.raft_laws.specs.BallotLists.{AgreeBelow}
 use Rattle.raft_laws.specs.GroupWorld.{GroupWorld, Led, Recorded}
@@ -10,7 +9,7 @@ use Rattle.raft_laws.specs.OneList.{IsGroupHistory}
 use Rattle.raft_laws.proofs.BallotAgreement.{agree_none, slice_get-append, slice_get_end}
 use Rattle.raft_laws.proofs.Counts.{contains_at}
 use Rattle.raft_history_laws.proofs.LeaderLists.{lists_grow}
-use Rattle.raft_list_laws.specs.Accounts.{Accounts, AreTrue, WasNoted}
+use Rattle.raft_list_laws.specs.Accounts.{WasNoted}
 use Rattle.raft_list_laws.specs.Changes.{NotesGoOn}
 
 module _ (ids : List ℕ) (rs : List Recorded) (end : GroupWorld) (h : IsGroupHistory ids rs end) (w : GroupWorld) (l : Led) (is : end.led ≡ w.led ++ l ∷ []) where

@@ -1,5 +1,5 @@
 -- Before its set-up a group has no leader's note.
-use Rattle.std.specs.Prelude.{◌≡◌, ◌⊎◌, List, [], ◌∷◌, Some, None, refl}
+use Rattle.std.specs.Prelude.{◌≡◌, List, [], ◌∷◌, Some, None, refl}
 use Rattle.std.proofs.Common.{inl, sym, ◌∙◌, ⊎_elim}
 use Rattle.raft_laws.specs.GroupWorld.{GroupWorld, Led}
 use Rattle.raft_laws.proofs.BallotSafe.{Among}
