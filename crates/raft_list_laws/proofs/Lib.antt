@@ -4,3 +4,4 @@ mod Fronts
 mod OwnEntries
 mod SetUps
 mod GoingOn
+mod Matching

@@ -1,5 +1,5 @@
 -- How an event changes the accounts of a group: by its set-up, the note of a leader, and each message that it sends.
-use Rattle.std.specs.Prelude.{◌≡◌, ℕ, ◌<◌, ◌≤◌, ◌==◌, ◌&&◌, ◌||◌, if◌then◌else◌, Bool, false, List, [], ◌∷◌, ◌++◌, length, Some, None, Contains}
+use Rattle.std.specs.Prelude.{◌≡◌, ℕ, suc, ◌<◌, ◌≤◌, ◌==◌, ◌&&◌, ◌||◌, if◌then◌else◌, Bool, false, List, [], ◌∷◌, ◌++◌, length, slice_get, Some, None, Contains}
 use Rattle.std.specs.List.{list_any}
 use Rattle.raft_values.specs.declared.vote.Vote.{Vote}
 use Rattle.raft_group_step.specs.Values.{Entry, Membership, vote_eq}
@@ -131,3 +131,12 @@ NotesGoOn =
     (ids : List ℕ) (rs : List Recorded) (end : GroupWorld) → IsGroupHistory ids rs end
     → (a : Accounts) (w : GroupWorld) (l : Led) → AreTrue a w → end.led ≡ w.led ++ l ∷ []
     → AgreeBelow (length (a.latest l.vote)) (a.latest l.vote) l.list
+
+-- in each world to which a history leads, two noted lists that have an entry of one log id have it at one place, and are the same
+-- up to it
+abbrev pub NotedListsAgree : Type 0
+NotedListsAgree =
+    (ids : List ℕ) (rs : List Recorded) (end : GroupWorld) → IsGroupHistory ids rs end
+    → (one other : Led) → Contains end.led one → Contains end.led other
+    → (i j : ℕ) (x y : Entry) → slice_get one.list i ≡ Some x → slice_get other.list j ≡ Some y → x.log_id ≡ y.log_id
+    → (i ≡ j) × AgreeBelow (suc i) one.list other.list

@@ -1,6 +1,6 @@
 //! The accounts of a group's list stay true from event to event: laws, each a contract of a function without a body.
 
-ghost use Rattle.raft_list_laws.specs.Changes.{AcceptancesKeep, FrontsBeforeMessages, FrontsBeforeNotes, NobodyLedBefore, NotesGoOn, NotesKeep, OwnEntriesComeLast, PartsOfHistories, SetUpsKeep, SilentKeep};
+ghost use Rattle.raft_list_laws.specs.Changes.{AcceptancesKeep, FrontsBeforeMessages, FrontsBeforeNotes, NobodyLedBefore, NotedListsAgree, NotesGoOn, NotesKeep, OwnEntriesComeLast, PartsOfHistories, SetUpsKeep, SilentKeep};
 
 /// Accounts that are true of a world are true of the next one: behind a set-up before which nobody led, a leader's note, and
 /// each message. Only the list of the one vote that is noted or accepted can make the group's list longer.
@@ -33,4 +33,9 @@ pub fn nobody_leads_before_a_set_up()
 /// only of the notes before it.
 pub fn notes_go_on()
     ensures { NotesGoOn }
+{}
+
+/// Lists that leaders were noted with are the same up to each log id that both have (log matching), over every history that replays.
+pub fn noted_lists_agree()
+    ensures { NotedListsAgree }
 {}
