@@ -72,8 +72,10 @@ impl GroupList {
 
     /// The group is set up with these voter groups, before anyone led.
     pub fn set_up(&mut self, voters: VoterGroups<u64>)
-        ensures truth { (w : GroupWorld) (m : Membership) → AreTrue (accounts_of self.old.notes) w → w.led ≡ [] → m.configs ≡ voters → AreTrue (accounts_of self.new.notes) (with_setup w m) }
+        ensures truth { (w : GroupWorld) (m : Membership) → AreTrue (accounts_of self.old.notes) w → w.led ≡ []
+            → m.configs ≡ voters → AreTrue (accounts_of self.new.notes) (with_setup w m) }
         ensures noted { self.new.notes.noted ≡ self.old.notes.noted }
+        ensures room { (writes learns : ℕ) → HasRoom self.old writes learns → HasRoom self.new writes learns }
     {
         self.voters = voters;
     }

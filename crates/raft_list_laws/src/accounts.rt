@@ -1,6 +1,7 @@
 //! The accounts of a group's list stay true from event to event: laws, each a contract of a function without a body.
 
-ghost use Rattle.raft_list_laws.specs.Changes.{AcceptancesKeep, FrontsBeforeMessages, FrontsBeforeNotes, NobodyLedBefore, NotedListsAgree, NotesGoOn, NotesKeep, OwnEntriesComeLast, PartsOfHistories, SetUpsKeep, SilentKeep};
+ghost use Rattle.raft_list_laws.specs.Changes.{AcceptancesKeep, FrontsBeforeMessages, FrontsBeforeNotes, NotesKeep, SetUpsKeep, SilentKeep};
+ghost use Rattle.raft_list_laws.specs.Changes.{NobodyLedBefore, NotedListsAgree, NotesGoOn, OwnEntriesComeLast, PartsOfHistories};
 
 /// Accounts that are true of a world are true of the next one: behind a set-up before which nobody led, a leader's note, and
 /// each message. Only the list of the one vote that is noted or accepted can make the group's list longer.
