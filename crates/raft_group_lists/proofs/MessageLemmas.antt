@@ -1,5 +1,5 @@
 -- What a message accepts.
-use Rattle.std.specs.Prelude.{◌≡◌, ℕ, ◌==◌, ◌&&◌, Bool, true, false, Option, Some, None, MatchOption, refl}
+use Rattle.std.specs.Prelude.{◌≡◌, ℕ, ◌==◌, ◌&&◌, Bool, false, Option, Some, None, MatchOption, refl}
 use Rattle.std.proofs.Common.{ap, ◌∙◌}
 use Rattle.std.proofs.Math.Bool.{and-false}
 use Rattle.raft_values.specs.declared.vote.Vote.{Vote}
