@@ -63,17 +63,20 @@ module _ (xs : List Lead) (y : Lead) (new : lead_in xs y.vote ≡ None) where
         reached = λ vote place node. end_same (λ (o : Option Lead). has_reached (reached_in o) place node) (ap (λ rs. has_reached rs place node) reached) vote;
       }
 
-pub lasts_of_end : (xs : List Lead) (y : Lead) → y.last ≡ None → (i : ℕ) (lead : Lead) → slice_get (xs ++ y ∷ []) i ≡ Some lead → (slice_get xs i ≡ Some lead) ⊎ (lead.last ≡ None)
-lasts_of_end xs y none i lead e =
+pub end_cases : (xs : List Lead) (y : Lead) (i : ℕ) (lead : Lead) → slice_get (xs ++ y ∷ []) i ≡ Some lead → (slice_get xs i ≡ Some lead) ⊎ (y ≡ lead)
+end_cases xs y i lead e =
     ⊎_elim
     (λ l. inl (sym (slice_get-append xs (y ∷ []) i l) ∙ e))
     (λ l.
     let within = slice_get_within (xs ++ y ∷ []) i lead e in
     let size = length-append xs (y ∷ []) in
     let here : length xs + 0 ≡ i = omega arith in
-    let is : y ≡ lead = same_some (sym (slice_after xs (y ∷ []) 0) ∙ ap (slice_get (xs ++ y ∷ [])) here ∙ e) in
-    inr (ap (λ (x : Lead). x.last) (sym is) ∙ none))
+    inr (same_some (sym (slice_after xs (y ∷ []) 0) ∙ ap (slice_get (xs ++ y ∷ [])) here ∙ e)))
     (cases_lt i (length xs))
+
+pub lasts_of_end : (xs : List Lead) (y : Lead) → y.last ≡ None → (i : ℕ) (lead : Lead) → slice_get (xs ++ y ∷ []) i ≡ Some lead → (slice_get xs i ≡ Some lead) ⊎ (lead.last ≡ None)
+lasts_of_end xs y none i lead e =
+    ⊎_elim (λ old. inl old) (λ is. inr (ap (λ (x : Lead). x.last) (sym is) ∙ none)) (end_cases xs y i lead e)
 
 -- ---- a node that has accepted more
 

@@ -4,3 +4,5 @@ mod ListLemmas
 mod KeepLemmas
 mod SetLemmas
 mod TruthLemmas
+mod RoomLemmas
+mod MessageLemmas

@@ -3,7 +3,7 @@ use Rattle.std.specs.Prelude.{◌≡◌, ℕ, zero, suc, ◌+◌, ◌-◌, ◌<�
 use Rattle.std.proofs.Common.{sym, ap, ◌∙◌, arith, ⊎_elim, append-nil, append_assoc, take-append-drop, take_all}
 use Rattle.std.proofs.Math.Path.{fun_ext}
 use Rattle.std.proofs.lemmas.Bool.{cases_lt}
-use Rattle.std.proofs.lemmas.List.{drop_all}
+use Rattle.std.proofs.lemmas.List.{drop_all, take-append-le}
 use Rattle.std.proofs.lemmas.Option.{slice_get_within}
 use Rattle.raft_values.specs.declared.vote.LeaderId.{LeaderId}
 use Rattle.raft_quorums.specs.Quorum.{is_quorum}
@@ -50,6 +50,15 @@ whole_slice n new old size all =
     ap (λ xs. take n (new ++ xs)) (drop_all (length new) old (omega arith))
     ∙ ap (take n) (append-nil new)
     ∙ take_all n new (omega arith)
+
+-- a list that was made longer, and then filled behind its old end
+pub kept_front : (n m : ℕ) (old new longer rest : List ℕ) → n ≡ length old → length old ≤ m → longer ≡ take m old ++ rest → take n new ≡ take n longer → new ≡ old ++ drop n new
+kept_front n m old new longer rest size le is same =
+    let front : take n longer ≡ old =
+    ap (take n) (is ∙ ap (λ xs. xs ++ rest) (take_all m old le))
+    ∙ take-append-le n old rest (omega arith) ∙ take_all n old (omega arith)
+    in
+    sym (take-append-drop n new) ∙ ap (λ xs. xs ++ drop n new) (same ∙ front)
 
 -- ---- a list that goes on
 

@@ -113,15 +113,17 @@ module _ (s : Notes) (leads : List Lead) (listed : List ℕ) (node : ℕ) (vote 
     message_is_true w list t fronts = acceptances_keep (accounts_of s) (accounts_of next) w m vote list t fronts accepted_as
 
 -- the same is noted under each vote
-pub same_is_true : (s : Notes) (leads : List Lead) (listed : List ℕ) → SameLeads s.leads leads → listed ≡ s.listed → (w : GroupWorld) → AreTrue (accounts_of s) w → AreTrue (accounts_of (notes_of s.voters s.noted leads listed)) w
-same_is_true s leads listed same list w t =
-    subst (λ (ks : List ℕ). AreTrue (accounts_of (notes_of s.voters s.noted leads ks)) w) (sym list)
-    (subst (λ (a : Accounts). AreTrue a w)
-    (ap₂
+pub same_accounts : (s : Notes) (leads : List Lead) → SameLeads s.leads leads → accounts_of (notes_of s.voters s.noted leads s.listed) ≡ accounts_of s
+same_accounts s leads same =
+    ap₂
     (λ (latest : Vote ℕ → List Entry) (reached : Vote ℕ → ℕ → ℕ → Bool). accounts-with latest reached)
-    (fun_ext (λ (v : Vote ℕ). ap (list_to s.noted) (sym (same.last v))))
-    (fun_ext (λ (v : Vote ℕ). fun_ext (λ (place : ℕ). fun_ext (λ (n : ℕ). sym (same.reached v place n))))))
-    t)
+    (fun_ext (λ (v : Vote ℕ). ap (list_to s.noted) (same.last v)))
+    (fun_ext (λ (v : Vote ℕ). fun_ext (λ (place : ℕ). fun_ext (λ (n : ℕ). same.reached v place n))))
   where
     accounts-with : (Vote ℕ → List Entry) → (Vote ℕ → ℕ → ℕ → Bool) → Accounts
     accounts-with latest reached = record { voters = s.voters; latest = latest; reached = reached; list = entries_at s.noted s.listed }
+
+pub same_is_true : (s : Notes) (leads : List Lead) (listed : List ℕ) → SameLeads s.leads leads → listed ≡ s.listed → (w : GroupWorld) → AreTrue (accounts_of s) w → AreTrue (accounts_of (notes_of s.voters s.noted leads listed)) w
+same_is_true s leads listed same list w t =
+    subst (λ (ks : List ℕ). AreTrue (accounts_of (notes_of s.voters s.noted leads ks)) w) (sym list)
+    (subst (λ (a : Accounts). AreTrue a w) (sym (same_accounts s leads same)) t)

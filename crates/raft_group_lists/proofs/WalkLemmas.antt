@@ -1,8 +1,8 @@
 -- Walks along what is noted, and what is settled of a list with one entry more.
-use Rattle.std.specs.Prelude.{◌≡◌, ℕ, zero, suc, ◌+◌, ◌<◌, ◌≤◌, if◌then◌else◌, Bool, true, false, List, [], ◌∷◌, ◌++◌, length, take, drop, reverse, slice_get, Option, Some, None, refl}
+use Rattle.std.specs.Prelude.{◌≡◌, ℕ, zero, suc, ◌+◌, ◌-◌, ◌<◌, ◌≤◌, if◌then◌else◌, Bool, true, false, List, [], ◌∷◌, ◌++◌, length, take, drop, slice_get, slice_set, Option, Some, None, refl}
 use Rattle.std.proofs.Common.{get_or, sym, ap, ◌∙◌, subst, arith, length-append, length-take-le, take_all, append_assoc}
 use Rattle.std.proofs.lemmas.Bool.{cond-false, cond-true}
-use Rattle.std.proofs.lemmas.List.{reverse-append, take-append-le}
+use Rattle.std.proofs.lemmas.List.{drop-set, take-append-le}
 use Rattle.std.proofs.Math.Seq.{drop-append_seam}
 use Rattle.std.proofs.lemmas.Option.{slice_get_read}
 use Rattle.raft_group_step.specs.Values.{Entry}
@@ -67,27 +67,37 @@ step_at noted joined at k x w is read =
       rest = before_within noted joined k x there l;
     }
 
--- ---- chains
+-- ---- entries at their places
 
 within_cons : (noted : List Noted) (k : ℕ) (ks : List ℕ) → k < length noted → AreWithin noted ks → AreWithin noted (k ∷ ks)
 within_cons noted k ks l w zero j e = let same = same_some e in omega arith
 within_cons noted k ks l w (suc i) j e = w i j e
 
--- a chain with one place more
-pub record IsLonger (noted : List Noted) (at : Option ℕ) (chain more : List ℕ) (x : Noted) (whole : List Entry) : Type 0 where
-  pub list : whole ≡ list_to noted x.before ++ entries_at noted (reverse more)
-  pub within : AreWithin noted (reverse more)
+-- behind that entry all stand at their places
+pub record IsFilled (noted : List Noted) (at : Option ℕ) (listed : List ℕ) (whole : List Entry) : Type 0 where
+  pub list : whole ≡ list_to noted at ++ entries_at noted (drop (count_to noted at) listed)
+  pub within : AreWithin noted (drop (count_to noted at) listed)
 
-pub chain_more : (noted : List Noted) (at : Option ℕ) (k : ℕ) (x : Noted) (chain more : List ℕ) (whole : List Entry) → IsStep noted at k x → whole ≡ list_to noted at ++ entries_at noted (reverse chain) → AreWithin noted (reverse chain) → more ≡ chain ++ k ∷ [] → IsLonger noted at chain more x whole
-chain_more noted at k x chain more whole s e w m =
-    let turned : reverse more ≡ k ∷ reverse chain = ap reverse m ∙ reverse-append chain (k ∷ []) in
-    let here : entries_at noted (reverse more) ≡ x.entry ∷ entries_at noted (reverse chain) = ap (entries_at noted) turned ∙ ap (λ o. entry_in o ++ entries_at noted (reverse chain)) s.there in
+pub fill_more : (noted : List Noted) (joined : AreJoined noted) (at : Option ℕ) (k : ℕ) (x : Noted) (listed : List ℕ) (whole : List Entry) → IsStep noted at k x → IsFilled noted at listed whole → count_to noted at ≤ length listed → IsFilled noted x.before (slice_set listed (x.count - 1) k) whole
+fill_more noted joined at k x listed whole s f l =
+    let one = (joined k x s.there).count in
+    let count = s.count in
+    let place : x.count - 1 ≡ count_to noted x.before = omega arith in
+    let next : count_to noted x.before + 1 ≡ count_to noted at = omega arith in
+    let turned : drop (count_to noted x.before) (slice_set listed (x.count - 1) k) ≡ k ∷ drop (count_to noted at) listed =
+    ap (λ n. drop (count_to noted x.before) (slice_set listed n k)) place
+    ∙ drop-set listed (count_to noted x.before) k (omega arith)
+    ∙ ap (λ n. k ∷ drop n listed) next
+    in
+    let here : entries_at noted (drop (count_to noted x.before) (slice_set listed (x.count - 1) k)) ≡ x.entry ∷ entries_at noted (drop (count_to noted at) listed) =
+    ap (entries_at noted) turned ∙ ap (λ o. entry_in o ++ entries_at noted (drop (count_to noted at) listed)) s.there
+    in
     record {
       list =
-          e ∙ ap (λ xs. xs ++ entries_at noted (reverse chain)) s.list
-          ∙ append_assoc (list_to noted x.before) (x.entry ∷ []) (entries_at noted (reverse chain))
+          f.list ∙ ap (λ xs. xs ++ entries_at noted (drop (count_to noted at) listed)) s.list
+          ∙ append_assoc (list_to noted x.before) (x.entry ∷ []) (entries_at noted (drop (count_to noted at) listed))
           ∙ ap (λ ys. list_to noted x.before ++ ys) (sym here);
-      within = subst (AreWithin noted) (sym turned) (within_cons noted k (reverse chain) s.within w);
+      within = subst (AreWithin noted) (sym turned) (within_cons noted k (drop (count_to noted at) listed) s.within f.within);
     }
 
 -- what stands behind a front of so many entries

@@ -1,2 +1,3 @@
 pub mod Notes
 pub mod Facts
+pub mod Room

@@ -1,5 +1,5 @@
 //! The list of one group.
-ghost use Rattle.std.specs.Prelude.{◌≡◌, ◌<◌, ◌++◌, ◌∷◌, ℕ, List, [], Some, IfOk, OnErr, OnOk, MatchOption, length, slice_get};
+ghost use Rattle.std.specs.Prelude.{◌≡◌, ◌<◌, ◌++◌, ◌∷◌, ℕ, suc, List, [], Some, IfOk, IsOk, OnErr, OnOk, MatchOption, length, slice_get};
 ghost use Rattle.std.specs.Option.{option_copied};
 ghost use Rattle.raft_group_step.specs.Values.{Entry as ListEntry, Membership};
 ghost use Rattle.raft_group_step.specs.Message.{Message};
@@ -8,9 +8,11 @@ ghost use Rattle.raft_list_laws.specs.Accounts.{AreTrue, PartsAreFronts};
 ghost use Rattle.raft_list_laws.specs.Changes.{with_message, with_note, with_setup};
 ghost use Rattle.raft_group_lists.specs.Notes.{HasNoId, IsNotedAt, IsWithin, accounts_of, list_to};
 ghost use Rattle.raft_group_lists.specs.Facts.{AcceptsUpTo, IsNoteOf, own_place};
+ghost use Rattle.raft_group_lists.specs.Room.{HasRoom};
 
 use crate::leads::last_of;
-use crate::notes::{Lead, Noted};
+use crate::notes::{Lead, Noted, Reached};
+use crate::room::{make_spares, widen};
 use crate::settle::learn_under;
 use crate::walks::{count_to, find_noted};
 use raft_quorums::voter_groups::VoterGroups;
@@ -27,16 +29,19 @@ pub struct GroupList {
     noted: Vec<Noted>,
     leads: Vec<Lead>,
     listed: Vec<usize>,
+    // Kept for new votes, so that they take no memory.
+    spares: Vec<Vec<Reached>>,
 }
 
 impl Model for GroupList {
-    ghost use Rattle.raft_group_lists.specs.Notes.{AreWhole, Notes};
+    ghost use Rattle.raft_group_lists.specs.Notes.{AreWhole, notes_of};
+    ghost use Rattle.raft_group_lists.specs.Room.{AreSpares, Kept, kept_of};
 
-    ghost Value = { Notes };
+    ghost Value = { Kept };
 
-    ghost view = { λ x. record { voters = x.voters; noted = x.noted.items; leads = x.leads.items; listed = x.listed.items } };
+    ghost view = { λ x. kept_of x.voters x.noted x.leads x.listed x.spares };
 
-    ghost invariant = { λ x. AreWhole (record { voters = x.voters; noted = x.noted.items; leads = x.leads.items; listed = x.listed.items }) };
+    ghost invariant = { λ x. AreWhole (notes_of x.voters x.noted.items x.leads.items x.listed.items) × AreSpares x.spares.items };
 }
 
 // The place of a log id, if it is the leader's own.
@@ -53,7 +58,7 @@ fn own_place(id: &LogId<u64>, leader: &LeaderId<u64>) -> Option<u64>
 impl GroupList {
     /// Nothing is noted yet: true of a group's nodes before their first event. Takes no memory.
     pub fn new(alloc: Global) -> GroupList
-        ensures { (ids : List ℕ) → AreTrue (accounts_of result) (new_world ids) }
+        ensures { (ids : List ℕ) → AreTrue (accounts_of result.notes) (new_world ids) }
     {
         GroupList {
             alloc,
@@ -61,27 +66,47 @@ impl GroupList {
             noted: Vec::new(alloc),
             leads: Vec::new(alloc),
             listed: Vec::new(alloc),
+            spares: Vec::new(alloc),
         }
     }
 
     /// The group is set up with these voter groups, before anyone led.
     pub fn set_up(&mut self, voters: VoterGroups<u64>)
-        ensures truth { (w : GroupWorld) (m : Membership) → AreTrue (accounts_of self.old) w → w.led ≡ [] → m.configs ≡ voters → AreTrue (accounts_of self.new) (with_setup w m) }
-        ensures noted { self.new.noted ≡ self.old.noted }
+        ensures truth { (w : GroupWorld) (m : Membership) → AreTrue (accounts_of self.old.notes) w → w.led ≡ []
+            → m.configs ≡ voters → AreTrue (accounts_of self.new.notes) (with_setup w m) }
+        ensures noted { self.new.notes.noted ≡ self.old.notes.noted }
+        ensures room { (writes learns : ℕ) → HasRoom self.old writes learns → HasRoom self.new writes learns }
     {
         self.voters = voters;
     }
 
+    /// Finds memory for one event: behind an `Ok` two entries can be written, and one note and one acceptance taken, also where
+    /// both are under new votes. An `Err` is want of memory. Whatever the result, the same is noted, and no room is lost.
+    pub fn make_room(&mut self) -> Result<(), AllocError>
+        ensures ok { OnOk result (HasRoom self.new 2 2) }
+        ensures accounts { accounts_of self.new.notes ≡ accounts_of self.old.notes }
+        ensures noted { self.new.notes.noted ≡ self.old.notes.noted }
+        ensures keeps { (writes learns : ℕ) → HasRoom self.old writes learns → HasRoom self.new writes learns }
+    {
+        self.noted.reserve(2)?;
+        let all = self.noted.len() + 2;
+        self.listed.reserve(all.saturating_sub(self.listed.len()))?;
+        self.leads.reserve(2)?;
+        make_spares(self.alloc, &mut self.spares)?;
+        widen(self.leads.as_mut_slice())?;
+        Ok(())
+    }
+
     /// How many entries the list has.
     pub fn len(&self) -> usize
-        ensures { result ≡ length (accounts_of self.now).list }
+        ensures { result ≡ length (accounts_of self.now.notes).list }
     {
         self.listed.len()
     }
 
     /// The entry at this place, lent; none past the end of the list.
     pub fn get(&self, place: usize) -> Option<&Entry<u64, BasicNode, Bytes>>
-        ensures { option_copied result ≡ slice_get (accounts_of self.now).list place }
+        ensures { option_copied result ≡ slice_get (accounts_of self.now.notes).list place }
     {
         match self.listed.get(place) {
             Some(at) => Some(&self.noted[*at].entry),
@@ -91,15 +116,15 @@ impl GroupList {
 
     /// Where the last entry of the list is noted that the vote's leader had when it was noted last; none where it never was.
     pub fn last_of(&self, vote: &Vote<u64>) -> Option<usize>
-        ensures within { IsWithin self.now.noted result }
-        ensures list { list_to self.now.noted result ≡ (accounts_of self.now).latest vote.now }
+        ensures within { IsWithin self.now.notes.noted result }
+        ensures list { list_to self.now.notes.noted result ≡ (accounts_of self.now.notes).latest vote.now }
     {
         last_of(self.leads.as_slice(), vote)
     }
 
     /// Where an entry of this log id was noted last; none if none is noted.
     pub fn find(&self, id: &LogId<u64>) -> Option<usize>
-        ensures { MatchOption result (HasNoId self.now.noted id.now) (IsNotedAt self.now.noted id.now) }
+        ensures { MatchOption result (HasNoId self.now.notes.noted id.now) (IsNotedAt self.now.notes.noted id.now) }
     {
         find_noted(self.noted.as_slice(), id)
     }
@@ -111,37 +136,41 @@ impl GroupList {
         entry: Entry<u64, BasicNode, Bytes>,
         before: Option<usize>,
     ) -> Result<usize, AllocError>
-        requires { IsWithin self.old.noted before }
-        ensures truth { (w : GroupWorld) → AreTrue (accounts_of self.old) w → AreTrue (accounts_of self.new) w }
-        ensures within { IfOk result (λ at. at < length self.new.noted) }
-        ensures list { IfOk result (λ at. list_to self.new.noted (Some at) ≡ list_to self.old.noted before ++ entry ∷ []) }
-        ensures others { (at : ℕ) → at < length self.old.noted → list_to self.new.noted (Some at) ≡ list_to self.old.noted (Some at) }
+        requires { IsWithin self.old.notes.noted before }
+        ensures truth { (w : GroupWorld) → AreTrue (accounts_of self.old.notes) w → AreTrue (accounts_of self.new.notes) w }
+        ensures within { IfOk result (λ at. at < length self.new.notes.noted) }
+        ensures list { IfOk result (λ at. list_to self.new.notes.noted (Some at) ≡ list_to self.old.notes.noted before ++ entry ∷ []) }
+        ensures others { (at : ℕ) → at < length self.old.notes.noted → list_to self.new.notes.noted (Some at) ≡ list_to self.old.notes.noted (Some at) }
         ensures err { OnErr result (self.new ≡ self.old) }
+        ensures room { (writes learns : ℕ) → HasRoom self.old (suc writes) learns → IsOk result × HasRoom self.new writes learns }
     {
         let at = self.noted.len();
         let count = count_to(self.noted.as_slice(), before) + 1;
-        self.noted.push(Noted {
+        self.noted.reserve(1)?;
+        self.noted.push_reserved(Noted {
             entry,
             before,
             count,
-        })?;
+        });
         Ok(at)
     }
 
     /// A node led under the vote, with the list whose last entry is noted there; the group's list goes on with what that settles.
     /// An `Err` is want of memory: then what is noted is as true of the world before as it was.
     pub fn note(&mut self, node: u64, vote: Vote<u64>, last: usize) -> Result<(), AllocError>
-        requires { last < length self.old.noted }
-        ensures truth { OnOk result ((w : GroupWorld) (l : Led) (list : List ListEntry) → AreTrue (accounts_of self.old) w
-            → IsNoteOf self.old node vote last l → PartsAreFronts list (with_note w l) → AreTrue (accounts_of self.new) (with_note w l)) }
-        ensures noted { self.new.noted ≡ self.old.noted }
-        ensures err { OnErr result ((w : GroupWorld) → AreTrue (accounts_of self.old) w → AreTrue (accounts_of self.new) w) }
+        requires { last < length self.old.notes.noted }
+        ensures truth { OnOk result ((w : GroupWorld) (l : Led) (list : List ListEntry) → AreTrue (accounts_of self.old.notes) w
+            → IsNoteOf self.old.notes node vote last l → PartsAreFronts list (with_note w l) → AreTrue (accounts_of self.new.notes) (with_note w l)) }
+        ensures noted { self.new.notes.noted ≡ self.old.notes.noted }
+        ensures err { OnErr result ((w : GroupWorld) → AreTrue (accounts_of self.old.notes) w → AreTrue (accounts_of self.new.notes) w) }
+        ensures room { (writes learns : ℕ) → HasRoom self.old writes (suc learns) → IsOk result × HasRoom self.new writes learns }
     {
         let place = own_place(&self.noted[last].entry.log_id, &vote.leader_id);
         learn_under(
             self.alloc,
             &self.voters,
             self.noted.as_slice(),
+            &mut self.spares,
             &mut self.leads,
             &mut self.listed,
             node,
@@ -155,16 +184,18 @@ impl GroupList {
     /// A node sent that it has accepted, under the vote, all up to this log id; the group's list goes on with what that settles.
     /// An `Err` is want of memory: then what is noted is as true of the world before as it was.
     pub fn accept(&mut self, node: u64, vote: Vote<u64>, last: LogId<u64>) -> Result<(), AllocError>
-        ensures truth { OnOk result ((w : GroupWorld) (m : Message) (list : List ListEntry) → AreTrue (accounts_of self.old) w
-            → AcceptsUpTo node vote last m → PartsAreFronts list (with_message w m) → AreTrue (accounts_of self.new) (with_message w m)) }
-        ensures noted { self.new.noted ≡ self.old.noted }
-        ensures err { OnErr result ((w : GroupWorld) → AreTrue (accounts_of self.old) w → AreTrue (accounts_of self.new) w) }
+        ensures truth { OnOk result ((w : GroupWorld) (m : Message) (list : List ListEntry) → AreTrue (accounts_of self.old.notes) w
+            → AcceptsUpTo node vote last m → PartsAreFronts list (with_message w m) → AreTrue (accounts_of self.new.notes) (with_message w m)) }
+        ensures noted { self.new.notes.noted ≡ self.old.notes.noted }
+        ensures err { OnErr result ((w : GroupWorld) → AreTrue (accounts_of self.old.notes) w → AreTrue (accounts_of self.new.notes) w) }
+        ensures room { (writes learns : ℕ) → HasRoom self.old writes (suc learns) → IsOk result × HasRoom self.new writes learns }
     {
         let place = own_place(&last, &vote.leader_id);
         learn_under(
             self.alloc,
             &self.voters,
             self.noted.as_slice(),
+            &mut self.spares,
             &mut self.leads,
             &mut self.listed,
             node,

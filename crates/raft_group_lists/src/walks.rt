@@ -1,11 +1,10 @@
 //! Walks from an entry to those before it in its leader's list.
-ghost use Rattle.std.specs.Prelude.{◌≡◌, ◌<◌, ◌≤◌, drop, length, reverse, IfOk, MatchOption, Some};
+ghost use Rattle.std.specs.Prelude.{◌≡◌, ◌<◌, ◌≤◌, drop, length, take, MatchOption, Some};
 ghost use Rattle.raft_group_lists.specs.Notes.{AreJoined, AreWithin, HasNoId, IsNotedAt, IsWithin, count_to, entries_at, list_to, passes, settled_by};
 
 use crate::judge::Judge;
 use crate::notes::Noted;
 use raft_state::LogId;
-use std::alloc::{AllocError, Global};
 
 // How many entries the list has that ends there.
 pub(crate) fn count_to(noted: &[Noted], at: Option<usize>) -> usize
@@ -44,30 +43,26 @@ pub(crate) fn settled_at(
     None
 }
 
-// Where the entries past the floor of the list that ends there are noted, the last one first.
-pub(crate) fn chain_above(
-    alloc: Global,
-    noted: &[Noted],
-    last: usize,
-    floor: usize,
-) -> Result<Vec<usize>, AllocError>
+// Puts where the entries past the floor of the list that ends there are noted at their places.
+pub(crate) fn fill_above(noted: &[Noted], listed: &mut [usize], last: usize, floor: usize)
     requires joined { AreJoined noted.now }
     requires within { last < length noted.now }
     requires above { floor ≤ count_to noted.now (Some last) }
-    ensures entries { IfOk result (λ chain. entries_at noted.now (reverse chain.items) ≡ drop floor (list_to noted.now (Some last))) }
-    ensures within { IfOk result (λ chain. AreWithin noted.now (reverse chain.items)) }
+    requires size { length listed.old ≡ count_to noted.now (Some last) }
+    ensures entries { entries_at noted.now (drop floor listed.new) ≡ drop floor (list_to noted.now (Some last)) }
+    ensures within { AreWithin noted.now (drop floor listed.new) }
+    ensures before { take floor listed.new ≡ take floor listed.old }
+    ensures size { length listed.new ≡ length listed.old }
 {
-    let mut chain = Vec::new(alloc);
     let mut at = Some(last);
     while let Some(k) = at {
         let item = &noted[k];
         if item.count <= floor {
             break;
         }
-        chain.push(k)?;
+        listed[item.count - 1] = k;
         at = item.before;
     }
-    Ok(chain)
 }
 
 // Where an entry of this log id was noted last.

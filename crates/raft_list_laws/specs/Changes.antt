@@ -1,5 +1,6 @@
 -- How an event changes the accounts of a group: by its set-up, the note of a leader, and each message that it sends.
-use Rattle.std.specs.Prelude.{◌≡◌, ℕ, ◌<◌, ◌≤◌, ◌==◌, ◌&&◌, ◌||◌, if◌then◌else◌, Bool, false, List, [], ◌∷◌, ◌++◌, length, Some, Contains}
+use Rattle.std.specs.Prelude.{◌≡◌, ℕ, suc, ◌<◌, ◌≤◌, ◌==◌, ◌&&◌, ◌||◌, if◌then◌else◌, Bool, false, List, []}
+use Rattle.std.specs.Prelude.{◌∷◌, ◌++◌, length, slice_get, Some, None, Contains}
 use Rattle.std.specs.List.{list_any}
 use Rattle.raft_values.specs.declared.vote.Vote.{Vote}
 use Rattle.raft_group_step.specs.Values.{Entry, Membership, vote_eq}
@@ -118,3 +119,25 @@ OwnEntriesComeLast =
     → (place : ℕ)
     → list_any (λ (e : Entry). is_at_or_after l.vote.leader_id place e.log_id) l.list
     ≡ is_at_or_after l.vote.leader_id place last.log_id
+
+-- in each world to which a history leads, nobody has led where no group is set up
+abbrev pub NobodyLedBefore : Type 0
+NobodyLedBefore =
+    (ids : List ℕ) (rs : List Recorded) (end : GroupWorld) → IsGroupHistory ids rs end → end.setup ≡ None → end.led ≡ []
+
+-- the last note to which a history leads goes on from the list that its vote's leader was noted with last, by accounts that were
+-- true before it
+abbrev pub NotesGoOn : Type 0
+NotesGoOn =
+    (ids : List ℕ) (rs : List Recorded) (end : GroupWorld) → IsGroupHistory ids rs end
+    → (a : Accounts) (w : GroupWorld) (l : Led) → AreTrue a w → end.led ≡ w.led ++ l ∷ []
+    → AgreeBelow (length (a.latest l.vote)) (a.latest l.vote) l.list
+
+-- in each world to which a history leads, two noted lists that have an entry of one log id have it at one place, and are the same
+-- up to it
+abbrev pub NotedListsAgree : Type 0
+NotedListsAgree =
+    (ids : List ℕ) (rs : List Recorded) (end : GroupWorld) → IsGroupHistory ids rs end
+    → (one other : Led) → Contains end.led one → Contains end.led other
+    → (i j : ℕ) (x y : Entry) → slice_get one.list i ≡ Some x → slice_get other.list j ≡ Some y → x.log_id ≡ y.log_id
+    → (i ≡ j) × AgreeBelow (suc i) one.list other.list

@@ -1,6 +1,7 @@
 //! The accounts of a group's list stay true from event to event: laws, each a contract of a function without a body.
 
-ghost use Rattle.raft_list_laws.specs.Changes.{AcceptancesKeep, FrontsBeforeMessages, FrontsBeforeNotes, NotesKeep, OwnEntriesComeLast, PartsOfHistories, SetUpsKeep, SilentKeep};
+ghost use Rattle.raft_list_laws.specs.Changes.{AcceptancesKeep, FrontsBeforeMessages, FrontsBeforeNotes, NotesKeep, SetUpsKeep, SilentKeep};
+ghost use Rattle.raft_list_laws.specs.Changes.{NobodyLedBefore, NotedListsAgree, NotesGoOn, OwnEntriesComeLast, PartsOfHistories};
 
 /// Accounts that are true of a world are true of the next one: behind a set-up before which nobody led, a leader's note, and
 /// each message. Only the list of the one vote that is noted or accepted can make the group's list longer.
@@ -22,4 +23,20 @@ pub fn settled_parts_are_fronts()
 /// A leader's own entries stand at the end of each list that it was noted with, over every history that replays.
 pub fn own_entries_come_last()
     ensures { OwnEntriesComeLast }
+{}
+
+/// Before its set-up a group has no leader's note, over every history that replays.
+pub fn nobody_leads_before_a_set_up()
+    ensures { NobodyLedBefore }
+{}
+
+/// The note of an event goes on from the list that accounts keep under its vote, over every history that replays: they need be true
+/// only of the notes before it.
+pub fn notes_go_on()
+    ensures { NotesGoOn }
+{}
+
+/// Lists that leaders were noted with are the same up to each log id that both have (log matching), over every history that replays.
+pub fn noted_lists_agree()
+    ensures { NotedListsAgree }
 {}

@@ -18,3 +18,6 @@ returns-clause-list c =
     subst (λ (es : List Entry). GoesOn (entries_at noted c.args.listed.now.items) es (entries_at noted c.settle.new.listed.items))
     (settled_then c.args.voters.now reached c.args.node c.args.place learned more spotted.vote.leader_id (ap (λ (v : Vote ℕ). v.leader_id) (sym c.learn.ensures.vote)) (list_to noted c.args.last))
     c.in_ok-settle.ensures.ok
+
+pub returns-clause-space : goal.returns-clause-space
+returns-clause-space c = λ n h. c.learn.ensures.space n (c.spot_of.ensures.space n h)

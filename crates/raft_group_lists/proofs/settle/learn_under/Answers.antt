@@ -1,10 +1,11 @@
-use Rattle.std.specs.Prelude.{◌≡◌, ◌==◌, ◌&&◌, ◌||◌, ℕ, Option, length, slice_set, refl}
-use Rattle.std.proofs.Common.{rules, sym, ap, ◌∙◌, subst}
+use Rattle.std.specs.Prelude.{◌≡◌, ◌==◌, ◌&&◌, ◌||◌, ℕ, Option, length, slice_set, vec_capacity, refl}
+use Rattle.std.proofs.Common.{rules, sym, ap, ◌∙◌, subst, arith}
 use Rattle.std.proofs.lemmas.Option.{slice_get_read, slice_get_within}
 use Rattle.raft_laws.proofs.BallotAgreement.{same_some}
 use Rattle.raft_list_laws.specs.Changes.{GoesOn}
 use Rattle.raft_group_lists.specs.declared.notes.Lead.{Lead}
 use Rattle.raft_group_lists.specs.Notes.{IsWithin, SameLead, SameLeads, end_or, entries_at, has_reached, is_settled, list_to, reaches, settled_by}
+use Rattle.raft_group_lists.proofs.RoomLemmas.{learned_once}
 use Rattle.raft_group_lists.proofs.SetLemmas.{end_none, end_some, learned, middle_within, unchanged, whole_then}
 use Rattle.raft_group_lists.proofs.settle.learn_under.Goals as goal
 use Rattle.raft_group_lists.proofs.settle.learn_under.Goals.{in-Some, in-None}
@@ -84,3 +85,28 @@ returns-clause-ok c =
     let more = subst (λ (l : Lead). (p n : ℕ) → has_reached y.reached.items p n ≡ (has_reached l.reached.items p n || (c.args.node == n && reaches c.args.place p))) is c.in_ok-learn_at.ensures.reached in
     let on = subst (λ (o : Option ℕ). GoesOn (entries_at c.args.noted.now c.args.listed.now.items) (settled_by (is_settled c.args.voters.now y) (list_to c.args.noted.now o)) (entries_at c.args.noted.now c.learn_at.new.listed.items)) (sym c.in_ok-learn_at.ensures.last) c.in_ok-learn_at.ensures.list in
     learned c.args.voters.now c.args.noted.now c.args.leads.now.items middle c.args.listed.now.items c.learn_at.new.listed.items c.args.vote.now c.in_ok-at.at f c.lead_at.ensures.same y of_vote c.args.node c.args.last c.args.place (c.in_ok-learn_at.ensures.last ∙ end) more on
+
+pub returns-in_err-learn_at-clause-room : goal.returns-in_err-learn_at-clause-room
+returns-in_err-learn_at-clause-room c =
+    let middle = c.lead_at.new.leads.items in
+    let f = c.in_ok-at.ensures.found in
+    let x = c.index_mut-lead.result.now in
+    let read = slice_get_read middle (length middle) c.in_ok-at.at x refl (slice_get_within middle c.in_ok-at.at f.lead f.there) c.index_mut-lead.ensures.value in
+    λ n fits can.
+    let place = (c.lead_at.ensures.room n can).1 in
+    let space = place.nodes c.in_ok-at.at x read in
+    absurd (let no = c.in_err-learn_at.ensures.room fits (omega arith) in cc)
+
+pub returns-clause-room : goal.returns-clause-room
+returns-clause-room c =
+    let middle = c.lead_at.new.leads.items in
+    let f = c.in_ok-at.ensures.found in
+    let x = c.index_mut-lead.result.now in
+    let read = slice_get_read middle (length middle) c.in_ok-at.at x refl (slice_get_within middle c.in_ok-at.at f.lead f.there) c.index_mut-lead.ensures.value in
+    λ n fits can.
+    let place = (c.lead_at.ensures.room n can).1 in
+    let y = c.learn_at.new.lead in (
+      refl,
+      learned_once middle (vec_capacity c.lead_at.new.leads) (length c.lead_at.new.spares.items) n c.in_ok-at.at y place
+          (c.learn_at.ensures.space n (place.nodes c.in_ok-at.at x read)),
+    )

@@ -2,6 +2,7 @@ use Rattle.std.specs.Prelude.{◌≡◌, ◌++◌, ◌<◌, ◌≤◌, ℕ, List
 use Rattle.std.proofs.Common.{sym, ap, ◌∙◌, arith}
 use Rattle.raft_group_step.specs.Values.{Entry}
 use Rattle.raft_group_lists.specs.Notes.{entries_at, list_to, passes, settled_by}
+use Rattle.raft_group_lists.proofs.KeepLemmas.{count_low}
 use Rattle.raft_group_lists.proofs.ListLemmas.{entries_size, grows_on, stays_on}
 use Rattle.raft_group_lists.proofs.WalkLemmas.{list_size, within_some}
 use Rattle.raft_group_lists.proofs.settle.settle.Goals as goal
@@ -31,3 +32,9 @@ returns-in-None-clause-ok c =
     let size = entries_size noted old c.requires.listed in
     let short : length settled ≤ length (entries_at noted old) = let less = c.in-None.ensures in omega arith in
     stays_on (entries_at noted old) settled (entries_at noted old) short refl
+
+pub returns-in_err-go_on-in-Some-clause-room : goal.returns-in_err-go_on-in-Some-clause-room
+returns-in_err-go_on-in-Some-clause-room c =
+    let noted = c.args.noted.now in
+    let low = count_low noted c.requires.joined (Some c.in-Some.at) (within_some noted c.in-Some.at c.in-Some.ensures.0) in
+    λ fits. absurd (let no = c.in_err-go_on-in-Some.ensures.room (omega arith) in cc)

@@ -2,6 +2,7 @@ use Rattle.std.specs.Prelude.{ℕ, List, Option}
 use Rattle.std.proofs.Common.{ap, subst, ◌∙◌, sym}
 use Rattle.raft_group_lists.specs.declared.notes.Lead.{Lead}
 use Rattle.raft_group_lists.specs.Notes.{IsWithin, Notes, last_in, lead_in}
+use Rattle.raft_group_lists.specs.Room.{Kept}
 use Rattle.raft_group_lists.proofs.KeepLemmas.{last_within}
 use Rattle.raft_group_lists.proofs.group_list.GroupList.last_of.Goals as goal
 
@@ -9,5 +10,5 @@ pub returns-clause-within : goal.returns-clause-within
 returns-clause-within c =
     let i = c.self.inside in
     let is = c.last_of.ensures ∙ ap (λ (ls : List Lead). last_in (lead_in ls c.args.vote.now)) c.as_slice.ensures.value in
-    subst (λ (n : Notes). IsWithin n.noted c.last_of.result) c.self.view_is
-    (subst (λ (o : Option ℕ). IsWithin i.noted.items o) (sym is) (last_within i.noted.items i.leads.items c.self.invariant.leads c.args.vote.now))
+    subst (λ (n : Notes). IsWithin n.noted c.last_of.result) (ap (λ (k : Kept). k.notes) c.self.view_is)
+    (subst (λ (o : Option ℕ). IsWithin i.noted.items o) (sym is) (last_within i.noted.items i.leads.items c.self.invariant.0.leads c.args.vote.now))

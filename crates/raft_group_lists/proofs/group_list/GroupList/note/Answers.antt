@@ -1,11 +1,12 @@
-use Rattle.std.specs.Prelude.{◌<◌, ℕ, List, Option, Some, length, refl}
-use Rattle.std.proofs.Common.{rules, sym, subst}
+use Rattle.std.specs.Prelude.{◌<◌, ◌≤◌, ℕ, suc, List, Option, Some, length, vec_capacity, refl}
+use Rattle.std.proofs.Common.{rules, ap, sym, subst, arith}
 use Rattle.std.proofs.lemmas.Option.{slice_get_read}
 use Rattle.raft_laws.specs.GroupWorld.{GroupWorld}
 use Rattle.raft_list_laws.specs.Accounts.{AreTrue}
 use Rattle.raft_group_lists.specs.declared.notes.Noted.{Noted}
 use Rattle.raft_group_lists.specs.Notes.{Learns, Notes, accounts_of, notes_of}
 use Rattle.raft_group_lists.specs.Facts.{IsNoteOf}
+use Rattle.raft_group_lists.specs.Room.{HasRoom, Kept, kept_of}
 use Rattle.raft_group_lists.proofs.TruthLemmas.{note_is_true, same_is_true}
 use Rattle.raft_group_lists.proofs.group_list.GroupList.note.Goals as goal
 
@@ -14,10 +15,10 @@ returns-in_err-learn_under-clause-err c =
     let i = c.self.inside in
     let s = notes_of i.voters i.noted.items i.leads.items i.listed.items in
     let next = notes_of i.voters i.noted.items c.learn_under.new.leads.items c.learn_under.new.listed.items in
-    let each : (w : GroupWorld) → AreTrue (accounts_of c.args.self.now) w → AreTrue (accounts_of next) w =
+    let each : (w : GroupWorld) → AreTrue (accounts_of c.args.self.now.notes) w → AreTrue (accounts_of next) w =
     λ w t.
     same_is_true s c.learn_under.new.leads.items c.learn_under.new.listed.items c.in_err-learn_under.ensures.err.0 c.in_err-learn_under.ensures.err.1 w
-    (subst (λ (n : Notes). AreTrue (accounts_of n) w) (sym c.self.view_is) t)
+    (subst (λ (n : Notes). AreTrue (accounts_of n) w) (sym (ap (λ (k : Kept). k.notes) c.self.view_is)) t)
     in
     search (rules, each)
 
@@ -28,10 +29,34 @@ returns-clause-truth c =
     let leads = c.learn_under.new.leads.items in
     let listed = c.learn_under.new.listed.items in
     let x = c.index.result.now in
-    let inside = subst (λ (n : Notes). c.args.last < length n.noted) (sym c.self.view_is) c.requires in
+    let inside = subst (λ (n : Notes). c.args.last < length n.noted) (sym (ap (λ (k : Kept). k.notes) c.self.view_is)) c.requires in
     let there = slice_get_read i.noted.items (length i.noted.items) c.args.last x refl inside c.index.ensures in
     let read = subst (λ (ns : List Noted). Learns (notes_of i.voters ns i.leads.items i.listed.items) c.args.node c.args.vote (Some c.args.last) c.own_place-place.result (notes_of i.voters ns leads listed)) c.as_slice.ensures.value c.in_ok-learn_under.ensures.ok in
     let learns = subst (λ (place : Option ℕ). Learns s c.args.node c.args.vote (Some c.args.last) place (notes_of i.voters i.noted.items leads listed)) c.own_place-place.ensures read in
     λ w l list t is fronts.
-    note_is_true s leads listed c.args.node c.args.vote c.args.last x there learns l (subst (λ (n : Notes). IsNoteOf n c.args.node c.args.vote c.args.last l) (sym c.self.view_is) is) w list
-    (subst (λ (n : Notes). AreTrue (accounts_of n) w) (sym c.self.view_is) t) fronts
+    note_is_true s leads listed c.args.node c.args.vote c.args.last x there learns l (subst (λ (n : Notes). IsNoteOf n c.args.node c.args.vote c.args.last l) (sym (ap (λ (k : Kept). k.notes) c.self.view_is)) is) w list
+    (subst (λ (n : Notes). AreTrue (accounts_of n) w) (sym (ap (λ (k : Kept). k.notes) c.self.view_is)) t) fronts
+
+pub returns-in_err-learn_under-clause-room : goal.returns-in_err-learn_under-clause-room
+returns-in_err-learn_under-clause-room c =
+    let i = c.self.inside in
+    λ writes learns has.
+    let h = subst (λ (k : Kept). HasRoom k writes (suc learns)) (sym c.self.view_is) has in
+    let places = h.listed in
+    let size = ap length c.as_slice.ensures.value in
+    let fits : length c.as_slice.result.now ≤ vec_capacity i.listed = omega arith in
+    let no = (c.in_err-learn_under.ensures.room learns fits h.learned).0 in
+    absurd (cc)
+
+pub returns-clause-room : goal.returns-clause-room
+returns-clause-room c =
+    let i = c.self.inside in
+    λ writes learns has.
+    let h = subst (λ (k : Kept). HasRoom k writes (suc learns)) (sym c.self.view_is) has in
+    let places = h.listed in
+    let size = ap length c.as_slice.ensures.value in
+    let fits : length c.as_slice.result.now ≤ vec_capacity i.listed = omega arith in
+    let learned = (c.learn_under.ensures.room learns fits h.learned).1 in
+    let grown = c.learn_under.ensures.capacity in
+    let room : HasRoom (kept_of i.voters i.noted c.learn_under.new.leads c.learn_under.new.listed c.learn_under.new.spares) writes learns = record { noted = h.noted; listed = omega arith; learned = learned } in
+    (refl, room)
