@@ -1,25 +1,22 @@
 -- What is left of files.
-use Rattle.std.proofs.Common.{◌≡◌, ◌⊎◌, inl, inr, ℕ, ◌+◌, ◌-◌, ◌^◌, ◌≤◌, min, Bool, true, false, cond, not, nat_lt, eqb, List, [], ◌∷◌, ◌++◌, length, take, drop, Option, Some, None, Result, Ok, Err, refl, sym, ap, subst, ◌∙◌, arith, append_assoc, length-drop}
+use Rattle.std.proofs.Common.{◌≡◌, ◌⊎◌, inl, inr, ℕ, ◌+◌, ◌-◌, ◌^◌, min, List, [], ◌∷◌, ◌++◌, length, Option, Some, None, Result, Ok, Err, refl, sym, ap, subst, ◌∙◌, arith, append_assoc}
 use Rattle.std.specs.Prelude.{map, IsSome, option_to_list}
-use Rattle.std.specs.Int.{w64, from_be_bytes}
-use Rattle.std.specs.List.{AllByRecursion, flat_map}
+use Rattle.std.specs.List.{AllByRecursion}
 use Rattle.std.specs.Option.{option_map}
-use Rattle.std.proofs.lemmas.Bool.{false≢true, ltb-false}
-use Rattle.std.proofs.lemmas.List.{append-nil}
+use Rattle.std.proofs.lemmas.Bool.{false≢true}
 use Rattle.raft_log_records.specs.declared.error.RecordFault.{RecordFault}
 use Rattle.raft_log_records.specs.declared.file_id.FileId.{FileId}
 use Rattle.raft_log_records.specs.declared.item.LogItem.{LogItem}
-use Rattle.raft_log_records.specs.declared.version.Version.TheVariants.{V1, V2}
 use Rattle.raft_log_records.specs.Item.{item_of, items_of}
 use Rattle.raft_log_disk.specs.declared.fault.IoFault.{IoFault}
 use Rattle.raft_log_disk.specs.declared.fault.IoFault.TheVariants as io
 use Rattle.raft_log_disk.specs.declared.format.HeaderFault.{HeaderFault}
-use Rattle.raft_log_disk.specs.declared.format.HeaderFault.TheVariants.{CutShort, NoHeader, BadVersion}
+use Rattle.raft_log_disk.specs.declared.format.HeaderFault.TheVariants.{CutShort}
 use Rattle.raft_log_disk.specs.declared.format.LogFileFormat.{LogFileFormat}
 use Rattle.raft_log_disk.specs.Cause.{HasCause, Meter}
 use Rattle.raft_log_disk.specs.Disk.{Disk, fd_of}
-use Rattle.raft_log_disk.specs.Format.{header_at, header_len, magic, versioned}
-use Rattle.raft_log_disk.specs.Text.{Text, same_text}
+use Rattle.raft_log_disk.specs.Format.{header_at, header_len}
+use Rattle.raft_log_disk.specs.Text.{Text}
 use Rattle.raft_log_files.specs.declared.error.CorruptionFault.{CorruptionFault}
 use Rattle.raft_log_files.specs.declared.error.CorruptionFault.TheVariants.{Header, Record, NoSuchFile}
 use Rattle.raft_log_files.specs.declared.error.Error.{Error}
@@ -32,10 +29,11 @@ use Rattle.raft_log_file.specs.Errors.{IsNextFault, IsOpenFault, IsReadFault, Pa
 use Rattle.raft_log_file.specs.Reader.{FailsNext, HoldsBytes, IsReader, Next, bytes_in, left}
 use Rattle.raft_log_file.specs.Reading.{Reading, read_behind, read_or, stopped}
 use Rattle.raft_log_recovery.specs.Repair.{record_fault}
+use Rattle.raft_log_recovery.proofs.CorruptLemmas.{open_sound}
 use Rattle.raft_log_recovery.proofs.RepairLemmas.{batches_by, no_reading, reading_of}
 use Rattle.raft_log_items.specs.declared.found.LogFile.{LogFile}
 use Rattle.raft_log_items.specs.declared.reader.LogItemReader.{LogItemReader}
-use Rattle.raft_log_items.specs.Found.{Found, found_of}
+use Rattle.raft_log_items.specs.Found.{found_of}
 use Rattle.raft_log_items.specs.Items.{Fails, FileItems, IsRead, IsRefused, IsUnopened, IsUnread, NextItem, NextOfFile, Passes, StandsAt, current, file_items, files_left, items_at, items_in, nothing, with_item}
 
 -- ---- the file that is read
@@ -127,41 +125,6 @@ unopened d path old new io.Refused e is cause = inr (inr (is, cause.refused))
 unopened d path old new io.NoSpace e is cause = absurd (cause.no_space refl)
 unopened d path old new io.NotFound e is cause = inl (is, cause.not_found refl)
 
--- a header is there only where its bytes are
-cond_ok : {A E : Type 0} (t : Bool) (e : E) (r : Result A E) (x : A) → cond t (Err e) r ≡ Ok x → (t ≡ false) × (r ≡ Ok x)
-cond_ok true e r x is = absurd (clash is)
-  where
-    clash : Err e ≡ Ok x → ⊥
-    clash wrong = cc
-cond_ok false e r x is = (refl, is)
-
-abbrev len_by : Result LogFileFormat HeaderFault → ℕ
-len_by r = read_or (λ (f : LogFileFormat). header_len f.version) (λ (f : HeaderFault). 0) r
-
-header_within : (bytes : List ℕ) (format : LogFileFormat) → header_at bytes ≡ Ok format → header_len format.version ≤ length bytes
-header_within bytes format is =
-    let first = cond_ok (nat_lt (length bytes) 61) CutShort _ format is in
-    let second = cond_ok (not (same_text (take 53 bytes) magic)) NoHeader _ format first.1 in
-    by_version (eqb v 1) (ltb-false (length bytes) 61 first.0) second.1
-  where
-    v : ℕ
-    v = from_be_bytes w64 (take 8 (drop 53 bytes))
-
-    rest : List ℕ
-    rest = drop 61 bytes
-
-    second_version : Result LogFileFormat HeaderFault
-    second_version = cond (not (eqb v 2)) (Err BadVersion) (cond (nat_lt (length rest) 8) (Err CutShort) (Ok (record { version = V2; alignment = from_be_bytes w64 (take 8 rest) })))
-
-    by_version : (t : Bool) → 61 ≤ length bytes → cond t (Ok (record { version = V1; alignment = 0 })) second_version ≡ Ok format → header_len format.version ≤ length bytes
-    by_version true long so = let len : 61 ≡ header_len format.version = ap len_by so in omega (arith, len, long)
-    by_version false long so =
-        let third = cond_ok (not (eqb v 2)) BadVersion _ format so in
-        let fourth = cond_ok (nat_lt (length rest) 8) CutShort _ format third.1 in
-        let len : 69 ≡ header_len format.version = ap len_by fourth.1 in
-        let more : 8 ≤ length rest = ltb-false (length rest) 8 fourth.0 in
-        omega (arith, len, more, length-drop 61 bytes)
-
 abbrev fault_by : Result Reading HeaderFault → Option CorruptionFault
 fault_by r = read_or (λ (x : Reading). record_fault x.fault) (λ (f : HeaderFault). Some (Header f)) r
 
@@ -193,7 +156,7 @@ not_begun d m id fd EntryNotFound is = inr is
 
 -- of a file with a header only reads fail
 pub only_unread : (d : Disk) (m : Meter) (fd : ℕ) (format : LogFileFormat) (e : Error) → header_at (d.file fd).bytes ≡ Ok format → IsOpenFault d m fd format e → IsReadFault d m fd e
-only_unread d m fd format e told (inl cut) = absurd (omega (arith, header_within (d.file fd).bytes format told, cut.1))
+only_unread d m fd format e told (inl cut) = absurd (open_sound d m fd format (Header CutShort) told (inl (refl, cut.1)))
 only_unread d m fd format e told (inr unread) = unread
 
 -- why a file fails of which a number is known
