@@ -1,5 +1,5 @@
 -- The files' numbers rise, through all changes of names, so one is found by halving.
-use Rattle.std.proofs.Common.{◌≡◌, ◌≢◌, ℕ, zero, suc, ◌+◌, ◌<◌, ◌≤◌, Bool, true, false, cond, inl, inr, List, [], ◌∷◌, ◌++◌, length, get_or, Option, Some, None, Result, Ok, Err, refl, sym, ap, ◌∙◌, arith}
+use Rattle.std.proofs.Common.{◌≡◌, ◌≢◌, ℕ, zero, suc, ◌+◌, ◌-◌, ◌<◌, ◌≤◌, Bool, true, false, cond, inl, inr, List, [], ◌∷◌, ◌++◌, length, get_or, Option, Some, None, Result, Ok, Err, refl, sym, ap, ◌∙◌, arith}
 use Rattle.std.specs.Prelude.{nat_lt, ◌&&◌, ◌==◌, slice_set, remove}
 use Rattle.std.specs.List.{list_all}
 use Rattle.std.specs.List.Sorted.{IsSearchInRange, IsBinarySearchResult, IsNonDecreasingBy}
@@ -136,9 +136,16 @@ no_place (f ∷ fs) number from none =
     ap (λ b. cond b (Some from) (place_of fs number (from + 1))) (ne_eqb f.number number (none 0 f (omega arith)))
     ∙ no_place fs number (from + 1) (λ k d lt. none (suc k) d (omega arith))
 
+place_there : (fs : List MemoryFile) (number k : ℕ) (d : MemoryFile) → are_rising (names_of fs) ≡ true → k < length fs → number_at fs k d ≡ number → Some k ≡ place_of fs number 0
+place_there fs number k d h lt is = let from_front : k ≡ 0 + k = omega arith in ap Some from_front ∙ sym (place_at fs number k 0 d h lt is)
+
+-- the newest file has the last place
+pub newest : (fs : List MemoryFile) (number : ℕ) (f : MemoryFile) → are_rising (names_of fs) ≡ true → 1 ≤ length fs → f ≡ get_or fs (length fs - 1) f → f.number ≡ number → Some (length fs - 1) ≡ place_of fs number 0
+newest fs number f h some is same = place_there fs number (length fs - 1) f h (omega arith) (ap (λ (g : MemoryFile). g.number) (sym is) ∙ same)
+
 some_place : (fs : List MemoryFile) (number k : ℕ) → are_rising (names_of fs) ≡ true → k < length fs → ((d : MemoryFile) → nat_cmp (number_at fs k d) number ≡ Equal) → Some k ≡ place_of fs number 0
 some_place [] number k h lt same = absurd (omega arith)
-some_place (f ∷ fs) number k h lt same = let from_front : k ≡ 0 + k = omega arith in ap Some from_front ∙ sym (place_at (f ∷ fs) number k 0 f h lt (ranked _ number _ (sym (same f))))
+some_place (f ∷ fs) number k h lt same = place_there (f ∷ fs) number k f h lt (ranked _ number _ (sym (same f)))
 
 -- a search by halving finds the place of the number
 pub halved : (fs : List MemoryFile) (number : ℕ) (r : Result ℕ ℕ) → are_rising (names_of fs) ≡ true → IsSearchInRange r (length fs) → IsBinarySearchResult (λ f. nat_cmp f.number number) fs r → result_ok r ≡ place_of fs number 0

@@ -8,12 +8,15 @@ ghost use Rattle.raft_log_disk.specs.Memory.{are_rising, texts_of, names_of, pla
 use crate::memory_file::MemoryFile;
 use std::alloc::{AllocError, Global};
 
-/// The place of the file of a number, found by halving.
+/// The place of the file of a number: the newest one's at once, others' by halving.
 pub fn find_number(files: &[MemoryFile], number: u64) -> Option<usize>
     requires { IsTrue (are_rising (names_of files.now)) }
     ensures { result ≡ place_of files.now number 0 }
 {
-    files.binary_search_by_key(&number, |file| file.number).ok()
+    match files {
+        [.., newest] if newest.number == number => Some(files.len() - 1),
+        _ => files.binary_search_by_key(&number, |file| file.number).ok(),
+    }
 }
 
 /// The place of the file of a path.
