@@ -1,20 +1,22 @@
 //! Appends to a file in memory so often that the instructions of an append can be counted.
 //!
-//! Each line of the input is a task such as `128 0 1000`: the bytes of an append, the bytes that
-//! stand in the file before the first one, and how many appends there are. After each append the
-//! file is synced. The answer is the file's size at the end.
+//! Each line of the input is a task such as `128 0 1000 40`: the bytes of an append, the bytes that
+//! stand in the file before the first one, how many appends there are, and how many other files were
+//! made before, none where that is left out. After each append the file is synced. The answer is the
+//! file's size at the end.
 #![tactic(auto)]
 
 use raft_log_disk::{Fd, FileSystem, IoFault, MemoryFileSystem, Permission};
 use std::alloc::Global;
 use std::io;
 
-/// How many bytes are appended, to how many, and how often.
+/// How many bytes are appended, to how many, how often, and among how many other files.
 #[derive(Clone, Copy, Debug)]
 struct Task {
     len: usize,
     before: u64,
     rounds: u32,
+    others: u32,
 }
 
 fn parse(line: &str) -> Option<Task> {
@@ -22,10 +24,15 @@ fn parse(line: &str) -> Option<Task> {
     let len = words.next()?.parse().ok()?;
     let before = words.next()?.parse().ok()?;
     let rounds = words.next()?.parse().ok()?;
+    let others = match words.next() {
+        None => 0,
+        Some(word) => word.parse().ok()?,
+    };
     Some(Task {
         len,
         before,
         rounds,
+        others,
     })
 }
 
@@ -45,6 +52,10 @@ fn append(files: &mut MemoryFileSystem, fd: Fd, bytes: &[u8]) -> Result<(), IoFa
 
 fn run(alloc: Global, task: Task) -> Result<u64, IoFault> {
     let mut files = MemoryFileSystem::new(alloc);
+    for number in 0..task.others {
+        let path = format!(in alloc; "raft/{number:016}.rewrite")?;
+        let _ = made(&mut files, path.as_str())?;
+    }
     let fd = made(&mut files, "raft/0000000000000001.raftlog")?;
     files.truncate(fd, task.before)?;
     files.sync(fd)?;

@@ -6,7 +6,7 @@ use Rattle.std.specs.String.{string_bytes}
 use Rattle.std.proofs.lemmas.Bool.{eq-eqb, ne_eqb, eqb-true, eqb-false, or_parts}
 use Rattle.raft_log_disk.specs.declared.memory_file.MemoryFile.{MemoryFile}
 use Rattle.raft_log_disk.specs.Text.{Text, same_text}
-use Rattle.raft_log_disk.specs.Disk.{FileState, Disk, IsIn, IsNoFile, after_create, listed, HasOneOf, are_named, fd_of, without, moved, no_bytes, with_file, after_write, after_allocate, after_truncate, Torn, PartlyFilled, PartlyTruncated, RefusedWrite, RefusedAllocate, RefusedTruncate}
+use Rattle.raft_log_disk.specs.Disk.{FileState, Disk, IsIn, IsNoFile, Deletes, after_create, listed, HasOneOf, are_named, fd_of, without, moved, no_bytes, with_file, after_write, after_allocate, after_truncate, Torn, PartlyFilled, PartlyTruncated, RefusedWrite, RefusedAllocate, RefusedTruncate}
 use Rattle.raft_log_disk.specs.Memory.{state_of, names_of, texts_of, file_of, disk_of, place_of, place_of_path}
 use Rattle.raft_log_disk.specs.Place.{IsPlace, IsPathPlace}
 use Rattle.raft_log_disk.proofs.NamedLemmas.{IsNamedFirst, named_first, named_push, named_without, named_moved, next_free, has_number, number_in, one_path}
@@ -151,7 +151,7 @@ same_at file number n = go (eqb n number) refl
     go true e = ap file (sym (eqb-true n number e))
     go false e = refl
 
-set_names : (fs : List MemoryFile) (number i : ℕ) (old s : MemoryFile) → IsPlace fs number i → old ≡ get_or fs i old → s.number ≡ old.number → s.path ≡ old.path → names_of (slice_set fs i s) ≡ names_of fs
+pub set_names : (fs : List MemoryFile) (number i : ℕ) (old s : MemoryFile) → IsPlace fs number i → old ≡ get_or fs i old → s.number ≡ old.number → s.path ≡ old.path → names_of (slice_set fs i s) ≡ names_of fs
 set_names fs number i old s p is n q = p.names s old (n ∙ ap (λ (f : MemoryFile). f.number) is ∙ p.numbered old) (q ∙ ap (λ (f : MemoryFile). f.path) is)
 
 pub still_named : (fs : List MemoryFile) (number i next : ℕ) (old s : MemoryFile) → are_named (names_of fs) next ≡ true → IsPlace fs number i → old ≡ get_or fs i old → s.number ≡ old.number → s.path ≡ old.path → are_named (names_of (slice_set fs i s)) next ≡ true
@@ -198,7 +198,7 @@ still_moved fs from to i next old s h p is n q none =
 pub still_without : (fs gs : List MemoryFile) (path : Text) (i next : ℕ) → are_named (names_of fs) next ≡ true → IsPathPlace fs path i → gs ≡ remove fs i → are_named (names_of gs) next ≡ true
 still_without fs gs path i next h p is = ap (λ l. are_named (names_of l) next) is ∙ ap (λ (es : List (Text × ℕ)). are_named es next) p.gone ∙ named_without (names_of fs) path next h
 
-names_pushed : (fs gs : List MemoryFile) (f : MemoryFile) (path : Text) (number : ℕ) → gs ≡ fs ++ f ∷ [] → f.number ≡ number → string_bytes f.path ≡ path → names_of gs ≡ names_of fs ++ (path, number) ∷ []
+pub names_pushed : (fs gs : List MemoryFile) (f : MemoryFile) (path : Text) (number : ℕ) → gs ≡ fs ++ f ∷ [] → f.number ≡ number → string_bytes f.path ≡ path → names_of gs ≡ names_of fs ++ (path, number) ∷ []
 names_pushed fs gs f path number is n p = ap names_of is ∙ map-append (λ (f : MemoryFile). (string_bytes f.path, f.number)) fs (f ∷ []) ∙ (λ i. names_of fs ++ (p i, n i) ∷ [])
 
 pub still_pushed : (fs gs : List MemoryFile) (f : MemoryFile) (path : Text) (next : ℕ) → are_named (names_of fs) next ≡ true → gs ≡ fs ++ f ∷ [] → f.number ≡ next → string_bytes f.path ≡ path → fd_of (names_of fs) path ≡ None → are_named (names_of gs) (next + 1) ≡ true
@@ -220,6 +220,18 @@ created directories fs gs f path next h is n p empty =
       file = λ m. (ap (λ l. file_of l m) is ∙ file_pushed fs f m free empty ∙ ap (λ k. cond (eqb m k) no_bytes (file_of fs m)) n) j;
       next = next + 1;
     }
+
+pub deleted : (directories : List (String Global)) (fs gs : List MemoryFile) (path : Text) (i next : ℕ) (old : MemoryFile) → IsPathPlace fs path i → gs ≡ remove fs i → Deletes (disk_of directories fs next) (disk_of directories gs next) path
+deleted directories fs gs path i next old p is = (
+  (get_or fs i old).number,
+  p.found old,
+  λ j. record {
+    directories = texts_of directories;
+    names = (ap names_of is ∙ p.gone) j;
+    file = λ n. (ap (λ l. file_of l n) is ∙ p.gone_file old n) j;
+    next = next;
+  },
+)
 
 -- ---- lists of names
 

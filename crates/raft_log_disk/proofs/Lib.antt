@@ -12,6 +12,7 @@ pub mod MemoryLemmas
 pub mod NameLemmas
 pub mod NamedLemmas
 pub mod RecoverableLemmas
+pub mod RisingLemmas
 pub mod RoomLemmas
 pub mod RefusalLemmas
 pub mod TextLemmas

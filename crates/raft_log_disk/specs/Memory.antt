@@ -1,6 +1,7 @@
 -- What a file system in memory stands for.
 use Rattle.std.specs.Prelude.{◌≡◌, ℕ, ◌+◌, ◌-◌, ◌^◌, List, [], ◌∷◌, ◌++◌, map, take, drop, length, sum_by, Vec, String, Option}
-use Rattle.std.specs.Prelude.{Some, None, is_some, false, ◌==◌, if◌then◌else◌}
+use Rattle.std.specs.Prelude.{Some, None, is_some, Bool, true, false, nat_lt, ◌&&◌, ◌==◌, if◌then◌else◌}
+use Rattle.std.specs.List.{list_all}
 use Rattle.std.specs.String.{string_bytes}
 use Rattle.std.specs.declared.alloc.Global.{Global}
 use Rattle.raft_log_disk.specs.declared.memory_file.MemoryFile.{MemoryFile}
@@ -21,6 +22,11 @@ texts_of texts = map string_bytes texts
 
 abbrev pub names_of : List MemoryFile → List (Text × ℕ)
 names_of files = map (λ f. (string_bytes f.path, f.number)) files
+
+-- a test: the numbers rise
+abbrev pub are_rising : List (Text × ℕ) → Bool
+are_rising [] = true
+are_rising (e ∷ es) = list_all (λ other. nat_lt e.1 other.1) es && are_rising es
 
 -- the file of a number
 abbrev pub file_of : List MemoryFile → ℕ → FileState

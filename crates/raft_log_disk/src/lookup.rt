@@ -3,21 +3,20 @@
 ghost use Rattle.std.specs.Prelude.{◌≡◌, ◌++◌, OnOk, option_to_list, ◌+◌, ◌-◌, length, take, drop, map, option_map, Option, IfOk, IsTrue, is_some};
 ghost use Rattle.raft_log_disk.specs.Text.{has_slash, name_in};
 ghost use Rattle.raft_log_disk.specs.Disk.{IsIn, HasDirectory, fd_of};
-ghost use Rattle.raft_log_disk.specs.Memory.{texts_of, names_of, place_of, place_of_path};
+ghost use Rattle.raft_log_disk.specs.Memory.{are_rising, texts_of, names_of, place_of, place_of_path};
 
 use crate::memory_file::MemoryFile;
 use std::alloc::{AllocError, Global};
 
-/// The place of the file of a number.
+/// The place of the file of a number: the newest one's at once, others' by halving.
 pub fn find_number(files: &[MemoryFile], number: u64) -> Option<usize>
+    requires { IsTrue (are_rising (names_of files.now)) }
     ensures { result ≡ place_of files.now number 0 }
 {
-    for (i, file) in files.iter().enumerate() {
-        if file.number == number {
-            return Some(i);
-        }
+    match files {
+        [.., newest] if newest.number == number => Some(files.len() - 1),
+        _ => files.binary_search_by_key(&number, |file| file.number).ok(),
     }
-    None
 }
 
 /// The place of the file of a path.

@@ -3,7 +3,7 @@
 ghost use Rattle.std.specs.Prelude.{◌≡◌, ◌-◌, ◌^◌, List, ℕ, ◌<◌, IsTrue, OnOk, OnErr, MatchOption, None, length, false, is_some};
 ghost use Rattle.raft_log_disk.specs.Text.{same_text};
 ghost use Rattle.raft_log_disk.specs.Disk.{are_named, fd_of, IsNoFile, LacksRoom};
-ghost use Rattle.raft_log_disk.specs.Memory.{names_of, room_of};
+ghost use Rattle.raft_log_disk.specs.Memory.{are_rising, names_of, room_of};
 ghost use Rattle.raft_log_disk.specs.Place.{IsPlace, IsPathPlace};
 
 use crate::fuse::Fuse;
@@ -25,6 +25,7 @@ pub struct MemoryFileSystem {
     pub(crate) spaces: Vec<Space>,
     pub(crate) fuse: Fuse,
     ghost named: { IsTrue (are_named (names_of files.items) next) },
+    ghost rising: { IsTrue (are_rising (names_of files.items)) },
 }
 
 impl MemoryFileSystem {
