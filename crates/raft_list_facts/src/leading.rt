@@ -1,0 +1,45 @@
+//! What a leader tells of its list.
+ghost use Rattle.std.specs.Prelude.{◌≡◌};
+ghost use Rattle.raft_state.specs.LogIdList.{PlacesRise, ids_of};
+ghost use Rattle.raft_list_facts.specs.Leads.{before_own};
+
+use raft_state::{LeaderId, LogId, Vote};
+
+/// What a leader took over (own): the list before its first own entry.
+#[derive(Clone, Copy, Debug, PartialEq, Eq)]
+pub enum Base {
+    /// Nothing: its first entry is the first of all.
+    Nothing,
+    /// All up to this log id.
+    UpTo(LogId<u64>),
+    /// It can't be told: it is purged, or no entry is the leader's own.
+    Unknown,
+}
+
+/// A node that leads a group (own).
+#[derive(Clone, Copy, Debug, PartialEq, Eq)]
+pub struct Leading {
+    /// Its vote.
+    pub vote: Vote<u64>,
+    /// The last log id of its log, purged or not.
+    pub last: Option<LogId<u64>>,
+    /// What it took over.
+    pub base: Base,
+}
+
+/// What stands before the leader's first log id among those that the keys tell, where this stands before all of them.
+pub fn base_among(keys: &[LogId<u64>], leader: &LeaderId<u64>, first: Base) -> Base
+    requires { PlacesRise keys.now }
+    ensures { result ≡ before_own leader.now first (ids_of keys.now) }
+{
+    let mut before = first;
+    for (at, key) in keys.iter().enumerate() {
+        if key.leader_id == *leader {
+            return before;
+        }
+        if let Some(next) = keys.get(at + 1) {
+            before = Base::UpTo(LogId::new(key.leader_id, next.index - 1));
+        }
+    }
+    Base::Unknown
+}
