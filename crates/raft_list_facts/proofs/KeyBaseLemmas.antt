@@ -1,7 +1,8 @@
 -- What stands before a leader's first log id, among the log ids that keys tell.
-use Rattle.std.specs.Prelude.{◌≡◌, ℕ, zero, suc, ◌+◌, ◌-◌, ◌<◌, nat_lt, if◌then◌else◌, Bool, true, false, List, [], ◌∷◌, ◌++◌, map, length, drop, Option, Some, None, refl}
+use Rattle.std.specs.Prelude.{◌≡◌, ℕ, zero, suc, ◌+◌, ◌-◌, ◌<◌, ◌≤◌, if◌then◌else◌, Bool, true, false, List, [], ◌∷◌, ◌++◌, map, length, drop, Option, Some, None, refl}
 use Rattle.std.specs.List.{slice_get, range_with_len}
 use Rattle.std.proofs.Common.{sym, ap, ◌∙◌, arith, get_or}
+use Rattle.std.proofs.lemmas.Option.{slice_get_past}
 use Rattle.raft_values.specs.declared.vote.LeaderId.{LeaderId}
 use Rattle.raft_values.specs.declared.log_id.LogId.{LogId}
 use Rattle.raft_state.proofs.KeyEndLemmas.{end_above}
@@ -40,7 +41,7 @@ run_up_to leader own b start end rest l =
     ∙ run_of leader own b start (end - start - 1) rest (leader_eq own leader) refl
     ∙ ap (λ k. if leader_eq own leader then b else before_own leader (UpTo (record { leader_id = own; index = k })) rest) at
 
--- what stands before the next key, behind another leader's one
+-- what stands before the next key, if there is one, behind another leader's one
 abbrev pub behind_key : Base → LogId ℕ → Option (LogId ℕ) → Base
 behind_key b key None = b
 behind_key b key (Some next) = UpTo (record { leader_id = key.leader_id; index = next.index - 1 })
@@ -85,3 +86,16 @@ if_own false b x e = cc
 pub if_another : (is : Bool) (b x : Base) → false ≡ is → (if is then b else x) ≡ x
 if_another true b x e = cc
 if_another false b x e = refl
+
+-- what stands before the next key, if there is one
+key_there : (keys : List (LogId ℕ)) (i : ℕ) (d : LogId ℕ) → i < length keys → slice_get keys i ≡ Some (get_or keys i d)
+key_there [] i d l = absurd (omega arith)
+key_there (x ∷ keys) zero d l = refl
+key_there (x ∷ keys) (suc i) d l = key_there keys i d (omega arith)
+
+pub behind_within : (b : Base) (key : LogId ℕ) (keys : List (LogId ℕ)) (i : ℕ) (d : LogId ℕ) → i < length keys
+    → behind_key b key (slice_get keys i) ≡ UpTo (record { leader_id = key.leader_id; index = (get_or keys i d).index - 1 })
+behind_within b key keys i d l = ap (behind_key b key) (key_there keys i d l)
+
+pub behind_last : (b : Base) (key : LogId ℕ) (keys : List (LogId ℕ)) (i : ℕ) → length keys ≤ i → behind_key b key (slice_get keys i) ≡ b
+behind_last b key keys i past = ap (behind_key b key) (slice_get_past keys i past)

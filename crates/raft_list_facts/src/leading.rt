@@ -37,8 +37,9 @@ pub fn base_among(keys: &[LogId<u64>], leader: &LeaderId<u64>, first: Base) -> B
         if key.leader_id == *leader {
             return before;
         }
-        if let Some(next) = keys.get(at + 1) {
-            before = Base::UpTo(LogId::new(key.leader_id, next.index - 1));
+        if at + 1 < keys.len() {
+            let next = keys[at + 1].index;
+            before = Base::UpTo(LogId::new(key.leader_id, next - 1));
         }
     }
     Base::Unknown

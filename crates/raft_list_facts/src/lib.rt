@@ -3,7 +3,7 @@
 
 mod acceptance;
 mod leading;
-
+pub mod rows;
 
 pub use acceptance::{Acceptance, accepted_in};
 pub use leading::{Base, Leading, base_among};
