@@ -10,7 +10,7 @@ use Rattle.raft_state.specs.LogIdList.{leader_ids, end_of_key, ids_of, IsBelowNe
 use Rattle.raft_group_step.specs.Values.{leader_eq}
 use Rattle.raft_list_facts.specs.Leads.{before_own}
 use Rattle.raft_list_facts.specs.declared.leading.Base.{Base}
-use Rattle.raft_list_facts.specs.declared.leading.Base.TheVariants.{UpTo, Unknown}
+use Rattle.raft_list_facts.specs.declared.leading.Base.TheVariants.{UpTo}
 
 -- so many log ids of one leader, from a place on
 abbrev run : LeaderId ℕ → ℕ → ℕ → List (LogId ℕ)

@@ -1,9 +1,12 @@
 //! What a leader tells of its list.
 ghost use Rattle.std.specs.Prelude.{◌≡◌};
+ghost use Rattle.raft_group_step.specs.StoredGroup.{StoredGroup};
+ghost use Rattle.raft_known_state.specs.KnownState.{Knows};
 ghost use Rattle.raft_state.specs.LogIdList.{PlacesRise, ids_of};
-ghost use Rattle.raft_list_facts.specs.Leads.{before_own};
+ghost use Rattle.raft_list_facts.specs.Leads.{base_of, before_all, before_own};
 
-use raft_state::{LeaderId, LogId, Vote};
+use raft_known_state::KnownState;
+use raft_state::{BasicNode, LeaderId, LogId, Vote};
 
 /// What a leader took over (own): the list before its first own entry.
 #[derive(Clone, Copy, Debug, PartialEq, Eq)]
@@ -27,8 +30,9 @@ pub struct Leading {
     pub base: Base,
 }
 
-/// What stands before the leader's first log id among those that the keys tell, where this stands before all of them.
-pub fn base_among(keys: &[LogId<u64>], leader: &LeaderId<u64>, first: Base) -> Base
+// What stands before the leader's first log id among those that the keys tell, where this stands before
+// all of them.
+fn base_among(keys: &[LogId<u64>], leader: &LeaderId<u64>, first: Base) -> Base
     requires { PlacesRise keys.now }
     ensures { result ≡ before_own leader.now first (ids_of keys.now) }
 {
@@ -43,4 +47,24 @@ pub fn base_among(keys: &[LogId<u64>], leader: &LeaderId<u64>, first: Base) -> B
         }
     }
     Base::Unknown
+}
+
+// What stands before all log ids that are known.
+fn before_all(known: &KnownState<u64, BasicNode>) -> Base
+    ensures { (s : StoredGroup) → Knows known.now s → result ≡ before_all s.purged }
+{
+    if known.first_place() == 0 {
+        Base::Nothing
+    } else {
+        Base::Unknown
+    }
+}
+
+/// What the leader of the vote took over, of a stored group of which this is known.
+pub fn base_of(known: &KnownState<u64, BasicNode>) -> Base
+    ensures { (s : StoredGroup) → Knows known.now s → result ≡ base_of s }
+{
+    let leader = known.state.vote.get().leader_id;
+    let keys = known.state.log_ids.key_log_ids();
+    base_among(keys, &leader, before_all(known))
 }

@@ -6,4 +6,4 @@ mod leading;
 pub mod rows;
 
 pub use acceptance::{Acceptance, accepted_in};
-pub use leading::{Base, Leading, base_among};
+pub use leading::{Base, Leading, base_of};

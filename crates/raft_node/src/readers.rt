@@ -23,7 +23,7 @@ use crate::node::Node;
 use raft_applier::Applier;
 use raft_engine::Engine;
 use raft_group_storage::GroupStorage;
-use raft_list_facts::{Base, Leading, base_among};
+use raft_list_facts::{Leading, base_of};
 use raft_machines::StateMachine;
 use raft_member::{ByteGroup, Member, facts_of};
 use raft_messages::SnapshotBytes;
@@ -52,19 +52,14 @@ fn part_of(engine: &Engine<ByteGroup>) -> ServerState
 fn leading_by(engine: &Engine<ByteGroup>) -> Option<Leading>
     ensures { (own : _) (s : GroupState) → IsStateOf own engine.now s → result ≡ leading_of s }
 {
-    engine.leader.as_ref()?;
+    if engine.leader.is_none() {
+        return None;
+    }
     let known = &engine.state;
-    let vote = *known.state.vote.get();
-    let first = if known.first_place() == 0 {
-        Base::Nothing
-    } else {
-        Base::Unknown
-    };
-    let keys = known.state.log_ids.key_log_ids();
     Some(Leading {
-        vote,
+        vote: *known.state.vote.get(),
         last: known.last_log_id(),
-        base: base_among(keys, &vote.leader_id, first),
+        base: base_of(known),
     })
 }
 

@@ -1,5 +1,5 @@
 -- The key is the leader's own, or what stands before the next one is known.
-use Rattle.std.proofs.Common.{◌≡◌, ◌+◌, ◌<◌, ◌∙◌, ap, sym, get_or, drop, length, arith}
+use Rattle.std.proofs.Common.{◌+◌, ◌∙◌, ap, sym, get_or, drop, arith}
 use Rattle.raft_values.specs.LogId.{log_id_of}
 use Rattle.raft_state.specs.LogIdList.{ids_of}
 use Rattle.raft_list_facts.specs.Leads.{before_own}
