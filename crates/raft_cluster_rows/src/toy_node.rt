@@ -2,8 +2,8 @@
 ghost use Rattle.std.specs.Prelude.{◌≡◌, None};
 
 use raft_cluster_events::{
-    ClusterNode, CrashChoice, CrashRefusal, GroupCommand, Leading, NodeError, NodeFrame, NodeOutcome,
-    NodeRefusal, Sequence, Stop, StopCause,
+    ClusterNode, CrashChoice, CrashRefusal, GroupCommand, Leading, NodeError, NodeFrame,
+    NodeOutcome, NodeRefusal, Sequence, Stop, StopCause,
 };
 use raft_group_step::GroupCall;
 use raft_machines::{AddingMachine, UnknownTokens, Untold};

@@ -3,8 +3,8 @@ ghost use Rattle.std.specs.Prelude.{◌≡◌, None};
 
 use raft_cluster::{Cluster, ClusterEvent, EventOutcome};
 use raft_cluster_events::{
-    ClusterNode, CrashChoice, CrashRefusal, GroupCommand, Leading, NodeError, NodeOutcome, NodeRefusal,
-    Sequence, Stop, StopCause,
+    ClusterNode, CrashChoice, CrashRefusal, GroupCommand, Leading, NodeError, NodeOutcome,
+    NodeRefusal, Sequence, Stop, StopCause,
 };
 use raft_gate_files::{Gate, GateFiles};
 use raft_log_engine::Engine;
