@@ -1,6 +1,7 @@
 -- What a cluster is promised of a node: what each call makes of it, and is answered.
 use Rattle.std.specs.Prelude.{ℕ, Bool, List, Option, Result}
 use Rattle.raft_group_step.specs.GroupEvent.{GroupCall}
+use Rattle.raft_list_facts.specs.declared.leading.Leading.{Leading}
 use Rattle.raft_cluster_events.specs.declared.event.CrashChoice.{CrashChoice}
 use Rattle.raft_cluster_events.specs.declared.node.NodeOutcome.{NodeOutcome}
 use Rattle.raft_cluster_events.specs.declared.outcome.CrashRefusal.{CrashRefusal}
@@ -36,3 +37,5 @@ pub record NodeActs (N : Type 0) : Type 1 where
   -- the state of the machine that it lends of a group, and the last place that the machine has run; a node that is down or has stopped lends none
   pub machine_of : N → ℕ → Option (List ℕ)
   pub applied_of : N → ℕ → Option ℕ
+  -- what it tells that it leads the group with
+  pub leads : N → ℕ → Option Leading → Type 0

@@ -11,4 +11,5 @@ pub use outcome::{
     CrashRefusal, EventOutcome, GroupOutcome, NodeError, NodeRefusal, Recorded, Stop, StopCause,
     Unsaid,
 };
+pub use raft_list_facts::{Acceptance, Base, Leading};
 pub use raft_sent_frames::{NodeFrame, SentNumber, Sequence};

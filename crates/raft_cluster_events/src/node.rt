@@ -6,6 +6,7 @@ ghost use Rattle.raft_cluster_events.specs.States.{NodeStates};
 
 use crate::event::{CrashChoice, GroupCommand};
 use crate::outcome::{CrashRefusal, NodeError, Stop};
+use raft_list_facts::Leading;
 use raft_machines::{StateMachine, Told};
 use raft_sent_frames::{NodeFrame, Sequence};
 use std::alloc::{AllocError, Global};
@@ -119,4 +120,8 @@ pub trait ClusterNode: Drop {
     /// The last place that the group's machine has run, if any.
     fn applied(&self, group: u64) -> Option<u64>
         ensures tells { result ≡ acts.applied_of self.now group };
+
+    /// What the node has that leads the group; none where it doesn't lead it, or is down or stopped.
+    fn leading(&self, group: u64) -> Option<Leading>
+        ensures leads { acts.leads self.now group result };
 }

@@ -2,8 +2,8 @@
 ghost use Rattle.std.specs.Prelude.{◌≡◌, None};
 
 use raft_cluster_events::{
-    ClusterNode, CrashChoice, CrashRefusal, GroupCommand, NodeError, NodeFrame, NodeOutcome,
-    NodeRefusal, Sequence, Stop, StopCause,
+    ClusterNode, CrashChoice, CrashRefusal, GroupCommand, Leading, NodeError, NodeFrame,
+    NodeOutcome, NodeRefusal, Sequence, Stop, StopCause,
 };
 use raft_group_step::GroupCall;
 use raft_machines::{AddingMachine, UnknownTokens, Untold};
@@ -44,7 +44,11 @@ fn frames_to(alloc: Global, group: u64, peers: &[u64]) -> Result<NodeOutcome, Al
     let mut frames = Sequence::new(alloc);
     for peer in peers {
         let bytes = Bytes::from_slice(alloc, b"abc")?;
-        frames.push(NodeFrame { peer: *peer, bytes })?;
+        frames.push(NodeFrame {
+            peer: *peer,
+            bytes,
+            accepts: None,
+        })?;
     }
     Ok(NodeOutcome {
         group,
@@ -97,6 +101,7 @@ impl ClusterNode for ToyNode {
       closes = λ old new. Unit {0};
       machine_of = λ n group. None;
       applied_of = λ n group. None;
+      leads = λ n group told. told ≡ None;
     } };
 
     ghost states = { record {
@@ -207,6 +212,10 @@ impl ClusterNode for ToyNode {
     }
 
     fn applied(&self, _group: u64) -> Option<u64> {
+        None
+    }
+
+    fn leading(&self, _group: u64) -> Option<Leading> {
         None
     }
 }

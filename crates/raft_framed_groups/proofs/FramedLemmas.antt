@@ -1,8 +1,14 @@
--- One more message is framed; one that isn't is among all of them.
-use Rattle.std.proofs.Common.{◌≡◌, ℕ, Bool, List, [], ◌∷◌, ◌++◌, None, Result, Ok, Err}
+-- One more message is framed; one that isn't is among all of them. What a message accepts is what it says that it accepts.
+use Rattle.std.proofs.Common.{◌≡◌, ℕ, Bool, List, [], ◌∷◌, ◌++◌, None, Result, Ok, Err, ap, sym}
 use Rattle.std.specs.List.{AllZip}
 use Rattle.raft_messages.specs.declared.message.Message.{Message}
 use Rattle.raft_messages.specs.declared.memberships.SnapshotBytes.{SnapshotBytes}
+use Rattle.raft_messages.specs.declared.message.MessageBody.{MessageBody as Body}
+use Rattle.raft_messages.specs.declared.message.MessageBody.TheVariants.{VoteRequest as AsksForVote, VoteReply as AnswersVote, AppendRequest as SendsEntries}
+use Rattle.raft_messages.specs.declared.message.MessageBody.TheVariants.{AppendReply as AnswersEntries, SnapshotRequest as SendsSnapshot, SnapshotReply as AnswersSnapshot}
+use Rattle.raft_group_step.specs.Message.{Message as Said, MessageBody as SaidBody}
+use Rattle.raft_executor.specs.Said.{Says, SaysBody}
+use Rattle.raft_list_facts.specs.Accepting.{accepted_by, accepted_in}
 use Rattle.raft_wire.specs.Frames.{fault_of_frame}
 use Rattle.raft_wire.specs.Writing.{Writes}
 use Rattle.raft_wire.specs.declared.error.FrameError.{FrameError}
@@ -36,6 +42,17 @@ pub not_framed : (group : ℕ) (m : Message SnapshotBytes) (bytes : List ℕ) (w
 not_framed group m bytes (frame_error.Fault f) h = h
 not_framed group m bytes frame_error.StreamFailed h = h
 not_framed group m bytes frame_error.Memory h = tt
+
+body_accepts : {X : Type 0} (stands : X → Snapshot → Type 0) (body : Body X) (said : SaidBody) → SaysBody stands body said → accepted_by body ≡ accepted_in said
+body_accepts stands (AsksForVote request) said is = ap accepted_in (sym is)
+body_accepts stands (AnswersVote answer) said is = ap accepted_in (sym is)
+body_accepts stands (SendsEntries m) said is = ap accepted_in (sym is)
+body_accepts stands (AnswersEntries m) said is = ap accepted_in (sym is)
+body_accepts stands (SendsSnapshot vote id x) said (y, same, is) = ap accepted_in (sym is)
+body_accepts stands (AnswersSnapshot m) said is = ap accepted_in (sym is)
+
+pub says_what_it_accepts : {X : Type 0} (stands : X → Snapshot → Type 0) (m : Message X) (said : Said) → Says stands m said → accepted_by m.body ≡ accepted_in said.body
+says_what_it_accepts stands m said says = body_accepts stands m.body said.body says.2
 
 -- of an event that has ended only what it sends can be lost
 abbrev pub IsUnsent : {F : Type 0} → AnswerError F → Type 0

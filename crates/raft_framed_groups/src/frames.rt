@@ -3,6 +3,7 @@ ghost use Rattle.std.specs.Prelude.{IfErr, IfOk};
 ghost use Rattle.std.specs.List.{AllZip};
 ghost use Rattle.raft_framed_groups.specs.Frames.{AnyNotFramed, IsFramed, IsNotFramed};
 
+use raft_list_facts::{Acceptance, accepted_in};
 use raft_messages::{Message, SnapshotBytes};
 use raft_wire::{Frame, FrameError, write_frame};
 use std::alloc::Global;
@@ -16,6 +17,8 @@ pub struct GroupFrame {
     pub addressee: u64,
     /// The frame, with its length before it.
     pub bytes: Vec<u8>,
+    /// What its message accepts, if anything.
+    pub accepts: Option<Acceptance>,
 }
 
 // The message as a frame of the group.
@@ -28,11 +31,13 @@ fn frame_of(
     ensures err { IfErr result (λ why. IsNotFramed group message why) }
 {
     let addressee = message.addressee;
+    let accepts = accepted_in(&message.body);
     match write_frame(alloc, &Frame { group, message }) {
         Ok(bytes) => Ok(GroupFrame {
             group,
             addressee,
             bytes,
+            accepts,
         }),
         Err(why) => Err(why),
     }

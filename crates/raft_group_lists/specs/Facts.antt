@@ -5,10 +5,11 @@ use Rattle.raft_values.specs.declared.vote.LeaderId.{LeaderId}
 use Rattle.raft_values.specs.declared.vote.Vote.{Vote}
 use Rattle.raft_values.specs.declared.log_id.LogId.{LogId}
 use Rattle.raft_group_step.specs.Values.{Entry, leader_eq, vote_eq}
-use Rattle.raft_group_step.specs.Message.{Message, MessageBody, VoteRequest, VoteReply, AppendRequest, AppendReply, SnapshotRequest, SnapshotReply}
+use Rattle.raft_group_step.specs.Message.{Message}
 use Rattle.raft_laws.specs.BallotLists.{AgreeBelow}
 use Rattle.raft_laws.specs.GroupWorld.{Led}
-use Rattle.raft_laws.specs.Settled.{accepted_last, body_accepts, is_at_or_after}
+use Rattle.raft_laws.specs.Settled.{body_accepts, is_at_or_after}
+use Rattle.raft_list_facts.specs.Accepting.{accepted_in}
 use Rattle.raft_list_laws.specs.Changes.{IsSilent}
 use Rattle.raft_group_lists.specs.declared.notes.Noted.{Noted}
 use Rattle.raft_group_lists.specs.Notes.{Notes, accounts_of, list_to}
@@ -38,20 +39,7 @@ pub record AcceptsUpTo (node : ℕ) (vote : Vote ℕ) (last : LogId ℕ) (m : Me
 
 -- ---- what messages accept
 
-abbrev pub accepted_with : Vote ℕ → Option (LogId ℕ) → Option (Vote ℕ × LogId ℕ)
-accepted_with vote None = None
-accepted_with vote (Some last) = Some (vote, last)
-
--- the vote under which a message accepts, and the log id up to which
-abbrev pub accepted_in : MessageBody → Option (Vote ℕ × LogId ℕ)
-accepted_in (VoteRequest vote last) = None
-accepted_in (VoteReply vote granted last) = None
-accepted_in (AppendRequest fields) = None
-accepted_in (AppendReply fields) = accepted_with fields.vote (accepted_last fields.outcome fields.last)
-accepted_in (SnapshotRequest vote id snapshot) = None
-accepted_in (SnapshotReply fields) = accepted_with fields.vote (accepted_last fields.outcome fields.last)
-
 -- a message accepts under one vote all up to one log id, or it accepts nothing
 abbrev pub MessagesAccept : Type 0
 MessagesAccept =
-    (m : Message) → MatchOption (accepted_in m.body) (IsSilent m) (λ accepted. AcceptsUpTo m.sender accepted.0 accepted.1 m)
+    (m : Message) → MatchOption (accepted_in m.body) (IsSilent m) (λ accepted. AcceptsUpTo m.sender accepted.vote accepted.last m)

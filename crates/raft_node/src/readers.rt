@@ -14,6 +14,7 @@ ghost use Rattle.raft_group_step.specs.Refusal.{is_voter_in, known_leader};
 ghost use Rattle.raft_engine.specs.ServerStates.{part_in};
 ghost use Rattle.raft_engine.specs.Standing.{IsStateOf};
 ghost use Rattle.raft_laws.specs.GroupWorld.{Up};
+ghost use Rattle.raft_list_facts.specs.Leads.{leading_of};
 ghost use Rattle.raft_framed_groups.specs.Answers.{Stands};
 ghost use Rattle.raft_node.specs.Reading.{TellsOf, free_from, machine_in, moment_of, next_entry_id, outstanding_to, place_in};
 ghost use Rattle.raft_node.specs.Standing.{applier_in, running_in, value_of};
@@ -22,6 +23,7 @@ use crate::node::Node;
 use raft_applier::Applier;
 use raft_engine::Engine;
 use raft_group_storage::GroupStorage;
+use raft_list_facts::{Leading, base_of};
 use raft_machines::StateMachine;
 use raft_member::{ByteGroup, Member, facts_of};
 use raft_messages::SnapshotBytes;
@@ -44,6 +46,21 @@ fn part_of(engine: &Engine<ByteGroup>) -> ServerState
     } else {
         ServerState::Learner
     }
+}
+
+// What the engine's node leads with, if it leads.
+fn leading_by(engine: &Engine<ByteGroup>) -> Option<Leading>
+    ensures { (own : _) (s : GroupState) → IsStateOf own engine.now s → result ≡ leading_of s }
+{
+    if engine.leader.is_none() {
+        return None;
+    }
+    let known = &engine.state;
+    Some(Leading {
+        vote: *known.state.vote.get(),
+        last: known.last_log_id(),
+        base: base_of(known),
+    })
 }
 
 // Whether the engine's node leads and waits for the peer's answer.
@@ -238,6 +255,14 @@ impl<M: StateMachine, S: GroupStorage<Snapshot = SnapshotBytes>> Node<M, S> {
             .state
             .last_purged_log_id()
             .copied()
+    }
+
+    /// What the node has that leads the group: its vote, the end of its log, and what it took over (own).
+    /// None where the node doesn't lead it.
+    pub fn leading(&self, group: u64) -> Option<Leading>
+        ensures { TellsOf (value_of M.state S.is_well S.shows self.now) group result (λ s. leading_of s) }
+    {
+        leading_by(self.going_engine(group)?)
     }
 
     /// Whether the node leads the group and waits for the peer's answer to a request (own). What is

@@ -17,6 +17,7 @@ use Rattle.raft_laws.specs.GroupRun.{Scene}
 use Rattle.raft_laws.specs.NodeEvent.{Comes}
 use Rattle.raft_laws.specs.Stop.{stopped_after}
 use Rattle.raft_step_laws.specs.Tokens.{brought}
+use Rattle.raft_framed_groups.proofs.FramedLemmas.{says_what_it_accepts}
 use Rattle.raft_framed_groups.specs.Frames.{IsFramed}
 use Rattle.raft_framed_groups.specs.declared.frames.GroupFrame.{GroupFrame}
 use Rattle.raft_headline.specs.ClusterEvent.{ClusterEvent, ClusterOutcome, Done, PassedOver, Recorded, Refused, Said, Stopped, Unknown, is_turned_away}
@@ -45,6 +46,7 @@ frames_say stands group (m ∷ ms) (f ∷ frames) (x ∷ said) say framed =
         of_group = one.group;
         addressee = say.0.1 ∙ sym one.to;
         spelled = record { sent = m; says = say.0; fits = one.fits; spelled = one.bytes };
+        accepts = one.accepts ∙ says_what_it_accepts stands m x say.0;
       },
       frames_say stands group ms frames said say.1 framed.1,
     )

@@ -13,6 +13,7 @@ use Rattle.raft_framed_groups.specs.Frames.{frame_with}
 use Rattle.raft_framed_groups.specs.declared.frames.GroupFrame.{GroupFrame}
 use Rattle.raft_headline.specs.ClusterEvent.{ClusterOutcome, Done, PassedOver, Refused, Said, Stopped, Unknown}
 use Rattle.raft_headline.specs.Naming.{names_in, unknown_in}
+use Rattle.raft_list_facts.specs.Accepting.{accepted_in}
 use Rattle.raft_machines.specs.declared.telling.Told.{Told}
 use Rattle.raft_node_faults.specs.declared.fault.Cause.{Cause}
 use Rattle.raft_node_faults.specs.declared.fault.Cause.TheVariants as cause
@@ -70,11 +71,12 @@ pub record Spells (stands : SnapshotBytes → Snapshot → Type 0) (group : ℕ)
   pub fits : FitsFrame (frame_with group sent)
   pub spelled : bytes ≡ spelled_frame (frame_with group sent)
 
--- the frame is the group's, and brings the message to its addressee
+-- the frame is the group's, brings the message to its addressee, and tells what that accepts
 pub record IsFrameOf (stands : SnapshotBytes → Snapshot → Type 0) (group : ℕ) (frame : GroupFrame) (m : Message) : Type 0 where
   pub of_group : frame.group ≡ group
   pub addressee : m.addressee ≡ frame.addressee
   pub spelled : Spells stands group m frame.bytes.items
+  pub accepts : frame.accepts ≡ accepted_in m.body
 
 -- ---- an event of a group
 

@@ -47,7 +47,7 @@ done_unsaid group told unknown = record {
 
 -- the one frame that says the message, from node 1 to node 2
 abbrev pub a_frame : NodeFrame
-a_frame = record { peer = 2; bytes = 1 ∷ [] }
+a_frame = record { peer = 2; bytes = 1 ∷ []; accepts = None }
 
 abbrev pub spells : ℕ → Message → List ℕ → Type 0
 spells group m bytes = (group ≡ 7) × (m ≡ a_message) × (bytes ≡ 1 ∷ [])
@@ -102,6 +102,7 @@ small_acts = record {
   closes = λ old new. Unit {0};
   machine_of = λ n group. None;
   applied_of = λ n group. None;
+  leads = λ n group told. told ≡ None;
 }
 
 abbrev pub small_states : NodeStates Small

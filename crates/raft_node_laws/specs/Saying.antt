@@ -4,6 +4,7 @@ use Rattle.std.specs.List.{AllByRecursion, AllZip}
 use Rattle.raft_group_step.specs.Message.{Message}
 use Rattle.raft_group_step.specs.StepResult.{BreaksCondition, CommandTooLong, GroupExists, InProgress, MembershipRefused, NotAllowed}
 use Rattle.raft_group_step.specs.StepResult.{NotLeader, NotVoter, NumberAtEnd, UnknownGroup, VoterChange, WrongParty}
+use Rattle.raft_list_facts.specs.Accepting.{accepted_in}
 use Rattle.raft_machines.specs.declared.telling.Told.{Told}
 use Rattle.raft_sent_frames.specs.declared.frame.NodeFrame.{NodeFrame}
 use Rattle.raft_cluster_events.specs.declared.node.NodeOutcome.{NodeOutcome}
@@ -74,11 +75,12 @@ IsOnceEach (x ∷ xs) = AllByRecursion (λ (y : NodeOutcome). (x.group == y.grou
 
 -- bytes of a frame of a group say a message, and a node has this id
 module _ (spells : ℕ → Message → List ℕ → Type 0) (own : ℕ) where
-  -- the frame is the node's own, and brings the message to its addressee
+  -- the frame is the node's own, brings the message to its addressee, and tells what that accepts
   pub record IsFrameOf (group : ℕ) (frame : NodeFrame) (m : Message) : Type 0 where
     pub sender : m.sender ≡ own
     pub addressee : m.addressee ≡ frame.peer
     pub spelled : spells group m frame.bytes
+    pub accepts : frame.accepts ≡ accepted_in m.body
 
   -- an outcome says this of its group
   pub record SaysOf (outcome : NodeOutcome) (said : Said) : Type 0 where

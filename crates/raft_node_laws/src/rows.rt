@@ -1,6 +1,8 @@
 //! What the words take in and what they leave out, on small answers: each a contract of a function
 //! without a body.
-ghost use Rattle.std.specs.Prelude.{◌≡◌, [], ◌∷◌, Some, None, Ok, Err};
+ghost use Rattle.std.specs.Prelude.{◌≡◌, true, [], ◌∷◌, Some, None, Ok, Err};
+ghost use Rattle.raft_values.specs.LogId.{log_id_of};
+ghost use Rattle.raft_values.specs.Vote.{vote_of};
 ghost use Rattle.raft_group_step.specs.StepResult.{MembershipRefused, NotLeader, UnknownGroup};
 ghost use Rattle.raft_headline.specs.ClusterEvent.{ClusterOutcome as PlainOutcome};
 ghost use Rattle.raft_headline.specs.ClusterEvent.{Done, Opened, PassedOver, Refused, Stopped};
@@ -11,10 +13,12 @@ ghost use Rattle.raft_cluster_events.specs.declared.outcome.EventOutcome.TheVari
 ghost use Rattle.raft_cluster_events.specs.declared.outcome.NodeError.TheVariants as error;
 ghost use Rattle.raft_cluster_events.specs.declared.outcome.NodeRefusal.TheVariants as refusal;
 ghost use Rattle.raft_cluster_laws.specs.Rows.{made, sends};
-ghost use Rattle.raft_group_step.specs.GroupState.{no_group, state_of};
+ghost use Rattle.raft_group_step.specs.GroupState.{Follower, Leader, no_group, state_of};
 ghost use Rattle.raft_laws.specs.GroupWorld.{Down, Up};
+ghost use Rattle.raft_list_facts.specs.Rows.{node_two, up_to};
+ghost use Rattle.raft_list_facts.specs.declared.leading.Base.TheVariants.{UpTo};
 ghost use Rattle.raft_machines.specs.Adding.{adding};
-ghost use Rattle.raft_node_laws.specs.Law.{Lends};
+ghost use Rattle.raft_node_laws.specs.Law.{Lends, leading_in};
 ghost use Rattle.raft_node_laws.specs.Answered.{stop_behind};
 ghost use Rattle.raft_node_laws.specs.Reporting.{IsRecordedAs, IsReport};
 ghost use Rattle.raft_machines.specs.declared.telling.UnknownTokens.{UnknownTokens};
@@ -33,11 +37,13 @@ pub fn names_of_stops()
         → names_of (stop_behind (done_unsaid 7 3 4) (stopped_with (x ∷ []))) ≡ unknown_of 7 3 ∷ unknown_of 7 4 ∷ unknown_of 7 5 ∷ [] }
 {}
 
-/// A call says what its frames spell, in their order, and what it tells, of its own group. It says
-/// nothing where it did nothing, or where its stream says no frame.
+/// A call says what its frames spell, in their order, and what it tells, of its own group. A frame
+/// tells what its message accepts, here nothing. A call says nothing where it did nothing, or where its
+/// stream says no frame.
 pub fn answers_of_calls()
     ensures says { SaysCall spells 1 7 (Ok (done_with (a_frame ∷ []) [] [] ∷ [])) (Done sends) }
     ensures another_group { SaysCall spells 1 9 (Ok (done_with (a_frame ∷ []) [] [] ∷ [])) (Done sends) → ⊥ }
+    ensures another_acceptance { SaysCall spells 1 7 (Ok (done_with (record a_frame { accepts = up_to 3 } ∷ []) [] [] ∷ [])) (Done sends) → ⊥ }
     ensures another_sender { SaysCall spells 3 7 (Ok (done_with (a_frame ∷ []) [] [] ∷ [])) (Done sends) → ⊥ }
     ensures no_frame { SaysCall spells 1 7 (Ok (done_with [] [] [] ∷ [])) (Done sends) → ⊥ }
     ensures unsaid { SaysCall spells 1 7 (Ok (done_with (a_frame ∷ []) [] [] ∷ [])) (Done silent) → ⊥ }
@@ -94,6 +100,15 @@ pub fn machines_that_are_lent()
     ensures ahead { Lends adding (Up (state_of made)) (Some adding.first) (Some 0) → ⊥ }
     ensures another { Lends adding (Up (state_of made)) (Some []) None → ⊥ }
     ensures down { Lends adding (Down made) (Some adding.first) None → ⊥ }
+{}
+
+/// A node that leads a group tells so, with its vote, its last log id and what it took over. One that
+/// follows, or is down, leads nothing.
+pub fn leads_that_are_told()
+    ensures leads { leading_in (Up (node_two (Leader (record { began = 1; peers = [] })) None (log_id_of 1 1 0 ∷ log_id_of 4 2 1 ∷ [])))
+        ≡ Some (record { vote = vote_of 4 2 true; last = Some (log_id_of 4 2 1); base = UpTo (log_id_of 1 1 0) }) }
+    ensures follows { leading_in (Up (node_two Follower None (log_id_of 4 2 0 ∷ []))) ≡ None }
+    ensures down { leading_in (Down made) ≡ None }
 {}
 
 /// The reasons of a group's step are those of the node. A node that has stopped passes events over,

@@ -37,7 +37,7 @@ use Rattle.raft_nodes_on_files.proofs.Calls.{adds_so, asks_so}
 use Rattle.raft_nodes_on_files.proofs.Deliveries.{frame_taken}
 use Rattle.raft_nodes_on_files.proofs.Led.{led}
 use Rattle.raft_nodes_on_files.proofs.Openings.{closed_led, crash_led, fused_led, opened_led, unopened_led}
-use Rattle.raft_nodes_on_files.proofs.Lending.{lends_in}
+use Rattle.raft_nodes_on_files.proofs.Lending.{leads_in, lends_in}
 use Rattle.raft_nodes_on_files.proofs.Standing.{is_up_in}
 use Rattle.raft_nodes_on_files.proofs.Taken.{Behind, spells_of}
 
@@ -184,4 +184,5 @@ module _ {M : Type 0} {g : Ghosts M} (rules : MachineRules) (state : M → List 
     reopens = reopens;
     closes = closes;
     lends = λ node h s more may. lends_in rules state node.id node.up node.files h s more may;
+    leads = λ node h told s more may tells. leads_in rules state node.id node.up node.files h told s more may tells;
   }

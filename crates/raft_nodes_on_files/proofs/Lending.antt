@@ -1,4 +1,4 @@
--- What a node on files lends of a group, in each of the states in which it may be.
+-- What a node on files lends and tells of a group, in each of the states in which it may be.
 use Rattle.std.specs.Prelude.{◌≡◌, ◌⊎◌, ℕ, Bool, true, false, List, [], ◌∷◌, Option, Some, None, option_map, refl}
 use Rattle.std.proofs.Common.{inl, inr, sym, ap, ◌∙◌, subst, arith}
 use Rattle.raft_values.specs.declared.log_id.LogId.{LogId}
@@ -6,15 +6,17 @@ use Rattle.raft_values.specs.LogId.{next_place}
 use Rattle.raft_group_step.specs.GroupState.{GroupState}
 use Rattle.raft_group_step.specs.SnapshotRequest.{place_above}
 use Rattle.raft_laws.specs.GroupWorld.{Down, NodeState, Up}
+use Rattle.raft_list_facts.specs.Leads.{leading_of}
+use Rattle.raft_list_facts.specs.declared.leading.Leading.{Leading}
 use Rattle.raft_log_engine.specs.declared.memory.LogFiles.{LogFiles}
 use Rattle.raft_machines.specs.Machine.{MachineRules}
 use Rattle.raft_machines.specs.declared.machine.StateMachine.{Ghosts}
-use Rattle.raft_node.specs.Reading.{machine_in, place_in}
+use Rattle.raft_node.specs.Reading.{TellsOf, machine_in, place_in}
 use Rattle.raft_node.specs.Running.{Running, RunsAt}
 use Rattle.raft_node.specs.Standing.{NodeValue}
 use Rattle.raft_node_joint.specs.Standing.{IsUpIn, MayBeWhen}
-use Rattle.raft_node_laws.specs.Law.{Lends}
-use Rattle.raft_nodes_on_files.specs.Acts.{runs_of, unless_failed}
+use Rattle.raft_node_laws.specs.Law.{Lends, leading_in}
+use Rattle.raft_nodes_on_files.specs.Acts.{LeadsAs, runs_of, unless_failed}
 use Rattle.raft_nodes_on_files.specs.Standing.{MayBeIn, UpNode, value}
 
 -- a reader tells this of what runs at a node that goes on, and nothing of one that has failed
@@ -47,8 +49,26 @@ module _ (rules : MachineRules) where
       subst (λ x. Lends rules x (machine_in (n.running h)) (place_in (n.running h))) (sym (same_first s (Up t) more [] is)) (lends_up n h t up)
   lends_when true n h s more (one, others, is, shown) = subst (λ x. Lends rules x None None) (sym (same_first s (Down one) more _ is)) (refl, refl)
 
+  leads_up : (n : NodeValue) (h : ℕ) (told : Option Leading) (s : GroupState) → n.groups.has_failed ≡ false → IsUpIn rules n h s → TellsOf n h told leading_of
+      → told ≡ leading_of s
+  leads_up n h told s going (inl at) tells = tells.up s going at.up
+  leads_up n h told s going (inr (none, without)) tells = tells.absent without.absent ∙ sym (ap leading_of none)
+
+  leads_when : (failed : Bool) (n : NodeValue) (h : ℕ) (told : Option Leading) (s : NodeState) (more : List NodeState) → n.groups.has_failed ≡ failed
+      → MayBeWhen rules n h failed (s ∷ more) → TellsOf n h told leading_of → told ≡ leading_in s
+  leads_when false n h told s more going (t, is, up) tells =
+      leads_up n h told t going up tells ∙ sym (ap leading_in (same_first s (Up t) more [] is))
+  leads_when true n h told s more failed (one, others, is, shown) tells =
+      tells.failed failed ∙ sym (ap leading_in (same_first s (Down one) more _ is))
+
 module _ {M : Type 0} {g : Ghosts M} (rules : MachineRules) (state : M → List ℕ) where
   pub lends_in : (id : ℕ) (up : Option (UpNode M g)) (files : LogFiles) (h : ℕ) (s : NodeState) (more : List NodeState) → MayBeIn rules state id up files h (s ∷ more)
       → Lends rules s (machine_in (runs_of rules state up h)) (place_in (runs_of rules state up h))
   lends_in id None files h s more m = subst (λ x. Lends rules x None None) (sym (same_first s (Down m.one) more _ m.parts)) (refl, refl)
   lends_in id (Some n) files h s more m = lends_when rules n.groups.has_failed (value rules state n) h s more m.may_be
+
+  pub leads_in : (id : ℕ) (up : Option (UpNode M g)) (files : LogFiles) (h : ℕ) (told : Option Leading) (s : NodeState) (more : List NodeState)
+      → MayBeIn rules state id up files h (s ∷ more) → LeadsAs rules state up h told → told ≡ leading_in s
+  leads_in id None files h told s more m tells = tells ∙ sym (ap leading_in (same_first s (Down m.one) more _ m.parts))
+  leads_in id (Some n) files h told s more m tells =
+      leads_when rules n.groups.has_failed (value rules state n) h told s more refl m.may_be tells

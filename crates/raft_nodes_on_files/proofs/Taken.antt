@@ -60,7 +60,7 @@ frames_say_so rules own group [] [] say from = tt
 frames_say_so rules own group [] (m ∷ ms) say from = absurd say
 frames_say_so rules own group (f ∷ fs) [] say from = absurd say
 frames_say_so rules own group (f ∷ fs) (m ∷ ms) say from =
-    (record { sender = All-head (λ (y : Message). y.sender ≡ own) m ms from; addressee = say.0.addressee; spelled = say.0.spelled }, frames_say_so rules own group fs ms say.1 (All-tail (λ (y : Message). y.sender ≡ own) m ms from))
+    (record { sender = All-head (λ (y : Message). y.sender ≡ own) m ms from; addressee = say.0.addressee; spelled = say.0.spelled; accepts = say.0.accepts }, frames_say_so rules own group fs ms say.1 (All-tail (λ (y : Message). y.sender ≡ own) m ms from))
 
 -- a fault says the same in a cluster's words
 error_says : (why : Fault KeepingFault) (o : ClusterOutcome) → outcome_of_fault why ≡ Some o → SaysError (error_of why) o

@@ -17,6 +17,8 @@ use Rattle.raft_log_disk.specs.MemorySystem.{disk_in}
 use Rattle.raft_log_disk.specs.declared.crash.CrashRefusal.{CrashRefusal as FileRefusal}
 use Rattle.raft_log_engine.specs.Log.{CantBeLeftSo, IsFoundBy}
 use Rattle.raft_log_engine.specs.declared.memory.LogFiles.{LogFiles}
+use Rattle.raft_list_facts.specs.Leads.{leading_of}
+use Rattle.raft_list_facts.specs.declared.leading.Leading.{Leading}
 use Rattle.raft_log_memtables.specs.Content.{Content}
 use Rattle.raft_machines.specs.Machine.{MachineRules}
 use Rattle.raft_machines.specs.declared.machine.StateMachine.{Ghosts}
@@ -24,7 +26,7 @@ use Rattle.raft_node.specs.Asking.{without_its_why}
 use Rattle.raft_node.specs.Ending.{IsEvent}
 use Rattle.raft_node.specs.Feeding.{FeedsPart, FeedsWhole, StaysBut, so_far}
 use Rattle.raft_node.specs.Opening.{HasNotOpened, HasOpened, IsReopened}
-use Rattle.raft_node.specs.Reading.{machine_in, place_in}
+use Rattle.raft_node.specs.Reading.{TellsOf, machine_in, place_in}
 use Rattle.raft_node.specs.Running.{Running}
 use Rattle.raft_node.specs.Settling.{IsStoppedBy, IsTold}
 use Rattle.raft_node.specs.Standing.{NodeValue, running_in}
@@ -246,6 +248,11 @@ module _ {M : Type 0} {g : Ghosts M} (rules : MachineRules) (state : M → List 
   runs_of None group = None
   runs_of (Some n) group = unless_failed n.groups.has_failed (running_in state n.machines group)
 
+  -- it tells what it leads the group with; one that is down leads nothing
+  abbrev pub LeadsAs : Option (UpNode M g) → ℕ → Option Leading → Type 0
+  LeadsAs None group told = told ≡ None
+  LeadsAs (Some n) group told = TellsOf (of n) group told leading_of
+
   -- ---- all calls
 
   -- one that is down stays so
@@ -275,6 +282,7 @@ module _ {M : Type 0} {g : Ghosts M} (rules : MachineRules) (state : M → List 
     closes = λ old new. WhenUp old new old.up (Unit {0}) (λ n. GoesDown n old new);
     machine_of = λ n group. machine_in (runs_of n.up group);
     applied_of = λ n group. place_in (runs_of n.up group);
+    leads = λ n group told. LeadsAs n.up group told;
   }
 
   abbrev pub file_node_states : NodeStates (FileNode M g)

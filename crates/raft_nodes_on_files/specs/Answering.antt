@@ -35,7 +35,7 @@ use Rattle.raft_wire.specs.declared.error.FrameFault.TheVariants as frame_fault
 -- ---- what an event did
 
 abbrev pub node_frame : GroupFrame → NodeFrame
-node_frame frame = record { peer = frame.addressee; bytes = frame.bytes.items }
+node_frame frame = record { peer = frame.addressee; bytes = frame.bytes.items; accepts = frame.accepts }
 
 abbrev pub node_outcome : Outcome → NodeOutcome
 node_outcome o = record { group = o.group; frames = map node_frame o.frames.items; told = o.told.items; unknown = o.unknown.items }

@@ -10,8 +10,8 @@ use crate::opening::{Kept, Unopened, abandon_node, crash_refusal, file_choice, o
 use crate::outcomes::{outcome_of, outcomes_of};
 use crate::readers::{machine_of, place_of};
 use raft_cluster_events::{
-    ClusterNode, CrashChoice, CrashRefusal, GroupCommand, NodeError, NodeOutcome, NodeRefusal,
-    Sequence, Stop, StopCause, Unsaid,
+    ClusterNode, CrashChoice, CrashRefusal, GroupCommand, Leading, NodeError, NodeOutcome,
+    NodeRefusal, Sequence, Stop, StopCause, Unsaid,
 };
 use raft_log_engine::{EngineFault, LogFiles};
 use raft_log_files::Config;
@@ -274,6 +274,13 @@ impl<M: StateMachine> ClusterNode for FileNode<M> {
     fn applied(&self, group: u64) -> Option<u64> {
         match &self.up {
             Some(node) => place_of(node, group),
+            None => None,
+        }
+    }
+
+    fn leading(&self, group: u64) -> Option<Leading> {
+        match &self.up {
+            Some(node) => node.leading(group),
             None => None,
         }
     }

@@ -19,6 +19,7 @@ fn frames_of(alloc: Global, frames: Vec<GroupFrame>) -> Result<Sequence<NodeFram
         taken.push(NodeFrame {
             peer: frame.addressee,
             bytes,
+            accepts: frame.accepts,
         })?;
     }
     Ok(taken)

@@ -3,8 +3,8 @@ ghost use Rattle.std.specs.Prelude.{◌≡◌, None};
 
 use raft_cluster::{Cluster, ClusterEvent, EventOutcome};
 use raft_cluster_events::{
-    ClusterNode, CrashChoice, CrashRefusal, GroupCommand, NodeError, NodeOutcome, NodeRefusal,
-    Sequence, Stop, StopCause,
+    ClusterNode, CrashChoice, CrashRefusal, GroupCommand, Leading, NodeError, NodeOutcome,
+    NodeRefusal, Sequence, Stop, StopCause,
 };
 use raft_gate_files::{Gate, GateFiles};
 use raft_log_engine::Engine;
@@ -90,6 +90,7 @@ impl ClusterNode for GateNode {
       closes = λ old new. Unit {0};
       machine_of = λ n group. None;
       applied_of = λ n group. None;
+      leads = λ n group told. told ≡ None;
     } };
 
     ghost states = { record {
@@ -173,6 +174,10 @@ impl ClusterNode for GateNode {
     }
 
     fn applied(&self, _group: u64) -> Option<u64> {
+        None
+    }
+
+    fn leading(&self, _group: u64) -> Option<Leading> {
         None
     }
 }

@@ -1,5 +1,6 @@
 //! Frames on their way.
 
+use raft_list_facts::Acceptance;
 use raft_values::Bytes;
 
 /// A frame that leaves a node (own).
@@ -9,6 +10,8 @@ pub struct NodeFrame {
     pub peer: u64,
     /// Its bytes, whole.
     pub bytes: Bytes,
+    /// What its message accepts, if anything.
+    pub accepts: Option<Acceptance>,
 }
 
 /// A frame that a node sent (own).

@@ -6,6 +6,6 @@ pub returns-clause-says : goal.returns-clause-says
 returns-clause-says c = (
   (tt, tt),
   (7, sends) ∷ [],
-  (record { group = refl; says = record { sent = (record { sender = refl; addressee = refl; spelled = (refl, refl, refl) }, tt); told = refl; unknown = refl } }, tt),
+  (record { group = refl; says = record { sent = (record { sender = refl; addressee = refl; spelled = (refl, refl, refl); accepts = refl }, tt); told = refl; unknown = refl } }, tt),
   refl,
 )
