@@ -6,3 +6,4 @@ pub mod Opening
 pub mod Crashed
 pub mod Again
 pub mod Both
+pub mod Caused

@@ -21,3 +21,6 @@ returns-clause-refused g c = λ cant. ⊎_elim c.open_queue.ensures.refused c.op
 
 pub returns-clause-corrupt : goal.returns-clause-corrupt
 returns-clause-corrupt g c = c.open_queue.ensures.corrupt
+
+pub returns-clause-cause : goal.returns-clause-cause
+returns-clause-cause g c = c.open_queue.ensures.cause

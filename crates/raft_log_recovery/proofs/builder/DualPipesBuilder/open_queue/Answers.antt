@@ -20,6 +20,15 @@ use Rattle.raft_log_recovery.proofs.AloneLemmas.{created_alone, found_alone, pat
 use Rattle.raft_log_recovery.proofs.CorruptLemmas.{any_aligned, memory_sound, passed_on}
 use Rattle.raft_log_files.specs.declared.error.CorruptionFault.{CorruptionFault}
 use Rattle.raft_log_recovery.specs.Both.{CantBeOpened}
+use Rattle.std.proofs.Common.{◌⊎◌}
+use Rattle.raft_log_disk.specs.Cause.{Rises}
+use Rattle.raft_log_disk.proofs.RefusalLemmas.{no_more_then}
+use Rattle.raft_log_files.specs.declared.error.Error.{Error}
+use Rattle.raft_log_files.specs.declared.error.Error.TheVariants.{Memory}
+use Rattle.raft_log_pipe.specs.Caused.{LacksDirectory}
+use Rattle.raft_log_recovery.specs.Caused.{AnyUnreadable, IsQueueFault}
+use Rattle.raft_log_pipe.proofs.CausedLemmas.{lacks_before, rises_then, told_cause}
+use Rattle.raft_log_recovery.proofs.CausedLemmas.{recovery_caused, recovery_for}
 use Rattle.raft_log_recovery.proofs.builder.DualPipesBuilder.open_queue.Goals as goal
 
 pub returns-then-not-are_plain-clause-left : goal.returns-then-not-are_plain-clause-left
@@ -292,3 +301,57 @@ returns-then-is_empty-clause-corrupt g c = λ f corrupt. absurd (c.create.ensure
 
 pub returns-clause-corrupt : goal.returns-clause-corrupt
 returns-clause-corrupt g c = λ f corrupt. absurd (c.open.ensures.corrupt f corrupt)
+
+-- ---- what is set to refuse, and why it is refused
+
+pub returns-then-is_empty-clause-later : goal.returns-then-is_empty-clause-later
+returns-then-is_empty-clause-later g c = no_more_then c.in_ok-recovered.ensures.later c.create.ensures.later
+
+pub returns-clause-later : goal.returns-clause-later
+returns-clause-later g c = no_more_then c.in_ok-recovered.ensures.later c.open.ensures.later
+
+pub returns-in_err-recovered-clause-cause : goal.returns-in_err-recovered-clause-cause
+returns-in_err-recovered-clause-cause g c =
+    let queue = c.args.config.now.queue in
+    let directories = directories_in c.args.self.now in
+    let names : List FileName = names_in c.args.self.now queue in
+    let d = g.F.FileSystem.disk c.args.files.now in
+    let a = g.F.FileSystem.meter c.args.files.now in
+    let b = g.F.FileSystem.meter c.recover_queue.new.files in
+    let refused : Type 0 = Rises 1 a b ⊎ AnyUnreadable directories queue names a in
+    told_cause c.from_residual.result c.in_err-recovered.field-0.0 (λ (e : Error). IsQueueFault directories queue names d a b e) c.from_residual.ensures.1
+    (recovery_for refused ⊥ refused (LacksDirectory d directories (id_of queue 1)) c.in_err-recovered.field-0.0 (λ x. x) (λ x. absurd x) c.in_err-recovered.ensures.cause)
+
+pub returns-then-not-are_plain-clause-cause : goal.returns-then-not-are_plain-clause-cause
+returns-then-not-are_plain-clause-cause g c = inl (_, refl)
+
+pub returns-in_err-paths-clause-cause : goal.returns-in_err-paths-clause-cause
+returns-in_err-paths-clause-cause g c =
+    let queue = c.args.config.now.queue in
+    told_cause c.from_residual-in_err-paths.result Memory (λ (e : Error). IsQueueFault (directories_in c.args.self.now) queue (names_in c.args.self.now queue) (g.F.FileSystem.disk c.args.files.now) (g.F.FileSystem.meter c.args.files.now) (g.F.FileSystem.meter c.recover_queue.new.files) e)
+    c.from_residual-in_err-paths.ensures.1 (inr tt)
+
+pub returns-then-is_empty-clause-cause : goal.returns-then-is_empty-clause-cause
+returns-then-is_empty-clause-cause g c =
+    let queue = c.args.config.now.queue in
+    let directories = directories_in c.args.self.now in
+    let names : List FileName = names_in c.args.self.now queue in
+    let d = g.F.FileSystem.disk c.args.files.now in
+    let y = g.F.FileSystem.disk c.recover_queue.new.files in
+    let a = g.F.FileSystem.meter c.args.files.now in
+    let b = g.F.FileSystem.meter c.recover_queue.new.files in
+    let e = g.F.FileSystem.meter c.create.new.files in
+    let said : map string_bytes c.in_ok-paths.paths.items ≡ directories = c.in_ok-paths.ensures ∙ ap (map string_bytes) c.deref-2.ensures.value in
+    recovery_caused (Rises 1 b e) (LacksDirectory y (map string_bytes c.in_ok-paths.paths.items) (id_of queue 1)) (Rises 1 a e ⊎ AnyUnreadable directories queue names a) (LacksDirectory d directories (id_of queue 1)) c.create.result
+    (λ more. inl (rises_then 0 1 a b e c.in_ok-recovered.ensures.later.counts more)) (lacks_before d y directories (map string_bytes c.in_ok-paths.paths.items) (id_of queue 1) (id_of queue 1) c.in_ok-recovered.ensures.only.directories_stay said refl) c.create.ensures.cause
+
+pub returns-clause-cause : goal.returns-clause-cause
+returns-clause-cause g c =
+    let queue = c.args.config.now.queue in
+    let directories = directories_in c.args.self.now in
+    let names : List FileName = names_in c.args.self.now queue in
+    let a = g.F.FileSystem.meter c.args.files.now in
+    let b = g.F.FileSystem.meter c.recover_queue.new.files in
+    let e = g.F.FileSystem.meter c.open.new.files in
+    recovery_caused (Rises 1 b e) ⊥ (Rises 1 a e ⊎ AnyUnreadable directories queue names a) (LacksDirectory (g.F.FileSystem.disk c.args.files.now) directories (id_of queue 1)) c.open.result
+    (λ more. inl (rises_then 0 1 a b e c.in_ok-recovered.ensures.later.counts more)) (λ x. absurd x) c.open.ensures.cause

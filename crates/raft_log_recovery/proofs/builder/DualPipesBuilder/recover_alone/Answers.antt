@@ -7,6 +7,18 @@ use Rattle.raft_log_files.specs.declared.error.CorruptionFault.{CorruptionFault}
 use Rattle.raft_log_files.specs.declared.error.Error.TheVariants.{Corruption, Memory}
 use Rattle.raft_log_recovery.specs.Both.{CantBeOpened}
 use Rattle.raft_log_recovery.proofs.CorruptLemmas.{cant_before, passed_on}
+use Rattle.std.proofs.Common.{◌⊎◌, inl, inr, refl, subst}
+use Rattle.raft_log_disk.specs.Cause.{Rises}
+use Rattle.raft_log_disk.specs.Disk.{IsIn}
+use Rattle.raft_log_disk.specs.Text.{Text}
+use Rattle.raft_log_disk.proofs.RefusalLemmas.{no_more_then}
+use Rattle.raft_log_files.specs.declared.error.Error.{Error}
+use Rattle.raft_log_pipe.specs.Caused.{LacksDirectory}
+use Rattle.raft_log_pipe.specs.Pipe.{id_of}
+use Rattle.raft_log_recovery.specs.Caused.{AnyUnreadable, IsQueueFault}
+use Rattle.raft_log_recovery.specs.Queue.{directories_in, names_in}
+use Rattle.raft_log_pipe.proofs.CausedLemmas.{lacks_before, rises_then, told_cause}
+use Rattle.raft_log_recovery.proofs.CausedLemmas.{recovery_for}
 use Rattle.raft_log_recovery.proofs.builder.DualPipesBuilder.recover_alone.Goals as goal
 
 pub open_alone-requires-2-clause-found : goal.open_alone-requires-2-clause-found
@@ -95,3 +107,42 @@ returns-in_err-merge-clause-corrupt g c =
     passed_on (λ (f : CorruptionFault). (queue : LogQueue) × CantBeOpened c.args.self.now.config.recovery_mode c.args.self.now queue (g.F.FileSystem.disk c.args.files.now))
     c.in_err-merge.field-0.0 c.from_residual-in_err-merge.result c.from_residual-in_err-merge.ensures.1
     (λ f same. let apart : Memory ≡ Corruption f = sym c.in_err-merge.ensures.err ∙ same in absurd cc)
+
+-- ---- what is set to refuse, and why it is refused
+
+pub returns-in_err-rewrite-clause-later : goal.returns-in_err-rewrite-clause-later
+returns-in_err-rewrite-clause-later g c = no_more_then c.in_ok-append.ensures.later c.in_err-rewrite.ensures.later
+
+pub returns-in_err-merge-clause-later : goal.returns-in_err-merge-clause-later
+returns-in_err-merge-clause-later g c = no_more_then c.in_ok-append.ensures.later c.in_ok-rewrite.ensures.later
+
+pub returns-clause-later : goal.returns-clause-later
+returns-clause-later g c = no_more_then c.in_ok-append.ensures.later c.in_ok-rewrite.ensures.later
+
+pub returns-in_err-append-clause-cause : goal.returns-in_err-append-clause-cause
+returns-in_err-append-clause-cause g c =
+    told_cause c.from_residual.result c.in_err-append.field-0.0
+    (λ (e : Error). (queue : LogQueue) × IsQueueFault (directories_in c.args.self.now) queue (names_in c.args.self.now queue) (g.F.FileSystem.disk c.args.files.now) (g.F.FileSystem.meter c.args.files.now) (g.F.FileSystem.meter c.open_alone.new.files) e)
+    c.from_residual.ensures.1 (Append, c.in_err-append.ensures.cause)
+
+pub returns-in_err-rewrite-clause-cause : goal.returns-in_err-rewrite-clause-cause
+returns-in_err-rewrite-clause-cause g c =
+    let directories = directories_in c.args.self.now in
+    let names = names_in c.args.self.now Rewrite in
+    let d = g.F.FileSystem.disk c.args.files.now in
+    let y = g.F.FileSystem.disk c.open_alone.new.files in
+    let a = g.F.FileSystem.meter c.args.files.now in
+    let b = g.F.FileSystem.meter c.open_alone.new.files in
+    let e = g.F.FileSystem.meter c.open_alone-2.new.files in
+    told_cause c.from_residual-in_err-rewrite.result c.in_err-rewrite.field-0.0
+    (λ (x : Error). (queue : LogQueue) × IsQueueFault directories queue (names_in c.args.self.now queue) d a e x) c.from_residual-in_err-rewrite.ensures.1
+    (Rewrite, recovery_for (Rises 1 b e ⊎ AnyUnreadable directories Rewrite names b) (LacksDirectory y directories (id_of Rewrite 1)) (Rises 1 a e ⊎ AnyUnreadable directories Rewrite names a) (LacksDirectory d directories (id_of Rewrite 1)) c.in_err-rewrite.field-0.0
+    (λ why. elim why [ | inl more ↦ inl (rises_then 0 1 a b e c.in_ok-append.ensures.later.counts more) | inr one ↦ inr (one.0, one.1, subst (λ (l : List Text). IsIn _ l) c.in_ok-append.ensures.later.reads one.2) ])
+    (lacks_before d y directories directories (id_of Rewrite 1) (id_of Rewrite 1) c.open_alone.ensures.others.directories refl refl) c.in_err-rewrite.ensures.cause)
+
+pub returns-in_err-merge-clause-cause : goal.returns-in_err-merge-clause-cause
+returns-in_err-merge-clause-cause g c =
+    told_cause c.from_residual-in_err-merge.result c.in_err-merge.field-0.0
+    (λ (e : Error). (queue : LogQueue) × IsQueueFault (directories_in c.args.self.now) queue (names_in c.args.self.now queue) (g.F.FileSystem.disk c.args.files.now) (g.F.FileSystem.meter c.args.files.now) (g.F.FileSystem.meter c.open_alone-2.new.files) e)
+    c.from_residual-in_err-merge.ensures.1
+    (Append, subst (λ (e : Error). IsQueueFault (directories_in c.args.self.now) Append (names_in c.args.self.now Append) (g.F.FileSystem.disk c.args.files.now) (g.F.FileSystem.meter c.args.files.now) (g.F.FileSystem.meter c.open_alone-2.new.files) e) (sym c.in_err-merge.ensures.err) (inr tt))
