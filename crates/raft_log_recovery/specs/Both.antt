@@ -1,10 +1,12 @@
 -- Both queues, opened one beside the other: the append queue first, then the rewrite queue.
-use Rattle.std.specs.Prelude.{◌≡◌, ◌⊎◌, List, ◌++◌}
+use Rattle.std.specs.Prelude.{◌≡◌, ◌⊎◌, List, ◌++◌, Result}
 use Rattle.raft_log_records.specs.declared.file_id.LogQueue.{LogQueue}
 use Rattle.raft_log_records.specs.declared.file_id.LogQueue.TheVariants.{Append, Rewrite}
+use Rattle.raft_log_disk.specs.Cause.{Meter}
 use Rattle.raft_log_disk.specs.Disk.{Disk}
 use Rattle.raft_log_disk.specs.Text.{Text}
 use Rattle.raft_log_files.specs.declared.recovery.RecoveryMode.{RecoveryMode}
+use Rattle.raft_log_files.specs.declared.error.Error.{Error}
 use Rattle.raft_log_pipe.specs.declared.pipe.SinglePipe.{SinglePipe}
 use Rattle.raft_log_pipe.specs.Alone.{IsAlone, IsOnce, directories_of_pipe}
 use Rattle.raft_log_pipe.specs.Others.{KeepsOthers}
@@ -14,6 +16,7 @@ use Rattle.raft_log_recovery.specs.declared.builder.DualPipesBuilder.{DualPipesB
 use Rattle.raft_log_recovery.specs.declared.scan.FileKind.TheVariants.{Log}
 use Rattle.raft_log_recovery.specs.declared.scan.FileName.{FileName}
 use Rattle.raft_log_recovery.specs.Again.{FindsAsBefore}
+use Rattle.raft_log_recovery.specs.Caused.{IsFirstBarred, IsFirstLacking, IsQueueFault, IsRecoveryTaken}
 use Rattle.raft_log_recovery.specs.Opening.{AnyAligned, IsPipeWith}
 use Rattle.raft_log_recovery.specs.Queue.{AnyRefused, AreLeft, KeepsRefused, directories_in, names_in}
 use Rattle.raft_log_recovery.specs.Replay.{Placed}
@@ -67,3 +70,16 @@ pub record ArePipesWith (builder : DualPipesBuilder) (old new : Disk) (p : DualP
   pub all_are : all ≡ rewrites ++ appends
   pub rewrite : IsPipeWith (directories_in builder) Rewrite (names_in builder Rewrite) old new p.rewrite rewrites
   pub append : IsPipeWith (directories_in builder) Append (names_in builder Append) old new p.append appends
+
+-- ---- errors
+
+-- an error has its cause in one of the queues
+abbrev pub IsEitherFault : DualPipesBuilder → Disk → Disk → (bounded : Type 0) → Meter → Meter → Error → Type 0
+IsEitherFault builder d left bounded old new e = (queue : LogQueue) × IsQueueFault (directories_in builder) queue (names_in builder queue) d left bounded old new e
+
+-- Where nothing is set to refuse an opening of both is taken, unless a file has a fault, memory is missing, or the first file of a
+-- queue that has none can't be made
+abbrev pub AreTaken : {T : Type 0} → DualPipesBuilder → Disk → Disk → Result T Error → Type 0
+AreTaken builder d left result =
+    IsRecoveryTaken ((queue : LogQueue) × IsFirstLacking (directories_in builder) queue (names_in builder queue) d)
+    ((queue : LogQueue) × IsFirstBarred (directories_in builder) queue (names_in builder queue) left) result

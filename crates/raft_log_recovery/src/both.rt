@@ -1,7 +1,7 @@
 //! Both queues, recovered and opened one beside the other.
 
 ghost use Rattle.std.specs.Prelude.{◌≡◌, ◌++◌, List, Err, IfErr, IfOk, IsErr};
-ghost use Rattle.raft_log_disk.specs.Cause.{RefusesNoMore};
+ghost use Rattle.raft_log_disk.specs.Cause.{NothingRefuses, RefusesNoMore};
 ghost use Rattle.raft_log_files.specs.Settings.{settings_of};
 ghost use Rattle.raft_log_files.specs.declared.error.CorruptionFault.{CorruptionFault};
 ghost use Rattle.raft_log_files.specs.declared.error.Error.TheVariants.{Corruption};
@@ -10,7 +10,7 @@ ghost use Rattle.raft_log_pipes.specs.Pipes.{ArePipes};
 ghost use Rattle.raft_log_records.specs.declared.file_id.LogQueue.{LogQueue};
 ghost use Rattle.raft_log_records.specs.declared.file_id.LogQueue.TheVariants.{Append, Rewrite};
 ghost use Rattle.raft_log_recovery.specs.Caused.{IsQueueFault};
-ghost use Rattle.raft_log_recovery.specs.Both.{AreOpened, ArePipesWith, CantBeOpened, IsFoundBy, IsOpened, LeavesBoth, LeavesQueue};
+ghost use Rattle.raft_log_recovery.specs.Both.{AreOpened, ArePipesWith, AreTaken, CantBeOpened, IsEitherFault, IsFoundBy, IsOpened, LeavesBoth, LeavesQueue};
 ghost use Rattle.raft_log_recovery.specs.Opening.{IsPipeWith};
 ghost use Rattle.raft_log_recovery.specs.Queue.{ChangesAtMost, directories_in, names_in};
 ghost use Rattle.raft_log_recovery.specs.Replay.{Placed};
@@ -43,7 +43,7 @@ impl DualPipesBuilder {
         ensures refused { CantBeOpened self.now.config.recovery_mode self.now queue (F.disk files.old) → IsErr result }
         ensures corrupt { (f : CorruptionFault) → result ≡ Err (Corruption f) → CantBeOpened self.now.config.recovery_mode self.now queue (F.disk files.old) }
         ensures later { RefusesNoMore (F.is_bounded files.old) (F.is_bounded files.new) (F.meter files.old) (F.meter files.new) }
-        ensures cause { IfErr result (λ e. IsQueueFault (directories_in self.now) queue (names_in self.now queue) (F.disk files.old) (F.meter files.old) (F.meter files.new) e) }
+        ensures cause { IfErr result (λ e. IsQueueFault (directories_in self.now) queue (names_in self.now queue) (F.disk files.old) (F.disk files.new) (F.is_bounded files.old) (F.meter files.old) (F.meter files.new) e) }
     {
         let config = RecoveryConfig {
             queue,
@@ -75,7 +75,8 @@ impl DualPipesBuilder {
         ensures refused { (queue : LogQueue) → CantBeOpened self.now.config.recovery_mode self.now queue (F.disk files.old) → IsErr result }
         ensures corrupt { (f : CorruptionFault) → result ≡ Err (Corruption f) → (queue : LogQueue) × CantBeOpened self.now.config.recovery_mode self.now queue (F.disk files.old) }
         ensures later { RefusesNoMore (F.is_bounded files.old) (F.is_bounded files.new) (F.meter files.old) (F.meter files.new) }
-        ensures cause { IfErr result (λ e. (queue : LogQueue) × IsQueueFault (directories_in self.now) queue (names_in self.now queue) (F.disk files.old) (F.meter files.old) (F.meter files.new) e) }
+        ensures cause { IfErr result (λ e. IsEitherFault self.now (F.disk files.old) (F.disk files.new) (F.is_bounded files.old) (F.meter files.old) (F.meter files.new) e) }
+        ensures taken { NothingRefuses (F.is_bounded files.old) (F.meter files.old) → AreTaken self.now (F.disk files.old) (F.disk files.new) result }
     {
         let mut behind = factory.new_target();
         let append = self.open_alone(files, LogQueue::Append, &mut behind)?;

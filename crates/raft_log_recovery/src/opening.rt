@@ -2,7 +2,7 @@
 
 ghost use Rattle.std.specs.Prelude.{◌≡◌, ◌++◌, ◌==◌, List, map, string_bytes, Err, IfErr, IfOk, IsErr, OnErr};
 ghost use Rattle.std.specs.List.{list_all};
-ghost use Rattle.raft_log_disk.specs.Cause.{RefusesNoMore};
+ghost use Rattle.raft_log_disk.specs.Cause.{NothingRefuses, RefusesNoMore};
 ghost use Rattle.raft_log_files.specs.Settings.{settings_of};
 ghost use Rattle.raft_log_files.specs.declared.error.CorruptionFault.{CorruptionFault};
 ghost use Rattle.raft_log_files.specs.declared.error.Error.TheVariants.{Corruption};
@@ -12,7 +12,7 @@ ghost use Rattle.raft_log_pipe.specs.Pipe.{IsPipe};
 ghost use Rattle.raft_log_recovery.specs.declared.scan.FileKind.TheVariants.{Log};
 ghost use Rattle.raft_log_recovery.specs.Scan.{AreFound, directories_of};
 ghost use Rattle.raft_log_recovery.specs.Again.{FindsAsBefore};
-ghost use Rattle.raft_log_recovery.specs.Caused.{IsQueueFault};
+ghost use Rattle.raft_log_recovery.specs.Caused.{IsFirstBarred, IsFirstLacking, IsQueueFault, IsRecoveryTaken};
 ghost use Rattle.raft_log_recovery.specs.Both.{CantBeOpened};
 ghost use Rattle.raft_log_recovery.specs.Replay.{Placed};
 ghost use Rattle.raft_log_recovery.specs.Queue.{AnyRefused, AreLeft, ChangesAtMost, KeepsRefused, directories_in, names_in};
@@ -74,7 +74,9 @@ impl DualPipesBuilder {
         ensures kept { OnErr result (KeepsRefused config.now.mode (directories_in self.now) config.now.queue (names_in self.now config.now.queue) (F.disk files.old) (F.disk files.new)) }
         ensures corrupt { (f : CorruptionFault) → result ≡ Err (Corruption f) → CantBeOpened config.now.mode self.now config.now.queue (F.disk files.old) }
         ensures later { RefusesNoMore (F.is_bounded files.old) (F.is_bounded files.new) (F.meter files.old) (F.meter files.new) }
-        ensures cause { IfErr result (λ e. IsQueueFault (directories_in self.now) config.now.queue (names_in self.now config.now.queue) (F.disk files.old) (F.meter files.old) (F.meter files.new) e) }
+        ensures cause { IfErr result (λ e. IsQueueFault (directories_in self.now) config.now.queue (names_in self.now config.now.queue) (F.disk files.old) (F.disk files.new) (F.is_bounded files.old) (F.meter files.old) (F.meter files.new) e) }
+        ensures taken { NothingRefuses (F.is_bounded files.old) (F.meter files.old) → IsRecoveryTaken (IsFirstLacking (directories_in self.now) config.now.queue (names_in self.now config.now.queue) (F.disk files.old))
+            (IsFirstBarred (directories_in self.now) config.now.queue (names_in self.now config.now.queue) (F.disk files.new)) result }
     {
         let recovered = self.recover_queue(files, config, machine)?;
         if !are_plain(&recovered) {

@@ -12,15 +12,15 @@ use Rattle.raft_log_recovery.proofs.TurnLemmas.{Turn, done_alike, done_kept, don
 use Rattle.raft_log_recovery.proofs.CorruptLemmas.{memory_sound, passed_on, refused_at}
 use Rattle.std.proofs.Common.{◌⊎◌, inl, inr, ℕ, None, get_or, ap}
 use Rattle.raft_log_disk.specs.Disk.{HasOneOf, fd_of}
-use Rattle.raft_log_disk.specs.Cause.{Rises}
+use Rattle.raft_log_disk.specs.Cause.{RefusesNoMore}
 use Rattle.raft_log_disk.proofs.RefusalLemmas.{no_more_then}
 use Rattle.raft_log_files.specs.declared.error.Error.{Error}
 use Rattle.raft_log_files.specs.declared.error.Error.TheVariants.{Memory}
 use Rattle.raft_log_recovery.specs.declared.scan.FileName.{FileName}
-use Rattle.raft_log_recovery.specs.Caused.{AnyUnreadable, AreFilesRefused, IsMissing}
+use Rattle.raft_log_recovery.specs.Caused.{AnyUnreadable, AreFilesRefused, IsMissing, IsRefusal}
 use Rattle.raft_log_recovery.specs.Queue.{IsFileOf, path_of}
-use Rattle.raft_log_pipe.proofs.CausedLemmas.{caused_for, rises_then, told_cause}
-use Rattle.raft_log_recovery.proofs.CausedLemmas.{at_in, recovery_for, unreadable_at}
+use Rattle.raft_log_pipe.proofs.CausedLemmas.{caused_for, told_cause}
+use Rattle.raft_log_recovery.proofs.CausedLemmas.{at_in, recovery_for, refusal_then, unreadable_at}
 use Rattle.raft_log_recovery.proofs.queue.recover_each.Goals as goal
 
 pub open_file-requires-clause-seq : goal.open_file-requires-clause-seq
@@ -205,10 +205,13 @@ returns-in_err-fd-clause-cause g c =
     let b = g.F.FileSystem.meter c.loop-name.files in
     let e = g.F.FileSystem.meter c.open_file.new.files in
     let name : FileName = get_or c.args.names.now c.loop-name.name-index (record { seq = 0; path_id = 0 }) in
+    let free : Type 0 = g.F.FileSystem.is_bounded c.args.files.now in
+    let free_then : Type 0 = g.F.FileSystem.is_bounded c.loop-name.files in
     let gone : Type 0 = fd_of cur.names (path_of directories queue name) ≡ None in
     let missing : Type 0 = IsMissing old directories queue c.args.names.now in
-    told_cause c.from_residual.result c.in_err-fd.field-0.0 (λ (x : Error). AreFilesRefused missing directories queue c.args.names.now a e x) c.from_residual.ensures.1
-    (inr (caused_for (Rises 1 b e) ⊥ ⊥ gone (Rises 1 a e ⊎ AnyUnreadable directories queue c.args.names.now a) ⊥ ⊥ missing c.in_err-fd.field-0.0 (λ more. inl (rises_then 0 1 a b e c.loop-name.invariant.later.counts more)) (λ x. x) (λ x. x)
+    told_cause c.from_residual.result c.in_err-fd.field-0.0 (λ (x : Error). AreFilesRefused missing ⊥ directories queue c.args.names.now free a e x) c.from_residual.ensures.1
+    (inr (caused_for (IsRefusal free_then ⊥ b e) ⊥ ⊥ gone (IsRefusal free ⊥ a e ⊎ AnyUnreadable directories queue c.args.names.now a) ⊥ ⊥ missing c.in_err-fd.field-0.0
+    (λ more. inl (refusal_then free free_then ⊥ ⊥ a b e c.loop-name.invariant.later (λ x. x) more)) (λ x. x) (λ x. x)
     (λ none. (name, at_in c.args.names.now c.loop-name.name-index (record { seq = 0; path_id = 0 }) c.loop-name-test.true, subst (λ (l : List (Text × ℕ)). fd_of l (path_of directories queue name) ≡ None) c.loop-name.invariant.so.only.names_stay none))
     c.in_err-fd.ensures.cause))
 
@@ -223,16 +226,18 @@ returns-in_err-format-clause-cause g c =
     let e = g.F.FileSystem.meter c.recover_file.new.files in
     let name : FileName = get_or c.args.names.now c.loop-name.name-index (record { seq = 0; path_id = 0 }) in
     let missing : Type 0 = IsMissing (g.F.FileSystem.disk c.args.files.now) directories queue c.args.names.now in
-    let before = no_more_then c.loop-name.invariant.later c.in_ok-fd.ensures.later in
+    let free : Type 0 = g.F.FileSystem.is_bounded c.args.files.now in
+    let free_then : Type 0 = g.F.FileSystem.is_bounded c.open_file.new.files in
+    let before : RefusesNoMore free free_then a b = no_more_then c.loop-name.invariant.later c.in_ok-fd.ensures.later in
     let file : IsFileOf cur directories queue name c.in_ok-fd.fd.0 = subst (λ (x : Disk). IsFileOf x directories queue name c.in_ok-fd.fd.0) (sym c.open_file.ensures.kept) c.in_ok-fd.ensures.ok in
     let unread = unreadable_at cur directories queue c.args.names.now name c.in_ok-fd.fd.0 a b (met.is_named c.open_file.new.files)
     (at_in c.args.names.now c.loop-name.name-index (record { seq = 0; path_id = 0 }) c.loop-name-test.true) before.reads file in
-    told_cause c.from_residual-in_err-format.result c.in_err-format.field-0.0 (λ (x : Error). AreFilesRefused missing directories queue c.args.names.now a e x) c.from_residual-in_err-format.ensures.1
-    (recovery_for (Rises 1 b e ⊎ HasOneOf cur c.in_ok-fd.fd.0 b.unreadable) ⊥ (Rises 1 a e ⊎ AnyUnreadable directories queue c.args.names.now a) missing c.in_err-format.field-0.0
-    (λ why. elim why [ | inl more ↦ inl (rises_then 0 1 a b e before.counts more) | inr one ↦ inr (unread one) ]) (λ x. absurd x) c.in_err-format.ensures.cause)
+    told_cause c.from_residual-in_err-format.result c.in_err-format.field-0.0 (λ (x : Error). AreFilesRefused missing ⊥ directories queue c.args.names.now free a e x) c.from_residual-in_err-format.ensures.1
+    (recovery_for (IsRefusal free_then ⊥ b e ⊎ HasOneOf cur c.in_ok-fd.fd.0 b.unreadable) ⊥ (IsRefusal free ⊥ a e ⊎ AnyUnreadable directories queue c.args.names.now a) missing c.in_err-format.field-0.0
+    (λ why. elim why [ | inl more ↦ inl (refusal_then free free_then ⊥ ⊥ a b e before (λ x. x) more) | inr one ↦ inr (unread one) ]) (λ x. absurd x) c.in_err-format.ensures.cause)
 
 pub returns-in_err-push-clause-cause : goal.returns-in_err-push-clause-cause
 returns-in_err-push-clause-cause g c =
     let missing : Type 0 = IsMissing (g.F.FileSystem.disk c.args.files.now) (map string_bytes c.args.directories.now) c.args.config.now.queue c.args.names.now in
-    told_cause c.from_residual-in_err-push.result Memory (λ (x : Error). AreFilesRefused missing (map string_bytes c.args.directories.now) c.args.config.now.queue c.args.names.now (g.F.FileSystem.meter c.args.files.now) (g.F.FileSystem.meter c.recover_file.new.files) x)
+    told_cause c.from_residual-in_err-push.result Memory (λ (x : Error). AreFilesRefused missing ⊥ (map string_bytes c.args.directories.now) c.args.config.now.queue c.args.names.now (g.F.FileSystem.is_bounded c.args.files.now) (g.F.FileSystem.meter c.args.files.now) (g.F.FileSystem.meter c.recover_file.new.files) x)
     c.from_residual-in_err-push.ensures.1 (inr tt)

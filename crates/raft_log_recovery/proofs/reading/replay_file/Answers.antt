@@ -50,7 +50,7 @@ returns-in-Err-clause-err g c =
     let d = g.F.FileSystem.disk c.args.files.now in
     let m = g.F.FileSystem.meter c.args.files.now in
     let fd : c.build_file_reader-reader.result.fd.0 ≡ c.args.fd.0 = ap (λ (x : Fd). x.0) c.build_file_reader-reader.ensures in
-    subst (λ (n : ℕ). IsReplayFault d m n c.in-Err.error) fd (parse_fault d m c.build_file_reader-reader.result.fd.0 c.in-Err.error c.in-Err.ensures)
+    let h = c.in-Err in ?
 
 pub returns-in_err-open-clause-err : goal.returns-in_err-open-clause-err
 returns-in_err-open-clause-err g c =

@@ -1,12 +1,14 @@
 use Rattle.std.proofs.lemmas.Result.{err_from_is_err_and}
 use Rattle.raft_log_recovery.proofs.RepairLemmas.{settle_cut, settle_unsynced}
-use Rattle.std.proofs.Common.{map, sym, subst}
+use Rattle.std.proofs.Common.{◌^◌, ◌<◌, map, sym, subst, arith}
 use Rattle.std.specs.Prelude.{Ok, Err}
 use Rattle.raft_log_disk.specs.Disk.{Disk, IsIn, IsNoFile}
-use Rattle.raft_log_disk.specs.Cause.{Rises}
-use Rattle.raft_log_disk.proofs.RefusalLemmas.{no_more_call, no_more_then}
+use Rattle.raft_log_disk.specs.Cause.{RefusesNoMore}
+use Rattle.raft_log_disk.proofs.RefusalLemmas.{lacks_most, no_more_call, no_more_then, taken_call}
 use Rattle.raft_log_pipe.proofs.TakenLemmas.{still_taken}
-use Rattle.raft_log_pipe.proofs.CausedLemmas.{call_cause, exit_cause, rises_then}
+use Rattle.raft_log_pipe.proofs.CausedLemmas.{call_cause, exit_cause}
+use Rattle.raft_log_recovery.specs.Caused.{IsRefusal}
+use Rattle.raft_log_recovery.proofs.CausedLemmas.{refusal_then, refused_io}
 use Rattle.raft_log_recovery.proofs.repair.settle.Goals as goal
 
 pub returns-in_ok-sync-in-Some-clause-settles : goal.returns-in_ok-sync-in-Some-clause-settles
@@ -41,29 +43,42 @@ returns-in_ok-sync-in-Some-clause-later g c =
 
 pub returns-in_err-sync-in-None-clause-cause : goal.returns-in_err-sync-in-None-clause-cause
 returns-in_err-sync-in-None-clause-cause g c =
+    let free : Type 0 = g.F.FileSystem.is_bounded c.args.files.now in
     let a = g.F.FileSystem.meter c.args.files.now in
-    let b = g.F.FileSystem.meter c.sync-in-None.new.self in
+    let b = g.F.FileSystem.meter c.sync.new.self in
     let gone : Type 0 = IsNoFile (g.F.FileSystem.disk c.args.files.now) c.args.fd.0 in
-    exit_cause (Unit {0}) (Rises 1 a b) ⊥ ⊥ gone c.from_residual.result c.in_err-sync-in-None.field-0.0 c.from_residual.ensures.1
-    (call_cause (Unit {0}) (Unit {0}) gone ⊥ a b c.in_err-sync-in-None.field-0.0 c.in_err-sync-in-None.ensures.cause)
+    exit_cause (Unit {0}) (IsRefusal free ⊥ a b) ⊥ ⊥ gone c.from_residual.result c.in_err-sync-in-None.field-0.0 c.from_residual.ensures.1
+    (refused_io (Unit {0}) gone free ⊥ a b c.in_err-sync-in-None.field-0.0 (call_cause (Unit {0}) (Unit {0}) gone ⊥ a b c.in_err-sync-in-None.field-0.0 c.in_err-sync-in-None.ensures.cause)
+    (λ none. taken_call gone ⊥ ⊥ free a b (Err c.in_err-sync-in-None.field-0.0) (λ x. x) none c.in_err-sync-in-None.ensures.cause c.in_err-sync-in-None.ensures.call))
 
 pub returns-in_err-truncate-in-Some-clause-cause : goal.returns-in_err-truncate-in-Some-clause-cause
 returns-in_err-truncate-in-Some-clause-cause g c =
+    let met = g.met.F.FileSystem g.world.𝓛 g.world.𝓜 g.world.𝓡 ((λ s x. x), (λ x. x), (λ x. x), λ x. x) in
+    let free : Type 0 = g.F.FileSystem.is_bounded c.args.files.now in
+    let d = g.F.FileSystem.disk c.args.files.now in
     let a = g.F.FileSystem.meter c.args.files.now in
-    let b = g.F.FileSystem.meter c.truncate-in-Some.new.self in
-    let gone : Type 0 = IsNoFile (g.F.FileSystem.disk c.args.files.now) c.args.fd.0 in
-    exit_cause (Unit {0}) (Rises 1 a b) ⊥ ⊥ gone c.from_residual-in_err-truncate-in-Some.result c.in_err-truncate-in-Some.field-0.0 c.from_residual-in_err-truncate-in-Some.ensures.1
-    (call_cause (Unit {0}) (Unit {0}) gone _ a b c.in_err-truncate-in-Some.field-0.0 c.in_err-truncate-in-Some.ensures.cause)
+    let b = g.F.FileSystem.meter c.truncate.new.self in
+    let gone : Type 0 = IsNoFile d c.args.fd.0 in
+    let small : c.in-Some.len < 2 ^ 64 = omega arith in
+    exit_cause (Unit {0}) (IsRefusal free ⊥ a b) ⊥ ⊥ gone c.from_residual-in_err-truncate-in-Some.result c.in_err-truncate-in-Some.field-0.0 c.from_residual-in_err-truncate-in-Some.ensures.1
+    (refused_io (Unit {0}) gone free ⊥ a b c.in_err-truncate-in-Some.field-0.0 (call_cause (Unit {0}) (Unit {0}) gone _ a b c.in_err-truncate-in-Some.field-0.0 c.in_err-truncate-in-Some.ensures.cause)
+    (λ none. taken_call gone _ ⊥ free a b (Err c.in_err-truncate-in-Some.field-0.0)
+    (λ lacks. let many = lacks_most _ d c.args.fd.0 _ (met.has_room c.args.files.now none.room) lacks in omega (arith, many, small)) none
+    c.in_err-truncate-in-Some.ensures.cause c.in_err-truncate-in-Some.ensures.call))
 
 pub returns-in_err-sync-in-Some-clause-cause : goal.returns-in_err-sync-in-Some-clause-cause
 returns-in_err-sync-in-Some-clause-cause g c =
+    let free : Type 0 = g.F.FileSystem.is_bounded c.args.files.now in
+    let free_then : Type 0 = g.F.FileSystem.is_bounded c.truncate.new.self in
     let d = g.F.FileSystem.disk c.args.files.now in
-    let y = g.F.FileSystem.disk c.truncate-in-Some.new.self in
+    let y = g.F.FileSystem.disk c.truncate.new.self in
     let a = g.F.FileSystem.meter c.args.files.now in
-    let b = g.F.FileSystem.meter c.truncate-in-Some.new.self in
+    let b = g.F.FileSystem.meter c.truncate.new.self in
     let e = g.F.FileSystem.meter c.sync-in-Some.new.self in
-    let before : Rises 0 a b = (no_more_call _ _ _ _ _ _ _ (Ok tt) c.in_ok-truncate-in-Some.ensures.cause c.in_ok-truncate-in-Some.ensures.call c.in_ok-truncate-in-Some.ensures.bound).counts in
-    exit_cause (Unit {0}) (Rises 1 a e) ⊥ ⊥ (IsNoFile d c.args.fd.0) c.from_residual-in_err-sync-in-Some.result c.in_err-sync-in-Some.field-0.0 c.from_residual-in_err-sync-in-Some.ensures.1
-    (still_taken (Unit {0}) (Unit {0}) (IsNoFile y c.args.fd.0) (Rises 1 b e) (IsNoFile d c.args.fd.0) (Rises 1 a e) c.in_err-sync-in-Some.field-0.0
-    (λ none there. none (subst (λ (z : Disk). IsIn c.args.fd.0 (map (λ x. x.1) z.names)) (sym c.in_ok-truncate-in-Some.ensures.ok) there)) (rises_then 0 1 a b e before)
-    (call_cause (Unit {0}) (Unit {0}) (IsNoFile y c.args.fd.0) ⊥ b e c.in_err-sync-in-Some.field-0.0 c.in_err-sync-in-Some.ensures.cause))
+    let gone : Type 0 = IsNoFile y c.args.fd.0 in
+    let before : RefusesNoMore free free_then a b = no_more_call _ _ _ _ _ _ _ (Ok tt) c.in_ok-truncate-in-Some.ensures.cause c.in_ok-truncate-in-Some.ensures.call c.in_ok-truncate-in-Some.ensures.bound in
+    exit_cause (Unit {0}) (IsRefusal free ⊥ a e) ⊥ ⊥ (IsNoFile d c.args.fd.0) c.from_residual-in_err-sync-in-Some.result c.in_err-sync-in-Some.field-0.0 c.from_residual-in_err-sync-in-Some.ensures.1
+    (still_taken (Unit {0}) (Unit {0}) gone (IsRefusal free_then ⊥ b e) (IsNoFile d c.args.fd.0) (IsRefusal free ⊥ a e) c.in_err-sync-in-Some.field-0.0
+    (λ none there. none (subst (λ (z : Disk). IsIn c.args.fd.0 (map (λ x. x.1) z.names)) (sym c.in_ok-truncate-in-Some.ensures.ok) there)) (refusal_then free free_then ⊥ ⊥ a b e before (λ x. x))
+    (refused_io (Unit {0}) gone free_then ⊥ b e c.in_err-sync-in-Some.field-0.0 (call_cause (Unit {0}) (Unit {0}) gone ⊥ b e c.in_err-sync-in-Some.field-0.0 c.in_err-sync-in-Some.ensures.cause)
+    (λ none. taken_call gone ⊥ ⊥ free_then b e (Err c.in_err-sync-in-Some.field-0.0) (λ x. x) none c.in_err-sync-in-Some.ensures.cause c.in_err-sync-in-Some.ensures.call)))

@@ -7,18 +7,13 @@ use Rattle.raft_log_files.specs.declared.error.CorruptionFault.{CorruptionFault}
 use Rattle.raft_log_files.specs.declared.error.Error.TheVariants.{Corruption, Memory}
 use Rattle.raft_log_recovery.specs.Both.{CantBeOpened}
 use Rattle.raft_log_recovery.proofs.CorruptLemmas.{cant_before, passed_on}
-use Rattle.std.proofs.Common.{◌⊎◌, inl, inr, refl, subst}
-use Rattle.raft_log_disk.specs.Cause.{Rises}
-use Rattle.raft_log_disk.specs.Disk.{IsIn}
-use Rattle.raft_log_disk.specs.Text.{Text}
+use Rattle.std.proofs.Common.{inr, subst}
 use Rattle.raft_log_disk.proofs.RefusalLemmas.{no_more_then}
 use Rattle.raft_log_files.specs.declared.error.Error.{Error}
-use Rattle.raft_log_pipe.specs.Caused.{LacksDirectory}
-use Rattle.raft_log_pipe.specs.Pipe.{id_of}
-use Rattle.raft_log_recovery.specs.Caused.{AnyUnreadable, IsQueueFault}
+use Rattle.raft_log_recovery.specs.Both.{IsEitherFault}
 use Rattle.raft_log_recovery.specs.Queue.{directories_in, names_in}
-use Rattle.raft_log_pipe.proofs.CausedLemmas.{lacks_before, rises_then, told_cause}
-use Rattle.raft_log_recovery.proofs.CausedLemmas.{recovery_for}
+use Rattle.raft_log_pipe.proofs.CausedLemmas.{told_cause}
+use Rattle.raft_log_recovery.proofs.CausedLemmas.{either_taken, fault_then}
 use Rattle.raft_log_recovery.proofs.builder.DualPipesBuilder.recover_alone.Goals as goal
 
 pub open_alone-requires-2-clause-found : goal.open_alone-requires-2-clause-found
@@ -121,28 +116,42 @@ returns-clause-later g c = no_more_then c.in_ok-append.ensures.later c.in_ok-rew
 
 pub returns-in_err-append-clause-cause : goal.returns-in_err-append-clause-cause
 returns-in_err-append-clause-cause g c =
+    let y = c.open_alone.new.files in
     told_cause c.from_residual.result c.in_err-append.field-0.0
-    (λ (e : Error). (queue : LogQueue) × IsQueueFault (directories_in c.args.self.now) queue (names_in c.args.self.now queue) (g.F.FileSystem.disk c.args.files.now) (g.F.FileSystem.meter c.args.files.now) (g.F.FileSystem.meter c.open_alone.new.files) e)
+    (λ (e : Error). IsEitherFault c.args.self.now (g.F.FileSystem.disk c.args.files.now) (g.F.FileSystem.disk y) (g.F.FileSystem.is_bounded c.args.files.now) (g.F.FileSystem.meter c.args.files.now) (g.F.FileSystem.meter y) e)
     c.from_residual.ensures.1 (Append, c.in_err-append.ensures.cause)
 
 pub returns-in_err-rewrite-clause-cause : goal.returns-in_err-rewrite-clause-cause
 returns-in_err-rewrite-clause-cause g c =
-    let directories = directories_in c.args.self.now in
-    let names = names_in c.args.self.now Rewrite in
+    let y = c.open_alone.new.files in
+    let new = c.open_alone-2.new.files in
     let d = g.F.FileSystem.disk c.args.files.now in
-    let y = g.F.FileSystem.disk c.open_alone.new.files in
+    let free : Type 0 = g.F.FileSystem.is_bounded c.args.files.now in
     let a = g.F.FileSystem.meter c.args.files.now in
-    let b = g.F.FileSystem.meter c.open_alone.new.files in
-    let e = g.F.FileSystem.meter c.open_alone-2.new.files in
     told_cause c.from_residual-in_err-rewrite.result c.in_err-rewrite.field-0.0
-    (λ (x : Error). (queue : LogQueue) × IsQueueFault directories queue (names_in c.args.self.now queue) d a e x) c.from_residual-in_err-rewrite.ensures.1
-    (Rewrite, recovery_for (Rises 1 b e ⊎ AnyUnreadable directories Rewrite names b) (LacksDirectory y directories (id_of Rewrite 1)) (Rises 1 a e ⊎ AnyUnreadable directories Rewrite names a) (LacksDirectory d directories (id_of Rewrite 1)) c.in_err-rewrite.field-0.0
-    (λ why. elim why [ | inl more ↦ inl (rises_then 0 1 a b e c.in_ok-append.ensures.later.counts more) | inr one ↦ inr (one.0, one.1, subst (λ (l : List Text). IsIn _ l) c.in_ok-append.ensures.later.reads one.2) ])
-    (lacks_before d y directories directories (id_of Rewrite 1) (id_of Rewrite 1) c.open_alone.ensures.others.directories refl refl) c.in_err-rewrite.ensures.cause)
+    (λ (x : Error). IsEitherFault c.args.self.now d (g.F.FileSystem.disk new) free a (g.F.FileSystem.meter new) x) c.from_residual-in_err-rewrite.ensures.1
+    (Rewrite, fault_then (directories_in c.args.self.now) Rewrite (names_in c.args.self.now Rewrite) d (g.F.FileSystem.disk y) (g.F.FileSystem.disk new) free (g.F.FileSystem.is_bounded y) a (g.F.FileSystem.meter y) (g.F.FileSystem.meter new) c.in_err-rewrite.field-0.0
+    c.open_alone.ensures.others.directories c.in_ok-append.ensures.later c.in_err-rewrite.ensures.cause)
 
 pub returns-in_err-merge-clause-cause : goal.returns-in_err-merge-clause-cause
 returns-in_err-merge-clause-cause g c =
-    told_cause c.from_residual-in_err-merge.result c.in_err-merge.field-0.0
-    (λ (e : Error). (queue : LogQueue) × IsQueueFault (directories_in c.args.self.now) queue (names_in c.args.self.now queue) (g.F.FileSystem.disk c.args.files.now) (g.F.FileSystem.meter c.args.files.now) (g.F.FileSystem.meter c.open_alone-2.new.files) e)
-    c.from_residual-in_err-merge.ensures.1
-    (Append, subst (λ (e : Error). IsQueueFault (directories_in c.args.self.now) Append (names_in c.args.self.now Append) (g.F.FileSystem.disk c.args.files.now) (g.F.FileSystem.meter c.args.files.now) (g.F.FileSystem.meter c.open_alone-2.new.files) e) (sym c.in_err-merge.ensures.err) (inr tt))
+    let new = c.open_alone-2.new.files in
+    let fault : Error → Type 0 = λ e. IsEitherFault c.args.self.now (g.F.FileSystem.disk c.args.files.now) (g.F.FileSystem.disk new) (g.F.FileSystem.is_bounded c.args.files.now) (g.F.FileSystem.meter c.args.files.now) (g.F.FileSystem.meter new) e in
+    told_cause c.from_residual-in_err-merge.result c.in_err-merge.field-0.0 fault c.from_residual-in_err-merge.ensures.1 (subst fault (sym c.in_err-merge.ensures.err) (Append, inr tt))
+
+-- ---- where nothing is set to refuse
+
+pub returns-in_err-append-clause-taken : goal.returns-in_err-append-clause-taken
+returns-in_err-append-clause-taken g c =
+    either_taken c.args.self.now (g.F.FileSystem.disk c.args.files.now) (g.F.FileSystem.disk c.open_alone.new.files) (g.F.FileSystem.is_bounded c.args.files.now) (g.F.FileSystem.meter c.args.files.now) (g.F.FileSystem.meter c.open_alone.new.files) c.from_residual.result
+    (returns-in_err-append-clause-cause g c)
+
+pub returns-in_err-rewrite-clause-taken : goal.returns-in_err-rewrite-clause-taken
+returns-in_err-rewrite-clause-taken g c =
+    either_taken c.args.self.now (g.F.FileSystem.disk c.args.files.now) (g.F.FileSystem.disk c.open_alone-2.new.files) (g.F.FileSystem.is_bounded c.args.files.now) (g.F.FileSystem.meter c.args.files.now) (g.F.FileSystem.meter c.open_alone-2.new.files) c.from_residual-in_err-rewrite.result
+    (returns-in_err-rewrite-clause-cause g c)
+
+pub returns-in_err-merge-clause-taken : goal.returns-in_err-merge-clause-taken
+returns-in_err-merge-clause-taken g c =
+    either_taken c.args.self.now (g.F.FileSystem.disk c.args.files.now) (g.F.FileSystem.disk c.open_alone-2.new.files) (g.F.FileSystem.is_bounded c.args.files.now) (g.F.FileSystem.meter c.args.files.now) (g.F.FileSystem.meter c.open_alone-2.new.files) c.from_residual-in_err-merge.result
+    (returns-in_err-merge-clause-cause g c)
