@@ -15,12 +15,14 @@ use Rattle.raft_log_pipe.specs.Pipe.{Holds, IsPipe, Numbered, id_of}
 use Rattle.raft_log_pipe.proofs.AloneLemmas.{in_second}
 use Rattle.raft_log_pipe.proofs.OthersLemmas.{alone_beside, once_beside, pipe_beside, pipe_holds_beside, same_others}
 use Rattle.raft_log_pipes.specs.declared.pipes.DualPipes.{DualPipes}
-use Rattle.raft_log_pipes.specs.Pipes.{ArePipes}
+use Rattle.raft_log_pipes.specs.Pipes.{ArePipes, pipe_of}
 use Rattle.raft_log_pipes.proofs.QueueLemmas.{not_append, not_rewrite}
 use Rattle.raft_log_recovery.specs.declared.builder.DualPipesBuilder.{DualPipesBuilder}
 use Rattle.raft_log_recovery.specs.declared.scan.FileKind.TheVariants.{Log}
 use Rattle.raft_log_recovery.specs.declared.scan.FileName.{FileName}
 use Rattle.raft_log_recovery.specs.Both.{AreOpened, ArePipesWith, CantBeOpened, IsFoundBy, IsOpened, LeavesBoth, LeavesQueue}
+use Rattle.raft_log_recovery.specs.Crashed.{HasHole}
+use Rattle.raft_log_recovery.specs.Holes.{HolesOnlyBroken}
 use Rattle.raft_log_recovery.specs.Opening.{IsPipeWith, batches_of}
 use Rattle.raft_log_recovery.specs.Queue.{AnyRefused, AreNumbered, ChangesAtMost, IsFileOf, KeepsRefused, directories_in, names_in, path_of}
 use Rattle.raft_log_recovery.specs.Repair.{IsAtRest, LeavesBatches, batches_in}
@@ -29,6 +31,7 @@ use Rattle.raft_log_recovery.specs.Scan.{AreFound}
 use Rattle.raft_log_recovery.proofs.AgainLemmas.{none_keeps}
 use Rattle.raft_log_recovery.proofs.BesideLemmas.{HaveSame, aligned_same, batches_same, bytes_same, file_same, found_same, got_same, has_refused_same, have_beside, open_same, refused_same, sound_same, turned}
 use Rattle.raft_log_recovery.proofs.FoundLemmas.{found_numbered}
+use Rattle.raft_log_recovery.proofs.HoleLemmas.{broken_before, hole_before}
 use Rattle.raft_log_recovery.proofs.QueueLemmas.{number_of}
 use Rattle.raft_log_recovery.proofs.RepairLemmas.{leaves_same}
 
@@ -198,3 +201,11 @@ module _ (mode : RecoveryMode) (b : DualPipesBuilder) (d mid : Disk) (old : IsNa
         rewrite = subst (λ (x : SinglePipe). IsPipeWith At Rewrite (names_in b Rewrite) d new x twos) (sym is.1) (with_from At Rewrite Append (names_in b Rewrite) d mid new q twos same old between rewrite two);
         append = subst (λ (x : SinglePipe). IsPipeWith At Append (names_in b Append) d new x ones) (sym is.0) (with_on At Append Rewrite (names_in b Append) d mid new p ones apart rewrites one);
       }
+
+      pub both_holes : (ones : List Placed) → IsPipeWith At Append (names_in b Append) d mid p ones → HolesOnlyBroken mode At Append (names_in b Append) d mid p → HolesOnlyBroken mode At Rewrite (names_in b Rewrite) mid new q → (queue : LogQueue)
+          → HolesOnlyBroken mode At queue (names_in b queue) d new (pipe_of both queue)
+      both_holes ones one early late Append hole =
+          early (hole_before Rewrite p mid new (batches_of Append d one.files) [] apart rewrites one.pipe.holds (subst (λ (x : SinglePipe). HasHole x new) is.0 hole))
+      both_holes ones one early late Rewrite hole =
+          let broken = late (subst (λ (x : SinglePipe). HasHole x new) is.1 hole) in
+          (broken.0, broken_before Rewrite d mid same old between At (length At) (names_in b Rewrite) (numbers_in mode At Rewrite (names_in b Rewrite) d rewrite) broken.1)

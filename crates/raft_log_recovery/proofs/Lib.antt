@@ -20,3 +20,4 @@ pub mod BesideLemmas
 pub mod BothLemmas
 pub mod CorruptLemmas
 pub mod CausedLemmas
+pub mod HoleLemmas

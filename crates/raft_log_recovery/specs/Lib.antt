@@ -7,3 +7,4 @@ pub mod Crashed
 pub mod Again
 pub mod Both
 pub mod Caused
+pub mod Holes

@@ -14,6 +14,7 @@ ghost use Rattle.raft_log_recovery.specs.Scan.{AreFound, directories_of};
 ghost use Rattle.raft_log_recovery.specs.Again.{FindsAsBefore};
 ghost use Rattle.raft_log_recovery.specs.Caused.{IsFirstBarred, IsFirstLacking, IsQueueFault, IsRecoveryTaken};
 ghost use Rattle.raft_log_recovery.specs.Both.{CantBeOpened};
+ghost use Rattle.raft_log_recovery.specs.Holes.{HolesOnlyBroken};
 ghost use Rattle.raft_log_recovery.specs.Replay.{Placed};
 ghost use Rattle.raft_log_recovery.specs.Queue.{AnyRefused, AreLeft, ChangesAtMost, KeepsRefused, directories_in, names_in};
 ghost use Rattle.raft_log_recovery.specs.Opening.{AnyAligned, IsPipeWith};
@@ -73,6 +74,7 @@ impl DualPipesBuilder {
         ensures aligned { AnyAligned (directories_in self.now) config.now.queue (names_in self.now config.now.queue) (F.disk files.old) → IsErr result }
         ensures kept { OnErr result (KeepsRefused config.now.mode (directories_in self.now) config.now.queue (names_in self.now config.now.queue) (F.disk files.old) (F.disk files.new)) }
         ensures corrupt { (f : CorruptionFault) → result ≡ Err (Corruption f) → CantBeOpened config.now.mode self.now config.now.queue (F.disk files.old) }
+        ensures holes { IfOk result (HolesOnlyBroken config.now.mode (directories_in self.now) config.now.queue (names_in self.now config.now.queue) (F.disk files.old) (F.disk files.new)) }
         ensures later { RefusesNoMore (F.is_bounded files.old) (F.is_bounded files.new) (F.meter files.old) (F.meter files.new) }
         ensures cause { IfErr result (λ e. IsQueueFault (directories_in self.now) config.now.queue (names_in self.now config.now.queue) (F.disk files.old) (F.disk files.new) (F.is_bounded files.old) (F.meter files.old) (F.meter files.new) e) }
         ensures taken { NothingRefuses (F.is_bounded files.old) (F.meter files.old) → IsRecoveryTaken (IsFirstLacking (directories_in self.now) config.now.queue (names_in self.now config.now.queue) (F.disk files.old))

@@ -24,3 +24,6 @@ returns-clause-corrupt g c = c.open_queue.ensures.corrupt
 
 pub returns-clause-cause : goal.returns-clause-cause
 returns-clause-cause g c = c.open_queue.ensures.cause
+
+pub returns-clause-holes : goal.returns-clause-holes
+returns-clause-holes g c = c.open_queue.ensures.holes

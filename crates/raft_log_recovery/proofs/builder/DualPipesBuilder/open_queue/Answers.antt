@@ -30,6 +30,7 @@ use Rattle.raft_log_pipe.specs.Taken.{main_path}
 use Rattle.raft_log_disk.specs.Disk.{HasDirectory, IsNoNewFile}
 use Rattle.raft_log_recovery.specs.Caused.{AnyUnreadable, IsFirstBarred, IsFirstLacking, IsQueueFault, IsRefusal}
 use Rattle.raft_log_pipe.proofs.CausedLemmas.{lacks_before, told_cause}
+use Rattle.raft_log_recovery.proofs.HoleLemmas.{holes_created, holes_opened}
 use Rattle.raft_log_recovery.proofs.CausedLemmas.{first_barred, none_unreadable, recovery_caused, recovery_for, refusal_for, refusal_then, refused_pipe, taken_of}
 use Rattle.raft_log_recovery.proofs.builder.DualPipesBuilder.open_queue.Goals as goal
 
@@ -303,6 +304,18 @@ returns-then-is_empty-clause-corrupt g c = λ f corrupt. absurd (c.create.ensure
 
 pub returns-clause-corrupt : goal.returns-clause-corrupt
 returns-clause-corrupt g c = λ f corrupt. absurd (c.open.ensures.corrupt f corrupt)
+
+-- ---- holes
+
+pub returns-then-is_empty-clause-holes : goal.returns-then-is_empty-clause-holes
+returns-then-is_empty-clause-holes g c =
+    holes_created c.create.result c.args.config.now.mode (directories_in c.args.self.now) c.args.config.now.queue (g.F.FileSystem.disk c.args.files.now) (g.F.FileSystem.disk c.create.new.files) (names_in c.args.self.now c.args.config.now.queue)
+    c.create.ensures.first
+
+pub returns-clause-holes : goal.returns-clause-holes
+returns-clause-holes g c =
+    holes_opened c.open.result c.args.config.now.mode (directories_in c.args.self.now) c.args.config.now.queue (g.F.FileSystem.disk c.args.files.now) (g.F.FileSystem.disk c.recover_queue.new.files) (g.F.FileSystem.disk c.open.new.files)
+    (names_in c.args.self.now c.args.config.now.queue) c.in_ok-recovered.recovered.items c.in_ok-recovered.ensures.ok (λ any. false≢true (c.in_ok-recovered.ensures.refused any)) c.open.ensures.files c.open.ensures.pipe c.open.ensures.changes
 
 -- ---- what is set to refuse, and why it is refused
 

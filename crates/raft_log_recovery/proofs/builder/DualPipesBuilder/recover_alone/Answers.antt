@@ -1,6 +1,6 @@
 use Rattle.std.proofs.Common.{[], ◌++◌, ◌≡◌, Err, sym, ◌∙◌}
 use Rattle.std.proofs.lemmas.Bool.{false≢true}
-use Rattle.raft_log_recovery.proofs.BothLemmas.{both_leave, both_opened, both_pipes, both_with, first_leaves, found_still, neither}
+use Rattle.raft_log_recovery.proofs.BothLemmas.{both_holes, both_leave, both_opened, both_pipes, both_with, first_leaves, found_still, neither}
 use Rattle.raft_log_records.specs.declared.file_id.LogQueue.{LogQueue}
 use Rattle.raft_log_records.specs.declared.file_id.LogQueue.TheVariants.{Append, Rewrite}
 use Rattle.raft_log_files.specs.declared.error.CorruptionFault.{CorruptionFault}
@@ -102,6 +102,14 @@ returns-in_err-merge-clause-corrupt g c =
     passed_on (λ (f : CorruptionFault). (queue : LogQueue) × CantBeOpened c.args.self.now.config.recovery_mode c.args.self.now queue (g.F.FileSystem.disk c.args.files.now))
     c.in_err-merge.field-0.0 c.from_residual-in_err-merge.result c.from_residual-in_err-merge.ensures.1
     (λ f same. let apart : Memory ≡ Corruption f = sym c.in_err-merge.ensures.err ∙ same in absurd cc)
+
+pub returns-clause-holes : goal.returns-clause-holes
+returns-clause-holes g c =
+    let met = g.met.F.FileSystem g.world.𝓛 g.world.𝓜 g.world.𝓡 ((λ s x. x), (λ x. x), (λ x. x), λ x. x) in
+    let one = c.in_ok-append.ensures.replayed [] c.new_target-behind.ensures in
+    both_holes c.args.self.now.config.recovery_mode c.args.self.now (g.F.FileSystem.disk c.args.files.now) (g.F.FileSystem.disk c.open_alone.new.files) (met.is_named c.args.files.now) (met.is_named c.open_alone.new.files) c.requires.append
+    c.requires.rewrite c.open_alone.ensures.others (g.F.FileSystem.disk c.open_alone-2.new.files) (met.is_named c.open_alone-2.new.files) c.open_alone-2.ensures.others
+    c.in_ok-append.append c.in_ok-rewrite.rewrite c.open.result c.open.ensures.pipes c.in_ok-append.ensures.opened c.in_ok-rewrite.ensures.opened one.0 one.2 c.in_ok-append.ensures.holes c.in_ok-rewrite.ensures.holes
 
 -- ---- what is set to refuse, and why it is refused
 
