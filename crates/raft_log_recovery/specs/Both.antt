@@ -1,4 +1,4 @@
--- Both queues, opened one beside the other: the append queue first, then the rewrite queue.
+-- Both queues, opened one beside the other: the rewrite queue first, then the append queue.
 use Rattle.std.specs.Prelude.{◌≡◌, ◌⊎◌, List, ◌++◌, Result}
 use Rattle.raft_log_records.specs.declared.file_id.LogQueue.{LogQueue}
 use Rattle.raft_log_records.specs.declared.file_id.LogQueue.TheVariants.{Append, Rewrite}
@@ -38,11 +38,11 @@ pub record LeavesQueue (mode : RecoveryMode) (directories : List Text) (queue : 
   pub left : AreLeft directories queue names old new
   pub kept : KeepsRefused mode directories queue names old new
 
--- files of the append queue changed, then files of the rewrite queue, and nothing else
+-- files of the rewrite queue changed, then files of the append queue, and nothing else
 pub record ChangesBoth (old new : Disk) : Type 0 where
   pub between : Disk
-  pub appends : KeepsOthers Append old between
-  pub rewrites : KeepsOthers Rewrite between new
+  pub rewrites : KeepsOthers Rewrite old between
+  pub appends : KeepsOthers Append between new
 
 -- so much of both queues
 pub record LeavesBoth (mode : RecoveryMode) (builder : DualPipesBuilder) (old new : Disk) : Type 0 where

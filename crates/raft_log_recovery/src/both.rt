@@ -57,11 +57,11 @@ impl DualPipesBuilder {
     }
 
     /// Recovers the files of both queues that `scan` found, with one worker, and opens the pipes
-    /// over them (own; raft-engine's `recover` and `finish`). The append queue comes first, so the
-    /// first file of a queue without files is made for it first. The machine that is answered has
-    /// replayed the rewrite queue's batches, then those of the append queue. Errors are those of
-    /// either queue, and `Memory`. Refused or not, an opening that follows finds no other batches of
-    /// either queue than one before would have.
+    /// over them (own; raft-engine's `recover` and `finish`). The rewrite queue comes first, so that
+    /// one machine replays its batches, and then those of the append queue, as they are read. So
+    /// the first file of a queue without files is made for it first, too. Errors are those of either
+    /// queue, and `Memory`. Refused or not, an opening that follows finds no other batches of either
+    /// queue than one before would have.
     pub fn recover_alone<F: FileSystem, M: ReplayMachine + Drop, T: Factory<M>>(
         &self,
         files: &mut F,
@@ -81,11 +81,9 @@ impl DualPipesBuilder {
         ensures cause { IfErr result (λ e. IsEitherFault self.now (F.disk files.old) (F.disk files.new) (F.is_bounded files.old) (F.meter files.old) (F.meter files.new) e) }
         ensures taken { NothingRefuses (F.is_bounded files.old) (F.meter files.old) → AreTaken self.now (F.disk files.old) (F.disk files.new) result }
     {
-        let mut behind = factory.new_target();
-        let append = self.open_alone(files, LogQueue::Append, &mut behind)?;
         let mut machine = factory.new_target();
         let rewrite = self.open_alone(files, LogQueue::Rewrite, &mut machine)?;
-        machine.merge(behind)?;
+        let append = self.open_alone(files, LogQueue::Append, &mut machine)?;
         Ok((DualPipes::open(append, rewrite), machine))
     }
 }

@@ -1,4 +1,4 @@
-use Rattle.std.proofs.Common.{◌≡◌, ℕ, Ok, Err, ap, rules, subst, ◌∙◌}
+use Rattle.std.proofs.Common.{◌≡◌, ℕ, Ok, Err, ap, rules, sym, subst, ◌∙◌}
 use Rattle.raft_log_disk.specs.declared.fault.Fd.{Fd}
 use Rattle.raft_log_disk.specs.Format.{header_len}
 use Rattle.raft_log_files.specs.declared.error.CorruptionFault.TheVariants.{Header}
@@ -50,7 +50,8 @@ returns-in-Err-clause-err g c =
     let d = g.F.FileSystem.disk c.args.files.now in
     let m = g.F.FileSystem.meter c.args.files.now in
     let fd : c.build_file_reader-reader.result.fd.0 ≡ c.args.fd.0 = ap (λ (x : Fd). x.0) c.build_file_reader-reader.ensures in
-    let h = c.in-Err in ?
+    subst (λ (e : Error). IsReplayFault d m c.args.fd.0 e) (sym c.in-Err.error-is)
+    (subst (λ (n : ℕ). IsReplayFault d m n c.in-Err.error) fd (parse_fault d m c.build_file_reader-reader.result.fd.0 c.in-Err.error c.in-Err.ensures))
 
 pub returns-in_err-open-clause-err : goal.returns-in_err-open-clause-err
 returns-in_err-open-clause-err g c =

@@ -31,7 +31,10 @@ batches-preserved g c =
 
 pub returns-in-Err-clause-err : goal.returns-in-Err-clause-err
 returns-in-Err-clause-err g c =
-    λ file is. next_fault c.batches.reader file (g.F.FileSystem.disk c.args.files.now) (g.F.FileSystem.meter c.args.files.now) c.in-Err.error (c.batches.invariant.file ∙ is) c.in-Err.ensures.err
+    let d = g.F.FileSystem.disk c.args.files.now in
+    let m = g.F.FileSystem.meter c.args.files.now in
+    λ file is. subst (λ (e : Error). IsReplayFault d m file.fd.0 e) (sym c.in-Err.error-is)
+    (next_fault c.batches.reader file d m c.in-Err.error (c.batches.invariant.file ∙ is) c.in-Err.ensures.err)
 
 pub returns-in_err-replay-in-Ok-Some-clause-err : goal.returns-in_err-replay-in-Ok-Some-clause-err
 returns-in_err-replay-in-Ok-Some-clause-err g c =
