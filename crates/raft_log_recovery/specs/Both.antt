@@ -50,12 +50,15 @@ pub record LeavesBoth (mode : RecoveryMode) (builder : DualPipesBuilder) (old ne
   pub rewrite : LeavesQueue mode (directories_in builder) Rewrite (names_in builder Rewrite) old new
   pub only : ChangesBoth old new
 
--- a pipe that can be used, of a queue in the builder's directories. Its files are the last ones there unless two had one number
+-- A pipe that can be used, of a queue in the builder's directories, with files of the size and version that its settings say. Its
+-- files are the last ones there unless two had one number
 pub record IsOpened (builder : DualPipesBuilder) (queue : LogQueue) (old new : Disk) (p : SinglePipe) : Type 0 where
   pub pipe : IsPipe p new
   pub queue_is : p.queue ≡ queue
   pub paths : directories_of_pipe p ≡ directories_in builder
   pub alone : IsOnce old.names (directories_in builder) queue → IsAlone p new
+  pub target : p.target_file_size ≡ builder.config.target_file_size.0
+  pub format : p.default_format ≡ record { version = builder.config.format_version; alignment = 0 }
 
 -- both pipes are so
 pub record AreOpened (builder : DualPipesBuilder) (old new : Disk) (p : DualPipes) : Type 0 where

@@ -62,6 +62,7 @@ impl DualPipesBuilder {
         ensures pipe { IfOk result (λ p. IsPipe p (F.disk files.new)) }
         ensures queue { IfOk result (λ p. p.queue ≡ config.now.queue) }
         ensures paths { IfOk result (λ p. directories_of_pipe p ≡ directories_in self.now) }
+        ensures settings { IfOk result (λ p. (p.target_file_size ≡ self.now.config.target_file_size.0) × (p.default_format ≡ record { version = self.now.config.format_version; alignment = 0 })) }
         ensures alone { IfOk result (λ p. IsOnce (F.disk files.old).names (directories_in self.now) config.now.queue → IsAlone p (F.disk files.new)) }
         ensures replayed { IfOk result (λ p. (placed : List Placed) → M.has_replayed machine.old placed
             → (more : List Placed) × M.has_replayed machine.new (placed ++ more)

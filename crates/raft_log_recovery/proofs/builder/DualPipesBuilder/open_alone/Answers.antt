@@ -6,7 +6,7 @@ use Rattle.raft_log_recovery.proofs.builder.DualPipesBuilder.open_alone.Goals as
 pub returns-clause-opened : goal.returns-clause-opened
 returns-clause-opened g c =
     opened_of c.open_queue.result c.args.self.now c.args.queue (g.F.FileSystem.disk c.args.files.now) (g.F.FileSystem.disk c.open_queue.new.files) c.open_queue.ensures.pipe c.open_queue.ensures.queue c.open_queue.ensures.paths
-    c.open_queue.ensures.alone
+    c.open_queue.ensures.alone c.open_queue.ensures.settings
 
 pub returns-clause-leaves : goal.returns-clause-leaves
 returns-clause-leaves g c = record {

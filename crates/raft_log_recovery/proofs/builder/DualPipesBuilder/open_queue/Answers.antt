@@ -11,7 +11,7 @@ use Rattle.raft_log_recovery.specs.Queue.{AreLeft, AreReadAlike, AreRecovered, O
 use Rattle.raft_log_pipe.specs.Found.{MakesButHeader}
 use Rattle.raft_log_pipe.specs.Pipe.{id_of}
 use Rattle.raft_log_recovery.specs.Scan.{AreFound}
-use Rattle.raft_log_recovery.proofs.OpeningLemmas.{created_gives, kept_only, no_names, none_aligned, none_last, none_named, opened_changes, opened_gives, opened_left, recovered_found, recovered_left}
+use Rattle.raft_log_recovery.proofs.OpeningLemmas.{set_so, created_gives, kept_only, no_names, none_aligned, none_last, none_named, opened_changes, opened_gives, opened_left, recovered_found, recovered_left}
 use Rattle.raft_log_recovery.proofs.AgainLemmas.{created_before, either_way, finds_before, none_keeps, opened_alike}
 use Rattle.raft_log_pipe.proofs.OthersLemmas.{others_on}
 use Rattle.raft_log_recovery.proofs.BesideLemmas.{only_others}
@@ -304,6 +304,14 @@ returns-then-is_empty-clause-corrupt g c = λ f corrupt. absurd (c.create.ensure
 
 pub returns-clause-corrupt : goal.returns-clause-corrupt
 returns-clause-corrupt g c = λ f corrupt. absurd (c.open.ensures.corrupt f corrupt)
+
+-- ---- what the settings say
+
+pub returns-then-is_empty-clause-settings : goal.returns-then-is_empty-clause-settings
+returns-then-is_empty-clause-settings g c = set_so c.create.result _ _ _ _ refl (λ i. record { version = c.new-format.ensures.version i; alignment = c.new-format.ensures.alignment i }) c.create.ensures.settings
+
+pub returns-clause-settings : goal.returns-clause-settings
+returns-clause-settings g c = set_so c.open.result _ _ _ _ refl (λ i. record { version = c.new-format.ensures.version i; alignment = c.new-format.ensures.alignment i }) c.open.ensures.settings
 
 -- ---- holes
 
