@@ -26,7 +26,7 @@ returns-in_err-fd-clause-cause g c =
     let gone : Type 0 = fd_of d.names c.as_str-2.result.now ≡ None in
     let same : c.as_str-2.result.now ≡ path
     = c.as_str-2.ensures.value ∙ c.in_ok-path.ensures ∙ (λ i. c.as_str.ensures.value i ++ 47 ∷ log_file_name (record { queue = c.new-id.ensures.queue i; seq = c.new-id.ensures.seq i }))
-    ∙ ap (λ (l : Text). l ++ 47 ∷ log_file_name (id_of c.args.queue c.args.name.seq)) (sym (mapped_at c.args.directories.now c.args.name.path_id c.index-directories-name.result.now c.requires.place c.index-directories-name.is)) in
+    ∙ ap (λ (l : Text). l ++ 47 ∷ log_file_name (id_of c.args.queue c.args.name.seq)) (sym (mapped_at c.args.directories.now c.args.name.path_id c.index-directories-name.result c.requires.place c.index-directories-name.is)) in
     exit_cause Fd refused ⊥ ⊥ (fd_of d.names path ≡ None) c.from_residual-in_err-fd.result c.in_err-fd.field-0.0 c.from_residual-in_err-fd.ensures.1
     (subst (λ (t : Text). IsTaken {T = Fd} (fd_of d.names t ≡ None) refused (Err c.in_err-fd.field-0.0)) same
     (refused_io Fd gone free ⊥ a b c.in_err-fd.field-0.0 (call_cause Fd Fd gone ⊥ a b c.in_err-fd.field-0.0 c.in_err-fd.ensures.cause)
