@@ -20,7 +20,7 @@ use Rattle.raft_log_pipes.proofs.QueueLemmas.{not_append, not_rewrite}
 use Rattle.raft_log_recovery.specs.declared.builder.DualPipesBuilder.{DualPipesBuilder}
 use Rattle.raft_log_recovery.specs.declared.scan.FileKind.TheVariants.{Log}
 use Rattle.raft_log_recovery.specs.declared.scan.FileName.{FileName}
-use Rattle.raft_log_recovery.specs.Both.{AreOpened, ArePipesWith, CantBeOpened, IsFoundBy, IsOpened, LeavesBoth, LeavesQueue}
+use Rattle.raft_log_recovery.specs.Both.{AreOpened, ArePipesWith, CantBeOpened, IsFoundBy, IsOpened, IsSetBy, LeavesBoth, LeavesQueue}
 use Rattle.raft_log_recovery.specs.Crashed.{HasHole}
 use Rattle.raft_log_recovery.specs.Holes.{HolesOnlyBroken}
 use Rattle.raft_log_recovery.specs.Opening.{IsPipeWith, batches_of}
@@ -43,8 +43,8 @@ kept_either (Err e) mode directories queue names old new refused kept = kept
 
 pub opened_of : {E : Type 0} (r : Result SinglePipe E) (b : DualPipesBuilder) (queue : LogQueue) (old new : Disk) → IfOk r (λ p. IsPipe p new) → IfOk r (λ p. p.queue ≡ queue) → IfOk r (λ p. directories_of_pipe p ≡ directories_in b)
     → IfOk r (λ p. IsOnce old.names (directories_in b) queue → IsAlone p new)
-    → IfOk r (λ p. (p.target_file_size ≡ b.config.target_file_size.0) × (p.default_format ≡ record { version = b.config.format_version; alignment = 0 })) → IfOk r (IsOpened b queue old new)
-opened_of (Ok p) b queue old new pipe same paths alone settings = record { pipe = pipe; queue_is = same; paths = paths; alone = alone; target = settings.0; format = settings.1 }
+    → IfOk r (IsSetBy b) → IfOk r (IsOpened b queue old new)
+opened_of (Ok p) b queue old new pipe same paths alone settings = record { pipe = pipe; queue_is = same; paths = paths; alone = alone; settings = settings }
 opened_of (Err e) b queue old new pipe same paths alone settings = tt
 
 some_in : (name : FileName) (names : List FileName) → IsIn name names → 0 < length names
@@ -179,16 +179,14 @@ module _ (mode : RecoveryMode) (b : DualPipesBuilder) (d mid : Disk) (old : IsNa
           queue_is = first.queue_is;
           paths = first.paths;
           alone = λ once. alone_beside Append p mid new apart appends between next (first.alone once);
-          target = first.target;
-          format = first.format;
+          settings = first.settings;
         });
         append = subst (IsOpened b Append d new) (sym is.0) (record {
           pipe = second.pipe;
           queue_is = second.queue_is;
           paths = second.paths;
           alone = λ once. second.alone (once_beside Rewrite Append d mid (not_rewrite Append refl) rewrites At old once);
-          target = second.target;
-          format = second.format;
+          settings = second.settings;
         });
       }
 

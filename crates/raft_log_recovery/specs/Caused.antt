@@ -27,6 +27,10 @@ IsRecoveryFault refused absent e = ((f : CorruptionFault) × (e ≡ Corruption f
 abbrev pub IsRefusal : (bounded barred : Type 0) → Meter → Meter → Type 0
 IsRefusal bounded barred old new = Rises 1 old new × (NothingRefuses bounded old → barred)
 
+-- of a call: it was refused so, or what it names isn't there
+abbrev pub IsCallFault : (absent bounded : Type 0) → Meter → Meter → Error → Type 0
+IsCallFault absent bounded old new e = IsCaused (IsRefusal bounded ⊥ old new) ⊥ ⊥ absent e
+
 -- of a file: a call on it was refused so, or its reads are refused
 abbrev pub IsFileFault : Disk → ℕ → (bounded : Type 0) → Meter → Meter → Error → Type 0
 IsFileFault d fd bounded old new e = IsRecoveryFault (IsRefusal bounded ⊥ old new ⊎ HasOneOf d fd old.unreadable) ⊥ e
@@ -42,6 +46,10 @@ IsMissing d directories queue names = (name : FileName) × IsIn name names × (f
 -- of files of these names
 abbrev pub AreFilesRefused : (absent barred : Type 0) → List Text → LogQueue → List FileName → (bounded : Type 0) → Meter → Meter → Error → Type 0
 AreFilesRefused absent barred directories queue names bounded old new e = IsRecoveryFault (IsRefusal bounded barred old new ⊎ AnyUnreadable directories queue names old) absent e
+
+-- they may be missing
+abbrev pub AreEachRefused : Disk → List Text → LogQueue → List FileName → (bounded : Type 0) → Meter → Meter → Error → Type 0
+AreEachRefused d directories queue names bounded old new e = AreFilesRefused (IsMissing d directories queue names) ⊥ directories queue names bounded old new e
 
 -- a queue has no files, and there is no directory for its first one
 abbrev pub IsFirstLacking : List Text → LogQueue → List FileName → Disk → Type 0

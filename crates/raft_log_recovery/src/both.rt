@@ -6,12 +6,10 @@ ghost use Rattle.raft_log_files.specs.Settings.{settings_of};
 ghost use Rattle.raft_log_files.specs.declared.error.CorruptionFault.{CorruptionFault};
 ghost use Rattle.raft_log_files.specs.declared.error.Error.TheVariants.{Corruption};
 ghost use Rattle.raft_log_pipe.specs.Others.{KeepsOthers};
-ghost use Rattle.raft_log_pipes.specs.Pipes.{ArePipes, pipe_of};
+ghost use Rattle.raft_log_pipes.specs.Pipes.{ArePipes};
 ghost use Rattle.raft_log_records.specs.declared.file_id.LogQueue.{LogQueue};
 ghost use Rattle.raft_log_records.specs.declared.file_id.LogQueue.TheVariants.{Append, Rewrite};
-ghost use Rattle.raft_log_recovery.specs.Caused.{IsQueueFault};
-ghost use Rattle.raft_log_recovery.specs.Both.{AreOpened, ArePipesWith, AreTaken, CantBeOpened, IsEitherFault, IsFoundBy, IsOpened, LeavesBoth, LeavesQueue};
-ghost use Rattle.raft_log_recovery.specs.Holes.{HolesOnlyBroken};
+ghost use Rattle.raft_log_recovery.specs.Both.{AreOpened, ArePipesWith, AreTaken, CantBeOpened, HasFewHoles, HaveFewHoles, IsEitherFault, IsFaultOf, IsFoundBy, IsOpened, LeavesBoth, LeavesQueue};
 ghost use Rattle.raft_log_recovery.specs.Opening.{IsPipeWith};
 ghost use Rattle.raft_log_recovery.specs.Queue.{ChangesAtMost, directories_in, names_in};
 ghost use Rattle.raft_log_recovery.specs.Replay.{Placed};
@@ -43,9 +41,9 @@ impl DualPipesBuilder {
         ensures others { KeepsOthers queue (F.disk files.old) (F.disk files.new) }
         ensures refused { CantBeOpened self.now.config.recovery_mode self.now queue (F.disk files.old) → IsErr result }
         ensures corrupt { (f : CorruptionFault) → result ≡ Err (Corruption f) → CantBeOpened self.now.config.recovery_mode self.now queue (F.disk files.old) }
-        ensures holes { IfOk result (HolesOnlyBroken self.now.config.recovery_mode (directories_in self.now) queue (names_in self.now queue) (F.disk files.old) (F.disk files.new)) }
+        ensures holes { IfOk result (HasFewHoles self.now queue (F.disk files.old) (F.disk files.new)) }
         ensures later { RefusesNoMore (F.is_bounded files.old) (F.is_bounded files.new) (F.meter files.old) (F.meter files.new) }
-        ensures cause { IfErr result (λ e. IsQueueFault (directories_in self.now) queue (names_in self.now queue) (F.disk files.old) (F.disk files.new) (F.is_bounded files.old) (F.meter files.old) (F.meter files.new) e) }
+        ensures cause { IfErr result (λ e. IsFaultOf self.now queue (F.disk files.old) (F.disk files.new) (F.is_bounded files.old) (F.meter files.old) (F.meter files.new) e) }
     {
         let config = RecoveryConfig {
             queue,
@@ -76,7 +74,7 @@ impl DualPipesBuilder {
         ensures leaves { LeavesBoth self.now.config.recovery_mode self.now (F.disk files.old) (F.disk files.new) }
         ensures refused { (queue : LogQueue) → CantBeOpened self.now.config.recovery_mode self.now queue (F.disk files.old) → IsErr result }
         ensures corrupt { (f : CorruptionFault) → result ≡ Err (Corruption f) → (queue : LogQueue) × CantBeOpened self.now.config.recovery_mode self.now queue (F.disk files.old) }
-        ensures holes { IfOk result (λ r. (queue : LogQueue) → HolesOnlyBroken self.now.config.recovery_mode (directories_in self.now) queue (names_in self.now queue) (F.disk files.old) (F.disk files.new) (pipe_of r.0 queue)) }
+        ensures holes { IfOk result (λ r. HaveFewHoles self.now (F.disk files.old) (F.disk files.new) r.0) }
         ensures later { RefusesNoMore (F.is_bounded files.old) (F.is_bounded files.new) (F.meter files.old) (F.meter files.new) }
         ensures cause { IfErr result (λ e. IsEitherFault self.now (F.disk files.old) (F.disk files.new) (F.is_bounded files.old) (F.meter files.old) (F.meter files.new) e) }
         ensures taken { NothingRefuses (F.is_bounded files.old) (F.meter files.old) → AreTaken self.now (F.disk files.old) (F.disk files.new) result }

@@ -5,8 +5,7 @@ ghost use Rattle.raft_log_disk.specs.Cause.{RefusesNoMore};
 ghost use Rattle.raft_log_disk.specs.Disk.{AreBytes, Disk, IsNoFile};
 ghost use Rattle.raft_log_files.specs.declared.error.CorruptionFault.{CorruptionFault};
 ghost use Rattle.raft_log_files.specs.declared.error.Error.TheVariants.{Corruption};
-ghost use Rattle.raft_log_pipe.specs.Caused.{IsCaused};
-ghost use Rattle.raft_log_recovery.specs.Caused.{IsRecoveryFault, IsRefusal};
+ghost use Rattle.raft_log_recovery.specs.Caused.{IsCallFault, IsRecoveryFault, IsRefusal};
 ghost use Rattle.raft_log_recovery.specs.Repair.{IsRepaired, IsStopped, Settles, batches_in, cuts_faults, end_in, fault_in};
 
 use raft_log_files::{CorruptionFault, Error, Fd, FileSystem, RecoveryMode};
@@ -28,7 +27,7 @@ fn settle<F: FileSystem>(files: &mut F, fd: Fd, cut: Option<u64>) -> Result<(), 
     ensures settles { Settles result (F.disk files.old) (F.disk files.new) fd.0 cut }
     ensures sound { (f : CorruptionFault) → result ≡ Err (Corruption f) → ⊥ }
     ensures later { RefusesNoMore (F.is_bounded files.old) (F.is_bounded files.new) (F.meter files.old) (F.meter files.new) }
-    ensures cause { IfErr result (λ e. IsCaused (IsRefusal (F.is_bounded files.old) ⊥ (F.meter files.old) (F.meter files.new)) ⊥ ⊥ (IsNoFile (F.disk files.old) fd.0) e) }
+    ensures cause { IfErr result (λ e. IsCallFault (IsNoFile (F.disk files.old) fd.0) (F.is_bounded files.old) (F.meter files.old) (F.meter files.new) e) }
 {
     match cut {
         None => {
