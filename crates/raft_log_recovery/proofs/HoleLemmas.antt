@@ -47,7 +47,7 @@ module _ (old : Disk) (directories : List Text) (queue : LogQueue) where
     behind : List FileName
     split : names ≡ before ++ name ∷ behind
     followed : 0 < length behind
-    open : IsOpen old directories queue name f
+    stands : IsOpen old directories queue name f
 
   some_names : (names : List FileName) (fs : List File) → AreOpen old directories queue names fs → 0 < length fs → 0 < length names
   some_names [] fs none some = absurd (omega (arith, some, ap length none))
@@ -65,7 +65,7 @@ module _ (old : Disk) (directories : List Text) (queue : LogQueue) where
         behind = names;
         split = refl;
         followed = some_names names rest others (omega (arith, ap length behind, length-append older (active ∷ [])));
-        open = subst (IsOpen old directories queue name) (sym first ∙ sym same) here;
+        stands = subst (IsOpen old directories queue name) (sym first ∙ sym same) here;
       }
   followed_file (name ∷ names) (g ∷ older) active f (h, rest, is, here, others) (inr there) =
       let behind : rest ≡ older ++ active ∷ [] = cc in
@@ -76,7 +76,7 @@ module _ (old : Disk) (directories : List Text) (queue : LogQueue) where
         behind = next.behind;
         split = ap (λ (l : List FileName). name ∷ l) next.split;
         followed = next.followed;
-        open = next.open;
+        stands = next.stands;
       }
 
 -- ---- one queue
@@ -101,7 +101,7 @@ holes_cut mode directories queue old mid new names fs p so passed files pipe cha
     let recovered : IsRecovered queue old mid f = holds_at (IsRecovered queue old mid) fs f so.each (subst (IsIn f) files (in_first f p.older.items (p.active ∷ []) inside)) in
     let broken = recovered.blank was in (
       tolerant mode at.behind at.followed
-          (λ kept. passed (at.before, at.name, at.behind, at.split, (f.handle.0, Header broken.0, at.open.there, broken_fault (id_of queue at.name.seq) (old.file f.handle.0).bytes broken.0 broken.1, kept))),
+          (λ kept. passed (at.before, at.name, at.behind, at.split, (f.handle.0, Header broken.0, at.stands.there, broken_fault (id_of queue at.name.seq) (old.file f.handle.0).bytes broken.0 broken.1, kept))),
       record {
         before = at.before;
         name = at.name;
@@ -109,7 +109,7 @@ holes_cut mode directories queue old mid new names fs p so passed files pipe cha
         split = at.split;
         followed = at.followed;
         fd = f.handle.0;
-        there = at.open.there;
+        there = at.stands.there;
         fault = broken.0;
         broken = broken.1;
       },

@@ -36,7 +36,8 @@ fn open_file<F: FileSystem>(
     ensures kept { F.disk files.new ≡ F.disk files.old }
     ensures corrupt { (f : CorruptionFault) → result ≡ Err (Corruption f) → ⊥ }
     ensures later { RefusesNoMore (F.is_bounded files.old) (F.is_bounded files.new) (F.meter files.old) (F.meter files.new) }
-    ensures cause { IfErr result (λ e. IsCallFault (fd_of (F.disk files.old).names (path_of (map string_bytes directories.now) queue name) ≡ None) (F.is_bounded files.old) (F.meter files.old) (F.meter files.new) e) }
+    ensures cause { IfErr result (λ e. IsCallFault (fd_of (F.disk files.old).names (path_of (map string_bytes directories.now) queue name) ≡ None)
+        (F.is_bounded files.old) (F.meter files.old) (F.meter files.new) e) }
 {
     let id = FileId::new(queue, name.seq);
     let path = id.build_file_path(alloc, directories[name.path_id].as_str())?;
@@ -64,7 +65,8 @@ fn recover_each<F: FileSystem, M: ReplayMachine>(
     ensures kept { OnErr result (KeepsRefused config.now.mode (map string_bytes directories.now) config.now.queue names.now (F.disk files.old) (F.disk files.new)) }
     ensures corrupt { (f : CorruptionFault) → result ≡ Err (Corruption f) → AnyRefused config.now.mode (map string_bytes directories.now) config.now.queue names.now (F.disk files.old) }
     ensures later { RefusesNoMore (F.is_bounded files.old) (F.is_bounded files.new) (F.meter files.old) (F.meter files.new) }
-    ensures cause { IfErr result (λ e. AreEachRefused (F.disk files.old) (map string_bytes directories.now) config.now.queue names.now (F.is_bounded files.old) (F.meter files.old) (F.meter files.new) e) }
+    ensures cause { IfErr result (λ e. AreEachRefused (F.disk files.old) (map string_bytes directories.now) config.now.queue names.now
+        (F.is_bounded files.old) (F.meter files.old) (F.meter files.new) e) }
 {
     let mut recovered = Vec::new(alloc);
     for name in names {
