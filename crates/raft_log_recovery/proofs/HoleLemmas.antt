@@ -2,6 +2,7 @@
 use Rattle.std.proofs.Common.{◌≡◌, ◌≢◌, inl, inr, ℕ, ◌<◌, List, [], ◌∷◌, ◌++◌, length, Some, refl, sym, ap, subst, ◌∙◌, arith, length-append}
 use Rattle.std.specs.Prelude.{Result, Ok, Err, IfOk, ◌==◌, false}
 use Rattle.std.specs.List.{AllByRecursion}
+use Rattle.std.proofs.lemmas.Bool.{ne_eqb}
 use Rattle.raft_log_records.specs.declared.file_id.FileId.{FileId}
 use Rattle.raft_log_records.specs.declared.file_id.LogQueue.{LogQueue}
 use Rattle.raft_log_disk.specs.declared.format.HeaderFault.{HeaderFault}
@@ -89,7 +90,7 @@ broken_fault id bytes e is = ap (λ (r : Result Reading HeaderFault). read_or (�
 tolerant : (mode : RecoveryMode) (behind : List FileName) → 0 < length behind → (cuts_faults mode (length behind == 0) ≡ false → ⊥) → mode ≡ TolerateAnyCorruption
 tolerant AbsoluteConsistency behind some never = absurd (never refl)
 tolerant TolerateTailCorruption [] some never = absurd (omega (arith, some))
-tolerant TolerateTailCorruption (name ∷ behind) some never = absurd (never refl)
+tolerant TolerateTailCorruption (name ∷ behind) some never = let more : length (name ∷ behind) ≡ 0 → ⊥ = λ none. omega (arith, none) in absurd (never (ne_eqb (length (name ∷ behind)) 0 more))
 tolerant TolerateAnyCorruption behind some never = refl
 
 pub holes_cut : (mode : RecoveryMode) (directories : List Text) (queue : LogQueue) (old mid new : Disk) (names : List FileName) (fs : List File) (p : SinglePipe) → AreRecovered directories queue old mid names fs → (AnyRefused mode directories queue names old → ⊥)
