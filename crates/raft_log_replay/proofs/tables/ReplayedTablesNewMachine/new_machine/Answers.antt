@@ -1,4 +1,4 @@
-use Rattle.std.proofs.Common.{◌≡◌, None, ◌∙◌}
+use Rattle.std.proofs.Common.{None, ◌∙◌}
 use Rattle.raft_log_replay.proofs.tables.ReplayedTablesNewMachine.new_machine.Goals as goal
 
 pub returns : goal.returns
