@@ -1,12 +1,18 @@
--- What a node tells of its groups, and when a lease is over.
+-- What a node tells of its groups, when a lease is over, and when a node leads.
 use Rattle.std.proofs.Common.{◌≡◌, ◌∙◌, ℕ, ap, sym, subst, arith, refl}
-use Rattle.std.specs.Prelude.{◌+◌, Bool, true, false, nat_lt, Option, Some, None, List, IfOk, Result, Ok, Err}
+use Rattle.std.specs.Prelude.{◌+◌, Bool, true, false, nat_lt, if◌then◌else◌, is_some, Option, Some, None, List, IfOk, Result, Ok, Err}
 use Rattle.std.specs.Ordering.{eq_by_cmp, nat_cmp}
 use Rattle.std.specs.List.Sorted.{IsStrictlySortedBy}
 use Rattle.std.specs.Set.{is_member}
 use Rattle.std.proofs.lemmas.Bool.Decides.{nat_tests}
-use Rattle.raft_group_step.specs.GroupState.{GroupState}
+use Rattle.raft_engine.proofs.TurnLemmas.{led_role, unled_role}
+use Rattle.raft_engine.specs.Standing.{IsStateOf, PlaysRole}
+use Rattle.raft_group_step.specs.GroupState.{GroupState, is_leader}
+use Rattle.raft_group_step.specs.StoredGroup.{last_id}
 use Rattle.raft_group_step.specs.VoteRequest.{is_recent, is_under_lease, lease}
+use Rattle.raft_list_facts.specs.Leads.{base_of, leading_of}
+use Rattle.raft_list_facts.specs.declared.leading.Leading.{Leading}
+use Rattle.raft_member.specs.Member.{Engine}
 use Rattle.raft_node.specs.Reading.{behind_lease, free_from}
 
 -- ids that are answered are these
@@ -31,3 +37,27 @@ lease_ends s now = go s.stored.vote.committed refl
     go : (committed : Bool) → s.stored.vote.committed ≡ committed → is_under_lease (record s { now = now }) ≡ nat_lt now (free_from s)
     go true is = rw is (recent_before now s.renewed)
     go false is = rw is (grind (arith, nat_tests))
+
+-- ---- leads
+
+-- a node leads just where its engine does
+module _ (own : ℕ) (e : Engine) (s : GroupState) (at : IsStateOf own e s) where
+  leads_so : is_leader s.role ≡ is_some e.leader
+  leads_so =
+      (elim e.leader as (λ l. PlaysRole own l e.candidate s.stored s.role → is_leader s.role ≡ is_some l) [
+        | None ↦ unled_role own e.candidate s.stored s.role
+        | Some l ↦ led_role own l e.candidate s.stored s.role
+      ])
+      at.role
+
+  abbrev pub told_by_state : Leading
+  told_by_state = record { vote = s.stored.vote; last = last_id s.stored; base = base_of s.stored }
+
+  pub leads_nothing : is_some e.leader ≡ false → None ≡ leading_of s
+  leads_nothing none = sym (ap (λ (b : Bool). if b then Some told_by_state else None) (leads_so ∙ none))
+
+  pub leads_with : (told : Leading) → is_some e.leader ≡ true → told.vote ≡ s.stored.vote → told.last ≡ last_id s.stored → told.base ≡ base_of s.stored
+      → Some told ≡ leading_of s
+  leads_with told some vote last base =
+      let same : told ≡ told_by_state = cc in
+      ap (λ (t : Leading). Some t) same ∙ sym (ap (λ (b : Bool). if b then Some told_by_state else None) (leads_so ∙ some))

@@ -1,4 +1,4 @@
-use Rattle.std.proofs.Common.{List, [], ◌∷◌, inl, refl, sym, ap, ◌∙◌, subst}
+use Rattle.std.proofs.Common.{[], inl, refl, sym, ap, ◌∙◌, subst}
 use Rattle.raft_headline.specs.ClusterEvent.{ClusterOutcome, Stopped}
 use Rattle.raft_node_laws.proofs.Naming.{names_waiting}
 use Rattle.raft_node_laws.proofs.rows.records_of_clusters.Goals as goal
