@@ -5,3 +5,7 @@ mod OwnEntries
 mod SetUps
 mod GoingOn
 mod Matching
+pub mod StepParts
+pub mod StepWrites
+pub mod OwnNotes
+mod Bases
