@@ -8,4 +8,5 @@ mod Matching
 pub mod StepParts
 pub mod StepWrites
 pub mod OwnNotes
+pub mod NotedWorlds
 mod Bases
