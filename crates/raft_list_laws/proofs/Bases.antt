@@ -15,7 +15,7 @@ use Rattle.raft_laws.proofs.StepEntries.{each_at}
 use Rattle.raft_laws.proofs.WorldStart.{Founded, founded}
 use Rattle.raft_list_laws.specs.Bases.{BasesWereNoted, WasNotedBefore, base_of, before_own}
 use Rattle.raft_list_laws.proofs.Matching.{agrees_with_ballot, ballots}
-use Rattle.std.specs.Prelude.{◌≡◌, ◌⊎◌, ℕ, zero, suc, ◌-◌, ◌<◌, ◌≤◌, cond, Bool, true, false, List, [], ◌∷◌, length, slice_get, Some, refl}
+use Rattle.std.specs.Prelude.{◌≡◌, ◌⊎◌, ℕ, zero, suc, ◌<◌, ◌≤◌, cond, Bool, true, false, List, [], ◌∷◌, length, slice_get, Some, refl}
 use Rattle.raft_laws.proofs.VoteRanks.{leader_eq_from}
 use Rattle.raft_list_laws.proofs.OwnNotes.{KnownBelow, OwnNoted}
 use Rattle.raft_list_laws.proofs.NotedWorlds.{all_known}
@@ -39,7 +39,7 @@ module _ (leader : LeaderId ℕ) where
   before_front [] = λ i e none. absurd (none-some _ none)
   before_front (x ∷ xs) = taken_if x (before_own leader xs) xs (is_written_by leader x) refl (before_front xs)
 
-  before_agrees : (xs : List Entry) → AgreeBelow (length (before_own leader xs)) (before_own leader xs) xs
+  pub before_agrees : (xs : List Entry) → AgreeBelow (length (before_own leader xs)) (before_own leader xs) xs
   before_agrees xs =
       record {
         left = omega arith;

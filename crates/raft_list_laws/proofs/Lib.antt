@@ -10,3 +10,5 @@ pub mod StepWrites
 pub mod OwnNotes
 pub mod NotedWorlds
 mod Bases
+mod EntryOrigins
+mod NewEntries

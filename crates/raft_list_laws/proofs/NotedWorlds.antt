@@ -1,5 +1,5 @@
 -- Along every history each entry that stands anywhere is known, event by event.
-use Rattle.std.proofs.Common.{inl, inr, sym, ap, ◌∙◌, subst, arith, ⊎_elim}
+use Rattle.std.proofs.Common.{inl, inr, sym, ap, ◌∙◌, subst, arith, ⊎_elim, length-append}
 use Rattle.std.proofs.lemmas.Option.{none-some}
 use Rattle.raft_values.specs.declared.vote.LeaderId.{LeaderId}
 use Rattle.raft_group_step.specs.Values.{Entry, Membership, has_id}
@@ -11,7 +11,7 @@ use Rattle.raft_laws.specs.declared.world_event.WorldEvent.{WorldEvent}
 use Rattle.raft_laws.specs.declared.world_event.WorldEvent.TheVariants.{Add, Ask, Deliver, Crash, Halt, Restart}
 use Rattle.raft_laws.specs.GroupWorld.{GroupWorld, NodeState, Absent, Up, Down, Led, Recorded, is_stop, new_world, state_or}
 use Rattle.raft_laws.specs.NodeEvent.{NodeEvent, outcome_at, state_after}
-use Rattle.raft_laws.specs.GroupRun.{Scene, Nowhere, At, Replays, after_scene, ended, is_same_setup, led_after, outcome_in, scene_of, scene_of_call, scene_of_delivery, sent_in, setup_in_call, stop_at}
+use Rattle.raft_laws.specs.GroupRun.{Scene, Nowhere, At, Replays, after_scene, ended, happens, is_same_setup, led_after, outcome_in, outcome_of, scene_of, scene_of_call, scene_of_delivery, sent_in, setup_in_call, stop_at}
 use Rattle.raft_laws.specs.OneList.{AreNodeIds}
 use Rattle.raft_laws.specs.VotesRise.{stored_of}
 use Rattle.raft_laws.proofs.BallotAgreement.{slice_get-append}
@@ -97,13 +97,13 @@ module _ (m : Membership) (some : 0 < length m.configs) (led : List Led) (w : Gr
 
 -- ---- no leader was noted yet that an election would make one
 
+pub has_some : (xs : List Entry) → HasMembership xs → 0 < length xs
+has_some [] h = absurd (none-some _ h.1)
+has_some (x ∷ xs) h = omega arith
+
 module _ (m : Membership) (some : 0 < length m.configs) (before : List BallotEvent) (w : GroupWorld) (fits : WorldFits m (world_after m before) w) where
   abbrev b : BallotWorld
   b = world_after m before
-
-  has_some : (xs : List Entry) → HasMembership xs → 0 < length xs
-  has_some [] h = absurd (none-some _ h.1)
-  has_some (x ∷ xs) h = omega arith
 
   unled_unnoted : (leader : LeaderId ℕ) → 0 < rank_of leader → (b.led (rank_of leader) ≡ true → ⊥) → Unnoted w.led leader
   unled_unnoted leader positive unled l a same =
@@ -132,10 +132,10 @@ module _ (m : Membership) (some : 0 < length m.configs) (before : List BallotEve
             let leader = s.stored.vote.leader_id in (
               mine.node,
               unled_unnoted leader (let t = mine.term in omega arith)
-              (λ yes.
-              let flag = (own (rank_of leader) yes (owner_is leader mine.term at.up.fits.bound ∙ mine.node)).1 (sym ballot) in
-              let no : true ≡ false = sym flag ∙ at.up.fits.committed ∙ mine.flag in
-              cc),
+                  (λ yes.
+                  let flag = (own (rank_of leader) yes (owner_is leader mine.term at.up.fits.bound ∙ mine.node)).1 (sym ballot) in
+                  let no : true ≡ false = sym flag ∙ at.up.fits.committed ∙ mine.flag in
+                  cc),
             );
         flag = λ lead is.
             let role : RoleFits n b s.stored.vote (held s.stored) (Leader lead) = subst (RoleFits n b s.stored.vote (held s.stored)) is at.role in
@@ -224,6 +224,20 @@ module _ (m : Membership) (some : 0 < length m.configs) (before : List BallotEve
   event_known (Halt n) = tt
   event_known (Restart n) = tt
 
+-- the note that an event leaves behind those before it is known
+note_behind : (led notes : List Led) (l : Led) → led ++ notes ≡ led ++ l ∷ [] → slice_get notes 0 ≡ Some l
+note_behind led notes l is =
+    sym (slice_after led notes 0) ∙ ap (λ ls. slice_get ls (length led + 0)) is ∙ slice_after led (l ∷ []) 0
+
+module _ (m : Membership) (some : 0 < length m.configs) (before : List BallotEvent) (w : GroupWorld) (fits : WorldFits m (world_after m before) w) (h : AllKnown w) (e : WorldEvent) (stop : Bool) (k : ℕ) (l : Led) where
+  scene_note : (scene : Scene) → SceneKnown m some before w fits h e stop k scene → IsFounded m some (After m some before w fits h e stop k scene) → (After m some before w fits h e stop k scene).led ≡ w.led ++ l ∷ [] → NoteKnown w.led l
+  scene_note Nowhere known f is =
+      let size = ap length is in let more = length-append w.led (l ∷ []) in absurd (omega arith)
+  scene_note (At n at) known f is =
+      each_at (NoteKnown w.led) (notes m some before w fits h e stop k n at known) 0 l
+      (at_left m some before w fits h e stop k n at known f).notes_known
+      (note_behind w.led (notes m some before w fits h e stop k n at known) l is)
+
 none_known : (n : ℕ) (b : Bool) → NodeKnown [] n (state_or b (Up (state_of no_group)) Absent)
 none_known n true = ((tt, tt), λ lead is. absurd (let no : Follower ≡ Leader lead = is in cc))
 none_known n false = tt
@@ -245,3 +259,14 @@ all_known ids small rs end run =
       bases = λ j l none. absurd (none-some _ none);
     })
     rs end run
+
+pub new_note_known : (ids : List ℕ) → AreNodeIds ids → (rs : List Recorded) (w : GroupWorld) → Replays (new_world ids) rs w → (r : Recorded) (k : ℕ) → r.outcome ≡ outcome_of w r.event (is_stop r.outcome) → (l : Led) → (happens w r.event r.outcome k).led ≡ w.led ++ l ∷ [] → NoteKnown w.led l
+new_note_known ids small rs w run r k is l one =
+    let f = may_follow ids small rs w run r k is in
+    let h = all_known ids small rs w run in
+    let stop = is_stop r.outcome in
+    subst
+    (λ o. IsFounded f.membership f.some (after_scene w r.event o (stop_at stop k) (scene_of w r.event)) → (after_scene w r.event o (stop_at stop k) (scene_of w r.event)).led ≡ w.led ++ l ∷ [] → NoteKnown w.led l)
+    (sym is)
+    (scene_note f.membership f.some f.first.before w f.first.fits h r.event stop k l (scene_of w r.event) (event_known f.membership f.some f.first.before w f.first.fits h r.event stop k r.event))
+    f.founded_next one

@@ -156,9 +156,9 @@ module _ (led more : List Led) (n : ℕ) (others : (l : Led) → Among l more �
     (
       h.1.0,
       ⊎_elim
-      (λ w. inl (whole_more vote place h.0.1.1 w.0, w.1))
-      (λ u. inr (unnoted_more vote.leader_id h.0.1.1 u.0, u.1))
-      h.1.1,
+          (λ w. inl (whole_more vote place h.0.1.1 w.0, w.1))
+          (λ u. inr (unnoted_more vote.leader_id h.0.1.1 u.0, u.1))
+          h.1.1,
     ),
   )
 
@@ -179,7 +179,7 @@ node_more led more n others (Up s) h = (
 node_more led more n others (Down stored) h = (
   h.0,
   stored_more (AsStored (Known led) (OwnNew led h.0 n) stored.vote) (AsStored (Known (led ++ more)) (OwnNew (led ++ more) h.0 n) stored.vote)
-  (λ e x. ⊎_elim (λ k. inl (known_more led more e k)) (λ o. inr (own_more led more n others h.0 stored.vote e o)) x) stored h.1,
+      (λ e x. ⊎_elim (λ k. inl (known_more led more e k)) (λ o. inr (own_more led more n others h.0 stored.vote e o)) x) stored h.1,
 )
 
 abbrev pub SentKnown : List Led → Message → Type 0
@@ -309,7 +309,7 @@ module _ (led : List Led) (n : ℕ) where
             (
               place,
               each_more led_as_known (λ (e : Entry). Known led e ⊎ OwnNew led place n r.state.stored.vote e) (λ e x. ⊎_elim (λ k. inl k) (λ o. inr o.0) x) (held r.state.stored)
-              (each_append led_as_known (prefix_of r.state.stored.snapshot) _ d.now.1 (each_drop led_as_known _ r.state.stored.log d.now.0)),
+                  (each_append led_as_known (prefix_of r.state.stored.snapshot) _ d.now.1 (each_drop led_as_known _ r.state.stored.log d.now.0)),
             ),
             tt,
           );

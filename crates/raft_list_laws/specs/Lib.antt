@@ -2,3 +2,4 @@ pub mod Accounts
 pub mod Changes
 pub mod AccountsRows
 pub mod Bases
+pub mod NewEntries

@@ -2,6 +2,7 @@
 
 ghost use Rattle.raft_list_laws.specs.Changes.{AcceptancesKeep, FrontsBeforeMessages, FrontsBeforeNotes, NotesKeep, SetUpsKeep, SilentKeep};
 ghost use Rattle.raft_list_laws.specs.Bases.{BasesWereNoted};
+ghost use Rattle.raft_list_laws.specs.NewEntries.{NewEntriesAreFew};
 ghost use Rattle.raft_list_laws.specs.Changes.{NobodyLedBefore, NotedListsAgree, NotesGoOn, OwnEntriesComeLast, PartsOfHistories};
 
 /// Accounts that are true of a world are true of the next one: behind a set-up before which nobody led, a leader's note, and
@@ -46,4 +47,11 @@ pub fn noted_lists_agree()
 /// or it has one entry at most, that of a set-up; over every history that replays.
 pub fn bases_were_noted()
     ensures { BasesWereNoted }
+{}
+
+/// The note that an event leaves has one new entry at most, in every run. Behind what it took over, a leader that wasn't noted
+/// before has a blank entry. One that was has the command or change of the last event that noted its log id: of this event, or of
+/// one that stopped before this opening.
+pub fn new_entries_are_few()
+    ensures { NewEntriesAreFew }
 {}
