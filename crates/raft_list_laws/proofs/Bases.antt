@@ -24,7 +24,7 @@ use Rattle.raft_values.specs.declared.log_id.LogId.{LogId}
 -- ---- what a leader took over
 
 module _ (leader : LeaderId ℕ) where
-  abbrev IsTaken : List Entry → List Entry → Type 0
+  abbrev pub IsTaken : List Entry → List Entry → Type 0
   IsTaken taken xs = (i : ℕ) (e : Entry) → slice_get taken i ≡ Some e → (slice_get xs i ≡ Some e) × (is_written_by leader e ≡ false)
 
   one_more_taken : (x : Entry) (taken xs : List Entry) → is_written_by leader x ≡ false → IsTaken taken xs → IsTaken (x ∷ taken) (x ∷ xs)
@@ -35,7 +35,7 @@ module _ (leader : LeaderId ℕ) where
   taken_if x taken xs true is rest = λ i e none. absurd (none-some _ none)
   taken_if x taken xs false is rest = one_more_taken x taken xs is rest
 
-  before_front : (xs : List Entry) → IsTaken (before_own leader xs) xs
+  pub before_front : (xs : List Entry) → IsTaken (before_own leader xs) xs
   before_front [] = λ i e none. absurd (none-some _ none)
   before_front (x ∷ xs) = taken_if x (before_own leader xs) xs (is_written_by leader x) refl (before_front xs)
 

@@ -10,5 +10,7 @@ pub mod StepWrites
 pub mod OwnNotes
 pub mod NotedWorlds
 mod Bases
+mod LeadsGrow
+mod BasesStay
 mod EntryOrigins
 mod NewEntries

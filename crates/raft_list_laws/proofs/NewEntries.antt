@@ -12,13 +12,14 @@ use Rattle.raft_group_step.proofs.Votes.{leader_eq_same}
 use Rattle.raft_laws.specs.BallotLists.{AgreeBelow}
 use Rattle.raft_laws.specs.declared.world_event.WorldEvent.{WorldEvent}
 use Rattle.raft_laws.specs.GroupWorld.{GroupWorld, Led, new_world}
-use Rattle.raft_laws.specs.GroupRun.{group_run, history_of, outcome_of}
+use Rattle.raft_laws.specs.GroupRun.{group_run, happens, history_of, outcome_of}
 use Rattle.raft_laws.specs.OneList.{AreNodeIds, IsGroupHistory}
 use Rattle.raft_laws.specs.Origins.{Events}
-use Rattle.raft_laws.specs.Settled.{longer}
+use Rattle.raft_laws.specs.VotesRise.{stored_of}
 use Rattle.raft_laws.proofs.BallotAgreement.{same_some, slice_get-append, slice_get_end, some_at}
 use Rattle.raft_laws.proofs.BallotSafe.{Among, among_at}
-use Rattle.raft_laws.proofs.Counts.{among_behind, among_contains, contains_among, longest}
+use Rattle.raft_laws.proofs.Counts.{among_behind, among_contains, among_front, contains_among}
+use Rattle.raft_laws.proofs.VoteRanks.{leader_eq_from}
 use Rattle.raft_laws.proofs.Runs.{run-replays}
 use Rattle.raft_laws.proofs.Standing.{OwnVote}
 use Rattle.raft_laws.proofs.StepEntries.{each_at}
@@ -26,10 +27,12 @@ use Rattle.raft_laws.proofs.WorldOrigins.{run_more}
 use Rattle.raft_laws.proofs.WorldStart.{Founded, founded}
 use Rattle.raft_history_laws.proofs.LastNoted.{origin_is_last}
 use Rattle.raft_history_laws.proofs.LeaderLists.{notes_are_own}
+use Rattle.raft_history_laws.proofs.Notes.{NewNote, Notes, event_notes, note_of}
 use Rattle.raft_list_laws.specs.Accounts.{Accounts, AreTrue}
 use Rattle.raft_list_laws.specs.Bases.{base_of, before_own}
 use Rattle.raft_list_laws.specs.NewEntries.{GoesOnByOne, NewEntriesAreFew, WasCommanded, behind}
-use Rattle.raft_list_laws.proofs.Bases.{before_agrees}
+use Rattle.raft_list_laws.proofs.Bases.{before_agrees, before_front}
+use Rattle.raft_list_laws.proofs.BasesStay.{OwnBehind, all_own, same_votes}
 use Rattle.raft_list_laws.proofs.EntryOrigins.{asked_noted, origins_of_run}
 use Rattle.raft_list_laws.proofs.GoingOn.{notes_go_on}
 use Rattle.raft_list_laws.proofs.NotedWorlds.{has_some, new_note_known}
@@ -77,9 +80,6 @@ next_is_own leader (x ∷ xs) e is = go (is_written_by leader x) refl is (next_i
 as_behind : (vote : Vote ℕ) (list : List Entry) (x : Entry) → x.log_id.leader_id ≡ vote.leader_id → x.log_id.index ≡ length list → x ≡ behind vote list x.payload
 as_behind vote list x leader index =
     ap₂ (λ (i : LeaderId ℕ) (j : ℕ). entry_of (record { leader_id = i; index = j }) x.payload) leader index
-
-same_votes : (a b : Vote ℕ) → a.leader_id ≡ b.leader_id → a.committed ≡ b.committed → a ≡ b
-same_votes a b leader flag = ap₂ (λ (i : LeaderId ℕ) (c : Bool). let v : Vote ℕ = record { leader_id = i; committed = c } in v) leader flag
 
 -- ---- the note
 
@@ -154,26 +154,27 @@ module _ (end : GroupWorld) (f : Founded end) (l : Led) (among : Among l end.led
   -- ---- a leader that was
 
   -- the last list under the vote
-  module _ (list : List Entry) (last : Led) (among_last : Among last led) (of_vote : last.vote ≡ l.vote) (of_list : last.list ≡ list) (whole : (x : Led) → Among x led → x.vote ≡ l.vote → length x.list ≤ length list) (goes_on : AgreeBelow (length list) list l.list) where
-    abbrev front : List Entry
-    front = longer list (base_of l)
-
-    long : (length list ≤ length front) × (length (base_of l) ≤ length front)
-    long = let x = longest list (base_of l ∷ []) in (x.past_first, x.past (base_of l) (inl refl))
-
-    front_agrees : AgreeBelow (length front) front l.list
-    front_agrees =
+  module _ (list : List Entry) (last : Led) (among_last : Among last led) (of_vote : last.vote ≡ l.vote) (of_list : last.list ≡ list) (whole : (x : Led) → Among x led → x.vote ≡ l.vote → length x.list ≤ length list) (goes_on : AgreeBelow (length list) list l.list) (past : OwnBehind last l.list) where
+    -- so the leader took over no more than that
+    base_within : length (base_of l) ≤ length list
+    base_within =
         ⊎_elim
-        (λ e. subst (λ xs. AgreeBelow (length xs) xs l.list) (sym e) goes_on)
-        (λ a. ⊎_elim (λ e. subst (λ xs. AgreeBelow (length xs) xs l.list) (sym e) (before_agrees l.vote.leader_id l.list)) (λ none. absurd none) a)
-        (longest list (base_of l ∷ [])).one
+        (λ more.
+        let x = some_at (base_of l) (length list) more in
+        let there = before_front l.vote.leader_id l.list (length list) x.0 x.1 in
+        let size = ap length of_list in
+        let own = past (length list) x.0 (omega arith) there.0 ∙ ap (λ (v : Vote ℕ). v.leader_id) of_vote in
+        let no : false ≡ true = sym there.1 ∙ leader_eq_from x.0.log_id.leader_id l.vote.leader_id own in
+        absurd cc)
+        (λ le. le)
+        (cases_lt (length list) (length (base_of l)))
 
     one_vote : (x : Led) → Among x led → x.vote.leader_id ≡ l.vote.leader_id → x.vote ≡ l.vote
     one_vote x a same = same_votes x.vote l.vote same ((own_led x a).flag ∙ sym mine.flag)
 
-    new_told : (i : ℕ) (e : Entry) → length front ≤ i → slice_get l.list i ≡ Some e → (i ≡ length front) × (e.payload ≡ Blank → ⊥)
+    new_told : (i : ℕ) (e : Entry) → length list ≤ i → slice_get l.list i ≡ Some e → (i ≡ length list) × (e.payload ≡ Blank → ⊥)
     new_told i e le at =
-        let sizes = long in
+        let le_base = base_within in
         let own = own_past i e (omega arith) at in
         let place = placed i e at in
         ⊎_elim
@@ -195,20 +196,32 @@ module _ (end : GroupWorld) (f : Founded end) (l : Led) (among : Among l end.led
         n.1.1)
         (own_cases i e at own)
 
-    later_note : (Q : Entry → Type 0) → ((i : ℕ) (e : Entry) → slice_get l.list i ≡ Some e → IsOwn e → (e.payload ≡ Blank → ⊥) → Q e) → GoesOnByOne l.vote front Q l.list
+    later_note : (Q : Entry → Type 0) → ((i : ℕ) (e : Entry) → slice_get l.list i ≡ Some e → IsOwn e → (e.payload ≡ Blank → ⊥) → Q e) → GoesOnByOne l.vote list Q l.list
     later_note Q asked =
-        let sizes = long in
+        let le_base = base_within in
         ⊎_elim
         (λ same. inl same)
         (λ x.
-        let own = own_past (length front) x.0 (omega arith) x.3 in
-        let eq = as_behind l.vote front x.0 own (placed (length front) x.0 x.3) in
+        let own = own_past (length list) x.0 (omega arith) x.3 in
+        let eq = as_behind l.vote list x.0 own (placed (length list) x.0 x.3) in
         inr (
           x.0.payload,
-          x.1 ∙ ap (λ (e : Entry). front ++ e ∷ []) eq,
-          subst Q eq (asked (length front) x.0 x.3 own x.2),
+          x.1 ∙ ap (λ (e : Entry). list ++ e ∷ []) eq,
+          subst Q eq (asked (length list) x.0 x.3 own x.2),
         ))
-        (one_past l.list front (λ e. e.payload ≡ Blank → ⊥) front_agrees (λ i e le at. new_told i e le at))
+        (one_past l.list list (λ e. e.payload ≡ Blank → ⊥) goes_on (λ i e le at. new_told i e le at))
+
+-- the note that is left is of the node's state
+note_state : (w end : GroupWorld) (l : Led) → Notes w end → end.led ≡ w.led ++ l ∷ [] → (n : NewNote w end) × (l ≡ note_of n.node n.state)
+note_state w end l notes grown =
+    ⊎_elim
+    (λ none. let size = ap length (sym none ∙ grown) in let more = length-append w.led (l ∷ []) in absurd (omega arith))
+    (λ n. (
+      n,
+      same_some
+          (sym (slice_get_end w.led l) ∙ ap (λ (ls : List Led). slice_get ls (length w.led)) (sym grown ∙ n.led) ∙ slice_get_end w.led (note_of n.node n.state)),
+    ))
+    notes
 
 -- ---- runs
 
@@ -272,7 +285,28 @@ module _ (ids : List ℕ) (small : AreNodeIds ids) (es : Events) (last : WorldEv
       (o.0, o.1, o.2, origin_is_last ids small all o.0 o.1 e o.2 (asked_noted o.2 (omega arith))))
       (each_at _ l.list i e each at)
 
-  later_is : (a.latest l.vote ≡ [] → ⊥) → GoesOnByOne l.vote (longer (a.latest l.vote) (base_of l)) (WasCommanded all (new_world ids)) l.list
+  -- the note is of the node's state
+  state_noted : (n : NewNote w end) × (l ≡ note_of n.node n.state)
+  state_noted =
+      let step = run-replays (last ∷ []) w in
+      let same : group_run all (new_world ids) ≡ happens w last.0 (outcome_of w last.0 (is_some last.1)) step.1.0 = run_more es last (new_world ids) ∙ step.1.1 in
+      note_state w end l (subst (Notes w) (sym same) (event_notes w last.0 (outcome_of w last.0 (is_some last.1)) step.1.0))
+      (one ∙ ap (λ (ls : List Led). ls ++ l ∷ []) before)
+
+  -- past a note under its vote there are own entries alone
+  own_after : (x : Led) → Among x w.led → x.vote ≡ l.vote → OwnBehind x l.list
+  own_after x here same =
+      let n = state_noted.0 in
+      let is = state_noted.1 in
+      let node : x.node ≡ n.node =
+      sym (own_in x here).node ∙ ap (λ (u : Vote ℕ). u.leader_id.node_id) same ∙ mine.node ∙ ap (λ (y : Led). y.node) is
+      in
+      let there : Among x end.led = subst (Among x) (sym n.led) (among_front x w.led (note_of n.node n.state ∷ []) here) in
+      subst (OwnBehind x) (sym (ap (λ (y : Led). y.list) is))
+      (all_own ids small (history_of all (new_world ids)) end (run-replays all (new_world ids)) n.node x there node n.state.stored
+      (ap stored_of n.is_up) (sym (same ∙ ap (λ (y : Led). y.vote) is)))
+
+  later_is : (a.latest l.vote ≡ [] → ⊥) → GoesOnByOne l.vote (a.latest l.vote) (WasCommanded all (new_world ids)) l.list
   later_is some =
       ⊎_elim
       (λ none. absurd (some none))
@@ -280,6 +314,7 @@ module _ (ids : List ℕ) (small : AreNodeIds ids) (es : Events) (last : WorldEv
       later_note end f l among mine w.led own_in note_known (a.latest l.vote) x.0
       (subst (Among x.0) before (contains_among v.led x.0 x.1)) x.2 x.3 within_latest
       (notes_go_on ids (history_of all (new_world ids)) end history a v l t one)
+      (own_after x.0 (subst (Among x.0) before (contains_among v.led x.0 x.1)) x.2)
       (WasCommanded all (new_world ids)) commanded)
       (t.notes.noted l.vote)
 

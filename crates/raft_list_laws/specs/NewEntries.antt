@@ -9,7 +9,6 @@ use Rattle.raft_laws.specs.GroupWorld.{GroupWorld, Led, new_world}
 use Rattle.raft_laws.specs.GroupRun.{group_run}
 use Rattle.raft_laws.specs.OneList.{AreNodeIds}
 use Rattle.raft_laws.specs.Origins.{Events, IsAskedAt}
-use Rattle.raft_laws.specs.Settled.{longer}
 use Rattle.raft_history_laws.specs.NotedIds.{IsOrigin}
 use Rattle.raft_list_laws.specs.Accounts.{Accounts, AreTrue}
 use Rattle.raft_list_laws.specs.Bases.{base_of}
@@ -29,11 +28,11 @@ abbrev pub WasCommanded : Events → GroupWorld → Entry → Type 0
 WasCommanded es w e =
     (number : ℕ) × (call : GroupCall) × IsAskedAt es w number call e × IsOrigin es w number e.log_id
 
--- behind what it took over, a leader that wasn't noted before has a blank entry, or nothing. One that was has a command or change
--- behind its last list, or behind what it took over where that is longer, or nothing
+-- a leader that wasn't noted before has a blank entry behind what it took over, or nothing; one that was has a command or change
+-- behind its last list, or nothing
 pub record HasFewNew (es : Events) (w : GroupWorld) (a : Accounts) (l : Led) : Type 0 where
   pub first : a.latest l.vote ≡ [] → GoesOnByOne l.vote (base_of l) (λ e. e.payload ≡ Blank) l.list
-  pub later : (a.latest l.vote ≡ [] → ⊥) → GoesOnByOne l.vote (longer (a.latest l.vote) (base_of l)) (WasCommanded es w) l.list
+  pub later : (a.latest l.vote ≡ [] → ⊥) → GoesOnByOne l.vote (a.latest l.vote) (WasCommanded es w) l.list
 
 -- the note that the last event of a run leaves, by accounts of the notes before it
 abbrev pub NewEntriesAreFew : Type 0
