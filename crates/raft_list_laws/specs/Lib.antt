@@ -3,3 +3,4 @@ pub mod Changes
 pub mod AccountsRows
 pub mod Bases
 pub mod NewEntries
+pub mod NotesRun
