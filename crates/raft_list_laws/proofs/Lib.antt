@@ -14,3 +14,4 @@ mod LeadsGrow
 mod BasesStay
 mod EntryOrigins
 mod NewEntries
+mod FirstEntries

@@ -84,7 +84,7 @@ as_behind vote list x leader index =
 -- ---- the note
 
 module _ (end : GroupWorld) (f : Founded end) (l : Led) (among : Among l end.led) (mine : OwnVote l.node l.vote true) (led : List Led) (own_led : (x : Led) → Among x led → OwnVote x.node x.vote true) (is : NoteKnown led l) where
-  abbrev IsOwn : Entry → Type 0
+  abbrev pub IsOwn : Entry → Type 0
   IsOwn e = e.log_id.leader_id ≡ l.vote.leader_id
 
   -- behind what it took over there are own entries alone
@@ -95,11 +95,11 @@ module _ (end : GroupWorld) (f : Founded end) (l : Led) (among : Among l end.led
       own_behind end f l among (length (base_of l)) i x.0 e le x.1 at
       (leader_eq_same x.0.log_id.leader_id l.vote.leader_id (next_is_own l.vote.leader_id l.list x.0 x.1))
 
-  placed : (i : ℕ) (e : Entry) → slice_get l.list i ≡ Some e → e.log_id.index ≡ i
+  pub placed : (i : ℕ) (e : Entry) → slice_get l.list i ≡ Some e → e.log_id.index ≡ i
   placed i e at = let p = (f.is.matches.fits.led l among).good.placed i e at in omega arith
 
   -- an own entry was noted under the vote, or is new
-  own_cases : (i : ℕ) (e : Entry) → slice_get l.list i ≡ Some e → IsOwn e → OwnNoted led (length led) e ⊎ OwnNew led is.0 l.node l.vote e
+  pub own_cases : (i : ℕ) (e : Entry) → slice_get l.list i ≡ Some e → IsOwn e → OwnNoted led (length led) e ⊎ OwnNew led is.0 l.node l.vote e
   own_cases i e at own =
       ⊎_elim
       (λ known.
@@ -117,7 +117,7 @@ module _ (end : GroupWorld) (f : Founded end) (l : Led) (among : Among l end.led
   -- ---- a leader that wasn't noted before
 
   module _ (unnoted : Unnoted led l.vote.leader_id) where
-    new_blank : (i : ℕ) (e : Entry) → slice_get l.list i ≡ Some e → IsOwn e → (i ≡ is.0) × (e.payload ≡ Blank)
+    pub new_blank : (i : ℕ) (e : Entry) → slice_get l.list i ≡ Some e → IsOwn e → (i ≡ is.0) × (e.payload ≡ Blank)
     new_blank i e at own =
         let place = placed i e at in
         ⊎_elim

@@ -1,8 +1,10 @@
 -- What a new leader took over: its list up to its first own entry.
-use Rattle.std.specs.Prelude.{◌≡◌, ◌⊎◌, ℕ, ◌<◌, ◌≤◌, if◌then◌else◌, List, [], ◌∷◌, length, slice_get, Some}
+use Rattle.std.specs.Prelude.{◌≡◌, ◌⊎◌, ℕ, ◌<◌, ◌≤◌, if◌then◌else◌, List, [], ◌∷◌, length, slice_get, Some, Contains}
 use Rattle.raft_values.specs.declared.vote.LeaderId.{LeaderId}
 use Rattle.raft_values.specs.declared.vote.Vote.{Vote}
-use Rattle.raft_group_step.specs.Values.{Entry, is_written_by}
+use Rattle.raft_values.specs.LogId.{log_id_of}
+use Rattle.raft_state.specs.declared.entry.EntryPayload.TheVariants.{Membership as Members}
+use Rattle.raft_group_step.specs.Values.{Entry, Membership, entry_of, is_written_by}
 use Rattle.raft_laws.specs.BallotLists.{AgreeBelow}
 use Rattle.raft_laws.specs.GroupWorld.{GroupWorld, Led, Recorded}
 use Rattle.raft_laws.specs.OneList.{IsGroupHistory}
@@ -32,3 +34,10 @@ BasesWereNoted =
     (ids : List ℕ) (rs : List Recorded) (end : GroupWorld) → IsGroupHistory ids rs end
     → (note : ℕ) (l : Led) → slice_get end.led note ≡ Some l
     → (length (base_of l) ≤ 1) ⊎ WasNotedBefore end note l.vote (base_of l)
+
+-- in each world to which a history leads, a noted list begins with the entry of the group's set-up
+abbrev pub SetUpsComeFirst : Type 0
+SetUpsComeFirst =
+    (ids : List ℕ) (rs : List Recorded) (end : GroupWorld) → IsGroupHistory ids rs end
+    → (m : Membership) → end.setup ≡ Some m
+    → (l : Led) → Contains end.led l → slice_get l.list 0 ≡ Some (entry_of (log_id_of 0 0 0) (Members m))

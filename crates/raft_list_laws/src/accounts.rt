@@ -1,7 +1,7 @@
 //! The accounts of a group's list stay true from event to event: laws, each a contract of a function without a body.
 
 ghost use Rattle.raft_list_laws.specs.Changes.{AcceptancesKeep, FrontsBeforeMessages, FrontsBeforeNotes, NotesKeep, SetUpsKeep, SilentKeep};
-ghost use Rattle.raft_list_laws.specs.Bases.{BasesWereNoted};
+ghost use Rattle.raft_list_laws.specs.Bases.{BasesWereNoted, SetUpsComeFirst};
 ghost use Rattle.raft_list_laws.specs.NewEntries.{NewEntriesAreFew};
 ghost use Rattle.raft_list_laws.specs.Changes.{NobodyLedBefore, NotedListsAgree, NotesGoOn, OwnEntriesComeLast, PartsOfHistories};
 
@@ -54,4 +54,9 @@ pub fn bases_were_noted()
 /// one that stopped before this opening.
 pub fn new_entries_are_few()
     ensures { NewEntriesAreFew }
+{}
+
+/// Each list that a leader was noted with begins with the entry of the group's set-up, over every history that replays.
+pub fn set_ups_come_first()
+    ensures { SetUpsComeFirst }
 {}
