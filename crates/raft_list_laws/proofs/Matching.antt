@@ -19,11 +19,11 @@ use Rattle.raft_laws.proofs.StepFits.{world_after}
 use Rattle.raft_list_laws.specs.Changes.{NotedListsAgree}
 
 module _ (w : GroupWorld) (f : Founded w) where
-  abbrev ballots : BallotWorld
+  abbrev pub ballots : BallotWorld
   ballots = world_after f.membership (events f.membership f.some w f.is)
 
   -- up to an entry a noted list is that of the entry's ballot
-  agrees_with_ballot : (l : Led) → Among l w.led → (i : ℕ) (x : Entry) → slice_get l.list i ≡ Some x → AgreeBelow (suc i) (ballot_log l.list) (ballots.lead (rank_of x.log_id.leader_id))
+  pub agrees_with_ballot : (l : Led) → Among l w.led → (i : ℕ) (x : Entry) → slice_get l.list i ≡ Some x → AgreeBelow (suc i) (ballot_log l.list) (ballots.lead (rank_of x.log_id.leader_id))
   agrees_with_ballot l among i x at =
       let fits : LedFits f.membership ballots l = f.is.matches.fits.led l among in
       let within = slice_get_within l.list i x at in

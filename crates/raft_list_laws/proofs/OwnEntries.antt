@@ -26,7 +26,7 @@ module _ (w : GroupWorld) (f : Founded w) (l : Led) (among : Among l w.led) wher
   fits = f.is.matches.fits.led l among
 
   -- behind an own entry there are own entries alone
-  own_behind : (i j : ℕ) (x y : Entry) → i ≤ j → slice_get l.list i ≡ Some x → slice_get l.list j ≡ Some y → x.log_id.leader_id ≡ l.vote.leader_id → y.log_id.leader_id ≡ l.vote.leader_id
+  pub own_behind : (i j : ℕ) (x y : Entry) → i ≤ j → slice_get l.list i ≡ Some x → slice_get l.list j ≡ Some y → x.log_id.leader_id ≡ l.vote.leader_id → y.log_id.leader_id ≡ l.vote.leader_id
   own_behind i j x y le at_i at_j own =
       let log = (after_safe f.membership f.some (events f.membership f.some w f.is)).leads (rank_of l.vote.leader_id) in
       let here = sym (fits.front.same i (slice_get_within l.list i x at_i)) ∙ ballot_at l.list i x at_i in

@@ -20,7 +20,7 @@ use Rattle.raft_list_laws.specs.Changes.{GoesOn}
 
 -- ---- lists
 
-agree_whole : {A : Type 0} (xs ys : List A) → AgreeBelow (length xs) xs ys → length xs ≡ length ys → xs ≡ ys
+pub agree_whole : {A : Type 0} (xs ys : List A) → AgreeBelow (length xs) xs ys → length xs ≡ length ys → xs ≡ ys
 agree_whole [] [] a e = refl
 agree_whole [] (y ∷ ys) a e = absurd (omega arith)
 agree_whole (x ∷ xs) [] a e = absurd (omega arith)
