@@ -9,7 +9,6 @@ use Rattle.std.proofs.lemmas.Option.{slice_get-get_or}
 use Rattle.raft_group_step.proofs.EntryPlaces.{slice_drop}
 use Rattle.raft_group_step.specs.Values.{Entry}
 use Rattle.raft_group_step.specs.StoredGroup.{PutEntries, StoredGroup, after_storing, end_place, first_place, log_below}
-use Rattle.raft_content_log.specs.Leaving.{AreEntries}
 use Rattle.raft_log_memtables.specs.Content.{GroupContent}
 use Rattle.raft_log_records.specs.Batch.{payloads}
 use Rattle.raft_machines.specs.Machine.{MachineRules}

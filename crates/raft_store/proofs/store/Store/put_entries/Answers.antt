@@ -16,7 +16,7 @@ returns-clause-ok g c = λ sound s shown.
     let high : place ≤ end_place s = subst (λ (n : ℕ). place ≤ n) (c.in_ok-bounds.ensures.end s sound shown) c.in_ok-check_place.ensures.high in
     let batch = c.in_ok-batch.ensures in
     let after = c.in_ok-store.ensures.ok c.args.group (entry_changes place entries (place + length entries)) s (after_storing (PutEntries place entries) s) batch.items
-        (carries_entries rules s place low high entries (place + length entries) batch.fits refl batch.places) (c.in_ok-bounds.ensures.well sound) (c.in_ok-bounds.ensures.kept c.args.group (s ∷ []) shown) in
+    (carries_entries rules s place low high entries (place + length entries) batch.fits refl batch.places) (c.in_ok-bounds.ensures.well sound) (c.in_ok-bounds.ensures.kept c.args.group (s ∷ []) shown) in
     let content = g.L.ContentLog.answers c.store.new.self.log c.args.group in
     record {
       answered = after.answered;

@@ -1,7 +1,7 @@
 -- The remembered bytes at a log's places are its entries.
-use Rattle.std.proofs.Common.{◌≡◌, ◌-◌, List, Option, Vec, Global, ℕ, map, subst}
+use Rattle.std.proofs.Common.{◌-◌, Option, subst}
 use Rattle.raft_values.specs.LogId.{next_place}
-use Rattle.raft_group_step.specs.StoredGroup.{StoredGroup, first_place}
+use Rattle.raft_group_step.specs.StoredGroup.{first_place}
 use Rattle.raft_group_storage.specs.Keeping.{entries_of}
 use Rattle.raft_store.specs.Reading.{Recalls}
 use Rattle.raft_store.specs.declared.recent.Recent.{Recent}
