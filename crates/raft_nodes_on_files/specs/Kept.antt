@@ -29,7 +29,7 @@ is_well x = x.log.has_failed ≡ false
 
 abbrev pub shows : {M : Type 0} → MachineRules → Keeping M → ℕ → List StoredGroup → Type 0
 shows rules x group parts =
-    ShowsBy rules (λ (l : MemoryLog). l.has_failed ≡ false) (λ (l : MemoryLog). answers_on disk_in l.engine) (λ (l : MemoryLog). leaves_of_log disk_in l) x.log group parts
+    ShowsBy rules (λ (l : MemoryLog). l.has_failed ≡ false) (λ (l : MemoryLog). answers_on disk_in l.engine) (λ (l : MemoryLog). leaves_of_log disk_in l) x.log x.recent group parts
 
 -- whatever an opening finds of the files as they are holds one of these parts, unless it finds by chance what nobody wrote
 abbrev pub AreShownDown : MachineRules → LogFiles → ℕ → List StoredGroup → Type 0

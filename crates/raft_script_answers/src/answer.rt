@@ -1,83 +1,110 @@
 //! The text of an answer.
 ghost use Rattle.std.specs.Prelude.{◌≡◌, ◌++◌, IfOk, OnOk, string_bytes};
+ghost use Rattle.std.specs.Fmt.{decimal};
 ghost use Rattle.std.specs.List.{flat_map};
 ghost use Rattle.raft_script_answers.specs.Answer.{number_or_dash, sent_text, told_text, unknown_text, compact_text, leader_text, done_text, refused_text, stopped_text, total_text};
 
 use crate::refusal::Refusal;
 use crate::told_total::{AppliedTotal, SentNumber, ToldTotal};
+use itoa::Buffer;
 use std::alloc::{AllocError, Global};
 
-// A number, or `-` where there is none.
-fn number_or_dash(alloc: Global, number: Option<u64>) -> Result<String, AllocError>
-    ensures { IfOk result (λ text. string_bytes text ≡ number_or_dash number) }
+// Room for most answers, so that text doesn't move as it grows.
+const ROOM: usize = 64;
+
+// The text, and the number behind it.
+fn push_number(text: &mut String, number: u64) -> Result<(), AllocError>
+    ensures { OnOk result (string_bytes text.new ≡ string_bytes text.old ++ decimal number) }
+{
+    let mut digits = Buffer::new();
+    text.push_str(digits.format(number))
+}
+
+// The text, and behind it a number, or `-` where there is none.
+fn push_number_or_dash(text: &mut String, number: Option<u64>) -> Result<(), AllocError>
+    ensures { OnOk result (string_bytes text.new ≡ string_bytes text.old ++ number_or_dash number) }
 {
     match number {
-        Some(number) => number.to_string(alloc),
-        None => String::from_str(alloc, "-"),
+        Some(number) => push_number(text, number),
+        None => text.push_str("-"),
     }
 }
 
-fn sent_text(alloc: Global, sent: &SentNumber) -> Result<String, AllocError>
-    ensures { IfOk result (λ text. string_bytes text ≡ sent_text sent.now) }
+// The text, and a frame behind it.
+fn push_one_sent(text: &mut String, sent: &SentNumber) -> Result<(), AllocError>
+    ensures { OnOk result (string_bytes text.new ≡ string_bytes text.old ++ sent_text sent.now) }
 {
-    let peer = sent.peer;
-    let number = sent.number;
-    format!(in alloc; " >{peer}#{number}")
+    text.push_str(" >")?;
+    push_number(text, sent.peer)?;
+    text.push_str("#")?;
+    push_number(text, sent.number)
 }
 
-fn told_text(alloc: Global, told: &ToldTotal) -> Result<String, AllocError>
-    ensures { IfOk result (λ text. string_bytes text ≡ told_text told.now) }
+// The text, and a told answer behind it.
+fn push_one_told(text: &mut String, told: &ToldTotal) -> Result<(), AllocError>
+    ensures { OnOk result (string_bytes text.new ≡ string_bytes text.old ++ told_text told.now) }
 {
-    let token = told.token;
-    let place = told.place;
-    let total = number_or_dash(alloc, told.total)?;
-    format!(in alloc; " told {token}@{place}={total}")
+    text.push_str(" told ")?;
+    push_number(text, told.token)?;
+    text.push_str("@")?;
+    push_number(text, told.place)?;
+    text.push_str("=")?;
+    push_number_or_dash(text, told.total)
 }
 
 // The text, and each frame behind it.
-fn push_sent(alloc: Global, text: &mut String, sent: &[SentNumber]) -> Result<(), AllocError>
+fn push_sent(text: &mut String, sent: &[SentNumber]) -> Result<(), AllocError>
     ensures { OnOk result (string_bytes text.new
         ≡ string_bytes text.old ++ flat_map sent_text sent.now) }
 {
     for one in sent {
-        text.push_str(sent_text(alloc, one)?.as_str())?;
+        push_one_sent(text, one)?;
     }
     Ok(())
 }
 
 // The text, and each told answer behind it.
-fn push_told(alloc: Global, text: &mut String, told: &[ToldTotal]) -> Result<(), AllocError>
+fn push_told(text: &mut String, told: &[ToldTotal]) -> Result<(), AllocError>
     ensures { OnOk result (string_bytes text.new
         ≡ string_bytes text.old ++ flat_map told_text told.now) }
 {
     for one in told {
-        text.push_str(told_text(alloc, one)?.as_str())?;
+        push_one_told(text, one)?;
     }
     Ok(())
 }
 
 // The text, and each token behind it that stays unknown.
-fn push_unknown(alloc: Global, text: &mut String, unknown: &[u64]) -> Result<(), AllocError>
+fn push_unknown(text: &mut String, unknown: &[u64]) -> Result<(), AllocError>
     ensures { OnOk result (string_bytes text.new
         ≡ string_bytes text.old ++ flat_map unknown_text unknown.now) }
 {
     for token in unknown {
-        let one = format!(in alloc; " unknown {token}")?;
-        text.push_str(one.as_str())?;
+        text.push_str(" unknown ")?;
+        push_number(text, *token)?;
     }
     Ok(())
 }
 
 // The text, and each group behind it that is to be compacted.
-fn push_compact(alloc: Global, text: &mut String, groups: &[u64]) -> Result<(), AllocError>
+fn push_compact(text: &mut String, groups: &[u64]) -> Result<(), AllocError>
     ensures { OnOk result (string_bytes text.new
         ≡ string_bytes text.old ++ flat_map compact_text groups.now) }
 {
     for group in groups {
-        let one = format!(in alloc; " compact {group}")?;
-        text.push_str(one.as_str())?;
+        text.push_str(" compact ")?;
+        push_number(text, *group)?;
     }
     Ok(())
+}
+
+// A text that has room for more.
+fn roomy(alloc: Global, text: &str) -> Result<String, AllocError>
+    ensures { IfOk result (λ roomy. string_bytes roomy ≡ text.now) }
+{
+    let mut roomy = String::with_capacity(alloc, ROOM)?;
+    roomy.push_str(text)?;
+    Ok(roomy)
 }
 
 /// An event ran to its end: its frames, what it told, the tokens that stay unknown, and the groups
@@ -92,25 +119,25 @@ pub fn done_text(
     ensures { IfOk result (λ text. string_bytes text
         ≡ done_text sent.now told.now unknown.now compact.now) }
 {
-    let mut text = String::from_str(alloc, "ok")?;
-    push_sent(alloc, &mut text, sent)?;
-    push_told(alloc, &mut text, told)?;
-    push_unknown(alloc, &mut text, unknown)?;
-    push_compact(alloc, &mut text, compact)?;
+    let mut text = roomy(alloc, "ok")?;
+    push_sent(&mut text, sent)?;
+    push_told(&mut text, told)?;
+    push_unknown(&mut text, unknown)?;
+    push_compact(&mut text, compact)?;
     text.push_str("\n")?;
     Ok(text)
 }
 
-// Who leads, where a refusal says so.
-fn leader_text(alloc: Global, why: Refusal) -> Result<String, AllocError>
-    ensures { IfOk result (λ text. string_bytes text ≡ leader_text why) }
+// The text, and who leads where a refusal says so.
+fn push_leader(text: &mut String, why: Refusal) -> Result<(), AllocError>
+    ensures { OnOk result (string_bytes text.new ≡ string_bytes text.old ++ leader_text why) }
 {
     match why {
         Refusal::NotLeader { leader } => {
-            let leader = number_or_dash(alloc, leader)?;
-            format!(in alloc; " {leader}")
+            text.push_str(" ")?;
+            push_number_or_dash(text, leader)
         }
-        _ => Ok(String::new(alloc)),
+        _ => Ok(()),
     }
 }
 
@@ -119,10 +146,10 @@ fn leader_text(alloc: Global, why: Refusal) -> Result<String, AllocError>
 pub fn refused_text(alloc: Global, why: Refusal, unknown: &[u64]) -> Result<String, AllocError>
     ensures { IfOk result (λ text. string_bytes text ≡ refused_text why unknown.now) }
 {
-    let label = why.label();
-    let leader = leader_text(alloc, why)?;
-    let mut text = format!(in alloc; "refused {label}{leader}")?;
-    push_unknown(alloc, &mut text, unknown)?;
+    let mut text = roomy(alloc, "refused ")?;
+    text.push_str(why.label())?;
+    push_leader(&mut text, why)?;
+    push_unknown(&mut text, unknown)?;
     text.push_str("\n")?;
     Ok(text)
 }
@@ -141,8 +168,12 @@ pub fn total_text(alloc: Global, total: Option<AppliedTotal>) -> Result<String, 
 {
     match total {
         Some(AppliedTotal { total, place }) => {
-            let place = number_or_dash(alloc, place)?;
-            format!(in alloc; "total {total} at {place}\n")
+            let mut text = roomy(alloc, "total ")?;
+            push_number(&mut text, total)?;
+            text.push_str(" at ")?;
+            push_number_or_dash(&mut text, place)?;
+            text.push_str("\n")?;
+            Ok(text)
         }
         None => String::from_str(alloc, "none\n"),
     }

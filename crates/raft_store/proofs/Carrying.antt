@@ -96,10 +96,10 @@ module _ (rules : MachineRules) (s : StoredGroup) where
   -- ---- entries from a place on
 
   module _ (place : ℕ) (low : first_place s ≤ place) (high : place ≤ end_place s) where
-    below_len : length (log_below s place) ≡ place - first_place s
+    pub below_len : length (log_below s place) ≡ place - first_place s
     below_len = length-take (place - first_place s) s.log ∙ omega arith
 
-    put_end : (es : List Entry) → end_place (after_storing (PutEntries place es) s) ≡ place + length es
+    pub put_end : (es : List Entry) → end_place (after_storing (PutEntries place es) s) ≡ place + length es
     put_end es = ap (λ (n : ℕ). first_place s + n) (length-append (log_below s place) es ∙ ap (λ (n : ℕ). n + length es) below_len) ∙ omega arith
 
     put_log : (g : GroupContent (List ℕ)) (e : Entry) (es : List Entry) → Holds rules g s → AllByRecursion FitsEntry (e ∷ es)

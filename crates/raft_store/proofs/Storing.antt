@@ -1,6 +1,6 @@
 -- One batch of a group's changes: what is shown after it, and of the other groups.
 use Rattle.std.proofs.Common.{◌≡◌, ◌≢◌, inl, inr, ℕ, Bool, cond, List, [], ◌∷◌, refl, ap, sym, subst, ◌∙◌, eq-eqb}
-use Rattle.std.specs.Prelude.{Result, Ok, Err, OnErr, OnOk}
+use Rattle.std.specs.Prelude.{Result, Ok, Err, OnErr, OnOk, Option, None}
 use Rattle.raft_group_step.specs.StoredGroup.{StoredGroup}
 use Rattle.raft_log_records.specs.Item.{Change, Item}
 use Rattle.raft_log_memtables.specs.Content.{Content, GroupContent, after_batch, after_change, after_item}
@@ -8,7 +8,8 @@ use Rattle.raft_log_memtables.specs.Taken.{TakesEach}
 use Rattle.raft_content_log.specs.Leaving.{AgreesElsewhere, IsEither, IsUnnamed, IsWritten, Leaves, LeavesElsewhere, LeavesNoMore, MayBeWritten}
 use Rattle.raft_machines.specs.Machine.{MachineRules}
 use Rattle.raft_store.specs.Batches.{Carries, ShowsIn, TakesChanges, after_changes, of_group}
-use Rattle.raft_store.specs.Reading.{Holds, HoldsOne}
+use Rattle.raft_store.specs.Reading.{Holds, HoldsOne, Recalls}
+use Rattle.raft_store.specs.declared.recent.Recent.{Recent}
 
 -- ---- the items of one group
 
@@ -49,49 +50,54 @@ module _ (rules : MachineRules) (items : List (Item (List ℕ))) (group : ℕ) (
     held_after : Holds rules (after_batch items old group) t
     held_after = subst (λ (g : GroupContent (List ℕ)). Holds rules g t) (sym (ap (λ (l : List (Item (List ℕ))). after_batch l old group) are ∙ changes_at group changes old)) (carries.holds (old group) held)
 
-    pub shown_after : (sound : Type 0) (answered : Content (List ℕ)) (leaves : Leaves) → IsWritten answered leaves (after_batch items old) → ShowsIn rules sound answered leaves group (t ∷ [])
+    pub shown_after : (sound : Type 0) (answered : Content (List ℕ)) (leaves : Leaves) → IsWritten answered leaves (after_batch items old) → ShowsIn rules sound answered leaves None group (t ∷ [])
     shown_after sound answered leaves written = record {
       answered = λ is. inl (subst (λ (c : Content (List ℕ)). Holds rules (c group) t) (sym written.answers) held_after);
       left = λ content is. inl (subst (λ (c : Content (List ℕ)). Holds rules (c group) t) (sym (written.leaves_only content is)) held_after);
+      recalled = λ is. tt;
     }
 
-    pub shown_either : (sound : Type 0) (answered : Content (List ℕ)) (leaves : Leaves) → MayBeWritten sound answered leaves old (after_batch items old) → ShowsIn rules sound answered leaves group (s ∷ t ∷ [])
+    pub shown_either : (sound : Type 0) (answered : Content (List ℕ)) (leaves : Leaves) → MayBeWritten sound answered leaves old (after_batch items old) → ShowsIn rules sound answered leaves None group (s ∷ t ∷ [])
     shown_either sound answered leaves written = record {
       answered = λ is. one_of_either rules old (after_batch items old) answered group s t held held_after (written.answers is);
       left = λ content is. one_of_either rules old (after_batch items old) content group s t held held_after (written.leaves_either content is);
+      recalled = λ is. tt;
     }
 
--- the others
-pub others_shown : (rules : MachineRules) (items : List (Item (List ℕ))) (group : ℕ) (changes : List (Change (List ℕ))) (sound_old sound_new : Type 0) (old new : Content (List ℕ)) (leaves_old leaves_new : Leaves)
+-- the others, where no entries are remembered after it
+pub others_shown : (rules : MachineRules) (items : List (Item (List ℕ))) (group : ℕ) (changes : List (Change (List ℕ))) (sound_old sound_new : Type 0) (old new : Content (List ℕ)) (leaves_old leaves_new : Leaves) (recent : Option Recent)
     → items ≡ of_group group changes → (sound_new → sound_old × AgreesElsewhere items new old) → LeavesElsewhere items leaves_old leaves_new
-    → (other : ℕ) (parts : List StoredGroup) → other ≢ group → ShowsIn rules sound_old old leaves_old other parts → ShowsIn rules sound_new new leaves_new other parts
-others_shown rules items group changes sound_old sound_new old new leaves_old leaves_new are answered left other parts ne shown =
+    → (other : ℕ) (parts : List StoredGroup) → other ≢ group → ShowsIn rules sound_old old leaves_old recent other parts → ShowsIn rules sound_new new leaves_new None other parts
+others_shown rules items group changes sound_old sound_new old new leaves_old leaves_new recent are answered left other parts ne shown =
     let un : IsUnnamed items other = subst (λ (l : List (Item (List ℕ))). IsUnnamed l other) (sym are) (unnamed group other changes ne) in
     record {
       answered = λ is. subst (λ (g : GroupContent (List ℕ)). HoldsOne rules g parts) (sym ((answered is).1 other un)) (shown.answered (answered is).0);
       left = λ content is.
           let before = left content is in
           subst (λ (g : GroupContent (List ℕ)). HoldsOne rules g parts) (sym (before.2 other un)) (shown.left before.0 before.1);
+      recalled = λ is. tt;
     }
 
 -- ---- a read
 
-pub still_shown : (rules : MachineRules) (sound_old sound_new : Type 0) (old new : Content (List ℕ)) (leaves_old leaves_new : Leaves)
+pub still_shown : (rules : MachineRules) (sound_old sound_new : Type 0) (old new : Content (List ℕ)) (leaves_old leaves_new : Leaves) (recent : Option Recent)
     → (sound_new → sound_old × (new ≡ old)) → LeavesNoMore leaves_old leaves_new
-    → (group : ℕ) (parts : List StoredGroup) → ShowsIn rules sound_old old leaves_old group parts → ShowsIn rules sound_new new leaves_new group parts
-still_shown rules sound_old sound_new old new leaves_old leaves_new kept less group parts shown = record {
+    → (group : ℕ) (parts : List StoredGroup) → ShowsIn rules sound_old old leaves_old recent group parts → ShowsIn rules sound_new new leaves_new recent group parts
+still_shown rules sound_old sound_new old new leaves_old leaves_new recent kept less group parts shown = record {
   answered = λ is. subst (λ (c : Content (List ℕ)). HoldsOne rules (c group) parts) (sym (kept is).1) (shown.answered (kept is).0);
   left = λ content is. shown.left content (less content is);
+  recalled = λ is. subst (λ (c : Content (List ℕ)). Recalls recent group (c group)) (sym (kept is).1) (shown.recalled (kept is).0);
 }
 
 -- ---- more parts
 
 -- the part alone is one of two
-pub shows_either : (rules : MachineRules) (sound : Type 0) (answered : Content (List ℕ)) (leaves : Leaves) (group : ℕ) (s t : StoredGroup)
-    → ShowsIn rules sound answered leaves group (s ∷ []) → ShowsIn rules sound answered leaves group (s ∷ t ∷ [])
-shows_either rules sound answered leaves group s t shown = record {
+pub shows_either : (rules : MachineRules) (sound : Type 0) (answered : Content (List ℕ)) (leaves : Leaves) (recent : Option Recent) (group : ℕ) (s t : StoredGroup)
+    → ShowsIn rules sound answered leaves recent group (s ∷ []) → ShowsIn rules sound answered leaves recent group (s ∷ t ∷ [])
+shows_either rules sound answered leaves recent group s t shown = record {
   answered = λ is. inl (only_one rules (answered group) s (shown.answered is));
   left = λ content is. inl (only_one rules (content group) s (shown.left content is));
+  recalled = shown.recalled;
 }
 
 -- ---- what holds of each part, at an exit

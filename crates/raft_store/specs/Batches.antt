@@ -1,5 +1,5 @@
 -- Batches of one group.
-use Rattle.std.specs.Prelude.{◌+◌, ℕ, List, [], ◌∷◌, map, ◌⊎◌, ◌<◌, ◌≤◌, ◌^◌, ◌≡◌}
+use Rattle.std.specs.Prelude.{◌+◌, ℕ, List, [], ◌∷◌, map, ◌⊎◌, ◌<◌, ◌≤◌, ◌^◌, ◌≡◌, Option}
 use Rattle.std.specs.Int.{w64, to_be_bytes}
 use Rattle.raft_values.specs.declared.vote.Vote.{Vote}
 use Rattle.raft_values.specs.declared.log_id.LogId.{LogId}
@@ -17,7 +17,8 @@ use Rattle.raft_wire.specs.Fields.{spelled_log_id, spelled_vote}
 use Rattle.raft_wire.specs.Entries.{spelled_entry}
 use Rattle.raft_wire.specs.Bodies.{spelled_snapshot}
 use Rattle.raft_store.specs.Keys.{end_key, group_key, purged_key, snapshot_key, vote_key}
-use Rattle.raft_store.specs.Reading.{Holds, HoldsOne}
+use Rattle.raft_store.specs.Reading.{Holds, HoldsOne, Recalls}
+use Rattle.raft_store.specs.declared.recent.Recent.{Recent}
 
 -- the items of these changes of a group
 abbrev pub of_group : ℕ → List (Change (List ℕ)) → List (Item (List ℕ))
@@ -72,11 +73,12 @@ IsRemoval id end changes =
 -- ---- what is shown
 
 -- What a log shows of a group: if it is sound, what it answers holds one of these parts; and so does whatever a crash
--- leaves.
-pub record ShowsIn (rules : MachineRules) (sound : Type 0) (answers : Content (List ℕ)) (leaves : Leaves) (group : ℕ) (parts : List StoredGroup) : Type 0 where
+-- leaves. What is remembered of the group's last entries is what the log answers.
+pub record ShowsIn (rules : MachineRules) (sound : Type 0) (answers : Content (List ℕ)) (leaves : Leaves) (recent : Option Recent) (group : ℕ) (parts : List StoredGroup) : Type 0 where
   pub answered : sound → HoldsOne rules (answers group) parts
   pub left : (content : Content (List ℕ)) → leaves content → HoldsOne rules (content group) parts
+  pub recalled : sound → Recalls recent group (answers group)
 
 -- the same, of a log by its members
-abbrev pub ShowsBy : {X : Type 0} → MachineRules → (X → Type 0) → (X → Content (List ℕ)) → (X → Leaves) → X → ℕ → List StoredGroup → Type 0
-ShowsBy rules sound answers leaves log group parts = ShowsIn rules (sound log) (answers log) (leaves log) group parts
+abbrev pub ShowsBy : {X : Type 0} → MachineRules → (X → Type 0) → (X → Content (List ℕ)) → (X → Leaves) → X → Option Recent → ℕ → List StoredGroup → Type 0
+ShowsBy rules sound answers leaves log recent group parts = ShowsIn rules (sound log) (answers log) (leaves log) recent group parts

@@ -1,5 +1,5 @@
 -- What the keys and entries of a group read as.
-use Rattle.std.specs.Prelude.{◌≡◌, ◌⊎◌, ◌<◌, ◌≤◌, ◌^◌, ◌+◌, ℕ, Bool, true, false, List, [], ◌∷◌, Option, Some, None, IsSome, option_map}
+use Rattle.std.specs.Prelude.{◌≡◌, ◌⊎◌, ◌<◌, ◌≤◌, ◌^◌, ◌+◌, ℕ, Bool, true, false, List, [], ◌∷◌, Option, Some, None, IsSome, length, option_map, slice_get}
 use Rattle.std.specs.Int.{w64, to_be_bytes}
 use Rattle.raft_values.specs.declared.vote.Vote.{Vote}
 use Rattle.raft_values.specs.Vote.{vote_of}
@@ -9,10 +9,12 @@ use Rattle.raft_messages.specs.declared.memberships.SnapshotBytes.{SnapshotBytes
 use Rattle.raft_wire.specs.Fields.{FitsLast, FitsVote, spelled_log_id, spelled_vote}
 use Rattle.raft_wire.specs.Entries.{FitsEntry, spelled_entry}
 use Rattle.raft_wire.specs.Bodies.{FitsSnapshot, spelled_snapshot}
+use Rattle.raft_log_records.specs.Batch.{payloads}
 use Rattle.raft_log_memtables.specs.Content.{GroupContent}
 use Rattle.raft_machines.specs.Machine.{MachineRules}
 use Rattle.raft_machines.specs.Fold.{fold_of}
 use Rattle.raft_store.specs.Keys.{end_key, group_key, purged_key, snapshot_key, vote_key}
+use Rattle.raft_store.specs.declared.recent.Recent.{Recent}
 
 -- A snapshot with a machine's bytes stands for one with entries: it covers the same, and its bytes restore the state that
 -- the entries give.
@@ -78,3 +80,15 @@ pub record Holds (rules : MachineRules) (g : GroupContent (List ℕ)) (s : Store
 abbrev pub HoldsOne : MachineRules → GroupContent (List ℕ) → List StoredGroup → Type 0
 HoldsOne rules g [] = ⊥
 HoldsOne rules g (s ∷ ss) = Holds rules g s ⊎ HoldsOne rules g ss
+
+-- ---- what is remembered
+
+-- the last entries of a group's log have these bytes, from this place on
+pub record IsTail (place : ℕ) (bytes : List (List ℕ)) (g : GroupContent (List ℕ)) : Type 0 where
+  pub end : HoldsEnd (g.value end_key) (place + length bytes)
+  pub each : (i : ℕ) → i < length bytes → slice_get bytes i ≡ g.entry (place + i)
+
+-- if entries of the group are remembered, they are its last ones
+abbrev pub Recalls : Option Recent → ℕ → GroupContent (List ℕ) → Type 0
+Recalls None group g = Unit {0}
+Recalls (Some r) group g = r.group ≡ group → IsTail r.place (payloads r.entries.items) g

@@ -1,5 +1,5 @@
 -- Where a log shows one of these parts, it shows one of more.
-use Rattle.std.specs.Prelude.{ℕ, List, [], ◌∷◌}
+use Rattle.std.specs.Prelude.{ℕ, List, [], ◌∷◌, Option, None}
 use Rattle.std.proofs.Common.{◌≡◌, inl, inr, refl, subst, sym, arith, le_refl}
 use Rattle.raft_group_step.specs.GroupState.{no_group}
 use Rattle.raft_group_step.specs.StoredGroup.{StoredGroup}
@@ -10,6 +10,7 @@ use Rattle.raft_group_storage.specs.Keeping.{IsOneOf, ShowsMore}
 use Rattle.raft_machines.specs.Machine.{MachineRules}
 use Rattle.raft_store.specs.Reading.{Holds, HoldsOne}
 use Rattle.raft_store.specs.Batches.{ShowsBy}
+use Rattle.raft_store.specs.declared.recent.Recent.{Recent}
 
 holds_among : (rules : MachineRules) (g : GroupContent (List ℕ)) (s : StoredGroup) (more : List StoredGroup) → IsOneOf more s → Holds rules g s → HoldsOne rules g more
 holds_among rules g s [] none h = absurd none
@@ -45,22 +46,24 @@ holds_nothing rules = record {
 }
 
 module _ {X : Type 0} (rules : MachineRules) (sound : X → Type 0) (answers : X → Content (List ℕ)) where
-  pub shows_more : (leaves : X → Leaves) (log : X) → ShowsMore (ShowsBy rules sound answers leaves log)
-  shows_more leaves log group parts more wider shown = record {
+  pub shows_more : (leaves : X → Leaves) (log : X) (recent : Option Recent) → ShowsMore (ShowsBy rules sound answers leaves log recent)
+  shows_more leaves log recent group parts more wider shown = record {
     answered = λ is. one_of_more rules (answers log group) parts more wider (shown.answered is);
     left = λ content is. one_of_more rules (content group) parts more wider (shown.left content is);
+    recalled = shown.recalled;
   }
 
   -- a log that leaves nothing but what it answers shows the parts that the answer holds
   pub shows_answered : (leaves : X → Leaves) (log : X) → LeavesOnly (leaves log) (answers log) → (group : ℕ) (parts : List StoredGroup) → HoldsOne rules (answers log group) parts
-      → ShowsBy rules sound answers leaves log group parts
+      → ShowsBy rules sound answers leaves log None group parts
   shows_answered leaves log only group parts holds = record {
     answered = λ is. holds;
     left = λ content may. subst (λ (c : Content (List ℕ)). HoldsOne rules (c group) parts) (sym (only content may)) holds;
+    recalled = λ is. tt;
   }
 
   -- one that has nothing shows of each group that it isn't there
   pub shows_nothing : (leaves : X → Leaves) (log : X) → LeavesOnly (leaves log) (answers log) → answers log ≡ nothing
-      → (group : ℕ) → ShowsBy rules sound answers leaves log group (no_group ∷ [])
+      → (group : ℕ) → ShowsBy rules sound answers leaves log None group (no_group ∷ [])
   shows_nothing leaves log only is group =
       shows_answered leaves log only group (no_group ∷ []) (subst (λ (c : Content (List ℕ)). HoldsOne rules (c group) (no_group ∷ [])) (sym is) (inl (holds_nothing rules)))

@@ -11,6 +11,7 @@ ghost use Rattle.raft_store.specs.Batches.{of_group, vote_changes, make_changes,
 ghost use Rattle.raft_store.specs.Batches.{IsRemoval, entry_changes, purge_changes, snapshot_changes};
 
 use crate::fault::StoreRefusal;
+use crate::recent::Recent;
 use raft_log_records::{Command, LogBatch};
 use raft_messages::{GroupEntry, SnapshotBytes};
 use raft_state::{LogId, Vote};
@@ -97,25 +98,33 @@ fn spelled(alloc: Global, entries: &[GroupEntry]) -> Result<Vec<Vec<u8>>, StoreR
     Ok(all)
 }
 
-/// Entries from the place on, and the log's end behind them.
+/// Entries from the place on, and the log's end behind them; and what is to be remembered of them.
 pub fn entry_batch(
     alloc: Global,
     group: u64,
     place: u64,
     entries: &[GroupEntry],
-) -> Result<LogBatch, StoreRefusal>
-    ensures items { IfOk result (λ b. b.items ≡ of_group group (entry_changes place entries.now (place + length entries.now))) }
+) -> Result<(LogBatch, Recent), StoreRefusal>
+    ensures items { IfOk result (λ x. x.0.items ≡ of_group group (entry_changes place entries.now (place + length entries.now))) }
+    ensures group { IfOk result (λ x. x.1.group ≡ group) }
+    ensures place { IfOk result (λ x. x.1.place ≡ place) }
+    ensures bytes { IfOk result (λ x. payloads x.1.entries.items ≡ map spelled_entry entries.now) }
     ensures fits { OnOk result (AllByRecursion FitsEntry entries.now) }
     ensures places { OnOk result (place + length entries.now < 2 ^ 64) }
 {
     let Some(end) = place.checked_add(entries.len() as u64) else {
         return Err(StoreRefusal::NoPlace);
     };
-    let bytes = spelled(alloc, entries)?;
+    let entries = spelled(alloc, entries)?;
     let mut batch = LogBatch::new(alloc);
-    batch.add_raw_entries(group, place, &bytes)?;
+    batch.add_raw_entries(group, place, &entries)?;
     put_end(alloc, &mut batch, group, end)?;
-    Ok(batch)
+    let recent = Recent {
+        group,
+        place,
+        entries,
+    };
+    Ok((batch, recent))
 }
 
 // The purge point, and no entries up to its place.

@@ -20,11 +20,11 @@ impl<M: StateMachine, L: ContentLog> GroupStorage for Store<M, L> {
 
     ghost is_well = { λ x. L.is_sound x.log };
 
-    ghost shows = { λ x group parts. ShowsBy M.rules L.is_sound L.answers L.leaves x.log group parts };
+    ghost shows = { λ x group parts. ShowsBy M.rules L.is_sound L.answers L.leaves x.log x.recent group parts };
 
     ghost stands = { λ x y. StandsFor M.rules x y };
 
-    ghost shows_more = { λ x. shows_more M.rules L.is_sound L.answers L.leaves x.log };
+    ghost shows_more = { λ x. shows_more M.rules L.is_sound L.answers L.leaves x.log x.recent };
 
     fn make_group(&mut self, group: u64) -> Result<(), StoreFault<L::Fault>> {
         Store::make_group(self, group)

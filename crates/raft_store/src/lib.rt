@@ -9,6 +9,7 @@ mod group_storage;
 mod places;
 mod readings;
 mod reads;
+mod recent;
 mod store;
 
 pub use fault::{StoreFault, StoreRefusal};

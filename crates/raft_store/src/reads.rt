@@ -1,5 +1,5 @@
 //! What a log holds of a group.
-ghost use Rattle.std.specs.Prelude.{◌≡◌, ◌-◌, ◌≤◌, ℕ, List, [], ◌∷◌, IfOk, IfErr, MatchResult, OnOk, ◌++◌, drop, false, filter, is_some, max, option_map, take};
+ghost use Rattle.std.specs.Prelude.{◌≡◌, ◌-◌, ◌≤◌, ℕ, List, [], ◌∷◌, IfOk, IfErr, IfSome, MatchResult, OnOk, ◌++◌, drop, false, filter, is_some, max, option_map, take};
 ghost use Rattle.std.specs.List.Sorted.{IsStrictlySortedBy};
 ghost use Rattle.std.specs.Ordering.{eq_by_cmp, nat_cmp};
 ghost use Rattle.std.specs.Set.{is_member};
@@ -13,8 +13,9 @@ ghost use Rattle.raft_store.specs.Batches.{ShowsBy};
 ghost use Rattle.raft_store.specs.Faults.{IsLogOrMemory};
 ghost use Rattle.raft_store.specs.Keys.{group_key};
 ghost use Rattle.raft_store.specs.Reading.{StandsFor};
+ghost use Rattle.raft_store.specs.declared.fault.StoreRefusal.TheVariants as refusal;
 
-use crate::fault::StoreFault;
+use crate::fault::{StoreFault, StoreRefusal};
 use crate::places::Bounds;
 use crate::readings::{end_of, entries_of, purged_of, snapshot_of, vote_of};
 use crate::store::Store;
@@ -66,7 +67,7 @@ impl<M: StateMachine, L: ContentLog> Store<M, L> {
         ensures cause { IfErr result IsLogOrMemory }
         ensures well { L.is_sound self.old.log → OnOk result (L.is_sound self.new.log) }
         ensures steady { L.is_sound self.new.log → L.is_sound self.old.log × (L.answers self.new.log ≡ L.answers self.old.log) }
-        ensures kept { KeepsAll (ShowsBy M.rules L.is_sound L.answers L.leaves self.old.log) (ShowsBy M.rules L.is_sound L.answers L.leaves self.new.log) }
+        ensures kept { KeepsAll (ShowsBy M.rules L.is_sound L.answers L.leaves self.old.log self.old.recent) (ShowsBy M.rules L.is_sound L.answers L.leaves self.new.log self.new.recent) }
     {
         match self.log.get(group, key) {
             Ok(value) => Ok(value),
@@ -84,7 +85,7 @@ impl<M: StateMachine, L: ContentLog> Store<M, L> {
         ensures entries { L.is_sound self.old.log → IfOk result (λ found. AreEntries (L.answers self.old.log group).entry begin end (payloads found.items)) }
         ensures cause { IfErr result IsLogOrMemory }
         ensures well { L.is_sound self.old.log → OnOk result (L.is_sound self.new.log) }
-        ensures kept { KeepsAll (ShowsBy M.rules L.is_sound L.answers L.leaves self.old.log) (ShowsBy M.rules L.is_sound L.answers L.leaves self.new.log) }
+        ensures kept { KeepsAll (ShowsBy M.rules L.is_sound L.answers L.leaves self.old.log self.old.recent) (ShowsBy M.rules L.is_sound L.answers L.leaves self.new.log self.new.recent) }
     {
         match self.log.fetch_entries_to(group, begin, end) {
             Ok(bytes) => Ok(bytes),
@@ -94,16 +95,16 @@ impl<M: StateMachine, L: ContentLog> Store<M, L> {
 
     // Where the group's log begins and ends.
     pub(crate) fn bounds(&mut self, group: u64) -> Result<Bounds, StoreFault<L::Fault>>
-        ensures purged { (s : StoredGroup) → L.is_sound self.old.log → ShowsBy M.rules L.is_sound L.answers L.leaves self.old.log group (s ∷ [])
+        ensures purged { (s : StoredGroup) → L.is_sound self.old.log → ShowsBy M.rules L.is_sound L.answers L.leaves self.old.log self.old.recent group (s ∷ [])
             → IfOk result (λ b. b.purged ≡ s.purged) }
-        ensures first { (s : StoredGroup) → L.is_sound self.old.log → ShowsBy M.rules L.is_sound L.answers L.leaves self.old.log group (s ∷ [])
+        ensures first { (s : StoredGroup) → L.is_sound self.old.log → ShowsBy M.rules L.is_sound L.answers L.leaves self.old.log self.old.recent group (s ∷ [])
             → IfOk result (λ b. b.first ≡ first_place s) }
-        ensures end { (s : StoredGroup) → L.is_sound self.old.log → ShowsBy M.rules L.is_sound L.answers L.leaves self.old.log group (s ∷ [])
+        ensures end { (s : StoredGroup) → L.is_sound self.old.log → ShowsBy M.rules L.is_sound L.answers L.leaves self.old.log self.old.recent group (s ∷ [])
             → IfOk result (λ b. b.end ≡ end_place s) }
-        ensures cause { (s : StoredGroup) → L.is_sound self.old.log → ShowsBy M.rules L.is_sound L.answers L.leaves self.old.log group (s ∷ [])
+        ensures cause { (s : StoredGroup) → L.is_sound self.old.log → ShowsBy M.rules L.is_sound L.answers L.leaves self.old.log self.old.recent group (s ∷ [])
             → IfErr result IsLogOrMemory }
         ensures well { L.is_sound self.old.log → OnOk result (L.is_sound self.new.log) }
-        ensures kept { KeepsAll (ShowsBy M.rules L.is_sound L.answers L.leaves self.old.log) (ShowsBy M.rules L.is_sound L.answers L.leaves self.new.log) }
+        ensures kept { KeepsAll (ShowsBy M.rules L.is_sound L.answers L.leaves self.old.log self.old.recent) (ShowsBy M.rules L.is_sound L.answers L.leaves self.new.log self.new.recent) }
     {
         let purged_value = self.get(group, b"purged")?;
         let end_value = self.get(group, b"end")?;
@@ -114,25 +115,25 @@ impl<M: StateMachine, L: ContentLog> Store<M, L> {
 
     // Whether the node has the group.
     fn is_present(&mut self, group: u64) -> Result<bool, StoreFault<L::Fault>>
-        ensures ok { (s : StoredGroup) → L.is_sound self.old.log → ShowsBy M.rules L.is_sound L.answers L.leaves self.old.log group (s ∷ [])
+        ensures ok { (s : StoredGroup) → L.is_sound self.old.log → ShowsBy M.rules L.is_sound L.answers L.leaves self.old.log self.old.recent group (s ∷ [])
             → IfOk result (λ there. there ≡ s.present) }
         ensures by_key { L.is_sound self.old.log → IfOk result (λ there. there ≡ is_some ((L.answers self.old.log group).value group_key)) }
         ensures cause { IfErr result IsLogOrMemory }
         ensures well { L.is_sound self.old.log → OnOk result (L.is_sound self.new.log) }
         ensures steady { L.is_sound self.new.log → L.is_sound self.old.log × (L.answers self.new.log ≡ L.answers self.old.log) }
-        ensures kept { KeepsAll (ShowsBy M.rules L.is_sound L.answers L.leaves self.old.log) (ShowsBy M.rules L.is_sound L.answers L.leaves self.new.log) }
+        ensures kept { KeepsAll (ShowsBy M.rules L.is_sound L.answers L.leaves self.old.log self.old.recent) (ShowsBy M.rules L.is_sound L.answers L.leaves self.new.log self.new.recent) }
     {
         Ok(self.get(group, b"group")?.is_some())
     }
 
     // The vote.
     fn vote(&mut self, group: u64) -> Result<Vote<u64>, StoreFault<L::Fault>>
-        ensures ok { (s : StoredGroup) → L.is_sound self.old.log → ShowsBy M.rules L.is_sound L.answers L.leaves self.old.log group (s ∷ [])
+        ensures ok { (s : StoredGroup) → L.is_sound self.old.log → ShowsBy M.rules L.is_sound L.answers L.leaves self.old.log self.old.recent group (s ∷ [])
             → IfOk result (λ vote. vote ≡ s.vote) }
-        ensures cause { (s : StoredGroup) → L.is_sound self.old.log → ShowsBy M.rules L.is_sound L.answers L.leaves self.old.log group (s ∷ [])
+        ensures cause { (s : StoredGroup) → L.is_sound self.old.log → ShowsBy M.rules L.is_sound L.answers L.leaves self.old.log self.old.recent group (s ∷ [])
             → IfErr result IsLogOrMemory }
         ensures well { L.is_sound self.old.log → OnOk result (L.is_sound self.new.log) }
-        ensures kept { KeepsAll (ShowsBy M.rules L.is_sound L.answers L.leaves self.old.log) (ShowsBy M.rules L.is_sound L.answers L.leaves self.new.log) }
+        ensures kept { KeepsAll (ShowsBy M.rules L.is_sound L.answers L.leaves self.old.log self.old.recent) (ShowsBy M.rules L.is_sound L.answers L.leaves self.new.log self.new.recent) }
     {
         let value = self.get(group, b"vote")?;
         Ok(vote_of(value)?)
@@ -145,17 +146,38 @@ impl<M: StateMachine, L: ContentLog> Store<M, L> {
         group: u64,
         places: Range<u64>,
     ) -> Result<Vec<GroupEntry>, StoreFault<L::Fault>>
-        ensures read { (s : StoredGroup) → L.is_sound self.old.log → ShowsBy M.rules L.is_sound L.answers L.leaves self.old.log group (s ∷ [])
+        ensures read { (s : StoredGroup) → L.is_sound self.old.log → ShowsBy M.rules L.is_sound L.answers L.leaves self.old.log self.old.recent group (s ∷ [])
             → first_place s ≤ places.start → places.end ≤ max (end_place s) places.start
             → MatchResult result (λ found. found.items ≡ take (places.end - places.start) (drop (places.start - first_place s) s.log)) IsLogOrMemory }
         ensures well { L.is_sound self.old.log → OnOk result (L.is_sound self.new.log) }
-        ensures kept { KeepsAll (ShowsBy M.rules L.is_sound L.answers L.leaves self.old.log) (ShowsBy M.rules L.is_sound L.answers L.leaves self.new.log) }
+        ensures kept { KeepsAll (ShowsBy M.rules L.is_sound L.answers L.leaves self.old.log self.old.recent) (ShowsBy M.rules L.is_sound L.answers L.leaves self.new.log self.new.recent) }
     {
         if places.is_empty() {
             return Ok(Vec::new(alloc));
         }
         let bytes = self.fetch(group, places.start, places.end)?;
         Ok(entries_of(alloc, &bytes)?)
+    }
+
+    // The log's entries above the first log id, up to the second, if there are any and they are
+    // remembered.
+    fn recalled(
+        &self,
+        alloc: Global,
+        group: u64,
+        prev: Option<LogId<u64>>,
+        last: Option<LogId<u64>>,
+    ) -> Result<Option<Vec<GroupEntry>>, StoreRefusal>
+        ensures { (s : StoredGroup) → L.is_sound self.now.log → ShowsBy M.rules L.is_sound L.answers L.leaves self.now.log self.now.recent group (s ∷ [])
+            → MatchResult result (λ found. IfSome found (λ entries. entries.items ≡ entries_of s prev last)) (λ refused. refused ≡ refusal.Memory) }
+    {
+        let Some(recent) = &self.recent else {
+            return Ok(None);
+        };
+        let Some(bytes) = recent.between(group, prev, last) else {
+            return Ok(None);
+        };
+        Ok(Some(entries_of(alloc, bytes)?))
     }
 
     /// A copy of the snapshot, if there is one (own). Stored bytes that aren't one are refused
@@ -166,11 +188,11 @@ impl<M: StateMachine, L: ContentLog> Store<M, L> {
         group: u64,
     ) -> Result<Option<SnapshotBytes>, StoreFault<L::Fault>>
         ensures well { L.is_sound self.old.log → OnOk result (L.is_sound self.new.log) }
-        ensures ok { (s : StoredGroup) → L.is_sound self.old.log → ShowsBy M.rules L.is_sound L.answers L.leaves self.old.log group (s ∷ [])
+        ensures ok { (s : StoredGroup) → L.is_sound self.old.log → ShowsBy M.rules L.is_sound L.answers L.leaves self.old.log self.old.recent group (s ∷ [])
             → IfOk result (λ copy. StandsOrNone (StandsFor M.rules) copy s.snapshot) }
-        ensures cause { (s : StoredGroup) → L.is_sound self.old.log → ShowsBy M.rules L.is_sound L.answers L.leaves self.old.log group (s ∷ [])
+        ensures cause { (s : StoredGroup) → L.is_sound self.old.log → ShowsBy M.rules L.is_sound L.answers L.leaves self.old.log self.old.recent group (s ∷ [])
             → IfErr result IsLogOrMemory }
-        ensures kept { KeepsAll (ShowsBy M.rules L.is_sound L.answers L.leaves self.old.log) (ShowsBy M.rules L.is_sound L.answers L.leaves self.new.log) }
+        ensures kept { KeepsAll (ShowsBy M.rules L.is_sound L.answers L.leaves self.old.log self.old.recent) (ShowsBy M.rules L.is_sound L.answers L.leaves self.new.log self.new.recent) }
     {
         let value = self.get(group, b"snapshot")?;
         Ok(snapshot_of(alloc, value)?)
@@ -187,12 +209,15 @@ impl<M: StateMachine, L: ContentLog> Store<M, L> {
         last: Option<LogId<u64>>,
     ) -> Result<Entries<u64, BasicNode, Bytes>, StoreFault<L::Fault>>
         ensures well { L.is_sound self.old.log → OnOk result (L.is_sound self.new.log) }
-        ensures ok { (s : StoredGroup) → L.is_sound self.old.log → ShowsBy M.rules L.is_sound L.answers L.leaves self.old.log group (s ∷ [])
+        ensures ok { (s : StoredGroup) → L.is_sound self.old.log → ShowsBy M.rules L.is_sound L.answers L.leaves self.old.log self.old.recent group (s ∷ [])
             → IfOk result (λ copies. copies ≡ entries_of s prev last) }
-        ensures cause { (s : StoredGroup) → L.is_sound self.old.log → ShowsBy M.rules L.is_sound L.answers L.leaves self.old.log group (s ∷ [])
+        ensures cause { (s : StoredGroup) → L.is_sound self.old.log → ShowsBy M.rules L.is_sound L.answers L.leaves self.old.log self.old.recent group (s ∷ [])
             → IfErr result IsLogOrMemory }
-        ensures kept { KeepsAll (ShowsBy M.rules L.is_sound L.answers L.leaves self.old.log) (ShowsBy M.rules L.is_sound L.answers L.leaves self.new.log) }
+        ensures kept { KeepsAll (ShowsBy M.rules L.is_sound L.answers L.leaves self.old.log self.old.recent) (ShowsBy M.rules L.is_sound L.answers L.leaves self.new.log self.new.recent) }
     {
+        if let Some(entries) = self.recalled(alloc, group, prev, last)? {
+            return Ok(as_sent(alloc, entries)?);
+        }
         let bounds = self.bounds(group)?;
         let entries = self.entries(alloc, group, bounds.between(prev, last))?;
         Ok(as_sent(alloc, entries)?)
@@ -202,11 +227,11 @@ impl<M: StateMachine, L: ContentLog> Store<M, L> {
     /// aren't readable are refused (`Value`, `BadEnd`); where the store is well there are none.
     pub fn load(&mut self, alloc: Global, group: u64) -> Result<LoadedGroup, StoreFault<L::Fault>>
         ensures well { L.is_sound self.old.log → OnOk result (L.is_sound self.new.log) }
-        ensures ok { (s : StoredGroup) → L.is_sound self.old.log → ShowsBy M.rules L.is_sound L.answers L.leaves self.old.log group (s ∷ [])
+        ensures ok { (s : StoredGroup) → L.is_sound self.old.log → ShowsBy M.rules L.is_sound L.answers L.leaves self.old.log self.old.recent group (s ∷ [])
             → IfOk result (λ loaded. IsLoaded loaded s) }
-        ensures cause { (s : StoredGroup) → L.is_sound self.old.log → ShowsBy M.rules L.is_sound L.answers L.leaves self.old.log group (s ∷ [])
+        ensures cause { (s : StoredGroup) → L.is_sound self.old.log → ShowsBy M.rules L.is_sound L.answers L.leaves self.old.log self.old.recent group (s ∷ [])
             → IfErr result IsLogOrMemory }
-        ensures kept { KeepsAll (ShowsBy M.rules L.is_sound L.answers L.leaves self.old.log) (ShowsBy M.rules L.is_sound L.answers L.leaves self.new.log) }
+        ensures kept { KeepsAll (ShowsBy M.rules L.is_sound L.answers L.leaves self.old.log self.old.recent) (ShowsBy M.rules L.is_sound L.answers L.leaves self.new.log self.new.recent) }
     {
         let bounds = self.bounds(group)?;
         let present = self.is_present(group)?;
@@ -226,9 +251,9 @@ impl<M: StateMachine, L: ContentLog> Store<M, L> {
     pub fn groups(&mut self, alloc: Global) -> Result<Vec<u64>, StoreFault<L::Fault>>
         ensures well { L.is_sound self.old.log → OnOk result (L.is_sound self.new.log) }
         ensures rising { L.is_sound self.old.log → IfOk result (λ ids. IsStrictlySortedBy nat_cmp ids.items) }
-        ensures ok { (group : ℕ) (s : StoredGroup) → L.is_sound self.old.log → ShowsBy M.rules L.is_sound L.answers L.leaves self.old.log group (s ∷ [])
+        ensures ok { (group : ℕ) (s : StoredGroup) → L.is_sound self.old.log → ShowsBy M.rules L.is_sound L.answers L.leaves self.old.log self.old.recent group (s ∷ [])
             → IfOk result (λ ids. is_member (eq_by_cmp nat_cmp) ids.items group ≡ s.present) }
-        ensures kept { KeepsAll (ShowsBy M.rules L.is_sound L.answers L.leaves self.old.log) (ShowsBy M.rules L.is_sound L.answers L.leaves self.new.log) }
+        ensures kept { KeepsAll (ShowsBy M.rules L.is_sound L.answers L.leaves self.old.log self.old.recent) (ShowsBy M.rules L.is_sound L.answers L.leaves self.new.log self.new.recent) }
     {
         let logged = self.logged_groups()?;
         self.made_among(alloc, logged)
@@ -242,7 +267,7 @@ impl<M: StateMachine, L: ContentLog> Store<M, L> {
     ) -> Result<Vec<u64>, StoreFault<L::Fault>>
         ensures ids { L.is_sound self.old.log → IfOk result (λ ids. ids.items ≡ filter (λ group. is_some ((L.answers self.old.log group).value group_key)) groups.items) }
         ensures well { L.is_sound self.old.log → OnOk result (L.is_sound self.new.log) }
-        ensures kept { KeepsAll (ShowsBy M.rules L.is_sound L.answers L.leaves self.old.log) (ShowsBy M.rules L.is_sound L.answers L.leaves self.new.log) }
+        ensures kept { KeepsAll (ShowsBy M.rules L.is_sound L.answers L.leaves self.old.log self.old.recent) (ShowsBy M.rules L.is_sound L.answers L.leaves self.new.log self.new.recent) }
     {
         let mut made = Vec::new(alloc);
         for group in groups {
@@ -260,7 +285,7 @@ impl<M: StateMachine, L: ContentLog> Store<M, L> {
         ensures none { L.is_sound self.old.log → OnOk result ((group : ℕ) → (L.answers self.old.log group).there ≡ false → L.answers self.old.log group ≡ no_group) }
         ensures well { L.is_sound self.old.log → OnOk result (L.is_sound self.new.log) }
         ensures steady { L.is_sound self.new.log → L.is_sound self.old.log × (L.answers self.new.log ≡ L.answers self.old.log) }
-        ensures kept { KeepsAll (ShowsBy M.rules L.is_sound L.answers L.leaves self.old.log) (ShowsBy M.rules L.is_sound L.answers L.leaves self.new.log) }
+        ensures kept { KeepsAll (ShowsBy M.rules L.is_sound L.answers L.leaves self.old.log self.old.recent) (ShowsBy M.rules L.is_sound L.answers L.leaves self.new.log self.new.recent) }
     {
         match self.log.groups() {
             Ok(groups) => Ok(groups),

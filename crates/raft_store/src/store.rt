@@ -1,5 +1,5 @@
 //! A node's groups in a log.
-ghost use Rattle.std.specs.Prelude.{◌≡◌, ℕ, List, [], ◌∷◌, OnOk, OnErr};
+ghost use Rattle.std.specs.Prelude.{◌≡◌, ℕ, List, [], ◌∷◌, None, OnOk, OnErr};
 ghost use Rattle.raft_group_step.specs.StoredGroup.{Snapshot, StoredGroup};
 ghost use Rattle.raft_group_step.specs.StoredGroup.{CutFrom, MakeGroup, PutEntries, RemoveUpTo, SetSnapshot, SetVote, StartAfter};
 ghost use Rattle.raft_content_log.specs.Leaving.{LeavesOnly};
@@ -14,6 +14,7 @@ use crate::batches::{
     end_batch, entry_batch, make_batch, removal_batch, snapshot_batch, start_batch, vote_batch,
 };
 use crate::fault::StoreFault;
+use crate::recent::Recent;
 use raft_content_log::ContentLog;
 use raft_log_records::LogBatch;
 use raft_machines::StateMachine;
@@ -28,6 +29,8 @@ use std::marker::PhantomData;
 pub struct Store<M: StateMachine, L: ContentLog> {
     alloc: Global,
     pub(crate) log: L,
+    /// The entries that were put last, if nothing was stored since then.
+    pub(crate) recent: Option<Recent>,
     of: PhantomData<M>,
 }
 
@@ -38,13 +41,14 @@ impl<M: StateMachine, L: ContentLog> Store<M, L> {
     pub fn new(alloc: Global, log: L) -> Store<M, L>
         ensures log { result.log ≡ log }
         ensures shown { (group : ℕ) (parts : List StoredGroup) → LeavesOnly (L.leaves log) (L.answers log) → HoldsOne M.rules (L.answers log group) parts
-            → ShowsBy M.rules L.is_sound L.answers L.leaves result.log group parts }
+            → ShowsBy M.rules L.is_sound L.answers L.leaves result.log result.recent group parts }
         ensures none { (group : ℕ) → LeavesOnly (L.leaves log) (L.answers log) → L.answers log ≡ nothing
-            → ShowsBy M.rules L.is_sound L.answers L.leaves result.log group (no_group ∷ []) }
+            → ShowsBy M.rules L.is_sound L.answers L.leaves result.log result.recent group (no_group ∷ []) }
     {
         Store {
             alloc,
             log,
+            recent: None,
             of: PhantomData,
         }
     }
@@ -63,18 +67,20 @@ impl<M: StateMachine, L: ContentLog> Store<M, L> {
         &self.log
     }
 
-    // Writes a batch of one group's changes.
+    // Writes a batch of one group's changes. No entries are remembered then.
     fn store(&mut self, batch: &mut LogBatch) -> Result<(), StoreFault<L::Fault>>
         ensures well { L.is_sound self.old.log → OnOk result (L.is_sound self.new.log) }
         ensures ok { (group : ℕ) (changes : List (Change (List ℕ))) (s t : StoredGroup) → batch.old.items ≡ of_group group changes → Carries M.rules changes s t
-            → L.is_sound self.old.log → ShowsBy M.rules L.is_sound L.answers L.leaves self.old.log group (s ∷ [])
-            → OnOk result (ShowsBy M.rules L.is_sound L.answers L.leaves self.new.log group (t ∷ [])) }
+            → L.is_sound self.old.log → ShowsBy M.rules L.is_sound L.answers L.leaves self.old.log self.old.recent group (s ∷ [])
+            → OnOk result (ShowsBy M.rules L.is_sound L.answers L.leaves self.new.log self.new.recent group (t ∷ [])) }
         ensures err { (group : ℕ) (changes : List (Change (List ℕ))) (s t : StoredGroup) → batch.old.items ≡ of_group group changes → Carries M.rules changes s t
-            → L.is_sound self.old.log → ShowsBy M.rules L.is_sound L.answers L.leaves self.old.log group (s ∷ [])
-            → OnErr result (ShowsBy M.rules L.is_sound L.answers L.leaves self.new.log group (s ∷ t ∷ [])) }
+            → L.is_sound self.old.log → ShowsBy M.rules L.is_sound L.answers L.leaves self.old.log self.old.recent group (s ∷ [])
+            → OnErr result (ShowsBy M.rules L.is_sound L.answers L.leaves self.new.log self.new.recent group (s ∷ t ∷ [])) }
         ensures others { (group : ℕ) (changes : List (Change (List ℕ))) → batch.old.items ≡ of_group group changes
-            → KeepsOthers (ShowsBy M.rules L.is_sound L.answers L.leaves self.old.log) (ShowsBy M.rules L.is_sound L.answers L.leaves self.new.log) group }
+            → KeepsOthers (ShowsBy M.rules L.is_sound L.answers L.leaves self.old.log self.old.recent) (ShowsBy M.rules L.is_sound L.answers L.leaves self.new.log self.new.recent) group }
+        ensures forgets { self.new.recent ≡ None }
     {
+        self.recent = None;
         match self.log.write(batch) {
             Ok(()) => Ok(()),
             Err(fault) => Err(StoreFault::Log(fault)),
@@ -85,13 +91,13 @@ impl<M: StateMachine, L: ContentLog> Store<M, L> {
     pub fn make_group(&mut self, group: u64) -> Result<(), StoreFault<L::Fault>>
         ensures well { L.is_sound self.old.log → OnOk result (L.is_sound self.new.log) }
         ensures ok { L.is_sound self.old.log
-            → OnOk result (Stores (ShowsBy M.rules L.is_sound L.answers L.leaves self.old.log)
-            (ShowsBy M.rules L.is_sound L.answers L.leaves self.new.log) group MakeGroup) }
+            → OnOk result (Stores (ShowsBy M.rules L.is_sound L.answers L.leaves self.old.log self.old.recent)
+            (ShowsBy M.rules L.is_sound L.answers L.leaves self.new.log self.new.recent) group MakeGroup) }
         ensures err { L.is_sound self.old.log
-            → OnErr result (MayStore (ShowsBy M.rules L.is_sound L.answers L.leaves self.old.log)
-            (ShowsBy M.rules L.is_sound L.answers L.leaves self.new.log) group MakeGroup) }
-        ensures others { KeepsOthers (ShowsBy M.rules L.is_sound L.answers L.leaves self.old.log)
-            (ShowsBy M.rules L.is_sound L.answers L.leaves self.new.log) group }
+            → OnErr result (MayStore (ShowsBy M.rules L.is_sound L.answers L.leaves self.old.log self.old.recent)
+            (ShowsBy M.rules L.is_sound L.answers L.leaves self.new.log self.new.recent) group MakeGroup) }
+        ensures others { KeepsOthers (ShowsBy M.rules L.is_sound L.answers L.leaves self.old.log self.old.recent)
+            (ShowsBy M.rules L.is_sound L.answers L.leaves self.new.log self.new.recent) group }
     {
         let mut batch = make_batch(self.alloc, group)?;
         self.store(&mut batch)
@@ -101,13 +107,13 @@ impl<M: StateMachine, L: ContentLog> Store<M, L> {
     pub fn set_vote(&mut self, group: u64, vote: Vote<u64>) -> Result<(), StoreFault<L::Fault>>
         ensures well { L.is_sound self.old.log → OnOk result (L.is_sound self.new.log) }
         ensures ok { L.is_sound self.old.log
-            → OnOk result (Stores (ShowsBy M.rules L.is_sound L.answers L.leaves self.old.log)
-            (ShowsBy M.rules L.is_sound L.answers L.leaves self.new.log) group (SetVote vote)) }
+            → OnOk result (Stores (ShowsBy M.rules L.is_sound L.answers L.leaves self.old.log self.old.recent)
+            (ShowsBy M.rules L.is_sound L.answers L.leaves self.new.log self.new.recent) group (SetVote vote)) }
         ensures err { L.is_sound self.old.log
-            → OnErr result (MayStore (ShowsBy M.rules L.is_sound L.answers L.leaves self.old.log)
-            (ShowsBy M.rules L.is_sound L.answers L.leaves self.new.log) group (SetVote vote)) }
-        ensures others { KeepsOthers (ShowsBy M.rules L.is_sound L.answers L.leaves self.old.log)
-            (ShowsBy M.rules L.is_sound L.answers L.leaves self.new.log) group }
+            → OnErr result (MayStore (ShowsBy M.rules L.is_sound L.answers L.leaves self.old.log self.old.recent)
+            (ShowsBy M.rules L.is_sound L.answers L.leaves self.new.log self.new.recent) group (SetVote vote)) }
+        ensures others { KeepsOthers (ShowsBy M.rules L.is_sound L.answers L.leaves self.old.log self.old.recent)
+            (ShowsBy M.rules L.is_sound L.answers L.leaves self.new.log self.new.recent) group }
     {
         let mut batch = vote_batch(self.alloc, group, vote)?;
         self.store(&mut batch)
@@ -121,13 +127,13 @@ impl<M: StateMachine, L: ContentLog> Store<M, L> {
     ) -> Result<(), StoreFault<L::Fault>>
         ensures well { L.is_sound self.old.log → OnOk result (L.is_sound self.new.log) }
         ensures ok { (x : Snapshot) → L.is_sound self.old.log → StandsFor M.rules snapshot.now x
-            → OnOk result (Stores (ShowsBy M.rules L.is_sound L.answers L.leaves self.old.log)
-            (ShowsBy M.rules L.is_sound L.answers L.leaves self.new.log) group (SetSnapshot x)) }
+            → OnOk result (Stores (ShowsBy M.rules L.is_sound L.answers L.leaves self.old.log self.old.recent)
+            (ShowsBy M.rules L.is_sound L.answers L.leaves self.new.log self.new.recent) group (SetSnapshot x)) }
         ensures err { (x : Snapshot) → L.is_sound self.old.log → StandsFor M.rules snapshot.now x
-            → OnErr result (MayStore (ShowsBy M.rules L.is_sound L.answers L.leaves self.old.log)
-            (ShowsBy M.rules L.is_sound L.answers L.leaves self.new.log) group (SetSnapshot x)) }
-        ensures others { KeepsOthers (ShowsBy M.rules L.is_sound L.answers L.leaves self.old.log)
-            (ShowsBy M.rules L.is_sound L.answers L.leaves self.new.log) group }
+            → OnErr result (MayStore (ShowsBy M.rules L.is_sound L.answers L.leaves self.old.log self.old.recent)
+            (ShowsBy M.rules L.is_sound L.answers L.leaves self.new.log self.new.recent) group (SetSnapshot x)) }
+        ensures others { KeepsOthers (ShowsBy M.rules L.is_sound L.answers L.leaves self.old.log self.old.recent)
+            (ShowsBy M.rules L.is_sound L.answers L.leaves self.new.log self.new.recent) group }
     {
         let mut batch = snapshot_batch(self.alloc, group, snapshot)?;
         self.store(&mut batch)
@@ -142,31 +148,33 @@ impl<M: StateMachine, L: ContentLog> Store<M, L> {
     ) -> Result<(), StoreFault<L::Fault>>
         ensures well { L.is_sound self.old.log → OnOk result (L.is_sound self.new.log) }
         ensures ok { L.is_sound self.old.log
-            → OnOk result (Stores (ShowsBy M.rules L.is_sound L.answers L.leaves self.old.log)
-            (ShowsBy M.rules L.is_sound L.answers L.leaves self.new.log) group (PutEntries place entries.now)) }
+            → OnOk result (Stores (ShowsBy M.rules L.is_sound L.answers L.leaves self.old.log self.old.recent)
+            (ShowsBy M.rules L.is_sound L.answers L.leaves self.new.log self.new.recent) group (PutEntries place entries.now)) }
         ensures err { L.is_sound self.old.log
-            → OnErr result (MayStore (ShowsBy M.rules L.is_sound L.answers L.leaves self.old.log)
-            (ShowsBy M.rules L.is_sound L.answers L.leaves self.new.log) group (PutEntries place entries.now)) }
-        ensures others { KeepsOthers (ShowsBy M.rules L.is_sound L.answers L.leaves self.old.log)
-            (ShowsBy M.rules L.is_sound L.answers L.leaves self.new.log) group }
+            → OnErr result (MayStore (ShowsBy M.rules L.is_sound L.answers L.leaves self.old.log self.old.recent)
+            (ShowsBy M.rules L.is_sound L.answers L.leaves self.new.log self.new.recent) group (PutEntries place entries.now)) }
+        ensures others { KeepsOthers (ShowsBy M.rules L.is_sound L.answers L.leaves self.old.log self.old.recent)
+            (ShowsBy M.rules L.is_sound L.answers L.leaves self.new.log self.new.recent) group }
     {
         let bounds = self.bounds(group)?;
         bounds.check_place(place)?;
-        let mut batch = entry_batch(self.alloc, group, place, entries)?;
-        self.store(&mut batch)
+        let (mut batch, recent) = entry_batch(self.alloc, group, place, entries)?;
+        self.store(&mut batch)?;
+        self.recent = Some(recent);
+        Ok(())
     }
 
     /// The log ends below the place (own).
     pub fn cut_from(&mut self, group: u64, place: u64) -> Result<(), StoreFault<L::Fault>>
         ensures well { L.is_sound self.old.log → OnOk result (L.is_sound self.new.log) }
         ensures ok { L.is_sound self.old.log
-            → OnOk result (Stores (ShowsBy M.rules L.is_sound L.answers L.leaves self.old.log)
-            (ShowsBy M.rules L.is_sound L.answers L.leaves self.new.log) group (CutFrom place)) }
+            → OnOk result (Stores (ShowsBy M.rules L.is_sound L.answers L.leaves self.old.log self.old.recent)
+            (ShowsBy M.rules L.is_sound L.answers L.leaves self.new.log self.new.recent) group (CutFrom place)) }
         ensures err { L.is_sound self.old.log
-            → OnErr result (MayStore (ShowsBy M.rules L.is_sound L.answers L.leaves self.old.log)
-            (ShowsBy M.rules L.is_sound L.answers L.leaves self.new.log) group (CutFrom place)) }
-        ensures others { KeepsOthers (ShowsBy M.rules L.is_sound L.answers L.leaves self.old.log)
-            (ShowsBy M.rules L.is_sound L.answers L.leaves self.new.log) group }
+            → OnErr result (MayStore (ShowsBy M.rules L.is_sound L.answers L.leaves self.old.log self.old.recent)
+            (ShowsBy M.rules L.is_sound L.answers L.leaves self.new.log self.new.recent) group (CutFrom place)) }
+        ensures others { KeepsOthers (ShowsBy M.rules L.is_sound L.answers L.leaves self.old.log self.old.recent)
+            (ShowsBy M.rules L.is_sound L.answers L.leaves self.new.log self.new.recent) group }
     {
         let bounds = self.bounds(group)?;
         let mut batch = end_batch(self.alloc, group, bounds.cut_end(place))?;
@@ -177,13 +185,13 @@ impl<M: StateMachine, L: ContentLog> Store<M, L> {
     pub fn start_after(&mut self, group: u64, id: LogId<u64>) -> Result<(), StoreFault<L::Fault>>
         ensures well { L.is_sound self.old.log → OnOk result (L.is_sound self.new.log) }
         ensures ok { L.is_sound self.old.log
-            → OnOk result (Stores (ShowsBy M.rules L.is_sound L.answers L.leaves self.old.log)
-            (ShowsBy M.rules L.is_sound L.answers L.leaves self.new.log) group (StartAfter id)) }
+            → OnOk result (Stores (ShowsBy M.rules L.is_sound L.answers L.leaves self.old.log self.old.recent)
+            (ShowsBy M.rules L.is_sound L.answers L.leaves self.new.log self.new.recent) group (StartAfter id)) }
         ensures err { L.is_sound self.old.log
-            → OnErr result (MayStore (ShowsBy M.rules L.is_sound L.answers L.leaves self.old.log)
-            (ShowsBy M.rules L.is_sound L.answers L.leaves self.new.log) group (StartAfter id)) }
-        ensures others { KeepsOthers (ShowsBy M.rules L.is_sound L.answers L.leaves self.old.log)
-            (ShowsBy M.rules L.is_sound L.answers L.leaves self.new.log) group }
+            → OnErr result (MayStore (ShowsBy M.rules L.is_sound L.answers L.leaves self.old.log self.old.recent)
+            (ShowsBy M.rules L.is_sound L.answers L.leaves self.new.log self.new.recent) group (StartAfter id)) }
+        ensures others { KeepsOthers (ShowsBy M.rules L.is_sound L.answers L.leaves self.old.log self.old.recent)
+            (ShowsBy M.rules L.is_sound L.answers L.leaves self.new.log self.new.recent) group }
     {
         let bounds = self.bounds(group)?;
         bounds.check_purge(id)?;
@@ -195,13 +203,13 @@ impl<M: StateMachine, L: ContentLog> Store<M, L> {
     pub fn remove_up_to(&mut self, group: u64, id: LogId<u64>) -> Result<(), StoreFault<L::Fault>>
         ensures well { L.is_sound self.old.log → OnOk result (L.is_sound self.new.log) }
         ensures ok { L.is_sound self.old.log
-            → OnOk result (Stores (ShowsBy M.rules L.is_sound L.answers L.leaves self.old.log)
-            (ShowsBy M.rules L.is_sound L.answers L.leaves self.new.log) group (RemoveUpTo id)) }
+            → OnOk result (Stores (ShowsBy M.rules L.is_sound L.answers L.leaves self.old.log self.old.recent)
+            (ShowsBy M.rules L.is_sound L.answers L.leaves self.new.log self.new.recent) group (RemoveUpTo id)) }
         ensures err { L.is_sound self.old.log
-            → OnErr result (MayStore (ShowsBy M.rules L.is_sound L.answers L.leaves self.old.log)
-            (ShowsBy M.rules L.is_sound L.answers L.leaves self.new.log) group (RemoveUpTo id)) }
-        ensures others { KeepsOthers (ShowsBy M.rules L.is_sound L.answers L.leaves self.old.log)
-            (ShowsBy M.rules L.is_sound L.answers L.leaves self.new.log) group }
+            → OnErr result (MayStore (ShowsBy M.rules L.is_sound L.answers L.leaves self.old.log self.old.recent)
+            (ShowsBy M.rules L.is_sound L.answers L.leaves self.new.log self.new.recent) group (RemoveUpTo id)) }
+        ensures others { KeepsOthers (ShowsBy M.rules L.is_sound L.answers L.leaves self.old.log self.old.recent)
+            (ShowsBy M.rules L.is_sound L.answers L.leaves self.new.log self.new.recent) group }
     {
         let bounds = self.bounds(group)?;
         bounds.check_purge(id)?;

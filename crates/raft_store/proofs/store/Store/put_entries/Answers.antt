@@ -1,49 +1,49 @@
-use Rattle.std.proofs.Common.{◌≤◌, ◌+◌, ℕ, [], ◌∷◌, length, refl, subst}
-use Rattle.raft_group_step.specs.StoredGroup.{StoredGroup, PutEntries, after_storing}
+-- What is put is shown, and remembered as the end of the log.
+use Rattle.std.proofs.Common.{◌≤◌, ◌+◌, ℕ, [], ◌∷◌, length, refl, subst, sym, ◌∙◌}
+use Rattle.raft_group_step.specs.StoredGroup.{StoredGroup, PutEntries, after_storing, end_place, first_place}
 use Rattle.raft_store.specs.Batches.{ShowsIn, entry_changes}
 use Rattle.raft_store.proofs.Carrying.{carries_entries}
-use Rattle.raft_store.proofs.Storing.{on_err_all, on_err_any, on_ok_all, shows_either}
+use Rattle.raft_store.proofs.Recalling.{recalls_put}
+use Rattle.raft_store.proofs.Storing.{on_err_any, only_one}
 use Rattle.raft_store.proofs.store.Store.put_entries.Goals as goal
 
 pub returns-clause-ok : goal.returns-clause-ok
-returns-clause-ok g c = λ sound.
-    on_ok_all (λ (s : StoredGroup). ShowsIn g.M.StateMachine.rules (g.L.ContentLog.is_sound c.args.self.now.log) (g.L.ContentLog.answers c.args.self.now.log) (g.L.ContentLog.leaves c.args.self.now.log) c.args.group (s ∷ [])) (λ (s : StoredGroup). ShowsIn g.M.StateMachine.rules (g.L.ContentLog.is_sound c.store.new.self.log) (g.L.ContentLog.answers c.store.new.self.log) (g.L.ContentLog.leaves c.store.new.self.log) c.args.group ((after_storing (PutEntries c.args.place c.args.entries.now) s) ∷ [])) c.store.result
-    (λ s shown.
-    let first = c.in_ok-bounds.ensures.first s sound shown in
-    let end = c.in_ok-bounds.ensures.end s sound shown in
-    c.store.ensures.ok c.args.group (entry_changes c.args.place c.args.entries.now (c.args.place + length c.args.entries.now)) s (after_storing (PutEntries c.args.place c.args.entries.now) s) c.in_ok-batch.ensures.items (carries_entries g.M.StateMachine.rules s c.args.place (subst (λ (n : ℕ). n ≤ c.args.place) first c.in_ok-check_place.ensures.low) (subst (λ (n : ℕ). c.args.place ≤ n) end c.in_ok-check_place.ensures.high) c.args.entries.now (c.args.place + length c.args.entries.now) c.in_ok-batch.ensures.fits refl c.in_ok-batch.ensures.places) (c.in_ok-bounds.ensures.well sound) (c.in_ok-bounds.ensures.kept c.args.group (s ∷ []) shown))
+returns-clause-ok g c = λ sound s shown.
+    let rules = g.M.StateMachine.rules in
+    let entries = c.args.entries.now in
+    let place = c.args.place in
+    let low : first_place s ≤ place = subst (λ (n : ℕ). n ≤ place) (c.in_ok-bounds.ensures.first s sound shown) c.in_ok-check_place.ensures.low in
+    let high : place ≤ end_place s = subst (λ (n : ℕ). place ≤ n) (c.in_ok-bounds.ensures.end s sound shown) c.in_ok-check_place.ensures.high in
+    let batch = c.in_ok-batch.ensures in
+    let after = c.in_ok-store.ensures.ok c.args.group (entry_changes place entries (place + length entries)) s (after_storing (PutEntries place entries) s) batch.items
+    (carries_entries rules s place low high entries (place + length entries) batch.fits refl batch.places) (c.in_ok-bounds.ensures.well sound) (c.in_ok-bounds.ensures.kept c.args.group (s ∷ []) shown) in
+    let content = g.L.ContentLog.answers c.store.new.self.log c.args.group in
+    record {
+      answered = after.answered;
+      left = after.left;
+      recalled = λ is. recalls_put rules content s place entries low high (only_one rules content (after_storing (PutEntries place entries) s) (after.answered is)) c.in_ok-batch.recent c.args.group batch.place batch.bytes;
+    }
 
-pub returns-clause-err : goal.returns-clause-err
-returns-clause-err g c = λ sound.
-    on_err_all (λ (s : StoredGroup). ShowsIn g.M.StateMachine.rules (g.L.ContentLog.is_sound c.args.self.now.log) (g.L.ContentLog.answers c.args.self.now.log) (g.L.ContentLog.leaves c.args.self.now.log) c.args.group (s ∷ [])) (λ (s : StoredGroup). ShowsIn g.M.StateMachine.rules (g.L.ContentLog.is_sound c.store.new.self.log) (g.L.ContentLog.answers c.store.new.self.log) (g.L.ContentLog.leaves c.store.new.self.log) c.args.group (s ∷ (after_storing (PutEntries c.args.place c.args.entries.now) s) ∷ [])) c.store.result
+pub returns-in_err-store-clause-err : goal.returns-in_err-store-clause-err
+returns-in_err-store-clause-err g c = λ sound.
+    let rules = g.M.StateMachine.rules in
+    let entries = c.args.entries.now in
+    let place = c.args.place in
+    let batch = c.in_ok-batch.ensures in
+    on_err_any ((s : StoredGroup) → ShowsIn g.M.StateMachine.rules (g.L.ContentLog.is_sound c.args.self.now.log) (g.L.ContentLog.answers c.args.self.now.log) (g.L.ContentLog.leaves c.args.self.now.log) c.args.self.now.recent c.args.group (s ∷ []) → ShowsIn g.M.StateMachine.rules (g.L.ContentLog.is_sound c.store.new.self.log) (g.L.ContentLog.answers c.store.new.self.log) (g.L.ContentLog.leaves c.store.new.self.log) c.store.new.self.recent c.args.group (s ∷ (after_storing (PutEntries c.args.place c.args.entries.now) s) ∷ [])) c.from_residual-in_err-store.result
     (λ s shown.
-    let first = c.in_ok-bounds.ensures.first s sound shown in
-    let end = c.in_ok-bounds.ensures.end s sound shown in
-    c.store.ensures.err c.args.group (entry_changes c.args.place c.args.entries.now (c.args.place + length c.args.entries.now)) s (after_storing (PutEntries c.args.place c.args.entries.now) s) c.in_ok-batch.ensures.items (carries_entries g.M.StateMachine.rules s c.args.place (subst (λ (n : ℕ). n ≤ c.args.place) first c.in_ok-check_place.ensures.low) (subst (λ (n : ℕ). c.args.place ≤ n) end c.in_ok-check_place.ensures.high) c.args.entries.now (c.args.place + length c.args.entries.now) c.in_ok-batch.ensures.fits refl c.in_ok-batch.ensures.places) (c.in_ok-bounds.ensures.well sound) (c.in_ok-bounds.ensures.kept c.args.group (s ∷ []) shown))
+    let low : first_place s ≤ place = subst (λ (n : ℕ). n ≤ place) (c.in_ok-bounds.ensures.first s sound shown) c.in_ok-check_place.ensures.low in
+    let high : place ≤ end_place s = subst (λ (n : ℕ). place ≤ n) (c.in_ok-bounds.ensures.end s sound shown) c.in_ok-check_place.ensures.high in
+    c.in_err-store.ensures.err c.args.group (entry_changes place entries (place + length entries)) s (after_storing (PutEntries place entries) s) batch.items
+    (carries_entries rules s place low high entries (place + length entries) batch.fits refl batch.places) (c.in_ok-bounds.ensures.well sound) (c.in_ok-bounds.ensures.kept c.args.group (s ∷ []) shown))
 
 pub returns-clause-others : goal.returns-clause-others
-returns-clause-others g c = λ other parts ne shown. c.store.ensures.others c.args.group (entry_changes c.args.place c.args.entries.now (c.args.place + length c.args.entries.now)) c.in_ok-batch.ensures.items other parts ne (c.in_ok-bounds.ensures.kept other parts shown)
-
-pub returns-in_err-bounds-clause-err : goal.returns-in_err-bounds-clause-err
-returns-in_err-bounds-clause-err g c = λ sound.
-    on_err_any ((s : StoredGroup) → ShowsIn g.M.StateMachine.rules (g.L.ContentLog.is_sound c.args.self.now.log) (g.L.ContentLog.answers c.args.self.now.log) (g.L.ContentLog.leaves c.args.self.now.log) c.args.group (s ∷ []) → ShowsIn g.M.StateMachine.rules (g.L.ContentLog.is_sound c.bounds.new.self.log) (g.L.ContentLog.answers c.bounds.new.self.log) (g.L.ContentLog.leaves c.bounds.new.self.log) c.args.group (s ∷ (after_storing (PutEntries c.args.place c.args.entries.now) s) ∷ [])) c.from_residual.result
-    (λ s shown. shows_either g.M.StateMachine.rules (g.L.ContentLog.is_sound c.bounds.new.self.log) (g.L.ContentLog.answers c.bounds.new.self.log) (g.L.ContentLog.leaves c.bounds.new.self.log) c.args.group s (after_storing (PutEntries c.args.place c.args.entries.now) s) (c.in_err-bounds.ensures.kept c.args.group (s ∷ []) shown))
-
-pub returns-in_err-bounds-clause-others : goal.returns-in_err-bounds-clause-others
-returns-in_err-bounds-clause-others g c = λ other parts ne shown. c.in_err-bounds.ensures.kept other parts shown
-
-pub returns-in_err-check_place-clause-err : goal.returns-in_err-check_place-clause-err
-returns-in_err-check_place-clause-err g c = λ sound.
-    on_err_any ((s : StoredGroup) → ShowsIn g.M.StateMachine.rules (g.L.ContentLog.is_sound c.args.self.now.log) (g.L.ContentLog.answers c.args.self.now.log) (g.L.ContentLog.leaves c.args.self.now.log) c.args.group (s ∷ []) → ShowsIn g.M.StateMachine.rules (g.L.ContentLog.is_sound c.bounds.new.self.log) (g.L.ContentLog.answers c.bounds.new.self.log) (g.L.ContentLog.leaves c.bounds.new.self.log) c.args.group (s ∷ (after_storing (PutEntries c.args.place c.args.entries.now) s) ∷ [])) c.from_residual-in_err-check_place.result
-    (λ s shown. shows_either g.M.StateMachine.rules (g.L.ContentLog.is_sound c.bounds.new.self.log) (g.L.ContentLog.answers c.bounds.new.self.log) (g.L.ContentLog.leaves c.bounds.new.self.log) c.args.group s (after_storing (PutEntries c.args.place c.args.entries.now) s) (c.in_ok-bounds.ensures.kept c.args.group (s ∷ []) shown))
-
-pub returns-in_err-check_place-clause-others : goal.returns-in_err-check_place-clause-others
-returns-in_err-check_place-clause-others g c = λ other parts ne shown. c.in_ok-bounds.ensures.kept other parts shown
-
-pub returns-in_err-batch-clause-err : goal.returns-in_err-batch-clause-err
-returns-in_err-batch-clause-err g c = λ sound.
-    on_err_any ((s : StoredGroup) → ShowsIn g.M.StateMachine.rules (g.L.ContentLog.is_sound c.args.self.now.log) (g.L.ContentLog.answers c.args.self.now.log) (g.L.ContentLog.leaves c.args.self.now.log) c.args.group (s ∷ []) → ShowsIn g.M.StateMachine.rules (g.L.ContentLog.is_sound c.bounds.new.self.log) (g.L.ContentLog.answers c.bounds.new.self.log) (g.L.ContentLog.leaves c.bounds.new.self.log) c.args.group (s ∷ (after_storing (PutEntries c.args.place c.args.entries.now) s) ∷ [])) c.from_residual-in_err-batch.result
-    (λ s shown. shows_either g.M.StateMachine.rules (g.L.ContentLog.is_sound c.bounds.new.self.log) (g.L.ContentLog.answers c.bounds.new.self.log) (g.L.ContentLog.leaves c.bounds.new.self.log) c.args.group s (after_storing (PutEntries c.args.place c.args.entries.now) s) (c.in_ok-bounds.ensures.kept c.args.group (s ∷ []) shown))
-
-pub returns-in_err-batch-clause-others : goal.returns-in_err-batch-clause-others
-returns-in_err-batch-clause-others g c = λ other parts ne shown. c.in_ok-bounds.ensures.kept other parts shown
+returns-clause-others g c = λ other parts ne shown.
+    let entries = c.args.entries.now in
+    let place = c.args.place in
+    let after = c.in_ok-store.ensures.others c.args.group (entry_changes place entries (place + length entries)) c.in_ok-batch.ensures.items other parts ne (c.in_ok-bounds.ensures.kept other parts shown) in
+    record {
+      answered = after.answered;
+      left = after.left;
+      recalled = λ is same. absurd (ne (sym same ∙ c.in_ok-batch.ensures.group));
+    }

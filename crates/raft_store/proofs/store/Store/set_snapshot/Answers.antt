@@ -7,12 +7,12 @@ use Rattle.raft_store.proofs.store.Store.set_snapshot.Goals as goal
 
 pub returns-clause-ok : goal.returns-clause-ok
 returns-clause-ok g c = λ y sound stands.
-    on_ok_all (λ (s : StoredGroup). ShowsIn g.M.StateMachine.rules (g.L.ContentLog.is_sound c.args.self.now.log) (g.L.ContentLog.answers c.args.self.now.log) (g.L.ContentLog.leaves c.args.self.now.log) c.args.group (s ∷ [])) (λ (s : StoredGroup). ShowsIn g.M.StateMachine.rules (g.L.ContentLog.is_sound c.store.new.self.log) (g.L.ContentLog.answers c.store.new.self.log) (g.L.ContentLog.leaves c.store.new.self.log) c.args.group ((after_storing (SetSnapshot y) s) ∷ [])) c.store.result
+    on_ok_all (λ (s : StoredGroup). ShowsIn g.M.StateMachine.rules (g.L.ContentLog.is_sound c.args.self.now.log) (g.L.ContentLog.answers c.args.self.now.log) (g.L.ContentLog.leaves c.args.self.now.log) c.args.self.now.recent c.args.group (s ∷ [])) (λ (s : StoredGroup). ShowsIn g.M.StateMachine.rules (g.L.ContentLog.is_sound c.store.new.self.log) (g.L.ContentLog.answers c.store.new.self.log) (g.L.ContentLog.leaves c.store.new.self.log) c.store.new.self.recent c.args.group ((after_storing (SetSnapshot y) s) ∷ [])) c.store.result
     (λ s shown. c.store.ensures.ok c.args.group (snapshot_changes c.args.snapshot.now) s (after_storing (SetSnapshot y) s) c.in_ok-batch.ensures.items (carries_snapshot g.M.StateMachine.rules s c.args.snapshot.now y c.in_ok-batch.ensures.fits stands) sound shown)
 
 pub returns-clause-err : goal.returns-clause-err
 returns-clause-err g c = λ y sound stands.
-    on_err_all (λ (s : StoredGroup). ShowsIn g.M.StateMachine.rules (g.L.ContentLog.is_sound c.args.self.now.log) (g.L.ContentLog.answers c.args.self.now.log) (g.L.ContentLog.leaves c.args.self.now.log) c.args.group (s ∷ [])) (λ (s : StoredGroup). ShowsIn g.M.StateMachine.rules (g.L.ContentLog.is_sound c.store.new.self.log) (g.L.ContentLog.answers c.store.new.self.log) (g.L.ContentLog.leaves c.store.new.self.log) c.args.group (s ∷ (after_storing (SetSnapshot y) s) ∷ [])) c.store.result
+    on_err_all (λ (s : StoredGroup). ShowsIn g.M.StateMachine.rules (g.L.ContentLog.is_sound c.args.self.now.log) (g.L.ContentLog.answers c.args.self.now.log) (g.L.ContentLog.leaves c.args.self.now.log) c.args.self.now.recent c.args.group (s ∷ [])) (λ (s : StoredGroup). ShowsIn g.M.StateMachine.rules (g.L.ContentLog.is_sound c.store.new.self.log) (g.L.ContentLog.answers c.store.new.self.log) (g.L.ContentLog.leaves c.store.new.self.log) c.store.new.self.recent c.args.group (s ∷ (after_storing (SetSnapshot y) s) ∷ [])) c.store.result
     (λ s shown. c.store.ensures.err c.args.group (snapshot_changes c.args.snapshot.now) s (after_storing (SetSnapshot y) s) c.in_ok-batch.ensures.items (carries_snapshot g.M.StateMachine.rules s c.args.snapshot.now y c.in_ok-batch.ensures.fits stands) sound shown)
 
 pub returns-clause-others : goal.returns-clause-others
@@ -20,8 +20,8 @@ returns-clause-others g c = c.store.ensures.others c.args.group (snapshot_change
 
 pub returns-in_err-batch-clause-err : goal.returns-in_err-batch-clause-err
 returns-in_err-batch-clause-err g c = λ y sound stands.
-    on_err_any ((s : StoredGroup) → ShowsIn g.M.StateMachine.rules (g.L.ContentLog.is_sound c.args.self.now.log) (g.L.ContentLog.answers c.args.self.now.log) (g.L.ContentLog.leaves c.args.self.now.log) c.args.group (s ∷ []) → ShowsIn g.M.StateMachine.rules (g.L.ContentLog.is_sound c.args.self.now.log) (g.L.ContentLog.answers c.args.self.now.log) (g.L.ContentLog.leaves c.args.self.now.log) c.args.group (s ∷ (after_storing (SetSnapshot y) s) ∷ [])) c.from_residual.result
-    (λ s shown. shows_either g.M.StateMachine.rules (g.L.ContentLog.is_sound c.args.self.now.log) (g.L.ContentLog.answers c.args.self.now.log) (g.L.ContentLog.leaves c.args.self.now.log) c.args.group s (after_storing (SetSnapshot y) s) shown)
+    on_err_any ((s : StoredGroup) → ShowsIn g.M.StateMachine.rules (g.L.ContentLog.is_sound c.args.self.now.log) (g.L.ContentLog.answers c.args.self.now.log) (g.L.ContentLog.leaves c.args.self.now.log) c.args.self.now.recent c.args.group (s ∷ []) → ShowsIn g.M.StateMachine.rules (g.L.ContentLog.is_sound c.args.self.now.log) (g.L.ContentLog.answers c.args.self.now.log) (g.L.ContentLog.leaves c.args.self.now.log) c.args.self.now.recent c.args.group (s ∷ (after_storing (SetSnapshot y) s) ∷ [])) c.from_residual.result
+    (λ s shown. shows_either g.M.StateMachine.rules (g.L.ContentLog.is_sound c.args.self.now.log) (g.L.ContentLog.answers c.args.self.now.log) (g.L.ContentLog.leaves c.args.self.now.log) c.args.self.now.recent c.args.group s (after_storing (SetSnapshot y) s) shown)
 
 pub returns-in_err-batch-clause-others : goal.returns-in_err-batch-clause-others
 returns-in_err-batch-clause-others g c = λ other parts ne shown. shown

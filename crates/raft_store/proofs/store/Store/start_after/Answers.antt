@@ -7,7 +7,7 @@ use Rattle.raft_store.proofs.store.Store.start_after.Goals as goal
 
 pub returns-clause-ok : goal.returns-clause-ok
 returns-clause-ok g c = λ sound.
-    on_ok_all (λ (s : StoredGroup). ShowsIn g.M.StateMachine.rules (g.L.ContentLog.is_sound c.args.self.now.log) (g.L.ContentLog.answers c.args.self.now.log) (g.L.ContentLog.leaves c.args.self.now.log) c.args.group (s ∷ [])) (λ (s : StoredGroup). ShowsIn g.M.StateMachine.rules (g.L.ContentLog.is_sound c.store.new.self.log) (g.L.ContentLog.answers c.store.new.self.log) (g.L.ContentLog.leaves c.store.new.self.log) c.args.group ((after_storing (StartAfter c.args.id) s) ∷ [])) c.store.result
+    on_ok_all (λ (s : StoredGroup). ShowsIn g.M.StateMachine.rules (g.L.ContentLog.is_sound c.args.self.now.log) (g.L.ContentLog.answers c.args.self.now.log) (g.L.ContentLog.leaves c.args.self.now.log) c.args.self.now.recent c.args.group (s ∷ [])) (λ (s : StoredGroup). ShowsIn g.M.StateMachine.rules (g.L.ContentLog.is_sound c.store.new.self.log) (g.L.ContentLog.answers c.store.new.self.log) (g.L.ContentLog.leaves c.store.new.self.log) c.store.new.self.recent c.args.group ((after_storing (StartAfter c.args.id) s) ∷ [])) c.store.result
     (λ s shown.
     let first = c.in_ok-bounds.ensures.first s sound shown in
     let end = c.in_ok-bounds.ensures.end s sound shown in
@@ -15,7 +15,7 @@ returns-clause-ok g c = λ sound.
 
 pub returns-clause-err : goal.returns-clause-err
 returns-clause-err g c = λ sound.
-    on_err_all (λ (s : StoredGroup). ShowsIn g.M.StateMachine.rules (g.L.ContentLog.is_sound c.args.self.now.log) (g.L.ContentLog.answers c.args.self.now.log) (g.L.ContentLog.leaves c.args.self.now.log) c.args.group (s ∷ [])) (λ (s : StoredGroup). ShowsIn g.M.StateMachine.rules (g.L.ContentLog.is_sound c.store.new.self.log) (g.L.ContentLog.answers c.store.new.self.log) (g.L.ContentLog.leaves c.store.new.self.log) c.args.group (s ∷ (after_storing (StartAfter c.args.id) s) ∷ [])) c.store.result
+    on_err_all (λ (s : StoredGroup). ShowsIn g.M.StateMachine.rules (g.L.ContentLog.is_sound c.args.self.now.log) (g.L.ContentLog.answers c.args.self.now.log) (g.L.ContentLog.leaves c.args.self.now.log) c.args.self.now.recent c.args.group (s ∷ [])) (λ (s : StoredGroup). ShowsIn g.M.StateMachine.rules (g.L.ContentLog.is_sound c.store.new.self.log) (g.L.ContentLog.answers c.store.new.self.log) (g.L.ContentLog.leaves c.store.new.self.log) c.store.new.self.recent c.args.group (s ∷ (after_storing (StartAfter c.args.id) s) ∷ [])) c.store.result
     (λ s shown.
     let first = c.in_ok-bounds.ensures.first s sound shown in
     let end = c.in_ok-bounds.ensures.end s sound shown in
@@ -26,24 +26,24 @@ returns-clause-others g c = λ other parts ne shown. c.store.ensures.others c.ar
 
 pub returns-in_err-bounds-clause-err : goal.returns-in_err-bounds-clause-err
 returns-in_err-bounds-clause-err g c = λ sound.
-    on_err_any ((s : StoredGroup) → ShowsIn g.M.StateMachine.rules (g.L.ContentLog.is_sound c.args.self.now.log) (g.L.ContentLog.answers c.args.self.now.log) (g.L.ContentLog.leaves c.args.self.now.log) c.args.group (s ∷ []) → ShowsIn g.M.StateMachine.rules (g.L.ContentLog.is_sound c.bounds.new.self.log) (g.L.ContentLog.answers c.bounds.new.self.log) (g.L.ContentLog.leaves c.bounds.new.self.log) c.args.group (s ∷ (after_storing (StartAfter c.args.id) s) ∷ [])) c.from_residual.result
-    (λ s shown. shows_either g.M.StateMachine.rules (g.L.ContentLog.is_sound c.bounds.new.self.log) (g.L.ContentLog.answers c.bounds.new.self.log) (g.L.ContentLog.leaves c.bounds.new.self.log) c.args.group s (after_storing (StartAfter c.args.id) s) (c.in_err-bounds.ensures.kept c.args.group (s ∷ []) shown))
+    on_err_any ((s : StoredGroup) → ShowsIn g.M.StateMachine.rules (g.L.ContentLog.is_sound c.args.self.now.log) (g.L.ContentLog.answers c.args.self.now.log) (g.L.ContentLog.leaves c.args.self.now.log) c.args.self.now.recent c.args.group (s ∷ []) → ShowsIn g.M.StateMachine.rules (g.L.ContentLog.is_sound c.bounds.new.self.log) (g.L.ContentLog.answers c.bounds.new.self.log) (g.L.ContentLog.leaves c.bounds.new.self.log) c.bounds.new.self.recent c.args.group (s ∷ (after_storing (StartAfter c.args.id) s) ∷ [])) c.from_residual.result
+    (λ s shown. shows_either g.M.StateMachine.rules (g.L.ContentLog.is_sound c.bounds.new.self.log) (g.L.ContentLog.answers c.bounds.new.self.log) (g.L.ContentLog.leaves c.bounds.new.self.log) c.bounds.new.self.recent c.args.group s (after_storing (StartAfter c.args.id) s) (c.in_err-bounds.ensures.kept c.args.group (s ∷ []) shown))
 
 pub returns-in_err-bounds-clause-others : goal.returns-in_err-bounds-clause-others
 returns-in_err-bounds-clause-others g c = λ other parts ne shown. c.in_err-bounds.ensures.kept other parts shown
 
 pub returns-in_err-check_purge-clause-err : goal.returns-in_err-check_purge-clause-err
 returns-in_err-check_purge-clause-err g c = λ sound.
-    on_err_any ((s : StoredGroup) → ShowsIn g.M.StateMachine.rules (g.L.ContentLog.is_sound c.args.self.now.log) (g.L.ContentLog.answers c.args.self.now.log) (g.L.ContentLog.leaves c.args.self.now.log) c.args.group (s ∷ []) → ShowsIn g.M.StateMachine.rules (g.L.ContentLog.is_sound c.bounds.new.self.log) (g.L.ContentLog.answers c.bounds.new.self.log) (g.L.ContentLog.leaves c.bounds.new.self.log) c.args.group (s ∷ (after_storing (StartAfter c.args.id) s) ∷ [])) c.from_residual-in_err-check_purge.result
-    (λ s shown. shows_either g.M.StateMachine.rules (g.L.ContentLog.is_sound c.bounds.new.self.log) (g.L.ContentLog.answers c.bounds.new.self.log) (g.L.ContentLog.leaves c.bounds.new.self.log) c.args.group s (after_storing (StartAfter c.args.id) s) (c.in_ok-bounds.ensures.kept c.args.group (s ∷ []) shown))
+    on_err_any ((s : StoredGroup) → ShowsIn g.M.StateMachine.rules (g.L.ContentLog.is_sound c.args.self.now.log) (g.L.ContentLog.answers c.args.self.now.log) (g.L.ContentLog.leaves c.args.self.now.log) c.args.self.now.recent c.args.group (s ∷ []) → ShowsIn g.M.StateMachine.rules (g.L.ContentLog.is_sound c.bounds.new.self.log) (g.L.ContentLog.answers c.bounds.new.self.log) (g.L.ContentLog.leaves c.bounds.new.self.log) c.bounds.new.self.recent c.args.group (s ∷ (after_storing (StartAfter c.args.id) s) ∷ [])) c.from_residual-in_err-check_purge.result
+    (λ s shown. shows_either g.M.StateMachine.rules (g.L.ContentLog.is_sound c.bounds.new.self.log) (g.L.ContentLog.answers c.bounds.new.self.log) (g.L.ContentLog.leaves c.bounds.new.self.log) c.bounds.new.self.recent c.args.group s (after_storing (StartAfter c.args.id) s) (c.in_ok-bounds.ensures.kept c.args.group (s ∷ []) shown))
 
 pub returns-in_err-check_purge-clause-others : goal.returns-in_err-check_purge-clause-others
 returns-in_err-check_purge-clause-others g c = λ other parts ne shown. c.in_ok-bounds.ensures.kept other parts shown
 
 pub returns-in_err-batch-clause-err : goal.returns-in_err-batch-clause-err
 returns-in_err-batch-clause-err g c = λ sound.
-    on_err_any ((s : StoredGroup) → ShowsIn g.M.StateMachine.rules (g.L.ContentLog.is_sound c.args.self.now.log) (g.L.ContentLog.answers c.args.self.now.log) (g.L.ContentLog.leaves c.args.self.now.log) c.args.group (s ∷ []) → ShowsIn g.M.StateMachine.rules (g.L.ContentLog.is_sound c.bounds.new.self.log) (g.L.ContentLog.answers c.bounds.new.self.log) (g.L.ContentLog.leaves c.bounds.new.self.log) c.args.group (s ∷ (after_storing (StartAfter c.args.id) s) ∷ [])) c.from_residual-in_err-batch.result
-    (λ s shown. shows_either g.M.StateMachine.rules (g.L.ContentLog.is_sound c.bounds.new.self.log) (g.L.ContentLog.answers c.bounds.new.self.log) (g.L.ContentLog.leaves c.bounds.new.self.log) c.args.group s (after_storing (StartAfter c.args.id) s) (c.in_ok-bounds.ensures.kept c.args.group (s ∷ []) shown))
+    on_err_any ((s : StoredGroup) → ShowsIn g.M.StateMachine.rules (g.L.ContentLog.is_sound c.args.self.now.log) (g.L.ContentLog.answers c.args.self.now.log) (g.L.ContentLog.leaves c.args.self.now.log) c.args.self.now.recent c.args.group (s ∷ []) → ShowsIn g.M.StateMachine.rules (g.L.ContentLog.is_sound c.bounds.new.self.log) (g.L.ContentLog.answers c.bounds.new.self.log) (g.L.ContentLog.leaves c.bounds.new.self.log) c.bounds.new.self.recent c.args.group (s ∷ (after_storing (StartAfter c.args.id) s) ∷ [])) c.from_residual-in_err-batch.result
+    (λ s shown. shows_either g.M.StateMachine.rules (g.L.ContentLog.is_sound c.bounds.new.self.log) (g.L.ContentLog.answers c.bounds.new.self.log) (g.L.ContentLog.leaves c.bounds.new.self.log) c.bounds.new.self.recent c.args.group s (after_storing (StartAfter c.args.id) s) (c.in_ok-bounds.ensures.kept c.args.group (s ∷ []) shown))
 
 pub returns-in_err-batch-clause-others : goal.returns-in_err-batch-clause-others
 returns-in_err-batch-clause-others g c = λ other parts ne shown. c.in_ok-bounds.ensures.kept other parts shown

@@ -10,7 +10,7 @@ returns-in-Ok-clause-ok g c = λ group changes s t are carries sound shown.
 
 pub returns-in-Ok-clause-others : goal.returns-in-Ok-clause-others
 returns-in-Ok-clause-others g c = λ group changes are.
-    others_shown g.M.StateMachine.rules c.args.batch.now.items group changes (g.L.ContentLog.is_sound c.args.self.now.log) (g.L.ContentLog.is_sound c.write.new.self) (g.L.ContentLog.answers c.args.self.now.log) (g.L.ContentLog.answers c.write.new.self) (g.L.ContentLog.leaves c.args.self.now.log) (g.L.ContentLog.leaves c.write.new.self)
+    others_shown g.M.StateMachine.rules c.args.batch.now.items group changes (g.L.ContentLog.is_sound c.args.self.now.log) (g.L.ContentLog.is_sound c.write.new.self) (g.L.ContentLog.answers c.args.self.now.log) (g.L.ContentLog.answers c.write.new.self) (g.L.ContentLog.leaves c.args.self.now.log) (g.L.ContentLog.leaves c.write.new.self) c.args.self.now.recent
     are c.in-Ok.ensures.others_answered c.in-Ok.ensures.others
 
 pub returns-in-Err-clause-err : goal.returns-in-Err-clause-err
@@ -21,5 +21,5 @@ returns-in-Err-clause-err g c = λ group changes s t are carries sound shown.
 
 pub returns-in-Err-clause-others : goal.returns-in-Err-clause-others
 returns-in-Err-clause-others g c = λ group changes are.
-    others_shown g.M.StateMachine.rules c.args.batch.now.items group changes (g.L.ContentLog.is_sound c.args.self.now.log) (g.L.ContentLog.is_sound c.write.new.self) (g.L.ContentLog.answers c.args.self.now.log) (g.L.ContentLog.answers c.write.new.self) (g.L.ContentLog.leaves c.args.self.now.log) (g.L.ContentLog.leaves c.write.new.self)
+    others_shown g.M.StateMachine.rules c.args.batch.now.items group changes (g.L.ContentLog.is_sound c.args.self.now.log) (g.L.ContentLog.is_sound c.write.new.self) (g.L.ContentLog.answers c.args.self.now.log) (g.L.ContentLog.answers c.write.new.self) (g.L.ContentLog.leaves c.args.self.now.log) (g.L.ContentLog.leaves c.write.new.self) c.args.self.now.recent
     are c.in-Err.ensures.others_answered c.in-Err.ensures.others
