@@ -30,7 +30,7 @@ impl<F: FileSystem + Drop> Engine<F> {
         ensures stopped { self.old.is_stopped ≡ true → result ≡ Err Stopped }
         ensures same { self.new ≡ record self.old { block_reads = self.new.block_reads } }
         ensures reads { IfOk result (λ found. self.new.block_reads ≤ self.old.block_reads + option_map_or (λ _. 1) found 0) }
-        ensures err { IfErr result (λ fault. IsGetFault F.disk F.meter self.old (content_in self.old.tables group) fault) }
+        ensures err { IfErr result (λ fault. IsGetFault F.disk F.meter self.old (content_in self.old.tables group) index fault) }
     {
         if self.is_stopped {
             return Err(EngineFault::Stopped);
