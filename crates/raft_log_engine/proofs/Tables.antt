@@ -114,6 +114,19 @@ synced_kept d e p q tables r s u held pipes same other syncs = record {
   };
 }
 
+-- batches that are all on the disk, and stay there, of files that stay
+pub kept_on : (d e : Disk) (p q : DualPipes) (tables : MemTables) (r bs : Numbered) → IsKept d p tables r bs → ArePipes q e → (q.append.active ≡ p.append.active) × (q.append.older ≡ p.append.older) → IsAsBefore p.rewrite d q.rewrite e
+    → Holds q.append e bs [] → IsKept e q tables r bs
+kept_on d e p q tables r bs kept pipes same other append = record {
+  pipes = pipes;
+  rewrite = other.holds r [] kept.rewrite;
+  append = append;
+  tabled = record {
+    content = λ read reads. kept.tabled.content read (either_lies p q r bs bs other.same (same_lies p.append q.append bs (same_files p.append q.append same.0 same.1) (q.appends ∙ sym p.appends)) read reads);
+    lengths = kept.tabled.lengths;
+  };
+}
+
 record_longer : (signature : Option ℕ) (items : Batch) → list_any holds_entries items ≡ true → length (block_of items) + 16 ≤ length (spell_record signature items)
 unfolding spell_record
 record_longer signature items holds =

@@ -2,13 +2,14 @@
 //!
 //! The calls of an engine hold for each file system. The log is over one of them: in an impl of a
 //! trait no bound of a type parameter says that it crosses threads, and a file system does.
-ghost use Rattle.std.specs.Prelude.{◌≡◌, ℕ, List, false, Err, IfOk, IfErr, OnOk, OnErr};
+ghost use Rattle.std.specs.Prelude.{◌≡◌, ℕ, List, true, false, Err, IfOk, IfErr, IsErrAnd, OnOk, OnErr};
 ghost use Rattle.raft_content_log.specs.Leaving.{LeavesOnly};
 ghost use Rattle.raft_log_disk.specs.declared.crash.CrashRefusal.TheVariants.{ByChance, NotAnImage};
 ghost use Rattle.raft_log_disk.specs.Chance.{IsGenuineImage};
 ghost use Rattle.raft_log_disk.specs.Disk.{Disk};
 ghost use Rattle.raft_log_disk.specs.Image.{Image, seen_image};
-ghost use Rattle.raft_log_disk.specs.MemorySystem.{disk_in};
+ghost use Rattle.raft_log_disk.specs.MemorySystem.{disk_in, meter_in};
+ghost use Rattle.raft_log_engine.specs.Caused.{IsSyncFault};
 ghost use Rattle.raft_log_engine.specs.declared.fault.EngineFault.TheVariants as engine_fault;
 ghost use Rattle.raft_log_engine.specs.Closing.{handed_back};
 ghost use Rattle.raft_log_engine.specs.Left.{answers_on};
@@ -78,16 +79,6 @@ fn in_one_directory(settings: &Config) -> Result<Config, AllocError>
     let mut config = settings.clone()?;
     config.spill_dir = None;
     Ok(config)
-}
-
-/// The files that a close hands back: a refusal is passed over.
-fn files_of(closed: Result<MemoryFileSystem, NotClosed<MemoryFileSystem>>) -> MemoryFileSystem
-    ensures { result ≡ handed_back closed }
-{
-    match closed {
-        Ok(files) => files,
-        Err(NotClosed { fault: _, files }) => files,
-    }
 }
 
 impl LogFiles {
@@ -176,25 +167,36 @@ impl MemoryLog {
         self.engine.files()
     }
 
-    /// The files, handed back (raft-engine's `close`): the last one is cut behind its last record and
-    /// synced; a refusal is passed over, and a log that has failed makes no call. What an opening finds
-    /// of them, after a crash or as they are, is what the log answered, or what a failed one left;
-    /// of files as they are unless they show by chance what nobody wrote.
-    pub fn close(self) -> LogFiles
-        ensures settings { result.settings ≡ self.settings }
-        ensures opens { (image : Image) (d : Disk) (content : Content (List ℕ)) → self.has_failed ≡ false → IsCrashed (disk_in result.files) image d
-            → IsFoundBy result.settings d content → content ≡ answers_on disk_in self.engine }
-        ensures crashed { (image : Image) (d : Disk) (content : Content (List ℕ)) → IsCrashed (disk_in result.files) image d → IsFoundBy result.settings d content
+    /// The files, handed back in any case (raft-engine's `close`): after `Ok` the last one of each queue
+    /// is cut behind its last record and synced. A refusal is told; a log that has failed is `Stopped`,
+    /// with no call. What an opening finds of the files, after a crash or as they are, is what the log
+    /// answered, or what a failed one left; of files as they are unless they show by chance what nobody
+    /// wrote.
+    pub fn close(self) -> Result<LogFiles, NotClosed<LogFiles>>
+        ensures settings { (handed_back result).settings ≡ self.settings }
+        ensures opens { (image : Image) (d : Disk) (content : Content (List ℕ)) → self.has_failed ≡ false → IsCrashed (disk_in (handed_back result).files) image d
+            → IsFoundBy (handed_back result).settings d content → content ≡ answers_on disk_in self.engine }
+        ensures crashed { (image : Image) (d : Disk) (content : Content (List ℕ)) → IsCrashed (disk_in (handed_back result).files) image d → IsFoundBy (handed_back result).settings d content
             → leaves_of_log disk_in self content }
-        ensures as_read { (content : Content (List ℕ)) → IsGenuineImage (disk_in result.files) (seen_image (disk_in result.files))
-            → IsFoundBy result.settings (disk_in result.files) content → leaves_of_log disk_in self content }
+        ensures as_read { (content : Content (List ℕ)) → IsGenuineImage (disk_in (handed_back result).files) (seen_image (disk_in (handed_back result).files))
+            → IsFoundBy (handed_back result).settings (disk_in (handed_back result).files) content → leaves_of_log disk_in self content }
+        ensures opens_in_tail { IfOk result (λ closed. OpensInTail (main_directory self.settings) (disk_in closed.files) self.engine.pipes) }
+        ensures failed { self.has_failed ≡ true → IsErrAnd result (λ refused. (refused.fault ≡ engine_fault.Stopped) × (refused.files.files ≡ self.engine.files)) }
+        ensures cause { IfErr result (λ refused. self.has_failed ≡ false → IsSyncFault self.engine (meter_in self.engine.files) (meter_in refused.files.files) refused.fault) }
     {
         if self.has_failed {
-            return self.into_files();
+            return Err(NotClosed {
+                fault: EngineFault::Stopped,
+                files: self.into_files(),
+            });
         }
-        LogFiles {
-            settings: self.settings,
-            files: files_of(self.engine.close()),
+        let settings = self.settings;
+        match self.engine.close() {
+            Ok(files) => Ok(LogFiles { settings, files }),
+            Err(NotClosed { fault, files }) => Err(NotClosed {
+                fault,
+                files: LogFiles { settings, files },
+            }),
         }
     }
 

@@ -1,5 +1,5 @@
 //! Opening an engine with the files that are there.
-ghost use Rattle.std.specs.Prelude.{◌≡◌, ℕ, true, List, [], Err, IfOk, IfErr, IsErrAnd, IsOk, MatchOption, OnErr, Some};
+ghost use Rattle.std.specs.Prelude.{◌≡◌, ℕ, true, false, List, [], Err, IfOk, IfErr, IsErrAnd, IsOk, MatchOption, OnErr, Some};
 ghost use Rattle.raft_log_disk.specs.Cause.{RefusesNoMore};
 ghost use Rattle.raft_log_engine.specs.Caused.{IsSyncFault};
 ghost use Rattle.raft_log_engine.specs.Closing.{handed_back};
@@ -149,6 +149,7 @@ impl<F: FileSystem + Drop> Engine<F> {
         ensures opens_all { StandsAlone F.disk self → IfOk result (λ files. OpensAs (directories_of_engine self) (F.disk files) (answers_on F.disk self)) }
         ensures opens_front { (before : Content (List ℕ)) (batches : List Batch) → StandsAlone F.disk self → HasWritten F.disk self before batches
             → OpensAsFront (directories_of_engine self) (F.disk (handed_back result)) before batches }
+        ensures opens_in_tail { self.is_stopped ≡ false → StandsAlone F.disk self → IfOk result (λ files. OpensInTail (directories_of_engine self) (F.disk files) self.pipes) }
         ensures later { RefusesNoMore (F.is_bounded self.files) (F.is_bounded (handed_back result)) (F.meter self.files) (F.meter (handed_back result)) }
         ensures cause { IfErr result (λ refused. IsSyncFault self (F.meter self.files) (F.meter refused.files) refused.fault) }
         ensures stopped { self.is_stopped ≡ true → IsErrAnd result (λ refused. (refused.fault ≡ Stopped) × (refused.files ≡ self.files)) }
