@@ -2,7 +2,6 @@
 use Rattle.std.proofs.Common.{◌≡◌, ◌⊎◌, inl, inr, ℕ, ◌<◌, ◌≤◌, Bool, true, false, [], ◌∷◌, List, Option, Some, refl, sym, subst, arith}
 use Rattle.std.specs.Prelude.{Contains, Result, Ok, Err, IfErr}
 use Rattle.std.proofs.lemmas.Bool.{false≢true}
-use Rattle.raft_log_records.specs.declared.file_id.FileBlockHandle.{FileBlockHandle}
 use Rattle.raft_log_records.specs.declared.item.EntryIndex.{EntryIndex}
 use Rattle.raft_log_disk.specs.Disk.{Disk}
 use Rattle.raft_log_disk.specs.Cause.{Meter}
@@ -16,7 +15,7 @@ use Rattle.raft_log_memtables.specs.declared.fetch.FetchError.TheVariants as fet
 use Rattle.raft_log_memtables.specs.declared.memtables.MemTables.{MemTables}
 use Rattle.raft_log_memtables.specs.Content.{GroupContent}
 use Rattle.raft_log_memtables.specs.Fetch.{Fetches}
-use Rattle.raft_log_engine.specs.Caused.{IsCausedBy, IsCompactionFault, IsCopyFault, IsFetchFault, IsSyncFault, IsUnread, IsWriteFault, fetch_fault}
+use Rattle.raft_log_engine.specs.Caused.{IsCausedBy, IsCompactionFault, IsCopyFault, IsFetchFault, IsSyncFault, IsWriteFault, fetch_fault}
 use Rattle.raft_log_engine.specs.Held.{Parts}
 use Rattle.raft_log_engine.specs.Reads.{compaction}
 use Rattle.raft_log_engine.specs.Taken.{IsMarked, IsNotTaken, IsRefusedBatch}
@@ -91,11 +90,6 @@ pub compaction_memory_cause : {F : Type 0} (disk : F → Disk) (e : Parts F) (ol
 compaction_memory_cause disk e old new x is = subst (λ (z : EngineFault). IsCompactionFault disk e old new z) (sym is) tt
 
 -- ---- reads of entries
-
--- a block is so, of an entry
-pub placed_fault : (d : Disk) (p : DualPipes) (m : Meter) (e : EntryIndex) (h : FileBlockHandle) (fault : EngineFault) → e.entries ≡ Some h → IsUnread d p m h fault → IsCopyFault d p m e fault
-placed_fault d p m e h fault place (inl memory) = inl memory
-placed_fault d p m e h fault place (inr unread) = inr (h, place, unread)
 
 -- one of the entries isn't read
 pub copied_fault : (d : Disk) (p : DualPipes) (m : Meter) (places : List EntryIndex) (place : EntryIndex) (fault : EngineFault) → Contains places place → IsCopyFault d p m place fault

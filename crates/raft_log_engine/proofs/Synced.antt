@@ -52,8 +52,8 @@ module _ {F : Type 0} (disk : F → Disk) (old : Parts F) (held : HeldBy disk ol
   still_left goes_on is_stopped = by_flag old.wrote_unsynced refl
     where
       by_flag : (b : Bool) → old.wrote_unsynced ≡ b → LeavesNoMore (leaves_on disk old) (MayLeave (disk files) q is_stopped old.wrote_unsynced (seen_on (disk files) q old.tables))
-      by_flag true is left may all = absurd (false≢true (sym all ∙ is))
-      by_flag false is left may =
+      by_flag true is = λ left may all. absurd (false≢true (sym all ∙ is))
+      by_flag false is = λ left may.
           let kept = kept_by disk old held is in
           subst (leaves_on disk old)
           (sym (only_left (disk files) q old.tables is_stopped old.wrote_unsynced kept.0 kept.1 (still_kept kept.0 kept.1 kept.2) is left may ∙ still_seen kept.0 kept.1 kept.2))

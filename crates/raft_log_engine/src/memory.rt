@@ -193,9 +193,12 @@ impl MemoryLog {
         let settings = self.settings;
         match self.engine.close() {
             Ok(files) => Ok(LogFiles { settings, files }),
-            Err(NotClosed { fault, files }) => Err(NotClosed {
-                fault,
-                files: LogFiles { settings, files },
+            Err(refused) => Err(NotClosed {
+                fault: refused.fault,
+                files: LogFiles {
+                    settings,
+                    files: refused.files,
+                },
             }),
         }
     }

@@ -12,7 +12,7 @@ ghost use Rattle.raft_log_file.specs.Laws.{Batch};
 ghost use Rattle.raft_log_memtables.specs.Content.{Content, nothing};
 ghost use Rattle.raft_log_pipe.specs.Alone.{IsOnce};
 ghost use Rattle.raft_log_records.specs.declared.file_id.LogQueue.{LogQueue};
-ghost use Rattle.raft_log_files.specs.Settings.{settings_fault, settings_of};
+ghost use Rattle.raft_log_files.specs.Settings.{sanitized, settings_fault, settings_of};
 ghost use Rattle.raft_log_files.specs.declared.error.CorruptionFault.{CorruptionFault};
 ghost use Rattle.raft_log_files.specs.declared.error.Error.TheVariants.{Corruption, Other};
 ghost use Rattle.raft_log_files.specs.declared.error.OtherFault.{OtherFault};
@@ -51,6 +51,7 @@ pub struct NotClosed<F> {
 fn sound_settings(mut config: Config) -> Result<Config, Error>
     ensures directories { IfOk result (λ sound. directories_of (settings_of sound) ≡ directories_of (settings_of config)) }
     ensures mode { IfOk result (λ sound. sound.recovery_mode ≡ config.recovery_mode) }
+    ensures settings { IfOk result (λ sound. settings_of sound ≡ sanitized (settings_of config)) }
     ensures refused { MatchOption (settings_fault (settings_of config)) (IsOk result) (λ f. result ≡ Err (Other f)) }
 {
     config.sanitize()?;

@@ -46,10 +46,7 @@ fn told_of(engine: &mut Engine<MemoryFileSystem>, alloc: Global, count: u64) -> 
 }
 
 /// The files once the machine has stopped. A refused crash is tried once more.
-fn stopped(
-    engine: Engine<MemoryFileSystem>,
-    how: &str,
-) -> Result<MemoryFileSystem, EngineFault> {
+fn stopped(engine: Engine<MemoryFileSystem>, how: &str) -> Result<MemoryFileSystem, EngineFault> {
     if how == "closed" {
         return Ok(closed(engine));
     }

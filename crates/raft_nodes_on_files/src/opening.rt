@@ -81,9 +81,7 @@ pub fn open_node<M: StateMachine>(
 /// The node's files, handed back in any case, once its log is closed (own: `close`): the last one is
 /// cut and synced. A refusal is told, also where a write failed. What an opening finds of the files is
 /// what the node showed of each group.
-pub fn close_node<M: StateMachine>(
-    node: Node<M, Kept<M>>,
-) -> Result<LogFiles, NotClosed<LogFiles>>
+pub fn close_node<M: StateMachine>(node: Node<M, Kept<M>>) -> Result<LogFiles, NotClosed<LogFiles>>
     ensures settings { (handed_back result).settings ≡ node.groups.storage.log.settings }
     ensures shown { AreHandedBack M.rules M.state node (handed_back result) }
     ensures cause { IfErr result (λ refused. node.groups.storage.log.has_failed ≡ false

@@ -60,6 +60,17 @@ returns-clause-answers g c =
     let kept = synced_kept d e c.self.inside.pipes c.sync.new.self c.self.inside.tables held.rewrites held.synced held.unsynced held.held (c.in_default.ensures.both held.held.pipes) c.in_default.ensures.call.same c.in_default.ensures.other c.in_default.ensures.call.ok in
     rw (← c.self.view_is) (answered e c.sync.new.self c.self.inside.tables held.rewrites (held.synced ++ held.unsynced) kept ∙ sym (held_answered d c.self.inside.pipes c.self.inside.tables held.rewrites held.synced held.unsynced held.held))
 
+pub returns-clause-kept : goal.returns-clause-kept
+returns-clause-kept g c =
+    let held = (c.self.invariant c.if-self.false).batches in
+    let d = g.F.FileSystem.disk c.self.inside.files in
+    let e = g.F.FileSystem.disk c.sync.new.files in
+    let kept = synced_kept d e c.self.inside.pipes c.sync.new.self c.self.inside.tables held.rewrites held.synced held.unsynced held.held (c.in_default.ensures.both held.held.pipes) c.in_default.ensures.call.same c.in_default.ensures.other c.in_default.ensures.call.ok in
+    rw (← c.self.view_is) (λ sound. (
+      record { goes_on = c.if-self.false; synced = sound.synced },
+      answered e c.sync.new.self c.self.inside.tables held.rewrites (held.synced ++ held.unsynced) kept ∙ sym (held_answered d c.self.inside.pipes c.self.inside.tables held.rewrites held.synced held.unsynced held.held),
+    ))
+
 pub returns-clause-opens : goal.returns-clause-opens
 returns-clause-opens g c =
     let met = g.met.F.FileSystem g.world.𝓛 g.world.𝓜 g.world.𝓡 ((λ s x. x), (λ x. x), (λ x. x), λ x. x) in

@@ -36,7 +36,7 @@ returns-in-Err-clause-opens c =
     let going = c.if-self.false in
     let m = c.self.inside in
     rw (← c.self.view_is) (λ image d content sound crashed found.
-    found_closed disk_in m.settings m.engine (disk_in c.in-Err.files) inv.directories (c.in-Err.ensures.opens (inv.sound going) (inv.alone going)) content (record { image = image; left = d; crashed = crashed; found = found }))
+    found_closed disk_in m.settings m.engine (disk_in c.in-Err.refused.files) inv.directories (c.in-Err.ensures.opens (inv.sound going) (inv.alone going)) content (record { image = image; left = d; crashed = crashed; found = found }))
 
 pub returns-in-Err-clause-crashed : goal.returns-in-Err-clause-crashed
 returns-in-Err-clause-crashed c =
@@ -44,7 +44,7 @@ returns-in-Err-clause-crashed c =
     let going = c.if-self.false in
     let m = c.self.inside in
     rw (← c.self.view_is) (λ image d content crashed found.
-    inl (going, found_closed disk_in m.settings m.engine (disk_in c.in-Err.files) inv.directories (c.in-Err.ensures.opens (inv.sound going) (inv.alone going)) content (record { image = image; left = d; crashed = crashed; found = found })))
+    inl (going, found_closed disk_in m.settings m.engine (disk_in c.in-Err.refused.files) inv.directories (c.in-Err.ensures.opens (inv.sound going) (inv.alone going)) content (record { image = image; left = d; crashed = crashed; found = found })))
 
 pub returns-in-Err-clause-as_read : goal.returns-in-Err-clause-as_read
 returns-in-Err-clause-as_read c =
@@ -52,7 +52,7 @@ returns-in-Err-clause-as_read c =
     let going = c.if-self.false in
     let m = c.self.inside in
     rw (← c.self.view_is) (λ content genuine found.
-    inl (going, found_closed disk_in m.settings m.engine (disk_in c.in-Err.files) inv.directories (c.in-Err.ensures.opens (inv.sound going) (inv.alone going)) content (found_as_read m.settings c.in-Err.files content genuine found)))
+    inl (going, found_closed disk_in m.settings m.engine (disk_in c.in-Err.refused.files) inv.directories (c.in-Err.ensures.opens (inv.sound going) (inv.alone going)) content (found_as_read m.settings c.in-Err.refused.files content genuine found)))
 
 pub returns-in-Ok-clause-opens_in_tail : goal.returns-in-Ok-clause-opens_in_tail
 returns-in-Ok-clause-opens_in_tail c =
